@@ -8,8 +8,8 @@ use Rattle.osi_fair.proofs.Vocabulary.{acceptance, opened_link, Rows, value_at, 
 use Rattle.osi_carrier.specs.State.{State}
 use Rattle.osi_fair.proofs.small_facts_that_many_lemmas_use.{and_second, differ, no_number, number_is}
 use Rattle.osi_fair.proofs.each_connection_of_a_called_end.{stands_at, Among, AreAbove, Answering, Asked, Called, IsDc, IsFor, IsStray}
-use Rattle.osi_fair.proofs.each_connection_of_a_called_end.{IsUnlinked, Row, Stand, Untagged, answers, closes, comes, first_some, over}
-use Rattle.osi_fair.proofs.each_connection_of_a_called_end.{past, refuses, runs, talks}
+use Rattle.osi_fair.proofs.each_connection_of_a_called_end.{IsUnlinked, Row, Stand, Untagged, answers, closes, first_some, over, refuses}
+use Rattle.osi_fair.proofs.each_connection_of_a_called_end.{talks}
 use Rattle.osi_fair.proofs.units_by_their_place.{Placed, at_first, at_join, at_other, first_at, first_more, units_at, values, values_join}
 use Rattle.osi_fair.proofs.what_a_called_end_does_to_its_lines.{above_more, some_more, strays_keep}
 use Rattle.osi_fair.proofs.what_is_live_at_a_called_end.{IsKnown, Timely, timely_answers, timely_puts}
@@ -41,8 +41,7 @@ not_own given r v vs o d above h a = grind (arith, own_by)
 
 dcs_alone : (given r : ℕ) (vs : List Value) → given < r → AllByRecursion (IsFor given) vs → Among [] (those r vs)
 dcs_alone given r [] above h = refl
-dcs_alone given r (v ∷ vs) above (one, more) =
-    not_own given r v (those r vs) (destination_of v) refl above one (dcs_alone given r vs above more)
+dcs_alone given r (v ∷ vs) above (one, more) = grind (arith, not_own, those, dcs_alone given r vs above more)
 
 above_cc : (given n : ℕ) (vs : List Value) (m : ℕ) (x : Connect) → x.source ≡ given + 1 → AreAbove given n vs →
     AreAbove (given + 1) n (vs ++ confirm m x ∷ [])
@@ -97,20 +96,7 @@ module _ (local : Local) (w : Whole) (f : Called local w) (was : w.end.ended ≡
 
   stand_place : (c : Connection) → slice_get w.tap.connections p ≡ Some c →
       Stand local f.shut s w.coming (units_at p f.tagged) (units_at p f.came) (w.begun && first_at p f.tagged) (f.refs p) c → Place
-  stand_place c at (comes y a none ask e) =
-      let same : x ≡ y = request_is x y (units_at p later) [] (units_at p f.came) asks_here (ask was) in
-      record {
-        c = c;
-        at = at;
-        asked = subst (λ (z : Connect). Asked z c) (sym same) a;
-        none = none;
-        no_more = rest_none (request x) (units_at p later) (units_at p f.came) asks_here (request y) (ask was);
-        no_ref = e;
-      }
-  stand_place c at (refuses y a reason is none e seen) = no_list (request x) (units_at p later) (units_at p f.came) asks_here none
-  stand_place c at (answers h none) = no_list (request x) (units_at p later) (units_at p f.came) asks_here none
-  stand_place c at (runs h none) = no_list (request x) (units_at p later) (units_at p f.came) asks_here none
-  stand_place c at (past silent up none ask un off) = no_list (request x) (units_at p later) (units_at p f.came) asks_here ask
+  stand_place c at h = grind (arith, request_is, units_at, asks_here, rest_none, no_list)
 
   place_by : (o : Option Connection) → slice_get w.tap.connections p ≡ o → Place
   place_by None e = no_list (request x) (units_at p later) (units_at p f.came) asks_here (f.beyond p e).1
@@ -150,8 +136,7 @@ module _ (local : Local) (w : Whole) (f : Called local w) (was : w.end.ended ≡
           Row t coming r peer link come
       row_same r peer link come up (talks k there is among) =
           talks k (rows r up ∙ there) is (subst (Among come) (sym (those_same r)) among)
-      row_same r peer link come up (closes un is among) =
-          closes (unlinked_still r up un) is (subst (Among come) (sym (those_same r)) among)
+      row_same r peer link come up (closes un is among) = grind (arith, unlinked_still, those_same)
       row_same r peer link come up (over h) = differ (is_some s.ended) h (ap is_some was)
 
       stand_same : (i : ℕ) (c : Connection) (mine : List Value) (begun : Bool) → (i ≡ p → ⊥) →
@@ -171,8 +156,7 @@ module _ (local : Local) (w : Whole) (f : Called local w) (was : w.end.ended ≡
 
       gone_by : (i : ℕ) → slice_get w.tap.connections i ≡ None → (b : Bool) → (i == p) ≡ b →
           (units_at i tagged ≡ []) × (units_at i later ≡ []) × ((r : ℕ) → f.refs i ≡ Some r → IsUnlinked t r)
-      gone_by i none true e = no_item (slice_get w.tap.connections p) place.c place.at
-          (ap (λ (j : ℕ). slice_get w.tap.connections j) (sym (eqb-true i p e)) ∙ none)
+      gone_by i none true e = grind (arith, no_item, place, eqb-true)
       gone_by i none false e =
           let (a, b, d) = f.beyond i none in
           (mine_other i (unlike i p e) ∙ a, asks_other i (unlike i p e) ∙ b, λ r k. unlinked_still r (f.homes i r k).1 (d r k))
@@ -322,37 +306,25 @@ module _ (local : Local) (w : Whole) (f : Called local w) (was : w.end.ended ≡
 
     gone_cc : (i : ℕ) → slice_get w.tap.connections i ≡ None → (b : Bool) → (i == p) ≡ b →
         (units_at i (tagged cc_is) ≡ []) × (units_at i later ≡ []) × ((m : ℕ) → refs i ≡ Some m → IsUnlinked t m)
-    gone_cc i none true e = no_item (slice_get w.tap.connections p) place.c place.at
-        (ap (λ (j : ℕ). slice_get w.tap.connections j) (sym (eqb-true i p e)) ∙ none)
+    gone_cc i none true e = grind (arith, no_item, place, eqb-true)
     gone_cc i none false e =
         let (a, b, d) = gone_by cc_is t rows i none false e in (a, b, λ m k. d m (sym (refs_other i e) ∙ k))
 
     homes_by : (i m : ℕ) (b : Bool) → (i == p) ≡ b → refs i ≡ Some m → (home m ≡ i) × (m ≤ t.given)
-    homes_by i m true e h =
-        let is : r ≡ m = number_is r m (sym (refs_here i e) ∙ h) in (
-          home_here m (ap (λ (j : ℕ). j == r) (sym is) ∙ same_true r) ∙ sym (eqb-true i p e),
-          subst (λ (j : ℕ). m ≤ j) (sym given)
-              (omega arith),
-        )
+    homes_by i m true e h = grind (arith, number_is, refs_here, home_here, same_true, eqb-true)
     homes_by i m false e h =
         let (a, b) = f.homes i m (sym (refs_other i e) ∙ h) in
         (home_old m b ∙ a, subst (λ (j : ℕ). m ≤ j) (sym given) (omega arith))
 
     positive_by : (i m : ℕ) (b : Bool) → (i == p) ≡ b → refs i ≡ Some m → 1 ≤ m
-    positive_by i m true e h = let is : r ≡ m = number_is r m (sym (refs_here i e) ∙ h) in omega arith
-    positive_by i m false e h = f.positive i m (sym (refs_other i e) ∙ h)
+    positive_by i m b e h = search (arith, number_is, refs_here, refs_other)
 
     -- what has a reference from before has another place
     old_place : (m : ℕ) → f.refs (f.home m) ≡ Some m → (f.home m == p) ≡ false
     old_place m h = grind (arith, place_not, no_number, place, eqb-true)
 
     linked_cc : (m peer : ℕ) (l : Standing) (b : Bool) → (m == r) ≡ b → value_at m t.live ≡ Some (linked peer l) → refs (home m) ≡ Some m
-    linked_cc m peer l true e there =
-        ap (λ (j : ℕ). refs j) (home_here m e) ∙ refs_here p (same_true p) ∙ ap (λ (j : ℕ). Some j) (sym (eqb-true m r e))
-    linked_cc m peer l false e there =
-        let up = others m peer l there (unlike m r e) in
-        let old = f.linked_at was m peer l (sym (rows m up) ∙ there) in
-        ap (λ (j : ℕ). refs j) (home_old m up) ∙ refs_other (f.home m) (old_place m old) ∙ old
+    linked_cc m peer l b e there = search (arith, home_here, refs_here, same_true, eqb-true, unlike, home_old, refs_other, old_place)
 
     stray_place : (m : ℕ) → m ≤ s.given → refs (home m) ≡ Some m → (b : Bool) → (f.home m == p) ≡ b →
         (f.refs (f.home m) ≡ Some m) × ((f.home m ≡ p) → ⊥)
@@ -360,21 +332,7 @@ module _ (local : Local) (w : Whole) (f : Called local w) (was : w.end.ended ≡
 
     stray_cc : (v : Value) (rest : List Placed) → IsStray f.shut s f.refs f.home w.tap.course.strays v rest →
         IsStray f.shut t refs home w.tap.course.strays v (rest ++ (Some p, cc_is) ∷ [])
-    stray_cc v rest a = record {
-      m = a.m;
-      n = a.n;
-      is = a.is;
-      strays_is = a.strays_is;
-      given = subst (λ (j : ℕ). a.n ≤ j) (sym given) (let up = a.given in omega arith);
-      positive = a.positive;
-      shut_is = a.shut_is;
-      none = λ e.
-          let (old, other) = stray_place a.n a.given e (f.home a.n == p) refl in
-          ap (λ (j : ℕ). units_at j (rest ++ (Some p, cc_is) ∷ [])) (home_old a.n a.given)
-          ∙ at_join (f.home a.n) rest ((Some p, cc_is) ∷ [])
-          ∙ ap (λ (l : List Value). units_at (f.home a.n) rest ++ l) (at_other (f.home a.n) p cc_is [] (λ same. other (sym same)))
-          ∙ append-nil (units_at (f.home a.n) rest) ∙ a.none old;
-    }
+    stray_cc v rest a = grind (arith, stray_place, units_at, home_old, at_join, at_other, append-nil)
 
     pub is_accepted : Called local (record w { end = t; put = w.put ++ cc_is ∷ []; coming = coming })
     is_accepted = record {

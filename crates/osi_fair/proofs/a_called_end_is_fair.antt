@@ -42,24 +42,19 @@ module _ (local : Local) (w : Whole) (f : Called local w) (apart : AreApart w.ta
 
   at_place : (p : ℕ) (later : List Placed) → f.tagged ≡ (Some p, v) ∷ later → rest ≡ values later → (o : Option Connection) →
       slice_get w.tap.connections p ≡ o → Passed
-  at_place p later tagged rest_are None e =
-      no_list v (units_at p later) (units_at p f.tagged) (ap (λ (l : List Placed). units_at p l) tagged ∙ at_first p v later)
-      (f.beyond p e).0
+  at_place p later tagged rest_are None e = grind (arith, no_list, units_at, at_first)
   at_place p later tagged rest_are (Some c) e =
       one_passes local w f apart named judged right v rest begun p later tagged rest_are c e (f.stands p c e)
 
   by_tag : (o : Option ℕ) (later : List Placed) → f.tagged ≡ (o, v) ∷ later → rest ≡ values later → Passed
-  by_tag None later tagged rest_are =
-      let (fine, after, same) = stray_passes local w f right v rest later tagged rest_are in
-      (fine, after, subst (AreNamedApart Left) (sym same) named)
+  by_tag None later tagged rest_are = grind (arith, stray_passes local w f right v rest later tagged rest_are)
   by_tag (Some p) later tagged rest_are = at_place p later tagged rest_are (slice_get w.tap.connections p) refl
 
   own_passes : w.put ≡ v ∷ rest → Passed
   own_passes e = let h = head_of v rest f.tagged (sym e ∙ f.put) in by_tag h.o h.later h.is h.values_are
 
 pub mild : (w : Whole) (v : Value) → IsFineAt v w.tap → IsNotBlamed (takes Right v w.tap).told.finding
-mild w v (inl e) = inl e
-mild w v (inr (e, why)) = inr e
+mild w v h = grind arith
 
 -- ---- all that holds
 
@@ -93,8 +88,7 @@ tap_next local w p j = ap (passes p) j.tap ∙ sym (one_more j.passings p fresh)
 
 -- while no class is selected one CR waits
 one_so : (local : Local) (w : Whole) (j : Joined local w) → w.tap.course.class ≡ None → HoldsOfOne (is_live Left) w.tap.connections
-one_so local w j none = subst (λ (s : Traffic). HoldsOfOne (is_live Left) s.connections) (sym j.tap)
-    (one_waits j.passings (ap (λ (s : Traffic). s.course.class) (sym j.tap) ∙ none))
+one_so local w j none = grind (arith, one_waits)
 
 module _ (local : Local) (w : Whole) (j : Joined local w) where
   -- a connection is lost in class 2 alone
@@ -149,8 +143,7 @@ module _ (local : Local) (w : Whole) (j : Joined local w) where
 
   comes_stage : (v : Value) → HasFieldsInRange v → IsCalm w.tap.course → IsCalm (takes Left v w.tap).state.course → Stage local w →
       Stage local (record w { tap = (takes Left v w.tap).state; coming = w.coming ++ v ∷ [] })
-  comes_stage v ranges calm calm_after (lines f c named) =
-      let (after, still) = comes_so local w f j.apart named v ranges calm_after (j.fine calm.left) in lines after c still
+  comes_stage v ranges calm calm_after (lines f c named) = grind (arith, comes_so)
   comes_stage v ranges calm calm_after (selecting f) =
       selecting (selecting_comes w j.apart (firm_in None f.class (λ no. cc no)) v (j.fine calm.left) calm_after local f)
   comes_stage v ranges calm calm_after (selected f) =

@@ -1,18 +1,16 @@
 -- A whole called end is fair in class 0 as long as it is judged, also after the judging of the other side has ended.
 -- For the law on a whole called end.
-use Rattle.osi_fair.proofs.Vocabulary.{[], ap, Bool, false, inl, inr, List, None, Option, refl, Some, subst, sym, true, ℕ, ◌++◌, ◌∙◌, ◌∷◌}
-use Rattle.osi_fair.proofs.Vocabulary.{◌≡◌, ◌⊎◌, arith, position, slice_get, data0, disconnected, error, request, Value, Class, Two, Zero}
-use Rattle.osi_fair.proofs.Vocabulary.{Local}
-use Rattle.osi_fair.proofs.Vocabulary.{is_live, is_named, is_stopped, reach_of, refused, refused_reach, route_in, routed, unnamed}
-use Rattle.osi_fair.proofs.Vocabulary.{at_found, at_place, course_after_none, if◌then◌else◌, none_told, Outcome, takes, Traffic}
-use Rattle.osi_fair.proofs.Vocabulary.{unnamed_told, Connection, Course, Left, Right, Finding, Broke, Kept, NotJudged, rubbish}
-use Rattle.osi_fair.proofs.Vocabulary.{unit as passing, arrives, begin, calls, Event, HappenAlong, Happens, passes_rubbish, Whole}
-use Rattle.osi_fair.proofs.Vocabulary.{has_broken}
+use Rattle.osi_fair.proofs.Vocabulary.{[], ap, Bool, false, List, None, Option, refl, Some, subst, sym, true, ℕ, ◌++◌, ◌∙◌, ◌∷◌, ◌≡◌, ◌⊎◌}
+use Rattle.osi_fair.proofs.Vocabulary.{arith, position, slice_get, data0, disconnected, error, request, Value, Class, Two, Zero, Local}
+use Rattle.osi_fair.proofs.Vocabulary.{is_live, is_named, is_stopped, refused, refused_reach, route_in, routed, at_found, at_place}
+use Rattle.osi_fair.proofs.Vocabulary.{course_after_none, if◌then◌else◌, none_told, Outcome, takes, Traffic, unnamed_told, Connection}
+use Rattle.osi_fair.proofs.Vocabulary.{Course, Left, Right, Finding, Broke, Kept, NotJudged, rubbish, unit as passing, arrives, begin}
+use Rattle.osi_fair.proofs.Vocabulary.{calls, Event, HappenAlong, Happens, passes_rubbish, Whole, has_broken}
 use Rattle.osi_rules.specs.Traffic.{route}
 use Rattle.osi_rules.specs.declared.findings.Rule.TheVariants as rule
 use Rattle.osi_fair.specs.Wholes.{begins_other, begins_own, passes_other, passes_own}
 use Rattle.osi_fair.proofs.small_facts_that_many_lemmas_use.{differ}
-use Rattle.osi_fair.proofs.a_called_end_is_fair.{Joined, Stage, first_joined, lines, mild, next_joined, passes_stage, selected, selecting}
+use Rattle.osi_fair.proofs.a_called_end_is_fair.{Joined, Stage, first_joined, mild, next_joined, passes_stage}
 use Rattle.osi_fair.proofs.a_called_end_is_judged_as_the_other_side_is.{alone_zero, other_kept, rubbish_zero}
 use Rattle.osi_fair.proofs.a_called_end_selects_class_zero.{Selected, selected_begins, selected_calls, selected_takes}
 use Rattle.osi_fair.proofs.a_unit_of_an_end_of_class_zero_passes.{selected_passes}
@@ -62,16 +60,10 @@ module _ (w : Whole) (f : Selected w) where
     Goes o = takes Left v w.tap ≡ o → Selected after
 
     none_goes : (g : Finding) → Goes (none_told Left g w.tap)
-    none_goes g is =
-        selected_still (takes Left v w.tap).state (w.coming ++ v ∷ []) (ap (λ (o : Outcome). o.state.connections) is) (left_class v w.tap)
-        (ap (λ (o : Outcome). o.state.course.class_seen) is ∙ reached_seen (reach_of w.tap.course.class_seen g) w.tap.course)
+    none_goes g is = grind (arith, selected_still, left_class, reached_seen)
 
     unnamed_goes : Goes (unnamed_told Left v w.tap)
-    unnamed_goes is =
-        let c = course_after_none v w.tap.course in
-        selected_still (takes Left v w.tap).state (w.coming ++ v ∷ []) (ap (λ (o : Outcome). o.state.connections) is) (left_class v w.tap)
-        (ap (λ (o : Outcome). o.state.course.class_seen) is ∙ reached_seen (reach_of c.class_seen (unnamed Left w.tap.course v)) c
-        ∙ none_seen v w.tap.course)
+    unnamed_goes is = grind (arith, selected_still, left_class, reached_seen, none_seen)
 
     item_goes : (q : ℕ) (o : Option Connection) → slice_get w.tap.connections q ≡ o → Goes (at_found Left v w.tap q o)
     item_goes q None e is = unnamed_goes is
@@ -94,9 +86,7 @@ module _ (w : Whole) (f : Selected w) where
 
     by_seen : (b : Bool) (k : Option Class) → b ≡ false → k ≡ Some Zero →
         Goes (if b then none_told Left NotJudged w.tap else routed Left v w.tap (route_in k Left (has_broken Right w.tap.course) v))
-    by_seen false (Some Zero) was seen is = zero_goes v is
-    by_seen true k was seen is = absurd (cc was)
-    by_seen false _ was seen is = absurd (cc seen)
+    by_seen b k was seen is = grind (arith, zero_goes)
 
     -- in class 0, whether that side is judged any further or not
     comes_in_zero : w.tap.course.left_stopped ≡ false → w.tap.course.class_seen ≡ Some Zero → Selected after
@@ -117,22 +107,17 @@ abbrev Alone : Whole → Type 0
 Alone w = w.tap.course.loose ≡ false → w.tap.course.right_stopped ≡ false → w.tap.course.left_stopped ≡ true → Selected w
 
 class_none : {A : Type 0} (k : Option Class) → (k ≡ None) ⊎ (k ≡ Some Two) → k ≡ Some Zero → A
-class_none k (inl e) zero = absurd (cc (sym e ∙ zero))
-class_none k (inr e) zero = absurd (cc (sym e ∙ zero))
+class_none k h h2 = grind arith
 
 seen_none : {A : Type 0} (k : Option Class) → k ≡ None → k ≡ Some Zero → A
 seen_none k e zero = absurd (cc (sym e ∙ zero))
 
 -- in class 0 the CC has passed
 by_class : (local : Local) (w : Whole) → w.tap.course.class ≡ Some Zero → Stage local w → Selected w
-by_class local w zero (lines f c named) = class_none w.tap.course.class f.class zero
-by_class local w zero (selecting f) = seen_none w.tap.course.class f.class zero
-by_class local w zero (selected f) = f
+by_class local w h h2 = grind (arith, class_none, seen_none)
 
 by_seen_class : (local : Local) (w : Whole) → w.tap.course.class_seen ≡ Some Zero → Stage local w → Selected w
-by_seen_class local w zero (lines f c named) = class_none w.tap.course.class_seen f.class_seen zero
-by_seen_class local w zero (selecting f) = seen_none w.tap.course.class_seen f.class_seen zero
-by_seen_class local w zero (selected f) = f
+by_seen_class local w h h2 = grind (arith, class_none, seen_none)
 
 module _ (local : Local) (w : Whole) (j : Joined local w) (a : Alone w) where
   calm_so : w.tap.course.loose ≡ false → w.tap.course.right_stopped ≡ false → w.tap.course.left_stopped ≡ false → IsCalm w.tap.course
@@ -174,8 +159,7 @@ module _ (local : Local) (w : Whole) (j : Joined local w) (a : Alone w) where
       (by_class local w zero (j.stage (calm_so firm right was)))).0
 
 next_alone : (local : Local) (event : Event) (w new : Whole) → Happens Right event w new → Joined local w → Alone w → Alone new
-next_alone local arrives w new (u, coming, is) j a =
-    subst Alone (sym is) (λ firm right left. selected_takes w u new.coming (a firm right left))
+next_alone local arrives w new (u, coming, is) j a = grind (arith, selected_takes)
 next_alone local (calls call) w new (may, is) j a = subst Alone (sym is) (λ firm right left. selected_calls w call may (a firm right left))
 next_alone local begins_own w new (some, not_begun, is) j a =
     subst Alone (sym is) (λ firm right left. selected_begins Right w true (a firm right left))

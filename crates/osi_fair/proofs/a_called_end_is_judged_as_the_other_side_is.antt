@@ -1,10 +1,8 @@
 -- As long as the other side is judged, a called end is: what is right stops nothing, and what stops the end stops both sides.
 -- For the law on a whole called end.
-use Rattle.osi_fair.proofs.Vocabulary.{arith}
-use Rattle.osi_fair.proofs.Vocabulary.{ap, false, inl, inr, Option, refl, Some, sym, true, Zero, ◌∙◌, ◌≡◌, ◌⊎◌, ◌||◌, Value, Class}
-use Rattle.osi_fair.proofs.Vocabulary.{stops_are_said}
-use Rattle.osi_fair.proofs.Vocabulary.{reach_by, reach_of, class_for, reached, refused, Traffic as State, stops_by, takes, Left, Right}
-use Rattle.osi_fair.proofs.Vocabulary.{Course, Finding, Kept, NotJudged, Reach}
+use Rattle.osi_fair.proofs.Vocabulary.{arith, false, Option, refl, Some, true, Zero, ◌≡◌, ◌⊎◌, Value, Class, stops_are_said, reach_by}
+use Rattle.osi_fair.proofs.Vocabulary.{reach_of, class_for, reached, refused, Traffic as State, takes, Left, Right, Course, Finding, Kept}
+use Rattle.osi_fair.proofs.Vocabulary.{NotJudged, Reach}
 use Rattle.osi_rules.specs.declared.findings.Reach.TheVariants as reach
 use Rattle.osi_fair.proofs.small_facts_that_many_lemmas_use.{differ}
 use Rattle.osi_fair.proofs.the_end_is_judged_as_the_other_side_is.{side_zero, told_by}
@@ -16,21 +14,16 @@ abbrev pub IsNotBlamed : Finding → Type 0
 IsNotBlamed f = (f ≡ Kept) ⊎ (f ≡ NotJudged)
 
 no_reach : (k : Option Class) (f : Finding) → IsNotBlamed f → reach_of k f ≡ reach.Nothing
-no_reach k f (inl e) = ap (reach_of k) e
-no_reach k f (inr e) = ap (reach_of k) e
+no_reach k f h = grind arith
 
 pub own_judged : (v : Value) (s : State) → IsNotBlamed (takes Right v s).told.finding → s.course.right_stopped ≡ false →
     (takes Right v s).state.course.right_stopped ≡ false
-own_judged v s mild right =
-    stops_are_said Right v s Right ∙ ap (λ (r : Reach). stops_by Right r Right || s.course.right_stopped)
-    (told_by Right v s ∙ no_reach s.course.class (takes Right v s).told.finding mild) ∙ right
+own_judged v s mild right = search (arith, stops_are_said, told_by, no_reach)
 
 -- and it stops the other side as little
 pub other_kept : (v : Value) (s : State) → IsNotBlamed (takes Right v s).told.finding →
     (takes Right v s).state.course.left_stopped ≡ s.course.left_stopped
-other_kept v s mild =
-    stops_are_said Right v s Left ∙ ap (λ (r : Reach). stops_by Right r Left || s.course.left_stopped)
-    (told_by Right v s ∙ no_reach s.course.class (takes Right v s).told.finding mild)
+other_kept v s mild = search (arith, stops_are_said, told_by, no_reach)
 
 -- ---- what the other side sends
 
@@ -38,16 +31,7 @@ other_kept v s mild =
 alone_by : (r : Reach) (v : Value) (s : State) → (takes Left v s).told.reach ≡ r → s.course.left_stopped ≡ false →
     (takes Left v s).state.course.left_stopped ≡ true → (takes Left v s).state.course.right_stopped ≡ false →
     s.course.class_seen ≡ Some Zero
-alone_by reach.Side v s e was left right = side_zero s.course.class_seen (takes Left v s).told.finding (sym (told_by Left v s) ∙ e)
-alone_by reach.Everything v s e was left right =
-    differ (takes Left v s).state.course.right_stopped
-    (stops_are_said Left v s Right ∙ ap (λ (r : Reach). stops_by Left r Right || s.course.right_stopped) e) right
-alone_by reach.Nothing v s e was left right =
-    differ (takes Left v s).state.course.left_stopped left
-    (stops_are_said Left v s Left ∙ ap (λ (r : Reach). stops_by Left r Left || s.course.left_stopped) e ∙ was)
-alone_by reach.Connection v s e was left right =
-    differ (takes Left v s).state.course.left_stopped left
-    (stops_are_said Left v s Left ∙ ap (λ (r : Reach). stops_by Left r Left || s.course.left_stopped) e ∙ was)
+alone_by r v s e was left right = search (arith, side_zero, told_by, differ, stops_are_said)
 
 pub alone_zero : (v : Value) (s : State) → s.course.left_stopped ≡ false → (takes Left v s).state.course.left_stopped ≡ true →
     (takes Left v s).state.course.right_stopped ≡ false → s.course.class_seen ≡ Some Zero

@@ -3,11 +3,11 @@
 use Rattle.osi_fair.proofs.Vocabulary.{[], ap, arith, Bool, false, if◌then◌else◌, is_some, length, List, None, Option, refl, Some, subst}
 use Rattle.osi_fair.proofs.Vocabulary.{sym, true, ℕ, ◌++◌, ◌∙◌, ◌∷◌, ◌≡◌, ◌≤◌, eqb-true, append-nil, AllByRecursion, not, ◌==◌, Value}
 use Rattle.osi_fair.proofs.Vocabulary.{all_given, longest_tsdu, Standing, with_tsdu, Class, Two, Local, orderly_closed, orderly_ended}
-use Rattle.osi_fair.proofs.Vocabulary.{orderly_sent, orderly_sent_all, put_other, put_here, class_error, closed_on, closed_with, closes_in}
-use Rattle.osi_fair.proofs.Vocabulary.{ended_by, link_of, open_link, or_else, room_error, sent, sent_all, IsOrderly, pumped, value_at}
-use Rattle.osi_fair.proofs.Vocabulary.{breaks, closes_call, connects, sends, sends_all, user_does, UserCall, asked, closing, Live}
-use Rattle.osi_fair.proofs.Vocabulary.{ends as ends_as, linked, EndReason, OpenError, Ended, NotCaller, Follows, link_now, put_by}
-use Rattle.osi_fair.proofs.Vocabulary.{put_closed, put_closing, put_sent, put_together, MayCall, Whole}
+use Rattle.osi_fair.proofs.Vocabulary.{orderly_sent, orderly_sent_all, put_other, put_here, closed_on, closed_with, closes_in, ended_by}
+use Rattle.osi_fair.proofs.Vocabulary.{link_of, open_link, sent, sent_all, IsOrderly, pumped, value_at, breaks, closes_call, connects}
+use Rattle.osi_fair.proofs.Vocabulary.{sends, sends_all, user_does, UserCall, asked, closing, Live, ends as ends_as, linked, EndReason}
+use Rattle.osi_fair.proofs.Vocabulary.{OpenError, NotCaller, Follows, link_now, put_by, put_closed, put_closing, put_sent, put_together}
+use Rattle.osi_fair.proofs.Vocabulary.{MayCall, Whole}
 use Rattle.osi_carrier.specs.Calls.{sent_on}
 use Rattle.osi_carrier.specs.State.{State}
 use Rattle.osi_fair.proofs.small_facts_that_many_lemmas_use.{none_of, same_pair}
@@ -38,51 +38,38 @@ same_peer q p l k e = cc
 
 pub open_of : (r peer : ℕ) (link : Standing) (s : State) → s.ended ≡ None → value_at r s.live ≡ Some (linked peer link) →
     open_link r s ≡ Some (peer, link)
-open_of r peer link s lasts h =
-    ap (λ (o : Option EndReason). if◌then◌else◌ {A = Option (ℕ × Standing)} (is_some o) None (link_of (value_at r s.live))) lasts
-    ∙ ap link_of h
+open_of r peer link s lasts h = grind arith
 
 pub row_of : (o : Option Live) (peer : ℕ) (link : Standing) → link_of o ≡ Some (peer, link) → o ≡ Some (linked peer link)
-row_of (Some (linked q l)) peer link e = ap (λ (p : ℕ × Standing). Some (linked p.0 p.1)) (same_pair (q, l) (peer, link) e)
-row_of _ peer link e = cc
+row_of o peer link e = grind (arith, same_pair)
 
 linked_of : (b : Bool) (o : Option Live) (peer : ℕ) (link : Standing) → (if b then None else link_of o) ≡ Some (peer, link) →
     (b ≡ false) × (o ≡ Some (linked peer link))
-linked_of true o peer link e = cc
-linked_of false o peer link e = (refl, row_of o peer link e)
+linked_of b o peer link e = grind (arith, row_of)
 
 open_is : (r peer : ℕ) (link : Standing) (s : State) → open_link r s ≡ Some (peer, link) →
     (s.ended ≡ None) × (value_at r s.live ≡ Some (linked peer link))
-open_is r peer link s e =
-    let (a, b) = linked_of (is_some s.ended) (value_at r s.live) peer link e in (none_of s.ended a, b)
+open_is r peer link s e = grind (arith, linked_of, none_of)
 
 -- ---- what calls change
 
 pub rows_sent : (m r : ℕ) (tsdu : List ℕ) (o : Option (ℕ × Standing)) (s : State) → (m ≡ r → ⊥) →
     value_at m (sent_on r tsdu o s).live ≡ value_at m s.live
-rows_sent m r tsdu None s other = refl
-rows_sent m r tsdu (Some (peer, link)) s other = put_other m r (linked peer (pumped (with_tsdu link tsdu))) s.live other
+rows_sent m r tsdu o s other = grind (arith, put_other)
 
 pub rows_all : (m r : ℕ) (tsdus : List (List ℕ)) (s : State) → (m ≡ r → ⊥) → value_at m (sent_all r tsdus s).live ≡ value_at m s.live
 rows_all m r [] s other = refl
 rows_all m r (tsdu ∷ tsdus) s other = rows_all m r tsdus (sent r tsdu s) other ∙ rows_sent m r tsdu (open_link r s) s other
 
 same_sent : (r : ℕ) (tsdu : List ℕ) (o : Option (ℕ × Standing)) (s : State) → Same s (sent_on r tsdu o s)
-same_sent r tsdu None s = record { caller = refl; local_is = refl; class = refl; given = refl }
-same_sent r tsdu (Some (peer, link)) s = record { caller = refl; local_is = refl; class = refl; given = refl }
+same_sent r tsdu o s = grind arith
 
 same_then : (a b c : State) → Same a b → Same b c → Same a c
-same_then a b c x y = record {
-  caller = y.caller ∙ x.caller;
-  local_is = y.local_is ∙ x.local_is;
-  class = y.class ∙ x.class;
-  given = y.given ∙ x.given;
-}
+same_then a b c x y = grind arith
 
 same_all : (r : ℕ) (tsdus : List (List ℕ)) (s : State) → Same s (sent_all r tsdus s)
 same_all r [] s = record { caller = refl; local_is = refl; class = refl; given = refl }
-same_all r (tsdu ∷ tsdus) s =
-    same_then s (sent r tsdu s) (sent_all r tsdus (sent r tsdu s)) (same_sent r tsdu (open_link r s) s) (same_all r tsdus (sent r tsdu s))
+same_all r (tsdu ∷ tsdus) s = grind (arith, same_then, same_sent, same_all r tsdus (sent r tsdu s))
 
 -- the link after TSDUs that were sent together
 pub all_open : (r peer : ℕ) (tsdus : List (List ℕ)) (s : State) (link : Standing) → open_link r s ≡ Some (peer, link) →
@@ -94,13 +81,7 @@ all_open r peer (tsdu ∷ tsdus) s link e =
 pub all_none : (r : ℕ) (tsdus : List (List ℕ)) (s : State) → open_link r s ≡ None →
     (sent_all r tsdus s ≡ s) × (put_together r tsdus s ≡ [])
 all_none r [] s h = (refl, refl)
-all_none r (tsdu ∷ tsdus) s h =
-    let same : sent r tsdu s ≡ s = ap (λ (o : Option (ℕ × Standing)). sent_on r tsdu o s) h in
-    let (a, b) = all_none r tsdus s h in (
-      ap (λ (t : State). sent_all r tsdus t) same ∙ a,
-      ap (λ (o : Option (ℕ × Standing)). put_sent tsdu o ++ put_together r tsdus (sent r tsdu s)) h
-          ∙ ap (λ (t : State). put_together r tsdus t) same ∙ b,
-    )
+all_none r (tsdu ∷ tsdus) s h = grind (arith, all_none r tsdus s h)
 
 -- ---- units that are no CCs
 
@@ -114,13 +95,10 @@ join_no_cc (x ∷ xs) ys (one, more) b = (one, join_no_cc xs ys more b)
 
 together_no_cc : (r : ℕ) (tsdus : List (List ℕ)) (s : State) → AllByRecursion IsNoCc (put_together r tsdus s)
 together_no_cc r [] s = tt
-together_no_cc r (tsdu ∷ tsdus) s =
-    join_no_cc (put_sent tsdu (open_link r s)) (put_together r tsdus (sent r tsdu s)) (sent_no_cc tsdu (open_link r s))
-    (together_no_cc r tsdus (sent r tsdu s))
+together_no_cc r (tsdu ∷ tsdus) s = grind (arith, join_no_cc, sent_no_cc, together_no_cc r tsdus (sent r tsdu s))
 
 closed_no_cc : (r reason peer : ℕ) (k : Option Class) → k ≡ Some Two → AllByRecursion IsNoCc (put_closed r reason peer k)
-closed_no_cc r reason peer k e =
-    subst (λ (j : Option Class). AllByRecursion IsNoCc (put_closed r reason peer j)) (sym e) (λ m x h. absurd (cc h), tt)
+closed_no_cc r reason peer k e = grind arith
 
 -- ---- any call
 
@@ -136,23 +114,15 @@ module _ (local : Local) (w : Whole) (f : Called local w) (c : IsCalled local w.
 
   -- it has no effect
   nothing_so : (t : State) (units : List Value) → t ≡ s → units ≡ [] → Made t units
-  nothing_so t units same none = (
-    subst (λ (l : List Value). Called local (record w { end = t; put = l }))
-        (sym (ap (λ (l : List Value). w.put ++ l) none ∙ append-nil w.put))
-        (subst (λ (e : State). Called local (record w { end = e })) (sym same) f),
-    subst (λ (e : State). IsCalled local e) (sym same) c,
-  )
+  nothing_so t units same none = grind (arith, append-nil)
 
   none_asked : (t : State) (r peer : ℕ) (l : Standing) → ((m : ℕ) → (m ≡ r → ⊥) → value_at m t.live ≡ value_at m s.live) →
       value_at r t.live ≡ Some (linked peer l) → (m : ℕ) (b : Bool) → (m == r) ≡ b → value_at m t.live ≡ Some asked → ⊥
-  none_asked t r peer l rows here m true e there =
-      not_asked (value_at r t.live) peer l here (ap (λ (i : ℕ). value_at i t.live) (sym (eqb-true m r e)) ∙ there)
-  none_asked t r peer l rows here m false e there = c.none m (sym (rows m (unlike m r e)) ∙ there)
+  none_asked t r peer l rows here m b e there = grind (arith, not_asked, eqb-true, unlike)
 
   row_lives : (t : State) (r : ℕ) → ((m : ℕ) → (m ≡ r → ⊥) → value_at m t.live ≡ value_at m s.live) → IsLive t r → (m : ℕ) (b : Bool) →
       (m == r) ≡ b → IsLive s m → IsLive t m
-  row_lives t r rows live m true e k = ap (λ (i : ℕ). is_some (value_at i t.live)) (eqb-true m r e) ∙ live
-  row_lives t r rows live m false e k = ap is_some (rows m (unlike m r e)) ∙ k
+  row_lives t r rows live m b e k = grind (arith, eqb-true, unlike)
 
   -- on an open connection, which stays open
   talks_so : (t : State) (units : List Value) (r peer : ℕ) (link l : Standing) → s.ended ≡ None → value_at r s.live ≡ Some
@@ -172,8 +142,7 @@ module _ (local : Local) (w : Whole) (f : Called local w) (c : IsCalled local w.
 
   sends_by : (r : ℕ) (tsdu : List ℕ) (o : Option (ℕ × Standing)) → open_link r s ≡ o → length tsdu ≤ longest_tsdu →
       Made (sent r tsdu s) (put_sent tsdu (open_link r s))
-  sends_by r tsdu None e short = nothing_so (sent r tsdu s) (put_sent tsdu (open_link r s))
-      (ap (λ (o : Option (ℕ × Standing)). sent_on r tsdu o s) e) (ap (λ (o : Option (ℕ × Standing)). put_sent tsdu o) e)
+  sends_by r tsdu None e short = grind (arith, nothing_so)
   sends_by r tsdu (Some (peer, link)) e short =
       let (was, here) = open_is r peer link s e in
       let (lasts, there) = open_is r peer (pumped (with_tsdu link tsdu)) (sent r tsdu s) (still_open r peer tsdu s link e) in
@@ -183,8 +152,7 @@ module _ (local : Local) (w : Whole) (f : Called local w) (c : IsCalled local w.
 
   together_by : (r : ℕ) (tsdus : List (List ℕ)) (o : Option (ℕ × Standing)) → open_link r s ≡ o →
       AllByRecursion (λ (tsdu : List ℕ). length tsdu ≤ longest_tsdu) tsdus → Made (sent_all r tsdus s) (put_together r tsdus s)
-  together_by r tsdus None e short =
-      let (a, b) = all_none r tsdus s e in nothing_so (sent_all r tsdus s) (put_together r tsdus s) a b
+  together_by r tsdus None e short = grind (arith, all_none, nothing_so)
   together_by r tsdus (Some (peer, link)) e short =
       let (was, here) = open_is r peer link s e in
       let (l, after) = all_open r peer tsdus s link e in
@@ -195,15 +163,11 @@ module _ (local : Local) (w : Whole) (f : Called local w) (c : IsCalled local w.
 
   closing_asked : (t : State) (r peer : ℕ) → ((m : ℕ) → (m ≡ r → ⊥) → value_at m t.live ≡ value_at m s.live) →
       value_at r t.live ≡ Some (closing peer) → (m : ℕ) (b : Bool) → (m == r) ≡ b → value_at m t.live ≡ Some asked → ⊥
-  closing_asked t r peer rows here m true e there =
-      not_closing (value_at r t.live) peer here (ap (λ (i : ℕ). value_at i t.live) (sym (eqb-true m r e)) ∙ there)
-  closing_asked t r peer rows here m false e there = c.none m (sym (rows m (unlike m r e)) ∙ there)
+  closing_asked t r peer rows here m b e there = grind (arith, not_closing, eqb-true, unlike)
 
   closes_by : (r reason : ℕ) (o : Option (ℕ × Standing)) → open_link r s ≡ o →
       Made (closed_with r reason s) (put_closing r reason (open_link r s) s.class)
-  closes_by r reason None e = nothing_so (closed_with r reason s) (put_closing r reason (open_link r s) s.class)
-      (ap (λ (o : Option (ℕ × Standing)). closed_on r reason o s) e)
-      (ap (λ (o : Option (ℕ × Standing)). put_closing r reason o s.class) e)
+  closes_by r reason None e = grind (arith, nothing_so)
   closes_by r reason (Some (peer, link)) e =
       let t = closed_with r reason s in
       let (was, here) = open_is r peer link s e in
@@ -253,12 +217,10 @@ module _ (local : Local) (w : Whole) (f : Called local w) (c : IsCalled local w.
       )
 
   may_not : {A : Type 0} (b : Bool) (o : Option OpenError) → b ≡ false → (if not b then Some NotCaller else o) ≡ None → A
-  may_not true o h e = absurd (cc h)
-  may_not false o h e = absurd (cc e)
+  may_not b o h e = grind arith
 
   pub makes_so : (call : UserCall) → MayCall call s → Made (user_does call s) (put_by call s)
-  makes_so (connects calling called) may =
-      may_not s.is_caller (if is_some s.ended then Some Ended else or_else (class_error s.class s.live) (room_error s)) c.caller may
+  makes_so (connects calling called) may = grind (arith, may_not)
   makes_so (sends r tsdu) may = sends_by r tsdu (open_link r s) refl may
   makes_so (sends_all r tsdus) may = together_by r tsdus (open_link r s) refl may
   makes_so (closes_call r reason) may = closes_by r reason (open_link r s) refl

@@ -208,19 +208,7 @@ module _ (local : Local) (w : Whole) (f : Called local w) (c : IsCalled local w.
   zero_so : (was : s.ended ≡ None) (x : Connect) (size : Option ℕ) → u ≡ request x → selected_by x s.local ≡ accept Zero size →
       (k : Option Class) → s.class ≡ k → t ≡ answers_by x (accept Zero size) s.class s →
       put_for u s ≡ put_for_selection x (accept Zero size) s.class s → Taken ⊎ SelectsZero
-  zero_so was x size e selected None none is puts = inr (record {
-    x = x;
-    size = size;
-    is_cr = e;
-    was = was;
-    selected = selected;
-    none = none;
-    end_is = is ∙ ap (λ (k : Option Class). answers_by x (accept Zero size) k s) none;
-    puts = puts ∙ ap (λ (k : Option Class). put_for_selection x (accept Zero size) k s) none;
-  })
-  zero_so was x size e selected (Some class) held is puts = inl (denies_so was x 136 e
-      (is ∙ ap (λ (k : Option Class). answers_by x (accept Zero size) k s) held)
-      (puts ∙ ap (λ (k : Option Class). put_for_selection x (accept Zero size) k s) held))
+  zero_so was x size e selected k none is puts = grind (arith, denies_so)
 
   selects_so : (was : s.ended ≡ None) (x : Connect) (a : Selection) → u ≡ request x → selected_by x s.local ≡ a →
       t ≡ answers_by x a s.class s → put_for u s ≡ put_for_selection x a s.class s → Taken ⊎ SelectsZero
@@ -264,11 +252,7 @@ module _ (local : Local) (w : Whole) (f : Called local w) (c : IsCalled local w.
 
     asked_one : (q : ℕ) (x : Connection) → units_at q f.came ≡ u ∷ units_at q head.later →
         Stand local f.shut s w.coming (units_at q f.tagged) (units_at q f.came) (w.begun && first_at q f.tagged) (f.refs q) x → ⊥
-    asked_one q x e (comes y a none ask i) = not_request y (first_is u (request y) (units_at q head.later) [] (sym e ∙ ask was))
-    asked_one q x e (refuses y a reason is none i seen) = no_list u (units_at q head.later) (units_at q f.came) e none
-    asked_one q x e (answers h none) = no_list u (units_at q head.later) (units_at q f.came) e none
-    asked_one q x e (runs h none) = no_list u (units_at q head.later) (units_at q f.came) e none
-    asked_one q x e (past silent up none ask un off) = no_list u (units_at q head.later) (units_at q f.came) e ask
+    asked_one q x e h = grind (arith, not_request, first_is, units_at, head, no_list)
 
     asked_by_place : (q : ℕ) (o : Option Connection) → slice_get w.tap.connections q ≡ o → units_at q f.came ≡ u ∷ units_at q head.later → ⊥
     asked_by_place q None e h = no_list u (units_at q head.later) (units_at q f.came) h (f.beyond q e).1
@@ -430,12 +414,7 @@ module _ (local : Local) (w : Whole) (f : Called local w) (c : IsCalled local w.
 
   -- no class is selected
   before_so : (was : s.ended ≡ None) → s.class ≡ None → (v : Value) → u ≡ v → Taken ⊎ SelectsZero
-  before_so was none v e =
-      let to = on was ∙ ap (λ (k : Option Class). in_class k u s) none ∙ ap (λ (b : Bool). before_class b u s) c.caller
-      ∙ ap (λ (x : Value). before_class false x s) e in
-      let puts = puts_on was ∙ ap (λ (k : Option Class). put_in k u s) none ∙ ap (λ (b : Bool). put_before b u s) c.caller
-      ∙ ap (λ (x : Value). put_before false x s) e in
-      before_by was v e to puts
+  before_so was none v e = grind (arith, on, puts_on, before_by)
 
   two_by : (was : s.ended ≡ None) → s.class ≡ Some Two → (v : Value) → u ≡ v → Taken ⊎ SelectsZero
   two_by was two (request x) e =

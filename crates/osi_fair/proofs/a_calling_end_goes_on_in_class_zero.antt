@@ -1,20 +1,17 @@
 -- A calling end in class 0: what holds once the CC has passed that selects it, as the end takes that CC, as it goes on, and as units
 -- pass. For the laws on whole calling ends.
-use Rattle.osi_fair.proofs.Vocabulary.{[], ap, arith, Bool, false, IfSome, if◌then◌else◌, inl, inr, length, List, None, Option, option_map}
-use Rattle.osi_fair.proofs.Vocabulary.{refl, set, Some, subst, sym, true, ℕ, ◌++◌, ◌+◌, ◌-◌, ◌^◌, ◌∙◌, ◌∷◌, ◌≡◌, ◌≤◌, ◌⊎◌, pow-le-pow_right}
-use Rattle.osi_fair.proofs.Vocabulary.{eqb-true, slice_get-map, min, not, position, slice_get, ◌&&◌, ◌==◌, ◌||◌, size_code, confirm}
-use Rattle.osi_fair.proofs.Vocabulary.{Connect, data0, disconnected, error, IsConnect, request, Value, longest_tsdu, Class, Two, Zero}
-use Rattle.osi_fair.proofs.Vocabulary.{Local, agreed_size, opened_link, proposes_two, proposes_zero, unit_octets, opens, react}
-use Rattle.osi_fair.proofs.Vocabulary.{to_connection, put, Rows, value_at, user_does, UserCall, asked, Live, linked, is_applied}
-use Rattle.osi_fair.proofs.Vocabulary.{passes_over, reach_of, reach_past, begins, is_closed, is_closing, is_live, is_named, is_open}
-use Rattle.osi_fair.proofs.Vocabulary.{is_over, is_over_by, is_refused, is_silent, at_found, at_place, class_for, class_of}
-use Rattle.osi_fair.proofs.Vocabulary.{connection_after, course_after, course_after_none, found_on, is_stopped, judged_on, none_told}
-use Rattle.osi_fair.proofs.Vocabulary.{one_told, Outcome, packet_begins, reached, refused, refused_reach, route_in, route_zero, routed}
-use Rattle.osi_fair.proofs.Vocabulary.{sent_on, Traffic, takes, unnamed, unnamed_told, Connection, Offer, Course, Left, Right, Finding}
-use Rattle.osi_fair.proofs.Vocabulary.{Broke, Kept, NotJudged, Reach, Half, Phase, Open, Refused, Silent, rubbish, unit as passing, put_at}
-use Rattle.osi_fair.proofs.Vocabulary.{put_by, put_for, MayCall}
-use Rattle.osi_fair.proofs.Vocabulary.{has_broken}
-use Rattle.osi_carrier.specs.Negotiation.{selects_expedited}
+use Rattle.osi_fair.proofs.Vocabulary.{[], ap, arith, Bool, false, IfSome, if◌then◌else◌, length, List, None, Option, option_map, refl, set}
+use Rattle.osi_fair.proofs.Vocabulary.{Some, subst, sym, true, ℕ, ◌++◌, ◌+◌, ◌-◌, ◌^◌, ◌∙◌, ◌∷◌, ◌≡◌, ◌≤◌, ◌⊎◌, pow-le-pow_right, eqb-true}
+use Rattle.osi_fair.proofs.Vocabulary.{slice_get-map, min, not, position, slice_get, ◌&&◌, ◌==◌, ◌||◌, size_code, confirm, Connect, data0}
+use Rattle.osi_fair.proofs.Vocabulary.{disconnected, error, IsConnect, request, Value, longest_tsdu, Class, Two, Zero, Local, agreed_size}
+use Rattle.osi_fair.proofs.Vocabulary.{opened_link, unit_octets, opens, react, to_connection, put, Rows, value_at, user_does, UserCall}
+use Rattle.osi_fair.proofs.Vocabulary.{asked, Live, linked, is_applied, reach_of, reach_past, begins, is_closed, is_closing, is_live}
+use Rattle.osi_fair.proofs.Vocabulary.{is_named, is_open, is_over, is_over_by, is_refused, is_silent, at_found, at_place, class_for}
+use Rattle.osi_fair.proofs.Vocabulary.{class_of, connection_after, course_after, course_after_none, found_on, is_stopped, judged_on}
+use Rattle.osi_fair.proofs.Vocabulary.{none_told, one_told, Outcome, packet_begins, reached, refused, refused_reach, route_in, route_zero}
+use Rattle.osi_fair.proofs.Vocabulary.{routed, sent_on, Traffic, takes, unnamed_told, Connection, Offer, Course, Left, Right, Finding}
+use Rattle.osi_fair.proofs.Vocabulary.{Broke, Kept, NotJudged, Reach, Half, Phase, rubbish, unit as passing, put_at, put_by, put_for}
+use Rattle.osi_fair.proofs.Vocabulary.{MayCall, has_broken}
 use Rattle.osi_carrier.specs.State.{State}
 use Rattle.osi_rules.specs.declared.findings.Reach.TheVariants as reach
 use Rattle.osi_rules.specs.declared.findings.Rule.TheVariants as rule
@@ -56,8 +53,7 @@ pub record IsZeroed (end : State) (units : List Value) (begun : Bool) (s : Traff
 -- ---- the end takes the CC
 
 put_one : (n r : ℕ) (old new : Live) (b : Bool) → (r == n) ≡ b → b ≡ true → put n new ((r, old) ∷ []) ≡ (r, new) ∷ []
-put_one n r old new true e h = ap (λ (b : Bool). if b then (r, new) ∷ [] else (r, old) ∷ put n new []) e
-put_one n r old new false e h = cc
+put_one n r old new b e h = grind arith
 
 -- the most octets of a DT
 abbrev pub limit_of : Connect → State → ℕ
@@ -75,15 +71,11 @@ opens_by n r x s e is false true h =
 
 to_one : (n r : ℕ) (x : Connect) (s : State) (b : Bool) → (r == n) ≡ b → IsCalling (one r) s → (x.class == 2) ≡ false →
     IsInZero (limit_of x s) (to_connection n (if b then Some asked else None) (confirm n x) s) 0 []
-to_one n r x s true e is zero =
-    opens_by n r x s e is ((x.class == 2) && (proposes_two s.local && not (selects_expedited x.parameters.additional)))
-    ((x.class == 0) && proposes_zero s.local s.class)
-    (no_two (x.class == 2) (proposes_two s.local && not (selects_expedited x.parameters.additional)) zero)
+to_one n r x s true e is zero = search (arith, opens_by, no_two)
 to_one n r x s false e is zero = over refl tt
 
 puts_none : (n : ℕ) (x : Connect) (held : Option Class) (b : Bool) → put_at n (if b then Some asked else None) (confirm n x) held ≡ []
-puts_none n x held true = refl
-puts_none n x held false = refl
+puts_none n x held b = grind arith
 
 -- it puts nothing, and its one connection is open, or it ends
 pub confirm_takes : (n r : ℕ) (x : Connect) (s : State) → IsCalling (one r) s → (x.class == 2) ≡ false →
@@ -118,8 +110,7 @@ class_zero x e = ap (λ (b : Bool). Some (if b then Two else Zero)) e
 
 other_one : {A : Type 0} (cs : List Connection) (p i : ℕ) (new e : Connection) →
     ((i ≡ p) × (e ≡ new)) ⊎ ((i ≡ p → ⊥) × (slice_get cs i ≡ Some e)) → (i ≡ p → ⊥) → (slice_get cs i ≡ Some e → A) → A
-other_one cs p i new e (inl (same, so)) other k = absurd (other same)
-other_one cs p i new e (inr (not_p, there)) other k = k there
+other_one cs p i new e h other k = grind arith
 
 pub confirmed_so : (n r p : ℕ) (o : Offer) (x : Connect) (cs : List Connection) (strays erred : Bool) (end : State) → (w : Waits r p o cs) →
     IsConnect x → IsCalling (one r) end → (x.class == 2) ≡ false →
@@ -209,14 +200,10 @@ module _ (end : State) (units : List Value) (begun : Bool) (s : Traffic) (f : Is
 
 live_by : (p k : Phase) → is_open p ≡ true → is_refused k ≡ false →
     (is_refused p || (is_refused k || (is_closed p || (is_closing p && (is_closing k || is_closed k))))) ≡ false
-live_by Open Refused h g = cc
-live_by Open _ h g = refl
-live_by Silent k h g = cc
-live_by _ k h g = cc
+live_by p k h g = grind arith
 
 not_both : (a b : Bool) → b ≡ false → not (a && b) ≡ true
-not_both true b h = ap not h
-not_both false b h = refl
+not_both a b h = grind arith
 
 module _ (end : State) (s : Traffic) (u : Value) (rest : List Value) (left : s.course.left_stopped ≡ false)
     (f : IsZeroed end (u ∷ rest) true s) where
@@ -239,12 +226,10 @@ module _ (end : State) (s : Traffic) (u : Value) (rest : List Value) (left : s.c
     new = sent_on Left (data0 last user) t.c
 
     fine : (takes Left u s).told.finding ≡ Kept
-    fine = ap (λ (v : Value). (takes Left v s).told.finding) is
-        ∙ dt_kept Left s t.p t.c t.at t.judged left (t.class_seen refl) only t.limit t.fits last user puts.0 puts.1
+    fine = search (arith, dt_kept, only, puts)
 
     conns : (takes Left u s).state.connections ≡ set s.connections t.p new
-    conns = ap (λ (v : Value). (takes Left v s).state.connections) is
-        ∙ dt_conns Left s t.p t.c t.at t.judged left (t.class_seen refl) only t.limit t.fits last user puts.0 puts.1
+    conns = search (arith, dt_conns, only, puts)
 
     course : (takes Left u s).state.course ≡ s.course
     course = ap (λ (v : Value). (takes Left v s).state.course) is
@@ -304,41 +289,28 @@ still_self : (c : Connection) → is_refused c.right.phase ≡ false → Still c
 still_self c h = record { left = refl; seen = refl; judged = refl; size = refl; there = h }
 
 still_sent : (v : Value) → IsOnly v → (c : Connection) → is_refused c.right.phase ≡ false → Still c (sent_on Right v c)
-still_sent (data0 end user) k c h = record { left = refl; seen = refl; judged = refl; size = refl; there = h }
-still_sent (disconnected destination source) k c h = record { left = refl; seen = refl; judged = refl; size = refl; there = refl }
-still_sent _ k c h = absurd k
+still_sent v k c h = grind arith
 
 -- in class 0 no connection loses its judgement
 past_side : (b : Bool) (c : Connection) → judged_on (reach_past b reach.Side) c ≡ c
-past_side true c = refl
-past_side false c = refl
+past_side b c = grind arith
 
 zero_far : (f : Finding) (c : Connection) → judged_on (reach_of (Some Zero) f) c ≡ c
-zero_far (Broke r) c = past_side (passes_over r) c
-zero_far _ c = refl
+zero_far f c = grind (arith, past_side)
 
 still_after : (v : Value) → IsOnly v → (applied : Bool) (k : Option Class) (f : Finding) (c : Connection) → k ≡ Some Zero →
     is_refused c.right.phase ≡ false → Still c (connection_after Right v applied (reach_of k f) c)
-still_after v plain true k f c e h =
-    subst (Still c) (sym (ap (λ (j : Option Class). judged_on (reach_of j f) (sent_on Right v c)) e ∙ zero_far f (sent_on Right v c)))
-    (still_sent v plain c h)
-still_after v plain false k f c e h =
-    subst (Still c) (sym (ap (λ (j : Option Class). judged_on (reach_of j f) c) e ∙ zero_far f c)) (still_self c h)
+still_after v plain applied k f c e h = grind (arith, zero_far, still_sent, still_self)
 
 reached_seen : (r : Reach) (c : Course) → (reached Right r c).class_seen ≡ c.class_seen
-reached_seen reach.Nothing c = refl
-reached_seen _ c = refl
+reached_seen r c = grind arith
 
 after_seen : (v : Value) → IsOnly v → (c : Connection) (b : Bool) (o : Course) →
     (course_after Right c v b o).class_seen ≡ o.class_seen
-after_seen (data0 end user) k c b o = refl
-after_seen (disconnected destination source) k c b o = refl
-after_seen _ k c b o = absurd k
+after_seen v k c b o = grind arith
 
 none_same : (v : Value) → IsOnly v → (o : Course) → course_after_none v o ≡ o
-none_same (data0 end user) k o = refl
-none_same (disconnected destination source) k o = refl
-none_same _ k o = absurd k
+none_same v k o = grind arith
 
 module _ (end : State) (units : List Value) (begun : Bool) (s : Traffic) (f : IsZeroed end units begun s) where
   abbrev z : ZeroTap begun s
@@ -370,16 +342,11 @@ module _ (end : State) (units : List Value) (begun : Bool) (s : Traffic) (f : Is
   After v o = o.state.course.class ≡ Some Zero → IsZeroed end units begun o.state
 
   to_none : (v : Value) (g : Finding) → After v (none_told Right g s)
-  to_none v g class =
-      same_conns (none_told Right g s).state refl class (reached_seen (reach_of (class_for Right s.course) g) s.course)
+  to_none v g class = search (arith, same_conns, reached_seen)
 
   module _ (v : Value) (only : IsOnly v) where
     to_unnamed : After v (unnamed_told Right v s)
-    to_unnamed class =
-        let course = course_after_none v s.course in
-        same_conns (unnamed_told Right v s).state refl class
-        (reached_seen (reach_of (class_for Right course) (unnamed Right s.course v)) course
-        ∙ ap (λ (k : Course). k.class_seen) (none_same v only s.course))
+    to_unnamed class = search (arith, same_conns, reached_seen, none_same, only)
 
     abbrev applied : Bool
     applied = is_applied (found_on Right s z.c v)
@@ -465,9 +432,7 @@ module _ (end : State) (units : List Value) (begun : Bool) (s : Traffic) (f : Is
 
   comes_by : (stopped : Bool) (v : Value) (k : Option Class) → k ≡ Some Zero →
       After v (if stopped then none_told Right NotJudged s else routed Right v s (route_in k Right (has_broken Left s.course) v))
-  comes_by true v k e = to_none v NotJudged
-  comes_by false v (Some Zero) e = zero_comes v (has_broken Left s.course)
-  comes_by false v _ e = absurd (cc e)
+  comes_by stopped v k e = search (arith, to_none, zero_comes)
 
   pub zeroed_comes : (v : Value) → IsZeroed end units begun (takes Right v s).state
   zeroed_comes v = comes_by (is_stopped Right s.course) v s.course.class z.class (zero_stays (passing Right v) s z.class)

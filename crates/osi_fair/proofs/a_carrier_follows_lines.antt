@@ -1,22 +1,19 @@
 -- What a carrier of class 2 does to a connection is acts of its line: for a unit that arrives, a TSDU, and a close.
 -- For the law of that name.
-use Rattle.osi_fair.proofs.Vocabulary.{arith}
-use Rattle.osi_fair.proofs.Vocabulary.{[], ap, append_assoc, Bool, Err, if◌then◌else◌, is_some, length, List, map, None, Ok}
-use Rattle.osi_fair.proofs.Vocabulary.{Option, refl, Result, Some, subst, sym, ℕ, ◌++◌, ◌∙◌, ◌∷◌, ◌≡◌, ◌≤◌, flat_map-append}
-use Rattle.osi_fair.proofs.Vocabulary.{append-nil, AllByRecursion, flat_map, destination_of, disconnect}
-use Rattle.osi_fair.proofs.Vocabulary.{disconnected, Value, drained_moves, all_given, longest_tsdu, Given, Standing, taken}
-use Rattle.osi_fair.proofs.Vocabulary.{unit_of, with_tsdu, give_out, hand_in, hand_out, Move, MovesAlong, take_in, LinkFault, Class, Two}
-use Rattle.osi_fair.proofs.Vocabulary.{put_here, without_here, closed_on, closed_with, closes_in, link_of, open_link, sent, RiseFrom}
-use Rattle.osi_fair.proofs.Vocabulary.{pumped, written_by, handed_out, in_two, leaves, taking}
-use Rattle.osi_fair.proofs.Vocabulary.{to_closing, to_connection, to_linked, to_reference, put, value_at, closing, Live as Connection}
-use Rattle.osi_fair.proofs.Vocabulary.{linked, packets, Direction, Follows, link_now, Act, ActsAlong, answers, closes_with as closes}
-use Rattle.osi_fair.proofs.Vocabulary.{HandsInShort, ignores, Line, moves, units_put, units_taken, put_at, put_closed, put_closing, put_for}
-use Rattle.osi_fair.proofs.Vocabulary.{put_in_two, put_leaving, put_linked, put_sent, put_taking, put_to}
+use Rattle.osi_fair.proofs.Vocabulary.{arith, [], ap, append_assoc, Bool, Err, if◌then◌else◌, is_some, length, List, map, None, Ok, Option}
+use Rattle.osi_fair.proofs.Vocabulary.{refl, Result, Some, subst, sym, ℕ, ◌++◌, ◌∙◌, ◌∷◌, ◌≡◌, ◌≤◌, flat_map-append, append-nil}
+use Rattle.osi_fair.proofs.Vocabulary.{AllByRecursion, flat_map, destination_of, disconnect, disconnected, Value, drained_moves, all_given}
+use Rattle.osi_fair.proofs.Vocabulary.{longest_tsdu, Given, Standing, taken, unit_of, with_tsdu, give_out, hand_in, hand_out, Move}
+use Rattle.osi_fair.proofs.Vocabulary.{MovesAlong, take_in, LinkFault, Class, Two, put_here, without_here, closed_with, link_of, open_link}
+use Rattle.osi_fair.proofs.Vocabulary.{sent, RiseFrom, pumped, written_by, handed_out, in_two, leaves, taking, to_closing, to_connection}
+use Rattle.osi_fair.proofs.Vocabulary.{to_linked, to_reference, put, value_at, closing, Live as Connection, linked, packets, Direction}
+use Rattle.osi_fair.proofs.Vocabulary.{Follows, link_now, Act, ActsAlong, answers, closes_with as closes, HandsInShort, ignores, Line}
+use Rattle.osi_fair.proofs.Vocabulary.{moves, units_put, units_taken, put_at, put_closing, put_for, put_in_two, put_leaving, put_linked}
+use Rattle.osi_fair.proofs.Vocabulary.{put_sent, put_taking, put_to}
 use Rattle.osi_carrier.specs.Calls.{sent_on}
 unfoldable use Rattle.osi_carrier.specs.React.{react}
 use Rattle.osi_carrier.specs.State.{State}
 use Rattle.osi_fair.proofs.small_facts_that_many_lemmas_use.{same_pair}
-use Rattle.osi_fair.proofs.Vocabulary.{breaks_in as breaks}
 
 -- ---- calls of a link
 
@@ -151,11 +148,7 @@ closes_follows r peer reason units s new link here there outgoing = record {
 pub follows_closed : (r peer reason : ℕ) (s : State) (link : Standing) → open_link r s ≡ Some (peer, link) → s.class ≡ Some Two →
     Follows r peer [] (put_closing r reason (open_link r s) s.class) s (closed_with r reason s)
 follows_closed r peer reason s link e two =
-    let here = open_is (is_some s.ended) (value_at r s.live) peer link e in
-    let there = put_here r (closing peer) (linked peer link) s.live here in
-    subst (λ (o : Option (ℕ × Standing)). Follows r peer [] (put_closing r reason o s.class) s (closed_on r reason o s)) (sym e)
-    (subst (λ (c : Option Class). Follows r peer [] (put_closed r reason peer c) s (closes_in r peer reason c s)) (sym two)
-    (closes_follows r peer reason [] s (closes_in r peer reason (Some Two) s) link here (ap link_now there) refl))
+    grind (arith, put_here, closes_follows, open_is (is_some s.ended) (value_at r s.live) peer link e)
 
 -- ---- a unit
 
@@ -182,10 +175,7 @@ module _ (r peer : ℕ) (s : State) (link : Standing) (here : value_at r s.live 
       ∷ hands_of after.ends.joining.whole) (unit ∷ [])
       (hands_front link after unit after.ends.joining.whole refl e) here
       (put_here r (linked peer (pumped (handed_out after))) (linked peer link) s.live here) refl
-  follows_taking unit (Err fault) e =
-      let there = put_here r (closing peer) (linked peer link) s.live here in
-      subst (λ (c : Option Class). Follows r peer (unit ∷ []) (put_taking r peer (Err fault) c) s (breaks r peer fault c s)) (sym two)
-      (closes_follows r peer 133 (unit ∷ []) s (breaks r peer fault (Some Two) s) link here (ap link_now there) refl)
+  follows_taking unit (Err fault) e = search (arith, put_here, closes_follows)
 
   follows_disconnect : (destination source reason : ℕ) (user : List ℕ) → RiseFrom 0 s.live →
       Follows r peer (disconnect destination source reason user ∷ []) (put_leaving r peer s.class) s (leaves r peer reason s.class s)
@@ -220,8 +210,7 @@ module _ (r peer : ℕ) (s : State) (link : Standing) (here : value_at r s.live 
 
   follows_linked : (unit : Value) → RiseFrom 0 s.live →
       Follows r peer (unit ∷ []) (put_linked r peer link unit s.class) s (to_linked r peer link unit s)
-  follows_linked (disconnect destination source reason user) rise = follows_disconnect destination source reason user rise
-  follows_linked v rise = follows_taking v (taken link v) refl
+  follows_linked unit rise = search (arith, follows_disconnect, follows_taking)
 
 -- ---- a unit for a connection that is closing
 

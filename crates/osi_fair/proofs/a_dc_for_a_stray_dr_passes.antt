@@ -1,11 +1,10 @@
 -- A DC of a whole calling end passes that answers a DR which closed nothing: it changes no connection at the tap, or it is that of a line.
 -- For the law on a whole end.
 use Rattle.osi_fair.proofs.Vocabulary.{arith, [], ap, Bool, false, if◌then◌else◌, inl, inr, List, None, Option, refl, Some, subst, sym}
-use Rattle.osi_fair.proofs.Vocabulary.{true, ℕ, ◌∙◌, ◌∷◌, ◌≡◌, eqb-true, not, position, slice_get, ◌&&◌, ◌||◌, disconnected, Value, Class}
-use Rattle.osi_fair.proofs.Vocabulary.{Two, Zero, Local, first_failed, is_due, is_named, at_found, at_place, class_for, has_broken}
-use Rattle.osi_fair.proofs.Vocabulary.{none_told, one_told, Outcome, route, route_in, routed, set, is_applied, reach_of, Traffic, takes}
-use Rattle.osi_fair.proofs.Vocabulary.{unnamed_told, Connection, Left, Right, connection_after, found, found_on, in_doubt, is_silent}
-use Rattle.osi_fair.proofs.Vocabulary.{uses_source, unnamed_by, Finding, Broke, NotJudged, Whole}
+use Rattle.osi_fair.proofs.Vocabulary.{true, ℕ, ◌∷◌, ◌≡◌, eqb-true, not, position, slice_get, ◌&&◌, ◌||◌, disconnected, Value, Class, Two}
+use Rattle.osi_fair.proofs.Vocabulary.{Zero, Local, first_failed, is_due, is_named, at_found, at_place, class_for, has_broken, none_told}
+use Rattle.osi_fair.proofs.Vocabulary.{one_told, Outcome, route, route_in, routed, set, Traffic, takes, unnamed_told, Connection, Left}
+use Rattle.osi_fair.proofs.Vocabulary.{Right, found, found_on, in_doubt, uses_source, Broke, NotJudged, Whole}
 use Rattle.osi_rules.specs.declared.findings.Rule.TheVariants as rule
 use Rattle.osi_fair.proofs.small_facts_that_many_lemmas_use.{and_first, and_second, both, judged_same, or_last}
 use Rattle.osi_fair.proofs.a_right_unit_is_not_blamed.{first_there}
@@ -37,31 +36,25 @@ not_due true told strays h k = cc
 not_due false told false h k = cc
 
 doubt_none : (loose : Bool) → (if loose then in_doubt NotJudged else NotJudged) ≡ NotJudged
-doubt_none true = refl
-doubt_none false = refl
+doubt_none loose = grind arith
 
 module _ (m source : ℕ) (s : Traffic) (strays : s.course.strays ≡ true) where
   abbrev v : Value
   v = disconnected m source
 
   none_passes : Passes m source s (unnamed_told Left v s)
-  none_passes = idle (ap (λ (b : Bool). if s.course.loose then in_doubt (unnamed_by b v) else unnamed_by b v) strays
-      ∙ doubt_none s.course.loose) refl
+  none_passes = grind (arith, doubt_none)
 
   idle_one : (p : ℕ) (c : Connection) → slice_get s.connections p ≡ Some c → found_on Left s c v ≡ NotJudged →
       Passes m source s (one_told Left p c v s)
-  idle_one p c at is = idle is
-      (ap (λ (f : Finding). set s.connections p (connection_after Left v (is_applied f) (reach_of (class_for Left s.course) f) c)) is
-      ∙ set_same s.connections p c at)
+  idle_one p c at is = grind (arith, set, set_same)
 
   one_passes : (p : ℕ) (c : Connection) → slice_get s.connections p ≡ Some c → is_named Left m c ≡ true → (j : Bool) → c.is_judged ≡ j →
       (b : Bool) → is_due Left c source ≡ b → Passes m source s (one_told Left p c v s)
   one_passes p c at named false lost b e =
       idle_one p c at (ap (λ (j : Bool). if j then found Left s.course (uses_source Left s.connections v) c v else NotJudged) lost)
   one_passes p c at named true judged true e = due p c at named e judged
-  one_passes p c at named true judged false e =
-      idle_one p c at (judged_same c.is_judged (found Left s.course (uses_source Left s.connections v) c v) judged
-      ∙ not_due (is_due Left c source) (not (is_silent c.left.phase)) s.course.strays e strays)
+  one_passes p c at named true judged false e = search (arith, idle_one, judged_same, not_due)
 
   at_passes : (o : Option ℕ) → position (is_named Left m) s.connections ≡ o → Passes m source s (at_place Left v s o)
   at_passes None e = none_passes
@@ -110,9 +103,7 @@ module _ (local : Local) (w : Whole) (f : Followed local w) (sane : IsSane w.tap
         followed = ignored_passes local w f sane peers dc rest e begun left ignored;
         peers = ignored_peers local w f sane peers dc rest e begun left ignored;
       }
-  passes_by (due p c at named h judged) =
-      let on = due_on c m source (sane.apart.sound p c at judged) named h in
-      own_goes local w f sane peers dc rest p c e begun left at on.tracked on.own judged
+  passes_by (due p c at named h judged) = search (arith, own_goes, due_on c m source (sane.apart.sound p c at judged) named h)
 
   pub dc_goes : Passed local w dc rest
   dc_goes = passes_by (dc_passes m source w.tap strays left)

@@ -1,15 +1,10 @@
 -- A DC with which a whole called end answers a DR for what is gone passes: it answers nothing at the tap, and changes nothing.
 -- For the law on a whole called end.
-use Rattle.osi_fair.proofs.Vocabulary.{arith}
-use Rattle.osi_fair.proofs.Vocabulary.{[], ap, Bool, false, if◌then◌else◌, inl, inr, List, None, Option, refl, Some, subst, sym, true, ℕ}
-use Rattle.osi_fair.proofs.Vocabulary.{◌∙◌, ◌∷◌, ◌≡◌, eqb-true, AllByRecursion, not, position, slice_get, ◌&&◌, ◌==◌, ◌||◌, Connect}
-use Rattle.osi_fair.proofs.Vocabulary.{disconnected, Value, Local, first_failed, is_due, is_closing, is_named}
-use Rattle.osi_fair.proofs.Vocabulary.{is_open, at_found, at_place, in_doubt, none_told}
-use Rattle.osi_fair.proofs.Vocabulary.{one_told, Outcome, route, routed, Traffic, takes, unnamed, unnamed_by, Connection, Left}
-use Rattle.osi_fair.proofs.Vocabulary.{Right, Finding, Broke, NotJudged, Half, Route, Whole}
-use Rattle.osi_fair.proofs.Vocabulary.{class_for, connection_after, course_after, found, found_on}
-use Rattle.osi_fair.proofs.Vocabulary.{is_applied, is_silent, reach_of, reached, set}
-use Rattle.osi_fair.proofs.Vocabulary.{has_broken, noted}
+use Rattle.osi_fair.proofs.Vocabulary.{arith, [], ap, Bool, false, if◌then◌else◌, List, None, Option, Some, subst, sym, true, ℕ, ◌∙◌, ◌∷◌}
+use Rattle.osi_fair.proofs.Vocabulary.{◌≡◌, eqb-true, AllByRecursion, not, slice_get, ◌&&◌, ◌==◌, ◌||◌, Connect, disconnected, Value, Local}
+use Rattle.osi_fair.proofs.Vocabulary.{first_failed, is_due, is_closing, is_open, at_found, at_place, in_doubt, none_told, one_told}
+use Rattle.osi_fair.proofs.Vocabulary.{Outcome, Traffic, takes, unnamed, unnamed_by, Connection, Right, Finding, Broke, NotJudged, Half}
+use Rattle.osi_fair.proofs.Vocabulary.{Whole, class_for, connection_after, course_after, is_applied, reach_of, reached, set, noted}
 use Rattle.osi_rules.specs.declared.findings.Rule.TheVariants as rule
 use Rattle.osi_fair.proofs.small_facts_that_many_lemmas_use.{and_false, differ, is_false}
 use Rattle.osi_fair.proofs.how_a_unit_of_right_passes.{route_dc}
@@ -33,8 +28,7 @@ unnamed_so : (loose strays : Bool) (m n : ℕ) → strays ≡ true →
 unnamed_so loose strays m n h = grind arith
 
 judged_not : (j : Bool) (g : Finding) → (j ≡ true → g ≡ NotJudged) → (if j then g else NotJudged) ≡ NotJudged
-judged_not true g h = h refl
-judged_not false g h = refl
+judged_not j g h = grind arith
 
 -- nothing is changed
 record Spared (u : Value) (s : Traffic) (o : Outcome) : Type 0 where
@@ -43,8 +37,7 @@ record Spared (u : Value) (s : Traffic) (o : Outcome) : Type 0 where
 
 module _ (m n : ℕ) (s : Traffic) (strays : s.course.strays ≡ true) where
   none_spared : Spared (disconnected m n) s (none_told Right (unnamed Right s.course (disconnected m n)) s)
-  none_spared = subst (λ (f : Finding). Spared (disconnected m n) s (none_told Right f s))
-      (sym (unnamed_so s.course.loose s.course.strays m n strays)) (record { finding = refl; state = refl })
+  none_spared = grind (arith, unnamed_so)
 
   -- what the unit leaves, if this is found of it
   abbrev one_by : Finding → ℕ → Connection → Outcome
@@ -60,37 +53,22 @@ module _ (m n : ℕ) (s : Traffic) (strays : s.course.strays ≡ true) where
 
   one_spared : (q : ℕ) (c : Connection) → slice_get s.connections q ≡ Some c → (c.is_judged ≡ true → is_due Right c n ≡ false) →
       Spared (disconnected m n) s (one_told Right q c (disconnected m n) s)
-  one_spared q c at due =
-      let idle : found_on Right s c (disconnected m n) ≡ NotJudged =
-      judged_not c.is_judged (found Right s.course false c (disconnected m n)) (λ j.
-      not_due (is_due Right c n) (not (is_silent c.right.phase)) s.course.strays (due j) strays) in
-      record {
-        finding = idle;
-        state = ap (λ (f : Finding). (one_by f q c).state) idle
-            ∙ ap (λ (l : List Connection). record { connections = l; course = s.course }) (set_same s.connections q c at);
-      }
+  one_spared q c at due = grind (arith, judged_not, not_due, set_same)
 
   found_spared : (q : ℕ) (o : Option Connection) → slice_get s.connections q ≡ o →
       ((c : Connection) → slice_get s.connections q ≡ Some c → c.is_judged ≡ true → is_due Right c n ≡ false) →
       Spared (disconnected m n) s (at_found Right (disconnected m n) s q o)
-  found_spared q None e h = none_spared
-  found_spared q (Some c) e h = one_spared q c e (h c e)
+  found_spared q o e h = grind (arith, none_spared, one_spared)
 
   place_spared : (o : Option ℕ) → ((q : ℕ) (c : Connection) → slice_get s.connections q ≡ Some c →
       c.is_judged ≡ true → is_due Right c n ≡ false) →
       Spared (disconnected m n) s (at_place Right (disconnected m n) s o)
-  place_spared None h = none_spared
-  place_spared (Some q) h = found_spared q (slice_get s.connections q) refl (h q)
+  place_spared o h = grind (arith, none_spared, found_spared)
 
   spared : s.course.right_stopped ≡ false → ((q : ℕ) (c : Connection) → slice_get s.connections q ≡ Some c →
       c.is_judged ≡ true → is_due Right c n ≡ false) →
       Spared (disconnected m n) s (takes Right (disconnected m n) s)
-  spared right h = subst (λ (o : Outcome). Spared (disconnected m n) s o)
-      (sym (ap (λ (b : Bool). if b then none_told Right NotJudged s else routed Right (disconnected m n) s
-      (route Right s.course (disconnected m n)))
-      right ∙ ap (λ (r : Route). routed Right (disconnected m n) s r)
-      (route_dc s.course.class (has_broken Left s.course) m n)))
-      (place_spared (position (is_named Right m) s.connections) h)
+  spared right h = grind (arith, route_dc, place_spared)
 
 module _ (local : Local) (w : Whole) (f : Called local w) (right : w.tap.course.right_stopped ≡ false) (u : Value) (rest : List Value)
     (later : List Placed) (tagged : f.tagged ≡ (None, u) ∷ later) (rest_are : rest ≡ values later) where
@@ -134,8 +112,7 @@ module _ (local : Local) (w : Whole) (f : Called local w) (right : w.tap.course.
       due_not q c at judged a (eqb-true stray.n c.right.reference b) (f.stands q c at))
 
   all_spared : Spared u w.tap (takes Right u w.tap)
-  all_spared = subst (λ (v : Value). Spared v w.tap (takes Right v w.tap)) (sym stray.is)
-      (spared stray.m stray.n w.tap stray.strays_is right no_due)
+  all_spared = grind (arith, stray, spared, no_due)
 
   stays : Called local (after w.tap)
   stays = record {
@@ -181,8 +158,4 @@ module _ (local : Local) (w : Whole) (f : Called local w) (right : w.tap.course.
 
   pub stray_passes : IsFineAt u w.tap × Called local (after (takes Right u w.tap).state)
       × ((takes Right u w.tap).state.connections ≡ w.tap.connections)
-  stray_passes = (
-    inr (all_spared.finding, inl stray.strays_is),
-    subst (λ (t : Traffic). Called local (after t)) (sym all_spared.state) stays,
-    ap (λ (t : Traffic). t.connections) all_spared.state,
-  )
+  stray_passes = grind (arith, all_spared, stray, stays)

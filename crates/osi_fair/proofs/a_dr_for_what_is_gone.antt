@@ -2,9 +2,9 @@
 -- For the law of that name.
 use Rattle.osi_fair.proofs.Vocabulary.{[], ap, arith, Bool, false, is_some, List, map, None, Option, refl, Some, subst, sym, true, ℕ, ◌++◌}
 use Rattle.osi_fair.proofs.Vocabulary.{◌+◌, ◌<◌, ◌∙◌, ◌∷◌, ◌≡◌, ◌≤◌, flat_map-append, append-nil, AllByRecursion, Connect, disconnect}
-use Rattle.osi_fair.proofs.Vocabulary.{request, Value, Local, open_link, react, value_at, breaks, closes_call as closes, connects, sends}
-use Rattle.osi_fair.proofs.Vocabulary.{sends_all, user as by_user, user_does, UserCall, Live, begins, asked_by, packet_begins, Traffic}
-use Rattle.osi_fair.proofs.Vocabulary.{takes, Connection, Direction, Left, Right, asked_in, asks_with, packet, passes, Passing, rubbish}
+use Rattle.osi_fair.proofs.Vocabulary.{request, Value, Local, react, value_at, breaks, closes_call as closes, connects, sends, sends_all}
+use Rattle.osi_fair.proofs.Vocabulary.{user as by_user, user_does, UserCall, Live, begins, asked_by, packet_begins, Traffic, takes}
+use Rattle.osi_fair.proofs.Vocabulary.{Connection, Direction, Left, Right, asked_in, asks_with, packet, passes, Passing, rubbish}
 use Rattle.osi_fair.proofs.Vocabulary.{unit as passing, put_by, put_for, arrives, begin, calls, Event, Happens, passes_rubbish, Whole}
 use Rattle.osi_carrier.specs.State.{State}
 use Rattle.osi_fair.specs.Wholes.{begins_other, begins_own, passes_other, passes_own}
@@ -52,16 +52,12 @@ firsts_more L K (v ∷ vs) h (first, more) = (
 firsts_add : (L : ℕ → Type 0) (vs : List Value) (v : Value) → Firsts L vs →
     (IsDr v → (n : ℕ) → closed_by v ≡ Some n → L n × NoneFor n vs) → Firsts L (vs ++ v ∷ [])
 firsts_add L [] v f h = (λ dr n e. (h dr n e).0, tt)
-firsts_add L (u ∷ vs) v (first, more) h = (
-  first,
-  firsts_add (λ m. L m × (closed_by u ≡ Some m → ⊥)) vs v more (λ dr n e. (
-    (
-      (h dr n e).0,
-      (h dr n e).1.0,
-    ),
-    (h dr n e).1.1,
-  )),
-)
+firsts_add L (u ∷ vs) v (first, more) h =
+    grind (
+      arith,
+      closed_by,
+      firsts_add (λ m. L m × (closed_by u ≡ Some m → ⊥)) vs v more (λ dr n e. (((h dr n e).0, (h dr n e).1.0), (h dr n e).1.1)),
+    )
 
 none_add : (m : ℕ) (vs : List Value) (v : Value) → NoneFor m vs → (closed_by v ≡ Some m → ⊥) → NoneFor m (vs ++ v ∷ [])
 none_add m [] v h k = (k, tt)
@@ -172,18 +168,10 @@ asking w calling called live l =
 calling_by : (call : UserCall) (w : Whole) → ((m : ℕ) → IsLive w.end m → IsLive (user_does call w.end) m) → Lively w →
     Lively (after_calling w call)
 calling_by (connects calling called) w live l = asking w calling called live l
-calling_by (sends r tsdu) w live l =
-    no_request w (sends r tsdu) refl
-    (not_less w.end.given (user_does (sends r tsdu) w.end).given (sent_gives r tsdu (open_link r w.end) w.end)) live l
-calling_by (sends_all r tsdus) w live l =
-    no_request w (sends_all r tsdus) refl
-    (not_less w.end.given (user_does (sends_all r tsdus) w.end).given (all_gives r tsdus w.end)) live l
-calling_by (closes r reason) w live l =
-    no_request w (closes r reason) refl
-    (not_less w.end.given (user_does (closes r reason) w.end).given (closed_gives r reason (open_link r w.end) w.end)) live l
-calling_by (breaks reason) w live l =
-    no_request w (breaks reason) refl
-    (not_less w.end.given (user_does (breaks reason) w.end).given (ended_gives (is_some w.end.ended) reason w.end)) live l
+calling_by (sends r tsdu) w live l = search (arith, no_request, not_less, sent_gives)
+calling_by (sends_all r tsdus) w live l = search (arith, no_request, not_less, all_gives)
+calling_by (closes r reason) w live l = search (arith, no_request, not_less, closed_gives)
+calling_by (breaks reason) w live l = search (arith, no_request, not_less, ended_gives)
 
 -- ---- a packet begins
 
@@ -235,8 +223,7 @@ same_number o n m e h = let both : Some m ≡ Some n = sym h ∙ e in cc
 
 all_less : (L : ℕ → Type 0) (n last : ℕ) (rs : List ℕ) → n ≤ last → Rise last rs → AllSo L rs → AllSo (Less L n) rs
 all_less L n last [] h r a = tt
-all_less L n last (x ∷ rs) h (up, rise) (one, more) =
-    ((one, λ e. absurd (omega arith)), all_less L n x rs (omega arith) rise more)
+all_less L n last (x ∷ rs) h (up, rise) (one, more) = grind (arith, all_less L n x rs (omega arith) rise more)
 
 abbrev after_other : Whole → Value → Whole
 after_other w v = record w { tap = (takes Right v w.tap).state; coming = w.coming ++ v ∷ [] }
@@ -289,11 +276,7 @@ begun_started : (d : Direction) (c : Connection) → IsStarted c → IsStarted (
 begun_started d c h = grind arith
 
 distinct_begins : (d : Direction) (cs : List Connection) → AreDistinct cs → AreDistinct (map (begins d) cs)
-distinct_begins d cs a i j c e at there same =
-    let (x, was, is) = after_map (begins d) cs i c at in
-    let (y, before, so) = after_map (begins d) cs j e there in
-    a i j x y was before (sym (begins_reference d x) ∙ ap (λ (z : Connection). z.left.reference) (sym is) ∙ same
-    ∙ ap (λ (z : Connection). z.left.reference) so ∙ begins_reference d y)
+distinct_begins d cs a i j c e at there same = grind (arith, after_map, begins_reference)
 
 sane_begins : (d : Direction) (s : Traffic) → IsSane s → IsSane (packet_begins d s)
 sane_begins d s h = record {
@@ -327,29 +310,15 @@ sane_rubbish : (s : Traffic) → IsSane s → IsSane (passes (rubbish Right) s)
 sane_rubbish s h = search (arith, passes_apart, still_judged)
 
 before_passing : (p : Passing) (s : Traffic) → IsPlain (passes p s).course → IsPlain s.course
-before_passing p s h =
-    let l = lasts_passing p s in record {
-      left = l.left h.left;
-      right = l.right h.right;
-      strays = l.strays h.strays;
-      two = λ zero. h.two (zero_stays p s zero);
-    }
+before_passing p s h = grind (arith, zero_stays, lasts_passing p s)
 
 -- both sides were judged, and class 0 was not selected
 pub before_going : (p : Passing) (s : Traffic) → IsOngoing (passes p s).course → IsOngoing s.course
-before_going p s h = record {
-  sure = calm_before s.course (passes p s).course (lasts_passing p s) h.sure;
-  two = λ zero. h.two (zero_stays p s zero);
-}
+before_going p s h = grind (arith, zero_stays, calm_before s.course (passes p s).course (lasts_passing p s) h.sure, lasts_passing p s)
 
 -- and no connection had lost its judgement
 pub before_clear : (p : Passing) (s : Traffic) → IsClear (passes p s).course → IsClear s.course
-before_clear p s h =
-    let l = lasts_passing p s in
-    record {
-      sure = record { firm = l.firm h.sure.firm; left = l.left h.sure.left; right = l.right h.sure.right };
-      two = λ zero. h.two (zero_stays p s zero);
-    }
+before_clear p s h = grind (arith, zero_stays, lasts_passing p s)
 
 not_over : (call : UserCall) (s : State) → (user_does call s).ended ≡ None → s.ended ≡ None
 not_over call s h = grind (arith, sent_lasts, all_last, closed_lasts, ended_lasts)

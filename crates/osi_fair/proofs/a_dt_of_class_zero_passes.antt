@@ -61,11 +61,7 @@ module _ (d : Direction) (s : Traffic) (p : ℕ) (c : Connection) (at : slice_ge
   dt_takes = grind (arith, route_data)
 
   dt_found : found_on d s c dt ≡ Kept
-  dt_found = judged_so c.is_judged (found d s.course false c dt) Kept judged
-      (found_data d s.course false c end user ∙ is_right (data0_tests d c (length user)) (
-        le-leb ((own d c).begun + length user) longest_tsdu room,
-        (fits_by c.size limit (length user) fits short, tt),
-      ))
+  dt_found = grind (arith, judged_so, found_data, is_right, le-leb, fits_by)
 
   pub dt_kept : (takes d dt s).told.finding ≡ Kept
   dt_kept = ap (λ (o : Outcome). o.told.finding) dt_takes ∙ dt_found

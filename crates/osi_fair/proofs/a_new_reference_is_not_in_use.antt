@@ -1,16 +1,14 @@
 -- A reference above those of all CRs that have passed is in use for no connection at the tap, and for none that is not judged.
 -- For the law of that name.
-use Rattle.osi_fair.proofs.Vocabulary.{[], ap, arith, Bool, false, if◌then◌else◌, is_some, List, None, Option, refl, Some, subst}
-use Rattle.osi_fair.proofs.Vocabulary.{suc, sym, true, zero, ℕ, ◌++◌, ◌<◌, ◌∙◌, ◌∷◌, ◌≡◌, ◌⊎◌, eqb-true, AllByRecursion, list_all, list_any}
-use Rattle.osi_fair.proofs.Vocabulary.{not, position, slice_get, ◌&&◌, ◌==◌, ◌||◌, acknowledge, confirm, Connect, data0, data2, disconnect}
-use Rattle.osi_fair.proofs.Vocabulary.{disconnected, error, request, Value, Class, Two, Local, fresh_state, is_applied, reach_of}
-use Rattle.osi_fair.proofs.Vocabulary.{first_failed, begins, is_free, is_over, is_silent, other, uses, asked_by, asks_by}
-use Rattle.osi_fair.proofs.Vocabulary.{asks_kept, asks_of, at_found, at_place, class_for, connection_after, found_on, fresh, half_after}
-use Rattle.osi_fair.proofs.Vocabulary.{has_place, is_not_judged, is_stopped, none_told, Outcome, request_tests, route, route_in, routed}
-use Rattle.osi_fair.proofs.Vocabulary.{sent_on, sized, Traffic as State, takes, Connection, Direction, Left, Right, Finding, Broke, Kept}
-use Rattle.osi_fair.proofs.Vocabulary.{NotJudged, TooMany, Reach, Half, Route, all_asked, all_written, asked_as}
-use Rattle.osi_fair.proofs.Vocabulary.{asked_in, all_passed, packet, passes, Passing, rubbish, unit, Zero}
-use Rattle.osi_fair.proofs.Vocabulary.{has_broken}
+use Rattle.osi_fair.proofs.Vocabulary.{[], arith, Bool, false, if◌then◌else◌, is_some, List, None, Option, refl, Some, subst, suc, sym}
+use Rattle.osi_fair.proofs.Vocabulary.{true, zero, ℕ, ◌++◌, ◌<◌, ◌∷◌, ◌≡◌, ◌⊎◌, eqb-true, AllByRecursion, list_all, list_any, not}
+use Rattle.osi_fair.proofs.Vocabulary.{slice_get, ◌&&◌, ◌==◌, ◌||◌, Connect, request, Value, Class, Two, Local, fresh_state, is_applied}
+use Rattle.osi_fair.proofs.Vocabulary.{reach_of, first_failed, begins, is_over, is_silent, uses, asked_by, asks_by, asks_kept, asks_of}
+use Rattle.osi_fair.proofs.Vocabulary.{at_found, at_place, class_for, connection_after, found_on, fresh, half_after, has_place}
+use Rattle.osi_fair.proofs.Vocabulary.{is_not_judged, is_stopped, none_told, Outcome, request_tests, route, route_in, routed, sent_on}
+use Rattle.osi_fair.proofs.Vocabulary.{sized, Traffic as State, takes, Connection, Direction, Left, Right, Finding, Broke, Kept, NotJudged}
+use Rattle.osi_fair.proofs.Vocabulary.{TooMany, Reach, Route, all_asked, all_written, asked_as, asked_in, all_passed, packet, passes}
+use Rattle.osi_fair.proofs.Vocabulary.{Passing, rubbish, unit}
 use Rattle.osi_carrier.specs.Runs.{Act}
 use Rattle.osi_rules.specs.declared.findings.Rule.TheVariants as rule
 use Rattle.osi_fair.proofs.small_facts_that_many_lemmas_use.{begins_reference, closing_same}
@@ -37,8 +35,7 @@ sent_same d s v c h = grind (arith, sized_left, half_same)
 
 after_same : (applied : Bool) (d : Direction) (s : State) (v : Value) (r : Reach) (c : Connection) →
     is_applied (found_on d s c v) ≡ applied → (connection_after d v applied r c).left.reference ≡ c.left.reference
-after_same true d s v r c h = ap (λ (x : Half). x.reference) (left_judged r (sent_on d v c)) ∙ sent_same d s v c h
-after_same false d s v r c h = ap (λ (x : Half). x.reference) (left_judged r c)
+after_same applied d s v r c h = grind (arith, left_judged, sent_same)
 
 -- ---- all are below
 
@@ -72,8 +69,7 @@ module _ (m : ℕ) where
   placed_below x s None h a = each_add IsBelow s.connections (asked_by x) a h
 
   asking : (d : Direction) (f : Finding) (x : Connect) (s : State) → x.source < m → AreBelow s → AreBelow (asks_by d f x s).state
-  asking d Kept x s h a = placed_below x s (position is_free s.connections) h a
-  asking d _ x s h a = a
+  asking d f x s h a = search (arith, placed_below)
 
   asks : (d : Direction) (v : Value) (s : State) → FewAsked (asked_in v) → AreBelow s → AreBelow (asks_of d v s).state
   asks d v s h a = grind (arith, asking)
@@ -84,24 +80,10 @@ module _ (m : ℕ) where
   -- a CR of right is for no connection
   right_asks : (k : Option Class) (stopped : Bool) (x : Connect) (s : State) → AreBelow s →
       AreBelow (routed Right (request x) s (route_in k Right stopped (request x))).state
-  right_asks None stopped x s a = a
-  right_asks (Some Zero) stopped x s a = a
-  right_asks (Some Two) stopped x s a = a
+  right_asks k stopped x s a = grind arith
 
   right_routes : (v : Value) (s : State) → AreBelow s → AreBelow (routed Right v s (route Right s.course v)).state
-  right_routes (request x) s a = right_asks (class_for Right s.course) (has_broken (other Right) s.course) x s a
-  right_routes (confirm destination x) s a =
-      by_route Right (confirm destination x) s (route Right s.course (confirm destination x)) tt a
-  right_routes (disconnect destination source reason user) s a =
-      let v = disconnect destination source reason user in by_route Right v s (route Right s.course v) tt a
-  right_routes (disconnected destination source) s a =
-      let v = disconnected destination source in by_route Right v s (route Right s.course v) tt a
-  right_routes (data0 end user) s a = let v = data0 end user in by_route Right v s (route Right s.course v) tt a
-  right_routes (data2 destination number end user) s a =
-      let v = data2 destination number end user in by_route Right v s (route Right s.course v) tt a
-  right_routes (acknowledge credit destination number) s a =
-      let v = acknowledge credit destination number in by_route Right v s (route Right s.course v) tt a
-  right_routes (error destination cause) s a = let v = error destination cause in by_route Right v s (route Right s.course v) tt a
+  right_routes v s a = grind (arith, right_asks, by_route)
 
   if_judged : (stopped : Bool) (d : Direction) (s : State) (o : Outcome) → AreBelow s → AreBelow o.state →
       AreBelow (if stopped then none_told d NotJudged s else o).state
@@ -109,11 +91,8 @@ module _ (m : ℕ) where
 
   pub still_below : (passing : Passing) (s : State) → FewAsked (asked_as passing) → AreBelow s → AreBelow (passes passing s)
   still_below (packet d) s h a = each_map IsBelow (begins d) s.connections a (λ c b. below_same c (begins d c) (begins_reference d c) b)
-  still_below (unit Left v) s h a =
-      let r = route Left s.course v in
-      if_judged (is_stopped Left s.course) Left s (routed Left v s r) a (by_route Left v s r h a)
-  still_below (unit Right v) s h a =
-      if_judged (is_stopped Right s.course) Right s (routed Right v s (route Right s.course v)) a (right_routes v s a)
+  still_below (unit Left v) s h a = grind (arith, if_judged, by_route)
+  still_below (unit Right v) s h a = grind (arith, if_judged, right_routes)
   still_below (rubbish d) s h a = a
 
   few_first : (xs ys : List ℕ) → FewAsked (xs ++ ys) → FewAsked xs

@@ -12,9 +12,7 @@ use Rattle.osi_fair.proofs.what_is_in_front_of_a_whole_end.{units_in_range}
 
 pub units_join : (us vs : List (List ℕ)) → units_in (us ++ vs) ≡ units_in us ++ units_in vs
 units_join [] vs = refl
-units_join (u ∷ us) vs =
-    ap (λ (l : List Value). units_by (units_of u) ++ l) (units_join us vs)
-    ∙ sym (append_assoc (units_by (units_of u)) (units_in us) (units_in vs))
+units_join (u ∷ us) vs = grind (arith, append_assoc, units_join us vs)
 
 packets_join : (us vs : List (List ℕ)) (s mid rest : List ℕ) → ArePackets us s mid → ArePackets vs mid rest → ArePackets (us ++ vs) s rest
 packets_join [] vs s mid rest e h = subst (λ (l : List ℕ). ArePackets vs l rest) (sym e) h
@@ -79,26 +77,18 @@ module _ (d : Direction) (old : Carrying) (piece : List ℕ) (new : Carrying) wh
 
   refused_fed : (used : ℕ) → Refuses old piece used new → FeedsOn d old piece used new
   refused_fed used h =
-      let (r, cut, fault) = h.cut in
-      record {
-        packets = h.units;
-        within = length piece;
-        rest = r;
-        cut = subst (λ (l : List ℕ). ArePackets h.units (old.held.octets ++ l) r) (sym whole) cut;
-        becomes = ends_after h.units h.before (Fault (Tpkt h.fault)) h.taken (not_over h.before h.quiet) h.ended;
-        keeps = λ lasts. absurd (over_not (Fault (Tpkt h.fault)) h.before h.ended lasts);
-      }
+      grind (
+        arith,
+        whole,
+        over_not,
+        ends_after h.units h.before (Fault (Tpkt h.fault)) h.taken (not_over h.before h.quiet) h.ended,
+        not_over h.before h.quiet,
+      )
 
   -- memory runs out for what is left of the piece
   no_room_fed : (used : ℕ) (h : FindsNoMemory old piece used new) → new.state ≡ ends NoMemory h.before → FeedsOn d old piece used new
-  no_room_fed used h ended = record {
-    packets = h.units;
-    within = h.within;
-    rest = h.rest;
-    cut = h.packets;
-    becomes = ends_after h.units h.before NoMemory h.taken (not_over h.before h.quiet) ended;
-    keeps = λ lasts. absurd (over_not NoMemory h.before ended lasts);
-  }
+  no_room_fed used h ended =
+      grind (arith, over_not, ends_after h.units h.before NoMemory h.taken (not_over h.before h.quiet) ended, not_over h.before h.quiet)
 
   -- or for a unit of the next packet
   starved_fed : (used : ℕ) (h : FindsNoMemory old piece used new) (packet : List ℕ) → ArePackets (packet ∷ []) h.rest [] →
@@ -136,9 +126,7 @@ module _ (d : Direction) (old : Carrying) (piece : List ℕ) (new : Carrying) wh
 
   by_waits : (fed : Fed) → Feeds old piece fed new → old.state.ended ≡ None → (b : Bool) → waits old.state ≡ b →
       FeedsOn d old piece fed.used new
-  by_waits fed h lasts true e =
-      let (none, same) = h.waiting lasts e in
-      same_fed fed.used same (λ still. none)
+  by_waits fed h lasts true e = grind (arith, same_fed)
   by_waits fed h lasts false e =
       goes_fed fed.used (h.goes (ap (λ (o : Option EndReason). is_some o || waits old.state) lasts ∙ e))
 

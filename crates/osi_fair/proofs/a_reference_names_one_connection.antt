@@ -2,14 +2,14 @@
 -- For the law of that name. By the way that a unit takes, as in a_unit_is_an_act_of_its_line.
 use Rattle.osi_fair.proofs.Vocabulary.{arith, [], Bool, false, if◌then◌else◌, List, None, Option, option_map, refl, Some, subst, sym, true}
 use Rattle.osi_fair.proofs.Vocabulary.{ℕ, ◌^◌, ◌∙◌, ◌∷◌, ◌≡◌, eqb-true, list_any, nat_le, not, position, slice_get, slice_set, ◌&&◌, ◌==◌}
-use Rattle.osi_fair.proofs.Vocabulary.{◌||◌, confirm, Connect, disconnect, disconnected, error, request, Value, Class, is_applied}
-use Rattle.osi_fair.proofs.Vocabulary.{reach_of, code_named, first_failed, given_again, is_inside, is_offered, is_closing, is_free}
-use Rattle.osi_fair.proofs.Vocabulary.{is_named, is_open, is_over, is_over_by, is_refused, is_silent, seen, uses, asked_by, asks_by}
-use Rattle.osi_fair.proofs.Vocabulary.{asks_kept, asks_of, at_found, at_place, class_for, closing_phase, connection_after, found, found_on}
-use Rattle.osi_fair.proofs.Vocabulary.{fresh, half_after, is_stopped, judged_on, none_told, Outcome, request_tests, route, routed, sent_on}
-use Rattle.osi_fair.proofs.Vocabulary.{Traffic as State, uses_source, Connection, Course, Direction, Left, Right, Finding, Broke, Kept}
-use Rattle.osi_fair.proofs.Vocabulary.{NotJudged, Outside, Reach, Half, Phase, Closed, Open, Refused, Route, Asks, Named, Only, Unnamed}
-use Rattle.osi_fair.proofs.Vocabulary.{all_passed, HoldsOfOne, packet, passes, Passing, rubbish, unit, is_due, ap, is_live}
+use Rattle.osi_fair.proofs.Vocabulary.{◌||◌, confirm, Connect, disconnect, disconnected, error, request, Value, Class, is_applied, reach_of}
+use Rattle.osi_fair.proofs.Vocabulary.{code_named, first_failed, given_again, is_inside, is_offered, is_closing, is_free, is_named, is_open}
+use Rattle.osi_fair.proofs.Vocabulary.{is_over, is_over_by, is_refused, is_silent, seen, uses, asked_by, asks_by, asks_kept, asks_of}
+use Rattle.osi_fair.proofs.Vocabulary.{at_found, at_place, class_for, closing_phase, connection_after, found, found_on, fresh, half_after}
+use Rattle.osi_fair.proofs.Vocabulary.{is_stopped, judged_on, none_told, Outcome, request_tests, route, routed, sent_on, Traffic as State}
+use Rattle.osi_fair.proofs.Vocabulary.{uses_source, Connection, Course, Direction, Left, Right, Finding, Broke, Kept, NotJudged, Outside}
+use Rattle.osi_fair.proofs.Vocabulary.{Reach, Half, Phase, Closed, Open, Refused, Route, Asks, Named, Only, Unnamed, all_passed, HoldsOfOne}
+use Rattle.osi_fair.proofs.Vocabulary.{packet, passes, Passing, rubbish, unit, ap, is_live}
 use Rattle.osi_rules.specs.declared.findings.Reach.TheVariants as reach
 use Rattle.osi_rules.specs.declared.findings.Rule.TheVariants as rule
 use Rattle.osi_fair.proofs.small_facts_that_many_lemmas_use.{and_first, and_second, judged_same, or_first, or_last}
@@ -82,7 +82,6 @@ module _ (course : Course) (in_use : Bool) (c : Connection) where
 
   right_effect : (v : Value) → ((m : ℕ) (x : Connect) → v ≡ confirm m x → ⊥) → is_applied (found Right course in_use c v) ≡ true →
       Effect c.right c.seen_by_right (half_after v c.right)
-  right_effect (confirm destination x) none h = absurd (none destination x refl)
   right_effect v none h = grind (arith, closes_so, one_test, answers_so, due_test, refuses_so, error_test, same_phase)
 
   -- a unit of right that is no CC
@@ -133,19 +132,10 @@ right_sent : (v : Value) (s : State) (c : Connection) (p : ℕ) → AreApart s.c
     AreApart (slice_set s.connections p (judged_on r (sent_on Right v c)))
 right_sent (confirm destination x) s c p a at j sound live r h is = right_opens s c destination x p a at sound live r h is
 right_sent (request x) s c p a at j sound live r h is = cc
-right_sent (disconnect destination source reason user) s c p a at j sound live r h is =
-    right_by s.course false c (disconnect destination source reason user) s.connections p r a at j sound live
-    (closes_so c.right c.seen_by_right (is_silent c.right.phase) refl (one_test (is_silent c.right.phase || is_open c.right.phase) h))
-right_sent (disconnected destination source) s c p a at j sound live r h is =
-    right_by s.course false c (disconnected destination source) s.connections p r a at j sound live
-    (answers_so c.right c.seen_by_right (source == c.right.reference) (due_test (is_due Right c source)
-    (not (is_silent c.right.phase)) s.course.strays h))
-right_sent (error destination cause) s c p a at j sound live r h is =
-    right_by s.course false c (error destination cause) s.connections p r a at j sound live
-    (refuses_so c.right c.seen_by_right (error_test (is_silent c.right.phase) s.course.left_erred h))
-right_sent v s c p a at j sound live r h is =
-    right_by s.course false c v s.connections p r a at j sound live
-    (same_phase c.right c.seen_by_right (half_after v c.right) refl refl)
+right_sent (disconnect destination source reason user) s c p a at j sound live r h is = search (arith, right_by, closes_so, one_test)
+right_sent (disconnected destination source) s c p a at j sound live r h is = search (arith, right_by, answers_so, due_test)
+right_sent (error destination cause) s c p a at j sound live r h is = search (arith, right_by, refuses_so, error_test)
+right_sent v s c p a at j sound live r h is = search (arith, right_by, same_phase)
 
 -- ---- a unit for a connection
 

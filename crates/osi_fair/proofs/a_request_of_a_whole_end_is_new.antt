@@ -10,7 +10,7 @@ use Rattle.osi_fair.specs.Wholes.{begins_other, begins_own, passes_other, passes
 use Rattle.osi_fair.proofs.a_new_reference_is_not_in_use.{AreBelow, FewAsked, all_unlike, still_below, unused}
 use Rattle.osi_fair.proofs.references_of_requests_rise.{Rise, all_gives, closed_gives, ended_gives, not_less, rises_by, sent_gives}
 use Rattle.osi_fair.proofs.which_requests_are_put.{asked_among, call_asks, unit_asks}
-use Rattle.osi_fair.proofs.Vocabulary.{Right, rubbish, put_for}
+use Rattle.osi_fair.proofs.Vocabulary.{Right}
 
 -- ---- how many references were given
 
@@ -98,43 +98,13 @@ passes_one v put w e n = passes_another v put w refl e n
 -- ---- what happens
 
 pub still_newer : (event : Event) (old new : Whole) → Happens Left event old new → Newer old → Newer new
-still_newer arrives old new (unit, coming, is) n =
-    subst Newer (sym is) (grows old (react unit old.end) (put_for unit old.end) new.coming (unit_asks unit old.end)
-    (unit_gives unit old.end) n)
+still_newer arrives old new (unit, coming, is) n = grind (arith, grows, unit_asks, unit_gives)
 still_newer (calls call) old new (may, is) n = subst Newer (sym is) (by_call call old n)
-still_newer begins_own old new (some, not_begun, is) n =
-    subst Newer (sym is) (record {
-      last = n.last;
-      below = still_below (suc n.last) (packet Left) old.tap tt n.below;
-      rise = n.rise;
-      up = n.up;
-      given = n.given;
-    })
+still_newer begins_own old new (some, not_begun, is) n = grind (arith, still_below (suc n.last) (packet Left) old.tap tt n.below)
 still_newer passes_own old new (v, put, begun, is) n = subst Newer (sym is) (passes_one v new.put old put n)
-still_newer begins_other old new is n =
-    subst Newer (sym is) (record {
-      last = n.last;
-      below = still_below (suc n.last) (packet Right) old.tap tt n.below;
-      rise = n.rise;
-      up = n.up;
-      given = n.given;
-    })
-still_newer (passes_other v) old new (ranges, is) n =
-    subst Newer (sym is) (record {
-      last = n.last;
-      below = still_below (suc n.last) (passing Right v) old.tap tt n.below;
-      rise = n.rise;
-      up = n.up;
-      given = n.given;
-    })
-still_newer passes_rubbish old new is n =
-    subst Newer (sym is) (record {
-      last = n.last;
-      below = still_below (suc n.last) (rubbish Right) old.tap tt n.below;
-      rise = n.rise;
-      up = n.up;
-      given = n.given;
-    })
+still_newer begins_other old new is n = grind (arith, still_below (suc n.last) (packet Right) old.tap tt n.below)
+still_newer (passes_other v) old new (ranges, is) n = search (arith, still_below (suc n.last) (passing Right v) old.tap tt n.below)
+still_newer passes_rubbish old new is n = grind (arith, still_below)
 
 -- ---- the next CR
 

@@ -1,11 +1,10 @@
 -- A unit that is right on a connection is not blamed, however many connections there are.
 -- For the law of that name.
-use Rattle.osi_fair.proofs.Vocabulary.{[], ap, arith, Bool, false, get_or, IfSome, length, List}
-use Rattle.osi_fair.proofs.Vocabulary.{Option, refl, Some, subst, suc, sym, true, zero, ℕ, ◌<◌, ◌∙◌, ◌∷◌, ◌≡◌, ◌≤◌, lt-ltb, ltb-false}
-use Rattle.osi_fair.proofs.Vocabulary.{ltb-true, position-Some, fails_before_first, get_or_from_slice_get, slice_get_within}
-use Rattle.osi_fair.proofs.Vocabulary.{position_or_len, position, slice_get, destination_of, Value, Two, is_named, class_for}
-use Rattle.osi_fair.proofs.Vocabulary.{fresh, is_stopped, Traffic as State, takes, uses_source, Connection, Direction, Finding}
-use Rattle.osi_fair.proofs.Vocabulary.{IsAtPlace, finding_of, IsRight, all_passed, HoldsOfOne, Passing}
+use Rattle.osi_fair.proofs.Vocabulary.{[], arith, Bool, false, IfSome, length, List, Option, refl, Some, subst, suc, sym, true, zero, ℕ}
+use Rattle.osi_fair.proofs.Vocabulary.{◌<◌, ◌∷◌, ◌≡◌, ◌≤◌, lt-ltb, ltb-false, ltb-true, position-Some, fails_before_first}
+use Rattle.osi_fair.proofs.Vocabulary.{get_or_from_slice_get, slice_get_within, position_or_len, position, slice_get, destination_of, Value}
+use Rattle.osi_fair.proofs.Vocabulary.{Two, is_named, class_for, fresh, is_stopped, Traffic as State, takes, uses_source, Connection}
+use Rattle.osi_fair.proofs.Vocabulary.{Direction, Finding, IsAtPlace, finding_of, IsRight, all_passed, HoldsOfOne, Passing}
 use Rattle.osi_fair.proofs.a_reference_names_one_connection.{names_one}
 use Rattle.osi_fair.proofs.a_unit_is_an_act_of_its_line.{found_is}
 use Rattle.osi_fair.proofs.what_holds_of_one_item.{first_true}
@@ -26,10 +25,7 @@ not_before p q h = grind (arith, ltb-true, ltb-false)
 
 fails_there : {X : Type 0} (f : X → Bool) (xs : List X) (p : ℕ) (x : X) → slice_get xs p ≡ Some x → f x ≡ true →
     p < position_or_len f xs → ⊥
-fails_there f xs p x at h before =
-    let fails : f (get_or xs p x) ≡ false = fails_before_first f xs p x before in
-    let here : f (get_or xs p x) ≡ true = ap f (get_or_from_slice_get xs p x x at) ∙ h in
-    cc
+fails_there f xs p x at h before = grind (arith, fails_before_first f xs p x before, get_or_from_slice_get xs p x x at)
 
 -- if it holds of one, there is a first
 pub is_first : {X : Type 0} (f : X → Bool) (xs : List X) (p : ℕ) (x : X) → slice_get xs p ≡ Some x → f x ≡ true →

@@ -217,9 +217,7 @@ module _ (d : Direction) where
       IsRun d old stream (call ∷ calls) new
   by_end old stream call calls mid new step more from runs (Some reason) e =
       ended_run d old stream call calls mid new step more from (ap is_some e)
-  by_end old stream call calls mid new step more from runs None e =
-      let (after, parts, later_from) = step.from stream calls from in
-      more_run d old stream call calls mid new step e after parts (runs after (later_from e))
+  by_end old stream call calls mid new step more from runs None e = grind (arith, more_run)
 
   pub run_so : (old : Carrying) (stream : List ℕ) (calls : List Call) (new : Carrying) → MadeAlong old calls new →
       AreFedFrom stream calls → IsRun d old stream calls new

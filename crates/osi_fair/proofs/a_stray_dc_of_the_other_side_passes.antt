@@ -1,9 +1,8 @@
 -- A DC of the other side passes that answers nothing: the lines of its connection may take it, and nothing else changes.
 -- For the law on a whole end.
-use Rattle.osi_fair.proofs.Vocabulary.{arith, [], ap, Bool, false, if◌then◌else◌, List, not, refl, Some, subst, sym, true, ◌++◌, ◌∙◌, ◌∷◌}
-use Rattle.osi_fair.proofs.Vocabulary.{◌≡◌, ◌≢◌, ◌&&◌, ◌==◌, Connect, destination_of, HasFieldsInRange, request, Value, Two, Local}
-use Rattle.osi_fair.proofs.Vocabulary.{reach_of, is_due, is_closing, is_open, is_silent, found, Traffic, takes, Connection, Right, Finding}
-use Rattle.osi_fair.proofs.Vocabulary.{NotJudged, after_finding, finding_of, Line, Whole}
+use Rattle.osi_fair.proofs.Vocabulary.{arith, [], ap, Bool, false, if◌then◌else◌, List, refl, Some, subst, sym, true, ◌++◌, ◌∙◌, ◌∷◌, ◌≡◌}
+use Rattle.osi_fair.proofs.Vocabulary.{◌≢◌, Connect, destination_of, HasFieldsInRange, request, Value, Two, Local, reach_of, Traffic, takes}
+use Rattle.osi_fair.proofs.Vocabulary.{Connection, Right, Finding, NotJudged, after_finding, finding_of, Line, Whole}
 use Rattle.osi_rules.specs.declared.findings.Reach.TheVariants as reach
 use Rattle.osi_fair.specs.Lines.{passes_other}
 use Rattle.osi_fair.proofs.small_facts_that_many_lemmas_use.{and_first, and_second, differ, is_false, judged_same, open_or_closing}
@@ -31,16 +30,7 @@ module _ (local : Local) (w : Whole) (f : Followed local w) (sane : IsSane w.tap
   -- it is not due on a connection that left has not closed, nor judged on one that has lost its judgement
   spared : (c : Connection) → Sound c → is_tracked c ≡ true → (j : Bool) → c.is_judged ≡ j →
       finding_of Right w.tap.course false c v ≡ NotJudged
-  spared c sound tracked false lost =
-      ap (λ (j : Bool). if j then found Right w.tap.course false c v else NotJudged) lost
-  spared c sound tracked true judged =
-      let none : is_due Right c t.source ≡ false = is_false (is_due Right c t.source) (λ h.
-      open_or_closing c.left.phase (left_open c tracked) (sound.right_knows.closing
-      (and_first (is_closing c.seen_by_right.phase) (t.source == c.right.reference)
-      (and_second (is_open c.right.phase) (is_closing c.seen_by_right.phase && (t.source == c.right.reference)) h)))) in
-      judged_same c.is_judged (found Right w.tap.course false c v) judged
-      ∙ ap (λ (u : Value). found Right w.tap.course false c u) t.dc
-      ∙ not_due (is_due Right c t.source) (not (is_silent c.right.phase)) w.tap.course.strays none t.strays
+  spared c sound tracked j lost = grind (arith, is_false, open_or_closing, left_open, and_first, and_second, judged_same, not_due)
 
   not_all : (g : Finding) → g ≡ NotJudged → reach_of (Some Two) g ≢ reach.Everything
   not_all g e h = cc (sym (ap (λ (x : Finding). reach_of (Some Two) x) e) ∙ h)

@@ -1,14 +1,13 @@
 -- A unit of the other side passes at the tap of a whole called end, for one of its connections, or a DC that answers nothing.
 -- For the law on a whole called end.
-use Rattle.osi_fair.proofs.Vocabulary.{[], ap, arith, Bool, false, if◌then◌else◌, inl, inr, List, None, Option, refl, set, Some, subst}
-use Rattle.osi_fair.proofs.Vocabulary.{sym, true, ℕ, ◌++◌, ◌<◌, ◌∙◌, ◌∷◌, ◌≡◌, ◌≢◌, ◌≤◌, ◌⊎◌, eqb-true, append-nil, AllByRecursion, not}
-use Rattle.osi_fair.proofs.Vocabulary.{slice_get, ◌&&◌, ◌==◌, ◌||◌, acknowledge, confirm, Connect, data0, data2, destination_of}
-use Rattle.osi_fair.proofs.Vocabulary.{disconnect, disconnected, error, HasFieldsInRange, request, Value, Standing, Class, Two, Local}
-use Rattle.osi_fair.proofs.Vocabulary.{is_applied, reach_of, first_failed, is_due, is_closed, is_closing, is_named, is_open, is_over}
-use Rattle.osi_fair.proofs.Vocabulary.{is_over_by, is_refused, is_silent, connection_after, course_after, found, found_on, half_after}
-use Rattle.osi_fair.proofs.Vocabulary.{is_stray, one_told, Outcome, reached, Traffic, takes, uses_source, Connection, Course, Left, Right}
-use Rattle.osi_fair.proofs.Vocabulary.{Finding, Broke, NotJudged, Reach, Half, Phase, after_finding, finding_of, Line, unit as passing}
-use Rattle.osi_fair.proofs.Vocabulary.{Whole, noted}
+use Rattle.osi_fair.proofs.Vocabulary.{[], ap, arith, Bool, false, if◌then◌else◌, inl, inr, List, None, Option, refl, set, Some, subst, sym}
+use Rattle.osi_fair.proofs.Vocabulary.{true, ℕ, ◌++◌, ◌<◌, ◌∙◌, ◌∷◌, ◌≡◌, ◌≢◌, ◌≤◌, ◌⊎◌, eqb-true, append-nil, AllByRecursion, not}
+use Rattle.osi_fair.proofs.Vocabulary.{slice_get, ◌&&◌, ◌==◌, ◌||◌, acknowledge, confirm, Connect, data0, data2, destination_of, disconnect}
+use Rattle.osi_fair.proofs.Vocabulary.{disconnected, error, HasFieldsInRange, request, Value, Standing, Class, Two, Local, is_applied}
+use Rattle.osi_fair.proofs.Vocabulary.{reach_of, first_failed, is_closed, is_closing, is_named, is_open, is_over, is_refused, is_silent}
+use Rattle.osi_fair.proofs.Vocabulary.{connection_after, course_after, found, found_on, half_after, is_stray, one_told, Outcome, reached}
+use Rattle.osi_fair.proofs.Vocabulary.{Traffic, takes, uses_source, Connection, Course, Left, Right, Finding, Broke, NotJudged, Reach, Half}
+use Rattle.osi_fair.proofs.Vocabulary.{Phase, after_finding, finding_of, Line, unit as passing, Whole, noted}
 use Rattle.osi_rules.specs.declared.findings.Reach.TheVariants as reach
 use Rattle.osi_rules.specs.declared.findings.Rule.TheVariants as rule
 use Rattle.osi_fair.specs.Lines.{passes_other}
@@ -57,10 +56,7 @@ closed_not p mine a b c d k h = grind arith
 dc_applied : (due told strays : Bool) → strays ≡ false → (g : Finding) →
     g ≡ first_failed ((due || not strays, NotJudged) ∷ (told, Broke rule.UnknownReference) ∷ (due, Broke rule.NothingToAnswer) ∷ []) →
     (reach_of (Some Two) g ≡ reach.Connection → ⊥) → (reach_of (Some Two) g ≡ reach.Everything → ⊥) → is_applied g ≡ true
-dc_applied true told strays h g e one all = grind arith
-dc_applied false true false h g e one all = absurd (one (ap (reach_of (Some Two)) e))
-dc_applied false false false h g e one all = absurd (all (ap (reach_of (Some Two)) e))
-dc_applied false told true h g e one all = absurd (cc h)
+dc_applied due told strays h g e one all = grind arith
 
 reached_seen : (r : Reach) (c : Course) → (reached Left r c).class_seen ≡ c.class_seen
 reached_seen r c = grind arith
@@ -69,8 +65,7 @@ reached_strays : (r : Reach) (c : Course) → (reached Left r c).strays ≡ c.st
 reached_strays r c = grind arith
 
 lost_so : (v : Value) (applied : Bool) (c : Connection) → (connection_after Left v applied reach.Connection c).is_judged ≡ false
-lost_so v true c = refl
-lost_so v false c = refl
+lost_so v applied c = grind arith
 
 pub cc_not_applied : {A : Type 0} (j : Bool) → is_applied (if j then Broke rule.WrongForm else NotJudged) ≡ true → A
 cc_not_applied j h = grind arith
@@ -81,8 +76,7 @@ open_half s c v e h = grind (arith, cc_not_applied, differ, closing_shuts)
 
 open_by : (s : Traffic) (c : Connection) (v : Value) (applied : Bool) (r : Reach) → is_applied (found_on Left s c v) ≡ applied →
     is_open (connection_after Left v applied r c).left.phase ≡ true → is_open c.left.phase ≡ true
-open_by s c v true r e h = open_half s c v e (ap (λ (x : Half). is_open x.phase) (sym (left_own v r c)) ∙ h)
-open_by s c v false r e h = ap (λ (x : Half). is_open x.phase) (sym (left_judged r c)) ∙ h
+open_by s c v applied r e h = grind (arith, open_half, left_own, left_judged)
 
 above_not : (last n a b : ℕ) → n ≤ last → last < a → a ≡ b → b ≡ n → ⊥
 above_not last n a b up above e same = omega arith
@@ -91,16 +85,9 @@ above_not last n a b up above e same = omega arith
 answers_above : (given last n : ℕ) (vs : List Value) → n ≤ last → AreAbove given last vs → AllByRecursion (Answers (λ m. m ≡ n → ⊥)) vs
 answers_above given last n [] up h = tt
 answers_above given last n (request x ∷ vs) up h = (λ m y e. absurd (cc e), answers_above given last n vs up h)
-answers_above given last n (confirm destination x ∷ vs) up (above, h) = (
-  λ m y e same. absurd (above_not last n x.source y.source up above (ap (λ (z : Connect). z.source) (same_cc destination m x y e))
-      same),
-  answers_above given x.source n vs (omega arith) h,
-)
-answers_above given last n (disconnect destination source reason user ∷ vs) up h = (
-  λ m y e. absurd (cc e),
-  answers_above given last n vs
-      up h,
-)
+answers_above given last n (confirm destination x ∷ vs) up (above, h) =
+    grind (arith, above_not, same_cc, answers_above given x.source n vs (omega arith) h)
+answers_above given last n (disconnect destination source reason user ∷ vs) up h = grind (arith, answers_above given last n vs up h)
 answers_above given last n (disconnected destination source ∷ vs) up h = (λ m y e. absurd (cc e), answers_above given last n vs up h)
 answers_above given last n (data0 end user ∷ vs) up h = (λ m y e. absurd (cc e), answers_above given last n vs up h)
 answers_above given last n (data2 destination number end user ∷ vs) up h = (λ m y e. absurd (cc e), answers_above given last n vs up h)
@@ -140,16 +127,14 @@ module _ (local : Local) (w : Whole) (f : Called local w) (apart : AreApart w.ta
       Row w.end more r peer link line
   row_skip r peer link line e dc (talks k there is among) =
       talks k there is (subst (Among line) (sym (one_more r w.coming v e)) (among_skip line (those r w.coming) v dc among))
-  row_skip r peer link line e dc (closes un is among) =
-      closes un is (subst (Among line) (sym (one_more r w.coming v e)) (among_skip line (those r w.coming) v dc among))
+  row_skip r peer link line e dc (closes un is among) = grind (arith, one_more, among_skip, those)
   row_skip r peer link line e dc (over h) = over h
 
   row_add : (r peer : ℕ) (link : Option Standing) (line : List Value) → names r v ≡ true → Row w.end w.coming r peer link line →
       Row w.end more r peer link (line ++ v ∷ [])
   row_add r peer link line e (talks k there is among) =
       talks k there is (subst (Among (line ++ v ∷ [])) (sym (one_more r w.coming v e)) (among_more line (those r w.coming) v among))
-  row_add r peer link line e (closes un is among) =
-      closes un is (subst (Among (line ++ v ∷ [])) (sym (one_more r w.coming v e)) (among_more line (those r w.coming) v among))
+  row_add r peer link line e (closes un is among) = grind (arith, one_more, among_more, those)
   row_add r peer link line e (over h) = over h
 
   -- a connection of which nothing passes
@@ -232,13 +217,10 @@ module _ (local : Local) (w : Whole) (f : Called local w) (apart : AreApart w.ta
     course_is = ap (λ (o : Outcome). o.state.course) is
 
     near : IsNear w.tap.course.class_seen found_so
-    near = calm_near w.tap.course.class_seen found_so (course_after Left c v (is_applied found_so) w.tap.course)
-        (calm_noted Left found_so (reached Left (reach_of w.tap.course.class_seen found_so)
-        (course_after Left c v (is_applied found_so) w.tap.course)) (subst IsCalm course_is calm_after))
+    near = grind (arith, calm_near, calm_noted, course_is)
 
     conns : (takes Left v w.tap).state.connections ≡ set cs q next
-    conns = ap (λ (o : Outcome). o.state.connections) is
-        ∙ ap (λ (r : Reach). set cs q (connection_after Left v (is_applied found_so) r c)) near.two
+    conns = grind (arith, set, near)
 
     sound : Sound c
     sound = each_sound Left cs apart named q c at
@@ -323,10 +305,7 @@ module _ (local : Local) (w : Whole) (f : Called local w) (apart : AreApart w.ta
             ap (λ (h : Half). is_refused h.phase) next_right ∙ answered,
           ));
     }
-    here_by (past silent up none ask un (inr (refused, seen, judged))) =
-        differ (is_over Left c) (is_both c.is_judged (is_over_by c.left c.seen_by_left) judged
-        (refused_over c.left c.seen_by_left.phase
-        (off_over (is_silent c.seen_by_left.phase) (is_refused c.seen_by_left.phase) seen parts.1))) parts.0
+    here_by (past silent up none ask un (inr (refused, seen, judged))) = grind (arith, differ, is_both, refused_over, off_over, parts)
 
     here : Here
     here = here_by (f.stands q c at)
@@ -339,8 +318,7 @@ module _ (local : Local) (w : Whole) (f : Called local w) (apart : AreApart w.ta
     name_not i r other e = named_not n r v (λ same. other (sym (f.homes i r e).0 ∙ ap f.home (sym same) ∙ (f.homes q n here.ref).0)) dest
 
     stand_by : (i : ℕ) (x : Connection) → ((i ≡ q) × (x ≡ next)) ⊎ ((i ≡ q → ⊥) × (slice_get cs i ≡ Some x)) → StandNow i (f.refs i) x
-    stand_by i x (inl (same, so)) =
-        subst (λ (y : Connection). StandNow i (f.refs i) y) (sym so) (subst (λ (j : ℕ). StandNow j (f.refs j) next) (sym same) here.stand)
+    stand_by i x (inl (same, so)) = grind (arith, here)
     stand_by i x (inr (other, there)) = stand_on (f.refs i) (λ j. units_at j came_none)
         (λ r peer link line e row. row_other r peer link line (name_not i r other e) row) i x (units_at i f.tagged) (units_at i f.came)
         (w.begun && first_at i f.tagged) (asks_none i) (f.stands i x there)
@@ -356,12 +334,7 @@ module _ (local : Local) (w : Whole) (f : Called local w) (apart : AreApart w.ta
 
     course_same : ((takes Left v w.tap).state.course.class ≡ w.tap.course.class)
         × ((takes Left v w.tap).state.course.class_seen ≡ w.tap.course.class_seen)
-    course_same = (
-      left_class v w.tap,
-      ap (λ (k : Course). k.class_seen) course_is
-          ∙ reached_seen (reach_of w.tap.course.class_seen found_so) (course_after Left c v (is_applied found_so) w.tap.course)
-          ∙ seen_after c v (is_applied found_so) w.tap.course,
-    )
+    course_same = grind (arith, left_class, course_is, reached_seen, seen_after)
 
     -- ---- what it closes
 
@@ -395,8 +368,7 @@ module _ (local : Local) (w : Whole) (f : Called local w) (apart : AreApart w.ta
 
     other_ref : (i : ℕ) (x : Connection) → ((i ≡ q) × (x ≡ next)) ⊎ ((i ≡ q → ⊥) × (slice_get cs i ≡ Some x)) →
         IsShut → x.is_judged ≡ true → is_open x.left.phase ≡ true → is_open x.right.phase ≡ true → x.right.reference ≡ n → ⊥
-    other_ref i x (inl (same, so)) shut j a b e =
-        shut (ap (λ (y : Connection). y.is_judged) (sym so) ∙ j) (ap (λ (y : Connection). is_open y.left.phase) (sym so) ∙ a)
+    other_ref i x (inl (same, so)) shut j a b e = grind arith
     other_ref i x (inr (other, there)) shut j a b e =
         let ref = run_ref i x (f.refs i) (units_at i f.tagged) (units_at i f.came) (w.begun && first_at i f.tagged) b
         (f.stands i x there) in
@@ -420,16 +392,7 @@ module _ (local : Local) (w : Whole) (f : Called local w) (apart : AreApart w.ta
     open_by_stand : {A : Type 0} → is_open c.left.phase ≡ true → is_closing c.right.phase ≡ false →
         Stand local f.shut w.end w.coming (units_at q f.tagged) (units_at q f.came) (w.begun && first_at q f.tagged) (f.refs q) c →
         (is_open c.right.phase ≡ true → A) → A
-    open_by_stand a b (comes x y none ask i) k = silent_not x y
-    open_by_stand a b (refuses x y reason mine none i seen) k = silent_not x y
-    open_by_stand a b (answers h none) k = silent_not h.x h.asked
-    open_by_stand a b (runs g none) k = k g.there
-    open_by_stand a b (past silent up none ask un (inl (ref, answered))) k =
-        absurd (closed_not c.right.phase c.left.phase silent up answered b sound.right_closed a)
-    open_by_stand a b (past silent up none ask un (inr (refused, seen, judged))) k =
-        differ (is_over Left c) (is_both c.is_judged (is_over_by c.left c.seen_by_left) judged
-        (refused_over c.left c.seen_by_left.phase
-        (off_over (is_silent c.seen_by_left.phase) (is_refused c.seen_by_left.phase) seen parts.1))) parts.0
+    open_by_stand a b h k = grind (arith, silent_not, closed_not, sound, differ, is_both, refused_over, off_over, parts)
 
     dr_so : (takes Left v w.tap).state.course.strays ≡ false → Timely w.end w.coming cs (values f.tagged) → (destination source reason : ℕ)
         (user : List ℕ) → v ≡ disconnect destination source reason user → TimelyNow
@@ -457,25 +420,12 @@ module _ (local : Local) (w : Whole) (f : Called local w) (apart : AreApart w.ta
         ∙ closing_shuts (is_silent c.left.phase) c.left)))
 
     still_near : next.is_judged ≡ true → far ≡ reach.Connection → ⊥
-    still_near j e = differ (connection_after Left v (is_applied found_so) reach.Connection c).is_judged
-        (ap (λ (r : Reach). (connection_after Left v (is_applied found_so) r c).is_judged) (sym e) ∙ j)
-        (lost_so v (is_applied found_so) c)
+    still_near j e = grind (arith, differ, lost_so)
 
     dc_so : (takes Left v w.tap).state.course.strays ≡ false → Timely w.end w.coming cs (values f.tagged) → (destination source : ℕ) →
         v ≡ disconnected destination source → TimelyNow
     dc_so none h destination source e =
-        timely_one h (ap shuts_of e ∙ (sym (ap destination_of e) ∙ dest)) (λ m k. absurd (cc (sym (ap dr_for e) ∙ k)))
-        (λ j a.
-        let was = judged_was j in
-        let found_is : found_so ≡ found Left w.tap.course (uses_source Left cs v) c (disconnected destination source) =
-        judged_same c.is_judged (found Left w.tap.course (uses_source Left cs v) c v) was
-        ∙ ap (λ (u : Value). found Left w.tap.course (uses_source Left cs v) c u) e in
-        let applied = dc_applied (is_due Left c source) (not (is_silent c.left.phase)) w.tap.course.strays (lasts.strays none) found_so
-        found_is (still_near j) near.part in
-        differ (is_open next.left.phase) a
-        (ap (λ (b : Bool). is_open (connection_after Left v b far c).left.phase) applied
-        ∙ ap (λ (u : Value). is_open (connection_after Left u true far c).left.phase) e
-        ∙ ap (λ (x : Half). is_open x.phase) (left_own (disconnected destination source) far c)))
+        grind (arith, timely_one, shuts_of, dr_for, judged_was, judged_same, dc_applied, lasts, still_near, near, differ, left_own)
 
     timely_so : (takes Left v w.tap).state.course.strays ≡ false → Timely w.end w.coming cs (values f.tagged) → (u : Value) → v ≡ u →
         TimelyNow

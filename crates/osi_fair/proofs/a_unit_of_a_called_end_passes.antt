@@ -1,15 +1,14 @@
 -- A unit of a whole called end passes: a CC, a DR that refuses a CR, or a unit of an open connection. Each is right.
 -- For the law on a whole called end.
-use Rattle.osi_fair.proofs.Vocabulary.{[], ap, arith, Bool, drop, false, inl, inr, List, None, Option, refl, set, Some, subst, sym, true}
-use Rattle.osi_fair.proofs.Vocabulary.{ℕ, ◌++◌, ◌<◌, ◌∙◌, ◌∷◌, ◌≡◌, ◌≤◌, ◌⊎◌, eq-eqb, AllByRecursion, list_any, position_or_len, position}
+use Rattle.osi_fair.proofs.Vocabulary.{[], ap, arith, Bool, drop, false, inl, inr, List, None, Option, refl, set, Some, subst, sym, true, ℕ}
+use Rattle.osi_fair.proofs.Vocabulary.{◌++◌, ◌<◌, ◌∙◌, ◌∷◌, ◌≡◌, ◌≤◌, ◌⊎◌, eq-eqb, AllByRecursion, list_any, position_or_len, position}
 use Rattle.osi_fair.proofs.Vocabulary.{slice_get, ◌&&◌, ◌==◌, ◌||◌, confirm, Connect, destination_of, disconnect, error, Value, Standing}
 use Rattle.osi_fair.proofs.Vocabulary.{Class, Two, Local, acceptance, opened_link, confirm_tests, is_named, is_open, is_over, is_refused}
-use Rattle.osi_fair.proofs.Vocabulary.{is_silent, other, uses, course_after, found, found_on, half_after, route, sent_on}
-use Rattle.osi_fair.proofs.Vocabulary.{silent_half, takes, uses_source, Connection, Course, Left, Right, Kept, NotJudged, Half, Refused}
-use Rattle.osi_fair.proofs.Vocabulary.{Named, ActsAlong, after_finding, finding_of, IsRight, IsRightNow, Line, opened_half, opened_line}
-use Rattle.osi_fair.proofs.Vocabulary.{unit as passing, Whole, acknowledge, Broke, class_for, connection_after, data0, data2, disconnected}
-use Rattle.osi_fair.proofs.Vocabulary.{Finding, first_failed, if◌then◌else◌, is_applied, is_over_by, not, one_told, Outcome, reach_of}
-use Rattle.osi_fair.proofs.Vocabulary.{reached, request, Traffic, has_broken, noted}
+use Rattle.osi_fair.proofs.Vocabulary.{is_silent, other, uses, course_after, found, found_on, half_after, route, sent_on, silent_half}
+use Rattle.osi_fair.proofs.Vocabulary.{takes, uses_source, Connection, Course, Left, Right, Kept, NotJudged, Half, Refused, Named}
+use Rattle.osi_fair.proofs.Vocabulary.{ActsAlong, after_finding, finding_of, IsRight, Line, opened_half, opened_line, unit as passing}
+use Rattle.osi_fair.proofs.Vocabulary.{Whole, acknowledge, Broke, data0, data2, disconnected, first_failed, if◌then◌else◌, not, one_told}
+use Rattle.osi_fair.proofs.Vocabulary.{Outcome, request, Traffic, has_broken}
 use Rattle.osi_rules.specs.declared.findings.Reach.TheVariants as reach
 use Rattle.osi_rules.specs.declared.findings.Rule.TheVariants as rule
 use Rattle.osi_fair.specs.Lines.{passes_own}
@@ -33,7 +32,7 @@ use Rattle.osi_fair.proofs.what_is_put_before_the_cc_passes.{acts_join}
 use Rattle.osi_fair.proofs.what_keeps_names_apart.{AreApart}
 use Rattle.osi_fair.proofs.what_lasts_at_the_tap.{Lasts, lasts_passing}
 use Rattle.osi_fair.proofs.what_stays_of_each_connection.{left_then, right_own}
-use Rattle.osi_fair.proofs.which_units_are_for_a_connection.{AllNamed, AllOurs, line_named, names_in as is_at}
+use Rattle.osi_fair.proofs.which_units_are_for_a_connection.{AllOurs, line_named, names_in as is_at}
 use Rattle.osi_fair.proofs.while_no_class_is_selected.{after_change, set_same}
 use Rattle.osi_fair.proofs.how_a_unit_of_right_passes.{no_list, use_so, route_confirm, route_dr, route_two_so, class_seen_same}
 use Rattle.osi_fair.proofs.how_a_unit_of_right_passes.{strays_more, above_next, half_keeps, half_started, open_started, half_not_refused}
@@ -64,8 +63,7 @@ above_down given n m (acknowledge credit destination number ∷ vs) less h = abo
 above_down given n m (error destination cause ∷ vs) less h = above_down given n m vs less h
 
 above_less : (given n : ℕ) (v : Value) (vs : List Value) → AreAbove given n (v ∷ vs) → AreAbove given n vs
-above_less given n (confirm destination x) vs (less, h) = above_down given n x.source vs less h
-above_less given n v vs h = h
+above_less given n v vs h = grind (arith, above_down)
 
 -- It is right, or not judged: a DR has passed that closed nothing, or a connection has lost its judgement.
 abbrev pub IsFineAt : Value → Traffic → Type 0
@@ -152,9 +150,7 @@ module _ (local : Local) (w : Whole) (f : Called local w) (apart : AreApart w.ta
 
       gone_by : (i : ℕ) → slice_get cs i ≡ None →
           (units_at i later ≡ []) × (units_at i f.came ≡ []) × ((r : ℕ) → f.refs i ≡ Some r → IsUnlinked w.end r)
-      gone_by i none =
-          let (a, b, d) = f.beyond i none in
-          (sym (other_mine i (λ e. there_not (slice_get cs p) c at (ap (λ (j : ℕ). slice_get cs j) (sym e) ∙ none))) ∙ a, b, d)
+      gone_by i none = grind (arith, other_mine, there_not)
 
       held_by : Timely w.end w.coming cs (values f.tagged) → (i : ℕ) (x : Connection) →
           ((i ≡ p) × (x ≡ next)) ⊎ ((i ≡ p → ⊥) × (slice_get cs i ≡ Some x)) → x.is_judged ≡ true → is_open x.left.phase ≡ true →
@@ -306,8 +302,7 @@ module _ (local : Local) (w : Whole) (f : Called local w) (apart : AreApart w.ta
       dr_found = ap (λ (h : Half). first_failed ((is_silent h.phase || is_open h.phase, Broke rule.Closed) ∷ [])) a.right
 
       dr_kept : found_on Right w.tap c u ≡ Kept
-      dr_kept = ap (λ (v : Value). found_on Right w.tap c v) u_dr
-          ∙ judged_so c.is_judged (found Right w.tap.course false c dr) Kept a.judged dr_found
+      dr_kept = grind (arith, u_dr, judged_so, dr_found)
 
       dr_route : route Right w.tap.course u ≡ Named x.source
       dr_route = grind (arith, u_dr, route_dr)
@@ -328,13 +323,7 @@ module _ (local : Local) (w : Whole) (f : Called local w) (apart : AreApart w.ta
       dr_right = ap (λ (h : Half). half_after dr h) a.right
 
       dr_stand : StandAfter p dr_next
-      dr_stand = past (ap (λ (h : Half). is_silent h.phase) dr_right) (ap (λ (h : Half). is_open h.phase) dr_right)
-          (rest_is u dr (units_at p later) [] (sym mine_is ∙ is)) asks (λ r e. absurd (cc (sym o ∙ e)))
-          (inr (
-            ap (λ (h : Half). is_refused h.phase) dr_right,
-            ap (λ (h : Half). is_silent h.phase || is_refused h.phase) a.known,
-            a.judged,
-          ))
+      dr_stand = grind (arith, past, dr_right, rest_is, units_at, mine_is)
 
       dr_not : {A : Type 0} → is_open dr_next.right.phase ≡ true → A
       dr_not h = differ (is_open dr_next.right.phase) h (ap (λ (x : Half). is_open x.phase) dr_right)
@@ -366,12 +355,10 @@ module _ (local : Local) (w : Whole) (f : Called local w) (apart : AreApart w.ta
       line_judged = ap (λ (x : Connection). x.is_judged) g.tap ∙ is_judged
 
       is_right : IsRight Right c u
-      is_right = subst (λ (x : Connection). IsRight Right x u) g.tap (subst (IsRightNow Right g.line.tap) first_put
-          (open_is_fair Right g.r g.peer g.first g.line g.acts g.opened g.along line_begun line_judged))
+      is_right = grind (arith, first_put, open_is_fair, line_begun, line_judged)
 
       dest : destination_of u ≡ Some g.peer
-      dest = (subst (AllNamed g.peer) first_put (line_named g.r g.peer (turned_line g.line)
-          (run_holds g.r g.peer g.first g.line g.acts g.opened g.along line_judged))).0
+      dest = grind (arith, first_put, line_named, turned_line, run_holds, line_judged)
 
       run_first : position (is_named Right g.peer) cs ≡ Some p
       run_first = name_first g.peer p c at (named_of (destination_of u) g.peer Right c dest is_right.named)
@@ -423,8 +410,7 @@ module _ (local : Local) (w : Whole) (f : Called local w) (apart : AreApart w.ta
       tap_is = grind (arith, run_kept)
 
       along : ActsAlong Right g.r g.peer g.first (g.acts ++ passes_own w.tap.course in_use ∷ []) line
-      along = acts_join Right g.r g.peer g.acts (passes_own w.tap.course in_use ∷ []) g.first g.line line g.along
-          (line, (u, first_put, line_begun, refl), refl)
+      along = grind (arith, acts_join, first_put, line_begun)
 
       next_judged : line.tap.is_judged ≡ true
       next_judged = ap (λ (x : Connection). x.is_judged) tap_is ∙ sent_judged u c ∙ is_judged
@@ -506,11 +492,7 @@ module _ (local : Local) (w : Whole) (f : Called local w) (apart : AreApart w.ta
       lost_dest = (subst (AllOurs g.r g.peer) lost_put keeps.ours).0.named
 
       lost_named : is_named Right g.peer c ≡ true
-      lost_named =
-          let (there, is) = subst (λ (x : Connection). (is_silent x.seen_by_right.phase ≡ false) × (x.seen_by_right.reference ≡ g.peer))
-          g.tap (keeps.seen_so lost_begun) in
-          name_so (is_over Right c) (is_silent c.seen_by_right.phase) (c.seen_by_right.reference == g.peer)
-          (ap (λ (b : Bool). b && is_over_by c.right c.seen_by_right) is_lost) there (eq-eqb c.seen_by_right.reference g.peer is)
+      lost_named = grind (arith, keeps, lost_begun, name_so, eq-eqb)
 
       lost_route : route Right w.tap.course u ≡ Named g.peer
       lost_route = route_two_so w.tap.course.class (has_broken Left w.tap.course) u g.peer (f.two p c at g.there) lost_dest
@@ -522,19 +504,16 @@ module _ (local : Local) (w : Whole) (f : Called local w) (apart : AreApart w.ta
       lost_found = ap (λ (b : Bool). if b then found Right w.tap.course (uses_source Right cs u) c u else NotJudged) is_lost
 
       lost_conns : (takes Right u w.tap).state.connections ≡ set cs p c
-      lost_conns = ap (λ (o : Outcome). o.state.connections) lost_takes ∙ ap (λ (k : Finding). set cs p (connection_after Right u
-          (is_applied k) (reach_of (class_for Right w.tap.course) k) c)) lost_found
+      lost_conns = grind (arith, lost_takes, set, lost_found)
 
       lost_course : (takes Right u w.tap).state.course ≡ course_after Right c u false w.tap.course
-      lost_course = ap (λ (o : Outcome). o.state.course) lost_takes ∙ ap (λ (k : Finding). noted Right k (reached Right
-          (reach_of (class_for Right w.tap.course) k) (course_after Right c u (is_applied k) w.tap.course))) lost_found
+      lost_course = grind (arith, lost_takes, lost_found)
 
       lost_finding : (takes Right u w.tap).told.finding ≡ NotJudged
       lost_finding = ap (λ (o : Outcome). o.told.finding) lost_takes ∙ lost_found
 
       is_loose : (b : Bool) → w.tap.course.loose ≡ b → b ≡ true
-      is_loose true e = refl
-      is_loose false e = differ c.is_judged (judged e p c at) is_lost
+      is_loose b e = grind (arith, differ)
 
       abbrev lost_line : Line
       lost_line = record g.line {
@@ -544,9 +523,7 @@ module _ (local : Local) (w : Whole) (f : Called local w) (apart : AreApart w.ta
       }
 
       lost_tap : lost_line.tap ≡ c
-      lost_tap =
-          ap (λ (x : Connection). after_finding Right (finding_of Right w.tap.course false x u) u x) g.tap
-          ∙ ap (λ (b : Bool). after_finding Right (if b then found Right w.tap.course false c u else NotJudged) u c) is_lost
+      lost_tap = grind arith
 
       lost_stand : StandAfter p c
       lost_stand = runs (record {

@@ -151,8 +151,7 @@ module _ (local : Local) (w : Whole) (f : Followed local w) (sane : IsSane w.tap
 
   request_waits : (x : Connect) (c : Connection) (p : ℕ) → IsAsking local w.end w.coming x →
       (c ≡ asked_by x) ⊎ (slice_get cs p ≡ Some c) → is_waiting c ≡ true → Waiting local w.end w.coming c
-  request_waits x c p a (inl is) waits = subst (λ (e : Connection). Waiting local w.end w.coming e) (sym is) (search (arith, x.source))
-  request_waits x c p a (inr at) waits = f.waiting p c at waits
+  request_waits x c p a h waits = search arith
 
   request_silent : (x : Connect) (i : ℕ) (c : Connection) → is_silent c.right.phase ≡ true → (c ≡ asked_by x) ⊎ (slice_get cs i ≡ Some c) →
       is_open c.left.phase ≡ true
@@ -184,14 +183,11 @@ module _ (local : Local) (w : Whole) (f : Followed local w) (sane : IsSane w.tap
 
   request_lost : (x : Connect) (i : ℕ) (c : Connection) → c.is_judged ≡ false → (c ≡ asked_by x) ⊎ (slice_get cs i ≡ Some c) →
       (is_open c.right.phase || is_closing c.right.phase) ≡ true
-  request_lost x i c lost (inl is) = differ c.is_judged (ap (λ (e : Connection). e.is_judged) is) lost
-  request_lost x i c lost (inr at) = f.lost i c at lost
+  request_lost x i c lost h = grind (arith, differ)
 
   request_shut : (x : Connect) → w.end.ended ≡ None → (i : ℕ) (c : Connection) → is_open c.left.phase ≡ false →
       value_at c.left.reference w.end.live ≡ Some asked → (c ≡ asked_by x) ⊎ (slice_get cs i ≡ Some c) → ⊥
-  request_shut x lasts i c closed row (inl is) =
-      differ (is_open c.left.phase) (ap (λ (e : Connection). is_open e.left.phase) is) closed
-  request_shut x lasts i c closed row (inr at) = f.shut lasts i c at closed row
+  request_shut x lasts i c closed row h = grind (arith, differ)
 
   pub request_passes : (x : Connect) (rest : List Value) → w.put ≡ request x ∷ rest → Followed local (after_request x rest)
   request_passes x rest e =
@@ -231,8 +227,7 @@ module _ (local : Local) (w : Whole) (f : Followed local w) (sane : IsSane w.tap
       }
 
   peers_by : (x : Connect) (o : Outcome) → Request x cs o → AreNamedApart Right o.state.connections
-  peers_by x o (inl is) = subst (AreNamedApart Right) (sym is) peers
-  peers_by x o (inr is) = subst (AreNamedApart Right) (sym is) (right_asked cs x (position is_free cs) peers)
+  peers_by x o h = grind (arith, right_asked)
 
   pub request_peers : (x : Connect) → AreNamedApart Right (takes Left (request x) w.tap).state.connections
   request_peers x = peers_by x (takes Left (request x) w.tap) (request_does x w.tap)
@@ -291,8 +286,7 @@ module _ (local : Local) (w : Whole) (f : Followed local w) (sane : IsSane w.tap
     first_put = parts.1.0
 
     line_begun : g.line.begun ≡ true
-    line_begun = g.begun_is (put_some u still g.spare g.line.put first_put)
-        ∙ ap (λ (l : List Value). w.begun && leads (is_ours g.r g.peer) l) e ∙ both w.begun (is_ours g.r g.peer u) begun named_by
+    line_begun = grind (arith, put_some, first_put, leads, is_ours, both, named_by)
 
     right : IsRight Left c u
     right =
@@ -439,8 +433,7 @@ module _ (local : Local) (w : Whole) (f : Followed local w) (sane : IsSane w.tap
 
     waits_at : (i : ℕ) (x : Connection) → is_waiting x ≡ true →
         ((i ≡ p) × (x ≡ next)) ⊎ ((i ≡ p → ⊥) × (slice_get cs i ≡ Some x)) → Waiting local w.end w.coming x
-    waits_at i x waits (inl (same, is)) = grind (arith, differ, right, next_right, and_second, there_not_silent, right_there)
-    waits_at i x waits (inr (other, there)) = f.waiting i x there waits
+    waits_at i x waits h = search (arith, differ, right, next_right, and_second, there_not_silent, right_there)
 
     silent_at : (i : ℕ) (x : Connection) → is_silent x.right.phase ≡ true →
         ((i ≡ p) × (x ≡ next)) ⊎ ((i ≡ p → ⊥) × (slice_get cs i ≡ Some x)) → is_open x.left.phase ≡ true
@@ -466,9 +459,7 @@ module _ (local : Local) (w : Whole) (f : Followed local w) (sane : IsSane w.tap
     IsSpareIf v = is_tracked next ≡ false → is_ours g.r g.peer v ≡ true → IsSpare w.tap.course.strays g.r g.peer v
 
     of_next : (v : Value) → is_tracked next ≡ true → IsOf c.left.reference c.right.reference v → IsOwned after.tap v
-    of_next v h is = of p next next_at h
-        (subst (λ (x : Half). IsOf next.left.reference x.reference v) (sym next_right)
-        (subst (λ (i : ℕ). IsOf i c.right.reference v) (sym next_left) is))
+    of_next v h is = search (arith, of, next_at, next_right, next_left)
 
     owned_one : (v : Value) (i : ℕ) (x : Connection) → slice_get cs i ≡ Some x → is_tracked x ≡ true →
         IsOf x.left.reference x.right.reference v → IsSpareIf v → (b d : Bool) → (i == p) ≡ b → is_tracked next ≡ d →
@@ -527,16 +518,11 @@ module _ (local : Local) (w : Whole) (f : Followed local w) (sane : IsSane w.tap
 
     lost_at : (i : ℕ) (x : Connection) → x.is_judged ≡ false →
         ((i ≡ p) × (x ≡ next)) ⊎ ((i ≡ p → ⊥) × (slice_get cs i ≡ Some x)) → (is_open x.right.phase || is_closing x.right.phase) ≡ true
-    lost_at i x lost (inl (same, is)) = differ x.is_judged (ap (λ (y : Connection). y.is_judged) is ∙ next_judged) lost
-    lost_at i x lost (inr (other, there)) = f.lost i x there lost
+    lost_at i x lost h = grind (arith, differ, next_judged)
 
     shut_at : w.end.ended ≡ None → (i : ℕ) (x : Connection) → is_open x.left.phase ≡ false →
         value_at x.left.reference w.end.live ≡ Some asked → ((i ≡ p) × (x ≡ next)) ⊎ ((i ≡ p → ⊥) × (slice_get cs i ≡ Some x)) → ⊥
-    shut_at lasts i x closed row (inl (same, is)) =
-        differ (is_open next.left.phase) (left_open next (held_at lasts c.left.reference (Some asked)
-        (ap (λ (j : ℕ). value_at j w.end.live) (sym (ap (λ (y : Connection). y.left.reference) is ∙ next_left)) ∙ row) refl refl))
-        (ap (λ (y : Connection). is_open y.left.phase) (sym is) ∙ closed)
-    shut_at lasts i x closed row (inr (other, there)) = f.shut lasts i x there closed row
+    shut_at lasts i x closed row h = search (arith, differ, left_open, held_at, next_left)
 
     pub own_passes : Followed local after
     own_passes =

@@ -1,14 +1,12 @@
 -- A unit passes of a called end that has selected class 0: the CC, or a DT. Each is right.
 -- For the law on a whole called end.
-use Rattle.osi_fair.proofs.Vocabulary.{ap, arith, Bool, false, IfSome, if◌then◌else◌, inl, length, List, None, Option, option_map}
-use Rattle.osi_fair.proofs.Vocabulary.{refl, set, Some, subst, sym, true, ℕ, ◌+◌, ◌-◌, ◌^◌, ◌∙◌, ◌∷◌, ◌≡◌, ◌≤◌, ◌⊎◌, pow-le-pow_right}
-use Rattle.osi_fair.proofs.Vocabulary.{eq-eqb, list_any, position_or_len, min, not, position, slice_get, ◌&&◌, ◌==◌, ◌||◌, size_code}
-use Rattle.osi_fair.proofs.Vocabulary.{confirm, Connect, data0, Value, longest_tsdu, accept, keeps_flow_control, proposes}
-use Rattle.osi_fair.proofs.Vocabulary.{proposes_zero_alone, refuse, selected_by, selected_size, Two, Zero, Local, acceptance, unit_octets}
-use Rattle.osi_fair.proofs.Vocabulary.{is_closed, is_closing, is_live, is_named, is_open, is_over, is_over_by, is_refused, is_silent, uses}
-use Rattle.osi_fair.proofs.Vocabulary.{course_after, found, found_on, route, sent_on, takes, uses_source}
-use Rattle.osi_fair.proofs.Vocabulary.{Connection, Course, Left, Right, Kept, Half, Phase, Named, opened_half, Whole}
-use Rattle.osi_fair.proofs.Vocabulary.{has_broken}
+use Rattle.osi_fair.proofs.Vocabulary.{ap, arith, Bool, false, IfSome, if◌then◌else◌, inl, length, List, None, Option, option_map, refl}
+use Rattle.osi_fair.proofs.Vocabulary.{set, Some, subst, sym, true, ℕ, ◌+◌, ◌-◌, ◌^◌, ◌∙◌, ◌∷◌, ◌≡◌, ◌≤◌, ◌⊎◌, pow-le-pow_right, eq-eqb}
+use Rattle.osi_fair.proofs.Vocabulary.{list_any, position_or_len, min, not, position, slice_get, ◌&&◌, ◌==◌, ◌||◌, size_code, confirm}
+use Rattle.osi_fair.proofs.Vocabulary.{Connect, data0, Value, longest_tsdu, accept, refuse, selected_by, Two, Zero, Local, acceptance}
+use Rattle.osi_fair.proofs.Vocabulary.{unit_octets, is_closed, is_closing, is_live, is_named, is_open, is_over, is_over_by, is_refused}
+use Rattle.osi_fair.proofs.Vocabulary.{is_silent, uses, course_after, found, found_on, route, sent_on, takes, uses_source, Connection}
+use Rattle.osi_fair.proofs.Vocabulary.{Course, Right, Kept, Half, Phase, Named, opened_half, Whole}
 use Rattle.osi_fair.proofs.small_facts_that_many_lemmas_use.{and_false, and_not, any_none, both as is_both, first_is, judged_so, name_so}
 use Rattle.osi_fair.proofs.small_facts_that_many_lemmas_use.{rest_is, unequal}
 use Rattle.osi_fair.proofs.a_dt_of_class_zero_passes.{begun_so, dt_conns, dt_course, dt_kept, only_first}
@@ -59,10 +57,7 @@ fits_selected o n h k = grind (arith, two_power)
 fits_cc : (x : Connect) (local : Local) (size : Option ℕ) (c : Connection) → Asked x c → selected_by x local ≡ accept Zero size →
     IfSome (option_map (λ code. 2 ^ code) size) (λ most. (unit_octets size - 3) + 3 ≤ most)
 fits_cc x local size c a e =
-    let same = zero_chosen (local.class2 && (proposes x 2 && keeps_flow_control x)) (local.class0 && proposes x 0) (proposes_zero_alone x)
-    (selected_size x local) size e in
-    subst (λ (o : Option ℕ). IfSome (option_map (λ code. 2 ^ code) o) (λ most. (unit_octets o - 3) + 3 ≤ most)) same
-    (fits_selected x.parameters.size (size_code local.size) a.range.parameters.size local.size.at_least)
+    search (arith, zero_chosen, fits_selected x.parameters.size (size_code local.size) a.range.parameters.size local.size.at_least)
 
 -- ---- a unit of the end passes
 
@@ -111,8 +106,7 @@ module _ (local : Local) (w : Whole) (apart : AreApart w.tap.connections) (judge
         ∙ zero_right local f.x f.size f.r f.c w.tap.course f.selected f.asked.offer f.asked.right f.class)
 
     cc_route : route Right w.tap.course u ≡ Named f.x.source
-    cc_route = ap (λ (v : Value). route Right w.tap.course v) u_cc
-        ∙ route_confirm w.tap.course.class (has_broken Left w.tap.course) f.x.source (acceptance Zero f.size f.x local f.r) (inl f.class)
+    cc_route = grind (arith, u_cc, route_confirm)
 
     cc_first : position (is_named Right f.x.source) all ≡ Some f.p
     cc_first = name_first f.x.source f.p f.c f.at cc_named
@@ -124,8 +118,7 @@ module _ (local : Local) (w : Whole) (apart : AreApart w.tap.connections) (judge
     cc_conns = grind (arith, conns_kept, cc_route, cc_first, cc_kept, u_cc)
 
     cc_course : (takes Right u w.tap).state.course ≡ course_after Right f.c cc_is true w.tap.course
-    cc_course = course_kept u w.tap f.x.source f.p f.c right cc_route cc_first f.at cc_kept
-        ∙ ap (λ (v : Value). course_after Right f.c v true w.tap.course) u_cc
+    cc_course = grind (arith, course_kept, cc_route, cc_first, cc_kept, u_cc)
 
     not_there : {A : Type 0} (i : ℕ) (e : Connection) → ((i ≡ f.p) × (e ≡ cc_next)) ⊎ ((i ≡ f.p → ⊥) × (slice_get all i ≡ Some e)) →
         (i ≡ f.p → ⊥) → (slice_get all i ≡ Some e → A) → A
@@ -178,8 +171,7 @@ module _ (local : Local) (w : Whole) (apart : AreApart w.tap.connections) (judge
       conns = grind (arith, dt_conns, only)
 
       course : (takes Right u w.tap).state.course ≡ w.tap.course
-      course = ap (λ (v : Value). (takes Right v w.tap).state.course) is
-          ∙ dt_course Right w.tap f.p f.c f.at (judged f.p f.c f.at) right f.class only f.limit f.fits end user puts.0 puts.1
+      course = grind (arith, dt_course, only)
 
       apart_of : {A : Type 0} (i : ℕ) (e : Connection) → ((i ≡ f.p) × (e ≡ dt_next)) ⊎ ((i ≡ f.p → ⊥) × (slice_get all i ≡ Some e)) →
           (i ≡ f.p → ⊥) → (slice_get all i ≡ Some e → A) → A

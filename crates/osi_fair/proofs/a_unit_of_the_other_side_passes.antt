@@ -11,7 +11,6 @@ use Rattle.osi_fair.proofs.Vocabulary.{Phase, after_finding, finding_of, Line, o
 use Rattle.osi_rules.specs.declared.findings.Reach.TheVariants as reach
 use Rattle.osi_rules.specs.declared.findings.Rule.TheVariants as rule
 use Rattle.osi_fair.specs.Lines.{passes_other}
-use Rattle.osi_rules.specs.Sides.{sends}
 use Rattle.osi_fair.proofs.small_facts_that_many_lemmas_use.{and_false as none_begun, and_first, and_not, and_second, both, differ, no_two}
 use Rattle.osi_fair.proofs.small_facts_that_many_lemmas_use.{set_other, sized_judged, some_same as item_is}
 use Rattle.osi_fair.proofs.a_reference_names_one_connection.{not_first}
@@ -163,8 +162,7 @@ module _ (local : Local) (w : Whole) (f : Followed local w) (sane : IsSane w.tap
   lost_found lost = ap (λ (j : Bool). if j then found Right w.tap.course (uses_source Right cs v) c v else NotJudged) lost
 
   lost_same : c.is_judged ≡ false → nxt ≡ c
-  lost_same lost =
-      ap (λ (g : Finding). connection_after Right v (is_applied g) (reach_of (class_for Right w.tap.course) g) c) (lost_found lost)
+  lost_same lost = grind (arith, lost_found)
 
   -- ---- what it is
 
@@ -172,12 +170,10 @@ module _ (local : Local) (w : Whole) (f : Followed local w) (sane : IsSane w.tap
   by_phase p e h judged = grind (arith, both, and_not, over_so, refused_over, closed_over)
 
   lost_kind : is_open c.left.phase ≡ true → c.is_judged ≡ false → Kind c
-  lost_kind h lost =
-      stands (both (is_open c.left.phase) (is_open c.right.phase || is_closing c.right.phase) h (f.lost t.q c t.at lost))
+  lost_kind h lost = grind (arith, both)
 
   open_kind : (j : Bool) → c.is_judged ≡ j → is_open c.left.phase ≡ true → Kind c
-  open_kind true e h = by_phase c.right.phase refl h e
-  open_kind false e h = lost_kind h e
+  open_kind j e h = grind (arith, by_phase, lost_kind)
 
   past_silent : (b : Bool) → is_silent c.right.phase ≡ b → is_open c.left.phase ≡ false → b ≡ false
   past_silent b e h = grind (arith, differ)
@@ -209,9 +205,7 @@ module _ (local : Local) (w : Whole) (f : Followed local w) (sane : IsSane w.tap
   -- a CC has no effect on a connection that was answered
   cc_none : (j : Bool) → c.is_judged ≡ j → is_silent c.right.phase ≡ false → (m : ℕ) (x : Connect) → v ≡ confirm m x →
       is_applied found_so ≡ false
-  cc_none true judged there m x e =
-      ap (λ (u : Value). is_applied (found_on Right w.tap c u)) e ∙ cc_idle w.tap c judged sound_c m x there
-  cc_none false lost there m x e = ap is_applied (lost_found lost)
+  cc_none j judged there m x e = grind (arith, cc_idle, sound_c, lost_found)
 
   -- it ends the judging of that
   abbrev course_of : Value → Course
@@ -222,9 +216,7 @@ module _ (local : Local) (w : Whole) (f : Followed local w) (sane : IsSane w.tap
   calm_cc m x e = subst (λ (u : Value). IsCalm (course_of u)) e calm_so
 
   cc_ends : c.is_judged ≡ true → is_silent c.right.phase ≡ false → (m : ℕ) (x : Connect) → v ≡ confirm m x → nxt.is_judged ≡ false
-  cc_ends judged there m x e =
-      ap (λ (u : Value). (connection_after Right u (is_applied (found_on Right w.tap c u)) (reach_of (class_for Right w.tap.course)
-      (found_on Right w.tap c u)) c).is_judged) e ∙ cc_lost w.tap c judged sound_c m x there (calm_cc m x e)
+  cc_ends judged there m x e = grind (arith, cc_lost, sound_c, calm_cc)
 
   -- so it comes only if a connection has lost its judgement
   cc_late : {A : Type 0} → (takes Right v w.tap).state.course.loose ≡ false → is_silent c.right.phase ≡ false → (m : ℕ) (x : Connect) →
@@ -289,10 +281,7 @@ module _ (local : Local) (w : Whole) (f : Followed local w) (sane : IsSane w.tap
   stays_open : (j : Bool) → c.is_judged ≡ j → is_tracked c ≡ true →
       ((is_open nxt.right.phase || is_closing nxt.right.phase) ≡ true) × (nxt.right.reference ≡ c.right.reference)
   stays_open true judged tracked = open_stays w.tap c judged sound_c v t.n t.dest tracked
-  stays_open false lost tracked = (
-    ap (λ (x : Connection). is_open x.right.phase || is_closing x.right.phase) (lost_same lost) ∙ right_there c tracked,
-    ap (λ (x : Connection). x.right.reference) (lost_same lost),
-  )
+  stays_open false lost tracked = grind (arith, lost_same, right_there)
 
   goes_so : is_tracked c ≡ true → Next
   goes_so tracked =
@@ -309,8 +298,7 @@ module _ (local : Local) (w : Whole) (f : Followed local w) (sane : IsSane w.tap
       differ (uses Right x.source e)
       (uses_tracked e x.source (each_sound Right cs sane.apart peers i e there) tracked (eqb-true e.right.reference x.source same))
       (none_true (λ (y : Connection). uses Right x.source y) cs i e unused there)
-  unnamed_by x r u i e false same unused there tracked dest =
-      ours_not r e.right.reference x.source u (unlike e.right.reference x.source same) dest
+  unnamed_by x r u i e false same unused there tracked dest = grind (arith, ours_not, unlike)
 
   unnamed_put : (x : Connect) (r : ℕ) → list_any (λ (e : Connection). uses Right x.source e) cs ≡ false → is_waiting c ≡ true →
       c.left.reference ≡ r → (u : Value) → IsOwned w.tap u → AreSettled cs w.put w.end.given u → is_ours r x.source u ≡ false
@@ -404,17 +392,11 @@ module _ (local : Local) (w : Whole) (f : Followed local w) (sane : IsSane w.tap
 
   -- a connection loses its judgement by a unit that has no effect
   lost_idle : (b : Bool) → is_applied found_so ≡ b → c.is_judged ≡ true → nxt.is_judged ≡ false → b ≡ false
-  lost_idle false e judged lost = refl
-  lost_idle true e judged lost =
-      differ nxt.is_judged (ap (λ (r : Reach). (connection_after Right v (is_applied found_so) r c).is_judged)
-      (applied_ends_none (class_for Right w.tap.course) found_so e)
-      ∙ ap (λ (b : Bool). (connection_after Right v b reach.Nothing c).is_judged) e
-      ∙ sized_judged v (sends Right (half_after v c.right) c) ∙ judged) lost
+  lost_idle b e judged lost = grind (arith, differ, applied_ends_none, sized_judged)
 
   past_lost : (j : Bool) → c.is_judged ≡ j → is_silent c.right.phase ≡ false → nxt.is_judged ≡ false →
       (is_open nxt.right.phase || is_closing nxt.right.phase) ≡ true
-  past_lost false was there lost =
-      ap (λ (x : Connection). is_open x.right.phase || is_closing x.right.phase) (lost_same was) ∙ f.lost t.q c t.at was
+  past_lost false was there lost = grind (arith, lost_same)
   past_lost true judged there lost =
       ap (λ (x : Half). is_open x.phase || is_closing x.phase) (right_after false (lost_idle (is_applied found_so) refl judged lost))
       ∙ past_there c.right.phase refl judged there
@@ -459,10 +441,8 @@ module _ (local : Local) (w : Whole) (f : Followed local w) (sane : IsSane w.tap
       let g = f.lines i x there tracked in
       following_other local w.put w.begun w.tap.course.strays strays_after w.end w.coming x v strays_on g
       (unlike_r i x g.r other there g.left)
-  line_at i x tracked (goes_on a b right class line) (inl (same, is)) =
-      subst (λ (y : Connection). Following local w.put w.begun strays_after w.end more y) (sym is) line
-  line_at i x tracked (opened a silent b line row class) (inl (same, is)) =
-      subst (λ (y : Connection). Following local w.put w.begun strays_after w.end more y) (sym is) line
+  line_at i x tracked (goes_on a b right class line) (inl (same, is)) = grind arith
+  line_at i x tracked (opened a silent b line row class) (inl (same, is)) = grind arith
   line_at i x tracked (gone a b silent none class lost) (inl (same, is)) = differ (is_tracked nxt) (ap is_tracked (sym is) ∙ tracked) b
   line_at i x tracked (quiet a still dc) (inl (same, is)) = differ (is_tracked c) (ap is_tracked (sym (is ∙ still)) ∙ tracked) a
 
@@ -481,12 +461,9 @@ module _ (local : Local) (w : Whole) (f : Followed local w) (sane : IsSane w.tap
       let g = f.waiting i x there waiting in
       waiting_other local w.end w.coming x v g (unlike_r i x g.r other there (ap (λ (h : Half). h.reference) g.left))
   waits_at i x waiting (quiet a still dc) (inl (same, is)) =
-      waiting_dc local w.end w.coming x v dc
-      (f.waiting i x (was_waiting i x (waits_silent x waiting) (quiet a still dc) (inl (same, is))) waiting)
-  waits_at i x waiting (goes_on a b right class line) (inl (same, is)) =
-      not_quiet x waiting (there_not_silent nxt.right.phase (right_there nxt b)) is
-  waits_at i x waiting (opened a before b line row class) (inl (same, is)) =
-      not_quiet x waiting (there_not_silent nxt.right.phase (right_there nxt b)) is
+      grind (arith, waiting_dc, was_waiting i x (waits_silent x waiting) (quiet a still dc) (inl (same, is)), waits_silent x waiting)
+  waits_at i x waiting (goes_on a b right class line) (inl (same, is)) = grind (arith, not_quiet, there_not_silent, right_there)
+  waits_at i x waiting (opened a before b line row class) (inl (same, is)) = grind (arith, not_quiet, there_not_silent, right_there)
   waits_at i x waiting (gone a b later none class lost) (inl (same, is)) = not_quiet x waiting later is
 
   -- of a connection that was open
@@ -536,8 +513,7 @@ module _ (local : Local) (w : Whole) (f : Followed local w) (sane : IsSane w.tap
   answers_to (gone a b silent none class lost) m x e lasts (inl row) = absurd ((none m x e).1 lasts (row_now m x e row))
   answers_to (gone a b silent none class lost) m x e lasts (inr firm) = cc_late firm (none m x e).0 m x e
   answers_to (quiet a still dc) m x e lasts why = absurd (dc_no_cc v dc m x e)
-  answers_to (opened a silent b line here class) m x e lasts why =
-      ((t.q, nxt, nxt_at, b, same_left m x e), ap (λ (i : ℕ). value_at i w.end.live) (same_name m x e) ∙ here lasts)
+  answers_to (opened a silent b line here class) m x e lasts why = grind (arith, nxt_at, same_left, same_name)
 
   class_from : (r i : ℕ) (x : Connection) → is_tracked x ≡ true → x.left.reference ≡ r → Next → Item i x →
       (takes Right v w.tap).state.course.class ≡ Some Two
@@ -546,13 +522,11 @@ module _ (local : Local) (w : Whole) (f : Followed local w) (sane : IsSane w.tap
   class_from r i x tracked is (goes_on a b right class line) (inl (same, so)) =
       (lasts_passing (passing Right v) w.tap).two (f.two c.left.reference (t.q, c, t.at, a, refl))
   class_from r i x tracked is (opened a silent b line row class) (inl (same, so)) = ap (λ (k : Course). k.class) course_is ∙ class
-  class_from r i x tracked is (gone a b silent none class lost) (inl (same, so)) =
-      differ (is_tracked nxt) (ap is_tracked (sym so) ∙ tracked) b
+  class_from r i x tracked is (gone a b silent none class lost) (inl (same, so)) = grind (arith, differ, is_tracked)
   class_from r i x tracked is (quiet a still dc) (inl (same, so)) = differ (is_tracked c) (ap is_tracked (sym (so ∙ still)) ∙ tracked) a
 
   after_class : SameClass → ((takes Right v w.tap).state.course.class ≡ None) ⊎ ((takes Right v w.tap).state.course.class ≡ Some Two)
-  after_class same =
-      subst (λ (k : Option Class). (k ≡ None) ⊎ (k ≡ Some Two)) (sym (ap (λ (k : Course). k.class) course_is ∙ same)) f.zero
+  after_class same = grind (arith, course_is)
 
   zero_after : Next → ((takes Right v w.tap).state.course.class ≡ None) ⊎ ((takes Right v w.tap).state.course.class ≡ Some Two)
   zero_after (goes_on a b right class line) = after_class class
@@ -609,25 +583,11 @@ module _ (local : Local) (w : Whole) (f : Followed local w) (sane : IsSane w.tap
       }
 
   lost_by : (i : ℕ) (x : Connection) → x.is_judged ≡ false → Next → Item i x → (is_open x.right.phase || is_closing x.right.phase) ≡ true
-  lost_by i x lost k (inr (other, there)) = f.lost i x there lost
-  lost_by i x lost (goes_on a b right class line) (inl (same, is)) =
-      ap (λ (y : Connection). is_open y.right.phase || is_closing y.right.phase) is ∙ right_there nxt b
-  lost_by i x lost (opened a silent b line row class) (inl (same, is)) =
-      ap (λ (y : Connection). is_open y.right.phase || is_closing y.right.phase) is ∙ right_there nxt b
-  lost_by i x lost (quiet a still dc) (inl (same, is)) =
-      ap (λ (y : Connection). is_open y.right.phase || is_closing y.right.phase) (is ∙ still)
-      ∙ f.lost t.q c t.at (ap (λ (y : Connection). y.is_judged) (sym (is ∙ still)) ∙ lost)
-  lost_by i x lost (gone a b silent none class there) (inl (same, is)) =
-      ap (λ (y : Connection). is_open y.right.phase || is_closing y.right.phase) is
-      ∙ there (ap (λ (y : Connection). y.is_judged) (sym is) ∙ lost)
+  lost_by i x lost k h = grind (arith, right_there)
 
   shut_by : w.end.ended ≡ None → (i : ℕ) (x : Connection) → is_open x.left.phase ≡ false →
       value_at x.left.reference w.end.live ≡ Some asked → Item i x → ⊥
-  shut_by lasts i x closed row (inr (other, there)) = f.shut lasts i x there closed row
-  shut_by lasts i x closed row (inl (same, is)) =
-      let left : x.left ≡ c.left = ap (λ (y : Connection). y.left) is ∙ nxt_left in
-      f.shut lasts t.q c t.at (ap (λ (h : Half). is_open h.phase) (sym left) ∙ closed)
-      (ap (λ (h : Half). value_at h.reference w.end.live) (sym left) ∙ row)
+  shut_by lasts i x closed row h = grind (arith, nxt_left)
 
   pub other_passes : Followed local after
   other_passes = record {

@@ -2,10 +2,10 @@
 -- connection which has lost its judgement. For the law on a whole end.
 use Rattle.osi_fair.proofs.Vocabulary.{Right, arith, [], ap, Bool, false, if◌then◌else◌, inl, inr, List, None, Option, refl, set, Some}
 use Rattle.osi_fair.proofs.Vocabulary.{subst, sym, true, ℕ, ◌++◌, ◌∙◌, ◌∷◌, ◌≡◌, ◌⊎◌, eq-eqb, AllByRecursion, position, slice_get, ◌&&◌}
-use Rattle.osi_fair.proofs.Vocabulary.{◌==◌, Connect, destination_of, disconnected, request, Value, Class, Two, Local, is_applied}
-use Rattle.osi_fair.proofs.Vocabulary.{reach_of, is_named, is_over, is_over_by, is_silent, class_for, connection_after, found, found_on}
-use Rattle.osi_fair.proofs.Vocabulary.{one_told, Outcome, route, route_in, Traffic, takes, uses_source, Connection, Course, Left, Finding}
-use Rattle.osi_fair.proofs.Vocabulary.{Kept, NotJudged, Named, after_finding, finding_of, Line, unit as passing, Whole, has_broken}
+use Rattle.osi_fair.proofs.Vocabulary.{◌==◌, Connect, destination_of, disconnected, request, Value, Class, Two, Local, is_named, is_over}
+use Rattle.osi_fair.proofs.Vocabulary.{is_over_by, is_silent, found, found_on, one_told, route, route_in, Traffic, takes, uses_source}
+use Rattle.osi_fair.proofs.Vocabulary.{Connection, Course, Left, Kept, NotJudged, Named, after_finding, finding_of, Line, unit as passing}
+use Rattle.osi_fair.proofs.Vocabulary.{Whole}
 use Rattle.osi_fair.specs.Lines.{passes_own}
 use Rattle.osi_fair.proofs.small_facts_that_many_lemmas_use.{and_false, both, name_so, no_list, number_is}
 use Rattle.osi_fair.proofs.a_unit_of_a_whole_end_passes.{name_first, own_kept, own_passes, own_peers, put_first, row_same}
@@ -39,9 +39,7 @@ module _ (u : Value) (s : Traffic) (n p : ℕ) (c : Connection) (left : s.course
     (first : position (is_named Left n) s.connections ≡ Some p) (at : slice_get s.connections p ≡ Some c)
     (lost : c.is_judged ≡ false) where
   routed_so : route Left s.course u ≡ Named n
-  routed_so =
-      let broke = has_broken Right s.course in
-      ap (λ (k : Option Class). route_in k Left broke u) class ∙ route_by broke u n dest
+  routed_so = grind (arith, route_by)
 
   takes_so : takes Left u s ≡ one_told Left p c u s
   takes_so = grind (arith, routed_so)
@@ -50,13 +48,7 @@ module _ (u : Value) (s : Traffic) (n p : ℕ) (c : Connection) (left : s.course
   found_so = ap (λ (b : Bool). if b then found Left s.course (uses_source Left s.connections u) c u else NotJudged) lost
 
   pub lost_ignored : IsIgnored u s
-  lost_ignored = record {
-    found = ap (λ (o : Outcome). o.told.finding) takes_so ∙ found_so;
-    same = ap (λ (o : Outcome). o.state.connections) takes_so
-        ∙ ap (λ (f : Finding). set s.connections p (connection_after Left u (is_applied f) (reach_of (class_for Left s.course) f) c))
-        found_so
-        ∙ set_same s.connections p c at;
-  }
+  lost_ignored = grind (arith, takes_so, found_so, set, set_same)
 
 -- ---- at the end
 
@@ -83,8 +75,7 @@ module _ (local : Local) (w : Whole) (f : Followed local w) (sane : IsSane w.tap
 
     spares_on : (spare : List Value) → AllByRecursion (IsSpare strays g.r g.peer) spare →
         AllByRecursion (IsSpare course.strays g.r g.peer) spare
-    spares_on spare h = all_so (IsSpare strays g.r g.peer) (IsSpare course.strays g.r g.peer) spare
-        (λ v k. record { is = k.is; strays = strays_on k.strays }) h
+    spares_on spare h = grind (arith, all_so, strays_on)
 
     -- a spare DC
     module _ (none : g.line.put ≡ []) where
@@ -118,8 +109,7 @@ module _ (local : Local) (w : Whole) (f : Followed local w) (sane : IsSane w.tap
       parts = put_first local w f sane peers u (ours g.r g.peer rest) g.line.put g.spare ours_so_far (put_some v vs g.spare g.line.put some)
 
       line_begun : g.line.begun ≡ true
-      line_begun = g.begun_is (put_some v vs g.spare g.line.put some)
-          ∙ ap (λ (l : List Value). w.begun && leads (is_ours g.r g.peer) l) e ∙ both w.begun (is_ours g.r g.peer u) begun mine
+      line_begun = grind (arith, put_some, leads, is_ours, both)
 
       abbrev line_after : Line
       line_after = record g.line {
@@ -129,9 +119,7 @@ module _ (local : Local) (w : Whole) (f : Followed local w) (sane : IsSane w.tap
       }
 
       tap_after : line_after.tap ≡ c
-      tap_after =
-          ap (λ (x : Connection). after_finding Left (finding_of Left w.tap.course false x u) u x) g.tap
-          ∙ ap (λ (b : Bool). after_finding Left (if b then found Left w.tap.course false c u else NotJudged) u c) lost
+      tap_after = grind arith
 
       pop_put : Following local rest false course.strays w.end w.coming c
       pop_put = record {

@@ -143,9 +143,7 @@ module _ (local : Local) (w : Whole) (f : Followed local w) (sane : IsSane w.tap
       (is_over local w f (react u w.end) later h
       (λ r dcs. kept_early (names r u) u (those r later) (subst (λ (l : List Value). AllByRecursion IsDc (those r l)) e dcs))
       (few_later u later e) (unit_gives u w.end))
-  takes_by false u later h e was live_dr selects =
-      let lasts = no_end (react u w.end).ended h in
-      end_takes local w f sane peers offers orderly local_is (was lasts) u later e lasts (live_dr (was lasts)) selects
+  takes_by false u later h e was live_dr selects = search (arith, no_end, end_takes)
 
   pub whole_takes : (u : Value) (later : List Value) → w.coming ≡ u ∷ later → ((react u w.end).ended ≡ None → w.end.ended ≡ None) →
       (w.end.ended ≡ None → IsDr u → (m : ℕ) → closed_by u ≡ Some m → IsLive w.end m ⊎ (w.tap.course.strays ≡ true)) → SelectsTwo w.end u →

@@ -1,14 +1,13 @@
 -- The user of a whole calling end makes a call: what it does to an open connection is acts of its line, and a CR waits to pass.
 -- For the law on a whole end.
 use Rattle.osi_fair.proofs.Vocabulary.{Right, [], ap, arith, Bool, false, if◌then◌else◌, inl, inr, is_some, length, List, None, Option}
-use Rattle.osi_fair.proofs.Vocabulary.{refl, Some, subst, sym, true, ℕ, ◌++◌, ◌+◌, ◌∙◌, ◌∷◌, ◌≡◌, ◌≤◌, eqb-true, append-nil}
-use Rattle.osi_fair.proofs.Vocabulary.{AllByRecursion, slice_get, ◌==◌, window_units, confirm, Connect, destination_of, request, Value}
-use Rattle.osi_fair.proofs.Vocabulary.{longest_tsdu, Standing, with_tsdu, Class, Two, Local, push_other, put_other, beyond, push_here}
-use Rattle.osi_fair.proofs.Vocabulary.{put_here, asks as asks_for, closed_on, closed_with, closes_in, ended_by, link_of, open_link, sent}
-use Rattle.osi_fair.proofs.Vocabulary.{sent_all, proposal, proposal_by, proposes_two, IsOrderly, pumped, value_at, breaks, closes_call}
-use Rattle.osi_fair.proofs.Vocabulary.{connects, sends, sends_all, user_does, UserCall, asked, closing, Live, ends as ends_as, linked}
-use Rattle.osi_fair.proofs.Vocabulary.{EndReason, asked_by, Connection, Left, Half, Follows, link_now, Line, opened_half, put_closing}
-use Rattle.osi_fair.proofs.Vocabulary.{put_sent, put_together, MayCall, Whole}
+use Rattle.osi_fair.proofs.Vocabulary.{refl, Some, subst, sym, true, ℕ, ◌++◌, ◌+◌, ◌∙◌, ◌∷◌, ◌≡◌, ◌≤◌, eqb-true, append-nil, AllByRecursion}
+use Rattle.osi_fair.proofs.Vocabulary.{slice_get, ◌==◌, confirm, Connect, destination_of, request, Value, longest_tsdu, Standing, with_tsdu}
+use Rattle.osi_fair.proofs.Vocabulary.{Class, Two, Local, push_other, put_other, beyond, push_here, put_here, asks as asks_for, closed_on}
+use Rattle.osi_fair.proofs.Vocabulary.{closed_with, closes_in, ended_by, link_of, open_link, sent, sent_all, proposal, proposal_by}
+use Rattle.osi_fair.proofs.Vocabulary.{proposes_two, IsOrderly, pumped, value_at, breaks, closes_call, connects, sends, sends_all}
+use Rattle.osi_fair.proofs.Vocabulary.{user_does, UserCall, asked, closing, Live, linked, EndReason, Connection, Left, Half, Follows}
+use Rattle.osi_fair.proofs.Vocabulary.{link_now, Line, put_closing, put_sent, put_together, MayCall, Whole}
 use Rattle.osi_carrier.specs.Calls.{sent_on}
 use Rattle.osi_carrier.specs.State.{State}
 use Rattle.osi_fair.proofs.small_facts_that_many_lemmas_use.{differ, some_same as item_is}
@@ -52,14 +51,11 @@ module _ (local : Local) (w : Whole) (f : Followed local w) (sane : IsSane w.tap
 
   -- an open connection awaits no CC
   none_asked : Linked n peer t → value_at n t.live ≡ Some asked → ⊥
-  none_asked (still l there) h = cc (sym there ∙ h)
-  none_asked (ends o there i (inl e)) h = cc (sym e ∙ sym there ∙ h)
-  none_asked (ends o there i (inr e)) h = cc (sym e ∙ sym there ∙ h)
+  none_asked h h2 = grind arith
 
   -- what awaits its CC now did so before
   was_asked : (m : ℕ) (b : Bool) → (m == n) ≡ b → value_at m t.live ≡ Some asked → value_at m w.end.live ≡ Some asked
-  was_asked m true e row = absurd (none_asked after_row (ap (λ (i : ℕ). value_at i t.live) (sym (eqb-true m n e)) ∙ row))
-  was_asked m false e row = sym (rows m (unlike m n e)) ∙ row
+  was_asked m b e row = grind (arith, none_asked, eqb-true, unlike)
 
   not_asked : (m : ℕ) → value_at m w.end.live ≡ Some asked → m ≡ n → ⊥
   not_asked m row same = cc (sym here ∙ ap (λ (i : ℕ). value_at i w.end.live) (sym same) ∙ row)
@@ -124,12 +120,9 @@ module _ (local : Local) (w : Whole) (f : Followed local w) (sane : IsSane w.tap
       Row local w.end w.coming g.r g.peer g.line → Grown c
   grown_by p c at g same (over h) = differ (is_some w.end.ended) h (ap is_some was)
   grown_by p c at g same (talks l r is come_all) = grows p c at g same l r is come_all
-  grown_by p c at g same (asks r x source two early dcs first is) =
-      absurd (cc (sym here ∙ ap (λ (i : ℕ). value_at i w.end.live) (sym same) ∙ r))
-  grown_by p c at g same (closes o r i (inl h) gone come_all) =
-      absurd (cc (sym here ∙ ap (λ (i : ℕ). value_at i w.end.live) (sym same) ∙ r ∙ h))
-  grown_by p c at g same (closes o r i (inr h) gone come_all) =
-      absurd (cc (sym here ∙ ap (λ (i : ℕ). value_at i w.end.live) (sym same) ∙ r ∙ h))
+  grown_by p c at g same (asks r x source two early dcs first is) = grind arith
+  grown_by p c at g same (closes o r i (inl h) gone come_all) = grind arith
+  grown_by p c at g same (closes o r i (inr h) gone come_all) = grind arith
 
   owner : Owner w.tap n units
   owner =
@@ -138,16 +131,11 @@ module _ (local : Local) (w : Whole) (f : Followed local w) (sane : IsSane w.tap
       record { p = p; c = c; at = at; tracked = tracked; left = left; own = (grown_by p c at g (sym g.left ∙ left) g.row).own }
 
   same_left : (p : ℕ) (c : Connection) → slice_get cs p ≡ Some c → (o : Owner w.tap n units) → p ≡ o.p → c.left.reference ≡ n
-  same_left p c at o same =
-      let is : c ≡ o.c = item_is o.c c (sym o.at ∙ ap (λ (i : ℕ). slice_get cs i) (sym same) ∙ at) in
-      ap (λ (x : Connection). x.left.reference) is ∙ o.left
+  same_left p c at o same = grind (arith, item_is)
 
   put_other_peer : (p : ℕ) (c : Connection) → slice_get cs p ≡ Some c → is_tracked c ≡ true → (r q : ℕ) → c.right.reference ≡ q →
       (c.left.reference ≡ n → ⊥) → (o : Owner w.tap n units) → ours r q (w.put ++ units) ≡ ours r q w.put
-  put_other_peer p c at tracked r q right other o =
-      picked_join (is_ours r q) w.put units ∙ ap (λ (l : List Value). ours r q w.put ++ l) (none_ours r n o.c.right.reference q units
-      (λ same. other (same_left p c at o (one_peer w.tap sane peers p o.p c o.c at o.at tracked o.tracked (right ∙ sym same)))) o.own)
-      ∙ append-nil (ours r q w.put)
+  put_other_peer p c at tracked r q right other o = search (arith, picked_join, is_ours, ours, none_ours, same_left, one_peer, append-nil)
 
   row_other : (r q : ℕ) (line : Line) → (r ≡ n → ⊥) → Row local w.end w.coming r q line → Row local t w.coming r q line
   row_other r q line other (asks there x source two early dcs first is) =
@@ -170,16 +158,10 @@ module _ (local : Local) (w : Whole) (f : Followed local w) (sane : IsSane w.tap
 
   linked_by : (m q : ℕ) (l : Standing) (b : Bool) → (m == n) ≡ b → value_at m t.live ≡ Some (linked q l) →
       Tracked cs m × (t.class ≡ Some Two)
-  linked_by m q l true e h =
-      let (k, two) = f.linked was n peer link here in (subst (Tracked cs) (sym (eqb-true m n e)) k, class ∙ two)
-  linked_by m q l false e h =
-      let (k, two) = f.linked was m q l (sym (rows m (unlike m n e)) ∙ h) in (k, class ∙ two)
+  linked_by m q l b e h = grind (arith, eqb-true, unlike)
 
   answered_so : IsAnswered w.end n
-  answered_so = record {
-    up = given_by n w.end.given w.end.live (linked peer link) orderly.up_to here;
-    row = λ h. absurd (cc (sym here ∙ h));
-  }
+  answered_so = grind (arith, given_by)
 
   puts : Puts w.tap w.end n units
   puts = of_line owner answered_so
@@ -244,8 +226,7 @@ module _ (local : Local) (w : Whole) (f : Followed local w) (sane : IsSane w.tap
 
 source_so : (b : Bool) (local : Local) (held : Option Class) (calling called : Option (List ℕ)) (r : ℕ) →
     (proposal_by b local held calling called r).source ≡ r
-source_so true local held calling called r = refl
-source_so false local held calling called r = refl
+source_so b local held calling called r = grind arith
 
 same_request : (x y : Connect) → request x ≡ request y → y ≡ x
 same_request x y e = cc
@@ -293,10 +274,7 @@ module _ (local : Local) (w : Whole) (f : Followed local w) (sane : IsSane w.tap
   row_c m q line other (closes o there i h is come_all) = closes o (rows_c m other ∙ there) i h is come_all
 
   not_new : (p : ℕ) (c : Connection) → slice_get w.tap.connections p ≡ Some c → (m : ℕ) → c.left.reference ≡ m → m ≡ r → ⊥
-  not_new p c at m is same =
-      let below = newer.below p c at in
-      let last = newer.given in
-      omega arith
+  not_new p c at m is same = grind arith
 
   line_c : (p : ℕ) (c : Connection) → slice_get w.tap.connections p ≡ Some c →
       Following local w.put w.begun w.tap.course.strays s w.coming c →
@@ -306,12 +284,10 @@ module _ (local : Local) (w : Whole) (f : Followed local w) (sane : IsSane w.tap
 
   -- only a DC may have come for a reference that was not given
   dc_by : (v : Value) (b : Bool) → is_dc v ≡ b → AreGiven s.given v → destination_of v ≡ Some r → is_dc v ≡ true
-  dc_by v true e h named = e
-  dc_by v false e h named = let up = h e r named in absurd (omega arith)
+  dc_by v b e h named = grind arith
 
   early_come : AllByRecursion IsDc (those r w.coming)
-  early_come = each_picked IsDc (names r) w.coming (all_so (AreGiven s.given) (λ v. names r v ≡ true → IsDc v) w.coming
-      (λ v h named. dc_by v (is_dc v) refl h (named_is (destination_of v) r named)) f.few)
+  early_come = grind (arith, each_picked, names, all_so, dc_by, is_dc, named_is)
 
   too_low : (source : ℕ) (y : Connect) → y.source ≡ r → y.source ≡ source → source ≤ s.given → ⊥
   too_low source y new same low = absurd (omega arith)
@@ -319,32 +295,14 @@ module _ (local : Local) (w : Whole) (f : Followed local w) (sane : IsSane w.tap
   -- no DC that is to pass has the new reference
   settled_c : (v : Value) → AreSettled w.tap.connections w.put s.given v →
       AreSettled w.tap.connections (w.put ++ request x ∷ []) t.given v
-  settled_c v h m source e =
-      let k = h m source e in
-      let before = k.up in
-      record {
-        up = omega arith;
-        waits = k.waits;
-        asks = all_join (λ (u : Value). (y : Connect) → u ≡ request y → y.source ≡ source → ⊥) w.put (request x ∷ []) k.asks
-            (λ y is same. too_low source y (ap (λ (z : Connect). z.source) (same_request x y is) ∙ source_is) same before, tt);
-      }
+  settled_c v h m source e = grind (arith, all_join, too_low, same_request, source_is)
 
   linked_c : (m q : ℕ) (l : Standing) (b : Bool) → (m == r) ≡ b → value_at m t.live ≡ Some (linked q l) →
       Tracked w.tap.connections m × (s.class ≡ Some Two)
-  linked_c m q l true e h = absurd (cc (sym here_c ∙ ap (λ (i : ℕ). value_at i t.live) (sym (eqb-true m r e)) ∙ h))
-  linked_c m q l false e h = f.linked was m q l (sym (rows_c m (unlike m r e)) ∙ h)
+  linked_c m q l b e h = grind (arith, here_c, eqb-true, rows_c, unlike)
 
   new_asking : (y : Connect) → request x ≡ request y → IsAsking local t w.coming y
-  new_asking y e =
-      let first : (asked_by x).left ≡ opened_half x.source (window_units local.window) =
-      asked_so s.local s.class calling called r offers.two
-      ∙ ap (λ (i : ℕ). opened_half i (window_units s.local.window)) (sym source_is)
-      ∙ ap (λ (l : Local). opened_half x.source (window_units l.window)) local_is in
-      subst (λ (z : Connect). IsAsking local t w.coming z) (sym (same_request x y e)) (record {
-        left = first;
-        early = subst (λ (i : ℕ). AllByRecursion IsDc (those i w.coming)) (sym source_is) early_come;
-        row = λ lasts. ap (λ (i : ℕ). value_at i t.live) source_is ∙ here_c;
-      })
+  new_asking y e = grind (arith, asked_so, source_is, same_request, those, early_come, here_c)
 
   -- no CC has come for the new reference
   answer_new : (v : Value) → IsAnswer w.tap.course.loose w.tap.connections s v → AreGiven s.given v → (m : ℕ) (y : Connect) →
@@ -406,27 +364,21 @@ module _ (local : Local) (w : Whole) (f : Followed local w) (sane : IsSane w.tap
 -- it has no effect
 pub nothing_so : (local : Local) (w : Whole) (t : State) (units : List Value) → t ≡ w.end → units ≡ [] → Followed local w →
     Followed local (record w { end = t; put = w.put ++ units })
-nothing_so local w t units same none f =
-    subst (λ (l : List Value). Followed local (record w { end = t; put = l }))
-    (sym (ap (λ (l : List Value). w.put ++ l) none ∙ append-nil w.put))
-    (subst (λ (e : State). Followed local (record w { end = e })) (sym same) f)
+nothing_so local w t units same none f = grind (arith, append-nil)
 
 linked_of : (b : Bool) (o : Option Live) (peer : ℕ) (link : Standing) → (if b then None else link_of o) ≡ Some (peer, link) →
     o ≡ Some (linked peer link)
-linked_of true o peer link e = cc
-linked_of false o peer link e = row_of o peer link e
+linked_of b o peer link e = grind (arith, row_of)
 
 class_sent : (r : ℕ) (tsdu : List ℕ) (o : Option (ℕ × Standing)) (s : State) → (sent_on r tsdu o s).class ≡ s.class
-class_sent r tsdu None s = refl
-class_sent r tsdu (Some (peer, link)) s = refl
+class_sent r tsdu o s = grind arith
 
 class_all : (r : ℕ) (tsdus : List (List ℕ)) (s : State) → (sent_all r tsdus s).class ≡ s.class
 class_all r [] s = refl
 class_all r (tsdu ∷ tsdus) s = class_all r tsdus (sent r tsdu s) ∙ class_sent r tsdu (open_link r s) s
 
 broken : {A : Type 0} (reason : EndReason) (s : State) → s.ended ≡ None → (ended_by reason s).ended ≡ None → A
-broken reason s was h =
-    absurd (cc (sym (ap (λ (b : Bool). (if b then s else ends_as reason s).ended) (ap is_some was)) ∙ h))
+broken reason s was h = grind arith
 
 module _ (local : Local) (w : Whole) (f : Followed local w) (sane : IsSane w.tap) (peers : AreNamedApart Right w.tap.connections)
     (newer : Newer w) (offers : OffersTwo w.end) (orderly : IsOrderly w.end) (local_is : w.end.local ≡ local)
@@ -463,8 +415,7 @@ module _ (local : Local) (w : Whole) (f : Followed local w) (sane : IsSane w.tap
 
   closed_two : (r reason peer : ℕ) (link : Standing) → open_link r w.end ≡ Some (peer, link) → w.end.class ≡ Some Two →
       closed_with r reason w.end ≡ closes_in r peer reason (Some Two) w.end
-  closed_two r reason peer link e two =
-      ap (λ (o : Option (ℕ × Standing)). closed_on r reason o w.end) e ∙ ap (λ (k : Option Class). closes_in r peer reason k w.end) two
+  closed_two r reason peer link e two = grind arith
 
   closes_by : (r reason : ℕ) (o : Option (ℕ × Standing)) → open_link r w.end ≡ o → Followed local (after_calling w (closes_call r reason))
   closes_by r reason None e =

@@ -79,9 +79,7 @@ module _ (local : Local) (w : Whole) (f : Followed local w) (sane : IsSane w.tap
   AskedBefore = value_at n t.live ≡ Some asked → value_at n s.live ≡ Some asked
 
   all : AskedBefore → Mine → MineLinked → Puts w.tap s n units → Followed local after
-  all asked_was mine linked_mine owner =
-      taken_so local w f sane peers t units u later n come k.dest rows class_so (unit_gives u s) was asked_dc asked_was mine linked_mine
-      owner
+  all asked_was mine linked_mine owner = search (arith, taken_so, rows, class_so, unit_gives, asked_dc)
 
   not_asked : (o : Option Live) → value_at n t.live ≡ o → (o ≡ Some asked → ⊥) → AskedBefore
   not_asked o there none h = absurd (none (sym there ∙ h))
@@ -128,10 +126,8 @@ module _ (local : Local) (w : Whole) (f : Followed local w) (sane : IsSane w.tap
       value_at n t.live ≡ new → (q : ℕ) → (new ≡ Some (closing q)) ⊎ (new ≡ None) → (c : Connection)
       (g : Following local w.put w.begun strays s w.coming c) → g.r ≡ n → Row local s w.coming g.r g.peer g.line →
       Following local (w.put ++ units) w.begun strays t later c
-  closed_row spares old new here p a there q b c g same (asks r x source two early dcs first is) =
-      not_open old p asked a (sym here ∙ ap (λ (i : ℕ). value_at i s.live) (sym same) ∙ r) refl
-  closed_row spares old new here p a there q b c g same (talks link r is come_all) =
-      not_open old p (linked g.peer link) a (sym here ∙ ap (λ (i : ℕ). value_at i s.live) (sym same) ∙ r) refl
+  closed_row spares old new here p a there q b c g same (asks r x source two early dcs first is) = grind (arith, not_open)
+  closed_row spares old new here p a there q b c g same (talks link r is come_all) = grind (arith, not_open)
   closed_row spares old new here p a there q b c g same (over h) = differ (is_some s.ended) h (ap is_some was)
   closed_row spares old new here p a there q b c g same (closes o r i h gone come_all) =
       let (more, (puts, all_spare)) = spares g.r g.peer same in
@@ -154,14 +150,7 @@ module _ (local : Local) (w : Whole) (f : Followed local w) (sane : IsSane w.tap
           (record { is = dc_is m n r peer named same; strays = stray_now }, tt),
         ),
       )
-  dc_by m is stray_now r peer same false h = (
-    [],
-    (
-      ap (λ (l : List Value). ours r peer (w.put ++ l)) is ∙ picked_other (is_ours r peer) w.put (disconnected m n) h
-          ∙ sym (append-nil (ours r peer w.put)),
-      tt,
-    ),
-  )
+  dc_by m is stray_now r peer same false h = grind (arith, ours, picked_other, is_ours, append-nil)
 
   dc_spares : (m : ℕ) → units ≡ disconnected m n ∷ [] → strays ≡ true → Spares
   dc_spares m is stray_now r peer same = dc_by m is stray_now r peer same (is_ours r peer (disconnected m n)) refl
@@ -224,12 +213,9 @@ module _ (local : Local) (w : Whole) (f : Followed local w) (sane : IsSane w.tap
       (c : Connection) (g : Following local w.put w.begun strays s w.coming c) → g.r ≡ n → Row local s w.coming g.r g.peer g.line →
       Following local (w.put ++ units) w.begun strays t later c
   opened_row none x e here there c g same (over h) = differ (is_some s.ended) h (ap is_some was)
-  opened_row none x e here there c g same (talks link r is come_all) =
-      absurd (cc (sym here ∙ ap (λ (i : ℕ). value_at i s.live) (sym same) ∙ r))
-  opened_row none x e here there c g same (closes o r i (inl h) gone come_all) =
-      absurd (cc (sym here ∙ ap (λ (i : ℕ). value_at i s.live) (sym same) ∙ r ∙ h))
-  opened_row none x e here there c g same (closes o r i (inr h) gone come_all) =
-      absurd (cc (sym here ∙ ap (λ (i : ℕ). value_at i s.live) (sym same) ∙ r ∙ h))
+  opened_row none x e here there c g same (talks link r is come_all) = grind arith
+  opened_row none x e here there c g same (closes o r i (inl h) gone come_all) = grind arith
+  opened_row none x e here there c g same (closes o r i (inr h) gone come_all) = grind arith
   opened_row none x e here there c g same (asks r y source two early dcs first is) =
       let (first_so, coming) = (early_parts early u (confirm g.r y) (those n later) g.line.coming dcs (sym (first_n g.r same) ∙ first)).1
       (ap is_dc e) in
@@ -253,12 +239,9 @@ module _ (local : Local) (w : Whole) (f : Followed local w) (sane : IsSane w.tap
       (g : Following local w.put w.begun strays s w.coming c) → g.r ≡ n → Row local s w.coming g.r g.peer g.line →
       Following local (w.put ++ units) w.begun strays t later c
   early_row none dc here there c g same (over h) = differ (is_some s.ended) h (ap is_some was)
-  early_row none dc here there c g same (talks link a is come_all) =
-      absurd (cc (sym here ∙ ap (λ (i : ℕ). value_at i s.live) (sym same) ∙ a))
-  early_row none dc here there c g same (closes o a i (inl h) gone come_all) =
-      absurd (cc (sym here ∙ ap (λ (i : ℕ). value_at i s.live) (sym same) ∙ a ∙ h))
-  early_row none dc here there c g same (closes o a i (inr h) gone come_all) =
-      absurd (cc (sym here ∙ ap (λ (i : ℕ). value_at i s.live) (sym same) ∙ a ∙ h))
+  early_row none dc here there c g same (talks link a is come_all) = grind arith
+  early_row none dc here there c g same (closes o a i (inl h) gone come_all) = grind arith
+  early_row none dc here there c g same (closes o a i (inr h) gone come_all) = grind arith
   early_row none dc here there c g same (asks a y source two early dcs first is) =
       let (more, (more_dcs, rest)) = (early_parts early u (confirm g.r y) (those n later) g.line.coming dcs
       (sym (first_n g.r same) ∙ first)).0 dc refl in
@@ -270,8 +253,7 @@ module _ (local : Local) (w : Whole) (f : Followed local w) (sane : IsSane w.tap
       ((subst (AllByRecursion (λ (v : Value). IsAnswer w.tap.course.loose cs s v)) come f.answers).0 n x e was (inl here)).0
 
   head_selects : value_at n s.live ≡ Some asked → Selects u
-  head_selects here m x e =
-      selects was m x e (ap (λ (i : ℕ). value_at i s.live) (same_number m n (sym (ap destination_of e) ∙ k.dest)) ∙ here)
+  head_selects here m x e = grind (arith, same_number)
 
   by_asked : value_at n s.live ≡ Some asked → units ≡ [] → Asks n u s t → Followed local after
   by_asked here none (opened x e there two) =
@@ -359,9 +341,7 @@ module _ (local : Local) (w : Whole) (f : Followed local w) (sane : IsSane w.tap
 
   -- an open connection awaits no CC after it
   still_open : {peer : ℕ} → Linked n peer t → AskedBefore
-  still_open (still link there) = not_asked _ there (λ e. cc e)
-  still_open (ends o there q (inl h)) = not_asked o there (λ e. cc (sym h ∙ e))
-  still_open (ends o there q (inr h)) = not_asked o there (λ e. cc (sym h ∙ e))
+  still_open h = grind (arith, not_asked)
 
   at_linked : (peer : ℕ) (link : Standing) → value_at n s.live ≡ Some (linked peer link) → Followed local after
   at_linked peer link here =
@@ -391,17 +371,7 @@ end_takes local w f sane peers offers orderly local_is was u later come lasts li
 module _ (local : Local) (w : Whole) (u : Value) (later : List Value) (come : w.coming ≡ u ∷ later) (lasts : w.end.ended ≡ None) (m : ℕ)
     (x : Connect) (e : u ≡ confirm m x) (row : value_at m w.end.live ≡ Some asked) where
   two_by : (r peer : ℕ) (line : Line) → r ≡ m → Row local w.end w.coming r peer line → (x.class == 2) ≡ true
-  two_by r peer line same (over h) = differ (is_some w.end.ended) h (ap is_some lasts)
-  two_by r peer line same (talks link there is all) = absurd (cc (sym row ∙ ap (λ (i : ℕ). value_at i w.end.live) (sym same) ∙ there))
-  two_by r peer line same (closes o there q (inl h) gone all) =
-      absurd (cc (sym row ∙ ap (λ (i : ℕ). value_at i w.end.live) (sym same) ∙ there ∙ h))
-  two_by r peer line same (closes o there q (inr h) gone all) =
-      absurd (cc (sym row ∙ ap (λ (i : ℕ). value_at i w.end.live) (sym same) ∙ there ∙ h))
-  two_by r peer line same (asks there y source two early dcs first is) =
-      let named = named_so r u (ap destination_of e ∙ ap (λ (i : ℕ). Some i) (sym same)) in
-      let head : those r w.coming ≡ u ∷ those r later = ap (λ (l : List Value). those r l) come ∙ picked_first (names r) u later named in
-      let (is_first, rest) = (early_parts early u (confirm r y) (those r later) line.coming dcs (sym head ∙ first)).1 (ap is_dc e) in
-      ap (λ (z : Connect). z.class == 2) (same_cc m r x y (sym e ∙ is_first)) ∙ two
+  two_by r peer line same h = grind (arith, differ, named_so, those, picked_first, names, early_parts, is_dc, same_cc)
 
 -- it selects class 2
 pub next_selects : (local : Local) (w : Whole) → Followed local w → (u : Value) (later : List Value) → w.coming ≡ u ∷ later →

@@ -1,14 +1,12 @@
 -- While no side has broken a rule for which a connection is not judged any more, each is judged, and a name has one place.
 -- For the law on places.
-use Rattle.osi_fair.proofs.Vocabulary.{arith}
-use Rattle.osi_fair.proofs.Vocabulary.{[], ap, Bool, false, if◌then◌else◌, List, None, Option, refl, Some, sym, true, ℕ, ◌∙◌, ◌∷◌, ◌≡◌}
-use Rattle.osi_fair.proofs.Vocabulary.{position_or_len, position, slice_get, Connect, request, Value, is_applied}
-use Rattle.osi_fair.proofs.Vocabulary.{reach_of, first_failed, begins, is_free, is_live, is_named, asked_by, asks_by, asks_kept}
-use Rattle.osi_fair.proofs.Vocabulary.{asks_of, at_found, at_place, class_for, connection_after, course_after, course_after_none}
-use Rattle.osi_fair.proofs.Vocabulary.{course_begins, found_on, fresh, is_stopped, judged_on, none_told, one_told, Outcome}
-use Rattle.osi_fair.proofs.Vocabulary.{reached, refused_reach, request_tests, route, routed, Traffic as State}
-use Rattle.osi_fair.proofs.Vocabulary.{unnamed_told, Connection, Course, Direction, Finding, Kept, NotJudged, Reach, Half}
-use Rattle.osi_fair.proofs.Vocabulary.{Route, Asks, Named, Only, Unnamed, all_passed, packet, passes, Passing, rubbish, unit}
+use Rattle.osi_fair.proofs.Vocabulary.{arith, [], ap, Bool, false, if◌then◌else◌, List, None, Option, refl, Some, sym, true, ℕ, ◌∙◌, ◌∷◌}
+use Rattle.osi_fair.proofs.Vocabulary.{◌≡◌, position_or_len, position, slice_get, Connect, request, Value, is_applied, reach_of}
+use Rattle.osi_fair.proofs.Vocabulary.{first_failed, begins, is_live, is_named, asked_by, asks_by, asks_kept, asks_of, at_found, at_place}
+use Rattle.osi_fair.proofs.Vocabulary.{class_for, connection_after, course_after, course_after_none, course_begins, found_on, fresh}
+use Rattle.osi_fair.proofs.Vocabulary.{is_stopped, judged_on, none_told, one_told, Outcome, reached, refused_reach, request_tests, route}
+use Rattle.osi_fair.proofs.Vocabulary.{routed, Traffic as State, unnamed_told, Connection, Course, Direction, Finding, NotJudged, Reach}
+use Rattle.osi_fair.proofs.Vocabulary.{Half, Route, Asks, Named, Only, Unnamed, all_passed, packet, passes, Passing, rubbish, unit}
 use Rattle.osi_rules.specs.Sides.{sends}
 use Rattle.osi_fair.proofs.small_facts_that_many_lemmas_use.{begins_judged, sized_judged}
 use Rattle.osi_fair.proofs.what_holds_of_one_item.{HoldsOfEach, each_add, each_map, each_set, first_true}
@@ -82,8 +80,7 @@ placed_judged x s (Some p) a h = each_set IsJudged s.connections p (asked_by x) 
 placed_judged x s None a h = each_add IsJudged s.connections (asked_by x) (a h) refl
 
 asking : (d : Direction) (f : Finding) (x : Connect) (s : State) → AreJudged s → AreJudged (asks_by d f x s).state
-asking d Kept x s a = placed_judged x s (position is_free s.connections) a
-asking d v x s a = to_none d v s a
+asking d f x s a = search (arith, placed_judged, to_none)
 
 asks : (d : Direction) (v : Value) (s : State) → AreJudged s → AreJudged (asks_of d v s).state
 asks d (request x) s a = asking d (first_failed (request_tests s x)) x s a

@@ -14,7 +14,7 @@ use Rattle.osi_fair.proofs.what_an_end_does_to_a_line.{moves_hold, closes_hold, 
 use Rattle.osi_fair.proofs.what_passes_of_an_end.{begins_own_holds, begins_other_holds, elsewhere_holds, first_is, is_kept}
 use Rattle.osi_fair.proofs.what_passes_of_an_end.{passes_own_holds}
 use Rattle.osi_fair.proofs.what_each_unit_of_the_other_side_does.{passes_other_holds}
-use Rattle.osi_fair.proofs.Vocabulary.{if◌then◌else◌, NotJudged, finding_of}
+use Rattle.osi_fair.proofs.Vocabulary.{if◌then◌else◌, finding_of}
 
 -- ---- a connection that is judged was judged before
 
@@ -42,24 +42,18 @@ act_keeps r peer (moves move) old new (link, after, is, e, short, coming, new_is
     (h (sym (ap (λ (l : Line). l.tap.is_judged) new_is) ∙ judged))
 act_keeps r peer (closes reason units) old new (link, is, coming, new_is) h judged =
     closes_hold r peer reason units old new (link, is, coming, new_is) (h (sym (ap (λ (l : Line). l.tap.is_judged) new_is) ∙ judged))
-act_keeps r peer (ignores units) old new (none, coming, new_is) h judged =
-    ignores_hold r peer units old new (none, coming, new_is) (h (sym (ap (λ (l : Line). l.tap.is_judged) new_is) ∙ judged))
+act_keeps r peer (ignores units) old new (none, coming, new_is) h judged = grind (arith, ignores_hold)
 act_keeps r peer (answers unit) old new (link, is, dr, coming, new_is) h judged =
     answers_hold r peer unit old new (link, is, dr, coming, new_is) (h (sym (ap (λ (l : Line). l.tap.is_judged) new_is) ∙ judged))
-act_keeps r peer begins_own old new (some, idle, new_is) h judged =
-    begins_own_holds r peer old new (some, idle, new_is) (h (sym (ap (λ (l : Line). l.tap.is_judged) new_is) ∙ judged))
+act_keeps r peer begins_own old new (some, idle, new_is) h judged = grind (arith, begins_own_holds)
 act_keeps r peer (passes_own course in_use) old new (unit, first, begun, new_is) h judged =
     let still = sym (ap (λ (l : Line). l.tap.is_judged) new_is) ∙ judged in
     let was = was_judged Left (finding_of Left course in_use old.tap unit) unit old.tap still in
     passes_own_holds r peer course in_use old new (unit, first, begun, new_is) was (h was)
-act_keeps r peer begins_elsewhere old new (idle, new_is) h judged =
-    elsewhere_holds r peer old new (idle, new_is) (h (sym (ap (λ (l : Line). l.tap.is_judged) new_is) ∙ judged))
-act_keeps r peer begins_other old new new_is h judged =
-    begins_other_holds r peer old new new_is (h (sym (ap (λ (l : Line). l.tap.is_judged) new_is) ∙ judged))
+act_keeps r peer begins_elsewhere old new (idle, new_is) h judged = grind (arith, elsewhere_holds)
+act_keeps r peer begins_other old new new_is h judged = grind (arith, begins_other_holds)
 act_keeps r peer (passes_other course in_use unit) old new (range, named, some, new_is) h judged =
-    let still = sym (ap (λ (l : Line). l.tap.is_judged) new_is) ∙ judged in
-    let was = was_judged Right (finding_of Right course in_use old.tap unit) unit old.tap still in
-    passes_other_holds r peer course in_use unit old new (range, named, some, new_is) was judged (h was)
+    grind (arith, was_judged, passes_other_holds)
 
 pub all_keep : (r peer : ℕ) (acts : List Act) (old new : Line) → ActsAlong Left r peer old acts new → Keeps r peer old → Keeps r peer new
 all_keep r peer [] old new e h = subst (λ (l : Line). Keeps r peer l) (sym e) h
@@ -190,13 +184,7 @@ other_keeps : (r peer : ℕ) (course : Course) (in_use : Bool) (unit : Value) (o
 other_keeps r peer course in_use unit old new a h (inl e) judged =
     act_keeps r peer (passes_other (turned_course course) in_use unit) (turned_line old) (turned_line new)
     (other_turned r peer course in_use unit old new a e) h judged
-other_keeps r peer course in_use unit old new (range, named, some, new_is) h (inr e) judged =
-    let still = sym (ap (λ (l : Line). l.tap.is_judged) new_is) ∙ judged in
-    let was = was_judged Left (finding_of Left course in_use old.tap unit) unit old.tap still in
-    let wrong : finding_of Left course in_use old.tap unit ≡ Broke rule.WrongForm =
-    ap (λ (b : Bool). if b then found Left course in_use old.tap unit else NotJudged) was ∙ e in
-    let no = not_judged old.tap unit (finding_of Left course in_use old.tap unit) wrong in
-    absurd (cc)
+other_keeps r peer course in_use unit old new (range, named, some, new_is) h (inr e) judged = grind (arith, was_judged, not_judged)
 
 act_turned : (r peer : ℕ) (act : Act) (old new : Line) → Acts Right r peer act old new → Keeps r peer (turned_line old) →
     Keeps r peer (turned_line new)
@@ -204,8 +192,7 @@ act_turned r peer (moves move) old new (link, after, is, e, short, coming, new_i
     act_keeps r peer (moves move) (turned_line old) (turned_line new) (link, after, is, e, short, coming, ap turned_line new_is) h judged
 act_turned r peer (closes reason units) old new (link, is, coming, new_is) h judged =
     act_keeps r peer (closes reason units) (turned_line old) (turned_line new) (link, is, coming, ap turned_line new_is) h judged
-act_turned r peer (ignores units) old new (none, coming, new_is) h judged =
-    act_keeps r peer (ignores units) (turned_line old) (turned_line new) (none, coming, ap turned_line new_is) h judged
+act_turned r peer (ignores units) old new (none, coming, new_is) h judged = grind (arith, act_keeps)
 act_turned r peer (answers unit) old new (link, is, dr, coming, new_is) h judged =
     act_keeps r peer (answers unit) (turned_line old) (turned_line new) (link, is, dr, coming, ap turned_line new_is) h judged
 act_turned r peer begins_own old new (some, idle, new_is) h judged =
@@ -215,12 +202,10 @@ act_turned r peer (passes_own course in_use) old new (unit, first, begun, new_is
     let was = was_judged Right (finding_of Right course in_use old.tap unit) unit old.tap still in
     act_keeps r peer (passes_own course in_use) (turned_line old) (turned_line new)
     (own_turned r peer course in_use old new (unit, first, begun, new_is) was (h was)) h judged
-act_turned r peer begins_elsewhere old new (idle, new_is) h judged =
-    act_keeps r peer begins_elsewhere (turned_line old) (turned_line new) (idle, ap turned_line new_is) h judged
+act_turned r peer begins_elsewhere old new (idle, new_is) h judged = grind (arith, act_keeps)
 act_turned r peer begins_other old new new_is h judged =
     act_keeps r peer begins_other (turned_line old) (turned_line new) (ap turned_line new_is) h judged
-act_turned r peer (passes_other course in_use unit) old new a h judged =
-    other_keeps r peer course in_use unit old new a h (found_other course in_use old.tap unit) judged
+act_turned r peer (passes_other course in_use unit) old new a h judged = search (arith, other_keeps, found_other)
 
 pub all_turned : (r peer : ℕ) (acts : List Act) (old new : Line) → ActsAlong Right r peer old acts new → Keeps r peer (turned_line old) →
     Keeps r peer (turned_line new)

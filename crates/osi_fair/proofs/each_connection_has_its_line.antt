@@ -1,11 +1,11 @@
 -- Each connection of a calling end that is open at the tap has its line: what that says, and that it stays so as packets begin.
 -- For the law on a whole end.
-use Rattle.osi_fair.proofs.Vocabulary.{inl, inr, arith, [], ap, Bool, false, is_some, List, map, None, Option, option_map, refl, Some}
-use Rattle.osi_fair.proofs.Vocabulary.{subst, sym, true, ℕ, ◌++◌, ◌∙◌, ◌∷◌, ◌≡◌, ◌≢◌, ◌≤◌, ◌⊎◌, slice_get-map, AllByRecursion, slice_get}
-use Rattle.osi_fair.proofs.Vocabulary.{◌&&◌, ◌==◌, ◌||◌, window_units, confirm, Connect, destination_of, disconnected, request, Value}
-use Rattle.osi_fair.proofs.Vocabulary.{Standing, Class, Two, Local, agreed_size, opened_link, value_at, asked, closing, Live, linked}
-use Rattle.osi_fair.proofs.Vocabulary.{begins, is_closing, is_open, is_silent, asked_by, packet_begins, silent_half, Traffic, Connection}
-use Rattle.osi_fair.proofs.Vocabulary.{Direction, Left, Right, Half, Act, ActsAlong, begins_elsewhere, IsOpened, Line, opened_half, Whole}
+use Rattle.osi_fair.proofs.Vocabulary.{arith, [], ap, Bool, false, is_some, List, map, None, Option, option_map, refl, Some, subst, sym}
+use Rattle.osi_fair.proofs.Vocabulary.{true, ℕ, ◌++◌, ◌∙◌, ◌∷◌, ◌≡◌, ◌≢◌, ◌≤◌, ◌⊎◌, slice_get-map, AllByRecursion, slice_get, ◌&&◌, ◌==◌}
+use Rattle.osi_fair.proofs.Vocabulary.{◌||◌, window_units, confirm, Connect, destination_of, disconnected, request, Value, Standing, Class}
+use Rattle.osi_fair.proofs.Vocabulary.{Two, Local, agreed_size, opened_link, value_at, asked, closing, Live, linked, begins, is_closing}
+use Rattle.osi_fair.proofs.Vocabulary.{is_open, is_silent, asked_by, packet_begins, silent_half, Traffic, Connection, Direction, Left}
+use Rattle.osi_fair.proofs.Vocabulary.{Right, Half, Act, ActsAlong, begins_elsewhere, IsOpened, Line, opened_half, Whole}
 use Rattle.osi_carrier.specs.State.{State}
 use Rattle.osi_fair.specs.Lines.{begins_other, begins_own}
 use Rattle.osi_fair.proofs.small_facts_that_many_lemmas_use.{and_first, begins_judged, begun_left, begun_right, course_class, is_false}
@@ -27,12 +27,7 @@ pub record Tracks (r peer : ℕ) (line : Line) : Type 0 where
 
 pub tracks_on : (r peer : ℕ) (line after : Line) (more : List Act) → Tracks r peer line → ActsAlong Left r peer line more after →
     Tracks r peer after
-tracks_on r peer line after more t h = record {
-  first = t.first;
-  acts = t.acts ++ more;
-  opened = t.opened;
-  along = acts_join Left r peer t.acts more t.first line after t.along h;
-}
+tracks_on r peer line after more t h = grind (arith, acts_join Left r peer t.acts more t.first line after t.along h)
 
 pub tracks_hold : (r peer : ℕ) (line : Line) → Tracks r peer line → line.tap.is_judged ≡ true → Holds r peer line
 tracks_hold r peer line t judged = left_holds r peer t.first line t.acts t.opened t.along judged
@@ -300,8 +295,7 @@ course_loose d s = grind arith
 
 -- if none has lost its judgement, none had
 pub why_before : {A : Type 0} (was is : Bool) → (is ≡ false → was ≡ false) → A ⊎ (is ≡ false) → A ⊎ (was ≡ false)
-why_before was is firm (inl a) = inl a
-why_before was is firm (inr e) = inr (firm e)
+why_before was is firm h = grind arith
 
 tracked_begins : (d : Direction) (c : Connection) → is_tracked (begins d c) ≡ is_tracked c
 tracked_begins d c = grind arith
@@ -315,33 +309,13 @@ begun_seen d c r window e h = grind arith
 
 waits_begun : (local : Local) (d : Direction) (end : State) (coming : List Value) (c : Connection) → Waiting local end coming c →
     Waiting local end coming (begins d c)
-waits_begun local d end coming c w = record {
-  r = w.r;
-  left = begun_left d c ∙ w.left;
-  right = begun_right d c ∙ w.right;
-  seen = begun_seen d c w.r (window_units local.window) w.left w.seen;
-  early = w.early;
-  row = w.row;
-}
+waits_begun local d end coming c w = grind (arith, begun_left, begun_right, begun_seen)
 
 tracked_at : (d : Direction) (cs : List Connection) (r : ℕ) → Tracked cs r → Tracked (map (begins d) cs) r
-tracked_at d cs r (p, c, at, tracked, is) = (
-  p,
-  begins d c,
-  slice_get-map (begins d) cs p ∙ ap (λ (o : Option Connection). option_map (begins d) o) at,
-  tracked_begins d c ∙ tracked,
-  ap (λ (x : Half). x.reference) (begun_left d c) ∙ is,
-)
+tracked_at d cs r (p, c, at, tracked, is) = grind (arith, slice_get-map (begins d) cs p, tracked_begins d c, begun_left d c)
 
 tracked_was : (d : Direction) (cs : List Connection) (r : ℕ) → Tracked (map (begins d) cs) r → Tracked cs r
-tracked_was d cs r (p, c, at, tracked, is) =
-    let (x, was, so) = after_map (begins d) cs p c at in (
-      p,
-      x,
-      was,
-      sym (tracked_begins d x) ∙ ap is_tracked (sym so) ∙ tracked,
-      sym (ap (λ (h : Half). h.reference) (begun_left d x)) ∙ ap (λ (e : Connection). e.left.reference) (sym so) ∙ is,
-    )
+tracked_was d cs r (p, c, at, tracked, is) = grind (arith, after_map, tracked_begins, begun_left)
 
 owned_at : (d : Direction) (s : Traffic) (v : Value) → IsOwned s v → IsOwned (packet_begins d s) v
 owned_at d s v (asking x e) = asking x e

@@ -30,8 +30,7 @@ Among xs (v ∷ ys) = (IsDc v × Among xs ys) ⊎ ((zs : List Value) × (xs ≡ 
 pub among_more : (xs ys : List Value) (v : Value) → Among xs ys → Among (xs ++ v ∷ []) (ys ++ v ∷ [])
 among_more xs [] v e = inr ([], ap (λ (l : List Value). l ++ v ∷ []) e, refl)
 among_more xs (y ∷ ys) v (inl (dc, a)) = inl (dc, among_more xs ys v a)
-among_more xs (y ∷ ys) v (inr (zs, e, a)) =
-    inr (zs ++ v ∷ [], ap (λ (l : List Value). l ++ v ∷ []) e, among_more zs ys v a)
+among_more xs (y ∷ ys) v (inr (zs, e, a)) = grind (arith, among_more zs ys v a)
 
 pub among_skip : (xs ys : List Value) (v : Value) → IsDc v → Among xs ys → Among xs (ys ++ v ∷ [])
 among_skip xs [] v dc e = inl (dc, e)

@@ -1,15 +1,12 @@
 -- What a calling end does while no class is selected: it asks for one connection, and for no other.
 -- For the law on requests.
-use Rattle.osi_fair.proofs.Vocabulary.{arith}
-use Rattle.osi_fair.proofs.Vocabulary.{[], ap, Bool, false, if◌then◌else◌, is_some, List, None, Option, refl, Some, subst, sym, true, ℕ}
-use Rattle.osi_fair.proofs.Vocabulary.{◌++◌, ◌+◌, ◌∙◌, ◌∷◌, ◌≡◌, eq-eqb, not, ◌||◌, Connect, disconnect, disconnected, error}
-use Rattle.osi_fair.proofs.Vocabulary.{request, Value, Standing, lists, Class, Local, class_error, link_of, may_connect}
-use Rattle.osi_fair.proofs.Vocabulary.{open_link, or_else, room_error, sent, sent_all, alternatives, proposal, proposal_by, proposes_two}
-use Rattle.osi_fair.proofs.Vocabulary.{before_class, to_connection, Rows, value_at, without, breaks}
-use Rattle.osi_fair.proofs.Vocabulary.{closes_call as closes, connects, sends, sends_all, user as by_user, user_does, UserCall, asked}
-use Rattle.osi_fair.proofs.Vocabulary.{Live as Connection, ends, EndReason, OpenError, Ended, NotCaller, offer_of, Offer}
-use Rattle.osi_fair.proofs.Vocabulary.{asks_with, put_at, put_before, put_by, put_for, put_sent, put_together, MayCall}
-use Rattle.osi_carrier.specs.Calls.{sent_on}
+use Rattle.osi_fair.proofs.Vocabulary.{arith, [], ap, Bool, false, if◌then◌else◌, is_some, List, None, Option, refl, Some, subst, sym, true}
+use Rattle.osi_fair.proofs.Vocabulary.{ℕ, ◌++◌, ◌+◌, ◌∙◌, ◌∷◌, ◌≡◌, eq-eqb, not, ◌||◌, Connect, disconnect, disconnected, error, request}
+use Rattle.osi_fair.proofs.Vocabulary.{Value, Standing, lists, Class, Local, class_error, link_of, may_connect, open_link, or_else}
+use Rattle.osi_fair.proofs.Vocabulary.{room_error, sent_all, alternatives, proposal, proposal_by, proposes_two, before_class, to_connection}
+use Rattle.osi_fair.proofs.Vocabulary.{Rows, value_at, without, breaks, closes_call as closes, connects, sends, sends_all, user as by_user}
+use Rattle.osi_fair.proofs.Vocabulary.{user_does, UserCall, asked, Live as Connection, ends, EndReason, OpenError, Ended, NotCaller}
+use Rattle.osi_fair.proofs.Vocabulary.{offer_of, Offer, asks_with, put_at, put_before, put_by, put_for, put_together, MayCall}
 unfoldable use Rattle.osi_carrier.specs.React.{react}
 use Rattle.osi_carrier.specs.State.{State}
 use Rattle.osi_fair.proofs.small_facts_that_many_lemmas_use.{and_second, differ, or_last}
@@ -109,13 +106,7 @@ NoneOpen s = (q : ℕ) → open_link q s ≡ None
 
 pub all_none : (r : ℕ) (tsdus : List (List ℕ)) (s : State) → NoneOpen s → (sent_all r tsdus s ≡ s) × (put_together r tsdus s ≡ [])
 all_none r [] s h = (refl, refl)
-all_none r (tsdu ∷ tsdus) s h =
-    let same : sent r tsdu s ≡ s = ap (λ (o : Option (ℕ × Standing)). sent_on r tsdu o s) (h r) in
-    let (a, b) = all_none r tsdus s h in (
-      ap (λ (t : State). sent_all r tsdus t) same ∙ a,
-      ap (λ (o : Option (ℕ × Standing)). put_sent tsdu o ++ put_together r tsdus (sent r tsdu s)) (h r)
-          ∙ ap (λ (t : State). put_together r tsdus t) same ∙ b,
-    )
+all_none r (tsdu ∷ tsdus) s h = grind (arith, all_none r tsdus s h)
 
 -- a call of which nothing comes, and one that ends the carrier
 pub data Idle (call : UserCall) (s : State) : Type 0 where

@@ -1,13 +1,10 @@
 -- A unit of the called side that is right on its connection passes: what the tap has then, by the kind of the unit.
 -- For the law on a whole called end.
-use Rattle.osi_fair.proofs.Vocabulary.{arith}
-use Rattle.osi_fair.proofs.Vocabulary.{[], ap, Bool, false, List, None, Option, refl, set, Some, true, ℕ, ◌∙◌}
-use Rattle.osi_fair.proofs.Vocabulary.{◌∷◌, ◌≡◌, ◌⊎◌, not, position, slice_get, ◌&&◌, confirm, Connect, destination_of}
-use Rattle.osi_fair.proofs.Vocabulary.{disconnect, disconnected, error, Value, Class, Two, first_failed}
-use Rattle.osi_fair.proofs.Vocabulary.{Test, is_named, is_open, is_refused, is_silent}
-use Rattle.osi_fair.proofs.Vocabulary.{course_after, found_on, half_after, one_told, Outcome, route, route_in}
-use Rattle.osi_fair.proofs.Vocabulary.{sent_on, Traffic, takes, Connection, Course, Right, Broke, Kept, Half, Phase}
-use Rattle.osi_fair.proofs.Vocabulary.{Named, Zero}
+use Rattle.osi_fair.proofs.Vocabulary.{arith, [], ap, Bool, false, List, None, Option, set, Some, true, ℕ, ◌∙◌, ◌∷◌, ◌≡◌, ◌⊎◌, not}
+use Rattle.osi_fair.proofs.Vocabulary.{position, slice_get, ◌&&◌, confirm, Connect, destination_of, disconnect, disconnected, error, Value}
+use Rattle.osi_fair.proofs.Vocabulary.{Class, Two, first_failed, Test, is_named, is_open, is_refused, is_silent, course_after, found_on}
+use Rattle.osi_fair.proofs.Vocabulary.{half_after, one_told, Outcome, route, route_in, sent_on, Traffic, takes, Connection, Course, Right}
+use Rattle.osi_fair.proofs.Vocabulary.{Broke, Kept, Half, Phase, Named}
 use Rattle.osi_carrier.specs.State.{State}
 use Rattle.osi_rules.specs.declared.findings.Rule.TheVariants as rule
 use Rattle.osi_fair.proofs.small_facts_that_many_lemmas_use.{closing_not_silent, closing_same, differ, first_is, number_is, rest_is}
@@ -49,9 +46,7 @@ pub route_dr : (k : Option Class) (b : Bool) (n m reason : ℕ) (user : List ℕ
 route_dr k b n m reason user h = grind arith
 
 pub route_dc : (k : Option Class) (b : Bool) (n m : ℕ) → route_in k Right b (disconnected n m) ≡ Named n
-route_dc None b n m = refl
-route_dc (Some Zero) b n m = refl
-route_dc (Some Two) b n m = refl
+route_dc k b n m = grind arith
 
 name_of : (m n : ℕ) → Some m ≡ Some n → Named m ≡ Named n
 name_of m n e = ap (λ (x : ℕ). Named x) (number_is m n e)
@@ -74,10 +69,7 @@ strays_by a b h k = grind (arith, differ)
 pub strays_more : (shut : ℕ → Bool) (end : State) (refs : ℕ → Option ℕ) (home : ℕ → ℕ) (a b : Bool) (ts : List Placed) →
     (b ≡ false → a ≡ false) → AreStrays shut end refs home a ts → AreStrays shut end refs home b ts
 strays_more shut end refs home a b [] h k = tt
-strays_more shut end refs home a b ((None, v) ∷ ts) h (one, more) = (
-  search (arith, (strays_by a b h one.strays_is)),
-  strays_more shut end refs home a b ts h more,
-)
+strays_more shut end refs home a b ((None, v) ∷ ts) h (one, more) = grind (arith, strays_by, strays_more shut end refs home a b ts h more)
 strays_more shut end refs home a b ((Some p, v) ∷ ts) h (one, more) = (tt, strays_more shut end refs home a b ts h more)
 
 -- ---- the first unit and its place

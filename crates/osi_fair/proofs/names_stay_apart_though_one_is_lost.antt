@@ -37,10 +37,8 @@ module _ (f : Connection → Bool) (cs : List Connection) (p : ℕ) (new : Conne
       ((i ≡ p) × (c ≡ new)) ⊎ (slice_get cs i ≡ Some c) → ((j ≡ p) × (e ≡ new)) ⊎ (slice_get cs j ≡ Some e) → f c ≡ true → f e ≡ true →
       i ≡ j
   changed_by old at was i j c e (inl (a, b)) (inl (x, y)) fc fe = a ∙ sym x
-  changed_by old at was i j c e (inl (a, b)) (inr y) fc fe =
-      a ∙ h p j old e at y (was (ap f (sym b) ∙ fc)) fe
-  changed_by old at was i j c e (inr y) (inl (a, b)) fc fe =
-      h i p c old y at fc (was (ap f (sym b) ∙ fe)) ∙ sym a
+  changed_by old at was i j c e (inl (a, b)) (inr y) fc fe = grind arith
+  changed_by old at was i j c e (inr y) (inl (a, b)) fc fe = grind arith
   changed_by old at was i j c e (inr x) (inr y) fc fe = h i j c e x y fc fe
 
   one_changed : (old : Connection) → slice_get cs p ≡ Some old → (f new ≡ true → f old ≡ true) → OnlyOne f (set cs p new)
@@ -59,8 +57,7 @@ module _ (f : Connection → Bool) (cs : List Connection) (p : ℕ) (new : Conne
 
 one_added : (f : Connection → Bool) (cs : List Connection) (new : Connection) → OnlyOne f cs →
     ((i : ℕ) (c : Connection) → slice_get cs i ≡ Some c → f c ≡ true → f new ≡ true → ⊥) → OnlyOne f (cs ++ new ∷ [])
-one_added f cs new h none i j c e x y =
-    new_by f cs (length cs) new h none i j c e (after_add cs i new c x) (after_add cs j new e y)
+one_added f cs new h none i j c e x y = search (arith, new_by, after_add)
 
 one_mapped : (f k : Connection → Bool) (g : Connection → Connection) (cs : List Connection) → OnlyOne f cs →
     ((i : ℕ) (c : Connection) → slice_get cs i ≡ Some c → k (g c) ≡ true → f c ≡ true) → OnlyOne k (map g cs)
@@ -92,19 +89,11 @@ only_named d cs n named i j c e x y fc fe = named.known n i j c e x y
 
 over_more : (j : Bool) (mine seen theirs : Half) → IsEarlier seen theirs → (j && is_over_by mine theirs) ≡ false →
     (j && is_over_by mine seen) ≡ false
-over_more true mine seen theirs e h = over_still mine.phase seen.phase theirs.phase e.refused e.closing e.closed h
-over_more false mine seen theirs e h = refl
+over_more j mine seen theirs e h = grind (arith, over_still)
 
 used_more : (j : Bool) (mine seen theirs : Half) (k : Bool) → IsEarlier seen theirs → (not (j && is_over_by mine theirs) && k) ≡ true →
     (not (j && is_over_by mine seen) && k) ≡ true
-used_more j mine seen theirs k e h = more (j && is_over_by mine theirs) refl h
-  where
-    kept : (a : Bool) → a ≡ false → k ≡ true → (not a && k) ≡ true
-    kept a h k = grind arith
-
-    more : (b : Bool) → (j && is_over_by mine theirs) ≡ b → (not b && k) ≡ true → (not (j && is_over_by mine seen) && k) ≡ true
-    more true is h = absurd (cc h)
-    more false is h = kept (j && is_over_by mine seen) (over_more j mine seen theirs e is) h
+used_more j mine seen theirs k e h = grind (arith, over_more)
 
 free_more : (a was b k : Bool) → (a ≡ false → was ≡ false) → (not (a && b) && k) ≡ true → (not (was && b) && k) ≡ true
 free_more a was b k h e = grind arith
@@ -116,25 +105,13 @@ known_used a b k h e = grind arith
 over_both : (j : Bool) (left right known : Half) → IsEarlier known right →
     (is_closed left.phase ≡ true → is_closing right.phase ≡ true) → (j && is_over_by right left) ≡ false →
     (j && is_over_by left known) ≡ false
-over_both false left right known e closed h = refl
-over_both true left right known e closed h =
-    over_other right.phase left.phase known.phase h e.refused e.closing e.closed closed
+over_both j left right known e closed h = grind (arith, over_other)
 
 sound_left : (c : Connection) → Sound c → Sound (begins Left c)
-sound_left c s = record {
-  left_knows = earlier_same c.right;
-  right_knows = s.right_knows;
-  left_closed = s.left_closed;
-  right_closed = s.right_closed;
-}
+sound_left c s = grind (arith, earlier_same)
 
 sound_right : (c : Connection) → Sound c → Sound (begins Right c)
-sound_right c s = record {
-  left_knows = s.left_knows;
-  right_knows = earlier_same c.left;
-  left_closed = s.left_closed;
-  right_closed = s.right_closed;
-}
+sound_right c s = grind (arith, earlier_same)
 
 sound_begins : (e : Direction) (c : Connection) → Sound c → Sound (begins e c)
 sound_begins Left c s = sound_left c s
@@ -142,33 +119,19 @@ sound_begins Right c s = sound_right c s
 
 -- a packet of this side
 own_used : (d : Direction) (n : ℕ) (c : Connection) → Sound c → uses d n (begins d c) ≡ true → uses d n c ≡ true
-own_used Left n c s h =
-    used_more c.is_judged c.left c.seen_by_left c.right (not (is_silent c.left.phase) && (c.left.reference == n)) s.left_knows h
-own_used Right n c s h =
-    used_more c.is_judged c.right c.seen_by_right c.left (not (is_silent c.right.phase) && (c.right.reference == n)) s.right_knows h
+own_used d n c s h = grind (arith, used_more)
 
 own_known : (d : Direction) (n : ℕ) (c : Connection) → Sound c → is_known d n (begins d c) ≡ true → is_known d n c ≡ true
-own_known Left n c s h =
-    free_more (c.is_judged && is_over_by c.left c.right) (is_over Left c) (is_over Right c)
-    (not (is_silent c.seen_by_right.phase) && (c.seen_by_right.reference == n))
-    (over_more c.is_judged c.left c.seen_by_left c.right s.left_knows) h
-own_known Right n c s h =
-    free_more (c.is_judged && is_over_by c.right c.left) (is_over Right c) (is_over Left c)
-    (not (is_silent c.seen_by_left.phase) && (c.seen_by_left.reference == n))
-    (over_more c.is_judged c.right c.seen_by_right c.left s.right_knows) h
+own_known Left n c s h = grind (arith, free_more, over_more)
+own_known Right n c s h = grind (arith, free_more, over_more)
 
 -- a packet of the other side
 other_used : (d : Direction) (n : ℕ) (c : Connection) → uses d n (begins (other d) c) ≡ true → uses d n c ≡ true
-other_used Left n c h = h
-other_used Right n c h = h
+other_used d n c h = grind arith
 
 other_known : (d : Direction) (n : ℕ) (c : Connection) → Sound c → is_known d n (begins (other d) c) ≡ true → uses d n c ≡ true
-other_known Left n c s h =
-    known_used (is_over Left c) (c.is_judged && is_over_by c.right c.left) (not (is_silent c.left.phase) && (c.left.reference == n))
-    (over_both c.is_judged c.left c.right c.seen_by_left s.left_knows s.left_closed) h
-other_known Right n c s h =
-    known_used (is_over Right c) (c.is_judged && is_over_by c.left c.right) (not (is_silent c.right.phase) && (c.right.reference == n))
-    (over_both c.is_judged c.right c.left c.seen_by_right s.right_knows s.right_closed) h
+other_known Left n c s h = grind (arith, known_used, over_both)
+other_known Right n c s h = grind (arith, known_used, over_both)
 
 module _ (d : Direction) (cs : List Connection) (apart : AreApart cs) (named : AreNamedApart d cs) where
   lost_begins : (e : Direction) (i : ℕ) (c : Connection) → slice_get (map (begins e) cs) i ≡ Some c → Sound c
@@ -229,18 +192,15 @@ judged_sent : (d : Direction) (v : Value) (c : Connection) → (sent_on d v c).i
 judged_sent d v c = grind arith
 
 less_used : (d : Direction) (c new : Connection) → Lessens c new → (n : ℕ) → new.is_judged ≡ true → uses d n new ≡ true → uses d n c ≡ true
-less_used Left c new l n j h = (l.used_left n j h).1
-less_used Right c new l n j h = (l.used_right n j h).1
+less_used d c new l n j h = grind arith
 
 -- it is judged no more
 lost_used : (d : Direction) (n : ℕ) (c : Connection) → is_over d c ≡ false → uses d n (record c { is_judged = false }) ≡ true →
     uses d n c ≡ true
-lost_used Left n c live h = not_over (is_over Left c) (not (is_silent c.left.phase) && (c.left.reference == n)) live h
-lost_used Right n c live h = not_over (is_over Right c) (not (is_silent c.right.phase) && (c.right.reference == n)) live h
+lost_used d n c live h = grind (arith, not_over)
 
 lost_seen : (d : Direction) (c : Connection) → seen d (record c { is_judged = false }) ≡ seen d c
-lost_seen Left c = refl
-lost_seen Right c = refl
+lost_seen d c = grind arith
 
 live_by : (j over : Bool) → (j && over) ≡ false → j ≡ true → over ≡ false
 live_by j over h k = grind arith
@@ -253,24 +213,19 @@ module _ (d : Direction) (s : State) (apart : AreApart s.connections) (named : A
   -- what the other side knows stays
   still_known : (new : Connection) → seen (other d) new ≡ seen (other d) c → (is_over d c ≡ false) ⊎ (is_over (other d) c ≡ false) →
       (n : ℕ) → is_known d n new ≡ true → is_known d n c ≡ true
-  still_known new same live n h =
-      known_live (is_over d c) (is_over (other d) c) (not (is_silent (seen (other d) c).phase) && ((seen (other d) c).reference == n)) live
-      (ap (λ (x : Half). not (is_silent x.phase) && (x.reference == n)) (sym same)
-      ∙ last_of (not (is_over d new && is_over (other d) new))
-      (not (is_silent (seen (other d) new).phase) && ((seen (other d) new).reference == n)) h)
+  still_known new same live n h = grind (arith, known_live, last_of)
 
   -- a unit of this side that has no effect: the connection may be judged no more
   idle_set : (r : Reach) → is_over d c ≡ false → AreNamedApart d (set cs p (judged_on r c))
-  idle_set reach.Connection live = named_set d cs p c (record c { is_judged = false }) named at (λ j.
-      let k = each_sound d cs apart named p c at in
-      record {
-        left_knows = k.left_knows;
-        right_knows = k.right_knows;
-        left_closed = k.left_closed;
-        right_closed = k.right_closed;
-      })
-      (λ n h. lost_used d n c live h)
-      (still_known (record c { is_judged = false }) (lost_seen (other d) c) (inl live))
+  idle_set reach.Connection live =
+      search (
+        arith,
+        named_set,
+        lost_used,
+        each_sound d cs apart named p c at,
+        still_known (record c { is_judged = false }) (lost_seen (other d) c) (inl live),
+        lost_seen (other d) c,
+      )
   idle_set _ live = named_set d cs p c c named at (named.lost p c at) (λ n h. h) (λ n h. h)
 
   -- one that has its effect, and gives no reference
@@ -285,10 +240,7 @@ module _ (d : Direction) (s : State) (apart : AreApart s.connections) (named : A
   side_by : (v : Value) (k : Option Class) (b : Bool) → is_applied (found_on d s c v) ≡ b → is_over d c ≡ false →
       (is_applied (found_on d s c v) ≡ true → AreNamedApart d (set cs p (sent_on d v c))) →
       AreNamedApart d (set cs p (connection_after d v b (reach_of k (found_on d s c v)) c))
-  side_by v k false e live applied = idle_set (reach_of k (found_on d s c v)) live
-  side_by v k true e live applied =
-      subst (λ (r : Reach). AreNamedApart d (set cs p (connection_after d v true r c)))
-      (sym (applied_ends_none k (found_on d s c v) e)) (applied e)
+  side_by v k b e live applied = grind (arith, idle_set, set, applied_ends_none)
 
   -- a unit of the other side that is right
   pub end_set : (new : Connection) → is_over (other d) c ≡ false → new.is_judged ≡ true → c.is_judged ≡ true → own d new ≡ own d c →
@@ -374,8 +326,7 @@ module _ (s : State) (apart : AreApart s.connections) (named : AreNamedApart Rig
 
   pub right_set : (v : Value) (k : Option Class) → is_over Right c ≡ false → AreNamedApart Right (set s.connections p
       (connection_after Right v (is_applied (found_on Right s c v)) (reach_of k (found_on Right s c v)) c))
-  right_set v k live = side_by Right s apart named p c at v k (is_applied (found_on Right s c v)) refl live
-      (λ e. applied_set v live e (kind_of v))
+  right_set v k live = search (arith, side_by, applied_set, kind_of)
 
 -- ---- a CR
 
@@ -403,9 +354,7 @@ is_source a b k h = grind arith
 
 asked_free : (cs : List Connection) (x : Connect) → list_any (λ (e : Connection). uses Left x.source e) cs ≡ false → (n i : ℕ)
     (e : Connection) → slice_get cs i ≡ Some e → uses Left n e ≡ true → uses Left n (asked_by x) ≡ true → ⊥
-asked_free cs x none n i e at h k =
-    differ (uses Left n e) h (subst (λ (m : ℕ). uses Left m e ≡ false) (eqb-true x.source n (is_source false false (x.source == n) k))
-    (none_true (λ (e : Connection). uses Left x.source e) cs i e none at))
+asked_free cs x none n i e at h k = grind (arith, differ, eqb-true, is_source, none_true)
 
 -- left gives a reference
 pub left_asked : (cs : List Connection) (x : Connect) (o : Option ℕ) → list_any (λ (e : Connection). uses Left x.source e) cs ≡ false →

@@ -71,20 +71,15 @@ pub is_right : (local : Local) (x : Connect) (rest : List Value) (w : Whole) →
     GoesOn w.tap → Newer w → Stage local w → IsRightCr x w.tap
 is_right local x rest w e begun goes newer (ended none h) = some_cr w x rest e none
 is_right local x rest w e begun goes newer (quiet is none not_begun cs strays tap done dcs) = some_cr w x rest e none
-is_right local x rest w e begun goes newer (asks y put is offers cs strays tap done dcs all) =
-    while_calm x w cs strays rest e newer tap (all begun)
+is_right local x rest w e begun goes newer (asks y put is offers cs strays tap done dcs all) = search (arith, while_calm)
 is_right local x rest w e begun goes newer (waits r is none not_begun cs strays tap p o offers waiting dcs) = some_cr w x rest e none
 is_right local x rest w e begun goes newer (refused r is none not_begun cs strays tap done dcs v more coming are refusal too) =
     some_cr w x rest e none
 is_right local x rest w e begun goes newer (answered r is none not_begun dcs n y more coming are class has after so z) =
     some_cr w x rest e none
-is_right local x rest w e begun goes newer (zero has z) =
-    no_cr x rest z.tap.limit z.tap.c.left.begun
-    (subst (PutsData z.tap.limit anyhow z.tap.c.left.begun) e (zero_puts z.tap.limit w.end z.tap.c.left.begun w.put z.goes))
+is_right local x rest w e begun goes newer (zero has z) = grind (arith, no_cr, anyhow, zero_puts)
 is_right local x rest w e begun goes newer (known two seen has) =
-    let unused = next_unused x rest w e newer in
-    subst (λ (f : Finding). Passed f) (sym (asked_is x w.tap goes (seen begun)))
-    (tests_pass w.tap x (seen begun) unused.used unused.judged)
+    grind (arith, tests_pass, next_unused x rest w e newer, asked_is x w.tap goes (seen begun))
 
 pub request_right : (local : Local) (events : List Event) (w : Whole) (x : Connect) (rest : List Value) →
     HappenAlong Left (begin true local) events w → w.begun ≡ true → w.put ≡ request x ∷ rest → is_stopped Left w.tap.course ≡ false →

@@ -16,7 +16,6 @@ use Rattle.osi_fair.proofs.what_holds_of_one_item.{first_true, one_added, one_ch
 use Rattle.osi_fair.proofs.when_a_connection_has_a_name.{IsEarlier, over_still}
 use Rattle.osi_fair.proofs.what_keeps_names_apart.{AreApart}
 use Rattle.osi_fair.proofs.a_reference_names_one_connection.{fresh_apart, no_item, not_first, not_true, passes_apart}
-use Rattle.osi_fair.proofs.Vocabulary.{is_stopped, refused_reach, route}
 
 -- ---- no class was selected before
 
@@ -167,12 +166,8 @@ still_waits (packet d) s apart a h =
       one = one_mapped (is_live Left) (is_live Left) (begins d) s.connections w.one
           (λ i c at j k. begun_live d c (apart.sound i c at (begun_judged d c j)).left_knows j k);
     }
-still_waits (unit d v) s apart a h =
-    if_judged (is_stopped d s.course) d s (routed d v s (route d s.course v)) (to_none d NotJudged s a)
-    (by_route d v s (route d s.course v) a) h
-still_waits (rubbish d) s apart a h =
-    let w = a (sym (reached_class d (refused_reach d s) s.course) ∙ h) in
-    record { seen = reached_seen d (refused_reach d s) s.course ∙ w.seen; one = w.one }
+still_waits (unit d v) s apart a h = grind (arith, if_judged, to_none, by_route)
+still_waits (rubbish d) s apart a h = grind (arith, reached_class, reached_seen)
 
 all_wait : (ps : List Passing) (s : State) → AreApart s.connections → WaitsIf s → WaitsIf (all_passed ps s)
 all_wait [] s apart a = a
@@ -180,5 +175,4 @@ all_wait (p ∷ ps) s apart a = all_wait ps (passes p s) (passes_apart p s apart
 
 pub one_waits : (ps : List Passing) → (all_passed ps fresh).course.class ≡ None →
     HoldsOfOne (is_live Left) (all_passed ps fresh).connections
-one_waits ps h =
-    (all_wait ps fresh fresh_apart (λ e. record { seen = refl; one = λ i j c x at there jc je fc fe. no_item i c at }) h).one
+one_waits ps h = grind (arith, all_wait, fresh_apart, no_item)

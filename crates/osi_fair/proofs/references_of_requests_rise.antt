@@ -1,10 +1,9 @@
 -- The CRs that a carrier writes have references that rise, and each is above those of the CRs before it.
 -- For the law on new references.
-use Rattle.osi_fair.proofs.Vocabulary.{[], arith, Bool, if◌then◌else◌, List, None, Option, refl, Result, Some}
-use Rattle.osi_fair.proofs.Vocabulary.{subst, ℕ, ◌++◌, ◌<◌, ◌∙◌, ◌∷◌, ◌≡◌, ◌≤◌, AllByRecursion, units_of, Value, TpduFault, Standing}
-use Rattle.osi_fair.proofs.Vocabulary.{Class, effect, How, closed_on, closes_in, open_link, sent, sent_all}
-use Rattle.osi_fair.proofs.Vocabulary.{connection_of, acts_by, react, reacts, RiseBy, does}
-use Rattle.osi_fair.proofs.Vocabulary.{ends, EndReason, all_written, asks_with, Two, Zero}
+use Rattle.osi_fair.proofs.Vocabulary.{[], arith, Bool, if◌then◌else◌, List, Option, refl, Result, subst, ℕ, ◌++◌, ◌<◌, ◌∙◌, ◌∷◌, ◌≡◌, ◌≤◌}
+use Rattle.osi_fair.proofs.Vocabulary.{AllByRecursion, units_of, Value, TpduFault, Standing, Class, effect, How, closed_on, closes_in}
+use Rattle.osi_fair.proofs.Vocabulary.{open_link, sent, sent_all, connection_of, acts_by, react, reacts, RiseBy, does, ends, EndReason}
+use Rattle.osi_fair.proofs.Vocabulary.{all_written, asks_with}
 use Rattle.osi_carrier.specs.Calls.{sent_on}
 unfoldable use Rattle.osi_carrier.specs.Packets.{after_packet}
 use Rattle.osi_carrier.specs.Runs.{Act}
@@ -18,9 +17,7 @@ rises_by r old new h = grind arith
 units_rise : (units : List Value) (s : State) → s.given ≤ (reacts units s).given
 units_rise [] s = omega arith
 units_rise (unit ∷ units) s =
-    let first = rises_by (connection_of unit s) s (react unit s) (effect unit s).how in
-    let more = units_rise units (react unit s) in
-    omega arith
+    grind (arith, rises_by (connection_of unit s) s (react unit s) (effect unit s).how, effect unit s, units_rise units (react unit s))
 
 packet_by : (units : Result (List Value) TpduFault) (s : State) → s.given ≤ (acts_by units s).given
 packet_by units s = grind (arith, units_rise)
@@ -37,13 +34,10 @@ all_gives r [] s = refl
 all_gives r (tsdu ∷ tsdus) s = all_gives r tsdus (sent r tsdu s) ∙ sent_gives r tsdu (open_link r s) s
 
 class_gives : (r peer reason : ℕ) (class : Option Class) (s : State) → (closes_in r peer reason class s).given ≡ s.given
-class_gives r peer reason None s = refl
-class_gives r peer reason (Some Zero) s = refl
-class_gives r peer reason (Some Two) s = refl
+class_gives r peer reason class s = grind arith
 
 pub closed_gives : (r reason : ℕ) (o : Option (ℕ × Standing)) (s : State) → (closed_on r reason o s).given ≡ s.given
-closed_gives r reason None s = refl
-closed_gives r reason (Some (peer, link)) s = class_gives r peer reason s.class s
+closed_gives r reason o s = grind (arith, class_gives)
 
 pub ended_gives : (over : Bool) (reason : EndReason) (s : State) → (if over then s else ends reason s).given ≡ s.given
 ended_gives over reason s = grind arith

@@ -1,14 +1,10 @@
 -- As long as the other side is judged, an end is: what is right stops nothing, and what stops the end stops both sides.
 -- For the law on a whole end.
-use Rattle.osi_fair.proofs.Vocabulary.{arith}
-use Rattle.osi_fair.proofs.Vocabulary.{Zero, ap, Bool, false, if◌then◌else◌, inl, inr, None, Option, refl, Some, true, ℕ, ◌∙◌, ◌≡◌, ◌⊎◌}
-use Rattle.osi_fair.proofs.Vocabulary.{position}
-use Rattle.osi_fair.proofs.Vocabulary.{slice_get, ◌||◌, Connect, request, Value, Class, stops_are_said, reach_by, reach_of, reach_past}
-use Rattle.osi_fair.proofs.Vocabulary.{first_failed, is_live, is_named, asks_by, asks_of, at_found, at_place, class_for, course_after_none}
-use Rattle.osi_fair.proofs.Vocabulary.{is_stopped, none_told, one_told, Outcome, reached, refused, request_tests, route, routed}
-use Rattle.osi_fair.proofs.Vocabulary.{Traffic as State, stops_by, takes, unnamed, unnamed_told, Connection, Course, Direction, Left, Right}
-use Rattle.osi_fair.proofs.Vocabulary.{Finding, Kept}
-use Rattle.osi_fair.proofs.Vocabulary.{NotJudged, TooMany, Reach, Route, Asks, Named, Only, Unnamed}
+use Rattle.osi_fair.proofs.Vocabulary.{arith, Zero, ap, Bool, false, if◌then◌else◌, Option, refl, Some, ℕ, ◌∙◌, ◌≡◌, ◌⊎◌, ◌||◌, Connect}
+use Rattle.osi_fair.proofs.Vocabulary.{Value, Class, stops_are_said, reach_by, reach_of, reach_past, asks_by, asks_of, at_found, at_place}
+use Rattle.osi_fair.proofs.Vocabulary.{class_for, course_after_none, is_stopped, none_told, one_told, Outcome, reached, refused, route}
+use Rattle.osi_fair.proofs.Vocabulary.{routed, Traffic as State, stops_by, takes, unnamed, unnamed_told, Connection, Course, Direction}
+use Rattle.osi_fair.proofs.Vocabulary.{Left, Right, Finding, Kept, NotJudged, TooMany, Reach, Route}
 use Rattle.osi_rules.specs.declared.findings.Reach.TheVariants as reach
 use Rattle.osi_fair.proofs.small_facts_that_many_lemmas_use.{differ}
 
@@ -30,31 +26,23 @@ to_unnamed : (d : Direction) (v : Value) (s : State) → IsBy d s (unnamed_told 
 to_unnamed d v s = ap (λ (k : Option Class). reach_of k (unnamed d s.course v)) (none_class d v s.course)
 
 at_one : (d : Direction) (v : Value) (s : State) (p : ℕ) (c : Option Connection) → IsBy d s (at_found d v s p c)
-at_one d v s p None = to_unnamed d v s
-at_one d v s p (Some c) = to_one d p c v s
+at_one d v s p c = grind (arith, to_unnamed, to_one)
 
 at_any : (d : Direction) (v : Value) (s : State) (p : Option ℕ) → IsBy d s (at_place d v s p)
-at_any d v s None = to_unnamed d v s
-at_any d v s (Some p) = at_one d v s p (slice_get s.connections p)
+at_any d v s p = grind (arith, to_unnamed, at_one)
 
 asking : (d : Direction) (f : Finding) (c : Connect) (s : State) → IsBy d s (asks_by d f c s)
-asking d Kept c s = refl
-asking d v c s = to_none d v s
+asking d f c s = grind (arith, to_none)
 
 asks : (d : Direction) (v : Value) (s : State) → IsBy d s (asks_of d v s)
-asks d (request c) s = asking d (first_failed (request_tests s c)) c s
-asks d _ s = to_none d NotJudged s
+asks d v s = grind (arith, asking, to_none)
 
 by_route : (d : Direction) (v : Value) (s : State) (r : Route) → IsBy d s (routed d v s r)
-by_route d v s Asks = asks d v s
-by_route d v s (Named n) = at_any d v s (position (is_named d n) s.connections)
-by_route d v s Only = at_any d v s (position (is_live d) s.connections)
-by_route d v s (Unnamed finding) = to_none d finding s
+by_route d v s r = grind (arith, asks, at_any, to_none)
 
 if_judged : (b : Bool) (d : Direction) (v : Value) (s : State) (r : Route) →
     IsBy d s (if b then none_told d NotJudged s else routed d v s r)
-if_judged true d v s r = to_none d NotJudged s
-if_judged false d v s r = by_route d v s r
+if_judged b d v s r = grind (arith, to_none, by_route)
 
 pub told_by : (d : Direction) (v : Value) (s : State) → IsBy d s (takes d v s)
 told_by d v s = if_judged (is_stopped d s.course) d v s (route d s.course v)
@@ -79,8 +67,7 @@ all_or_none k f h = grind arith
 own_by : (v : Value) (s : State) → ((takes Left v s).told.reach ≡ reach.Nothing) ⊎ ((takes Left v s).told.reach ≡ reach.Everything) →
     s.course.left_stopped ≡ false → (takes Left v s).state.course.right_stopped ≡ false →
     (takes Left v s).state.course.left_stopped ≡ false
-own_by v s (inl e) left right = grind (arith, stops_are_said)
-own_by v s (inr e) left right = grind (arith, differ, stops_are_said)
+own_by v s h left right = search (arith, stops_are_said, differ)
 
 same_reach : (r q : Reach) → r ≡ q → (q ≡ reach.Nothing) ⊎ (q ≡ reach.Everything) → (r ≡ reach.Nothing) ⊎ (r ≡ reach.Everything)
 same_reach r q e k = grind arith
@@ -88,16 +75,13 @@ same_reach r q e k = grind arith
 pub own_judged : (v : Value) (s : State) → IsMild (takes Left v s).told.finding → s.course.left_stopped ≡ false →
     (takes Left v s).state.course.right_stopped ≡ false → (takes Left v s).state.course.left_stopped ≡ false
 own_judged v s mild left right =
-    own_by v s (same_reach (takes Left v s).told.reach (reach_of s.course.class_seen (takes Left v s).told.finding) (told_by Left v s)
-    (all_or_none s.course.class_seen (takes Left v s).told.finding mild)) left right
+    grind (arith, own_by, same_reach, told_by Left v s, all_or_none s.course.class_seen (takes Left v s).told.finding mild)
 
 -- ---- what the other side sends
 
 other_by : (r : Reach) (v : Value) (s : State) → (takes Right v s).told.reach ≡ r → s.course.left_stopped ≡ false →
     (takes Right v s).state.course.right_stopped ≡ false → (takes Right v s).state.course.left_stopped ≡ false
-other_by reach.Everything v s e left right =
-    differ (takes Right v s).state.course.right_stopped
-    (stops_are_said Right v s Right ∙ ap (λ (r : Reach). stops_by Right r Right || s.course.right_stopped) e) right
+other_by reach.Everything v s e left right = grind (arith, differ, stops_are_said)
 other_by _ v s e left right =
     stops_are_said Right v s Left ∙ ap (λ (r : Reach). stops_by Right r Left || s.course.left_stopped) e ∙ left
 

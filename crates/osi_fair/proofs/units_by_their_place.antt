@@ -30,8 +30,7 @@ all_at o (v ∷ vs) = (o, v) ∷ all_at o vs
 
 pub at_join : (p : ℕ) (xs ys : List Placed) → units_at p (xs ++ ys) ≡ units_at p xs ++ units_at p ys
 at_join p [] ys = refl
-at_join p (x ∷ xs) ys =
-    ap (λ (l : List Value). keep (names_in p x.0) x.1 l) (at_join p xs ys) ∙ keep_join (names_in p x.0) x.1 (units_at p xs) (units_at p ys)
+at_join p (x ∷ xs) ys = grind (arith, keep, names_in, keep_join, at_join p xs ys)
 
 pub values_join : (xs ys : List Placed) → values (xs ++ ys) ≡ values xs ++ values ys
 values_join [] ys = refl

@@ -49,23 +49,10 @@ pub puts_more : (s t : Bounds) (e k : ℕ → ℕ → Type 0) (more : List Value
     (passed shown begun : ℕ) → shown ≤ s.acked → (units : List Value) → Puts s e passed shown begun units →
     Puts t k passed shown begun (units ++ more)
 puts_more s t e k more m live base passed shown begun within [] h = base passed shown begun within h
-puts_more s t e k more m live base passed shown begun within (data2 destination number end user ∷ units) (a, b, c, d, f, g) = (
-  a ∙ m.peer,
-  b,
-  omega arith,
-  omega arith,
-  f,
-  puts_more s t e k more m live base (passed + 1) shown (begun_by begun end (length user)) within units g,
-)
-puts_more s t e k more m live base passed shown begun within (acknowledge credit destination number ∷ units) (count, a, b, c, d, f, g) = (
-  count,
-  a ∙ m.peer,
-  b ∙ m.window,
-  c,
-  d,
-  omega arith,
-  puts_more s t e k more m live base passed count begun f units g,
-)
+puts_more s t e k more m live base passed shown begun within (data2 destination number end user ∷ units) (a, b, c, d, f, g) =
+    grind (arith, begun_by, puts_more s t e k more m live base (passed + 1) shown (begun_by begun end (length user)) within units g)
+puts_more s t e k more m live base passed shown begun within (acknowledge credit destination number ∷ units) (count, a, b, c, d, f, g) =
+    grind (arith, puts_more s t e k more m live base passed count begun f units g)
 puts_more s t e k more m live base passed shown begun within (disconnect destination source reason user ∷ units) (a, b, c) = absurd (cc)
 puts_more s t e k more m live base passed shown begun within (disconnected destination source ∷ units) (a, b, c, d, f) = absurd (cc)
 puts_more s t e k more m live base passed shown begun within (request x ∷ units) h = absurd h
@@ -77,26 +64,12 @@ puts_more s t e k more m live base passed shown begun within (error destination 
 pub puts_still : (s t : Bounds) (e : ℕ → ℕ → Type 0) → IsMore s t → s.closed ≡ t.closed →
     (passed shown begun : ℕ) (units : List Value) → Puts s e passed shown begun units → Puts t e passed shown begun units
 puts_still s t e m same passed shown begun [] h = h
-puts_still s t e m same passed shown begun (data2 destination number end user ∷ units) (a, b, c, d, f, g) = (
-  a ∙ m.peer,
-  b,
-  omega arith,
-  omega arith,
-  f,
-  puts_still s t e m same (passed + 1) shown (begun_by begun end (length user)) units g,
-)
-puts_still s t e m same passed shown begun (acknowledge credit destination number ∷ units) (count, a, b, c, d, f, g) = (
-  count,
-  a ∙ m.peer,
-  b ∙ m.window,
-  c,
-  d,
-  omega arith,
-  puts_still s t e m same passed count begun units g,
-)
+puts_still s t e m same passed shown begun (data2 destination number end user ∷ units) (a, b, c, d, f, g) =
+    grind (arith, begun_by, puts_still s t e m same (passed + 1) shown (begun_by begun end (length user)) units g)
+puts_still s t e m same passed shown begun (acknowledge credit destination number ∷ units) (count, a, b, c, d, f, g) =
+    grind (arith, puts_still s t e m same passed count begun units g)
 puts_still s t e m same passed shown begun (disconnect destination source reason user ∷ units) (a, b, c) = (a ∙ m.peer, sym same ∙ b, c)
-puts_still s t e m same passed shown begun (disconnected destination source ∷ units) (a, b, c, d, f) =
-    (a ∙ m.peer, b ∙ m.reference, sym same ∙ c, m.closing d, f)
+puts_still s t e m same passed shown begun (disconnected destination source ∷ units) (a, b, c, d, f) = grind arith
 puts_still s t e m same passed shown begun (request x ∷ units) h = absurd h
 puts_still s t e m same passed shown begun (confirm destination x ∷ units) h = absurd h
 puts_still s t e m same passed shown begun (data0 end user ∷ units) h = absurd h
@@ -125,8 +98,7 @@ Comes s taken known (unit ∷ units) = (taken ≤ s.came) × (known ≤ s.heard)
 
 pub comes_within : (s : Came) (taken known : ℕ) (units : List Value) → Comes s taken known units → (taken ≤ s.came) × (known ≤ s.heard)
 comes_within s taken known [] (a, b, c) = (a, b)
-comes_within s taken known (data2 destination number end user ∷ units) h =
-    let (a, b) = comes_within s (taken + 1) known units h in (omega arith, b)
+comes_within s taken known (data2 destination number end user ∷ units) h = grind (arith, comes_within s (taken + 1) known units h)
 comes_within s taken known (acknowledge credit destination number ∷ units) (count, a, b, c, d, f) =
     let (g, h) = comes_within s taken count units f in (g, omega arith)
 comes_within s taken known (disconnect destination source reason user ∷ units) (a, b, c) = (a, b)
@@ -150,8 +122,7 @@ comes_more s t more m base taken known [] (a, b, c) = base taken known a b c
 comes_more s t more m base taken known (data2 destination number end user ∷ units) h = comes_more s t more m base (taken + 1) known units h
 comes_more s t more m base taken known (acknowledge credit destination number ∷ units) (count, a, b, c, d, f) =
     (count, a, b, c, omega arith, comes_more s t more m base taken count units f)
-comes_more s t more m base taken known (disconnect destination source reason user
-    ∷ units) (a, b, c) = (omega arith, omega arith, m.closing c)
+comes_more s t more m base taken known (disconnect destination source reason user ∷ units) (a, b, c) = grind arith
 comes_more s t more m base taken known (disconnected destination source ∷ units) (a, b) = (omega arith, omega arith)
 comes_more s t more m base taken known (request x ∷ units) (a, b) = (omega arith, omega arith)
 comes_more s t more m base taken known (confirm destination x ∷ units) (a, b) = (omega arith, omega arith)

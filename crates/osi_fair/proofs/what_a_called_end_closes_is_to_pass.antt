@@ -1,13 +1,10 @@
 -- A called end that has closed an open connection has put the unit that closes it: as long as the tap has not seen it, it is to
 -- pass. For the law on a whole called end.
-use Rattle.osi_fair.proofs.Vocabulary.{arith}
-use Rattle.osi_fair.proofs.Vocabulary.{[], ap, Bool, false, if◌then◌else◌, List, None, Option, refl, Some, subst, sym, true, ℕ, ◌++◌, ◌∙◌}
-use Rattle.osi_fair.proofs.Vocabulary.{◌∷◌, ◌≡◌, ◌≢◌, disconnect, disconnected, Value, Standing, Two, is_applied, reach_of}
-use Rattle.osi_fair.proofs.Vocabulary.{is_open, connection_after, found, half_after, sent_on, Connection, Left, Right, Finding}
-use Rattle.osi_fair.proofs.Vocabulary.{Kept, NotJudged, Reach, Half, Act, Acts, ActsAlong, after_finding, answers, begins_elsewhere}
-use Rattle.osi_fair.proofs.Vocabulary.{closes_with as closes, finding_of, ignores, IsOpened, IsRight, IsRightNow, Line, moves}
+use Rattle.osi_fair.proofs.Vocabulary.{arith, [], Bool, false, if◌then◌else◌, List, None, Option, refl, Some, subst, sym, true, ℕ, ◌++◌}
+use Rattle.osi_fair.proofs.Vocabulary.{◌∙◌, ◌∷◌, ◌≡◌, ◌≢◌, disconnect, disconnected, Value, Standing, is_open, connection_after, half_after}
+use Rattle.osi_fair.proofs.Vocabulary.{sent_on, Connection, Left, Right, Finding, Kept, NotJudged, Reach, Half, Act, Acts, ActsAlong}
+use Rattle.osi_fair.proofs.Vocabulary.{IsOpened, Line}
 use Rattle.osi_rules.specs.declared.findings.Reach.TheVariants as reach
-use Rattle.osi_fair.specs.Lines.{begins_other, begins_own, passes_other, passes_own}
 use Rattle.osi_fair.proofs.small_facts_that_many_lemmas_use.{closing_shuts, differ, first_is, no_list, rest_is}
 use Rattle.osi_fair.proofs.an_end_closes_last.{waits_open}
 use Rattle.osi_fair.proofs.an_open_end_is_fair.{on_judged, open_is_fair}
@@ -62,47 +59,8 @@ module _ (r peer : ℕ) (begin : Line) (opened : IsOpened Right r peer begin) wh
 
   waits_by : (act : Act) (done : List Act) (old new : Line) → ActsAlong Right r peer begin done old → Acts Right r peer act old new →
       Waits old → Waits new
-  waits_by (moves move) done old new along (link, after, is, e, short, coming, new_is) h j none up =
-      no_some after new.link (ap (λ (l : Line). l.link) new_is) none
-  waits_by (closes reason units) done old new along (link, is, coming, new_is) h j none up =
-      (old.put, disconnect peer r reason [], ap (λ (l : Line). l.put) new_is, tt)
-  waits_by (ignores units) done old new along (gone, coming, new_is) h j none up =
-      let (first, v, e, k) = h (sym (ap (λ (l : Line). l.tap.is_judged) new_is) ∙ j) gone
-      (sym (ap (λ (l : Line). is_open l.tap.right.phase) new_is) ∙ up) in
-      (first, v, ap (λ (l : Line). l.put) new_is ∙ e, k)
-  waits_by (answers unit) done old new along (link, is, dr, coming, new_is) h j none up =
-      (old.put, disconnected peer r, ap (λ (l : Line). l.put) new_is, tt)
-  waits_by begins_own done old new along (some, idle, new_is) h j none up =
-      let (first, v, e, k) = h (sym (ap (λ (l : Line). l.tap.is_judged) new_is) ∙ j) (sym (ap (λ (l : Line). l.link) new_is) ∙ none)
-      (sym (ap (λ (l : Line). is_open l.tap.right.phase) new_is) ∙ up) in
-      (first, v, ap (λ (l : Line). l.put) new_is ∙ e, k)
-  waits_by begins_elsewhere done old new along (idle, new_is) h j none up =
-      let (first, v, e, k) = h (sym (ap (λ (l : Line). l.tap.is_judged) new_is) ∙ j) (sym (ap (λ (l : Line). l.link) new_is) ∙ none)
-      (sym (ap (λ (l : Line). is_open l.tap.right.phase) new_is) ∙ up) in
-      (first, v, ap (λ (l : Line). l.put) new_is ∙ e, k)
-  waits_by begins_other done old new along new_is h j none up =
-      let (first, v, e, k) = h (sym (ap (λ (l : Line). l.tap.is_judged) new_is) ∙ j) (sym (ap (λ (l : Line). l.link) new_is) ∙ none)
-      (sym (ap (λ (l : Line). is_open l.tap.right.phase) new_is) ∙ up) in
-      (first, v, ap (λ (l : Line). l.put) new_is ∙ e, k)
-  waits_by (passes_own course in_use) done old new along (unit, put, begun, new_is) h j none up =
-      let f = finding_of Right course in_use old.tap unit in
-      let was = own_was unit (is_applied f) (reach_of (Some Two) f) old.tap (sym (ap (λ (l : Line). l.tap.is_judged) new_is) ∙ j) in
-      let now : IsRight Right old.tap unit =
-      subst (IsRightNow Right old.tap) put (open_is_fair Right r peer begin old done opened along begun was) in
-      let kept : f ≡ Kept = judged_so old.tap.is_judged (found Right course in_use old.tap unit) was (now.kept course in_use) in
-      let right : new.tap.right ≡ half_after unit old.tap.right =
-      ap (λ (l : Line). l.tap.right) new_is ∙ ap (λ (g : Finding). (after_finding Right g unit old.tap).right) kept
-      ∙ right_own unit reach.Nothing old.tap in
-      let before = waits_open Right r peer begin old done opened along was (λ e. no_list unit new.put (sym put ∙ e)) in
-      let (first, v, e, k) = h was (sym (ap (λ (l : Line). l.link) new_is) ∙ none) before in
-      passes_by unit new.put first v old.tap.right (sym put ∙ e) k (ap (λ (x : Half). is_open x.phase) (sym right) ∙ up)
-  waits_by (passes_other course in_use unit) done old new along (ranges, dest, some, new_is) h j none up =
-      let f = finding_of Left course in_use old.tap unit in
-      let was = other_was unit (is_applied f) (reach_of (Some Two) f) old.tap (sym (ap (λ (l : Line). l.tap.is_judged) new_is) ∙ j) in
-      let right : new.tap.right ≡ old.tap.right =
-      ap (λ (l : Line). l.tap.right) new_is ∙ right_then unit (is_applied f) (reach_of (Some Two) f) old.tap in
-      let (first, v, e, k) = h was (sym (ap (λ (l : Line). l.link) new_is) ∙ none) (ap (λ (x : Half). is_open x.phase) (sym right) ∙ up) in
-      (first, v, ap (λ (l : Line). l.put) new_is ∙ e, k)
+  waits_by act done old new along new_is h j none up =
+      search (arith, no_some, own_was, open_is_fair, judged_so, right_own, waits_open, no_list, passes_by, other_was, right_then)
 
   all_wait : (acts done : List Act) (old new : Line) → ActsAlong Right r peer begin done old → ActsAlong Right r peer old acts new →
       Waits old → Waits new

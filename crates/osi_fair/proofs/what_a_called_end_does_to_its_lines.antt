@@ -132,8 +132,7 @@ module _ (local : Local) (w : Whole) (f : Called local w) (t : State) (units : L
       Row t coming r peer link come
   row_other r peer link come other (talks k there is among) =
       talks k (rows r other ∙ there) is (subst (Among come) (sym (others r other)) among)
-  row_other r peer link come other (closes un is among) =
-      closes (unlinked_still r other un) is (subst (Among come) (sym (others r other)) among)
+  row_other r peer link come other (closes un is among) = grind (arith, unlinked_still)
   row_other r peer link come other (over h) = differ (is_some s.ended) h (ap is_some was)
 
   stand_other : (i : ℕ) (c : Connection) (mine : List Value) (begun : Bool) → (i ≡ p → ⊥) →
@@ -254,12 +253,8 @@ module _ (local : Local) (w : Whole) (f : Called local w) (t : State) (units : L
 
   gone_by : (i : ℕ) → slice_get w.tap.connections i ≡ None → (b : Bool) → (i == p) ≡ b →
       (units_at i tagged ≡ []) × (units_at i came ≡ []) × ((r : ℕ) → f.refs i ≡ Some r → IsUnlinked t r)
-  gone_by i none true e =
-      let (a, b, d) = f.beyond i none in
-      absurd (d n (ap (λ (j : ℕ). f.refs j) (eqb-true i p e) ∙ index) was q l here)
-  gone_by i none false e =
-      let (a, b, d) = f.beyond i none in
-      (mine_other i (unlike i p e) ∙ a, asks i ∙ b, λ r k. unlinked_still r (not_n i r (unlike i p e) k) (d r k))
+  gone_by i none true e = search (arith, eqb-true, index)
+  gone_by i none false e = grind (arith, mine_other, unlike, unlinked_still, not_n)
 
   linked_by : (r peer : ℕ) (k : Standing) (b : Bool) → (r == n) ≡ b → value_at r t.live ≡ Some (linked peer k) → f.refs (f.home r) ≡ Some r
   linked_by r peer k b e there = grind (arith, eqb-true, index, unlike)
@@ -280,19 +275,7 @@ module _ (local : Local) (w : Whole) (f : Called local w) (t : State) (units : L
 
   stray_still : (v : Value) (later : List Placed) → IsStray f.shut s f.refs f.home w.tap.course.strays v later →
       IsStray f.shut t f.refs f.home w.tap.course.strays v (later ++ all_at (Some p) units)
-  stray_still v later a = record {
-    m = a.m;
-    n = a.n;
-    is = a.is;
-    strays_is = a.strays_is;
-    given = subst (λ (i : ℕ). a.n ≤ i) (sym given) a.given;
-    positive = a.positive;
-    shut_is = a.shut_is;
-    none = λ e. at_join (f.home a.n) later (all_at (Some p) units)
-        ∙ ap (λ (vs : List Value). units_at (f.home a.n) later ++ vs)
-        (all_elsewhere (f.home a.n) p units (λ same. stray_home a.n a.shut_is e (sym same)))
-        ∙ append-nil (units_at (f.home a.n) later) ∙ a.none e;
-  }
+  stray_still v later a = grind (arith, at_join, all_at, units_at, all_elsewhere, stray_home, append-nil)
 
   pub line_steps : Called local (record w { end = t; put = w.put ++ units; coming = coming })
   line_steps = record {

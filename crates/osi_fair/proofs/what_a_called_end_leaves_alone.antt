@@ -63,26 +63,18 @@ module _ (local : Local) (w : Whole) (f : Called local w) (t : State) (units : L
 
   step_other : (r peer : ℕ) (link : Option Standing) (come : List Value) → (r ≡ n → ⊥) → (f.shut r ≡ true → link ≡ None) →
       Row t coming r peer link come → Step r peer link come
-  step_other r peer link come other h row =
-      record { later = come; acts = []; along = λ line is e. stays_as line come e; row = row; shut_is = shut_old r link other h }
+  step_other r peer link come other h row = grind (arith, stays_as, shut_old)
 
   row_other : (r peer : ℕ) (link : Option Standing) (come : List Value) → (r ≡ n → ⊥) → Row s w.coming r peer link come →
       Row t coming r peer link come
   row_other r peer link come other (talks k there is among) =
       talks k (rows r other ∙ there) is (subst (Among come) (sym (others r other)) among)
-  row_other r peer link come other (closes un is among) =
-      closes (unlinked_still r un) is (subst (Among come) (sym (others r other)) among)
+  row_other r peer link come other (closes un is among) = grind (arith, unlinked_still)
   row_other r peer link come other (over h) = differ (is_some s.ended) h (ap is_some was)
 
   ignores_it : (r peer : ℕ) (link : Option Standing) (come : List Value) → r ≡ n → link ≡ None → IsUnlinked t r →
       Among come (u ∷ those n coming) → Step r peer link come
-  ignores_it r peer link come same none un (inl (dc, among)) = record {
-    later = come;
-    acts = [];
-    along = λ line is e. stays_as line come e;
-    row = closes un none (subst (λ (i : ℕ). Among come (those i coming)) (sym same) among);
-    shut_is = λ e. none;
-  }
+  ignores_it r peer link come same none un (inl (dc, among)) = grind (arith, stays_as, closes, those)
   ignores_it r peer link come same none un (inr (zs, e, among)) = record {
     later = zs;
     acts = ignores (u ∷ []) ∷ [];
@@ -97,8 +89,7 @@ module _ (local : Local) (w : Whole) (f : Called local w) (t : State) (units : L
   step_by : (r peer : ℕ) (link : Option Standing) (come : List Value) (b : Bool) → (r == n) ≡ b → (f.shut r ≡ true → link ≡ None) →
       Row s w.coming r peer link come → Step r peer link come
   step_by r peer link come true e h row = step_mine r peer link come (eqb-true r n e) row
-  step_by r peer link come false e h row =
-      step_other r peer link come (unlike r n e) h (row_other r peer link come (unlike r n e) row)
+  step_by r peer link come false e h row = search (arith, step_other, unlike, row_other)
 
   abbrev StandThen : List Value → Bool → ℕ → Connection → Type 0
   StandThen mine begun i c = Stand local shut t coming mine (units_at i came) begun (f.refs i) c
@@ -170,18 +161,7 @@ module _ (local : Local) (w : Whole) (f : Called local w) (t : State) (units : L
 
   stray_still : (v : Value) (later : List Placed) → IsStray f.shut s f.refs f.home w.tap.course.strays v later →
       IsStray shut t f.refs f.home w.tap.course.strays v (later ++ all_at None units)
-  stray_still v later a = record {
-    m = a.m;
-    n = a.n;
-    is = a.is;
-    strays_is = a.strays_is;
-    given = subst (λ (i : ℕ). a.n ≤ i) (sym given) a.given;
-    positive = a.positive;
-    shut_is = shut_still a.n a.shut_is;
-    none = λ e. at_join (f.home a.n) later (all_at None units)
-        ∙ ap (λ (vs : List Value). units_at (f.home a.n) later ++ vs) (all_nowhere (f.home a.n) units)
-        ∙ append-nil (units_at (f.home a.n) later) ∙ a.none e;
-  }
+  stray_still v later a = grind (arith, at_join, all_at, units_at, all_nowhere, append-nil)
 
   values_are : values tagged ≡ values f.tagged ++ units
   values_are = values_join f.tagged (all_at None units) ∙ ap (λ (vs : List Value). values f.tagged ++ vs) (values_all None units)

@@ -1,13 +1,13 @@
 -- Which connections a calling end of class 2 still has after a unit or a call: all but the one that a DR, DC or ER names.
 -- For the law on DRs.
-use Rattle.osi_fair.proofs.Vocabulary.{arith, [], ap, Bool, Err, false, if◌then◌else◌, inl, inr, is_some, List, None, Ok, Option, refl}
-use Rattle.osi_fair.proofs.Vocabulary.{Result, Some, sym, true, ℕ, ◌++◌, ◌+◌, ◌∙◌, ◌∷◌, ◌≡◌, ◌⊎◌, eq-eqb, eqb-true, ◌&&◌, ◌==◌}
-use Rattle.osi_fair.proofs.Vocabulary.{acknowledge, confirm, Connect, data2, disconnect, disconnected, error, Value, Standing, taken}
-use Rattle.osi_fair.proofs.Vocabulary.{with_tsdu, LinkFault, Class, Two, Zero, put_other, without_other, put_here, closed_on, closes_in}
-use Rattle.osi_fair.proofs.Vocabulary.{open_link, sent, sent_all, agreed_size, confirmed, opened_link, pumped, before_class, breaks_in}
-use Rattle.osi_fair.proofs.Vocabulary.{handed_out, in_class, in_two, leaves, opens, react_by, taking, to_asked, to_closing, to_connection}
-use Rattle.osi_fair.proofs.Vocabulary.{to_linked, to_unknown, put, Rows, value_at, without, breaks, closes_call as closes, connects, sends}
-use Rattle.osi_fair.proofs.Vocabulary.{sends_all, user_does, UserCall, asked, closing, Live as Connection, ends, linked, EndReason, subst}
+use Rattle.osi_fair.proofs.Vocabulary.{arith, [], ap, Bool, Err, false, if◌then◌else◌, inr, is_some, List, None, Ok, Option, refl, Result}
+use Rattle.osi_fair.proofs.Vocabulary.{Some, sym, true, ℕ, ◌++◌, ◌+◌, ◌∙◌, ◌∷◌, ◌≡◌, ◌⊎◌, eq-eqb, eqb-true, ◌&&◌, ◌==◌, acknowledge}
+use Rattle.osi_fair.proofs.Vocabulary.{confirm, Connect, data2, disconnect, disconnected, error, Value, Standing, with_tsdu, LinkFault}
+use Rattle.osi_fair.proofs.Vocabulary.{Class, Two, Zero, put_other, without_other, put_here, closed_on, closes_in, open_link, sent}
+use Rattle.osi_fair.proofs.Vocabulary.{sent_all, agreed_size, confirmed, opened_link, pumped, before_class, breaks_in, handed_out, in_class}
+use Rattle.osi_fair.proofs.Vocabulary.{in_two, leaves, opens, react_by, taking, to_asked, to_closing, to_connection, to_linked, to_unknown}
+use Rattle.osi_fair.proofs.Vocabulary.{put, Rows, value_at, without, connects, user_does, UserCall, asked, closing, Live as Connection}
+use Rattle.osi_fair.proofs.Vocabulary.{ends, linked, EndReason}
 use Rattle.osi_carrier.specs.Calls.{sent_on}
 unfoldable use Rattle.osi_carrier.specs.React.{react}
 use Rattle.osi_carrier.specs.State.{State}
@@ -45,8 +45,7 @@ push_by m b c o more k h = grind arith
 
 has_push : (m n : ℕ) (x : Connection) (rows : Rows Connection) → Has rows m → Has (rows ++ (n, x) ∷ []) m
 has_push m n x [] h = absurd (cc h)
-has_push m n x ((q, y) ∷ rows) h =
-    push_by m (q == m) y (value_at m rows) (value_at m (rows ++ (n, x) ∷ [])) (has_push m n x rows) h
+has_push m n x ((q, y) ∷ rows) h = grind (arith, push_by, has_push m n x rows)
 
 last_by : (b : Bool) (c : Connection) (o : Option Connection) → is_some o ≡ true → is_some (if b then Some c else o) ≡ true
 last_by b c o h = grind arith
@@ -94,9 +93,7 @@ opens_by r x true b z s o e =
     after_put (confirm r x) s (opens r x (Some Two) s) r
     (linked x.source (opened_link Two (agreed_size x.parameters.size s.local) s.local x.credit))
     (record { caller = o.caller; two = o.two; class = inr refl }) refl (λ h. refl) refl
-opens_by r x false b z s o e =
-    subst (λ (c : Bool). After (confirm r x) s (opens r x (if c then Some Zero else None) s)) (sym e)
-    (after_end (confirm r x) s (opens r x None s) o refl refl refl refl)
+opens_by r x false b z s o e = grind (arith, after_end)
 
 -- a CC selects class 2
 abbrev pub Selects : Value → Type 0
@@ -132,8 +129,7 @@ asked_after r (disconnected destination source) s o two is = after_same (disconn
 asked_after r (error destination cause) s o two is =
     after_drop (error destination cause) s (to_asked r (error destination cause) s) r o refl refl refl
     (ap (λ (n : ℕ). Some n) (is destination refl)) refl
-asked_after r v s o two is =
-    after_end v s (to_asked r v s) o refl refl refl refl
+asked_after r v s o two is = grind (arith, after_end)
 
 breaks_by : (unit : Value) (r peer : ℕ) (fault : LinkFault) (k : Option Class) (s : State) → OffersTwo s →
     (k ≡ None) ⊎ (k ≡ Some Two) → After unit s (breaks_in r peer fault k s)
@@ -160,10 +156,8 @@ leaves_by unit r peer reason (Some Two) s o e = after_drop unit s (leaves r peer
 
 linked_after : (r peer : ℕ) (link : Standing) (unit : Value) (s : State) → OffersTwo s → ((n : ℕ) → closed_by unit ≡ Some n → n ≡ r) →
     After unit s (to_linked r peer link unit s)
-linked_after r peer link (disconnect destination source reason user) s o is =
-    leaves_by (disconnect destination source reason user) r peer reason s.class s o (ap (λ (n : ℕ). Some n) (is destination refl))
-linked_after r peer link v s o is =
-    taking_after v r peer (taken link v) s o
+linked_after r peer link (disconnect destination source reason user) s o is = search (arith, leaves_by)
+linked_after r peer link v s o is = search (arith, taking_after)
 
 closing_after : (r : ℕ) (unit : Value) (s : State) → OffersTwo s → ((n : ℕ) → closed_by unit ≡ Some n → n ≡ r) →
     After unit s (to_closing r unit s)
@@ -200,51 +194,24 @@ awaited : (a : ℕ) (x : Connect) (s : State) → SelectsNow s (confirm a x) →
 awaited a x s two here m y e = two m y e (ap (λ (i : ℕ). value_at i s.live) (same_name a m x y e) ∙ here)
 
 before_after : (unit : Value) (s : State) → OffersTwo s → SelectsNow s unit → After unit s (before_class true unit s)
-before_after (confirm destination x) s o two =
-    connection_after destination (value_at destination s.live) (confirm destination x) s o (awaited destination x s two)
-    (λ n e. none_number n e)
-before_after (disconnect destination source reason user) s o two =
-    connection_after destination (value_at destination s.live) (disconnect destination source reason user) s o (λ here m x e. absurd (cc e))
-    (λ n e. same_number n destination e)
-before_after (error destination cause) s o two =
-    connection_after destination (value_at destination s.live) (error destination cause) s o (λ here m x e. absurd (cc e))
-    (λ n e. same_number n destination e)
-before_after v s o two = after_end v s (before_class true v s) o refl refl refl refl
+before_after unit s o two = grind (arith, connection_after, awaited, none_number, same_number, after_end)
 
 two_after : (unit : Value) (s : State) → OffersTwo s → SelectsNow s unit → After unit s (in_two true unit s)
-two_after (confirm destination x) s o two =
-    connection_after destination (value_at destination s.live) (confirm destination x) s o (awaited destination x s two)
-    (λ n e. none_number n e)
-two_after (disconnect destination source reason user) s o two =
-    connection_after destination (value_at destination s.live) (disconnect destination source reason user) s o (λ here m x e. absurd (cc e))
-    (λ n e. same_number n destination e)
-two_after (disconnected destination source) s o two =
-    connection_after destination (value_at destination s.live) (disconnected destination source) s o (λ here m x e. absurd (cc e))
-    (λ n e. same_number n destination e)
-two_after (data2 destination number end user) s o two =
-    connection_after destination (value_at destination s.live) (data2 destination number end user) s o (λ here m x e. absurd (cc e))
-    (λ n e. none_number n e)
-two_after (acknowledge credit destination number) s o two =
-    connection_after destination (value_at destination s.live) (acknowledge credit destination number) s o (λ here m x e. absurd (cc e))
-    (λ n e. none_number n e)
-two_after (error destination cause) s o two =
-    connection_after destination (value_at destination s.live) (error destination cause) s o (λ here m x e. absurd (cc e))
-    (λ n e. same_number n destination e)
+two_after (confirm destination x) s o two = grind (arith, connection_after, awaited, none_number)
+two_after (disconnect destination source reason user) s o two = grind (arith, connection_after, same_number)
+two_after (disconnected destination source) s o two = grind (arith, connection_after, same_number)
+two_after (data2 destination number end user) s o two = grind (arith, connection_after, none_number)
+two_after (acknowledge credit destination number) s o two = grind (arith, connection_after, none_number)
+two_after (error destination cause) s o two = grind (arith, connection_after, same_number)
 two_after v s o two = after_end v s (in_two true v s) o refl refl refl refl
 
 class_after : (k : Option Class) (unit : Value) (s : State) → OffersTwo s → SelectsNow s unit → (k ≡ None) ⊎ (k ≡ Some Two) →
     After unit s (in_class k unit s)
-class_after None unit s o two e =
-    subst (λ (b : Bool). After unit s (before_class b unit s)) (sym o.caller) (before_after unit s o two)
-class_after (Some Two) unit s o two e =
-    subst (λ (b : Bool). After unit s (in_two b unit s)) (sym o.caller) (two_after unit s o two)
-class_after (Some Zero) unit s o two (inl e) = absurd (cc e)
-class_after (Some Zero) unit s o two (inr e) = absurd (cc e)
+class_after k unit s o two e = grind (arith, before_after, two_after)
 
 by_end : (over : Bool) (unit : Value) (s : State) → is_some s.ended ≡ over → OffersTwo s → SelectsTwo s unit →
     After unit s (react_by over unit s)
-by_end true unit s e o two = after_same unit s s o refl refl refl refl
-by_end false unit s e o two = class_after s.class unit s o (two (none_of s.ended e)) o.class
+by_end over unit s e o two = search (arith, after_same, class_after, none_of)
 
 pub unit_after : (unit : Value) (s : State) → OffersTwo s → SelectsTwo s unit → After unit s (react unit s)
 unfolding react
@@ -293,8 +260,7 @@ all_after r (tsdu ∷ tsdus) s o =
 closes_by : (r peer reason : ℕ) (k : Option Class) (s : State) → OffersTwo s → AfterCall s (closes_in r peer reason k s)
 closes_by r peer reason None s o =
     let t = closes_in r peer reason None s in call_put s t r (closing peer) (stays s t o refl refl refl) refl refl
-closes_by r peer reason (Some Zero) s o =
-    let t = closes_in r peer reason (Some Zero) s in call_end s t (stays s t o refl refl refl) refl refl
+closes_by r peer reason (Some Zero) s o = grind (arith, call_end, stays)
 closes_by r peer reason (Some Two) s o =
     let t = closes_in r peer reason (Some Two) s in call_put s t r (closing peer) (stays s t o refl refl refl) refl refl
 
@@ -305,11 +271,7 @@ ended_after : (over : Bool) (reason : EndReason) (s : State) → OffersTwo s →
 ended_after over reason s o = grind (arith, call_same, call_end, stays)
 
 pub call_after : (call : UserCall) (s : State) → OffersTwo s → AfterCall s (user_does call s)
-call_after (connects calling called) s o = search (arith, stays, has_push)
-call_after (sends r tsdu) s o = sent_after r tsdu (open_link r s) s o
-call_after (sends_all r tsdus) s o = all_after r tsdus s o
-call_after (closes r reason) s o = closed_after r reason (open_link r s) s o
-call_after (breaks reason) s o = ended_after (is_some s.ended) reason s o
+call_after call s o = grind (arith, stays, has_push, sent_after, all_after, closed_after, ended_after)
 
 -- it had not ended before
 closes_last : (r peer reason : ℕ) (k : Option Class) (s : State) → (closes_in r peer reason k s).ended ≡ None → s.ended ≡ None

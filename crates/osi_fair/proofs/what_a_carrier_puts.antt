@@ -1,17 +1,14 @@
 -- What a carrier writes as it takes a unit, and as its user makes a call, is the packets of the units that it puts.
 -- For the law of that name.
-use Rattle.osi_fair.proofs.Vocabulary.{arith}
-use Rattle.osi_fair.proofs.Vocabulary.{[], ap, append_assoc, Bool, Err, if◌then◌else◌, is_some, List, None, Option, refl, Result}
-use Rattle.osi_fair.proofs.Vocabulary.{Some, sym, ℕ, ◌++◌, ◌∙◌, ◌∷◌, ◌≡◌, flat_map-append, append-nil, packet_of}
-use Rattle.osi_fair.proofs.Vocabulary.{Connect, disconnect, Value, written, Standing}
-use Rattle.osi_fair.proofs.Vocabulary.{taken, selected_by, Selection, LinkFault, Class, closed_on, closes_in}
-use Rattle.osi_fair.proofs.Vocabulary.{open_link, sent, sent_all, answers_by as answers, answers_request, before_class}
-use Rattle.osi_fair.proofs.Vocabulary.{breaks_in, denies, has_peer, in_class, in_two, in_zero, is_full, leaves, opens, react_by, taking}
-use Rattle.osi_fair.proofs.Vocabulary.{to_asked, to_closing, to_connection, to_linked, to_only, to_reference, to_unknown, Rows, value_at}
-use Rattle.osi_fair.proofs.Vocabulary.{user_does, UserCall}
-use Rattle.osi_fair.proofs.Vocabulary.{Live as Connection, ends, packets, EndReason, put_at, put_before, put_by, put_closed}
-use Rattle.osi_fair.proofs.Vocabulary.{put_closing, put_for, put_for_request, put_for_selection, put_in, put_in_two, put_in_zero}
-use Rattle.osi_fair.proofs.Vocabulary.{put_leaving, put_linked, put_only, put_sent, put_taking, put_to, put_together, put_unknown, refusal}
+use Rattle.osi_fair.proofs.Vocabulary.{arith, [], ap, append_assoc, Bool, Err, if◌then◌else◌, is_some, List, Option, refl, Result, Some}
+use Rattle.osi_fair.proofs.Vocabulary.{sym, ℕ, ◌++◌, ◌∙◌, ◌∷◌, ◌≡◌, flat_map-append, append-nil, packet_of, Connect, Value, written}
+use Rattle.osi_fair.proofs.Vocabulary.{Standing, selected_by, Selection, LinkFault, Class, closed_on, closes_in, open_link, sent, sent_all}
+use Rattle.osi_fair.proofs.Vocabulary.{answers_by as answers, answers_request, before_class, breaks_in, denies, has_peer, in_class, in_two}
+use Rattle.osi_fair.proofs.Vocabulary.{in_zero, is_full, leaves, opens, react_by, taking, to_asked, to_closing, to_connection, to_linked}
+use Rattle.osi_fair.proofs.Vocabulary.{to_only, to_reference, to_unknown, Rows, value_at, user_does, UserCall, Live as Connection, ends}
+use Rattle.osi_fair.proofs.Vocabulary.{packets, EndReason, put_at, put_before, put_by, put_closed, put_closing, put_for, put_for_request}
+use Rattle.osi_fair.proofs.Vocabulary.{put_for_selection, put_in, put_in_two, put_in_zero, put_leaving, put_linked, put_only, put_sent}
+use Rattle.osi_fair.proofs.Vocabulary.{put_taking, put_to, put_together, put_unknown, refusal}
 use Rattle.osi_carrier.specs.Calls.{sent_on}
 unfoldable use Rattle.osi_carrier.specs.React.{react}
 use Rattle.osi_carrier.specs.State.{State}
@@ -61,8 +58,7 @@ for_leaving r peer reason held s = grind (arith, none_written)
 
 for_linked : (r peer : ℕ) (link : Standing) (unit : Value) (s : State) →
     Writes s (put_linked r peer link unit s.class) (to_linked r peer link unit s)
-for_linked r peer link (disconnect destination source reason user) s = for_leaving r peer reason s.class s
-for_linked r peer link v s = for_taking r peer (taken link v) s
+for_linked r peer link unit s = grind (arith, for_leaving, for_taking)
 
 for_closing : (r : ℕ) (unit : Value) (s : State) → Writes s [] (to_closing r unit s)
 for_closing r unit s = grind (arith, none_written)
@@ -80,8 +76,7 @@ before : (is_caller : Bool) (unit : Value) (s : State) → Writes s (put_before 
 before is_caller v s = grind (arith, for_reference, none_written, for_request)
 
 only : (live : Rows Connection) (unit : Value) (s : State) → Writes s (put_only live unit s) (to_only live unit s)
-only [] unit s = none_written s s refl
-only ((r, connection) ∷ rows) unit s = for_connection r (Some connection) unit s
+only live unit s = search (arith, none_written, for_connection)
 
 in_class_zero : (is_caller : Bool) (unit : Value) (s : State) → Writes s (put_in_zero is_caller unit s) (in_zero is_caller unit s)
 in_class_zero is_caller unit s = grind (arith, only, none_written)
@@ -119,8 +114,7 @@ by_closed : (r reason peer : ℕ) (held : Option Class) (s : State) →
 by_closed r reason peer held s = grind (arith, none_written)
 
 by_link : (r reason : ℕ) (o : Option (ℕ × Standing)) (s : State) → Writes s (put_closing r reason o s.class) (closed_on r reason o s)
-by_link r reason None s = none_written s s refl
-by_link r reason (Some (peer, link)) s = by_closed r reason peer s.class s
+by_link r reason o s = grind (arith, none_written, by_closed)
 
 by_over : (over : Bool) (reason : EndReason) (s : State) → Writes s [] (if over then s else ends reason s)
 by_over over reason s = grind (arith, none_written)

@@ -1,11 +1,11 @@
 -- What a call of a link of class 2 does to its numbers and to what it has still to send.
 -- For the laws on a line.
-use Rattle.osi_fair.proofs.Vocabulary.{[], ap, arith, Bool, drop, false, IfOk, IfSome, length, length-drop, length-take}
-use Rattle.osi_fair.proofs.Vocabulary.{List, nat_lt, None, Ok, Option, refl, Result, Some, sym, take, true, ℕ, ◌++◌, ◌+◌, ◌-◌, ◌<◌, ◌∙◌}
-use Rattle.osi_fair.proofs.Vocabulary.{◌∷◌, ◌≡◌, ◌≤◌, ltb-false, ltb-true, acknowledge, data2, Value, at_ok, at_some, choose_ok}
-use Rattle.osi_fair.proofs.Vocabulary.{choose_some, Ends, ack_number, acknowledged, after_acked, Flow, steps_before}
-use Rattle.osi_fair.proofs.Vocabulary.{Joining, longest_tsdu, ack, Given, given_part, next, next_by, part0, part2, sent_flow, Standing}
-use Rattle.osi_fair.proofs.Vocabulary.{taken, taken_by, taken_flow, with_joined, with_sender, give, Part, LinkFault}
+use Rattle.osi_fair.proofs.Vocabulary.{[], arith, Bool, drop, false, IfOk, IfSome, length, length-drop, length-take, List, nat_lt, None, Ok}
+use Rattle.osi_fair.proofs.Vocabulary.{Option, refl, Result, Some, take, true, ℕ, ◌++◌, ◌+◌, ◌-◌, ◌<◌, ◌∷◌, ◌≡◌, ◌≤◌, ltb-false, ltb-true}
+use Rattle.osi_fair.proofs.Vocabulary.{acknowledge, data2, Value, at_ok, at_some, choose_ok, choose_some, Ends, ack_number, acknowledged}
+use Rattle.osi_fair.proofs.Vocabulary.{after_acked, Flow, steps_before, Joining, longest_tsdu, ack, Given, given_part, next, next_by, part0}
+use Rattle.osi_fair.proofs.Vocabulary.{part2, sent_flow, Standing, taken, taken_by, taken_flow, with_joined, with_sender, give, Part}
+use Rattle.osi_fair.proofs.Vocabulary.{LinkFault}
 
 -- ---- TSDUs that are not too long
 
@@ -83,9 +83,7 @@ next_gives e f = grind (arith, choose_some, ltb-true, gives_data, gives_a_part)
 
 pub gives_so : (old new : Standing) (f : Flow) (unit : Given) → old.flow ≡ Some f → next old ≡ Some (unit, new) →
     DoesGive old.ends f (unit, new)
-gives_so old new f unit is e =
-    at_some (DoesGive old.ends f) (next_by old.ends (Some f)) (unit, new) (next_gives old.ends f)
-    (sym (ap (λ (o : Option Flow). next_by old.ends o) is) ∙ e)
+gives_so old new f unit is e = grind (arith, at_some, next_gives old.ends f)
 
 -- ---- a unit that is taken
 

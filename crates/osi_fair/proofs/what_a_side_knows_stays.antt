@@ -106,9 +106,7 @@ begun_knows d b c s = search (arith, earlier_same)
 
 known_begins : (d b : Direction) (p : ℕ) (cs : List Connection) → HoldsOfEach SoundIf cs → Known d p cs (map (begins b) cs)
 known_begins d b p cs sound c e at j live there =
-    let (x, was, is) = after_map (begins b) cs p e there in
-    let same : x ≡ c = same_item x c (sym was ∙ at) in
-    subst (λ (y : Connection). KnowsStill d c y) (sym (is ∙ ap (begins b) same)) (begun_knows d b c (sound p c at j))
+    grind (arith, same_item, after_map (begins b) cs p e there, begun_knows d b c (sound p c at j))
 
 -- ---- a CR takes the place of a connection that is over, or a new one
 
@@ -120,8 +118,7 @@ put_by : (d : Direction) (p q : ℕ) (cs : List Connection) (new c e : Connectio
 put_by d p q cs new c e first at live (inl (same, is)) =
     let here : slice_get cs q ≡ Some c = ap (λ (i : ℕ). slice_get cs i) (sym same) ∙ at in
     differ (is_over d c) (both d c (first_true is_free cs q c first here)) live
-put_by d p q cs new c e first at live (inr so) =
-    known_by d c e (same_item e c (sym so ∙ at))
+put_by d p q cs new c e first at live (inr so) = grind (arith, known_by, same_item)
 
 add_by : (d : Direction) (p : ℕ) (cs : List Connection) (new c e : Connection) → slice_get cs p ≡ Some c →
     ((p ≡ length cs) × (e ≡ new)) ⊎ (slice_get cs p ≡ Some e) → KnowsStill d c e

@@ -1,14 +1,12 @@
 -- What a calling end has of a connection after it has taken a unit that names it.
 -- For the law on a whole end.
 use Rattle.osi_fair.proofs.Vocabulary.{arith, [], ap, Bool, Err, false, if◌then◌else◌, inl, inr, is_some, List, nat_lt, None, Ok, Option}
-use Rattle.osi_fair.proofs.Vocabulary.{refl, Result, Some, subst, sym, true, ℕ, ◌++◌, ◌∙◌, ◌∷◌, ◌≡◌, ◌≢◌, ◌≤◌, ◌⊎◌, ltb-false, ltb-true}
-use Rattle.osi_fair.proofs.Vocabulary.{AllByRecursion, not, ◌&&◌, ◌==◌, acknowledge, confirm, Connect, data2, destination_of, disconnect}
-use Rattle.osi_fair.proofs.Vocabulary.{disconnected, error, request, Value, Standing, taken, LinkFault, Class, Two, Zero, beyond, put_here}
-use Rattle.osi_fair.proofs.Vocabulary.{without_here, agreed_size, opened_link, proposes_two, proposes_zero, AreUpTo, connection_by}
-use Rattle.osi_fair.proofs.Vocabulary.{RiseFrom, pumped, handed_out, in_two, opens, taking, to_asked, to_closing, to_connection, to_linked}
-use Rattle.osi_fair.proofs.Vocabulary.{to_unknown, Rows, value_at, asked, closing, Live, linked, put_at, put_for, put_in_two, data0}
-use Rattle.osi_fair.proofs.Vocabulary.{breaks_in, leaves}
-use Rattle.osi_carrier.specs.Negotiation.{selects_expedited}
+use Rattle.osi_fair.proofs.Vocabulary.{refl, Result, Some, sym, true, ℕ, ◌++◌, ◌∙◌, ◌∷◌, ◌≡◌, ◌≢◌, ◌≤◌, ◌⊎◌, ltb-false, ltb-true}
+use Rattle.osi_fair.proofs.Vocabulary.{AllByRecursion, confirm, Connect, destination_of, disconnect, disconnected, error, Value, Standing}
+use Rattle.osi_fair.proofs.Vocabulary.{LinkFault, Class, Two, Zero, beyond, put_here, without_here, agreed_size, opened_link, proposes_zero}
+use Rattle.osi_fair.proofs.Vocabulary.{AreUpTo, connection_by, RiseFrom, pumped, handed_out, in_two, opens, taking, to_asked, to_closing}
+use Rattle.osi_fair.proofs.Vocabulary.{to_connection, to_linked, to_unknown, Rows, value_at, asked, closing, Live, linked, put_at, put_for}
+use Rattle.osi_fair.proofs.Vocabulary.{put_in_two, breaks_in, leaves}
 unfoldable use Rattle.osi_carrier.specs.React.{react}
 use Rattle.osi_carrier.specs.State.{State}
 use Rattle.osi_fair.proofs.small_facts_that_many_lemmas_use.{differ, first_is, no_list, number_is, rest_is}
@@ -54,14 +52,7 @@ by_number k u s n h e = grind arith
 
 -- a unit for a reference that is gone
 pub unknown_so : (u : Value) (s t : State) (n : ℕ) → destination_of u ≡ Some n → t ≡ to_unknown u s → t.ended ≡ None → (IsDr u → ⊥) → t ≡ s
-unknown_so (request x) s t n d e lasts none = over_not t.ended (ap (λ (x : State). is_some x.ended) e) lasts
-unknown_so (confirm destination x) s t n d e lasts none = over_not t.ended (ap (λ (x : State). is_some x.ended) e) lasts
-unknown_so (disconnect destination source reason user) s t n d e lasts none = absurd (none tt)
-unknown_so (disconnected destination source) s t n d e lasts none = e
-unknown_so (data0 end user) s t n d e lasts none = over_not t.ended (ap (λ (x : State). is_some x.ended) e) lasts
-unknown_so (data2 destination number end user) s t n d e lasts none = over_not t.ended (ap (λ (x : State). is_some x.ended) e) lasts
-unknown_so (acknowledge credit destination number) s t n d e lasts none = over_not t.ended (ap (λ (x : State). is_some x.ended) e) lasts
-unknown_so (error destination cause) s t n d e lasts none = over_not t.ended (ap (λ (x : State). is_some x.ended) e) lasts
+unknown_so u s t n d e lasts none = grind (arith, over_not)
 
 pub unknown_puts : (u : Value) (n : ℕ) (held : Option Class) → (IsDr u → ⊥) → put_at n None u held ≡ []
 unknown_puts u n held none = grind arith
@@ -93,8 +84,7 @@ pub linked_so : (n peer : ℕ) (link : Standing) (u : Value) (s t : State) → v
 linked_so n peer link (disconnect destination source reason user) s t here two rise e =
     ends None (ap (λ (x : State). value_at n x.live) (e ∙ ap (λ (k : Option Class). leaves n peer reason k s) two)
     ∙ without_here n s.live rise) peer (inr refl)
-linked_so n peer link v s t here two rise e =
-    linked_taking n peer link (taken link v) s t here two e
+linked_so n peer link v s t here two rise e = search (arith, linked_taking)
 
 -- a unit for a connection that awaits its CC
 pub data Asks (n : ℕ) (u : Value) (s t : State) : Type 0 where
@@ -116,18 +106,11 @@ opens_by n x false true s t here none e lasts = cc
 pub asked_so : (n : ℕ) (u : Value) (s t : State) → OffersTwo s → Selects u → RiseFrom 0 s.live → value_at n s.live ≡ Some asked →
     destination_of u ≡ Some n → t ≡ to_asked n u s → t.ended ≡ None → Asks n u s t
 asked_so n (confirm destination x) s t o two rise here d e lasts =
-    subst (λ (m : ℕ). Asks n (confirm m x) s t) (sym (number_is destination n d))
-    (opens_by n x ((x.class == 2) && (proposes_two s.local && not (selects_expedited x.parameters.additional)))
-    ((x.class == 0) && proposes_zero s.local s.class) s t here
-    (not_zero x (proposes_zero s.local s.class) (two destination x refl)) e lasts)
-asked_so n (disconnect destination source reason user) s t o two rise here d e lasts =
-    no_answer refl (λ x k. absurd (cc k)) (ap (λ (y : State). value_at n y.live) e ∙ without_here n s.live rise)
-asked_so n (disconnected destination source) s t o two rise here d e lasts =
-    early_dc refl (ap (λ (y : State). value_at n y.live) e ∙ here)
-asked_so n (error destination cause) s t o two rise here d e lasts =
-    no_answer refl (λ x k. absurd (cc k)) (ap (λ (y : State). value_at n y.live) e ∙ without_here n s.live rise)
-asked_so n _ s t o two rise here d e lasts =
-    over_not t.ended (ap (λ (y : State). is_some y.ended) e) lasts
+    search (arith, opens_by, number_is destination n d, not_zero x (proposes_zero s.local s.class) (two destination x refl))
+asked_so n (disconnect destination source reason user) s t o two rise here d e lasts = grind (arith, without_here)
+asked_so n (disconnected destination source) s t o two rise here d e lasts = grind arith
+asked_so n (error destination cause) s t o two rise here d e lasts = grind (arith, without_here)
+asked_so n _ s t o two rise here d e lasts = grind (arith, over_not)
 
 abbrev is_open_row : Live → Bool
 is_open_row (closing q) = false
@@ -135,11 +118,7 @@ is_open_row _ = true
 
 pub not_open : {A : Type 0} (old : Option Live) (p : ℕ) (o : Live) → (old ≡ Some (closing p)) ⊎ (old ≡ None) → old ≡ Some o →
     is_open_row o ≡ true → A
-not_open old p asked (inl e) h k = absurd (cc (sym e ∙ h))
-not_open old p asked (inr e) h k = absurd (cc (sym e ∙ h))
-not_open old p (linked q l) (inl e) h k = absurd (cc (sym e ∙ h))
-not_open old p (linked q l) (inr e) h k = absurd (cc (sym e ∙ h))
-not_open old p (closing q) a h k = absurd (cc k)
+not_open old p o a h k = grind arith
 
 -- what comes first is a DC, or the unit that comes after the DCs
 pub early_parts : (early : List Value) (u v : Value) (us vs : List Value) → AllByRecursion IsDc early → u ∷ us ≡ early ++ v ∷ vs →

@@ -93,10 +93,7 @@ from_is n m source v h e = eqb-true source n (sym (ap (is_from n) e) ∙ h)
 ours_settled : (cs : List Connection) (all : List Value) (given n peer : ℕ) (units : List Value) → IsSettled cs all given n →
     AllOurs n peer units → AllByRecursion (AreSettled cs all given) units
 ours_settled cs all given n peer [] k h = tt
-ours_settled cs all given n peer (v ∷ vs) k (one, more) = (
-  λ m source e. subst (IsSettled cs all given) (sym (from_is n m source v one.from e)) k,
-  ours_settled cs all given n peer vs k more,
-)
+ours_settled cs all given n peer (v ∷ vs) k (one, more) = grind (arith, from_is, ours_settled cs all given n peer vs k more)
 
 same_source : (m n i j : ℕ) → disconnected m n ≡ disconnected i j → n ≡ j
 same_source m n i j e = cc
@@ -163,16 +160,8 @@ module _ (local : Local) (w : Whole) (f : Followed local w) (sane : IsSane w.tap
 
   put_by : (p : ℕ) (c : Connection) → slice_get cs p ≡ Some c → is_tracked c ≡ true → (r peer : ℕ) → c.left.reference ≡ r →
       c.right.reference ≡ peer → (r ≡ n → ⊥) → Puts w.tap w.end n units → ours r peer (w.put ++ units) ≡ ours r peer w.put
-  put_by p c at tracked r peer left right other (nothing e) =
-      ap (λ (l : List Value). ours r peer (w.put ++ l)) e ∙ ap (λ (l : List Value). ours r peer l) (append-nil w.put)
-  put_by p c at tracked r peer left right other (of_line o k) =
-      picked_join (is_ours r peer) w.put units ∙ ap (λ (l : List Value). ours r peer w.put ++ l)
-      (none_ours r n o.c.right.reference peer units (λ same. other (sym left ∙ same_left p c at o
-      (one_peer w.tap sane peers p o.p c o.c at o.at tracked o.tracked (right ∙ sym same)))) o.own)
-      ∙ append-nil (ours r peer w.put)
-  put_by p c at tracked r peer left right other (of_none a k) =
-      ap (λ (l : List Value). ours r peer (w.put ++ l)) a.is
-      ∙ picked_other (is_ours r peer) w.put (disconnected a.m n) (dc_not_ours r peer a.m n (λ same. other (sym same)))
+  put_by p c at tracked r peer left right other h =
+      search (arith, ours, append-nil, picked_join, is_ours, none_ours, same_left, one_peer, picked_other, dc_not_ours)
 
   line_other : (p : ℕ) (c : Connection) → slice_get cs p ≡ Some c → is_tracked c ≡ true →
       (g : Following local w.put w.begun w.tap.course.strays w.end w.coming c) → (g.r ≡ n → ⊥) →
@@ -209,9 +198,7 @@ module _ (local : Local) (w : Whole) (f : Followed local w) (sane : IsSane w.tap
 
   -- what awaits its CC now did so before
   asked_by : (m : ℕ) (b : Bool) → (m == n) ≡ b → value_at m t.live ≡ Some asked → value_at m w.end.live ≡ Some asked
-  asked_by m true e row =
-      subst (λ (i : ℕ). value_at i t.live ≡ Some asked → value_at i w.end.live ≡ Some asked) (sym (eqb-true m n e)) asked_was row
-  asked_by m false e row = sym (rows m (unlike m n e)) ∙ row
+  asked_by m b e row = grind (arith, eqb-true, unlike)
 
   asked_before : (m : ℕ) → value_at m t.live ≡ Some asked → value_at m w.end.live ≡ Some asked
   asked_before m row = asked_by m (m == n) refl row

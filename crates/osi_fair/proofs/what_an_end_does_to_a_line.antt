@@ -1,11 +1,11 @@
 -- What an end does keeps what holds of its line: a call of its link, and the close of the connection.
 -- For the laws on a line.
 use Rattle.osi_fair.proofs.Vocabulary.{[], ap, arith, Bool, false, length, List, None, Ok, Option, refl, Some, subst, sym, true, ℕ, ◌%◌}
-use Rattle.osi_fair.proofs.Vocabulary.{◌++◌, ◌+◌, ◌-◌, ◌∙◌, ◌∷◌, ◌≡◌, ◌≤◌, acknowledge, data2, disconnect, Value, Ends}
-use Rattle.osi_fair.proofs.Vocabulary.{ack_number, after_acked, steps_before, longest_tsdu, ack, Hands, next, part0, part2, sent_flow}
-use Rattle.osi_fair.proofs.Vocabulary.{Standing, taken, taken_flow, with_tsdu, give_out, hand_in, hand_out, Move, Moves, take_in}
-use Rattle.osi_fair.proofs.Vocabulary.{is_closing, is_open, Connection, Left, Half, Phase, Acts, answers, closes_with as closes}
-use Rattle.osi_fair.proofs.Vocabulary.{HandsInShort, ignores, IsRightNow, Line, moves, units_put, units_taken}
+use Rattle.osi_fair.proofs.Vocabulary.{◌++◌, ◌+◌, ◌∙◌, ◌∷◌, ◌≡◌, ◌≤◌, acknowledge, data2, disconnect, Value, Ends, ack_number, after_acked}
+use Rattle.osi_fair.proofs.Vocabulary.{longest_tsdu, ack, Hands, next, part0, part2, sent_flow, Standing, taken, with_tsdu, give_out}
+use Rattle.osi_fair.proofs.Vocabulary.{hand_in, hand_out, Move, Moves, take_in, is_closing, is_open, Connection, Left, Half, Phase, Acts}
+use Rattle.osi_fair.proofs.Vocabulary.{answers, closes_with as closes, HandsInShort, ignores, IsRightNow, Line, moves, units_put}
+use Rattle.osi_fair.proofs.Vocabulary.{units_taken}
 use Rattle.osi_fair.proofs.what_a_link_does.{HaveRoom, room_more, gives_so, takes_so}
 use Rattle.osi_fair.proofs.units_in_flight.{Puts, puts_more, comes_within}
 use Rattle.osi_fair.proofs.what_holds_of_a_line.{Tally, Ordered, linked, OpenIfAny, PutsAt, TakesAt, Holds, bounds_of, came_of, shut}
@@ -149,78 +149,21 @@ module _ (r peer limit : ℕ) (x : Tally) (noted : ℕ) (tap : Connection) (o : 
       PutsAt r peer limit x tap.left tap.right put (Some link) → after.flow ≡ link.flow → after.ends.limit ≡ link.ends.limit →
       ((begun : ℕ) → HaveRoom begun link.ends.unsent → HaveRoom begun after.ends.unsent) →
       Moved r peer limit noted tap (put ++ []) coming after
-  same_flow put coming link after h p flow size room = record {
-    tally = x;
-    ordered = o;
-    taps = t;
-    puts = puts_same put link after p room;
-    takes = search (arith, (flow ∙ h.is), (size ∙ h.size));
-  }
+  same_flow put coming link after h p flow size room = grind (arith, puts_same)
 
   takes_data : (put coming : List Value) (link after : Standing) (destination number : ℕ) (end : Bool) (octets : List ℕ) →
       linked limit x tap.right (data2 destination number end octets ∷ coming) link →
       PutsAt r peer limit x tap.left tap.right put (Some link) → taken link (data2 destination number end octets) ≡ Ok after →
       Moved r peer limit noted tap (put ++ []) coming after
   takes_data put coming link after destination number end octets h p e =
-      let (flow, size, unsent) = takes_so link after h.flow (data2 destination number end octets) h.is e in
-      record {
-        tally = x;
-        ordered = o;
-        taps = t;
-        puts = puts_same put link after p (λ begun room. subst (λ (l : List (List ℕ)). HaveRoom begun l) (sym unsent) room);
-        takes = record {
-          flow = taken_flow h.flow;
-          taken = h.taken + 1;
-          known = h.known;
-          is = flow;
-          size = size ∙ h.size;
-          next = h.next;
-          unacknowledged = h.unacknowledged;
-          few = h.few;
-          edge = h.edge;
-          expected = omega arith;
-          waiting = omega arith;
-          credit = h.credit;
-          comes = h.comes;
-        };
-      }
+      grind (arith, puts_same, takes_so link after h.flow (data2 destination number end octets) h.is e)
 
   takes_ack : (put coming : List Value) (link after : Standing) (credit destination number : ℕ) →
       linked limit x tap.right (acknowledge credit destination number ∷ coming) link →
       PutsAt r peer limit x tap.left tap.right put (Some link) → taken link (acknowledge credit destination number) ≡ Ok after →
       Moved r peer limit noted tap (put ++ []) coming after
   takes_ack put coming link after credit destination number h p e =
-      let (within, enough, flow, same) = takes_so link after h.flow (acknowledge credit destination number) h.is e in
-      let (count, is, small, up, edge, comes) = h.comes in
-      let low = comes_within (came_of x tap.right) h.taken count coming comes in
-      let left : count + steps_before h.flow.sender.next number ≡ x.sent = omega arith in
-      record {
-        tally = x;
-        ordered = o;
-        taps = t;
-        puts = puts_same put link after p (λ begun room. subst (λ (e : Ends). HaveRoom begun e.unsent) (sym same) room);
-        takes = record {
-          flow = record h.flow {
-            sender = record {
-              next = h.flow.sender.next;
-              unacknowledged = steps_before h.flow.sender.next number;
-              credit = credit - steps_before h.flow.sender.next number;
-            };
-          };
-          taken = h.taken;
-          known = count;
-          is = flow;
-          size = ap (λ (e : Ends). e.limit) same ∙ h.size;
-          next = h.next;
-          unacknowledged = left;
-          few = omega arith;
-          edge = omega arith;
-          expected = h.expected;
-          waiting = h.waiting;
-          credit = h.credit;
-          comes = comes;
-        };
-      }
+      grind (arith, comes_within, puts_same, takes_so link after h.flow (acknowledge credit destination number) h.is e, came_of x tap.right)
 
   hands_out : (put coming : List Value) (link after : Standing) (tsdu : List ℕ) → linked limit x tap.right coming link →
       PutsAt r peer limit x tap.left tap.right put (Some link) → Hands (Some tsdu) link after →
@@ -243,10 +186,8 @@ module _ (r peer limit : ℕ) (x : Tally) (noted : ℕ) (tap : Connection) (o : 
   takes_any : (put coming : List Value) (link after : Standing) (unit : Value) → linked limit x tap.right (unit ∷ coming) link →
       PutsAt r peer limit x tap.left tap.right put (Some link) → taken link unit ≡ Ok after →
       Moved r peer limit noted tap (put ++ []) coming after
-  takes_any put coming link after (data2 destination number end octets) h p e =
-      takes_data put coming link after destination number end octets h p e
-  takes_any put coming link after (acknowledge credit destination number) h p e =
-      takes_ack put coming link after credit destination number h p e
+  takes_any put coming link after (data2 destination number end octets) h p e = search (arith, takes_data)
+  takes_any put coming link after (acknowledge credit destination number) h p e = search (arith, takes_ack)
   takes_any put coming link after v h p e = absurd (takes_so link after h.flow v h.is e)
 
   call_moves : (move : Move) (put coming : List Value) (link after : Standing) →
@@ -254,10 +195,8 @@ module _ (r peer limit : ℕ) (x : Tally) (noted : ℕ) (tap : Connection) (o : 
       PutsAt r peer limit x tap.left tap.right put (Some link) → Moves move link after → HandsInShort move →
       Moved r peer limit noted tap (put ++ units_put peer move) coming after
   call_moves (hand_in tsdu) put coming link after h p e short = hands_in put coming link after tsdu h p short e
-  call_moves (give_out (part0 end octets)) put coming link after h p e short =
-      absurd (gives_so link after h.flow (part0 end octets) h.is e)
-  call_moves (give_out (part2 number end octets)) put coming link after h p e short =
-      gives_data put coming link after number end octets h p e
+  call_moves (give_out (part0 end octets)) put coming link after h p e short = grind (arith, gives_so)
+  call_moves (give_out (part2 number end octets)) put coming link after h p e short = search (arith, gives_data)
   call_moves (give_out (ack number credit)) put coming link after h p e short = gives_ack put coming link after number credit h p e
   call_moves (take_in unit) put coming link after h p e short = takes_any put coming link after unit h p e
   call_moves (hand_out tsdu) put coming link after h p e short = hands_out put coming link after tsdu h p e

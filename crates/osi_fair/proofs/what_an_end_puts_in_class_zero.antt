@@ -6,7 +6,6 @@ use Rattle.osi_fair.proofs.Vocabulary.{data0, Value, Ends, Flow, Drained, draine
 use Rattle.osi_fair.proofs.Vocabulary.{given_part, next_by, part0, Standing, unit_of, give, Part}
 use Rattle.osi_class.specs.Giving.{drained}
 use Rattle.osi_fair.proofs.what_a_link_does.{AreShort, HaveRoom, begun_by, front_fits, rest_is, room_at_first}
-use Rattle.osi_fair.proofs.Vocabulary.{◌∙◌}
 
 -- ---- DTs that were put
 
@@ -73,12 +72,8 @@ next_by_unsent : (peer limit begun : ℕ) (e : Ends) (more : Standing → Draine
     IsPlain limit s →
     s.ends ≡ e → (unsent : List (List ℕ)) → e.unsent ≡ unsent → HaveRoom begun unsent →
     Given0 peer limit begun (drained_by (given_part e None None (give e.limit unsent)) s more)
-next_by_unsent peer limit begun e more s h size plain same [] is room = record {
-  plain = plain;
-  puts = subst (HaveRoom begun) (sym (ap (λ (x : Ends). x.unsent) same ∙ is)) room;
-}
-next_by_unsent peer limit begun e more s h size plain same (tsdu ∷ tsdus) is room =
-    give_by peer limit begun e more s h size tsdu tsdus room (nat_lt e.limit (length tsdu)) refl
+next_by_unsent peer limit begun e more s h size plain same [] is room = grind arith
+next_by_unsent peer limit begun e more s h size plain same (tsdu ∷ tsdus) is room = search (arith, give_by)
 
 within_gives : (n : ℕ) → Gives0 (drained_within n)
 within_gives zero peer limit begun s plain room = record { plain = plain; puts = room }
@@ -91,8 +86,7 @@ plain_part : (limit : ℕ) (e : Ends) (more : Standing → Drained) (s : Standin
     (more t).link) →
     e.limit ≡ limit → IsPlain limit s → (o : Option (Part × List (List ℕ))) → IsPlain limit (drained_by (given_part e None None o) s
     more).link
-plain_part limit e more s h size plain None = plain
-plain_part limit e more s h size plain (Some ((end, octets), rest)) = h (with_unsent e rest) (record { flow = refl; size = size })
+plain_part limit e more s h size plain o = grind arith
 
 within_plain : (n limit : ℕ) (s : Standing) → IsPlain limit s → IsPlain limit (drained_within n s).link
 within_plain zero limit s plain = plain

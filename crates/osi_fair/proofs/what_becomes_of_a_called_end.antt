@@ -3,11 +3,11 @@
 use Rattle.osi_fair.proofs.Vocabulary.{[], ap, arith, Bool, Err, false, is_some, List, map, None, Ok, Option, refl, Result, Some, subst}
 use Rattle.osi_fair.proofs.Vocabulary.{sym, true, ℕ, ◌++◌, ◌∙◌, ◌∷◌, ◌≡◌, ◌≤◌, ◌⊎◌, eqb-true, AllByRecursion, ◌==◌, acknowledge, confirm}
 use Rattle.osi_fair.proofs.Vocabulary.{data0, data2, destination_of, disconnect, disconnected, error, request, Value, Ends, Flow, all_given}
-use Rattle.osi_fair.proofs.Vocabulary.{Given, Standing, taken, taken_by, unit_of, LinkFault, WrongForm, Class, Two, Local}
-use Rattle.osi_fair.proofs.Vocabulary.{push_other, put_other, without_other, row_here, push_here, put_here, without_here, AreUpTo}
-use Rattle.osi_fair.proofs.Vocabulary.{IsOrderly, RiseFrom, pumped, breaks_in, handed_out, taking, to_closing, to_connection}
-use Rattle.osi_fair.proofs.Vocabulary.{to_linked, put, Rows, value_at, without, asked, closing, Live, linked, packets, Follows, link_now}
-use Rattle.osi_fair.proofs.Vocabulary.{closes_with, put_at, put_for, put_linked, put_taking}
+use Rattle.osi_fair.proofs.Vocabulary.{Given, Standing, taken_by, unit_of, LinkFault, WrongForm, Class, Two, Local, push_other, put_other}
+use Rattle.osi_fair.proofs.Vocabulary.{without_other, row_here, push_here, put_here, without_here, AreUpTo, IsOrderly, RiseFrom, pumped}
+use Rattle.osi_fair.proofs.Vocabulary.{breaks_in, handed_out, taking, to_closing, to_connection, to_linked, put, Rows, value_at, without}
+use Rattle.osi_fair.proofs.Vocabulary.{asked, closing, Live, linked, packets, Follows, link_now, closes_with, put_at, put_for, put_linked}
+use Rattle.osi_fair.proofs.Vocabulary.{put_taking}
 unfoldable use Rattle.osi_carrier.specs.React.{react}
 use Rattle.osi_carrier.specs.State.{State}
 use Rattle.osi_fair.proofs.each_connection_of_a_called_end.{AreAbove}
@@ -19,7 +19,6 @@ use Rattle.osi_fair.proofs.a_run_of_calls_is_events.{no_end}
 use Rattle.osi_fair.proofs.a_dt_of_class_zero_passes.{unlike}
 use Rattle.osi_fair.proofs.what_an_end_does_in_class_zero.{some_is}
 use Rattle.osi_fair.proofs.what_a_called_end_does_to_its_lines.{shuts}
-use Rattle.osi_fair.proofs.Vocabulary.{leaves}
 pub use Rattle.osi_fair.proofs.each_connection_has_its_line.{IsNoCc}
 
 -- ---- the end
@@ -60,19 +59,8 @@ touch_rows u n s t l lasts m other = grind (arith, put_other, without_other, no_
 
 none_by : (u : Value) (n : ℕ) (s t : State) → Touch u n s t → RiseFrom 0 s.live → ((m : ℕ) → value_at m s.live ≡ Some asked → ⊥) →
     (m : ℕ) (b : Bool) → (m == n) ≡ b → value_at m t.live ≡ Some asked → ⊥
-none_by u n s t (same_rows e) rise none m b h there = none m (sym (ap (λ (l : Rows Live). value_at m l) e) ∙ there)
-none_by u n s t (puts_row z k here settled e) rise none m true h there =
-    settled (some_is k asked (sym (put_here n k z s.live here) ∙ sym (ap (λ (l : Rows Live). value_at n l) e)
-    ∙ ap (λ (i : ℕ). value_at i t.live) (sym (eqb-true m n h)) ∙ there))
-none_by u n s t (puts_row z k here settled e) rise none m false h there =
-    none m (sym (put_other m n k s.live (unlike m n h)) ∙ sym (ap (λ (l : Rows Live). value_at m l) e) ∙ there)
-none_by u n s t (drops_row closes e) rise none m true h there =
-    no_row (value_at m t.live) asked (ap (λ (l : Rows Live). value_at m l) e ∙ ap (λ (i : ℕ). value_at i (without n s.live))
-    (eqb-true m n h)
-    ∙ without_here n s.live rise) there
-none_by u n s t (drops_row closes e) rise none m false h there =
-    none m (sym (without_other m n s.live (unlike m n h)) ∙ sym (ap (λ (l : Rows Live). value_at m l) e) ∙ there)
-none_by u n s t (no_rows e over) rise none m b h there = no_row (value_at m t.live) asked (ap (λ (l : Rows Live). value_at m l) e) there
+none_by u n s t h rise none m b h2 there =
+    grind (arith, some_is, put_here, eqb-true, put_other, unlike, no_row, without_here, without_other)
 
 pub touch_none : (u : Value) (n : ℕ) (s t : State) → Touch u n s t → RiseFrom 0 s.live → ((m : ℕ) → value_at m s.live ≡ Some asked → ⊥) →
     (m : ℕ) → value_at m t.live ≡ Some asked → ⊥
@@ -83,11 +71,8 @@ lives_by : (u : Value) (n : ℕ) (s t : State) → Touch u n s t → t.ended ≡
 lives_by u n s t h lasts m false e live other =
     ap is_some (touch_rows u n s t h lasts m (unlike m n e)) ∙ live
 lives_by u n s t (same_rows is) lasts m true e live other = ap (λ (l : Rows Live). is_some (value_at m l)) is ∙ live
-lives_by u n s t (puts_row z k here settled is) lasts m true e live other =
-    ap (λ (i : ℕ). is_some (value_at i t.live)) (eqb-true m n e) ∙ ap (λ (l : Rows Live). is_some (value_at n l)) is
-    ∙ ap is_some (put_here n k z s.live here)
-lives_by u n s t (drops_row closes is) lasts m true e live other =
-    absurd (other (closes ∙ ap (λ (i : ℕ). Some i) (sym (eqb-true m n e))))
+lives_by u n s t (puts_row z k here settled is) lasts m true e live other = grind (arith, eqb-true, put_here)
+lives_by u n s t (drops_row closes is) lasts m true e live other = grind (arith, eqb-true)
 lives_by u n s t (no_rows is gone) lasts m true e live other = no_end t.ended gone lasts
 
 pub touch_lives : (u : Value) (n : ℕ) (s t : State) → Touch u n s t → t.ended ≡ None → (m : ℕ) → IsLive s m → (shuts_of u ≡ Some m → ⊥) →
@@ -154,15 +139,8 @@ taking_so u n q l (Err fault) s here two =
 
 pub open_so : (n q : ℕ) (l : Standing) (u : Value) (s : State) → value_at n s.live ≡ Some (linked q l) → s.class ≡ Some Two →
     RiseFrom 0 s.live → destination_of u ≡ Some n → OpenSo u n q s (to_linked n q l u s)
-open_so n q l (disconnect destination source reason user) s here two rise dest =
-    subst (λ (k : Option Class). OpenSo (disconnect destination source reason user) n q s (leaves n q reason k s)) (sym two) (record {
-      same = record { caller = refl; local_is = refl; class = refl; given = refl };
-      ended = refl;
-      touch = drops_row dest refl;
-      leaves_so = shuts (ap link_now (without_here n s.live rise));
-    })
-open_so n q l v s here two rise dest = taking_so v n q l
-    (taken l v) s here two
+open_so n q l (disconnect destination source reason user) s here two rise dest = grind (arith, shuts, without_here)
+open_so n q l v s here two rise dest = search (arith, taking_so)
 
 -- the link refuses a DC
 dc_refused : (e : Ends) (flow : Option Flow) (m n : ℕ) → taken_by e flow (disconnected m n) ≡ Err WrongForm
@@ -203,8 +181,7 @@ pub closing_touches : (n : ℕ) (u : Value) (s : State) → destination_of u ≡
 closing_touches n u s dest = grind arith
 
 pub closing_same : (n : ℕ) (u : Value) (s : State) → Same s (to_closing n u s) × ((to_closing n u s).ended ≡ s.ended)
-closing_same n (request x) s = (record { caller = refl; local_is = refl; class = refl; given = refl }, refl)
-closing_same n _ s = (record { caller = refl; local_is = refl; class = refl; given = refl }, refl)
+closing_same n u s = grind arith
 
 -- ---- references
 

@@ -1,18 +1,16 @@
 -- What a unit of the other side does to its connection at the tap of a calling end: one that is open stays so, one that waits is
 -- opened or refused. For the law on a whole end.
-use Rattle.osi_fair.proofs.Vocabulary.{arith, [], ap, Bool, drop, false, if◌then◌else◌, inl, inr, List, None, Option, refl, Some, subst}
-use Rattle.osi_fair.proofs.Vocabulary.{sym, true, ℕ, ◌∙◌, ◌∷◌, ◌≡◌, ◌⊎◌, nat_le, not, position, slice_get, ◌&&◌, ◌==◌, ◌||◌, acknowledge}
+use Rattle.osi_fair.proofs.Vocabulary.{arith, [], ap, Bool, false, if◌then◌else◌, inl, inr, List, None, Option, refl, Some, subst, sym}
+use Rattle.osi_fair.proofs.Vocabulary.{true, ℕ, ◌∙◌, ◌∷◌, ◌≡◌, ◌⊎◌, nat_le, not, position, slice_get, ◌&&◌, ◌==◌, ◌||◌, acknowledge}
 use Rattle.osi_fair.proofs.Vocabulary.{confirm, Connect, data0, data2, destination_of, disconnect, disconnected, error, request, Value}
-use Rattle.osi_fair.proofs.Vocabulary.{Class, Two, Zero, is_applied, is_of_connection, passes_over, reach_of, code_named, confirm_tests}
-use Rattle.osi_fair.proofs.Vocabulary.{acknowledge_tests, data2_tests, length, first_failed, given_again, is_due, is_inside, is_offered}
-use Rattle.osi_fair.proofs.Vocabulary.{Test, is_closing, is_named, is_open, is_refused, is_silent, at_found, at_place, class_for}
-use Rattle.osi_fair.proofs.Vocabulary.{closing_phase, connection_after, course_after, found, found_on, half_after}
-use Rattle.osi_fair.proofs.Vocabulary.{in_doubt, none_told, one_told, Outcome, reached, route, route_in, routed, Traffic, takes}
+use Rattle.osi_fair.proofs.Vocabulary.{Class, Two, Zero, is_applied, is_of_connection, passes_over, reach_of, code_named, first_failed}
+use Rattle.osi_fair.proofs.Vocabulary.{given_again, is_due, is_inside, is_offered, Test, is_closing, is_named, is_open, is_refused}
+use Rattle.osi_fair.proofs.Vocabulary.{is_silent, at_place, class_for, closing_phase, connection_after, course_after, found, found_on}
+use Rattle.osi_fair.proofs.Vocabulary.{half_after, in_doubt, none_told, one_told, Outcome, reached, route, route_in, routed, Traffic, takes}
 use Rattle.osi_fair.proofs.Vocabulary.{unnamed_by, unnamed_told, uses_source, Connection, Course, Right, Finding, Broke, Kept, NotJudged}
 use Rattle.osi_fair.proofs.Vocabulary.{Outside, TooMany, Reach, Rule, Half, Phase, noted}
 use Rattle.osi_rules.specs.declared.findings.Reach.TheVariants as reach
 use Rattle.osi_rules.specs.declared.findings.Rule.TheVariants as rule
-use Rattle.osi_rules.specs.Sides.{sends}
 use Rattle.osi_fair.proofs.small_facts_that_many_lemmas_use.{and_first, and_second, differ, judged_same, open_or_closing, sized_judged}
 use Rattle.osi_fair.proofs.no_two_open_connections_have_one_peer.{left_open, right_there, there_not_silent}
 use Rattle.osi_fair.proofs.each_connection_has_its_line.{is_tracked}
@@ -48,23 +46,12 @@ pub record IsIdle (v : Value) (s : Traffic) (o : Outcome) : Type 0 where
 -- ---- a unit for no connection
 
 not_judged : (loose : Bool) → (if loose then in_doubt NotJudged else NotJudged) ≡ NotJudged
-not_judged true = refl
-not_judged false = refl
+not_judged loose = grind arith
 
 idle_by : (b : Bool) (m source : ℕ) (s : Traffic) → s.course.strays ≡ b → s.course.left_erred ≡ false →
     IsCalm (unnamed_told Right (disconnected m source) s).state.course →
     IsIdle (disconnected m source) s (unnamed_told Right (disconnected m source) s)
-idle_by true m source s e fine h = record {
-  m = m;
-  source = source;
-  dc = refl;
-  strays = e;
-  same = ap (λ (f : Finding). record s { course = noted Right f (reached Right (reach_of (class_for Right s.course) f) s.course) })
-      (ap (λ (b : Bool). if s.course.loose then in_doubt (unnamed_by b (disconnected m source)) else unnamed_by b (disconnected m source)) e
-      ∙ not_judged s.course.loose);
-}
-idle_by false m source s e fine h =
-    unknown_not (disconnected m source) s (ap (λ (b : Bool). unnamed_by b (disconnected m source)) e) fine h
+idle_by b m source s e fine h = grind (arith, not_judged, unknown_not)
 
 by_bool : (v : Value) → unnamed_by true v ≡ Broke rule.UnknownReference → unnamed_by false v ≡ Broke rule.UnknownReference →
     (b : Bool) → unnamed_by b v ≡ Broke rule.UnknownReference
@@ -72,8 +59,7 @@ by_bool v h k b = grind arith
 
 none_idle : (v : Value) (s : Traffic) → s.course.left_erred ≡ false → IsCalm (unnamed_told Right v s).state.course →
     IsIdle v s (unnamed_told Right v s)
-none_idle (disconnected m source) s fine h = idle_by s.course.strays m source s refl fine h
-none_idle v s fine h = unknown_not v s (by_bool v refl refl s.course.strays) fine h
+none_idle v s fine h = grind (arith, idle_by, unknown_not, by_bool)
 
 -- the end has broken no rule
 module _ (s : Traffic) (fine : s.course.left_erred ≡ false) where
@@ -83,43 +69,28 @@ module _ (s : Traffic) (fine : s.course.left_erred ≡ false) where
   at_name : (v : Value) (n : ℕ) (o : Option ℕ) → position (is_named Right n) s.connections ≡ o → destination_of v ≡ Some n →
       Comes v (at_place Right v s o)
   at_name v n None e d h = inr (none_idle v s fine h)
-  at_name v n (Some q) e d h =
-      let (c, at, named) = named_where s.connections n q e in
-      inl (record { n = n; q = q; c = c; dest = d; at = at; named = named; is = ap (λ (o : Option Connection). at_found Right v s q o) at })
+  at_name v n (Some q) e d h = search (arith, named_where s.connections n q e)
 
   wrong : (v : Value) → Comes v (none_told Right (Broke rule.UnexpectedUnit) s)
-  wrong v h =
-      let f = Broke rule.UnexpectedUnit in
-      not_calm (class_for Right s.course) rule.UnexpectedUnit s.course refl refl
-      (calm_noted Right f (reached Right (reach_of (class_for Right s.course) f) s.course) h)
+  wrong v h = grind (arith, not_calm, calm_noted)
 
   by_class : (k : Option Class) → (k ≡ None) ⊎ (k ≡ Some Two) → (v : Value) → Comes v (routed Right v s (route_in k Right false v))
   by_class (Some Zero) (inl e) v h = absurd (cc e)
   by_class (Some Zero) (inr e) v h = absurd (cc e)
-  by_class None e (confirm destination x) h =
-      at_name (confirm destination x) destination (position (is_named Right destination) s.connections) refl refl h
-  by_class None e (disconnect destination source reason user) h =
-      at_name (disconnect destination source reason user) destination (position (is_named Right destination) s.connections) refl refl h
+  by_class None e (confirm destination x) h = search (arith, at_name)
+  by_class None e (disconnect destination source reason user) h = search (arith, at_name)
   by_class None e (disconnected destination source) h =
       at_name (disconnected destination source) destination (position (is_named Right destination) s.connections) refl refl h
-  by_class None e (error destination cause) h =
-      at_name (error destination cause) destination (position (is_named Right destination) s.connections) refl refl h
-  by_class None e v h =
-      wrong v h
-  by_class (Some Two) e (confirm destination x) h =
-      at_name (confirm destination x) destination (position (is_named Right destination) s.connections) refl refl h
-  by_class (Some Two) e (disconnect destination source reason user) h =
-      at_name (disconnect destination source reason user) destination (position (is_named Right destination) s.connections) refl refl h
+  by_class None e (error destination cause) h = search (arith, at_name)
+  by_class None e v h = search (arith, wrong)
+  by_class (Some Two) e (confirm destination x) h = search (arith, at_name)
+  by_class (Some Two) e (disconnect destination source reason user) h = search (arith, at_name)
   by_class (Some Two) e (disconnected destination source) h =
       at_name (disconnected destination source) destination (position (is_named Right destination) s.connections) refl refl h
-  by_class (Some Two) e (data2 destination number end user) h =
-      at_name (data2 destination number end user) destination (position (is_named Right destination) s.connections) refl refl h
-  by_class (Some Two) e (acknowledge credit destination number) h =
-      at_name (acknowledge credit destination number) destination (position (is_named Right destination) s.connections) refl refl h
-  by_class (Some Two) e (error destination cause) h =
-      at_name (error destination cause) destination (position (is_named Right destination) s.connections) refl refl h
-  by_class (Some Two) e v h =
-      wrong v h
+  by_class (Some Two) e (data2 destination number end user) h = search (arith, at_name)
+  by_class (Some Two) e (acknowledge credit destination number) h = search (arith, at_name)
+  by_class (Some Two) e (error destination cause) h = search (arith, at_name)
+  by_class (Some Two) e v h = grind (arith, wrong)
 
   pub comes_for : (v : Value) → s.course.left_stopped ≡ false → s.course.right_stopped ≡ false →
       (s.course.class ≡ None) ⊎ (s.course.class ≡ Some Two) → Comes v (takes Right v s)
@@ -206,11 +177,7 @@ module _ (s : Traffic) (c : Connection) (judged : c.is_judged ≡ true) (sound :
 
   broke : {A : Type 0} (v : Value) (r : Rule) → finding v ≡ Broke r → passes_over r ≡ false → is_of_connection r ≡ false →
       IsCalm (course v) → A
-  broke v r e past hard h =
-      let mid = course_after Right c v (is_applied (finding v)) s.course in
-      not_calm (class_for Right s.course) r mid past hard
-      (subst (λ (f : Finding). IsCalm (reached Right (reach_of (class_for Right s.course) f) mid)) e
-      (calm_noted Right (finding v) (reached Right (how_far v) mid) h))
+  broke v r e past hard h = grind (arith, not_calm, calm_noted)
 
   -- ---- a connection that is open stays so
 
@@ -219,15 +186,8 @@ module _ (s : Traffic) (c : Connection) (judged : c.is_judged ≡ true) (sound :
 
   same_by : (v : Value) (b : Bool) → is_applied (finding v) ≡ b → (half_after v c.right).phase ≡ c.right.phase →
       (half_after v c.right).reference ≡ c.right.reference → is_tracked c ≡ true → StaysOpen v
-  same_by v true e p r h = (
-    ap (λ (x : Half). is_open x.phase || is_closing x.phase) (right_by v true e) ∙ ap (λ (x : Phase). is_open x || is_closing x) p
-        ∙ right_there c h,
-    ap (λ (x : Half). x.reference) (right_by v true e) ∙ r,
-  )
-  same_by v false e p r h = (
-    ap (λ (x : Half). is_open x.phase || is_closing x.phase) (right_by v false e) ∙ right_there c h,
-    ap (λ (x : Half). x.reference) (right_by v false e),
-  )
+  same_by v true e p r h = grind (arith, right_by v true e, right_there c h)
+  same_by v false e p r h = grind (arith, right_by v false e, right_there c h)
 
   not_silent : is_tracked c ≡ true → is_silent c.right.phase ≡ false
   not_silent h = there_not_silent c.right.phase (right_there c h)
@@ -249,21 +209,14 @@ module _ (s : Traffic) (c : Connection) (judged : c.is_judged ≡ true) (sound :
   dc_idle : (destination source : ℕ) → (is_due Right c source ≡ true → ⊥) →
       Fate (is_due Right c source) (finding (disconnected destination source)) →
       is_applied (finding (disconnected destination source)) ≡ false
-  dc_idle destination source none (inl due) = absurd (none due)
-  dc_idle destination source none (inr (inl e)) = ap is_applied e
-  dc_idle destination source none (inr (inr (inl e))) = ap is_applied e
-  dc_idle destination source none (inr (inr (inr e))) = ap is_applied e
+  dc_idle destination source none h = grind arith
 
   -- what has no effect
   idle_open : (v : Value) → is_applied (finding v) ≡ false → is_tracked c ≡ true → StaysOpen v
-  idle_open v e h = (
-    ap (λ (x : Half). is_open x.phase || is_closing x.phase) (right_by v false e) ∙ right_there c h,
-    ap (λ (x : Half). x.reference) (right_by v false e),
-  )
+  idle_open v e h = grind (arith, right_by v false e, right_there c h)
 
   cc_wrong : (destination : ℕ) (x : Connect) → is_silent c.right.phase ≡ false → finding (confirm destination x) ≡ Broke rule.WrongForm
-  cc_wrong destination x h = is_found (confirm destination x) ∙ form_broke (is_silent c.right.phase)
-      (drop 1 (confirm_tests c s.course.class (uses_source Right s.connections (confirm destination x)) s.course.loose x)) h
+  cc_wrong destination x h = grind (arith, is_found, form_broke)
 
   -- a CC has an effect only on a connection that waits
   pub cc_idle : (destination : ℕ) (x : Connect) → is_silent c.right.phase ≡ false → is_applied (finding (confirm destination x)) ≡ false
@@ -272,43 +225,24 @@ module _ (s : Traffic) (c : Connection) (judged : c.is_judged ≡ true) (sound :
   -- and it ends the judging of another
   cc_far : (destination : ℕ) (x : Connect) → is_silent c.right.phase ≡ false → IsCalm (course (confirm destination x)) →
       how_far (confirm destination x) ≡ reach.Connection
-  cc_far destination x h p =
-      let v = confirm destination x in
-      let e = cc_wrong destination x h in
-      let mid = course_after Right c v (is_applied (finding v)) s.course in
-      ap (λ (f : Finding). reach_of (class_for Right s.course) f) e
-      ∙ (soft (class_for Right s.course) rule.WrongForm mid refl
-      (subst (λ (f : Finding). IsCalm (reached Right (reach_of (class_for Right s.course) f) mid)) e
-      (calm_noted Right (finding v) (reached Right (how_far v) mid) p))).0
+  cc_far destination x h p = grind (arith, cc_wrong, soft, calm_noted)
 
   pub cc_lost : (destination : ℕ) (x : Connect) → is_silent c.right.phase ≡ false → IsCalm (course (confirm destination x)) →
       (next (confirm destination x)).is_judged ≡ false
-  cc_lost destination x h p =
-      ap (λ (r : Reach). (connection_after Right (confirm destination x) (is_applied (finding (confirm destination x))) r c).is_judged)
-      (cc_far destination x h p)
-      ∙ ap (λ (b : Bool). (connection_after Right (confirm destination x) b reach.Connection c).is_judged) (cc_idle destination x h)
+  cc_lost destination x h p = grind (arith, cc_far, cc_idle)
 
   pub cc_loose : (destination : ℕ) (x : Connect) → is_silent c.right.phase ≡ false → IsCalm (course (confirm destination x)) →
       (course (confirm destination x)).loose ≡ true
-  cc_loose destination x h p =
-      ap (λ (r : Reach). (reached Right r (course_after Right c (confirm destination x) (is_applied (finding (confirm destination x)))
-      s.course)).loose) (cc_far destination x h p)
+  cc_loose destination x h p = grind (arith, cc_far)
 
   pub open_stays : (v : Value) (n : ℕ) → destination_of v ≡ Some n → is_tracked c ≡ true → StaysOpen v
   open_stays (request x) n e h = absurd (cc e)
   open_stays (confirm destination x) n e h = idle_open (confirm destination x) (cc_idle destination x (not_silent h)) h
-  open_stays (disconnect destination source reason user) n e h =
-      dr_by destination source reason user (is_applied (finding (disconnect destination source reason user))) refl h
+  open_stays (disconnect destination source reason user) n e h = grind (arith, dr_by)
   open_stays (disconnected destination source) n e h =
-      idle_open (disconnected destination source) (dc_idle destination source
-      (λ due. open_or_closing c.left.phase (left_open c h)
-      (sound.right_knows.closing (and_first (is_closing c.seen_by_right.phase) (source == c.right.reference)
-      (and_second (is_open c.right.phase) (is_closing c.seen_by_right.phase && (source == c.right.reference)) due))))
-      (dc_fate destination source)) h
+      grind (arith, idle_open, dc_idle, open_or_closing, and_first, and_second, left_open c h, dc_fate destination source)
   open_stays (data0 end user) n e h = absurd (cc e)
-  open_stays (error destination cause) n e h =
-      idle_open (error destination cause)
-      (ap is_applied (is_found (error destination cause)) ∙ er_idle (is_silent c.right.phase) s.course.left_erred (not_silent h)) h
+  open_stays (error destination cause) n e h = grind (arith, idle_open, is_found, er_idle, not_silent)
   open_stays v n e h =
       same_by v (is_applied (finding v)) refl refl refl h
 
@@ -368,48 +302,28 @@ module _ (s : Traffic) (c : Connection) (judged : c.is_judged ≡ true) (sound :
 
   -- what is right leaves the connection judged
   kept_judged : (v : Value) → finding v ≡ Kept → (next v).is_judged ≡ true
-  kept_judged v e =
-      ap (λ (f : Finding). (connection_after Right v (is_applied f) (reach_of (class_for Right s.course) f) c).is_judged) e
-      ∙ sized_judged v (sends Right (half_after v c.right) c) ∙ judged
+  kept_judged v e = grind (arith, sized_judged)
 
   -- a DR refuses the CR
   dr_refuses : (destination source reason : ℕ) (user : List ℕ) → is_silent c.right.phase ≡ true →
       Answered (disconnect destination source reason user)
-  dr_refuses destination source reason user h =
-      let v = disconnect destination source reason user in
-      let kept = is_found v ∙ silent_kept (is_silent c.right.phase) (is_open c.right.phase) h in
-      refused (ap (λ (x : Half). is_refused x.phase) (right_by v true (ap is_applied kept)) ∙ refuses (is_silent c.right.phase) c.right h)
-      (kept_judged v kept) (λ m x e. cc e)
+  dr_refuses destination source reason user h = grind (arith, is_found, silent_kept, right_by, refuses, kept_judged)
 
   dc_waits : (destination source : ℕ) → IsCalm (course (disconnected destination source)) →
       (finding (disconnected destination source) ≡ NotJudged) ⊎ (finding (disconnected destination source) ≡ Broke rule.UnknownReference) →
       Answered (disconnected destination source)
-  dc_waits destination source p (inl e) = waits_on refl (idle_next destination source e)
-  dc_waits destination source p (inr e) = broke (disconnected destination source) rule.UnknownReference e refl refl p
+  dc_waits destination source p h = grind (arith, idle_next, broke)
 
   dc_found : (destination source : ℕ) → is_silent c.right.phase ≡ true →
       (finding (disconnected destination source) ≡ NotJudged) ⊎ (finding (disconnected destination source) ≡ Broke rule.UnknownReference)
-  dc_found destination source h =
-      subst (λ (f : Finding). (f ≡ NotJudged) ⊎ (f ≡ Broke rule.UnknownReference)) (sym (is_found (disconnected destination source)))
-      (dc_early (is_due Right c source) (is_silent c.right.phase) s.course.strays
-      (and_none (is_open c.right.phase) (is_closing c.seen_by_right.phase && (source == c.right.reference))
-      (silent_not_open c.right.phase h)) h)
+  dc_found destination source h = grind (arith, is_found, dc_early, and_none, silent_not_open)
 
   pub answered : (v : Value) (n : ℕ) → destination_of v ≡ Some n → is_silent c.right.phase ≡ true → SelectsTwo v →
       IsCalm (course v) → Answered v
   answered (confirm destination x) n e h z p = cc_by destination x z p (cc_found destination x h)
   answered (disconnect destination source reason user) n e h z p = dr_refuses destination source reason user h
   answered (disconnected destination source) n e h z p = dc_waits destination source p (dc_found destination source h)
-  answered (data2 destination number end user) n e h z p =
-      broke (data2 destination number end user) rule.UnknownReference
-      (is_found (data2 destination number end user) ∙ open_broke (is_silent c.right.phase)
-      (drop 1 (data2_tests Right c number (length user))) h) refl refl p
-  answered (acknowledge credit destination number) n e h z p =
-      broke (acknowledge credit destination number) rule.UnknownReference
-      (is_found (acknowledge credit destination number) ∙ open_broke (is_silent c.right.phase)
-      (drop 1 (acknowledge_tests Right c number credit)) h) refl refl p
-  answered (error destination cause) n e h z p =
-      let v = error destination cause in
-      let kept = is_found v ∙ er_kept (is_silent c.right.phase) s.course.left_erred h in
-      refused (ap (λ (x : Half). is_refused x.phase) (right_by v true (ap is_applied kept))) (kept_judged v kept) (λ m x k. cc k)
+  answered (data2 destination number end user) n e h z p = grind (arith, broke, is_found, open_broke)
+  answered (acknowledge credit destination number) n e h z p = grind (arith, broke, is_found, open_broke)
+  answered (error destination cause) n e h z p = grind (arith, is_found, er_kept, right_by, kept_judged)
   answered _ n e h z p = absurd (cc e)

@@ -1,11 +1,9 @@
 -- A unit of an end is right by all that has passed of the other side when its packet begins.
 -- For the laws on a line.
-use Rattle.osi_fair.proofs.Vocabulary.{[], arith, Bool, false, IfSome, length, List, Option, refl, sym, true, ℕ, ◌%◌, ◌+◌, ◌<◌}
-use Rattle.osi_fair.proofs.Vocabulary.{◌∙◌, ◌∷◌, ◌≡◌, ◌≢◌, ◌≤◌, eq-eqb, le-leb, lt-ltb, not, ◌&&◌, ◌==◌, ◌||◌, acknowledge, data2}
-use Rattle.osi_fair.proofs.Vocabulary.{disconnect, disconnected, Value, longest_tsdu, Standing, acknowledge_tests, data2_tests}
-use Rattle.osi_fair.proofs.Vocabulary.{disconnect_tests, disconnected_tests, first_failed, fits_size, is_due, steps_from, begins, is_closed}
-use Rattle.osi_fair.proofs.Vocabulary.{is_closing, is_named, is_open, is_refused, is_silent, Connection, Left, Kept, Phase}
-use Rattle.osi_fair.proofs.Vocabulary.{IsRightNow, request, confirm, data0, error}
+use Rattle.osi_fair.proofs.Vocabulary.{[], arith, Bool, false, IfSome, List, Option, refl, true, ℕ, ◌%◌, ◌+◌, ◌<◌, ◌≡◌, ◌≢◌, ◌≤◌, eq-eqb}
+use Rattle.osi_fair.proofs.Vocabulary.{le-leb, lt-ltb, not, ◌&&◌, ◌||◌, Value, longest_tsdu, Standing, acknowledge_tests, data2_tests}
+use Rattle.osi_fair.proofs.Vocabulary.{disconnect_tests, disconnected_tests, first_failed, fits_size, begins, is_closed, is_closing}
+use Rattle.osi_fair.proofs.Vocabulary.{is_named, is_open, is_refused, is_silent, Connection, Left, Kept, Phase, IsRightNow}
 use Rattle.osi_fair.proofs.small_facts_that_many_lemmas_use.{and_false, or_last}
 use Rattle.osi_fair.proofs.what_is_right_passes_each_test.{is_right}
 use Rattle.osi_fair.proofs.units_in_flight.{Puts}
@@ -47,48 +45,11 @@ module _ (r peer limit : ℕ) (x : Tally) (noted : ℕ) (tap : Connection) (o : 
 
   data_right : (number octets : ℕ) → number ≡ x.passed % 128 → x.passed < x.sent → octets ≤ limit → tap.left.begun + octets ≤ longest_tsdu →
       first_failed (data2_tests Left known number octets) ≡ Kept
-  data_right number octets is more fits short =
-      let a = t.next in
-      let b = t.their_awaited in
-      let c = t.their_edge in
-      let tells : steps_from tap.right.awaited tap.left.next < 127 = omega arith in
-      let credit : steps_from tap.right.awaited tap.left.next < tap.right.credit = omega arith in
-      let below_edge = lt-ltb (steps_from tap.right.awaited tap.left.next) tap.right.credit credit in
-      is_right (data2_tests Left known number octets) (
-        not_silent tap.left.phase live,
-        (
-          live,
-          (
-            eq-eqb number tap.left.next (is ∙ sym a),
-            (
-              lt-ltb (steps_from tap.right.awaited tap.left.next) 127 tells,
-              (
-                le-leb (tap.left.begun + octets) longest_tsdu short,
-                (below_edge, (fits_so tap.size limit octets t.fits fits, tt)),
-              ),
-            ),
-          ),
-        ),
-      )
+  data_right number octets is more fits short = grind (arith, lt-ltb, is_right, not_silent, eq-eqb, le-leb, fits_so)
 
   ack_right : (number credit count : ℕ) → credit ≡ x.window → number ≡ count % 128 → x.shown ≤ count → count ≤ x.acked →
       first_failed (acknowledge_tests Left known number credit) ≡ Kept
-  ack_right number credit count is_window is low high =
-      let a = t.awaited in
-      let b = t.their_next in
-      let c = t.credit in
-      let had : steps_from tap.left.awaited number ≤ steps_from tap.left.awaited tap.right.next = omega arith in
-      let keeps : tap.left.credit ≤ steps_from tap.left.awaited number + credit = omega arith in
-      is_right (acknowledge_tests Left known number credit) (
-        not_silent tap.left.phase live,
-        (
-          live,
-          (
-            le-leb (steps_from tap.left.awaited number) (steps_from tap.left.awaited tap.right.next) had,
-            (le-leb tap.left.credit (steps_from tap.left.awaited number + credit) keeps, tt),
-          ),
-        ),
-      )
+  ack_right number credit count is_window is low high = grind (arith, is_right, not_silent, le-leb)
 
   disconnect_right : first_failed (disconnect_tests Left known) ≡ Kept
   disconnect_right = is_right (disconnect_tests Left known) (or_last (is_silent tap.left.phase) (is_open tap.left.phase) live, tt)
@@ -96,37 +57,12 @@ module _ (r peer limit : ℕ) (x : Tally) (noted : ℕ) (tap : Connection) (o : 
   -- the DC has this side's reference, and answers a DR that has passed
   disconnected_right : (source : ℕ) (strays : Bool) → source ≡ r → is_closing tap.right.phase ≡ true →
       first_failed (disconnected_tests Left known source strays) ≡ Kept
-  disconnected_right source strays mine closing =
-      let same = eq-eqb source tap.left.reference (mine ∙ sym t.own_reference) in
-      let answers = both (is_closing tap.right.phase) (source == tap.left.reference) closing same in
-      let due = both (is_open tap.left.phase) (is_closing tap.right.phase && (source == tap.left.reference)) live answers in
-      is_right (disconnected_tests Left known source strays)
-      (or_left (is_due Left known source) (not strays) due, (not_silent tap.left.phase live, (due, tt)))
+  disconnected_right source strays mine closing = grind (arith, eq-eqb, both, is_right, or_left, not_silent)
 
   -- whether the end has closed the connection or not
   pub first_right : (closed : Bool) (e : ℕ → ℕ → Type 0) (put : List Value) → put ≢ [] →
       Puts (bounds_of r peer limit x closed tap.right) e x.passed x.shown tap.left.begun put → IsRightNow Left known put
-  first_right closed e [] some h = absurd (some refl)
-  first_right closed e (data2 destination number end user ∷ units) some (a, b, c, d, f, g) = record {
-    named = named_so destination a;
-    kept = λ course in_use. data_right number (length user) b c d f;
-  }
-  first_right closed e (acknowledge credit destination number ∷ units) some (count, a, b, c, d, f, g) = record {
-    named = named_so destination a;
-    kept = λ course in_use. ack_right number credit count b c d f;
-  }
-  first_right closed e (disconnect destination source reason user ∷ units) some (a, b, c) = record {
-    named = named_so destination a;
-    kept = λ course in_use. disconnect_right;
-  }
-  first_right closed e (disconnected destination source ∷ units) some (a, b, c, d, f) = record {
-    named = named_so destination a;
-    kept = λ course in_use. disconnected_right source course.strays b d;
-  }
-  first_right closed e (request c ∷ units) some h = absurd h
-  first_right closed e (confirm destination c ∷ units) some h = absurd h
-  first_right closed e (data0 end user ∷ units) some h = absurd h
-  first_right closed e (error destination cause ∷ units) some h = absurd h
+  first_right closed e put some h = grind (arith, named_so, data_right, ack_right, disconnect_right, disconnected_right)
 
 open_now : (put : List Value) (phase : Phase) → put ≢ [] → OpenIfAny put phase → is_open phase ≡ true
 open_now put phase some h = grind arith

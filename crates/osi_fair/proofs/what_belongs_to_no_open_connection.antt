@@ -1,15 +1,11 @@
 -- A DR that refuses a CR is right, and after a DR that closed nothing no DC is blamed.
 -- For the law of that name.
-use Rattle.osi_fair.proofs.Vocabulary.{arith}
-use Rattle.osi_fair.proofs.Vocabulary.{[], Bool, false, if◌then◌else◌, List, None, Option, Some, true, ℕ}
-use Rattle.osi_fair.proofs.Vocabulary.{◌∷◌, ◌≡◌, not, position, ◌&&◌, ◌||◌, Connect, disconnect, disconnected}
-use Rattle.osi_fair.proofs.Vocabulary.{Value, Two, reach_of, disconnect_tests, first_failed, is_named}
-use Rattle.osi_fair.proofs.Vocabulary.{is_open, is_silent, other, asks_by, asks_of, at_found, at_place, class_for, course_after}
-use Rattle.osi_fair.proofs.Vocabulary.{course_after_none, course_begins, found, in_doubt, is_stopped, none_told, one_told, Outcome, reached}
-use Rattle.osi_fair.proofs.Vocabulary.{route_in, routed, Traffic as State, takes, unnamed_by, unnamed_told}
-use Rattle.osi_fair.proofs.Vocabulary.{Connection, Course, Direction, Right, Finding, Broke, Kept, NotJudged, Reach, Phase, Route}
-use Rattle.osi_fair.proofs.Vocabulary.{Named, passes, Passing}
-use Rattle.osi_fair.proofs.Vocabulary.{has_broken}
+use Rattle.osi_fair.proofs.Vocabulary.{arith, [], Bool, false, if◌then◌else◌, List, None, Option, Some, true, ℕ, ◌∷◌, ◌≡◌, not, position}
+use Rattle.osi_fair.proofs.Vocabulary.{◌&&◌, ◌||◌, Connect, disconnect, disconnected, Value, Two, reach_of, first_failed, is_named, is_open}
+use Rattle.osi_fair.proofs.Vocabulary.{is_silent, other, asks_by, asks_of, at_found, at_place, class_for, course_after, course_after_none}
+use Rattle.osi_fair.proofs.Vocabulary.{course_begins, found, in_doubt, is_stopped, none_told, one_told, Outcome, reached, route_in, routed}
+use Rattle.osi_fair.proofs.Vocabulary.{Traffic as State, takes, unnamed_by, unnamed_told, Connection, Course, Direction, Right, Finding}
+use Rattle.osi_fair.proofs.Vocabulary.{Broke, Kept, NotJudged, Reach, Phase, Route, Named, passes, Passing, has_broken}
 use Rattle.osi_rules.specs.declared.findings.Rule.TheVariants as rule
 use Rattle.osi_fair.proofs.small_facts_that_many_lemmas_use.{or_first}
 use Rattle.osi_fair.proofs.what_is_right_passes_each_test.{is_right}
@@ -19,8 +15,7 @@ use Rattle.osi_fair.proofs.a_called_end_is_judged_as_the_other_side_is.{IsNotBla
 
 pub refusal_right : (c : Connection) (course : Course) (in_use : Bool) (destination source reason : ℕ) (user : List ℕ) →
     is_silent c.right.phase ≡ true → found Right course in_use c (disconnect destination source reason user) ≡ Kept
-refusal_right c course in_use destination source reason user h =
-    is_right (disconnect_tests Right c) (or_first (is_silent c.right.phase) (is_open c.right.phase) h, tt)
+refusal_right c course in_use destination source reason user h = grind (arith, is_right, or_first)
 
 -- ---- a DC
 
@@ -97,8 +92,7 @@ strays_any : (d : Direction) (v : Value) (s : State) (p : Option ℕ) → s.cour
 strays_any d v s p h = grind (arith, to_unnamed, strays_one)
 
 asking : (d : Direction) (f : Finding) (c : Connect) (s : State) → s.course.strays ≡ true → Strays (asks_by d f c s)
-asking d Kept c s h = h
-asking d v c s h = to_none d v s h
+asking d f c s h = search (arith, to_none)
 
 asks : (d : Direction) (v : Value) (s : State) → s.course.strays ≡ true → Strays (asks_of d v s)
 asks d v s h = grind (arith, asking, to_none)

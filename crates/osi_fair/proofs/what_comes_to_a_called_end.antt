@@ -4,8 +4,8 @@ use Rattle.osi_fair.proofs.Vocabulary.{[], ap, arith, Bool, false, if◌then◌e
 use Rattle.osi_fair.proofs.Vocabulary.{subst, suc, sym, true, zero, ℕ, ◌++◌, ◌∙◌, ◌∷◌, ◌≡◌, ◌≤◌, ◌⊎◌, eqb-true, append-nil, position}
 use Rattle.osi_fair.proofs.Vocabulary.{slice_get, ◌&&◌, ◌==◌, ◌||◌, Connect, destination_of, HasFieldsInRange, request, Value, Standing}
 use Rattle.osi_fair.proofs.Vocabulary.{Class, Two, Zero, Local, value_at, linked, is_closed, is_closing, is_free, is_open, is_over}
-use Rattle.osi_fair.proofs.Vocabulary.{is_over_by, is_refused, asked_by, asks_kept, Outcome, placed, takes, Connection, Course, Left}
-use Rattle.osi_fair.proofs.Vocabulary.{Right, first_failed, Kept, list_any, Phase, request_tests, Traffic, uses, Whole}
+use Rattle.osi_fair.proofs.Vocabulary.{is_over_by, is_refused, asked_by, asks_kept, Outcome, placed, takes, Connection, Course, Left, Right}
+use Rattle.osi_fair.proofs.Vocabulary.{first_failed, Kept, Phase, request_tests, Whole}
 use Rattle.osi_fair.proofs.small_facts_that_many_lemmas_use.{all_add, and_first, and_second, differ, no_number, set_none}
 use Rattle.osi_fair.proofs.how_a_unit_of_right_passes.{strays_more}
 use Rattle.osi_fair.proofs.a_right_unit_is_not_blamed.{first_there}
@@ -169,9 +169,7 @@ module _ (local : Local) (w : Whole) (f : Called local w) (apart : AreApart w.ta
       stand_case : (i : ℕ) (c : Connection) (b : Bool) → (i == p) ≡ b → ((i ≡ p) × (c ≡ asked_by x))
           ⊎ ((i ≡ p → ⊥) × (slice_get cs i ≡ Some c)) →
           StandFree i (refs i) c
-      stand_case i c true e (inl (same, so)) =
-          subst (λ (o : Option ℕ). StandFree i o c) (sym (refs_here i e))
-          (subst (λ (y : Connection). StandFree i None y) (sym so) (subst (λ (j : ℕ). StandFree j None (asked_by x)) (sym same) stand_new))
+      stand_case i c true e (inl (same, so)) = grind (arith, refs_here, stand_new)
       stand_case i c true e (inr (other, there)) = absurd (other (eqb-true i p e))
       stand_case i c false e (inl (same, so)) = absurd (unlike i p e same)
       stand_case i c false e (inr (other, there)) =
@@ -201,19 +199,7 @@ module _ (local : Local) (w : Whole) (f : Called local w) (apart : AreApart w.ta
       strays_case : (ts : List Placed) → AreStrays f.shut w.end f.refs f.home w.tap.course.strays ts →
           AreStrays f.shut w.end (λ i. refs i) f.home w.tap.course.strays ts
       strays_case [] h = tt
-      strays_case ((None, u) ∷ ts) (one, rest) = (
-        record {
-          m = one.m;
-          n = one.n;
-          is = one.is;
-          strays_is = one.strays_is;
-          given = one.given;
-          positive = one.positive;
-          shut_is = one.shut_is;
-          none = λ e. one.none (old_ref (f.home one.n) one.n (f.home one.n == p) refl e);
-        },
-        strays_case ts rest,
-      )
+      strays_case ((None, u) ∷ ts) (one, rest) = search (arith, old_ref, strays_case ts rest)
       strays_case ((Some i, u) ∷ ts) (one, rest) = (tt, strays_case ts rest)
 
       held_case : Timely w.end w.coming cs (values f.tagged) → (i : ℕ) (c : Connection) →
@@ -267,10 +253,7 @@ module _ (local : Local) (w : Whole) (f : Called local w) (apart : AreApart w.ta
         let (c, at) = first_there is_free cs p p (asked_by x) e in at_free p (set cs p (asked_by x)) (free_at p c at e)
 
     names_asked : first_failed (request_tests w.tap x) ≡ Kept → AreNamedApart Left (takes Left v w.tap).state.connections
-    names_asked kept =
-        let t = passes_each (request_tests w.tap x) refl kept in
-        subst (λ (o : Outcome). AreNamedApart Left o.state.connections) (sym is)
-        (left_asked cs x (position is_free cs) (not_true (list_any (λ (e : Connection). uses Left x.source e) cs) t.1.1.0) named)
+    names_asked kept = grind (arith, passes_each, left_asked, not_true)
 
   -- ---- any unit
 
@@ -279,17 +262,9 @@ module _ (local : Local) (w : Whole) (f : Called local w) (apart : AreApart w.ta
 
   by_came : Came v w.tap (takes Left v w.tap) → AllAfter
   by_came (asks_so x e class kept is) = (by_place x e is (position is_free cs) refl, names_asked x e is kept)
-  by_came (for_one n q c dest at name is) = (
-    for_one_so local w f apart named v ranges calm_after n q c dest at name is,
-    names_after local w f apart named v ranges calm_after n q c dest at name is,
-  )
+  by_came (for_one n q c dest at name is) = search (arith, for_one_so, names_after)
   by_came (only q c at class is) = not_zero w.tap.course.class_seen f.class_seen class
-  by_came (lost dc strays same) = (
-    is_lost local w f apart named v ranges calm_after dc strays same,
-    subst (λ (s : Traffic). AreNamedApart Left s.connections) (sym same) named,
-  )
+  by_came (lost dc strays same) = grind (arith, is_lost)
 
   pub comes_so : w.tap.course.right_erred ≡ false → AllAfter
-  comes_so fine =
-      let before = calm local w f apart named v ranges calm_after in
-      by_came (came_so v w.tap before.left before.right (λ m k e. fine) calm_after)
+  comes_so fine = search (arith, by_came, came_so, calm local w f apart named v ranges calm_after)

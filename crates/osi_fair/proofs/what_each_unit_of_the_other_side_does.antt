@@ -1,20 +1,17 @@
 -- Each unit of the other side, by what is found of it: it has its effect, or none, or the connection is not judged any more.
 -- For the laws on a line.
-use Rattle.osi_fair.proofs.Vocabulary.{arith}
-use Rattle.osi_fair.proofs.Vocabulary.{[], ap, Bool, false, if◌then◌else◌, inl, inr, length, List, Option, Some, subst, sym, true, ℕ}
-use Rattle.osi_fair.proofs.Vocabulary.{◌++◌, ◌+◌, ◌<◌, ◌∙◌, ◌∷◌, ◌≡◌, ◌≢◌, ◌⊎◌, not, ◌&&◌, ◌==◌, ◌||◌, acknowledge, confirm, data2}
-use Rattle.osi_fair.proofs.Vocabulary.{destination_of, disconnect, disconnected, error, HasFieldsInRange, Value, Standing, Two, is_applied}
-use Rattle.osi_fair.proofs.Vocabulary.{reach_of, first_failed, fits_size, fits_tsdu, has_credit, has_passed, is_due, is_tellable}
-use Rattle.osi_fair.proofs.Vocabulary.{keeps_credit, Test, is_closing, is_open, is_silent, connection_after, found, sent_on}
-use Rattle.osi_fair.proofs.Vocabulary.{Connection, Course, Left, Right, Finding, Broke, NotJudged, Reach, Phase}
-use Rattle.osi_fair.proofs.Vocabulary.{Acts, after_finding, finding_of, Line}
+use Rattle.osi_fair.proofs.Vocabulary.{arith, [], ap, Bool, false, if◌then◌else◌, inl, inr, List, Option, Some, subst, sym, true, ℕ, ◌++◌}
+use Rattle.osi_fair.proofs.Vocabulary.{◌+◌, ◌<◌, ◌∙◌, ◌∷◌, ◌≡◌, ◌≢◌, ◌⊎◌, not, ◌&&◌, ◌||◌, acknowledge, confirm, data2, destination_of}
+use Rattle.osi_fair.proofs.Vocabulary.{disconnect, disconnected, error, HasFieldsInRange, Value, Standing, Two, is_applied, reach_of}
+use Rattle.osi_fair.proofs.Vocabulary.{first_failed, has_passed, is_due, is_tellable, keeps_credit, Test, is_closing, is_open, is_silent}
+use Rattle.osi_fair.proofs.Vocabulary.{connection_after, found, sent_on, Connection, Course, Left, Right, Finding, Broke, NotJudged, Reach}
+use Rattle.osi_fair.proofs.Vocabulary.{Phase, Acts, after_finding, finding_of, Line}
 use Rattle.osi_rules.specs.declared.findings.Reach.TheVariants as reach
 use Rattle.osi_rules.specs.declared.findings.Rule.TheVariants as rule
 use Rattle.osi_fair.specs.Lines.{passes_other}
 use Rattle.osi_fair.proofs.small_facts_that_many_lemmas_use.{and_first, and_second}
 use Rattle.osi_fair.proofs.what_holds_of_a_line.{Tally, Ordered, PutsAt, TakesAt, Holds, is_there, tapped}
 use Rattle.osi_fair.proofs.what_passes_of_the_other_side.{Went, goes_same, data_goes, ack_goes, ends_goes}
-use Rattle.osi_fair.proofs.Vocabulary.{refl}
 
 -- ---- what comes of a finding
 
@@ -104,18 +101,14 @@ module _ (r peer limit : ℕ) (x : Tally) (noted : ℕ) (tap : Connection) (put 
   Goes unit after = Went r peer limit x noted tap after put (coming ++ unit ∷ []) link
 
   closed_goes : (unit : Value) (f : Finding) → is_open tap.right.phase ≡ false → Leaves f → Goes unit (after_finding Right f unit tap)
-  closed_goes unit f closed leaves = subst (λ (c : Connection). Goes unit c) (left_after f unit tap leaves)
-      (goes_same r peer limit x noted tap put coming link o t p k unit
-      (λ taken known a b live. absurd (never (is_open tap.right.phase) closed live)))
+  closed_goes unit f closed leaves = grind (arith, goes_same, never, left_after f unit tap leaves)
 
   data_by : (destination number : ℕ) (end : Bool) (user : List ℕ) (f : Finding) → Fate (is_open tap.right.phase) (is_tellable Right tap) f →
       reach_of (Some Two) f ≢ reach.Everything → (after_finding Right f (data2 destination number end user) tap).is_judged ≡ true →
       Goes (data2 destination number end user) (after_finding Right f (data2 destination number end user) tap)
   data_by destination number end user f (inl e) some judged = absurd (some e)
-  data_by destination number end user f (inr (inl (closed, leaves))) some judged =
-      closed_goes (data2 destination number end user) f closed leaves
-  data_by destination number end user f (inr (inr (inl loses))) some judged =
-      absurd (lost_after f (data2 destination number end user) tap loses judged)
+  data_by destination number end user f (inr (inl (closed, leaves))) some judged = grind (arith, closed_goes)
+  data_by destination number end user f (inr (inr (inl loses))) some judged = grind (arith, lost_after)
   data_by destination number end user f (inr (inr (inr (live, tells, applies)))) some judged =
       subst (λ (c : Connection). Goes (data2 destination number end user) c)
       (applied_after f (data2 destination number end user) tap applies)
@@ -126,10 +119,8 @@ module _ (r peer limit : ℕ) (x : Tally) (noted : ℕ) (tap : Connection) (put 
       reach_of (Some Two) f ≢ reach.Everything → (after_finding Right f (acknowledge credit destination number) tap).is_judged ≡ true →
       Goes (acknowledge credit destination number) (after_finding Right f (acknowledge credit destination number) tap)
   ack_by credit destination number f small little (inl e) some judged = absurd (some e)
-  ack_by credit destination number f small little (inr (inl (closed, leaves))) some judged =
-      closed_goes (acknowledge credit destination number) f closed leaves
-  ack_by credit destination number f small little (inr (inr (inl loses))) some judged =
-      absurd (lost_after f (acknowledge credit destination number) tap loses judged)
+  ack_by credit destination number f small little (inr (inl (closed, leaves))) some judged = grind (arith, closed_goes)
+  ack_by credit destination number f small little (inr (inr (inl loses))) some judged = grind (arith, lost_after)
   ack_by credit destination number f small little (inr (inr (inr (live, tells, applies)))) some judged =
       subst (λ (c : Connection). Goes (acknowledge credit destination number) c)
       (applied_after f (acknowledge credit destination number) tap applies)
@@ -160,36 +151,21 @@ module _ (r peer limit : ℕ) (x : Tally) (noted : ℕ) (tap : Connection) (put 
   error_by : (destination cause : ℕ) (f : Finding) → (Leaves f) ⊎ (Loses f) →
       (after_finding Right f (error destination cause) tap).is_judged ≡ true →
       Goes (error destination cause) (after_finding Right f (error destination cause) tap)
-  error_by destination cause f (inl leaves) judged = grind (arith, left_after, goes_same)
-  error_by destination cause f (inr loses) judged = absurd (lost_after f (error destination cause) tap loses judged)
+  error_by destination cause f h judged = grind (arith, left_after, goes_same, lost_after)
 
   pub unit_goes : (course : Course) (in_use : Bool) (unit : Value) → HasFieldsInRange unit → destination_of unit ≡ Some r →
       reach_of (Some Two) (found Right course in_use tap unit) ≢ reach.Everything →
       (after_finding Right (found Right course in_use tap unit) unit tap).is_judged ≡ true →
       Goes unit (after_finding Right (found Right course in_use tap unit) unit tap)
   unit_goes course in_use (confirm destination c) range named some judged =
-      let f = found Right course in_use tap (confirm destination c) in
-      let wrong : f ≡ Broke rule.WrongForm = first_fails (is_silent tap.right.phase) _ (there_not_silent tap.right.phase t.there) in
-      absurd (lost_after f (confirm destination c) tap (loses_as f (Broke rule.WrongForm) wrong (refl, refl)) judged)
-  unit_goes course in_use (error destination cause) range named some judged =
-      error_by destination cause (found Right course in_use tap (error destination cause))
-      (error_fate (is_silent tap.right.phase) course.left_erred (there_not_silent tap.right.phase t.there)) judged
+      grind (arith, first_fails, there_not_silent, lost_after, loses_as)
+  unit_goes course in_use (error destination cause) range named some judged = grind (arith, error_by, error_fate, there_not_silent)
   unit_goes course in_use (disconnect destination source reason user) range named some judged =
-      disconnect_by destination source reason user (found Right course in_use tap (disconnect destination source reason user))
-      (disconnect_fate tap.right.phase t.there)
+      grind (arith, disconnect_by, disconnect_fate)
   unit_goes course in_use (disconnected destination source) range named some judged =
-      disconnected_by destination source (found Right course in_use tap (disconnected destination source))
-      (disconnected_fate (is_due Right tap source) (not (is_silent tap.right.phase)) course.strays
-      (ap not (there_not_silent tap.right.phase t.there))) judged
-  unit_goes course in_use (data2 destination number end user) range named some judged =
-      data_by destination number end user (found Right course in_use tap (data2 destination number end user))
-      (data_fate (not (is_silent tap.right.phase)) (is_open tap.right.phase) (number == tap.right.next) (is_tellable Right tap)
-      (fits_tsdu Right tap (length user)) (has_credit Right tap) (fits_size tap.size (length user + 5))) some judged
-  unit_goes course in_use (acknowledge credit destination number) range named some judged =
-      ack_by credit destination number (found Right course in_use tap (acknowledge credit destination number)) range.2 range.0
-      (ack_fate (not (is_silent tap.right.phase)) (is_open tap.right.phase) (has_passed Right tap number)
-      (keeps_credit Right tap number credit))
-      some judged
+      grind (arith, disconnected_by, disconnected_fate, there_not_silent)
+  unit_goes course in_use (data2 destination number end user) range named some judged = search (arith, data_by, data_fate)
+  unit_goes course in_use (acknowledge credit destination number) range named some judged = grind (arith, ack_by, ack_fate)
   unit_goes course in_use _ range named some judged = absurd (cc)
 
 judged_finding : (course : Course) (in_use : Bool) (tap : Connection) (unit : Value) → tap.is_judged ≡ true →

@@ -1,6 +1,6 @@
 -- What has come for each connection of a calling end, with one unit more.
 -- For the law on a whole end.
-use Rattle.osi_fair.proofs.Vocabulary.{arith, [], ap, Bool, false, is_some, List, None, refl, subst, sym, true, ℕ, ◌++◌, ◌∙◌, ◌∷◌, ◌≡◌}
+use Rattle.osi_fair.proofs.Vocabulary.{arith, [], ap, Bool, false, is_some, List, None, subst, sym, true, ℕ, ◌++◌, ◌∙◌, ◌∷◌, ◌≡◌}
 use Rattle.osi_fair.proofs.Vocabulary.{AllByRecursion, confirm, Value, Local, Connection, Line}
 use Rattle.std.proofs.lemmas.List.{append_assoc}
 use Rattle.osi_carrier.specs.State.{State}
@@ -53,14 +53,12 @@ row_or local end coming r peer line false e k = k (no_end end.ended e)
 
 pub spares_on : (s t : Bool) (r peer : ℕ) (spare : List Value) → (s ≡ true → t ≡ true) → AllByRecursion (IsSpare s r peer) spare →
     AllByRecursion (IsSpare t r peer) spare
-spares_on s t r peer spare on h =
-    all_so (IsSpare s r peer) (IsSpare t r peer) spare (λ u k. record { is = k.is; strays = on k.strays }) h
+spares_on s t r peer spare on h = grind (arith, all_so)
 
 pub following_other : (local : Local) (put : List Value) (b s t : Bool) (end : State) (coming : List Value) (x : Connection) (v : Value) →
     (s ≡ true → t ≡ true) → (k : Following local put b s end coming x) → names k.r v ≡ false →
     Following local put b t end (coming ++ v ∷ []) x
-following_other local put b s t end coming x v on k e = followed_at k refl (spares_on s t k.r k.peer k.spare on k.spares) refl
-    (row_other local end coming k.r k.peer k.line v e k.row)
+following_other local put b s t end coming x v on k e = search (arith, followed_at, spares_on, row_other)
 
 pub waiting_other : (local : Local) (end : State) (coming : List Value) (x : Connection) (v : Value) → (k : Waiting local end coming x) →
     names k.r v ≡ false → Waiting local end (coming ++ v ∷ []) x

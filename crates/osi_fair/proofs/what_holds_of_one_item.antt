@@ -34,9 +34,7 @@ after_map f (z ∷ xs) zero y h = (z, refl, some_same (f z) y h)
 after_map f (z ∷ xs) (suc i) y h = after_map f xs i y h
 
 pub first_true : {X : Type 0} (f : X → Bool) (xs : List X) (p : ℕ) (x : X) → position f xs ≡ Some p → slice_get xs p ≡ Some x → f x ≡ true
-first_true f xs p x h k =
-    let (within, is, before) = position-Some f xs p x h in
-    ap f (sym (get_or_from_slice_get xs p x x k)) ∙ is
+first_true f xs p x h k = grind (arith, position-Some f xs p x h, get_or_from_slice_get xs p x x k)
 
 or_first : (a b : Bool) → (a || b) ≡ false → a ≡ false
 or_first a b h = grind arith
@@ -99,8 +97,7 @@ module _ (f : Connection → Bool) (cs : List Connection) (p : ℕ) (new : Conne
 pub one_added : (f : Connection → Bool) (cs : List Connection) (new : Connection) → HoldsOfOne f cs →
     ((i : ℕ) (c : Connection) → slice_get cs i ≡ Some c → c.is_judged ≡ true → f c ≡ true → new.is_judged ≡ true → f new ≡ true → ⊥) →
     HoldsOfOne f (cs ++ new ∷ [])
-one_added f cs new h none i j c e x y =
-    new_by f cs (length cs) new h none i j c e (after_add cs i new c x) (after_add cs j new e y)
+one_added f cs new h none i j c e x y = search (arith, new_by, after_add)
 
 pub one_mapped : (f k : Connection → Bool) (g : Connection → Connection) (cs : List Connection) → HoldsOfOne f cs →
     ((i : ℕ) (c : Connection) → slice_get cs i ≡ Some c → (g c).is_judged ≡ true → k (g c) ≡ true → (c.is_judged ≡ true) × (f c ≡ true)) →

@@ -1,11 +1,10 @@
 -- The events of a whole end are the same with reported events and sent octets in front: as it takes units and packets, as its user
 -- makes a call, and as it ends. For the law on packets.
-use Rattle.osi_fair.proofs.Vocabulary.{arith}
-use Rattle.osi_fair.proofs.Vocabulary.{[], ap, append_assoc, List, None, Ok, refl, Result, subst, suc, sym, ℕ, ◌++◌, ◌∙◌, ◌∷◌, ◌≡◌}
+use Rattle.osi_fair.proofs.Vocabulary.{arith, [], ap, append_assoc, List, None, Ok, refl, subst, suc, sym, ℕ, ◌++◌, ◌∙◌, ◌∷◌, ◌≡◌}
 use Rattle.osi_fair.proofs.Vocabulary.{AllByRecursion, IsOctets, IsPacket, units_fit, units_found, units_only, written_spells, units_of}
-use Rattle.osi_fair.proofs.Vocabulary.{Value, Fits, written, TpduFault, apart_all, Happening, acts_by, RunsOut, TakesPackets, react, reacts}
-use Rattle.osi_fair.proofs.Vocabulary.{arrived, put_back, user, user_does, UserCall, ends, EndReason, NoMemory, Direction}
-use Rattle.osi_fair.proofs.Vocabulary.{units_by, units_in, Becomes, MayCall, Whole}
+use Rattle.osi_fair.proofs.Vocabulary.{Value, Fits, written, apart_all, Happening, acts_by, RunsOut, TakesPackets, react, reacts, arrived}
+use Rattle.osi_fair.proofs.Vocabulary.{put_back, user, user_does, UserCall, ends, EndReason, NoMemory, Direction, units_by, units_in}
+use Rattle.osi_fair.proofs.Vocabulary.{Becomes, MayCall, Whole}
 unfoldable use Rattle.osi_carrier.specs.Packets.{after_packet}
 use Rattle.osi_carrier.specs.State.{State}
 use Rattle.osi_fair.proofs.a_packet_is_events.{all_units, becomes_over, becomes_then, call_so, not_over, packet_so, same_so, then_so}
@@ -46,9 +45,7 @@ module _ (d : Direction) (e : List Happening) (o : List ℕ) where
   front_unit : (u : Value) (s : State) → Fits u → react u (put_back e o s) ≡ put_back e o (react u s)
   unfolding after_packet
   front_unit u s fits =
-      let read : units_of (written u) ≡ Ok (u ∷ []) = units_only (written u) (u ∷ []) (written_spells u fits) in
-      ap (λ (r : Result (List Value) TpduFault). acts_by r (put_back e o s)) (sym read) ∙ front_packet (written u) s
-      ∙ ap (λ (r : Result (List Value) TpduFault). put_back e o (acts_by r s)) read
+      grind (arith, units_only (written u) (u ∷ []) (written_spells u fits), written_spells u fits, front_packet (written u) s)
 
   front_units : (us : List Value) (s : State) → AllByRecursion Fits us → reacts us (put_back e o s) ≡ put_back e o (reacts us s)
   front_units [] s h = refl

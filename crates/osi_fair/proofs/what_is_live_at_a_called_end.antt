@@ -50,18 +50,14 @@ pub record Timely (end : State) (coming : List Value) (cs : List Connection) (pu
 
 firsts_more : (L K : ℕ → Type 0) (vs : List Value) → ((m : ℕ) → L m → K m) → Firsts L vs → Firsts K vs
 firsts_more L K [] h f = tt
-firsts_more L K (v ∷ vs) h (first, more) = (
-  λ n e. h n (first n e),
-  firsts_more (λ m. L m × (shuts_of v ≡ Some m → ⊥)) (λ m. K m × (shuts_of v ≡ Some m → ⊥)) vs (λ m k. (h m k.0, k.1)) more,
-)
+firsts_more L K (v ∷ vs) h (first, more) =
+    grind (arith, firsts_more (λ m. L m × (shuts_of v ≡ Some m → ⊥)) (λ m. K m × (shuts_of v ≡ Some m → ⊥)) vs (λ m k. (h m k.0, k.1)) more)
 
 firsts_add : (L : ℕ → Type 0) (vs : List Value) (v : Value) → Firsts L vs → ((n : ℕ) → dr_for v ≡ Some n → L n × NoneFor n vs) →
     Firsts L (vs ++ v ∷ [])
 firsts_add L [] v f h = (λ n e. (h n e).0, tt)
-firsts_add L (u ∷ vs) v (first, more) h = (
-  first,
-  firsts_add (λ m. L m × (shuts_of u ≡ Some m → ⊥)) vs v more (λ n e. (((h n e).0, (h n e).1.0), (h n e).1.1)),
-)
+firsts_add L (u ∷ vs) v (first, more) h =
+    grind (arith, firsts_add (λ m. L m × (shuts_of u ≡ Some m → ⊥)) vs v more (λ n e. (((h n e).0, (h n e).1.0), (h n e).1.1)))
 
 none_add : (m : ℕ) (vs : List Value) (v : Value) → NoneFor m vs → (shuts_of v ≡ Some m → ⊥) → NoneFor m (vs ++ v ∷ [])
 none_add m [] v h k = (k, tt)
@@ -92,8 +88,7 @@ answers_join L (x ∷ xs) ys (one, more) b = (one, answers_join L xs ys more b)
 answers_both : (L M K : ℕ → Type 0) (vs : List Value) → ((m : ℕ) → L m → M m → K m) → AllByRecursion (Answers L) vs →
     AllByRecursion (Answers M) vs → AllByRecursion (Answers K) vs
 answers_both L M K [] h a b = tt
-answers_both L M K (v ∷ vs) h (one, more) (first, others) =
-    (λ m x e. h x.source (one m x e) (first m x e), answers_both L M K vs h more others)
+answers_both L M K (v ∷ vs) h (one, more) (first, others) = search (arith, answers_both L M K vs h more others)
 
 same_number : (o : Option ℕ) (m n : ℕ) → o ≡ Some m → o ≡ Some n → m ≡ n
 same_number o m n e h = let both : Some m ≡ Some n = sym e ∙ h in cc

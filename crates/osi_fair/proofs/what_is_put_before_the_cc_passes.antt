@@ -1,10 +1,8 @@
 -- What a called end puts before its CC has passed might as well have been put right after that.
 -- For the law of that name.
-use Rattle.osi_fair.proofs.Vocabulary.{arith}
-use Rattle.osi_fair.proofs.Vocabulary.{[], ap, Bool, false, List, refl, subst, sym, ℕ, ◌++◌, ◌∙◌, ◌∷◌, ◌≡◌, AllByRecursion}
-use Rattle.osi_fair.proofs.Vocabulary.{Value, Standing, Connection, Course, Direction, Act, Acts, ActsAlong, after_finding}
-use Rattle.osi_fair.proofs.Vocabulary.{answering_line, answers, begins_elsewhere, closes_with as closes, finding_of, ignores, Line, moves}
-use Rattle.osi_fair.proofs.Vocabulary.{opened_line, PassesNone, units_put}
+use Rattle.osi_fair.proofs.Vocabulary.{arith, [], ap, Bool, false, List, refl, subst, ℕ, ◌++◌, ◌∙◌, ◌∷◌, ◌≡◌, AllByRecursion, Value}
+use Rattle.osi_fair.proofs.Vocabulary.{Standing, Connection, Course, Direction, Act, Acts, ActsAlong, answering_line, answers}
+use Rattle.osi_fair.proofs.Vocabulary.{begins_elsewhere, closes_with as closes, ignores, Line, moves, opened_line, PassesNone, units_put}
 use Rattle.osi_fair.specs.Lines.{begins_other, begins_own, passes_other, passes_own}
 use Rattle.osi_fair.proofs.small_facts_that_many_lemmas_use.{rest_is}
 use Rattle.osi_fair.proofs.Vocabulary.{disconnect, disconnected}
@@ -57,12 +55,9 @@ module _ (d : Direction) (r peer : ℕ) (cc_is : Value) (tap : Connection) where
     put = ap (λ (l : Line). l.put) new_is ∙ first;
     along = (without_cc tap more new, (gone, coming, ap (λ (l : Line). without_cc tap more l) new_is), refl);
   }
-  act_same begins_own more old new none (some, idle, new_is) first =
-      no_act more old new first (ap (λ (l : Line). l.put) new_is) (ap (λ (l : Line). without_cc tap more l) new_is)
-  act_same begins_elsewhere more old new none (idle, new_is) first =
-      no_act more old new first (ap (λ (l : Line). l.put) new_is) (ap (λ (l : Line). without_cc tap more l) new_is)
-  act_same begins_other more old new none new_is first =
-      no_act more old new first (ap (λ (l : Line). l.put) new_is) (ap (λ (l : Line). without_cc tap more l) new_is)
+  act_same begins_own more old new none (some, idle, new_is) first = grind (arith, no_act)
+  act_same begins_elsewhere more old new none (idle, new_is) first = grind (arith, no_act)
+  act_same begins_other more old new none new_is first = grind (arith, no_act)
   act_same (passes_own course in_use) more old new none acts first = absurd none
   act_same (passes_other course in_use unit) more old new none acts first = absurd none
 
@@ -85,11 +80,4 @@ pub opened_later : (d : Direction) (r peer : ℕ) (link : Standing) (answer : Va
     Acts d r peer (passes_own course in_use) line after →
     (later : List Act) × ActsAlong d r peer (opened_line link after.tap) later after
 opened_later d r peer link answer tap acts course in_use line after none along (unit, first, begun, new_is) =
-    let s = all_same d r peer answer after.tap acts [] (answering_line link answer tap) line none along refl in
-    let rest : s.now ≡ after.put = rest_is answer unit s.now after.put (sym s.put ∙ first) in
-    let x = after_finding d (finding_of d course in_use line.tap unit) unit line.tap in
-    let tapped : x ≡ after.tap = sym (ap (λ (l : Line). l.tap) new_is) in
-    let is : after ≡ without_cc after.tap s.now line = new_is
-    ∙ ap (λ (c : Connection). record line { put = after.put; begun = false; tap = c }) tapped
-    ∙ ap (λ (l : List Value). record line { put = l; begun = false; tap = after.tap }) (sym rest) in
-    (s.acts, subst (λ (l : Line). ActsAlong d r peer (opened_line link after.tap) s.acts l) (sym is) s.along)
+    grind (arith, rest_is, all_same d r peer answer after.tap acts [] (answering_line link answer tap) line none along refl)

@@ -125,52 +125,16 @@ pub left_lessens : (c : Connection) (after : Half) (size : Option ℕ) → c.is_
     is_over_by c.left c.seen_by_left ≡ false →
     HalfMoves c.left c.seen_by_left after → (is_silent c.left.phase ≡ true → (is_silent after.phase || is_refused after.phase) ≡ true) →
     Lessens c (record c { left = after; size = size })
-left_lessens c after size judged s live m silent = record {
-  sound = λ j. record {
-    left_knows = s.left_knows;
-    right_knows = earlier_moves c.seen_by_right c.left c.seen_by_left after s.right_knows m;
-    left_closed = λ k. closed_by c.left c.seen_by_left c.right after m s.left_knows s.left_closed k;
-    right_closed = λ k. still_closing c.left c.seen_by_left after m (s.right_closed k);
-  };
-  used_left = λ n j h. (
-    j,
-    used_judged c.is_judged c.left c.seen_by_left n j
-        (used_still c.left c.seen_by_left after n live m silent (judged_used c.is_judged after c.seen_by_left n j h)),
-  );
-  used_right = λ n j h. (j, h);
-  named_left = λ n j h. (
-    j,
-    named_judged c.is_judged c.left c.seen_by_left n j
-        (named_still c.left c.seen_by_left after n live (judged_named c.is_judged after c.seen_by_left n j h)),
-  );
-  named_right = λ n j h. (j, h);
-}
+left_lessens c after size judged s live m silent =
+    grind (arith, earlier_moves, closed_by, still_closing, used_judged, used_still, judged_used, named_judged, named_still, judged_named)
 
 -- right sends more
 pub right_lessens : (c : Connection) (after : Half) (size : Option ℕ) → c.is_judged ≡ true → Sound c →
     is_over_by c.right c.seen_by_right ≡ false →
     HalfMoves c.right c.seen_by_right after → (is_silent c.right.phase ≡ true → (is_silent after.phase || is_refused after.phase) ≡ true) →
     Lessens c (record c { right = after; size = size })
-right_lessens c after size judged s live m silent = record {
-  sound = λ j. record {
-    left_knows = earlier_moves c.seen_by_left c.right c.seen_by_right after s.left_knows m;
-    right_knows = s.right_knows;
-    left_closed = λ k. still_closing c.right c.seen_by_right after m (s.left_closed k);
-    right_closed = λ k. closed_by c.right c.seen_by_right c.left after m s.right_knows s.right_closed k;
-  };
-  used_left = λ n j h. (j, h);
-  used_right = λ n j h. (
-    j,
-    used_judged c.is_judged c.right c.seen_by_right n j
-        (used_still c.right c.seen_by_right after n live m silent (judged_used c.is_judged after c.seen_by_right n j h)),
-  );
-  named_left = λ n j h. (j, h);
-  named_right = λ n j h. (
-    j,
-    named_judged c.is_judged c.right c.seen_by_right n j
-        (named_still c.right c.seen_by_right after n live (judged_named c.is_judged after c.seen_by_right n j h)),
-  );
-}
+right_lessens c after size judged s live m silent =
+    grind (arith, earlier_moves, still_closing, closed_by, used_judged, used_still, judged_used, named_judged, named_still, judged_named)
 
 -- ---- a CC of right: its reference is in use nowhere else
 

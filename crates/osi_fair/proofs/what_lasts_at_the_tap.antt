@@ -1,11 +1,11 @@
 -- What is known at the tap stays known as more passes: that class 2 holds; and what is judged was judged before.
 -- For the law on requests.
-use Rattle.osi_fair.proofs.Vocabulary.{arith, [], Bool, false, if◌then◌else◌, None, Option, Some, true, ℕ, ◌∷◌, ◌≡◌, ◌&&◌, ◌||◌, confirm}
-use Rattle.osi_fair.proofs.Vocabulary.{Connect, disconnect, request, Value, Two, is_applied, reach_of, first_failed, given_again, asks_by}
-use Rattle.osi_fair.proofs.Vocabulary.{asks_of, at_found, at_place, class_for, class_of, course_after, course_after_none, course_begins}
-use Rattle.osi_fair.proofs.Vocabulary.{found, found_on, none_told, Outcome, reached, request_tests, routed, Traffic as State, unnamed}
-use Rattle.osi_fair.proofs.Vocabulary.{unnamed_told, Connection, Course, Direction, Left, Right, Finding, Broke, Kept, NotJudged, Outside}
-use Rattle.osi_fair.proofs.Vocabulary.{Reach, Route, passes, Passing, is_break, noted, of_side}
+use Rattle.osi_fair.proofs.Vocabulary.{arith, [], Bool, false, if◌then◌else◌, Option, Some, true, ℕ, ◌∷◌, ◌≡◌, ◌&&◌, ◌||◌, confirm, Connect}
+use Rattle.osi_fair.proofs.Vocabulary.{disconnect, request, Value, Two, is_applied, reach_of, first_failed, given_again, asks_by, asks_of}
+use Rattle.osi_fair.proofs.Vocabulary.{at_found, at_place, class_for, class_of, course_after, course_after_none, course_begins, found}
+use Rattle.osi_fair.proofs.Vocabulary.{found_on, none_told, Outcome, reached, request_tests, routed, Traffic as State, unnamed_told}
+use Rattle.osi_fair.proofs.Vocabulary.{Connection, Course, Direction, Right, Finding, Broke, Kept, NotJudged, Outside, Reach, Route, passes}
+use Rattle.osi_fair.proofs.Vocabulary.{Passing, noted}
 use Rattle.osi_rules.specs.declared.findings.Rule.TheVariants as rule
 use Rattle.osi_fair.proofs.small_facts_that_many_lemmas_use.{or_left, or_right}
 use Rattle.osi_fair.proofs.a_reference_names_one_connection.{applied_found}
@@ -21,16 +21,7 @@ pub record Lasts (a b : Course) : Type 0 where
   pub right_fine : b.right_erred ≡ false → a.right_erred ≡ false
 
 lasts_same : (c : Course) → Lasts c c
-lasts_same c = record {
-  firm = λ h. h;
-  left = λ h. h;
-  right = λ h. h;
-  strays = λ h. h;
-  two = λ h. h;
-  seen = λ h k. k;
-  left_fine = λ h. h;
-  right_fine = λ h. h;
-}
+lasts_same c = grind arith
 
 lasts_then : (a b c : Course) → Lasts a b → Lasts b c → Lasts a c
 lasts_then a b c x y = search (arith)
@@ -40,16 +31,7 @@ lasts_reached d r c = search (arith, lasts_same)
 
 -- what is noted of a unit
 lasts_noted : (d : Direction) (f : Finding) (c : Course) → Lasts c (noted d f c)
-lasts_noted d f c = record {
-  firm = λ h. h;
-  left = λ h. h;
-  right = λ h. h;
-  strays = λ h. h;
-  two = λ h. h;
-  seen = λ h k. k;
-  left_fine = λ h. or_right (is_break f && of_side d true false) c.left_erred h;
-  right_fine = λ h. or_right (is_break f && of_side d false true) c.right_erred h;
-}
+lasts_noted d f c = grind (arith, or_right)
 
 lasts_told : (d : Direction) (f : Finding) (r : Reach) (c : Course) → Lasts c (noted d f (reached d r c))
 lasts_told d f r c =
@@ -92,25 +74,16 @@ to_none : (d : Direction) (f : Finding) (s : State) → After s (none_told d f s
 to_none d f s = lasts_told d f (reach_of (class_for d s.course) f) s.course
 
 to_unnamed : (d : Direction) (v : Value) (s : State) → After s (unnamed_told d v s)
-to_unnamed d v s =
-    let course = course_after_none v s.course in
-    let f = unnamed d s.course v in
-    lasts_then s.course course (noted d f (reached d (reach_of (class_for d course) f) course)) (lasts_none v s.course)
-    (lasts_told d f (reach_of (class_for d course) f) course)
+to_unnamed d v s = search (arith, lasts_then, lasts_told, lasts_none v s.course)
 
 -- after a unit for a connection
 pub one_lasts : (d : Direction) (s : State) (c : Connection) (v : Value) →
     (let f = found_on d s c v in
     Lasts s.course (noted d f (reached d (reach_of (class_for d s.course) f) (course_after d c v (is_applied f) s.course))))
-one_lasts d s c v =
-    let f = found_on d s c v in
-    let course = course_after d c v (is_applied f) s.course in
-    lasts_then s.course course (noted d f (reached d (reach_of (class_for d s.course) f) course)) (lasts_after d s c v)
-    (lasts_told d f (reach_of (class_for d s.course) f) course)
+one_lasts d s c v = search (arith, lasts_then, lasts_told, lasts_after d s c v)
 
 to_one : (d : Direction) (v : Value) (s : State) (p : ℕ) (o : Option Connection) → After s (at_found d v s p o)
-to_one d v s p None = to_unnamed d v s
-to_one d v s p (Some c) = one_lasts d s c v
+to_one d v s p o = grind (arith, to_unnamed, one_lasts)
 
 to_place : (d : Direction) (v : Value) (s : State) (p : Option ℕ) → After s (at_place d v s p)
 to_place d v s p = grind (arith, to_unnamed, to_one)
@@ -132,17 +105,7 @@ if_judged true d v s r = to_none d NotJudged s
 if_judged false d v s r = by_route d v s r
 
 begun : (d : Direction) (c : Course) → Lasts c (course_begins d c)
-begun Left c = record {
-  firm = λ h. h;
-  left = λ h. h;
-  right = λ h. h;
-  strays = λ h. h;
-  two = λ h. h;
-  seen = λ h k. h;
-  left_fine = λ h. h;
-  right_fine = λ h. h;
-}
-begun Right c = lasts_same c
+begun d c = grind (arith, lasts_same)
 
 pub lasts_passing : (p : Passing) (s : State) → Lasts s.course (passes p s).course
 lasts_passing p s = grind (arith, begun, if_judged, lasts_reached)

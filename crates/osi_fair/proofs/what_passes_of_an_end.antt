@@ -1,10 +1,9 @@
 -- A unit of an end begins to pass and passes, and a packet of the other side begins: each keeps what holds of the line.
 -- For the laws on a line.
-use Rattle.osi_fair.proofs.Vocabulary.{[], ap, arith, Bool, false, if◌then◌else◌, List, None, Option, refl, Some, subst, sym, true}
-use Rattle.osi_fair.proofs.Vocabulary.{ℕ, ◌%◌, ◌+◌, ◌<◌, ◌∙◌, ◌∷◌, ◌≡◌, ◌≤◌, acknowledge, data2, disconnect, disconnected, request, Value}
-use Rattle.osi_fair.proofs.Vocabulary.{longest_tsdu, Standing, begins, is_open, is_silent, begun_after, closing_phase, found, half_after}
-use Rattle.osi_fair.proofs.Vocabulary.{sent_on, Connection, Course, Left, Right, Finding, Kept, NotJudged, Half, Phase, Acts, after_finding}
-use Rattle.osi_fair.proofs.Vocabulary.{begins_elsewhere, finding_of, IsRight, IsRightNow, Line, confirm, data0, error}
+use Rattle.osi_fair.proofs.Vocabulary.{[], ap, arith, Bool, false, if◌then◌else◌, List, None, Option, subst, sym, true, ℕ, ◌%◌, ◌+◌, ◌<◌}
+use Rattle.osi_fair.proofs.Vocabulary.{◌∙◌, ◌∷◌, ◌≡◌, ◌≤◌, acknowledge, data2, Value, longest_tsdu, Standing, begins, is_open, begun_after}
+use Rattle.osi_fair.proofs.Vocabulary.{closing_phase, found, half_after, sent_on, Connection, Course, Left, Right, Finding, Kept, NotJudged}
+use Rattle.osi_fair.proofs.Vocabulary.{Half, Phase, Acts, after_finding, begins_elsewhere, finding_of, IsRight, IsRightNow, Line}
 use Rattle.osi_fair.specs.Lines.{begins_own, passes_own, begins_other}
 use Rattle.osi_fair.proofs.what_a_link_does.{begun_by}
 use Rattle.osi_fair.proofs.what_holds_of_a_line.{Tally, Ordered, OpenIfAny, PutsAt, TakesAt, Holds, tapped}
@@ -27,32 +26,7 @@ right_still : (tap : Connection) (put : List Value) → IsRightNow Left tap put 
 right_still tap put h = search (arith, same_found)
 
 pub begins_other_holds : (r peer : ℕ) (old new : Line) → Acts Left r peer begins_other old new → Holds r peer old → Holds r peer new
-begins_other_holds r peer old new new_is h =
-    let o = h.ordered in
-    let t = h.taps in
-    subst (λ (l : Line). Holds r peer l) (sym new_is)
-    (record {
-      limit = h.limit;
-      tally = h.tally;
-      noted = h.tally.passed;
-      ordered = omega (arith, o);
-      taps = record {
-        next = t.next;
-        awaited = t.awaited;
-        credit = t.credit;
-        their_next = t.their_next;
-        their_awaited = t.their_awaited;
-        their_edge = t.their_edge;
-        known_next = t.next;
-        own_reference = t.own_reference;
-        reference = t.reference;
-        there = t.there;
-        fits = t.fits;
-      };
-      puts = h.puts;
-      takes = h.takes;
-      under_way = λ b. right_still old.tap old.put (h.under_way b);
-    })
+begins_other_holds r peer old new new_is h = grind (arith, right_still)
 
 -- ---- a unit passes
 
@@ -124,29 +98,7 @@ module _ (r peer limit : ℕ) (x : Tally) (noted : ℕ) (tap : Connection) (o : 
   ack_passes : (link : Option Standing) (credit destination number : ℕ) (units : List Value) →
       PutsAt r peer limit x tap.left tap.right (acknowledge credit destination number ∷ units) link →
       Passed r peer limit x noted units link (sent_on Left (acknowledge credit destination number) tap)
-  ack_passes link credit destination number units p =
-      let a = ack_puts link credit destination number units p in
-      let low = a.low in
-      let high = a.high in
-      record {
-        passed = x.passed;
-        shown = a.count;
-        ordered = omega (arith, o, high);
-        taps = record {
-          next = t.next;
-          awaited = a.is;
-          credit = a.window;
-          their_next = t.their_next;
-          their_awaited = t.their_awaited;
-          their_edge = t.their_edge;
-          known_next = t.known_next;
-          own_reference = t.own_reference;
-          reference = t.reference;
-          there = t.there;
-          fits = t.fits;
-        };
-        puts = a.puts;
-      }
+  ack_passes link credit destination number units p = grind (arith, ack_puts)
 
   -- a DR or a DC is the last
   last_passes : (mine : Half) (units : List Value) → mine.next ≡ tap.left.next → mine.awaited ≡ tap.left.awaited →
@@ -160,22 +112,7 @@ module _ (r peer limit : ℕ) (x : Tally) (noted : ℕ) (tap : Connection) (o : 
 
   pub unit_passes : (link : Option Standing) (unit : Value) (units : List Value) →
       PutsAt r peer limit x tap.left tap.right (unit ∷ units) link → Passed r peer limit x noted units link (sent_on Left unit tap)
-  unit_passes link (data2 destination number end user) units p = data_passes link destination number end user units p
-  unit_passes link (acknowledge credit destination number) units p = ack_passes link credit destination number units p
-  unit_passes None (disconnect destination source reason user) units ((a, b, c), live) =
-      closing_passes (is_silent tap.left.phase) units c
-  unit_passes (Some link) (disconnect destination source reason user) units ((a, b, c), live) = absurd (cc)
-  unit_passes None (disconnected destination source) units ((a, b, c, d, f), live) =
-      last_passes (half_after (disconnected destination source) tap.left) units refl refl refl refl refl f
-  unit_passes (Some link) (disconnected destination source) units ((a, b, c, d, f), live) = absurd (cc)
-  unit_passes None (request c) units (h, live) = absurd h
-  unit_passes None (confirm destination c) units (h, live) = absurd h
-  unit_passes None (data0 end user) units (h, live) = absurd h
-  unit_passes None (error destination cause) units (h, live) = absurd h
-  unit_passes (Some link) (request c) units (h, live) = absurd h
-  unit_passes (Some link) (confirm destination c) units (h, live) = absurd h
-  unit_passes (Some link) (data0 end user) units (h, live) = absurd h
-  unit_passes (Some link) (error destination cause) units (h, live) = absurd h
+  unit_passes link unit units p = search (arith, data_passes, ack_passes, closing_passes, last_passes)
 
 pub is_kept : (course : Course) (in_use : Bool) (tap : Connection) (unit : Value) → tap.is_judged ≡ true → IsRight Left tap unit →
     finding_of Left course in_use tap unit ≡ Kept

@@ -76,17 +76,7 @@ module _ (r peer limit : ℕ) (x : Tally) (noted : ℕ) (tap : Connection) (put 
   goes_later came heard edge later unit is ordered taps more base = search (arith, puts_later, takes_later, right_later)
 
   pub goes_same : (unit : Value) → Base (came_of x tap.right) unit → Went r peer limit x noted tap tap put (coming ++ unit ∷ []) link
-  goes_same unit base = record {
-    came = x.came;
-    heard = x.heard;
-    edge = x.edge;
-    ordered = omega (arith, o);
-    taps = t;
-    puts = puts_later x.came x.heard x.edge tap.right link (λ c. c) p;
-    takes = takes_later x.came x.heard x.edge tap.right unit link
-        (record { came = omega arith; heard = omega arith; edge = omega arith; closing = λ c. c }) base k;
-    under_way = λ h. h;
-  }
+  goes_same unit base = grind (arith, puts_later, takes_later)
 
   -- ---- a DT
 

@@ -1,15 +1,14 @@
 -- What stays of each connection at the tap of a calling end as units pass: its reference, and that no other has it.
 -- For the law on DRs.
-use Rattle.osi_fair.proofs.Vocabulary.{arith, Bool, false, if◌then◌else◌, List, None, Option, refl, set, Some, subst, sym, true, ℕ, ◌<◌}
-use Rattle.osi_fair.proofs.Vocabulary.{◌∙◌, ◌≡◌, ◌⊎◌, position, slice_get, ◌&&◌, ◌||◌, confirm, Connect, disconnect, disconnected, error}
-use Rattle.osi_fair.proofs.Vocabulary.{request, Value, Class, is_applied, reach_of, first_failed, is_free, is_live, is_named, is_open}
-use Rattle.osi_fair.proofs.Vocabulary.{is_refused, is_silent, asked_by, asks_by, asks_kept, asks_of, at_found, at_place, class_for}
-use Rattle.osi_fair.proofs.Vocabulary.{closing_phase, connection_after, found, found_on, half_after, is_stopped, judged_on, none_told}
-use Rattle.osi_fair.proofs.Vocabulary.{Outcome, request_tests, route, route_in, routed, sent_on, sized, Traffic as State, takes}
-use Rattle.osi_fair.proofs.Vocabulary.{Connection, Direction, Left, Right, Finding, Broke, Kept, NotJudged, Reach, Half, Route, Asks}
-use Rattle.osi_fair.proofs.Vocabulary.{Named, Only, Unnamed, Two, Zero, has_broken}
+use Rattle.osi_fair.proofs.Vocabulary.{arith, Bool, false, if◌then◌else◌, List, None, Option, refl, set, Some, true, ℕ, ◌<◌, ◌∙◌, ◌≡◌, ◌⊎◌}
+use Rattle.osi_fair.proofs.Vocabulary.{position, slice_get, ◌&&◌, ◌||◌, confirm, Connect, request, Value, Class, is_applied, reach_of}
+use Rattle.osi_fair.proofs.Vocabulary.{first_failed, is_free, is_live, is_named, is_open, is_refused, is_silent, asked_by, asks_by}
+use Rattle.osi_fair.proofs.Vocabulary.{asks_kept, asks_of, at_found, at_place, class_for, closing_phase, connection_after, found_on}
+use Rattle.osi_fair.proofs.Vocabulary.{half_after, judged_on, none_told, Outcome, request_tests, route, route_in, routed, sent_on, sized}
+use Rattle.osi_fair.proofs.Vocabulary.{Traffic as State, takes, Connection, Direction, Left, Right, Finding, Kept, NotJudged, Reach, Half}
+use Rattle.osi_fair.proofs.Vocabulary.{Route, Asks, Named, Only, Unnamed, has_broken}
 use Rattle.osi_rules.specs.declared.findings.Rule.TheVariants as rule
-use Rattle.osi_rules.specs.Sides.{own, sends}
+use Rattle.osi_rules.specs.Sides.{sends}
 use Rattle.osi_fair.proofs.small_facts_that_many_lemmas_use.{closing_same, differ, or_left, sized_judged}
 use Rattle.osi_fair.proofs.a_reference_names_one_connection.{applied_found, error_test}
 use Rattle.osi_fair.proofs.what_holds_of_one_item.{HoldsOfEach, after_add, after_set, each_add, each_set}
@@ -73,15 +72,7 @@ Started half = (is_silent half.phase || is_refused half.phase) ≡ false
 
 half_started : (s : State) (v : Value) (c : Connection) → is_applied (found_on Left s c v) ≡ true → Started c.left →
     Started (half_after v c.left)
-half_started s (confirm destination x) c h k = absurd (cc (applied_found c.is_judged (Broke rule.WrongForm) h))
-half_started s (disconnect destination source reason user) c h k =
-    closing_started (is_silent c.left.phase) c.left (or_left (is_silent c.left.phase) (is_refused c.left.phase) k)
-half_started s (disconnected destination source) c h k = refl
-half_started s (error destination cause) c h k = differ (is_silent c.left.phase)
-    (error_test (is_silent c.left.phase) s.course.right_erred
-    (applied_found c.is_judged (found Left s.course false c (error destination cause)) h))
-    (or_left (is_silent c.left.phase) (is_refused c.left.phase) k)
-half_started s _ c h k = k
+half_started s v c h k = grind (arith, applied_found, closing_started, or_left, differ, error_test)
 
 half_reference : (s : State) (v : Value) (c : Connection) → is_applied (found_on Left s c v) ≡ true →
     (half_after v c.left).reference ≡ c.left.reference
@@ -120,10 +111,7 @@ sends_judged d half c = grind arith
 -- what is judged after a unit was so before it
 pub judged_was : (d : Direction) (v : Value) (applied : Bool) (r : Reach) (c : Connection) →
     (connection_after d v applied r c).is_judged ≡ true → c.is_judged ≡ true
-judged_was d v true r c h =
-    sym (sized_judged v (sends d (half_after v (own d c)) c) ∙ sends_judged d (half_after v (own d c)) c)
-    ∙ judged_before r (sent_on d v c) h
-judged_was d v false r c h = judged_before r c h
+judged_was d v applied r c h = grind (arith, sized_judged, sends_judged, judged_before)
 
 there_before : (applied : Bool) (s : State) (v : Value) (r : Reach) (c : Connection) → is_applied (found_on Left s c v) ≡ applied →
     is_there (connection_after Left v applied r c).left (connection_after Left v applied r c).right ≡ true → is_there c.left c.right ≡ true
@@ -131,9 +119,7 @@ there_before applied s v r c h there = grind (arith, left_own, right_then, half_
 
 own_lively : (L : ℕ → Type 0) (applied : Bool) (s : State) (v : Value) (r : Reach) (c : Connection) →
     is_applied (found_on Left s c v) ≡ applied → IsLively L c → IsLively L (connection_after Left v applied r c)
-own_lively L applied s v r c h k judged there =
-    subst L (sym (own_stays applied s v r c h).reference)
-    (k (judged_was Left v applied r c judged) (there_before applied s v r c h there))
+own_lively L applied s v r c h k judged there = grind (arith, own_stays, judged_was, there_before)
 
 -- ---- all connections, after a unit that passes
 
@@ -219,9 +205,7 @@ module _ (P : Connection → Type 0) where
 
   right_asks : (k : Option Class) (stopped : Bool) (x : Connect) (s : State) → HoldsOfEach P s.connections →
       AreDistinct s.connections → AllSo (routed Right (request x) s (route_in k Right stopped (request x)))
-  right_asks None stopped x s h a = (h, a)
-  right_asks (Some Zero) stopped x s h a = (h, a)
-  right_asks (Some Two) stopped x s h a = (h, a)
+  right_asks k stopped x s h a = grind arith
 
   right_other : (v : Value) (s : State) (r : Route) → StaysAfter Right v s → HoldsOfEach P s.connections → AreDistinct s.connections →
       AllSo (asks_of Right v s) → AllSo (routed Right v s r)
@@ -233,13 +217,11 @@ module _ (P : Connection → Type 0) where
   right_routes : (v : Value) (s : State) → StaysAfter Right v s → HoldsOfEach P s.connections → AreDistinct s.connections →
       AllSo (routed Right v s (route Right s.course v))
   right_routes (request x) s k h a = right_asks (class_for Right s.course) (has_broken Left s.course) x s h a
-  right_routes v s k h a =
-      right_other v s (route Right s.course v) k h a (h, a)
+  right_routes v s k h a = search (arith, right_other)
 
   pub right_passes : (v : Value) (s : State) → StaysAfter Right v s → HoldsOfEach P s.connections → AreDistinct s.connections →
       AllSo (takes Right v s)
-  right_passes v s k h a =
-      if_judged (is_stopped Right s.course) Right s (routed Right v s (route Right s.course v)) h a (right_routes v s k h a)
+  right_passes v s k h a = search (arith, if_judged, right_routes)
 
 -- ---- what holds of each connection stays so
 

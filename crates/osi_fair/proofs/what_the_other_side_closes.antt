@@ -4,11 +4,11 @@ use Rattle.osi_fair.proofs.Vocabulary.{arith, [], ap, Bool, drop, false, if◌th
 use Rattle.osi_fair.proofs.Vocabulary.{subst, sym, true, ℕ, ◌∙◌, ◌∷◌, ◌≡◌, ◌⊎◌, eqb-true, not, position, slice_get, ◌&&◌, ◌==◌, ◌||◌}
 use Rattle.osi_fair.proofs.Vocabulary.{acknowledge, confirm, Connect, data2, disconnect, disconnected, error, Value, Class, Two, Zero}
 use Rattle.osi_fair.proofs.Vocabulary.{is_applied, is_of_connection, passes_over, reach_by, reach_of, reach_past, confirm_tests}
-use Rattle.osi_fair.proofs.Vocabulary.{first_failed, is_due, is_closed, is_closing, is_named, is_open, is_refused, is_silent, at_found}
-use Rattle.osi_fair.proofs.Vocabulary.{at_place, class_for, connection_after, course_after, course_after_none, found, found_on, half_after}
-use Rattle.osi_fair.proofs.Vocabulary.{in_doubt, is_stray, none_told, one_told, Outcome, reached, route, route_in, routed}
-use Rattle.osi_fair.proofs.Vocabulary.{Traffic as State, takes, unnamed_by, unnamed_told, uses_source, Connection, Course, Right, Finding}
-use Rattle.osi_fair.proofs.Vocabulary.{Broke, NotJudged, TooMany, Reach, Rule, Half, Phase, noted, unnamed}
+use Rattle.osi_fair.proofs.Vocabulary.{first_failed, is_closed, is_closing, is_named, is_open, is_refused, is_silent, at_found, at_place}
+use Rattle.osi_fair.proofs.Vocabulary.{class_for, connection_after, course_after, found, found_on, half_after, in_doubt, is_stray}
+use Rattle.osi_fair.proofs.Vocabulary.{none_told, one_told, Outcome, reached, route, route_in, routed, Traffic as State, takes, unnamed_by}
+use Rattle.osi_fair.proofs.Vocabulary.{unnamed_told, uses_source, Connection, Course, Right, Finding, Broke, NotJudged, TooMany, Reach}
+use Rattle.osi_fair.proofs.Vocabulary.{Rule, Half, Phase, noted, unnamed}
 use Rattle.osi_rules.specs.declared.findings.Reach.TheVariants as reach
 use Rattle.osi_rules.specs.declared.findings.Rule.TheVariants as rule
 use Rattle.osi_fair.proofs.small_facts_that_many_lemmas_use.{and_first, both, closing_not_silent, closing_shuts, differ, not_not, or_first}
@@ -81,15 +81,11 @@ pub data Came (L : ℕ → Type 0) (v : Value) (s t : State) : Type 0 where
 
 soft_by : (k : Option Class) (one : Bool) (c : Course) → IsCalm (reached Right (reach_by k one) c) →
     (reach_by k one ≡ reach.Connection) × (one ≡ true)
-soft_by None one c h = differ true refl h.left
-soft_by (Some Zero) one c h = differ true refl h.right
-soft_by (Some Two) true c h = (refl, refl)
-soft_by (Some Two) false c h = differ true refl h.left
+soft_by k one c h = grind (arith, differ)
 
 past_by : (k : Option Class) (past one : Bool) (c : Course) → past ≡ false → IsCalm (reached Right (reach_past past (reach_by k one)) c) →
     (reach_past past (reach_by k one) ≡ reach.Connection) × (one ≡ true)
-past_by k true one c e h = differ true refl e
-past_by k false one c e h = soft_by k one c h
+past_by k past one c e h = grind (arith, differ, soft_by)
 
 -- a break that the taker looks at
 pub soft : (k : Option Class) (r : Rule) (c : Course) → passes_over r ≡ false → IsCalm (reached Right (reach_of k (Broke r)) c) →
@@ -105,34 +101,24 @@ doubt_not_calm k c h = differ true refl h.left
 
 -- a unit for no connection
 none_rule : (v : Value) → unnamed_by false v ≡ Broke rule.UnknownReference
-none_rule (disconnected destination source) = refl
-none_rule _ = refl
+none_rule v = grind arith
 
 pub unknown_not_calm : {A : Type 0} (k : Option Class) (loose : Bool) (c : Course) →
     IsCalm (reached Right (reach_of k (if loose then in_doubt (Broke rule.UnknownReference) else Broke rule.UnknownReference)) c) → A
-unknown_not_calm k true c h = doubt_not_calm k c h
-unknown_not_calm k false c h = not_calm k rule.UnknownReference c refl refl h
+unknown_not_calm k loose c h = grind (arith, doubt_not_calm, not_calm)
 
 -- what is found of one, if the end has broken no rule
 pub unknown_is : (v : Value) (c : Course) → c.left_erred ≡ false →
     unnamed Right c v ≡ (if c.loose then in_doubt (unnamed_by c.strays v) else unnamed_by c.strays v)
-unknown_is v c fine =
-    ap (λ (b : Bool). if b then NotJudged else (if c.loose then in_doubt (unnamed_by c.strays v) else unnamed_by c.strays v))
-    (no_report c.left_erred v fine)
+unknown_is v c fine = grind (arith, no_report)
 
 pub unknown_not : {A : Type 0} (v : Value) (s : State) → unnamed_by s.course.strays v ≡ Broke rule.UnknownReference →
     s.course.left_erred ≡ false → IsCalm (unnamed_told Right v s).state.course → A
-unknown_not v s is fine h =
-    let c = course_after_none v s.course in
-    let so = unknown_is v s.course fine ∙ ap (λ (f : Finding). if s.course.loose then in_doubt f else f) is in
-    unknown_not_calm (class_for Right c) s.course.loose c
-    (subst (λ (f : Finding). IsCalm (reached Right (reach_of (class_for Right c) f) c)) so
-    (calm_noted Right (unnamed Right s.course v) (reached Right (reach_of (class_for Right c) (unnamed Right s.course v)) c) h))
+unknown_not v s is fine h = grind (arith, unknown_is, unknown_not_calm, calm_noted)
 
 none_bad : {A : Type 0} (v : Value) (s : State) → s.course.strays ≡ false → s.course.left_erred ≡ false →
     IsPlain (unnamed_told Right v s).state.course → A
-none_bad v s plain fine h =
-    unknown_not v s (ap (λ (b : Bool). unnamed_by b v) plain ∙ none_rule v) fine (calm_of (unnamed_told Right v s).state.course h)
+none_bad v s plain fine h = search (arith, unknown_not, none_rule, calm_of)
 
 reached_plain : (r : Reach) (c : Course) → (reached Right r c).strays ≡ false → c.strays ≡ false
 reached_plain r c h = grind arith
@@ -170,10 +156,7 @@ module _ (L : ℕ → Type 0) (s : State) (q : ℕ) (c : Connection) (at : slice
   less_by : (v : Value) (n : ℕ) → c.left.reference ≡ n →
       ((after v).is_judged ≡ true → is_there (after v).left (after v).right ≡ true → ⊥) → (i : ℕ) (e : Connection) →
       ((i ≡ q) × (e ≡ after v)) ⊎ ((i ≡ q → ⊥) × (slice_get s.connections i ≡ Some e)) → IsLively (Less L n) e
-  less_by v n is none i e (inl (same, so)) j there =
-      absurd (none (ap (λ (x : Connection). x.is_judged) (sym so) ∙ j) (ap (λ (x : Connection). is_there x.left x.right) (sym so) ∙ there))
-  less_by v n is none i e (inr (other, h)) j there =
-      (lively i e h j there, λ same. other (distinct i q e c h at (same ∙ sym is)))
+  less_by v n is none i e h j there = grind (arith, is_there)
 
   less_lively : (v : Value) (n : ℕ) → c.left.reference ≡ n →
       ((after v).is_judged ≡ true → is_there (after v).left (after v).right ≡ true → ⊥) →
@@ -208,11 +191,7 @@ module _ (L : ℕ → Type 0) (s : State) (q : ℕ) (c : Connection) (at : slice
     -- a DR closes nothing there
     lost_dr : {A : Type 0} (destination source reason : ℕ) (user : List ℕ) →
         IsPlain (course (disconnect destination source reason user)) → A
-    lost_dr destination source reason user h =
-        let v = disconnect destination source reason user in
-        let so = reached_plain (how_far v) (course_after Right c v (is_applied (finding v)) s.course) h.strays in
-        differ (s.course.strays || true) (or_last s.course.strays true refl)
-        (ap (λ (f : Finding). s.course.strays || (not (is_applied f) || is_stray Right c source)) (sym (lost_found v)) ∙ so)
+    lost_dr destination source reason user h = grind (arith, reached_plain, differ, or_last, lost_found)
 
     lost_came : (v : Value) → ((n : ℕ) → closed_by v ≡ Some n → c.left.reference ≡ n) → Told v
     lost_came (disconnect destination source reason user) is h = lost_dr destination source reason user h
@@ -252,8 +231,7 @@ module _ (L : ℕ → Type 0) (s : State) (q : ℕ) (c : Connection) (at : slice
     before_by v b e k there = search (arith, before_more, right_by, left_then)
 
     same_phase : (v : Value) → (half_after v c.right).phase ≡ c.right.phase → Before v
-    same_phase v e = before_by v (is_applied (finding v)) refl
-        (λ applied there. ap (λ (p : Phase). is_open c.left.phase && (is_silent p || is_open p)) (sym e) ∙ there)
+    same_phase v e = search (arith, before_by)
 
     confirms : (destination : ℕ) (x : Connect) → Before (confirm destination x)
     confirms destination x =
@@ -281,11 +259,7 @@ module _ (L : ℕ → Type 0) (s : State) (q : ℕ) (c : Connection) (at : slice
         is_applied (finding (disconnect destination source reason user)) ≡ b → c.left.reference ≡ destination →
         IsPlain (course (disconnect destination source reason user)) →
         Came L (disconnect destination source reason user) s (one_told Right q c (disconnect destination source reason user) s).state
-    closes_by destination source reason user false e is h =
-        let v = disconnect destination source reason user in
-        let so = reached_plain (how_far v) (course_after Right c v (is_applied (finding v)) s.course) h.strays in
-        let stray = or_right s.course.strays (not (is_applied (finding v)) || is_stray Right c source) so in
-        differ (not (is_applied (finding v))) (ap not e) (or_left (not (is_applied (finding v))) (is_stray Right c source) stray)
+    closes_by destination source reason user false e is h = grind (arith, reached_plain, or_right, differ, or_left)
     closes_by destination source reason user true e is h =
         let v = disconnect destination source reason user in
         let so = reached_plain (how_far v) (course_after Right c v (is_applied (finding v)) s.course) h.strays in
@@ -303,18 +277,7 @@ module _ (L : ℕ → Type 0) (s : State) (q : ℕ) (c : Connection) (at : slice
 
     -- what breaks a rule, and is not passed over: the connection is not judged any more
     wrong_lost : (v : Value) (r : Rule) → finding v ≡ Broke r → passes_over r ≡ false → IsPlain (course v) → (after v).is_judged ≡ false
-    wrong_lost v r e past h =
-        let calm = subst (λ (f : Finding). IsCalm (reached Right (reach_of (class_for Right s.course) f)
-        (course_after Right c v (is_applied (finding v)) s.course))) e
-        (calm_noted Right (finding v) (reached Right (how_far v) (course_after Right c v (is_applied (finding v)) s.course))
-        (calm_of (course v) h)) in
-        let far = ap (λ (f : Finding). reach_of (class_for Right s.course) f) e
-        ∙ (soft (class_for Right s.course) r (course_after Right c v (is_applied (finding v)) s.course) past calm).0 in
-        ap (λ (k : Reach). (connection_after Right v (is_applied (finding v)) k c).is_judged) far ∙ lost_by v (is_applied (finding v))
-      where
-        lost_by : (v : Value) (b : Bool) → (connection_after Right v b reach.Connection c).is_judged ≡ false
-        lost_by v true = refl
-        lost_by v false = refl
+    wrong_lost v r e past h = grind (arith, calm_noted, calm_of, soft)
 
     -- ---- a DC
 
@@ -327,11 +290,7 @@ module _ (L : ℕ → Type 0) (s : State) (q : ℕ) (c : Connection) (at : slice
         ∷ (due, Broke rule.NothingToAnswer) ∷ [])) ≡ true)
         ⊎ (IsBad (first_failed ((due || not strays, NotJudged) ∷ (told, Broke rule.UnknownReference) ∷ (due, Broke rule.NothingToAnswer)
         ∷ [])))
-    dc_by true true false h = inl refl
-    dc_by true false false h = inr (rule.UnknownReference, refl, refl)
-    dc_by false false false h = inr (rule.UnknownReference, refl, refl)
-    dc_by false true false h = inr (rule.NothingToAnswer, refl, refl)
-    dc_by due told true h = absurd (cc)
+    dc_by due told strays h = grind arith
 
     answers_by : (destination source : ℕ) → c.left.reference ≡ destination →
         (is_applied (finding (disconnected destination source)) ≡ true)
@@ -339,38 +298,28 @@ module _ (L : ℕ → Type 0) (s : State) (q : ℕ) (c : Connection) (at : slice
         Came L (disconnected destination source) s (one_told Right q c (disconnected destination source) s).state
     answers_by destination source is (inl e) h =
         closed_so (disconnected destination source) destination refl is e refl refl (λ dr. absurd dr)
-    answers_by destination source is (inr (r, e, past)) h =
-        let v = disconnected destination source in
-        lost_closed v destination refl is (λ dr. dr) (wrong_lost v r e past h)
+    answers_by destination source is (inr (r, e, past)) h = search (arith, lost_closed, wrong_lost)
 
     dc_found : (destination source : ℕ) → (is_applied (finding (disconnected destination source)) ≡ true)
         ⊎ (IsBad (finding (disconnected destination source)))
-    dc_found destination source =
-        subst (λ (f : Finding). (is_applied f ≡ true) ⊎ (IsBad f)) (sym (is_found (disconnected destination source)))
-        (dc_by (is_due Right c source) (not (is_silent c.right.phase)) s.course.strays plain)
+    dc_found destination source = grind (arith, is_found, dc_by)
 
     -- ---- an ER
 
     er_by : (silent erred : Bool) → erred ≡ false →
         (is_applied (first_failed ((silent || not erred, NotJudged) ∷ (silent, Broke rule.WrongForm) ∷ [])) ≡ true)
         ⊎ (first_failed ((silent || not erred, NotJudged) ∷ (silent, Broke rule.WrongForm) ∷ []) ≡ Broke rule.WrongForm)
-    er_by true erred h = inl refl
-    er_by false false h = inr refl
-    er_by false true h = absurd (cc)
+    er_by silent erred h = grind arith
 
     refuses_by : (destination cause : ℕ) → c.left.reference ≡ destination → (is_applied (finding (error destination cause)) ≡ true)
         ⊎ (finding (error destination cause) ≡ Broke rule.WrongForm) → IsPlain (course (error destination cause)) →
         Came L (error destination cause) s (one_told Right q c (error destination cause) s).state
     refuses_by destination cause is (inl e) h = closed_so (error destination cause) destination refl is e refl refl (λ dr. absurd dr)
-    refuses_by destination cause is (inr e) h =
-        let v = error destination cause in
-        lost_closed v destination refl is (λ dr. dr) (wrong_lost v rule.WrongForm e refl h)
+    refuses_by destination cause is (inr e) h = search (arith, lost_closed, wrong_lost)
 
     er_found : (destination cause : ℕ) → (is_applied (finding (error destination cause)) ≡ true)
         ⊎ (finding (error destination cause) ≡ Broke rule.WrongForm)
-    er_found destination cause =
-        subst (λ (f : Finding). (is_applied f ≡ true) ⊎ (f ≡ Broke rule.WrongForm)) (sym (is_found (error destination cause)))
-        (er_by (is_silent c.right.phase) s.course.left_erred fine)
+    er_found destination cause = grind (arith, is_found, er_by)
 
     -- ---- any
 
@@ -379,10 +328,8 @@ module _ (L : ℕ → Type 0) (s : State) (q : ℕ) (c : Connection) (at : slice
     one_came (disconnect destination source reason user) is h =
         closes_by destination source reason user (is_applied (finding (disconnect destination source reason user))) refl
         (is destination refl) h
-    one_came (disconnected destination source) is h =
-        answers_by destination source (is destination refl) (dc_found destination source) h
-    one_came (error destination cause) is h =
-        refuses_by destination cause (is destination refl) (er_found destination cause) h
+    one_came (disconnected destination source) is h = search (arith, answers_by, dc_found)
+    one_came (error destination cause) is h = search (arith, refuses_by, er_found)
     one_came v is h =
         stays refl (all_lively v (same_phase v refl))
 
@@ -434,10 +381,7 @@ module _ (L : ℕ → Type 0) (s : State) (sane : IsSane s) (peers : AreNamedApa
       there v q c at (λ m k. subst (λ (i : ℕ). is_named Right i c ≡ true) (same m k) named) h
 
   wrong : (v : Value) → Comes v (none_told Right (Broke rule.UnexpectedUnit) s)
-  wrong v h =
-      let f = Broke rule.UnexpectedUnit in
-      not_calm (class_for Right s.course) rule.UnexpectedUnit s.course refl refl
-      (calm_noted Right f (reached Right (reach_of (class_for Right s.course) f) s.course) (calm_of (none_told Right f s).state.course h))
+  wrong v h = grind (arith, not_calm, calm_noted, calm_of)
 
   same_number : (n m : ℕ) → Some n ≡ Some m → n ≡ m
   same_number n m e = cc

@@ -1,15 +1,12 @@
 -- A carrier puts a CR only as its user calls for a connection, and gives it the next reference.
 -- For the law on requests.
-use Rattle.osi_fair.proofs.Vocabulary.{arith}
-use Rattle.osi_fair.proofs.Vocabulary.{[], ap, Bool, Err, if◌then◌else◌, is_some, List, map, None, Ok, Option, refl, Result, Some}
-use Rattle.osi_fair.proofs.Vocabulary.{ℕ, ◌++◌, ◌+◌, ◌∙◌, ◌∷◌, ◌≡◌, flat_map-append, flat_map, Connect}
-use Rattle.osi_fair.proofs.Vocabulary.{disconnect, Value, all_given, ack, Given, part0, part2}
-use Rattle.osi_fair.proofs.Vocabulary.{Standing, taken, unit_of, with_tsdu, selected_by, Selection, LinkFault, Class, Two}
-use Rattle.osi_fair.proofs.Vocabulary.{Zero, open_link, sent, proposal_by, written_by, handed_out, has_peer, is_full, Rows}
-use Rattle.osi_fair.proofs.Vocabulary.{user as by_user, UserCall}
-use Rattle.osi_fair.proofs.Vocabulary.{Live as Connection, asked_in, asks_with, put_at, put_before, put_by, put_closed, put_closing}
-use Rattle.osi_fair.proofs.Vocabulary.{put_for, put_for_request, put_for_selection, put_in, put_in_two, put_in_zero, put_leaving}
-use Rattle.osi_fair.proofs.Vocabulary.{put_linked, put_only, put_sent, put_taking, put_together, put_unknown, refusal}
+use Rattle.osi_fair.proofs.Vocabulary.{arith, [], Bool, Err, if◌then◌else◌, is_some, List, map, None, Ok, Option, refl, Result, Some, ℕ}
+use Rattle.osi_fair.proofs.Vocabulary.{◌+◌, ◌∷◌, ◌≡◌, flat_map-append, flat_map, Connect, Value, all_given, ack, Given, part0, part2}
+use Rattle.osi_fair.proofs.Vocabulary.{Standing, unit_of, with_tsdu, selected_by, Selection, LinkFault, Class, Two, Zero, sent, proposal_by}
+use Rattle.osi_fair.proofs.Vocabulary.{written_by, handed_out, has_peer, is_full, Rows, user as by_user, UserCall, Live as Connection}
+use Rattle.osi_fair.proofs.Vocabulary.{asked_in, asks_with, put_at, put_before, put_by, put_closed, put_closing, put_for, put_for_request}
+use Rattle.osi_fair.proofs.Vocabulary.{put_for_selection, put_in, put_in_two, put_in_zero, put_leaving, put_linked, put_only, put_sent}
+use Rattle.osi_fair.proofs.Vocabulary.{put_taking, put_together, put_unknown, refusal}
 use Rattle.osi_carrier.specs.State.{State}
 
 -- the references of the CRs among these units
@@ -49,13 +46,10 @@ for_taking r peer (Err fault) (Some Zero) = refl
 for_taking r peer (Err fault) (Some Two) = refl
 
 for_leaving : (r peer : ℕ) (held : Option Class) → NoCr (put_leaving r peer held)
-for_leaving r peer None = refl
-for_leaving r peer (Some Zero) = refl
-for_leaving r peer (Some Two) = refl
+for_leaving r peer held = grind arith
 
 for_linked : (r peer : ℕ) (link : Standing) (unit : Value) (held : Option Class) → NoCr (put_linked r peer link unit held)
-for_linked r peer link (disconnect destination source reason user) held = for_leaving r peer held
-for_linked r peer link v held = for_taking r peer (taken link v) held
+for_linked r peer link unit held = grind (arith, for_leaving, for_taking)
 
 for_connection : (r : ℕ) (o : Option Connection) (unit : Value) (held : Option Class) → NoCr (put_at r o unit held)
 for_connection r o unit held = grind (arith, for_unknown, for_linked)
@@ -90,19 +84,13 @@ for_sent tsdu (Some (peer, link)) = written_none peer (with_tsdu link tsdu)
 
 for_together : (r : ℕ) (tsdus : List (List ℕ)) (s : State) → NoCr (put_together r tsdus s)
 for_together r [] s = refl
-for_together r (tsdu ∷ tsdus) s =
-    flat_map-append asked_in (put_sent tsdu (open_link r s)) (put_together r tsdus (sent r tsdu s))
-    ∙ ap (λ (l : List ℕ). l ++ asked_among (put_together r tsdus (sent r tsdu s))) (for_sent tsdu (open_link r s))
-    ∙ for_together r tsdus (sent r tsdu s)
+for_together r (tsdu ∷ tsdus) s = grind (arith, flat_map-append, for_sent, for_together r tsdus (sent r tsdu s))
 
 by_closed : (r reason peer : ℕ) (held : Option Class) → NoCr (put_closed r reason peer held)
-by_closed r reason peer None = refl
-by_closed r reason peer (Some Zero) = refl
-by_closed r reason peer (Some Two) = refl
+by_closed r reason peer held = grind arith
 
 by_link : (r reason : ℕ) (o : Option (ℕ × Standing)) (held : Option Class) → NoCr (put_closing r reason o held)
-by_link r reason None held = refl
-by_link r reason (Some (peer, link)) held = by_closed r reason peer held
+by_link r reason o held = grind (arith, by_closed)
 
 proposed : (two : Bool) (s : State) (calling called : Option (List ℕ)) →
     (proposal_by two s.local s.class calling called (s.given + 1)).source ∷ [] ≡ (s.given + 1) ∷ []

@@ -5,10 +5,9 @@ use Rattle.osi_fair.proofs.Vocabulary.{true, ℕ, ◌∙◌, ◌∷◌, ◌≡�
 use Rattle.osi_fair.proofs.Vocabulary.{confirm, Connect, data0, data2, destination_of, disconnect, disconnected, error, request, Value}
 use Rattle.osi_fair.proofs.Vocabulary.{Class, Two, Zero, is_of_connection, passes_over, reach_by, reach_of, reach_past, first_failed}
 use Rattle.osi_fair.proofs.Vocabulary.{is_free, is_live, is_named, is_over, uses, asks_by, asks_kept, asks_of, at_found, at_place}
-use Rattle.osi_fair.proofs.Vocabulary.{class_for, course_after_none, has_place, in_doubt, is_not_judged, none_told, one_told}
-use Rattle.osi_fair.proofs.Vocabulary.{Outcome, reached, request_tests, route, route_in, routed, Traffic, takes, unnamed_by, unnamed_told}
-use Rattle.osi_fair.proofs.Vocabulary.{Connection, Course, Left, Right, Finding, Broke, Kept, NotJudged, Outside, TooMany, Rule}
-use Rattle.osi_fair.proofs.Vocabulary.{has_broken, is_report, noted, unnamed}
+use Rattle.osi_fair.proofs.Vocabulary.{has_place, in_doubt, is_not_judged, none_told, one_told, Outcome, reached, request_tests, route}
+use Rattle.osi_fair.proofs.Vocabulary.{route_in, routed, Traffic, takes, unnamed_by, unnamed_told, Connection, Course, Left, Right, Finding}
+use Rattle.osi_fair.proofs.Vocabulary.{Broke, Kept, NotJudged, TooMany, Rule, has_broken, is_report}
 use Rattle.osi_rules.specs.declared.findings.Reach.TheVariants as reach
 use Rattle.osi_rules.specs.declared.findings.Rule.TheVariants as rule
 use Rattle.osi_fair.proofs.small_facts_that_many_lemmas_use.{differ}
@@ -20,9 +19,7 @@ pub use Rattle.osi_fair.proofs.what_lasts_at_the_tap.{IsCalm, calm_before, calm_
 -- ---- what is wrong is not calm
 
 pub by_reach : {A : Type 0} (k : Option Class) (c : Course) → IsCalm (reached Left (reach_by k false) c) → A
-by_reach None c h = differ true refl h.left
-by_reach (Some Zero) c h = differ true refl h.left
-by_reach (Some Two) c h = differ true refl h.left
+by_reach k c h = grind (arith, differ)
 
 -- a break that is not of one connection, and that no taker passes over
 abbrev IsHard : Rule → Type 0
@@ -30,17 +27,14 @@ IsHard r = (passes_over r ≡ false) × (is_of_connection r ≡ false)
 
 bad_by : {A : Type 0} (k : Option Class) (past one : Bool) (c : Course) → past ≡ false → one ≡ false →
     IsCalm (reached Left (reach_past past (reach_by k one)) c) → A
-bad_by k true one c e f h = differ true refl e
-bad_by k false true c e f h = differ true refl f
-bad_by k false false c e f h = by_reach k c h
+bad_by k past one c e f h = grind (arith, differ, by_reach)
 
 bad : {A : Type 0} (k : Option Class) (r : Rule) (c : Course) → IsHard r → IsCalm (reached Left (reach_of k (Broke r)) c) → A
 bad k r c (e, f) h = bad_by k (passes_over r) (is_of_connection r) c e f h
 
 side_bad : {A : Type 0} (past one : Bool) (c : Course) → past ≡ false →
     IsCalm (reached Left (reach_past past (reach_by (Some Zero) one)) c) → A
-side_bad true one c e h = differ true refl e
-side_bad false one c e h = differ true refl h.left
+side_bad past one c e h = grind (arith, differ)
 
 -- How far it reaches is known then: as in class 2, and not to all.
 pub record IsNear (k : Option Class) (f : Finding) : Type 0 where
@@ -56,19 +50,10 @@ connection_not e = cc
 near_by : (k : Option Class) (past one : Bool) (c : Course) → IsCalm (reached Left (reach_past past (reach_by k one)) c) →
     (reach_past past (reach_by k one) ≡ reach_past past (reach_by (Some Two) one))
     × (reach_past past (reach_by (Some Two) one) ≡ reach.Everything → ⊥)
-near_by k true one c h = (refl, nothing_not)
-near_by None false one c h = differ true refl h.left
-near_by (Some Zero) false one c h = differ true refl h.left
-near_by (Some Two) false true c h = (refl, connection_not)
-near_by (Some Two) false false c h = differ true refl h.left
+near_by k past one c h = grind (arith, nothing_not, differ, connection_not)
 
 pub calm_near : (k : Option Class) (f : Finding) (c : Course) → IsCalm (reached Left (reach_of k f) c) → IsNear k f
-calm_near k Kept c h = record { two = refl; part = nothing_not }
-calm_near k NotJudged c h = record { two = refl; part = nothing_not }
-calm_near k Outside c h = differ true refl h.left
-calm_near k TooMany c h = differ true refl h.left
-calm_near k (Broke r) c h =
-    let n = near_by k (passes_over r) (is_of_connection r) c h in record { two = n.0; part = n.1 }
+calm_near k f c h = grind (arith, nothing_not, differ, near_by)
 
 -- ---- which unit it is
 
@@ -98,8 +83,7 @@ module _ (v : Value) (s : Traffic) (left : s.course.left_stopped ≡ false) (rig
 
   none_calm : {A : Type 0} (f : Finding) → ((k : Option Class) (course : Course) → IsCalm (reached Left (reach_of k f) course) → ⊥) →
       IsCalm (none_told Left f s).state.course → A
-  none_calm f h k =
-      absurd (h s.course.class_seen s.course (calm_noted Left f (reached Left (reach_of s.course.class_seen f) s.course) k))
+  none_calm f h k = grind (arith, calm_noted)
 
   asks_by_case : (x : Connect) → v ≡ request x → (s.course.class_seen ≡ Some Zero → ⊥) → ((first_failed (request_tests s x)) ≡ Kept)
       ⊎ (((k : Option Class) (course : Course) → IsCalm (reached Left (reach_of k (first_failed (request_tests s x))) course) → ⊥)
@@ -117,20 +101,11 @@ module _ (v : Value) (s : Traffic) (left : s.course.left_stopped ≡ false) (rig
 
   doubt_bad : {A : Type 0} (loose : Bool) (k : Option Class) (f : Finding) (r : Rule) (c : Course) → IsHard r → f ≡ Broke r →
       IsCalm (reached Left (reach_of k (if loose then in_doubt f else f)) c) → A
-  doubt_bad true k f r c hard is h =
-      differ true refl (subst (λ (g : Finding). IsCalm (reached Left (reach_of k (in_doubt g)) c)) is h).left
-  doubt_bad false k f r c hard is h = bad k r c hard (subst (λ (g : Finding). IsCalm (reached Left (reach_of k g) c)) is h)
+  doubt_bad loose k f r c hard is h = grind (arith, differ, bad)
 
   unknown_bad : {A : Type 0} (w : Value) → unnamed_by s.course.strays w ≡ Broke rule.UnknownReference →
       is_report s.course.right_erred w ≡ false → IsCalm (unnamed_told Left w s).state.course → A
-  unknown_bad w is none h =
-      let mid = course_after_none w s.course in
-      let doubt = if s.course.loose then in_doubt (unnamed_by s.course.strays w) else unnamed_by s.course.strays w in
-      let so : unnamed Left s.course w ≡ doubt =
-      ap (λ (b : Bool). if b then NotJudged else doubt) none in
-      doubt_bad s.course.loose (class_for Left mid) (unnamed_by s.course.strays w) rule.UnknownReference mid (refl, refl) is
-      (calm_noted Left doubt (reached Left (reach_of (class_for Left mid) doubt) mid)
-      (subst (λ (f : Finding). IsCalm (noted Left f (reached Left (reach_of (class_for Left mid) f) mid))) so h))
+  unknown_bad w is none h = grind (arith, doubt_bad, calm_noted)
 
   -- a DC for no connection
   dc_none : (m n : ℕ) → v ≡ disconnected m n → (b : Bool) → s.course.strays ≡ b → Comes (unnamed_told Left (disconnected m n) s)
@@ -140,10 +115,7 @@ module _ (v : Value) (s : Traffic) (left : s.course.left_stopped ≡ false) (rig
   unknown_by b w none = grind arith
 
   unnamed_case : (w : Value) → v ≡ w → Comes (unnamed_told Left w s)
-  unnamed_case (disconnected m n) e h = dc_none m n e s.course.strays refl h
-  unnamed_case (error m cause) e h =
-      unknown_bad (error m cause) (unknown_by s.course.strays (error m cause) (λ k n d. cc d)) (fine m cause e) h
-  unnamed_case w e h = unknown_bad w (unknown_by s.course.strays w (λ k n d. cc d)) refl h
+  unnamed_case w e h = grind (arith, dc_none, unknown_bad, unknown_by)
 
   unnamed_came : Comes (unnamed_told Left v s)
   unnamed_came h = unnamed_case v refl h
@@ -159,8 +131,7 @@ module _ (v : Value) (s : Traffic) (left : s.course.left_stopped ≡ false) (rig
   at_name n (Some q) e d h = at_item n q (slice_get s.connections q) refl e d h
 
   wrong : (r : Rule) → IsHard r → Comes (none_told Left (Broke r) s)
-  wrong r e h =
-      bad s.course.class_seen r s.course e (calm_noted Left (Broke r) (reached Left (reach_of s.course.class_seen (Broke r)) s.course) h)
+  wrong r e h = grind (arith, bad, calm_noted)
 
   at_live : (q : ℕ) (o : Option Connection) → slice_get s.connections q ≡ o → s.course.class_seen ≡ Some Zero →
       Comes (at_found Left v s q o)
@@ -172,15 +143,11 @@ module _ (v : Value) (s : Traffic) (left : s.course.left_stopped ≡ false) (rig
   at_only (Some q) zero h = at_live q (slice_get s.connections q) refl zero h
 
   zero_wrong : (r : Rule) → passes_over r ≡ false → s.course.class_seen ≡ Some Zero → Comes (none_told Left (Broke r) s)
-  zero_wrong r e zero h = side_bad (passes_over r) (is_of_connection r) s.course e
-      (subst (λ (k : Option Class). IsCalm (reached Left (reach_of k (Broke r)) s.course)) zero
-      (calm_noted Left (Broke r) (reached Left (reach_of s.course.class_seen (Broke r)) s.course) h))
+  zero_wrong r e zero h = grind (arith, side_bad, calm_noted)
 
   error_wrong : (destination cause : ℕ) → v ≡ error destination cause → s.course.class_seen ≡ Some Zero →
       Comes (routed Left v s (route_in (Some Zero) Left (has_broken Right s.course) (error destination cause)))
-  error_wrong destination cause e zero =
-      subst (λ (b : Bool). Comes (routed Left v s (route_in (Some Zero) Left b (error destination cause))))
-      (sym (not_broken s.course.right_stopped s.course.right_erred right (fine destination cause e))) (zero_wrong rule.WrongForm refl zero)
+  error_wrong destination cause e zero = grind (arith, not_broken, zero_wrong)
 
   routes : (k : Option Class) → s.course.class_seen ≡ k → (w : Value) → v ≡ w →
       Comes (routed Left v s (route_in k Left (has_broken Right s.course) w))

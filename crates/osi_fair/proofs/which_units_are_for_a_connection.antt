@@ -1,8 +1,7 @@
 -- Which units of a list are for a connection, by their references; and those that the line of a connection has put.
 -- For the law on a whole end.
-use Rattle.osi_fair.proofs.Vocabulary.{arith}
-use Rattle.osi_fair.proofs.Vocabulary.{[], ap, Bool, false, length, List, None, Option, refl, Some, subst, sym, true, ℕ, ◌++◌, ◌+◌, ◌∙◌}
-use Rattle.osi_fair.proofs.Vocabulary.{◌∷◌, ◌≡◌, ◌≢◌, eq-eqb, eqb-true, append-nil, AllByRecursion, ◌&&◌, ◌==◌, acknowledge, data2}
+use Rattle.osi_fair.proofs.Vocabulary.{arith, [], ap, Bool, false, length, List, None, Option, refl, Some, true, ℕ, ◌++◌, ◌+◌, ◌∙◌, ◌∷◌}
+use Rattle.osi_fair.proofs.Vocabulary.{◌≡◌, ◌≢◌, eq-eqb, eqb-true, append-nil, AllByRecursion, ◌&&◌, ◌==◌, acknowledge, data2}
 use Rattle.osi_fair.proofs.Vocabulary.{destination_of, disconnect, disconnected, Value, Standing, is_open, Half, Line, request, confirm}
 use Rattle.osi_fair.proofs.Vocabulary.{data0, error}
 use Rattle.osi_fair.proofs.small_facts_that_many_lemmas_use.{and_not, both, no_list, no_two, unequal}
@@ -41,8 +40,7 @@ keep_join b v xs ys = grind arith
 
 pub picked_join : (f : Value → Bool) (xs ys : List Value) → picked f (xs ++ ys) ≡ picked f xs ++ picked f ys
 picked_join f [] ys = refl
-picked_join f (x ∷ xs) ys =
-    ap (λ (l : List Value). keep (f x) x l) (picked_join f xs ys) ∙ keep_join (f x) x (picked f xs) (picked f ys)
+picked_join f (x ∷ xs) ys = grind (arith, keep_join, picked_join f xs ys)
 
 pub picked_first : (f : Value → Bool) (v : Value) (vs : List Value) → f v ≡ true → picked f (v ∷ vs) ≡ v ∷ picked f vs
 picked_first f v vs e = ap (λ (b : Bool). keep b v (picked f vs)) e
@@ -149,8 +147,7 @@ pub ours_so : (r peer : ℕ) (v : Value) → IsOf r peer v → is_ours r peer v 
 ours_so r peer v h = both (names peer v) (is_from r v) (named_so peer v h.named) h.from
 
 pub ours_is : (r peer : ℕ) (v : Value) → is_ours r peer v ≡ true → IsOf r peer v
-ours_is r peer v h =
-    let (a, b) = and_parts (names peer v) (is_from r v) h in record { named = named_is (destination_of v) peer a; from = b }
+ours_is r peer v h = grind (arith, and_parts, named_is)
 
 -- a unit for another reference of the other side
 pub ours_not : (r m peer : ℕ) (v : Value) → (m ≡ peer → ⊥) → destination_of v ≡ Some m → is_ours r peer v ≡ false
@@ -162,34 +159,24 @@ dc_not_ours r peer d s other = and_not (d == peer) (s == r) (unequal s r (s == r
 
 pub all_ours : (r peer : ℕ) (units : List Value) → AllOurs r peer units → ours r peer units ≡ units
 all_ours r peer [] h = refl
-all_ours r peer (v ∷ vs) (one, more) =
-    picked_first (is_ours r peer) v vs (ours_so r peer v one) ∙ ap (λ (l : List Value). v ∷ l) (all_ours r peer vs more)
+all_ours r peer (v ∷ vs) (one, more) = grind (arith, picked_first, ours_so, all_ours r peer vs more)
 
 -- units of a connection to which the other side gave another reference
 pub none_ours : (r q m peer : ℕ) (units : List Value) → (m ≡ peer → ⊥) → AllOurs q m units → ours r peer units ≡ []
 none_ours r q m peer [] other h = refl
-none_ours r q m peer (v ∷ vs) other (one, more) =
-    picked_rest (is_ours r peer) v vs (ours_not r m peer v other one.named) ∙ none_ours r q m peer vs other more
+none_ours r q m peer (v ∷ vs) other (one, more) = grind (arith, picked_rest, ours_not, none_ours r q m peer vs other more)
 
 -- ---- the units that a line has put
 
 puts_ours : (s : Bounds) (e : ℕ → ℕ → Type 0) (passed shown begun : ℕ) (units : List Value) → Puts s e passed shown begun units →
     AllOurs s.reference s.peer units
 puts_ours s e passed shown begun [] h = tt
-puts_ours s e passed shown begun (data2 destination number end user ∷ units) (a, b, c, d, f, g) = (
-  record { named = ap (λ (n : ℕ). Some n) a; from = refl },
-  puts_ours s e (passed + 1) shown (begun_by begun end (length user)) units g,
-)
+puts_ours s e passed shown begun (data2 destination number end user ∷ units) (a, b, c, d, f, g) =
+    grind (arith, begun_by, puts_ours s e (passed + 1) shown (begun_by begun end (length user)) units g)
 puts_ours s e passed shown begun (acknowledge credit destination number ∷ units) (count, a, b, c, d, f, g) =
     (record { named = ap (λ (n : ℕ). Some n) a; from = refl }, puts_ours s e passed count begun units g)
-puts_ours s e passed shown begun (disconnect destination source reason user ∷ units) (a, b, c) = (
-  record { named = ap (λ (n : ℕ). Some n) a; from = refl },
-  subst (λ (l : List Value). AllOurs s.reference s.peer l) (sym c) tt,
-)
-puts_ours s e passed shown begun (disconnected destination source ∷ units) (a, b, c, d, f) = (
-  record { named = ap (λ (n : ℕ). Some n) a; from = eq-eqb source s.reference b },
-  subst (λ (l : List Value). AllOurs s.reference s.peer l) (sym f) tt,
-)
+puts_ours s e passed shown begun (disconnect destination source reason user ∷ units) (a, b, c) = grind arith
+puts_ours s e passed shown begun (disconnected destination source ∷ units) (a, b, c, d, f) = grind (arith, eq-eqb)
 puts_ours s e passed shown begun (request x ∷ units) h = absurd h
 puts_ours s e passed shown begun (confirm destination x ∷ units) h = absurd h
 puts_ours s e passed shown begun (data0 end user ∷ units) h = absurd h

@@ -1,17 +1,14 @@
 -- What the other side may send a calling end while no class is selected: it answers the CR that waits, and a DC changes nothing.
 -- For the law on requests.
-use Rattle.osi_fair.proofs.Vocabulary.{arith}
-use Rattle.osi_fair.proofs.Vocabulary.{[], ap, Bool, false, if◌then◌else◌, inl, inr, length, List, map, None, Option, option_map, refl, set}
+use Rattle.osi_fair.proofs.Vocabulary.{arith, [], ap, Bool, false, if◌then◌else◌, inl, inr, length, List, map, None, Option, refl, set}
 use Rattle.osi_fair.proofs.Vocabulary.{Some, subst, suc, sym, true, zero, ℕ, ◌++◌, ◌∙◌, ◌∷◌, ◌≡◌, ◌⊎◌, eq-eqb, eqb-true, slice_get-map}
 use Rattle.osi_fair.proofs.Vocabulary.{nat_le, not, position, slice_get, ◌&&◌, ◌==◌, ◌||◌, confirm, Connect, disconnect, disconnected}
-use Rattle.osi_fair.proofs.Vocabulary.{error, Value, is_applied, reach_of, code_named}
-use Rattle.osi_fair.proofs.Vocabulary.{first_failed, given_again, is_due, is_inside, is_offered}
-use Rattle.osi_fair.proofs.Vocabulary.{begins, is_closing, is_free, is_named, is_open, is_over, is_refused}
-use Rattle.osi_fair.proofs.Vocabulary.{is_silent, asked_by, asks_by, at_found, at_place, class_of, closing_phase, connection_after}
-use Rattle.osi_fair.proofs.Vocabulary.{course_after, found, found_on, offer_of, Outcome, placed, reached, sent_on, Traffic as State, takes}
-use Rattle.osi_fair.proofs.Vocabulary.{unnamed_told, uses_source, Connection, Offer, Course, Direction, Left, Right, Finding, Broke, Kept}
-use Rattle.osi_fair.proofs.Vocabulary.{NotJudged, Outside, TooMany, Reach, Half, Phase, Open, Silent}
-use Rattle.osi_fair.proofs.Vocabulary.{noted, is_break}
+use Rattle.osi_fair.proofs.Vocabulary.{error, Value, is_applied, reach_of, code_named, first_failed, given_again, is_due, is_inside}
+use Rattle.osi_fair.proofs.Vocabulary.{is_offered, begins, is_closing, is_free, is_named, is_open, is_over, is_refused, is_silent, asked_by}
+use Rattle.osi_fair.proofs.Vocabulary.{asks_by, at_found, at_place, class_of, closing_phase, connection_after, course_after, found}
+use Rattle.osi_fair.proofs.Vocabulary.{found_on, offer_of, Outcome, placed, reached, sent_on, Traffic as State, takes, unnamed_told}
+use Rattle.osi_fair.proofs.Vocabulary.{uses_source, Connection, Offer, Course, Direction, Left, Right, Finding, Broke, Kept, NotJudged}
+use Rattle.osi_fair.proofs.Vocabulary.{Outside, TooMany, Reach, Half, Phase, Open, Silent, noted, is_break}
 use Rattle.osi_rules.specs.declared.findings.Reach.TheVariants as reach
 use Rattle.osi_rules.specs.declared.findings.Rule.TheVariants as rule
 use Rattle.osi_fair.proofs.small_facts_that_many_lemmas_use.{begins_judged, begun_left, begun_right, both, judged_same, judged_so, not_both}
@@ -359,20 +356,19 @@ pub done_begins : (d : Direction) (cs : List Connection) → HoldsOfEach IsDone 
 done_begins d cs h i e at = let (x, was, is) = after_map (begins d) cs i e at in subst IsDone (sym is) (begun_done d x (h i x was))
 
 pub waits_begins : (d : Direction) (r p : ℕ) (o : Offer) (cs : List Connection) → Waits r p o cs → Waits r p o (map (begins d) cs)
-waits_begins d r p o cs w = record {
-  c = begins d w.c;
-  at = slice_get-map (begins d) cs p ∙ ap (λ (o : Option Connection). option_map (begins d) o) w.at;
-  judged = begins_judged d w.c ∙ w.judged;
-  silent = ap (λ (h : Half). h.phase) (begun_right d w.c) ∙ w.silent;
-  up = ap (λ (h : Half). h.phase) (begun_left d w.c) ∙ w.up;
-  none = ap (λ (h : Half). h.begun) (begun_left d w.c) ∙ w.none;
-  unseen = begins_unseen d w.c w.silent w.unseen;
-  offer = begins_offer d w.c ∙ w.offer;
-  reference = ap (λ (h : Half). h.reference) (begun_left d w.c) ∙ w.reference;
-  known = begins_known d r w.c w.reference w.known;
-  others = λ i e at other.
-      let (x, was, is) = after_map (begins d) cs i e at in subst IsDone (sym is) (begun_done d x (w.others i x was other));
-}
+waits_begins d r p o cs w =
+    search (
+      arith,
+      after_map,
+      begun_done,
+      slice_get-map (begins d) cs p,
+      begins_judged d w.c,
+      begun_right d w.c,
+      begun_left d w.c,
+      begins_unseen d w.c w.silent w.unseen,
+      begins_offer d w.c,
+      begins_known d r w.c w.reference w.known,
+    )
 
 -- ---- a CR passes
 
@@ -384,9 +380,7 @@ pub over_begins : (cs : List Connection) → HoldsOfEach IsDone cs → AllOver (
 over_begins cs h i e at = grind (arith, after_map, refused_over)
 
 pub over_still : (cs : List Connection) → AllOver cs → AllOver (map (begins Right) cs)
-over_still cs h i e at =
-    let (x, was, is) = after_map (begins Right) cs i e at in
-    subst (λ (c : Connection). is_over Left c ≡ true) (sym is) (h i x was)
+over_still cs h i e at = grind (arith, after_map (begins Right) cs i e at)
 
 free_where : (cs : List Connection) (q : ℕ) → position is_free cs ≡ Some q → (e : Connection) × (slice_get cs q ≡ Some e)
 free_where cs q h = grind (arith, first_there)
@@ -423,10 +417,5 @@ pub record Asked (x : Connect) (strays : Bool) (s : State) : Type 0 where
 
 pub asks_passed : (x : Connect) (cs : List Connection) (strays : Bool) (f : Finding) → (f ≡ Kept) ⊎ (f ≡ TooMany) → HoldsOfEach IsDone cs →
     GoesOn (asks_by Left f x (calm_tap cs strays)).state → Asked x strays (asks_by Left f x (calm_tap cs strays)).state
-asks_passed x cs strays f (inl e) done h =
-    let (p, waits) = placed_waits x cs (position is_free cs) refl done in
-    subst (λ (g : Finding). Asked x strays (asks_by Left g x (calm_tap cs strays)).state) (sym e)
-    (record { after = placed (asked_by x) cs (position is_free cs); is = refl; place = p; waits = waits })
-asks_passed x cs strays f (inr e) done h =
-    absurd (differ (asks_by Left f x (calm_tap cs strays)).state.course.left_stopped
-    (ap (λ (g : Finding). (asks_by Left g x (calm_tap cs strays)).state.course.left_stopped) e) h)
+asks_passed x cs strays f (inl e) done h = grind (arith, placed_waits x cs (position is_free cs) refl done)
+asks_passed x cs strays f (inr e) done h = grind (arith, differ)

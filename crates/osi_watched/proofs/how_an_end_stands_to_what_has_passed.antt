@@ -1,14 +1,10 @@
 -- How an end stands to what has passed: the octets of its own that are still to pass, and the packets of the other side that have passed
 -- and that it has not used. For the law that a capture of an end is steps.
-use Rattle.osi_watched.proofs.Vocabulary.{[], ap, append_assoc, arith, Bool, false, is_some, length, List, None, Option}
-use Rattle.osi_watched.proofs.Vocabulary.{refl, Some, subst, sym, true, ℕ, ◌++◌, ◌<◌, ◌∷◌, ◌≡◌, ◌≢◌, ◌≤◌}
-use Rattle.osi_watched.proofs.Vocabulary.{length-append, AllByRecursion, end_no_packet, some_cut, octets_append, octets_cons, octets_left}
-use Rattle.osi_watched.proofs.Vocabulary.{octets_nil, IsOctets, ArePackets, Ending, EndsAt, request}
-use Rattle.osi_watched.proofs.Vocabulary.{user_data, Value, written, written_header, packets, EndReason, Holding}
-use Rattle.osi_watched.proofs.Vocabulary.{over_acts, never_lasts}
-use Rattle.osi_watched.proofs.Vocabulary.{CanBeWritten, Continues}
-use Rattle.osi_watched.proofs.Vocabulary.{Deeds, Takes, Turn}
-use Rattle.osi_watched.proofs.Vocabulary.{front_of, partial}
+use Rattle.osi_watched.proofs.Vocabulary.{[], ap, append_assoc, arith, Bool, false, is_some, length, List, None, Option, refl, Some, true}
+use Rattle.osi_watched.proofs.Vocabulary.{ℕ, ◌++◌, ◌<◌, ◌∷◌, ◌≡◌, ◌≢◌, ◌≤◌, length-append, AllByRecursion, end_no_packet, some_cut}
+use Rattle.osi_watched.proofs.Vocabulary.{octets_append, octets_cons, octets_left, octets_nil, IsOctets, ArePackets, Ending, EndsAt, Value}
+use Rattle.osi_watched.proofs.Vocabulary.{written, written_header, packets, EndReason, Holding, over_acts, never_lasts, CanBeWritten}
+use Rattle.osi_watched.proofs.Vocabulary.{Continues, Deeds, Takes, Turn, front_of, partial}
 use Rattle.osi_carrier.specs.Fetching.{IsNoFront}
 use Rattle.osi_watched.proofs.what_the_first_octets_are.{packets_octets, part_begins_none, used_first}
 
@@ -39,11 +35,7 @@ pub record OtherRest (rest ahead : List ℕ) (h : Holding) (coming : List (List 
   pub cut : h.end.carrier.ended ≡ None → ArePackets coming (h.held.octets ++ ahead) rest
 
 pub rest_of : (held ahead : List ℕ) (h : Holding) (coming : List (List ℕ)) → OtherStands held ahead h coming → OtherRest held ahead h coming
-rest_of held ahead h coming st = record {
-  octets = st.octets;
-  none = λ u b more p is. part_begins_none u b more held p is st.part;
-  cut = st.cut;
-}
+rest_of held ahead h coming st = search (arith, part_begins_none)
 
 pub one_octet : (held : List ℕ) (x : ℕ) → IsOctets held → x < 256 → IsOctets (held ++ x ∷ [])
 one_octet held x octets small = octets_append held (x ∷ []) octets (octets_cons x [] small octets_nil)
@@ -51,14 +43,10 @@ one_octet held x octets small = octets_append held (x ∷ []) octets (octets_con
 -- ---- an octet of the end
 
 some_header : (v : Value) → 2 ≤ length (written_header v)
-some_header (request c) = omega arith
-some_header _ = omega arith
+some_header v = grind arith
 
 pub some_octets : (v : Value) → 3 ≤ length (written v)
-some_octets v =
-    let header = some_header v in
-    let sum = length-append (written_header v) (user_data v) in
-    omega arith
+some_octets v = grind (arith, some_header, length-append)
 
 never_none : (held still : List ℕ) (x : ℕ) → held ++ x ∷ still ≡ [] → ⊥
 never_none [] still x e = cc
@@ -99,8 +87,7 @@ module _ (held ahead : List ℕ) (coming : List (List ℕ)) (is_caller : Bool) (
   octets_in = old.held.octets ++ turn.used
 
   passed : old.end.carrier.ended ≡ None → ArePackets coming (octets_in ++ ahead) held
-  passed lasts =
-      subst (λ (l : List ℕ). ArePackets coming l held) (sym (append_assoc old.held.octets turn.used ahead)) (st.cut lasts)
+  passed lasts = grind (arith, append_assoc)
 
   not_both : (o : Option EndReason) (e : EndReason) → o ≡ Some e → o ≡ None → ⊥
   not_both o e some none = cc
@@ -116,18 +103,7 @@ module _ (held ahead : List ℕ) (coming : List (List ℕ)) (is_caller : Bool) (
     all = λ lasts over more last h. absurd (not_both old.end.carrier.ended e was lasts);
     left = λ lasts. absurd (never_lasts new.end.carrier.ended (over_acts turn old new (ap is_some was) takes).0 lasts);
   }
-  uses None None was now =
-      let p = used_first on.used coming octets_in ahead on.rest held (passed was) on.cut st.none in
-      record {
-        used = on.used;
-        later = p.0;
-        parts = p.1;
-        rest = on.rest;
-        cut = λ lasts. on.cut;
-        kept = on.held;
-        all = λ lasts over more last h. absurd (over now);
-        left = λ lasts. subst (λ (l : List ℕ). ArePackets p.0 (l ++ ahead) held) (on.held lasts) p.2;
-      }
+  uses None None was now = grind (arith, used_first, passed)
   uses None (Some e) was now =
       let octets = octets_left octets_in ahead (packets_octets coming (octets_in ++ ahead) held (passed was) st.octets) in
       let k = some_cut octets_in octets in

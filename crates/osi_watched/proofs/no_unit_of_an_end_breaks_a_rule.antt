@@ -1,24 +1,22 @@
 -- A tap finds of no unit of an end that it breaks a rule of transport, whatever the other side sends.
 -- For the law that the transport of an end is blamed nowhere.
-use Rattle.std.proofs.Common.{◌≡◌, ◌∙◌, ℕ, Bool, false, List, [], ◌∷◌, None, Some, inl, inr, ◌⊎◌}
+use Rattle.std.proofs.Common.{◌≡◌, ◌∙◌, ℕ, Bool, false, List, [], ◌∷◌, None, Some, inl, inr, ◌⊎◌, arith}
 use Rattle.std.proofs.Common.{refl, sym, ap, subst}
 use Rattle.osi_tpdu.specs.Value.{Value}
 use Rattle.osi_class.specs.declared.terms.Local.{Local}
 use Rattle.osi_judge.specs.Captures.{Capture, other}
 use Rattle.osi_judge.specs.declared.directions.Direction.{Direction}
-use Rattle.osi_judge.specs.declared.directions.Direction.TheVariants.{Left, Right}
 use Rattle.osi_rules.specs.declared.findings.Reach.{Reach}
 use Rattle.osi_rules.specs.declared.findings.Reach.TheVariants as reach
 use Rattle.std.specs.Prelude.{Option, is_some}
 use Rattle.osi_class.specs.declared.terms.Class.{Class}
-use Rattle.osi_rules.specs.Reaches.{reach_by}
 use Rattle.osi_rules.specs.Sides as sides
 use Rattle.osi_rules.specs.Traffic as traffic
 use Rattle.osi_rules.specs.Traffic.{class_for}
 use Rattle.osi_watched.proofs.what_a_unit_leaves_at_a_tap.{IsJudged, IsOver}
 use Rattle.osi_rules.specs.Traffic.{State as Traffic, is_stopped, takes}
 use Rattle.osi_fair.specs.Pieces.{units_in}
-use Rattle.osi_fair.specs.Naming.{packet as packet_passing, unit as unit_passing}
+use Rattle.osi_fair.specs.Naming.{unit as unit_passing}
 use Rattle.osi_fair.specs.Wholes as wholes
 use Rattle.osi_fair.proofs.a_connection_is_lost_in_class_2_alone.{IsOfTwo, firm_unless_two, still_two}
 use Rattle.osi_class.specs.declared.terms.Class.TheVariants.{Two, Zero}
@@ -37,10 +35,8 @@ use Rattle.osi_watched.proofs.a_break_ends_no_judging_or_all.{known_too, mild_re
 use Rattle.osi_watched.proofs.a_break_ends_no_judging_or_all.{unread_if}
 use Rattle.osi_watched.proofs.a_break_ends_no_judging_or_all.{other_unbroken, own_unbroken, unread_unbroken}
 use Rattle.osi_watched.proofs.an_end_that_is_judged_alone_stays_so.{own_alone}
-use Rattle.osi_watched.proofs.in_class_0_one_side_alone_is_judged.{AfterUnread, IsAlone}
-use Rattle.osi_watched.proofs.in_class_0_one_side_alone_is_judged.{all_over, alone, alone_begins}
-use Rattle.osi_watched.proofs.in_class_0_one_side_alone_is_judged.{alone_other}
-use Rattle.osi_watched.proofs.in_class_0_one_side_alone_is_judged.{alone_own, alone_unread, unit_alone, unread_alone}
+use Rattle.osi_watched.proofs.in_class_0_one_side_alone_is_judged.{AfterUnread, IsAlone, all_over, alone_begins, alone_other, alone_own}
+use Rattle.osi_watched.proofs.in_class_0_one_side_alone_is_judged.{alone_unread, unit_alone, unread_alone}
 use Rattle.osi_watched.proofs.later_steps_are_events.{later_followed, spoilt_followed}
 use Rattle.osi_watched.proofs.steps_are_events.{IsFollowed, begin_followed, own_first, step_followed}
 use Rattle.osi_watched.proofs.the_first_break_is_not_of_an_end.{IsFairAlone, IsFairThroughout, IsNoBreak}
@@ -48,23 +44,19 @@ use Rattle.osi_watched.proofs.sessions.class_0_is_known_once_it_is_selected.{IsK
 use Rattle.osi_watched.proofs.sessions.connections_have_the_same_places.{unit_knows}
 
 other_goes : (d : Direction) (c : Course) → IsGoing c → is_stopped (sides.other (way_of d)) c.traffic.course ≡ false
-other_goes Left c j = j.right
-other_goes Right c j = j.left
+other_goes d c j = grind arith
 
 begins_marks : (d e : Direction) (c : Course) → (marks_of d (packet_begins e c)).broke ≡ (marks_of d c).broke
-begins_marks Left e c = refl
-begins_marks Right e c = refl
+begins_marks d e c = grind arith
 
 begins_two : (e : Direction) (c : Course) → IsOfTwo c.traffic.course → IsOfTwo (packet_begins e c).traffic.course
-begins_two Left c h = still_two (packet_passing way.Left) c.traffic h
-begins_two Right c h = still_two (packet_passing way.Right) c.traffic h
+begins_two e c h = grind (arith, still_two)
 
 zero_not : Some Zero ≡ Some Two → ⊥
 zero_not e = cc e
 
 goes_on : (e : Direction) (c : Course) → IsGoing c → is_some (marks_of e c).halted ≡ false
-goes_on Left c j = ap is_some j.left_goes
-goes_on Right c j = ap is_some j.right_goes
+goes_on e c j = grind arith
 
 judged_of : (c : Course) → IsGoing c → c.traffic.course.loose ≡ false → IsJudged c
 judged_of c j firm = record { left = j.left; right = j.right; firm = firm; left_goes = j.left_goes; right_goes = j.right_goes }
@@ -88,13 +80,7 @@ module _ (d : Direction) where
 
   -- what stays, whatever passes
   begins_so : (e : Direction) (c : Course) → IsBlamedNowhere c → IsBlamedNowhere (packet_begins e c)
-  begins_so e c (is_whole w) = is_whole (record {
-    going = begins_going e c w.going;
-    two = begins_two e c w.two;
-    unbroken = begins_marks d e c ∙ w.unbroken;
-  })
-  begins_so e c (is_left l) = is_left ((left_claim d).begins e c l)
-  begins_so e c (is_alone a none) = is_alone (alone_begins d e c a) (begins_marks d e c ∙ none)
+  begins_so e c h = grind (arith, begins_going, begins_two, begins_marks, left_claim, alone_begins)
 
   unit_two : (e : Direction) (at : ℕ) (v : Value) (c : Course) → IsOfTwo c.traffic.course → IsOfTwo (unit_passes e at v c).traffic.course
   unit_two e at v c h = subst (λ (s : Traffic). IsOfTwo s.course) (sym (unit_knows e at v c))
@@ -218,23 +204,16 @@ module _ (d : Direction) where
       bad = unread (other d) at cause c
 
       over_so : IsWhole c → traffic.refused_reach (way_of (other d)) c.traffic ≡ reach.Everything → IsOver bad
-      over_so w is = subst IsOver (sym (ap (λ (b : Bool). unread_if b (other d) at cause c) (goes_on (other d) c w.going)))
-          (refused_over (other d) at cause c is)
+      over_so w is = grind (arith, unread_if, goes_on, refused_over)
 
       unread_whole : IsWhole c → (k : Option Class) → class_for (way_of (other d)) c.traffic.course ≡ k → AfterUnread d bad
-      unread_whole w None is = all_over (over_so w (ap (λ (x : Option Class). reach_by x false) is))
-      unread_whole w (Some Two) is = all_over (over_so w (ap (λ (x : Option Class). reach_by x false) is))
-      unread_whole w (Some Zero) is =
-          unread_alone d at cause c (judged_of c w.going (firm_in_zero c w.two (known_too (other d) at cause c (other d) once is))) once
+      unread_whole w k is = grind (arith, all_over, over_so, unread_alone, judged_of, firm_in_zero, known_too)
 
       unread_by : (marks_of d c).broke ≡ None → AfterUnread d bad → IsBlamedNowhere bad
-      unread_by none (all_over o) = is_left (record { over = o; unbroken = unread_unbroken d at cause c ∙ none })
-      unread_by none (alone a) = is_alone a (unread_unbroken d at cause c ∙ none)
+      unread_by none h = grind (arith, unread_unbroken)
 
       unread_so : IsBlamedNowhere c → IsBlamedNowhere bad
-      unread_so (is_whole w) = unread_by w.unbroken (unread_whole w (class_for (way_of (other d)) c.traffic.course) refl)
-      unread_so (is_left l) = is_left ((left_claim d).bad (other d) at cause c l)
-      unread_so (is_alone a none) = is_alone (alone_unread d at cause c a) (unread_unbroken d at cause c ∙ none)
+      unread_so h = grind (arith, unread_by, unread_whole, left_claim, alone_unread, unread_unbroken)
 
     spoilt_so : (at : ℕ) (cause : Cause) (packets : List (List ℕ)) → units_in packets ≡ [] → (j : Joint) → Stood j →
         Stood (spoilt d at cause packets j)
@@ -246,8 +225,7 @@ module _ (d : Direction) where
   -- ---- in the end
 
   nothing : (e : Direction) → (marks_of e fresh).broke ≡ None
-  nothing Left = refl
-  nothing Right = refl
+  nothing e = grind arith
 
   never_blamed : AllProper → (is_caller : Bool) (local : Local) (h : Holding) (capture : Capture) → IsFresh is_caller local h →
       IsFairThroughout (way_of d) (wholes.begin is_caller local) → IsFairAlone (way_of d) (wholes.begin is_caller local) →

@@ -1,18 +1,19 @@
 -- Steps of an end and of a tap are events of a whole end.
 -- For the first break of transport.
+use Rattle.std.proofs.Common.{arith}
 use Rattle.osi_watched.proofs.Vocabulary.{[], ap, append_assoc, Bool, false, is_some, List, map, None, Ok, Option, refl, Some, subst, sym}
 use Rattle.osi_watched.proofs.Vocabulary.{true, ℕ, ◌++◌, ◌∙◌, ◌∷◌, ◌≡◌, ◌≢◌, append-nil, append_cancel_left, AllByRecursion, IsOctets}
 use Rattle.osi_watched.proofs.Vocabulary.{units_fit, units_found, units_of, Value, Fits, written, Local, packets, Carrier, EndReason, End}
-use Rattle.osi_watched.proofs.Vocabulary.{Holding, Traffic, takes, Way, Reach, Told, other, Direction, Left, Right, AllProper, AreNumbered}
-use Rattle.osi_watched.proofs.Vocabulary.{CanBeWritten, IsFresh, Turn, cause_of, changes, first_marked, halts, kind_of, noted_by, number_at}
-use Rattle.osi_watched.proofs.Vocabulary.{reached, unit_passes, units_pass, way_of, Cause, Mark, units_by, Event, HappenAlong, Whole}
-use Rattle.osi_watched.proofs.Vocabulary.{begins_other, begins_own, Joint, passes_other, passes_own, Step, Steps, TakesTurn, turns}
+use Rattle.osi_watched.proofs.Vocabulary.{Holding, Traffic, takes, Way, Reach, Told, other, Direction, AllProper, AreNumbered, CanBeWritten}
+use Rattle.osi_watched.proofs.Vocabulary.{IsFresh, Turn, noted_by, reached, unit_passes, units_pass, way_of, Cause, Mark, units_by, Event}
+use Rattle.osi_watched.proofs.Vocabulary.{HappenAlong, Whole, begins_other, begins_own, Joint, passes_other, passes_own, Step, Steps}
+use Rattle.osi_watched.proofs.Vocabulary.{TakesTurn, turns}
 use Rattle.osi_rules.specs.Sides as sides
 use Rattle.osi_rules.specs.Traffic as traffic
 use Rattle.osi_rules.specs.declared.findings.Reach.TheVariants as reach
 use Rattle.osi_fair.specs.Pieces.{units_in}
 use Rattle.osi_fair.specs.Wholes as wholes
-use Rattle.osi_tap.specs.Courses.{Course, breaks, packet_begins}
+use Rattle.osi_tap.specs.Courses.{Course, packet_begins}
 use Rattle.osi_watched.specs.Joint.{begin}
 use Rattle.osi_watched.proofs.small_facts_that_many_lemmas_use.{can_more as all_more, over_none}
 use Rattle.osi_fair.proofs.small_facts_that_many_lemmas_use.{none_of}
@@ -26,30 +27,17 @@ use Rattle.osi_watched.proofs.what_packets_and_short_tsdus_keep_a_turn_keeps.{Tr
 -- ---- what the rules know of a unit, and of the units of a packet
 
 pub turned : (d : Direction) → way_of (other d) ≡ sides.other (way_of d)
-turned Left = refl
-turned Right = refl
+turned d = grind arith
 
 reached_traffic : (m : Mark) (r : Reach) (c : Course) → (reached m r c).traffic ≡ c.traffic
-reached_traffic m reach.Side c = changes_traffic m.direction (halts m) c
-reached_traffic m _ c = refl
+reached_traffic m r c = grind (arith, changes_traffic)
 
 noted_traffic : (d : Direction) (at : ℕ) (v : Value) (told : Told) (o : Option Cause) (c : Course) →
     (noted_by d at v told o c).traffic ≡ c.traffic
-noted_traffic d at v told None c = refl
-noted_traffic d at v told (Some cause) c =
-    let m : Mark = record {
-      direction = d;
-      offset = at;
-      unit = Some (kind_of v);
-      connection = number_at told.place c.sessions;
-      cause = cause;
-    } in
-    reached_traffic m told.reach (changes d (breaks m) (first_marked m c)) ∙ changes_traffic d (breaks m) (first_marked m c)
+noted_traffic d at v told o c = grind (arith, reached_traffic, changes_traffic)
 
 unit_traffic : (d : Direction) (at : ℕ) (v : Value) (c : Course) → (unit_passes d at v c).traffic ≡ (takes (way_of d) v c.traffic).state
-unit_traffic d at v c =
-    let told = (takes (way_of d) v c.traffic).told in
-    noted_traffic d at v told (cause_of told.finding) _
+unit_traffic d at v c = grind (arith, noted_traffic)
 
 -- ---- an end and a tap, and a whole end
 
@@ -153,8 +141,7 @@ module _ (d : Direction) (first : Whole) where
 
   pub own_first : (old new : Joint) (unit : Value) → PassingOwn old unit new → (f : IsFollowed d first old) →
       StartsWith f.whole.put new.put unit
-  own_first old new unit (read, octets, is) f =
-      starts_with f.whole.put new.put unit (f.put ∙ ap (λ (l : List Value). map written l) is) f.can read octets
+  own_first old new unit (read, octets, is) f = grind (arith, starts_with)
 
   passes_own_so : (old new : Joint) (at : ℕ) (unit : Value) → PassingOwn old unit new → old.begun ≡ true →
       new ≡ record old { put = new.put; begun = false; course = units_pass d at (unit ∷ []) old.course } → IsFollowed d first old →

@@ -55,18 +55,14 @@ late_next n m before ahead used put begun (turn ∷ turns) size start late = (
 late_more : (n : ℕ) (before now : ℕ → ℕ) (ahead more used put : ℕ) (turns : List Turn) → ((k : ℕ) → before k ≡ now k + 1) →
     more ≡ ahead + 1 → PassLate n before ahead used put turns → PassLate n now more used put turns
 late_more n before now ahead more used put [] one same late = tt
-late_more n before now ahead more used put (turn ∷ turns) one same late = (
-  λ k low high shown. let all = late.0 k low high shown in let count = one k in omega arith,
-  late_more n before now ahead more (used + length turn.used) (put + length turn.put) turns one same late.1,
-)
+late_more n before now ahead more used put (turn ∷ turns) one same late =
+    grind (arith, late_more n before now ahead more (used + length turn.used) (put + length turn.put) turns one same late.1)
 
 -- what is put from some turn on passes after all that was used by the end of this turn
 late_first : (n : ℕ) (before : ℕ → ℕ) (ahead used put : ℕ) (turn : Turn) (turns : List Turn) →
     PassLate n before ahead used put (turn ∷ turns) → (k : ℕ) → put ≤ k → k < put + length (put_along (turn ∷ turns)) → k < n →
     used + length turn.used ≤ ahead + before k
-late_first n before ahead used put turn [] late k low high shown =
-    let size = length-append turn.put [] in
-    late.0 k low (omega arith) shown
+late_first n before ahead used put turn [] late k low high shown = grind (arith, length-append)
 late_first n before ahead used put turn (next ∷ turns) late k low high shown =
     let size = length-append turn.put (put_along (next ∷ turns)) in
     elim (leb_tells (put + length turn.put) k) [
@@ -79,30 +75,11 @@ late_first n before ahead used put turn (next ∷ turns) late k low high shown =
 
 own_left : (x y : ℕ) (own theirs put ahead : List ℕ) (before : ℕ → ℕ) (turns : List Turn) →
     Sees (x ∷ own) theirs before turns (y ∷ put) ahead → (y ≡ x) × Sees own theirs (λ k. before (suc k)) turns put ahead
-own_left x y own theirs put ahead before turns s =
-    let both : x ∷ (own ++ s.all.0) ≡ y ∷ (put ++ put_along turns) = s.all.1 in
-    let first : y ≡ x = cc in
-    let rest : own ++ s.all.0 ≡ put ++ put_along turns = cc in (
-      first,
-      record {
-        all = (s.all.0, rest);
-        coming = s.coming;
-        shown = s.shown;
-        used = s.used;
-        late = late_next (length (x ∷ own)) (length own) before (length ahead) 0 (length (y ∷ put)) (length put) turns refl refl s.late;
-      },
-    )
+own_left x y own theirs put ahead before turns s = grind (arith, late_next)
 
 other_left : (x : ℕ) (own theirs put ahead : List ℕ) (before now : ℕ → ℕ) (turns : List Turn) → ((k : ℕ) → before k ≡ now k + 1) →
     Sees own (x ∷ theirs) before turns put ahead → Sees own theirs now turns put (ahead ++ x ∷ [])
-other_left x own theirs put ahead before now turns one s = record {
-  all = s.all;
-  coming = s.coming;
-  shown = (s.shown.0, ap (λ (l : List ℕ). l ++ s.shown.0) (append_assoc ahead (x ∷ []) theirs) ∙ s.shown.1);
-  used = s.used;
-  late = late_more (length own) before now (length ahead) (length (ahead ++ x ∷ [])) 0 (length put) turns one
-      (length-append ahead (x ∷ [])) s.late;
-}
+other_left x own theirs put ahead before now turns one s = grind (arith, append_assoc, late_more, length-append)
 
 turn_left : (x : ℕ) (own theirs ahead : List ℕ) (before : ℕ → ℕ) (turn : Turn) (turns : List Turn) → before 0 ≡ 0 →
     Sees (x ∷ own) theirs before (turn ∷ turns) [] ahead →
@@ -169,16 +146,8 @@ order Right (of Left x ∷ capture) turns put ahead s =
 late_all : (d : Direction) (capture : Capture) (used put : ℕ) (turns : List Turn) → PassAfter d capture used put turns →
     PassLate (length (stream d capture)) (passed_before d capture) 0 used put turns
 late_all d capture used put [] after = tt
-late_all d capture used put (turn ∷ turns) after = (
-  λ k low high shown. let all = after.0 k low high shown in omega arith,
-  late_all d capture (used + length turn.used) (put + length turn.put) turns after.1,
-)
+late_all d capture used put (turn ∷ turns) after =
+    grind (arith, late_all d capture (used + length turn.used) (put + length turn.put) turns after.1)
 
 pub seen_follows : (d : Direction) (turns : List Turn) (capture : Capture) → IsSeen d turns capture → Follows d [] [] capture turns
-seen_follows d turns capture seen = order d capture turns [] [] (record {
-  all = seen.own;
-  coming = seen.coming;
-  shown = seen.shown;
-  used = seen.used;
-  late = late_all d capture 0 0 turns seen.after;
-})
+seen_follows d turns capture seen = grind (arith, order, late_all)

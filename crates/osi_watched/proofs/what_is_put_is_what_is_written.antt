@@ -1,9 +1,9 @@
 -- Packets with the same octets have the same written units, and a unit that can be written is the one that is read there. And two
 -- readings of what an end holds and uses as packets agree as far as they matter.
 -- For the units between an end and a tap.
-use Rattle.osi_watched.proofs.Vocabulary.{[], ap, arith, length, List, map, None, Ok, Option, refl, Some, subst, sym, ℕ, ◌%◌, ◌++◌, ◌+◌}
-use Rattle.osi_watched.proofs.Vocabulary.{◌/◌, ◌∙◌, ◌∷◌, ◌≡◌, ◌≢◌, ◌≤◌, append-nil, length-append, AllByRecursion, IsOctets, packet_of}
-use Rattle.osi_watched.proofs.Vocabulary.{ArePackets, units_of, Value, written, packets, EndReason, first, GoesBeyond, second, two_readings}
+use Rattle.osi_watched.proofs.Vocabulary.{[], ap, arith, length, List, map, None, Ok, Option, refl, Some, sym, ℕ, ◌%◌, ◌++◌, ◌+◌, ◌/◌, ◌∙◌}
+use Rattle.osi_watched.proofs.Vocabulary.{◌∷◌, ◌≡◌, ◌≢◌, ◌≤◌, append-nil, length-append, AllByRecursion, IsOctets, packet_of, ArePackets}
+use Rattle.osi_watched.proofs.Vocabulary.{units_of, Value, written, packets, EndReason, first, GoesBeyond, second, two_readings}
 use Rattle.osi_watched.proofs.Vocabulary.{CanBeWritten, read_again}
 
 -- ---- octets of packets
@@ -32,9 +32,7 @@ heads : (n m : ℕ) (a b : List ℕ) →
 heads n m a b e = record { high = cc; low = cc; rest = cc }
 
 one_packet : (u w x y : List ℕ) → packet_of u ++ x ≡ packet_of w ++ y → (u ≡ w) × (x ≡ y)
-one_packet u w x y e =
-    let h = heads (length u) (length w) (u ++ x) (w ++ y) e in
-    same_split u w x y (same_length (length u) (length w) h.high h.low) h.rest
+one_packet u w x y e = grind (arith, heads, same_split, same_length)
 
 -- the same octets are of the same written units
 pub same_written : (us vs : List Value) → packets us ≡ packets vs → map written us ≡ map written vs
@@ -62,13 +60,7 @@ pub record StartsWith (vs us : List Value) (u : Value) : Type 0 where
 pub starts_with : (vs us : List Value) (u : Value) → map written vs ≡ map written (u ∷ us) → AllByRecursion CanBeWritten vs →
     units_of (written u) ≡ Ok (u ∷ []) → IsOctets (written u) → StartsWith vs us u
 starts_with [] us u e can read octets = absurd (cc)
-starts_with (v ∷ vs) us u e can read octets =
-    let same : written v ≡ written u = cc in
-    let more : map written vs ≡ map written us = cc in
-    let again : units_of (written v) ≡ Ok (v ∷ []) = read_again v can.0 (subst IsOctets (sym same) octets) in
-    let both = sym again ∙ ap units_of same ∙ read in
-    let one : v ≡ u = cc in
-    record { rest = vs; is = ap (λ (x : Value). x ∷ vs) one; same = more; can = can.1 }
+starts_with (v ∷ vs) us u e can read octets = grind (arith, read_again)
 
 pub none_written : (vs us : List Value) → map written vs ≡ map written us → us ≢ [] → vs ≢ []
 none_written vs [] e some = λ none. some refl
@@ -79,9 +71,7 @@ none_written (v ∷ vs) (u ∷ us) e some = λ none. cc
 
 longer : (us : List (List ℕ)) (x y : List ℕ) → ArePackets us x y → length y + length us ≤ length x
 longer [] x y e = omega (arith, ap length e)
-longer (u ∷ us) x y (b, t, p, e, more) =
-    let few = longer us t y more in
-    omega (arith, ap length e, length-append b t, ap length p.spelled)
+longer (u ∷ us) x y (b, t, p, e, more) = grind (arith, length-append, longer us t y more)
 
 pub none_left : (us : List (List ℕ)) (x y : List ℕ) → ArePackets us x y → x ≡ y → us ≡ []
 none_left [] x y h e = refl

@@ -3,21 +3,19 @@
 -- For what a turn of an end does to its carrier. `osi_honest` has the like for TSDUs of any length.
 use Rattle.osi_watched.proofs.Vocabulary.{[], ap, append_assoc, arith, Bool, drop, false, if◌then◌else◌, inl, inr, is_some, IsSome, length}
 use Rattle.osi_watched.proofs.Vocabulary.{List, nat_lt, None, Option, option_map, refl, Some, subst, sym, take, true, ℕ, ◌++◌, ◌∙◌, ◌∷◌}
-use Rattle.osi_watched.proofs.Vocabulary.{◌≡◌, ◌≤◌, ◌⊎◌, nat_tests, append-nil, take-append-drop, take_all, AllByRecursion, list_any, ◌||◌}
+use Rattle.osi_watched.proofs.Vocabulary.{◌≡◌, ◌⊎◌, nat_tests, append-nil, take-append-drop, take_all, AllByRecursion, list_any, ◌||◌}
 use Rattle.osi_watched.proofs.Vocabulary.{IsOctets, ArePackets, Fed, tsap_octets, Tsap, Standing, acts_cases, closed_with, may_connect}
-use Rattle.osi_watched.proofs.Vocabulary.{open_link, send_all_error, sent_all, Happening, value_at, Carrier, EndReason, Broken, NoMemory}
-use Rattle.osi_watched.proofs.Vocabulary.{OpenError, SendError, TooLong, called, Input, Listener, awaits, concluded_carrier, packet_is}
-use Rattle.osi_watched.proofs.Vocabulary.{quiet_stops, events_heard, disconnect_carrier, none_ended, found_how, after_open, terms_error}
-use Rattle.osi_watched.proofs.Vocabulary.{Feeds, Goes as GoesThrough, TakesPackets, uses_all, attends, hears_all, hears_times, RunsOut}
-use Rattle.osi_watched.proofs.Vocabulary.{Starves, with_carrier, with_events, IsAccepted, AreShort, by_line, carrier_by, to_session}
-use Rattle.osi_watched.proofs.Vocabulary.{breaking, calling, connecting, disconnecting, Call, Calls, carried_in, used_in, carrying, feeding}
-use Rattle.osi_watched.proofs.Vocabulary.{telling, End, Holding, answers_by, sent_unless, ConnectError, AllProper, all_octets, more_used}
-use Rattle.osi_watched.proofs.Vocabulary.{stopped_within, never_lasts, packets_on, packets_then, carried_by, Takes, Turn, used_by, serving}
-use Rattle.osi_watched.proofs.Vocabulary.{using}
+use Rattle.osi_watched.proofs.Vocabulary.{send_all_error, sent_all, Happening, value_at, Carrier, EndReason, Broken, NoMemory, OpenError}
+use Rattle.osi_watched.proofs.Vocabulary.{SendError, TooLong, called, Input, Listener, awaits, concluded_carrier, packet_is, quiet_stops}
+use Rattle.osi_watched.proofs.Vocabulary.{events_heard, disconnect_carrier, none_ended, found_how, after_open, Feeds, Goes as GoesThrough}
+use Rattle.osi_watched.proofs.Vocabulary.{TakesPackets, uses_all, attends, hears_all, hears_times, RunsOut, Starves, with_carrier}
+use Rattle.osi_watched.proofs.Vocabulary.{with_events, IsAccepted, AreShort, by_line, carrier_by, to_session, calling, Call, Calls}
+use Rattle.osi_watched.proofs.Vocabulary.{carried_in, used_in, End, Holding, answers_by, sent_unless, ConnectError, AllProper, all_octets}
+use Rattle.osi_watched.proofs.Vocabulary.{more_used, stopped_within, never_lasts, packets_on, packets_then, carried_by, Takes, Turn}
+use Rattle.osi_watched.proofs.Vocabulary.{used_by, serving, using}
 use Rattle.osi_carrier.specs.Calls.{asks}
 use Rattle.osi_carrier.specs.Packets as carriers
 use Rattle.osi_carrier.specs.State as states
-use Rattle.osi_session.specs.Listening.{react}
 use Rattle.osi_stack.specs.Hearing.{after_packet, ends}
 use Rattle.osi_stack.specs.Rounds.{UserCall, user_does}
 use Rattle.osi_stack.specs.State.{waits, Line}
@@ -34,8 +32,7 @@ pub record Carries (P : Carrier → Type 0) : Type 0 where
 short_if : (b : Bool) (tsdu : List ℕ) (tsdus : List (List ℕ)) → nat_lt 1048576 (length tsdu) ≡ b →
     (list_any (λ (t : List ℕ). nat_lt 1048576 (length t)) tsdus ≡ false → AreShort tsdus) →
     (b || list_any (λ (t : List ℕ). nat_lt 1048576 (length t)) tsdus) ≡ false → AreShort (tsdu ∷ tsdus)
-short_if true tsdu tsdus e more h = absurd (cc)
-short_if false tsdu tsdus e more h = (let few : length tsdu ≤ 1048576 = grind (arith, nat_tests) in few, more h)
+short_if b tsdu tsdus e more h = grind (arith, nat_tests)
 
 all_short : (tsdus : List (List ℕ)) → list_any (λ (t : List ℕ). nat_lt 1048576 (length t)) tsdus ≡ false → AreShort tsdus
 all_short [] h = tt
@@ -43,31 +40,24 @@ all_short (tsdu ∷ tsdus) h = short_if (nat_lt 1048576 (length tsdu)) tsdu tsdu
 
 short_by : (tsdus : List (List ℕ)) (b : Bool) → list_any (λ (t : List ℕ). nat_lt 1048576 (length t)) tsdus ≡ b →
     (if b then Some TooLong else None) ≡ None → AreShort tsdus
-short_by tsdus true e h = absurd (cc)
-short_by tsdus false e h = all_short tsdus e
+short_by tsdus b e h = grind (arith, all_short)
 
 are_short : (tsdus : List (List ℕ)) (o : Option (ℕ × Standing)) → send_all_error tsdus o ≡ None → AreShort tsdus
-are_short tsdus None h = absurd (cc)
-are_short tsdus (Some link) h = short_by tsdus (list_any (λ (t : List ℕ). nat_lt 1048576 (length t)) tsdus) refl h
+are_short tsdus o h = grind (arith, short_by)
 
 module _ (P : Carrier → Type 0) (law : Carries P) where
   unless_carried : (o : Option SendError) (r : ℕ) (tsdus : List (List ℕ)) (c : Carrier) → (o ≡ None → AreShort tsdus) → P c →
       P (sent_unless o r tsdus c)
-  unless_carried (Some e) r tsdus c short p = p
-  unless_carried None r tsdus c short p = law.sends r tsdus c (short refl) p
+  unless_carried o r tsdus c short p = grind arith
 
   answer_carried : (closing : Bool) (r : ℕ) (tsdus : List (List ℕ)) (c : Carrier) → P c → P (answers_by closing r tsdus c)
-  answer_carried true r tsdus c p = law.closes r c p
-  answer_carried false r tsdus c p =
-      unless_carried (send_all_error tsdus (open_link r c)) r tsdus c (are_short tsdus (open_link r c)) p
+  answer_carried closing r tsdus c p = grind (arith, unless_carried, are_short)
 
   move_carried : (r : ℕ) (o : Option Listener) (input : Input) (c : Carrier) → P c → P (carrier_by r o input c)
-  move_carried r None input c p = p
-  move_carried r (Some session) input c p = answer_carried (react session input).closes r _ c p
+  move_carried r o input c p = grind (arith, answer_carried)
 
   line_carried : (r : ℕ) (o : Option Line) (input : Input) (e : End) → P e.carrier → P (by_line r o input e).carrier
-  line_carried r None input e p = p
-  line_carried r (Some line) input e p = move_carried r line.session input e.carrier p
+  line_carried r o input e p = grind (arith, move_carried)
 
   session_carried : (r : ℕ) (input : Input) (e : End) → P e.carrier → P (to_session r input e).carrier
   session_carried r input e p = line_carried r (value_at r e.lines) input e p
@@ -86,8 +76,7 @@ AsksToo P = (calling called : Option Tsap) (c : Carrier) → may_connect c ≡ N
     P (asks (option_map tsap_octets calling) (option_map tsap_octets called) c)
 
 may_of : (o : Option OpenError) (fault : Option ConnectError) → after_open o fault ≡ None → o ≡ None
-may_of None fault h = refl
-may_of (Some e) fault h = cc
+may_of o fault h = grind arith
 
 -- ---- a turn
 
@@ -122,17 +111,14 @@ module _ (P : List (List ℕ) → Carrier → Type 0) (tracked : IsTracked P) wh
 
   takes : (us units : List (List ℕ)) (old new : End) → AllByRecursion IsOctets units → P us old.carrier → TakesPackets old units new →
       P (us ++ units) new.carrier
-  takes us [] old new octets p t =
-      subst (λ (x : List (List ℕ)). P x new.carrier) (sym (append-nil us)) (subst (λ (x : End). P us x.carrier) (sym t) p)
+  takes us [] old new octets p t = grind (arith, append-nil)
   takes us (u ∷ units) old new octets p t =
-      subst (λ (x : List (List ℕ)). P x new.carrier) (append_assoc us (u ∷ []) units)
-      (takes (us ++ u ∷ []) units (after_packet old u) new octets.1 (after us u old octets.0 p) t.1)
+      grind (arith, append_assoc, after, takes (us ++ u ∷ []) units (after_packet old u) new octets.1 (after us u old octets.0 p) t.1)
 
   -- ---- memory runs out
 
   ended_so : (us : List (List ℕ)) (b : Bool) (c : Carrier) → P us c → P us (if b then c else states.ends NoMemory c)
-  ended_so us true c p = p
-  ended_so us false c p = tracked.ends_so us NoMemory c p
+  ended_so us b c p = grind arith
 
   runs_out : (us : List (List ℕ)) (c : Carrier) (old new : End) → P us c → RunsOut (with_carrier c old) new → P us new.carrier
   runs_out us c old new p out =
@@ -142,43 +128,24 @@ module _ (P : List (List ℕ) → Carrier → Type 0) (tracked : IsTracked P) wh
       (tracked.untold us out.more mid.carrier (heard us out.heard (with_carrier c old) p)))
 
   acts_or : (us : List (List ℕ)) (u : List ℕ) (old new : Carrier) → IsOctets u → P us old → carriers.Acts old u new → P (us ++ u ∷ []) new
-  acts_or us u old new octets p acts = elim (acts_cases old new u acts) [
-    | inl is ↦ subst (P (us ++ u ∷ [])) (sym is) (tracked.packet us u old octets p)
-    | inr short ↦ tracked.shortage us u old new octets p short
-  ]
+  acts_or us u old new octets p acts = grind (arith, acts_cases)
 
   starves : (us : List (List ℕ)) (u : List ℕ) (old new : End) → IsOctets u → P us old.carrier → Starves old u new →
       P (us ++ u ∷ []) new.carrier
-  starves us u old new octets p (inl (c, short, there)) =
-      subst (λ (x : End). P (us ++ u ∷ []) x.carrier) (sym there)
-      (attended (us ++ u ∷ []) (with_carrier c old) (tracked.shortage us u old.carrier c octets p short))
-  starves us u old new octets p (inr (c, acts, out)) =
-      runs_out (us ++ u ∷ []) c old new (acts_or us u old.carrier c octets p acts) out
+  starves us u old new octets p (inl (c, short, there)) = grind (arith, attended)
+  starves us u old new octets p (inr (c, acts, out)) = search (arith, runs_out, acts_or)
 
   -- ---- a piece
 
   as_used : (us units : List (List ℕ)) (used put rest : List ℕ) (old new : Holding) → P (us ++ units) new.end.carrier →
       ArePackets units (old.held.octets ++ used) rest → (new.end.carrier.ended ≡ None → rest ≡ new.held.octets) →
       new.end.carrier.outgoing ≡ old.end.carrier.outgoing ++ put → Tracks P us used put old new
-  as_used us units used put rest old new p cut held is = record {
-    units = units;
-    rest = rest;
-    cut = cut;
-    held = held;
-    there = new.end.carrier;
-    holds = p;
-    outgoing = is;
-    same = refl;
-  }
+  as_used us units used put rest old new p cut held is = search arith
 
   all_used : (us units : List (List ℕ)) (piece put rest : List ℕ) (used : ℕ) (old new : Holding) → used ≡ length piece →
       ArePackets units (old.held.octets ++ piece) rest → IsSome new.end.carrier.ended → P (us ++ units) new.end.carrier →
       new.end.carrier.outgoing ≡ old.end.carrier.outgoing ++ put → Tracks P us (take used piece) put old new
-  all_used us units piece put rest used old new all cut ended p is =
-      let whole : take used piece ≡ piece = take_all used piece (omega arith) in
-      as_used us units (take used piece) put rest old new p
-      (subst (λ (l : List ℕ). ArePackets units (old.held.octets ++ l) rest) (sym whole) cut)
-      (λ lasts. absurd (never_lasts new.end.carrier.ended ended lasts)) is
+  all_used us units piece put rest used old new all cut ended p is = grind (arith, take_all, as_used, never_lasts)
 
   nothing_used : (us : List (List ℕ)) (used put : List ℕ) (old new : Holding) (there : Carrier) → used ≡ [] → P us there →
       there.outgoing ≡ old.end.carrier.outgoing ++ put →
@@ -209,11 +176,7 @@ module _ (P : List (List ℕ) → Carrier → Type 0) (tracked : IsTracked P) wh
         (uses_all new.end) refl refl in
         as_used us stop.units (take used piece) put s.rest old new
         (takes us stop.units old.end new.end (all_octets stop.units _ _ stop.packets) p stop.taken) s.cut s.held is
-    goes us piece put used old new p (inr (inl f)) is =
-        all_used us f.units piece put f.cut.0 used old new f.all f.cut.1 (ap (λ (e : End). is_some e.carrier.ended) f.ended)
-        (subst (λ (x : End). P (us ++ f.units) x.carrier) (sym f.ended)
-        (tracked.ends_so (us ++ f.units) _ f.before.carrier
-        (takes us f.units old.end f.before (all_octets f.units _ _ f.cut.1) p f.taken))) is
+    goes us piece put used old new p (inr (inl f)) is = grind (arith, all_used, takes, all_octets)
     goes us piece put used old new p (inr (inr f)) is = by (found_how old piece used new f)
       where
         before : P (us ++ f.units) f.before.carrier
@@ -268,31 +231,16 @@ module _ (P : List (List ℕ) → Carrier → Type 0) (tracked : IsTracked P) wh
 
     serves : (us : List (List ℕ)) (call : Call) (put : List ℕ) (old new : Holding) → P us old.end.carrier → Calls old call new →
         carried_in call ++ new.end.carrier.outgoing ≡ old.end.carrier.outgoing ++ put → Tracks P us (used_in call) put old new
-    serves us (feeding piece fed) put old new p c is = feeds us piece put fed old new p c is
-    serves us (telling shown) put old new p c is =
-        nothing_used us [] put old new new.end.carrier refl (subst (λ (x : Holding). P us x.end.carrier) (sym c.1) p) is refl
-        (ap (λ (x : Holding). x.held.octets) c.1)
-    serves us (carrying octets) put old new p c is =
-        let carrier : old.end.carrier ≡ record new.end.carrier { outgoing = octets ++ new.end.carrier.outgoing } =
-        ap (λ (x : Holding). x.end.carrier) c in
-        nothing_used us [] put old new old.end.carrier refl p
-        (ap (λ (x : Carrier). x.outgoing) carrier ∙ is)
-        (λ i. record (sym carrier i) { outgoing = new.end.carrier.outgoing }) (ap (λ (x : Holding). x.held.octets) (sym c))
+    serves us call put old new p c is = grind (arith, feeds, nothing_used)
 
   -- ---- a call of the user
 
   broken_end : (us : List (List ℕ)) (b : Bool) (e : End) → P us e.carrier → P us (if b then e else ends Broken e).carrier
-  broken_end us true e p = p
-  broken_end us false e p = tracked.ends_so us Broken e.carrier p
+  broken_end us b e p = grind arith
 
   user_tracked : (us : List (List ℕ)) → AsksToo (P us) → (call : UserCall) (e : End) → IsAccepted call e → P us e.carrier →
       P us (user_does call e).carrier
-  user_tracked us too (connecting c) e allowed p =
-      too c.calling_tsap c.called_tsap e.carrier (may_of (may_connect e.carrier) (terms_error c) allowed) p
-  user_tracked us too (calling r call) e allowed p = session_carried (P us) (tracked.carries us) r (called call) e p
-  user_tracked us too (disconnecting r) e allowed p =
-      subst (P us) (sym (disconnect_carrier r e)) ((tracked.carries us).closes r e.carrier p)
-  user_tracked us too breaking e allowed p = broken_end us (is_some e.carrier.ended) e p
+  user_tracked us too call e allowed p = grind (arith, may_of, session_carried, disconnect_carrier, broken_end)
 
   pub turn_tracked : AllProper → (us : List (List ℕ)) → AsksToo (P us) → (turn : Turn) (old new : Holding) → P us old.end.carrier →
       Takes old turn new → Tracks P us turn.used turn.put old new

@@ -1,8 +1,8 @@
 -- With a break of the other side in class 0, an end and a tap begin to go on as if it had not come, for the end takes no packet of it; and
 -- so they go on, step by step.
 -- For the law that no session of an end is to blame after such a break.
-use Rattle.std.proofs.Common.{◌≡◌, ◌∙◌, inl, inr, refl, sym, ap, subst, ℕ, ◌^◌, ◌<◌, ◌≤◌, Bool, true, false, List, [], ◌∷◌, ◌++◌}
-use Rattle.std.proofs.Common.{map, length, Some, arith, append_assoc, Result, Ok, Err}
+use Rattle.std.proofs.Common.{◌≡◌, ◌∙◌, inl, inr, refl, sym, ap, subst, ℕ, ◌^◌, ◌<◌, ◌≤◌, Bool, true, false, List, [], ◌∷◌, ◌++◌, map}
+use Rattle.std.proofs.Common.{length, Some, arith, append_assoc, Result, Ok}
 use Rattle.std.specs.List.{AllByRecursion}
 use Rattle.std.proofs.lemmas.List.{append-nil}
 use Rattle.osi_tpkt.specs.Octets.{IsOctets}
@@ -15,7 +15,6 @@ use Rattle.osi_class.specs.declared.terms.Class.TheVariants.{Zero}
 use Rattle.osi_class.specs.declared.terms.Local.{Local}
 use Rattle.osi_judge.specs.Captures.{other}
 use Rattle.osi_judge.specs.declared.directions.Direction.{Direction}
-use Rattle.osi_judge.specs.declared.directions.Direction.TheVariants.{Left, Right}
 use Rattle.osi_rules.specs.declared.courses.Course.{Course as Judging}
 use Rattle.osi_rules.specs.declared.findings.Reach.TheVariants as reach
 use Rattle.osi_rules.specs.Reaches.{is_applied}
@@ -67,16 +66,13 @@ kind_of v = is_hard (λ begun. tt)
 
 selects : (e : Direction) (c : Judging) → (c.class_seen ≡ Some Zero → c.class ≡ Some Zero) → class_for (way_of e) c ≡ Some Zero →
     c.class ≡ Some Zero
-selects Left c agrees is = agrees is
-selects Right c agrees is = is
+selects e c agrees is = grind arith
 
 followed_hard : (v : Value) → MayBeFollowed v → (begun : List ℕ) → IsHard begun v
-followed_hard (data0 end user) h begun = absurd (cc h)
-followed_hard v h begun = tt
+followed_hard v h begun = grind arith
 
 unread_hard : (r : Result (List Value) TpduFault) → IsUnread r → (begun : List ℕ) → AreHard begun r
-unread_hard (Ok units) h begun = absurd h
-unread_hard (Err fault) h begun = tt
+unread_hard r h begun = grind arith
 
 module _ (known : Known) (barred : Class) (d : Direction) (local : Local)
     (fair : IsFairFrom (way_of d) (wholes.begin (calls_from d) local))
@@ -107,18 +103,13 @@ module _ (known : Known) (barred : Class) (d : Direction) (local : Local)
     new = record old { course = after_it; coming = old.coming ++ octets ∷ [] }
 
     zero : class_for (way_of (other d)) c.traffic.course ≡ Some Zero
-    zero =
-        side_zero (class_for (way_of (other d)) c.traffic.course) (takes (way_of (other d)) v c.traffic).told.finding
-        (sym (reach_so (other d) at v c).far ∙ side)
+    zero = grind (arith, side_zero, reach_so)
 
     sure : Sure c
     sure = units_kept Sure sure_claim (other d) at front old.course g.sure
 
     long_so : (end : Bool) (user : List ℕ) → v ≡ data0 end user → IsTooLong d user c.traffic
-    long_so end user is =
-        breaks_too_long d end user c.traffic sure (firm_so c judged) (selects (other d) c.traffic.course (sure.agrees Zero) zero)
-        (goes_so (other d) c judged) zero
-        (subst (λ (x : Value). is_applied (takes (way_of (other d)) x c.traffic).told.finding ≡ false) is unapplied)
+    long_so end user is = grind (arith, breaks_too_long, sure, firm_so, selects, goes_so)
 
     read_as : (f : List Value) → front ≡ f → units_of octets ≡ Ok (f ++ v ∷ back)
     read_as f is = read ∙ ap (λ (l : List Value). Ok (l ++ v ∷ back)) is
@@ -240,8 +231,7 @@ module _ (known : Known) (barred : Class) (d : Direction) (local : Local)
 
     -- or octets with which none begins
     pub octets_begin_alone : packets ≡ [] → AsWithout true bad
-    octets_begin_alone nothing =
-        as_without true (none_comes refl refl (ap (λ (l : List (List ℕ)). old.coming ++ l) nothing ∙ append-nil old.coming))
+    octets_begin_alone nothing = grind (arith, as_without, none_comes, append-nil)
 
   -- ---- so they go on
 
@@ -252,12 +242,9 @@ module _ (known : Known) (barred : Class) (d : Direction) (local : Local)
     pub step_alone : (step : Step) (old new : Joint) → Steps d step old new → length old.course.past < 2 ^ 64 → AsWithout false old →
         AsWithout false new
     step_alone (turns turn) old new t short a = turn_alone known barred d local fair fair_alone Inv k has_begun apart false turn old new t a
-    step_alone begins_own old new step short a =
-        own_begins_alone known barred d local fair fair_alone Inv k has_begun apart false old new step short a
-    step_alone begins_other old new step short a =
-        other_begins_alone known barred d local fair fair_alone Inv k has_begun apart false old new step a
-    step_alone (passes_own at v) old new step short a =
-        own_alone_so known barred d local fair fair_alone Inv k has_begun apart false at v old new step a
+    step_alone begins_own old new step short a = search (arith, own_begins_alone)
+    step_alone begins_other old new step short a = search (arith, other_begins_alone)
+    step_alone (passes_own at v) old new step short a = search (arith, own_alone_so)
     step_alone (passes_other at packet units) old new (octets, read, is) short a =
         other_alone known barred d local fair fair_alone Inv k has_begun apart at packet units old new is
         (step_followed d first known.proper (passes_other at packet units) old new (octets, read, is) a.is.followed) a
@@ -292,14 +279,10 @@ module _ (known : Known) (barred : Class) (d : Direction) (local : Local)
 
     later_step : (ends : Bool) (step : Step) (old new : Joint) → LaterSteps d step old new → (ends ≡ true → IsNoPacket step) →
         length old.course.past < 2 ^ 64 → AsWithout ends old → AsWithout ends new
-    later_step ends (turns turn) old new t none short a =
-        turn_alone known barred d local fair fair_alone Inv k has_begun apart ends turn old new t a
-    later_step ends begins_own old new step none short a =
-        own_begins_alone known barred d local fair fair_alone Inv k has_begun apart ends old new step short a
-    later_step ends begins_other old new step none short a =
-        other_begins_alone known barred d local fair fair_alone Inv k has_begun apart ends old new step a
-    later_step ends (passes_own at v) old new step none short a =
-        own_alone_so known barred d local fair fair_alone Inv k has_begun apart ends at v old new step a
+    later_step ends (turns turn) old new t none short a = search (arith, turn_alone)
+    later_step ends begins_own old new step none short a = search (arith, own_begins_alone)
+    later_step ends begins_other old new step none short a = search (arith, other_begins_alone)
+    later_step ends (passes_own at v) old new step none short a = search (arith, own_alone_so)
     later_step true (passes_other at packet units) old new step none short a = absurd (none refl)
     later_step false (passes_other at packet units) old new (octets, read, is) none short a =
         other_alone known barred d local fair fair_alone Inv k has_begun apart at packet units old new is

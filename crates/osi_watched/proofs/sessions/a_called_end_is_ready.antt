@@ -3,7 +3,7 @@
 -- For all connections of an end and a tap.
 use Rattle.std.proofs.Common.{◌≡◌, ◌∙◌, ◌⊎◌, inl, inr, refl, sym, ap, subst, ℕ, ◌<◌, ◌≤◌, Bool, true, false, List, [], ◌∷◌, ◌++◌, Some}
 use Rattle.std.proofs.Common.{None, Option, IsSome, arith, if◌then◌else◌, is_some}
-use Rattle.std.specs.Prelude.{nat_le, slice_get}
+use Rattle.std.specs.Prelude.{slice_get}
 use Rattle.std.proofs.lemmas.Bool.{leb-false, leb-true}
 use Rattle.std.specs.List.{AllByRecursion}
 use Rattle.std.proofs.lemmas.List.{append-nil}
@@ -15,7 +15,7 @@ use Rattle.osi_class.specs.declared.terms.Local.{Local}
 use Rattle.osi_class.specs.Link.{Standing}
 use Rattle.osi_carrier.specs.Calls.{link_of}
 use Rattle.osi_carrier.specs.Rows.{value_at}
-use Rattle.osi_carrier.specs.State.{Connection as Live, State as Carrier, asked, closing, linked}
+use Rattle.osi_carrier.specs.State.{Connection as Live, State as Carrier, asked}
 use Rattle.osi_carrier.specs.declared.ends.EndReason.{EndReason}
 use Rattle.osi_judge.specs.declared.directions.Direction.TheVariants.{Right}
 use Rattle.osi_rules.specs.Traffic.{State}
@@ -80,8 +80,7 @@ use Rattle.osi_watched.proofs.sessions.what_waits_after_the_ccs_of_a_called_end.
 -- ---- small facts
 
 not_so : (b : Bool) → (b ≡ true → ⊥) → b ≡ false
-not_so true h = absurd (h refl)
-not_so false h = refl
+not_so b h = grind arith
 
 none_both : (xs ys : List Value) → xs ++ ys ≡ [] → (xs ≡ []) × (ys ≡ [])
 none_both [] ys e = (refl, e)
@@ -89,14 +88,7 @@ none_both (x ∷ xs) ys e = absurd (cc)
 
 -- a CC gives such a reference
 gives_so : (n r b : ℕ) (v : Value) → IsCc n r v → IsUpTo Right b v → r ≤ b
-gives_so n r b (confirm m x) h up = let same = h.1 in let low = up.1 in omega (arith, same, low)
-gives_so n r b (request x) h up = absurd h
-gives_so n r b (disconnect m source reason user) h up = absurd h
-gives_so n r b (disconnected m source) h up = absurd h
-gives_so n r b (data0 end user) h up = absurd h
-gives_so n r b (data2 m number end user) h up = absurd h
-gives_so n r b (acknowledge credit m number) h up = absurd h
-gives_so n r b (error m cause) h up = absurd h
+gives_so n r b v h up = grind arith
 
 -- a CC gives a new reference
 one_new : (t : Sessions) (v : Value) → ((n r : ℕ) → IsCc n r v → IsUnused Right r t) → GivesNew Right v t
@@ -110,12 +102,10 @@ one_new t (acknowledge credit m number) unused = tt
 one_new t (error m cause) unused = tt
 
 no_zero : (o : Option Class) → (o ≡ None) ⊎ (o ≡ Some Two) → o ≡ Some Zero → ⊥
-no_zero o (inl none) e = cc (sym none ∙ e)
-no_zero o (inr two) e = cc (sym two ∙ e)
+no_zero o h e = grind arith
 
 past_none : (r : ℕ) (s t : Stage) (took put : List Marked) → s ≡ past → Life false r s took put t → units_at r took ≡ []
-past_none r s t took put e life =
-    apart_none r took (let w : WhenPast r took put t = subst (λ (x : Stage). Life false r x took put t) e life in w.none_took)
+past_none r s t took put e life = grind (arith, apart_none)
 
 -- of a connection that has lost its judgement left knows no refusal
 abbrev pub AreKnown : Course → Type 0
@@ -125,32 +115,15 @@ AreKnown c = (i : ℕ) (e : Connection) → slice_get c.traffic.connections i �
 -- a connection that the end does not have open is at no such stage
 not_amid : {A : Type 0} (peer : ℕ) (over given : Bool) (o : Option Live) →
     (if◌then◌else◌ {A = Option (ℕ × Standing)} over None (link_of o)) ≡ None → stage_by over given o ≡ amid peer → A
-not_amid peer true given o shut is = absurd (cc is)
-not_amid peer false true None shut is = absurd (cc is)
-not_amid peer false false None shut is = absurd (cc is)
-not_amid peer false given (Some asked) shut is = absurd (cc is)
-not_amid peer false given (Some (linked m l)) shut is = absurd (cc shut)
-not_amid peer false given (Some (closing m)) shut is = absurd (cc is)
+not_amid peer over given o shut is = grind arith
 
 -- a connection that may open at a called end has no reference yet
 early_not_given : (r : ℕ) (c : Carrier) → c.ended ≡ None → ((m : ℕ) → value_at m c.live ≡ Some asked → ⊥) → stage_at r c ≡ early →
     has_given r c ≡ false
-early_not_given r c lasts none may = by (has_given r c) (value_at r c.live) refl refl
-  where
-    by : (b : Bool) (o : Option Live) → has_given r c ≡ b → value_at r c.live ≡ o → b ≡ false
-    by false o given there = refl
-    by true (Some asked) given there = absurd (none r there)
-    by true (Some (linked peer link)) given there =
-        amid_not (stage_at r c) peer may (stage_is r c (Some (linked peer link)) true lasts given there)
-    by true v given there =
-        past_not (stage_at r c) may (stage_is r c v true lasts given there)
+early_not_given r c lasts none may = grind (arith, amid_not, stage_at, stage_is, past_not)
 
 above_given : (r : ℕ) (c : Carrier) → 0 < r → has_given r c ≡ false → c.given < r
-above_given r c some not = by (nat_le r c.given) refl
-  where
-    by : (b : Bool) → nat_le r c.given ≡ b → c.given < r
-    by true e = differ (has_given r c) (given_so r c some (leb-true r c.given e)) not
-    by false e = leb-false r c.given e
+above_given r c some not = grind (arith, differ, given_so, leb-true, leb-false)
 
 -- ---- a called end and a tap
 
@@ -280,10 +253,7 @@ module _ (local : Local) where
 
   spent_next : (deeds : Deeds) (b r : ℕ) (unit : Value) (rest : List Value) → IsUpTo Right b unit → b < r →
       (deeds.put ≡ []) ⊎ ((n : ℕ) × HasCc n r (unit ∷ rest)) → (deeds.put ≡ []) ⊎ ((n : ℕ) × HasCc n r rest)
-  spent_next deeds b r unit rest up less (inl none) = inl none
-  spent_next deeds b r unit rest up less (inr (n, inl mine)) =
-      let low = gives_so n r b unit mine up in absurd (omega (arith, low, less))
-  spent_next deeds b r unit rest up less (inr (n, inr more)) = inr (n, more)
+  spent_next deeds b r unit rest up less h = grind (arith, gives_so)
 
   pub passes_own_called : AllProper → (deeds : ℕ → Deeds) (at : ℕ) (unit : Value) (old new : Joint) →
       Steps Right (passes_own at unit) old new → HaveSamePlaces old.course.traffic.connections old.course.sessions.live →
@@ -346,9 +316,7 @@ module _ (local : Local) where
 
     -- the reference of a CC that waits now
     above_old : (n r : ℕ) → HasCc n r new.put → h.ahead.bound < r
-    above_old n r has =
-        let less = waits_above first new g.ahead can_new n r has in
-        let rises = g.rises in omega (arith, less, rises)
+    above_old n r has = grind (arith, g, waits_above first new g.ahead can_new n r has)
 
     home_low : (i j : ℕ) → HasHome Right i j old.course.traffic old.course.sessions → i ≤ h.ahead.bound
     home_low i j home = (h.ahead.below.live home.place home.joined i home.here home.mine).1
@@ -377,9 +345,7 @@ module _ (local : Local) where
         (subst (λ (c : Course). HaveSamePlaces c.traffic.connections c.sessions.live) (sym t.course) places)))
 
     put_more : (n r : ℕ) → HasCc n r new.put → (on.more r).put ≡ waiting_for (Some n) (all_units on.put)
-    put_more n r has =
-        puts_for local deeds turn old new t on f g.ahead.followed before after no_cc places units alike_old alike_new h.ahead.bound
-        home_low n r has (above_old n r has)
+    put_more n r has = search (arith, puts_for, g, before, after, no_cc, alike_old, alike_new, home_low, above_old)
 
     -- nothing was put there before the CC
     none_put_before : (n r : ℕ) → HasCc n r (all_units on.put) → h.ahead.bound < r →
@@ -432,14 +398,10 @@ module _ (local : Local) where
           l.arrived.none_after
           ∙ (none_both (waiting_for (Some r) (all_units l.arrived.during)) (waiting_for (Some r) (all_units l.arrived.after))
           (sym (picked_join (is_for (Some r)) (all_units l.arrived.during) (all_units l.arrived.after)) ∙ back)).0
-      taken_by (Some reason) over =
-          past_none r (stage_at r carrier) (stage_at r new.holding.end.carrier) on.took on.put (stage_over r carrier (ap is_some over))
-          (life r some)
+      taken_by (Some reason) over = grind (arith, past_none, stage_at, stage_over, some)
 
       turn_unheard : units_taken (then_did (deeds r) (on.more r)).calls ≡ []
-      turn_unheard =
-          taken_more (deeds r).calls (on.more r).calls
-          ∙ (λ i. h.unheard r less i ++ (on.taken r some ∙ taken_by carrier.ended refl) i)
+      turn_unheard = grind (arith, taken_more, some, taken_by)
 
       spent_by : ((deeds r).put ≡ []) ⊎ ((n : ℕ) × HasCc n r old.put) →
           AreApart r on.put ⊎ (HasCc (on.lives r some).peer r new.put
@@ -473,9 +435,7 @@ module _ (local : Local) where
         (above_old n r (subst (HasCc n r) (sym turn_put) (has_back n r old.put (all_units on.put) has))))
 
     two_so : carrier.ended ≡ None → carrier.class ≡ Some Zero → ⊥
-    two_so lasts zero_is =
-        let still = none_of f.whole.end.ended (sym f.like.over ∙ ap is_some lasts) in
-        no_zero f.whole.end.class before.end.class (ap (λ (c : Carrier). c.class) (f.like.lasts still) ∙ zero_is)
+    two_so lasts zero_is = grind (arith, none_of, no_zero, before)
 
     pub turn_homed : AllByRecursion (IsMarked Right old.course.traffic old.course.sessions) on.put
     turn_homed = by carrier.ended refl

@@ -1,8 +1,8 @@
 -- The turn in which a called end selects class 0: it puts its CC first, and opens one connection with it. Before that nothing waits, and no
 -- connection is open. For the session of the connection of a called end in class 0.
-use Rattle.std.proofs.Common.{◌≡◌, ◌∙◌, refl, sym, ap, subst, ℕ, ◌<◌, ◌≤◌, Bool, true, false, if◌then◌else◌, List, [], ◌∷◌, ◌++◌}
-use Rattle.std.proofs.Common.{map, Option, Some, None, arith, is_some, inl, inr, ◌⊎◌, ◌-◌}
-use Rattle.std.specs.Prelude.{◌==◌, ◌&&◌, nat_le}
+use Rattle.std.proofs.Common.{◌≡◌, ◌∙◌, refl, sym, ap, subst, ℕ, ◌<◌, ◌≤◌, Bool, true, false, if◌then◌else◌, List, [], ◌∷◌, ◌++◌, map}
+use Rattle.std.proofs.Common.{Option, Some, None, arith, is_some, ◌-◌}
+use Rattle.std.specs.Prelude.{◌&&◌, nat_le}
 use Rattle.std.specs.List.{AllByRecursion}
 use Rattle.std.proofs.lemmas.Bool.{le-leb, lt-ltb}
 use Rattle.osi_tpdu.specs.Value.{Connect, Value, acknowledge, confirm, data0, data2, disconnect, disconnected, error, request}
@@ -11,14 +11,13 @@ use Rattle.osi_class.specs.Link.{Standing}
 use Rattle.osi_class.specs.declared.terms.Class.TheVariants.{Zero}
 use Rattle.osi_class.specs.declared.terms.Local.{Local}
 use Rattle.osi_carrier.specs.Negotiation.{acceptance, unit_octets}
-use Rattle.osi_carrier.specs.Rows.{Rows, value_at}
 use Rattle.osi_carrier.specs.State.{Connection as Live, State as Carrier, linked}
 use Rattle.osi_judge.specs.declared.directions.Direction.TheVariants.{Right}
 use Rattle.osi_rules.specs.Traffic.{State}
 use Rattle.osi_stack.specs.Calls.{has_given}
 use Rattle.osi_fair.proofs.a_called_end_selects_class_zero.{Selecting}
 use Rattle.osi_fair.proofs.each_connection_of_a_called_end.{AreAbove}
-use Rattle.osi_fair.proofs.what_an_end_does_in_class_zero.{IsInZero, over, talks, zero_puts}
+use Rattle.osi_fair.proofs.what_an_end_does_in_class_zero.{IsInZero, over, zero_puts}
 use Rattle.osi_fair.proofs.what_the_other_side_closes.{IsClear, IsFirm}
 use Rattle.osi_honest.specs.Courses.{Continues, Deeds, then_did, units_in}
 use Rattle.osi_honest.specs.Marked.{Marked, all_units}
@@ -45,7 +44,7 @@ use Rattle.osi_watched.proofs.sessions.a_called_end_stands_until_its_cc_of_class
 use Rattle.osi_watched.proofs.sessions.a_calling_end_stands_as_units_pass.{known_at}
 use Rattle.osi_watched.proofs.sessions.a_turn_after_which_a_cc_of_class_0_waits.{dts_after, no_cc_taken, turns_waiting}
 use Rattle.osi_watched.proofs.sessions.a_turn_of_a_calling_end_until_class_2.{early_lasts}
-use Rattle.osi_watched.proofs.sessions.all_connections_stand.{AllStand, Rests, quiet, rests}
+use Rattle.osi_watched.proofs.sessions.all_connections_stand.{AllStand, Rests}
 use Rattle.osi_watched.proofs.sessions.each_cc_that_passes_gives_a_new_reference.{GoesOn, turns_ahead, waits_above}
 use Rattle.osi_watched.proofs.sessions.each_step_leaves_class_0_one_connection.{Sure}
 use Rattle.osi_watched.proofs.sessions.each_unit_of_a_calling_end_has_a_home.{IsWrittenAs}
@@ -53,7 +52,7 @@ use Rattle.osi_watched.proofs.sessions.no_connection_is_opened_before_a_class_is
 use Rattle.osi_watched.proofs.sessions.units_written_alike_have_the_same_ccs.{AnswersTwo, AreAlike, HasCc, IsCc, first_not_zero, has_alike}
 use Rattle.osi_watched.proofs.sessions.what_a_turn_puts_goes_to_its_peer.{all_so, one_of}
 use Rattle.osi_watched.proofs.sessions.what_is_in_flight_to_an_end.{parts_taken}
-use Rattle.osi_watched.proofs.sessions.what_stands_of_a_connection.{Known, Stands, lives, unnamed, waiting_for}
+use Rattle.osi_watched.proofs.sessions.what_stands_of_a_connection.{Known, Stands, waiting_for}
 use Rattle.osi_watched.proofs.sessions.what_stands_of_a_connection as standing
 use Rattle.osi_watched.proofs.sessions.what_the_stage_of_a_calling_end_says.{IsDt0, all_data}
 
@@ -64,26 +63,15 @@ named_not o r is not = absurd (cc)
 
 module _ (deeds : ℕ → Deeds) (known then_known : Known) (put : List Value) (b : Bool) where
   stands_unnamed : (c : _) (j : Joined) → j.called ≡ None → Stands Right deeds known put b c j → Stands Right deeds then_known put b c j
-  stands_unnamed c j none (unnamed is mine theirs room) = unnamed is mine theirs room
-  stands_unnamed c j none (lives r o is live later sure h) = named_not j.called r h.shown.named none
-  stands_unnamed c j none (standing.past r closed waiting later sure h) = named_not j.called r h.shown.named none
+  stands_unnamed c j none h = grind (arith, named_not)
 
   rests_unnamed : (j : Joined) → j.called ≡ None → Rests Right deeds known j → Rests Right deeds then_known j
-  rests_unnamed j none (quiet is mine theirs) = quiet is mine theirs
-  rests_unnamed j none (rests r waiting later sure h) = named_not j.called r h.shown.named none
+  rests_unnamed j none h = grind (arith, named_not)
 
   -- they stand whatever is known of what is in flight
   pub all_unnamed : (s : State) (t : Sessions) → AreUncalled t → AllStand Right deeds known put b s t →
       AllStand Right deeds then_known put b s t
-  all_unnamed s t none a = record {
-    places = a.places;
-    apart = a.apart;
-    judged = a.judged;
-    room = a.room;
-    live = λ i c j there here judged. stands_unnamed c j (none.live i j here) (a.live i c j there here judged);
-    lost = a.lost;
-    done = λ i j here. rests_unnamed j (none.done i j here) (a.done i j here);
-  }
+  all_unnamed s t none a = search (arith, stands_unnamed, rests_unnamed)
 
 -- ---- the first unit that waits is the CC
 
@@ -97,45 +85,23 @@ record StartsWithCc (r : ℕ) (put : List Value) : Type 0 where
 
 cc_by : (m : ℕ) (y : Connect) (v : Value) (rest : List Value) → AreAlike (confirm m y ∷ []) (v ∷ []) → y.class ≡ 0 → IsCc m y.source v →
     StartsWithCc y.source (v ∷ rest)
-cc_by m y (confirm k x) rest a zero_is h = record {
-  n = k;
-  x = x;
-  rest = rest;
-  is = refl;
-  source = h.1;
-  not_two = λ two. first_not_zero m y [] (confirm k x ∷ []) a zero_is (two, tt);
-}
-cc_by m y (request x) rest a zero_is h = absurd h
-cc_by m y (disconnect n source reason user) rest a zero_is h = absurd h
-cc_by m y (disconnected n source) rest a zero_is h = absurd h
-cc_by m y (data0 end user) rest a zero_is h = absurd h
-cc_by m y (data2 n number end user) rest a zero_is h = absurd h
-cc_by m y (acknowledge credit n number) rest a zero_is h = absurd h
-cc_by m y (error n cause) rest a zero_is h = absurd h
+cc_by m y v rest a zero_is h = grind (arith, first_not_zero)
 
 no_more : {A : Type 0} (n r : ℕ) (v : Value) → HasCc n r (v ∷ []) → (IsCc n r v → A) → A
-no_more n r v (inl h) f = f h
-no_more n r v (inr h) f = absurd h
+no_more n r v h f = grind arith
 
 first_alike : (u v : Value) (us vs : List Value) → AreAlike (u ∷ us) (v ∷ vs) → AreAlike (u ∷ []) (v ∷ [])
-first_alike u v us vs a =
-    let same = a.same in
-    let one : written u ≡ written v = cc in
-    record { same = (λ i. one i ∷ []); can = (a.can.0, tt); can_too = (a.can_too.0, tt) }
+first_alike u v us vs a = grind arith
 
 starts_with_cc : (m : ℕ) (y : Connect) (us put : List Value) → AreAlike (confirm m y ∷ us) put → y.class ≡ 0 → StartsWithCc y.source put
 starts_with_cc m y us [] a zero_is = absurd (let same = a.same in cc)
-starts_with_cc m y us (v ∷ put) a zero_is =
-    let one = first_alike (confirm m y) v us put a in
-    no_more m y.source v (has_alike m y.source (confirm m y ∷ []) (v ∷ []) one (inl (refl, refl)))
-    (λ h. cc_by m y v put one zero_is h)
+starts_with_cc m y us (v ∷ put) a zero_is = grind (arith, first_alike, no_more, has_alike, cc_by)
 
 -- nothing waits before it
 none_two : (m : ℕ) (y : Connect) (us old more : List Value) → AreAlike (confirm m y ∷ us) (old ++ more) → y.class ≡ 0 →
     AllByRecursion AnswersTwo old → old ≡ []
 none_two m y us [] more a zero_is two = refl
-none_two m y us (v ∷ old) more a zero_is two =
-    first_not_zero m y [] (v ∷ []) (first_alike (confirm m y) v us (old ++ more) a) zero_is (two.0, tt)
+none_two m y us (v ∷ old) more a zero_is two = grind (arith, first_not_zero, first_alike)
 
 -- ---- its connection is open, or over
 
@@ -155,19 +121,14 @@ given_so r c some up = ap (λ (b : Bool). b && nat_le r c.given) (lt-ltb 0 r som
 
 linked_not : (b : Bool) (peer : ℕ) (link : Standing) →
     stage_there true (if◌then◌else◌ {A = Option Live} b (Some (linked peer link)) None) ≡ early → ⊥
-linked_not true peer link e = cc e
-linked_not false peer link e = cc e
+linked_not b peer link e = grind arith
 
 over_not : {A : Type 0} (b : Bool) → b ≡ true → b ≡ false → A
 over_not b h k = absurd (cc)
 
 pub not_early_in_zero : (limit begun r : ℕ) (s : Carrier) (units : List Value) → IsInZero limit s begun units → 0 < r → r ≤ s.given →
     s.ended ≡ None → stage_at r s ≡ early → ⊥
-not_early_in_zero limit begun r s units (talks q peer link class live plain puts) some up lasts may =
-    linked_not (q == r) peer link
-    (sym (stage_is r s (value_at r s.live) true lasts (given_so r s some up) refl
-    ∙ ap (λ (rows : Rows Live). stage_there true (value_at r rows)) live) ∙ may)
-not_early_in_zero limit begun r s units (over gone puts) some up lasts may = over_not (is_some s.ended) gone (ap is_some lasts)
+not_early_in_zero limit begun r s units h some up lasts may = grind (arith, linked_not, stage_is, given_so, stage_there, over_not)
 
 -- ---- the turn
 
@@ -175,14 +136,7 @@ abbrev IsFor : ℕ → Value → Type 0
 IsFor r v = (m : ℕ) (y : Connect) → v ≡ confirm m y → y.source ≡ r
 
 pub asking_plain : (v : Value) → IsAsking v → IsNoCc v
-asking_plain (request x) h = tt
-asking_plain (disconnected n source) h = tt
-asking_plain (confirm n x) h = absurd h
-asking_plain (disconnect n source reason user) h = absurd h
-asking_plain (data0 end user) h = absurd h
-asking_plain (data2 n number end user) h = absurd h
-asking_plain (acknowledge credit n number) h = absurd h
-asking_plain (error n cause) h = absurd h
+asking_plain v h = grind arith
 
 same_cc : (n m : ℕ) (x y : Connect) → confirm n x ≡ confirm m y → y.source ≡ x.source
 same_cc n m x y e = cc
@@ -207,9 +161,7 @@ module _ (local : Local) (proper : AllProper) (turn : Turn) (old new : Joint) (t
   f = ahead.ahead.followed
 
   pub then_can : AllByRecursion CanBeWritten new.put
-  then_can =
-      subst (AllByRecursion CanBeWritten) (sym (t.put ∙ ap (λ (l : List Value). old.put ++ l) units))
-      (all_more old.put (all_units on.put) h.can on.can)
+  then_can = grind (arith, all_more)
 
   clear : IsClear old.course.traffic.course
   clear = record { sure = sure; two = λ zero_is. none_some old.course.traffic.course.class Zero class zero_is }
@@ -240,10 +192,7 @@ module _ (local : Local) (proper : AllProper) (turn : Turn) (old new : Joint) (t
     all_put = sym units ∙ ap (λ (l : List Value). l ++ t.units) (sym empty) ∙ sym t.put ∙ starts.is
 
     less : h.called.ahead.bound < x.source
-    less =
-        let above = waits_above (first local) new ahead.ahead then_can starts.n x.source
-        (subst (HasCc starts.n x.source) (sym starts.is) (inl (refl, refl))) in
-        let rises = ahead.rises in omega (arith, above, rises)
+    less = search (arith, waits_above, first, then_can, starts)
 
     positive : 0 < x.source
     positive = (let low = less in omega (arith, low))
@@ -252,11 +201,7 @@ module _ (local : Local) (proper : AllProper) (turn : Turn) (old new : Joint) (t
     dts = dts_after local new f starts.n x starts.rest starts.is z
 
     none_put : (deeds x.source).put ≡ []
-    none_put = by (h.called.spent x.source less)
-      where
-        by : ((deeds x.source).put ≡ []) ⊎ ((n : ℕ) × HasCc n x.source old.put) → (deeds x.source).put ≡ []
-        by (inl none) = none
-        by (inr (n, has)) = absurd (subst (HasCc n x.source) empty has)
+    none_put = grind (arith, less, empty)
 
     all_for : AllByRecursion (IsFor x.source) (all_units on.put)
     all_for =
@@ -294,15 +239,7 @@ module _ (local : Local) (proper : AllProper) (turn : Turn) (old new : Joint) (t
         (ap (stage_at x.source) (f.like.lasts lasts) ∙ may)
 
     early_so : StandsCalledEarly deeds x.source end old.put old.begun (units_in old.coming) old.course
-    early_so = record {
-      sure = is_sure;
-      all = all_unnamed deeds (known_at old) (known_one x.source end (units_in old.coming)) old.put old.begun old.course.traffic
-          old.course.sessions (uncalled class) h.standing.all;
-      uncalled = uncalled;
-      asking = λ none. asking;
-      plain = plain;
-      zero = λ zero_is. none_some old.course.traffic.course.class Zero class zero_is;
-    }
+    early_so = search (arith, all_unnamed, known_at, known_one, plain, none_some)
 
     some : old.begun ≡ true → old.put ≡ [] → ⊥
     some begun =

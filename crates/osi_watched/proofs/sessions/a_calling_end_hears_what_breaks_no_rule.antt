@@ -2,6 +2,7 @@
 -- and after any other unit what is left over at a connection that is judged stays; a CC gives a reference for which nothing waits. So all
 -- its connections stand after a packet of the other side; and nobody of the end is to blame at those that have lost their judgement.
 -- For all connections of an end and a tap.
+use Rattle.std.proofs.Common.{arith}
 use Rattle.std.proofs.Common.{◌≡◌, ◌∙◌, refl, sym, ap, subst, ℕ, Bool, true, false, List, [], ◌∷◌, ◌++◌, map, Some, None, append_assoc}
 use Rattle.std.specs.Prelude.{slice_get}
 use Rattle.std.specs.List.{AllByRecursion}
@@ -43,7 +44,7 @@ use Rattle.osi_watched.proofs.sessions.references_of_an_end_are_distinct.{AreDis
 use Rattle.osi_watched.proofs.sessions.right_units_leave_all_standing.{dt, link_placed}
 use Rattle.osi_watched.proofs.sessions.the_dr_of_the_other_side_is_in_flight.{AreShut, HaveRoom, other_shut}
 use Rattle.osi_watched.proofs.sessions.units_written_alike_are_for_the_same.{none_written_so}
-use Rattle.osi_watched.proofs.sessions.what_a_unit_does_at_its_place.{Does, asks_again, asks_more, nowhere, somewhere, unit_does}
+use Rattle.osi_watched.proofs.sessions.what_a_unit_does_at_its_place.{Does, unit_does}
 use Rattle.osi_watched.proofs.sessions.what_holds_of_a_lost_connection.{now_so}
 use Rattle.osi_watched.proofs.sessions.what_is_left_for_an_end.{known_left, left_grows, left_same}
 use Rattle.osi_watched.proofs.sessions.what_passes_leaves_all_standing.{AllGoesOn, IsHeard, no_request, no_zero, other_stands}
@@ -70,14 +71,7 @@ two_so : (v : Value) (c : Course) → IsHeardOn v c → class_for way.Right c.tr
 two_so v c p = p.lasts.two
 
 pub one_plain : (b : ℕ) (v : Value) (c : Course) → IsHeardOn v c → IsPlain b v
-one_plain b (request x) c p = no_request x c.traffic (goes_so (request x) c p) (two_so (request x) c p) p.on
-one_plain b (data0 end user) c p = no_zero way.Right end user c.traffic (goes_so (data0 end user) c p) (two_so (data0 end user) c p) p.on
-one_plain b (confirm n x) c p = (tt, tt)
-one_plain b (disconnect n source reason user) c p = (tt, tt)
-one_plain b (disconnected n source) c p = (tt, tt)
-one_plain b (data2 n number end user) c p = (tt, tt)
-one_plain b (acknowledge credit n number) c p = (tt, tt)
-one_plain b (error n cause) c p = (tt, tt)
+one_plain b v c p = grind (arith, no_request, goes_so, two_so, no_zero)
 
 pub fine_plain : (b at : ℕ) (vs : List Value) (c : Course) → AreFine at vs c → AllByRecursion (IsPlain b) vs
 fine_plain b at [] c h = tt
@@ -85,14 +79,7 @@ fine_plain b at (v ∷ vs) c (fine, more) = (one_plain b v c fine, fine_plain b 
 
 -- the other side gives no reference of this one
 gives_none : (v : Value) (c : Course) → IsHeardOn v c → GivesNew Left v c.sessions
-gives_none (request x) c p = no_request x c.traffic (goes_so (request x) c p) (two_so (request x) c p) p.on
-gives_none (confirm n x) c p = tt
-gives_none (disconnect n source reason user) c p = tt
-gives_none (disconnected n source) c p = tt
-gives_none (data0 end user) c p = tt
-gives_none (data2 n number end user) c p = tt
-gives_none (acknowledge credit n number) c p = tt
-gives_none (error n cause) c p = tt
+gives_none v c p = grind (arith, no_request, goes_so, two_so)
 
 -- ---- its place
 
@@ -107,12 +94,7 @@ record IsAt (v : Value) (c : Course) : Type 0 where
 
 at_by : (at : ℕ) (v : Value) (n : ℕ) (c : Course) → destination_of v ≡ Some n → ((takes way.Right v c.traffic).told.place ≡ None → ⊥) →
     Does Right at v c.traffic c.sessions (takes way.Right v c.traffic) → IsAt v c
-at_by at v n c dest some (nowhere place cs ts) = absurd (some place)
-at_by at v n c dest some (somewhere i e j x r place there here one finding is far cs ts) =
-    record { place = i; connection = e; joined = j; told = place; there = there; here = here }
-at_by at v n c dest some (asks_more x is number cs ts) = absurd (let no : None ≡ Some n = sym (ap destination_of is) ∙ dest in cc)
-at_by at v n c dest some (asks_again x is number i j here free cs ts) =
-    absurd (let no : None ≡ Some n = sym (ap destination_of is) ∙ dest in cc)
+at_by at v n c dest some h = grind arith
 
 -- a whole end with this tap, which has put units that are written as these
 pub record IsBehind (local : Local) (put : List Value) (c : Course) : Type 0 where

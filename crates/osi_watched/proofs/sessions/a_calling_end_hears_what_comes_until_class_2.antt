@@ -2,7 +2,7 @@
 -- class 0 DTs for its one connection. For the session of the connection of an end in class 0.
 use Rattle.std.proofs.Common.{◌≡◌, ◌∙◌, refl, sym, ap, subst, ℕ, ◌<◌, ◌≤◌, Bool, true, false, if◌then◌else◌, List, [], ◌∷◌, ◌++◌}
 use Rattle.std.proofs.Common.{map, Option, Some, None, is_some, arith, append_assoc}
-use Rattle.std.specs.Prelude.{◌&&◌, ◌||◌, nat_le, position, slice_get}
+use Rattle.std.specs.Prelude.{◌&&◌, ◌||◌, nat_le}
 use Rattle.std.specs.List.{AllByRecursion}
 use Rattle.std.proofs.lemmas.Bool.{le-leb, lt-ltb}
 use Rattle.std.proofs.lemmas.List.{append-nil}
@@ -22,12 +22,12 @@ use Rattle.osi_rules.specs.declared.connections.Connection.{Connection}
 use Rattle.osi_rules.specs.declared.courses.Course.{Course as Rules}
 use Rattle.osi_rules.specs.declared.directions.Direction.TheVariants as way
 use Rattle.osi_rules.specs.declared.findings.Finding.{Finding}
-use Rattle.osi_rules.specs.declared.findings.Finding.TheVariants.{NotJudged, TooMany}
+use Rattle.osi_rules.specs.declared.findings.Finding.TheVariants.{TooMany}
 use Rattle.osi_rules.specs.declared.findings.Reach.{Reach}
-use Rattle.osi_rules.specs.Reaches.{is_applied, reach_of}
-use Rattle.osi_rules.specs.Sides.{is_named, is_refused}
-use Rattle.osi_rules.specs.Traffic.{Outcome, State, at_found, at_place, class_for, class_of, course_after, course_after_none, found_on}
-use Rattle.osi_rules.specs.Traffic.{is_stopped, none_told, route, route_in, routed, stops_by, takes, unnamed}
+use Rattle.osi_rules.specs.Reaches.{is_applied}
+use Rattle.osi_rules.specs.Sides.{is_refused}
+use Rattle.osi_rules.specs.Traffic.{State, at_found, at_place, class_for, class_of, course_after, is_stopped, route_in, routed, stops_by}
+use Rattle.osi_rules.specs.Traffic.{takes}
 use Rattle.osi_rules.proofs.a_stop_is_said.{stops_are_said}
 use Rattle.osi_stack.specs.Calls.{has_given}
 use Rattle.osi_fair.specs.Naming.{unit as passing}
@@ -118,8 +118,7 @@ none_some : {A : Type 0} (k : Option Class) (a : Class) → k ≡ None → k ≡
 none_some k a h e = absurd (cc)
 
 over_none : {A : Type 0} (o : Option EndReason) → is_some o ≡ true → o ≡ None → A
-over_none None h e = absurd (cc h)
-over_none (Some x) h e = absurd (cc e)
+over_none o h e = grind arith
 
 no_written : (put : List Value) → [] ≡ map written put → put ≡ []
 no_written [] e = refl
@@ -179,17 +178,7 @@ units_none_before at (v ∷ vs) c none = none_before Right at v c (units_none_be
 
 -- the other side asks for nothing
 not_cr : (b : ℕ) (v : Value) (c : Course) → IsTolerable Right v c → IsUpTo Left b v
-not_cr b (request x) c right =
-    cr_broke (class_for way.Right c.traffic.course) (has_broken way.Left c.traffic.course) x c.traffic
-    (goes_on (request x) (is_stopped way.Right c.traffic.course) c.traffic
-    (routed way.Right (request x) c.traffic (route way.Right c.traffic.course (request x))) right.goes right.mild)
-not_cr b (confirm n x) c right = tt
-not_cr b (disconnect n source reason user) c right = tt
-not_cr b (disconnected n source) c right = tt
-not_cr b (data0 end user) c right = tt
-not_cr b (data2 n number end user) c right = tt
-not_cr b (acknowledge credit n number) c right = tt
-not_cr b (error n cause) c right = tt
+not_cr b v c right = grind (arith, cr_broke, goes_on)
 
 pub no_crs : (b at : ℕ) (vs : List Value) (c : Course) → AreTaken at vs c → AllByRecursion (IsUpTo Left b) vs
 no_crs b at [] c taken = tt
@@ -210,65 +199,26 @@ IsEarlyBreak (error n cause) = ⊥
 
 module _ (s : State) (goes : is_stopped way.Right s.course ≡ false) (class : s.course.class ≡ None) where
   takes_early : (v : Value) → takes way.Right v s ≡ routed way.Right v s (route_in None way.Right (has_broken way.Left s.course) v)
-  takes_early v =
-      ap (λ (b : Bool). if b then none_told way.Right NotJudged s else routed way.Right v s (route way.Right s.course v)) goes
-      ∙ ap (λ (k : Option Class). routed way.Right v s (route_in k way.Right (has_broken way.Left s.course) v)) class
+  takes_early v = grind arith
 
   early_break : {A : Type 0} (v : Value) → IsEarlyBreak v → IsMild v (takes way.Right v s).told.finding → A
-  early_break v h mild = by v h (subst (λ (o : Outcome). IsMild v o.told.finding) (takes_early v) mild)
-    where
-      by : {A : Type 0} (v : Value) → IsEarlyBreak v →
-          IsMild v (routed way.Right v s (route_in None way.Right (has_broken way.Left s.course) v)).told.finding → A
-      by (request x) h mild = absurd mild
-      by (data0 end user) h mild = absurd mild
-      by (data2 n number end user) h mild = absurd mild
-      by (acknowledge credit n number) h mild = absurd mild
-      by (confirm n x) h mild = absurd h
-      by (disconnect n source reason user) h mild = absurd h
-      by (disconnected n source) h mild = absurd h
-      by (error n cause) h mild = absurd h
+  early_break v h mild = grind (arith, takes_early)
 
   -- a DR, a DC or an ER selects none
   quiet_same : (v : Value) → IsQuiet v → (c : Connection) (b : Bool) (k : Rules) → (course_after way.Right c v b k).class ≡ k.class
-  quiet_same (disconnect n source reason user) h c b k = refl
-  quiet_same (disconnected n source) h c b k = refl
-  quiet_same (error n cause) h c b k = refl
-  quiet_same (request x) h c b k = absurd h
-  quiet_same (confirm n x) h c b k = absurd h
-  quiet_same (data0 end user) h c b k = absurd h
-  quiet_same (data2 n number end user) h c b k = absurd h
-  quiet_same (acknowledge credit n number) h c b k = absurd h
+  quiet_same v h c b k = grind arith
 
   nowhere_class : (v : Value) → (at_place way.Right v s None).state.course.class ≡ s.course.class
-  nowhere_class v =
-      let after = course_after_none v s.course in
-      reached_class way.Right (reach_of (class_for way.Right after) (unnamed way.Right s.course v)) after ∙ (none_same v s.course).0
+  nowhere_class v = grind (arith, reached_class, none_same)
 
   found_class : (v : Value) → IsQuiet v → (p : ℕ) (o : Option Connection) → (at_found way.Right v s p o).state.course.class ≡ s.course.class
-  found_class v h p None = nowhere_class v
-  found_class v h p (Some c) =
-      let f = found_on way.Right s c v in
-      reached_class way.Right (reach_of (class_for way.Right s.course) f) (course_after way.Right c v (is_applied f) s.course)
-      ∙ quiet_same v h c (is_applied f) s.course
+  found_class v h p o = grind (arith, nowhere_class, reached_class, quiet_same)
 
   place_class : (v : Value) → IsQuiet v → (o : Option ℕ) → (at_place way.Right v s o).state.course.class ≡ s.course.class
-  place_class v h None = nowhere_class v
-  place_class v h (Some p) = found_class v h p (slice_get s.connections p)
+  place_class v h o = grind (arith, nowhere_class, found_class)
 
   quiet_class : (v : Value) → IsQuiet v → (takes way.Right v s).state.course.class ≡ s.course.class
-  quiet_class v h = ap (λ (o : Outcome). o.state.course.class) (takes_early v) ∙ by v h
-    where
-      by : (v : Value) → IsQuiet v →
-          (routed way.Right v s (route_in None way.Right (has_broken way.Left s.course) v)).state.course.class ≡ s.course.class
-      by (disconnect n source reason user) h =
-          place_class (disconnect n source reason user) tt (position (is_named way.Right n) s.connections)
-      by (disconnected n source) h = place_class (disconnected n source) tt (position (is_named way.Right n) s.connections)
-      by (error n cause) h = place_class (error n cause) tt (position (is_named way.Right n) s.connections)
-      by (request x) h = absurd h
-      by (confirm n x) h = absurd h
-      by (data0 end user) h = absurd h
-      by (data2 n number end user) h = absurd h
-      by (acknowledge credit n number) h = absurd h
+  quiet_class v h = grind (arith, takes_early, place_class)
 
 quiet_ccs : (r : ℕ) (vs : List Value) → AllByRecursion IsQuiet vs → AllByRecursion (IsCcFor r) vs
 quiet_ccs r [] h = tt

@@ -1,14 +1,13 @@
 -- A calling end of class 2 is ready for each CR that passes: nothing is done at its connection, nothing in flight is for it, and its
 -- reference is new. Each step keeps it so, as long as both sides are judged.
 -- For all connections of an end and a tap.
-use Rattle.std.proofs.Common.{◌≡◌, ◌∙◌, refl, sym, ap, subst, ℕ, ◌<◌, ◌≤◌, Bool, true, false, if◌then◌else◌, List, [], ◌∷◌, ◌++◌, Some}
-use Rattle.std.proofs.Common.{None, Option, arith}
+use Rattle.std.proofs.Common.{◌≡◌, ◌∙◌, refl, sym, ap, subst, ℕ, ◌<◌, ◌≤◌, Bool, true, false, if◌then◌else◌, List, [], ◌∷◌, ◌++◌, None}
+use Rattle.std.proofs.Common.{Option, arith}
 use Rattle.std.specs.List.{AllByRecursion}
 use Rattle.std.proofs.lemmas.List.{append-nil}
 use Rattle.osi_tpdu.specs.Packet.{units_of}
 use Rattle.osi_tpdu.specs.Value.{Connect, Value, acknowledge, confirm, data0, data2, disconnect, disconnected, error, request}
 use Rattle.osi_class.specs.declared.terms.Class.{Class}
-use Rattle.osi_class.specs.declared.terms.Class.TheVariants.{Two, Zero}
 use Rattle.osi_class.specs.declared.terms.Local.{Local}
 use Rattle.osi_carrier.specs.State.{State as Carrier}
 use Rattle.osi_judge.specs.declared.directions.Direction.TheVariants.{Left}
@@ -46,14 +45,11 @@ use Rattle.osi_watched.proofs.sessions.what_passes_leaves_all_standing.{IsReady}
 
 pub goes_on : (v : Value) (b : Bool) (s : State) (o : Outcome) → b ≡ false →
     IsMild v (if b then none_told way.Right NotJudged s else o).told.finding → IsMild v o.told.finding
-goes_on v true s o h none = absurd (cc)
-goes_on v false s o h none = none
+goes_on v b s o h none = grind arith
 
 pub cr_broke : {A : Type 0} (k : Option Class) (b : Bool) (x : Connect) (s : State) →
     IsMild (request x) (routed way.Right (request x) s (route_in k way.Right b (request x))).told.finding → A
-cr_broke None b x s none = absurd none
-cr_broke (Some Zero) b x s none = absurd none
-cr_broke (Some Two) b x s none = absurd none
+cr_broke k b x s none = grind arith
 
 -- neither a CR nor a DT of class 0
 abbrev pub IsPlain : ℕ → Value → Type 0
@@ -110,8 +106,7 @@ module _ (local : Local) (two : local.class2 ≡ true) where
   -- ---- at the beginning
 
   none_open : (peer : ℕ) (given : Bool) → stage_there given None ≡ amid peer → ⊥
-  none_open peer true e = cc
-  none_open peer false e = cc
+  none_open peer given e = grind arith
 
   pub begin_calling : (holding : Holding) → IsFresh true local holding → IsCalling (λ r. no_deeds) (begin holding)
   begin_calling holding fresh =

@@ -1,7 +1,7 @@
 -- Until class 2 is selected all connections of a calling end stand at a tap, whatever classes it offers: at the beginning, and after what
 -- passes and is no break, or is passed over. For the session of the connection of an end in class 0.
-use Rattle.std.proofs.Common.{◌≡◌, ◌≢◌, ◌∙◌, refl, sym, ap, subst, ℕ, ◌^◌, ◌<◌, ◌≤◌, Bool, true, false, List, [], ◌∷◌, ◌++◌, length}
-use Rattle.std.proofs.Common.{Some, None, arith, is_some}
+use Rattle.std.proofs.Common.{◌≡◌, ◌≢◌, ◌∙◌, refl, sym, ap, subst, ℕ, ◌^◌, ◌<◌, ◌≤◌, Bool, true, false, List, [], ◌∷◌, ◌++◌, length, Some}
+use Rattle.std.proofs.Common.{None, arith}
 use Rattle.std.specs.Prelude.{slice_get}
 use Rattle.std.specs.List.{AllByRecursion}
 use Rattle.std.proofs.lemmas.List.{append-nil}
@@ -57,7 +57,7 @@ use Rattle.osi_watched.proofs.sessions.steps_of_either_class_leave_all_standing.
 use Rattle.osi_watched.proofs.sessions.units_of_class_0_come_after_its_cc.{quiet_none}
 use Rattle.osi_watched.proofs.sessions.what_passes_leaves_all_standing.{IsReady}
 use Rattle.osi_watched.proofs.sessions.what_stands_of_a_connection.{Known, stands_other_none}
-use Rattle.osi_watched.proofs.sessions.what_the_stage_of_a_calling_end_says.{PassesOwn, adding, asking, own_unit}
+use Rattle.osi_watched.proofs.sessions.what_the_stage_of_a_calling_end_says.{PassesOwn, own_unit}
 
 -- ---- more is known
 
@@ -89,10 +89,7 @@ early_higher deeds b n end put begun coming c up below h = record {
 }
 
 up_higher : (b n : ℕ) (t : Sessions) → b ≤ n → AreUpTo Left b t → AreUpTo Left n t
-up_higher b n t h u = record {
-  live = λ i j r here named. let (some, low) = u.live i j r here named in (some, omega (arith, low, h));
-  done = λ i j r here named. let (some, low) = u.done i j r here named in (some, omega (arith, low, h));
-}
+up_higher b n t h u = grind arith
 
 pub undone_higher : (b n : ℕ) (deeds : ℕ → Deeds) (c : Carrier) → b ≤ n → AreUndone b deeds c → AreUndone n deeds c
 undone_higher b n deeds c up u r less = u r (omega (arith, up, less))
@@ -116,8 +113,7 @@ IsNeither (acknowledge credit n number) = Unit {0}
 IsNeither (error n cause) = Unit {0}
 
 never_own : {A : Type 0} (w : Whole) (v : Value) → IsNeither v → PassesOwn w v → A
-never_own w v h (asking x is class) = absurd (subst IsNeither is h)
-never_own w v h (adding end user is class seen) = absurd (subst IsNeither is h)
+never_own w v h h2 = grind arith
 
 -- ---- the stage of the whole end that runs along
 
@@ -145,15 +141,11 @@ module _ (local : Local) where
   -- ---- at the beginning
 
   none_open : (peer : ℕ) (given : Bool) → stage_there given None ≡ amid peer → ⊥
-  none_open peer true e = cc
-  none_open peer false e = cc
+  none_open peer given e = grind arith
 
   -- the references of CRs that have passed were given
   pub given_so : (j : Joint) (a : AreAhead first j) → j.holding.end.carrier.ended ≡ None → a.bound ≤ j.holding.end.carrier.given
-  given_so j a lasts =
-      let f = a.followed in
-      let same = f.like.lasts (none_of f.whole.end.ended (sym f.like.over ∙ ap is_some lasts)) in
-      subst (λ (c : Carrier). a.bound ≤ c.given) same a.above.given
+  given_so j a lasts = grind (arith, none_of)
 
   pub begin_early : (holding : Holding) → IsFresh true local holding → StandsUntilTwo (λ r. no_deeds) (begin holding)
   begin_early holding fresh = record {
@@ -206,13 +198,7 @@ module _ (local : Local) where
 
   begun_zero : (e : Direction) (end : Carrier) (coming : List Value) (c : Passed) → IsZeroAt end coming c →
       IsZeroAt end coming (packet_begins e c)
-  begun_zero e end coming c z = record {
-    r = z.r;
-    one = one_begins Left e z.r (IsGone end) c.traffic c.sessions z.one;
-    amid_is = z.amid_is;
-    ccs = z.ccs;
-    order = z.order;
-  }
+  begun_zero e end coming c z = grind (arith, one_begins)
 
   pub begins_own_early : AllProper → (deeds : ℕ → Deeds) (old new : Joint) → Steps Left begins_own old new →
       ((r : ℕ) → Course true r (deeds r) old.holding.end) →
@@ -349,13 +335,11 @@ module _ (local : Local) where
       }
 
   asking_class : (w : Whole) (x : Connect) → PassesOwn w (request x) → w.tap.course.class ≡ None
-  asking_class w x (asking y is class) = class
-  asking_class w x (adding end user is class seen) = absurd (cc is)
+  asking_class w x h = grind arith
 
   adding_class : (w : Whole) (end : Bool) (user : List ℕ) → PassesOwn w (data0 end user) →
       (w.tap.course.class ≡ Some Zero) × (w.tap.course.class_seen ≡ Some Zero)
-  adding_class w end user (asking y is class) = absurd (cc is)
-  adding_class w end user (adding last octets is class seen) = (class, seen)
+  adding_class w end user h = grind arith
 
   module _ (proper : AllProper) (deeds : ℕ → Deeds) (at : ℕ) (old : Joint) (put : List Value) (h : StandsUntilTwo deeds old) where
     abbrev end : Carrier

@@ -1,14 +1,12 @@
 -- What a calling end takes in a turn at a connection is the first of what is left over for it, if its CC has passed the tap, or nothing of
 -- what has come is for it, or it can open no more. And a DR in flight to it stays there as long as the end has it open.
 -- For all connections of an end and a tap.
-use Rattle.std.proofs.Common.{◌≡◌, ◌∙◌, ◌⊎◌, inl, inr, refl, sym, ap, subst, ℕ, ◌<◌, ◌≤◌, true, List, [], ◌++◌}
-use Rattle.std.proofs.Common.{Option, Some, None, arith, is_some}
+use Rattle.std.proofs.Common.{◌≡◌, ◌∙◌, ◌⊎◌, inl, inr, refl, sym, ap, subst, ℕ, ◌<◌, ◌≤◌, true, List, [], ◌++◌, Some, None, arith, is_some}
 use Rattle.std.specs.List.{AllByRecursion}
 use Rattle.osi_tpdu.specs.Value.{Value}
 use Rattle.osi_class.specs.Tsdus.{Part}
 use Rattle.osi_class.specs.declared.terms.Local.{Local}
 use Rattle.osi_carrier.specs.State.{State as Carrier}
-use Rattle.osi_carrier.specs.declared.ends.EndReason.{EndReason}
 use Rattle.osi_rules.specs.Traffic.{State}
 use Rattle.osi_fair.proofs.what_the_other_side_closes.{IsOngoing}
 use Rattle.osi_honest.specs.Courses.{Continues, Deeds, then_did, units_in}
@@ -34,11 +32,7 @@ early_not s e h = absurd (cc (sym e ∙ h))
 
 -- an end at which a connection may still open lasts
 pub early_lasts : (r : ℕ) (c : Carrier) → stage_at r c ≡ early → c.ended ≡ None
-early_lasts r c may = by c.ended refl
-  where
-    by : (o : Option EndReason) → c.ended ≡ o → c.ended ≡ None
-    by None e = e
-    by (Some reason) e = early_not (stage_at r c) may (stage_over r c (ap is_some e))
+early_lasts r c may = grind (arith, early_not, stage_at, stage_over)
 
 module _ (local : Local) (two : local.class2 ≡ true) where
   -- at a connection whose CC has passed and that has not opened, what has come awaits the CC

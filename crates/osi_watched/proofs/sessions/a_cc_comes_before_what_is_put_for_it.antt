@@ -1,14 +1,12 @@
 -- A CC that has its effect gives a reference that no connection has which the calling end has not closed. So none of the units that wait
 -- to pass are for this reference: each of them is for a connection whose CC has passed.
 -- For all connections of an end and a tap.
-use Rattle.std.proofs.Common.{◌≡◌, ◌∙◌, refl, sym, ap, ℕ, Bool, true, false, if◌then◌else◌, List, [], ◌∷◌, Option, Some, None}
-use Rattle.std.specs.Prelude.{◌==◌, ◌||◌, ◌&&◌, not, position, slice_get}
+use Rattle.std.proofs.Common.{◌≡◌, ◌∙◌, refl, ap, ℕ, Bool, true, false, if◌then◌else◌, List, [], ◌∷◌, Option, Some, arith}
+use Rattle.std.specs.Prelude.{◌==◌, ◌||◌, ◌&&◌, not, slice_get}
 use Rattle.std.specs.List.{AllByRecursion}
 use Rattle.std.proofs.lemmas.Bool.{eqb-true}
-use Rattle.osi_tpdu.specs.Value.{Connect, Value, acknowledge, confirm, data0, data2, destination_of, disconnect, disconnected, error}
-use Rattle.osi_tpdu.specs.Value.{request}
+use Rattle.osi_tpdu.specs.Value.{Connect, Value, confirm, destination_of}
 use Rattle.osi_class.specs.declared.terms.Class.{Class}
-use Rattle.osi_class.specs.declared.terms.Class.TheVariants.{Two, Zero}
 use Rattle.osi_judge.specs.declared.directions.Direction.TheVariants.{Left}
 use Rattle.osi_rules.specs.declared.connections.Connection.{Connection}
 use Rattle.osi_rules.specs.declared.directions.Direction.TheVariants as way
@@ -17,10 +15,10 @@ use Rattle.osi_rules.specs.declared.findings.Rule.TheVariants as rule
 use Rattle.osi_rules.specs.declared.halves.Phase.{Phase}
 use Rattle.osi_rules.specs.declared.halves.Phase.TheVariants as phase
 use Rattle.osi_rules.specs.Reaches.{is_applied}
-use Rattle.osi_rules.specs.Rows.{first_failed, given_again, is_inside, is_offered}
-use Rattle.osi_rules.specs.Sides.{is_closing, is_named, is_open, is_silent, uses}
-use Rattle.osi_rules.specs.Traffic.{Outcome, State, at_found, at_place, class_for, found, found_on, is_stopped, none_told, route, route_in}
-use Rattle.osi_rules.specs.Traffic.{in_doubt, routed, takes, unnamed_by, uses_source}
+use Rattle.osi_rules.specs.Rows.{first_failed, given_again}
+use Rattle.osi_rules.specs.Sides.{is_closing, is_open, uses}
+use Rattle.osi_rules.specs.Traffic.{Outcome, State, at_found, at_place, found_on, none_told, route_in, in_doubt, routed, takes, unnamed_by}
+use Rattle.osi_rules.specs.Traffic.{uses_source}
 use Rattle.osi_fair.proofs.each_connection_has_its_line.{IsOwned, asking, is_tracked, of, stray}
 use Rattle.osi_fair.proofs.what_holds_of_one_item.{none_true}
 use Rattle.osi_fair.proofs.which_units_are_for_a_connection.{picked_rest}
@@ -29,70 +27,44 @@ use Rattle.osi_watched.specs.ShownPlaces.{HaveSamePlaces, named_by}
 use Rattle.osi_watched.proofs.sessions.a_right_dt_has_one_place.{AreUsedApart, still_used}
 use Rattle.osi_watched.proofs.sessions.connections_have_the_same_places.{at_same}
 use Rattle.osi_watched.proofs.sessions.what_stands_of_a_connection.{is_for, waiting_for}
-use Rattle.osi_rules.specs.Traffic.{has_broken}
 
 -- ---- a CC that has its effect
 
 first_new : (a b i u loose z : Bool) → is_applied (first_failed ((a, Broke rule.WrongForm) ∷ (b, Broke rule.BadAnswer) ∷ (i, Outside)
     ∷ (u, given_again loose) ∷ (z, Broke rule.LargerSize) ∷ [])) ≡ true → u ≡ true
-first_new false b i u loose z h = absurd (cc h)
-first_new true false i u loose z h = absurd (cc h)
-first_new true true false u loose z h = absurd (cc h)
-first_new true true true false false z h = absurd (cc h)
-first_new true true true false true z h = absurd (cc h)
-first_new true true true true loose z h = refl
+first_new a b i u loose z h = grind arith
 
 not_so : (b : Bool) → not b ≡ true → b ≡ false
-not_so true h = absurd (cc)
-not_so false h = refl
+not_so b h = grind arith
 
 module _ (n : ℕ) (x : Connect) (s : State) where
   abbrev IsNew : Type 0
   IsNew = uses_source way.Right s.connections (confirm n x) ≡ false
 
   cc_on : (c : Connection) → is_applied (found_on way.Right s c (confirm n x)) ≡ true → IsNew
-  cc_on c applied = by c.is_judged applied
-    where
-      by : (b : Bool) → is_applied (if b then found way.Right s.course (uses_source way.Right s.connections (confirm n x)) c
-          (confirm n x) else NotJudged) ≡ true → IsNew
-      by true k =
-          not_so (uses_source way.Right s.connections (confirm n x))
-          (first_new (is_silent c.right.phase) (is_offered c.offer s.course.class x) (is_inside x)
-          (not (uses_source way.Right s.connections (confirm n x))) s.course.loose _ k)
-      by false k = absurd (cc k)
+  cc_on c applied = grind (arith, not_so, first_new)
 
   cc_nowhere : {A : Type 0} (loose strays : Bool) →
       is_applied (if loose then in_doubt (unnamed_by strays (confirm n x)) else unnamed_by strays (confirm n x)) ≡ true → A
-  cc_nowhere true true h = absurd (cc h)
-  cc_nowhere true false h = absurd (cc h)
-  cc_nowhere false true h = absurd (cc h)
-  cc_nowhere false false h = absurd (cc h)
+  cc_nowhere loose strays h = grind arith
 
   cc_here : (i : ℕ) (o : Option Connection) → is_applied (at_found way.Right (confirm n x) s i o).told.finding ≡ true → IsNew
-  cc_here i None applied = cc_nowhere s.course.loose s.course.strays applied
-  cc_here i (Some c) applied = cc_on c applied
+  cc_here i o applied = grind (arith, cc_nowhere, cc_on)
 
   cc_any : (o : Option ℕ) → is_applied (at_place way.Right (confirm n x) s o).told.finding ≡ true → IsNew
-  cc_any None applied = cc_nowhere s.course.loose s.course.strays applied
-  cc_any (Some i) applied = cc_here i (slice_get s.connections i) applied
+  cc_any o applied = grind (arith, cc_nowhere, cc_here)
 
   cc_routed : (k : Option Class) (b : Bool) →
       is_applied (routed way.Right (confirm n x) s (route_in k way.Right b (confirm n x))).told.finding ≡ true → IsNew
-  cc_routed None b applied = cc_any (position (is_named way.Right n) s.connections) applied
-  cc_routed (Some Zero) true applied = absurd (cc applied)
-  cc_routed (Some Zero) false applied = absurd (cc applied)
-  cc_routed (Some Two) b applied = cc_any (position (is_named way.Right n) s.connections) applied
+  cc_routed k b applied = grind (arith, cc_any)
 
   cc_goes : (b : Bool) (o : Outcome) → is_applied (if b then none_told way.Right NotJudged s else o).told.finding ≡ true →
       is_applied o.told.finding ≡ true
-  cc_goes true o applied = absurd (cc applied)
-  cc_goes false o applied = applied
+  cc_goes b o applied = grind arith
 
   pub cc_new : is_applied (takes way.Right (confirm n x) s).told.finding ≡ true →
       uses_source way.Right s.connections (confirm n x) ≡ false
-  cc_new applied =
-      cc_routed (class_for way.Right s.course) (has_broken way.Left s.course)
-      (cc_goes (is_stopped way.Right s.course) (routed way.Right (confirm n x) s (route way.Right s.course (confirm n x))) applied)
+  cc_new applied = grind (arith, cc_routed, cc_goes)
 
 -- ---- so no connection that is open has its reference
 
@@ -100,33 +72,20 @@ differ : {A : Type 0} (b : Bool) → b ≡ true → b ≡ false → A
 differ b h k = absurd (cc)
 
 both_so : (a b : Bool) → (a && b) ≡ true → (a ≡ true) × (b ≡ true)
-both_so true b h = (refl, h)
-both_so false b h = absurd (cc)
+both_so a b h = grind arith
 
 named_tracked : (p : Phase) (r : ℕ) → (is_open p || is_closing p) ≡ true → named_by p r ≡ Some r
-named_tracked phase.Silent r h = absurd (cc)
-named_tracked phase.Open r h = refl
-named_tracked phase.Refused r h = absurd (cc)
-named_tracked phase.Closing r h = refl
-named_tracked phase.Closed r h = absurd (cc)
+named_tracked p r h = grind arith
 
 unlike : (m n : ℕ) (b : Bool) → (m == n) ≡ b → (m ≡ n → ⊥) → b ≡ false
-unlike m n true e h = absurd (h (eqb-true m n e))
-unlike m n false e h = refl
+unlike m n b e h = grind (arith, eqb-true)
 
 some_same : (m n : ℕ) → Some m ≡ Some n → m ≡ n
 some_same m n e = cc
 
 -- a unit for another reference
 for_another : (n m : ℕ) (v : Value) → destination_of v ≡ Some m → (m ≡ n → ⊥) → is_for (Some n) v ≡ false
-for_another n m (request x) e other = refl
-for_another n m (confirm k x) e other = refl
-for_another n m (disconnect k source reason user) e other = refl
-for_another n m (disconnected k source) e other = refl
-for_another n m (data0 end user) e other = absurd (cc)
-for_another n m (data2 k number end user) e other = unlike k n (k == n) refl (λ same. other (sym (some_same k m e) ∙ same))
-for_another n m (acknowledge credit k number) e other = unlike k n (k == n) refl (λ same. other (sym (some_same k m e) ∙ same))
-for_another n m (error k cause) e other = refl
+for_another n m v e other = grind (arith, unlike, some_same)
 
 module _ (n : ℕ) (x : Connect) (s : State) (t : Sessions) (places : HaveSamePlaces s.connections t.live)
     (apart : AreUsedApart Left s.connections) (applied : is_applied (takes way.Right (confirm n x) s).told.finding ≡ true) where

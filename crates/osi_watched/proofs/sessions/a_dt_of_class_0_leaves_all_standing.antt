@@ -1,7 +1,6 @@
 -- What passes of class 0 leaves all connections of an end standing at a tap: a unit of the end that is no break, and one of the other
 -- side that is none or is passed over. For the session of the connection of an end in class 0.
-use Rattle.std.proofs.Common.{◌≡◌, ◌∙◌, arith, Option, inl, inr, refl, sym, ap, subst, ℕ, Bool, true, false, List, [], ◌∷◌, ◌++◌, Some}
-use Rattle.std.proofs.Common.{None}
+use Rattle.std.proofs.Common.{◌≡◌, ◌∙◌, arith, Option, refl, sym, ap, ℕ, Bool, true, false, List, [], ◌∷◌, ◌++◌, Some, None}
 use Rattle.std.specs.Prelude.{is_some, slice_get}
 use Rattle.osi_tpdu.specs.Value.{Value, acknowledge, confirm, data0, data2, disconnect, disconnected, error, request}
 use Rattle.osi_class.specs.Tsdus.{Part}
@@ -37,15 +36,13 @@ use Rattle.osi_watched.proofs.sessions.all_connections_stand.{AllStand, Leaves, 
 use Rattle.osi_watched.proofs.sessions.connections_have_the_same_places.{unit_joins, unit_knows}
 use Rattle.osi_watched.proofs.sessions.right_units_leave_all_standing.{StaysElsewhere, other_close, own_close, rests_on}
 use Rattle.osi_watched.proofs.sessions.what_a_tap_shows_goes_on.{named_added}
-use Rattle.osi_watched.proofs.sessions.what_stands_of_a_connection.{Known, Stands, lives, past, stands_elsewhere, stands_other_none}
-use Rattle.osi_watched.proofs.sessions.what_stands_of_a_connection.{stands_other_part, stands_part, unnamed}
-use Rattle.osi_rules.specs.Traffic.{has_broken}
+use Rattle.osi_watched.proofs.sessions.what_stands_of_a_connection.{Known, Stands, stands_elsewhere, stands_other_none, stands_other_part}
+use Rattle.osi_watched.proofs.sessions.what_stands_of_a_connection.{stands_part}
 
 -- ---- small facts
 
 kept_of : (f : Finding) → IsClear f → IsNoBreak f → f ≡ Kept
-kept_of f (inl is) none = is
-kept_of f (inr (r, is)) none = absurd (subst IsNoBreak is none)
+kept_of f h none = grind arith
 
 no_place : {A : Type 0} (i : ℕ) → Some i ≡ None → A
 no_place i e = absurd (cc)
@@ -58,9 +55,7 @@ same_one c e h = cc
 
 stands_room : (d : Direction) (deeds : ℕ → Deeds) (known : Known) (put : List Value) (b : Bool) (c : Connection) (j : Joined) →
     Stands d deeds known put b c j → j.room ≡ All
-stands_room d deeds known put b c j (unnamed none mine theirs room) = room
-stands_room d deeds known put b c j (lives r o is live later sure h) = h.room
-stands_room d deeds known put b c j (past r closed waiting later sure h) = h.room
+stands_room d deeds known put b c j h = grind arith
 
 -- ---- a DT of either side has its place
 
@@ -80,16 +75,13 @@ module _ (d e : Direction) (deeds : ℕ → Deeds) (known : Known) (put : List V
   -- the connection at its place is open for both sides
   here_open : (p : ℕ) (c : Connection) → (takes (way_of e) (data0 end user) s).told.place ≡ Some p → slice_get s.connections p ≡ Some c →
       c ≡ z.only.connection
-  here_open p c place there =
-      same_one c z.only.connection (sym there
-      ∙ ap (slice_get s.connections) (sym (same_place z.only.place p (sym told_there ∙ place))) ∙ z.only.there)
+  here_open p c place there = grind (arith, same_one, same_place, told_there)
 
   -- no other one is
   elsewhere_none : (p i : ℕ) (c : Connection) (j : Joined) → (i ≡ p → ⊥) → (takes (way_of e) (data0 end user) s).told.place ≡ Some p →
       slice_get s.connections i ≡ Some c → IsOneOf c j → is_open (own (way_of d) c).phase ≡ true →
       is_some (reference_of (other d) j) ≡ false
-  elsewhere_none p i c j apart place there one live =
-      other_none d c j one (z.only.others i c there (λ h. apart (h ∙ same_place z.only.place p (sym told_there ∙ place)))) live
+  elsewhere_none p i c j apart place there one live = grind (arith, other_none, same_place, told_there)
 
 -- ---- of the end
 
@@ -180,24 +172,10 @@ Breaks (error n cause) = ⊥
 
 pub routed_breaks : {A : Type 0} (d : Way) (b : Bool) (v : Value) (s : State) → Breaks v →
     IsMild v (routed d v s (route_zero d b v)).told.finding → A
-routed_breaks way.Left b (request x) s h none = absurd none
-routed_breaks way.Left b (confirm n x) s h none = absurd none
-routed_breaks way.Left b (disconnect n source reason user) s h none = absurd none
-routed_breaks way.Left b (data2 n number end user) s h none = absurd none
-routed_breaks way.Left b (acknowledge credit n number) s h none = absurd none
-routed_breaks way.Right b (request x) s h none = absurd none
-routed_breaks way.Right b (confirm n x) s h none = absurd none
-routed_breaks way.Right b (disconnect n source reason user) s h none = absurd none
-routed_breaks way.Right b (data2 n number end user) s h none = absurd none
-routed_breaks way.Right b (acknowledge credit n number) s h none = absurd none
-routed_breaks d b (data0 end user) s h none = absurd h
-routed_breaks d b (disconnected n source) s h none = absurd h
-routed_breaks d b (error n cause) s h none = absurd h
+routed_breaks d b v s h none = grind arith
 
 is_break : {A : Type 0} (e : Direction) (v : Value) (s : State) → IsZero e s → Breaks v → IsMild v (takes (way_of e) v s).told.finding → A
-is_break e v s z h mild =
-    routed_breaks (way_of e) (has_broken (sides.other (way_of e)) s.course) v s h
-    (subst (λ (o : Outcome). IsMild v o.told.finding) (zero_takes (way_of e) v s z.goes z.zero) mild)
+is_break e v s z h mild = grind (arith, routed_breaks, zero_takes)
 
 own_break : {A : Type 0} (e : Direction) (v : Value) (s : State) → IsZero e s → Breaks v → IsNoBreak (takes (way_of e) v s).told.finding → A
 own_break e v s z h none = is_break e v s z h (mild_of v (takes (way_of e) v s).told.finding none)
@@ -207,9 +185,7 @@ zero_part : (k : Option Class) (f : Finding) → k ≡ Some Zero → reach_of k 
 zero_part k f zero h = grind arith
 
 zero_loses : (d e : Direction) (v : Value) (s : State) (t : Sessions) → IsZero e s → Loses d e v s t
-zero_loses d e v s t z p c j place there here one judged far =
-    absurd (zero_part (class_for (way_of e) s.course) (takes (way_of e) v s).told.finding z.zero
-    (sym (takes_reach (way_of e) v s).far ∙ far))
+zero_loses d e v s t z p c j place there here one judged far = grind (arith, zero_part, takes_reach)
 
 -- ---- a unit of the end
 
@@ -217,12 +193,9 @@ own_goes : (d : Direction) (deeds : ℕ → Deeds) (known : Known) (at : ℕ) (v
     IsZero d s → IsNoBreak (takes (way_of d) v s).told.finding → AllStand d deeds known (v ∷ rest) true s t →
     Leaves d deeds known known (v ∷ rest) rest true false d at v s t
 own_goes d deeds known at (data0 end user) rest s t z none a =
-    own_dt d deeds known at end user rest s t a z (kept_of (takes (way_of d) (data0 end user) s).told.finding
-    (dt_clear (way_of d) (data0 end user) end s refl z.goes z.firm a.judged) none)
-own_goes d deeds known at (disconnected n source) rest s t z none a =
-    own_close d deeds known at (disconnected n source) rest s t a (λ b. tt) (λ o. refl) (λ x e. cc e)
-own_goes d deeds known at (error n cause) rest s t z none a =
-    own_close d deeds known at (error n cause) rest s t a (λ b. tt) (λ o. refl) (λ x e. cc e)
+    search (arith, own_dt, kept_of, dt_clear (way_of d) (data0 end user) end s refl z.goes z.firm a.judged)
+own_goes d deeds known at (disconnected n source) rest s t z none a = grind (arith, own_close)
+own_goes d deeds known at (error n cause) rest s t z none a = grind (arith, own_close)
 own_goes d deeds known at (request x) rest s t z none a = own_break d (request x) s z tt none
 own_goes d deeds known at (confirm n x) rest s t z none a = own_break d (confirm n x) s z tt none
 own_goes d deeds known at (disconnect n source reason user) rest s t z none a = own_break d (disconnect n source reason user) s z tt none
@@ -233,11 +206,7 @@ pub own_stands : (d : Direction) (deeds : ℕ → Deeds) (known : Known) (at : �
     IsZero d c.traffic → IsNoBreak (takes (way_of d) v c.traffic).told.finding →
     AllStand d deeds known (v ∷ rest) true c.traffic c.sessions →
     AllStand d deeds known rest false (unit_passes d at v c).traffic (unit_passes d at v c).sessions
-own_stands d deeds known at v rest c z none a =
-    subst (λ (s : State). AllStand d deeds known rest false s (unit_passes d at v c).sessions) (sym (unit_knows d at v c))
-    (subst (λ (t : Sessions). AllStand d deeds known rest false (takes (way_of d) v c.traffic).state t) (sym (unit_joins d at v c))
-    (all_after d deeds known known (v ∷ rest) rest true false d at v c.traffic c.sessions a
-    (own_goes d deeds known at v rest c.traffic c.sessions z none a) (zero_loses d d v c.traffic c.sessions z)))
+own_stands d deeds known at v rest c z none a = search (arith, unit_knows, unit_joins, all_after, own_goes, zero_loses)
 
 -- ---- a unit of the other side
 
@@ -250,30 +219,18 @@ other_goes : (d : Direction) (deeds : ℕ → Deeds) (known then_known : Known) 
     IsHeardZero d known then_known v s t → AllStand d deeds known put b s t →
     Leaves d deeds known then_known put put b b (other d) at v s t
 other_goes d deeds known then_known at (data0 end user) put b s t z mild heard a =
-    other_dt d deeds known then_known at end user put b s t a z
-    (applied_of (data0 end user) (takes (way_of (other d)) (data0 end user) s).told.finding (λ dr. dr)
-    (dt_clear (way_of (other d)) (data0 end user) end s refl z.goes z.firm a.judged) mild) heard
-other_goes d deeds known then_known at (disconnected n source) put b s t z mild heard a =
-    other_close d deeds known then_known at (disconnected n source) put b s t a (λ x. tt) (λ x e. cc e) heard
-other_goes d deeds known then_known at (error n cause) put b s t z mild heard a =
-    other_close d deeds known then_known at (error n cause) put b s t a (λ x. tt) (λ x e. cc e) heard
+    search (arith, other_dt, applied_of, dt_clear (way_of (other d)) (data0 end user) end s refl z.goes z.firm a.judged)
+other_goes d deeds known then_known at (disconnected n source) put b s t z mild heard a = grind (arith, other_close)
+other_goes d deeds known then_known at (error n cause) put b s t z mild heard a = grind (arith, other_close)
 other_goes d deeds known then_known at (request x) put b s t z mild heard a = is_break (other d) (request x) s z tt mild
 other_goes d deeds known then_known at (confirm n x) put b s t z mild heard a = is_break (other d) (confirm n x) s z tt mild
-other_goes d deeds known then_known at (disconnect n source reason user) put b s t z mild heard a =
-    is_break (other d) (disconnect n source reason user) s z tt mild
-other_goes d deeds known then_known at (data2 n number end user) put b s t z mild heard a =
-    is_break (other d) (data2 n number end user) s z tt mild
-other_goes d deeds known then_known at (acknowledge credit n number) put b s t z mild heard a =
-    is_break (other d) (acknowledge credit n number) s z tt mild
+other_goes d deeds known then_known at (disconnect n source reason user) put b s t z mild heard a = grind (arith, is_break)
+other_goes d deeds known then_known at (data2 n number end user) put b s t z mild heard a = grind (arith, is_break)
+other_goes d deeds known then_known at (acknowledge credit n number) put b s t z mild heard a = grind (arith, is_break)
 
 pub other_stands : (d : Direction) (deeds : ℕ → Deeds) (known then_known : Known) (at : ℕ) (v : Value) (put : List Value) (b : Bool)
     (c : Course) → IsZero (other d) c.traffic → IsMild v (takes (way_of (other d)) v c.traffic).told.finding →
     IsHeardZero d known then_known v c.traffic c.sessions → AllStand d deeds known put b c.traffic c.sessions →
     AllStand d deeds then_known put b (unit_passes (other d) at v c).traffic (unit_passes (other d) at v c).sessions
 other_stands d deeds known then_known at v put b c z mild heard a =
-    subst (λ (s : State). AllStand d deeds then_known put b s (unit_passes (other d) at v c).sessions) (sym (unit_knows (other d) at v c))
-    (subst (λ (t : Sessions). AllStand d deeds then_known put b (takes (way_of (other d)) v c.traffic).state t)
-    (sym (unit_joins (other d) at v c))
-    (all_after d deeds known then_known put put b b (other d) at v c.traffic c.sessions a
-    (other_goes d deeds known then_known at v put b c.traffic c.sessions z mild heard a)
-    (zero_loses d (other d) v c.traffic c.sessions z)))
+    search (arith, unit_knows, unit_joins, all_after, other_goes, zero_loses)

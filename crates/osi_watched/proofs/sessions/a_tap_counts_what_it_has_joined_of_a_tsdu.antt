@@ -1,19 +1,18 @@
 -- The rules of transport count as many octets of the unfinished TSDU of each side as a tap has joined of it, at each place, whatever
 -- passes.
 -- For a TSDU of the other side that becomes too long.
-use Rattle.std.proofs.Common.{◌≡◌, ◌∙◌, ◌⊎◌, inl, inr, refl, sym, ap, subst, ℕ, zero, suc, ◌+◌, ◌≤◌, Bool, true, false, if◌then◌else◌}
-use Rattle.std.proofs.Common.{List, [], ◌∷◌}
-use Rattle.std.proofs.Common.{◌++◌, map, min, not, length, nat_le, Some, is_some, arith}
+use Rattle.std.proofs.Common.{◌≡◌, ◌∙◌, ◌⊎◌, inl, inr, refl, sym, ap, subst, ℕ, zero, suc, ◌+◌, ◌≤◌, Bool, true, false, if◌then◌else◌, List}
+use Rattle.std.proofs.Common.{[], ◌∷◌, ◌++◌, map, length, nat_le, Some, is_some, arith}
 use Rattle.std.proofs.lemmas.Bool.{leb-true}
 use Rattle.std.proofs.lemmas.List.{length-append}
 use Rattle.std.proofs.lemmas.Option.{slice_get_within}
-use Rattle.std.specs.Prelude.{◌==◌, set, slice_get}
+use Rattle.std.specs.Prelude.{set, slice_get}
 use Rattle.osi_tpdu.specs.Value.{Connect, Value, acknowledge, confirm, data0, data2, disconnect, disconnected, error, request}
 use Rattle.osi_class.specs.Limits.{longest_tsdu}
 use Rattle.osi_class.specs.declared.terms.Class.{Class}
 use Rattle.osi_judge.specs.Captures.{other}
 use Rattle.osi_judge.specs.declared.directions.Direction.{Direction}
-use Rattle.osi_judge.specs.declared.directions.Direction.TheVariants.{Left, Right}
+use Rattle.osi_judge.specs.declared.directions.Direction.TheVariants.{Left}
 use Rattle.osi_rules.specs.declared.connections.Connection.{Connection}
 use Rattle.osi_rules.specs.declared.findings.Finding.{Finding}
 use Rattle.osi_rules.specs.declared.findings.Finding.TheVariants.{Broke, NotJudged}
@@ -22,21 +21,20 @@ use Rattle.osi_rules.specs.declared.findings.Reach.TheVariants as reach
 use Rattle.osi_rules.specs.declared.findings.Rule.TheVariants as rule
 use Rattle.osi_rules.specs.declared.halves.Half.{Half}
 use Rattle.osi_rules.specs.Reaches.{is_applied}
-use Rattle.osi_rules.specs.Rows.{Test, data0_tests, data2_tests, first_failed, fits_size, fits_tsdu, has_credit, is_tellable}
-use Rattle.osi_rules.specs.Sides.{begins, is_open, is_silent, own}
+use Rattle.osi_rules.specs.Rows.{Test, first_failed}
+use Rattle.osi_rules.specs.Sides.{begins, is_silent, own}
 use Rattle.osi_rules.specs.Traffic as traffic
 use Rattle.osi_rules.specs.Traffic.{State, asked_by, begun_after, closing_phase, connection_after, found_on, half_after, judged_on}
 use Rattle.osi_rules.specs.Traffic.{meaning_if, meant, takes}
 use Rattle.osi_fair.proofs.what_holds_of_one_item.{after_add}
 use Rattle.osi_fair.proofs.while_no_class_is_selected.{after_change}
-use Rattle.osi_tap.specs.declared.rooms.Room.{Room}
 use Rattle.osi_tap.specs.declared.rooms.Room.TheVariants.{All}
 use Rattle.osi_tap.specs.Connections.{Joined, Sessions, adds, asked, packet_begins, spoken, taken, user_of}
 use Rattle.osi_tap.specs.Connections as joined
 use Rattle.osi_tap.specs.declared.marks.Cause.{Cause}
-use Rattle.osi_tap.specs.Courses.{Course, fresh, marks_of, moved, unit_passes, unread_mark, unread_moment, way_of}
+use Rattle.osi_tap.specs.Courses.{Course, fresh, marks_of, unit_passes, way_of}
 use Rattle.osi_tap.specs.Lines.{Spoken, added, begun_octets}
-use Rattle.osi_tap.specs.Rooms.{fits, spent}
+use Rattle.osi_tap.specs.Rooms.{fits}
 use Rattle.osi_watched.specs.ShownPlaces.{HaveSamePlaces}
 use Rattle.osi_watched.proofs.a_break_ends_no_judging_or_all.{refused_traffic, refuses, unread_if}
 use Rattle.osi_watched.proofs.small_facts_that_many_lemmas_use.{same_one}
@@ -62,49 +60,27 @@ le_so m n h = leb-true m n h
 
 -- the test is among these, before those that are passed over
 first_fits : (fits : Bool) (more : List Test) → is_applied (first_failed ((fits, Broke rule.TsduTooLong) ∷ more)) ≡ true → fits ≡ true
-first_fits true more h = refl
-first_fits false more h = absurd (cc)
+first_fits fits more h = grind arith
 
 open_fits : (a b x y fits : Bool) (more : List Test) →
     is_applied (first_failed ((a, Broke rule.UnknownReference) ∷ (b, Broke rule.Closed) ∷ (x, Broke rule.OutOfSequence)
     ∷ (y, Broke rule.OutOfSequence) ∷ (fits, Broke rule.TsduTooLong) ∷ more)) ≡ true → fits ≡ true
-open_fits true true true true fits more h = first_fits fits more h
-open_fits false b x y fits more h = absurd (cc)
-open_fits true false x y fits more h = absurd (cc)
-open_fits true true false y fits more h = absurd (cc)
-open_fits true true true false fits more h = absurd (cc)
+open_fits a b x y fits more h = grind (arith, first_fits)
 
 judged_applied : (b : Bool) (f : Finding) → is_applied (if b then f else NotJudged) ≡ true → is_applied f ≡ true
-judged_applied true f h = h
-judged_applied false f h = absurd (cc)
+judged_applied b f h = grind arith
 
 -- ---- one connection
 
 judged_own : (d : Direction) (r : Reach) (c : Connection) → own (way_of d) (judged_on r c) ≡ own (way_of d) c
-judged_own Left reach.Nothing c = refl
-judged_own Left reach.Connection c = refl
-judged_own Left reach.Side c = refl
-judged_own Left reach.Everything c = refl
-judged_own Right reach.Nothing c = refl
-judged_own Right reach.Connection c = refl
-judged_own Right reach.Side c = refl
-judged_own Right reach.Everything c = refl
+judged_own d r c = grind arith
 
 closing_begun : (b : Bool) (half : Half) → (closing_phase b half).begun ≡ half.begun
-closing_begun true half = refl
-closing_begun false half = refl
+closing_begun b half = grind arith
 
 added_begun : (at : ℕ) (end : Bool) (octets : List ℕ) (half : Half) (s : Spoken) → half.begun ≡ length (begun_octets s.begun) →
     half.begun + length octets ≤ longest_tsdu → begun_after half end (length octets) ≡ length (begun_octets (added at end octets s).begun)
-added_begun at true octets half s h few = refl
-added_begun at false octets half s h few =
-    let n = length-append (begun_octets s.begun) octets in
-    at_most (half.begun + length octets) longest_tsdu few
-    ∙ (let same : half.begun + length octets ≡ length (begun_octets s.begun ++ octets) =
-    omega (arith, n, h) in same)
-  where
-    at_most : (m n : ℕ) → m ≤ n → min m n ≡ m
-    at_most m n less = omega (arith, less)
+added_begun at end octets half s h few = grind (arith, length-append)
 
 -- what a DT adds
 record Adds (d : Direction) (at : ℕ) (end : Bool) (octets : List ℕ) (j new : Joined) : Type 0 where
@@ -114,29 +90,11 @@ record Adds (d : Direction) (at : ℕ) (end : Bool) (octets : List ℕ) (j new :
 
 adds_there : (d : Direction) (at : ℕ) (end : Bool) (octets : List ℕ) (j : Joined) → j.room ≡ All →
     Adds d at end octets j (adds d at end octets j)
-adds_there Left at end octets j all = record {
-  mine = ap (λ (r : Room). (joined.adds_if (fits r (length octets)) (spent r (length octets)) Left at end octets j).left) all;
-  theirs = ap (λ (r : Room). (joined.adds_if (fits r (length octets)) (spent r (length octets)) Left at end octets j).right) all;
-  room = ap (λ (r : Room). (joined.adds_if (fits r (length octets)) (spent r (length octets)) Left at end octets j).room) all;
-}
-adds_there Right at end octets j all = record {
-  mine = ap (λ (r : Room). (joined.adds_if (fits r (length octets)) (spent r (length octets)) Right at end octets j).right) all;
-  theirs = ap (λ (r : Room). (joined.adds_if (fits r (length octets)) (spent r (length octets)) Right at end octets j).left) all;
-  room = ap (λ (r : Room). (joined.adds_if (fits r (length octets)) (spent r (length octets)) Right at end octets j).room) all;
-}
+adds_there d at end octets j all = grind arith
 
 -- its two sides
 each_side : (d : Direction) (c : Connection) (j : Joined) → IsCountedOf d c j → IsCountedOf (other d) c j → j.room ≡ All → IsCounted c j
-each_side Left c j mine theirs room = record { of = λ e. by e; room = room }
-  where
-    by : (e : Direction) → IsCountedOf e c j
-    by Left = mine
-    by Right = theirs
-each_side Right c j mine theirs room = record { of = λ e. by e; room = room }
-  where
-    by : (e : Direction) → IsCountedOf e c j
-    by Left = theirs
-    by Right = mine
+each_side d c j mine theirs room = grind arith
 
 module _ (d : Direction) (at : ℕ) (v : Value) (r : Reach) (c : Connection) (j : Joined) (h : IsCounted c j) where
   -- what is joined stays
@@ -150,13 +108,7 @@ module _ (d : Direction) (at : ℕ) (v : Value) (r : Reach) (c : Connection) (j 
 
   stays : (b : Bool) (new : Joined) → Same new → (own (way_of d) (connection_after (way_of d) v b r c)).begun ≡ (own (way_of d) c).begun →
       IsCounted (connection_after (way_of d) v b r c) new
-  stays b new s same =
-      each_side d (connection_after (way_of d) v b r c) new (same ∙ h.of d ∙ ap length (sym s.mine))
-      (ap (λ (x : Half). x.begun) (theirs_same d b) ∙ h.of (other d) ∙ ap length (sym s.theirs)) (s.room ∙ h.room)
-    where
-      theirs_same : (d : Direction) (b : Bool) → own (way_of (other d)) (connection_after (way_of d) v b r c) ≡ own (way_of (other d)) c
-      theirs_same Left b = other_after Right v b r c
-      theirs_same Right b = other_after Left v b r c
+  stays b new s same = search (arith, each_side, other_after)
 
   applied_same : (new : Joined) → Same new → (half_after v (own (way_of d) c)).begun ≡ (own (way_of d) c).begun →
       IsCounted (connection_after (way_of d) v true r c) new
@@ -166,68 +118,35 @@ module _ (d : Direction) (at : ℕ) (v : Value) (r : Reach) (c : Connection) (j 
       (own (way_of d) c).begun + length (user_of v) ≤ longest_tsdu →
       IsCounted (connection_after (way_of d) v true r c) (adds d at end (user_of v) j)
   data_added end is few =
-      let a = adds_there d at end (user_of v) j h.room in
-      each_side d (connection_after (way_of d) v true r c) (adds d at end (user_of v) j)
-      (ap (λ (x : Half). x.begun) (own_after d v r c) ∙ is
-      ∙ added_begun at end (user_of v) (own (way_of d) c) (spoken d j) (h.of d) few
-      ∙ ap (λ (s : Spoken). length (begun_octets s.begun)) (sym a.mine))
-      (ap (λ (x : Half). x.begun) (theirs_same d) ∙ h.of (other d) ∙ ap (λ (s : Spoken). length (begun_octets s.begun)) (sym a.theirs))
-      a.room
-    where
-      theirs_same : (d : Direction) → own (way_of (other d)) (connection_after (way_of d) v true r c) ≡ own (way_of (other d)) c
-      theirs_same Left = other_after Right v true r c
-      theirs_same Right = other_after Left v true r c
+      search (
+        arith,
+        each_side,
+        adds_there d at end (user_of v) j h.room,
+        own_after d v r c,
+        added_begun at end (user_of v) (own (way_of d) c) (spoken d j) (h.of d) few,
+        other_after Left v true r c,
+      )
 
 shut_same : (d : Direction) (at : ℕ) (v : Value) (r : Reach) (c : Connection) (j : Joined) (h : IsCounted c j) →
     Same d at v r c j h (joined.shut j)
-shut_same Left at v r c j h = record { mine = refl; theirs = refl; room = refl }
-shut_same Right at v r c j h = record { mine = refl; theirs = refl; room = refl }
+shut_same d at v r c j h = grind arith
 
 opened_same : (d : Direction) (at : ℕ) (v : Value) (r : Reach) (c : Connection) (j : Joined) (h : IsCounted c j) (n : ℕ) (k : Class) →
     Same d at v r c j h (joined.opened n k j)
-opened_same Left at v r c j h n k = record { mine = refl; theirs = refl; room = refl }
-opened_same Right at v r c j h n k = record { mine = refl; theirs = refl; room = refl }
+opened_same d at v r c j h n k = grind arith
 
 found_data0 : (d : Direction) (s : State) (c : Connection) (end : Bool) (user : List ℕ) →
     is_applied (found_on (way_of d) s c (data0 end user)) ≡ true → (own (way_of d) c).begun + length user ≤ longest_tsdu
-found_data0 d s c end user h = by d h
-  where
-    so : (d : Direction) → is_applied (if c.is_judged then first_failed (data0_tests (way_of d) c (length user)) else NotJudged) ≡ true →
-        (own (way_of d) c).begun + length user ≤ longest_tsdu
-    so d h =
-        le_so ((own (way_of d) c).begun + length user) longest_tsdu
-        (first_fits (fits_tsdu (way_of d) c (length user)) ((fits_size c.size (length user + 3), Broke rule.SizeExceeded) ∷ [])
-        (judged_applied c.is_judged (first_failed (data0_tests (way_of d) c (length user))) h))
-
-    by : (d : Direction) → is_applied (found_on (way_of d) s c (data0 end user)) ≡ true →
-        (own (way_of d) c).begun + length user ≤ longest_tsdu
-    by Left h = so Left h
-    by Right h = so Right h
+found_data0 d s c end user h = grind (arith, le_so, first_fits, judged_applied)
 
 found_data2 : (d : Direction) (s : State) (c : Connection) (n number : ℕ) (end : Bool) (user : List ℕ) →
     is_applied (found_on (way_of d) s c (data2 n number end user)) ≡ true → (own (way_of d) c).begun + length user ≤ longest_tsdu
-found_data2 d s c n number end user h = by d h
-  where
-    so : (d : Direction) →
-        is_applied (if c.is_judged then first_failed (data2_tests (way_of d) c number (length user)) else NotJudged) ≡ true →
-        (own (way_of d) c).begun + length user ≤ longest_tsdu
-    so d h =
-        le_so ((own (way_of d) c).begun + length user) longest_tsdu
-        (open_fits (not (is_silent (own (way_of d) c).phase)) (is_open (own (way_of d) c).phase) (number == (own (way_of d) c).next)
-        (is_tellable (way_of d) c) (fits_tsdu (way_of d) c (length user))
-        ((has_credit (way_of d) c, Broke rule.NoCredit) ∷ (fits_size c.size (length user + 5), Broke rule.SizeExceeded) ∷ [])
-        (judged_applied c.is_judged (first_failed (data2_tests (way_of d) c number (length user))) h))
-
-    by : (d : Direction) → is_applied (found_on (way_of d) s c (data2 n number end user)) ≡ true →
-        (own (way_of d) c).begun + length user ≤ longest_tsdu
-    by Left h = so Left h
-    by Right h = so Right h
+found_data2 d s c n number end user h = grind (arith, le_so, open_fits, judged_applied)
 
 counted_after : (d : Direction) (at : ℕ) (v : Value) (s : State) (b : Bool) (r : Reach) (c : Connection) (j : Joined) →
     is_applied (found_on (way_of d) s c v) ≡ b → IsCounted c j →
     IsCounted (connection_after (way_of d) v b r c) (joined.meant d at v (meaning_if b (meant v)) j)
-counted_after d at v s false r c j is h =
-    stays d at v r c j h false j (none_same d at v r c j h) (ap (λ (x : Half). x.begun) (judged_own d r c))
+counted_after d at v s false r c j is h = grind (arith, stays, none_same, judged_own)
 counted_after d at (request x) s true r c j is h = applied_same d at (request x) r c j h j (none_same d at (request x) r c j h) refl
 counted_after d at (confirm n x) s true r c j is h =
     applied_same d at (confirm n x) r c j h _
@@ -235,14 +154,10 @@ counted_after d at (confirm n x) s true r c j is h =
 counted_after d at (disconnect n source reason user) s true r c j is h =
     applied_same d at (disconnect n source reason user) r c j h (joined.shut j) (shut_same d at (disconnect n source reason user) r c j h)
     (closing_begun (is_silent (own (way_of d) c).phase) (own (way_of d) c))
-counted_after d at (disconnected n source) s true r c j is h =
-    applied_same d at (disconnected n source) r c j h j (none_same d at (disconnected n source) r c j h) refl
-counted_after d at (data0 end user) s true r c j is h =
-    data_added d at (data0 end user) r c j h end refl (found_data0 d s c end user is)
-counted_after d at (data2 n number end user) s true r c j is h =
-    data_added d at (data2 n number end user) r c j h end refl (found_data2 d s c n number end user is)
-counted_after d at (acknowledge credit n number) s true r c j is h =
-    applied_same d at (acknowledge credit n number) r c j h j (none_same d at (acknowledge credit n number) r c j h) refl
+counted_after d at (disconnected n source) s true r c j is h = search (arith, applied_same, none_same)
+counted_after d at (data0 end user) s true r c j is h = search (arith, data_added, found_data0)
+counted_after d at (data2 n number end user) s true r c j is h = search (arith, data_added, found_data2)
+counted_after d at (acknowledge credit n number) s true r c j is h = search (arith, applied_same, none_same)
 counted_after d at (error n cause) s true r c j is h =
     applied_same d at (error n cause) r c j h (joined.shut j) (shut_same d at (error n cause) r c j h) refl
 
@@ -259,14 +174,7 @@ module _ (d : Direction) (at : ℕ) (v : Value) (s : State) (t : Sessions) (a : 
   Counts cs js = (i : ℕ) (c : Connection) (j : Joined) → slice_get cs i ≡ Some c → slice_get js i ≡ Some j → IsCounted c j
 
   at_change : (p : ℕ) (c : Connection) (j : Joined) → IsCounted c j → Counts (set s.connections p c) (set t.live p j)
-  at_change p c j h i x y there here = by (after_change s.connections p i c x there) (after_change t.live p i j y here)
-    where
-      by : ((i ≡ p) × (x ≡ c)) ⊎ ((i ≡ p → ⊥) × (slice_get s.connections i ≡ Some x)) →
-          ((i ≡ p) × (y ≡ j)) ⊎ ((i ≡ p → ⊥) × (slice_get t.live i ≡ Some y)) → IsCounted x y
-      by (inl (m, so)) (inl (n, same)) = subst (λ (z : Connection). IsCounted z y) (sym so) (subst (IsCounted c) (sym same) h)
-      by (inl (m, so)) (inr (n, same)) = absurd (n m)
-      by (inr (m, so)) (inl (n, same)) = absurd (m n)
-      by (inr (m, so)) (inr (n, same)) = a.each i x y so same
+  at_change p c j h i x y there here = search (arith, after_change s.connections p i c x there, after_change t.live p i j y here)
 
   at_end : (c : Connection) (j : Joined) → IsCounted c j → Counts (s.connections ++ c ∷ []) (t.live ++ j ∷ [])
   at_end c j h i x y there here = by (after_add s.connections i c x there) (after_add t.live i j y here)
@@ -282,11 +190,7 @@ module _ (d : Direction) (at : ℕ) (v : Value) (s : State) (t : Sessions) (a : 
       by (inr so) (inr same) = a.each i x y so same
 
   asked_counted : (x : Connect) (number : ℕ) → IsCounted (asked_by x) (asked number x.source t.room)
-  asked_counted x number = record { of = λ e. by e; room = a.room }
-    where
-      by : (e : Direction) → IsCountedOf e (asked_by x) (asked number x.source t.room)
-      by Left = refl
-      by Right = refl
+  asked_counted x number = grind arith
 
   abbrev then_places : HaveSamePlaces (takes (way_of d) v s).state.connections
       (taken d at v (takes (way_of d) v s).told.meaning (takes (way_of d) v s).told.place t).live
@@ -294,13 +198,7 @@ module _ (d : Direction) (at : ℕ) (v : Value) (s : State) (t : Sessions) (a : 
 
   unit_counts : Does d at v s t (takes (way_of d) v s) →
       AreCounted (takes (way_of d) v s).state (taken d at v (takes (way_of d) v s).told.meaning (takes (way_of d) v s).told.place t)
-  unit_counts (nowhere place same left) = record {
-    places = then_places;
-    each = λ i c j there here.
-        a.each i c j (ap (λ (l : List Connection). slice_get l i) (sym same) ∙ there)
-        (ap (λ (x : Sessions). slice_get x.live i) (sym left) ∙ here);
-    room = ap (λ (x : Sessions). x.room) left ∙ a.room;
-  }
+  unit_counts (nowhere place same left) = search arith
   unit_counts (somewhere p c j b r place there here one finding is far same left) = record {
     places = then_places;
     each = λ i x y at_there at_here.
@@ -333,26 +231,10 @@ abbrev pub Counted : Course → Type 0
 Counted c = AreCounted c.traffic c.sessions
 
 counted_begun : (d : Direction) (c : Connection) (j : Joined) → IsCounted c j → IsCounted (begins (way_of d) c) (packet_begins d j)
-counted_begun d c j h = record { of = λ e. by d e (h.of e); room = room_so d ∙ h.room }
-  where
-    by : (d e : Direction) → IsCountedOf e c j → IsCountedOf e (begins (way_of d) c) (packet_begins d j)
-    by Left Left x = x
-    by Left Right x = x
-    by Right Left x = x
-    by Right Right x = x
-
-    room_so : (d : Direction) → (packet_begins d j).room ≡ j.room
-    room_so Left = refl
-    room_so Right = refl
+counted_begun d c j h = grind arith
 
 unread_counts : (b : Bool) (d : Direction) (at : ℕ) (k : Cause) (c : Course) → Counted c → Counted (unread_if b d at k c)
-unread_counts true d at k c h = h
-unread_counts false d at k c h =
-    subst (λ (s : State). AreCounted s (refuses d at k c).sessions) (sym (refused_traffic d at k c))
-    (subst (AreCounted (traffic.refused (way_of d) c.traffic))
-    (sym (marked_leaves (unread_mark d at k) (traffic.refused_reach (way_of d) c.traffic)
-    (moved (unread_moment d at k c.sessions) (record c { traffic = traffic.refused (way_of d) c.traffic }))))
-    (record { places = h.places; each = h.each; room = h.room }))
+unread_counts b d at k c h = search (arith, refuses, refused_traffic, marked_leaves)
 
 pub counted_claim : IsClaim Counted
 counted_claim = record {

@@ -9,7 +9,7 @@ use Rattle.std.proofs.lemmas.Bool.{eq-eqb, lt-ltb}
 use Rattle.std.proofs.lemmas.List.Concat.{flat_map-append}
 use Rattle.osi_tpdu.specs.Value.{Connect, Value, confirm}
 use Rattle.osi_tpdu.specs.Writing.{written}
-use Rattle.osi_class.specs.Runs.{parts_in, unit_parts}
+use Rattle.osi_class.specs.Runs.{parts_in}
 use Rattle.osi_class.specs.Tsdus.{Part}
 use Rattle.osi_class.specs.declared.terms.Class.TheVariants.{Zero}
 use Rattle.osi_class.specs.declared.terms.Local.{Local}
@@ -22,7 +22,7 @@ use Rattle.osi_fair.proofs.what_an_end_does_in_class_zero.{zero_puts}
 use Rattle.osi_fair.proofs.what_the_other_side_closes.{IsFirm}
 use Rattle.osi_fair.proofs.which_units_are_for_a_connection.{picked_join}
 use Rattle.osi_honest.specs.Arriving.{AreApart}
-use Rattle.osi_honest.specs.Courses.{Continues, Deeds, then_did, units_in, units_taken}
+use Rattle.osi_honest.specs.Courses.{Continues, Deeds, then_did, units_in}
 use Rattle.osi_honest.specs.Marked.{Marked, all_units, is_of_link}
 use Rattle.osi_honest.specs.Turns.{Turn}
 use Rattle.osi_honest.proofs.class_0.what_a_packet_does_in_class_0.{AllProper}
@@ -80,10 +80,7 @@ same_later u v us vs e = cc
 
 -- nothing was taken before, and nothing now
 none_taken : (a b : Deeds) → parts_in a.calls ≡ [] → parts_in b.calls ≡ [] → parts_in (then_did a b).calls ≡ []
-none_taken a b before now =
-    parts_taken (then_did a b).calls ∙ ap parts_of (taken_more a.calls b.calls)
-    ∙ flat_map-append unit_parts (units_taken a.calls) (units_taken b.calls)
-    ∙ (λ i. (sym (parts_taken a.calls) ∙ before) i ++ (sym (parts_taken b.calls) ∙ now) i)
+none_taken a b before now = grind (arith, parts_taken, taken_more, flat_map-append)
 
 -- a unit of a link is a DT of class 0
 abbrev IsPlainDt : Value → Type 0
@@ -144,14 +141,10 @@ module _ (local : Local) (proper : AllProper) (turn : Turn) (old new : Joint) (t
 
   -- a unit of no link is for no connection
   unmarked : (m : Marked) (r : ℕ) (o : Option ℕ) → 0 < r → m.0 ≡ 0 → is_of_link m.1 ≡ nat_lt 0 m.0 → (m.0 == r) ≡ is_for o m.1
-  unmarked m r o some is link =
-      ap (λ (n : ℕ). n == r) is ∙ none_mark r some ∙ sym (none_for m.1 (link ∙ ap (nat_lt 0) is) o)
+  unmarked m r o some is link = grind (arith, none_mark, none_for)
 
   marked_apart : {A : Type 0} (front rest : List Marked) (m : Marked) → on.put ≡ front ++ m ∷ rest → AreApart m.0 on.put → A
-  marked_apart front rest m is apart =
-      differ (m.0 == m.0) (eq-eqb m.0 m.0 refl)
-      (one_of (λ (k : Marked). (k.0 == m.0) ≡ false) front rest m
-      (subst (AllByRecursion (λ (k : Marked). (k.0 == m.0) ≡ false)) is apart))
+  marked_apart front rest m is apart = grind (arith, differ, eq-eqb, one_of)
 
   put_open : (front rest : List Marked) (m : Marked) → on.put ≡ front ++ m ∷ rest → 0 < m.0 →
       WasOpen m.0 (stage_at m.0 end) on.took on.put
@@ -184,10 +177,7 @@ module _ (local : Local) (proper : AllProper) (turn : Turn) (old new : Joint) (t
     asking = e.asking class
 
     links : AllByRecursion IsPlainDt (all_units on.put)
-    links =
-        all_back IsPlainDt old.put (all_units on.put)
-        (subst (AllByRecursion IsPlainDt) (sym put ∙ turn_put)
-        ((λ link. never link), all_so (IsWrittenAs IsDt0) IsPlainDt (λ v w link. w) rest dts))
+    links = grind (arith, all_back, turn_put, never, all_so, dts)
 
     marked_x : AllByRecursion (λ (m : Marked). (m.0 ≡ 0) ⊎ (m.0 ≡ x.source)) on.put
     marked_x = each_of (λ (m : Marked). (m.0 ≡ 0) ⊎ (m.0 ≡ x.source)) [] on.put (λ front rest m is. by front rest m is m.0 refl)
@@ -201,18 +191,10 @@ module _ (local : Local) (proper : AllProper) (turn : Turn) (old new : Joint) (t
         AllByRecursion (λ (m : Marked). is_of_link m.1 ≡ nat_lt 0 m.0) put → AllByRecursion IsPlainDt (all_units put) →
         Agree x.source (Some n) put
     agree [] marks by_links plain = tt
-    agree (m ∷ put) marks by_links plain = (by marks.0, agree put marks.1 by_links.1 plain.1)
-      where
-        by : (m.0 ≡ 0) ⊎ (m.0 ≡ x.source) → (m.0 == x.source) ≡ is_for (Some n) m.1
-        by (inl at) = unmarked m x.source (Some n) positive at by_links.0
-        by (inr at) =
-            let link : is_of_link m.1 ≡ true = by_links.0 ∙ lt-ltb 0 m.0 (omega (arith, at, positive)) in
-            eq-eqb m.0 x.source at ∙ sym (dt_so m.1 link (plain.0 link) (Some n))
+    agree (m ∷ put) marks by_links plain = grind (arith, is_for, unmarked, lt-ltb, eq-eqb, dt_so, agree put marks.1 by_links.1 plain.1)
 
     then_waits : (then_deeds x.source).put ≡ waiting_for (Some n) new.put
-    then_waits =
-        (λ i. waits i ++ (on.own x.source positive ∙ marks_wait x.source (Some n) on.put (agree on.put marked_x on.by_links links)) i)
-        ∙ sym (picked_join (is_for (Some n)) old.put (all_units on.put)) ∙ ap (waiting_for (Some n)) (sym turn_put)
+    then_waits = grind (arith, marks_wait, agree, marked_x, links, picked_join, is_for, waiting_for, turn_put)
 
     -- nothing is for it among what comes
     calm : (q : ℕ) → stage_at q end ≡ early → AreCalm false q (stage_at q then_end) on.took

@@ -3,10 +3,10 @@
 -- connection of a called end in class 0.
 use Rattle.osi_watched.proofs.Vocabulary.{[], ap, arith, Bool, false, inl, inr, is_some, List, map, nat_lt, Option, refl, Some, subst, suc}
 use Rattle.osi_watched.proofs.Vocabulary.{sym, true, zero, ℕ, ◌++◌, ◌<◌, ◌==◌, ◌∙◌, ◌∷◌, ◌≡◌, ◌⊎◌, eq-eqb, eqb-true, lt-ltb, AllByRecursion}
-use Rattle.osi_watched.proofs.Vocabulary.{slice_get, confirm, Connect, Value, written, Zero, Local, Carrier, is_open, is_refused}
-use Rattle.osi_watched.proofs.Vocabulary.{Traffic as State, Connection, AsSent, AsParts, CalledLaw, CallerLaw, Left, Right, AllProper}
-use Rattle.osi_watched.proofs.Vocabulary.{early, Life, stage_at, all_units_more, none_mark, Continues, Deeds, then_did, units_in, all_units}
-use Rattle.osi_watched.proofs.Vocabulary.{is_of_link, Marked, Turn, Joined, reference_of, unlike, IsFirm, Joint, TakesTurn, turns, IsOneOf}
+use Rattle.osi_watched.proofs.Vocabulary.{slice_get, confirm, Connect, Value, written, Zero, Local, Carrier, is_open, Traffic as State}
+use Rattle.osi_watched.proofs.Vocabulary.{Connection, AsSent, AsParts, CalledLaw, CallerLaw, Left, Right, AllProper, early, Life, stage_at}
+use Rattle.osi_watched.proofs.Vocabulary.{all_units_more, none_mark, Continues, Deeds, then_did, units_in, all_units, is_of_link, Marked}
+use Rattle.osi_watched.proofs.Vocabulary.{Turn, Joined, reference_of, unlike, IsFirm, Joint, TakesTurn, turns, IsOneOf}
 use Rattle.osi_fair.proofs.a_called_end_is_fair.{Stage}
 use Rattle.osi_honest.specs.Arriving.{AreApart}
 use Rattle.osi_honest.specs.Courses.{Course}
@@ -86,10 +86,7 @@ module _ (local : Local) (proper : AllProper) (turn : Turn) (old new : Joint) (t
 
   -- no CC is put
   no_answer : {A : Type 0} (n : ℕ) (x : Connect) (front later : List Marked) → on.put ≡ front ++ (0, confirm n x) ∷ later → A
-  no_answer n x front later is =
-      cc_not_dt n x (one_of (IsWrittenAs IsDt0) (all_units front) (all_units later) (confirm n x)
-      (subst (AllByRecursion (IsWrittenAs IsDt0))
-      (ap (λ (l : List Marked). all_units l) is ∙ all_units_more front ((0, confirm n x) ∷ later)) dts))
+  no_answer n x front later is = search (arith, cc_not_dt, one_of, all_units_more, dts)
 
   -- no CC is taken
   no_cc : {A : Type 0} (q n : ℕ) (x : Connect) (some later : List Marked) → stage_at q end ≡ early →
@@ -107,14 +104,10 @@ module _ (local : Local) (proper : AllProper) (turn : Turn) (old new : Joint) (t
 
   -- a unit of no link is for no connection
   unmarked : (m : Marked) (r : ℕ) (o : Option ℕ) → 0 < r → m.0 ≡ 0 → is_of_link m.1 ≡ nat_lt 0 m.0 → (m.0 == r) ≡ is_for o m.1
-  unmarked m r o some is link =
-      ap (λ (n : ℕ). n == r) is ∙ none_mark r some ∙ sym (none_for m.1 (link ∙ ap (nat_lt 0) is) o)
+  unmarked m r o some is link = grind (arith, none_mark, none_for)
 
   marked_apart : {A : Type 0} (front rest : List Marked) (m : Marked) → on.put ≡ front ++ m ∷ rest → AreApart m.0 on.put → A
-  marked_apart front rest m is apart =
-      differ (m.0 == m.0) (eq-eqb m.0 m.0 refl)
-      (one_of (λ (k : Marked). (k.0 == m.0) ≡ false) front rest m
-      (subst (AllByRecursion (λ (k : Marked). (k.0 == m.0) ≡ false)) is apart))
+  marked_apart front rest m is apart = search (arith, differ, eq-eqb, one_of)
 
   put_open : (front rest : List Marked) (m : Marked) → on.put ≡ front ++ m ∷ rest → 0 < m.0 →
       WasOpen m.0 (stage_at m.0 end) on.took on.put
@@ -139,13 +132,7 @@ module _ (local : Local) (proper : AllProper) (turn : Turn) (old new : Joint) (t
       Agree r o put
   agree r o some same named [] marks links dts_are = tt
   agree r o some same named (m ∷ put) marks links dts_are =
-      (by marks.0, agree r o some same named put marks.1 links.1 dts_are.1)
-    where
-      by : (m.0 ≡ 0) ⊎ (m.0 ≡ h.r) → (m.0 == r) ≡ is_for o m.1
-      by (inl at) = unmarked m r o some at links.0
-      by (inr at) =
-          eq-eqb m.0 r (at ∙ sym same)
-          ∙ sym (dt_so m.1 (links.0 ∙ lt-ltb 0 m.0 (omega (arith, at, same, some))) dts_are.0 o ∙ named)
+      grind (arith, is_for, unmarked, eq-eqb, dt_so, lt-ltb, agree r o some same named put marks.1 links.1 dts_are.1)
 
   -- ---- what it puts is for the one connection
 
@@ -156,13 +143,7 @@ module _ (local : Local) (proper : AllProper) (turn : Turn) (old new : Joint) (t
   only = (is_zero Right s e.sure sure.firm sure.right h.class).only
 
   only_is : only.place ≡ one.place
-  only_is = by (only.place == one.place) refl
-    where
-      by : (x : Bool) → (only.place == one.place) ≡ x → only.place ≡ one.place
-      by true at = eqb-true only.place one.place at
-      by false at =
-          differ (is_refused one.connection.right.phase)
-          (only.others one.place one.connection one.there (λ k. unlike only.place one.place at (sym k))) one.up
+  only_is = search (arith, only, eqb-true, differ, unlike)
 
   puts_zero : (i : ℕ) (c : Connection) (j : Joined) (r : ℕ) → slice_get s.connections i ≡ Some c →
       slice_get old.course.sessions.live i ≡ Some j → reference_of Right j ≡ Some r →

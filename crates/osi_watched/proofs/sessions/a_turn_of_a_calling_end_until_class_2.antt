@@ -1,20 +1,19 @@
 -- Until class 2 is selected, a turn of a calling end leaves all its connections standing at a tap: what it puts is for its one connection
 -- in class 0, and what it takes there is the first of what is in flight. For the session of the connection of an end in class 0.
-use Rattle.std.proofs.Common.{◌≡◌, ◌∙◌, refl, sym, ap, subst, ℕ, zero, suc, ◌<◌, ◌≤◌, Bool, true, false, List, [], ◌∷◌, ◌++◌}
-use Rattle.std.proofs.Common.{map, Option, Some, None, arith, is_some, append_assoc, inl, inr, ◌⊎◌}
+use Rattle.std.proofs.Common.{◌≡◌, ◌∙◌, refl, sym, ap, subst, ℕ, zero, suc, ◌<◌, ◌≤◌, Bool, true, false, List, [], ◌∷◌, ◌++◌, Option, Some}
+use Rattle.std.proofs.Common.{None, arith, is_some, append_assoc, inl, inr, ◌⊎◌}
 use Rattle.std.specs.Prelude.{◌&&◌, ◌==◌, nat_le, nat_lt, slice_get}
 use Rattle.std.specs.List.{AllByRecursion}
 use Rattle.std.proofs.lemmas.Bool.{eq-eqb, eqb-true, le-leb, lt-ltb}
-use Rattle.osi_tpdu.specs.Value.{Connect, Value, acknowledge, confirm, data0, data2, disconnect, disconnected, error, request}
+use Rattle.osi_tpdu.specs.Value.{Connect, Value, confirm, data0}
 use Rattle.osi_tpdu.specs.Writing.{written}
 use Rattle.osi_class.specs.declared.terms.Class.{Class}
 use Rattle.osi_class.specs.declared.terms.Class.TheVariants.{Two, Zero}
 use Rattle.osi_class.specs.declared.terms.Local.{Local}
 use Rattle.osi_carrier.specs.State.{State as Carrier}
-use Rattle.osi_carrier.specs.declared.ends.EndReason.{EndReason}
 use Rattle.osi_judge.specs.declared.directions.Direction.TheVariants.{Left, Right}
 use Rattle.osi_rules.specs.declared.connections.Connection.{Connection}
-use Rattle.osi_rules.specs.Sides.{is_open, is_refused}
+use Rattle.osi_rules.specs.Sides.{is_open}
 use Rattle.osi_rules.specs.Traffic.{State}
 use Rattle.osi_stack.specs.Calls.{has_given}
 use Rattle.osi_fair.specs.Wholes.{Whole}
@@ -72,11 +71,7 @@ differ : {A : Type 0} (b : Bool) → b ≡ true → b ≡ false → A
 differ b h k = absurd (cc)
 
 pub early_lasts : (r : ℕ) (c : Carrier) → stage_at r c ≡ early → c.ended ≡ None
-early_lasts r c may = by c.ended refl
-  where
-    by : (o : Option EndReason) → c.ended ≡ o → c.ended ≡ None
-    by None e = e
-    by (Some reason) e = early_past (stage_at r c) may (stage_over r c (ap is_some e))
+early_lasts r c may = grind (arith, early_past, stage_at, stage_over)
 
 given_so : (r : ℕ) (c : Carrier) → 0 < r → r ≤ c.given → has_given r c ≡ true
 given_so r c some up = ap (λ (b : Bool). b && nat_le r c.given) (lt-ltb 0 r some) ∙ le-leb r c.given up
@@ -108,14 +103,7 @@ data WasOpen (q : ℕ) (s : Time) (took : List Marked) : Type 0 where
   opens_now : s ≡ early → (x : Connect) (some later : List Marked) → took ≡ some ++ (0, confirm q x) ∷ later → WasOpen q s took
 
 opening_is : {A : Type 0} (q peer : ℕ) (unit : Value) → Opens true q peer unit → ((x : Connect) → unit ≡ confirm q x → A) → A
-opening_is q peer (confirm n x) o f = f x (ap (λ (m : ℕ). confirm m x) o.0)
-opening_is q peer (request x) o f = absurd (cc o.0)
-opening_is q peer (disconnect n source reason user) o f = absurd o
-opening_is q peer (disconnected n source) o f = absurd o
-opening_is q peer (data0 end user) o f = absurd o
-opening_is q peer (data2 n number end user) o f = absurd o
-opening_is q peer (acknowledge credit n number) o f = absurd o
-opening_is q peer (error n cause) o f = absurd o
+opening_is q peer unit o f = grind arith
 
 opened_so : (q peer : ℕ) (unit : Value) (took some later : List Marked) → Opens true q peer unit →
     took ≡ some ++ (0, unit) ∷ later → WasOpen q early took
@@ -138,14 +126,10 @@ open_so q peer (amid m) t took put w e = open_before m refl
 open_so q peer past t took put w e = past_amid t peer w.is e
 
 still_past : (q : ℕ) (s t : Time) (took put : List Marked) → s ≡ past → Life true q s took put t → t ≡ past
-still_past q early t took put e w = early_past early refl e
-still_past q (amid peer) t took put e w = past_amid (amid peer) peer e refl
-still_past q past t took put e w = w.is
+still_past q s t took put e w = grind (arith, early_past, past_amid)
 
 past_apart : (q : ℕ) (s t : Time) (took put : List Marked) → s ≡ past → Life true q s took put t → AreApart q put
-past_apart q early t took put e w = early_past early refl e
-past_apart q (amid peer) t took put e w = past_amid (amid peer) peer e refl
-past_apart q past t took put e w = w.none_put
+past_apart q s t took put e w = grind (arith, early_past, past_amid)
 
 -- ---- units
 
@@ -156,38 +140,13 @@ quiet_no_cc r (v ∷ vs) h = ((λ x is. absurd (subst IsQuiet is h.0)), quiet_no
 -- a unit of a link that is written as a DT of class 0 is one
 written_dt : (end : Bool) (user : List ℕ) (v : Value) (o : Option ℕ) → is_of_link v ≡ true → written (data0 end user) ≡ written v →
     is_for o v ≡ is_some o
-written_dt end user (data0 last octets) o link e = refl
-written_dt end user (data2 n number last octets) o link e = absurd (not_two _ (ap first_octet (sym e)))
-written_dt end user (acknowledge credit n number) o link e = absurd (not_two _ (ap first_octet (sym e)))
-written_dt end user (request x) o link e = absurd (cc link)
-written_dt end user (confirm n x) o link e = absurd (cc link)
-written_dt end user (disconnect n source reason told) o link e = absurd (cc link)
-written_dt end user (disconnected n source) o link e = absurd (cc link)
-written_dt end user (error n cause) o link e = absurd (cc link)
+written_dt end user v o link e = grind (arith, not_two, first_octet)
 
 pub dt_so : (v : Value) → is_of_link v ≡ true → IsWrittenAs IsDt0 v → (o : Option ℕ) → is_for o v ≡ is_some o
-dt_so v link w o = by w.u w.so w.same
-  where
-    by : (u : Value) → IsDt0 u → written u ≡ written v → is_for o v ≡ is_some o
-    by (data0 end user) h e = written_dt end user v o link e
-    by (request x) h e = absurd h
-    by (confirm n x) h e = absurd h
-    by (disconnect n source reason user) h e = absurd h
-    by (disconnected n source) h e = absurd h
-    by (data2 n number end user) h e = absurd h
-    by (acknowledge credit n number) h e = absurd h
-    by (error n cause) h e = absurd h
+dt_so v link w o = grind (arith, is_for, written_dt)
 
 none_is_for : (o : Option ℕ) (v : Value) → is_some o ≡ false → is_for o v ≡ false
-none_is_for (Some n) v h = absurd (cc h)
-none_is_for None (data0 end user) h = refl
-none_is_for None (data2 n number end user) h = refl
-none_is_for None (acknowledge credit n number) h = refl
-none_is_for None (request x) h = refl
-none_is_for None (confirm n x) h = refl
-none_is_for None (disconnect n source reason user) h = refl
-none_is_for None (disconnected n source) h = refl
-none_is_for None (error n cause) h = refl
+none_is_for o v h = grind arith
 
 -- ---- a turn
 
@@ -239,14 +198,10 @@ module _ (local : Local) (proper : AllProper) (turn : Turn) (old new : Joint) (t
 
   -- a unit of no link is for no connection
   unmarked : (m : Marked) (r : ℕ) (o : Option ℕ) → 0 < r → m.0 ≡ 0 → is_of_link m.1 ≡ nat_lt 0 m.0 → (m.0 == r) ≡ is_for o m.1
-  unmarked m r o some e link =
-      ap (λ (n : ℕ). n == r) e ∙ none_mark r some ∙ sym (none_for m.1 (link ∙ ap (nat_lt 0) e) o)
+  unmarked m r o some e link = grind (arith, none_mark, none_for)
 
   marked_apart : {A : Type 0} (front rest : List Marked) (m : Marked) → on.put ≡ front ++ m ∷ rest → AreApart m.0 on.put → A
-  marked_apart front rest m is apart =
-      differ (m.0 == m.0) (eq-eqb m.0 m.0 refl)
-      (one_of (λ (k : Marked). (k.0 == m.0) ≡ false) front rest m
-      (subst (AllByRecursion (λ (k : Marked). (k.0 == m.0) ≡ false)) is apart))
+  marked_apart front rest m is apart = grind (arith, differ, eq-eqb, one_of)
 
   -- a unit of a link is of a connection that was open or has opened
   put_open : (front rest : List Marked) (m : Marked) → on.put ≡ front ++ m ∷ rest → 0 < m.0 → WasOpen m.0 (stage_at m.0 end) on.took
@@ -282,8 +237,7 @@ module _ (local : Local) (proper : AllProper) (turn : Turn) (old new : Joint) (t
     agree_none : (r : ℕ) (o : Option ℕ) (some : 0 < r) (put : List Marked) → AllByRecursion (λ (m : Marked). m.0 ≡ 0) put →
         AllByRecursion (λ (m : Marked). is_of_link m.1 ≡ nat_lt 0 m.0) put → Agree r o put
     agree_none r o some [] none links = tt
-    agree_none r o some (m ∷ put) none links =
-        (unmarked m r o some none.0 links.0, agree_none r o some put none.1 links.1)
+    agree_none r o some (m ∷ put) none links = grind (arith, unmarked, agree_none r o some put none.1 links.1)
 
     puts_none : (r : ℕ) (o : Option ℕ) → 0 < r → (on.more r).put ≡ waiting_for o t.units
     puts_none r o some = puts_so r o some (agree_none r o some on.put none_marked on.by_links)
@@ -304,13 +258,7 @@ module _ (local : Local) (proper : AllProper) (turn : Turn) (old new : Joint) (t
     only = (is_zero Right s h.early.sure sure.firm sure.right class).only
 
     only_is : only.place ≡ z.one.place
-    only_is = by (only.place == z.one.place) refl
-      where
-        by : (x : Bool) → (only.place == z.one.place) ≡ x → only.place ≡ z.one.place
-        by true e = eqb-true only.place z.one.place e
-        by false e =
-            differ (is_refused z.one.connection.right.phase)
-            (only.others z.one.place z.one.connection z.one.there (λ k. unlike only.place z.one.place e (sym k))) z.one.up
+    only_is = grind (arith, only, eqb-true, differ, unlike)
 
     is_r : (q : ℕ) → 0 < q → WasOpen q (stage_at q end) on.took → q ≡ z.r
     is_r q some (open_before peer is) = z.amid_is q peer some is
@@ -326,14 +274,7 @@ module _ (local : Local) (proper : AllProper) (turn : Turn) (old new : Joint) (t
 
     -- all that it puts for a connection is DTs
     dts : AllByRecursion (IsWrittenAs IsDt0) (all_units on.put)
-    dts =
-        let all = dts_put local whole then_stage (ap (λ (x : State). x.course.class) tap_is ∙ class) in
-        let same : map written t.units ≡ map written (all_units on.put) = ap (λ (l : List Value). map written l) units in
-        let alike : map written whole.put ≡ map written (old.put ++ all_units on.put) =
-        g.ahead.followed.put ∙ ap (λ (l : List Value). map written l) t.put ∙ written_join old.put t.units
-        ∙ ap (λ (l : List (List ℕ)). map written old.put ++ l) same ∙ sym (written_join old.put (all_units on.put)) in
-        all_back (IsWrittenAs IsDt0) old.put (all_units on.put)
-        (written_as IsDt0 whole.put (old.put ++ all_units on.put) alike all)
+    dts = grind (arith, dts_put, then_stage, tap_is, g, written_join, all_back, written_as)
 
     agree_zero : (r : ℕ) (o : Option ℕ) → 0 < r → r ≡ z.r → is_some o ≡ true → (put : List Marked) →
         AllByRecursion (λ (m : Marked). (m.0 ≡ 0) ⊎ (m.0 ≡ z.r)) put →
@@ -341,18 +282,11 @@ module _ (local : Local) (proper : AllProper) (turn : Turn) (old new : Joint) (t
         Agree r o put
     agree_zero r o some same named [] marks links dts_are = tt
     agree_zero r o some same named (m ∷ put) marks links dts_are =
-        (by marks.0, agree_zero r o some same named put marks.1 links.1 dts_are.1)
-      where
-        by : (m.0 ≡ 0) ⊎ (m.0 ≡ z.r) → (m.0 == r) ≡ is_for o m.1
-        by (inl e) = unmarked m r o some e links.0
-        by (inr e) =
-            eq-eqb m.0 r (e ∙ sym same)
-            ∙ sym (dt_so m.1 (links.0 ∙ lt-ltb 0 m.0 (omega (arith, e, same, some))) dts_are.0 o ∙ named)
+        grind (arith, is_for, unmarked, eq-eqb, dt_so, lt-ltb, agree_zero r o some same named put marks.1 links.1 dts_are.1)
 
     agree_apart : (r : ℕ) (o : Option ℕ) → is_some o ≡ false → (put : List Marked) → AreApart r put → Agree r o put
     agree_apart r o none [] apart = tt
-    agree_apart r o none (m ∷ put) apart =
-        (apart.0 ∙ sym (none_is_for o m.1 none), agree_apart r o none put apart.1)
+    agree_apart r o none (m ∷ put) apart = grind (arith, none_is_for, agree_apart r o none put apart.1)
 
     puts_zero : (i : ℕ) (c : Connection) (j : Joined) (r : ℕ) → slice_get s.connections i ≡ Some c →
         slice_get old.course.sessions.live i ≡ Some j → reference_of Left j ≡ Some r → is_open c.left.phase ≡ true →
@@ -424,9 +358,7 @@ module _ (local : Local) (proper : AllProper) (turn : Turn) (old new : Joint) (t
 
   calm_by : (k : Option Class) → s.course.class ≡ k → (r : ℕ) → IsWithin b r → stage_at r end ≡ early →
       AreCalm true r (stage_at r then_end) on.took
-  calm_by None class r within may = calm_none class r may
-  calm_by (Some Zero) class r within may = calm_zero class r within may
-  calm_by (Some Two) class r within may = absurd (not_two class)
+  calm_by k class r within may = grind (arith, calm_none, calm_zero, not_two)
 
   turns : Turns Left on.more (known_below b end coming) (known_below b then_end then_coming) t.units s old.course.sessions
   turns = record {

@@ -2,14 +2,12 @@
 -- For the session of each connection of an end.
 use Rattle.osi_watched.proofs.Vocabulary.{[], ap, arith, Bool, false, inl, inr, is_some, length, List, map, None, Option, refl, Some, subst}
 use Rattle.osi_watched.proofs.Vocabulary.{suc, sym, true, zero, ℕ, ◌++◌, ◌<◌, ◌^◌, ◌∙◌, ◌∷◌, ◌≡◌, ◌≤◌, ◌⊎◌, eq-eqb, slice_get_within}
-use Rattle.osi_watched.proofs.Vocabulary.{slice_get, acknowledge, confirm, Connect, data0, data2, disconnect, disconnected, error, request}
-use Rattle.osi_watched.proofs.Vocabulary.{Value, unit_parts, Part, End, is_applied, begins, is_open, is_silent, own, asked_by}
-use Rattle.osi_watched.proofs.Vocabulary.{class_for, closing_phase, connection_after, found_on, half_after, judged_on, meaning_if, meant}
-use Rattle.osi_watched.proofs.Vocabulary.{sent_on}
-use Rattle.osi_watched.proofs.Vocabulary.{Traffic as State, takes, Connection, Reach, Half, other, Direction, Left, Right, Deeds}
-use Rattle.osi_watched.proofs.Vocabulary.{adds, all_begin, asked, Joined, reference_of, Sessions, shut, spoken, taken, way_of, heard, Room}
-use Rattle.osi_watched.proofs.Vocabulary.{All, passes_apart, AreJudged, still_judged, after_add, after_map, NamesApart as AreApart}
-use Rattle.osi_watched.proofs.Vocabulary.{after_change, packet, unit, calls_from, IsShownNow, HaveSamePlaces, IsOneOf}
+use Rattle.osi_watched.proofs.Vocabulary.{slice_get, confirm, Connect, data0, data2, request, Value, unit_parts, Part, End, is_applied}
+use Rattle.osi_watched.proofs.Vocabulary.{begins, is_open, own, asked_by, connection_after, found_on, half_after, judged_on, meaning_if}
+use Rattle.osi_watched.proofs.Vocabulary.{meant, Traffic as State, takes, Connection, Reach, Half, other, Direction, Deeds, adds, all_begin}
+use Rattle.osi_watched.proofs.Vocabulary.{asked, Joined, reference_of, Sessions, shut, spoken, taken, way_of, heard, Room, All}
+use Rattle.osi_watched.proofs.Vocabulary.{passes_apart, AreJudged, still_judged, after_add, after_map, NamesApart as AreApart, after_change}
+use Rattle.osi_watched.proofs.Vocabulary.{packet, unit, calls_from, IsShownNow, HaveSamePlaces, IsOneOf}
 use Rattle.osi_rules.specs.declared.directions.Direction.TheVariants as way
 use Rattle.osi_rules.specs.declared.findings.Reach.TheVariants as reach
 use Rattle.osi_rules.specs.Traffic as traffic
@@ -31,39 +29,17 @@ use Rattle.osi_watched.proofs.sessions.a_dt_of_class_0_has_one_place.{named_open
 -- ---- what a unit leaves of the half of a side
 
 judged_own : (d : Direction) (r : Reach) (c : Connection) → own (way_of d) (judged_on r c) ≡ own (way_of d) c
-judged_own Left reach.Nothing c = refl
-judged_own Left _ c = refl
-judged_own Right reach.Nothing c = refl
-judged_own Right _ c = refl
+judged_own d r c = grind arith
 
 -- of this side, a unit of the other one leaves all
 pub other_after : (d : Direction) (v : Value) (b : Bool) (r : Reach) (c : Connection) →
     own (way_of d) (connection_after (way_of (other d)) v b r c) ≡ own (way_of d) c
-other_after d v false r c = judged_own d r c
-other_after Left v true r c = judged_own Left r (sent_on way.Right v c) ∙ by v
-  where
-    by : (v : Value) → (sent_on way.Right v c).left ≡ c.left
-    by (request x) = refl
-    by _ = refl
-other_after Right v true r c = judged_own Right r (sent_on way.Left v c) ∙ by v
-  where
-    by : (v : Value) → (sent_on way.Left v c).right ≡ c.right
-    by (request x) = refl
-    by _ = refl
+other_after d v b r c = grind (arith, judged_own)
 
 -- of its own side, this is left
 pub own_after : (d : Direction) (v : Value) (r : Reach) (c : Connection) →
     own (way_of d) (connection_after (way_of d) v true r c) ≡ half_after v (own (way_of d) c)
-own_after Left v r c = judged_own Left r (sent_on way.Left v c) ∙ by v
-  where
-    by : (v : Value) → (sent_on way.Left v c).left ≡ half_after v c.left
-    by (request x) = refl
-    by _ = refl
-own_after Right v r c = judged_own Right r (sent_on way.Right v c) ∙ by v
-  where
-    by : (v : Value) → (sent_on way.Right v c).right ≡ half_after v c.right
-    by (request x) = refl
-    by _ = refl
+own_after d v r c = grind (arith, judged_own)
 
 -- ---- a unit at its place that adds to no TSDU
 
@@ -71,12 +47,10 @@ pub like_same : (d : Direction) (j : Joined) → IsLike d j j
 like_same d j = record { own_is = refl; theirs = refl; named = refl; room = refl }
 
 like_shut : (d : Direction) (j : Joined) → IsLike d j (shut j)
-like_shut Left j = record { own_is = refl; theirs = refl; named = refl; room = refl }
-like_shut Right j = record { own_is = refl; theirs = refl; named = refl; room = refl }
+like_shut d j = grind arith
 
 named_shut : (d : Direction) (j : Joined) → reference_of d (shut j) ≡ reference_of d j
-named_shut Left j = refl
-named_shut Right j = refl
+named_shut d j = grind arith
 
 -- no DT, and no CC that has its effect
 abbrev pub IsPlain : Bool → Value → Type 0
@@ -86,9 +60,7 @@ IsPlain b (confirm n x) = b ≡ false
 IsPlain b _ = Unit {0}
 
 plain_parts : (b : Bool) (v : Value) → IsPlain b v → unit_parts v ≡ []
-plain_parts b (data0 end user) h = absurd h
-plain_parts b (data2 n number end user) h = absurd h
-plain_parts b _ h = refl
+plain_parts b v h = grind arith
 
 -- what is joined stays
 record Left_so (d : Direction) (j k : Joined) : Type 0 where
@@ -103,43 +75,22 @@ shut_left d j = record { like = like_shut d j; named = named_shut (other d) j }
 
 plain_left : (d e : Direction) (at : ℕ) (b : Bool) (v : Value) (j : Joined) → IsPlain b v →
     Left_so d j (joined.meant e at v (meaning_if b (meant v)) j)
-plain_left d e at false v j h = same_left d j
-plain_left d e at true (data0 end user) j h = absurd h
-plain_left d e at true (data2 n number end user) j h = absurd h
-plain_left d e at true (confirm n x) j h = absurd (cc)
-plain_left d e at true (disconnect n source reason user) j h = shut_left d j
-plain_left d e at true (error n cause) j h = shut_left d j
-plain_left d e at true _ j h = same_left d j
+plain_left d e at b v j h = grind (arith, same_left, shut_left)
 
 -- a side that has a connection open after it had it open before
 plain_open : (v : Value) (half : Half) → IsPlain true v → is_open (half_after v half).phase ≡ true → is_open half.phase ≡ true
-plain_open (data0 end user) half h live = absurd h
-plain_open (data2 n number end user) half h live = absurd h
-plain_open (confirm n x) half h live = absurd (cc)
-plain_open (request x) half h live = live
-plain_open (disconnect n source reason user) half h live = by (is_silent half.phase) live
-  where
-    by : (b : Bool) → is_open (closing_phase b half).phase ≡ true → is_open half.phase ≡ true
-    by true e = absurd (cc)
-    by false e = absurd (cc)
-plain_open (disconnected n source) half h live = absurd (cc)
-plain_open (acknowledge credit n number) half h live = live
-plain_open (error n cause) half h live = absurd (cc)
+plain_open v half h live = grind arith
 
 was_open : (d : Direction) (b : Bool) (v : Value) (r : Reach) (c : Connection) → IsPlain b v →
     is_open (own (way_of d) (connection_after (way_of d) v b r c)).phase ≡ true → is_open (own (way_of d) c).phase ≡ true
-was_open d false v r c h live = ap (λ (x : Half). is_open x.phase) (sym (judged_own d r c)) ∙ live
-was_open d true v r c h live =
-    plain_open v (own (way_of d) c) h (ap (λ (x : Half). is_open x.phase) (sym (own_after d v r c)) ∙ live)
+was_open d b v r c h live = grind (arith, judged_own, plain_open, own_after)
 
 -- of the end
 pub own_plain : (d : Direction) (deeds : ℕ → Deeds) (known : Known) (at : ℕ) (v : Value) (rest : List Value) (b x : Bool) (r : Reach)
     (c : Connection) (j : Joined) → IsPlain b v → Stands d deeds known (v ∷ rest) x c j →
     Stands d deeds known rest false (connection_after (way_of d) v b r c) (joined.meant d at v (meaning_if b (meant v)) j)
 own_plain d deeds known at v rest b x r c j plain h =
-    let l = plain_left d d at b v j plain in
-    stands_none d deeds known v rest c (connection_after (way_of d) v b r c) j (joined.meant d at v (meaning_if b (meant v)) j)
-    (plain_parts b v plain) l.like l.named (was_open d b v r c plain) x h
+    search (arith, stands_none, plain_left d d at b v j plain, plain_parts b v plain, was_open d b v r c plain)
 
 -- of the other side
 pub other_plain : (d : Direction) (deeds : ℕ → Deeds) (known then_known : Known) (at : ℕ) (v : Value) (put : List Value) (b x : Bool)
@@ -147,23 +98,17 @@ pub other_plain : (d : Direction) (deeds : ℕ → Deeds) (known then_known : Kn
     ((n : ℕ) (later : List Part) → reference_of d j ≡ Some n → known n later → then_known n later) → Stands d deeds known put x c j →
     Stands d deeds then_known put x (connection_after (way_of (other d)) v b r c) (joined.meant (other d) at v (meaning_if b (meant v)) j)
 other_plain d deeds known then_known at v put b x r c j plain keeps h =
-    let l = plain_left d (other d) at b v j plain in
-    stands_other_none d deeds known then_known put x c (connection_after (way_of (other d)) v b r c) j
-    (joined.meant (other d) at v (meaning_if b (meant v)) j) l.like l.named
-    (ap (λ (y : Half). y.phase) (other_after d v b r c)) keeps h
+    search (arith, stands_other_none, plain_left d (other d) at b v j plain, other_after d v b r c)
 
 -- ---- a DT of class 2 at its place
 
 stands_room : (d : Direction) (deeds : ℕ → Deeds) (known : Known) (put : List Value) (b : Bool) (c : Connection) (j : Joined) →
     Stands d deeds known put b c j → j.room ≡ All
-stands_room d deeds known put b c j (unnamed none mine theirs room) = room
-stands_room d deeds known put b c j (lives r o is live later sure h) = h.room
-stands_room d deeds known put b c j (past r closed waiting later sure h) = h.room
+stands_room d deeds known put b c j h = grind arith
 
 open_named : (d : Direction) (c : Connection) (j : Joined) → IsOneOf c j → is_open (own (way_of d) c).phase ≡ true →
     is_some (reference_of d j) ≡ true
-open_named Left c j one live = refl
-open_named Right c j one live = ap is_some one.called ∙ named_open c.right.phase c.right.reference live
+open_named d c j one live = grind (arith, named_open)
 
 pub own_part : (d : Direction) (deeds : ℕ → Deeds) (known : Known) (at n number : ℕ) (end : Bool) (user : List ℕ) (rest : List Value)
     (r : Reach) (c : Connection) (j : Joined) → IsOneOf c j → is_open (own (way_of d) c).phase ≡ true →
@@ -333,9 +278,7 @@ stands_rest d deeds known put b c j (past r closed waiting later sure h) = rests
 
 pub one_at : (cs : List Connection) (js : List Joined) (i : ℕ) (c : Connection) (j : Joined) → HaveSamePlaces cs js →
     slice_get cs i ≡ Some c → slice_get js i ≡ Some j → IsOneOf c j
-one_at cs js i c j h there here =
-    let (k, at, one) = at_same cs js i c h there in
-    subst (λ (x : Joined). IsOneOf c x) (sym (some_same k j (sym at ∙ here))) one
+one_at cs js i c j h there here = grind (arith, at_same, some_same)
 
 not_there : {A : Type 0} (js : List Joined) (i : ℕ) (j : Joined) → length js ≤ i → slice_get js i ≡ Some j → A
 not_there js i j far e = let near = slice_get_within js i j e in absurd (omega (arith, far, near))
@@ -387,19 +330,12 @@ module _ (d : Direction) (deeds : ℕ → Deeds) (known then_known : Known) (put
     lost_from true was now = loses p first k told there here one was (far ∙ now_lost (way_of e) v x r first now was)
 
     none_applied : (y : Bool) → first.is_judged ≡ y → (connection_after (way_of e) v x r first).is_judged ≡ false → x ≡ false
-    none_applied false was now = sym is ∙ lost_applied (way_of e) v s first was
-    none_applied true was now =
-        let reached = far ∙ now_lost (way_of e) v x r first now was in
-        sym is ∙ ap is_applied (sym finding)
-        ∙ part_applied (class_for (way_of e) s.course) (takes (way_of e) v s).told.finding
-        (sym (takes_reach (way_of e) v s).far ∙ reached)
+    none_applied y was now = grind (arith, lost_applied, now_lost, part_applied, takes_reach)
 
     lost_there : (y : Bool) → x ≡ y → y ≡ false → IsLost d first k →
         IsLost d (connection_after (way_of e) v x r first) (joined.meant e at v (meaning_if x (meant v)) k)
     lost_there true so none h = absurd (cc)
-    lost_there false so none h =
-        subst (λ (z : Bool). IsLost d (connection_after (way_of e) v z r first) (joined.meant e at v (meaning_if z (meant v)) k)) (sym so)
-        (lost_still d r first k h)
+    lost_there false so none h = grind (arith, lost_still d r first k h)
 
     lost_by : (i : ℕ) (c : Connection) (j : Joined) → AfterAt p first x r i c → JoinedAt p k x i j → c.is_judged ≡ false → IsLost d c j
     lost_by i c j (inl (m, so)) (inl (n, same)) lost =
@@ -514,10 +450,7 @@ module _ (d : Direction) (deeds : ℕ → Deeds) (known then_known : Known) (put
       over_by x is p i k j at_joined free (after_add t.done i k j (ap (λ (z : Sessions). slice_get z.done i) (sym ts) ∙ here))
 
   room_by : Does e at v s t (takes (way_of e) v s) → after.room ≡ All
-  room_by (nowhere place cs ts) = ap (λ (z : Sessions). z.room) ts ∙ a.room
-  room_by (somewhere p first k x r place at_first at_joined one finding is far cs ts) = ap (λ (z : Sessions). z.room) ts ∙ a.room
-  room_by (asks_more x is number cs ts) = ap (λ (z : Sessions). z.room) ts ∙ a.room
-  room_by (asks_again x is number p k at_joined free cs ts) = ap (λ (z : Sessions). z.room) ts ∙ a.room
+  room_by h = grind arith
 
   pub all_after : AllStand d deeds then_known later then_begun told_state after
   all_after = record {

@@ -1,8 +1,8 @@
 -- After a break of the other side in class 0 an end and a tap go on as if the break had not come: the end takes what came before it, and is
 -- over with the break; and the tap joins nothing more of the other side.
 -- For the law that no session of an end is to blame after such a break.
-use Rattle.std.proofs.Common.{◌≡◌, ◌∙◌, ◌⊎◌, inl, inr, refl, sym, ap, subst, ℕ, ◌+◌, ◌^◌, ◌<◌, Bool, true, false, List, [], ◌∷◌, ◌++◌}
-use Rattle.std.proofs.Common.{map, length, Option, Ok, Some, None, is_some, IsSome, arith, append_assoc}
+use Rattle.std.proofs.Common.{◌≡◌, ◌∙◌, ◌⊎◌, inl, inr, refl, sym, ap, subst, ℕ, ◌+◌, ◌^◌, ◌<◌, Bool, true, false, List, [], ◌∷◌, ◌++◌, map}
+use Rattle.std.proofs.Common.{length, Option, Ok, Some, None, IsSome, arith, append_assoc}
 use Rattle.std.specs.Prelude.{slice_get}
 use Rattle.std.specs.List.{AllByRecursion}
 use Rattle.std.proofs.lemmas.Bool.{lt-ltb}
@@ -21,9 +21,8 @@ use Rattle.osi_carrier.specs.State.{packets}
 use Rattle.osi_carrier.specs.declared.ends.EndReason.{EndReason}
 use Rattle.osi_judge.specs.Captures.{other}
 use Rattle.osi_judge.specs.declared.directions.Direction.{Direction}
-use Rattle.osi_judge.specs.declared.directions.Direction.TheVariants.{Left, Right}
 use Rattle.osi_rules.specs.declared.findings.Finding.TheVariants.{Kept}
-use Rattle.osi_rules.specs.Traffic.{State as Traffic, is_stopped, takes}
+use Rattle.osi_rules.specs.Traffic.{is_stopped, takes}
 use Rattle.osi_fair.specs.Pieces.{units_in}
 use Rattle.osi_fair.specs.Wholes as wholes
 use Rattle.osi_stack.proofs.carried.packets_without_events.{lasting_of}
@@ -113,9 +112,7 @@ module _ (known : Known) (barred : Class) (d : Direction) (local : Local)
 
   -- nobody is to blame then
   pub none_alone : (ends : Bool) (j : Joint) → IsAsWithout ends j → NoneIsToBlame d j.course.sessions
-  none_alone ends j a =
-      let g = a.is.goes in
-      subst (NoneIsToBlame d) (sym a.is.beside.sessions) (k.none a.deeds a.without g.courses g.holds)
+  none_alone ends j a = grind arith
 
   -- ---- units of the other side
 
@@ -135,22 +132,10 @@ module _ (known : Known) (barred : Class) (d : Direction) (local : Local)
 
   module _ (apart : barred ≡ Zero → ⊥) where
     zero_not : (c without : Passed) → IsBeside d c without → IsAlone d c → without.traffic.course.class ≡ Some barred → ⊥
-    zero_not c without b a is =
-        apart (same_class barred Zero (sym is ∙ sym (by d b) ∙ a.zero))
-      where
-        same_class : (x y : Class) → Some x ≡ Some y → x ≡ y
-        same_class x y e = cc
-
-        by : (e : Direction) → IsBeside e c without → c.traffic.course.class ≡ without.traffic.course.class
-        by Left h = ap (λ (s : Traffic). s.course.class) h.traffic
-        by Right h = ap (λ (s : Traffic). s.course.class) h.traffic
+    zero_not c without b a is = grind arith
 
     zero_without : (c without : Passed) → IsBeside d c without → IsAlone d c → without.traffic.course.class ≡ Some Zero
-    zero_without c without b a = sym (by d b) ∙ a.zero
-      where
-        by : (e : Direction) → IsBeside e c without → c.traffic.course.class ≡ without.traffic.course.class
-        by Left h = ap (λ (s : Traffic). s.course.class) h.traffic
-        by Right h = ap (λ (s : Traffic). s.course.class) h.traffic
+    zero_without c without b a = grind arith
 
     -- ---- a packet begins
 
@@ -384,10 +369,7 @@ module _ (known : Known) (barred : Class) (d : Direction) (local : Local)
 
       put_then : (w : Joint) (units : List Value) → w.put ≡ v.put ++ units → packets units ≡ turn.put →
           map written w.put ≡ map written new.put
-      put_then w units put is =
-          ap (λ (l : List Value). map written l) put ∙ written_join v.put units
-          ∙ (λ i. h.put i ++ same_written units t.units (is ∙ t.written) i) ∙ sym (written_join old.put t.units)
-          ∙ sym (ap (λ (l : List Value). map written l) t.put)
+      put_then w units put is = search (arith, written_join, same_written)
 
       -- without a turn
       idle : turn.put ≡ [] → IsSome new.holding.end.carrier.ended → IsAsWithout ends new
@@ -444,9 +426,7 @@ module _ (known : Known) (barred : Class) (d : Direction) (local : Local)
           (parts : v.coming ≡ front ++ extra) (followed : AllByRecursion MayBeFollowed (units_in extra)) (packet : List ℕ)
           (more : List (List ℕ)) (used : t.used ≡ front ++ packet ∷ more) (hard : IsHardFor d v.course packet) where
         cut_all : ArePackets (front ++ packet ∷ more) (v.holding.held.octets ++ turn.used) t.rest
-        cut_all =
-            subst (λ (l : List (List ℕ)). ArePackets l (v.holding.held.octets ++ turn.used) t.rest) used
-            (subst (λ (x : Holding). x.end.carrier.ended ≡ None → ArePackets t.used (x.held.octets ++ turn.used) t.rest) same t.cut lasts)
+        cut_all = grind arith
 
         front_cut : (us vs : List (List ℕ)) (s r : List ℕ) → ArePackets (us ++ vs) s r → (left : List ℕ) × ArePackets us s left
         front_cut [] vs s r c = (s, refl)
@@ -520,11 +500,9 @@ module _ (known : Known) (barred : Class) (d : Direction) (local : Local)
           IsHardFor d v.course packet → (o : Option EndReason) → v.holding.end.carrier.ended ≡ o →
           ((m : List (List ℕ)) × (t.used ≡ front ++ packet ∷ m))
           ⊎ ((m : List (List ℕ)) × (front ≡ t.used ++ m) × (m ++ packet ∷ more ≡ new.coming)) → IsAsWithout ends new
-      by_packets reads same front extra parts followed packet more there hard (Some reason) over found =
-          over_idle (ap (λ (x : Holding). is_some x.end.carrier.ended) same ∙ ap is_some over)
+      by_packets reads same front extra parts followed packet more there hard (Some reason) over found = grind (arith, over_idle)
       by_packets reads same front extra parts followed packet more there hard None lasts (inl (m, used)) =
-          ends_by same lasts front extra parts followed packet m used hard
-          (stopped same lasts front extra parts followed packet m used hard).how
+          search (arith, ends_by, stopped same lasts front extra parts followed packet m used hard)
       by_packets reads same front extra parts followed packet more there hard None lasts (inr (m, used, rest)) =
           plain same (m ++ extra) (parts ∙ ap (λ (l : List (List ℕ)). l ++ extra) used ∙ append_assoc t.used m extra)
           (λ w holding coming course.

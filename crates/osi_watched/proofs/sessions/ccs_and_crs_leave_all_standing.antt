@@ -1,17 +1,15 @@
 -- A CR and a CC leave all connections of an end standing at a tap: those of the end, and those of the other side.
 -- For the session of each connection of an end.
-use Rattle.osi_watched.proofs.Vocabulary.{[], ap, arith, Bool, false, length, List, map, None, not, Option, refl, Some, subst, sym, true, ℕ}
-use Rattle.osi_watched.proofs.Vocabulary.{◌&&◌, ◌++◌, ◌∙◌, ◌∷◌, ◌≡◌, ◌≤◌, append-nil, AllByRecursion, is_none, nat_le, slice_get, confirm}
-use Rattle.osi_watched.proofs.Vocabulary.{Connect, request, Value, parts_in, Part, Class, is_applied, code_named, is_inside, is_offered}
-use Rattle.osi_watched.proofs.Vocabulary.{is_open, is_silent, asked_by, connection_after, found, found_on, meaning_if, meant}
-use Rattle.osi_watched.proofs.Vocabulary.{Traffic as State, takes, uses_source, Connection, Reach, Half, other, Direction, Left, Right}
-use Rattle.osi_watched.proofs.Vocabulary.{Deeds, said_in, asked, Joined, opened, reference_of, Sessions, spoken, begun_octets, heard}
-use Rattle.osi_watched.proofs.Vocabulary.{octets_of, Spoken, All, applied_found, picked_first, picked_rest, all_before, AreAfter}
-use Rattle.osi_watched.proofs.Vocabulary.{before_begun, before_of, IsJoinedFrom, IsShownNow, IsOneOf}
+use Rattle.osi_watched.proofs.Vocabulary.{[], ap, arith, Bool, false, length, List, map, None, Option, refl, Some, subst, sym, true, ℕ}
+use Rattle.osi_watched.proofs.Vocabulary.{◌++◌, ◌∙◌, ◌∷◌, ◌≡◌, ◌≤◌, append-nil, AllByRecursion, slice_get, confirm, Connect, request, Value}
+use Rattle.osi_watched.proofs.Vocabulary.{parts_in, Part, Class, is_applied, is_open, asked_by, connection_after, found_on, meaning_if}
+use Rattle.osi_watched.proofs.Vocabulary.{meant, Traffic as State, takes, Connection, Reach, Half, other, Direction, Left, Right, Deeds}
+use Rattle.osi_watched.proofs.Vocabulary.{said_in, asked, Joined, opened, reference_of, Sessions, spoken, heard, Spoken, All, applied_found}
+use Rattle.osi_watched.proofs.Vocabulary.{picked_first, picked_rest, all_before, AreAfter, before_begun, before_of, IsJoinedFrom}
+use Rattle.osi_watched.proofs.Vocabulary.{IsShownNow, IsOneOf}
 use Rattle.osi_rules.specs.declared.directions.Direction.TheVariants as way
 use Rattle.osi_tap.specs.Connections.{class_of}
 use Rattle.osi_tap.specs.Connections as joined
-use Rattle.osi_tap.specs.Lines.{Said}
 use Rattle.osi_watched.proofs.small_facts_that_many_lemmas_use.{not_some}
 use Rattle.osi_fair.proofs.small_facts_that_many_lemmas_use.{and_false, no_list}
 use Rattle.osi_watched.proofs.sessions.all_connections_stand.{AllStand, Leaves, like_same, other_after, other_plain, own_after, own_plain}
@@ -24,12 +22,7 @@ use Rattle.osi_watched.proofs.sessions.what_stands_of_a_connection.{waiting_for}
 -- ---- a connection at its beginning
 
 none_joined : (parts : List Part) (s : Spoken) → parts ≡ [] → IsUnsaid s → IsJoinedFrom parts s
-none_joined parts s none u =
-    subst (λ (l : List Part). IsJoinedFrom l s) (sym none) (record {
-      whole = ap (λ (l : List Said). map octets_of l) u.said;
-      unfinished = ap begun_octets u.begun;
-      between = ap is_none u.begun;
-    })
+none_joined parts s none u = grind arith
 
 none_before : (s : Spoken) → IsUnsaid s → all_before s ≡ []
 none_before s u = (λ i. map before_of (u.said i) ++ before_begun (u.begun i))
@@ -60,8 +53,7 @@ starts_shown d r deeds waiting j named mine theirs room put none = record {
 
 -- as long as the other side gave no reference, nothing is for the connection
 for_none : (v : Value) → is_for None v ≡ false
-for_none (request x) = refl
-for_none _ = refl
+for_none v = grind arith
 
 pub none_for : (put : List Value) → waiting_for None put ≡ []
 none_for [] = refl
@@ -123,11 +115,7 @@ other_cr deeds known then_known at x put b s t stays = record {
 -- it is the first answer: right had given no reference
 unanswered : (s : State) (n : ℕ) (x : Connect) (c : Connection) (j : Joined) → IsOneOf c j →
     is_applied (found_on way.Right s c (confirm n x)) ≡ true → j.called ≡ None
-unanswered s n x c j one h =
-    let in_use = uses_source way.Right s.connections (confirm n x) in
-    let f = applied_found c.is_judged (found way.Right s.course in_use c (confirm n x)) h in
-    one.called ∙ none_given c.right.phase c.right.reference (first_answer (is_silent c.right.phase) (is_offered c.offer s.course.class x)
-    (is_inside x) (not in_use) s.course.loose (nat_le (code_named x.parameters.size) c.offer.size_code) f)
+unanswered s n x c j one h = grind (arith, applied_found, none_given, first_answer)
 
 -- of a called end: what it has put there is what waits after the CC
 pub own_cc : (deeds : ℕ → Deeds) (known : Known) (at n : ℕ) (x : Connect) (rest : List Value) (s : State) (t : Sessions) →
@@ -168,12 +156,7 @@ own_cc deeds known at n x rest s t put none sure a = record {
 
 -- of no unit that waits none is the next
 next_none : (o : Option ℕ) (b : Bool) (put : List Value) → waiting_for o put ≡ [] → is_next o b put ≡ false
-next_none o b [] none = and_false b
-next_none o b (v ∷ put) none = by (is_for o v) refl
-  where
-    by : (x : Bool) → is_for o v ≡ x → is_next o b (v ∷ put) ≡ false
-    by true e = absurd (no_list v (waiting_for o put) (sym (picked_first (is_for o) v put e) ∙ none))
-    by false e = ap (λ (x : Bool). b && (x && is_part v)) e ∙ and_false b
+next_none o b put none = grind (arith, and_false, is_for, is_next, no_list, waiting_for, picked_first, is_part)
 
 like_opened : (called : ℕ) (class : Class) (j : Joined) → IsLike Left j (opened called class j)
 like_opened called class j = record { own_is = refl; theirs = refl; named = refl; room = refl }

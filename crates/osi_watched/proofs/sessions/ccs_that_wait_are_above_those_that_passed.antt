@@ -4,17 +4,15 @@
 use Rattle.osi_watched.proofs.Vocabulary.{[], arith, Bool, Err, false, if◌then◌else◌, is_some, List, None, Ok, Option, refl, Result, Some}
 use Rattle.osi_watched.proofs.Vocabulary.{subst, sym, true, ℕ, ◌++◌, ◌+◌, ◌<◌, ◌∷◌, ◌≡◌, ◌≤◌, AllByRecursion, acknowledge, confirm, Connect}
 use Rattle.osi_watched.proofs.Vocabulary.{data0, data2, disconnect, disconnected, error, request, Value, all_given, Standing, with_tsdu}
-use Rattle.osi_watched.proofs.Vocabulary.{accept, refuse, selected_by, Selection, LinkFault, Class, Two, Zero, open_link, sent}
-use Rattle.osi_watched.proofs.Vocabulary.{answers_request, before_class, denies, handed_out, has_peer, in_class, in_two, is_full, react_by}
-use Rattle.osi_watched.proofs.Vocabulary.{Rows, value_at, connects, sends, sends_all, user_does, UserCall, Live, linked, Carrier}
-use Rattle.osi_watched.proofs.Vocabulary.{unit_gives, AreAbove, all_gives, closed_gives, ended_gives, not_less, sent_gives, above_more}
-use Rattle.osi_watched.proofs.Vocabulary.{units_no_cc, put_at, put_before, put_by, put_closed, put_closing, put_for, put_for_request}
-use Rattle.osi_watched.proofs.Vocabulary.{put_for_selection, put_in, put_in_two, put_in_zero, put_leaving, put_linked, put_only, put_sent}
-use Rattle.osi_watched.proofs.Vocabulary.{put_taking, put_together, put_unknown, refusal, Event, HappenAlong, Happens, Whole}
-use Rattle.osi_class.specs.Link.{taken}
+use Rattle.osi_watched.proofs.Vocabulary.{accept, refuse, selected_by, Selection, LinkFault, Class, Two, Zero, sent, answers_request}
+use Rattle.osi_watched.proofs.Vocabulary.{before_class, denies, handed_out, has_peer, in_class, in_two, is_full, react_by, Rows, user_does}
+use Rattle.osi_watched.proofs.Vocabulary.{UserCall, Live, Carrier, unit_gives, AreAbove, all_gives, closed_gives, ended_gives, not_less}
+use Rattle.osi_watched.proofs.Vocabulary.{sent_gives, above_more, units_no_cc, put_at, put_before, put_by, put_closed, put_closing, put_for}
+use Rattle.osi_watched.proofs.Vocabulary.{put_for_request, put_for_selection, put_in, put_in_two, put_in_zero, put_leaving, put_linked}
+use Rattle.osi_watched.proofs.Vocabulary.{put_only, put_sent, put_taking, put_together, put_unknown, refusal, Event, HappenAlong, Happens}
+use Rattle.osi_watched.proofs.Vocabulary.{Whole}
 use Rattle.osi_carrier.specs.React.{answers}
 unfoldable use Rattle.osi_carrier.specs.React.{react}
-use Rattle.osi_carrier.specs.Runs.{breaks, closes}
 use Rattle.osi_rules.specs.declared.directions.Direction.TheVariants as way
 use Rattle.osi_fair.specs.Wholes as wholes
 use Rattle.osi_fair.proofs.each_connection_has_its_line.{IsNoCc}
@@ -29,8 +27,7 @@ no_ccs_join [] ys a b = b
 no_ccs_join (x ∷ xs) ys a b = (a.0, no_ccs_join xs ys a.1 b)
 
 for_unknown : (unit : Value) → NoCcs (put_unknown unit)
-for_unknown (disconnect destination source reason user) = (λ m x e. cc e, tt)
-for_unknown _ = tt
+for_unknown unit = grind arith
 
 for_taking : (r peer : ℕ) (result : Result Standing LinkFault) (held : Option Class) → NoCcs (put_taking r peer result held)
 for_taking r peer (Ok link) held = units_no_cc peer (all_given (handed_out link))
@@ -38,17 +35,13 @@ for_taking r peer (Err fault) (Some Two) = (λ m x e. cc e, tt)
 for_taking r peer (Err fault) _ = tt
 
 for_leaving : (r peer : ℕ) (held : Option Class) → NoCcs (put_leaving r peer held)
-for_leaving r peer (Some Two) = (λ m x e. cc e, tt)
-for_leaving r peer _ = tt
+for_leaving r peer held = grind arith
 
 for_linked : (r peer : ℕ) (link : Standing) (unit : Value) (held : Option Class) → NoCcs (put_linked r peer link unit held)
-for_linked r peer link (disconnect destination source reason user) held = for_leaving r peer held
-for_linked r peer link v held = for_taking r peer (taken link v) held
+for_linked r peer link unit held = grind (arith, for_leaving, for_taking)
 
 for_connection : (r : ℕ) (o : Option Live) (unit : Value) (held : Option Class) → NoCcs (put_at r o unit held)
-for_connection r None unit held = for_unknown unit
-for_connection r (Some (linked peer link)) unit held = for_linked r peer link unit held
-for_connection r _ unit held = tt
+for_connection r o unit held = grind (arith, for_unknown, for_linked)
 
 -- none, or one with the next reference
 data Puts (s new : Carrier) (units : List Value) : Type 0 where
@@ -77,12 +70,9 @@ for_request : (c : Connect) (s : Carrier) → Puts s (answers_request c s) (put_
 for_request c s = by_room c (has_peer c.source s.live) (is_full s) s
 
 before : (is_caller : Bool) (unit : Value) (s : Carrier) → Puts s (before_class is_caller unit s) (put_before is_caller unit s)
-before true (confirm destination c) s =
-    puts_none (for_connection destination (value_at destination s.live) (confirm destination c) s.class)
-before true (disconnect destination source reason user) s =
-    puts_none (for_connection destination (value_at destination s.live) (disconnect destination source reason user) s.class)
-before true (error destination cause) s =
-    puts_none (for_connection destination (value_at destination s.live) (error destination cause) s.class)
+before true (confirm destination c) s = grind (arith, for_connection)
+before true (disconnect destination source reason user) s = grind (arith, for_connection)
+before true (error destination cause) s = grind (arith, for_connection)
 before true _ s = puts_none tt
 before false (request c) s = for_request c s
 before false _ s = puts_none tt
@@ -92,40 +82,12 @@ only [] unit s = tt
 only ((r, connection) ∷ rows) unit s = for_connection r (Some connection) unit s.class
 
 in_class_zero : (is_caller : Bool) (unit : Value) (s : Carrier) → NoCcs (put_in_zero is_caller unit s)
-in_class_zero false unit s = only s.live unit s
-in_class_zero true (request c) s = tt
-in_class_zero true v s = only s.live v s
+in_class_zero is_caller unit s = grind (arith, only)
 
 -- a unit that is no CR
 in_class_two : (is_caller : Bool) (unit : Value) (s : Carrier) → ((c : Connect) → unit ≡ request c → ⊥) →
     NoCcs (put_in_two is_caller unit s)
-in_class_two b (request c) s none = absurd (none c refl)
-in_class_two true (confirm destination c) s none =
-    for_connection destination (value_at destination s.live) (confirm destination c) s.class
-in_class_two true (disconnect destination source reason user) s none =
-    for_connection destination (value_at destination s.live) (disconnect destination source reason user) s.class
-in_class_two true (disconnected destination source) s none =
-    for_connection destination (value_at destination s.live) (disconnected destination source) s.class
-in_class_two true (data0 end user) s none = tt
-in_class_two true (data2 destination number end user) s none =
-    for_connection destination (value_at destination s.live) (data2 destination number end user) s.class
-in_class_two true (acknowledge credit destination number) s none =
-    for_connection destination (value_at destination s.live) (acknowledge credit destination number) s.class
-in_class_two true (error destination cause) s none =
-    for_connection destination (value_at destination s.live) (error destination cause) s.class
-in_class_two false (confirm destination c) s none =
-    for_connection destination (value_at destination s.live) (confirm destination c) s.class
-in_class_two false (disconnect destination source reason user) s none =
-    for_connection destination (value_at destination s.live) (disconnect destination source reason user) s.class
-in_class_two false (disconnected destination source) s none =
-    for_connection destination (value_at destination s.live) (disconnected destination source) s.class
-in_class_two false (data0 end user) s none = tt
-in_class_two false (data2 destination number end user) s none =
-    for_connection destination (value_at destination s.live) (data2 destination number end user) s.class
-in_class_two false (acknowledge credit destination number) s none =
-    for_connection destination (value_at destination s.live) (acknowledge credit destination number) s.class
-in_class_two false (error destination cause) s none =
-    for_connection destination (value_at destination s.live) (error destination cause) s.class
+in_class_two is_caller unit s none = grind (arith, for_connection)
 
 two_by : (is_caller : Bool) (unit : Value) (s : Carrier) → Puts s (in_two is_caller unit s) (put_in_two is_caller unit s)
 two_by true (request c) s = puts_none tt
@@ -153,31 +115,19 @@ for_sent tsdu (Some (peer, link)) = units_no_cc peer (all_given (with_tsdu link 
 
 for_together : (r : ℕ) (tsdus : List (List ℕ)) (s : Carrier) → NoCcs (put_together r tsdus s)
 for_together r [] s = tt
-for_together r (tsdu ∷ tsdus) s =
-    no_ccs_join (put_sent tsdu (open_link r s)) (put_together r tsdus (sent r tsdu s)) (for_sent tsdu (open_link r s))
-    (for_together r tsdus (sent r tsdu s))
+for_together r (tsdu ∷ tsdus) s = grind (arith, no_ccs_join, for_sent, for_together r tsdus (sent r tsdu s))
 
 for_closed : (r reason peer : ℕ) (held : Option Class) → NoCcs (put_closed r reason peer held)
-for_closed r reason peer (Some Zero) = tt
-for_closed r reason peer _ = (λ m x e. cc e, tt)
+for_closed r reason peer held = grind arith
 
 for_closing : (r reason : ℕ) (o : Option (ℕ × Standing)) (held : Option Class) → NoCcs (put_closing r reason o held)
-for_closing r reason None held = tt
-for_closing r reason (Some (peer, link)) held = for_closed r reason peer held
+for_closing r reason o held = grind (arith, for_closed)
 
 call_puts : (call : UserCall) (s : Carrier) → NoCcs (put_by call s)
-call_puts (connects calling called) s = (λ m x e. cc e, tt)
-call_puts (sends r tsdu) s = for_sent tsdu (open_link r s)
-call_puts (sends_all r tsdus) s = for_together r tsdus s
-call_puts (closes r reason) s = for_closing r reason (open_link r s) s.class
-call_puts (breaks reason) s = tt
+call_puts call s = grind (arith, for_sent, for_together, for_closing)
 
 call_gives : (call : UserCall) (s : Carrier) → s.given ≤ (user_does call s).given
-call_gives (connects calling called) s = omega arith
-call_gives (sends r tsdu) s = not_less s.given (user_does (sends r tsdu) s).given (sent_gives r tsdu (open_link r s) s)
-call_gives (sends_all r tsdus) s = not_less s.given (user_does (sends_all r tsdus) s).given (all_gives r tsdus s)
-call_gives (closes r reason) s = not_less s.given (user_does (closes r reason) s).given (closed_gives r reason (open_link r s) s)
-call_gives (breaks reason) s = not_less s.given (user_does (breaks reason) s).given (ended_gives (is_some s.ended) reason s)
+call_gives call s = grind (arith, not_less, sent_gives, all_gives, closed_gives, ended_gives)
 
 -- ---- those that wait
 
@@ -227,28 +177,17 @@ passes_confirmed b m x put w e a = subst (AreAbove w.end.given b) e a
 module _ (b : ℕ) where
   arrived : (unit : Value) (w : Whole) → Puts w.end (react unit w.end) (put_for unit w.end) → AreAboveAt b w →
       AreAbove (react unit w.end).given b (w.put ++ put_for unit w.end)
-  arrived unit w (puts_none none) a =
-      above_higher w.end.given (react unit w.end).given b (w.put ++ put_for unit w.end) (unit_gives unit w.end)
-      (above_more w.end.given b w.put (put_for unit w.end) none a)
-  arrived unit w (puts_one m x source given is) a =
-      subst (λ (n : ℕ). AreAbove n b (w.put ++ put_for unit w.end)) (sym given)
-      (subst (λ (l : List Value). AreAbove (w.end.given + 1) b (w.put ++ l)) (sym is) (above_cc w.end.given b w.put m x source a))
+  arrived unit w h a = grind (arith, above_higher, unit_gives, above_more, above_cc)
 
   passes_one : (given : ℕ) (v : Value) (put : List Value) → AreAbove given b (v ∷ put) → AreAbove given b put
-  passes_one given (request x) put h = h
-  passes_one given (confirm destination x) put (above, h) = above_lower given b x.source put (omega arith) h
-  passes_one given _ put h = h
+  passes_one given v put h = grind (arith, above_lower)
 
   above_happens : (event : Event) (old new : Whole) → Happens way.Right event old new → AreAboveAt b old → AreAboveAt b new
   above_happens wholes.arrives old new (unit, coming, is) a =
       subst (AreAboveAt b) (sym is) (arrived unit old (unit_puts unit old.end) a)
-  above_happens (wholes.calls call) old new (may, is) a =
-      subst (AreAboveAt b) (sym is)
-      (above_higher old.end.given (user_does call old.end).given b (old.put ++ put_by call old.end) (call_gives call old.end)
-      (above_more old.end.given b old.put (put_by call old.end) (call_puts call old.end) a))
+  above_happens (wholes.calls call) old new (may, is) a = grind (arith, above_higher, call_gives, above_more, call_puts)
   above_happens wholes.begins_own old new (some, none, is) a = subst (AreAboveAt b) (sym is) a
-  above_happens wholes.passes_own old new (v, put, begun, is) a =
-      subst (AreAboveAt b) (sym is) (passes_one old.end.given v new.put (subst (AreAbove old.end.given b) put a))
+  above_happens wholes.passes_own old new (v, put, begun, is) a = grind (arith, passes_one)
   above_happens wholes.begins_other old new is a = subst (AreAboveAt b) (sym is) a
   above_happens (wholes.passes_other v) old new (ranges, is) a = subst (AreAboveAt b) (sym is) a
   above_happens wholes.passes_rubbish old new is a = subst (AreAboveAt b) (sym is) a

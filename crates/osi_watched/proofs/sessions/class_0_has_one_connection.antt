@@ -1,21 +1,20 @@
 -- Until class 2 is selected, one connection at most is not over for left; so in class 0 one was opened, and each other one was refused.
 -- For the session of the connection of an end in class 0.
+use Rattle.std.proofs.Common.{arith}
 use Rattle.osi_watched.proofs.Vocabulary.{[], ap, Bool, false, if◌then◌else◌, inl, inr, is_some, List, None, not, Option, option_map, refl}
 use Rattle.osi_watched.proofs.Vocabulary.{set, Some, subst, suc, sym, true, zero, ℕ, ◌&&◌, ◌==◌, ◌∙◌, ◌∷◌, ◌≡◌, ◌⊎◌, eqb-true}
 use Rattle.osi_watched.proofs.Vocabulary.{slice_get-map, list_all, position, slice_get, ◌||◌, confirm, Connect, data0, disconnect}
-use Rattle.osi_watched.proofs.Vocabulary.{disconnected, error, request, Value, Class, Two, Zero, is_applied, reach_of, first_failed, is_due}
-use Rattle.osi_watched.proofs.Vocabulary.{begins, is_closed, is_closing, is_free, is_live, is_named, is_open, is_over, is_over_by}
-use Rattle.osi_watched.proofs.Vocabulary.{is_refused, is_silent, seen, asked_by, asks_by, asks_kept, at_found, at_place, class_for}
-use Rattle.osi_watched.proofs.Vocabulary.{closing_phase, connection_after, course_after, course_after_none, course_begins, found, found_on}
-use Rattle.osi_watched.proofs.Vocabulary.{fresh, half_after, is_stopped, judged_on, none_told, refused_reach, request_tests, route}
-use Rattle.osi_watched.proofs.Vocabulary.{route_in, routed, sent_on, Traffic as State, takes, unnamed, unnamed_told, uses_source}
-use Rattle.osi_watched.proofs.Vocabulary.{Connection, Rules, Way as Direction, Finding, Broke, Kept, NotJudged, Reach, Half, Phase, Route}
-use Rattle.osi_watched.proofs.Vocabulary.{unlike, applied_found, applied_judged, no_item, not_first, not_true, AreJudged, reached_class}
-use Rattle.osi_watched.proofs.Vocabulary.{begun_live, each_add, each_map, each_set, first_true, HoldsOfEach, one_added, one_changed}
-use Rattle.osi_watched.proofs.Vocabulary.{one_mapped, one_put, passes_each, NamesApart as AreApart, Sound, lasts_passing, set_there}
-use Rattle.osi_watched.proofs.Vocabulary.{HoldsOfOne, packet, passes, Passing, rubbish, unit}
-use Rattle.osi_watched.proofs.Vocabulary.{has_broken}
-use Rattle.osi_watched.proofs.Vocabulary.{noted}
+use Rattle.osi_watched.proofs.Vocabulary.{disconnected, error, request, Value, Class, Two, Zero, is_applied, reach_of, first_failed, begins}
+use Rattle.osi_watched.proofs.Vocabulary.{is_closed, is_closing, is_free, is_live, is_named, is_open, is_over, is_over_by, is_refused}
+use Rattle.osi_watched.proofs.Vocabulary.{is_silent, seen, asked_by, asks_by, asks_kept, at_found, at_place, class_for, closing_phase}
+use Rattle.osi_watched.proofs.Vocabulary.{connection_after, course_after, course_after_none, course_begins, found, found_on, fresh}
+use Rattle.osi_watched.proofs.Vocabulary.{half_after, is_stopped, judged_on, none_told, refused_reach, request_tests, route, route_in}
+use Rattle.osi_watched.proofs.Vocabulary.{routed, sent_on, Traffic as State, takes, unnamed_told, uses_source, Connection, Rules}
+use Rattle.osi_watched.proofs.Vocabulary.{Way as Direction, Finding, Broke, Kept, NotJudged, Reach, Half, Phase, Route, unlike}
+use Rattle.osi_watched.proofs.Vocabulary.{applied_found, applied_judged, no_item, not_first, not_true, AreJudged, reached_class, begun_live}
+use Rattle.osi_watched.proofs.Vocabulary.{each_add, each_map, each_set, first_true, HoldsOfEach, one_added, one_changed, one_mapped}
+use Rattle.osi_watched.proofs.Vocabulary.{one_put, passes_each, NamesApart as AreApart, Sound, lasts_passing, set_there, HoldsOfOne, packet}
+use Rattle.osi_watched.proofs.Vocabulary.{passes, Passing, rubbish, unit, has_broken, noted}
 use Rattle.osi_rules.specs.declared.directions.Direction.TheVariants.{Left, Right}
 use Rattle.osi_rules.specs.declared.findings.Reach.TheVariants as reach
 use Rattle.osi_rules.specs.declared.findings.Rule.TheVariants as rule
@@ -55,19 +54,13 @@ NarrowIf s = (s.course.class ≡ Some Two → ⊥) → Narrow s
 
 over_so : (j : Bool) (p k : Phase) → is_open p ≡ true →
     (j && (is_refused p || (is_refused k || (is_closed p || (is_closing p && (is_closing k || is_closed k)))))) ≡ true → is_refused k ≡ true
-over_so true phase.Open phase.Refused h e = refl
-over_so true phase.Open _ h e = absurd (cc)
-over_so true phase.Silent k h e = absurd (cc)
-over_so true _ k h e = absurd (cc)
-over_so false p k h e = absurd (cc)
+over_so j p k h e = grind arith
 
 both_first : (a b : Bool) → (a && b) ≡ true → a ≡ true
-both_first true b h = refl
-both_first false b h = absurd (cc)
+both_first a b h = grind arith
 
 not_over : (b : Bool) → (b ≡ true → ⊥) → not b ≡ true
-not_over true h = absurd (h refl)
-not_over false h = refl
+not_over b h = grind arith
 
 -- what is over for left was refused by right
 refused_so : (cs : List Connection) (i : ℕ) (c : Connection) → AreApart cs → slice_get cs i ≡ Some c → is_open c.left.phase ≡ true →
@@ -80,8 +73,7 @@ refused_so cs i c apart there up over =
 -- so what right has opened is not over for left
 opened_live : (cs : List Connection) (i : ℕ) (c : Connection) → AreApart cs → slice_get cs i ≡ Some c → is_open c.left.phase ≡ true →
     is_open c.right.phase ≡ true → is_over Left c ≡ true → ⊥
-opened_live cs i c apart there up live over =
-    let (known, refused) = refused_so cs i c apart there up over in open_not_refused c.right.phase live refused
+opened_live cs i c apart there up live over = grind (arith, refused_so, open_not_refused)
 
 pub narrow_only : (s : State) → AreApart s.connections → AreJudged s → s.course.loose ≡ false → Narrow s → s.course.class ≡ Some Zero →
     IsOnly s
@@ -110,47 +102,27 @@ narrow_only s apart judged firm n class =
 -- ---- what is of no single connection
 
 pub reached_seen : (d : Direction) (r : Reach) (c : Rules) → (reached d r c).class_seen ≡ c.class_seen
-reached_seen d reach.Nothing c = refl
-reached_seen Left reach.Side c = refl
-reached_seen Right reach.Side c = refl
-reached_seen d _ c = refl
+reached_seen d r c = grind arith
 
 pub none_same : (v : Value) (c : Rules) → ((course_after_none v c).class ≡ c.class) × ((course_after_none v c).class_seen ≡ c.class_seen)
-none_same (request x) c = (refl, refl)
-none_same _ c = (refl, refl)
+none_same v c = grind arith
 
 pub after_seen : (d : Direction) (c : Connection) (v : Value) (x : Bool) (course : Rules) →
     (course_after d c v x course).class_seen ≡ course.class_seen
-after_seen d c (confirm destination y) true course = refl
-after_seen d c (confirm destination y) false course = refl
-after_seen d c (disconnect destination source reason user) x course = refl
-after_seen d c _ x course = refl
+after_seen d c v x course = grind arith
 
 after_false : (d : Direction) (c : Connection) (v : Value) (course : Rules) → (course_after d c v false course).class ≡ course.class
-after_false d c (confirm destination y) course = refl
-after_false d c _ course = refl
+after_false d c v course = grind arith
 
 with_course : (s : State) (c : Rules) → c.class ≡ s.course.class → c.class_seen ≡ s.course.class_seen → Narrow s →
     Narrow (record s { course = c })
-with_course s c class seen n = record {
-  known = λ h. n.known (sym seen ∙ h);
-  asked = n.asked;
-  answered = n.answered;
-  one = n.one;
-  none = λ h. n.none (sym class ∙ h);
-  opened = λ h. n.opened (sym class ∙ h);
-}
+with_course s c class seen n = grind arith
 
 none_narrow : (d : Direction) (f : Finding) (s : State) → Narrow s → Narrow (none_told d f s).state
-none_narrow d f s n =
-    let r = reach_of (class_for d s.course) f in
-    with_course s (noted d f (reached d r s.course)) (reached_class d r s.course) (reached_seen d r s.course) n
+none_narrow d f s n = grind (arith, with_course, reached_class, reached_seen)
 
 unnamed_narrow : (d : Direction) (v : Value) (s : State) → Narrow s → Narrow (unnamed_told d v s).state
-unnamed_narrow d v s n =
-    let (class, seen) = none_same v s.course in
-    none_narrow d (unnamed d s.course v) (record s { course = course_after_none v s.course })
-    (with_course s (course_after_none v s.course) class seen n)
+unnamed_narrow d v s n = grind (arith, none_same, none_narrow, with_course)
 
 -- ---- one connection changes
 
@@ -211,14 +183,7 @@ module _ (s : State) (p : ℕ) (c new : Connection) (course : Rules) (there : sl
 -- ---- a unit for a connection
 
 judged_fits : (s : State) (course : Rules) (c new : Connection) (r : Reach) → Fits s course c new → Fits s course c (judged_on r new)
-judged_fits s course c new reach.Connection f = record {
-  up = f.up;
-  answers = f.answers;
-  live = λ j k. absurd (cc j);
-  none = f.none;
-  zero = f.zero;
-}
-judged_fits s course c new _ f = f
+judged_fits s course c new r f = grind arith
 
 -- which units may be for a connection: a DR of right, while no class is selected
 abbrev IsRefusal : Direction → State → Type 0
@@ -230,43 +195,31 @@ MayBe (disconnect destination source reason user) d s = IsRefusal d s
 MayBe _ d s = Unit {0}
 
 one_test : (b : Bool) → is_applied (first_failed ((b, Broke rule.Closed) ∷ [])) ≡ true → b ≡ true
-one_test true h = refl
-one_test false h = absurd (cc)
+one_test b h = grind arith
 
 error_test : (b erred : Bool) → is_applied (first_failed ((b || not erred, NotJudged) ∷ (b, Broke rule.WrongForm) ∷ [])) ≡ true →
     b ≡ true
-error_test true erred h = refl
-error_test false true h = absurd (cc)
-error_test false false h = absurd (cc)
+error_test b erred h = grind arith
 
 due_test : (due told strays : Bool) →
     is_applied (first_failed ((due || not strays, NotJudged) ∷ (told, Broke rule.UnknownReference) ∷ (due, Broke rule.NothingToAnswer)
     ∷ [])) ≡ true → due ≡ true
-due_test true told strays h = refl
-due_test false told true h = absurd (cc)
-due_test false true false h = absurd (cc)
-due_test false false false h = absurd (cc)
+due_test due told strays h = grind arith
 
 due_closing : (a b c : Bool) → (a && (b && c)) ≡ true → b ≡ true
-due_closing true true c h = refl
-due_closing true false c h = absurd (cc)
-due_closing false b c h = absurd (cc)
+due_closing a b c h = grind arith
 
 open_silent : (p : Phase) → is_open p ≡ true → is_silent p ≡ true → ⊥
-open_silent phase.Silent h k = cc
-open_silent _ h k = cc
+open_silent p h k = grind arith
 
 open_closing : (p : Phase) → is_open p ≡ true → is_closing p ≡ true → ⊥
-open_closing phase.Silent h k = cc
-open_closing _ h k = cc
+open_closing p h k = grind arith
 
 silent_closed : (p : Phase) → is_silent p ≡ true → is_open p ≡ false
-silent_closed phase.Open h = absurd (cc)
-silent_closed _ h = refl
+silent_closed p h = grind arith
 
 or_not : (a b : Bool) → (a || b) ≡ true → b ≡ false → a ≡ true
-or_not true b h k = refl
-or_not false b h k = absurd (differ b h k)
+or_not a b h k = grind (arith, differ)
 
 module _ (s : State) (c : Connection) (in_use : Bool) (up : is_open c.left.phase ≡ true) (answers : IsAnswer c.right.phase)
     (sound : Sound c) (none : s.course.class ≡ None → is_open c.right.phase ≡ false) where
@@ -274,109 +227,51 @@ module _ (s : State) (c : Connection) (in_use : Bool) (up : is_open c.left.phase
 
   left_same : (half : Half) → half.phase ≡ c.left.phase → is_over Left c ≡ false →
       Fits s s.course c (record c { left = half })
-  left_same half same live = record {
-    up = ap is_open same ∙ up;
-    answers = answers;
-    live = λ j k. (j, ap not live);
-    none = λ h. (h, none h);
-    zero = λ h. inr (h, refl);
-  }
+  left_same half same live = grind arith
 
   left_fits : (v : Value) → MayBe v Left s → is_over Left c ≡ false → is_applied (found Left s.course in_use c v) ≡ true →
       Fits s (course_after Left c v true s.course) c (sent_on Left v c)
-  left_fits (request x) may live h = absurd (cc)
-  left_fits (confirm destination x) may live h = absurd (cc)
-  left_fits (disconnect destination source reason user) may live h = absurd may
-  left_fits (disconnected destination source) may live h =
-      let due = due_test (is_due Left c source) (not (is_silent c.left.phase)) s.course.strays h in
-      let closing = due_closing (is_open c.left.phase) (is_closing c.seen_by_left.phase) (source == c.left.reference) due in
-      differ (is_closing c.right.phase) (sound.left_knows.closing closing) answers.closing
-  left_fits (error destination cause) may live h =
-      absurd (open_silent c.left.phase up (error_test (is_silent c.left.phase) s.course.right_erred h))
-  left_fits v may live h =
-      left_same (half_after v c.left) refl live
+  left_fits v may live h = grind (arith, due_test, due_closing, differ, open_silent, error_test, left_same)
 
   -- ---- of right
 
   right_same : (half : Half) → half.phase ≡ c.right.phase → Fits s s.course c (record c { right = half })
-  right_same half same = record {
-    up = up;
-    answers = record { closing = ap is_closing same ∙ answers.closing; closed = ap is_closed same ∙ answers.closed };
-    live = λ j k. (j, k);
-    none = λ h. (h, ap is_open same ∙ none h);
-    zero = λ h. inr (h, ap is_open same);
-  }
+  right_same half same = grind arith
 
   right_refuses : (half : Half) → half.phase ≡ phase.Refused → is_open c.right.phase ≡ false → Fits s s.course c (record c { right = half })
-  right_refuses half refused closed = record {
-    up = up;
-    answers = record { closing = ap is_closing refused; closed = ap is_closed refused };
-    live = λ j k. (j, k);
-    none = λ h. (h, ap is_open refused);
-    zero = λ h. inr (h, ap is_open refused ∙ sym closed);
-  }
+  right_refuses half refused closed = grind arith
 
   closing_so : (b : Bool) (half : Half) → b ≡ true → (closing_phase b half).phase ≡ phase.Refused
-  closing_so true half h = refl
-  closing_so false half h = absurd (cc)
+  closing_so b half h = grind arith
 
   right_closes : (destination source reason : ℕ) (user : List ℕ) → s.course.class ≡ None → is_silent c.right.phase ≡ true →
       Fits s (course_after Right c (disconnect destination source reason user) true s.course) c
       (sent_on Right (disconnect destination source reason user) c)
-  right_closes destination source reason user class silent =
-      let f = right_refuses (closing_phase (is_silent c.right.phase) c.right) (closing_so (is_silent c.right.phase) c.right silent)
-      (silent_closed c.right.phase silent) in
-      record { up = f.up; answers = f.answers; live = f.live; none = f.none; zero = f.zero }
+  right_closes destination source reason user class silent = grind (arith, right_refuses, closing_so, silent_closed)
 
   right_fits : (v : Value) → MayBe v Right s → is_applied (found Right s.course in_use c v) ≡ true →
       Fits s (course_after Right c v true s.course) c (sent_on Right v c)
   right_fits (request x) may h = absurd (cc)
-  right_fits (confirm destination x) may h = record {
-    up = up;
-    answers = record { closing = refl; closed = refl };
-    live = λ j k. (j, k);
-    none = λ k. absurd (cc);
-    zero = λ k. inl refl;
-  }
-  right_fits (disconnect destination source reason user) may h =
-      right_closes destination source reason user may
-      (or_not (is_silent c.right.phase) (is_open c.right.phase) (one_test (is_silent c.right.phase || is_open c.right.phase) h) (none may))
-  right_fits (disconnected destination source) may h =
-      let due = due_test (is_due Right c source) (not (is_silent c.right.phase)) s.course.strays h in
-      let closing = due_closing (is_open c.right.phase) (is_closing c.seen_by_right.phase) (source == c.right.reference) due in
-      absurd (open_closing c.left.phase up (sound.right_knows.closing closing))
-  right_fits (error destination cause) may h =
-      right_refuses (half_after (error destination cause) c.right) refl
-      (silent_closed c.right.phase (error_test (is_silent c.right.phase) s.course.left_erred h))
+  right_fits (confirm destination x) may h = grind arith
+  right_fits (disconnect destination source reason user) may h = grind (arith, right_closes, or_not, one_test)
+  right_fits (disconnected destination source) may h = grind (arith, due_test, due_closing, open_closing)
+  right_fits (error destination cause) may h = grind (arith, right_refuses, silent_closed, error_test)
   right_fits v may h = right_same (half_after v c.right) refl
 
   both_fits : (d : Direction) (v : Value) → MayBe v d s → is_over d c ≡ false → is_applied (found d s.course in_use c v) ≡ true →
       Fits s (course_after d c v true s.course) c (sent_on d v c)
-  both_fits Left v may live h = left_fits v may live h
-  both_fits Right v may live h = right_fits v may h
+  both_fits d v may live h = grind (arith, left_fits, right_fits)
 
 -- what stays of a connection
 same_fits : (s : State) (course : Rules) (c : Connection) → course.class ≡ s.course.class → is_open c.left.phase ≡ true →
     IsAnswer c.right.phase → (s.course.class ≡ None → is_open c.right.phase ≡ false) → Fits s course c c
-same_fits s course c class up answers none = record {
-  up = up;
-  answers = answers;
-  live = λ j k. (j, k);
-  none = λ h. (sym class ∙ h, none (sym class ∙ h));
-  zero = λ h. inr (sym class ∙ h, refl);
-}
+same_fits s course c class up answers none = grind arith
 
 -- ---- by the way that a unit takes
 
 class_reached : (s : State) (d : Direction) (r : Reach) (course : Rules) (c new : Connection) → Fits s course c new →
     (finding : Finding) → Fits s (noted d finding (reached d r course)) c new
-class_reached s d r course c new f finding = record {
-  up = f.up;
-  answers = f.answers;
-  live = f.live;
-  none = λ h. f.none (sym (reached_class d r course) ∙ h);
-  zero = λ h. f.zero (sym (reached_class d r course) ∙ h);
-}
+class_reached s d r course c new f finding = grind (arith, reached_class)
 
 module _ (d : Direction) (v : Value) (s : State) (apart : AreApart s.connections) (n : Narrow s) (may : MayBe v d s) where
   one_by : (x : Bool) (p : ℕ) (c : Connection) (r : Reach) → slice_get s.connections p ≡ Some c → is_over d c ≡ false →
@@ -441,8 +336,7 @@ none_waits : (cs : List Connection) (i : ℕ) (e : Connection) → list_all (is_
 none_waits cs i e all at live = differ (is_over Left e) (all_so (is_over Left) cs i e all at) (not_true (is_over Left e) live)
 
 unknown_all : (k : Option Class) (all : Bool) → k ≡ None → (is_some k || all) ≡ true → all ≡ true
-unknown_all None all e h = h
-unknown_all (Some class) all e h = absurd (cc)
+unknown_all k all e h = grind arith
 
 module _ (x : Connect) (s : State) (apart : AreApart s.connections) (n : Narrow s) (unknown : s.course.class_seen ≡ None)
     (all : list_all (is_over Left) s.connections ≡ true) where
@@ -531,17 +425,14 @@ module _ (s : State) (apart : AreApart s.connections) (n : Narrow s) where
 -- ---- a packet begins
 
 begun_judged : (d : Direction) (c : Connection) → (begins d c).is_judged ≡ true → c.is_judged ≡ true
-begun_judged Left c j = j
-begun_judged Right c j = j
+begun_judged d c j = grind arith
 
 begun_class : (d : Direction) (c : Rules) → (course_begins d c).class ≡ c.class
-begun_class Left c = refl
-begun_class Right c = refl
+begun_class d c = grind arith
 
 begun_seen : (d : Direction) (c : Rules) → (c.class ≡ Some Two → ⊥) → (c.class_seen ≡ Some Two → ⊥) →
     (course_begins d c).class_seen ≡ Some Two → ⊥
-begun_seen Left c class seen h = class h
-begun_seen Right c class seen h = seen h
+begun_seen d c class h h2 = grind arith
 
 begins_narrow : (d : Direction) (s : State) → AreApart s.connections → (s.course.class ≡ Some Two → ⊥) → Narrow s →
     Narrow (passes (packet d) s)

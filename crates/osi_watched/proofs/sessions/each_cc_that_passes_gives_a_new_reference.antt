@@ -41,21 +41,11 @@ pub record PassesOn (first : Whole) (b : ℕ) (unit : Value) (j : Joint) : Type 
   pub gives : IsUpTo Right ahead.bound unit
 
 up_to : (v : Value) (b n : ℕ) → b ≤ n → IsUpTo Right b v → IsUpTo Right n v
-up_to (confirm m x) b n up h = (h.0, omega (arith, up, h.1))
-up_to (request x) b n up h = tt
-up_to (disconnect m source reason user) b n up h = tt
-up_to (disconnected m source) b n up h = tt
-up_to (data0 end user) b n up h = tt
-up_to (data2 m number end user) b n up h = tt
-up_to (acknowledge credit m number) b n up h = tt
-up_to (error m cause) b n up h = tt
+up_to v b n up h = grind arith
 
 -- no connection has a reference above all of the tap
 pub above_unused : (b r : ℕ) (t : Sessions) → AreUpTo Right b t → b < r → IsUnused Right r t
-above_unused b r t up less = record {
-  live = λ i j here named. (let (some, low) = up.live i j r here named in absurd (omega (arith, low, less)));
-  done = λ i j here named. (let (some, low) = up.done i j r here named in absurd (omega (arith, low, less)));
-}
+above_unused b r t up less = grind arith
 
 module _ (first : Whole) where
   -- what the whole end has put, and what the end has put
@@ -64,22 +54,17 @@ module _ (first : Whole) where
 
   -- a CC that waits is above all references at the tap
   pub waits_above : (j : Joint) (h : IsAhead first j) → AllByRecursion CanBeWritten j.put → (n r : ℕ) → HasCc n r j.put → h.bound < r
-  waits_above j h can n r has =
-      let f = h.followed in
-      has_above f.whole.end.given h.bound n r f.whole.put h.above
-      (has_alike n r j.put f.whole.put (turned f.whole.put j.put (puts_alike j f can)) has)
+  waits_above j h can n r has = grind (arith, has_above, has_alike, turned, puts_alike)
 
   -- the reference of the CC that passes is above
   pub passes_above : (at m : ℕ) (x : Connect) (old new : Joint) → Steps Right (passes_own at (confirm m x)) old new →
       (h : IsAhead first old) → h.bound < x.source
   passes_above at m x old new (read, octets, put, begun, is) h =
-      let s = own_first Right first old new (confirm m x) (read, octets, put) h.followed in
-      (passes_confirmed h.bound m x s.rest h.followed.whole s.is h.above).0
+      grind (arith, passes_confirmed, own_first Right first old new (confirm m x) (read, octets, put) h.followed)
 
   pub gives_new : (at : ℕ) (unit : Value) (old new : Joint) → Steps Right (passes_own at unit) old new → IsAhead first old →
       GivesNew Right unit old.course.sessions
-  gives_new at (confirm m x) old new step h =
-      above_unused h.bound x.source old.course.sessions h.below (passes_above at m x old new step h)
+  gives_new at (confirm m x) old new step h = search (arith, above_unused, passes_above)
   gives_new at (request x) old new step h = tt
   gives_new at (disconnect n source reason user) old new step h = tt
   gives_new at (disconnected n source) old new step h = tt
@@ -202,13 +187,9 @@ module _ (first : Whole) where
       PassesOn first h.bound unit new
   passes_own_ahead proper at (confirm m x) old new step places h = passes_cc at m x old new step places h
   passes_own_ahead proper at (request x) old new step places h = passes_another proper at (request x) old new step places h tt
-  passes_own_ahead proper at (disconnect n source reason user) old new step places h =
-      passes_another proper at (disconnect n source reason user) old new step places h tt
-  passes_own_ahead proper at (disconnected n source) old new step places h =
-      passes_another proper at (disconnected n source) old new step places h tt
+  passes_own_ahead proper at (disconnect n source reason user) old new step places h = search (arith, passes_another)
+  passes_own_ahead proper at (disconnected n source) old new step places h = search (arith, passes_another)
   passes_own_ahead proper at (data0 end user) old new step places h = passes_another proper at (data0 end user) old new step places h tt
-  passes_own_ahead proper at (data2 n number end user) old new step places h =
-      passes_another proper at (data2 n number end user) old new step places h tt
-  passes_own_ahead proper at (acknowledge credit n number) old new step places h =
-      passes_another proper at (acknowledge credit n number) old new step places h tt
+  passes_own_ahead proper at (data2 n number end user) old new step places h = search (arith, passes_another)
+  passes_own_ahead proper at (acknowledge credit n number) old new step places h = search (arith, passes_another)
   passes_own_ahead proper at (error n cause) old new step places h = passes_another proper at (error n cause) old new step places h tt

@@ -1,7 +1,7 @@
 -- At a tap each CR of a calling end that passes gives a new reference; and this stays so with each step.
 -- For all connections of an end and a tap.
-use Rattle.std.proofs.Common.{◌≡◌, ◌∙◌, ◌⊎◌, inl, inr, refl, sym, ap, subst, ℕ, ◌<◌, ◌≤◌, Bool, true, false, List, [], ◌∷◌, ◌++◌, length}
-use Rattle.std.proofs.Common.{Some, arith}
+use Rattle.std.proofs.Common.{◌≡◌, ◌∙◌, ◌⊎◌, inl, inr, refl, sym, ap, subst, ℕ, ◌<◌, ◌≤◌, Bool, false, List, [], ◌∷◌, ◌++◌, length, Some}
+use Rattle.std.proofs.Common.{arith}
 use Rattle.std.specs.Prelude.{slice_get}
 use Rattle.std.specs.List.{AllByRecursion}
 use Rattle.osi_tpdu.specs.Value.{Connect, Value, acknowledge, confirm, data0, data2, disconnect, disconnected, error, request}
@@ -14,7 +14,7 @@ use Rattle.osi_fair.proofs.what_holds_of_one_item.{after_add, after_set}
 use Rattle.osi_honest.specs.Turns.{Turn}
 use Rattle.osi_honest.proofs.class_0.what_a_packet_does_in_class_0.{AllProper}
 use Rattle.osi_tap.specs.declared.rooms.Room.{Room}
-use Rattle.osi_tap.specs.Connections.{Joined, Sessions, adds, adds_if, all_begin, asked, packet_begins, reference_of, taken, user_of}
+use Rattle.osi_tap.specs.Connections.{Joined, Sessions, adds, adds_if, all_begin, asked, packet_begins, reference_of, taken}
 use Rattle.osi_tap.specs.Connections as joined
 use Rattle.osi_tap.specs.Courses.{Course, unit_passes, units_pass, way_of}
 use Rattle.osi_tap.specs.Rooms.{fits, spent}
@@ -46,33 +46,21 @@ IsUpTo Right b (confirm n x) = IsWithin b x.source
 IsUpTo d b v = Unit {0}
 
 pub up_higher : (d : Direction) (b n : ℕ) (t : Sessions) → b ≤ n → AreUpTo d b t → AreUpTo d n t
-up_higher d b n t h u = record {
-  live = λ i j r here named. let (some, low) = u.live i j r here named in (some, omega (arith, low, h));
-  done = λ i j r here named. let (some, low) = u.done i j r here named in (some, omega (arith, low, h));
-}
+up_higher d b n t h u = grind arith
 
 named_if : (x : Bool) (room : Room) (d e : Direction) (at : ℕ) (end : Bool) (octets : List ℕ) (j : Joined) →
     reference_of d (adds_if x room e at end octets j) ≡ reference_of d j
-named_if true room Left Left at end octets j = refl
-named_if true room Left Right at end octets j = refl
-named_if true room Right Left at end octets j = refl
-named_if true room Right Right at end octets j = refl
-named_if false room Left e at end octets j = refl
-named_if false room Right e at end octets j = refl
+named_if x room d e at end octets j = grind arith
 
 pub named_adds : (d e : Direction) (at : ℕ) (end : Bool) (octets : List ℕ) (j : Joined) →
     reference_of d (adds e at end octets j) ≡ reference_of d j
 named_adds d e at end octets j = named_if (fits j.room (length octets)) (spent j.room (length octets)) d e at end octets j
 
 named_shut : (d : Direction) (j : Joined) → reference_of d (joined.shut j) ≡ reference_of d j
-named_shut Left j = refl
-named_shut Right j = refl
+named_shut d j = grind arith
 
 named_begun : (d e : Direction) (j : Joined) → reference_of d (packet_begins e j) ≡ reference_of d j
-named_begun Left Left j = refl
-named_begun Left Right j = refl
-named_begun Right Left j = refl
-named_begun Right Right j = refl
+named_begun d e j = grind arith
 
 some_same : (m n : ℕ) → Some m ≡ Some n → m ≡ n
 some_same m n e = cc
@@ -86,21 +74,11 @@ module _ (d : Direction) (b : ℕ) where
 
 asked_low : (d : Direction) (b : ℕ) (x : Connect) (number : ℕ) (room : Room) → IsUpTo d b (request x) →
     IsLow d b (asked number x.source room)
-asked_low Left b x number room up r is = subst (IsWithin b) (some_same x.source r is) up
-asked_low Right b x number room up r is = absurd (cc)
+asked_low d b x number room up r is = grind (arith, some_same)
 
 meant_low : (d : Direction) (b : ℕ) (e : Direction) (at : ℕ) (v : Value) (x : Bool) (j : Joined) → IsUpTo d b v → IsLow d b j →
     IsLow d b (joined.meant e at v (meaning_if x (meant v)) j)
-meant_low d b e at v false j up low = low
-meant_low d b e at (request x) true j up low = low
-meant_low Left b e at (confirm n x) true j up low = low
-meant_low Right b e at (confirm n x) true j up low = λ r is. subst (IsWithin b) (some_same x.source r is) up
-meant_low d b e at (disconnect n source reason user) true j up low = low_same d b j (joined.shut j) (named_shut d j) low
-meant_low d b e at (disconnected n source) true j up low = low
-meant_low d b e at (data0 end user) true j up low = low_same d b j (adds e at end user j) (named_adds d e at end user j) low
-meant_low d b e at (data2 n number end user) true j up low = low_same d b j (adds e at end user j) (named_adds d e at end user j) low
-meant_low d b e at (acknowledge credit n number) true j up low = low
-meant_low d b e at (error n cause) true j up low = low_same d b j (joined.shut j) (named_shut d j) low
+meant_low d b e at v x j up low = grind (arith, some_same, low_same, named_shut, named_adds)
 
 module _ (d : Direction) (b : ℕ) (t : Sessions) (h : AreUpTo d b t) where
   low_of : (p i : ℕ) (new j : Joined) → IsLow d b new → ((i ≡ p) × (j ≡ new)) ⊎ (slice_get t.live i ≡ Some j) → IsLow d b j
@@ -121,13 +99,7 @@ module _ (d : Direction) (b : ℕ) (t : Sessions) (h : AreUpTo d b t) where
         live = λ i j q at_i named. low_of p i new j low (after_set t.live p i new j at_i) q named;
         done = h.done;
       })
-  up_by e at v s up (asks_more x is number cs ts) =
-      let new : Joined = asked number x.source t.room in
-      let low : IsLow d b new = asked_low d b x number t.room (subst (IsUpTo d b) is up) in
-      subst (AreUpTo d b) (sym ts) (record {
-        live = λ i j q at_i named. low_of (length t.live) i new j low (after_add t.live i new j at_i) q named;
-        done = h.done;
-      })
+  up_by e at v s up (asks_more x is number cs ts) = search (arith, asked_low, low_of, after_add)
   up_by e at v s up (asks_again x is number p k here free cs ts) =
       let new : Joined = asked number x.source t.room in
       let low : IsLow d b new = asked_low d b x number t.room (subst (IsUpTo d b) is up) in
@@ -137,12 +109,7 @@ module _ (d : Direction) (b : ℕ) (t : Sessions) (h : AreUpTo d b t) where
       })
 
 pub begins_up : (d e : Direction) (b : ℕ) (t : Sessions) → AreUpTo d b t → AreUpTo d b (all_begin e t)
-begins_up d e b t h = record {
-  live = λ i j r at_i named.
-      let (k, there, same) = map_of (packet_begins e) t.live i j at_i in
-      h.live i k r there (sym (named_begun d e k) ∙ ap (reference_of d) (sym same) ∙ named);
-  done = h.done;
-}
+begins_up d e b t h = grind (arith, map_of, named_begun)
 
 pub unit_up : (d e : Direction) (b at : ℕ) (v : Value) (c : Course) → HaveSamePlaces c.traffic.connections c.sessions.live →
     IsUpTo d b v → AreUpTo d b c.sessions → AreUpTo d b (unit_passes e at v c).sessions
@@ -314,13 +281,9 @@ module _ (first : Whole) where
       HaveSamePlaces old.course.traffic.connections old.course.sessions.live → (h : AreAhead first old) → GoesOn first h.bound new
   passes_own_ahead proper at (request x) old new step places h = passes_cr at x old new step places h
   passes_own_ahead proper at (confirm n x) old new step places h = passes_another proper at (confirm n x) old new step places h tt
-  passes_own_ahead proper at (disconnect n source reason user) old new step places h =
-      passes_another proper at (disconnect n source reason user) old new step places h tt
-  passes_own_ahead proper at (disconnected n source) old new step places h =
-      passes_another proper at (disconnected n source) old new step places h tt
+  passes_own_ahead proper at (disconnect n source reason user) old new step places h = search (arith, passes_another)
+  passes_own_ahead proper at (disconnected n source) old new step places h = search (arith, passes_another)
   passes_own_ahead proper at (data0 end user) old new step places h = passes_another proper at (data0 end user) old new step places h tt
-  passes_own_ahead proper at (data2 n number end user) old new step places h =
-      passes_another proper at (data2 n number end user) old new step places h tt
-  passes_own_ahead proper at (acknowledge credit n number) old new step places h =
-      passes_another proper at (acknowledge credit n number) old new step places h tt
+  passes_own_ahead proper at (data2 n number end user) old new step places h = search (arith, passes_another)
+  passes_own_ahead proper at (acknowledge credit n number) old new step places h = search (arith, passes_another)
   passes_own_ahead proper at (error n cause) old new step places h = passes_another proper at (error n cause) old new step places h tt

@@ -1,18 +1,17 @@
 -- Each DT and each AK that a calling end puts in a turn is for a connection that the tap knows by its references and that this end has
 -- not closed there; each other unit is for none.
 -- For all connections of an end and a tap.
-use Rattle.osi_watched.proofs.Vocabulary.{[], ap, append_assoc, arith, Bool, false, inl, inr, is_some, List, map, None, Option, refl, Some}
-use Rattle.osi_watched.proofs.Vocabulary.{subst, suc, sym, true, ℕ, ◌++◌, ◌<◌, ◌==◌, ◌∙◌, ◌∷◌, ◌≡◌, ◌≤◌, ◌⊎◌, eq-eqb, AllByRecursion}
-use Rattle.osi_watched.proofs.Vocabulary.{slice_get, ◌||◌, confirm, Connect, data0, destination_of, disconnect, request, Value, written}
-use Rattle.osi_watched.proofs.Vocabulary.{Standing, Local, value_at, closing, Live, linked, Carrier, has_given, is_closing, is_open}
-use Rattle.osi_watched.proofs.Vocabulary.{Traffic as State, Connection, Phase, Closing, Open, Left, amid, early, Life, opens_by, past}
-use Rattle.osi_watched.proofs.Vocabulary.{Time as Stage, stage_at, stays, all_units_more, Opens, Continues, Deeds, units_in, all_units}
-use Rattle.osi_watched.proofs.Vocabulary.{Marked, Turn, Sessions, asking, Followed, is_tracked, IsAnswer, IsOwned, Row, stray, Tracked}
-use Rattle.osi_watched.proofs.Vocabulary.{each_picked, first_kept, is_dc, IsDc, IsOngoing, names, those, those_join, Line, Whole, Joint}
-use Rattle.osi_watched.proofs.Vocabulary.{TakesTurn, HaveSamePlaces, named_by}
+use Rattle.osi_watched.proofs.Vocabulary.{[], ap, append_assoc, arith, Bool, false, is_some, List, map, None, Option, refl, Some, subst}
+use Rattle.osi_watched.proofs.Vocabulary.{suc, sym, true, ℕ, ◌++◌, ◌<◌, ◌==◌, ◌∙◌, ◌∷◌, ◌≡◌, ◌≤◌, ◌⊎◌, eq-eqb, AllByRecursion, slice_get}
+use Rattle.osi_watched.proofs.Vocabulary.{◌||◌, confirm, Connect, data0, disconnect, request, Value, written, Standing, Local, value_at}
+use Rattle.osi_watched.proofs.Vocabulary.{closing, Live, linked, Carrier, has_given, is_closing, is_open, Traffic as State, Connection}
+use Rattle.osi_watched.proofs.Vocabulary.{Phase, Left, amid, early, Life, opens_by, past, Time as Stage, stage_at, stays, all_units_more}
+use Rattle.osi_watched.proofs.Vocabulary.{Opens, Continues, Deeds, units_in, all_units, Marked, Turn, Sessions, Followed, is_tracked}
+use Rattle.osi_watched.proofs.Vocabulary.{IsOwned, Row, Tracked, each_picked, first_kept, is_dc, IsDc, IsOngoing, names, those, those_join}
+use Rattle.osi_watched.proofs.Vocabulary.{Line, Whole, Joint, TakesTurn, HaveSamePlaces, named_by}
 use Rattle.osi_carrier.specs.State.{asked}
 use Rattle.osi_fair.specs.Wholes.{begin}
-use Rattle.osi_fair.proofs.each_connection_has_its_line.{AreGiven, asks, closes, of, over, talks}
+use Rattle.osi_fair.proofs.each_connection_has_its_line.{AreGiven, over}
 use Rattle.osi_honest.specs.Arriving.{AreApart}
 use Rattle.osi_honest.proofs.courses.how_long_a_connection_is_open.{BeforeOpen, WhileOpen, stage_by}
 use Rattle.osi_honest.proofs.courses.the_first_cc_opens_a_connection.{Awaiting, FirstOf, HasNoCc, asked_so, awaits, goes, opens_so}
@@ -32,47 +31,25 @@ use Rattle.osi_watched.proofs.sessions.each_unit_of_a_called_end_has_a_home.{sam
 -- ---- a connection that is open at the tap has a home there
 
 named_so : (p : Phase) (n : ℕ) → (is_open p || is_closing p) ≡ true → named_by p n ≡ Some n
-named_so Open n h = refl
-named_so Closing n h = refl
-named_so _ n h = absurd (cc)
+named_so p n h = grind arith
 
 home_of : (s : State) (t : Sessions) → HaveSamePlaces s.connections t.live → (p : ℕ) (c : Connection) → slice_get s.connections p ≡ Some c →
     is_tracked c ≡ true → HasHome Left c.left.reference c.right.reference s t
-home_of s t places p c at tracked =
-    let (j, here, one) = at_same s.connections t.live p c places at in
-    let (mine, theirs) = and_both (is_open c.left.phase) (is_open c.right.phase || is_closing c.right.phase) tracked in
-    record {
-      place = p;
-      connection = c;
-      joined = j;
-      there = at;
-      here = here;
-      lives = mine;
-      mine = ap (λ (n : ℕ). Some n) one.calling;
-      theirs = one.called ∙ named_so c.right.phase c.right.reference theirs;
-    }
+home_of s t places p c at tracked = grind (arith, at_same, and_both, named_so)
 
 -- ---- the end has the connection open
 
 live_not : {A : Type 0} (o : Option Live) (m : ℕ) (link : Standing) → o ≡ Some (linked m link) → (o ≡ Some asked) ⊎
     (((q : ℕ) × (o ≡ Some (closing q))) ⊎ (o ≡ None)) → A
-live_not o m link e (inl h) = let no : Some (linked m link) ≡ Some asked = sym e ∙ h in absurd (cc)
-live_not o m link e (inr (inl (q, h))) = let no : Some (linked m link) ≡ Some (closing q) = sym e ∙ h in absurd (cc)
-live_not o m link e (inr (inr h)) = let no : Some (linked m link) ≡ None = sym e ∙ h in absurd (cc)
+live_not o m link e h = grind arith
 
 closed_so : (o : Option Live) (q : ℕ) → (o ≡ Some (closing q)) ⊎ (o ≡ None) → ((q : ℕ) × (o ≡ Some (closing q))) ⊎ (o ≡ None)
-closed_so o q (inl h) = inl (q, h)
-closed_so o q (inr h) = inr h
+closed_so o q h = grind arith
 
 -- its line is for the peer of its link
 row_peer : (local : Local) (end : Carrier) (coming : List Value) (r peer : ℕ) (line : Line) (m : ℕ) (link : Standing) →
     Row local end coming r peer line → end.ended ≡ None → value_at r end.live ≡ Some (linked m link) → m ≡ peer
-row_peer local end coming r peer line m link (asks there x source two firsts dcs first is) lasts e =
-    live_not (value_at r end.live) m link e (inl there)
-row_peer local end coming r peer line m link (talks l there is same) lasts e = same_peer m peer link l (sym e ∙ there)
-row_peer local end coming r peer line m link (closes o there q gone is same) lasts e =
-    live_not o m link (sym there ∙ e) (inr (closed_so o q gone))
-row_peer local end coming r peer line m link (over h) lasts e = over_not end.ended h lasts
+row_peer local end coming r peer line m link h lasts e = grind (arith, live_not, same_peer, closed_so, over_not)
 
 linked_home : (local : Local) (w : Whole) (t : Sessions) (f : Followed local w) → HaveSamePlaces w.tap.connections t.live →
     w.end.ended ≡ None → (q peer : ℕ) (link : Standing) → value_at q w.end.live ≡ Some (linked peer link) → HasHome Left q peer w.tap t
@@ -98,18 +75,11 @@ record HasFirst (r peer : ℕ) (coming : List Value) : Type 0 where
 
 asked_not : {A : Type 0} (o : Option Live) → o ≡ Some asked → ((m : ℕ) × (l : Standing) × (o ≡ Some (linked m l))) ⊎
     (((q : ℕ) × (o ≡ Some (closing q))) ⊎ (o ≡ None)) → A
-asked_not o e (inl (m, l, h)) = let no : Some asked ≡ Some (linked m l) = sym e ∙ h in absurd (cc)
-asked_not o e (inr (inl (q, h))) = let no : Some asked ≡ Some (closing q) = sym e ∙ h in absurd (cc)
-asked_not o e (inr (inr h)) = let no : Some asked ≡ None = sym e ∙ h in absurd (cc)
+asked_not o e h = grind arith
 
 row_first : (local : Local) (end : Carrier) (coming : List Value) (r peer : ℕ) (line : Line) → Row local end coming r peer line →
     end.ended ≡ None → value_at r end.live ≡ Some asked → HasFirst r peer coming
-row_first local end coming r peer line (asks there x source two firsts dcs first is) lasts e =
-    record { x = x; firsts = firsts; later = line.coming; is = first; dcs = dcs; source = source }
-row_first local end coming r peer line (talks l there is same) lasts e = asked_not (value_at r end.live) e (inl (peer, l, there))
-row_first local end coming r peer line (closes o there q gone is same) lasts e =
-    asked_not o (sym there ∙ e) (inr (closed_so o q gone))
-row_first local end coming r peer line (over h) lasts e = over_not end.ended h lasts
+row_first local end coming r peer line h lasts e = grind (arith, asked_not, closed_so, over_not)
 
 -- the first CC of a list is one
 first_cc : (r : ℕ) (x y : Connect) (xs ys us vs : List Value) → xs ++ confirm r x ∷ ys ≡ us ++ confirm r y ∷ vs →
@@ -135,18 +105,13 @@ module _ (local : Local) (w : Whole) (t : Sessions) (f : Followed local w) (plac
     (lasts : w.end.ended ≡ None) (q : ℕ) (x : Connect) (front rest : List Value) (come : w.coming ≡ front ++ confirm q x ∷ rest)
     (first : AllByRecursion (IsNotCc q) front) (waits : value_at q w.end.live ≡ Some asked) where
   tracked_so : Tracked w.tap.connections q
-  tracked_so =
-      (one_of (IsAnswer w.tap.course.loose w.tap.connections w.end) front rest (confirm q x)
-      (subst (AllByRecursion (IsAnswer w.tap.course.loose w.tap.connections w.end)) come f.answers) q x refl lasts (inl waits)).0
+  tracked_so = grind (arith, one_of)
 
   those_first : AllByRecursion (IsNotCc q) (those q front)
-  those_first = each_picked (IsNotCc q) (names q) front
-      (all_so (IsNotCc q) (λ (v : Value). names q v ≡ true → IsNotCc q v) (λ v h named. h) front first)
+  those_first = grind (arith, each_picked, names, all_so)
 
   those_come : those q w.coming ≡ those q front ++ confirm q x ∷ those q rest
-  those_come =
-      ap (those q) come ∙ those_join q front (confirm q x ∷ rest)
-      ∙ ap (λ (l : List Value). those q front ++ l) (first_kept q (confirm q x) rest (eq-eqb q q refl))
+  those_come = grind (arith, those, those_join, first_kept, eq-eqb)
 
   asked_home : HasHome Left q x.source w.tap t
   asked_home =
@@ -174,13 +139,7 @@ pub not_two : (x : ℕ) → suc (suc (suc x)) ≡ 2 → ⊥
 not_two x e = omega (arith, e)
 
 not_data0 : (end : Bool) (user : List ℕ) (s : State) (u : Value) → IsOwned s u → written u ≡ written (data0 end user) → ⊥
-not_data0 end user s u (asking x is) e = not_two _ (ap first (ap written (sym is) ∙ e))
-not_data0 end user s u (of p c at tracked own) e = by u own.named e
-  where
-    by : (u : Value) → destination_of u ≡ Some c.right.reference → written u ≡ written (data0 end user) → ⊥
-    by (data0 last octets) named e = cc
-    by _ named e = not_two _ (ap first e)
-not_data0 end user s u (stray m source is strays) e = not_two _ (ap first (ap written (sym is) ∙ e))
+not_data0 end user s u h e = grind (arith, not_two)
 
 -- a unit is written as one of these
 pub record IsWrittenAs (P : Value → Type 0) (v : Value) : Type 0 where

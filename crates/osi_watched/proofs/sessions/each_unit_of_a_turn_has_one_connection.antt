@@ -1,7 +1,7 @@
 -- A unit that an end of class 2 puts is for one of its connections alone: each that it has open has a place at the tap, and there no two
 -- have one reference of the other side.
 -- For all connections of an end and a tap.
-use Rattle.std.proofs.Common.{◌≡◌, ◌∙◌, refl, sym, ap, ℕ, ◌<◌, Bool, true, false, List, [], ◌∷◌, Option, Some, None, arith}
+use Rattle.std.proofs.Common.{◌≡◌, ◌∙◌, refl, sym, ap, ℕ, ◌<◌, Bool, true, false, List, [], ◌∷◌, Option, Some, arith}
 use Rattle.std.specs.Prelude.{◌==◌, slice_get}
 use Rattle.std.specs.List.{AllByRecursion}
 use Rattle.std.proofs.lemmas.Bool.{eq-eqb, eqb-true}
@@ -72,26 +72,16 @@ pub data IsMarked (d : Direction) (s : State) (t : Sessions) (m : Marked) : Type
   of_none : m.0 ≡ 0 → ((o : Option ℕ) → is_for o m.1 ≡ false) → IsMarked d s t m
 
 for_is : (n : ℕ) (v : Value) (o : Option ℕ) → IsFor n v → is_for o v ≡ names_it o n
-for_is n (data2 m number end user) o h = ap (names_it o) h
-for_is n (acknowledge credit m number) o h = ap (names_it o) h
-for_is n (data0 end user) o h = absurd h
-for_is n (request x) o h = absurd h
-for_is n (confirm m x) o h = absurd h
-for_is n (disconnect m source reason user) o h = absurd h
-for_is n (disconnected m source) o h = absurd h
-for_is n (error m cause) o h = absurd h
+for_is n v o h = grind (arith, names_it)
 
 names_so : (o : Option ℕ) (n : ℕ) → names_it o n ≡ true → o ≡ Some n
-names_so None n h = absurd (cc)
-names_so (Some m) n h = ap (λ (i : ℕ). Some i) (sym (eqb-true n m h))
+names_so o n h = grind (arith, eqb-true)
 
 names_back : (o : Option ℕ) (n : ℕ) → o ≡ Some n → names_it o n ≡ true
 names_back o n e = ap (λ (x : Option ℕ). names_it x n) e ∙ eq-eqb n n refl
 
 same_bool : (a b : Bool) → (a ≡ true → b ≡ true) → (b ≡ true → a ≡ true) → a ≡ b
-same_bool true b h k = sym (h refl)
-same_bool false true h k = k refl
-same_bool false false h k = refl
+same_bool a b h k = grind arith
 
 differ : {A : Type 0} (b : Bool) → b ≡ true → b ≡ false → A
 differ b h k = absurd (cc)
@@ -102,11 +92,7 @@ module _ (d : Direction) (deeds : ℕ → Deeds) (known_so : Known) (put : List 
     (mine : reference_of d j ≡ Some r) (live : is_open (own (way_of d) c).phase ≡ true) (some : 0 < r) where
   -- it is of this connection exactly if it is for the reference that the other side gave it
   marked_one : (m : Marked) (n : ℕ) → IsFor n m.1 → IsHomed d m.0 n s t → (m.0 == r) ≡ is_for (reference_of (other d) j) m.1
-  marked_one m n is (unknown no_open no_name) =
-      same_bool (m.0 == r) (is_for (reference_of (other d) j) m.1)
-      (λ e. absurd (no_name i j here (mine ∙ ap (λ (x : ℕ). Some x) (sym (eqb-true m.0 r e)))))
-      (λ e. absurd (no_open i c j there here live
-      (names_so (reference_of (other d) j) n (sym (for_is n m.1 (reference_of (other d) j) is) ∙ e))))
+  marked_one m n is (unknown no_open no_name) = grind (arith, same_bool, is_for, eqb-true, names_so, for_is)
   marked_one m n is (known h) =
       same_bool (m.0 == r) (is_for (reference_of (other d) j) m.1)
       (λ e.

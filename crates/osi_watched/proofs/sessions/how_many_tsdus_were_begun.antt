@@ -1,10 +1,9 @@
 -- A session has said each TSDU of which a unit was put, and by then it had taken no more than its link has handed out.
 -- For what a tap shows of a session.
-use Rattle.osi_watched.proofs.Vocabulary.{[], ap, arith, Bool, drop, false, IfSome, if◌then◌else◌, length, List, nat_lt, None, Option, refl}
-use Rattle.osi_watched.proofs.Vocabulary.{Some, subst, suc, sym, take, true, ℕ, ◌++◌, ◌+◌, ◌∙◌, ◌∷◌, ◌≡◌, ◌≤◌, flat_map-append, append-nil}
-use Rattle.osi_watched.proofs.Vocabulary.{length-append, length-map, AllByRecursion, Value, at_some, choose_some, move_keeps, Sends}
-use Rattle.osi_watched.proofs.Vocabulary.{all as all_sent, Ends, ack_number, after_acked, Flow, ack, Given, given_part, next, next_by}
-use Rattle.osi_watched.proofs.Vocabulary.{sent_flow, Standing, two_standing, give_out, given_parts, hand_in, hand_out, Move, Moves}
+use Rattle.osi_watched.proofs.Vocabulary.{[], ap, arith, Bool, false, IfSome, if◌then◌else◌, length, List, Option, refl, subst, suc, sym}
+use Rattle.osi_watched.proofs.Vocabulary.{true, ℕ, ◌++◌, ◌+◌, ◌∙◌, ◌∷◌, ◌≡◌, ◌≤◌, flat_map-append, append-nil, length-append, length-map}
+use Rattle.osi_watched.proofs.Vocabulary.{AllByRecursion, Value, at_some, choose_some, move_keeps, Sends, all as all_sent, Ends, Flow}
+use Rattle.osi_watched.proofs.Vocabulary.{Given, given_part, next_by, Standing, give_out, given_parts, hand_in, hand_out, Move, Moves}
 use Rattle.osi_watched.proofs.Vocabulary.{MovesAlong, part_out, parts_out, take_in, tsdus_in, tsdus_out, unit_parts, give, Part, tsdus}
 use Rattle.osi_watched.proofs.Vocabulary.{tsdus_after, uncut, End, fresh_of, no_calls, AreCalls, Deeds, said_in, is_gone, closed}
 use Rattle.osi_watched.proofs.Vocabulary.{ends_whole, left_over, parts_of, never}
@@ -69,50 +68,22 @@ OwesNext ended (g, new) = Owes (ends_whole ended (given_parts g)) new.ends
 
 given_owes : (ended : Bool) (e : Ends) (flow : Option Flow) (number : Option ℕ) (tsdus : List (List ℕ)) →
     IfSome (given_part e flow number (give e.limit tsdus)) (OwesNext ended)
-given_owes ended e flow number [] = tt
-given_owes ended e flow number (tsdu ∷ more) = by number (nat_lt e.limit (length tsdu))
-  where
-    by : (number : Option ℕ) (b : Bool) → IfSome (given_part e flow number (if b then Some
-        ((false, take e.limit tsdu), drop e.limit tsdu ∷ more)
-        else Some ((true, tsdu), more))) (OwesNext ended)
-    by None true = λ h. omega arith
-    by None false = λ h. absurd (cc)
-    by (Some n) true = λ h. omega arith
-    by (Some n) false = λ h. absurd (cc)
+given_owes ended e flow number tsdus = grind arith
 
 next_owes : (ended : Bool) (e : Ends) (flow : Option Flow) → Owes ended e → IfSome (next_by e flow) (OwesNext ended)
-next_owes ended e None h = given_owes ended e None None e.unsent
-next_owes ended e (Some f) h =
-    choose_some (OwesNext ended) (nat_lt 0 f.receiver.waiting)
-    (Some (ack (ack_number f.receiver) f.receiver.window, two_standing e (record f { receiver = after_acked f.receiver })))
-    (if nat_lt 0 f.sender.credit then given_part e (Some (sent_flow f)) (Some f.sender.next) (give e.limit e.unsent) else None)
-    (λ _. h)
-    (λ _. choose_some (OwesNext ended) (nat_lt 0 f.sender.credit)
-    (given_part e (Some (sent_flow f)) (Some f.sender.next) (give e.limit e.unsent)) None
-    (λ _. given_owes ended e (Some (sent_flow f)) (Some f.sender.next) e.unsent)
-    (λ _. tt))
+next_owes ended e flow h = grind (arith, given_owes, choose_some)
 
 -- a call that gives nothing and takes nothing in leaves as many
 as_many : (old new : Ends) → Sends old new [] [] → length new.unsent ≡ length old.unsent
 as_many old new s =
-    sym (uncut_count [] new.unsent)
-    ∙ ap (λ (l : List (List ℕ)). length (tsdus_after [] (uncut l))) (sym (append-nil new.unsent))
-    ∙ ap length (s.same [] [])
-    ∙ ap (λ (l : List (List ℕ)). length (tsdus_after [] (uncut l))) (append-nil old.unsent)
-    ∙ uncut_count [] old.unsent
+    grind (arith, uncut_count [] new.unsent, append-nil new.unsent, s.same [] [], append-nil old.unsent, uncut_count [] old.unsent)
 
 owes_same : (ended : Bool) (old new : Ends) → length new.unsent ≡ length old.unsent → Owes ended old → Owes ended new
 owes_same ended old new e h k = let n = h k in omega (arith, n, e)
 
 move_owes : (ended : Bool) (move : Move) (old new : Standing) → Moves move old new → Owes ended old.ends →
     Owes (ends_whole ended (part_out move)) new.ends
-move_owes ended (hand_in tsdu) old new e h =
-    subst (λ (s : Standing). Owes ended s.ends) (sym e) (λ k. let l = length-append old.ends.unsent (tsdu ∷ []) in omega (arith, l))
-move_owes ended (give_out unit) old new e h = at_some (OwesNext ended) (next old) (unit, new) (next_owes ended old.ends old.flow h) e
-move_owes ended (take_in unit) old new e h =
-    owes_same ended old.ends new.ends (as_many old.ends new.ends (move_keeps (take_in unit) old new e).sends) h
-move_owes ended (hand_out tsdu) old new e h =
-    owes_same ended old.ends new.ends (as_many old.ends new.ends (move_keeps (hand_out tsdu) old new e).sends) h
+move_owes ended move old new e h = search (arith, length-append, at_some, next_owes, owes_same, as_many, move_keeps)
 
 run_owes : (ended : Bool) (moves : List Move) (old new : Standing) → MovesAlong old moves new → Owes ended old.ends →
     Owes (ends_whole ended (parts_out moves)) new.ends
@@ -124,8 +95,7 @@ run_owes ended (move ∷ moves) old new (mid, first, rest) h =
 -- ---- what was put
 
 one_less : (ended : Bool) (e : Ends) → Owes ended e → one_if ended ≤ length e.unsent
-one_less true e h = omega arith
-one_less false e h = h refl
+one_less ended e h = grind arith
 
 -- a fresh link has begun no more than was handed in
 pub begun_of : (moves : List Move) (first link : Standing) → MovesAlong first moves link → first.ends.unsent ≡ [] →
@@ -149,8 +119,7 @@ course_calls is_caller r deeds e (is_gone (over at calls heard unheard is_closed
 course_calls is_caller r deeds e (is_gone (never none ended)) = (0, no_calls 0 e.carrier.local deeds none)
 
 said_count : (n : ℕ) (moves : List Move) → length (said_in n moves) ≡ length (tsdus_in moves)
-said_count n moves =
-    sym (length-map (said_in n moves) (λ (s : Said). s.octets)) ∙ ap length (octets_in n moves)
+said_count n moves = grind (arith, length-map, octets_in)
 
 -- A session has said each TSDU that units began which were put for it.
 pub begun_within : (is_caller : Bool) (r : ℕ) (deeds : Deeds) (e : End) → Course is_caller r deeds e → (passed waiting : List Value) →

@@ -1,8 +1,8 @@
 -- The first break of all at a tap, of transport and of sessions, is never of the side of an end, if something holds at each step by
 -- which nobody of the end is to blame, as long as nobody has broken a rule and one class is not selected.
 -- For the law that no session of an end is blamed first.
-use Rattle.std.proofs.Common.{◌≡◌, ◌≢◌, ◌∙◌, ◌⊎◌, inl, inr, refl, sym, ap, subst, ℕ, ◌^◌, ◌<◌, ◌≤◌, Bool, true, false, if◌then◌else◌}
-use Rattle.std.proofs.Common.{List, [], ◌∷◌, ◌++◌, length, Some, None, is_some, append_assoc, arith}
+use Rattle.std.proofs.Common.{◌≡◌, ◌≢◌, ◌∙◌, ◌⊎◌, inl, inr, refl, sym, ap, subst, ℕ, ◌^◌, ◌<◌, ◌≤◌, Bool, false, if◌then◌else◌, List, []}
+use Rattle.std.proofs.Common.{◌∷◌, ◌++◌, length, Some, None, is_some, append_assoc, arith}
 use Rattle.std.specs.Prelude.{slice_get}
 use Rattle.std.proofs.lemmas.List.{append-nil, length-append}
 use Rattle.osi_tpdu.specs.Value.{Value}
@@ -11,16 +11,15 @@ use Rattle.osi_class.specs.declared.terms.Class.TheVariants.{Two}
 use Rattle.osi_class.specs.declared.terms.Local.{Local}
 use Rattle.osi_judge.specs.Captures.{Capture, other}
 use Rattle.osi_judge.specs.declared.directions.Direction.{Direction}
-use Rattle.osi_judge.specs.declared.directions.Direction.TheVariants.{Left, Right}
 use Rattle.osi_rules.specs.declared.findings.Finding.{Finding}
 use Rattle.osi_rules.specs.declared.findings.Finding.TheVariants.{Broke, Kept, NotJudged, Outside, TooMany}
 use Rattle.osi_rules.specs.Sides as sides
-use Rattle.osi_rules.specs.Traffic.{State as Traffic, class_for, is_stopped, takes}
+use Rattle.osi_rules.specs.Traffic.{State as Traffic, is_stopped, takes}
 use Rattle.osi_rules.specs.Traffic as traffic
-use Rattle.osi_fair.specs.Naming.{packet, rubbish, unit}
+use Rattle.osi_fair.specs.Naming.{packet, unit}
 use Rattle.osi_fair.specs.Wholes as wholes
 use Rattle.osi_fair.proofs.what_the_other_side_closes.{IsFirm}
-use Rattle.osi_stack.specs.State.{End, Holding}
+use Rattle.osi_stack.specs.State.{Holding}
 use Rattle.osi_honest.specs.Courses.{Course, Deeds, all_did, no_deeds, then_did}
 use Rattle.osi_honest.specs.Seeing.{IsFresh}
 use Rattle.osi_honest.specs.Turns.{Turn}
@@ -98,15 +97,7 @@ pub record KeepsUnless (barred : Class) (d : Direction) (local : Local) (Inv : (
 
 -- no unit comes after a DR while class 2 is not selected
 pub early : (d : Direction) (v : Value) (c : Passed) → IsPassed Two d v c → IsTolerable (other d) v c
-early d v c h = by h.taken
-  where
-    knows : (e : Direction) → class_for (way_of e) c.traffic.course ≡ Some Two → c.traffic.course.class ≡ Some Two
-    knows Left is = h.sure.agrees Two is
-    knows Right is = is
-
-    by : IsTolerable (other d) v c ⊎ IsAfterDr (other d) v c → IsTolerable (other d) v c
-    by (inl t) = t
-    by (inr after) = absurd (h.not (knows (other d) (after_two (other d) v c after)))
+early d v c h = grind (arith, after_two)
 
 -- ---- what stays, whatever passes
 
@@ -115,10 +106,7 @@ class_bad : (k : Class) (b : Bool) (d : Direction) (at : ℕ) (cause : Cause) (c
     (if b then c else marked (unread_mark d at cause) (traffic.refused_reach (way_of d) c.traffic)
     (moved (unread_moment d at cause c.sessions) (record c { traffic = traffic.refused (way_of d) c.traffic }))).traffic.course.class
     ≡ Some k
-class_bad k true d at cause c h = h
-class_bad k false d at cause c h =
-    ap (λ (s : Traffic). s.course.class) (marked_traffic (unread_mark d at cause) (traffic.refused_reach (way_of d) c.traffic) _)
-    ∙ class_stays k (rubbish (way_of d)) c.traffic h
+class_bad k b d at cause c h = grind (arith, marked_traffic, class_stays)
 
 pub class_claim : (k : Class) → IsClaim (λ c. c.traffic.course.class ≡ Some k)
 class_claim k = record {
@@ -131,22 +119,11 @@ class_claim k = record {
 long_bad : (n : ℕ) (b : Bool) (d : Direction) (at : ℕ) (cause : Cause) (c : Passed) → n ≤ length c.past →
     n ≤ length (if b then c else marked (unread_mark d at cause) (traffic.refused_reach (way_of d) c.traffic)
     (moved (unread_moment d at cause c.sessions) (record c { traffic = traffic.refused (way_of d) c.traffic }))).past
-long_bad n true d at cause c h = h
-long_bad n false d at cause c h =
-    let same = ap length (marked_past (unread_mark d at cause) (traffic.refused_reach (way_of d) c.traffic)
-    (moved (unread_moment d at cause c.sessions) (record c { traffic = traffic.refused (way_of d) c.traffic }))) in
-    let more = length-append c.past (unread_moment d at cause c.sessions ∷ []) in
-    omega (arith, same, more, h)
+long_bad n b d at cause c h = grind (arith, marked_past, length-append)
 
 -- no moment is lost
 pub long_claim : (n : ℕ) → IsClaim (λ c. n ≤ length c.past)
-long_claim n = record {
-  begins = λ d c h. h;
-  passes = λ d at v c h.
-      let same = ap length (unit_past d at v c) in let more = length-append c.past (moment d at v c ∷ []) in
-      omega (arith, same, more, h);
-  bad = λ d at cause c h. long_bad n (is_some (marks_of d c).halted) d at cause c h;
-}
+long_claim n = grind (arith, unit_past, length-append, moment, long_bad)
 
 -- this class is not selected, and fewer units have passed than a tap counts
 pub record IsWithout (barred : Class) (c : Passed) : Type 0 where
@@ -159,8 +136,7 @@ module _ (barred : Class) where
 
   without_before : (c new : Passed) → (IsSelected c → IsSelected new) → length c.past ≤ length new.past → IsWithout barred new →
       IsWithout barred c
-  without_before c new stays longer h =
-      record { not = λ is. h.not (stays is); few = (let few = h.few in omega (arith, longer, few)) }
+  without_before c new stays longer h = grind arith
 
   pub step_without : (d : Direction) (step : Step) (old new : Joint) → Steps d step old new → IsWithout barred new.course →
       IsWithout barred old.course
@@ -174,9 +150,7 @@ module _ (barred : Class) where
       (after_kept (λ c. length s.course.past ≤ length c.past) (long_claim (length s.course.past)) capture s (omega arith)) h
 
   pub unread_without : (d : Direction) (at : ℕ) (cause : Cause) (c : Passed) → IsWithout barred (unread d at cause c) → IsWithout barred c
-  unread_without d at cause c h =
-      without_before c (unread d at cause c) ((class_claim barred).bad d at cause c)
-      ((long_claim (length c.past)).bad d at cause c (omega arith)) h
+  unread_without d at cause c h = grind (arith, without_before, class_claim barred, long_claim (length c.past))
 
   pub units_not : (d : Direction) (at : ℕ) (vs : List Value) (c : Passed) → (IsSelected (units_pass d at vs c) → ⊥) → IsSelected c → ⊥
   units_not d at vs c not is = not (units_kept IsSelected (class_claim barred) d at vs c is)
@@ -194,11 +168,7 @@ passed_then barred d at [] v c h k = (k, tt)
 passed_then barred d at (x ∷ xs) v c h k = (h.0, passed_then barred d at xs v (unit_passes (other d) at x c) h.1 k)
 
 calm_by : (e : Direction) (at : ℕ) (v : Value) (c : Passed) (f : Finding) (new : Passed) → IsNoBreak f → Leaves e at v c f new → IsCalm new
-calm_by e at v c Kept new none leaves = leaves
-calm_by e at v c NotJudged new none leaves = leaves
-calm_by e at v c TooMany new none leaves = leaves
-calm_by e at v c (Broke rule) new none leaves = absurd none
-calm_by e at v c Outside new none leaves = absurd none
+calm_by e at v c f new none leaves = grind arith
 
 calm_after : (e : Direction) (at : ℕ) (v : Value) (c : Passed) → IsJudged c → c.first ≡ None →
     IsNoBreak (takes (way_of e) v c.traffic).told.finding → IsCalm (unit_passes e at v c)
@@ -207,26 +177,20 @@ calm_after e at v c j first none =
     (unit_leaves e at v c (record { none = first; how = inl j }))
 
 begins_judged : (e : Direction) (c : Passed) → IsJudged c → IsJudged (packet_begins e c)
-begins_judged Left c j =
-    record { left = j.left; right = j.right; firm = j.firm; left_goes = j.left_goes; right_goes = j.right_goes }
-begins_judged Right c j =
-    record { left = j.left; right = j.right; firm = j.firm; left_goes = j.left_goes; right_goes = j.right_goes }
+begins_judged e c j = grind arith
 
 not_many : (f : Finding) → f ≡ TooMany → IsNoBreak f → (f ≡ Kept) ⊎ (f ≡ NotJudged) → ⊥
-not_many f many none (inl is) = let no : Kept ≡ TooMany = sym is ∙ many in cc
-not_many f many none (inr is) = let no : NotJudged ≡ TooMany = sym is ∙ many in cc
+not_many f many none h = grind arith
 
 -- both sides are judged
 pub firm_so : (c : Passed) → IsJudged c → IsFirm c.traffic.course
 firm_so c j = record { firm = j.firm; left = j.left; right = j.right }
 
 pub goes_so : (e : Direction) (c : Passed) → IsJudged c → is_stopped (way_of e) c.traffic.course ≡ false
-goes_so Left c j = j.left
-goes_so Right c j = j.right
+goes_so e c j = grind arith
 
 other_goes : (e : Direction) (c : Passed) → IsJudged c → is_stopped (sides.other (way_of e)) c.traffic.course ≡ false
-other_goes Left c j = j.right
-other_goes Right c j = j.left
+other_goes e c j = grind arith
 
 -- a unit of the end is no break: it is fair
 pub own_right : (d : Direction) (local : Local) → IsFairFrom (way_of d) (wholes.begin (calls_from d) local) → (at : ℕ) (v : Value)
@@ -366,14 +330,10 @@ module _ (proper : AllProper) (barred : Class) (d : Direction) (local : Local)
       then_rest (goes_on more) rest = rest more
       then_rest (is_silent s) rest =
           then_silent (subst (IsSilent d) (sym all_join) (units_kept (IsSilent d) (silent_claim d) (other d) at back next s))
-      then_rest (is_broken b) rest =
-          then_broken (subst (λ (x : Passed). HasBroken d x.past) (sym all_join)
-          (units_kept (λ x. HasBroken d x.past) (broken_claim d) (other d) at back next b))
+      then_rest (is_broken b) rest = grind (arith, all_join, units_kept, broken_claim d)
 
     pass_on : (back front : List Value) → units ≡ front ++ back → AllSoFar front → Passing at units old.course
-    pass_on [] front is so =
-        subst (λ (l : List Value). Passing at l old.course) (sym (is ∙ append-nil front))
-        (all_taken so.taken so.judged so.first so.clean)
+    pass_on [] front is so = grind (arith, append-nil)
     pass_on (v ∷ back) front is so =
         then_rest front back v is so (one_by front back v is so (found front back v is so) refl)
         (λ more. pass_on back (front ++ v ∷ []) (is ∙ sym (append_assoc front (v ∷ []) back)) more)
@@ -450,16 +410,15 @@ module _ (proper : AllProper) (barred : Class) (d : Direction) (local : Local)
   still_goes : (deeds then_deeds : ℕ → Deeds) (step : Step) (old new : Joint) → Steps d step old new → Goes deeds old →
       IsJudged new.course → new.course.first ≡ None → Inv then_deeds new → HaveCourses d then_deeds new →
       AreClean d new.course.past → Stays then_deeds new
-  still_goes deeds then_deeds step old new does g judged first holds courses clean = goes (record {
-    judged = judged;
-    first = first;
-    holds = holds;
-    courses = courses;
-    followed = step_followed d (wholes.begin (calls_from d) local) proper step old new does g.followed;
-    clean = clean;
-    few = step_kept (AreFew (other d)) (few_claim (other d)) d step old new does g.few;
-    sure = step_kept Sure sure_claim d step old new does g.sure;
-  })
+  still_goes deeds then_deeds step old new does g judged first holds courses clean =
+      grind (
+        arith,
+        sure_claim,
+        step_followed d (wholes.begin (calls_from d) local) proper step old new does g.followed,
+        step_kept (AreFew (other d)) (few_claim (other d)) d step old new does g.few,
+        few_claim (other d),
+        step_kept Sure sure_claim d step old new does g.sure,
+      )
 
   turn_so : (turn : Turn) (old new : Joint) (t : TakesTurn turn old new) (deeds : ℕ → Deeds)
       (does : TurnDoes (calls_from d) deeds turn old new t) → Goes deeds old → IsWithout barred old.course →
@@ -496,8 +455,7 @@ module _ (proper : AllProper) (barred : Class) (d : Direction) (local : Local)
       own_begins_so old new step (step_without barred d begins_own old new step within) deeds g
   tap_so begins_other tap old new step within deeds g = other_begins_so old new step deeds g
   tap_so (passes_own at v) tap old new step within deeds g =
-      own_so deeds at v old new step g
-      (step_without barred d (passes_own at v) old new step within).not within.not
+      search (arith, own_so, step_without barred d (passes_own at v) old new step within)
   tap_so (passes_other at octets units) tap old new step within deeds g =
       let not : (units_pass (other d) at units old.course).traffic.course.class ≡ Some barred → ⊥ =
       λ is_so. within.not (ap (λ (j : Joint). j.course.traffic.course.class) step.2 ∙ is_so) in
@@ -513,8 +471,7 @@ module _ (proper : AllProper) (barred : Class) (d : Direction) (local : Local)
 
   tap_stays : (step : Step) → IsOfTap step → (deeds : ℕ → Deeds) (old new : Joint) → Steps d step old new → IsWithout barred new.course →
       Stays deeds old → Stays deeds new
-  tap_stays step tap deeds old new does within s =
-      step_stays step deeds deeds old new does (λ g. tap_so step tap old new does within deeds g) s
+  tap_stays step tap deeds old new does within s = grind (arith, step_stays, tap_so)
 
   along_within : (steps : List Step) (old new : Joint) → StepsAlong d old steps new → IsWithout barred new.course →
       IsWithout barred old.course
@@ -546,21 +503,10 @@ module _ (proper : AllProper) (barred : Class) (d : Direction) (local : Local)
   -- ---- the capture
 
   stays_first : (h : Holding) → IsFresh (calls_from d) local h → Stays (λ r. no_deeds) (begin h)
-  stays_first h fresh = goes (record {
-    judged = record { left = refl; right = refl; firm = refl; left_goes = refl; right_goes = refl };
-    first = refl;
-    holds = k.begins h fresh;
-    courses = λ r. subst (λ (e : End). Course (calls_from d) r no_deeds e) (sym fresh.end) (fresh_course (calls_from d) local r);
-    followed = begin_followed d (calls_from d) local h fresh;
-    clean = tt;
-    few = λ i j here. absurd (cc here);
-    sure = fresh_sure;
-  })
+  stays_first h fresh = search (arith, fresh_course, begin_followed, fresh_sure)
 
   ends_so : (j : Joint) → Stood j → Ends d j.course
-  ends_so j (deeds, goes g) = inl (record { clean = g.clean; nobody = k.none deeds j g.courses g.holds })
-  ends_so j (deeds, silent s) = inl (record { clean = s.clean; nobody = s.silenced.none })
-  ends_so j (deeds, broken b) = inr b
+  ends_so j h = grind arith
 
   -- the other side sends what can't be read, and then anything passes
   bad_so : (capture : Capture) (j : Joint) → TurnsBad d capture j.course → Stood j → Ends d (comes_to capture).course

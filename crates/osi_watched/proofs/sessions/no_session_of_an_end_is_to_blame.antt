@@ -13,13 +13,12 @@ use Rattle.osi_class.specs.declared.terms.Class.TheVariants.{Two, Zero}
 use Rattle.osi_class.specs.declared.terms.Local.{Local}
 use Rattle.osi_judge.specs.Captures.{Capture, other}
 use Rattle.osi_judge.specs.declared.directions.Direction.{Direction}
-use Rattle.osi_judge.specs.declared.directions.Direction.TheVariants.{Left, Right}
 use Rattle.osi_rules.specs.declared.findings.Finding.{Finding}
-use Rattle.osi_rules.specs.declared.findings.Finding.TheVariants.{Broke, Kept, NotJudged, Outside, TooMany}
+use Rattle.osi_rules.specs.declared.findings.Finding.TheVariants.{Broke, TooMany}
 use Rattle.osi_rules.specs.declared.findings.Reach.{Reach}
 use Rattle.osi_rules.specs.declared.findings.Reach.TheVariants as reach
 use Rattle.osi_rules.specs.declared.findings.Rule.TheVariants as rule
-use Rattle.osi_rules.specs.Reaches.{is_applied, reach_by, reach_of}
+use Rattle.osi_rules.specs.Reaches.{is_applied, reach_of}
 use Rattle.osi_rules.specs.Traffic.{class_for, is_stopped, takes}
 use Rattle.osi_fair.specs.Pieces.{units_in}
 use Rattle.osi_fair.specs.Wholes as wholes
@@ -94,17 +93,12 @@ not_both : (b : Bool) → b ≡ true → b ≡ false → ⊥
 not_both b h k = cc
 
 own_stopped : (d : Direction) (c : Passed) → IsOver c → is_stopped (way_of d) c.traffic.course ≡ true
-own_stopped Left c o = o.left
-own_stopped Right c o = o.right
+own_stopped d c o = grind arith
 
 -- ---- one connection too many, or not
 
 many_or : (f : Finding) → (f ≡ TooMany) ⊎ (f ≡ TooMany → ⊥)
-many_or TooMany = inl refl
-many_or Kept = inr (λ e. cc e)
-many_or NotJudged = inr (λ e. cc e)
-many_or Outside = inr (λ e. cc e)
-many_or (Broke r) = inr (λ e. cc e)
+many_or f = grind arith
 
 not_many : {f : Finding} → f ≡ Broke rule.Closed → f ≡ TooMany → ⊥
 not_many closed many = let no : Broke rule.Closed ≡ TooMany = sym closed ∙ many in cc
@@ -197,11 +191,7 @@ module _ (known : Known) (barred : Class) (d : Direction) (local : Local)
       none_joined unapplied = subst (NoneIsToBlame d) (sym (joins_none (other d) at v c unapplied)) nobody
 
       by_mild : IsMild v found → (found ≡ TooMany) ⊎ (found ≡ TooMany → ⊥) → One
-      by_mild m (inl many) =
-          is_done (record {
-            over = all_ends (other d) at v c (too_many_ends (other d) v c.traffic many);
-            none = none_joined (ap is_applied many);
-          })
+      by_mild m (inl many) = grind (arith, all_ends, too_many_ends, none_joined)
       by_mild m (inr few) =
           goes_on (record {
             taken = passed_then barred d at front v old.course so.taken (record {
@@ -238,15 +228,12 @@ module _ (known : Known) (barred : Class) (d : Direction) (local : Local)
       by_reach unapplied reach.Connection reaches less = is_lost (loose_so (other d) at v c reach.Connection reaches)
       by_reach unapplied reach.Side reaches less =
           is_alone unapplied reaches (unit_alone d at v c so.judged (is_sure.agrees Zero) reaches)
-      by_reach unapplied reach.Everything reaches less =
-          is_done (record { over = all_ends (other d) at v c reaches; none = none_joined unapplied })
+      by_reach unapplied reach.Everything reaches less = grind (arith, all_ends, none_joined)
 
       one_by : Sort v found → One
       one_by (is_mild m) = by_mild m (many_or found)
       one_by (is_shut closed other_unit) = by_after (after_dr (other d) v c closed other_unit)
-      one_by (is_broken unapplied less) =
-          by_reach unapplied (takes (way_of (other d)) v c.traffic).told.reach refl
-          (λ none. less (class_for (way_of (other d)) c.traffic.course) (sym (reach_so (other d) at v c).far ∙ none))
+      one_by (is_broken unapplied less) = search (arith, by_reach, reach_so (other d) at v c)
 
       all_join : After units ≡ units_pass (other d) at back next
       all_join = ap After is ∙ units_join (other d) at front (v ∷ back) old.course
@@ -255,13 +242,11 @@ module _ (known : Known) (barred : Class) (d : Direction) (local : Local)
       then_rest (goes_on more) rest = rest more
       then_rest (is_done s) rest =
           then_done (subst (IsDone d) (sym all_join) (units_kept (IsDone d) (done_claim d) (other d) at back next s))
-      then_rest (is_lost b) rest =
-          then_lost (subst IsLoose (sym all_join) (units_kept IsLoose loose_claim (other d) at back next b))
+      then_rest (is_lost b) rest = grind (arith, all_join, units_kept, loose_claim)
       then_rest (is_alone unapplied side a) rest = then_alone front back v is so.taken so.judged unapplied side a (kind_of v)
 
     pass_on : (back front : List Value) → units ≡ front ++ back → AllSoFar front → Passing at units old.course
-    pass_on [] front is so =
-        subst (λ (l : List Value). Passing at l old.course) (sym (is ∙ append-nil front)) (all_taken so.taken so.judged)
+    pass_on [] front is so = grind (arith, append-nil)
     pass_on (v ∷ back) front is so =
         then_rest front back v is so (one_by front back v is so (sort_of v (found front back v is so)))
         (λ more. pass_on back (front ++ v ∷ []) (is ∙ sym (append_assoc front (v ∷ []) back)) more)
@@ -403,10 +388,7 @@ module _ (known : Known) (barred : Class) (d : Direction) (local : Local)
   EndsWell c = NoneIsToBlame d c.sessions ⊎ IsLoose c
 
   ends_so : (j : Joint) → Stood j → EndsWell j.course
-  ends_so j (deeds, goes g) = inl (k.none deeds j g.courses g.holds)
-  ends_so j (deeds, ended s) = inl s.none
-  ends_so j (deeds, lost b) = inr b
-  ends_so j (deeds, alone a) = inl (none_alone known barred d local fair fair_alone Inv k has_begun false j a)
+  ends_so j h = grind (arith, none_alone)
 
   -- the other side sends what can't be read, and then anything passes
   module _ (at : ℕ) (cause_is : Cause) (packets : List (List ℕ)) (none_in : units_in packets ≡ []) (steps : List Step)
@@ -450,22 +432,15 @@ module _ (known : Known) (barred : Class) (d : Direction) (local : Local)
               (octets_begin_alone known barred d local fair fair_alone Inv k has_begun deeds at cause_is packets none_in j g is refuses_so a
               nothing)
         ]
-    unread_by deeds g (is_alone_then a) None is =
-        absurd (not_both (is_stopped (way_of d) bad.course.traffic.course)
-        (own_stopped d bad.course (unread_ends d at cause_is j.course g.judged (g.sure.agrees Zero)
-        (ap (λ (x : Option Class). reach_by x false) is))) a.own)
-    unread_by deeds g (is_alone_then a) (Some Two) is =
-        absurd (not_both (is_stopped (way_of d) bad.course.traffic.course)
-        (own_stopped d bad.course (unread_ends d at cause_is j.course g.judged (g.sure.agrees Zero)
-        (ap (λ (x : Option Class). reach_by x false) is))) a.own)
+    unread_by deeds g (is_alone_then a) None is = grind (arith, not_both, own_stopped, unread_ends)
+    unread_by deeds g (is_alone_then a) (Some Two) is = grind (arith, not_both, own_stopped, unread_ends)
 
     after_bad : Stood j → EndsWell end.course
     after_bad (deeds, goes g) =
         unread_by deeds g (unread_alone d at cause_is j.course g.judged (g.sure.agrees Zero))
         (class_for (way_of (other d)) j.course.traffic.course) refl
     after_bad (deeds, ended s) = done_so ((done_claim d).bad (other d) at cause_is j.course s)
-    after_bad (deeds, lost b) =
-        inr (later_kept IsLoose loose_claim d steps bad end along (loose_claim.bad (other d) at cause_is j.course b))
+    after_bad (deeds, lost b) = grind (arith, later_kept, loose_claim)
     after_bad (deeds, alone a) =
         let apart = zero_apart bad.course
         (subst (IsAlone d) (sym (unread_same (other d) at cause_is j.course a.is.alone.halted)) a.is.alone) bad_not in

@@ -1,22 +1,18 @@
 -- No session of an end is to blame, whatever the other side breaks, if what stands of it at each step stands also after a connection of
 -- class 2 has lost its judgement, and if class 0 is not selected.
 -- For the law that no session of an end is blamed after a break of the other side.
-use Rattle.osi_watched.proofs.Vocabulary.{[], ap, append-nil, append_assoc, arith, Bool, false, inl, inr, is_some, length, List, None}
-use Rattle.osi_watched.proofs.Vocabulary.{Option}
-use Rattle.osi_watched.proofs.Vocabulary.{refl, Some, subst, sym, ℕ, ◌++◌, ◌<◌, ◌^◌, ◌∙◌, ◌∷◌, ◌≡◌, ◌⊎◌, slice_get, Value, Class, Two}
-use Rattle.osi_watched.proofs.Vocabulary.{Zero, Local, Holding, End, is_applied, reach_of, class_for, is_stopped, takes, Finding, Reach}
-use Rattle.osi_watched.proofs.Vocabulary.{Traffic as State, other, Direction, Left, Right, AllProper, Deeds, no_deeds, all_did}
-use Rattle.osi_watched.proofs.Vocabulary.{fresh_course}
-use Rattle.osi_watched.proofs.Vocabulary.{IsFresh, Turn, Joined, spoken, unit_passes, units_pass, unread, way_of, heard, Capture, comes_to}
-use Rattle.osi_watched.proofs.Vocabulary.{Cause, begins_other, begins_own, Joint, passes_other, passes_own, Step, Steps, StepsAlong}
-use Rattle.osi_watched.proofs.Vocabulary.{TakesTurn, turns, TurnsBad, calls_from, marks_of}
-use Rattle.osi_rules.specs.Reaches.{reach_by}
+use Rattle.osi_watched.proofs.Vocabulary.{[], ap, append-nil, append_assoc, arith, false, inl, inr, is_some, length, List, Option, refl}
+use Rattle.osi_watched.proofs.Vocabulary.{Some, subst, sym, ℕ, ◌++◌, ◌<◌, ◌^◌, ◌∙◌, ◌∷◌, ◌≡◌, ◌⊎◌, slice_get, Value, Class, Zero, Local}
+use Rattle.osi_watched.proofs.Vocabulary.{Holding, is_applied, reach_of, class_for, is_stopped, takes, Finding, Reach, Traffic as State}
+use Rattle.osi_watched.proofs.Vocabulary.{other, Direction, AllProper, Deeds, no_deeds, all_did, fresh_course, IsFresh, Turn, Joined}
+use Rattle.osi_watched.proofs.Vocabulary.{spoken, unit_passes, units_pass, unread, way_of, heard, Capture, comes_to, Cause, begins_other}
+use Rattle.osi_watched.proofs.Vocabulary.{begins_own, Joint, passes_other, passes_own, Step, Steps, StepsAlong, TakesTurn, turns, TurnsBad}
+use Rattle.osi_watched.proofs.Vocabulary.{calls_from, marks_of}
 use Rattle.osi_rules.specs.Sides as sides
 use Rattle.osi_rules.specs.Traffic as traffic
 use Rattle.osi_rules.specs.declared.findings.Reach.TheVariants as reach
 use Rattle.osi_fair.specs.Pieces.{units_in}
 use Rattle.osi_fair.specs.Wholes as wholes
-use Rattle.osi_honest.specs.Courses.{Course}
 use Rattle.osi_tap.specs.Courses.{Course as Passed}
 use Rattle.osi_tap.specs.Tapping as tapping
 use Rattle.osi_watched.specs.Joint.{begin}
@@ -48,20 +44,16 @@ taken_then d at [] v c h k = (k, tt)
 taken_then d at (x ∷ xs) v c h k = (h.0, taken_then d at xs v (unit_passes (other d) at x c) h.1 k)
 
 goes_so : (e : Direction) (c : Passed) → IsGoing c → is_stopped (way_of e) c.traffic.course ≡ false
-goes_so Left c j = j.left
-goes_so Right c j = j.right
+goes_so e c j = grind arith
 
 other_so : (e : Direction) (c : Passed) → IsGoing c → is_stopped (sides.other (way_of e)) c.traffic.course ≡ false
-other_so Left c j = j.right
-other_so Right c j = j.left
+other_so e c j = grind arith
 
 halted_so : (e : Direction) (c : Passed) → IsGoing c → is_some (marks_of e c).halted ≡ false
-halted_so Left c j = ap is_some j.left_goes
-halted_so Right c j = ap is_some j.right_goes
+halted_so e c j = grind arith
 
 knows_zero : (e : Direction) (c : Passed) → Sure c → class_for (way_of e) c.traffic.course ≡ Some Zero → c.traffic.course.class ≡ Some Zero
-knows_zero Left c sure is = sure.agrees Zero is
-knows_zero Right c sure is = is
+knows_zero e c sure is = grind arith
 
 -- a unit with which all judging ends has no effect
 all_applied : (k : Option Class) (f : Finding) → reach_of k f ≡ reach.Everything → is_applied f ≡ false
@@ -141,22 +133,11 @@ module _ (proper : AllProper) (d : Direction) (local : Local)
       nobody = blameless front (v ∷ back) is so.taken
 
       on : (how_far ≡ reach.Everything → ⊥) → IsGoing next → One
-      on far going = goes_on (record {
-        taken = taken_then d at front v old.course so.taken (record {
-          goes = goes_so (other d) c so.going;
-          lasts = lasting c so.going not_yet;
-          two = λ zero. not_yet (knows_zero (other d) c is_sure zero);
-          far = far;
-          loses = λ part. nobody;
-        });
-        going = subst IsGoing (sym joined) going;
-      })
+      on far going = search (arith, taken_then, goes_so, lasting, not_yet, knows_zero, is_sure, nobody, joined)
 
       one_by : (r : Reach) → how_far ≡ r → One
-      one_by reach.Nothing far =
-          on (λ all. let no : reach.Nothing ≡ reach.Everything = sym far ∙ all in cc) (nothing_goes (other d) at v c far so.going)
-      one_by reach.Connection far =
-          on (λ all. let no : reach.Connection ≡ reach.Everything = sym far ∙ all in cc) (part_goes (other d) at v c far so.going)
+      one_by reach.Nothing far = search (arith, on, nothing_goes)
+      one_by reach.Connection far = search (arith, on, part_goes)
       one_by reach.Side far = absurd (not_yet (side_known (other d) at v c far (is_sure.agrees Zero)))
       one_by reach.Everything far = is_done (record {
         over = all_ends (other d) at v c far;
@@ -174,8 +155,7 @@ module _ (proper : AllProper) (d : Direction) (local : Local)
           then_done (subst (IsDone d) (sym all_join) (units_kept (IsDone d) (done_claim d) (other d) at back next s))
 
     pass_on : (back front : List Value) → units ≡ front ++ back → AllSoFar front → Passing at units old.course
-    pass_on [] front is so =
-        subst (λ (l : List Value). Passing at l old.course) (sym (is ∙ append-nil front)) (all_taken so.taken so.going)
+    pass_on [] front is so = grind (arith, append-nil)
     pass_on (v ∷ back) front is so =
         then_rest front back v is so (one_by front back v is so (takes (way_of (other d)) v (After front).traffic).told.reach refl)
         (λ more. pass_on back (front ++ v ∷ []) (is ∙ sym (append_assoc front (v ∷ []) back)) more)
@@ -307,8 +287,7 @@ module _ (proper : AllProper) (d : Direction) (local : Local)
 
   tap_stays : (step : Step) → IsOfTap step → (deeds : ℕ → Deeds) (old new : Joint) → Steps d step old new → IsWithout Zero new.course →
       Stays deeds old → Stays deeds new
-  tap_stays step tap deeds old new does within s =
-      step_stays step deeds deeds old new does (λ g. tap_so step tap old new does within deeds g) s
+  tap_stays step tap deeds old new does within s = grind (arith, step_stays, tap_so)
 
   along_within : (steps : List Step) (old new : Joint) → StepsAlong d old steps new → IsWithout Zero new.course →
       IsWithout Zero old.course
@@ -340,18 +319,10 @@ module _ (proper : AllProper) (d : Direction) (local : Local)
   -- ---- the capture
 
   stays_first : (h : Holding) → IsFresh (calls_from d) local h → Stays (λ r. no_deeds) (begin h)
-  stays_first h fresh = goes (record {
-    going = record { left = refl; right = refl; left_goes = refl; right_goes = refl };
-    holds = k.begins h fresh;
-    courses = λ r. subst (λ (e : End). Course (calls_from d) r no_deeds e) (sym fresh.end) (fresh_course (calls_from d) local r);
-    followed = begin_followed d (calls_from d) local h fresh;
-    few = λ i j here. absurd (cc here);
-    sure = fresh_sure;
-  })
+  stays_first h fresh = search (arith, fresh_course, begin_followed, fresh_sure)
 
   none_so : (j : Joint) → Stood j → NoneIsToBlame d j.course.sessions
-  none_so j (deeds, goes g) = k.none deeds j g.courses g.holds
-  none_so j (deeds, ended s) = s.none
+  none_so j h = grind arith
 
   -- the other side sends what can't be read, and then anything passes
   module _ (at : ℕ) (cause_is : Cause) (packets : List (List ℕ)) (none_in : units_in packets ≡ []) (j : Joint)
@@ -361,23 +332,14 @@ module _ (proper : AllProper) (d : Direction) (local : Local)
 
     over_so : IsGoing j.course → traffic.refused_reach (way_of (other d)) j.course.traffic ≡ reach.Everything →
         IsOver (unread (other d) at cause_is j.course)
-    over_so going is =
-        subst IsOver (sym (ap (λ (b : Bool). unread_if b (other d) at cause_is j.course) (halted_so (other d) j.course going)))
-        (refused_over (other d) at cause_is j.course is)
+    over_so going is = grind (arith, unread_if, halted_so, refused_over)
 
     over_by : (x : Option Class) → IsGoing j.course → class_for (way_of (other d)) j.course.traffic.course ≡ x →
         (class_for (way_of (other d)) j.course.traffic.course ≡ Some Zero → ⊥) → IsOver (unread (other d) at cause_is j.course)
-    over_by None going is not = over_so going (ap (λ (y : Option Class). reach_by y false) is)
-    over_by (Some Two) going is not = over_so going (ap (λ (y : Option Class). reach_by y false) is)
-    over_by (Some Zero) going is not = absurd (not is)
+    over_by x going is not = search (arith, over_so)
 
     unread_so : Stood j → IsDone d bad.course
-    unread_so (deeds, ended s) = (done_claim d).bad (other d) at cause_is j.course s
-    unread_so (deeds, goes g) = record {
-      over = over_by (class_for (way_of (other d)) j.course.traffic.course) g.going refl
-          (λ zero. within.not (knows_zero (other d) j.course g.sure zero));
-      none = subst (NoneIsToBlame d) (sym (unread_sessions (other d) at cause_is j.course)) (k.none deeds j g.courses g.holds);
-    }
+    unread_so h = search (arith, done_claim, over_by, knows_zero, unread_sessions)
 
     after_bad : (steps : List Step) (end : Joint) → LaterAlong d bad steps end → Stood j → NoneIsToBlame d end.course.sessions
     after_bad steps end along s =

@@ -1,7 +1,7 @@
 -- Each DT and each AK of class 2 that comes to a called end is for a connection whose CC has passed the tap. So nothing is in flight to the
 -- others.
 -- For all connections of a called end and a tap.
-use Rattle.osi_watched.proofs.Vocabulary.{[], ap, arith, Bool, false, List, None, refl, Some, sym, true, ℕ, ◌<◌, ◌==◌, ◌∙◌, ◌∷◌, ◌≡◌, ◌≤◌}
+use Rattle.osi_watched.proofs.Vocabulary.{[], ap, arith, Bool, false, List, None, refl, Some, sym, ℕ, ◌<◌, ◌==◌, ◌∙◌, ◌∷◌, ◌≡◌, ◌≤◌}
 use Rattle.osi_watched.proofs.Vocabulary.{eqb-true, AllByRecursion, slice_get, acknowledge, confirm, data0, data2, destination_of}
 use Rattle.osi_watched.proofs.Vocabulary.{disconnect, disconnected, error, request, Value, Zero, is_refused, class_for, is_stopped, takes}
 use Rattle.osi_watched.proofs.Vocabulary.{Connection, Left, Right, HaveSamePlaces, picked_rest}
@@ -28,18 +28,10 @@ IsBelow b (disconnected n source) = Unit {0}
 IsBelow b (error n cause) = Unit {0}
 
 unlike : (n r b : ℕ) (x : Bool) → (n == r) ≡ x → n ≤ b → b < r → x ≡ false
-unlike n r b true e low less = let same = eqb-true n r e in absurd (omega (arith, same, low, less))
-unlike n r b false e low less = refl
+unlike n r b x e low less = grind (arith, eqb-true)
 
 below_not : (b r : ℕ) (v : Value) → b < r → IsBelow b v → is_for (Some r) v ≡ false
-below_not b r (data2 n number end user) less h = unlike n r b (n == r) refl h less
-below_not b r (acknowledge credit n number) less h = unlike n r b (n == r) refl h less
-below_not b r (data0 end user) less h = absurd h
-below_not b r (request x) less h = refl
-below_not b r (confirm n x) less h = refl
-below_not b r (disconnect n source reason user) less h = refl
-below_not b r (disconnected n source) less h = refl
-below_not b r (error n cause) less h = refl
+below_not b r v less h = grind (arith, unlike)
 
 -- so nothing is for the references above
 pub none_waits : (b r : ℕ) (vs : List Value) → b < r → AllByRecursion (IsBelow b) vs → waiting_for (Some r) vs ≡ []
@@ -47,14 +39,7 @@ none_waits b r [] less h = refl
 none_waits b r (v ∷ vs) less h = picked_rest (is_for (Some r)) v vs (below_not b r v less h.0) ∙ none_waits b r vs less h.1
 
 higher : (b n : ℕ) (v : Value) → b ≤ n → IsBelow b v → IsBelow n v
-higher b n (data2 m number end user) up h = omega (arith, up, h)
-higher b n (acknowledge credit m number) up h = omega (arith, up, h)
-higher b n (data0 end user) up h = h
-higher b n (request x) up h = tt
-higher b n (confirm m x) up h = omega (arith, up, h)
-higher b n (disconnect m source reason user) up h = tt
-higher b n (disconnected m source) up h = tt
-higher b n (error m cause) up h = tt
+higher b n v up h = grind arith
 
 pub below_higher : (b n : ℕ) (vs : List Value) → b ≤ n → AllByRecursion (IsBelow b) vs → AllByRecursion (IsBelow n) vs
 below_higher b n [] up h = tt
@@ -72,8 +57,7 @@ module _ (b at : ℕ) (c : Course) (places : HaveSamePlaces c.traffic.connection
   place_below v n dest some (somewhere i e j x r place there here one finding is far cs ts) =
       (up.live i j n here (joined_any Left v c n i e j places dest place there (λ lost. known i e there lost) here)).1
   place_below v n dest some (asks_more x is number cs ts) = absurd (let no : None ≡ Some n = sym (ap destination_of is) ∙ dest in cc)
-  place_below v n dest some (asks_again x is number i j here free cs ts) =
-      absurd (let no : None ≡ Some n = sym (ap destination_of is) ∙ dest in cc)
+  place_below v n dest some (asks_again x is number i j here free cs ts) = grind arith
 
   named_below : (v : Value) (n : ℕ) → destination_of v ≡ Some n → ((takes way.Left v c.traffic).told.place ≡ None → ⊥) → n ≤ b
   named_below v n dest some = place_below v n dest some (unit_does Left at v c.traffic c.sessions places)

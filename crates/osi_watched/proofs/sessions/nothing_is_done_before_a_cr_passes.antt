@@ -28,7 +28,6 @@ use Rattle.osi_honest.proofs.courses.what_calls_of_a_link_say.{taken_more}
 use Rattle.osi_stack.specs.Calls.{has_given}
 use Rattle.osi_tap.specs.Connections.{Sessions}
 use Rattle.osi_watched.specs.Joint.{Joint, TakesTurn}
-use Rattle.osi_watched.specs.Shown.{parts_of}
 use Rattle.osi_watched.specs.ShownPlaces.{HaveSamePlaces}
 use Rattle.osi_watched.proofs.a_carrier_does_events.{none_of}
 use Rattle.osi_watched.proofs.steps_are_events.{IsFollowed}
@@ -36,7 +35,7 @@ use Rattle.osi_watched.proofs.sessions.a_turn_does_what_its_deeds_say.{turn_uses
 use Rattle.osi_watched.proofs.sessions.connections_have_the_same_places.{at_same}
 use Rattle.osi_watched.proofs.sessions.each_cr_that_passes_gives_a_new_reference.{AreUpTo}
 use Rattle.osi_watched.proofs.sessions.what_is_in_flight_to_an_end.{parts_taken}
-use Rattle.osi_watched.proofs.sessions.what_is_left_for_an_end.{AreLeft, known_left, left_empty}
+use Rattle.osi_watched.proofs.sessions.what_is_left_for_an_end.{known_left, left_empty}
 use Rattle.osi_watched.proofs.sessions.what_passes_leaves_all_standing.{IsReady}
 use Rattle.osi_watched.proofs.sessions.what_stands_of_a_connection.{Known, is_for, waiting_for}
 
@@ -54,8 +53,7 @@ IsNotCc r v = (x : Connect) → v ≡ confirm r x → ⊥
 
 apart_none : (r : ℕ) (units : List Marked) → AreApart r units → units_at r units ≡ []
 apart_none r [] h = refl
-apart_none r (m ∷ units) h =
-    ap (λ (b : Bool). (if b then m.1 ∷ [] else []) ++ units_at r units) h.0 ∙ apart_none r units h.1
+apart_none r (m ∷ units) h = grind (arith, apart_none r units h.1)
 
 not_amid : {A : Type 0} (s : Stage) (peer : ℕ) → s ≡ early → s ≡ amid peer → A
 not_amid s peer e h = absurd (cc (sym e ∙ h))
@@ -84,11 +82,7 @@ module _ (r : ℕ) (deeds more : Deeds) (took put : List Marked) (put_is : more.
     (taken : units_taken more.calls ≡ units_at r took) where
   none_more : (s t : Stage) → AreApart r took → AreApart r put → ((peer : ℕ) → t ≡ amid peer → ⊥) → IsUndone deeds s →
       IsUndone (then_did deeds more) t
-  none_more s t none none_put shut u = record {
-    put = (λ i. u.put i ++ (put_is ∙ apart_none r put none_put) i);
-    taken = taken_more deeds.calls more.calls ∙ (λ i. u.taken i ++ (taken ∙ apart_none r took none) i);
-    shut = shut;
-  }
+  none_more s t none none_put shut u = grind (arith, apart_none, taken_more)
 
   pub life_undone : (s t : Stage) → Life true r s took put t → (s ≡ early → AllByRecursion (IsNotCc r) (all_units took)) →
       IsUndone deeds s → IsUndone (then_did deeds more) t
@@ -140,11 +134,7 @@ same_units (p ∷ packets) = ap (λ (l : List Value). pieces.units_by (units_of 
 
 -- Each CC that has come for a reference above those of the tap is for one that was not given, or at which no CC is awaited.
 given_or : (r : ℕ) (end : Carrier) → (has_given r end ≡ false) ⊎ (has_given r end ≡ true)
-given_or r end = by (has_given r end) refl
-  where
-    by : (b : Bool) → has_given r end ≡ b → (has_given r end ≡ false) ⊎ (has_given r end ≡ true)
-    by false e = inl e
-    by true e = inr e
+given_or r end = grind arith
 
 pub given_so : (r : ℕ) (c : Carrier) → 0 < r → r ≤ c.given → has_given r c ≡ true
 given_so r c some up = ap (λ (b : Bool). b && nat_le r c.given) (lt-ltb 0 r some) ∙ le-leb r c.given up
@@ -197,24 +187,10 @@ IsNoZero (acknowledge credit n number) = Unit {0}
 IsNoZero (error n cause) = Unit {0}
 
 dc_not : (r : ℕ) (v : Value) → IsDc v → is_for (Some r) v ≡ false
-dc_not r (disconnected n source) h = refl
-dc_not r (request x) h = absurd (cc)
-dc_not r (confirm n x) h = absurd (cc)
-dc_not r (disconnect n source reason user) h = absurd (cc)
-dc_not r (data0 end user) h = absurd (cc)
-dc_not r (data2 n number end user) h = absurd (cc)
-dc_not r (acknowledge credit n number) h = absurd (cc)
-dc_not r (error n cause) h = absurd (cc)
+dc_not r v h = grind arith
 
 unnamed_not : (r : ℕ) (v : Value) → IsNoZero v → names r v ≡ false → is_for (Some r) v ≡ false
-unnamed_not r (disconnected n source) z h = refl
-unnamed_not r (request x) z h = refl
-unnamed_not r (confirm n x) z h = refl
-unnamed_not r (disconnect n source reason user) z h = refl
-unnamed_not r (data0 end user) z h = absurd z
-unnamed_not r (data2 n number end user) z h = h
-unnamed_not r (acknowledge credit n number) z h = h
-unnamed_not r (error n cause) z h = refl
+unnamed_not r v z h = grind arith
 
 -- of DCs none adds to the connection
 pub dcs_none : (r : ℕ) (vs : List Value) → AllByRecursion IsNoZero vs → AllByRecursion IsDc (those r vs) → waiting_for (Some r) vs ≡ []
@@ -247,16 +223,7 @@ pub cr_ready : (b : ℕ) (deeds : ℕ → Deeds) (c : Carrier) (x : Connect) (co
     b < x.source →
     AreUndone b deeds c → (c.ended ≡ None → waiting_for (Some x.source) coming ≡ []) →
     IsReady Left deeds (known_from (may_take c) coming) (request x) rest s t
-cr_ready b deeds c x coming rest s t less u none =
-    let h = u x.source less in
-    (h.put, parts_taken (deeds x.source).calls ∙ ap parts_of h.taken, (omega (arith, less), λ live. by c.ended refl live))
-  where
-    over_not : {A : Type 0} (z : Stage) → z ≡ past → is_under_way z ≡ true → A
-    over_not z e h = absurd (let gone : is_under_way z ≡ false = ap is_under_way e in cc)
-
-    by : (o : Option EndReason) → c.ended ≡ o → may_take c x.source ≡ true → AreLeft x.source coming []
-    by None lasts live = left_empty x.source coming (none lasts)
-    by (Some reason) over live = over_not (stage_at x.source c) (stage_over x.source c (ap is_some over)) live
+cr_ready b deeds c x coming rest s t less u none = grind (arith, parts_taken, past, left_empty, stage_at, stage_over)
 
 -- as the whole end says of a CR that it has put
 pub cr_calm : (local : Local) (first : Whole) (j : Joint) (f : IsFollowed Left first j) → Followed local f.whole → (x : Connect)

@@ -30,7 +30,7 @@ use Rattle.osi_rules.specs.Traffic.{State, at_found, at_place, class_for, connec
 use Rattle.osi_rules.specs.Traffic.{course_after_none, unnamed, unnamed_told}
 use Rattle.osi_rules.specs.Traffic.{in_doubt, meant, none_told, route, route_in, routed, takes, unnamed_by, uses_source}
 use Rattle.osi_honest.specs.Courses.{Deeds}
-use Rattle.osi_tap.specs.Connections.{Joined, Sessions, asked, opened, class_of, reference_of, spoken}
+use Rattle.osi_tap.specs.Connections.{Joined, Sessions, reference_of}
 use Rattle.osi_tap.specs.Connections as joined
 use Rattle.osi_tap.specs.Courses.{way_of}
 use Rattle.osi_watched.specs.ShownPlaces.{IsOneOf}

@@ -18,14 +18,13 @@ use Rattle.osi_watched.specs.Shown.{calls_from}
 use Rattle.osi_watched.proofs.the_first_break_is_not_of_an_end.{IsNoBreak}
 use Rattle.osi_watched.proofs.what_a_taker_passes_over.{IsMild}
 use Rattle.osi_watched.proofs.sessions.a_dt_of_class_0_leaves_all_standing as zero
-use Rattle.osi_watched.proofs.sessions.a_dt_of_class_0_leaves_all_standing.{IsHeardZero}
 use Rattle.osi_watched.proofs.sessions.a_turn_leaves_all_standing.{all_blameless}
 use Rattle.osi_watched.proofs.sessions.after_too_many_nobody_is_to_blame.{NoneIsToBlame}
 use Rattle.osi_watched.proofs.sessions.all_connections_stand.{AllStand}
 use Rattle.osi_watched.proofs.sessions.each_step_leaves_class_0_one_connection.{Sure, is_zero}
 use Rattle.osi_watched.proofs.sessions.steps_leave_all_standing.{Standing}
 use Rattle.osi_watched.proofs.sessions.what_passes_leaves_all_standing as two
-use Rattle.osi_watched.proofs.sessions.what_passes_leaves_all_standing.{IsHeard, IsReady}
+use Rattle.osi_watched.proofs.sessions.what_passes_leaves_all_standing.{IsReady}
 use Rattle.osi_watched.proofs.sessions.what_stands_of_a_connection.{Known}
 
 -- a side is judged, and this unit of it is no break

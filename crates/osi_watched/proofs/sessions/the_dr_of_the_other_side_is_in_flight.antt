@@ -1,14 +1,13 @@
 -- Of each connection that the other side has closed at the tap, its DR is in flight to the end, as long as the end has the connection open.
 -- So it is as packets begin and units pass, and as the end takes a turn, if it takes no DR for a connection that it has open after it.
 -- For the sessions of an end after a DT or an AK on a connection that its sender had closed.
-use Rattle.osi_watched.proofs.Vocabulary.{[], ap, arith, Bool, false, if◌then◌else◌, inl, inr, length, List, None, Option, refl, Some}
-use Rattle.osi_watched.proofs.Vocabulary.{subst, sym, true, ℕ, ◌++◌, ◌∙◌, ◌∷◌, ◌≡◌, ◌⊎◌, eq-eqb, append-nil, slice_get}
-use Rattle.osi_watched.proofs.Vocabulary.{acknowledge, confirm, Connect, data0, data2, disconnect, disconnected, error, request, Value}
-use Rattle.osi_watched.proofs.Vocabulary.{is_applied, begins, is_closing, is_silent, own, asked_by, connection_after, found_on, half_after}
-use Rattle.osi_watched.proofs.Vocabulary.{meaning_if, meant, Traffic as State, takes, Connection, Finding, Broke, NotJudged, Reach, Half}
-use Rattle.osi_watched.proofs.Vocabulary.{Phase, Closed, Closing, Open, Refused, Silent, other, Direction, Left, Right}
-use Rattle.osi_watched.proofs.Vocabulary.{all_begin, asked, Joined, reference_of, Sessions, taken, way_of, All, after_add, after_change}
-use Rattle.osi_watched.proofs.Vocabulary.{after_map, slice_get_within, HaveSamePlaces, IsOneOf, named_by}
+use Rattle.osi_watched.proofs.Vocabulary.{[], ap, arith, Bool, false, if◌then◌else◌, inl, inr, length, List, None, Option, refl, Some, sym}
+use Rattle.osi_watched.proofs.Vocabulary.{true, ℕ, ◌++◌, ◌∙◌, ◌∷◌, ◌≡◌, ◌⊎◌, eq-eqb, append-nil, slice_get, acknowledge, confirm, Connect}
+use Rattle.osi_watched.proofs.Vocabulary.{data0, data2, disconnect, disconnected, error, request, Value, is_applied, begins, is_closing}
+use Rattle.osi_watched.proofs.Vocabulary.{is_silent, own, asked_by, connection_after, found_on, half_after, meaning_if, meant}
+use Rattle.osi_watched.proofs.Vocabulary.{Traffic as State, takes, Connection, Finding, Broke, NotJudged, Reach, Half, Phase, other}
+use Rattle.osi_watched.proofs.Vocabulary.{Direction, Right, all_begin, asked, Joined, reference_of, Sessions, taken, way_of, All, after_add}
+use Rattle.osi_watched.proofs.Vocabulary.{after_change, after_map, slice_get_within, HaveSamePlaces, IsOneOf, named_by}
 use Rattle.osi_rules.specs.Traffic as traffic
 use Rattle.osi_rules.specs.declared.directions.Direction.TheVariants as way
 use Rattle.osi_rules.specs.declared.findings.Rule.TheVariants as rule
@@ -59,12 +58,10 @@ begins_shut d e is_live coming s t h = record {
 -- what is in flight grows
 grown : (d : Direction) (is_live : ℕ → Bool) (coming more : List Value) (j k : Joined) → reference_of d k ≡ reference_of d j →
     IsShutAt d is_live coming j → IsShutAt d is_live (coming ++ more) k
-grown d is_live coming more j k same h =
-    record { r = h.r; named = same ∙ h.named; dr = λ live. dr_more h.r coming more (h.dr live) }
+grown d is_live coming more j k same h = grind (arith, dr_more)
 
 asked_open : (d : Direction) (x : Connect) → is_closing (own (way_of (other d)) (asked_by x)).phase ≡ false
-asked_open Left x = refl
-asked_open Right x = refl
+asked_open d x = grind arith
 
 differ : {A : Type 0} (b : Bool) → b ≡ true → b ≡ false → A
 differ b h k = absurd (cc)
@@ -72,32 +69,24 @@ differ b h k = absurd (cc)
 -- the half of the other side, after a unit of the end
 theirs_after : (d : Direction) (v : Value) (b : Bool) (r : Reach) (c : Connection) →
     own (way_of (other d)) (connection_after (way_of d) v b r c) ≡ own (way_of (other d)) c
-theirs_after Left v b r c = other_after Right v b r c
-theirs_after Right v b r c = other_after Left v b r c
+theirs_after d v b r c = grind (arith, other_after)
 
 -- its own half, after a unit without an effect
 none_after : (d : Direction) (v : Value) (r : Reach) (c : Connection) →
     own (way_of (other d)) (connection_after (way_of (other d)) v false r c) ≡ own (way_of (other d)) c
-none_after Left v r c = other_after Right v false r c
-none_after Right v r c = other_after Left v false r c
+none_after d v r c = grind (arith, other_after)
 
 -- a CC is right only if none has passed
 silent_by : (b silent : Bool) (f : Finding) → is_applied (if b then (if silent then f else Broke rule.WrongForm) else NotJudged) ≡ true →
     silent ≡ true
-silent_by true true f h = refl
-silent_by true false f h = absurd (cc)
-silent_by false silent f h = absurd (cc)
+silent_by b silent f h = grind arith
 
 cc_silent : (s : State) (n : ℕ) (x : Connect) (c : Connection) → is_applied (found_on way.Right s c (confirm n x)) ≡ true →
     is_silent c.right.phase ≡ true
 cc_silent s n x c h = silent_by c.is_judged (is_silent c.right.phase) _ h
 
 unnamed_so : (p : Phase) (r : ℕ) → is_silent p ≡ true → named_by p r ≡ None
-unnamed_so Silent r h = refl
-unnamed_so Open r h = absurd (cc)
-unnamed_so Refused r h = absurd (cc)
-unnamed_so Closing r h = absurd (cc)
-unnamed_so Closed r h = absurd (cc)
+unnamed_so p r h = grind arith
 
 none_some : {A : Type 0} (r : ℕ) (o : Option ℕ) → o ≡ None → o ≡ Some r → A
 none_some r o e h = absurd (let both : None ≡ Some r = sym e ∙ h in cc)
@@ -106,13 +95,7 @@ none_some r o e h = absurd (let both : None ≡ Some r = sym e ∙ h in cc)
 named_still : (d e : Direction) (at : ℕ) (v : Value) (j : Joined) → j.room ≡ All →
     ((n : ℕ) (x : Connect) → v ≡ confirm n x → d ≡ Right → ⊥) →
     reference_of d (joined.meant e at v (meaning_if true (meant v)) j) ≡ reference_of d j
-named_still Left e at (confirm n x) j room not = refl
-named_still Right e at (confirm n x) j room not = absurd (not n x refl refl)
-named_still d e at (disconnect n source reason user) j room not = named_shut d j
-named_still d e at (data0 end user) j room not = named_added at end user d e j room
-named_still d e at (data2 n number end user) j room not = named_added at end user d e j room
-named_still d e at (error n cause) j room not = named_shut d j
-named_still d e at _ j room not = refl
+named_still d e at v j room not = grind (arith, named_shut, named_added)
 
 module _ (d e : Direction) (at : ℕ) (v : Value) (is_live : ℕ → Bool) (coming more : List Value) (s : State) (t : Sessions)
     (places : HaveSamePlaces s.connections t.live) (h : AreShut d is_live coming s t)
@@ -138,39 +121,27 @@ module _ (d e : Direction) (at : ℕ) (v : Value) (is_live : ℕ → Bool) (comi
       is_applied (found_on (way_of e) s first v) ≡ x → (i : ℕ) (c : Connection) (j : Joined) → IsClosing c →
       ((i ≡ p) × (c ≡ connection_after (way_of e) v x r first)) ⊎ ((i ≡ p → ⊥) × (slice_get s.connections i ≡ Some c)) →
       ((i ≡ p) × (j ≡ joined.meant e at v (meaning_if x (meant v)) k)) ⊎ ((i ≡ p → ⊥) × (slice_get t.live i ≡ Some j)) → Goes j
-  place_by p first k x r told at_first at_joined one is i c j closing (inl (m, so)) (inl (n, same)) =
-      let now = subst IsClosing so closing in
-      subst Goes (sym same) (here_so p first k x r told at_first at_joined one is (was_judged (way_of e) v x r first now.0) now.1)
+  place_by p first k x r told at_first at_joined one is i c j closing (inl (m, so)) (inl (n, same)) = grind (arith, was_judged)
   place_by p first k x r told at_first at_joined one is i c j closing (inl (m, so)) (inr (n, same)) = absurd (n m)
   place_by p first k x r told at_first at_joined one is i c j closing (inr (m, so)) (inl (n, same)) = absurd (m n)
   place_by p first k x r told at_first at_joined one is i c j closing (inr (m, so)) (inr (n, same)) = still i c j so same closing
 
   not_asked : {A : Type 0} (x : Connect) (c : Connection) → c ≡ asked_by x → IsClosing c → A
-  not_asked x c is closing =
-      differ (is_closing (own (way_of (other d)) (asked_by x)).phase) (subst IsClosing is closing).1 (asked_open d x)
+  not_asked x c is closing = grind (arith, differ, asked_open)
 
   add_by : (x : Connect) (number : ℕ) (i : ℕ) (c : Connection) (j : Joined) → IsClosing c →
       ((i ≡ length s.connections) × (c ≡ asked_by x)) ⊎ (slice_get s.connections i ≡ Some c) →
       ((i ≡ length t.live) × (j ≡ asked number x.source t.room)) ⊎ (slice_get t.live i ≡ Some j) → Goes j
-  add_by x number i c j closing (inl (m, so)) same = not_asked x c so closing
-  add_by x number i c j closing (inr so) (inl (n, same)) =
-      let (k, here, one) = at_same s.connections t.live i c places so in
-      let near = slice_get_within t.live i k here in
-      absurd (omega (arith, near, n))
-  add_by x number i c j closing (inr so) (inr same) = still i c j so same closing
+  add_by x number i c j closing h same = grind (arith, not_asked, at_same, slice_get_within, still)
 
   again_by : (x : Connect) (number p : ℕ) (i : ℕ) (c : Connection) (j : Joined) → IsClosing c →
       ((i ≡ p) × (c ≡ asked_by x)) ⊎ ((i ≡ p → ⊥) × (slice_get s.connections i ≡ Some c)) →
       ((i ≡ p) × (j ≡ asked number x.source t.room)) ⊎ ((i ≡ p → ⊥) × (slice_get t.live i ≡ Some j)) → Goes j
-  again_by x number p i c j closing (inl (m, so)) same = not_asked x c so closing
-  again_by x number p i c j closing (inr (m, so)) (inl (n, same)) = absurd (m n)
-  again_by x number p i c j closing (inr (m, so)) (inr (n, same)) = still i c j so same closing
+  again_by x number p i c j closing h same = grind (arith, not_asked, still)
 
   each_by : Does e at v s t (takes (way_of e) v s) → (i : ℕ) (c : Connection) (j : Joined) →
       slice_get (takes (way_of e) v s).state.connections i ≡ Some c → slice_get after.live i ≡ Some j → IsClosing c → Goes j
-  each_by (nowhere place cs ts) i c j there here closing =
-      still i c j (ap (λ (z : List Connection). slice_get z i) (sym cs) ∙ there)
-      (ap (λ (z : Sessions). slice_get z.live i) (sym ts) ∙ here) closing
+  each_by (nowhere place cs ts) i c j there here closing = grind (arith, still)
   each_by (somewhere p first k x r place at_first at_joined one finding is far cs ts) i c j there here closing =
       place_by p first k x r place at_first at_joined one is i c j closing
       (after_change s.connections p i (connection_after (way_of e) v x r first) c
@@ -199,14 +170,7 @@ module _ (d : Direction) (at : ℕ) (v : Value) (is_live : ℕ → Bool) (coming
   -- a CC gives a reference to a connection that has none
   no_cc : (first : Connection) (k : Joined) → IsOneOf first k → is_applied (found_on (way_of d) s first v) ≡ true → (r : ℕ) →
       reference_of d k ≡ Some r → (n : ℕ) (x : Connect) → v ≡ confirm n x → d ≡ Right → ⊥
-  no_cc first k one applied r named n x is right =
-      none_some r k.called (one.called ∙ unnamed_so first.right.phase first.right.reference silent)
-      (subst (λ (y : Direction). reference_of y k ≡ Some r) right named)
-    where
-      silent : is_silent first.right.phase ≡ true
-      silent = cc_silent s n x first
-          (subst (λ (y : Direction). is_applied (found_on (way_of y) s first (confirm n x)) ≡ true) right
-          (subst (λ (u : Value). is_applied (found_on (way_of d) s first u) ≡ true) is applied))
+  no_cc first k one applied r named n x is right = grind (arith, none_some, unnamed_so, cc_silent)
 
   own_here : (p : ℕ) (first : Connection) (k : Joined) (x : Bool) (r : Reach) → (takes (way_of d) v s).told.place ≡ Some p →
       slice_get s.connections p ≡ Some first → slice_get t.live p ≡ Some k → IsOneOf first k →
@@ -224,10 +188,7 @@ module _ (d : Direction) (at : ℕ) (v : Value) (is_live : ℕ → Bool) (coming
 
   pub own_shut : AreShut d is_live coming (takes (way_of d) v s).state
       (taken d at v (takes (way_of d) v s).told.meaning (takes (way_of d) v s).told.place t)
-  own_shut =
-      subst (λ (l : List Value). AreShut d is_live l (takes (way_of d) v s).state
-      (taken d at v (takes (way_of d) v s).told.meaning (takes (way_of d) v s).told.place t)) (append-nil coming)
-      (unit_shut d d at v is_live coming [] s t places h own_here)
+  own_shut = grind (arith, own_here, append-nil coming, unit_shut d d at v is_live coming [] s t places h own_here)
 
 -- ---- a unit of the other side
 
@@ -244,8 +205,7 @@ module _ (d : Direction) (at : ℕ) (is_live : ℕ → Bool) (coming : List Valu
       (is_closing (half_after v (own (way_of (other d)) first)).phase ≡ true → is_closing (own (way_of (other d)) first).phase ≡ true) →
       Here v p first k r
   same_here v p first k r not was at_first at_joined judged closing =
-      grown d is_live coming (v ∷ []) k (joined.meant (other d) at v (meaning_if true (meant v)) k)
-      (named_still d (other d) at v k (rooms p k at_joined) not) (h.each p first k at_first at_joined judged (was closing))
+      grind (arith, grown, named_still d (other d) at v k (rooms p k at_joined) not)
 
   here_by : (v : Value) (p : ℕ) (first : Connection) (k : Joined) (r : Reach) → (takes (way_of (other d)) v s).told.place ≡ Some p →
       IsOneOf first k → Here v p first k r

@@ -2,8 +2,7 @@
 -- if none does of what its whole end has put.
 -- For all connections of an end and a tap.
 use Rattle.osi_watched.proofs.Vocabulary.{[], ap, arith, Bool, false, is_some, List, map, Option, refl, sym, true, ℕ, ◌%◌, ◌*◌, ◌+◌, ◌/◌}
-use Rattle.osi_watched.proofs.Vocabulary.{◌==◌, ◌∙◌, ◌∷◌, ◌≡◌, AllByRecursion, acknowledge, confirm, data2, error, request, Value, written}
-use Rattle.osi_watched.proofs.Vocabulary.{CanBeWritten, picked_first, picked_rest}
+use Rattle.osi_watched.proofs.Vocabulary.{◌==◌, ◌∙◌, ◌∷◌, ◌≡◌, AllByRecursion, Value, written, CanBeWritten, picked_first, picked_rest}
 use Rattle.osi_watched.proofs.sessions.what_stands_of_a_connection.{is_for, names_it, waiting_for}
 
 -- ---- for which connection octets are
@@ -36,21 +35,7 @@ kind_of : (o : Option ℕ) (octets : List ℕ) (size code n : ℕ) (rest : List 
 kind_of o octets size code n rest e k = ap (λ (m : ℕ). of_kind o size m rest) (sym k) ∙ ap (for_octets o) (sym e)
 
 pub for_written : (o : Option ℕ) (v : Value) → CanBeWritten v → is_for o v ≡ for_octets o (written v)
-for_written o (request x) can =
-    let few = can.credit in
-    let kind : (0xE0 + x.credit) / 16 ≡ 14 = omega (arith, few) in
-    kind_of o (written (request x)) _ (0xE0 + x.credit) 14 _ refl kind
-for_written o (confirm n x) can =
-    let few = can.credit in
-    let kind : (0xD0 + x.credit) / 16 ≡ 13 = omega (arith, few) in
-    kind_of o (written (confirm n x)) _ (0xD0 + x.credit) 13 _ refl kind
-for_written o (data2 n number end user) can = number_so o n
-for_written o (acknowledge credit n number) can =
-    let few = can.0 in
-    let kind : (0x60 + credit) / 16 ≡ 6 = omega (arith, few) in
-    number_so o n ∙ kind_of o (written (acknowledge credit n number)) _ (0x60 + credit) 6 _ refl kind
-for_written o (error n cause) can = absurd can
-for_written o _ can = refl
+for_written o v can = search (arith, kind_of, number_so)
 
 -- ---- lists of units
 

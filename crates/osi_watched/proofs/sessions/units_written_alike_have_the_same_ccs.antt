@@ -32,11 +32,7 @@ has_back n r (x ∷ xs) ys h = inr (has_back n r xs ys h)
 pub has_either : (n r : ℕ) (xs ys : List Value) → HasCc n r (xs ++ ys) → HasCc n r xs ⊎ HasCc n r ys
 has_either n r [] ys h = inr h
 has_either n r (x ∷ xs) ys (inl h) = inl (inl h)
-has_either n r (x ∷ xs) ys (inr h) = by (has_either n r xs ys h)
-  where
-    by : HasCc n r xs ⊎ HasCc n r ys → HasCc n r (x ∷ xs) ⊎ HasCc n r ys
-    by (inl k) = inl (inr k)
-    by (inr k) = inr k
+has_either n r (x ∷ xs) ys (inr h) = grind (arith, has_either n r xs ys h)
 
 -- a CC selects class 2
 abbrev pub AnswersTwo : Value → Type 0
@@ -87,32 +83,14 @@ fields_in (size ∷ code ∷ rest) = of_kind (code / 16) rest
 
 same_fields : (m source class options : ℕ) → options < 16 →
     with_fields m source class ≡ with_fields (m / 256 * 256 + m % 256) (source / 256 * 256 + source % 256) ((16 * class + options) / 16)
-same_fields m source class options few =
-    let a : m ≡ m / 256 * 256 + m % 256 = omega arith in
-    let b : source ≡ source / 256 * 256 + source % 256 = omega arith in
-    let c : class ≡ (16 * class + options) / 16 = omega (arith, few) in
-    λ i. with_fields (a i) (b i) (c i)
+same_fields m source class options few = grind arith
 
 kind_of : (octets : List ℕ) (size code n : ℕ) (rest : List ℕ) → octets ≡ size ∷ code ∷ rest → code / 16 ≡ n →
     of_kind n rest ≡ fields_in octets
 kind_of octets size code n rest e k = ap (λ (m : ℕ). of_kind m rest) (sym k) ∙ ap fields_in (sym e)
 
 fields_written : (v : Value) → CanBeWritten v → fields_of v ≡ fields_in (written v)
-fields_written (request x) can =
-    let few = can.credit in
-    let kind : (0xE0 + x.credit) / 16 ≡ 14 = omega (arith, few) in
-    kind_of (written (request x)) _ (0xE0 + x.credit) 14 _ refl kind
-fields_written (confirm m x) can =
-    let few = can.credit in
-    let kind : (0xD0 + x.credit) / 16 ≡ 13 = omega (arith, few) in
-    same_fields m x.source x.class x.options can.options
-    ∙ kind_of (written (confirm m x)) _ (0xD0 + x.credit) 13 _ refl kind
-fields_written (acknowledge credit m number) can =
-    let few = can.0 in
-    let kind : (0x60 + credit) / 16 ≡ 6 = omega (arith, few) in
-    kind_of (written (acknowledge credit m number)) _ (0x60 + credit) 6 _ refl kind
-fields_written (error m cause) can = absurd can
-fields_written _ can = refl
+fields_written v can = grind (arith, kind_of, same_fields)
 
 alike : (u v : Value) → written u ≡ written v → CanBeWritten u → CanBeWritten v → fields_of u ≡ fields_of v
 alike u v same a b = fields_written u a ∙ ap fields_in same ∙ sym (fields_written v b)
@@ -127,20 +105,14 @@ some_fields : (a b : Fields) → Some a ≡ Some b → a ≡ b
 some_fields a b e = cc
 
 fields_cc : (n r k : ℕ) (v : Value) → fields_of v ≡ with_fields n r k → IsCc n r v
-fields_cc n r k (confirm m x) e =
-    let same = some_fields _ _ e in (ap (λ (f : Fields). f.destination) same, ap (λ (f : Fields). f.source) same)
-fields_cc n r k _ e = absurd (cc)
+fields_cc n r k v e = grind (arith, some_fields)
 
 cc_alike : (n r : ℕ) (u v : Value) → written u ≡ written v → CanBeWritten u → CanBeWritten v → IsCc n r u → IsCc n r v
-cc_alike n r u v same a b h =
-    let (k, is) = cc_fields n r u h in fields_cc n r k v (sym (alike u v same a b) ∙ is)
+cc_alike n r u v same a b h = grind (arith, cc_fields, fields_cc, alike)
 
 -- if one is a CC of another class, the other doesn't select class 2
 zero_alike : {A : Type 0} (m : ℕ) (x : Connect) (v : Value) → x.class ≡ 0 → fields_of (confirm m x) ≡ fields_of v → AnswersTwo v → A
-zero_alike m x (confirm n y) zero_is e two =
-    let same : x.class ≡ y.class = ap (λ (f : Fields). f.class) (some_fields _ _ e) in
-    absurd (omega (arith, same, zero_is, two))
-zero_alike m x _ zero_is e two = absurd (cc)
+zero_alike m x v zero_is e two = grind (arith, some_fields)
 
 -- ---- lists of units
 
@@ -157,8 +129,7 @@ has_by : (n r : ℕ) (us vs : List Value) → map written us ≡ map written vs 
     AllByRecursion CanBeWritten vs → HasCc n r us → HasCc n r vs
 has_by n r [] vs e a b h = absurd h
 has_by n r (u ∷ us) [] e a b h = absurd (cc)
-has_by n r (u ∷ us) (v ∷ vs) e a b (inl h) =
-    let one : written u ≡ written v = cc in inl (cc_alike n r u v one a.0 b.0 h)
+has_by n r (u ∷ us) (v ∷ vs) e a b (inl h) = grind (arith, cc_alike)
 has_by n r (u ∷ us) (v ∷ vs) e a b (inr h) =
     let more : map written us ≡ map written vs = cc in inr (has_by n r us vs more a.1 b.1 h)
 
@@ -169,17 +140,11 @@ has_alike n r us vs h has = has_by n r us vs h.same h.can h.can_too has
 pub first_not_zero : {A : Type 0} (m : ℕ) (x : Connect) (us vs : List Value) → AreAlike (confirm m x ∷ us) vs → x.class ≡ 0 →
     AllByRecursion AnswersTwo vs → A
 first_not_zero m x us [] h zero_is two = absurd (let no = h.same in cc)
-first_not_zero m x us (v ∷ vs) h zero_is two =
-    let same = h.same in
-    let one : written (confirm m x) ≡ written v = cc in
-    zero_alike m x v zero_is (alike (confirm m x) v one h.can.0 h.can_too.0) two.0
+first_not_zero m x us (v ∷ vs) h zero_is two = grind (arith, zero_alike, alike)
 
 -- a CC that is written as one of class 2 selects class 2
 two_fields : (u v : Value) → fields_of u ≡ fields_of v → AnswersTwo u → AnswersTwo v
-two_fields (confirm m x) (confirm n y) e two = sym (ap (λ (f : Fields). f.class) (some_fields _ _ e)) ∙ two
-two_fields _ (confirm n y) e two = absurd (cc)
-two_fields u (request y) e two = tt
-two_fields u _ e two = tt
+two_fields u v e two = grind (arith, some_fields)
 
 two_by : (us vs : List Value) → map written us ≡ map written vs → AllByRecursion CanBeWritten us → AllByRecursion CanBeWritten vs →
     AllByRecursion AnswersTwo us → AllByRecursion AnswersTwo vs
@@ -222,13 +187,7 @@ record AreSplit (us xs ys : List Value) : Type 0 where
 
 split_by : (us xs ys : List Value) → map written us ≡ map written (xs ++ ys) → AllByRecursion CanBeWritten us →
     AllByRecursion CanBeWritten (xs ++ ys) → AreSplit us xs ys
-split_by us [] ys e a b = record {
-  front = [];
-  back = us;
-  is = refl;
-  like_front = record { same = refl; can = tt; can_too = tt };
-  like_back = record { same = e; can = a; can_too = b };
-}
+split_by us [] ys e a b = grind arith
 split_by [] (x ∷ xs) ys e a b = absurd (cc)
 split_by (u ∷ us) (x ∷ xs) ys e a b =
     let one : written u ≡ written x = cc in
@@ -251,8 +210,7 @@ split_by (u ∷ us) (x ∷ xs) ys e a b =
 pub has_above : (given b n r : ℕ) (vs : List Value) → AreAbove given b vs → HasCc n r vs → b < r
 has_above given b n r [] a h = absurd h
 has_above given b n r (confirm m x ∷ vs) (above, a) (inl (mine, source)) = omega (arith, above, source)
-has_above given b n r (confirm m x ∷ vs) (above, a) (inr h) =
-    let more = has_above given x.source n r vs a h in omega (arith, above, more)
+has_above given b n r (confirm m x ∷ vs) (above, a) (inr h) = grind (arith, has_above given x.source n r vs a h)
 has_above given b n r (request x ∷ vs) a (inl h) = absurd h
 has_above given b n r (request x ∷ vs) a (inr h) = has_above given b n r vs a h
 has_above given b n r (disconnect m source reason user ∷ vs) a (inl h) = absurd h

@@ -3,11 +3,11 @@
 use Rattle.osi_watched.proofs.Vocabulary.{[], ap, append_assoc, arith, Bool, false, length, List, map, None, Option, refl, Some, subst, sym}
 use Rattle.osi_watched.proofs.Vocabulary.{true, ℕ, ◌++◌, ◌+◌, ◌<◌, ◌^◌, ◌∙◌, ◌∷◌, ◌≡◌, ◌≤◌, flat_map-append, append-nil, length-append}
 use Rattle.osi_watched.proofs.Vocabulary.{length-map, map-append, AllByRecursion, is_none, offset_of, Value, part_in, parts_in, tsdus_out}
-use Rattle.osi_watched.proofs.Vocabulary.{unit_parts, Part, tsdus, tsdus_after, End, other, Direction, Left, Right, said_more, units_came}
-use Rattle.osi_watched.proofs.Vocabulary.{Deeds, said_in, then_did, ends_whole, adds, adds_all, adds_if, Joined, reference_of, spoken}
-use Rattle.osi_watched.proofs.Vocabulary.{user_of, added, before, Begun, begun_before, begun_octets, heard, octets_of, Spoken, fits, spent}
-use Rattle.osi_watched.proofs.Vocabulary.{Room, All, all_before, AreAfter, before_begun, before_of, calls_from, IsJoinedFrom, IsShownNow}
-use Rattle.osi_watched.proofs.Vocabulary.{left_over, parts_of, with_next}
+use Rattle.osi_watched.proofs.Vocabulary.{unit_parts, Part, tsdus, tsdus_after, End, other, Direction, said_more, units_came, Deeds}
+use Rattle.osi_watched.proofs.Vocabulary.{said_in, then_did, ends_whole, adds, adds_all, adds_if, Joined, reference_of, spoken, user_of}
+use Rattle.osi_watched.proofs.Vocabulary.{added, Begun, begun_before, begun_octets, heard, octets_of, Spoken, fits, spent, Room, All}
+use Rattle.osi_watched.proofs.Vocabulary.{all_before, AreAfter, before_begun, before_of, calls_from, IsJoinedFrom, IsShownNow, left_over}
+use Rattle.osi_watched.proofs.Vocabulary.{parts_of, with_next}
 use Rattle.osi_honest.specs.Courses.{Course}
 use Rattle.osi_honest.specs.Talking.{Said}
 use Rattle.osi_tap.specs.Connections.{packet_begins}
@@ -41,46 +41,22 @@ after_next (m ∷ ns) n (s ∷ said) a l t = (a.0, after_next ns n said a.1 (ome
 
 joined_part : (at : ℕ) (end : Bool) (octets : List ℕ) (parts : List Part) (s : Spoken) → IsJoinedFrom parts s →
     IsJoinedFrom (parts ++ (end, octets) ∷ []) (added at end octets s)
-joined_part at true octets parts s h = record {
-  whole = map-append octets_of s.said _
-      ∙ (λ i. h.whole i ++ (h.unfinished i ++ octets) ∷ [])
-      ∙ sym (tsdus_more [] parts ((true, octets) ∷ []));
-  unfinished = sym (left_more [] parts ((true, octets) ∷ []));
-  between = sym (ends_more true parts ((true, octets) ∷ []));
-}
-joined_part at false octets parts s h = record {
-  whole = h.whole ∙ sym (append-nil (tsdus parts)) ∙ sym (tsdus_more [] parts ((false, octets) ∷ []));
-  unfinished = ap (λ (l : List ℕ). l ++ octets) h.unfinished ∙ sym (left_more [] parts ((false, octets) ∷ []));
-  between = sym (ends_more true parts ((false, octets) ∷ []));
-}
+joined_part at end octets parts s h = grind (arith, map-append, tsdus_more, left_more, ends_more, append-nil)
 
 -- so a TSDU has one more count, as it is expected
 counts_so : (at : ℕ) (end : Bool) (octets : List ℕ) (s : Spoken) → all_before (added at end octets s) ≡ with_next s
-counts_so at true octets s =
-    append-nil (map before_of _) ∙ map-append before_of s.said _
-counts_so at false octets s = refl
+counts_so at end octets s = grind (arith, append-nil, map-append)
 
 heard_grows : (at : ℕ) (end : Bool) (octets : List ℕ) (s : Spoken) → length (heard s) ≤ length (heard (added at end octets s))
-heard_grows at true octets s =
-    let more = ap length (map-append octets_of s.said
-    (record { octets = begun_octets s.begun ++ octets; before = before s; at = at } ∷ [])) in
-    let size = length-append (heard s) ((begun_octets s.begun ++ octets) ∷ []) in omega (arith, more, size)
-heard_grows at false octets s = omega arith
+heard_grows at end octets s = grind (arith, map-append, length-append)
 
 since_stays : (at : ℕ) (end : Bool) (octets : List ℕ) (s : Spoken) → (added at end octets s).since ≡ s.since
-since_stays at true octets s = refl
-since_stays at false octets s = refl
+since_stays at end octets s = grind arith
 
 -- the next TSDU began no later than now
 next_up_to : (most : ℕ) (s : Spoken) → s.since ≤ most → AllByRecursion (λ n. n ≤ most) (all_before s) →
     AllByRecursion (λ n. n ≤ most) (with_next s)
-next_up_to most s l a = by s.begun a
-  where
-    by : (b : Option Begun) → AllByRecursion (λ n. n ≤ most) (map before_of s.said ++ before_begun b) →
-        AllByRecursion (λ n. n ≤ most) (map before_of s.said ++ begun_before b s.since ∷ [])
-    by None a = all_join (λ n. n ≤ most) (map before_of s.said) (s.since ∷ []) (all_front (λ n. n ≤ most) (map before_of s.said) [] a)
-        (l, tt)
-    by (Some b) a = a
+next_up_to most s l a = grind (arith, all_join, all_front)
 
 -- ---- a connection, from either side
 
@@ -90,57 +66,41 @@ module _ (at : ℕ) (end : Bool) (octets : List ℕ) where
   all_added d j room = ap (λ (x : Room). adds_if (fits x (length octets)) (spent x (length octets)) d at end octets j) room
 
   own_added : (d : Direction) (j : Joined) → j.room ≡ All → spoken d (adds d at end octets j) ≡ added at end octets (spoken d j)
-  own_added Left j room = ap (spoken Left) (all_added Left j room)
-  own_added Right j room = ap (spoken Right) (all_added Right j room)
+  own_added d j room = grind (arith, all_added)
 
   other_added : (d : Direction) (j : Joined) → j.room ≡ All → spoken (other d) (adds d at end octets j) ≡ spoken (other d) j
-  other_added Left j room = ap (spoken Right) (all_added Left j room)
-  other_added Right j room = ap (spoken Left) (all_added Right j room)
+  other_added d j room = grind (arith, all_added)
 
   own_kept : (d : Direction) (j : Joined) → j.room ≡ All → spoken d (adds (other d) at end octets j) ≡ spoken d j
-  own_kept Left j room = ap (spoken Left) (all_added Right j room)
-  own_kept Right j room = ap (spoken Right) (all_added Left j room)
+  own_kept d j room = grind (arith, all_added)
 
   pub named_added : (d e : Direction) (j : Joined) → j.room ≡ All → reference_of d (adds e at end octets j) ≡ reference_of d j
-  named_added Left Left j room = ap (reference_of Left) (all_added Left j room)
-  named_added Left Right j room = ap (reference_of Left) (all_added Right j room)
-  named_added Right Left j room = ap (reference_of Right) (all_added Left j room)
-  named_added Right Right j room = ap (reference_of Right) (all_added Right j room)
+  named_added d e j room = grind (arith, all_added)
 
   room_added : (d : Direction) (j : Joined) → j.room ≡ All → (adds d at end octets j).room ≡ All
-  room_added Left j room = ap (λ (x : Joined). x.room) (all_added Left j room)
-  room_added Right j room = ap (λ (x : Joined). x.room) (all_added Right j room)
+  room_added d j room = grind (arith, all_added)
 
 module _ (j : Joined) where
   own_begun : (d : Direction) → spoken d (packet_begins d j) ≡ begins (spoken (other d) j) (spoken d j)
-  own_begun Left = refl
-  own_begun Right = refl
+  own_begun d = grind arith
 
   other_begun : (d : Direction) → spoken (other d) (packet_begins d j) ≡ spoken (other d) j
-  other_begun Left = refl
-  other_begun Right = refl
+  other_begun d = grind arith
 
   own_stays : (d : Direction) → spoken d (packet_begins (other d) j) ≡ spoken d j
-  own_stays Left = refl
-  own_stays Right = refl
+  own_stays d = grind arith
 
   other_heard : (d : Direction) → heard (spoken (other d) (packet_begins (other d) j)) ≡ heard (spoken (other d) j)
-  other_heard Left = refl
-  other_heard Right = refl
+  other_heard d = grind arith
 
   other_unfinished : (d : Direction) → (spoken (other d) (packet_begins (other d) j)).begun ≡ (spoken (other d) j).begun
-  other_unfinished Left = refl
-  other_unfinished Right = refl
+  other_unfinished d = grind arith
 
   named_begun : (d e : Direction) → reference_of d (packet_begins e j) ≡ reference_of d j
-  named_begun Left Left = refl
-  named_begun Left Right = refl
-  named_begun Right Left = refl
-  named_begun Right Right = refl
+  named_begun d e = grind arith
 
   room_begun : (e : Direction) → (packet_begins e j).room ≡ j.room
-  room_begun Left = refl
-  room_begun Right = refl
+  room_begun e = grind arith
 
 -- ---- what is shown
 

@@ -1,26 +1,25 @@
 -- What an end puts in a turn for a connection goes to the peer that the connection has there, and the unit with which the connection
 -- opens in the turn had come: so each DT and each AK of the turn has a home at a tap if the connection has.
 -- For calling and called ends.
-use Rattle.std.proofs.Common.{◌≡◌, ◌∙◌, refl, sym, ap, subst, ℕ, suc, zero, ◌<◌, Bool, true, false, List, [], ◌∷◌, ◌++◌}
-use Rattle.std.proofs.Common.{Option, Some, None, is_some, IsSome, Result, Ok, Err, if◌then◌else◌, append_assoc, arith}
+use Rattle.std.proofs.Common.{◌≡◌, ◌∙◌, refl, sym, ap, subst, ℕ, suc, zero, ◌<◌, Bool, true, false, List, [], ◌∷◌, ◌++◌, Option, Some, None}
+use Rattle.std.proofs.Common.{is_some, IsSome, Result, if◌then◌else◌, append_assoc, arith}
 use Rattle.std.specs.Prelude.{◌==◌, nat_lt}
 use Rattle.std.specs.List.{AllByRecursion}
 use Rattle.std.proofs.lemmas.Bool.{eq-eqb, eqb-true}
 use Rattle.std.proofs.lemmas.List.{append-nil}
 use Rattle.osi_tpdu.specs.Packet.{units_of}
-use Rattle.osi_tpdu.specs.Value.{Value, acknowledge, confirm, data0, data2, disconnect, disconnected, error, request}
+use Rattle.osi_tpdu.specs.Value.{Value, data0}
 use Rattle.osi_tpdu.specs.declared.faults.TpduFault.{TpduFault}
 use Rattle.osi_class.specs.Link.{Standing}
 use Rattle.osi_carrier.specs.Calls.{link_of, open_link}
 use Rattle.osi_carrier.specs.Rows.{value_at}
-use Rattle.osi_carrier.specs.State.{Connection as Live, State as Carrier, asked, closing, linked, packets}
+use Rattle.osi_carrier.specs.State.{Connection as Live, State as Carrier, linked, packets}
 use Rattle.osi_carrier.specs.declared.ends.EndReason.{EndReason}
 use Rattle.osi_judge.specs.declared.directions.Direction.{Direction}
 use Rattle.osi_rules.specs.Traffic.{State}
 use Rattle.osi_fair.specs.Pieces.{units_by, units_in}
 use Rattle.osi_fair.specs.Wholes.{Whole}
-use Rattle.osi_honest.specs.Arriving.{AreApart, Begins, GivesTo, Lives, Parts, is_shut, opens}
-use Rattle.osi_honest.specs.Arriving.{is_open as opened}
+use Rattle.osi_honest.specs.Arriving.{AreApart, GivesTo, Lives, Parts}
 use Rattle.osi_honest.specs.Arriving as arriving
 use Rattle.osi_honest.specs.Courses.{Continues, Deeds}
 use Rattle.osi_honest.specs.Courses as courses
@@ -66,15 +65,10 @@ IsThere v coming = (P : Value → Type 0) → AllByRecursion P coming → P v
 
 pub link_is : (o : Option Live) (peer : ℕ) (link : Standing) → ◌≡◌ {A = Option (ℕ × Standing)} (link_of o) (Some (peer, link)) →
     o ≡ Some (linked peer link)
-link_is None peer link e = absurd (cc)
-link_is (Some asked) peer link e = absurd (cc)
-link_is (Some (linked m l)) peer link e =
-    let pair : ◌≡◌ {A = ℕ × Standing} (m, l) (peer, link) = cc in λ i. Some (linked (pair i).0 (pair i).1)
-link_is (Some (closing m)) peer link e = absurd (cc)
+link_is o peer link e = grind arith
 
 by_read : (r : Result (List Value) TpduFault) → courses.units_read r ≡ units_by r
-by_read (Ok units) = refl
-by_read (Err fault) = refl
+by_read r = grind arith
 
 -- the units of packets, as a turn has them and as a whole end has them
 pub same_units : (us : List (List ℕ)) → courses.units_in us ≡ units_in us
@@ -92,37 +86,17 @@ abbrev pub IsNotZero : Value → Type 0
 IsNotZero v = (end : Bool) (user : List ℕ) → v ≡ data0 end user → ⊥
 
 pub for_so : (peer : ℕ) (v : Value) → arriving.is_for peer v ≡ true → IsNotZero v → IsFor peer v
-for_so peer (data2 n number end user) h unlike = eqb-true n peer h
-for_so peer (acknowledge credit n number) h unlike = eqb-true n peer h
-for_so peer (data0 end user) h unlike = unlike end user refl
-for_so peer (request x) h unlike = never h
-for_so peer (confirm n x) h unlike = never h
-for_so peer (disconnect n source reason user) h unlike = never h
-for_so peer (disconnected n source) h unlike = never h
-for_so peer (error n cause) h unlike = never h
+for_so peer v h unlike = grind (arith, eqb-true, never)
 
 pub none_for : (v : Value) → is_of_link v ≡ false → (o : Option ℕ) → is_for o v ≡ false
-none_for (data2 n number end user) h o = absurd (cc)
-none_for (acknowledge credit n number) h o = absurd (cc)
-none_for (data0 end user) h o = absurd (cc)
-none_for (request x) h o = refl
-none_for (confirm n x) h o = refl
-none_for (disconnect n source reason user) h o = refl
-none_for (disconnected n source) h o = refl
-none_for (error n cause) h o = refl
+none_for v h o = grind arith
 
 -- a unit of this connection is for its peer
 abbrev pub GoesTo : (q peer : ℕ) → Marked → Type 0
 GoesTo q peer m = (m.0 == q) ≡ true → arriving.is_for peer m.1 ≡ true
 
 pub goes_to : (q : ℕ) (put : List Marked) (peer : ℕ) (left : Parts q put) → GivesTo q peer left.during → AllByRecursion (GoesTo q peer) put
-goes_to q put peer left gives =
-    subst (AllByRecursion (GoesTo q peer)) (sym left.is)
-    (all_of_both (GoesTo q peer) left.before (left.during ++ left.after) (apart left.before left.none_before)
-    (all_of_both (GoesTo q peer) left.during left.after gives (apart left.after left.none_after)))
-  where
-    apart : (units : List Marked) → AreApart q units → AllByRecursion (GoesTo q peer) units
-    apart units h = all_so (λ (m : Marked). (m.0 == q) ≡ false) (GoesTo q peer) (λ m k e. differ (m.0 == q) e k) units h
+goes_to q put peer left gives = grind (arith, all_of_both, all_so, differ)
 
 pub none_put : (P : Marked → Type 0) (units : List Marked) → packets (all_units units) ≡ [] → AllByRecursion P units
 none_put P [] e = tt
@@ -147,10 +121,7 @@ module _ (d : Direction) (is_caller : Bool) (first : Whole) (deeds : ℕ → Dee
 
     pub linked_so : (q peer : ℕ) (link : Standing) → ◌≡◌ {A = Option (ℕ × Standing)} (open_link q carrier) (Some (peer, link)) →
         value_at q f.whole.end.live ≡ Some (linked peer link)
-    linked_so q peer link e =
-        ap (λ (c : Carrier). value_at q c.live) (f.like.lasts whole_lasts)
-        ∙ link_is (value_at q carrier.live) peer link
-        (sym (ap (λ (b : Bool). if b then None else link_of (value_at q carrier.live)) (ap is_some lasts)) ∙ e)
+    linked_so q peer link e = grind (arith, whole_lasts, link_is)
 
     -- the unit with which a connection opens had come
     pub came : (x : Value) (some : List Marked) (q : ℕ) (l : Lived q) → l.arrived.before ≡ some ++ (0, x) ∷ [] → IsThere x f.whole.coming
@@ -170,10 +141,7 @@ module _ (d : Direction) (is_caller : Bool) (first : Whole) (deeds : ℕ → Dee
 
   -- a connection that did not open put nothing
   pub none_shut : (q : ℕ) (l : Lived q) → l.left.during ++ l.left.after ≡ [] → AreApart q on.put
-  none_shut q l none =
-      let all : on.put ≡ l.left.before =
-      l.left.is ∙ ap (λ (x : List Marked). l.left.before ++ x) none ∙ append-nil l.left.before in
-      subst (AreApart q) (sym all) l.left.none_before
+  none_shut q l none = grind (arith, append-nil)
 
   -- what it put for a connection goes to this peer, and has a home there
   pub record IsPutFor (q : ℕ) (s : State) (t : Sessions) : Type 0 where

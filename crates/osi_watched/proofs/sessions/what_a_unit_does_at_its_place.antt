@@ -3,24 +3,17 @@
 -- For all connections of an end and a tap.
 use Rattle.osi_watched.proofs.Vocabulary.{[], ap, arith, Bool, false, if◌then◌else◌, length, None, Option, refl, set, Some, true, ℕ, ◌++◌}
 use Rattle.osi_watched.proofs.Vocabulary.{◌∙◌, ◌∷◌, ◌≡◌, slice_get_past, position, slice_get, offset_of, Connect, request, Value}
-use Rattle.osi_watched.proofs.Vocabulary.{first_true, is_over_by, sym, ◌&&◌}
-use Rattle.osi_watched.proofs.Vocabulary.{is_applied, reach_of, first_failed, is_free, is_live, is_named, asked_by, asks_by, asks_kept}
-use Rattle.osi_watched.proofs.Vocabulary.{asks_of, at_found, at_place, class_for, connection_after, found_on, is_stopped, meaning_if, meant}
-use Rattle.osi_watched.proofs.Vocabulary.{none_told, Outcome, request_tests, route, routed, Traffic as State, takes, Connection, Finding}
-use Rattle.osi_watched.proofs.Vocabulary.{Kept, NotJudged, Reach, Route, Asks, Named, Only, Unnamed, Direction, asked, changed, count}
-use Rattle.osi_watched.proofs.Vocabulary.{Joined, placed, Sessions, taken, way_of, first_there, HaveSamePlaces, IsOneOf}
+use Rattle.osi_watched.proofs.Vocabulary.{first_true, is_applied, reach_of, first_failed, is_free, is_live, is_named, asked_by, asks_by}
+use Rattle.osi_watched.proofs.Vocabulary.{asks_kept, asks_of, at_found, at_place, class_for, connection_after, found_on, is_stopped}
+use Rattle.osi_watched.proofs.Vocabulary.{meaning_if, meant, none_told, Outcome, request_tests, route, routed, Traffic as State, takes}
+use Rattle.osi_watched.proofs.Vocabulary.{Connection, Finding, Kept, NotJudged, Reach, Route, Asks, Named, Only, Unnamed, Direction, asked}
+use Rattle.osi_watched.proofs.Vocabulary.{changed, count, Joined, placed, Sessions, taken, way_of, first_there, HaveSamePlaces, IsOneOf}
 use Rattle.osi_tap.specs.Connections as joined
 use Rattle.osi_watched.proofs.sessions.connections_have_the_same_places.{as_long, at_same, not_asked}
 
 -- only what is judged is over
 free_judged : (c : Connection) → is_free c ≡ true → c.is_judged ≡ true
-free_judged c h = by c.is_judged refl
-  where
-    by : (b : Bool) → c.is_judged ≡ b → b ≡ true
-    by true e = refl
-    by false e =
-        let no : false ≡ true =
-        sym (ap (λ (b : Bool). (b && is_over_by c.left c.seen_by_left) && (b && is_over_by c.right c.seen_by_right)) e) ∙ h in absurd (cc)
+free_judged c h = grind arith
 
 -- what a unit does of which this is told
 pub data Does (d : Direction) (at : ℕ) (v : Value) (s : State) (t : Sessions) (o : Outcome) : Type 0 where

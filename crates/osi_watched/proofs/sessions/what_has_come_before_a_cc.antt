@@ -1,9 +1,9 @@
 -- What has come for a connection of a calling end that has not opened: its CC has passed the tap, or no DT and no AK for it has. So it is
 -- at the beginning, and each step keeps it so, as long as both sides are judged.
 -- For the session of each connection of a calling end.
-use Rattle.std.proofs.Common.{◌≡◌, ◌∙◌, ◌⊎◌, inl, inr, refl, sym, ap, subst, ℕ, ◌<◌, Bool, true, false, List, [], ◌∷◌, ◌++◌}
-use Rattle.std.proofs.Common.{Option, Some, None, is_some, drop, length, map, append_assoc, arith}
-use Rattle.std.specs.Prelude.{◌&&◌, ◌||◌, not, option_map, slice_get}
+use Rattle.std.proofs.Common.{◌≡◌, ◌∙◌, ◌⊎◌, inl, inr, refl, sym, ap, subst, ℕ, ◌<◌, Bool, true, false, List, [], ◌∷◌, ◌++◌, Option, Some}
+use Rattle.std.proofs.Common.{None, length, map, append_assoc, arith}
+use Rattle.std.specs.Prelude.{◌||◌, not, slice_get}
 use Rattle.std.specs.List.{AllByRecursion}
 use Rattle.std.proofs.lemmas.Bool.{eqb-true}
 use Rattle.std.proofs.lemmas.List.{append-nil}
@@ -14,7 +14,7 @@ use Rattle.osi_tpdu.specs.Value.{disconnected, error, request}
 use Rattle.osi_tpdu.specs.Writing.{Fits}
 use Rattle.osi_tpdu.proofs.the_units_of_a_packet.{units_fit, units_found}
 use Rattle.osi_class.specs.declared.terms.Class.{Class}
-use Rattle.osi_class.specs.declared.terms.Class.TheVariants.{Two, Zero}
+use Rattle.osi_class.specs.declared.terms.Class.TheVariants.{Zero}
 use Rattle.osi_class.specs.declared.terms.Local.{Local}
 use Rattle.osi_carrier.specs.Rows.{value_at}
 use Rattle.osi_carrier.specs.State.{State as Carrier, asked}
@@ -28,11 +28,10 @@ use Rattle.osi_rules.specs.declared.findings.Reach.TheVariants as reach
 use Rattle.osi_rules.specs.declared.findings.Rule.TheVariants as rule
 use Rattle.osi_rules.specs.declared.halves.Half.{Half}
 use Rattle.osi_rules.specs.declared.halves.Phase.{Phase}
-use Rattle.osi_rules.specs.declared.halves.Phase.TheVariants.{Closed, Closing, Open, Refused, Silent}
 use Rattle.osi_rules.specs.Reaches.{is_applied, reach_of}
-use Rattle.osi_rules.specs.Rows.{Test, acknowledge_tests, data2_tests, first_failed}
+use Rattle.osi_rules.specs.Rows.{Test, first_failed}
 use Rattle.osi_rules.specs.Sides.{begins, is_closed, is_closing, is_open, is_refused, is_silent}
-use Rattle.osi_rules.specs.Traffic.{Outcome, State, asked_by, class_for, connection_after, found, found_on, judged_on, takes, uses_source}
+use Rattle.osi_rules.specs.Traffic.{State, asked_by, connection_after, found, found_on, judged_on, takes, uses_source}
 use Rattle.osi_rules.specs.Traffic as traffic
 use Rattle.osi_fair.specs.Naming.{packet}
 use Rattle.osi_fair.specs.Naming.{unit as passing}
@@ -53,7 +52,7 @@ use Rattle.osi_fair.proofs.which_units_are_for_a_connection.{each_picked, names,
 use Rattle.osi_honest.specs.Courses.{Continues, Deeds, units_in, units_read}
 use Rattle.osi_honest.specs.Marked.{Marked}
 use Rattle.osi_honest.specs.Turns.{Turn}
-use Rattle.osi_honest.proofs.courses.how_long_a_connection_is_open.{Life, Stage, amid, early, past, stage_at}
+use Rattle.osi_honest.proofs.courses.how_long_a_connection_is_open.{Life, Stage, early, past, stage_at}
 use Rattle.osi_honest.proofs.courses.the_first_cc_opens_a_connection.{asked_so}
 use Rattle.osi_stack.specs.Calls.{has_given}
 use Rattle.osi_watched.proofs.a_break_ends_no_judging_or_all.{takes_reach}
@@ -96,16 +95,7 @@ pub record IsQuiet (end : Carrier) (coming : List Value) (s : State) : Type 0 wh
 -- with another end and other units, as long as the connection may open
 quiet_as : (a b : Carrier) (xs ys : List Value) (s t : State) → t ≡ s → ((r : ℕ) → MayOpen b r → MayOpen a r × (ys ≡ xs)) →
     IsQuiet a xs s → IsQuiet b ys t
-quiet_as a b xs ys s t same alike q =
-    subst (IsQuiet b ys) (sym same) (record {
-      before = λ r may. by r (q.before r (alike r may).0) (alike r may).1;
-      closed = λ p c at shut may. q.closed p c at shut (alike c.left.reference may).0;
-    })
-  where
-    by : (r : ℕ) → Tracked s.connections r ⊎ (waiting_for (Some r) xs ≡ []) → ys ≡ xs →
-        Tracked s.connections r ⊎ (waiting_for (Some r) ys ≡ [])
-    by r (inl tracked) e = inl tracked
-    by r (inr none) e = inr (ap (waiting_for (Some r)) e ∙ none)
+quiet_as a b xs ys s t same alike q = grind (arith, waiting_for)
 
 -- ---- a connection whose CC has come stays open at the tap
 
@@ -126,11 +116,7 @@ answer_of local w next more f is r lasts waits a =
     (one r a.confirmed refl lasts (inl waits)).0
 
 given_there : (local : Local) (w : Whole) (r : ℕ) → Follows local w → 0 < r → Tracked w.tap.connections r → has_given r w.end ≡ true
-given_there local w r j some (p, c, at, tracked, same) =
-    let newer = j.kept.newer in
-    let low = newer.below p c at in
-    let most = newer.given in
-    given_so r w.end some (omega (arith, low, most, same))
+given_there local w r j some (p, c, at, tracked, same) = search (arith, given_so)
 
 -- as the tap knows more of the same end
 still_tracked : (local : Local) (w next : Whole) (more : List Value) → Follows local w → Follows local next → IsOngoing w.tap.course →
@@ -145,26 +131,15 @@ still_tracked local w next more j then_j clear then_clear same is r may tracked 
 -- ---- a unit of the end passes
 
 not_open : {A : Type 0} (p : Phase) → is_open p ≡ true → is_closing p ≡ true → A
-not_open Silent h k = absurd (cc h)
-not_open Open h k = absurd (cc k)
-not_open Refused h k = absurd (cc h)
-not_open Closing h k = absurd (cc h)
-not_open Closed h k = absurd (cc h)
+not_open p h k = grind arith
 
 own_judged : (r : Reach) (c : Connection) → (judged_on r c).left ≡ c.left
-own_judged reach.Nothing c = refl
-own_judged reach.Connection c = refl
-own_judged reach.Side c = refl
-own_judged reach.Everything c = refl
+own_judged r c = grind arith
 
 -- right has sent a CC, and has not answered a DR of left
 there_by : (c : Connection) (n : ℕ) (p : Phase) → Sound c → is_open c.left.phase ≡ true → c.right.phase ≡ p →
     named_by p c.right.reference ≡ Some n → (is_open p || is_closing p) ≡ true
-there_by c n Silent sound opened e named = absurd (cc named)
-there_by c n Refused sound opened e named = absurd (cc named)
-there_by c n Open sound opened e named = refl
-there_by c n Closing sound opened e named = refl
-there_by c n Closed sound opened e named = not_open c.left.phase opened (sound.right_closed (ap is_closed e))
+there_by c n p sound opened e named = grind (arith, not_open)
 
 -- a unit by which left closes a connection names it
 module _ (c : Connection) (sound : Sound c) (opened : is_open c.left.phase ≡ true) (v : Value)
@@ -173,8 +148,7 @@ module _ (c : Connection) (sound : Sound c) (opened : is_open c.left.phase ≡ t
   IsThere = is_tracked c ≡ true
 
   named_so : (n : ℕ) → destination_of v ≡ Some n → IsThere
-  named_so n e = both (is_open c.left.phase) (is_open c.right.phase || is_closing c.right.phase) opened
-      (there_by c n c.right.phase sound opened refl (named n e))
+  named_so n e = grind (arith, both, there_by)
 
 still_open : {A : Type 0} (c e : Connection) → e.left ≡ c.left → is_open c.left.phase ≡ true → is_open e.left.phase ≡ false → A
 still_open c e same opened shut = differ (is_open c.left.phase) opened (ap (λ (h : Half). is_open h.phase) (sym same) ∙ shut)
@@ -183,18 +157,14 @@ closed_there : (b : Bool) (r : Reach) (c : Connection) → Sound c → is_open c
     ((n : ℕ) → destination_of v ≡ Some n → named_by c.right.phase c.right.reference ≡ Some n) →
     is_open (connection_after way.Left v b r c).left.phase ≡ false → is_tracked c ≡ true
 closed_there false r c sound opened v named shut = still_open c (judged_on r c) (own_judged r c) opened shut
-closed_there true r c sound opened (request x) named shut =
-    still_open c (connection_after way.Left (request x) true r c) (own_judged r c) opened shut
+closed_there true r c sound opened (request x) named shut = grind (arith, still_open, own_judged)
 closed_there true r c sound opened (confirm n x) named shut = named_so c sound opened (confirm n x) named n refl
 closed_there true r c sound opened (disconnect n source reason user) named shut =
     named_so c sound opened (disconnect n source reason user) named n refl
 closed_there true r c sound opened (disconnected n source) named shut = named_so c sound opened (disconnected n source) named n refl
-closed_there true r c sound opened (data0 end user) named shut =
-    differ (is_open c.left.phase) opened
-    (sym (ap (λ (h : Half). is_open h.phase) (own_judged r _)) ∙ shut)
+closed_there true r c sound opened (data0 end user) named shut = grind (arith, differ, own_judged)
 closed_there true r c sound opened (data2 n number end user) named shut = named_so c sound opened (data2 n number end user) named n refl
-closed_there true r c sound opened (acknowledge credit n number) named shut =
-    named_so c sound opened (acknowledge credit n number) named n refl
+closed_there true r c sound opened (acknowledge credit n number) named shut = grind (arith, named_so)
 closed_there true r c sound opened (error n cause) named shut = named_so c sound opened (error n cause) named n refl
 
 some_one : (c e : Connection) → Some c ≡ Some e → c ≡ e
@@ -230,11 +200,8 @@ module _ (local : Local) (v : Value) (w : Whole) (rest : List Value) (put : w.pu
       is_applied (found_on way.Left w.tap c v) ≡ b →
       slice_get own_after.tap.connections i ≡ Some (connection_after way.Left v b r c) →
       IsPast w.end (connection_after way.Left v b r c).left
-  own_by i c k b false r e at one place is there shut may =
-      let same = (own_stays b w.tap v r c is).reference in
-      q.closed i c at e (subst (MayOpen w.end) same may)
-  own_by i c k false true r e at one place is there shut may =
-      still_open c (connection_after way.Left v false r c) (own_judged r c) e shut
+  own_by i c k b false r e at one place is there shut may = grind (arith, own_stays)
+  own_by i c k false true r e at one place is there shut may = grind (arith, still_open, own_judged)
   own_by i c k true true r e at one place is there shut may =
       let same = (own_stays true w.tap v r c is).reference in
       let judged = applied_judged c.is_judged (found way.Left w.tap.course (uses_source way.Left w.tap.connections v) c v) is in
@@ -300,75 +267,42 @@ for_one r (error n cause) zero h = absurd (cc h)
 
 -- all judging ends with one whose sender has sent no CC
 unknown_ends : (k : Option Class) → (k ≡ Some Zero → ⊥) → reach_of k (Broke rule.UnknownReference) ≡ reach.Everything
-unknown_ends None two = refl
-unknown_ends (Some Two) two = refl
-unknown_ends (Some Zero) two = absurd (two refl)
+unknown_ends k two = grind arith
 
 first_silent : (b : Bool) (tests : List Test) → b ≡ true →
     first_failed ((not b, Broke rule.UnknownReference) ∷ tests) ≡ Broke rule.UnknownReference
-first_silent true tests h = refl
-first_silent false tests h = absurd (cc)
+first_silent b tests h = grind arith
 
 silent_found : (s : State) (c : Connection) → c.is_judged ≡ true → (r : ℕ) (v : Value) → IsForOne r v → is_silent c.right.phase ≡ true →
     found_on way.Right s c v ≡ Broke rule.UnknownReference
-silent_found s c judged r v (a_dt number end user is) silent =
-    let dt : Value = data2 r number end user in
-    subst (λ (u : Value). found_on way.Right s c u ≡ Broke rule.UnknownReference) (sym is)
-    (judged_same c.is_judged (found way.Right s.course (uses_source way.Right s.connections dt) c dt) judged
-    ∙ first_silent (is_silent c.right.phase) (drop 1 (data2_tests way.Right c number (length user))) silent)
-silent_found s c judged r v (an_ak credit number is) silent =
-    let ak : Value = acknowledge credit r number in
-    subst (λ (u : Value). found_on way.Right s c u ≡ Broke rule.UnknownReference) (sym is)
-    (judged_same c.is_judged (found way.Right s.course (uses_source way.Right s.connections ak) c ak) judged
-    ∙ first_silent (is_silent c.right.phase) (drop 1 (acknowledge_tests way.Right c number credit)) silent)
+silent_found s c judged r v h silent = grind (arith, judged_same, first_silent)
 
 link_goes : (r : ℕ) (v : Value) (s : State) → IsForOne r v → AllGoesOn v Left s → (takes way.Right v s).told.reach ≡ reach.Everything → ⊥
-link_goes r v s (a_dt number end user is) =
-    subst (λ (u : Value). AllGoesOn u Left s → (takes way.Right u s).told.reach ≡ reach.Everything → ⊥) (sym is) (λ on. on)
-link_goes r v s (an_ak credit number is) =
-    subst (λ (u : Value). AllGoesOn u Left s → (takes way.Right u s).told.reach ≡ reach.Everything → ⊥) (sym is) (λ on. on)
+link_goes r v s h = grind arith
 
 -- right has answered the CR by a CC, and left's DR not
 answered_so : (p : Phase) → is_silent p ≡ false → is_refused p ≡ false → is_closed p ≡ false → (is_open p || is_closing p) ≡ true
-answered_so Silent a b c = absurd (cc)
-answered_so Open a b c = refl
-answered_so Refused a b c = absurd (cc)
-answered_so Closing a b c = refl
-answered_so Closed a b c = absurd (cc)
+answered_so p a b c = grind arith
 
 destination_is : (r : ℕ) (v : Value) → IsForOne r v → destination_of v ≡ Some r
-destination_is r v (a_dt number end user is) = ap destination_of is
-destination_is r v (an_ak credit number is) = ap destination_of is
+destination_is r v h = grind arith
 
 same_name : (o : Option ℕ) (n m : ℕ) → o ≡ Some n → o ≡ Some m → n ≡ m
 same_name o n m e h = let same : Some n ≡ Some m = sym e ∙ h in cc
 
 no_dc : {A : Type 0} (r m source : ℕ) (v : Value) → IsForOne r v → v ≡ disconnected m source → A
-no_dc r m source v (a_dt number end user is) e = absurd (cc (sym is ∙ e))
-no_dc r m source v (an_ak credit number is) e = absurd (cc (sym is ∙ e))
+no_dc r m source v h e = grind arith
 
 module _ (local : Local) (v : Value) (w : Whole) (j : Follows local w) (on : AllGoesOn v Left w.tap) (clear : IsOngoing w.tap.course)
     (then_clear : IsOngoing (takes way.Right v w.tap).state.course) (q : IsQuiet w.end w.coming w.tap) where
   -- right has not closed the connection that a DT or an AK names, or awaits a DC there
   not_silent : (r : ℕ) → IsForOne r v → (t : Told v w.tap (takes way.Right v w.tap)) → t.c.is_judged ≡ true →
       is_silent t.c.right.phase ≡ false
-  not_silent r one t judged = by (is_silent t.c.right.phase) refl
-    where
-      by : (b : Bool) → is_silent t.c.right.phase ≡ b → b ≡ false
-      by false e = refl
-      by true e =
-          absurd (link_goes r v w.tap one on
-          ((takes_reach way.Right v w.tap).far
-          ∙ ap (reach_of (class_for way.Right w.tap.course)) (ap (λ (o : Outcome). o.told.finding) t.is ∙ silent_found w.tap t.c judged r v
-          one e)
-          ∙ unknown_ends (class_for way.Right w.tap.course) clear.two))
+  not_silent r one t judged = grind (arith, link_goes, takes_reach, silent_found, unknown_ends)
 
   right_there : (r : ℕ) → IsForOne r v → (t : Told v w.tap (takes way.Right v w.tap)) → (b : Bool) → t.c.is_judged ≡ b →
       (is_open t.c.right.phase || is_closing t.c.right.phase) ≡ true
-  right_there r one t true judged =
-      let (refused, closed) = not_over way.Right t.n t.c judged t.named in
-      answered_so t.c.right.phase (not_silent r one t judged) refused closed
-  right_there r one t false lost = (j.followed clear).lost t.q t.c t.at lost
+  right_there r one t b judged = search (arith, not_over, answered_so, not_silent)
 
   -- the connection that a DT or an AK names has its CC
   named_there_by : (r : ℕ) → MayOpen w.end r → (t : Told v w.tap (takes way.Right v w.tap)) → (opened : Bool) →
@@ -396,21 +330,7 @@ module _ (local : Local) (v : Value) (w : Whole) (j : Follows local w) (on : All
 pub closing_tracked : (end : Carrier) (coming : List Value) (s : State) → IsQuiet end coming s → (i : ℕ) (c : Connection) →
     slice_get s.connections i ≡ Some c → is_closing c.right.phase ≡ true → MayOpen end c.left.reference →
     Tracked s.connections c.left.reference
-closing_tracked end coming s q i c at closing may = by (is_open c.left.phase) refl
-  where
-    or_so : (b : Bool) → (b || is_closing c.right.phase) ≡ true
-    or_so true = refl
-    or_so false = closing
-
-    by : (b : Bool) → is_open c.left.phase ≡ b → Tracked s.connections c.left.reference
-    by true e = (
-      i,
-      c,
-      at,
-      both (is_open c.left.phase) (is_open c.right.phase || is_closing c.right.phase) e (or_so (is_open c.right.phase)),
-      refl,
-    )
-    by false e = absurd (q.closed i c at e may)
+closing_tracked end coming s q i c at closing may = grind (arith, both)
 
 module _ (local : Local) (v : Value) (ranges : HasFieldsInRange v) (w : Whole) (j : Follows local w) (zero : IsNoZero v)
     (clear : IsOngoing w.tap.course) (then_clear : IsOngoing (takes way.Right v w.tap).state.course) (q : IsQuiet w.end w.coming w.tap)
@@ -460,8 +380,7 @@ fine_tracked local v w c one then_clear j same q r may for_it =
 units_quiet : (local : Local) (at : ℕ) (vs : List Value) (w : Whole) (c : Course) → AreFine at vs c →
     IsOngoing (units_pass Right at vs c).traffic.course → AllByRecursion HasFieldsInRange vs → Follows local w → w.tap ≡ c.traffic →
     IsQuiet w.end w.coming w.tap → IsQuiet w.end (w.coming ++ vs) (units_pass Right at vs c).traffic
-units_quiet local at [] w c fine clear ranges j same q =
-    subst (IsQuiet w.end (w.coming ++ [])) same (subst (λ (l : List Value). IsQuiet w.end l w.tap) (sym (append-nil w.coming)) q)
+units_quiet local at [] w c fine clear ranges j same q = grind (arith, append-nil)
 units_quiet local at (v ∷ vs) w c (one, more) then_clear ranges j same q =
     let next : Whole = record w { tap = (takes way.Right v w.tap).state; coming = w.coming ++ v ∷ [] } in
     let knows : next.tap ≡ (unit_passes Right at v c).traffic =
@@ -479,13 +398,7 @@ units_quiet local at (v ∷ vs) w c (one, more) then_clear ranges j same q =
 
 early_before : (is_caller : Bool) (r : ℕ) (s : Stage) (took put : List Marked) (t : Stage) → Life is_caller r s took put t → t ≡ early →
     s ≡ early
-early_before is_caller r early took put t life is = refl
-early_before is_caller r past took put t life is = absurd (cc (sym life.is ∙ is))
-early_before is_caller r (amid peer) took put t life is = by life.ends
-  where
-    by : ((t ≡ amid peer) × (life.after ≡ []) × (life.put_after ≡ [])) ⊎ (t ≡ past) → amid peer ≡ early
-    by (inl (there, none, no_more)) = absurd (cc (sym there ∙ is))
-    by (inr gone) = absurd (cc (sym gone ∙ is))
+early_before is_caller r s took put t life is = grind (arith, past, early)
 
 none_later : (r : ℕ) (xs ys : List Value) → waiting_for (Some r) (xs ++ ys) ≡ [] → waiting_for (Some r) ys ≡ []
 none_later r xs ys none = last (waiting_for (Some r) xs) (waiting_for (Some r) ys) (sym (picked_join (is_for (Some r)) xs ys) ∙ none)
@@ -508,21 +421,13 @@ begin_quiet holding = λ clear. record { before = λ r may. inr refl; closed = �
 
 -- a packet begins
 begun_left : (d : Way) (c : Connection) → (begins d c).left ≡ c.left
-begun_left way.Left c = refl
-begun_left way.Right c = refl
+begun_left d c = grind arith
 
 begun_right : (d : Way) (c : Connection) → (begins d c).right ≡ c.right
-begun_right way.Left c = refl
-begun_right way.Right c = refl
+begun_right d c = grind arith
 
 begun_tracked : (d : Way) (cs : List Connection) (r : ℕ) → Tracked cs r → Tracked (map (begins d) cs) r
-begun_tracked d cs r (p, c, at, tracked, same) = (
-  p,
-  begins d c,
-  slice_get-map (begins d) cs p ∙ ap (λ (o : Option Connection). option_map (begins d) o) at,
-  (λ i. is_open (begun_left d c i).phase && (is_open (begun_right d c i).phase || is_closing (begun_right d c i).phase)) ∙ tracked,
-  ap (λ (h : Half). h.reference) (begun_left d c) ∙ same,
-)
+begun_tracked d cs r (p, c, at, tracked, same) = grind (arith, begun_right, slice_get-map (begins d) cs p, begun_left d c)
 
 begun_before : (end : Carrier) (coming : List Value) (d : Way) (s : State) → IsQuiet end coming s →
     IsQuiet end coming (traffic.packet_begins d s)
@@ -555,23 +460,14 @@ module _ (local : Local) (two : local.class2 ≡ true) where
   -- an end at which a connection may open, and the whole end that follows it, are alike
   whole_alike : (j : Joint) (f : IsFollowed Left (first local two) j) (r : ℕ) → MayOpen f.whole.end r →
       MayOpen j.holding.end.carrier r × (f.whole.coming ≡ units_in j.coming)
-  whole_alike j f r may =
-      let lasts = early_lasts r f.whole.end may.1 in
-      let same = ap (stage_at r) (f.like.lasts lasts) in (
-        (may.0, sym same ∙ may.1),
-        f.coming (none_of j.holding.end.carrier.ended (f.like.over ∙ ap is_some lasts)) ∙ same_units j.coming,
-      )
+  whole_alike j f r may = grind (arith, early_lasts, stage_at, none_of, same_units)
 
   joint_alike : (j : Joint) (f : IsFollowed Left (first local two) j) (r : ℕ) → MayOpen j.holding.end.carrier r →
       MayOpen f.whole.end r × (f.whole.coming ≡ units_in j.coming)
-  joint_alike j f r may =
-      let lasts = early_lasts r j.holding.end.carrier may.1 in
-      let same = ap (stage_at r) (f.like.lasts (none_of f.whole.end.ended (sym f.like.over ∙ ap is_some lasts))) in
-      ((may.0, same ∙ may.1), f.coming lasts ∙ same_units j.coming)
+  joint_alike j f r may = grind (arith, early_lasts, stage_at, none_of, same_units)
 
   to_whole : (j : Joint) (f : IsFollowed Left (first local two) j) → AreQuietNow j → IsQuiet f.whole.end f.whole.coming f.whole.tap
-  to_whole j f q =
-      quiet_as j.holding.end.carrier f.whole.end (units_in j.coming) f.whole.coming j.course.traffic f.whole.tap f.tap (whole_alike j f) q
+  to_whole j f q = grind (arith, quiet_as, whole_alike)
 
   pub passes_own_quiet : (deeds : ℕ → Deeds) (at : ℕ) (unit : Value) (old new : Joint) → Steps Left (passes_own at unit) old new →
       IsCalling local two deeds old → HaveSamePlaces old.course.traffic.connections old.course.sessions.live → AreQuiet old →

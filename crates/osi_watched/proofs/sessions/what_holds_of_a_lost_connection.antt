@@ -1,14 +1,11 @@
 -- Of a connection that has lost its judgement nothing more is joined: nobody of the end is to blame there, as when it was lost, and what
 -- passes leaves it so. For all connections of an end and a tap.
-use Rattle.osi_watched.proofs.Vocabulary.{ap, arith, Bool, false, if◌then◌else◌, None, not, Option, refl, Some, sym, true}
-use Rattle.osi_watched.proofs.Vocabulary.{ℕ, ◌&&◌, ◌∙◌, ◌≡◌, slice_get, acknowledge, confirm, data0, data2}
-use Rattle.osi_watched.proofs.Vocabulary.{destination_of, disconnect, disconnected, error, request, Value, Class, Two, Zero, is_applied}
-use Rattle.osi_watched.proofs.Vocabulary.{reach_of, begins, first_failed, is_named, is_over_by, is_refused, asks_by}
-use Rattle.osi_watched.proofs.Vocabulary.{class_for, connection_after, found, found_on, is_stopped, judged_on, none_told}
-use Rattle.osi_watched.proofs.Vocabulary.{has_broken}
-use Rattle.osi_watched.proofs.Vocabulary.{request_tests, route, route_in, routed, sent_on, takes, Traffic as State, uses_source, Connection}
-use Rattle.osi_watched.proofs.Vocabulary.{Way, Finding, Kept, NotJudged, Reach, Phase, Refused, other}
-use Rattle.osi_watched.proofs.Vocabulary.{Direction, Left, Right, IsToBlame, Joined, way_of, All, IsOneOf, named_by}
+use Rattle.osi_watched.proofs.Vocabulary.{arith, Bool, false, if◌then◌else◌, None, not, Option, refl, Some, sym, true, ℕ, ◌&&◌, ◌∙◌, ◌≡◌}
+use Rattle.osi_watched.proofs.Vocabulary.{slice_get, acknowledge, confirm, data0, data2, destination_of, disconnect, disconnected, error}
+use Rattle.osi_watched.proofs.Vocabulary.{request, Value, Class, Two, Zero, is_applied, reach_of, begins, is_named, is_refused, class_for}
+use Rattle.osi_watched.proofs.Vocabulary.{connection_after, found, found_on, is_stopped, judged_on, none_told, has_broken, route, route_in}
+use Rattle.osi_watched.proofs.Vocabulary.{routed, sent_on, takes, Traffic as State, Connection, Way, Finding, NotJudged, Reach, Phase}
+use Rattle.osi_watched.proofs.Vocabulary.{other, Direction, Left, Right, IsToBlame, Joined, way_of, All, IsOneOf, named_by}
 use Rattle.osi_rules.specs.declared.directions.Direction.TheVariants as way
 use Rattle.osi_rules.specs.declared.findings.Reach.TheVariants as reach
 use Rattle.osi_rules.specs.Sides as sides
@@ -35,58 +32,35 @@ begun_blame Right Right j b = record { finding = b.finding; found = record { fou
 
 pub lost_begins : (d e : Direction) (c : Connection) (j : Joined) → IsLost d c j →
     IsLost d (begins (way_of e) c) (packet_begins e j)
-lost_begins d Left c j h = record {
-  none = λ blame. h.none (begun_blame d Left j blame);
-  room = h.room;
-  right = h.right;
-  left_knows = h.right;
-}
-lost_begins d Right c j h = record {
-  none = λ blame. h.none (begun_blame d Right j blame);
-  room = h.room;
-  right = h.right;
-  left_knows = h.left_knows;
-}
+lost_begins d Left c j h = grind (arith, begun_blame)
+lost_begins d Right c j h = grind (arith, begun_blame)
 
 -- a unit without an effect leaves it so, however far it reaches
 pub lost_still : (d : Direction) (r : Reach) (c : Connection) (j : Joined) → IsLost d c j → IsLost d (judged_on r c) j
-lost_still d reach.Connection c j h = record { none = h.none; room = h.room; right = h.right; left_knows = h.left_knows }
-lost_still d reach.Nothing c j h = h
-lost_still d reach.Side c j h = h
-lost_still d reach.Everything c j h = h
+lost_still d r c j h = grind arith
 
 -- ---- which is lost after a unit
 
 on_judged : (r : Reach) (c : Connection) → (judged_on r c).is_judged ≡ true → c.is_judged ≡ true
-on_judged reach.Connection c h = absurd (cc)
-on_judged reach.Nothing c h = h
-on_judged reach.Side c h = h
-on_judged reach.Everything c h = h
+on_judged r c h = grind arith
 
 on_lost : (r : Reach) (c : Connection) → (judged_on r c).is_judged ≡ false → c.is_judged ≡ true → r ≡ reach.Connection
-on_lost reach.Connection c h was = refl
-on_lost reach.Nothing c h was = absurd (let no : true ≡ false = sym was ∙ h in cc)
-on_lost reach.Side c h was = absurd (let no : true ≡ false = sym was ∙ h in cc)
-on_lost reach.Everything c h was = absurd (let no : true ≡ false = sym was ∙ h in cc)
+on_lost r c h was = grind arith
 
 sent_judged : (e : Way) (v : Value) (c : Connection) → (sent_on e v c).is_judged ≡ c.is_judged
 sent_judged e v c = grind arith
 
 pub was_judged : (e : Way) (v : Value) (x : Bool) (r : Reach) (c : Connection) → (connection_after e v x r c).is_judged ≡ true →
     c.is_judged ≡ true
-was_judged e v true r c h = sym (sent_judged e v c) ∙ on_judged r (sent_on e v c) h
-was_judged e v false r c h = on_judged r c h
+was_judged e v x r c h = grind (arith, sent_judged, on_judged)
 
 pub now_lost : (e : Way) (v : Value) (x : Bool) (r : Reach) (c : Connection) → (connection_after e v x r c).is_judged ≡ false →
     c.is_judged ≡ true → r ≡ reach.Connection
-now_lost e v true r c h was = on_lost r (sent_on e v c) h (sent_judged e v c ∙ was)
-now_lost e v false r c h was = on_lost r c h was
+now_lost e v x r c h was = grind (arith, on_lost, sent_judged)
 
 pub goes_judged : (e : Way) (v : Value) (x : Bool) (r : Reach) (c : Connection) → (connection_after e v x r c).is_judged ≡ true →
     r ≡ reach.Connection → ⊥
-goes_judged e v true r c h is =
-    let no : false ≡ true = sym (ap (λ (y : Reach). (judged_on y (sent_on e v c)).is_judged) is) ∙ h in cc
-goes_judged e v false r c h is = let no : false ≡ true = sym (ap (λ (y : Reach). (judged_on y c).is_judged) is) ∙ h in cc
+goes_judged e v x r c h is = grind arith
 
 -- the unit has no effect then
 pub part_applied : (k : Option Class) (f : Finding) → reach_of k f ≡ reach.Connection → is_applied f ≡ false
@@ -94,8 +68,7 @@ part_applied k f h = grind arith
 
 -- nor has a unit for a connection that is lost
 pub lost_applied : (e : Way) (v : Value) (s : State) (c : Connection) → c.is_judged ≡ false → is_applied (found_on e s c v) ≡ false
-lost_applied e v s c lost =
-    ap (λ (b : Bool). is_applied (if b then found e s.course (uses_source e s.connections v) c v else NotJudged)) lost
+lost_applied e v s c lost = grind arith
 
 -- ---- a connection that is lost by a unit of the other side
 
@@ -114,19 +87,9 @@ dest_by None way.Left b (data0 end user) s p two place far = absurd (cc)
 dest_by None way.Right b (data0 end user) s p two place far = absurd (cc)
 dest_by (Some Two) way.Left b (data0 end user) s p two place far = absurd (cc)
 dest_by (Some Two) way.Right b (data0 end user) s p two place far = absurd (cc)
-dest_by None way.Left b (request x) s p two place far = asked (first_failed (request_tests s x)) place far
-  where
-    asked : (f : Finding) → (asks_by way.Left f x s).told.place ≡ Some p → (asks_by way.Left f x s).told.reach ≡ reach.Connection →
-        (n : ℕ) × (destination_of (request x) ≡ Some n)
-    asked Kept place far = absurd (cc)
-    asked f place far = absurd (cc)
+dest_by None way.Left b (request x) s p two place far = grind arith
 dest_by None way.Right b (request x) s p two place far = absurd (cc)
-dest_by (Some Two) way.Left b (request x) s p two place far = asked (first_failed (request_tests s x)) place far
-  where
-    asked : (f : Finding) → (asks_by way.Left f x s).told.place ≡ Some p → (asks_by way.Left f x s).told.reach ≡ reach.Connection →
-        (n : ℕ) × (destination_of (request x) ≡ Some n)
-    asked Kept place far = absurd (cc)
-    asked f place far = absurd (cc)
+dest_by (Some Two) way.Left b (request x) s p two place far = grind arith
 dest_by (Some Two) way.Right b (request x) s p two place far = absurd (cc)
 
 dest_so : (b : Bool) (d : Way) (v : Value) (s : State) (p : ℕ) → (class_for d s.course ≡ Some Zero → ⊥) →
@@ -137,25 +100,20 @@ dest_so true d v s p two place far = absurd (cc)
 dest_so false d v s p two place far = dest_by (class_for d s.course) d (has_broken (sides.other d) s.course) v s p two place far
 
 refused_not : (p : Phase) (r n : ℕ) → named_by p r ≡ Some n → is_refused p ≡ false
-refused_not Refused r n h = absurd (cc)
-refused_not _ r n h = refl
+refused_not p r n h = grind arith
 
 -- the names of a connection that is judged
 over_not : (j over rest : Bool) → j ≡ true → (not (j && over) && rest) ≡ true → over ≡ false
-over_not true true rest e h = absurd (cc)
-over_not true false rest e h = refl
-over_not false over rest e h = absurd (cc)
+over_not j over rest e h = grind arith
 
 right_not : (d : Direction) (n : ℕ) (c : Connection) (j : Joined) → IsOneOf c j → c.is_judged ≡ true → is_named (way_of d) n c ≡ true →
     is_refused c.right.phase ≡ false
 right_not Left n c j one judged named =
     refused_not c.right.phase c.right.reference n (sym one.called ∙ named_there Left n c j one judged named)
-right_not Right n c j one judged named =
-    or_first (is_refused c.right.phase) _ (over_not c.is_judged (is_over_by c.right c.seen_by_right) _ judged named)
+right_not Right n c j one judged named = grind (arith, or_first, over_not)
 
 left_not : (a b : Bool) → (a ≡ true → b ≡ true) → b ≡ false → a ≡ false
-left_not true b h k = absurd (let no : true ≡ false = sym (h refl) ∙ k in cc)
-left_not false b h k = refl
+left_not a b h k = grind arith
 
 pub now_so : (d : Direction) (v : Value) (s : State) (p : ℕ) (c : Connection) (j : Joined) → IsOneOf c j → Sound c →
     c.is_judged ≡ true → slice_get s.connections p ≡ Some c → (class_for (way_of (other d)) s.course ≡ Some Zero → ⊥) →

@@ -3,10 +3,9 @@
 -- For all connections of a called end and a tap.
 use Rattle.osi_watched.proofs.Vocabulary.{[], ap, append_assoc, arith, false, inl, inr, IsSome, List, nat_lt, None, Option, refl, Some}
 use Rattle.osi_watched.proofs.Vocabulary.{subst, suc, sym, true, zero, ℕ, ◌++◌, ◌<◌, ◌==◌, ◌∙◌, ◌∷◌, ◌≡◌, ◌≤◌, ◌⊎◌, eq-eqb, eqb-true}
-use Rattle.osi_watched.proofs.Vocabulary.{AllByRecursion, slice_get, acknowledge, confirm, Connect, data2, disconnect, request, Value}
-use Rattle.osi_watched.proofs.Vocabulary.{Local, packets, Carrier, EndReason, Traffic as State, Right, over_acts, Answers, Begins, is_shut}
-use Rattle.osi_watched.proofs.Vocabulary.{Opens, opens, Continues, Deeds, all_units, is_of_link, Marked, Turn, Sessions}
-use Rattle.osi_watched.proofs.Vocabulary.{Joint, TakesTurn, HaveSamePlaces}
+use Rattle.osi_watched.proofs.Vocabulary.{AllByRecursion, slice_get, confirm, Connect, disconnect, request, Value, Local, packets, Carrier}
+use Rattle.osi_watched.proofs.Vocabulary.{EndReason, Traffic as State, Right, over_acts, Answers, Begins, is_shut, Opens, opens, Continues}
+use Rattle.osi_watched.proofs.Vocabulary.{Deeds, all_units, is_of_link, Marked, Turn, Sessions, Joint, TakesTurn, HaveSamePlaces}
 use Rattle.osi_fair.specs.Wholes.{begin}
 use Rattle.osi_honest.specs.Arriving.{AreApart, is_open as opened}
 use Rattle.osi_tap.specs.Courses.{Course}
@@ -35,9 +34,7 @@ none_put (m ∷ units) e = absurd (cc)
 
 -- a DT or an AK for both references
 peer_is : (n peer : ℕ) (v : Value) → IsFor peer v → is_for (Some n) v ≡ true → n ≡ peer
-peer_is n peer (data2 m number end user) h e = sym (eqb-true m n e) ∙ h
-peer_is n peer (acknowledge credit m number) h e = sym (eqb-true m n e) ∙ h
-peer_is n peer _ h e = absurd h
+peer_is n peer v h e = grind (arith, eqb-true)
 
 -- a CC among marked units
 marked_has : (n r : ℕ) (front back : List Marked) (x : Connect) → x.source ≡ r → HasCc n r (all_units (front ++ (0, confirm n x) ∷ back))
@@ -78,8 +75,7 @@ module _ (local : Local) (deeds : ℕ → Deeds) (turn : Turn) (old new : Joint)
 
   -- those that waited, and those of the turn
   has_old : (n r : ℕ) → HasCc n r f.whole.put → HasCc n r new.put
-  has_old n r h =
-      subst (HasCc n r) (sym put_is) (has_front n r old.put (all_units on.put) (has_alike n r f.whole.put old.put like_old h))
+  has_old n r h = grind (arith, put_is, has_front, has_alike)
 
   has_turn : (n r : ℕ) → HasCc n r (all_units on.put) → HasCc n r new.put
   has_turn n r h = subst (HasCc n r) (sym put_is) (has_back n r old.put (all_units on.put) h)
