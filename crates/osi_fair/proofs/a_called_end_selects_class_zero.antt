@@ -45,8 +45,6 @@ pub record Selected (w : Whole) : Type 0 where
   pub others : (i : ℕ) (e : Connection) → slice_get w.tap.connections i ≡ Some e → (i ≡ p → ⊥) → is_refused e.right.phase ≡ true
   pub end : IsInZero limit w.end c.right.begun w.put
 
--- ---- small facts
-
 -- ---- the end takes a unit, and its user makes a call
 
 pub selecting_takes : (local : Local) (w : Whole) (u : Value) (later : List Value) → Selecting local w →

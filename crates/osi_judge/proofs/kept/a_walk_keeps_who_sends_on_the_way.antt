@@ -42,8 +42,6 @@ pub said_anew : (w : Word) (octets : ℕ) (old new : List Member) (from : Walker
     → SendsAs w octets old new from (record { at = from.at; said_before = Some s })
 said_anew w octets old new from s h c e = grind (arith, sends_is)
 
--- ---- an answer
-
 -- ---- one step
 
 -- what is kept here, the answer, and the rest of the walk

@@ -15,8 +15,6 @@ use Rattle.osi_pair.proofs.session.a_seat_is_its_progress_and_session.{transport
 use Rattle.osi_pair.proofs.turn.a_turn_keeps_the_match.{with_holding}
 use Rattle.osi_pair.proofs.flight.whether_something_is_cut_off.{Lasts}
 
--- ---- places
-
 -- ---- a CC
 
 -- the caller has the class then
@@ -29,8 +27,6 @@ learned : (t : Tables) (l : Line) (m : Message) (terms : Terms) → t.terms ≡ 
     is_row terms agrees → kind_of (message_in m) ≡ carrier.agree →
     learns t.terms l.own.transport m t.known ≡ option_map class_in (class_of terms)
 learned t l m terms e tr is alike = grind arith
-
--- ---- a DR that refuses
 
 -- ---- all three
 

@@ -65,5 +65,3 @@ given_known given session x h = grind arith
 
 pub known_at : (r : ℕ) (e : End) → IsSettled e → IfSome (phase_at r e) (λ p. shows_loss p ≡ true → IsSome (addresses_at r e))
 known_at r e s = grind (arith, given_known, live_known, known_is, named_by)
-
--- ---- in memory

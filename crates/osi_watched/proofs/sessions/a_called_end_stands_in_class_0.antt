@@ -29,8 +29,6 @@ use Rattle.osi_watched.proofs.sessions.no_connection_is_opened_before_a_class_is
 use Rattle.osi_watched.proofs.sessions.steps_of_either_class_leave_all_standing.{IsRight, any_passes_own}
 use Rattle.osi_watched.proofs.sessions.what_the_stage_of_a_calling_end_says.{IsDt0, all_data}
 
--- ---- small facts
-
 -- ---- what it has put
 
 pub class_by : {A : Type 0} (k : Option Class) → k ≡ Some Zero → (k ≡ None) ⊎ (k ≡ Some Two) → A

@@ -36,8 +36,6 @@ use Rattle.osi_watched.proofs.sessions.what_an_end_takes_at_each_stage.{turn_tak
 use Rattle.osi_watched.proofs.sessions.what_stands_of_a_connection.{is_for, waiting_for}
 use Rattle.osi_watched.proofs.sessions.what_the_stage_of_a_calling_end_says.{IsDt0}
 
--- ---- small facts
-
 -- ---- a turn
 
 module _ (local : Local) (proper : AllProper) (turn : Turn) (old new : Joint) (t : TakesTurn turn old new) (deeds : ℕ → Deeds)
