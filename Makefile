@@ -36,7 +36,7 @@ SECONDS ?= 60
 MESSAGES ?= 200000
 
 all:
-	scripts/proving osi_tool rt run -- --help
+	scripts/proving osi_tool run -- --help
 	scripts/sources > crates/osi_tool/out/sources
 
 test:
@@ -53,8 +53,8 @@ bench:
 	bench/run
 
 ledger: all lib
-	scripts/proving osi_bench_transport rt lib
-	scripts/proving osi_bench rt lib
+	scripts/proving osi_bench_transport lib
+	scripts/proving osi_bench lib
 	bench/ledger
 
 lib:
@@ -87,8 +87,8 @@ gateways: all lib
 	scripts/gateways
 
 trials: all lib
-	scripts/proving osi_trial rt lib
-	scripts/proving osi_runs rt run
+	scripts/proving osi_trial lib
+	scripts/proving osi_runs run
 	scripts/trials $(PART)
 
 fuzz: lib
