@@ -5,7 +5,7 @@ use Rattle.osi_accord.proofs.Vocabulary.{[], ap, append-nil, false, inl, inr, le
 use Rattle.osi_accord.proofs.Vocabulary.{ℕ, ◌++◌, ◌∙◌, ◌∷◌, ◌≡◌, flat_map-append, append_assoc, AllByRecursion, GT, Meaning, IsSendable}
 use Rattle.osi_accord.proofs.Vocabulary.{no_token, says, Word, written, has_no_effect, awaiting, answers_word, CanSay, Count, listens, Seen}
 use Rattle.osi_accord.proofs.Vocabulary.{seen_called, seen_calling, Takes, CanBeOffered, Offer, offer_sent, offering, connects, Ending}
-use Rattle.osi_accord.proofs.Vocabulary.{Entry, HasNumber, said_in, units_in, refusal, run, Seat, step, Tables, linked, Message, replied}
+use Rattle.osi_accord.proofs.Vocabulary.{Entry, HasNumber, said_in, units_in, refusal, run, Seat, step, Tables, linked, replied}
 use Rattle.osi_accord.proofs.Vocabulary.{unit, other, Direction, Left, Right, Accords, end_of, Sending, sending, AreWritten, connect_of}
 use Rattle.osi_accord.proofs.Vocabulary.{is_connect, IsByCall, IsMessage, side_at, TakesNoLiberty, Utterance, utters, channel_of, has_taken}
 use Rattle.osi_accord.proofs.Vocabulary.{Pair, pair_of, session_of, with_channel, with_session, CallsAndAnswers, IsAnyCall, IsByAnyCall}
@@ -25,39 +25,12 @@ use Rattle.osi_accord.proofs.a_side_that_calls_takes_and_answers.{IsSeat, MovesT
 
 seat_sends : (x : Seat) (e : Option Ending) (s : Seen) (channel : List (List ℕ)) (m : Meaning) → IsSeat x e s channel (m ∷ []) →
     IsSeat x e s (channel ++ written m ∷ []) []
-seat_sends x e s channel m i = record {
-  state = i.state;
-  joined = i.joined;
-  units = i.units;
-  are = i.are;
-  flight = append-nil (channel ++ written m ∷ []) ∙ i.flight;
-  sendable = i.sendable;
-  transport = i.transport;
-  ends = i.ends;
-}
+seat_sends x e s channel m i = grind (arith, append-nil)
 
 sends_on : (t : Tables) (p : Pair) (d : Direction) (m : Meaning) → Stands t p d (m ∷ []) [] →
     Stands t (with_channel d (channel_of d p ++ written m ∷ []) p) d [] []
-sends_on t p Left m s = record {
-  own = s.own;
-  peer = s.peer;
-  own_end = s.own_end;
-  peer_end = s.peer_end;
-  journal = s.journal;
-  is = s.is;
-  here = seat_sends s.own s.own_end p.left.session p.left.channel m s.here;
-  there = s.there;
-}
-sends_on t p Right m s = record {
-  own = s.own;
-  peer = s.peer;
-  own_end = s.own_end;
-  peer_end = s.peer_end;
-  journal = s.journal;
-  is = s.is;
-  here = seat_sends s.own s.own_end p.right.session p.right.channel m s.here;
-  there = s.there;
-}
+sends_on t p Left m s = grind (arith, seat_sends)
+sends_on t p Right m s = grind (arith, seat_sends)
 
 -- ---- a run
 
@@ -83,8 +56,7 @@ units_back (m ∷ ms) = ap (λ (x : List Meaning). m ∷ x) (units_back ms)
 
 in_flight : (x : Seat) (e : Option Ending) (s : Seen) (channel : List (List ℕ)) → IsSeat x e s channel [] →
     map written (units_in x.channel) ≡ channel
-in_flight x e s channel i =
-    ap (λ (z : List Message). map written (units_in z)) i.are ∙ ap (map written) (units_back i.units) ∙ sym i.flight ∙ append-nil channel
+in_flight x e s channel i = grind (arith, units_back, append-nil)
 
 -- nothing is left to send
 left_done : (t : Tables) (p : Pair) → Stands t p Left [] [] → PlaysWhole t [] p
@@ -103,8 +75,7 @@ left_done t p s = record {
 }
 
 no_more : (t : Tables) (p : Pair) (d : Direction) → Stands t p d [] [] → PlaysWhole t [] p
-no_more t p Left s = left_done t p s
-no_more t p Right s = left_done t p (turned_about t p Right [] [] s)
+no_more t p d s = grind (arith, left_done, turned_about)
 
 nothing_due : (t : Tables) (p : Pair) (messages : List Utterance) (d : Direction) (ahead : List Meaning) → IsDue [] messages d ahead →
     Stands t p d ahead [] → PlaysWhole t messages p
@@ -143,10 +114,8 @@ takes_step k t p Right Left c tsdu rest ahead messages q there hears taken quiet
 call_of : (s next : Seen) (w : Word) (m : Meaning) → IsByAnyCall s w next → w ≡ says m → has_no_effect m ≡ false → is_connect m ≡ false →
     IsAnyCall s m next
 call_of s next w m (inl is) e effect later = absurd (effect_of m effect (same_said m (GT no_token) (sym e ∙ is)))
-call_of s next w m (inr (n, is, inl first)) e effect later =
-    absurd (not_both (is_connect n) first (ap is_connect (same_said n m (sym is ∙ e)) ∙ later))
-call_of s next w m (inr (n, is, inr call)) e effect later =
-    subst (λ (x : Meaning). IsAnyCall s x next) (same_said n m (sym is ∙ e)) call
+call_of s next w m (inr (n, is, inl first)) e effect later = grind (arith, not_both, same_said)
+call_of s next w m (inr (n, is, inr call)) e effect later = grind (arith, same_said)
 
 calls_at : (t : Tables) (p : Pair) (d : Direction) (next : Seen) (m : Meaning) → IsAnyCall (session_of d p) m next → IsSendable m →
     Stands t p d [] [] → MovesTo t d (m ∷ []) (with_session d next p) (m ∷ []) []
@@ -208,14 +177,7 @@ answers_due k t p e own before x words later c tsdu rest reply (utters f m ∷ m
     (on messages all.1 (step t g.move) e (m ∷ [])
     (inr (record { m = m; is = (refl, due.0.1, h.rests, due.0.3); one = refl })) g.leaves))
 answers_due k t p e own before x words later c tsdu rest reply messages d ahead q there hears taken replies answers by all (inr due) s on =
-    by_rest due.is.2
-  where
-    by_rest : IsRest (Some x ∷ words) → PlaysWhole t messages q
-    by_rest (inl none) = absurd (cc)
-    by_rest (inr one) =
-        let word : x ≡ says (GT no_token) = cc in
-        absurd (no_answer reply (subst (λ (v : Word). answers_word reply v ≡ true) word answers)
-        (same_said reply (GT no_token) (sym by ∙ word)))
+    grind (arith, no_answer, same_said)
 
 -- all words of a TSDU are sent
 sends_due : AsMessages → (t : Tables) (p : Pair) (e : Direction) (own : List ℕ) (before : ℕ) (later : List Sending)
@@ -224,10 +186,7 @@ sends_due : AsMessages → (t : Tables) (p : Pair) (e : Direction) (own : List �
     ((d : Direction) (ahead : List Meaning) → IsDue later messages d ahead →
     Stands t (with_channel e (channel_of e p ++ own ∷ []) p) d ahead [] → PlaysWhole t messages q) → PlaysWhole t messages q
 sends_due k t p e own before later [] d ahead q all (inl due) s on = absurd due.0
-sends_due k t p e own before later (utters f m ∷ messages) d ahead q all (inl due) s on =
-    let first = message_first k m all.0.0 in
-    let none : [] ≡ Some (says m) ∷ first.rest = due.0.2 ∙ first.is in
-    absurd (cc)
+sends_due k t p e own before later (utters f m ∷ messages) d ahead q all (inl due) s on = grind (arith, message_first k m all.0.0)
 sends_due k t p e own before later messages d ahead q all (inr due) s on =
     let one : Stands t p d (due.m ∷ []) [] = subst (λ (a : List Meaning). Stands t p d a []) due.one s in
     let here : Stands t p e (due.m ∷ []) [] = subst (λ (z : Direction). Stands t p z (due.m ∷ []) []) (sym due.is.0) one in
@@ -344,6 +303,5 @@ without_liberties (accord.done p) free = tt
 without_liberties (accord.takes e later p o before x words tsdu rest c passed there hears taken quiet run) free =
     without_liberties run free
 without_liberties (accord.answers e later p o before x words tsdu rest c reply passed there hears taken replied is run) free = absurd free
-without_liberties (accord.says e later p o before x words next can run) free =
-    (by_any_call (session_of e p) next x free.0, without_liberties run free.1)
+without_liberties (accord.says e later p o before x words next can run) free = search (arith, by_any_call, without_liberties run free.1)
 without_liberties (accord.sends e later p o before run) free = without_liberties run free

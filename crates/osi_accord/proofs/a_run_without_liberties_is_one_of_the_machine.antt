@@ -1,14 +1,14 @@
 -- A run of two sessions in which no liberty is taken is a run of the machine of two sides that exchange whole messages.
 -- For the law of that name.
+use Rattle.std.proofs.Common.{arith}
 use Rattle.osi_accord.proofs.Vocabulary.{[], ap, append-nil, false, inl, inr, length, List, map, None, Ok, Option, refl, Some, subst, sym}
 use Rattle.osi_accord.proofs.Vocabulary.{true, ℕ, ◌++◌, ◌∙◌, ◌∷◌, ◌≡◌, AllByRecursion, GT, Meaning, IsSendable, no_token, says, Word}
-use Rattle.osi_accord.proofs.Vocabulary.{written, allowed, Call, HasSerial, drops_parts, has_no_effect, respond_unit, after_count, CanSay}
-use Rattle.osi_accord.proofs.Vocabulary.{Count, goes, Seen, seen_called, seen_calling, Takes, State, call_at, called, Core, core_start}
-use Rattle.osi_accord.proofs.Vocabulary.{core_step, Offer, offer_sent, stays_in_core, take_at, taking, turned, other}
-use Rattle.osi_accord.proofs.Vocabulary.{Direction, Left, Right, Accords, end_of, Sending, sending, AreWritten}
-use Rattle.osi_accord.proofs.Vocabulary.{connect_of, is_connect, IsByCall, IsCoreCall, IsMessage, Plays, sent_at, sent_in, side_at}
-use Rattle.osi_accord.proofs.Vocabulary.{TakesNoLiberty, Utterance, utters, channel_of, has_taken, Pair, pair_of, session_of, with_channel}
-use Rattle.osi_accord.proofs.Vocabulary.{with_session}
+use Rattle.osi_accord.proofs.Vocabulary.{written, allowed, Call, HasSerial, has_no_effect, respond_unit, after_count, CanSay, Count, goes}
+use Rattle.osi_accord.proofs.Vocabulary.{Seen, seen_called, seen_calling, Takes, State, call_at, called, Core, core_start, core_step, Offer}
+use Rattle.osi_accord.proofs.Vocabulary.{offer_sent, stays_in_core, take_at, taking, turned, other, Direction, Left, Right, Accords, end_of}
+use Rattle.osi_accord.proofs.Vocabulary.{Sending, sending, AreWritten, connect_of, is_connect, IsByCall, IsCoreCall, IsMessage, Plays}
+use Rattle.osi_accord.proofs.Vocabulary.{sent_at, sent_in, side_at, TakesNoLiberty, Utterance, utters, channel_of, has_taken, Pair, pair_of}
+use Rattle.osi_accord.proofs.Vocabulary.{session_of, with_channel, with_session}
 use Rattle.osi_session.specs.Allowed.{Step}
 use Rattle.osi_machine.specs.Core as machine
 use Rattle.osi_accord.specs.Accords as accord
@@ -36,8 +36,7 @@ record Stands (w : Core) (p : Pair) (d : Direction) (ahead others : List Meaning
 
 turned_about : (w : Core) (p : Pair) (d : Direction) (ahead others : List Meaning) → Stands w p d ahead others →
     Stands w p (other d) others ahead
-turned_about w p Left ahead others s = record { own = s.peer; peer = s.own }
-turned_about w p Right ahead others s = record { own = s.peer; peer = s.own }
+turned_about w p d ahead others s = grind arith
 
 -- ---- a call
 
@@ -48,13 +47,7 @@ called_own v c g stays allows = rw (stays, allows) refl
 -- the side sends a message by it
 party_calls : (x y : machine.Party) (s next : Seen) (channel : List (List ℕ)) (state : State) (m : Meaning) → IsParty x s channel [] →
     IsSendable m → next ≡ goes s state → y.session ≡ state → y.sent ≡ x.sent ++ m ∷ [] → IsParty y next channel (m ∷ [])
-party_calls x y s next channel state m i send goes_on at sent = record {
-  state = at ∙ sym (ap (λ (z : Seen). z.state) goes_on);
-  joined = ap (λ (z : Seen). z.joined) goes_on ∙ kept_none (drops_parts state.phase) s.joined i.joined;
-  flight = ap (λ (z : List (List ℕ)). z ++ written m ∷ []) (sym (append-nil channel) ∙ i.flight) ∙ sym (written_more x.sent m)
-      ∙ ap (map written) (sym sent);
-  sendable = subst (AllByRecursion IsSendable) (sym sent) (all_and_one x.sent m i.sendable send);
-}
+party_calls x y s next channel state m i send goes_on at sent = grind (arith, kept_none, append-nil, written_more, all_and_one)
 
 calls_on : (w : Core) (p : Pair) (d : Direction) (next : Seen) (m : Meaning) (call : IsCoreCall (session_of d p) m next) → IsSendable m →
     Stands w p d [] [] →
@@ -80,29 +73,18 @@ calls_on w p Right next m call send s =
 
 call_sends : (w : Core) (p : Pair) (d : Direction) (next : Seen) (m : Meaning) (call : IsCoreCall (session_of d p) m next) →
     Stands w p d [] [] → sent_at w (call_at (side_at d) call.is.call) ≡ utters d m ∷ []
-call_sends w p Left next m call s = rw (call.stays, s.own.state, call.is.allows) refl
-call_sends w p Right next m call s = rw (call.stays, s.own.state, call.is.allows) refl
+call_sends w p h next m call s = grind arith
 
 -- ---- a delivery
 
 party_takes : (x y : machine.Party) (s : Seen) (channel : List (List ℕ)) (ahead : List Meaning) (u : Meaning) (c : Count) → IsTaken s u c →
     IsParty x s channel ahead → y.session ≡ (respond_unit x.session u).next → y.sent ≡ x.sent → IsParty y (after_count s c) channel ahead
-party_takes x y s channel ahead u c did i at sent = record {
-  state = at ∙ ap (λ (z : State). (respond_unit z u).next) i.state ∙ sym did.state;
-  joined = did.joined;
-  flight = i.flight ∙ ap (map written) (sym sent);
-  sendable = subst (AllByRecursion IsSendable) (sym sent) i.sendable;
-}
+party_takes x y s channel ahead u c did i at sent = grind arith
 
 party_gives : (x y : machine.Party) (s : Seen) (channel rest : List (List ℕ)) (others us : List Meaning) → IsParty x s channel others →
     y.session ≡ x.session → y.sent ≡ us → rest ++ map written others ≡ map written us → AllByRecursion IsSendable us →
     IsParty y s rest others
-party_gives x y s channel rest others us i at sent later all = record {
-  state = at ∙ i.state;
-  joined = i.joined;
-  flight = later ∙ ap (map written) (sym sent);
-  sendable = subst (AllByRecursion IsSendable) (sym sent) all;
-}
+party_gives x y s channel rest others us i at sent later all = grind arith
 
 taking_own : (v : Core) (u : Meaning) (us : List Meaning) → v.peer.sent ≡ u ∷ us → machine.takes v ≡ taking v (u ∷ us)
 taking_own v u us e = ap (taking v) e
@@ -152,12 +134,7 @@ takes_any k w p Right Left c tsdu rest ahead there taken s =
 
 party_sends : (x : machine.Party) (s : Seen) (channel : List (List ℕ)) (m : Meaning) → IsParty x s channel (m ∷ []) →
     IsParty x s (channel ++ written m ∷ []) []
-party_sends x s channel m i = record {
-  state = i.state;
-  joined = i.joined;
-  flight = append-nil (channel ++ written m ∷ []) ∙ i.flight;
-  sendable = i.sendable;
-}
+party_sends x s channel m i = grind (arith, append-nil)
 
 sends_on : (w : Core) (p : Pair) (d : Direction) (m : Meaning) → Stands w p d (m ∷ []) [] →
     Stands w (with_channel d (channel_of d p ++ written m ∷ []) p) d [] []
@@ -194,46 +171,22 @@ call_step w d c m messages q small sent s = record {
 
 -- nothing is left to send
 no_more : (w : Core) (p : Pair) (d : Direction) → Stands w p d [] [] → Plays w [] p
-no_more w p Left s = record {
-  steps = [];
-  numbered = tt;
-  sent = refl;
-  left = s.own.state;
-  right = s.peer.state;
-  left_in_flight = sym s.own.flight ∙ append-nil p.left.channel;
-  right_in_flight = sym s.peer.flight ∙ append-nil p.right.channel;
-}
-no_more w p Right s = record {
-  steps = [];
-  numbered = tt;
-  sent = refl;
-  left = s.peer.state;
-  right = s.own.state;
-  left_in_flight = sym s.peer.flight ∙ append-nil p.left.channel;
-  right_in_flight = sym s.own.flight ∙ append-nil p.right.channel;
-}
+no_more w p d s = grind (arith, append-nil)
 
 nothing_due : (w : Core) (p : Pair) (messages : List Utterance) (d : Direction) (ahead : List Meaning) → IsDue [] messages d ahead →
     Stands w p d ahead [] → Plays w messages p
-nothing_due w p [] d ahead (inl due) s = no_more w p d (subst (λ (a : List Meaning). Stands w p d a []) due.1 s)
-nothing_due w p (utters e m ∷ messages) d ahead (inl due) s = absurd due.0
-nothing_due w p messages d ahead (inr due) s = absurd due.is
+nothing_due w p messages d ahead h s = search (arith, no_more)
 
 -- nothing is ahead of either side
 calm : (w : Core) (p : Pair) (d e : Direction) → Stands w p d [] [] → Stands w p e [] []
-calm w p Left Left s = s
-calm w p Right Right s = s
-calm w p Left Right s = turned_about w p Left [] [] s
-calm w p Right Left s = turned_about w p Right [] [] s
+calm w p d e s = grind (arith, turned_about)
 
 -- the call by which it is sent
 call_of : (s next : Seen) (w : Word) (m : Meaning) → IsByCall s w next → w ≡ says m → has_no_effect m ≡ false → is_connect m ≡ false →
     IsCoreCall s m next
 call_of s next w m (inl is) e effect other = absurd (effect_of m effect (same_said m (GT no_token) (sym e ∙ is)))
-call_of s next w m (inr (n, is, inl connects)) e effect other =
-    absurd (not_both (is_connect n) connects (ap is_connect (same_said n m (sym is ∙ e)) ∙ other))
-call_of s next w m (inr (n, is, inr call)) e effect other =
-    subst (λ (x : Meaning). IsCoreCall s x next) (same_said n m (sym is ∙ e)) call
+call_of s next w m (inr (n, is, inl connects)) e effect other = grind (arith, not_both, same_said)
+call_of s next w m (inr (n, is, inr call)) e effect other = grind (arith, same_said)
 
 -- a word is sent
 says_due : AsMessages → (w : Core) (p : Pair) (e : Direction) (own : List ℕ) (before : ℕ) (x : Word) (words : List (Option Word))
@@ -274,10 +227,7 @@ sends_due : AsMessages → (w : Core) (p : Pair) (e : Direction) (own : List ℕ
     ((w : Core) (d : Direction) (ahead : List Meaning) → IsDue later messages d ahead →
     Stands w (with_channel e (channel_of e p ++ own ∷ []) p) d ahead [] → Plays w messages q) → Plays w messages q
 sends_due k w p e own before later [] d ahead q all (inl due) s on = absurd due.0
-sends_due k w p e own before later (utters f m ∷ messages) d ahead q all (inl due) s on =
-    let first = message_first k m all.0.0 in
-    let none : [] ≡ Some (says m) ∷ first.rest = due.0.2 ∙ first.is in
-    absurd (cc)
+sends_due k w p e own before later (utters f m ∷ messages) d ahead q all (inl due) s on = grind (arith, message_first k m all.0.0)
 sends_due k w p e own before later messages d ahead q all (inr due) s on =
     let one : Stands w p d (due.m ∷ []) [] = subst (λ (a : List Meaning). Stands w p d a []) due.one s in
     let here : Stands w p e (due.m ∷ []) [] = subst (λ (z : Direction). Stands w p z (due.m ∷ []) []) (sym due.is.0) one in

@@ -1,14 +1,14 @@
 -- What the tables of whole connections and a pair of sessions have in common, and that a call and a delivery keep it.
 -- For the law that a run of calls and answers is one of the machine of whole connections.
+use Rattle.std.proofs.Common.{arith}
 use Rattle.osi_accord.proofs.Vocabulary.{[], ap, append-nil, Bool, false, if◌then◌else◌, length, List, map, None, not, Ok, Option, refl}
 use Rattle.osi_accord.proofs.Vocabulary.{Some, subst, sym, take, true, ℕ, ◌++◌, ◌||◌, ◌∙◌, ◌∷◌, ◌≡◌, take-append_seam, append_assoc}
-use Rattle.osi_accord.proofs.Vocabulary.{AllByRecursion, AA, AB, DN, Meaning, RF, IsSendable, said_of, written, unit_silent, enacts}
-use Rattle.osi_accord.proofs.Vocabulary.{allowed, drops_parts, in_state, is_aborting, is_wait_transport, enacted, fine}
-use Rattle.osi_accord.proofs.Vocabulary.{good, in_aborting, in_ended, Outcome, over, respond, respond_unit, Verdict, verdict, after_count}
-use Rattle.osi_accord.proofs.Vocabulary.{Count, goes, listens, Seen, Takes, without_tokens, Ended, State, calls, closed_here, Ending, Entry}
-use Rattle.osi_accord.proofs.Vocabulary.{HasNumber, is_given, one_or_none, Seat, step, Tables, gone, linked, Message, replied, Transport}
-use Rattle.osi_accord.proofs.Vocabulary.{unit, other, Direction, Left, Right, side_at, utters, channel_of, has_taken, Pair, session_of}
-use Rattle.osi_accord.proofs.Vocabulary.{end_if, IsAnyCall, uttered_at}
+use Rattle.osi_accord.proofs.Vocabulary.{AllByRecursion, Meaning, IsSendable, said_of, written, unit_silent, enacts, allowed, drops_parts}
+use Rattle.osi_accord.proofs.Vocabulary.{in_state, is_wait_transport, enacted, good, in_aborting, in_ended, Outcome, respond, respond_unit}
+use Rattle.osi_accord.proofs.Vocabulary.{Verdict, verdict, after_count, Count, goes, listens, Seen, Takes, without_tokens, Ended, State}
+use Rattle.osi_accord.proofs.Vocabulary.{calls, closed_here, Ending, Entry, HasNumber, is_given, one_or_none, Seat, step, Tables, gone}
+use Rattle.osi_accord.proofs.Vocabulary.{linked, Message, replied, Transport, unit, other, Direction, Left, Right, side_at, utters}
+use Rattle.osi_accord.proofs.Vocabulary.{channel_of, has_taken, Pair, session_of, end_if, IsAnyCall, uttered_at}
 use Rattle.osi_machine.specs.Machine.{Step}
 use Rattle.osi_accord.proofs.messages_of_a_run.{AsMessages, IsTaken, is_taken, all_and_one, written_more, kept_none, comes}
 use Rattle.osi_accord.proofs.a_step_of_one_connection.{call_leaves, call_utters, called_seat, close_leaves, coming, delivery_leaves}
@@ -47,30 +47,10 @@ Stands t p d ahead others = Meets t d (session_of d p) (channel_of d p) ahead (s
 
 pub turned_about : (t : Tables) (p : Pair) (d : Direction) (ahead others : List Meaning) → Stands t p d ahead others →
     Stands t p (other d) others ahead
-turned_about t p Left ahead others s = record {
-  own = s.peer;
-  peer = s.own;
-  own_end = s.peer_end;
-  peer_end = s.own_end;
-  journal = s.journal;
-  is = s.is;
-  here = s.there;
-  there = s.here;
-}
-turned_about t p Right ahead others s = record {
-  own = s.peer;
-  peer = s.own;
-  own_end = s.peer_end;
-  peer_end = s.own_end;
-  journal = s.journal;
-  is = s.is;
-  here = s.there;
-  there = s.here;
-}
+turned_about t p d ahead others s = search arith
 
 given_still : (closed : Bool) → is_given (transport_if closed) ≡ true
-given_still true = refl
-given_still false = refl
+given_still closed = grind arith
 
 units_more : (ms ns : List Meaning) → map unit (ms ++ ns) ≡ map unit ms ++ map unit ns
 units_more [] ns = refl
@@ -80,16 +60,15 @@ units_more (x ∷ ms) ns = ap (λ (y : List Message). unit x ∷ y) (units_more 
 
 seat_calls : (x : Seat) (e : Option Ending) (s next : Seen) (channel : List (List ℕ)) (n : State) (m : Meaning) → IsSendable m →
     next ≡ goes s n → IsSeat x e s channel [] → IsSeat (called_seat x n m) e next channel (m ∷ [])
-seat_calls x e s next channel n m send goes_on i = record {
-  state = sym (ap (λ (z : Seen). z.state) goes_on);
-  joined = ap (λ (z : Seen). z.joined) goes_on ∙ kept_none (drops_parts n.phase) s.joined i.joined;
-  units = i.units ++ m ∷ [];
-  are = ap (λ (z : List Message). z ++ unit m ∷ []) i.are ∙ sym (units_more i.units (m ∷ []));
-  flight = ap (λ (z : List (List ℕ)). z ++ written m ∷ []) (sym (append-nil channel) ∙ i.flight) ∙ sym (written_more i.units m);
-  sendable = all_and_one i.units m i.sendable send;
-  transport = i.transport ∙ ap (λ (z : Seen). transport_if z.closed) (sym goes_on);
-  ends = i.ends ∙ ap (λ (z : Seen). end_if z.closed) (sym goes_on);
-}
+seat_calls x e s next channel n m send goes_on i =
+    grind (
+      arith,
+      kept_none (drops_parts n.phase) s.joined i.joined,
+      units_more i.units (m ∷ []),
+      append-nil channel,
+      written_more i.units m,
+      all_and_one i.units m i.sendable send,
+    )
 
 -- a step that sends these messages, and what it leaves
 pub record Moves (t : Tables) (d : Direction) (sent : List Meaning) (s : Seen) (channel : List (List ℕ)) (ahead : List Meaning) (s2 : Seen)
@@ -126,26 +105,19 @@ calls_on t d s next channel s2 channel2 m c send h =
 
 -- it listens: it has not closed the transport connection
 still_open : (closed waits : Bool) → not (closed || waits) ≡ true → closed ≡ false
-still_open true waits h = absurd (cc)
-still_open false waits h = refl
+still_open closed waits h = grind arith
 
 replied_units : (r : Option Meaning) → replied r ≡ map unit (one_or_none r)
-replied_units None = refl
-replied_units (Some m) = refl
+replied_units r = grind arith
 
 all_and_more : (ms : List Meaning) (r : Option Meaning) → AllByRecursion IsSendable ms → AllByRecursion IsSendable (one_or_none r) →
     AllByRecursion IsSendable (ms ++ one_or_none r)
-all_and_more ms None a b = subst (AllByRecursion IsSendable) (sym (append-nil ms)) a
-all_and_more ms (Some m) a b = all_and_one ms m a b.0
+all_and_more ms r a b = grind (arith, append-nil, all_and_one)
 
 written_and_more : (channel : List (List ℕ)) (ahead units : List Meaning) (r : Option Meaning) →
     channel ++ map written ahead ≡ map written units →
     channel ++ map written (ahead ++ one_or_none r) ≡ map written (units ++ one_or_none r)
-written_and_more channel ahead units None e =
-    ap (λ (x : List Meaning). channel ++ map written x) (append-nil ahead) ∙ e ∙ ap (map written) (sym (append-nil units))
-written_and_more channel ahead units (Some m) e =
-    ap (λ (x : List (List ℕ)). channel ++ x) (written_more ahead m) ∙ sym (append_assoc channel (map written ahead) (written m ∷ []))
-    ∙ ap (λ (x : List (List ℕ)). x ++ written m ∷ []) e ∙ sym (written_more units m)
+written_and_more channel ahead units h e = grind (arith, append-nil, written_more, append_assoc)
 
 -- this side after it took a message, which does not close the transport connection
 seat_takes : (x : Seat) (e : Option Ending) (s : Seen) (channel : List (List ℕ)) (ahead : List Meaning) (u : Meaning) (c : Count) →
@@ -153,22 +125,7 @@ seat_takes : (x : Seat) (e : Option Ending) (s : Seen) (channel : List (List ℕ
     IsSeat x e s channel ahead →
     IsSeat (seat linked (in_state x.session (respond_unit s.state u).next) (x.channel ++ replied (respond_unit s.state u).reply)) None
     (after_count s c) channel (ahead ++ one_or_none c.reply)
-seat_takes x e s channel ahead u c did stays closes send i = record {
-  state = sym did.state;
-  joined = did.joined;
-  units = i.units ++ one_or_none c.reply;
-  are = ap (λ (z : Option Meaning). x.channel ++ replied z) (sym did.reply) ∙ ap (λ (z : List Message). z ++ replied c.reply) i.are
-      ∙ ap (λ (z : List Message). map unit i.units ++ z) (replied_units c.reply) ∙ sym (units_more i.units (one_or_none c.reply));
-  flight = written_and_more channel ahead i.units c.reply i.flight;
-  sendable = all_and_more i.units c.reply i.sendable send;
-  transport = ap transport_if (sym (neither s.closed c.closes stays (did.closes ∙ closes)));
-  ends = ap end_if (sym (neither s.closed c.closes stays (did.closes ∙ closes)));
-}
-  where
-    neither : (a b : Bool) → a ≡ false → b ≡ false → (a || b) ≡ false
-    neither false false h k = refl
-    neither true b h k = absurd (cc)
-    neither false true h k = absurd (cc)
+seat_takes x e s channel ahead u c did stays closes send i = search (arith, replied_units, units_more, written_and_more, all_and_more)
 
 -- this side after it took a message, and closed the transport connection
 seat_closes : (x : Seat) (e : Option Ending) (s : Seen) (channel : List (List ℕ)) (ahead : List Meaning) (u : Meaning) (c : Count) →
@@ -177,63 +134,32 @@ seat_closes : (x : Seat) (e : Option Ending) (s : Seen) (channel : List (List �
     IsSeat (seat gone (in_state x.session (without_tokens Ended (respond_unit s.state u).next))
     (take (length x.channel) (x.channel ++ replied (respond_unit s.state u).reply))) (Some closed_here)
     (after_count s c) channel (ahead ++ one_or_none c.reply)
-seat_closes x e s channel ahead u c did closes none last i = record {
-  state = last ∙ sym did.state;
-  joined = did.joined;
-  units = i.units;
-  are = take-append_seam x.channel (replied (respond_unit s.state u).reply) ∙ i.are;
-  flight = ap (λ (z : Option Meaning). channel ++ map written (ahead ++ one_or_none z)) none
-      ∙ ap (λ (z : List Meaning). channel ++ map written z) (append-nil ahead) ∙ i.flight;
-  sendable = i.sendable;
-  transport = ap transport_if (sym (either s.closed c.closes (did.closes ∙ closes)));
-  ends = ap end_if (sym (either s.closed c.closes (did.closes ∙ closes)));
-}
-  where
-    either : (a b : Bool) → b ≡ true → (a || b) ≡ true
-    either true b h = refl
-    either false b h = h
+seat_closes x e s channel ahead u c did closes none last i = search (arith, take-append_seam, append-nil)
 
 -- the other side, of which the first message is taken
 seat_gives : (y : Seat) (e : Option Ending) (s : Seen) (channel rest : List (List ℕ)) (others us : List Meaning) →
     rest ++ map written others ≡ map written us → AllByRecursion IsSendable us → IsSeat y e s channel others →
     IsSeat (seat y.transport y.session (map unit us)) e s rest others
-seat_gives y e s channel rest others us later all i = record {
-  state = i.state;
-  joined = i.joined;
-  units = us;
-  are = refl;
-  flight = later;
-  sendable = all;
-  transport = i.transport;
-  ends = i.ends;
-}
+seat_gives y e s channel rest others us later all i = grind arith
 
 -- what closes the transport connection leaves the session ended
 abbrev IsOverIf : Outcome → Type 0
 IsOverIf o = o.closes ≡ true → without_tokens Ended o.next ≡ o.next
 
 good_over : (s : State) (u : Meaning) → IsOverIf (good s u)
-good_over s (RF reason octets) h = refl
-good_over s (DN octets) h = refl
-good_over s _ h = absurd (cc)
+good_over s u h = grind arith
 
 aborting_over : (s : State) (u : Meaning) → IsOverIf (in_aborting s u)
-aborting_over s (AB bits octets) h = refl
-aborting_over s AA h = refl
-aborting_over s _ h = absurd (cc)
+aborting_over s u h = grind arith
 
 ended_over : (s : State) (u : Meaning) → IsOverIf (in_ended s u)
-ended_over s (AB bits octets) h = absurd (cc)
-ended_over s _ h = absurd (cc)
+ended_over s u h = grind arith
 
 either_over : (b : Bool) (x y : Outcome) → IsOverIf x → IsOverIf y → IsOverIf (if b then x else y)
-either_over true x y h k = h
-either_over false x y h k = k
+either_over b x y h k = grind arith
 
 enacted_over : (s : State) (u : Meaning) (v : Verdict) → IsOverIf (enacted s u v)
-enacted_over s u over = either_over (is_aborting s.phase) _ _ (aborting_over s u) (ended_over s u)
-enacted_over s u fine = good_over s u
-enacted_over s u _ = λ h. absurd (cc)
+enacted_over s u v = grind (arith, either_over, aborting_over, ended_over, good_over)
 
 unit_over : (s : State) (u : Meaning) → IsOverIf (respond_unit s u)
 unit_over s u = subst IsOverIf (sym (enacts s u)) (enacted_over s u (verdict s u))
@@ -329,25 +255,20 @@ MovesTo t d sent p ahead others =
 coming_to : (t : Tables) (p : Pair) (d : Direction) (tsdu : List ℕ) (rest : List (List ℕ)) (ahead others : List Meaning) →
     channel_of (other d) p ≡ tsdu ∷ rest → Stands t p d ahead others →
     Meets t d (session_of d p) (channel_of d p) ahead (session_of (other d) p) (tsdu ∷ rest) others
-coming_to t p d tsdu rest ahead others there s =
-    subst (λ (x : List (List ℕ)). Meets t d (session_of d p) (channel_of d p) ahead (session_of (other d) p) x others) there s
+coming_to t p d tsdu rest ahead others there s = grind arith
 
 pub quiet_at : AsMessages → (t : Tables) (p : Pair) (d : Direction) (c : Count) (tsdu : List ℕ) (rest : List (List ℕ))
     (ahead others : List Meaning) → channel_of (other d) p ≡ tsdu ∷ rest → listens (session_of d p) ≡ true → Takes (session_of d p) tsdu c →
     c.reply ≡ None → Stands t p d ahead others → MovesTo t d [] (has_taken d c rest p) ahead others
 quiet_at k t p Left c tsdu rest ahead others there hears taken quiet s =
-    takes_quiet k t Left p.left.session p.left.channel ahead p.right.session tsdu rest others c hears taken quiet
-    (coming_to t p Left tsdu rest ahead others there s)
+    search (arith, takes_quiet, coming_to t p Left tsdu rest ahead others there s)
 quiet_at k t p Right c tsdu rest ahead others there hears taken quiet s =
-    takes_quiet k t Right p.right.session p.right.channel ahead p.left.session tsdu rest others c hears taken quiet
-    (coming_to t p Right tsdu rest ahead others there s)
+    search (arith, takes_quiet, coming_to t p Right tsdu rest ahead others there s)
 
 pub answering_at : AsMessages → (t : Tables) (p : Pair) (d : Direction) (c : Count) (tsdu : List ℕ) (rest : List (List ℕ)) (m : Meaning) →
     channel_of (other d) p ≡ tsdu ∷ rest → listens (session_of d p) ≡ true → Takes (session_of d p) tsdu c → c.reply ≡ Some m →
     IsSendable m → Stands t p d [] [] → MovesTo t d (m ∷ []) (has_taken d c rest p) (m ∷ []) []
 answering_at k t p Left c tsdu rest m there hears taken replies send s =
-    takes_answering k t Left p.left.session p.left.channel p.right.session tsdu rest [] c m hears taken replies send
-    (coming_to t p Left tsdu rest [] [] there s)
+    search (arith, takes_answering, coming_to t p Left tsdu rest [] [] there s)
 answering_at k t p Right c tsdu rest m there hears taken replies send s =
-    takes_answering k t Right p.right.session p.right.channel p.left.session tsdu rest [] c m hears taken replies send
-    (coming_to t p Right tsdu rest [] [] there s)
+    search (arith, takes_answering, coming_to t p Right tsdu rest [] [] there s)

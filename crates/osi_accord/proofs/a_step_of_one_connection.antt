@@ -1,6 +1,7 @@
 -- What a call and a delivery leave of the tables of one connection of class 0, of which nothing is lost.
 -- For the law that a run of calls and answers is one of the machine of whole connections.
-use Rattle.osi_accord.proofs.Vocabulary.{[], append-nil, false, length, List, map, None, Ok, Option, refl, Some, take, true, ℕ, ◌++◌, ◌∷◌}
+use Rattle.std.proofs.Common.{arith}
+use Rattle.osi_accord.proofs.Vocabulary.{[], append-nil, false, length, List, map, None, Ok, Option, Some, take, true, ℕ, ◌++◌, ◌∷◌}
 use Rattle.osi_accord.proofs.Vocabulary.{◌≡◌, Meaning, said_of, allowed, Call, in_state, Standing, Outcome, respond, without_tokens, Ended}
 use Rattle.osi_accord.proofs.Vocabulary.{State, calls, closed_here, delivers, Ending, Entry, is_given, one_or_none, Line, Seat, step}
 use Rattle.osi_accord.proofs.Vocabulary.{Tables, accepts, class_0, gone, linked, Message, replied, Transport, unit, other, Direction, Left}
@@ -42,15 +43,13 @@ pub call_leaves : (d : Direction) (x y : Seat) (a b : Option Ending) (j : List E
     step (tables d x y a b j) (calls (side_at d) 1 c)
     ≡ tables d (called_seat x n m) y a b (step (tables d x y a b j) (calls (side_at d) 1 c)).journal
 unfolding react
-call_leaves Left x y a b j c n m given allows = rw (given, allows) refl
-call_leaves Right x y a b j c n m given allows = rw (given, allows) refl
+call_leaves d x y a b j c n m given allows = grind arith
 
 pub call_utters : (d : Direction) (x y : Seat) (a b : Option Ending) (j : List Entry) (c : Call) (n : State) (m : Meaning) →
     is_given x.transport ≡ true → allowed x.session.state c ≡ Ok (record { next = n; sent = m }) →
     uttered_at (tables d x y a b j) (calls (side_at d) 1 c) ≡ utters d m ∷ []
 unfolding react
-call_utters Left x y a b j c n m given allows = rw (given, allows) refl
-call_utters Right x y a b j c n m given allows = rw (given, allows) refl
+call_utters d x y a b j c n m given allows = grind arith
 
 -- ---- a delivery
 
@@ -71,8 +70,7 @@ pub delivery_leaves : (d : Direction) (s : Standing) (channel : List Message) (y
     ≡ tables d (seat linked (in_state s o.next) (channel ++ replied o.reply)) (seat y.transport y.session rest) None b
     (step (coming d s channel y u rest b j) (taking_at d channel)).journal
 unfolding react
-delivery_leaves Left s channel y u rest b j o is stays = rw (is, stays) refl
-delivery_leaves Right s channel y u rest b j o is stays = rw (is, stays) refl
+delivery_leaves d s channel y u rest b j o is stays = grind arith
 
 -- the transport connection is closed
 pub close_leaves : (d : Direction) (s : Standing) (channel : List Message) (y : Seat) (u : Meaning) (rest : List Message)
@@ -82,12 +80,10 @@ pub close_leaves : (d : Direction) (s : Standing) (channel : List Message) (y : 
     (seat y.transport y.session rest) (Some closed_here) b
     (step (coming d s channel y u rest b j) (taking_at d channel)).journal
 unfolding react
-close_leaves Left s channel y u rest b j o is closes = rw (is, closes) refl
-close_leaves Right s channel y u rest b j o is closes = rw (is, closes) refl
+close_leaves d s channel y u rest b j o is closes = grind arith
 
 pub delivery_utters : (d : Direction) (s : Standing) (channel : List Message) (y : Seat) (u : Meaning) (rest : List Message)
     (b : Option Ending) (j : List Entry) (o : Outcome) → respond s.state (said_of u) ≡ o →
     uttered_at (coming d s channel y u rest b j) (taking_at d channel) ≡ map (utters d) (one_or_none o.reply)
 unfolding react
-delivery_utters Left s channel y u rest b j o is = rw is (append-nil (map (utters Left) (one_or_none o.reply)))
-delivery_utters Right s channel y u rest b j o is = rw is refl
+delivery_utters d s channel y u rest b j o is = grind (arith, append-nil)

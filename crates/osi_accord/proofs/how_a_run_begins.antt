@@ -1,9 +1,10 @@
 -- A run whose first TSDU is the CN of a caller goes on from where this CN is in flight.
 -- For the laws that a run of two sessions is one of the machine.
-use Rattle.osi_accord.proofs.Vocabulary.{[], ap, Bool, false, if◌then◌else◌, length, List, None, Option, option_map, refl, Some, subst, sym}
-use Rattle.osi_accord.proofs.Vocabulary.{true, unwrap_or, ℕ, ◌&&◌, ◌++◌, ◌∙◌, ◌∷◌, ◌≡◌, are_sizes, IsSendable, says, Word, written, begins}
-use Rattle.osi_accord.proofs.Vocabulary.{CanSay, fits_user_data, goes, Seen, seen_called, seen_calling, functional_units, has_points, State}
-use Rattle.osi_accord.proofs.Vocabulary.{Offer, offer_sent, offering, other, Direction, Left, Right, Accords, end_of, Sending, sending}
+use Rattle.std.proofs.Common.{arith}
+use Rattle.osi_accord.proofs.Vocabulary.{[], ap, Bool, if◌then◌else◌, length, List, None, Option, option_map, refl, Some, subst}
+use Rattle.osi_accord.proofs.Vocabulary.{unwrap_or, ℕ, ◌++◌, ◌∙◌, ◌∷◌, ◌≡◌, IsSendable, says, Word, written, begins}
+use Rattle.osi_accord.proofs.Vocabulary.{CanSay, goes, Seen, seen_called, seen_calling, State}
+use Rattle.osi_accord.proofs.Vocabulary.{Offer, offer_sent, offering, other, Direction, Left, Accords, end_of, Sending, sending}
 use Rattle.osi_accord.proofs.Vocabulary.{words_in, connect_of, channel_of, Pair, pair_of, party_of, session_of, with_channel, with_session}
 use Rattle.osi_session.specs.Joining.{acting_words}
 use Rattle.osi_session.specs.Standing.{said}
@@ -54,23 +55,18 @@ unfolding acting_words is_second
 connect_words k o send = rw (k.read (offer_sent o) send) refl
 
 first_number : (b : Bool) (serial : ℕ) → unwrap_or (if b then Some serial else None) 0 ≡ (if b then serial else 0)
-first_number true serial = refl
-first_number false serial = refl
+first_number b serial = grind arith
 
 if_connects : (b : Bool) (state : State) (next : Seen) → option_map (goes seen_calling) (if b then Some state else None) ≡ Some next →
     next ≡ goes seen_calling state
-if_connects true state next h = let e : Some (goes seen_calling state) ≡ Some next = h in cc
-if_connects false state next h = absurd (cc)
+if_connects b state next h = grind arith
 
 connect_leaves : (o : Offer) (octets : ℕ) (next : Seen) → CanSay seen_calling (says (offer_sent o)) octets next → next ≡ begins (offering o)
 unfolding said
-connect_leaves o octets next h =
-    if_connects (fits_user_data o.octets && are_sizes o.sizes) _ next h
-    ∙ ap (λ (n : ℕ). begins (record (offering o) { proposed = n })) (first_number (has_points (functional_units o.requirements)) o.serial)
+connect_leaves o octets next h = grind (arith, if_connects, first_number)
 
 nothing_comes : (d : Direction) (p : Pair) (tsdu : List ℕ) (rest : List (List ℕ)) → p ≡ beginning → channel_of (other d) p ≡ tsdu ∷ rest → ⊥
-nothing_comes Left p tsdu rest e there = let none : [] ≡ tsdu ∷ rest = sym (ap (channel_of Right) e) ∙ there in cc
-nothing_comes Right p tsdu rest e there = let none : [] ≡ tsdu ∷ rest = sym (ap (channel_of Left) e) ∙ there in cc
+nothing_comes h p tsdu rest e there = grind arith
 
 module _ (P : (sent : List Sending) (p : Pair) → Accords sent p → Type 0) (kept : IsKept P) where
   -- such a run, and its end
@@ -119,8 +115,7 @@ module _ (P : (sent : List Sending) (p : Pair) → Accords sent p → Type 0) (k
       begun (end_of run) o sent d p own b words later next start left (ap first_octets is) none (ap after_first is)
       (connect_leaves o (length own) next (subst (λ (x : Word). CanSay seen_calling x (length own) next) word there))
       (run, kept.says d later p own b w words next can run free, refl)
-  connected_from k o send before sent (accord.sends d later p own b run) free is start =
-      let none : [] ≡ Some (says (offer_sent o)) ∷ [] = ap first_words is ∙ connect_words k o send in absurd (cc)
+  connected_from k o send before sent (accord.sends d later p own b run) free is start = search (arith, connect_words)
 
   pub connected : AsMessages → (o : Offer) → IsSendable (offer_sent o) → (before : ℕ) (sent : List Sending)
       (run : Accords (connect_of o before ∷ sent) (pair_of seen_calling seen_called)) → P _ _ run → Free (end_of run) sent (asking o)

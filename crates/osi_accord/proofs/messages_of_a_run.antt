@@ -1,10 +1,11 @@
 -- What is known of the messages of two sides: how they are read, their words, and which of them are still to be sent.
 -- For the laws that a run of two sessions is one of the machine.
-use Rattle.osi_accord.proofs.Vocabulary.{[], ap, Bool, false, if◌then◌else◌, inl, inr, length, List, map, None, not, Ok, Option, option_map}
-use Rattle.osi_accord.proofs.Vocabulary.{refl, Some, subst, sym, true, ℕ, ◌&&◌, ◌++◌, ◌∙◌, ◌∷◌, ◌≡◌, ◌⊎◌, AllByRecursion, list_any, GT}
+use Rattle.std.proofs.Common.{arith}
+use Rattle.osi_accord.proofs.Vocabulary.{[], ap, Bool, false, if◌then◌else◌, length, List, map, None, Ok, Option, option_map}
+use Rattle.osi_accord.proofs.Vocabulary.{refl, Some, sym, true, ℕ, ◌++◌, ◌∙◌, ◌∷◌, ◌≡◌, ◌⊎◌, AllByRecursion, GT}
 use Rattle.osi_accord.proofs.Vocabulary.{Meaning, Said, said_at, IsSendable, said_of, words_of, no_token, says, Word, is_second, written}
-use Rattle.osi_accord.proofs.Vocabulary.{drops_parts, is_restart_word, respond_came, respond_tsdu, has_no_effect, respond, respond_unit}
-use Rattle.osi_accord.proofs.Vocabulary.{CanSay, Count, counted, is_in_size, said_within, Seen, Takes, State, Direction, Left, Right}
+use Rattle.osi_accord.proofs.Vocabulary.{drops_parts, respond_came, respond_tsdu, has_no_effect, respond, respond_unit}
+use Rattle.osi_accord.proofs.Vocabulary.{CanSay, Count, counted, said_within, Seen, Takes, State, Direction}
 use Rattle.osi_accord.proofs.Vocabulary.{Sending, sending, words_in, AreWritten, Utterance, Pair, session_of, with_session}
 use Rattle.osi_session.specs.Standing.{said}
 use Rattle.osi_session.specs.Joining.{acting_words, heard}
@@ -19,8 +20,7 @@ pub record AsMessages : Type 0 where
 -- ---- what is taken
 
 none_kept : (b : Bool) → option_map (length {A = ℕ}) (if b then None else None) ≡ None
-none_kept true = refl
-none_kept false = refl
+none_kept b = grind arith
 
 -- a session that has joined nothing, and takes a message
 pub record IsTaken (s : Seen) (u : Meaning) (c : Count) : Type 0 where
@@ -55,13 +55,11 @@ pub record BeginsWith (m : Meaning) (words : List (Option Word)) : Type 0 where
   pub rests : IsRest rest
 
 either_acts : (b : Bool) (m : Meaning) → BeginsWith m (map Some (if b then says m ∷ [] else says m ∷ says (GT no_token) ∷ []))
-either_acts true m = record { rest = []; is = refl; rests = inl refl }
-either_acts false m = record { rest = Some (says (GT no_token)) ∷ []; is = refl; rests = inr refl }
+either_acts b m = grind arith
 
 acts_first : (b : Bool) (m : Meaning) → BeginsWith m (map Some (acting_words (map says (if b then GT no_token ∷ m ∷ [] else m ∷ []))))
 unfolding acting_words
-acts_first true m = either_acts (list_any is_restart_word (says m ∷ [])) m
-acts_first false m = record { rest = []; is = refl; rests = inl refl }
+acts_first b m = grind (arith, either_acts)
 
 pub message_first : AsMessages → (m : Meaning) → IsSendable m → BeginsWith m (words_in (written m))
 message_first k m send = rw (k.read m send) (acts_first (is_second m) m)
@@ -75,13 +73,11 @@ unfolding is_empty
 within_rests s next h = let e : Some s ≡ Some next = h in cc
 
 if_seen : (b : Bool) (o : Option Seen) (n : Seen) → (if b then o else None) ≡ Some n → o ≡ Some n
-if_seen true o n h = h
-if_seen false o n h = absurd (cc)
+if_seen b o n h = grind arith
 
 pub says_nothing : (s next : Seen) (octets : ℕ) → CanSay s (says (GT no_token)) octets next → next ≡ s
 unfolding said
-says_nothing s next octets h =
-    within_rests s next (if_seen (not s.closed && is_in_size s.state octets) (said_within s (says (GT no_token))) next h)
+says_nothing s next octets h = search (arith, within_rests, if_seen)
 
 pub all_and_one : (ms : List Meaning) (m : Meaning) → AllByRecursion IsSendable ms → IsSendable m → AllByRecursion IsSendable (ms ++ m ∷ [])
 all_and_one [] m a i = (i, tt)
@@ -92,8 +88,7 @@ written_more [] m = refl
 written_more (x ∷ ms) m = ap (λ (y : List (List ℕ)). written x ∷ y) (written_more ms m)
 
 pub kept_none : (b : Bool) (n : Option ℕ) → n ≡ None → (if b then None else n) ≡ None
-kept_none true n e = refl
-kept_none false n e = e
+kept_none b n e = grind arith
 
 -- what is in flight to a side that takes this TSDU
 pub record Comes (sent : List Meaning) (tsdu : List ℕ) (rest : List (List ℕ)) : Type 0 where
@@ -125,8 +120,7 @@ abbrev pub IsDue : List Sending → List Utterance → Direction → List Meanin
 IsDue sent messages d ahead = IsFresh sent messages ahead ⊎ IsBegun sent messages d ahead
 
 pub same_pair : (d : Direction) (p : Pair) → with_session d (session_of d p) p ≡ p
-same_pair Left p = refl
-same_pair Right p = refl
+same_pair d p = grind arith
 
 -- the first words of a TSDU
 pub record FirstWord (m : Meaning) (w : Word) (words : List (Option Word)) : Type 0 where
@@ -135,16 +129,11 @@ pub record FirstWord (m : Meaning) (w : Word) (words : List (Option Word)) : Typ
 
 pub first_word : AsMessages → (m : Meaning) (w : Word) (words : List (Option Word)) → IsSendable m → Some w ∷ words ≡ words_in (written m) →
     FirstWord m w words
-first_word k m w words send is =
-    let first = message_first k m send in
-    let all : Some w ∷ words ≡ Some (says m) ∷ first.rest = is ∙ first.is in
-    let rest : first.rest ≡ words = cc in
-    record { word = cc; rests = subst IsRest rest first.rests }
+first_word k m w words send is = grind (arith, message_first k m send)
 
 pub effect_of : (m : Meaning) → has_no_effect m ≡ false → m ≡ GT no_token → ⊥
 unfolding is_empty
 effect_of m e is = let f : true ≡ false = ap has_no_effect (sym is) ∙ e in cc
 
 pub not_both : (b : Bool) → b ≡ true → b ≡ false → ⊥
-not_both true e f = cc
-not_both false e f = cc
+not_both b e f = grind arith

@@ -187,8 +187,7 @@ capture_explained capture passages run =
 -- a side that is explained is explained up to each of its TSDUs
 front_explained : (begin : Seen) (us : List (List ℕ)) (said : List Told) (n : ℕ) → IsExplained begin us said →
     IsExplained begin us (take n said)
-front_explained begin us said n e =
-    front_told us (take n said) (drop n said) begin (subst (λ (x : List Told). IsExplained begin us x) (sym (take-append-drop n said)) e)
+front_explained begin us said n e = grind (arith, front_told, take-append-drop n said)
 
 abbrev OneReading : Type 0
 OneReading = (d : Direction) (capture : Capture) (some others : List Sent) → IsSent d capture some → IsSent d capture others → some ≡ others

@@ -1,9 +1,10 @@
 -- Whatever happens to a session of class 0, what it sends is put at once, and the connection stays open unless the session closes it.
 -- For the turns of an end.
-use Rattle.osi_honest.proofs.Vocabulary.{[], ap, Bool, false, inl, inr, is_some, IsSome, List, None, Option, refl, Some, subst, sym, true}
-use Rattle.osi_honest.proofs.Vocabulary.{ℕ, ◌∙◌, ◌≡◌, Class, Zero, put_here, closed_on, closed_with, closes, sent_all, put, Rows, value_at}
+use Rattle.std.proofs.Common.{arith}
+use Rattle.osi_honest.proofs.Vocabulary.{[], ap, Bool, false, inl, inr, IsSome, List, Option, refl, Some, subst, sym, true}
+use Rattle.osi_honest.proofs.Vocabulary.{ℕ, ◌∙◌, ◌≡◌, Zero, put_here, closed_with, closes, sent_all, put, Rows, value_at}
 use Rattle.osi_honest.proofs.Vocabulary.{State as Carrier, tsdus_sent, input_begun, after_input, Input, Listener, session_react as react}
-use Rattle.osi_honest.proofs.Vocabulary.{is_wait_transport, handed, AreShort, kept_at, by_line, carrier_by, limit_for, line_by, to_session}
+use Rattle.osi_honest.proofs.Vocabulary.{is_wait_transport, handed, AreShort, kept_at, limit_for, line_by, to_session}
 use Rattle.osi_honest.proofs.Vocabulary.{End, Line, session_in, answers_by, hands, sends, IsOpenZero, IsWritten, Moves, Puts, Talks}
 use Rattle.osi_stack.specs.Moving.{answers}
 use Rattle.osi_honest.proofs.class_0.what_class_0_writes_of_a_tsdu.{all_written, none_written, open_is, written_open}
@@ -17,8 +18,7 @@ pub record HasLine (r : ℕ) (session : Listener) (lines : Rows Line) : Type 0 w
 
 line_in : (r : ℕ) (session : Listener) (lines : Rows Line) (o : Option Line) → value_at r lines ≡ o → session_in o ≡ Some session →
     HasLine r session lines
-line_in r session lines None e h = absurd (cc)
-line_in r session lines (Some line) e h = record { line = line; here = e; is = h }
+line_in r session lines o e h = grind arith
 
 pub line_there : (r : ℕ) (session : Listener) (lines : Rows Line) → kept_at r lines ≡ Some session → HasLine r session lines
 line_there r session lines h = line_in r session lines (value_at r lines) refl h
@@ -29,9 +29,7 @@ pub moved_by : (r : ℕ) (session : Listener) (input : Input) (e : End) (h : Has
       lines = put r
           (line_by h.line (Some session) input) e.lines;
     }
-moved_by r session input e h =
-    ap (λ o. by_line r o input e) h.here
-    ∙ ap (λ (o : Option Listener). record { carrier = carrier_by r o input e.carrier; lines = put r (line_by h.line o input) e.lines }) h.is
+moved_by r session input e h = grind arith
 
 pub kept_then : (r : ℕ) (session : Listener) (input : Input) (lines : Rows Line) (h : HasLine r session lines) →
     kept_at r (put r (line_by h.line (Some session) input) lines) ≡ Some (after_input session input)
@@ -47,23 +45,14 @@ pub record IsProper (session : Listener) (input : Input) : Type 0 where
 
 pub still_begun : (session : Listener) (input : Input) → is_wait_transport session.state.phase ≡ false →
     is_wait_transport (after_input session input).state.phase ≡ false
-still_begun session input w = by (is_wait_transport (after_input session input).state.phase) refl
-  where
-    by : (b : Bool) → is_wait_transport (after_input session input).state.phase ≡ b →
-        is_wait_transport (after_input session input).state.phase ≡ false
-    by false e = e
-    by true e = let k = input_begun session input e in absurd (cc)
+still_begun session input w = grind (arith, input_begun)
 
 written_puts : (tsdus : List (List ℕ)) (old new : Carrier) → AreShort tsdus → IsWritten tsdus old new → Puts tsdus old new
-written_puts tsdus old new short w =
-    record { parts = w.parts; carry = w.carry; short = short; outgoing = ap (λ (c : Carrier). c.outgoing) w.is }
+written_puts tsdus old new short w = grind arith
 
 pub closed_ends : (r peer limit : ℕ) (begun : List ℕ) (c : Carrier) → IsOpenZero r peer limit begun c → c.class ≡ Some Zero →
     IsSome (closed_with r 128 c).ended × ((closed_with r 128 c).outgoing ≡ c.outgoing)
-closed_ends r peer limit begun c h zero =
-    let is : closed_with r 128 c ≡ closes r peer 128 (Some Zero) c =
-    ap (λ o. closed_on r 128 o c) (open_is r peer limit begun c h) ∙ ap (λ (x : Option Class). closes r peer 128 x c) zero in
-    (ap (λ (x : Carrier). is_some x.ended) is, ap (λ (x : Carrier). x.outgoing) is)
+closed_ends r peer limit begun c h zero = grind (arith, open_is)
 
 -- an open connection of this session, which does not wait for it after the input
 record CanMove (r : ℕ) (session : Listener) (begun : List ℕ) (input : Input) (e : End) : Type 0 where

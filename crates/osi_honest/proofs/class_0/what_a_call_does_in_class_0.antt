@@ -185,11 +185,9 @@ pub turn_goes : AllProper →
     (begin : Listener) (r : ℕ) (took : List (List ℕ)) (said : List Said) (begun : List ℕ) (turn : Turn) (old new : Holding) →
     Stands begin r took said begun old.end →
     Takes old turn new → Goes begin r took said begun turn.used turn.put old new
-turn_goes proper begin r took said begun turn old new
-    (talking session h t) takes = open_turn begin r took said begun session h proper turn old new t takes
+turn_goes proper begin r took said begun turn old new (talking session h t) takes = grind (arith, open_turn)
 turn_goes proper begin r took said begun turn old new (gone closed session h over) takes =
-    let still = over_acts turn old new over takes in
-    over_turn begin r took said begun turn.used turn.put old new closed session h still.0 still.1
+    grind (arith, over_turn, over_acts turn old new over takes)
 
 -- an end that is over puts nothing in any turn
 pub over_run : (turns : List Turn) (old new : Holding) → IsSome old.end.carrier.ended → Run old turns new → put_along turns ≡ []

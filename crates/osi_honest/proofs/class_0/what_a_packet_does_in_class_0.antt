@@ -1,18 +1,19 @@
 -- A packet at an open connection of class 0: a part of a TSDU, the last part, which the session takes, or the end is over.
 -- For the turns of an end.
-use Rattle.osi_honest.proofs.Vocabulary.{[], ap, Bool, Err, false, if◌then◌else◌, inl, inr, is_some, IsSome, IsTrue, length, List, map}
+use Rattle.std.proofs.Common.{arith}
+use Rattle.osi_honest.proofs.Vocabulary.{[], ap, Bool, Err, false, if◌then◌else◌, inl, inr, is_some, IsSome, length, List, map}
 use Rattle.osi_honest.proofs.Vocabulary.{nat_lt, None, Ok, Option, refl, Result, Some, subst, sym, true, ℕ, ◌++◌, ◌+◌, ◌∙◌, ◌∷◌, ◌≡◌}
 use Rattle.osi_honest.proofs.Vocabulary.{append-nil, IsOctets, units_found, AreUnits, units_of, data0, disconnect, may_be_followed, request}
-use Rattle.osi_honest.proofs.Vocabulary.{Value, TpduFault, Drained, drained, joining, with_part, longest_tsdu, unit_of, with_joined}
-use Rattle.osi_honest.proofs.Vocabulary.{zero_standing, Class, Zero, react_quiet, reacts_over, closed_on, link_of, open_link, sent_on}
-use Rattle.osi_honest.proofs.Vocabulary.{Happening, tsdu, in_class, in_zero, leaves, reacts, taking, to_linked, to_only, put, Rows}
+use Rattle.osi_honest.proofs.Vocabulary.{Value, TpduFault, drained, joining, with_part, longest_tsdu, unit_of, with_joined}
+use Rattle.osi_honest.proofs.Vocabulary.{zero_standing, Class, Zero, react_quiet, reacts_over, link_of, open_link}
+use Rattle.osi_honest.proofs.Vocabulary.{Happening, tsdu, in_class, in_zero, reacts, taking, to_linked, to_only, put, Rows}
 use Rattle.osi_honest.proofs.Vocabulary.{value_at, Connection, linked, packets, State as Carrier, after_input, came, Listener, all_quiet}
 use Rattle.osi_honest.proofs.Vocabulary.{concluded_carrier, packet_is, one_heard, Carries, events_heard, session_carried, concludes_lasting}
 use Rattle.osi_honest.proofs.Vocabulary.{after_packet, attends, concludes, hears_all, with_carrier, to_session, End, IsOpenZero, one_open}
 use Rattle.osi_honest.proofs.Vocabulary.{resting, IsPart, Moves, Packet, Talks, last, part}
 use Rattle.osi_class.specs.declared.faults.LinkFault.TheVariants.{TsduTooLong, WrongForm}
 use Rattle.osi_carrier.specs.Packets as carriers
-use Rattle.osi_carrier.specs.React.{breaks, react}
+use Rattle.osi_carrier.specs.React.{react}
 use Rattle.osi_honest.specs.Talking.Packet.{over}
 use Rattle.osi_honest.proofs.class_0.a_session_of_class_0_puts_what_it_sends.{IsProper, session_moves}
 use Rattle.osi_honest.proofs.class_0.what_class_0_writes_of_a_tsdu.{nothing_left, put_one}
@@ -26,10 +27,7 @@ pub no_link : (r : ℕ) (c : Carrier) → is_some c.ended ≡ true → open_link
 no_link r c gone = ap (λ (b : Bool). if b then None else link_of (value_at r c.live)) gone
 
 pub over_carries : (octets : List ℕ) → Carries (Over octets)
-over_carries octets = record {
-  sends = λ r tsdu c p. subst (Over octets) (sym (ap (λ o. sent_on r tsdu o c) (no_link r c p.0))) p;
-  closes = λ r c p. subst (Over octets) (sym (ap (λ o. closed_on r 128 o c) (no_link r c p.0))) p;
-}
+over_carries octets = grind (arith, no_link)
 
 pub attends_over : (octets : List ℕ) (e : End) → Over octets e.carrier → Over octets (attends e).carrier
 attends_over octets e p =
@@ -58,50 +56,23 @@ module _ (r peer limit : ℕ) (begun : List ℕ) (c : Carrier) (h : IsOpenZero r
         events = c.events ++ told;
       }
       ≡ record c { live = one_open r peer limit begun; events = told }
-  settled begun told =
-      ap (λ (d : Drained). record c {
-        live = put r (linked peer d.link) c.live;
-        outgoing = c.outgoing ++ packets
-            (map (unit_of peer) d.units);
-        events = c.events ++ told;
-      }) (nothing_left limit begun)
-      ∙ (λ i. record c {
-        live = (ap (put r (linked peer (zero_standing (resting limit begun)))) h.live
-            ∙ put_one r (linked peer (zero_standing (resting limit begun))) _) i;
-        outgoing = append-nil c.outgoing i;
-        events = ap (λ (l : List Happening). l ++ told) quiet i;
-      })
+  settled begun told = grind (arith, nothing_left, put_one, append-nil)
 
   joined_by : (end : Bool) (octets : List ℕ) (b : Bool) → nat_lt longest_tsdu (length begun + length octets) ≡ b →
       AfterUnit r peer limit begun (data0 end octets) c
       (taking r peer (with_joined (resting limit begun) None
       (if b then Err TsduTooLong else Ok (with_part (joining begun []) end octets))) c)
-  joined_by end octets true e = is_over (
-    ap (λ (x : Option Class). is_some (breaks r peer TsduTooLong x c).ended) zero,
-    ap (λ (x : Option Class). (breaks r peer TsduTooLong x c).outgoing) zero,
-  )
+  joined_by end octets true e = grind arith
   joined_by false octets false e = adds_part octets refl e (settled (begun ++ octets) []
       ∙ (λ i. record c { live = one_open r peer limit (begun ++ octets); events = sym quiet i }))
   joined_by true octets false e = ends_tsdu octets refl e (settled [] (tsdu r (begun ++ octets) ∷ []))
 
   wrong_form : (v : Value) → AfterUnit r peer limit begun v c (taking r peer (Err WrongForm) c)
-  wrong_form v = is_over (
-    ap (λ (x : Option Class). is_some (breaks r peer WrongForm x c).ended) zero,
-    ap
-        (λ (x : Option Class). (breaks r peer WrongForm x c).outgoing) zero,
-  )
+  wrong_form v = grind arith
 
   in_link : (v : Value) → AfterUnit r peer limit begun v c (to_linked r peer (zero_standing (resting limit begun)) v c)
-  in_link (data0 end octets) =
-      subst (λ (x : Bool). AfterUnit r peer limit begun (data0 end octets) c
-      (taking r peer (with_joined (resting limit begun) None
-      (if x then Err TsduTooLong else Ok (with_part (joining begun []) end octets))) c))
-      refl (joined_by end octets (nat_lt longest_tsdu (length begun + length octets)) refl)
-  in_link (disconnect destination source reason user) = is_over (
-    ap (λ (x : Option Class). is_some (leaves r peer reason x c).ended) zero,
-    ap
-        (λ (x : Option Class). (leaves r peer reason x c).outgoing) zero,
-  )
+  in_link (data0 end octets) = search (arith, joined_by)
+  in_link (disconnect destination source reason user) = grind arith
   in_link v = wrong_form v
 
   in_only : (v : Value) → AfterUnit r peer limit begun v c (to_only c.live v c)
@@ -120,8 +91,7 @@ module _ (r peer limit : ℕ) (begun : List ℕ) (c : Carrier) (h : IsOpenZero r
 
 -- nothing follows a DT
 pub alone : (v : Value) (vs : List Value) (u : List ℕ) → may_be_followed v ≡ false → AreUnits (v ∷ vs) u → vs ≡ []
-alone v [] u last_of us = refl
-alone v (w ∷ vs) u last_of us = absurd (let may : IsTrue (may_be_followed v) = us.0 in cc)
+alone v vs u last_of us = grind arith
 
 pub data AfterPacket (r peer limit : ℕ) (begun u : List ℕ) (old new : Carrier) : Type 0 where
   adds_part : (octets : List ℕ) → IsPart u false octets begun → new ≡ record old { live = one_open r peer limit (begun ++ octets) } →
@@ -156,8 +126,7 @@ pub acted : (r peer limit : ℕ) (begun u : List ℕ) (c : Carrier) → IsOpenZe
     IsOctets u →
     AfterPacket r peer limit begun u c (carriers.after_packet c u)
 unfolding carriers.after_packet
-acted r peer limit begun u c h zero quiet octets = by_units r peer limit begun u c (units_of u) refl octets
-    (unit_acts r peer limit begun c h zero quiet)
+acted r peer limit begun u c h zero quiet octets = search (arith, by_units, unit_acts)
 
 -- ---- what the session hears of it
 
@@ -223,6 +192,4 @@ module _ (r : ℕ) (session : Listener) (begun u : List ℕ) (e : End) (t : Talk
   heard_by proper c (is_over p) = let q = attends_over e.carrier.outgoing (with_carrier c e) p in over q.0 q.1
 
   pub packet_acts : AllProper → IsOctets u → Packet r session begun u e (after_packet e u)
-  packet_acts proper octets =
-      subst (Packet r session begun u e) (sym (packet_is e u))
-      (heard_by proper (carriers.after_packet e.carrier u) (acted r t.peer t.limit begun u e.carrier t.is_open t.class t.told octets))
+  packet_acts proper octets = search (arith, packet_is, heard_by, acted)

@@ -1,38 +1,29 @@
 -- What a session answers a TSDU by is one short TSDU, and it answers nothing where it closes its connection.
 -- For the turns of an end.
-use Rattle.osi_honest.proofs.Vocabulary.{[], ap, false, List, None, Option, refl, Some, subst, sym, true, ℕ, ◌∙◌, ◌≡◌, sent_alone, AA, AB}
-use Rattle.osi_honest.proofs.Vocabulary.{DT, Meaning, RF, is_parted, tsdus_sent, said_at, came, Listener, session_react as react, taker_of}
+use Rattle.std.proofs.Common.{arith}
+use Rattle.osi_honest.proofs.Vocabulary.{[], ap, false, List, None, Option, true, ℕ, ◌≡◌, sent_alone}
+use Rattle.osi_honest.proofs.Vocabulary.{Meaning, is_parted, tsdus_sent, came, Listener, session_react as react}
 use Rattle.osi_honest.proofs.Vocabulary.{limit_of, sent_short, SpduLaws, AreShort, limit_for, came_moves, came_itself, SaysItself}
 unfoldable use Rattle.osi_message.specs.Written.{unit_of}
-use Rattle.osi_session.specs.Listening.{Move}
 use Rattle.osi_session.specs.Standing.{answers}
 use Rattle.osi_honest.proofs.class_0.what_a_packet_does_in_class_0.{AllProper}
 
 pub answer_alone : (m : Meaning) (limit : ℕ) → answers m m ≡ true → is_parted limit m ≡ false
-answer_alone (DT octets) limit e = absurd (cc)
-answer_alone _ limit e = refl
+answer_alone m limit e = grind arith
 
 -- an answer has no user information
 answer_plain : (m : Meaning) → answers m m ≡ true → (unit_of m).information ≡ []
 unfolding unit_of
-answer_plain (RF reason octets) e = refl
-answer_plain (AB bits octets) e = refl
-answer_plain AA e = refl
-answer_plain _ e = absurd (cc)
+answer_plain m e = grind arith
 
 one_for_all : (some other : ℕ) (reply : Option Meaning) → SaysItself reply → tsdus_sent some reply ≡ tsdus_sent other reply
-one_for_all some other None h = refl
-one_for_all some other (Some m) h = sent_alone some m (answer_alone m some h.itself)
-    ∙ sym (sent_alone other m (answer_alone m other h.itself))
+one_for_all some other reply h = grind (arith, sent_alone, answer_alone)
 
 answer_short : SpduLaws → (limit : ℕ) (reply : Option Meaning) → SaysItself reply → AreShort (tsdus_sent limit reply)
-answer_short law limit None h = tt
-answer_short law limit (Some m) h = subst AreShort (sym (sent_alone limit m (answer_alone m limit h.itself)))
-    (sent_short law m h.sendable (answer_plain m h.itself), tt)
+answer_short law limit reply h = grind (arith, sent_alone, answer_alone, sent_short, answer_plain)
 
 replies_itself : (session : Listener) (octets : List ℕ) → SaysItself (react session (came octets)).reply
-replies_itself session octets = subst SaysItself (sym (ap (λ (m : Move). m.reply) (came_moves session octets)))
-    (came_itself (taker_of session) (said_at octets))
+replies_itself session octets = grind (arith, came_moves, came_itself)
 
 abbrev pub ClosesSilently : Type 0
 ClosesSilently = (session : Listener) (octets : List ℕ) → (react session (came octets)).closes ≡ true →

@@ -1,9 +1,10 @@
 -- If memory runs out for a packet at an open connection of class 0, nothing was put for it.
 -- For the turns of an end.
-use Rattle.osi_honest.proofs.Vocabulary.{[], ap, Bool, false, if◌then◌else◌, inl, inr, is_some, List, None, refl, subst, suc, sym, true}
-use Rattle.osi_honest.proofs.Vocabulary.{zero, ℕ, ◌++◌, ◌∙◌, ◌∷◌, ◌≡◌, IsOctets, units_found, AreUnits, may_be_followed, Value, reacts_over}
+use Rattle.std.proofs.Common.{arith}
+use Rattle.osi_honest.proofs.Vocabulary.{[], ap, Bool, false, if◌then◌else◌, inl, inr, is_some, List, None, refl, subst, sym, true}
+use Rattle.osi_honest.proofs.Vocabulary.{ℕ, ◌++◌, ◌∙◌, ◌∷◌, ◌≡◌, IsOctets, units_found, AreUnits, may_be_followed, Value, reacts_over}
 use Rattle.osi_honest.proofs.Vocabulary.{acts_cases, Happening, tsdu, reacts, State as Carrier, NoMemory, Listener, never_starved}
-use Rattle.osi_honest.proofs.Vocabulary.{times_quiet, rest_is, events_heard, session_carried, hears_next, hears_times, RunsOut, Starves}
+use Rattle.osi_honest.proofs.Vocabulary.{times_quiet, rest_is, events_heard, session_carried, hears_times, RunsOut, Starves}
 use Rattle.osi_honest.proofs.Vocabulary.{starves, with_carrier, with_events, End, Talks}
 use Rattle.osi_carrier.specs.Packets as carriers
 use Rattle.osi_carrier.specs.React.{react}
@@ -40,17 +41,12 @@ module _ (r peer limit : ℕ) (begun u : List ℕ) (c : Carrier) (each : (v : Va
           let none = ap is_some lasts in cc)
 
   starved_over : (d : Carrier) → IsOctets u → carriers.Starves c u d → Over c.outgoing d
-  starved_over d octets (units, is, out) =
-      let us : AreUnits units u = units_found u units octets is in
-      let same = none_before out.done out.next out.more (subst (λ (l : List Value). AreUnits l u) out.all us) out.lasts in
-      let new : d ≡ ends NoMemory c = out.ended ∙ ap (ends NoMemory) same in
-      (ap (λ (x : Carrier). is_some x.ended) new, ap (λ (x : Carrier). x.outgoing) new)
+  starved_over d octets (units, is, out) = grind (arith, none_before, units_found u units octets is)
 
 -- ---- the events that were handled
 
 ended_same : (b : Bool) (c : Carrier) → (if b then c else ends NoMemory c).outgoing ≡ c.outgoing
-ended_same true c = refl
-ended_same false c = refl
+ended_same b c = grind arith
 
 pub starves_same : (events : List Happening) (e : End) → (starves (with_events events e)).carrier.outgoing ≡ e.carrier.outgoing
 starves_same events e = ended_same (is_some e.carrier.ended) (with_events events e).carrier
@@ -59,15 +55,7 @@ starves_same events e = ended_same (is_some e.carrier.ended) (with_events events
 pub one_out : (heard : ℕ) (event : Happening) (e : End) (first : Happening) (more : List Happening) → e.carrier.events ≡ event ∷ [] →
     (hears_times heard e).carrier.events ≡ first ∷ more →
     (hears_times heard e).carrier.outgoing ≡ e.carrier.outgoing
-one_out zero event e first more is waits = refl
-one_out (suc n) event e first more is waits =
-    let none : (hears_next e).carrier.events ≡ [] = rest_is event [] e is in
-    let gone : (hears_times (suc n) e).carrier.events ≡ [] = ap (λ (x : End). x.carrier.events) (times_quiet n (hears_next e) none)
-    ∙ none in
-    absurd (never_queued first more (sym waits ∙ gone))
-  where
-    never_queued : (event : Happening) (events : List Happening) → event ∷ events ≡ [] → ⊥
-    never_queued event events h = cc
+one_out heard event e first more is waits = search (arith, rest_is, times_quiet)
 
 heard_over : (octets : List ℕ) (n : ℕ) (e : End) → Over octets e.carrier → Over octets (hears_times n e).carrier
 heard_over octets n e p =
@@ -77,8 +65,7 @@ heard_over octets n e p =
     }) n e p
 
 pub out_over : (octets : List ℕ) (e new : End) → Over octets e.carrier → RunsOut e new → new.carrier.outgoing ≡ octets
-out_over octets e new p out =
-    ap (λ (x : End). x.carrier.outgoing) out.starved ∙ starves_same out.more (hears_times out.heard e) ∙ (heard_over octets out.heard e p).1
+out_over octets e new p out = grind (arith, starves_same, heard_over)
 
 pub starved_still : (r : ℕ) (session : Listener) (begun u : List ℕ) (e new : End) (t : Talks r session begun e) → IsOctets u →
     Starves e u new → new.carrier.outgoing ≡ e.carrier.outgoing

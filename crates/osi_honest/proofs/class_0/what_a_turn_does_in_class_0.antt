@@ -156,19 +156,14 @@ module _ (begin : Listener) (r : ℕ) (took : List (List ℕ)) (said : List Said
         (new.end ≡ ends NoMemory f.before) ⊎ ((packet : List ℕ) × ArePackets (packet ∷ []) f.rest [] × Starves f.before packet new.end) →
         new.end.carrier.outgoing ≡ f.before.carrier.outgoing
     no_memory piece used old new f x (inl is) = ap (λ (e : End). e.carrier.outgoing) is
-    no_memory piece used old new f x (inr s) =
-        starved_by x.more x.told x.later s.0 f.before new.end (lasting_of f.before.carrier.ended (waits f.before.lines) f.quiet) x.stands
-        (unit_octets s.0 s.1.0 s.1.2) s.2
+    no_memory piece used old new f x (inr s) = search (arith, starved_by, lasting_of, unit_octets)
 
     goes_turn : (piece put : List ℕ) (used : ℕ) (old new : Holding) → Talks r session begun old.end → GoesThrough old piece used new →
         new.end.carrier.outgoing ≡ old.end.carrier.outgoing ++ put →
         Goes begin r took said begun (take used piece) put old new
     goes_turn piece put used old new t (inl (inl dry)) outgoing = dry_turn piece put used old new t dry outgoing
     goes_turn piece put used old new t (inl (inr stop)) outgoing = stopped_turn piece put used old new t stop outgoing
-    goes_turn piece put used old new t (inr (inl f)) outgoing =
-        ended_turn f.units piece put f.cut.0 used old new f.before t f.all f.cut.1 f.taken
-        (ap (λ (e : End). is_some e.carrier.ended) f.ended)
-        (λ x. ap (λ (e : End). e.carrier.outgoing) f.ended) outgoing
+    goes_turn piece put used old new t (inr (inl f)) outgoing = grind (arith, ended_turn)
     goes_turn piece put used old new t (inr (inr f)) outgoing =
         ended_turn f.units piece put (f.rest ++ drop f.within piece) used old new f.before t f.all
         (more_used f.units old.held.octets piece f.rest f.within f.packets) f.taken
@@ -237,15 +232,7 @@ module _ (begin : Listener) (r : ℕ) (took : List (List ℕ)) (said : List Said
         goes_turn proper session h piece put fed.used old new t (f.goes (quiet_stops old.end (ap is_some t.is_open.lasts) e)) outgoing
 
     told_still : (e : End) → Talks r session begun e → Talks r session begun (record e { lines = without_first e.lines })
-    told_still e t = record {
-      peer = t.peer;
-      limit = t.limit;
-      is_open = t.is_open;
-      class = t.class;
-      told = t.told;
-      here = kept_first r e.lines ∙ t.here;
-      begun_long_ago = t.begun_long_ago;
-    }
+    told_still e t = grind (arith, kept_first)
 
     carried_still : (octets : List ℕ) (e : End) → Talks r session begun (put_back octets e) → Talks r session begun e
     carried_still octets e t = grind arith

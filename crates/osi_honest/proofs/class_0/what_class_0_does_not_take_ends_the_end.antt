@@ -1,16 +1,16 @@
 -- A packet that is no fitting DT ends an end whose connection is open in class 0, and nothing is put for it, whether memory is short or
 -- not. For what such an end does with the packets before a break of the other side.
-use Rattle.osi_honest.proofs.Vocabulary.{[], ap, Bool, Err, false, if◌then◌else◌, inl, inr, is_some, length, List, nat_lt, None, Ok, Option}
-use Rattle.osi_honest.proofs.Vocabulary.{refl, Result, Some, subst, sym, true, ℕ, ◌++◌, ◌+◌, ◌∙◌, ◌∷◌, ◌≡◌, units_of}
-use Rattle.osi_honest.proofs.Vocabulary.{data0, disconnect, request, Value, TpduFault, with_part, longest_tsdu, Standing}
-use Rattle.osi_honest.proofs.Vocabulary.{taken, taken_by, with_joined, Class, Zero, react_quiet, reacts_over, acts_cases, in_class, in_zero}
-use Rattle.osi_honest.proofs.Vocabulary.{reacts, to_linked, to_only, Rows, Connection, linked, State as Carrier, NoMemory, packet_is}
-use Rattle.osi_honest.proofs.Vocabulary.{starved_over, after_packet, hears_times, with_carrier, with_events, End, Starves}
+use Rattle.std.proofs.Common.{arith}
+use Rattle.osi_honest.proofs.Vocabulary.{[], ap, Bool, Err, inl, inr, is_some, length, List, nat_lt, None, Ok, Option, refl, Result, Some}
+use Rattle.osi_honest.proofs.Vocabulary.{subst, sym, true, ℕ, ◌++◌, ◌+◌, ◌∙◌, ◌∷◌, ◌≡◌, units_of, data0, Value, TpduFault, longest_tsdu}
+use Rattle.osi_honest.proofs.Vocabulary.{Standing, taken, taken_by, Zero, react_quiet, reacts_over, acts_cases, in_zero, reacts, to_linked}
+use Rattle.osi_honest.proofs.Vocabulary.{to_only, Rows, Connection, linked, State as Carrier, packet_is, starved_over, after_packet}
+use Rattle.osi_honest.proofs.Vocabulary.{hears_times, with_carrier, with_events, End, Starves}
 use Rattle.osi_class.specs.Flow.{Flow}
 use Rattle.osi_class.specs.declared.faults.LinkFault.{LinkFault}
 use Rattle.osi_class.specs.declared.faults.LinkFault.TheVariants.{TsduTooLong, WrongForm}
 use Rattle.osi_carrier.specs.Packets as carriers
-use Rattle.osi_carrier.specs.React.{breaks, leaves, react, taking}
+use Rattle.osi_carrier.specs.React.{breaks, react, taking}
 use Rattle.osi_carrier.specs.State.{ends}
 use Rattle.osi_honest.proofs.class_0.what_a_packet_does_in_class_0.{Over, attends_over}
 use Rattle.osi_honest.proofs.class_0.what_a_shortage_of_memory_leaves.{out_over}
@@ -42,51 +42,34 @@ pub record IsZeroAt (r peer : ℕ) (link : Standing) (c : Carrier) : Type 0 wher
 
 module _ (r peer : ℕ) (link : Standing) (c : Carrier) (z : IsZeroAt r peer link c) where
   breaks_over : (fault : LinkFault) → Over c.outgoing (breaks r peer fault c.class c)
-  breaks_over fault = (
-    ap (λ (x : Option Class). is_some (breaks r peer fault x c).ended) z.class,
-    ap (λ (x : Option Class). (breaks r peer fault x c).outgoing) z.class,
-  )
+  breaks_over fault = grind arith
 
   refused : (fault : LinkFault) (t : Result Standing LinkFault) → t ≡ Err fault → Over c.outgoing (taking r peer t c)
   refused fault t is = subst (λ (x : Result Standing LinkFault). Over c.outgoing (taking r peer x c)) (sym is) (breaks_over fault)
 
   too_long : (end : Bool) (user : List ℕ) → IsHard link.ends.joining.begun (data0 end user) →
       taken link (data0 end user) ≡ Err TsduTooLong
-  too_long end user long =
-      ap (λ (f : Option Flow). taken_by link.ends f (data0 end user)) z.flow
-      ∙ ap (λ (b : Bool). with_joined link.ends None (if b then Err TsduTooLong else Ok (with_part link.ends.joining end user))) long
+  too_long end user long = grind arith
 
   wrong : (v : Value) → taken_by link.ends None v ≡ Err WrongForm → taken link v ≡ Err WrongForm
   wrong v is = ap (λ (f : Option Flow). taken_by link.ends f v) z.flow ∙ is
 
   in_link : (v : Value) → IsHard link.ends.joining.begun v → Over c.outgoing (to_linked r peer link v c)
-  in_link (data0 end user) long = refused TsduTooLong (taken link (data0 end user)) (too_long end user long)
-  in_link (disconnect destination source reason user) long = (
-    ap (λ (x : Option Class). is_some (leaves r peer reason x c).ended) z.class,
-    ap (λ (x : Option Class). (leaves r peer reason x c).outgoing) z.class,
-  )
-  in_link v long = refused WrongForm (taken link v) (wrong v refl)
+  in_link v long = grind (arith, refused, too_long, wrong)
 
   in_only : (v : Value) → IsHard link.ends.joining.begun v → Over c.outgoing (to_only c.live v c)
   in_only v long = subst (λ (rows : Rows Connection). Over c.outgoing (to_only rows v c)) (sym z.live) (in_link v long)
 
   by_side : (b : Bool) (v : Value) → IsHard link.ends.joining.begun v → Over c.outgoing (in_zero b v c)
-  by_side true (request x) long = (refl, refl)
-  by_side true v long = in_only v long
-  by_side false v long = in_only v long
+  by_side b v long = grind (arith, in_only)
 
   unit_over : (v : Value) → IsHard link.ends.joining.begun v → Over c.outgoing (react v c)
-  unit_over v long =
-      subst (Over c.outgoing) (sym (react_quiet v c z.lasts ∙ ap (λ (x : Option Class). in_class x v c) z.class))
-      (by_side c.is_caller v long)
+  unit_over v long = grind (arith, react_quiet, by_side)
 
   -- ---- a packet
 
   by_units : (units : Result (List Value) TpduFault) → AreHard link.ends.joining.begun units → Over c.outgoing (carriers.acts_by units c)
-  by_units (Err fault) hard = (refl, refl)
-  by_units (Ok []) hard = absurd hard
-  by_units (Ok (v ∷ vs)) hard =
-      let p = unit_over v hard in subst (Over c.outgoing) (sym (reacts_over vs (react v c) p.0)) p
+  by_units h hard = grind (arith, unit_over, reacts_over)
 
   acts_over : (u : List ℕ) → IsHardPacket link.ends.joining.begun u → Over c.outgoing (carriers.after_packet c u)
   unfolding carriers.after_packet
@@ -96,18 +79,10 @@ module _ (r peer : ℕ) (link : Standing) (c : Carrier) (z : IsZeroAt r peer lin
   none_before : (done : List Value) (next : Value) (more : List Value) → AreHard link.ends.joining.begun (Ok (done ++ (next ∷ more))) →
       (reacts done c).ended ≡ None → reacts done c ≡ c
   none_before [] next more hard lasts = refl
-  none_before (v ∷ done) next more hard lasts = absurd
-      (let p = unit_over v hard in
-      let over : is_some (reacts done (react v c)).ended ≡ true = ap (λ (x : Carrier). is_some x.ended) (reacts_over done (react v c) p.0)
-      ∙ p.0 in
-      let none = ap is_some lasts in cc)
+  none_before (v ∷ done) next more hard lasts = grind (arith, unit_over, reacts_over)
 
   starved_so : (u : List ℕ) (d : Carrier) → IsHardPacket link.ends.joining.begun u → carriers.Starves c u d → Over c.outgoing d
-  starved_so u d hard (units, is, out) =
-      let first : AreHard link.ends.joining.begun (Ok (out.done ++ (out.next ∷ out.more))) =
-      subst (AreHard link.ends.joining.begun) (is ∙ ap (λ (l : List Value). Ok l) out.all) hard in
-      let new : d ≡ ends NoMemory c = out.ended ∙ ap (ends NoMemory) (none_before out.done out.next out.more first out.lasts) in
-      (ap (λ (x : Carrier). is_some x.ended) new, ap (λ (x : Carrier). x.outgoing) new)
+  starved_so u d hard (units, is, out) = grind (arith, none_before)
 
 -- ---- an end
 

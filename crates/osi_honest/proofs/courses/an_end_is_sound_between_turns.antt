@@ -1,10 +1,10 @@
 -- Between two turns an end is sound and holds no more than a part of a packet; and where its packets lead, a turn leads that uses no more.
 -- For what an end does with the packets before a break of the other side.
-use Rattle.osi_honest.proofs.Vocabulary.{[], ap, Bool, false, inl, inr, is_some, List, None, Option, refl, Some, subst, sym, true, ℕ, ◌++◌}
-use Rattle.osi_honest.proofs.Vocabulary.{◌∷◌, ◌≡◌, ArePackets, packets, Local, EndReason, lasting_of, or_second, quiet_stops}
-use Rattle.osi_honest.proofs.Vocabulary.{Goes as GoesThrough}
+use Rattle.std.proofs.Common.{arith}
+use Rattle.osi_honest.proofs.Vocabulary.{[], ap, Bool, false, is_some, List, None, Option, refl, Some, subst, sym, true, ℕ, ◌++◌, ◌∷◌, ◌≡◌}
+use Rattle.osi_honest.proofs.Vocabulary.{ArePackets, packets, Local, EndReason, lasting_of, or_second, quiet_stops, Goes as GoesThrough}
 use Rattle.osi_honest.proofs.Vocabulary.{TakesPackets, Calls, Call, carrying, feeding, telling, End, Holding, waits, Deeds, all_units}
-use Rattle.osi_honest.proofs.Vocabulary.{IsFresh, Act, Acts, Takes, Turn, serving, using}
+use Rattle.osi_honest.proofs.Vocabulary.{IsFresh, Act, Acts, Takes, Turn}
 use Rattle.osi_tpkt.proofs.a_prefix_of_a_packet.{empty_partial}
 use Rattle.osi_tpkt.specs.Packet.{IsPartial}
 use Rattle.osi_stack.specs.Feeding.{stops}
@@ -21,10 +21,7 @@ part_empty : (octets : List ℕ) → octets ≡ [] → IsPartial octets
 part_empty octets none = subst IsPartial (sym none) empty_partial
 
 part_fed : (piece : List ℕ) (used : ℕ) (old new : Holding) → GoesThrough old piece used new → IsPartial new.held.octets
-part_fed piece used old new (inl (inl dry)) = dry.partial
-part_fed piece used old new (inl (inr s)) = part_empty new.held.octets s.held
-part_fed piece used old new (inr (inl f)) = part_empty new.held.octets f.held
-part_fed piece used old new (inr (inr f)) = part_empty new.held.octets f.held
+part_fed piece used old new h = grind (arith, part_empty)
 
 part_as : (old new : Holding) → new ≡ old → IsPartial old.held.octets → IsPartial new.held.octets
 part_as old new same part = subst (λ (h : Holding). IsPartial h.held.octets) (sym same) part
@@ -40,8 +37,7 @@ part_call (telling shown) old new c part = subst (λ (h : Holding). IsPartial h.
 part_call (carrying octets) old new c part = subst (λ (h : Holding). IsPartial h.held.octets) c part
 
 part_act : (act : Act) (old new : Holding) → Acts old act new → IsPartial old.held.octets → IsPartial new.held.octets
-part_act (serving call) old new acts part = part_call call old new acts part
-part_act (using call) old new acts part = subst (λ (h : Holding). IsPartial h.held.octets) (sym acts.3) part
+part_act act old new acts part = search (arith, part_call)
 
 -- ---- between two turns
 
@@ -50,16 +46,10 @@ pub record IsSane (h : Holding) : Type 0 where
   pub part : IsPartial h.held.octets
 
 pub turn_sane : (turn : Turn) (old new : Holding) → Takes old turn new → IsSane old → IsSane new
-turn_sane turn old new t s = record {
-  between = act_between t.act old new s.between t.acts;
-  part = part_act t.act old new t.acts s.part;
-}
+turn_sane turn old new t s = grind (arith, act_between, part_act)
 
 pub fresh_sane : (is_caller : Bool) (local : Local) (h : Holding) → IsFresh is_caller local h → IsSane h
-fresh_sane is_caller local h fresh = record {
-  between = subst Between (sym fresh.end) (fresh_between is_caller local);
-  part = part_empty h.held.octets fresh.held;
-}
+fresh_sane is_caller local h fresh = grind (arith, fresh_between, part_empty)
 
 -- ---- where packets lead
 

@@ -1,13 +1,12 @@
 -- A turn of an end that uses a packet with which the end is over: it puts what the packets before it say, and nothing more. So another turn
 -- that uses only packets before that one puts the same. For what an end does with the packets before a break of the other side.
 use Rattle.osi_honest.proofs.Vocabulary.{[], ap, append_assoc, arith, Bool, drop, false, if◌then◌else◌, inl, inr, is_some, IsSome, length}
-use Rattle.osi_honest.proofs.Vocabulary.{List, None, Option, refl, Some, subst, sym, take, true, ℕ, ◌++◌, ◌+◌, ◌-◌, ◌∙◌, ◌∷◌}
-use Rattle.osi_honest.proofs.Vocabulary.{◌≡◌, ◌⊎◌, append-nil, length-append, take_all, take-append-drop, end_no_packet, one_packet}
-use Rattle.osi_honest.proofs.Vocabulary.{ArePackets, Ending, EndsAt, offset_of, Faulty, Rest, Fed, EndReason, NoMemory}
-use Rattle.osi_honest.proofs.Vocabulary.{quiet_stops, none_ended, found_how, Feeds, FindsNoMemory, Goes as GoesThrough, Refuses, RunsDry}
-use Rattle.osi_honest.proofs.Vocabulary.{StopsBehind, TakesPackets, uses_all, uses_within, ends, after_packet, Starves}
-use Rattle.osi_honest.proofs.Vocabulary.{carrying, feeding, telling, End, Holding, waits, lasting_of, Act, Acts, carried_by, Takes, Turn}
-use Rattle.osi_honest.proofs.Vocabulary.{used_by, serving, using}
+use Rattle.osi_honest.proofs.Vocabulary.{List, None, Option, refl, Some, subst, sym, take, true, ℕ, ◌++◌, ◌+◌, ◌-◌, ◌∙◌, ◌∷◌, ◌≡◌, ◌⊎◌}
+use Rattle.osi_honest.proofs.Vocabulary.{append-nil, length-append, take_all, take-append-drop, end_no_packet, one_packet, ArePackets}
+use Rattle.osi_honest.proofs.Vocabulary.{Ending, EndsAt, offset_of, Faulty, Rest, Fed, EndReason, NoMemory, quiet_stops, none_ended}
+use Rattle.osi_honest.proofs.Vocabulary.{found_how, Feeds, FindsNoMemory, Goes as GoesThrough, Refuses, RunsDry, StopsBehind, TakesPackets}
+use Rattle.osi_honest.proofs.Vocabulary.{uses_all, uses_within, ends, after_packet, Starves, carrying, feeding, telling, End, Holding}
+use Rattle.osi_honest.proofs.Vocabulary.{waits, lasting_of, Act, Acts, carried_by, Takes, Turn, used_by, serving, using}
 use Rattle.osi_tpkt.proofs.a_prefix_of_a_packet.{empty_partial}
 use Rattle.osi_tpkt.specs.Held.{Held}
 use Rattle.osi_tpkt.specs.Packet.{IsPartial}

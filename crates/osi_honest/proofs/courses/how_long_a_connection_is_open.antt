@@ -1,10 +1,11 @@
 -- The units that arrive and those that are put, one step after the other, for one connection: it is not open yet, then its link takes
 -- those that are for it and gives units for the peer, and then it takes and gives no more.
 -- For the course of a connection.
+use Rattle.std.proofs.Common.{arith}
 use Rattle.osi_honest.proofs.Vocabulary.{[], ap, append_assoc, Bool, false, if◌then◌else◌, inl, inr, is_some, IsSome, List, None, Option}
 use Rattle.osi_honest.proofs.Vocabulary.{refl, Some, subst, sym, true, ℕ, ◌++◌, ◌<◌, ◌==◌, ◌∙◌, ◌∷◌, ◌≡◌, ◌⊎◌, append-nil, Standing}
 use Rattle.osi_honest.proofs.Vocabulary.{AllByRecursion, disconnect, Value}
-use Rattle.osi_honest.proofs.Vocabulary.{link_of, open_link, value_at, asked, closing, Connection, linked, State as Carrier, EndReason}
+use Rattle.osi_honest.proofs.Vocabulary.{link_of, open_link, value_at, asked, closing, Connection, linked, State as Carrier}
 use Rattle.osi_honest.proofs.Vocabulary.{has_given, Answers, AreApart, GivesTo, is_for, Lives, Opens, TakesAll, is_shut, Marked}
 use Rattle.osi_honest.specs.Arriving.Begins.{is_open, opens}
 use Rattle.osi_honest.proofs.courses.units_of_each_connection.{all_of_both, none_mark}
@@ -36,9 +37,7 @@ stage_at r c = stage_by (is_some c.ended) (has_given r c) (value_at r c.live)
 
 pub stage_is : (r : ℕ) (c : Carrier) (o : Option Connection) (given : Bool) → c.ended ≡ None → has_given r c ≡ given →
     value_at r c.live ≡ o → stage_at r c ≡ stage_there given o
-stage_is r c o given lasts has here =
-    ap (λ (x : Option EndReason). stage_by (is_some x) (has_given r c) (value_at r c.live)) lasts
-    ∙ ap (λ (b : Bool). stage_there b (value_at r c.live)) has ∙ ap (stage_there given) here
+stage_is r c o given lasts has here = grind arith
 
 pub stage_over : (r : ℕ) (c : Carrier) → IsSome c.ended → stage_at r c ≡ past
 stage_over r c ended = ap (λ (b : Bool). stage_by b (has_given r c) (value_at r c.live)) ended
@@ -103,8 +102,7 @@ module _ (is_caller : Bool) (r : ℕ) where
 
   apart_gives : (peer : ℕ) (units : List Marked) → AreApart r units → GivesTo r peer units
   apart_gives peer [] all = tt
-  apart_gives peer (m ∷ units) all =
-      ((λ own. let differ : true ≡ false = sym own ∙ all.0 in absurd (cc)), apart_gives peer units all.1)
+  apart_gives peer (m ∷ units) all = grind (arith, apart_gives peer units all.1)
 
   -- ---- one step
 
@@ -113,20 +111,7 @@ module _ (is_caller : Bool) (r : ℕ) where
       ((peer : ℕ) → s ≡ amid peer → TakesAll r took × HasNoDr r took) → L s took put s
   life_as early took put a b all = stays a b (inl refl)
   life_as past took put a b all = record { none_took = a; none_put = b; is = refl }
-  life_as (amid peer) took put a b all = record {
-    during = took;
-    after = [];
-    put_during = put;
-    put_after = [];
-    took_is = sym (append-nil took);
-    put_is = sym (append-nil put);
-    takes = (all peer refl).0;
-    no_dr = (all peer refl).1;
-    gives = apart_gives peer put b;
-    none_after = tt;
-    none_put = tt;
-    ends = inl (refl, refl, refl);
-  }
+  life_as (amid peer) took put a b all = grind (arith, append-nil took, append-nil put, apart_gives peer put b)
 
   -- it is past then
   pub life_to_past : (s : Stage) (took put : List Marked) → AreApart r took → AreApart r put → L s took put past
@@ -149,26 +134,12 @@ module _ (is_caller : Bool) (r : ℕ) where
 
   -- no unit arrives
   pub life_rests : (s t : Stage) (put : List Marked) → AreApart r put → Rests s t → L s [] put t
-  life_rests s t put none (inl is) = subst (L s [] put) (sym is) (life_as s [] put tt none (λ peer now. (tt, tt)))
-  life_rests s t put none (inr is) = subst (L s [] put) (sym is) (life_to_past s [] put tt none)
+  life_rests s t put none h = grind (arith, life_as, life_to_past)
 
   -- its link takes and gives these
   pub life_open : (peer : ℕ) (took put : List Marked) → TakesAll r took → HasNoDr r took → GivesTo r peer put →
       L (amid peer) took put (amid peer)
-  life_open peer took put takes no_dr gives = record {
-    during = took;
-    after = [];
-    put_during = put;
-    put_after = [];
-    took_is = sym (append-nil took);
-    put_is = sym (append-nil put);
-    takes = takes;
-    no_dr = no_dr;
-    gives = gives;
-    none_after = tt;
-    none_put = tt;
-    ends = inl (refl, refl, refl);
-  }
+  life_open peer took put takes no_dr gives = grind (arith, append-nil took, append-nil put)
 
   -- it opens
   pub life_opens : (peer : ℕ) (unit : Value) (others answer : List Marked) → Opens is_caller r peer unit → AreApart r others →
@@ -181,21 +152,14 @@ module _ (is_caller : Bool) (r : ℕ) where
 
   module _ (xs ys more puts : List Marked) (u : Stage) where
     past_then : (t : Stage) → WhenPast r xs ys t → L t more puts u → WhenPast r (xs ++ more) (ys ++ puts) u
-    past_then t a h =
-        let b : WhenPast r more puts u = subst (λ (x : Stage). L x more puts u) a.is h in
-        record {
-          none_took = both_apart xs more a.none_took b.none_took;
-          none_put = both_apart ys puts a.none_put b.none_put;
-          is = b.is;
-        }
+    past_then t a h = grind (arith, both_apart)
 
     whole : (units during after : List Marked) → units ≡ during ++ after → after ≡ [] → units ≡ during
     whole units during after is none = is ∙ ap (λ (l : List Marked). during ++ l) none ∙ append-nil during
 
     joined : (units others during next after : List Marked) → units ≡ during → others ≡ next ++ after →
         units ++ others ≡ (during ++ next) ++ after
-    joined units others during next after is then_is =
-        ap (λ (l : List Marked). l ++ others) is ∙ ap (λ (l : List Marked). during ++ l) then_is ∙ sym (append_assoc during next after)
+    joined units others during next after is then_is = grind (arith, append_assoc)
 
     open_by : (peer : ℕ) (t : Stage) (a : WhileOpen r peer xs ys t) → L t more puts u →
         ((t ≡ amid peer) × (a.after ≡ []) × (a.put_after ≡ [])) ⊎ (t ≡ past) → WhileOpen r peer (xs ++ more) (ys ++ puts) u
@@ -250,9 +214,7 @@ module _ (is_caller : Bool) (r : ℕ) where
       BeforeOpen is_caller r (xs ++ more) (ys ++ puts) u
   early_then xs ys more puts t u (stays a b (inl is)) h =
       early_more xs ys more puts u a b (subst (λ (x : Stage). L x more puts u) is h)
-  early_then xs ys more puts t u (stays a b (inr is)) h =
-      let past_so : WhenPast r more puts u = subst (λ (x : Stage). L x more puts u) is h in
-      stays (both_apart xs more a past_so.none_took) (both_apart ys puts b past_so.none_put) (inr past_so.is)
+  early_then xs ys more puts t u (stays a b (inr is)) h = grind (arith, both_apart)
   early_then xs ys more puts t u (opens_by peer unit o some later none is others answer put_later apart none_answer ans put_is w) h =
       opens_by peer unit o some (later ++ more) none
       (ap (λ (l : List Marked). l ++ more) is ∙ append_assoc some ((0, unit) ∷ later) more) others answer (put_later ++ puts) apart
@@ -269,9 +231,7 @@ module _ (is_caller : Bool) (r : ℕ) where
 
   pub life_then_rests : (s : Stage) (xs ys : List Marked) (t u : Stage) → L s xs ys t → Rests t u → L s xs ys u
   life_then_rests s xs ys t u a k =
-      subst (λ (l : List Marked). L s l ys u) (append-nil xs)
-      (subst (λ (l : List Marked). L s (xs ++ []) l u) (append-nil ys)
-      (life_then s xs ys t [] [] u a (life_rests t u [] tt k)))
+      grind (arith, append-nil xs, append-nil ys, life_then s xs ys t [] [] u a (life_rests t u [] tt k), life_rests t u [] tt k)
 
 -- ---- a connection is open just then
 
@@ -280,11 +240,7 @@ IsOpenAt (amid peer) o = (link : Standing) × (o ≡ Some (peer, link))
 IsOpenAt _ o = o ≡ None
 
 open_by_stage : (over given : Bool) (o : Option Connection) → IsOpenAt (stage_by over given o) (if over then None else link_of o)
-open_by_stage true given o = refl
-open_by_stage false true None = refl
-open_by_stage false false None = refl
-open_by_stage false given (Some (linked peer link)) = (link, refl)
-open_by_stage false given _ = refl
+open_by_stage over given o = grind arith
 
 open_at : (r : ℕ) (c : Carrier) → IsOpenAt (stage_at r c) (open_link r c)
 open_at r c = open_by_stage (is_some c.ended) (has_given r c) (value_at r c.live)
@@ -295,8 +251,7 @@ module _ (is_caller : Bool) (r : ℕ) (some : 0 < r) (old new : Carrier) (took p
   Answer = Lives is_caller r old took put new
 
   shut_new : t ≡ early ⊎ t ≡ past → open_link r new ≡ None
-  shut_new (inl is) = subst (λ (x : Stage). IsOpenAt x (open_link r new)) is now
-  shut_new (inr is) = subst (λ (x : Stage). IsOpenAt x (open_link r new)) is now
+  shut_new h = grind arith
 
   never_open : {A : Type 0} (at : ℕ) (link : Standing) → open_link r new ≡ None → open_link r new ≡ Some (at, link) → A
   never_open at link none is = absurd (let both : ◌≡◌ {A = Option (ℕ × Standing)} None (Some (at, link)) = sym none ∙ is in cc)
@@ -316,17 +271,7 @@ module _ (is_caller : Bool) (r : ℕ) (some : 0 < r) (old new : Carrier) (took p
   lasts_by : (peer : ℕ) (later put_later : List Marked) (w : WhileOpen r peer later put_later t) (at : ℕ) (link : Standing) →
       open_link r new ≡ Some (at, link) →
       ((t ≡ amid peer) × (w.after ≡ []) × (w.put_after ≡ [])) ⊎ (t ≡ past) → (at ≡ peer) × (w.after ≡ []) × (w.put_after ≡ [])
-  lasts_by peer later put_later w at link is (inr gone) = never_open at link (shut_new (inr gone)) is
-  lasts_by peer later put_later w at link is (inl (there, none, none_put)) =
-      let still : (held : Standing) × (open_link r new ≡ Some (peer, held)) =
-      subst (λ (x : Stage). IsOpenAt x (open_link r new)) there now in
-      (same_peer at peer link still.0 (sym is ∙ still.1), none, none_put)
-    where
-      same_peer : (at peer : ℕ) (link held : Standing) →
-          ◌≡◌ {A = Option (ℕ × Standing)} (Some (at, link)) (Some (peer, held)) → at ≡ peer
-      same_peer at peer link held both =
-          let pair : ◌≡◌ {A = ℕ × Standing} (at, link) (peer, held) = cc in
-          ap (λ (x : ℕ × Standing). x.0) pair
+  lasts_by peer later put_later w at link is h = grind (arith, never_open, shut_new)
 
   opened_by : open_link r old ≡ None → BeforeOpen is_caller r took put t → Answer
   opened_by shut (stays a b k) = never a b shut (shut_new k)
@@ -385,5 +330,4 @@ module _ (is_caller : Bool) (r : ℕ) (some : 0 < r) (old new : Carrier) (took p
 
 pub lives : (is_caller : Bool) (r : ℕ) → 0 < r → (old new : Carrier) (took put : List Marked) →
     Life is_caller r (stage_at r old) took put (stage_at r new) → Lives is_caller r old took put new
-lives is_caller r some old new took put h =
-    lives_by is_caller r some old new took put (stage_at r new) (open_at r new) (stage_at r old) (open_at r old) h
+lives is_caller r some old new took put h = grind (arith, lives_by, open_at r new, open_at r old)

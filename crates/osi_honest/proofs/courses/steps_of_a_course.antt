@@ -1,5 +1,6 @@
 -- Steps of all connections of an end, one after the other, each with the calls of their links and with what was put and taken.
 -- For the course of a connection.
+use Rattle.std.proofs.Common.{arith}
 use Rattle.osi_honest.proofs.Vocabulary.{[], ap, append_assoc, Bool, inl, IsSome, List, map, refl, subst, sym, ℕ, ◌++◌, ◌<◌, ◌∙◌, ◌≡◌}
 use Rattle.osi_honest.proofs.Vocabulary.{append-nil, Value, unit_of, Move, packets, State as Carrier, End, all_did, Deeds, no_deeds}
 use Rattle.osi_honest.proofs.Vocabulary.{has_given, then_did, units_given, units_taken, all_units, Marked, units_at}
@@ -43,8 +44,7 @@ done_by peer calls = record { calls = calls; put = map (unit_of peer) (units_giv
 -- the same with another end
 pub step_on : (r : ℕ) (put took : List Marked) (S T : Deeds → End → Type 0) (deeds : Deeds) (e new : End) → StepAt r put took S deeds e →
     ((after : Deeds) → S after e → T after new) → StepAt r put took T deeds new
-step_on r put took S T deeds e new a next =
-    record { more = a.more; there = next (then_did deeds a.more) a.there; own = a.own; taken = a.taken }
+step_on r put took S T deeds e new a next = grind arith
 
 -- ---- all connections
 
@@ -79,10 +79,7 @@ pub same_rest : (c : Carrier) → AllRest c c
 same_rest c = λ r. (inl refl, λ now has. has)
 
 pub over_rest : (old new : Carrier) → IsSome new.ended → AllRest old new
-over_rest old new ended = λ r. (
-  rests_over r (stage_at r old) new ended,
-  λ now has. absurd (let both : past ≡ early = sym (stage_over r new ended) ∙ now in cc),
-)
+over_rest old new ended = grind (arith, rests_over, stage_at, past, early, stage_over)
 
 -- no unit arrives
 abbrev pub Steps : Bool → States → (ℕ → Deeds) → Carrier → End → Type 0
@@ -151,8 +148,7 @@ pub step_after : (is_caller : Bool) (used : List Value) (S T : States) (deeds : 
     StepsBy is_caller used S deeds before mid → ((after : ℕ → Deeds) → HoldEach S after mid → Steps is_caller T after mid.carrier new) →
     StepsBy is_caller used T deeds before new
 step_after is_caller used S T deeds before mid new a next =
-    subst (λ (l : List Value). StepsBy is_caller l T deeds before new) (append-nil used)
-    (step_then is_caller used [] S T deeds before mid new a next)
+    grind (arith, append-nil used, step_then is_caller used [] S T deeds before mid new a next)
 
 -- the carrier has ended, and more units had arrived
 pub step_more : (is_caller : Bool) (used others : List Value) (T : States) (deeds : ℕ → Deeds) (before : Carrier) (e : End) →

@@ -1,16 +1,17 @@
 -- Which connections a carrier has: before a class is selected at most one, which was requested; in class 0 at most one, whose link is
 -- of class 0.
 -- For the units that arrive for a connection.
+use Rattle.std.proofs.Common.{arith}
 use Rattle.osi_honest.proofs.Vocabulary.{[], ap, Bool, Err, false, if◌then◌else◌, is_some, List, None, not, Ok, Option, refl, Result, Some}
-use Rattle.osi_honest.proofs.Vocabulary.{subst, sym, true, ℕ, ◌&&◌, ◌++◌, ◌+◌, ◌==◌, ◌||◌, ◌∙◌, ◌∷◌, ◌≡◌, eq-eqb, eqb-true, acknowledge}
+use Rattle.osi_honest.proofs.Vocabulary.{subst, sym, true, ℕ, ◌&&◌, ◌++◌, ◌+◌, ◌∙◌, ◌∷◌, ◌≡◌, eq-eqb, eqb-true, acknowledge}
 use Rattle.osi_honest.proofs.Vocabulary.{confirm, data0, data2, disconnect, disconnected, error, request, Value, Standing, taken, with_tsdu}
 use Rattle.osi_honest.proofs.Vocabulary.{accept, refuse, selected_by, Selection, LinkFault, Class, Two, Zero, orderly_same, orderly_unit}
 use Rattle.osi_honest.proofs.Vocabulary.{react_over, react_quiet, class_error, closed_on, closes, link_of, may_connect, open_link, or_else}
-use Rattle.osi_honest.proofs.Vocabulary.{room_error, sent_on, Happening, agreed_size, confirmed, opened_link, proposes_two}
-use Rattle.osi_honest.proofs.Vocabulary.{selects_expedited, IsOrderly, pumped, answers, before_class, denies, handed_out, has_peer}
+use Rattle.osi_honest.proofs.Vocabulary.{room_error, sent_on, Happening, agreed_size, confirmed, opened_link}
+use Rattle.osi_honest.proofs.Vocabulary.{IsOrderly, pumped, answers, before_class, denies, handed_out, has_peer}
 use Rattle.osi_honest.proofs.Vocabulary.{in_class, in_two, in_zero, is_full, leaves, opens_by as opens, settles, taking, to_asked}
 use Rattle.osi_honest.proofs.Vocabulary.{to_closing, to_connection, to_linked, to_only, to_unknown, put, Rows, value_at, without, asked}
-use Rattle.osi_honest.proofs.Vocabulary.{closing, Connection, linked, State as Carrier, EndReason, OpenError, Ended, NotCaller}
+use Rattle.osi_honest.proofs.Vocabulary.{Connection, linked, State as Carrier, EndReason, OpenError, Ended, NotCaller}
 use Rattle.osi_tpdu.specs.Value.{Connect}
 use Rattle.osi_carrier.specs.Calls.{asks as requests}
 use Rattle.osi_carrier.specs.React.{breaks, react}
@@ -30,11 +31,7 @@ pub data ByClass (c : Carrier) : Type 0 where
 -- ---- rows
 
 pub one_here : (q r : ℕ) (x : Connection) (y : Connection) → value_at q ((r, x) ∷ []) ≡ Some y → (r ≡ q) × (x ≡ y)
-one_here q r x y h = by (r == q) refl h
-  where
-    by : (b : Bool) → (r == q) ≡ b → (if b then Some x else None) ≡ Some y → (r ≡ q) × (x ≡ y)
-    by true e h = (eqb-true r q e, cc)
-    by false e h = absurd (cc)
+one_here q r x y h = grind (arith, eqb-true)
 
 put_one : (r : ℕ) (x y : Connection) → put r x ((r, y) ∷ []) ≡ (r, x) ∷ []
 put_one r x y = ap (λ (b : Bool). if b then (r, x) ∷ [] else (r, y) ∷ []) (eq-eqb r r refl)
@@ -43,68 +40,46 @@ put_one r x y = ap (λ (b : Bool). if b then (r, x) ∷ [] else (r, y) ∷ []) (
 
 never_zero : (a b d : Bool) → (if a then Some Two else (if b && (false && d) then Some Zero else None)) ≡ Some Zero →
     (if a then Some Two else (if b && (false && d) then Some Zero else None)) ≡ Some Two
-never_zero true b d h = refl
-never_zero false true d h = absurd (cc)
-never_zero false false d h = absurd (cc)
+never_zero a b d h = grind arith
 
 module _ (s : Carrier) (is : s.class ≡ Some Two) where
   two_accepts : (c : Connect) (selection : Selection) (held : Option Class) → held ≡ Some Two → ByClass (answers c selection held s)
-  two_accepts c (refuse reason) held e = two is
-  two_accepts c (accept Two size) held e = two refl
-  two_accepts c (accept Zero size) (Some class) e = two is
-  two_accepts c (accept Zero size) None e = absurd (cc)
+  two_accepts c selection held e = grind arith
 
   two_answers : (c : Connect) (in_use full : Bool) →
       ByClass (if in_use then denies 131 c.source s
       else (if full then denies 1 c.source s else answers c (selected_by c s.local) s.class s))
-  two_answers c true full = two is
-  two_answers c false true = two is
-  two_answers c false false = two_accepts c (selected_by c s.local) s.class is
+  two_answers c in_use full = search (arith, two_accepts)
 
   two_unknown : (v : Value) → ByClass (to_unknown v s)
-  two_unknown (disconnect destination source reason user) = two is
-  two_unknown _ = two is
+  two_unknown v = grind arith
 
   confirmed_two : (c : Connect) → confirmed c s.local s.class ≡ Some Zero → confirmed c s.local s.class ≡ Some Two
-  confirmed_two c h =
-      let same = ap (confirmed c s.local) is in
-      same ∙ never_zero ((c.class == 2) && (proposes_two s.local && not (selects_expedited c.parameters.additional))) (c.class == 0)
-      (s.local.class0 || not s.local.class2) (sym same ∙ h)
+  confirmed_two c h = grind (arith, never_zero)
 
   two_opens : (r : ℕ) (c : Connect) (class : Option Class) → (class ≡ Some Zero → class ≡ Some Two) → ByClass (opens r c class s)
-  two_opens r c None h = two is
-  two_opens r c (Some Two) h = two refl
-  two_opens r c (Some Zero) h = two (h refl)
+  two_opens r c class h = grind arith
 
   two_asked : (r : ℕ) (v : Value) → ByClass (to_asked r v s)
-  two_asked r (confirm destination c) = two_opens r c (confirmed c s.local s.class) (confirmed_two c)
-  two_asked r _ = two is
+  two_asked r v = grind (arith, two_opens, confirmed_two)
 
   two_breaks : (r peer : ℕ) (fault : LinkFault) (held : Option Class) → ByClass (breaks r peer fault held s)
-  two_breaks r peer fault (Some Two) = two is
-  two_breaks r peer fault _ = two is
+  two_breaks r peer fault held = grind arith
 
   two_taking : (r peer : ℕ) (result : Result Standing LinkFault) → ByClass (taking r peer result s)
-  two_taking r peer (Ok link) = two is
-  two_taking r peer (Err fault) = two_breaks r peer fault s.class
+  two_taking r peer result = grind (arith, two_breaks)
 
   two_leaves : (r peer reason : ℕ) (held : Option Class) → ByClass (leaves r peer reason held s)
-  two_leaves r peer reason (Some Two) = two is
-  two_leaves r peer reason _ = two is
+  two_leaves r peer reason held = grind arith
 
   two_linked : (r peer : ℕ) (link : Standing) (v : Value) → ByClass (to_linked r peer link v s)
-  two_linked r peer link (disconnect destination source reason user) = two_leaves r peer reason s.class
-  two_linked r peer link v = two_taking r peer (taken link v)
+  two_linked r peer link v = grind (arith, two_leaves, two_taking)
 
   two_closing : (r : ℕ) (v : Value) → ByClass (to_closing r v s)
-  two_closing r (disconnected destination source) = two is
-  two_closing r _ = two is
+  two_closing r v = grind arith
 
   two_connection : (r : ℕ) (o : Option Connection) (v : Value) → ByClass (to_connection r o v s)
-  two_connection r None v = two_unknown v
-  two_connection r (Some asked) v = two_asked r v
-  two_connection r (Some (linked peer link)) v = two_linked r peer link v
-  two_connection r (Some (closing peer)) v = two_closing r v
+  two_connection r o v = search (arith, two_unknown, two_asked, two_linked, two_closing)
 
   two_in : (b : Bool) (v : Value) → ByClass (in_two b v s)
   two_in false (request c) = two_answers c (has_peer c.source s.live) (is_full s)
@@ -127,12 +102,10 @@ module _ (s : Carrier) (is : s.class ≡ Some Two) where
 
 module _ (s : Carrier) (is : s.class ≡ Some Zero) where
   zero_breaks : (r peer : ℕ) (fault : LinkFault) (held : Option Class) → held ≡ Some Zero → ByClass (breaks r peer fault held s)
-  zero_breaks r peer fault (Some Zero) e = none refl
-  zero_breaks r peer fault _ e = absurd (cc)
+  zero_breaks r peer fault held e = grind arith
 
   zero_leaves : (r peer reason : ℕ) (held : Option Class) → held ≡ Some Zero → ByClass (leaves r peer reason held s)
-  zero_leaves r peer reason (Some Zero) e = none refl
-  zero_leaves r peer reason _ e = absurd (cc)
+  zero_leaves r peer reason held e = grind arith
 
   module _ (r peer : ℕ) (link : Standing) (flow : link.flow ≡ None) (live : s.live ≡ (r, linked peer link) ∷ []) where
     zero_put : (after : Standing) (t : Carrier) → after.flow ≡ None → t.class ≡ s.class →
@@ -196,8 +169,7 @@ module _ (s : Carrier) (is : s.class ≡ None) where
   -- one was requested
   module _ (r : ℕ) (caller : s.is_caller ≡ true) (live : s.live ≡ (r, asked) ∷ []) where
     dropped : (t : Carrier) → t.live ≡ without r s.live → ByClass t
-    dropped t then_live =
-        none (then_live ∙ ap (without r) live ∙ ap (λ (b : Bool). if b then [] else (r, asked) ∷ []) (eq-eqb r r refl))
+    dropped t then_live = grind (arith, eq-eqb)
 
     first_asked : (v : Value) → ByClass (to_asked r v s)
     first_asked (confirm destination c) = first_opens r c (confirmed c s.local s.class) live
@@ -223,8 +195,7 @@ module _ (s : Carrier) (is : s.class ≡ None) where
   -- there is none
   module _ (live : s.live ≡ []) where
     none_at : (d : ℕ) (v : Value) → ByClass (to_connection d (value_at d s.live) v s)
-    none_at d v =
-        subst (λ (rows : Rows Connection). ByClass (to_connection d (value_at d rows) v s)) (sym live) (first_unknown v (none live))
+    none_at d v = grind (arith, first_unknown)
 
     none_before : (b : Bool) (v : Value) → ByClass (before_class b v s)
     none_before true (confirm d c) = none_at d (confirm d c)
@@ -243,11 +214,9 @@ two_classes o x y a b differ = differ (sym a ∙ b)
 class_by : (v : Value) (s : Carrier) (o : Option Class) → s.class ≡ o → ByClass s → ByClass (in_class o v s)
 class_by v s (Some Two) is p = two_in s is s.is_caller v
 class_by v s (Some Zero) is (two e) = two_classes s.class (Some Zero) (Some Two) is e (λ differ. absurd (cc))
-class_by v s (Some Zero) is (none live) =
-    in_zero_by s is s.is_caller v (subst (λ (rows : Rows Connection). ByClass (to_only rows v s)) (sym live) (none live))
+class_by v s (Some Zero) is (none live) = grind (arith, in_zero_by)
 class_by v s (Some Zero) is (asks r class caller live) = two_classes s.class (Some Zero) None is class (λ differ. absurd (cc))
-class_by v s (Some Zero) is (zero r peer link class flow live) =
-    in_zero_by s is s.is_caller v (zero_only s is r peer link flow live v)
+class_by v s (Some Zero) is (zero r peer link class flow live) = search (arith, in_zero_by, zero_only)
 class_by v s None is (two e) = two_classes s.class None (Some Two) is e (λ differ. absurd (cc))
 class_by v s None is (none live) = none_before s is live s.is_caller v
 class_by v s None is (asks r class caller live) =
@@ -265,21 +234,14 @@ unit_class v s p = by s.ended refl
 
 pub linked_at : (over : Bool) (o : Option Connection) (peer : ℕ) (link : Standing) →
     (if over then None else link_of o) ≡ Some (peer, link) → o ≡ Some (linked peer link)
-linked_at true o peer link h = absurd (cc)
-linked_at false (Some (linked q t)) peer link h =
-    let pair : ◌≡◌ {A = ℕ × Standing} (q, t) (peer, link) = cc in
-    λ i. Some (linked (pair i).0 (pair i).1)
-linked_at false _ peer link h = absurd (cc)
+linked_at over o peer link h = grind arith
 
 module _ (q : ℕ) (s : Carrier) where
   sent_class : (tsdu : List ℕ) (o : Option (ℕ × Standing)) → open_link q s ≡ o → ByClass s → ByClass (sent_on q tsdu o s)
   sent_class tsdu None e p = p
   sent_class tsdu (Some (peer, link)) e (two is) = two is
   sent_class tsdu (Some (peer, link)) e (none live) = none (ap (put q (linked peer (pumped (with_tsdu link tsdu)))) live)
-  sent_class tsdu (Some (peer, link)) e (asks r class caller live) =
-      let here = linked_at (is_some s.ended) (value_at q s.live) peer link e in
-      let same = one_here q r asked (linked peer link) (ap (value_at q) (sym live) ∙ here) in
-      absurd (let k = same.1 in cc)
+  sent_class tsdu (Some (peer, link)) e (asks r class caller live) = grind (arith, linked_at, one_here)
   sent_class tsdu (Some (peer, link)) e (zero r first old class flow live) =
       let here = linked_at (is_some s.ended) (value_at q s.live) peer link e in
       let same = one_here q r (linked first old) (linked peer link) (ap (value_at q) (sym live) ∙ here) in
@@ -292,16 +254,7 @@ module _ (q : ℕ) (s : Carrier) where
 
   closes_class : (peer : ℕ) (link : Standing) (held : Option Class) → s.class ≡ held → open_link q s ≡ Some (peer, link) → ByClass s →
       ByClass (closes q peer 128 held s)
-  closes_class peer link (Some Zero) is e p = none refl
-  closes_class peer link (Some Two) is e p = two is
-  closes_class peer link None is e (two class) = two_classes s.class None (Some Two) is class (λ differ. absurd (cc))
-  closes_class peer link None is e (none live) = none (ap (put q (closing peer)) live)
-  closes_class peer link None is e (asks r class caller live) =
-      let here = linked_at (is_some s.ended) (value_at q s.live) peer link e in
-      let same = one_here q r asked (linked peer link) (ap (value_at q) (sym live) ∙ here) in
-      absurd (let k = same.1 in cc)
-  closes_class peer link None is e (zero r first old class flow live) =
-      two_classes s.class None (Some Zero) is class (λ differ. absurd (cc))
+  closes_class peer link held is e p = grind (arith, two_classes, linked_at, one_here)
 
   closed_class : (o : Option (ℕ × Standing)) → open_link q s ≡ o → ByClass s → ByClass (closed_on q 128 o s)
   closed_class None e p = p
@@ -335,24 +288,17 @@ class_kept = record {
 may_by : (caller over : Bool) (by_class room : Option OpenError) →
     (if not caller then Some NotCaller else (if over then Some Ended else or_else by_class room)) ≡ None →
     (caller ≡ true) × (by_class ≡ None)
-may_by false over by_class room h = absurd (cc)
-may_by true true by_class room h = absurd (cc)
-may_by true false None room h = (refl, refl)
-may_by true false (Some e) room h = absurd (cc)
+may_by caller over by_class room h = grind arith
 
 asked_by : (calling called : Option (List ℕ)) (s : Carrier) (o : Option Class) → s.class ≡ o → s.is_caller ≡ true →
     class_error s.class s.live ≡ None → ByClass s → ByClass (requests calling called s)
 asked_by calling called s (Some Two) is caller may p = two is
-asked_by calling called s (Some Zero) is caller may p =
-    absurd (let k : class_error (Some Zero) s.live ≡ None = ap (λ (x : Option Class). class_error x s.live) (sym is) ∙ may in cc)
+asked_by calling called s (Some Zero) is caller may p = grind arith
 asked_by calling called s None is caller may (two e) = two_classes s.class None (Some Two) is e (λ differ. absurd (cc))
 asked_by calling called s None is caller may (none live) =
     asks (s.given + 1) is caller (ap (λ (rows : Rows Connection). rows ++ (s.given + 1, asked) ∷ []) live)
-asked_by calling called s None is caller may (asks r class side live) =
-    absurd (let k : class_error None ((r, asked) ∷ []) ≡ None =
-    sym (ap (class_error None) live) ∙ ap (λ (x : Option Class). class_error x s.live) (sym is) ∙ may in cc)
-asked_by calling called s None is caller may (zero r peer link class flow live) =
-    two_classes s.class None (Some Zero) is class (λ differ. absurd (cc))
+asked_by calling called s None is caller may (asks r class side live) = grind arith
+asked_by calling called s None is caller may (zero r peer link class flow live) = grind (arith, two_classes)
 
 pub request_class : (calling called : Option (List ℕ)) (s : Carrier) → may_connect s ≡ None → ByClass s →
     ByClass (requests calling called s)
@@ -370,12 +316,7 @@ pub sound_unit : (v : Value) (c : Carrier) → IsSound c → IsSound (react v c)
 sound_unit v c h = record { orderly = orderly_unit v c h.orderly; by_class = unit_class v c h.by_class }
 
 pub zero_asks_none : (s : Carrier) (r : ℕ) → ByClass s → s.class ≡ Some Zero → value_at r s.live ≡ Some asked → ⊥
-zero_asks_none s r (two e) is was = two_classes s.class (Some Zero) (Some Two) is e (λ differ. absurd (cc))
-zero_asks_none s r (none live) is was = absurd (let both : None ≡ Some asked = sym (ap (value_at r) live) ∙ was in cc)
-zero_asks_none s r (asks q class caller live) is was = two_classes s.class (Some Zero) None is class (λ differ. absurd (cc))
-zero_asks_none s r (zero q peer link class flow live) is was =
-    let same = one_here r q (linked peer link) asked (ap (value_at r) (sym live) ∙ was) in
-    absurd (let k = same.1 in cc)
+zero_asks_none s r h is was = grind (arith, two_classes, one_here)
 
 -- octets were handed over
 pub sound_same : (c : Carrier) (outgoing : List ℕ) → IsSound c → IsSound (record c { outgoing = outgoing })

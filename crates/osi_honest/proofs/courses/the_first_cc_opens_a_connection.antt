@@ -3,8 +3,8 @@
 use Rattle.osi_honest.proofs.Vocabulary.{[], ap, append_assoc, arith, Bool, false, inl, inr, is_some, List, nat_le, nat_lt, None, Option}
 use Rattle.osi_honest.proofs.Vocabulary.{refl, Some, append-nil, nat_tests, subst, sym, true, ℕ, ◌&&◌, ◌++◌, ◌==◌, ◌∙◌, ◌∷◌, ◌≡◌, ◌≤◌}
 use Rattle.osi_honest.proofs.Vocabulary.{AllByRecursion, confirm, Value, Class, Two, Zero, react_quiet, put_here, confirmed, in_class}
-use Rattle.osi_honest.proofs.Vocabulary.{in_two, before_class, opens_by as opens, to_connection, value_at, asked, closing, Connection}
-use Rattle.osi_honest.proofs.Vocabulary.{EndReason, Happening, linked, State as Carrier, opens_line, hears, to_session, session_carried}
+use Rattle.osi_honest.proofs.Vocabulary.{in_two, before_class, opens_by as opens, to_connection, value_at, asked, Connection}
+use Rattle.osi_honest.proofs.Vocabulary.{EndReason, Happening, State as Carrier, opens_line, hears, to_session, session_carried}
 use Rattle.osi_honest.proofs.Vocabulary.{End, Line, Input, has_given, Answers, AreApart, Opens, Marked}
 use Rattle.osi_tpdu.specs.Value.{Connect}
 use Rattle.osi_carrier.specs.React.{react}
@@ -14,7 +14,7 @@ use Rattle.osi_stack.proofs.sound.the_invariant_is_kept.{closed_given, sent_give
 use Rattle.osi_honest.proofs.class_0.what_packets_do_in_class_0.{never_lasts}
 use Rattle.osi_honest.proofs.courses.the_connections_of_each_class.{IsSound, zero_asks_none}
 use Rattle.osi_honest.proofs.courses.units_of_each_connection.{all_of_both}
-use Rattle.osi_honest.proofs.courses.how_long_a_connection_is_open.{BeforeOpen, Life, Stage, WhenPast, WhileOpen, open_then, opens_by}
+use Rattle.osi_honest.proofs.courses.how_long_a_connection_is_open.{BeforeOpen, Life, Stage, WhileOpen, open_then, opens_by}
 use Rattle.osi_honest.proofs.courses.how_long_a_connection_is_open.{Rests, life_rests, stage_at, stage_by, stays}
 use Rattle.osi_honest.proofs.courses.how_long_a_connection_is_open.Stage.{early, past}
 
@@ -83,10 +83,8 @@ module _ (is_caller : Bool) (r : ℕ) where
 
   more_first : (xs ys more puts : List Marked) (given : Bool) (u : Stage) → AreApart r xs → AreApart r ys → HasNoCc r xs →
       Awaiting is_caller r more puts given u → Awaiting is_caller r (xs ++ more) (ys ++ puts) given u
-  more_first xs ys more puts given u a b n (awaits none none_put no_cc has is) =
-      awaits (both_apart xs more a none) (both_apart ys puts b none_put) (both_none xs more n no_cc) has is
-  more_first xs ys more puts given u a b n (goes none none_put is) =
-      goes (both_apart xs more a none) (both_apart ys puts b none_put) is
+  more_first xs ys more puts given u a b n (awaits none none_put no_cc has is) = grind (arith, both_apart, both_none)
+  more_first xs ys more puts given u a b n (goes none none_put is) = grind (arith, both_apart)
   more_first xs ys more puts given u a b n (opens_so peer unit o some later none no_cc is others answer put_later apart no_answer ans so
       w) =
       opens_so peer unit o (xs ++ some) later (both_apart xs some a none) (both_none xs some n no_cc)
@@ -98,11 +96,8 @@ module _ (is_caller : Bool) (r : ℕ) where
       Awaiting is_caller r xs ys given t → Life is_caller r t more puts u →
       (given ≡ true → t ≡ early → Awaiting is_caller r more puts then_given u) →
       Awaiting is_caller r (xs ++ more) (ys ++ puts) then_given u
-  awaiting_then xs ys given t more puts then_given u (awaits a b none has is) life next =
-      more_first xs ys more puts then_given u a b none (next has is)
-  awaiting_then xs ys given t more puts then_given u (goes a b is) life next =
-      let gone : WhenPast r more puts u = subst (λ (s : Stage). Life is_caller r s more puts u) is life in
-      goes (both_apart xs more a gone.none_took) (both_apart ys puts b gone.none_put) gone.is
+  awaiting_then xs ys given t more puts then_given u (awaits a b none has is) life next = search (arith, more_first)
+  awaiting_then xs ys given t more puts then_given u (goes a b is) life next = grind (arith, both_apart)
   awaiting_then xs ys given t more puts then_given u (opens_so peer unit o some later none no_cc is others answer put_later apart no_answer
       ans so w) life next =
       opens_so peer unit o some (later ++ more) none no_cc
@@ -150,12 +145,7 @@ cc_ends_it r x s h lasted was lasts now =
 -- ---- a connection that awaits its CC, by its stage
 
 asked_by : (over given : Bool) (o : Option Connection) → given ≡ true → stage_by over given o ≡ early → (over ≡ false) × (o ≡ Some asked)
-asked_by true given o has is = absurd (cc)
-asked_by false true None has is = absurd (cc)
-asked_by false false None has is = absurd (cc)
-asked_by false given (Some asked) has is = (refl, refl)
-asked_by false given (Some (linked peer link)) has is = absurd (cc)
-asked_by false given (Some (closing peer)) has is = absurd (cc)
+asked_by over given o has is = grind arith
 
 lasts_by : (o : Option EndReason) → is_some o ≡ false → o ≡ None
 lasts_by o e = grind arith
@@ -212,9 +202,7 @@ first_of is_caller r old new took put short life none has was =
 
 pub first_rests : (is_caller : Bool) (r : ℕ) (old new : Carrier) (put : List Marked) → AreApart r put →
     Rests (stage_at r old) (stage_at r new) → StaysGiven r old new → FirstOf is_caller r old [] put new
-first_rests is_caller r old new put none rest stays_given =
-    first_of is_caller r old new [] put tt (life_rests is_caller r (stage_at r old) (stage_at r new) put none rest)
-    (λ has was now. (tt, stays_given now has))
+first_rests is_caller r old new put none rest stays_given = grind (arith, first_of, life_rests, stage_at)
 
 pub first_then : (is_caller : Bool) (r : ℕ) (old mid new : Carrier) (xs ys more puts : List Marked) → FirstOf is_caller r old xs ys mid →
     Life is_caller r (stage_at r mid) more puts (stage_at r new) → FirstOf is_caller r mid more puts new →

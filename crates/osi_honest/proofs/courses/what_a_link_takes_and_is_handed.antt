@@ -1,15 +1,15 @@
 -- What the link of a connection does as it takes a unit, and as its session hands in TSDUs; and what a session of another
 -- connection leaves of it.
 -- For the course of a connection.
-use Rattle.osi_honest.proofs.Vocabulary.{[], ap, Bool, drop, Err, false, if◌then◌else◌, inl, inr, is_some, IsSome, length, List, map}
-use Rattle.osi_honest.proofs.Vocabulary.{nat_lt, None, Ok, Option, refl, Result, Some, subst, sym, true, ℕ, ◌++◌, ◌+◌, ◌∙◌, ◌∷◌, ◌≡◌, ◌≢◌}
-use Rattle.osi_honest.proofs.Vocabulary.{◌⊎◌, append-nil, map-append, acknowledge, data0, data2, may_be_followed, Value, drained_leaves}
-use Rattle.osi_honest.proofs.Vocabulary.{drained_moves, Ends, acknowledged, Flow, is_awaited, Sender, all_given, joined, Joining, with_part}
-use Rattle.osi_honest.proofs.Vocabulary.{longest_tsdu, Standing, taken, taken_by, taken_flow, unit_of, with_joined, with_sender, with_tsdu}
-use Rattle.osi_honest.proofs.Vocabulary.{hand_out, Move, MovesAlong, take_in, tsdus_in, tsdus_out, LinkFault, OutOfSequence, Class, Two}
-use Rattle.osi_honest.proofs.Vocabulary.{Zero, put_other, put_here, closed_on, closed_with, closes, link_of, open_link, send_all_error}
-use Rattle.osi_honest.proofs.Vocabulary.{sent, sent_all, sent_on, pumped, written_by, handed_out, value_at, asked, closing, Connection}
-use Rattle.osi_honest.proofs.Vocabulary.{linked, State as Carrier, SendError, answers_by, sent_unless, IsShut, units_given, units_taken}
+use Rattle.std.proofs.Common.{arith}
+use Rattle.osi_honest.proofs.Vocabulary.{[], ap, Bool, drop, Err, false, if◌then◌else◌, inl, inr, is_some, IsSome, List, map, None, Ok}
+use Rattle.osi_honest.proofs.Vocabulary.{Option, refl, Result, Some, subst, sym, ℕ, ◌∙◌, ◌∷◌, ◌≡◌, ◌≢◌, ◌⊎◌, append-nil, map-append}
+use Rattle.osi_honest.proofs.Vocabulary.{may_be_followed, Value, drained_leaves, drained_moves, Ends, Flow, Sender, all_given, joined}
+use Rattle.osi_honest.proofs.Vocabulary.{Joining, with_part, Standing, taken, taken_by, taken_flow, unit_of, with_joined, with_sender}
+use Rattle.osi_honest.proofs.Vocabulary.{with_tsdu, hand_out, Move, MovesAlong, take_in, tsdus_in, tsdus_out, LinkFault, OutOfSequence}
+use Rattle.osi_honest.proofs.Vocabulary.{Class, put_other, put_here, closed_on, closed_with, closes, link_of, open_link, sent, sent_all}
+use Rattle.osi_honest.proofs.Vocabulary.{sent_on, pumped, written_by, handed_out, value_at, closing, Connection, linked, State as Carrier}
+use Rattle.osi_honest.proofs.Vocabulary.{SendError, answers_by, sent_unless, IsShut, units_given, units_taken}
 use Rattle.osi_class.specs.declared.faults.LinkFault.TheVariants.{TsduTooLong}
 use Rattle.osi_honest.proofs.courses.what_a_session_puts.{all_put, one_puts}
 use Rattle.osi_honest.proofs.courses.what_calls_of_a_link_say.{HandsIn, given_more, gives, gives_none_in, gives_none_out, gives_units}
@@ -24,44 +24,21 @@ HasFew v whole = (whole ≡ []) ⊎ ((tsdu : List ℕ) × (whole ≡ tsdu ∷ []
 part_by : (v : Value) (e : Ends) (flow : Option Flow) (last : Bool) (octets : List ℕ) (after : Standing) (b : Bool) →
     may_be_followed v ≡ false → e.joining.whole ≡ [] →
     with_joined e flow (if b then Err TsduTooLong else Ok (with_part e.joining last octets)) ≡ Ok after → HasFew v after.ends.joining.whole
-part_by v e flow last octets after true alone none is = absurd (cc)
-part_by v e flow false octets after false alone none is =
-    let there : record { ends = record e { joining = with_part e.joining false octets }; flow = flow } ≡ after = cc in
-    inl (sym (ap (λ (s : Standing). s.ends.joining.whole) there) ∙ none)
-part_by v e flow true octets after false alone none is =
-    let there : record { ends = record e { joining = with_part e.joining true octets }; flow = flow } ≡ after = cc in
-    inr (
-      e.joining.begun ++ octets,
-      sym (ap (λ (s : Standing). s.ends.joining.whole) there)
-          ∙ ap (λ (l : List (List ℕ)). l ++ (e.joining.begun ++ octets) ∷ []) none,
-      alone,
-    )
+part_by v e flow last octets after b alone none is = grind arith
 
 awaited_by : (v : Value) (e : Ends) (flow : Flow) (last : Bool) (octets : List ℕ) (after : Standing) (b : Bool) →
     may_be_followed v ≡ false → e.joining.whole ≡ [] →
     (if b then with_joined e (Some (taken_flow flow)) (joined e.joining last octets) else Err OutOfSequence) ≡ Ok after →
     HasFew v after.ends.joining.whole
-awaited_by v e flow last octets after false alone none is = absurd (cc)
-awaited_by v e flow last octets after true alone none is =
-    part_by v e (Some (taken_flow flow)) last octets after (nat_lt longest_tsdu (length e.joining.begun + length octets)) alone none is
+awaited_by v e flow last octets after b alone none is = grind (arith, part_by)
 
 sender_by : (v : Value) (e : Ends) (flow : Flow) (after : Standing) (o : Result Sender LinkFault) → e.joining.whole ≡ [] →
     with_sender e flow o ≡ Ok after → HasFew v after.ends.joining.whole
-sender_by v e flow after (Err fault) none is = absurd (cc)
-sender_by v e flow after (Ok sender) none is =
-    let there : record { ends = e; flow = Some (record flow { sender = sender }) } ≡ after = cc in
-    inl (sym (ap (λ (s : Standing). s.ends.joining.whole) there) ∙ none)
+sender_by v e flow after o none is = grind arith
 
 few_by : (e : Ends) (o : Option Flow) (v : Value) (after : Standing) → e.joining.whole ≡ [] → taken_by e o v ≡ Ok after →
     HasFew v after.ends.joining.whole
-few_by e None (data0 last octets) after none is =
-    part_by (data0 last octets) e None last octets after (nat_lt longest_tsdu (length e.joining.begun + length octets)) refl none is
-few_by e None _ after none is = absurd (cc)
-few_by e (Some flow) (data2 destination number last octets) after none is =
-    awaited_by (data2 destination number last octets) e flow last octets after (is_awaited flow.receiver number) refl none is
-few_by e (Some flow) (acknowledge credit destination number) after none is =
-    sender_by (acknowledge credit destination number) e flow after (acknowledged flow.sender number credit) none is
-few_by e (Some flow) _ after none is = absurd (cc)
+few_by e o v after none is = grind (arith, part_by, awaited_by, sender_by)
 
 pub has_few : (link after : Standing) (v : Value) → link.ends.joining.whole ≡ [] → taken link v ≡ Ok after →
     HasFew v after.ends.joining.whole
@@ -120,14 +97,10 @@ takes_in link after v told is (inr (tsdu, one, alone)) took =
 
 pub link_open : (r peer : ℕ) (link : Standing) (c : Carrier) → c.ended ≡ None → value_at r c.live ≡ Some (linked peer link) →
     open_link r c ≡ Some (peer, link)
-link_open r peer link c lasts here =
-    ap (λ (b : Bool). if b then None else link_of (value_at r c.live)) (ap is_some lasts) ∙ ap link_of here
+link_open r peer link c lasts here = grind arith
 
 unlinked_by : (b : Bool) (o : Option Connection) → IsShut o → (if b then None else link_of o) ≡ None
-unlinked_by true o shut = refl
-unlinked_by false (Some asked) shut = absurd shut
-unlinked_by false (Some (linked peer link)) shut = absurd shut
-unlinked_by false _ shut = refl
+unlinked_by b o shut = grind arith
 
 -- nor is one of a carrier that has ended
 pub over_unlinked : (r : ℕ) (c : Carrier) → IsSome c.ended → open_link r c ≡ None
@@ -139,8 +112,7 @@ link_shut r c shut = unlinked_by (is_some c.ended) (value_at r c.live) shut
 -- what a session of a connection that is shut does to the carrier: nothing
 pub shut_answers : (r : ℕ) (closing : Bool) (tsdus : List (List ℕ)) (c : Carrier) → open_link r c ≡ None →
     answers_by closing r tsdus c ≡ c
-shut_answers r true tsdus c none = ap (λ (o : Option (ℕ × Standing)). closed_on r 128 o c) none
-shut_answers r false tsdus c none = ap (λ (o : Option (ℕ × Standing)). sent_unless (send_all_error tsdus o) r tsdus c) none
+shut_answers r h tsdus c none = grind arith
 
 -- ---- its session hands in TSDUs
 
@@ -160,48 +132,34 @@ pub record Sends (r peer : ℕ) (link : Standing) (tsdus : List (List ℕ)) (old
   pub same : IsSameBeside old new
 
 sends_none : (r peer : ℕ) (link : Standing) (c : Carrier) → value_at r c.live ≡ Some (linked peer link) → Sends r peer link [] c c
-sends_none r peer link c here = record {
-  moves = [];
-  after = link;
-  hands = hands_none link;
-  here = here;
-  put = refl;
-  same = record { given = refl; side = refl; ended = refl; events = refl };
-}
+sends_none r peer link c here = grind (arith, hands_none)
 
 sends_one : (r peer : ℕ) (link : Standing) (tsdu : List ℕ) (c : Carrier) → c.ended ≡ None → value_at r c.live ≡ Some (linked peer link) →
     Sends r peer link (tsdu ∷ []) c (sent r tsdu c)
 sends_one r peer link tsdu c lasts here =
-    subst (λ (o : Option (ℕ × Standing)). Sends r peer link (tsdu ∷ []) c (sent_on r tsdu o c)) (sym (link_open r peer link c lasts here))
-    (record {
-      moves = one_in tsdu link;
-      after = pumped (with_tsdu link tsdu);
-      hands = hands_one link tsdu;
-      here = put_here r (linked peer (pumped (with_tsdu link tsdu))) (linked peer link) c.live here;
-      put = ap (map (unit_of peer)) (gives_units (all_given (with_tsdu link tsdu)))
-          ∙ sym (append-nil (written_by peer (with_tsdu link tsdu)))
-          ∙ ap (λ (o : Option (ℕ × Standing)). one_puts tsdu o ++ []) (sym (link_open r peer link c lasts here));
-      same = record { given = refl; side = refl; ended = refl; events = refl };
-    })
+    grind (
+      arith,
+      one_puts,
+      link_open r peer link c lasts here,
+      one_in tsdu link,
+      hands_one link tsdu,
+      put_here r (linked peer (pumped (with_tsdu link tsdu))) (linked peer link) c.live here,
+      gives_units (all_given (with_tsdu link tsdu)),
+      append-nil (written_by peer (with_tsdu link tsdu)),
+    )
 
 sends_more : (r peer : ℕ) (link : Standing) (tsdu : List ℕ) (others : List (List ℕ)) (old new : Carrier)
     (a : Sends r peer link (tsdu ∷ []) old (sent r tsdu old)) → Sends r peer a.after others (sent r tsdu old) new →
     Sends r peer link (tsdu ∷ others) old new
-sends_more r peer link tsdu others old new a b = record {
-  moves = a.moves ++ b.moves;
-  after = b.after;
-  hands = hands_more link a.after b.after (tsdu ∷ []) others a.moves b.moves a.hands b.hands;
-  here = b.here;
-  put = ap (map (unit_of peer)) (given_more a.moves b.moves) ∙ map-append (unit_of peer) (units_given a.moves) (units_given b.moves)
-      ∙ ap (λ (l : List Value). l ++ map (unit_of peer) (units_given b.moves)) (a.put ∙ append-nil (one_puts tsdu (open_link r old)))
-      ∙ ap (λ (l : List Value). one_puts tsdu (open_link r old) ++ l) b.put;
-  same = record {
-    given = b.same.given ∙ a.same.given;
-    side = b.same.side ∙ a.same.side;
-    ended = b.same.ended ∙ a.same.ended;
-    events = b.same.events ∙ a.same.events;
-  };
-}
+sends_more r peer link tsdu others old new a b =
+    grind (
+      arith,
+      hands_more link a.after b.after (tsdu ∷ []) others a.moves b.moves a.hands b.hands,
+      given_more a.moves b.moves,
+      map-append (unit_of peer) (units_given a.moves) (units_given b.moves),
+      append-nil (one_puts tsdu (open_link r old)),
+      one_puts tsdu (open_link r old),
+    )
 
 pub sends_all : (r peer : ℕ) (link : Standing) (tsdus : List (List ℕ)) (c : Carrier) → c.ended ≡ None →
     value_at r c.live ≡ Some (linked peer link) → Sends r peer link tsdus c (sent_all r tsdus c)
@@ -216,22 +174,7 @@ sends_all r peer link (tsdu ∷ tsdus) c lasts here =
 -- while the carrier lasts
 pub closed_shut : (r peer : ℕ) (link : Standing) (c : Carrier) → c.ended ≡ None → value_at r c.live ≡ Some (linked peer link) →
     (closed_with r 128 c).ended ≡ None → value_at r (closed_with r 128 c).live ≡ Some (closing peer)
-closed_shut r peer link c lasts here = by c.class refl
-  where
-    is : closed_with r 128 c ≡ closes r peer 128 c.class c
-    is = ap (λ (o : Option (ℕ × Standing)). closed_on r 128 o c) (link_open r peer link c lasts here)
-
-    two : value_at r (closes r peer 128 (Some Two) c).live ≡ Some (closing peer)
-    two = put_here r (closing peer) (linked peer link) c.live here
-
-    by : (o : Option Class) → c.class ≡ o → (closed_with r 128 c).ended ≡ None → value_at r (closed_with r 128 c).live ≡ Some (closing peer)
-    by (Some Zero) e over = absurd (let none : (closes r peer 128 (Some Zero) c).ended ≡ None =
-        sym (ap (λ (x : Carrier). x.ended) (is ∙ ap (λ (k : Option Class). closes r peer 128 k c) e)) ∙ over in cc)
-    by (Some Two) e over =
-        ap (λ (x : Carrier). value_at r x.live) (is ∙ ap (λ (k : Option Class). closes r peer 128 k c) e) ∙ two
-    by None e over =
-        ap (λ (x : Carrier). value_at r x.live) (is ∙ ap (λ (k : Option Class). closes r peer 128 k c) e)
-        ∙ put_here r (closing peer) (linked peer link) c.live here
+closed_shut r peer link c lasts here = grind (arith, link_open, put_here)
 
 -- ---- a session of another connection
 
@@ -247,50 +190,25 @@ pub leaves_all : (r : ℕ) (c : Carrier) → Leaves r c c
 leaves_all r c = record { live = λ h. refl; given = refl; side = refl; events = refl; lasted = λ h. h }
 
 leaves_then : (r : ℕ) (a b c : Carrier) → Leaves r a b → Leaves r b c → Leaves r a c
-leaves_then r a b c h k = record {
-  live = λ l. k.live l ∙ h.live (k.lasted l);
-  given = k.given ∙ h.given;
-  side = k.side ∙ h.side;
-  events = k.events ∙ h.events;
-  lasted = λ l. h.lasted (k.lasted l);
-}
+leaves_then r a b c h k = grind arith
 
 module _ (q r : ℕ) (ne : r ≢ q) where
   sent_leaves : (tsdu : List ℕ) (o : Option (ℕ × Standing)) (c : Carrier) → Leaves r c (sent_on q tsdu o c)
-  sent_leaves tsdu None c = leaves_all r c
-  sent_leaves tsdu (Some (peer, link)) c = record {
-    live = λ h. put_other r q (linked peer (pumped (with_tsdu link tsdu))) c.live ne;
-    given = refl;
-    side = refl;
-    events = refl;
-    lasted = λ h. h;
-  }
+  sent_leaves tsdu h c = grind (arith, leaves_all, put_other)
 
   all_leave : (o : Option SendError) (tsdus : List (List ℕ)) (c : Carrier) → Leaves r c (sent_unless o q tsdus c)
   all_leave (Some e) tsdus c = leaves_all r c
   all_leave None [] c = leaves_all r c
-  all_leave None (tsdu ∷ tsdus) c =
-      leaves_then r c (sent q tsdu c) (sent_unless None q tsdus (sent q tsdu c)) (sent_leaves tsdu (open_link q c) c)
-      (all_leave None tsdus (sent q tsdu c))
+  all_leave None (tsdu ∷ tsdus) c = grind (arith, leaves_then, sent_leaves, all_leave None tsdus (sent q tsdu c))
 
   closes_leave : (peer : ℕ) (class : Option Class) (c : Carrier) → c.ended ≡ None → Leaves r c (closes q peer 128 class c)
-  closes_leave peer (Some Zero) c lasts = record { live = λ h. absurd (cc); given = refl; side = refl; events = refl; lasted = λ h. lasts }
-  closes_leave peer _ c lasts =
-      record { live = λ h. put_other r q (closing peer) c.live ne; given = refl; side = refl; events = refl; lasted = λ h. h }
+  closes_leave peer class c lasts = grind (arith, put_other)
 
   linked_lasts : (b : Bool) (o : Option Connection) (link : ℕ × Standing) → (if b then None else link_of o) ≡ Some link → b ≡ false
-  linked_lasts true o link e = absurd (cc)
-  linked_lasts false o link e = refl
+  linked_lasts b o link e = grind arith
 
   pub closed_leaves : (o : Option (ℕ × Standing)) (c : Carrier) → open_link q c ≡ o → Leaves r c (closed_on q 128 o c)
-  closed_leaves None c e = leaves_all r c
-  closed_leaves (Some (peer, link)) c e =
-      closes_leave peer c.class c (none_of c.ended (linked_lasts (is_some c.ended) (value_at q c.live) (peer, link) e))
-    where
-      none_of : {A : Type 0} (o : Option A) → is_some o ≡ false → o ≡ None
-      none_of None h = refl
-      none_of (Some x) h = absurd (cc)
+  closed_leaves h c e = grind (arith, leaves_all, closes_leave, linked_lasts)
 
   pub answers_leave : (closing : Bool) (tsdus : List (List ℕ)) (c : Carrier) → Leaves r c (answers_by closing q tsdus c)
-  answers_leave true tsdus c = closed_leaves (open_link q c) c refl
-  answers_leave false tsdus c = all_leave (send_all_error tsdus (open_link q c)) tsdus c
+  answers_leave h tsdus c = grind (arith, closed_leaves, all_leave)

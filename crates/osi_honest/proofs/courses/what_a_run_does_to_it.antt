@@ -1,16 +1,15 @@
 -- Each turn of an end, and a run: what becomes of the course of one connection.
 -- For the laws of an end and its captures.
-use Rattle.osi_honest.proofs.Vocabulary.{[], ap, Bool, false, if◌then◌else◌, inl, is_some, List, None, option_map, refl, subst, sym, take}
-use Rattle.osi_honest.proofs.Vocabulary.{true, ℕ, ◌++◌, ◌<◌, ◌==◌, ◌∙◌, ◌∷◌, ◌≡◌, append-nil, append_cancel_left, ArePackets, tsap_octets}
-use Rattle.osi_honest.proofs.Vocabulary.{Value, Local, orderly_fresh, may_connect, Rows, value_at, packets, State as Carrier, Broken}
-use Rattle.osi_honest.proofs.Vocabulary.{called, breaks_attended, connect_attended, feeds_attended, session_attended, first_keep}
-use Rattle.osi_honest.proofs.Vocabulary.{kept_first, session_carried, disconnect_attended, disconnect_carrier, connect_orderly, open_none}
-use Rattle.osi_honest.proofs.Vocabulary.{has_given, terms_error, without_first, ends, IsAccepted, user_does, UserCall, breaking, calling}
-use Rattle.osi_honest.proofs.Vocabulary.{connecting}
-use Rattle.osi_honest.proofs.Vocabulary.{disconnecting, Call, Calls, carried_in, put_back, used_in, carrying, feeding, telling, End}
-use Rattle.osi_honest.proofs.Vocabulary.{fresh_end, Holding, IsAttended, Line, all_did, Continues, ContinuesAlong, Course, Deeds, no_deeds}
-use Rattle.osi_honest.proofs.Vocabulary.{SoFar, units_taken, unknown, all_units, Marked, units_at, IsFresh, Act, Acts, carried_by, Run}
-use Rattle.osi_honest.proofs.Vocabulary.{Takes, Turn, used_by, serving, using}
+use Rattle.std.proofs.Common.{arith}
+use Rattle.osi_honest.proofs.Vocabulary.{[], ap, Bool, if◌then◌else◌, inl, List, None, refl, subst, sym, ℕ, ◌++◌, ◌<◌, ◌==◌, ◌∙◌, ◌∷◌, ◌≡◌}
+use Rattle.osi_honest.proofs.Vocabulary.{append-nil, append_cancel_left, ArePackets, Local, orderly_fresh, Rows, value_at, packets}
+use Rattle.osi_honest.proofs.Vocabulary.{State as Carrier, called, breaks_attended, connect_attended, feeds_attended, session_attended}
+use Rattle.osi_honest.proofs.Vocabulary.{first_keep, kept_first, session_carried, disconnect_attended, disconnect_carrier, connect_orderly}
+use Rattle.osi_honest.proofs.Vocabulary.{open_none, has_given, without_first, IsAccepted, user_does, UserCall, breaking, calling}
+use Rattle.osi_honest.proofs.Vocabulary.{connecting, disconnecting, Call, Calls, carried_in, put_back, used_in, carrying, feeding, telling}
+use Rattle.osi_honest.proofs.Vocabulary.{End, fresh_end, Holding, IsAttended, Line, all_did, Continues, ContinuesAlong, Course, Deeds}
+use Rattle.osi_honest.proofs.Vocabulary.{no_deeds, SoFar, units_taken, unknown, all_units, Marked, units_at, IsFresh, Act, Acts, carried_by}
+use Rattle.osi_honest.proofs.Vocabulary.{Run, Takes, Turn, used_by, serving, using}
 use Rattle.osi_honest.proofs.courses.steps_of_a_course.{AllRest, HoldEach, Steps}
 use Rattle.osi_honest.proofs.courses.the_first_cc_opens_a_connection.{FirstOf, first_rests}
 use Rattle.osi_honest.proofs.courses.the_connections_of_each_class.{IsSound, request_class, sound_same}
@@ -29,12 +28,8 @@ use Rattle.osi_honest.proofs.keeping.what_a_unit_keeps_a_turn_keeps.{kept_feeds}
 -- ---- between two turns
 
 call_between : (call : Call) (old new : Holding) → Between old.end → Calls old call new → Between new.end
-call_between (feeding piece fed) old new b c = record {
-  sound = kept_feeds IsSound sound_kept piece fed old new b.sound c;
-  attended = feeds_attended old new piece fed c b.attended;
-}
-call_between (telling shown) old new b c =
-    subst (λ (x : Holding). Between x.end) (sym c.1) (record { sound = b.sound; attended = b.attended })
+call_between (feeding piece fed) old new b c = grind (arith, kept_feeds, sound_kept, feeds_attended)
+call_between (telling shown) old new b c = grind arith
 call_between (carrying octets) old new b c =
     let was : Between (put_back octets new.end) = subst (λ (x : Holding). Between x.end) c b in
     record {
@@ -43,18 +38,10 @@ call_between (carrying octets) old new b c =
     }
 
 user_sound : (call : UserCall) (e : End) → IsAccepted call e → IsSound e.carrier → IsSound (user_does call e).carrier
-user_sound (connecting c) e allowed h = record {
-  orderly = connect_orderly c e allowed h.orderly;
-  by_class = request_class (option_map tsap_octets c.calling_tsap) (option_map tsap_octets c.called_tsap) e.carrier
-      (open_none (may_connect e.carrier) (terms_error c) allowed) h.by_class;
-}
+user_sound (connecting c) e allowed h = search (arith, connect_orderly, request_class, open_none)
 user_sound (calling q call) e allowed h = session_carried IsSound sound_kept.carries q (called call) e h
 user_sound (disconnecting q) e allowed h = subst IsSound (sym (disconnect_carrier q e)) (sound_kept.carries.closes q e.carrier h)
-user_sound breaking e allowed h = by (is_some e.carrier.ended)
-  where
-    by : (b : Bool) → IsSound (if b then e else ends Broken e).carrier
-    by true = h
-    by false = sound_kept.ends_so Broken e.carrier h
+user_sound breaking e allowed h = grind (arith, sound_kept)
 
 user_between : (call : UserCall) (e : End) → IsAccepted call e → Between e → Between (user_does call e)
 user_between call e allowed b = record { sound = user_sound call e allowed b.sound; attended = user_attended call e allowed b.attended }
@@ -67,14 +54,10 @@ user_between call e allowed b = record { sound = user_sound call e allowed b.sou
 
 pub act_between : (act : Act) (old new : Holding) → Between old.end → Acts old act new → Between new.end
 act_between (serving call) old new b acts = call_between call old new b acts
-act_between (using call) old new b acts =
-    subst (λ (x : Holding). Between x.end) (sym acts.3) (user_between call old.end acts.1 b)
+act_between (using call) old new b acts = grind (arith, user_between call old.end acts.1 b)
 
 pub fresh_between : (is_caller : Bool) (local : Local) → Between (fresh_end is_caller local)
-fresh_between is_caller local = record {
-  sound = record { orderly = orderly_fresh is_caller local; by_class = no_connection refl };
-  attended = λ lasts. refl;
-}
+fresh_between is_caller local = grind (arith, orderly_fresh, no_connection)
 
 -- ---- indications and octets are fetched
 
@@ -87,18 +70,10 @@ first_unlined r ((p, y) ∷ lines) h =
     (λ left. none_before r p (record y { waiting = left }) lines k.1 k.0)
 
 told_beside : (r : ℕ) (e : End) → Beside r e (record e { lines = without_first e.lines })
-told_beside r e = record {
-  live = refl;
-  given = refl;
-  side = refl;
-  ended = refl;
-  unlined = λ none. first_unlined r e.lines none;
-  kept = λ some. kept_first r e.lines;
-}
+told_beside r e = grind (arith, first_unlined, kept_first)
 
 carried_beside : (r : ℕ) (octets : List ℕ) (e : End) → Beside r (put_back octets e) e
-carried_beside r octets e =
-    record { live = refl; given = refl; side = refl; ended = refl; unlined = λ none. none; kept = λ some. refl }
+carried_beside r octets e = grind arith
 
 -- ---- a turn
 
@@ -196,8 +171,7 @@ module _ (known : Known) (is_caller : Bool) (moves : ℕ → Deeds) where
   serving_turn : (turn : Turn) (call : Call) (old new : Holding) → turn.used ≡ used_in call → Between old.end →
       Courses moves old.end → Calls old call new →
       carried_in call ++ new.end.carrier.outgoing ≡ old.end.carrier.outgoing ++ turn.put → TurnOf is_caller moves turn old new
-  serving_turn turn (feeding piece fed) old new used b course c is =
-      fed_turn turn (take fed.used piece) old new used (feeds_steps known is_caller moves piece fed old new b course c) is
+  serving_turn turn (feeding piece fed) old new used b course c is = grind (arith, fed_turn, feeds_steps)
   serving_turn turn (telling shown) old new used b course c is =
       quiet_turn turn old new used
       (nothing_put old.end.carrier.outgoing new.end.carrier.outgoing turn.put is (ap (λ (x : Holding). x.end.carrier.outgoing) c.1))
@@ -225,10 +199,7 @@ module _ (known : Known) (is_caller : Bool) (moves : ℕ → Deeds) where
       Acts old act new → carried_by act ++ new.end.carrier.outgoing ≡ old.end.carrier.outgoing ++ turn.put →
       TurnOf is_caller moves turn old new
   act_turn turn (serving call) old new used b course acts is = serving_turn turn call old new used b course acts is
-  act_turn turn (using call) old new used b course acts is =
-      as_turn turn old new used (ap (λ (x : Holding). x.held.octets) acts.3)
-      (subst (λ (x : Holding). Steps is_caller (CourseAll is_caller) moves old.end.carrier x.end) (sym acts.3)
-      (user_steps is_caller moves old.end acts.0 b.sound.orderly course call acts.1 acts.2)) is
+  act_turn turn (using call) old new used b course acts is = search (arith, as_turn, user_steps)
 
   pub turn_continues : (turn : Turn) (old new : Holding) → Between old.end → Courses moves old.end → Takes old turn new →
       TurnOf is_caller moves turn old new
@@ -245,25 +216,11 @@ pub record Since (is_caller : Bool) (first : Carrier) (moves : ℕ → Deeds) (t
 since_then : (is_caller : Bool) (first : Carrier) (moves : ℕ → Deeds) (took put : List Marked) (turn : Turn)
     (old mid : Holding) → Since is_caller first moves took put old.end → (at : TurnOf is_caller moves turn old mid) →
     Since is_caller first (all_did moves at.on.more) (took ++ at.on.took) (put ++ at.on.put) mid.end
-since_then is_caller first moves took put turn old mid s at =
-    let on = at.on in
-    record {
-      own = λ r some. ap (λ (l : List Value). l ++ (on.more r).put) (s.own r some)
-          ∙ ap (λ (l : List Value). units_at r put ++ l) (on.own r some) ∙ sym (units_more r put on.put);
-      taken = λ r some. taken_more (moves r).calls (on.more r).calls
-          ∙ ap (λ (l : List Value). l ++ units_taken (on.more r).calls) (s.taken r some)
-          ∙ ap (λ (l : List Value). units_at r took ++ l) (on.taken r some) ∙ sym (units_more r took on.took);
-      life = λ r some. life_then is_caller r (stage_at r first) took put (stage_at r old.end.carrier) on.took on.put
-          (stage_at r mid.end.carrier) (s.life r some) (at.life r some);
-    }
+since_then is_caller first moves took put turn old mid s at = grind (arith, units_more, taken_more, life_then, stage_at)
 
 so_far : (is_caller : Bool) (first : Carrier) (moves : ℕ → Deeds) (took put : List Marked) (new : Holding) →
     Since is_caller first moves took put new.end → SoFar is_caller first moves took put new
-so_far is_caller first moves took put new s = record {
-  own = s.own;
-  taken = s.taken;
-  lives = λ r some. lives is_caller r some first new.end.carrier took put (s.life r some);
-}
+so_far is_caller first moves took put new s = grind (arith, lives)
 
 -- turns one after the other, and what each is for each connection of an end at which this was done before
 abbrev pub TurnsOf : Bool → (ℕ → Deeds) → Holding → List Turn → Holding → Type 0
@@ -289,10 +246,7 @@ fresh_course is_caller local r = unknown refl refl (none_given r) refl refl
 -- all turns of an end
 pub fresh_turns : Known → (is_caller : Bool) (local : Local) (begin end : Holding) (turns : List Turn) → IsFresh is_caller local begin →
     Run begin turns end → TurnsOf is_caller (λ r. no_deeds) begin turns end
-fresh_turns known is_caller local begin end turns fresh run =
-    run_turns known is_caller (λ r. no_deeds) turns begin end
-    (subst Between (sym fresh.end) (fresh_between is_caller local))
-    (λ r. subst (λ (e : End). Course is_caller r no_deeds e) (sym fresh.end) (fresh_course is_caller local r)) run
+fresh_turns known is_caller local begin end turns fresh run = search (arith, run_turns, fresh_between, fresh_course)
 
 pub turns_continue : (is_caller : Bool) (first : Carrier) (moves : ℕ → Deeds) (took put : List Marked) (turns : List Turn)
     (old new : Holding) → Since is_caller first moves took put old.end → TurnsOf is_caller moves old turns new →
@@ -309,8 +263,4 @@ turns_continue is_caller first moves took put (turn ∷ turns) old new s (mid, t
     )
 
 pub nothing_since : (is_caller : Bool) (e : End) → Since is_caller e.carrier (λ r. no_deeds) [] [] e
-nothing_since is_caller e = record {
-  own = λ r some. refl;
-  taken = λ r some. refl;
-  life = λ r some. life_rests is_caller r (stage_at r e.carrier) (stage_at r e.carrier) [] tt (inl refl);
-}
+nothing_since is_caller e = grind (arith, life_rests, stage_at)

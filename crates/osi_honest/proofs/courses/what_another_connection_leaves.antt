@@ -1,11 +1,11 @@
 -- What happens at another connection leaves the course of this one; and at the end of the carrier the course is over.
 -- For the course of a connection.
-use Rattle.osi_honest.proofs.Vocabulary.{[], ap, Bool, false, if◌then◌else◌, is_some, IsSome, nat_le, nat_lt, None, Option, refl, Some}
-use Rattle.osi_honest.proofs.Vocabulary.{subst, sym, true, ℕ, ◌&&◌, ◌++◌, ◌==◌, ◌∙◌, ◌∷◌, ◌≡◌, ◌≢◌, append-nil, push_other, put_other, Rows}
-use Rattle.osi_honest.proofs.Vocabulary.{value_at, Connection, State as Carrier, tsdus_sent, Input, Listener, session_react as react}
-use Rattle.osi_honest.proofs.Vocabulary.{used_keep, used_live, has_given, kept_at, by_line, carrier_by, limit_for, line_by, to_session, End}
-use Rattle.osi_honest.proofs.Vocabulary.{fresh_line, joins, Line, session_in, used_lines, Course, Deeds, Gone, IsOpen, IsShut, awaited}
-use Rattle.osi_honest.proofs.Vocabulary.{is_gone, is_open, unknown, closed, never}
+use Rattle.std.proofs.Common.{arith}
+use Rattle.osi_honest.proofs.Vocabulary.{[], ap, Bool, false, if◌then◌else◌, is_some, IsSome, None, Option, refl, Some, subst, sym, ℕ, ◌==◌}
+use Rattle.osi_honest.proofs.Vocabulary.{◌∙◌, ◌∷◌, ◌≡◌, ◌≢◌, append-nil, push_other, put_other, Rows, value_at, Connection}
+use Rattle.osi_honest.proofs.Vocabulary.{State as Carrier, Input, Listener, used_keep, used_live, has_given, kept_at, by_line, carrier_by}
+use Rattle.osi_honest.proofs.Vocabulary.{to_session, End, joins, Line, used_lines, Course, Deeds, Gone, IsOpen, IsShut, awaited, is_gone}
+use Rattle.osi_honest.proofs.Vocabulary.{is_open, unknown, closed, never}
 use Rattle.osi_honest.specs.Courses.Gone.{over}
 use Rattle.osi_honest.proofs.courses.what_a_link_takes_and_is_handed.{Leaves, answers_leave, leaves_all, link_shut, shut_answers}
 
@@ -43,8 +43,7 @@ module _ (is_caller : Bool) (r : ℕ) (moves : Deeds) (old new : End) where
   }
 
   pub course_beside : Beside r old new → Course is_caller r moves old → Course is_caller r moves new
-  course_beside b (unknown none side given live lines) =
-      unknown none (b.side ∙ side) (b.given ∙ given) (b.live ∙ live) (b.unlined lines)
+  course_beside b (unknown none side given live lines) = grind arith
   course_beside b (awaited none c terms side lasts given here kept) =
       awaited none c terms side (b.ended ∙ lasts) (b.given ∙ given) (b.live ∙ here)
       (b.kept (some_there (value_at r old.carrier.live) _ here) ∙ kept)
@@ -83,8 +82,7 @@ module _ (is_caller : Bool) (r : ℕ) (moves : Deeds) (old new : End) where
 
 pub none_behind : (r p : ℕ) (y : Line) (lines : Rows Line) (b : Bool) → (p == r) ≡ b →
     (if b then Some y else value_at r lines) ≡ None → (value_at r lines ≡ None) × (b ≡ false)
-none_behind r p y lines true e h = absurd (cc)
-none_behind r p y lines false e h = (h, refl)
+none_behind r p y lines b e h = grind arith
 
 pub none_before : (r p : ℕ) (y : Line) (lines : Rows Line) → (p == r) ≡ false → value_at r lines ≡ None → value_at r ((p, y) ∷ lines) ≡ None
 none_before r p y lines e h = ap (λ (b : Bool). if b then Some y else value_at r lines) e ∙ h
@@ -99,60 +97,35 @@ used_none r live ((p, y) ∷ lines) h =
 
 -- a new session of another connection
 pub joins_beside : (q r : ℕ) (session : Listener) (e : End) → r ≢ q → Beside r e (joins q session e)
-joins_beside q r session e ne = record {
-  live = refl;
-  given = refl;
-  side = refl;
-  ended = refl;
-  unlined = λ none. used_none r e.carrier.live (e.lines ++ (q, fresh_line session) ∷ [])
-      (push_other r q (fresh_line session) e.lines ne ∙ none);
-  kept = λ some. ap session_in
-      (used_live r e.carrier.live (e.lines ++ (q, fresh_line session) ∷ []) some ∙ push_other r q (fresh_line session) e.lines ne);
-}
+joins_beside q r session e ne = grind (arith, used_none, push_other, used_live)
 
 -- ---- the session of another connection makes a move
 
 module _ (q r : ℕ) (ne : r ≢ q) where
   carrier_leaves : (o : Option Listener) (input : Input) (c : Carrier) → Leaves r c (carrier_by q o input c)
   carrier_leaves None input c = leaves_all r c
-  carrier_leaves (Some session) input c =
-      answers_leave q r ne (react session input).closes (tsdus_sent (limit_for session input) (react session input).reply) c
+  carrier_leaves (Some session) input c = search (arith, answers_leave)
 
   line_leaves : (o : Option Line) (input : Input) (e : End) → Leaves r e.carrier (by_line q o input e).carrier
-  line_leaves None input e = leaves_all r e.carrier
-  line_leaves (Some line) input e = carrier_leaves line.session input e.carrier
+  line_leaves o input e = grind (arith, leaves_all, carrier_leaves)
 
   line_other : (o : Option Line) (input : Input) (e : End) → value_at r (by_line q o input e).lines ≡ value_at r e.lines
-  line_other None input e = refl
-  line_other (Some line) input e = put_other r q (line_by line line.session input) e.lines ne
+  line_other o input e = grind (arith, put_other)
 
   pub session_leaves : (input : Input) (e : End) → Leaves r e.carrier (to_session q input e).carrier
   session_leaves input e = line_leaves (value_at q e.lines) input e
 
   pub session_beside : (input : Input) (e : End) → (to_session q input e).carrier.ended ≡ None → Beside r e (to_session q input e)
-  session_beside input e lasts =
-      let l = session_leaves input e in
-      let lines = line_other (value_at q e.lines) input e in
-      record {
-        live = l.live lasts;
-        given = ap (λ (n : ℕ). nat_lt 0 r && nat_le r n) l.given;
-        side = l.side;
-        ended = lasts ∙ sym (l.lasted lasts);
-        unlined = λ none. lines ∙ none;
-        kept = λ some. ap session_in lines;
-      }
+  session_beside input e lasts = grind (arith, session_leaves, line_other)
 
 -- ---- the session of a connection that is shut
 
 shut_by : (r : ℕ) (o : Option Listener) (input : Input) (c : Carrier) → IsShut (value_at r c.live) → carrier_by r o input c ≡ c
-shut_by r None input c shut = refl
-shut_by r (Some session) input c shut =
-    shut_answers r (react session input).closes (tsdus_sent (limit_for session input) (react session input).reply) c (link_shut r c shut)
+shut_by r o input c shut = grind (arith, shut_answers, link_shut)
 
 shut_line : (r : ℕ) (o : Option Line) (input : Input) (e : End) → IsShut (value_at r e.carrier.live) →
     (by_line r o input e).carrier ≡ e.carrier
-shut_line r None input e shut = refl
-shut_line r (Some line) input e shut = shut_by r line.session input e.carrier shut
+shut_line r o input e shut = grind (arith, shut_by)
 
 pub shut_session : (r : ℕ) (input : Input) (e : End) → IsShut (value_at r e.carrier.live) → (to_session r input e).carrier ≡ e.carrier
 shut_session r input e shut = shut_line r (value_at r e.lines) input e shut

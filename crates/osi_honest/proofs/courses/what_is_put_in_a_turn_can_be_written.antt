@@ -2,7 +2,7 @@
 -- opened, and the others, CRs, CCs, DRs and DCs, as they are.
 -- For the law of what a session hands to its link.
 use Rattle.osi_honest.proofs.Vocabulary.{[], arith, Bool, false, if◌then◌else◌, List, nat_lt, refl, subst, suc, sym, true, zero, ℕ, ◌++◌}
-use Rattle.osi_honest.proofs.Vocabulary.{◌<◌, ◌==◌, ◌∷◌, ◌≡◌, eq-eqb, AllByRecursion, Value, Standing, End, AreCalls, Course, Deeds}
+use Rattle.osi_honest.proofs.Vocabulary.{◌<◌, ◌∷◌, ◌≡◌, eq-eqb, AllByRecursion, Value, Standing, End, AreCalls, Course, Deeds}
 use Rattle.osi_honest.proofs.Vocabulary.{IsFreshLink, no_deeds, then_did, is_gone, is_open, closed, all_units, if_of, is_of_link, Marked}
 use Rattle.osi_honest.proofs.Vocabulary.{units_at, CanBeWritten, awaited, unknown, never}
 use Rattle.osi_honest.specs.Courses.Gone.{over}
@@ -49,8 +49,7 @@ own_unit b unit others e all = grind arith
 one_written : (r : ℕ) (unit : Value) (units : List Marked) → is_of_link unit ≡ nat_lt 0 r → (is_of_link unit ≡ false → CanBeWritten unit) →
     CanEach ((r, unit) ∷ units) → CanBeWritten unit
 one_written zero unit units mark plain each = plain mark
-one_written (suc n) unit units mark plain each =
-    own_unit (suc n == suc n) unit (units_at (suc n) units) (eq-eqb (suc n) (suc n) refl) (each (suc n) (omega arith))
+one_written (suc n) unit units mark plain each = grind (arith, own_unit, eq-eqb (suc n) (suc n) refl)
 
 all_written : (units : List Marked) → AreAccounted units → CanEach units → AllByRecursion CanBeWritten (all_units units)
 all_written [] all each = tt

@@ -1,14 +1,14 @@
 -- The events of a packet are handled: what becomes of the course of one connection, and that what its session sends is handed in.
 -- For the course of a connection.
+use Rattle.std.proofs.Common.{arith}
 use Rattle.osi_honest.proofs.Vocabulary.{[], ap, Bool, false, inl, inr, is_some, length, List, map, nat_le, nat_lt, ◌&&◌, has_given, None}
-use Rattle.osi_honest.proofs.Vocabulary.{Option, refl, Some, subst, suc}
-use Rattle.osi_honest.proofs.Vocabulary.{sym, true, zero, ℕ, ◌++◌, ◌+◌, ◌==◌, ◌∙◌, ◌∷◌, ◌≡◌, ◌≢◌, eq-eqb, eqb-true, append-nil, unit_of}
-use Rattle.osi_honest.proofs.Vocabulary.{MovesAlong, tsdus_out, push_here, open_link, Happening, told_opened as opened, tsdu, value_at}
-use Rattle.osi_honest.proofs.Vocabulary.{EndReason, after_input, broken, came, Input, Listener, linked_up, session_react as react, awaits}
-use Rattle.osi_honest.proofs.Vocabulary.{times_quiet, first_is, rest_is, used_live, hears_keep, calls_with, terms_error, hears, hears_next}
-use Rattle.osi_honest.proofs.Vocabulary.{hears_times, opens_line as opens, with_events, kept_at, to_session, End, fresh_line, joins, Line}
-use Rattle.osi_honest.proofs.Vocabulary.{session_in, Request as Connect, sends, Course, Deeds, Gone, IsNew, IsShut, no_deeds, said_in}
-use Rattle.osi_honest.proofs.Vocabulary.{units_given, awaited, is_gone, is_open, unknown, closed, Marked, units_at, History, Said}
+use Rattle.osi_honest.proofs.Vocabulary.{Option, refl, Some, subst, suc, sym, true, zero, ℕ, ◌++◌, ◌+◌, ◌==◌, ◌∙◌, ◌∷◌, ◌≡◌, ◌≢◌, eq-eqb}
+use Rattle.osi_honest.proofs.Vocabulary.{eqb-true, append-nil, unit_of, MovesAlong, tsdus_out, push_here, open_link, Happening}
+use Rattle.osi_honest.proofs.Vocabulary.{told_opened as opened, tsdu, value_at, EndReason, after_input, broken, came, Input, Listener}
+use Rattle.osi_honest.proofs.Vocabulary.{linked_up, session_react as react, awaits, times_quiet, first_is, rest_is, used_live, hears_keep}
+use Rattle.osi_honest.proofs.Vocabulary.{calls_with, terms_error, hears, hears_next, hears_times, opens_line as opens, with_events, kept_at}
+use Rattle.osi_honest.proofs.Vocabulary.{to_session, End, fresh_line, joins, Line, session_in, Request as Connect, sends, Course, Deeds}
+use Rattle.osi_honest.proofs.Vocabulary.{Gone, IsNew, IsShut, no_deeds, said_in, units_given, is_gone, is_open, closed, History, Said}
 use Rattle.osi_honest.proofs.Vocabulary.{said_after, State as Carrier, attends, concludes, hears_all, concluded_carrier, concludes_lasting}
 use Rattle.osi_honest.proofs.Vocabulary.{never}
 use Rattle.std.proofs.Common.{length-append}
@@ -61,15 +61,10 @@ hears_elsewhere r (told.faulted q fault) e ne = session_leaves_it q r broken e n
 -- ---- a connection that is gone hears nothing that matters
 
 opened_same : (r : ℕ) (o : Option Line) (e : End) → IsShut (value_at r e.carrier.live) → (opens r o e).carrier ≡ e.carrier
-opened_same r None e shut = refl
-opened_same r (Some line) e shut = shut_session r linked_up e shut
+opened_same r o e shut = grind (arith, shut_session)
 
 hears_same : (x : Happening) (e : End) → IsShut (value_at (told_of x) e.carrier.live) → (hears x e).carrier ≡ e.carrier
-hears_same (told.opened q) e shut = opened_same q (value_at q e.lines) e shut
-hears_same (told.refused q reason) e shut = shut_session q (refused reason) e shut
-hears_same (told.tsdu q octets) e shut = shut_session q (came octets) e shut
-hears_same (told.closed q reason) e shut = shut_session q broken e shut
-hears_same (told.faulted q fault) e shut = shut_session q broken e shut
+hears_same x e shut = grind (arith, opened_same, shut_session)
 
 module _ (is_caller : Bool) (r : ℕ) (moves : Deeds) (x : Happening) (e : End) where
   shut_hears : (b : Bool) → (r == told_of x) ≡ b → (hears x e).carrier.ended ≡ None → (closed_so : Bool) (session : Listener) →
@@ -85,8 +80,7 @@ module _ (is_caller : Bool) (r : ℕ) (moves : Deeds) (x : Happening) (e : End) 
   gone_hears_by (Some reason) ended g = gone_over is_caller r moves e (hears x e) g (ap is_some ended)
   gone_hears_by None lasts (closed at calls is session speaks given shut) =
       shut_hears (r == told_of x) refl lasts is session (closed at calls is session speaks given shut) shut
-  gone_hears_by None lasts (over at calls heard unheard is session speaks parts none ended) =
-      absurd (never_lasts e.carrier.ended ended ((hears_keep x e).lasts lasts))
+  gone_hears_by None lasts (over at calls heard unheard is session speaks parts none ended) = grind (arith, never_lasts, hears_keep)
   gone_hears_by None lasts (never none ended) = absurd (never_lasts e.carrier.ended ended ((hears_keep x e).lasts lasts))
 
   gone_hears : Gone is_caller r moves e → Gone is_caller r moves (hears x e)
@@ -200,17 +194,14 @@ pub record Known : Type 0 where
   pub can : (c : Connect) → terms_error c ≡ None → CanBegin (calls_with c)
 
 opened_of : (r : ℕ) (o : Option Line) (session : Listener) (e : End) → session_in o ≡ Some session → opens r o e ≡ to_session r linked_up e
-opened_of r None session e h = absurd (cc)
-opened_of r (Some line) session e h = refl
+opened_of r o session e h = grind arith
 
 opened_new : (r : ℕ) (e : End) → value_at r e.lines ≡ None → hears (opened r) e ≡ joins r awaits e
 opened_new r e none = ap (λ (o : Option Line). opens r o e) none
 
 -- a connection that is gone is not open
 gone_unlinked : (is_caller : Bool) (r : ℕ) (moves : Deeds) (e : End) → Gone is_caller r moves e → open_link r e.carrier ≡ None
-gone_unlinked is_caller r moves e (closed at calls is session speaks given shut) = link_shut r e.carrier shut
-gone_unlinked is_caller r moves e (over at calls heard unheard is session speaks parts none ended) = over_unlinked r e.carrier ended
-gone_unlinked is_caller r moves e (never none ended) = over_unlinked r e.carrier ended
+gone_unlinked is_caller r moves e h = grind (arith, link_shut, over_unlinked)
 
 module _ (known : Known) (is_caller : Bool) (r : ℕ) where
   abbrev HeardAt : Happening → List Happening → Deeds → End → Type 0
@@ -224,9 +215,7 @@ module _ (known : Known) (is_caller : Bool) (r : ℕ) where
   -- one event of this connection that was due; no other is
   own_heard : (x : Happening) (rest : List Happening) (moves : Deeds) (e : End) →
       StepAt r (event_puts x e) [] (Course is_caller r) moves (hears x e) → NoneOf r rest → HeardAt x rest moves e
-  own_heard x rest moves e s none =
-      step_on r (event_puts x e) [] (Course is_caller r) (Waits is_caller r rest) moves (hears x e) (hears x e) s
-      (λ after course. still none course)
+  own_heard x rest moves e s none = search (arith, step_on, event_puts, still)
 
   elsewhere_by : (x : Happening) (rest : List Happening) (moves : Deeds) (e : End) (o : Option EndReason) → r ≢ told_of x →
       (hears x e).carrier.ended ≡ o → Waits is_caller r (x ∷ rest) moves e → HeardAt x rest moves e
@@ -244,25 +233,18 @@ module _ (known : Known) (is_caller : Bool) (r : ℕ) where
   -- a connection that is gone puts nothing
   gone_none : (x : Happening) (moves : Deeds) (e : End) (b : Bool) → (r == told_of x) ≡ b → Gone is_caller r moves e →
       HasNone r (event_puts x e)
-  gone_none x moves e false is g = event_others r x e (unequal (told_of x) r is)
-  gone_none x moves e true is g =
-      let none : open_link (told_of x) e.carrier ≡ None =
-      ap (λ (n : ℕ). open_link n e.carrier) (sym (eqb-true r (told_of x) is)) ∙ gone_unlinked is_caller r moves e g in
-      λ some. ap (units_at r) (event_unlinked x e none)
+  gone_none x moves e b is g = grind (arith, event_others, unequal, eqb-true, gone_unlinked, event_unlinked)
 
   -- what its session does then
   spoke : (x : Happening) (input : Input) (moves : Deeds) (e : End) → hears x e ≡ to_session r input e →
       event_puts x e ≡ session_puts r input e →
       StepAt r (session_puts r input e) [] (Course is_caller r) moves (to_session r input e) →
       StepAt r (event_puts x e) [] (Course is_caller r) moves (hears x e)
-  spoke x input moves e is puts s =
-      subst (λ (l : List Marked). StepAt r l [] (Course is_caller r) moves (hears x e)) (sym puts)
-      (subst (StepAt r (session_puts r input e) [] (Course is_caller r) moves) (sym is) s)
+  spoke x input moves e is puts s = grind (arith, session_puts)
 
   opening_of : (o : Option Line) (session : Listener) (e : End) → session_in o ≡ Some session →
       opening_puts r o e ≡ session_puts r linked_up e
-  opening_of None session e h = absurd (cc)
-  opening_of (Some line) session e h = refl
+  opening_of o session e h = grind arith
 
   one_heard : (x : Happening) (rest : List Happening) (moves : Deeds) (e : End) → Waits is_caller r (x ∷ rest) moves e →
       HeardAt x rest moves e
@@ -271,10 +253,7 @@ module _ (known : Known) (is_caller : Bool) (r : ℕ) where
       idle_heard x rest moves e (gone_none x moves e (r == told_of x) refl g) (away (gone_hears is_caller r moves x e g))
   one_heard x rest moves e (called (inl due) side none just) = elsewhere x rest moves e due.0 (called (inl due) side none just)
   one_heard x rest moves e (called (inr due) side none just) =
-      let is : hears x e ≡ joins r awaits e = ap (λ (y : Happening). hears y e) due.0 ∙ opened_new r e none in
-      let puts : event_puts x e ≡ [] = ap (λ (y : Happening). event_puts y e) due.0 ∙ ap (λ (o : Option Line). opening_puts r o e) none in
-      idle_heard x rest moves e (λ some. ap (units_at r) puts)
-      (still due.1 (subst (Course is_caller r moves) (sym is) (called_hears is_caller r moves e side none just)))
+      search (arith, opened_new, event_puts, opening_puts, idle_heard, still, called_hears)
   one_heard x rest moves e (answered (inl due) side c terms kept just) =
       elsewhere x rest moves e due.0 (answered (inl due) side c terms kept just)
   one_heard x rest moves e (answered (inr due) side c terms kept just) =
@@ -291,8 +270,7 @@ module _ (known : Known) (is_caller : Bool) (r : ℕ) where
       (session_speaks is_caller r moves h.session (came octets) e (come_speaks known.proper is_caller r octets moves e h))) due.1
 
   untold_beside : (events : List Happening) (e : End) → Beside r e (with_events events e)
-  untold_beside events e =
-      record { live = refl; given = refl; side = refl; ended = refl; unlined = λ none. none; kept = λ some. refl }
+  untold_beside events e = grind arith
 
   -- and if the carrier has ended, all sessions are lost
   concluded_by : (o : Option EndReason) (moves : Deeds) (e : End) → e.carrier.ended ≡ o → Course is_caller r moves e →
@@ -305,18 +283,11 @@ module _ (known : Known) (is_caller : Bool) (r : ℕ) where
 -- ---- at all connections
 
 pub course_given : (is_caller : Bool) (r : ℕ) (moves : Deeds) (e : End) → Course is_caller r moves e → IsGivenIfOpen r e.carrier
-course_given is_caller r moves e (unknown none side free live lines) = inl (link_shut r e.carrier (subst IsShut (sym live) tt))
-course_given is_caller r moves e (awaited none c terms side lasts given here kept) = inr given
-course_given is_caller r moves e (is_open given o) = inr given
-course_given is_caller r moves e (is_gone g) = inl (gone_unlinked is_caller r moves e g)
+course_given is_caller r moves e h = grind (arith, link_shut, gone_unlinked)
 
 waits_given : (is_caller : Bool) (r : ℕ) (events : List Happening) (moves : Deeds) (e : End) → Waits is_caller r events moves e →
     IsGivenIfOpen r e.carrier
-waits_given is_caller r events moves e (still none course) = course_given is_caller r moves e course
-waits_given is_caller r events moves e (away g) = inl (gone_unlinked is_caller r moves e g)
-waits_given is_caller r events moves e (called due side none just) = inr just.given
-waits_given is_caller r events moves e (answered due side c terms kept just) = inr just.given
-waits_given is_caller r events moves e (has_come octets due h) = inr h.given
+waits_given is_caller r events moves e h = grind (arith, course_given, gone_unlinked)
 
 abbrev pub CourseAll : Bool → States
 CourseAll is_caller r moves e = Course is_caller r moves e

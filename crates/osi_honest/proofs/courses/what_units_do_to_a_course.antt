@@ -228,21 +228,11 @@ module _ (is_caller : Bool) (r : ℕ) (moves : Deeds) (v : Value) (e : End) (h :
 
       takes_now : Course is_caller r moves e → (peer : ℕ) (link after : Standing) → value_at r e.carrier.live ≡ Some (linked peer link) →
           taken link v ≡ Ok after → react v e.carrier ≡ settles r peer after e.carrier → Took peer after
-      takes_now (unknown no_moves side ungiven live lines) peer link after here is then_is =
-          two_states (Some (linked peer link)) None here live (λ no. absurd (cc))
-      takes_now (awaited no_moves c terms side lasts given live kept) peer link after here is then_is =
-          two_states (Some (linked peer link)) (Some asked) here live (λ no. absurd (cc))
-      takes_now (is_open given o) peer link after here is then_is = takes_open given o peer link after here is then_is none
-      takes_now (is_gone (closed at calls is_closed session speaks given shut)) peer link after here is then_is =
-          absurd (subst IsShut here shut)
-      takes_now (is_gone (over at calls heard unheard is_closed session speaks parts into ended)) peer link after here is then_is =
-          absurd (never_lasts e.carrier.ended ended lasted)
-      takes_now (is_gone (never no_moves ended)) peer link after here is then_is = absurd (never_lasts e.carrier.ended ended lasted)
+      takes_now h peer link after here is then_is = search (arith, two_states, takes_open, never_lasts)
 
       leaves_now : Course is_caller r moves e → (x : Connection) → value_at r e.carrier.live ≡ Some x →
           has_given r new.carrier ≡ has_given r e.carrier → IsShut (value_at r new.carrier.live) → Gone is_caller r moves new
-      leaves_now (unknown no_moves side ungiven live lines) x here same then_shut =
-          two_states (Some x) None here live (λ no. absurd (cc))
+      leaves_now (unknown no_moves side ungiven live lines) x here same then_shut = grind (arith, two_states)
       leaves_now (awaited no_moves c terms side lasts given live kept) x here same then_shut =
           closed 0 (no_calls 0 e.carrier.local moves no_moves) false (calls_with c)
           (unsaid is_caller moves (calls_with c) no_moves (request_new is_caller c side terms)) (same ∙ given) then_shut
@@ -315,12 +305,7 @@ module _ (is_caller : Bool) (r : ℕ) (moves : Deeds) (v : Value) (e : End) (h :
       (peer : ℕ) (link after : Standing) → value_at q e.carrier.live ≡ Some (linked peer link) → taken link v ≡ Ok after →
       react v e.carrier ≡ settles q peer after e.carrier →
       StepAt r (marked q (written_by peer (handed_out after))) (marked q (v ∷ [])) (After is_caller r v) moves new
-  taken_at q true same is lasted calm peer link after here took then_is =
-      let one = eqb-true r q same in
-      let lasts : new.carrier.ended ≡ None = ap (λ (c : Carrier). c.ended) then_is ∙ lasted in
-      subst (λ (n : ℕ). StepAt r (marked n (written_by peer (handed_out after))) (marked n (v ∷ [])) (After is_caller r v) moves new) one
-      (take_calm lasts lasted calm peer link after (ap (λ (n : ℕ). value_at n e.carrier.live) one ∙ here) took
-      (then_is ∙ ap (λ (n : ℕ). settles n peer after e.carrier) (sym one)))
+  taken_at q true same is lasted calm peer link after here took then_is = search (arith, eqb-true, marked, take_calm)
   taken_at q false same is lasted calm peer link after here took then_is =
       let lasts : new.carrier.ended ≡ None = ap (λ (c : Carrier). c.ended) then_is ∙ lasted in
       let ne = unequal q r same in
@@ -331,8 +316,7 @@ module _ (is_caller : Bool) (r : ℕ) (moves : Deeds) (v : Value) (e : End) (h :
       (acts_elsewhere r v [] e.carrier other lasts (elsewhere_deaf v e.carrier lasted lasts r h.by_class other)))
 
   passed : (units : List Value) → Idle → StepAt r (marked 0 units) (marked 0 (v ∷ [])) (After is_caller r v) moves new
-  passed units idle =
-      step_idle r (marked 0 units) (marked 0 (v ∷ [])) (After is_caller r v) moves new (nowhere r units) (nowhere r (v ∷ [])) idle
+  passed units idle = search (arith, step_idle, marked, nowhere)
 
 -- ---- at all connections
 

@@ -1,6 +1,7 @@
 -- The course of a connection while events of its carrier wait to be handled: at most one of them is of this connection.
 -- For the course of a connection.
-use Rattle.osi_honest.proofs.Vocabulary.{[], ap, Bool, false, inl, inr, IsSome, List, map, None, refl, Some, true, ℕ, ◌++◌, ◌∙◌, ◌∷◌, ◌≡◌}
+use Rattle.std.proofs.Common.{arith}
+use Rattle.osi_honest.proofs.Vocabulary.{[], Bool, false, inl, inr, IsSome, List, map, None, refl, Some, true, ℕ, ◌++◌, ◌∙◌, ◌∷◌, ◌≡◌}
 use Rattle.osi_honest.proofs.Vocabulary.{◌≢◌, ◌⊎◌, Standing, unit_of, Move, MovesAlong, tsdus_in, tsdus_out, Happening}
 use Rattle.osi_honest.proofs.Vocabulary.{told_opened as opened, tsdu, value_at, linked, Listener, is_wait_transport, calls_with, has_given}
 use Rattle.osi_honest.proofs.Vocabulary.{terms_error, kept_at, End, Request as Connect, Course, Deeds, Gone, IsFreshLink, no_deeds, Speaks}
@@ -77,38 +78,10 @@ waits_none is_caller r moves e (came octets due h) = absurd due
 
 module _ (is_caller : Bool) (r : ℕ) (moves : Deeds) (old new : End) where
   just_beside : Beside r old new → JustOpened r moves old → JustOpened r moves new
-  just_beside b j = record {
-    none = j.none;
-    peer = j.peer;
-    first = j.first;
-    lasts = b.ended ∙ j.lasts;
-    given = b.given ∙ j.given;
-    here = b.live ∙ j.here;
-    fresh = j.fresh;
-  }
+  just_beside b j = grind arith
 
   come_beside : (octets : List ℕ) → Beside r old new → HasCome is_caller r octets moves old → HasCome is_caller r octets moves new
-  come_beside octets b h = record {
-    peer = h.peer;
-    first = h.first;
-    link = h.link;
-    session = h.session;
-    before = h.before;
-    now = h.now;
-    parts = h.parts;
-    into = h.into;
-    out = h.out;
-    lasts = b.ended ∙ h.lasts;
-    given = b.given ∙ h.given;
-    here = b.live ∙ h.here;
-    fresh = h.fresh;
-    along = h.along;
-    put = h.put;
-    handed = h.handed;
-    kept = b.kept (some_there (value_at r old.carrier.live) _ h.here) ∙ h.kept;
-    speaks = h.speaks;
-    begun = h.begun;
-  }
+  come_beside octets b h = grind (arith, some_there)
 
   -- the same events wait at another end that left the connection as it is
   pub waits_as : (events : List Happening) → Beside r old new → Waits is_caller r events moves old → Waits is_caller r events moves new
@@ -121,15 +94,13 @@ module _ (is_caller : Bool) (r : ℕ) (moves : Deeds) (old new : End) where
 
   -- the first of the events is of another connection, and so is what it does
   due_later : (event x : Happening) (rest : List Happening) → told_of x ≢ r → told_of event ≡ r → Due r event (x ∷ rest) → Due r event rest
-  due_later event x rest ne is (inl d) = d.1
-  due_later event x rest ne is (inr d) = absurd (ne (ap told_of d.0 ∙ is))
+  due_later event x rest ne is h = grind arith
 
   pub waits_beside : (x : Happening) (rest : List Happening) → told_of x ≢ r → Beside r old new → Waits is_caller r (x ∷ rest) moves old →
       Waits is_caller r rest moves new
   waits_beside x rest ne b (still none course) = still none.1 (course_beside is_caller r moves old new b course)
   waits_beside x rest ne b (away g) = away (gone_beside is_caller r moves old new b g)
-  waits_beside x rest ne b (called due side none just) =
-      called (due_later (opened r) x rest ne refl due) side (b.unlined none) (just_beside b just)
+  waits_beside x rest ne b (called due side none just) = grind (arith, due_later, just_beside)
   waits_beside x rest ne b (answered due side c terms kept just) =
       answered (due_later (opened r) x rest ne refl due) side c terms
       (b.kept (some_there (value_at r old.carrier.live) _ just.here) ∙ kept) (just_beside b just)

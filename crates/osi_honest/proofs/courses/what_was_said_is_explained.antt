@@ -1,6 +1,7 @@
 -- What the session of a connection sent is explained by what it had taken by then, also if a capture shows less of it; and the units
 -- of its link carry these TSDUs.
 -- For the laws of an end and its captures.
+use Rattle.std.proofs.Common.{arith}
 use Rattle.osi_honest.proofs.Vocabulary.{[], ap, Bool, false, length, List, map, None, refl, subst, sym, true, ℕ, ◌++◌, ◌+◌, ◌∙◌, ◌∷◌, ◌≡◌}
 use Rattle.osi_honest.proofs.Vocabulary.{append-nil, all_taken, all_sent, unit_of, Move, parts_in, parts_out, tsdus_in, tsdus_out, tsdus}
 use Rattle.osi_honest.proofs.Vocabulary.{uncut, Listener, awaits, refusal_of, Seen, seen_called, seen_calling, Opening, End, IsExplained}
@@ -80,8 +81,7 @@ nothing_explained begin us told none = subst (IsExplained begin us) (sym none) (
 
 pub called_explained : ((us : List (List ℕ)) (told : List Told) → IsSentFrom awaits us told → IsExplained seen_called us told) →
     (us : List (List ℕ)) (told : List Told) → IsSaid false us told → IsExplained seen_called us told
-called_explained law us told (nothing none) = nothing_explained seen_called us told none
-called_explained law us told (something begin is_new sent) = law us told (subst (λ (l : Listener). IsSentFrom l us told) is_new sent)
+called_explained law us told h = grind (arith, nothing_explained)
 
 pub caller_explained : ((o : Opening) (us : List (List ℕ)) (told : List Told) → refusal_of o ≡ None → IsSentFrom (opens o) us told →
     IsExplained seen_calling us told) → (us : List (List ℕ)) (told : List Told) → IsSaid true us told → IsExplained seen_calling us told
@@ -103,13 +103,8 @@ course_calls is_caller r moves e (is_gone (never none ended)) = (0, no_calls 0 e
 pub units_put : (is_caller : Bool) (r : ℕ) (moves : Deeds) (e : End) → Course is_caller r moves e →
     (unsent : List (List ℕ)) × (peer : ℕ) × (moves.put ≡ map (unit_of peer) (units_given moves.calls))
     × (tsdus (parts_out moves.calls ++ uncut unsent) ≡ tsdus_in moves.calls)
-units_put is_caller r moves e course =
-    let c = course_calls is_caller r moves e course in
-    (c.1.link.ends.unsent, c.0, c.1.put, all_sent c.1.first c.1.link moves.calls c.1.along (fresh_of c.1.first c.1.fresh).0)
+units_put is_caller r moves e course = search (arith, all_sent, fresh_of, course_calls is_caller r moves e course)
 
 pub units_came : (is_caller : Bool) (r : ℕ) (moves : Deeds) (e : End) → Course is_caller r moves e →
     tsdus (parts_in moves.calls) ≡ tsdus_out moves.calls
-units_came is_caller r moves e course =
-    let calls = (course_calls is_caller r moves e course).1 in
-    all_taken calls.first calls.link moves.calls calls.along (fresh_of calls.first calls.fresh).2 (fresh_of calls.first calls.fresh).1
-    ∙ ap (λ (l : List (List ℕ)). tsdus_out moves.calls ++ l) calls.handed ∙ append-nil (tsdus_out moves.calls)
+units_came is_caller r moves e course = grind (arith, course_calls, all_taken, fresh_of, append-nil)

@@ -156,8 +156,7 @@ module _ (is_caller : Bool) (r : ℕ) (some : 0 < r) (v : Value) (s : Carrier) (
   passed_by : (units : List Value) (q : ℕ) (b : Bool) → (r == q) ≡ b → q ≡ connection_of v s → (o : Option EndReason) → t.ended ≡ o →
       Acts q v units s t → P (stage_at r s) 0 (marked 0 units) (stage_at r t)
   passed_by units q b is own (Some reason) ended act = to_past units (stage_over r t (ap is_some ended))
-  passed_by units q true is own None lasts act =
-      acts_live units (subst (λ (n : ℕ). Acts n v units s t) (sym (eqb-true r q is)) act) lasts
+  passed_by units q true is own None lasts act = search (arith, acts_live, eqb-true r q is)
   passed_by units q false is own None lasts act =
       let ne : r ≢ connection_of v s = λ same. unequal q r is (same ∙ sym own) in
       acts_live units (acts_elsewhere r v units s ne lasts (elsewhere_deaf v s lasted lasts r h.by_class ne)) lasts

@@ -1,7 +1,8 @@
 -- What each unit that arrives and each TSDU of a session leave true of a carrier, a turn of an end leaves true, whatever
 -- arrives and however much memory there is.
 -- For what an end puts that has no connection of class 0.
-use Rattle.osi_honest.proofs.Vocabulary.{[], ap, Bool, Err, false, if◌then◌else◌, inl, inr, is_some, length, List, None, Ok, Option, refl}
+use Rattle.std.proofs.Common.{arith}
+use Rattle.osi_honest.proofs.Vocabulary.{[], ap, Bool, false, if◌then◌else◌, inl, inr, is_some, length, List, None, Option, refl}
 use Rattle.osi_honest.proofs.Vocabulary.{Result, Some, subst, sym, true, ℕ, ◌∷◌, ◌≡◌, ◌⊎◌, ArePackets, Fed, units_of, Value, TpduFault}
 use Rattle.osi_honest.proofs.Vocabulary.{Happening, reacts, State as Carrier, EndReason, NoMemory, concluded_carrier, packet_is}
 use Rattle.osi_honest.proofs.Vocabulary.{quiet_stops, Carries, events_heard, session_carried, found_how, Feeds, Goes as GoesThrough}
@@ -26,8 +27,7 @@ module _ (P : Carrier → Type 0) (kept : IsKept P) where
   kept_units (v ∷ units) c p = kept_units units (react v c) (kept.reacts_to v c p)
 
   kept_acts : (units : Result (List Value) TpduFault) (c : Carrier) → P c → P (carriers.acts_by units c)
-  kept_acts (Ok units) c p = kept_units units c p
-  kept_acts (Err fault) c p = kept.ends_so _ c p
+  kept_acts h c p = grind (arith, kept_units)
 
   kept_packet : (u : List ℕ) (c : Carrier) → P c → P (carriers.after_packet c u)
   unfolding carriers.after_packet
@@ -37,9 +37,7 @@ module _ (P : Carrier → Type 0) (kept : IsKept P) where
   kept_out units old new p out = subst P (sym out.ended) (kept.ends_so NoMemory (reacts out.done old) (kept_units out.done old p))
 
   kept_acts_or : (units : Result (List Value) TpduFault) (old new : Carrier) → P old → carriers.ActsBy units old new → P new
-  kept_acts_or (Ok units) old new p (inl is) = subst P (sym is) (kept_units units old p)
-  kept_acts_or (Ok units) old new p (inr out) = kept_out units old new p out
-  kept_acts_or (Err fault) old new p is = subst P (sym is) (kept.ends_so _ old p)
+  kept_acts_or h old new p is = grind (arith, kept_units, kept_out)
 
   -- ---- events and packets at the end
 
@@ -54,9 +52,7 @@ module _ (P : Carrier → Type 0) (kept : IsKept P) where
   kept_attends e p = subst P (sym (concluded_carrier (hears_all e))) (kept_heard (length e.carrier.events) e p)
 
   kept_after : (u : List ℕ) (e : End) → P e.carrier → P (after_packet e u).carrier
-  kept_after u e p =
-      subst (λ (x : End). P x.carrier) (sym (packet_is e u))
-      (kept_attends (with_carrier (carriers.after_packet e.carrier u) e) (kept_packet u e.carrier p))
+  kept_after u e p = grind (arith, packet_is, kept_attends, kept_packet)
 
   pub kept_takes : (units : List (List ℕ)) (old new : End) → P old.carrier → TakesPackets old units new → P new.carrier
   kept_takes [] old new p takes = subst (λ (x : End). P x.carrier) (sym takes) p
@@ -65,8 +61,7 @@ module _ (P : Carrier → Type 0) (kept : IsKept P) where
   -- ---- memory runs out
 
   ended_kept : (b : Bool) (c : Carrier) → P c → P (if b then c else states.ends NoMemory c)
-  ended_kept true c p = p
-  ended_kept false c p = kept.ends_so NoMemory c p
+  ended_kept b c p = grind arith
 
   pub kept_runs_out : (c : Carrier) (old new : End) → P c → RunsOut (with_carrier c old) new → P new.carrier
   kept_runs_out c old new p out =
@@ -86,8 +81,7 @@ module _ (P : Carrier → Type 0) (kept : IsKept P) where
   kept_goes : (piece : List ℕ) (used : ℕ) (old new : Holding) → P old.end.carrier → GoesThrough old piece used new → P new.end.carrier
   kept_goes piece used old new p (inl (inl dry)) = kept_takes dry.units old.end new.end p dry.taken
   kept_goes piece used old new p (inl (inr stop)) = kept_takes stop.units old.end new.end p stop.taken
-  kept_goes piece used old new p (inr (inl f)) =
-      subst (λ (x : End). P x.carrier) (sym f.ended) (kept.ends_so _ f.before.carrier (kept_takes f.units old.end f.before p f.taken))
+  kept_goes piece used old new p (inr (inl f)) = grind (arith, kept_takes)
   kept_goes piece used old new p (inr (inr f)) = by (found_how old piece used new f)
     where
       by : (new.end ≡ ends NoMemory f.before) ⊎ ((packet : List ℕ) × ArePackets (packet ∷ []) f.rest [] × Starves f.before packet new.end) →

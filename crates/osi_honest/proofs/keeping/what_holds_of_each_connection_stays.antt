@@ -1,7 +1,7 @@
 -- What holds of each live connection of a carrier holds still after one of them is replaced, dropped or added.
 -- For what the transport of an end puts.
-use Rattle.osi_honest.proofs.Vocabulary.{[], Bool, false, if◌then◌else◌, Some, subst, true, ℕ, ◌++◌, ◌==◌, ◌∷◌, ◌≡◌, put, Rows, value_at}
-use Rattle.osi_honest.proofs.Vocabulary.{without, Connection}
+use Rattle.std.proofs.Common.{arith}
+use Rattle.osi_honest.proofs.Vocabulary.{[], Bool, if◌then◌else◌, Some, ℕ, ◌++◌, ◌==◌, ◌∷◌, ◌≡◌, put, Rows, value_at, without, Connection}
 
 abbrev pub AllRows : (Connection → Type 0) → Rows Connection → Type 0
 AllRows Q [] = Unit {0}
@@ -10,8 +10,7 @@ AllRows Q ((r, connection) ∷ rows) = Q connection × AllRows Q rows
 module _ (Q : Connection → Type 0) where
   row_by : (b : Bool) (r : ℕ) (x y : Connection) (rows : Rows Connection) → Q y → (value_at r rows ≡ Some x → Q x) →
       (if b then Some y else value_at r rows) ≡ Some x → Q x
-  row_by true r x y rows here more e = let same : y ≡ x = cc in subst Q same here
-  row_by false r x y rows here more e = more e
+  row_by b r x y rows here more e = grind arith
 
   pub row_at : (r : ℕ) (x : Connection) (rows : Rows Connection) → AllRows Q rows → value_at r rows ≡ Some x → Q x
   row_at r x [] all e = absurd (cc)
@@ -19,8 +18,7 @@ module _ (Q : Connection → Type 0) where
 
   put_by : (b : Bool) (q r : ℕ) (x y : Connection) (rows : Rows Connection) → Q x → Q y → AllRows Q rows → AllRows Q (put r x rows) →
       AllRows Q (if b then (q, x) ∷ rows else (q, y) ∷ put r x rows)
-  put_by true q r x y rows here there all more = (here, all)
-  put_by false q r x y rows here there all more = (there, more)
+  put_by b q r x y rows here there all more = grind arith
 
   pub row_put : (r : ℕ) (x : Connection) (rows : Rows Connection) → AllRows Q rows → Q x → AllRows Q (put r x rows)
   row_put r x [] all here = tt
@@ -28,8 +26,7 @@ module _ (Q : Connection → Type 0) where
 
   without_by : (b : Bool) (q r : ℕ) (y : Connection) (rows : Rows Connection) → Q y → AllRows Q rows → AllRows Q (without r rows) →
       AllRows Q (if b then rows else (q, y) ∷ without r rows)
-  without_by true q r y rows there all more = all
-  without_by false q r y rows there all more = (there, more)
+  without_by b q r y rows there all more = grind arith
 
   pub row_without : (r : ℕ) (rows : Rows Connection) → AllRows Q rows → AllRows Q (without r rows)
   row_without r [] all = tt

@@ -1,14 +1,13 @@
 -- What an end put stays in front of all that it puts later, whatever arrives and however much memory there is.
 -- For what an end puts first.
-use Rattle.osi_honest.proofs.Vocabulary.{[], ap, append_assoc, Bool, Err, false, if◌then◌else◌, is_some, List, None, Ok, Option, Result}
-use Rattle.osi_honest.proofs.Vocabulary.{Some, sym, true, ℕ, ◌++◌, ◌+◌, ◌∙◌, ◌∷◌, confirm, data0, disconnect, disconnected, error, request}
-use Rattle.osi_honest.proofs.Vocabulary.{Value, Standing, taken, with_tsdu, accept, refuse, selected_by, Selection, LinkFault, Class, Two}
-use Rattle.osi_honest.proofs.Vocabulary.{Zero, closed_on, closes, open_link, sent_on, acceptance, confirmed, connection_by, written_by}
-use Rattle.osi_honest.proofs.Vocabulary.{answers, before_class, handed_out, has_peer, in_class, in_two, in_zero, is_full, leaves}
+use Rattle.std.proofs.Common.{arith}
+use Rattle.osi_honest.proofs.Vocabulary.{[], append_assoc, Bool, false, if◌then◌else◌, is_some, List, Option, Result, Some, true, ℕ, ◌++◌}
+use Rattle.osi_honest.proofs.Vocabulary.{◌+◌, ◌∷◌, confirm, data0, disconnect, disconnected, error, request, Value, Standing, accept}
+use Rattle.osi_honest.proofs.Vocabulary.{refuse, selected_by, Selection, LinkFault, Class, Two, Zero, closed_on, closes, sent_on}
+use Rattle.osi_honest.proofs.Vocabulary.{connection_by, answers, before_class, has_peer, in_class, in_two, in_zero, is_full, leaves}
 use Rattle.osi_honest.proofs.Vocabulary.{opens_by as opens, react_by, reacts, taking, to_asked, to_closing, to_connection, to_linked}
-use Rattle.osi_honest.proofs.Vocabulary.{to_only, to_reference, to_unknown, Rows, value_at, asked, closing, Connection, linked, packets}
-use Rattle.osi_honest.proofs.Vocabulary.{State as Carrier, writes, Carries, TakesPackets, attends, RunsOut, Starves, with_carrier, End}
-use Rattle.osi_honest.proofs.Vocabulary.{IsPrefix}
+use Rattle.osi_honest.proofs.Vocabulary.{to_only, to_reference, to_unknown, Rows, value_at, Connection, packets, State as Carrier, writes}
+use Rattle.osi_honest.proofs.Vocabulary.{Carries, TakesPackets, attends, RunsOut, Starves, with_carrier, End, IsPrefix}
 use Rattle.osi_tpdu.specs.Value.{Connect}
 use Rattle.osi_carrier.specs.React.{breaks, react}
 use Rattle.osi_honest.proofs.keeping.what_a_unit_keeps_a_turn_keeps.{IsKept, kept_attends, kept_runs_out, kept_starves, kept_takes}
@@ -22,8 +21,7 @@ module _ (Q : List ℕ → Type 0) (on : (out : List ℕ) (units : List Value) �
       Q (answers c selection held s).outgoing
   out_answers c (refuse reason) held s p = on s.outgoing (disconnect c.source 0 reason [] ∷ []) p
   out_answers c (accept Zero size) (Some class) s p = on s.outgoing (disconnect c.source 0 136 [] ∷ []) p
-  out_answers c (accept class size) held s p =
-      on s.outgoing (confirm c.source (acceptance class size c s.local (s.given + 1)) ∷ []) p
+  out_answers c (accept class size) held s p = search arith
 
   out_request : (c : Connect) (s : Carrier) (in_use full : Bool) → Q s.outgoing →
       Q (if in_use then writes (disconnect c.source 0 131 [] ∷ []) s
@@ -37,14 +35,10 @@ module _ (Q : List ℕ → Type 0) (on : (out : List ℕ) (units : List Value) �
   out_unknown unit s p = p
 
   out_opens : (r : ℕ) (c : Connect) (class : Option Class) (s : Carrier) → Q s.outgoing → Q (opens r c class s).outgoing
-  out_opens r c None s p = p
-  out_opens r c (Some class) s p = p
+  out_opens r c class s p = grind arith
 
   out_asked : (r : ℕ) (unit : Value) (s : Carrier) → Q s.outgoing → Q (to_asked r unit s).outgoing
-  out_asked r (confirm destination c) s p = out_opens r c (confirmed c s.local s.class) s p
-  out_asked r (disconnect destination source reason user) s p = p
-  out_asked r (error destination cause) s p = p
-  out_asked r unit s p = out_unknown unit s p
+  out_asked r unit s p = grind (arith, out_opens, out_unknown)
 
   out_breaks : (r peer : ℕ) (fault : LinkFault) (held : Option Class) (s : Carrier) → Q s.outgoing →
       Q (breaks r peer fault held s).outgoing
@@ -52,35 +46,28 @@ module _ (Q : List ℕ → Type 0) (on : (out : List ℕ) (units : List Value) �
   out_breaks r peer fault held s p = p
 
   out_taking : (r peer : ℕ) (result : Result Standing LinkFault) (s : Carrier) → Q s.outgoing → Q (taking r peer result s).outgoing
-  out_taking r peer (Ok link) s p = on s.outgoing (written_by peer (handed_out link)) p
-  out_taking r peer (Err fault) s p = out_breaks r peer fault s.class s p
+  out_taking r peer result s p = grind (arith, out_breaks)
 
   out_leaves : (r peer reason : ℕ) (held : Option Class) (s : Carrier) → Q s.outgoing → Q (leaves r peer reason held s).outgoing
   out_leaves r peer reason (Some Two) s p = on s.outgoing (disconnected peer r ∷ []) p
   out_leaves r peer reason held s p = p
 
   out_linked : (r peer : ℕ) (link : Standing) (unit : Value) (s : Carrier) → Q s.outgoing → Q (to_linked r peer link unit s).outgoing
-  out_linked r peer link (disconnect destination source reason user) s p = out_leaves r peer reason s.class s p
-  out_linked r peer link unit s p = out_taking r peer (taken link unit) s p
+  out_linked r peer link unit s p = grind (arith, out_leaves, out_taking)
 
   out_closing : (r : ℕ) (unit : Value) (s : Carrier) → Q s.outgoing → Q (to_closing r unit s).outgoing
-  out_closing r (request c) s p = p
-  out_closing r unit s p = p
+  out_closing r unit s p = grind arith
 
   out_connection : (r : ℕ) (at : Option Connection) (unit : Value) (s : Carrier) → Q s.outgoing →
       Q (to_connection r at unit s).outgoing
-  out_connection r None unit s p = out_unknown unit s p
-  out_connection r (Some asked) unit s p = out_asked r unit s p
-  out_connection r (Some (linked peer link)) unit s p = out_linked r peer link unit s p
-  out_connection r (Some (closing peer)) unit s p = out_closing r unit s p
+  out_connection r at unit s p = grind (arith, out_unknown, out_asked, out_linked, out_closing)
 
   out_reference : (r : ℕ) (unit : Value) (s : Carrier) → Q s.outgoing → Q (to_reference r unit s).outgoing
   out_reference r unit s p = out_connection r (value_at r s.live) unit s p
 
   out_before : (is_caller : Bool) (unit : Value) (s : Carrier) → Q s.outgoing → Q (before_class is_caller unit s).outgoing
   out_before true (confirm destination c) s p = out_reference destination (confirm destination c) s p
-  out_before true (disconnect destination source reason user) s p =
-      out_reference destination (disconnect destination source reason user) s p
+  out_before true (disconnect destination source reason user) s p = grind (arith, out_reference)
   out_before true (error destination cause) s p = out_reference destination (error destination cause) s p
   out_before false (request c) s p = out_request c s (has_peer c.source s.live) (is_full s) p
   out_before is_caller unit s p = p
@@ -90,8 +77,7 @@ module _ (Q : List ℕ → Type 0) (on : (out : List ℕ) (units : List Value) �
   out_only ((r, connection) ∷ rows) unit s p = out_connection r (Some connection) unit s p
 
   out_zero : (is_caller : Bool) (unit : Value) (s : Carrier) → Q s.outgoing → Q (in_zero is_caller unit s).outgoing
-  out_zero true (request c) s p = p
-  out_zero is_caller unit s p = out_only s.live unit s p
+  out_zero is_caller unit s p = grind (arith, out_only)
 
   out_two : (is_caller : Bool) (unit : Value) (s : Carrier) → Q s.outgoing → Q (in_two is_caller unit s).outgoing
   out_two true (request c) s p = p
@@ -100,13 +86,10 @@ module _ (Q : List ℕ → Type 0) (on : (out : List ℕ) (units : List Value) �
   out_two is_caller unit s p = out_reference (connection_by (Some Two) unit s) unit s p
 
   out_class : (held : Option Class) (unit : Value) (s : Carrier) → Q s.outgoing → Q (in_class held unit s).outgoing
-  out_class None unit s p = out_before s.is_caller unit s p
-  out_class (Some Zero) unit s p = out_zero s.is_caller unit s p
-  out_class (Some Two) unit s p = out_two s.is_caller unit s p
+  out_class held unit s p = grind (arith, out_before, out_zero, out_two)
 
   out_by : (over : Bool) (unit : Value) (s : Carrier) → Q s.outgoing → Q (react_by over unit s).outgoing
-  out_by true unit s p = p
-  out_by false unit s p = out_class s.class unit s p
+  out_by over unit s p = grind (arith, out_class)
 
   out_react : (unit : Value) (s : Carrier) → Q s.outgoing → Q (react unit s).outgoing
   unfolding react
@@ -115,32 +98,22 @@ module _ (Q : List ℕ → Type 0) (on : (out : List ℕ) (units : List Value) �
   -- ---- what a session sends
 
   out_sent : (r : ℕ) (tsdu : List ℕ) (link : Option (ℕ × Standing)) (s : Carrier) → Q s.outgoing → Q (sent_on r tsdu link s).outgoing
-  out_sent r tsdu None s p = p
-  out_sent r tsdu (Some (peer, link)) s p = on s.outgoing (written_by peer (with_tsdu link tsdu)) p
+  out_sent r tsdu h s p = grind arith
 
   out_closes : (r peer reason : ℕ) (held : Option Class) (s : Carrier) → Q s.outgoing → Q (closes r peer reason held s).outgoing
   out_closes r peer reason (Some Zero) s p = p
   out_closes r peer reason held s p = on s.outgoing (disconnect peer r reason [] ∷ []) p
 
   out_closed : (r reason : ℕ) (link : Option (ℕ × Standing)) (s : Carrier) → Q s.outgoing → Q (closed_on r reason link s).outgoing
-  out_closed r reason None s p = p
-  out_closed r reason (Some (peer, link)) s p = out_closes r peer reason s.class s p
+  out_closed r reason h s p = grind (arith, out_closes)
 
   out_carries : Carries (λ c. Q c.outgoing)
-  out_carries = record {
-    sends = λ r tsdu c p. out_sent r tsdu (open_link r c) c p;
-    closes = λ r c p. out_closed r 128 (open_link r c) c p;
-  }
+  out_carries = grind (arith, out_sent, out_closed)
 
   -- ---- all of it
 
   pub out_kept : IsKept (λ c. Q c.outgoing)
-  out_kept = record {
-    reacts_to = out_react;
-    carries = out_carries;
-    untold = λ events c p. p;
-    ends_so = λ reason c p. p;
-  }
+  out_kept = grind (arith, out_react, out_carries)
 
 -- ---- these octets stand in front
 
@@ -148,8 +121,7 @@ abbrev pub Ahead : List ℕ → Carrier → Type 0
 Ahead octets c = IsPrefix octets c.outgoing
 
 prefix_on : (octets out : List ℕ) (units : List Value) → IsPrefix octets out → IsPrefix octets (out ++ packets units)
-prefix_on octets out units p =
-    (p.0 ++ packets units, sym (append_assoc octets p.0 (packets units)) ∙ ap (λ (x : List ℕ). x ++ packets units) p.1)
+prefix_on octets out units p = grind (arith, append_assoc octets p.0 (packets units))
 
 module _ (octets : List ℕ) where
   pub ahead_kept : IsKept (Ahead octets)

@@ -163,8 +163,7 @@ first_heard u e d w (elsewhere_in t) =
 first_heard u e d w (over_in p) = let q = attends_over e.carrier.outgoing (with_carrier d e) p in at_the_end q.0 q.1
 
 pub first_packet : (u : List ℕ) (e : End) → Waits e → IsOctets u → FirstPacket u e (after_packet e u)
-first_packet u e w octets =
-    subst (FirstPacket u e) (sym (packet_is e u)) (first_heard u e (carriers.after_packet e.carrier u) w (acted_first u e w octets))
+first_packet u e w octets = search (arith, packet_is, first_heard, acted_first)
 
 -- ---- packets one after the other
 

@@ -1,20 +1,19 @@
 -- A packet at a calling end whose CR is not answered yet, and packets one after the other.
 -- For the turns of a calling end.
+use Rattle.std.proofs.Common.{arith}
 use Rattle.osi_honest.proofs.Vocabulary.{[], ap, Bool, Err, false, if◌then◌else◌, inl, inr, IsSome, List, map, None, Ok, Option, refl}
 use Rattle.osi_honest.proofs.Vocabulary.{Result, Some, subst, sym, true, ℕ, ◌&&◌, ◌++◌, ◌-◌, ◌==◌, ◌∙◌, ◌∷◌, ◌≡◌, ◌≤◌, eqb-true}
 use Rattle.osi_honest.proofs.Vocabulary.{AllByRecursion, IfSome, IsOctets, units_found, AreUnits, units_of, confirm, disconnect}
-use Rattle.osi_honest.proofs.Vocabulary.{disconnected, error, may_be_followed, request, Value, TpduFault, Class, Two, Zero, react_quiet}
-use Rattle.osi_honest.proofs.Vocabulary.{reacts_over, Happening, told_opened, agreed_size, confirmed, opened_link, unit_octets}
-use Rattle.osi_honest.proofs.Vocabulary.{before_class, in_class, opens_by, reacts, to_asked, to_connection, to_reference, to_unknown, put}
-use Rattle.osi_honest.proofs.Vocabulary.{Rows, value_at, without, asked, Connection, linked, packets, State as Carrier, after_input}
-use Rattle.osi_honest.proofs.Vocabulary.{Listener, linked_up as opened, session_react, is_wait_transport, packet_is, one_heard}
-use Rattle.osi_honest.proofs.Vocabulary.{TakesPackets, after_packet, attends, concludes, hears, opens_line, with_carrier, with_events}
-use Rattle.osi_honest.proofs.Vocabulary.{to_session, End, Line, session_in, sends, AllHaveFlow, Asks, has_none, has_two, dt, IsOpenZero}
-use Rattle.osi_honest.proofs.Vocabulary.{Extends, Moves, Puts, Said, said_after, Talks}
+use Rattle.osi_honest.proofs.Vocabulary.{disconnected, error, may_be_followed, Value, TpduFault, Class, Two, Zero, react_quiet, reacts_over}
+use Rattle.osi_honest.proofs.Vocabulary.{Happening, told_opened, agreed_size, confirmed, opened_link, unit_octets, before_class, opens_by}
+use Rattle.osi_honest.proofs.Vocabulary.{reacts, to_asked, to_connection, to_reference, to_unknown, put, value_at, without, asked}
+use Rattle.osi_honest.proofs.Vocabulary.{Connection, linked, packets, State as Carrier, after_input, Listener, linked_up as opened}
+use Rattle.osi_honest.proofs.Vocabulary.{session_react, is_wait_transport, packet_is, one_heard, TakesPackets, after_packet, attends}
+use Rattle.osi_honest.proofs.Vocabulary.{concludes, hears, opens_line, with_carrier, with_events, to_session, End, Line, session_in, sends}
+use Rattle.osi_honest.proofs.Vocabulary.{Asks, has_none, dt, IsOpenZero, Extends, Moves, Puts, Said, said_after, Talks}
 use Rattle.osi_tpdu.specs.Value.{Connect}
 use Rattle.osi_carrier.specs.Packets as carriers
 use Rattle.osi_carrier.specs.React.{react}
-use Rattle.osi_honest.specs.Openings.{over}
 use Rattle.osi_honest.specs.Talking as history
 use Rattle.osi_honest.proofs.class_0.a_session_of_class_0_puts_what_it_sends.{IsProper, moves_from}
 use Rattle.osi_honest.proofs.opening.how_a_called_end_opens.{enough}
@@ -45,9 +44,7 @@ HasSize (confirm destination answer) = IfSome answer.parameters.size (λ code. (
 HasSize v = Unit {0}
 
 confirmed_zero : (a b d : Bool) → (if a then Some Two else (if b && d then Some Zero else None)) ≡ Some Zero → b ≡ true
-confirmed_zero true b d e = absurd (cc)
-confirmed_zero false true d e = refl
-confirmed_zero false false d e = absurd (cc)
+confirmed_zero a b d e = grind arith
 
 module _ (r : ℕ) (c : Carrier) (lasts : c.ended ≡ None) (live : c.live ≡ (r, asked) ∷ []) (quiet : c.events ≡ [])
     (side : c.is_caller ≡ true) (none : c.class ≡ None) where
@@ -55,13 +52,7 @@ module _ (r : ℕ) (c : Carrier) (lasts : c.ended ≡ None) (live : c.live ≡ (
       IfSome answer.parameters.size (λ code. (7 ≤ code) × (code ≤ 13)) →
       FirstUnit r (confirm destination answer) c (opens_by r answer class c)
   by_answer destination answer None e range = at_an_end (refl, refl)
-  by_answer destination answer (Some Two) e range =
-      let now = linked answer.source (opened_link Two (agreed_size answer.parameters.size c.local) c.local answer.credit) in
-      elsewhere (inr (
-        has_two lasts side refl (subst (λ (rows : Rows Connection). AllHaveFlow (put r now rows)) (sym live)
-            (subst AllHaveFlow (sym (put_one r now asked)) (refl, tt))),
-        refl,
-      ))
+  by_answer destination answer (Some Two) e range = grind (arith, put_one)
   by_answer destination answer (Some Zero) e range =
       let size = agreed_size answer.parameters.size c.local in
       confirms destination answer refl (confirmed_zero _ _ _ e) (record {
@@ -81,9 +72,7 @@ module _ (r : ℕ) (c : Carrier) (lasts : c.ended ≡ None) (live : c.live ≡ (
       IfSome answer.parameters.size (λ code. (7 ≤ code) × (code ≤ 13)) →
       FirstUnit r (confirm destination answer) c (to_connection destination (if b then Some asked else None) (confirm destination answer) c)
   by_reference destination answer true e range =
-      subst (λ n. FirstUnit r (confirm destination answer) c (opens_by n answer (confirmed answer c.local c.class) c))
-      (eqb-true r destination e)
-      (by_answer destination answer (confirmed answer c.local c.class) refl range)
+      grind (arith, eqb-true r destination e, by_answer destination answer (confirmed answer c.local c.class) refl range)
   by_reference destination answer false e range = at_an_end (refl, refl)
 
   -- the request is refused, or the reference isn't known
@@ -99,23 +88,15 @@ module _ (r : ℕ) (c : Carrier) (lasts : c.ended ≡ None) (live : c.live ≡ (
       by false e = unknown
 
   caller_first : (v : Value) → HasSize v → FirstUnit r v c (before_class true v c)
-  caller_first (confirm destination answer) range =
-      subst (λ (rows : Rows Connection). FirstUnit r (confirm destination answer) c
-      (to_connection destination (value_at destination rows) (confirm destination answer) c)) (sym live)
-      (by_reference destination answer (r == destination) refl range)
+  caller_first (confirm destination answer) range = grind (arith, by_reference destination answer (r == destination) refl range)
   caller_first (disconnect destination source reason user) range =
       elsewhere (refused (disconnect destination source reason user) destination (r == destination) refl
       (λ e. inr (has_none lasts side none e, refl)) (put_now c.outgoing (disconnected source destination) [] c _ tt refl refl))
-  caller_first (error destination cause) range =
-      elsewhere (refused (error destination cause) destination (r == destination) refl
-      (λ e. inr (has_none lasts side none e, refl)) (inr (over refl, refl)))
+  caller_first (error destination cause) range = grind (arith, refused)
   caller_first _ range = at_an_end (refl, refl)
 
   pub unit_first : (v : Value) → HasSize v → FirstUnit r v c (react v c)
-  unit_first v range =
-      subst (FirstUnit r v c)
-      (sym (react_quiet v c lasts ∙ ap (λ (x : Option Class). in_class x v c) none ∙ ap (λ (x : Bool). before_class x v c) side))
-      (caller_first v range)
+  unit_first v range = grind (arith, react_quiet v c lasts, caller_first v range)
 
 -- ---- one packet
 
@@ -126,10 +107,7 @@ pub data FirstActed (r : ℕ) (u : List ℕ) (c d : Carrier) : Type 0 where
   over_in : Over c.outgoing d → FirstActed r u c d
 
 pub first_range : (v : Value) (vs : List Value) (u : List ℕ) → AreUnits (v ∷ vs) u → HasSize v
-first_range (confirm destination answer) [] u us = us.in_range.1.parameters.size
-first_range (confirm destination answer) (w ∷ vs) u us = absurd (let followed : false ≡ true = us.0 in cc)
-first_range (request cr) vs u us = tt
-first_range _ vs u us = tt
+first_range v vs u us = grind arith
 
 then_units : (r : ℕ) (u : List ℕ) (c : Carrier) (v : Value) (vs : List Value) → units_of u ≡ Ok (v ∷ vs) → AreUnits (v ∷ vs) u →
     FirstUnit r v c (react v c) → FirstActed r u c (reacts (v ∷ vs) c)
@@ -147,8 +125,7 @@ by_units : (r : ℕ) (u : List ℕ) (c : Carrier) (units : Result (List Value) T
 by_units r u c (Err fault) e octets lasts live quiet side none = over_in (refl, refl)
 by_units r u c (Ok []) e octets lasts live quiet side none = absurd (units_found u [] octets e)
 by_units r u c (Ok (v ∷ vs)) e octets lasts live quiet side none =
-    let us = units_found u (v ∷ vs) octets e in
-    then_units r u c v vs e us (unit_first r c lasts live quiet side none v (first_range v vs u us))
+    search (arith, then_units, unit_first, first_range, units_found u (v ∷ vs) octets e)
 
 pub acted_first : (r : ℕ) (session : Listener) (u : List ℕ) (e : End) → Asks r session e → IsOctets u →
     FirstActed r u e.carrier (carriers.after_packet e.carrier u)
@@ -172,8 +149,7 @@ data FirstPacket (r : ℕ) (session : Listener) (u : List ℕ) (old new : End) :
 
 line_opens : (r : ℕ) (session : Listener) (e : End) (o : Option Line) → session_in o ≡ Some session →
     opens_line r o e ≡ to_session r opened e
-line_opens r session e None h = absurd (cc)
-line_opens r session e (Some line) h = refl
+line_opens r session e o h = grind arith
 
 opened_moves : (r : ℕ) (session : Listener) (e : End) (d : Carrier) → Asks r session e → CanBegin session → IsConfirmed r e.carrier d →
     (attends (with_carrier d e) ≡ concludes (to_session r opened (with_events [] (with_carrier d e)))) ×
@@ -210,9 +186,7 @@ first_heard r session u e d w k (over_in p) = let q = attends_over e.carrier.out
 
 first_packet : (r : ℕ) (session : Listener) (u : List ℕ) (e : End) → Asks r session e → CanBegin session → IsOctets u →
     FirstPacket r session u e (after_packet e u)
-first_packet r session u e w k octets =
-    subst (FirstPacket r session u e) (sym (packet_is e u))
-    (first_heard r session u e (carriers.after_packet e.carrier u) w k (acted_first r session u e w octets))
+first_packet r session u e w k octets = search (arith, packet_is, first_heard, acted_first)
 
 -- ---- packets one after the other
 
@@ -237,13 +211,10 @@ then_packets proper r session u units old mid new octets takes (opens_now destin
     (history.connects [] [] session history.begins) t octets takes)
 then_packets proper r session u units old mid new octets takes (otherwise p) =
     another_way (kept_takes (Elsewhere old.carrier.outgoing) (elsewhere_kept old.carrier.outgoing) units mid new p takes)
-then_packets proper r session u units old mid new octets takes (at_the_end ended same) =
-    let there = over_takes units mid new ended takes in
-    ended_by (subst (λ (x : End). IsSome x.carrier.ended) (sym there) ended) (ap (λ (x : End). x.carrier.outgoing) there ∙ same)
+then_packets proper r session u units old mid new octets takes (at_the_end ended same) = grind (arith, over_takes)
 
 pub caller_packets : AllProper → (r : ℕ) (session : Listener) (units : List (List ℕ)) (old new : End) → Asks r session old →
     CanBegin session → AllByRecursion IsOctets units →
     TakesPackets old units new → FirstStretch r session units old new
 caller_packets proper r session [] old new w k octets takes = nothing_came refl takes
-caller_packets proper r session (u ∷ units) old new w k octets takes =
-    then_packets proper r session u units old (after_packet old u) new octets.1 takes.1 (first_packet r session u old w k octets.0)
+caller_packets proper r session (u ∷ units) old new w k octets takes = search (arith, then_packets, first_packet)

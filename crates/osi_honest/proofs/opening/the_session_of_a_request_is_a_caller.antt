@@ -1,5 +1,6 @@
 -- The session of a request that is accepted begins as a caller does, with the CN of some opening that osi_session accepts.
 -- For the law that a calling end is not blamed.
+use Rattle.std.proofs.Common.{arith}
 use Rattle.osi_honest.proofs.Vocabulary.{Bool, false, if◌then◌else◌, length, List, nat_le, None, not, Option, option_map, refl, Some, true}
 use Rattle.osi_honest.proofs.Vocabulary.{ℕ, ◌||◌, ◌≡◌, ltb-false, unit_bits, named_by, Selector, CN, selector_octets, most_user_data}
 use Rattle.osi_honest.proofs.Vocabulary.{serial_for, Listener, refusal_of, offered, functional_units, is_profile, Opening, called_octets}
@@ -32,27 +33,20 @@ record Terms (profile long : Bool) : Type 0 where
 
 terms_by : {E : Type 0} (profile long : Bool) (a b : E) → (if not profile then Some a else (if long then Some b else None)) ≡ None →
     Terms profile long
-terms_by true true a b e = absurd (cc)
-terms_by true false a b e = record { is_profile = refl; is_short = refl }
-terms_by false long a b e = absurd (cc)
+terms_by h long a b e = grind arith
 
 or_left : (a b : Bool) → (a || b) ≡ false → a ≡ false
-or_left true b e = e
-or_left false b e = refl
+or_left a b e = grind arith
 
 or_right : (a b : Bool) → (a || b) ≡ false → b ≡ false
-or_right true b e = absurd (cc)
-or_right false b e = e
+or_right a b e = grind arith
 
 not_so : (b : Bool) → not b ≡ false → b ≡ true
-not_so true e = refl
-not_so false e = absurd (cc)
+not_so b e = grind arith
 
 accepted_by : {E : Type 0} (profile few : Bool) (a b : E) → profile ≡ true → few ≡ true →
     (if not profile then Some a else (if not few then Some b else None)) ≡ None
-accepted_by true true a b p q = refl
-accepted_by true false a b p q = absurd (cc)
-accepted_by false few a b p q = absurd (cc)
+accepted_by h few a b p q = grind arith
 
 abbrev with_selectors : Connect → Option (List ℕ) → Option (List ℕ) → Listener
 with_selectors c calling called = record (calls_with c) {

@@ -1,6 +1,7 @@
 -- If memory runs out for the first packet at a called end that waits: nothing was put, or one answer, or first another
 -- answer to a CR than a CC of class 0.
 -- For the turns of a called end.
+use Rattle.std.proofs.Common.{arith}
 use Rattle.osi_honest.proofs.Vocabulary.{[], ap, inl, inr, is_some, IsSome, List, None, subst, sym, true, ℕ, ◌++◌, ◌+◌, ◌∙◌, ◌∷◌, ◌≡◌, ◌⊎◌}
 use Rattle.osi_honest.proofs.Vocabulary.{IsOctets, units_found, AreUnits, may_be_followed, Value, reacts_over, acts_cases}
 use Rattle.osi_honest.proofs.Vocabulary.{told_opened as opened, reacts, State as Carrier, NoMemory, attends, hears_times, RunsOut, Starves}
@@ -54,14 +55,11 @@ module _ (units : List (List ℕ)) (u : List ℕ) (e new : End) (w : Waits e) (o
   out_then : (c : Carrier) → Over e.carrier.outgoing c ⊎ TurnsAway e.carrier.outgoing c.outgoing → RunsOut (with_carrier c e) new →
       FirstStretch units e new
   out_then c (inl p) out = ended_by ended (out_over e.carrier.outgoing (with_carrier c e) new p out)
-  out_then c (inr t) out =
-      another_way (turned_on e.carrier.outgoing c.outgoing new.carrier.outgoing t (λ octets p. ahead_runs_out octets c e new p out))
+  out_then c (inr t) out = search (arith, another_way, turned_on, ahead_runs_out)
 
   attended : (c : Carrier) → Over e.carrier.outgoing c ⊎ TurnsAway e.carrier.outgoing c.outgoing → new ≡ attends (with_carrier c e) →
       FirstStretch units e new
-  attended c (inl p) is =
-      let q = attends_over e.carrier.outgoing (with_carrier c e) p in
-      ended_by ended (ap (λ (x : End). x.carrier.outgoing) is ∙ q.1)
+  attended c (inl p) is = grind (arith, ended_by, attends_over e.carrier.outgoing (with_carrier c e) p)
   attended c (inr t) is =
       another_way (turned_on e.carrier.outgoing c.outgoing new.carrier.outgoing t
       (λ octets p. subst (λ (x : End). Ahead octets x.carrier) (sym is) (ahead_attends octets (with_carrier c e) p)))

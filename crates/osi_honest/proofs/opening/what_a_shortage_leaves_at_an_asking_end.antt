@@ -1,6 +1,7 @@
 -- If memory runs out for the first packet at a calling end whose CR is not answered yet: nothing was put, or first what is no
 -- DT of class 0.
 -- For the turns of a calling end.
+use Rattle.std.proofs.Common.{arith}
 use Rattle.osi_honest.proofs.Vocabulary.{[], ap, inl, inr, is_some, IsSome, List, None, subst, sym, true, ℕ, ◌++◌, ◌∙◌, ◌∷◌, ◌≡◌, IsOctets}
 use Rattle.osi_honest.proofs.Vocabulary.{units_found, AreUnits, may_be_followed, Value, reacts_over, acts_cases, told_opened as opened}
 use Rattle.osi_honest.proofs.Vocabulary.{reacts, State as Carrier, NoMemory, Listener, hears_times, RunsOut, Starves, with_carrier, End}
@@ -24,8 +25,7 @@ ends_elsewhere octets c p = (elsewhere_kept octets).ends_so NoMemory c p
 module _ (r : ℕ) (session : Listener) (u : List ℕ) (e : End) (w : Asks r session e) where
   units_out : (done : List Value) (next : Value) (more : List Value) (d : Carrier) → AreUnits (done ++ (next ∷ more)) u →
       (reacts done e.carrier).ended ≡ None → d ≡ ends NoMemory (reacts done e.carrier) → Elsewhere e.carrier.outgoing d
-  units_out [] next more d us lasts is =
-      inr (over (ap (λ (x : Carrier). is_some x.ended) is), ap (λ (x : Carrier). x.outgoing) is)
+  units_out [] next more d us lasts is = grind arith
   units_out (v ∷ done) next more d us lasts is =
       by (unit_first r e.carrier w.lasts w.live w.told w.is_caller w.class v (first_range v (done ++ (next ∷ more)) u us))
     where
@@ -61,8 +61,7 @@ module _ (r : ℕ) (session : Listener) (u : List ℕ) (e : End) (w : Asks r ses
               ∙ ap (λ (x : Carrier). x.outgoing) same ∙ a.outgoing,
         )
     acted_out c (elsewhere_in p) same out = out_then c (subst (Elsewhere e.carrier.outgoing) (sym same) p) out
-    acted_out c (over_in p) same out =
-        out_then c (subst (Elsewhere e.carrier.outgoing) (sym same) (inr (over p.0, p.1))) out
+    acted_out c (over_in p) same out = grind (arith, out_then c (subst (Elsewhere e.carrier.outgoing) (sym same) (inr (over p.0, p.1))) out)
 
     pub starved_asking : Starves e u new → Elsewhere e.carrier.outgoing new.carrier
     starved_asking (inl (c, starved, is)) =

@@ -54,8 +54,7 @@ can_begin law c h = grind (arith, sent_alone, cn_short)
 
 pub none_put : (old new : Holding) (put : List ℕ) → new.end.carrier.outgoing ≡ old.end.carrier.outgoing ++ put →
     new.end.carrier.outgoing ≡ old.end.carrier.outgoing → put ≡ []
-none_put old new put is same = append_cancel_left old.end.carrier.outgoing put []
-    (sym is ∙ same ∙ sym (append-nil old.end.carrier.outgoing))
+none_put old new put is same = grind (arith, append_cancel_left, append-nil old.end.carrier.outgoing)
 
 still_asks : (r : ℕ) (session : Listener) (used put : List ℕ) (old new : Holding) → Asks r session new.end → used ≡ [] →
     new.end.carrier.outgoing ≡ old.end.carrier.outgoing ++ put →

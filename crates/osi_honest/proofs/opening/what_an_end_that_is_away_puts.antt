@@ -1,12 +1,11 @@
 -- The turns of a calling end that has no connection of class 0: it puts nothing, or first what is no DT of class 0.
 -- For what a calling end did in all.
-use Rattle.osi_honest.proofs.Vocabulary.{[], ap, append_assoc, Bool, false, if◌then◌else◌, inl, inr, is_some, List, option_map, refl, subst}
-use Rattle.osi_honest.proofs.Vocabulary.{sym, true, ℕ, ◌++◌, ◌+◌, ◌∙◌, ◌∷◌, ◌≡◌, ◌⊎◌, packet_of, tsap_octets, request, Value, written}
-use Rattle.osi_honest.proofs.Vocabulary.{proposal, Broken, called, session_carried, disconnect_carrier, connects, ends, user_does, UserCall}
-use Rattle.osi_honest.proofs.Vocabulary.{breaking, calling, connecting, disconnecting, Call, Calls, carried_in, put_back, carrying, feeding}
-use Rattle.osi_honest.proofs.Vocabulary.{telling, End, Holding, has_none, has_two, IsAway, IsNoData, put_along, Act, Acts, carried_by, Run}
-use Rattle.osi_honest.proofs.Vocabulary.{Takes, Turn, serving, using}
-use Rattle.osi_honest.specs.Openings.{over}
+use Rattle.std.proofs.Common.{arith}
+use Rattle.osi_honest.proofs.Vocabulary.{[], ap, append_assoc, Bool, if◌then◌else◌, inl, inr, is_some, List, option_map, refl, subst, sym}
+use Rattle.osi_honest.proofs.Vocabulary.{ℕ, ◌++◌, ◌+◌, ◌∙◌, ◌∷◌, ◌≡◌, ◌⊎◌, packet_of, tsap_octets, request, Value, written, proposal}
+use Rattle.osi_honest.proofs.Vocabulary.{Broken, session_carried, disconnect_carrier, connects, ends, user_does, UserCall, breaking}
+use Rattle.osi_honest.proofs.Vocabulary.{calling, connecting, disconnecting, Call, Calls, carried_in, put_back, carrying, feeding, telling}
+use Rattle.osi_honest.proofs.Vocabulary.{End, Holding, IsAway, IsNoData, put_along, Act, Acts, carried_by, Run, Takes, Turn, serving, using}
 use Rattle.osi_honest.proofs.keeping.what_a_unit_keeps_a_turn_keeps.{kept_feeds}
 use Rattle.osi_honest.proofs.opening.what_an_asking_end_does.{none_put}
 use Rattle.osi_honest.proofs.opening.what_an_end_without_class_0_puts.{Elsewhere, elsewhere_kept, put_first, put_now}
@@ -24,48 +23,29 @@ AwayTurn put new = PutsOther put ⊎ (IsAway new.end.carrier × (put ≡ []))
 -- what is kept of where the end was before
 from_elsewhere : (put : List ℕ) (old new : Holding) → new.end.carrier.outgoing ≡ old.end.carrier.outgoing ++ put →
     Elsewhere old.end.carrier.outgoing new.end.carrier → AwayTurn put new
-from_elsewhere put old new is (inl p) =
-    inl (record {
-      unit = p.unit;
-      later = p.ahead.0;
-      other = p.other;
-      is = put_first old.end.carrier.outgoing put p.ahead.0 p.unit (p.ahead.1 ∙ is);
-    })
-from_elsewhere put old new is (inr (away, same)) = inr (away, none_put old new put is same)
+from_elsewhere put old new is h = grind (arith, put_first, none_put)
 
 -- octets that are handed over play no part
 not_handed : (octets : List ℕ) (e : End) → IsAway (put_back octets e).carrier → IsAway e.carrier
-not_handed octets e (over ended) = over ended
-not_handed octets e (has_none lasts side class live) = has_none lasts side class live
-not_handed octets e (has_two lasts side class all) = has_two lasts side class all
+not_handed octets e h = grind arith
 
 away_call : (call : Call) (put : List ℕ) (old new : Holding) → IsAway old.end.carrier → Calls old call new →
     carried_in call ++ new.end.carrier.outgoing ≡ old.end.carrier.outgoing ++ put → AwayTurn put new
 away_call (feeding piece fed) put old new away c is =
     from_elsewhere put old new is
     (kept_feeds (Elsewhere old.end.carrier.outgoing) (elsewhere_kept old.end.carrier.outgoing) piece fed old new (inr (away, refl)) c)
-away_call (telling shown) put old new away c is =
-    inr (
-      subst (λ (x : Holding). IsAway x.end.carrier) (sym c.1) away,
-      none_put old new put is (ap (λ (x : Holding). x.end.carrier.outgoing) c.1),
-    )
-away_call (carrying octets) put old new away c is =
-    inr (
-      not_handed octets new.end (subst (λ (x : Holding). IsAway x.end.carrier) c away),
-      none_put old (record old { end = put_back octets new.end }) put is (sym (ap (λ (x : Holding). x.end.carrier.outgoing) c)),
-    )
+away_call (telling shown) put old new away c is = grind (arith, none_put)
+away_call (carrying octets) put old new away c is = grind (arith, not_handed, none_put)
 
 broken_end : (octets : List ℕ) (b : Bool) (e : End) → Elsewhere octets e.carrier → Elsewhere octets (if b then e else ends Broken e).carrier
-broken_end octets true e p = p
-broken_end octets false e p = (elsewhere_kept octets).ends_so Broken e.carrier p
+broken_end octets b e p = grind (arith, elsewhere_kept)
 
 away_user : (call : UserCall) (e : End) → IsAway e.carrier → Elsewhere e.carrier.outgoing (user_does call e).carrier
 away_user (connecting c) e away =
     put_now e.carrier.outgoing (request (proposal e.carrier.local e.carrier.class (option_map tsap_octets c.calling_tsap)
     (option_map tsap_octets c.called_tsap) (e.carrier.given + 1))) [] e.carrier
     (connects c e).carrier tt refl refl
-away_user (calling r call) e away =
-    session_carried (Elsewhere e.carrier.outgoing) (elsewhere_kept e.carrier.outgoing).carries r (called call) e (inr (away, refl))
+away_user (calling r call) e away = grind (arith, session_carried, elsewhere_kept e.carrier.outgoing)
 away_user (disconnecting r) e away =
     subst (Elsewhere e.carrier.outgoing) (sym (disconnect_carrier r e))
     ((elsewhere_kept e.carrier.outgoing).carries.closes r e.carrier (inr (away, refl)))
@@ -82,20 +62,10 @@ away_turn turn old new away takes = by takes.act takes.acts takes.put
         (subst (λ (x : Holding). Elsewhere old.end.carrier.outgoing x.end.carrier) (sym acts.3) (away_user call old.end away))
 
 pub puts_first : (put more : List ℕ) → PutsOther put → PutsOther (put ++ more)
-puts_first put more p = record {
-  unit = p.unit;
-  later = p.later ++ more;
-  other = p.other;
-  is = ap (λ (x : List ℕ). x ++ more) p.is ∙ append_assoc (packet_of (written p.unit)) p.later more;
-}
+puts_first put more p = grind (arith, append_assoc)
 
 pub puts_then : (put more : List ℕ) → put ≡ [] → PutsOther more → PutsOther (put ++ more)
-puts_then put more none p = record {
-  unit = p.unit;
-  later = p.later;
-  other = p.other;
-  is = ap (λ (x : List ℕ). x ++ more) none ∙ p.is;
-}
+puts_then put more none p = grind arith
 
 pub away_run : (turns : List Turn) (old new : Holding) → IsAway old.end.carrier → Run old turns new →
     (put_along turns ≡ []) ⊎ PutsOther (put_along turns)

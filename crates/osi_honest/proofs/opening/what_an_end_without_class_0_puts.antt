@@ -1,13 +1,14 @@
 -- A calling end that has no connection of class 0, and asks for none, puts nothing, or first what is no DT of class 0.
 -- For what a calling end puts whose request was refused, or accepted in class 2.
+use Rattle.std.proofs.Common.{arith}
 use Rattle.osi_honest.proofs.Vocabulary.{[], ap, append_assoc, Bool, Err, false, if◌then◌else◌, inl, inr, is_some, IsSome, List, map, None}
 use Rattle.osi_honest.proofs.Vocabulary.{not, Ok, Option, refl, Some, subst, sym, true, ℕ, ◌&&◌, ◌++◌, ◌==◌, ◌||◌, ◌∙◌, ◌∷◌, ◌≡◌, ◌⊎◌}
 use Rattle.osi_honest.proofs.Vocabulary.{append-nil, append_cancel_left, packet_of, acknowledge, confirm, data0, data2, disconnect}
 use Rattle.osi_honest.proofs.Vocabulary.{disconnected, error, request, Value, written, move_same, drained_leaves, drained_moves}
-use Rattle.osi_honest.proofs.Vocabulary.{giving_leaves, all_given, Given, is_of_two, part0, Standing, taken, unit_of, with_tsdu, give_out}
+use Rattle.osi_honest.proofs.Vocabulary.{giving_leaves, all_given, Given, is_of_two, Standing, taken, unit_of, with_tsdu, give_out}
 use Rattle.osi_honest.proofs.Vocabulary.{MovesAlong, take_in, LinkFault, Class, Two, Zero, react_quiet, reacts_over, closed_on, closes}
-use Rattle.osi_honest.proofs.Vocabulary.{link_of, open_link, sent_on, Happening, agreed_size, confirmed, opened_link, proposes_two}
-use Rattle.osi_honest.proofs.Vocabulary.{selects_expedited, pumped, written_by, before_class, handed_out, in_class, in_two, leaves}
+use Rattle.osi_honest.proofs.Vocabulary.{link_of, open_link, sent_on, Happening, confirmed, proposes_two}
+use Rattle.osi_honest.proofs.Vocabulary.{selects_expedited, pumped, written_by, before_class, handed_out, in_two, leaves}
 use Rattle.osi_honest.proofs.Vocabulary.{opens_by as opens, pumps, settles, taking, to_asked, to_closing, to_connection, to_linked}
 use Rattle.osi_honest.proofs.Vocabulary.{to_reference, to_unknown, put, Rows, value_at, without, asked, closing, Connection, linked}
 use Rattle.osi_honest.proofs.Vocabulary.{packets, State as Carrier, EndReason, AllHaveFlow, has_none, has_two, HasFlow, IsAway, IsNoData}
@@ -23,16 +24,13 @@ use Rattle.osi_honest.proofs.keeping.what_was_put_stays_in_front.{Ahead, ahead_k
 -- ---- class 0 is not confirmed while class 2 holds
 
 never_confirmed : (a b c d : Bool) → (if a then Some Two else (if b && (false && (c || not d)) then Some Zero else None)) ≡ Some Zero → ⊥
-never_confirmed true b c d e = cc
-never_confirmed false true c d e = cc
-never_confirmed false false c d e = cc
+never_confirmed a b c d e = grind arith
 
 -- ---- rows of links of class 2
 
 flow_here : (b : Bool) (r : ℕ) (x y : Connection) (rows : Rows Connection) → HasFlow y → (value_at r rows ≡ Some x → HasFlow x) →
     (if b then Some y else value_at r rows) ≡ Some x → HasFlow x
-flow_here true r x y rows here more e = let same : y ≡ x = cc in subst HasFlow same here
-flow_here false r x y rows here more e = more e
+flow_here b r x y rows here more e = grind arith
 
 flow_at : (r : ℕ) (x : Connection) (rows : Rows Connection) → AllHaveFlow rows → value_at r rows ≡ Some x → HasFlow x
 flow_at r x [] all e = absurd (cc)
@@ -40,8 +38,7 @@ flow_at r x ((q, y) ∷ rows) all e = flow_here (q == r) r x y rows all.0 (flow_
 
 flow_put_by : (b : Bool) (q r : ℕ) (x y : Connection) (rows : Rows Connection) → HasFlow x → HasFlow y → AllHaveFlow rows →
     AllHaveFlow (put r x rows) → AllHaveFlow (if b then (q, x) ∷ rows else (q, y) ∷ put r x rows)
-flow_put_by true q r x y rows here there all more = (here, all)
-flow_put_by false q r x y rows here there all more = (there, more)
+flow_put_by b q r x y rows here there all more = grind arith
 
 flow_put : (r : ℕ) (x : Connection) (rows : Rows Connection) → AllHaveFlow rows → HasFlow x → AllHaveFlow (put r x rows)
 flow_put r x [] all here = tt
@@ -49,8 +46,7 @@ flow_put r x ((q, y) ∷ rows) all here = flow_put_by (q == r) q r x y rows here
 
 flow_without_by : (b : Bool) (q r : ℕ) (y : Connection) (rows : Rows Connection) → HasFlow y → AllHaveFlow rows →
     AllHaveFlow (without r rows) → AllHaveFlow (if b then rows else (q, y) ∷ without r rows)
-flow_without_by true q r y rows there all more = all
-flow_without_by false q r y rows there all more = (there, more)
+flow_without_by b q r y rows there all more = grind arith
 
 flow_without : (r : ℕ) (rows : Rows Connection) → AllHaveFlow rows → AllHaveFlow (without r rows)
 flow_without r [] all = tt
@@ -63,8 +59,7 @@ NoneOfZero [] = Unit {0}
 NoneOfZero (v ∷ vs) = IsNoData v
 
 given_two : (peer : ℕ) (g : Given) → is_of_two g ≡ true → IsNoData (unit_of peer g)
-given_two peer (part0 end octets) e = cc
-given_two peer _ e = tt
+given_two peer g e = grind arith
 
 gives_two : (peer : ℕ) (units : List Given) (s t : Standing) → is_some s.flow ≡ true → MovesAlong s (map give_out units) t →
     NoneOfZero (map (unit_of peer) units)
@@ -87,15 +82,7 @@ module _ (octets : List ℕ) where
   pub put_now : (v : Value) (vs : List Value) (c d : Carrier) → IsNoData v → c.outgoing ≡ octets →
       d.outgoing ≡ c.outgoing ++ packets (v ∷ vs) →
       Elsewhere octets d
-  put_now v vs c d other same is = inl (record {
-    unit = v;
-    other = other;
-    ahead = (
-      packets vs,
-      append_assoc octets (packets (v ∷ [])) (packets vs) ∙ ap (λ (x : List ℕ). octets ++ x) (sym (packets_joined (v ∷ []) vs))
-          ∙ ap (λ (x : List ℕ). x ++ packets (v ∷ vs)) (sym same) ∙ sym is,
-    );
-  })
+  put_now v vs c d other same is = grind (arith, append_assoc octets (packets (v ∷ [])) (packets vs), packets_joined (v ∷ []) vs)
 
   gone : (c d : Carrier) → IsSome d.ended → d.outgoing ≡ c.outgoing → c.outgoing ≡ octets → Elsewhere octets d
   gone c d ended is same = inr (over ended, is ∙ same)
@@ -105,8 +92,7 @@ module _ (octets : List ℕ) where
   module _ (c : Carrier) (lasts : c.ended ≡ None) (side : c.is_caller ≡ true) (class : c.class ≡ None) (live : c.live ≡ [])
       (same : c.outgoing ≡ octets) where
     none_known : (destination : ℕ) (v : Value) → Elsewhere octets (to_unknown v c) → Elsewhere octets (to_reference destination v c)
-    none_known destination v h =
-        subst (λ (rows : Rows Connection). Elsewhere octets (to_connection destination (value_at destination rows) v c)) (sym live) h
+    none_known destination v h = grind arith
 
     by_side : (v : Value) → Elsewhere octets (before_class true v c)
     by_side (confirm destination cr) = none_known destination (confirm destination cr) (gone c _ refl refl same)
@@ -117,15 +103,10 @@ module _ (octets : List ℕ) where
     by_side _ = gone c _ refl refl same
 
     none_reacts : (v : Value) → Elsewhere octets (react v c)
-    none_reacts v =
-        subst (Elsewhere octets)
-        (sym (react_quiet v c lasts ∙ ap (λ (x : Option Class). in_class x v c) class ∙ ap (λ (x : Bool). before_class x v c) side))
-        (by_side v)
+    none_reacts v = grind (arith, react_quiet, by_side)
 
     none_open : (r : ℕ) → open_link r c ≡ None
-    none_open r =
-        ap (λ (x : Bool). if x then None else link_of (value_at r c.live)) (ap is_some lasts)
-        ∙ ap (λ (rows : Rows Connection). link_of (value_at r rows)) live
+    none_open r = grind arith
 
   -- ---- class 2
 
@@ -147,16 +128,11 @@ module _ (octets : List ℕ) where
     two_unknown _ = two_fails _ refl refl
 
     two_opens : (r : ℕ) (cr : Connect) (o : Option Class) → (o ≡ Some Zero → ⊥) → Elsewhere octets (opens r cr o c)
-    two_opens r cr None never = two_fails _ refl refl
-    two_opens r cr (Some Zero) never = absurd (never refl)
-    two_opens r cr (Some Two) never =
-        let now = linked cr.source (opened_link Two (agreed_size cr.parameters.size c.local) c.local cr.credit) in
-        inr (has_two lasts side refl (flow_put r now c.live all refl), same)
+    two_opens r cr o never = grind (arith, two_fails, flow_put)
 
     two_drops : (r : ℕ) (d : Carrier) → d.ended ≡ c.ended → d.is_caller ≡ c.is_caller → d.class ≡ c.class → d.live ≡ without r c.live →
         d.outgoing ≡ c.outgoing → Elsewhere octets d
-    two_drops r d ended is_caller known live is =
-        two_live d ended is_caller known (subst AllHaveFlow (sym live) (flow_without r c.live all)) is
+    two_drops r d ended is_caller known live is = grind (arith, two_live, flow_without)
 
     two_asked : (r : ℕ) (v : Value) → Elsewhere octets (to_asked r v c)
     two_asked r (confirm destination cr) = two_opens r cr (confirmed cr c.local c.class) (never_zero cr)
@@ -185,11 +161,7 @@ module _ (octets : List ℕ) where
         (d : Carrier) → d.ended ≡ c.ended → d.is_caller ≡ c.is_caller → d.class ≡ c.class →
         d.live ≡ put r (linked peer (pumped link)) c.live →
         d.outgoing ≡ c.outgoing ++ packets (written_by peer link) → Elsewhere octets d
-    pump_by r peer link [] units none flow d ended is_caller known live is =
-        two_live d ended is_caller known (subst AllHaveFlow (sym live) (flow_put r (linked peer (pumped link)) c.live all flow))
-        (is ∙ ap (λ (x : List Value). c.outgoing ++ packets x) units ∙ append-nil c.outgoing)
-    pump_by r peer link (v ∷ vs) units none flow d ended is_caller known live is =
-        put_now v vs c d none same (is ∙ ap (λ (x : List Value). c.outgoing ++ packets x) units)
+    pump_by r peer link vs units none flow d ended is_caller known live is = grind (arith, two_live, flow_put, append-nil, put_now)
 
     two_pumps : (r peer : ℕ) (link : Standing) → is_some link.flow ≡ true →
         (d : Carrier) → d.ended ≡ c.ended → d.is_caller ≡ c.is_caller → d.class ≡ c.class →
@@ -239,10 +211,7 @@ module _ (octets : List ℕ) where
     by_two _ = two_fails _ refl refl
 
     two_reacts : (v : Value) → Elsewhere octets (react v c)
-    two_reacts v =
-        subst (Elsewhere octets)
-        (sym (react_quiet v c lasts ∙ ap (λ (x : Option Class). in_class x v c) class ∙ ap (λ (x : Bool). in_two x v c) side))
-        (by_two v)
+    two_reacts v = grind (arith, react_quiet, by_two)
 
     two_sends : (r : ℕ) (tsdu : List ℕ) (at : Option Connection) → value_at r c.live ≡ at → Elsewhere octets (sent_on r tsdu (link_of at) c)
     two_sends r tsdu (Some (linked peer link)) e =
@@ -262,58 +231,33 @@ module _ (octets : List ℕ) where
   -- ---- all of it
 
   other_reacts : (v : Value) (c : Carrier) → Elsewhere octets c → Elsewhere octets (react v c)
-  other_reacts v c (inl p) =
-      inl (record { unit = p.unit; other = p.other; ahead = (ahead_kept (octets ++ packets (p.unit ∷ []))).reacts_to v c p.ahead })
+  other_reacts v c (inl p) = grind (arith, ahead_kept (octets ++ packets (p.unit ∷ [])))
   other_reacts v c (inr (over ended, same)) = subst (Elsewhere octets) (sym (reacts_over (v ∷ []) c ended)) (inr (over ended, same))
   other_reacts v c (inr (has_none lasts side class live, same)) = none_reacts c lasts side class live same v
   other_reacts v c (inr (has_two lasts side class all, same)) = two_reacts c lasts side class all same v
 
   other_sends : (r : ℕ) (tsdu : List ℕ) (c : Carrier) → Elsewhere octets c → Elsewhere octets (sent_on r tsdu (open_link r c) c)
-  other_sends r tsdu c (inl p) =
-      inl (record { unit = p.unit; other = p.other; ahead = (ahead_kept (octets ++ packets (p.unit ∷ []))).carries.sends r tsdu c p.ahead })
-  other_sends r tsdu c (inr (over ended, same)) =
-      subst (Elsewhere octets) (sym (ap (λ o. sent_on r tsdu o c) (no_link r c ended))) (inr (over ended, same))
-  other_sends r tsdu c (inr (has_none lasts side class live, same)) =
-      subst (Elsewhere octets) (sym (ap (λ o. sent_on r tsdu o c) (none_open c lasts side class live same r)))
-      (inr (has_none lasts side class live, same))
-  other_sends r tsdu c (inr (has_two lasts side class all, same)) =
-      subst (Elsewhere octets) (sym (ap (λ o. sent_on r tsdu o c) (open_by c lasts side class all same r)))
-      (two_sends c lasts side class all same r tsdu (value_at r c.live) refl)
+  other_sends r tsdu c (inl p) = grind (arith, ahead_kept (octets ++ packets (p.unit ∷ [])))
+  other_sends r tsdu c (inr (over ended, same)) = grind (arith, no_link)
+  other_sends r tsdu c (inr (has_none lasts side class live, same)) = grind (arith, none_open)
+  other_sends r tsdu c (inr (has_two lasts side class all, same)) = grind (arith, open_by, two_sends)
 
   other_closes : (r : ℕ) (c : Carrier) → Elsewhere octets c → Elsewhere octets (closed_on r 128 (open_link r c) c)
-  other_closes r c (inl p) =
-      inl (record { unit = p.unit; other = p.other; ahead = (ahead_kept (octets ++ packets (p.unit ∷ []))).carries.closes r c p.ahead })
-  other_closes r c (inr (over ended, same)) =
-      subst (Elsewhere octets) (sym (ap (λ o. closed_on r 128 o c) (no_link r c ended))) (inr (over ended, same))
-  other_closes r c (inr (has_none lasts side class live, same)) =
-      subst (Elsewhere octets) (sym (ap (λ o. closed_on r 128 o c) (none_open c lasts side class live same r)))
-      (inr (has_none lasts side class live, same))
-  other_closes r c (inr (has_two lasts side class all, same)) =
-      subst (Elsewhere octets) (sym (ap (λ o. closed_on r 128 o c) (open_by c lasts side class all same r)))
-      (two_closes c lasts side class all same r (value_at r c.live))
+  other_closes r c (inl p) = grind (arith, ahead_kept (octets ++ packets (p.unit ∷ [])))
+  other_closes r c (inr (over ended, same)) = grind (arith, no_link)
+  other_closes r c (inr (has_none lasts side class live, same)) = grind (arith, none_open)
+  other_closes r c (inr (has_two lasts side class all, same)) = grind (arith, open_by, two_closes)
 
   other_untold : (events : List Happening) (c : Carrier) → Elsewhere octets c → Elsewhere octets (record c { events = events })
-  other_untold events c (inl p) = inl (record { unit = p.unit; other = p.other; ahead = p.ahead })
-  other_untold events c (inr (over ended, same)) = inr (over ended, same)
-  other_untold events c (inr (has_none lasts side class live, same)) = inr (has_none lasts side class live, same)
-  other_untold events c (inr (has_two lasts side class all, same)) = inr (has_two lasts side class all, same)
+  other_untold events c h = grind arith
 
   other_ends : (reason : EndReason) (c : Carrier) → Elsewhere octets c → Elsewhere octets (ends reason c)
-  other_ends reason c (inl p) = inl (record { unit = p.unit; other = p.other; ahead = p.ahead })
-  other_ends reason c (inr (away, same)) = inr (over refl, same)
+  other_ends reason c h = grind arith
 
   pub elsewhere_kept : IsKept (Elsewhere octets)
-  elsewhere_kept = record {
-    reacts_to = other_reacts;
-    carries = record { sends = other_sends; closes = other_closes };
-    untold = other_untold;
-    ends_so = other_ends;
-  }
+  elsewhere_kept = search (arith, other_reacts, other_sends, other_closes, other_untold, other_ends)
 
 -- what was put first, by what was put after what was there
 pub put_first : (old put later : List ℕ) (unit : Value) → (old ++ packets (unit ∷ [])) ++ later ≡ old ++ put →
     put ≡ packet_of (written unit) ++ later
-put_first old put later unit is =
-    sym (append_cancel_left old (packet_of (written unit) ++ later) put
-    (ap (λ (l : List ℕ). old ++ (l ++ later)) (sym (append-nil (packet_of (written unit))))
-    ∙ sym (append_assoc old (packets (unit ∷ [])) later) ∙ is))
+put_first old put later unit is = search (arith, append_cancel_left, append-nil, append_assoc)

@@ -1,19 +1,19 @@
 -- Whatever arrives, whatever its user calls and however much memory there is, each unit that an end puts can be written, so that
 -- it is read again.
 -- For what the transport of an end puts.
+use Rattle.std.proofs.Common.{arith}
 use Rattle.osi_honest.proofs.Vocabulary.{[], ap, append_assoc, Bool, Err, false, if◌then◌else◌, is_some, List, map, None, Ok, Option}
-use Rattle.osi_honest.proofs.Vocabulary.{option_map, refl, Result, Some, subst, sym, true, ℕ, ◌&&◌, ◌++◌, ◌+◌, ◌∙◌, ◌∷◌, ◌≡◌, ◌≤◌}
-use Rattle.osi_honest.proofs.Vocabulary.{append-nil, append_cancel_left, AllByRecursion, IfSome, IsOctets, Cuts, Ending, units_fit}
-use Rattle.osi_honest.proofs.Vocabulary.{units_found, tsap_octets, units_of, confirm, data0, disconnect, disconnected, error}
-use Rattle.osi_honest.proofs.Vocabulary.{HasFieldsInRange, IsConnect, request, Value, Fits, written, TpduFault, Tsap, Standing, taken}
-use Rattle.osi_honest.proofs.Vocabulary.{with_tsdu, accept, keeps_flow_control, proposes, proposes_zero_alone, refuse, selected_by}
-use Rattle.osi_honest.proofs.Vocabulary.{selected_size, LinkFault, Class, Two, Zero, Local, closed_on, closes, link_of, sent_on, acceptance}
-use Rattle.osi_honest.proofs.Vocabulary.{agreed_size, confirmed, opened_link, proposal, proposes_two, connection_by, pumped, written_by}
-use Rattle.osi_honest.proofs.Vocabulary.{accepts, answers, before_class, denies, handed_out, has_peer, in_class, in_two, in_zero, is_full}
-use Rattle.osi_honest.proofs.Vocabulary.{leaves, opens_by as opens, pumps, react_by, reacts, settles, taking, to_asked, to_closing}
-use Rattle.osi_honest.proofs.Vocabulary.{to_connection, to_linked, to_only, to_reference, to_unknown, put, Rows, value_at, asked, closing}
-use Rattle.osi_honest.proofs.Vocabulary.{Connection, linked, packets, State as Carrier, EndReason, NoMemory, Carries, End, Holding, Capture}
-use Rattle.osi_honest.proofs.Vocabulary.{stream, Direction, HasOneUnit, IsFresh, IsSeen, put_along, Run, Turn, CanBeWritten}
+use Rattle.osi_honest.proofs.Vocabulary.{option_map, refl, Result, Some, subst, sym, true, ℕ, ◌++◌, ◌+◌, ◌∙◌, ◌∷◌, ◌≡◌, ◌≤◌, append-nil}
+use Rattle.osi_honest.proofs.Vocabulary.{append_cancel_left, AllByRecursion, IfSome, IsOctets, Cuts, Ending, units_fit, units_found}
+use Rattle.osi_honest.proofs.Vocabulary.{tsap_octets, units_of, confirm, data0, disconnect, disconnected, error, HasFieldsInRange}
+use Rattle.osi_honest.proofs.Vocabulary.{IsConnect, request, Value, Fits, written, TpduFault, Tsap, Standing, taken, with_tsdu, accept}
+use Rattle.osi_honest.proofs.Vocabulary.{refuse, selected_by, LinkFault, Class, Two, Zero, Local, closed_on, closes, link_of, sent_on}
+use Rattle.osi_honest.proofs.Vocabulary.{acceptance, opened_link, proposal, proposes_two, connection_by, pumped, written_by, accepts}
+use Rattle.osi_honest.proofs.Vocabulary.{answers, before_class, denies, has_peer, in_class, in_two, in_zero, is_full, leaves}
+use Rattle.osi_honest.proofs.Vocabulary.{opens_by as opens, pumps, react_by, reacts, taking, to_asked, to_closing, to_connection, to_linked}
+use Rattle.osi_honest.proofs.Vocabulary.{to_only, to_reference, to_unknown, put, Rows, value_at, asked, closing, Connection, linked}
+use Rattle.osi_honest.proofs.Vocabulary.{packets, State as Carrier, EndReason, Carries, Holding, Capture, stream, Direction, HasOneUnit}
+use Rattle.osi_honest.proofs.Vocabulary.{IsFresh, IsSeen, put_along, Run, Turn, CanBeWritten}
 use Rattle.osi_tpdu.specs.Value.{Connect}
 use Rattle.osi_carrier.specs.Calls.{asks}
 use Rattle.osi_carrier.specs.Packets as carriers
@@ -55,13 +55,7 @@ all_more (v ∷ some) others a b = (a.0, all_more some others a.1 b)
 module _ (octets : List ℕ) where
   writes_more : (c d : Carrier) (units : List Value) → CanBeRead octets c → AllByRecursion CanBeWritten units →
       d.outgoing ≡ c.outgoing ++ packets units → AreNumbered d.live → CanBeRead octets d
-  writes_more c d units p can is links = record {
-    units = p.units ++ units;
-    is = is ∙ ap (λ (x : List ℕ). x ++ packets units) p.is ∙ append_assoc octets (packets p.units) (packets units)
-        ∙ ap (λ (x : List ℕ). octets ++ x) (sym (packets_joined p.units units));
-    written = all_more p.units units p.written can;
-    links = links;
-  }
+  writes_more c d units p can is links = grind (arith, append_assoc, packets_joined, all_more)
 
   writes_none : (c d : Carrier) → CanBeRead octets c → d.outgoing ≡ c.outgoing → AreNumbered d.live → CanBeRead octets d
   writes_none c d p same links = record { units = p.units; is = same ∙ p.is; written = p.written; links = links }
@@ -95,9 +89,7 @@ module _ (octets : List ℕ) where
         else (if full then denies 1 c.source s else answers c (selected_by c s.local) s.class s))
     by_request c true full h = denied 131 c.source
     by_request c false true h = denied 1 c.source
-    by_request c false false h =
-        by_selection (s.local.class2 && (proposes c 2 && keeps_flow_control c)) (s.local.class0 && proposes c 0) (proposes_zero_alone c)
-        (selected_size c s.local) s.class c h (size_in_range c.parameters.size s.local h.parameters.size)
+    by_request c false false h = grind (arith, by_selection, size_in_range)
 
     by_unknown : (unit : Value) → CanBeRead octets (to_unknown unit s)
     by_unknown (disconnect destination source reason user) =
@@ -106,18 +98,10 @@ module _ (octets : List ℕ) where
     by_unknown _ = writes_none s _ p refl tt
 
     by_opens : (r : ℕ) (c : Connect) (class : Option Class) → CanBeRead octets (opens r c class s)
-    by_opens r c None = writes_none s _ p refl tt
-    by_opens r c (Some class) =
-        writes_none s _ p refl
-        (row_put IsNumberedRow r (linked c.source (opened_link class (agreed_size c.parameters.size s.local) s.local c.credit)) s.live
-        p.links
-        (link_opens class (agreed_size c.parameters.size s.local) s.local c.credit))
+    by_opens r c class = grind (arith, writes_none, row_put, link_opens)
 
     by_asked : (r : ℕ) (unit : Value) → CanBeRead octets (to_asked r unit s)
-    by_asked r (confirm destination c) = by_opens r c (confirmed c s.local s.class)
-    by_asked r (disconnect destination source reason user) = writes_none s _ p refl (row_without IsNumberedRow r s.live p.links)
-    by_asked r (error destination cause) = writes_none s _ p refl (row_without IsNumberedRow r s.live p.links)
-    by_asked r v = by_unknown v
+    by_asked r unit = search (arith, by_opens, writes_none, row_without, by_unknown)
 
     by_breaks : (r peer : ℕ) (fault : LinkFault) (held : Option Class) → CanBeRead octets (breaks r peer fault held s)
     by_breaks r peer fault (Some Two) =
@@ -126,16 +110,11 @@ module _ (octets : List ℕ) where
 
     pumps_so : (r peer : ℕ) (link : Standing) (d : Carrier) → IsNumbered link.flow →
         d.outgoing ≡ s.outgoing ++ packets (written_by peer link) → d.live ≡ put r (linked peer (pumped link)) s.live → CanBeRead octets d
-    pumps_so r peer link d numbered outgoing live =
-        let all = gives_written peer link numbered in
-        writes_more s d (written_by peer link) p all.0 outgoing
-        (subst AreNumbered (sym live) (row_put IsNumberedRow r (linked peer (pumped link)) s.live p.links all.1))
+    pumps_so r peer link d numbered outgoing live = grind (arith, writes_more, row_put, gives_written peer link numbered)
 
     by_taking : (r peer : ℕ) (link : Standing) (unit : Value) (result : Result Standing LinkFault) → IsNumbered link.flow →
         taken link unit ≡ result → CanBeRead octets (taking r peer result s)
-    by_taking r peer link unit (Ok after) numbered e =
-        pumps_so r peer (handed_out after) (settles r peer after s) (taken_numbered link after unit numbered e) refl refl
-    by_taking r peer link unit (Err fault) numbered e = by_breaks r peer fault s.class
+    by_taking r peer link unit result numbered e = search (arith, pumps_so, taken_numbered, by_breaks)
 
     by_leaves : (r peer reason : ℕ) (held : Option Class) → CanBeRead octets (leaves r peer reason held s)
     by_leaves r peer reason (Some Two) =
@@ -143,13 +122,10 @@ module _ (octets : List ℕ) where
     by_leaves r peer reason _ = writes_none s _ p refl tt
 
     by_linked : (r peer : ℕ) (link : Standing) (unit : Value) → IsNumbered link.flow → CanBeRead octets (to_linked r peer link unit s)
-    by_linked r peer link (disconnect destination source reason user) numbered = by_leaves r peer reason s.class
-    by_linked r peer link v numbered = by_taking r peer link v _ numbered refl
+    by_linked r peer link unit numbered = search (arith, by_leaves, by_taking)
 
     by_closing : (r : ℕ) (unit : Value) → CanBeRead octets (to_closing r unit s)
-    by_closing r (disconnected destination source) = writes_none s _ p refl (row_without IsNumberedRow r s.live p.links)
-    by_closing r (disconnect destination source reason user) = writes_none s _ p refl (row_without IsNumberedRow r s.live p.links)
-    by_closing r _ = p
+    by_closing r unit = grind (arith, writes_none, row_without)
 
     by_connection : (r : ℕ) (at : Option Connection) (unit : Value) → ((x : Connection) → at ≡ Some x → IsNumberedRow x) →
         CanBeRead octets (to_connection r at unit s)
@@ -166,8 +142,7 @@ module _ (octets : List ℕ) where
 
     by_before : (is_caller : Bool) (unit : Value) → HasFieldsInRange unit → CanBeRead octets (before_class is_caller unit s)
     by_before true (confirm destination c) range = by_reference destination (confirm destination c)
-    by_before true (disconnect destination source reason user) range =
-        by_reference destination (disconnect destination source reason user)
+    by_before true (disconnect destination source reason user) range = grind (arith, by_reference)
     by_before true (error destination cause) range = by_reference destination (error destination cause)
     by_before false (request c) range = by_request c (has_peer c.source s.live) (is_full s) range
     by_before is_caller unit range = writes_none s _ p refl tt
@@ -188,13 +163,10 @@ module _ (octets : List ℕ) where
     by_two is_caller unit range = by_reference (connection_by (Some Two) unit s) unit
 
     by_class : (held : Option Class) (unit : Value) → HasFieldsInRange unit → CanBeRead octets (in_class held unit s)
-    by_class None unit range = by_before s.is_caller unit range
-    by_class (Some Zero) unit range = by_zero s.is_caller unit
-    by_class (Some Two) unit range = by_two s.is_caller unit range
+    by_class held unit range = search (arith, by_before, by_zero, by_two)
 
     by_end : (over : Bool) (unit : Value) → HasFieldsInRange unit → CanBeRead octets (react_by over unit s)
-    by_end true unit range = p
-    by_end false unit range = by_class s.class unit range
+    by_end over unit range = grind (arith, by_class)
 
     unit_reacts : (unit : Value) → HasFieldsInRange unit → CanBeRead octets (react unit s)
     unfolding react
@@ -215,9 +187,7 @@ module _ (octets : List ℕ) where
         writes_more s _ (disconnect peer r 128 [] ∷ []) p (tt, tt) refl (row_put IsNumberedRow r (closing peer) s.live p.links tt)
 
     closed_by : (r : ℕ) (over : Bool) (at : Option Connection) → CanBeRead octets (closed_on r 128 (if over then None else link_of at) s)
-    closed_by r true at = p
-    closed_by r false (Some (linked peer link)) = closes_by r peer s.class
-    closed_by r false _ = p
+    closed_by r over at = grind (arith, closes_by)
 
     asks_so : (calling called : Option Tsap) → CanBeRead octets (asks (option_map tsap_octets calling) (option_map tsap_octets called) s)
     asks_so calling called =
@@ -247,9 +217,7 @@ module _ (octets : List ℕ) where
 
   shortage_so : (u : List ℕ) (c d : Carrier) → IsOctets u → CanBeRead octets c → carriers.Starves c u d → CanBeRead octets d
   shortage_so u c d are p (units, e, out) =
-      let all = subst (λ (l : List Value). AllByRecursion Fits l) out.all (units_fit units u (units_found u units are e)) in
-      let done = all_react out.done c (front_fits out.done (out.next ∷ out.more) all) p in
-      subst (CanBeRead octets) (sym out.ended) (ended (reacts out.done c) done NoMemory)
+      grind (arith, all_react, front_fits, ended, units_fit units u (units_found u units are e), units_found u units are e)
 
   carries_so : Carries (CanBeRead octets)
   carries_so = record {
@@ -295,8 +263,7 @@ put_to_read proper (turn ∷ turns) old new links run =
 
 pub run_to_read : AllProper → (is_caller : Bool) (local : Local) (begin end : Holding) (turns : List Turn) → IsFresh is_caller local begin →
     Run begin turns end → ArePutToRead (put_along turns)
-run_to_read proper is_caller local begin end turns fresh run =
-    put_to_read proper turns begin end (subst (λ (e : End). AreNumbered e.carrier.live) (sym fresh.end) tt) run
+run_to_read proper is_caller local begin end turns fresh run = grind (arith, put_to_read)
 
 -- ---- what is shown of it
 

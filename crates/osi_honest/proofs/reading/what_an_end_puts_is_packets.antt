@@ -55,17 +55,11 @@ as_put put old new is p = grind (arith, append_cancel_left)
 call_puts : (call : Call) (put : List ℕ) (old new : Holding) → Calls old call new →
     carried_in call ++ new.end.carrier.outgoing ≡ old.end.carrier.outgoing ++ put → ArePut put
 call_puts (feeding piece fed) put old new c is =
-    as_put put old new is
-    (kept_feeds (λ c. PacketsAfter old.end.carrier.outgoing c.outgoing) (kept old.end.carrier.outgoing) piece fed old new
-    (none_yet old.end.carrier.outgoing) c)
+    grind (arith, as_put, kept_feeds, kept old.end.carrier.outgoing, none_yet old.end.carrier.outgoing)
 call_puts (telling shown) put old new c is =
     as_put put old new is
     (subst (λ (x : Holding). PacketsAfter old.end.carrier.outgoing x.end.carrier.outgoing) (sym c.1) (none_yet old.end.carrier.outgoing))
-call_puts (carrying octets) put old new c is = record {
-  units = [];
-  is = append_cancel_left old.end.carrier.outgoing put []
-      (sym is ∙ sym (ap (λ (x : Holding). x.end.carrier.outgoing) c) ∙ sym (append-nil old.end.carrier.outgoing));
-}
+call_puts (carrying octets) put old new c is = grind (arith, append_cancel_left, append-nil old.end.carrier.outgoing)
 
 turn_puts : (turn : Turn) (old new : Holding) → Takes old turn new → ArePut turn.put
 turn_puts turn old new takes = by takes.act takes.acts takes.put
@@ -89,15 +83,13 @@ run_puts (turn ∷ turns) old new run =
 left_packets : (us : List (List ℕ)) (vs : List Value) (s r later : List ℕ) → ArePackets us s r → s ++ later ≡ packets vs →
     (back : List Value) × (r ++ later ≡ packets back)
 left_packets [] vs s r later h e = (vs, ap (λ (x : List ℕ). x ++ later) (sym h) ∙ e)
-left_packets (u ∷ us) [] s r later (b, t, p, is, h) e =
-    absurd (no_packet_in u b (t ++ later) p (sym (append_assoc b t later) ∙ ap (λ (x : List ℕ). x ++ later) (sym is) ∙ e))
+left_packets (u ∷ us) [] s r later (b, t, p, is, h) e = grind (arith, no_packet_in, append_assoc)
 left_packets (u ∷ us) (v ∷ vs) s r later (b, t, p, is, h) e =
     left_packets us vs t r later h (packet_again u (written v) b (t ++ later) (packets vs) p
     (sym (append_assoc b t later) ∙ ap (λ (x : List ℕ). x ++ later) (sym is) ∙ e)).1
 
 some_header : (v : Value) → 2 ≤ length (written_header v)
-some_header (request c) = omega arith
-some_header _ = omega arith
+some_header v = grind arith
 
 some_octets : (v : Value) → 3 ≤ length (written v)
 some_octets v = grind (arith, some_header, length-append)

@@ -3,7 +3,7 @@
 use Rattle.osi_honest.proofs.Vocabulary.{[], ap, arith, Bool, false, inl, inr, leb, length, List, map, nat_lt, Ok, refl, subst, sym, true}
 use Rattle.osi_honest.proofs.Vocabulary.{ℕ, ◌++◌, ◌+◌, ◌∙◌, ◌∷◌, ◌≡◌, ◌≤◌, eq-eqb, ltb-true, append-nil, header_again, data0, Value}
 use Rattle.osi_honest.proofs.Vocabulary.{written, longest_tsdu, Part, tsdus_after, AreShort, octets_of, added, begun, between, ended}
-use Rattle.osi_honest.proofs.Vocabulary.{Handshake, packet_length, Sent, sent_by, sent_from, Stage, stage_behind, stage_from, Direction}
+use Rattle.osi_honest.proofs.Vocabulary.{Handshake, packet_length, sent_by, sent_from, Stage, stage_behind, stage_from, Direction}
 use Rattle.osi_honest.proofs.Vocabulary.{Carry, ends_whole, units_put, between_two, in_one, IsReading, Brings, IsPart}
 use Rattle.osi_tpdu.specs.Packet.{units_of}
 use Rattle.std.proofs.Common.{length-append}
@@ -46,16 +46,12 @@ brings_read d met stage b at (u ∷ units) tsdus later r (octets, inl (p, rest))
           (added_part stage b octets at r) rest,
     )
 brings_read d met stage b at (u ∷ units) tsdus later r (octets, inr (p, (others, is, rest))) =
-    let s = steps_part d (met at) stage b at u true octets r p in
-    let more = brings_read d met between [] (at + packet_length u) units others later between_two rest in
-    record {
-      sent = ap (λ (x : List Sent). map octets_of (x ++ sent_from d met (stage_behind d (met at) stage at u) (at + packet_length u) units))
-          s.sent_is
-          ∙ ap (λ (x : Stage). (begun stage ++ octets) ∷ map octets_of (sent_from d met x (at + packet_length u) units)) s.stage_is
-          ∙ ap (λ (x : List ℕ). (x ++ octets) ∷ map octets_of (sent_from d met between (at + packet_length u) units)) (begun_is stage b r)
-          ∙ ap (λ (x : List (List ℕ)). (b ++ octets) ∷ x) more.sent ∙ sym is;
-      then_is = subst (λ (x : Stage). IsReading (stage_from d met x (at + packet_length u) units) later) (sym s.stage_is) more.then_is;
-    }
+    grind (
+      arith,
+      steps_part d (met at) stage b at u true octets r p,
+      begun_is stage b r,
+      brings_read d met between [] (at + packet_length u) units others later between_two rest,
+    )
 
 -- ---- a DT that is written is read
 
@@ -68,8 +64,7 @@ unfolding unit_at value_of transfer_of
 dt_by octet octets = search (arith, only_unit, header_again 0 (240 ∷ octet ∷ []) octets (omega arith) (omega arith), leb 128 octet)
 
 pub dt_read : (last : Bool) (octets : List ℕ) → units_of (written (data0 last octets)) ≡ Ok (data0 last octets ∷ [])
-dt_read true octets = dt_by 128 octets
-dt_read false octets = dt_by 0 octets
+dt_read last octets = grind (arith, dt_by)
 
 -- ---- the parts of TSDUs that are put bring these TSDUs
 
@@ -185,7 +180,5 @@ pub brings_more : (b : List ℕ) (units more tsdus others : List (List ℕ)) (mi
 brings_more b [] more tsdus others mid later h k = grind arith
 brings_more b (u ∷ units) more tsdus others mid later (octets, inl (p, rest)) k =
     (octets, inl (p, brings_more (b ++ octets) units more tsdus others mid later rest k))
-brings_more b (u ∷ units) more tsdus others mid later (octets, inr (p, (after, is, rest))) k = (
-  octets,
-  inr (p, (after ++ others, ap (λ (x : List (List ℕ)). x ++ others) is, brings_more [] units more after others mid later rest k)),
-)
+brings_more b (u ∷ units) more tsdus others mid later (octets, inr (p, (after, is, rest))) k =
+    grind (arith, brings_more [] units more after others mid later rest k)

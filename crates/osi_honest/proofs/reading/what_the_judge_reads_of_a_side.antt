@@ -59,8 +59,7 @@ step_in : (d : Direction) (h : Handshake) (s : Stage) (at : ℕ) (u : List ℕ) 
     LiesIn low (at + packet_length u) (stage_behind d h s at u) (sent_by d h s at u)
 step_in d h (within first octets) at u low l b = grind (arith, moved_in)
 step_in d h (stopped stop place) at u low l b = record { stands = tt; lie = tt }
-step_in d h v at u low l b =
-    moved_in v at u (step_of d v h (first_unit (units_of u))) low l (omega arith) tt
+step_in d h v at u low l b = grind (arith, moved_in v at u (step_of d v h (first_unit (units_of u))) low l (omega arith) tt)
 
 pub lie_later : (low high later : ℕ) (sent : List Sent) → high ≤ later → LieIn low high sent → LieIn low later sent
 lie_later low high later [] l h = tt

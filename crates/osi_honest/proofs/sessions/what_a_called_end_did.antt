@@ -30,8 +30,7 @@ use Rattle.osi_honest.proofs.reading.what_the_judge_reads_of_a_side.{size_put}
 pub did_later : (d : Direction) (capture : Capture) (coming : List ℕ) (others : List Sent) (met back : ℕ → Handshake) (begin : Listener)
     (turn : Turn) (turns : List Turn) →
     turn.put ≡ [] → Did d capture coming others met back begin turns → Did d capture coming others met back begin (turn ∷ turns)
-did_later d capture coming others met back begin turn turns none (nothing is) =
-    nothing (ap (λ (x : List ℕ). x ++ put_along turns) none ∙ is)
+did_later d capture coming others met back begin turn turns none (nothing is) = grind arith
 did_later d capture coming others met back begin turn turns none (alone w is) =
     alone w (ap (λ (x : List ℕ). x ++ put_along turns) none ∙ is)
 did_later d capture coming others met back begin turn turns none (aside w rest is closes) =
@@ -185,8 +184,7 @@ module _ (capture : Capture) (coming : List ℕ) (others : List Sent) (met back 
 -- ---- from the beginning
 
 fresh_waits : (local : Local) (begin : Holding) → IsFresh false local begin → Waits begin.end
-fresh_waits local begin fresh =
-    subst Waits (sym fresh.end) (record { lasts = refl; is_called = refl; class = refl; live = refl; told = refl; lines = refl })
+fresh_waits local begin fresh = grind arith
 
 called_did : AllProper → (local : Local) (begin end : Holding) (turns : List Turn) (capture : Capture)
     (seen : IsSeen Right turns capture) (others : List Sent) (met back : ℕ → Handshake) → Counts Right capture seen.coming back others →

@@ -74,8 +74,7 @@ parted (t ∷ told) (a ∷ now) more = let p = parted told now more in (p.0, ap 
 stepped : (us : List (List ℕ)) (closed : Bool) (l : Listener) (taken : ℕ) (told now more : List Told) →
     Runs us closed l taken (shown_in told now ++ (shown_after told now ++ more)) →
     GoesOn us closed l taken told
-stepped us closed l taken told now more run = let p =
-    parted told now more in record { later = p.0; runs = subst (Runs us closed l taken) p.1 run }
+stepped us closed l taken told now more run = grind (arith, parted told now more)
 
 -- ---- the run
 

@@ -1,12 +1,12 @@
 -- Once class 0 holds, a carrier puts nothing but DTs of class 0, whatever arrives.
 -- For what the transport of a calling end puts.
-use Rattle.osi_honest.proofs.Vocabulary.{[], ap, append_assoc, Bool, Err, false, if◌then◌else◌, inl, inr, is_some, IsSome, List, None, Ok}
-use Rattle.osi_honest.proofs.Vocabulary.{Option, refl, Result, Some, subst, sym, true, ℕ, ◌++◌, ◌∙◌, ◌∷◌, ◌≡◌, ◌⊎◌, AllByRecursion}
-use Rattle.osi_honest.proofs.Vocabulary.{units_of, disconnect, request, Value, TpduFault, Standing, taken, with_tsdu, LinkFault, Class}
-use Rattle.osi_honest.proofs.Vocabulary.{Zero, react_quiet, reacts_over, closed_on, closes, link_of, open_link, sent_on, Happening, pumped}
-use Rattle.osi_honest.proofs.Vocabulary.{written_by, handed_out, in_class, in_zero, leaves, pumps, reacts, settles, taking, to_linked}
-use Rattle.osi_honest.proofs.Vocabulary.{to_only, put, Rows, value_at, asked, closing, Connection, linked, packets, State as Carrier}
-use Rattle.osi_honest.proofs.Vocabulary.{EndReason, Carries}
+use Rattle.std.proofs.Common.{arith}
+use Rattle.osi_honest.proofs.Vocabulary.{[], ap, append_assoc, Bool, false, if◌then◌else◌, inl, inr, is_some, IsSome, List, None, Option}
+use Rattle.osi_honest.proofs.Vocabulary.{refl, Result, Some, subst, sym, true, ℕ, ◌++◌, ◌∙◌, ◌∷◌, ◌≡◌, ◌⊎◌, AllByRecursion, units_of}
+use Rattle.osi_honest.proofs.Vocabulary.{request, Value, TpduFault, Standing, taken, with_tsdu, LinkFault, Zero, react_quiet, reacts_over}
+use Rattle.osi_honest.proofs.Vocabulary.{closed_on, closes, link_of, open_link, sent_on, Happening, pumped, written_by, in_zero, pumps}
+use Rattle.osi_honest.proofs.Vocabulary.{reacts, taking, to_linked, to_only, put, Rows, value_at, Connection, linked, packets}
+use Rattle.osi_honest.proofs.Vocabulary.{State as Carrier, EndReason, Carries}
 use Rattle.osi_carrier.specs.Packets as carriers
 use Rattle.osi_carrier.specs.React.{breaks, react}
 use Rattle.osi_carrier.specs.State as states
@@ -39,13 +39,7 @@ all_data (v ∷ some) others a b = (a.0, all_data some others a.1 b)
 module _ (octets : List ℕ) where
   data_more : (c d : Carrier) (units : List Value) → PutsData octets c → AllByRecursion IsData units →
       d.outgoing ≡ c.outgoing ++ packets units → d.class ≡ Some Zero → AreZero d.live → PutsData octets d
-  data_more c d units p are is class live = record {
-    units = p.units ++ units;
-    is = is ∙ ap (λ (x : List ℕ). x ++ packets units) p.is ∙ append_assoc octets (packets p.units) (packets units)
-        ∙ ap (λ (x : List ℕ). octets ++ x) (sym (packets_joined p.units units));
-    are_data = all_data p.units units p.are_data are;
-    rest = inr (class, live);
-  }
+  data_more c d units p are is class live = grind (arith, append_assoc, packets_joined, all_data)
 
   data_over : (c d : Carrier) → PutsData octets c → d.outgoing ≡ c.outgoing → IsSome d.ended → PutsData octets d
   data_over c d p same over = record { units = p.units; is = same ∙ p.is; are_data = p.are_data; rest = inl over }
@@ -60,34 +54,24 @@ module _ (octets : List ℕ) where
         (subst AreZero (sym rows) (row_put IsZeroRow r (linked peer (pumped link)) c.live live all.1))
 
     breaks_over : (r peer : ℕ) (fault : LinkFault) → PutsData octets (breaks r peer fault c.class c)
-    breaks_over r peer fault =
-        subst (λ (x : Option Class). PutsData octets (breaks r peer fault x c)) (sym class) (data_over c _ p refl refl)
+    breaks_over r peer fault = grind (arith, data_over)
 
     taking_data : (r peer : ℕ) (link : Standing) (unit : Value) (result : Result Standing LinkFault) → link.flow ≡ None →
         taken link unit ≡ result → PutsData octets (taking r peer result c)
-    taking_data r peer link unit (Ok after) none e =
-        pumps_data r peer (handed_out after) (settles r peer after c) (taken_zero link after unit none e) refl refl refl
-    taking_data r peer link unit (Err fault) none e = breaks_over r peer fault
+    taking_data r peer link unit result none e = search (arith, pumps_data, taken_zero, breaks_over)
 
     linked_data : (r peer : ℕ) (link : Standing) (unit : Value) → link.flow ≡ None → PutsData octets (to_linked r peer link unit c)
-    linked_data r peer link (disconnect destination source reason user) none =
-        subst (λ (x : Option Class). PutsData octets (leaves r peer reason x c)) (sym class) (data_over c _ p refl refl)
-    linked_data r peer link v none = taking_data r peer link v _ none refl
+    linked_data r peer link unit none = search (arith, data_over, taking_data)
 
     only_data : (rows : Rows Connection) (unit : Value) → AreZero rows → PutsData octets (to_only rows unit c)
-    only_data [] unit all = p
-    only_data ((r, linked peer link) ∷ rows) unit all = linked_data r peer link unit all.0
-    only_data ((r, asked) ∷ rows) unit all = absurd all.0
-    only_data ((r, closing peer) ∷ rows) unit all = absurd all.0
+    only_data rows unit all = grind (arith, linked_data)
 
     zero_data : (is_caller : Bool) (unit : Value) → PutsData octets (in_zero is_caller unit c)
     zero_data true (request cr) = data_over c _ p refl refl
     zero_data is_caller unit = only_data c.live unit live
 
     lasting_data : c.ended ≡ None → (unit : Value) → PutsData octets (react unit c)
-    lasting_data lasts unit =
-        subst (PutsData octets) (sym (react_quiet unit c lasts ∙ ap (λ (x : Option Class). in_class x unit c) class))
-        (zero_data c.is_caller unit)
+    lasting_data lasts unit = grind (arith, react_quiet, zero_data)
 
     sent_data : (r : ℕ) (tsdu : List ℕ) (over : Bool) (at : Option Connection) → ((x : Connection) → at ≡ Some x → IsZeroRow x) →
         PutsData octets (sent_on r tsdu (if over then None else link_of at) c)
@@ -98,10 +82,7 @@ module _ (octets : List ℕ) where
 
     closed_data : (r : ℕ) (over : Bool) (at : Option Connection) →
         PutsData octets (closed_on r 128 (if over then None else link_of at) c)
-    closed_data r true at = p
-    closed_data r false (Some (linked peer link)) =
-        subst (λ (x : Option Class). PutsData octets (closes r peer 128 x c)) (sym class) (data_over c _ p refl refl)
-    closed_data r false _ = p
+    closed_data r over at = grind (arith, data_over)
 
   -- ---- whatever arrives
 
@@ -122,16 +103,14 @@ module _ (octets : List ℕ) where
   data_ends reason c p = data_over c _ p refl refl
 
   data_acts : (units : Result (List Value) TpduFault) (c : Carrier) → PutsData octets c → PutsData octets (carriers.acts_by units c)
-  data_acts (Ok units) c p = data_units units c p
-  data_acts (Err fault) c p = data_over c _ p refl refl
+  data_acts h c p = grind (arith, data_units, data_over)
 
   pub data_packet : (u : List ℕ) (c : Carrier) → PutsData octets c → PutsData octets (carriers.after_packet c u)
   unfolding carriers.after_packet
   data_packet u c p = data_acts (units_of u) c p
 
   pub data_shortage : (u : List ℕ) (c d : Carrier) → PutsData octets c → carriers.Starves c u d → PutsData octets d
-  data_shortage u c d p (units, e, out) =
-      subst (PutsData octets) (sym out.ended) (data_ends _ (reacts out.done c) (data_units out.done c p))
+  data_shortage u c d p (units, e, out) = grind (arith, data_ends, data_units)
 
   data_sends : (r : ℕ) (tsdu : List ℕ) (c : Carrier) → PutsData octets c → PutsData octets (sent_on r tsdu (open_link r c) c)
   data_sends r tsdu c p = by p.rest
@@ -143,12 +122,7 @@ module _ (octets : List ℕ) where
           sent_data c p class live r tsdu (is_some c.ended) (value_at r c.live) (λ x e. row_at IsZeroRow r x c.live live e)
 
   data_closes : (r : ℕ) (c : Carrier) → PutsData octets c → PutsData octets (closed_on r 128 (open_link r c) c)
-  data_closes r c p = by p.rest
-    where
-      by : IsSome c.ended ⊎ ((c.class ≡ Some Zero) × AreZero c.live) → PutsData octets (closed_on r 128 (open_link r c) c)
-      by (inl over) =
-          subst (λ (b : Bool). PutsData octets (closed_on r 128 (if b then None else link_of (value_at r c.live)) c)) (sym over) p
-      by (inr (class, live)) = closed_data c p class live r (is_some c.ended) (value_at r c.live)
+  data_closes r c p = grind (arith, closed_data)
 
   pub data_carries : Carries (PutsData octets)
   data_carries = record { sends = data_sends; closes = data_closes }

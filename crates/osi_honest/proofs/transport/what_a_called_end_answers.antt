@@ -203,13 +203,11 @@ module _ (octets : List ℕ) where
 
   called_packet : (us : List (List ℕ)) (u : List ℕ) (c : Carrier) → IsOctets u → CalledPut octets us c →
       CalledPut octets (us ++ u ∷ []) (carriers.after_packet c u)
-  called_packet us u c are (none_yet none idle same) =
-      first_answer us u c (carriers.after_packet c u) none same (packet_answered c idle u are)
+  called_packet us u c are (none_yet none idle same) = search (arith, first_answer, packet_answered)
   called_packet us u c are (gone o) = gone (over_packet u octets c o)
   called_packet us u c are (confirms destination answer few p) =
       confirms destination answer few (ahead_packet u (octets ++ packets (confirm destination answer ∷ [])) c p)
-  called_packet us u c are (refused first is asks idle peer reason same) =
-      second_answer us first u c (carriers.after_packet c u) is asks peer reason same (packet_answered c idle u are)
+  called_packet us u c are (refused first is asks idle peer reason same) = search (arith, second_answer, packet_answered)
   called_packet us u c are (refused_last first more is asks peer reason o) =
       refused_last first (more ++ u ∷ []) (ap (λ (x : List (List ℕ)). x ++ u ∷ []) is) asks peer reason
       (over_packet u (octets ++ packets (refusal peer reason ∷ [])) c o)

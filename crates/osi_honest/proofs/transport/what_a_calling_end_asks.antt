@@ -1,16 +1,15 @@
 -- What a calling end puts after its CR: nothing, until a packet comes; DTs alone, if it was a CC of class 0; a DC, if it was a DR for
 -- another reference; or, if the other side has strayed, anything.
 -- For the law that a calling end is never blamed.
-use Rattle.osi_honest.proofs.Vocabulary.{[], ap, Bool, Err, false, if◌then◌else◌, inl, inr, is_some, IsSome, List, None, not, Ok, Option}
-use Rattle.osi_honest.proofs.Vocabulary.{refl, Result, Some, subst, sym, true, ℕ, ◌&&◌, ◌++◌, ◌==◌, ◌∙◌, ◌∷◌, ◌≡◌, ◌⊎◌, eq-eqb, eqb-true}
+use Rattle.std.proofs.Common.{arith}
+use Rattle.osi_honest.proofs.Vocabulary.{[], ap, Bool, Err, if◌then◌else◌, inl, inr, is_some, IsSome, List, None, not, Ok, Option, refl}
+use Rattle.osi_honest.proofs.Vocabulary.{Result, Some, subst, sym, true, ℕ, ◌&&◌, ◌++◌, ◌==◌, ◌∙◌, ◌∷◌, ◌≡◌, ◌⊎◌, eq-eqb, eqb-true}
 use Rattle.osi_honest.proofs.Vocabulary.{append-nil, IsOctets, units_found, AreUnits, units_of, acknowledge, confirm, data0, data2}
 use Rattle.osi_honest.proofs.Vocabulary.{disconnect, disconnected, error, request, Value, TpduFault, Standing, Class, Two, Zero}
-use Rattle.osi_honest.proofs.Vocabulary.{react_quiet, class_error, closed_on, link_of, may_connect, open_link, or_else, room_error, sent_on}
-use Rattle.osi_honest.proofs.Vocabulary.{Happening, agreed_size, confirmed, opened_link, proposes_two, proposes_zero, selects_expedited}
-use Rattle.osi_honest.proofs.Vocabulary.{before_class, in_class, opens_by as opens, reacts, to_connection, to_reference, put, Rows}
-use Rattle.osi_honest.proofs.Vocabulary.{value_at, without, asked, Connection, linked, packets, State as Carrier, EndReason, NoMemory}
-use Rattle.osi_honest.proofs.Vocabulary.{OpenError, Ended, Negotiating, NotCaller, End, agreed, astray, denied, first_unit, Handshake}
-use Rattle.osi_honest.proofs.Vocabulary.{handshake_from, shaken, shaken_first, silent, Asks}
+use Rattle.osi_honest.proofs.Vocabulary.{react_quiet, closed_on, link_of, may_connect, open_link, or_else, sent_on, Happening, confirmed}
+use Rattle.osi_honest.proofs.Vocabulary.{before_class, opens_by as opens, reacts, to_connection, to_reference, put, asked, Connection}
+use Rattle.osi_honest.proofs.Vocabulary.{packets, State as Carrier, EndReason, NoMemory, OpenError, Ended, Negotiating, NotCaller, End}
+use Rattle.osi_honest.proofs.Vocabulary.{agreed, astray, denied, first_unit, Handshake, handshake_from, shaken, shaken_first, silent, Asks}
 use Rattle.osi_tpdu.specs.Value.{Connect}
 use Rattle.osi_carrier.specs.Packets as carriers
 use Rattle.osi_carrier.specs.React.{react}
@@ -39,81 +38,50 @@ pub record HasNone (c : Carrier) : Type 0 where
   pub live : c.live ≡ []
 
 none_linked : (r : ℕ) (b : Bool) → link_of (if b then Some asked else None) ≡ None
-none_linked r true = refl
-none_linked r false = refl
+none_linked r b = grind arith
 
 asking_links : (q : ℕ) (c : Carrier) → AsksIn q c → (r : ℕ) → open_link r c ≡ None
-asking_links q c a r =
-    ap (λ (x : Bool). if x then None else link_of (value_at r c.live)) (ap is_some a.lasts)
-    ∙ ap (λ (rows : Rows Connection). link_of (value_at r rows)) a.live ∙ none_linked r (q == r)
+asking_links q c a r = grind (arith, none_linked)
 
 no_links : (c : Carrier) → HasNone c → (r : ℕ) → open_link r c ≡ None
-no_links c a r =
-    ap (λ (x : Bool). if x then None else link_of (value_at r c.live)) (ap is_some a.lasts)
-    ∙ ap (λ (rows : Rows Connection). link_of (value_at r rows)) a.live
+no_links c a r = grind arith
 
 one_request : (b : Bool) (o : Option EndReason) (e : Option OpenError) → b ≡ true → o ≡ None →
     (if not b then Some NotCaller else (if is_some o then Some Ended else or_else (Some Negotiating) e)) ≡ None → ⊥
-one_request true None e side lasts h = cc
-one_request false o e side lasts h = cc
-one_request b (Some x) e side lasts h = cc
+one_request b o e side lasts h = grind arith
 
 asks_no_more : (r : ℕ) (c : Carrier) → AsksIn r c → may_connect c ≡ None → ⊥
-asks_no_more r c a allowed =
-    let busy : class_error c.class c.live ≡ Some Negotiating =
-    ap (λ (k : Option Class). class_error k c.live) a.class ∙ ap (λ (rows : Rows Connection). class_error None rows) a.live in
-    one_request c.is_caller c.ended (room_error c) a.is_caller a.lasts
-    (ap (λ (k : Option OpenError). if not c.is_caller then Some NotCaller else
-    (if is_some c.ended then Some Ended else or_else k (room_error c))) (sym busy) ∙ allowed)
+asks_no_more r c a allowed = grind (arith, one_request)
 
 -- ---- one unit
 
 -- a CC of class 0 opens the connection, or ends the carrier
 module _ (r : ℕ) (c : Carrier) (a : AsksIn r c) where
   never_two : (n : ℕ) (x y : Bool) → n ≡ 0 → (if (n == 2) && x then Some Two else (if y then Some Zero else None)) ≡ Some Two → ⊥
-  never_two n x y zero e =
-      by (n == 2) x y (ap (λ (k : ℕ). k == 2) zero) e
-    where
-      by : (b x y : Bool) → b ≡ false → (if b && x then Some Two else (if y then Some Zero else None)) ≡ Some Two → ⊥
-      by true x y is_false e = cc
-      by false x true is_false e = cc
-      by false x false is_false e = cc
+  never_two n x y zero e = grind arith
 
   data_now : (d : Carrier) → d.outgoing ≡ c.outgoing → d.class ≡ Some Zero → AreZero d.live → PutsData c.outgoing d
-  data_now d same class live =
-      record { units = []; is = same ∙ sym (append-nil c.outgoing); are_data = tt; rest = inr (class, live) }
+  data_now d same class live = grind (arith, append-nil)
 
   data_gone : (d : Carrier) → d.outgoing ≡ c.outgoing → IsSome d.ended → PutsData c.outgoing d
   data_gone d same over = record { units = []; is = same ∙ sym (append-nil c.outgoing); are_data = tt; rest = inl over }
 
   row_put : (q : ℕ) (x : Connection) → r ≡ q → put q x c.live ≡ (q, x) ∷ []
-  row_put q x same =
-      ap (put q x) (a.live ∙ ap (λ (n : ℕ). (n, asked) ∷ []) same) ∙ rw (eq-eqb q q refl) refl
+  row_put q x same = grind (arith, eq-eqb)
 
   opens_data : (q : ℕ) (answer : Connect) (class : Option Class) → r ≡ q → answer.class ≡ 0 → confirmed answer c.local c.class ≡ class →
       PutsData c.outgoing (opens q answer class c)
-  opens_data q answer None same zero e = data_gone _ refl refl
-  opens_data q answer (Some Two) same zero e =
-      absurd (never_two answer.class (proposes_two c.local && not (selects_expedited answer.parameters.additional))
-      ((answer.class == 0) && proposes_zero c.local c.class) zero e)
-  opens_data q answer (Some Zero) same zero e =
-      data_now _ refl refl
-      (subst AreZero (sym (row_put q
-      (linked answer.source (opened_link Zero (agreed_size answer.parameters.size c.local) c.local answer.credit)) same)) (refl, tt))
+  opens_data q answer class same h e = grind (arith, data_gone, never_two, data_now, row_put)
 
   confirm_by : (q : ℕ) (answer : Connect) (b : Bool) → (r == q) ≡ b → answer.class ≡ 0 →
       PutsData c.outgoing (to_connection q (if b then Some asked else None) (confirm q answer) c)
-  confirm_by q answer true e zero = opens_data q answer (confirmed answer c.local c.class) (eqb-true r q e) zero refl
-  confirm_by q answer false e zero = data_gone _ refl refl
+  confirm_by q answer b e h = search (arith, opens_data, eqb-true, data_gone)
 
   confirm_data : (q : ℕ) (answer : Connect) → answer.class ≡ 0 → PutsData c.outgoing (to_reference q (confirm q answer) c)
-  confirm_data q answer zero =
-      subst (λ (rows : Rows Connection). PutsData c.outgoing (to_connection q (value_at q rows) (confirm q answer) c)) (sym a.live)
-      (confirm_by q answer (r == q) refl zero)
+  confirm_data q answer zero = grind (arith, confirm_by)
 
   reacts_by_side : (v : Value) → react v c ≡ before_class true v c
-  reacts_by_side v =
-      react_quiet v c a.lasts ∙ ap (λ (x : Option Class). in_class x v c) a.class ∙ ap (λ (x : Bool). before_class x v c) a.is_caller
+  reacts_by_side v = grind (arith, react_quiet)
 
   unit_confirms : (q : ℕ) (answer : Connect) → answer.class ≡ 0 → PutsData c.outgoing (react (confirm q answer) c)
   unit_confirms q answer zero = subst (PutsData c.outgoing) (sym (reacts_by_side (confirm q answer))) (confirm_data q answer zero)
@@ -125,21 +93,10 @@ module _ (r : ℕ) (c : Carrier) (a : AsksIn r c) where
 
   denied_by : (q source reason : ℕ) (user : List ℕ) (b : Bool) → (r == q) ≡ b →
       Denied q source (to_connection q (if b then Some asked else None) (disconnect q source reason user) c)
-  denied_by q source reason user true e =
-      drops_it (record {
-        lasts = a.lasts;
-        is_caller = a.is_caller;
-        class = a.class;
-        live = ap (without q) a.live ∙ ap (λ (x : Bool). if x then [] else (r, asked) ∷ []) e;
-      }) refl
-  denied_by q source reason user false e =
-      answers_it (record { lasts = a.lasts; is_caller = a.is_caller; class = a.class; live = a.live }) refl
+  denied_by q source reason user b e = grind arith
 
   unit_denies : (q source reason : ℕ) (user : List ℕ) → Denied q source (react (disconnect q source reason user) c)
-  unit_denies q source reason user =
-      subst (Denied q source) (sym (reacts_by_side (disconnect q source reason user)))
-      (subst (λ (rows : Rows Connection). Denied q source (to_connection q (value_at q rows) (disconnect q source reason user) c))
-      (sym a.live) (denied_by q source reason user (r == q) refl))
+  unit_denies q source reason user = grind (arith, reacts_by_side, denied_by)
 
 -- ---- what is put in a turn that begins before an answer
 
@@ -159,14 +116,11 @@ denied_lost : (u next : List ℕ) (q source : ℕ) → handshake_from silent (u 
 denied_lost u next q source is = ap (λ (h : Handshake). shaken h (first_unit (units_of next))) is
 
 strayed_more : (us : List (List ℕ)) (u : List ℕ) → IsStrayed (handshake_from silent us) → IsStrayed (handshake_from silent (us ++ u ∷ []))
-strayed_more us u l =
-    strayed_beyond (handshake_from silent us) (handshake_from silent (us ++ u ∷ [])) l (u ∷ [], handshake_then silent us (u ∷ []))
+strayed_more us u l = grind (arith, strayed_beyond, handshake_then)
 
 strayed_now : (us : List (List ℕ)) (u next : List ℕ) (q source : ℕ) → us ≡ u ∷ [] → handshake_from silent (u ∷ []) ≡ denied q source →
     IsStrayed (handshake_from silent (us ++ next ∷ []))
-strayed_now us u next q source is denies =
-    subst (λ (x : List (List ℕ)). IsStrayed (handshake_from silent (x ++ next ∷ []))) (sym is)
-    (subst IsStrayed (sym (denied_lost u next q source denies)) tt)
+strayed_now us u next q source is denies = grind (arith, denied_lost)
 
 module _ (r : ℕ) (octets : List ℕ) where
   abbrev Put : List (List ℕ) → Carrier → Type 0
@@ -187,15 +141,7 @@ module _ (r : ℕ) (octets : List ℕ) where
 
   confirm_first : (us : List (List ℕ)) (u : List ℕ) (c d : Carrier) (q : ℕ) (answer : Connect) (vs : List Value) → us ≡ [] →
       c.outgoing ≡ octets → units_of u ≡ Ok (confirm q answer ∷ vs) → (answer.class ≡ 0 → PutsData c.outgoing d) → Put (us ++ u ∷ []) d
-  confirm_first us u c d q answer vs none same e data_then = by (answer.class == 0) refl
-    where
-      by : (b : Bool) → (answer.class == 0) ≡ b → Put (us ++ u ∷ []) d
-      by true zero =
-          opened (ap (λ (x : List (List ℕ)). handshake_from silent (x ++ u ∷ [])) none ∙ known_by u (confirm q answer) vs e
-          ∙ ap (λ (b : Bool). if b then agreed else astray) zero) (on_octets c d same (data_then (eqb-true answer.class 0 zero)))
-      by false zero =
-          strays_first us u d none (subst IsStrayed (sym (known_by u (confirm q answer) vs e
-          ∙ ap (λ (b : Bool). if b then agreed else astray) zero)) tt)
+  confirm_first us u c d q answer vs none same e data_then = grind (arith, known_by, on_octets, eqb-true, strays_first)
 
   denied_first : (us : List (List ℕ)) (u : List ℕ) (c d : Carrier) (a : AsksIn r c) (q source reason : ℕ) (user : List ℕ)
       (vs : List Value) →
@@ -210,15 +156,10 @@ module _ (r : ℕ) (octets : List ℕ) where
   first_units : (us : List (List ℕ)) (u : List ℕ) (c : Carrier) (v : Value) (vs : List Value) → us ≡ [] → AsksIn r c → c.outgoing ≡ octets →
       units_of u ≡ Ok (v ∷ vs) → AreUnits (v ∷ vs) u → Put (us ++ u ∷ []) (reacts (v ∷ vs) c)
   first_units us u c (confirm q answer) vs none a same e are =
-      confirm_first us u c (reacts (confirm q answer ∷ vs) c) q answer vs none same e (λ zero.
-      subst (λ (l : List Value). PutsData c.outgoing (reacts l (react (confirm q answer) c))) (sym (alone (confirm q answer) vs u refl are))
-      (unit_confirms r c a q answer zero))
+      search (arith, confirm_first, unit_confirms, alone (confirm q answer) vs u refl are)
   first_units us u c (disconnect q source reason user) vs none a same e are =
-      denied_first us u c (reacts (disconnect q source reason user ∷ vs) c) a q source reason user vs none same e
-      (subst (λ (l : List Value). Denied r c a q source (reacts l (react (disconnect q source reason user) c)))
-      (sym (alone (disconnect q source reason user) vs u refl are)) (unit_denies r c a q source reason user))
-  first_units us u c v vs none a same e are =
-      strays_first us u _ none (subst IsStrayed (sym (known_by u v vs e)) tt)
+      search (arith, denied_first, alone (disconnect q source reason user) vs u refl are, unit_denies r c a q source reason user)
+  first_units us u c v vs none a same e are = grind (arith, strays_first, known_by)
 
   first_acts : (us : List (List ℕ)) (u : List ℕ) (c : Carrier) (units : Result (List Value) TpduFault) → us ≡ [] → AsksIn r c →
       c.outgoing ≡ octets → units_of u ≡ units → IsOctets u → Put (us ++ u ∷ []) (carriers.acts_by units c)
@@ -235,24 +176,15 @@ module _ (r : ℕ) (octets : List ℕ) where
   first_out : (us : List (List ℕ)) (u : List ℕ) (c d : Carrier) (done : List Value) (next : Value) (more : List Value) → us ≡ [] →
       AsksIn r c → c.outgoing ≡ octets → units_of u ≡ Ok (done ++ (next ∷ more)) → AreUnits (done ++ (next ∷ more)) u →
       d ≡ states.ends NoMemory (reacts done c) → Put (us ++ u ∷ []) d
-  first_out us u c d [] next more none a same e are is =
-      gone (ap (λ (x : Carrier). is_some x.ended) is, ap (λ (x : Carrier). x.outgoing) is ∙ same)
-  first_out us u c d (confirm q answer ∷ done) next more none a same e are is =
-      absurd (never_empty done next more (alone (confirm q answer) (done ++ (next ∷ more)) u refl are))
-  first_out us u c d (disconnect q source reason user ∷ done) next more none a same e are is =
-      absurd (never_empty done next more (alone (disconnect q source reason user) (done ++ (next ∷ more)) u refl are))
-  first_out us u c d (request cr ∷ done) next more none a same e are is =
-      strays_first us u d none (subst IsStrayed (sym (known_by u (request cr) (done ++ (next ∷ more)) e)) tt)
-  first_out us u c d (disconnected q source ∷ done) next more none a same e are is =
-      strays_first us u d none (subst IsStrayed (sym (known_by u (disconnected q source) (done ++ (next ∷ more)) e)) tt)
-  first_out us u c d (data0 end user ∷ done) next more none a same e are is =
-      strays_first us u d none (subst IsStrayed (sym (known_by u (data0 end user) (done ++ (next ∷ more)) e)) tt)
-  first_out us u c d (data2 q number end user ∷ done) next more none a same e are is =
-      strays_first us u d none (subst IsStrayed (sym (known_by u (data2 q number end user) (done ++ (next ∷ more)) e)) tt)
-  first_out us u c d (acknowledge credit q number ∷ done) next more none a same e are is =
-      strays_first us u d none (subst IsStrayed (sym (known_by u (acknowledge credit q number) (done ++ (next ∷ more)) e)) tt)
-  first_out us u c d (error q cause ∷ done) next more none a same e are is =
-      strays_first us u d none (subst IsStrayed (sym (known_by u (error q cause) (done ++ (next ∷ more)) e)) tt)
+  first_out us u c d [] next more none a same e are is = grind arith
+  first_out us u c d (confirm q answer ∷ done) next more none a same e are is = grind (arith, never_empty, alone)
+  first_out us u c d (disconnect q source reason user ∷ done) next more none a same e are is = grind (arith, never_empty, alone)
+  first_out us u c d (request cr ∷ done) next more none a same e are is = grind (arith, strays_first, known_by)
+  first_out us u c d (disconnected q source ∷ done) next more none a same e are is = grind (arith, strays_first, known_by)
+  first_out us u c d (data0 end user ∷ done) next more none a same e are is = grind (arith, strays_first, known_by)
+  first_out us u c d (data2 q number end user ∷ done) next more none a same e are is = grind (arith, strays_first, known_by)
+  first_out us u c d (acknowledge credit q number ∷ done) next more none a same e are is = grind (arith, strays_first, known_by)
+  first_out us u c d (error q cause ∷ done) next more none a same e are is = grind (arith, strays_first, known_by)
 
   first_shortage : (us : List (List ℕ)) (u : List ℕ) (c d : Carrier) → us ≡ [] → AsksIn r c → c.outgoing ≡ octets → IsOctets u →
       carriers.Starves c u d → Put (us ++ u ∷ []) d
@@ -283,13 +215,10 @@ module _ (r : ℕ) (octets : List ℕ) where
   asking_shortage us u c d are (strays l) short = strays (strayed_more us u l)
 
   closed_sends : (n : ℕ) (tsdu : List ℕ) (c : Carrier) → AsksIn r c ⊎ IsSome c.ended → sent_on n tsdu (open_link n c) c ≡ c
-  closed_sends n tsdu c (inl a) = ap (λ (x : Option (ℕ × Standing)). sent_on n tsdu x c) (asking_links r c a n)
-  closed_sends n tsdu c (inr over) =
-      ap (λ (b : Bool). sent_on n tsdu (if b then None else link_of (value_at n c.live)) c) over
+  closed_sends n tsdu c h = grind (arith, asking_links)
 
   asking_sends : (us : List (List ℕ)) (n : ℕ) (tsdu : List ℕ) (c : Carrier) → Put us c → Put us (sent_on n tsdu (open_link n c) c)
-  asking_sends us n tsdu c (still none a same) =
-      subst (λ (x : Option (ℕ × Standing)). Put us (sent_on n tsdu x c)) (sym (asking_links r c a n)) (still none a same)
+  asking_sends us n tsdu c (still none a same) = grind (arith, asking_links)
   asking_sends us n tsdu c (gone o) = gone ((over_carries octets).sends n tsdu c o)
   asking_sends us n tsdu c (opened is p) = opened is ((data_carries octets).sends n tsdu c p)
   asking_sends us n tsdu c (refused first is q source denies has same) =
@@ -300,13 +229,10 @@ module _ (r : ℕ) (octets : List ℕ) where
   asking_sends us n tsdu c (strays l) = strays l
 
   closed_closes : (n : ℕ) (c : Carrier) → AsksIn r c ⊎ IsSome c.ended → closed_on n 128 (open_link n c) c ≡ c
-  closed_closes n c (inl a) = ap (λ (x : Option (ℕ × Standing)). closed_on n 128 x c) (asking_links r c a n)
-  closed_closes n c (inr over) =
-      ap (λ (b : Bool). closed_on n 128 (if b then None else link_of (value_at n c.live)) c) over
+  closed_closes n c h = grind (arith, asking_links)
 
   asking_closes : (us : List (List ℕ)) (n : ℕ) (c : Carrier) → Put us c → Put us (closed_on n 128 (open_link n c) c)
-  asking_closes us n c (still none a same) =
-      subst (λ (x : Option (ℕ × Standing)). Put us (closed_on n 128 x c)) (sym (asking_links r c a n)) (still none a same)
+  asking_closes us n c (still none a same) = grind (arith, asking_links)
   asking_closes us n c (gone o) = gone ((over_carries octets).closes n c o)
   asking_closes us n c (opened is p) = opened is ((data_carries octets).closes n c p)
   asking_closes us n c (refused first is q source denies has same) =
@@ -324,8 +250,7 @@ module _ (r : ℕ) (octets : List ℕ) where
 
   closed_so : (c : Carrier) (events : List Happening) → AsksIn r c ⊎ IsSome c.ended →
       AsksIn r (record c { events = events }) ⊎ IsSome c.ended
-  closed_so c events (inl a) = inl (asks_so c events a)
-  closed_so c events (inr over) = inr over
+  closed_so c events h = grind (arith, asks_so)
 
   asking_untold : (us : List (List ℕ)) (events : List Happening) (c : Carrier) → Put us c → Put us (record c { events = events })
   asking_untold us events c (still none a same) = still none (asks_so c events a) same
@@ -344,21 +269,10 @@ module _ (r : ℕ) (octets : List ℕ) where
   asking_ends us reason c (strays l) = strays l
 
   pub asking_tracked : IsTracked (AskingPut r octets)
-  asking_tracked = record {
-    packet = asking_packet;
-    shortage = asking_shortage;
-    carries = λ us. record { sends = asking_sends us; closes = asking_closes us };
-    untold = asking_untold;
-    ends_so = asking_ends;
-  }
+  asking_tracked = search (arith, asking_packet, asking_shortage, asking_sends, asking_closes, asking_untold, asking_ends)
 
   pub asking_asks : AsksToo (AskingPut r octets [])
-  asking_asks calling called c allowed (still none a same) = absurd (asks_no_more r c a allowed)
-  asking_asks calling called c allowed (gone o) = absurd (over_asks_nothing c o.0 allowed)
-  asking_asks calling called c allowed (opened is p) = absurd (cc)
-  asking_asks calling called c allowed (refused first is q source denies has same) = absurd (cc)
-  asking_asks calling called c allowed (closed first is q source denies has same) = absurd (cc)
-  asking_asks calling called c allowed (strays l) = absurd l
+  asking_asks calling called c allowed h = grind (arith, asks_no_more, over_asks_nothing)
 
 -- ---- after one DR
 
@@ -368,27 +282,11 @@ module _ (u : List ℕ) (q source : ℕ) (denies : handshake_from silent (u ∷ 
 
   -- that was answered by a DC
   pub asking_settles : (r : ℕ) → Settles (AsksIn r) ⊥ u
-  asking_settles r = record {
-    lasts = λ c a. a.lasts;
-    links = asking_links r;
-    untold = λ events c a. record { lasts = a.lasts; is_caller = a.is_caller; class = a.class; live = a.live };
-    carried = λ octets c a. record { lasts = a.lasts; is_caller = a.is_caller; class = a.class; live = a.live };
-    asks_for = asks_no_more r;
-    packet = λ next c octets a. inl (lost_then next);
-    shortage = λ next c d octets a short. inl (lost_then next);
-  }
+  asking_settles r = grind (arith, asking_links, asks_no_more, lost_then)
 
   -- that refused the connection
   pub none_settles : Settles HasNone (Unit {0}) u
-  none_settles = record {
-    lasts = λ c a. a.lasts;
-    links = no_links;
-    untold = λ events c a. record { lasts = a.lasts; is_caller = a.is_caller; class = a.class; live = a.live };
-    carried = λ octets c a. record { lasts = a.lasts; is_caller = a.is_caller; class = a.class; live = a.live };
-    asks_for = λ c a allowed. tt;
-    packet = λ next c octets a. inl (lost_then next);
-    shortage = λ next c d octets a short. inl (lost_then next);
-  }
+  none_settles = grind (arith, no_links, lost_then)
 
 pub asks_in : (r : ℕ) (session : _) (e : End) → Asks r session e → AsksIn r e.carrier
 asks_in r session e w = record { lasts = w.lasts; is_caller = w.is_caller; class = w.class; live = w.live }

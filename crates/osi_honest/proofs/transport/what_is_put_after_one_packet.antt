@@ -44,8 +44,7 @@ unfolding carriers.after_packet
 ahead_packet u front c p = ahead_acted (units_of u) front c p
 
 pub ahead_shortage : (u front : List ℕ) (c d : Carrier) → Ahead front c → carriers.Starves c u d → Ahead front d
-ahead_shortage u front c d p (units, e, out) =
-    subst (Ahead front) (sym out.ended) (ahead_reacts front out.done c p)
+ahead_shortage u front c d p (units, e, out) = grind (arith, ahead_reacts front out.done c p)
 
 may_by : (b over : Bool) (e : Option OpenError) → over ≡ true →
     (if not b then Some NotCaller else (if over then Some Ended else e)) ≡ None → ⊥
