@@ -307,8 +307,7 @@ module _ (local : Local) (w : Whole) (f : Called local w) (was : w.end.ended ≡
     gone_cc : (i : ℕ) → slice_get w.tap.connections i ≡ None → (b : Bool) → (i == p) ≡ b →
         (units_at i (tagged cc_is) ≡ []) × (units_at i later ≡ []) × ((m : ℕ) → refs i ≡ Some m → IsUnlinked t m)
     gone_cc i none true e = grind (arith, no_item, place, eqb-true)
-    gone_cc i none false e =
-        let (a, b, d) = gone_by cc_is t rows i none false e in (a, b, λ m k. d m (sym (refs_other i e) ∙ k))
+    gone_cc i none false e = search (arith, gone_by cc_is t rows i none false e, refs_other i e)
 
     homes_by : (i m : ℕ) (b : Bool) → (i == p) ≡ b → refs i ≡ Some m → (home m ≡ i) × (m ≤ t.given)
     homes_by i m true e h = grind (arith, number_is, refs_here, home_here, same_true, eqb-true)

@@ -132,8 +132,7 @@ module _ (local : Local) (w : Whole) (j : Joined local w) where
 
   pub passes_stage : (v : Value) (rest : List Value) → w.put ≡ v ∷ rest → w.begun ≡ true → IsCalm w.tap.course → Stage local w →
       Passes v rest
-  passes_stage v rest e begun calm (lines f c named) =
-      let (fine, after, still) = own_passes local w f j.apart named j.judged calm.right v rest begun e in (fine, lines after c still)
+  passes_stage v rest e begun calm (lines f c named) = grind (arith, own_passes local w f j.apart named j.judged calm.right v rest begun e)
   passes_stage v rest e begun calm (selecting f) =
       let all = firm_in None f.class (λ no. cc no) in
       let (fine, after) = selecting_passes local w j.apart all calm.right v rest begun e f in (inl fine, selected after)

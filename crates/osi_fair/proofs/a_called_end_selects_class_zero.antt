@@ -1,9 +1,10 @@
 -- A whole called end selects class 0: what holds until its CC has passed and after that, as the end goes on and packets begin.
 -- For the law on a whole called end.
-use Rattle.osi_fair.proofs.Vocabulary.{[], ap, Bool, IfSome, inr, List, map, None, Option, refl, Some, subst, suc, sym, true, zero, ℕ, ◌++◌}
+use Rattle.std.proofs.Common.{arith}
+use Rattle.osi_fair.proofs.Vocabulary.{[], ap, Bool, IfSome, List, map, None, Option, refl, Some, subst, suc, sym, true, zero, ℕ, ◌++◌}
 use Rattle.osi_fair.proofs.Vocabulary.{◌+◌, ◌-◌, ◌∙◌, ◌∷◌, ◌≡◌, ◌≤◌, ◌⊎◌, slice_get, confirm, Connect, Value, accept, selected_by, Zero}
 use Rattle.osi_fair.proofs.Vocabulary.{Local, acceptance, unit_octets, react, user_does, UserCall, begins, is_open, is_refused}
-use Rattle.osi_fair.proofs.Vocabulary.{packet_begins, Traffic, Connection, Direction, Left, Right, Half, put_by, put_for, MayCall, Whole}
+use Rattle.osi_fair.proofs.Vocabulary.{packet_begins, Traffic, Connection, Direction, Half, put_by, put_for, MayCall, Whole}
 use Rattle.osi_fair.proofs.small_facts_that_many_lemmas_use.{begun_left, begun_right, course_class, item_is}
 use Rattle.osi_fair.proofs.each_connection_of_a_called_end.{Asked}
 use Rattle.osi_fair.proofs.what_an_end_does_in_class_zero.{IsInZero, zero_calls, zero_takes}
@@ -91,51 +92,24 @@ selecting_calls local w call may f = record {
 
 pub selected_takes : (w : Whole) (u : Value) (later : List Value) → Selected w →
     Selected (record w { end = react u w.end; put = w.put ++ put_for u w.end; coming = later })
-selected_takes w u later f = record {
-  p = f.p;
-  c = f.c;
-  limit = f.limit;
-  at = f.at;
-  up = f.up;
-  there = f.there;
-  class = f.class;
-  class_seen = f.class_seen;
-  fits = f.fits;
-  others = f.others;
-  end = zero_takes f.limit w.end f.c.right.begun w.put f.end u;
-}
+selected_takes w u later f = search (arith, zero_takes f.limit w.end f.c.right.begun w.put f.end u)
 
 pub selected_calls : (w : Whole) (call : UserCall) → MayCall call w.end → Selected w →
     Selected (record w { end = user_does call w.end; put = w.put ++ put_by call w.end })
-selected_calls w call may f = record {
-  p = f.p;
-  c = f.c;
-  limit = f.limit;
-  at = f.at;
-  up = f.up;
-  there = f.there;
-  class = f.class;
-  class_seen = f.class_seen;
-  fits = f.fits;
-  others = f.others;
-  end = zero_calls f.limit w.end f.c.right.begun w.put call f.end may;
-}
+selected_calls w call may f = search (arith, zero_calls f.limit w.end f.c.right.begun w.put call f.end may)
 
 -- ---- a packet begins
 
 begun_size : (d : Direction) (c : Connection) → (begins d c).size ≡ c.size
-begun_size Left c = refl
-begun_size Right c = refl
+begun_size d c = grind arith
 
 seen_none : (d : Direction) (s : Traffic) → s.course.class ≡ None → s.course.class_seen ≡ None →
     (packet_begins d s).course.class_seen ≡ None
-seen_none Left s a b = a
-seen_none Right s a b = b
+seen_none d s a b = grind arith
 
 seen_zero : (d : Direction) (s : Traffic) → s.course.class ≡ Some Zero → (s.course.class_seen ≡ None) ⊎ (s.course.class_seen ≡ Some Zero) →
     ((packet_begins d s).course.class_seen ≡ None) ⊎ ((packet_begins d s).course.class_seen ≡ Some Zero)
-seen_zero Left s a b = inr a
-seen_zero Right s a b = b
+seen_zero d s a b = grind arith
 
 mapped : (d : Direction) (cs : List Connection) (p : ℕ) (c : Connection) → slice_get cs p ≡ Some c →
     slice_get (map (begins d) cs) p ≡ Some (begins d c)
@@ -144,10 +118,7 @@ mapped d (x ∷ cs) zero c h = ap (λ (e : Connection). Some (begins d e)) (item
 mapped d (x ∷ cs) (suc p) c h = mapped d cs p c h
 
 asked_begins : (d : Direction) (x : Connect) (c : Connection) → Asked x c → Asked x (begins d c)
-asked_begins Left x c a =
-    record { range = a.range; offer = a.offer; left = a.left; right = a.right; known = a.right; judged = a.judged }
-asked_begins Right x c a =
-    record { range = a.range; offer = a.offer; left = a.left; right = a.right; known = a.known; judged = a.judged }
+asked_begins d x c a = grind arith
 
 pub selecting_begins : (local : Local) (d : Direction) (w : Whole) (b : Bool) →
     ((c : Connection) → (w.begun ≡ true → c.seen_by_right ≡ c.left) →

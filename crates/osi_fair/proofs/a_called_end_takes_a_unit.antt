@@ -8,7 +8,7 @@ use Rattle.osi_fair.proofs.Vocabulary.{accept, refuse, selected_by, Selection, C
 use Rattle.osi_fair.proofs.Vocabulary.{push_here, without_here, acceptance, opened_link, unit_octets, AreUpTo, IsOrderly, RiseFrom, accepts}
 use Rattle.osi_fair.proofs.Vocabulary.{answers_by, answers_request, before_class, denies, has_peer, in_class, in_two, is_full, react_by}
 use Rattle.osi_fair.proofs.Vocabulary.{to_closing, to_connection, to_unknown, Rows, value_at, asked, closing, Live, fails, linked}
-use Rattle.osi_fair.proofs.Vocabulary.{UnexpectedUnit, EndReason, is_live, is_refused, Connection, Left, Follows}
+use Rattle.osi_fair.proofs.Vocabulary.{UnexpectedUnit, EndReason, is_live, is_refused, Connection, Left}
 use Rattle.osi_fair.proofs.Vocabulary.{HoldsOfOne, put_at, put_before, put_for, put_for_request, put_for_selection, put_in}
 use Rattle.osi_fair.proofs.Vocabulary.{put_in_two, refusal, Whole}
 unfoldable use Rattle.osi_carrier.specs.React.{react}
@@ -275,21 +275,9 @@ module _ (local : Local) (w : Whole) (f : Called local w) (c : IsCalled local w.
 
     took_by : (peer : ℕ) (k : Standing) → value_at n s.live ≡ Some (linked peer k) → (line : List Value) → Among line (u ∷ those n later) →
         Took n peer s t later (put_for u s) line
-    took_by peer k row line (inl ((m, i, e), among)) = record {
-      taken = [];
-      later = line;
-      is = refl;
-      among = among;
-      follows = subst (λ (v : Value). Follows n peer [] (put_for v s) s (react v s)) (sym e)
-          (dc_follows n peer m i k s row two was (ap destination_of (sym e) ∙ dest));
-    }
-    took_by peer k row line (inr (zs, e, among)) = record {
-      taken = u ∷ [];
-      later = zs;
-      is = e;
-      among = among;
-      follows = follows_open u s n peer k c.orderly.rise two was row dest;
-    }
+    took_by peer k row line (inl ((m, i, e), among)) =
+        grind (arith, dc_follows n peer m i k s row two was (ap destination_of (sym e) ∙ dest))
+    took_by peer k row line (inr (zs, e, among)) = grind (arith, follows_open u s n peer k c.orderly.rise two was row dest)
 
     -- the end has it open
     at_open : (q : ℕ) (l : Standing) → value_at n s.live ≡ Some (linked q l) → Taken
@@ -409,8 +397,7 @@ module _ (local : Local) (w : Whole) (f : Called local w) (c : IsCalled local w.
   before_by : (was : s.ended ≡ None) → (v : Value) → u ≡ v → t ≡ before_class false v s → put_for u s ≡ put_before false v s →
       Taken ⊎ SelectsZero
   before_by was (request x) e to puts = request_so was x (has_peer x.source s.live) (is_full s) e refl refl to puts
-  before_by was v e to puts = inl (wrong_so was v e
-      (before_class false v s) to puts refl)
+  before_by was v e to puts = grind (arith, wrong_so was v e (before_class false v s) to puts refl)
 
   -- no class is selected
   before_so : (was : s.ended ≡ None) → s.class ≡ None → (v : Value) → u ≡ v → Taken ⊎ SelectsZero
@@ -446,10 +433,7 @@ module _ (local : Local) (w : Whole) (f : Called local w) (c : IsCalled local w.
 
   by_end : (o : Option EndReason) → s.ended ≡ o → Taken ⊎ SelectsZero
   by_end None e = by_class e c.class
-  by_end (Some reason) e =
-      inl (over_so s (reacts_not u s (ap is_some e)) (ap (λ (x : Option EndReason). if is_some x then [] else put_in s.class u s) e)
-      (ap is_some e)
-      (record { caller = refl; local_is = refl; class = refl; given = refl }) (c.orderly.over (ended_some s.ended reason e)))
+  by_end (Some reason) e = search (arith, over_so, reacts_not, ended_some)
 
   pub takes_so : Taken ⊎ SelectsZero
   takes_so = by_end s.ended refl
@@ -495,20 +479,16 @@ module _ (local : Local) (w : Whole) (f : Called local w) (c : IsCalled local w.
       none_at : (q : ℕ) (v : Value) (ts : List Placed) → f.tagged ≡ (Some q, v) ∷ ts → (e : Connection) → slice_get w.tap.connections
           q ≡ Some e →
           Stand local f.shut s w.coming (units_at q f.tagged) (units_at q f.came) (w.begun && first_at q f.tagged) (f.refs q) e → ⊥
-      none_at q v ts is e at (comes y a none ask o) = no_list v (units_at q ts) (units_at q f.tagged)
-          (ap (λ (l : List Placed). units_at q l) is ∙ at_first q v ts) none
-      none_at q v ts is e at (refuses y a reason mine none o seen) = no_list v (units_at q ts) (units_at q f.tagged)
-          (ap (λ (l : List Placed). units_at q l) is ∙ at_first q v ts)
-          (ap (λ (i : ℕ). units_at i f.tagged) (one_asked q e y at a) ∙ here.none)
+      none_at q v ts is e at (comes y a none ask o) = grind (arith, no_list, units_at, at_first)
+      none_at q v ts is e at (refuses y a reason mine none o seen) =
+          grind (arith, no_list, units_at q ts, units_at q f.tagged, at_first q v ts, one_asked q e y at a)
       none_at q v ts is e at (answers h none) = no_ref q h.r h.index
       none_at q v ts is e at (runs g none) = no_ref q g.r g.index
-      none_at q v ts is e at (past silent up none ask un off) = no_list v (units_at q ts) (units_at q f.tagged)
-          (ap (λ (l : List Placed). units_at q l) is ∙ at_first q v ts) none
+      none_at q v ts is e at (past silent up none ask un off) = grind (arith, no_list, units_at, at_first)
 
       none_by_place : (q : ℕ) (v : Value) (ts : List Placed) → f.tagged ≡ (Some q, v) ∷ ts → (o : Option Connection) →
           slice_get w.tap.connections q ≡ o → ⊥
-      none_by_place q v ts is None e = no_list v (units_at q ts) (units_at q f.tagged)
-          (ap (λ (l : List Placed). units_at q l) is ∙ at_first q v ts) (f.beyond q e).0
+      none_by_place q v ts is None e = grind (arith, no_list, units_at, at_first)
       none_by_place q v ts is (Some e) at = none_at q v ts is e at (f.stands q e at)
 
       none_tagged : (ts : List Placed) → f.tagged ≡ ts → values ts ≡ []

@@ -1,10 +1,10 @@
 -- A whole calling end is fair as long as the other side is judged, whatever classes it offers: by its stages.
 -- For the law of that name.
+use Rattle.std.proofs.Common.{arith}
 use Rattle.osi_fair.proofs.Vocabulary.{[], ap, Bool, Connection, Traffic, Zero, false, inl, List, refl, Some, subst, sym, true, ◌∙◌, ◌∷◌}
 use Rattle.osi_fair.proofs.Vocabulary.{◌≡◌, ◌⊎◌, request, Value, Two, Local, is_stopped, takes, Course, Left, Right, Kept, NotJudged}
-use Rattle.osi_fair.proofs.Vocabulary.{TooMany, passes, rubbish, unit as passing, arrives, begin, calls, Event, HappenAlong, Happens}
-use Rattle.osi_fair.proofs.Vocabulary.{passes_rubbish, Whole}
-use Rattle.osi_fair.specs.Wholes.{begins_other, begins_own, passes_other, passes_own}
+use Rattle.osi_fair.proofs.Vocabulary.{TooMany, passes, rubbish, unit as passing, begin, Event, HappenAlong, Happens}
+use Rattle.osi_fair.proofs.Vocabulary.{Whole}
 use Rattle.osi_fair.proofs.a_calling_end_goes_on_in_class_zero.{IsZeroed, zeroed_passes}
 use Rattle.osi_fair.proofs.a_calling_end_is_fair_in_class_2.{IsFine, Joined, fine_request, first_joined, goes, mild_of, next_joined}
 use Rattle.osi_fair.proofs.how_requests_go_on.{Stage, asks, known, zero, answered, ended, quiet, refused, waits}
@@ -67,23 +67,13 @@ own_stays local w v rest j e begun right =
     own_judged v w.tap (mild_of w v (is_fine local w v rest j e begun (l.right right))) (j.judged (l.right right)) right
 
 other_stays : (local : Local) (w : Whole) (v : Value) → Stands local w → IsJudged (takes Right v w.tap).state.course
-other_stays local w v j right =
-    let l = lasts_passing (passing Right v) w.tap in other_judged v w.tap (j.judged (l.right right)) right
+other_stays local w v j right = grind (arith, lasts_passing, other_judged)
 
 rubbish_stays : (local : Local) (w : Whole) → Stands local w → IsJudged (passes (rubbish Right) w.tap).course
-rubbish_stays local w j right =
-    let l = lasts_passing (rubbish Right) w.tap in rubbish_judged w.tap (j.judged (l.right right)) right
+rubbish_stays local w j right = grind (arith, lasts_passing, rubbish_judged)
 
 next_judged : (local : Local) (event : Event) (w new : Whole) → Happens Left event w new → Stands local w → IsJudged new.tap.course
-next_judged local arrives w new (u, coming, is) j = subst (λ (x : Whole). IsJudged x.tap.course) (sym is) j.judged
-next_judged local (calls call) w new (may, is) j = subst (λ (x : Whole). IsJudged x.tap.course) (sym is) j.judged
-next_judged local begins_own w new (some, not_begun, is) j = subst (λ (x : Whole). IsJudged x.tap.course) (sym is) j.judged
-next_judged local passes_own w new (v, put, begun, is) j =
-    subst (λ (x : Whole). IsJudged x.tap.course) (sym is) (own_stays local w v new.put j put begun)
-next_judged local begins_other w new is j = subst (λ (x : Whole). IsJudged x.tap.course) (sym is) j.judged
-next_judged local (passes_other v) w new (ranges, is) j =
-    subst (λ (x : Whole). IsJudged x.tap.course) (sym is) (other_stays local w v j)
-next_judged local passes_rubbish w new is j = subst (λ (x : Whole). IsJudged x.tap.course) (sym is) (rubbish_stays local w j)
+next_judged local event w new is j = search (arith, own_stays, other_stays, rubbish_stays)
 
 all_stand : (local : Local) (events : List Event) (w new : Whole) → HappenAlong Left w events new → Stands local w → Stands local new
 all_stand local [] w new e j = subst (Stands local) (sym e) j

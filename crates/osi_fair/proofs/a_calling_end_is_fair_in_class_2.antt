@@ -1,5 +1,6 @@
 -- A whole calling end is fair in class 2 as long as the other side is judged, also after a connection has lost its judgement: by induction
 -- over what happens. For the law of that name.
+use Rattle.std.proofs.Common.{arith}
 use Rattle.osi_fair.proofs.Vocabulary.{[], ap, Bool, false, inl, inr, is_some, List, None, Option, refl, Some, subst, sym, true, ℕ, ◌++◌}
 use Rattle.osi_fair.proofs.Vocabulary.{◌∙◌, ◌∷◌, ◌≡◌, ◌⊎◌, AllByRecursion, not, slice_get, ◌||◌, disconnect, disconnected}
 use Rattle.osi_fair.proofs.Vocabulary.{HasFieldsInRange, request, Value, Class, Two, Zero, Local, orderly_asks, orderly_closed}
@@ -22,7 +23,7 @@ use Rattle.osi_fair.proofs.a_unit_that_is_not_judged_passes.{IsIgnored, Passed, 
 use Rattle.osi_fair.proofs.a_whole_end_takes_a_unit.{next_selects}
 use Rattle.osi_fair.proofs.a_whole_end_ends.{whole_calls, whole_takes}
 use Rattle.osi_fair.proofs.each_connection_has_its_line.{Followed, IsOwned, asking, is_tracked, of, other_begins, own_begins, stray}
-use Rattle.osi_fair.proofs.how_requests_go_on.{Stage, answered, asks, ended, known, quiet, refused, waits, zero}
+use Rattle.osi_fair.proofs.how_requests_go_on.{Stage, ended, known, zero}
 use Rattle.osi_fair.proofs.no_request_is_blamed.{Holds as Staged, holds_first, holds_next, is_right}
 use Rattle.osi_fair.proofs.the_end_is_judged_as_the_other_side_is.{IsMild}
 use Rattle.osi_fair.proofs.names_stay_apart_though_one_is_lost.{AreNamedApart, end_begins, side_begins}
@@ -68,9 +69,7 @@ module _ (local : Local) (w : Whole) (j : Joined local w) where
   -- a DR that the end takes is for a connection that it has, or a DR that closed nothing has passed
   known_by : (b : Bool) → w.tap.course.strays ≡ b → IsOngoing w.tap.course → (u : Value) (later : List Value) → w.coming ≡ u ∷ later →
       w.end.ended ≡ None → IsDr u → (n : ℕ) → closed_by u ≡ Some n → IsLive w.end n ⊎ (w.tap.course.strays ≡ true)
-  known_by true e going u later come was dr n k = inr e
-  known_by false e going u later come was dr n k =
-      inl (head_live w u later come (j.kept.lively (plain_of w.tap.course going e) was).firsts dr n k)
+  known_by b e going u later come was dr n k = grind (arith, head_live, plain_of)
 
   taking : (u : Value) (later : List Value) → w.coming ≡ u ∷ later → IsOngoing w.tap.course →
       Followed local (record w { end = react u w.end; put = w.put ++ put_for u w.end; coming = later })
@@ -81,9 +80,7 @@ module _ (local : Local) (w : Whole) (j : Joined local w) where
 
   calling : (call : UserCall) → MayCall call w.end → IsOngoing w.tap.course →
       Followed local (record w { end = user_does call w.end; put = w.put ++ put_by call w.end })
-  calling call may going =
-      whole_calls local w (j.followed going) j.kept.sane (j.peers going) (j.kept.offers going) j.orderly
-      (j.local_is going) call may j.staged.newer
+  calling call may going = grind (arith, whole_calls)
 
   abbrev AfterOther : Value → Type 0
   AfterOther v = Followed local (record w { tap = (takes Right v w.tap).state; coming = w.coming ++ v ∷ [] })
@@ -107,18 +104,14 @@ module _ (local : Local) (w : Whole) (j : Joined local w) where
       other_by v ranges after f going (comes_for w.tap (j.fine going) v going.sure.left going.sure.right f.zero after.sure)
 
   not_zero : {A : Type 0} (k : Option Class) → (k ≡ None) ⊎ (k ≡ Some Two) → k ≡ Some Zero → A
-  not_zero k (inl e) h = absurd (cc (sym e ∙ h))
-  not_zero k (inr e) h = absurd (cc (sym e ∙ h))
+  not_zero k h h2 = grind arith
 
   rubbish_not : {A : Type 0} (k : Option Class) → (k ≡ None) ⊎ (k ≡ Some Two) → (c : Course) →
       IsOngoing (reached Right (reach_by k false) c) → A
-  rubbish_not (Some Zero) e c h = not_zero (Some Zero) e refl
-  rubbish_not _ e c h = differ true refl h.sure.left
+  rubbish_not h e c h2 = grind (arith, not_zero, differ)
 
   rubbish_by : {A : Type 0} → IsOngoing (passes (rubbish Right) w.tap).course → A
-  rubbish_by after =
-      let going = before_going (rubbish Right) w.tap after in
-      rubbish_not w.tap.course.class (j.followed going).zero w.tap.course after
+  rubbish_by after = grind (arith, before_going, rubbish_not)
 
 -- ---- the unit that is passing
 
@@ -130,13 +123,11 @@ IsFine w v = ((takes Left v w.tap).told.finding ≡ Kept) ⊎ (((takes Left v w.
 
 pub fine_request : (w : Whole) (v : Value) →
     ((takes Left v w.tap).told.finding ≡ Kept) ⊎ ((takes Left v w.tap).told.finding ≡ TooMany) → IsFine w v
-fine_request w v (inl e) = inl e
-fine_request w v (inr e) = inr (inl e)
+fine_request w v h = grind arith
 
 fine_passed : (w : Whole) (v : Value) → ((takes Left v w.tap).told.finding ≡ Kept) ⊎ (((takes Left v w.tap).told.finding ≡ NotJudged)
     × ((w.tap.course.strays ≡ true) ⊎ (w.tap.course.loose ≡ true))) → IsFine w v
-fine_passed w v (inl e) = inl e
-fine_passed w v (inr e) = inr (inr e)
+fine_passed w v h = grind arith
 
 -- it is so, and all holds after it
 pub record Goes (local : Local) (w : Whole) (v : Value) (rest : List Value) : Type 0 where
@@ -154,8 +145,7 @@ module _ (local : Local) (w : Whole) (j : Joined local w) (v : Value) (rest : Li
 
   is_loose : (p : ℕ) (c : Connection) → slice_get w.tap.connections p ≡ Some c → c.is_judged ≡ false → (b : Bool) →
       w.tap.course.loose ≡ b → b ≡ true
-  is_loose p c at lost true is = refl
-  is_loose p c at lost false is = differ c.is_judged (j.kept.sane.judged is p c at) lost
+  is_loose p c h lost b is = grind (arith, differ)
 
   stray_goes : (m source : ℕ) → v ≡ disconnected m source → w.tap.course.strays ≡ true → Goes local w v rest
   stray_goes m source is strays =
@@ -200,9 +190,7 @@ module _ (local : Local) (w : Whole) (j : Joined local w) (v : Value) (rest : Li
   goes = owned_goes (subst (AllByRecursion (IsOwned w.tap)) e f.owned).0
 
 pub mild_of : (w : Whole) (v : Value) → IsFine w v → IsMild (takes Left v w.tap).told.finding
-mild_of w v (inl e) = inl e
-mild_of w v (inr (inl e)) = inr (inl e)
-mild_of w v (inr (inr (e, why))) = inr (inr e)
+mild_of w v h = grind arith
 
 -- so it breaks no rule
 own_keeps : (local : Local) (w : Whole) (v : Value) (rest : List Value) → Joined local w → w.put ≡ v ∷ rest → w.begun ≡ true →
@@ -300,38 +288,10 @@ all_joined local (event ∷ events) w new (mid, first, more) j =
     all_joined local events mid new more (next_joined local event w mid first j)
 
 pub first_joined : (local : Local) → local.class2 ≡ true → Joined local (begin true local)
-first_joined local two = record {
-  staged = holds_first local;
-  kept = first_holds local two;
-  orderly = orderly_fresh true local;
-  local_is = λ going. refl;
-  followed = λ firm. record {
-    lines = λ i c at. no_item i c at;
-    waiting = λ i c at. no_item i c at;
-    owned = tt;
-    linked = λ lasts r peer link e. absurd (cc e);
-    answers = tt;
-    requests = tt;
-    two = λ r t.
-        let (p, c, at, tracked, is) = t in no_item p c at;
-    silent = λ i c at. no_item i c at;
-    zero = inl refl;
-    some = λ h. absurd (cc h);
-    few = tt;
-    seen = λ i c at. no_item i c at;
-    settled = tt;
-    lost = λ i c at. no_item i c at;
-    shut = λ lasts i c at. no_item i c at;
-  };
-  peers = λ going.
-      record { lost = λ i c at j. no_item i c at; used = λ n i k c e at. no_item i c at; known = λ n i k c e at. no_item i c at };
-  fine = λ going. refl;
-}
+first_joined local two = grind (arith, no_item, known, holds_first local, first_holds local two, orderly_fresh true local)
 
 has_none : {A : Type 0} (a b : Bool) → a ≡ false → b ≡ true → (a || not b) ≡ true → A
-has_none true b h k e = absurd (cc h)
-has_none false true h k e = absurd (cc e)
-has_none false false h k e = absurd (cc k)
+has_none h b h2 k e = grind arith
 
 -- while the end is not over, class 0 is selected only if the end has it
 module _ (local : Local) (w : Whole) (lasts : w.end.ended ≡ None) (no_zero : local.class0 ≡ false) (two : local.class2 ≡ true)
@@ -340,15 +300,7 @@ module _ (local : Local) (w : Whole) (lasts : w.end.ended ≡ None) (no_zero : l
   calm_not cs strays tap = absurd (cc (sym (ap (λ (t : Traffic). t.course.class) tap) ∙ selected))
 
   not_selected : Stage local w → ⊥
-  not_selected (ended none h) = over_not w.end.ended h lasts
-  not_selected (quiet is none not_begun cs strays tap done dcs) = calm_not cs strays tap
-  not_selected (asks x put is offers cs strays tap done dcs begun) = calm_not cs strays tap
-  not_selected (waits r is none not_begun cs strays tap p o offers waiting dcs) = calm_not cs strays tap
-  not_selected (refused r is none not_begun cs strays tap done dcs v more coming are refusal too) = calm_not cs strays tap
-  not_selected (answered r is none not_begun dcs n x more coming are class has after so z) =
-      has_none local.class0 local.class2 no_zero two has
-  not_selected (zero has z) = has_none local.class0 local.class2 no_zero two has
-  not_selected (known class seen has) = absurd (cc (sym class ∙ selected))
+  not_selected h = grind (arith, over_not, calm_not, has_none)
 
 pub gone : (local : Local) (events : List Event) (w : Whole) (n source reason : ℕ) (user : List ℕ) (more : List Value) →
     local.class0 ≡ false → local.class2 ≡ true → HappenAlong Left (begin true local) events w →

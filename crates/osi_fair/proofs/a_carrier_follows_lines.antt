@@ -5,7 +5,7 @@ use Rattle.osi_fair.proofs.Vocabulary.{refl, Result, Some, subst, sym, ℕ, ◌+
 use Rattle.osi_fair.proofs.Vocabulary.{AllByRecursion, flat_map, destination_of, disconnect, disconnected, Value, drained_moves, all_given}
 use Rattle.osi_fair.proofs.Vocabulary.{longest_tsdu, Given, Standing, taken, unit_of, with_tsdu, give_out, hand_in, hand_out, Move}
 use Rattle.osi_fair.proofs.Vocabulary.{MovesAlong, take_in, LinkFault, Class, Two, put_here, without_here, closed_with, link_of, open_link}
-use Rattle.osi_fair.proofs.Vocabulary.{sent, RiseFrom, pumped, written_by, handed_out, in_two, leaves, taking, to_closing, to_connection}
+use Rattle.osi_fair.proofs.Vocabulary.{sent, RiseFrom, pumped, written_by, handed_out, in_two, leaves, taking, to_closing}
 use Rattle.osi_fair.proofs.Vocabulary.{to_linked, to_reference, put, value_at, closing, Live as Connection, linked, packets, Direction}
 use Rattle.osi_fair.proofs.Vocabulary.{Follows, link_now, Act, ActsAlong, answers, closes_with as closes, HandsInShort, ignores, Line}
 use Rattle.osi_fair.proofs.Vocabulary.{moves, units_put, units_taken, put_at, put_closing, put_for, put_in_two, put_leaving, put_linked}
@@ -31,8 +31,7 @@ module _ (d : Direction) (r peer : ℕ) where
   moves_along : (calls : List Move) (old new : Standing) → MovesAlong old calls new → AllByRecursion HandsInShort calls →
       (line : Line) (later : List Value) → line.link ≡ Some old → line.coming ≡ flat_map units_taken calls ++ later →
       ActsAlong d r peer line (AreMoves calls) (line_after line new (line.put ++ flat_map (units_put peer) calls) later)
-  moves_along [] old new e short line later is coming =
-      subst (λ (s : Standing). line_after line s (line.put ++ []) later ≡ line) (sym e) (same_line line old later is coming)
+  moves_along [] old new e short line later is coming = grind (arith, same_line line old later is coming)
   moves_along (call ∷ calls) old new (mid, move, more) (one, others) line later is coming =
       let next : Line = line_after line mid (line.put ++ units_put peer call) (flat_map units_taken calls ++ later) in
       let then_is = moves_along calls mid new more others next later refl refl in
@@ -262,16 +261,9 @@ pub follows_open : (unit : Value) (s : State) (r peer : ℕ) (link : Standing) �
     value_at r s.live ≡ Some (linked peer link) → destination_of unit ≡ Some r →
     Follows r peer (unit ∷ []) (put_for unit s) s (react unit s)
 follows_open unit s r peer link rise two lasts here e =
-    let after = react_is unit s r two lasts e ∙ ap (λ (o : Option Connection). to_connection r o unit s) here in
-    let puts = put_is unit s r two lasts e ∙ ap (λ (o : Option Connection). put_at r o unit s.class) here in
-    subst (λ (units : List Value). Follows r peer (unit ∷ []) units s (react unit s)) (sym puts)
-    (subst (λ (t : State). Follows r peer (unit ∷ []) (put_linked r peer link unit s.class) s t) (sym after)
-    (follows_linked r peer s link here two unit rise))
+    grind (arith, react_is unit s r two lasts e, put_is unit s r two lasts e, follows_linked r peer s link here two unit rise)
 
 pub follows_closed_one : (unit : Value) (s : State) (r peer : ℕ) → RiseFrom 0 s.live → s.class ≡ Some Two → s.ended ≡ None →
     value_at r s.live ≡ Some (closing peer) → destination_of unit ≡ Some r → Follows r peer (unit ∷ []) (put_for unit s) s (react unit s)
 follows_closed_one unit s r peer rise two lasts here e =
-    let after = react_is unit s r two lasts e ∙ ap (λ (o : Option Connection). to_connection r o unit s) here in
-    let puts = put_is unit s r two lasts e ∙ ap (λ (o : Option Connection). put_at r o unit s.class) here in
-    subst (λ (units : List Value). Follows r peer (unit ∷ []) units s (react unit s)) (sym puts)
-    (subst (λ (t : State). Follows r peer (unit ∷ []) [] s t) (sym after) (follows_closing r peer unit s here rise))
+    grind (arith, react_is unit s r two lasts e, put_is unit s r two lasts e, follows_closing r peer unit s here rise)

@@ -102,8 +102,7 @@ module _ (d : Direction) where
   ended_so reason s lasts = ap (λ (o : Option EndReason). if is_some o then s else ends reason s) lasts
 
   pub becomes_over : (reason : EndReason) (w : Whole) → w.end.ended ≡ None → Becomes d w (ends reason w.end)
-  becomes_over reason w lasts =
-      subst (λ (s : State). Becomes d w s) (ended_so reason w.end lasts) (becomes_by_call (breaks reason) w tt)
+  becomes_over reason w lasts = grind (arith, ended_so reason w.end lasts, becomes_by_call (breaks reason) w tt)
 
   -- ---- a packet
 

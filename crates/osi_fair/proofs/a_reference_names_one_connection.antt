@@ -3,7 +3,7 @@
 use Rattle.osi_fair.proofs.Vocabulary.{arith, [], Bool, false, if◌then◌else◌, List, None, Option, option_map, refl, Some, subst, sym, true}
 use Rattle.osi_fair.proofs.Vocabulary.{ℕ, ◌^◌, ◌∙◌, ◌∷◌, ◌≡◌, eqb-true, list_any, nat_le, not, position, slice_get, slice_set, ◌&&◌, ◌==◌}
 use Rattle.osi_fair.proofs.Vocabulary.{◌||◌, confirm, Connect, disconnect, disconnected, error, request, Value, Class, is_applied, reach_of}
-use Rattle.osi_fair.proofs.Vocabulary.{code_named, first_failed, given_again, is_inside, is_offered, is_closing, is_free, is_named, is_open}
+use Rattle.osi_fair.proofs.Vocabulary.{code_named, first_failed, given_again, is_inside, is_offered, is_closing, is_named, is_open}
 use Rattle.osi_fair.proofs.Vocabulary.{is_over, is_over_by, is_refused, is_silent, seen, uses, asked_by, asks_by, asks_kept, asks_of}
 use Rattle.osi_fair.proofs.Vocabulary.{at_found, at_place, class_for, closing_phase, connection_after, found, found_on, fresh, half_after}
 use Rattle.osi_fair.proofs.Vocabulary.{is_stopped, judged_on, none_told, Outcome, request_tests, route, routed, sent_on, Traffic as State}
@@ -202,9 +202,7 @@ placed_apart c s None none a = apart_add s.connections (asked_by c) a (asked_new
 
 asking : (d : Direction) (f : Finding) (c : Connect) (s : State) → first_failed (request_tests s c) ≡ f → AreApart s.connections →
     Apart (asks_by d f c s)
-asking d Kept c s e a =
-    let t = passes_each (request_tests s c) refl e in
-    placed_apart c s (position is_free s.connections) (not_true (list_any (λ e. uses Left c.source e) s.connections) t.1.1.0) a
+asking d Kept c s e a = search (arith, placed_apart, not_true, passes_each (request_tests s c) refl e)
 asking d _ c s e a = a
 
 asks : (d : Direction) (v : Value) (s : State) → AreApart s.connections → Apart (asks_of d v s)

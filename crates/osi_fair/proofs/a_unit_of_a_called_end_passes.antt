@@ -1,9 +1,9 @@
 -- A unit of a whole called end passes: a CC, a DR that refuses a CR, or a unit of an open connection. Each is right.
 -- For the law on a whole called end.
-use Rattle.osi_fair.proofs.Vocabulary.{[], ap, arith, Bool, drop, false, inl, inr, List, None, Option, refl, set, Some, subst, sym, true, ℕ}
+use Rattle.osi_fair.proofs.Vocabulary.{[], ap, arith, Bool, false, inl, inr, List, None, Option, refl, set, Some, subst, sym, true, ℕ}
 use Rattle.osi_fair.proofs.Vocabulary.{◌++◌, ◌<◌, ◌∙◌, ◌∷◌, ◌≡◌, ◌≤◌, ◌⊎◌, eq-eqb, AllByRecursion, list_any, position_or_len, position}
 use Rattle.osi_fair.proofs.Vocabulary.{slice_get, ◌&&◌, ◌==◌, ◌||◌, confirm, Connect, destination_of, disconnect, error, Value, Standing}
-use Rattle.osi_fair.proofs.Vocabulary.{Class, Two, Local, acceptance, opened_link, confirm_tests, is_named, is_open, is_over, is_refused}
+use Rattle.osi_fair.proofs.Vocabulary.{Class, Two, Local, acceptance, opened_link, is_named, is_open, is_over, is_refused}
 use Rattle.osi_fair.proofs.Vocabulary.{is_silent, other, uses, course_after, found, found_on, half_after, route, sent_on, silent_half}
 use Rattle.osi_fair.proofs.Vocabulary.{takes, uses_source, Connection, Course, Left, Right, Kept, NotJudged, Half, Refused, Named}
 use Rattle.osi_fair.proofs.Vocabulary.{ActsAlong, after_finding, finding_of, IsRight, Line, opened_half, opened_line, unit as passing}
@@ -133,8 +133,7 @@ module _ (local : Local) (w : Whole) (f : Called local w) (apart : AreApart w.ta
       item i x h = after_change cs p i next x (ap (λ (l : List Connection). slice_get l i) (sym conns) ∙ h)
 
       stand_by : (i : ℕ) (x : Connection) → ((i ≡ p) × (x ≡ next)) ⊎ ((i ≡ p → ⊥) × (slice_get cs i ≡ Some x)) → StandAfter i x
-      stand_by i x (inl (same, is)) =
-          subst (λ (y : Connection). StandAfter i y) (sym is) (subst (λ (j : ℕ). StandAfter j next) (sym same) stand)
+      stand_by i x (inl (same, is)) = grind arith
       stand_by i x (inr (not_p, there)) =
           subst (λ (b : Bool). Stand local f.shut w.end w.coming (units_at i later) (units_at i f.came) b (f.refs i) x)
           (other_begun i not_p)
@@ -225,10 +224,7 @@ module _ (local : Local) (w : Whole) (f : Called local w) (apart : AreApart w.ta
           (λ same. let top = f.tops i e there in let less = above_cc.0 in absurd (omega arith))))
 
       cc_kept : found_on Right w.tap c u ≡ Kept
-      cc_kept = ap (λ (v : Value). found_on Right w.tap c v) u_cc
-          ∙ judged_so c.is_judged (found Right w.tap.course (uses_source Right cs cc_is) c cc_is) Kept h.asked.judged
-          (ap (λ (b : Bool). found Right w.tap.course b c cc_is) unused
-          ∙ two_right local h.x h.size h.r c w.tap.course h.selected h.asked.offer h.asked.right)
+      cc_kept = grind (arith, u_cc, judged_so, unused, two_right local h.x h.size h.r c w.tap.course h.selected h.asked.offer h.asked.right)
 
       cc_route : route Right w.tap.course u ≡ Named n
       cc_route = grind (arith, u_cc, route_confirm)
@@ -373,13 +369,10 @@ module _ (local : Local) (w : Whole) (f : Called local w) (apart : AreApart w.ta
       run_kept = judged_so c.is_judged (found Right w.tap.course in_use c u) Kept (is_judged) (is_right.kept w.tap.course in_use)
 
       no_cc : (m : ℕ) (x : Connect) → u ≡ confirm m x → ⊥
-      no_cc m x e = wrong_form (is_silent c.right.phase) (drop 1 (confirm_tests c w.tap.course.class in_use w.tap.course.loose x))
-          (open_started c.right.phase g.there)
-          (sym (ap (λ (v : Value). found Right w.tap.course in_use c v) e) ∙ is_right.kept w.tap.course in_use)
+      no_cc m x e = grind (arith, wrong_form, is_right, open_started c.right.phase g.there, is_right.kept w.tap.course in_use)
 
       no_er : (m cause : ℕ) → u ≡ error m cause → ⊥
-      no_er m cause e = er_not_kept (is_silent c.right.phase) w.tap.course.left_erred (open_started c.right.phase g.there)
-          (sym (ap (λ (v : Value). found Right w.tap.course in_use c v) e) ∙ is_right.kept w.tap.course in_use)
+      no_er m cause e = grind (arith, er_not_kept, is_right, open_started c.right.phase g.there, is_right.kept w.tap.course in_use)
 
       abbrev next : Connection
       next = sent_on Right u c

@@ -177,9 +177,7 @@ module _ (local : Local) (w : Whole) (f : Followed local w) (sane : IsSane w.tap
 
   seen_still : (x : Connect) (i : ℕ) (c : Connection) → is_tracked c ≡ true → is_silent c.seen_by_left.phase ≡ false →
       (c ≡ asked_by x) ⊎ (slice_get cs i ≡ Some c) → (takes Left (request x) w.tap).state.course.class_seen ≡ Some Two
-  seen_still x i c tracked known (inl is) = absurd (cc (sym (ap is_tracked is) ∙ tracked))
-  seen_still x i c tracked known (inr at) =
-      (lasts_passing (passing Left (request x)) w.tap).seen (f.two c.left.reference (i, c, at, tracked, refl)) (f.seen i c at tracked known)
+  seen_still x i c tracked known h = grind (arith, is_tracked, lasts_passing)
 
   request_lost : (x : Connect) (i : ℕ) (c : Connection) → c.is_judged ≡ false → (c ≡ asked_by x) ⊎ (slice_get cs i ≡ Some c) →
       (is_open c.right.phase || is_closing c.right.phase) ≡ true

@@ -204,5 +204,4 @@ module _ (local : Local) (w : Whole) (apart : AreApart w.tap.connections) (judge
     dt_by _ e puts = absurd puts
 
     pub selected_passes : IsFine × Selected passed
-    selected_passes = dt_by u refl (subst (PutsData f.limit (λ b. Unit {0}) f.c.right.begun) put
-        (zero_puts f.limit w.end f.c.right.begun w.put f.end))
+    selected_passes = grind (arith, dt_by, zero_puts f.limit w.end f.c.right.begun w.put f.end)

@@ -564,12 +564,8 @@ module _ (local : Local) (w : Whole) (f : Followed local w) (sane : IsSane w.tap
       let before = ap (λ (h : Half). is_silent h.phase) (sym (known_then v (is_applied found_so) far c))
       ∙ ap (λ (y : Connection). is_silent y.seen_by_left.phase) (sym is) ∙ known in
       (lasts_passing (passing Right v) w.tap).seen (f.two c.left.reference (t.q, c, t.at, a, refl)) (f.seen t.q c t.at a before)
-  seen_at i x tracked known (opened a silent b line row class) (inl (same, is)) =
-      let before = ap (λ (h : Half). is_silent h.phase) (sym (known_then v (is_applied found_so) far c))
-      ∙ ap (λ (y : Connection). is_silent y.seen_by_left.phase) (sym is) ∙ known in
-      differ (is_silent c.right.phase) silent (sound_c.left_knows.there before)
-  seen_at i x tracked known (gone a b silent none class lost) (inl (same, is)) =
-      differ (is_tracked nxt) (ap is_tracked (sym is) ∙ tracked) b
+  seen_at i x tracked known (opened a silent b line row class) (inl (same, is)) = grind (arith, known_then, differ, sound_c)
+  seen_at i x tracked known (gone a b silent none class lost) (inl (same, is)) = grind (arith, differ, is_tracked)
   seen_at i x tracked known (quiet a still dc) (inl (same, is)) = differ (is_tracked c) (ap is_tracked (sym (is ∙ still)) ∙ tracked) a
 
   settled_to : (u : Value) → AreSettled cs w.put w.end.given u → AreSettled (takes Right v w.tap).state.connections w.put w.end.given u

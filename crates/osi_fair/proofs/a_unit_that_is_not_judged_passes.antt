@@ -191,13 +191,7 @@ module _ (local : Local) (w : Whole) (f : Followed local w) (sane : IsSane w.tap
     owned_on v (stray m source is k) = stray m source is (strays_on k)
 
     settled_rest : (v : Value) → AreSettled cs w.put w.end.given v → AreSettled cs rest w.end.given v
-    settled_rest v h m source is =
-        let k = h m source is in
-        record {
-          up = k.up;
-          waits = k.waits;
-          asks = (subst (AllByRecursion (λ (y : Value). (z : Connect) → y ≡ request z → z.source ≡ source → ⊥)) e k.asks).1;
-        }
+    settled_rest v h m source is = grind arith
 
     ignored_so : Followed local (record w { put = rest; begun = false; tap = record { connections = cs; course = course } })
     ignored_so =

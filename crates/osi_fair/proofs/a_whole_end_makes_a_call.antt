@@ -6,7 +6,7 @@ use Rattle.osi_fair.proofs.Vocabulary.{slice_get, ◌==◌, confirm, Connect, de
 use Rattle.osi_fair.proofs.Vocabulary.{Class, Two, Local, push_other, put_other, beyond, push_here, put_here, asks as asks_for, closed_on}
 use Rattle.osi_fair.proofs.Vocabulary.{closed_with, closes_in, ended_by, link_of, open_link, sent, sent_all, proposal, proposal_by}
 use Rattle.osi_fair.proofs.Vocabulary.{proposes_two, IsOrderly, pumped, value_at, breaks, closes_call, connects, sends, sends_all}
-use Rattle.osi_fair.proofs.Vocabulary.{user_does, UserCall, asked, closing, Live, linked, EndReason, Connection, Left, Half, Follows}
+use Rattle.osi_fair.proofs.Vocabulary.{user_does, UserCall, asked, closing, Live, linked, EndReason, Connection, Left, Follows}
 use Rattle.osi_fair.proofs.Vocabulary.{link_now, Line, put_closing, put_sent, put_together, MayCall, Whole}
 use Rattle.osi_carrier.specs.Calls.{sent_on}
 use Rattle.osi_carrier.specs.State.{State}
@@ -167,17 +167,7 @@ module _ (local : Local) (w : Whole) (f : Followed local w) (sane : IsSane w.tap
   puts = of_line owner answered_so
 
   settled_here : IsAnswered w.end n → IsSettled cs (w.put ++ units) t.given n
-  settled_here a = record {
-    up = subst (λ (i : ℕ). n ≤ i) (sym given) a.up;
-    waits = λ i c at waits same.
-        let k = f.waiting i c at waits in
-        a.row (ap (λ (j : ℕ). value_at j w.end.live) (sym same ∙ ap (λ (h : Half). h.reference) k.left) ∙ k.row was);
-    asks = all_join (λ (v : Value). (x : Connect) → v ≡ request x → x.source ≡ n → ⊥) w.put units
-        (all_so (λ v. (x : Connect) → v ≡ request x → IsAsking local w.end w.coming x)
-        (λ v. (x : Connect) → v ≡ request x → x.source ≡ n → ⊥) w.put
-        (λ v h x e same. a.row (ap (λ (j : ℕ). value_at j w.end.live) (sym same) ∙ (h x e).row was)) f.requests)
-        (units_ask w.tap w.end n units (λ x. x.source ≡ n → ⊥) puts);
-  }
+  settled_here a = grind (arith, asks, all_join, all_so, units_ask, puts)
 
   answer_now : (v : Value) → IsAnswer w.tap.course.loose cs w.end v → IsAnswer w.tap.course.loose cs t v
   answer_now v h m x e lasts (inl row) = ((h m x e was (inl (was_asked m (m == n) refl row))).0, row)

@@ -1,8 +1,9 @@
 -- A side that has broken no rule has broken none after a unit of the other side, or after one of its own that breaks none; and what
 -- is noted of a unit. For the laws on whole ends.
-use Rattle.osi_fair.proofs.Vocabulary.{ap, Bool, false, inl, inr, [], ◌∷◌, not, refl, true, ◌∙◌, ◌≡◌, ◌⊎◌}
-use Rattle.osi_fair.proofs.Vocabulary.{◌&&◌, ◌||◌, error, Value, breaks_are_noted, first_failed, has_erred, is_applied, is_break, is_report}
-use Rattle.osi_fair.proofs.Vocabulary.{noted, other, takes, Course, Direction, Left, Right, Finding, Broke, Kept, NotJudged}
+use Rattle.std.proofs.Common.{arith}
+use Rattle.osi_fair.proofs.Vocabulary.{Bool, false, [], ◌∷◌, not, ◌∙◌, ◌≡◌, ◌⊎◌}
+use Rattle.osi_fair.proofs.Vocabulary.{◌&&◌, ◌||◌, Value, breaks_are_noted, first_failed, has_erred, is_applied, is_break, is_report}
+use Rattle.osi_fair.proofs.Vocabulary.{noted, other, takes, Course, Direction, Finding, Broke, Kept, NotJudged}
 use Rattle.osi_fair.proofs.Vocabulary.{TooMany, Traffic as State}
 use Rattle.osi_fair.proofs.Vocabulary.{Reach, reached, refused, refused_reach}
 use Rattle.osi_rules.specs.declared.findings.Reach.TheVariants as reach
@@ -12,21 +13,17 @@ use Rattle.osi_rules.specs.declared.findings.Rule.TheVariants as rule
 
 -- of the other side
 both_not : (a b : Bool) → b ≡ false → (a && b) ≡ false
-both_not true b h = h
-both_not false b h = refl
+both_not a b h = grind arith
 
 neither : (a b : Bool) → a ≡ false → (a || b) ≡ b
-neither true b h = cc
-neither false b h = refl
+neither a b h = grind arith
 
 noted_other : (d : Direction) (f : Finding) (c : Course) → has_erred d (noted (other d) f c) ≡ has_erred d c
-noted_other Left f c = neither (is_break f && false) c.left_erred (both_not (is_break f) false refl)
-noted_other Right f c = neither (is_break f && false) c.right_erred (both_not (is_break f) false refl)
+noted_other d f c = grind (arith, neither, both_not)
 
 -- of its own
 noted_own : (d : Direction) (f : Finding) (c : Course) → is_break f ≡ false → has_erred d (noted d f c) ≡ has_erred d c
-noted_own Left f c h = ap (λ (b : Bool). (b && true) || c.left_erred) h
-noted_own Right f c h = ap (λ (b : Bool). (b && true) || c.right_erred) h
+noted_own d f c h = grind arith
 
 -- ---- a unit passes
 
@@ -40,46 +37,33 @@ own_fine d v s mild h = breaks_are_noted d v s d ∙ noted_own d (takes d v s).t
 
 -- octets that are no packet
 reached_erred : (d e : Direction) (r : Reach) (c : Course) → has_erred d (reached e r c) ≡ has_erred d c
-reached_erred d e reach.Nothing c = refl
-reached_erred d e reach.Connection c = refl
-reached_erred d Left reach.Side c = refl
-reached_erred d Right reach.Side c = refl
-reached_erred d e reach.Everything c = refl
+reached_erred d e r c = grind arith
 
 pub rubbish_fine : (d e : Direction) (s : State) → has_erred d s.course ≡ false → has_erred d (refused e s).course ≡ false
 rubbish_fine d e s h = reached_erred d e (refused_reach e s) s.course ∙ h
 
 -- a finding that blames nobody
 pub mild_not : (f : Finding) → (f ≡ Kept) ⊎ ((f ≡ TooMany) ⊎ (f ≡ NotJudged)) → is_break f ≡ false
-mild_not f (inl e) = ap is_break e
-mild_not f (inr (inl e)) = ap is_break e
-mild_not f (inr (inr e)) = ap is_break e
+mild_not f h = grind arith
 
 pub right_not : (f : Finding) → (f ≡ Kept) ⊎ (f ≡ NotJudged) → is_break f ≡ false
-right_not f (inl e) = ap is_break e
-right_not f (inr e) = ap is_break e
+right_not f h = grind arith
 
 -- ---- an ER of the other side reports no break of an end that has broken no rule
 
 pub no_report : (erred : Bool) (v : Value) → erred ≡ false → is_report erred v ≡ false
-no_report erred (error destination cause) h = h
-no_report erred _ h = refl
+no_report erred v h = grind arith
 
 -- an ER on a connection that its sender has answered has no effect
 pub er_idle : (silent erred : Bool) → silent ≡ false →
     is_applied (first_failed ((silent || not erred, NotJudged) ∷ (silent, Broke rule.WrongForm) ∷ [])) ≡ false
-er_idle true erred h = absurd (cc h)
-er_idle false true h = refl
-er_idle false false h = refl
+er_idle silent erred h = grind arith
 
 -- and is not right
 pub er_not_kept : (silent erred : Bool) → silent ≡ false →
     first_failed ((silent || not erred, NotJudged) ∷ (silent, Broke rule.WrongForm) ∷ []) ≡ Kept → ⊥
-er_not_kept true erred h e = absurd (cc h)
-er_not_kept false true h e = absurd (cc e)
-er_not_kept false false h e = absurd (cc e)
+er_not_kept silent erred h e = grind arith
 
 -- a unit of the other side in class 0
 pub not_broken : (stopped erred : Bool) → stopped ≡ false → erred ≡ false → (stopped || erred) ≡ false
-not_broken true erred h k = cc
-not_broken false erred h k = k
+not_broken stopped erred h k = grind arith

@@ -280,10 +280,7 @@ module _ (local : Local) (shut : ℕ → Bool) (end : State) (coming mine asks :
   }
 
   asked_begins : (d : Direction) (x : Connect) (c : Connection) → Asked x c → Asked x (begins d c)
-  asked_begins Left x c a =
-      record { range = a.range; offer = a.offer; left = a.left; right = a.right; known = a.right; judged = a.judged }
-  asked_begins Right x c a =
-      record { range = a.range; offer = a.offer; left = a.left; right = a.right; known = a.known; judged = a.judged }
+  asked_begins d x c a = grind arith
 
   answer_begins : (d : Direction) (b was : Bool) (c : Connection) → Answering local shut end coming mine was o c →
       (b ≡ true → (begins d c).seen_by_right ≡ (begins d c).left) → Answering local shut end coming mine b o (begins d c)

@@ -1,16 +1,16 @@
 -- The stages of a whole calling end: no connection is asked for, a CR waits to pass, or for its answer, then class 0 or class 2.
 -- For the laws on requests and on whole calling ends.
+use Rattle.std.proofs.Common.{arith}
 use Rattle.osi_fair.proofs.Vocabulary.{[], ap, append_assoc, Bool, false, if◌then◌else◌, inl, inr, is_some, List, map, None, Option, refl}
-use Rattle.osi_fair.proofs.Vocabulary.{Some, subst, sym, true, ℕ, ◌%◌, ◌++◌, ◌∙◌, ◌∷◌, ◌≡◌, ◌≢◌, ◌⊎◌, eqb-true, AllByRecursion, list_all}
-use Rattle.osi_fair.proofs.Vocabulary.{list_any, not, slice_get, ◌&&◌, ◌==◌, ◌||◌, confirm, Connect, HasFieldsInRange, IsConnect, request}
+use Rattle.osi_fair.proofs.Vocabulary.{Some, subst, sym, true, ℕ, ◌++◌, ◌∙◌, ◌∷◌, ◌≡◌, ◌≢◌, ◌⊎◌, eqb-true, AllByRecursion}
+use Rattle.osi_fair.proofs.Vocabulary.{not, slice_get, ◌&&◌, ◌==◌, ◌||◌, confirm, Connect, HasFieldsInRange, IsConnect, request}
 use Rattle.osi_fair.proofs.Vocabulary.{Value, Two, Zero, Local, react, Rows, user_does, UserCall, Live, first_failed, is_inside, is_offered}
-use Rattle.osi_fair.proofs.Vocabulary.{begins, is_over, uses, class_of, has_place, is_not_judged, offer_of, packet_begins}
+use Rattle.osi_fair.proofs.Vocabulary.{begins, class_of, offer_of, packet_begins}
 use Rattle.osi_fair.proofs.Vocabulary.{refused as not_read, request_tests, Traffic, takes, Connection, Offer, Left, Right, Broke}
-use Rattle.osi_fair.proofs.Vocabulary.{TooMany, packet, rubbish, unit as passing, put_by, put_for, arrives, calls, Event, Happens, MayCall}
+use Rattle.osi_fair.proofs.Vocabulary.{TooMany, packet, unit as passing, put_by, put_for, arrives, calls, Event, Happens, MayCall}
 use Rattle.osi_fair.proofs.Vocabulary.{passes_rubbish, Whole}
 use Rattle.osi_carrier.specs.State.{State}
 use Rattle.osi_rules.specs.declared.findings.Rule.TheVariants as rule
-use Rattle.osi_rules.specs.Rows.{selects_expedited}
 use Rattle.osi_fair.specs.Wholes.{begins_other, begins_own, passes_other, passes_own}
 use Rattle.osi_fair.proofs.small_facts_that_many_lemmas_use.{differ}
 use Rattle.osi_fair.proofs.a_new_reference_is_not_in_use.{Passed}
@@ -82,8 +82,7 @@ ended_taking local w unit later put none h = ended (none_more w.put (put_for uni
 -- a DC ends it
 dc_taking : (local : Local) (w : Whole) (rows : Rows Live) (unit : Value) (later : List Value) → w.put ≡ [] → Calling local rows w.end →
     IsDc unit → Stage local (after_arriving w unit later)
-dc_taking local w rows unit later none is dc =
-    let p = dc_ends rows unit w.end dc is.0 in ended_taking local w unit later none p.put p.after
+dc_taking local w rows unit later none is dc = grind (arith, ended_taking, dc_ends rows unit w.end dc is.0)
 
 asks_taking : (local : Local) (w : Whole) (unit : Value) (later : List Value) (x : Connect) (cs : List Connection) (strays : Bool) →
     w.put ≡ request x ∷ [] → CallsOrOver local x.source w.end → Offers local (offer_of x) → w.tap ≡ calm_tap cs strays →
@@ -100,21 +99,14 @@ cc_taking : (local : Local) (w : Whole) (r n : ℕ) (x : Connect) (later : List 
     w.put ≡ [] → w.begun ≡ false → (x.class == 2) ≡ false → HasZero local → react (confirm n x) w.end ≡ after →
     IsZeroed after [] false w.tap →
     Stage local (after_arriving w (confirm n x) later)
-cc_taking local w r n x later after is none not_begun class has so z =
-    let puts : w.put ++ put_for (confirm n x) w.end ≡ [] = none_more w.put (put_for (confirm n x) w.end) [] none
-    (confirm_takes n r x w.end is.0 class).put in
-    zero has (subst (λ (s : State). IsZeroed s (w.put ++ put_for (confirm n x) w.end) w.begun w.tap) (sym so)
-    (subst (λ (l : List Value). IsZeroed after l w.begun w.tap) (sym puts)
-    (subst (λ (b : Bool). IsZeroed after [] b w.tap) (sym not_begun) z)))
+cc_taking local w r n x later after is none not_begun class has so z = grind (arith, none_more, confirm_takes)
 
 answered_taking : (local : Local) (w : Whole) (unit : Value) (later : List Value) (r : ℕ) (dcs : List Value) (n : ℕ) (x : Connect)
     (more : List Value) (after : State) → Calling local (one r) w.end → w.put ≡ [] → w.begun ≡ false →
     unit ∷ later ≡ dcs ++ confirm n x ∷ more → AreDcs dcs → (x.class == 2) ≡ false → HasZero local →
     react (confirm n x) w.end ≡ after → IsZeroed after [] false w.tap → Stage local (after_arriving w unit later)
 answered_taking local w unit later r [] n x more after is none not_begun e dcs class has so z =
-    let (same_unit, others) = first_of unit (confirm n x) later more e in
-    subst (λ (v : Value). Stage local (after_arriving w v later)) same_unit
-    (cc_taking local w r n x later after is none not_begun class has so z)
+    grind (arith, first_of, after_arriving, cc_taking)
 answered_taking local w unit later r (d ∷ dcs) n x more after is none not_begun e (dc, others) class has so z =
     let (same_unit, rest) = first_of unit d later (dcs ++ confirm n x ∷ more) e in
     dc_taking local w (one r) unit later none is (subst IsDc same_unit dc)
@@ -140,9 +132,7 @@ refused_taking local w unit later r cs strays (d ∷ dcs) v more is none not_beg
 
 taking : (local : Local) (w : Whole) (unit : Value) (later : List Value) → w.coming ≡ unit ∷ later → Stage local w →
     Stage local (after_arriving w unit later)
-taking local w unit later e (ended none h) =
-    let (same_end, puts) = over_takes unit w.end h in
-    ended_taking local w unit later none puts (ap (λ (s : State). is_some s.ended) same_end ∙ h)
+taking local w unit later e (ended none h) = grind (arith, over_takes, ended_taking)
 taking local w unit later e (quiet is none not_begun cs strays tap done dcs) =
     let (dc, more) = subst AreDcs e dcs in dc_taking local w [] unit later none is dc
 taking local w unit later e (asks x put is offers cs strays tap done dcs begun) =
@@ -171,8 +161,7 @@ one_calling local w call none (broke h put asks_none) k = ended_calling local w 
 
 over_calling : (local : Local) (w : Whole) (call : UserCall) → w.put ≡ [] → IsOver w.end → Idle call w.end →
     Stage local (after_calling w call)
-over_calling local w call none h idle =
-    one_calling local w call none idle (λ e put. ended put (ap (λ (s : State). is_some s.ended) e ∙ h))
+over_calling local w call none h idle = grind (arith, one_calling)
 
 asks_calling : (local : Local) (w : Whole) (call : UserCall) (x : Connect) (cs : List Connection) (strays : Bool) →
     w.put ≡ request x ∷ [] → CallsOrOver local x.source w.end → Offers local (offer_of x) → Idle call w.end →
@@ -185,8 +174,7 @@ asks_calling local w call x cs strays put is offers (broke h none asks_none) tap
     asks x (none_more w.put (put_by call w.end) (request x ∷ []) put none) (inl h) offers cs strays tap done dcs begun
 
 asking_idle : (local : Local) (r : ℕ) (call : UserCall) (s : State) → CallsOrOver local r s → MayCall call s → Idle call s
-asking_idle local r call s (inl h) may = over_calls call s h may
-asking_idle local r call s (inr is) may = one_calls r call s is.0 may
+asking_idle local r call s h may = grind (arith, over_calls, one_calls)
 
 quiet_calling : (local : Local) (w : Whole) (call : UserCall) (cs : List Connection) (strays : Bool) → Calls call w.end →
     Calling local [] w.end → w.put ≡ [] → w.begun ≡ false → w.tap ≡ calm_tap cs strays → HoldsOfEach IsDone cs → AreDcs w.coming →
@@ -200,10 +188,8 @@ quiet_calling local w call cs strays (asks_one x put now here offers) is none no
 
 calling : (local : Local) (w : Whole) (call : UserCall) → MayCall call w.end → Stage local w → Stage local (after_calling w call)
 calling local w call may (ended none h) = over_calling local w call none h (over_calls call w.end h may)
-calling local w call may (quiet is none not_begun cs strays tap done dcs) =
-    quiet_calling local w call cs strays (none_calls call w.end is.0 may) is none not_begun tap done dcs
-calling local w call may (asks x put is offers cs strays tap done dcs begun) =
-    asks_calling local w call x cs strays put is offers (asking_idle local x.source call w.end is may) tap done dcs begun
+calling local w call may (quiet is none not_begun cs strays tap done dcs) = search (arith, quiet_calling, none_calls)
+calling local w call may (asks x put is offers cs strays tap done dcs begun) = search (arith, asks_calling, asking_idle)
 calling local w call may (waits r is none not_begun cs strays tap p o offers waiting dcs) =
     one_calling local w call none (one_calls r call w.end is.0 may)
     (λ e put. waits r (subst (Calling local (one r)) (sym e) is) put not_begun cs strays tap p o offers waiting dcs)
@@ -242,17 +228,11 @@ some_put w v put e none = absurd (cc (sym e ∙ none))
 
 request_or : (a b c d : Bool) → a ≡ true → b ≡ false → c ≡ false →
     Passed (first_failed ((a, Broke rule.Negotiating) ∷ (not b, TooMany) ∷ (not c, Broke rule.ReferenceInUse) ∷ (d, TooMany) ∷ []))
-request_or true false false true h k m = inl refl
-request_or true false false false h k m = inr refl
-request_or false b c d h k m = cc
-request_or true true c d h k m = cc
-request_or true false true d h k m = cc
+request_or a b c d h k m = grind arith
 
 pub calm_passes : (x : Connect) (cs : List Connection) (strays : Bool) → AllOver cs → IsUnused x.source (calm_tap cs strays) →
     Passed (first_failed (request_tests (calm_tap cs strays) x))
-calm_passes x cs strays all unused =
-    request_or (list_all (is_over Left) cs) (list_any (is_not_judged x.source) cs) (list_any (λ (c : Connection). uses Left x.source c) cs)
-    (has_place cs) (all_from (is_over Left) cs all) unused.judged unused.used
+calm_passes x cs strays all unused = grind (arith, request_or, all_from)
 
 asked_stage : (local : Local) (w : Whole) (x : Connect) (strays : Bool) → Calling local (one x.source) w.end →
     Offers local (offer_of x) → AreDcs w.coming → Asked x strays (takes Left (request x) w.tap).state →
@@ -274,9 +254,7 @@ asks_own local w x cs strays (inr is) offers tap done dcs all unused goes =
 
 zero_own : (local : Local) (w : Whole) (v : Value) (put : List Value) → w.put ≡ v ∷ put → w.begun ≡ true →
     w.tap.course.left_stopped ≡ false → HasZero local → IsZeroed w.end w.put w.begun w.tap → Stage local (after_own w v put)
-zero_own local w v put e begun left has z =
-    zero has (zeroed_passes w.end w.tap v put left
-    (subst (λ (l : List Value). IsZeroed w.end l true w.tap) e (subst (λ (b : Bool). IsZeroed w.end w.put b w.tap) begun z))).1
+zero_own local w v put e begun left has z = grind (arith, zeroed_passes)
 
 own : (local : Local) (w : Whole) (v : Value) (put : List Value) → w.put ≡ v ∷ put → w.begun ≡ true → Newer w →
     GoesOn (takes Left v w.tap).state → Stage local w → Stage local (after_own w v put)
@@ -294,8 +272,7 @@ own local w v put e begun newer goes (refused r is none not_begun cs strays tap 
     some_put w v put e none
 own local w v put e begun newer goes (answered r is none not_begun dcs n x more coming are class has after so z) = some_put w v put e none
 own local w v put e begun newer goes (zero has z) = zero_own local w v put e begun ((lasts_passing (passing Left v) w.tap).left goes) has z
-own local w v put e begun newer goes (known two seen has) =
-    known ((lasts_passing (passing Left v) w.tap).two two) (λ h. differ false h refl) has
+own local w v put e begun newer goes (known two seen has) = grind (arith, differ, lasts_passing (passing Left v) w.tap)
 
 -- ---- the other side
 
@@ -318,8 +295,7 @@ begun_elsewhere local w (refused r is none not_begun cs strays tap done dcs v mo
 begun_elsewhere local w (answered r is none not_begun dcs n x more coming are class has after so z) =
     answered r is none not_begun dcs n x more coming are class has after so (zeroed_elsewhere after [] false w.tap z)
 begun_elsewhere local w (zero has z) = zero has (zeroed_elsewhere w.end w.put w.begun w.tap z)
-begun_elsewhere local w (known two seen has) =
-    known ((lasts_passing (packet Right) w.tap).two two) (λ h. (lasts_passing (packet Right) w.tap).seen two (seen h)) has
+begun_elsewhere local w (known two seen has) = grind (arith, lasts_passing)
 
 abbrev after_other : Whole → Value → Whole
 after_other w v = record w { tap = (takes Right v w.tap).state; coming = w.coming ++ v ∷ [] }
@@ -331,39 +307,25 @@ one_more (u ∷ units) v (one_dc, h) dc = (one_dc, one_more units v h dc)
 -- at the tap as it is
 taken_at : (w : Whole) (v : Value) (cs : List Connection) (strays : Bool) → w.tap ≡ calm_tap cs strays →
     GoesOn (takes Right v w.tap).state → HoldsOfEach IsDone cs → IsDc v × ((takes Right v w.tap).state ≡ calm_tap cs strays)
-taken_at w v cs strays tap goes done =
-    let (dc, is) = done_takes cs strays v done (subst (λ (t : Traffic). GoesOn (takes Right v t).state) tap goes) in
-    (dc, ap (λ (t : Traffic). (takes Right v t).state) tap ∙ is)
+taken_at w v cs strays tap goes done = grind (arith, done_takes)
 
 -- a CC for class 2 is an answer only to a CR that offers that
 two_offered : (z t a b c d : Bool) → (z ≡ true → t ≡ true → ⊥) → t ≡ true → (if z then a else (if t then (b && c) else d)) ≡ true →
     b ≡ true
-two_offered true t a b c d not_both h e = absurd (not_both refl h)
-two_offered false false a b c d not_both h e = cc
-two_offered false true a true c d not_both h e = refl
-two_offered false true a false c d not_both h e = cc
+two_offered z t a b c d not_both h e = grind arith
 
 zero_or_two : (n : ℕ) → (n == 0) ≡ true → (n == 2) ≡ true → ⊥
-zero_or_two n a b =
-    let e : 0 ≡ 2 = sym (eqb-true n 0 a) ∙ eqb-true n 2 b in
-    cc e
+zero_or_two n a b = grind (arith, eqb-true)
 
 is_two : (o : Offer) (x : Connect) → (x.class == 2) ≡ true → is_offered o None x ≡ true → o.class2 ≡ true
-is_two o x h e =
-    two_offered (x.class == 0) (x.class == 2) (o.class0 && true) o.class2
-    (o.expedited || not (selects_expedited x.parameters.additional)) o.others (zero_or_two x.class) h e
+is_two o x h e = grind (arith, two_offered, zero_or_two)
 
 -- and a CC for class 0 to one that offers that
 zero_offered : (z t a b rest : Bool) → t ≡ false → (z || (t && b)) ≡ true → (if z then (a && true) else rest) ≡ true → a ≡ true
-zero_offered true t true b rest h i e = refl
-zero_offered true t false b rest h i e = cc
-zero_offered false true a b rest h i e = absurd (cc h)
-zero_offered false false a b rest h i e = absurd (cc i)
+zero_offered z t a b rest h i e = grind arith
 
 is_zero : (o : Offer) (x : Connect) → (x.class == 2) ≡ false → is_inside x ≡ true → is_offered o None x ≡ true → o.class0 ≡ true
-is_zero o x h inside e =
-    zero_offered (x.class == 0) (x.class == 2) o.class0 (not (selects_expedited x.parameters.additional) && not (x.options % 2 == 1))
-    (if x.class == 2 then o.class2 && (o.expedited || not (selects_expedited x.parameters.additional)) else o.others) h inside e
+is_zero o x h inside e = grind (arith, zero_offered)
 
 class_two : (x : Connect) → (x.class == 2) ≡ true → Some (class_of x) ≡ Some Two
 class_two x h = ap (λ (b : Bool). Some (if b then Two else Zero)) h
@@ -376,8 +338,7 @@ confirm_answer : (local : Local) (w : Whole) (v : Value) (r p : ℕ) (o : Offer)
     (n : ℕ) (x : Connect) → v ≡ confirm n x → IsConnect x → (takes Right v w.tap).state ≡ confirmed_tap p n x waiting.c cs strays erred →
     is_offered o None x ≡ true → is_inside x ≡ true → (b : Bool) → (x.class == 2) ≡ b → Stage local (after_other w v)
 confirm_answer local w v r p o cs strays erred is none not_begun offers waiting dcs n x same_unit range so offered inside true class =
-    known (ap (λ (s : Traffic). s.course.class) so ∙ class_two x class) (λ h. differ w.begun h not_begun)
-    (offers.two (is_two o x class offered))
+    grind (arith, class_two, differ, is_two)
 confirm_answer local w v r p o cs strays erred is none not_begun offers waiting dcs n x same_unit range so offered inside false class =
     answered r is none not_begun w.coming n x [] (ap (λ (u : Value). w.coming ++ u ∷ []) same_unit) dcs class
     (offers.zero (is_zero o x class inside offered)) (react (confirm n x) w.end) refl
@@ -418,8 +379,7 @@ other_passes local w v ranges goes (answered r is none not_begun dcs n x more co
     (ap (λ (l : List Value). l ++ v ∷ []) coming ∙ append_assoc dcs (confirm n x ∷ more) (v ∷ [])) are class has after so
     (zeroed_comes after [] false w.tap z v)
 other_passes local w v ranges goes (zero has z) = zero has (zeroed_comes w.end w.put w.begun w.tap z v)
-other_passes local w v ranges goes (known two seen has) =
-    known ((lasts_passing (passing Right v) w.tap).two two) (λ h. (lasts_passing (passing Right v) w.tap).seen two (seen h)) has
+other_passes local w v ranges goes (known two seen has) = search (arith, lasts_passing (passing Right v) w.tap)
 
 abbrev after_rubbish : Whole → Whole
 after_rubbish w = record w { tap = not_read Right w.tap }
@@ -433,20 +393,17 @@ rubbish_passes local w goes (ended none h) = ended none h
 rubbish_passes local w goes (quiet is none not_begun cs strays tap done dcs) = calm_stops w cs strays tap goes
 rubbish_passes local w goes (asks x put is offers cs strays tap done dcs begun) = calm_stops w cs strays tap goes
 rubbish_passes local w goes (waits r is none not_begun cs strays tap p o offers waiting dcs) = calm_stops w cs strays tap goes
-rubbish_passes local w goes (refused r is none not_begun cs strays tap done dcs v more coming are refusal too) =
-    calm_stops w cs strays tap goes
+rubbish_passes local w goes (refused r is none not_begun cs strays tap done dcs v more coming are refusal too) = grind (arith, calm_stops)
 rubbish_passes local w goes (answered r is none not_begun dcs n x more coming are class has after so z) =
     answered r is none not_begun dcs n x more coming are class has after so (zeroed_refused after [] false w.tap z)
 rubbish_passes local w goes (zero has z) = zero has (zeroed_refused w.end w.put w.begun w.tap z)
-rubbish_passes local w goes (known two seen has) =
-    known ((lasts_passing (rubbish Right) w.tap).two two) (λ h. (lasts_passing (rubbish Right) w.tap).seen two (seen h)) has
+rubbish_passes local w goes (known two seen has) = grind (arith, lasts_passing)
 
 -- ---- what happens
 
 pub still_staged : (local : Local) (event : Event) (w new : Whole) → Happens Left event w new → GoesOn new.tap → Newer w →
     Stage local w → Stage local new
-still_staged local arrives w new (unit, coming, is) goes newer st =
-    subst (Stage local) (sym is) (taking local w unit new.coming coming st)
+still_staged local arrives w new (unit, coming, is) goes newer st = grind (arith, taking local w unit new.coming coming st)
 still_staged local (calls call) w new (may, is) goes newer st = subst (Stage local) (sym is) (calling local w call may st)
 still_staged local begins_own w new (some, not_begun, is) goes newer st = subst (Stage local) (sym is) (beginning local w some st)
 still_staged local passes_own w new (v, put, begun, is) goes newer st =

@@ -1,8 +1,8 @@
 -- The CRs that a carrier writes have references that rise, and each is above those of the CRs before it.
 -- For the law on new references.
-use Rattle.osi_fair.proofs.Vocabulary.{[], arith, Bool, if◌then◌else◌, List, Option, refl, Result, subst, ℕ, ◌++◌, ◌<◌, ◌∙◌, ◌∷◌, ◌≡◌, ◌≤◌}
+use Rattle.osi_fair.proofs.Vocabulary.{[], arith, Bool, if◌then◌else◌, List, Option, refl, Result, ℕ, ◌++◌, ◌<◌, ◌∙◌, ◌∷◌, ◌≡◌, ◌≤◌}
 use Rattle.osi_fair.proofs.Vocabulary.{AllByRecursion, units_of, Value, TpduFault, Standing, Class, effect, How, closed_on, closes_in}
-use Rattle.osi_fair.proofs.Vocabulary.{open_link, sent, sent_all, connection_of, acts_by, react, reacts, RiseBy, does, ends, EndReason}
+use Rattle.osi_fair.proofs.Vocabulary.{open_link, sent, sent_all, acts_by, react, reacts, RiseBy, does, ends, EndReason}
 use Rattle.osi_fair.proofs.Vocabulary.{all_written, asks_with}
 use Rattle.osi_carrier.specs.Calls.{sent_on}
 unfoldable use Rattle.osi_carrier.specs.Packets.{after_packet}
@@ -16,8 +16,7 @@ rises_by r old new h = grind arith
 
 units_rise : (units : List Value) (s : State) → s.given ≤ (reacts units s).given
 units_rise [] s = omega arith
-units_rise (unit ∷ units) s =
-    grind (arith, rises_by (connection_of unit s) s (react unit s) (effect unit s).how, effect unit s, units_rise units (react unit s))
+units_rise (unit ∷ units) s = grind (arith, rises_by, effect unit s, units_rise units (react unit s))
 
 packet_by : (units : Result (List Value) TpduFault) (s : State) → s.given ≤ (acts_by units s).given
 packet_by units s = grind (arith, units_rise)
@@ -74,5 +73,4 @@ before_below n (q ∷ before) r rest (above, more) = (above_by q before r rest m
 
 pub asked_below : (acts : List Act) (s : State) (before : List ℕ) (r : ℕ) (rest : List ℕ) →
     all_written acts s ≡ before ++ r ∷ rest → AllByRecursion (λ (q : ℕ). q < r) before
-asked_below acts s before r rest e =
-    before_below s.given before r rest (subst (λ (rs : List ℕ). Rise s.given rs) e (all_rise acts s))
+asked_below acts s before r rest e = grind (arith, before_below, all_rise acts s)

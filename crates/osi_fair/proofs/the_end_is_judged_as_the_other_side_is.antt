@@ -1,9 +1,9 @@
 -- As long as the other side is judged, an end is: what is right stops nothing, and what stops the end stops both sides.
 -- For the law on a whole end.
-use Rattle.osi_fair.proofs.Vocabulary.{arith, Zero, ap, Bool, false, if◌then◌else◌, Option, refl, Some, ℕ, ◌∙◌, ◌≡◌, ◌⊎◌, ◌||◌, Connect}
+use Rattle.osi_fair.proofs.Vocabulary.{arith, Zero, ap, Bool, false, if◌then◌else◌, Option, refl, Some, ℕ, ◌≡◌, ◌⊎◌, Connect}
 use Rattle.osi_fair.proofs.Vocabulary.{Value, Class, stops_are_said, reach_by, reach_of, reach_past, asks_by, asks_of, at_found, at_place}
 use Rattle.osi_fair.proofs.Vocabulary.{class_for, course_after_none, is_stopped, none_told, one_told, Outcome, reached, refused, route}
-use Rattle.osi_fair.proofs.Vocabulary.{routed, Traffic as State, stops_by, takes, unnamed, unnamed_told, Connection, Course, Direction}
+use Rattle.osi_fair.proofs.Vocabulary.{routed, Traffic as State, takes, unnamed, unnamed_told, Connection, Course, Direction}
 use Rattle.osi_fair.proofs.Vocabulary.{Left, Right, Finding, Kept, NotJudged, TooMany, Reach, Route}
 use Rattle.osi_rules.specs.declared.findings.Reach.TheVariants as reach
 use Rattle.osi_fair.proofs.small_facts_that_many_lemmas_use.{differ}
@@ -74,16 +74,14 @@ same_reach r q e k = grind arith
 
 pub own_judged : (v : Value) (s : State) → IsMild (takes Left v s).told.finding → s.course.left_stopped ≡ false →
     (takes Left v s).state.course.right_stopped ≡ false → (takes Left v s).state.course.left_stopped ≡ false
-own_judged v s mild left right =
-    grind (arith, own_by, same_reach, told_by Left v s, all_or_none s.course.class_seen (takes Left v s).told.finding mild)
+own_judged v s mild left right = grind (arith, own_by, same_reach, all_or_none, told_by Left v s)
 
 -- ---- what the other side sends
 
 other_by : (r : Reach) (v : Value) (s : State) → (takes Right v s).told.reach ≡ r → s.course.left_stopped ≡ false →
     (takes Right v s).state.course.right_stopped ≡ false → (takes Right v s).state.course.left_stopped ≡ false
 other_by reach.Everything v s e left right = grind (arith, differ, stops_are_said)
-other_by _ v s e left right =
-    stops_are_said Right v s Left ∙ ap (λ (r : Reach). stops_by Right r Left || s.course.left_stopped) e ∙ left
+other_by _ v s e left right = grind (arith, stops_are_said Right v s Left)
 
 pub other_judged : (v : Value) (s : State) → s.course.left_stopped ≡ false → (takes Right v s).state.course.right_stopped ≡ false →
     (takes Right v s).state.course.left_stopped ≡ false

@@ -5,8 +5,8 @@ use Rattle.osi_fair.proofs.Vocabulary.{eq-eqb, acknowledge, confirm, Connect, da
 use Rattle.osi_fair.proofs.Vocabulary.{Two, is_applied, reach_of, is_silent, connection_after, judged_on, sized, Connection, Right, Broke}
 use Rattle.osi_fair.proofs.Vocabulary.{NotJudged, if◌then◌else◌, Reach, Half, Act, Acts, ActsAlong, answers, begins_elsewhere}
 use Rattle.osi_fair.proofs.Vocabulary.{closes_with as closes, finding_of, ignores, IsOpened, Line, moves, units_put, Course, Move, give_out}
-use Rattle.osi_fair.proofs.Vocabulary.{hand_in, hand_out, take_in, ack, part0, part2, Moves, Standing, Flow, after_acked, data0, error}
-use Rattle.osi_fair.proofs.Vocabulary.{None, request, sent_flow, taken_flow, begins, Direction, other, seen, theirs}
+use Rattle.osi_fair.proofs.Vocabulary.{hand_in, hand_out, take_in, ack, part0, part2, Moves, Standing, Flow, data0, error}
+use Rattle.osi_fair.proofs.Vocabulary.{None, request, taken_flow, begins, Direction, other, seen, theirs}
 use Rattle.osi_fair.proofs.small_facts_that_many_lemmas_use.{no_list}
 use Rattle.osi_fair.proofs.what_a_link_does.{gives_so, takes_so}
 use Rattle.osi_rules.specs.declared.findings.Rule.TheVariants as rule
@@ -91,10 +91,8 @@ begun_other d c = grind arith
 moves_flow : (move : Move) (old new : Standing) (f : Flow) → old.flow ≡ Some f → Moves move old new → (g : Flow) × (new.flow ≡ Some g)
 moves_flow (hand_in tsdu) old new f is e = (f, ap (λ (l : Standing). l.flow) e ∙ is)
 moves_flow (give_out (part0 end octets)) old new f is e = absurd (gives_so old new f (part0 end octets) is e)
-moves_flow (give_out (part2 number end octets)) old new f is e =
-    (sent_flow f, (gives_so old new f (part2 number end octets) is e).2)
-moves_flow (give_out (ack number credit)) old new f is e =
-    (record f { receiver = after_acked f.receiver }, (gives_so old new f (ack number credit) is e).3)
+moves_flow (give_out (part2 number end octets)) old new f is e = grind (arith, gives_so old new f (part2 number end octets) is e)
+moves_flow (give_out (ack number credit)) old new f is e = grind (arith, gives_so old new f (ack number credit) is e)
 moves_flow (take_in (data2 destination number end octets)) old new f is e =
     (taken_flow f, (takes_so old new f (data2 destination number end octets) is e).0)
 moves_flow (take_in (acknowledge credit destination number)) old new f is e =

@@ -1,13 +1,14 @@
 -- An end of class 0 takes a unit, or its user makes a call: it goes on with DTs alone, or ends.
 -- For the laws on whole ends.
+use Rattle.std.proofs.Common.{arith}
 use Rattle.osi_fair.proofs.Vocabulary.{[], ap, append_assoc, Bool, Err, false, if◌then◌else◌, is_some, length, List, None, Ok, Option, refl}
 use Rattle.osi_fair.proofs.Vocabulary.{Result, Some, subst, sym, true, ℕ, ◌++◌, ◌∙◌, ◌∷◌, ◌≡◌, ◌≤◌, eq-eqb, eqb-true, append-nil}
-use Rattle.osi_fair.proofs.Vocabulary.{AllByRecursion, ◌==◌, data0, disconnect, request, Value, Flow, joined, Joining, longest_tsdu}
-use Rattle.osi_fair.proofs.Vocabulary.{Standing, taken, taken_by, with_joined, with_tsdu, LinkFault, Class, Zero, class_error, closed_on}
-use Rattle.osi_fair.proofs.Vocabulary.{closes_in, link_of, may_connect, open_link, sent, sent_all, pumped, written_by, breaks_in}
-use Rattle.osi_fair.proofs.Vocabulary.{handed_out, in_class, in_zero, leaves, react_by, taking, to_linked, to_only, put, Rows, value_at}
+use Rattle.osi_fair.proofs.Vocabulary.{AllByRecursion, ◌==◌, disconnect, request, Value, Joining, longest_tsdu}
+use Rattle.osi_fair.proofs.Vocabulary.{Standing, taken, taken_by, with_joined, with_tsdu, LinkFault, Class, Zero, closed_on}
+use Rattle.osi_fair.proofs.Vocabulary.{link_of, may_connect, open_link, sent, sent_all, pumped, written_by}
+use Rattle.osi_fair.proofs.Vocabulary.{handed_out, in_class, in_zero, react_by, taking, to_linked, to_only, put, Rows, value_at}
 use Rattle.osi_fair.proofs.Vocabulary.{breaks, closes_call, connects, sends, sends_all, user_does, UserCall, Live, ends as ends_as, linked}
-use Rattle.osi_fair.proofs.Vocabulary.{EndReason, OneConnection, put_by, put_closing, put_for, put_in, put_in_zero, put_linked, put_only}
+use Rattle.osi_fair.proofs.Vocabulary.{EndReason, put_by, put_closing, put_for, put_in, put_in_zero, put_linked, put_only}
 use Rattle.osi_fair.proofs.Vocabulary.{put_sent, put_taking, put_together, MayCall}
 use Rattle.osi_carrier.specs.Calls.{sent_on}
 unfoldable use Rattle.osi_carrier.specs.React.{react}
@@ -29,9 +30,7 @@ pub data IsInZero (limit : ℕ) (s : State) (begun : ℕ) (units : List Value) :
   over : is_some s.ended ≡ true → PutsData limit anyhow begun units → IsInZero limit s begun units
 
 pub zero_puts : (limit : ℕ) (s : State) (begun : ℕ) (units : List Value) → IsInZero limit s begun units → PutsData limit anyhow begun units
-zero_puts limit s begun units (talks r peer link class live plain puts) =
-    puts_still limit (λ b. HaveRoom b link.ends.unsent) anyhow (λ b h. tt) begun units puts
-zero_puts limit s begun units (over gone puts) = puts
+zero_puts limit s begun units h = grind (arith, puts_still)
 
 -- after some units have passed, whatever the tap knows then
 pub zero_next : (limit : ℕ) (s : State) (a b : ℕ) (xs ys : List Value) →
@@ -63,12 +62,10 @@ none_so : {A : Type 0} (o : Option Live) → None ≡ o → (p : ℕ) (k : Stand
 none_so o e p k h = absurd (cc (ap link_of e ∙ h))
 
 ended_not : (b : Bool) (o : Option Live) (p : ℕ) (k : Standing) → (if b then None else link_of o) ≡ Some (p, k) → link_of o ≡ Some (p, k)
-ended_not true o p k e = absurd (cc e)
-ended_not false o p k e = e
+ended_not b o p k e = grind arith
 
 open_not : {A : Type 0} (r p : ℕ) (k : Standing) (s : State) → is_some s.ended ≡ true → open_link r s ≡ Some (p, k) → A
-open_not r p k s gone e =
-    absurd (cc (sym (ap (λ (b : Bool). if◌then◌else◌ {A = Option (ℕ × Standing)} b None (link_of (value_at r s.live))) gone) ∙ e))
+open_not r p k s gone e = grind arith
 
 -- ---- a unit is taken
 
@@ -79,22 +76,13 @@ record Takes (link after : Standing) : Type 0 where
   unsent : after.ends.unsent ≡ link.ends.unsent
 
 joined_so : (link after : Standing) (j : Result Joining LinkFault) → with_joined link.ends None j ≡ Ok after → Takes link after
-joined_so link after (Err fault) e = no_result fault (with_joined link.ends None (Err fault)) after refl e
-joined_so link after (Ok joining) e =
-    let is : record { ends = record link.ends { joining = joining }; flow = None } ≡ after = same_link _ after e in
-    record {
-      flow = ap (λ (s : Standing). s.flow) (sym is);
-      limit = ap (λ (s : Standing). s.ends.limit) (sym is);
-      unsent = ap (λ (s : Standing). s.ends.unsent) (sym is);
-    }
+joined_so link after j e = grind (arith, no_result, same_link)
 
 takes_by : (link after : Standing) (u : Value) → taken_by link.ends None u ≡ Ok after → Takes link after
-takes_by link after (data0 end octets) e = joined_so link after (joined link.ends.joining end octets) e
-takes_by link after _ e = absurd (cc e)
+takes_by link after u e = grind (arith, joined_so)
 
 takes_plain : (limit : ℕ) (link after : Standing) (u : Value) → IsPlain limit link → taken link u ≡ Ok after → Takes link after
-takes_plain limit link after u plain e =
-    takes_by link after u (ap (λ (f : Option Flow). taken_by link.ends f u) (sym plain.flow) ∙ e)
+takes_plain limit link after u plain e = grind (arith, takes_by)
 
 -- all that a link gives is put
 gives_so : (limit peer r : ℕ) (mid : Standing) (t : State) (begun : ℕ) (units : List Value) (old : Standing) → IsPlain limit mid →
@@ -117,8 +105,7 @@ module _ (limit : ℕ) (s : State) (begun : ℕ) (units : List Value) (z : IsInZ
 
   -- it ends
   ends_so : (t : State) (more : List Value) → more ≡ [] → is_some t.ended ≡ true → Goes t more
-  ends_so t more none gone = subst (λ (l : List Value). Goes t l) (sym none)
-      (subst (λ (l : List Value). IsInZero limit t begun l) (sym (append-nil units)) (over gone (zero_puts limit s begun units z)))
+  ends_so t more none gone = grind (arith, append-nil units, zero_puts limit s begun units z)
 
   -- the connection goes on
   pumps_so : (t : State) (more : List Value) (r peer : ℕ) (old mid : Standing) → t.class ≡ Some Zero →
@@ -140,14 +127,10 @@ module _ (limit : ℕ) (s : State) (begun : ℕ) (units : List Value) (z : IsInZ
         (record { flow = a.flow; size = a.limit ∙ plain.size }) (λ b h. subst (HaveRoom b) (sym a.unsent) h)
         (ap (λ (l : Rows Live). put r (linked peer (pumped (handed_out after))) l) live
         ∙ put_one r (linked peer (pumped (handed_out after))) (linked peer link)) puts refl
-    taking_goes u (Err fault) e =
-        subst (λ (k : Option Class). Goes (breaks_in r peer fault k s) (put_taking r peer (Err fault) k)) (sym class)
-        (ends_so (breaks_in r peer fault (Some Zero) s) [] refl refl)
+    taking_goes u (Err fault) e = grind (arith, ends_so)
 
     linked_goes : (u : Value) → Goes (to_linked r peer link u s) (put_linked r peer link u s.class)
-    linked_goes (disconnect destination source reason user) =
-        subst (λ (k : Option Class). Goes (leaves r peer reason k s) (put_linked r peer link (disconnect destination source reason user) k))
-        (sym class) (ends_so (leaves r peer reason (Some Zero) s) [] refl refl)
+    linked_goes (disconnect destination source reason user) = grind (arith, ends_so)
     linked_goes v = taking_goes v (taken link v) refl
 
     only_goes : (u : Value) → Goes (to_only s.live u s) (put_only s.live u s)
@@ -180,9 +163,7 @@ module _ (limit : ℕ) (s : State) (begun : ℕ) (units : List Value) (z : IsInZ
       Goes (closed_on r reason o s) (put_closing r reason o s.class)
   closes_goes r reason None e row = same_so s [] refl refl
   closes_goes r reason (Some (peer, link)) e (over gone puts) = open_not r peer link s gone e
-  closes_goes r reason (Some (peer, link)) e (talks q p k class live plain puts) =
-      subst (λ (k : Option Class). Goes (closes_in r peer reason k s) (put_closing r reason (Some (peer, link)) k)) (sym class)
-      (ends_so (closes_in r peer reason (Some Zero) s) [] refl refl)
+  closes_goes r reason (Some (peer, link)) e (talks q p k class live plain puts) = grind (arith, ends_so)
 
   breaks_goes : (reason : EndReason) (b : Bool) → Goes (if b then s else ends_as reason s) []
   breaks_goes reason true = same_so s [] refl refl
@@ -190,17 +171,12 @@ module _ (limit : ℕ) (s : State) (begun : ℕ) (units : List Value) (z : IsInZ
 
   -- it asks for no other connection
   may_not : {A : Type 0} → may_connect s ≡ None → IsInZero limit s begun units → A
-  may_not may (over gone puts) = differ (is_some s.ended) gone (may_so s may).0
-  may_not may (talks r peer link class live plain puts) =
-      never OneConnection (class_error s.class s.live) (ap (λ (k : Option Class). class_error k s.live) class) (may_so s may).1
+  may_not may h = grind (arith, differ, may_so, never)
 
   -- a TSDU is sent
   row_is : (q r : ℕ) (y : Live) (b : Bool) → (q == r) ≡ b → (o : Option Live) → (if b then Some y else None) ≡ o → (p : ℕ) (k : Standing) →
       link_of o ≡ Some (p, k) → (q ≡ r) × (y ≡ linked p k)
-  row_is q r y true e None is p k h = absurd (cc is)
-  row_is q r y true e (Some (linked i l)) is p k h = (eqb-true q r e, row_so y i l p k is h)
-  row_is q r y true e _ is p k h = absurd (cc h)
-  row_is q r y false e o is p k h = none_so o is p k h
+  row_is q r y b e o is p k h = grind (arith, eqb-true, row_so, none_so)
 
   sends_goes : (r : ℕ) (tsdu : List ℕ) (o : Option (ℕ × Standing)) → open_link r s ≡ o → length tsdu ≤ longest_tsdu →
       IsInZero limit s begun units → Goes (sent_on r tsdu o s) (put_sent tsdu o)

@@ -25,8 +25,7 @@ puts_more limit e k more h begun _ a = absurd a
 
 pub puts_still : (limit : ℕ) (e k : ℕ → Type 0) → ((b : ℕ) → e b → k b) → (begun : ℕ) (units : List Value) → PutsData limit e begun units →
     PutsData limit k begun units
-puts_still limit e k h begun units a =
-    subst (PutsData limit k begun) (append-nil units) (puts_more limit e k [] h begun units a)
+puts_still limit e k h begun units a = grind (arith, append-nil units, puts_more limit e k [] h begun units a)
 
 -- ---- what a link gives
 
@@ -103,5 +102,4 @@ pub drained_gives : (peer limit begun : ℕ) (s : Standing) → IsPlain limit s 
     IsPlain limit (drained s).link
     × PutsData limit (λ b. HaveRoom b (drained s).link.ends.unsent) begun (map (unit_of peer) (drained s).units)
 unfolding drained
-drained_gives peer limit begun s plain room =
-    let g = within_gives (left_to_give s) peer limit begun s plain room in (g.plain, g.puts)
+drained_gives peer limit begun s plain room = grind (arith, within_gives (left_to_give s) peer limit begun s plain room)

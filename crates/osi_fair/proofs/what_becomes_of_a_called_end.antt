@@ -68,8 +68,7 @@ touch_none u n s t h rise none m = none_by u n s t h rise none m (m == n) refl
 
 lives_by : (u : Value) (n : ℕ) (s t : State) → Touch u n s t → t.ended ≡ None → (m : ℕ) (b : Bool) → (m == n) ≡ b → IsLive s m →
     (shuts_of u ≡ Some m → ⊥) → IsLive t m
-lives_by u n s t h lasts m false e live other =
-    ap is_some (touch_rows u n s t h lasts m (unlike m n e)) ∙ live
+lives_by u n s t h lasts m false e live other = grind (arith, touch_rows u n s t h lasts m (unlike m n e), unlike m n e)
 lives_by u n s t (same_rows is) lasts m true e live other = ap (λ (l : Rows Live). is_some (value_at m l)) is ∙ live
 lives_by u n s t (puts_row z k here settled is) lasts m true e live other = grind (arith, eqb-true, put_here)
 lives_by u n s t (drops_row closes is) lasts m true e live other = grind (arith, eqb-true)

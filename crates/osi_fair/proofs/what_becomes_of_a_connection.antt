@@ -243,8 +243,7 @@ module _ (s : Traffic) (c : Connection) (judged : c.is_judged ≡ true) (sound :
       grind (arith, idle_open, dc_idle, open_or_closing, and_first, and_second, left_open c h, dc_fate destination source)
   open_stays (data0 end user) n e h = absurd (cc e)
   open_stays (error destination cause) n e h = grind (arith, idle_open, is_found, er_idle, not_silent)
-  open_stays v n e h =
-      same_by v (is_applied (finding v)) refl refl refl h
+  open_stays v n e h = grind (arith, same_by v (is_applied (finding v)) refl refl refl h)
 
   -- ---- a connection that waits is opened, or refused
 

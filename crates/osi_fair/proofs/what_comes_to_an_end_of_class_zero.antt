@@ -1,12 +1,13 @@
 -- A unit of the other side passes at the tap of a called end that has selected class 0: right has sent what it had.
 -- For the law on a whole called end.
-use Rattle.osi_fair.proofs.Vocabulary.{[], ap, Bool, drop, false, IfSome, if◌then◌else◌, inl, inr, is_some, List, None, Option, refl, set}
+use Rattle.std.proofs.Common.{arith}
+use Rattle.osi_fair.proofs.Vocabulary.{[], ap, Bool, false, IfSome, if◌then◌else◌, inl, inr, List, None, Option, refl, set}
 use Rattle.osi_fair.proofs.Vocabulary.{Some, subst, suc, sym, true, zero, ℕ, ◌++◌, ◌+◌, ◌∙◌, ◌∷◌, ◌≡◌, ◌≤◌, ◌⊎◌, eqb-true, list_all, not}
-use Rattle.osi_fair.proofs.Vocabulary.{slice_get, ◌&&◌, ◌==◌, ◌||◌, confirm, Connect, disconnect, disconnected, error, request, Value}
+use Rattle.osi_fair.proofs.Vocabulary.{slice_get, ◌&&◌, ◌==◌, ◌||◌, confirm, Connect, Value}
 use Rattle.osi_fair.proofs.Vocabulary.{Class, Zero, Local, is_applied, reach_of, first_failed, Test, is_named, is_open, is_over, is_over_by}
-use Rattle.osi_fair.proofs.Vocabulary.{is_refused, is_silent, closing_phase, connection_after, course_after, found_on, half_after}
+use Rattle.osi_fair.proofs.Vocabulary.{is_refused, is_silent, closing_phase, connection_after, found_on, half_after}
 use Rattle.osi_fair.proofs.Vocabulary.{judged_on, one_told, Outcome, reached, request_tests, sent_on, Traffic, takes, Connection, Course}
-use Rattle.osi_fair.proofs.Vocabulary.{Left, Finding, Broke, Kept, NotJudged, Reach, Half, Phase, Refused, Silent, opened_half}
+use Rattle.osi_fair.proofs.Vocabulary.{Left, Finding, Broke, Kept, NotJudged, Reach, Half, Phase}
 use Rattle.osi_fair.proofs.Vocabulary.{unit as passing, Whole}
 use Rattle.osi_rules.specs.declared.findings.Reach.TheVariants as reach
 use Rattle.osi_rules.specs.declared.findings.Rule.TheVariants as rule
@@ -30,9 +31,7 @@ use Rattle.osi_fair.proofs.a_unit_comes_to_a_called_end.{cc_not_applied}
 -- ---- small facts
 
 named_not : (a b c : Bool) → (not a && (not b && c)) ≡ true → b ≡ false
-named_not false false c h = refl
-named_not false true c h = cc
-named_not true b c h = cc
+named_not a b c h = grind arith
 
 all_there : (f : Connection → Bool) (cs : List Connection) (p : ℕ) (c : Connection) → list_all f cs ≡ true → slice_get cs p ≡ Some c →
     f c ≡ true
@@ -41,66 +40,44 @@ all_there f (x ∷ xs) zero c h at = ap f (sym (item_is x c (Some x) refl at)) �
 all_there f (x ∷ xs) (suc p) c h at = all_there f xs p c (and_second (f x) (list_all f xs) h) at
 
 closing_there : (was : Bool) (half : Half) → was ≡ false → is_there (closing_phase was half).phase ≡ true
-closing_there true half h = cc
-closing_there false half h = refl
+closing_there was half h = grind arith
 
 there_started : (p : Phase) → is_there p ≡ true → is_silent p ≡ false
-there_started Silent h = cc
-there_started Refused h = cc
-there_started _ h = refl
+there_started p h = grind arith
 
 wrong_applied : {A : Type 0} (j a erred : Bool) → a ≡ false → is_applied (if j then first_failed ((a || not erred, NotJudged)
     ∷ (a, Broke rule.WrongForm) ∷ []) else NotJudged) ≡ true → A
-wrong_applied true true erred e h = absurd (cc e)
-wrong_applied true false true e h = absurd (cc h)
-wrong_applied true false false e h = absurd (cc h)
-wrong_applied false a erred e h = absurd (cc h)
+wrong_applied h a erred e h2 = grind arith
 
 sent_left : (v : Value) (c : Connection) → (sent_on Left v c).left ≡ half_after v c.left
-sent_left (request x) c = refl
-sent_left _ c = refl
+sent_left v c = grind arith
 
 there_half : (s : Traffic) (c : Connection) (v : Value) → is_applied (found_on Left s c v) ≡ true → is_there c.left.phase ≡ true →
     is_there (half_after v c.left).phase ≡ true
-there_half s c (confirm destination x) e h = refl
-there_half s c (disconnect destination source reason user) e h =
-    closing_there (is_silent c.left.phase) c.left (there_started c.left.phase h)
-there_half s c (disconnected destination source) e h = refl
-there_half s c (error destination cause) e h =
-    wrong_applied c.is_judged (is_silent c.left.phase) s.course.right_erred (there_started c.left.phase h) e
-there_half s c _ e h = h
+there_half s c v e h = grind (arith, closing_there, there_started, wrong_applied)
 
 size_sent : (v : Value) (c : Connection) → ((m : ℕ) (x : Connect) → v ≡ confirm m x → ⊥) → (sent_on Left v c).size ≡ c.size
-size_sent (confirm destination x) c none = absurd (none destination x refl)
-size_sent _ c none = refl
+size_sent v c none = grind arith
 
 size_judged : (r : Reach) (c : Connection) → (judged_on r c).size ≡ c.size
-size_judged reach.Nothing c = refl
-size_judged _ c = refl
+size_judged r c = grind arith
 
 size_after : (s : Traffic) (c : Connection) (v : Value) (applied : Bool) (r : Reach) → is_applied (found_on Left s c v) ≡ applied →
     (connection_after Left v applied r c).size ≡ c.size
-size_after s c v false r e = size_judged r c
-size_after s c v true r e = size_judged r (sent_on Left v c)
-    ∙ size_sent v c (λ m x is. cc_not_applied c.is_judged (ap (λ (u : Value). is_applied (found_on Left s c u)) (sym is) ∙ e))
+size_after s c v applied r e = grind (arith, size_judged, size_sent, cc_not_applied)
 
 -- left has not refused it, whatever it sends
 there_after : (s : Traffic) (c : Connection) (v : Value) (applied : Bool) (r : Reach) → is_applied (found_on Left s c v) ≡ applied →
     is_there c.left.phase ≡ true → is_there (connection_after Left v applied r c).left.phase ≡ true
-there_after s c v false r e h = ap (λ (x : Half). is_there x.phase) (left_judged r c) ∙ h
-there_after s c v true r e h =
-    ap (λ (x : Half). is_there x.phase) (left_judged r (sent_on Left v c) ∙ sent_left v c) ∙ there_half s c v e h
+there_after s c v applied r e h = grind (arith, is_there, left_judged, sent_left, there_half)
 
 cr_by : (seen all : Bool) (ts : List Test) → seen ≡ false → first_failed ((seen || all, Broke rule.Negotiating) ∷ ts) ≡ Kept → all ≡ true
-cr_by true all ts e h = cc
-cr_by false true ts e h = refl
-cr_by false false ts e h = cc
+cr_by seen all ts e h = grind arith
 
 -- ---- a unit of the other side passes
 
 pub reached_seen : (r : Reach) (c : Course) → (reached Left r c).class_seen ≡ c.class_seen
-reached_seen reach.Nothing c = refl
-reached_seen _ c = refl
+reached_seen r c = grind arith
 
 module _ (w : Whole) (apart : AreApart w.tap.connections) (judged : HoldsOfEach IsJudged w.tap.connections) (v : Value) where
   abbrev cs : List Connection
@@ -121,16 +98,13 @@ module _ (w : Whole) (apart : AreApart w.tap.connections) (judged : HoldsOfEach 
       s.left_closed (and_second c.is_judged (is_over_by c.left c.seen_by_left) h)
 
   asked_live : (x : Connect) (c : Connection) → Asked x c → is_over Left c ≡ true → ⊥
-  asked_live x c a h = differ (is_over_by c.left c.seen_by_left) (and_second c.is_judged (is_over_by c.left c.seen_by_left) h)
-      (ap (λ (k : Half). is_over_by k c.seen_by_left) a.left ∙ ap (λ (k : Half). is_over_by (opened_half x.source x.credit) k) a.known)
+  asked_live x c a h = grind (arith, differ, and_second)
 
   -- no other CR is right while one waits
   cr_not : {A : Type 0} (x : Connect) → first_failed (request_tests w.tap x) ≡ Kept → w.tap.course.class_seen ≡ None →
       (p : ℕ) (c : Connection) →
       slice_get cs p ≡ Some c → (is_over Left c ≡ true → ⊥) → A
-  cr_not x kept none p c at live =
-      absurd (live (all_there (is_over Left) cs p c (cr_by (is_some w.tap.course.class_seen) (list_all (is_over Left) cs)
-      (drop 1 (request_tests w.tap x)) (ap is_some none) kept) at))
+  cr_not x kept none p c at live = grind (arith, all_there, cr_by)
 
   -- a unit for one connection
   module _ (q : ℕ) (e : Connection) (at : slice_get cs q ≡ Some e) (is : takes Left v w.tap ≡ one_told Left q e v w.tap) where
@@ -147,8 +121,7 @@ module _ (w : Whole) (apart : AreApart w.tap.connections) (judged : HoldsOfEach 
     conns = ap (λ (o : Outcome). o.state.connections) is
 
     seen_same : (takes Left v w.tap).state.course.class_seen ≡ w.tap.course.class_seen
-    seen_same = ap (λ (o : Outcome). o.state.course.class_seen) is
-        ∙ reached_seen far (course_after Left e v (is_applied found_so) w.tap.course) ∙ seen_after e v (is_applied found_so) w.tap.course
+    seen_same = grind (arith, reached_seen, seen_after)
 
     next_right : next.right ≡ e.right
     next_right = right_then v (is_applied found_so) far e
@@ -200,13 +173,7 @@ module _ (w : Whole) (apart : AreApart w.tap.connections) (judged : HoldsOfEach 
           there_after w.tap e v (is_applied found_so) far refl (subst (λ (z : Connection). is_there z.left.phase ≡ true) (sym c_is)
               f.there),
         )
-    one_there f false h = (
-      f.c,
-      ap (λ (l : List Connection). slice_get l f.p) conns ∙ set_other cs q f.p next f.c (unlike f.p q h) f.at,
-      refl,
-      refl,
-      f.there,
-    )
+    one_there f false h = search (arith, conns, set_other, unlike)
 
     pub selected_one : Selected w → Selected after
     selected_one f =
@@ -267,12 +234,7 @@ module _ (w : Whole) (apart : AreApart w.tap.connections) (judged : HoldsOfEach 
   -- left can't name the connection yet
   waits_apart : (local : Local) (f : Selecting local w) (n q : ℕ) (e : Connection) → slice_get cs q ≡ Some e → is_named Left n e ≡ true →
       q ≡ f.p → ⊥
-  waits_apart local f n q e at named same =
-      let c_is : e ≡ f.c = item_is e f.c (slice_get cs q) at (ap (λ (j : ℕ). slice_get cs j) same ∙ f.at) in
-      let started = (apart.sound q e at (judged q e at)).left_knows.there
-      (named_not (is_over Left e) (is_silent e.seen_by_left.phase) (e.seen_by_left.reference == n) named) in
-      differ (is_silent e.right.phase)
-      (ap (λ (z : Connection). is_silent z.right.phase) c_is ∙ ap (λ (h : Half). is_silent h.phase) f.asked.right) started
+  waits_apart local f n q e at named same = grind (arith, item_is, named_not, differ)
 
   none_not : {A : Type 0} (k : Option Class) → k ≡ None → k ≡ Some Zero → A
   none_not k e h = absurd (cc (sym e ∙ h))
@@ -297,9 +259,7 @@ module _ (w : Whole) (apart : AreApart w.tap.connections) (judged : HoldsOfEach 
 
   pub selecting_comes : w.tap.course.right_erred ≡ false → IsCalm (takes Left v w.tap).state.course → (local : Local) →
       Selecting local w → Selecting local after
-  selecting_comes fine after_it local f =
-      let was = calm after_it in selecting_by local f (came_so v w.tap was.left was.right (λ m k e. fine) after_it)
+  selecting_comes fine after_it local f = search (arith, selecting_by, came_so, calm after_it)
 
   pub selected_comes : w.tap.course.right_erred ≡ false → IsCalm (takes Left v w.tap).state.course → Selected w → Selected after
-  selected_comes fine after_it f =
-      let was = calm after_it in selected_by_came f (came_so v w.tap was.left was.right (λ m k e. fine) after_it)
+  selected_comes fine after_it f = search (arith, selected_by_came, came_so, calm after_it)

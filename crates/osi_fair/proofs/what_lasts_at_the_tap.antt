@@ -34,8 +34,7 @@ lasts_noted : (d : Direction) (f : Finding) (c : Course) → Lasts c (noted d f 
 lasts_noted d f c = grind (arith, or_right)
 
 lasts_told : (d : Direction) (f : Finding) (r : Reach) (c : Course) → Lasts c (noted d f (reached d r c))
-lasts_told d f r c =
-    lasts_then c (reached d r c) (noted d f (reached d r c)) (lasts_reached d r c) (lasts_noted d f (reached d r c))
+lasts_told d f r c = grind (arith, lasts_then, lasts_reached d r c, lasts_noted d f (reached d r c))
 
 lasts_none : (v : Value) (c : Course) → Lasts c (course_after_none v c)
 lasts_none v o = search (arith, lasts_same)

@@ -2,7 +2,7 @@
 -- For the laws on a line.
 use Rattle.osi_fair.proofs.Vocabulary.{[], ap, arith, Bool, false, if◌then◌else◌, List, None, Option, subst, sym, true, ℕ, ◌%◌, ◌+◌, ◌<◌}
 use Rattle.osi_fair.proofs.Vocabulary.{◌∙◌, ◌∷◌, ◌≡◌, ◌≤◌, acknowledge, data2, Value, longest_tsdu, Standing, begins, is_open, begun_after}
-use Rattle.osi_fair.proofs.Vocabulary.{closing_phase, found, half_after, sent_on, Connection, Course, Left, Right, Finding, Kept, NotJudged}
+use Rattle.osi_fair.proofs.Vocabulary.{closing_phase, found, half_after, sent_on, Connection, Course, Left, Right, Finding, Kept}
 use Rattle.osi_fair.proofs.Vocabulary.{Half, Phase, Acts, after_finding, begins_elsewhere, finding_of, IsRight, IsRightNow, Line}
 use Rattle.osi_fair.specs.Lines.{begins_own, passes_own, begins_other}
 use Rattle.osi_fair.proofs.what_a_link_does.{begun_by}
@@ -116,8 +116,7 @@ module _ (r peer limit : ℕ) (x : Tally) (noted : ℕ) (tap : Connection) (o : 
 
 pub is_kept : (course : Course) (in_use : Bool) (tap : Connection) (unit : Value) → tap.is_judged ≡ true → IsRight Left tap unit →
     finding_of Left course in_use tap unit ≡ Kept
-is_kept course in_use tap unit judged h =
-    ap (λ (b : Bool). if b then found Left course in_use tap unit else NotJudged) judged ∙ h.kept course in_use
+is_kept course in_use tap unit judged h = grind (arith, h.kept course in_use)
 
 pub first_is : (tap : Connection) (put units : List Value) (unit : Value) → put ≡ unit ∷ units → IsRightNow Left tap put →
     IsRight Left tap unit

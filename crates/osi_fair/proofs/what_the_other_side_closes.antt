@@ -330,8 +330,7 @@ module _ (L : ℕ → Type 0) (s : State) (q : ℕ) (c : Connection) (at : slice
         (is destination refl) h
     one_came (disconnected destination source) is h = search (arith, answers_by, dc_found)
     one_came (error destination cause) is h = search (arith, refuses_by, er_found)
-    one_came v is h =
-        stays refl (all_lively v (same_phase v refl))
+    one_came v is h = grind (arith, all_lively v (same_phase v refl), same_phase v refl)
 
 -- ---- by the way that a unit takes
 
