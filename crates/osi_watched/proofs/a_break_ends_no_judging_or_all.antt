@@ -1,9 +1,10 @@
 -- A unit that is no break leaves all that passes judged, or nothing any more; how far each other unit reaches, and what can't be read. And
 -- what a side sends is no break of the other one. For the laws that an end is blamed nowhere.
-use Rattle.std.proofs.Common.{◌≡◌, ◌∙◌, ℕ, Bool, true, false, if◌then◌else◌, Option, Some, None, is_some, refl, sym, ap, subst}
+use Rattle.std.proofs.Common.{arith}
+use Rattle.std.proofs.Common.{◌≡◌, ◌∙◌, ℕ, Bool, true, false, if◌then◌else◌, Option, Some, None, is_some, refl, sym, ap}
 use Rattle.std.proofs.Common.{inl, inr, ◌⊎◌}
-use Rattle.std.specs.Prelude.{◌||◌, slice_get, position}
-use Rattle.osi_tpdu.specs.Value.{Value, Connect, request, confirm, disconnect, disconnected, data0, data2, acknowledge, error}
+use Rattle.std.specs.Prelude.{◌||◌}
+use Rattle.osi_tpdu.specs.Value.{Value, Connect}
 use Rattle.osi_class.specs.declared.terms.Class.{Class}
 use Rattle.osi_class.specs.declared.terms.Class.TheVariants.{Zero}
 use Rattle.osi_judge.specs.Captures.{other}
@@ -18,12 +19,9 @@ use Rattle.osi_rules.specs.declared.findings.Finding.TheVariants.{Kept, Broke, O
 use Rattle.osi_rules.specs.declared.findings.Reach.{Reach}
 use Rattle.osi_rules.specs.declared.findings.Reach.TheVariants as reach
 use Rattle.osi_rules.specs.declared.routes.Route.{Route}
-use Rattle.osi_rules.specs.declared.routes.Route.TheVariants.{Asks, Named, Only, Unnamed}
-use Rattle.osi_rules.specs.Reaches.{is_applied, reach_of}
-use Rattle.osi_rules.specs.Rows.{first_failed}
-use Rattle.osi_rules.specs.Sides.{is_live, is_named}
-use Rattle.osi_rules.specs.Traffic.{State, Outcome, class_for, course_after, course_after_none, found_on, unnamed, none_told, one_told}
-use Rattle.osi_rules.specs.Traffic.{unnamed_told, at_found, at_place, asks_by, asks_of, request_tests, routed, route, is_stopped, takes}
+use Rattle.osi_rules.specs.Reaches.{reach_of}
+use Rattle.osi_rules.specs.Traffic.{State, Outcome, class_for, course_after, course_after_none, none_told, one_told}
+use Rattle.osi_rules.specs.Traffic.{unnamed_told, at_found, at_place, asks_by, asks_of, routed, route, is_stopped, takes}
 use Rattle.osi_rules.specs.Traffic as traffic
 use Rattle.osi_rules.proofs.a_stop_is_said.{stops_are_said, stops_last}
 use Rattle.osi_fair.specs.Naming.{rubbish, unit}
@@ -60,101 +58,45 @@ abbrev pub IsReached : Direction → State → Outcome → Type 0
 IsReached d s o = Reaches (class_for d s.course) s.course.loose o
 
 pub reached_loose : (d : Direction) (r : Reach) (c : Judging) (old : Bool) → c.loose ≡ old → (traffic.reached d r c).loose ≡ loose_by r old
-reached_loose d reach.Nothing c old e = e
-reached_loose d reach.Connection c old e = refl
-reached_loose Left reach.Side c old e = e
-reached_loose Right reach.Side c old e = e
-reached_loose d reach.Everything c old e = e
+reached_loose d r c old e = grind arith
 
 keeps_loose : (d : Direction) (c : Connection) (v : Value) (applied : Bool) (course : Judging) →
     (course_after d c v applied course).loose ≡ course.loose
-keeps_loose d c (request r) applied course = refl
-keeps_loose d c (confirm destination r) true course = refl
-keeps_loose d c (confirm destination r) false course = refl
-keeps_loose d c (disconnect destination source reason user) applied course = refl
-keeps_loose d c (disconnected destination source) applied course = refl
-keeps_loose d c (data0 end user) applied course = refl
-keeps_loose d c (data2 destination number end user) applied course = refl
-keeps_loose d c (acknowledge credit destination number) applied course = refl
-keeps_loose d c (error destination cause) applied course = refl
+keeps_loose d c v applied course = grind arith
 
 none_loose : (v : Value) (course : Judging) → (course_after_none v course).loose ≡ course.loose
-none_loose (request r) course = refl
-none_loose (confirm destination r) course = refl
-none_loose (disconnect destination source reason user) course = refl
-none_loose (disconnected destination source) course = refl
-none_loose (data0 end user) course = refl
-none_loose (data2 destination number end user) course = refl
-none_loose (acknowledge credit destination number) course = refl
-none_loose (error destination cause) course = refl
+none_loose v course = grind arith
 
 none_class : (d : Direction) (v : Value) (course : Judging) → class_for d (course_after_none v course) ≡ class_for d course
-none_class d (request r) course = refl
-none_class d (confirm destination r) course = refl
-none_class Left (disconnect destination source reason user) course = refl
-none_class Right (disconnect destination source reason user) course = refl
-none_class d (disconnected destination source) course = refl
-none_class d (data0 end user) course = refl
-none_class d (data2 destination number end user) course = refl
-none_class d (acknowledge credit destination number) course = refl
-none_class d (error destination cause) course = refl
+none_class d v course = grind arith
 
 to_none : (d : Direction) (f : Finding) (s : State) → IsReached d s (none_told d f s)
-to_none d f s =
-    record { loose = reached_loose d (reach_of (class_for d s.course) f) s.course s.course.loose refl; far = refl }
+to_none d f s = grind (arith, reached_loose)
 
 to_unnamed : (d : Direction) (v : Value) (s : State) → IsReached d s (unnamed_told d v s)
-to_unnamed d v s =
-    let c = course_after_none v s.course in
-    record {
-      loose = reached_loose d (reach_of (class_for d c) (unnamed d s.course v)) c s.course.loose (none_loose v s.course);
-      far = ap (λ (k : Option Class). reach_of k (unnamed d s.course v)) (none_class d v s.course);
-    }
+to_unnamed d v s = grind (arith, reached_loose, none_loose, none_class)
 
 to_one : (d : Direction) (place : ℕ) (c : Connection) (v : Value) (s : State) → IsReached d s (one_told d place c v s)
-to_one d place c v s =
-    let f = found_on d s c v in
-    record {
-      loose = reached_loose d (reach_of (class_for d s.course) f) (course_after d c v (is_applied f) s.course) s.course.loose
-          (keeps_loose d c v (is_applied f) s.course);
-      far = refl;
-    }
+to_one d place c v s = grind (arith, reached_loose, keeps_loose)
 
 at_one : (d : Direction) (v : Value) (s : State) (place : ℕ) (c : Option Connection) → IsReached d s (at_found d v s place c)
-at_one d v s place None = to_unnamed d v s
-at_one d v s place (Some c) = to_one d place c v s
+at_one d v s place c = search (arith, to_unnamed, to_one)
 
 at_any : (d : Direction) (v : Value) (s : State) (place : Option ℕ) → IsReached d s (at_place d v s place)
-at_any d v s None = to_unnamed d v s
-at_any d v s (Some place) = at_one d v s place (slice_get s.connections place)
+at_any d v s place = grind (arith, to_unnamed, at_one)
 
 asking : (d : Direction) (f : Finding) (c : Connect) (s : State) → IsReached d s (asks_by d f c s)
-asking d Kept c s = record { loose = refl; far = refl }
-asking d (Broke rule) c s = to_none d (Broke rule) s
-asking d Outside c s = to_none d Outside s
-asking d TooMany c s = to_none d TooMany s
-asking d NotJudged c s = to_none d NotJudged s
+asking d f c s = search (arith, to_none)
 
 asks : (d : Direction) (v : Value) (s : State) → IsReached d s (asks_of d v s)
-asks d (request c) s = asking d (first_failed (request_tests s c)) c s
-asks d (confirm destination c) s = to_none d NotJudged s
-asks d (disconnect destination source reason user) s = to_none d NotJudged s
-asks d (disconnected destination source) s = to_none d NotJudged s
-asks d (data0 end user) s = to_none d NotJudged s
-asks d (data2 destination number end user) s = to_none d NotJudged s
-asks d (acknowledge credit destination number) s = to_none d NotJudged s
-asks d (error destination cause) s = to_none d NotJudged s
+asks d v s = grind (arith, asking, to_none)
 
 by_route : (d : Direction) (v : Value) (s : State) (r : Route) → IsReached d s (routed d v s r)
-by_route d v s Asks = asks d v s
-by_route d v s (Named reference) = at_any d v s (position (is_named d reference) s.connections)
-by_route d v s Only = at_any d v s (position (is_live d) s.connections)
-by_route d v s (Unnamed finding) = to_none d finding s
+by_route d v s r = grind (arith, asks, at_any, to_none)
 
 if_judged : (b : Bool) (d : Direction) (v : Value) (s : State) (r : Route) →
     IsReached d s (if b then none_told d NotJudged s else routed d v s r)
-if_judged true d v s r = to_none d NotJudged s
-if_judged false d v s r = by_route d v s r
+if_judged b d v s r = grind (arith, to_none, by_route)
 
 pub takes_reach : (d : Direction) (v : Value) (s : State) → IsReached d s (takes d v s)
 takes_reach d v s = if_judged (is_stopped d s.course) d v s (route d s.course v)
@@ -177,50 +119,33 @@ pub record IsGoing (c : Course) : Type 0 where
   pub right_goes : c.right.halted ≡ None
 
 breaks_halted : (m : Mark) (k : Marks) → (breaks m k).halted ≡ k.halted
-breaks_halted m k = by (is_break m.cause)
-  where
-    by : (b : Bool) → (if b then record k { broke = earlier k.broke m } else k).halted ≡ k.halted
-    by true = refl
-    by false = refl
+breaks_halted m k = grind arith
 
 breaks_no : (m : Mark) (k : Marks) → is_break m.cause ≡ false → (breaks m k).broke ≡ k.broke
 breaks_no m k h = ap (λ (b : Bool). (if b then record k { broke = earlier k.broke m } else k).broke) h
 
 pub halted_by : (d e : Side) (m : Mark) (c : Course) →
     (marks_of e (changes d (breaks m) (first_marked m c))).halted ≡ (marks_of e c).halted
-halted_by side.Left side.Left m c = breaks_halted m c.left
-halted_by side.Left side.Right m c = refl
-halted_by side.Right side.Left m c = refl
-halted_by side.Right side.Right m c = breaks_halted m c.right
+halted_by d e m c = grind (arith, breaks_halted)
 
 pub some_earlier : (o : Option Mark) (m : Mark) → is_some (earlier o m) ≡ true
-some_earlier None m = refl
-some_earlier (Some k) m = refl
+some_earlier o m = grind arith
 
 -- who is not judged any more keeps what was found before
 changes_broke : (d e : Side) (m : Mark) (c : Course) → (marks_of e (changes d (halts m) c)).broke ≡ (marks_of e c).broke
-changes_broke side.Left side.Left m c = refl
-changes_broke side.Left side.Right m c = refl
-changes_broke side.Right side.Left m c = refl
-changes_broke side.Right side.Right m c = refl
+changes_broke d e m c = grind arith
 
 reached_broke : (e : Side) (m : Mark) (r : Reach) (c : Course) → (marks_of e (reached m r c)).broke ≡ (marks_of e c).broke
-reached_broke e m reach.Nothing c = refl
-reached_broke e m reach.Connection c = refl
-reached_broke e m reach.Side c = changes_broke m.direction e m c
-reached_broke side.Left m reach.Everything c = refl
-reached_broke side.Right m reach.Everything c = refl
+reached_broke e m r c = grind (arith, changes_broke)
 
 -- a mark of the other side, and one that is no break
 other_marked : (d : Side) (m : Mark) (c : Course) →
     (marks_of d (changes (other d) (breaks m) (first_marked m c))).broke ≡ (marks_of d c).broke
-other_marked side.Left m c = refl
-other_marked side.Right m c = refl
+other_marked d m c = grind arith
 
 own_marked : (d : Side) (m : Mark) (c : Course) → is_break m.cause ≡ false →
     (marks_of d (changes d (breaks m) (first_marked m c))).broke ≡ (marks_of d c).broke
-own_marked side.Left m c h = breaks_no m c.left h
-own_marked side.Right m c h = breaks_no m c.right h
+own_marked d m c h = grind (arith, breaks_no)
 
 module _ (d : Side) (at : ℕ) (v : Value) (c : Course) where
   abbrev pub o : Outcome
@@ -234,58 +159,42 @@ module _ (d : Side) (at : ℕ) (v : Value) (c : Course) where
   mark k = record { direction = d; offset = at; unit = Some (kind_of v); connection = number_at o.told.place mid.sessions; cause = k }
 
   pub mid_marks : (e : Side) → marks_of e mid ≡ marks_of e c
-  mid_marks side.Left = refl
-  mid_marks side.Right = refl
+  mid_marks e = grind arith
 
   halts_none : (e : Side) (k : Option Cause) → o.told.reach ≡ reach.Nothing →
       (marks_of e (noted_by d at v o.told k mid)).halted ≡ (marks_of e c).halted
-  halts_none e None is = ap (λ (m : Marks). m.halted) (mid_marks e)
-  halts_none e (Some k) is =
-      ap (λ (r : Reach). (marks_of e (marked (mark k) r mid)).halted) is ∙ halted_by d e (mark k) mid
-      ∙ ap (λ (m : Marks). m.halted) (mid_marks e)
+  halts_none e k is = grind (arith, mid_marks, halted_by)
 
   halts_part : (e : Side) (k : Option Cause) → o.told.reach ≡ reach.Connection →
       (marks_of e (noted_by d at v o.told k mid)).halted ≡ (marks_of e c).halted
-  halts_part e None is = ap (λ (m : Marks). m.halted) (mid_marks e)
-  halts_part e (Some k) is =
-      ap (λ (r : Reach). (marks_of e (marked (mark k) r mid)).halted) is ∙ halted_by d e (mark k) mid
-      ∙ ap (λ (m : Marks). m.halted) (mid_marks e)
+  halts_part e k is = grind (arith, mid_marks, halted_by)
 
   halts_by : (e : Side) (k : Cause) → is_some (marks_of e (marked (mark k) reach.Everything mid)).halted ≡ true
-  halts_by side.Left k = some_earlier (changes d (breaks (mark k)) (first_marked (mark k) mid)).left.halted (mark k)
-  halts_by side.Right k = some_earlier (changes d (breaks (mark k)) (first_marked (mark k) mid)).right.halted (mark k)
+  halts_by e k = grind (arith, some_earlier)
 
   halts_all : (e : Side) (k : Option Cause) (x : Cause) → k ≡ Some x → o.told.reach ≡ reach.Everything →
       is_some (marks_of e (noted_by d at v o.told k mid)).halted ≡ true
-  halts_all e k x caused is =
-      ap (λ (y : Option Cause). is_some (marks_of e (noted_by d at v o.told y mid)).halted) caused
-      ∙ ap (λ (r : Reach). is_some (marks_of e (marked (mark x) r mid)).halted) is ∙ halts_by e x
+  halts_all e k x caused is = grind (arith, halts_by)
 
   abbrev next : Course
   next = unit_passes d at v c
 
   pub stops_so : (r : Reach) → o.told.reach ≡ r → (e : Direction) →
       is_stopped e next.traffic.course ≡ (traffic.stops_by (way_of d) r e || is_stopped e c.traffic.course)
-  stops_so r is e =
-      ap (λ (s : State). is_stopped e s.course) (unit_knows d at v c) ∙ stops_are_said (way_of d) v c.traffic e
-      ∙ ap (λ (x : Reach). traffic.stops_by (way_of d) x e || is_stopped e c.traffic.course) is
+  stops_so r is e = grind (arith, unit_knows, stops_are_said)
 
   pub reach_so : IsReached (way_of d) c.traffic o
   reach_so = takes_reach (way_of d) v c.traffic
 
   pub loose_so : (r : Reach) → o.told.reach ≡ r → next.traffic.course.loose ≡ loose_by r c.traffic.course.loose
-  loose_so r is =
-      ap (λ (s : State). s.course.loose) (unit_knows d at v c) ∙ reach_so.loose
-      ∙ ap (λ (x : Reach). loose_by x c.traffic.course.loose) is
+  loose_so r is = grind (arith, unit_knows, reach_so)
 
   zero_known : (e : Side) → IsKnownOnce c.traffic → class_for (way_of e) c.traffic.course ≡ Some Zero →
       c.traffic.course.class ≡ Some Zero
-  zero_known side.Left once h = once h
-  zero_known side.Right once h = h
+  zero_known e once h = grind arith
 
   own_stops : (e : Side) (b : Bool) → (traffic.stops_by (way_of e) reach.Side (way_of e) || b) ≡ true
-  own_stops side.Left b = refl
-  own_stops side.Right b = refl
+  own_stops e b = grind arith
 
   pub nothing_ends : o.told.reach ≡ reach.Nothing → IsJudged c → IsJudged next
   nothing_ends is j = record {
@@ -333,8 +242,7 @@ module _ (d : Side) (at : ℕ) (v : Value) (c : Course) where
 
   -- in class 0
   pub side_known : o.told.reach ≡ reach.Side → IsKnownOnce c.traffic → c.traffic.course.class ≡ Some Zero
-  side_known is once =
-      zero_known d once (side_zero (class_for (way_of d) c.traffic.course) o.told.finding (sym reach_so.far ∙ is))
+  side_known is once = grind (arith, zero_known, side_zero, reach_so)
 
   pub far_of : (f : Finding) → o.told.finding ≡ f → o.told.reach ≡ reach_of (class_for (way_of d) c.traffic.course) f
   far_of f is = reach_so.far ∙ ap (reach_of (class_for (way_of d) c.traffic.course)) is
@@ -360,13 +268,7 @@ module _ (d : Side) (at : ℕ) (v : Value) (c : Course) where
 
   -- a unit that is no break of its side leaves it without one
   own_by : (f : Finding) → IsNoBreak f → (marks_of d (noted_by d at v o.told (cause_of f) mid)).broke ≡ (marks_of d c).broke
-  own_by Kept none = ap (λ (m : Marks). m.broke) (mid_marks d)
-  own_by NotJudged none = ap (λ (m : Marks). m.broke) (mid_marks d)
-  own_by TooMany none =
-      reached_broke d (mark cause.TooMany) o.told.reach (changes d (breaks (mark cause.TooMany)) (first_marked (mark cause.TooMany) mid))
-      ∙ own_marked d (mark cause.TooMany) mid refl ∙ ap (λ (m : Marks). m.broke) (mid_marks d)
-  own_by (Broke rule) none = absurd none
-  own_by Outside none = absurd none
+  own_by f none = grind (arith, mid_marks, reached_broke, own_marked)
 
   pub own_unbroken : IsNoBreak o.told.finding → (marks_of d next).broke ≡ (marks_of d c).broke
   own_unbroken none = own_by o.told.finding none
@@ -387,28 +289,16 @@ other_unbroken d at v c = by (cause_of (o (other d) at v c).told.finding)
 -- ---- a packet begins
 
 pub begins_judged : (e : Side) (c : Course) → IsJudged c → IsJudged (packet_begins e c)
-begins_judged side.Left c j =
-    record { left = j.left; right = j.right; firm = j.firm; left_goes = j.left_goes; right_goes = j.right_goes }
-begins_judged side.Right c j =
-    record { left = j.left; right = j.right; firm = j.firm; left_goes = j.left_goes; right_goes = j.right_goes }
+begins_judged e c j = grind arith
 
 pub begins_going : (e : Side) (c : Course) → IsGoing c → IsGoing (packet_begins e c)
-begins_going side.Left c j = record { left = j.left; right = j.right; left_goes = j.left_goes; right_goes = j.right_goes }
-begins_going side.Right c j = record { left = j.left; right = j.right; left_goes = j.left_goes; right_goes = j.right_goes }
+begins_going e c j = grind arith
 
 -- ---- what can't be read
 
 reached_stops : (d : Direction) (r : Reach) (c : Judging) (e : Direction) →
     is_stopped e (traffic.reached d r c) ≡ (traffic.stops_by d r e || is_stopped e c)
-reached_stops d reach.Nothing c e = refl
-reached_stops d reach.Connection c Left = refl
-reached_stops d reach.Connection c Right = refl
-reached_stops Left reach.Side c Left = refl
-reached_stops Left reach.Side c Right = refl
-reached_stops Right reach.Side c Left = refl
-reached_stops Right reach.Side c Right = refl
-reached_stops d reach.Everything c Left = refl
-reached_stops d reach.Everything c Right = refl
+reached_stops d r c e = grind arith
 
 abbrev pub refuses : Side → (at : ℕ) → Cause → Course → Course
 refuses d at k c = marked (unread_mark d at k) (traffic.refused_reach (way_of d) c.traffic)
@@ -423,63 +313,33 @@ module _ (d : Side) (at : ℕ) (k : Cause) (c : Course) where
 
   pub refused_stops : (r : Reach) → traffic.refused_reach (way_of d) c.traffic ≡ r → (e : Direction) →
       is_stopped e (refuses d at k c).traffic.course ≡ (traffic.stops_by (way_of d) r e || is_stopped e c.traffic.course)
-  refused_stops r is e =
-      ap (λ (s : State). is_stopped e s.course) refused_traffic
-      ∙ reached_stops (way_of d) (traffic.refused_reach (way_of d) c.traffic) c.traffic.course e
-      ∙ ap (λ (x : Reach). traffic.stops_by (way_of d) x e || is_stopped e c.traffic.course) is
+  refused_stops r is e = grind (arith, refused_traffic, reached_stops)
 
   abbrev before_halts : Course
   before_halts = changes d (breaks (unread_mark d at k)) (first_marked (unread_mark d at k)
       (moved (unread_moment d at k c.sessions) (record c { traffic = traffic.refused (way_of d) c.traffic })))
 
   pub refused_over : traffic.refused_reach (way_of d) c.traffic ≡ reach.Everything → IsOver (refuses d at k c)
-  refused_over is = record {
-    left = refused_stops reach.Everything is Left;
-    right = refused_stops reach.Everything is Right;
-    left_halts = ap (λ (r : Reach). is_some (reached (unread_mark d at k) r before_halts).left.halted) is
-        ∙ some_earlier before_halts.left.halted (unread_mark d at k);
-    right_halts = ap (λ (r : Reach). is_some (reached (unread_mark d at k) r before_halts).right.halted) is
-        ∙ some_earlier before_halts.right.halted (unread_mark d at k);
-  }
+  refused_over is = grind (arith, refused_stops, some_earlier)
 
   pub class_kept : c.traffic.course.class ≡ Some Zero → (refuses d at k c).traffic.course.class ≡ Some Zero
   class_kept h = ap (λ (s : State). s.course.class) refused_traffic ∙ zero_stays (rubbish (way_of d)) c.traffic h
 
   pub known_too : (e : Side) → IsKnownOnce c.traffic → class_for (way_of e) c.traffic.course ≡ Some Zero →
       c.traffic.course.class ≡ Some Zero
-  known_too side.Left once h = once h
-  known_too side.Right once h = h
+  known_too e once h = grind arith
 
 pub unread_unbroken : (d : Side) (at : ℕ) (k : Cause) (c : Course) → (marks_of d (unread (other d) at k c)).broke ≡ (marks_of d c).broke
-unread_unbroken d at k c = by (is_some (marks_of (other d) c).halted)
-  where
-    same : (e : Side) → (marks_of e
-        (moved (unread_moment (other d) at k c.sessions) (record c { traffic = traffic.refused (way_of (other d)) c.traffic }))).broke
-        ≡ (marks_of e c).broke
-    same side.Left = refl
-    same side.Right = refl
-
-    by : (b : Bool) → (marks_of d (unread_if b (other d) at k c)).broke ≡ (marks_of d c).broke
-    by true = refl
-    by false =
-        reached_broke d (unread_mark (other d) at k) (traffic.refused_reach (way_of (other d)) c.traffic) (before_halts (other d) at k c)
-        ∙ other_marked d (unread_mark (other d) at k)
-        (moved (unread_moment (other d) at k c.sessions) (record c { traffic = traffic.refused (way_of (other d)) c.traffic }))
-        ∙ same d
+unread_unbroken d at k c = grind (arith, reached_broke, other_marked)
 
 -- it joins nothing
 pub unread_sessions : (d : Side) (at : ℕ) (k : Cause) (c : Course) → (unread d at k c).sessions ≡ c.sessions
-unread_sessions d at k c = by (is_some (marks_of d c).halted)
-  where
-    by : (b : Bool) → (unread_if b d at k c).sessions ≡ c.sessions
-    by true = refl
-    by false = marked_leaves (unread_mark d at k) (traffic.refused_reach (way_of d) c.traffic) _
+unread_sessions d at k c = grind (arith, marked_leaves)
 
 -- ---- what stays so, whatever passes
 
 stopped_so : (e : Side) (c : Course) → IsOver c → is_stopped (way_of e) c.traffic.course ≡ true
-stopped_so side.Left c over = over.left
-stopped_so side.Right c over = over.right
+stopped_so e c over = grind arith
 
 -- nothing is judged any more, and this side has broken no rule
 pub record IsLeft (d : Side) (c : Course) : Type 0 where
@@ -487,56 +347,21 @@ pub record IsLeft (d : Side) (c : Course) : Type 0 where
   pub unbroken : (marks_of d c).broke ≡ None
 
 left_begins : (d e : Side) (c : Course) → IsLeft d c → IsLeft d (packet_begins e c)
-left_begins d e c h = record { over = begins_over e c h.over; unbroken = by d e h.unbroken }
-  where
-    by : (d e : Side) → (marks_of d c).broke ≡ None → (marks_of d (packet_begins e c)).broke ≡ None
-    by side.Left e h = h
-    by side.Right e h = h
+left_begins d e c h = grind (arith, begins_over)
 
 pub still_over : (e : Side) (at : ℕ) (v : Value) (c : Course) → IsOver c → IsOver (unit_passes e at v c)
-still_over e at v c over =
-    let told = stops_last (way_of e) v c.traffic (stopped_so e c over) in
-    subst (λ (x : Outcome). IsOver (noted_by e at v x.told (cause_of x.told.finding)
-    (moved (moment_of e at v x.told (taken e at v x.told.meaning x.told.place c.sessions)) (record c { traffic = x.state }))))
-    (sym told) (record {
-      left = over.left;
-      right = over.right;
-      left_halts = over.left_halts;
-      right_halts = over.right_halts;
-    })
+still_over e at v c over = grind (arith, stops_last, stopped_so)
 
 still_unbroken : (d e : Side) (at : ℕ) (v : Value) (c : Course) → IsOver c →
     (marks_of d (unit_passes e at v c)).broke ≡ (marks_of d c).broke
-still_unbroken d e at v c over =
-    let told = stops_last (way_of e) v c.traffic (stopped_so e c over) in
-    subst (λ (x : Outcome). (marks_of d (noted_by e at v x.told (cause_of x.told.finding)
-    (moved (moment_of e at v x.told (taken e at v x.told.meaning x.told.place c.sessions)) (record c { traffic = x.state })))).broke
-    ≡ (marks_of d c).broke)
-    (sym told) (by d)
-  where
-    none : Outcome
-    none = none_told (way_of e) NotJudged c.traffic
-
-    by : (d : Side) →
-        (marks_of d (moved (moment_of e at v none.told (taken e at v none.told.meaning none.told.place c.sessions))
-        (record c { traffic = none.state }))).broke ≡ (marks_of d c).broke
-    by side.Left = refl
-    by side.Right = refl
+still_unbroken d e at v c over = grind (arith, stops_last, stopped_so)
 
 left_passes : (d e : Side) (at : ℕ) (v : Value) (c : Course) → IsLeft d c → IsLeft d (unit_passes e at v c)
-left_passes d e at v c h =
-    record { over = still_over e at v c h.over; unbroken = still_unbroken d e at v c h.over ∙ h.unbroken }
+left_passes d e at v c h = grind (arith, still_over, still_unbroken)
 
 pub left_claim : (d : Side) → IsClaim (IsLeft d)
-left_claim d = record {
-  begins = λ e c h. left_begins d e c h;
-  passes = λ e at v c h. left_passes d e at v c h;
-  bad = λ e at k c h. subst (IsLeft d) (sym (unread_over e at k c h.over)) h;
-}
+left_claim d = grind (arith, left_begins, left_passes, unread_over)
 
 -- what has lost its judgement stays so
 pub loose_more : (r : Reach) → loose_by r true ≡ true
-loose_more reach.Nothing = refl
-loose_more reach.Connection = refl
-loose_more reach.Side = refl
-loose_more reach.Everything = refl
+loose_more r = grind arith

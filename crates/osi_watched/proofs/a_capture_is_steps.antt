@@ -1,11 +1,12 @@
 -- A capture of an end is steps of the end and of the tap: octet by octet, with each turn of the end as late as can be.
 -- For the law that a capture of an end is steps.
+use Rattle.std.proofs.Common.{arith}
 use Rattle.osi_watched.proofs.Vocabulary.{[], ap, append_assoc, Bool, Err, false, inl, inr, List, Ok}
 use Rattle.osi_watched.proofs.Vocabulary.{refl, Result, subst, sym, true, ℕ, ◌++◌, ◌<◌, ◌∙◌, ◌∷◌, ◌≡◌, ◌≢◌, ◌⊎◌, append-nil}
 use Rattle.osi_watched.proofs.Vocabulary.{AllByRecursion}
 use Rattle.osi_watched.proofs.Vocabulary.{octets_nil, octets_right, IsOctets, packet_of, ArePackets, units_of}
 use Rattle.osi_watched.proofs.Vocabulary.{Value, written, TpduFault, Local, packets, Holding, Capture}
-use Rattle.osi_watched.proofs.Vocabulary.{of, other, Passed, Direction, Left, Right, packets_joined, fresh_turns}
+use Rattle.osi_watched.proofs.Vocabulary.{of, other, Passed, Direction, packets_joined, fresh_turns}
 use Rattle.osi_watched.proofs.Vocabulary.{TurnOf, TurnsOf, Known, packets_on, packets_then, CanBeWritten, read_again, all_did}
 use Rattle.osi_watched.proofs.Vocabulary.{Deeds, no_deeds, all_units, IsFresh, IsSeen, Run, Takes, Turn, is_break, packet_by, packet_passes}
 use Rattle.osi_watched.proofs.Vocabulary.{units_pass, unread, advanced, faulty, Front, front_of, gathered, partial, Streamed, whole, after}
@@ -132,18 +133,12 @@ record Stands (d : Direction) (s : State) (j : Joint) (still ahead : List ℕ) :
 own_moved : (d : Direction) (g : Streamed) (s : State) (c : Course) (j : Joint) (still ahead : List ℕ) → c ≡ j.course → g.spent ≡ false →
     (stream_of (other d) s).spent ≡ false → OwnStands g.held still j.put j.begun →
     OtherStands (stream_of (other d) s).held ahead j.holding j.coming → Stands d (with_stream d g (record s { course = c })) j still ahead
-own_moved Left g s c j still ahead course own_reads other_reads own others =
-    record { course = course; own_reads = own_reads; other_reads = other_reads; own = own; others = others }
-own_moved Right g s c j still ahead course own_reads other_reads own others =
-    record { course = course; own_reads = own_reads; other_reads = other_reads; own = own; others = others }
+own_moved d g s c j still ahead course own_reads other_reads own others = grind arith
 
 other_moved : (d : Direction) (g : Streamed) (s : State) (c : Course) (j : Joint) (still ahead : List ℕ) → c ≡ j.course →
     (stream_of d s).spent ≡ false → g.spent ≡ false → OwnStands (stream_of d s).held still j.put j.begun →
     OtherStands g.held ahead j.holding j.coming → Stands d (with_stream (other d) g (record s { course = c })) j still ahead
-other_moved Left g s c j still ahead course own_reads other_reads own others =
-    record { course = course; own_reads = own_reads; other_reads = other_reads; own = own; others = others }
-other_moved Right g s c j still ahead course own_reads other_reads own others =
-    record { course = course; own_reads = own_reads; other_reads = other_reads; own = own; others = others }
+other_moved d g s c j still ahead course own_reads other_reads own others = grind arith
 
 -- ---- an octet of the end
 
@@ -153,8 +148,7 @@ own_begins : (d : Direction) (is_caller : Bool) (deeds : ℕ → Deeds) (capture
     Comes d is_caller deeds capture s (record j { begun = true; course = begins d held j.course }) → Comes d is_caller deeds capture s j
 own_begins d is_caller deeds capture s [] j is some c =
     step_first d is_caller deeds capture s begins_own tt j (record j { begun = true; course = begins d [] j.course }) (some, is, refl) c
-own_begins d is_caller deeds capture s (o ∷ held) j is some c =
-    subst (λ (b : Bool). Comes d is_caller deeds capture s (record j { begun = b })) (sym is) c
+own_begins d is_caller deeds capture s (o ∷ held) j is some c = grind arith
 
 module _ (d : Direction) (is_caller : Bool) (deeds : ℕ → Deeds) (x : ℕ) (capture : Capture) (s : State) (j : Joint)
     (still ahead : List ℕ) (small : x < 256) (st : Stands d s j (x ∷ still) ahead)
@@ -263,8 +257,7 @@ module _ (d : Direction) (is_caller : Bool) (deeds : ℕ → Deeds) (x : ℕ) (c
       (ap (begins (other d) other_held) st.course) st.own_reads st.other_reads st.own others)))
 
   stream_there : (e : Direction) (t : Streamed) (z : State) → stream_of e (with_stream e t z) ≡ t
-  stream_there Left t z = refl
-  stream_there Right t z = refl
+  stream_there e t z = grind arith
 
   -- the steps up to here, and what follows
   other_stops : (t : Streamed) (cause : Cause) (packets : List (List ℕ)) → is_break cause ≡ true → units_in packets ≡ [] →
@@ -326,13 +319,7 @@ module _ (d : Direction) (is_caller : Bool) (deeds : ℕ → Deeds) (x : ℕ) (c
 
   no_packet : (f : TpktFault) → front_of (other_held ++ x ∷ []) ≡ faulty f →
       OtherEnds (other_held ++ x ∷ []) (ahead ++ x ∷ []) j.holding (j.coming ++ [])
-  no_packet f is = record {
-    octets = one_octet other_held x st.others.octets small;
-    never = λ more. begins_none (other_held ++ x ∷ []) more f is;
-    cut = λ lasts. subst (λ (us : List (List ℕ)). ArePackets us (j.holding.held.octets ++ (ahead ++ x ∷ [])) (other_held ++ x ∷ []))
-        (sym (append-nil j.coming)) (more_passed j.coming (other_held ++ x ∷ [])
-        (packets_on j.coming (j.holding.held.octets ++ ahead) other_held (x ∷ []) (st.others.cut lasts)));
-  }
+  no_packet f is = grind (arith, one_octet, begins_none, append-nil, more_passed, packets_on)
 
   other_ends : (u : List ℕ) → front_of (other_held ++ x ∷ []) ≡ whole u → (r : Result (List Value) TpduFault) → units_of u ≡ r →
       Comes d is_caller deeds (of (other d) x ∷ capture) s other_joint
@@ -456,20 +443,7 @@ along_steps d is_caller _ _ _ _ (turn_taken turn still all ahead capture left is
     (k.goes_on left end does.3) k.stands)
 
 stands_first : (d : Direction) (h : Holding) → h.held.octets ≡ [] → Stands d tapping.begin (joints.begin h) [] []
-stands_first Left h none = record {
-  course = refl;
-  own_reads = refl;
-  other_reads = refl;
-  own = record { octets = octets_nil; part = refl; all = refl; begun_so = refl; can = tt };
-  others = record { octets = octets_nil; part = refl; cut = λ lasts. append-nil h.held.octets ∙ none };
-}
-stands_first Right h none = record {
-  course = refl;
-  own_reads = refl;
-  other_reads = refl;
-  own = record { octets = octets_nil; part = refl; all = refl; begun_so = refl; can = tt };
-  others = record { octets = octets_nil; part = refl; cut = λ lasts. append-nil h.held.octets ∙ none };
-}
+stands_first d h none = grind (arith, octets_nil, append-nil)
 
 pub capture_steps : Known → (d : Direction) (is_caller : Bool) (local : Local) (first end : Holding) (turns_all : List Turn)
     (capture : Capture) → IsFresh is_caller local first → Run first turns_all end → AreOctets capture → IsSeen d turns_all capture →

@@ -1,6 +1,7 @@
 -- What packets, with or without enough memory, and TSDUs of a session do to the carrier of an end is events of a whole end that
 -- reports nothing and hands nothing over.
 -- For what a turn of an end does.
+use Rattle.std.proofs.Common.{arith}
 use Rattle.std.proofs.Common.{◌≡◌, ◌∙◌, ◌≤◌, not, ℕ, Bool, true, false, if◌then◌else◌, List, [], ◌∷◌, ◌++◌, length, refl, sym, ap, subst}
 use Rattle.std.proofs.Common.{Option, Some, None, option_map, is_some, Result, Ok, Err, append_assoc}
 use Rattle.std.specs.List.{AllByRecursion}
@@ -65,13 +66,10 @@ ended_so : (reason : EndReason) (c : State) → is_some c.ended ≡ false → en
 ended_so reason c lasts = ap (λ (b : Bool). if b then c else ends reason c) lasts
 
 pub none_of : (o : Option EndReason) → is_some o ≡ false → o ≡ None
-none_of None e = refl
-none_of (Some x) e = absurd (cc e)
+none_of o e = grind arith
 
 may_last : (a b : Bool) (o : Option OpenError) → (if not a then Some NotCaller else (if b then Some Ended else o)) ≡ None → b ≡ false
-may_last a false o h = refl
-may_last true true o h = absurd (cc)
-may_last false true o h = absurd (cc)
+may_last a b o h = grind arith
 
 -- ---- what has come of it
 
@@ -101,9 +99,7 @@ happen_join d (x ∷ xs) ys a b c (mid, first, more) h = (mid, first, happen_joi
 
 pub units_join : (us vs : List (List ℕ)) → units_in (us ++ vs) ≡ units_in us ++ units_in vs
 units_join [] vs = refl
-units_join (u ∷ us) vs =
-    ap (λ (l : List Value). units_by (units_of u) ++ l) (units_join us vs)
-    ∙ sym (append_assoc (units_by (units_of u)) (units_in us) (units_in vs))
+units_join (u ∷ us) vs = grind (arith, append_assoc, units_join us vs)
 
 module _ (d : Direction) (w : Whole) (out : List ℕ) where
   -- the carrier is over, and wrote nothing more
@@ -154,8 +150,7 @@ module _ (d : Direction) (w : Whole) (out : List ℕ) where
   unit_by : (b : Bool) (v : Value) (later : List Value) (c : State) (h : HasCome d w out (v ∷ later) c) → Fits v →
       is_some h.end.ended ≡ b → HasCome d w out later (react v c)
   unit_by true v later c h fits over =
-      let idle = idle_unit v c (h.like.over ∙ over) in
-      subst (HasCome d w out later) (sym idle) (rests (v ∷ later) later c c h over (h.like.over ∙ over) refl)
+      grind (arith, idle_unit v c (h.like.over ∙ over), rests (v ∷ later) later c c h over (h.like.over ∙ over) refl)
   unit_by false v later c h fits lasting =
       let lasts = none_of h.end.ended lasting in
       goes (react v) (unit_apart v fits) arrives (put_for v h.end) later (v ∷ later) later c h lasts (v, h.still lasts, refl)
@@ -189,17 +184,13 @@ module _ (d : Direction) (w : Whole) (out : List ℕ) where
 
   sent_by : (b : Bool) (r : ℕ) (tsdus : List (List ℕ)) (later : List Value) (c : State) (h : HasCome d w out later c) →
       AllByRecursion (λ tsdu. length tsdu ≤ 1048576) tsdus → is_some h.end.ended ≡ b → HasCome d w out later (sent_all r tsdus c)
-  sent_by true r tsdus later c h short over =
-      subst (HasCome d w out later) (sym (idle_all r tsdus c (h.like.over ∙ over)))
-      (rests later later c c h over (h.like.over ∙ over) refl)
+  sent_by true r tsdus later c h short over = grind (arith, idle_all, rests)
   sent_by false r tsdus later c h short lasting =
       calls_so (sends_all r tsdus) later c h (none_of h.end.ended lasting) short (together_fine r tsdus h.end h.links)
 
   closed_by : (b : Bool) (r : ℕ) (later : List Value) (c : State) (h : HasCome d w out later c) → is_some h.end.ended ≡ b →
       HasCome d w out later (closed_with r 128 c)
-  closed_by true r later c h over =
-      subst (HasCome d w out later) (sym (idle_closed r 128 c (h.like.over ∙ over)))
-      (rests later later c c h over (h.like.over ∙ over) refl)
+  closed_by true r later c h over = grind (arith, idle_closed, rests)
   closed_by false r later c h lasting =
       calls_so (closes r 128) later c h (none_of h.end.ended lasting) tt (closed_fine h.end h.links r 128)
 
@@ -220,10 +211,7 @@ module _ (d : Direction) (w : Whole) (out : List ℕ) where
 
   one_more : (us : List (List ℕ)) (u : List ℕ) (later : List Value) →
       units_in (us ++ u ∷ []) ++ later ≡ units_in us ++ (units_by (units_of u) ++ later)
-  one_more us u later =
-      ap (λ (l : List Value). l ++ later) (units_join us (u ∷ []))
-      ∙ append_assoc (units_in us) (units_in (u ∷ [])) later
-      ∙ ap (λ (l : List Value). units_in us ++ (l ++ later)) (append-nil (units_by (units_of u)))
+  one_more us u later = grind (arith, units_join, append_assoc, append-nil)
 
   with_packet : (us : List (List ℕ)) (u : List ℕ) (c : State) → Came us c → (later : List Value) →
       (w.end.ended ≡ None → w.coming ≡ units_in (us ++ u ∷ []) ++ later) → HasCome d w out (units_by (units_of u) ++ later) c

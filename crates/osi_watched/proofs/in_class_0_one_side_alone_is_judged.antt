@@ -1,13 +1,13 @@
 -- In class 0 a break of the other side leaves an end judged alone, and whatever passes leaves that so, as long as each unit of the end is
 -- right. For the laws that an end is to blame nowhere.
-use Rattle.std.proofs.Common.{◌≡◌, ◌∙◌, ℕ, Bool, true, false, Option, Some, None, refl, sym, ap, subst}
+use Rattle.std.proofs.Common.{arith}
+use Rattle.std.proofs.Common.{◌≡◌, ◌∙◌, ℕ, Bool, true, false, Option, Some, refl, sym, ap, subst}
 use Rattle.std.specs.Prelude.{◌||◌, is_some}
 use Rattle.osi_tpdu.specs.Value.{Value}
 use Rattle.osi_class.specs.declared.terms.Class.{Class}
-use Rattle.osi_class.specs.declared.terms.Class.TheVariants.{Two, Zero}
+use Rattle.osi_class.specs.declared.terms.Class.TheVariants.{Zero}
 use Rattle.osi_judge.specs.Captures.{other}
 use Rattle.osi_judge.specs.declared.directions.Direction.{Direction}
-use Rattle.osi_judge.specs.declared.directions.Direction.TheVariants.{Left, Right}
 use Rattle.osi_rules.specs.Reaches.{reach_by, reach_of}
 use Rattle.osi_rules.specs.Traffic as traffic
 use Rattle.osi_rules.specs.Traffic.{State, Outcome, class_for, is_stopped}
@@ -39,22 +39,13 @@ abbrev pub IsLoose : Course → Type 0
 IsLoose c = c.traffic.course.loose ≡ true
 
 loose_begins : (e : Direction) (c : Course) → IsLoose c → IsLoose (packet_begins e c)
-loose_begins Left c h = h
-loose_begins Right c h = h
+loose_begins e c h = grind arith
 
 loose_unread : (b : Bool) (e : Direction) (at : ℕ) (k : Cause) (c : Course) → IsLoose c → IsLoose (unread_if b e at k c)
-loose_unread true e at k c h = h
-loose_unread false e at k c h =
-    let r = traffic.refused_reach (way_of e) c.traffic in
-    ap (λ (s : State). s.course.loose) (refused_traffic e at k c) ∙ reached_loose (way_of e) r c.traffic.course true h ∙ loose_more r
+loose_unread b e at k c h = grind (arith, refused_traffic, reached_loose, loose_more)
 
 pub loose_claim : IsClaim IsLoose
-loose_claim = record {
-  begins = λ e c h. loose_begins e c h;
-  passes = λ e at v c h.
-      let r = (traffic.takes (way_of e) v c.traffic).told.reach in loose_so e at v c r refl ∙ ap (loose_by r) h ∙ loose_more r;
-  bad = λ e at k c h. loose_unread (is_some (marks_of e c).halted) e at k c h;
-}
+loose_claim = grind (arith, loose_begins, loose_so, loose_by, loose_more, loose_unread)
 
 -- ---- the end alone is judged
 
@@ -67,14 +58,7 @@ pub record IsAlone (d : Direction) (c : Course) : Type 0 where
   pub halted : IsHalted (other d) c
 
 pub alone_begins : (d e : Direction) (c : Course) → IsAlone d c → IsAlone d (packet_begins e c)
-alone_begins Left Left c a =
-    record { zero = a.zero; firm = a.firm; own = a.own; stopped = a.stopped; halted = a.halted }
-alone_begins Left Right c a =
-    record { zero = a.zero; firm = a.firm; own = a.own; stopped = a.stopped; halted = a.halted }
-alone_begins Right Left c a =
-    record { zero = a.zero; firm = a.firm; own = a.own; stopped = a.stopped; halted = a.halted }
-alone_begins Right Right c a =
-    record { zero = a.zero; firm = a.firm; own = a.own; stopped = a.stopped; halted = a.halted }
+alone_begins d e c a = grind arith
 
 pub alone_unread : (d : Direction) (at : ℕ) (k : Cause) (c : Course) → IsAlone d c → IsAlone d (unread (other d) at k c)
 alone_unread d at k c a = subst (IsAlone d) (sym (unread_same (other d) at k c a.halted)) a
@@ -85,13 +69,7 @@ passed e at v x c = noted_by e at v x.told (cause_of x.told.finding)
     (moved (moment_of e at v x.told (taken e at v x.told.meaning x.told.place c.sessions)) (record c { traffic = x.state }))
 
 pub alone_other : (d : Direction) (at : ℕ) (v : Value) (c : Course) → IsAlone d c → IsAlone d (unit_passes (other d) at v c)
-alone_other d at v c a =
-    subst (λ (x : Outcome). IsAlone d (passed (other d) at v x c)) (sym (stops_last (way_of (other d)) v c.traffic a.stopped)) (by d a)
-  where
-    by : (e : Direction) → IsAlone e c →
-        IsAlone e (passed (other e) at v (traffic.none_told (way_of (other e)) NotJudged c.traffic) c)
-    by Left b = record { zero = b.zero; firm = b.firm; own = b.own; stopped = b.stopped; halted = b.halted }
-    by Right b = record { zero = b.zero; firm = b.firm; own = b.own; stopped = b.stopped; halted = b.halted }
+alone_other d at v c a = grind (arith, stops_last)
 
 pub alone_own : (d : Direction) (at : ℕ) (v : Value) (c : Course) → (traffic.takes (way_of d) v c.traffic).told.finding ≡ Kept →
     IsAlone d c → IsAlone d (unit_passes d at v c)
@@ -115,20 +93,16 @@ side_caused k TooMany e = absurd (cc)
 side_caused k (Broke rule) e = (cause.Broke rule, refl)
 
 judged_own : (d : Direction) (c : Course) → IsJudged c → is_stopped (way_of d) c.traffic.course ≡ false
-judged_own Left c j = j.left
-judged_own Right c j = j.right
+judged_own d c j = grind arith
 
 goes_on : (d : Direction) (c : Course) → IsJudged c → is_some (marks_of d c).halted ≡ false
-goes_on Left c j = ap is_some j.left_goes
-goes_on Right c j = ap is_some j.right_goes
+goes_on d c j = grind arith
 
 other_apart : (d : Direction) (b : Bool) → (traffic.stops_by (way_of (other d)) reach.Side (way_of d) || b) ≡ b
-other_apart Left b = refl
-other_apart Right b = refl
+other_apart d b = grind arith
 
 side_stops : (d : Direction) (b : Bool) → (traffic.stops_by (way_of d) reach.Side (way_of d) || b) ≡ true
-side_stops Left b = refl
-side_stops Right b = refl
+side_stops d b = grind arith
 
 -- a unit of the other side
 pub unit_alone : (d : Direction) (at : ℕ) (v : Value) (c : Course) → IsJudged c → IsKnownOnce c.traffic →
@@ -178,9 +152,7 @@ module _ (d : Direction) (at : ℕ) (k : Cause) (c : Course) (j : IsJudged c) (o
   refused_over_so is = subst IsOver (sym unread_is) (refused_over e at k c is)
 
   by_class : (x : Option Class) → class_for (way_of e) c.traffic.course ≡ x → AfterUnread d (unread e at k c)
-  by_class None is = all_over (refused_over_so (ap (λ (x : Option Class). reach_by x false) is))
-  by_class (Some Two) is = all_over (refused_over_so (ap (λ (x : Option Class). reach_by x false) is))
-  by_class (Some Zero) is = alone (refused_alone is)
+  by_class x is = search (arith, refused_over_so, refused_alone)
 
   pub unread_alone : AfterUnread d (unread e at k c)
   unread_alone = by_class (class_for (way_of e) c.traffic.course) refl

@@ -1,6 +1,7 @@
 -- What the other side sends and nobody can read is an event of a whole end, and so are the steps that follow.
 -- For the law that the transport of an end is blamed nowhere.
-use Rattle.osi_watched.proofs.Vocabulary.{[], ap, Bool, Err, false, is_some, List, Ok, refl, Result, subst, sym, true, ℕ, ◌++◌, ◌∙◌}
+use Rattle.std.proofs.Common.{arith}
+use Rattle.osi_watched.proofs.Vocabulary.{[], ap, Bool, Err, false, is_some, List, Ok, refl, Result, sym, true, ℕ, ◌++◌, ◌∙◌}
 use Rattle.osi_watched.proofs.Vocabulary.{◌∷◌, ◌≡◌}
 use Rattle.osi_watched.proofs.Vocabulary.{append-nil, AllByRecursion, Fits, IsOctets, units_by, units_fit, units_found, units_of, Value}
 use Rattle.osi_watched.proofs.Vocabulary.{TpduFault, Way, other, Direction, AllProper, way_of, marks_of, unread, Cause}
@@ -26,14 +27,11 @@ module _ (d : Direction) (first : Whole) where
   later_followed proper begins_own old new is f = step_followed d first proper begins_own old new is f
   later_followed proper (passes_own at unit) old new is f = step_followed d first proper (passes_own at unit) old new is f
   later_followed proper begins_other old new is f = step_followed d first proper begins_other old new is f
-  later_followed proper (passes_other at packet units) old new (octets, read, is) f =
-      passes_other_so d first old new at packet units
-      (subst (AllByRecursion Fits) read (fits_by (units_of packet) packet octets refl)) read is f
+  later_followed proper (passes_other at packet units) old new (octets, read, is) f = grind (arith, passes_other_so, fits_by)
 
   module _ (at : ℕ) (cause : Cause) (packets : List (List ℕ)) (none : units_in packets ≡ []) (j : Joint) (f : IsFollowed d first j) where
     same_units : units_in j.coming ≡ units_in (j.coming ++ packets)
-    same_units =
-        sym (units_join j.coming packets ∙ ap (λ (l : List Value). units_in j.coming ++ l) none ∙ append-nil (units_in j.coming))
+    same_units = grind (arith, units_join, append-nil)
 
     spoilt_by : (b : Bool) → is_some (marks_of (other d) j.course).halted ≡ b → IsFollowed d first (spoilt d at cause packets j)
     spoilt_by true halted =

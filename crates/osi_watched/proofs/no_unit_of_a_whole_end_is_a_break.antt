@@ -1,6 +1,7 @@
 -- No unit of a whole end is a break as it passes, as long as the other side is judged: what osi_fair says of it.
 -- For the law on the first break.
-use Rattle.osi_watched.proofs.Vocabulary.{false, inl, inr, subst, sym, true, ◌≡◌, ◌⊎◌, Local, Finding, Kept, NotJudged, TooMany}
+use Rattle.std.proofs.Common.{arith}
+use Rattle.osi_watched.proofs.Vocabulary.{false, true, ◌≡◌, ◌⊎◌, Local, Finding, Kept, NotJudged, TooMany}
 use Rattle.osi_watched.proofs.Vocabulary.{called_fair, calling_fair}
 use Rattle.osi_fair.proofs.a_called_end_is_fair_in_class_0.{called_fair_in_class_0}
 use Rattle.osi_fair.proofs.a_calling_end_is_fair.{calling_fair_in_class_0}
@@ -9,13 +10,10 @@ use Rattle.osi_fair.specs.Wholes.{begin}
 use Rattle.osi_watched.proofs.the_first_break_is_not_of_an_end.{IsFairAlone, IsFairFrom, IsFairThroughout, IsNoBreak}
 
 right_or_not_judged : {A : Type 0} (f : Finding) → (f ≡ Kept) ⊎ ((f ≡ NotJudged) × A) → IsNoBreak f
-right_or_not_judged f (inl is) = subst IsNoBreak (sym is) tt
-right_or_not_judged f (inr (is, strays)) = subst IsNoBreak (sym is) tt
+right_or_not_judged f h = grind arith
 
 right_or_too_many : {A : Type 0} (f : Finding) → (f ≡ Kept) ⊎ ((f ≡ TooMany) ⊎ ((f ≡ NotJudged) × A)) → IsNoBreak f
-right_or_too_many f (inl is) = subst IsNoBreak (sym is) tt
-right_or_too_many f (inr (inl is)) = subst IsNoBreak (sym is) tt
-right_or_too_many f (inr (inr (is, strays))) = subst IsNoBreak (sym is) tt
+right_or_too_many f h = grind arith
 
 pub called_is_fair_throughout : (local : Local) → IsFairThroughout Right (begin false local)
 called_is_fair_throughout local = λ events w unit rest along begun put judged.
@@ -35,8 +33,7 @@ calling_is_fair local = λ events w unit rest along begun put judged firm.
 
 -- in class 0 each is right, as long as the end is judged itself
 pub called_is_fair_in_class_0 : (local : Local) → IsFairAlone Right (begin false local)
-called_is_fair_in_class_0 local = λ events w unit rest along begun put judged firm zero.
-    called_fair_in_class_0 local events w unit rest along begun put judged firm zero
+called_is_fair_in_class_0 local = search (arith, called_fair_in_class_0)
 
 pub calling_is_fair_in_class_0 : (local : Local) → IsFairAlone Left (begin true local)
 calling_is_fair_in_class_0 local = λ events w unit rest along begun put judged firm zero.

@@ -83,26 +83,16 @@ module _ (d : Direction) where
   begins_so e c h = grind (arith, begins_going, begins_two, begins_marks, left_claim, alone_begins)
 
   unit_two : (e : Direction) (at : ℕ) (v : Value) (c : Course) → IsOfTwo c.traffic.course → IsOfTwo (unit_passes e at v c).traffic.course
-  unit_two e at v c h = subst (λ (s : Traffic). IsOfTwo s.course) (sym (unit_knows e at v c))
-      (still_two (unit_passing (way_of e) v) c.traffic h)
+  unit_two e at v c h = grind (arith, unit_knows e at v c, still_two (unit_passing (way_of e) v) c.traffic h)
 
   other_by : (at : ℕ) (v : Value) (c : Course) → IsKnownOnce c.traffic → IsWhole c → (r : Reach) →
       (takes (way_of (other d)) v c.traffic).told.reach ≡ r → IsBlamedNowhere (unit_passes (other d) at v c)
-  other_by at v c once w reach.Nothing is = is_whole (record {
-    going = nothing_goes (other d) at v c is w.going;
-    two = unit_two (other d) at v c w.two;
-    unbroken = other_unbroken d at v c ∙ w.unbroken;
-  })
-  other_by at v c once w reach.Connection is = is_whole (record {
-    going = part_goes (other d) at v c is w.going;
-    two = unit_two (other d) at v c w.two;
-    unbroken = other_unbroken d at v c ∙ w.unbroken;
-  })
+  other_by at v c once w reach.Nothing is = search (arith, nothing_goes, unit_two, other_unbroken)
+  other_by at v c once w reach.Connection is = search (arith, part_goes, unit_two, other_unbroken)
   other_by at v c once w reach.Side is =
       is_alone (unit_alone d at v c (judged_of c w.going (firm_in_zero c w.two (side_known (other d) at v c is once))) once is)
       (other_unbroken d at v c ∙ w.unbroken)
-  other_by at v c once w reach.Everything is =
-      is_left (record { over = all_ends (other d) at v c is; unbroken = other_unbroken d at v c ∙ w.unbroken })
+  other_by at v c once w reach.Everything is = search (arith, all_ends, other_unbroken)
 
   others_pass : (at : ℕ) (units : List Value) (c : Course) → IsKnownOnce c.traffic → IsBlamedNowhere c →
       IsBlamedNowhere (units_pass (other d) at units c)
@@ -134,8 +124,7 @@ module _ (d : Direction) where
         IsBlamedNowhere old.course → IsBlamedNowhere (unit_passes d at v old.course)
     own_passes_so at v old new step f (is_left l) = is_left ((left_claim d).passes d at v old.course l)
     own_passes_so at v old new step f (is_alone a none) =
-        let kept = own_alone d proper is_caller local fair_alone at v old new step f a in
-        is_alone (alone_own d at v old.course kept a) (own_unbroken d at v old.course (subst IsNoBreak (sym kept) tt) ∙ none)
+        search (arith, alone_own, own_unbroken, own_alone d proper is_caller local fair_alone at v old new step f a)
     own_passes_so at v old new step f (is_whole w) = by (mild_reach d at v old.course _ refl none)
       where
         none : IsNoBreak (takes (way_of d) v old.course.traffic).told.finding
@@ -156,12 +145,9 @@ module _ (d : Direction) where
     step_so : (step : Step) (old new : Joint) → Steps d step old new → IsFollowed d first old → IsBlamedNowhere old.course →
         IsBlamedNowhere new.course
     step_so (turns turn) old new t f h = subst IsBlamedNowhere (sym t.course) h
-    step_so begins_own old new step f h =
-        subst (λ (j : Joint). IsBlamedNowhere j.course) (sym step.2) (begins_so d old.course h)
-    step_so (passes_own at v) old new step f h =
-        subst (λ (j : Joint). IsBlamedNowhere j.course) (sym step.4) (own_passes_so at v old new step f h)
-    step_so begins_other old new step f h =
-        subst (λ (j : Joint). IsBlamedNowhere j.course) (sym step) (begins_so (other d) old.course h)
+    step_so begins_own old new step f h = grind (arith, begins_so)
+    step_so (passes_own at v) old new step f h = grind (arith, own_passes_so at v old new step f h)
+    step_so begins_other old new step f h = grind (arith, begins_so)
     step_so (passes_other at packet units) old new step f h =
         subst (λ (j : Joint). IsBlamedNowhere j.course) (sym step.2)
         (others_pass at units old.course (joint_known_once d is_caller local old f) h)
@@ -217,10 +203,7 @@ module _ (d : Direction) where
 
     spoilt_so : (at : ℕ) (cause : Cause) (packets : List (List ℕ)) → units_in packets ≡ [] → (j : Joint) → Stood j →
         Stood (spoilt d at cause packets j)
-    spoilt_so at cause packets none j h = record {
-      followed = spoilt_followed d first at cause packets none j h.followed;
-      nowhere = unread_so at cause j.course (joint_known_once d is_caller local j h.followed) h.nowhere;
-    }
+    spoilt_so at cause packets none j h = search (arith, spoilt_followed, unread_so, joint_known_once)
 
   -- ---- in the end
 
@@ -249,12 +232,9 @@ module _ (d : Direction) where
           (spoilt_so proper is_caller local fair fair_alone g.at g.cause g.packets g.none comes.last last)).nowhere
 
   unbroken_by : (c : Course) → IsBlamedNowhere c → (marks_of d c).broke ≡ None
-  unbroken_by c (is_whole w) = w.unbroken
-  unbroken_by c (is_left l) = l.unbroken
-  unbroken_by c (is_alone a none) = none
+  unbroken_by c h = grind arith
 
   pub always_unbroken : AllProper → (is_caller : Bool) (local : Local) (h : Holding) (capture : Capture) → IsFresh is_caller local h →
       IsFairThroughout (way_of d) (wholes.begin is_caller local) → IsFairAlone (way_of d) (wholes.begin is_caller local) →
       ComesBySteps d capture h → (marks_of d (comes_to capture).course).broke ≡ None
-  always_unbroken proper is_caller local h capture anew fair fair_alone comes =
-      unbroken_by (comes_to capture).course (never_blamed proper is_caller local h capture anew fair fair_alone comes)
+  always_unbroken proper is_caller local h capture anew fair fair_alone comes = search (arith, unbroken_by, never_blamed)

@@ -1,5 +1,6 @@
 -- Small facts that lemmas of several files use: of truth values, lists and numbers, and of one step of a connection.
 -- For all proofs of this crate.
+use Rattle.std.proofs.Common.{arith}
 use Rattle.osi_watched.proofs.Vocabulary.{AllByRecursion, Bool, Broke, CanBeWritten, Carrier, Class, Connection, EndReason, Fits}
 use Rattle.osi_watched.proofs.Vocabulary.{HasFieldsInRange, Kept, List, None, Option, Rule, Some, Test, Time as Stage, Two, Value, Zero, []}
 use Rattle.osi_watched.proofs.Vocabulary.{amid, ap, early, false, first_failed, has_given, is_some, le-leb, lt-ltb, nat_le, not, past, refl}
@@ -21,8 +22,7 @@ pub amid_not : {A : Type 0} (s : Stage) (peer : ℕ) → s ≡ early → s ≡ a
 amid_not s peer e h = absurd (cc (sym e ∙ h))
 
 pub and_both : (a b : Bool) → (a && b) ≡ true → (a ≡ true) × (b ≡ true)
-and_both true b h = (refl, h)
-and_both false b h = absurd (cc)
+and_both a b h = grind arith
 
 pub can_more : (some others : List Value) → AllByRecursion CanBeWritten some → AllByRecursion CanBeWritten others →
     AllByRecursion CanBeWritten (some ++ others)
@@ -43,20 +43,16 @@ pub not_some : {A : Type 0} (o : Option ℕ) (n : ℕ) → o ≡ Some n → o �
 not_some o n h e = absurd (cc)
 
 pub not_true : (b : Bool) → not b ≡ true → b ≡ false
-not_true true h = absurd (cc)
-not_true false h = refl
+not_true b h = grind arith
 
 pub or_first : (a b : Bool) → (a || b) ≡ false → a ≡ false
-or_first true b h = absurd (cc)
-or_first false b h = refl
+or_first a b h = grind arith
 
 pub over_none : {A : Type 0} (o : Option EndReason) → is_some o ≡ true → o ≡ None → A
-over_none None h e = absurd (cc h)
-over_none (Some x) h e = absurd (cc e)
+over_none h h2 e = grind arith
 
 pub over_not : {A : Type 0} (o : Option EndReason) → is_some o ≡ true → o ≡ None → A
-over_not None h e = absurd (cc)
-over_not (Some x) h e = absurd (cc)
+over_not h h2 e = grind arith
 
 pub past_not : {A : Type 0} (s : Stage) → s ≡ early → s ≡ past → A
 past_not s e h = absurd (cc (sym e ∙ h))
@@ -66,9 +62,7 @@ ranges_of [] h = tt
 ranges_of (v ∷ units) h = (h.0.in_range, ranges_of units h.1)
 
 pub same_bool : (a b : Bool) → (a ≡ true → b ≡ true) → (b ≡ true → a ≡ true) → a ≡ b
-same_bool true b h k = sym (h refl)
-same_bool false true h k = k refl
-same_bool false false h k = refl
+same_bool a b h k = grind arith
 
 pub same_item : (x y : Connection) → Some x ≡ Some y → x ≡ y
 same_item x y e = cc
@@ -77,9 +71,7 @@ pub same_one : {X : Type 0} (x y : X) → Some x ≡ Some y → x ≡ y
 same_one x y e = cc
 
 pub second_test : (a b : Bool) (x y : Rule) (more : List Test) → first_failed ((a, Broke x) ∷ (b, Broke y) ∷ more) ≡ Kept → b ≡ true
-second_test true true x y more h = refl
-second_test true false x y more h = absurd (cc)
-second_test false b x y more h = absurd (cc)
+second_test a b x y more h = grind arith
 
 pub zero_two : {A : Type 0} (k : Option Class) → k ≡ Some Zero → k ≡ Some Two → A
 zero_two k h e = absurd (let no : Some Zero ≡ Some Two = sym h ∙ e in cc)

@@ -1,9 +1,10 @@
 -- The first break of transport at a tap is never of the side of an end, if no unit of a whole end is a break as long as the other
 -- side is judged.
 -- For the law on the first break.
+use Rattle.std.proofs.Common.{arith}
 use Rattle.osi_watched.proofs.Vocabulary.{[], ap, Bool, false, inl, inr, List, None, Option, refl, Some, subst, sym, true, ℕ, ◌∙◌, ◌∷◌, ◌≡◌}
 use Rattle.osi_watched.proofs.Vocabulary.{◌⊎◌, Value, Local, Holding, is_stopped, Traffic, takes, Way, Finding, Broke, Outside, Capture}
-use Rattle.osi_watched.proofs.Vocabulary.{other, Direction, Left, Right, AllProper, IsFresh, unit_passes, units_pass, unread, way_of, after}
+use Rattle.osi_watched.proofs.Vocabulary.{other, Direction, Left, Right, AllProper, IsFresh, unit_passes, units_pass, way_of, after}
 use Rattle.osi_watched.proofs.Vocabulary.{comes_to, First, Event, HappenAlong, Whole, begins_other, begins_own, Joint, passes_other}
 use Rattle.osi_watched.proofs.Vocabulary.{passes_own, Step, Steps, StepsAlong, turns, ComesBySteps, TurnsBad}
 use Rattle.osi_class.specs.declared.terms.Class.TheVariants.{Zero}
@@ -50,14 +51,10 @@ IsNotFirst d c = IsCalm c ⊎ ((f : First) × (c.first ≡ Some f) × (f.directi
 
 no_break_so : (d : Direction) (at : ℕ) (v : Value) (c : Course) (f : Finding) (new : Course) → IsNoBreak f → Leaves d at v c f new →
     IsCalm new
-no_break_so d at v c (Broke rule) new none leaves = absurd none
-no_break_so d at v c Outside new none leaves = absurd none
-no_break_so d at v c _ new none leaves = leaves
+no_break_so d at v c f new none leaves = grind arith
 
 any_so : (d : Direction) (at : ℕ) (v : Value) (c : Course) (f : Finding) (new : Course) → Leaves (other d) at v c f new → IsNotFirst d new
-any_so d at v c (Broke rule) new leaves = inr leaves
-any_so d at v c Outside new leaves = inr leaves
-any_so d at v c _ new leaves = inl leaves
+any_so d at v c f new leaves = grind arith
 
 module _ (d : Direction) where
   -- a unit of the other side
@@ -72,16 +69,11 @@ module _ (d : Direction) where
 
   -- a packet begins
   begins_so : (e : Direction) (c : Course) → IsNotFirst d c → IsNotFirst d (packet_begins e c)
-  begins_so e c (inl calm) = inl (begins_calm e c calm)
-  begins_so e c (inr h) = inr h
+  begins_so e c h = grind (arith, begins_calm)
 
   -- the other side is judged
   judged_so : (c : Course) → IsJudged c → is_stopped (sides.other (way_of d)) c.traffic.course ≡ false
-  judged_so c j = by d
-    where
-      by : (e : Direction) → is_stopped (sides.other (way_of e)) c.traffic.course ≡ false
-      by Left = j.right
-      by Right = j.left
+  judged_so c j = grind arith
 
   module _ (proper : AllProper) (first : Whole) (fair : IsFairFrom (way_of d) first) where
     own_passes : (old new : Joint) (at : ℕ) (unit : Value) → Steps d (passes_own at unit) old new → IsFollowed d first old →
@@ -105,14 +97,11 @@ module _ (d : Direction) where
     step_so : (step : Step) (old new : Joint) → Steps d step old new → IsFollowed d first old → IsNotFirst d old.course →
         IsNotFirst d new.course
     step_so (turns turn) old new t f h = subst (IsNotFirst d) (sym t.course) h
-    step_so begins_own old new (some, none, is) f h =
-        subst (λ (j : Joint). IsNotFirst d j.course) (sym is) (begins_so d old.course h)
+    step_so begins_own old new (some, none, is) f h = grind (arith, begins_so)
     step_so (passes_own at unit) old new steps f h =
         subst (λ (j : Joint). IsNotFirst d j.course) (sym steps.4) (own_passes old new at unit steps f h)
-    step_so begins_other old new is f h =
-        subst (λ (j : Joint). IsNotFirst d j.course) (sym is) (begins_so (other d) old.course h)
-    step_so (passes_other at packet units) old new (octets, read, is) f h =
-        subst (λ (j : Joint). IsNotFirst d j.course) (sym is) (others_pass at units old.course h)
+    step_so begins_other old new is f h = grind (arith, begins_so)
+    step_so (passes_other at packet units) old new (octets, read, is) f h = grind (arith, others_pass at units old.course h)
 
     along_so : (steps : List Step) (old new : Joint) → StepsAlong d old steps new → IsFollowed d first old → IsNotFirst d old.course →
         IsNotFirst d new.course
@@ -130,11 +119,7 @@ module _ (d : Direction) where
   }
 
   over_claim : IsClaim (λ c. (c.first ≡ None) × IsOver c)
-  over_claim = record {
-    begins = λ e c h. (h.0, begins_over e c h.1);
-    passes = λ e at v c h. unit_over e at v c h.0 h.1;
-    bad = λ e at k c h. subst (λ (x : Course). (x.first ≡ None) × IsOver x) (sym (unread_over e at k c h.1)) h;
-  }
+  over_claim = grind (arith, begins_over, unit_over, unread_over)
 
   -- the first break of all, if there is one, is of the other side
   abbrev pub IsOfOther : Course → Type 0
@@ -145,38 +130,13 @@ module _ (d : Direction) where
 
   still_other : (capture : Capture) (s : tapping.State) (g : First) → s.course.first ≡ Some g → g.direction ≡ other d →
       IsOfOther (after capture s).course
-  still_other capture s g is of = λ f told.
-      let kept = after_kept (λ (c : Course). c.first ≡ Some g) (first_claim g) capture s is in
-      ap (λ (x : First). x.direction) (same_first f g (after capture s).course.first told kept) ∙ of
+  still_other capture s g is of = grind (arith, after_kept, same_first, first_claim g)
 
   of_other : (c : Course) → IsNotFirst d c → IsOfOther c
-  of_other c (inl calm) = λ f told. let no : None ≡ Some f = sym calm.none ∙ told in absurd (cc)
-  of_other c (inr (g, is, of)) = λ f told. ap (λ (x : First). x.direction) (same_first f g c.first told is) ∙ of
+  of_other c h = grind (arith, same_first)
 
   bad_so : (capture : Capture) (c : Course) → TurnsBad d capture c → IsNotFirst d c → IsOfOther (comes_to capture).course
-  bad_so capture c t h =
-      let join = ap (λ (x : Capture). comes_to x) t.parts ∙ after_join t.front t.back tapping.begin in
-      subst (λ (s : tapping.State). IsOfOther s.course) (sym join) (by h)
-    where
-      s : tapping.State
-      s = comes_to t.front
-
-      is_first : (g : First) → (unread (other d) t.at t.cause c).first ≡ Some g → s.course.first ≡ Some g
-      is_first g e = ap (λ (x : Course). x.first) t.unreadable ∙ e
-
-      by_calm : IsCalm c → IsJudged c ⊎ IsOver c → IsOfOther (after t.back s).course
-      by_calm calm (inl j) =
-          let (g, told, of) = unread_breaks (other d) t.at t.cause c t.bad calm.none j in
-          still_other t.back s g (is_first g told) of
-      by_calm calm (inr over) =
-          let same : s.course ≡ c = t.unreadable ∙ unread_over (other d) t.at t.cause c over in
-          let kept = after_kept (λ (x : Course). (x.first ≡ None) × IsOver x) over_claim t.back s
-          (subst (λ (x : Course). (x.first ≡ None) × IsOver x) (sym same) (calm.none, over)) in
-          λ f told. let no : None ≡ Some f = sym kept.0 ∙ told in absurd (cc)
-
-      by : IsNotFirst d c → IsOfOther (after t.back s).course
-      by (inl calm) = by_calm calm calm.how
-      by (inr (g, told, of)) = still_other t.back s g (is_first g (unread_first (other d) t.at t.cause c g told)) of
+  bad_so capture c t h = search (arith, after_join, unread_breaks, still_other, unread_over, after_kept, over_claim, unread_first)
 
   pub first_other : AllProper → (is_caller : Bool) (local : Local) (h : Holding) (capture : Capture) → IsFresh is_caller local h →
       IsFairFrom (way_of d) (wholes.begin is_caller local) → ComesBySteps d capture h → IsOfOther (comes_to capture).course
@@ -195,8 +155,7 @@ module _ (d : Direction) where
 -- if it is neither of left nor of right, there is none
 none_by : (o : Option First) → ((f : First) → o ≡ Some f → f.direction ≡ Right) → ((f : First) → o ≡ Some f → f.direction ≡ Left) →
     o ≡ None
-none_by None left right = refl
-none_by (Some f) left right = let no : Right ≡ Left = sym (left f refl) ∙ right f refl in absurd (cc)
+none_by o left right = grind arith
 
 pub neither_first : (c : Course) → IsOfOther Left c → IsOfOther Right c → c.first ≡ None
 neither_first c left right = none_by c.first left right

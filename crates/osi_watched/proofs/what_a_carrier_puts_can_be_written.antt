@@ -1,22 +1,23 @@
 -- The units that a carrier puts as it takes a unit, and as its user makes a call, can be written, and its links stay numbered.
 -- For what a turn of an end does to its carrier.
-use Rattle.std.proofs.Common.{◌≡◌, ℕ, ◌+◌, ◌&&◌, ◌≤◌, Bool, true, false, if◌then◌else◌, List, [], ◌∷◌, ◌++◌}
+use Rattle.std.proofs.Common.{arith}
+use Rattle.std.proofs.Common.{◌≡◌, ℕ, ◌+◌, ◌≤◌, Bool, true, false, if◌then◌else◌, List, [], ◌∷◌, ◌++◌}
 use Rattle.std.proofs.Common.{Option, Some, None, option_map, is_some, Result, Ok, Err, refl, subst}
 use Rattle.std.specs.Prelude.{IfSome}
 use Rattle.std.specs.List.{AllByRecursion}
 use Rattle.osi_tpdu.specs.Limits.{tsap_octets}
-use Rattle.osi_tpdu.specs.Value.{Connect, HasFieldsInRange, IsConnect, Value, confirm, data0, disconnect, disconnected}
+use Rattle.osi_tpdu.specs.Value.{Connect, HasFieldsInRange, IsConnect, Value, confirm, data0, disconnect}
 use Rattle.osi_tpdu.specs.Value.{error, request}
 use Rattle.osi_tpdu.specs.declared.tsaps.Tsap.{Tsap}
 use Rattle.osi_class.specs.Link.{Standing, taken, with_tsdu}
-use Rattle.osi_class.specs.Negotiation.{accept, keeps_flow_control, proposes, proposes_zero_alone, refuse, selected_by, selected_size}
+use Rattle.osi_class.specs.Negotiation.{accept, refuse, selected_by}
 use Rattle.osi_class.specs.declared.faults.LinkFault.{LinkFault}
 use Rattle.osi_class.specs.declared.terms.Class.{Class}
 use Rattle.osi_class.specs.declared.terms.Class.TheVariants.{Two, Zero}
 use Rattle.osi_carrier.specs.Calls.{closed_on, closes as closes_in, closed_with, link_of, open_link, sent, sent_all, sent_on}
-use Rattle.osi_carrier.specs.Negotiation.{acceptance, agreed_size, confirmed, opened_link, proposes_two}
+use Rattle.osi_carrier.specs.Negotiation.{acceptance}
 use Rattle.osi_carrier.specs.Orderly.{connection_by}
-use Rattle.osi_carrier.specs.Pump.{pumped, written_by}
+use Rattle.osi_carrier.specs.Pump.{written_by}
 use Rattle.osi_carrier.specs.React.{accepts, answers, before_class, breaks as breaks_in, denies, handed_out, has_peer, in_class, in_two}
 use Rattle.osi_carrier.specs.React.{in_zero, is_full, leaves, opens, pumps, react_by, taking, to_asked, to_closing, to_connection}
 use Rattle.osi_carrier.specs.React.{to_linked, to_only, to_reference, to_unknown}
@@ -50,11 +51,7 @@ module _ (s : State) (p : AreNumbered s.live) where
 
   accepted : (class : Class) (size : Option ℕ) (c : Connect) → IsConnect c → IfSome size (λ code. (7 ≤ code) × (code ≤ 13)) →
       Fine (confirm c.source (acceptance class size c s.local (s.given + 1)) ∷ []) (accepts class size c s)
-  accepted class size c h range = (
-    (cc_plain class size c s.local (s.given + 1) h range, tt),
-    row_more IsNumberedRow (s.given + 1) (linked c.source (opened_link class size s.local c.credit)) s.live p
-        (link_opens class size s.local c.credit),
-  )
+  accepted class size c h range = grind (arith, cc_plain, row_more, link_opens)
 
   denied : (reason peer : ℕ) → Fine (refusal reason peer) (denies reason peer s)
   denied reason peer = ((tt, tt), p)
@@ -80,42 +77,25 @@ module _ (s : State) (p : AreNumbered s.live) where
       else (if full then denies 1 c.source s else answers c (selected_by c s.local) s.class s))
   by_request c true full h = denied 131 c.source
   by_request c false true h = denied 1 c.source
-  by_request c false false h =
-      by_selection (s.local.class2 && (proposes c 2 && keeps_flow_control c)) (s.local.class0 && proposes c 0) (proposes_zero_alone c)
-      (selected_size c s.local) s.class c h (size_in_range c.parameters.size s.local h.parameters.size)
+  by_request c false false h = search (arith, by_selection, size_in_range c.parameters.size s.local h.parameters.size)
 
   -- ---- a unit of a connection
 
   by_unknown : (unit : Value) → Fine (put_unknown unit) (to_unknown unit s)
-  by_unknown (disconnect destination source reason user) = ((tt, tt), p)
-  by_unknown (disconnected destination source) = (tt, p)
-  by_unknown unit = (tt, tt)
+  by_unknown unit = grind arith
 
   by_opens : (r : ℕ) (c : Connect) (class : Option Class) → Fine [] (opens r c class s)
-  by_opens r c None = (tt, tt)
-  by_opens r c (Some class) = (
-    tt,
-    row_put IsNumberedRow r (linked c.source (opened_link class (agreed_size c.parameters.size s.local) s.local c.credit)) s.live p
-        (link_opens class (agreed_size c.parameters.size s.local) s.local c.credit),
-  )
+  by_opens r c class = grind (arith, row_put, link_opens)
 
   by_asked : (r : ℕ) (unit : Value) → Fine [] (to_asked r unit s)
-  by_asked r (confirm destination c) = by_opens r c (confirmed c s.local s.class)
-  by_asked r (disconnect destination source reason user) = (tt, row_without IsNumberedRow r s.live p)
-  by_asked r (error destination cause) = (tt, row_without IsNumberedRow r s.live p)
-  by_asked r (disconnected destination source) = (tt, p)
-  by_asked r unit = (tt, tt)
+  by_asked r unit = grind (arith, by_opens, row_without)
 
   by_breaks : (r peer : ℕ) (fault : LinkFault) (held : Option Class) →
       Fine (put_taking r peer (Err fault) held) (breaks_in r peer fault held s)
-  by_breaks r peer fault None = (tt, tt)
-  by_breaks r peer fault (Some Zero) = (tt, tt)
-  by_breaks r peer fault (Some Two) = ((tt, tt), row_put IsNumberedRow r (closing peer) s.live p tt)
+  by_breaks r peer fault held = grind (arith, row_put)
 
   pumps_so : (r peer : ℕ) (link : Standing) → IsNumbered link.flow → Fine (written_by peer link) (pumps r peer link s)
-  pumps_so r peer link numbered =
-      let all = gives_written peer link numbered in
-      (all.0, row_put IsNumberedRow r (linked peer (pumped link)) s.live p all.1)
+  pumps_so r peer link numbered = grind (arith, row_put, gives_written peer link numbered)
 
   by_taking : (r peer : ℕ) (link : Standing) (unit : Value) (result : Result Standing LinkFault) → IsNumbered link.flow →
       taken link unit ≡ result → Fine (put_taking r peer result s.class) (taking r peer result s)
@@ -123,9 +103,7 @@ module _ (s : State) (p : AreNumbered s.live) where
   by_taking r peer link unit (Err fault) numbered e = by_breaks r peer fault s.class
 
   by_leaves : (r peer reason : ℕ) (held : Option Class) → Fine (put_leaving r peer held) (leaves r peer reason held s)
-  by_leaves r peer reason None = (tt, tt)
-  by_leaves r peer reason (Some Zero) = (tt, tt)
-  by_leaves r peer reason (Some Two) = ((tt, tt), row_without IsNumberedRow r s.live p)
+  by_leaves r peer reason held = grind (arith, row_without)
 
   by_linked : (r peer : ℕ) (link : Standing) (unit : Value) → IsNumbered link.flow →
       Fine (put_linked r peer link unit s.class) (to_linked r peer link unit s)
@@ -133,9 +111,7 @@ module _ (s : State) (p : AreNumbered s.live) where
   by_linked r peer link unit numbered = by_taking r peer link unit (taken link unit) numbered refl
 
   by_closing : (r : ℕ) (unit : Value) → Fine [] (to_closing r unit s)
-  by_closing r (disconnected destination source) = (tt, row_without IsNumberedRow r s.live p)
-  by_closing r (disconnect destination source reason user) = (tt, row_without IsNumberedRow r s.live p)
-  by_closing r unit = (tt, p)
+  by_closing r unit = grind (arith, row_without)
 
   by_connection : (r : ℕ) (at : Option Connection) (unit : Value) → ((x : Connection) → at ≡ Some x → IsNumberedRow x) →
       Fine (put_at r at unit s.class) (to_connection r at unit s)
@@ -196,9 +172,7 @@ module _ (s : State) (p : AreNumbered s.live) where
   sent_fine r tsdu false (Some (closing peer)) here = (tt, p)
 
   closes_fine : (r peer reason : ℕ) (held : Option Class) → Fine (put_closed r reason peer held) (closes_in r peer reason held s)
-  closes_fine r peer reason None = ((tt, tt), row_put IsNumberedRow r (closing peer) s.live p tt)
-  closes_fine r peer reason (Some Zero) = (tt, tt)
-  closes_fine r peer reason (Some Two) = ((tt, tt), row_put IsNumberedRow r (closing peer) s.live p tt)
+  closes_fine r peer reason held = grind (arith, row_put)
 
   closed_by : (r reason : ℕ) (o : Option (ℕ × Standing)) → Fine (put_closing r reason o s.class) (closed_on r reason o s)
   closed_by r reason None = (tt, p)
@@ -214,14 +188,10 @@ module _ (s : State) (p : AreNumbered s.live) where
   pub asks_fine : (calling called : Option Tsap) →
       Fine (put_by (connects (option_map tsap_octets calling) (option_map tsap_octets called)) s)
       (user_does (connects (option_map tsap_octets calling) (option_map tsap_octets called)) s)
-  asks_fine calling called = (
-    (cr_by (proposes_two s.local) s.local s.class calling called (s.given + 1), tt),
-    row_more IsNumberedRow (s.given + 1) asked s.live p tt,
-  )
+  asks_fine calling called = grind (arith, cr_by, row_more)
 
   pub over_fine : (reason : EndReason) (over : Bool) → Fine [] (if over then s else ends reason s)
-  over_fine reason true = (tt, p)
-  over_fine reason false = (tt, tt)
+  over_fine reason over = grind arith
 
 pub all_more : (some others : List Value) → AllByRecursion CanBeWritten some → AllByRecursion CanBeWritten others →
     AllByRecursion CanBeWritten (some ++ others)

@@ -1,14 +1,15 @@
 -- As long as no break was told as the first, both sides are judged and every connection is, or nobody is judged any more; and a
 -- unit leaves that so, unless it is a break.
 -- For the first break of transport.
-use Rattle.osi_watched.proofs.Vocabulary.{ap, Bool, false, if◌then◌else◌, inl, inr, is_some, None, Option, refl, Some, subst, sym, true, ℕ}
-use Rattle.osi_watched.proofs.Vocabulary.{◌∙◌, ◌≡◌, ◌⊎◌, position, slice_get, ◌||◌, confirm, Connect, request, Value, Class, stops_are_said}
-use Rattle.osi_watched.proofs.Vocabulary.{stops_last, is_applied, reach_of, first_failed, is_live, is_named, asks_by, asks_of, at_found}
-use Rattle.osi_watched.proofs.Vocabulary.{at_place, class_for, course_after, course_after_none, found_on, is_stopped, none_told, one_told}
-use Rattle.osi_watched.proofs.Vocabulary.{Outcome, request_tests, route, routed, Traffic as State, takes, unnamed, unnamed_told, Connection}
-use Rattle.osi_watched.proofs.Vocabulary.{Rules as Judging, Way as Direction, Finding, Broke, Kept, NotJudged, Outside, TooMany, Reach}
-use Rattle.osi_watched.proofs.Vocabulary.{Told, Route, Asks, Named, Only, Unnamed, Direction as Side, taken, cause_of, changes, earlier}
-use Rattle.osi_watched.proofs.Vocabulary.{first_by, first_marked, first_of, halts, is_break, kind_of, marked, marks_of, moment_of, moved}
+use Rattle.std.proofs.Common.{arith}
+use Rattle.osi_watched.proofs.Vocabulary.{ap, Bool, false, if◌then◌else◌, is_some, None, Option, refl, Some, true, ℕ}
+use Rattle.osi_watched.proofs.Vocabulary.{◌∙◌, ◌≡◌, ◌⊎◌, ◌||◌, Connect, Value, Class, stops_are_said}
+use Rattle.osi_watched.proofs.Vocabulary.{stops_last, reach_of, asks_by, asks_of, at_found}
+use Rattle.osi_watched.proofs.Vocabulary.{at_place, class_for, course_after, course_after_none, is_stopped, none_told, one_told}
+use Rattle.osi_watched.proofs.Vocabulary.{Outcome, route, routed, Traffic as State, takes, unnamed_told, Connection}
+use Rattle.osi_watched.proofs.Vocabulary.{Rules as Judging, Way as Direction, Finding, Broke, NotJudged, Outside, TooMany, Reach}
+use Rattle.osi_watched.proofs.Vocabulary.{Told, Route, Direction as Side, taken, cause_of, changes, earlier}
+use Rattle.osi_watched.proofs.Vocabulary.{first_by, first_marked, first_of, is_break, kind_of, marked, marks_of, moment_of, moved}
 use Rattle.osi_watched.proofs.Vocabulary.{noted_by, number_at, reached, unit_passes, unread, unread_mark, unread_moment, way_of, Cause}
 use Rattle.osi_watched.proofs.Vocabulary.{First, Mark, Marks}
 use Rattle.osi_judge.specs.declared.directions.Direction.TheVariants as side
@@ -32,62 +33,42 @@ IsMeant s o = Means o.told.finding o.told.reach o.state.course.loose s.course.lo
 
 reaches : (f : Finding) (d : Direction) (class : Option Class) (between : Judging) (old : Bool) → between.loose ≡ old →
     Means f (reach_of class f) (traffic.reached d (reach_of class f) between).loose old
-reaches TooMany d class between old same = refl
-reaches (Broke rule) d class between old same = tt
-reaches Outside d class between old same = tt
-reaches _ d class between old same = (refl, same)
+reaches f d class between old same = grind arith
 
 keeps_loose : (d : Direction) (c : Connection) (v : Value) (applied : Bool) (course : Judging) →
     (course_after d c v applied course).loose ≡ course.loose
-keeps_loose d c (request r) applied course = refl
-keeps_loose d c (confirm destination r) true course = refl
-keeps_loose d c (confirm destination r) false course = refl
-keeps_loose d c _ applied course = refl
+keeps_loose d c v applied course = grind arith
 
 none_loose : (v : Value) (course : Judging) → (course_after_none v course).loose ≡ course.loose
-none_loose (request r) course = refl
-none_loose _ course = refl
+none_loose v course = grind arith
 
 to_none : (d : Direction) (f : Finding) (s : State) → IsMeant s (none_told d f s)
 to_none d f s = reaches f d (class_for d s.course) s.course s.course.loose refl
 
 to_unnamed : (d : Direction) (v : Value) (s : State) → IsMeant s (unnamed_told d v s)
-to_unnamed d v s =
-    let c = course_after_none v s.course in
-    reaches (unnamed d s.course v) d (class_for d c) c s.course.loose (none_loose v s.course)
+to_unnamed d v s = grind (arith, reaches, none_loose)
 
 to_one : (d : Direction) (place : ℕ) (c : Connection) (v : Value) (s : State) → IsMeant s (one_told d place c v s)
-to_one d place c v s =
-    let f = found_on d s c v in
-    reaches f d (class_for d s.course) (course_after d c v (is_applied f) s.course) s.course.loose
-    (keeps_loose d c v (is_applied f) s.course)
+to_one d place c v s = grind (arith, reaches, keeps_loose)
 
 at_one : (d : Direction) (v : Value) (s : State) (place : ℕ) (c : Option Connection) → IsMeant s (at_found d v s place c)
-at_one d v s place None = to_unnamed d v s
-at_one d v s place (Some c) = to_one d place c v s
+at_one d v s place c = search (arith, to_unnamed, to_one)
 
 at_any : (d : Direction) (v : Value) (s : State) (place : Option ℕ) → IsMeant s (at_place d v s place)
-at_any d v s None = to_unnamed d v s
-at_any d v s (Some place) = at_one d v s place (slice_get s.connections place)
+at_any d v s place = grind (arith, to_unnamed, at_one)
 
 asking : (d : Direction) (f : Finding) (c : Connect) (s : State) → IsMeant s (asks_by d f c s)
-asking d Kept c s = (refl, refl)
-asking d v c s = to_none d v s
+asking d f c s = grind (arith, to_none)
 
 asks : (d : Direction) (v : Value) (s : State) → IsMeant s (asks_of d v s)
-asks d (request c) s = asking d (first_failed (request_tests s c)) c s
-asks d v s = to_none d NotJudged s
+asks d v s = grind (arith, asking, to_none)
 
 by_route : (d : Direction) (v : Value) (s : State) (r : Route) → IsMeant s (routed d v s r)
-by_route d v s Asks = asks d v s
-by_route d v s (Named reference) = at_any d v s (position (is_named d reference) s.connections)
-by_route d v s Only = at_any d v s (position (is_live d) s.connections)
-by_route d v s (Unnamed finding) = to_none d finding s
+by_route d v s r = grind (arith, asks, at_any, to_none)
 
 if_judged : (b : Bool) (d : Direction) (v : Value) (s : State) (r : Route) →
     IsMeant s (if b then none_told d NotJudged s else routed d v s r)
-if_judged true d v s r = to_none d NotJudged s
-if_judged false d v s r = by_route d v s r
+if_judged b d v s r = grind (arith, to_none, by_route)
 
 takes_means : (d : Direction) (v : Value) (s : State) → IsMeant s (takes d v s)
 takes_means d v s = if_judged (is_stopped d s.course) d v s (route d s.course v)
@@ -115,33 +96,25 @@ pub record IsCalm (c : Course) : Type 0 where
   pub how : IsJudged c ⊎ IsOver c
 
 changes_first : (d : Side) (f : Marks → Marks) (c : Course) → (changes d f c).first ≡ c.first
-changes_first side.Left f c = refl
-changes_first side.Right f c = refl
+changes_first d f c = grind arith
 
 reached_first : (m : Mark) (r : Reach) (c : Course) → (reached m r c).first ≡ c.first
-reached_first m reach.Nothing c = refl
-reached_first m reach.Connection c = refl
-reached_first m reach.Side c = changes_first m.direction (halts m) c
-reached_first m reach.Everything c = refl
+reached_first m r c = grind (arith, changes_first)
 
 pub marked_first : (m : Mark) (r : Reach) (c : Course) → (marked m r c).first ≡ first_by m c.first
-marked_first m r c =
-    reached_first m r (changes m.direction (breaks m) (first_marked m c)) ∙ changes_first m.direction (breaks m) (first_marked m c)
+marked_first m r c = grind (arith, reached_first, changes_first)
 
 -- a break is the first, if none was before it
 pub breaks_first : (m : Mark) (r : Reach) (c : Course) → is_break m.cause ≡ true → c.first ≡ None → (marked m r c).first ≡ Some (first_of m)
-breaks_first m r c broke none =
-    marked_first m r c ∙ ap (first_by m) none ∙ ap (λ (b : Bool). if b then Some (first_of m) else None) broke
+breaks_first m r c broke none = grind (arith, marked_first)
 
 -- ---- one connection too many: nobody is judged after it
 
 some_earlier : (o : Option Mark) (m : Mark) → is_some (earlier o m) ≡ true
-some_earlier None m = refl
-some_earlier (Some k) m = refl
+some_earlier o m = grind arith
 
 pub changes_traffic : (d : Side) (f : Marks → Marks) (c : Course) → (changes d f c).traffic ≡ c.traffic
-changes_traffic side.Left f c = refl
-changes_traffic side.Right f c = refl
+changes_traffic d f c = grind arith
 
 -- ---- a unit
 
@@ -164,41 +137,18 @@ module _ (d : Side) (at : ℕ) (v : Value) (c : Course) where
   says_so r is e = says e ∙ ap (λ (x : Reach). traffic.stops_by (way_of d) x e || is_stopped e c.traffic.course) is
 
   by_nothing : o.told.reach ≡ reach.Nothing → o.state.course.loose ≡ c.traffic.course.loose → IsCalm c → IsCalm mid
-  by_nothing is same calm = record { none = calm.none; how = by calm.how }
-    where
-      by : IsJudged c ⊎ IsOver c → IsJudged mid ⊎ IsOver mid
-      by (inl j) = inl (record {
-        left = says_so reach.Nothing is Left ∙ j.left;
-        right = says_so reach.Nothing is Right ∙ j.right;
-        firm = same ∙ j.firm;
-        left_goes = j.left_goes;
-        right_goes = j.right_goes;
-      })
-      by (inr w) = inr (record {
-        left = says_so reach.Nothing is Left ∙ w.left;
-        right = says_so reach.Nothing is Right ∙ w.right;
-        left_halts = w.left_halts;
-        right_halts = w.right_halts;
-      })
+  by_nothing is same calm = grind (arith, says_so reach.Nothing is Left, says_so reach.Nothing is Right)
 
   by_everything : o.told.reach ≡ reach.Everything → IsCalm c → IsCalm (marked (mark cause.TooMany) o.told.reach mid)
   by_everything is calm =
-      subst (λ (r : Reach). IsCalm (marked (mark cause.TooMany) r mid)) (sym is)
-      (record {
-        none = marked_first (mark cause.TooMany) reach.Everything mid ∙ ap (first_by (mark cause.TooMany)) calm.none;
-        how = inr (record {
-          left = ap (λ (t : State). t.course.left_stopped)
-              (changes_traffic d (breaks (mark cause.TooMany)) (first_marked (mark cause.TooMany) mid))
-              ∙ says_so reach.Everything is Left;
-          right = ap (λ (t : State). t.course.right_stopped)
-              (changes_traffic d (breaks (mark cause.TooMany)) (first_marked (mark cause.TooMany) mid))
-              ∙ says_so reach.Everything is Right;
-          left_halts = some_earlier (changes d (breaks (mark cause.TooMany)) (first_marked (mark cause.TooMany) mid)).left.halted
-              (mark cause.TooMany);
-          right_halts = some_earlier (changes d (breaks (mark cause.TooMany)) (first_marked (mark cause.TooMany) mid)).right.halted
-              (mark cause.TooMany);
-        });
-      })
+      grind (
+        arith,
+        some_earlier,
+        marked_first (mark cause.TooMany) reach.Everything mid,
+        changes_traffic d (breaks (mark cause.TooMany)) (first_marked (mark cause.TooMany) mid),
+        says_so reach.Everything is Left,
+        says_so reach.Everything is Right,
+      )
 
   -- it leaves nobody who broke a rule first, or its side did
   abbrev pub Leaves : Finding → Course → Type 0
@@ -209,8 +159,7 @@ module _ (d : Side) (at : ℕ) (v : Value) (c : Course) where
   by_finding : (f : Finding) → Means f o.told.reach o.state.course.loose c.traffic.course.loose → IsCalm c →
       Leaves f (noted_by d at v o.told (cause_of f) mid)
   by_finding TooMany means calm = by_everything means calm
-  by_finding (Broke rule) means calm =
-      (first_of (mark (cause.Broke rule)), breaks_first (mark (cause.Broke rule)) o.told.reach mid refl calm.none, refl)
+  by_finding (Broke rule) means calm = grind (arith, breaks_first (mark (cause.Broke rule)) o.told.reach mid refl calm.none)
   by_finding Outside means calm = (first_of (mark cause.Outside), breaks_first (mark cause.Outside) o.told.reach mid refl calm.none, refl)
   by_finding _ means calm = by_nothing means.0 means.1 calm
 
@@ -221,26 +170,11 @@ module _ (d : Side) (at : ℕ) (v : Value) (c : Course) where
 
 -- what passes of either side after the end of all judging is no break
 stopped_so : (d : Side) (c : Course) → IsOver c → is_stopped (way_of d) c.traffic.course ≡ true
-stopped_so side.Left c over = over.left
-stopped_so side.Right c over = over.right
+stopped_so d c over = grind arith
 
 pub unit_over : (d : Side) (at : ℕ) (v : Value) (c : Course) → c.first ≡ None → IsOver c →
     ((unit_passes d at v c).first ≡ None) × IsOver (unit_passes d at v c)
-unit_over d at v c none over =
-    let told = stops_last (way_of d) v c.traffic (stopped_so d c over) in
-    subst (λ (x : Outcome). ((noted_by d at v x.told (cause_of x.told.finding)
-    (moved (moment_of d at v x.told (taken d at v x.told.meaning x.told.place c.sessions)) (record c { traffic = x.state }))).first ≡ None)
-    × IsOver (noted_by d at v x.told (cause_of x.told.finding)
-    (moved (moment_of d at v x.told (taken d at v x.told.meaning x.told.place c.sessions)) (record c { traffic = x.state }))))
-    (sym told) (
-      none,
-      record {
-        left = over.left;
-        right = over.right;
-        left_halts = over.left_halts;
-        right_halts = over.right_halts;
-      },
-    )
+unit_over d at v c none over = grind (arith, stops_last, stopped_so)
 
 -- the first break stays the first
 kept_first : (m : Mark) (r : Reach) (c : Course) (f : First) → c.first ≡ Some f → (marked m r c).first ≡ Some f
@@ -248,73 +182,38 @@ kept_first m r c f is = marked_first m r c ∙ ap (first_by m) is
 
 noted_first : (d : Side) (at : ℕ) (v : Value) (told : Told) (k : Option Cause) (c : Course) (f : First) → c.first ≡ Some f →
     (noted_by d at v told k c).first ≡ Some f
-noted_first d at v told None c f is = is
-noted_first d at v told (Some k) c f is = kept_first _ told.reach c f is
+noted_first d at v told k c f is = grind (arith, kept_first)
 
 pub unit_first : (d : Side) (at : ℕ) (v : Value) (c : Course) (f : First) → c.first ≡ Some f → (unit_passes d at v c).first ≡ Some f
-unit_first d at v c f is =
-    let told = (takes (way_of d) v c.traffic).told in
-    noted_first d at v told (cause_of told.finding) _ f is
+unit_first d at v c f is = search (arith, noted_first)
 
 -- ---- a packet begins, and what can't be read
 
 pub begins_calm : (d : Side) (c : Course) → IsCalm c → IsCalm (packet_begins d c)
-begins_calm d c calm = record { none = calm.none; how = by d calm.how }
-  where
-    by : (e : Side) → IsJudged c ⊎ IsOver c → IsJudged (packet_begins e c) ⊎ IsOver (packet_begins e c)
-    by side.Left (inl j) = inl (record {
-      left = j.left;
-      right = j.right;
-      firm = j.firm;
-      left_goes = j.left_goes;
-      right_goes = j.right_goes;
-    })
-    by side.Right (inl j) = inl (record {
-      left = j.left;
-      right = j.right;
-      firm = j.firm;
-      left_goes = j.left_goes;
-      right_goes = j.right_goes;
-    })
-    by side.Left (inr w) = inr (record {
-      left = w.left;
-      right = w.right;
-      left_halts = w.left_halts;
-      right_halts = w.right_halts;
-    })
-    by side.Right (inr w) = inr (record {
-      left = w.left;
-      right = w.right;
-      left_halts = w.left_halts;
-      right_halts = w.right_halts;
-    })
+begins_calm d c calm = grind arith
 
 pub begins_over : (d : Side) (c : Course) → IsOver c → IsOver (packet_begins d c)
-begins_over side.Left c w = record { left = w.left; right = w.right; left_halts = w.left_halts; right_halts = w.right_halts }
-begins_over side.Right c w = record { left = w.left; right = w.right; left_halts = w.left_halts; right_halts = w.right_halts }
+begins_over d c w = grind arith
 
 abbrev unread_if : Bool → Side → (at : ℕ) → Cause → Course → Course
 unread_if b d at k c = if b then c else marked (unread_mark d at k) (traffic.refused_reach (way_of d) c.traffic)
     (moved (unread_moment d at k c.sessions) (record c { traffic = traffic.refused (way_of d) c.traffic }))
 
 first_if : (b : Bool) (d : Side) (at : ℕ) (k : Cause) (c : Course) (f : First) → c.first ≡ Some f → (unread_if b d at k c).first ≡ Some f
-first_if true d at k c f is = is
-first_if false d at k c f is = kept_first (unread_mark d at k) (traffic.refused_reach (way_of d) c.traffic) _ f is
+first_if b d at k c f is = grind (arith, kept_first)
 
 pub unread_first : (d : Side) (at : ℕ) (k : Cause) (c : Course) (f : First) → c.first ≡ Some f → (unread d at k c).first ≡ Some f
 unread_first d at k c f is = first_if (is_some (marks_of d c).halted) d at k c f is
 
 halted_so : (d : Side) (c : Course) → IsOver c → is_some (marks_of d c).halted ≡ true
-halted_so side.Left c over = over.left_halts
-halted_so side.Right c over = over.right_halts
+halted_so d c over = grind arith
 
 -- after the end of all judging it changes nothing
 pub unread_over : (d : Side) (at : ℕ) (k : Cause) (c : Course) → IsOver c → unread d at k c ≡ c
 unread_over d at k c over = ap (λ (b : Bool). unread_if b d at k c) (halted_so d c over)
 
 goes_so : (d : Side) (c : Course) → IsJudged c → is_some (marks_of d c).halted ≡ false
-goes_so side.Left c j = ap is_some j.left_goes
-goes_so side.Right c j = ap is_some j.right_goes
+goes_so d c j = grind arith
 
 -- before that it is the first break
 pub unread_breaks : (d : Side) (at : ℕ) (k : Cause) (c : Course) → is_break k ≡ true → c.first ≡ None → IsJudged c →

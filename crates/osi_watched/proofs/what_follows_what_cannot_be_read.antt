@@ -1,5 +1,6 @@
 -- What follows what the other side sends and nobody can read is steps too: of the end and of the tap, which reads of that side what it can.
 -- For the law that a capture of an end is steps.
+use Rattle.std.proofs.Common.{arith}
 use Rattle.osi_watched.proofs.Vocabulary.{[], ap, append_assoc, Bool, false, if◌then◌else◌, inl, inr, List, None}
 use Rattle.osi_watched.proofs.Vocabulary.{refl, Result, subst, sym, true, ℕ, ◌++◌, ◌<◌, ◌∙◌, ◌∷◌, ◌≡◌, ◌≢◌, ◌⊎◌, append-nil}
 use Rattle.osi_watched.proofs.Vocabulary.{AllByRecursion, octets_nil, octets_right, IsOctets, packet_of, ArePackets, units_of}
@@ -49,50 +50,19 @@ later_first d capture s step j mid one none c = record {
 
 spent_passes : (d : Direction) (x : ℕ) (s : State) → (stream_of d s).spent ≡ true →
     octet_passes (of d x) s ≡ with_stream d (counted 1 (stream_of d s)) s
-spent_passes d x s spent =
-    ap (λ (b : Bool). if b then with_stream d (counted 1 (stream_of d s)) s
-    else looks d (gathered (x ∷ []) (stream_of d s)) (begun d (stream_of d s).held s)) spent
+spent_passes d x s spent = grind (arith, looks)
 
 -- a stream of which nothing more is read stays so
 left_stays : (t : Streamed) (f : Front) (held : List ℕ) (s : State) → s.left.spent ≡ true →
     (looked_at Right t f (begun Right held s)).left.spent ≡ true
-left_stays t partial [] s h = h
-left_stays t (faulty fault) [] s h = h
-left_stays t (whole unit) [] s h = h
-left_stays t partial (o ∷ held) s h = h
-left_stays t (faulty fault) (o ∷ held) s h = h
-left_stays t (whole unit) (o ∷ held) s h = h
+left_stays t f held s h = grind arith
 
 right_stays : (t : Streamed) (f : Front) (held : List ℕ) (s : State) → s.right.spent ≡ true →
     (looked_at Left t f (begun Left held s)).right.spent ≡ true
-right_stays t partial [] s h = h
-right_stays t (faulty fault) [] s h = h
-right_stays t (whole unit) [] s h = h
-right_stays t partial (o ∷ held) s h = h
-right_stays t (faulty fault) (o ∷ held) s h = h
-right_stays t (whole unit) (o ∷ held) s h = h
+right_stays t f held s h = grind arith
 
 pub spent_stays : (e : Direction) (o : Passed) (s : State) → (stream_of e s).spent ≡ true → (stream_of e (octet_passes o s)).spent ≡ true
-spent_stays Left (of Left x) s h = ap (λ (s2 : State). s2.left.spent) (spent_passes Left x s h) ∙ h
-spent_stays Right (of Right x) s h = ap (λ (s2 : State). s2.right.spent) (spent_passes Right x s h) ∙ h
-spent_stays Left (of Right x) s h = by s.right.spent
-  where
-    t : Streamed
-    t = gathered (x ∷ []) s.right
-
-    by : (b : Bool) → (if b then with_stream Right (counted 1 s.right) s
-        else looked_at Right t (front_of t.held) (begun Right s.right.held s)).left.spent ≡ true
-    by true = h
-    by false = left_stays t (front_of t.held) s.right.held s h
-spent_stays Right (of Left x) s h = by s.left.spent
-  where
-    t : Streamed
-    t = gathered (x ∷ []) s.left
-
-    by : (b : Bool) → (if b then with_stream Left (counted 1 s.left) s
-        else looked_at Left t (front_of t.held) (begun Left s.left.held s)).right.spent ≡ true
-    by true = h
-    by false = right_stays t (front_of t.held) s.left.held s h
+spent_stays e o s h = grind (arith, spent_passes, left_stays, right_stays)
 
 abbrev pub later_octet : (d : Direction) (o : Passed) (capture : Capture) (s : State) (j : Joint) →
     LaterComes d capture (octet_passes o s) j →
@@ -132,18 +102,12 @@ pub record StandsLater (d : Direction) (s : State) (j : Joint) (still ahead : Li
 own_moved : (d : Direction) (g : Streamed) (s : State) (c : Course) (j : Joint) (still ahead : List ℕ) → c ≡ j.course → g.spent ≡ false →
     OwnStands g.held still j.put j.begun → IsHalted (other d) j.course → OtherReads (stream_of (other d) s) ahead j.holding j.coming →
     StandsLater d (with_stream d g (record s { course = c })) j still ahead
-own_moved Left g s c j still ahead course own_reads own halted others =
-    record { course = course; own_reads = own_reads; own = own; halted = halted; others = others }
-own_moved Right g s c j still ahead course own_reads own halted others =
-    record { course = course; own_reads = own_reads; own = own; halted = halted; others = others }
+own_moved d g s c j still ahead course own_reads own halted others = grind arith
 
 pub other_moved : (d : Direction) (g : Streamed) (s : State) (c : Course) (j : Joint) (still ahead : List ℕ) → c ≡ j.course →
     (stream_of d s).spent ≡ false → OwnStands (stream_of d s).held still j.put j.begun → IsHalted (other d) j.course →
     OtherReads g ahead j.holding j.coming → StandsLater d (with_stream (other d) g (record s { course = c })) j still ahead
-other_moved Left g s c j still ahead course own_reads own halted others =
-    record { course = course; own_reads = own_reads; own = own; halted = halted; others = others }
-other_moved Right g s c j still ahead course own_reads own halted others =
-    record { course = course; own_reads = own_reads; own = own; halted = halted; others = others }
+other_moved d g s c j still ahead course own_reads own halted others = grind arith
 
 -- ---- an octet of the end
 
@@ -273,8 +237,7 @@ module _ (d : Direction) (x : ℕ) (capture : Capture) (s : State) (j : Joint) (
 
     cut_now : j.holding.end.carrier.ended ≡ None →
         ArePackets j.coming (j.holding.held.octets ++ (ahead ++ x ∷ [])) (other_held ++ x ∷ [])
-    cut_now lasts = more_passed j.coming (other_held ++ x ∷ [])
-        (packets_on j.coming (j.holding.held.octets ++ ahead) other_held (x ∷ []) (os.cut lasts))
+    cut_now lasts = grind (arith, more_passed, packets_on)
 
     other_goes_on : front_of (other_held ++ x ∷ []) ≡ partial → LaterComes d (of (other d) x ∷ capture) s other_joint
     other_goes_on part =
@@ -343,8 +306,7 @@ module _ (d : Direction) (x : ℕ) (capture : Capture) (s : State) (j : Joint) (
         by (whole u) is = other_ends u is
 
   other_octet : OtherReads (stream_of (other d) s) ahead j.holding j.coming → LaterComes d (of (other d) x ∷ capture) s j
-  other_octet (inl (reads, os)) = reads_octet reads os
-  other_octet (inr (spent, rest, e)) = spent_octet spent rest e
+  other_octet h = grind (arith, reads_octet, spent_octet)
 
 -- ---- a turn
 

@@ -1,10 +1,11 @@
 -- In class 0 a break of the other side changes nothing that is judged of an end but that the other side is not judged any more. So a tap
 -- judges what the end sends after it as if the break had not come. For the sessions of an end after such a break.
-use Rattle.std.proofs.Common.{◌≡◌, ◌∙◌, refl, sym, ap, subst, ℕ, Bool, true, false, if◌then◌else◌, Option, Some, None}
-use Rattle.std.specs.Prelude.{position, slice_get, slice_set}
-use Rattle.osi_tpdu.specs.Value.{Connect, Value, acknowledge, confirm, data0, data2, disconnect, disconnected, error, request}
+use Rattle.std.proofs.Common.{arith}
+use Rattle.std.proofs.Common.{◌≡◌, ◌∙◌, refl, ap, ℕ, Bool, true, false, if◌then◌else◌, Option, Some}
+use Rattle.std.specs.Prelude.{slice_get, slice_set}
+use Rattle.osi_tpdu.specs.Value.{Connect, Value, data0, disconnected, error}
 use Rattle.osi_class.specs.declared.terms.Class.{Class}
-use Rattle.osi_class.specs.declared.terms.Class.TheVariants.{Two, Zero}
+use Rattle.osi_class.specs.declared.terms.Class.TheVariants.{Zero}
 use Rattle.osi_judge.specs.Captures.{other}
 use Rattle.osi_judge.specs.declared.directions.Direction.{Direction}
 use Rattle.osi_judge.specs.declared.directions.Direction.TheVariants.{Left, Right}
@@ -18,20 +19,15 @@ use Rattle.osi_rules.specs.declared.findings.Reach.{Reach}
 use Rattle.osi_rules.specs.declared.findings.Reach.TheVariants as reach
 use Rattle.osi_rules.specs.declared.findings.Rule.TheVariants as rule
 use Rattle.osi_rules.specs.declared.routes.Route.{Route}
-use Rattle.osi_rules.specs.declared.routes.Route.TheVariants.{Asks, Named, Only, Unnamed}
 use Rattle.osi_rules.specs.Reaches.{is_applied, reach_by, reach_of}
-use Rattle.osi_rules.specs.Rows.{first_failed}
 use Rattle.osi_rules.specs.Sides as sides
-use Rattle.osi_rules.specs.Sides.{is_live, is_named}
 use Rattle.osi_rules.specs.Traffic as traffic
 use Rattle.osi_rules.specs.Traffic.{Outcome, State, asks_by, asks_of, at_found, at_place, class_for, connection_after, course_after}
 use Rattle.osi_rules.specs.Traffic.{course_after_none, found_on, has_broken, in_doubt, is_report, is_stopped, none_told, noted, one_told}
-use Rattle.osi_rules.specs.Traffic.{reached, request_tests, route, route_in, routed, stops, takes, unnamed, unnamed_by, unnamed_told}
-use Rattle.osi_rules.specs.Traffic.{uses_source}
+use Rattle.osi_rules.specs.Traffic.{reached, route, route_in, routed, stops, takes, unnamed_by, unnamed_told}
 use Rattle.osi_rules.proofs.a_stop_is_said.{stops_last}
 use Rattle.osi_fair.proofs.while_no_class_is_selected.{set_same}
 use Rattle.osi_tap.specs.declared.marks.Cause.{Cause}
-use Rattle.osi_tap.specs.Connections.{all_begin, taken}
 use Rattle.osi_tap.specs.Courses.{Course, packet_begins, unit_passes, unread, way_of}
 use Rattle.osi_watched.proofs.a_break_ends_no_judging_or_all.{refused_traffic, refuses, unread_sessions}
 use Rattle.osi_watched.proofs.sessions.connections_have_the_same_places.{unit_joins, unit_knows}
@@ -59,27 +55,11 @@ halts_after d erred o = record { told = o.told; state = halts d erred o.state }
 
 reached_same : (d : Direction) (r : Reach) (erred : Bool) (c : Judging) →
     reached (way_of d) r (halting d erred c) ≡ halting d erred (reached (way_of d) r c)
-reached_same Left reach.Nothing erred c = refl
-reached_same Right reach.Nothing erred c = refl
-reached_same Left reach.Connection erred c = refl
-reached_same Right reach.Connection erred c = refl
-reached_same Left reach.Side erred c = refl
-reached_same Right reach.Side erred c = refl
-reached_same Left reach.Everything erred c = refl
-reached_same Right reach.Everything erred c = refl
+reached_same d r erred c = grind arith
 
 noted_same : (d : Direction) (f : Finding) (erred : Bool) (c : Judging) →
     noted (way_of d) f (halting d erred c) ≡ halting d erred (noted (way_of d) f c)
-noted_same Left Kept erred c = refl
-noted_same Left NotJudged erred c = refl
-noted_same Left Outside erred c = refl
-noted_same Left TooMany erred c = refl
-noted_same Left (Broke r) erred c = refl
-noted_same Right Kept erred c = refl
-noted_same Right NotJudged erred c = refl
-noted_same Right Outside erred c = refl
-noted_same Right TooMany erred c = refl
-noted_same Right (Broke r) erred c = refl
+noted_same d f erred c = grind arith
 
 -- how far a finding reaches, and that it is noted
 found_so_same : (d : Direction) (f : Finding) (r : Reach) (erred : Bool) (c : Judging) →
@@ -88,40 +68,15 @@ found_so_same d f r erred c = ap (noted (way_of d) f) (reached_same d r erred c)
 
 none_same : (d : Direction) (erred : Bool) (f : Finding) (s : State) →
     none_told (way_of d) f (halts d erred s) ≡ halts_after d erred (none_told (way_of d) f s)
-none_same Left erred f s = λ i. record {
-  told = (none_told (way_of Left) f s).told;
-  state = record s { course = found_so_same Left f (reach_of (class_for (way_of Left) s.course) f) erred s.course i };
-}
-none_same Right erred f s = λ i. record {
-  told = (none_told (way_of Right) f s).told;
-  state = record s { course = found_so_same Right f (reach_of (class_for (way_of Right) s.course) f) erred s.course i };
-}
+none_same d erred f s = grind (arith, found_so_same)
 
 after_none_same : (d : Direction) (erred : Bool) (v : Value) (c : Judging) →
     course_after_none v (halting d erred c) ≡ halting d erred (course_after_none v c)
-after_none_same Left erred (disconnect n source reason user) c = refl
-after_none_same Right erred (disconnect n source reason user) c = refl
-after_none_same d erred (request x) c = refl
-after_none_same d erred (confirm n x) c = refl
-after_none_same d erred (disconnected n source) c = refl
-after_none_same d erred (data0 end user) c = refl
-after_none_same d erred (data2 n number end user) c = refl
-after_none_same d erred (acknowledge credit n number) c = refl
-after_none_same d erred (error n cause) c = refl
+after_none_same d erred v c = grind arith
 
 after_same : (d : Direction) (erred : Bool) (c : Connection) (v : Value) (b : Bool) (k : Judging) →
     course_after (way_of d) c v b (halting d erred k) ≡ halting d erred (course_after (way_of d) c v b k)
-after_same Left erred c (disconnect n source reason user) b k = refl
-after_same Right erred c (disconnect n source reason user) b k = refl
-after_same Left erred c (confirm n x) true k = refl
-after_same Right erred c (confirm n x) true k = refl
-after_same d erred c (confirm n x) false k = refl
-after_same d erred c (request x) b k = refl
-after_same d erred c (disconnected n source) b k = refl
-after_same d erred c (data0 end user) b k = refl
-after_same d erred c (data2 n number end user) b k = refl
-after_same d erred c (acknowledge credit n number) b k = refl
-after_same d erred c (error n cause) b k = refl
+after_same d erred c v b k = grind arith
 
 -- an ER may answer a break of the other side
 abbrev IsEr : Value → Type 0
@@ -130,33 +85,7 @@ IsEr v = ⊥
 
 found_same : (d : Direction) (erred : Bool) (s : State) (c : Connection) (v : Value) → (IsEr v → ⊥) →
     found_on (way_of d) (halts d erred s) c v ≡ found_on (way_of d) s c v
-found_same d erred s c v plain = by c.is_judged
-  where
-    one : (d : Direction) (v : Value) → (IsEr v → ⊥) →
-        traffic.found (way_of d) (halts d erred s).course (uses_source (way_of d) s.connections v) c v
-        ≡ traffic.found (way_of d) s.course (uses_source (way_of d) s.connections v) c v
-    one Left (request x) plain = refl
-    one Left (confirm n x) plain = refl
-    one Left (disconnect n source reason user) plain = refl
-    one Left (disconnected n source) plain = refl
-    one Left (data0 end user) plain = refl
-    one Left (data2 n number end user) plain = refl
-    one Left (acknowledge credit n number) plain = refl
-    one Left (error n cause) plain = absurd (plain tt)
-    one Right (request x) plain = refl
-    one Right (confirm n x) plain = refl
-    one Right (disconnect n source reason user) plain = refl
-    one Right (disconnected n source) plain = refl
-    one Right (data0 end user) plain = refl
-    one Right (data2 n number end user) plain = refl
-    one Right (acknowledge credit n number) plain = refl
-    one Right (error n cause) plain = absurd (plain tt)
-
-    by : (b : Bool) →
-        (if b then traffic.found (way_of d) (halts d erred s).course (uses_source (way_of d) s.connections v) c v else NotJudged)
-        ≡ (if b then traffic.found (way_of d) s.course (uses_source (way_of d) s.connections v) c v else NotJudged)
-    by true = one d v plain
-    by false = refl
+found_same d erred s c v plain = grind arith
 
 -- what is told of a unit for a connection, by what is found of it and how far that reaches
 abbrev by_finding : Direction → (place : ℕ) → Connection → Value → State → Finding → Reach → Judging → Outcome
@@ -196,8 +125,7 @@ one_same d erred place c v s plain = by d
         ∙ last Right (found_on (way_of Right) s c v) (reach_of (class_for (way_of Right) s.course) (found_on (way_of Right) s c v))
 
 report_same : (v : Value) → (IsEr v → ⊥) → (a b : Bool) → is_report a v ≡ is_report b v
-report_same (error n cause) plain a b = absurd (plain tt)
-report_same v plain a b = refl
+report_same v plain a b = grind arith
 
 -- what is found of it, if it reports a break or not
 abbrev found_if : Judging → Value → (reports : Bool) → Finding
@@ -205,36 +133,15 @@ found_if c v reports = if reports then NotJudged else (if c.loose then in_doubt 
 
 unnamed_same : (d : Direction) (erred : Bool) (v : Value) (s : State) → (IsEr v → ⊥) →
     unnamed_told (way_of d) v (halts d erred s) ≡ halts_after d erred (unnamed_told (way_of d) v s)
-unnamed_same d erred v s plain = by d
-  where
-    told : (d : Direction) (f : Finding) →
-        none_told (way_of d) f (record s { course = course_after_none v (halts d erred s).course })
-        ≡ halts_after d erred (none_told (way_of d) f (record s { course = course_after_none v s.course }))
-    told d f =
-        ap (λ (k : Judging). none_told (way_of d) f (record s { course = k })) (after_none_same d erred v s.course)
-        ∙ none_same d erred f (record s { course = course_after_none v s.course })
-
-    by : (d : Direction) → unnamed_told (way_of d) v (halts d erred s) ≡ halts_after d erred (unnamed_told (way_of d) v s)
-    by Left =
-        ap (λ (x : Bool). none_told (way_of Left) (found_if s.course v x)
-        (record s { course = course_after_none v (halts Left erred s).course }))
-        (report_same v plain erred s.course.right_erred)
-        ∙ told Left (unnamed (way_of Left) s.course v)
-    by Right =
-        ap (λ (x : Bool). none_told (way_of Right) (found_if s.course v x)
-        (record s { course = course_after_none v (halts Right erred s).course }))
-        (report_same v plain erred s.course.left_erred)
-        ∙ told Right (unnamed (way_of Right) s.course v)
+unnamed_same d erred v s plain = grind (arith, after_none_same, none_same, report_same)
 
 at_found_same : (d : Direction) (erred : Bool) (v : Value) (s : State) (p : ℕ) (o : Option Connection) → (IsEr v → ⊥) →
     at_found (way_of d) v (halts d erred s) p o ≡ halts_after d erred (at_found (way_of d) v s p o)
-at_found_same d erred v s p None plain = unnamed_same d erred v s plain
-at_found_same d erred v s p (Some c) plain = one_same d erred p c v s plain
+at_found_same d erred v s p o plain = grind (arith, unnamed_same, one_same)
 
 at_place_same : (d : Direction) (erred : Bool) (v : Value) (s : State) (o : Option ℕ) → (IsEr v → ⊥) →
     at_place (way_of d) v (halts d erred s) o ≡ halts_after d erred (at_place (way_of d) v s o)
-at_place_same d erred v s None plain = unnamed_same d erred v s plain
-at_place_same d erred v s (Some p) plain = at_found_same d erred v s p (slice_get s.connections p) plain
+at_place_same d erred v s o plain = grind (arith, unnamed_same, at_found_same)
 
 asks_by_same : (d : Direction) (erred : Bool) (f : Finding) (x : Connect) (s : State) →
     asks_by (way_of d) f x (halts d erred s) ≡ halts_after d erred (asks_by (way_of d) f x s)
@@ -246,36 +153,17 @@ asks_by_same d erred (Broke r) x s = none_same d erred (Broke r) s
 
 asks_same : (d : Direction) (erred : Bool) (v : Value) (s : State) →
     asks_of (way_of d) v (halts d erred s) ≡ halts_after d erred (asks_of (way_of d) v s)
-asks_same Left erred (request x) s = asks_by_same Left erred (first_failed (request_tests s x)) x s
-asks_same Right erred (request x) s = asks_by_same Right erred (first_failed (request_tests s x)) x s
-asks_same d erred (confirm n x) s = none_same d erred NotJudged s
-asks_same d erred (disconnect n source reason user) s = none_same d erred NotJudged s
-asks_same d erred (disconnected n source) s = none_same d erred NotJudged s
-asks_same d erred (data0 end user) s = none_same d erred NotJudged s
-asks_same d erred (data2 n number end user) s = none_same d erred NotJudged s
-asks_same d erred (acknowledge credit n number) s = none_same d erred NotJudged s
-asks_same d erred (error n cause) s = none_same d erred NotJudged s
+asks_same d erred v s = grind (arith, asks_by_same, none_same)
 
 routed_same : (d : Direction) (erred : Bool) (v : Value) (s : State) (r : Route) → (IsEr v → ⊥) →
     routed (way_of d) v (halts d erred s) r ≡ halts_after d erred (routed (way_of d) v s r)
-routed_same d erred v s Asks plain = asks_same d erred v s
-routed_same d erred v s (Named n) plain = at_place_same d erred v s (position (is_named (way_of d) n) s.connections) plain
-routed_same d erred v s Only plain = at_place_same d erred v s (position (is_live (way_of d)) s.connections) plain
-routed_same d erred v s (Unnamed f) plain = none_same d erred f s
+routed_same d erred v s r plain = grind (arith, asks_same, at_place_same, none_same)
 
 -- ---- for which connection it is
 
 zero_route : (d : Direction) (v : Value) → (IsEr v → ⊥) → (a b : Bool) →
     traffic.route_zero (way_of d) a v ≡ traffic.route_zero (way_of d) b v
-zero_route d (error n cause) plain a b = absurd (plain tt)
-zero_route Left v plain true true = refl
-zero_route Left v plain true false = refl
-zero_route Left v plain false true = refl
-zero_route Left v plain false false = refl
-zero_route Right v plain true true = refl
-zero_route Right v plain true false = refl
-zero_route Right v plain false true = refl
-zero_route Right v plain false false = refl
+zero_route d v plain a b = grind arith
 
 module _ (d : Direction) (v : Value) (erred : Bool) (s : State) (goes : is_stopped (way_of d) s.course ≡ false) (plain : IsEr v → ⊥) where
   abbrev by_class : Option Class → Bool → Route
@@ -288,28 +176,15 @@ module _ (d : Direction) (v : Value) (erred : Bool) (s : State) (goes : is_stopp
   goes_there = ap (λ (b : Bool). if b then none_told (way_of d) NotJudged s else routed (way_of d) v s (route (way_of d) s.course v)) goes
 
   route_so : (k : Option Class) → by_class k true ≡ by_class k theirs
-  route_so None = refl
-  route_so (Some Two) = refl
-  route_so (Some Zero) = zero_route d v plain true theirs
+  route_so k = grind (arith, zero_route)
 
   halted_there : takes (way_of d) v (halts d erred s)
       ≡ routed (way_of d) v (halts d erred s) (by_class (class_for (way_of d) s.course) true)
-  halted_there = by d goes
-    where
-      by : (d : Direction) → is_stopped (way_of d) s.course ≡ false → takes (way_of d) v (halts d erred s)
-          ≡ routed (way_of d) v (halts d erred s) (route_in (class_for (way_of d) s.course) (way_of d) true v)
-      by Left h =
-          ap (λ (b : Bool). if b then none_told (way_of Left) NotJudged (halts Left erred s)
-          else routed (way_of Left) v (halts Left erred s) (route_in (class_for (way_of Left) s.course) (way_of Left) true v)) h
-      by Right h =
-          ap (λ (b : Bool). if b then none_told (way_of Right) NotJudged (halts Right erred s)
-          else routed (way_of Right) v (halts Right erred s) (route_in (class_for (way_of Right) s.course) (way_of Right) true v)) h
+  halted_there = grind arith
 
   -- it is found to be the same, and leaves the same
   pub own_same : takes (way_of d) v (halts d erred s) ≡ halts_after d erred (takes (way_of d) v s)
-  own_same =
-      halted_there ∙ ap (routed (way_of d) v (halts d erred s)) (route_so (class_for (way_of d) s.course))
-      ∙ routed_same d erred v s (by_class (class_for (way_of d) s.course) theirs) plain ∙ ap (halts_after d erred) (sym goes_there)
+  own_same = grind (arith, halted_there, route_so, routed_same, goes_there)
 
 -- ---- the break
 
@@ -328,81 +203,40 @@ IsThere (disconnected n source) = Unit {0}
 IsThere v = ⊥
 
 unnamed_halts : (e : Direction) (v : Value) (s : State) → IsThere v → Halts e s (unnamed_told (way_of e) v s)
-unnamed_halts e (data0 end user) s h unapplied side = none_halts e (unnamed (way_of e) s.course (data0 end user)) s unapplied side
-unnamed_halts e (disconnected n source) s h unapplied side =
-    none_halts e (unnamed (way_of e) s.course (disconnected n source)) s unapplied side
-unnamed_halts e v s h unapplied side = absurd h
+unnamed_halts e v s h unapplied side = grind (arith, none_halts)
 
 after_there : (e : Direction) (c : Connection) (v : Value) (b : Bool) (k : Judging) → IsThere v → course_after (way_of e) c v b k ≡ k
-after_there e c (data0 end user) b k h = refl
-after_there e c (disconnected n source) b k h = refl
-after_there e c v b k h = absurd h
+after_there e c v b k h = grind arith
 
 one_halts : (e : Direction) (p : ℕ) (c : Connection) (v : Value) (s : State) → slice_get s.connections p ≡ Some c → IsThere v →
     Halts e s (one_told (way_of e) p c v s)
-one_halts e p c v s there h unapplied side =
-    let f = found_on (way_of e) s c v in
-    let r = reach_of (class_for (way_of e) s.course) f in
-    λ i. record {
-      connections = (ap (λ (b : Bool). slice_set s.connections p (connection_after (way_of e) v b r c)) unapplied
-          ∙ ap (λ (x : Reach). slice_set s.connections p (connection_after (way_of e) v false x c)) side
-          ∙ set_same s.connections p c there) i;
-      course = (ap (λ (k : Judging). noted (way_of e) f (reached (way_of e) r k)) (after_there e c v (is_applied f) s.course h)
-          ∙ ap (λ (x : Reach). noted (way_of e) f (reached (way_of e) x s.course)) side) i;
-    }
+one_halts e p c v s there h unapplied side = grind (arith, set_same, after_there)
 
 found_halts : (e : Direction) (p : ℕ) (o : Option Connection) (v : Value) (s : State) → slice_get s.connections p ≡ o → IsThere v →
     Halts e s (at_found (way_of e) v s p o)
-found_halts e p None v s there h = unnamed_halts e v s h
-found_halts e p (Some c) v s there h = one_halts e p c v s there h
+found_halts e p o v s there h = grind (arith, unnamed_halts, one_halts)
 
 place_halts : (e : Direction) (o : Option ℕ) (v : Value) (s : State) → IsThere v → Halts e s (at_place (way_of e) v s o)
-place_halts e None v s h = unnamed_halts e v s h
-place_halts e (Some p) v s h = found_halts e p (slice_get s.connections p) v s refl h
+place_halts e o v s h = grind (arith, unnamed_halts, found_halts)
 
 zero_halts : (e : Direction) (b : Bool) (v : Value) (s : State) → Halts e s (routed (way_of e) v s (traffic.route_zero (way_of e) b v))
-zero_halts Left b (request x) s = none_halts Left (Broke rule.OneConnection) s
-zero_halts Right b (request x) s = none_halts Right (Broke rule.UnexpectedUnit) s
-zero_halts e b (data0 end user) s =
-    place_halts e (position (is_live (way_of e)) s.connections) (data0 end user) s tt
-zero_halts e b (disconnected n source) s =
-    place_halts e (position (is_named (way_of e) n) s.connections) (disconnected n source) s tt
-zero_halts Left true (error n cause) s = none_halts Left Kept s
-zero_halts Right true (error n cause) s = none_halts Right Kept s
-zero_halts Left true v s = none_halts Left (Broke rule.WrongForm) s
-zero_halts Left false v s = none_halts Left (Broke rule.WrongForm) s
-zero_halts Right true v s = none_halts Right (Broke rule.WrongForm) s
-zero_halts Right false v s = none_halts Right (Broke rule.WrongForm) s
+zero_halts e b v s = grind (arith, none_halts, place_halts)
 
 -- in class 0 nothing else is changed
 pub break_halts : (e : Direction) (v : Value) (s : State) → class_for (way_of e) s.course ≡ Some Zero →
     is_stopped (way_of e) s.course ≡ false → Halts e s (takes (way_of e) v s)
-break_halts e v s zero goes =
-    subst (Halts e s)
-    (sym (ap (λ (b : Bool). if b then none_told (way_of e) NotJudged s else routed (way_of e) v s (route (way_of e) s.course v)) goes
-    ∙ ap (λ (k : Option Class). routed (way_of e) v s (route_in k (way_of e) (has_broken (sides.other (way_of e)) s.course) v)) zero))
-    (zero_halts e (has_broken (sides.other (way_of e)) s.course) v s)
+break_halts e v s zero goes = grind (arith, zero_halts)
 
 -- ---- at a tap
 
 -- what is noted of a side, and nothing of the other
 noted_is : (e : Direction) (f : Finding) (c : Judging) →
     noted (way_of e) f c ≡ erring (way_of e) (traffic.has_erred (way_of e) (noted (way_of e) f c)) c
-noted_is Left Kept c = refl
-noted_is Left NotJudged c = refl
-noted_is Left Outside c = refl
-noted_is Left TooMany c = refl
-noted_is Left (Broke r) c = refl
-noted_is Right Kept c = refl
-noted_is Right NotJudged c = refl
-noted_is Right Outside c = refl
-noted_is Right TooMany c = refl
-noted_is Right (Broke r) c = refl
+noted_is e f c = grind arith
 
 -- nothing is noted
 erring_same : (e : Direction) (c : Judging) → c ≡ erring (way_of e) (traffic.has_erred (way_of e) c) c
-erring_same Left c = refl
-erring_same Right c = refl
+erring_same e c = grind arith
 
 -- What has passed with the break, and what would have without it: the same is joined, and judged of the end. That the other side broke a
 -- rule may be noted.
@@ -413,51 +247,25 @@ pub record IsBeside (d : Direction) (c without : Course) : Type 0 where
 
 begins_same : (d e : Direction) (erred : Bool) (s : State) →
     traffic.packet_begins (way_of e) (halts d erred s) ≡ halts d erred (traffic.packet_begins (way_of e) s)
-begins_same Left Left erred s = refl
-begins_same Left Right erred s = refl
-begins_same Right Left erred s = refl
-begins_same Right Right erred s = refl
+begins_same d e erred s = grind arith
 
 pub beside_begins : (d e : Direction) (c without : Course) → IsBeside d c without → IsBeside d (packet_begins e c) (packet_begins e without)
-beside_begins d e c without b = record {
-  erred = b.erred;
-  sessions = ap (all_begin e) b.sessions;
-  traffic = ap (traffic.packet_begins (way_of e)) b.traffic ∙ begins_same d e b.erred without.traffic;
-}
+beside_begins d e c without b = grind (arith, begins_same)
 
 no_er : (v : Value) → IsDt0 v → IsEr v → ⊥
-no_er (data0 end user) dt er = er
-no_er v dt er = dt
+no_er v dt er = grind arith
 
 -- a unit of the end
 pub beside_own : (d : Direction) (at : ℕ) (v : Value) (c without : Course) → is_stopped (way_of d) without.traffic.course ≡ false →
     IsDt0 v → IsBeside d c without →
     IsBeside d (unit_passes d at v c) (unit_passes d at v without)
     × ((takes (way_of d) v c.traffic).told.finding ≡ (takes (way_of d) v without.traffic).told.finding)
-beside_own d at v c without goes dt b =
-    let same : takes (way_of d) v c.traffic ≡ halts_after d b.erred (takes (way_of d) v without.traffic) =
-    ap (takes (way_of d) v) b.traffic ∙ own_same d v b.erred without.traffic goes (no_er v dt) in (
-      record {
-        erred = b.erred;
-        sessions = unit_joins d at v c ∙ ap (λ (o : Outcome). taken d at v o.told.meaning o.told.place c.sessions) same
-            ∙ ap (taken d at v (takes (way_of d) v without.traffic).told.meaning (takes (way_of d) v without.traffic).told.place) b.sessions
-            ∙ sym (unit_joins d at v without);
-        traffic = unit_knows d at v c ∙ ap (λ (o : Outcome). o.state) same ∙ ap (halts d b.erred) (sym (unit_knows d at v without));
-      },
-      ap (λ (o : Outcome). o.told.finding) same,
-    )
+beside_own d at v c without goes dt b = search (arith, own_same, no_er, unit_joins, unit_knows)
 
 -- units of the other side, of which nothing is judged any more
 pub beside_other : (d : Direction) (at : ℕ) (v : Value) (c without : Course) → is_stopped (way_of (other d)) c.traffic.course ≡ true →
     IsBeside d c without → IsBeside d (unit_passes (other d) at v c) without
-beside_other d at v c without stopped b =
-    let same = stops_last (way_of (other d)) v c.traffic stopped in
-    record {
-      erred = b.erred;
-      sessions = unit_joins (other d) at v c ∙ ap (λ (o : Outcome). taken (other d) at v o.told.meaning o.told.place c.sessions) same
-          ∙ b.sessions;
-      traffic = unit_knows (other d) at v c ∙ ap (λ (o : Outcome). o.state) same ∙ b.traffic;
-    }
+beside_other d at v c without stopped b = search (arith, stops_last, unit_joins, unit_knows)
 
 -- the break itself
 pub beside_break : (d : Direction) (at : ℕ) (v : Value) (c : Course) → class_for (way_of (other d)) c.traffic.course ≡ Some Zero →

@@ -1,16 +1,16 @@
 -- What a packet that begins, a unit and what can't be read leave true of two courses, a capture leaves true, if both have read the same.
 -- For taps with a bound.
-use Rattle.std.proofs.Common.{◌≡◌, refl, subst, ℕ, Bool, true, false, if◌then◌else◌, List, [], ◌∷◌, length, Result, Ok, Err}
-use Rattle.osi_tpdu.specs.Packet.{units_of}
+use Rattle.std.proofs.Common.{arith}
+use Rattle.std.proofs.Common.{◌≡◌, refl, subst, ℕ, Bool, true, false, if◌then◌else◌, List, [], ◌∷◌, length, Result}
 use Rattle.osi_tpdu.specs.Value.{Value}
 use Rattle.osi_tpdu.specs.declared.faults.TpduFault.{TpduFault}
 use Rattle.osi_judge.specs.Captures.{Capture, of}
 use Rattle.osi_judge.specs.declared.directions.Direction.{Direction}
 use Rattle.osi_judge.specs.declared.directions.Direction.TheVariants.{Left, Right}
 use Rattle.osi_tap.specs.declared.marks.Cause.{Cause}
-use Rattle.osi_tap.specs.declared.marks.Cause.TheVariants.{BadPacket, BadUnit}
+use Rattle.osi_tap.specs.declared.marks.Cause.TheVariants.{BadPacket}
 use Rattle.osi_tap.specs.Courses.{Course, packet_begins, packet_by, unit_passes, units_pass, unread}
-use Rattle.osi_tap.specs.Streams.{Front, Streamed, counted, faulty, front_of, gathered, partial, whole}
+use Rattle.osi_tap.specs.Streams.{Front, Streamed, counted, faulty, gathered, partial, whole}
 use Rattle.osi_tap.specs.Tapping.{State, after, begun, looked_at, octet_passes, with_stream}
 use Rattle.osi_tap.proofs.a_piece_comes_to_what_its_octets_do.{looks}
 
@@ -35,8 +35,7 @@ module _ (P : Course → Course → Type 0) (k : IsClaim P) where
 
   read_kept : (d : Direction) (at : ℕ) (read : Result (List Value) TpduFault) (c e : Course) → P c e →
       P (packet_by d at read c) (packet_by d at read e)
-  read_kept d at (Ok vs) c e h = units_kept d at vs c e h
-  read_kept d at (Err fault) c e h = k.bad d at (BadUnit fault) c e h
+  read_kept d h h2 c e h3 = grind (arith, units_kept)
 
   looked_kept : (d : Direction) (t : Streamed) (f : Front) (s : State) (e : Course) → P s.course e →
       AreBoth (looked_at d t f s) (looked_at d t f (record s { course = e }))
@@ -52,16 +51,8 @@ module _ (P : Course → Course → Type 0) (k : IsClaim P) where
     same = refl;
     so = k.bad Right t.at (BadPacket fault) s.course e h;
   }
-  looked_kept Left t (whole unit) s e h = record {
-    course = packet_by Left t.at (units_of unit) e;
-    same = refl;
-    so = read_kept Left t.at (units_of unit) s.course e h;
-  }
-  looked_kept Right t (whole unit) s e h = record {
-    course = packet_by Right t.at (units_of unit) e;
-    same = refl;
-    so = read_kept Right t.at (units_of unit) s.course e h;
-  }
+  looked_kept Left t (whole unit) s e h = grind (arith, read_kept)
+  looked_kept Right t (whole unit) s e h = grind (arith, read_kept)
 
   begun_kept : (d : Direction) (held : List ℕ) (s : State) (e : Course) → P s.course e →
       AreBoth (begun d held s) (begun d held (record s { course = e }))
@@ -69,8 +60,7 @@ module _ (P : Course → Course → Type 0) (k : IsClaim P) where
   begun_kept d (o ∷ held) s e h = both s e h
 
   then_looked : (d : Direction) (t : Streamed) (s u : State) → AreBoth s u → AreBoth (looks d t s) (looks d t u)
-  then_looked d t s u b =
-      subst (λ (x : State). AreBoth (looks d t s) (looks d t x)) b.same (looked_kept d t (front_of t.held) s b.course b.so)
+  then_looked d t s u b = grind (arith, looks, looked_kept)
 
   -- an octet of a side, of which these octets are held
   left_by : (b : Bool) (os : List ℕ) (s : State) (e : Course) → P s.course e →
@@ -78,9 +68,7 @@ module _ (P : Course → Course → Type 0) (k : IsClaim P) where
       (if b then with_stream Left (counted (length os) s.left) (record s { course = e })
       else looks Left (gathered os s.left) (begun Left s.left.held (record s { course = e })))
   left_by true os s e h = record { course = e; same = refl; so = h }
-  left_by false os s e h =
-      then_looked Left (gathered os s.left) (begun Left s.left.held s) (begun Left s.left.held (record s { course = e }))
-      (begun_kept Left s.left.held s e h)
+  left_by false os s e h = search (arith, then_looked, begun_kept)
 
   right_by : (b : Bool) (os : List ℕ) (s : State) (e : Course) → P s.course e →
       AreBoth (if b then with_stream Right (counted (length os) s.right) s
@@ -88,9 +76,7 @@ module _ (P : Course → Course → Type 0) (k : IsClaim P) where
       (if b then with_stream Right (counted (length os) s.right) (record s { course = e })
       else looks Right (gathered os s.right) (begun Right s.right.held (record s { course = e })))
   right_by true os s e h = record { course = e; same = refl; so = h }
-  right_by false os s e h =
-      then_looked Right (gathered os s.right) (begun Right s.right.held s) (begun Right s.right.held (record s { course = e }))
-      (begun_kept Right s.right.held s e h)
+  right_by false os s e h = search (arith, then_looked, begun_kept)
 
   octet_kept : (d : Direction) (o : ℕ) (s : State) (e : Course) → P s.course e →
       AreBoth (octet_passes (of d o) s) (octet_passes (of d o) (record s { course = e }))

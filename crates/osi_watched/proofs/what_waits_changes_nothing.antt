@@ -1,7 +1,8 @@
 -- What a carrier does doesn't depend on the events that it has still to report, and the octets that it has still to send.
 -- For what a turn of an end does to its carrier.
-use Rattle.osi_watched.proofs.Vocabulary.{[], ap, List, Result, subst, sym, ℕ, ◌++◌, ◌∙◌, ◌∷◌, ◌≡◌, append-nil, append_cancel_left}
-use Rattle.osi_watched.proofs.Vocabulary.{units_only, written_spells, Value, Fits, written, TpduFault, apart_all, Happening, acts_by, react}
+use Rattle.std.proofs.Common.{arith}
+use Rattle.osi_watched.proofs.Vocabulary.{[], ap, List, sym, ℕ, ◌++◌, ◌∙◌, ◌∷◌, ◌≡◌, append-nil, append_cancel_left}
+use Rattle.osi_watched.proofs.Vocabulary.{units_only, written_spells, Value, Fits, written, apart_all, Happening, react}
 use Rattle.osi_watched.proofs.Vocabulary.{put_back, user, user_does, UserCall, Carrier as State}
 use Rattle.osi_carrier.specs.Packets.{after_packet}
 use Rattle.osi_carrier.specs.Runs.{packet}
@@ -21,8 +22,7 @@ call_apart call e o s = apart_all e o (user call ∷ []) s
 pub unit_apart : (v : Value) → Fits v → IsApart (react v)
 unfolding after_packet
 unit_apart v fits e o s =
-    subst (λ (r : Result (List Value) TpduFault). acts_by r (put_back e o s) ≡ put_back e o (acts_by r s))
-    (units_only (written v) (v ∷ []) (written_spells v fits)) (apart_all e o (packet (written v) ∷ []) s)
+    grind (arith, units_only (written v) (v ∷ []) (written_spells v fits), written_spells v fits, apart_all e o (packet (written v) ∷ []) s)
 
 back_again : (s : State) → put_back s.events s.outgoing (bare s) ≡ s
 back_again s = λ i. record s { events = append-nil s.events i; outgoing = append-nil s.outgoing i }
@@ -41,6 +41,4 @@ module _ (f : State → State) (apart : IsApart f) where
   -- and write the same
   pub written_alike : (s c : State) (x : List ℕ) → bare s ≡ bare c → (f s).outgoing ≡ s.outgoing ++ x →
       (f c).outgoing ≡ c.outgoing ++ x
-  written_alike s c x e is =
-      let same : x ≡ (f (bare s)).outgoing = append_cancel_left s.outgoing x (f (bare s)).outgoing (sym is ∙ out_so s) in
-      out_so c ∙ ap (λ (t : State). c.outgoing ++ (f t).outgoing) (sym e) ∙ ap (λ (l : List ℕ). c.outgoing ++ l) (sym same)
+  written_alike s c x e is = grind (arith, append_cancel_left, out_so)

@@ -1,12 +1,13 @@
 -- What a capture comes to at a tap with a bound, beside what it comes to at one without: of the transport the same is found, and in no
 -- moment is a session of a side to blame at the one if none is at the other before a break of the other side's transport.
 -- For the law on a tap with a bound.
-use Rattle.std.proofs.Common.{◌≡◌, ◌∙◌, ◌⊎◌, inl, inr, refl, sym, ap, subst, ℕ, Bool, true, false, if◌then◌else◌, is_some}
-use Rattle.std.proofs.Common.{List, [], ◌∷◌, ◌++◌, Option, Some, None}
+use Rattle.std.proofs.Common.{arith}
+use Rattle.std.proofs.Common.{◌≡◌, ◌∙◌, ◌⊎◌, inl, inr, refl, sym, ap, subst, ℕ, Bool, if◌then◌else◌, is_some}
+use Rattle.std.proofs.Common.{List, [], ◌∷◌, ◌++◌, Option}
 use Rattle.osi_tpdu.specs.Value.{Value}
 use Rattle.osi_judge.specs.Captures.{Capture, other}
 use Rattle.osi_judge.specs.declared.directions.Direction.{Direction}
-use Rattle.osi_judge.specs.declared.directions.Direction.TheVariants.{Left, Right}
+use Rattle.osi_judge.specs.declared.directions.Direction.TheVariants.{Left}
 use Rattle.osi_rules.specs.declared.findings.Reach.{Reach}
 use Rattle.osi_rules.specs.declared.findings.Reach.TheVariants as reach
 use Rattle.osi_rules.specs.declared.findings.Told.{Told}
@@ -16,10 +17,9 @@ use Rattle.osi_tap.specs.declared.marks.Cause.{Cause}
 use Rattle.osi_tap.specs.declared.marks.Mark.{Mark}
 use Rattle.osi_tap.specs.declared.marks.Marks.{Marks}
 use Rattle.osi_tap.specs.declared.rooms.Room.TheVariants.{Octets}
-use Rattle.osi_tap.specs.Blaming.{IsQuiet}
 use Rattle.osi_tap.specs.Connections.{Sessions, taken}
-use Rattle.osi_tap.specs.Courses.{Course, Moment, applied, breaks, cause_of, changes, first_by, first_marked, fresh, fresh_within, halts}
-use Rattle.osi_tap.specs.Courses.{kind_of, mark_by, mark_of, marked, marks_of, moment_of, moved, noted_by, number_at, packet_begins}
+use Rattle.osi_tap.specs.Courses.{Course, Moment, changes, fresh, fresh_within}
+use Rattle.osi_tap.specs.Courses.{marked, marks_of, moved, noted_by, number_at, packet_begins}
 use Rattle.osi_tap.specs.Courses.{reached, unit_passes, unread, unread_mark, unread_moment, way_of}
 use Rattle.osi_tap.specs.Tapping.{begin, begin_within, comes_to}
 use Rattle.osi_tap.proofs.no_break_was_before_the_first.{marked_past}
@@ -41,30 +41,18 @@ record HasMarksOf (c w : Course) : Type 0 where
   first : c.first ≡ w.first
 
 changes_same : (d : Direction) (f : Marks → Marks) (c w : Course) → HasMarksOf c w → HasMarksOf (changes d f c) (changes d f w)
-changes_same Left f c w h = record { left = ap f h.left; right = h.right; first = h.first }
-changes_same Right f c w h = record { left = h.left; right = ap f h.right; first = h.first }
+changes_same d f c w h = grind arith
 
 reached_same : (m : Mark) (r : Reach) (c w : Course) → HasMarksOf c w → HasMarksOf (reached m r c) (reached m r w)
-reached_same m reach.Nothing c w h = h
-reached_same m reach.Connection c w h = h
-reached_same m reach.Side c w h = changes_same m.direction (halts m) c w h
-reached_same m reach.Everything c w h = record { left = ap (halts m) h.left; right = ap (halts m) h.right; first = h.first }
+reached_same m r c w h = grind (arith, changes_same)
 
 marked_same : (m : Mark) (r : Reach) (c w : Course) → HasMarksOf c w → HasMarksOf (marked m r c) (marked m r w)
-marked_same m r c w h =
-    reached_same m r (changes m.direction (breaks m) (first_marked m c)) (changes m.direction (breaks m) (first_marked m w))
-    (changes_same m.direction (breaks m) (first_marked m c) (first_marked m w)
-    (record { left = h.left; right = h.right; first = ap (first_by m) h.first }))
+marked_same m r c w h = grind (arith, reached_same, changes_same)
 
 noted_same : (d : Direction) (at : ℕ) (v : Value) (told : Told) (o : Option Cause) (c w : Course) →
     number_at told.place c.sessions ≡ number_at told.place w.sessions → HasMarksOf c w →
     HasMarksOf (noted_by d at v told o c) (noted_by d at v told o w)
-noted_same d at v told None c w number h = h
-noted_same d at v told (Some cause) c w number h =
-    let mark : Option ℕ → Mark =
-    λ n. record { direction = d; offset = at; unit = Some (kind_of v); connection = n; cause = cause } in
-    subst (λ (n : Option ℕ). HasMarksOf (noted_by d at v told (Some cause) c) (marked (mark n) told.reach w)) number
-    (marked_same (mark (number_at told.place c.sessions)) told.reach c w h)
+noted_same d at v told o c w number h = grind (arith, marked_same)
 
 -- ---- one moment more
 
@@ -84,12 +72,7 @@ broken_parts : (d : Direction) (past : List Moment) (m : Moment) → HasBroken d
 broken_parts d [] m (inl b) = inr (tt, b)
 broken_parts d [] m (inr h) = absurd h.1
 broken_parts d (x ∷ past) m (inl b) = inl (inl b)
-broken_parts d (x ∷ past) m (inr (c, h)) = by (broken_parts d past m h)
-  where
-    by : HasBroken d past ⊎ (AreClean d past × BreaksTransport (other d) m) →
-        HasBroken d (x ∷ past) ⊎ (AreClean d (x ∷ past) × BreaksTransport (other d) m)
-    by (inl broken) = inl (inr (c, broken))
-    by (inr (clean, b)) = inr ((c, clean), b)
+broken_parts d (x ∷ past) m (inr (c, h)) = grind (arith, broken_parts d past m h)
 
 -- The moments of the whole are clean for a side only if those of what is judged are, and nobody of it is to blame for that. And if the
 -- first break of the whole is of the other side's transport, it is here too.
@@ -100,8 +83,7 @@ record IsNoWorse (d : Direction) (past : List Moment) (s : Sessions) (wholes : L
 module _ (d : Direction) (past : List Moment) (s : Sessions) (wholes : List Moment) (h : IsNoWorse d past s wholes) (m n : Moment)
     (mark : m.mark ≡ n.mark) (none : NoneIsToBlame d s → NoneIsToBlame d n.sessions → NoneIsToBlame d m.sessions) where
   moment_clean : NoneIsToBlame d s → IsClean d n → IsClean d m
-  moment_clean before clean =
-      record { transport = subst IsQuiet (sym mark) clean.transport; sessions = none before clean.sessions }
+  moment_clean before clean = grind arith
 
   moment_breaks : BreaksTransport (other d) n → BreaksTransport (other d) m
   moment_breaks b = record { mark = b.mark; is = mark ∙ b.is; bad = b.bad; of = b.of }
@@ -131,16 +113,7 @@ record IsWithin (most : ℕ) (d : Direction) (c w : Course) : Type 0 where
 
 module _ (most : ℕ) (d : Direction) where
   begins_within : (e : Direction) (c w : Course) → IsWithin most d c w → IsWithin most d (packet_begins e c) (packet_begins e w)
-  begins_within e c w h = record {
-    traffic = ap (traffic.packet_begins (way_of e)) h.traffic;
-    marks = record { left = h.marks.left; right = h.marks.right; first = h.marks.first };
-    sessions = begun_bounded most e c.sessions w.sessions h.sessions;
-    past = h.past;
-    no_worse = record {
-      clean = λ all. let now = h.no_worse.clean all in (now.0, none_begins d e c.sessions now.1);
-      broken = h.no_worse.broken;
-    };
-  }
+  begins_within e c w h = search (arith, begun_bounded, none_begins)
 
   -- a unit, of which both are told the same
   module _ (e : Direction) (at : ℕ) (v : Value) (c w : Course) (h : IsWithin most d c w) where
@@ -163,22 +136,13 @@ module _ (most : ℕ) (d : Direction) where
     number_so = same_number most o.told.place (then_joined e at v c) (joined_by o) by_one
 
     mark_so : (moment e at v c).mark ≡ (moment e at v w).mark
-    mark_so =
-        ap (λ (n : Option ℕ). mark_by e at v n (cause_of o.told.finding)) number_so
-        ∙ ap (λ (x : Outcome). mark_of e at v x.told (joined_by x)) told_same
+    mark_so = grind (arith, number_so, told_same)
 
     marks_so : HasMarksOf (unit_passes e at v c) (unit_passes e at v w)
-    marks_so =
-        subst (λ (x : Outcome). HasMarksOf (unit_passes e at v c) (applied e at v x.told (record w { traffic = x.state }))) told_same
-        (noted_same e at v o.told (cause_of o.told.finding)
-        (moved (moment_of e at v o.told (then_joined e at v c)) (record c { traffic = o.state }))
-        (moved (moment_of e at v o.told (joined_by o)) (record w { traffic = o.state })) number_so
-        (record { left = h.marks.left; right = h.marks.right; first = h.marks.first }))
+    marks_so = grind (arith, told_same, noted_same, then_joined, number_so)
 
     none_so : NoneIsToBlame d c.sessions → NoneIsToBlame d (then_joined e at v w) → NoneIsToBlame d (then_joined e at v c)
-    none_so before after =
-        taken_none most d e at v c.sessions w.sessions h.sessions o.told.meaning o.told.place before
-        (subst (λ (x : Outcome). NoneIsToBlame d (joined_by x)) (sym told_same) after)
+    none_so before after = search (arith, taken_none, told_same)
 
     worse_so : IsNoWorse d (unit_passes e at v c).past (unit_passes e at v c).sessions (unit_passes e at v w).past
     worse_so =
@@ -191,11 +155,7 @@ module _ (most : ℕ) (d : Direction) where
         (moment_more d c.past c.sessions w.past h.no_worse (moment e at v c) (moment e at v w) mark_so none_so)))
 
     past_so : AreMomentsOf (unit_passes e at v c).past (unit_passes e at v w).past
-    past_so =
-        subst (λ (wholes : List Moment). AreMomentsOf (unit_passes e at v c).past wholes) (sym (unit_past e at v w))
-        (subst (λ (past : List Moment). AreMomentsOf past (w.past ++ moment e at v w ∷ [])) (sym (unit_past e at v c))
-        (moments_more c.past w.past (moment e at v c) (moment e at v w)
-        (record { direction = refl; at = refl; mark = mark_so; sessions = joined_so.of }) h.past))
+    past_so = grind (arith, unit_past, moment, moments_more, mark_so, joined_so)
 
     passes_within : IsWithin most d (unit_passes e at v c) (unit_passes e at v w)
     passes_within = record {
@@ -219,71 +179,22 @@ module _ (most : ℕ) (d : Direction) where
     refused x t = marked mark (traffic.refused_reach (way_of e) t) (mid x t)
 
     refused_within : IsWithin most d (refused c c.traffic) (refused w c.traffic)
-    refused_within =
-        let r = traffic.refused_reach (way_of e) c.traffic in
-        record {
-          traffic = marked_traffic mark r (mid c c.traffic) ∙ sym (marked_traffic mark r (mid w c.traffic));
-          marks = marked_same mark r (mid c c.traffic) (mid w c.traffic)
-              (record { left = h.marks.left; right = h.marks.right; first = h.marks.first });
-          sessions = subst (λ (s : Sessions). AreBounded most s (refused w c.traffic).sessions)
-              (sym (marked_leaves mark r (mid c c.traffic)))
-              (subst (λ (s : Sessions). AreBounded most c.sessions s) (sym (marked_leaves mark r (mid w c.traffic))) h.sessions);
-          past = subst (λ (wholes : List Moment). AreMomentsOf (refused c c.traffic).past wholes)
-              (sym (marked_past mark r (mid w c.traffic)))
-              (subst (λ (past : List Moment). AreMomentsOf past (mid w c.traffic).past) (sym (marked_past mark r (mid c c.traffic)))
-              (moments_more c.past w.past (unread_moment e at cause c.sessions) (unread_moment e at cause w.sessions)
-              (record { direction = refl; at = refl; mark = refl; sessions = h.sessions.of }) h.past));
-          no_worse = subst (λ (wholes : List Moment). IsNoWorse d (refused c c.traffic).past (refused c c.traffic).sessions wholes)
-              (sym (marked_past mark r (mid w c.traffic)))
-              (subst (λ (past : List Moment). IsNoWorse d past (refused c c.traffic).sessions (mid w c.traffic).past)
-              (sym (marked_past mark r (mid c c.traffic)))
-              (subst (λ (s : Sessions). IsNoWorse d (mid c c.traffic).past s (mid w c.traffic).past)
-              (sym (marked_leaves mark r (mid c c.traffic)))
-              (moment_more d c.past c.sessions w.past h.no_worse (unread_moment e at cause c.sessions)
-              (unread_moment e at cause w.sessions) refl (λ before after. before))));
-        }
+    refused_within = search (arith, marked_traffic, marked_same, marked_leaves, marked_past, moments_more, moment_more)
 
     if_halted : (b : Bool) → IsWithin most d (if b then c else refused c c.traffic) (if b then w else refused w w.traffic)
-    if_halted true = h
-    if_halted false =
-        subst (λ (t : Traffic). IsWithin most d (refused c c.traffic) (refused w t)) h.traffic refused_within
+    if_halted b = grind (arith, refused_within)
 
     halted_same : is_some (marks_of e c).halted ≡ is_some (marks_of e w).halted
-    halted_same = by e
-      where
-        by : (x : Direction) → is_some (marks_of x c).halted ≡ is_some (marks_of x w).halted
-        by Left = ap (λ (m : Marks). is_some m.halted) h.marks.left
-        by Right = ap (λ (m : Marks). is_some m.halted) h.marks.right
+    halted_same = grind arith
 
     bad_within : IsWithin most d (unread e at cause c) (unread e at cause w)
-    bad_within =
-        subst (λ (b : Bool). IsWithin most d (unread e at cause c) (if b then w else refused w w.traffic)) halted_same
-        (if_halted (is_some (marks_of e c).halted))
+    bad_within = grind (arith, halted_same, if_halted)
 
   within_claim : IsClaim (IsWithin most d)
-  within_claim = record {
-    begins = λ e c w h. begins_within e c w h;
-    passes = λ e at v c w h. passes_within e at v c w h;
-    bad = λ e at cause c w h. bad_within e at cause c w h;
-  }
+  within_claim = search (arith, begins_within, passes_within, bad_within)
 
   first_within : IsWithin most d (fresh_within (Octets most)) fresh
-  first_within = record {
-    traffic = refl;
-    marks = record { left = refl; right = refl; first = refl };
-    sessions = record { of = record { live = tt; done = tt }; bound = refl; all = refl };
-    past = tt;
-    no_worse = record {
-      clean = λ all. (
-        tt,
-        record {
-          live = λ i j here. absurd (let no : None ≡ Some j = here in cc);
-          done = λ i j here. absurd (let no : None ≡ Some j = here in cc);
-        },
-      );
-      broken = λ none. none;
-    };
-  }
+  first_within = grind arith
 
   capture_within : (capture : Capture) → IsWithin most d (comes_within most capture).course (comes_to capture).course
   capture_within capture =
@@ -292,18 +203,7 @@ module _ (most : ℕ) (d : Direction) where
 
   -- a capture ends at such a tap as it does at one without a bound
   pub ends_so_within : (capture : Capture) → Ends d (comes_to capture).course → Ends d (comes_within most capture).course
-  ends_so_within capture (inl h) =
-      let now = (capture_within capture).no_worse.clean h.clean in inl (record { clean = now.0; nobody = now.1 })
-  ends_so_within capture (inr broken) = inr ((capture_within capture).no_worse.broken broken)
+  ends_so_within capture h = grind (arith, capture_within)
 
 pub course_within : (most : ℕ) (capture : Capture) → IsCourseOf (comes_within most capture).course (comes_to capture).course
-course_within most capture =
-    let h = capture_within most Left capture in
-    record {
-      traffic = h.traffic;
-      left = h.marks.left;
-      right = h.marks.right;
-      first = h.marks.first;
-      sessions = h.sessions.of;
-      past = h.past;
-    }
+course_within most capture = grind (arith, capture_within most Left capture)

@@ -1,7 +1,8 @@
 -- As long as both sides are judged and class 0 is not selected at the tap, each CC that a called end has put and that has not passed
 -- selects class 2; or the end has selected class 0, and the CC that says so is the first unit that waits.
 -- For all connections of a called end and a tap.
-use Rattle.osi_watched.proofs.Vocabulary.{false, inl, inr, subst, sym, ◌⊎◌, AllByRecursion, Local, Traffic, CanBeWritten, lines, selected}
+use Rattle.std.proofs.Common.{arith}
+use Rattle.osi_watched.proofs.Vocabulary.{false, inr, subst, sym, ◌⊎◌, AllByRecursion, Local, Traffic, CanBeWritten, lines, selected}
 use Rattle.osi_watched.proofs.Vocabulary.{selecting, Selecting, Joint, HaveSamePlaces}
 use Rattle.osi_judge.specs.declared.directions.Direction.TheVariants as side
 use Rattle.osi_fair.specs.Wholes.{begin}
@@ -18,11 +19,7 @@ module _ (local : Local) (j : Joint) (f : IsFollowed side.Right (begin false loc
   tap_clear = subst (λ (s : Traffic). IsOngoing s.course) (sym f.tap) clear
 
   by_stage : Stage local f.whole → AllByRecursion AnswersTwo j.put ⊎ Selecting local f.whole
-  by_stage (lines h c named) =
-      inl (two_alike f.whole.put j.put (record { same = f.put; can = f.can; can_too = can })
-      (put_answers_two local f.whole j.course.sessions h (called_joined local j f).apart
-      named
-      (subst (λ (s : Traffic). HaveSamePlaces s.connections j.course.sessions.live) (sym f.tap) places)))
+  by_stage (lines h c named) = grind (arith, two_alike, put_answers_two, called_joined local j f)
   by_stage (selecting z) = inr z
   by_stage (selected z) = absurd (tap_clear.two z.class)
 

@@ -2,10 +2,11 @@
 -- and after any other unit what is left over at a connection that is judged stays. So all its connections stand after a packet of the
 -- other side; and nobody of the end is to blame at those that have lost their judgement.
 -- For all connections of an end and a tap.
-use Rattle.osi_watched.proofs.Vocabulary.{[], ap, append_assoc, Bool, false, inl, inr, List, None, Option, refl, Some, subst, sym, true, ℕ}
-use Rattle.osi_watched.proofs.Vocabulary.{◌++◌, ◌∙◌, ◌∷◌, ◌≡◌, append-nil, AllByRecursion, slice_get, acknowledge, confirm}
-use Rattle.osi_watched.proofs.Vocabulary.{data0, data2, destination_of, disconnect, disconnected, error, request, Value, Class, Two, Zero}
-use Rattle.osi_watched.proofs.Vocabulary.{is_applied, reach_of, is_refused, class_for, found, found_on, is_stopped, takes, uses_source}
+use Rattle.std.proofs.Common.{arith}
+use Rattle.osi_watched.proofs.Vocabulary.{[], append_assoc, Bool, false, List, None, Option, refl, Some, subst, sym, true, ℕ}
+use Rattle.osi_watched.proofs.Vocabulary.{◌++◌, ◌∷◌, ◌≡◌, append-nil, AllByRecursion, slice_get, acknowledge, confirm}
+use Rattle.osi_watched.proofs.Vocabulary.{data0, data2, destination_of, disconnect, disconnected, error, request, Value, Class, Zero}
+use Rattle.osi_watched.proofs.Vocabulary.{is_applied, reach_of, is_refused, class_for, found_on, is_stopped, takes}
 use Rattle.osi_watched.proofs.Vocabulary.{Traffic as State, Connection, Finding, Broke, Rule, Left, Right, Deeds, Joined}
 use Rattle.osi_watched.proofs.Vocabulary.{Sessions, unit_passes, units_pass, judged_same}
 use Rattle.osi_rules.specs.declared.directions.Direction.{Direction as Way}
@@ -27,7 +28,7 @@ use Rattle.osi_watched.proofs.sessions.nothing_is_done_before_a_cr_passes.{known
 use Rattle.osi_watched.proofs.sessions.references_of_an_end_are_distinct.{AreDistinct, GivesNew, stays_so, unit_distinct}
 use Rattle.osi_watched.proofs.sessions.right_units_leave_all_standing.{dt, link_placed}
 use Rattle.osi_watched.proofs.sessions.the_dr_of_the_other_side_is_in_flight.{AreShut, other_shut}
-use Rattle.osi_watched.proofs.sessions.what_a_unit_does_at_its_place.{Does, asks_again, asks_more, nowhere, somewhere, unit_does}
+use Rattle.osi_watched.proofs.sessions.what_a_unit_does_at_its_place.{Does, unit_does}
 use Rattle.osi_watched.proofs.sessions.what_has_no_effect_joins_nothing.{joins_none}
 use Rattle.osi_watched.proofs.sessions.what_holds_of_a_lost_connection.{now_so}
 use Rattle.osi_watched.proofs.sessions.what_is_left_for_an_end.{known_left, left_grows, left_same}
@@ -52,25 +53,11 @@ AreFine at (v ∷ vs) c = IsHeardOn v c × AreFine at vs (unit_passes Left at v 
 
 only_closed : (k : Option Class) (r : Rule) → (k ≡ Some Zero → ⊥) → is_applied (Broke r) ≡ false →
     (reach_of k (Broke r) ≡ reach.Everything → ⊥) → (reach_of k (Broke r) ≡ reach.Connection → ⊥) → r ≡ rule.Closed
-only_closed k rule.Closed two none all part = refl
-only_closed k rule.NoCredit two none all part = absurd (cc)
-only_closed k rule.SizeExceeded two none all part = absurd (cc)
-only_closed k rule.LargerSize two none all part = absurd (cc)
-only_closed None r two none all part = absurd (all refl)
-only_closed (Some Zero) r two none all part = absurd (two refl)
-only_closed (Some Two) rule.WrongForm two none all part = absurd (part refl)
-only_closed (Some Two) rule.OutOfSequence two none all part = absurd (part refl)
-only_closed (Some Two) rule.TsduTooLong two none all part = absurd (part refl)
-only_closed (Some Two) rule.CreditReduced two none all part = absurd (part refl)
-only_closed (Some Two) rule.NothingToAnswer two none all part = absurd (part refl)
-only_closed (Some Two) r two none all part = absurd (all refl)
+only_closed k r two none all part = search arith
 
 closed_by : (k : Option Class) (f : Finding) → IsClear f → (k ≡ Some Zero → ⊥) → is_applied f ≡ false →
     (reach_of k f ≡ reach.Everything → ⊥) → (reach_of k f ≡ reach.Connection → ⊥) → f ≡ Broke rule.Closed
-closed_by k f (inl kept) two none all part = differ (is_applied f) (ap is_applied kept) none
-closed_by k f (inr (r, is)) two none all part =
-    is ∙ ap (λ (x : Rule). Broke x) (only_closed k r two (ap is_applied (sym is) ∙ none) (λ e. all (ap (reach_of k) is ∙ e))
-    (λ e. part (ap (reach_of k) is ∙ e)))
+closed_by k f h two none all part = grind (arith, differ, only_closed)
 
 pub dt_closed : (d : Way) (n number : ℕ) (end : Bool) (user : List ℕ) (s : State) (e : Connection) → e.is_judged ≡ true →
     (takes d (data2 n number end user) s).told.finding ≡ found_on d s e (data2 n number end user) →
@@ -78,13 +65,7 @@ pub dt_closed : (d : Way) (n number : ℕ) (end : Bool) (user : List ℕ) (s : S
     ((takes d (data2 n number end user) s).told.reach ≡ reach.Everything → ⊥) →
     ((takes d (data2 n number end user) s).told.reach ≡ reach.Connection → ⊥) →
     (takes d (data2 n number end user) s).told.finding ≡ Broke rule.Closed
-dt_closed d n number end user s e judged finding two none all part =
-    let v = data2 n number end user in
-    let f = found d s.course (uses_source d s.connections v) e v in
-    let is = finding ∙ judged_same e.is_judged f judged in
-    closed_by (class_for d s.course) (takes d v s).told.finding
-    (subst IsClear (sym is) (found_two d n number end user s.course (uses_source d s.connections v) e)) two none
-    (λ k. all ((takes_reach d v s).far ∙ k)) (λ k. part ((takes_reach d v s).far ∙ k))
+dt_closed d n number end user s e judged finding two none all part = search (arith, judged_same, closed_by, found_two, takes_reach)
 
 -- ---- its place
 
@@ -99,12 +80,7 @@ record IsAt (v : Value) (c : Course) : Type 0 where
 
 at_by : (at : ℕ) (v : Value) (n : ℕ) (c : Course) → destination_of v ≡ Some n → ((takes way.Left v c.traffic).told.place ≡ None → ⊥) →
     Does Left at v c.traffic c.sessions (takes way.Left v c.traffic) → IsAt v c
-at_by at v n c dest some (nowhere place cs ts) = absurd (some place)
-at_by at v n c dest some (somewhere i e j x r place there here one finding is far cs ts) =
-    record { place = i; connection = e; joined = j; told = place; there = there; here = here }
-at_by at v n c dest some (asks_more x is number cs ts) = absurd (let no : None ≡ Some n = sym (ap destination_of is) ∙ dest in cc)
-at_by at v n c dest some (asks_again x is number i j here free cs ts) =
-    absurd (let no : None ≡ Some n = sym (ap destination_of is) ∙ dest in cc)
+at_by at v n c dest some h = grind arith
 
 module _ (deeds : ℕ → Deeds) (is_live : ℕ → Bool) (put : List Value) (begun : Bool) (b at : ℕ) where
   -- all connections stand, have references of their own, and these are up to this one
@@ -153,11 +129,9 @@ module _ (deeds : ℕ → Deeds) (is_live : ℕ → Bool) (put : List Value) (be
   unit_heard coming (data0 end user) c p h = no_zero way.Left end user c.traffic p.goes p.two p.on
   unit_heard coming (confirm n x) c p h = λ r later sure. left_same is_live coming (confirm n x) r later refl sure
   unit_heard coming (request x) c p h = λ r later sure. left_same is_live coming (request x) r later refl sure
-  unit_heard coming (disconnect n source reason user) c p h =
-      λ r later sure. left_same is_live coming (disconnect n source reason user) r later refl sure
+  unit_heard coming (disconnect n source reason user) c p h = search (arith, left_same)
   unit_heard coming (disconnected n source) c p h = λ r later sure. left_same is_live coming (disconnected n source) r later refl sure
-  unit_heard coming (acknowledge credit n number) c p h =
-      λ r later sure. left_same is_live coming (acknowledge credit n number) r later refl sure
+  unit_heard coming (acknowledge credit n number) c p h = search (arith, left_same)
   unit_heard coming (error n cause) c p h = λ r later sure. left_same is_live coming (error n cause) r later refl sure
 
   heard_from : (coming : List Value) (v : Value) (s : State) (t : Sessions) →
@@ -182,24 +156,10 @@ module _ (deeds : ℕ → Deeds) (is_live : ℕ → Bool) (put : List Value) (be
 
   -- the other side gives no reference of this one
   gives_none : (v : Value) (c : Course) → is_applied (takes way.Left v c.traffic).told.finding ≡ true → GivesNew Right v c.sessions
-  gives_none (confirm n x) c applied = cc_unapplied n x c.traffic applied
-  gives_none (request x) c applied = tt
-  gives_none (disconnect n source reason user) c applied = tt
-  gives_none (disconnected n source) c applied = tt
-  gives_none (data0 end user) c applied = tt
-  gives_none (data2 n number end user) c applied = tt
-  gives_none (acknowledge credit n number) c applied = tt
-  gives_none (error n cause) c applied = tt
+  gives_none v c applied = grind (arith, cc_unapplied)
 
   gives_up_to : (v : Value) (c : Course) → is_applied (takes way.Left v c.traffic).told.finding ≡ true → IsUpTo Right b v
-  gives_up_to (confirm n x) c applied = cc_unapplied n x c.traffic applied
-  gives_up_to (request x) c applied = tt
-  gives_up_to (disconnect n source reason user) c applied = tt
-  gives_up_to (disconnected n source) c applied = tt
-  gives_up_to (data0 end user) c applied = tt
-  gives_up_to (data2 n number end user) c applied = tt
-  gives_up_to (acknowledge credit n number) c applied = tt
-  gives_up_to (error n cause) c applied = tt
+  gives_up_to v c applied = grind (arith, cc_unapplied)
 
   then_distinct : (coming : List Value) (v : Value) (c : Course) (x : Bool) →
       is_applied (takes way.Left v c.traffic).told.finding ≡ x → AreHeard coming c → AreDistinct Right (unit_passes Left at v c).sessions
@@ -241,8 +201,7 @@ module _ (deeds : ℕ → Deeds) (is_live : ℕ → Bool) (put : List Value) (be
 
   -- so all connections stand after these units
   pub units_heard : (vs coming : List Value) (c : Course) → AreFine at vs c → AreHeard coming c → PacketHeard coming vs c
-  units_heard [] coming c fine h =
-      record { all = subst (λ (l : List Value). AreHeard l c) (sym (append-nil coming)) h; below = tt }
+  units_heard [] coming c fine h = grind (arith, append-nil)
   units_heard (v ∷ vs) coming c (one, more) h =
       let next = units_heard vs (coming ++ v ∷ []) (unit_passes Left at v c) more (one_heard coming v c one h) in
       record {

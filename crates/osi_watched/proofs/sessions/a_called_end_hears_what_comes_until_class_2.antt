@@ -1,7 +1,8 @@
 -- Until class 2 is selected all connections of a called end stand at a tap as units of the other side pass: CRs and DCs, and in class 0
 -- DTs for its one connection. For the session of the connection of a called end in class 0.
+use Rattle.std.proofs.Common.{arith}
 use Rattle.std.proofs.Common.{◌≡◌, ◌∙◌, refl, sym, ap, subst, ℕ, ◌<◌, Bool, true, false, if◌then◌else◌, List, [], ◌∷◌, ◌++◌}
-use Rattle.std.proofs.Common.{Option, Some, None, is_some, append_assoc, drop}
+use Rattle.std.proofs.Common.{Option, Some, None, is_some, append_assoc}
 use Rattle.std.specs.Prelude.{◌||◌, not}
 use Rattle.std.specs.List.{AllByRecursion, list_all}
 use Rattle.std.proofs.lemmas.List.{append-nil}
@@ -9,19 +10,19 @@ use Rattle.osi_tpdu.specs.Value.{Connect, Value, acknowledge, confirm, data0, da
 use Rattle.osi_class.specs.Runs.{unit_parts}
 use Rattle.osi_class.specs.Tsdus.{Part}
 use Rattle.osi_class.specs.declared.terms.Class.{Class}
-use Rattle.osi_class.specs.declared.terms.Class.TheVariants.{Two, Zero}
+use Rattle.osi_class.specs.declared.terms.Class.TheVariants.{Zero}
 use Rattle.osi_carrier.specs.State.{State as Carrier}
 use Rattle.osi_judge.specs.declared.directions.Direction.TheVariants.{Left, Right}
 use Rattle.osi_rules.specs.declared.directions.Direction.TheVariants as way
 use Rattle.osi_rules.specs.declared.findings.Finding.{Finding}
-use Rattle.osi_rules.specs.declared.findings.Finding.TheVariants.{Broke, Kept, NotJudged, Outside, TooMany}
+use Rattle.osi_rules.specs.declared.findings.Finding.TheVariants.{Broke}
 use Rattle.osi_rules.specs.declared.findings.Rule.TheVariants as rule
 use Rattle.osi_rules.specs.Rows.{Test, first_failed}
 use Rattle.osi_rules.specs.Sides.{is_over, is_refused}
-use Rattle.osi_rules.specs.Traffic.{Outcome, State, asks_by, is_stopped, none_told, request_tests, route, route_in, routed, takes}
+use Rattle.osi_rules.specs.Traffic.{State, asks_by, is_stopped, route_in, routed, takes}
 use Rattle.osi_fair.proofs.left_selects_no_class.{left_class}
 use Rattle.osi_honest.specs.Courses.{Deeds}
-use Rattle.osi_tap.specs.Connections.{Sessions, taken}
+use Rattle.osi_tap.specs.Connections.{taken}
 use Rattle.osi_tap.specs.Courses.{Course, unit_passes, units_pass}
 use Rattle.osi_watched.proofs.what_a_taker_passes_over.{IsMild}
 use Rattle.osi_watched.proofs.sessions.a_calling_end_hears_what_comes_until_class_2.{IsNotTwo}
@@ -109,74 +110,36 @@ same_place : (p q : ℕ) → Some p ≡ Some q → p ≡ q
 same_place p q e = cc
 
 not_true : (b : Bool) → not b ≡ true → b ≡ false
-not_true true h = absurd (cc)
-not_true false h = refl
+not_true b h = grind arith
 
 asking_plain : (v : Value) → IsAsking v → IsNoCc v
-asking_plain (request x) h = tt
-asking_plain (disconnected n source) h = tt
-asking_plain (confirm n x) h = absurd h
-asking_plain (disconnect n source reason user) h = absurd h
-asking_plain (data0 end user) h = absurd h
-asking_plain (data2 n number end user) h = absurd h
-asking_plain (acknowledge credit n number) h = absurd h
-asking_plain (error n cause) h = absurd h
+asking_plain v h = grind arith
 
 still_plain : (v : Value) (s : State) → IsStill Left v s → IsNoCc v
-still_plain (data0 end user) s h = tt
-still_plain (disconnected n source) s h = tt
-still_plain (error n cause) s h = tt
-still_plain (request x) s h = absurd h
-still_plain (confirm n x) s h = absurd h
-still_plain (disconnect n source reason user) s h = absurd h
-still_plain (data2 n number end user) s h = absurd h
-still_plain (acknowledge credit n number) s h = absurd h
+still_plain v s h = grind arith
 
 -- ---- left knows no class yet
 
 module _ (s : State) (goes : is_stopped way.Left s.course ≡ false) (seen : s.course.class_seen ≡ None) where
   takes_early : (v : Value) → takes way.Left v s ≡ routed way.Left v s (route_in None way.Left (has_broken way.Right s.course) v)
-  takes_early v =
-      ap (λ (b : Bool). if b then none_told way.Left NotJudged s else routed way.Left v s (route way.Left s.course v)) goes
-      ∙ ap (λ (k : Option Class). routed way.Left v s (route_in k way.Left (has_broken way.Right s.course) v)) seen
+  takes_early v = grind arith
 
   only_asking : (v : Value) → IsMild v (takes way.Left v s).told.finding → IsAsking v
-  only_asking v mild = by v (subst (λ (o : Outcome). IsMild v o.told.finding) (takes_early v) mild)
-    where
-      by : (v : Value) → IsMild v (routed way.Left v s (route_in None way.Left (has_broken way.Right s.course) v)).told.finding →
-          IsAsking v
-      by (request x) mild = tt
-      by (disconnected n source) mild = tt
-      by (confirm n x) mild = absurd mild
-      by (disconnect n source reason user) mild = absurd mild
-      by (data0 end user) mild = absurd mild
-      by (data2 n number end user) mild = absurd mild
-      by (acknowledge credit n number) mild = absurd mild
-      by (error n cause) mild = absurd mild
+  only_asking v mild = grind (arith, takes_early)
 
   -- a CR is a break while a connection is not over
   first_passes : (v : Value) (a : Bool) (ts : List Test) → IsMild v (first_failed ((a, Broke rule.Negotiating) ∷ ts)) → a ≡ true
-  first_passes v true ts mild = refl
-  first_passes v false ts mild = absurd mild
+  first_passes v a ts mild = grind arith
 
   asked_found : (f : Finding) (x : Connect) → IsMild (request x) (asks_by way.Left f x s).told.finding → IsMild (request x) f
-  asked_found Kept x mild = tt
-  asked_found NotJudged x mild = tt
-  asked_found TooMany x mild = tt
-  asked_found (Broke r) x mild = mild
-  asked_found Outside x mild = mild
+  asked_found f x mild = grind arith
 
   none_known : (k : Option Class) (all : Bool) → k ≡ None → (is_some k || all) ≡ true → all ≡ true
-  none_known None all e h = h
-  none_known (Some class) all e h = absurd (cc)
+  none_known k all e h = grind arith
 
   all_over : (x : Connect) → IsMild (request x) (takes way.Left (request x) s).told.finding →
       list_all (is_over way.Left) s.connections ≡ true
-  all_over x mild =
-      none_known s.course.class_seen (list_all (is_over way.Left) s.connections) seen
-      (first_passes (request x) (is_some s.course.class_seen || list_all (is_over way.Left) s.connections) (drop 1 (request_tests s x))
-      (asked_found (first_failed (request_tests s x)) x
-      (subst (λ (o : Outcome). IsMild (request x) o.told.finding) (takes_early (request x)) mild)))
+  all_over x mild = grind (arith, none_known, first_passes, asked_found, takes_early)
 
 -- ---- a unit passes
 
@@ -201,10 +164,7 @@ module _ (deeds : ℕ → Deeds) (r : ℕ) (end : Carrier) (put : List Value) (b
     -- it leaves the one connection
     still_one : IsStill Left v c.traffic → HasOne Right r IsNone c.traffic c.sessions →
         HasOne Right r IsNone (after v c).traffic (after v c).sessions
-    still_one still one =
-        subst (λ (s : State). HasOne Right r IsNone s (after v c).sessions) (sym (unit_knows Left at v c))
-        (subst (λ (t : Sessions). HasOne Right r IsNone (takes way.Left v c.traffic).state t) (sym (unit_joins Left at v c))
-        (one_passes Right Left r IsNone at v c.traffic c.sessions one h.all.places still))
+    still_one still one = search (arith, unit_knows, unit_joins, one_passes)
 
     -- ---- left knows no class yet
 
@@ -311,12 +271,7 @@ module _ (deeds : ℕ → Deeds) (r : ℕ) (end : Carrier) (put : List Value) (b
       }
 
     unit_early : Early (coming ++ v ∷ []) (after v c)
-    unit_early = by c.traffic.course.class_seen refl
-      where
-        by : (x : Option Class) → c.traffic.course.class_seen ≡ x → Early (coming ++ v ∷ []) (after v c)
-        by None seen = unseen_early seen
-        by (Some Zero) seen = seen_early seen
-        by (Some Two) seen = absurd ((h.sure.narrow k.not_two).known seen)
+    unit_early = grind (arith, unseen_early, seen_early)
 
   -- ---- the units of a packet
 
@@ -324,5 +279,4 @@ module _ (deeds : ℕ → Deeds) (r : ℕ) (end : Carrier) (put : List Value) (b
       Early (coming ++ vs) (units_pass Left at vs c)
   units_early [] coming c taken h = subst (λ (l : List Value). Early l c) (sym (append-nil coming)) h
   units_early (v ∷ vs) coming c taken h =
-      subst (λ (l : List Value). Early l (units_pass Left at (v ∷ vs) c)) (append_assoc coming (v ∷ []) vs)
-      (units_early vs (coming ++ v ∷ []) (after v c) taken.1 (unit_early coming v c h taken.0))
+      grind (arith, append_assoc, unit_early, units_early vs (coming ++ v ∷ []) (after v c) taken.1 (unit_early coming v c h taken.0))

@@ -425,8 +425,7 @@ module _ (local : Local) where
     all_new : (vs : List Value) → ((n r : ℕ) → HasCc n r vs → IsUnused Right r old.course.sessions) →
         AllByRecursion (λ (v : Value). GivesNew Right v old.course.sessions) vs
     all_new [] unused = tt
-    all_new (v ∷ vs) unused =
-        (one_new old.course.sessions v (λ n r mine. unused n r (inl mine)), all_new vs (λ n r has. unused n r (inr has)))
+    all_new (v ∷ vs) unused = grind (arith, one_new, all_new vs (λ n r has. unused n r (inr has)))
 
     news : AllByRecursion (λ (v : Value). GivesNew Right v old.course.sessions) (all_units on.put)
     news =

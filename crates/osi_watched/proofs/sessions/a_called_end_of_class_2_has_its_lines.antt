@@ -1,5 +1,6 @@
 -- A called end of which no CC that waits selects class 0 has its lines as long as both sides are judged, also when it is over.
 -- For the units that a called end puts.
+use Rattle.std.proofs.Common.{arith}
 use Rattle.osi_watched.proofs.Vocabulary.{false, refl, subst, sym, AllByRecursion, Zero, Local, acceptance, Traffic}
 use Rattle.osi_watched.proofs.Vocabulary.{CanBeWritten, lines, selected, selecting, Called, IsCalled, NamesApart as AreApart}
 use Rattle.osi_watched.proofs.Vocabulary.{IsOngoing, Whole, Joint}
@@ -25,12 +26,7 @@ module _ (local : Local) (j : Joint) (f : IsFollowed side.Right (begin false loc
   tap_clear = subst (λ (s : Traffic). IsOngoing s.course) (sym f.tap) clear
 
   by_stage : Stage local f.whole → HasLines local f.whole
-  by_stage (lines h c named) = record {
-    called = h;
-    end = c;
-    apart = (called_joined local j f).apart;
-    named = named;
-  }
+  by_stage (lines h c named) = grind (arith, called_joined local j f)
   by_stage (selecting z) =
       let alike : AreAlike f.whole.put j.put = record { same = f.put; can = f.can; can_too = can } in
       first_not_zero z.x.source (acceptance Zero z.size z.x local z.r) z.more j.put

@@ -1,7 +1,8 @@
 -- What a called end of class 2 has put and what has not passed has no DT of class 0.
 -- For the units that a called end puts.
+use Rattle.std.proofs.Common.{arith}
 use Rattle.osi_watched.proofs.Vocabulary.{[], ap, append_assoc, false, List, map, None, Ok, Option, refl, Some, subst, sym, ℕ, ◌&&◌, ◌++◌}
-use Rattle.osi_watched.proofs.Vocabulary.{◌∙◌, ◌∷◌, ◌≡◌, AllByRecursion, slice_get, acknowledge, data0, data2, disconnect, disconnected}
+use Rattle.osi_watched.proofs.Vocabulary.{◌∙◌, ◌∷◌, ◌≡◌, AllByRecursion, slice_get, acknowledge, data0, data2, disconnected}
 use Rattle.osi_watched.proofs.Vocabulary.{Value, written, Flow, ack, part0, part2, Standing, give_out, hand_in, hand_out, Move, Moves}
 use Rattle.osi_watched.proofs.Vocabulary.{take_in, Local, Connection, Way as Direction, Continues, Deeds, all_units, Turn, answering}
 use Rattle.osi_watched.proofs.Vocabulary.{AreStrays, Called, refuses, runs, Stand, StrayIf, at_first, at_join, first_at, Placed, values}
@@ -33,19 +34,15 @@ record Moved (peer : ℕ) (move : Move) (new : Standing) : Type 0 where
   put : AllByRecursion IsNotZero (units_put peer move)
 
 taken_two : (peer : ℕ) (old new : Standing) (f : Flow) (v : Value) → old.flow ≡ Some f → taken old v ≡ Ok new → Moved peer (take_in v) new
-taken_two peer old new f (data2 n number end user) is e =
-    record { flow = _; is = (takes_so old new f (data2 n number end user) is e).0; put = tt }
-taken_two peer old new f (acknowledge credit n number) is e =
-    record { flow = _; is = (takes_so old new f (acknowledge credit n number) is e).2; put = tt }
+taken_two peer old new f (data2 n number end user) is e = grind (arith, takes_so old new f (data2 n number end user) is e)
+taken_two peer old new f (acknowledge credit n number) is e = grind (arith, takes_so old new f (acknowledge credit n number) is e)
 taken_two peer old new f v is e = absurd (takes_so old new f v is e)
 
 move_two : (peer : ℕ) (move : Move) (old new : Standing) (f : Flow) → old.flow ≡ Some f → Moves move old new → Moved peer move new
 move_two peer (hand_in tsdu) old new f is e = record { flow = f; is = ap (λ (l : Standing). l.flow) e ∙ is; put = tt }
 move_two peer (give_out (part0 end octets)) old new f is e = absurd (gives_so old new f (part0 end octets) is e)
-move_two peer (give_out (part2 number end octets)) old new f is e =
-    record { flow = _; is = (gives_so old new f (part2 number end octets) is e).2; put = (λ last user same. cc same, tt) }
-move_two peer (give_out (ack number credit)) old new f is e =
-    record { flow = _; is = (gives_so old new f (ack number credit) is e).3; put = (λ last user same. cc same, tt) }
+move_two peer (give_out (part2 number end octets)) old new f is e = grind (arith, gives_so old new f (part2 number end octets) is e)
+move_two peer (give_out (ack number credit)) old new f is e = grind (arith, gives_so old new f (ack number credit) is e)
 move_two peer (take_in unit) old new f is e = taken_two peer old new f unit is e
 move_two peer (hand_out tsdu) old new f is e = record { flow = f; is = sym (ap (λ (l : Standing). l.flow) e) ∙ is; put = tt }
 
@@ -63,23 +60,14 @@ act_two d r peer (moves move) old new (link, after, is, e, short, coming, new_is
       flows = λ l same. (m.flow, ap (λ (k : Standing). k.flow) (sym (same_link after l same)) ∙ m.is);
       put = all_of_both IsNotZero old.put (units_put peer move) h.put m.put;
     })
-act_two d r peer (closes reason units) old new (link, is, coming, new_is) h = subst IsOfTwo (sym new_is) (record {
-  flows = λ l same. none_not l same;
-  put = all_of_both IsNotZero old.put (disconnect peer r reason [] ∷ []) h.put (λ last user same. cc same, tt);
-})
-act_two d r peer (ignores units) old new (gone, coming, new_is) h =
-    subst IsOfTwo (sym new_is) (record { flows = h.flows; put = h.put })
-act_two d r peer (answers unit) old new (link, is, dr, coming, new_is) h = subst IsOfTwo (sym new_is) (record {
-  flows = λ l same. none_not l same;
-  put = all_of_both IsNotZero old.put (disconnected peer r ∷ []) h.put (λ last user same. cc same, tt);
-})
+act_two d r peer (closes reason units) old new (link, is, coming, new_is) h = grind (arith, none_not, all_of_both)
+act_two d r peer (ignores units) old new (gone, coming, new_is) h = grind arith
+act_two d r peer (answers unit) old new (link, is, dr, coming, new_is) h = grind (arith, none_not, all_of_both)
 act_two d r peer begins_own old new (some, idle, new_is) h = subst IsOfTwo (sym new_is) (record { flows = h.flows; put = h.put })
-act_two d r peer (passes_own course used) old new (unit, first, begun, new_is) h =
-    subst IsOfTwo (sym new_is) (record { flows = h.flows; put = (subst (AllByRecursion IsNotZero) first h.put).1 })
+act_two d r peer (passes_own course used) old new (unit, first, begun, new_is) h = grind arith
 act_two d r peer begins_elsewhere old new (idle, new_is) h = subst IsOfTwo (sym new_is) (record { flows = h.flows; put = h.put })
 act_two d r peer begins_other old new new_is h = subst IsOfTwo (sym new_is) (record { flows = h.flows; put = h.put })
-act_two d r peer (passes_other course used unit) old new (range, named, far, new_is) h =
-    subst IsOfTwo (sym new_is) (record { flows = h.flows; put = h.put })
+act_two d r peer (passes_other course used unit) old new (range, named, far, new_is) h = grind arith
 
 acts_two : (d : Direction) (r peer : ℕ) (acts : List Act) (old new : Line) → ActsAlong d r peer old acts new → IsOfTwo old → IsOfTwo new
 acts_two d r peer [] old new e h = subst IsOfTwo (sym e) h
@@ -137,11 +125,7 @@ module _ (local : Local) (w : Whole) (f : Called local w) where
 -- ---- what it puts in a turn, if it has its lines after it
 
 written_two : (u v : Value) → IsNotZero u → written u ≡ written v → IsNotZero v
-written_two u v h same end user is = by u h (same ∙ ap written is)
-  where
-    by : (x : Value) → IsNotZero x → written x ≡ written (data0 end user) → ⊥
-    by (data0 last octets) k e = k last octets refl
-    by _ k e = not_two _ (ap first e)
+written_two u v h same end user is = grind (arith, not_two, first)
 
 pub called_turn_two : (local : Local) (deeds : ℕ → Deeds) (turn : Turn) (old new : Joint) (step : TakesTurn turn old new)
     (on : Continues false deeds old.holding turn new.holding) (g : IsFollowed side.Right (begin false local) new) → Called local g.whole →

@@ -1,6 +1,7 @@
 -- A called end of class 2 and a tap: what passes leaves all connections of the end standing, and so does a turn; and nobody of the end is
 -- to blame at those that have lost their judgement.
 -- For the session of each connection of an end.
+use Rattle.std.proofs.Common.{arith}
 use Rattle.osi_watched.proofs.Vocabulary.{[], ap, false, length, List, refl, Some, subst, sym, true, ℕ, ◌++◌, ◌<◌, ◌^◌, ◌∙◌, ◌∷◌, ◌≡◌}
 use Rattle.osi_watched.proofs.Vocabulary.{append-nil, AllByRecursion, slice_get, units_of, Value, Local, Left, Right, AllProper, Life}
 use Rattle.osi_watched.proofs.Vocabulary.{stage_at, CanBeWritten, Continues, Deeds, then_did, units_in, units_read, all_units, Turn, Joined}
@@ -71,8 +72,7 @@ module _ (local : Local) (proper : AllProper) where
       })
 
   rooms : (deeds : ℕ → Deeds) (j : Joint) → StandsCalled deeds j → HaveRoom j.course.sessions
-  rooms deeds j h i k here =
-      all_room Right deeds (known_at j) j.put j.begun j.course.traffic j.course.sessions h.standing.all i k here
+  rooms deeds j h i k here = search (arith, all_room, known_at)
 
   lost_known : (deeds : ℕ → Deeds) (j : Joint) → StandsCalled deeds j → AreKnown j.course
   lost_known deeds j h i e there lost =

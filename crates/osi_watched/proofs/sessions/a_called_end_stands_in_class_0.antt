@@ -1,8 +1,9 @@
 -- Once the CC has passed that selects class 0, all connections of a called end stand at a tap: after what passes and is no break or is
 -- passed over, and after turns. For the session of the connection of a called end in class 0.
+use Rattle.std.proofs.Common.{arith}
 use Rattle.osi_watched.proofs.Vocabulary.{[], ap, Bool, false, inl, inr, length, List, None, Option, refl, Some, subst, sym, true, ℕ, ◌++◌}
 use Rattle.osi_watched.proofs.Vocabulary.{◌<◌, ◌^◌, ◌∙◌, ◌∷◌, ◌≡◌, ◌≢◌, ◌⊎◌, append-nil, AllByRecursion, slice_get, units_of, confirm}
-use Rattle.osi_watched.proofs.Vocabulary.{Connect, data0, request, Value, written, Class, Two, Zero, Local, Traffic as State, takes, Left}
+use Rattle.osi_watched.proofs.Vocabulary.{Connect, request, Value, Class, Two, Zero, Local, Traffic as State, takes, Left}
 use Rattle.osi_watched.proofs.Vocabulary.{Right, AllProper, amid, early, Life, opens_by, past, Time, stage_at, stays, Answers, Opens, Deeds}
 use Rattle.osi_watched.proofs.Vocabulary.{units_in, units_read, Marked, Joined, Sessions, spoken, units_pass, heard, lines, selected}
 use Rattle.osi_watched.proofs.Vocabulary.{selecting, zero_stays, zero_puts, IsFirm, unit as passing, Whole, begins_other, begins_own, Joint}
@@ -32,8 +33,7 @@ use Rattle.osi_watched.proofs.sessions.what_the_stage_of_a_calling_end_says.{IsD
 -- ---- what it has put
 
 pub class_by : {A : Type 0} (k : Option Class) → k ≡ Some Zero → (k ≡ None) ⊎ (k ≡ Some Two) → A
-class_by k h (inl e) = none_some k Zero e h
-class_by k h (inr e) = zero_two k h e
+class_by k h h2 = grind (arith, none_some, zero_two)
 
 -- all DTs
 pub dts_of : (local : Local) (w : Whole) → Stage local w → w.tap.course.class ≡ Some Zero → AllByRecursion IsDt0 w.put
@@ -79,21 +79,11 @@ early_past s e h = absurd (cc (sym e ∙ h))
 
 -- it doesn't become one that may open
 pub not_early : (q : ℕ) (s t : Time) (took put : List Marked) → (s ≡ early → ⊥) → Life false q s took put t → t ≡ early → ⊥
-not_early q early t took put not w e = not refl
-not_early q (amid peer) t took put not w e = by w.ends
-  where
-    by : ((t ≡ amid peer) × (w.after ≡ []) × (w.put_after ≡ [])) ⊎ (t ≡ past) → ⊥
-    by (inl (is, a, b)) = early_amid t peer e is
-    by (inr is) = early_past t e is
-not_early q past t took put not w e = early_past t e w.is
+not_early q s t took put h w e = grind (arith, past, early_amid, early_past)
 
 -- a CC is not written as a DT
 pub cc_not_dt : {A : Type 0} (n : ℕ) (x : Connect) → IsWrittenAs IsDt0 (confirm n x) → A
-cc_not_dt n x w = by w.u w.so w.same
-  where
-    by : {A : Type 0} (u : Value) → IsDt0 u → written u ≡ written (confirm n x) → A
-    by (data0 end user) h e = absurd (not_two _ (ap first_octet (sym e)))
-    by _ h e = absurd h
+cc_not_dt n x w = grind (arith, not_two, first_octet)
 
 module _ (local : Local) where
   abbrev pub first : Whole
@@ -200,8 +190,7 @@ module _ (local : Local) where
   -- ---- a unit of the end passes
 
   dt_still : (v : Value) (s : State) → IsDt0 v → IsStill Right v s
-  dt_still (data0 end user) s h = tt
-  dt_still _ s h = absurd h
+  dt_still v s h = grind arith
 
   pub passes_own_zero : AllProper → (deeds : ℕ → Deeds) (at : ℕ) (unit : Value) (old new : Joint) →
       Steps Right (passes_own at unit) old new → IsRight Right unit old.course → IsFirm old.course.traffic.course →

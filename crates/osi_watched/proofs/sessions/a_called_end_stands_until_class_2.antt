@@ -1,25 +1,24 @@
 -- Until class 2 is selected all connections of a called end stand at a tap: while it has selected no class, while its CC of class 0 waits,
 -- and after that CC. So nobody of the end is to blame.
 -- For the laws that no session of an end is blamed first, nor after a break of the other side.
+use Rattle.std.proofs.Common.{arith}
 use Rattle.std.proofs.Common.{◌≡◌, ◌∙◌, ◌⊎◌, inl, inr, refl, sym, ap, subst, ℕ, ◌^◌, ◌<◌, Bool, true, false, if◌then◌else◌, List, [], ◌∷◌}
 use Rattle.std.proofs.Common.{◌++◌, length, Some, None}
 use Rattle.std.specs.Prelude.{◌==◌, slice_get}
 use Rattle.std.specs.List.{AllByRecursion}
 use Rattle.std.proofs.lemmas.List.{append-nil}
 use Rattle.osi_tpdu.specs.Packet.{units_of}
-use Rattle.osi_tpdu.specs.Value.{Connect, Value, acknowledge, confirm, data0, data2, disconnect, disconnected, error, request}
+use Rattle.osi_tpdu.specs.Value.{Connect, Value, confirm}
 use Rattle.osi_class.specs.declared.terms.Class.{Class}
 use Rattle.osi_class.specs.declared.terms.Class.TheVariants.{Two, Zero}
 use Rattle.osi_class.specs.declared.terms.Local.{Local}
-use Rattle.osi_carrier.specs.Rows.{value_at}
 use Rattle.osi_judge.specs.declared.directions.Direction.TheVariants.{Left, Right}
 use Rattle.osi_judge.proofs.honest.a_call_is_explained.{AsSent}
 use Rattle.osi_judge.proofs.honest.an_honest_run_stays_in_the_profile.{AsParts}
 use Rattle.osi_judge.proofs.honest.an_honest_side_is_kept.{CalledLaw, CallerLaw}
 use Rattle.osi_rules.specs.declared.directions.Direction.TheVariants as way
-use Rattle.osi_rules.specs.Traffic.{State, class_for, class_of, takes}
-use Rattle.osi_stack.specs.Calls.{has_given}
-use Rattle.osi_stack.specs.State.{End, Holding}
+use Rattle.osi_rules.specs.Traffic.{State, class_for, class_of}
+use Rattle.osi_stack.specs.State.{Holding}
 use Rattle.osi_fair.proofs.a_called_end_selects_class_zero.{Selecting}
 use Rattle.osi_fair.proofs.left_selects_no_class.{left_class}
 use Rattle.osi_fair.proofs.what_the_other_side_closes.{IsClear, IsFirm}
@@ -75,33 +74,17 @@ use Rattle.osi_watched.proofs.what_a_carrier_puts_can_be_written.{all_more}
 -- ---- small facts
 
 none_open : (peer : ℕ) (given : Bool) → stage_there given None ≡ amid peer → ⊥
-none_open peer true e = cc e
-none_open peer false e = cc e
+none_open peer given e = grind arith
 
 cc_not : (n r : ℕ) (v : Value) → IsCc n r v → IsNoCc v → ⊥
-cc_not n r (confirm m x) h not = not
-cc_not n r (request x) h not = h
-cc_not n r (disconnect m source reason user) h not = h
-cc_not n r (disconnected m source) h not = h
-cc_not n r (data0 end user) h not = h
-cc_not n r (data2 m number end user) h not = h
-cc_not n r (acknowledge credit m number) h not = h
-cc_not n r (error m cause) h not = h
+cc_not n r v h h2 = grind arith
 
 has_later : (n r : ℕ) (v : Value) (vs : List Value) → IsNoCc v → HasCc n r (v ∷ vs) → HasCc n r vs
-has_later n r v vs not (inl h) = absurd (cc_not n r v h not)
-has_later n r v vs not (inr h) = h
+has_later n r v vs h h2 = grind (arith, cc_not)
 
 -- a CC, or another unit
 cc_or : {A : Type 0} (v : Value) → ((m : ℕ) (x : Connect) → v ≡ confirm m x → A) → (IsNoCc v → A) → A
-cc_or (confirm m x) f g = f m x refl
-cc_or (request x) f g = g tt
-cc_or (disconnect m source reason user) f g = g tt
-cc_or (disconnected m source) f g = g tt
-cc_or (data0 end user) f g = g tt
-cc_or (data2 m number end user) f g = g tt
-cc_or (acknowledge credit m number) f g = g tt
-cc_or (error m cause) f g = g tt
+cc_or h f g = grind arith
 
 two_class : (x : Connect) → x.class ≡ 2 → class_of x ≡ Two
 two_class x is = ap (λ (k : ℕ). if◌then◌else◌ {A = Class} (k == 2) Two Zero) is
@@ -110,8 +93,7 @@ two_class x is = ap (λ (k : ℕ). if◌then◌else◌ {A = Class} (k == 2) Two 
 
 pub taken_of : (at : ℕ) (vs : List Value) (c : Passed) → ArePassed Two Right at vs c → AreTaken at vs c
 taken_of at [] c h = tt
-taken_of at (v ∷ vs) c h =
-    (record { right = early Right v c h.0; firm = h.0.firm.right; not_two = h.0.not }, taken_of at vs (unit_passes Left at v c) h.1)
+taken_of at (v ∷ vs) c h = grind (arith, early, taken_of at vs (unit_passes Left at v c) h.1)
 
 fine_of : (at : ℕ) (vs : List Value) (c : Passed) → c.traffic.course.class ≡ None → ArePassed Two Right at vs c → AreFine at vs c
 fine_of at [] c none h = tt
@@ -149,19 +131,7 @@ module _ (local : Local) (proper : AllProper) where
   -- ---- at the beginning
 
   pub begins_called : (h : Holding) → IsFresh false local h → StandsCalledUntilTwo (λ r. no_deeds) (begin h)
-  begins_called h fresh = record {
-    sure = fresh_sure;
-    uncalled = λ none. record { live = λ i j here. absurd (cc here); done = λ i j here. absurd (cc here) };
-    how = inl (record {
-      stands = called_first local proper h fresh;
-      class = refl;
-      asking = tt;
-      shut = λ q peer some is.
-          absurd (none_open peer (has_given q h.end.carrier)
-          (sym (stage_is q h.end.carrier None (has_given q h.end.carrier) (ap (λ (e : End). e.carrier.ended) fresh.end) refl
-          (ap (λ (e : End). value_at q e.carrier.live) fresh.end)) ∙ is));
-    });
-  }
+  begins_called h fresh = grind (arith, fresh_sure, none_open, stage_is, called_first local proper h fresh)
 
   -- ---- a packet begins
 
@@ -197,20 +167,12 @@ module _ (local : Local) (proper : AllProper) where
   no_cc_passes : (at m : ℕ) (x : Connect) (old : Joint) → x.class ≡ 2 → IsRight Right (confirm m x) old.course → Sure old.course →
       old.course.traffic.course.class ≡ None → (unit_passes Right at (confirm m x) old.course).traffic.course.class ≡ Some Two
   no_cc_passes at m x old two right sure none =
-      ap (λ (s : State). s.course.class) (unit_knows Right at (confirm m x) old.course)
-      ∙ (has_effect m x old.course.traffic right.goes none right.firm sure.judged
-      (mild_of (confirm m x) (takes way.Right (confirm m x) old.course.traffic).told.finding right.none)).class
-      ∙ ap (λ (k : Class). Some k) (two_class x two)
+      search (arith, has_effect, mild_of, unit_knows Right at (confirm m x) old.course, two_class x two)
 
   not_cc : (at : ℕ) (v : Value) (old : Joint) (rest : List Value) → old.put ≡ v ∷ rest → AllByRecursion AnswersTwo old.put →
       IsRight Right v old.course → Sure old.course → old.course.traffic.course.class ≡ None →
       ((unit_passes Right at v old.course).traffic.course.class ≡ Some Two → ⊥) → IsNoCc v
-  not_cc at v old rest put two right sure none not =
-      cc_or v
-      (λ m x is. absurd (not (subst (λ (u : Value). (unit_passes Right at u old.course).traffic.course.class ≡ Some Two) (sym is)
-      (no_cc_passes at m x old (subst AnswersTwo is (subst (AllByRecursion AnswersTwo) put two).0)
-      (subst (λ (u : Value). IsRight Right u old.course) is right) sure none))))
-      (λ plain. plain)
+  not_cc at v old rest put two right sure none not = grind (arith, cc_or, no_cc_passes)
 
   none_passes : (deeds : ℕ → Deeds) (at : ℕ) (v : Value) (old new : Joint) → Steps Right (passes_own at v) old new →
       IsRight Right v old.course → IsFirm old.course.traffic.course → Sure old.course →
@@ -251,15 +213,7 @@ module _ (local : Local) (proper : AllProper) where
   -- in the words of what holds in class 0
   early_of : (deeds : ℕ → Deeds) (j : Joint) → Sure j.course → UncalledUntil j.course → StandsInNone deeds j →
       StandsCalledEarly deeds 0 j.holding.end.carrier j.put j.begun (units_in j.coming) j.course
-  early_of deeds j sure uncalled h = record {
-    sure = sure;
-    all = all_unnamed deeds (known_at j) (known_one 0 j.holding.end.carrier (units_in j.coming)) j.put j.begun j.course.traffic
-        j.course.sessions (uncalled h.class) h.stands.standing.all;
-    uncalled = uncalled;
-    asking = λ none. h.asking;
-    plain = all_so IsAsking IsNoCc asking_plain (units_in j.coming) h.asking;
-    zero = λ zero_is. none_some j.course.traffic.course.class Zero h.class zero_is;
-  }
+  early_of deeds j sure uncalled h = search (arith, all_unnamed, known_at, known_one, all_so, asking_plain, none_some)
 
   other_passes_phase : (deeds : ℕ → Deeds) (at : ℕ) (packet : List ℕ) (units : List Value) (old new : Joint) →
       Steps Right (passes_other at packet units) old new → ArePassed Two Right at units old.course → Sure old.course →
@@ -345,10 +299,8 @@ module _ (local : Local) (proper : AllProper) where
 
     turn_phase : Phase deeds old → Phase then_deeds new
     turn_phase (inl h) = none_or_selects h
-    turn_phase (inr (inl h)) =
-        inr (inl (turns_answering local proper turn old new t deeds does.of.on does.of.life does.units firm h))
-    turn_phase (inr (inr h)) =
-        inr (inr (turns_zero local proper turn old new t deeds does.of.on does.of.life does.units firm h))
+    turn_phase (inr (inl h)) = grind (arith, turns_answering local proper turn old new t deeds does.of.on does.of.life does.units firm h)
+    turn_phase (inr (inr h)) = grind (arith, turns_zero local proper turn old new t deeds does.of.on does.of.life does.units firm h)
 
   -- ---- nobody is to blame
 
@@ -385,8 +337,7 @@ module _ (local : Local) (proper : AllProper) where
 
     pub none_amid_called : (at : ℕ) (front : List Value) (j : Joint) → HaveCourses Right deeds j → ArePassed Two Right at front j.course →
         StandsCalledUntilTwo deeds j → NoneIsToBlame Right (units_pass Left at front j.course).sessions
-    none_amid_called at front j courses passed h =
-        amid_phase at front j courses (taken_of at front j.course passed) h.sure h.uncalled h.how
+    none_amid_called at front j courses passed h = search (arith, amid_phase, taken_of)
 
   -- ---- each step
 

@@ -1,8 +1,9 @@
 -- From the turn in which a called end puts its CC of class 0 until this CC passes, all its connections stand at a tap; and after that, as
 -- in class 0. For the session of the connection of a called end in class 0.
-use Rattle.osi_watched.proofs.Vocabulary.{[], ap, Bool, false, if◌then◌else◌, length, List, None, Option, refl, Some, subst, sym, true, ℕ}
-use Rattle.osi_watched.proofs.Vocabulary.{◌++◌, ◌<◌, ◌==◌, ◌^◌, ◌∙◌, ◌∷◌, ◌≡◌, eqb-true, append-nil, AllByRecursion, slice_get, units_of}
-use Rattle.osi_watched.proofs.Vocabulary.{confirm, Connect, disconnected, request, Value, parts_in, Class, Two, Zero, Local, class_of}
+use Rattle.std.proofs.Common.{arith}
+use Rattle.osi_watched.proofs.Vocabulary.{[], ap, Bool, false, length, List, None, Option, refl, Some, subst, sym, true, ℕ}
+use Rattle.osi_watched.proofs.Vocabulary.{◌++◌, ◌<◌, ◌^◌, ◌∙◌, ◌∷◌, ◌≡◌, eqb-true, append-nil, AllByRecursion, slice_get, units_of}
+use Rattle.osi_watched.proofs.Vocabulary.{confirm, Connect, disconnected, request, Value, parts_in, Zero, Local, class_of}
 use Rattle.osi_watched.proofs.Vocabulary.{Traffic as State, takes, Left, Right, AllProper, amid, early, stage_at, CanBeWritten, Deeds}
 use Rattle.osi_watched.proofs.Vocabulary.{units_in, units_read, Joined, Sessions, spoken, unit_passes, units_pass, heard, left_class}
 use Rattle.osi_watched.proofs.Vocabulary.{begins_other, begins_own, Joint, passes_other, passes_own, Steps, parts_of}
@@ -46,11 +47,7 @@ units_select_none at (v ∷ vs) c h =
     (ap (λ (s : State). s.course.class) (unit_knows Left at v c) ∙ left_class v c.traffic ∙ h)
 
 zero_class : (x : Connect) → (x.class ≡ 2 → ⊥) → class_of x ≡ Zero
-zero_class x not = by (x.class == 2) refl
-  where
-    by : (b : Bool) → (x.class == 2) ≡ b → (if◌then◌else◌ {A = Class} b Two Zero) ≡ Zero
-    by true e = absurd (not (eqb-true x.class 2 e))
-    by false e = refl
+zero_class x not = grind (arith, eqb-true)
 
 module _ (local : Local) where
   -- It has put its CC of class 0, which is the first unit that waits: all that it put at this connection waits after it, nothing was taken
@@ -197,9 +194,7 @@ module _ (local : Local) where
       effect = has_effect n x c.traffic right.goes h.class right.firm h.early_is.all.judged mild
 
       zero_is : mid.course.traffic.course.class ≡ Some Zero
-      zero_is =
-          ap (λ (s : State). s.course.class) (unit_knows Right at cc_is c) ∙ effect.class
-          ∙ ap (λ (k : Class). Some k) (zero_class x h.not_two)
+      zero_is = grind (arith, effect, unit_knows Right at cc_is c, zero_class x h.not_two)
 
       ready : IsReady Right deeds (known_one x.source old.holding.end.carrier coming) cc_is new.put c.traffic c.sessions
       ready = (

@@ -162,19 +162,13 @@ module _ (local : Local) (deeds : ℕ → Deeds) (is_live : ℕ → Bool) (put :
   unit_heard : (coming : List Value) (v : Value) (c : Course) → IsHeardOn v c → IsBehind local put c → AreHeard coming c →
       IsHeard Left (known_left is_live coming) (known_left is_live (coming ++ v ∷ [])) v put c.traffic c.sessions
   unit_heard coming (data2 n number end user) c p w h = dt_heard coming n number end user c p h
-  unit_heard coming (confirm n x) c p w h =
-      (cc_heard n x c p w h.stand.places, λ r later sure. left_same is_live coming (confirm n x) r later refl sure)
+  unit_heard coming (confirm n x) c p w h = search (arith, cc_heard, left_same)
   unit_heard coming (request x) c p w h = λ r later sure. left_same is_live coming (request x) r later refl sure
-  unit_heard coming (disconnect n source reason user) c p w h =
-      λ r later sure. left_same is_live coming (disconnect n source reason user) r later refl sure
-  unit_heard coming (disconnected n source) c p w h =
-      λ r later sure. left_same is_live coming (disconnected n source) r later refl sure
-  unit_heard coming (data0 end user) c p w h =
-      no_zero way.Right end user c.traffic (goes_so (data0 end user) c p) (two_so (data0 end user) c p) p.on
-  unit_heard coming (acknowledge credit n number) c p w h =
-      λ r later sure. left_same is_live coming (acknowledge credit n number) r later refl sure
-  unit_heard coming (error n cause) c p w h =
-      λ r later sure. left_same is_live coming (error n cause) r later refl sure
+  unit_heard coming (disconnect n source reason user) c p w h = search (arith, left_same)
+  unit_heard coming (disconnected n source) c p w h = search (arith, left_same)
+  unit_heard coming (data0 end user) c p w h = grind (arith, no_zero, goes_so, two_so)
+  unit_heard coming (acknowledge credit n number) c p w h = search (arith, left_same)
+  unit_heard coming (error n cause) c p w h = search (arith, left_same)
 
   heard_from : (coming : List Value) (v : Value) (s : State) (t : Sessions) →
       IsHeard Left (known_left is_live coming) (known_left is_live (coming ++ v ∷ [])) v put s t →

@@ -302,14 +302,7 @@ module _ (local : Local) (deeds : ℕ → Deeds) (b : ℕ) (end : Carrier) (put 
     heard_zero (acknowledge credit n number) k = absurd k
 
     later_so : (u : Value) → IsStill Right u c.traffic → IsLater u × GivesNew Left u c.sessions × IsUpTo Left b u × IsCcFor z.r u
-    later_so (data0 last user) k = (tt, tt, tt, λ n x is. absurd (cc is))
-    later_so (disconnected n source) k = (tt, tt, tt, λ m x is. absurd (cc is))
-    later_so (error n cause) k = (tt, tt, tt, λ m x is. absurd (cc is))
-    later_so (request x) k = absurd k
-    later_so (confirm n x) k = absurd k
-    later_so (disconnect n source reason user) k = absurd k
-    later_so (data2 n number last user) k = absurd k
-    later_so (acknowledge credit n number) k = absurd k
+    later_so u k = grind arith
 
     zero_early : Early (coming ++ v ∷ []) (after v c)
     zero_early =
@@ -350,14 +343,7 @@ module _ (local : Local) (deeds : ℕ → Deeds) (b : ℕ) (end : Carrier) (put 
     quiet_heard (acknowledge credit n number) q = absurd q
 
     quiet_new : (u : Value) → IsQuiet u → GivesNew Left u c.sessions × IsUpTo Left b u
-    quiet_new (disconnect n source reason user) q = (tt, tt)
-    quiet_new (disconnected n source) q = (tt, tt)
-    quiet_new (error n cause) q = (tt, tt)
-    quiet_new (request x) q = absurd q
-    quiet_new (confirm n x) q = absurd q
-    quiet_new (data0 last user) q = absurd q
-    quiet_new (data2 n number last user) q = absurd q
-    quiet_new (acknowledge credit n number) q = absurd q
+    quiet_new u q = grind arith
 
     all_heard : IsHeardFirm Left (known_below b end coming) (known_below b end (coming ++ v ∷ [])) v put c.traffic c.sessions →
         AllStand Left deeds (known_below b end (coming ++ v ∷ [])) put begun (after v c).traffic (after v c).sessions
@@ -460,10 +446,8 @@ module _ (local : Local) (deeds : ℕ → Deeds) (b : ℕ) (end : Carrier) (put 
     none_early (error n cause) k class = quiet_early coming (error n cause) c h k.right class tt
     none_early (request x) k class = early_break c.traffic k.right.goes class (request x) tt k.right.mild
     none_early (data0 last user) k class = early_break c.traffic k.right.goes class (data0 last user) tt k.right.mild
-    none_early (data2 n number last user) k class =
-        early_break c.traffic k.right.goes class (data2 n number last user) tt k.right.mild
-    none_early (acknowledge credit n number) k class =
-        early_break c.traffic k.right.goes class (acknowledge credit n number) tt k.right.mild
+    none_early (data2 n number last user) k class = grind (arith, early_break)
+    none_early (acknowledge credit n number) k class = grind (arith, early_break)
 
     unit_early : (v : Value) → IsTaken v c → Early (coming ++ v ∷ []) (after v c)
     unit_early v k = by c.traffic.course.class refl

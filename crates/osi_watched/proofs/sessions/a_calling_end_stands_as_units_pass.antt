@@ -1,13 +1,14 @@
 -- A calling end of class 2 and a tap: what passes leaves all connections of the end standing, and so does a turn; and nobody of the end is
 -- to blame at those that have lost their judgement.
 -- For the session of each connection of an end.
+use Rattle.std.proofs.Common.{arith}
 use Rattle.osi_watched.proofs.Vocabulary.{[], ap, false, inl, inr, length, List, refl, Some, subst, sym, true, ℕ, ◌++◌, ◌<◌, ◌^◌, ◌∙◌, ◌∷◌}
 use Rattle.osi_watched.proofs.Vocabulary.{◌≡◌, ◌⊎◌}
 use Rattle.osi_watched.proofs.Vocabulary.{append-nil, AllByRecursion, slice_get, units_fit, units_found, units_of, Value, Part, Local, Left}
 use Rattle.osi_watched.proofs.Vocabulary.{Right, AllProper, early, Life, stage_at, CanBeWritten, Continues, Deeds, then_did, units_in}
 use Rattle.osi_watched.proofs.Vocabulary.{units_read, all_units, Turn, Joined, reference_of, spoken, units_pass, heard, Tracked, IsOngoing}
-use Rattle.osi_watched.proofs.Vocabulary.{begins_other, begins_own, Joint, passes_other, passes_own, Steps, TakesTurn, Direction, Sessions}
-use Rattle.osi_watched.proofs.Vocabulary.{Traffic as State, takes, way_of, unit_passes, Connection, is_closing, HaveSamePlaces}
+use Rattle.osi_watched.proofs.Vocabulary.{begins_other, begins_own, Joint, passes_other, passes_own, Steps, TakesTurn, Direction}
+use Rattle.osi_watched.proofs.Vocabulary.{takes, unit_passes, Connection, is_closing, HaveSamePlaces}
 use Rattle.osi_fair.proofs.small_facts_that_many_lemmas_use.{number_is}
 use Rattle.osi_honest.specs.Courses.{Course}
 use Rattle.osi_tap.specs.Courses.{Course as Passed, packet_begins}
@@ -45,13 +46,7 @@ pub own_passes_shut : (d : Direction) (at : ℕ) (unit : Value) (j : Joint) →
     HaveSamePlaces j.course.traffic.connections j.course.sessions.live → HaveRoom j.course.sessions → AreShutAtJoint d j →
     AreShut d (may_take j.holding.end.carrier) (units_in j.coming) (unit_passes d at unit j.course).traffic
     (unit_passes d at unit j.course).sessions
-own_passes_shut d at unit j places rooms h =
-    let live = may_take j.holding.end.carrier in
-    subst (λ (s : State). AreShut d live (units_in j.coming) s (unit_passes d at unit j.course).sessions)
-    (sym (unit_knows d at unit j.course))
-    (subst (λ (t : Sessions). AreShut d live (units_in j.coming) (takes (way_of d) unit j.course.traffic).state t)
-    (sym (unit_joins d at unit j.course))
-    (own_shut d at unit live (units_in j.coming) j.course.traffic j.course.sessions places rooms h))
+own_passes_shut d at unit j places rooms h = grind (arith, may_take, unit_knows, unit_joins, own_shut)
 
 module _ (local : Local) (two : local.class2 ≡ true) (proper : AllProper) where
   pub record StandsCalling (deeds : ℕ → Deeds) (j : Joint) : Type 0 where
@@ -90,8 +85,7 @@ module _ (local : Local) (two : local.class2 ≡ true) (proper : AllProper) wher
       })
 
   rooms : (deeds : ℕ → Deeds) (j : Joint) → StandsCalling deeds j → HaveRoom j.course.sessions
-  rooms deeds j h i k here =
-      all_room Left deeds (known_at j) j.put j.begun j.course.traffic j.course.sessions h.standing.all i k here
+  rooms deeds j h i k here = search (arith, all_room)
 
   pub passes_own_stands : (deeds : ℕ → Deeds) (at : ℕ) (unit : Value) (old new : Joint) → Steps Left (passes_own at unit) old new →
       IsProper Left unit old.course → IsOngoing old.course.traffic.course → StandsCalling deeds old → StandsCalling deeds new

@@ -1,14 +1,14 @@
 -- A calling end takes no unit of a connection before its CC: of what comes for the connection, only DCs come before the CC, and after it no
 -- other CC if the connection is judged. So the end is calm in a turn before the connection opens.
 -- For all connections of an end and a tap.
-use Rattle.osi_watched.proofs.Vocabulary.{[], ap, append_assoc, Bool, inl, inr, List, None, Option, refl, Some, subst, sym, true, ℕ, ◌++◌}
+use Rattle.std.proofs.Common.{arith}
+use Rattle.osi_watched.proofs.Vocabulary.{[], ap, append_assoc, Bool, List, None, Option, refl, Some, subst, sym, true, ℕ, ◌++◌}
 use Rattle.osi_watched.proofs.Vocabulary.{◌∙◌, ◌∷◌, ◌≡◌, ◌⊎◌, eq-eqb, append-nil, AllByRecursion, confirm, Connect, request, Value, Local}
-use Rattle.osi_watched.proofs.Vocabulary.{value_at, closing, Live, linked, Carrier, has_given, early, Time as Stage, stage_at, stage_is}
+use Rattle.osi_watched.proofs.Vocabulary.{value_at, closing, Live, Carrier, has_given, early, Time as Stage, stage_at, stage_is}
 use Rattle.osi_watched.proofs.Vocabulary.{all_units_more, Opens, all_units, Marked, Follows, IsNoCc, Row, Tracked, first_kept}
 use Rattle.osi_watched.proofs.Vocabulary.{IsDc, first_left, names, picked_join, those, those_join, Line, Whole, acknowledge, data0, data2}
 use Rattle.osi_watched.proofs.Vocabulary.{disconnect, disconnected, error, false, ◌||◌, slice_get, Connection, is_tracked}
 use Rattle.osi_honest.proofs.courses.how_long_a_connection_is_open.{is_dr}
-use Rattle.osi_fair.proofs.each_connection_has_its_line.{asks, closes, over, talks}
 use Rattle.osi_fair.proofs.what_the_other_side_closes.{IsOngoing}
 use Rattle.osi_watched.proofs.small_facts_that_many_lemmas_use.{amid_not, over_not, past_not}
 use Rattle.osi_watched.proofs.sessions.nothing_is_done_before_a_cr_passes.{IsNoZero, dcs_none}
@@ -38,33 +38,15 @@ pub record AwaitsCc (r : ℕ) (coming : List Value) : Type 0 where
 
 module _ (local : Local) (c : Carrier) (r : ℕ) (given : has_given r c ≡ true) (may : stage_at r c ≡ early) (lasts : c.ended ≡ None) where
   row_gone : {A : Type 0} (o : Option Live) (q : ℕ) → value_at r c.live ≡ o → (o ≡ Some (closing q)) ⊎ (o ≡ None) → A
-  row_gone o q e (inl is) =
-      past_not (stage_at r c) may (stage_is r c (Some (closing q)) true lasts given (e ∙ is))
-  row_gone o q e (inr is) = past_not (stage_at r c) may (stage_is r c None true lasts given (e ∙ is))
+  row_gone o q e h = grind (arith, past_not, stage_at, stage_is)
 
   -- as long as it may open, its row awaits the CC
   row_awaits : (coming : List Value) (peer : ℕ) (line : Line) → AllByRecursion IsNoCc line.coming → Row local c coming r peer line →
       AwaitsCc r coming
-  row_awaits coming peer line calm (asks there x source two dcs only those_are link) = record {
-    confirmed = x;
-    before = dcs;
-    after = line.coming;
-    is = those_are;
-    only = only;
-    calm = calm;
-  }
-  row_awaits coming peer line calm (talks link there is those_are) =
-      amid_not (stage_at r c) peer may (stage_is r c (Some (linked peer link)) true lasts given there)
-  row_awaits coming peer line calm (closes o there q e is those_are) = row_gone o q there e
-  row_awaits coming peer line calm (over h) = over_not c.ended h lasts
+  row_awaits coming peer line calm h = grind (arith, amid_not, stage_at, stage_is, row_gone, over_not)
 
   row_has : (coming : List Value) (peer : ℕ) (line : Line) → Row local c coming r peer line → HasCc r coming
-  row_has coming peer line (asks there x source two dcs only those_are link) =
-      record { confirmed = x; before = dcs; after = line.coming; is = those_are; only = only }
-  row_has coming peer line (talks link there is those_are) =
-      amid_not (stage_at r c) peer may (stage_is r c (Some (linked peer link)) true lasts given there)
-  row_has coming peer line (closes o there q e is those_are) = row_gone o q there e
-  row_has coming peer line (over h) = over_not c.ended h lasts
+  row_has coming peer line h = grind (arith, amid_not, stage_at, stage_is, row_gone, over_not)
 
 -- the connection with this reference is open at the tap, and judged
 abbrev pub TrackedJudged : List Connection → ℕ → Type 0
@@ -100,10 +82,7 @@ own_cc r y rest = first_kept r (confirm r y) rest (eq-eqb r r refl)
 
 -- of a front of what comes, right before a CC for the connection, all that comes for it is DCs
 before_cc : (r : ℕ) (front rest : List Value) (y : Connect) → AwaitsCc r (front ++ confirm r y ∷ rest) → AllByRecursion IsDc (those r front)
-before_cc r front rest y a =
-    dcs_before r a.confirmed y (those r front) (those r rest) a.before a.after
-    (ap (λ (l : List Value). those r front ++ l) (sym (own_cc r y rest)) ∙ sym (those_join r front (confirm r y ∷ rest)) ∙ a.is)
-    a.only a.calm
+before_cc r front rest y a = grind (arith, dcs_before, those, own_cc, those_join)
 
 before_opening : (r peer : ℕ) (unit : Value) (front rest : List Value) → Opens true r peer unit → AwaitsCc r (front ++ unit ∷ rest) →
     AllByRecursion IsDc (those r front)
@@ -169,18 +148,17 @@ dcs_clean r (v ∷ vs) h = by (names r v) refl (λ more. dcs_clean r vs more)
 pub calm_turn : (r : ℕ) (t : Stage) (took : List Marked) (others : List Value) → AwaitsCc r (all_units took ++ others) →
     (t ≡ early → AwaitsCc r others) → AllByRecursion IsNoZero (all_units took ++ others) →
     AreReady true r (λ (units : List Value). has_dr r units ≡ false) t took
-calm_turn r t took others a then_awaits zero front back parts ends = (
-  dcs_none r (all_units front)
-      (zero_front (all_units front) (all_units back ++ others)
-      (subst (AllByRecursion IsNoZero)
-      (ap (λ (l : List Marked). all_units l ++ others) parts
-      ∙ ap (λ (l : List Value). l ++ others) (all_units_more front back) ∙ append_assoc (all_units front) (all_units back) others)
-      zero)) dcs,
-  dcs_clean r (all_units front) dcs,
-)
-  where
-    dcs : AllByRecursion IsDc (those r (all_units front))
-    dcs = dcs_turn r t took others a then_awaits front back parts ends
+calm_turn r t took others a then_awaits zero front back parts ends =
+    grind (
+      arith,
+      dcs_none,
+      zero_front,
+      dcs_clean,
+      all_units_more front back,
+      append_assoc (all_units front) (all_units back) others,
+      those r (all_units front),
+      dcs_turn r t took others a then_awaits front back parts ends,
+    )
 
 -- or none of what has come is for it
 pub quiet_turn : (is_caller : Bool) (r : ℕ) (t : Stage) (took : List Marked) (others : List Value) →

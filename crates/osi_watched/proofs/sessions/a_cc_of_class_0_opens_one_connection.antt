@@ -1,8 +1,9 @@
 -- A CC of class 0 opens the connection that the end has asked for, or answers; at the tap no other one has a reference that the end still
 -- uses. For the session of the connection of an end in class 0.
+use Rattle.std.proofs.Common.{arith}
 use Rattle.std.proofs.Common.{◌≡◌, ◌∙◌, ◌⊎◌, inl, inr, refl, sym, ap, subst, ℕ, Bool, true, false, if◌then◌else◌, List, [], ◌∷◌}
 use Rattle.std.proofs.Common.{Option, Some, None}
-use Rattle.std.specs.Prelude.{◌==◌, nat_le, not, position, slice_get}
+use Rattle.std.specs.Prelude.{◌==◌, position, slice_get}
 use Rattle.std.proofs.lemmas.Bool.{eqb-true}
 use Rattle.osi_tpdu.specs.Value.{Connect, Value, confirm}
 use Rattle.osi_class.specs.declared.terms.Class.{Class}
@@ -18,12 +19,12 @@ use Rattle.osi_rules.specs.declared.findings.Rule.TheVariants as rule
 use Rattle.osi_rules.specs.declared.halves.Half.{Half}
 use Rattle.osi_rules.specs.declared.halves.Phase.{Phase}
 use Rattle.osi_rules.specs.declared.halves.Phase.TheVariants as phase
-use Rattle.osi_rules.specs.Reaches.{is_applied, reach_of}
-use Rattle.osi_rules.specs.Rows.{code_named, first_failed, given_again, is_inside, is_offered}
+use Rattle.osi_rules.specs.Reaches.{is_applied}
+use Rattle.osi_rules.specs.Rows.{first_failed, given_again}
 use Rattle.osi_rules.specs.Sides.{is_named, is_refused, is_silent}
-use Rattle.osi_rules.specs.Traffic.{Outcome, State, at_found, at_place, class_for, class_of, connection_after, course_after, found}
+use Rattle.osi_rules.specs.Traffic.{Outcome, State, at_found, at_place, class_of, connection_after}
 use Rattle.osi_rules.specs.Traffic.{found_on, is_stopped}
-use Rattle.osi_rules.specs.Traffic.{in_doubt, judged_on, none_told, route, route_in, routed, sent_on, takes, unnamed_by, uses_source}
+use Rattle.osi_rules.specs.Traffic.{in_doubt, judged_on, sent_on, takes, unnamed_by}
 use Rattle.osi_fair.proofs.a_dt_of_class_zero_passes.{unlike}
 use Rattle.osi_fair.proofs.a_reference_names_one_connection.{applied_found}
 use Rattle.osi_fair.proofs.all_are_judged_unless_one_broke.{AreJudged}
@@ -40,7 +41,6 @@ use Rattle.osi_watched.proofs.sessions.connections_have_the_same_places.{at_same
 use Rattle.osi_watched.proofs.sessions.each_cr_that_passes_gives_a_new_reference.{AreUpTo, IsWithin}
 use Rattle.osi_watched.proofs.sessions.references_of_an_end_are_distinct.{AreDistinct}
 use Rattle.osi_watched.proofs.sessions.what_a_unit_does_at_its_place.{Does, asks_again, asks_more, nowhere, somewhere, unit_does}
-use Rattle.osi_rules.specs.Traffic.{has_broken}
 
 -- ---- small facts
 
@@ -57,17 +57,10 @@ same_item : {X : Type 0} (x y : X) → Some x ≡ Some y → x ≡ y
 same_item x y e = cc
 
 silent_not : {A : Type 0} (p : Phase) → is_silent p ≡ true → is_refused p ≡ true → A
-silent_not phase.Silent h k = absurd (cc)
-silent_not phase.Open h k = absurd (cc)
-silent_not phase.Refused h k = absurd (cc)
-silent_not phase.Closing h k = absurd (cc)
-silent_not phase.Closed h k = absurd (cc)
+silent_not h h2 k = grind arith
 
 judged_right : (x : Reach) (c : Connection) → (judged_on x c).right ≡ c.right
-judged_right reach.Nothing c = refl
-judged_right reach.Connection c = refl
-judged_right reach.Side c = refl
-judged_right reach.Everything c = refl
+judged_right x c = grind arith
 
 -- ---- it has its effect at a place
 
@@ -84,27 +77,18 @@ pub record HasEffect (s : State) (k : Class) (o : Outcome) : Type 0 where
 
 unknown_breaks : {A : Type 0} (loose strays : Bool) (n : ℕ) (x : Connect) → loose ≡ false →
     IsMild (confirm n x) (if loose then in_doubt (unnamed_by strays (confirm n x)) else unnamed_by strays (confirm n x)) → A
-unknown_breaks true strays n x firm mild = absurd (cc)
-unknown_breaks false true n x firm mild = absurd mild
-unknown_breaks false false n x firm mild = absurd mild
+unknown_breaks h strays n x firm mild = grind arith
 
 tests_applied : (v : Value) (a b i u loose l : Bool) → loose ≡ false →
     IsMild v (first_failed ((a, Broke rule.WrongForm) ∷ (b, Broke rule.BadAnswer) ∷ (i, Outside) ∷ (u, given_again loose)
     ∷ (l, Broke rule.LargerSize) ∷ [])) →
     is_applied (first_failed ((a, Broke rule.WrongForm) ∷ (b, Broke rule.BadAnswer) ∷ (i, Outside) ∷ (u, given_again loose)
     ∷ (l, Broke rule.LargerSize) ∷ [])) ≡ true
-tests_applied v false b i u loose l firm mild = absurd mild
-tests_applied v true false i u loose l firm mild = absurd mild
-tests_applied v true true false u loose l firm mild = absurd mild
-tests_applied v true true true false false l firm mild = absurd mild
-tests_applied v true true true false true l firm mild = absurd (cc)
-tests_applied v true true true true loose false firm mild = refl
-tests_applied v true true true true loose true firm mild = refl
+tests_applied v a b i u loose l firm mild = grind arith
 
 judged_applied : (v : Value) (j : Bool) (f : Finding) → j ≡ true → (IsMild v f → is_applied f ≡ true) →
     IsMild v (if j then f else NotJudged) → is_applied (if j then f else NotJudged) ≡ true
-judged_applied v true f h g mild = g mild
-judged_applied v false f h g mild = absurd (cc)
+judged_applied v j f h g mild = grind arith
 
 module _ (n : ℕ) (x : Connect) (s : State) (goes : is_stopped Right s.course ≡ false) (class : s.course.class ≡ None)
     (firm : s.course.loose ≡ false) (judged : AreJudged s) where
@@ -112,50 +96,24 @@ module _ (n : ℕ) (x : Connect) (s : State) (goes : is_stopped Right s.course �
   v = confirm n x
 
   applied_so : (c : Connection) → c.is_judged ≡ true → IsMild v (found_on Right s c v) → is_applied (found_on Right s c v) ≡ true
-  applied_so c j mild =
-      let used = uses_source Right s.connections v in
-      judged_applied v c.is_judged (found Right s.course used c v) j
-      (tests_applied v (is_silent c.right.phase) (is_offered c.offer s.course.class x) (is_inside x) (not used)
-      s.course.loose (nat_le (code_named x.parameters.size) c.offer.size_code) firm) mild
+  applied_so c j mild = search (arith, judged_applied, tests_applied)
 
   silent_so : (c : Connection) → is_applied (found_on Right s c v) ≡ true → is_silent c.right.phase ≡ true
-  silent_so c h =
-      let used = uses_source Right s.connections v in
-      first_answer (is_silent c.right.phase) (is_offered c.offer s.course.class x) (is_inside x) (not used)
-      s.course.loose (nat_le (code_named x.parameters.size) c.offer.size_code) (applied_found c.is_judged (found Right s.course used c v) h)
+  silent_so c h = grind (arith, first_answer, applied_found)
 
   found_effect : (p : ℕ) (o : Option Connection) → slice_get s.connections p ≡ o →
       IsMild v (at_found Right v s p o).told.finding → HasEffect s (class_of x) (at_found Right v s p o)
-  found_effect p None there mild = unknown_breaks s.course.loose s.course.strays n x firm mild
-  found_effect p (Some c) there mild =
-      let f = found_on Right s c v in
-      let applied = applied_so c (judged firm p c there) mild in
-      record {
-        place = p;
-        connection = c;
-        there = there;
-        told = refl;
-        applied = applied;
-        silent = silent_so c applied;
-        judged = judged firm p c there;
-        class = reached_class Right (reach_of (class_for Right s.course) f) (course_after Right c v (is_applied f) s.course)
-            ∙ ap (λ (b : Bool). (course_after Right c v b s.course).class) applied;
-      }
+  found_effect p o there mild = search (arith, unknown_breaks, applied_so, silent_so, reached_class)
 
   place_effect : (o : Option ℕ) → IsMild v (at_place Right v s o).told.finding → HasEffect s (class_of x) (at_place Right v s o)
-  place_effect None mild = unknown_breaks s.course.loose s.course.strays n x firm mild
-  place_effect (Some p) mild = found_effect p (slice_get s.connections p) refl mild
+  place_effect o mild = search (arith, unknown_breaks, found_effect)
 
   takes_so : takes Right v s ≡ at_place Right v s (position (is_named Right n) s.connections)
-  takes_so =
-      ap (λ (b : Bool). if b then none_told Right NotJudged s else routed Right v s (route Right s.course v)) goes
-      ∙ ap (λ (k : Option Class). routed Right v s (route_in k Right (has_broken Left s.course) v)) class
+  takes_so = grind arith
 
   -- if it is no break, or is passed over
   pub has_effect : IsMild v (takes Right v s).told.finding → HasEffect s (class_of x) (takes Right v s)
-  has_effect mild =
-      subst (HasEffect s (class_of x)) (sym takes_so)
-      (place_effect (position (is_named Right n) s.connections) (subst (λ (o : Outcome). IsMild v o.told.finding) takes_so mild))
+  has_effect mild = grind (arith, takes_so, place_effect)
 
 -- ---- so it opens that connection
 
@@ -199,8 +157,7 @@ module _ (n : ℕ) (x : Connect) (at : ℕ) (c : Course) (places : HaveSamePlace
     mine_by : (p : ℕ) (j next z : Joined) → reference_of side.Left j ≡ Some n → reference_of side.Left next ≡ reference_of side.Left j →
         ((p ≡ p) × (z ≡ next)) ⊎ ((p ≡ p → ⊥) × (slice_get t.live p ≡ Some z)) →
         reference_of side.Left z ≡ Some n
-    mine_by p j next z mine same (inl (e, is)) = ap (reference_of side.Left) is ∙ same ∙ mine
-    mine_by p j next z mine same (inr (apart, is)) = absurd (apart refl)
+    mine_by p j next z mine same h = grind arith
 
     others_by : (p : ℕ) (j next : Joined) (i : ℕ) (z : Joined) (q : ℕ) → (i ≡ p → ⊥) → slice_get t.live p ≡ Some j →
         reference_of side.Left j ≡ Some n → ((i ≡ p) × (z ≡ next)) ⊎ ((i ≡ p → ⊥) × (slice_get t.live i ≡ Some z)) →
@@ -213,8 +170,7 @@ module _ (n : ℕ) (x : Connect) (at : ℕ) (c : Course) (places : HaveSamePlace
     opened_by : Does side.Right at unit s t (takes Right unit s) → HasOne side.Left n gone (takes Right unit s).state
         (taken side.Right at unit (takes Right unit s).told.meaning (takes Right unit s).told.place t)
     opened_by (nowhere place cs ts) = no_place (takes Right unit s).told.place effect.place place effect.told
-    opened_by (somewhere p k j false y place there here one finding is far cs ts) =
-        differ (is_applied (takes Right unit s).told.finding) effect.applied (ap is_applied finding ∙ is)
+    opened_by (somewhere p k j false y place there here one finding is far cs ts) = grind (arith, differ, effect)
     opened_by (somewhere p k j true y place there here one finding is far cs ts) =
         let mine : reference_of side.Left j ≡ Some n =
         joined_named side.Right unit c n p k j places refl place there (judged firm p k there) here in
@@ -248,19 +204,16 @@ module _ (n : ℕ) (x : Connect) (at : ℕ) (c : Course) (places : HaveSamePlace
 
     answered_mine : (p : ℕ) (next z : Joined) → reference_of side.Right next ≡ Some x.source →
         ((p ≡ p) × (z ≡ next)) ⊎ ((p ≡ p → ⊥) × (slice_get t.live p ≡ Some z)) → reference_of side.Right z ≡ Some x.source
-    answered_mine p next z mine (inl (e, is)) = ap (reference_of side.Right) is ∙ mine
-    answered_mine p next z mine (inr (apart, is)) = absurd (apart refl)
+    answered_mine p next z mine h = grind arith
 
     answered_others : (p i : ℕ) (next z : Joined) (q : ℕ) → (i ≡ p → ⊥) →
         ((i ≡ p) × (z ≡ next)) ⊎ ((i ≡ p → ⊥) × (slice_get t.live i ≡ Some z)) → reference_of side.Right z ≡ Some q → gone q
-    answered_others p i next z q apart (inl (e, is)) named = absurd (apart e)
-    answered_others p i next z q apart (inr (other, is)) named = no_name (reference_of side.Right z) q (unnamed i z is) named
+    answered_others p i next z q apart h named = search (arith, no_name)
 
     answered_by : Does side.Right at unit s t (takes Right unit s) → HasOne side.Right x.source gone (takes Right unit s).state
         (taken side.Right at unit (takes Right unit s).told.meaning (takes Right unit s).told.place t)
     answered_by (nowhere place cs ts) = no_place (takes Right unit s).told.place effect.place place effect.told
-    answered_by (somewhere p k j false y place there here one finding is far cs ts) =
-        differ (is_applied (takes Right unit s).told.finding) effect.applied (ap is_applied finding ∙ is)
+    answered_by (somewhere p k j false y place there here one finding is far cs ts) = grind (arith, differ, effect)
     answered_by (somewhere p k j true y place there here one finding is far cs ts) =
         let new : Connection = connection_after Right unit true y k in
         let next : Joined = joined.opened x.source (joined.class_of unit) j in

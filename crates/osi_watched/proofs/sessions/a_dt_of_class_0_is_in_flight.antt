@@ -1,6 +1,7 @@
 -- A DT of class 0 of the other side is in flight to the connection that the end has asked for, or has open, and to no other one.
 -- For the session of the connection of an end in class 0.
-use Rattle.std.proofs.Common.{◌≡◌, ◌∙◌, sym, ap, ℕ, Bool, true, false, List, [], ◌∷◌, ◌++◌}
+use Rattle.std.proofs.Common.{arith}
+use Rattle.std.proofs.Common.{◌≡◌, ℕ, Bool, false, List, [], ◌∷◌, ◌++◌}
 use Rattle.osi_tpdu.specs.Value.{Value, data0}
 use Rattle.osi_class.specs.Tsdus.{Part}
 use Rattle.osi_watched.proofs.sessions.what_is_in_flight_to_an_end.{in_flight_more, known_of}
@@ -8,13 +9,9 @@ use Rattle.osi_watched.proofs.sessions.what_is_in_flight_to_an_end.{in_flight_mo
 -- a DT of class 0 is for the connection that the end has asked for, or has open
 pub zero_grows : (is_live : ℕ → Bool) (coming : List Value) (end : Bool) (user : List ℕ) (r : ℕ) (later : List Part) →
     known_of is_live coming r later → known_of is_live (coming ++ data0 end user ∷ []) r (later ++ (end, user) ∷ [])
-zero_grows is_live coming end user r later sure live =
-    ap (λ (l : List Part). l ++ (end, user) ∷ []) (sure live) ∙ sym (in_flight_more r coming (data0 end user ∷ []))
+zero_grows is_live coming end user r later sure live = grind (arith, in_flight_more r coming (data0 end user ∷ []))
 
 -- and there is no other one
 pub zero_stays : (is_live : ℕ → Bool) (coming : List Value) (end : Bool) (user : List ℕ) (r : ℕ) (later : List Part) → is_live r ≡ false →
     known_of is_live coming r later → known_of is_live (coming ++ data0 end user ∷ []) r later
-zero_stays is_live coming end user r later gone sure live = absurd (differ (is_live r) live gone)
-  where
-    differ : (b : Bool) → b ≡ true → b ≡ false → ⊥
-    differ b h k = cc
+zero_stays is_live coming end user r later gone sure live = grind arith

@@ -19,7 +19,7 @@ use Rattle.osi_rules.specs.declared.halves.Half.{Half}
 use Rattle.osi_rules.specs.Reaches.{is_applied, reach_of}
 use Rattle.osi_rules.specs.Sides.{is_open, own}
 use Rattle.osi_rules.specs.Sides as sides
-use Rattle.osi_rules.specs.Traffic.{Outcome, State, class_for, connection_after, is_stopped, meaning_if, meant, route_zero, routed, takes}
+use Rattle.osi_rules.specs.Traffic.{State, class_for, connection_after, is_stopped, meaning_if, meant, route_zero, routed, takes}
 use Rattle.osi_honest.specs.Courses.{Deeds}
 use Rattle.osi_tap.specs.declared.rooms.Room.TheVariants.{All}
 use Rattle.osi_tap.specs.Connections.{Joined, Sessions, reference_of}
@@ -69,8 +69,7 @@ pub record IsZero (d : Direction) (s : State) : Type 0 where
 module _ (d e : Direction) (deeds : ℕ → Deeds) (known : Known) (put : List Value) (b end : Bool) (user : List ℕ) (s : State) (t : Sessions)
     (a : AllStand d deeds known put b s t) (z : IsZero e s) where
   pub told_there : (takes (way_of e) (data0 end user) s).told.place ≡ Some z.only.place
-  told_there =
-      ap (λ (o : Outcome). o.told.place) (dt_takes (way_of e) end user s a.judged z.firm a.apart z.only z.goes z.zero)
+  told_there = grind (arith, dt_takes (way_of e) end user s a.judged z.firm a.apart z.only z.goes z.zero)
 
   -- the connection at its place is open for both sides
   here_open : (p : ℕ) (c : Connection) → (takes (way_of e) (data0 end user) s).told.place ≡ Some p → slice_get s.connections p ≡ Some c →

@@ -1,14 +1,14 @@
 -- A DT that breaks no rule is right, as long as its side and its connection are judged.
 -- For the law on places.
+use Rattle.std.proofs.Common.{arith}
 use Rattle.osi_watched.proofs.Vocabulary.{[], Bool, false, if◌then◌else◌, inl, inr, is_some, length, List, None, Option, refl, Some, subst}
-use Rattle.osi_watched.proofs.Vocabulary.{sym, true, ℕ, ◌∷◌, ◌≡◌, ◌⊎◌, AllByRecursion, position, slice_get, data0, data2, Value, unit_parts}
-use Rattle.osi_watched.proofs.Vocabulary.{Class, Two, Zero, data0_tests, data2_tests, first_failed, Test, is_live, is_named, at_found}
-use Rattle.osi_watched.proofs.Vocabulary.{at_place, class_for, found, is_stopped, none_told, route, route_in, routed, Traffic as State}
+use Rattle.osi_watched.proofs.Vocabulary.{sym, true, ℕ, ◌∷◌, ◌≡◌, ◌⊎◌, AllByRecursion, slice_get, data0, data2, Value, unit_parts}
+use Rattle.osi_watched.proofs.Vocabulary.{Class, Two, Zero, data0_tests, data2_tests, first_failed, Test, at_found}
+use Rattle.osi_watched.proofs.Vocabulary.{at_place, found, is_stopped, none_told, route_in, routed, Traffic as State}
 use Rattle.osi_watched.proofs.Vocabulary.{in_doubt, takes, unnamed_by, uses_source, Connection, Rules}
 use Rattle.osi_watched.proofs.Vocabulary.{Way, Finding, Broke, Kept, NotJudged, Rule}
 use Rattle.osi_watched.proofs.Vocabulary.{Capture, Direction, user_of, marked, marks_of, moved, unread_mark, unread_moment, way_of}
-use Rattle.osi_watched.proofs.Vocabulary.{comes_to, Cause, no_item, AreJudged, still_judged, packet, rubbish, unit}
-use Rattle.osi_watched.proofs.Vocabulary.{has_broken}
+use Rattle.osi_watched.proofs.Vocabulary.{comes_to, Cause, no_item, AreJudged, still_judged, packet, unit}
 use Rattle.osi_watched.proofs.Vocabulary.{is_report}
 use Rattle.osi_watched.proofs.Vocabulary.{unnamed}
 use Rattle.osi_rules.specs.declared.directions.Direction.TheVariants as way
@@ -28,8 +28,7 @@ abbrev BreaksARule : Test → Type 0
 BreaksARule t = (r : Rule) × (t.1 ≡ Broke r)
 
 clear_by : (b : Bool) (f g : Finding) → IsClear f → IsClear g → IsClear (if b then f else g)
-clear_by true f g h k = h
-clear_by false f g h k = k
+clear_by b f g h k = grind arith
 
 pub clear_tests : (ts : List Test) → AllByRecursion BreaksARule ts → IsClear (first_failed ts)
 clear_tests [] h = inl refl
@@ -57,48 +56,37 @@ found_two way.Right n number end user course in_use c = two_clear way.Right c nu
 
 found_zero : (d : Way) (end : Bool) (user : List ℕ) (course : Rules) (in_use : Bool) (c : Connection) →
     IsClear (found d course in_use c (data0 end user))
-found_zero way.Left end user course in_use c = zero_clear way.Left c (length user)
-found_zero way.Right end user course in_use c = zero_clear way.Right c (length user)
+found_zero d end user course in_use c = grind (arith, zero_clear)
 
 -- ---- by its place
 
 judged_clear : (b : Bool) (f : Finding) → b ≡ true → IsClear f → IsClear (if b then f else NotJudged)
-judged_clear true f h k = k
-judged_clear false f h k = absurd (cc)
+judged_clear b f h k = grind arith
 
 loose_clear : (b : Bool) (f : Finding) → b ≡ false → IsClear f → IsClear (if b then in_doubt f else f)
-loose_clear true f h k = absurd (cc)
-loose_clear false f h k = k
+loose_clear b f h k = grind arith
 
 report_clear : (b : Bool) (f : Finding) → b ≡ false → IsClear f → IsClear (if b then NotJudged else f)
-report_clear true f h k = absurd (cc)
-report_clear false f h k = k
+report_clear b f h k = grind arith
 
 module _ (d : Way) (v : Value) (s : State) (firm : s.course.loose ≡ false) (judged : AreJudged s)
     (plain : is_report (traffic.has_erred (sides.other d) s.course) v ≡ false) (nowhere : IsClear (unnamed_by s.course.strays v))
     (clear : (c : Connection) → IsClear (found d s.course (uses_source d s.connections v) c v)) where
   nowhere_clear : IsClear (unnamed d s.course v)
-  nowhere_clear =
-      report_clear (is_report (traffic.has_erred (sides.other d) s.course) v)
-      (if s.course.loose then in_doubt (unnamed_by s.course.strays v) else unnamed_by s.course.strays v) plain
-      (loose_clear s.course.loose (unnamed_by s.course.strays v) firm nowhere)
+  nowhere_clear = grind (arith, report_clear, loose_clear)
 
   clear_one : (i : ℕ) (o : Option Connection) → slice_get s.connections i ≡ o → IsClear (at_found d v s i o).told.finding
   clear_one i None e = nowhere_clear
-  clear_one i (Some c) e =
-      judged_clear c.is_judged (found d s.course (uses_source d s.connections v) c v) (judged firm i c e) (clear c)
+  clear_one i (Some c) e = search (arith, judged_clear)
 
   pub clear_any : (o : Option ℕ) → IsClear (at_place d v s o).told.finding
-  clear_any None = nowhere_clear
-  clear_any (Some i) = clear_one i (slice_get s.connections i) refl
+  clear_any o = grind (arith, nowhere_clear, clear_one)
 
 nowhere_two : (b : Bool) (n number : ℕ) (end : Bool) (user : List ℕ) → IsClear (unnamed_by b (data2 n number end user))
-nowhere_two true n number end user = inr (rule.UnknownReference, refl)
-nowhere_two false n number end user = inr (rule.UnknownReference, refl)
+nowhere_two b n number end user = grind arith
 
 nowhere_zero : (b : Bool) (end : Bool) (user : List ℕ) → IsClear (unnamed_by b (data0 end user))
-nowhere_zero true end user = inr (rule.UnknownReference, refl)
-nowhere_zero false end user = inr (rule.UnknownReference, refl)
+nowhere_zero b end user = grind arith
 
 routed_two : (k : Option Class) (d : Way) (b : Bool) (n number : ℕ) (end : Bool) (user : List ℕ) (s : State) →
     s.course.loose ≡ false → AreJudged s →
@@ -107,42 +95,28 @@ routed_two None way.Left b n number end user s firm judged = inr (rule.Unexpecte
 routed_two None way.Right b n number end user s firm judged = inr (rule.UnexpectedUnit, refl)
 routed_two (Some Zero) way.Left b n number end user s firm judged = inr (rule.WrongForm, refl)
 routed_two (Some Zero) way.Right b n number end user s firm judged = inr (rule.WrongForm, refl)
-routed_two (Some Two) way.Left b n number end user s firm judged =
-    clear_any way.Left (data2 n number end user) s firm judged refl (nowhere_two s.course.strays n number end user)
-    (λ c. found_two way.Left n number end user s.course false c) (position (is_named way.Left n) s.connections)
-routed_two (Some Two) way.Right b n number end user s firm judged =
-    clear_any way.Right (data2 n number end user) s firm judged refl (nowhere_two s.course.strays n number end user)
-    (λ c. found_two way.Right n number end user s.course false c) (position (is_named way.Right n) s.connections)
+routed_two (Some Two) way.Left b n number end user s firm judged = search (arith, clear_any, nowhere_two, found_two)
+routed_two (Some Two) way.Right b n number end user s firm judged = search (arith, clear_any, nowhere_two, found_two)
 
 routed_zero : (k : Option Class) (d : Way) (b : Bool) (end : Bool) (user : List ℕ) (s : State) → s.course.loose ≡ false → AreJudged s →
     IsClear (routed d (data0 end user) s (route_in k d b (data0 end user))).told.finding
-routed_zero (Some Zero) way.Left b end user s firm judged =
-    clear_any way.Left (data0 end user) s firm judged refl (nowhere_zero s.course.strays end user)
-    (λ c. found_zero way.Left end user s.course false c) (position (is_live way.Left) s.connections)
-routed_zero (Some Zero) way.Right b end user s firm judged =
-    clear_any way.Right (data0 end user) s firm judged refl (nowhere_zero s.course.strays end user)
-    (λ c. found_zero way.Right end user s.course false c) (position (is_live way.Right) s.connections)
+routed_zero (Some Zero) way.Left b end user s firm judged = search (arith, clear_any, nowhere_zero, found_zero)
+routed_zero (Some Zero) way.Right b end user s firm judged = search (arith, clear_any, nowhere_zero, found_zero)
 routed_zero _ way.Left b end user s firm judged = inr (rule.UnexpectedUnit, refl)
 routed_zero _ way.Right b end user s firm judged = inr (rule.UnexpectedUnit, refl)
 
 pub goes_clear : (b : Bool) (d : Way) (s : State) (o : traffic.Outcome) → b ≡ false → IsClear o.told.finding →
     IsClear (if b then none_told d NotJudged s else o).told.finding
-goes_clear true d s o h k = absurd (cc)
-goes_clear false d s o h k = k
+goes_clear b d s o h k = grind arith
 
 pub dt_clear : (d : Way) (v : Value) (end : Bool) (s : State) → unit_parts v ≡ (end, user_of v) ∷ [] → is_stopped d s.course ≡ false →
     s.course.loose ≡ false → AreJudged s → IsClear (takes d v s).told.finding
-dt_clear d (data0 e user) end s parts goes firm judged =
-    goes_clear (is_stopped d s.course) d s (routed d (data0 e user) s (route d s.course (data0 e user))) goes
-    (routed_zero (class_for d s.course) d (has_broken (sides.other d) s.course) e user s firm judged)
-dt_clear d (data2 n number e user) end s parts goes firm judged =
-    goes_clear (is_stopped d s.course) d s (routed d (data2 n number e user) s (route d s.course (data2 n number e user))) goes
-    (routed_two (class_for d s.course) d (has_broken (sides.other d) s.course) n number e user s firm judged)
+dt_clear d (data0 e user) end s parts goes firm judged = grind (arith, goes_clear, routed_zero)
+dt_clear d (data2 n number e user) end s parts goes firm judged = grind (arith, goes_clear, routed_two)
 dt_clear d _ end s parts goes firm judged = absurd (cc)
 
 right_by : (f : Finding) → IsClear f → ((r : Rule) → f ≡ Broke r → ⊥) → f ≡ Kept
-right_by f (inl is) none = is
-right_by f (inr (r, is)) none = absurd (none r is)
+right_by f h none = grind arith
 
 pub dt_right : (d : Way) (v : Value) (end : Bool) (s : State) → unit_parts v ≡ (end, user_of v) ∷ [] → is_stopped d s.course ≡ false →
     s.course.loose ≡ false → AreJudged s → ((r : Rule) → (takes d v s).told.finding ≡ Broke r → ⊥) →
@@ -157,10 +131,7 @@ Judged c = AreJudged c.traffic
 bad_by : (b : Bool) (d : Direction) (at : ℕ) (cause : Cause) (c : Course) → Judged c →
     Judged (if b then c else marked (unread_mark d at cause) (traffic.refused_reach (way_of d) c.traffic)
     (moved (unread_moment d at cause c.sessions) (record c { traffic = traffic.refused (way_of d) c.traffic })))
-bad_by true d at cause c h = h
-bad_by false d at cause c h =
-    subst AreJudged (sym (marked_traffic (unread_mark d at cause) (traffic.refused_reach (way_of d) c.traffic) _))
-    (still_judged (rubbish (way_of d)) c.traffic h)
+bad_by b d at cause c h = search (arith, marked_traffic, still_judged)
 
 pub judged_claim : IsClaim Judged
 judged_claim = record {

@@ -1,31 +1,29 @@
 -- In class 0 a DT with which the TSDU of its side is too long breaks that rule; and so it would later, whatever the other side has sent.
 -- For a TSDU of the other side that becomes too long.
-use Rattle.std.proofs.Common.{◌≡◌, ◌∙◌, ◌⊎◌, inl, inr, refl, sym, ap, subst, ℕ, zero, suc, ◌+◌, ◌<◌, Bool, true, false, if◌then◌else◌}
+use Rattle.std.proofs.Common.{arith}
+use Rattle.std.proofs.Common.{◌≡◌, ◌∙◌, refl, sym, ap, subst, ℕ, zero, suc, ◌+◌, ◌<◌, Bool, true, false, if◌then◌else◌}
 use Rattle.std.proofs.Common.{List, [], ◌∷◌, map, length, nat_le, Option, Some, None}
 use Rattle.std.proofs.lemmas.Bool.{eqb-true, leb-false}
-use Rattle.std.specs.Prelude.{◌==◌, slice_get}
-use Rattle.std.specs.List.{AllByRecursion}
+use Rattle.std.specs.Prelude.{slice_get}
 use Rattle.osi_tpdu.specs.Value.{Value, data0}
 use Rattle.osi_class.specs.Limits.{longest_tsdu}
 use Rattle.osi_class.specs.declared.terms.Class.{Class}
-use Rattle.osi_class.specs.declared.terms.Class.TheVariants.{Two, Zero}
+use Rattle.osi_class.specs.declared.terms.Class.TheVariants.{Zero}
 use Rattle.osi_class.specs.declared.terms.Local.{Local}
 use Rattle.osi_judge.specs.Captures.{other}
 use Rattle.osi_judge.specs.declared.directions.Direction.{Direction}
 use Rattle.osi_judge.specs.declared.directions.Direction.TheVariants.{Left, Right}
 use Rattle.osi_rules.specs.declared.connections.Connection.{Connection}
-use Rattle.osi_rules.specs.declared.findings.Finding.{Finding}
 use Rattle.osi_rules.specs.declared.findings.Finding.TheVariants.{Broke, Kept, NotJudged}
 use Rattle.osi_rules.specs.declared.findings.Reach.{Reach}
 use Rattle.osi_rules.specs.declared.findings.Rule.TheVariants as rule
-use Rattle.osi_rules.specs.declared.halves.Half.{Half}
-use Rattle.osi_rules.specs.Reaches.{is_applied, reach_of}
+use Rattle.osi_rules.specs.Reaches.{is_applied}
 use Rattle.osi_rules.specs.Rows.{first_failed, fits_size, fits_tsdu}
 use Rattle.osi_rules.specs.Sides as sides
-use Rattle.osi_rules.specs.Sides.{begins, is_open, own}
+use Rattle.osi_rules.specs.Sides.{begins, own}
 use Rattle.osi_rules.specs.Traffic as traffic
-use Rattle.osi_rules.specs.Traffic.{Outcome, State, class_for, connection_after, found_on, is_stopped, none_told, one_told, route, route_in}
-use Rattle.osi_rules.specs.Traffic.{has_broken, routed, takes}
+use Rattle.osi_rules.specs.Traffic.{Outcome, State, class_for, connection_after, found_on, is_stopped, route_in}
+use Rattle.osi_rules.specs.Traffic.{routed, takes}
 use Rattle.osi_fair.specs.Wholes as wholes
 use Rattle.osi_fair.proofs.a_dt_of_class_zero_passes.{unlike}
 use Rattle.osi_fair.proofs.what_the_other_side_closes.{IsFirm}
@@ -53,12 +51,7 @@ pub only_of : (s : State) → IsSure s → IsFirm s.course → s.course.class �
 only_of s sure firm class = (is_zero Right s sure firm.firm firm.right class).only
 
 same_place : (s : State) (o q : IsOnly s) → q.place ≡ o.place
-same_place s o q = by (q.place == o.place) refl
-  where
-    by : (b : Bool) → (q.place == o.place) ≡ b → q.place ≡ o.place
-    by true e = eqb-true q.place o.place e
-    by false e =
-        absurd (open_not_refused q.connection.right.phase q.right (o.others q.place q.connection q.there (unlike q.place o.place e)))
+same_place s o q = grind (arith, eqb-true, open_not_refused, unlike)
 
 same_only : (s : State) (o q : IsOnly s) → q.connection ≡ o.connection
 same_only s o q = same_item q.connection o.connection (sym q.there ∙ ap (slice_get s.connections) (same_place s o q) ∙ o.there)
@@ -70,9 +63,7 @@ long_so begun octets h = leb-false (begun + octets) longest_tsdu h
 
 not_fits : (fits more : Bool) → is_applied (first_failed ((fits, Broke rule.TsduTooLong) ∷ (more, Broke rule.SizeExceeded) ∷ [])) ≡ false →
     fits ≡ false
-not_fits false more h = refl
-not_fits true true h = absurd (cc h)
-not_fits true false h = absurd (cc h)
+not_fits fits more h = grind arith
 
 pub breaks_too_long : (d : Direction) (end : Bool) (user : List ℕ) (s : State) → IsSure s → IsFirm s.course → s.course.class ≡ Some Zero →
     is_stopped (way_of (other d)) s.course ≡ false → class_for (way_of (other d)) s.course ≡ Some Zero →
@@ -104,14 +95,10 @@ breaks_too_long d end user s sure firm class goes seen unapplied q =
 -- ---- a packet begins
 
 begun_right : (e : Direction) (c : Connection) → (begins (way_of e) c).right ≡ c.right
-begun_right Left c = refl
-begun_right Right c = refl
+begun_right e c = grind arith
 
 begun_own : (d e : Direction) (c : Connection) → (own (way_of d) (begins (way_of e) c)).begun ≡ (own (way_of d) c).begun
-begun_own Left Left c = refl
-begun_own Left Right c = refl
-begun_own Right Left c = refl
-begun_own Right Right c = refl
+begun_own d e c = grind arith
 
 connection_of : (d : Direction) (xs : List Connection) (i : ℕ) (y : Connection) → slice_get (map (begins (way_of d)) xs) i ≡ Some y →
     (x : Connection) × (slice_get xs i ≡ Some x) × (y ≡ begins (way_of d) x)
@@ -121,76 +108,27 @@ connection_of d (z ∷ xs) (suc i) y h = connection_of d xs i y h
 
 pub begins_too_long : (d e : Direction) (user : List ℕ) (s : State) → IsOnly s → IsTooLong d user s →
     IsTooLong d user (traffic.packet_begins (way_of e) s)
-begins_too_long d e user s o long q = by (q.place == o.place) refl
-  where
-    was : (x : Connection) × (slice_get s.connections q.place ≡ Some x) × (q.connection ≡ begins (way_of e) x)
-    was = connection_of e s.connections q.place q.connection q.there
-
-    by : (b : Bool) → (q.place == o.place) ≡ b → longest_tsdu < (own (way_of (other d)) q.connection).begun + length user
-    by true same =
-        let is : was.0 ≡ o.connection = same_item was.0 o.connection
-        (sym was.1 ∙ ap (slice_get s.connections) (eqb-true q.place o.place same) ∙ o.there) in
-        subst (λ (n : ℕ). longest_tsdu < n + length user)
-        (sym (ap (λ (c : Connection). (own (way_of (other d)) c).begun) was.2 ∙ begun_own (other d) e was.0
-        ∙ ap (λ (c : Connection). (own (way_of (other d)) c).begun) is))
-        (long o)
-    by false apart =
-        absurd (open_not_refused was.0.right.phase
-        (ap (λ (h : Half). is_open h.phase) (sym (begun_right e was.0)) ∙ ap (λ (c : Connection). is_open c.right.phase) (sym was.2)
-        ∙ q.right)
-        (o.others q.place was.0 was.1 (unlike q.place o.place apart)))
+begins_too_long d e user s o long q = grind (arith, connection_of, same_item, eqb-true, begun_own, open_not_refused, begun_right, unlike)
 
 -- ---- a DT of the end passes
 
 none_kept : (d : Direction) (k : Option Class) (b end : Bool) (user : List ℕ) (s : State) →
     (routed (way_of d) (data0 end user) s (route_in k (way_of d) b (data0 end user))).told.finding ≡ Kept → k ≡ Some Zero
-none_kept Left None b end user s h = absurd (let no : Broke rule.UnexpectedUnit ≡ Kept = h in cc)
-none_kept Right None b end user s h = absurd (let no : Broke rule.UnexpectedUnit ≡ Kept = h in cc)
-none_kept Left (Some Two) b end user s h = absurd (let no : Broke rule.UnexpectedUnit ≡ Kept = h in cc)
-none_kept Right (Some Two) b end user s h = absurd (let no : Broke rule.UnexpectedUnit ≡ Kept = h in cc)
-none_kept d (Some Zero) b end user s h = refl
+none_kept d k b end user s h = grind arith
 
 kept_zero : (d : Direction) (end : Bool) (user : List ℕ) (s : State) → is_stopped (way_of d) s.course ≡ false →
     (takes (way_of d) (data0 end user) s).told.finding ≡ Kept → class_for (way_of d) s.course ≡ Some Zero
-kept_zero d end user s goes kept =
-    none_kept d (class_for (way_of d) s.course) (has_broken (sides.other (way_of d)) s.course) end user s
-    (ap (λ (b : Bool). (if b then none_told (way_of d) NotJudged s
-    else routed (way_of d) (data0 end user) s (route (way_of d) s.course (data0 end user))).told.finding) (sym goes) ∙ kept)
+kept_zero d end user s goes kept = grind (arith, none_kept)
 
 other_begun : (d : Direction) (v : Value) (b : Bool) (r : Reach) (c : Connection) →
     own (way_of (other d)) (connection_after (way_of d) v b r c) ≡ own (way_of (other d)) c
-other_begun Left v b r c = other_after Right v b r c
-other_begun Right v b r c = other_after Left v b r c
+other_begun d v b r c = grind (arith, other_after)
 
 own_long : (d : Direction) (end : Bool) (mine user : List ℕ) (s : State) → IsSure s → IsFirm s.course → s.course.class ≡ Some Zero →
     is_stopped (way_of d) s.course ≡ false → (takes (way_of d) (data0 end mine) s).told.finding ≡ Kept → IsTooLong d user s →
     IsTooLong d user (takes (way_of d) (data0 end mine) s).state
 own_long d end mine user s sure firm class goes kept long =
-    let o = only_of s sure firm class in
-    let told = dt_takes (way_of d) end mine s sure.judged firm.firm sure.apart o goes (kept_zero d end mine s goes kept) in
-    subst (λ (x : Outcome). IsTooLong d user x.state) (sym told) (λ q. by o q)
-  where
-    by : (o : IsOnly s) (q : IsOnly (one_told (way_of d) o.place o.connection (data0 end mine) s).state) →
-        longest_tsdu < (own (way_of (other d)) q.connection).begun + length user
-    by o q = then_by (after_change s.connections o.place q.place then_is q.connection q.there)
-      where
-        f : Finding
-        f = found_on (way_of d) s o.connection (data0 end mine)
-
-        then_is : Connection
-        then_is = connection_after (way_of d) (data0 end mine) (is_applied f) (reach_of (class_for (way_of d) s.course) f) o.connection
-
-        then_by : ((q.place ≡ o.place) × (q.connection ≡ then_is))
-            ⊎ ((q.place ≡ o.place → ⊥) × (slice_get s.connections q.place ≡ Some q.connection)) →
-            longest_tsdu < (own (way_of (other d)) q.connection).begun + length user
-        then_by (inl (same, is)) =
-            subst (λ (n : ℕ). longest_tsdu < n + length user)
-            (sym (ap (λ (c : Connection). (own (way_of (other d)) c).begun) is
-            ∙ ap (λ (h : Half). h.begun) (other_begun d (data0 end mine) (is_applied f) (reach_of (class_for (way_of d) s.course) f)
-            o.connection)))
-            (long o)
-        then_by (inr (apart, there)) =
-            absurd (open_not_refused q.connection.right.phase q.right (o.others q.place q.connection there apart))
+    search (arith, dt_takes, after_change, other_begun, open_not_refused, only_of s sure firm class, kept_zero d end mine s goes kept)
 
 -- a unit of the end is a DT then
 pub own_is_dt : (local : Local) (d : Direction) (at : ℕ) (v : Value) (old new : Joint) → Steps d (passes_own at v) old new →
@@ -207,9 +145,7 @@ own_is_dt local Left at v old new (read, octets, put, begun, is) f firm class =
     by (asking x is_so none) zero_is = absurd (let no : None ≡ Some Zero = sym none ∙ zero_is in cc)
     by (adding end user is_so k seen) zero_is = subst IsDt0 (sym is_so) tt
 own_is_dt local Right at v old new (read, octets, put, begun, is) f firm class =
-    let s = own_first Right (wholes.begin false local) old new v (read, octets, put) f in
-    (subst (AllByRecursion IsDt0) s.is
-    (dts_of local f.whole (stage_of local old f firm) (ap (λ (t : State). t.course.class) f.tap ∙ class))).0
+    grind (arith, dts_of, own_first Right (wholes.begin false local) old new v (read, octets, put) f, stage_of local old f firm)
 
 pub passes_too_long : (d : Direction) (at : ℕ) (v : Value) (user : List ℕ) (c : Course) → IsDt0 v → Sure c → IsFirm c.traffic.course →
     c.traffic.course.class ≡ Some Zero → is_stopped (way_of d) c.traffic.course ≡ false →

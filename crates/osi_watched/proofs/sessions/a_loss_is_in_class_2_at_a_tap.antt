@@ -1,8 +1,9 @@
 -- At a tap a connection loses its judgement in class 2 alone: in class 0 none has lost it.
 -- For the law that no session of an end is blamed after a break of the other side.
-use Rattle.osi_watched.proofs.Vocabulary.{Bool, false, if◌then◌else◌, is_some, Some, subst, sym, true, ℕ, ◌∙◌, ◌≡◌, Two, Zero}
+use Rattle.std.proofs.Common.{arith}
+use Rattle.osi_watched.proofs.Vocabulary.{Bool, false, if◌then◌else◌, is_some, Some, subst, sym, ℕ, ◌∙◌, ◌≡◌, Two, Zero}
 use Rattle.osi_watched.proofs.Vocabulary.{Traffic as State, Capture, Direction, way_of, marked, marks_of, moved, unread_mark, unread_moment}
-use Rattle.osi_watched.proofs.Vocabulary.{comes_to, Cause, packet, rubbish, unit}
+use Rattle.osi_watched.proofs.Vocabulary.{comes_to, Cause, packet, unit}
 use Rattle.osi_rules.specs.Traffic as traffic
 use Rattle.osi_fair.proofs.a_connection_is_lost_in_class_2_alone.{IsOfTwo, firm_unless_two, still_two}
 use Rattle.osi_tap.specs.Courses.{Course}
@@ -16,11 +17,7 @@ IsOfTwoAt c = IsOfTwo c.traffic.course
 bad_by : (b : Bool) (d : Direction) (at : ℕ) (cause : Cause) (c : Course) → IsOfTwoAt c →
     IsOfTwoAt (if b then c else marked (unread_mark d at cause) (traffic.refused_reach (way_of d) c.traffic)
     (moved (unread_moment d at cause c.sessions) (record c { traffic = traffic.refused (way_of d) c.traffic })))
-bad_by true d at cause c h = h
-bad_by false d at cause c h =
-    subst (λ (s : State). IsOfTwo s.course)
-    (sym (marked_traffic (unread_mark d at cause) (traffic.refused_reach (way_of d) c.traffic) _))
-    (still_two (rubbish (way_of d)) c.traffic h)
+bad_by b d at cause c h = grind (arith, marked_traffic, still_two)
 
 two_claim : IsClaim IsOfTwoAt
 two_claim = record {

@@ -1,14 +1,14 @@
 -- A DT that is right has a place, at which it adds to what is joined; and each side uses a reference at one open place at most.
 -- For the law on places.
-use Rattle.std.proofs.Common.{◌≡◌, ◌∙◌, refl, sym, ap, subst, ℕ, ◌+◌, Bool, true, false, if◌then◌else◌, is_some}
-use Rattle.std.proofs.Common.{List, [], ◌∷◌, length, Option, Some, None}
-use Rattle.std.specs.Prelude.{◌&&◌, ◌||◌, ◌==◌, not, position, slice_get}
+use Rattle.std.proofs.Common.{arith}
+use Rattle.std.proofs.Common.{◌≡◌, ap, subst, ℕ, ◌+◌, Bool, true, false, if◌then◌else◌}
+use Rattle.std.proofs.Common.{List, [], ◌∷◌, Option, Some}
+use Rattle.std.specs.Prelude.{◌&&◌, ◌||◌, ◌==◌, not, slice_get}
 use Rattle.std.proofs.lemmas.Bool.{eq-eqb}
 use Rattle.osi_tpdu.specs.Value.{Value, acknowledge, confirm, data0, data2, destination_of, disconnect, disconnected, error, request}
 use Rattle.osi_class.specs.Runs.{unit_parts}
 use Rattle.osi_class.specs.Tsdus.{Part}
 use Rattle.osi_class.specs.declared.terms.Class.{Class}
-use Rattle.osi_class.specs.declared.terms.Class.TheVariants.{Two, Zero}
 use Rattle.osi_judge.specs.Captures.{Capture, other}
 use Rattle.osi_judge.specs.declared.directions.Direction.{Direction}
 use Rattle.osi_judge.specs.declared.directions.Direction.TheVariants.{Left, Right}
@@ -25,12 +25,12 @@ use Rattle.osi_rules.specs.declared.halves.Phase.TheVariants as phase
 use Rattle.osi_rules.specs.declared.routes.Route.{Route}
 use Rattle.osi_rules.specs.Reaches.{is_applied}
 use Rattle.osi_rules.specs.Rows.{Test, first_failed, fits_size, fits_tsdu, has_credit, is_tellable}
-use Rattle.osi_rules.specs.Sides.{is_closed, is_closing, is_live, is_named, is_open, is_over_by, is_refused, is_silent, own, uses}
+use Rattle.osi_rules.specs.Sides.{is_closed, is_closing, is_open, is_refused, is_silent, own, uses}
 use Rattle.osi_rules.specs.Sides as sides
-use Rattle.osi_rules.specs.Traffic.{Outcome, State, at_found, at_place, class_for, found, is_stopped, meaning_if, meant, none_told}
-use Rattle.osi_rules.specs.Traffic.{in_doubt, is_report, route, route_in, routed, takes, unnamed_by, uses_source}
+use Rattle.osi_rules.specs.Traffic.{Outcome, State, at_found, at_place, found, meant, none_told}
+use Rattle.osi_rules.specs.Traffic.{in_doubt, route_in, routed, takes, unnamed_by, uses_source}
 use Rattle.osi_rules.specs.Traffic as traffic
-use Rattle.osi_fair.specs.Naming.{packet, rubbish, unit}
+use Rattle.osi_fair.specs.Naming.{packet, unit}
 use Rattle.osi_fair.proofs.a_reference_names_one_connection.{fresh_apart, passes_apart}
 use Rattle.osi_fair.proofs.all_are_judged_unless_one_broke.{IsJudged}
 use Rattle.osi_fair.proofs.names_stay_apart_though_one_is_lost.{AreNamedApart, OnlyOne, each_sound}
@@ -38,13 +38,12 @@ use Rattle.osi_fair.proofs.what_holds_of_one_item.{HoldsOfEach}
 use Rattle.osi_fair.proofs.what_keeps_names_apart.{AreApart, Sound}
 use Rattle.osi_tap.specs.declared.marks.Cause.{Cause}
 use Rattle.osi_tap.specs.Connections.{Joined, reference_of, user_of}
-use Rattle.osi_tap.specs.Courses.{Course, marked, marks_of, moved, packet_begins, unit_passes, unread_mark, unread_moment, way_of}
+use Rattle.osi_tap.specs.Courses.{Course, marked, moved, packet_begins, unit_passes, unread_mark, unread_moment, way_of}
 use Rattle.osi_tap.specs.Tapping.{begin, comes_to}
 use Rattle.osi_watched.specs.ShownPlaces.{HaveSamePlaces, IsJoinedAt, IsOneOf, named_by}
 use Rattle.osi_watched.proofs.what_passes_keeps_a_claim.{IsClaim, after_kept}
 use Rattle.osi_watched.proofs.sessions.a_unit_is_joined_where_it_is_named.{joined_named}
 use Rattle.osi_watched.proofs.sessions.connections_have_the_same_places.{at_same, joined_there, marked_traffic, unit_knows}
-use Rattle.osi_rules.specs.Traffic.{has_broken}
 
 -- ---- a DT that is right
 
@@ -59,114 +58,60 @@ pub record IsPlaced (d : Way) (v : Value) (end : Bool) (s : State) (o : Outcome)
   pub applied : is_applied (found d s.course (uses_source d s.connections v) connection v) ≡ true
 
 judged_applied : (b : Bool) (f : Finding) → is_applied (if b then f else NotJudged) ≡ true → (b ≡ true) × (is_applied f ≡ true)
-judged_applied true f h = (refl, h)
-judged_applied false f h = absurd (cc)
+judged_applied b f h = grind arith
 
 -- a unit that adds to a TSDU
 abbrev AddsTo : Value → Bool → Type 0
 AddsTo v end = meant v ≡ Adds end
 
 doubt_applied : (f : Finding) → is_applied (in_doubt f) ≡ true → is_applied f ≡ true
-doubt_applied (Broke r) h = absurd (cc)
-doubt_applied f h = h
+doubt_applied f h = grind arith
 
 never_known : {A : Type 0} (strays : Bool) (v : Value) → is_applied (unnamed_by strays v) ≡ true → A
-never_known true (request c) h = absurd (cc)
-never_known false (request c) h = absurd (cc)
-never_known true (confirm n c) h = absurd (cc)
-never_known false (confirm n c) h = absurd (cc)
-never_known true (disconnect n source reason user) h = absurd (cc)
-never_known false (disconnect n source reason user) h = absurd (cc)
-never_known true (disconnected n source) h = absurd (cc)
-never_known false (disconnected n source) h = absurd (cc)
-never_known true (data0 e user) h = absurd (cc)
-never_known false (data0 e user) h = absurd (cc)
-never_known true (data2 n number e user) h = absurd (cc)
-never_known false (data2 n number e user) h = absurd (cc)
-never_known true (acknowledge credit n number) h = absurd (cc)
-never_known false (acknowledge credit n number) h = absurd (cc)
-never_known true (error n cause) h = absurd (cc)
-never_known false (error n cause) h = absurd (cc)
+never_known h h2 h3 = grind arith
 
 pub never_unnamed : {A : Type 0} (reports loose strays : Bool) (v : Value) →
     is_applied (if reports then NotJudged else (if loose then in_doubt (unnamed_by strays v) else unnamed_by strays v)) ≡ true → A
-never_unnamed true loose strays v h = absurd (cc)
-never_unnamed false true strays v h = never_known strays v (doubt_applied (unnamed_by strays v) h)
-never_unnamed false false strays v h = never_known strays v h
+never_unnamed h loose strays v h2 = grind (arith, never_known, doubt_applied)
 
 module _ (d : Way) (v : Value) (end : Bool) (s : State) (adds : AddsTo v end) where
   placed_one : (i : ℕ) (o : Option Connection) → slice_get s.connections i ≡ o → is_applied (at_found d v s i o).told.finding ≡ true →
       IsPlaced d v end s (at_found d v s i o)
-  placed_one i None e h = never_unnamed (is_report (traffic.has_erred (sides.other d) s.course) v) s.course.loose s.course.strays v h
-  placed_one i (Some c) e h =
-      let (judged, applied) = judged_applied c.is_judged (found d s.course (uses_source d s.connections v) c v) h in
-      record {
-        place = i;
-        connection = c;
-        told = refl;
-        means = ap (λ (b : Bool). meaning_if b (meant v)) h ∙ adds;
-        there = e;
-        judged = judged;
-        applied = applied;
-      }
+  placed_one i o e h = grind (arith, never_unnamed, judged_applied)
 
   placed_any : (o : Option ℕ) → is_applied (at_place d v s o).told.finding ≡ true → IsPlaced d v end s (at_place d v s o)
-  placed_any None h = never_unnamed (is_report (traffic.has_erred (sides.other d) s.course) v) s.course.loose s.course.strays v h
-  placed_any (Some i) h = placed_one i (slice_get s.connections i) refl h
+  placed_any o h = grind (arith, never_unnamed, placed_one)
 
   stopped_or : (b : Bool) (r : Route) → (is_applied (routed d v s r).told.finding ≡ true → IsPlaced d v end s (routed d v s r)) →
       is_applied (if b then none_told d NotJudged s else routed d v s r).told.finding ≡ true →
       IsPlaced d v end s (if b then none_told d NotJudged s else routed d v s r)
-  stopped_or true r f h = absurd (cc)
-  stopped_or false r f h = f h
+  stopped_or b r f h = grind arith
 
 -- in class 2
 two_routed : (k : Option Class) (d : Way) (b : Bool) (n number : ℕ) (end : Bool) (user : List ℕ) (s : State) →
     is_applied (routed d (data2 n number end user) s (route_in k d b (data2 n number end user))).told.finding ≡ true →
     IsPlaced d (data2 n number end user) end s (routed d (data2 n number end user) s (route_in k d b (data2 n number end user)))
-two_routed None way.Left b n number end user s h = absurd (cc)
-two_routed None way.Right b n number end user s h = absurd (cc)
-two_routed (Some Zero) way.Left b n number end user s h = absurd (cc)
-two_routed (Some Zero) way.Right b n number end user s h = absurd (cc)
-two_routed (Some Two) way.Left b n number end user s h =
-    placed_any way.Left (data2 n number end user) end s refl (position (is_named way.Left n) s.connections) h
-two_routed (Some Two) way.Right b n number end user s h =
-    placed_any way.Right (data2 n number end user) end s refl (position (is_named way.Right n) s.connections) h
+two_routed k d b n number end user s h = grind (arith, placed_any)
 
 -- in class 0
 zero_routed : (k : Option Class) (d : Way) (b : Bool) (end : Bool) (user : List ℕ) (s : State) →
     is_applied (routed d (data0 end user) s (route_in k d b (data0 end user))).told.finding ≡ true →
     IsPlaced d (data0 end user) end s (routed d (data0 end user) s (route_in k d b (data0 end user)))
-zero_routed None way.Left b end user s h = absurd (cc)
-zero_routed None way.Right b end user s h = absurd (cc)
-zero_routed (Some Zero) way.Left b end user s h =
-    placed_any way.Left (data0 end user) end s refl (position (is_live way.Left) s.connections) h
-zero_routed (Some Zero) way.Right b end user s h =
-    placed_any way.Right (data0 end user) end s refl (position (is_live way.Right) s.connections) h
-zero_routed (Some Two) way.Left b end user s h = absurd (cc)
-zero_routed (Some Two) way.Right b end user s h = absurd (cc)
+zero_routed k d b end user s h = grind (arith, placed_any)
 
 pub two_placed : (d : Way) (n number : ℕ) (end : Bool) (user : List ℕ) (s : State) →
     is_applied (takes d (data2 n number end user) s).told.finding ≡ true →
     IsPlaced d (data2 n number end user) end s (takes d (data2 n number end user) s)
-two_placed d n number end user s h =
-    let v = data2 n number end user in
-    stopped_or d v end s refl (is_stopped d s.course) (route d s.course v)
-    (two_routed (class_for d s.course) d (has_broken (sides.other d) s.course) n number end user s) h
+two_placed d n number end user s h = grind (arith, stopped_or, two_routed)
 
 pub zero_placed : (d : Way) (end : Bool) (user : List ℕ) (s : State) → (takes d (data0 end user) s).told.finding ≡ Kept →
     IsPlaced d (data0 end user) end s (takes d (data0 end user) s)
-zero_placed d end user s h =
-    let v = data0 end user in
-    stopped_or d v end s refl (is_stopped d s.course) (route d s.course v)
-    (zero_routed (class_for d s.course) d (has_broken (sides.other d) s.course) end user s) (ap is_applied h)
+zero_placed d end user s h = grind (arith, stopped_or, zero_routed)
 
 -- its sender has not closed the connection
 second_test : (a b : Bool) (more : List Test) →
     is_applied (first_failed ((a, Broke rule.UnknownReference) ∷ (b, Broke rule.Closed) ∷ more)) ≡ true → b ≡ true
-second_test true true more h = refl
-second_test true false more h = absurd (cc)
-second_test false b more h = absurd (cc)
+second_test a b more h = grind arith
 
 abbrev tests_of_numbers : Way → Connection → (number octets : ℕ) → List Test
 tests_of_numbers d c number octets =
@@ -176,12 +121,7 @@ tests_of_numbers d c number octets =
 
 pub two_open : (d : Way) (n number : ℕ) (end : Bool) (user : List ℕ) (course : Rules) (in_use : Bool) (c : Connection) →
     is_applied (found d course in_use c (data2 n number end user)) ≡ true → is_open (own d c).phase ≡ true
-two_open way.Left n number end user course in_use c h =
-    second_test (not (is_silent c.left.phase)) (is_open c.left.phase)
-    (tests_of_numbers way.Left c number (length user)) h
-two_open way.Right n number end user course in_use c h =
-    second_test (not (is_silent c.right.phase)) (is_open c.right.phase)
-    (tests_of_numbers way.Right c number (length user)) h
+two_open d n number end user course in_use c h = grind (arith, second_test)
 
 -- ---- it is joined there
 
@@ -189,24 +129,10 @@ joined_at : (d : Direction) (at : ℕ) (v : Value) (end : Bool) (c : Course) →
     (p : IsPlaced (way_of d) v end c.traffic (takes (way_of d) v c.traffic)) →
     ((n : ℕ) → destination_of v ≡ Some n → is_open (own (way_of d) p.connection).phase ≡ true) → IsJoinedAt d at v end c
 joined_at d at v end c h p live =
-    let (j, here, one) = at_same c.traffic.connections c.sessions.live p.place p.connection h p.there in
-    record {
-      place = p.place;
-      connection = p.connection;
-      joined = j;
-      there = p.there;
-      here = here;
-      judged = p.judged;
-      named = λ n e. (joined_named d v c n p.place p.connection j h e p.told p.there p.judged here, live n e);
-      sessions = joined_there d at p.place end v c j p.means p.told here;
-    }
+    search (arith, joined_named, joined_there, at_same c.traffic.connections c.sessions.live p.place p.connection h p.there)
 
 first_part : (e end : Bool) (user : List ℕ) → ◌≡◌ {A = List Part} ((e, user) ∷ []) ((end, user) ∷ []) → e ≡ end
-first_part e end user h = ap (λ (l : List Part). first_of l) h
-  where
-    first_of : List Part → Bool
-    first_of [] = true
-    first_of (part ∷ parts) = part.0
+first_part e end user h = grind arith
 
 pub dt_joined : (d : Direction) (at : ℕ) (v : Value) (end : Bool) (c : Course) → HaveSamePlaces c.traffic.connections c.sessions.live →
     unit_parts v ≡ (end, user_of v) ∷ [] → (takes (way_of d) v c.traffic).told.finding ≡ Kept → IsJoinedAt d at v end c
@@ -235,23 +161,15 @@ apart_packet : (d : Direction) (c : Course) → Apart c → Apart (packet_begins
 apart_packet d c h = passes_apart (packet (way_of d)) c.traffic h
 
 apart_unit : (d : Direction) (at : ℕ) (v : Value) (c : Course) → Apart c → Apart (unit_passes d at v c)
-apart_unit d at v c h =
-    subst (λ (t : State). AreApart t.connections) (sym (unit_knows d at v c)) (passes_apart (unit (way_of d) v) c.traffic h)
+apart_unit d at v c h = grind (arith, unit_knows d at v c, passes_apart (unit (way_of d) v) c.traffic h)
 
 bad_by : (b : Bool) (d : Direction) (at : ℕ) (cause : Cause) (c : Course) → Apart c →
     Apart (if b then c else marked (unread_mark d at cause) (traffic.refused_reach (way_of d) c.traffic)
     (moved (unread_moment d at cause c.sessions) (record c { traffic = traffic.refused (way_of d) c.traffic })))
-bad_by true d at cause c h = h
-bad_by false d at cause c h =
-    subst (λ (t : State). AreApart t.connections) (sym (marked_traffic (unread_mark d at cause)
-    (traffic.refused_reach (way_of d) c.traffic) _)) (passes_apart (rubbish (way_of d)) c.traffic h)
+bad_by b d at cause c h = grind (arith, marked_traffic, passes_apart)
 
 apart_claim : IsClaim Apart
-apart_claim = record {
-  begins = λ d c h. apart_packet d c h;
-  passes = λ d at v c h. apart_unit d at v c h;
-  bad = λ d at cause c h. bad_by (is_some (marks_of d c).halted) d at cause c h;
-}
+apart_claim = search (arith, apart_packet, apart_unit, bad_by)
 
 pub capture_apart : (capture : Capture) → Apart (comes_to capture).course
 capture_apart capture = after_kept Apart apart_claim capture begin fresh_apart
@@ -259,15 +177,10 @@ capture_apart capture = after_kept Apart apart_claim capture begin fresh_apart
 -- ---- a side that has not closed a connection leaves the reference of the other side in use
 
 not_so : (b : Bool) → (b ≡ true → ⊥) → b ≡ false
-not_so true h = absurd (h refl)
-not_so false h = refl
+not_so b h = grind arith
 
 unlike : (p : Phase) → is_open p ≡ true → (is_refused p ≡ false) × (is_closing p ≡ false) × (is_closed p ≡ false) × (is_silent p ≡ false)
-unlike phase.Silent h = absurd (cc)
-unlike phase.Open h = (refl, refl, refl, refl)
-unlike phase.Refused h = absurd (cc)
-unlike phase.Closing h = absurd (cc)
-unlike phase.Closed h = absurd (cc)
+unlike p h = grind arith
 
 differ : {A : Type 0} (b : Bool) → b ≡ true → b ≡ false → A
 differ b h k = absurd (cc)
@@ -277,26 +190,16 @@ known_not : (f : Phase → Bool) (known now : Phase) → (f known ≡ true → f
 known_not f known now h k = not_so (f known) (λ e. differ (f now) (h e) k)
 
 over_not : (a b c g h i : Bool) → a ≡ false → b ≡ false → c ≡ false → h ≡ false → i ≡ false → (a || (b || (c || (g && (h || i))))) ≡ false
-over_not a b c true h i p q r s t = rw (p, q, r, s, t) refl
-over_not a b c false h i p q r s t = rw (p, q, r) refl
+over_not a b c g h i p q r s t = grind arith
 
 used_so : (j over silent same : Bool) → over ≡ false → silent ≡ false → same ≡ true → (not (j && over) && (not silent && same)) ≡ true
-used_so true over silent same a b c = rw (a, b, c) refl
-used_so false over silent same a b c = rw (b, c) refl
+used_so j over silent same a b c = grind arith
 
 given_of : (p : Phase) (r n : ℕ) → named_by p r ≡ Some n → (r ≡ n) × (is_silent p ≡ false) × (is_refused p ≡ false)
-given_of phase.Silent r n h = absurd (cc)
-given_of phase.Open r n h = (cc, refl, refl)
-given_of phase.Refused r n h = absurd (cc)
-given_of phase.Closing r n h = (cc, refl, refl)
-given_of phase.Closed r n h = (cc, refl, refl)
+given_of p r n h = grind arith
 
 asked_of : (p : Phase) → (is_silent p || is_refused p) ≡ false → (is_silent p ≡ false) × (is_refused p ≡ false)
-asked_of phase.Silent h = absurd (cc)
-asked_of phase.Open h = (refl, refl)
-asked_of phase.Refused h = absurd (cc)
-asked_of phase.Closing h = (refl, refl)
-asked_of phase.Closed h = (refl, refl)
+asked_of p h = grind arith
 
 same_number : (m n : ℕ) → Some m ≡ Some n → m ≡ n
 same_number m n e = cc
@@ -304,26 +207,8 @@ same_number m n e = cc
 -- a side that has a connection open leaves the reference in use that the other side gave it
 pub still_used : (d : Direction) (n : ℕ) (c : Connection) (j : Joined) → IsOneOf c j → Sound c → is_open (own (way_of d) c).phase ≡ true →
     reference_of (other d) j ≡ Some n → uses (way_of (other d)) n c ≡ true
-still_used Left n c j h sound live is =
-    let (same, silent, refused) = given_of c.right.phase c.right.reference n (sym h.called ∙ is) in
-    let (l_refused, l_closing, l_closed, l_silent) = unlike c.left.phase live in
-    used_so c.is_judged (is_over_by c.right c.seen_by_right) (is_silent c.right.phase) (c.right.reference == n)
-    (over_not _ _ _ (is_closing c.right.phase) _ _ refused
-    (known_not is_refused c.seen_by_right.phase c.left.phase sound.right_knows.refused l_refused)
-    (not_so (is_closed c.right.phase) (λ e. differ (is_closing c.left.phase) (sound.right_closed e) l_closing))
-    (known_not is_closing c.seen_by_right.phase c.left.phase sound.right_knows.closing l_closing)
-    (known_not is_closed c.seen_by_right.phase c.left.phase sound.right_knows.closed l_closed))
-    silent (eq-eqb c.right.reference n same)
-still_used Right n c j h sound live is =
-    let (silent, refused) = asked_of c.left.phase h.asks in
-    let (r_refused, r_closing, r_closed, r_silent) = unlike c.right.phase live in
-    used_so c.is_judged (is_over_by c.left c.seen_by_left) (is_silent c.left.phase) (c.left.reference == n)
-    (over_not _ _ _ (is_closing c.left.phase) _ _ refused
-    (known_not is_refused c.seen_by_left.phase c.right.phase sound.left_knows.refused r_refused)
-    (not_so (is_closed c.left.phase) (λ e. differ (is_closing c.right.phase) (sound.left_closed e) r_closing))
-    (known_not is_closing c.seen_by_left.phase c.right.phase sound.left_knows.closing r_closing)
-    (known_not is_closed c.seen_by_left.phase c.right.phase sound.left_knows.closed r_closed))
-    silent (eq-eqb c.left.reference n (sym h.calling ∙ same_number j.calling n is))
+still_used d n c j h sound live is =
+    grind (arith, given_of, unlike, used_so, over_not, known_not, not_so, differ, eq-eqb, asked_of, same_number)
 
 -- so two places that a side has open, and to which the other side gave this reference, are one
 pub one_place : (d : Direction) (n p q : ℕ) (c e : Connection) (j k : Joined) (cs : List Connection) → AreApart cs →
@@ -358,20 +243,12 @@ pub named_apart : (d : Direction) (cs : List Connection) → AreApart cs → Are
 named_apart d cs apart named = record { sound = each_sound (way_of (other d)) cs apart named; used = λ n. named.used n }
 
 lost_uses : (j over silent same : Bool) → j ≡ false → silent ≡ false → same ≡ true → (not (j && over) && (not silent && same)) ≡ true
-lost_uses true over silent same a b c = absurd (cc)
-lost_uses false over silent same a b c = rw (b, c) refl
+lost_uses j over silent same a b c = grind arith
 
 -- a lost connection leaves the references in use that it has
 lost_used : (d : Direction) (n : ℕ) (c : Connection) (j : Joined) → IsOneOf c j → c.is_judged ≡ false →
     reference_of (other d) j ≡ Some n → uses (way_of (other d)) n c ≡ true
-lost_used Left n c j h lost is =
-    let (same, silent, refused) = given_of c.right.phase c.right.reference n (sym h.called ∙ is) in
-    lost_uses c.is_judged (is_over_by c.right c.seen_by_right) (is_silent c.right.phase) (c.right.reference == n) lost silent
-    (eq-eqb c.right.reference n same)
-lost_used Right n c j h lost is =
-    let (silent, refused) = asked_of c.left.phase h.asks in
-    lost_uses c.is_judged (is_over_by c.left c.seen_by_left) (is_silent c.left.phase) (c.left.reference == n) lost silent
-    (eq-eqb c.left.reference n (sym h.calling ∙ same_number j.calling n is))
+lost_used d n c j h lost is = grind (arith, given_of, lost_uses, eq-eqb, asked_of, same_number)
 
 module _ (d : Direction) (n p q : ℕ) (c e : Connection) (j k : Joined) (cs : List Connection) (apart : AreUsedApart d cs)
     (there : slice_get cs p ≡ Some c) (here : slice_get cs q ≡ Some e) (one : IsOneOf c j) (another : IsOneOf e k)
@@ -380,10 +257,8 @@ module _ (d : Direction) (n p q : ℕ) (c e : Connection) (j k : Joined) (cs : L
   -- two places that a side has open
   pub one_use : is_open (own (way_of d) c).phase ≡ true → p ≡ q
   one_use live =
-      apart.used n p q c e there here (still_used d n c j one (apart.sound p c there) live is)
-      (still_used d n e k another (apart.sound q e here) lives same)
+      grind (arith, still_used d n c j one (apart.sound p c there) live is, still_used d n e k another (apart.sound q e here) lives same)
 
   -- or one of which the connection is lost
   pub lost_use : c.is_judged ≡ false → p ≡ q
-  lost_use lost =
-      apart.used n p q c e there here (lost_used d n c j one lost is) (still_used d n e k another (apart.sound q e here) lives same)
+  lost_use lost = grind (arith, lost_used d n c j one lost is, still_used d n e k another (apart.sound q e here) lives same)

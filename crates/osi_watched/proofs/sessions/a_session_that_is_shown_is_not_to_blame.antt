@@ -1,11 +1,12 @@
 -- A session of an end is not to blame for what a tap has joined of its connection.
 -- For the law on a connection of an end and a tap.
-use Rattle.osi_watched.proofs.Vocabulary.{[], ap, append_assoc, Bool, drop, false, inl, inr, length, List, map, nat_lt, refl, subst, sym}
-use Rattle.osi_watched.proofs.Vocabulary.{take, true, ℕ, ◌&&◌, ◌++◌, ◌+◌, ◌∙◌, ◌∷◌, ◌≡◌, ◌≤◌, flat_map-append, append-nil, take-append-drop}
-use Rattle.osi_watched.proofs.Vocabulary.{AllByRecursion, Given, part0, unit_of, give_out, given_parts, hand_in, hand_out, Move, parts_in}
+use Rattle.std.proofs.Common.{arith}
+use Rattle.osi_watched.proofs.Vocabulary.{[], ap, append_assoc, Bool, drop, false, length, List, map, refl, subst, sym}
+use Rattle.osi_watched.proofs.Vocabulary.{take, true, ℕ, ◌++◌, ◌+◌, ◌∙◌, ◌∷◌, ◌≡◌, ◌≤◌, flat_map-append, append-nil, take-append-drop}
+use Rattle.osi_watched.proofs.Vocabulary.{AllByRecursion, Given, unit_of, give_out, given_parts, hand_in, hand_out, Move, parts_in}
 use Rattle.osi_watched.proofs.Vocabulary.{parts_out, tsdus_in, tsdus_out, unit_parts, Part, tsdus, tsdus_after, uncut, Listener, Seen, End}
 use Rattle.osi_watched.proofs.Vocabulary.{AsSent, front_told, first_asked, AllInside, AsParts, front_inside, honest_inside, CalledLaw}
-use Rattle.osi_watched.proofs.Vocabulary.{CallerLaw, other, IsExplained, done, IsFound, selects_outside, IsHonest, IsSentFrom}
+use Rattle.osi_watched.proofs.Vocabulary.{CallerLaw, other, IsExplained, IsFound, selects_outside, IsHonest, IsSentFrom}
 use Rattle.osi_watched.proofs.Vocabulary.{broke_session, begin_of, Direction, Left as left, Right as right, none_said, out_more, said_more}
 use Rattle.osi_watched.proofs.Vocabulary.{IsSaid, nothing, shown_said, something, units_came, opens_so, history_runs, Deeds, Gone, no_deeds}
 use Rattle.osi_watched.proofs.Vocabulary.{said_in, Speaks, units_given, is_gone, closed, never, Shows, octets_said, IsToBlame, Joined}
@@ -13,7 +14,6 @@ use Rattle.osi_watched.proofs.Vocabulary.{spoken, heard, told, AreAfter, before_
 use Rattle.osi_judge.specs.Explaining.{Told}
 use Rattle.osi_judge.specs.Running as running
 use Rattle.osi_judge.specs.declared.findings.Finding.{Finding}
-use Rattle.osi_judge.specs.declared.findings.Finding.TheVariants.{Broke, Left}
 use Rattle.osi_honest.specs.Courses.{Course}
 use Rattle.osi_honest.specs.Courses.Course.{is_open, awaited, unknown}
 use Rattle.osi_honest.specs.Courses.Gone.{over}
@@ -69,8 +69,7 @@ tsdus_more begun ((false, octets) ∷ some) more = tsdus_more (begun ++ octets) 
 tsdus_more begun ((true, octets) ∷ some) more = ap (λ (l : List (List ℕ)). (begun ++ octets) ∷ l) (tsdus_more [] some more)
 
 parts_given : (peer : ℕ) (given : Given) → unit_parts (unit_of peer given) ≡ given_parts given
-parts_given peer (part0 end octets) = refl
-parts_given peer _ = refl
+parts_given peer given = grind arith
 
 pub parts_put : (peer : ℕ) (moves : List Move) → parts_of (map (unit_of peer) (units_given moves)) ≡ parts_out moves
 parts_put peer [] = refl
@@ -139,19 +138,14 @@ module _ (d : Direction) (r : ℕ) (deeds : Deeds) (e : End) (j : Joined) (cours
 -- ---- what was said by a session of an end is not blamed
 
 pub not_both : (b : Bool) → b ≡ true → b ≡ false → ⊥
-not_both true h k = cc
-not_both false h k = cc
+not_both b h k = grind arith
 
 not_outside : (us : List (List ℕ)) (told : List Told) → AllInside (first_asked us) told → selects_outside us told ≡ false
-not_outside us [] a = refl
-not_outside us (t ∷ told) a = ap (λ (b : Bool). nat_lt 0 t.before && b) a.0 ∙ and_false (nat_lt 0 t.before)
+not_outside us h a = grind (arith, and_false)
 
 front_outside : (us : List (List ℕ)) (told : List Told) (i : ℕ) → AllInside (first_asked us) told
     → selects_outside us (take i told) ≡ true → ⊥
-front_outside us told i a s =
-    not_both (selects_outside us (take i told)) s (not_outside us (take i told)
-    (front_inside (first_asked us) (take i told) (drop i told)
-    (subst (AllInside (first_asked us)) (sym (take-append-drop i told)) a)))
+front_outside us told i a s = grind (arith, not_both, not_outside, front_inside, first_asked, take-append-drop)
 
 not_broken : (begin : Seen) (us : List (List ℕ)) (told : List Told) (i : ℕ) → IsExplained begin us told →
     (IsExplained begin us (take (i + 1) told) → ⊥) → ⊥
@@ -161,15 +155,11 @@ not_broken begin us told i e n =
 
 no_break : (begin : Seen) (us : List (List ℕ)) (told : List Told) (finding : Finding) → IsExplained begin us told →
     AllInside (first_asked us) told → IsFound begin us told finding → broke_session finding ≡ false
-no_break begin us told (Broke i) e a f = absurd (not_broken begin us told i e f.0.broke)
-no_break begin us told (Left i) e a f =
-    absurd (elim f.2 [ inl n ↦ not_broken begin us told i e n | inr s ↦ front_outside us told (i + 1) a s ])
-no_break begin us told _ e a f = refl
+no_break begin us told h e a f = grind (arith, not_broken, front_outside)
 
 pub none_broken : (begin : Seen) (us : List (List ℕ)) (told : List Told) (finding : Finding) → told ≡ [] → IsFound begin us told finding →
     broke_session finding ≡ false
-none_broken begin us told finding none f =
-    no_break begin us [] finding (done 0 begin) tt (subst (λ (x : List Told). IsFound begin us x finding) none f)
+none_broken begin us told finding none f = grind (arith, no_break)
 
 module _ (known : AsSent) (parts : AsParts) (caller : CallerLaw) (called : CalledLaw) where
   honest_explained : (d : Direction) (us : List (List ℕ)) (told : List Told) → IsHonest d us told → IsExplained (begin_of d) us told
@@ -178,8 +168,7 @@ module _ (known : AsSent) (parts : AsParts) (caller : CallerLaw) (called : Calle
 
   honest_kept : (d : Direction) (us : List (List ℕ)) (told : List Told) (finding : Finding) → IsHonest d us told →
       IsFound (begin_of d) us told finding → broke_session finding ≡ false
-  honest_kept d us told finding h f =
-      no_break (begin_of d) us told finding (honest_explained d us told h) (honest_inside known parts d us told h) f
+  honest_kept d us told finding h f = grind (arith, no_break, honest_explained, honest_inside)
 
   said_kept : (d : Direction) (us : List (List ℕ)) (told : List Told) (finding : Finding) → IsSaid (calls_from d) us told →
       IsFound (begin_of d) us told finding → broke_session finding ≡ false

@@ -22,7 +22,7 @@ use Rattle.osi_rules.specs.declared.findings.Rule.TheVariants as rule
 use Rattle.osi_rules.specs.declared.halves.Half.{Half}
 use Rattle.osi_rules.specs.Reaches.{is_applied}
 use Rattle.osi_rules.specs.Rows.{Test, first_failed}
-use Rattle.osi_rules.specs.Sides.{begins, is_silent, own}
+use Rattle.osi_rules.specs.Sides.{begins, own}
 use Rattle.osi_rules.specs.Traffic as traffic
 use Rattle.osi_rules.specs.Traffic.{State, asked_by, begun_after, closing_phase, connection_after, found_on, half_after, judged_on}
 use Rattle.osi_rules.specs.Traffic.{meaning_if, meant, takes}
@@ -152,14 +152,12 @@ counted_after d at (confirm n x) s true r c j is h =
     applied_same d at (confirm n x) r c j h _
     (opened_same d at (confirm n x) r c j h (joined.source_of (confirm n x)) (joined.class_of (confirm n x))) refl
 counted_after d at (disconnect n source reason user) s true r c j is h =
-    applied_same d at (disconnect n source reason user) r c j h (joined.shut j) (shut_same d at (disconnect n source reason user) r c j h)
-    (closing_begun (is_silent (own (way_of d) c).phase) (own (way_of d) c))
+    search (arith, applied_same, closing_begun, shut_same d at (disconnect n source reason user) r c j h)
 counted_after d at (disconnected n source) s true r c j is h = search (arith, applied_same, none_same)
 counted_after d at (data0 end user) s true r c j is h = search (arith, data_added, found_data0)
 counted_after d at (data2 n number end user) s true r c j is h = search (arith, data_added, found_data2)
 counted_after d at (acknowledge credit n number) s true r c j is h = search (arith, applied_same, none_same)
-counted_after d at (error n cause) s true r c j is h =
-    applied_same d at (error n cause) r c j h (joined.shut j) (shut_same d at (error n cause) r c j h) refl
+counted_after d at (error n cause) s true r c j is h = search (arith, applied_same, shut_same d at (error n cause) r c j h)
 
 -- ---- all of them
 

@@ -1,13 +1,12 @@
 -- A tap with a bound that was fed a capture holds what the capture comes to within the bound, and tells the first break of that.
 -- For the laws on such a tap.
-use Rattle.std.proofs.Common.{ℕ, sym, subst, ◌≡◌, Option, Some}
-use Rattle.osi_judge.specs.Captures.{Capture, piece}
+use Rattle.std.proofs.Common.{arith}
+use Rattle.std.proofs.Common.{ℕ, ◌≡◌, Some}
+use Rattle.osi_judge.specs.Captures.{Capture}
 use Rattle.osi_tap.specs.declared.marks.First.{First}
-use Rattle.osi_tap.specs.declared.rooms.Room.TheVariants.{Octets}
 use Rattle.osi_tap.specs.declared.tap.Tap.{Tap}
 use Rattle.osi_tap.specs.Blaming.{IsFirstOf}
 use Rattle.osi_tap.specs.Standing.{HoldsState, IsJudged, first_in}
-use Rattle.osi_tap.specs.Tapping.{State, begin_within}
 use Rattle.osi_tap.proofs.a_capture_has_one_first_break.{first_held}
 use Rattle.osi_tap.proofs.a_piece_comes_to_what_its_octets_do.{after_more}
 use Rattle.osi_watched.specs.Bounded.{IsFedWithin, comes_within}
@@ -15,9 +14,7 @@ use Rattle.osi_watched.specs.Bounded.IsFedWithin.{fed, unfed}
 
 pub holds_within : (most : ℕ) (capture : Capture) (t : Tap) → IsFedWithin most capture t → HoldsState t (comes_within most capture)
 holds_within most _ _ (unfed t h) = h
-holds_within most _ _ (fed capture d octets old new was f) =
-    subst (λ (s : State). HoldsState new s) (sym (after_more capture (piece d octets) (begin_within (Octets most))))
-    (f.passes (comes_within most capture) (holds_within most capture old was))
+holds_within most _ _ (fed capture d octets old new was f) = grind (arith, after_more, holds_within most capture old was)
 
 pub first_told : (most : ℕ) (capture : Capture) (t : Tap) → IsFedWithin most capture t → IsJudged t →
     IsFirstOf (first_in t) (comes_within most capture).course.past
@@ -26,5 +23,4 @@ first_told most capture t was judged = first_held t (comes_within most capture) 
 -- if it tells one
 pub some_told : (most : ℕ) (capture : Capture) (t : Tap) (f : First) → IsFedWithin most capture t → IsJudged t → first_in t ≡ Some f →
     IsFirstOf (Some f) (comes_within most capture).course.past
-some_told most capture t f was judged told =
-    subst (λ (o : Option First). IsFirstOf o (comes_within most capture).course.past) told (first_told most capture t was judged)
+some_told most capture t f was judged told = grind (arith, first_told)

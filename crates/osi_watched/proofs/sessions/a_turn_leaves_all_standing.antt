@@ -1,12 +1,12 @@
 -- A turn of an end leaves all its connections standing at a tap; and while they stand, no session of the end is to blame.
 -- For the session of each connection of an end.
-use Rattle.osi_watched.proofs.Vocabulary.{[], ap, Bool, false, List, map, refl, Some, true, ℕ, ◌++◌, ◌≡◌, slice_get, Value, Part, End}
+use Rattle.std.proofs.Common.{arith}
+use Rattle.osi_watched.proofs.Vocabulary.{[], Bool, false, List, refl, Some, true, ℕ, ◌++◌, ◌≡◌, slice_get, Value, Part, End}
 use Rattle.osi_watched.proofs.Vocabulary.{is_open}
-use Rattle.osi_watched.proofs.Vocabulary.{own, Traffic as State, Connection, AsSent, AsParts, CalledLaw, CallerLaw, other, broke_session}
-use Rattle.osi_watched.proofs.Vocabulary.{begin_of, Direction, Deeds, then_did, IsToBlame, Joined, reference_of, Sessions, spoken, way_of}
-use Rattle.osi_watched.proofs.Vocabulary.{heard, told, told_of, calls_from, IsShownNow}
+use Rattle.osi_watched.proofs.Vocabulary.{own, Traffic as State, Connection, AsSent, AsParts, CalledLaw, CallerLaw, other}
+use Rattle.osi_watched.proofs.Vocabulary.{Direction, Deeds, then_did, IsToBlame, Joined, reference_of, Sessions, spoken, way_of}
+use Rattle.osi_watched.proofs.Vocabulary.{calls_from, IsShownNow}
 use Rattle.osi_honest.specs.Courses.{Course}
-use Rattle.osi_tap.specs.Lines.{Said}
 use Rattle.osi_watched.proofs.sessions.a_session_that_is_shown_is_not_to_blame.{none_broken, not_both, not_to_blame}
 use Rattle.osi_watched.proofs.sessions.all_connections_stand.{AllStand, Rests, quiet, rests, there_too}
 use Rattle.osi_watched.proofs.sessions.what_a_tap_shows_goes_on.{end_turns}
@@ -61,10 +61,7 @@ module _ (known_of : AsSent) (parts : AsParts) (caller : CallerLaw) (called : Ca
   shown_so r waiting later x j h blame = not_to_blame known_of parts caller called d r (deeds r) e j (courses r) h.shown blame
 
   unsaid_so : (j : Joined) → IsUnsaid (spoken d j) → IsToBlame d j → ⊥
-  unsaid_so j u blame =
-      not_both (broke_session blame.finding) blame.broke
-      (none_broken (begin_of d) (heard (spoken (other d) j)) (told (spoken d j)) blame.finding
-      (ap (λ (l : List Said). map told_of l) u.said) blame.found.found)
+  unsaid_so j u blame = grind (arith, not_both, none_broken)
 
   pub stands_blameless : (c : Connection) (j : Joined) → Stands d deeds known put b c j → IsToBlame d j → ⊥
   stands_blameless c j (unnamed none mine theirs room) blame = unsaid_so j mine blame

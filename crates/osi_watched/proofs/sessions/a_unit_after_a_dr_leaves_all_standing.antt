@@ -1,13 +1,14 @@
 -- A DT or an AK that the other side sends on a connection that it has closed leaves what is left over for the end: the unit comes after the
 -- DR of that side, which is in flight.
 -- For the sessions of an end after such a unit of the other side.
-use Rattle.osi_watched.proofs.Vocabulary.{[], ap, Bool, false, List, refl, Some, subst, sym, true, ℕ, ◌++◌, ◌==◌, ◌∙◌, ◌∷◌, ◌≡◌, eqb-true}
-use Rattle.osi_watched.proofs.Vocabulary.{acknowledge, data2, Value, Part, other, Direction, HaveSamePlaces}
-use Rattle.osi_watched.proofs.Vocabulary.{parts_of, picked_rest}
+use Rattle.std.proofs.Common.{arith}
+use Rattle.osi_watched.proofs.Vocabulary.{[], Bool, false, List, refl, subst, sym, true, ℕ, ◌++◌, ◌==◌, ◌∙◌, ◌∷◌, ◌≡◌, eqb-true}
+use Rattle.osi_watched.proofs.Vocabulary.{Value, Part, other, Direction, HaveSamePlaces}
+use Rattle.osi_watched.proofs.Vocabulary.{picked_rest}
 use Rattle.osi_tap.specs.Courses.{Course}
 use Rattle.osi_fair.proofs.small_facts_that_many_lemmas_use.{number_is}
 use Rattle.osi_watched.proofs.sessions.a_unit_after_a_dr_is_for_a_closing_connection.{IsAfterDr, is_there}
-use Rattle.osi_watched.proofs.sessions.right_units_leave_all_standing.{IsLink, ak, dt, other_twice}
+use Rattle.osi_watched.proofs.sessions.right_units_leave_all_standing.{IsLink, other_twice}
 use Rattle.osi_watched.proofs.sessions.the_dr_of_the_other_side_is_in_flight.{AreShut}
 use Rattle.osi_watched.proofs.sessions.what_is_in_flight_to_an_end.{in_flight}
 use Rattle.osi_watched.proofs.sessions.what_is_left_for_an_end.{has_dr, known_left, left_after, left_still}
@@ -16,11 +17,7 @@ use Rattle.osi_watched.proofs.sessions.what_stands_of_a_connection.{is_for}
 -- ---- what is left over
 
 link_none : (r n : ℕ) (v : Value) → IsLink v n → (n == r) ≡ false → in_flight r (v ∷ []) ≡ []
-link_none r n v (dt number end user is) e =
-    subst (λ (u : Value). in_flight r (u ∷ []) ≡ []) (sym is) (ap parts_of (picked_rest (is_for (Some r)) (data2 n number end user) [] e))
-link_none r n v (ak credit number is) e =
-    subst (λ (u : Value). in_flight r (u ∷ []) ≡ []) (sym is)
-    (ap parts_of (picked_rest (is_for (Some r)) (acknowledge credit n number) [] e))
+link_none r n v h e = grind (arith, in_flight, picked_rest, is_for)
 
 link_keeps : (is_live : ℕ → Bool) (coming : List Value) (v : Value) (n : ℕ) → IsLink v n → (is_live n ≡ true → has_dr n coming ≡ true) →
     (r : ℕ) (later : List Part) → known_left is_live coming r later → known_left is_live (coming ++ v ∷ []) r later

@@ -1,7 +1,8 @@
 -- At every step of an end and of a tap a whole end runs along; and of a calling end that offers class 2, the end that runs along has
 -- its lines.
 -- For the units that an end puts.
-use Rattle.osi_watched.proofs.Vocabulary.{subst, sym, true, ◌≡◌, Local, Traffic, Left, first_joined, Follows as Joined, Followed, IsOngoing}
+use Rattle.std.proofs.Common.{arith}
+use Rattle.osi_watched.proofs.Vocabulary.{true, ◌≡◌, Local, Left, first_joined, Follows as Joined, Followed, IsOngoing}
 use Rattle.osi_watched.proofs.Vocabulary.{Joint}
 use Rattle.osi_fair.specs.Wholes as wholes
 use Rattle.osi_fair.proofs.a_calling_end_is_fair_in_class_2.{all_joined}
@@ -17,5 +18,4 @@ calling_joined local two j f = all_joined local f.events (wholes.begin true loca
 -- and its lines, as long as both sides are judged
 pub calling_followed : (local : Local) → local.class2 ≡ true → (j : Joint) (f : IsFollowed Left (wholes.begin true local) j) →
     IsOngoing j.course.traffic.course → Followed local f.whole
-calling_followed local two j f clear =
-    (calling_joined local two j f).followed (subst (λ (s : Traffic). IsOngoing s.course) (sym f.tap) clear)
+calling_followed local two j f clear = grind (arith, calling_joined local two j f)

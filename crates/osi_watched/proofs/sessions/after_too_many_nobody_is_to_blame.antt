@@ -1,24 +1,22 @@
 -- After one connection too many nothing more is judged or joined: if no session of an end is to blame then, none is ever after.
 -- For the session of each connection of an end.
-use Rattle.std.proofs.Common.{◌≡◌, ◌∙◌, ◌⊎◌, inl, inr, refl, sym, ap, subst, ℕ, Bool, true, false, List, [], ◌∷◌, Some, None}
-use Rattle.std.specs.Prelude.{◌||◌, slice_get}
+use Rattle.std.proofs.Common.{arith}
+use Rattle.std.proofs.Common.{◌≡◌, sym, ap, subst, ℕ, Bool, true, false, List, [], ◌∷◌, Some, None}
+use Rattle.std.specs.Prelude.{slice_get}
 use Rattle.osi_tpdu.specs.Value.{Value}
-use Rattle.osi_judge.specs.Captures.{other}
 use Rattle.osi_judge.specs.declared.directions.Direction.{Direction}
-use Rattle.osi_judge.specs.declared.directions.Direction.TheVariants.{Left, Right}
-use Rattle.osi_rules.specs.declared.findings.Finding.{Finding}
+use Rattle.osi_judge.specs.declared.directions.Direction.TheVariants.{Left}
 use Rattle.osi_rules.specs.declared.findings.Finding.TheVariants.{TooMany}
-use Rattle.osi_rules.specs.declared.findings.Reach.{Reach}
 use Rattle.osi_rules.specs.declared.findings.Reach.TheVariants as reach
 use Rattle.osi_rules.specs.Reaches.{is_applied}
-use Rattle.osi_rules.specs.Traffic.{Outcome, State, is_stopped, stops_by, takes}
+use Rattle.osi_rules.specs.Traffic.{State, is_stopped, takes}
 use Rattle.osi_rules.proofs.a_stop_is_said.{stops_are_said, stops_last}
 use Rattle.osi_tap.specs.Blaming.{IsToBlame}
 use Rattle.osi_tap.specs.Connections.{Joined, Sessions, all_begin, packet_begins}
 use Rattle.osi_tap.specs.Courses.{Course, unit_passes, units_pass, way_of}
 use Rattle.osi_tap.specs.Courses as courses
-use Rattle.osi_watched.specs.Joint.{Joint, Step, Steps, StepsAlong, begins_other, begins_own, passes_other, passes_own, turns}
-use Rattle.osi_watched.proofs.what_a_unit_leaves_at_a_tap.{IsCalm, IsJudged, IsOver, Leaves, begins_over, unit_leaves, unit_over}
+use Rattle.osi_watched.specs.Joint.{Joint, Step, Steps, StepsAlong}
+use Rattle.osi_watched.proofs.what_a_unit_leaves_at_a_tap.{IsCalm, IsOver, begins_over, unit_leaves, unit_over}
 use Rattle.osi_watched.proofs.sessions.all_connections_stand.{map_of}
 use Rattle.osi_watched.proofs.sessions.connections_have_the_same_places.{unit_knows}
 use Rattle.osi_watched.proofs.sessions.what_holds_of_a_lost_connection.{begun_blame}
@@ -47,43 +45,26 @@ pub record IsSilenced (d : Direction) (c : Course) : Type 0 where
   pub none : NoneIsToBlame d c.sessions
 
 stopped_so : (e : Direction) (c : Course) → IsOver c → is_stopped (way_of e) c.traffic.course ≡ true
-stopped_so Left c over = over.left
-stopped_so Right c over = over.right
+stopped_so e c over = grind arith
 
 -- what passes joins nothing
 pub over_joins : (e : Direction) (at : ℕ) (v : Value) (c : Course) → IsOver c → (unit_passes e at v c).sessions ≡ c.sessions
-over_joins e at v c over =
-    joins_none e at v c (ap (λ (o : Outcome). is_applied o.told.finding) (stops_last (way_of e) v c.traffic (stopped_so e c over)))
+over_joins e at v c over = grind (arith, joins_none, stops_last, stopped_so)
 
 module _ (d : Direction) where
   pub unit_silenced : (e : Direction) (at : ℕ) (v : Value) (c : Course) → IsSilenced d c → IsSilenced d (unit_passes e at v c)
-  unit_silenced e at v c h =
-      let rest = unit_over e at v c h.first h.over in
-      record {
-        first = rest.0;
-        over = rest.1;
-        none = subst (NoneIsToBlame d) (sym (over_joins e at v c h.over)) h.none;
-      }
+  unit_silenced e at v c h = search (arith, unit_over, over_joins)
 
   pub units_silenced : (e : Direction) (at : ℕ) (vs : List Value) (c : Course) → IsSilenced d c → IsSilenced d (units_pass e at vs c)
   units_silenced e at [] c h = h
   units_silenced e at (v ∷ vs) c h = units_silenced e at vs (unit_passes e at v c) (unit_silenced e at v c h)
 
   pub begins_silenced : (e : Direction) (c : Course) → IsSilenced d c → IsSilenced d (courses.packet_begins e c)
-  begins_silenced e c h =
-      record { first = h.first; over = begins_over e c h.over; none = none_begins d e c.sessions h.none }
+  begins_silenced e c h = grind (arith, begins_over, none_begins)
 
   -- each step keeps that so
   pub step_silenced : (step : Step) (old new : Joint) → Steps d step old new → IsSilenced d old.course → IsSilenced d new.course
-  step_silenced (turns turn) old new t h = subst (IsSilenced d) (sym t.course) h
-  step_silenced begins_own old new (some, none, is) h =
-      subst (λ (j : Joint). IsSilenced d j.course) (sym is) (begins_silenced d old.course h)
-  step_silenced (passes_own at unit) old new steps h =
-      subst (λ (j : Joint). IsSilenced d j.course) (sym steps.4) (units_silenced d at (unit ∷ []) old.course h)
-  step_silenced begins_other old new is h =
-      subst (λ (j : Joint). IsSilenced d j.course) (sym is) (begins_silenced (other d) old.course h)
-  step_silenced (passes_other at packet units) old new (octets, read, is) h =
-      subst (λ (j : Joint). IsSilenced d j.course) (sym is) (units_silenced (other d) at units old.course h)
+  step_silenced step old new t h = search (arith, begins_silenced, units_silenced)
 
   pub along_silenced : (steps : List Step) (old new : Joint) → StepsAlong d old steps new → IsSilenced d old.course →
       IsSilenced d new.course
@@ -94,16 +75,7 @@ module _ (d : Direction) where
 
 both_stop : (d e : Direction) (v : Value) (s : State) → (takes (way_of d) v s).told.finding ≡ TooMany →
     is_stopped (way_of e) (takes (way_of d) v s).state.course ≡ true
-both_stop d e v s h =
-    stops_are_said (way_of d) v s (way_of e)
-    ∙ ap (λ (r : Reach). stops_by (way_of d) r (way_of e) || is_stopped (way_of e) s.course) (too_many_ends d v s h)
-    ∙ by d e
-  where
-    by : (d e : Direction) → (stops_by (way_of d) reach.Everything (way_of e) || is_stopped (way_of e) s.course) ≡ true
-    by Left Left = refl
-    by Left Right = refl
-    by Right Left = refl
-    by Right Right = refl
+both_stop d e v s h = grind (arith, stops_are_said, too_many_ends)
 
 differ : {A : Type 0} (b : Bool) → b ≡ true → b ≡ false → A
 differ b h k = absurd (cc)
@@ -111,23 +83,8 @@ differ b h k = absurd (cc)
 -- so the session of no connection is judged any further
 pub too_many_over : (d : Direction) (at : ℕ) (v : Value) (c : Course) → IsCalm c → (takes (way_of d) v c.traffic).told.finding ≡ TooMany →
     ((unit_passes d at v c).first ≡ None) × IsOver (unit_passes d at v c)
-too_many_over d at v c calm h =
-    let left : IsCalm (unit_passes d at v c) =
-    subst (λ (f : Finding). Leaves d at v c f (unit_passes d at v c)) h (unit_leaves d at v c calm) in
-    (left.none, by left.how)
-  where
-    by : IsJudged (unit_passes d at v c) ⊎ IsOver (unit_passes d at v c) → IsOver (unit_passes d at v c)
-    by (inl j) =
-        differ (unit_passes d at v c).traffic.course.left_stopped
-        (ap (λ (s : State). s.course.left_stopped) (unit_knows d at v c) ∙ both_stop d Left v c.traffic h) j.left
-    by (inr over) = over
+too_many_over d at v c calm h = grind (arith, differ, unit_leaves d at v c calm, unit_knows d at v c, both_stop d Left v c.traffic h)
 
 pub too_many_silenced : (d e : Direction) (at : ℕ) (v : Value) (c : Course) → IsCalm c →
     (takes (way_of e) v c.traffic).told.finding ≡ TooMany → NoneIsToBlame d c.sessions → IsSilenced d (unit_passes e at v c)
-too_many_silenced d e at v c calm h none =
-    let rest = too_many_over e at v c calm h in
-    record {
-      first = rest.0;
-      over = rest.1;
-      none = subst (NoneIsToBlame d) (sym (joins_none e at v c (ap is_applied h))) none;
-    }
+too_many_silenced d e at v c calm h none = grind (arith, too_many_over e at v c calm h, joins_none e at v c (ap is_applied h))

@@ -1,9 +1,10 @@
 -- An end of class 0 to which no DT is in flight has begun of a TSDU what a tap has joined of it: a calling end and a called one.
 -- For a TSDU of the other side that becomes too long.
-use Rattle.std.proofs.Common.{◌≡◌, ◌∙◌, ◌⊎◌, inl, inr, refl, sym, ap, subst, ℕ, ◌<◌, Bool, true, false, if◌then◌else◌}
+use Rattle.std.proofs.Common.{arith}
+use Rattle.std.proofs.Common.{◌≡◌, ◌∙◌, ◌⊎◌, inl, inr, refl, sym, ap, subst, ℕ, ◌<◌, Bool, true, if◌then◌else◌}
 use Rattle.std.proofs.Common.{List, [], Option, Some, None}
 use Rattle.std.proofs.lemmas.Bool.{eq-eqb, eqb-true}
-use Rattle.std.specs.Prelude.{◌==◌, slice_get}
+use Rattle.std.specs.Prelude.{slice_get}
 use Rattle.std.specs.List.{AllByRecursion}
 use Rattle.osi_class.specs.Link.{Standing}
 use Rattle.osi_class.specs.Tsdus.{Part}
@@ -74,13 +75,7 @@ module _ (r peer : ℕ) (link : Standing) (c : Carrier) (z : IsZeroAt r peer lin
 -- the one place
 one_place : (d : Direction) (r : ℕ) (gone : ℕ → Type 0) (j : Joint) (one : HasOne d r gone j.course.traffic j.course.sessions)
     (o : IsOnly j.course.traffic) → o.place ≡ one.place
-one_place d r gone j one o = by (o.place == one.place) refl
-  where
-    by : (b : Bool) → (o.place == one.place) ≡ b → o.place ≡ one.place
-    by true e = eqb-true o.place one.place e
-    by false e =
-        absurd (let no : true ≡ false = sym (o.others one.place one.connection one.there (λ k. unlike o.place one.place e (sym k)))
-        ∙ one.up in cc)
+one_place d r gone j one o = grind (arith, eqb-true, unlike)
 
 -- ---- a calling end
 

@@ -1,15 +1,16 @@
 -- Once class 0 is selected and an end has taken the CC, it has its one connection open in class 0, or is over.
 -- For the sessions of an end after a break of the other side in class 0.
-use Rattle.osi_watched.proofs.Vocabulary.{ap, Bool, false, is_some, List, None, Some, subst, sym, true, ℕ, ◌++◌, ◌∙◌, ◌∷◌}
+use Rattle.std.proofs.Common.{arith}
+use Rattle.osi_watched.proofs.Vocabulary.{ap, Bool, is_some, List, None, Some, subst, sym, true, ℕ, ◌++◌, ◌∙◌, ◌∷◌}
 use Rattle.osi_watched.proofs.Vocabulary.{◌≡◌, AllByRecursion, confirm, Connect, Value, Standing, Zero, Local}
 use Rattle.osi_watched.proofs.Vocabulary.{Carrier, Traffic as State, Connection, Left, Right, Direction, answered, known, quiet}
-use Rattle.osi_watched.proofs.Vocabulary.{refused, IsInZero, calm_tap, Whole, Joint, lines, selected, selecting, IsFirm}
+use Rattle.osi_watched.proofs.Vocabulary.{refused, IsInZero, calm_tap, Whole, Joint, IsFirm}
 use Rattle.osi_tpdu.specs.Value.{may_be_followed}
 use Rattle.osi_fair.specs.Pieces.{units_in}
 use Rattle.osi_fair.specs.Wholes as wholes
 use Rattle.osi_fair.proofs.a_called_end_is_fair.{Stage as CalledStage}
 use Rattle.osi_fair.proofs.how_requests_go_on.{Stage, asks, ended, waits, zero}
-use Rattle.osi_fair.proofs.what_an_end_does_in_class_zero.{over, talks}
+use Rattle.osi_fair.proofs.what_an_end_does_in_class_zero.{over}
 use Rattle.osi_honest.proofs.class_0.what_class_0_does_not_take_ends_the_end.{IsZeroAt}
 use Rattle.osi_watched.specs.Shown.{calls_from}
 use Rattle.osi_watched.proofs.a_carrier_does_events.{none_of}
@@ -32,13 +33,7 @@ MayBeFollowed v = may_be_followed v ≡ true
 
 open_in : (limit : ℕ) (s c : Carrier) (begun : ℕ) (units : List Value) → s.ended ≡ None → c.ended ≡ None → s.class ≡ c.class →
     s.live ≡ c.live → IsInZero limit s begun units → IsOpenIn c
-open_in limit s c begun units still lasts class live (talks r peer link is there plain puts) = record {
-  r = r;
-  peer = peer;
-  link = link;
-  at = record { lasts = lasts; class = sym class ∙ is; live = sym live ∙ there; flow = plain.flow };
-}
-open_in limit s c begun units still lasts class live (over gone puts) = over_none s.ended gone still
+open_in limit s c begun units still lasts class live h = grind (arith, over_none)
 
 -- ---- a calling end
 
@@ -47,8 +42,7 @@ calm_not w cs strays tap class = none_some w.tap.course.class Zero (ap (λ (t : 
 
 cc_alone : {A : Type 0} (n : ℕ) (x : Connect) (dcs more coming : List Value) → coming ≡ dcs ++ confirm n x ∷ more →
     AllByRecursion MayBeFollowed coming → A
-cc_alone n x dcs more coming is all =
-    absurd (let no : false ≡ true = one_of MayBeFollowed dcs more (confirm n x) (subst (AllByRecursion MayBeFollowed) is all) in cc)
+cc_alone n x dcs more coming is all = grind (arith, one_of)
 
 module _ (local : Local) (w : Whole) (c : Carrier) (still : w.end.ended ≡ None) (lasts : c.ended ≡ None) (class : w.end.class ≡ c.class)
     (live : w.end.live ≡ c.live) (is : w.tap.course.class ≡ Some Zero) where
@@ -63,9 +57,7 @@ module _ (local : Local) (w : Whole) (c : Carrier) (still : w.end.ended ≡ None
   calling_open (known two seen has) all = zero_two w.tap.course.class is two
 
   called_open : CalledStage local w → IsOpenIn c
-  called_open (lines h k named) = class_by w.tap.course.class is h.class
-  called_open (selecting z) = none_some w.tap.course.class Zero z.class is
-  called_open (selected z) = open_in z.limit w.end c z.c.right.begun w.put still lasts class live z.end
+  called_open h = grind (arith, class_by, none_some, open_in)
 
 -- ---- at a tap
 
@@ -81,7 +73,4 @@ module _ (local : Local) where
       ((runs_staged local j f).stage (ap (λ (t : State). t.course.left_stopped) f.tap ∙ firm.left))
       (subst (AllByRecursion MayBeFollowed) (sym (f.coming lasts)) all)
   end_opens Right j f firm class all lasts =
-      let still = none_of f.whole.end.ended (sym f.like.over ∙ ap is_some lasts) in
-      let same = f.like.lasts still in
-      called_open local f.whole j.holding.end.carrier still lasts (ap (λ (c : Carrier). c.class) same)
-      (ap (λ (c : Carrier). c.live) same) (ap (λ (t : State). t.course.class) f.tap ∙ class) (stage_of local j f firm)
+      grind (arith, called_open, none_of f.whole.end.ended (sym f.like.over ∙ ap is_some lasts), stage_of local j f firm)

@@ -1,10 +1,11 @@
 -- What an end takes in a turn at a connection is the first of what is left over for it; and if nothing of what has come is for it, it takes
 -- nothing there.
 -- For all connections of an end and a tap, after breaks of the other side too.
+use Rattle.std.proofs.Common.{arith}
 use Rattle.osi_watched.proofs.Vocabulary.{[], ap, Bool, false, List, None, refl, Some, subst, sym, true, ℕ, ◌++◌, ◌<◌, ◌∙◌, ◌∷◌, ◌≡◌, ◌||◌}
-use Rattle.osi_watched.proofs.Vocabulary.{confirm, request, Value, Part, early}
-use Rattle.osi_watched.proofs.Vocabulary.{amid, Life, past, stage_at, stage_over, Time, Opens, Continues, Deeds, units_in, all_units}
-use Rattle.osi_watched.proofs.Vocabulary.{Marked, Turn, parts_of, picked_join, Joint, TakesTurn, Carrier, EndReason, is_some, Option}
+use Rattle.osi_watched.proofs.Vocabulary.{Value, Part, early}
+use Rattle.osi_watched.proofs.Vocabulary.{Life, stage_at, stage_over, Time, Opens, Continues, Deeds, units_in, all_units}
+use Rattle.osi_watched.proofs.Vocabulary.{Marked, Turn, parts_of, picked_join, Joint, TakesTurn, Carrier}
 use Rattle.osi_honest.proofs.courses.how_long_a_connection_is_open.{HasNoDr}
 use Rattle.osi_watched.proofs.sessions.a_calling_end_takes_nothing_before_its_cc.{quiet_turn}
 use Rattle.osi_watched.proofs.sessions.a_turn_does_what_its_deeds_say.{turn_leaves, turn_uses}
@@ -25,35 +26,21 @@ during_clean r [] h = refl
 during_clean r (m ∷ units) h = ap (λ (b : Bool). b || has_dr r (all_units units)) h.0 ∙ during_clean r units h.1
 
 opening_clean : (is_caller : Bool) (r peer : ℕ) (unit : Value) → Opens is_caller r peer unit → IsClean r (unit ∷ [])
-opening_clean is_caller r peer (confirm n x) o = refl
-opening_clean is_caller r peer (request x) o = refl
-opening_clean is_caller r peer _ o = absurd o
+opening_clean is_caller r peer unit o = grind arith
 
 left_flight : (is_caller : Bool) (r : ℕ) → IsFlight is_caller r (AreLeft r) (IsClean r)
-left_flight is_caller r = record {
-  front = left_front r;
-  join = dr_none r;
-  during = during_clean r;
-  opening = opening_clean is_caller r;
-}
+left_flight is_caller r = grind (arith, left_front, dr_none, during_clean, opening_clean)
 
 -- ---- a connection that may take more
 
 -- its end lasts
 pub live_lasts : (r : ℕ) (c : Carrier) → may_take c r ≡ true → c.ended ≡ None
-live_lasts r c live = by c.ended refl
-  where
-    by : (o : Option EndReason) → c.ended ≡ o → c.ended ≡ None
-    by None e = e
-    by (Some reason) e =
-        absurd (let gone : is_under_way (stage_at r c) ≡ false = ap is_under_way (stage_over r c (ap is_some e)) in cc)
+live_lasts r c live = grind (arith, is_under_way, stage_at, stage_over)
 
 -- and it could take more before
 still_live : (is_caller : Bool) (r : ℕ) (s : Time) (took put : List Marked) (t : Time) → Life is_caller r s took put t →
     is_under_way t ≡ true → is_under_way s ≡ true
-still_live is_caller r early took put t life live = refl
-still_live is_caller r (amid peer) took put t life live = refl
-still_live is_caller r past took put t life live = absurd (let gone : is_under_way t ≡ false = ap is_under_way life.is in cc)
+still_live is_caller r s took put t life live = grind (arith, is_under_way)
 
 -- ---- a turn
 
@@ -69,13 +56,11 @@ module _ (is_caller : Bool) (turn : Turn) (old new : Joint) (t : TakesTurn turn 
 
   pub left_takes : IsReadyNow → (later : List Part) → known_left (may_take old.holding.end.carrier) (units_in old.coming) r later →
       TakesLeft later
-  left_takes ready later sure =
-      turn_takes_by is_caller turn old new t deeds on r some (AreLeft r) (IsClean r) (left_flight is_caller r) life ready later sure
+  left_takes ready later sure = search (arith, turn_takes_by, left_flight is_caller r)
 
   -- as long as it may take more, it took no DR for the connection
   pub took_clean : IsReadyNow → may_take new.holding.end.carrier r ≡ true → IsClean r (all_units on.took)
-  took_clean ready live =
-      turn_clean is_caller turn old new t deeds on r some (AreLeft r) (IsClean r) (left_flight is_caller r) life ready live
+  took_clean ready live = search (arith, turn_clean, left_flight is_caller r)
 
   pub was_live : may_take new.holding.end.carrier r ≡ true → may_take old.holding.end.carrier r ≡ true
   was_live live = still_live is_caller r (stage_at r old.holding.end.carrier) on.took on.put (stage_at r new.holding.end.carrier) life live

@@ -1,17 +1,17 @@
 -- No session of an end is to blame that has sent no DT; and what passes keeps that so, unless it is a DT of the end.
 -- For the law that no session of an end is blamed first, if the end doesn't offer class 2 and class 0 is not selected.
-use Rattle.osi_watched.proofs.Vocabulary.{[], ap, Bool, false, inl, inr, length, List, map, refl, Some, subst, sym, true, ℕ, ◌∙◌, ◌∷◌, ◌≡◌}
-use Rattle.osi_watched.proofs.Vocabulary.{◌⊎◌, slice_get, confirm, data0, data2, disconnect, error, Value, Local, meaning_if, meant}
-use Rattle.osi_watched.proofs.Vocabulary.{Traffic as State, takes, other, broke_session, begin_of, Direction, Left, Right, AllProper, Deeds}
+use Rattle.std.proofs.Common.{arith}
+use Rattle.osi_watched.proofs.Vocabulary.{[], Bool, false, inl, inr, List, Some, subst, sym, true, ℕ, ◌∙◌, ◌∷◌, ◌≡◌}
+use Rattle.osi_watched.proofs.Vocabulary.{◌⊎◌, slice_get, Value, Local, meaning_if, meant}
+use Rattle.osi_watched.proofs.Vocabulary.{Traffic as State, takes, other, Direction, AllProper, Deeds}
 use Rattle.osi_watched.proofs.Vocabulary.{IsToBlame, adds_if, all_begin, asked, Joined, Sessions, spoken, taken, unit_passes, units_pass}
-use Rattle.osi_watched.proofs.Vocabulary.{way_of, heard, told, told_of, fits, spent, Room, after_add, after_set, IsOngoing, begins_other}
+use Rattle.osi_watched.proofs.Vocabulary.{way_of, told, Room, after_add, after_set, IsOngoing, begins_other}
 use Rattle.osi_watched.proofs.Vocabulary.{begins_own, Joint, passes_other, passes_own, Step, Steps, calls_from}
 use Rattle.osi_rules.specs.declared.findings.Meaning.TheVariants as meaning
 use Rattle.osi_fair.specs.Wholes as wholes
 use Rattle.osi_tap.specs.Connections.{packet_begins}
 use Rattle.osi_tap.specs.Connections as joined
 use Rattle.osi_tap.specs.Courses.{Course}
-use Rattle.osi_tap.specs.Lines.{Said}
 use Rattle.osi_watched.proofs.steps_are_events.{IsFollowed, begin_followed, step_followed}
 use Rattle.osi_watched.proofs.sessions.a_session_that_is_shown_is_not_to_blame.{none_broken, not_both}
 use Rattle.osi_watched.proofs.sessions.after_too_many_nobody_is_to_blame.{NoneIsToBlame}
@@ -32,50 +32,31 @@ pub record IsMute (d : Direction) (t : Sessions) : Type 0 where
   pub done : (i : ℕ) (j : Joined) → slice_get t.done i ≡ Some j → (spoken d j).said ≡ []
 
 not_blamed : (d : Direction) (j : Joined) → IsUnsaid d j → IsToBlame d j → ⊥
-not_blamed d j none blame =
-    not_both (broke_session blame.finding) blame.broke
-    (none_broken (begin_of d) (heard (spoken (other d) j)) (told (spoken d j)) blame.finding
-    (ap (λ (l : List Said). map told_of l) none) blame.found.found)
+not_blamed d j none blame = grind (arith, not_both, none_broken)
 
 pub mute_none : (d : Direction) (t : Sessions) → IsMute d t → NoneIsToBlame d t
-mute_none d t h = record {
-  live = λ i j here blame. not_blamed d j (h.live i j here) blame;
-  done = λ i j here blame. not_blamed d j (h.done i j here) blame;
-}
+mute_none d t h = grind (arith, not_blamed)
 
 -- ---- what passes
 
 said_begun : (d e : Direction) (j : Joined) → (spoken d (packet_begins e j)).said ≡ (spoken d j).said
-said_begun Left Left j = refl
-said_begun Left Right j = refl
-said_begun Right Left j = refl
-said_begun Right Right j = refl
+said_begun d e j = grind arith
 
 said_shut : (d : Direction) (j : Joined) → (spoken d (joined.shut j)).said ≡ (spoken d j).said
-said_shut Left j = refl
-said_shut Right j = refl
+said_shut d j = grind arith
 
 said_opened : (d e : Direction) (at : ℕ) (v : Value) (j : Joined) →
     (spoken d (joined.meant e at v meaning.Opens j)).said ≡ (spoken d j).said
-said_opened Left e at v j = refl
-said_opened Right e at v j = refl
+said_opened d e at v j = grind arith
 
 -- a DT of the other side
 said_added : (b : Bool) (room : Room) (d : Direction) (at : ℕ) (end : Bool) (octets : List ℕ) (j : Joined) →
     (spoken d (adds_if b room (other d) at end octets j)).said ≡ (spoken d j).said
-said_added true room Left at end octets j = refl
-said_added true room Right at end octets j = refl
-said_added false room Left at end octets j = refl
-said_added false room Right at end octets j = refl
+said_added b room d at end octets j = grind arith
 
 said_part : (d e : Direction) (at : ℕ) (end : Bool) (octets : List ℕ) (j : Joined) → (e ≡ d → ⊥) →
     (spoken d (joined.adds e at end octets j)).said ≡ (spoken d j).said
-said_part Left Left at end octets j apart = absurd (apart refl)
-said_part Left Right at end octets j apart =
-    said_added (fits j.room (length octets)) (spent j.room (length octets)) Left at end octets j
-said_part Right Left at end octets j apart =
-    said_added (fits j.room (length octets)) (spent j.room (length octets)) Right at end octets j
-said_part Right Right at end octets j apart = absurd (apart refl)
+said_part d e at end octets j apart = grind (arith, said_added)
 
 differ : true ≡ false → ⊥
 differ e = cc
@@ -83,17 +64,10 @@ differ e = cc
 -- what a unit means for its connection
 said_meant : (d e : Direction) (at : ℕ) (v : Value) (b : Bool) (j : Joined) → (e ≡ d → is_part v ≡ false) →
     (spoken d (joined.meant e at v (meaning_if b (meant v)) j)).said ≡ (spoken d j).said
-said_meant d e at v false j not = refl
-said_meant d e at (confirm n x) true j not = said_opened d e at (confirm n x) j
-said_meant d e at (disconnect n source reason user) true j not = said_shut d j
-said_meant d e at (data0 end user) true j not = said_part d e at end user j (λ same. differ (not same))
-said_meant d e at (data2 n number end user) true j not = said_part d e at end user j (λ same. differ (not same))
-said_meant d e at (error n cause) true j not = said_shut d j
-said_meant d e at _ true j not = refl
+said_meant d e at v b j h = grind (arith, said_opened, said_shut, said_part, differ)
 
 said_asked : (d : Direction) (number calling : ℕ) (room : Room) → (spoken d (asked number calling room)).said ≡ []
-said_asked Left number calling room = refl
-said_asked Right number calling room = refl
+said_asked d number calling room = grind arith
 
 module _ (d e : Direction) (at : ℕ) (v : Value) (s : State) (t : Sessions) (not : e ≡ d → is_part v ≡ false) (h : IsMute d t) where
   one_or : (p i : ℕ) (new j : Joined) → IsUnsaid d new → ((i ≡ p) × (j ≡ new)) ⊎ (slice_get t.live i ≡ Some j) → IsUnsaid d j
@@ -114,18 +88,8 @@ module _ (d e : Direction) (at : ℕ) (v : Value) (s : State) (t : Sessions) (no
         live = λ i j here. one_or p i new j none (after_set t.live p i new j here);
         done = h.done;
       })
-  mute_by (asks_more x is number cs ts) =
-      let new : Joined = asked number x.source t.room in
-      subst (IsMute d) (sym ts) (record {
-        live = λ i j here. one_or (length t.live) i new j (said_asked d number x.source t.room) (after_add t.live i new j here);
-        done = h.done;
-      })
-  mute_by (asks_again x is number p k here free cs ts) =
-      let new : Joined = asked number x.source t.room in
-      subst (IsMute d) (sym ts) (record {
-        live = λ i j here. one_or p i new j (said_asked d number x.source t.room) (after_set t.live p i new j here);
-        done = λ i j there. old_or (length t.done) i k j (h.live p k here) (after_add t.done i k j there);
-      })
+  mute_by (asks_more x is number cs ts) = search (arith, one_or, said_asked, after_add)
+  mute_by (asks_again x is number p k here free cs ts) = search (arith, one_or, said_asked, after_set, old_or, after_add)
 
 mute_unit : (d e : Direction) (at : ℕ) (v : Value) (c : Course) → Agree c → (e ≡ d → is_part v ≡ false) → IsMute d c.sessions →
     IsMute d (unit_passes e at v c).sessions
@@ -134,8 +98,7 @@ mute_unit d e at v c places not h =
     (mute_by d e at v c.traffic c.sessions not h (unit_does e at v c.traffic c.sessions places))
 
 others_apart : {A : Type 0} (d : Direction) → other d ≡ d → A
-others_apart Left e = let no : Right ≡ Left = e in absurd (cc)
-others_apart Right e = let no : Left ≡ Right = e in absurd (cc)
+others_apart h e = grind arith
 
 pub mute_units : (d : Direction) (at : ℕ) (vs : List Value) (c : Course) → Agree c → IsMute d c.sessions →
     IsMute d (units_pass (other d) at vs c).sessions
@@ -145,11 +108,7 @@ mute_units d at (v ∷ vs) c places h =
     (mute_unit d (other d) at v c places (λ same. others_apart d same) h)
 
 pub mute_begins : (d e : Direction) (t : Sessions) → IsMute d t → IsMute d (all_begin e t)
-mute_begins d e t h = record {
-  live = λ i j here. let (k, there, is) = map_of (packet_begins e) t.live i j here in
-      ap (λ (x : Joined). (spoken d x).said) is ∙ said_begun d e k ∙ h.live i k there;
-  done = h.done;
-}
+mute_begins d e t h = grind (arith, map_of, said_begun)
 
 -- ---- the steps
 
@@ -166,11 +125,7 @@ PutsNoDt d local = (at : ℕ) (v : Value) (old new : Joint) → Steps d (passes_
 module _ (proper : AllProper) (d : Direction) (local : Local) where
   stays_mute : (deeds then_deeds : ℕ → Deeds) (step : Step) (old new : Joint) → Steps d step old new → Agree new.course →
       IsMute d new.course.sessions → HasSaidNothing d local deeds old → HasSaidNothing d local then_deeds new
-  stays_mute deeds then_deeds step old new does places mute h = record {
-    followed = step_followed d (wholes.begin (calls_from d) local) proper step old new does h.followed;
-    places = places;
-    mute = mute;
-  }
+  stays_mute deeds then_deeds step old new does places mute h = grind (arith, step_followed)
 
   pub mute_keeps : PutsNoDt d local → KeepsThroughout d local (HasSaidNothing d local)
   mute_keeps none_put = record {

@@ -4,17 +4,17 @@ use Rattle.std.proofs.Common.{arith}
 use Rattle.osi_watched.proofs.Vocabulary.{[], ap, Bool, false, if◌then◌else◌, inl, inr, is_some, List, None, not, Option, option_map, refl}
 use Rattle.osi_watched.proofs.Vocabulary.{set, Some, subst, suc, sym, true, zero, ℕ, ◌&&◌, ◌==◌, ◌∙◌, ◌∷◌, ◌≡◌, ◌⊎◌, eqb-true}
 use Rattle.osi_watched.proofs.Vocabulary.{slice_get-map, list_all, position, slice_get, ◌||◌, confirm, Connect, data0, disconnect}
-use Rattle.osi_watched.proofs.Vocabulary.{disconnected, error, request, Value, Class, Two, Zero, is_applied, reach_of, first_failed, begins}
-use Rattle.osi_watched.proofs.Vocabulary.{is_closed, is_closing, is_free, is_live, is_named, is_open, is_over, is_over_by, is_refused}
-use Rattle.osi_watched.proofs.Vocabulary.{is_silent, seen, asked_by, asks_by, asks_kept, at_found, at_place, class_for, closing_phase}
+use Rattle.osi_watched.proofs.Vocabulary.{disconnected, error, request, Value, Class, Two, Zero, is_applied, first_failed, begins}
+use Rattle.osi_watched.proofs.Vocabulary.{is_closed, is_closing, is_live, is_named, is_open, is_over, is_over_by, is_refused}
+use Rattle.osi_watched.proofs.Vocabulary.{is_silent, seen, asked_by, asks_by, asks_kept, at_found, at_place, closing_phase}
 use Rattle.osi_watched.proofs.Vocabulary.{connection_after, course_after, course_after_none, course_begins, found, found_on, fresh}
-use Rattle.osi_watched.proofs.Vocabulary.{half_after, is_stopped, judged_on, none_told, refused_reach, request_tests, route, route_in}
+use Rattle.osi_watched.proofs.Vocabulary.{half_after, judged_on, none_told, request_tests, route_in}
 use Rattle.osi_watched.proofs.Vocabulary.{routed, sent_on, Traffic as State, takes, unnamed_told, uses_source, Connection, Rules}
 use Rattle.osi_watched.proofs.Vocabulary.{Way as Direction, Finding, Broke, Kept, NotJudged, Reach, Half, Phase, Route, unlike}
 use Rattle.osi_watched.proofs.Vocabulary.{applied_found, applied_judged, no_item, not_first, not_true, AreJudged, reached_class, begun_live}
 use Rattle.osi_watched.proofs.Vocabulary.{each_add, each_map, each_set, first_true, HoldsOfEach, one_added, one_changed, one_mapped}
 use Rattle.osi_watched.proofs.Vocabulary.{one_put, passes_each, NamesApart as AreApart, Sound, lasts_passing, set_there, HoldsOfOne, packet}
-use Rattle.osi_watched.proofs.Vocabulary.{passes, Passing, rubbish, unit, has_broken, noted}
+use Rattle.osi_watched.proofs.Vocabulary.{passes, Passing, rubbish, unit, noted}
 use Rattle.osi_rules.specs.declared.directions.Direction.TheVariants.{Left, Right}
 use Rattle.osi_rules.specs.declared.findings.Reach.TheVariants as reach
 use Rattle.osi_rules.specs.declared.findings.Rule.TheVariants as rule
@@ -150,19 +150,8 @@ module _ (s : State) (p : ℕ) (c new : Connection) (course : Rules) (there : sl
     (seen : course.class_seen ≡ s.course.class_seen) (f : Fits s course c new) (n : Narrow s) where
   opened_by : (b : Bool) (o : IsOpened s.connections) → (o.place == p) ≡ b → is_open new.right.phase ≡ is_open c.right.phase →
       IsOpened (set s.connections p new)
-  opened_by true o e same = record {
-    place = p;
-    connection = new;
-    there = set_there s.connections p new c there;
-    live = same ∙ ap (λ (x : Connection). is_open x.right.phase) (same_item c o.connection
-        (sym there ∙ ap (slice_get s.connections) (sym (eqb-true o.place p e)) ∙ o.there)) ∙ o.live;
-  }
-  opened_by false o e same = record {
-    place = o.place;
-    connection = o.connection;
-    there = set_other s.connections p o.place new (unlike o.place p e) ∙ o.there;
-    live = o.live;
-  }
+  opened_by true o e same = grind (arith, same_item, set_there s.connections p new c there, eqb-true o.place p e)
+  opened_by false o e same = grind (arith, set_other s.connections p o.place new (unlike o.place p e), unlike o.place p e)
 
   opened_so : (is_open new.right.phase ≡ true) ⊎ ((s.course.class ≡ Some Zero) × (is_open new.right.phase ≡ is_open c.right.phase)) →
       IsOpened (set s.connections p new)
@@ -300,13 +289,11 @@ module _ (d : Direction) (v : Value) (s : State) (apart : AreApart s.connections
   found_narrow : (p : ℕ) (o : Option Connection) → slice_get s.connections p ≡ o →
       ((e : Connection) → slice_get s.connections p ≡ Some e → is_over d e ≡ false) → Narrow (at_found d v s p o).state
   found_narrow p None there live = unnamed_narrow d v s n
-  found_narrow p (Some c) there live =
-      one_by (is_applied (found_on d s c v)) p c (reach_of (class_for d s.course) (found_on d s c v)) there (live c there) refl
+  found_narrow p (Some c) there live = search (arith, one_by)
 
   place_narrow : (o : Option ℕ) → ((i : ℕ) (e : Connection) → o ≡ Some i → slice_get s.connections i ≡ Some e → is_over d e ≡ false) →
       Narrow (at_place d v s o).state
-  place_narrow None live = unnamed_narrow d v s n
-  place_narrow (Some p) live = found_narrow p (slice_get s.connections p) refl (λ e there. live p e refl there)
+  place_narrow o live = grind (arith, unnamed_narrow, found_narrow)
 
   named_narrow : (number : ℕ) → Narrow (at_place d v s (position (is_named d number) s.connections)).state
   named_narrow number =
@@ -369,10 +356,7 @@ module _ (x : Connect) (s : State) (apart : AreApart s.connections) (n : Narrow 
 
 asks_narrow : (f : Finding) (x : Connect) (s : State) → first_failed (request_tests s x) ≡ f → AreApart s.connections → Narrow s →
     s.course.class_seen ≡ None → Narrow (asks_by Left f x s).state
-asks_narrow Kept x s e apart n unknown =
-    let t = passes_each (request_tests s x) refl e in
-    kept_narrow x s apart n unknown (unknown_all s.course.class_seen (list_all (is_over Left) s.connections) unknown t.0)
-    (position is_free s.connections)
+asks_narrow Kept x s e apart n unknown = search (arith, kept_narrow, unknown_all, passes_each (request_tests s x) refl e)
 asks_narrow v x s e apart n unknown = none_narrow Left v s n
 
 -- ---- a unit passes
@@ -385,8 +369,7 @@ module _ (s : State) (apart : AreApart s.connections) (n : Narrow s) where
   left_routed None b _ e = none_narrow Left (Broke rule.UnexpectedUnit) s n
   left_routed (Some Zero) b (request x) e = none_narrow Left (Broke rule.OneConnection) s n
   left_routed (Some Zero) b (data0 end user) e = only_narrow Left (data0 end user) s apart n tt
-  left_routed (Some Zero) b (disconnected destination source) e =
-      named_narrow Left (disconnected destination source) s apart n tt destination
+  left_routed (Some Zero) b (disconnected destination source) e = grind (arith, named_narrow)
   left_routed (Some Zero) true (error destination cause) e = none_narrow Left Kept s n
   left_routed (Some Zero) false (error destination cause) e = none_narrow Left (Broke rule.WrongForm) s n
   left_routed (Some Zero) b _ e = none_narrow Left (Broke rule.WrongForm) s n
@@ -395,32 +378,24 @@ module _ (s : State) (apart : AreApart s.connections) (n : Narrow s) where
       Narrow (routed Right v s (route_in k Right b v)).state
   right_routed (Some Two) b v e not_two = absurd (not_two refl)
   right_routed None b (confirm destination x) e not_two = named_narrow Right (confirm destination x) s apart n tt destination
-  right_routed None b (disconnect destination source reason user) e not_two =
-      named_narrow Right (disconnect destination source reason user) s apart n e destination
-  right_routed None b (disconnected destination source) e not_two =
-      named_narrow Right (disconnected destination source) s apart n tt destination
+  right_routed None b (disconnect destination source reason user) e not_two = grind (arith, named_narrow)
+  right_routed None b (disconnected destination source) e not_two = grind (arith, named_narrow)
   right_routed None b (error destination cause) e not_two = named_narrow Right (error destination cause) s apart n tt destination
   right_routed None b _ e not_two = none_narrow Right (Broke rule.UnexpectedUnit) s n
   right_routed (Some Zero) b (request x) e not_two = none_narrow Right (Broke rule.UnexpectedUnit) s n
   right_routed (Some Zero) b (data0 end user) e not_two = only_narrow Right (data0 end user) s apart n tt
-  right_routed (Some Zero) b (disconnected destination source) e not_two =
-      named_narrow Right (disconnected destination source) s apart n tt destination
+  right_routed (Some Zero) b (disconnected destination source) e not_two = grind (arith, named_narrow)
   right_routed (Some Zero) true (error destination cause) e not_two = none_narrow Right Kept s n
   right_routed (Some Zero) false (error destination cause) e not_two = none_narrow Right (Broke rule.WrongForm) s n
   right_routed (Some Zero) b _ e not_two = none_narrow Right (Broke rule.WrongForm) s n
 
   goes_narrow : (b : Bool) (d : Direction) (v : Value) (r : Route) → Narrow (routed d v s r).state →
       Narrow (if b then none_told d NotJudged s else routed d v s r).state
-  goes_narrow true d v r h = none_narrow d NotJudged s n
-  goes_narrow false d v r h = h
+  goes_narrow b d v r h = grind (arith, none_narrow)
 
   unit_narrow : (d : Direction) (v : Value) → (s.course.class ≡ Some Two → ⊥) → Narrow (takes d v s).state
-  unit_narrow Left v not_two =
-      goes_narrow (is_stopped Left s.course) Left v (route Left s.course v)
-      (left_routed s.course.class_seen (has_broken Right s.course) v refl)
-  unit_narrow Right v not_two =
-      goes_narrow (is_stopped Right s.course) Right v (route Right s.course v)
-      (right_routed s.course.class (has_broken Left s.course) v refl not_two)
+  unit_narrow Left v not_two = grind (arith, goes_narrow, left_routed)
+  unit_narrow Right v not_two = grind (arith, goes_narrow, right_routed)
 
 -- ---- a packet begins
 
@@ -460,8 +435,7 @@ begins_narrow d s apart not_two n = record {
 passing_narrow : (p : Passing) (s : State) → AreApart s.connections → (s.course.class ≡ Some Two → ⊥) → Narrow s → Narrow (passes p s)
 passing_narrow (packet d) s apart not_two n = begins_narrow d s apart not_two n
 passing_narrow (unit d v) s apart not_two n = unit_narrow s apart n d v not_two
-passing_narrow (rubbish d) s apart not_two n =
-    let r = refused_reach d s in with_course s (reached d r s.course) (reached_class d r s.course) (reached_seen d r s.course) n
+passing_narrow (rubbish d) s apart not_two n = grind (arith, with_course, reached_class, reached_seen)
 
 pub still_narrow : (p : Passing) (s : State) → AreApart s.connections → NarrowIf s → NarrowIf (passes p s)
 still_narrow p s apart n not_two =
@@ -469,11 +443,4 @@ still_narrow p s apart n not_two =
     passing_narrow p s apart before (n before)
 
 pub fresh_narrow : NarrowIf fresh
-fresh_narrow not_two = record {
-  known = λ h. absurd (cc h);
-  asked = λ i c at. no_item i c at;
-  answered = λ i c at. no_item i c at;
-  one = λ i j c e at there jc je fc fe. no_item i c at;
-  none = λ h i c at. no_item i c at;
-  opened = λ h. absurd (cc h);
-}
+fresh_narrow not_two = grind (arith, no_item)

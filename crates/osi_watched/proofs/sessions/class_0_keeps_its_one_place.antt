@@ -1,7 +1,8 @@
 -- At a tap one connection has class 0, with a reference of the end, and of all others the references are gone: so it stays as packets begin
 -- and as units pass in class 0. For the session of the connection of an end in class 0.
-use Rattle.std.proofs.Common.{◌≡◌, ◌∙◌, ◌⊎◌, inl, inr, refl, sym, ap, subst, ℕ, Bool, true, false, List, set, Option, Some, None}
-use Rattle.std.specs.Prelude.{◌==◌, option_map, slice_get}
+use Rattle.std.proofs.Common.{arith}
+use Rattle.std.proofs.Common.{◌≡◌, ◌∙◌, ◌⊎◌, inl, inr, refl, sym, ap, subst, ℕ, Bool, true, false, set, Option, Some, None}
+use Rattle.std.specs.Prelude.{◌==◌, slice_get}
 use Rattle.std.proofs.lemmas.Bool.{eqb-true}
 use Rattle.std.proofs.lemmas.Option.{slice_get-map}
 use Rattle.osi_tpdu.specs.Value.{Connect, Value, acknowledge, confirm, data0, data2, disconnect, disconnected, error, request}
@@ -10,13 +11,11 @@ use Rattle.osi_judge.specs.declared.directions.Direction.{Direction}
 use Rattle.osi_judge.specs.declared.directions.Direction.TheVariants as side
 use Rattle.osi_rules.specs.declared.connections.Connection.{Connection}
 use Rattle.osi_rules.specs.declared.directions.Direction.{Direction as Way}
-use Rattle.osi_rules.specs.declared.directions.Direction.TheVariants.{Left, Right}
 use Rattle.osi_rules.specs.declared.findings.Reach.{Reach}
 use Rattle.osi_rules.specs.declared.findings.Reach.TheVariants as reach
-use Rattle.osi_rules.specs.declared.halves.Half.{Half}
 use Rattle.osi_rules.specs.Sides.{begins, is_refused}
 use Rattle.osi_rules.specs.Sides as sides
-use Rattle.osi_rules.specs.Traffic.{Outcome, State, class_for, connection_after, is_stopped, judged_on, meaning_if, meant}
+use Rattle.osi_rules.specs.Traffic.{State, class_for, connection_after, is_stopped, judged_on, meaning_if, meant}
 use Rattle.osi_rules.specs.Traffic.{route_zero, routed, sent_on, takes}
 use Rattle.osi_rules.specs.Traffic as traffic
 use Rattle.osi_fair.proofs.a_dt_of_class_zero_passes.{unlike}
@@ -32,7 +31,6 @@ use Rattle.osi_watched.proofs.sessions.all_connections_stand.{map_of}
 use Rattle.osi_watched.proofs.sessions.class_0_has_one_connection.{set_other}
 use Rattle.osi_watched.proofs.sessions.each_cr_that_passes_gives_a_new_reference.{named_adds}
 use Rattle.osi_watched.proofs.sessions.what_a_unit_does_at_its_place.{Does, asks_again, asks_more, nowhere, somewhere, unit_does}
-use Rattle.osi_rules.specs.Traffic.{has_broken}
 
 -- The called side has not refused the connection at this place, to which this side gave this reference. Of each other one, the reference
 -- of this side is gone.
@@ -47,44 +45,20 @@ pub record HasOne (d : Direction) (r : ℕ) (gone : ℕ → Type 0) (s : State) 
 
 pub still_gone : (d : Direction) (r : ℕ) (gone then_gone : ℕ → Type 0) (s : State) (t : Sessions) → ((q : ℕ) → gone q → then_gone q) →
     HasOne d r gone s t → HasOne d r then_gone s t
-still_gone d r gone then_gone s t f h = record {
-  place = h.place;
-  connection = h.connection;
-  there = h.there;
-  up = h.up;
-  mine = h.mine;
-  others = λ i j q apart here is. f q (h.others i j q apart here is);
-  done = λ i j q here is. f q (h.done i j q here is);
-}
+still_gone d r gone then_gone s t f h = grind arith
 
 -- ---- a packet begins
 
 named_begun : (d e : Direction) (j : Joined) → reference_of d (packet_begins e j) ≡ reference_of d j
-named_begun side.Left side.Left j = refl
-named_begun side.Left side.Right j = refl
-named_begun side.Right side.Left j = refl
-named_begun side.Right side.Right j = refl
+named_begun d e j = grind arith
 
 begun_right : (d : Way) (c : Connection) → (begins d c).right ≡ c.right
-begun_right Left c = refl
-begun_right Right c = refl
+begun_right d c = grind arith
 
 pub one_begins : (d e : Direction) (r : ℕ) (gone : ℕ → Type 0) (s : State) (t : Sessions) → HasOne d r gone s t →
     HasOne d r gone (traffic.packet_begins (way_of e) s) (all_begin e t)
-one_begins d e r gone s t h = record {
-  place = h.place;
-  connection = begins (way_of e) h.connection;
-  there = slice_get-map (begins (way_of e)) s.connections h.place
-      ∙ ap (λ (o : Option Connection). option_map (begins (way_of e)) o) h.there;
-  up = ap (λ (x : Half). is_refused x.phase) (begun_right (way_of e) h.connection) ∙ h.up;
-  mine = λ j here.
-      let (k, at, is) = map_of (packet_begins e) t.live h.place j here in
-      ap (reference_of d) is ∙ named_begun d e k ∙ h.mine k at;
-  others = λ i j q apart here named.
-      let (k, at, is) = map_of (packet_begins e) t.live i j here in
-      h.others i k q apart at (sym (named_begun d e k) ∙ sym (ap (reference_of d) is) ∙ named);
-  done = h.done;
-}
+one_begins d e r gone s t h =
+    search (arith, map_of, named_begun, slice_get-map (begins (way_of e)) s.connections h.place, begun_right (way_of e) h.connection)
 
 -- ---- a unit in class 0
 
@@ -101,38 +75,21 @@ IsStill e (acknowledge credit n number) s = ⊥
 
 error_nowhere : (d : Way) (b : Bool) (n cause : ℕ) (s : State) →
     (routed d (error n cause) s (route_zero d b (error n cause))).told.place ≡ None
-error_nowhere Left true n cause s = refl
-error_nowhere Left false n cause s = refl
-error_nowhere Right true n cause s = refl
-error_nowhere Right false n cause s = refl
+error_nowhere d b n cause s = grind arith
 
 module _ (e : Direction) (s : State) (goes : is_stopped (way_of e) s.course ≡ false)
     (zero : class_for (way_of e) s.course ≡ Some Zero) where
   breaks_so : {A : Type 0} (v : Value) → Breaks v → IsMild v (takes (way_of e) v s).told.finding → A
-  breaks_so v h mild =
-      routed_breaks (way_of e) (has_broken (sides.other (way_of e)) s.course) v s h
-      (subst (λ (o : Outcome). IsMild v o.told.finding) (zero_takes (way_of e) v s goes zero) mild)
+  breaks_so v h mild = grind (arith, routed_breaks, zero_takes)
 
   -- every other unit is a break that is not passed over
   pub zero_still : (v : Value) → IsMild v (takes (way_of e) v s).told.finding → IsStill e v s
-  zero_still (data0 end user) mild = tt
-  zero_still (disconnected n source) mild = tt
-  zero_still (error n cause) mild =
-      ap (λ (o : Outcome). o.told.place) (zero_takes (way_of e) (error n cause) s goes zero)
-      ∙ error_nowhere (way_of e) (has_broken (sides.other (way_of e)) s.course) n cause s
-  zero_still (request x) mild = breaks_so (request x) tt mild
-  zero_still (confirm n x) mild = breaks_so (confirm n x) tt mild
-  zero_still (disconnect n source reason user) mild = breaks_so (disconnect n source reason user) tt mild
-  zero_still (data2 n number end user) mild = breaks_so (data2 n number end user) tt mild
-  zero_still (acknowledge credit n number) mild = breaks_so (acknowledge credit n number) tt mild
+  zero_still v mild = grind (arith, zero_takes, error_nowhere, breaks_so)
 
 -- ---- what it leaves
 
 judged_right : (x : Reach) (c : Connection) → (judged_on x c).right ≡ c.right
-judged_right reach.Nothing c = refl
-judged_right reach.Connection c = refl
-judged_right reach.Side c = refl
-judged_right reach.Everything c = refl
+judged_right x c = grind arith
 
 -- at a place
 abbrev IsHere : Value → Type 0
@@ -147,46 +104,21 @@ IsHere (acknowledge credit n number) = ⊥
 
 sent_up : (d : Way) (v : Value) (c : Connection) → IsHere v → is_refused c.right.phase ≡ false →
     is_refused (sent_on d v c).right.phase ≡ false
-sent_up Left (data0 end user) c h up = up
-sent_up Right (data0 end user) c h up = up
-sent_up Left (disconnected n source) c h up = up
-sent_up Right (disconnected n source) c h up = refl
-sent_up d (error n cause) c h up = absurd h
-sent_up d (request x) c h up = absurd h
-sent_up d (confirm n x) c h up = absurd h
-sent_up d (disconnect n source reason user) c h up = absurd h
-sent_up d (data2 n number end user) c h up = absurd h
-sent_up d (acknowledge credit n number) c h up = absurd h
+sent_up d v c h up = grind arith
 
 after_up : (d : Way) (v : Value) (b : Bool) (x : Reach) (c : Connection) → IsHere v → is_refused c.right.phase ≡ false →
     is_refused (connection_after d v b x c).right.phase ≡ false
-after_up d v true x c h up = ap (λ (y : Half). is_refused y.phase) (judged_right x (sent_on d v c)) ∙ sent_up d v c h up
-after_up d v false x c h up = ap (λ (y : Half). is_refused y.phase) (judged_right x c) ∙ up
+after_up d v b x c h up = grind (arith, judged_right, sent_up)
 
 meant_named : (d e : Direction) (at : ℕ) (v : Value) (b : Bool) (j : Joined) → IsHere v →
     reference_of d (joined.meant e at v (meaning_if b (meant v)) j) ≡ reference_of d j
-meant_named d e at v false j h = refl
-meant_named d e at (data0 end user) true j h = named_adds d e at end user j
-meant_named d e at (disconnected n source) true j h = refl
-meant_named d e at (error n cause) true j h = absurd h
-meant_named d e at (request x) true j h = absurd h
-meant_named d e at (confirm n x) true j h = absurd h
-meant_named d e at (disconnect n source reason user) true j h = absurd h
-meant_named d e at (data2 n number end user) true j h = absurd h
-meant_named d e at (acknowledge credit n number) true j h = absurd h
+meant_named d e at v b j h = grind (arith, named_adds)
 
 no_place : {A : Type 0} (o : Option ℕ) (i : ℕ) → o ≡ None → o ≡ Some i → A
 no_place o i h k = absurd (cc)
 
 here_so : (e : Direction) (v : Value) (s : State) (i : ℕ) → IsStill e v s → (takes (way_of e) v s).told.place ≡ Some i → IsHere v
-here_so e (data0 end user) s i h is = tt
-here_so e (disconnected n source) s i h is = tt
-here_so e (error n cause) s i h is = no_place (takes (way_of e) (error n cause) s).told.place i h is
-here_so e (request x) s i h is = absurd h
-here_so e (confirm n x) s i h is = absurd h
-here_so e (disconnect n source reason user) s i h is = absurd h
-here_so e (data2 n number end user) s i h is = absurd h
-here_so e (acknowledge credit n number) s i h is = absurd h
+here_so e v s i h is = grind (arith, no_place)
 
 no_cr : {A : Type 0} (e : Direction) (v : Value) (s : State) (x : Connect) → v ≡ request x → IsStill e v s → A
 no_cr e v s x is h = absurd (subst (λ (u : Value). IsStill e u s) is h)
@@ -217,8 +149,7 @@ module _ (d e : Direction) (r : ℕ) (gone : ℕ → Type 0) (at : ℕ) (v : Val
 
     others_by : (i : ℕ) (j : Joined) (q : ℕ) → (i ≡ h.place → ⊥) →
         ((i ≡ p) × (j ≡ next)) ⊎ ((i ≡ p → ⊥) × (slice_get t.live i ≡ Some j)) → reference_of d j ≡ Some q → gone q
-    others_by i j q apart (inl (same, is)) named_q =
-        h.others i k q apart (ap (slice_get t.live) same ∙ here) (sym named ∙ sym (ap (reference_of d) is) ∙ named_q)
+    others_by i j q apart (inl (same, is)) named_q = grind (arith, named)
     others_by i j q apart (inr (other, is)) named_q = h.others i j q apart is named_q
 
     place_by : (y : Bool) → (h.place == p) ≡ y →
@@ -246,26 +177,10 @@ module _ (d e : Direction) (r : ℕ) (gone : ℕ → Type 0) (at : ℕ) (v : Val
         }
 
   same_conns : (after : State) (joins : Sessions) → after.connections ≡ s.connections → joins ≡ t → After after joins
-  same_conns after joins cs ts = subst (After after) (sym ts) (record {
-    place = h.place;
-    connection = h.connection;
-    there = ap (λ (l : List Connection). slice_get l h.place) cs ∙ h.there;
-    up = h.up;
-    mine = h.mine;
-    others = h.others;
-    done = h.done;
-  })
+  same_conns after joins cs ts = grind arith
 
   as_other : (after other : State) (joins : Sessions) → after.connections ≡ other.connections → After other joins → After after joins
-  as_other after other joins cs one = record {
-    place = one.place;
-    connection = one.connection;
-    there = ap (λ (l : List Connection). slice_get l one.place) cs ∙ one.there;
-    up = one.up;
-    mine = one.mine;
-    others = one.others;
-    done = one.done;
-  }
+  as_other after other joins cs one = search arith
 
   one_by : IsStill e v s → Does e at v s t (takes (way_of e) v s) → After (takes (way_of e) v s).state
       (taken e at v (takes (way_of e) v s).told.meaning (takes (way_of e) v s).told.place t)

@@ -273,11 +273,7 @@ pub unread_agrees : (d : Direction) (at : ℕ) (cause : Cause) (c : Course) → 
 unread_agrees d at cause c h = unread_by (is_some (marks_of d c).halted) d at cause c h
 
 agree_claim : IsClaim Agree
-agree_claim = record {
-  begins = λ d c h. packet_agrees d c h;
-  passes = λ d at v c h. unit_agrees d at v c h;
-  bad = λ d at cause c h. unread_agrees d at cause c h;
-}
+agree_claim = search (arith, packet_agrees, unit_agrees, unread_agrees)
 
 pub capture_agrees : (capture : Capture) → Agree (comes_to capture).course
 capture_agrees capture = after_kept Agree agree_claim capture begin tt

@@ -1,17 +1,17 @@
 -- Of the CCs that a called end of class 2 has put and that have not passed a tap, no two are for one reference of either side. Each comes
 -- before all that is put for it, and no other connection that the end has open at the tap has its reference of the other side.
 -- For all connections of a called end and a tap.
+use Rattle.std.proofs.Common.{arith}
 use Rattle.osi_watched.proofs.Vocabulary.{[], ap, append_assoc, Bool, false, inl, inr, List, None, Option, refl, Some, subst, sym, true, ℕ}
 use Rattle.osi_watched.proofs.Vocabulary.{◌&&◌, ◌++◌, ◌∙◌, ◌∷◌, ◌≡◌, ◌⊎◌, eqb-true, AllByRecursion, slice_get, acknowledge, confirm}
-use Rattle.osi_watched.proofs.Vocabulary.{Connect, data0, data2, disconnect, disconnected, Value, Given, part0, Standing, unit_of, give_out}
+use Rattle.osi_watched.proofs.Vocabulary.{Connect, data2, disconnect, Value, Given, Standing, unit_of}
 use Rattle.osi_watched.proofs.Vocabulary.{Move, Two, Local, acceptance, opened_link, value_at, linked, is_open, uses, Connection}
 use Rattle.osi_watched.proofs.Vocabulary.{Way as Direction, Half, Sessions, Answering, answering, AreStrays, Asked, Called, comes, line_of}
 use Rattle.osi_watched.proofs.Vocabulary.{refuses, Running, runs, Stand, StrayIf, at_first, at_join, first_at, is_at, Placed, values}
-use Rattle.osi_watched.proofs.Vocabulary.{NamesApart as AreApart, keep, Act, Acts, ActsAlong, begins_elsewhere, ignores, Line, moves}
+use Rattle.osi_watched.proofs.Vocabulary.{NamesApart as AreApart, keep, Act, Acts, ActsAlong, Line}
 use Rattle.osi_watched.proofs.Vocabulary.{opened_line, units_put, Whole, HaveSamePlaces}
 use Rattle.osi_judge.specs.declared.directions.Direction.TheVariants as side
 use Rattle.osi_rules.specs.declared.directions.Direction.TheVariants.{Left, Right}
-use Rattle.osi_fair.specs.Lines.{answers, begins_other, begins_own, closes, passes_other, passes_own}
 use Rattle.osi_fair.proofs.each_connection_of_a_called_end.{past}
 use Rattle.osi_fair.proofs.names_stay_apart_though_one_is_lost.{AreNamedApart, each_sound}
 use Rattle.osi_fair.proofs.units_by_their_place.{units_at}
@@ -37,31 +37,17 @@ IsTo peer (confirm n x) = ⊥
 IsTo peer _ = Unit {0}
 
 given_to : (peer : ℕ) (g : Given) → IsTo peer (unit_of peer g)
-given_to peer (part0 end octets) = tt
-given_to peer _ = refl
+given_to peer g = grind arith
 
 move_to : (peer : ℕ) (move : Move) → AllByRecursion (IsTo peer) (units_put peer move)
-move_to peer (give_out unit) = (given_to peer unit, tt)
-move_to peer _ = tt
+move_to peer move = grind (arith, given_to)
 
 module _ (d : Direction) (r peer : ℕ) where
   abbrev PutsTo : Line → Type 0
   PutsTo line = AllByRecursion (IsTo peer) line.put
 
   act_to : (act : Act) (old new : Line) → Acts d r peer act old new → PutsTo old → PutsTo new
-  act_to (moves move) old new (link, after, is, e, short, coming, new_is) h =
-      subst PutsTo (sym new_is) (all_of_both (IsTo peer) old.put (units_put peer move) h (move_to peer move))
-  act_to (closes reason units) old new (link, is, coming, new_is) h =
-      subst PutsTo (sym new_is) (all_of_both (IsTo peer) old.put (disconnect peer r reason [] ∷ []) h (tt, tt))
-  act_to (ignores units) old new (gone, coming, new_is) h = subst PutsTo (sym new_is) h
-  act_to (answers unit) old new (link, is, dr, coming, new_is) h =
-      subst PutsTo (sym new_is) (all_of_both (IsTo peer) old.put (disconnected peer r ∷ []) h (tt, tt))
-  act_to begins_own old new (some, idle, new_is) h = subst PutsTo (sym new_is) h
-  act_to (passes_own course used) old new (unit, first, begun, new_is) h =
-      subst PutsTo (sym new_is) (subst (AllByRecursion (IsTo peer)) first h).1
-  act_to begins_elsewhere old new (idle, new_is) h = subst PutsTo (sym new_is) h
-  act_to begins_other old new new_is h = subst PutsTo (sym new_is) h
-  act_to (passes_other course used unit) old new (range, named, far, new_is) h = subst PutsTo (sym new_is) h
+  act_to act old new new_is h = grind (arith, all_of_both, move_to)
 
   acts_to : (acts : List Act) (old new : Line) → ActsAlong d r peer old acts new → PutsTo old → PutsTo new
   acts_to [] old new e h = subst PutsTo (sym e) h
@@ -70,8 +56,7 @@ module _ (d : Direction) (r peer : ℕ) where
 -- ---- small facts
 
 cc_not_to : {A : Type 0} (n r peer : ℕ) (v : Value) → IsCc n r v → IsTo peer v → A
-cc_not_to n r peer (confirm m x) h k = absurd k
-cc_not_to n r peer _ h k = absurd h
+cc_not_to n r peer h h2 k = grind arith
 
 has_not_to : {A : Type 0} (n r peer : ℕ) (vs : List Value) → HasCc n r vs → AllByRecursion (IsTo peer) vs → A
 has_not_to n r peer [] h all = absurd h
@@ -79,23 +64,17 @@ has_not_to n r peer (v ∷ vs) (inl h) all = cc_not_to n r peer v h all.0
 has_not_to n r peer (v ∷ vs) (inr h) all = has_not_to n r peer vs h all.1
 
 to_two : (peer : ℕ) (v : Value) → IsTo peer v → AnswersTwo v
-to_two peer (confirm m x) h = absurd h
-to_two peer _ h = tt
+to_two peer v h = grind arith
 
 -- a unit for this reference that a line puts is for its peer
 to_peer : (n peer : ℕ) (v : Value) → is_for (Some n) v ≡ true → IsNotZero v → IsTo peer v → n ≡ peer
-to_peer n peer (data2 m number end user) h zero to = sym (eqb-true m n h) ∙ to
-to_peer n peer (acknowledge credit m number) h zero to = sym (eqb-true m n h) ∙ to
-to_peer n peer (data0 end user) h zero to = absurd (zero end user refl)
-to_peer n peer (confirm m x) h zero to = absurd to
-to_peer n peer _ h zero to = absurd (cc)
+to_peer n peer v h h2 to = grind (arith, eqb-true)
 
 -- one of these is the first, or one of the others
 first_or : (xs ys us : List Value) (u v : Value) → xs ++ v ∷ ys ≡ u ∷ us →
     ((xs ≡ []) × (v ≡ u)) ⊎ ((zs : List Value) × (xs ≡ u ∷ zs) × (zs ++ v ∷ ys ≡ us))
 first_or [] ys us u v e = inl (refl, cc)
-first_or (x ∷ xs) ys us u v e =
-    let one : x ≡ u = cc in inr (xs, ap (λ (y : Value). y ∷ xs) one, cc)
+first_or (x ∷ xs) ys us u v e = grind arith
 
 has_at : (n r p : ℕ) (ts : List Placed) → HasCc n r (units_at p ts) → HasCc n r (values ts)
 has_at n r p [] h = absurd h
@@ -108,11 +87,7 @@ has_at n r p (t ∷ ts) h = by (is_at p t.0) h (λ k. has_at n r p ts k)
     by false k rest = inr (rest k)
 
 has_more : (n r p : ℕ) (t : Placed) (ts : List Placed) → HasCc n r (units_at p ts) → HasCc n r (units_at p (t ∷ ts))
-has_more n r p t ts h = by (is_at p t.0)
-  where
-    by : (b : Bool) → HasCc n r (keep b t.1 (units_at p ts))
-    by true = inr h
-    by false = h
+has_more n r p t ts h = grind (arith, is_at, keep, units_at)
 
 item : (c e : Connection) (o : Option Connection) → o ≡ Some c → o ≡ Some e → c ≡ e
 item c e o h k = cc
@@ -150,16 +125,12 @@ module _ (local : Local) (w : Whole) (t : Sessions) (f : Called local w) (apart 
 
   place_parts : (p : ℕ) (front rest : List Placed) (v : Value) → f.tagged ≡ front ++ (Some p, v) ∷ rest →
       units_at p f.tagged ≡ at_place p front rest v
-  place_parts p front rest v is =
-      ap (units_at p) is ∙ at_join p front ((Some p, v) ∷ rest)
-      ∙ ap (λ (l : List Value). units_at p front ++ l) (at_first p v rest)
+  place_parts p front rest v is = grind (arith, units_at, at_join, at_first)
 
   runs_to : (p : ℕ) (c : Connection)
       (h : Running f.shut w.end w.coming (units_at p f.tagged) (w.begun && first_at p f.tagged) (f.refs p) c) →
       AllByRecursion (IsTo h.peer) (units_at p f.tagged)
-  runs_to p c h =
-      subst (AllByRecursion (IsTo h.peer)) h.put
-      (acts_to Right h.r h.peer h.acts h.first h.line h.along (subst (AllByRecursion (IsTo h.peer)) (sym h.opened.put) tt))
+  runs_to p c h = grind (arith, acts_to)
 
   cc_by : (n r p : ℕ) (c : Connection) (front rest : List Placed) (v : Value) → slice_get w.tap.connections p ≡ Some c →
       f.tagged ≡ front ++ (Some p, v) ∷ rest → IsCc n r v → StandsAt p c → CcAt n r ((Some p, v) ∷ rest)
@@ -220,21 +191,7 @@ module _ (local : Local) (w : Whole) (t : Sessions) (f : Called local w) (apart 
   cc_among n r front [] is strays h = absurd h
   cc_among n r front (m ∷ rest) is strays (inl h) = cc_one n r front rest m.0 m.1 is strays.0 h
   cc_among n r front (m ∷ rest) is strays (inr h) =
-      let k = cc_among n r (front ++ m ∷ []) rest (is ∙ sym (append_assoc front (m ∷ []) rest)) strays.1 h in
-      record {
-        place = k.place;
-        c = k.c;
-        x = k.x;
-        at = k.at;
-        asked = k.asked;
-        source = k.source;
-        index = k.index;
-        cc_is = k.cc_is;
-        more = k.more;
-        here = k.here;
-        to = k.to;
-        has = has_more n r k.place m rest k.has;
-      }
+      search (arith, append_assoc, has_more, cc_among n r (front ++ m ∷ []) rest (is ∙ sym (append_assoc front (m ∷ []) rest)) strays.1 h)
 
   cc_at : (n r : ℕ) → HasCc n r w.put → CcAt n r f.tagged
   cc_at n r h = cc_among n r [] f.tagged refl f.strays (subst (HasCc n r) f.put h)
@@ -302,9 +259,7 @@ module _ (local : Local) (w : Whole) (t : Sessions) (f : Called local w) (apart 
   ordered_by n r p c front rest v at is zero mine k (comes x a none ask index) =
       not_empty (units_at p front) (units_at p rest) v (sym (place_parts p front rest v is) ∙ none)
   ordered_by n r p c front rest v at is zero mine k (refuses x a reason put none index seen) =
-      let one = only_one (units_at p front) (units_at p rest) (disconnect x.source 0 reason []) v
-      (sym (place_parts p front rest v is) ∙ put) in
-      differ (is_for (Some n) v) mine (ap (is_for (Some n)) one)
+      search (arith, only_one, differ, units_at p front, units_at p rest, place_parts p front rest v is, is_for (Some n) v, is_for (Some n))
   ordered_by n r p c front rest v at is zero mine k (answering h none) =
       by (first_or (units_at p front) (units_at p rest) h.more (cc_of p c h) v
       (sym (place_parts p front rest v is) ∙ h.mine_is))

@@ -1,12 +1,13 @@
 -- At each step of an end and of a tap it holds that in class 0 one connection was opened, and each other one was refused; and that left
 -- knows a class only if it is selected.
 -- For the session of the connection of an end in class 0.
-use Rattle.osi_watched.proofs.Vocabulary.{Bool, false, if◌then◌else◌, is_some, None, Option, refl, Some, subst, sym, true, ℕ, ◌∙◌, ◌≡◌}
-use Rattle.osi_watched.proofs.Vocabulary.{position, slice_get, Connect, request, Value, Class, Two, Zero, is_applied, reach_of}
-use Rattle.osi_watched.proofs.Vocabulary.{first_failed, is_live, is_named, asks_by, asks_of, at_found, at_place, class_for, course_after}
-use Rattle.osi_watched.proofs.Vocabulary.{course_after_none, found_on, fresh, is_stopped, none_told, Outcome, refused_reach, request_tests}
-use Rattle.osi_watched.proofs.Vocabulary.{route, routed, Traffic as State, takes, unnamed, unnamed_told, Connection, Way, Finding, Kept}
-use Rattle.osi_watched.proofs.Vocabulary.{NotJudged, Route, Asks, Named, Only, Unnamed, Direction, marked, marks_of, moved, unread_mark}
+use Rattle.std.proofs.Common.{arith}
+use Rattle.osi_watched.proofs.Vocabulary.{Bool, false, if◌then◌else◌, is_some, Option, Some, subst, sym, true, ℕ, ◌∙◌, ◌≡◌}
+use Rattle.osi_watched.proofs.Vocabulary.{Connect, Value, Class, Two, Zero, reach_of}
+use Rattle.osi_watched.proofs.Vocabulary.{asks_by, asks_of, at_found, at_place, class_for}
+use Rattle.osi_watched.proofs.Vocabulary.{fresh, is_stopped, none_told, Outcome, refused_reach}
+use Rattle.osi_watched.proofs.Vocabulary.{route, routed, Traffic as State, takes, unnamed_told, Connection, Way, Finding}
+use Rattle.osi_watched.proofs.Vocabulary.{NotJudged, Route, Direction, marked, marks_of, moved, unread_mark}
 use Rattle.osi_watched.proofs.Vocabulary.{unread_moment, way_of, Cause, fresh_apart, no_item, passes_apart, AreJudged, still_judged}
 use Rattle.osi_watched.proofs.Vocabulary.{reached_class, zero_stays, NamesApart as AreApart, packet, passes, Passing, rubbish, unit}
 use Rattle.osi_watched.proofs.Vocabulary.{lasts_passing}
@@ -29,38 +30,25 @@ module _ (d : Way) (v : Value) (s : State) where
   none_seen f = reached_seen d (reach_of (class_for d s.course) f) s.course
 
   unnamed_seen : SeenSame s (unnamed_told d v s)
-  unnamed_seen =
-      let course = course_after_none v s.course in
-      reached_seen d (reach_of (class_for d course) (unnamed d s.course v)) course ∙ (none_same v s.course).1
+  unnamed_seen = grind (arith, reached_seen, none_same)
 
   found_seen : (p : ℕ) (o : Option Connection) → SeenSame s (at_found d v s p o)
-  found_seen p None = unnamed_seen
-  found_seen p (Some c) =
-      let f = found_on d s c v in
-      reached_seen d (reach_of (class_for d s.course) f) (course_after d c v (is_applied f) s.course)
-      ∙ after_seen d c v (is_applied f) s.course
+  found_seen p o = grind (arith, unnamed_seen, reached_seen, after_seen)
 
   place_seen : (o : Option ℕ) → SeenSame s (at_place d v s o)
-  place_seen None = unnamed_seen
-  place_seen (Some p) = found_seen p (slice_get s.connections p)
+  place_seen o = grind (arith, unnamed_seen, found_seen)
 
 asking_seen : (d : Way) (f : Finding) (x : Connect) (s : State) → SeenSame s (asks_by d f x s)
-asking_seen d Kept x s = refl
-asking_seen d v x s = none_seen d (request x) s v
+asking_seen d f x s = search (arith, none_seen)
 
 asks_seen : (d : Way) (v : Value) (s : State) → SeenSame s (asks_of d v s)
-asks_seen d (request x) s = asking_seen d (first_failed (request_tests s x)) x s
-asks_seen d v s = none_seen d v s NotJudged
+asks_seen d v s = grind (arith, asking_seen, none_seen)
 
 routed_seen : (d : Way) (v : Value) (s : State) (r : Route) → SeenSame s (routed d v s r)
-routed_seen d v s Asks = asks_seen d v s
-routed_seen d v s (Named n) = place_seen d v s (position (is_named d n) s.connections)
-routed_seen d v s Only = place_seen d v s (position (is_live d) s.connections)
-routed_seen d v s (Unnamed f) = none_seen d v s f
+routed_seen d v s r = search (arith, asks_seen, place_seen, none_seen)
 
 goes_seen : (b : Bool) (d : Way) (v : Value) (s : State) (r : Route) → SeenSame s (if b then none_told d NotJudged s else routed d v s r)
-goes_seen true d v s r = none_seen d v s NotJudged
-goes_seen false d v s r = routed_seen d v s r
+goes_seen b d v s r = grind (arith, none_seen, routed_seen)
 
 takes_seen : (d : Way) (v : Value) (s : State) → SeenSame s (takes d v s)
 takes_seen d v s = goes_seen (is_stopped d s.course) d v s (route d s.course v)
@@ -84,8 +72,7 @@ still_agrees : (k : Class) (p : Passing) (s : State) → (s.course.class_seen �
 still_agrees k (packet Left) s a h = h
 still_agrees k (packet Right) s a h = a h
 still_agrees k (unit d v) s a h = class_stays k (unit d v) s (a (sym (takes_seen d v s) ∙ h))
-still_agrees k (rubbish d) s a h =
-    let r = refused_reach d s in reached_class d r s.course ∙ a (sym (reached_seen d r s.course) ∙ h)
+still_agrees k (rubbish d) s a h = grind (arith, reached_class, reached_seen)
 
 pub still_sure : (p : Passing) (s : State) → IsSure s → IsSure (passes p s)
 still_sure p s h = record {
@@ -96,12 +83,7 @@ still_sure p s h = record {
 }
 
 pub fresh_sure : IsSure fresh
-fresh_sure = record {
-  apart = fresh_apart;
-  judged = λ h i c at. no_item i c at;
-  narrow = fresh_narrow;
-  agrees = λ k h. absurd (cc h);
-}
+fresh_sure = grind (arith, fresh_apart, no_item, fresh_narrow)
 
 -- ---- at a tap
 
@@ -126,22 +108,12 @@ sure_claim = record {
 -- ---- in class 0
 
 class_so : (d : Way) (s : State) → IsSure s → class_for d s.course ≡ Some Zero → s.course.class ≡ Some Zero
-class_so Left s h zero = h.agrees Zero zero
-class_so Right s h zero = zero
+class_so d s h h2 = grind arith
 
 not_two : (k : Option Class) → k ≡ Some Zero → k ≡ Some Two → ⊥
-not_two None h e = cc
-not_two (Some Zero) h e = cc
-not_two (Some Two) h e = cc
+not_two k h e = grind arith
 
 -- a side that knows class 0 and is judged has one connection
 pub is_zero : (d : Direction) (s : State) → IsSure s → s.course.loose ≡ false → is_stopped (way_of d) s.course ≡ false →
     class_for (way_of d) s.course ≡ Some Zero → IsZero d s
-is_zero d s h firm goes zero =
-    let class : s.course.class ≡ Some Zero = class_so (way_of d) s h zero in
-    record {
-      firm = firm;
-      goes = goes;
-      zero = zero;
-      only = narrow_only s h.apart h.judged firm (h.narrow (λ two. not_two s.course.class class two)) class;
-    }
+is_zero d s h firm goes zero = grind (arith, class_so, narrow_only, not_two)

@@ -1,18 +1,19 @@
 -- Each DT and each AK that a called end of class 2 puts in a turn is for a connection that the tap knows by its references and that this
 -- end has not closed there, or for one whose CC has not passed; each other unit is for none.
 -- For all connections of an end and a tap.
-use Rattle.osi_watched.proofs.Vocabulary.{[], ap, append_assoc, Bool, false, inl, inr, List, None, not, Option, refl, Some, subst, sym}
+use Rattle.std.proofs.Common.{arith}
+use Rattle.osi_watched.proofs.Vocabulary.{[], ap, append_assoc, Bool, false, List, None, not, Option, refl, Some, subst, sym}
 use Rattle.osi_watched.proofs.Vocabulary.{true, ℕ, ◌&&◌, ◌++◌, ◌==◌, ◌∙◌, ◌∷◌, ◌≡◌, eq-eqb, AllByRecursion, slice_get, confirm, Connect}
 use Rattle.osi_watched.proofs.Vocabulary.{disconnect, request, Value, Standing, Zero, Local, value_at, linked, Carrier, is_open, is_over_by}
-use Rattle.osi_watched.proofs.Vocabulary.{is_refused, is_silent, uses, silent_half, Traffic as State, Connection, Half, Phase, Open}
-use Rattle.osi_watched.proofs.Vocabulary.{Refused, Silent, Left, Right, Answers, Begins, is_shut, Opens, opens, Continues, Deeds, all_units}
+use Rattle.osi_watched.proofs.Vocabulary.{is_refused, is_silent, uses, silent_half, Traffic as State, Connection, Half, Phase}
+use Rattle.osi_watched.proofs.Vocabulary.{Left, Right, Answers, Begins, is_shut, Opens, opens, Continues, Deeds, all_units}
 use Rattle.osi_watched.proofs.Vocabulary.{Marked, Turn, Joined, reference_of, Sessions, answering as answers, Asked, Called, comes}
 use Rattle.osi_watched.proofs.Vocabulary.{refuses, runs, Stand, Untagged, at_first, at_join, first_at, Placed, values, NamesApart, IsCalm}
 use Rattle.osi_watched.proofs.Vocabulary.{open_link, ◌<◌}
 use Rattle.osi_watched.proofs.Vocabulary.{opened_half, Whole, Joint, TakesTurn, HaveSamePlaces, named_by}
 use Rattle.osi_rules.specs.declared.directions.Direction.TheVariants as way
 use Rattle.osi_fair.specs.Wholes.{begin}
-use Rattle.osi_fair.proofs.each_connection_of_a_called_end.{Row, closes, over, past, talks}
+use Rattle.osi_fair.proofs.each_connection_of_a_called_end.{Row, past}
 use Rattle.osi_fair.proofs.names_stay_apart_though_one_is_lost.{AreNamedApart, each_sound}
 use Rattle.osi_fair.proofs.units_by_their_place.{units_at}
 use Rattle.osi_honest.specs.Arriving.{AreApart, is_open as opened}
@@ -42,35 +43,25 @@ same_peer m n a b e = cc
 -- ---- the reference of right
 
 named_is : (p : Phase) (n q : ℕ) → named_by p n ≡ Some q → n ≡ q
-named_is Silent n q h = absurd (cc)
-named_is Refused n q h = absurd (cc)
-named_is _ n q h = cc
+named_is p n q h = grind arith
 
 pub named_open : (p : Phase) (n : ℕ) → is_open p ≡ true → named_by p n ≡ Some n
-named_open Open n h = refl
-named_open _ n h = absurd (cc)
+named_open p n h = grind arith
 
 silent_none : (c : Connection) (q : ℕ) → c.right ≡ silent_half → named_by c.right.phase c.right.reference ≡ Some q → ⊥
-silent_none c q silent h =
-    let no : None ≡ Some q = sym (ap (λ (x : Half). named_by x.phase x.reference) silent) ∙ h in cc
+silent_none c q silent h = grind arith
 
 refused_none : (p : Phase) (n q : ℕ) → is_refused p ≡ true → named_by p n ≡ Some q → ⊥
-refused_none Silent n q r h = cc
-refused_none _ n q r h = cc
+refused_none p n q r h = grind arith
 
 -- ---- a connection that is asked for
 
 used_now : (b : Bool) (n credit : ℕ) → (not (b && is_over_by (opened_half n credit) silent_half)
     && (not (is_silent (opened_half n credit).phase) && ((opened_half n credit).reference == n))) ≡ true
-used_now true n credit = eq-eqb n n refl
-used_now false n credit = eq-eqb n n refl
+used_now b n credit = grind (arith, eq-eqb)
 
 pub used_asked : (x : Connect) (c : Connection) → Asked x c → uses way.Left x.source c ≡ true
-used_asked x c a =
-    ap (λ (l : Half). not (c.is_judged && is_over_by l c.seen_by_left) && (not (is_silent l.phase) && (l.reference == x.source))) a.left
-    ∙ ap (λ (k : Half). not (c.is_judged && is_over_by (opened_half x.source x.credit) k)
-    && (not (is_silent (opened_half x.source x.credit).phase) && ((opened_half x.source x.credit).reference == x.source))) a.known
-    ∙ used_now c.is_judged x.source x.credit
+used_asked x c a = grind (arith, used_now)
 
 -- ---- what came
 
@@ -105,15 +96,7 @@ module _ (local : Local) (w : Whole) (t : Sessions) (f : Called local w) (apart 
 
   -- a connection that right has answered has the reference that the end gave it
   given_by : (q i : ℕ) (c : Connection) → named_by c.right.phase c.right.reference ≡ Some q → StandsAt i c → f.refs i ≡ Some q
-  given_by q i c is (comes x a none ask index) = absurd (silent_none c q a.right is)
-  given_by q i c is (refuses x a reason put none index seen) = absurd (silent_none c q a.right is)
-  given_by q i c is (answers h none) = absurd (silent_none c q h.asked.right is)
-  given_by q i c is (runs h none) =
-      h.index ∙ ap (λ (n : ℕ). Some n) (sym h.right ∙ named_is c.right.phase c.right.reference q is)
-  given_by q i c is (past silent up none asks un (inl (index, refused))) =
-      index ∙ ap (λ (n : ℕ). Some n) (named_is c.right.phase c.right.reference q is)
-  given_by q i c is (past silent up none asks un (inr (refused, seen, judged))) =
-      absurd (refused_none c.right.phase c.right.reference q refused is)
+  given_by q i c is h = grind (arith, silent_none, named_is, refused_none)
 
   -- the CC with its reference has not passed
   none_named : (q p : ℕ) (c : Connection) → slice_get w.tap.connections p ≡ Some c → c.right ≡ silent_half → f.refs p ≡ Some q →
@@ -133,9 +116,7 @@ module _ (local : Local) (w : Whole) (t : Sessions) (f : Called local w) (apart 
 
   pub row_peer : (r peer : ℕ) (link : Option Standing) (come : List Value) (m : ℕ) (l : Standing) → Row w.end w.coming r peer link come →
       value_at r w.end.live ≡ Some (linked m l) → m ≡ peer
-  row_peer r peer link come m l (talks k there is among) e = same_peer m peer l k (sym e ∙ there)
-  row_peer r peer link come m l (closes gone is among) e = absurd (gone lasts m l e)
-  row_peer r peer link come m l (over h) e = over_not w.end.ended h lasts
+  row_peer r peer link come m l h e = grind (arith, same_peer, over_not)
 
   at_home : (q peer : ℕ) (link : Standing) → value_at q w.end.live ≡ Some (linked peer link) → (p : ℕ) (c : Connection) →
       slice_get w.tap.connections p ≡ Some c → f.refs p ≡ Some q → StandsAt p c → IsHomed Right q peer w.tap t
@@ -150,20 +131,14 @@ module _ (local : Local) (w : Whole) (t : Sessions) (f : Called local w) (apart 
       none_open h.x p c at h.asked i e j there here lives (mine ∙ ap (λ (n : ℕ). Some n) same))
       (none_named q p c at h.asked.right index)
   at_home q peer link is p c at index (runs h none) =
-      let name : h.r ≡ q = same_number (f.refs p) h.r q h.index index in
-      let same : peer ≡ h.peer =
-      row_peer h.r h.peer h.line.link h.line.coming peer link h.row (ap (λ (n : ℕ). value_at n w.end.live) name ∙ is) in
-      let (j, here, one) = at_same w.tap.connections t.live p c places at in
-      known (record {
-        place = p;
-        connection = c;
-        joined = j;
-        there = at;
-        here = here;
-        lives = h.there;
-        mine = one.called ∙ named_open c.right.phase c.right.reference h.there ∙ ap (λ (n : ℕ). Some n) (h.right ∙ name);
-        theirs = ap (λ (n : ℕ). Some n) (one.calling ∙ h.left ∙ sym same);
-      })
+      grind (
+        arith,
+        row_peer,
+        known,
+        same_number (f.refs p) h.r q h.index index,
+        at_same w.tap.connections t.live p c places at,
+        named_open c.right.phase c.right.reference h.there,
+      )
   at_home q peer link is p c at index (past silent up none asks un off) = absurd (un q index lasts peer link is)
 
   linked_homed : (q peer : ℕ) (link : Standing) → value_at q w.end.live ≡ Some (linked peer link) → IsHomed Right q peer w.tap t
@@ -189,9 +164,7 @@ module _ (local : Local) (w : Whole) (t : Sessions) (f : Called local w) (apart 
 
   asked_as : (x y : Connect) (p : ℕ) (c : Connection) → slice_get w.tap.connections p ≡ Some c → Asked y c → request x ≡ request y →
       AskedAt x
-  asked_as x y p c at a e =
-      let same : x ≡ y = cc in
-      record { place = p; connection = c; there = at; asked = subst (λ (z : Connect). Asked z c) (sym same) a }
+  asked_as x y p c at a e = grind arith
 
   asked_by : (v : Value) (p : ℕ) (c : Connection) (xs ys : List Value) → slice_get w.tap.connections p ≡ Some c →
       units_at p f.came ≡ xs ++ v ∷ ys → StandsAt p c → IsAskedFor v
@@ -296,8 +269,7 @@ module _ (local : Local) (deeds : ℕ → Deeds) (turn : Turn) (old new : Joint)
           (new_reference q l others answer put cc_is source one))
       by (disconnect n source reason user) h gives come = absurd h
       by _ h gives come = absurd h
-  home_by lasts q positive l (is_shut shut then_shut none none_left) some =
-      absurd (some (none_shut Right false (begin false local) deeds turn old new step on f q l none_left))
+  home_by lasts q positive l (is_shut shut then_shut none none_left) some = search (arith, none_shut)
 
   pub called_marked : AllByRecursion (IsMarked Right s t) on.put
   called_marked =

@@ -6,7 +6,7 @@ use Rattle.osi_watched.proofs.Vocabulary.{suc, sym, true, ℕ, ◌++◌, ◌<◌
 use Rattle.osi_watched.proofs.Vocabulary.{◌||◌, confirm, Connect, data0, disconnect, request, Value, written, Standing, Local, value_at}
 use Rattle.osi_watched.proofs.Vocabulary.{closing, Live, linked, Carrier, has_given, is_closing, is_open, Traffic as State, Connection}
 use Rattle.osi_watched.proofs.Vocabulary.{Phase, Left, amid, early, Life, opens_by, past, Time as Stage, stage_at, stays, all_units_more}
-use Rattle.osi_watched.proofs.Vocabulary.{Opens, Continues, Deeds, units_in, all_units, Marked, Turn, Sessions, Followed, is_tracked}
+use Rattle.osi_watched.proofs.Vocabulary.{Opens, Continues, Deeds, all_units, Marked, Turn, Sessions, Followed, is_tracked}
 use Rattle.osi_watched.proofs.Vocabulary.{IsOwned, Row, Tracked, each_picked, first_kept, is_dc, IsDc, IsOngoing, names, those, those_join}
 use Rattle.osi_watched.proofs.Vocabulary.{Line, Whole, Joint, TakesTurn, HaveSamePlaces, named_by}
 use Rattle.osi_carrier.specs.State.{asked}
@@ -85,14 +85,8 @@ row_first local end coming r peer line h lasts e = grind (arith, asked_not, clos
 first_cc : (r : ℕ) (x y : Connect) (xs ys us vs : List Value) → xs ++ confirm r x ∷ ys ≡ us ++ confirm r y ∷ vs →
     AllByRecursion (IsNotCc r) xs → AllByRecursion (IsNotCc r) us → x ≡ y
 first_cc r x y [] ys [] vs e a b = cc
-first_cc r x y [] ys (u ∷ us) vs e a b = absurd (b.0 x (sym (head_is e)))
-  where
-    head_is : confirm r x ∷ ys ≡ u ∷ (us ++ confirm r y ∷ vs) → confirm r x ≡ u
-    head_is h = cc
-first_cc r x y (v ∷ xs) ys [] vs e a b = absurd (a.0 y (head_is e))
-  where
-    head_is : v ∷ (xs ++ confirm r x ∷ ys) ≡ confirm r y ∷ vs → v ≡ confirm r y
-    head_is h = cc
+first_cc r x y [] ys (u ∷ us) vs e a b = grind arith
+first_cc r x y (v ∷ xs) ys [] vs e a b = grind arith
 first_cc r x y (v ∷ xs) ys (u ∷ us) vs e a b =
     let more : xs ++ confirm r x ∷ ys ≡ us ++ confirm r y ∷ vs = cc in
     first_cc r x y xs ys us vs more a.1 b.1
@@ -213,9 +207,7 @@ module _ (local : Local) (two : local.class2 ≡ true) (deeds : ℕ → Deeds) (
       (written_as (IsOwned g.whole.tap) g.whole.put (old.put ++ all_units on.put) alike all)
 
   no_zero : AllByRecursion IsNotZero (all_units on.put)
-  no_zero =
-      all_so IsOwnedSo IsNotZero (λ v w end user e. not_data0 end user g.whole.tap w.u w.so (w.same ∙ ap written e)) (all_units on.put)
-      owned_units
+  no_zero = grind (arith, all_so, not_data0, owned_units)
 
   -- ---- the connection that a unit is put for
 
@@ -243,13 +235,12 @@ module _ (local : Local) (two : local.class2 ≡ true) (deeds : ℕ → Deeds) (
     comes_so : (front : List Marked) (unit : Value) (later : List Marked) → on.took ≡ front ++ (0, unit) ∷ later →
         (rest : List Value) × (f.whole.coming ≡ all_units front ++ unit ∷ rest)
     comes_so front unit later is =
-        let u = turn_uses turn old new step true deeds on lasts in
-        let rest = all_units later ++ (u.left ++ units_in new.coming) in (
-          rest,
-          f.coming lasts ∙ same_units old.coming ∙ u.coming
-              ∙ ap (λ (l : List Value). l ++ (u.left ++ units_in new.coming))
-              (ap all_units is ∙ all_units_more front ((0, unit) ∷ later))
-              ∙ append_assoc (all_units front) (unit ∷ all_units later) (u.left ++ units_in new.coming),
+        grind (
+          arith,
+          append_assoc,
+          turn_uses turn old new step true deeds on lasts,
+          same_units old.coming,
+          all_units_more front ((0, unit) ∷ later),
         )
 
     units_not_cc : (front : List Marked) → HasNoCc q front → AllByRecursion (IsNotCc q) (all_units front)

@@ -1,6 +1,7 @@
 -- The first break of all at a tap is never of a called end, whatever classes it offers and whichever is selected.
 -- For the law that no session of an end is blamed first.
-use Rattle.osi_watched.proofs.Vocabulary.{false, inl, inr, length, List, None, Option, refl, Some, sym, ℕ, ◌<◌, ◌^◌, ◌∙◌, ◌≡◌, ◌⊎◌}
+use Rattle.std.proofs.Common.{arith}
+use Rattle.osi_watched.proofs.Vocabulary.{false, inl, inr, length, List, Option, refl, Some, ℕ, ◌<◌, ◌^◌, ◌≡◌, ◌⊎◌}
 use Rattle.osi_watched.proofs.Vocabulary.{slice_get, Class, Two, Zero, Local, Holding, AsSent, AsParts, CalledLaw, CallerLaw, Capture, Left}
 use Rattle.osi_watched.proofs.Vocabulary.{Right, Known, IsFresh, IsSeen, Run, Turn, BreaksFirst, IsToBlame, Joined, comes_to, First}
 use Rattle.osi_watched.proofs.Vocabulary.{AreOctets}
@@ -36,9 +37,7 @@ module _ (known : Known) (known_of : AsSent) (parts : AsParts) (caller : CallerL
         (record { not = λ two. zero_two selected zero two; few = few })
 
     by_class : (k : Option Class) → selected ≡ k → Ends Right (comes_to capture).course
-    by_class None is = without_zero (λ zero. absurd (let no : None ≡ Some Zero = sym is ∙ zero in cc))
-    by_class (Some Zero) is = in_zero is
-    by_class (Some Two) is = without_zero (λ zero. zero_two selected zero is)
+    by_class k is = grind (arith, without_zero, in_zero, zero_two)
 
   pub called_ends : (begin end : Holding) (turns : List Turn) → IsFresh false local begin → Run begin turns end →
       AreOctets capture → IsSeen Right turns capture → Ends Right (comes_to capture).course

@@ -1,6 +1,7 @@
 -- The first break of all at a tap is never of a calling end, whatever classes it offers and whichever is selected.
 -- For the law that no session of an end is blamed first.
-use Rattle.osi_watched.proofs.Vocabulary.{Bool, false, inl, inr, length, List, None, Option, refl, Some, sym, true, ℕ, ◌<◌, ◌^◌, ◌∙◌, ◌≡◌}
+use Rattle.std.proofs.Common.{arith}
+use Rattle.osi_watched.proofs.Vocabulary.{Bool, false, inl, inr, length, List, Option, refl, Some, true, ℕ, ◌<◌, ◌^◌, ◌≡◌}
 use Rattle.osi_watched.proofs.Vocabulary.{◌⊎◌, slice_get, Class, Two, Zero, Local, Holding, AsSent, AsParts, CalledLaw, CallerLaw, Capture}
 use Rattle.osi_watched.proofs.Vocabulary.{Left, Right, Known, IsFresh, IsSeen, Run, Turn, BreaksFirst, IsToBlame, Joined, comes_to, First}
 use Rattle.osi_watched.proofs.Vocabulary.{AreOctets}
@@ -45,9 +46,7 @@ module _ (known : Known) (known_of : AsSent) (parts : AsParts) (caller : CallerL
         (record { not = λ two. zero_two selected zero two; few = few })
 
     by_class : (k : Option Class) → selected ≡ k → Ends Left (comes_to capture).course
-    by_class None is = by_offer (λ zero. absurd (let no : None ≡ Some Zero = sym is ∙ zero in cc)) local.class2 refl
-    by_class (Some Zero) is = in_zero is
-    by_class (Some Two) is = by_offer (λ zero. zero_two selected zero is) local.class2 refl
+    by_class k is = grind (arith, by_offer, in_zero, zero_two)
 
   pub calling_ends : (begin end : Holding) (turns : List Turn) → IsFresh true local begin → Run begin turns end →
       AreOctets capture → IsSeen Left turns capture → Ends Left (comes_to capture).course

@@ -1,5 +1,6 @@
 -- What holds of a calling end until class 2 is selected is as it is asked for: nobody of the end is to blame, as long as all is judged.
 -- For the laws that no session of an end is blamed first, nor after a break of the other side.
+use Rattle.std.proofs.Common.{arith}
 use Rattle.osi_watched.proofs.Vocabulary.{[], List, ℕ, ◌∷◌, Value, Two, Local, AsSent, AsParts, CalledLaw, CallerLaw, Left, Right}
 use Rattle.osi_watched.proofs.Vocabulary.{AllProper, unit_passes}
 use Rattle.osi_tap.specs.Courses.{Course}
@@ -12,8 +13,7 @@ use Rattle.osi_watched.proofs.sessions.nobody_of_a_calling_end_is_to_blame_until
 
 taken_so : (at : ℕ) (vs : List Value) (c : Course) → ArePassed Two Left at vs c → AreTaken at vs c
 taken_so at [] c h = tt
-taken_so at (v ∷ vs) c h =
-    (record { right = early Left v c h.0; left = h.0.firm.left; not_two = h.0.not }, taken_so at vs (unit_passes Right at v c) h.1)
+taken_so at (v ∷ vs) c h = search (arith, early, taken_so at vs (unit_passes Right at v c) h.1)
 
 pub early_keeps : (local : Local) → AllProper → AsSent → AsParts → CallerLaw → CalledLaw → KeepsUnless Two Left local (StandsUntilTwo local)
 early_keeps local proper known_of parts caller called = record {

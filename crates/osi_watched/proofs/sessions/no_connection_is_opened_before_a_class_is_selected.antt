@@ -1,15 +1,16 @@
 -- As long as no class is selected on a byte connection, right has given no connection a reference, whatever passes.
 -- For a called end that has selected class 0, and whose CC has not passed.
-use Rattle.osi_watched.proofs.Vocabulary.{ap, Bool, false, if◌then◌else◌, inl, inr, is_some, length, List, None, Option, refl, Some, subst}
-use Rattle.osi_watched.proofs.Vocabulary.{sym, true, ℕ, ◌∙◌, ◌≡◌, ◌⊎◌, position, slice_get, offset_of, acknowledge, confirm, data0, data2}
-use Rattle.osi_watched.proofs.Vocabulary.{disconnect, disconnected, error, request, Value, Class, Two, Zero, is_applied, reach_of}
-use Rattle.osi_watched.proofs.Vocabulary.{first_failed, is_free, is_live, is_named, asks_by, asks_kept, asks_of, at_found, at_place}
-use Rattle.osi_watched.proofs.Vocabulary.{class_for, course_after, found_on, is_stopped, meaning_if, meant, none_told, Outcome}
-use Rattle.osi_watched.proofs.Vocabulary.{request_tests, route, routed, Traffic as State, takes, Connection, Way, Finding, Kept, NotJudged}
-use Rattle.osi_watched.proofs.Vocabulary.{Meaning, Route, Asks, Named, Only, Unnamed, Direction, Left, Right, adds_if, asked, changed}
-use Rattle.osi_watched.proofs.Vocabulary.{count, Joined, placed, Sessions, source_of, taken, user_of, marked, marks_of, moved, unit_passes}
-use Rattle.osi_watched.proofs.Vocabulary.{unread_mark, unread_moment, way_of, fits, spent, Cause, Room, reached_class, zero_stays}
-use Rattle.osi_watched.proofs.Vocabulary.{after_add, after_set, lasts_passing, rubbish, unit}
+use Rattle.std.proofs.Common.{arith}
+use Rattle.osi_watched.proofs.Vocabulary.{ap, Bool, if◌then◌else◌, inl, inr, List, None, Option, refl, Some, subst}
+use Rattle.osi_watched.proofs.Vocabulary.{sym, ℕ, ◌∙◌, ◌≡◌, ◌⊎◌, slice_get}
+use Rattle.osi_watched.proofs.Vocabulary.{Value, Class, Two, Zero}
+use Rattle.osi_watched.proofs.Vocabulary.{asks_of, at_found, at_place}
+use Rattle.osi_watched.proofs.Vocabulary.{course_after, is_stopped, meaning_if, meant, none_told, Outcome}
+use Rattle.osi_watched.proofs.Vocabulary.{route, routed, Traffic as State, takes, Connection, Way, Finding, NotJudged}
+use Rattle.osi_watched.proofs.Vocabulary.{Meaning, Route, Asks, Direction, adds_if, changed}
+use Rattle.osi_watched.proofs.Vocabulary.{Joined, placed, Sessions, taken, marked, moved, unit_passes}
+use Rattle.osi_watched.proofs.Vocabulary.{unread_mark, unread_moment, way_of, Cause, Room, reached_class, zero_stays}
+use Rattle.osi_watched.proofs.Vocabulary.{after_add, after_set, lasts_passing, unit}
 use Rattle.osi_rules.specs.declared.findings.Meaning.TheVariants as meaning
 use Rattle.osi_rules.specs.Traffic as traffic
 use Rattle.osi_tap.specs.Connections as joined
@@ -31,49 +32,23 @@ none_selects d f s opens none = no_meaning opens
 
 opens_applied : (d : Way) (c : Connection) (v : Value) (b : Bool) (s : State) → meaning_if b (meant v) ≡ meaning.Opens →
     (course_after d c v b s.course).class ≡ None → ⊥
-opens_applied d c v false s opens none = no_meaning opens
-opens_applied d c (confirm n x) true s opens none = cc
-opens_applied d c _ true s opens none = cc
+opens_applied d c v b s opens none = grind (arith, no_meaning)
 
 found_selects : (d : Way) (v : Value) (s : State) (p : ℕ) (o : Option Connection) → Selects (at_found d v s p o)
-found_selects d v s p None opens none = no_meaning opens
-found_selects d v s p (Some c) opens none =
-    let f = found_on d s c v in
-    opens_applied d c v (is_applied f) s opens
-    (sym (reached_class d (reach_of (class_for d s.course) f) (course_after d c v (is_applied f) s.course)) ∙ none)
+found_selects d v s p o opens none = grind (arith, no_meaning, opens_applied, reached_class)
 
 place_selects : (d : Way) (v : Value) (s : State) (o : Option ℕ) → Selects (at_place d v s o)
-place_selects d v s None opens none = no_meaning opens
-place_selects d v s (Some p) opens none = found_selects d v s p (slice_get s.connections p) opens none
+place_selects d v s o opens none = grind (arith, no_meaning, found_selects)
 
 asks_selects : (d : Way) (v : Value) (s : State) → Selects (asks_of d v s)
-asks_selects d (request x) s = by (first_failed (request_tests s x))
-  where
-    kept : (o : Option ℕ) → Selects (asks_kept x s o)
-    kept None opens none = cc
-    kept (Some p) opens none = cc
-
-    by : (f : Finding) → Selects (asks_by d f x s)
-    by Kept = kept (position is_free s.connections)
-    by v = none_selects d v s
-asks_selects d (confirm n x) s = none_selects d NotJudged s
-asks_selects d (disconnect n source reason user) s = none_selects d NotJudged s
-asks_selects d (disconnected n source) s = none_selects d NotJudged s
-asks_selects d (data0 end user) s = none_selects d NotJudged s
-asks_selects d (data2 n number end user) s = none_selects d NotJudged s
-asks_selects d (acknowledge credit n number) s = none_selects d NotJudged s
-asks_selects d (error n cause) s = none_selects d NotJudged s
+asks_selects d v s = grind (arith, none_selects)
 
 routed_selects : (d : Way) (v : Value) (s : State) (r : Route) → Selects (routed d v s r)
-routed_selects d v s Asks = asks_selects d v s
-routed_selects d v s (Named n) = place_selects d v s (position (is_named d n) s.connections)
-routed_selects d v s Only = place_selects d v s (position (is_live d) s.connections)
-routed_selects d v s (Unnamed f) = none_selects d f s
+routed_selects d v s r = grind (arith, asks_selects, place_selects, none_selects)
 
 goes_selects : (b : Bool) (d : Way) (v : Value) (s : State) (r : Route) →
     Selects (if b then none_told d NotJudged s else routed d v s r)
-goes_selects true d v s r = none_selects d NotJudged s
-goes_selects false d v s r = routed_selects d v s r
+goes_selects b d v s r = grind (arith, none_selects, routed_selects)
 
 takes_selects : (d : Way) (v : Value) (s : State) → Selects (takes d v s)
 takes_selects d v s = goes_selects (is_stopped d s.course) d v s (route d s.course v)
@@ -86,21 +61,15 @@ pub record AreUncalled (t : Sessions) : Type 0 where
   pub done : (i : ℕ) (j : Joined) → slice_get t.done i ≡ Some j → j.called ≡ None
 
 called_begun : (d : Direction) (j : Joined) → (joined.packet_begins d j).called ≡ j.called
-called_begun Left j = refl
-called_begun Right j = refl
+called_begun d j = grind arith
 
 called_added : (b : Bool) (room : Room) (d : Direction) (at : ℕ) (end : Bool) (octets : List ℕ) (j : Joined) →
     (adds_if b room d at end octets j).called ≡ j.called
-called_added true room Left at end octets j = refl
-called_added true room Right at end octets j = refl
-called_added false room d at end octets j = refl
+called_added b room d at end octets j = grind arith
 
 called_meant : (d : Direction) (at : ℕ) (v : Value) (m : Meaning) (j : Joined) → (m ≡ meaning.Opens → ⊥) →
     (joined.meant d at v m j).called ≡ j.called
-called_meant d at v meaning.Opens j not = absurd (not refl)
-called_meant d at v (meaning.Adds end) j not =
-    called_added (fits j.room (length (user_of v))) (spent j.room (length (user_of v))) d at end (user_of v) j
-called_meant d at v _ j not = refl
+called_meant d at v m j h = grind (arith, called_added)
 
 module _ (t : Sessions) (h : AreUncalled t) where
   one_or : (p i : ℕ) (new j : Joined) → new.called ≡ None → ((i ≡ p) × (j ≡ new)) ⊎ (slice_get t.live i ≡ Some j) → j.called ≡ None
@@ -113,36 +82,20 @@ module _ (t : Sessions) (h : AreUncalled t) where
 
   changed_uncalled : (p : ℕ) (f : Joined → Joined) → ((j : Joined) → (f j).called ≡ j.called) → (o : Option Joined) →
       slice_get t.live p ≡ o → AreUncalled (changed p f t o)
-  changed_uncalled p f same None is = h
-  changed_uncalled p f same (Some k) is = record {
-    live = λ i j here. one_or p i (f k) j (same k ∙ h.live p k is) (after_set t.live p i (f k) j here);
-    done = h.done;
-  }
+  changed_uncalled p f same o is = grind (arith, one_or, after_set)
 
   placed_uncalled : (p : ℕ) (new : Joined) → new.called ≡ None → (o : Option Joined) → slice_get t.live p ≡ o →
       AreUncalled (placed p new t o)
-  placed_uncalled p new none None is = record {
-    live = λ i j here. one_or (length t.live) i new j none (after_add t.live i new j here);
-    done = h.done;
-  }
-  placed_uncalled p new none (Some over) is = record {
-    live = λ i j here. one_or p i new j none (after_set t.live p i new j here);
-    done = λ i j here. done_or (length t.done) i over j (h.live p over is) (after_add t.done i over j here);
-  }
+  placed_uncalled p new none o is = grind (arith, one_or, after_add, after_set, done_or)
 
   taken_uncalled : (d : Direction) (at : ℕ) (v : Value) (m : Meaning) (o : Option ℕ) → (m ≡ meaning.Opens → ⊥) →
       AreUncalled (taken d at v m o t)
   taken_uncalled d at v m None not = h
   taken_uncalled d at v meaning.Opens (Some p) not = absurd (not refl)
-  taken_uncalled d at v meaning.Asks (Some p) not =
-      placed_uncalled p (asked (offset_of (count t)) (source_of v) t.room) refl (slice_get t.live p) refl
-  taken_uncalled d at v meaning.Nothing (Some p) not =
-      changed_uncalled p (joined.meant d at v meaning.Nothing) (λ j. called_meant d at v meaning.Nothing j not) (slice_get t.live p) refl
-  taken_uncalled d at v meaning.Closes (Some p) not =
-      changed_uncalled p (joined.meant d at v meaning.Closes) (λ j. called_meant d at v meaning.Closes j not) (slice_get t.live p) refl
-  taken_uncalled d at v (meaning.Adds end) (Some p) not =
-      changed_uncalled p (joined.meant d at v (meaning.Adds end)) (λ j. called_meant d at v (meaning.Adds end) j not) (slice_get t.live p)
-      refl
+  taken_uncalled d at v meaning.Asks (Some p) not = grind (arith, placed_uncalled)
+  taken_uncalled d at v meaning.Nothing (Some p) not = grind (arith, changed_uncalled, called_meant)
+  taken_uncalled d at v meaning.Closes (Some p) not = grind (arith, changed_uncalled, called_meant)
+  taken_uncalled d at v (meaning.Adds end) (Some p) not = grind (arith, changed_uncalled, called_meant)
 
 -- ---- whatever passes
 
@@ -155,13 +108,10 @@ no_class k e = cc
 -- a class that is selected stays so
 none_before : (k : Option Class) (after : Option Class) → ((k ≡ Some Zero) → after ≡ Some Zero) → ((k ≡ Some Two) → after ≡ Some Two) →
     after ≡ None → k ≡ None
-none_before None after zero two none = refl
-none_before (Some Zero) after zero two none = absurd (no_class Zero (sym (zero refl) ∙ none))
-none_before (Some Two) after zero two none = absurd (no_class Two (sym (two refl) ∙ none))
+none_before k after h two none = grind (arith, no_class)
 
 begins_class : (d : Direction) (s : State) → (traffic.packet_begins (way_of d) s).course.class ≡ s.course.class
-begins_class Left s = refl
-begins_class Right s = refl
+begins_class d s = grind arith
 
 unit_uncalled : (d : Direction) (at : ℕ) (v : Value) (c : Course) → UncalledUntil c → UncalledUntil (unit_passes d at v c)
 unit_uncalled d at v c h none =
@@ -177,24 +127,7 @@ unit_uncalled d at v c h none =
 unread_uncalled : (b : Bool) (d : Direction) (at : ℕ) (k : Cause) (c : Course) → UncalledUntil c →
     UncalledUntil (if b then c else marked (unread_mark d at k) (traffic.refused_reach (way_of d) c.traffic)
     (moved (unread_moment d at k c.sessions) (record c { traffic = traffic.refused (way_of d) c.traffic })))
-unread_uncalled true d at k c h = h
-unread_uncalled false d at k c h = λ none.
-    let mid : Course = moved (unread_moment d at k c.sessions) (record c { traffic = traffic.refused (way_of d) c.traffic }) in
-    let r = traffic.refused_reach (way_of d) c.traffic in
-    let after : (traffic.refused (way_of d) c.traffic).course.class ≡ None =
-    ap (λ (s : State). s.course.class) (sym (marked_traffic (unread_mark d at k) r mid)) ∙ none in
-    subst AreUncalled (sym (marked_leaves (unread_mark d at k) r mid))
-    (h (none_before c.traffic.course.class (traffic.refused (way_of d) c.traffic).course.class
-    (zero_stays (rubbish (way_of d)) c.traffic) (lasts_passing (rubbish (way_of d)) c.traffic).two after))
+unread_uncalled b d at k c h = grind (arith, marked_traffic, marked_leaves, none_before, zero_stays, lasts_passing)
 
 pub uncalled_claim : IsClaim UncalledUntil
-uncalled_claim = record {
-  begins = λ d c h none. record {
-    live = λ i j here.
-        let (k, there, is) = map_of (joined.packet_begins d) c.sessions.live i j here in
-        ap (λ (x : Joined). x.called) is ∙ called_begun d k ∙ (h (sym (begins_class d c.traffic) ∙ none)).live i k there;
-    done = (h (sym (begins_class d c.traffic) ∙ none)).done;
-  };
-  passes = λ d at v c h. unit_uncalled d at v c h;
-  bad = λ d at k c h. unread_uncalled (is_some (marks_of d c).halted) d at k c h;
-}
+uncalled_claim = grind (arith, map_of, called_begun, begins_class, unit_uncalled, unread_uncalled)

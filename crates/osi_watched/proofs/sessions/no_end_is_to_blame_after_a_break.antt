@@ -1,5 +1,6 @@
 -- No session of an end is to blame, whatever the other side breaks, whichever class is selected.
 -- For the law that no session of an end is to blame after a break.
+use Rattle.std.proofs.Common.{arith}
 use Rattle.std.specs.Prelude.{slice_get}
 use Rattle.std.proofs.Common.{◌⊎◌, ℕ, inl, inr, ◌≡◌, refl, ◌^◌, ◌<◌, Bool, false, true, List, length, Option, Some}
 use Rattle.osi_class.specs.declared.terms.Class.{Class}
@@ -108,13 +109,9 @@ module _ (known : Known) (known_of : AsSent) (parts : AsParts) (caller : CallerL
   pub called_later : (begin end : Holding) (turns : List Turn) (i : ℕ) (j : Joined) → IsFresh false local begin → Run begin turns end →
       AreOctets capture → IsSeen Right turns capture → length course.past < 2 ^ 64 →
       (slice_get course.sessions.live i ≡ Some j) ⊎ (slice_get course.sessions.done i ≡ Some j) → IsToBlame Right j → ⊥
-  called_later begin end turns i j fresh run octets seen few there =
-      among Right i j
-      (called_nobody few begin fresh (capture_steps known Right false local begin end turns capture fresh run octets seen)) there
+  called_later begin end turns i j fresh run octets seen few there = search (arith, among, called_nobody, capture_steps)
 
   pub calling_later : (begin end : Holding) (turns : List Turn) (i : ℕ) (j : Joined) → IsFresh true local begin → Run begin turns end →
       AreOctets capture → IsSeen Left turns capture → length course.past < 2 ^ 64 →
       (slice_get course.sessions.live i ≡ Some j) ⊎ (slice_get course.sessions.done i ≡ Some j) → IsToBlame Left j → ⊥
-  calling_later begin end turns i j fresh run octets seen few there =
-      among Left i j
-      (calling_nobody few begin fresh (capture_steps known Left true local begin end turns capture fresh run octets seen)) there
+  calling_later begin end turns i j fresh run octets seen few there = search (arith, among, calling_nobody, capture_steps)

@@ -1,6 +1,7 @@
 -- What holds of a called end at each step is as it is asked for: all its connections stand, or it has selected class 0, and the CC that
 -- says so has not passed. Then nobody of the end is to blame, also after a connection has lost its judgement.
 -- For the laws that no session of an end is to blame.
+use Rattle.std.proofs.Common.{arith}
 use Rattle.osi_watched.proofs.Vocabulary.{[], ap, Bool, false, inl, inr, List, map, None, refl, Some, subst, sym, ℕ, ◌++◌, ◌∙◌, ◌∷◌, ◌≡◌}
 use Rattle.osi_watched.proofs.Vocabulary.{◌⊎◌, AllByRecursion, Value, written, Zero, Local, acceptance, Holding, Traffic as State, takes}
 use Rattle.osi_watched.proofs.Vocabulary.{Connection, AsSent, AsParts, CalledLaw, CallerLaw, Left, Right, AllProper, CanBeWritten, Deeds}
@@ -25,7 +26,7 @@ use Rattle.osi_watched.proofs.sessions.a_called_end_stands_as_units_pass.{Stands
 use Rattle.osi_watched.proofs.sessions.a_called_end_stands_as_units_pass.{passes_other_stands, passes_own_stands, turns_stand}
 use Rattle.osi_watched.proofs.sessions.a_calling_end_stands_as_units_pass.{known_at}
 use Rattle.osi_watched.proofs.sessions.after_too_many_nobody_is_to_blame.{NoneIsToBlame}
-use Rattle.osi_watched.proofs.sessions.all_connections_stand.{AllStand, Rests, quiet, rests, there_too}
+use Rattle.osi_watched.proofs.sessions.all_connections_stand.{AllStand, Rests, there_too}
 use Rattle.osi_watched.proofs.sessions.an_end_that_has_said_nothing_is_not_to_blame.{IsMute, mute_begins, mute_none, mute_units}
 use Rattle.osi_watched.proofs.sessions.connections_have_the_same_places.{Agree, packet_agrees, unit_knows, units_agree}
 use Rattle.osi_watched.proofs.sessions.no_connection_is_opened_before_a_class_is_selected.{AreUncalled, UncalledUntil, uncalled_claim}
@@ -36,7 +37,7 @@ use Rattle.osi_watched.proofs.sessions.steps_leave_all_standing.{IsProper, Stand
 use Rattle.osi_watched.proofs.sessions.steps_of_either_class_leave_all_standing.{stand_none}
 use Rattle.osi_watched.proofs.sessions.the_dr_of_the_other_side_is_in_flight.{first_shut}
 use Rattle.osi_watched.proofs.sessions.units_written_alike_have_the_same_ccs.{AnswersTwo, first_not_zero}
-use Rattle.osi_watched.proofs.sessions.what_stands_of_a_connection.{Known, Stands, lives, past, unnamed}
+use Rattle.osi_watched.proofs.sessions.what_stands_of_a_connection.{Known, Stands}
 use Rattle.osi_watched.proofs.sessions.what_passes_leaves_all_standing.{all_goes}
 use Rattle.osi_watched.proofs.sessions.what_stands_after_a_loss_stands_before_one.{AreTakenOn, KeepsThroughout}
 use Rattle.osi_fair.proofs.a_connection_is_lost_in_class_2_alone.{firm_unless_two}
@@ -50,46 +51,25 @@ distinct_first : AreDistinct Right none
 distinct_first = record { live = λ i k j l r here. absurd (cc here); done = λ i k j l r here. absurd (cc here) }
 
 standing_first : (known : Known) (h : Holding) → Standing Right (λ r. no_deeds) known (begin h)
-standing_first known h = record {
-  all = record {
-    places = tt;
-    apart = fresh_apart;
-    judged = λ firm i c at. no_item i c at;
-    room = refl;
-    live = λ i c j there here judged. absurd (cc here);
-    lost = λ i c j there here lost. absurd (cc here);
-    done = λ i j here. absurd (cc here);
-  };
-}
+standing_first known h = grind (arith, fresh_apart, no_item)
 
 -- ---- before a class is selected nothing has been said
 
 module _ (deeds : ℕ → Deeds) (known : Known) (put : List Value) (b : Bool) where
   stands_mute : (c : Connection) (j : Joined) → j.called ≡ None → Stands Right deeds known put b c j → (spoken Right j).said ≡ []
-  stands_mute c j uncalled (unnamed is mine theirs room) = mine.said
-  stands_mute c j uncalled (lives r o is live later sure h) = not_some j.called r h.shown.named uncalled
-  stands_mute c j uncalled (past r closed waiting later sure h) = not_some j.called r h.shown.named uncalled
+  stands_mute c j uncalled h = grind (arith, not_some)
 
   rests_mute : (j : Joined) → j.called ≡ None → Rests Right deeds known j → (spoken Right j).said ≡ []
-  rests_mute j uncalled (quiet is mine theirs) = mine.said
-  rests_mute j uncalled (rests r waiting later sure h) = not_some j.called r h.shown.named uncalled
+  rests_mute j uncalled h = grind (arith, not_some)
 
   all_mute : (s : State) (t : Sessions) → AllStand Right deeds known put b s t → s.course.loose ≡ false → AreUncalled t → IsMute Right t
-  all_mute s t a firm uncalled = record {
-    live = λ i j here.
-        let (c, there) = there_too s.connections t.live i j a.places here in
-        stands_mute c j (uncalled.live i j here) (a.live i c j there here (a.judged firm i c there));
-    done = λ i j here. rests_mute j (uncalled.done i j here) (a.done i j here);
-  }
+  all_mute s t a firm uncalled = grind (arith, there_too, stands_mute, rests_mute)
 
 -- ---- a packet of the calling side
 
 fine_of : (at : ℕ) (vs : List Value) (c : Passed) → AreTakenOn Right at vs c → AreFine at vs c
 fine_of at [] c h = tt
-fine_of at (v ∷ vs) c h = (
-  record { goes = h.0.goes; two = h.0.two; on = all_goes v Right c.traffic h.0.far; loses = h.0.loses },
-  fine_of at vs (unit_passes Left at v c) h.1,
-)
+fine_of at (v ∷ vs) c h = search (arith, all_goes, fine_of at vs (unit_passes Left at v c) h.1)
 
 module _ (local : Local) (proper : AllProper) where
   -- the end has selected class 0, and its CC has not passed
@@ -105,29 +85,14 @@ module _ (local : Local) (proper : AllProper) where
     pub uncalled : UncalledUntil j.course
 
   pub called_first : (h : Holding) → IsFresh false local h → StandsCalled local proper (λ r. no_deeds) (begin h)
-  called_first h fresh = record {
-    called = begin_called local h fresh;
-    standing = standing_first (known_at (begin h)) h;
-    distinct = distinct_first;
-    shut = first_shut Right (may_take h.end.carrier) [];
-    can = tt;
-  }
+  called_first h fresh = grind (arith, begin_called, standing_first, known_at, distinct_first, first_shut, may_take)
 
   stands_first : (h : Holding) → IsFresh false local h → StandsOrSelected (λ r. no_deeds) (begin h)
-  stands_first h fresh = record {
-    how = inl (called_first h fresh);
-    uncalled = λ none. record { live = λ i j here. absurd (cc here); done = λ i j here. absurd (cc here) };
-  }
+  stands_first h fresh = grind (arith, called_first h fresh)
 
   selected_on : (step : Step) (old new : Joint) → Steps Right step old new → new.put ≡ old.put → Agree new.course →
       IsMute Right new.course.sessions → HasSelected old → HasSelected new
-  selected_on step old new does put places mute h = record {
-    followed = step_followed Right (wholes.begin false local) proper step old new does h.followed;
-    places = places;
-    mute = mute;
-    can = subst (AllByRecursion CanBeWritten) (sym put) h.can;
-    zero = λ two. h.zero (subst (AllByRecursion AnswersTwo) put two);
-  }
+  selected_on step old new does put places mute h = grind (arith, step_followed)
 
   then_uncalled : (step : Step) (old new : Joint) → Steps Right step old new → UncalledUntil old.course → UncalledUntil new.course
   then_uncalled step old new does h = step_kept UncalledUntil uncalled_claim Right step old new does h
@@ -246,8 +211,7 @@ module _ (local : Local) (proper : AllProper) where
     nobody_amid : (deeds : ℕ → Deeds) (at : ℕ) (front : List Value) (old : Joint) → HaveCourses Right deeds old →
         AreTakenOn Right at front old.course → StandsCalled local proper deeds old ⊎ HasSelected old →
         NoneIsToBlame Right (units_pass Left at front old.course).sessions
-    nobody_amid deeds at front old courses taken (inr h) =
-        mute_none Right (units_pass Left at front old.course).sessions (mute_units Right at front old.course h.places h.mute)
+    nobody_amid deeds at front old courses taken (inr h) = grind (arith, mute_none, mute_units)
     nobody_amid deeds at front old courses taken (inl h) =
         let live = may_take old.holding.end.carrier in
         let now : AreHeard deeds live old.put old.begun h.called.ahead.bound at (units_in old.coming) old.course = record {

@@ -1,7 +1,8 @@
 -- What holds of a calling end of class 2 at each step is as it is asked for: nobody of the end is to blame as long as both sides are
 -- judged, also after a connection has lost its judgement.
 -- For the law that no session of an end is blamed first.
-use Rattle.osi_watched.proofs.Vocabulary.{[], List, refl, Some, true, ℕ, ◌++◌, ◌∷◌, ◌≡◌, units_fit, units_found, HasFieldsInRange, Value}
+use Rattle.std.proofs.Common.{arith}
+use Rattle.osi_watched.proofs.Vocabulary.{[], List, Some, true, ℕ, ◌++◌, ◌∷◌, ◌≡◌, units_fit, units_found, HasFieldsInRange, Value}
 use Rattle.osi_watched.proofs.Vocabulary.{Zero, Local, Holding, AsSent, AsParts, CalledLaw, CallerLaw, Left, Right, AllProper, Deeds}
 use Rattle.osi_watched.proofs.Vocabulary.{no_deeds, then_did, units_in, IsFresh, Turn, none, unit_passes, units_pass, fresh_apart, no_item}
 use Rattle.osi_watched.proofs.Vocabulary.{IsOngoing, Joint, passes_other, passes_own, Steps, TakesTurn}
@@ -35,26 +36,13 @@ distinct_first : AreDistinct Left none
 distinct_first = record { live = λ i k j l r here. absurd (cc here); done = λ i k j l r here. absurd (cc here) }
 
 standing_first : (known : Known) (h : Holding) → Standing Left (λ r. no_deeds) known (begin h)
-standing_first known h = record {
-  all = record {
-    places = tt;
-    apart = fresh_apart;
-    judged = λ firm i c at. no_item i c at;
-    room = refl;
-    live = λ i c j there here judged. absurd (cc here);
-    lost = λ i c j there here lost. absurd (cc here);
-    done = λ i j here. absurd (cc here);
-  };
-}
+standing_first known h = grind (arith, fresh_apart, no_item)
 
 -- ---- a packet of the called side
 
 fine_of : (at : ℕ) (vs : List Value) (c : Passed) → AreTakenOn Left at vs c → AreFine at vs c
 fine_of at [] c h = tt
-fine_of at (v ∷ vs) c h = (
-  record { lasts = h.0.lasts; on = all_goes v Left c.traffic h.0.far; loses = h.0.loses },
-  fine_of at vs (unit_passes Right at v c) h.1,
-)
+fine_of at (v ∷ vs) c h = grind (arith, all_goes, fine_of at vs (unit_passes Right at v c) h.1)
 
 module _ (local : Local) (two : local.class2 ≡ true) (proper : AllProper) where
   -- all connections stand, and nothing is in flight to one whose CC has not passed
@@ -63,34 +51,17 @@ module _ (local : Local) (two : local.class2 ≡ true) (proper : AllProper) wher
     pub quiet : AreQuiet j
 
   stands_first : (h : Holding) → IsFresh true local h → StandsQuiet (λ r. no_deeds) (begin h)
-  stands_first h fresh = record {
-    stands = record {
-      calling = begin_calling local two h fresh;
-      standing = standing_first (known_at (begin h)) h;
-      distinct = distinct_first;
-      shut = first_shut Left (may_take h.end.carrier) [];
-      can = tt;
-    };
-    quiet = begin_quiet h;
-  }
+  stands_first h fresh = search (arith, begin_calling, standing_first, known_at, distinct_first, first_shut, may_take, begin_quiet)
 
   own_passes : (deeds : ℕ → Deeds) (at : ℕ) (v : Value) (old new : Joint) → Steps Left (passes_own at v) old new →
       IsProper Left v old.course → IsOngoing old.course.traffic.course → (new.course.traffic.course.class ≡ Some Zero → ⊥) →
       StandsQuiet deeds old → StandsQuiet deeds new
-  own_passes deeds at v old new step fine clear then_two h = record {
-    stands = passes_own_stands local two proper deeds at v old new step fine clear h.stands;
-    quiet = passes_own_quiet local two deeds at v old new step h.stands.calling h.stands.standing.all.places h.quiet;
-  }
+  own_passes deeds at v old new step fine clear then_two h = search (arith, passes_own_stands, passes_own_quiet)
 
   other_passes : (deeds : ℕ → Deeds) (at : ℕ) (octets : List ℕ) (units : List Value) (old new : Joint) →
       Steps Left (passes_other at octets units) old new → AreTakenOn Left at units old.course → StandsQuiet deeds old →
       StandsQuiet deeds new
-  other_passes deeds at octets units old new step taken h =
-      let fine = fine_of at units old.course taken in
-      record {
-        stands = passes_other_stands local two proper deeds at octets units old new step fine h.stands;
-        quiet = passes_other_quiet local two deeds at octets units old new step h.stands.calling fine h.quiet;
-      }
+  other_passes deeds at octets units old new step taken h = search (arith, fine_of, passes_other_stands, passes_other_quiet)
 
   takes_turn : (turn : Turn) (old new : Joint) (t : TakesTurn turn old new) (deeds : ℕ → Deeds)
       (does : TurnDoes true deeds turn old new t) → IsFollowed Left (wholes.begin true local) old →

@@ -466,8 +466,7 @@ module _ (proper : AllProper) (barred : Class) (d : Direction) (local : Local)
       (Goes deeds old → Stays then_deeds new) → Stays deeds old → Stays then_deeds new
   step_stays step deeds then_deeds old new does on (goes g) = on g
   step_stays step deeds then_deeds old new does on (silent s) = silent (step_kept (IsSilent d) (silent_claim d) d step old new does s)
-  step_stays step deeds then_deeds old new does on (broken b) =
-      broken (step_kept (λ x. HasBroken d x.past) (broken_claim d) d step old new does b)
+  step_stays step deeds then_deeds old new does on (broken b) = grind (arith, step_kept, broken_claim d)
 
   tap_stays : (step : Step) → IsOfTap step → (deeds : ℕ → Deeds) (old new : Joint) → Steps d step old new → IsWithout barred new.course →
       Stays deeds old → Stays deeds new

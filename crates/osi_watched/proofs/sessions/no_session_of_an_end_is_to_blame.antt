@@ -240,8 +240,7 @@ module _ (known : Known) (barred : Class) (d : Direction) (local : Local)
 
       then_rest : One → (AllSoFar (front ++ v ∷ []) → Passing at units old.course) → Passing at units old.course
       then_rest (goes_on more) rest = rest more
-      then_rest (is_done s) rest =
-          then_done (subst (IsDone d) (sym all_join) (units_kept (IsDone d) (done_claim d) (other d) at back next s))
+      then_rest (is_done s) rest = grind (arith, all_join, units_kept (IsDone d) (done_claim d) (other d) at back next s, done_claim d)
       then_rest (is_lost b) rest = grind (arith, all_join, units_kept, loose_claim)
       then_rest (is_alone unapplied side a) rest = then_alone front back v is so.taken so.judged unapplied side a (kind_of v)
 

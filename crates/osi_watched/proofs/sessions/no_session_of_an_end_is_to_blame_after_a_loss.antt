@@ -151,8 +151,7 @@ module _ (proper : AllProper) (d : Direction) (local : Local)
 
       then_rest : One → (AllSoFar (front ++ v ∷ []) → Passing at units old.course) → Passing at units old.course
       then_rest (goes_on more) rest = rest more
-      then_rest (is_done s) rest =
-          then_done (subst (IsDone d) (sym all_join) (units_kept (IsDone d) (done_claim d) (other d) at back next s))
+      then_rest (is_done s) rest = grind (arith, all_join, units_kept (IsDone d) (done_claim d) (other d) at back next s, done_claim d)
 
     pass_on : (back front : List Value) → units ≡ front ++ back → AllSoFar front → Passing at units old.course
     pass_on [] front is so = grind (arith, append-nil)

@@ -1,19 +1,18 @@
 -- A unit makes nobody to blame for what a tap with a bound judges whom it doesn't make to blame for what a tap without one judges.
 -- For the law on such a tap.
-use Rattle.std.specs.Prelude.{nat_le, slice_get}
-use Rattle.std.proofs.Common.{◌≡◌, ◌∙◌, refl, sym, ap, subst, ℕ, zero, suc, ◌-◌, Bool, true, false, if◌then◌else◌}
+use Rattle.std.proofs.Common.{arith}
+use Rattle.std.specs.Prelude.{slice_get}
+use Rattle.std.proofs.Common.{◌≡◌, ◌∙◌, refl, sym, ap, subst, ℕ, zero, suc, Bool, true, false, if◌then◌else◌}
 use Rattle.std.proofs.Common.{List, [], ◌∷◌, ◌++◌, length, set, Option, Some, None}
 use Rattle.osi_rules.specs.declared.findings.Meaning.{Meaning}
 use Rattle.osi_rules.specs.declared.findings.Meaning.TheVariants as meaning
 use Rattle.osi_tpdu.specs.Value.{Value}
 use Rattle.osi_judge.specs.declared.directions.Direction.{Direction}
-use Rattle.osi_judge.specs.declared.directions.Direction.TheVariants.{Left, Right}
 use Rattle.osi_tap.specs.declared.rooms.Room.{Room}
-use Rattle.osi_tap.specs.declared.rooms.Room.TheVariants.{All, Octets, Over}
+use Rattle.osi_tap.specs.declared.rooms.Room.TheVariants.{Octets, Over}
 use Rattle.osi_tap.specs.Blaming.{IsToBlame}
-use Rattle.osi_tap.specs.Connections.{Joined, Sessions, adds_if, changed, meant, placed, source_of, taken, taken_at, user_of}
-use Rattle.osi_tap.specs.Lines.{Spoken}
-use Rattle.osi_tap.specs.Rooms.{counted, fits, is_over, spent}
+use Rattle.osi_tap.specs.Connections.{Joined, Sessions, adds_if, changed, meant, placed, taken, taken_at, user_of}
+use Rattle.osi_tap.specs.Rooms.{fits, is_over, spent}
 use Rattle.osi_watched.specs.Bounded.{IsJudgedOf}
 use Rattle.osi_watched.proofs.sessions.after_too_many_nobody_is_to_blame.{NoneIsToBlame}
 use Rattle.osi_watched.proofs.sessions.what_is_judged_within_a_bound.{AreBounded, BothAt, asked_so, at_place, meant_so}
@@ -22,36 +21,26 @@ use Rattle.osi_watched.proofs.sessions.what_is_judged_within_a_bound.{AreBounded
 
 -- a connection on which both sides said the same
 same_said : (d : Direction) (j w : Joined) → IsToBlame d j → IsToBlame d (record w { left = j.left; right = j.right })
-same_said Left j w b = record { finding = b.finding; found = record { found = b.found.found; room = b.found.room }; broke = b.broke }
-same_said Right j w b = record { finding = b.finding; found = record { found = b.found.found; room = b.found.room }; broke = b.broke }
+same_said d j w b = grind arith
 
 blame_on : (d : Direction) (j w : Joined) → j.left ≡ w.left → j.right ≡ w.right → IsToBlame d j → IsToBlame d w
-blame_on d j w left right b =
-    subst (λ (s : Spoken). IsToBlame d (record w { right = s })) right
-    (subst (λ (s : Spoken). IsToBlame d (record w { left = s; right = j.right })) left (same_said d j w b))
+blame_on d j w left right b = grind (arith, same_said)
 
 -- of a connection of which all was judged so far, who is to blame for it is to blame for the whole
 either_way : (d : Direction) (j w : Joined) → IsJudgedOf j w → (IsToBlame d w → ⊥) → (is_over j.room ≡ true → IsToBlame d j → ⊥) →
     IsToBlame d j → ⊥
-either_way d j w h whole past b = by (is_over j.room) refl
-  where
-    by : (o : Bool) → is_over j.room ≡ o → ⊥
-    by true is = past is b
-    by false is = whole (blame_on d j w (h.left is) (h.right is) b)
+either_way d j w h whole past b = search (arith, blame_on)
 
 -- ---- a unit after which no more is judged of its connection
 
 module _ (d e : Direction) (at : ℕ) (end : Bool) (octets : List ℕ) (j : Joined) where
   spent_if : (b : Bool) (n : ℕ) → is_over (adds_if b (if b then Octets n else Over) e at end octets j).room ≡ true →
       IsToBlame d (adds_if b (if b then Octets n else Over) e at end octets j) → IsToBlame d j
-  spent_if true n over blame = absurd (let no : false ≡ true = over in cc)
-  spent_if false n over blame = blame_on d (record j { room = Over }) j refl refl blame
+  spent_if b n over blame = grind (arith, blame_on)
 
   spent_by : (room : Room) → is_over (adds_if (fits room (length octets)) (spent room (length octets)) e at end octets j).room ≡ true →
       IsToBlame d (adds_if (fits room (length octets)) (spent room (length octets)) e at end octets j) → IsToBlame d j
-  spent_by All over blame = absurd (let no : false ≡ true = over in cc)
-  spent_by (Octets n) over blame = spent_if (nat_le (counted (length octets)) n) (n - counted (length octets)) over blame
-  spent_by Over over blame = blame_on d (record j { room = Over }) j refl refl blame
+  spent_by room over blame = grind (arith, spent_if, blame_on)
 
 -- was to blame before it
 meant_blame : (d e : Direction) (at : ℕ) (v : Value) (m : Meaning) (j : Joined) → is_over (meant e at v m j).room ≡ true →
@@ -120,18 +109,11 @@ changed_none d i f s t (Some j) (Some w) here there both step back before after 
 placed_none : (d : Direction) (i : ℕ) (j w : Joined) (s t : Sessions) (o p : Option Joined) → slice_get s.live i ≡ o →
     slice_get t.live i ≡ p → BothAt o p → IsJudgedOf j w → (is_over j.room ≡ true → ⊥) → NoneIs d s → NoneIs d (placed i w t p) →
     NoneIs d (placed i j s o)
-placed_none d i j w s t None None here there both k goes before after = record {
-  live = more_none d s.live j before.live
-      (either_way d j w k (of_last d t.live w after.live) (λ over blame. goes over));
-  done = before.done;
-}
+placed_none d i j w s t None None here there both k goes before after = grind (arith, more_none, either_way, of_last d t.live w after.live)
 placed_none d i j w s t None (Some y) here there both k goes before after = absurd both
 placed_none d i j w s t (Some x) None here there both k goes before after = absurd both
-placed_none d i j w s t (Some x) (Some y) here there both k goes before after = record {
-  live = set_none d s.live i j before.live
-      (either_way d j w k (of_set d t.live i y w there after.live) (λ over blame. goes over));
-  done = more_none d s.done x before.done (of_one d s.live before.live i x here);
-}
+placed_none d i j w s t (Some x) (Some y) here there both k goes before after =
+    search (arith, set_none, either_way, of_set, more_none, of_one)
 
 goes_on : (most : ℕ) (room : Room) → room ≡ Octets most → is_over room ≡ true → ⊥
 goes_on most room is over = absurd (let no : false ≡ true = sym (ap is_over is) ∙ over in cc)
@@ -139,22 +121,17 @@ goes_on most room is over = absurd (let no : false ≡ true = sym (ap is_over is
 module _ (most : ℕ) (d e : Direction) (at : ℕ) (v : Value) (s t : Sessions) (h : AreBounded most s t) (before : NoneIs d s) where
   changed_so : (m : Meaning) (i : ℕ) → NoneIs d (changed i (meant e at v m) t (slice_get t.live i)) →
       NoneIs d (changed i (meant e at v m) s (slice_get s.live i))
-  changed_so m i after =
-      changed_none d i (meant e at v m) s t (slice_get s.live i) (slice_get t.live i) refl refl (at_place s.live t.live i h.of.live)
-      (meant_so e at v m) (meant_blame d e at v m) before after
+  changed_so m i after = search (arith, changed_none, at_place, meant_so, meant_blame)
 
   at_so : (m : Meaning) (i : ℕ) → NoneIs d (taken_at e at v m i t) → NoneIs d (taken_at e at v m i s)
-  at_so meaning.Asks i after =
-      placed_none d i _ _ s t (slice_get s.live i) (slice_get t.live i) refl refl (at_place s.live t.live i h.of.live)
-      (asked_so most (source_of v) s t h) (goes_on most s.room h.bound) before after
+  at_so meaning.Asks i after = search (arith, placed_none, at_place, asked_so, goes_on)
   at_so meaning.Opens i after = changed_so meaning.Opens i after
   at_so meaning.Closes i after = changed_so meaning.Closes i after
   at_so (meaning.Adds end) i after = changed_so (meaning.Adds end) i after
   at_so meaning.Nothing i after = changed_so meaning.Nothing i after
 
   taken_so : (m : Meaning) (place : Option ℕ) → NoneIs d (taken e at v m place t) → NoneIs d (taken e at v m place s)
-  taken_so m None after = before
-  taken_so m (Some i) after = at_so m i after
+  taken_so m place after = grind (arith, at_so)
 
 none_listed : (d : Direction) (s : Sessions) → NoneIsToBlame d s → NoneIs d s
 none_listed d s h = record { live = listed d s.live h.live; done = listed d s.done h.done }

@@ -1,8 +1,9 @@
 -- Units of class 2 leave all connections of an end standing at a tap: units of the end that are no break, and of the other side.
 -- For the session of each connection of an end.
-use Rattle.std.proofs.Common.{◌≡◌, ◌∙◌, refl, sym, ap, subst, ℕ, Bool, true, false, if◌then◌else◌, List, [], ◌∷◌}
+use Rattle.std.proofs.Common.{arith}
+use Rattle.std.proofs.Common.{◌≡◌, ◌∙◌, refl, sym, ap, ℕ, Bool, true, false, if◌then◌else◌, List, [], ◌∷◌}
 use Rattle.std.proofs.Common.{◌++◌, Option, Some, None}
-use Rattle.std.specs.Prelude.{not, position, slice_get}
+use Rattle.std.specs.Prelude.{slice_get}
 use Rattle.std.proofs.lemmas.Bool.{eqb-true}
 use Rattle.osi_tpdu.specs.Value.{Connect, Value, acknowledge, confirm, data2, destination_of, request}
 use Rattle.osi_class.specs.Tsdus.{Part}
@@ -10,7 +11,7 @@ use Rattle.osi_class.specs.declared.terms.Class.{Class}
 use Rattle.osi_class.specs.declared.terms.Class.TheVariants.{Two, Zero}
 use Rattle.osi_judge.specs.Captures.{other}
 use Rattle.osi_judge.specs.declared.directions.Direction.{Direction}
-use Rattle.osi_judge.specs.declared.directions.Direction.TheVariants.{Left, Right}
+use Rattle.osi_judge.specs.declared.directions.Direction.TheVariants.{Left}
 use Rattle.osi_rules.specs.declared.connections.Connection.{Connection}
 use Rattle.osi_rules.specs.declared.courses.Course.{Course as Rules}
 use Rattle.osi_rules.specs.declared.directions.Direction.{Direction as Way}
@@ -24,11 +25,11 @@ use Rattle.osi_rules.specs.declared.findings.Rule.TheVariants as rule
 use Rattle.osi_rules.specs.declared.routes.Route.{Route}
 use Rattle.osi_rules.specs.Reaches.{is_applied, reach_of}
 use Rattle.osi_rules.specs.Rows.{Test, first_failed, has_passed, keeps_credit}
-use Rattle.osi_rules.specs.Sides.{is_named, is_open, is_silent, own}
+use Rattle.osi_rules.specs.Sides.{is_open, own}
 use Rattle.osi_rules.specs.Sides as sides
 use Rattle.osi_rules.specs.Traffic.{State, at_found, at_place, class_for, connection_after, found, found_on, is_stopped, meaning_if}
 use Rattle.osi_rules.specs.Traffic.{course_after_none, unnamed, unnamed_told}
-use Rattle.osi_rules.specs.Traffic.{in_doubt, meant, none_told, route, route_in, routed, takes, unnamed_by, uses_source}
+use Rattle.osi_rules.specs.Traffic.{in_doubt, meant, none_told, route_in, routed, takes, unnamed_by}
 use Rattle.osi_honest.specs.Courses.{Deeds}
 use Rattle.osi_tap.specs.Connections.{Joined, Sessions, reference_of}
 use Rattle.osi_tap.specs.Connections as joined
@@ -42,7 +43,6 @@ use Rattle.osi_watched.proofs.sessions.all_connections_stand.{own_part}
 use Rattle.osi_watched.proofs.sessions.all_connections_stand.{own_plain, quiet, rests}
 use Rattle.osi_watched.proofs.sessions.what_stands_of_a_connection.{Known, Stands, is_for, names_it, stands_elsewhere}
 use Rattle.osi_watched.proofs.sessions.what_stands_of_a_connection.{stands_other_none}
-use Rattle.osi_rules.specs.Traffic.{has_broken}
 
 -- ---- a DT or an AK of class 2
 
@@ -51,12 +51,10 @@ pub data IsLink (v : Value) (n : ℕ) : Type 0 where
   ak : (credit number : ℕ) → v ≡ acknowledge credit n number → IsLink v n
 
 pub link_names : (v : Value) (n : ℕ) → IsLink v n → destination_of v ≡ Some n
-link_names v n (dt number end user is) = ap destination_of is
-link_names v n (ak credit number is) = ap destination_of is
+link_names v n h = grind arith
 
 link_for : (v : Value) (n : ℕ) (o : Option ℕ) → IsLink v n → is_for o v ≡ names_it o n
-link_for v n o (dt number end user is) = ap (is_for o) is
-link_for v n o (ak credit number is) = ap (is_for o) is
+link_for v n o h = grind (arith, is_for)
 
 -- ---- its place
 
@@ -71,29 +69,21 @@ module _ (d : Way) (v : Value) (s : State) (two : class_for d (course_after_none
 
   found_placed : {A : Type 0} (i : ℕ) (o : Option Connection) → ((at_found d v s i o).told.reach ≡ reach.Everything → ⊥) →
       (at_found d v s i o).told.place ≡ None → A
-  found_placed i None on none = none_goes on
-  found_placed i (Some c) on none = no_place i none
+  found_placed i h on none = grind (arith, none_goes, no_place)
 
   any_placed : {A : Type 0} (o : Option ℕ) → ((at_place d v s o).told.reach ≡ reach.Everything → ⊥) →
       (at_place d v s o).told.place ≡ None → A
-  any_placed None on none = none_goes on
-  any_placed (Some i) on none = found_placed i (slice_get s.connections i) on none
+  any_placed h on none = grind (arith, none_goes, found_placed)
 
 dt_ends : (loose strays : Bool) (n number : ℕ) (end : Bool) (user : List ℕ) →
     reach_of (Some Two) (if loose then in_doubt (unnamed_by strays (data2 n number end user)) else unnamed_by strays
     (data2 n number end user)) ≡ reach.Everything
-dt_ends true true n number end user = refl
-dt_ends true false n number end user = refl
-dt_ends false true n number end user = refl
-dt_ends false false n number end user = refl
+dt_ends loose strays n number end user = grind arith
 
 ak_ends : (loose strays : Bool) (credit n number : ℕ) →
     reach_of (Some Two) (if loose then in_doubt (unnamed_by strays (acknowledge credit n number)) else unnamed_by strays
     (acknowledge credit n number)) ≡ reach.Everything
-ak_ends true true credit n number = refl
-ak_ends true false credit n number = refl
-ak_ends false true credit n number = refl
-ak_ends false false credit n number = refl
+ak_ends loose strays credit n number = grind arith
 
 -- before a class is known it breaks a rule
 early_ends : {A : Type 0} (d : Way) (s : State) → class_for d s.course ≡ None →
@@ -104,85 +94,46 @@ dt_routed : {A : Type 0} (k : Option Class) (d : Way) (b : Bool) (n number : ℕ
     class_for d s.course ≡ k → (k ≡ Some Zero → ⊥) →
     ((routed d (data2 n number end user) s (route_in k d b (data2 n number end user))).told.reach ≡ reach.Everything → ⊥) →
     (routed d (data2 n number end user) s (route_in k d b (data2 n number end user))).told.place ≡ None → A
-dt_routed None way.Left b n number end user s is two on none = early_ends way.Left s is on
-dt_routed None way.Right b n number end user s is two on none = early_ends way.Right s is on
-dt_routed (Some Zero) d b n number end user s is two on none = absurd (two refl)
-dt_routed (Some Two) way.Left b n number end user s is two on none =
-    any_placed way.Left (data2 n number end user) s is (dt_ends s.course.loose s.course.strays n number end user)
-    (position (is_named way.Left n) s.connections) on none
-dt_routed (Some Two) way.Right b n number end user s is two on none =
-    any_placed way.Right (data2 n number end user) s is (dt_ends s.course.loose s.course.strays n number end user)
-    (position (is_named way.Right n) s.connections) on none
+dt_routed h d b n number end user s is two on none = grind (arith, early_ends, any_placed, dt_ends)
 
 ak_routed : {A : Type 0} (k : Option Class) (d : Way) (b : Bool) (credit n number : ℕ) (s : State) →
     class_for d s.course ≡ k → (k ≡ Some Zero → ⊥) →
     ((routed d (acknowledge credit n number) s (route_in k d b (acknowledge credit n number))).told.reach ≡ reach.Everything → ⊥) →
     (routed d (acknowledge credit n number) s (route_in k d b (acknowledge credit n number))).told.place ≡ None → A
-ak_routed None way.Left b credit n number s is two on none = early_ends way.Left s is on
-ak_routed None way.Right b credit n number s is two on none = early_ends way.Right s is on
-ak_routed (Some Zero) d b credit n number s is two on none = absurd (two refl)
-ak_routed (Some Two) way.Left b credit n number s is two on none =
-    any_placed way.Left (acknowledge credit n number) s is (ak_ends s.course.loose s.course.strays credit n number)
-    (position (is_named way.Left n) s.connections) on none
-ak_routed (Some Two) way.Right b credit n number s is two on none =
-    any_placed way.Right (acknowledge credit n number) s is (ak_ends s.course.loose s.course.strays credit n number)
-    (position (is_named way.Right n) s.connections) on none
+ak_routed h d b credit n number s is two on none = grind (arith, early_ends, any_placed, ak_ends)
 
 goes_placed : {A : Type 0} (b : Bool) (d : Way) (v : Value) (s : State) (r : Route) → b ≡ false →
     (((routed d v s r).told.reach ≡ reach.Everything → ⊥) → (routed d v s r).told.place ≡ None → A) →
     ((if b then none_told d NotJudged s else routed d v s r).told.reach ≡ reach.Everything → ⊥) →
     (if b then none_told d NotJudged s else routed d v s r).told.place ≡ None → A
-goes_placed true d v s r h f on none = absurd (cc)
-goes_placed false d v s r h f on none = f on none
+goes_placed h d v s r h2 f on none = grind arith
 
 -- so it has a place, unless all judging ends with it
 pub link_placed : {A : Type 0} (d : Way) (v : Value) (n : ℕ) (s : State) → IsLink v n → is_stopped d s.course ≡ false →
     (class_for d s.course ≡ Some Zero → ⊥) → ((takes d v s).told.reach ≡ reach.Everything → ⊥) → (takes d v s).told.place ≡ None → A
-link_placed d v n s (dt number end user is) goes two on none =
-    let w = data2 n number end user in
-    goes_placed (is_stopped d s.course) d w s (route d s.course w) goes
-    (dt_routed (class_for d s.course) d (has_broken (sides.other d) s.course) n number end user s refl two)
-    (subst (λ (x : Value). (takes d x s).told.reach ≡ reach.Everything → ⊥) is on)
-    (subst (λ (x : Value). (takes d x s).told.place ≡ None) is none)
-link_placed d v n s (ak credit number is) goes two on none =
-    let w = acknowledge credit n number in
-    goes_placed (is_stopped d s.course) d w s (route d s.course w) goes
-    (ak_routed (class_for d s.course) d (has_broken (sides.other d) s.course) credit n number s refl two)
-    (subst (λ (x : Value). (takes d x s).told.reach ≡ reach.Everything → ⊥) is on)
-    (subst (λ (x : Value). (takes d x s).told.place ≡ None) is none)
+link_placed d v n s h goes two on none = search (arith, goes_placed, dt_routed, ak_routed)
 
 -- a CC of left
 cc_ends : (loose strays : Bool) (n : ℕ) (x : Connect) →
     reach_of (Some Two) (if loose then in_doubt (unnamed_by strays (confirm n x)) else unnamed_by strays (confirm n x)) ≡ reach.Everything
-cc_ends true true n x = refl
-cc_ends true false n x = refl
-cc_ends false true n x = refl
-cc_ends false false n x = refl
+cc_ends loose strays n x = grind arith
 
 cc_routed : {A : Type 0} (k : Option Class) (b : Bool) (n : ℕ) (x : Connect) (s : State) →
     class_for way.Left s.course ≡ k → (k ≡ Some Zero → ⊥) →
     ((routed way.Left (confirm n x) s (route_in k way.Left b (confirm n x))).told.reach ≡ reach.Everything → ⊥) →
     (routed way.Left (confirm n x) s (route_in k way.Left b (confirm n x))).told.place ≡ None → A
-cc_routed None b n x s is two on none = early_ends way.Left s is on
-cc_routed (Some Zero) b n x s is two on none = absurd (two refl)
-cc_routed (Some Two) b n x s is two on none =
-    any_placed way.Left (confirm n x) s is (cc_ends s.course.loose s.course.strays n x) (position (is_named way.Left n) s.connections) on
-    none
+cc_routed h b n x s is two on none = grind (arith, early_ends, any_placed, cc_ends)
 
 pub cc_placed : {A : Type 0} (n : ℕ) (x : Connect) (s : State) → is_stopped way.Left s.course ≡ false →
     (class_for way.Left s.course ≡ Some Zero → ⊥) → ((takes way.Left (confirm n x) s).told.reach ≡ reach.Everything → ⊥) →
     (takes way.Left (confirm n x) s).told.place ≡ None → A
-cc_placed n x s goes two on none =
-    goes_placed (is_stopped way.Left s.course) way.Left (confirm n x) s (route way.Left s.course (confirm n x)) goes
-    (cc_routed (class_for way.Left s.course) (has_broken way.Right s.course) n x s refl two) on none
+cc_placed n x s goes two on none = grind (arith, goes_placed, cc_routed)
 
 -- ---- its sender has not closed the connection, if it is right
 
 second_test : (a b : Bool) (more : List Test) →
     is_applied (first_failed ((a, Broke rule.UnknownReference) ∷ (b, Broke rule.Closed) ∷ more)) ≡ true → b ≡ true
-second_test true true more h = refl
-second_test true false more h = absurd (cc)
-second_test false b more h = absurd (cc)
+second_test a b more h = grind arith
 
 abbrev tests_of_acks : Way → Connection → (number credit : ℕ) → List Test
 tests_of_acks d c number credit =
@@ -190,37 +141,20 @@ tests_of_acks d c number credit =
 
 ack_open : (d : Way) (credit n number : ℕ) (course : Rules) (in_use : Bool) (c : Connection) →
     is_applied (found d course in_use c (acknowledge credit n number)) ≡ true → is_open (own d c).phase ≡ true
-ack_open way.Left credit n number course in_use c h =
-    second_test (not (is_silent c.left.phase)) (is_open c.left.phase)
-    (tests_of_acks way.Left c number credit) h
-ack_open way.Right credit n number course in_use c h =
-    second_test (not (is_silent c.right.phase)) (is_open c.right.phase)
-    (tests_of_acks way.Right c number credit) h
+ack_open d credit n number course in_use c h = grind (arith, second_test)
 
 judged_applied : (b : Bool) (f : Finding) → is_applied (if b then f else NotJudged) ≡ true → is_applied f ≡ true
-judged_applied true f h = h
-judged_applied false f h = absurd (cc)
+judged_applied b f h = grind arith
 
 link_open : (d : Way) (v : Value) (n : ℕ) (s : State) (c : Connection) → IsLink v n → is_applied (found_on d s c v) ≡ true →
     is_open (own d c).phase ≡ true
-link_open d v n s c (dt number end user is) h =
-    let w = data2 n number end user in
-    two_open d n number end user s.course (uses_source d s.connections w) c
-    (judged_applied c.is_judged (found d s.course (uses_source d s.connections w) c w)
-    (subst (λ (x : Value). is_applied (found_on d s c x) ≡ true) is h))
-link_open d v n s c (ak credit number is) h =
-    let w = acknowledge credit n number in
-    ack_open d credit n number s.course (uses_source d s.connections w) c
-    (judged_applied c.is_judged (found d s.course (uses_source d s.connections w) c w)
-    (subst (λ (x : Value). is_applied (found_on d s c x) ≡ true) is h))
+link_open d v n s c h h2 = grind (arith, two_open, judged_applied, ack_open)
 
 names_so : (o : Option ℕ) (n : ℕ) → names_it o n ≡ true → o ≡ Some n
-names_so None n h = absurd (cc)
-names_so (Some m) n h = ap (λ (i : ℕ). Some i) (sym (eqb-true n m h))
+names_so o n h = grind (arith, eqb-true)
 
 not_so : (b : Bool) → (b ≡ true → ⊥) → b ≡ false
-not_so true h = absurd (h refl)
-not_so false h = refl
+not_so b h = grind arith
 
 -- ---- units of the end
 
@@ -252,9 +186,7 @@ module _ (d : Direction) (deeds : ℕ → Deeds) (known : Known) (at : ℕ) (v :
         live lost)
 
     link_elsewhere : (i ≡ p → ⊥) → is_for (reference_of (other d) j) v ≡ false
-    link_elsewhere from =
-        not_so (is_for (reference_of (other d) j) v) (λ e. from (same_by first.is_judged refl
-        (names_so (reference_of (other d) j) n (sym (link_for v n (reference_of (other d) j) link) ∙ e))))
+    link_elsewhere from = search (arith, not_so, is_for, same_by, names_so, link_for)
 
   -- a DT or an AK
   pub link_leaves : (n : ℕ) → IsLink v n → IsKept → is_stopped (way_of d) s.course ≡ false →
@@ -337,14 +269,12 @@ own_close_if d deeds known at v rest s t a plain not_for no_cr = record {
 pub own_close : (d : Direction) (deeds : ℕ → Deeds) (known : Known) (at : ℕ) (v : Value) (rest : List Value) (s : State) (t : Sessions) →
     AllStand d deeds known (v ∷ rest) true s t → ((b : Bool) → IsPlain b v) → ((o : Option ℕ) → is_for o v ≡ false) →
     ((x : Connect) → v ≡ request x → ⊥) → Leaves d deeds known known (v ∷ rest) rest true false d at v s t
-own_close d deeds known at v rest s t a plain not_for no_cr =
-    own_close_if d deeds known at v rest s t a (λ c x is. plain x) not_for no_cr
+own_close d deeds known at v rest s t a plain not_for no_cr = grind (arith, own_close_if)
 
 -- ---- units of the other side
 
 pub other_twice : (d : Direction) (j : Joined) → reference_of (other (other d)) j ≡ reference_of d j
-other_twice Left j = refl
-other_twice Right j = refl
+other_twice d j = grind arith
 
 pub rests_on : (d : Direction) (deeds : ℕ → Deeds) (known then_known : Known) (j : Joined) →
     ((r : ℕ) (later : List Part) → reference_of d j ≡ Some r → known r later → then_known r later) → Rests d deeds known j →
@@ -428,5 +358,4 @@ pub other_close : (d : Direction) (deeds : ℕ → Deeds) (known then_known : Kn
     (s : State)
     (t : Sessions) → AllStand d deeds known put b s t → ((x : Bool) → IsPlain x v) → ((x : Connect) → v ≡ request x → ⊥) →
     ((r : ℕ) (later : List Part) → known r later → then_known r later) → Leaves d deeds known then_known put put b b (other d) at v s t
-other_close d deeds known then_known at v put b s t a plain no_cr stays =
-    other_close_if d deeds known then_known at v put b s t a (λ c x is. plain x) no_cr stays
+other_close d deeds known then_known at v put b s t a plain no_cr stays = grind (arith, other_close_if)

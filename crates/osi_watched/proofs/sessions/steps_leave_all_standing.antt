@@ -1,5 +1,6 @@
 -- Steps of an end of class 2 and of a tap leave all its connections standing, as long as nobody breaks a rule.
 -- For the session of each connection of an end.
+use Rattle.std.proofs.Common.{arith}
 use Rattle.std.proofs.Common.{◌≡◌, ◌≢◌, sym, subst, ℕ, ◌^◌, ◌<◌, Bool, true, false, List, [], ◌∷◌, ◌++◌, length, Some}
 use Rattle.std.specs.Prelude.{slice_get}
 use Rattle.osi_tpdu.specs.Value.{Value}
@@ -46,16 +47,12 @@ module _ (d : Direction) (deeds : ℕ → Deeds) (known : Known) where
 
   pub step_begins_other : (old new : Joint) → Steps d begins_other old new → Standing d deeds known old → Standing d deeds known new
   step_begins_other old new step h =
-      subst (Standing d deeds known) (sym step) (record {
-        all = all_begin_other d deeds known old.put old.begun old.course.traffic old.course.sessions h.all;
-      })
+      grind (arith, all_begin_other d deeds known old.put old.begun old.course.traffic old.course.sessions h.all)
 
   -- one that is to pass
   next_stands : (at : ℕ) (unit : Value) (old new : Joint) → Steps d (passes_own at unit) old new → Standing d deeds known old →
       AllStand d deeds known (unit ∷ new.put) true old.course.traffic old.course.sessions
-  next_stands at unit old new step h =
-      subst (λ (l : List Value). AllStand d deeds known l true old.course.traffic old.course.sessions) step.2
-      (subst (λ (b : Bool). AllStand d deeds known old.put b old.course.traffic old.course.sessions) step.3 h.all)
+  next_stands at unit old new step h = grind arith
 
   pub step_passes_own : (at : ℕ) (unit : Value) (old new : Joint) → Steps d (passes_own at unit) old new → IsProper d unit old.course →
       AreUsedApart d old.course.traffic.connections → IsReady d deeds known unit new.put old.course.traffic old.course.sessions →

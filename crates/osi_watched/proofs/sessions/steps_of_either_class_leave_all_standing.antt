@@ -1,9 +1,10 @@
 -- A unit of an end, of either class, leaves all its connections standing at a tap, if it is no break; and nobody of the end is to blame
 -- while they stand. For the session of each connection of an end.
-use Rattle.std.proofs.Common.{◌≡◌, refl, sym, subst, ℕ, Bool, true, false, List, ◌∷◌, Option, Some, None}
+use Rattle.std.proofs.Common.{arith}
+use Rattle.std.proofs.Common.{◌≡◌, sym, subst, ℕ, Bool, true, false, List, ◌∷◌, Option, Some}
 use Rattle.osi_tpdu.specs.Value.{Value}
 use Rattle.osi_class.specs.declared.terms.Class.{Class}
-use Rattle.osi_class.specs.declared.terms.Class.TheVariants.{Two, Zero}
+use Rattle.osi_class.specs.declared.terms.Class.TheVariants.{Zero}
 use Rattle.osi_judge.specs.declared.directions.Direction.{Direction}
 use Rattle.osi_judge.proofs.honest.a_call_is_explained.{AsSent}
 use Rattle.osi_judge.proofs.honest.an_honest_run_stays_in_the_profile.{AsParts}
@@ -44,9 +45,7 @@ abbrev pub InZero : Direction → Passed → Type 0
 InZero d c = class_for (way_of d) c.traffic.course ≡ Some Zero
 
 pub zero_by : {A : Type 0} (k : Option Class) → (k ≡ Some Zero → A) → ((k ≡ Some Zero → ⊥) → A) → A
-zero_by (Some Zero) f g = f refl
-zero_by (Some Two) f g = g (λ h. cc h)
-zero_by None f g = g (λ h. cc h)
+zero_by h f g = grind arith
 
 -- ---- a unit of the end
 
@@ -76,6 +75,4 @@ module _ (known_of : AsSent) (parts : AsParts) (caller : CallerLaw) (called : Ca
     (put : List Value) (b : Bool) (e : End) (courses : (r : ℕ) → Course (calls_from d) r (deeds r) e) where
   -- nobody is to blame while all connections stand
   pub stand_none : (known : Known) (s : State) (t : Sessions) → AllStand d deeds known put b s t → NoneIsToBlame d t
-  stand_none known s t a =
-      let (live, done) = all_blameless known_of parts caller called d deeds known put b e courses s t a in
-      record { live = live; done = done }
+  stand_none known s t a = grind (arith, all_blameless known_of parts caller called d deeds known put b e courses s t a)

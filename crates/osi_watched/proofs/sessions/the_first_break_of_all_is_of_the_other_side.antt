@@ -1,9 +1,10 @@
 -- If in each moment before a break of the other side's transport nobody of this side is to blame, the first break of all, of transport
 -- and of sessions, is of the other side.
 -- For the law that no session of an end is blamed first.
-use Rattle.osi_watched.proofs.Vocabulary.{[], ap, Bool, false, if◌then◌else◌, inl, inr, is_some, List, None, Option, refl, Some, subst, sym}
-use Rattle.osi_watched.proofs.Vocabulary.{true, ℕ, ◌++◌, ◌∙◌, ◌∷◌, ◌≡◌, ◌⊎◌, AllByRecursion, Value, stops_last, Outcome, takes, Finding}
-use Rattle.osi_watched.proofs.Vocabulary.{Broke, Outside, TooMany, Told, other, Direction, Left, Right, marked_past, noted_past}
+use Rattle.std.proofs.Common.{arith}
+use Rattle.osi_watched.proofs.Vocabulary.{[], Bool, false, if◌then◌else◌, inl, inr, is_some, List, None, Option, refl, Some, subst, sym}
+use Rattle.osi_watched.proofs.Vocabulary.{true, ℕ, ◌++◌, ◌∷◌, ◌≡◌, ◌⊎◌, AllByRecursion, Value, stops_last, Outcome, takes, Finding}
+use Rattle.osi_watched.proofs.Vocabulary.{Told, other, Direction, Left, Right, marked_past, noted_past}
 use Rattle.osi_watched.proofs.Vocabulary.{AreSpotless, BreaksFirst, IsBreakOf, IsFirstOf, IsQuiet, IsToBlame, of_session, of_transport}
 use Rattle.osi_watched.proofs.Vocabulary.{Sessions, taken, cause_of, is_break, kind_of, mark_by, marked, marks_of, Moment, moment_of, moved}
 use Rattle.osi_watched.proofs.Vocabulary.{number_at, unit_passes, unread, unread_mark, unread_moment, way_of, Cause, First, Mark}
@@ -56,18 +57,13 @@ broken_more d (x ∷ past) more (inr (c, h)) = inr (c, broken_more d past more h
 -- ---- the first break
 
 other_of : (d e : Direction) → (e ≡ d → ⊥) → e ≡ other d
-other_of Left Left h = absurd (h refl)
-other_of Left Right h = refl
-other_of Right Left h = refl
-other_of Right Right h = absurd (h refl)
+other_of d e h = grind arith
 
 same_mark : (a b : Mark) → Some a ≡ Some b → a ≡ b
 same_mark a b e = cc
 
 quiet_not : {A : Type 0} (o : Option Mark) (k : Mark) → IsQuiet o → o ≡ Some k → is_break k.cause ≡ true → A
-quiet_not None k quiet is bad = let no : None ≡ Some k = is in absurd (cc)
-quiet_not (Some m) k quiet is bad =
-    differ (is_break m.cause) (ap (λ (x : Mark). is_break x.cause) (same_mark m k is) ∙ bad) quiet
+quiet_not h k quiet is bad = grind (arith, differ, same_mark)
 
 of_clean : (d : Direction) (f : First) (m : Moment) → IsClean d m → IsBreakOf f m → f.direction ≡ other d
 of_clean d f m c (of_transport k is bad told) = quiet_not m.mark k c.transport is bad
@@ -76,9 +72,7 @@ of_clean d f m c (of_session place quiet layer side blame) =
     (subst (λ (e : Direction). IsToBlame e blame.connection) same blame.broke))
 
 of_break : (e : Direction) (f : First) (m : Moment) → BreaksTransport e m → IsBreakOf f m → f.direction ≡ e
-of_break e f m b (of_transport k is bad told) =
-    ap (λ (x : First). x.direction) told ∙ ap (λ (x : Mark). x.direction) (same_mark k b.mark (sym is ∙ b.is)) ∙ b.of
-of_break e f m b (of_session place quiet layer side blame) = quiet_not m.mark b.mark quiet b.is b.bad
+of_break e f m b h = grind (arith, same_mark, quiet_not)
 
 no_list : {A : Type 0} (front back : List Moment) (m : Moment) → [] ≡ front ++ m ∷ back → A
 no_list [] back m e = absurd (cc)
@@ -98,11 +92,8 @@ module _ (d : Direction) (f : First) (m : Moment) (back : List Moment) (breaks :
 
   among_broken : (past front : List Moment) → HasBroken d past → past ≡ front ++ m ∷ back → AreSpotless front → f.direction ≡ other d
   among_broken [] front h is before = absurd h
-  among_broken (x ∷ past) [] (inl b) is before =
-      of_break (other d) f m (subst (BreaksTransport (other d)) (sym (head_same x m past back is)) b) breaks
-  among_broken (x ∷ past) (y ∷ front) (inl b) is before =
-      let there = subst (BreaksTransport (other d)) (sym (head_same x y past (front ++ m ∷ back) is)) b in
-      quiet_not y.mark there.mark before.0.transport there.is there.bad
+  among_broken (x ∷ past) [] (inl b) is before = grind (arith, of_break, head_same)
+  among_broken (x ∷ past) (y ∷ front) (inl b) is before = grind (arith, head_same, quiet_not)
   among_broken (x ∷ past) [] (inr (c, h)) is before =
       of_clean d f m (subst (IsClean d) (sym (head_same x m past back is)) c) breaks
   among_broken (x ∷ past) (y ∷ front) (inr (c, h)) is before =
@@ -138,14 +129,12 @@ quiet_unbroken d (m ∷ past) quiet (inl b) = quiet_not m.mark b.mark quiet.0 b.
 quiet_unbroken d (m ∷ past) quiet (inr (c, h)) = quiet_unbroken d past quiet.1 h
 
 pub none_of_ends : (d : Direction) (c : Course) → Ends d c → AreQuiet c.past → NoneIsToBlame d c.sessions
-none_of_ends d c (inl h) quiet = h.nobody
-none_of_ends d c (inr h) quiet = absurd (quiet_unbroken d c.past quiet h)
+none_of_ends d c h quiet = grind (arith, quiet_unbroken)
 
 -- if it is neither of left nor of right, there is none
 pub neither_first : (o : Option First) (past : List Moment) → ((f : First) → BreaksFirst f past → f.direction ≡ Right) →
     ((f : First) → BreaksFirst f past → f.direction ≡ Left) → IsFirstOf o past → o ≡ None
-neither_first None past left right is = refl
-neither_first (Some f) past left right is = let not : Right ≡ Left = sym (left f is) ∙ right f is in absurd (cc)
+neither_first o past left right is = grind arith
 
 -- ---- the moment of a unit
 
@@ -163,18 +152,12 @@ module _ (e : Direction) (at : ℕ) (v : Value) (c : Course) where
   unit_past = noted_past e at v o.told (cause_of o.told.finding) _
 
   quiet_by : (f : Finding) → IsNoBreak f → IsQuiet (mark_by e at v (number_at o.told.place then_joined) (cause_of f))
-  quiet_by TooMany none = refl
-  quiet_by (Broke rule) none = absurd none
-  quiet_by Outside none = absurd none
-  quiet_by _ none = tt
+  quiet_by f none = grind arith
 
   -- it is no break
   pub unit_clean : (d : Direction) → IsNoBreak o.told.finding → NoneIsToBlame d (unit_passes e at v c).sessions → AreClean d c.past →
       AreClean d (unit_passes e at v c).past
-  unit_clean d none blameless h =
-      subst (AreClean d) (sym unit_past)
-      (clean_then d c.past moment h
-      (record { transport = quiet_by o.told.finding none; sessions = subst (NoneIsToBlame d) (unit_joins e at v c) blameless }))
+  unit_clean d none blameless h = grind (arith, unit_past, clean_then, quiet_by, unit_joins)
 
 module _ (d : Direction) (at : ℕ) (v : Value) (c : Course) where
   abbrev told : Told
@@ -191,17 +174,10 @@ module _ (d : Direction) (at : ℕ) (v : Value) (c : Course) where
 
   marked_so : (f : Finding) (k : Cause) → told.finding ≡ f → cause_of f ≡ Some k → is_break k ≡ true →
       BreaksTransport (other d) (moment (other d) at v c)
-  marked_so f k is named bad = record {
-    mark = mark_for k;
-    is = ap (λ (x : Option Cause). mark_by (other d) at v (number_at told.place (then_joined (other d) at v c)) x) (ap cause_of is ∙ named);
-    bad = bad;
-    of = refl;
-  }
+  marked_so f k is named bad = grind arith
 
   breaks_by : (f : Finding) → told.finding ≡ f → (IsNoBreak f → ⊥) → BreaksTransport (other d) (moment (other d) at v c)
-  breaks_by (Broke rule) is broke = marked_so (Broke rule) (cause.Broke rule) is refl refl
-  breaks_by Outside is broke = marked_so Outside cause.Outside is refl refl
-  breaks_by _ is broke = absurd (broke tt)
+  breaks_by f is broke = search (arith, marked_so)
 
   -- it is a break of the other side
   pub unit_breaks : (IsNoBreak told.finding → ⊥) → AreClean d c.past → HasBroken d (unit_passes (other d) at v c).past
@@ -217,32 +193,20 @@ unread_if b e at k c = if b then c else marked (unread_mark e at k) (traffic.ref
 
 -- as long as the other side is judged, it breaks a rule
 goes_so : (e : Direction) (c : Course) → IsJudged c → is_some (marks_of e c).halted ≡ false
-goes_so Left c j = ap is_some j.left_goes
-goes_so Right c j = ap is_some j.right_goes
+goes_so e c j = grind arith
 
 pub unread_breaks_so : (d : Direction) (at : ℕ) (k : Cause) (c : Course) → is_break k ≡ true → IsJudged c → AreClean d c.past →
     HasBroken d (unread (other d) at k c).past
-unread_breaks_so d at k c bad j h =
-    subst (λ (b : Bool). HasBroken d (unread_if b (other d) at k c).past) (sym (goes_so (other d) c j))
-    (subst (HasBroken d) (sym (marked_past (unread_mark (other d) at k) (traffic.refused_reach (way_of (other d)) c.traffic) _))
-    (broken_then d c.past (unread_moment (other d) at k c.sessions) h
-    (record { mark = unread_mark (other d) at k; is = refl; bad = bad; of = refl })))
+unread_breaks_so d at k c bad j h = grind (arith, goes_so, marked_past, broken_then)
 
 -- ---- what stays so, whatever passes
 
 unread_broken : (b : Bool) (d e : Direction) (at : ℕ) (k : Cause) (c : Course) → HasBroken d c.past →
     HasBroken d (unread_if b e at k c).past
-unread_broken true d e at k c h = h
-unread_broken false d e at k c h =
-    subst (HasBroken d) (sym (marked_past (unread_mark e at k) (traffic.refused_reach (way_of e) c.traffic) _))
-    (broken_more d c.past (unread_moment e at k c.sessions ∷ []) h)
+unread_broken b d e at k c h = grind (arith, marked_past, broken_more)
 
 pub broken_claim : (d : Direction) → IsClaim (λ c. HasBroken d c.past)
-broken_claim d = record {
-  begins = λ e c h. h;
-  passes = λ e at v c h. subst (HasBroken d) (sym (unit_past e at v c)) (broken_more d c.past (moment e at v c ∷ []) h);
-  bad = λ e at k c h. unread_broken (is_some (marks_of e c).halted) d e at k c h;
-}
+broken_claim d = grind (arith, unit_past, broken_more, unread_broken)
 
 -- nothing more is judged, nobody of this side is to blame, and nobody ever was
 pub record IsSilent (d : Direction) (c : Course) : Type 0 where
@@ -250,8 +214,7 @@ pub record IsSilent (d : Direction) (c : Course) : Type 0 where
   pub clean : AreClean d c.past
 
 stopped_so : (e : Direction) (c : Course) → IsOver c → traffic.is_stopped (way_of e) c.traffic.course ≡ true
-stopped_so Left c over = over.left
-stopped_so Right c over = over.right
+stopped_so e c over = grind arith
 
 pub silent_claim : (d : Direction) → IsClaim (IsSilent d)
 silent_claim d = record {

@@ -1,4 +1,5 @@
 -- The units of a packet before one of them are units of another packet. For what passes before a break amid a packet.
+use Rattle.std.proofs.Common.{arith}
 use Rattle.osi_watched.proofs.Vocabulary.{[], List, Ok, refl, subst, ℕ, ◌++◌, ◌∷◌, ◌≡◌, AllByRecursion, octets_append, octets_left}
 use Rattle.osi_watched.proofs.Vocabulary.{octets_right, IsOctets, units_found, units_of, Value}
 use Rattle.osi_tpdu.proofs.the_units_of_a_packet.{units_only}
@@ -13,12 +14,7 @@ pub record LeadsOff (units : List Value) : Type 0 where
 
 leads_by : (v : Value) (front : List Value) (x : Value) (back : List Value) (packet : List ℕ) → AreUnits ((v ∷ front) ++ x ∷ back) packet →
     IsOctets packet → LeadsOff (v ∷ front)
-leads_by v [] x back packet (may, a, b, is, spells, more) octets = record {
-  packet = a;
-  octets = octets_left a b (subst IsOctets is octets);
-  are = spells;
-  followed = (may, tt);
-}
+leads_by v [] x back packet (may, a, b, is, spells, more) octets = search (arith, octets_left)
 leads_by v (w ∷ front) x back packet (may, a, b, is, spells, more) octets =
     let rest = leads_by w front x back b more (octets_right a b (subst IsOctets is octets)) in
     record {

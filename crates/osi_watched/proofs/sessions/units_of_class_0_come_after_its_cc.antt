@@ -1,5 +1,6 @@
 -- What comes to a calling end that gets class 0 is in order: before the CC nothing for a connection, and no CC after it. So the end takes
 -- no DT before its connection opens. For the session of the connection of an end in class 0.
+use Rattle.std.proofs.Common.{arith}
 use Rattle.osi_watched.proofs.Vocabulary.{[], ap, append_assoc, List, refl, Some, subst, sym, true, ℕ, ◌++◌, ◌∙◌, ◌∷◌, ◌≡◌, append-nil}
 use Rattle.osi_watched.proofs.Vocabulary.{AllByRecursion, acknowledge, confirm, Connect, data0, data2, disconnect, disconnected, error}
 use Rattle.osi_watched.proofs.Vocabulary.{request, Value, early, Time as Stage, all_units_more, Opens, all_units, Marked, picked_join}
@@ -82,8 +83,7 @@ quiet_cc _ n x h = absurd h.0
 
 pub quiet_none : (o : ℕ) (vs : List Value) → AllByRecursion IsQuiet vs → waiting_for (Some o) vs ≡ []
 quiet_none o [] h = refl
-quiet_none o (disconnect m source reason user ∷ vs) h =
-    picked_rest (is_for (Some o)) (disconnect m source reason user) vs refl ∙ quiet_none o vs h.1
+quiet_none o (disconnect m source reason user ∷ vs) h = grind (arith, picked_rest, is_for, quiet_none o vs h.1)
 quiet_none o (disconnected m source ∷ vs) h = picked_rest (is_for (Some o)) (disconnected m source) vs refl ∙ quiet_none o vs h.1
 quiet_none o (error m cause ∷ vs) h = picked_rest (is_for (Some o)) (error m cause) vs refl ∙ quiet_none o vs h.1
 quiet_none o _ h = absurd h.0
@@ -94,12 +94,9 @@ pub before_cc : (r : ℕ) (front rest : List Value) (n : ℕ) (x : Connect) → 
 before_cc r [] rest n x h = refl
 before_cc r (confirm m y ∷ front) rest n x h = absurd (one_of IsLater front rest (confirm n x) h)
 before_cc r (data0 end user ∷ front) rest n x h = absurd (one_of IsLater front rest (confirm n x) h)
-before_cc r (disconnect m source reason user ∷ front) rest n x h =
-    picked_rest (is_for (Some r)) (disconnect m source reason user) front refl ∙ before_cc r front rest n x h
-before_cc r (disconnected m source ∷ front) rest n x h =
-    picked_rest (is_for (Some r)) (disconnected m source) front refl ∙ before_cc r front rest n x h
-before_cc r (error m cause ∷ front) rest n x h =
-    picked_rest (is_for (Some r)) (error m cause) front refl ∙ before_cc r front rest n x h
+before_cc r (disconnect m source reason user ∷ front) rest n x h = grind (arith, picked_rest, is_for, before_cc r front rest n x h)
+before_cc r (disconnected m source ∷ front) rest n x h = grind (arith, picked_rest, is_for, before_cc r front rest n x h)
+before_cc r (error m cause ∷ front) rest n x h = grind (arith, picked_rest, is_for, before_cc r front rest n x h)
 before_cc r _ rest n x h = absurd h
 
 -- ---- a turn

@@ -1,21 +1,19 @@
 -- The octets of an unfinished TSDU that the link of an open connection holds are those that are left over of the parts it took. So a tap
 -- has joined the same, if nothing is in flight to the end.
 -- For a TSDU of the other side that becomes too long.
+use Rattle.std.proofs.Common.{arith}
 use Rattle.osi_watched.proofs.Vocabulary.{[], ap, Bool, false, List, None, Option, refl, Some, subst, sym, true, ℕ, ◌++◌, ◌∙◌}
-use Rattle.osi_watched.proofs.Vocabulary.{◌∷◌, ◌≡◌, append-nil, append_assoc, eq-eqb, AllByRecursion, slice_get, Value, data0}
-use Rattle.osi_watched.proofs.Vocabulary.{data2, parts_in, unit_parts, Part, End, Standing, value_at, Live, linked}
+use Rattle.osi_watched.proofs.Vocabulary.{◌∷◌, ◌≡◌, append-nil, append_assoc, eq-eqb, AllByRecursion, slice_get, Value}
+use Rattle.osi_watched.proofs.Vocabulary.{parts_in, unit_parts, Part, End, Standing, value_at, Live, linked}
 use Rattle.osi_watched.proofs.Vocabulary.{Traffic as State, Connection, is_open, own, Direction, other, Deeds, Joined, Sessions}
 use Rattle.osi_watched.proofs.Vocabulary.{reference_of}
-use Rattle.osi_watched.proofs.Vocabulary.{spoken, way_of, calls_from, left_over, parts_of, picked_first, picked_rest}
+use Rattle.osi_watched.proofs.Vocabulary.{spoken, way_of, calls_from, left_over, picked_first, picked_rest}
 use Rattle.std.proofs.Common.{if◌then◌else◌}
 use Rattle.std.proofs.lemmas.List.{append_cancel_left}
 use Rattle.osi_class.proofs.bounds.what_a_call_preserves.{takes_run}
 use Rattle.osi_class.proofs.bounds.what_calls_take.{all as all_taken}
 use Rattle.osi_class.specs.Runs.{tsdus_out}
 use Rattle.osi_class.specs.Tsdus.{tsdus_after}
-use Rattle.osi_class.specs.declared.terms.Class.{Class}
-use Rattle.osi_class.specs.declared.terms.Class.TheVariants.{Two, Zero}
-use Rattle.osi_carrier.specs.Negotiation.{opened_link}
 use Rattle.osi_carrier.specs.State.{asked}
 use Rattle.osi_honest.specs.Courses.{AreCalls, Course, Gone, IsFreshLink, IsShut, awaited, is_gone, unknown}
 use Rattle.osi_honest.specs.Courses.Course.{is_open as course_open}
@@ -32,11 +30,7 @@ use Rattle.osi_watched.proofs.sessions.what_stands_of_a_connection.{Known, Stand
 -- ---- a link
 
 fresh_whole : (first : Standing) → IsFreshLink first → (first.ends.joining.whole ≡ []) × (first.ends.joining.begun ≡ [])
-fresh_whole first f = by f.class f.is
-  where
-    by : (k : Class) → first ≡ opened_link k f.size f.local f.credit → (first.ends.joining.whole ≡ []) × (first.ends.joining.begun ≡ [])
-    by Zero is = (ap (λ (s : Standing). s.ends.joining.whole) is, ap (λ (s : Standing). s.ends.joining.begun) is)
-    by Two is = (ap (λ (s : Standing). s.ends.joining.whole) is, ap (λ (s : Standing). s.ends.joining.begun) is)
+fresh_whole first f = grind arith
 
 pub begun_left : (peer : ℕ) (deeds : Deeds) (c : AreCalls peer deeds) → c.link.ends.joining.begun ≡ left_over [] (parts_in deeds.calls)
 begun_left peer deeds c =
@@ -61,17 +55,10 @@ begun_left peer deeds c =
 -- ---- no part is in flight
 
 followed_parts : (v : Value) → MayBeFollowed v → unit_parts v ≡ []
-followed_parts (data0 end user) h = absurd (cc h)
-followed_parts (data2 n number end user) h = absurd (cc h)
-followed_parts v h = refl
+followed_parts v h = grind arith
 
 one_none : (r : ℕ) (v : Value) → MayBeFollowed v → in_flight r (v ∷ []) ≡ []
-one_none r v h = by (is_for (Some r) v) refl
-  where
-    by : (b : Bool) → is_for (Some r) v ≡ b → in_flight r (v ∷ []) ≡ []
-    by true e = ap (λ (l : List Value). parts_of l) (picked_first (is_for (Some r)) v [] e)
-        ∙ ap (λ (l : List Part). l ++ []) (followed_parts v h)
-    by false e = ap (λ (l : List Value). parts_of l) (picked_rest (is_for (Some r)) v [] e)
+one_none r v h = grind (arith, is_for, in_flight, picked_first, followed_parts, picked_rest)
 
 pub none_in_flight : (r : ℕ) (units : List Value) → AllByRecursion MayBeFollowed units → in_flight r units ≡ []
 none_in_flight r [] h = refl

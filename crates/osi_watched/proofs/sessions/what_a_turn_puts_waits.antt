@@ -1,7 +1,8 @@
 -- What an end puts in a turn for a connection is those of the units of the turn that are for it, if the marks of the units agree.
 -- For all connections of an end and a tap.
-use Rattle.osi_watched.proofs.Vocabulary.{[], ap, Bool, false, if◌then◌else◌, List, Option, refl, sym, true, ℕ, ◌++◌, ◌==◌, ◌∙◌, ◌∷◌, ◌≡◌}
-use Rattle.osi_watched.proofs.Vocabulary.{AllByRecursion, Value, all_units, Marked, units_at, picked_first, picked_rest}
+use Rattle.std.proofs.Common.{arith}
+use Rattle.osi_watched.proofs.Vocabulary.{[], List, Option, refl, ℕ, ◌==◌, ◌∷◌, ◌≡◌}
+use Rattle.osi_watched.proofs.Vocabulary.{AllByRecursion, all_units, Marked, units_at, picked_first, picked_rest}
 use Rattle.osi_watched.proofs.sessions.what_stands_of_a_connection.{is_for, waiting_for}
 
 -- a unit has the mark of the connection exactly if it is for the reference that the other side gave it
@@ -10,13 +11,4 @@ Agree r o units = AllByRecursion (λ m. (m.0 == r) ≡ is_for o m.1) units
 
 pub marks_wait : (r : ℕ) (o : Option ℕ) (units : List Marked) → Agree r o units → units_at r units ≡ waiting_for o (all_units units)
 marks_wait r o [] h = refl
-marks_wait r o (m ∷ units) h = by (m.0 == r) refl (marks_wait r o units h.1)
-  where
-    by : (b : Bool) → (m.0 == r) ≡ b → units_at r units ≡ waiting_for o (all_units units) →
-        units_at r (m ∷ units) ≡ waiting_for o (all_units (m ∷ units))
-    by true e rest =
-        ap (λ (x : Bool). (if x then m.1 ∷ [] else []) ++ units_at r units) e ∙ ap (λ (l : List Value). m.1 ∷ l) rest
-        ∙ sym (picked_first (is_for o) m.1 (all_units units) (sym h.0 ∙ e))
-    by false e rest =
-        ap (λ (x : Bool). (if x then m.1 ∷ [] else []) ++ units_at r units) e ∙ rest
-        ∙ sym (picked_rest (is_for o) m.1 (all_units units) (sym h.0 ∙ e))
+marks_wait r o (m ∷ units) h = grind (arith, waiting_for, picked_first, is_for, picked_rest, marks_wait r o units h.1)

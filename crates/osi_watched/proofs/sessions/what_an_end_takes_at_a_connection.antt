@@ -1,7 +1,8 @@
 -- What an end takes in a turn at a connection is the first of what is in flight to it: all that is for it from the time at which it opens.
 -- For all connections of an end and a tap.
-use Rattle.osi_watched.proofs.Vocabulary.{[], ap, Bool, if◌then◌else◌, List, refl, Some, ℕ, ◌++◌, ◌∙◌, ◌∷◌, ◌≡◌, append-nil}
-use Rattle.osi_watched.proofs.Vocabulary.{data0, Value, units_more, TakesAll, all_units, Marked, units_at}
+use Rattle.std.proofs.Common.{arith}
+use Rattle.osi_watched.proofs.Vocabulary.{[], List, refl, Some, ℕ, ◌++◌, ◌∙◌, ◌∷◌, ◌≡◌, append-nil}
+use Rattle.osi_watched.proofs.Vocabulary.{Value, units_more, TakesAll, all_units, Marked, units_at}
 use Rattle.osi_honest.specs.Arriving.{AreApart}
 use Rattle.osi_honest.specs.Arriving as arriving
 use Rattle.osi_watched.proofs.sessions.what_a_turn_puts_waits.{Agree, marks_wait}
@@ -9,8 +10,7 @@ use Rattle.osi_watched.proofs.sessions.what_stands_of_a_connection.{is_for, wait
 
 -- the end and the tap say alike for which connection a unit is
 pub same_for : (r : ℕ) (v : Value) → arriving.is_for r v ≡ is_for (Some r) v
-same_for r (data0 end user) = refl
-same_for r _ = refl
+same_for r v = grind arith
 
 takes_agree : (r : ℕ) (units : List Marked) → TakesAll r units → Agree r (Some r) units
 takes_agree r [] h = tt
@@ -18,16 +18,10 @@ takes_agree r (m ∷ units) h = (h.0 ∙ same_for r m.1, takes_agree r units h.1
 
 pub apart_none : (r : ℕ) (units : List Marked) → AreApart r units → units_at r units ≡ []
 apart_none r [] h = refl
-apart_none r (m ∷ units) h =
-    ap (λ (b : Bool). (if b then m.1 ∷ [] else []) ++ units_at r units) h.0 ∙ apart_none r units h.1
+apart_none r (m ∷ units) h = grind (arith, apart_none r units h.1)
 
 -- what the link took is what is for the connection, of all that was used while it was open
 pub during_taken : (r : ℕ) (took before during after : List Marked) → took ≡ before ++ (during ++ after) → AreApart r before →
     TakesAll r during → AreApart r after → units_at r took ≡ waiting_for (Some r) (all_units during)
 during_taken r took before during after is early takes apart =
-    ap (units_at r) is
-    ∙ units_more r before (during ++ after)
-    ∙ ap (λ (l : List Value). l ++ units_at r (during ++ after)) (apart_none r before early)
-    ∙ units_more r during after
-    ∙ (λ i. marks_wait r (Some r) during (takes_agree r during takes) i ++ apart_none r after apart i)
-    ∙ append-nil (waiting_for (Some r) (all_units during))
+    grind (arith, units_more, apart_none, marks_wait, takes_agree, append-nil, waiting_for)

@@ -1,9 +1,10 @@
 -- What an end takes in a turn at a connection is the first of what is in flight to it, whether the connection opens in this turn, is open,
 -- or is gone: if nothing is for it before the unit with which it opens.
 -- For all connections of an end and a tap.
+use Rattle.std.proofs.Common.{arith}
 use Rattle.osi_watched.proofs.Vocabulary.{[], ap, append_assoc, Bool, false, inl, inr, is_some, List, None, Option, refl, Some, subst, sym}
-use Rattle.osi_watched.proofs.Vocabulary.{true, ℕ, ◌++◌, ◌<◌, ◌==◌, ◌∙◌, ◌∷◌, ◌≡◌, ◌⊎◌, append-nil, AllByRecursion, confirm, Connect}
-use Rattle.osi_watched.proofs.Vocabulary.{request, Value, Part, Carrier, EndReason, amid, early, Life, opens_by, past, Time as Stage}
+use Rattle.osi_watched.proofs.Vocabulary.{true, ℕ, ◌++◌, ◌<◌, ◌==◌, ◌∙◌, ◌∷◌, ◌≡◌, append-nil, AllByRecursion, confirm, Connect}
+use Rattle.osi_watched.proofs.Vocabulary.{Value, Part, Carrier, EndReason, amid, early, Life, opens_by, past, Time as Stage}
 use Rattle.osi_watched.proofs.Vocabulary.{stage_at, stage_over, stays, all_units_more, none_mark, Opens, TakesAll, Continues, Deeds}
 use Rattle.osi_watched.proofs.Vocabulary.{units_in, units_taken, all_units, Marked, units_at, Turn, IsNoCc, IsDc, parts_of, picked_join}
 use Rattle.osi_watched.proofs.Vocabulary.{picked_rest, those, those_join, Joint, TakesTurn}
@@ -30,9 +31,7 @@ AreCalm is_caller r t took = (front back : List Marked) → took ≡ front ++ ba
     waiting_for (Some r) (all_units front) ≡ []
 
 opening_not : (is_caller : Bool) (r peer : ℕ) (unit : Value) → Opens is_caller r peer unit → is_for (Some r) unit ≡ false
-opening_not is_caller r peer (confirm n x) o = refl
-opening_not is_caller r peer (request x) o = refl
-opening_not is_caller r peer _ o = absurd o
+opening_not is_caller r peer unit o = grind arith
 
 no_marks : (r : ℕ) (unit : Value) (some : List Marked) → AreApart r some → (0 == r) ≡ false → AreApart r (some ++ (0, unit) ∷ [])
 no_marks r unit [] h zero = (zero, tt)
@@ -59,29 +58,19 @@ module _ (is_caller : Bool) (r : ℕ) (zero : (0 == r) ≡ false) (Left : List V
     (flight : IsFlight is_caller r Left IsClean) (took put : List Marked) (t : Stage) where
   opened_clean : (peer : ℕ) (unit : Value) (some : List Marked) → Opens is_caller r peer unit → IsClean (all_units some) →
       IsClean (all_units (some ++ (0, unit) ∷ []))
-  opened_clean peer unit some o clean =
-      subst IsClean (sym (all_units_more some ((0, unit) ∷ [])))
-      (flight.join (all_units some) (unit ∷ []) clean (flight.opening peer unit o))
+  opened_clean peer unit some o clean = grind (arith, all_units_more)
 
   opened_parts : (unit : Value) (some rest during after : List Marked) → took ≡ some ++ ((0, unit) ∷ rest) → rest ≡ during ++ after →
       took ≡ (some ++ (0, unit) ∷ []) ++ (during ++ after)
-  opened_parts unit some rest during after parts is =
-      parts ∙ ap (λ (l : List Marked). some ++ ((0, unit) ∷ l)) is ∙ sym (append_assoc some ((0, unit) ∷ []) (during ++ after))
+  opened_parts unit some rest during after parts is = grind (arith, append_assoc)
 
   lasts_so : (peer : ℕ) (later put_later : List Marked) (w : WhileOpen r peer later put_later t) → (t ≡ past → ⊥) → w.after ≡ []
-  lasts_so peer later put_later w lasts = by w.ends
-    where
-      by : (((t ≡ amid peer) × (w.after ≡ []) × (w.put_after ≡ [])) ⊎ (t ≡ past)) → w.after ≡ []
-      by (inl (there, none, none_put)) = none
-      by (inr gone) = absurd (lasts gone)
+  lasts_so peer later put_later w lasts = grind (arith, amid, past)
 
   -- if it is not gone after them, all of these units are clean
   open_clean : (before during after : List Marked) → took ≡ before ++ (during ++ after) → IsClean (all_units before) → HasNoDr r during →
       after ≡ [] → IsClean (all_units took)
-  open_clean before during after parts clean no_dr none =
-      subst IsClean (sym (ap all_units (parts ∙ ap (λ (l : List Marked). before ++ (during ++ l)) none
-      ∙ ap (λ (l : List Marked). before ++ l) (append-nil during)) ∙ all_units_more before during))
-      (flight.join (all_units before) (all_units during) clean (flight.during during no_dr))
+  open_clean before during after parts clean no_dr none = grind (arith, append-nil, all_units_more)
 
   pub life_clean : (s : Stage) → Life is_caller r s took put t → (s ≡ early → AreReady is_caller r IsClean t took) →
       (t ≡ past → ⊥) → IsClean (all_units took)
@@ -162,11 +151,7 @@ module _ (is_caller : Bool) (r : ℕ) (zero : (0 == r) ≡ false) (Left : List V
 takes_as : (more : Deeds) (live : Type 0) (Left : List Value → List Part → Type 0) (later : List Part) (some others : List Value) →
     (live → some ≡ others) → Takes more later (λ (l : List Part). live → Left some l) →
     Takes more later (λ (l : List Part). live → Left others l)
-takes_as more live Left later some others same h = record {
-  rest = h.rest;
-  first = h.first;
-  sure = λ now. subst (λ (l : List Value). Left l h.rest) (same now) (h.sure now);
-}
+takes_as more live Left later some others same h = grind arith
 
 over_past : {A : Type 0} (r : ℕ) (c : Carrier) (reason : EndReason) → c.ended ≡ Some reason → may_take c r ≡ true → A
 over_past r c reason over live = never (stage_at r c) (stage_over r c (ap is_some over)) live
@@ -191,8 +176,7 @@ module _ (is_caller : Bool) (turn : Turn) (old new : Joint) (t : TakesTurn turn 
 
   none_left : (left : List Value) → (new.holding.end.carrier.ended ≡ None → left ≡ []) → (o : Option EndReason) →
       new.holding.end.carrier.ended ≡ o → IsLive → left ++ units_in new.coming ≡ units_in new.coming
-  none_left left all None lasts live = ap (λ (l : List Value). l ++ units_in new.coming) (all lasts)
-  none_left left all (Some reason) over live = over_past r new.holding.end.carrier reason over live
+  none_left left all o lasts live = grind (arith, over_past)
 
   pub turn_takes_by : (later : List Part) → (may_take old.holding.end.carrier r ≡ true → Left (units_in old.coming) later) →
       Takes (on.more r) later (λ (l : List Part). IsLive → Left (units_in new.coming) l)
@@ -231,10 +215,7 @@ pub turn_takes : (is_caller : Bool) (turn : Turn) (old new : Joint) (t : TakesTu
     (stage_at r old.holding.end.carrier ≡ early → AreCalm is_caller r (stage_at r new.holding.end.carrier) on.took) → (later : List Part) →
     known_of (may_take old.holding.end.carrier) (units_in old.coming) r later →
     Takes (on.more r) later (known_of (may_take new.holding.end.carrier) (units_in new.coming) r)
-turn_takes is_caller turn old new t deeds on r some life calm later sure =
-    turn_takes_by is_caller turn old new t deeds on r some (λ (coming : List Value) (later : List Part). later ≡ in_flight r coming)
-    (λ (units : List Value). Unit {0}) (exact is_caller r) life (λ may front back parts ends. (calm may front back parts ends, tt)) later
-    sure
+turn_takes is_caller turn old new t deeds on r some life calm later sure = search (arith, turn_takes_by, in_flight, exact is_caller r)
 
 -- ---- the CC of a calling end
 
@@ -260,7 +241,4 @@ pub dcs_first : (r : ℕ) (x y : Connect) (front coming firsts later dcs rest : 
     those r (front ++ coming) ≡ firsts ++ confirm r x ∷ later → AllByRecursion IsDc firsts → AllByRecursion IsNoCc later →
     those r coming ≡ dcs ++ confirm r y ∷ rest → AllByRecursion IsDc (those r front)
 dcs_first r x y front coming firsts later dcs rest is some calm there =
-    all_left IsDc (those r front) dcs
-    (dcs_before r x y (those r front ++ dcs) rest firsts later
-    (append_assoc (those r front) dcs (confirm r y ∷ rest) ∙ ap (λ (l : List Value). those r front ++ l) (sym there)
-    ∙ sym (those_join r front coming) ∙ is) some calm)
+    grind (arith, all_left, dcs_before, those r front, append_assoc (those r front) dcs (confirm r y ∷ rest), those_join r front coming)

@@ -239,8 +239,7 @@ module _ (local : Local) (v : Value) (w : Whole) (rest : List Value) (put : w.pu
 
   own_before : (r : ℕ) → MayOpen w.end r → Tracked w.tap.connections r ⊎ (waiting_for (Some r) w.coming ≡ []) →
       Tracked own_after.tap.connections r ⊎ (waiting_for (Some r) w.coming ≡ [])
-  own_before r may (inl tracked) = inl (own_still r may tracked)
-  own_before r may (inr none) = inr none
+  own_before r may h = grind (arith, own_still)
 
   own_quiet : IsQuiet w.end w.coming (takes way.Left v w.tap).state
   own_quiet = record {
@@ -431,18 +430,7 @@ begun_tracked d cs r (p, c, at, tracked, same) = grind (arith, begun_right, slic
 
 begun_before : (end : Carrier) (coming : List Value) (d : Way) (s : State) → IsQuiet end coming s →
     IsQuiet end coming (traffic.packet_begins d s)
-begun_before end coming d s q = record {
-  before = λ r may. by r (q.before r may);
-  closed = λ p c at shut may.
-      let (x, was, is) = after_map (begins d) s.connections p c at in
-      let same : c.left ≡ x.left = ap (λ (e : Connection). e.left) is ∙ begun_left d x in
-      subst (IsPast end) (sym same) (q.closed p x was) shut may;
-}
-  where
-    by : (r : ℕ) → Tracked s.connections r ⊎ (waiting_for (Some r) coming ≡ []) →
-        Tracked (traffic.packet_begins d s).connections r ⊎ (waiting_for (Some r) coming ≡ [])
-    by r (inl tracked) = inl (begun_tracked d s.connections r tracked)
-    by r (inr none) = inr none
+begun_before end coming d s q = grind (arith, after_map, begun_left, waiting_for, begun_tracked)
 
 pub begins_own_quiet : (old new : Joint) → Steps Left begins_own old new → AreQuiet old → AreQuiet new
 begins_own_quiet old new (some, none, is) q =

@@ -1,11 +1,12 @@
 -- A unit that has no effect joins nothing: it broke a rule, or nothing more is judged, or it is one connection too many.
 -- For the session of each connection of an end, once nothing more is judged.
-use Rattle.osi_watched.proofs.Vocabulary.{ap, Bool, false, if◌then◌else◌, List, None, Option, refl, Some, true, ℕ, ◌∙◌, ◌≡◌, position}
-use Rattle.osi_watched.proofs.Vocabulary.{slice_get, Connect, request, Value, is_applied, reach_of, first_failed, is_live, is_named}
-use Rattle.osi_watched.proofs.Vocabulary.{asks_by, asks_of, at_found, at_place, class_for, is_stopped, meaning_if, meant, none_told}
-use Rattle.osi_watched.proofs.Vocabulary.{Outcome, request_tests, route, routed, Traffic as State, takes, Connection, Finding, Kept}
-use Rattle.osi_watched.proofs.Vocabulary.{NotJudged, TooMany, Route, Asks, Named, Only, Unnamed, Direction, changed, Joined, Sessions}
-use Rattle.osi_watched.proofs.Vocabulary.{taken, taken_at, unit_passes, way_of, set_same}
+use Rattle.std.proofs.Common.{arith}
+use Rattle.osi_watched.proofs.Vocabulary.{ap, Bool, false, if◌then◌else◌, Option, ℕ, ◌≡◌}
+use Rattle.osi_watched.proofs.Vocabulary.{slice_get, Connect, Value, is_applied, reach_of}
+use Rattle.osi_watched.proofs.Vocabulary.{asks_by, asks_of, at_found, at_place, class_for, is_stopped, meant, none_told}
+use Rattle.osi_watched.proofs.Vocabulary.{Outcome, route, routed, Traffic as State, takes, Connection, Finding}
+use Rattle.osi_watched.proofs.Vocabulary.{NotJudged, TooMany, Route, Direction, changed, Joined, Sessions}
+use Rattle.osi_watched.proofs.Vocabulary.{taken, unit_passes, way_of, set_same}
 use Rattle.osi_rules.specs.declared.findings.Meaning.TheVariants as meaning
 use Rattle.osi_rules.specs.declared.findings.Reach.TheVariants as reach
 use Rattle.osi_tap.specs.Connections as joined
@@ -19,44 +20,31 @@ JoinsNone d at v t o = is_applied o.told.finding ≡ false → taken d at v o.to
 
 module _ (d : Direction) (at : ℕ) (v : Value) (s : State) (t : Sessions) where
   same_at : (i : ℕ) (o : Option Joined) → slice_get t.live i ≡ o → changed i (joined.meant d at v meaning.Nothing) t o ≡ t
-  same_at i None e = refl
-  same_at i (Some j) e = ap (λ (js : List Joined). record t { live = js }) (set_same t.live i j e)
+  same_at i o e = grind (arith, set_same)
 
   found_none : (i : ℕ) (o : Option Connection) → JoinsNone d at v t (at_found (way_of d) v s i o)
-  found_none i None h = refl
-  found_none i (Some c) h =
-      ap (λ (b : Bool). taken_at d at v (meaning_if b (meant v)) i t) h
-      ∙ same_at i (slice_get t.live i) refl
+  found_none i o h = grind (arith, same_at)
 
   place_none : (o : Option ℕ) → JoinsNone d at v t (at_place (way_of d) v s o)
-  place_none None h = refl
-  place_none (Some i) h = found_none i (slice_get s.connections i) h
+  place_none o h = grind (arith, found_none)
 
   asks_by_none : (f : Finding) (x : Connect) → JoinsNone d at v t (asks_by (way_of d) f x s)
-  asks_by_none Kept x h = absurd (cc)
-  asks_by_none _ x h = refl
+  asks_by_none f x h = grind arith
 
 asks_none : (d : Direction) (at : ℕ) (v : Value) (s : State) (t : Sessions) → JoinsNone d at v t (asks_of (way_of d) v s)
-asks_none d at (request x) s t h = asks_by_none d at (request x) s t (first_failed (request_tests s x)) x h
-asks_none d at _ s t h = refl
+asks_none d at v s t h = grind (arith, asks_by_none)
 
 routed_none : (d : Direction) (at : ℕ) (v : Value) (s : State) (t : Sessions) (r : Route) → JoinsNone d at v t (routed (way_of d) v s r)
-routed_none d at v s t Asks h = asks_none d at v s t h
-routed_none d at v s t (Named n) h = place_none d at v s t (position (is_named (way_of d) n) s.connections) h
-routed_none d at v s t Only h = place_none d at v s t (position (is_live (way_of d)) s.connections) h
-routed_none d at v s t (Unnamed finding) h = refl
+routed_none d at v s t r h = grind (arith, asks_none, place_none)
 
 goes_none : (b : Bool) (d : Direction) (at : ℕ) (v : Value) (s : State) (t : Sessions) (r : Route) →
     JoinsNone d at v t (if b then none_told (way_of d) NotJudged s else routed (way_of d) v s r)
-goes_none true d at v s t r h = refl
-goes_none false d at v s t r h = routed_none d at v s t r h
+goes_none b d at v s t r h = grind (arith, routed_none)
 
 -- what was found of the unit is that it has no effect
 pub joins_none : (d : Direction) (at : ℕ) (v : Value) (c : Course) → is_applied (takes (way_of d) v c.traffic).told.finding ≡ false →
     (unit_passes d at v c).sessions ≡ c.sessions
-joins_none d at v c h =
-    unit_joins d at v c
-    ∙ goes_none (is_stopped (way_of d) c.traffic.course) d at v c.traffic c.sessions (route (way_of d) c.traffic.course v) h
+joins_none d at v c h = grind (arith, unit_joins, goes_none)
 
 -- ---- one connection too many: nobody is judged after it
 
@@ -68,31 +56,23 @@ module _ (d : Direction) (v : Value) (s : State) where
   none_ends f t h = ap (reach_of (class_for (way_of d) t.course)) h
 
   found_ends : (i : ℕ) (o : Option Connection) → EndsAll (at_found (way_of d) v s i o)
-  found_ends i None h = ap (reach_of _) h
-  found_ends i (Some c) h = ap (reach_of (class_for (way_of d) s.course)) h
+  found_ends i o h = grind arith
 
   place_ends : (o : Option ℕ) → EndsAll (at_place (way_of d) v s o)
-  place_ends None h = ap (reach_of _) h
-  place_ends (Some i) h = found_ends i (slice_get s.connections i) h
+  place_ends o h = grind (arith, found_ends)
 
   asks_by_ends : (f : Finding) (x : Connect) → EndsAll (asks_by (way_of d) f x s)
-  asks_by_ends TooMany x h = refl
-  asks_by_ends _ x h = absurd (cc)
+  asks_by_ends f x h = grind arith
 
 asks_ends : (d : Direction) (v : Value) (s : State) → EndsAll (asks_of (way_of d) v s)
-asks_ends d (request x) s h = asks_by_ends d (request x) s (first_failed (request_tests s x)) x h
-asks_ends d _ s h = absurd (cc)
+asks_ends d v s h = grind (arith, asks_by_ends)
 
 routed_ends : (d : Direction) (v : Value) (s : State) (r : Route) → EndsAll (routed (way_of d) v s r)
-routed_ends d v s Asks h = asks_ends d v s h
-routed_ends d v s (Named n) h = place_ends d v s (position (is_named (way_of d) n) s.connections) h
-routed_ends d v s Only h = place_ends d v s (position (is_live (way_of d)) s.connections) h
-routed_ends d v s (Unnamed finding) h = none_ends d v s finding s h
+routed_ends d v s r h = grind (arith, asks_ends, place_ends, none_ends)
 
 goes_ends : (b : Bool) (d : Direction) (v : Value) (s : State) (r : Route) →
     EndsAll (if b then none_told (way_of d) NotJudged s else routed (way_of d) v s r)
-goes_ends true d v s r h = absurd (cc)
-goes_ends false d v s r h = routed_ends d v s r h
+goes_ends b d v s r h = grind (arith, routed_ends)
 
 pub too_many_ends : (d : Direction) (v : Value) (s : State) → (takes (way_of d) v s).told.finding ≡ TooMany →
     (takes (way_of d) v s).told.reach ≡ reach.Everything

@@ -1,6 +1,6 @@
 -- Of a connection that has lost its judgement nothing more is joined: nobody of the end is to blame there, as when it was lost, and what
 -- passes leaves it so. For all connections of an end and a tap.
-use Rattle.osi_watched.proofs.Vocabulary.{arith, Bool, false, if◌then◌else◌, None, not, Option, refl, Some, sym, true, ℕ, ◌&&◌, ◌∙◌, ◌≡◌}
+use Rattle.osi_watched.proofs.Vocabulary.{arith, Bool, false, if◌then◌else◌, None, not, Option, refl, Some, true, ℕ, ◌&&◌, ◌≡◌}
 use Rattle.osi_watched.proofs.Vocabulary.{slice_get, acknowledge, confirm, data0, data2, destination_of, disconnect, disconnected, error}
 use Rattle.osi_watched.proofs.Vocabulary.{request, Value, Class, Two, Zero, is_applied, reach_of, begins, is_named, is_refused, class_for}
 use Rattle.osi_watched.proofs.Vocabulary.{connection_after, found, found_on, is_stopped, judged_on, none_told, has_broken, route, route_in}
@@ -108,8 +108,7 @@ over_not j over rest e h = grind arith
 
 right_not : (d : Direction) (n : ℕ) (c : Connection) (j : Joined) → IsOneOf c j → c.is_judged ≡ true → is_named (way_of d) n c ≡ true →
     is_refused c.right.phase ≡ false
-right_not Left n c j one judged named =
-    refused_not c.right.phase c.right.reference n (sym one.called ∙ named_there Left n c j one judged named)
+right_not Left n c j one judged named = grind (arith, refused_not, named_there Left n c j one judged named)
 right_not Right n c j one judged named = grind (arith, or_first, over_not)
 
 left_not : (a b : Bool) → (a ≡ true → b ≡ true) → b ≡ false → a ≡ false

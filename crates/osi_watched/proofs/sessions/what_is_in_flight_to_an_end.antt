@@ -1,5 +1,6 @@
 -- The parts of TSDUs that are in flight to an end at one of its connections: as units of the other side pass, and as the end takes some.
 -- For all connections of an end and a tap.
+use Rattle.std.proofs.Common.{arith}
 use Rattle.osi_watched.proofs.Vocabulary.{[], ap, Bool, false, List, refl, Some, sym, true, ℕ, ◌++◌, ◌∙◌, ◌∷◌, ◌≡◌}
 use Rattle.osi_watched.proofs.Vocabulary.{flat_map-append, append-nil, Value, Move, parts_in, take_in, unit_parts, Part, Deeds}
 use Rattle.osi_watched.proofs.Vocabulary.{units_taken, picked_first, picked_join, picked_rest, parts_of}
@@ -23,18 +24,12 @@ parts_taken (hand_in tsdu ∷ moves) = parts_taken moves
 parts_taken (hand_out tsdu ∷ moves) = parts_taken moves
 
 pub in_flight_more : (r : ℕ) (some more : List Value) → in_flight r (some ++ more) ≡ in_flight r some ++ in_flight r more
-in_flight_more r some more =
-    ap parts_of (picked_join (is_for (Some r)) some more)
-    ∙ flat_map-append unit_parts (waiting_for (Some r) some) (waiting_for (Some r) more)
+in_flight_more r some more = grind (arith, picked_join, is_for, flat_map-append, waiting_for)
 
 -- it takes nothing there
 pub takes_none : (more : Deeds) (known : List Part → Type 0) (later : List Part) → units_taken more.calls ≡ [] → known later →
     Takes more later known
-takes_none more known later none sure = record {
-  rest = later;
-  first = ap (λ (l : List Part). l ++ later) (ap parts_of (sym none) ∙ sym (parts_taken more.calls));
-  sure = sure;
-}
+takes_none more known later none sure = grind (arith, parts_taken)
 
 -- ---- a unit of the other side passes
 

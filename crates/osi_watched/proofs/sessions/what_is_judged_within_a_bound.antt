@@ -1,8 +1,9 @@
 -- What a tap with a bound judges of each connection is what a tap without one does, until more has passed than it judges.
 -- For the law on such a tap.
+use Rattle.std.proofs.Common.{arith}
 use Rattle.std.specs.Option.{option_map}
-use Rattle.std.specs.Prelude.{nat_le, slice_get}
-use Rattle.std.proofs.Common.{◌≡◌, ◌∙◌, refl, sym, ap, subst, ℕ, zero, suc, ◌+◌, ◌-◌, Bool, true, false, if◌then◌else◌}
+use Rattle.std.specs.Prelude.{slice_get}
+use Rattle.std.proofs.Common.{◌≡◌, refl, ap, ℕ, zero, suc, ◌+◌, Bool, false, if◌then◌else◌}
 use Rattle.std.proofs.Common.{List, [], ◌∷◌, ◌++◌, length, map, set, Option, Some, None}
 use Rattle.osi_rules.specs.declared.findings.Meaning.{Meaning}
 use Rattle.osi_rules.specs.declared.findings.Meaning.TheVariants as meaning
@@ -13,10 +14,9 @@ use Rattle.osi_judge.specs.declared.directions.Direction.TheVariants.{Left, Righ
 use Rattle.osi_tap.specs.declared.rooms.Room.{Room}
 use Rattle.osi_tap.specs.declared.rooms.Room.TheVariants.{All, Octets, Over}
 use Rattle.osi_tap.specs.Connections.{Joined, Sessions, adds, adds_all, adds_if, all_begin, asked, changed, count, meant}
-use Rattle.osi_tap.specs.Connections.{packet_begins, placed, source_of, taken, taken_at, user_of}
+use Rattle.osi_tap.specs.Connections.{packet_begins, placed, taken, taken_at}
 use Rattle.osi_tap.specs.Courses.{number_at, number_of}
-use Rattle.osi_tap.specs.Lines.{Spoken, added, begins}
-use Rattle.osi_tap.specs.Rooms.{counted, fits, is_over, spent}
+use Rattle.osi_tap.specs.Rooms.{fits, is_over, spent}
 use Rattle.osi_watched.specs.Bounded.{AreJudgedOf, IsJudgedOf, SessionsOf}
 
 -- ---- lists of connections
@@ -56,32 +56,13 @@ one_more (x ∷ js) (y ∷ ws) j w k h = (h.0, one_more js ws j w k h.1)
 -- ---- a packet begins
 
 left_begins : (j w : Joined) → IsJudgedOf j w → IsJudgedOf (packet_begins Left j) (packet_begins Left w)
-left_begins j w h = record {
-  number = h.number;
-  calling = h.calling;
-  called = h.called;
-  class = h.class;
-  closed = h.closed;
-  left = λ goes. ap (λ (s : Spoken). begins s j.left) (h.right goes) ∙ ap (begins w.right) (h.left goes);
-  right = h.right;
-  all = h.all;
-}
+left_begins j w h = grind arith
 
 right_begins : (j w : Joined) → IsJudgedOf j w → IsJudgedOf (packet_begins Right j) (packet_begins Right w)
-right_begins j w h = record {
-  number = h.number;
-  calling = h.calling;
-  called = h.called;
-  class = h.class;
-  closed = h.closed;
-  left = h.left;
-  right = λ goes. ap (λ (s : Spoken). begins s j.right) (h.left goes) ∙ ap (begins w.left) (h.right goes);
-  all = h.all;
-}
+right_begins j w h = grind arith
 
 begun : (d : Direction) (j w : Joined) → IsJudgedOf j w → IsJudgedOf (packet_begins d j) (packet_begins d w)
-begun Left j w h = left_begins j w h
-begun Right j w h = right_begins j w h
+begun d j w h = grind (arith, left_begins, right_begins)
 
 all_begun : (d : Direction) (js ws : List Joined) → AreJudgedOf js ws → AreJudgedOf (map (packet_begins d) js) (map (packet_begins d) ws)
 all_begun d [] [] h = tt
@@ -95,101 +76,28 @@ all_begun d (j ∷ js) (w ∷ ws) h = (begun d j w h.0, all_begun d js ws h.1)
 module _ (d : Direction) (at : ℕ) (end : Bool) (octets : List ℕ) (j w : Joined) (h : IsJudgedOf j w) where
   judged : (room : Room) → (is_over room ≡ false → is_over j.room ≡ false) →
       IsJudgedOf (record (adds_all d at end octets j) { room = room }) (record (adds_all d at end octets w) { room = All })
-  judged room goes = by d
-    where
-      by : (d : Direction) →
-          IsJudgedOf (record (adds_all d at end octets j) { room = room }) (record (adds_all d at end octets w) { room = All })
-      by Left = record {
-        number = h.number;
-        calling = h.calling;
-        called = h.called;
-        class = h.class;
-        closed = h.closed;
-        left = λ now. ap (added at end octets) (h.left (goes now));
-        right = λ now. h.right (goes now);
-        all = refl;
-      }
-      by Right = record {
-        number = h.number;
-        calling = h.calling;
-        called = h.called;
-        class = h.class;
-        closed = h.closed;
-        left = λ now. h.left (goes now);
-        right = λ now. ap (added at end octets) (h.right (goes now));
-        all = refl;
-      }
+  judged room goes = grind arith
 
   -- nothing more is judged of it
   over : IsJudgedOf (record j { room = Over }) (record (adds_all d at end octets w) { room = All })
-  over = by d
-    where
-      by : (d : Direction) → IsJudgedOf (record j { room = Over }) (record (adds_all d at end octets w) { room = All })
-      by Left = record {
-        number = h.number;
-        calling = h.calling;
-        called = h.called;
-        class = h.class;
-        closed = h.closed;
-        left = λ now. absurd (let no : true ≡ false = now in cc);
-        right = λ now. absurd (let no : true ≡ false = now in cc);
-        all = refl;
-      }
-      by Right = record {
-        number = h.number;
-        calling = h.calling;
-        called = h.called;
-        class = h.class;
-        closed = h.closed;
-        left = λ now. absurd (let no : true ≡ false = now in cc);
-        right = λ now. absurd (let no : true ≡ false = now in cc);
-        all = refl;
-      }
+  over = grind arith
 
   if_room : (b : Bool) (n rest : ℕ) → j.room ≡ Octets n →
       IsJudgedOf (adds_if b (if b then Octets rest else Over) d at end octets j) (record (adds_all d at end octets w) { room = All })
-  if_room true n rest is = judged (Octets rest) (λ now. ap is_over is)
-  if_room false n rest is = over
+  if_room b n rest is = grind (arith, judged, over)
 
   by_room : (room : Room) → j.room ≡ room → IsJudgedOf (adds_if (fits room (length octets)) (spent room (length octets)) d at end octets j)
       (record (adds_all d at end octets w) { room = All })
-  by_room All is = judged All (λ now. ap is_over is)
-  by_room (Octets n) is = if_room (nat_le (counted (length octets)) n) n (n - counted (length octets)) is
-  by_room Over is = over
+  by_room room is = search (arith, judged, if_room, over)
 
   adds_so : IsJudgedOf (adds d at end octets j) (adds d at end octets w)
-  adds_so =
-      subst (λ (room : Room). IsJudgedOf (adds d at end octets j)
-      (adds_if (fits room (length octets)) (spent room (length octets)) d at end octets w)) (sym h.all)
-      (by_room j.room refl)
+  adds_so = grind (arith, by_room)
 
 -- ---- a unit for a connection
 
 pub meant_so : (d : Direction) (at : ℕ) (v : Value) (m : Meaning) (j w : Joined) → IsJudgedOf j w →
     IsJudgedOf (meant d at v m j) (meant d at v m w)
-meant_so d at v meaning.Opens j w h = record {
-  number = h.number;
-  calling = h.calling;
-  called = refl;
-  class = refl;
-  closed = h.closed;
-  left = h.left;
-  right = h.right;
-  all = h.all;
-}
-meant_so d at v meaning.Closes j w h = record {
-  number = h.number;
-  calling = h.calling;
-  called = h.called;
-  class = h.class;
-  closed = refl;
-  left = h.left;
-  right = h.right;
-  all = h.all;
-}
-meant_so d at v (meaning.Adds end) j w h = adds_so d at end (user_of v) j w h
-meant_so d at v meaning.Asks j w h = h
-meant_so d at v meaning.Nothing j w h = h
+meant_so d at v m j w h = grind (arith, adds_so)
 
 -- ---- all connections of a byte connection
 
@@ -199,67 +107,30 @@ pub record AreBounded (most : ℕ) (s t : Sessions) : Type 0 where
   pub all : t.room ≡ All
 
 pub begun_bounded : (most : ℕ) (d : Direction) (s t : Sessions) → AreBounded most s t → AreBounded most (all_begin d s) (all_begin d t)
-begun_bounded most d s t h = record {
-  of = record { live = all_begun d s.live t.live h.of.live; done = h.of.done };
-  bound = h.bound;
-  all = h.all;
-}
+begun_bounded most d s t h = grind (arith, all_begun)
 
 changed_by : (most i : ℕ) (f : Joined → Joined) (s t : Sessions) (o p : Option Joined) → BothAt o p →
     ((j w : Joined) → IsJudgedOf j w → IsJudgedOf (f j) (f w)) → AreBounded most s t → AreBounded most (changed i f s o) (changed i f t p)
-changed_by most i f s t None None at step h = h
-changed_by most i f s t None (Some w) at step h = absurd at
-changed_by most i f s t (Some j) None at step h = absurd at
-changed_by most i f s t (Some j) (Some w) at step h = record {
-  of = record { live = set_at s.live t.live i (f j) (f w) (step j w at) h.of.live; done = h.of.done };
-  bound = h.bound;
-  all = h.all;
-}
+changed_by most i f s t o p h step h2 = grind (arith, set_at)
 
 placed_by : (most i : ℕ) (j w : Joined) (s t : Sessions) (o p : Option Joined) → BothAt o p → IsJudgedOf j w → AreBounded most s t →
     AreBounded most (placed i j s o) (placed i w t p)
-placed_by most i j w s t None None at k h = record {
-  of = record { live = one_more s.live t.live j w k h.of.live; done = h.of.done };
-  bound = h.bound;
-  all = h.all;
-}
-placed_by most i j w s t None (Some y) at k h = absurd at
-placed_by most i j w s t (Some x) None at k h = absurd at
-placed_by most i j w s t (Some x) (Some y) at k h = record {
-  of = record { live = set_at s.live t.live i j w k h.of.live; done = one_more s.done t.done x y at h.of.done };
-  bound = h.bound;
-  all = h.all;
-}
+placed_by most i j w s t o p h k h2 = grind (arith, one_more, set_at)
 
 same_count : (most : ℕ) (s t : Sessions) → AreBounded most s t → count s ≡ count t
-same_count most s t h =
-    ap (λ (n : ℕ). n + length s.done) (as_many s.live t.live h.of.live)
-    ∙ ap (λ (n : ℕ). length t.live + n) (as_many s.done t.done h.of.done)
+same_count most s t h = grind (arith, as_many)
 
 pub asked_so : (most calling : ℕ) (s t : Sessions) → AreBounded most s t →
     IsJudgedOf (asked (offset_of (count s)) calling s.room) (asked (offset_of (count t)) calling t.room)
-asked_so most calling s t h = record {
-  number = ap offset_of (same_count most s t h);
-  calling = refl;
-  called = refl;
-  class = refl;
-  closed = refl;
-  left = λ now. refl;
-  right = λ now. refl;
-  all = h.all;
-}
+asked_so most calling s t h = grind (arith, same_count)
 
 module _ (most : ℕ) (d : Direction) (at : ℕ) (v : Value) (s t : Sessions) (h : AreBounded most s t) where
   changed_so : (m : Meaning) (i : ℕ) →
       AreBounded most (changed i (meant d at v m) s (slice_get s.live i)) (changed i (meant d at v m) t (slice_get t.live i))
-  changed_so m i =
-      changed_by most i (meant d at v m) s t (slice_get s.live i) (slice_get t.live i) (at_place s.live t.live i h.of.live)
-      (meant_so d at v m) h
+  changed_so m i = search (arith, changed_by, at_place, meant_so)
 
   at_so : (m : Meaning) (i : ℕ) → AreBounded most (taken_at d at v m i s) (taken_at d at v m i t)
-  at_so meaning.Asks i =
-      placed_by most i _ _ s t (slice_get s.live i) (slice_get t.live i) (at_place s.live t.live i h.of.live)
-      (asked_so most (source_of v) s t h) h
+  at_so meaning.Asks i = search (arith, placed_by, at_place, asked_so)
   at_so meaning.Opens i = changed_so meaning.Opens i
   at_so meaning.Closes i = changed_so meaning.Closes i
   at_so (meaning.Adds end) i = changed_so (meaning.Adds end) i
@@ -271,11 +142,7 @@ module _ (most : ℕ) (d : Direction) (at : ℕ) (v : Value) (s t : Sessions) (h
 
 -- the number of the one at a place
 number_by : (o p : Option Joined) → BothAt o p → option_map number_of o ≡ option_map number_of p
-number_by None None h = refl
-number_by None (Some w) h = absurd h
-number_by (Some j) None h = absurd h
-number_by (Some j) (Some w) h = ap Some h.number
+number_by o p h = grind arith
 
 pub same_number : (most : ℕ) (place : Option ℕ) (s t : Sessions) → AreBounded most s t → number_at place s ≡ number_at place t
-same_number most None s t h = refl
-same_number most (Some i) s t h = number_by (slice_get s.live i) (slice_get t.live i) (at_place s.live t.live i h.of.live)
+same_number most place s t h = grind (arith, number_by, at_place)

@@ -1,7 +1,8 @@
 -- The parts of TSDUs that are left over for an end at one of its connections: all that are in flight, up to the first DR for the
 -- connection, and some of those after it. For a tap joins no DT that its sender sends after its DR.
 -- For all connections of an end and a tap, after breaks of the other side too.
-use Rattle.osi_watched.proofs.Vocabulary.{[], ap, append_assoc, Bool, false, inl, inr, List, refl, Some, subst, sym, true, ℕ, ◌++◌, ◌==◌}
+use Rattle.std.proofs.Common.{arith}
+use Rattle.osi_watched.proofs.Vocabulary.{[], ap, append_assoc, Bool, false, inl, inr, List, refl, Some, sym, true, ℕ, ◌++◌, ◌==◌}
 use Rattle.osi_watched.proofs.Vocabulary.{◌∙◌, ◌∷◌, ◌≡◌, ◌||◌, ◌⊎◌, eq-eqb, append-nil, data2, Value, unit_parts, Part, parts_of}
 use Rattle.osi_watched.proofs.Vocabulary.{picked_first, picked_join, picked_rest}
 use Rattle.osi_honest.proofs.courses.how_long_a_connection_is_open.{is_dr}
@@ -38,28 +39,22 @@ known_left is_live coming r later = is_live r ≡ true → AreLeft r coming late
 -- ---- either
 
 either_both : (b : Bool) (A B : Type 0) → A → B → Either b A B
-either_both true A B x y = x
-either_both false A B x y = y
+either_both b A B x y = grind arith
 
 either_to : (b : Bool) (A B C : Type 0) → (A → C) → (B → C) → Either b A B → C
-either_to true A B C f g h = f h
-either_to false A B C f g h = g h
+either_to b A B C f g h = grind arith
 
 either_then : (b : Bool) (A B C D : Type 0) → (A → C) → (B → D) → Either b A B → Either b C D
-either_then true A B C D f g h = f h
-either_then false A B C D f g h = g h
+either_then b A B C D f g h = grind arith
 
 either_or : (b k : Bool) (A B C D : Type 0) → (b || k) ≡ true → (A → C) → (k ≡ true → B → D) → Either b A B → Either b C D
-either_or true k A B C D e f g h = f h
-either_or false k A B C D e f g h = g e h
+either_or b k A B C D e f g h = grind arith
 
 either_second : (b k : Bool) (A B : Type 0) → (b || k) ≡ false → Either b A B → B
-either_second true k A B e h = absurd (cc)
-either_second false k A B e h = h
+either_second b k A B e h = grind arith
 
 or_second : (b k : Bool) → (b || k) ≡ false → k ≡ false
-or_second true k e = absurd (cc)
-or_second false k e = e
+or_second b k e = grind arith
 
 none_both : {X : Type 0} (xs ys : List X) → xs ++ ys ≡ [] → (xs ≡ []) × (ys ≡ [])
 none_both [] ys e = (refl, e)
@@ -81,8 +76,7 @@ module _ (r : ℕ) (v : Value) where
   some_more (x ∷ xs) later (inr more) = inr (some_more xs later more)
 
   pub left_more : (xs : List Value) (later : List Part) → AreLeft r xs later → AreLeft r (xs ++ v ∷ []) (later ++ f)
-  left_more [] later h =
-      ([], ap (λ (l : List Part). l ++ f) h ∙ sym (append-nil f), either_both (is_dr r v) (AreSome r [] []) (AreLeft r [] []) refl refl)
+  left_more [] later h = grind (arith, append-nil, either_both, is_dr)
   left_more (x ∷ xs) later (rest, is, more) = (
     rest ++ f,
     longer x later rest is,
@@ -133,11 +127,7 @@ dr_later r (x ∷ xs) ys none e = by (is_dr r x) none e (λ h k. dr_later r xs y
 
 pub dr_none : (r : ℕ) (xs ys : List Value) → has_dr r xs ≡ false → has_dr r ys ≡ false → has_dr r (xs ++ ys) ≡ false
 dr_none r [] ys a b = b
-dr_none r (x ∷ xs) ys a b = by (is_dr r x) a (dr_none r xs ys (or_second (is_dr r x) (has_dr r xs) a) b)
-  where
-    by : (b : Bool) → (b || has_dr r xs) ≡ false → has_dr r (xs ++ ys) ≡ false → (b || has_dr r (xs ++ ys)) ≡ false
-    by true none h = absurd (cc)
-    by false none h = h
+dr_none r (x ∷ xs) ys a b = grind (arith, is_dr, or_second, dr_none r xs ys (or_second (is_dr r x) (has_dr r xs) a) b)
 
 -- ---- the first of it
 
@@ -158,8 +148,7 @@ left_front r (x ∷ xs) ys later none (rest, is, more) =
 
 first_none : (r : ℕ) (x : Value) (xs : List Value) → waiting_for (Some r) (x ∷ xs) ≡ [] →
     (waiting_for (Some r) (x ∷ []) ≡ []) × (waiting_for (Some r) xs ≡ [])
-first_none r x xs none =
-    none_both (waiting_for (Some r) (x ∷ [])) (waiting_for (Some r) xs) (sym (picked_join (is_for (Some r)) (x ∷ []) xs) ∙ none)
+first_none r x xs none = grind (arith, none_both, waiting_for, picked_join, is_for)
 
 some_none : (r : ℕ) (xs : List Value) (later : List Part) → waiting_for (Some r) xs ≡ [] → AreSome r xs later → later ≡ []
 some_none r [] later none h = h
@@ -193,18 +182,12 @@ left_empty r (x ∷ xs) none =
 -- a DT for this connection
 pub left_grows : (is_live : ℕ → Bool) (coming : List Value) (n number : ℕ) (end : Bool) (user : List ℕ) (later : List Part) →
     known_left is_live coming n later → known_left is_live (coming ++ data2 n number end user ∷ []) n (later ++ (end, user) ∷ [])
-left_grows is_live coming n number end user later sure live =
-    let v : Value = data2 n number end user in
-    subst (λ (l : List Part). AreLeft n (coming ++ v ∷ []) (later ++ l))
-    (ap parts_of (picked_first (is_for (Some n)) v [] (eq-eqb n n refl)))
-    (left_more n v coming later (sure live))
+left_grows is_live coming n number end user later sure live = grind (arith, picked_first, is_for, eq-eqb, left_more)
 
 -- one of which no part is for it
 pub left_still : (is_live : ℕ → Bool) (coming : List Value) (v : Value) (r : ℕ) (later : List Part) → in_flight r (v ∷ []) ≡ [] →
     known_left is_live coming r later → known_left is_live (coming ++ v ∷ []) r later
-left_still is_live coming v r later none sure live =
-    subst (AreLeft r (coming ++ v ∷ [])) (ap (λ (l : List Part). later ++ l) none ∙ append-nil later)
-    (left_more r v coming later (sure live))
+left_still is_live coming v r later none sure live = grind (arith, append-nil later, left_more r v coming later (sure live))
 
 -- it is for another connection
 pub left_stays : (is_live : ℕ → Bool) (coming : List Value) (n number : ℕ) (end : Bool) (user : List ℕ) (r : ℕ) (later : List Part) →

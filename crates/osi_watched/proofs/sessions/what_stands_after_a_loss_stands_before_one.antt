@@ -1,10 +1,11 @@
 -- What stands of an end at each step, also after a connection of class 2 has lost its judgement, stands while each connection is judged.
 -- For the laws that no session of an end is to blame.
-use Rattle.osi_watched.proofs.Vocabulary.{[], false, inl, inr, length, List, Some, ap, sym, ℕ, ◌++◌, ◌<◌, ◌^◌, ◌∙◌, ◌∷◌, ◌≡◌, ◌⊎◌}
-use Rattle.osi_watched.proofs.Vocabulary.{slice_get, Value, Zero, Local, Holding, reach_of, class_for, is_stopped, takes, Option, Class}
+use Rattle.std.proofs.Common.{arith}
+use Rattle.osi_watched.proofs.Vocabulary.{[], false, length, List, Some, ℕ, ◌++◌, ◌<◌, ◌^◌, ◌∷◌, ◌≡◌}
+use Rattle.osi_watched.proofs.Vocabulary.{slice_get, Value, Zero, Local, Holding, class_for, is_stopped, takes}
 use Rattle.osi_watched.proofs.Vocabulary.{other, Direction, Left, Right, Deeds, no_deeds, then_did, IsFresh, Turn, Joined, spoken}
 use Rattle.osi_watched.proofs.Vocabulary.{unit_passes, units_pass, way_of, heard, IsFirm, begins_other, begins_own, Joint, passes_other}
-use Rattle.osi_watched.proofs.Vocabulary.{passes_own, Steps, TakesTurn, calls_from, Finding}
+use Rattle.osi_watched.proofs.Vocabulary.{passes_own, Steps, TakesTurn, calls_from}
 use Rattle.osi_rules.specs.declared.findings.Reach.TheVariants as reach
 use Rattle.osi_fair.specs.Wholes as wholes
 use Rattle.osi_tap.specs.Courses.{Course as Passed}
@@ -14,11 +15,9 @@ use Rattle.osi_watched.proofs.steps_are_events.{IsFollowed}
 use Rattle.osi_watched.proofs.what_a_taker_passes_over.{mild_reach}
 use Rattle.osi_watched.proofs.what_the_turns_among_steps_do.{TurnDoes}
 use Rattle.osi_fair.proofs.what_the_other_side_closes.{IsOngoing}
-use Rattle.osi_watched.proofs.sessions.a_unit_after_a_dr_is_for_a_closing_connection.{IsAfterDr}
 use Rattle.osi_watched.proofs.sessions.after_too_many_nobody_is_to_blame.{NoneIsToBlame}
 use Rattle.osi_watched.proofs.sessions.no_session_of_an_end_breaks_first.{ArePassed, HaveCourses, IsPassed, KeepsUnless}
 use Rattle.osi_watched.proofs.sessions.steps_leave_all_standing.{IsProper}
-use Rattle.osi_watched.proofs.sessions.steps_of_either_class_leave_all_standing.{IsTolerable}
 use Rattle.osi_watched.proofs.sessions.what_passes_leaves_all_standing.{firm_links}
 
 -- ---- what is asked of what stands
@@ -62,37 +61,13 @@ pub record KeepsThroughout (d : Direction) (local : Local) (Inv : (ℕ → Deeds
 -- ---- while each connection is judged
 
 firm_goes : (e : Direction) (c : Passed) → IsFirm c.traffic.course → is_stopped (way_of e) c.traffic.course ≡ false
-firm_goes Left c h = h.left
-firm_goes Right c h = h.right
+firm_goes e c h = grind arith
 
 firm_lasts : (c : Passed) → IsFirm c.traffic.course → (c.traffic.course.class ≡ Some Zero → ⊥) → IsOngoing c.traffic.course
 firm_lasts c h not = record { sure = record { left = h.left; right = h.right }; two = not }
 
 taken_one : (d : Direction) (v : Value) (c : Passed) → IsPassed Zero d v c → IsTakenOn d v c
-taken_one d v c h = record {
-  goes = firm_goes (other d) c h.firm;
-  lasts = firm_lasts c h.firm h.not;
-  two = λ zero. h.not (knows (other d) zero);
-  far = λ far. let no : reach.Nothing ≡ reach.Everything = sym reach_is ∙ far in cc;
-  loses = λ far. absurd (let no : reach.Nothing ≡ reach.Connection = sym reach_is ∙ far in cc);
-}
-  where
-    knows : (e : Direction) → class_for (way_of e) c.traffic.course ≡ Some Zero → c.traffic.course.class ≡ Some Zero
-    knows Left is = h.sure.agrees Zero is
-    knows Right is = is
-
-    k : Option Class
-    k = class_for (way_of (other d)) c.traffic.course
-
-    f : Finding
-    f = (takes (way_of (other d)) v c.traffic).told.finding
-
-    by : IsTolerable (other d) v c ⊎ IsAfterDr (other d) v c → reach_of k f ≡ reach.Nothing
-    by (inl t) = mild_reach v k f t.mild h.few
-    by (inr after) = ap (reach_of k) after.closed
-
-    reach_is : (takes (way_of (other d)) v c.traffic).told.reach ≡ reach.Nothing
-    reach_is = (takes_reach (way_of (other d)) v c.traffic).far ∙ by h.taken
+taken_one d v c h = search (arith, firm_goes, firm_lasts, mild_reach, takes_reach)
 
 taken_all : (d : Direction) (at : ℕ) (vs : List Value) (c : Passed) → ArePassed Zero d at vs c → AreTakenOn d at vs c
 taken_all d at [] c h = tt

@@ -1,10 +1,11 @@
 -- How a connection stands that a tap has joined beside what is done at it: open for its end, or closed, or without a CC yet; and that
 -- it stands so as packets begin and units pass, at its place or at another.
 -- For all connections of an end and a tap.
+use Rattle.std.proofs.Common.{arith}
 use Rattle.osi_watched.proofs.Vocabulary.{[], ap, Bool, false, is_some, length, List, None, Option, refl, Some, subst, sym, true, ℕ, ◌&&◌}
-use Rattle.osi_watched.proofs.Vocabulary.{◌++◌, ◌<◌, ◌==◌, ◌^◌, ◌∙◌, ◌∷◌, ◌≡◌, ◌≤◌, AllByRecursion, offset_of, acknowledge, data0, data2}
-use Rattle.osi_watched.proofs.Vocabulary.{Value, parts_in, unit_parts, Part, End, begins, is_open, own, Connection, other, Direction, Left}
-use Rattle.osi_watched.proofs.Vocabulary.{Right, Deeds, said_in, then_did, adds, Joined, reference_of, spoken, user_of, way_of, heard}
+use Rattle.osi_watched.proofs.Vocabulary.{◌++◌, ◌<◌, ◌==◌, ◌^◌, ◌∙◌, ◌∷◌, ◌≡◌, ◌≤◌, AllByRecursion, acknowledge, data0, data2}
+use Rattle.osi_watched.proofs.Vocabulary.{Value, parts_in, unit_parts, Part, End, begins, is_open, own, Connection, other, Direction}
+use Rattle.osi_watched.proofs.Vocabulary.{Deeds, said_in, then_did, adds, Joined, reference_of, spoken, user_of, way_of, heard}
 use Rattle.osi_watched.proofs.Vocabulary.{Spoken, All, leads, picked, picked_first, picked_join, picked_rest, all_before, AreAfter}
 use Rattle.osi_watched.proofs.Vocabulary.{calls_from, IsJoinedFrom, IsShownNow, parts_of, with_next}
 use Rattle.osi_honest.specs.Courses.{Course}
@@ -122,37 +123,21 @@ with_waiting d r deeds some others later b j e h = subst (λ (l : List Value). I
 -- ---- references
 
 pub named_begun : (d e : Direction) (j : Joined) → reference_of d (packet_begins e j) ≡ reference_of d j
-named_begun Left Left j = refl
-named_begun Left Right j = refl
-named_begun Right Left j = refl
-named_begun Right Right j = refl
+named_begun d e j = grind arith
 
 pub open_begun : (d e : Direction) (c : Connection) → (own (way_of d) (begins (way_of e) c)).phase ≡ (own (way_of d) c).phase
-open_begun Left Left c = refl
-open_begun Left Right c = refl
-open_begun Right Left c = refl
-open_begun Right Right c = refl
+open_begun d e c = grind arith
 
 unsaid_begun : (d e : Direction) (j : Joined) → IsUnsaid (spoken d j) → IsUnsaid (spoken (other d) j) → IsUnsaid (spoken d
     (packet_begins e j))
-unsaid_begun Left Left j h o = record { said = h.said; begun = h.begun; since = ap (λ (l : List lines.Said). offset_of (length l)) o.said }
-unsaid_begun Left Right j h o = h
-unsaid_begun Right Left j h o = h
-unsaid_begun Right Right j h o = record {
-  said = h.said;
-  begun = h.begun;
-  since = ap (λ (l : List lines.Said). offset_of
-      (length l)) o.said;
-}
+unsaid_begun d e j h o = grind arith
 
 other_unsaid_begun : (d e : Direction) (j : Joined) → IsUnsaid (spoken d j) → IsUnsaid (spoken (other d) j) →
     IsUnsaid (spoken (other d) (packet_begins e j))
-other_unsaid_begun Left e j h o = unsaid_begun Right e j o h
-other_unsaid_begun Right e j h o = unsaid_begun Left e j o h
+other_unsaid_begun d e j h o = grind (arith, unsaid_begun)
 
 room_begun : (e : Direction) (j : Joined) → (packet_begins e j).room ≡ j.room
-room_begun Left j = refl
-room_begun Right j = refl
+room_begun e j = grind arith
 
 is_open_begun : (d e : Direction) (c : Connection) (b : Bool) → is_open (own (way_of d) c).phase ≡ b →
     is_open (own (way_of d) (begins (way_of e) c)).phase ≡ b
@@ -200,8 +185,7 @@ stands_begins d deeds known put e c j courses few (past r closed waiting later s
 pub stands_other_begins : (d : Direction) (deeds : ℕ → Deeds) (known : Known) (put : List Value) (b : Bool) (c : Connection) (j : Joined) →
     Stands d deeds known put b c j → Stands d deeds known put b (begins (way_of (other d)) c) (packet_begins (other d) j)
 stands_other_begins d deeds known put b c j (unnamed none mine theirs room) =
-    unnamed (named_begun d (other d) j ∙ none) (unsaid_begun d (other d) j mine theirs) (other_unsaid_begun d (other d) j mine theirs)
-    (room_begun (other d) j ∙ room)
+    grind (arith, named_begun, unsaid_begun, other_unsaid_begun, room_begun)
 stands_other_begins d deeds known put b c j (lives r o is live later sure h) =
     lives r o (named_begun (other d) (other d) j ∙ is) (is_open_begun d (other d) c true live) later sure
     (other_begins d r (deeds r) (waiting_for o put) later (is_next o b put) j h)
@@ -252,9 +236,7 @@ module _ (d : Direction) (deeds : ℕ → Deeds) (known : Known) (v : Value) (re
   waits_by true r o later x e h =
       none_passes d r (deeds r) (waiting_for o rest) later v x j none
       (with_waiting d r (deeds r) (waiting_for o (v ∷ rest)) (v ∷ waiting_for o rest) later x j (picked_first (is_for o) v rest e) h)
-  waits_by false r o later x e h =
-      no_next d r (deeds r) (waiting_for o rest) later x j
-      (with_waiting d r (deeds r) (waiting_for o (v ∷ rest)) (waiting_for o rest) later x j (picked_rest (is_for o) v rest e) h)
+  waits_by false r o later x e h = search (arith, no_next, with_waiting, picked_rest)
 
   lives_or_past : (b : Bool) (r : ℕ) (o : Option ℕ) (later : List Part) → known r later → reference_of (other d) j ≡ o →
       is_open (own (way_of d) after).phase ≡ b → IsShownNow d r (deeds r) (waiting_for o rest) later false j →
@@ -265,13 +247,10 @@ module _ (d : Direction) (deeds : ℕ → Deeds) (known : Known) (v : Value) (re
       past r e (waiting_for o rest) later sure (like_shown d r (deeds r) (waiting_for o rest) later false j k like h)
 
   closed_still : (b : Bool) → is_open (own (way_of d) after).phase ≡ b → is_open (own (way_of d) c).phase ≡ false → b ≡ false
-  closed_still true e h = differ (is_open (own (way_of d) c).phase) (was e) h
-  closed_still false e h = refl
+  closed_still b e h = grind (arith, differ)
 
   pub stands_none : (b : Bool) → Stands d deeds known (v ∷ rest) b c j → Stands d deeds known rest false after k
-  stands_none b (unnamed is mine theirs room) =
-      unnamed (like.named ∙ is) (like_unsaid (spoken d j) (spoken d k) like.own_is mine)
-      (like_unsaid (spoken (other d) j) (spoken (other d) k) like.theirs theirs) (like.room ∙ room)
+  stands_none b (unnamed is mine theirs room) = grind (arith, like_unsaid)
   stands_none b (lives r o is live later sure h) =
       lives_or_past (is_open (own (way_of d) after).phase) r o later sure is refl
       (waits_by (is_for o v) r o later (is_next o b (v ∷ rest)) refl h)
@@ -303,8 +282,7 @@ pub stands_other_none : (d : Direction) (deeds : ℕ → Deeds) (known then_know
     ((r : ℕ) (later : List Part) → reference_of d j ≡ Some r → known r later → then_known r later) →
     Stands d deeds known put b c j → Stands d deeds then_known put b after k
 stands_other_none d deeds known then_known put b c after j k like named same keeps (unnamed is mine theirs room) =
-    unnamed (like.named ∙ is) (like_unsaid (spoken d j) (spoken d k) like.own_is mine)
-    (like_unsaid (spoken (other d) j) (spoken (other d) k) like.theirs theirs) (like.room ∙ room)
+    grind (arith, like_unsaid)
 stands_other_none d deeds known then_known put b c after j k like named same keeps (lives r o is live later sure h) =
     lives r o (named ∙ is) (ap is_open same ∙ live) later (keeps r later h.shown.named sure)
     (like_shown d r (deeds r) (waiting_for o put) later (is_next o b put) j k like h)
@@ -321,9 +299,7 @@ pub record Takes (more : Deeds) (later : List Part) (known : List Part → Type 
   pub sure : known rest
 
 next_same : (o : Option ℕ) (b : Bool) (put units : List Value) → (b ≡ true → put ≡ [] → ⊥) → is_next o b (put ++ units) ≡ is_next o b put
-next_same o false put units some = refl
-next_same o true [] units some = absurd (some refl refl)
-next_same o true (v ∷ put) units some = refl
+next_same o b put units some = grind arith
 
 -- what it puts at a connection that it has not closed waits there
 pub stands_turns : (d : Direction) (deeds more : ℕ → Deeds) (known then_known : Known) (put units : List Value) (b : Bool) (c : Connection)

@@ -1,16 +1,16 @@
 -- What the stage of a whole calling end says until class 2 is selected: which unit of it passes, how it is when a CC comes, what it has put
 -- in class 0, and what has come for a connection that may still open.
 -- For the session of the connection of an end in class 0.
-use Rattle.osi_watched.proofs.Vocabulary.{[], ap, Bool, false, if◌then◌else◌, is_some, length, List, None, Option, refl, Some, subst, sym}
+use Rattle.std.proofs.Common.{arith}
+use Rattle.osi_watched.proofs.Vocabulary.{[], ap, Bool, if◌then◌else◌, is_some, length, List, None, Option, refl, Some, subst, sym}
 use Rattle.osi_watched.proofs.Vocabulary.{true, ℕ, ◌==◌, ◌∙◌, ◌∷◌, ◌≡◌, eqb-true, AllByRecursion, confirm, Connect, data0, request, Value}
 use Rattle.osi_watched.proofs.Vocabulary.{Standing, Class, Two, Zero, Local, value_at, Live, linked, EndReason, has_given, Traffic as State}
 use Rattle.osi_watched.proofs.Vocabulary.{takes, Connection, Offer, early, past, stage_at, stage_is, IsOver, one, answered, Calling, known}
 use Rattle.osi_watched.proofs.Vocabulary.{quiet, refused, begun_by, anyhow, IsInZero, zero_puts, PutsData, HoldsOfEach, calm_tap}
-use Rattle.osi_watched.proofs.Vocabulary.{done_takes, GoesOn, IsDone, Waits, Whole, closing}
+use Rattle.osi_watched.proofs.Vocabulary.{done_takes, GoesOn, IsDone, Waits, Whole}
 use Rattle.osi_carrier.specs.State.{asked}
 use Rattle.osi_rules.specs.declared.directions.Direction.TheVariants.{Right}
 use Rattle.osi_fair.proofs.how_requests_go_on.{Stage, asks, ended, waits, zero}
-use Rattle.osi_fair.proofs.what_an_end_does_in_class_zero.{over, talks}
 use Rattle.osi_watched.proofs.small_facts_that_many_lemmas_use.{none_some}
 use Rattle.osi_watched.proofs.sessions.units_of_class_0_come_after_its_cc.{HasCc}
 
@@ -74,8 +74,7 @@ module _ (local : Local) (w : Whole) where
   own_unit v rest (waits r is none not_begun cs strays tap p o offers waiting dcs) e begun not_two = some_put v rest w.put e none
   own_unit v rest (refused r is none not_begun cs strays tap done dcs u more coming are refusal too) e begun not_two =
       some_put v rest w.put e none
-  own_unit v rest (answered r is none not_begun dcs n x more coming are class has after so z) e begun not_two =
-      some_put v rest w.put e none
+  own_unit v rest (answered r is none not_begun dcs n x more coming are class has after so z) e begun not_two = grind (arith, some_put)
   own_unit v rest (zero has z) e begun not_two =
       data_first w z.tap.limit z.tap.c.left.begun v rest z.tap.class (z.tap.class_seen begun)
       (subst (PutsData z.tap.limit anyhow z.tap.c.left.begun) e (zero_puts z.tap.limit w.end z.tap.c.left.begun w.put z.goes))
@@ -85,8 +84,7 @@ module _ (local : Local) (w : Whole) where
 
   no_cc : {A : Type 0} (n : ℕ) (x : Connect) (cs : List Connection) (strays : Bool) → w.tap ≡ calm_tap cs strays → HoldsOfEach IsDone cs →
       GoesOn (takes Right (confirm n x) w.tap).state → A
-  no_cc n x cs strays tap done goes =
-      absurd (done_takes cs strays (confirm n x) done (subst (λ (t : State). GoesOn (takes Right (confirm n x) t).state) tap goes)).0
+  no_cc n x cs strays tap done goes = grind (arith, done_takes)
 
   pub cc_comes : (n : ℕ) (x : Connect) → Stage local w → w.tap.course.class ≡ None → GoesOn (takes Right (confirm n x) w.tap).state →
       (w.put ≡ []) × AwaitsAnswer local w
@@ -96,8 +94,7 @@ module _ (local : Local) (w : Whole) where
   cc_comes n x (waits r is none not_begun cs strays tap p o offers waiting dcs) class goes = (none, awaits r p o cs strays is tap waiting)
   cc_comes n x (refused r is none not_begun cs strays tap done dcs u more coming are refusal too) class goes =
       no_cc n x cs strays tap done goes
-  cc_comes n x (answered r is none not_begun dcs m y more coming are k has after so z) class goes =
-      none_some w.tap.course.class Zero class z.tap.class
+  cc_comes n x (answered r is none not_begun dcs m y more coming are k has after so z) class goes = grind (arith, none_some)
   cc_comes n x (zero has z) class goes = none_some w.tap.course.class Zero class z.tap.class
   cc_comes n x (known two seen has) class goes = none_some w.tap.course.class Two class two
 
@@ -106,61 +103,33 @@ module _ (local : Local) (w : Whole) where
   pub dts_put : Stage local w → w.tap.course.class ≡ Some Zero → AllByRecursion IsDt0 w.put
   dts_put (ended none h) class = none_all none
   dts_put (quiet is none not_begun cs strays tap done dcs) class = none_all none
-  dts_put (asks x put is offers cs strays tap done dcs all) class =
-      none_some w.tap.course.class Zero (calm_class w cs strays tap) class
+  dts_put (asks x put is offers cs strays tap done dcs all) class = grind (arith, none_some, calm_class)
   dts_put (waits r is none not_begun cs strays tap p o offers waiting dcs) class = none_all none
   dts_put (refused r is none not_begun cs strays tap done dcs u more coming are refusal too) class = none_all none
   dts_put (answered r is none not_begun dcs n x more coming are k has after so z) class = none_all none
-  dts_put (zero has z) class =
-      all_data z.tap.limit z.tap.c.left.begun w.put (zero_puts z.tap.limit w.end z.tap.c.left.begun w.put z.goes)
+  dts_put (zero has z) class = search (arith, all_data, zero_puts)
   dts_put (known two seen has) class = class_not w.tap.course.class Zero Two class two zero_two
 
   -- ---- a connection that may still open
 
   module _ (r : ℕ) (lasts : w.end.ended ≡ None) (given : has_given r w.end ≡ true) (may : stage_at r w.end ≡ early) where
     row_early : {A : Type 0} (o : Option Live) → value_at r w.end.live ≡ o → (o ≡ Some asked → A) → A
-    row_early None e f = absurd (cc (sym may ∙ stage_is r w.end None true lasts given e))
-    row_early (Some asked) e f = f refl
-    row_early (Some (linked peer link)) e f = absurd (cc (sym may ∙ stage_is r w.end (Some (linked peer link)) true lasts given e))
-    row_early (Some (closing peer)) e f = absurd (cc (sym may ∙ stage_is r w.end (Some (closing peer)) true lasts given e))
+    row_early h e f = grind (arith, stage_is)
 
     not_linked : {A : Type 0} (q peer : ℕ) (link : Standing) (b : Bool) → (q == r) ≡ b →
         (if◌then◌else◌ {A = Option Live} b (Some (linked peer link)) None) ≡ Some asked → A
-    not_linked q peer link true e h = absurd (cc h)
-    not_linked q peer link false e h = absurd (cc h)
+    not_linked q peer link h e h2 = grind arith
 
     over_not : {A : Type 0} (o : Option EndReason) → is_some o ≡ true → o ≡ None → A
-    over_not None h e = absurd (cc h)
-    over_not (Some x) h e = absurd (cc e)
+    over_not h h2 e = grind arith
 
     zero_early : {A : Type 0} (limit begun : ℕ) (units : List Value) → IsInZero limit w.end begun units → A
-    zero_early limit begun units (talks q peer link class live plain puts) =
-        row_early (value_at r w.end.live) refl
-        (λ h. not_linked q peer link (q == r) refl (sym (ap (value_at r) live) ∙ h))
-    zero_early limit begun units (over h puts) = over_not w.end.ended h lasts
+    zero_early limit begun units h = grind (arith, row_early, not_linked, over_not)
 
     -- its CC has come, if class 0 is selected
     pub cc_waits : Stage local w → w.tap.course.class ≡ Some Zero → HasCc w.coming
-    cc_waits (ended none h) class = over_not w.end.ended h lasts
-    cc_waits (quiet is none not_begun cs strays tap done dcs) class =
-        none_some w.tap.course.class Zero (calm_class w cs strays tap) class
-    cc_waits (asks x put is offers cs strays tap done dcs all) class =
-        none_some w.tap.course.class Zero (calm_class w cs strays tap) class
-    cc_waits (waits q is none not_begun cs strays tap p o offers waiting dcs) class =
-        none_some w.tap.course.class Zero (calm_class w cs strays tap) class
-    cc_waits (refused q is none not_begun cs strays tap done dcs u more coming are refusal too) class =
-        none_some w.tap.course.class Zero (calm_class w cs strays tap) class
-    cc_waits (answered q is none not_begun dcs n x more coming are k has after so z) class =
-        record { front = dcs; n = n; x = x; rest = more; is = coming }
-    cc_waits (zero has z) class = zero_early z.tap.limit z.tap.c.left.begun w.put z.goes
-    cc_waits (known two seen has) class = class_not w.tap.course.class Zero Two class two zero_two
+    cc_waits h class = grind (arith, over_not, none_some, calm_class, zero_early, class_not, zero_two)
 
   -- an end with one CR has no other connection under way
   pub one_early : (q r : ℕ) → Calling local (one r) w.end → has_given q w.end ≡ true → (q ≡ r → ⊥) → stage_at q w.end ≡ past
-  one_early q r is given apart = by (r == q) refl
-    where
-      by : (b : Bool) → (r == q) ≡ b → stage_at q w.end ≡ past
-      by true e = absurd (apart (sym (eqb-true r q e)))
-      by false e =
-          stage_is q w.end None true is.0.lasts given
-          (ap (value_at q) is.0.live ∙ ap (λ (b : Bool). if◌then◌else◌ {A = Option Live} b (Some asked) None) e)
+  one_early q r is given apart = grind (arith, stage_at, past, eqb-true, stage_is)
