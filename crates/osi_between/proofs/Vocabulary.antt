@@ -1,8 +1,7 @@
 -- What the proofs of this crate take from the library, from the crates below and from its own definitions.
 pub use Rattle.std.proofs.Common.{◌≡◌, ◌≢◌, ℕ, ◌+◌, ◌≤◌, ◌||◌, Bool, true, false, not, List, [], ◌++◌, length, Option, Some, None, is_some}
 pub use Rattle.std.proofs.Common.{IfSome, refl, sym, ap, subst, ◌∙◌, append_assoc, arith, ◌⊎◌, inl, inr, ◌<◌, ◌∷◌, take, drop, nat_lt}
-pub use Rattle.std.proofs.Common.{if◌then◌else◌, map, ◌==◌, zero, suc, length-append, Result, Ok, Err, IfOk, ◌^◌, min, ◌-◌, ◌&&◌}
-pub use Rattle.std.proofs.Common.{option_map, is_none, nat_le}
+pub use Rattle.std.proofs.Common.{if◌then◌else◌, map, ◌==◌, zero, suc, length-append, Ok, ◌^◌, min, ◌-◌, ◌&&◌, option_map, is_none, nat_le}
 pub use Rattle.std.proofs.Math.Nat.{pow-le-pow_right}
 pub use Rattle.std.proofs.Math.Seq.{drop-append_seam}
 pub use Rattle.std.proofs.lemmas.Bool.{eq-eqb, eqb-true, le-ltb, leb-false, leb-true, lt-ltb, ltb-false, ltb-true, ne_eqb}
@@ -14,15 +13,14 @@ pub use Rattle.osi_tpkt.proofs.a_prefix_of_a_packet.{completed_partial, empty_pa
 pub use Rattle.osi_tpkt.proofs.no_packet_is_a_prefix_of_another.{one_packet}
 pub use Rattle.osi_tpkt.specs.Octets.{IsOctets}
 pub use Rattle.osi_tpkt.specs.Packet.{IsFaultOf, IsPacket, IsPartial, packet_of}
-pub use Rattle.osi_tpkt.specs.Stream.{ArePackets, offset_of}
+pub use Rattle.osi_tpkt.specs.Stream.{ArePackets}
 pub use Rattle.osi_tpkt.specs.declared.cutting.Fed.{Fed}
 pub use Rattle.osi_tpkt.specs.declared.faults.TpktFault.{TpktFault}
 pub use Rattle.osi_tpdu.specs.Limits.{size_code, window_units}
 pub use Rattle.osi_tpdu.specs.Spelling.{Item, item_octets, single}
-pub use Rattle.osi_tpdu.specs.Value.{Connect, IsConnect, Parameters, Value, acknowledge, confirm, data0, data2, disconnect, disconnected}
-pub use Rattle.osi_tpdu.specs.Value.{error, request}
-pub use Rattle.osi_tpdu.specs.Writing.{items_of, written, written_items}
-pub use Rattle.osi_tpdu.specs.declared.faults.TpduFault.{TpduFault}
+pub use Rattle.osi_tpdu.specs.Value.{Connect, IsConnect, Value, acknowledge, confirm, data0, data2, disconnect, disconnected, error}
+pub use Rattle.osi_tpdu.specs.Value.{request}
+pub use Rattle.osi_tpdu.specs.Writing.{items_of, written}
 pub use Rattle.osi_class.proofs.between.what_was_handed_in_comes_out.{nothing_begun, quiet_unsent}
 pub use Rattle.osi_class.proofs.between.units_are_of_one_class.{zero_turns}
 pub use Rattle.osi_class.proofs.giving.what_is_given_can_be_written.{in_range, stays_octets, unit_fits, unit_length}
@@ -31,23 +29,19 @@ pub use Rattle.osi_class.proofs.giving.a_link_gives_finitely_many_units.{drained
 pub use Rattle.osi_class.proofs.between.the_oldest_unit_can_be_taken.{said, oldest_in_class_0, oldest_in_class_2}
 pub use Rattle.osi_class.proofs.between.parts_stay_in_order.{at_ok, choose_ok}
 pub use Rattle.osi_class.proofs.between.no_tsdu_becomes_too_long.{stays_short}
-pub use Rattle.osi_class.proofs.bounds.every_link_keeps_its_bounds.{move_sound, move_same}
+pub use Rattle.osi_class.proofs.bounds.every_link_keeps_its_bounds.{move_sound}
 pub use Rattle.osi_class.proofs.between.tsdus_come_in_order.{begins, other_way, stays_whole, turns_keep, whole_kept}
-pub use Rattle.osi_class.specs.Between.{AreOfClass, HasWholeTsdus, IsQuiet, IsShortTsdu, LeftMoves, LinkPair, TakesOldest, Turn, TurnsAlong}
-pub use Rattle.osi_class.specs.Between.{at_left, left_in, opened_pair, opposite, parts_under_way, right_out, swapped, under_way}
-pub use Rattle.osi_class.specs.Between.{under_way_before}
-pub use Rattle.osi_class.specs.Ends.{Ends, fresh_ends}
-pub use Rattle.osi_class.specs.Flow.{Flow, Sender}
+pub use Rattle.osi_class.specs.Between.{AreOfClass, HasWholeTsdus, IsShortTsdu, LeftMoves, LinkPair, TakesOldest, Turn, TurnsAlong, at_left}
+pub use Rattle.osi_class.specs.Between.{left_in, opened_pair, opposite, parts_under_way, right_out, swapped, under_way, under_way_before}
+pub use Rattle.osi_class.specs.Ends.{fresh_ends}
 pub use Rattle.osi_class.specs.Giving.{all_given}
-pub use Rattle.osi_class.specs.Joining.{Joining, with_part}
-pub use Rattle.osi_class.specs.Link.{Given, Standing, ack, fresh_two, is_of_two, part0, part2, taken, taken_by, two_standing, unit_of}
-pub use Rattle.osi_class.specs.Link.{with_joined, with_sender, with_tsdu, zero_standing}
-pub use Rattle.osi_class.specs.Negotiation.{Selection, accept, refuse, selected_by, selected_size}
+pub use Rattle.osi_class.specs.Joining.{Joining}
+pub use Rattle.osi_class.specs.Link.{Given, Standing, ack, fresh_two, is_of_two, part0, part2, taken, two_standing, unit_of, with_tsdu}
+pub use Rattle.osi_class.specs.Link.{zero_standing}
+pub use Rattle.osi_class.specs.Negotiation.{accept, selected_by, selected_size}
 pub use Rattle.osi_class.specs.Runs.{hand_in, give_out, take_in, hand_out, MovesAlong}
 pub use Rattle.osi_class.specs.Sound.{HasGivenInRange}
 pub use Rattle.osi_class.specs.Tsdus.{tsdus_after, uncut}
-pub use Rattle.osi_class.specs.declared.faults.LinkFault.{LinkFault}
-pub use Rattle.osi_class.specs.declared.faults.LinkFault.TheVariants.{TsduTooLong}
 pub use Rattle.osi_class.specs.declared.terms.Class.{Class}
 pub use Rattle.osi_class.specs.declared.terms.Class.TheVariants.{Two, Zero}
 pub use Rattle.osi_class.specs.declared.terms.Local.{Local}
@@ -64,44 +58,38 @@ pub use Rattle.osi_carrier.proofs.references.the_row_at_a_place.{put_same}
 pub use Rattle.osi_carrier.proofs.written.all_that_a_link_gives.{packets_join}
 pub use Rattle.osi_carrier.proofs.effects.units_one_after_the_other.{react_quiet}
 pub use Rattle.osi_carrier.proofs.references.which_rule_applies_to_a_cr.{has_room}
-pub use Rattle.osi_carrier.specs.Calls.{asks, class_error, closed_on, closed_with, fresh_state, link_of, may_connect, open_link, or_else}
-pub use Rattle.osi_carrier.specs.Calls.{sent, sent_all, sent_on}
+pub use Rattle.osi_carrier.specs.Calls.{asks, closed_with, fresh_state, link_of, may_connect, open_link, sent, sent_all, sent_on}
 pub use Rattle.osi_carrier.specs.Coming.{AreComing, IsSendable}
 pub use Rattle.osi_carrier.specs.Happenings.{Happening, closed, opened, tsdu}
-pub use Rattle.osi_carrier.specs.Negotiation.{acceptance, agreed_size, alternatives, confirmed, opened_link, proposal, proposal_by}
-pub use Rattle.osi_carrier.specs.Negotiation.{proposes_zero}
+pub use Rattle.osi_carrier.specs.Negotiation.{agreed_size, opened_link, proposal, proposal_by}
 pub use Rattle.osi_carrier.specs.Orderly.{AreUpTo, IsOrderly, RiseFrom}
 pub use Rattle.osi_carrier.specs.Packets.{ActsBy, Carrying, Feeds, FindsNoMemory, Goes, Refuses, RunsDry, Starves, StopsBehind}
 pub use Rattle.osi_carrier.specs.Packets.{TakesPackets, after_packet, is_spoilt, waits}
 pub use Rattle.osi_carrier.specs.Place.{Place, connection_in, never, place_at, was_given}
 pub use Rattle.osi_carrier.specs.Pump.{pumped}
-pub use Rattle.osi_carrier.specs.React.{accepts, answers, answers_request, denies, handed_out, has_peer, in_class, in_two, in_zero, is_full}
-pub use Rattle.osi_carrier.specs.React.{is_of_peer, leaves, opens, pumps, react, settles, taking, to_asked, to_closing, to_connection}
-pub use Rattle.osi_carrier.specs.React.{to_linked, to_only, to_reference}
+pub use Rattle.osi_carrier.specs.React.{accepts, denies, handed_out, has_peer, in_class, in_two, is_full, is_of_peer, leaves, opens, pumps}
+pub use Rattle.osi_carrier.specs.React.{react, settles, taking, to_asked, to_closing, to_connection, to_reference}
 pub use Rattle.osi_carrier.specs.References.{dropped, references}
 pub use Rattle.osi_carrier.specs.Rows.{Rows, put, value_at, without}
 pub use Rattle.osi_carrier.specs.State.{Connection, State, asked, closing, ends, linked, packets}
 pub use Rattle.osi_carrier.specs.declared.ends.EndReason.{EndReason}
 pub use Rattle.osi_carrier.specs.declared.ends.EndReason.TheVariants.{Closed, NoMemory}
-pub use Rattle.osi_carrier.specs.declared.faults.OpenError.{OpenError}
-pub use Rattle.osi_carrier.specs.declared.faults.OpenError.TheVariants.{NotCaller, Ended}
 pub use Rattle.osi_between.specs.Addresses.{AreFor, asked_by, behind, is_last, live_after, live_behind, reference_of, requests, units_of}
 pub use Rattle.osi_between.specs.Between.{Acted, AreBetween, AreJoinedBy, Between, Both, Carries, IsAllThere, IsOnTheWay, IsStill, Loses}
 pub use Rattle.osi_between.specs.Between.{Lost, Same, Took, answers_in, arriving, becomes, broken_at, ended_at, fresh_between, fresh_both}
-pub use Rattle.osi_between.specs.Between.{handed_over, is_cut, last_of, lost_from, put_in, reach_less, reach_of, side, still_to_tell}
-pub use Rattle.osi_between.specs.Between.{to_come, told_of, units_from, within_reach}
+pub use Rattle.osi_between.specs.Between.{handed_over, is_cut, last_of, lost_from, put_in, reach_of, side, still_to_tell, to_come, told_of}
+pub use Rattle.osi_between.specs.Between.{units_from, within_reach}
 pub use Rattle.osi_between.specs.Carried.{AreFirstOf, all_handed_in, all_told, handed_in, told_in, tsdus_in, tsdus_told}
 pub use Rattle.osi_between.specs.Course.{Acts, BringsTo, Course, CourseCarries, CourseMoves, HaveMet, Holds, HoldsAt, IsAccepted, IsAskedBy}
-pub use Rattle.osi_between.specs.Course.{IsTsap, MayTakeTwo, accepting, answer_of, answers_at, asked_in, asking, at_end, called_local}
-pub use Rattle.osi_between.specs.Course.{from_end, messages_from, met, progress_of, told_answer, told_asked, told_opening, unasked}
-pub use Rattle.osi_between.specs.Course.{withdrawing}
-pub use Rattle.osi_between.specs.Joined.{ActsFor, AreJoined, Did, HasPlace, HasPlaces, IsEmpty, JoinedFrom, StandsBetween, under_way_for}
+pub use Rattle.osi_between.specs.Course.{IsTsap, MayTakeTwo, accepting, answer_of, answers_at, asking, at_end, called_local, from_end, met}
+pub use Rattle.osi_between.specs.Course.{progress_of, told_opening, unasked, withdrawing}
+pub use Rattle.osi_between.specs.Joined.{ActsFor, AreJoined, Did, HasPlaces, IsEmpty, JoinedFrom, StandsBetween, under_way_for}
 pub use Rattle.osi_between.specs.Journey.{May, MayAll, Move, StayBetween, breaks, carries, closes, connects, ended_behind, ended_by_all}
 pub use Rattle.osi_between.specs.Journey.{hands_in, moved, takes, tells}
 pub use Rattle.osi_between.specs.Linked.{AreLinked, with_state, with_events, TakesFor, WasFed}
 pub use Rattle.osi_between.specs.Meeting.{Changes, Meeting, Moves, Stands, addressed, answers_of, back, farewell, here, leaving, left_both}
-pub use Rattle.osi_between.specs.Meeting.{left_here, left_there, messages_back, messages_out, mirror, out, parted, rows_with, talking}
-pub use Rattle.osi_between.specs.Meeting.{there, told_at, told_open, waiting_here, waiting_there}
+pub use Rattle.osi_between.specs.Meeting.{left_here, left_there, messages_back, messages_out, mirror, out, parted, talking, there, told_at}
+pub use Rattle.osi_between.specs.Meeting.{told_open, waiting_here, waiting_there}
 pub use Rattle.osi_between.specs.Messages.{AreLike, Message, agree, ask, begun_at, bye, deny, kind_of, message, messages_after, messages_to}
 pub use Rattle.osi_between.specs.Messages.{over, parting, uncut_units}
 pub use Rattle.osi_between.specs.OpenLinks.{AgreeIn, AreOpen, IsSettled, IsWell, LeftTakes, Passes, after_send, after_take, links}
@@ -111,4 +99,4 @@ pub use Rattle.osi_between.specs.Progress.{shutting}
 pub use Rattle.osi_between.specs.Refusing.{AreRefusing, Refusal, denied, denying, rows_in}
 pub use Rattle.osi_between.specs.Taking.{TakesSome, TakesUnits}
 pub use Rattle.osi_between.specs.Terms.{IsProposed, Terms, accepts_in, by_two, by_zero, class_of, refusing, terms_of}
-pub use Rattle.osi_between.specs.Zero.{AreJoinedZero, HasOne, ZeroCourse, class_in, given_in}
+pub use Rattle.osi_between.specs.Zero.{AreJoinedZero, HasOne, ZeroCourse}

@@ -1,6 +1,6 @@
 -- What C is told of a side of a connection is by what was found of what passed on it, and its references are those that passed.
 -- For the functions of `notes` and `note_codes`.
-use Rattle.std.proofs.Common.{◌≡◌, ◌∙◌, refl, ℕ, Bool, Option, Some, None}
+use Rattle.std.proofs.Common.{arith, ◌≡◌, ℕ, Bool, Option, Some, None}
 use Rattle.osi_judge.specs.declared.directions.Direction.{Direction}
 use Rattle.osi_judge.specs.declared.findings.Finding.{Finding}
 use Rattle.osi_judge.specs.declared.rules.Break.{Break}
@@ -22,32 +22,19 @@ pub note_is : (d : Direction) (c : Connection) (j : Joined) (f g : Finding) (o :
     → HoldsJoined c j → IsHeard c → f ≡ (line_in d c).side.finding → g ≡ (line_in (other d) c).side.finding
     → b ≡ (line_in d c).side.by → IsPlace (line_in d c).side.finding (spoken d j).said o → over ≡ is_over j.room
     → dropped ≡ is_dropped f g → m ≡ note_of_found over f o b → n ≡ note_unless dropped m → IsNoteOf d j n
-note_is d c j f g o b dropped over n m h k own beside by place passed drops found is = record {
-  own = (line_in d c).side;
-  beside = (line_in (other d) c).side;
-  of_own = session_at d c j h k;
-  of_beside = session_at (other d) c j h k;
-  offset = o;
-  place = place;
-  tells = is ∙ (λ i. note_unless (drops i) (found i))
-      ∙ (λ i. note_unless (is_dropped (own i) (beside i)) (note_of_found (passed i) (own i) o (by i)));
-}
+note_is d c j f g o b dropped over n m h k own beside by place passed drops found is = grind (arith, session_at)
 
 -- of the connection that has a number, or of none
 pub note_held : (d : Direction) (o : Option Joined) (c : Connection) (n : Note) → HoldsFound (Some c) o
     → ((j : Joined) → HoldsJoined c j → IsNoteOf d j n) → IsNoteAt d o n
-note_held d None c n h k = absurd h
-note_held d (Some j) c n h k = k j h
+note_held d o c n h k = grind arith
 
 pub note_missing : (d : Direction) (o : Option Joined) → HoldsFound None o → IsNoteAt d o Nothing
-note_missing d None h = refl
-note_missing d (Some j) h = absurd h
+note_missing d o h = grind arith
 
 pub names_held : (o : Option Joined) (c : Connection) (r : References) → HoldsFound (Some c) o
     → ((j : Joined) → HoldsJoined c j → r ≡ named_in (Some j)) → r ≡ named_in o
-names_held None c r h k = absurd h
-names_held (Some j) c r h k = k j h
+names_held o c r h k = grind arith
 
 pub names_missing : (o : Option Joined) → HoldsFound None o → named_in None ≡ named_in o
-names_missing None h = refl
-names_missing (Some j) h = absurd h
+names_missing o h = grind arith

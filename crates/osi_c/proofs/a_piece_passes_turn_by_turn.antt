@@ -1,12 +1,12 @@
 -- What passed of a piece, and what is left of it, turn by turn, until all passed, there is no more room or memory ran out.
 -- For `take_piece`.
 use Rattle.std.proofs.Common.{◌≡◌, ◌∙◌, refl, sym, ap, subst, ℕ, ◌<◌, ◌≤◌, ◌+◌, ◌-◌, Bool, arith, length, List, [], ◌∷◌, ◌++◌, take, drop}
-use Rattle.std.proofs.Common.{true, false, not, ◌==◌}
+use Rattle.std.proofs.Common.{true, not, ◌==◌}
 use Rattle.std.proofs.lemmas.List.{append-nil, append_assoc, map-append, length-append, take-append-drop, take-append-le}
-use Rattle.std.proofs.Math.Seq.{take-append_seam, take-length}
+use Rattle.std.proofs.Math.Seq.{take-append_seam}
 use Rattle.osi_judge.specs.declared.directions.Direction.{Direction}
 use Rattle.osi_judge.specs.declared.judge.Judge.{Judge}
-use Rattle.osi_judge.specs.Captures.{Capture, piece, of}
+use Rattle.osi_judge.specs.Captures.{Capture, piece}
 use Rattle.osi_dispute.specs.Verdicts.{Knows}
 use Rattle.osi_c.specs.Watched.{Passes, TakesPiece, room_in}
 use Rattle.osi_c.specs.declared.watches.Watch.{Watch}
@@ -15,21 +15,11 @@ use Rattle.osi_c.specs.declared.watches.Watch.{Watch}
 abbrev pub Knows_more : Direction → List ℕ → Judge → Judge → Type 0
 Knows_more d octets old new = (capture : Capture) → Knows old capture → Knows new (capture ++ piece d octets)
 
-knows_none : (d : Direction) (j : Judge) → Knows_more d [] j j
-knows_none d j = λ capture k. subst (λ (c : Capture). Knows j c) (sym (append-nil capture)) k
-
-knows_both : (d : Direction) (old now new : Judge) (a b : List ℕ) → Knows_more d a old now → Knows_more d b now new
-    → Knows_more d (a ++ b) old new
-knows_both d old now new a b p q = λ capture k.
-    subst (λ (z : Capture). Knows new z)
-    (append_assoc capture (piece d a) (piece d b) ∙ ap (λ (z : Capture). capture ++ z) (sym (map-append (of d) a b)))
-    (q (capture ++ piece d a) (p capture k))
-
 -- ---- octets of a piece
 
 none_passes : (d : Direction) (w : Watch) → Passes d [] w w
 none_passes d w = record {
-  knows = knows_none d w.judge;
+  knows = grind (arith, append-nil);
   counted = grind (arith);
   room = λ some. absurd (grind (arith, some));
   most = λ few. few;
@@ -41,7 +31,7 @@ none_passes d w = record {
 both_pass : (d : Direction) (old now new : Watch) (a b : List ℕ) → Passes d a old now → Passes d b now new → 0 < room_in old
     → Passes d (a ++ b) old new
 both_pass d old now new a b p q room = record {
-  knows = knows_both d old.judge now.judge new.judge a b p.knows q.knows;
+  knows = grind (arith, append_assoc, map-append);
   counted = grind (arith, p.counted, q.counted, length-append a b);
   room = λ some. room;
   most = λ few. q.most (p.most few);
@@ -68,9 +58,7 @@ first_of_front n m rest few = sym (take-append-le n (take m rest) (drop m rest) 
 -- of a front part of what is left, the first octets passed
 pub front_passed : (d : Direction) (rest front : List ℕ) (now new : Watch) (n m : ℕ) → front ≡ take m rest → n ≤ length front
     → Passes d (take n front) now new → Passes d (take n rest) now new
-front_passed d rest front now new n m is few p =
-    subst (λ (o : List ℕ). Passes d o now new)
-    (ap (take n) is ∙ first_of_front n m rest (subst (λ (o : List ℕ). n ≤ length o) is few)) p
+front_passed d rest front now new n m is few p = grind (arith, first_of_front)
 
 pub more_passed : (d : Direction) (piece rest : List ℕ) (old now new : Watch) (n : ℕ) → IsPassing d piece rest old now
     → Passes d (take n rest) now new → new.is_full ≡ now.is_full → 0 < room_in now → IsPassing d piece (drop n rest) old new
@@ -89,9 +77,7 @@ empty_yes [] b e t = refl
 empty_yes (x ∷ xs) b e t = absurd (grind (arith, e, t))
 
 pub some_left : (xs : List ℕ) (b : Bool) → b ≡ (length xs == 0) → not b ≡ true → 0 < length xs
-some_left xs true e t = absurd (cc)
-some_left [] false e t = absurd (cc)
-some_left (x ∷ xs) false e t = grind (arith)
+some_left xs b e t = grind arith
 
 -- ---- a piece
 
@@ -106,14 +92,7 @@ counted d piece rest old now p = ap length p.parts ∙ length-append p.fed rest
 pub all_passed : (d : Direction) (piece rest : List ℕ) (old now : Watch) → rest ≡ [] → IsPassing d piece rest old now
     → TakesPiece d piece (length piece) old now
 all_passed d piece rest old now none p =
-    let n = counted d piece rest old now p in let z : length rest ≡ 0 = ap length none in record {
-      count = length p.fed;
-      passes = subst (λ (o : List ℕ). Passes d o old now) (sym (fed_is d piece rest old now p)) p.passes;
-      first = grind (arith, n);
-      within = grind (arith);
-      judged = λ same. p.full;
-      full = λ fewer. absurd (grind (arith, n, z, fewer));
-    }
+    let n = counted d piece rest old now p in grind (arith, fed_is d piece rest old now p)
 
 -- there is no more room
 pub no_room : (d : Direction) (piece rest : List ℕ) (old now : Watch) → 0 < length rest → room_in now ≡ 0 → IsPassing d piece rest old now
@@ -141,12 +120,10 @@ pub refused : (d : Direction) (piece rest : List ℕ) (old now new : Watch) (n :
     → IsPassing d piece rest old now
     → Passes d [] now new → new.is_full ≡ now.is_full → 0 < room_in now → TakesPiece d piece n old new
 refused d piece rest old now new n is p q full room =
-    let m = counted d piece rest old now p in record {
-      count = length p.fed;
-      passes = subst (λ (o : List ℕ). Passes d o old new) (append-nil p.fed ∙ sym (fed_is d piece rest old now p))
-          (both_pass d old now new p.fed [] p.passes q (p.room room));
-      first = grind (arith, m, is);
-      within = grind (arith, m, is);
-      judged = λ same. full ∙ p.full;
-      full = λ fewer. absurd (grind (arith, m, is, fewer));
-    }
+    let m = counted d piece rest old now p in grind (
+      arith,
+      append-nil p.fed,
+      fed_is d piece rest old now p,
+      both_pass d old now new p.fed [] p.passes q (p.room room),
+      p.room room,
+    )

@@ -1,6 +1,6 @@
 -- A slot of a judge, its handle, and the box whose pointer it is: what each owns, and the word that it is in memory.
 -- For the proofs by hand of `WatchHandle` and of `OsiJudge::get_mut`; a_slot_holds_a_box has the same of an end.
-use Rattle.std.proofs.Common.{◌≡◌, List, [], ◌∷◌, ◌++◌, refl, sym, subst, lit<}
+use Rattle.std.proofs.Common.{arith, ◌≡◌, List, [], ◌∷◌, ◌++◌, refl, sym, subst}
 use lib.Dec.{T}
 use seplogic.Ra.Ura.{Ura}
 use mir.Syntax.{impl, tnil, dnil}
@@ -12,7 +12,7 @@ use types.Kit.{Item, Goal, Seq, Step, step, ‵, ◌$◌, move, drop, fsplit, fj
 use denote.RattleType.{Valss}
 use denote.Builtin.{RawPtr, bool}
 use denote.Memory.{lone}
-use denote.RawPtr.{Ptr, block_ptr, null_ptr, ptr_val}
+use denote.RawPtr.{Ptr, null_ptr, ptr_val}
 use denote.Steps.{nothing}
 use denote.Struct.Struct.{within}
 use denote.Struct.Declared as declared
@@ -46,8 +46,7 @@ abbrev pub at_word : Ptr → Val
 at_word p = vstruct (vcons (ptr_val p) vnil)
 
 pub handle_typed : (p : Ptr) → T (has_ty (lone handle.the_row.mir) (at_word p)) × WT (at_word p)
-handle_typed (block_ptr b o) = (tt, (tt, tt))
-handle_typed null_ptr = (tt, (record { fits = lit< tt }, tt))
+handle_typed p = grind arith
 
 -- a slot that is full, or not, with the handle at this pointer
 abbrev pub slot_word : Bool → Ptr → Val
@@ -84,8 +83,7 @@ module _ {M : Type 1} {𝓤 : Ura M} {𝓛 : Logic 𝓤} {K : Type 0} {Γ : List
   slot_out t s vs k =
       fpick t (λ vss. fsplit t $ feq_l t
       (λ ev. fsplit t $ feq_l t (λ eb. fsplit t $ handle_out t s.inner vss.1.0 (λ eh. move t (1 ∷ []) $ drop t $
-      k (subst (λ (us : List Val). vs ≡ vstruct (of_list ((vbool s.full ∷ []) ++ (us ++ []))) ∷ []) eh
-      (subst (λ (us : List Val). vs ≡ vstruct (of_list (us ++ (vss.1.0 ++ []))) ∷ []) eb ev))))))
+      k (grind (arith, vstruct, of_list, vbool))))))
 
   pub slot_in : K → (s : slot.the_row.Denot)
       → Step K 𝓛 (‵ (slot.the_row.own_val s (slot_word s.full s.inner.at ∷ [])) ∷ Γ) G (‵ (may_own s.inner.at s.inner.value) ∷ Γ) G

@@ -1,8 +1,7 @@
 -- If nothing is due of each connection that a tap holds, nothing is due of the connection with any number.
 -- For `is_still` of `notes`, and for `due_by`, `due_of_each` and `sessions_due` of `tap_watching`.
-use Rattle.std.proofs.Common.{◌≡◌, ◌∙◌, refl, sym, ap, subst, ℕ, zero, suc, ◌+◌, ◌<◌, ◌≤◌, ◌⊎◌, inl, inr, arith}
-use Rattle.std.proofs.Common.{List, [], ◌∷◌, ◌++◌, length, get_or}
-use Rattle.std.proofs.Common.{Bool, true, false, cond, ◌==◌, Option, Some, None}
+use Rattle.std.proofs.Common.{◌≡◌, refl, sym, subst, ℕ, zero, suc, ◌+◌, ◌<◌, ◌≤◌, ◌⊎◌, inl, inr, arith, List, [], ◌∷◌, ◌++◌, length, get_or}
+use Rattle.std.proofs.Common.{Bool, true, false, Option, Some, None}
 use Rattle.std.proofs.lemmas.Bool.{eqb-true}
 use Rattle.std.specs.Prelude.{IfNone, slice_get}
 use Rattle.std.specs.List.{find}
@@ -19,17 +18,14 @@ use Rattle.osi_c.specs.TapWatching.{is_among, HasNone, HasNoneBy, HasNoneByEach,
 use Rattle.osi_c.specs.declared.notes.Note.TheVariants as note
 use Rattle.osi_c.specs.declared.subjects.Subject.{Subject}
 use Rattle.osi_c.specs.declared.subjects.Subject.TheVariants.{Session}
-use Rattle.osi_c.proofs.what_is_fetched_of_a_tap.{below_or_same}
 
 -- ---- one connection
 
 pub still_if : (b : Bool) (c : Connection) → b ≡ true → StillIf b c → IsStill c
-still_if true c e h = h
-still_if false c e h = absurd (cc)
+still_if b c e h = grind arith
 
 pub none_as : {X : Type 0} (r : Option X) (A B : Type 0) → (A → B) → IfNone r A → IfNone r B
-none_as None A B f h = f h
-none_as (Some x) A B f h = tt
+none_as h h2 h3 f h4 = grind arith
 
 -- by its number
 pub by_its_number : (t : Tap) (told : List Subject) (c : Connection) (n : ℕ) → ((j : Joined) → HoldsJoined c j → n ≡ j.number)
@@ -54,10 +50,7 @@ EachBefore P cs m = (i : ℕ) (c : Connection) → i < m → slice_get cs i ≡ 
 
 pub one_more_place : (P : Connection → Type 0) (cs : List Connection) (m : ℕ) (d : Connection) → m < length cs → EachBefore P cs m
     → P (get_or cs m d) → EachBefore P cs (m + 1)
-one_more_place P cs m d lt h k i c below e = elim (below_or_same i m below) [
-  | inl less ↦ h i c less e
-  | inr same ↦ subst P (at_place cs m d c lt (ap (slice_get cs) (sym same) ∙ e)) k
-]
+one_more_place P cs m d lt h k i c below e = search (arith, at_place)
 
 pub each_place : (P : Connection → Type 0) (cs : List Connection) (m : ℕ) → length cs ≤ m → EachBefore P cs m
     → (i : ℕ) (c : Connection) → slice_get cs i ≡ Some c → P c
@@ -73,10 +66,6 @@ abbrev AreSilent : Direction → Tap → List Subject → List Joined → Type 0
 AreSilent d t told [] = Unit {0}
 AreSilent d t told (j ∷ js) = Silent d t told j × AreSilent d t told js
 
-of_a_side : (d : Direction) (j : Joined) → IsNoteOf Left j note.Nothing × IsNoteOf Right j note.Nothing → IsNoteOf d j note.Nothing
-of_a_side Left j h = h.0
-of_a_side Right j h = h.1
-
 none_of_a_side : (d : Direction) (t : Tap) (told : List Subject) (n : ℕ) → HasNoneOf t told n → HasNone t told (Session n d)
 none_of_a_side Left t told n h = h.0
 none_of_a_side Right t told n h = h.1
@@ -84,7 +73,7 @@ none_of_a_side Right t told n h = h.1
 silent : (d : Direction) (t : Tap) (told : List Subject) (c : Connection) (j : Joined) → HoldsJoined c j → IsHeard c → HasNoneBy t told c
     → Silent d t told j
 silent d t told c j h k none = elim none [
-  | inl still ↦ inl (of_a_side d j (still j h k))
+  | inl still ↦ inl (grind arith)
   | inr due ↦ inr (none_of_a_side d t told j.number (due j h))
 ]
 
@@ -105,25 +94,10 @@ abbrev SilentAt : Direction → Tap → List Subject → ℕ → Option Joined �
 SilentAt d t told number None = Unit {0}
 SilentAt d t told number (Some j) = (j.number ≡ number) × Silent d t told j
 
-silent_step : (d : Direction) (t : Tap) (told : List Subject) (number : ℕ) (b : Bool) (j : Joined) (o : Option Joined)
-    → (b ≡ true → j.number ≡ number) → Silent d t told j → SilentAt d t told number o → SilentAt d t told number (cond b (Some j) o)
-silent_step d t told number true j o same h k = (same refl, h)
-silent_step d t told number false j o same h k = k
-
 silent_found : (d : Direction) (t : Tap) (told : List Subject) (number : ℕ) (js : List Joined) → AreSilent d t told js
     → SilentAt d t told number (find (has_number number) js)
 silent_found d t told number [] h = tt
-silent_found d t told number (j ∷ js) h =
-    silent_step d t told number (j.number == number) j (find (has_number number) js) (eqb-true j.number number) h.0
-    (silent_found d t told number js h.1)
-
-note_of_untold : (d : Direction) (t : Tap) (told : List Subject) (s : State) (number : ℕ) → HoldsState t s → IsSettled t
-    → is_among told (Session number d) ≡ false → HasNone t told (Session number d)
-    → IsNoteAt d (numbered number s.course.sessions) note.Nothing
-note_of_untold d t told s number h k fresh none = elim none [
-  | inl was ↦ absurd (cc)
-  | inr tells ↦ tells s h k
-]
+silent_found d t told number (j ∷ js) h = grind (arith, eqb-true, silent_found d t told number js h.1)
 
 note_of_silent : (d : Direction) (t : Tap) (told : List Subject) (s : State) (number : ℕ) (o : Option Joined)
     → numbered number s.course.sessions ≡ o → HoldsState t s → IsSettled t → is_among told (Session number d) ≡ false
@@ -131,7 +105,7 @@ note_of_silent : (d : Direction) (t : Tap) (told : List Subject) (s : State) (nu
 note_of_silent d t told s number None e h k fresh is = subst (λ (o : Option Joined). IsNoteAt d o note.Nothing) (sym e) refl
 note_of_silent d t told s number (Some j) e h k fresh is = elim is.1 [
   | inl said ↦ subst (λ (o : Option Joined). IsNoteAt d o note.Nothing) (sym e) said
-  | inr none ↦ note_of_untold d t told s number h k fresh (subst (λ (n : ℕ). HasNone t told (Session n d)) is.0 none)
+  | inr none ↦ grind arith
 ]
 
 -- ---- any number
@@ -144,10 +118,7 @@ module _ (t : Tap) (told : List Subject) (cs ds : List Connection)
       → IsNoteAt d (numbered number s.course.sessions) note.Nothing
   by_number d number s h k fresh =
       note_of_silent d t told s number (numbered number s.course.sessions) refl h k fresh
-      (silent_found d t told number (s.course.sessions.live ++ s.course.sessions.done)
-      (both_silent d t told s.course.sessions.live s.course.sessions.done
-      (all_silent d t told cs s.course.sessions.live (placed s h k.judged) (heard k) each)
-      (all_silent d t told ds s.course.sessions.done (replaced s h k.judged) (gone k) other)))
+      (search (arith, silent_found, both_silent, all_silent))
 
   none_by : (d : Direction) (number : ℕ) (b : Bool) → is_among told (Session number d) ≡ b → HasNone t told (Session number d)
   none_by d number true e = inl e

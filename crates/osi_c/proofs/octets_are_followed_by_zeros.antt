@@ -1,5 +1,5 @@
 -- Octets with zeros after them.
-use Rattle.std.proofs.Common.{◌≡◌, ◌∙◌, ℕ, ◌-◌, List, ◌++◌, length, drop, replicate, ap}
+use Rattle.std.proofs.Common.{arith, ◌≡◌, ℕ, ◌-◌, List, ◌++◌, length, drop, replicate, ap}
 use Rattle.std.proofs.lemmas.List.{drop-replicate}
 use Rattle.osi_c.specs.Addressed.{tsap_told, selector_told}
 use Rattle.osi_c.specs.declared.addresses.OsiTsap.{OsiTsap}
@@ -8,9 +8,7 @@ use Rattle.osi_c.specs.declared.addresses.OsiSelector.{OsiSelector}
 -- what was copied to the front of zeros
 zeros_behind : (front octets : List ℕ) (most : ℕ) → front ≡ octets →
     front ++ drop (length octets) (replicate most 0) ≡ octets ++ replicate (most - length octets) 0
-zeros_behind front octets most same =
-    ap (λ (o : List ℕ). o ++ drop (length octets) (replicate most 0)) same
-    ∙ ap (λ (o : List ℕ). octets ++ o) (drop-replicate (length octets) most 0)
+zeros_behind front octets most same = grind (arith, drop-replicate)
 
 abbrev tsap_with : ℕ → List ℕ → OsiTsap
 tsap_with n o = record { octets = o; length = n }

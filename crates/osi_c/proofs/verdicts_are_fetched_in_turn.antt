@@ -1,6 +1,6 @@
 -- A verdict is fetched first on the side whose break passed first; if none is due of it, and none of the other, none is due.
 -- For `fetch`.
-use Rattle.std.proofs.Common.{◌≡◌, ◌∙◌, subst, inl, inr}
+use Rattle.std.proofs.Common.{arith, ◌≡◌, inl}
 use Rattle.std.specs.Prelude.{Option, Some, None, IfSome, IfNone}
 use Rattle.osi_judge.specs.Captures.{other}
 use Rattle.osi_judge.specs.Following.{first_in}
@@ -14,10 +14,8 @@ use Rattle.osi_c.specs.declared.watches.Watch.{Watch}
 pub none_of_both : (r : Option OsiVerdict) (first second : Direction) (w now new : Watch) → second ≡ other first
     → HasNone first w × (now ≡ w) → IfNone r (HasNone second now × (new ≡ now)) → IfNone r (HasNone Left w × HasNone Right w × (new ≡ w))
 none_of_both (Some v) first second w now new is p q = q
-none_of_both None Left second w now new is (h, e) (k, f) =
-    (h, subst (λ (v : Watch). HasNone Right v) e (subst (λ (d : Direction). HasNone d now) is k), f ∙ e)
-none_of_both None Right second w now new is (h, e) (k, f) =
-    (subst (λ (v : Watch). HasNone Left v) e (subst (λ (d : Direction). HasNone d now) is k), h, f ∙ e)
+none_of_both None Left second w now new is (h, e) (k, f) = grind arith
+none_of_both None Right second w now new is (h, e) (k, f) = grind arith
 
 -- the verdict on the side whose break passed first
 pub first_given : (side : Direction) (w : Watch) (v : OsiVerdict) (new : Watch) → side ≡ leading (first_in w.judge) → GivesOf side w v new
@@ -27,9 +25,4 @@ first_given side w v new is gives = record { side = side; turn = inl is; gives =
 -- that on the other side, after none was due of the first
 pub second_given : (r : Option OsiVerdict) (first second : Direction) (w now new : Watch) → first ≡ leading (first_in w.judge)
     → HasNone first w × (now ≡ w) → IfSome r (λ v. GivesOf second now v new) → IfSome r (λ v. Gives w v new)
-second_given None first second w now new is none h = tt
-second_given (Some v) first second w now new is (none, same) h = record {
-  side = second;
-  turn = inr (subst (λ (d : Direction). HasNone d w) is none);
-  gives = subst (λ (x : Watch). GivesOf second x v new) same h;
-}
+second_given r first second w now new is none h = grind arith

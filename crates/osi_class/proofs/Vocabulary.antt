@@ -1,22 +1,21 @@
 -- What the proofs of this crate take from the library, from the crates below and from its own definitions.
 pub use Rattle.std.proofs.Math.Nat.{add-div_right, div-eq_of_lt, pow-le-pow_right}
-pub use Rattle.std.proofs.lemmas.Bool.{le-ltb, leb-false, leb-true, lt-ltb, ltb-false, ltb-true}
+pub use Rattle.std.proofs.lemmas.Bool.{le-ltb, leb-true, lt-ltb, ltb-false, ltb-true}
 pub use Rattle.std.proofs.lemmas.Grind.{flat_map-append}
 pub use Rattle.std.proofs.lemmas.List.{append_assoc, append_cancel_left, length-take-le, map-append, take-append-drop, take_all}
 pub use Rattle.std.specs.List.{AllByRecursion, flat_map}
 pub use Rattle.std.specs.Prelude.{min}
-pub use Rattle.osi_tpdu.specs.Value.{Value, acknowledge, confirm, data0, data2, disconnect, disconnected, error, request}
-pub use Rattle.osi_class.specs.Between.{AreOfClass, Comes, HasWholeTsdus, IsFresh, IsQuiet, IsShortTsdu, LeftMoves, LinkPair, OnlySends}
-pub use Rattle.osi_class.specs.Between.{Says, TakesOldest, Turn, Turns, TurnsAlong, at_left, at_right, awaiting_pair, given_by, left_in}
-pub use Rattle.osi_class.specs.Between.{opened_pair, opposite, parts_under_way, right_out, swapped, under_way, under_way_before}
-pub use Rattle.osi_class.specs.Directions.{Agree, AgreeInClass, AgreeZero, HaveFlows, StepsOrStays, TurnSteps, ack_numbers, direction}
-pub use Rattle.osi_class.specs.Directions.{unit_numbers}
+pub use Rattle.osi_tpdu.specs.Value.{Value, acknowledge, data2}
+pub use Rattle.osi_class.specs.Between.{AreOfClass, HasWholeTsdus, IsFresh, IsQuiet, IsShortTsdu, LinkPair, OnlySends, Says, TakesOldest}
+pub use Rattle.osi_class.specs.Between.{Turn, Turns, TurnsAlong, at_left, at_right, awaiting_pair, given_by, left_in, opened_pair, opposite}
+pub use Rattle.osi_class.specs.Between.{parts_under_way, right_out, swapped, under_way, under_way_before}
+pub use Rattle.osi_class.specs.Directions.{Agree, AgreeInClass, AgreeZero, HaveFlows, TurnSteps, ack_numbers, direction, unit_numbers}
 pub use Rattle.osi_class.specs.Ends.{Ends, fresh_ends, unit_size}
-pub use Rattle.osi_class.specs.Flow.{Flow, Receiver, Sender, ack_number, acknowledged, after_acked, after_sent, after_taken, fresh_receiver}
+pub use Rattle.osi_class.specs.Flow.{Flow, Receiver, Sender, ack_number, acknowledged, after_acked, after_sent, fresh_receiver}
 pub use Rattle.osi_class.specs.Flow.{fresh_sender, is_awaited, steps_before}
 pub use Rattle.osi_class.specs.Giving.{AllGoAtOnce, Drained, GivesPart, GivesSlot, GoesAtOnce, GoesWhole, MayGoAll, all_given, drained_by}
-pub use Rattle.osi_class.specs.Giving.{drained_within, given_one_by_one, header_octets, left_of_acks, left_of_tsdus, left_to_give, most_by}
-pub use Rattle.osi_class.specs.Giving.{most_given, octets_in, octets_in_parts, octets_of, one_by_one, parts_needed, units_needed, with_rest}
+pub use Rattle.osi_class.specs.Giving.{drained_within, given_one_by_one, header_octets, left_of_tsdus, left_to_give, most_by, most_given}
+pub use Rattle.osi_class.specs.Giving.{octets_in, octets_in_parts, octets_of, one_by_one, parts_needed, units_needed, with_rest}
 unfoldable pub use Rattle.osi_class.specs.Giving.{drained}
 pub use Rattle.osi_class.specs.Joining.{Joining, joined, joining, with_part}
 pub use Rattle.osi_class.specs.Limits.{longest_tsdu}
@@ -24,10 +23,9 @@ pub use Rattle.osi_class.specs.Link.{Given, Standing, Two, ack, fresh_two, given
 pub use Rattle.osi_class.specs.Link.{part_under, sent_flow, taken, taken_by, taken_flow, two_standing, unit_of, with_joined, with_sender}
 pub use Rattle.osi_class.specs.Link.{with_tsdu, with_tsdus, zero_standing}
 pub use Rattle.osi_class.specs.Owed.{CreditStep, CreditSteps, Direction, InStep, StepsAlong, known_after, numbers, opened, owed, restored}
-pub use Rattle.osi_class.specs.Owed.{restoring, take_ack, take_unit, unknown, write_ack, write_unit}
+pub use Rattle.osi_class.specs.Owed.{take_ack, take_unit, write_ack, write_unit}
 pub use Rattle.osi_class.specs.Runs.{Move, Moves, MovesAlong, give_out, given_parts, hand_in, hand_out, part_in, part_out, parts_in}
 pub use Rattle.osi_class.specs.Runs.{parts_out, take_in, tsdu_in, tsdu_out, tsdus_in, tsdus_out, unit_parts}
 pub use Rattle.osi_class.specs.Sound.{HasGivenInRange, IsSound, IsSoundFlow, TakesInRange}
 pub use Rattle.osi_class.specs.Tsdus.{MakeTheSame, Part, give, tsdus, tsdus_after, uncut}
 pub use Rattle.osi_class.specs.declared.faults.LinkFault.{LinkFault}
-pub use Rattle.osi_class.specs.declared.faults.LinkFault.TheVariants.{CreditReduced, OutOfSequence, TsduTooLong}

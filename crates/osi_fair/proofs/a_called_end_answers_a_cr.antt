@@ -10,7 +10,7 @@ use Rattle.osi_fair.proofs.small_facts_that_many_lemmas_use.{and_second, differ,
 use Rattle.osi_fair.proofs.each_connection_of_a_called_end.{stands_at, Among, AreAbove, Answering, Asked, Called, IsDc, IsFor, IsStray}
 use Rattle.osi_fair.proofs.each_connection_of_a_called_end.{IsUnlinked, Row, Stand, Untagged, answers, closes, first_some, over, refuses}
 use Rattle.osi_fair.proofs.each_connection_of_a_called_end.{talks}
-use Rattle.osi_fair.proofs.units_by_their_place.{Placed, at_first, at_join, at_other, first_at, first_more, units_at, values, values_join}
+use Rattle.osi_fair.proofs.units_by_their_place.{Placed, at_first, at_join, at_other, first_at, units_at, values, values_join}
 use Rattle.osi_fair.proofs.what_a_called_end_does_to_its_lines.{above_more, some_more, strays_keep}
 use Rattle.osi_fair.proofs.what_is_live_at_a_called_end.{IsKnown, Timely, timely_answers, timely_puts}
 use Rattle.osi_fair.proofs.which_units_are_for_a_connection.{keep, names_in, those}
@@ -30,14 +30,9 @@ item_is c e o h k = cc
 place_not : (b : Bool) (c : Bool) → c ≡ b → (b ≡ true → ⊥) → b ≡ false
 place_not b c e h = grind arith
 
--- what has come for a reference that was not given is DCs
-own_by : (given r m : ℕ) (v : Value) (vs : List Value) (b : Bool) → (m == r) ≡ b → given < r → ((m ≤ given) × (1 ≤ m)) ⊎ IsDc v →
-    Among [] vs → Among [] (keep b v vs)
-own_by given r m v vs b e above h a = grind (arith, eqb-true)
-
 not_own : (given r : ℕ) (v : Value) (vs : List Value) (o : Option ℕ) → destination_of v ≡ o → given < r → IsFor given v →
     Among [] vs → Among [] (keep (names_in r o) v vs)
-not_own given r v vs o d above h a = grind (arith, own_by)
+not_own given r v vs o d above h a = grind arith
 
 dcs_alone : (given r : ℕ) (vs : List Value) → given < r → AllByRecursion (IsFor given) vs → Among [] (those r vs)
 dcs_alone given r [] above h = refl
@@ -115,7 +110,7 @@ module _ (local : Local) (w : Whole) (f : Called local w) (was : w.end.ended ≡
     values_are = values_join f.tagged ((Some p, v) ∷ [])
 
     begun_same : (i : ℕ) → (w.begun && first_at i tagged) ≡ (w.begun && first_at i f.tagged)
-    begun_same i = first_more w.begun i f.tagged ((Some p, v) ∷ []) f.some
+    begun_same i = grind arith
 
     begun_not : {A : Type 0} → (w.begun && first_at p tagged) ≡ true → A
     begun_not e = absurd (first_some p f.tagged (and_second w.begun (first_at p f.tagged) (sym (begun_same p) ∙ e)) place.none)
@@ -168,9 +163,6 @@ module _ (local : Local) (w : Whole) (f : Called local w) (was : w.end.ended ≡
     abbrev dr : Value
     dr = disconnect x.source 0 reason []
 
-    rows_dr : (m : ℕ) → m ≤ s.given → value_at m t.live ≡ value_at m s.live
-    rows_dr m up = ap (λ (l : Rows Live). value_at m l) live
-
     stand_dr : (c : Connection) → Asked x c → Stand local f.shut t coming (units_at p (tagged dr)) (units_at p later)
         (w.begun && first_at p (tagged dr)) (f.refs p) c
     stand_dr c a = refuses x a reason (mine_here dr) place.no_more place.no_ref (λ e. begun_not dr e)
@@ -184,7 +176,7 @@ module _ (local : Local) (w : Whole) (f : Called local w) (was : w.end.ended ≡
         subst (λ (j : ℕ). Stand local f.shut t coming (units_at j (tagged dr)) (units_at j later) (w.begun && first_at j (tagged dr))
         (f.refs j) c)
         (sym same) (stand_dr c (subst (λ (y : Connection). Asked x y) is place.asked))
-    dr_by i c false e at = stand_else dr t rows_dr i c (unlike i p e) at
+    dr_by i c false e at = stand_else dr t (grind arith) i c (unlike i p e) at
 
     stray_dr : (v : Value) (rest : List Placed) → IsStray f.shut s f.refs f.home w.tap.course.strays v rest →
         IsStray f.shut t f.refs f.home w.tap.course.strays v (rest ++ (Some p, dr) ∷ [])
@@ -200,7 +192,7 @@ module _ (local : Local) (w : Whole) (f : Called local w) (was : w.end.ended ≡
       home = f.home;
       shut = f.shut;
       stands = λ i c at. dr_by i c (i == p) refl at;
-      beyond = λ i none. gone_by dr t rows_dr i none (i == p) refl;
+      beyond = λ i none. gone_by dr t (grind arith) i none (i == p) refl;
       homes = λ i r e. ((f.homes i r e).0, subst (λ (j : ℕ). r ≤ j) (sym given) (f.homes i r e).1);
       positive = f.positive;
       linked_at = λ lasts r peer k there. f.linked_at was r peer k (ap (λ (l : Rows Live). value_at r l) (sym live) ∙ there);
@@ -249,9 +241,6 @@ module _ (local : Local) (w : Whole) (f : Called local w) (was : w.end.ended ≡
     refs_other : (i : ℕ) → (i == p) ≡ false → refs i ≡ f.refs i
     refs_other i e = ap (λ (b : Bool). if b then Some r else f.refs i) e
 
-    home_here : (m : ℕ) → (m == r) ≡ true → home m ≡ p
-    home_here m e = ap (λ (b : Bool). if b then p else f.home m) e
-
     home_other : (m : ℕ) → (m == r) ≡ false → home m ≡ f.home m
     home_other m e = ap (λ (b : Bool). if b then p else f.home m) e
 
@@ -261,11 +250,8 @@ module _ (local : Local) (w : Whole) (f : Called local w) (was : w.end.ended ≡
     not_by : (m : ℕ) (b : Bool) → (m == r) ≡ b → m ≤ s.given → b ≡ false
     not_by m b e up = grind (arith, eqb-true)
 
-    below_not : (m : ℕ) → m ≤ s.given → (m == r) ≡ false
-    below_not m up = not_by m (m == r) refl up
-
     home_old : (m : ℕ) → m ≤ s.given → home m ≡ f.home m
-    home_old m up = home_other m (below_not m up)
+    home_old m up = home_other m (grind (arith, not_by))
 
     new_answer : (c : Connection) → Asked x c → Answering local f.shut t coming (units_at p (tagged cc_is))
         (w.begun && first_at p (tagged cc_is)) (Some r) c
@@ -310,7 +296,7 @@ module _ (local : Local) (w : Whole) (f : Called local w) (was : w.end.ended ≡
     gone_cc i none false e = search (arith, gone_by cc_is t rows i none false e, refs_other i e)
 
     homes_by : (i m : ℕ) (b : Bool) → (i == p) ≡ b → refs i ≡ Some m → (home m ≡ i) × (m ≤ t.given)
-    homes_by i m true e h = grind (arith, number_is, refs_here, home_here, same_true, eqb-true)
+    homes_by i m true e h = grind (arith, number_is, refs_here, same_true, eqb-true)
     homes_by i m false e h =
         let (a, b) = f.homes i m (sym (refs_other i e) ∙ h) in
         (home_old m b ∙ a, subst (λ (j : ℕ). m ≤ j) (sym given) (omega arith))
@@ -323,15 +309,11 @@ module _ (local : Local) (w : Whole) (f : Called local w) (was : w.end.ended ≡
     old_place m h = grind (arith, place_not, no_number, place, eqb-true)
 
     linked_cc : (m peer : ℕ) (l : Standing) (b : Bool) → (m == r) ≡ b → value_at m t.live ≡ Some (linked peer l) → refs (home m) ≡ Some m
-    linked_cc m peer l b e there = search (arith, home_here, refs_here, same_true, eqb-true, unlike, home_old, refs_other, old_place)
+    linked_cc m peer l b e there = search (arith, refs_here, same_true, eqb-true, unlike, home_old, refs_other, old_place)
 
     stray_place : (m : ℕ) → m ≤ s.given → refs (home m) ≡ Some m → (b : Bool) → (f.home m == p) ≡ b →
         (f.refs (f.home m) ≡ Some m) × ((f.home m ≡ p) → ⊥)
     stray_place m up h b e = search (arith, number_is, refs_here, home_old, refs_other, unlike)
-
-    stray_cc : (v : Value) (rest : List Placed) → IsStray f.shut s f.refs f.home w.tap.course.strays v rest →
-        IsStray f.shut t refs home w.tap.course.strays v (rest ++ (Some p, cc_is) ∷ [])
-    stray_cc v rest a = grind (arith, stray_place, units_at, home_old, at_join, at_other, append-nil)
 
     pub is_accepted : Called local (record w { end = t; put = w.put ++ cc_is ∷ []; coming = coming })
     is_accepted = record {
@@ -349,7 +331,7 @@ module _ (local : Local) (w : Whole) (f : Called local w) (was : w.end.ended ≡
       linked_at = λ lasts m peer l there. linked_cc m peer l (m == r) refl there;
       shut_given = λ m e. subst (λ (j : ℕ). m ≤ j) (sym given) (let up = f.shut_given m e in omega arith);
       strays = strays_keep f.shut f.shut s t f.refs (λ i. refs i) f.home (λ m. home m) w.tap.course.strays f.tagged ((Some p, cc_is) ∷ [])
-          stray_cc (tt, tt) f.strays;
+          (grind (arith, stray_place, units_at, home_old, at_join, at_other, append-nil)) (tt, tt) f.strays;
       last = f.last;
       tops = f.tops;
       above = subst (λ (j : ℕ). AreAbove j f.last (values (tagged cc_is))) (sym given)

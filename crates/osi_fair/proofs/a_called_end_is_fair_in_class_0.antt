@@ -1,11 +1,11 @@
 -- A whole called end is fair in class 0 as long as it is judged, also after the judging of the other side has ended.
 -- For the law on a whole called end.
 use Rattle.osi_fair.proofs.Vocabulary.{[], ap, Bool, false, List, None, Option, refl, Some, subst, sym, true, ℕ, ◌++◌, ◌∙◌, ◌∷◌, ◌≡◌, ◌⊎◌}
-use Rattle.osi_fair.proofs.Vocabulary.{arith, position, slice_get, data0, disconnected, error, request, Value, Class, Two, Zero, Local}
-use Rattle.osi_fair.proofs.Vocabulary.{is_live, is_named, is_stopped, refused, refused_reach, route_in, routed, at_found, at_place}
-use Rattle.osi_fair.proofs.Vocabulary.{course_after_none, if◌then◌else◌, none_told, Outcome, takes, Traffic, unnamed_told, Connection}
-use Rattle.osi_fair.proofs.Vocabulary.{Course, Left, Right, Finding, Broke, Kept, NotJudged, rubbish, unit as passing, arrives, begin}
-use Rattle.osi_fair.proofs.Vocabulary.{calls, Event, HappenAlong, Happens, passes_rubbish, Whole, has_broken}
+use Rattle.osi_fair.proofs.Vocabulary.{arith, position, slice_get, data0, disconnected, error, request, Value, Class, Zero, Local, is_live}
+use Rattle.osi_fair.proofs.Vocabulary.{is_named, is_stopped, refused, refused_reach, route_in, routed, at_found, at_place}
+use Rattle.osi_fair.proofs.Vocabulary.{course_after_none, if◌then◌else◌, none_told, Outcome, takes, Traffic, Connection, Course, Left}
+use Rattle.osi_fair.proofs.Vocabulary.{Right, Finding, Broke, Kept, NotJudged, rubbish, unit as passing, arrives, begin, calls, Event}
+use Rattle.osi_fair.proofs.Vocabulary.{HappenAlong, Happens, passes_rubbish, Whole, has_broken}
 use Rattle.osi_rules.specs.Traffic.{route}
 use Rattle.osi_rules.specs.declared.findings.Rule.TheVariants as rule
 use Rattle.osi_fair.specs.Wholes.{begins_other, begins_own, passes_other, passes_own}
@@ -62,15 +62,12 @@ module _ (w : Whole) (f : Selected w) where
     none_goes : (g : Finding) → Goes (none_told Left g w.tap)
     none_goes g is = grind (arith, selected_still, left_class, reached_seen)
 
-    unnamed_goes : Goes (unnamed_told Left v w.tap)
-    unnamed_goes is = grind (arith, selected_still, left_class, reached_seen, none_seen)
-
     item_goes : (q : ℕ) (o : Option Connection) → slice_get w.tap.connections q ≡ o → Goes (at_found Left v w.tap q o)
-    item_goes q None e is = unnamed_goes is
+    item_goes q None e is = grind (arith, selected_still, left_class, reached_seen, none_seen)
     item_goes q (Some c) e is = selected_one w apart judged v q c e is f
 
     place_goes : (o : Option ℕ) → Goes (at_place Left v w.tap o)
-    place_goes None is = unnamed_goes is
+    place_goes None is = grind (arith, selected_still, left_class, reached_seen, none_seen)
     place_goes (Some q) is = item_goes q (slice_get w.tap.connections q) refl is
 
     error_goes : (b : Bool) (destination cause : ℕ) → Goes (routed Left v w.tap (route_in (Some Zero) Left b (error destination cause)))
@@ -84,13 +81,9 @@ module _ (w : Whole) (f : Selected w) where
     zero_goes (error destination cause) is = error_goes (has_broken Right w.tap.course) destination cause is
     zero_goes _ is = none_goes (Broke rule.WrongForm) is
 
-    by_seen : (b : Bool) (k : Option Class) → b ≡ false → k ≡ Some Zero →
-        Goes (if b then none_told Left NotJudged w.tap else routed Left v w.tap (route_in k Left (has_broken Right w.tap.course) v))
-    by_seen b k was seen is = grind (arith, zero_goes)
-
     -- in class 0, whether that side is judged any further or not
     comes_in_zero : w.tap.course.left_stopped ≡ false → w.tap.course.class_seen ≡ Some Zero → Selected after
-    comes_in_zero was seen = by_seen w.tap.course.left_stopped w.tap.course.class_seen was seen refl
+    comes_in_zero was seen = grind (arith, zero_goes)
 
     stopped_by : (b : Bool) → b ≡ true →
         Goes (if b then none_told Left NotJudged w.tap else routed Left v w.tap (route Left w.tap.course v))
@@ -106,18 +99,12 @@ module _ (w : Whole) (f : Selected w) where
 abbrev Alone : Whole → Type 0
 Alone w = w.tap.course.loose ≡ false → w.tap.course.right_stopped ≡ false → w.tap.course.left_stopped ≡ true → Selected w
 
-class_none : {A : Type 0} (k : Option Class) → (k ≡ None) ⊎ (k ≡ Some Two) → k ≡ Some Zero → A
-class_none k h h2 = grind arith
-
-seen_none : {A : Type 0} (k : Option Class) → k ≡ None → k ≡ Some Zero → A
-seen_none k e zero = absurd (cc (sym e ∙ zero))
-
 -- in class 0 the CC has passed
 by_class : (local : Local) (w : Whole) → w.tap.course.class ≡ Some Zero → Stage local w → Selected w
-by_class local w h h2 = grind (arith, class_none, seen_none)
+by_class local w h h2 = grind arith
 
 by_seen_class : (local : Local) (w : Whole) → w.tap.course.class_seen ≡ Some Zero → Stage local w → Selected w
-by_seen_class local w h h2 = grind (arith, class_none, seen_none)
+by_seen_class local w h h2 = grind arith
 
 module _ (local : Local) (w : Whole) (j : Joined local w) (a : Alone w) where
   calm_so : w.tap.course.loose ≡ false → w.tap.course.right_stopped ≡ false → w.tap.course.left_stopped ≡ false → IsCalm w.tap.course

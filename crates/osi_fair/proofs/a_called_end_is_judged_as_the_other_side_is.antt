@@ -1,11 +1,10 @@
 -- As long as the other side is judged, a called end is: what is right stops nothing, and what stops the end stops both sides.
 -- For the law on a whole called end.
-use Rattle.osi_fair.proofs.Vocabulary.{arith, false, Option, refl, Some, true, Zero, ◌≡◌, ◌⊎◌, Value, Class, stops_are_said, reach_by}
-use Rattle.osi_fair.proofs.Vocabulary.{reach_of, class_for, reached, refused, Traffic as State, takes, Left, Right, Course, Finding, Kept}
-use Rattle.osi_fair.proofs.Vocabulary.{NotJudged, Reach}
+use Rattle.osi_fair.proofs.Vocabulary.{arith, false, refl, Some, true, Zero, ◌≡◌, ◌⊎◌, Value, stops_are_said, refused, Traffic as State}
+use Rattle.osi_fair.proofs.Vocabulary.{takes, Left, Right, Finding, Kept, NotJudged, Reach}
 use Rattle.osi_rules.specs.declared.findings.Reach.TheVariants as reach
 use Rattle.osi_fair.proofs.small_facts_that_many_lemmas_use.{differ}
-use Rattle.osi_fair.proofs.the_end_is_judged_as_the_other_side_is.{side_zero, told_by}
+use Rattle.osi_fair.proofs.the_end_is_judged_as_the_other_side_is.{side_zero}
 
 -- ---- a unit of the end
 
@@ -13,17 +12,14 @@ use Rattle.osi_fair.proofs.the_end_is_judged_as_the_other_side_is.{side_zero, to
 abbrev pub IsNotBlamed : Finding → Type 0
 IsNotBlamed f = (f ≡ Kept) ⊎ (f ≡ NotJudged)
 
-no_reach : (k : Option Class) (f : Finding) → IsNotBlamed f → reach_of k f ≡ reach.Nothing
-no_reach k f h = grind arith
-
 pub own_judged : (v : Value) (s : State) → IsNotBlamed (takes Right v s).told.finding → s.course.right_stopped ≡ false →
     (takes Right v s).state.course.right_stopped ≡ false
-own_judged v s mild right = search (arith, stops_are_said, told_by, no_reach)
+own_judged v s mild right = search (arith, stops_are_said)
 
 -- and it stops the other side as little
 pub other_kept : (v : Value) (s : State) → IsNotBlamed (takes Right v s).told.finding →
     (takes Right v s).state.course.left_stopped ≡ s.course.left_stopped
-other_kept v s mild = search (arith, stops_are_said, told_by, no_reach)
+other_kept v s mild = search (arith, stops_are_said)
 
 -- ---- what the other side sends
 
@@ -31,19 +27,15 @@ other_kept v s mild = search (arith, stops_are_said, told_by, no_reach)
 alone_by : (r : Reach) (v : Value) (s : State) → (takes Left v s).told.reach ≡ r → s.course.left_stopped ≡ false →
     (takes Left v s).state.course.left_stopped ≡ true → (takes Left v s).state.course.right_stopped ≡ false →
     s.course.class_seen ≡ Some Zero
-alone_by r v s e was left right = search (arith, side_zero, told_by, differ, stops_are_said)
+alone_by r v s e was left right = search (arith, side_zero, differ, stops_are_said)
 
 pub alone_zero : (v : Value) (s : State) → s.course.left_stopped ≡ false → (takes Left v s).state.course.left_stopped ≡ true →
     (takes Left v s).state.course.right_stopped ≡ false → s.course.class_seen ≡ Some Zero
 alone_zero v s was left right = alone_by (takes Left v s).told.reach v s refl was left right
 
-rubbish_zero_by : (k : Option Class) (c : Course) → c.left_stopped ≡ false → (reached Left (reach_by k false) c).left_stopped ≡ true →
-    (reached Left (reach_by k false) c).right_stopped ≡ false → k ≡ Some Zero
-rubbish_zero_by k c was left right = grind (arith, differ)
-
 pub rubbish_zero : (s : State) → s.course.left_stopped ≡ false → (refused Left s).course.left_stopped ≡ true →
     (refused Left s).course.right_stopped ≡ false → s.course.class_seen ≡ Some Zero
-rubbish_zero s was left right = rubbish_zero_by s.course.class_seen s.course was left right
+rubbish_zero s was left right = grind (arith, differ)
 
 other_by : (r : Reach) (v : Value) (s : State) → (takes Left v s).told.reach ≡ r → s.course.right_stopped ≡ false →
     (takes Left v s).state.course.left_stopped ≡ false → (takes Left v s).state.course.right_stopped ≡ false
@@ -54,10 +46,6 @@ pub other_judged : (v : Value) (s : State) → s.course.right_stopped ≡ false 
     (takes Left v s).state.course.right_stopped ≡ false
 other_judged v s right left = other_by (takes Left v s).told.reach v s refl right left
 
-rubbish_by : (k : Option Class) (s : State) → s.course.right_stopped ≡ false →
-    (reached Left (reach_by k false) s.course).left_stopped ≡ false → (reached Left (reach_by k false) s.course).right_stopped ≡ false
-rubbish_by k s right left = grind arith
-
 pub rubbish_judged : (s : State) → s.course.right_stopped ≡ false → (refused Left s).course.left_stopped ≡ false →
     (refused Left s).course.right_stopped ≡ false
-rubbish_judged s right left = rubbish_by (class_for Left s.course) s right left
+rubbish_judged s right left = grind arith

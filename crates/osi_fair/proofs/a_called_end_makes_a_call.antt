@@ -1,16 +1,15 @@
 -- The user of a whole called end makes a call: it sends TSDUs on an open connection, closes one, or ends the carrier.
 -- For the law on a whole called end.
 use Rattle.osi_fair.proofs.Vocabulary.{[], ap, arith, Bool, false, if◌then◌else◌, is_some, length, List, None, Option, refl, Some, subst}
-use Rattle.osi_fair.proofs.Vocabulary.{sym, true, ℕ, ◌++◌, ◌∙◌, ◌∷◌, ◌≡◌, ◌≤◌, eqb-true, append-nil, AllByRecursion, not, ◌==◌, Value}
-use Rattle.osi_fair.proofs.Vocabulary.{all_given, longest_tsdu, Standing, with_tsdu, Class, Two, Local, orderly_closed, orderly_ended}
-use Rattle.osi_fair.proofs.Vocabulary.{orderly_sent, orderly_sent_all, put_other, put_here, closed_on, closed_with, closes_in, ended_by}
-use Rattle.osi_fair.proofs.Vocabulary.{link_of, open_link, sent, sent_all, IsOrderly, pumped, value_at, breaks, closes_call, connects}
-use Rattle.osi_fair.proofs.Vocabulary.{sends, sends_all, user_does, UserCall, asked, closing, Live, ends as ends_as, linked, EndReason}
-use Rattle.osi_fair.proofs.Vocabulary.{OpenError, NotCaller, Follows, link_now, put_by, put_closed, put_closing, put_sent, put_together}
-use Rattle.osi_fair.proofs.Vocabulary.{MayCall, Whole}
+use Rattle.osi_fair.proofs.Vocabulary.{sym, true, ℕ, ◌++◌, ◌∙◌, ◌∷◌, ◌≡◌, ◌≤◌, eqb-true, append-nil, AllByRecursion, ◌==◌, Value, all_given}
+use Rattle.osi_fair.proofs.Vocabulary.{longest_tsdu, Standing, with_tsdu, Class, Two, Local, orderly_closed, orderly_ended, orderly_sent}
+use Rattle.osi_fair.proofs.Vocabulary.{orderly_sent_all, put_other, put_here, closed_on, closed_with, closes_in, ended_by, link_of}
+use Rattle.osi_fair.proofs.Vocabulary.{open_link, sent, sent_all, IsOrderly, pumped, value_at, breaks, closes_call, connects, sends}
+use Rattle.osi_fair.proofs.Vocabulary.{sends_all, user_does, UserCall, asked, closing, Live, ends as ends_as, linked, EndReason, Follows}
+use Rattle.osi_fair.proofs.Vocabulary.{link_now, put_by, put_closed, put_closing, put_sent, put_together, MayCall, Whole}
 use Rattle.osi_carrier.specs.Calls.{sent_on}
 use Rattle.osi_carrier.specs.State.{State}
-use Rattle.osi_fair.proofs.small_facts_that_many_lemmas_use.{none_of, same_pair}
+use Rattle.osi_fair.proofs.small_facts_that_many_lemmas_use.{none_of}
 use Rattle.osi_fair.proofs.what_becomes_of_a_called_end.{IsCalled, Same, called_still, units_no_cc}
 use Rattle.osi_fair.proofs.a_carrier_follows_lines.{follows_closed, follows_sent}
 use Rattle.osi_fair.proofs.calls_of_a_line_join.{follows_together, still_open}
@@ -41,15 +40,11 @@ pub open_of : (r peer : ℕ) (link : Standing) (s : State) → s.ended ≡ None 
 open_of r peer link s lasts h = grind arith
 
 pub row_of : (o : Option Live) (peer : ℕ) (link : Standing) → link_of o ≡ Some (peer, link) → o ≡ Some (linked peer link)
-row_of o peer link e = grind (arith, same_pair)
-
-linked_of : (b : Bool) (o : Option Live) (peer : ℕ) (link : Standing) → (if b then None else link_of o) ≡ Some (peer, link) →
-    (b ≡ false) × (o ≡ Some (linked peer link))
-linked_of b o peer link e = grind (arith, row_of)
+row_of o peer link e = grind arith
 
 open_is : (r peer : ℕ) (link : Standing) (s : State) → open_link r s ≡ Some (peer, link) →
     (s.ended ≡ None) × (value_at r s.live ≡ Some (linked peer link))
-open_is r peer link s e = grind (arith, linked_of, none_of)
+open_is r peer link s e = grind (arith, none_of)
 
 -- ---- what calls change
 
@@ -64,12 +59,9 @@ rows_all m r (tsdu ∷ tsdus) s other = rows_all m r tsdus (sent r tsdu s) other
 same_sent : (r : ℕ) (tsdu : List ℕ) (o : Option (ℕ × Standing)) (s : State) → Same s (sent_on r tsdu o s)
 same_sent r tsdu o s = grind arith
 
-same_then : (a b c : State) → Same a b → Same b c → Same a c
-same_then a b c x y = grind arith
-
 same_all : (r : ℕ) (tsdus : List (List ℕ)) (s : State) → Same s (sent_all r tsdus s)
 same_all r [] s = record { caller = refl; local_is = refl; class = refl; given = refl }
-same_all r (tsdu ∷ tsdus) s = grind (arith, same_then, same_sent, same_all r tsdus (sent r tsdu s))
+same_all r (tsdu ∷ tsdus) s = grind (arith, same_sent, same_all r tsdus (sent r tsdu s))
 
 -- the link after TSDUs that were sent together
 pub all_open : (r peer : ℕ) (tsdus : List (List ℕ)) (s : State) (link : Standing) → open_link r s ≡ Some (peer, link) →
@@ -112,10 +104,6 @@ module _ (local : Local) (w : Whole) (f : Called local w) (c : IsCalled local w.
   abbrev Made : State → List Value → Type 0
   Made t units = Called local (After t units) × IsCalled local t
 
-  -- it has no effect
-  nothing_so : (t : State) (units : List Value) → t ≡ s → units ≡ [] → Made t units
-  nothing_so t units same none = grind (arith, append-nil)
-
   none_asked : (t : State) (r peer : ℕ) (l : Standing) → ((m : ℕ) → (m ≡ r → ⊥) → value_at m t.live ≡ value_at m s.live) →
       value_at r t.live ≡ Some (linked peer l) → (m : ℕ) (b : Bool) → (m == r) ≡ b → value_at m t.live ≡ Some asked → ⊥
   none_asked t r peer l rows here m b e there = grind (arith, not_asked, eqb-true, unlike)
@@ -142,7 +130,7 @@ module _ (local : Local) (w : Whole) (f : Called local w) (c : IsCalled local w.
 
   sends_by : (r : ℕ) (tsdu : List ℕ) (o : Option (ℕ × Standing)) → open_link r s ≡ o → length tsdu ≤ longest_tsdu →
       Made (sent r tsdu s) (put_sent tsdu (open_link r s))
-  sends_by r tsdu None e short = grind (arith, nothing_so)
+  sends_by r tsdu None e short = grind (arith, append-nil)
   sends_by r tsdu (Some (peer, link)) e short =
       let (was, here) = open_is r peer link s e in
       let (lasts, there) = open_is r peer (pumped (with_tsdu link tsdu)) (sent r tsdu s) (still_open r peer tsdu s link e) in
@@ -152,7 +140,7 @@ module _ (local : Local) (w : Whole) (f : Called local w) (c : IsCalled local w.
 
   together_by : (r : ℕ) (tsdus : List (List ℕ)) (o : Option (ℕ × Standing)) → open_link r s ≡ o →
       AllByRecursion (λ (tsdu : List ℕ). length tsdu ≤ longest_tsdu) tsdus → Made (sent_all r tsdus s) (put_together r tsdus s)
-  together_by r tsdus None e short = grind (arith, all_none, nothing_so)
+  together_by r tsdus None e short = grind (arith, all_none, append-nil)
   together_by r tsdus (Some (peer, link)) e short =
       let (was, here) = open_is r peer link s e in
       let (l, after) = all_open r peer tsdus s link e in
@@ -167,7 +155,7 @@ module _ (local : Local) (w : Whole) (f : Called local w) (c : IsCalled local w.
 
   closes_by : (r reason : ℕ) (o : Option (ℕ × Standing)) → open_link r s ≡ o →
       Made (closed_with r reason s) (put_closing r reason (open_link r s) s.class)
-  closes_by r reason None e = grind (arith, nothing_so)
+  closes_by r reason None e = grind (arith, append-nil)
   closes_by r reason (Some (peer, link)) e =
       let t = closed_with r reason s in
       let (was, here) = open_is r peer link s e in
@@ -204,7 +192,7 @@ module _ (local : Local) (w : Whole) (f : Called local w) (c : IsCalled local w.
       )
 
   breaks_by : (reason : EndReason) (b : Bool) → is_some s.ended ≡ b → Made (ended_by reason s) []
-  breaks_by reason true e = nothing_so (ended_by reason s) [] (ap (λ (h : Bool). if h then s else ends_as reason s) e) refl
+  breaks_by reason true e = grind (arith, append-nil)
   breaks_by reason false e =
       let t = ends_as reason s in
       let is : ended_by reason s ≡ t = ap (λ (h : Bool). if h then s else ends_as reason s) e in (
@@ -216,11 +204,8 @@ module _ (local : Local) (w : Whole) (f : Called local w) (c : IsCalled local w.
             (subst IsOrderly is (orderly_ended reason s c.orderly)) (λ m h. absurd (cc h)) (λ m q l h. absurd (cc h)) c),
       )
 
-  may_not : {A : Type 0} (b : Bool) (o : Option OpenError) → b ≡ false → (if not b then Some NotCaller else o) ≡ None → A
-  may_not b o h e = grind arith
-
   pub makes_so : (call : UserCall) → MayCall call s → Made (user_does call s) (put_by call s)
-  makes_so (connects calling called) may = grind (arith, may_not)
+  makes_so (connects calling called) may = grind arith
   makes_so (sends r tsdu) may = sends_by r tsdu (open_link r s) refl may
   makes_so (sends_all r tsdus) may = together_by r tsdus (open_link r s) refl may
   makes_so (closes_call r reason) may = closes_by r reason (open_link r s) refl

@@ -1,10 +1,10 @@
 -- A whole called end selects class 0: what holds until its CC has passed and after that, as the end goes on and packets begin.
 -- For the law on a whole called end.
 use Rattle.std.proofs.Common.{arith}
-use Rattle.osi_fair.proofs.Vocabulary.{[], ap, Bool, IfSome, List, map, None, Option, refl, Some, subst, suc, sym, true, zero, ℕ, ◌++◌}
-use Rattle.osi_fair.proofs.Vocabulary.{◌+◌, ◌-◌, ◌∙◌, ◌∷◌, ◌≡◌, ◌≤◌, ◌⊎◌, slice_get, confirm, Connect, Value, accept, selected_by, Zero}
-use Rattle.osi_fair.proofs.Vocabulary.{Local, acceptance, unit_octets, react, user_does, UserCall, begins, is_open, is_refused}
-use Rattle.osi_fair.proofs.Vocabulary.{packet_begins, Traffic, Connection, Direction, Half, put_by, put_for, MayCall, Whole}
+use Rattle.osi_fair.proofs.Vocabulary.{[], ap, Bool, IfSome, List, map, None, Option, refl, Some, subst, suc, sym, true, zero, ℕ, ◌++◌, ◌+◌}
+use Rattle.osi_fair.proofs.Vocabulary.{◌-◌, ◌∙◌, ◌∷◌, ◌≡◌, ◌≤◌, ◌⊎◌, slice_get, confirm, Connect, Value, accept, selected_by, Zero, Local}
+use Rattle.osi_fair.proofs.Vocabulary.{acceptance, unit_octets, react, user_does, UserCall, begins, is_open, is_refused, packet_begins}
+use Rattle.osi_fair.proofs.Vocabulary.{Connection, Direction, Half, put_by, put_for, MayCall, Whole}
 use Rattle.osi_fair.proofs.small_facts_that_many_lemmas_use.{begun_left, begun_right, course_class, item_is}
 use Rattle.osi_fair.proofs.each_connection_of_a_called_end.{Asked}
 use Rattle.osi_fair.proofs.what_an_end_does_in_class_zero.{IsInZero, zero_calls, zero_takes}
@@ -103,14 +103,6 @@ selected_calls w call may f = search (arith, zero_calls f.limit w.end f.c.right.
 begun_size : (d : Direction) (c : Connection) → (begins d c).size ≡ c.size
 begun_size d c = grind arith
 
-seen_none : (d : Direction) (s : Traffic) → s.course.class ≡ None → s.course.class_seen ≡ None →
-    (packet_begins d s).course.class_seen ≡ None
-seen_none d s a b = grind arith
-
-seen_zero : (d : Direction) (s : Traffic) → s.course.class ≡ Some Zero → (s.course.class_seen ≡ None) ⊎ (s.course.class_seen ≡ Some Zero) →
-    ((packet_begins d s).course.class_seen ≡ None) ⊎ ((packet_begins d s).course.class_seen ≡ Some Zero)
-seen_zero d s a b = grind arith
-
 mapped : (d : Direction) (cs : List Connection) (p : ℕ) (c : Connection) → slice_get cs p ≡ Some c →
     slice_get (map (begins d) cs) p ≡ Some (begins d c)
 mapped d [] p c h = absurd (cc)
@@ -137,7 +129,7 @@ selecting_begins local d w b seen f = record {
   put = f.put;
   seen = seen f.c f.seen;
   class = course_class d w.tap ∙ f.class;
-  class_seen = seen_none d w.tap f.class f.class_seen;
+  class_seen = grind arith;
   unused = λ i e at same.
       let (x, was, is) = after_map (begins d) w.tap.connections i e at in
       f.unused i x was (ap (λ (h : Half). h.reference) (sym (ap (λ (y : Connection). y.right) is ∙ begun_right d x)) ∙ same);
@@ -156,7 +148,7 @@ selected_begins d w b f = record {
   up = ap (λ (h : Half). is_open h.phase) (begun_right d f.c) ∙ f.up;
   there = ap (λ (h : Half). is_there h.phase) (begun_left d f.c) ∙ f.there;
   class = course_class d w.tap ∙ f.class;
-  class_seen = seen_zero d w.tap f.class f.class_seen;
+  class_seen = grind arith;
   fits = subst (λ (o : Option ℕ). IfSome o (λ most. f.limit + 3 ≤ most)) (sym (begun_size d f.c)) f.fits;
   others = λ i e at other.
       let (x, was, is) = after_map (begins d) w.tap.connections i e at in

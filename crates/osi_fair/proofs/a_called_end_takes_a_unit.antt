@@ -27,7 +27,7 @@ use Rattle.osi_fair.proofs.units_by_their_place.{Placed, at_first, first_at, uni
 use Rattle.osi_fair.proofs.what_a_called_end_does_to_its_lines.{Leaves, Took, line_steps}
 use Rattle.osi_fair.proofs.what_a_called_end_leaves_alone.{is_over, left_alone}
 use Rattle.osi_fair.proofs.what_is_live_at_a_called_end.{IsLive, Timely, shuts_of, timely_takes}
-use Rattle.osi_fair.proofs.which_units_are_for_a_connection.{first_kept, first_left, keep, named_not, named_so, names_in as is_at, those}
+use Rattle.osi_fair.proofs.which_units_are_for_a_connection.{first_kept, first_left, named_not, named_so, those}
 use Rattle.osi_fair.proofs.what_becomes_of_a_called_end.{above_up, rows_none, IsCalled, Same, called_still, no_row, touch_rows, touch_none}
 use Rattle.osi_fair.proofs.what_becomes_of_a_called_end.{touch_lives, push_lives, linked_no_cc, OpenSo, open_so, dc_follows}
 use Rattle.osi_fair.proofs.what_becomes_of_a_called_end.{closing_touches, closing_same}
@@ -36,9 +36,6 @@ use Rattle.osi_fair.proofs.a_dt_of_class_zero_passes.{unlike}
 use Rattle.osi_fair.proofs.each_connection_has_its_line.{IsNoCc}
 
 -- ---- small facts
-
-keep_none : (b : Bool) (v : Value) (vs : List Value) → keep b v vs ≡ [] → vs ≡ []
-keep_none b v vs h = grind arith
 
 shut_one : (r n : ℕ) (a b : Bool) → (r == n) ≡ a → (a || b) ≡ true → (b ≡ true) ⊎ (r ≡ n)
 shut_one r n a b e h = grind (arith, eqb-true)
@@ -75,13 +72,9 @@ up_by : (given m : ℕ) (o k : Live) (rows : Rows Live) → AreUpTo given rows �
     (m ≡ given + 1 → ⊥) → m ≤ given
 up_by given m o k rows up there other = up_more given m o rows up (sym (push_other m (given + 1) k rows other) ∙ there)
 
-accepted_by : (m given : ℕ) (k : Live) (rows : Rows Live) → value_at (given + 1) rows ≡ None → (value_at m rows ≡ Some asked → ⊥) →
-    (k ≡ asked → ⊥) → (b : Bool) → (m == given + 1) ≡ b → value_at m (rows ++ (given + 1, k) ∷ []) ≡ Some asked → ⊥
-accepted_by m given k rows none h settled b e there = grind (arith, same_row, push_here, eqb-true, push_other, unlike)
-
 accepted_none : (m given : ℕ) (k : Live) (rows : Rows Live) → value_at (given + 1) rows ≡ None →
     ((i : ℕ) → value_at i rows ≡ Some asked → ⊥) → (k ≡ asked → ⊥) → value_at m (rows ++ (given + 1, k) ∷ []) ≡ Some asked → ⊥
-accepted_none m given k rows none h settled there = accepted_by m given k rows none (h m) settled (m == given + 1) refl there
+accepted_none m given k rows none h settled there = grind (arith, same_row, push_here, eqb-true, push_other, unlike)
 
 closing_gone : (n q p : ℕ) (k : Standing) (u : Value) (s : State) → value_at n s.live ≡ Some (closing q) → RiseFrom 0 s.live →
     value_at n (to_closing n u s).live ≡ Some (linked p k) → ⊥
@@ -90,7 +83,7 @@ closing_gone n q p k u s here rise row = grind (arith, without_here)
 -- ---- the unit, and what comes after it
 
 tail_none : (p : ℕ) (o : Option ℕ) (v : Value) (ts : List Placed) → units_at p ((o, v) ∷ ts) ≡ [] → units_at p ts ≡ []
-tail_none p o v ts h = keep_none (is_at p o) v (units_at p ts) h
+tail_none p o v ts h = grind arith
 
 untag_by : {A : Type 0} (o : Option ℕ) (x : Connect) → Untagged (o, request x) → ((p : ℕ) → o ≡ Some p → A) → A
 untag_by None x h k = absurd (h refl x refl)
@@ -258,11 +251,8 @@ module _ (local : Local) (w : Whole) (f : Called local w) (c : IsCalled local w.
     asked_by_place q None e h = no_list u (units_at q head.later) (units_at q f.came) h (f.beyond q e).1
     asked_by_place q (Some x) e h = asked_one q x h (f.stands q x e)
 
-    asked_at : (q : ℕ) → units_at q f.came ≡ u ∷ units_at q head.later → ⊥
-    asked_at q h = asked_by_place q (slice_get w.tap.connections q) refl h
-
     asks_by : (p : ℕ) (o : Option ℕ) → f.came ≡ (o, u) ∷ head.later → units_at p head.later ≡ units_at p f.came
-    asks_by p o is = grind (arith, asked_at, at_first, head)
+    asks_by p o is = grind (arith, asked_by_place, at_first, head)
 
     asks_same : (p : ℕ) → units_at p head.later ≡ units_at p f.came
     asks_same p = asks_by p head.o head.is
@@ -399,10 +389,6 @@ module _ (local : Local) (w : Whole) (f : Called local w) (c : IsCalled local w.
   before_by was (request x) e to puts = request_so was x (has_peer x.source s.live) (is_full s) e refl refl to puts
   before_by was v e to puts = grind (arith, wrong_so was v e (before_class false v s) to puts refl)
 
-  -- no class is selected
-  before_so : (was : s.ended ≡ None) → s.class ≡ None → (v : Value) → u ≡ v → Taken ⊎ SelectsZero
-  before_so was none v e = grind (arith, on, puts_on, before_by)
-
   two_by : (was : s.ended ≡ None) → s.class ≡ Some Two → (v : Value) → u ≡ v → Taken ⊎ SelectsZero
   two_by was two (request x) e =
       request_so was x (has_peer x.source s.live) (is_full s) e refl refl
@@ -428,15 +414,11 @@ module _ (local : Local) (w : Whole) (f : Called local w) (c : IsCalled local w.
   two_by was two (error destination cause) e = inl (by_row was two destination (ap destination_of e) (value_at destination s.live) refl)
 
   by_class : (was : s.ended ≡ None) → (s.class ≡ None) ⊎ (s.class ≡ Some Two) → Taken ⊎ SelectsZero
-  by_class was (inl none) = before_so was none u refl
+  by_class was (inl none) = grind (arith, on, puts_on, before_by)
   by_class was (inr two) = two_by was two u refl
 
-  by_end : (o : Option EndReason) → s.ended ≡ o → Taken ⊎ SelectsZero
-  by_end None e = by_class e c.class
-  by_end (Some reason) e = search (arith, over_so, reacts_not, ended_some)
-
   pub takes_so : Taken ⊎ SelectsZero
-  takes_so = by_end s.ended refl
+  takes_so = grind (arith, by_class, over_so, reacts_not, ended_some)
 
   -- ---- class 0 is selected
 

@@ -6,12 +6,11 @@ use Rattle.osi_fair.proofs.Vocabulary.{slice_get-map, min, not, position, slice_
 use Rattle.osi_fair.proofs.Vocabulary.{disconnected, error, IsConnect, request, Value, longest_tsdu, Class, Two, Zero, Local, agreed_size}
 use Rattle.osi_fair.proofs.Vocabulary.{opened_link, unit_octets, opens, react, to_connection, put, Rows, value_at, user_does, UserCall}
 use Rattle.osi_fair.proofs.Vocabulary.{asked, Live, linked, is_applied, reach_of, reach_past, begins, is_closed, is_closing, is_live}
-use Rattle.osi_fair.proofs.Vocabulary.{is_named, is_open, is_over, is_over_by, is_refused, is_silent, at_found, at_place, class_for}
-use Rattle.osi_fair.proofs.Vocabulary.{class_of, connection_after, course_after, course_after_none, found_on, is_stopped, judged_on}
-use Rattle.osi_fair.proofs.Vocabulary.{none_told, one_told, Outcome, packet_begins, reached, refused, refused_reach, route_in, route_zero}
-use Rattle.osi_fair.proofs.Vocabulary.{routed, sent_on, Traffic, takes, unnamed_told, Connection, Offer, Course, Left, Right, Finding}
-use Rattle.osi_fair.proofs.Vocabulary.{Broke, Kept, NotJudged, Reach, Half, Phase, rubbish, unit as passing, put_at, put_by, put_for}
-use Rattle.osi_fair.proofs.Vocabulary.{MayCall, has_broken}
+use Rattle.osi_fair.proofs.Vocabulary.{is_named, is_open, is_over, is_refused, is_silent, at_found, at_place, class_for, connection_after}
+use Rattle.osi_fair.proofs.Vocabulary.{course_after, course_after_none, found_on, is_stopped, judged_on, none_told, one_told, Outcome}
+use Rattle.osi_fair.proofs.Vocabulary.{packet_begins, reached, refused, refused_reach, route_in, route_zero, routed, sent_on, Traffic}
+use Rattle.osi_fair.proofs.Vocabulary.{takes, Connection, Offer, Course, Left, Right, Finding, Broke, Kept, NotJudged, Reach, Half, Phase}
+use Rattle.osi_fair.proofs.Vocabulary.{rubbish, unit as passing, put_at, put_by, put_for, MayCall, has_broken}
 use Rattle.osi_carrier.specs.State.{State}
 use Rattle.osi_rules.specs.declared.findings.Reach.TheVariants as reach
 use Rattle.osi_rules.specs.declared.findings.Rule.TheVariants as rule
@@ -52,9 +51,6 @@ pub record IsZeroed (end : State) (units : List Value) (begun : Bool) (s : Traff
 
 -- ---- the end takes the CC
 
-put_one : (n r : ℕ) (old new : Live) (b : Bool) → (r == n) ≡ b → b ≡ true → put n new ((r, old) ∷ []) ≡ (r, new) ∷ []
-put_one n r old new b e h = grind arith
-
 -- the most octets of a DT
 abbrev pub limit_of : Connect → State → ℕ
 limit_of x s = unit_octets (agreed_size x.parameters.size s.local) - 3
@@ -66,7 +62,7 @@ opens_by n r x s e is false false h = over refl tt
 opens_by n r x s e is false true h =
     let link = opened_link Zero (agreed_size x.parameters.size s.local) s.local x.credit in
     talks r x.source link refl
-    (ap (λ (rows : Rows Live). put n (linked x.source link) rows) is.live ∙ put_one n r asked (linked x.source link) true e refl)
+    (ap (λ (rows : Rows Live). put n (linked x.source link) rows) is.live ∙ (grind arith))
     (record { flow = refl; size = refl }) refl
 
 to_one : (n r : ℕ) (x : Connect) (s : State) (b : Bool) → (r == n) ≡ b → IsCalling (one r) s → (x.class == 2) ≡ false →
@@ -74,25 +70,16 @@ to_one : (n r : ℕ) (x : Connect) (s : State) (b : Bool) → (r == n) ≡ b →
 to_one n r x s true e is zero = search (arith, opens_by, no_two)
 to_one n r x s false e is zero = over refl tt
 
-puts_none : (n : ℕ) (x : Connect) (held : Option Class) (b : Bool) → put_at n (if b then Some asked else None) (confirm n x) held ≡ []
-puts_none n x held b = grind arith
-
 -- it puts nothing, and its one connection is open, or it ends
 pub confirm_takes : (n r : ℕ) (x : Connect) (s : State) → IsCalling (one r) s → (x.class == 2) ≡ false →
     Puts (λ t. IsInZero (limit_of x s) t 0 []) (confirm n x) s
 confirm_takes n r x s is zero =
     puts (λ t. IsInZero (limit_of x s) t 0 []) (one r) (confirm n x) s is
-    (ap (λ (rows : Rows Live). put_at n (value_at n rows) (confirm n x) s.class) is.live ∙ puts_none n x s.class (r == n))
+    (ap (λ (rows : Rows Live). put_at n (value_at n rows) (confirm n x) s.class) is.live ∙ (grind arith))
     (subst (λ (rows : Rows Live). IsInZero (limit_of x s) (to_connection n (value_at n rows) (confirm n x) s) 0 []) (sym is.live)
     (to_one n r x s (r == n) refl is zero))
 
 -- ---- the CC passes
-
-pub least : (a b : ℕ) → 7 ≤ a → 7 ≤ b → 7 ≤ min a b
-least a b h k = omega arith
-
-least_up : (a b : ℕ) → min a b ≤ a
-least_up a b = omega arith
 
 -- a size above the proposed one is read as that
 fits_agreed : (o : Option ℕ) (local : Local) → IfSome o (λ code. (7 ≤ code) × (code ≤ 13)) →
@@ -100,13 +87,10 @@ fits_agreed : (o : Option ℕ) (local : Local) → IfSome o (λ code. (7 ≤ cod
 fits_agreed None local h = tt
 fits_agreed (Some code) local h =
     let n = size_code local.size in
-    let up : 7 ≤ min code n = least code n h.0 local.size.at_least in
+    let up : 7 ≤ min code n = grind arith in
     let low : 2 ^ 7 ≤ 2 ^ (min code n) = pow-le-pow_right {n = 2} (omega arith) up in
-    let high : 2 ^ (min code n) ≤ 2 ^ code = pow-le-pow_right {n = 2} (omega arith) (least_up code n) in
+    let high : 2 ^ (min code n) ≤ 2 ^ code = pow-le-pow_right {n = 2} (omega arith) (grind arith) in
     omega arith
-
-class_zero : (x : Connect) → (x.class == 2) ≡ false → Some (class_of x) ≡ Some Zero
-class_zero x e = ap (λ (b : Bool). Some (if b then Two else Zero)) e
 
 other_one : {A : Type 0} (cs : List Connection) (p i : ℕ) (new e : Connection) →
     ((i ≡ p) × (e ≡ new)) ⊎ ((i ≡ p → ⊥) × (slice_get cs i ≡ Some e)) → (i ≡ p → ⊥) → (slice_get cs i ≡ Some e → A) → A
@@ -128,7 +112,7 @@ confirmed_so n r p o x cs strays erred end w range is zero =
         there = refl;
         unseen = ap is_refused w.unseen;
         fits = fits_agreed x.parameters.size end.local range.parameters.size;
-        class = class_zero x zero;
+        class = grind arith;
         class_seen = λ h. differ false h refl;
         others = λ i e at other.
             other_one cs p i new e (after_change cs p i new e at) other (λ there. w.others i e there other);
@@ -210,11 +194,8 @@ module _ (end : State) (s : Traffic) (u : Value) (rest : List Value) (left : s.c
   abbrev t : ZeroTap true s
   t = f.tap
 
-  live_at : is_live Left t.c ≡ true
-  live_at = not_both t.c.is_judged (is_over_by t.c.left t.c.seen_by_left) (live_by t.c.left.phase t.c.seen_by_left.phase t.up t.unseen)
-
   only : position (is_live Left) s.connections ≡ Some t.p
-  only = only_first Left s.connections t.p t.c t.at live_at (λ q e at other. t.gone refl q e at other)
+  only = only_first Left s.connections t.p t.c t.at (grind (arith, not_both, live_by)) (λ q e at other. t.gone refl q e at other)
 
   abbrev Passes : Type 0
   Passes = ((takes Left u s).told.finding ≡ Kept) × IsZeroed end rest false (takes Left u s).state
@@ -285,22 +266,13 @@ record Still (c n : Connection) : Type 0 where
   size : n.size ≡ c.size
   there : is_refused n.right.phase ≡ false
 
-still_self : (c : Connection) → is_refused c.right.phase ≡ false → Still c c
-still_self c h = record { left = refl; seen = refl; judged = refl; size = refl; there = h }
-
-still_sent : (v : Value) → IsOnly v → (c : Connection) → is_refused c.right.phase ≡ false → Still c (sent_on Right v c)
-still_sent v k c h = grind arith
-
 -- in class 0 no connection loses its judgement
 past_side : (b : Bool) (c : Connection) → judged_on (reach_past b reach.Side) c ≡ c
 past_side b c = grind arith
 
-zero_far : (f : Finding) (c : Connection) → judged_on (reach_of (Some Zero) f) c ≡ c
-zero_far f c = grind (arith, past_side)
-
 still_after : (v : Value) → IsOnly v → (applied : Bool) (k : Option Class) (f : Finding) (c : Connection) → k ≡ Some Zero →
     is_refused c.right.phase ≡ false → Still c (connection_after Right v applied (reach_of k f) c)
-still_after v plain applied k f c e h = grind (arith, zero_far, still_sent, still_self)
+still_after v plain applied k f c e h = search arith
 
 reached_seen : (r : Reach) (c : Course) → (reached Right r c).class_seen ≡ c.class_seen
 reached_seen r c = grind arith
@@ -345,9 +317,6 @@ module _ (end : State) (units : List Value) (begun : Bool) (s : Traffic) (f : Is
   to_none v g class = search (arith, same_conns, reached_seen)
 
   module _ (v : Value) (only : IsOnly v) where
-    to_unnamed : After v (unnamed_told Right v s)
-    to_unnamed class = search (arith, same_conns, reached_seen, none_same, only)
-
     abbrev applied : Bool
     applied = is_applied (found_on Right s z.c v)
 
@@ -397,7 +366,7 @@ module _ (end : State) (units : List Value) (begun : Bool) (s : Traffic) (f : Is
 
     at_item : (q : ℕ) (o : Option Connection) → slice_get s.connections q ≡ o →
         ((e : Connection) → slice_get s.connections q ≡ Some e → is_over Right e ≡ true → ⊥) → After v (at_found Right v s q o)
-    at_item q None e lives = to_unnamed
+    at_item q None e lives = search (arith, same_conns, reached_seen, none_same, only)
     at_item q (Some y) e lives = to_one_by q y (q == z.p) refl e (lives y e)
 
     named_live : (over rest : Bool) → (not over && rest) ≡ true → over ≡ true → ⊥
@@ -405,14 +374,14 @@ module _ (end : State) (units : List Value) (begun : Bool) (s : Traffic) (f : Is
     named_live false rest h k = cc
 
     at_name : (n : ℕ) (o : Option ℕ) → position (is_named Right n) s.connections ≡ o → After v (at_place Right v s o)
-    at_name n None e = to_unnamed
+    at_name n None e = search (arith, same_conns, reached_seen, none_same, only)
     at_name n (Some q) e =
         at_item q (slice_get s.connections q) refl
         (λ y at gone. named_live (is_over Right y) (not (is_silent y.seen_by_right.phase) && (y.seen_by_right.reference == n))
         (first_true (is_named Right n) s.connections q y e at) gone)
 
     at_live : (o : Option ℕ) → position (is_live Right) s.connections ≡ o → After v (at_place Right v s o)
-    at_live None e = to_unnamed
+    at_live None e = search (arith, same_conns, reached_seen, none_same, only)
     at_live (Some q) e =
         at_item q (slice_get s.connections q) refl
         (λ y at gone. live_not_over (is_over Right y) (first_true (is_live Right) s.connections q y e at) gone)

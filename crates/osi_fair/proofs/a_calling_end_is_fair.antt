@@ -1,10 +1,9 @@
 -- A whole calling end is fair as long as the other side is judged, whatever classes it offers: by its stages.
 -- For the law of that name.
 use Rattle.std.proofs.Common.{arith}
-use Rattle.osi_fair.proofs.Vocabulary.{[], ap, Bool, Connection, Traffic, Zero, false, inl, List, refl, Some, subst, sym, true, ◌∙◌, ◌∷◌}
-use Rattle.osi_fair.proofs.Vocabulary.{◌≡◌, ◌⊎◌, request, Value, Two, Local, is_stopped, takes, Course, Left, Right, Kept, NotJudged}
-use Rattle.osi_fair.proofs.Vocabulary.{TooMany, passes, rubbish, unit as passing, begin, Event, HappenAlong, Happens}
-use Rattle.osi_fair.proofs.Vocabulary.{Whole}
+use Rattle.osi_fair.proofs.Vocabulary.{[], Zero, false, inl, List, Some, subst, sym, true, ◌∙◌, ◌∷◌, ◌≡◌, ◌⊎◌, request, Value, Two, Local}
+use Rattle.osi_fair.proofs.Vocabulary.{is_stopped, takes, Course, Left, Right, Kept, NotJudged, TooMany, passes, rubbish, unit as passing}
+use Rattle.osi_fair.proofs.Vocabulary.{begin, Event, HappenAlong, Happens, Whole}
 use Rattle.osi_fair.proofs.a_calling_end_goes_on_in_class_zero.{IsZeroed, zeroed_passes}
 use Rattle.osi_fair.proofs.a_calling_end_is_fair_in_class_2.{IsFine, Joined, fine_request, first_joined, goes, mild_of, next_joined}
 use Rattle.osi_fair.proofs.how_requests_go_on.{Stage, asks, known, zero, answered, ended, quiet, refused, waits}
@@ -12,7 +11,6 @@ use Rattle.osi_fair.proofs.no_request_is_blamed.{Holds as Staged, holds_first, h
 use Rattle.osi_fair.proofs.the_end_is_judged_as_the_other_side_is.{other_judged, own_judged, rubbish_judged}
 use Rattle.osi_fair.proofs.what_lasts_at_the_tap.{lasts_passing}
 use Rattle.osi_fair.proofs.what_the_other_side_closes.{IsOngoing}
-use Rattle.osi_fair.proofs.while_no_class_is_selected.{calm_tap}
 
 -- as long as the other side is judged, the end is
 abbrev IsJudged : Course → Type 0
@@ -66,14 +64,11 @@ own_stays local w v rest j e begun right =
     let l = lasts_passing (passing Left v) w.tap in
     own_judged v w.tap (mild_of w v (is_fine local w v rest j e begun (l.right right))) (j.judged (l.right right)) right
 
-other_stays : (local : Local) (w : Whole) (v : Value) → Stands local w → IsJudged (takes Right v w.tap).state.course
-other_stays local w v j right = grind (arith, lasts_passing, other_judged)
-
 rubbish_stays : (local : Local) (w : Whole) → Stands local w → IsJudged (passes (rubbish Right) w.tap).course
 rubbish_stays local w j right = grind (arith, lasts_passing, rubbish_judged)
 
 next_judged : (local : Local) (event : Event) (w new : Whole) → Happens Left event w new → Stands local w → IsJudged new.tap.course
-next_judged local event w new is j = search (arith, own_stays, other_stays, rubbish_stays)
+next_judged local event w new is j = search (arith, own_stays, lasts_passing, other_judged, rubbish_stays)
 
 all_stand : (local : Local) (events : List Event) (w new : Whole) → HappenAlong Left w events new → Stands local w → Stands local new
 all_stand local [] w new e j = subst (Stands local) (sym e) j
@@ -83,27 +78,21 @@ all_stand local (event ∷ events) w new (mid, first, more) j = all_stand local 
   judged = next_judged local event w mid first j;
 })
 
-first_stands : (local : Local) → Stands local (begin true local)
-first_stands local = record { staged = holds_first local; two = λ has. first_joined local has; judged = λ right. refl }
-
 pub calling_fair : (local : Local) (events : List Event) (w : Whole) (v : Value) (rest : List Value) →
     HappenAlong Left (begin true local) events w → w.begun ≡ true → w.put ≡ v ∷ rest → is_stopped Right w.tap.course ≡ false →
     ((takes Left v w.tap).told.finding ≡ Kept) ⊎ (((takes Left v w.tap).told.finding ≡ TooMany)
     ⊎ (((takes Left v w.tap).told.finding ≡ NotJudged) × ((w.tap.course.strays ≡ true) ⊎ (w.tap.course.loose ≡ true))))
 calling_fair local events w v rest along begun e right =
-    is_fine local w v rest (all_stand local events (begin true local) w along (first_stands local)) e begun right
+    is_fine local w v rest (all_stand local events (begin true local) w along (search (arith, first_joined, holds_first))) e begun right
 
 -- ---- in class 0
 
 module _ (local : Local) (w : Whole) (v : Value) (rest : List Value) (e : w.put ≡ v ∷ rest) (begun : w.begun ≡ true)
     (left : w.tap.course.left_stopped ≡ false) (class : w.tap.course.class ≡ Some Zero) where
-  not_asking : {A : Type 0} (cs : List Connection) (strays : Bool) → w.tap ≡ calm_tap cs strays → A
-  not_asking cs strays tap = absurd (cc (sym (ap (λ (s : Traffic). s.course.class) tap) ∙ class))
-
   zero_by : Stage local w → (takes Left v w.tap).told.finding ≡ Kept
   zero_by (ended none h) = none_put v rest w.put e none
   zero_by (quiet is none not_begun cs strays tap done dcs) = none_put v rest w.put e none
-  zero_by (asks x put is offers cs strays tap done dcs all) = not_asking cs strays tap
+  zero_by (asks x put is offers cs strays tap done dcs all) = grind arith
   zero_by (waits r is none not_begun cs strays tap p o offers waiting dcs) = none_put v rest w.put e none
   zero_by (refused r is none not_begun cs strays tap done dcs u more coming are refusal too) = none_put v rest w.put e none
   zero_by (answered r is none not_begun dcs n x more coming are class_of has after so z) = none_put v rest w.put e none
@@ -116,5 +105,5 @@ pub calling_fair_in_class_0 : (local : Local) (events : List Event) (w : Whole) 
     HappenAlong Left (begin true local) events w → w.begun ≡ true → w.put ≡ v ∷ rest → is_stopped Left w.tap.course ≡ false →
     w.tap.course.class ≡ Some Zero → (takes Left v w.tap).told.finding ≡ Kept
 calling_fair_in_class_0 local events w v rest along begun e left class =
-    let j = all_stand local events (begin true local) w along (first_stands local) in
+    let j = all_stand local events (begin true local) w along (search (arith, first_joined, holds_first)) in
     zero_by local w v rest e begun left class (j.staged.stage left)

@@ -1,19 +1,18 @@
 -- A whole calling end is fair in class 2 as long as the other side is judged, also after a connection has lost its judgement: by induction
 -- over what happens. For the law of that name.
 use Rattle.std.proofs.Common.{arith}
-use Rattle.osi_fair.proofs.Vocabulary.{[], ap, Bool, false, inl, inr, is_some, List, None, Option, refl, Some, subst, sym, true, ℕ, ◌++◌}
-use Rattle.osi_fair.proofs.Vocabulary.{◌∙◌, ◌∷◌, ◌≡◌, ◌⊎◌, AllByRecursion, not, slice_get, ◌||◌, disconnect, disconnected}
-use Rattle.osi_fair.proofs.Vocabulary.{HasFieldsInRange, request, Value, Class, Two, Zero, Local, orderly_asks, orderly_closed}
-use Rattle.osi_fair.proofs.Vocabulary.{orderly_ended, orderly_fresh, orderly_sent, orderly_sent_all, orderly_unit, IsOrderly, react}
-use Rattle.osi_fair.proofs.Vocabulary.{value_at, breaks, closes_call as closes, connects, sends, sends_all, user_does, UserCall, reach_by}
-use Rattle.osi_fair.proofs.Vocabulary.{is_stopped, packet_begins, reached, Traffic, takes, Connection, Course, Left, Right, Kept}
-use Rattle.osi_fair.proofs.Vocabulary.{NotJudged, TooMany, packet, passes, rubbish, unit as passing, put_by, put_for, arrives, begin}
-use Rattle.osi_fair.proofs.Vocabulary.{calls, Event, HappenAlong, Happens, MayCall, passes_rubbish, Whole}
+use Rattle.osi_fair.proofs.Vocabulary.{[], ap, Bool, false, inl, inr, List, None, Option, refl, Some, subst, sym, true, ℕ, ◌++◌, ◌∙◌, ◌∷◌}
+use Rattle.osi_fair.proofs.Vocabulary.{◌≡◌, ◌⊎◌, AllByRecursion, not, slice_get, ◌||◌, disconnect, disconnected, HasFieldsInRange, request}
+use Rattle.osi_fair.proofs.Vocabulary.{Value, Class, Two, Zero, Local, orderly_asks, orderly_closed, orderly_ended, orderly_fresh}
+use Rattle.osi_fair.proofs.Vocabulary.{orderly_sent, orderly_sent_all, orderly_unit, IsOrderly, react, value_at, breaks}
+use Rattle.osi_fair.proofs.Vocabulary.{closes_call as closes, connects, sends, sends_all, user_does, UserCall, is_stopped, packet_begins}
+use Rattle.osi_fair.proofs.Vocabulary.{takes, Connection, Course, Left, Right, Kept, NotJudged, TooMany, packet, passes, rubbish}
+use Rattle.osi_fair.proofs.Vocabulary.{unit as passing, put_by, put_for, arrives, begin, calls, Event, HappenAlong, Happens, MayCall}
+use Rattle.osi_fair.proofs.Vocabulary.{passes_rubbish, Whole}
 use Rattle.osi_carrier.specs.State.{State}
 use Rattle.osi_fair.specs.Wholes.{begins_other, begins_own, passes_other, passes_own}
-use Rattle.osi_fair.proofs.small_facts_that_many_lemmas_use.{differ}
-use Rattle.osi_fair.proofs.a_dr_for_what_is_gone.{Firsts, Holds as Kept_so, Known, before_going, first_holds, gone_strays, lasted}
-use Rattle.osi_fair.proofs.a_dr_for_what_is_gone.{next_holds}
+use Rattle.osi_fair.proofs.small_facts_that_many_lemmas_use.{differ, none_of}
+use Rattle.osi_fair.proofs.a_dr_for_what_is_gone.{Firsts, Holds as Kept_so, Known, before_going, gone_strays, next_holds}
 use Rattle.osi_fair.proofs.a_dc_for_a_stray_dr_passes.{dc_goes}
 use Rattle.osi_fair.proofs.a_stray_dc_of_the_other_side_passes.{idle_passes, idle_peers}
 use Rattle.osi_fair.proofs.a_reference_names_one_connection.{no_item}
@@ -31,10 +30,10 @@ use Rattle.osi_fair.proofs.what_a_calling_end_still_has.{call_after, over_not, u
 use Rattle.osi_fair.proofs.what_becomes_of_a_connection.{IsIdle, Told, comes_for}
 use Rattle.osi_fair.proofs.what_lasts_at_the_tap.{IsCalm}
 use Rattle.osi_fair.proofs.which_units_are_for_a_connection.{IsOf, ours_so}
-use Rattle.osi_fair.proofs.while_no_class_is_selected.{calm_tap}
 use Rattle.osi_fair.proofs.what_the_other_side_closes.{IsOngoing, IsDr, IsPlain, closed_by}
 use Rattle.osi_fair.proofs.what_is_live_at_a_called_end.{IsLive}
 use Rattle.osi_fair.proofs.an_end_has_broken_no_rule.{mild_not, other_fine, own_fine, rubbish_fine}
+use Rattle.osi_fair.proofs.how_a_calling_end_asks.{over_takes}
 
 -- ---- all that holds
 
@@ -75,7 +74,7 @@ module _ (local : Local) (w : Whole) (j : Joined local w) where
       Followed local (record w { end = react u w.end; put = w.put ++ put_for u w.end; coming = later })
   taking u later e going =
       whole_takes local w (j.followed going) j.kept.sane (j.peers going) (j.kept.offers going) j.orderly (j.local_is going) u later e
-      (lasted u w.end (is_some w.end.ended) refl) (λ was. known_by w.tap.course.strays refl going u later e was)
+      (grind (arith, none_of, over_takes)) (λ was. known_by w.tap.course.strays refl going u later e was)
       (known_so.selects going u later e)
 
   calling : (call : UserCall) → MayCall call w.end → IsOngoing w.tap.course →
@@ -106,12 +105,8 @@ module _ (local : Local) (w : Whole) (j : Joined local w) where
   not_zero : {A : Type 0} (k : Option Class) → (k ≡ None) ⊎ (k ≡ Some Two) → k ≡ Some Zero → A
   not_zero k h h2 = grind arith
 
-  rubbish_not : {A : Type 0} (k : Option Class) → (k ≡ None) ⊎ (k ≡ Some Two) → (c : Course) →
-      IsOngoing (reached Right (reach_by k false) c) → A
-  rubbish_not h e c h2 = grind (arith, not_zero, differ)
-
   rubbish_by : {A : Type 0} → IsOngoing (passes (rubbish Right) w.tap).course → A
-  rubbish_by after = grind (arith, before_going, rubbish_not)
+  rubbish_by after = grind (arith, before_going)
 
 -- ---- the unit that is passing
 
@@ -125,10 +120,6 @@ pub fine_request : (w : Whole) (v : Value) →
     ((takes Left v w.tap).told.finding ≡ Kept) ⊎ ((takes Left v w.tap).told.finding ≡ TooMany) → IsFine w v
 fine_request w v h = grind arith
 
-fine_passed : (w : Whole) (v : Value) → ((takes Left v w.tap).told.finding ≡ Kept) ⊎ (((takes Left v w.tap).told.finding ≡ NotJudged)
-    × ((w.tap.course.strays ≡ true) ⊎ (w.tap.course.loose ≡ true))) → IsFine w v
-fine_passed w v h = grind arith
-
 -- it is so, and all holds after it
 pub record Goes (local : Local) (w : Whole) (v : Value) (rest : List Value) : Type 0 where
   pub fine : IsFine w v
@@ -136,7 +127,7 @@ pub record Goes (local : Local) (w : Whole) (v : Value) (rest : List Value) : Ty
   pub peers : AreNamedApart Right (takes Left v w.tap).state.connections
 
 goes_of : (local : Local) (w : Whole) (v : Value) (rest : List Value) → Passed local w v rest → Goes local w v rest
-goes_of local w v rest p = record { fine = fine_passed w v p.fine; followed = p.followed; peers = p.peers }
+goes_of local w v rest p = record { fine = grind arith; followed = p.followed; peers = p.peers }
 
 module _ (local : Local) (w : Whole) (j : Joined local w) (v : Value) (rest : List Value) (e : w.put ≡ v ∷ rest) (begun : w.begun ≡ true)
     (going : IsOngoing w.tap.course) where
@@ -288,7 +279,7 @@ all_joined local (event ∷ events) w new (mid, first, more) j =
     all_joined local events mid new more (next_joined local event w mid first j)
 
 pub first_joined : (local : Local) → local.class2 ≡ true → Joined local (begin true local)
-first_joined local two = grind (arith, no_item, known, holds_first local, first_holds local two, orderly_fresh true local)
+first_joined local two = grind (arith, no_item, known, holds_first local, orderly_fresh true local)
 
 has_none : {A : Type 0} (a b : Bool) → a ≡ false → b ≡ true → (a || not b) ≡ true → A
 has_none h b h2 k e = grind arith
@@ -296,11 +287,8 @@ has_none h b h2 k e = grind arith
 -- while the end is not over, class 0 is selected only if the end has it
 module _ (local : Local) (w : Whole) (lasts : w.end.ended ≡ None) (no_zero : local.class0 ≡ false) (two : local.class2 ≡ true)
     (selected : w.tap.course.class ≡ Some Zero) where
-  calm_not : {A : Type 0} (cs : List Connection) (strays : Bool) → w.tap ≡ calm_tap cs strays → A
-  calm_not cs strays tap = absurd (cc (sym (ap (λ (t : Traffic). t.course.class) tap) ∙ selected))
-
   not_selected : Stage local w → ⊥
-  not_selected h = grind (arith, over_not, calm_not, has_none)
+  not_selected h = grind (arith, over_not, has_none)
 
 pub gone : (local : Local) (events : List Event) (w : Whole) (n source reason : ℕ) (user : List ℕ) (more : List Value) →
     local.class0 ≡ false → local.class2 ≡ true → HappenAlong Left (begin true local) events w →

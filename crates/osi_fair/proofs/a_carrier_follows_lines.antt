@@ -5,15 +5,13 @@ use Rattle.osi_fair.proofs.Vocabulary.{refl, Result, Some, subst, sym, ℕ, ◌+
 use Rattle.osi_fair.proofs.Vocabulary.{AllByRecursion, flat_map, destination_of, disconnect, disconnected, Value, drained_moves, all_given}
 use Rattle.osi_fair.proofs.Vocabulary.{longest_tsdu, Given, Standing, taken, unit_of, with_tsdu, give_out, hand_in, hand_out, Move}
 use Rattle.osi_fair.proofs.Vocabulary.{MovesAlong, take_in, LinkFault, Class, Two, put_here, without_here, closed_with, link_of, open_link}
-use Rattle.osi_fair.proofs.Vocabulary.{sent, RiseFrom, pumped, written_by, handed_out, in_two, leaves, taking, to_closing}
-use Rattle.osi_fair.proofs.Vocabulary.{to_linked, to_reference, put, value_at, closing, Live as Connection, linked, packets, Direction}
-use Rattle.osi_fair.proofs.Vocabulary.{Follows, link_now, Act, ActsAlong, answers, closes_with as closes, HandsInShort, ignores, Line}
-use Rattle.osi_fair.proofs.Vocabulary.{moves, units_put, units_taken, put_at, put_closing, put_for, put_in_two, put_leaving, put_linked}
-use Rattle.osi_fair.proofs.Vocabulary.{put_sent, put_taking, put_to}
+use Rattle.osi_fair.proofs.Vocabulary.{sent, RiseFrom, pumped, written_by, handed_out, leaves, taking, to_linked, to_reference, put}
+use Rattle.osi_fair.proofs.Vocabulary.{value_at, closing, Live as Connection, linked, packets, Direction, Follows, link_now, Act, ActsAlong}
+use Rattle.osi_fair.proofs.Vocabulary.{answers, closes_with as closes, HandsInShort, ignores, Line, moves, units_put, units_taken, put_at}
+use Rattle.osi_fair.proofs.Vocabulary.{put_closing, put_for, put_leaving, put_linked, put_sent, put_taking}
 use Rattle.osi_carrier.specs.Calls.{sent_on}
 unfoldable use Rattle.osi_carrier.specs.React.{react}
 use Rattle.osi_carrier.specs.State.{State}
-use Rattle.osi_fair.proofs.small_facts_that_many_lemmas_use.{same_pair}
 
 -- ---- calls of a link
 
@@ -108,7 +106,7 @@ module _ (r peer : ℕ) (s new : State) (link mid : Standing) (front : List Move
 
 pub open_is : (ended : Bool) (o : Option Connection) (peer : ℕ) (link : Standing) →
     (if ended then None else link_of o) ≡ Some (peer, link) → o ≡ Some (linked peer link)
-open_is ended o peer link e = grind (arith, same_pair)
+open_is ended o peer link e = grind arith
 
 pub follows_sent : (r peer : ℕ) (tsdu : List ℕ) (s : State) (link : Standing) → open_link r s ≡ Some (peer, link) →
     length tsdu ≤ longest_tsdu → Follows r peer [] (put_sent tsdu (open_link r s)) s (sent r tsdu s)
@@ -158,13 +156,9 @@ hands_of (tsdu ∷ tsdus) = hand_out tsdu ∷ []
 abbrev with_whole : Standing → List (List ℕ) → Standing
 with_whole link whole = record link { ends = record link.ends { joining = record link.ends.joining { whole = whole } } }
 
-hands_along : (link : Standing) (whole : List (List ℕ)) → link.ends.joining.whole ≡ whole →
-    MovesAlong link (hands_of whole) (handed_out link)
-hands_along link whole e = grind arith
-
 hands_front : (old link : Standing) (unit : Value) (whole : List (List ℕ)) → link.ends.joining.whole ≡ whole → taken old unit ≡ Ok link →
     Front old (handed_out link) (take_in unit ∷ hands_of whole) (unit ∷ [])
-hands_front old link unit whole e h = search (arith, hands_along)
+hands_front old link unit whole e h = grind arith
 
 module _ (r peer : ℕ) (s : State) (link : Standing) (here : value_at r s.live ≡ Some (linked peer link)) (two : s.class ≡ Some Two) where
   follows_taking : (unit : Value) (result : Result Standing LinkFault) → taken link unit ≡ result →
@@ -231,31 +225,19 @@ ignores_follows r peer unit s new before after outgoing = record {
   );
 }
 
-follows_closing : (r peer : ℕ) (unit : Value) (s : State) → value_at r s.live ≡ Some (closing peer) → RiseFrom 0 s.live →
-    Follows r peer (unit ∷ []) [] s (to_closing r unit s)
-follows_closing r peer v s here rise = grind (arith, ignores_follows, without_here)
-
 -- ---- by reference
 
 to_same : (n r : ℕ) (unit : Value) (s : State) → Some n ≡ Some r → to_reference n unit s ≡ to_reference r unit s
 to_same n r unit s e = let same : n ≡ r = cc in ap (λ (m : ℕ). to_reference m unit s) same
 
-two_is : (is_caller : Bool) (unit : Value) (s : State) (r : ℕ) → destination_of unit ≡ Some r →
-    in_two is_caller unit s ≡ to_reference r unit s
-two_is is_caller unit s r e = grind (arith, to_same)
-
 pub react_is : (unit : Value) (s : State) (r : ℕ) → s.class ≡ Some Two → s.ended ≡ None → destination_of unit ≡ Some r →
     react unit s ≡ to_reference r unit s
 unfolding react
-react_is unit s r two lasts e = grind (arith, two_is)
-
-put_two_is : (is_caller : Bool) (unit : Value) (s : State) (r : ℕ) → destination_of unit ≡ Some r →
-    put_in_two is_caller unit s ≡ put_to (Some r) unit s
-put_two_is is_caller v s r e = grind arith
+react_is unit s r two lasts e = grind arith
 
 pub put_is : (unit : Value) (s : State) (r : ℕ) → s.class ≡ Some Two → s.ended ≡ None → destination_of unit ≡ Some r →
     put_for unit s ≡ put_at r (value_at r s.live) unit s.class
-put_is unit s r two lasts e = grind (arith, put_two_is)
+put_is unit s r two lasts e = grind arith
 
 pub follows_open : (unit : Value) (s : State) (r peer : ℕ) (link : Standing) → RiseFrom 0 s.live → s.class ≡ Some Two → s.ended ≡ None →
     value_at r s.live ≡ Some (linked peer link) → destination_of unit ≡ Some r →
@@ -266,4 +248,4 @@ follows_open unit s r peer link rise two lasts here e =
 pub follows_closed_one : (unit : Value) (s : State) (r peer : ℕ) → RiseFrom 0 s.live → s.class ≡ Some Two → s.ended ≡ None →
     value_at r s.live ≡ Some (closing peer) → destination_of unit ≡ Some r → Follows r peer (unit ∷ []) (put_for unit s) s (react unit s)
 follows_closed_one unit s r peer rise two lasts here e =
-    grind (arith, react_is unit s r two lasts e, put_is unit s r two lasts e, follows_closing r peer unit s here rise)
+    grind (arith, react_is unit s r two lasts e, put_is unit s r two lasts e, ignores_follows, without_here)

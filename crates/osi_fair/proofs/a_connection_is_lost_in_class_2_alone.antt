@@ -1,10 +1,9 @@
 -- A connection loses its judgement only in class 2, and left knows the class only once right has selected it.
 -- For the law on a whole called end: in class 0, and while no class is selected, each connection is judged.
-use Rattle.osi_fair.proofs.Vocabulary.{arith, Bool, false, if◌then◌else◌, None, Option, Some, true, ℕ, ◌≡◌, ◌⊎◌, Connect, Value, Class, Two}
-use Rattle.osi_fair.proofs.Vocabulary.{is_applied, reach_of, asks_by, asks_of, at_found, at_place, class_for, course_after}
-use Rattle.osi_fair.proofs.Vocabulary.{course_after_none, found_on, is_stopped, none_told, Outcome, reached, route, routed}
-use Rattle.osi_fair.proofs.Vocabulary.{Traffic as State, takes, unnamed_told, Connection, Course, Direction, Finding, NotJudged, Reach}
-use Rattle.osi_fair.proofs.Vocabulary.{Route, passes, Passing, noted}
+use Rattle.osi_fair.proofs.Vocabulary.{arith, Bool, false, None, Option, Some, true, ℕ, ◌≡◌, ◌⊎◌, Value, Class, Two, is_applied, reach_of}
+use Rattle.osi_fair.proofs.Vocabulary.{asks_of, at_found, class_for, course_after, course_after_none, found_on, none_told, Outcome, reached}
+use Rattle.osi_fair.proofs.Vocabulary.{routed, Traffic as State, takes, unnamed_told, Connection, Course, Direction, Finding, Reach, Route}
+use Rattle.osi_fair.proofs.Vocabulary.{passes, Passing, noted}
 use Rattle.osi_rules.specs.declared.findings.Reach.TheVariants as reach
 use Rattle.osi_fair.proofs.what_lasts_at_the_tap.{Lasts, lasts_passing}
 
@@ -22,13 +21,9 @@ record Changes (k : Option Class) (c after : Course) : Type 0 where
   lost : after.loose ≡ true → (c.loose ≡ true) ⊎ (k ≡ Some Two)
   seen : after.class_seen ≡ c.class_seen
 
-reached_changes : (d : Direction) (k : Option Class) (r : Reach) (c : Course) → (r ≡ reach.Connection → k ≡ Some Two) →
-    Changes k c (reached d r c)
-reached_changes d k r c h = grind arith
-
 told_changes : (d : Direction) (k : Option Class) (f : Finding) (r : Reach) (c : Course) → (r ≡ reach.Connection → k ≡ Some Two) →
     Changes k c (noted d f (reached d r c))
-told_changes d k f r c h = grind (arith, reached_changes)
+told_changes d k f r c h = grind arith
 
 changes_from : (k : Option Class) (c mid after : Course) → mid.loose ≡ c.loose → mid.class_seen ≡ c.class_seen → Changes k mid after →
     Changes k c after
@@ -40,15 +35,8 @@ none_loose v c = grind arith
 none_seen : (v : Value) (c : Course) → (course_after_none v c).class_seen ≡ c.class_seen
 none_seen v c = grind arith
 
-none_class : (d : Direction) (v : Value) (c : Course) → class_for d (course_after_none v c) ≡ class_for d c
-none_class d v c = grind arith
-
 after_loose : (d : Direction) (c : Connection) (v : Value) (b : Bool) (course : Course) → (course_after d c v b course).loose ≡ course.loose
 after_loose d c v b course = grind arith
-
-after_seen : (d : Direction) (c : Connection) (v : Value) (b : Bool) (course : Course) →
-    (course_after d c v b course).class_seen ≡ course.class_seen
-after_seen d c v b course = grind arith
 
 -- ---- by the way that a unit takes
 
@@ -59,7 +47,7 @@ to_none : (d : Direction) (f : Finding) (s : State) → Keeps d s (none_told d f
 to_none d f s = search (arith, told_changes, connection_by)
 
 to_unnamed : (d : Direction) (v : Value) (s : State) → Keeps d s (unnamed_told d v s)
-to_unnamed d v s = search (arith, changes_from, none_loose, none_seen, told_changes, none_class, connection_by)
+to_unnamed d v s = search (arith, changes_from, none_loose, none_seen, told_changes, connection_by)
 
 to_one : (d : Direction) (v : Value) (s : State) (p : ℕ) (o : Option Connection) → Keeps d s (at_found d v s p o)
 to_one d v s p None = to_unnamed d v s
@@ -67,42 +55,25 @@ to_one d v s p (Some c) =
     let f = found_on d s c v in
     let mid = course_after d c v (is_applied f) s.course in
     changes_from (class_for d s.course) s.course mid (noted d f (reached d (reach_of (class_for d s.course) f) mid))
-    (after_loose d c v (is_applied f) s.course) (after_seen d c v (is_applied f) s.course)
+    (after_loose d c v (is_applied f) s.course) (grind arith)
     (told_changes d (class_for d s.course) f (reach_of (class_for d s.course) f) mid (connection_by (class_for d s.course) f))
 
-to_place : (d : Direction) (v : Value) (s : State) (p : Option ℕ) → Keeps d s (at_place d v s p)
-to_place d v s p = grind (arith, to_unnamed, to_one)
-
-asking : (d : Direction) (f : Finding) (x : Connect) (s : State) → Keeps d s (asks_by d f x s)
-asking d f x s = search (arith, to_none)
-
 asks : (d : Direction) (v : Value) (s : State) → Keeps d s (asks_of d v s)
-asks d v s = grind (arith, asking, to_none)
+asks d v s = search (arith, to_none)
 
 by_route : (d : Direction) (v : Value) (s : State) (r : Route) → Keeps d s (routed d v s r)
-by_route d v s r = grind (arith, asks, to_place, to_none)
-
-if_judged : (b : Bool) (d : Direction) (v : Value) (s : State) (r : Route) →
-    Keeps d s (if b then none_told d NotJudged s else routed d v s r)
-if_judged b d v s r = grind (arith, to_none, by_route)
+by_route d v s r = grind (arith, asks, to_unnamed, to_one, to_none)
 
 takes_keeps : (d : Direction) (v : Value) (s : State) → Keeps d s (takes d v s)
-takes_keeps d v s = if_judged (is_stopped d s.course) d v s (route d s.course v)
+takes_keeps d v s = grind (arith, to_none, by_route)
 
 -- ---- whatever passes
 
-known : (d : Direction) (c : Course) → IsOfTwo c → class_for d c ≡ Some Two → c.class ≡ Some Two
-known d c h e = grind arith
-
 by_changes : (d : Direction) (c after : Course) → IsOfTwo c → Lasts c after → Changes (class_for d c) c after → IsOfTwo after
-by_changes d c after h l k = grind (arith, known)
+by_changes d c after h l k = grind arith
 
 pub still_two : (p : Passing) (s : State) → IsOfTwo s.course → IsOfTwo (passes p s).course
-still_two p s h = search (arith, by_changes, lasts_passing, takes_keeps, reached_changes)
-
--- so none is lost in class 0, nor while no class is selected
-firm_by : (b : Bool) (k : Option Class) → (b ≡ true → k ≡ Some Two) → (k ≡ Some Two → ⊥) → b ≡ false
-firm_by b k h none = grind arith
+still_two p s h = search (arith, by_changes, lasts_passing, takes_keeps)
 
 pub firm_unless_two : (c : Course) → IsOfTwo c → (c.class ≡ Some Two → ⊥) → c.loose ≡ false
-firm_unless_two c h none = firm_by c.loose c.class h.lost none
+firm_unless_two c h none = grind arith

@@ -1,10 +1,10 @@
 -- A DC of a whole calling end passes that answers a DR which closed nothing: it changes no connection at the tap, or it is that of a line.
 -- For the law on a whole end.
-use Rattle.osi_fair.proofs.Vocabulary.{arith, [], ap, Bool, false, if◌then◌else◌, inl, inr, List, None, Option, refl, Some, subst, sym}
-use Rattle.osi_fair.proofs.Vocabulary.{true, ℕ, ◌∷◌, ◌≡◌, eqb-true, not, position, slice_get, ◌&&◌, ◌||◌, disconnected, Value, Class, Two}
-use Rattle.osi_fair.proofs.Vocabulary.{Zero, Local, first_failed, is_due, is_named, at_found, at_place, class_for, has_broken, none_told}
-use Rattle.osi_fair.proofs.Vocabulary.{one_told, Outcome, route, route_in, routed, set, Traffic, takes, unnamed_told, Connection, Left}
-use Rattle.osi_fair.proofs.Vocabulary.{Right, found, found_on, in_doubt, uses_source, Broke, NotJudged, Whole}
+use Rattle.osi_fair.proofs.Vocabulary.{arith, [], Bool, false, if◌then◌else◌, inl, inr, List, None, Option, refl, Some, subst, sym, true, ℕ}
+use Rattle.osi_fair.proofs.Vocabulary.{◌∷◌, ◌≡◌, eqb-true, not, position, slice_get, ◌||◌, disconnected, Value, Class, Two, Zero, Local}
+use Rattle.osi_fair.proofs.Vocabulary.{first_failed, is_due, is_named, at_found, at_place, class_for, has_broken, none_told, one_told}
+use Rattle.osi_fair.proofs.Vocabulary.{Outcome, route, route_in, routed, set, Traffic, takes, Connection, Left, Right, found, in_doubt}
+use Rattle.osi_fair.proofs.Vocabulary.{Broke, NotJudged, Whole}
 use Rattle.osi_rules.specs.declared.findings.Rule.TheVariants as rule
 use Rattle.osi_fair.proofs.small_facts_that_many_lemmas_use.{and_first, and_second, both, judged_same, or_last}
 use Rattle.osi_fair.proofs.a_right_unit_is_not_blamed.{first_there}
@@ -42,22 +42,14 @@ module _ (m source : ℕ) (s : Traffic) (strays : s.course.strays ≡ true) wher
   abbrev v : Value
   v = disconnected m source
 
-  none_passes : Passes m source s (unnamed_told Left v s)
-  none_passes = grind (arith, doubt_none)
-
-  idle_one : (p : ℕ) (c : Connection) → slice_get s.connections p ≡ Some c → found_on Left s c v ≡ NotJudged →
-      Passes m source s (one_told Left p c v s)
-  idle_one p c at is = grind (arith, set, set_same)
-
   one_passes : (p : ℕ) (c : Connection) → slice_get s.connections p ≡ Some c → is_named Left m c ≡ true → (j : Bool) → c.is_judged ≡ j →
       (b : Bool) → is_due Left c source ≡ b → Passes m source s (one_told Left p c v s)
-  one_passes p c at named false lost b e =
-      idle_one p c at (ap (λ (j : Bool). if j then found Left s.course (uses_source Left s.connections v) c v else NotJudged) lost)
+  one_passes p c at named false lost b e = grind (arith, set, set_same)
   one_passes p c at named true judged true e = due p c at named e judged
-  one_passes p c at named true judged false e = search (arith, idle_one, judged_same, not_due)
+  one_passes p c at named true judged false e = grind (arith, set, set_same, judged_same, not_due)
 
   at_passes : (o : Option ℕ) → position (is_named Left m) s.connections ≡ o → Passes m source s (at_place Left v s o)
-  at_passes None e = none_passes
+  at_passes None e = grind (arith, doubt_none)
   at_passes (Some p) e =
       let (c, at, named) = where_named s.connections m p e in
       subst (λ (o : Option Connection). Passes m source s (at_found Left v s p o)) (sym at)
@@ -78,16 +70,13 @@ module _ (m source : ℕ) (s : Traffic) (strays : s.course.strays ≡ true) wher
 
 -- ---- at the end
 
-name_so : (a b d : Bool) → (not a && (not b && d)) ≡ true → (b ≡ false) × (d ≡ true)
-name_so a b d h = grind arith
-
 -- the connection on which it is due is open, and it has its references
 pub record IsDueOn (c : Connection) (m source : ℕ) : Type 0 where
   pub tracked : is_tracked c ≡ true
   pub own : IsOf c.left.reference c.right.reference (disconnected m source)
 
 due_on : (c : Connection) (m source : ℕ) → Sound c → is_named Left m c ≡ true → is_due Left c source ≡ true → IsDueOn c m source
-due_on c m source sound named h = search (arith, name_so, and_first, and_second, both, or_last, eqb-true)
+due_on c m source sound named h = grind (arith, and_first, and_second, both, or_last, eqb-true)
 
 module _ (local : Local) (w : Whole) (f : Followed local w) (sane : IsSane w.tap) (peers : AreNamedApart Right w.tap.connections)
     (m source : ℕ) (rest : List Value) (e : w.put ≡ disconnected m source ∷ rest) (begun : w.begun ≡ true)

@@ -1,16 +1,15 @@
 -- A DC with which a whole called end answers a DR for what is gone passes: it answers nothing at the tap, and changes nothing.
 -- For the law on a whole called end.
 use Rattle.osi_fair.proofs.Vocabulary.{arith, [], ap, Bool, false, if◌then◌else◌, List, None, Option, Some, subst, sym, true, ℕ, ◌∙◌, ◌∷◌}
-use Rattle.osi_fair.proofs.Vocabulary.{◌≡◌, eqb-true, AllByRecursion, not, slice_get, ◌&&◌, ◌==◌, ◌||◌, Connect, disconnected, Value, Local}
-use Rattle.osi_fair.proofs.Vocabulary.{first_failed, is_due, is_closing, is_open, at_found, at_place, in_doubt, none_told, one_told}
-use Rattle.osi_fair.proofs.Vocabulary.{Outcome, Traffic, takes, unnamed, unnamed_by, Connection, Right, Finding, Broke, NotJudged, Half}
-use Rattle.osi_fair.proofs.Vocabulary.{Whole, class_for, connection_after, course_after, is_applied, reach_of, reached, set, noted}
+use Rattle.osi_fair.proofs.Vocabulary.{◌≡◌, eqb-true, AllByRecursion, not, slice_get, ◌&&◌, ◌==◌, ◌||◌, disconnected, Value, Local}
+use Rattle.osi_fair.proofs.Vocabulary.{first_failed, is_due, is_closing, is_open, at_found, in_doubt, none_told, one_told, Outcome, Traffic}
+use Rattle.osi_fair.proofs.Vocabulary.{takes, unnamed, unnamed_by, Connection, Right, Finding, Broke, NotJudged, Whole, class_for}
+use Rattle.osi_fair.proofs.Vocabulary.{connection_after, course_after, is_applied, reach_of, reached, set, noted}
 use Rattle.osi_rules.specs.declared.findings.Rule.TheVariants as rule
 use Rattle.osi_fair.proofs.small_facts_that_many_lemmas_use.{and_false, differ, is_false}
-use Rattle.osi_fair.proofs.how_a_unit_of_right_passes.{route_dc}
 use Rattle.osi_fair.proofs.a_unit_of_a_called_end_passes.{IsFineAt}
-use Rattle.osi_fair.proofs.each_connection_of_a_called_end.{AreAbove, AreStrays, Asked, Called, IsStray, Running, Stand, answers, comes}
-use Rattle.osi_fair.proofs.each_connection_of_a_called_end.{past, refuses, runs}
+use Rattle.osi_fair.proofs.each_connection_of_a_called_end.{AreAbove, AreStrays, Called, IsStray, Stand, answers, comes, past, refuses}
+use Rattle.osi_fair.proofs.each_connection_of_a_called_end.{runs}
 use Rattle.osi_fair.proofs.units_by_their_place.{Placed, first_at, units_at, values}
 use Rattle.osi_fair.proofs.what_a_called_end_closes_is_to_pass.{close_waits}
 use Rattle.osi_fair.proofs.what_is_live_at_a_called_end.{Answers, IsHeld}
@@ -51,24 +50,15 @@ module _ (m n : ℕ) (s : Traffic) (strays : s.course.strays ≡ true) where
     };
   }
 
-  one_spared : (q : ℕ) (c : Connection) → slice_get s.connections q ≡ Some c → (c.is_judged ≡ true → is_due Right c n ≡ false) →
-      Spared (disconnected m n) s (one_told Right q c (disconnected m n) s)
-  one_spared q c at due = grind (arith, judged_not, not_due, set_same)
-
   found_spared : (q : ℕ) (o : Option Connection) → slice_get s.connections q ≡ o →
       ((c : Connection) → slice_get s.connections q ≡ Some c → c.is_judged ≡ true → is_due Right c n ≡ false) →
       Spared (disconnected m n) s (at_found Right (disconnected m n) s q o)
-  found_spared q o e h = grind (arith, none_spared, one_spared)
-
-  place_spared : (o : Option ℕ) → ((q : ℕ) (c : Connection) → slice_get s.connections q ≡ Some c →
-      c.is_judged ≡ true → is_due Right c n ≡ false) →
-      Spared (disconnected m n) s (at_place Right (disconnected m n) s o)
-  place_spared o h = grind (arith, none_spared, found_spared)
+  found_spared q o e h = grind (arith, none_spared, judged_not, not_due, set_same)
 
   spared : s.course.right_stopped ≡ false → ((q : ℕ) (c : Connection) → slice_get s.connections q ≡ Some c →
       c.is_judged ≡ true → is_due Right c n ≡ false) →
       Spared (disconnected m n) s (takes Right (disconnected m n) s)
-  spared right h = grind (arith, route_dc, place_spared)
+  spared right h = grind (arith, none_spared, found_spared)
 
 module _ (local : Local) (w : Whole) (f : Called local w) (right : w.tap.course.right_stopped ≡ false) (u : Value) (rest : List Value)
     (later : List Placed) (tagged : f.tagged ≡ (None, u) ∷ later) (rest_are : rest ≡ values later) where
@@ -87,32 +77,20 @@ module _ (local : Local) (w : Whole) (f : Called local w) (right : w.tap.course.
   begun_not : (i : ℕ) → (w.begun && first_at i f.tagged) ≡ false
   begun_not i = ap (λ (l : List Placed). w.begun && first_at i l) tagged ∙ and_false w.begun
 
-  -- no connection that is open at the tap has this reference
-  silent_not : {A : Type 0} (x : Connect) (c : Connection) → Asked x c → is_open c.right.phase ≡ true → A
-  silent_not x c a up = differ (is_open c.right.phase) up (ap (λ (h : Half). is_open h.phase) a.right)
-
-  run_not : {A : Type 0} (q : ℕ) (c : Connection) → slice_get w.tap.connections q ≡ Some c → c.is_judged ≡ true →
-      stray.n ≡ c.right.reference →
-      Running f.shut w.end w.coming (units_at q f.tagged) (w.begun && first_at q f.tagged) (f.refs q) c → A
-  run_not q c at judged same g = grind (arith, stray, close_waits, mine_is)
-
   due_not : {A : Type 0} (q : ℕ) (c : Connection) → slice_get w.tap.connections q ≡ Some c → c.is_judged ≡ true →
       is_open c.right.phase ≡ true →
       stray.n ≡ c.right.reference →
       Stand local f.shut w.end w.coming (units_at q f.tagged) (units_at q f.came) (w.begun && first_at q f.tagged) (f.refs q) c → A
-  due_not q c at judged up same (comes x a none ask i) = silent_not x c a up
-  due_not q c at judged up same (refuses x a reason is none i seen) = silent_not x c a up
-  due_not q c at judged up same (answers h none) = silent_not h.x c h.asked up
-  due_not q c at judged up same (runs g none) = run_not q c at judged same g
+  due_not q c at judged up same (comes x a none ask i) = grind (arith, differ)
+  due_not q c at judged up same (refuses x a reason is none i seen) = grind (arith, differ)
+  due_not q c at judged up same (answers h none) = grind (arith, differ)
+  due_not q c at judged up same (runs g none) = grind (arith, stray, close_waits, mine_is)
   due_not q c at judged up same (past silent not_up none asks un off) = differ (is_open c.right.phase) up not_up
 
   no_due : (q : ℕ) (c : Connection) → slice_get w.tap.connections q ≡ Some c → c.is_judged ≡ true → is_due Right c stray.n ≡ false
   no_due q c at judged = is_false (is_due Right c stray.n) (λ h.
       let (a, b) = due_parts (is_open c.right.phase) (is_closing c.seen_by_right.phase) (stray.n == c.right.reference) h in
       due_not q c at judged a (eqb-true stray.n c.right.reference b) (f.stands q c at))
-
-  all_spared : Spared u w.tap (takes Right u w.tap)
-  all_spared = grind (arith, stray, spared, no_due)
 
   stays : Called local (after w.tap)
   stays = record {
@@ -158,4 +136,4 @@ module _ (local : Local) (w : Whole) (f : Called local w) (right : w.tap.course.
 
   pub stray_passes : IsFineAt u w.tap × Called local (after (takes Right u w.tap).state)
       × ((takes Right u w.tap).state.connections ≡ w.tap.connections)
-  stray_passes = grind (arith, all_spared, stray, stays)
+  stray_passes = grind (arith, stray, spared, no_due, stays)

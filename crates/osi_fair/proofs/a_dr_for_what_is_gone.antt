@@ -2,23 +2,23 @@
 -- For the law of that name.
 use Rattle.osi_fair.proofs.Vocabulary.{[], ap, arith, Bool, false, is_some, List, map, None, Option, refl, Some, subst, sym, true, ℕ, ◌++◌}
 use Rattle.osi_fair.proofs.Vocabulary.{◌+◌, ◌<◌, ◌∙◌, ◌∷◌, ◌≡◌, ◌≤◌, flat_map-append, append-nil, AllByRecursion, Connect, disconnect}
-use Rattle.osi_fair.proofs.Vocabulary.{request, Value, Local, react, value_at, breaks, closes_call as closes, connects, sends, sends_all}
+use Rattle.osi_fair.proofs.Vocabulary.{request, Value, react, value_at, breaks, closes_call as closes, connects, sends, sends_all}
 use Rattle.osi_fair.proofs.Vocabulary.{user as by_user, user_does, UserCall, Live, begins, asked_by, packet_begins, Traffic, takes}
 use Rattle.osi_fair.proofs.Vocabulary.{Connection, Direction, Left, Right, asked_in, asks_with, packet, passes, Passing, rubbish}
-use Rattle.osi_fair.proofs.Vocabulary.{unit as passing, put_by, put_for, arrives, begin, calls, Event, Happens, passes_rubbish, Whole}
+use Rattle.osi_fair.proofs.Vocabulary.{unit as passing, put_by, put_for, arrives, calls, Event, Happens, passes_rubbish, Whole}
 use Rattle.osi_carrier.specs.State.{State}
 use Rattle.osi_fair.specs.Wholes.{begins_other, begins_own, passes_other, passes_own}
-use Rattle.osi_fair.proofs.small_facts_that_many_lemmas_use.{begins_reference, none_of}
-use Rattle.osi_fair.proofs.a_reference_names_one_connection.{fresh_apart, no_item, passes_apart}
+use Rattle.osi_fair.proofs.small_facts_that_many_lemmas_use.{none_of}
+use Rattle.osi_fair.proofs.a_reference_names_one_connection.{passes_apart}
 use Rattle.osi_fair.proofs.a_request_of_a_whole_end_is_new.{Newer, still_newer, unit_gives}
 use Rattle.osi_fair.proofs.all_are_judged_unless_one_broke.{still_judged}
 use Rattle.osi_fair.proofs.how_a_calling_end_asks.{over_takes}
 use Rattle.osi_fair.proofs.references_of_requests_rise.{Rise, all_gives, closed_gives, ended_gives, not_less, sent_gives}
 use Rattle.osi_fair.proofs.class_0_stays_selected.{zero_stays}
-use Rattle.osi_fair.proofs.what_a_calling_end_still_has.{OffersTwo, SelectsTwo, all_last, call_after, closed_lasts, ended_lasts, new_live}
-use Rattle.osi_fair.proofs.what_a_calling_end_still_has.{sent_lasts, unit_after}
+use Rattle.osi_fair.proofs.what_a_calling_end_still_has.{OffersTwo, SelectsTwo, all_last, call_after, closed_lasts, new_live, sent_lasts}
+use Rattle.osi_fair.proofs.what_a_calling_end_still_has.{unit_after}
 use Rattle.osi_fair.proofs.what_holds_of_one_item.{HoldsOfEach, after_map, each_map}
-use Rattle.osi_fair.proofs.what_lasts_at_the_tap.{calm_before, lasts_passing}
+use Rattle.osi_fair.proofs.what_lasts_at_the_tap.{lasts_passing}
 use Rattle.osi_fair.proofs.what_stays_of_each_connection.{AreDistinct, IfAsked, IsLively, IsStarted, left_passes, lively_stays}
 use Rattle.osi_fair.proofs.what_stays_of_each_connection.{right_passes, started_stays}
 use Rattle.osi_fair.proofs.names_stay_apart_though_one_is_lost.{AreNamedApart}
@@ -103,10 +103,6 @@ lively_more : (L K : ℕ → Type 0) (cs : List Connection) → ((m : ℕ) → L
 lively_more L K cs h a i c at judged there = h c.left.reference (a i c at judged there)
 
 -- ---- the end takes a unit, and its user makes a call
-
--- the end had not ended before
-pub lasted : (unit : Value) (s : State) (b : Bool) → is_some s.ended ≡ b → (react unit s).ended ≡ None → s.ended ≡ None
-lasted unit s b e h = grind (arith, none_of, over_takes)
 
 no_more : (put more : List Value) → asked_among more ≡ [] → asked_among put ≡ asked_among (put ++ more)
 no_more put more none = grind (arith, append-nil, flat_map-append)
@@ -194,9 +190,6 @@ above : (w : Whole) (v : Value) (put : List Value) → w.put ≡ v ∷ put → N
     ((x : Connect) → v ≡ request x → P (asked_by x)) → IfAsked P w.tap.connections v
 above w v put e n P new = grind arith
 
-tail_so : (L : ℕ → Type 0) (v : Value) (put : List Value) → AllSo L (asked_among (v ∷ put)) → AllSo L (asked_among put)
-tail_so L v put h = grind arith
-
 head_so : (L : ℕ → Type 0) (v : Value) (put : List Value) (x : Connect) → v ≡ request x → AllSo L (asked_among (v ∷ put)) → L x.source
 head_so L v put x e h = (subst (λ (u : Value). AllSo L (asked_among (u ∷ put))) e h).0
 
@@ -208,7 +201,7 @@ own w v put e n distinct l =
     record {
       tap = (left_passes (IsLively L) v w.tap (lively_stays L v w.tap)
           (above w v put e n (IsLively L) (λ x is judged there. head_so L v put x is requests)) l.tap distinct).0;
-      requests = tail_so L v put requests;
+      requests = grind arith;
       firsts = l.firsts;
       known = l.known;
     }
@@ -276,7 +269,7 @@ begun_started : (d : Direction) (c : Connection) → IsStarted c → IsStarted (
 begun_started d c h = grind arith
 
 distinct_begins : (d : Direction) (cs : List Connection) → AreDistinct cs → AreDistinct (map (begins d) cs)
-distinct_begins d cs a i j c e at there same = grind (arith, after_map, begins_reference)
+distinct_begins d cs a i j c e at there same = grind (arith, after_map)
 
 sane_begins : (d : Direction) (s : Traffic) → IsSane s → IsSane (packet_begins d s)
 sane_begins d s h = record {
@@ -306,22 +299,19 @@ sane_left v s new h =
       distinct = distinct;
     }
 
-sane_rubbish : (s : Traffic) → IsSane s → IsSane (passes (rubbish Right) s)
-sane_rubbish s h = search (arith, passes_apart, still_judged)
-
 before_passing : (p : Passing) (s : Traffic) → IsPlain (passes p s).course → IsPlain s.course
 before_passing p s h = grind (arith, zero_stays, lasts_passing p s)
 
 -- both sides were judged, and class 0 was not selected
 pub before_going : (p : Passing) (s : Traffic) → IsOngoing (passes p s).course → IsOngoing s.course
-before_going p s h = grind (arith, zero_stays, calm_before s.course (passes p s).course (lasts_passing p s) h.sure, lasts_passing p s)
+before_going p s h = grind (arith, zero_stays, lasts_passing p s)
 
 -- and no connection had lost its judgement
 pub before_clear : (p : Passing) (s : Traffic) → IsClear (passes p s).course → IsClear s.course
 before_clear p s h = grind (arith, zero_stays, lasts_passing p s)
 
 not_over : (call : UserCall) (s : State) → (user_does call s).ended ≡ None → s.ended ≡ None
-not_over call s h = grind (arith, sent_lasts, all_last, closed_lasts, ended_lasts)
+not_over call s h = grind (arith, sent_lasts, all_last, closed_lasts)
 
 abbrev pub after_arriving : Whole → Value → List Value → Whole
 after_arriving w unit later = record w { end = react unit w.end; put = w.put ++ put_for unit w.end; coming = later }
@@ -336,7 +326,7 @@ holds_taking w unit later e k h n = record {
   lively = λ plain lasts.
       let going = going_of w.tap.course plain in
       taking w unit later e (h.offers going) (k.selects going unit later e) lasts
-      (h.lively plain (lasted unit w.end (is_some w.end.ended) refl lasts));
+      (h.lively plain (grind (arith, none_of, over_takes)));
 }
 
 holds_calling : (w : Whole) (call : UserCall) → Holds w → Newer (after_calling w call) → Holds (after_calling w call)
@@ -348,9 +338,6 @@ holds_calling w call h n = record {
       calling_by call w ((call_after call w.end (h.offers (going_of w.tap.course plain))).live lasts)
       (h.lively plain (not_over call w.end lasts));
 }
-
-started_asked : (v : Value) (x : Connect) → v ≡ request x → IsStarted (asked_by x)
-started_asked v x e = refl
 
 pub next_holds : (event : Event) (w new : Whole) → Happens Left event w new → Known w → Holds w → Holds new
 next_holds arrives w new (unit, coming, is) k h =
@@ -371,7 +358,7 @@ next_holds passes_own w new (v, put, begun, is) k h =
     subst Holds (sym is) (record {
       newer = still_newer passes_own w after (v, put, begun, refl) h.newer;
       offers = λ going. h.offers (before_going (passing Left v) w.tap going);
-      sane = sane_left v w.tap (above w v new.put put h.newer IsStarted (started_asked v)) h.sane;
+      sane = sane_left v w.tap (above w v new.put put h.newer IsStarted (grind arith)) h.sane;
       lively = λ plain lasts. own w v new.put put h.newer h.sane.distinct (h.lively (before_passing (passing Left v) w.tap plain) lasts);
     })
 next_holds begins_other w new is k h =
@@ -398,26 +385,18 @@ next_holds passes_rubbish w new is k h =
     subst Holds (sym is) (record {
       newer = still_newer passes_rubbish w after refl h.newer;
       offers = λ going. h.offers (before_going (rubbish Right) w.tap going);
-      sane = sane_rubbish w.tap h.sane;
+      sane = grind (arith, passes_apart, still_judged);
       lively = λ plain lasts.
           let l = h.lively (before_passing (rubbish Right) w.tap plain) lasts in
           record { tap = l.tap; requests = l.requests; firsts = l.firsts; known = l.known };
     })
-
-pub first_holds : (local : Local) → local.class2 ≡ true → Holds (begin true local)
-first_holds local two = search (arith, no_item, fresh_apart)
 
 -- ---- the DR
 
 gone_not : {A : Type 0} (o : Option Live) → is_some o ≡ true → o ≡ None → A
 gone_not o h e = grind arith
 
-strays_by : (b : Bool) (w : Whole) (n source reason : ℕ) (user : List ℕ) (more : List Value) → w.tap.course.strays ≡ b → Holds w →
-    w.coming ≡ disconnect n source reason user ∷ more → w.end.ended ≡ None → value_at n w.end.live ≡ None → IsOngoing w.tap.course →
-    b ≡ true
-strays_by b w n source reason user more e h coming lasts gone going = search (arith, gone_not)
-
 pub gone_strays : (w : Whole) (n source reason : ℕ) (user : List ℕ) (more : List Value) → Holds w →
     w.coming ≡ disconnect n source reason user ∷ more → w.end.ended ≡ None → value_at n w.end.live ≡ None → IsOngoing w.tap.course →
     w.tap.course.strays ≡ true
-gone_strays w n source reason user more h coming lasts gone going = grind (arith, strays_by)
+gone_strays w n source reason user more h coming lasts gone going = grind arith

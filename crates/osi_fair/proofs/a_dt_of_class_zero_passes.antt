@@ -1,11 +1,9 @@
 -- A DT of class 0 passes: it is for the one connection that is not over, it is right if it is not too long, and only what its sender
 -- has sent of a TSDU changes. For the laws on whole ends.
-use Rattle.osi_fair.proofs.Vocabulary.{ap, arith, Bool, false, IfSome, length, List, Option, refl, set, Some, true, ℕ}
-use Rattle.osi_fair.proofs.Vocabulary.{◌+◌, ◌∙◌, ◌≡◌, ◌≤◌, eq-eqb, eqb-true, le-leb, position_or_len, position, slice_get, ◌==◌, data0}
-use Rattle.osi_fair.proofs.Vocabulary.{Value, longest_tsdu, Zero, data0_tests, first_failed, fits_size}
-use Rattle.osi_fair.proofs.Vocabulary.{is_live, is_over, own, begun_after, class_for}
-use Rattle.osi_fair.proofs.Vocabulary.{found, found_on, is_stopped, one_told, Outcome}
-use Rattle.osi_fair.proofs.Vocabulary.{route_zero, sent_on, Traffic, takes, Connection, Course, Direction}
+use Rattle.osi_fair.proofs.Vocabulary.{ap, arith, Bool, false, IfSome, length, List, Option, refl, set, Some, true, ℕ, ◌+◌, ◌∙◌, ◌≡◌, ◌≤◌}
+use Rattle.osi_fair.proofs.Vocabulary.{eq-eqb, eqb-true, le-leb, position_or_len, position, slice_get, ◌==◌, data0, Value, longest_tsdu}
+use Rattle.osi_fair.proofs.Vocabulary.{Zero, data0_tests, first_failed, fits_size, is_live, is_over, own, begun_after, class_for, found}
+use Rattle.osi_fair.proofs.Vocabulary.{is_stopped, one_told, Outcome, route_zero, sent_on, Traffic, takes, Connection, Course, Direction}
 use Rattle.osi_fair.proofs.Vocabulary.{Kept, Half, Only}
 use Rattle.osi_fair.proofs.small_facts_that_many_lemmas_use.{differ, judged_so, live_not_over}
 use Rattle.osi_fair.proofs.a_right_unit_is_not_blamed.{first_there, is_first}
@@ -60,14 +58,11 @@ module _ (d : Direction) (s : Traffic) (p : ℕ) (c : Connection) (at : slice_ge
   dt_takes : takes d dt s ≡ one_told d p c dt s
   dt_takes = grind (arith, route_data)
 
-  dt_found : found_on d s c dt ≡ Kept
-  dt_found = grind (arith, judged_so, found_data, is_right, le-leb, fits_by)
-
   pub dt_kept : (takes d dt s).told.finding ≡ Kept
-  dt_kept = ap (λ (o : Outcome). o.told.finding) dt_takes ∙ dt_found
+  dt_kept = ap (λ (o : Outcome). o.told.finding) dt_takes ∙ (grind (arith, judged_so, found_data, is_right, le-leb, fits_by))
 
   pub dt_conns : (takes d dt s).state.connections ≡ set s.connections p (sent_on d dt c)
-  dt_conns = grind (arith, dt_takes, dt_found)
+  dt_conns = grind (arith, dt_takes)
 
   pub dt_course : (takes d dt s).state.course ≡ s.course
-  dt_course = grind (arith, dt_takes, dt_found)
+  dt_course = search (arith, dt_takes)

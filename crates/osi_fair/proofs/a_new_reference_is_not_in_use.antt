@@ -3,15 +3,13 @@
 use Rattle.osi_fair.proofs.Vocabulary.{[], arith, Bool, false, if◌then◌else◌, is_some, List, None, Option, refl, Some, subst, suc, sym}
 use Rattle.osi_fair.proofs.Vocabulary.{true, zero, ℕ, ◌++◌, ◌<◌, ◌∷◌, ◌≡◌, ◌⊎◌, eqb-true, AllByRecursion, list_all, list_any, not}
 use Rattle.osi_fair.proofs.Vocabulary.{slice_get, ◌&&◌, ◌==◌, ◌||◌, Connect, request, Value, Class, Two, Local, fresh_state, is_applied}
-use Rattle.osi_fair.proofs.Vocabulary.{reach_of, first_failed, begins, is_over, is_silent, uses, asked_by, asks_by, asks_kept, asks_of}
-use Rattle.osi_fair.proofs.Vocabulary.{at_found, at_place, class_for, connection_after, found_on, fresh, half_after, has_place}
-use Rattle.osi_fair.proofs.Vocabulary.{is_not_judged, is_stopped, none_told, Outcome, request_tests, route, route_in, routed, sent_on}
-use Rattle.osi_fair.proofs.Vocabulary.{sized, Traffic as State, takes, Connection, Direction, Left, Right, Finding, Broke, Kept, NotJudged}
-use Rattle.osi_fair.proofs.Vocabulary.{TooMany, Reach, Route, all_asked, all_written, asked_as, asked_in, all_passed, packet, passes}
-use Rattle.osi_fair.proofs.Vocabulary.{Passing, rubbish, unit}
+use Rattle.osi_fair.proofs.Vocabulary.{reach_of, first_failed, begins, is_over, is_silent, uses, asked_by, asks_by, asks_kept, at_found}
+use Rattle.osi_fair.proofs.Vocabulary.{class_for, connection_after, found_on, fresh, has_place, is_not_judged, is_stopped, request_tests}
+use Rattle.osi_fair.proofs.Vocabulary.{route_in, routed, sent_on, Traffic as State, takes, Connection, Direction, Left, Right, Finding}
+use Rattle.osi_fair.proofs.Vocabulary.{Broke, Kept, NotJudged, TooMany, Reach, Route, all_asked, all_written, asked_as, asked_in}
+use Rattle.osi_fair.proofs.Vocabulary.{all_passed, packet, passes, Passing, rubbish, unit}
 use Rattle.osi_carrier.specs.Runs.{Act}
 use Rattle.osi_rules.specs.declared.findings.Rule.TheVariants as rule
-use Rattle.osi_fair.proofs.small_facts_that_many_lemmas_use.{begins_reference, closing_same}
 use Rattle.osi_fair.proofs.what_holds_of_one_item.{HoldsOfEach, each_add, each_map, each_set}
 use Rattle.osi_fair.proofs.a_reference_names_one_connection.{no_item}
 use Rattle.osi_fair.proofs.references_of_requests_rise.{asked_below}
@@ -19,19 +17,12 @@ use Rattle.osi_fair.proofs.what_stays_of_each_connection.{left_judged}
 
 -- ---- the reference of left stays
 
-sized_left : (v : Value) (c : Connection) → (sized v c).left ≡ c.left
-sized_left v c = grind arith
-
 no_confirm : {A : Type 0} (judged : Bool) → is_applied (if judged then Broke rule.WrongForm else NotJudged) ≡ true → A
 no_confirm judged h = grind arith
 
-half_same : (s : State) (v : Value) (c : Connection) → is_applied (found_on Left s c v) ≡ true →
-    (half_after v c.left).reference ≡ c.left.reference
-half_same s v c h = grind (arith, no_confirm, closing_same)
-
 sent_same : (d : Direction) (s : State) (v : Value) (c : Connection) → is_applied (found_on d s c v) ≡ true →
     (sent_on d v c).left.reference ≡ c.left.reference
-sent_same d s v c h = grind (arith, sized_left, half_same)
+sent_same d s v c h = grind arith
 
 after_same : (applied : Bool) (d : Direction) (s : State) (v : Value) (r : Reach) (c : Connection) →
     is_applied (found_on d s c v) ≡ applied → (connection_after d v applied r c).left.reference ≡ c.left.reference
@@ -61,9 +52,6 @@ module _ (m : ℕ) where
       let after = connection_after d v applied how_far c in
       each_set IsBelow s.connections p after a (below_same c after (after_same applied d s v how_far c refl) (a p c at))
 
-  by_place : (d : Direction) (v : Value) (s : State) (p : Option ℕ) → AreBelow s → AreBelow (at_place d v s p).state
-  by_place d v s p a = grind (arith, by_item)
-
   placed_below : (x : Connect) (s : State) (p : Option ℕ) → x.source < m → AreBelow s → AreBelow (asks_kept x s p).state
   placed_below x s (Some p) h a = each_set IsBelow s.connections p (asked_by x) a h
   placed_below x s None h a = each_add IsBelow s.connections (asked_by x) a h
@@ -71,42 +59,24 @@ module _ (m : ℕ) where
   asking : (d : Direction) (f : Finding) (x : Connect) (s : State) → x.source < m → AreBelow s → AreBelow (asks_by d f x s).state
   asking d f x s h a = search (arith, placed_below)
 
-  asks : (d : Direction) (v : Value) (s : State) → FewAsked (asked_in v) → AreBelow s → AreBelow (asks_of d v s).state
-  asks d v s h a = grind (arith, asking)
-
   by_route : (d : Direction) (v : Value) (s : State) (r : Route) → FewAsked (asked_in v) → AreBelow s → AreBelow (routed d v s r).state
-  by_route d v s r h a = grind (arith, asks, by_place)
+  by_route d v s r h a = search (arith, asking, by_item)
 
   -- a CR of right is for no connection
   right_asks : (k : Option Class) (stopped : Bool) (x : Connect) (s : State) → AreBelow s →
       AreBelow (routed Right (request x) s (route_in k Right stopped (request x))).state
   right_asks k stopped x s a = grind arith
 
-  right_routes : (v : Value) (s : State) → AreBelow s → AreBelow (routed Right v s (route Right s.course v)).state
-  right_routes v s a = grind (arith, right_asks, by_route)
-
-  if_judged : (stopped : Bool) (d : Direction) (s : State) (o : Outcome) → AreBelow s → AreBelow o.state →
-      AreBelow (if stopped then none_told d NotJudged s else o).state
-  if_judged stopped d s o a b = grind arith
-
   pub still_below : (passing : Passing) (s : State) → FewAsked (asked_as passing) → AreBelow s → AreBelow (passes passing s)
-  still_below (packet d) s h a = each_map IsBelow (begins d) s.connections a (λ c b. below_same c (begins d c) (begins_reference d c) b)
-  still_below (unit Left v) s h a = grind (arith, if_judged, by_route)
-  still_below (unit Right v) s h a = grind (arith, if_judged, right_routes)
+  still_below (packet d) s h a = each_map IsBelow (begins d) s.connections a (λ c b. below_same c (begins d c) (grind arith) b)
+  still_below (unit Left v) s h a = grind (arith, by_route)
+  still_below (unit Right v) s h a = grind (arith, right_asks, by_route)
   still_below (rubbish d) s h a = a
-
-  few_first : (xs ys : List ℕ) → FewAsked (xs ++ ys) → FewAsked xs
-  few_first [] ys h = tt
-  few_first (x ∷ xs) ys (one, more) = (one, few_first xs ys more)
-
-  few_last : (xs ys : List ℕ) → FewAsked (xs ++ ys) → FewAsked ys
-  few_last [] ys h = h
-  few_last (x ∷ xs) ys (one, more) = few_last xs ys more
 
   all_below : (ps : List Passing) (s : State) → FewAsked (all_asked ps) → AreBelow s → AreBelow (all_passed ps s)
   all_below [] s h a = a
   all_below (p ∷ ps) s h a =
-      all_below ps (passes p s) (few_last (asked_as p) (all_asked ps) h) (still_below p s (few_first (asked_as p) (all_asked ps) h) a)
+      all_below ps (passes p s) (grind arith) (still_below p s (grind arith) a)
 
   -- ---- so none has this reference
 
@@ -115,9 +85,6 @@ module _ (m : ℕ) where
 
   neither : (a b c : Bool) → c ≡ false → (a && (b && c)) ≡ false
   neither a b c h = grind arith
-
-  not_second : (a c : Bool) → c ≡ false → (a && c) ≡ false
-  not_second a c h = grind arith
 
   none_any : (a b : Bool) → a ≡ false → b ≡ false → (a || b) ≡ false
   none_any a b h k = grind arith
@@ -131,7 +98,7 @@ module _ (m : ℕ) where
       (c.left.reference == m) (other_number c.left.reference (c.left.reference == m) refl (a i c at)))
 
   pub all_unlike : (s : State) → AreBelow s → list_any (is_not_judged m) s.connections ≡ false
-  all_unlike s a = grind (arith, none_so, not_second, other_number)
+  all_unlike s a = grind (arith, none_so, other_number)
 
 -- ---- a CR of a carrier
 
@@ -144,12 +111,6 @@ next_is_new local acts ps r rest e =
     let below = all_below r ps fresh few (λ i c at. no_item i c at) in
     (unused r (all_passed ps fresh) below, all_unlike r (all_passed ps fresh) below)
 
-two_left : (known place : Bool) → known ≡ true →
-    (first_failed ((known, Broke rule.Negotiating) ∷ (true, TooMany) ∷ (true, Broke rule.ReferenceInUse) ∷ (place, TooMany) ∷ []) ≡ Kept)
-    ⊎ (first_failed ((known, Broke rule.Negotiating) ∷ (true, TooMany) ∷ (true, Broke rule.ReferenceInUse) ∷ (place, TooMany) ∷ [])
-    ≡ TooMany)
-two_left known place h = grind arith
-
 abbrev pub Passed : Finding → Type 0
 Passed f = (f ≡ Kept) ⊎ (f ≡ TooMany)
 
@@ -160,18 +121,14 @@ tested s unlike used = first_failed ((is_some s.course.class_seen || list_all (i
 
 pub tests_pass : (s : State) (x : Connect) → s.course.class_seen ≡ Some Two → list_any (uses Left x.source) s.connections ≡ false →
     list_any (is_not_judged x.source) s.connections ≡ false → Passed (first_failed (request_tests s x))
-tests_pass s x two unused judged = grind (arith, two_left)
+tests_pass s x two unused judged = grind arith
 
 pub asked_finding : (f : Finding) (x : Connect) (s : State) → (asks_by Left f x s).told.finding ≡ f
 asked_finding f x s = grind arith
-
-pub asked_is : (x : Connect) (s : State) → is_stopped Left s.course ≡ false → s.course.class_seen ≡ Some Two →
-    (takes Left (request x) s).told.finding ≡ first_failed (request_tests s x)
-asked_is x s judged two = grind (arith, asked_finding)
 
 pub next_is_right : (local : Local) (acts : List Act) (ps : List Passing) (x : Connect) (rest : List ℕ) →
     all_written acts (fresh_state true local) ≡ all_asked ps ++ x.source ∷ rest →
     is_stopped Left (all_passed ps fresh).course ≡ false → (all_passed ps fresh).course.class_seen ≡ Some Two →
     ((takes Left (request x) (all_passed ps fresh)).told.finding ≡ Kept)
     ⊎ ((takes Left (request x) (all_passed ps fresh)).told.finding ≡ TooMany)
-next_is_right local acts ps x rest e judged two = grind (arith, unused, next_is_new, asked_is, tests_pass)
+next_is_right local acts ps x rest e judged two = grind (arith, unused, next_is_new, tests_pass)

@@ -1,21 +1,16 @@
 -- What a carrier does with a packet, with or without enough memory, or with several, and what its user does, is events of its whole end.
 -- For the law of that name.
-use Rattle.osi_fair.proofs.Vocabulary.{arith}
-use Rattle.osi_fair.proofs.Vocabulary.{[], ap, append_assoc, Err, false, if◌then◌else◌, inl, inr, is_some, List, None, Ok, Option, refl}
-use Rattle.osi_fair.proofs.Vocabulary.{Result, subst, sym, ℕ, ◌++◌, ◌∙◌, ◌∷◌, ◌≡◌, ◌⊎◌, flat_map-append, append-nil, packet_of, units_of}
-use Rattle.osi_fair.proofs.Vocabulary.{Value, written, TpduFault, ended_by, acts_by, RunsOut, stops, waits, react, reacts, breaks}
-use Rattle.osi_fair.proofs.Vocabulary.{user_does, UserCall, ends, packets, Tpdu, EndReason, Fault, NoMemory, Direction, units_by}
-use Rattle.osi_fair.proofs.Vocabulary.{put_by, put_for, arrives, Becomes, calls, Event, HappenAlong, MayCall, Whole}
+use Rattle.osi_fair.proofs.Vocabulary.{arith, [], ap, append_assoc, Err, if◌then◌else◌, inl, inr, List, None, Ok, refl, Result, subst, sym}
+use Rattle.osi_fair.proofs.Vocabulary.{ℕ, ◌++◌, ◌∙◌, ◌∷◌, ◌≡◌, ◌⊎◌, flat_map-append, append-nil, packet_of, units_of, Value, written}
+use Rattle.osi_fair.proofs.Vocabulary.{TpduFault, acts_by, RunsOut, react, reacts, breaks, user_does, UserCall, ends, packets, Tpdu}
+use Rattle.osi_fair.proofs.Vocabulary.{EndReason, Fault, NoMemory, Direction, units_by, put_by, put_for, arrives, Becomes, calls, Event}
+use Rattle.osi_fair.proofs.Vocabulary.{HappenAlong, MayCall, Whole}
 use Rattle.osi_carrier.specs.Packets.{Acts}
 use Rattle.osi_carrier.specs.State.{State}
-use Rattle.osi_fair.proofs.small_facts_that_many_lemmas_use.{none_of, or_left}
 use Rattle.osi_fair.proofs.what_a_carrier_puts.{call_writes, unit_writes}
 
 packets_join : (xs ys : List Value) → packets (xs ++ ys) ≡ packets xs ++ packets ys
 packets_join xs ys = flat_map-append (λ (unit : Value). packet_of (written unit)) xs ys
-
-pub not_over : (s : State) → stops s ≡ false → s.ended ≡ None
-not_over s h = none_of s.ended (or_left (is_some s.ended) (waits s) h)
 
 module _ (d : Direction) where
   -- ---- what happens twice, one after the other
@@ -97,12 +92,8 @@ module _ (d : Direction) where
   unfolding becomes_by_call
   call_so call w may = (becomes_by_call call w may, refl)
 
-  -- the carrier ends
-  ended_so : (reason : EndReason) (s : State) → s.ended ≡ None → ended_by reason s ≡ ends reason s
-  ended_so reason s lasts = ap (λ (o : Option EndReason). if is_some o then s else ends reason s) lasts
-
   pub becomes_over : (reason : EndReason) (w : Whole) → w.end.ended ≡ None → Becomes d w (ends reason w.end)
-  becomes_over reason w lasts = grind (arith, ended_so reason w.end lasts, becomes_by_call (breaks reason) w tt)
+  becomes_over reason w lasts = grind (arith, becomes_by_call (breaks reason) w tt)
 
   -- ---- a packet
 
@@ -139,7 +130,7 @@ module _ (d : Direction) where
       along = (
         record w { end = user_does (breaks reason) w.end; put = w.put ++ put_by (breaks reason) w.end },
         (tt, refl),
-        ap (λ (s : State). record w { end = s; put = w.put ++ [] }) (sym (ended_so reason w.end lasts)),
+        ap (λ (s : State). record w { end = s; put = w.put ++ [] }) (sym (grind arith)),
       );
       outgoing = sym (append-nil w.end.outgoing);
     },

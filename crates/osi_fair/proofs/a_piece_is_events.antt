@@ -3,12 +3,13 @@
 use Rattle.osi_fair.proofs.Vocabulary.{[], ap, append_assoc, arith, Bool, false, if◌then◌else◌, inl, inr, is_some, length, List, None}
 use Rattle.osi_fair.proofs.Vocabulary.{Option, refl, subst, sym, take, true, ℕ, ◌++◌, ◌∙◌, ◌∷◌, ◌≡◌, ◌⊎◌, append-nil, take_all, ◌||◌}
 use Rattle.osi_fair.proofs.Vocabulary.{ArePackets, Fed, units_of, Value, Happening, Carrying, Feeds, FindsNoMemory, FindsNoRoom, Goes}
-use Rattle.osi_fair.proofs.Vocabulary.{is_spoilt, Refuses, RunsDry, Starves, StopsBehind, TakesPackets, waits, reacts, put_back, ends, Tpkt}
-use Rattle.osi_fair.proofs.Vocabulary.{EndReason, Fault, NoMemory, Direction, IsFed, units_by, units_in, Becomes, Whole}
+use Rattle.osi_fair.proofs.Vocabulary.{is_spoilt, Refuses, RunsDry, Starves, StopsBehind, waits, reacts, put_back, ends, EndReason}
+use Rattle.osi_fair.proofs.Vocabulary.{NoMemory, Direction, IsFed, units_by, units_in, Becomes, Whole}
 use Rattle.osi_carrier.specs.State.{State}
-use Rattle.osi_fair.proofs.a_packet_is_events.{becomes_then, not_over}
+use Rattle.osi_fair.proofs.a_packet_is_events.{becomes_then}
 use Rattle.osi_fair.proofs.what_is_in_front_of_a_whole_end.{Comes, after_all, all_come, none_come, runs_out_front, same_front, takes_front}
 use Rattle.osi_fair.proofs.what_is_in_front_of_a_whole_end.{units_in_range}
+use Rattle.osi_fair.proofs.small_facts_that_many_lemmas_use.{none_of, or_left}
 
 pub units_join : (us vs : List (List ℕ)) → units_in (us ++ vs) ≡ units_in us ++ units_in vs
 units_join [] vs = refl
@@ -29,12 +30,6 @@ pub record FeedsOn (d : Direction) (old : Carrying) (piece : List ℕ) (used : �
   pub keeps : new.state.ended ≡ None → (used ≡ within) × (new.held.octets ≡ rest)
 
 module _ (d : Direction) (old : Carrying) (piece : List ℕ) (new : Carrying) where
-  whole : take (length piece) piece ≡ piece
-  whole = take_all (length piece) piece (omega arith)
-
-  over_not : (reason : EndReason) (before : State) → new.state ≡ ends reason before → new.state.ended ≡ None → ⊥
-  over_not reason before e lasts = grind arith
-
   same_fed : (used : ℕ) → new ≡ old → (new.state.ended ≡ None → used ≡ 0) → FeedsOn d old piece used new
   same_fed used same none = record {
     packets = [];
@@ -51,7 +46,7 @@ module _ (d : Direction) (old : Carrying) (piece : List ℕ) (new : Carrying) wh
     packets = h.units;
     within = length piece;
     rest = new.held.octets;
-    cut = subst (λ (l : List ℕ). ArePackets h.units (old.held.octets ++ l) new.held.octets) (sym whole) h.packets;
+    cut = subst (λ (l : List ℕ). ArePackets h.units (old.held.octets ++ l) new.held.octets) (sym (grind (arith, take_all))) h.packets;
     becomes = λ e o w later is come.
         all_come d e o w new.state later (takes_front d e o h.units later old.state new.state w is h.taken come);
     keeps = λ lasts. (h.all, refl);
@@ -69,26 +64,12 @@ module _ (d : Direction) (old : Carrying) (piece : List ℕ) (new : Carrying) wh
         (h.uses ∙ ap (λ (o : Option EndReason). if is_spoilt o then length piece else h.within) lasts, h.held);
   }
 
-  -- after the packets the carrier ends
-  ends_after : (units : List (List ℕ)) (before : State) (reason : EndReason) → TakesPackets old.state units before →
-      before.ended ≡ None → new.state ≡ ends reason before → (e : List Happening) (o : List ℕ) (w : Whole) (later : List Value) →
-      w.end ≡ put_back e o old.state → w.coming ≡ units_in units ++ later → Comes d e o w new.state later
-  ends_after units before reason taken lasts ended e o w later is come = grind (arith, none_come, after_all)
-
   refused_fed : (used : ℕ) → Refuses old piece used new → FeedsOn d old piece used new
-  refused_fed used h =
-      grind (
-        arith,
-        whole,
-        over_not,
-        ends_after h.units h.before (Fault (Tpkt h.fault)) h.taken (not_over h.before h.quiet) h.ended,
-        not_over h.before h.quiet,
-      )
+  refused_fed used h = grind (arith, take_all (length piece) piece (omega arith), none_come, after_all, none_of, or_left)
 
   -- memory runs out for what is left of the piece
   no_room_fed : (used : ℕ) (h : FindsNoMemory old piece used new) → new.state ≡ ends NoMemory h.before → FeedsOn d old piece used new
-  no_room_fed used h ended =
-      grind (arith, over_not, ends_after h.units h.before NoMemory h.taken (not_over h.before h.quiet) ended, not_over h.before h.quiet)
+  no_room_fed used h ended = grind (arith, none_come, after_all, none_of, or_left)
 
   -- or for a unit of the next packet
   starved_fed : (used : ℕ) (h : FindsNoMemory old piece used new) (packet : List ℕ) → ArePackets (packet ∷ []) h.rest [] →
@@ -110,7 +91,7 @@ module _ (d : Direction) (old : Carrying) (piece : List ℕ) (new : Carrying) wh
         subst (λ (s : State). Comes d e o w s later) (sym out.ended)
         (none_come d e o w NoMemory (reacts out.done h.before) later
         (subst (λ (s : State). Becomes d w (put_back e o s)) out.ended b));
-    keeps = λ lasts. absurd (over_not NoMemory (reacts out.done h.before) out.ended lasts);
+    keeps = λ lasts. absurd (grind arith);
   }
 
   memory_by : (used : ℕ) (h : FindsNoMemory old piece used new) → FindsNoRoom old piece h.within h.rest h.before new.state
@@ -130,11 +111,8 @@ module _ (d : Direction) (old : Carrying) (piece : List ℕ) (new : Carrying) wh
   by_waits fed h lasts false e =
       goes_fed fed.used (h.goes (ap (λ (o : Option EndReason). is_some o || waits old.state) lasts ∙ e))
 
-  by_end : (fed : Fed) → Feeds old piece fed new → (o : Option EndReason) → old.state.ended ≡ o → FeedsOn d old piece fed.used new
-  by_end fed h o e = grind (arith, by_waits, same_fed)
-
   pub feeds_on : (fed : Fed) → Feeds old piece fed new → FeedsOn d old piece fed.used new
-  feeds_on fed h = by_end fed h old.state.ended refl
+  feeds_on fed h = grind (arith, by_waits, same_fed)
 
   pub fed_so : (fed : Fed) → Feeds old piece fed new → IsFed d old piece fed.used new
   fed_so fed h =

@@ -3,21 +3,21 @@
 use Rattle.osi_fair.proofs.Vocabulary.{arith, [], Bool, false, if◌then◌else◌, List, None, Option, option_map, refl, Some, subst, sym, true}
 use Rattle.osi_fair.proofs.Vocabulary.{ℕ, ◌^◌, ◌∙◌, ◌∷◌, ◌≡◌, eqb-true, list_any, nat_le, not, position, slice_get, slice_set, ◌&&◌, ◌==◌}
 use Rattle.osi_fair.proofs.Vocabulary.{◌||◌, confirm, Connect, disconnect, disconnected, error, request, Value, Class, is_applied, reach_of}
-use Rattle.osi_fair.proofs.Vocabulary.{code_named, first_failed, given_again, is_inside, is_offered, is_closing, is_named, is_open}
-use Rattle.osi_fair.proofs.Vocabulary.{is_over, is_over_by, is_refused, is_silent, seen, uses, asked_by, asks_by, asks_kept, asks_of}
-use Rattle.osi_fair.proofs.Vocabulary.{at_found, at_place, class_for, closing_phase, connection_after, found, found_on, fresh, half_after}
-use Rattle.osi_fair.proofs.Vocabulary.{is_stopped, judged_on, none_told, Outcome, request_tests, route, routed, sent_on, Traffic as State}
-use Rattle.osi_fair.proofs.Vocabulary.{uses_source, Connection, Course, Direction, Left, Right, Finding, Broke, Kept, NotJudged, Outside}
-use Rattle.osi_fair.proofs.Vocabulary.{Reach, Half, Phase, Closed, Open, Refused, Route, Asks, Named, Only, Unnamed, all_passed, HoldsOfOne}
-use Rattle.osi_fair.proofs.Vocabulary.{packet, passes, Passing, rubbish, unit, ap, is_live}
+use Rattle.osi_fair.proofs.Vocabulary.{code_named, first_failed, given_again, is_inside, is_offered, is_closing, is_named, is_open, is_over}
+use Rattle.osi_fair.proofs.Vocabulary.{is_over_by, is_refused, is_silent, seen, uses, asked_by, asks_by, asks_kept, asks_of, at_found}
+use Rattle.osi_fair.proofs.Vocabulary.{at_place, class_for, closing_phase, connection_after, found, found_on, fresh, half_after, is_stopped}
+use Rattle.osi_fair.proofs.Vocabulary.{judged_on, none_told, Outcome, request_tests, route, routed, sent_on, Traffic as State, uses_source}
+use Rattle.osi_fair.proofs.Vocabulary.{Connection, Course, Direction, Left, Right, Finding, Broke, Kept, NotJudged, Outside, Reach, Half}
+use Rattle.osi_fair.proofs.Vocabulary.{Phase, Closed, Refused, Route, Asks, Named, Only, Unnamed, all_passed, HoldsOfOne, packet, passes}
+use Rattle.osi_fair.proofs.Vocabulary.{Passing, rubbish, unit, ap, is_live}
 use Rattle.osi_rules.specs.declared.findings.Reach.TheVariants as reach
 use Rattle.osi_rules.specs.declared.findings.Rule.TheVariants as rule
 use Rattle.osi_fair.proofs.small_facts_that_many_lemmas_use.{and_first, and_second, judged_same, or_first, or_last}
 use Rattle.osi_fair.proofs.what_is_right_passes_each_test.{passes_each}
 use Rattle.osi_fair.proofs.what_holds_of_one_item.{first_true, none_true}
 use Rattle.osi_fair.proofs.when_a_connection_has_a_name.{HalfMoves, earlier_same}
-use Rattle.osi_fair.proofs.what_keeps_names_apart.{AreApart, IsNew, Lessens, Sound, apart_add, apart_begins, apart_opens, apart_put}
-use Rattle.osi_fair.proofs.what_keeps_names_apart.{apart_set, left_lessens, lessens_on, right_lessens, same_lessens}
+use Rattle.osi_fair.proofs.what_keeps_names_apart.{AreApart, Lessens, Sound, apart_add, apart_begins, apart_opens, apart_put, apart_set}
+use Rattle.osi_fair.proofs.what_keeps_names_apart.{lessens_on, right_lessens, same_lessens}
 pub use Rattle.osi_fair.proofs.small_facts_that_many_lemmas_use.{differ}
 
 -- ---- what a side has sent after a unit that has its effect
@@ -29,9 +29,6 @@ record Effect (mine seen after : Half) : Type 0 where
 silent_or_open : (p : Phase) → is_silent p ≡ true → is_open p ≡ true → ⊥
 silent_or_open p h k = grind arith
 
-not_both : {A : Type 0} (p : Phase) → is_silent p ≡ true → is_open p ≡ true → A
-not_both p h k = absurd (silent_or_open p h k)
-
 -- the phase and the reference stay
 same_phase : (mine seen after : Half) → after.phase ≡ mine.phase → after.reference ≡ mine.reference → Effect mine seen after
 same_phase mine seen after e r = search (arith, or_first)
@@ -42,7 +39,7 @@ closes_so mine seen was e h = search (arith, differ)
 
 answers_so : (mine seen : Half) (same : Bool) → (is_open mine.phase && (is_closing seen.phase && same)) ≡ true →
     Effect mine seen (record mine { phase = Closed })
-answers_so mine seen same h = search (arith, and_first, and_second, or_last, not_both)
+answers_so mine seen same h = grind (arith, and_first, and_second, or_last)
 
 refuses_so : (mine seen : Half) → is_silent mine.phase ≡ true → Effect mine seen (record mine { phase = Refused })
 refuses_so mine seen h = search (arith, or_first)
@@ -71,33 +68,23 @@ pub confirm_test : (a b i u loose z : Bool) →
 confirm_test a b i u loose z h = grind arith
 
 module _ (course : Course) (in_use : Bool) (c : Connection) where
-  left_effect : (v : Value) → is_applied (found Left course in_use c v) ≡ true → Effect c.left c.seen_by_left (half_after v c.left)
-  left_effect v h = grind (arith, closes_so, one_test, answers_so, due_test, refuses_so, error_test, same_phase)
-
   pub left_sent : (v : Value) → is_applied (found Left course in_use c v) ≡ true → c.is_judged ≡ true → Sound c →
       is_over_by c.left c.seen_by_left ≡ false → Lessens c (sent_on Left v c)
   left_sent (request x) h j s live = cc
   left_sent (confirm destination x) h j s live = cc
-  left_sent v h j s live = grind (arith, left_effect, left_lessens)
-
-  right_effect : (v : Value) → ((m : ℕ) (x : Connect) → v ≡ confirm m x → ⊥) → is_applied (found Right course in_use c v) ≡ true →
-      Effect c.right c.seen_by_right (half_after v c.right)
-  right_effect v none h = grind (arith, closes_so, one_test, answers_so, due_test, refuses_so, error_test, same_phase)
+  left_sent v h j s live = grind arith
 
   -- a unit of right that is no CC
   pub right_goes : (v : Value) → ((m : ℕ) (x : Connect) → v ≡ confirm m x → ⊥) → is_applied (found Right course in_use c v) ≡ true →
       c.is_judged ≡ true → Sound c → is_over_by c.right c.seen_by_right ≡ false → Lessens c (sent_on Right v c)
   right_goes (request x) none h j s live = cc
   right_goes (confirm destination x) none h j s live = absurd (none destination x refl)
-  right_goes v none h j s live = grind (arith, right_effect, right_lessens)
+  right_goes v none h j s live = grind (arith, right_lessens)
 
   right_by : (v : Value) (cs : List Connection) (p : ℕ) (r : Reach) → AreApart cs → slice_get cs p ≡ Some c → c.is_judged ≡ true → Sound c →
       is_over_by c.right c.seen_by_right ≡ false → Effect c.right c.seen_by_right (half_after v c.right) →
       AreApart (slice_set cs p (judged_on r (record c { right = half_after v c.right })))
   right_by v cs p r a at j s live e = search (arith, right_lessens, apart_set, lessens_on)
-
-opened_moves : (mine seen after : Half) → is_silent mine.phase ≡ true → after.phase ≡ Open → HalfMoves mine seen after
-opened_moves mine seen after h e = search (arith, differ, or_first)
 
 pub not_true : (b : Bool) → not b ≡ true → b ≡ false
 not_true b h = grind arith
@@ -119,7 +106,7 @@ right_opens s c destination x p a at sound live r h is =
     subst (λ (q : Reach). AreApart (slice_set s.connections p (judged_on q (sent_on Right (confirm destination x) c))))
     (sym (nothing (class_for Right s.course)) ∙ is)
     (apart_opens s.connections p c after (option_map (λ code. 2 ^ code) x.parameters.size) a at sound live
-    (opened_moves c.right c.seen_by_right after silent refl)
+    (grind (arith, differ, or_first))
     (λ n i e there same.
     subst (λ (m : ℕ). uses Right m e ≡ false) (eqb-true x.source n same)
     (none_true (λ (z : Connection). uses Right x.source z) s.connections i e none there)))
@@ -145,9 +132,6 @@ applied_judged b g h = grind arith
 pub applied_found : (b : Bool) (g : Finding) → is_applied (if b then g else NotJudged) ≡ true → is_applied g ≡ true
 applied_found b g h = grind arith
 
-not_over : (j over : Bool) → j ≡ true → (j && over) ≡ false → over ≡ false
-not_over j over h k = grind arith
-
 applied_apart : (d : Direction) (v : Value) (s : State) (p : ℕ) (c : Connection) → AreApart s.connections →
     slice_get s.connections p ≡ Some c →
     is_over d c ≡ false → is_applied (found_on d s c v) ≡ true →
@@ -158,12 +142,12 @@ applied_apart Left v s p c a at live h =
     let how_far = reach_of (class_for Left s.course) (found_on Left s c v) in
     apart_set s.connections p c (judged_on how_far (sent_on Left v c)) a at
     (lessens_on how_far c (sent_on Left v c) (left_sent s.course (uses_source Left s.connections v) c v f j (a.sound p c at j)
-    (not_over c.is_judged (is_over_by c.left c.seen_by_left) j live)))
+    (grind arith)))
 applied_apart Right v s p c a at live h =
     let j = applied_judged c.is_judged (found Right s.course (uses_source Right s.connections v) c v) h in
     let f = applied_found c.is_judged (found Right s.course (uses_source Right s.connections v) c v) h in
     let same = judged_same c.is_judged (found Right s.course (uses_source Right s.connections v) c v) j in
-    right_sent v s c p a at j (a.sound p c at j) (not_over c.is_judged (is_over_by c.right c.seen_by_right) j live)
+    right_sent v s c p a at j (a.sound p c at j) (grind arith)
     (reach_of (class_for Right s.course) (found_on Right s c v)) f
     (ap (λ (g : Finding). reach_of (class_for Right s.course) g) (sym same))
 
@@ -191,14 +175,11 @@ at_any d v s (Some p) live a = at_one d v s p (slice_get s.connections p) refl (
 
 -- ---- a CR
 
-asked_new : (cs : List Connection) (c : Connect) → list_any (λ e. uses Left c.source e) cs ≡ false → IsNew cs (asked_by c)
-asked_new cs c none = search (arith, earlier_same, differ, eqb-true, none_true)
-
 placed_apart : (c : Connect) (s : State) (p : Option ℕ) → list_any (λ e. uses Left c.source e) s.connections ≡ false →
     AreApart s.connections →
     Apart (asks_kept c s p)
-placed_apart c s (Some p) none a = apart_put s.connections p (asked_by c) a (asked_new s.connections c none)
-placed_apart c s None none a = apart_add s.connections (asked_by c) a (asked_new s.connections c none)
+placed_apart c s (Some p) none a = apart_put s.connections p (asked_by c) a (grind (arith, earlier_same, differ, eqb-true, none_true))
+placed_apart c s None none a = apart_add s.connections (asked_by c) a (grind (arith, earlier_same, differ, eqb-true, none_true))
 
 asking : (d : Direction) (f : Finding) (c : Connect) (s : State) → first_failed (request_tests s c) ≡ f → AreApart s.connections →
     Apart (asks_by d f c s)

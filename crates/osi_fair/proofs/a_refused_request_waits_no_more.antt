@@ -1,9 +1,8 @@
 -- Once the CR that waits has been refused, and a packet of left has begun since, no connection waits: each is over for left.
 -- For the law on CRs that wait.
-use Rattle.osi_fair.proofs.Vocabulary.{arith}
-use Rattle.osi_fair.proofs.Vocabulary.{[], ap, Bool, false, List, map, None, refl, Some, subst, suc, sym, true, zero, ℕ, ◌∙◌, ◌∷◌, ◌≡◌}
-use Rattle.osi_fair.proofs.Vocabulary.{list_all, not, slice_get, ◌||◌, begins, is_live, is_over}
-use Rattle.osi_fair.proofs.Vocabulary.{is_refused, fresh, packet_begins, Connection, Left, all_passed, Passing}
+use Rattle.osi_fair.proofs.Vocabulary.{arith, [], ap, Bool, false, List, map, None, refl, Some, subst, suc, sym, true, zero, ℕ, ◌∙◌, ◌∷◌}
+use Rattle.osi_fair.proofs.Vocabulary.{◌≡◌, list_all, not, slice_get, begins, is_live, is_over, is_refused, fresh, packet_begins}
+use Rattle.osi_fair.proofs.Vocabulary.{Connection, Left, all_passed, Passing}
 use Rattle.osi_fair.proofs.small_facts_that_many_lemmas_use.{both}
 use Rattle.osi_fair.proofs.what_holds_of_one_item.{HoldsOfEach, after_map}
 use Rattle.osi_fair.proofs.all_are_judged_unless_one_broke.{IsJudged, all_judged}
@@ -15,11 +14,8 @@ pub all_from : (f : Connection → Bool) (cs : List Connection) → HoldsOfEach 
 all_from f [] h = refl
 all_from f (c ∷ cs) h = both (f c) (list_all f cs) (h zero c refl) (all_from f cs (λ i e at. h (suc i) e at))
 
-or_known : (a b c : Bool) → b ≡ true → (a || (b || c)) ≡ true
-or_known a b c h = grind arith
-
 pub refused_over : (c : Connection) → c.is_judged ≡ true → is_refused c.right.phase ≡ true → is_over Left (begins Left c) ≡ true
-refused_over c j h = grind (arith, both, or_known)
+refused_over c j h = grind (arith, both)
 
 module _ (ps : List Passing) (p : ℕ) (c : Connection) (none : (all_passed ps fresh).course.class ≡ None)
     (firm : (all_passed ps fresh).course.loose ≡ false) (at : slice_get (all_passed ps fresh).connections p ≡ Some c)

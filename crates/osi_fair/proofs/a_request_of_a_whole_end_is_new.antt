@@ -1,9 +1,8 @@
 -- The CRs that a whole calling end has put and that have not passed have references above those of all that have passed.
 -- For the law on requests.
-use Rattle.osi_fair.proofs.Vocabulary.{[], ap, arith, false, List, refl, subst, suc, sym, ℕ, ◌++◌, ◌+◌, ◌∙◌, ◌∷◌, ◌≡◌, ◌≤◌}
-use Rattle.osi_fair.proofs.Vocabulary.{flat_map-append, append-nil, AllByRecursion, list_any, Connect, request, Value, effect}
-use Rattle.osi_fair.proofs.Vocabulary.{connection_of, react, user_does, UserCall}
-use Rattle.osi_fair.proofs.Vocabulary.{uses, is_not_judged, Traffic, Left, asked_in, packet, passes, unit as passing}
+use Rattle.osi_fair.proofs.Vocabulary.{[], ap, arith, false, List, subst, suc, sym, ℕ, ◌++◌, ◌+◌, ◌∙◌, ◌∷◌, ◌≡◌, ◌≤◌, flat_map-append}
+use Rattle.osi_fair.proofs.Vocabulary.{append-nil, AllByRecursion, list_any, Connect, request, Value, effect, connection_of, react}
+use Rattle.osi_fair.proofs.Vocabulary.{user_does, UserCall, uses, is_not_judged, Traffic, Left, asked_in, packet, passes, unit as passing}
 use Rattle.osi_fair.proofs.Vocabulary.{put_by, arrives, calls, Event, Happens, passes_rubbish, Whole}
 use Rattle.osi_carrier.specs.State.{State}
 use Rattle.osi_fair.specs.Wholes.{begins_other, begins_own, passes_other, passes_own}
@@ -91,17 +90,13 @@ passes_another v put w none e n =
       given = n.given;
     }
 
-passes_one : (v : Value) (put : List Value) (w : Whole) → w.put ≡ v ∷ put → Newer w → Passes v put w
-passes_one (request c) put w e n = passes_asked c put w e n
-passes_one v put w e n = passes_another v put w refl e n
-
 -- ---- what happens
 
 pub still_newer : (event : Event) (old new : Whole) → Happens Left event old new → Newer old → Newer new
 still_newer arrives old new (unit, coming, is) n = grind (arith, grows, unit_asks, unit_gives)
 still_newer (calls call) old new (may, is) n = subst Newer (sym is) (by_call call old n)
 still_newer begins_own old new (some, not_begun, is) n = grind (arith, still_below (suc n.last) (packet Left) old.tap tt n.below)
-still_newer passes_own old new (v, put, begun, is) n = subst Newer (sym is) (passes_one v new.put old put n)
+still_newer passes_own old new (v, put, begun, is) n = subst Newer (sym is) (grind (arith, passes_asked, passes_another))
 still_newer begins_other old new is n = grind (arith, still_below (suc n.last) (packet Right) old.tap tt n.below)
 still_newer (passes_other v) old new (ranges, is) n = search (arith, still_below (suc n.last) (passing Right v) old.tap tt n.below)
 still_newer passes_rubbish old new is n = grind (arith, still_below)

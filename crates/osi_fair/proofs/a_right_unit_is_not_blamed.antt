@@ -1,10 +1,10 @@
 -- A unit that is right on a connection is not blamed, however many connections there are.
 -- For the law of that name.
 use Rattle.osi_fair.proofs.Vocabulary.{[], arith, Bool, false, IfSome, length, List, Option, refl, Some, subst, suc, sym, true, zero, ℕ}
-use Rattle.osi_fair.proofs.Vocabulary.{◌<◌, ◌∷◌, ◌≡◌, ◌≤◌, lt-ltb, ltb-false, ltb-true, position-Some, fails_before_first}
-use Rattle.osi_fair.proofs.Vocabulary.{get_or_from_slice_get, slice_get_within, position_or_len, position, slice_get, destination_of, Value}
-use Rattle.osi_fair.proofs.Vocabulary.{Two, is_named, class_for, fresh, is_stopped, Traffic as State, takes, uses_source, Connection}
-use Rattle.osi_fair.proofs.Vocabulary.{Direction, Finding, IsAtPlace, finding_of, IsRight, all_passed, HoldsOfOne, Passing}
+use Rattle.osi_fair.proofs.Vocabulary.{◌<◌, ◌∷◌, ◌≡◌, lt-ltb, position-Some, fails_before_first, get_or_from_slice_get, slice_get_within}
+use Rattle.osi_fair.proofs.Vocabulary.{position_or_len, position, slice_get, destination_of, Value, Two, is_named, class_for, fresh}
+use Rattle.osi_fair.proofs.Vocabulary.{is_stopped, Traffic as State, takes, Connection, Direction, Finding, IsAtPlace, IsRight, all_passed}
+use Rattle.osi_fair.proofs.Vocabulary.{HoldsOfOne, Passing}
 use Rattle.osi_fair.proofs.a_reference_names_one_connection.{names_one}
 use Rattle.osi_fair.proofs.a_unit_is_an_act_of_its_line.{found_is}
 use Rattle.osi_fair.proofs.what_holds_of_one_item.{first_true}
@@ -20,9 +20,6 @@ item_there (x ∷ xs) (suc i) h = item_there xs i (omega arith)
 pub first_there : {X : Type 0} (f : X → Bool) (xs : List X) (p i : ℕ) (d : X) → position f xs ≡ Some i → (x : X) × (slice_get xs i ≡ Some x)
 first_there f xs p i d h = let (within, is, before) = position-Some f xs i d h in item_there xs i within
 
-not_before : (p q : ℕ) → (p < q → ⊥) → q ≤ p
-not_before p q h = grind (arith, ltb-true, ltb-false)
-
 fails_there : {X : Type 0} (f : X → Bool) (xs : List X) (p : ℕ) (x : X) → slice_get xs p ≡ Some x → f x ≡ true →
     p < position_or_len f xs → ⊥
 fails_there f xs p x at h before = grind (arith, fails_before_first f xs p x before, get_or_from_slice_get xs p x x at)
@@ -30,7 +27,7 @@ fails_there f xs p x at h before = grind (arith, fails_before_first f xs p x bef
 -- if it holds of one, there is a first
 pub is_first : {X : Type 0} (f : X → Bool) (xs : List X) (p : ℕ) (x : X) → slice_get xs p ≡ Some x → f x ≡ true →
     position f xs ≡ Some (position_or_len f xs)
-is_first f xs p x at h = grind (arith, slice_get_within, not_before, fails_there, lt-ltb)
+is_first f xs p x at h = grind (arith, slice_get_within, fails_there, lt-ltb)
 
 -- ---- a unit that is right
 
@@ -40,16 +37,12 @@ same_item x y e = cc
 module _ (d : Direction) (v : Value) (s : State) (n p : ℕ) (c : Connection) (apart : HoldsOfOne (is_named d n) s.connections)
     (judged : is_stopped d s.course ≡ false) (class : class_for d s.course ≡ Some Two) (named : destination_of v ≡ Some n)
     (at : slice_get s.connections p ≡ Some c) (is_judged : c.is_judged ≡ true) (right : IsRight d c v) (is : is_named d n c ≡ true) where
-  by_judged : (q : ℕ) (e : Connection) (b : Bool) → e.is_judged ≡ b → slice_get s.connections q ≡ Some e → is_named d n e ≡ true →
-      IsNotBlamed (finding_of d s.course (uses_source d s.connections v) e v)
-  by_judged q e b j there so = grind (arith, same_item)
-
   by_first : (q : ℕ) → position (is_named d n) s.connections ≡ Some q → IsNotBlamed (takes d v s).told.finding
   by_first q first =
       let (e, there) = first_there (is_named d n) s.connections p q c first in
       let so = first_true (is_named d n) s.connections q e first there in
       let place : IsAtPlace d s n q e = record { judged = judged; class = class; first = first; is = there } in
-      subst (λ (f : Finding). IsNotBlamed f) (sym (found_is d v s n q e place named)) (by_judged q e e.is_judged refl there so)
+      subst (λ (f : Finding). IsNotBlamed f) (sym (found_is d v s n q e place named)) (grind (arith, same_item))
 
 pub named_of : (o : Option ℕ) (n : ℕ) (d : Direction) (c : Connection) → o ≡ Some n → IfSome o (λ m. is_named d m c ≡ true) →
     is_named d n c ≡ true

@@ -1,12 +1,10 @@
 -- What a carrier does in calls, one after the other, is events of its whole end: one by one, up to the call after which it has ended,
 -- and then nothing. For the law on packets.
-use Rattle.osi_fair.proofs.Vocabulary.{arith}
-use Rattle.osi_fair.proofs.Vocabulary.{[], ap, append_assoc, drop, is_some, List, None, Option, refl, Some, subst, sym}
-use Rattle.osi_fair.proofs.Vocabulary.{take, true, ℕ, ◌++◌, ◌∙◌, ◌∷◌, ◌≡◌, append-nil, take-append-drop, flat_map, packets_joined}
-use Rattle.osi_fair.proofs.Vocabulary.{ArePackets, Fed, Value, back_joined, Tells, Happening, Carrying, Feeds}
-use Rattle.osi_fair.proofs.Vocabulary.{Call, calling, Calls, carried_in, feeding, put_back}
-use Rattle.osi_fair.proofs.Vocabulary.{telling, told_in, used_in, user_does, UserCall, EndReason, Direction}
-use Rattle.osi_fair.proofs.Vocabulary.{AreFedFrom, IsRun, MadeAlong, MayMake, units_in, Becomes, MayCall, Whole}
+use Rattle.osi_fair.proofs.Vocabulary.{arith, [], ap, append_assoc, drop, is_some, List, None, Option, refl, Some, subst, sym, take, true}
+use Rattle.osi_fair.proofs.Vocabulary.{ℕ, ◌++◌, ◌∙◌, ◌∷◌, ◌≡◌, append-nil, take-append-drop, flat_map, packets_joined, ArePackets, Fed}
+use Rattle.osi_fair.proofs.Vocabulary.{Value, back_joined, Happening, Carrying, Feeds, Call, calling, Calls, carried_in, feeding, put_back}
+use Rattle.osi_fair.proofs.Vocabulary.{told_in, used_in, user_does, UserCall, EndReason, Direction, AreFedFrom, IsRun, MadeAlong, MayMake}
+use Rattle.osi_fair.proofs.Vocabulary.{units_in, Becomes, MayCall, Whole}
 use Rattle.osi_carrier.specs.State.{State}
 use Rattle.osi_fair.proofs.small_facts_that_many_lemmas_use.{differ}
 use Rattle.osi_fair.proofs.a_packet_is_events.{then_so}
@@ -16,37 +14,26 @@ use Rattle.osi_fair.proofs.what_is_in_front_of_a_whole_end.{Comes, calls_front, 
 
 -- ---- after the end nothing changes
 
-user_stays : (call : UserCall) (s : State) → is_some s.ended ≡ true → MayCall call s → user_does call s ≡ s
-user_stays call s h may = grind (arith, differ, may_so, none_over, all_none)
-
 -- but for what is reported and sent
 abbrev IsBehind : List Happening → List ℕ → State → State → Type 0
 IsBehind e o old new = put_back e o new ≡ old
 
-told_behind : (event : Option Happening) (old new : State) → Tells event old new → IsBehind (told_in (telling event)) [] old new
-told_behind event old new h = grind arith
-
 call_stays : (old : Carrying) (call : Call) (new : Carrying) → is_some old.state.ended ≡ true → Calls old call new → MayMake old call →
     IsBehind (told_in call) (carried_in call) old.state new.state
-call_stays old call new h calls may = grind (arith, told_behind, user_stays)
-
--- it has still ended
-still_over : (e : List Happening) (o : List ℕ) (old new : State) → IsBehind e o old new → is_some old.ended ≡ true →
-    is_some new.ended ≡ true
-still_over e o old new behind h = ap (λ (s : State). is_some s.ended) behind ∙ h
+call_stays old call new h calls may = grind (arith, differ, may_so, none_over, all_none)
 
 all_stay : (old : Carrying) (calls : List Call) (new : Carrying) → is_some old.state.ended ≡ true → MadeAlong old calls new →
     IsBehind (flat_map told_in calls) (flat_map carried_in calls) old.state new.state
 all_stay old [] new h same = ap (λ (c : Carrying). c.state) same
 all_stay old (call ∷ calls) new h (mid, first, may, more) =
     let one = call_stays old call mid h first may in
-    let rest = all_stay mid calls new (still_over (told_in call) (carried_in call) old.state mid.state one h) more in
+    let rest = all_stay mid calls new (grind arith) more in
     back_joined (told_in call) (flat_map told_in calls) (carried_in call) (flat_map carried_in calls) new.state
     ∙ ap (λ (s : State). put_back (told_in call) (carried_in call) s) rest ∙ one
 
 over_after : (old : Carrying) (calls : List Call) (new : Carrying) → is_some old.state.ended ≡ true → MadeAlong old calls new →
     is_some new.state.ended ≡ true
-over_after old calls new h along = grind (arith, still_over, all_stay)
+over_after old calls new h along = grind (arith, all_stay)
 
 -- ---- one call
 
@@ -65,10 +52,6 @@ comes_nil : (d : Direction) (e : List Happening) (o : List ℕ) (w : Whole) (s :
     Comes d (e ++ []) (o ++ []) w s later
 comes_nil d e o w s later h = search (arith, append-nil)
 
--- nothing is taken
-held_cut : (held : List ℕ) → ArePackets [] (held ++ []) held
-held_cut held = append-nil held
-
 -- what is reported or sent now comes in front
 back_step : (d : Direction) (old : Carrying) (call : Call) (mid : Carrying) →
     IsBehind (told_in call) (carried_in call) old.state mid.state →
@@ -78,7 +61,7 @@ back_step d old call mid behind held used from = record {
   packets = [];
   fed = [];
   rest = old.held.octets;
-  cut = held_cut old.held.octets;
+  cut = grind (arith, append-nil);
   becomes = λ e o w later is come.
       same_front d (e ++ told_in call) (o ++ carried_in call) w mid.state later
       (is ∙ ap (λ (s : State). put_back e o s) (sym behind)
@@ -93,7 +76,7 @@ user_step d old call mid is_mid may = record {
   packets = [];
   fed = [];
   rest = old.held.octets;
-  cut = held_cut old.held.octets;
+  cut = grind (arith, append-nil);
   becomes = λ e o w later is come.
       comes_nil d e o w mid.state later (subst (λ (c : Carrying). Comes d e o w c.state later) (sym is_mid)
       (calls_front d e o call w old.state later is may come));
@@ -121,7 +104,7 @@ fed_step d old piece fed mid h =
     }
 
 step_so : (d : Direction) (old : Carrying) (call : Call) (mid : Carrying) → Calls old call mid → MayMake old call → Step d old call mid
-step_so d old call mid h may = search (arith, fed_step, back_step, told_behind, user_step)
+step_so d old call mid h may = search (arith, fed_step, back_step, user_step)
 
 -- ---- calls one after the other
 
@@ -203,7 +186,7 @@ none_run d old stream new same = record {
   after = stream;
   rest = old.held.octets;
   parts = refl;
-  cut = held_cut old.held.octets;
+  cut = grind (arith, append-nil);
   becomes = λ e o w later is come.
       comes_nil d e o w new.state later (subst (λ (c : Carrying). Comes d e o w c.state later) (sym same)
       (same_front d e o w old.state later is come));

@@ -9,23 +9,20 @@ use Rattle.osi_fair.proofs.small_facts_that_many_lemmas_use.{and_first, and_seco
 use Rattle.osi_fair.proofs.a_dc_for_a_stray_dr_passes.{not_due}
 use Rattle.osi_fair.proofs.no_two_open_connections_have_one_peer.{left_open}
 use Rattle.osi_fair.proofs.a_unit_of_the_other_side_passes.{dc_no_cc}
-use Rattle.osi_fair.proofs.what_has_come_with_one_unit_more.{early_more, following_other, row_add, waiting_dc}
+use Rattle.osi_fair.proofs.what_has_come_with_one_unit_more.{following_other, row_add, waiting_dc, early_other}
 use Rattle.osi_fair.proofs.each_connection_has_its_line.{AreGiven, Followed, Following, IsAnswer, IsAsking, IsNoCc, all_so, is_tracked}
 use Rattle.osi_fair.proofs.each_connection_has_its_line.{tracks_on}
 use Rattle.osi_fair.proofs.what_becomes_of_a_connection.{IsIdle}
 use Rattle.osi_fair.proofs.what_keeps_names_apart.{Sound}
 use Rattle.osi_fair.proofs.names_stay_apart_though_one_is_lost.{AreNamedApart, each_sound}
 use Rattle.osi_fair.proofs.what_the_other_side_closes.{IsSane}
-use Rattle.osi_fair.proofs.which_units_are_for_a_connection.{is_dc, named_is, names}
+use Rattle.osi_fair.proofs.which_units_are_for_a_connection.{is_dc, named_is, names, picked_more}
 use Rattle.osi_fair.proofs.what_is_live_at_a_called_end.{all_add}
 
 module _ (local : Local) (w : Whole) (f : Followed local w) (sane : IsSane w.tap) (peers : AreNamedApart Right w.tap.connections)
     (v : Value) (ranges : HasFieldsInRange v) (t : IsIdle v w.tap (takes Right v w.tap)) where
   abbrev more : List Value
   more = w.coming ++ v ∷ []
-
-  dc : is_dc v ≡ true
-  dc = ap is_dc t.dc
 
   -- it is not due on a connection that left has not closed, nor judged on one that has lost its judgement
   spared : (c : Connection) → Sound c → is_tracked c ≡ true → (j : Bool) → c.is_judged ≡ j →
@@ -65,7 +62,7 @@ module _ (local : Local) (w : Whole) (f : Followed local w) (sane : IsSane w.tap
         gone = g.gone;
         begun_is = g.begun_is;
         row = row_add local w.end w.coming g.r g.peer g.line line v named refl refl g.row;
-        calm = λ j. all_add IsNoCc g.line.coming v (g.calm j) (dc_no_cc v dc);
+        calm = λ j. all_add IsNoCc g.line.coming v (g.calm j) (dc_no_cc v (grind (arith, is_dc)));
       }
 
   line_idle : (c : Connection) → Sound c → is_tracked c ≡ true →
@@ -76,25 +73,25 @@ module _ (local : Local) (w : Whole) (f : Followed local w) (sane : IsSane w.tap
       following_other local w.put w.begun w.tap.course.strays w.tap.course.strays w.end w.coming c v (λ h. h) g e
 
   still_asking : (x : Connect) → IsAsking local w.end w.coming x → IsAsking local w.end more x
-  still_asking x a = search (arith, early_more, dc)
+  still_asking x a = grind (arith, early_other, picked_more, all_add, is_dc)
 
   idle_so : Followed local (record w { coming = more })
   idle_so = record {
     lines = λ i c at tracked.
         let g = f.lines i c at tracked in
         line_idle c (each_sound Right w.tap.connections sane.apart peers i c at) tracked g (names g.r v) refl;
-    waiting = λ i c at waits. waiting_dc local w.end w.coming c v dc (f.waiting i c at waits);
+    waiting = λ i c at waits. waiting_dc local w.end w.coming c v (grind (arith, is_dc)) (f.waiting i c at waits);
     owned = f.owned;
     linked = f.linked;
     answers = all_add (λ u. IsAnswer w.tap.course.loose w.tap.connections w.end u) w.coming v f.answers
-        (λ m x e lasts why. absurd (dc_no_cc v dc m x e));
+        (λ m x e lasts why. absurd (dc_no_cc v (grind (arith, is_dc)) m x e));
     requests = all_so (λ u. (x : Connect) → u ≡ request x → IsAsking local w.end w.coming x)
         (λ u. (x : Connect) → u ≡ request x → IsAsking local w.end more x) w.put (λ u h x e. still_asking x (h x e)) f.requests;
     two = f.two;
     silent = f.silent;
     zero = f.zero;
     some = f.some;
-    few = all_add (AreGiven w.end.given) w.coming v f.few (λ none m e. differ (is_dc v) dc none);
+    few = all_add (AreGiven w.end.given) w.coming v f.few (λ none m e. differ (is_dc v) (grind (arith, is_dc)) none);
     seen = f.seen;
     settled = f.settled;
     lost = f.lost;

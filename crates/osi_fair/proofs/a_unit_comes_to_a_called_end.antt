@@ -1,8 +1,8 @@
 -- A unit of the other side passes at the tap of a whole called end, for one of its connections, or a DC that answers nothing.
 -- For the law on a whole called end.
 use Rattle.osi_fair.proofs.Vocabulary.{[], ap, arith, Bool, false, if◌then◌else◌, inl, inr, List, None, Option, refl, set, Some, subst, sym}
-use Rattle.osi_fair.proofs.Vocabulary.{true, ℕ, ◌++◌, ◌<◌, ◌∙◌, ◌∷◌, ◌≡◌, ◌≢◌, ◌≤◌, ◌⊎◌, eqb-true, append-nil, AllByRecursion, not}
-use Rattle.osi_fair.proofs.Vocabulary.{slice_get, ◌&&◌, ◌==◌, ◌||◌, acknowledge, confirm, Connect, data0, data2, destination_of, disconnect}
+use Rattle.osi_fair.proofs.Vocabulary.{true, ℕ, ◌++◌, ◌∙◌, ◌∷◌, ◌≡◌, ◌≢◌, ◌≤◌, ◌⊎◌, eqb-true, append-nil, AllByRecursion, not, slice_get}
+use Rattle.osi_fair.proofs.Vocabulary.{◌&&◌, ◌==◌, ◌||◌, acknowledge, confirm, Connect, data0, data2, destination_of, disconnect}
 use Rattle.osi_fair.proofs.Vocabulary.{disconnected, error, HasFieldsInRange, request, Value, Standing, Class, Two, Local, is_applied}
 use Rattle.osi_fair.proofs.Vocabulary.{reach_of, first_failed, is_closed, is_closing, is_named, is_open, is_over, is_refused, is_silent}
 use Rattle.osi_fair.proofs.Vocabulary.{connection_after, course_after, found, found_on, half_after, is_stray, one_told, Outcome, reached}
@@ -12,7 +12,7 @@ use Rattle.osi_rules.specs.declared.findings.Reach.TheVariants as reach
 use Rattle.osi_rules.specs.declared.findings.Rule.TheVariants as rule
 use Rattle.osi_fair.specs.Lines.{passes_other}
 use Rattle.osi_fair.proofs.small_facts_that_many_lemmas_use.{all_add, both as is_both, closing_shuts, differ, judged_same, not_not}
-use Rattle.osi_fair.proofs.small_facts_that_many_lemmas_use.{number_is, or_left, or_right, same_cc, seen_after, set_none}
+use Rattle.osi_fair.proofs.small_facts_that_many_lemmas_use.{number_is, or_left, or_right, set_none}
 use Rattle.osi_fair.proofs.how_a_unit_of_right_passes.{strays_more}
 use Rattle.osi_fair.proofs.names_stay_apart_though_one_is_lost.{AreNamedApart, each_sound, left_set}
 use Rattle.osi_fair.proofs.a_reference_names_one_connection.{applied_judged}
@@ -27,7 +27,7 @@ use Rattle.osi_fair.proofs.what_is_put_before_the_cc_passes.{acts_join}
 use Rattle.osi_fair.proofs.what_keeps_names_apart.{AreApart, Sound}
 use Rattle.osi_fair.proofs.what_lasts_at_the_tap.{Lasts, lasts_passing}
 use Rattle.osi_fair.proofs.what_stays_of_each_connection.{left_judged, left_own, own_stays, right_then}
-use Rattle.osi_fair.proofs.which_units_are_for_a_connection.{first_left, named_not, named_so, names, one_more, those, those_join}
+use Rattle.osi_fair.proofs.which_units_are_for_a_connection.{first_left, named_not, named_so, names, those, those_join, picked_more}
 use Rattle.osi_fair.proofs.while_no_class_is_selected.{after_change}
 use Rattle.osi_fair.proofs.which_unit_comes_to_a_called_end.{IsCalm, IsNear, calm_before, calm_near, calm_noted}
 
@@ -39,13 +39,9 @@ named_parts a b c h = grind arith
 off_over : (a b : Bool) → (a || b) ≡ true → a ≡ false → b ≡ true
 off_over a b h k = grind arith
 
-refused_by : (p k : Phase) → is_refused k ≡ true →
-    (is_refused p || (is_refused k || (is_closed p || (is_closing p && (is_closing k || is_closed k))))) ≡ true
-refused_by p k h = grind arith
-
 refused_over : (mine : Half) (k : Phase) → is_refused k ≡ true →
     (is_refused mine.phase || (is_refused k || (is_closed mine.phase || (is_closing mine.phase && (is_closing k || is_closed k))))) ≡ true
-refused_over mine k h = refused_by mine.phase k h
+refused_over mine k h = grind arith
 
 -- right has closed only what left had closed
 closed_not : (p mine : Phase) → is_silent p ≡ false → is_open p ≡ false → is_refused p ≡ false → is_closing p ≡ false →
@@ -67,26 +63,19 @@ reached_strays r c = grind arith
 lost_so : (v : Value) (applied : Bool) (c : Connection) → (connection_after Left v applied reach.Connection c).is_judged ≡ false
 lost_so v applied c = grind arith
 
-pub cc_not_applied : {A : Type 0} (j : Bool) → is_applied (if j then Broke rule.WrongForm else NotJudged) ≡ true → A
-cc_not_applied j h = grind arith
-
 open_half : (s : Traffic) (c : Connection) (v : Value) → is_applied (found_on Left s c v) ≡ true →
     is_open (half_after v c.left).phase ≡ true → is_open c.left.phase ≡ true
-open_half s c v e h = grind (arith, cc_not_applied, differ, closing_shuts)
+open_half s c v e h = grind (arith, differ, closing_shuts)
 
 open_by : (s : Traffic) (c : Connection) (v : Value) (applied : Bool) (r : Reach) → is_applied (found_on Left s c v) ≡ applied →
     is_open (connection_after Left v applied r c).left.phase ≡ true → is_open c.left.phase ≡ true
 open_by s c v applied r e h = grind (arith, open_half, left_own, left_judged)
 
-above_not : (last n a b : ℕ) → n ≤ last → last < a → a ≡ b → b ≡ n → ⊥
-above_not last n a b up above e same = omega arith
-
 -- the CCs that are to pass give other references
 answers_above : (given last n : ℕ) (vs : List Value) → n ≤ last → AreAbove given last vs → AllByRecursion (Answers (λ m. m ≡ n → ⊥)) vs
 answers_above given last n [] up h = tt
 answers_above given last n (request x ∷ vs) up h = (λ m y e. absurd (cc e), answers_above given last n vs up h)
-answers_above given last n (confirm destination x ∷ vs) up (above, h) =
-    grind (arith, above_not, same_cc, answers_above given x.source n vs (omega arith) h)
+answers_above given last n (confirm destination x ∷ vs) up (above, h) = grind (arith, answers_above given x.source n vs (omega arith) h)
 answers_above given last n (disconnect destination source reason user ∷ vs) up h = grind (arith, answers_above given last n vs up h)
 answers_above given last n (disconnected destination source ∷ vs) up h = (λ m y e. absurd (cc e), answers_above given last n vs up h)
 answers_above given last n (data0 end user ∷ vs) up h = (λ m y e. absurd (cc e), answers_above given last n vs up h)
@@ -126,15 +115,15 @@ module _ (local : Local) (w : Whole) (f : Called local w) (apart : AreApart w.ta
   row_skip : (r peer : ℕ) (link : Option Standing) (line : List Value) → names r v ≡ true → IsDc v → Row w.end w.coming r peer link line →
       Row w.end more r peer link line
   row_skip r peer link line e dc (talks k there is among) =
-      talks k there is (subst (Among line) (sym (one_more r w.coming v e)) (among_skip line (those r w.coming) v dc among))
-  row_skip r peer link line e dc (closes un is among) = grind (arith, one_more, among_skip, those)
+      talks k there is (subst (Among line) (sym (grind (arith, picked_more))) (among_skip line (those r w.coming) v dc among))
+  row_skip r peer link line e dc (closes un is among) = grind (arith, picked_more, among_skip, those)
   row_skip r peer link line e dc (over h) = over h
 
   row_add : (r peer : ℕ) (link : Option Standing) (line : List Value) → names r v ≡ true → Row w.end w.coming r peer link line →
       Row w.end more r peer link (line ++ v ∷ [])
   row_add r peer link line e (talks k there is among) =
-      talks k there is (subst (Among (line ++ v ∷ [])) (sym (one_more r w.coming v e)) (among_more line (those r w.coming) v among))
-  row_add r peer link line e (closes un is among) = grind (arith, one_more, among_more, those)
+      talks k there is (subst (Among (line ++ v ∷ [])) (sym (grind (arith, picked_more))) (among_more line (those r w.coming) v among))
+  row_add r peer link line e (closes un is among) = grind (arith, picked_more, among_more, those)
   row_add r peer link line e (over h) = over h
 
   -- a connection of which nothing passes
@@ -228,9 +217,6 @@ module _ (local : Local) (w : Whole) (f : Called local w) (apart : AreApart w.ta
     parts : (is_over Left c ≡ false) × (is_silent c.seen_by_left.phase ≡ false) × ((c.seen_by_left.reference == n) ≡ true)
     parts = named_parts (is_over Left c) (is_silent c.seen_by_left.phase) (c.seen_by_left.reference == n) name
 
-    started : is_silent c.right.phase ≡ false
-    started = sound.left_knows.there parts.1
-
     name_is : c.right.reference ≡ n
     name_is = sym (sound.left_knows.reference parts.1) ∙ eqb-true c.seen_by_left.reference n parts.2
 
@@ -252,7 +238,7 @@ module _ (local : Local) (w : Whole) (f : Called local w) (apart : AreApart w.ta
       stand : StandNow q (f.refs q) next
 
     silent_not : {A : Type 0} (x : Connect) → Asked x c → A
-    silent_not x a = differ (is_silent c.right.phase) (ap (λ (h : Half). is_silent h.phase) a.right) started
+    silent_not x a = differ (is_silent c.right.phase) (ap (λ (h : Half). is_silent h.phase) a.right) (grind (arith, sound))
 
     run_here : (g : Running f.shut w.end w.coming (units_at q f.tagged) (w.begun && first_at q f.tagged) (f.refs q) c) →
         units_at q f.came ≡ [] → Here
@@ -334,16 +320,12 @@ module _ (local : Local) (w : Whole) (f : Called local w) (apart : AreApart w.ta
 
     course_same : ((takes Left v w.tap).state.course.class ≡ w.tap.course.class)
         × ((takes Left v w.tap).state.course.class_seen ≡ w.tap.course.class_seen)
-    course_same = grind (arith, left_class, course_is, reached_seen, seen_after)
+    course_same = grind (arith, left_class, course_is, reached_seen)
 
     -- ---- what it closes
 
     abbrev TimelyNow : Type 0
     TimelyNow = Timely w.end more (takes Left v w.tap).state.connections (values f.tagged)
-
-    -- a side that is open was open before, and a connection that is judged was
-    open_was : is_open next.left.phase ≡ true → is_open c.left.phase ≡ true
-    open_was h = open_by w.tap c v (is_applied found_so) far refl h
 
     judged_was : next.is_judged ≡ true → c.is_judged ≡ true
     judged_was h = other_was v (is_applied found_so) far c h
@@ -354,7 +336,7 @@ module _ (local : Local) (w : Whole) (f : Called local w) (apart : AreApart w.ta
     held_at h i x (inl (same, so)) j a b =
         subst (λ (k : Half). IsHeld w.end w.coming k.reference) (sym (ap (λ (y : Connection). y.right) so ∙ next_right))
         (h.taps q c at (judged_was (ap (λ (y : Connection). y.is_judged) (sym so) ∙ j))
-        (open_was (ap (λ (y : Connection). is_open y.left.phase) (sym so) ∙ a))
+        (grind (arith, open_by))
         (ap (λ (k : Half). is_open k.phase) (sym (ap (λ (y : Connection). y.right) so ∙ next_right)) ∙ b))
     held_at h i x (inr (other, there)) j a b = h.taps i x there j a b
 

@@ -8,11 +8,8 @@ use Rattle.osi_fair.proofs.Vocabulary.{one_told, Outcome, packet_begins, route_t
 use Rattle.osi_fair.proofs.Vocabulary.{takes, uses_source, Connection, Direction, Named, IsAtPlace}
 use Rattle.osi_fair.proofs.Vocabulary.{after_finding, finding_of}
 
-same_name : (m n : ℕ) → Some m ≡ Some n → Named m ≡ Named n
-same_name m n e = let same : m ≡ n = cc in ap (λ (x : ℕ). Named x) same
-
 route_is : (d : Direction) (v : Value) (n : ℕ) → destination_of v ≡ Some n → route_two d v ≡ Named n
-route_is d v n e = grind (arith, same_name)
+route_is d v n e = grind arith
 
 module _ (d : Direction) (v : Value) (s : State) (n place : ℕ) (c : Connection) (at : IsAtPlace d s n place c)
     (named : destination_of v ≡ Some n) where

@@ -1,14 +1,13 @@
 -- A unit of a whole called end passes: a CC, a DR that refuses a CR, or a unit of an open connection. Each is right.
 -- For the law on a whole called end.
-use Rattle.osi_fair.proofs.Vocabulary.{[], ap, arith, Bool, false, inl, inr, List, None, Option, refl, set, Some, subst, sym, true, ℕ}
-use Rattle.osi_fair.proofs.Vocabulary.{◌++◌, ◌<◌, ◌∙◌, ◌∷◌, ◌≡◌, ◌≤◌, ◌⊎◌, eq-eqb, AllByRecursion, list_any, position_or_len, position}
-use Rattle.osi_fair.proofs.Vocabulary.{slice_get, ◌&&◌, ◌==◌, ◌||◌, confirm, Connect, destination_of, disconnect, error, Value, Standing}
-use Rattle.osi_fair.proofs.Vocabulary.{Class, Two, Local, acceptance, opened_link, is_named, is_open, is_over, is_refused}
-use Rattle.osi_fair.proofs.Vocabulary.{is_silent, other, uses, course_after, found, found_on, half_after, route, sent_on, silent_half}
-use Rattle.osi_fair.proofs.Vocabulary.{takes, uses_source, Connection, Course, Left, Right, Kept, NotJudged, Half, Refused, Named}
-use Rattle.osi_fair.proofs.Vocabulary.{ActsAlong, after_finding, finding_of, IsRight, Line, opened_half, opened_line, unit as passing}
-use Rattle.osi_fair.proofs.Vocabulary.{Whole, acknowledge, Broke, data0, data2, disconnected, first_failed, if◌then◌else◌, not, one_told}
-use Rattle.osi_fair.proofs.Vocabulary.{Outcome, request, Traffic, has_broken}
+use Rattle.osi_fair.proofs.Vocabulary.{[], ap, arith, Bool, false, inl, inr, List, None, Option, refl, set, Some, subst, sym, true, ℕ, ◌++◌}
+use Rattle.osi_fair.proofs.Vocabulary.{◌<◌, ◌∙◌, ◌∷◌, ◌≡◌, ◌≤◌, ◌⊎◌, eq-eqb, AllByRecursion, list_any, position_or_len, position, slice_get}
+use Rattle.osi_fair.proofs.Vocabulary.{◌&&◌, ◌==◌, confirm, Connect, destination_of, disconnect, error, Value, Standing, Class, Two, Local}
+use Rattle.osi_fair.proofs.Vocabulary.{acceptance, opened_link, is_named, is_open, is_over, is_refused, is_silent, other, uses}
+use Rattle.osi_fair.proofs.Vocabulary.{course_after, found, found_on, half_after, route, sent_on, silent_half, takes, uses_source}
+use Rattle.osi_fair.proofs.Vocabulary.{Connection, Course, Left, Right, Kept, NotJudged, Half, Refused, Named, ActsAlong, after_finding}
+use Rattle.osi_fair.proofs.Vocabulary.{finding_of, IsRight, Line, opened_line, unit as passing, Whole, acknowledge, data0, data2}
+use Rattle.osi_fair.proofs.Vocabulary.{disconnected, if◌then◌else◌, not, one_told, Outcome, request, Traffic, has_broken}
 use Rattle.osi_rules.specs.declared.findings.Reach.TheVariants as reach
 use Rattle.osi_rules.specs.declared.findings.Rule.TheVariants as rule
 use Rattle.osi_fair.specs.Lines.{passes_own}
@@ -34,11 +33,10 @@ use Rattle.osi_fair.proofs.what_lasts_at_the_tap.{Lasts, lasts_passing}
 use Rattle.osi_fair.proofs.what_stays_of_each_connection.{left_then, right_own}
 use Rattle.osi_fair.proofs.which_units_are_for_a_connection.{AllOurs, line_named, names_in as is_at}
 use Rattle.osi_fair.proofs.while_no_class_is_selected.{after_change, set_same}
-use Rattle.osi_fair.proofs.how_a_unit_of_right_passes.{no_list, use_so, route_confirm, route_dr, route_two_so, class_seen_same}
-use Rattle.osi_fair.proofs.how_a_unit_of_right_passes.{strays_more, above_next, half_keeps, half_started, open_started, half_not_refused}
-use Rattle.osi_fair.proofs.how_a_unit_of_right_passes.{wrong_form, there_not, finding_kept, conns_kept, course_kept, takes_so}
+use Rattle.osi_fair.proofs.how_a_unit_of_right_passes.{no_list, use_so, route_two_so, class_seen_same, strays_more, above_next, half_keeps}
+use Rattle.osi_fair.proofs.how_a_unit_of_right_passes.{half_started, half_not_refused, wrong_form, finding_kept, conns_kept, course_kept}
+use Rattle.osi_fair.proofs.how_a_unit_of_right_passes.{takes_so}
 use Rattle.osi_fair.proofs.a_unit_of_a_whole_end_passes.{put_open as open_of}
-use Rattle.osi_fair.proofs.an_end_has_broken_no_rule.{er_not_kept}
 
 -- ---- small facts
 
@@ -149,7 +147,7 @@ module _ (local : Local) (w : Whole) (f : Called local w) (apart : AreApart w.ta
 
       gone_by : (i : ℕ) → slice_get cs i ≡ None →
           (units_at i later ≡ []) × (units_at i f.came ≡ []) × ((r : ℕ) → f.refs i ≡ Some r → IsUnlinked w.end r)
-      gone_by i none = grind (arith, other_mine, there_not)
+      gone_by i none = search (arith, other_mine)
 
       held_by : Timely w.end w.coming cs (values f.tagged) → (i : ℕ) (x : Connection) →
           ((i ≡ p) × (x ≡ next)) ⊎ ((i ≡ p → ⊥) × (slice_get cs i ≡ Some x)) → x.is_judged ≡ true → is_open x.left.phase ≡ true →
@@ -208,11 +206,8 @@ module _ (local : Local) (w : Whole) (f : Called local w) (apart : AreApart w.ta
       u_cc : u ≡ cc_is
       u_cc = first_is u cc_is (units_at p later) h.more (sym mine_is ∙ h.mine_is)
 
-      half : c.seen_by_right ≡ opened_half n h.x.credit
-      half = h.seen begins ∙ h.asked.left
-
       cc_named : is_named Right n c ≡ true
-      cc_named = grind (arith, name_so, half, and_false, eq-eqb)
+      cc_named = grind (arith, name_so, and_false, eq-eqb)
 
       above_cc : (f.last < h.r) × AreAbove w.end.given h.r (values later)
       above_cc = subst (λ (v : Value). AreAbove w.end.given f.last (v ∷ values later)) u_cc above_all
@@ -227,7 +222,7 @@ module _ (local : Local) (w : Whole) (f : Called local w) (apart : AreApart w.ta
       cc_kept = grind (arith, u_cc, judged_so, unused, two_right local h.x h.size h.r c w.tap.course h.selected h.asked.offer h.asked.right)
 
       cc_route : route Right w.tap.course u ≡ Named n
-      cc_route = grind (arith, u_cc, route_confirm)
+      cc_route = grind (arith, u_cc)
 
       cc_first : position (is_named Right n) cs ≡ Some p
       cc_first = name_first n p c at cc_named
@@ -288,20 +283,14 @@ module _ (local : Local) (w : Whole) (f : Called local w) (apart : AreApart w.ta
       u_dr : u ≡ dr
       u_dr = first_is u dr (units_at p later) [] (sym mine_is ∙ is)
 
-      dr_half : c.seen_by_right ≡ opened_half x.source x.credit
-      dr_half = seen begins ∙ a.left
-
       dr_named : is_named Right x.source c ≡ true
-      dr_named = grind (arith, name_so, dr_half, and_false, eq-eqb)
-
-      dr_found : found Right w.tap.course false c dr ≡ Kept
-      dr_found = ap (λ (h : Half). first_failed ((is_silent h.phase || is_open h.phase, Broke rule.Closed) ∷ [])) a.right
+      dr_named = grind (arith, name_so, and_false, eq-eqb)
 
       dr_kept : found_on Right w.tap c u ≡ Kept
-      dr_kept = grind (arith, u_dr, judged_so, dr_found)
+      dr_kept = grind (arith, u_dr, judged_so)
 
       dr_route : route Right w.tap.course u ≡ Named x.source
-      dr_route = grind (arith, u_dr, route_dr)
+      dr_route = grind (arith, u_dr)
 
       dr_first : position (is_named Right x.source) cs ≡ Some p
       dr_first = name_first x.source p c at dr_named
@@ -344,17 +333,14 @@ module _ (local : Local) (w : Whole) (f : Called local w) (apart : AreApart w.ta
       line_begun : g.line.begun ≡ true
       line_begun = g.begun_is ∙ begins
 
-      first_put : g.line.put ≡ u ∷ units_at p later
-      first_put = g.put ∙ mine_is
-
       line_judged : g.line.tap.is_judged ≡ true
       line_judged = ap (λ (x : Connection). x.is_judged) g.tap ∙ is_judged
 
       is_right : IsRight Right c u
-      is_right = grind (arith, first_put, open_is_fair, line_begun, line_judged)
+      is_right = grind (arith, open_is_fair, line_begun, line_judged)
 
       dest : destination_of u ≡ Some g.peer
-      dest = grind (arith, first_put, line_named, turned_line, run_holds, line_judged)
+      dest = search (arith, line_named, turned_line, run_holds, line_judged)
 
       run_first : position (is_named Right g.peer) cs ≡ Some p
       run_first = name_first g.peer p c at (named_of (destination_of u) g.peer Right c dest is_right.named)
@@ -369,10 +355,10 @@ module _ (local : Local) (w : Whole) (f : Called local w) (apart : AreApart w.ta
       run_kept = judged_so c.is_judged (found Right w.tap.course in_use c u) Kept (is_judged) (is_right.kept w.tap.course in_use)
 
       no_cc : (m : ℕ) (x : Connect) → u ≡ confirm m x → ⊥
-      no_cc m x e = grind (arith, wrong_form, is_right, open_started c.right.phase g.there, is_right.kept w.tap.course in_use)
+      no_cc m x e = grind (arith, wrong_form, is_right, is_right.kept w.tap.course in_use)
 
       no_er : (m cause : ℕ) → u ≡ error m cause → ⊥
-      no_er m cause e = grind (arith, er_not_kept, is_right, open_started c.right.phase g.there, is_right.kept w.tap.course in_use)
+      no_er m cause e = search (arith, is_right, is_right.kept w.tap.course in_use)
 
       abbrev next : Connection
       next = sent_on Right u c
@@ -403,17 +389,11 @@ module _ (local : Local) (w : Whole) (f : Called local w) (apart : AreApart w.ta
       tap_is = grind (arith, run_kept)
 
       along : ActsAlong Right g.r g.peer g.first (g.acts ++ passes_own w.tap.course in_use ∷ []) line
-      along = grind (arith, acts_join, first_put, line_begun)
-
-      next_judged : line.tap.is_judged ≡ true
-      next_judged = ap (λ (x : Connection). x.is_judged) tap_is ∙ sent_judged u c ∙ is_judged
-
-      tap_open : is_open line.tap.right.phase ≡ is_open next.right.phase
-      tap_open = ap (λ (x : Connection). is_open x.right.phase) tap_is
+      along = grind (arith, acts_join, line_begun)
 
       -- as long as the end has its link, it has not closed the connection
       link_open : (l : Standing) → g.line.link ≡ Some l → is_open next.right.phase ≡ true
-      link_open l e = grind (arith, run_holds, along, next_judged, tap_open, open_of)
+      link_open l e = grind (arith, run_holds, along, tap_is, sent_judged, open_of)
 
       not_linked : is_open next.right.phase ≡ false → (r : ℕ) → r ≡ g.r → Row w.end w.coming g.r g.peer g.line.link g.line.coming →
           IsUnlinked w.end r
@@ -422,7 +402,7 @@ module _ (local : Local) (w : Whole) (f : Called local w) (apart : AreApart w.ta
       -- the end puts nothing after it has closed the connection
       none_left : (l : List Value) → units_at p later ≡ l → is_open next.right.phase ≡ false → l ≡ []
       none_left [] e shut = refl
-      none_left (v ∷ vs) e shut = grind (arith, differ, tap_open, waits_open, along, next_judged, no_list)
+      none_left (v ∷ vs) e shut = grind (arith, differ, tap_is, waits_open, along, sent_judged, no_list)
 
       run_stand : (b : Bool) → is_open next.right.phase ≡ b → StandAfter p next
       run_stand true up = runs (record {
@@ -443,8 +423,7 @@ module _ (local : Local) (w : Whole) (f : Called local w) (apart : AreApart w.ta
         row = g.row;
         shut_is = g.shut_is;
       }) asks
-      run_stand false shut = past (ap (λ (h : Half). is_silent h.phase) next_right ∙ half_started u c.right (open_started c.right.phase
-          g.there))
+      run_stand false shut = past (ap (λ (h : Half). is_silent h.phase) next_right ∙ half_started u c.right (grind arith))
           shut (none_left (units_at p later) refl shut) asks
           (λ r e. not_linked shut r (number_is r g.r (sym e ∙ g.index)) g.row)
           (inl (
@@ -475,9 +454,6 @@ module _ (local : Local) (w : Whole) (f : Called local w) (apart : AreApart w.ta
       keeps : Keeps Right g.r g.peer g.line
       keeps = line_keeps Right g.r g.peer g.first g.line g.acts g.opened g.along
 
-      lost_begun : g.line.begun ≡ true
-      lost_begun = g.begun_is ∙ begins
-
       lost_put : g.line.put ≡ u ∷ units_at p later
       lost_put = g.put ∙ mine_is
 
@@ -485,25 +461,19 @@ module _ (local : Local) (w : Whole) (f : Called local w) (apart : AreApart w.ta
       lost_dest = (subst (AllOurs g.r g.peer) lost_put keeps.ours).0.named
 
       lost_named : is_named Right g.peer c ≡ true
-      lost_named = grind (arith, keeps, lost_begun, name_so, eq-eqb)
-
-      lost_route : route Right w.tap.course u ≡ Named g.peer
-      lost_route = route_two_so w.tap.course.class (has_broken Left w.tap.course) u g.peer (f.two p c at g.there) lost_dest
+      lost_named = grind (arith, keeps, name_so, eq-eqb)
 
       lost_takes : takes Right u w.tap ≡ one_told Right p c u w.tap
-      lost_takes = takes_so u w.tap g.peer p c right lost_route (name_first g.peer p c at lost_named) at
-
-      lost_found : found_on Right w.tap c u ≡ NotJudged
-      lost_found = ap (λ (b : Bool). if b then found Right w.tap.course (uses_source Right cs u) c u else NotJudged) is_lost
+      lost_takes = takes_so u w.tap g.peer p c right (grind (arith, route_two_so, lost_dest)) (name_first g.peer p c at lost_named) at
 
       lost_conns : (takes Right u w.tap).state.connections ≡ set cs p c
-      lost_conns = grind (arith, lost_takes, set, lost_found)
+      lost_conns = grind (arith, lost_takes, set)
 
       lost_course : (takes Right u w.tap).state.course ≡ course_after Right c u false w.tap.course
-      lost_course = grind (arith, lost_takes, lost_found)
+      lost_course = grind (arith, lost_takes)
 
       lost_finding : (takes Right u w.tap).told.finding ≡ NotJudged
-      lost_finding = ap (λ (o : Outcome). o.told.finding) lost_takes ∙ lost_found
+      lost_finding = ap (λ (o : Outcome). o.told.finding) lost_takes ∙ (grind arith)
 
       is_loose : (b : Bool) → w.tap.course.loose ≡ b → b ≡ true
       is_loose b e = grind (arith, differ)
@@ -531,7 +501,7 @@ module _ (local : Local) (w : Whole) (f : Called local w) (apart : AreApart w.ta
         acts = g.acts ++ passes_own w.tap.course false ∷ [];
         opened = g.opened;
         along = acts_join Right g.r g.peer g.acts (passes_own w.tap.course false ∷ []) g.first g.line lost_line g.along
-            (lost_line, (u, lost_put, lost_begun, refl), refl);
+            (lost_line, (u, lost_put, grind (arith, begins), refl), refl);
         there = g.there;
         right = g.right;
         left = g.left;

@@ -1,13 +1,12 @@
 -- A unit of a whole calling end passes: a CR, whose connection waits then, or a unit of an open connection that is judged, which is right.
 -- For the law on a whole end.
-use Rattle.osi_fair.proofs.Vocabulary.{arith, [], ap, Bool, false, if◌then◌else◌, inl, inr, List, None, Option, refl, set, Some, subst}
-use Rattle.osi_fair.proofs.Vocabulary.{sym, true, ℕ, ◌++◌, ◌∙◌, ◌∷◌, ◌≡◌, ◌⊎◌, eqb-true, AllByRecursion, position_or_len, not, position}
+use Rattle.osi_fair.proofs.Vocabulary.{arith, [], ap, Bool, false, if◌then◌else◌, inl, inr, List, None, Option, refl, set, Some, subst, sym}
+use Rattle.osi_fair.proofs.Vocabulary.{true, ℕ, ◌++◌, ◌∙◌, ◌∷◌, ◌≡◌, ◌⊎◌, eqb-true, AllByRecursion, position_or_len, not, position}
 use Rattle.osi_fair.proofs.Vocabulary.{half_after, is_closing, sent_on, slice_get, ◌&&◌, ◌==◌, ◌||◌, confirm, Connect, destination_of}
 use Rattle.osi_fair.proofs.Vocabulary.{request, Value, Standing, Class, Two, Local, value_at, asked, Live, linked, is_applied, reach_of}
-use Rattle.osi_fair.proofs.Vocabulary.{is_free, is_named, is_open, is_over, is_silent, asked_by, asks_by, found, none_told, Outcome}
-use Rattle.osi_fair.proofs.Vocabulary.{placed, route_in, routed, Traffic, takes, uses_source, Connection, Left, Right, Finding, Kept}
-use Rattle.osi_fair.proofs.Vocabulary.{NotJudged, Half, IsAtPlace, after_finding, finding_of, IsRight, IsRightNow, Line, unit as passing}
-use Rattle.osi_fair.proofs.Vocabulary.{Whole}
+use Rattle.osi_fair.proofs.Vocabulary.{is_free, is_named, is_open, is_over, is_silent, asked_by, asks_by, found, Outcome, placed, Traffic}
+use Rattle.osi_fair.proofs.Vocabulary.{takes, uses_source, Connection, Left, Right, Finding, Kept, NotJudged, Half, after_finding}
+use Rattle.osi_fair.proofs.Vocabulary.{finding_of, IsRight, IsRightNow, Line, unit as passing, Whole}
 use Rattle.osi_rules.specs.Sides.{sends}
 use Rattle.osi_carrier.specs.State.{State}
 use Rattle.osi_fair.specs.Lines.{passes_own}
@@ -45,23 +44,12 @@ Request x cs o = (o.state.connections ≡ cs) ⊎ (o.state.connections ≡ place
 asks_does : (x : Connect) (s : Traffic) (f : Finding) → Request x s.connections (asks_by Left f x s)
 asks_does x s f = grind arith
 
-route_does : (x : Connect) (s : Traffic) (k : Option Class) (b : Bool) →
-    Request x s.connections (routed Left (request x) s (route_in k Left b (request x)))
-route_does x s k b = grind (arith, asks_does)
-
-stop_does : (x : Connect) (s : Traffic) (b : Bool) (o : Outcome) → Request x s.connections o →
-    Request x s.connections (if b then none_told Left NotJudged s else o)
-stop_does x s b o h = grind arith
-
 request_does : (x : Connect) (s : Traffic) → Request x s.connections (takes Left (request x) s)
-request_does x s = grind (arith, stop_does, route_does)
-
-was_or_new : {A B C : Type 0} → (A × B) ⊎ C → B ⊎ C
-was_or_new h = grind arith
+request_does x s = grind arith
 
 item_of : (new : Connection) (cs : List Connection) (o : Option ℕ) (i : ℕ) (e : Connection) → slice_get (placed new cs o) i ≡ Some e →
     (e ≡ new) ⊎ (slice_get cs i ≡ Some e)
-item_of new cs o i e h = grind (arith, was_or_new, after_add, after_set)
+item_of new cs o i e h = grind (arith, after_add, after_set)
 
 stays_placed : (new : Connection) (cs : List Connection) (o : Option ℕ) → position is_free cs ≡ o → (i : ℕ) (e : Connection) →
     slice_get cs i ≡ Some e → (is_free e ≡ true → ⊥) → slice_get (placed new cs o) i ≡ Some e
@@ -123,9 +111,6 @@ module _ (local : Local) (w : Whole) (f : Followed local w) (sane : IsSane w.tap
       (λ free. tracked_over e (each_sound Right cs sane.apart peers i e at) tracked
       (and_first (is_over Left e) (is_over Right e) free))
 
-  tracked_still : (x : Connect) (r : ℕ) → Tracked cs r → Tracked (takes Left (request x) w.tap).state.connections r
-  tracked_still x r (p, c, at, tracked, is) = (p, c, request_stays x p c (request_does x w.tap) at tracked, tracked, is)
-
   tracked_by : (x : Connect) (p : ℕ) (c : Connection) → is_tracked c ≡ true → (c ≡ asked_by x) ⊎ (slice_get cs p ≡ Some c) →
       slice_get cs p ≡ Some c
   tracked_by x p c tracked h = grind arith
@@ -162,18 +147,9 @@ module _ (local : Local) (w : Whole) (f : Followed local w) (sane : IsSane w.tap
       (c ≡ asked_by x) ⊎ (slice_get cs i ≡ Some c) → is_waiting c ≡ true → c.left.reference ≡ r → ⊥
   settled_one x rest r given k i c h waits same = grind arith
 
-  settled_item : (x : Connect) (rest : List Value) (r given : ℕ) → IsSettled cs (request x ∷ rest) given r →
-      IsSettled (takes Left (request x) w.tap).state.connections rest given r
-  settled_item x rest r given k = record {
-    up = k.up;
-    waits = λ i c at waits same. settled_one x rest r given k i c (request_item x i c (request_does x w.tap) at) waits same;
-    asks = k.asks.1;
-  }
-
   settled_still : (x : Connect) (rest : List Value) → w.put ≡ request x ∷ rest → (v : Value) →
       AreSettled cs w.put w.end.given v → AreSettled (takes Left (request x) w.tap).state.connections rest w.end.given v
-  settled_still x rest e v h m source is =
-      settled_item x rest source w.end.given (subst (λ (l : List Value). IsSettled cs l w.end.given source) e (h m source is))
+  settled_still x rest e v h m source is = grind (arith, settled_one, request_item, asks, request_does)
 
   seen_still : (x : Connect) (i : ℕ) (c : Connection) → is_tracked c ≡ true → is_silent c.seen_by_left.phase ≡ false →
       (c ≡ asked_by x) ⊎ (slice_get cs i ≡ Some c) → (takes Left (request x) w.tap).state.course.class_seen ≡ Some Two
@@ -200,13 +176,13 @@ module _ (local : Local) (w : Whole) (f : Followed local w) (sane : IsSane w.tap
         waiting = λ i c at waits. request_waits x c i (first x refl) (request_item x i c does at) waits;
         owned = all_so (λ v. IsOwned w.tap v) (λ v. IsOwned (takes Left (request x) w.tap).state v) rest
             (λ v. owned_still x v) owned;
-        linked = λ lasts r peer link h. let (t, two) = f.linked lasts r peer link h in (tracked_still x r t, two);
+        linked = λ lasts r peer link h. let (t, two) = f.linked lasts r peer link h in (grind (arith, request_stays, request_does), two);
         answers = all_so (λ v. IsAnswer w.tap.course.loose cs w.end v) (λ v. IsAnswer (takes Left (request x) w.tap).state.course.loose
             (takes Left (request x) w.tap).state.connections w.end v) w.coming
             (λ v h n y k lasts why.
             let (t, row) = h n y k lasts (why_before w.tap.course.loose (takes Left (request x) w.tap).state.course.loose
             (lasts_passing (passing Left (request x)) w.tap).firm why) in
-            (tracked_still x n t, row)) f.answers;
+            (grind (arith, request_stays, request_does), row)) f.answers;
         requests = requests;
         two = λ r t.
             let (p, c, at, tracked, is) = t in
@@ -224,11 +200,8 @@ module _ (local : Local) (w : Whole) (f : Followed local w) (sane : IsSane w.tap
         shut = λ lasts i c at closed row. request_shut x lasts i c closed row (request_item x i c does at);
       }
 
-  peers_by : (x : Connect) (o : Outcome) → Request x cs o → AreNamedApart Right o.state.connections
-  peers_by x o h = grind (arith, right_asked)
-
   pub request_peers : (x : Connect) → AreNamedApart Right (takes Left (request x) w.tap).state.connections
-  request_peers x = peers_by x (takes Left (request x) w.tap) (request_does x w.tap)
+  request_peers x = grind (arith, right_asked)
 
   -- ---- a unit of an open connection passes
 
@@ -266,11 +239,8 @@ module _ (local : Local) (w : Whole) (f : Followed local w) (sane : IsSane w.tap
     named : destination_of u ≡ Some n
     named = own.named
 
-    own_line : IsOf g.r g.peer u
-    own_line = subst (λ (i : ℕ). IsOf i g.peer u) g.left (subst (λ (i : ℕ). IsOf c.left.reference i u) g.right own)
-
     named_by : is_ours g.r g.peer u ≡ true
-    named_by = ours_so g.r g.peer u own_line
+    named_by = ours_so g.r g.peer u (grind arith)
 
     parts : (vs : List Value) × ((g.line.put ≡ u ∷ vs) × (ours g.r g.peer rest ≡ vs ++ g.spare))
     parts = put_first u (ours g.r g.peer rest) g.line.put g.spare
@@ -299,9 +269,6 @@ module _ (local : Local) (w : Whole) (f : Followed local w) (sane : IsSane w.tap
     seen : w.tap.course.class_seen ≡ Some Two
     seen = f.seen p c at tracked (named_parts (is_over Left c) (is_silent c.seen_by_left.phase) (c.seen_by_left.reference == n) is_its_name)
 
-    place : IsAtPlace Left w.tap n p c
-    place = record { judged = left; class = seen; first = name_first n p c at is_its_name; is = at }
-
     abbrev in_use : Bool
     in_use = uses_source Left cs u
 
@@ -312,7 +279,7 @@ module _ (local : Local) (w : Whole) (f : Followed local w) (sane : IsSane w.tap
     kept = judged_so c.is_judged (found Left w.tap.course in_use c u) judged (right.kept w.tap.course in_use)
 
     pub own_kept : (takes Left u w.tap).told.finding ≡ Kept
-    own_kept = found_is Left u w.tap n p c place named ∙ kept
+    own_kept = found_is Left u w.tap n p c (grind (arith, seen, is_its_name, name_first)) named ∙ kept
 
     abbrev next : Connection
     next = after_finding Left (finding c) u c
@@ -321,7 +288,7 @@ module _ (local : Local) (w : Whole) (f : Followed local w) (sane : IsSane w.tap
     after = record w { put = rest; begun = false; tap = (takes Left u w.tap).state }
 
     next_all : (takes Left u w.tap).state.connections ≡ set cs p next
-    next_all = after_is Left u w.tap n p c place named
+    next_all = after_is Left u w.tap n p c (grind (arith, seen, is_its_name, name_first)) named
 
     next_is : next ≡ sent_on Left u c
     next_is = ap (λ (x : Finding). after_finding Left x u c) kept
@@ -346,9 +313,6 @@ module _ (local : Local) (w : Whole) (f : Followed local w) (sane : IsSane w.tap
     next_at : slice_get (takes Left u w.tap).state.connections p ≡ Some next
     next_at = ap (λ (l : List Connection). slice_get l p) next_all ∙ set_there cs p next c at
 
-    line_judged : line_after.tap.is_judged ≡ true
-    line_judged = ap (λ (x : Connection). x.is_judged) tap_after ∙ next_judged
-
     next_left : next.left.reference ≡ c.left.reference
     next_left = (own_stays (is_applied (finding c)) w.tap u (reach_of (Some Two) (finding c)) c refl).reference
 
@@ -361,7 +325,7 @@ module _ (local : Local) (w : Whole) (f : Followed local w) (sane : IsSane w.tap
     -- as long as the end has its link, it has not closed the connection
     linked_open : (link : Standing) → g.line.link ≡ Some link → is_tracked next ≡ true
     linked_open link h =
-        let held = tracks_hold g.r g.peer line_after tracks_after line_judged in
+        let held = tracks_hold g.r g.peer line_after tracks_after (grind (arith, tap_after, next_judged)) in
         tracked_if (ap (λ (x : Connection). is_open x.left.phase) (sym tap_after)
         ∙ put_open g.r g.peer held.limit held.tally line_after.tap.left line_after.tap.right line_after.put line_after.link link
         held.puts h)
@@ -374,7 +338,7 @@ module _ (local : Local) (w : Whole) (f : Followed local w) (sane : IsSane w.tap
     -- the end puts nothing after it has closed the connection
     none_by : (l : List Value) → still ≡ l → is_tracked next ≡ false → l ≡ []
     none_by [] e h = refl
-    none_by (v ∷ vs) e h = grind (arith, differ, tracked_if, tap_after, waits_open, tracks_after, line_judged, no_list)
+    none_by (v ∷ vs) e h = grind (arith, differ, tracked_if, tap_after, waits_open, tracks_after, next_judged, no_list)
 
     -- so the units with its references are spare then
     spare_left : is_tracked next ≡ false → ours g.r g.peer rest ≡ g.spare

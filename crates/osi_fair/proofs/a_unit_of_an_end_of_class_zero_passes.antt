@@ -1,12 +1,12 @@
 -- A unit passes of a called end that has selected class 0: the CC, or a DT. Each is right.
 -- For the law on a whole called end.
-use Rattle.osi_fair.proofs.Vocabulary.{ap, arith, Bool, false, IfSome, if◌then◌else◌, inl, length, List, None, Option, option_map, refl}
-use Rattle.osi_fair.proofs.Vocabulary.{set, Some, subst, sym, true, ℕ, ◌+◌, ◌-◌, ◌^◌, ◌∙◌, ◌∷◌, ◌≡◌, ◌≤◌, ◌⊎◌, pow-le-pow_right, eq-eqb}
-use Rattle.osi_fair.proofs.Vocabulary.{list_any, position_or_len, min, not, position, slice_get, ◌&&◌, ◌==◌, ◌||◌, size_code, confirm}
-use Rattle.osi_fair.proofs.Vocabulary.{Connect, data0, Value, longest_tsdu, accept, refuse, selected_by, Two, Zero, Local, acceptance}
-use Rattle.osi_fair.proofs.Vocabulary.{unit_octets, is_closed, is_closing, is_live, is_named, is_open, is_over, is_over_by, is_refused}
-use Rattle.osi_fair.proofs.Vocabulary.{is_silent, uses, course_after, found, found_on, route, sent_on, takes, uses_source, Connection}
-use Rattle.osi_fair.proofs.Vocabulary.{Course, Right, Kept, Half, Phase, Named, opened_half, Whole}
+use Rattle.osi_fair.proofs.Vocabulary.{ap, arith, Bool, false, IfSome, inl, length, List, None, Option, option_map, refl, set, Some, subst}
+use Rattle.osi_fair.proofs.Vocabulary.{sym, true, ℕ, ◌+◌, ◌-◌, ◌^◌, ◌∙◌, ◌∷◌, ◌≡◌, ◌≤◌, ◌⊎◌, pow-le-pow_right, eq-eqb, list_any}
+use Rattle.osi_fair.proofs.Vocabulary.{position_or_len, min, not, position, slice_get, ◌&&◌, ◌==◌, ◌||◌, confirm, Connect, data0, Value}
+use Rattle.osi_fair.proofs.Vocabulary.{longest_tsdu, accept, selected_by, Zero, Local, acceptance, unit_octets, is_closed, is_closing}
+use Rattle.osi_fair.proofs.Vocabulary.{is_live, is_named, is_open, is_over, is_over_by, is_refused, is_silent, uses, course_after, found}
+use Rattle.osi_fair.proofs.Vocabulary.{found_on, route, sent_on, takes, uses_source, Connection, Course, Right, Kept, Half, Phase, Named}
+use Rattle.osi_fair.proofs.Vocabulary.{Whole}
 use Rattle.osi_fair.proofs.small_facts_that_many_lemmas_use.{and_false, and_not, any_none, both as is_both, first_is, judged_so, name_so}
 use Rattle.osi_fair.proofs.small_facts_that_many_lemmas_use.{rest_is, unequal}
 use Rattle.osi_fair.proofs.a_dt_of_class_zero_passes.{begun_so, dt_conns, dt_course, dt_kept, only_first}
@@ -14,7 +14,7 @@ use Rattle.osi_fair.proofs.a_right_unit_is_not_blamed.{first_there, is_first}
 use Rattle.osi_fair.proofs.all_are_judged_unless_one_broke.{IsJudged}
 use Rattle.osi_fair.proofs.each_connection_of_a_called_end.{Asked}
 use Rattle.osi_fair.proofs.how_a_connection_opens.{zero_right}
-use Rattle.osi_fair.proofs.how_a_unit_of_right_passes.{conns_kept, course_kept, finding_kept, route_confirm, use_so}
+use Rattle.osi_fair.proofs.how_a_unit_of_right_passes.{conns_kept, course_kept, finding_kept, use_so}
 use Rattle.osi_fair.proofs.what_an_end_does_in_class_zero.{IsInZero, zero_next, zero_puts}
 use Rattle.osi_fair.proofs.what_a_link_does.{begun_by}
 use Rattle.osi_fair.proofs.what_an_end_puts_in_class_zero.{PutsData}
@@ -23,7 +23,6 @@ use Rattle.osi_fair.proofs.what_holds_of_one_item.{HoldsOfEach, first_true}
 use Rattle.osi_fair.proofs.what_keeps_names_apart.{AreApart}
 use Rattle.osi_fair.proofs.while_no_class_is_selected.{after_change, set_there}
 use Rattle.osi_fair.proofs.a_called_end_selects_class_zero.{Selected, Selecting}
-use Rattle.osi_fair.proofs.a_calling_end_goes_on_in_class_zero.{least}
 
 -- ---- small facts
 
@@ -31,33 +30,20 @@ refused_over : (p k : Phase) → is_refused p ≡ true →
     (is_refused p || (is_refused k || (is_closed p || (is_closing p && (is_closing k || is_closed k))))) ≡ true
 refused_over p k h = grind arith
 
-there_not : (p : Phase) → is_there p ≡ true → is_refused p ≡ true → ⊥
-there_not p h k = grind arith
-
 open_live : (p k mine : Phase) → is_open p ≡ true → is_there mine ≡ true → (is_refused k ≡ true → is_refused mine ≡ true) →
     (is_refused p || (is_refused k || (is_closed p || (is_closing p && (is_closing k || is_closed k))))) ≡ false
-open_live p k mine h there a = grind (arith, there_not)
+open_live p k mine h there a = grind arith
 
 not_false : (b : Bool) → b ≡ false → not b ≡ true
 not_false b h = grind arith
 
-zero_chosen : (a b z : Bool) (s size : Option ℕ) →
-    (if a then accept Two s else (if b then accept Zero s else (if z then refuse 0 else refuse 130))) ≡ accept Zero size → s ≡ size
-zero_chosen a b z s size e = grind arith
-
 two_power : (n code : ℕ) → 7 ≤ n → (7 ≤ code) × (code ≤ 13) → 2 ^ 7 ≤ 2 ^ (min code n)
 two_power n code k h =
-    let up : 7 ≤ min code n = least code n h.0 k in pow-le-pow_right {n = 2} (omega arith) up
-
-fits_selected : (o : Option ℕ) (n : ℕ) → IfSome o (λ code. (7 ≤ code) × (code ≤ 13)) → 7 ≤ n →
-    IfSome (option_map (λ code. 2 ^ code) (option_map (λ code. min code n) o)) (λ most. (unit_octets (option_map (λ code. min code n) o) -
-    3) + 3 ≤ most)
-fits_selected o n h k = grind (arith, two_power)
+    let up : 7 ≤ min code n = grind arith in pow-le-pow_right {n = 2} (omega arith) up
 
 fits_cc : (x : Connect) (local : Local) (size : Option ℕ) (c : Connection) → Asked x c → selected_by x local ≡ accept Zero size →
     IfSome (option_map (λ code. 2 ^ code) size) (λ most. (unit_octets size - 3) + 3 ≤ most)
-fits_cc x local size c a e =
-    search (arith, zero_chosen, fits_selected x.parameters.size (size_code local.size) a.range.parameters.size local.size.at_least)
+fits_cc x local size c a e = search (arith, two_power)
 
 -- ---- a unit of the end passes
 
@@ -88,11 +74,8 @@ module _ (local : Local) (w : Whole) (apart : AreApart w.tap.connections) (judge
     u_cc : u ≡ cc_is
     u_cc = first_is u cc_is rest f.more (sym put ∙ f.put)
 
-    half : f.c.seen_by_right ≡ opened_half f.x.source f.x.credit
-    half = f.seen begun ∙ f.asked.left
-
     cc_named : is_named Right f.x.source f.c ≡ true
-    cc_named = grind (arith, name_so, half, and_false, eq-eqb)
+    cc_named = grind (arith, name_so, and_false, eq-eqb)
 
     unused_so : list_any (λ (e : Connection). uses Right f.r e) all ≡ false
     unused_so = any_none (λ (e : Connection). uses Right f.r e) all (λ i e there.
@@ -106,19 +89,16 @@ module _ (local : Local) (w : Whole) (apart : AreApart w.tap.connections) (judge
         ∙ zero_right local f.x f.size f.r f.c w.tap.course f.selected f.asked.offer f.asked.right f.class)
 
     cc_route : route Right w.tap.course u ≡ Named f.x.source
-    cc_route = grind (arith, u_cc, route_confirm)
-
-    cc_first : position (is_named Right f.x.source) all ≡ Some f.p
-    cc_first = name_first f.x.source f.p f.c f.at cc_named
+    cc_route = grind (arith, u_cc)
 
     abbrev cc_next : Connection
     cc_next = sent_on Right cc_is f.c
 
     cc_conns : (takes Right u w.tap).state.connections ≡ set all f.p cc_next
-    cc_conns = grind (arith, conns_kept, cc_route, cc_first, cc_kept, u_cc)
+    cc_conns = grind (arith, conns_kept, cc_route, cc_named, name_first, cc_kept, u_cc)
 
     cc_course : (takes Right u w.tap).state.course ≡ course_after Right f.c cc_is true w.tap.course
-    cc_course = grind (arith, course_kept, cc_route, cc_first, cc_kept, u_cc)
+    cc_course = grind (arith, course_kept, cc_route, cc_named, name_first, cc_kept, u_cc)
 
     not_there : {A : Type 0} (i : ℕ) (e : Connection) → ((i ≡ f.p) × (e ≡ cc_next)) ⊎ ((i ≡ f.p → ⊥) × (slice_get all i ≡ Some e)) →
         (i ≡ f.p → ⊥) → (slice_get all i ≡ Some e → A) → A
@@ -126,7 +106,7 @@ module _ (local : Local) (w : Whole) (apart : AreApart w.tap.connections) (judge
 
     pub selecting_passes : IsFine × Selected passed
     selecting_passes = (
-      finding_kept u w.tap f.x.source f.p f.c right cc_route cc_first f.at cc_kept,
+      finding_kept u w.tap f.x.source f.p f.c right cc_route (grind (arith, cc_named, name_first)) f.at cc_kept,
       record {
         p = f.p;
         c = cc_next;
@@ -164,9 +144,6 @@ module _ (local : Local) (w : Whole) (apart : AreApart w.tap.connections) (judge
       abbrev dt_next : Connection
       dt_next = sent_on Right (data0 end user) f.c
 
-      fine : (takes Right u w.tap).told.finding ≡ Kept
-      fine = grind (arith, dt_kept, only)
-
       conns : (takes Right u w.tap).state.connections ≡ set all f.p dt_next
       conns = grind (arith, dt_conns, only)
 
@@ -179,7 +156,7 @@ module _ (local : Local) (w : Whole) (apart : AreApart w.tap.connections) (judge
 
       dt_passes : IsFine × Selected passed
       dt_passes = (
-        fine,
+        grind (arith, dt_kept, only),
         record {
           p = f.p;
           c = dt_next;

@@ -5,9 +5,9 @@ use Rattle.osi_fair.proofs.Vocabulary.{subst, sym, true, ℕ, ◌++◌, ◌<◌,
 use Rattle.osi_fair.proofs.Vocabulary.{slice_get, ◌&&◌, ◌==◌, ◌||◌, confirm, Connect, destination_of, HasFieldsInRange, request, Value}
 use Rattle.osi_fair.proofs.Vocabulary.{Class, Two, Zero, Local, agreed_size, opened_link, value_at, asked, is_applied, reach_of, is_closed}
 use Rattle.osi_fair.proofs.Vocabulary.{is_closing, is_open, is_over, is_over_by, is_refused, is_silent, uses, class_for, class_of}
-use Rattle.osi_fair.proofs.Vocabulary.{connection_after, course_after, found_on, half_after, judged_on, Outcome, reached, sent_on, takes}
-use Rattle.osi_fair.proofs.Vocabulary.{found, not, uses_source, Connection, Course, Right, Finding, Broke, Kept, NotJudged, Reach, Half}
-use Rattle.osi_fair.proofs.Vocabulary.{Phase, after_finding, finding_of, Line, opened_line, unit as passing, Whole, noted}
+use Rattle.osi_fair.proofs.Vocabulary.{connection_after, course_after, found_on, half_after, Outcome, reached, sent_on, takes, not}
+use Rattle.osi_fair.proofs.Vocabulary.{uses_source, Connection, Course, Right, Finding, Broke, Kept, Reach, Half, Phase, after_finding}
+use Rattle.osi_fair.proofs.Vocabulary.{finding_of, Line, opened_line, unit as passing, Whole, noted}
 use Rattle.osi_rules.specs.declared.findings.Reach.TheVariants as reach
 use Rattle.osi_rules.specs.declared.findings.Rule.TheVariants as rule
 use Rattle.osi_fair.specs.Lines.{passes_other}
@@ -43,12 +43,9 @@ use Rattle.osi_fair.proofs.what_is_live_at_a_called_end.{all_add}
 
 -- ---- the CRs that are to pass
 
-same_request : (x y : Connect) → request x ≡ request y → x ≡ y
-same_request x y e = cc
-
 rise_parts : (n : ℕ) (v : Value) (vs : List Value) → Rise n (asked_among (v ∷ vs)) →
     ((x : Connect) → v ≡ request x → n < x.source) × Rise n (asked_among vs)
-rise_parts n v vs rise = grind (arith, same_request, rise_from)
+rise_parts n v vs rise = grind (arith, rise_from)
 
 rise_all : (n : ℕ) (vs : List Value) → Rise n (asked_among vs) →
     AllByRecursion (λ (v : Value). (x : Connect) → v ≡ request x → n < x.source) vs
@@ -74,16 +71,10 @@ course_same c v b course h = grind arith
 course_idle : (c : Connection) (v : Value) (course : Course) → (course_after Right c v false course).class ≡ course.class
 course_idle c v course = grind arith
 
-known_judged : (r : Reach) (c : Connection) → (judged_on r c).seen_by_left ≡ c.seen_by_left
-known_judged r c = grind arith
-
-known_sized : (v : Value) (c : Connection) → (sent_on Right v c).seen_by_left ≡ c.seen_by_left
-known_sized v c = grind arith
-
 -- what left knows stays as right sends
 known_then : (v : Value) (applied : Bool) (r : Reach) (c : Connection) →
     (connection_after Right v applied r c).seen_by_left ≡ c.seen_by_left
-known_then v applied r c = grind (arith, known_judged, known_sized)
+known_then v applied r c = grind arith
 
 pub dc_no_cc : (v : Value) → is_dc v ≡ true → (m : ℕ) (x : Connect) → v ≡ confirm m x → ⊥
 dc_no_cc v dc m x e = cc (sym (ap is_dc e) ∙ dc)
@@ -158,29 +149,17 @@ module _ (local : Local) (w : Whole) (f : Followed local w) (sane : IsSane w.tap
 
   -- ---- if the connection has lost its judgement
 
-  lost_found : c.is_judged ≡ false → found_so ≡ NotJudged
-  lost_found lost = ap (λ (j : Bool). if j then found Right w.tap.course (uses_source Right cs v) c v else NotJudged) lost
-
   lost_same : c.is_judged ≡ false → nxt ≡ c
-  lost_same lost = grind (arith, lost_found)
+  lost_same lost = grind arith
 
   -- ---- what it is
 
-  by_phase : (p : Phase) → c.right.phase ≡ p → is_open c.left.phase ≡ true → c.is_judged ≡ true → Kind c
-  by_phase p e h judged = grind (arith, both, and_not, over_so, refused_over, closed_over)
-
-  lost_kind : is_open c.left.phase ≡ true → c.is_judged ≡ false → Kind c
-  lost_kind h lost = grind (arith, both)
-
   open_kind : (j : Bool) → c.is_judged ≡ j → is_open c.left.phase ≡ true → Kind c
-  open_kind j e h = grind (arith, by_phase, lost_kind)
-
-  past_silent : (b : Bool) → is_silent c.right.phase ≡ b → is_open c.left.phase ≡ false → b ≡ false
-  past_silent b e h = grind (arith, differ)
+  open_kind j e h = grind arith
 
   kind_by : (b : Bool) → is_open c.left.phase ≡ b → Kind c
   kind_by true e = open_kind c.is_judged refl e
-  kind_by false e = is_past e (past_silent (is_silent c.right.phase) refl e)
+  kind_by false e = is_past e (grind (arith, differ))
 
   -- ---- the connection after it
 
@@ -205,7 +184,7 @@ module _ (local : Local) (w : Whole) (f : Followed local w) (sane : IsSane w.tap
   -- a CC has no effect on a connection that was answered
   cc_none : (j : Bool) → c.is_judged ≡ j → is_silent c.right.phase ≡ false → (m : ℕ) (x : Connect) → v ≡ confirm m x →
       is_applied found_so ≡ false
-  cc_none j judged there m x e = grind (arith, cc_idle, sound_c, lost_found)
+  cc_none j judged there m x e = grind (arith, cc_idle, sound_c)
 
   -- it ends the judging of that
   abbrev course_of : Value → Course
@@ -214,9 +193,6 @@ module _ (local : Local) (w : Whole) (f : Followed local w) (sane : IsSane w.tap
 
   calm_cc : (m : ℕ) (x : Connect) → v ≡ confirm m x → IsCalm (course_of (confirm m x))
   calm_cc m x e = subst (λ (u : Value). IsCalm (course_of u)) e calm_so
-
-  cc_ends : c.is_judged ≡ true → is_silent c.right.phase ≡ false → (m : ℕ) (x : Connect) → v ≡ confirm m x → nxt.is_judged ≡ false
-  cc_ends judged there m x e = grind (arith, cc_lost, sound_c, calm_cc)
 
   -- so it comes only if a connection has lost its judgement
   cc_late : {A : Type 0} → (takes Right v w.tap).state.course.loose ≡ false → is_silent c.right.phase ≡ false → (m : ℕ) (x : Connect) →
@@ -275,7 +251,7 @@ module _ (local : Local) (w : Whole) (f : Followed local w) (sane : IsSane w.tap
         calm = λ j.
             let judged = judged_was Right v (is_applied found_so) far c j in
             all_add IsNoCc g.line.coming v (g.calm judged)
-            (λ m x e. differ nxt.is_judged j (cc_ends judged (there_not_silent c.right.phase (right_there c tracked)) m x e));
+            (λ m x e. differ nxt.is_judged j (grind (arith, cc_lost, sound_c, calm_cc)));
       }
 
   stays_open : (j : Bool) → c.is_judged ≡ j → is_tracked c ≡ true →
@@ -385,11 +361,6 @@ module _ (local : Local) (w : Whole) (f : Followed local w) (sane : IsSane w.tap
   still_not_silent true e h = ap (λ (x : Half). is_silent x.phase) (right_after true e) ∙ half_started v c.right h
   still_not_silent false e h = ap (λ (x : Half). is_silent x.phase) (right_after false e) ∙ h
 
-  -- what is not over for right, and was answered
-  past_there : (p : Phase) → c.right.phase ≡ p → c.is_judged ≡ true → is_silent c.right.phase ≡ false →
-      (is_open c.right.phase || is_closing c.right.phase) ≡ true
-  past_there p e judged h = grind (arith, over_so, refused_over, closed_over)
-
   -- a connection loses its judgement by a unit that has no effect
   lost_idle : (b : Bool) → is_applied found_so ≡ b → c.is_judged ≡ true → nxt.is_judged ≡ false → b ≡ false
   lost_idle b e judged lost = grind (arith, differ, applied_ends_none, sized_judged)
@@ -399,7 +370,7 @@ module _ (local : Local) (w : Whole) (f : Followed local w) (sane : IsSane w.tap
   past_lost false was there lost = grind (arith, lost_same)
   past_lost true judged there lost =
       ap (λ (x : Half). is_open x.phase || is_closing x.phase) (right_after false (lost_idle (is_applied found_so) refl judged lost))
-      ∙ past_there c.right.phase refl judged there
+      ∙ (grind (arith, over_so, refused_over, closed_over))
 
   by_kind : Kind c → Next
   by_kind (stands tracked) = goes_so tracked
@@ -425,10 +396,6 @@ module _ (local : Local) (w : Whole) (f : Followed local w) (sane : IsSane w.tap
   item : (i : ℕ) (x : Connection) → slice_get (takes Right v w.tap).state.connections i ≡ Some x → Item i x
   item i x h = after_change cs t.q i nxt x (ap (λ (l : List Connection). slice_get l i) (sym conns) ∙ h)
 
-  other_at : (i : ℕ) (x : Connection) → (i ≡ t.q → ⊥) → slice_get cs i ≡ Some x →
-      slice_get (takes Right v w.tap).state.connections i ≡ Some x
-  other_at i x other h = ap (λ (l : List Connection). slice_get l i) conns ∙ set_other cs t.q i nxt x other h
-
   same_one : (i : ℕ) (x : Connection) → i ≡ t.q → slice_get cs i ≡ Some x → x ≡ c
   same_one i x same h = item_is c x (sym t.at ∙ ap (λ (j : ℕ). slice_get cs j) (sym same) ∙ h)
 
@@ -453,42 +420,36 @@ module _ (local : Local) (w : Whole) (f : Followed local w) (sane : IsSane w.tap
   waits_silent : (x : Connection) → is_waiting x ≡ true → is_silent x.right.phase ≡ true
   waits_silent x waiting = and_second (is_open x.left.phase) (is_silent x.right.phase) waiting
 
-  not_quiet : {A : Type 0} (x : Connection) → is_waiting x ≡ true → is_silent nxt.right.phase ≡ false → x ≡ nxt → A
-  not_quiet x waiting later is = grind (arith, differ, waits_silent)
-
   waits_at : (i : ℕ) (x : Connection) → is_waiting x ≡ true → Next → Item i x → Waiting local w.end more x
   waits_at i x waiting k (inr (other, there)) =
       let g = f.waiting i x there waiting in
       waiting_other local w.end w.coming x v g (unlike_r i x g.r other there (ap (λ (h : Half). h.reference) g.left))
   waits_at i x waiting (quiet a still dc) (inl (same, is)) =
       grind (arith, waiting_dc, was_waiting i x (waits_silent x waiting) (quiet a still dc) (inl (same, is)), waits_silent x waiting)
-  waits_at i x waiting (goes_on a b right class line) (inl (same, is)) = grind (arith, not_quiet, there_not_silent, right_there)
-  waits_at i x waiting (opened a before b line row class) (inl (same, is)) = grind (arith, not_quiet, there_not_silent, right_there)
-  waits_at i x waiting (gone a b later none class lost) (inl (same, is)) = not_quiet x waiting later is
+  waits_at i x waiting (goes_on a b right class line) (inl (same, is)) = grind (arith, there_not_silent, right_there)
+  waits_at i x waiting (opened a before b line row class) (inl (same, is)) = grind (arith, there_not_silent, right_there)
+  waits_at i x waiting (gone a b later none class lost) (inl (same, is)) = grind (arith, differ, waits_silent)
 
   -- of a connection that was open
   was_open : (A : Type 0) → is_tracked c ≡ true → (is_tracked nxt ≡ true → nxt.right.reference ≡ c.right.reference → A) → Next → A
   was_open A tracked k h = grind (arith, differ)
 
-  nxt_reference : nxt.left.reference ≡ c.left.reference
-  nxt_reference = ap (λ (h : Half). h.reference) nxt_left
-
   tracked_one : (r i : ℕ) (x : Connection) → slice_get cs i ≡ Some x → is_tracked x ≡ true → x.left.reference ≡ r → (b : Bool) →
       (i == t.q) ≡ b → Tracked (takes Right v w.tap).state.connections r
-  tracked_one r i x there tracked is false h = (i, x, other_at i x (unlike i t.q h) there, tracked, is)
-  tracked_one r i x there tracked is true h = grind (arith, same_one, eqb-true, was_open, nxt_at, nxt_reference, next_so)
+  tracked_one r i x there tracked is false h = (i, x, grind (arith, conns, set_other cs t.q i nxt x (unlike i t.q h) there), tracked, is)
+  tracked_one r i x there tracked is true h = grind (arith, same_one, eqb-true, was_open, nxt_at, nxt_left, next_so)
 
   tracked_to : (r : ℕ) → Tracked cs r → Tracked (takes Right v w.tap).state.connections r
   tracked_to r (i, x, there, tracked, is) = tracked_one r i x there tracked is (i == t.q) refl
 
   owned_one : (u : Value) (i : ℕ) (x : Connection) → slice_get cs i ≡ Some x → is_tracked x ≡ true →
       IsOf x.left.reference x.right.reference u → (b : Bool) → (i == t.q) ≡ b → IsOwned (takes Right v w.tap).state u
-  owned_one u i x there tracked own false h = of i x (other_at i x (unlike i t.q h) there) tracked own
+  owned_one u i x there tracked own false h = of i x (grind (arith, conns, set_other cs t.q i nxt x (unlike i t.q h) there)) tracked own
   owned_one u i x there tracked own true h =
       let so = same_one i x (eqb-true i t.q h) there in
       was_open (IsOwned (takes Right v w.tap).state u) (ap is_tracked (sym so) ∙ tracked)
       (λ still right. of t.q nxt nxt_at still
-      (subst (λ (j : ℕ). IsOf j nxt.right.reference u) (sym nxt_reference)
+      (subst (λ (j : ℕ). IsOf j nxt.right.reference u) (sym (grind (arith, nxt_left)))
       (subst (λ (j : ℕ). IsOf c.left.reference j u) (sym right)
       (subst (λ (y : Connection). IsOf y.left.reference y.right.reference u) so own)))) next_so
 
@@ -498,19 +459,16 @@ module _ (local : Local) (w : Whole) (f : Followed local w) (sane : IsSane w.tap
   owned_to u (stray m source e strays) = stray m source e (strays_on strays)
 
   same_left : (m : ℕ) (x : Connect) → v ≡ confirm m x → nxt.left.reference ≡ m
-  same_left m x e = nxt_reference ∙ name_is ∙ sym (same_name m x e)
+  same_left m x e = (grind (arith, nxt_left)) ∙ name_is ∙ sym (same_name m x e)
 
   abbrev Now : ℕ → Type 0
   Now m = value_at m w.end.live ≡ Some asked
-
-  row_now : (m : ℕ) (x : Connect) → v ≡ confirm m x → Now m → Now t.n
-  row_now m x e row = ap (λ (i : ℕ). value_at i w.end.live) (sym (same_name m x e)) ∙ row
 
   answers_to : Next → IsAnswer (takes Right v w.tap).state.course.loose (takes Right v w.tap).state.connections w.end v
   answers_to (goes_on a b right class line) m x e lasts (inl row) = ((t.q, nxt, nxt_at, b, same_left m x e), row)
   answers_to (goes_on a b right class line) m x e lasts (inr firm) =
       cc_late firm (there_not_silent c.right.phase (right_there c a)) m x e
-  answers_to (gone a b silent none class lost) m x e lasts (inl row) = absurd ((none m x e).1 lasts (row_now m x e row))
+  answers_to (gone a b silent none class lost) m x e lasts (inl row) = absurd ((none m x e).1 lasts (grind (arith, same_name)))
   answers_to (gone a b silent none class lost) m x e lasts (inr firm) = cc_late firm (none m x e).0 m x e
   answers_to (quiet a still dc) m x e lasts why = absurd (dc_no_cc v dc m x e)
   answers_to (opened a silent b line here class) m x e lasts why = grind (arith, nxt_at, same_left, same_name)

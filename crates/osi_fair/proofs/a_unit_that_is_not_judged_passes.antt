@@ -1,13 +1,12 @@
 -- A unit of a whole calling end passes that is not judged: it changes no connection at the tap, and if it is of a line, that of a
 -- connection which has lost its judgement. For the law on a whole end.
-use Rattle.osi_fair.proofs.Vocabulary.{Right, arith, [], ap, Bool, false, if◌then◌else◌, inl, inr, List, None, Option, refl, set, Some}
-use Rattle.osi_fair.proofs.Vocabulary.{subst, sym, true, ℕ, ◌++◌, ◌∙◌, ◌∷◌, ◌≡◌, ◌⊎◌, eq-eqb, AllByRecursion, position, slice_get, ◌&&◌}
-use Rattle.osi_fair.proofs.Vocabulary.{◌==◌, Connect, destination_of, disconnected, request, Value, Class, Two, Local, is_named, is_over}
-use Rattle.osi_fair.proofs.Vocabulary.{is_over_by, is_silent, found, found_on, one_told, route, route_in, Traffic, takes, uses_source}
-use Rattle.osi_fair.proofs.Vocabulary.{Connection, Course, Left, Kept, NotJudged, Named, after_finding, finding_of, Line, unit as passing}
-use Rattle.osi_fair.proofs.Vocabulary.{Whole}
+use Rattle.osi_fair.proofs.Vocabulary.{Right, arith, [], ap, Bool, false, inl, inr, List, None, Option, refl, set, Some, subst, sym, true}
+use Rattle.osi_fair.proofs.Vocabulary.{ℕ, ◌++◌, ◌∙◌, ◌∷◌, ◌≡◌, ◌⊎◌, eq-eqb, AllByRecursion, position, slice_get, ◌&&◌, ◌==◌, Connect}
+use Rattle.osi_fair.proofs.Vocabulary.{destination_of, disconnected, request, Value, Class, Two, Local, is_named, is_over, is_over_by}
+use Rattle.osi_fair.proofs.Vocabulary.{is_silent, found, route, route_in, Traffic, takes, Connection, Course, Left, Kept, NotJudged, Named}
+use Rattle.osi_fair.proofs.Vocabulary.{after_finding, finding_of, Line, unit as passing, Whole}
 use Rattle.osi_fair.specs.Lines.{passes_own}
-use Rattle.osi_fair.proofs.small_facts_that_many_lemmas_use.{and_false, both, name_so, no_list, number_is}
+use Rattle.osi_fair.proofs.small_facts_that_many_lemmas_use.{and_false, both, name_so, no_list}
 use Rattle.osi_fair.proofs.a_unit_of_a_whole_end_passes.{name_first, own_kept, own_passes, own_peers, put_first, row_same}
 use Rattle.osi_fair.proofs.each_connection_has_its_line.{followed_at, AreSettled, Followed, Following, IsAnswer, IsAsking, IsOwned}
 use Rattle.osi_fair.proofs.each_connection_has_its_line.{IsSpare, all_so, asking, idle_line, is_tracked, of, put_some, stray, tracks_keep}
@@ -23,11 +22,8 @@ use Rattle.osi_fair.proofs.while_no_class_is_selected.{set_same}
 
 -- ---- what the tap finds of a unit of a connection that has lost its judgement
 
-name_of : (m n : ℕ) → Some m ≡ Some n → Named m ≡ Named n
-name_of m n e = ap (λ (x : ℕ). Named x) (number_is m n e)
-
 route_by : (b : Bool) (u : Value) (n : ℕ) → destination_of u ≡ Some n → route_in (Some Two) Left b u ≡ Named n
-route_by b u n e = grind (arith, name_of)
+route_by b u n e = grind arith
 
 -- it is not judged, and changes no connection
 pub record IsIgnored (u : Value) (s : Traffic) : Type 0 where
@@ -41,14 +37,8 @@ module _ (u : Value) (s : Traffic) (n p : ℕ) (c : Connection) (left : s.course
   routed_so : route Left s.course u ≡ Named n
   routed_so = grind (arith, route_by)
 
-  takes_so : takes Left u s ≡ one_told Left p c u s
-  takes_so = grind (arith, routed_so)
-
-  found_so : found_on Left s c u ≡ NotJudged
-  found_so = ap (λ (b : Bool). if b then found Left s.course (uses_source Left s.connections u) c u else NotJudged) lost
-
   pub lost_ignored : IsIgnored u s
-  lost_ignored = grind (arith, takes_so, found_so, set, set_same)
+  lost_ignored = grind (arith, set, set_same)
 
 -- ---- at the end
 
@@ -108,18 +98,12 @@ module _ (local : Local) (w : Whole) (f : Followed local w) (sane : IsSane w.tap
       parts : (us : List Value) × ((g.line.put ≡ u ∷ us) × (ours g.r g.peer rest ≡ us ++ g.spare))
       parts = put_first local w f sane peers u (ours g.r g.peer rest) g.line.put g.spare ours_so_far (put_some v vs g.spare g.line.put some)
 
-      line_begun : g.line.begun ≡ true
-      line_begun = grind (arith, put_some, leads, is_ours, both)
-
       abbrev line_after : Line
       line_after = record g.line {
         put = parts.0;
         begun = false;
         tap = after_finding Left (finding_of Left w.tap.course false g.line.tap u) u g.line.tap;
       }
-
-      tap_after : line_after.tap ≡ c
-      tap_after = grind arith
 
       pop_put : Following local rest false course.strays w.end w.coming c
       pop_put = record {
@@ -129,8 +113,8 @@ module _ (local : Local) (w : Whole) (f : Followed local w) (sane : IsSane w.tap
         left = g.left;
         right = g.right;
         tracks = tracks_on g.r g.peer g.line line_after (passes_own w.tap.course false ∷ []) g.tracks
-            (line_after, (u, parts.1.0, line_begun, refl), refl);
-        tap = tap_after;
+            (line_after, (u, parts.1.0, grind (arith, put_some, leads, is_ours, both), refl), refl);
+        tap = grind arith;
         spare = g.spare;
         put_is = parts.1.1;
         spares = spares_on g.spare g.spares;
@@ -145,7 +129,7 @@ module _ (local : Local) (w : Whole) (f : Followed local w) (sane : IsSane w.tap
       put_ignored =
           let k : Keeps Left g.r g.peer g.line = tracks_keep g.r g.peer g.line g.tracks in
           let (there, is) = subst (λ (x : Connection). (is_silent x.seen_by_left.phase ≡ false) × (x.seen_by_left.reference ≡ g.peer)) g.tap
-          (k.seen_so line_begun) in
+          (k.seen_so (grind (arith, put_some, leads, is_ours, both))) in
           let named : is_named Left g.peer c ≡ true =
           name_so (is_over Left c) (is_silent c.seen_by_left.phase) (c.seen_by_left.reference == g.peer)
           (ap (λ (b : Bool). b && is_over_by c.left c.seen_by_left) lost) there (eq-eqb c.seen_by_left.reference g.peer is) in
@@ -190,9 +174,6 @@ module _ (local : Local) (w : Whole) (f : Followed local w) (sane : IsSane w.tap
     owned_on v (of p c at tracked own) = of p c at tracked own
     owned_on v (stray m source is k) = stray m source is (strays_on k)
 
-    settled_rest : (v : Value) → AreSettled cs w.put w.end.given v → AreSettled cs rest w.end.given v
-    settled_rest v h m source is = grind arith
-
     ignored_so : Followed local (record w { put = rest; begun = false; tap = record { connections = cs; course = course } })
     ignored_so =
         let (first, owned) = subst (AllByRecursion (λ (v : Value). IsOwned w.tap v)) e f.owned in
@@ -216,7 +197,7 @@ module _ (local : Local) (w : Whole) (f : Followed local w) (sane : IsSane w.tap
           some = λ h. absurd (cc h);
           few = f.few;
           seen = λ i c at tracked known. lasts.seen (f.two c.left.reference (i, c, at, tracked, refl)) (f.seen i c at tracked known);
-          settled = all_so (AreSettled cs w.put w.end.given) (AreSettled cs rest w.end.given) rest settled_rest settled;
+          settled = all_so (AreSettled cs w.put w.end.given) (AreSettled cs rest w.end.given) rest (grind arith) settled;
           lost = f.lost;
           shut = f.shut;
         }

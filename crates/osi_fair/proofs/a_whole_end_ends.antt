@@ -1,11 +1,10 @@
 -- A whole calling end ends: it puts nothing then, and what it has put still passes by its lines.
 -- For the law on a whole end.
-use Rattle.osi_fair.proofs.Vocabulary.{Right, [], arith, Bool, Err, false, is_some, List, None, Option, refl, Result, Some, true, ℕ, ◌++◌}
-use Rattle.osi_fair.proofs.Vocabulary.{◌∙◌, ◌∷◌, ◌≡◌, ◌≤◌, ◌⊎◌, append-nil, AllByRecursion, Value, Standing, LinkFault, Class, Two, Local}
-use Rattle.osi_fair.proofs.Vocabulary.{closed_on, closes_in, IsOrderly, before_class, breaks_in, in_two, leaves, react, taking}
-use Rattle.osi_fair.proofs.Vocabulary.{to_connection, to_linked, to_unknown, user_does, UserCall, Live, Connection, put_at, put_before}
-use Rattle.osi_fair.proofs.Vocabulary.{put_by, put_for, put_in_two, put_leaving, put_linked, put_taking, MayCall, Whole, Connect, request}
-use Rattle.osi_fair.proofs.Vocabulary.{subst, sym}
+use Rattle.osi_fair.proofs.Vocabulary.{Right, [], arith, Bool, Err, false, is_some, List, None, Option, refl, Some, true, ℕ, ◌++◌, ◌∙◌, ◌∷◌}
+use Rattle.osi_fair.proofs.Vocabulary.{◌≡◌, ◌≤◌, ◌⊎◌, append-nil, AllByRecursion, Value, Standing, LinkFault, Class, Two, Local, closes_in}
+use Rattle.osi_fair.proofs.Vocabulary.{IsOrderly, before_class, breaks_in, in_two, react, to_linked, to_unknown, user_does, UserCall}
+use Rattle.osi_fair.proofs.Vocabulary.{Connection, put_at, put_before, put_by, put_for, put_in_two, put_linked, put_taking, MayCall, Whole}
+use Rattle.osi_fair.proofs.Vocabulary.{Connect, request, subst, sym}
 use Rattle.osi_carrier.specs.State.{State}
 use Rattle.osi_fair.proofs.small_facts_that_many_lemmas_use.{none_of as no_end}
 use Rattle.osi_fair.proofs.a_request_of_a_whole_end_is_new.{Newer, unit_gives}
@@ -35,36 +34,18 @@ fault_puts : (n peer : ℕ) (fault : LinkFault) (k : Option Class) (s : State) �
     put_taking n peer (Err fault) k ≡ []
 fault_puts n peer fault k s lasts h = grind (arith, never)
 
-taking_puts : (n peer : ℕ) (result : Result Standing LinkFault) (s : State) → s.ended ≡ None →
-    is_some (taking n peer result s).ended ≡ true →
-    put_taking n peer result s.class ≡ []
-taking_puts n peer result s lasts h = grind (arith, never, fault_puts)
-
-leaving_puts : (n peer reason : ℕ) (k : Option Class) (s : State) (u : Value) → s.ended ≡ None →
-    is_some (leaves n peer reason k s).ended ≡ true →
-    put_leaving n peer k ≡ []
-leaving_puts n peer reason k s u lasts h = grind (arith, never)
-
 linked_puts : (n peer : ℕ) (link : Standing) (u : Value) (s : State) → s.ended ≡ None → is_some (to_linked n peer link u s).ended ≡ true →
     put_linked n peer link u s.class ≡ []
-linked_puts n peer link v s lasts h = grind (arith, leaving_puts, taking_puts)
-
-row_puts : (n : ℕ) (o : Option Live) (u : Value) (s : State) → s.ended ≡ None → is_some (to_connection n o u s).ended ≡ true →
-    put_at n o u s.class ≡ []
-row_puts n o u s lasts h = grind (arith, unknown_puts, linked_puts)
+linked_puts n peer link v s lasts h = search arith
 
 before_puts : (u : Value) (s : State) → s.ended ≡ None → is_some (before_class true u s).ended ≡ true → put_before true u s ≡ []
-before_puts u s lasts h = grind (arith, row_puts)
+before_puts u s lasts h = grind arith
 
 in_two_puts : (u : Value) (s : State) → s.ended ≡ None → is_some (in_two true u s).ended ≡ true → put_in_two true u s ≡ []
-in_two_puts u s lasts h = grind (arith, row_puts)
-
-class_puts : (u : Value) (s : State) → OffersTwo s → s.ended ≡ None → (s.class ≡ None) ⊎ (s.class ≡ Some Two) →
-    is_some (react u s).ended ≡ true → put_for u s ≡ []
-class_puts u s o lasts k h = search (arith, put_calling, before_puts, react_calling, two_puts, in_two_puts, two_reacts)
+in_two_puts u s lasts h = search arith
 
 ended_puts : (b : Bool) (u : Value) (s : State) → is_some s.ended ≡ b → OffersTwo s → is_some (react u s).ended ≡ true → put_for u s ≡ []
-ended_puts b u s e o h = grind (arith, over_takes, class_puts, no_end)
+ended_puts b u s e o h = grind (arith, over_takes, put_calling, before_puts, react_calling, two_puts, in_two_puts, two_reacts, no_end)
 
 -- ---- the lines after the end
 
@@ -131,9 +112,6 @@ module _ (local : Local) (w : Whole) (f : Followed local w) (sane : IsSane w.tap
   abbrev after : Value → List Value → Whole
   after u later = record w { end = react u w.end; put = w.put ++ put_for u w.end; coming = later }
 
-  few_later : (u : Value) (later : List Value) → w.coming ≡ u ∷ later → AllByRecursion (AreGiven (react u w.end).given) later
-  few_later u later e = grind (arith, unit_gives, all_so)
-
   takes_by : (b : Bool) (u : Value) (later : List Value) → is_some (react u w.end).ended ≡ b → w.coming ≡ u ∷ later →
       ((react u w.end).ended ≡ None → w.end.ended ≡ None) →
       (w.end.ended ≡ None → IsDr u → (m : ℕ) → closed_by u ≡ Some m → IsLive w.end m ⊎ (w.tap.course.strays ≡ true)) → SelectsTwo w.end u →
@@ -142,7 +120,7 @@ module _ (local : Local) (w : Whole) (f : Followed local w) (sane : IsSane w.tap
       with_nothing local w (react u w.end) later (put_for u w.end) (ended_puts (is_some w.end.ended) u w.end refl offers h)
       (is_over local w f (react u w.end) later h
       (λ r dcs. kept_early (names r u) u (those r later) (subst (λ (l : List Value). AllByRecursion IsDc (those r l)) e dcs))
-      (few_later u later e) (unit_gives u w.end))
+      (grind (arith, unit_gives, all_so)) (unit_gives u w.end))
   takes_by false u later h e was live_dr selects = search (arith, no_end, end_takes)
 
   pub whole_takes : (u : Value) (later : List Value) → w.coming ≡ u ∷ later → ((react u w.end).ended ≡ None → w.end.ended ≡ None) →
@@ -164,19 +142,12 @@ module _ (local : Local) (w : Whole) (f : Followed local w) (sane : IsSane w.tap
   closes_last : (r peer reason : ℕ) (k : Option Class) → (k ≡ None) ⊎ (k ≡ Some Two) → (closes_in r peer reason k w.end).ended ≡ w.end.ended
   closes_last r peer reason k e = grind arith
 
-  closed_last : (r reason : ℕ) (o : Option (ℕ × Standing)) → (closed_on r reason o w.end).ended ≡ w.end.ended
-  closed_last r reason o = grind (arith, closes_last)
-
   -- the end had not ended, and ends
   ends_by : (call : UserCall) → w.end.ended ≡ None → is_some (user_does call w.end).ended ≡ true → Followed local (called call)
-  ends_by call was h = grind (arith, never, sent_lasts, all_last, closed_last, over_call, ended_gives)
-
-  broken_by : (call : UserCall) → is_some w.end.ended ≡ true → is_some (user_does call w.end).ended ≡ true → put_by call w.end ≡ [] →
-      Followed local (called call)
-  broken_by call over_now h none = grind (arith, over_call, sent_gives, all_gives, closed_gives, ended_gives)
+  ends_by call was h = grind (arith, never, sent_lasts, all_last, over_call, ended_gives)
 
   idle_by : (call : UserCall) → is_some w.end.ended ≡ true → Idle call w.end → Followed local (called call)
-  idle_by call over_now k = grind (arith, nothing_so, broken_by)
+  idle_by call over_now k = grind (arith, nothing_so, over_call, sent_gives, all_gives, closed_gives, ended_gives)
 
   calls_by : (b d : Bool) (call : UserCall) → is_some w.end.ended ≡ b → is_some (user_does call w.end).ended ≡ d → MayCall call w.end →
       Newer w → Followed local (called call)

@@ -5,30 +5,30 @@ use Rattle.osi_fair.proofs.Vocabulary.{refl, Some, subst, sym, true, ℕ, ◌++�
 use Rattle.osi_fair.proofs.Vocabulary.{slice_get, ◌==◌, confirm, Connect, destination_of, request, Value, longest_tsdu, Standing, with_tsdu}
 use Rattle.osi_fair.proofs.Vocabulary.{Class, Two, Local, push_other, put_other, beyond, push_here, put_here, asks as asks_for, closed_on}
 use Rattle.osi_fair.proofs.Vocabulary.{closed_with, closes_in, ended_by, link_of, open_link, sent, sent_all, proposal, proposal_by}
-use Rattle.osi_fair.proofs.Vocabulary.{proposes_two, IsOrderly, pumped, value_at, breaks, closes_call, connects, sends, sends_all}
-use Rattle.osi_fair.proofs.Vocabulary.{user_does, UserCall, asked, closing, Live, linked, EndReason, Connection, Left, Follows}
-use Rattle.osi_fair.proofs.Vocabulary.{link_now, Line, put_closing, put_sent, put_together, MayCall, Whole}
+use Rattle.osi_fair.proofs.Vocabulary.{IsOrderly, pumped, value_at, breaks, closes_call, connects, sends, sends_all, user_does, UserCall}
+use Rattle.osi_fair.proofs.Vocabulary.{asked, closing, Live, linked, EndReason, Connection, Left, Follows, link_now, Line, put_closing}
+use Rattle.osi_fair.proofs.Vocabulary.{put_sent, put_together, MayCall, Whole}
 use Rattle.osi_carrier.specs.Calls.{sent_on}
 use Rattle.osi_carrier.specs.State.{State}
-use Rattle.osi_fair.proofs.small_facts_that_many_lemmas_use.{differ, some_same as item_is}
+use Rattle.osi_fair.proofs.small_facts_that_many_lemmas_use.{differ}
 use Rattle.osi_fair.proofs.a_carrier_follows_lines.{follows_closed, follows_sent}
 use Rattle.osi_fair.proofs.a_request_of_a_whole_end_is_new.{Newer}
 use Rattle.osi_fair.proofs.no_two_open_connections_have_one_peer.{one_peer}
 use Rattle.osi_fair.proofs.what_a_unit_leaves_at_a_calling_end.{Linked, ends, given_by, spare_none, still}
 use Rattle.osi_fair.proofs.calls_of_a_line_join.{follows_together, still_open}
 use Rattle.osi_fair.proofs.each_connection_has_its_line.{followed_at, AreGiven, AreSettled, Followed, Following, IsAnswer, IsAsking}
-use Rattle.osi_fair.proofs.each_connection_has_its_line.{IsOwned, IsSettled, Row, Tracked, all_so, asking, asks, closes, over, is_tracked}
-use Rattle.osi_fair.proofs.each_connection_has_its_line.{talks, tracks_keep, tracks_on}
+use Rattle.osi_fair.proofs.each_connection_has_its_line.{IsOwned, Row, Tracked, all_so, asking, asks, closes, over, is_tracked, talks}
+use Rattle.osi_fair.proofs.each_connection_has_its_line.{tracks_keep, tracks_on}
 use Rattle.osi_fair.proofs.how_a_connection_opens.{asked_so}
 use Rattle.osi_fair.proofs.references_of_requests_rise.{all_gives, closed_gives, sent_gives}
 use Rattle.osi_fair.proofs.what_a_calling_end_still_has.{OffersTwo}
-use Rattle.osi_fair.proofs.what_a_whole_end_takes.{IsAnswered, Owner, Puts, all_join, leads_more, of_line, settled_more, some_more}
-use Rattle.osi_fair.proofs.what_a_whole_end_takes.{units_ask, units_owned, units_settled}
+use Rattle.osi_fair.proofs.what_a_whole_end_takes.{Owner, Puts, all_join, leads_more, of_line, settled_more, some_more, units_ask}
+use Rattle.osi_fair.proofs.what_a_whole_end_takes.{units_owned, units_settled}
 use Rattle.osi_fair.proofs.names_stay_apart_though_one_is_lost.{AreNamedApart}
 use Rattle.osi_fair.proofs.a_unit_of_a_whole_end_passes.{all_two}
 use Rattle.osi_fair.proofs.what_the_other_side_closes.{IsSane}
-use Rattle.osi_fair.proofs.which_units_are_for_a_connection.{AllOurs, IsDc, all_ours, each_picked, is_dc, is_ours, last_ours, named_is}
-use Rattle.osi_fair.proofs.which_units_are_for_a_connection.{names, none_ours, picked_other, ours, picked_join, those}
+use Rattle.osi_fair.proofs.which_units_are_for_a_connection.{AllOurs, all_ours, each_picked, is_dc, is_ours, last_ours, named_is, names}
+use Rattle.osi_fair.proofs.which_units_are_for_a_connection.{none_ours, picked_other, ours, picked_join, those}
 use Rattle.osi_fair.proofs.a_dr_for_what_is_gone.{after_calling}
 use Rattle.osi_fair.proofs.a_called_end_makes_a_call.{all_none, all_open, open_of, row_of, rows_all, rows_sent}
 use Rattle.osi_fair.proofs.a_dt_of_class_zero_passes.{unlike}
@@ -49,19 +49,12 @@ module _ (local : Local) (w : Whole) (f : Followed local w) (sane : IsSane w.tap
   abbrev after : Whole
   after = record w { end = t; put = w.put ++ units }
 
-  -- an open connection awaits no CC
-  none_asked : Linked n peer t → value_at n t.live ≡ Some asked → ⊥
-  none_asked h h2 = grind arith
-
   -- what awaits its CC now did so before
   was_asked : (m : ℕ) (b : Bool) → (m == n) ≡ b → value_at m t.live ≡ Some asked → value_at m w.end.live ≡ Some asked
-  was_asked m b e row = grind (arith, none_asked, eqb-true, unlike)
-
-  not_asked : (m : ℕ) → value_at m w.end.live ≡ Some asked → m ≡ n → ⊥
-  not_asked m row same = cc (sym here ∙ ap (λ (i : ℕ). value_at i w.end.live) (sym same) ∙ row)
+  was_asked m b e row = grind (arith, eqb-true, unlike)
 
   asked_still : (m : ℕ) → value_at m w.end.live ≡ Some asked → value_at m t.live ≡ Some asked
-  asked_still m row = rows m (not_asked m row) ∙ row
+  asked_still m row = rows m (grind arith) ∙ row
 
   new_row : (r q : ℕ) (line : Line) → r ≡ n → q ≡ peer → line.link ≡ link_now (value_at r t.live) → those r w.coming ≡ line.coming →
       Linked n peer t → Row local t w.coming r q line
@@ -130,12 +123,9 @@ module _ (local : Local) (w : Whole) (f : Followed local w) (sane : IsSane w.tap
       let g = f.lines p c at tracked in
       record { p = p; c = c; at = at; tracked = tracked; left = left; own = (grown_by p c at g (sym g.left ∙ left) g.row).own }
 
-  same_left : (p : ℕ) (c : Connection) → slice_get cs p ≡ Some c → (o : Owner w.tap n units) → p ≡ o.p → c.left.reference ≡ n
-  same_left p c at o same = grind (arith, item_is)
-
   put_other_peer : (p : ℕ) (c : Connection) → slice_get cs p ≡ Some c → is_tracked c ≡ true → (r q : ℕ) → c.right.reference ≡ q →
       (c.left.reference ≡ n → ⊥) → (o : Owner w.tap n units) → ours r q (w.put ++ units) ≡ ours r q w.put
-  put_other_peer p c at tracked r q right other o = search (arith, picked_join, is_ours, ours, none_ours, same_left, one_peer, append-nil)
+  put_other_peer p c at tracked r q right other o = search (arith, picked_join, is_ours, ours, none_ours, one_peer, append-nil)
 
   row_other : (r q : ℕ) (line : Line) → (r ≡ n → ⊥) → Row local w.end w.coming r q line → Row local t w.coming r q line
   row_other r q line other (asks there x source two early dcs first is) =
@@ -160,14 +150,8 @@ module _ (local : Local) (w : Whole) (f : Followed local w) (sane : IsSane w.tap
       Tracked cs m × (t.class ≡ Some Two)
   linked_by m q l b e h = grind (arith, eqb-true, unlike)
 
-  answered_so : IsAnswered w.end n
-  answered_so = grind (arith, given_by)
-
   puts : Puts w.tap w.end n units
-  puts = of_line owner answered_so
-
-  settled_here : IsAnswered w.end n → IsSettled cs (w.put ++ units) t.given n
-  settled_here a = grind (arith, asks, all_join, all_so, units_ask, puts)
+  puts = of_line owner (grind (arith, given_by))
 
   answer_now : (v : Value) → IsAnswer w.tap.course.loose cs w.end v → IsAnswer w.tap.course.loose cs t v
   answer_now v h m x e lasts (inl row) = ((h m x e was (inl (was_asked m (m == n) refl row))).0, row)
@@ -207,7 +191,7 @@ module _ (local : Local) (w : Whole) (f : Followed local w) (sane : IsSane w.tap
         (all_so (AreSettled cs w.put w.end.given) (AreSettled cs (w.put ++ units) t.given) w.put
         (settled_more cs w.put units w.end.given t.given (λ r. units_ask w.tap w.end n units (λ x. x.source ≡ r → ⊥) puts)
         (subst (λ (i : ℕ). w.end.given ≤ i) (sym given) (same_up w.end.given))) f.settled)
-        (units_settled w.tap w.end (w.put ++ units) t.given n units puts settled_here);
+        (units_settled w.tap w.end (w.put ++ units) t.given n units puts (grind (arith, asks, all_join, all_so, units_ask, puts)));
     lost = f.lost;
     shut = λ lasts i c at closed row. f.shut was i c at closed (was_asked c.left.reference (c.left.reference == n) refl row);
   }
@@ -238,23 +222,14 @@ module _ (local : Local) (w : Whole) (f : Followed local w) (sane : IsSane w.tap
   abbrev after_connects : Whole
   after_connects = record w { end = t; put = w.put ++ request x ∷ [] }
 
-  source_is : x.source ≡ r
-  source_is = source_so (proposes_two s.local) s.local s.class calling called r
-
   none_there : value_at r s.live ≡ None
   none_there = beyond r s.given s.live orderly.up_to (omega arith)
 
   rows_c : (m : ℕ) → (m ≡ r → ⊥) → value_at m t.live ≡ value_at m s.live
   rows_c m other = push_other m r asked s.live other
 
-  here_c : value_at r t.live ≡ Some asked
-  here_c = push_here r asked s.live none_there
-
-  live_c : (m : ℕ) (o : Live) → value_at m s.live ≡ Some o → m ≡ r → ⊥
-  live_c m o h same = cc (sym none_there ∙ ap (λ (i : ℕ). value_at i s.live) (sym same) ∙ h)
-
   asked_c : (m : ℕ) → value_at m s.live ≡ Some asked → value_at m t.live ≡ Some asked
-  asked_c m h = rows_c m (live_c m asked h) ∙ h
+  asked_c m h = rows_c m (grind (arith, none_there)) ∙ h
 
   row_c : (m q : ℕ) (line : Line) → (m ≡ r → ⊥) → Row local s w.coming m q line → Row local t w.coming m q line
   row_c m q line other (asks there y source two early dcs first is) =
@@ -263,21 +238,15 @@ module _ (local : Local) (w : Whole) (f : Followed local w) (sane : IsSane w.tap
   row_c m q line other (talks l there is come_all) = talks l (rows_c m other ∙ there) is come_all
   row_c m q line other (closes o there i h is come_all) = closes o (rows_c m other ∙ there) i h is come_all
 
-  not_new : (p : ℕ) (c : Connection) → slice_get w.tap.connections p ≡ Some c → (m : ℕ) → c.left.reference ≡ m → m ≡ r → ⊥
-  not_new p c at m is same = grind arith
-
   line_c : (p : ℕ) (c : Connection) → slice_get w.tap.connections p ≡ Some c →
       Following local w.put w.begun w.tap.course.strays s w.coming c →
       Following local (w.put ++ request x ∷ []) w.begun w.tap.course.strays t w.coming c
   line_c p c at g = followed_at g (picked_other (is_ours g.r g.peer) w.put (request x) refl) g.spares
-      (leads_more w.begun (is_ours g.r g.peer) w.put (request x ∷ []) f.some) (row_c g.r g.peer g.line (not_new p c at g.r g.left) g.row)
+      (leads_more w.begun (is_ours g.r g.peer) w.put (request x ∷ []) f.some) (row_c g.r g.peer g.line (grind arith) g.row)
 
   -- only a DC may have come for a reference that was not given
   dc_by : (v : Value) (b : Bool) → is_dc v ≡ b → AreGiven s.given v → destination_of v ≡ Some r → is_dc v ≡ true
   dc_by v b e h named = grind arith
-
-  early_come : AllByRecursion IsDc (those r w.coming)
-  early_come = grind (arith, each_picked, names, all_so, dc_by, is_dc, named_is)
 
   too_low : (source : ℕ) (y : Connect) → y.source ≡ r → y.source ≡ source → source ≤ s.given → ⊥
   too_low source y new same low = absurd (omega arith)
@@ -285,14 +254,15 @@ module _ (local : Local) (w : Whole) (f : Followed local w) (sane : IsSane w.tap
   -- no DC that is to pass has the new reference
   settled_c : (v : Value) → AreSettled w.tap.connections w.put s.given v →
       AreSettled w.tap.connections (w.put ++ request x ∷ []) t.given v
-  settled_c v h m source e = grind (arith, all_join, too_low, same_request, source_is)
+  settled_c v h m source e = grind (arith, all_join, too_low, same_request)
 
   linked_c : (m q : ℕ) (l : Standing) (b : Bool) → (m == r) ≡ b → value_at m t.live ≡ Some (linked q l) →
       Tracked w.tap.connections m × (s.class ≡ Some Two)
-  linked_c m q l b e h = grind (arith, here_c, eqb-true, rows_c, unlike)
+  linked_c m q l b e h = grind (arith, none_there, push_here, eqb-true, rows_c, unlike)
 
   new_asking : (y : Connect) → request x ≡ request y → IsAsking local t w.coming y
-  new_asking y e = grind (arith, asked_so, source_is, same_request, those, early_come, here_c)
+  new_asking y e =
+      grind (arith, asked_so, source_so, same_request, those, each_picked, names, all_so, dc_by, is_dc, named_is, none_there, push_here)
 
   -- no CC has come for the new reference
   answer_new : (v : Value) → IsAnswer w.tap.course.loose w.tap.connections s v → AreGiven s.given v → (m : ℕ) (y : Connect) →
@@ -346,7 +316,7 @@ module _ (local : Local) (w : Whole) (f : Followed local w) (sane : IsSane w.tap
         (λ m source e. absurd (cc e), tt);
     lost = f.lost;
     shut = λ lasts i c at closed row.
-        f.shut was i c at closed (sym (rows_c c.left.reference (not_new i c at c.left.reference refl)) ∙ row);
+        f.shut was i c at closed (sym (rows_c c.left.reference (grind arith)) ∙ row);
   }
 
 -- ---- any call

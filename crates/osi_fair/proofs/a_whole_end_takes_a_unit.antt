@@ -2,27 +2,26 @@
 -- For the law on a whole end.
 use Rattle.osi_fair.proofs.Vocabulary.{Right, arith, [], ap, Bool, false, inl, inr, is_some, List, None, Option, refl, Some, subst, sym}
 use Rattle.osi_fair.proofs.Vocabulary.{true, ℕ, ◌++◌, ◌∙◌, ◌∷◌, ◌≡◌, ◌≤◌, ◌⊎◌, ◌==◌, append-nil, AllByRecursion, slice_get, confirm}
-use Rattle.osi_fair.proofs.Vocabulary.{Connect, destination_of, disconnected, Value, Standing, Two, Local, changes_one, agreed_size}
-use Rattle.osi_fair.proofs.Vocabulary.{opened_link, IsOrderly, to_connection, to_unknown, value_at, asked, closing, Live, linked}
-use Rattle.osi_fair.proofs.Vocabulary.{Connection, Left, link_now, ignores, Line, put_at, put_for, Whole}
+use Rattle.osi_fair.proofs.Vocabulary.{Connect, disconnected, Value, Standing, Two, Local, changes_one, agreed_size, opened_link, IsOrderly}
+use Rattle.osi_fair.proofs.Vocabulary.{to_connection, value_at, asked, closing, Live, linked, Connection, Left, link_now, ignores, Line}
+use Rattle.osi_fair.proofs.Vocabulary.{put_at, put_for, Whole, without_here}
 use Rattle.std.proofs.lemmas.List.{append_assoc}
 unfoldable use Rattle.osi_carrier.specs.React.{react}
 use Rattle.osi_carrier.specs.State.{State}
-use Rattle.osi_fair.proofs.small_facts_that_many_lemmas_use.{differ, number_is as same_number, same_cc}
+use Rattle.osi_fair.proofs.small_facts_that_many_lemmas_use.{differ, number_is as same_number, number_is}
 use Rattle.osi_fair.proofs.a_carrier_follows_lines.{follows_open}
 use Rattle.osi_fair.proofs.a_request_of_a_whole_end_is_new.{unit_gives}
-use Rattle.osi_fair.proofs.each_connection_has_its_line.{followed_at, AreGiven, Followed, Following, IsAnswer, IsNoCc, IsSpare, Row}
-use Rattle.osi_fair.proofs.each_connection_has_its_line.{Tracked, asks, closes, is_tracked, over, talks, tracks_keep, tracks_on}
-use Rattle.osi_fair.proofs.what_a_calling_end_still_has.{OffersTwo, Selects, SelectsTwo, unit_after}
+use Rattle.osi_fair.proofs.each_connection_has_its_line.{followed_at, Followed, Following, IsAnswer, IsNoCc, IsSpare, Row, Tracked, asks}
+use Rattle.osi_fair.proofs.each_connection_has_its_line.{closes, is_tracked, over, talks, tracks_keep, tracks_on}
+use Rattle.osi_fair.proofs.what_a_calling_end_still_has.{OffersTwo, SelectsTwo, unit_after}
 use Rattle.osi_fair.proofs.what_a_whole_end_takes.{Puts, all_join, leads_more, nothing, of_line, of_none, taken_so}
 use Rattle.osi_fair.proofs.names_stay_apart_though_one_is_lost.{AreNamedApart}
 use Rattle.osi_fair.proofs.what_the_other_side_closes.{IsDr, IsSane, closed_by}
 use Rattle.osi_fair.proofs.which_units_are_for_a_connection.{AllOurs, all_ours, picked_first, is_dc, is_ours, last_ours, named_so, names}
 use Rattle.osi_fair.proofs.which_units_are_for_a_connection.{picked_more, picked_other, ours, ours_is, picked_join, those}
-use Rattle.osi_fair.proofs.what_a_unit_leaves_at_a_calling_end.{Asks, Closes, Kind, Linked, Named, asked_so, by_number, closing_so, dc_is}
-use Rattle.osi_fair.proofs.what_a_unit_leaves_at_a_calling_end.{dc_stays, disconnects, dr_closes, drops, early_dc, early_parts, ends}
-use Rattle.osi_fair.proofs.what_a_unit_leaves_at_a_calling_end.{given_by, kind_of, linked_so, named_by, no_answer, no_disconnect, not_open}
-use Rattle.osi_fair.proofs.what_a_unit_leaves_at_a_calling_end.{opened, or_strays, spare_none, stays, still, unknown_puts, unknown_so}
+use Rattle.osi_fair.proofs.what_a_unit_leaves_at_a_calling_end.{Asks, Closes, Linked, Named, asked_so, dr_closes, drops, early_dc}
+use Rattle.osi_fair.proofs.what_a_unit_leaves_at_a_calling_end.{early_parts, ends, given_by, linked_so, named_by, no_answer, opened}
+use Rattle.osi_fair.proofs.what_a_unit_leaves_at_a_calling_end.{or_strays, spare_none, stays, still, unknown_so}
 use Rattle.osi_fair.proofs.what_is_live_at_a_called_end.{IsLive}
 
 none_first : (xs ys : List Value) → xs ++ ys ≡ [] → xs ≡ []
@@ -56,10 +55,7 @@ module _ (local : Local) (w : Whole) (f : Followed local w) (sane : IsSane w.tap
   after = record w { end = t; put = w.put ++ units; coming = later }
 
   rows : (m : ℕ) → (m ≡ n → ⊥) → value_at m t.live ≡ value_at m s.live
-  rows m other = (changes_one u s lasts).others m (λ e. other (e ∙ by_number s.class u s n offers.class k.dest))
-
-  class_so : s.class ≡ Some Two → t.class ≡ Some Two
-  class_so = (unit_after u s offers selects).class
+  rows m other = (changes_one u s lasts).others m (λ e. other (e ∙ (grind arith)))
 
   first_n : (r : ℕ) → r ≡ n → those r w.coming ≡ u ∷ those n later
   first_n r same = grind (arith, picked_first, named_so)
@@ -72,14 +68,14 @@ module _ (local : Local) (w : Whole) (f : Followed local w) (sane : IsSane w.tap
   MineLinked = (peer : ℕ) (link : Standing) → value_at n t.live ≡ Some (linked peer link) → Tracked cs n × (t.class ≡ Some Two)
 
   asked_dc : is_dc u ≡ true → value_at n s.live ≡ Some asked → value_at n t.live ≡ Some asked
-  asked_dc dc here = grind (arith, dc_stays)
+  asked_dc dc here = grind arith
 
   -- as it takes the unit it begins to await no CC
   abbrev AskedBefore : Type 0
   AskedBefore = value_at n t.live ≡ Some asked → value_at n s.live ≡ Some asked
 
   all : AskedBefore → Mine → MineLinked → Puts w.tap s n units → Followed local after
-  all asked_was mine linked_mine owner = search (arith, taken_so, rows, class_so, unit_gives, asked_dc)
+  all asked_was mine linked_mine owner = search (arith, taken_so, rows, unit_after u s offers selects, unit_gives, asked_dc)
 
   not_asked : (o : Option Live) → value_at n t.live ≡ o → (o ≡ Some asked → ⊥) → AskedBefore
   not_asked o there none h = absurd (none (sym there ∙ h))
@@ -126,8 +122,8 @@ module _ (local : Local) (w : Whole) (f : Followed local w) (sane : IsSane w.tap
       value_at n t.live ≡ new → (q : ℕ) → (new ≡ Some (closing q)) ⊎ (new ≡ None) → (c : Connection)
       (g : Following local w.put w.begun strays s w.coming c) → g.r ≡ n → Row local s w.coming g.r g.peer g.line →
       Following local (w.put ++ units) w.begun strays t later c
-  closed_row spares old new here p a there q b c g same (asks r x source two early dcs first is) = grind (arith, not_open)
-  closed_row spares old new here p a there q b c g same (talks link r is come_all) = grind (arith, not_open)
+  closed_row spares old new here p a there q b c g same (asks r x source two early dcs first is) = grind arith
+  closed_row spares old new here p a there q b c g same (talks link r is come_all) = grind arith
   closed_row spares old new here p a there q b c g same (over h) = differ (is_some s.ended) h (ap is_some was)
   closed_row spares old new here p a there q b c g same (closes o r i h gone come_all) =
       let (more, (puts, all_spare)) = spares g.r g.peer same in
@@ -147,7 +143,7 @@ module _ (local : Local) (w : Whole) (f : Followed local w) (sane : IsSane w.tap
         disconnected m n ∷ [],
         (
           ap (λ (l : List Value). ours r peer (w.put ++ l)) is ∙ picked_more (is_ours r peer) w.put (disconnected m n) h,
-          (record { is = dc_is m n r peer named same; strays = stray_now }, tt),
+          (record { is = grind (arith, number_is); strays = stray_now }, tt),
         ),
       )
   dc_by m is stray_now r peer same false h = grind (arith, ours, picked_other, is_ours, append-nil)
@@ -166,28 +162,14 @@ module _ (local : Local) (w : Whole) (f : Followed local w) (sane : IsSane w.tap
   no_dr : value_at n s.live ≡ None → (IsDr u → ⊥) → Followed local after
   no_dr here not_dr =
       let same = unknown_so u s t n k.dest (k.is ∙ ap (λ (o : Option Live). to_connection n o u s) here) lasts not_dr in
-      let none = k.puts ∙ ap (λ (o : Option Live). put_at n o u s.class) here ∙ unknown_puts u n s.class not_dr in
+      let none = k.puts ∙ ap (λ (o : Option Live). put_at n o u s.class) here ∙ (grind arith) in
       let there : value_at n t.live ≡ None = ap (λ (x : State). value_at n x.live) same ∙ here in
       all (not_asked None there (λ e. cc e))
       (λ p c at tracked g is. closed_row (no_spares none) None None here 0 (inr refl) there 0 (inr refl) c g is g.row)
       (λ peer link h. absurd (cc (sym there ∙ h))) (nothing none)
 
-  by_dr : Kind u → value_at n s.live ≡ None → Followed local after
-  by_dr (no_disconnect not_dr) here = no_dr here not_dr
-  by_dr (disconnects d m reason user e) here =
-      let dr : IsDr u = subst IsDr (sym e) tt in
-      let same : d ≡ n = same_number d n (sym (ap destination_of e) ∙ k.dest) in
-      let puts : units ≡ disconnected m n ∷ [] = k.puts ∙ ap (λ (o : Option Live). put_at n o u s.class) here
-      ∙ ap (λ (v : Value). put_at n None v s.class) e ∙ ap (λ (i : ℕ). disconnected m i ∷ []) same in
-      let there : value_at n t.live ≡ None =
-      ap (λ (x : State). value_at n x.live) (k.is ∙ ap (λ (o : Option Live). to_connection n o u s) here
-      ∙ ap (λ (v : Value). to_unknown v s) e) ∙ here in
-      let known = (subst (AllByRecursion (AreGiven s.given)) come f.few).0 (ap is_dc e) n k.dest in
-      answered m here puts there known
-      (or_strays (value_at n s.live) here (live_dr dr n (dr_closes u n dr k.dest)))
-
   at_gone : value_at n s.live ≡ None → Followed local after
-  at_gone here = by_dr (kind_of u) here
+  at_gone here = grind (arith, no_dr, same_number, is_dc, answered, or_strays, dr_closes)
 
   by_closing : (q : ℕ) → value_at n s.live ≡ Some (closing q) → units ≡ [] → Closes n q s t → Followed local after
   by_closing q here none (stays same) =
@@ -204,7 +186,7 @@ module _ (local : Local) (w : Whole) (f : Followed local w) (sane : IsSane w.tap
   at_closing : (q : ℕ) → value_at n s.live ≡ Some (closing q) → Followed local after
   at_closing q here =
       by_closing q here (k.puts ∙ ap (λ (o : Option Live). put_at n o u s.class) here)
-      (closing_so n q u s t orderly.rise (k.is ∙ ap (λ (o : Option Live). to_connection n o u s) here))
+      (grind (arith, without_here))
 
   -- ---- its CC
 
@@ -219,7 +201,7 @@ module _ (local : Local) (w : Whole) (f : Followed local w) (sane : IsSane w.tap
   opened_row none x e here there c g same (asks r y source two early dcs first is) =
       let (first_so, coming) = (early_parts early u (confirm g.r y) (those n later) g.line.coming dcs (sym (first_n g.r same) ∙ first)).1
       (ap is_dc e) in
-      let x_is : x ≡ y = same_cc n g.r x y (sym e ∙ first_so) in
+      let x_is : x ≡ y = grind arith in
       let link_is : (l : Local) → l ≡ local → linked x.source (opened_link Two (agreed_size x.parameters.size l) l x.credit)
       ≡ linked g.peer (opened_link Two (agreed_size y.parameters.size local) local y.credit) = λ l h.
       ap (λ (m : Local). linked x.source (opened_link Two (agreed_size x.parameters.size m) m x.credit)) h
@@ -252,9 +234,6 @@ module _ (local : Local) (w : Whole) (f : Followed local w) (sane : IsSane w.tap
   head_answer here x e =
       ((subst (AllByRecursion (λ (v : Value). IsAnswer w.tap.course.loose cs s v)) come f.answers).0 n x e was (inl here)).0
 
-  head_selects : value_at n s.live ≡ Some asked → Selects u
-  head_selects here m x e = grind (arith, same_number)
-
   by_asked : value_at n s.live ≡ Some asked → units ≡ [] → Asks n u s t → Followed local after
   by_asked here none (opened x e there two) =
       all (λ h. here)
@@ -269,7 +248,7 @@ module _ (local : Local) (w : Whole) (f : Followed local w) (sane : IsSane w.tap
   at_asked : value_at n s.live ≡ Some asked → Followed local after
   at_asked here =
       by_asked here (k.puts ∙ ap (λ (o : Option Live). put_at n o u s.class) here)
-      (asked_so n u s t offers (head_selects here) orderly.rise here k.dest
+      (asked_so n u s t offers (grind (arith, same_number)) orderly.rise here k.dest
       (k.is ∙ ap (λ (o : Option Live). to_connection n o u s) here) lasts)
 
   -- ---- an open connection
@@ -350,7 +329,7 @@ module _ (local : Local) (w : Whole) (f : Followed local w) (sane : IsSane w.tap
       let mine = grown_by peer link here two p c at g (sym g.left ∙ left) g.row in
       all (still_open (linked_so n peer link u s t here two orderly.rise (k.is ∙ ap (λ (o : Option Live). to_connection n o u s) here)))
       (λ i x there is_there h same. (grown_by peer link here two i x there h same h.row).grown)
-      (λ q l h. ((p, c, at, tracked, left), class_so two))
+      (λ q l h. ((p, c, at, tracked, left), grind (arith, unit_after)))
       (of_line (record { p = p; c = c; at = at; tracked = tracked; left = left; own = mine.own })
       (record { up = given_by n s.given s.live (linked peer link) orderly.up_to here; row = λ h. absurd (cc (sym here ∙ h)) }))
 
@@ -371,7 +350,7 @@ end_takes local w f sane peers offers orderly local_is was u later come lasts li
 module _ (local : Local) (w : Whole) (u : Value) (later : List Value) (come : w.coming ≡ u ∷ later) (lasts : w.end.ended ≡ None) (m : ℕ)
     (x : Connect) (e : u ≡ confirm m x) (row : value_at m w.end.live ≡ Some asked) where
   two_by : (r peer : ℕ) (line : Line) → r ≡ m → Row local w.end w.coming r peer line → (x.class == 2) ≡ true
-  two_by r peer line same h = grind (arith, differ, named_so, those, picked_first, names, early_parts, is_dc, same_cc)
+  two_by r peer line same h = grind (arith, differ, named_so, those, picked_first, names, early_parts, is_dc)
 
 -- it selects class 2
 pub next_selects : (local : Local) (w : Whole) → Followed local w → (u : Value) (later : List Value) → w.coming ≡ u ∷ later →

@@ -1,13 +1,11 @@
 -- While no side has broken a rule for which a connection is not judged any more, each is judged, and a name has one place.
 -- For the law on places.
 use Rattle.osi_fair.proofs.Vocabulary.{arith, [], ap, Bool, false, if◌then◌else◌, List, None, Option, refl, Some, sym, true, ℕ, ◌∙◌, ◌∷◌}
-use Rattle.osi_fair.proofs.Vocabulary.{◌≡◌, position_or_len, position, slice_get, Connect, request, Value, is_applied, reach_of}
-use Rattle.osi_fair.proofs.Vocabulary.{first_failed, begins, is_live, is_named, asked_by, asks_by, asks_kept, asks_of, at_found, at_place}
-use Rattle.osi_fair.proofs.Vocabulary.{class_for, connection_after, course_after, course_after_none, course_begins, found_on, fresh}
-use Rattle.osi_fair.proofs.Vocabulary.{is_stopped, judged_on, none_told, one_told, Outcome, reached, refused_reach, request_tests, route}
-use Rattle.osi_fair.proofs.Vocabulary.{routed, Traffic as State, unnamed_told, Connection, Course, Direction, Finding, NotJudged, Reach}
-use Rattle.osi_fair.proofs.Vocabulary.{Half, Route, Asks, Named, Only, Unnamed, all_passed, packet, passes, Passing, rubbish, unit}
-use Rattle.osi_rules.specs.Sides.{sends}
+use Rattle.osi_fair.proofs.Vocabulary.{◌≡◌, position_or_len, position, slice_get, Connect, Value, is_applied, reach_of, begins, is_live}
+use Rattle.osi_fair.proofs.Vocabulary.{is_named, asked_by, asks_by, asks_kept, at_place, class_for, connection_after, course_after}
+use Rattle.osi_fair.proofs.Vocabulary.{found_on, fresh, is_stopped, none_told, one_told, Outcome, reached, route, routed, Traffic as State}
+use Rattle.osi_fair.proofs.Vocabulary.{unnamed_told, Connection, Course, Direction, Finding, NotJudged, Reach, Route, Asks, Named, Only}
+use Rattle.osi_fair.proofs.Vocabulary.{Unnamed, all_passed, packet, passes, Passing, rubbish, unit}
 use Rattle.osi_fair.proofs.small_facts_that_many_lemmas_use.{begins_judged, sized_judged}
 use Rattle.osi_fair.proofs.what_holds_of_one_item.{HoldsOfEach, each_add, each_map, each_set, first_true}
 use Rattle.osi_fair.proofs.a_reference_names_one_connection.{names_one, no_item}
@@ -21,40 +19,23 @@ IsJudged c = c.is_judged ≡ true
 abbrev pub AreJudged : State → Type 0
 AreJudged s = s.course.loose ≡ false → HoldsOfEach IsJudged s.connections
 
--- it was so before that
-was_firm : (d : Direction) (r : Reach) (c : Course) → (reached d r c).loose ≡ false → c.loose ≡ false
-was_firm d r c h = grind arith
-
-none_firm : (v : Value) (c : Course) → (course_after_none v c).loose ≡ c.loose
-none_firm v c = grind arith
-
 after_firm : (d : Direction) (c : Connection) (v : Value) (applied : Bool) (course : Course) →
     (course_after d c v applied course).loose ≡ course.loose
 after_firm d c v applied course = grind arith
 
-begun_firm : (d : Direction) (c : Course) → (course_begins d c).loose ≡ c.loose
-begun_firm d c = grind arith
-
 -- ---- a connection that is judged still is
-
-sends_judged : (d : Direction) (half : Half) (c : Connection) → (sends d half c).is_judged ≡ c.is_judged
-sends_judged d half c = grind arith
-
-reach_judged : (d : Direction) (r : Reach) (course : Course) (c : Connection) → (reached d r course).loose ≡ false →
-    (judged_on r c).is_judged ≡ c.is_judged
-reach_judged d r course c h = grind arith
 
 after_judged : (d : Direction) (v : Value) (applied : Bool) (r : Reach) (course : Course) (c : Connection) →
     (reached d r course).loose ≡ false → (connection_after d v applied r c).is_judged ≡ c.is_judged
-after_judged d v applied r course c h = grind (arith, reach_judged, sized_judged, sends_judged)
+after_judged d v applied r course c h = grind (arith, sized_judged)
 
 -- ---- by the way that a unit takes
 
 to_none : (d : Direction) (f : Finding) (s : State) → AreJudged s → AreJudged (none_told d f s).state
-to_none d f s a h = a (was_firm d (reach_of (class_for d s.course) f) s.course h)
+to_none d f s a h = a (grind arith)
 
 to_unnamed : (d : Direction) (v : Value) (s : State) → AreJudged s → AreJudged (unnamed_told d v s).state
-to_unnamed d v s a h = grind (arith, none_firm, was_firm)
+to_unnamed d v s a h = search arith
 
 to_one : (d : Direction) (p : ℕ) (c : Connection) (v : Value) (s : State) → slice_get s.connections p ≡ Some c → AreJudged s →
     AreJudged (one_told d p c v s).state
@@ -62,18 +43,13 @@ to_one d p c v s at a h =
     let applied = is_applied (found_on d s c v) in
     let how_far = reach_of (class_for d s.course) (found_on d s c v) in
     let course = course_after d c v applied s.course in
-    let was = a (sym (after_firm d c v applied s.course) ∙ was_firm d how_far course h) in
+    let was = a (sym (after_firm d c v applied s.course) ∙ (grind arith)) in
     each_set IsJudged s.connections p (connection_after d v applied how_far c) was
     (after_judged d v applied how_far course c h ∙ was p c at)
 
-by_item : (d : Direction) (v : Value) (s : State) (p : ℕ) (c : Option Connection) → slice_get s.connections p ≡ c → AreJudged s →
-    AreJudged (at_found d v s p c).state
-by_item d v s p None at a = to_unnamed d v s a
-by_item d v s p (Some c) at a = to_one d p c v s at a
-
 by_place : (d : Direction) (v : Value) (s : State) (p : Option ℕ) → AreJudged s → AreJudged (at_place d v s p).state
 by_place d v s None a = to_unnamed d v s a
-by_place d v s (Some p) a = by_item d v s p (slice_get s.connections p) refl a
+by_place d v s (Some p) a = grind (arith, to_unnamed, to_one)
 
 placed_judged : (x : Connect) (s : State) (p : Option ℕ) → AreJudged s → AreJudged (asks_kept x s p).state
 placed_judged x s (Some p) a h = each_set IsJudged s.connections p (asked_by x) (a h) refl
@@ -82,12 +58,8 @@ placed_judged x s None a h = each_add IsJudged s.connections (asked_by x) (a h) 
 asking : (d : Direction) (f : Finding) (x : Connect) (s : State) → AreJudged s → AreJudged (asks_by d f x s).state
 asking d f x s a = search (arith, placed_judged, to_none)
 
-asks : (d : Direction) (v : Value) (s : State) → AreJudged s → AreJudged (asks_of d v s).state
-asks d (request x) s a = asking d (first_failed (request_tests s x)) x s a
-asks d _ s a = to_none d NotJudged s a
-
 by_route : (d : Direction) (v : Value) (s : State) (r : Route) → AreJudged s → AreJudged (routed d v s r).state
-by_route d v s Asks a = asks d v s a
+by_route d v s Asks a = grind (arith, asking, to_none)
 by_route d v s (Named n) a = by_place d v s (position (is_named d n) s.connections) a
 by_route d v s Only a = by_place d v s (position (is_live d) s.connections) a
 by_route d v s (Unnamed finding) a = to_none d finding s a
@@ -101,10 +73,10 @@ if_judged true d v s r a = to_none d NotJudged s a
 if_judged false d v s r a = by_route d v s r a
 
 pub still_judged : (passing : Passing) (s : State) → AreJudged s → AreJudged (passes passing s)
-still_judged (packet d) s a h = each_map IsJudged (begins d) s.connections (a (sym (begun_firm d s.course) ∙ h))
+still_judged (packet d) s a h = each_map IsJudged (begins d) s.connections (a (sym (grind arith) ∙ h))
     (λ c j. begins_judged d c ∙ j)
 still_judged (unit d v) s a h = if_judged (is_stopped d s.course) d v s (route d s.course v) a h
-still_judged (rubbish d) s a h = a (was_firm d (refused_reach d s) s.course h)
+still_judged (rubbish d) s a h = a (grind arith)
 
 pub all_judged : (ps : List Passing) (s : State) → AreJudged s → AreJudged (all_passed ps s)
 all_judged [] s a = a

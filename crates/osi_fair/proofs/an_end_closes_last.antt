@@ -1,20 +1,15 @@
 -- An end puts nothing on a connection after the unit that closes it, and the other side keeps its reference.
 -- For the law of that name.
-use Rattle.osi_fair.proofs.Vocabulary.{arith}
-use Rattle.osi_fair.proofs.Vocabulary.{[], List, Option, true, ℕ, ◌≡◌, ◌≢◌, Value, Standing, is_open, own, theirs}
-use Rattle.osi_fair.proofs.Vocabulary.{Direction, Left, Right, Half, Phase, Act, ActsAlong, IsOpened, Line}
-use Rattle.osi_fair.proofs.what_holds_of_a_line.{Holds, OpenIfAny, PutsAt, Tally}
-use Rattle.osi_fair.proofs.an_open_end_is_fair.{all_keep, all_turned, opened_holds, opened_turned, turned_line}
+use Rattle.osi_fair.proofs.Vocabulary.{arith, [], List, true, ℕ, ◌≡◌, ◌≢◌, Value, is_open, own, theirs, Direction, Left, Right, Phase, Act}
+use Rattle.osi_fair.proofs.Vocabulary.{ActsAlong, IsOpened, Line}
+use Rattle.osi_fair.proofs.what_holds_of_a_line.{Holds, OpenIfAny}
+use Rattle.osi_fair.proofs.an_open_end_is_fair.{all_keep, all_turned, opened_holds, turned_line}
 
 open_if : (put : List Value) (phase : Phase) → OpenIfAny put phase → put ≢ [] → is_open phase ≡ true
 open_if put phase h some = grind arith
 
-open_at : (r peer limit : ℕ) (x : Tally) (mine theirs : Half) (put : List Value) (link : Option Standing) →
-    PutsAt r peer limit x mine theirs put link → put ≢ [] → is_open mine.phase ≡ true
-open_at r peer limit x mine theirs put link h some = grind (arith, open_if)
-
 holds_open : (r peer : ℕ) (line : Line) → Holds r peer line → line.put ≢ [] → is_open line.tap.left.phase ≡ true
-holds_open r peer line h some = open_at r peer h.limit h.tally line.tap.left line.tap.right line.put line.link h.puts some
+holds_open r peer line h some = grind (arith, open_if)
 
 pub left_holds : (r peer : ℕ) (begin line : Line) (acts : List Act) → IsOpened Left r peer begin → ActsAlong Left r peer begin acts line →
     line.tap.is_judged ≡ true → Holds r peer line
@@ -24,7 +19,7 @@ pub right_holds : (r peer : ℕ) (begin line : Line) (acts : List Act) → IsOpe
     ActsAlong Right r peer begin acts line →
     line.tap.is_judged ≡ true → Holds r peer (turned_line line)
 right_holds r peer begin line acts o along judged =
-    all_turned r peer acts begin line along (λ _. opened_holds r peer (turned_line begin) (opened_turned r peer begin o)) judged
+    all_turned r peer acts begin line along (λ _. opened_holds r peer (turned_line begin) (grind arith)) judged
 
 pub waits_open : (d : Direction) (r peer : ℕ) (begin line : Line) (acts : List Act) → IsOpened d r peer begin →
     ActsAlong d r peer begin acts line → line.tap.is_judged ≡ true → line.put ≢ [] → is_open (own d line.tap).phase ≡ true

@@ -1,32 +1,28 @@
 -- An open end of class 2 is fair, over every list of what happens to it and to the tap: at left, and then at right, which is left
 -- with the sides of the tap exchanged.
 -- For the law of that name.
-use Rattle.osi_fair.proofs.Vocabulary.{[], ap, arith, Bool, false, IfSome, inl, inr, List, Option, refl, Some, subst}
-use Rattle.osi_fair.proofs.Vocabulary.{sym, true, ℕ, ◌+◌, ◌-◌, ◌∙◌, ◌∷◌, ◌≡◌, ◌≤◌, ◌⊎◌, Value, fresh_two}
-use Rattle.osi_fair.proofs.Vocabulary.{Standing, two_standing, Two, is_applied, reach_of, is_open, other, connection_after, found}
-use Rattle.osi_fair.proofs.Vocabulary.{judged_on, sent_on, Connection, Course, Direction, Left, Right, Finding, Broke, Kept}
+use Rattle.osi_fair.proofs.Vocabulary.{[], ap, arith, Bool, inl, inr, List, Option, refl, Some, subst, sym, true, ℕ, ◌-◌, ◌∙◌, ◌∷◌, ◌≡◌}
+use Rattle.osi_fair.proofs.Vocabulary.{◌⊎◌, Value, fresh_two, Standing, two_standing, Two, is_applied, reach_of, is_open, other}
+use Rattle.osi_fair.proofs.Vocabulary.{connection_after, found, sent_on, Connection, Course, Direction, Left, Right, Finding, Broke, Kept}
 use Rattle.osi_fair.proofs.Vocabulary.{Reach, Half, Act, Acts, ActsAlong, after_finding, answers, begins_elsewhere, closes_with as closes}
 use Rattle.osi_fair.proofs.Vocabulary.{ignores, IsFair, IsOpened, IsRightNow, Line, moves}
 use Rattle.osi_rules.specs.declared.findings.Rule.TheVariants as rule
 use Rattle.osi_fair.specs.Lines.{begins_own, passes_own, begins_other, passes_other}
 use Rattle.osi_fair.proofs.what_holds_of_a_line.{Holds, PutsAt, TakesAt, Tally, is_there}
-use Rattle.osi_fair.proofs.what_an_end_does_to_a_line.{moves_hold, closes_hold, ignores_hold, answers_hold}
-use Rattle.osi_fair.proofs.what_passes_of_an_end.{begins_own_holds, begins_other_holds, elsewhere_holds, first_is, is_kept}
-use Rattle.osi_fair.proofs.what_passes_of_an_end.{passes_own_holds}
+use Rattle.osi_fair.proofs.what_an_end_does_to_a_line.{moves_hold, closes_hold, answers_hold}
+use Rattle.osi_fair.proofs.what_passes_of_an_end.{begins_other_holds, first_is, is_kept, passes_own_holds}
 use Rattle.osi_fair.proofs.what_each_unit_of_the_other_side_does.{passes_other_holds}
 use Rattle.osi_fair.proofs.Vocabulary.{if◌then◌else◌, finding_of}
+use Rattle.osi_fair.proofs.what_begins_to_pass_is_right.{begins_right}
 
 -- ---- a connection that is judged was judged before
 
 sent_judged : (d : Direction) (v : Value) (c : Connection) → (sent_on d v c).is_judged ≡ c.is_judged
 sent_judged d v c = grind arith
 
-pub on_judged : (r : Reach) (c : Connection) → (judged_on r c).is_judged ≡ true → c.is_judged ≡ true
-on_judged r c h = grind arith
-
 judged_before : (d : Direction) (v : Value) (a : Bool) (r : Reach) (c : Connection) → (connection_after d v a r c).is_judged ≡ true →
     c.is_judged ≡ true
-judged_before d v a r c h = grind (arith, sent_judged, on_judged)
+judged_before d v a r c h = grind (arith, sent_judged)
 
 was_judged : (d : Direction) (f : Finding) (v : Value) (c : Connection) → (after_finding d f v c).is_judged ≡ true → c.is_judged ≡ true
 was_judged d f v c h = judged_before d v (is_applied f) (reach_of (Some Two) f) c h
@@ -42,15 +38,15 @@ act_keeps r peer (moves move) old new (link, after, is, e, short, coming, new_is
     (h (sym (ap (λ (l : Line). l.tap.is_judged) new_is) ∙ judged))
 act_keeps r peer (closes reason units) old new (link, is, coming, new_is) h judged =
     closes_hold r peer reason units old new (link, is, coming, new_is) (h (sym (ap (λ (l : Line). l.tap.is_judged) new_is) ∙ judged))
-act_keeps r peer (ignores units) old new (none, coming, new_is) h judged = grind (arith, ignores_hold)
+act_keeps r peer (ignores units) old new (none, coming, new_is) h judged = grind arith
 act_keeps r peer (answers unit) old new (link, is, dr, coming, new_is) h judged =
     answers_hold r peer unit old new (link, is, dr, coming, new_is) (h (sym (ap (λ (l : Line). l.tap.is_judged) new_is) ∙ judged))
-act_keeps r peer begins_own old new (some, idle, new_is) h judged = grind (arith, begins_own_holds)
+act_keeps r peer begins_own old new (some, idle, new_is) h judged = grind (arith, begins_right)
 act_keeps r peer (passes_own course in_use) old new (unit, first, begun, new_is) h judged =
     let still = sym (ap (λ (l : Line). l.tap.is_judged) new_is) ∙ judged in
     let was = was_judged Left (finding_of Left course in_use old.tap unit) unit old.tap still in
     passes_own_holds r peer course in_use old new (unit, first, begun, new_is) was (h was)
-act_keeps r peer begins_elsewhere old new (idle, new_is) h judged = grind (arith, elsewhere_holds)
+act_keeps r peer begins_elsewhere old new (idle, new_is) h judged = grind arith
 act_keeps r peer begins_other old new new_is h judged = grind (arith, begins_other_holds)
 act_keeps r peer (passes_other course in_use unit) old new (range, named, some, new_is) h judged =
     grind (arith, was_judged, passes_other_holds)
@@ -60,9 +56,6 @@ all_keep r peer [] old new e h = subst (λ (l : Line). Keeps r peer l) (sym e) h
 all_keep r peer (act ∷ acts) old new (mid, a, more) h = all_keep r peer acts mid new more (act_keeps r peer act old mid a h)
 
 -- ---- as it begins
-
-fits_most : (o : Option ℕ) (size : ℕ) → 5 ≤ size → IfSome o (λ most. size ≤ most) → IfSome o (λ most. size - 5 + 5 ≤ most)
-fits_most o size h k = grind arith
 
 pub opened_holds : (r peer : ℕ) (line : Line) → IsOpened Left r peer line → Holds r peer line
 opened_holds r peer line o =
@@ -89,7 +82,7 @@ opened_holds r peer line o =
         own_reference = ap (λ (h : Half). h.reference) o.sent;
         reference = ap (λ (h : Half). h.reference) o.came;
         there = ap (λ (h : Half). is_there h.phase) o.came;
-        fits = fits_most line.tap.size o.size o.least o.most;
+        fits = grind arith;
       };
       puts = subst (λ (l : Option Standing). PutsAt r peer (o.size - 5) x line.tap.left line.tap.right line.put l) (sym o.link)
           (subst (λ (l : List Value). PutsAt r peer (o.size - 5) x line.tap.left line.tap.right l (Some begun_link)) (sym o.put)
@@ -127,15 +120,9 @@ turned c = record c { left = c.right; right = c.left; seen_by_left = c.seen_by_r
 abbrev pub turned_line : Line → Line
 turned_line line = record line { tap = turned line.tap }
 
-sent_turned : (d : Direction) (v : Value) (c : Connection) → turned (sent_on d v c) ≡ sent_on (other d) v (turned c)
-sent_turned d v c = grind arith
-
-on_turned : (r : Reach) (c : Connection) → turned (judged_on r c) ≡ judged_on r (turned c)
-on_turned r c = grind arith
-
 after_turned : (d : Direction) (v : Value) (a : Bool) (r : Reach) (c : Connection) →
     turned (connection_after d v a r c) ≡ connection_after (other d) v a r (turned c)
-after_turned d v a r c = grind (arith, on_turned, sent_turned)
+after_turned d v a r c = grind arith
 
 finding_turned : (d : Direction) (f : Finding) (v : Value) (c : Connection) →
     turned (after_finding d f v c) ≡ after_finding (other d) f v (turned c)
@@ -162,29 +149,14 @@ found_other : (course : Course) (in_use : Bool) (c : Connection) (v : Value) →
     ⊎ (found Left course in_use c v ≡ Broke rule.WrongForm)
 found_other course in_use c v = grind arith
 
-own_turned : (r peer : ℕ) (course : Course) (in_use : Bool) (old new : Line) → Acts Right r peer (passes_own course in_use) old new →
-    old.tap.is_judged ≡ true → Holds r peer (turned_line old) →
-    Acts Left r peer (passes_own course in_use) (turned_line old) (turned_line new)
-own_turned r peer course in_use old new k was h = grind (arith, first_is, kept_turned, is_kept, finding_turned)
-
-other_turned : (r peer : ℕ) (course : Course) (in_use : Bool) (unit : Value) (old new : Line) →
-    Acts Right r peer (passes_other course in_use unit) old new →
-    found Left course in_use old.tap unit ≡ found Right (turned_course course) in_use (turned old.tap) unit →
-    Acts Left r peer (passes_other (turned_course course) in_use unit) (turned_line old) (turned_line new)
-other_turned r peer course in_use unit old new h e = grind (arith, finding_turned)
-
--- a CC of the calling side: its connection is not judged any more
-not_judged : (c : Connection) (unit : Value) (f : Finding) → f ≡ Broke rule.WrongForm → (after_finding Left f unit c).is_judged ≡ false
-not_judged c unit f e = ap (λ (g : Finding). (after_finding Left g unit c).is_judged) e
-
 other_keeps : (r peer : ℕ) (course : Course) (in_use : Bool) (unit : Value) (old new : Line) →
     Acts Right r peer (passes_other course in_use unit) old new → Keeps r peer (turned_line old) →
     (found Left course in_use old.tap unit ≡ found Right (turned_course course) in_use (turned old.tap) unit)
     ⊎ (found Left course in_use old.tap unit ≡ Broke rule.WrongForm) → Keeps r peer (turned_line new)
 other_keeps r peer course in_use unit old new a h (inl e) judged =
     act_keeps r peer (passes_other (turned_course course) in_use unit) (turned_line old) (turned_line new)
-    (other_turned r peer course in_use unit old new a e) h judged
-other_keeps r peer course in_use unit old new (range, named, some, new_is) h (inr e) judged = grind (arith, was_judged, not_judged)
+    (grind (arith, finding_turned)) h judged
+other_keeps r peer course in_use unit old new (range, named, some, new_is) h (inr e) judged = grind (arith, was_judged)
 
 act_turned : (r peer : ℕ) (act : Act) (old new : Line) → Acts Right r peer act old new → Keeps r peer (turned_line old) →
     Keeps r peer (turned_line new)
@@ -201,7 +173,7 @@ act_turned r peer (passes_own course in_use) old new (unit, first, begun, new_is
     let still = sym (ap (λ (l : Line). l.tap.is_judged) new_is) ∙ judged in
     let was = was_judged Right (finding_of Right course in_use old.tap unit) unit old.tap still in
     act_keeps r peer (passes_own course in_use) (turned_line old) (turned_line new)
-    (own_turned r peer course in_use old new (unit, first, begun, new_is) was (h was)) h judged
+    (grind (arith, first_is, kept_turned, is_kept, finding_turned)) h judged
 act_turned r peer begins_elsewhere old new (idle, new_is) h judged = grind (arith, act_keeps)
 act_turned r peer begins_other old new new_is h judged =
     act_keeps r peer begins_other (turned_line old) (turned_line new) (ap turned_line new_is) h judged
@@ -212,13 +184,10 @@ pub all_turned : (r peer : ℕ) (acts : List Act) (old new : Line) → ActsAlong
 all_turned r peer [] old new e h = subst (λ (l : Line). Keeps r peer l) (sym (ap turned_line e)) h
 all_turned r peer (act ∷ acts) old new (mid, a, more) h = all_turned r peer acts mid new more (act_turned r peer act old mid a h)
 
-pub opened_turned : (r peer : ℕ) (line : Line) → IsOpened Right r peer line → IsOpened Left r peer (turned_line line)
-opened_turned r peer line o = search (arith)
-
 right_is_fair : (r peer : ℕ) (begin line : Line) (acts : List Act) → IsOpened Right r peer begin → ActsAlong Right r peer begin acts line →
     IsFair Right line
 right_is_fair r peer begin line acts o along begun judged =
-    let h = all_turned r peer acts begin line along (λ _. opened_holds r peer (turned_line begin) (opened_turned r peer begin o)) judged in
+    let h = all_turned r peer acts begin line along (λ _. opened_holds r peer (turned_line begin) (grind arith)) judged in
     right_turned line.tap line.put (h.under_way begun)
 
 pub open_is_fair : (d : Direction) (r peer : ℕ) (begin line : Line) (acts : List Act) → IsOpened d r peer begin →

@@ -15,7 +15,7 @@ use Rattle.osi_fair.proofs.what_holds_of_a_line.{Holds}
 use Rattle.osi_fair.proofs.what_holds_of_one_item.{HoldsOfEach, after_map}
 use Rattle.osi_fair.proofs.what_a_line_keeps_though_it_is_lost.{Keeps, line_keeps}
 use Rattle.osi_fair.proofs.what_is_put_before_the_cc_passes.{acts_join}
-use Rattle.osi_fair.proofs.which_units_are_for_a_connection.{IsDc, IsOf, close_waits, is_dc, is_ours, leads, ours, some_picked, those}
+use Rattle.osi_fair.proofs.which_units_are_for_a_connection.{IsDc, IsOf, close_waits, is_dc, is_ours, leads, ours, those, picked_first}
 
 -- ---- a line since its connection was opened
 
@@ -261,7 +261,7 @@ module _ (local : Local) (put : List Value) (strays : Bool) (end : State) (comin
   left_by false e l is = elsewhere (not_begun local put strays end coming c f l is) (λ first. e)
   left_by true e (v ∷ vs) is = begins_line v vs is e
   left_by true e [] is = elsewhere (not_begun local put strays end coming c f [] is) (λ first.
-      absurd (some_picked (is_ours f.r f.peer) put e (f.put_is ∙ ap (λ (l : List Value). l ++ f.spare) is ∙ first is)))
+      absurd (grind (arith, no_list, picked_first)))
 
   left_begins : Following local put true strays end coming (begins Left c)
   left_begins = left_by (leads (is_ours f.r f.peer) put) refl f.line.put refl
@@ -290,9 +290,6 @@ right_begins local put b strays end coming c f =
 course_strays : (d : Direction) (s : Traffic) → (packet_begins d s).course.strays ≡ s.course.strays
 course_strays d s = grind arith
 
-course_loose : (d : Direction) (s : Traffic) → (packet_begins d s).course.loose ≡ s.course.loose
-course_loose d s = grind arith
-
 -- if none has lost its judgement, none had
 pub why_before : {A : Type 0} (was is : Bool) → (is ≡ false → was ≡ false) → A ⊎ (is ≡ false) → A ⊎ (was ≡ false)
 why_before was is firm h = grind arith
@@ -303,13 +300,9 @@ tracked_begins d c = grind arith
 waiting_begins : (d : Direction) (c : Connection) → is_waiting (begins d c) ≡ is_waiting c
 waiting_begins d c = grind arith
 
-begun_seen : (d : Direction) (c : Connection) (r window : ℕ) → c.left ≡ opened_half r window → c.seen_by_right.next ≡ 0 →
-    (begins d c).seen_by_right.next ≡ 0
-begun_seen d c r window e h = grind arith
-
 waits_begun : (local : Local) (d : Direction) (end : State) (coming : List Value) (c : Connection) → Waiting local end coming c →
     Waiting local end coming (begins d c)
-waits_begun local d end coming c w = grind (arith, begun_left, begun_right, begun_seen)
+waits_begun local d end coming c w = grind (arith, begun_left, begun_right)
 
 tracked_at : (d : Direction) (cs : List Connection) (r : ℕ) → Tracked cs r → Tracked (map (begins d) cs) r
 tracked_at d cs r (p, c, at, tracked, is) = grind (arith, slice_get-map (begins d) cs p, tracked_begins d c, begun_left d c)
@@ -371,7 +364,7 @@ followed_begins local d w b some f k = record {
   answers = all_so (λ v. IsAnswer w.tap.course.loose w.tap.connections w.end v)
       (λ v. IsAnswer (packet_begins d w.tap).course.loose (map (begins d) w.tap.connections) w.end v) w.coming
       (λ v h n x e lasts why.
-      let (t, row) = h n x e lasts (why_before w.tap.course.loose (packet_begins d w.tap).course.loose (λ firm. sym (course_loose d w.tap)
+      let (t, row) = h n x e lasts (why_before w.tap.course.loose (packet_begins d w.tap).course.loose (λ firm. sym (grind arith)
       ∙ firm) why) in
       (tracked_at d w.tap.connections n t, row)) f.answers;
   requests = f.requests;

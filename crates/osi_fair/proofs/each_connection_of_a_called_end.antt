@@ -10,7 +10,7 @@ use Rattle.osi_fair.proofs.Vocabulary.{Traffic, Connection, Direction, Left, Rig
 use Rattle.osi_fair.proofs.Vocabulary.{opened_half, opened_line, Whole}
 use Rattle.osi_carrier.specs.State.{State}
 use Rattle.osi_fair.specs.Lines.{begins_other, begins_own}
-use Rattle.osi_fair.proofs.small_facts_that_many_lemmas_use.{begins_judged, begun_left, begun_right, course_class, no_list, or_last}
+use Rattle.osi_fair.proofs.small_facts_that_many_lemmas_use.{begins_judged, begun_left, begun_right, course_class, or_last}
 use Rattle.osi_fair.proofs.units_by_their_place.{Placed, first_at, units_at, values}
 use Rattle.osi_fair.proofs.what_holds_of_one_item.{after_map}
 use Rattle.osi_fair.proofs.what_is_live_at_a_called_end.{IsHeld, Timely}
@@ -282,21 +282,13 @@ module _ (local : Local) (shut : ℕ → Bool) (end : State) (coming mine asks :
   asked_begins : (d : Direction) (x : Connect) (c : Connection) → Asked x c → Asked x (begins d c)
   asked_begins d x c a = grind arith
 
-  answer_begins : (d : Direction) (b was : Bool) (c : Connection) → Answering local shut end coming mine was o c →
-      (b ≡ true → (begins d c).seen_by_right ≡ (begins d c).left) → Answering local shut end coming mine b o (begins d c)
-  answer_begins d b was c h seen = search (arith, asked_begins)
-
-  tap_begins : (d : Direction) (b : Bool) (c : Connection) (h : Running shut end coming mine b o c) →
-      record h.line { tap = begins d h.line.tap } ≡ record h.line { tap = begins d c }
-  tap_begins d b c h = ap (λ (e : Connection). record h.line { tap = begins d e }) h.tap
-
   other_begins_one : (b : Bool) (c : Connection) → Stand local shut end coming mine asks b o c → Stand local shut end coming mine asks b o
       (begins Left c)
   other_begins_one b c (comes x a none ask i) = comes x (asked_begins Left x c a) none ask i
   other_begins_one b c (refuses x a reason is none i seen) = refuses x (asked_begins Left x c a) reason is none i seen
-  other_begins_one b c (answers h none) = answers (answer_begins Left b b c h h.seen) none
+  other_begins_one b c (answers h none) = answers (grind (arith, asked_begins)) none
   other_begins_one b c (runs h none) =
-      runs (run_begins b c (begins Left c) begins_other h (record h.line { tap = begins Left c }, sym (tap_begins Left b c h), refl) refl
+      runs (run_begins b c (begins Left c) begins_other h (record h.line { tap = begins Left c }, sym (grind arith), refl) refl
       refl) none
   other_begins_one b c (past silent up none asks un off) = past silent up none asks un (off_left o c off)
 
@@ -305,17 +297,17 @@ module _ (local : Local) (shut : ℕ → Bool) (end : State) (coming mine asks :
       o (begins Right c)
   elsewhere_begins_one c (comes x a none ask i) = comes x (asked_begins Right x c a) none ask i
   elsewhere_begins_one c (refuses x a reason is none i seen) = refuses x (asked_begins Right x c a) reason is none i (λ h. refl)
-  elsewhere_begins_one c (answers h none) = answers (answer_begins Right false false c h (λ k. refl)) none
+  elsewhere_begins_one c (answers h none) = answers (grind (arith, asked_begins)) none
   elsewhere_begins_one c (runs h none) =
       runs (run_begins false c (begins Right c) begins_elsewhere h
-      (record h.line { tap = begins Right c }, (h.begun_is, sym (tap_begins Right false c h)), refl) refl refl) none
+      (record h.line { tap = begins Right c }, (h.begun_is, sym (grind arith)), refl) refl refl) none
   elsewhere_begins_one c (past silent up none asks un off) = past silent up none asks un off
 
   own_begins_one : (c : Connection) → mine ≢ [] → Stand local shut end coming mine asks false o c → Stand local shut end coming mine asks
       true o (begins Right c)
   own_begins_one c some (comes x a none ask i) = comes x (asked_begins Right x c a) none ask i
   own_begins_one c some (refuses x a reason is none i seen) = refuses x (asked_begins Right x c a) reason is none i (λ h. refl)
-  own_begins_one c some (answers h none) = answers (answer_begins Right true false c h (λ k. refl)) none
+  own_begins_one c some (answers h none) = answers (grind (arith, asked_begins)) none
   own_begins_one c some (runs h none) =
       let line = record h.line { begun = true; tap = begins Right c } in
       runs (record {
@@ -355,11 +347,8 @@ map_none d o e = grind arith
 course_strays : (d : Direction) (s : Traffic) → (packet_begins d s).course.strays ≡ s.course.strays
 course_strays d s = grind arith
 
-some_by : (v : Value) (vs l : List Value) → l ≡ v ∷ vs → l ≢ []
-some_by v vs l e = λ h. no_list v vs (sym e ∙ h)
-
 pub first_some : (p : ℕ) (ts : List Placed) → first_at p ts ≡ true → units_at p ts ≢ []
-first_some p ts h = grind (arith, some_by)
+first_some p ts h = grind arith
 
 module _ (local : Local) (w : Whole) (f : Called local w) where
   abbrev StandsBy : Bool → ℕ → Connection → Type 0

@@ -2,11 +2,10 @@
 -- For the law on requests.
 use Rattle.osi_fair.proofs.Vocabulary.{arith, [], ap, Bool, false, if◌then◌else◌, is_some, List, None, Option, refl, Some, subst, sym, true}
 use Rattle.osi_fair.proofs.Vocabulary.{ℕ, ◌++◌, ◌+◌, ◌∙◌, ◌∷◌, ◌≡◌, eq-eqb, not, ◌||◌, Connect, disconnect, disconnected, error, request}
-use Rattle.osi_fair.proofs.Vocabulary.{Value, Standing, lists, Class, Local, class_error, link_of, may_connect, open_link, or_else}
-use Rattle.osi_fair.proofs.Vocabulary.{room_error, sent_all, alternatives, proposal, proposal_by, proposes_two, before_class, to_connection}
-use Rattle.osi_fair.proofs.Vocabulary.{Rows, value_at, without, breaks, closes_call as closes, connects, sends, sends_all, user as by_user}
-use Rattle.osi_fair.proofs.Vocabulary.{user_does, UserCall, asked, Live as Connection, ends, EndReason, OpenError, Ended, NotCaller}
-use Rattle.osi_fair.proofs.Vocabulary.{offer_of, Offer, asks_with, put_at, put_before, put_by, put_for, put_together, MayCall}
+use Rattle.osi_fair.proofs.Vocabulary.{Value, Standing, lists, Local, class_error, link_of, may_connect, open_link, sent_all, alternatives}
+use Rattle.osi_fair.proofs.Vocabulary.{proposal, before_class, to_connection, Rows, value_at, breaks, closes_call as closes, connects}
+use Rattle.osi_fair.proofs.Vocabulary.{sends, sends_all, user as by_user, user_does, UserCall, asked, Live as Connection, ends, EndReason}
+use Rattle.osi_fair.proofs.Vocabulary.{OpenError, offer_of, Offer, asks_with, put_at, put_before, put_by, put_for, put_together, MayCall}
 unfoldable use Rattle.osi_carrier.specs.React.{react}
 use Rattle.osi_carrier.specs.State.{State}
 use Rattle.osi_fair.proofs.small_facts_that_many_lemmas_use.{and_second, differ, or_last}
@@ -58,9 +57,6 @@ over_takes unit s h = grind arith
 value_one : (r : ℕ) (s : State) → IsCalling (one r) s → value_at r s.live ≡ Some asked
 value_one r s is = grind (arith, eq-eqb)
 
-gone_one : (r : ℕ) (s : State) → IsCalling (one r) s → without r s.live ≡ []
-gone_one r s is = grind (arith, eq-eqb)
-
 -- it may ask again
 abbrev pub Again : State → State → Type 0
 Again s t = IsCalling [] t × (t.local ≡ s.local)
@@ -80,23 +76,18 @@ refusal_takes r (disconnect destination source reason user) s e is =
     refused_takes r (disconnect destination source reason user) s is
     (ap (λ (n : ℕ). put_at n (value_at n s.live) (disconnect destination source reason user) s.class) e) refl
     (ap (λ (n : ℕ). to_connection n (value_at n s.live) (disconnect destination source reason user) s) e)
-    (record { lasts = is.lasts; caller = is.caller; class = is.class; live = gone_one r s is }, refl)
+    (record { lasts = is.lasts; caller = is.caller; class = is.class; live = (grind (arith, eq-eqb)) }, refl)
 refusal_takes r (error destination cause) s e is =
     refused_takes r (error destination cause) s is
     (ap (λ (n : ℕ). put_at n (value_at n s.live) (error destination cause) s.class) e) refl
     (ap (λ (n : ℕ). to_connection n (value_at n s.live) (error destination cause) s) e)
-    (record { lasts = is.lasts; caller = is.caller; class = is.class; live = gone_one r s is }, refl)
+    (record { lasts = is.lasts; caller = is.caller; class = is.class; live = (grind (arith, eq-eqb)) }, refl)
 refusal_takes r _ s h is = absurd h
 
 -- ---- a call
 
--- the error of a request
-error_of : (caller gone : Bool) (e room : Option OpenError) →
-    (if not caller then Some NotCaller else (if gone then Some Ended else or_else e room)) ≡ None → (gone ≡ false) × (e ≡ None)
-error_of caller gone e room h = grind arith
-
 pub may_so : (s : State) → may_connect s ≡ None → (is_some s.ended ≡ false) × (class_error s.class s.live ≡ None)
-may_so s h = error_of s.is_caller (is_some s.ended) (class_error s.class s.live) (room_error s) h
+may_so s h = grind arith
 
 pub never : {A : Type 0} (e : OpenError) (o : Option OpenError) → o ≡ Some e → o ≡ None → A
 never e o h k = absurd (cc)
@@ -116,21 +107,9 @@ pub data Idle (call : UserCall) (s : State) : Type 0 where
 ended_over : (b : Bool) (reason : EndReason) (s : State) → is_some s.ended ≡ b → IsOver (if b then s else ends reason s)
 ended_over b reason s h = grind arith
 
-sends_none : (r : ℕ) (tsdu : List ℕ) (s : State) → NoneOpen s → Idle (sends r tsdu) s
-sends_none r tsdu s none = grind arith
-
-all_sends_none : (r : ℕ) (tsdus : List (List ℕ)) (s : State) → NoneOpen s → Idle (sends_all r tsdus) s
-all_sends_none r tsdus s none = let (a, b) = all_none r tsdus s none in same a b refl
-
-closes_none : (r reason : ℕ) (s : State) → NoneOpen s → Idle (closes r reason) s
-closes_none r reason s none = grind arith
-
-breaks_none : (reason : EndReason) (s : State) → Idle (breaks reason) s
-breaks_none reason s = broke (ended_over (is_some s.ended) reason s refl) refl refl
-
 -- a call for a connection is not accepted
 idle_call : (call : UserCall) (s : State) → NoneOpen s → (may_connect s ≡ None → ⊥) → MayCall call s → Idle call s
-idle_call call s none never may = grind (arith, sends_none, all_sends_none, closes_none, breaks_none)
+idle_call call s none never may = grind (arith, all_none, ended_over)
 
 pub none_over : (s : State) → IsOver s → NoneOpen s
 none_over s h q = ap (λ (b : Bool). if◌then◌else◌ {A = Option (ℕ × Standing)} b None (link_of (value_at q s.live))) h
@@ -138,15 +117,12 @@ none_over s h q = ap (λ (b : Bool). if◌then◌else◌ {A = Option (ℕ × Sta
 pub over_calls : (call : UserCall) (s : State) → IsOver s → MayCall call s → Idle call s
 over_calls call s h may = idle_call call s (none_over s h) (λ k. differ (is_some s.ended) h (may_so s k).0) may
 
-link_asked : (b : Bool) → link_of (if b then Some asked else None) ≡ None
-link_asked b = grind arith
-
 none_by : (rows : Rows Connection) (s : State) → IsCalling rows s → ((q : ℕ) → link_of (value_at q rows) ≡ None) → NoneOpen s
 none_by rows s is h q = grind arith
 
 -- an end whose CR is not answered asks for no other connection
 pub one_calls : (r : ℕ) (call : UserCall) (s : State) → IsCalling (one r) s → MayCall call s → Idle call s
-one_calls r call s is may = grind (arith, idle_call, none_by, link_asked, never, may_so)
+one_calls r call s is may = grind (arith, idle_call, none_by, never, may_so)
 
 -- a CR offers only classes that the end has, and class 0 if it has none
 pub record Offers (local : Local) (o : Offer) : Type 0 where
@@ -159,16 +135,8 @@ pub data Calls (call : UserCall) (s : State) : Type 0 where
   asks_one : (x : Connect) → put_by call s ≡ request x ∷ [] → IsCalling (one x.source) (user_does call s) →
       (user_does call s).local ≡ s.local → Offers s.local (offer_of x) → Calls call s
 
-proposed : (two : Bool) (s : State) (calling called : Option (List ℕ)) →
-    (proposal_by two s.local s.class calling called (s.given + 1)).source ≡ s.given + 1
-proposed two s calling called = grind arith
-
 listed : (zero : Bool) → (lists (alternatives zero) 0 || lists (alternatives zero) 1) ≡ true → zero ≡ true
 listed zero h = grind arith
-
-proposal_offers : (two : Bool) (local : Local) (held : Option Class) (calling called : Option (List ℕ)) (r : ℕ) → local.class2 ≡ two →
-    Offers local (offer_of (proposal_by two local held calling called r))
-proposal_offers two local held calling called r e = search (arith, and_second, listed, or_last)
 
 none_calls_by : (call : UserCall) (s : State) → IsCalling [] s → NoneOpen s → MayCall call s → Calls call s
 none_calls_by (connects calling called) s is none may =
@@ -178,12 +146,12 @@ none_calls_by (connects calling called) s is none may =
       caller = is.caller;
       class = is.class;
       live = ap (λ (rows : Rows Connection). rows ++ (s.given + 1, asked) ∷ []) is.live
-          ∙ ap (λ (r : ℕ). one r) (sym (proposed (proposes_two s.local) s calling called));
-    }) refl (proposal_offers s.local.class2 s.local s.class calling called (s.given + 1) refl)
-none_calls_by (sends r tsdu) s is none may = idles (sends_none r tsdu s none)
-none_calls_by (sends_all r tsdus) s is none may = idles (all_sends_none r tsdus s none)
-none_calls_by (closes r reason) s is none may = idles (closes_none r reason s none)
-none_calls_by (breaks reason) s is none may = idles (breaks_none reason s)
+          ∙ ap (λ (r : ℕ). one r) (sym (grind arith));
+    }) refl (grind (arith, and_second, listed, or_last))
+none_calls_by (sends r tsdu) s is none may = idles (grind arith)
+none_calls_by (sends_all r tsdus) s is none may = idles (grind (arith, all_none))
+none_calls_by (closes r reason) s is none may = idles (grind arith)
+none_calls_by (breaks reason) s is none may = idles (grind (arith, ended_over))
 
 pub none_calls : (call : UserCall) (s : State) → IsCalling [] s → MayCall call s → Calls call s
 none_calls call s is may = none_calls_by call s is (none_by [] s is (λ q. refl)) may

@@ -1,33 +1,23 @@
 -- A CC of a called end is right, and after a CC of class 2 the connection is open as a line begins.
 -- For the law of that name.
-use Rattle.osi_fair.proofs.Vocabulary.{ap, arith, Bool, false, IfSome, if◌then◌else◌, List, None, Option, option_map, refl, Some, true, ℕ}
-use Rattle.osi_fair.proofs.Vocabulary.{◌^◌, ◌≡◌, ◌≤◌, pow-le-pow_right, le-leb, min, nat_le, ◌&&◌, ◌||◌, size_code, window_units, confirm}
-use Rattle.osi_fair.proofs.Vocabulary.{Connect, IsConnect, accept, proposes, refuse, selected_by, selected_size, Class, Two, Zero, Local}
-use Rattle.osi_fair.proofs.Vocabulary.{acceptance, agreed_size, opened_link, proposal, proposal_by, unit_octets, code_named, asked_by}
-use Rattle.osi_fair.proofs.Vocabulary.{found, offer_of, sent_on, silent_half, Connection, Offer, Course, Left, Right, Kept, Half, Open}
-use Rattle.osi_fair.proofs.Vocabulary.{IsOpened, opened_half, opened_line}
+use Rattle.osi_fair.proofs.Vocabulary.{ap, arith, Bool, false, IfSome, List, None, Option, option_map, refl, Some, true, ℕ, ◌^◌, ◌≡◌, ◌≤◌}
+use Rattle.osi_fair.proofs.Vocabulary.{pow-le-pow_right, le-leb, min, nat_le, ◌&&◌, ◌||◌, size_code, window_units, confirm, Connect}
+use Rattle.osi_fair.proofs.Vocabulary.{IsConnect, accept, proposes, selected_by, selected_size, Class, Two, Zero, Local, acceptance}
+use Rattle.osi_fair.proofs.Vocabulary.{agreed_size, opened_link, proposal, proposal_by, unit_octets, code_named, asked_by, found, offer_of}
+use Rattle.osi_fair.proofs.Vocabulary.{sent_on, silent_half, Connection, Course, Left, Right, Kept, Half, Open, IsOpened, opened_half}
+use Rattle.osi_fair.proofs.Vocabulary.{opened_line}
 use Rattle.osi_fair.proofs.small_facts_that_many_lemmas_use.{and_first, and_second}
 use Rattle.osi_fair.proofs.what_is_right_passes_each_test.{is_right}
 
 -- ---- what was selected
 
-two_chosen : (a b z : Bool) (s size : Option ℕ) →
-    (if a then accept Two s else (if b then accept Zero s else (if z then refuse 0 else refuse 130))) ≡ accept Two size →
-    (a ≡ true) × (s ≡ size)
-two_chosen a b z s size e = grind arith
-
-zero_chosen : (a b z : Bool) (s size : Option ℕ) →
-    (if a then accept Two s else (if b then accept Zero s else (if z then refuse 0 else refuse 130))) ≡ accept Zero size →
-    (b ≡ true) × (s ≡ size)
-zero_chosen a b z s size e = grind arith
-
 two_selected : (c : Connect) (local : Local) (size : Option ℕ) → selected_by c local ≡ accept Two size →
     (proposes c 2 ≡ true) × (selected_size c local ≡ size)
-two_selected c local size e = search (arith, two_chosen, and_first, and_second)
+two_selected c local size e = search (arith, and_first, and_second)
 
 zero_selected : (c : Connect) (local : Local) (size : Option ℕ) → selected_by c local ≡ accept Zero size →
     (proposes c 0 ≡ true) × (selected_size c local ≡ size)
-zero_selected c local size e = search (arith, zero_chosen, and_second)
+zero_selected c local size e = search (arith, and_second)
 
 -- ---- a CC of this end is right
 
@@ -43,29 +33,21 @@ both a b h k = rw (h, k) refl
 no_larger : (o : Option ℕ) (n : ℕ) → nat_le (code_named (option_map (λ code. min code n) o)) (code_named o) ≡ true
 no_larger o n = grind (arith, le-leb)
 
-size_right : (c : Connect) (local : Local) (size : Option ℕ) (offer : Offer) → offer ≡ offer_of c → selected_size c local ≡ size →
-    nat_le (code_named size) offer.size_code ≡ true
-size_right c local size offer e same = grind (arith, no_larger)
-
 pub two_right : (local : Local) (c : Connect) (size : Option ℕ) (r : ℕ) (t : Connection) (course : Course) →
     selected_by c local ≡ accept Two size →
     t.offer ≡ offer_of c → t.right ≡ silent_half → found Right course false t (confirm c.source (acceptance Two size c local r)) ≡ Kept
-two_right local c size r t course e offer silent = grind (arith, or_left, is_right, both_with_true, size_right, two_selected c local size e)
+two_right local c size r t course e offer silent = search (arith, or_left, is_right, both_with_true, two_selected c local size e)
 
 pub zero_right : (local : Local) (c : Connect) (size : Option ℕ) (r : ℕ) (t : Connection) (course : Course) →
     selected_by c local ≡ accept Zero size → t.offer ≡ offer_of c → t.right ≡ silent_half → course.class ≡ None →
     found Right course false t (confirm c.source (acceptance Zero size c local r)) ≡ Kept
-zero_right local c size r t course e offer silent none = grind (arith, or_left, is_right, both, size_right, zero_selected c local size e)
+zero_right local c size r t course e offer silent none = grind (arith, or_left, is_right, both, zero_selected c local size e)
 
 -- ---- sizes
 
 at_least_five : (o : Option ℕ) → IfSome o (λ code. 7 ≤ code) → 5 ≤ unit_octets o
 at_least_five None h = omega arith
 at_least_five (Some code) h = let p : 2 ^ 7 ≤ 2 ^ code = pow-le-pow_right {n = 2} (omega arith) h in omega arith
-
-lowered : (o : Option ℕ) (n : ℕ) → IfSome o (λ code. (7 ≤ code) × (code ≤ 13)) → 7 ≤ n →
-    IfSome (option_map (λ code. min code n) o) (λ code. 7 ≤ code)
-lowered o n h k = grind arith
 
 within_size : (o : Option ℕ) (n : ℕ) →
     IfSome (option_map (λ code. 2 ^ code) o) (λ most. unit_octets (option_map (λ code. min code n) o) ≤ most)
@@ -84,20 +66,14 @@ pub called_opens : (local : Local) (c : Connect) (size : Option ℕ) (r : ℕ) (
     t.left ≡ opened_half c.source c.credit → t.right ≡ silent_half → t.seen_by_left.next ≡ 0 →
     IsOpened Right r c.source
     (opened_line (opened_link Two size local c.credit) (sent_on Right (confirm c.source (acceptance Two size c local r)) t))
-called_opens local c size r t range e left right noted = search (arith, two_selected, at_size, at_least_five, lowered)
+called_opens local c size r t range e left right noted = search (arith, two_selected, at_size, at_least_five)
 
 pub calling_opens : (local : Local) (c : Connect) (r : ℕ) (t : Connection) → IsConnect c →
     t.left ≡ opened_half r (window_units local.window) →
     t.right ≡ silent_half → t.seen_by_right.next ≡ 0 →
     IsOpened Left r c.source
     (opened_line (opened_link Two (agreed_size c.parameters.size local) local c.credit) (sent_on Right (confirm r c) t))
-calling_opens local c r t range left right noted =
-    grind (
-      arith,
-      at_least_five,
-      within_size c.parameters.size (size_code local.size),
-      lowered c.parameters.size (size_code local.size) range.parameters.size local.size.at_least,
-    )
+calling_opens local c r t range left right noted = grind (arith, at_least_five, within_size c.parameters.size (size_code local.size))
 
 -- the CR of this end, as the tap knows it
 pub asked_so : (local : Local) (held : Option Class) (calling called : Option (List ℕ)) (r : ℕ) → local.class2 ≡ true →

@@ -1,13 +1,12 @@
 -- A unit of the called side that is right on its connection passes: what the tap has then, by the kind of the unit.
 -- For the law on a whole called end.
-use Rattle.osi_fair.proofs.Vocabulary.{arith, [], ap, Bool, false, List, None, Option, set, Some, true, ℕ, ◌∙◌, ◌∷◌, ◌≡◌, ◌⊎◌, not}
-use Rattle.osi_fair.proofs.Vocabulary.{position, slice_get, ◌&&◌, confirm, Connect, destination_of, disconnect, disconnected, error, Value}
-use Rattle.osi_fair.proofs.Vocabulary.{Class, Two, first_failed, Test, is_named, is_open, is_refused, is_silent, course_after, found_on}
-use Rattle.osi_fair.proofs.Vocabulary.{half_after, one_told, Outcome, route, route_in, sent_on, Traffic, takes, Connection, Course, Right}
-use Rattle.osi_fair.proofs.Vocabulary.{Broke, Kept, Half, Phase, Named}
+use Rattle.osi_fair.proofs.Vocabulary.{arith, [], ap, Bool, false, List, None, Option, set, Some, true, ℕ, ◌∙◌, ◌∷◌, ◌≡◌, not, position}
+use Rattle.osi_fair.proofs.Vocabulary.{slice_get, ◌&&◌, confirm, Connect, destination_of, error, Value, Class, Two, first_failed, Test}
+use Rattle.osi_fair.proofs.Vocabulary.{is_named, is_open, is_refused, is_silent, course_after, found_on, half_after, one_told, Outcome}
+use Rattle.osi_fair.proofs.Vocabulary.{route, route_in, sent_on, Traffic, takes, Connection, Course, Right, Broke, Kept, Half, Phase, Named}
 use Rattle.osi_carrier.specs.State.{State}
 use Rattle.osi_rules.specs.declared.findings.Rule.TheVariants as rule
-use Rattle.osi_fair.proofs.small_facts_that_many_lemmas_use.{closing_not_silent, closing_same, differ, first_is, number_is, rest_is}
+use Rattle.osi_fair.proofs.small_facts_that_many_lemmas_use.{closing_same, first_is, rest_is}
 use Rattle.osi_fair.proofs.each_connection_of_a_called_end.{AreAbove, AreStrays}
 use Rattle.osi_fair.proofs.units_by_their_place.{Placed, values}
 
@@ -37,22 +36,8 @@ module _ (u : Value) (s : Traffic) (n p : ℕ) (c : Connection) (right : s.cours
     pub course_kept : (takes Right u s).state.course ≡ course_after Right c u true s.course
     course_kept = grind (arith, takes_so)
 
-pub route_confirm : (k : Option Class) (b : Bool) (n : ℕ) (x : Connect) → (k ≡ None) ⊎ (k ≡ Some Two) →
-    route_in k Right b (confirm n x) ≡ Named n
-route_confirm k b n x h = grind arith
-
-pub route_dr : (k : Option Class) (b : Bool) (n m reason : ℕ) (user : List ℕ) → (k ≡ None) ⊎ (k ≡ Some Two) →
-    route_in k Right b (disconnect n m reason user) ≡ Named n
-route_dr k b n m reason user h = grind arith
-
-pub route_dc : (k : Option Class) (b : Bool) (n m : ℕ) → route_in k Right b (disconnected n m) ≡ Named n
-route_dc k b n m = grind arith
-
-name_of : (m n : ℕ) → Some m ≡ Some n → Named m ≡ Named n
-name_of m n e = ap (λ (x : ℕ). Named x) (number_is m n e)
-
 route_by : (b : Bool) (u : Value) (n : ℕ) → destination_of u ≡ Some n → route_in (Some Two) Right b u ≡ Named n
-route_by b u n e = grind (arith, name_of)
+route_by b u n e = grind arith
 
 pub route_two_so : (k : Option Class) (b : Bool) (u : Value) (n : ℕ) → k ≡ Some Two → destination_of u ≡ Some n → route_in k Right b
     u ≡ Named n
@@ -63,13 +48,10 @@ route_two_so k b u n two e = ap (λ (j : Option Class). route_in j Right b u) tw
 pub class_seen_same : (c : Connection) (u : Value) (course : Course) → (course_after Right c u true course).class_seen ≡ course.class_seen
 class_seen_same c u course = grind arith
 
-strays_by : (a b : Bool) → (b ≡ false → a ≡ false) → a ≡ true → b ≡ true
-strays_by a b h k = grind (arith, differ)
-
 pub strays_more : (shut : ℕ → Bool) (end : State) (refs : ℕ → Option ℕ) (home : ℕ → ℕ) (a b : Bool) (ts : List Placed) →
     (b ≡ false → a ≡ false) → AreStrays shut end refs home a ts → AreStrays shut end refs home b ts
 strays_more shut end refs home a b [] h k = tt
-strays_more shut end refs home a b ((None, v) ∷ ts) h (one, more) = grind (arith, strays_by, strays_more shut end refs home a b ts h more)
+strays_more shut end refs home a b ((None, v) ∷ ts) h (one, more) = grind (arith, strays_more shut end refs home a b ts h more)
 strays_more shut end refs home a b ((Some p, v) ∷ ts) h (one, more) = (tt, strays_more shut end refs home a b ts h more)
 
 -- ---- the first unit and its place
@@ -92,20 +74,14 @@ pub half_keeps : (u : Value) (half : Half) → ((m : ℕ) (x : Connect) → u �
 half_keeps u half none = grind (arith, closing_same)
 
 pub half_started : (u : Value) (half : Half) → is_silent half.phase ≡ false → is_silent (half_after u half).phase ≡ false
-half_started u half h = grind (arith, closing_not_silent)
-
-pub open_started : (p : Phase) → is_open p ≡ true → is_silent p ≡ false
-open_started p h = grind arith
+half_started u half h = grind arith
 
 open_not_refused : (p : Phase) → is_open p ≡ true → is_refused p ≡ false
 open_not_refused p h = grind arith
 
 pub half_not_refused : (u : Value) (half : Half) → is_open half.phase ≡ true → ((m cause : ℕ) → u ≡ error m cause → ⊥) →
     is_refused (half_after u half).phase ≡ false
-half_not_refused u half h none = grind (arith, open_started, open_not_refused)
+half_not_refused u half h none = grind (arith, open_not_refused)
 
 pub wrong_form : (a : Bool) (ts : List Test) → a ≡ false → first_failed ((a, Broke rule.WrongForm) ∷ ts) ≡ Kept → ⊥
 wrong_form a ts h k = grind arith
-
-pub there_not : {A X : Type 0} (o : Option X) (x : X) → o ≡ Some x → o ≡ None → A
-there_not o x h k = absurd (cc)

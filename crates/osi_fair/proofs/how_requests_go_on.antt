@@ -1,14 +1,12 @@
 -- The stages of a whole calling end: no connection is asked for, a CR waits to pass, or for its answer, then class 0 or class 2.
 -- For the laws on requests and on whole calling ends.
 use Rattle.std.proofs.Common.{arith}
-use Rattle.osi_fair.proofs.Vocabulary.{[], ap, append_assoc, Bool, false, if◌then◌else◌, inl, inr, is_some, List, map, None, Option, refl}
-use Rattle.osi_fair.proofs.Vocabulary.{Some, subst, sym, true, ℕ, ◌++◌, ◌∙◌, ◌∷◌, ◌≡◌, ◌≢◌, ◌⊎◌, eqb-true, AllByRecursion}
-use Rattle.osi_fair.proofs.Vocabulary.{not, slice_get, ◌&&◌, ◌==◌, ◌||◌, confirm, Connect, HasFieldsInRange, IsConnect, request}
-use Rattle.osi_fair.proofs.Vocabulary.{Value, Two, Zero, Local, react, Rows, user_does, UserCall, Live, first_failed, is_inside, is_offered}
-use Rattle.osi_fair.proofs.Vocabulary.{begins, class_of, offer_of, packet_begins}
-use Rattle.osi_fair.proofs.Vocabulary.{refused as not_read, request_tests, Traffic, takes, Connection, Offer, Left, Right, Broke}
-use Rattle.osi_fair.proofs.Vocabulary.{TooMany, packet, unit as passing, put_by, put_for, arrives, calls, Event, Happens, MayCall}
-use Rattle.osi_fair.proofs.Vocabulary.{passes_rubbish, Whole}
+use Rattle.osi_fair.proofs.Vocabulary.{[], ap, append_assoc, Bool, false, if◌then◌else◌, inl, inr, is_some, List, map, None, refl, Some}
+use Rattle.osi_fair.proofs.Vocabulary.{subst, sym, true, ℕ, ◌++◌, ◌∙◌, ◌∷◌, ◌≡◌, ◌≢◌, ◌⊎◌, AllByRecursion, not, ◌==◌, ◌||◌, confirm}
+use Rattle.osi_fair.proofs.Vocabulary.{Connect, HasFieldsInRange, IsConnect, request, Value, Two, Local, react, Rows, user_does, UserCall}
+use Rattle.osi_fair.proofs.Vocabulary.{Live, first_failed, is_inside, is_offered, begins, offer_of, packet_begins, refused as not_read}
+use Rattle.osi_fair.proofs.Vocabulary.{request_tests, Traffic, takes, Connection, Offer, Left, Right, packet, unit as passing, put_by}
+use Rattle.osi_fair.proofs.Vocabulary.{put_for, arrives, calls, Event, Happens, MayCall, passes_rubbish, Whole}
 use Rattle.osi_carrier.specs.State.{State}
 use Rattle.osi_rules.specs.declared.findings.Rule.TheVariants as rule
 use Rattle.osi_fair.specs.Wholes.{begins_other, begins_own, passes_other, passes_own}
@@ -16,8 +14,8 @@ use Rattle.osi_fair.proofs.small_facts_that_many_lemmas_use.{differ}
 use Rattle.osi_fair.proofs.a_new_reference_is_not_in_use.{Passed}
 use Rattle.osi_fair.proofs.a_refused_request_waits_no_more.{all_from}
 use Rattle.osi_fair.proofs.a_request_of_a_whole_end_is_new.{IsUnused, Newer, next_unused}
-use Rattle.osi_fair.proofs.a_calling_end_goes_on_in_class_zero.{IsZeroed, confirm_takes, confirmed_so, zeroed_begins, zeroed_calls}
-use Rattle.osi_fair.proofs.a_calling_end_goes_on_in_class_zero.{zeroed_comes, zeroed_elsewhere, zeroed_passes, zeroed_refused, zeroed_takes}
+use Rattle.osi_fair.proofs.a_calling_end_goes_on_in_class_zero.{IsZeroed, confirmed_so, zeroed_begins, zeroed_calls, zeroed_comes}
+use Rattle.osi_fair.proofs.a_calling_end_goes_on_in_class_zero.{zeroed_elsewhere, zeroed_passes, zeroed_refused, zeroed_takes}
 use Rattle.osi_fair.proofs.how_a_calling_end_asks.{Calls, Idle, IsCalling, IsOver, Offers, asks_one, broke, dc_ends, idles, none_calls, one}
 use Rattle.osi_fair.proofs.how_a_calling_end_asks.{one_calls, over_calls, over_takes, refusal_takes, same}
 use Rattle.osi_fair.proofs.what_holds_of_one_item.{HoldsOfEach}
@@ -79,11 +77,6 @@ ended_taking : (local : Local) (w : Whole) (unit : Value) (later : List Value) �
     IsOver (react unit w.end) → Stage local (after_arriving w unit later)
 ended_taking local w unit later put none h = ended (none_more w.put (put_for unit w.end) [] put none) h
 
--- a DC ends it
-dc_taking : (local : Local) (w : Whole) (rows : Rows Live) (unit : Value) (later : List Value) → w.put ≡ [] → Calling local rows w.end →
-    IsDc unit → Stage local (after_arriving w unit later)
-dc_taking local w rows unit later none is dc = grind (arith, ended_taking, dc_ends rows unit w.end dc is.0)
-
 asks_taking : (local : Local) (w : Whole) (unit : Value) (later : List Value) (x : Connect) (cs : List Connection) (strays : Bool) →
     w.put ≡ request x ∷ [] → CallsOrOver local x.source w.end → Offers local (offer_of x) → w.tap ≡ calm_tap cs strays →
     HoldsOfEach IsDone cs → IsDc unit → AreDcs later → (w.begun ≡ true → AllOver cs) → Stage local (after_arriving w unit later)
@@ -95,21 +88,14 @@ asks_taking local w unit later x cs strays put (inr is) offers tap done dc dcs b
     let p = dc_ends (one x.source) unit w.end dc is.0 in
     asks x (none_more w.put (put_for unit w.end) (request x ∷ []) put p.put) (inl p.after) offers cs strays tap done dcs begun
 
-cc_taking : (local : Local) (w : Whole) (r n : ℕ) (x : Connect) (later : List Value) (after : State) → Calling local (one r) w.end →
-    w.put ≡ [] → w.begun ≡ false → (x.class == 2) ≡ false → HasZero local → react (confirm n x) w.end ≡ after →
-    IsZeroed after [] false w.tap →
-    Stage local (after_arriving w (confirm n x) later)
-cc_taking local w r n x later after is none not_begun class has so z = grind (arith, none_more, confirm_takes)
-
 answered_taking : (local : Local) (w : Whole) (unit : Value) (later : List Value) (r : ℕ) (dcs : List Value) (n : ℕ) (x : Connect)
     (more : List Value) (after : State) → Calling local (one r) w.end → w.put ≡ [] → w.begun ≡ false →
     unit ∷ later ≡ dcs ++ confirm n x ∷ more → AreDcs dcs → (x.class == 2) ≡ false → HasZero local →
     react (confirm n x) w.end ≡ after → IsZeroed after [] false w.tap → Stage local (after_arriving w unit later)
-answered_taking local w unit later r [] n x more after is none not_begun e dcs class has so z =
-    grind (arith, first_of, after_arriving, cc_taking)
+answered_taking local w unit later r [] n x more after is none not_begun e dcs class has so z = grind (arith, first_of, after_arriving)
 answered_taking local w unit later r (d ∷ dcs) n x more after is none not_begun e (dc, others) class has so z =
     let (same_unit, rest) = first_of unit d later (dcs ++ confirm n x ∷ more) e in
-    dc_taking local w (one r) unit later none is (subst IsDc same_unit dc)
+    grind (arith, ended_taking, dc_ends (one r) unit w.end (subst IsDc same_unit dc) is.0)
 
 refusal_taking : (local : Local) (w : Whole) (v : Value) (more : List Value) (r : ℕ) (cs : List Connection) (strays : Bool) →
     Calling local (one r) w.end → w.put ≡ [] → w.begun ≡ false → w.tap ≡ calm_tap cs strays → HoldsOfEach IsDone cs → IsRefusal r v →
@@ -128,17 +114,17 @@ refused_taking local w unit later r cs strays [] v more is none not_begun tap do
     (refusal_taking local w v later r cs strays is none not_begun tap done refusal (subst AreDcs others dcs_too))
 refused_taking local w unit later r cs strays (d ∷ dcs) v more is none not_begun tap done e (dc, others) refusal dcs_too =
     let (same_unit, rest) = first_of unit d later (dcs ++ v ∷ more) e in
-    dc_taking local w (one r) unit later none is (subst IsDc same_unit dc)
+    grind (arith, ended_taking, dc_ends (one r) unit w.end (subst IsDc same_unit dc) is.0)
 
 taking : (local : Local) (w : Whole) (unit : Value) (later : List Value) → w.coming ≡ unit ∷ later → Stage local w →
     Stage local (after_arriving w unit later)
 taking local w unit later e (ended none h) = grind (arith, over_takes, ended_taking)
 taking local w unit later e (quiet is none not_begun cs strays tap done dcs) =
-    let (dc, more) = subst AreDcs e dcs in dc_taking local w [] unit later none is dc
+    let (dc, more) = subst AreDcs e dcs in grind (arith, ended_taking, dc_ends [] unit w.end dc is.0)
 taking local w unit later e (asks x put is offers cs strays tap done dcs begun) =
     let (dc, more) = subst AreDcs e dcs in asks_taking local w unit later x cs strays put is offers tap done dc more begun
 taking local w unit later e (waits r is none not_begun cs strays tap p o offers waiting dcs) =
-    let (dc, more) = subst AreDcs e dcs in dc_taking local w (one r) unit later none is dc
+    let (dc, more) = subst AreDcs e dcs in grind (arith, ended_taking, dc_ends (one r) unit w.end dc is.0)
 taking local w unit later e (refused r is none not_begun cs strays tap done dcs v more coming are refusal too) =
     refused_taking local w unit later r cs strays dcs v more is none not_begun tap done (sym e ∙ coming) are refusal too
 taking local w unit later e (answered r is none not_begun dcs n x more coming are class has after so z) =
@@ -148,16 +134,12 @@ taking local w unit later e (known two seen has) = known two seen has
 
 -- ---- its user makes a call
 
-ended_calling : (local : Local) (w : Whole) (call : UserCall) → w.put ≡ [] → put_by call w.end ≡ [] → IsOver (user_does call w.end) →
-    Stage local (after_calling w call)
-ended_calling local w call put none h = ended (none_more w.put (put_by call w.end) [] put none) h
-
 -- a call that has no effect, or ends the carrier
 one_calling : (local : Local) (w : Whole) (call : UserCall) → w.put ≡ [] → Idle call w.end →
     (user_does call w.end ≡ w.end → w.put ++ put_by call w.end ≡ [] → Stage local (after_calling w call)) →
     Stage local (after_calling w call)
 one_calling local w call none (same e put asks_none) k = k e (none_more w.put (put_by call w.end) [] none put)
-one_calling local w call none (broke h put asks_none) k = ended_calling local w call none put h
+one_calling local w call none (broke h put asks_none) k = grind (arith, none_more)
 
 over_calling : (local : Local) (w : Whole) (call : UserCall) → w.put ≡ [] → IsOver w.end → Idle call w.end →
     Stage local (after_calling w call)
@@ -226,13 +208,9 @@ after_own w v put = record w { put = put; begun = false; tap = (takes Left v w.t
 some_put : {A : Type 0} (w : Whole) (v : Value) (put : List Value) → w.put ≡ v ∷ put → w.put ≡ [] → A
 some_put w v put e none = absurd (cc (sym e ∙ none))
 
-request_or : (a b c d : Bool) → a ≡ true → b ≡ false → c ≡ false →
-    Passed (first_failed ((a, Broke rule.Negotiating) ∷ (not b, TooMany) ∷ (not c, Broke rule.ReferenceInUse) ∷ (d, TooMany) ∷ []))
-request_or a b c d h k m = grind arith
-
 pub calm_passes : (x : Connect) (cs : List Connection) (strays : Bool) → AllOver cs → IsUnused x.source (calm_tap cs strays) →
     Passed (first_failed (request_tests (calm_tap cs strays) x))
-calm_passes x cs strays all unused = grind (arith, request_or, all_from)
+calm_passes x cs strays all unused = grind (arith, all_from)
 
 asked_stage : (local : Local) (w : Whole) (x : Connect) (strays : Bool) → Calling local (one x.source) w.end →
     Offers local (offer_of x) → AreDcs w.coming → Asked x strays (takes Left (request x) w.tap).state →
@@ -252,10 +230,6 @@ asks_own local w x cs strays (inr is) offers tap done dcs all unused goes =
     asked_stage local w x strays is offers dcs
     (subst (λ (t : Traffic). Asked x strays (takes Left (request x) t).state) (sym tap) asked_there)
 
-zero_own : (local : Local) (w : Whole) (v : Value) (put : List Value) → w.put ≡ v ∷ put → w.begun ≡ true →
-    w.tap.course.left_stopped ≡ false → HasZero local → IsZeroed w.end w.put w.begun w.tap → Stage local (after_own w v put)
-zero_own local w v put e begun left has z = grind (arith, zeroed_passes)
-
 own : (local : Local) (w : Whole) (v : Value) (put : List Value) → w.put ≡ v ∷ put → w.begun ≡ true → Newer w →
     GoesOn (takes Left v w.tap).state → Stage local w → Stage local (after_own w v put)
 own local w v put e begun newer goes (ended none h) = some_put w v put e none
@@ -271,7 +245,7 @@ own local w v put e begun newer goes (waits r is none not_begun cs strays tap p 
 own local w v put e begun newer goes (refused r is none not_begun cs strays tap done dcs u more coming are refusal too) =
     some_put w v put e none
 own local w v put e begun newer goes (answered r is none not_begun dcs n x more coming are class has after so z) = some_put w v put e none
-own local w v put e begun newer goes (zero has z) = zero_own local w v put e begun ((lasts_passing (passing Left v) w.tap).left goes) has z
+own local w v put e begun newer goes (zero has z) = grind (arith, zeroed_passes)
 own local w v put e begun newer goes (known two seen has) = grind (arith, differ, lasts_passing (passing Left v) w.tap)
 
 -- ---- the other side
@@ -309,36 +283,18 @@ taken_at : (w : Whole) (v : Value) (cs : List Connection) (strays : Bool) → w.
     GoesOn (takes Right v w.tap).state → HoldsOfEach IsDone cs → IsDc v × ((takes Right v w.tap).state ≡ calm_tap cs strays)
 taken_at w v cs strays tap goes done = grind (arith, done_takes)
 
--- a CC for class 2 is an answer only to a CR that offers that
-two_offered : (z t a b c d : Bool) → (z ≡ true → t ≡ true → ⊥) → t ≡ true → (if z then a else (if t then (b && c) else d)) ≡ true →
-    b ≡ true
-two_offered z t a b c d not_both h e = grind arith
-
-zero_or_two : (n : ℕ) → (n == 0) ≡ true → (n == 2) ≡ true → ⊥
-zero_or_two n a b = grind (arith, eqb-true)
-
 is_two : (o : Offer) (x : Connect) → (x.class == 2) ≡ true → is_offered o None x ≡ true → o.class2 ≡ true
-is_two o x h e = grind (arith, two_offered, zero_or_two)
-
--- and a CC for class 0 to one that offers that
-zero_offered : (z t a b rest : Bool) → t ≡ false → (z || (t && b)) ≡ true → (if z then (a && true) else rest) ≡ true → a ≡ true
-zero_offered z t a b rest h i e = grind arith
+is_two o x h e = grind arith
 
 is_zero : (o : Offer) (x : Connect) → (x.class == 2) ≡ false → is_inside x ≡ true → is_offered o None x ≡ true → o.class0 ≡ true
-is_zero o x h inside e = grind (arith, zero_offered)
-
-class_two : (x : Connect) → (x.class == 2) ≡ true → Some (class_of x) ≡ Some Two
-class_two x h = ap (λ (b : Bool). Some (if b then Two else Zero)) h
-
-item_is : (x y : Connection) (o : Option Connection) → o ≡ Some x → o ≡ Some y → x ≡ y
-item_is x y o h k = cc
+is_zero o x h inside e = grind arith
 
 confirm_answer : (local : Local) (w : Whole) (v : Value) (r p : ℕ) (o : Offer) (cs : List Connection) (strays erred : Bool) →
     Calling local (one r) w.end → w.put ≡ [] → w.begun ≡ false → Offers local o → (waiting : Waits r p o cs) → AreDcs w.coming →
     (n : ℕ) (x : Connect) → v ≡ confirm n x → IsConnect x → (takes Right v w.tap).state ≡ confirmed_tap p n x waiting.c cs strays erred →
     is_offered o None x ≡ true → is_inside x ≡ true → (b : Bool) → (x.class == 2) ≡ b → Stage local (after_other w v)
 confirm_answer local w v r p o cs strays erred is none not_begun offers waiting dcs n x same_unit range so offered inside true class =
-    grind (arith, class_two, differ, is_two)
+    grind (arith, differ, is_two)
 confirm_answer local w v r p o cs strays erred is none not_begun offers waiting dcs n x same_unit range so offered inside false class =
     answered r is none not_begun w.coming n x [] (ap (λ (u : Value). w.coming ++ u ∷ []) same_unit) dcs class
     (offers.zero (is_zero o x class inside offered)) (react (confirm n x) w.end) refl
@@ -350,7 +306,7 @@ waits_answer : (local : Local) (w : Whole) (v : Value) (r p : ℕ) (o : Offer) (
     Answer r p o cs strays v (takes Right v w.tap).state → Stage local (after_other w v)
 waits_answer local w v r p o cs strays ranges is none not_begun offers waiting dcs (confirms n x same_unit c at erred so offered inside) =
     let range = (subst HasFieldsInRange same_unit ranges).1 in
-    let here : c ≡ waiting.c = item_is c waiting.c (slice_get cs p) at waiting.at in
+    let here : c ≡ waiting.c = grind arith in
     confirm_answer local w v r p o cs strays erred is none not_begun offers waiting dcs n x same_unit range
     (so ∙ ap (λ (y : Connection). confirmed_tap p n x y cs strays erred) here) offered inside (x.class == 2) refl
 waits_answer local w v r p o cs strays ranges is none not_begun offers waiting dcs (refuses refusal after more tap done) =
@@ -384,16 +340,12 @@ other_passes local w v ranges goes (known two seen has) = search (arith, lasts_p
 abbrev after_rubbish : Whole → Whole
 after_rubbish w = record w { tap = not_read Right w.tap }
 
-calm_stops : {A : Type 0} (w : Whole) (cs : List Connection) (strays : Bool) → w.tap ≡ calm_tap cs strays → GoesOn (not_read Right w.tap) →
-    A
-calm_stops w cs strays tap goes = absurd (cc (subst (λ (t : Traffic). GoesOn (not_read Right t)) tap goes))
-
 rubbish_passes : (local : Local) (w : Whole) → GoesOn (not_read Right w.tap) → Stage local w → Stage local (after_rubbish w)
 rubbish_passes local w goes (ended none h) = ended none h
-rubbish_passes local w goes (quiet is none not_begun cs strays tap done dcs) = calm_stops w cs strays tap goes
-rubbish_passes local w goes (asks x put is offers cs strays tap done dcs begun) = calm_stops w cs strays tap goes
-rubbish_passes local w goes (waits r is none not_begun cs strays tap p o offers waiting dcs) = calm_stops w cs strays tap goes
-rubbish_passes local w goes (refused r is none not_begun cs strays tap done dcs v more coming are refusal too) = grind (arith, calm_stops)
+rubbish_passes local w goes (quiet is none not_begun cs strays tap done dcs) = grind arith
+rubbish_passes local w goes (asks x put is offers cs strays tap done dcs begun) = grind arith
+rubbish_passes local w goes (waits r is none not_begun cs strays tap p o offers waiting dcs) = grind arith
+rubbish_passes local w goes (refused r is none not_begun cs strays tap done dcs v more coming are refusal too) = grind arith
 rubbish_passes local w goes (answered r is none not_begun dcs n x more coming are class has after so z) =
     answered r is none not_begun dcs n x more coming are class has after so (zeroed_refused after [] false w.tap z)
 rubbish_passes local w goes (zero has z) = zero has (zeroed_refused w.end w.put w.begun w.tap z)

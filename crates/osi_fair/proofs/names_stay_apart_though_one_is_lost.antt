@@ -2,14 +2,14 @@
 -- For the laws on whole ends. To a called end left gives references, by its CRs; to a calling end right does, by its CCs.
 use Rattle.osi_fair.proofs.Vocabulary.{arith, [], ap, Bool, false, inl, inr, length, List, map, None, Option, refl, set, Some, subst, sym}
 use Rattle.osi_fair.proofs.Vocabulary.{true, ℕ, ◌++◌, ◌∙◌, ◌∷◌, ◌≡◌, ◌⊎◌, eqb-true, list_any, nat_le, not, slice_get, ◌&&◌, ◌==◌, confirm}
-use Rattle.osi_fair.proofs.Vocabulary.{Connect, Value, Class, is_applied, reach_of, begins, code_named, is_closed, is_closing, is_inside}
-use Rattle.osi_fair.proofs.Vocabulary.{is_named, is_offered, is_over, is_over_by, is_silent, other, own, seen, uses, asked_by}
-use Rattle.osi_fair.proofs.Vocabulary.{connection_after, found, found_on, judged_on, placed, sent_on, Traffic as State, uses_source}
-use Rattle.osi_fair.proofs.Vocabulary.{Connection, Direction, Left, Right, Finding, Reach, Half}
+use Rattle.osi_fair.proofs.Vocabulary.{Connect, Value, Class, is_applied, reach_of, begins, code_named, is_inside, is_named, is_offered}
+use Rattle.osi_fair.proofs.Vocabulary.{is_over, is_over_by, is_silent, other, own, seen, uses, asked_by, connection_after, found, found_on}
+use Rattle.osi_fair.proofs.Vocabulary.{judged_on, placed, sent_on, Traffic as State, uses_source, Connection, Direction, Left, Right}
+use Rattle.osi_fair.proofs.Vocabulary.{Finding, Reach, Half}
 use Rattle.osi_rules.specs.declared.findings.Reach.TheVariants as reach
 use Rattle.osi_fair.proofs.small_facts_that_many_lemmas_use.{differ}
 use Rattle.osi_fair.proofs.what_holds_of_one_item.{HoldsOfEach, after_add, after_map, after_set, none_true}
-use Rattle.osi_fair.proofs.when_a_connection_has_a_name.{IsEarlier, earlier_same, over_other, over_still}
+use Rattle.osi_fair.proofs.when_a_connection_has_a_name.{IsEarlier, earlier_same}
 use Rattle.osi_fair.proofs.what_keeps_names_apart.{AreApart, Lessens, Sound}
 use Rattle.osi_fair.proofs.a_reference_names_one_connection.{applied_found, applied_judged, confirm_test, left_sent, not_true, right_goes}
 
@@ -89,49 +89,27 @@ only_named d cs n named i j c e x y fc fe = named.known n i j c e x y
 
 over_more : (j : Bool) (mine seen theirs : Half) → IsEarlier seen theirs → (j && is_over_by mine theirs) ≡ false →
     (j && is_over_by mine seen) ≡ false
-over_more j mine seen theirs e h = grind (arith, over_still)
-
-used_more : (j : Bool) (mine seen theirs : Half) (k : Bool) → IsEarlier seen theirs → (not (j && is_over_by mine theirs) && k) ≡ true →
-    (not (j && is_over_by mine seen) && k) ≡ true
-used_more j mine seen theirs k e h = grind (arith, over_more)
-
-free_more : (a was b k : Bool) → (a ≡ false → was ≡ false) → (not (a && b) && k) ≡ true → (not (was && b) && k) ≡ true
-free_more a was b k h e = grind arith
-
-known_used : (a b k : Bool) → (b ≡ false → a ≡ false) → (not (a && b) && k) ≡ true → (not a && k) ≡ true
-known_used a b k h e = grind arith
-
--- what is over for a side is over for the other as its packet begins
-over_both : (j : Bool) (left right known : Half) → IsEarlier known right →
-    (is_closed left.phase ≡ true → is_closing right.phase ≡ true) → (j && is_over_by right left) ≡ false →
-    (j && is_over_by left known) ≡ false
-over_both j left right known e closed h = grind (arith, over_other)
-
-sound_left : (c : Connection) → Sound c → Sound (begins Left c)
-sound_left c s = grind (arith, earlier_same)
-
-sound_right : (c : Connection) → Sound c → Sound (begins Right c)
-sound_right c s = grind (arith, earlier_same)
+over_more j mine seen theirs e h = grind arith
 
 sound_begins : (e : Direction) (c : Connection) → Sound c → Sound (begins e c)
-sound_begins Left c s = sound_left c s
-sound_begins Right c s = sound_right c s
+sound_begins Left c s = grind (arith, earlier_same)
+sound_begins Right c s = grind (arith, earlier_same)
 
 -- a packet of this side
 own_used : (d : Direction) (n : ℕ) (c : Connection) → Sound c → uses d n (begins d c) ≡ true → uses d n c ≡ true
-own_used d n c s h = grind (arith, used_more)
+own_used d n c s h = search arith
 
 own_known : (d : Direction) (n : ℕ) (c : Connection) → Sound c → is_known d n (begins d c) ≡ true → is_known d n c ≡ true
-own_known Left n c s h = grind (arith, free_more, over_more)
-own_known Right n c s h = grind (arith, free_more, over_more)
+own_known Left n c s h = grind (arith, over_more)
+own_known Right n c s h = grind (arith, over_more)
 
 -- a packet of the other side
 other_used : (d : Direction) (n : ℕ) (c : Connection) → uses d n (begins (other d) c) ≡ true → uses d n c ≡ true
 other_used d n c h = grind arith
 
 other_known : (d : Direction) (n : ℕ) (c : Connection) → Sound c → is_known d n (begins (other d) c) ≡ true → uses d n c ≡ true
-other_known Left n c s h = grind (arith, known_used, over_both)
-other_known Right n c s h = grind (arith, known_used, over_both)
+other_known Left n c s h = grind arith
+other_known Right n c s h = grind arith
 
 module _ (d : Direction) (cs : List Connection) (apart : AreApart cs) (named : AreNamedApart d cs) where
   lost_begins : (e : Direction) (i : ℕ) (c : Connection) → slice_get (map (begins e) cs) i ≡ Some c → Sound c
@@ -175,9 +153,6 @@ named_set d cs p c new named at sound used known = record {
 known_live : (a b k : Bool) → (a ≡ false) ⊎ (b ≡ false) → k ≡ true → (not (a && b) && k) ≡ true
 known_live a b k h e = grind arith
 
-not_over : (a k : Bool) → a ≡ false → k ≡ true → (not a && k) ≡ true
-not_over a k h e = grind arith
-
 last_of : (a b : Bool) → (a && b) ≡ true → b ≡ true
 last_of a b h = grind arith
 
@@ -197,7 +172,7 @@ less_used d c new l n j h = grind arith
 -- it is judged no more
 lost_used : (d : Direction) (n : ℕ) (c : Connection) → is_over d c ≡ false → uses d n (record c { is_judged = false }) ≡ true →
     uses d n c ≡ true
-lost_used d n c live h = grind (arith, not_over)
+lost_used d n c live h = grind arith
 
 lost_seen : (d : Direction) (c : Connection) → seen d (record c { is_judged = false }) ≡ seen d c
 lost_seen d c = grind arith
@@ -349,12 +324,9 @@ module _ (d : Direction) (cs : List Connection) (x : Connect) (named : AreNamedA
     known = λ n. one_added (is_known d n) cs (asked_by x) (named.known n) (λ i e at h k. none_known n k);
   }
 
-is_source : (a b k : Bool) → (not a && (not b && k)) ≡ true → k ≡ true
-is_source a b k h = grind arith
-
 asked_free : (cs : List Connection) (x : Connect) → list_any (λ (e : Connection). uses Left x.source e) cs ≡ false → (n i : ℕ)
     (e : Connection) → slice_get cs i ≡ Some e → uses Left n e ≡ true → uses Left n (asked_by x) ≡ true → ⊥
-asked_free cs x none n i e at h k = grind (arith, differ, eqb-true, is_source, none_true)
+asked_free cs x none n i e at h k = grind (arith, differ, eqb-true, none_true)
 
 -- left gives a reference
 pub left_asked : (cs : List Connection) (x : Connect) (o : Option ℕ) → list_any (λ (e : Connection). uses Left x.source e) cs ≡ false →

@@ -1,16 +1,15 @@
 -- No CR of a whole calling end is blamed, whatever happens.
 -- For the law of that name.
-use Rattle.osi_fair.proofs.Vocabulary.{[], arith, Bool, false, List, refl, subst, sym, true, ℕ, ◌∙◌, ◌∷◌, ◌≡◌, ◌⊎◌, Connect, request, Value}
+use Rattle.osi_fair.proofs.Vocabulary.{[], arith, Bool, false, List, refl, subst, sym, true, ◌∙◌, ◌∷◌, ◌≡◌, ◌⊎◌, Connect, request, Value}
 use Rattle.osi_fair.proofs.Vocabulary.{Local, first_failed, is_stopped, request_tests, Traffic, takes, Connection, Left, Right, Finding}
 use Rattle.osi_fair.proofs.Vocabulary.{Kept, TooMany, packet, rubbish, unit as passing, arrives, begin, calls, Event, HappenAlong, Happens}
 use Rattle.osi_fair.proofs.Vocabulary.{passes_rubbish, Whole}
 use Rattle.osi_fair.specs.Wholes.{begins_other, begins_own, passes_other, passes_own}
-use Rattle.osi_fair.proofs.a_new_reference_is_not_in_use.{Passed, asked_finding, asked_is, tests_pass}
+use Rattle.osi_fair.proofs.a_new_reference_is_not_in_use.{Passed, asked_finding, tests_pass}
 use Rattle.osi_fair.proofs.a_reference_names_one_connection.{no_item}
 use Rattle.osi_fair.proofs.a_request_of_a_whole_end_is_new.{IsUnused, Newer, next_unused, still_newer}
 use Rattle.osi_fair.proofs.how_requests_go_on.{Stage, asks, calm_passes, known, quiet, still_staged, zero, answered, ended, refused, waits}
 use Rattle.osi_fair.proofs.what_an_end_does_in_class_zero.{anyhow, zero_puts}
-use Rattle.osi_fair.proofs.what_an_end_puts_in_class_zero.{PutsData}
 use Rattle.osi_fair.proofs.what_lasts_at_the_tap.{lasts_passing}
 use Rattle.osi_fair.proofs.while_no_class_is_selected.{AllOver, GoesOn, calm_tap}
 
@@ -56,9 +55,6 @@ IsRightCr x s = Passed (takes Left (request x) s).told.finding
 some_cr : {A : Type 0} (w : Whole) (x : Connect) (rest : List Value) → w.put ≡ request x ∷ rest → w.put ≡ [] → A
 some_cr w x rest e none = absurd (cc (sym e ∙ none))
 
-no_cr : {A : Type 0} (x : Connect) (rest : List Value) (limit begun : ℕ) → PutsData limit anyhow begun (request x ∷ rest) → A
-no_cr x rest limit begun puts = absurd puts
-
 while_calm : (x : Connect) (w : Whole) (cs : List Connection) (strays : Bool) (rest : List Value) → w.put ≡ request x ∷ rest → Newer w →
     w.tap ≡ calm_tap cs strays → AllOver cs → IsRightCr x w.tap
 while_calm x w cs strays rest e newer tap all =
@@ -77,9 +73,8 @@ is_right local x rest w e begun goes newer (refused r is none not_begun cs stray
     some_cr w x rest e none
 is_right local x rest w e begun goes newer (answered r is none not_begun dcs n y more coming are class has after so z) =
     some_cr w x rest e none
-is_right local x rest w e begun goes newer (zero has z) = grind (arith, no_cr, anyhow, zero_puts)
-is_right local x rest w e begun goes newer (known two seen has) =
-    grind (arith, tests_pass, next_unused x rest w e newer, asked_is x w.tap goes (seen begun))
+is_right local x rest w e begun goes newer (zero has z) = grind (arith, anyhow, zero_puts)
+is_right local x rest w e begun goes newer (known two seen has) = grind (arith, tests_pass, next_unused x rest w e newer)
 
 pub request_right : (local : Local) (events : List Event) (w : Whole) (x : Connect) (rest : List Value) →
     HappenAlong Left (begin true local) events w → w.begun ≡ true → w.put ≡ request x ∷ rest → is_stopped Left w.tap.course ≡ false →

@@ -1,19 +1,16 @@
 -- While no class is selected, one connection at most is not over for left: that of the CR which waits for its answer.
 -- For the law of that name.
-use Rattle.osi_fair.proofs.Vocabulary.{arith}
-use Rattle.osi_fair.proofs.Vocabulary.{[], ap, Bool, false, if◌then◌else◌, is_some, List, None, Option, refl, Some, suc, sym, true, zero, ℕ}
-use Rattle.osi_fair.proofs.Vocabulary.{◌∙◌, ◌∷◌, ◌≡◌, list_all, not, position, slice_get, ◌&&◌, ◌==◌, ◌||◌, Connect}
-use Rattle.osi_fair.proofs.Vocabulary.{Value, Class, is_applied, reach_of, first_failed, begins, is_free, is_live, is_named}
-use Rattle.osi_fair.proofs.Vocabulary.{is_over, is_silent, seen, asks_by, asks_kept, asks_of, at_found, at_place}
-use Rattle.osi_fair.proofs.Vocabulary.{class_for, connection_after, course_after, course_after_none, course_begins, found_on, fresh}
-use Rattle.osi_fair.proofs.Vocabulary.{judged_on, none_told, one_told, Outcome, reached}
-use Rattle.osi_fair.proofs.Vocabulary.{request_tests, routed, sent_on, sized, Traffic as State, unnamed_told, Connection}
-use Rattle.osi_fair.proofs.Vocabulary.{Course, Direction, Left, Finding, Kept, NotJudged, Reach, Route, Asks, Named, Only, Unnamed}
+use Rattle.osi_fair.proofs.Vocabulary.{arith, [], ap, Bool, false, if◌then◌else◌, is_some, List, None, Option, refl, Some, suc, sym, true}
+use Rattle.osi_fair.proofs.Vocabulary.{zero, ℕ, ◌∙◌, ◌∷◌, ◌≡◌, list_all, not, position, slice_get, ◌&&◌, ◌==◌, ◌||◌, Connect, Value, Class}
+use Rattle.osi_fair.proofs.Vocabulary.{is_applied, reach_of, first_failed, begins, is_free, is_live, is_named, is_over, is_silent, seen}
+use Rattle.osi_fair.proofs.Vocabulary.{asks_by, asks_kept, at_place, class_for, connection_after, course_after, course_begins, found_on}
+use Rattle.osi_fair.proofs.Vocabulary.{fresh, none_told, one_told, reached, request_tests, routed, sized, Traffic as State, unnamed_told}
+use Rattle.osi_fair.proofs.Vocabulary.{Connection, Course, Direction, Left, Finding, Kept, Reach, Route, Asks, Named, Only, Unnamed}
 use Rattle.osi_fair.proofs.Vocabulary.{all_passed, HoldsOfOne, packet, passes, Passing, rubbish, unit}
-use Rattle.osi_fair.proofs.small_facts_that_many_lemmas_use.{and_first, and_second, differ, sized_judged}
+use Rattle.osi_fair.proofs.small_facts_that_many_lemmas_use.{and_first, and_second, differ}
 use Rattle.osi_fair.proofs.what_is_right_passes_each_test.{passes_each}
 use Rattle.osi_fair.proofs.what_holds_of_one_item.{first_true, one_added, one_changed, one_mapped, one_put}
-use Rattle.osi_fair.proofs.when_a_connection_has_a_name.{IsEarlier, over_still}
+use Rattle.osi_fair.proofs.when_a_connection_has_a_name.{IsEarlier}
 use Rattle.osi_fair.proofs.what_keeps_names_apart.{AreApart}
 use Rattle.osi_fair.proofs.a_reference_names_one_connection.{fresh_apart, no_item, not_first, not_true, passes_apart}
 
@@ -24,12 +21,6 @@ NoClass c = c.class ≡ None
 
 pub reached_class : (d : Direction) (r : Reach) (c : Course) → (reached d r c).class ≡ c.class
 reached_class d r c = grind arith
-
-reached_seen : (d : Direction) (r : Reach) (c : Course) → (reached d r c).class_seen ≡ c.class_seen
-reached_seen d r c = grind arith
-
-none_same : (v : Value) (c : Course) → ((course_after_none v c).class ≡ c.class) × ((course_after_none v c).class_seen ≡ c.class_seen)
-none_same v c = grind arith
 
 after_same : (d : Direction) (c : Connection) (v : Value) (applied : Bool) (course : Course) → NoClass (course_after d c v applied course) →
     NoClass course × ((course_after d c v applied course).class_seen ≡ course.class_seen)
@@ -44,18 +35,9 @@ record Waiting (s : State) : Type 0 where
 abbrev WaitsIf : State → Type 0
 WaitsIf s = NoClass s.course → Waiting s
 
-live_judged : (j over : Bool) → j ≡ true → not (j && over) ≡ true → over ≡ false
-live_judged j over e h = grind (arith, not_true)
-
-judged_live : (j over : Bool) → over ≡ false → not (j && over) ≡ true
-judged_live j over e = grind arith
-
 pub begun_live : (b : Direction) (c : Connection) → IsEarlier c.seen_by_left c.right → (begins b c).is_judged ≡ true →
     is_live Left (begins b c) ≡ true → (c.is_judged ≡ true) × (is_live Left c ≡ true)
-begun_live b c e j h = grind (arith, live_judged, judged_live, over_still)
-
-begun_judged : (b : Direction) (c : Connection) → (begins b c).is_judged ≡ true → c.is_judged ≡ true
-begun_judged b c j = grind arith
+begun_live b c e j h = grind arith
 
 sized_same : (v : Value) (c : Connection) → is_over Left (sized v c) ≡ is_over Left c
 sized_same v c = grind arith
@@ -63,24 +45,17 @@ sized_same v c = grind arith
 abbrev WasLive : Connection → Connection → Type 0
 WasLive c e = e.is_judged ≡ true → is_live Left e ≡ true → (c.is_judged ≡ true) × (is_live Left c ≡ true)
 
-on_live : (r : Reach) (c e : Connection) → WasLive c e → WasLive c (judged_on r e)
-on_live r c e h = grind arith
-
--- a unit of left is for a connection that is not over for left
-sent_live : (b : Direction) (v : Value) (c : Connection) → is_over b c ≡ false → WasLive c (sent_on b v c)
-sent_live b v c live j h = grind (arith, sized_judged, sized_same)
-
 after_live : (b : Direction) (v : Value) (applied : Bool) (r : Reach) (c : Connection) → is_over b c ≡ false →
     WasLive c (connection_after b v applied r c)
-after_live b v applied r c live = grind (arith, on_live, sent_live)
+after_live b v applied r c live = grind arith
 
 -- ---- by the way that a unit takes
 
 to_none : (d : Direction) (f : Finding) (s : State) → WaitsIf s → WaitsIf (none_told d f s).state
-to_none d f s a h = search (arith, reached_class, reached_seen)
+to_none d f s a h = grind (arith, reached_class)
 
 to_unnamed : (d : Direction) (v : Value) (s : State) → WaitsIf s → WaitsIf (unnamed_told d v s).state
-to_unnamed d v s a h = search (arith, none_same, reached_class, reached_seen)
+to_unnamed d v s a h = search (arith, reached_class)
 
 to_one : (d : Direction) (p : ℕ) (c : Connection) (v : Value) (s : State) → slice_get s.connections p ≡ Some c → is_over d c ≡ false →
     WaitsIf s → WaitsIf (one_told d p c v s).state
@@ -91,28 +66,20 @@ to_one d p c v s at live a h =
     let (class, known) = after_same d c v applied s.course (sym (reached_class d how_far course) ∙ h) in
     let w = a class in
     record {
-      seen = reached_seen d how_far course ∙ known ∙ w.seen;
+      seen = (grind arith) ∙ known ∙ w.seen;
       one = one_changed (is_live Left) s.connections p (connection_after d v applied how_far c) c w.one at
           (after_live d v applied how_far c live);
     }
 
-by_item : (d : Direction) (v : Value) (s : State) (p : ℕ) (c : Option Connection) → slice_get s.connections p ≡ c →
-    ((e : Connection) → slice_get s.connections p ≡ Some e → is_over d e ≡ false) → WaitsIf s → WaitsIf (at_found d v s p c).state
-by_item d v s p c at live a = grind (arith, to_unnamed, to_one)
-
 by_place : (d : Direction) (v : Value) (s : State) (p : Option ℕ) →
     ((i : ℕ) (e : Connection) → p ≡ Some i → slice_get s.connections i ≡ Some e → is_over d e ≡ false) → WaitsIf s →
     WaitsIf (at_place d v s p).state
-by_place d v s p live a = grind (arith, to_unnamed, by_item)
-
--- a CR is right only if no other connection waits
-item_is : (c x : Connection) → Some x ≡ Some c → c ≡ x
-item_is c x e = cc
+by_place d v s p live a = grind (arith, to_unnamed, to_one)
 
 all_so : (f : Connection → Bool) (cs : List Connection) (i : ℕ) (c : Connection) → list_all f cs ≡ true → slice_get cs i ≡ Some c →
     f c ≡ true
 all_so f [] i c h at = no_item i c at
-all_so f (x ∷ xs) zero c h at = ap f (item_is c x at) ∙ and_first (f x) (list_all f xs) h
+all_so f (x ∷ xs) zero c h at = ap f (grind arith) ∙ and_first (f x) (list_all f xs) h
 all_so f (x ∷ xs) (suc i) c h at = all_so f xs i c (and_second (f x) (list_all f xs) h) at
 
 none_waits : (cs : List Connection) (i : ℕ) (e : Connection) → list_all (is_over Left) cs ≡ true → slice_get cs i ≡ Some e →
@@ -136,21 +103,14 @@ asking d Kept x s e a h =
     placed_waits x s (position is_free s.connections) all w
 asking d v x s e a h = to_none d v s a h
 
-asks : (d : Direction) (v : Value) (s : State) → WaitsIf s → WaitsIf (asks_of d v s).state
-asks d v s a = grind (arith, asking, to_none)
-
 by_route : (d : Direction) (v : Value) (s : State) (r : Route) → WaitsIf s → WaitsIf (routed d v s r).state
-by_route d v s Asks a = asks d v s a
+by_route d v s Asks a = grind (arith, asking, to_none)
 by_route d v s (Named n) a = by_place d v s (position (is_named d n) s.connections)
     (λ i e first at. not_first (is_over d e) (not (is_silent (seen d e).phase) && ((seen d e).reference == n))
     (first_true (is_named d n) s.connections i e first at)) a
 by_route d v s Only a = by_place d v s (position (is_live d) s.connections)
     (λ i e first at. not_true (is_over d e) (first_true (is_live d) s.connections i e first at)) a
 by_route d v s (Unnamed finding) a = to_none d finding s a
-
-if_judged : (stopped : Bool) (d : Direction) (s : State) (o : Outcome) → WaitsIf (none_told d NotJudged s).state → WaitsIf o.state →
-    WaitsIf (if stopped then none_told d NotJudged s else o).state
-if_judged stopped d s o a b = grind arith
 
 begun_class : (d : Direction) (c : Course) → NoClass (course_begins d c) → c.class_seen ≡ None →
     NoClass c × ((course_begins d c).class_seen ≡ None)
@@ -164,10 +124,10 @@ still_waits (packet d) s apart a h =
     let w = a (class_begins d s.course h) in record {
       seen = (begun_class d s.course h w.seen).1;
       one = one_mapped (is_live Left) (is_live Left) (begins d) s.connections w.one
-          (λ i c at j k. begun_live d c (apart.sound i c at (begun_judged d c j)).left_knows j k);
+          (λ i c at j k. begun_live d c (apart.sound i c at (grind arith)).left_knows j k);
     }
-still_waits (unit d v) s apart a h = grind (arith, if_judged, to_none, by_route)
-still_waits (rubbish d) s apart a h = grind (arith, reached_class, reached_seen)
+still_waits (unit d v) s apart a h = grind (arith, to_none, by_route)
+still_waits (rubbish d) s apart a h = grind (arith, reached_class)
 
 all_wait : (ps : List Passing) (s : State) → AreApart s.connections → WaitsIf s → WaitsIf (all_passed ps s)
 all_wait [] s apart a = a

@@ -1,9 +1,8 @@
 -- The CRs that a carrier writes have references that rise, and each is above those of the CRs before it.
 -- For the law on new references.
-use Rattle.osi_fair.proofs.Vocabulary.{[], arith, Bool, if◌then◌else◌, List, Option, refl, Result, ℕ, ◌++◌, ◌<◌, ◌∙◌, ◌∷◌, ◌≡◌, ◌≤◌}
-use Rattle.osi_fair.proofs.Vocabulary.{AllByRecursion, units_of, Value, TpduFault, Standing, Class, effect, How, closed_on, closes_in}
-use Rattle.osi_fair.proofs.Vocabulary.{open_link, sent, sent_all, acts_by, react, reacts, RiseBy, does, ends, EndReason}
-use Rattle.osi_fair.proofs.Vocabulary.{all_written, asks_with}
+use Rattle.osi_fair.proofs.Vocabulary.{[], arith, Bool, if◌then◌else◌, List, Option, refl, ℕ, ◌++◌, ◌<◌, ◌∙◌, ◌∷◌, ◌≡◌, ◌≤◌, AllByRecursion}
+use Rattle.osi_fair.proofs.Vocabulary.{Value, Standing, effect, How, closed_on, open_link, sent, sent_all, react, reacts, RiseBy, does}
+use Rattle.osi_fair.proofs.Vocabulary.{ends, EndReason, all_written, asks_with}
 use Rattle.osi_carrier.specs.Calls.{sent_on}
 unfoldable use Rattle.osi_carrier.specs.Packets.{after_packet}
 use Rattle.osi_carrier.specs.Runs.{Act}
@@ -18,12 +17,9 @@ units_rise : (units : List Value) (s : State) → s.given ≤ (reacts units s).g
 units_rise [] s = omega arith
 units_rise (unit ∷ units) s = grind (arith, rises_by, effect unit s, units_rise units (react unit s))
 
-packet_by : (units : Result (List Value) TpduFault) (s : State) → s.given ≤ (acts_by units s).given
-packet_by units s = grind (arith, units_rise)
-
 packet_rises : (unit : List ℕ) (s : State) → s.given ≤ (after_packet s unit).given
 unfolding after_packet
-packet_rises unit s = packet_by (units_of unit) s
+packet_rises unit s = grind (arith, units_rise)
 
 pub sent_gives : (r : ℕ) (tsdu : List ℕ) (o : Option (ℕ × Standing)) (s : State) → (sent_on r tsdu o s).given ≡ s.given
 sent_gives r tsdu o s = grind arith
@@ -32,11 +28,8 @@ pub all_gives : (r : ℕ) (tsdus : List (List ℕ)) (s : State) → (sent_all r 
 all_gives r [] s = refl
 all_gives r (tsdu ∷ tsdus) s = all_gives r tsdus (sent r tsdu s) ∙ sent_gives r tsdu (open_link r s) s
 
-class_gives : (r peer reason : ℕ) (class : Option Class) (s : State) → (closes_in r peer reason class s).given ≡ s.given
-class_gives r peer reason class s = grind arith
-
 pub closed_gives : (r reason : ℕ) (o : Option (ℕ × Standing)) (s : State) → (closed_on r reason o s).given ≡ s.given
-closed_gives r reason o s = grind (arith, class_gives)
+closed_gives r reason o s = grind arith
 
 pub ended_gives : (over : Bool) (reason : EndReason) (s : State) → (if over then s else ends reason s).given ≡ s.given
 ended_gives over reason s = grind arith

@@ -1,11 +1,9 @@
 -- Small facts that lemmas of several files use: of truth values, lists and numbers, and of one step of a connection.
 -- For all proofs of this crate.
-use Rattle.osi_fair.proofs.Vocabulary.{arith}
-use Rattle.osi_fair.proofs.Vocabulary.{AllByRecursion, Bool, Connect, Connection, Course, Direction, EndReason, Finding, Half, Left, List}
-use Rattle.osi_fair.proofs.Vocabulary.{None, NotJudged, Option, Phase, Some, Standing, Traffic, Value, [], ap, begins, closing_phase}
-use Rattle.osi_fair.proofs.Vocabulary.{confirm, course_after, eqb-true, false, if◌then◌else◌, is_closing, is_open, is_silent, is_some}
-use Rattle.osi_fair.proofs.Vocabulary.{list_any, not, packet_begins, refl, set, sized, slice_get, suc, true, ℕ, ◌&&◌, ◌++◌, ◌==◌, ◌||◌, ◌∙◌}
-use Rattle.osi_fair.proofs.Vocabulary.{◌∷◌, ◌≡◌, zero}
+use Rattle.osi_fair.proofs.Vocabulary.{arith, AllByRecursion, Bool, Connection, Direction, EndReason, Finding, Half, List, None, NotJudged}
+use Rattle.osi_fair.proofs.Vocabulary.{Option, Phase, Some, Traffic, Value, [], ap, begins, closing_phase, eqb-true, false, if◌then◌else◌}
+use Rattle.osi_fair.proofs.Vocabulary.{is_closing, is_open, is_some, list_any, not, packet_begins, refl, set, sized, slice_get, suc, true}
+use Rattle.osi_fair.proofs.Vocabulary.{ℕ, ◌&&◌, ◌++◌, ◌==◌, ◌||◌, ◌∙◌, ◌∷◌, ◌≡◌, zero}
 
 pub all_add : {X : Type 0} (P : X → Type 0) (vs : List X) (v : X) → AllByRecursion P vs → P v → AllByRecursion P (vs ++ v ∷ [])
 all_add P [] v a p = (p, tt)
@@ -32,9 +30,6 @@ any_none f (c ∷ cs) h =
 pub begins_judged : (d : Direction) (c : Connection) → (begins d c).is_judged ≡ c.is_judged
 begins_judged d c = grind arith
 
-pub begins_reference : (d : Direction) (c : Connection) → (begins d c).left.reference ≡ c.left.reference
-begins_reference d c = grind arith
-
 pub begun_left : (d : Direction) (c : Connection) → (begins d c).left ≡ c.left
 begun_left d c = grind arith
 
@@ -43,9 +38,6 @@ begun_right d c = grind arith
 
 pub both : (a b : Bool) → a ≡ true → b ≡ true → (a && b) ≡ true
 both a b h k = grind arith
-
-pub closing_not_silent : (was : Bool) (half : Half) → is_silent (closing_phase was half).phase ≡ false
-closing_not_silent was half = grind arith
 
 pub closing_same : (was : Bool) (half : Half) → (closing_phase was half).reference ≡ half.reference
 closing_same was half = grind arith
@@ -118,15 +110,6 @@ or_right a b h = grind arith
 
 pub rest_is : (u v : Value) (xs ys : List Value) → u ∷ xs ≡ v ∷ ys → xs ≡ ys
 rest_is u v xs ys e = cc
-
-pub same_cc : (n r : ℕ) (x y : Connect) → confirm n x ≡ confirm r y → x ≡ y
-same_cc n r x y e = cc
-
-pub same_pair : (a b : ℕ × Standing) → Some a ≡ Some b → a ≡ b
-same_pair a b e = cc
-
-pub seen_after : (c : Connection) (v : Value) (b : Bool) (course : Course) → (course_after Left c v b course).class_seen ≡ course.class_seen
-seen_after c v b course = grind arith
 
 pub set_none : {X : Type 0} (xs : List X) (p i : ℕ) (x : X) → slice_get (set xs p x) i ≡ None → slice_get xs i ≡ None
 set_none [] p i x h = h

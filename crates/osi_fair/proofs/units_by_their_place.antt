@@ -1,10 +1,9 @@
 -- Units in order, each with the place at the tap of the connection that it is of: the units of one place.
 -- For the law on a whole called end.
-use Rattle.osi_fair.proofs.Vocabulary.{arith}
-use Rattle.osi_fair.proofs.Vocabulary.{[], ap, Bool, false, List, None, Option, refl, Some, true, ℕ, ◌++◌, ◌∙◌, ◌∷◌, ◌≡◌, ◌≢◌, eq-eqb, ◌&&◌}
+use Rattle.osi_fair.proofs.Vocabulary.{arith, [], ap, Bool, false, List, None, Option, refl, Some, true, ℕ, ◌++◌, ◌∙◌, ◌∷◌, ◌≡◌, eq-eqb}
 use Rattle.osi_fair.proofs.Vocabulary.{◌==◌, Value}
 use Rattle.osi_fair.proofs.small_facts_that_many_lemmas_use.{unequal}
-use Rattle.osi_fair.proofs.which_units_are_for_a_connection.{keep, keep_join, names_in}
+use Rattle.osi_fair.proofs.which_units_are_for_a_connection.{keep, names_in}
 pub use Rattle.osi_fair.proofs.which_units_are_for_a_connection.{names_in as is_at}
 
 -- a unit, and the place of its connection; none if it is of no connection
@@ -30,7 +29,7 @@ all_at o (v ∷ vs) = (o, v) ∷ all_at o vs
 
 pub at_join : (p : ℕ) (xs ys : List Placed) → units_at p (xs ++ ys) ≡ units_at p xs ++ units_at p ys
 at_join p [] ys = refl
-at_join p (x ∷ xs) ys = grind (arith, keep, names_in, keep_join, at_join p xs ys)
+at_join p (x ∷ xs) ys = grind (arith, keep, names_in, at_join p xs ys)
 
 pub values_join : (xs ys : List Placed) → values (xs ++ ys) ≡ values xs ++ values ys
 values_join [] ys = refl
@@ -63,7 +62,3 @@ all_elsewhere p q (v ∷ vs) h = at_other p q v (all_at (Some q) vs) h ∙ all_e
 pub all_nowhere : (p : ℕ) (vs : List Value) → units_at p (all_at None vs) ≡ []
 all_nowhere p [] = refl
 all_nowhere p (v ∷ vs) = all_nowhere p vs
-
-pub first_more : (b : Bool) (p : ℕ) (ts more : List Placed) → (b ≡ true → values ts ≢ []) →
-    (b && first_at p (ts ++ more)) ≡ (b && first_at p ts)
-first_more b p ts more h = grind arith

@@ -7,7 +7,7 @@ use Rattle.osi_fair.proofs.Vocabulary.{IsOpened, Line}
 use Rattle.osi_rules.specs.declared.findings.Reach.TheVariants as reach
 use Rattle.osi_fair.proofs.small_facts_that_many_lemmas_use.{closing_shuts, differ, first_is, no_list, rest_is}
 use Rattle.osi_fair.proofs.an_end_closes_last.{waits_open}
-use Rattle.osi_fair.proofs.an_open_end_is_fair.{on_judged, open_is_fair}
+use Rattle.osi_fair.proofs.an_open_end_is_fair.{open_is_fair}
 use Rattle.osi_fair.proofs.what_is_put_before_the_cc_passes.{acts_join}
 use Rattle.osi_fair.proofs.what_stays_of_each_connection.{right_own, right_then}
 
@@ -31,16 +31,13 @@ no_some l o h k = absurd (cc)
 pub sent_judged : (v : Value) (c : Connection) → (sent_on Right v c).is_judged ≡ c.is_judged
 sent_judged v c = grind arith
 
-other_judged : (v : Value) (c : Connection) → (sent_on Left v c).is_judged ≡ c.is_judged
-other_judged v c = grind arith
-
 own_was : (v : Value) (applied : Bool) (r : Reach) (c : Connection) → (connection_after Right v applied r c).is_judged ≡ true →
     c.is_judged ≡ true
-own_was v applied r c h = grind (arith, sent_judged, on_judged)
+own_was v applied r c h = grind (arith, sent_judged)
 
 pub other_was : (v : Value) (applied : Bool) (r : Reach) (c : Connection) → (connection_after Left v applied r c).is_judged ≡ true →
     c.is_judged ≡ true
-other_was v applied r c h = grind (arith, other_judged, on_judged)
+other_was v applied r c h = grind arith
 
 judged_so : (j : Bool) (g : Finding) → j ≡ true → g ≡ Kept → (if j then g else NotJudged) ≡ Kept
 judged_so j g h e = grind arith

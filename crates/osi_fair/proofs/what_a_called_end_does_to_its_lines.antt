@@ -11,8 +11,8 @@ use Rattle.osi_fair.proofs.small_facts_that_many_lemmas_use.{differ, no_number, 
 use Rattle.osi_fair.proofs.each_connection_of_a_called_end.{stands_at, Among, AreAbove, AreStrays, Answering, Called, IsFor, IsStray}
 use Rattle.osi_fair.proofs.each_connection_of_a_called_end.{IsUnlinked, Row, Running, Stand, Untagged, answers, closes, comes, line_of}
 use Rattle.osi_fair.proofs.each_connection_of_a_called_end.{over, past, refuses, runs, talks}
-use Rattle.osi_fair.proofs.units_by_their_place.{Placed, all_at, all_elsewhere, all_here, at_join, first_at, first_more, units_at, values}
-use Rattle.osi_fair.proofs.units_by_their_place.{values_all, values_join}
+use Rattle.osi_fair.proofs.units_by_their_place.{Placed, all_at, all_elsewhere, all_here, at_join, first_at, units_at, values, values_all}
+use Rattle.osi_fair.proofs.units_by_their_place.{values_join}
 use Rattle.osi_fair.proofs.what_is_live_at_a_called_end.{Timely, timely_puts}
 use Rattle.osi_fair.proofs.what_is_put_before_the_cc_passes.{acts_join}
 use Rattle.osi_fair.proofs.which_units_are_for_a_connection.{those}
@@ -112,7 +112,7 @@ module _ (local : Local) (w : Whole) (f : Called local w) (t : State) (units : L
   StandThen mine begun i c = Stand local f.shut t coming mine (units_at i came) begun (f.refs i) c
 
   begun_same : (i : ℕ) → (w.begun && first_at i tagged) ≡ (w.begun && first_at i f.tagged)
-  begun_same i = first_more w.begun i f.tagged (all_at (Some p) units) f.some
+  begun_same i = grind arith
 
   mine_other : (i : ℕ) → (i ≡ p → ⊥) → units_at i tagged ≡ units_at i f.tagged
   mine_other i other = grind (arith, at_join, all_elsewhere, append-nil)
@@ -121,9 +121,6 @@ module _ (local : Local) (w : Whole) (f : Called local w) (t : State) (units : L
   mine_here = at_join p f.tagged (all_at (Some p) units) ∙ ap (λ (vs : List Value). units_at p f.tagged ++ vs) (all_here p units)
 
   -- ---- another connection
-
-  not_n : (i r : ℕ) → (i ≡ p → ⊥) → f.refs i ≡ Some r → r ≡ n → ⊥
-  not_n i r other e same = other (sym (f.homes i r e).0 ∙ ap (λ (j : ℕ). f.home j) same)
 
   unlinked_still : (r : ℕ) → (r ≡ n → ⊥) → IsUnlinked s r → IsUnlinked t r
   unlinked_still r other h lasts peer k e = h was peer k (sym (rows r other) ∙ e)
@@ -139,7 +136,7 @@ module _ (local : Local) (w : Whole) (f : Called local w) (t : State) (units : L
       Stand local f.shut s w.coming mine (units_at i f.came) begun (f.refs i) c → StandThen mine begun i c
   stand_other i c mine begun other = stands_at local f.shut s t w.coming coming mine (units_at i f.came) (units_at i came) begun
       (f.refs i) c (λ x ask lasts. asks i ∙ ask was) (λ none. asks i ∙ none)
-      (λ r peer link come e. row_other r peer link come (not_n i r other e)) (λ r e. unlinked_still r (not_n i r other e))
+      (λ r peer link come e. row_other r peer link come (grind arith)) (λ r e. unlinked_still r (grind arith))
 
   stand_else : (i : ℕ) (c : Connection) → (i ≡ p → ⊥) → slice_get w.tap.connections i ≡ Some c → StandNow i c
   stand_else i c other at =
@@ -163,10 +160,6 @@ module _ (local : Local) (w : Whole) (f : Called local w) (t : State) (units : L
 
   goes : (peer : ℕ) (link : Option Standing) (come : List Value) → Row s w.coming n peer link come → Goes peer link come
   goes peer link come l = search (arith, differ)
-
-  shut_not : (peer r : ℕ) (link : Option Standing) (come : List Value) → Goes peer link come → (f.shut r ≡ true → link ≡ None) →
-      f.shut r ≡ true → link_now (value_at n t.live) ≡ None
-  shut_not peer r link come g h e = no_link link g.k g.is (h e)
 
   answers_on : (c : Connection) (h : Answering local f.shut s w.coming (units_at p f.tagged) (w.begun && first_at p f.tagged) (Some n) c) →
       (r : ℕ) → r ≡ n → h.r ≡ r →
@@ -196,7 +189,7 @@ module _ (local : Local) (w : Whole) (f : Called local w) (t : State) (units : L
             (o.follows.along Right (line_of h.link h.more h.come tap) o.later (g.is ∙ sym (ap link_now g.there)) o.is);
         seen = λ b. h.seen (sym (begun_same p) ∙ b);
         row = new_row h.x.source o.later o.among (left h.x.source g.k g.there);
-        shut_is = shut_not h.x.source n h.link h.come g (λ e. h.shut_is (ap f.shut r_is ∙ e));
+        shut_is = grind (arith, no_link);
       }
 
   runs_on : (c : Connection) (h : Running f.shut s w.coming (units_at p f.tagged) (w.begun && first_at p f.tagged) (Some n) c) → h.r ≡ n →
@@ -224,7 +217,7 @@ module _ (local : Local) (w : Whole) (f : Called local w) (t : State) (units : L
         right = h.right ∙ r_is;
         left = h.left;
         row = new_row h.peer o.later o.among (left h.peer g.k g.there);
-        shut_is = shut_not h.peer n h.line.link h.line.coming g (λ e. h.shut_is (ap f.shut r_is ∙ e));
+        shut_is = grind (arith, no_link);
       }
 
   stand_mine : (c : Connection) →
@@ -236,17 +229,10 @@ module _ (local : Local) (w : Whole) (f : Called local w) (t : State) (units : L
   stand_mine c (runs h none) = runs (runs_on c h (number_is h.r n (sym h.index))) (asks p ∙ none)
   stand_mine c (past silent up none ask un off) = absurd (un n refl was q l here)
 
-  stand_here : (c : Connection) → slice_get w.tap.connections p ≡ Some c → StandNow p c
-  stand_here c at =
-      subst (λ (o : Option ℕ). Stand local f.shut t coming (units_at p tagged) (units_at p came) (w.begun && first_at p tagged) o c)
-      (sym index)
-      (stand_mine c (subst (λ (o : Option ℕ). Stand local f.shut s w.coming (units_at p f.tagged) (units_at p f.came)
-      (w.begun && first_at p f.tagged) o c) index (f.stands p c at)))
-
   stand_by : (i : ℕ) (c : Connection) (b : Bool) → (i == p) ≡ b → slice_get w.tap.connections i ≡ Some c → StandNow i c
   stand_by i c true e at =
       let same = eqb-true i p e in
-      subst (λ (j : ℕ). StandNow j c) (sym same) (stand_here c (ap (λ (j : ℕ). slice_get w.tap.connections j) (sym same) ∙ at))
+      subst (λ (j : ℕ). StandNow j c) (sym same) (grind (arith, index, stand_mine, units_at, first_at))
   stand_by i c false e at = stand_else i c (unlike i p e) at
 
   -- ---- no connection
@@ -254,7 +240,7 @@ module _ (local : Local) (w : Whole) (f : Called local w) (t : State) (units : L
   gone_by : (i : ℕ) → slice_get w.tap.connections i ≡ None → (b : Bool) → (i == p) ≡ b →
       (units_at i tagged ≡ []) × (units_at i came ≡ []) × ((r : ℕ) → f.refs i ≡ Some r → IsUnlinked t r)
   gone_by i none true e = search (arith, eqb-true, index)
-  gone_by i none false e = grind (arith, mine_other, unlike, unlinked_still, not_n)
+  gone_by i none false e = grind (arith, mine_other, unlike, unlinked_still)
 
   linked_by : (r peer : ℕ) (k : Standing) (b : Bool) → (r == n) ≡ b → value_at r t.live ≡ Some (linked peer k) → f.refs (f.home r) ≡ Some r
   linked_by r peer k b e there = grind (arith, eqb-true, index, unlike)

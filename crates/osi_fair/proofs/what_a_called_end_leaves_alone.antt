@@ -10,8 +10,7 @@ use Rattle.osi_fair.proofs.small_facts_that_many_lemmas_use.{differ}
 use Rattle.osi_fair.proofs.each_connection_of_a_called_end.{stands_at, Among, AreAbove, AreStrays, Called, IsFor, IsStray, IsUnlinked, Row}
 use Rattle.osi_fair.proofs.each_connection_of_a_called_end.{Stand, Untagged, answers, closes, comes, line_of, over, past, refuses, runs}
 use Rattle.osi_fair.proofs.each_connection_of_a_called_end.{talks}
-use Rattle.osi_fair.proofs.units_by_their_place.{Placed, all_at, all_nowhere, at_join, first_at, first_more, units_at, values, values_all}
-use Rattle.osi_fair.proofs.units_by_their_place.{values_join}
+use Rattle.osi_fair.proofs.units_by_their_place.{Placed, all_at, all_nowhere, at_join, first_at, units_at, values, values_all, values_join}
 use Rattle.osi_fair.proofs.what_a_called_end_does_to_its_lines.{above_more, some_more, strays_keep}
 use Rattle.osi_fair.proofs.what_is_live_at_a_called_end.{Timely, timely_puts}
 use Rattle.osi_fair.proofs.what_is_put_before_the_cc_passes.{acts_join}
@@ -41,11 +40,8 @@ module _ (local : Local) (w : Whole) (f : Called local w) (t : State) (units : L
   abbrev tagged : List Placed
   tagged = f.tagged ++ all_at None units
 
-  unlinked_by : (r : ℕ) (b : Bool) → (r == n) ≡ b → IsUnlinked s r → IsUnlinked t r
-  unlinked_by r b e h lasts q l there = grind (arith, eqb-true, unlike)
-
   unlinked_still : (r : ℕ) → IsUnlinked s r → IsUnlinked t r
-  unlinked_still r h = unlinked_by r (r == n) refl h
+  unlinked_still r h = grind (arith, eqb-true, unlike)
 
   -- what the line of a connection does
   record Step (r peer : ℕ) (link : Option Standing) (come : List Value) : Type 0 where
@@ -55,15 +51,9 @@ module _ (local : Local) (w : Whole) (f : Called local w) (t : State) (units : L
     row : Row t coming r peer link later
     shut_is : shut r ≡ true → link ≡ None
 
-  shut_old : (r : ℕ) (link : Option Standing) → (r ≡ n → ⊥) → (f.shut r ≡ true → link ≡ None) → shut r ≡ true → link ≡ None
-  shut_old r link other h e = either (f.shut r ≡ true) (r ≡ n) (link ≡ None) h (λ k. absurd (other k)) (shut_was r e)
-
-  stays_as : (line : Line) (come : List Value) → line.coming ≡ come → record line { coming = come } ≡ line
-  stays_as line come e = ap (λ (l : List Value). record line { coming = l }) (sym e)
-
   step_other : (r peer : ℕ) (link : Option Standing) (come : List Value) → (r ≡ n → ⊥) → (f.shut r ≡ true → link ≡ None) →
       Row t coming r peer link come → Step r peer link come
-  step_other r peer link come other h row = grind (arith, stays_as, shut_old)
+  step_other r peer link come other h row = grind arith
 
   row_other : (r peer : ℕ) (link : Option Standing) (come : List Value) → (r ≡ n → ⊥) → Row s w.coming r peer link come →
       Row t coming r peer link come
@@ -74,7 +64,7 @@ module _ (local : Local) (w : Whole) (f : Called local w) (t : State) (units : L
 
   ignores_it : (r peer : ℕ) (link : Option Standing) (come : List Value) → r ≡ n → link ≡ None → IsUnlinked t r →
       Among come (u ∷ those n coming) → Step r peer link come
-  ignores_it r peer link come same none un (inl (dc, among)) = grind (arith, stays_as, closes, those)
+  ignores_it r peer link come same none un (inl (dc, among)) = grind (arith, closes, those)
   ignores_it r peer link come same none un (inr (zs, e, among)) = record {
     later = zs;
     acts = ignores (u ∷ []) ∷ [];
@@ -83,12 +73,9 @@ module _ (local : Local) (w : Whole) (f : Called local w) (t : State) (units : L
     shut_is = λ h. none;
   }
 
-  step_mine : (r peer : ℕ) (link : Option Standing) (come : List Value) → r ≡ n → Row s w.coming r peer link come → Step r peer link come
-  step_mine r peer link come same l = grind (arith, ignores_it, unlinked_still, differ)
-
   step_by : (r peer : ℕ) (link : Option Standing) (come : List Value) (b : Bool) → (r == n) ≡ b → (f.shut r ≡ true → link ≡ None) →
       Row s w.coming r peer link come → Step r peer link come
-  step_by r peer link come true e h row = step_mine r peer link come (eqb-true r n e) row
+  step_by r peer link come true e h row = grind (arith, ignores_it, unlinked_still, differ)
   step_by r peer link come false e h row = search (arith, step_other, unlike, row_other)
 
   abbrev StandThen : List Value → Bool → ℕ → Connection → Type 0
@@ -147,7 +134,7 @@ module _ (local : Local) (w : Whole) (f : Called local w) (t : State) (units : L
   mine_same i = grind (arith, at_join, all_nowhere, append-nil)
 
   begun_same : (i : ℕ) → (w.begun && first_at i tagged) ≡ (w.begun && first_at i f.tagged)
-  begun_same i = first_more w.begun i f.tagged (all_at None units) f.some
+  begun_same i = grind arith
 
   stand_now : (i : ℕ) (c : Connection) → slice_get w.tap.connections i ≡ Some c →
       StandThen (units_at i tagged) (w.begun && first_at i tagged) i c

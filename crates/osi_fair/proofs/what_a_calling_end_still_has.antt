@@ -1,13 +1,12 @@
 -- Which connections a calling end of class 2 still has after a unit or a call: all but the one that a DR, DC or ER names.
 -- For the law on DRs.
-use Rattle.osi_fair.proofs.Vocabulary.{arith, [], ap, Bool, Err, false, if◌then◌else◌, inr, is_some, List, None, Ok, Option, refl, Result}
-use Rattle.osi_fair.proofs.Vocabulary.{Some, sym, true, ℕ, ◌++◌, ◌+◌, ◌∙◌, ◌∷◌, ◌≡◌, ◌⊎◌, eq-eqb, eqb-true, ◌&&◌, ◌==◌, acknowledge}
-use Rattle.osi_fair.proofs.Vocabulary.{confirm, Connect, data2, disconnect, disconnected, error, Value, Standing, with_tsdu, LinkFault}
-use Rattle.osi_fair.proofs.Vocabulary.{Class, Two, Zero, put_other, without_other, put_here, closed_on, closes_in, open_link, sent}
-use Rattle.osi_fair.proofs.Vocabulary.{sent_all, agreed_size, confirmed, opened_link, pumped, before_class, breaks_in, handed_out, in_class}
-use Rattle.osi_fair.proofs.Vocabulary.{in_two, leaves, opens, react_by, taking, to_asked, to_closing, to_connection, to_linked, to_unknown}
-use Rattle.osi_fair.proofs.Vocabulary.{put, Rows, value_at, without, connects, user_does, UserCall, asked, closing, Live as Connection}
-use Rattle.osi_fair.proofs.Vocabulary.{ends, linked, EndReason}
+use Rattle.osi_fair.proofs.Vocabulary.{arith, [], ap, Bool, Err, false, if◌then◌else◌, is_some, List, None, Ok, Option, refl, Result, Some}
+use Rattle.osi_fair.proofs.Vocabulary.{sym, true, ℕ, ◌++◌, ◌+◌, ◌∙◌, ◌∷◌, ◌≡◌, ◌⊎◌, eq-eqb, eqb-true, ◌&&◌, ◌==◌, acknowledge, confirm}
+use Rattle.osi_fair.proofs.Vocabulary.{Connect, data2, disconnect, disconnected, error, Value, Standing, LinkFault, Class, Two, Zero}
+use Rattle.osi_fair.proofs.Vocabulary.{put_other, without_other, put_here, closed_on, closes_in, open_link, sent, sent_all, confirmed}
+use Rattle.osi_fair.proofs.Vocabulary.{before_class, breaks_in, in_two, leaves, opens, react_by, taking, to_asked, to_closing}
+use Rattle.osi_fair.proofs.Vocabulary.{to_connection, to_linked, to_unknown, put, Rows, value_at, without, connects, user_does, UserCall}
+use Rattle.osi_fair.proofs.Vocabulary.{asked, closing, Live as Connection, ends, linked, EndReason}
 use Rattle.osi_carrier.specs.Calls.{sent_on}
 unfoldable use Rattle.osi_carrier.specs.React.{react}
 use Rattle.osi_carrier.specs.State.{State}
@@ -30,22 +29,12 @@ Has rows m = is_some (value_at m rows) ≡ true
 some_there : {X : Type 0} (o : Option X) → is_some o ≡ true → (x : X) × (o ≡ Some x)
 some_there o h = grind arith
 
-put_by : (m r : ℕ) (c : Connection) (rows : Rows Connection) (b : Bool) → (m == r) ≡ b → Has rows m → Has (put r c rows) m
-put_by m r c rows b e h = grind (arith, eqb-true, some_there, put_here, put_other, unlike)
-
 has_put : (m r : ℕ) (c : Connection) (rows : Rows Connection) → Has rows m → Has (put r c rows) m
-has_put m r c rows h = put_by m r c rows (m == r) refl h
-
-has_without : (m r : ℕ) (rows : Rows Connection) → (m ≡ r → ⊥) → Has rows m → Has (without r rows) m
-has_without m r rows other h = ap is_some (without_other m r rows other) ∙ h
-
-push_by : (m : ℕ) (b : Bool) (c : Connection) (o more : Option Connection) → (is_some o ≡ true → is_some more ≡ true) →
-    is_some (if b then Some c else o) ≡ true → is_some (if b then Some c else more) ≡ true
-push_by m b c o more k h = grind arith
+has_put m r c rows h = grind (arith, eqb-true, some_there, put_here, put_other, unlike)
 
 has_push : (m n : ℕ) (x : Connection) (rows : Rows Connection) → Has rows m → Has (rows ++ (n, x) ∷ []) m
 has_push m n x [] h = absurd (cc h)
-has_push m n x ((q, y) ∷ rows) h = grind (arith, push_by, has_push m n x rows)
+has_push m n x ((q, y) ∷ rows) h = grind (arith, has_push m n x rows)
 
 last_by : (b : Bool) (c : Connection) (o : Option Connection) → is_some o ≡ true → is_some (if b then Some c else o) ≡ true
 last_by b c o h = grind arith
@@ -65,10 +54,6 @@ pub record After (unit : Value) (s t : State) : Type 0 where
 pub stays : (s t : State) → OffersTwo s → t.is_caller ≡ s.is_caller → t.local ≡ s.local → t.class ≡ s.class → OffersTwo t
 stays s t o a b c = search (arith)
 
-after_same : (unit : Value) (s t : State) → OffersTwo s → t.is_caller ≡ s.is_caller → t.local ≡ s.local → t.class ≡ s.class →
-    t.live ≡ s.live → After unit s t
-after_same unit s t o a b c e = search (arith, stays)
-
 pub over_not : {A : Type 0} (o : Option EndReason) → is_some o ≡ true → o ≡ None → A
 over_not o h e = grind arith
 
@@ -76,23 +61,16 @@ after_end : (unit : Value) (s t : State) → OffersTwo s → t.is_caller ≡ s.i
     is_some t.ended ≡ true → After unit s t
 after_end unit s t o a b c over = search (arith, stays, over_not)
 
-after_put : (unit : Value) (s t : State) (r : ℕ) (c : Connection) → OffersTwo t → t.local ≡ s.local →
-    (s.class ≡ Some Two → t.class ≡ Some Two) → t.live ≡ put r c s.live → After unit s t
-after_put unit s t r c o b k e = search (arith, has_put)
-
 after_drop : (unit : Value) (s t : State) (r : ℕ) → OffersTwo s → t.is_caller ≡ s.is_caller → t.local ≡ s.local → t.class ≡ s.class →
     closed_by unit ≡ Some r → t.live ≡ without r s.live → After unit s t
-after_drop unit s t r o a b c closed e = search (arith, stays, has_without)
+after_drop unit s t r o a b c closed e = grind (arith, stays, without_other)
 
 unknown_after : (unit : Value) (s : State) → OffersTwo s → After unit s (to_unknown unit s)
-unknown_after v s o = grind (arith, after_same, after_end)
+unknown_after v s o = grind (arith, after_end)
 
 opens_by : (r : ℕ) (x : Connect) (a b z : Bool) (s : State) → OffersTwo s → (b && z) ≡ false →
     After (confirm r x) s (opens r x (if a then Some Two else (if (b && z) then Some Zero else None)) s)
-opens_by r x true b z s o e =
-    after_put (confirm r x) s (opens r x (Some Two) s) r
-    (linked x.source (opened_link Two (agreed_size x.parameters.size s.local) s.local x.credit))
-    (record { caller = o.caller; two = o.two; class = inr refl }) refl (λ h. refl) refl
+opens_by r x true b z s o e = grind (arith, has_put)
 opens_by r x false b z s o e = grind (arith, after_end)
 
 -- a CC selects class 2
@@ -103,12 +81,9 @@ Selects unit = (m : ℕ) (x : Connect) → unit ≡ confirm m x → (x.class == 
 abbrev pub SelectsTwo : State → Value → Type 0
 SelectsTwo s unit = s.ended ≡ None → (m : ℕ) (x : Connect) → unit ≡ confirm m x → value_at m s.live ≡ Some asked → (x.class == 2) ≡ true
 
-two_not_zero : (n : ℕ) → (n == 2) ≡ true → (n == 0) ≡ false
-two_not_zero n h = ap (λ (i : ℕ). i == 0) (eqb-true n 2 h)
-
 -- so it does not select class 0
 pub not_zero : (x : Connect) (b : Bool) → (x.class == 2) ≡ true → ((x.class == 0) && b) ≡ false
-not_zero x b h = no_two (x.class == 0) b (two_not_zero x.class h)
+not_zero x b h = no_two (x.class == 0) b (grind (arith, eqb-true))
 
 opens_after : (r : ℕ) (x : Connect) (s : State) → OffersTwo s → (x.class == 2) ≡ true →
     After (confirm r x) s (opens r x (confirmed x s.local s.class) s)
@@ -125,7 +100,7 @@ asked_after r (confirm destination x) s o two is = widen r destination x s (open
 asked_after r (disconnect destination source reason user) s o two is =
     after_drop (disconnect destination source reason user) s (to_asked r (disconnect destination source reason user) s) r o refl refl refl
     (ap (λ (n : ℕ). Some n) (is destination refl)) refl
-asked_after r (disconnected destination source) s o two is = after_same (disconnected destination source) s s o refl refl refl refl
+asked_after r (disconnected destination source) s o two is = grind (arith, stays)
 asked_after r (error destination cause) s o two is =
     after_drop (error destination cause) s (to_asked r (error destination cause) s) r o refl refl refl
     (ap (λ (n : ℕ). Some n) (is destination refl)) refl
@@ -134,18 +109,12 @@ asked_after r v s o two is = grind (arith, after_end)
 breaks_by : (unit : Value) (r peer : ℕ) (fault : LinkFault) (k : Option Class) (s : State) → OffersTwo s →
     (k ≡ None) ⊎ (k ≡ Some Two) → After unit s (breaks_in r peer fault k s)
 breaks_by unit r peer fault None s o e = after_end unit s (breaks_in r peer fault None s) o refl refl refl refl
-breaks_by unit r peer fault (Some Two) s o e =
-    after_put unit s (breaks_in r peer fault (Some Two) s) r (closing peer)
-    (stays s (breaks_in r peer fault (Some Two) s) o refl refl refl) refl
-    (λ h. h) refl
+breaks_by unit r peer fault (Some Two) s o e = grind (arith, has_put)
 breaks_by unit r peer fault (Some Zero) s o e = after_end unit s (breaks_in r peer fault (Some Zero) s) o refl refl refl refl
 
 taking_after : (unit : Value) (r peer : ℕ) (result : Result Standing LinkFault) (s : State) → OffersTwo s →
     After unit s (taking r peer result s)
-taking_after unit r peer (Ok link) s o =
-    after_put unit s (taking r peer (Ok link) s) r (linked peer (pumped (handed_out link)))
-    (stays s (taking r peer (Ok link) s) o refl refl refl)
-    refl (λ h. h) refl
+taking_after unit r peer (Ok link) s o = grind (arith, has_put)
 taking_after unit r peer (Err fault) s o = breaks_by unit r peer fault s.class s o o.class
 
 leaves_by : (unit : Value) (r peer reason : ℕ) (k : Option Class) (s : State) → OffersTwo s → closed_by unit ≡ Some r →
@@ -167,7 +136,7 @@ closing_after r (disconnect destination source reason user) s o is =
 closing_after r (disconnected destination source) s o is =
     after_drop (disconnected destination source) s (to_closing r (disconnected destination source) s) r o refl refl refl
     (ap (λ (n : ℕ). Some n) (is destination refl)) refl
-closing_after r v s o is = after_same v s s o refl refl refl refl
+closing_after r v s o is = grind (arith, stays)
 
 connection_after : (r : ℕ) (o : Option Connection) (unit : Value) (s : State) → OffersTwo s → (o ≡ Some asked → Selects unit) →
     ((n : ℕ) → closed_by unit ≡ Some n → n ≡ r) → After unit s (to_connection r o unit s)
@@ -176,12 +145,6 @@ connection_after r (Some asked) unit s h two is = asked_after r unit s h (two re
 connection_after r (Some (linked peer link)) unit s h two is = linked_after r peer link unit s h is
 connection_after r (Some (closing peer)) unit s h two is = closing_after r unit s h is
 
-same_number : (n r : ℕ) → Some r ≡ Some n → n ≡ r
-same_number n r e = cc
-
-none_number : {A : Type 0} (n : ℕ) → None ≡ Some n → A
-none_number n e = absurd (cc)
-
 -- as long as the end lasts
 abbrev SelectsNow : State → Value → Type 0
 SelectsNow s unit = (m : ℕ) (x : Connect) → unit ≡ confirm m x → value_at m s.live ≡ Some asked → (x.class == 2) ≡ true
@@ -189,29 +152,21 @@ SelectsNow s unit = (m : ℕ) (x : Connect) → unit ≡ confirm m x → value_a
 same_name : (a m : ℕ) (x y : Connect) → confirm a x ≡ confirm m y → m ≡ a
 same_name a m x y e = cc
 
--- a CC that the end awaits
-awaited : (a : ℕ) (x : Connect) (s : State) → SelectsNow s (confirm a x) → value_at a s.live ≡ Some asked → Selects (confirm a x)
-awaited a x s two here m y e = two m y e (ap (λ (i : ℕ). value_at i s.live) (same_name a m x y e) ∙ here)
-
 before_after : (unit : Value) (s : State) → OffersTwo s → SelectsNow s unit → After unit s (before_class true unit s)
-before_after unit s o two = grind (arith, connection_after, awaited, none_number, same_number, after_end)
+before_after unit s o two = grind (arith, connection_after, after_end)
 
 two_after : (unit : Value) (s : State) → OffersTwo s → SelectsNow s unit → After unit s (in_two true unit s)
-two_after (confirm destination x) s o two = grind (arith, connection_after, awaited, none_number)
-two_after (disconnect destination source reason user) s o two = grind (arith, connection_after, same_number)
-two_after (disconnected destination source) s o two = grind (arith, connection_after, same_number)
-two_after (data2 destination number end user) s o two = grind (arith, connection_after, none_number)
-two_after (acknowledge credit destination number) s o two = grind (arith, connection_after, none_number)
-two_after (error destination cause) s o two = grind (arith, connection_after, same_number)
+two_after (confirm destination x) s o two = grind (arith, connection_after)
+two_after (disconnect destination source reason user) s o two = grind (arith, connection_after)
+two_after (disconnected destination source) s o two = grind (arith, connection_after)
+two_after (data2 destination number end user) s o two = grind (arith, connection_after)
+two_after (acknowledge credit destination number) s o two = grind (arith, connection_after)
+two_after (error destination cause) s o two = grind (arith, connection_after)
 two_after v s o two = after_end v s (in_two true v s) o refl refl refl refl
-
-class_after : (k : Option Class) (unit : Value) (s : State) → OffersTwo s → SelectsNow s unit → (k ≡ None) ⊎ (k ≡ Some Two) →
-    After unit s (in_class k unit s)
-class_after k unit s o two e = grind (arith, before_after, two_after)
 
 by_end : (over : Bool) (unit : Value) (s : State) → is_some s.ended ≡ over → OffersTwo s → SelectsTwo s unit →
     After unit s (react_by over unit s)
-by_end over unit s e o two = search (arith, after_same, class_after, none_of)
+by_end over unit s e o two = search (arith, stays, before_after, two_after, none_of)
 
 pub unit_after : (unit : Value) (s : State) → OffersTwo s → SelectsTwo s unit → After unit s (react unit s)
 unfolding react
@@ -224,20 +179,11 @@ pub record AfterCall (s t : State) : Type 0 where
   pub local : t.local ≡ s.local
   pub live : t.ended ≡ None → (m : ℕ) → IsLive s m → IsLive t m
 
-call_same : (s : State) → OffersTwo s → AfterCall s s
-call_same s o = record { offers = o; local = refl; live = λ lasts m h. h }
-
-call_put : (s t : State) (r : ℕ) (c : Connection) → OffersTwo t → t.local ≡ s.local → t.live ≡ put r c s.live → AfterCall s t
-call_put s t r c o b e = search (arith, has_put)
-
-call_end : (s t : State) → OffersTwo t → t.local ≡ s.local → is_some t.ended ≡ true → AfterCall s t
-call_end s t o b over = record { offers = o; local = b; live = λ lasts. over_not t.ended over lasts }
-
 sent_after : (r : ℕ) (tsdu : List ℕ) (o : Option (ℕ × Standing)) (s : State) → OffersTwo s → AfterCall s (sent_on r tsdu o s)
-sent_after r tsdu None s o = call_same s o
+sent_after r tsdu None s o = grind arith
 sent_after r tsdu (Some (peer, link)) s o =
     let t = sent_on r tsdu (Some (peer, link)) s in
-    call_put s t r (linked peer (pumped (with_tsdu link tsdu))) (stays s t o refl refl refl) refl refl
+    grind (arith, has_put)
 
 pub sent_lasts : (r : ℕ) (tsdu : List ℕ) (o : Option (ℕ × Standing)) (s : State) → (sent_on r tsdu o s).ended ≡ s.ended
 sent_lasts r tsdu o s = grind arith
@@ -247,7 +193,7 @@ all_last r [] s = refl
 all_last r (tsdu ∷ tsdus) s = all_last r tsdus (sent r tsdu s) ∙ sent_lasts r tsdu (open_link r s) s
 
 all_after : (r : ℕ) (tsdus : List (List ℕ)) (s : State) → OffersTwo s → AfterCall s (sent_all r tsdus s)
-all_after r [] s o = call_same s o
+all_after r [] s o = grind arith
 all_after r (tsdu ∷ tsdus) s o =
     let a = sent_after r tsdu (open_link r s) s o in
     let b = all_after r tsdus (sent r tsdu s) a.offers in
@@ -259,29 +205,22 @@ all_after r (tsdu ∷ tsdus) s o =
 
 closes_by : (r peer reason : ℕ) (k : Option Class) (s : State) → OffersTwo s → AfterCall s (closes_in r peer reason k s)
 closes_by r peer reason None s o =
-    let t = closes_in r peer reason None s in call_put s t r (closing peer) (stays s t o refl refl refl) refl refl
-closes_by r peer reason (Some Zero) s o = grind (arith, call_end, stays)
+    let t = closes_in r peer reason None s in grind (arith, has_put)
+closes_by r peer reason (Some Zero) s o = grind (arith, stays)
 closes_by r peer reason (Some Two) s o =
-    let t = closes_in r peer reason (Some Two) s in call_put s t r (closing peer) (stays s t o refl refl refl) refl refl
+    let t = closes_in r peer reason (Some Two) s in grind (arith, has_put)
 
 closed_after : (r reason : ℕ) (o : Option (ℕ × Standing)) (s : State) → OffersTwo s → AfterCall s (closed_on r reason o s)
-closed_after r reason o s h = grind (arith, call_same, closes_by)
+closed_after r reason o s h = grind (arith, closes_by)
 
 ended_after : (over : Bool) (reason : EndReason) (s : State) → OffersTwo s → AfterCall s (if over then s else ends reason s)
-ended_after over reason s o = grind (arith, call_same, call_end, stays)
+ended_after over reason s o = grind (arith, stays)
 
 pub call_after : (call : UserCall) (s : State) → OffersTwo s → AfterCall s (user_does call s)
 call_after call s o = grind (arith, stays, has_push, sent_after, all_after, closed_after, ended_after)
 
--- it had not ended before
-closes_last : (r peer reason : ℕ) (k : Option Class) (s : State) → (closes_in r peer reason k s).ended ≡ None → s.ended ≡ None
-closes_last r peer reason k s h = grind arith
-
 pub closed_lasts : (r reason : ℕ) (o : Option (ℕ × Standing)) (s : State) → (closed_on r reason o s).ended ≡ None → s.ended ≡ None
-closed_lasts r reason o s h = grind (arith, closes_last)
-
-pub ended_lasts : (over : Bool) (reason : EndReason) (s : State) → (if over then s else ends reason s).ended ≡ None → s.ended ≡ None
-ended_lasts over reason s h = grind arith
+closed_lasts r reason o s h = grind arith
 
 -- a new connection
 pub new_live : (calling called : Option (List ℕ)) (s : State) → IsLive (user_does (connects calling called) s) (s.given + 1)

@@ -1,12 +1,12 @@
 -- What holds of a line, be its connection judged or not: its units have its references, and the tap knows that of the other side.
 -- For the laws on whole ends.
 use Rattle.osi_fair.proofs.Vocabulary.{[], ap, arith, Bool, false, List, Option, refl, Some, subst, sym, true, ℕ, ◌++◌, ◌∙◌, ◌∷◌, ◌≡◌, ◌≢◌}
-use Rattle.osi_fair.proofs.Vocabulary.{eq-eqb, acknowledge, confirm, Connect, data2, disconnect, disconnected, first_failed, Test, Value}
-use Rattle.osi_fair.proofs.Vocabulary.{Two, is_applied, reach_of, is_silent, connection_after, judged_on, sized, Connection, Right, Broke}
-use Rattle.osi_fair.proofs.Vocabulary.{NotJudged, if◌then◌else◌, Reach, Half, Act, Acts, ActsAlong, answers, begins_elsewhere}
-use Rattle.osi_fair.proofs.Vocabulary.{closes_with as closes, finding_of, ignores, IsOpened, Line, moves, units_put, Course, Move, give_out}
-use Rattle.osi_fair.proofs.Vocabulary.{hand_in, hand_out, take_in, ack, part0, part2, Moves, Standing, Flow, data0, error}
-use Rattle.osi_fair.proofs.Vocabulary.{None, request, taken_flow, begins, Direction, other, seen, theirs}
+use Rattle.osi_fair.proofs.Vocabulary.{eq-eqb, acknowledge, confirm, Connect, data2, disconnect, disconnected, Value, Two, is_applied}
+use Rattle.osi_fair.proofs.Vocabulary.{reach_of, is_silent, connection_after, Connection, Right, Broke, NotJudged, if◌then◌else◌, Reach}
+use Rattle.osi_fair.proofs.Vocabulary.{Half, Act, Acts, ActsAlong, answers, begins_elsewhere, closes_with as closes, finding_of, ignores}
+use Rattle.osi_fair.proofs.Vocabulary.{IsOpened, Line, moves, units_put, Course, Move, give_out, hand_in, hand_out, take_in, ack, part0}
+use Rattle.osi_fair.proofs.Vocabulary.{part2, Moves, Standing, Flow, data0, error, None, request, taken_flow, begins, Direction, other}
+use Rattle.osi_fair.proofs.Vocabulary.{seen, theirs}
 use Rattle.osi_fair.proofs.small_facts_that_many_lemmas_use.{no_list}
 use Rattle.osi_fair.proofs.what_a_link_does.{gives_so, takes_so}
 use Rattle.osi_rules.specs.declared.findings.Rule.TheVariants as rule
@@ -34,23 +34,11 @@ some_join (x ∷ xs) ys h = no_list x (xs ++ ys)
 
 -- ---- the other side at the tap
 
-right_seen_judged : (r : Reach) (c : Connection) → (judged_on r c).seen_by_right ≡ c.seen_by_right
-right_seen_judged r c = grind arith
-
-right_seen_sized : (v : Value) (c : Connection) → (sized v c).seen_by_right ≡ c.seen_by_right
-right_seen_sized v c = grind arith
-
-left_seen_judged : (r : Reach) (c : Connection) → (judged_on r c).seen_by_left ≡ c.seen_by_left
-left_seen_judged r c = grind arith
-
-left_seen_sized : (v : Value) (c : Connection) → (sized v c).seen_by_left ≡ c.seen_by_left
-left_seen_sized v c = grind arith
-
 pub own_seen_after : (v : Value) (a : Bool) (r : Reach) (c : Connection) → (connection_after Right v a r c).seen_by_right ≡ c.seen_by_right
-own_seen_after v a r c = grind (arith, right_seen_judged, right_seen_sized)
+own_seen_after v a r c = grind arith
 
 seen_after : (d : Direction) (v : Value) (a : Bool) (r : Reach) (c : Connection) → seen d (connection_after (other d) v a r c) ≡ seen d c
-seen_after d v a r c = grind (arith, left_seen_judged, left_seen_sized, right_seen_judged, right_seen_sized)
+seen_after d v a r c = grind arith
 
 -- a unit of the end
 own_after : (d : Direction) (v : Value) (a : Bool) (r : Reach) (c : Connection) → theirs d (connection_after d v a r c) ≡ theirs d c
@@ -66,15 +54,10 @@ theirs_after d a v r c none h = grind (arith, left_own, half_started, half_keeps
 idle_cc : {A : Type 0} (j : Bool) → is_applied (if j then Broke rule.WrongForm else NotJudged) ≡ true → A
 idle_cc j h = grind arith
 
--- right has answered already
-late_cc : {A : Type 0} (j silent : Bool) (ts : List Test) → silent ≡ false →
-    is_applied (if j then first_failed ((silent, Broke rule.WrongForm) ∷ ts) else NotJudged) ≡ true → A
-late_cc j silent ts h k = grind (arith, idle_cc)
-
 -- a CC has no effect on a connection that was answered
 no_cc : (d : Direction) (course : Course) (in_use : Bool) (c : Connection) (v : Value) → is_silent (theirs d c).phase ≡ false →
     is_applied (finding_of (other d) course in_use c v) ≡ true → (m : ℕ) (x : Connect) → v ≡ confirm m x → ⊥
-no_cc d course in_use c v there h m x e = grind (arith, idle_cc, late_cc)
+no_cc d course in_use c v there h m x e = grind (arith, idle_cc)
 
 -- a packet begins
 begun_theirs : (d e : Direction) (c : Connection) → theirs d (begins e c) ≡ theirs d c
@@ -127,11 +110,6 @@ module _ (d : Direction) (r peer : ℕ) (old new : Line) (h : Keeps d r peer old
       new ≡ record old { link = link; put = old.put ++ units; coming = coming } → Keeps d r peer new
   does units link coming ours flow is = grind (arith, ours_join, some_join)
 
-  -- a packet begins
-  begun_so : (e : Direction) (b : Bool) → (b ≡ true → Knows peer (seen d (begins e old.tap))) → (b ≡ true → old.put ≢ []) →
-      new ≡ record old { begun = b; tap = begins e old.tap } → Keeps d r peer new
-  begun_so e b knows some is = grind (arith, begun_theirs)
-
   act_keeps : (act : Act) → Acts d r peer act old new → Keeps d r peer new
   act_keeps (moves move) (link, after, is, e, short, coming, new_is) =
       let (f, flow) = h.flow link is in
@@ -145,9 +123,9 @@ module _ (d : Direction) (r peer : ℕ) (old new : Line) (h : Keeps d r peer old
   act_keeps (answers unit) (link, is, dr, coming, new_is) =
       does (disconnected peer r ∷ []) None new.coming (record { named = refl; from = eq-eqb r r refl }, tt)
       (λ l e. no_link l None e refl) new_is
-  act_keeps begins_own (some, idle, new_is) = grind (arith, begun_so, begun_own)
-  act_keeps begins_elsewhere (idle, new_is) = grind (arith, begun_so, begun_own)
-  act_keeps begins_other new_is = grind (arith, begun_so, begun_other)
+  act_keeps begins_own (some, idle, new_is) = grind (arith, begun_own)
+  act_keeps begins_elsewhere (idle, new_is) = grind (arith, begun_own)
+  act_keeps begins_other new_is = grind (arith, begun_other)
   act_keeps (passes_own course in_use) (unit, put, begun, new_is) = grind (arith, own_after)
   act_keeps (passes_other course in_use unit) (ranges, dest, some, new_is) =
       let f = finding_of (other d) course in_use old.tap unit in

@@ -1,11 +1,10 @@
 -- What a call of a link of class 2 does to its numbers and to what it has still to send.
 -- For the laws on a line.
 use Rattle.osi_fair.proofs.Vocabulary.{[], arith, Bool, drop, false, IfOk, IfSome, length, length-drop, length-take, List, nat_lt, None, Ok}
-use Rattle.osi_fair.proofs.Vocabulary.{Option, refl, Result, Some, take, true, ℕ, ◌++◌, ◌+◌, ◌-◌, ◌<◌, ◌∷◌, ◌≡◌, ◌≤◌, ltb-false, ltb-true}
-use Rattle.osi_fair.proofs.Vocabulary.{acknowledge, data2, Value, at_ok, at_some, choose_ok, choose_some, Ends, ack_number, acknowledged}
-use Rattle.osi_fair.proofs.Vocabulary.{after_acked, Flow, steps_before, Joining, longest_tsdu, ack, Given, given_part, next, next_by, part0}
-use Rattle.osi_fair.proofs.Vocabulary.{part2, sent_flow, Standing, taken, taken_by, taken_flow, with_joined, with_sender, give, Part}
-use Rattle.osi_fair.proofs.Vocabulary.{LinkFault}
+use Rattle.osi_fair.proofs.Vocabulary.{Option, refl, Some, take, true, ℕ, ◌++◌, ◌+◌, ◌-◌, ◌<◌, ◌∷◌, ◌≡◌, ◌≤◌, ltb-false, ltb-true}
+use Rattle.osi_fair.proofs.Vocabulary.{acknowledge, data2, Value, at_ok, at_some, choose_ok, choose_some, Ends, ack_number, after_acked}
+use Rattle.osi_fair.proofs.Vocabulary.{Flow, steps_before, longest_tsdu, ack, Given, given_part, next, next_by, part0, part2, sent_flow}
+use Rattle.osi_fair.proofs.Vocabulary.{Standing, taken, taken_by, taken_flow, give, Part}
 
 -- ---- TSDUs that are not too long
 
@@ -17,9 +16,6 @@ AreShort (tsdu ∷ tsdus) = (length tsdu ≤ longest_tsdu) × AreShort tsdus
 abbrev pub HaveRoom : ℕ → List (List ℕ) → Type 0
 HaveRoom begun [] = begun ≡ 0
 HaveRoom begun (tsdu ∷ tsdus) = (begun + length tsdu ≤ longest_tsdu) × AreShort tsdus
-
-pub room_at_first : (tsdus : List (List ℕ)) → AreShort tsdus → HaveRoom 0 tsdus
-room_at_first tsdus h = grind arith
 
 short_more : (tsdus : List (List ℕ)) (tsdu : List ℕ) → AreShort tsdus → length tsdu ≤ longest_tsdu → AreShort (tsdus ++ tsdu ∷ [])
 short_more [] tsdu h k = (k, tt)
@@ -62,7 +58,7 @@ gives_a_part limit (tsdu ∷ more) =
     choose_some (GivesOf limit (tsdu ∷ more)) (nat_lt limit (length tsdu)) (Some ((false, take limit tsdu), drop limit tsdu ∷ more))
     (Some ((true, tsdu), more))
     (λ k begun h. part_gives limit begun tsdu more h.0 h.1 (ltb-true limit (length tsdu) k))
-    (λ k begun h. let within = ltb-false limit (length tsdu) k in record { fits = within; short = h.0; room = room_at_first more h.1 })
+    (λ k begun h. let within = ltb-false limit (length tsdu) k in record { fits = within; short = h.0; room = (grind arith) })
 
 -- ---- the next unit
 
@@ -104,16 +100,8 @@ DoesTake e f (acknowledge credit destination number) new =
     × (new.ends ≡ e)
 DoesTake e f unit new = ⊥
 
-takes_data : (e : Ends) (f : Flow) (destination number : ℕ) (end : Bool) (octets : List ℕ) (r : Result Joining LinkFault) →
-    IfOk (with_joined e (Some (taken_flow f)) r) (DoesTake e f (data2 destination number end octets))
-takes_data e f destination number end octets r = grind arith
-
-takes_ack : (e : Ends) (f : Flow) (credit destination number : ℕ) →
-    IfOk (with_sender e f (acknowledged f.sender number credit)) (DoesTake e f (acknowledge credit destination number))
-takes_ack e f credit destination number = search (arith, ltb-false)
-
 takes_by : (e : Ends) (f : Flow) (unit : Value) → IfOk (taken_by e (Some f) unit) (DoesTake e f unit)
-takes_by e f unit = grind (arith, choose_ok, takes_data, takes_ack)
+takes_by e f unit = grind (arith, choose_ok)
 
 pub takes_so : (old new : Standing) (f : Flow) (unit : Value) → old.flow ≡ Some f → taken old unit ≡ Ok new → DoesTake old.ends f unit new
 takes_so old new f unit is e = grind (arith, at_ok, takes_by)

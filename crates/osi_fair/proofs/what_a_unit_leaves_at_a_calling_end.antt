@@ -1,12 +1,11 @@
 -- What a calling end has of a connection after it has taken a unit that names it.
 -- For the law on a whole end.
-use Rattle.osi_fair.proofs.Vocabulary.{arith, [], ap, Bool, Err, false, if◌then◌else◌, inl, inr, is_some, List, nat_lt, None, Ok, Option}
-use Rattle.osi_fair.proofs.Vocabulary.{refl, Result, Some, sym, true, ℕ, ◌++◌, ◌∙◌, ◌∷◌, ◌≡◌, ◌≢◌, ◌≤◌, ◌⊎◌, ltb-false, ltb-true}
-use Rattle.osi_fair.proofs.Vocabulary.{AllByRecursion, confirm, Connect, destination_of, disconnect, disconnected, error, Value, Standing}
-use Rattle.osi_fair.proofs.Vocabulary.{LinkFault, Class, Two, Zero, beyond, put_here, without_here, agreed_size, opened_link, proposes_zero}
-use Rattle.osi_fair.proofs.Vocabulary.{AreUpTo, connection_by, RiseFrom, pumped, handed_out, in_two, opens, taking, to_asked, to_closing}
-use Rattle.osi_fair.proofs.Vocabulary.{to_connection, to_linked, to_unknown, Rows, value_at, asked, closing, Live, linked, put_at, put_for}
-use Rattle.osi_fair.proofs.Vocabulary.{put_in_two, breaks_in, leaves}
+use Rattle.osi_fair.proofs.Vocabulary.{arith, [], ap, Bool, Err, false, if◌then◌else◌, inl, inr, is_some, List, None, Ok, Option, refl}
+use Rattle.osi_fair.proofs.Vocabulary.{Result, Some, sym, true, ℕ, ◌++◌, ◌∙◌, ◌∷◌, ◌≡◌, ◌≢◌, ◌≤◌, ◌⊎◌, ltb-false, ltb-true, AllByRecursion}
+use Rattle.osi_fair.proofs.Vocabulary.{confirm, Connect, destination_of, disconnect, disconnected, error, Value, Standing, LinkFault, Class}
+use Rattle.osi_fair.proofs.Vocabulary.{Two, Zero, beyond, put_here, without_here, agreed_size, opened_link, proposes_zero, AreUpTo}
+use Rattle.osi_fair.proofs.Vocabulary.{RiseFrom, pumped, handed_out, in_two, opens, taking, to_asked, to_connection, to_linked, to_unknown}
+use Rattle.osi_fair.proofs.Vocabulary.{Rows, value_at, asked, closing, Live, linked, put_at, put_for, put_in_two, breaks_in, leaves}
 unfoldable use Rattle.osi_carrier.specs.React.{react}
 use Rattle.osi_carrier.specs.State.{State}
 use Rattle.osi_fair.proofs.small_facts_that_many_lemmas_use.{differ, first_is, no_list, number_is, rest_is}
@@ -31,22 +30,15 @@ two_reacts u s o lasts two = grind arith
 pub two_puts : (u : Value) (s : State) → OffersTwo s → s.ended ≡ None → s.class ≡ Some Two → put_for u s ≡ put_in_two true u s
 two_puts u s o lasts two = grind arith
 
-ended_so : {A : Type 0} (u : Value) (s t : State) → react u s ≡ t → is_some t.ended ≡ true → (react u s).ended ≡ None → A
-ended_so u s t e gone lasts = over_not (react u s).ended (ap (λ (x : State). is_some x.ended) e ∙ gone) lasts
-
 named_before : (u : Value) (s : State) → IsCalling s.live s → (react u s).ended ≡ None → Named u s
-named_before v s is lasts = search (arith, react_calling, put_calling, ended_so)
+named_before v s is lasts = grind (arith, react_calling, put_calling)
 
 named_two : (u : Value) (s : State) → react u s ≡ in_two true u s → put_for u s ≡ put_in_two true u s → (react u s).ended ≡ None → Named u s
-named_two v s e p lasts = search (arith, ended_so)
+named_two v s e p lasts = search arith
 
 pub named_by : (u : Value) (s : State) → OffersTwo s → s.ended ≡ None → (s.class ≡ None) ⊎ (s.class ≡ Some Two) → (react u s).ended ≡ None →
     Named u s
 named_by u s o was h lasts = search (arith, named_before, named_two, two_reacts, two_puts)
-
-pub by_number : (k : Option Class) (u : Value) (s : State) (n : ℕ) → (k ≡ None) ⊎ (k ≡ Some Two) → destination_of u ≡ Some n →
-    connection_by k u s ≡ n
-by_number k u s n h e = grind arith
 
 -- ---- what the end has after it
 
@@ -54,16 +46,10 @@ by_number k u s n h e = grind arith
 pub unknown_so : (u : Value) (s t : State) (n : ℕ) → destination_of u ≡ Some n → t ≡ to_unknown u s → t.ended ≡ None → (IsDr u → ⊥) → t ≡ s
 unknown_so u s t n d e lasts none = grind (arith, over_not)
 
-pub unknown_puts : (u : Value) (n : ℕ) (held : Option Class) → (IsDr u → ⊥) → put_at n None u held ≡ []
-unknown_puts u n held none = grind arith
-
 -- a unit for a connection that is closing
 pub data Closes (n q : ℕ) (s t : State) : Type 0 where
   stays : t ≡ s → Closes n q s t
   drops : value_at n t.live ≡ None → Closes n q s t
-
-pub closing_so : (n q : ℕ) (u : Value) (s t : State) → RiseFrom 0 s.live → t ≡ to_closing n u s → Closes n q s t
-closing_so n q u s t rise e = grind (arith, without_here)
 
 -- a unit for an open connection
 pub data Linked (n peer : ℕ) (t : State) : Type 0 where
@@ -116,10 +102,6 @@ abbrev is_open_row : Live → Bool
 is_open_row (closing q) = false
 is_open_row _ = true
 
-pub not_open : {A : Type 0} (old : Option Live) (p : ℕ) (o : Live) → (old ≡ Some (closing p)) ⊎ (old ≡ None) → old ≡ Some o →
-    is_open_row o ≡ true → A
-not_open old p o a h k = grind arith
-
 -- what comes first is a DC, or the unit that comes after the DCs
 pub early_parts : (early : List Value) (u v : Value) (us vs : List Value) → AllByRecursion IsDc early → u ∷ us ≡ early ++ v ∷ vs →
     (is_dc u ≡ true → is_dc v ≡ false → (more : List Value) × (AllByRecursion IsDc more × (us ≡ more ++ v ∷ vs)))
@@ -135,18 +117,6 @@ pub data Kind (u : Value) : Type 0 where
   disconnects : (d m reason : ℕ) (user : List ℕ) → u ≡ disconnect d m reason user → Kind u
   no_disconnect : (IsDr u → ⊥) → Kind u
 
-pub kind_of : (u : Value) → Kind u
-kind_of (disconnect destination source reason user) = disconnects destination source reason user refl
-kind_of _ = no_disconnect (λ dr. dr)
-
--- a DC leaves a connection as it is that awaits its CC
-pub dc_stays : (n : ℕ) (u : Value) (s : State) → is_dc u ≡ true → value_at n s.live ≡ Some asked →
-    value_at n (to_asked n u s).live ≡ Some asked
-dc_stays n u s dc h = grind arith
-
-pub dc_is : (m n r peer : ℕ) → Some m ≡ Some peer → r ≡ n → disconnected m n ≡ disconnected peer r
-dc_is m n r peer e same = ap (λ (i : ℕ). disconnected i n) (number_is m peer e) ∙ ap (λ (i : ℕ). disconnected peer i) (sym same)
-
 pub or_strays : {A : Type 0} (o : Option Live) → o ≡ None → (is_some o ≡ true) ⊎ A → A
 or_strays o e k = grind (arith, differ)
 
@@ -154,10 +124,5 @@ pub spare_none : (spare : List Value) (link : Option Standing) (l : Standing) �
 spare_none [] link l gone is = refl
 spare_none (v ∷ vs) link l gone is = absurd (cc (sym is ∙ gone (no_list v vs)))
 
--- a connection that the end has was given its reference
-given_if : (n given : ℕ) (live : Rows Live) (o : Live) → AreUpTo given live → value_at n live ≡ Some o → (b : Bool) → nat_lt given n ≡ b →
-    n ≤ given
-given_if n given live o up h b e = grind (arith, beyond, ltb-true, ltb-false)
-
 pub given_by : (n given : ℕ) (live : Rows Live) (o : Live) → AreUpTo given live → value_at n live ≡ Some o → n ≤ given
-given_by n given live o up h = given_if n given live o up h (nat_lt given n) refl
+given_by n given live o up h = grind (arith, beyond, ltb-true, ltb-false)

@@ -5,7 +5,7 @@ use Rattle.osi_fair.proofs.Vocabulary.{true, ℕ, ◌++◌, ◌∙◌, ◌∷◌
 use Rattle.osi_fair.proofs.Vocabulary.{Connect, destination_of, disconnected, request, Value, Standing, Two, Local, value_at, asked}
 use Rattle.osi_fair.proofs.Vocabulary.{linked, Traffic, Connection, Half, Line, Whole}
 use Rattle.osi_carrier.specs.State.{State}
-use Rattle.osi_fair.proofs.small_facts_that_many_lemmas_use.{first_is, rest_is, differ, no_list, some_same as item_is}
+use Rattle.osi_fair.proofs.small_facts_that_many_lemmas_use.{first_is, rest_is, differ, no_list}
 use Rattle.osi_fair.proofs.a_unit_of_a_whole_end_passes.{all_two}
 use Rattle.osi_fair.proofs.no_two_open_connections_have_one_peer.{one_peer}
 use Rattle.osi_fair.proofs.each_connection_has_its_line.{IsNoCc, followed_at, AreGiven, AreSettled, Followed, Following, IsAnswer}
@@ -13,9 +13,9 @@ use Rattle.osi_fair.proofs.each_connection_has_its_line.{IsAsking, IsOwned, IsSe
 use Rattle.osi_fair.proofs.each_connection_has_its_line.{is_tracked, of, stray, talks}
 use Rattle.osi_fair.proofs.names_stay_apart_though_one_is_lost.{AreNamedApart}
 use Rattle.osi_fair.proofs.what_the_other_side_closes.{IsSane}
-use Rattle.osi_fair.proofs.which_units_are_for_a_connection.{picked_each, AllOurs, IsDc, IsOf, dc_not_ours, picked_first, picked_rest}
-use Rattle.osi_fair.proofs.which_units_are_for_a_connection.{is_dc, is_from, is_ours, leads, named_not, named_so, names, none_ours}
-use Rattle.osi_fair.proofs.which_units_are_for_a_connection.{picked_other, ours, picked_join, those}
+use Rattle.osi_fair.proofs.which_units_are_for_a_connection.{picked_each, AllOurs, IsDc, IsOf, dc_not_ours, picked_rest, is_dc, is_ours}
+use Rattle.osi_fair.proofs.which_units_are_for_a_connection.{leads, named_not, named_so, names, none_ours, picked_other, ours, picked_join}
+use Rattle.osi_fair.proofs.which_units_are_for_a_connection.{those}
 use Rattle.osi_fair.proofs.a_dt_of_class_zero_passes.{unlike}
 
 -- ---- lists
@@ -87,20 +87,14 @@ units_ask s end n units P h = grind (arith, no_request)
 
 -- ---- the references of their DCs are settled
 
-from_is : (n m source : ℕ) (v : Value) → is_from n v ≡ true → v ≡ disconnected m source → source ≡ n
-from_is n m source v h e = eqb-true source n (sym (ap (is_from n) e) ∙ h)
-
 ours_settled : (cs : List Connection) (all : List Value) (given n peer : ℕ) (units : List Value) → IsSettled cs all given n →
     AllOurs n peer units → AllByRecursion (AreSettled cs all given) units
 ours_settled cs all given n peer [] k h = tt
-ours_settled cs all given n peer (v ∷ vs) k (one, more) = grind (arith, from_is, ours_settled cs all given n peer vs k more)
-
-same_source : (m n i j : ℕ) → disconnected m n ≡ disconnected i j → n ≡ j
-same_source m n i j e = cc
+ours_settled cs all given n peer (v ∷ vs) k (one, more) = grind (arith, ours_settled cs all given n peer vs k more)
 
 pub units_settled : (s : Traffic) (end : State) (all : List Value) (given n : ℕ) (units : List Value) → Puts s end n units →
     (IsAnswered end n → IsSettled s.connections all given n) → AllByRecursion (AreSettled s.connections all given) units
-units_settled s end all given n units h k = grind (arith, ours_settled, same_source)
+units_settled s end all given n units h k = grind (arith, ours_settled)
 
 -- of those that were put before
 pub settled_more : (cs : List Connection) (put units : List Value) (given later : ℕ) →
@@ -142,9 +136,6 @@ module _ (local : Local) (w : Whole) (f : Followed local w) (sane : IsSane w.tap
   named_n : names n u ≡ true
   named_n = named_so n u dest
 
-  first_n : those n w.coming ≡ u ∷ those n later
-  first_n = ap (λ (l : List Value). those n l) come ∙ picked_first (names n) u later named_n
-
   later_other : (r : ℕ) → (r ≡ n → ⊥) → those r w.coming ≡ those r later
   later_other r other = grind (arith, picked_rest, named_not)
 
@@ -155,13 +146,10 @@ module _ (local : Local) (w : Whole) (f : Followed local w) (sane : IsSane w.tap
   row_later r peer line other (over h) = differ (is_some w.end.ended) h (ap is_some was)
   row_later r peer line other (closes o there q k is all) = closes o (rows r other ∙ there) q k is (sym (later_other r other) ∙ all)
 
-  same_left : (p : ℕ) (c : Connection) → slice_get cs p ≡ Some c → (o : Owner w.tap n units) → p ≡ o.p → c.left.reference ≡ n
-  same_left p c at o same = grind (arith, item_is)
-
   put_by : (p : ℕ) (c : Connection) → slice_get cs p ≡ Some c → is_tracked c ≡ true → (r peer : ℕ) → c.left.reference ≡ r →
       c.right.reference ≡ peer → (r ≡ n → ⊥) → Puts w.tap w.end n units → ours r peer (w.put ++ units) ≡ ours r peer w.put
   put_by p c at tracked r peer left right other h =
-      search (arith, ours, append-nil, picked_join, is_ours, none_ours, same_left, one_peer, picked_other, dc_not_ours)
+      search (arith, ours, append-nil, picked_join, is_ours, none_ours, one_peer, picked_other, dc_not_ours)
 
   line_other : (p : ℕ) (c : Connection) → slice_get cs p ≡ Some c → is_tracked c ≡ true →
       (g : Following local w.put w.begun w.tap.course.strays w.end w.coming c) → (g.r ≡ n → ⊥) →
@@ -177,36 +165,25 @@ module _ (local : Local) (w : Whole) (f : Followed local w) (sane : IsSane w.tap
 
   -- what has come for a reference that waits are DCs: so this is one, if it has come for it
   early_here : (r : ℕ) → r ≡ n → AllByRecursion IsDc (those r w.coming) → (is_dc u ≡ true) × AllByRecursion IsDc (those r later)
-  early_here r same h = grind (arith, first_n)
-
-  early_later : (r : ℕ) (b : Bool) → (r == n) ≡ b → AllByRecursion IsDc (those r w.coming) → AllByRecursion IsDc (those r later)
-  early_later r b e h = grind (arith, early_here, eqb-true, later_other, unlike)
-
-  row_kept : (r : ℕ) (b : Bool) → (r == n) ≡ b → AllByRecursion IsDc (those r w.coming) → value_at r w.end.live ≡ Some asked →
-      value_at r t.live ≡ Some asked
-  row_kept r b e h row = grind (arith, eqb-true, early_here, unlike)
+  early_here r same h = grind arith
 
   waits_new : (c : Connection) → Waiting local w.end w.coming c → Waiting local t later c
-  waits_new c k = search (arith, early_later, row_kept)
+  waits_new c k = search arith
 
   asking_new : (x : Connect) → IsAsking local w.end w.coming x → IsAsking local t later x
-  asking_new x k = search (arith, early_later, row_kept)
+  asking_new x k = search arith
 
   linked_by : (m peer : ℕ) (link : Standing) (b : Bool) → (m == n) ≡ b → value_at m t.live ≡ Some (linked peer link) →
       Tracked cs m × (t.class ≡ Some Two)
   linked_by m peer link b e h = search (arith, eqb-true, unlike)
 
-  -- what awaits its CC now did so before
-  asked_by : (m : ℕ) (b : Bool) → (m == n) ≡ b → value_at m t.live ≡ Some asked → value_at m w.end.live ≡ Some asked
-  asked_by m b e row = grind (arith, eqb-true, unlike)
-
   asked_before : (m : ℕ) → value_at m t.live ≡ Some asked → value_at m w.end.live ≡ Some asked
-  asked_before m row = asked_by m (m == n) refl row
+  asked_before m row = grind (arith, eqb-true, unlike)
 
   -- if none has lost its judgement: after the CC of a connection no other has come
   calm_row : (r peer : ℕ) (line : Line) → r ≡ n → value_at n w.end.live ≡ Some asked → is_dc u ≡ false →
       AllByRecursion IsNoCc line.coming → Row local w.end w.coming r peer line → AllByRecursion IsNoCc (those n later)
-  calm_row r peer line same there none calm l = grind (arith, first_n, after_early, differ)
+  calm_row r peer line same there none calm l = grind (arith, after_early, differ)
 
   abbrev Answered : Type 0
   Answered = (w.tap.course.loose ≡ false) × (Tracked cs n × (value_at n w.end.live ≡ Some asked)) × (is_dc u ≡ false)
@@ -225,9 +202,6 @@ module _ (local : Local) (w : Whole) (f : Followed local w) (sane : IsSane w.tap
       IsAnswer w.tap.course.loose cs t v
   answer_now v h k m x e lasts (inl row) = ((h m x e was (inl (asked_before m row))).0, row)
   answer_now v h k m x e lasts (inr firm) = answer_by v m x firm e (h m x e was (inr firm)) k (m == n) (is_dc u) refl refl
-
-  tail_answers : AllByRecursion (λ (v : Value). IsAnswer w.tap.course.loose cs w.end v) later
-  tail_answers = (subst (AllByRecursion (λ (v : Value). IsAnswer w.tap.course.loose cs w.end v)) come f.answers).1
 
   -- no CR waits for the reference of what the end puts, and none is to pass
   settled_here : IsAnswered w.end n → IsSettled cs (w.put ++ units) t.given n
@@ -253,7 +227,7 @@ module _ (local : Local) (w : Whole) (f : Followed local w) (sane : IsSane w.tap
     owned = all_join (λ v. IsOwned w.tap v) w.put units f.owned (units_owned w.tap w.end n units owner);
     linked = λ lasts m peer link h. linked_by m peer link (m == n) refl h;
     answers = all_two (λ v. IsAnswer w.tap.course.loose cs w.end v) (λ v. Answered → names n v ≡ true → IsNoCc v)
-        (λ v. IsAnswer w.tap.course.loose cs t v) later answer_now tail_answers
+        (λ v. IsAnswer w.tap.course.loose cs t v) later answer_now (grind arith)
         (all_under Answered (λ v. names n v ≡ true → IsNoCc v) later calm_later);
     requests = all_join (λ v. (x : Connect) → v ≡ request x → IsAsking local t later x) w.put units
         (all_so (λ v. (x : Connect) → v ≡ request x → IsAsking local w.end w.coming x) (λ v. (x : Connect) → v ≡ request x →

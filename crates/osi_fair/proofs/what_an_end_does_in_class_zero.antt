@@ -3,17 +3,16 @@
 use Rattle.std.proofs.Common.{arith}
 use Rattle.osi_fair.proofs.Vocabulary.{[], ap, append_assoc, Bool, Err, false, if◌then◌else◌, is_some, length, List, None, Ok, Option, refl}
 use Rattle.osi_fair.proofs.Vocabulary.{Result, Some, subst, sym, true, ℕ, ◌++◌, ◌∙◌, ◌∷◌, ◌≡◌, ◌≤◌, eq-eqb, eqb-true, append-nil}
-use Rattle.osi_fair.proofs.Vocabulary.{AllByRecursion, ◌==◌, disconnect, request, Value, Joining, longest_tsdu}
-use Rattle.osi_fair.proofs.Vocabulary.{Standing, taken, taken_by, with_joined, with_tsdu, LinkFault, Class, Zero, closed_on}
-use Rattle.osi_fair.proofs.Vocabulary.{link_of, may_connect, open_link, sent, sent_all, pumped, written_by}
-use Rattle.osi_fair.proofs.Vocabulary.{handed_out, in_class, in_zero, react_by, taking, to_linked, to_only, put, Rows, value_at}
-use Rattle.osi_fair.proofs.Vocabulary.{breaks, closes_call, connects, sends, sends_all, user_does, UserCall, Live, ends as ends_as, linked}
-use Rattle.osi_fair.proofs.Vocabulary.{EndReason, put_by, put_closing, put_for, put_in, put_in_zero, put_linked, put_only}
-use Rattle.osi_fair.proofs.Vocabulary.{put_sent, put_taking, put_together, MayCall}
+use Rattle.osi_fair.proofs.Vocabulary.{AllByRecursion, ◌==◌, disconnect, request, Value, Joining, longest_tsdu, Standing, taken}
+use Rattle.osi_fair.proofs.Vocabulary.{with_joined, with_tsdu, LinkFault, Class, Zero, closed_on, link_of, may_connect, open_link, sent}
+use Rattle.osi_fair.proofs.Vocabulary.{sent_all, pumped, written_by, handed_out, in_class, in_zero, react_by, taking, to_linked, to_only}
+use Rattle.osi_fair.proofs.Vocabulary.{put, Rows, value_at, breaks, closes_call, connects, sends, sends_all, user_does, UserCall, Live}
+use Rattle.osi_fair.proofs.Vocabulary.{ends as ends_as, linked, EndReason, put_by, put_closing, put_for, put_in, put_in_zero, put_linked}
+use Rattle.osi_fair.proofs.Vocabulary.{put_only, put_sent, put_taking, put_together, MayCall}
 use Rattle.osi_carrier.specs.Calls.{sent_on}
 unfoldable use Rattle.osi_carrier.specs.React.{react}
 use Rattle.osi_carrier.specs.State.{State}
-use Rattle.osi_fair.proofs.small_facts_that_many_lemmas_use.{differ, same_pair}
+use Rattle.osi_fair.proofs.small_facts_that_many_lemmas_use.{differ}
 use Rattle.osi_fair.proofs.how_a_calling_end_asks.{may_so, never}
 use Rattle.osi_fair.proofs.what_a_link_does.{HaveRoom, room_more}
 use Rattle.osi_fair.proofs.what_an_end_puts_in_class_zero.{IsPlain, PutsData, drained_gives, drained_plain, puts_more, puts_still}
@@ -39,12 +38,6 @@ zero_next limit s a b xs ys h (talks r peer link class live plain puts) =
     talks r peer link class live plain (h (λ i. HaveRoom i link.ends.unsent) puts)
 zero_next limit s a b xs ys h (over gone puts) = over gone (h anyhow puts)
 
-no_result : {A : Type 0} (fault : LinkFault) (r : Result Standing LinkFault) (link : Standing) → r ≡ Err fault → r ≡ Ok link → A
-no_result fault r link e h = absurd (cc)
-
-same_link : (a b : Standing) → ◌≡◌ {A = Result Standing LinkFault} (Ok a) (Ok b) → a ≡ b
-same_link a b e = cc
-
 put_one : (r : ℕ) (x y : Live) → put r x ((r, y) ∷ []) ≡ (r, x) ∷ []
 put_one r x y = ap (λ (b : Bool). if◌then◌else◌ {A = Rows Live} b ((r, x) ∷ []) ((r, y) ∷ put r x [])) (eq-eqb r r refl)
 
@@ -56,7 +49,7 @@ some_is x y e = cc
 
 row_so : (y : Live) (i : ℕ) (l : Standing) (p : ℕ) (k : Standing) → Some y ≡ Some (linked i l) → link_of (Some (linked i l)) ≡ Some (p, k) →
     y ≡ linked p k
-row_so y i l p k e h = some_is y (linked p k) (e ∙ ap (λ (x : ℕ × Standing). Some (linked x.0 x.1)) (same_pair (i, l) (p, k) h))
+row_so y i l p k e h = some_is y (linked p k) (e ∙ ap (λ (x : ℕ × Standing). Some (linked x.0 x.1)) (grind arith))
 
 none_so : {A : Type 0} (o : Option Live) → None ≡ o → (p : ℕ) (k : Standing) → link_of o ≡ Some (p, k) → A
 none_so o e p k h = absurd (cc (ap link_of e ∙ h))
@@ -76,13 +69,10 @@ record Takes (link after : Standing) : Type 0 where
   unsent : after.ends.unsent ≡ link.ends.unsent
 
 joined_so : (link after : Standing) (j : Result Joining LinkFault) → with_joined link.ends None j ≡ Ok after → Takes link after
-joined_so link after j e = grind (arith, no_result, same_link)
-
-takes_by : (link after : Standing) (u : Value) → taken_by link.ends None u ≡ Ok after → Takes link after
-takes_by link after u e = grind (arith, joined_so)
+joined_so link after j e = grind arith
 
 takes_plain : (limit : ℕ) (link after : Standing) (u : Value) → IsPlain limit link → taken link u ≡ Ok after → Takes link after
-takes_plain limit link after u plain e = grind (arith, takes_by)
+takes_plain limit link after u plain e = grind arith
 
 -- all that a link gives is put
 gives_so : (limit peer r : ℕ) (mid : Standing) (t : State) (begun : ℕ) (units : List Value) (old : Standing) → IsPlain limit mid →
@@ -197,10 +187,6 @@ module _ (limit : ℕ) (s : State) (begun : ℕ) (units : List Value) (z : IsInZ
       (ap (λ (l : Rows Live). put r (linked p (pumped (with_tsdu k tsdu))) l) (live ∙ ap (λ (i : ℕ). (i, linked peer link) ∷ []) same)
       ∙ put_one r (linked p (pumped (with_tsdu k tsdu))) (linked peer link)) puts refl
 
-pub zero_sends : (limit : ℕ) (s : State) (begun : ℕ) (units : List Value) (r : ℕ) (tsdu : List ℕ) → IsInZero limit s begun units →
-    length tsdu ≤ longest_tsdu → IsInZero limit (sent r tsdu s) begun (units ++ put_sent tsdu (open_link r s))
-zero_sends limit s begun units r tsdu z short = sends_goes limit s begun units z r tsdu (open_link r s) refl short z
-
 zero_all : (limit : ℕ) (s : State) (begun : ℕ) (units : List Value) (r : ℕ) (tsdus : List (List ℕ)) → IsInZero limit s begun units →
     AllByRecursion (λ (tsdu : List ℕ). length tsdu ≤ longest_tsdu) tsdus →
     IsInZero limit (sent_all r tsdus s) begun (units ++ put_together r tsdus s)
@@ -208,14 +194,14 @@ zero_all limit s begun units r [] z short = subst (λ (l : List Value). IsInZero
 zero_all limit s begun units r (tsdu ∷ tsdus) z (short, more) =
     subst (λ (l : List Value). IsInZero limit (sent_all r tsdus (sent r tsdu s)) begun l)
     (append_assoc units (put_sent tsdu (open_link r s)) (put_together r tsdus (sent r tsdu s)))
-    (zero_all limit (sent r tsdu s) begun (units ++ put_sent tsdu (open_link r s)) r tsdus (zero_sends limit s begun units r tsdu z short)
+    (zero_all limit (sent r tsdu s) begun (units ++ put_sent tsdu (open_link r s)) r tsdus (search (arith, sends_goes))
     more)
 
 pub zero_calls : (limit : ℕ) (s : State) (begun : ℕ) (units : List Value) (call : UserCall) → IsInZero limit s begun units → MayCall call
     s →
     IsInZero limit (user_does call s) begun (units ++ put_by call s)
 zero_calls limit s begun units (connects calling called) z may = may_not limit s begun units z may z
-zero_calls limit s begun units (sends r tsdu) z may = zero_sends limit s begun units r tsdu z may
+zero_calls limit s begun units (sends r tsdu) z may = search (arith, sends_goes)
 zero_calls limit s begun units (sends_all r tsdus) z may = zero_all limit s begun units r tsdus z may
 zero_calls limit s begun units (closes_call r reason) z may = closes_goes limit s begun units z r reason (open_link r s) refl z
 zero_calls limit s begun units (breaks reason) z may = breaks_goes limit s begun units z reason (is_some s.ended)

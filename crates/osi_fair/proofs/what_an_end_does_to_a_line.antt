@@ -1,15 +1,13 @@
 -- What an end does keeps what holds of its line: a call of its link, and the close of the connection.
 -- For the laws on a line.
 use Rattle.osi_fair.proofs.Vocabulary.{[], ap, arith, Bool, false, length, List, None, Ok, Option, refl, Some, subst, sym, true, ℕ, ◌%◌}
-use Rattle.osi_fair.proofs.Vocabulary.{◌++◌, ◌+◌, ◌∙◌, ◌∷◌, ◌≡◌, ◌≤◌, acknowledge, data2, disconnect, Value, Ends, ack_number, after_acked}
+use Rattle.osi_fair.proofs.Vocabulary.{◌++◌, ◌+◌, ◌∙◌, ◌∷◌, ◌≡◌, ◌≤◌, acknowledge, data2, disconnect, Value, Ends, after_acked}
 use Rattle.osi_fair.proofs.Vocabulary.{longest_tsdu, ack, Hands, next, part0, part2, sent_flow, Standing, taken, with_tsdu, give_out}
-use Rattle.osi_fair.proofs.Vocabulary.{hand_in, hand_out, Move, Moves, take_in, is_closing, is_open, Connection, Left, Half, Phase, Acts}
-use Rattle.osi_fair.proofs.Vocabulary.{answers, closes_with as closes, HandsInShort, ignores, IsRightNow, Line, moves, units_put}
-use Rattle.osi_fair.proofs.Vocabulary.{units_taken}
+use Rattle.osi_fair.proofs.Vocabulary.{hand_in, hand_out, Move, Moves, take_in, is_closing, Connection, Left, Half, Acts, answers}
+use Rattle.osi_fair.proofs.Vocabulary.{closes_with as closes, HandsInShort, IsRightNow, Line, moves, units_put, units_taken}
 use Rattle.osi_fair.proofs.what_a_link_does.{HaveRoom, room_more, gives_so, takes_so}
 use Rattle.osi_fair.proofs.units_in_flight.{Puts, puts_more, comes_within}
-use Rattle.osi_fair.proofs.what_holds_of_a_line.{Tally, Ordered, linked, OpenIfAny, PutsAt, TakesAt, Holds, bounds_of, came_of, shut}
-use Rattle.osi_fair.proofs.what_holds_of_a_line.{ends_so, tapped}
+use Rattle.osi_fair.proofs.what_holds_of_a_line.{Tally, Ordered, linked, PutsAt, TakesAt, Holds, bounds_of, came_of, shut, ends_so, tapped}
 
 right_on : (tap : Connection) (put more : List Value) → IsRightNow Left tap put → IsRightNow Left tap (put ++ more)
 right_on tap put more h = grind arith
@@ -77,30 +75,6 @@ module _ (r peer limit : ℕ) (x : Tally) (noted : ℕ) (tap : Connection) (o : 
 
   -- ---- an AK
 
-  puts_ack : (put coming : List Value) (link after : Standing) (number credit : ℕ)
-      (h : linked limit x tap.right coming link) → PutsAt r peer limit x tap.left tap.right put (Some link) →
-      next link ≡ Some (ack number credit, after) →
-      Puts (bounds_of r peer limit (record x { acked = x.acked + 1 }) false tap.right) (ends_so x.sent after.ends.unsent) x.passed x.shown
-      tap.left.begun (put ++ acknowledge credit peer number ∷ [])
-  puts_ack put coming link after number credit h p e =
-      let (some, is, of_window, flow, same) = gives_so link after h.flow (ack number credit) h.is e in
-      let within = comes_within (came_of x tap.right) h.taken h.known coming h.comes in
-      let numbered : ack_number h.flow.receiver ≡ (x.acked + 1) % 128 = omega arith in
-      puts_more (bounds_of r peer limit x false tap.right) (bounds_of r peer limit (record x { acked = x.acked + 1 }) false tap.right)
-      (ends_so x.sent link.ends.unsent) (ends_so x.sent after.ends.unsent) (acknowledge credit peer number ∷ [])
-      (record { reference = refl; peer = refl; limit = refl; window = refl; sent = omega arith; acked = omega arith; closing = λ k. k })
-      refl
-      (λ passed shown begun low now. (
-        x.acked + 1,
-        refl,
-        of_window ∙ h.credit,
-        is ∙ numbered,
-        omega arith,
-        omega arith,
-        (now.0, subst (λ (e : Ends). HaveRoom begun e.unsent) (sym same) now.1),
-      ))
-      x.passed x.shown tap.left.begun o.shown_acked put p.0
-
   gives_ack : (put coming : List Value) (link after : Standing) (number credit : ℕ) →
       linked limit x tap.right coming link → PutsAt r peer limit x tap.left tap.right put (Some link) →
       next link ≡ Some (ack number credit, after) →
@@ -112,7 +86,7 @@ module _ (r peer limit : ℕ) (x : Tally) (noted : ℕ) (tap : Connection) (o : 
         tally = record x { acked = x.acked + 1 };
         ordered = omega (arith, o);
         taps = t;
-        puts = (puts_ack put coming link after number credit h p e, p.1);
+        puts = (grind (arith, puts_more, gives_so, comes_within, came_of, bounds_of, ends_so), p.1);
         takes = record {
           flow = record h.flow { receiver = after_acked h.flow.receiver };
           taken = h.taken;
@@ -203,13 +177,10 @@ module _ (r peer limit : ℕ) (x : Tally) (noted : ℕ) (tap : Connection) (o : 
 
   -- ---- the end closes the connection
 
-  open_if : (put : List Value) (phase : Phase) → is_open phase ≡ true → OpenIfAny put phase
-  open_if put phase h = grind arith
-
   closes_by : (unit : Value) (put : List Value) (link : Standing) → PutsAt r peer limit x tap.left tap.right put (Some link) →
       ((passed shown begun : ℕ) → Puts (bounds_of r peer limit x true tap.right) (shut tap.left.phase) passed shown begun (unit ∷ [])) →
       PutsAt r peer limit x tap.left tap.right (put ++ unit ∷ []) None
-  closes_by unit put link p last = search (arith, puts_more, open_if)
+  closes_by unit put link p last = grind (arith, puts_more)
 
   was_closing : (coming : List Value) (link : Standing) (destination source reason : ℕ) (user : List ℕ) →
       linked limit x tap.right (disconnect destination source reason user ∷ coming) link → is_closing tap.right.phase ≡ true
@@ -248,10 +219,6 @@ pub closes_hold : (r peer reason : ℕ) (units : List Value) (old new : Line) �
     Holds r peer old →
     Holds r peer new
 closes_hold r peer reason units old new k h = search (arith, puts_with, closes_by, right_on)
-
-pub ignores_hold : (r peer : ℕ) (units : List Value) (old new : Line) → Acts Left r peer (ignores units) old new → Holds r peer old →
-    Holds r peer new
-ignores_hold r peer units old new k h = search (arith)
 
 pub answers_hold : (r peer : ℕ) (unit : Value) (old new : Line) → Acts Left r peer (answers unit) old new → Holds r peer old →
     Holds r peer new

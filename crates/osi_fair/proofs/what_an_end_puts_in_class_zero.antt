@@ -5,7 +5,7 @@ use Rattle.osi_fair.proofs.Vocabulary.{subst, suc, sym, take, true, zero, ℕ, �
 use Rattle.osi_fair.proofs.Vocabulary.{data0, Value, Ends, Flow, Drained, drained_by, drained_within, left_to_give, longest_tsdu, Given}
 use Rattle.osi_fair.proofs.Vocabulary.{given_part, next_by, part0, Standing, unit_of, give, Part}
 use Rattle.osi_class.specs.Giving.{drained}
-use Rattle.osi_fair.proofs.what_a_link_does.{AreShort, HaveRoom, begun_by, front_fits, rest_is, room_at_first}
+use Rattle.osi_fair.proofs.what_a_link_does.{AreShort, HaveRoom, begun_by, front_fits, rest_is}
 
 -- ---- DTs that were put
 
@@ -65,7 +65,7 @@ give_by peer limit begun e more s h size tsdu tsdus (room, short) true less =
     (omega arith, short)
 give_by peer limit begun e more s h size tsdu tsdus (room, short) false less =
     let within = ltb-false e.limit (length tsdu) less in
-    part_given peer limit begun e more s h size true tsdu tsdus (omega arith) room (room_at_first tsdus short)
+    part_given peer limit begun e more s h size true tsdu tsdus (omega arith) room (grind arith)
 
 next_by_unsent : (peer limit begun : ℕ) (e : Ends) (more : Standing → Drained) (s : Standing) → Gives0 more → e.limit ≡ limit →
     IsPlain limit s →

@@ -57,14 +57,9 @@ pub touch_rows : (u : Value) (n : ℕ) (s t : State) → Touch u n s t → t.end
     m s.live
 touch_rows u n s t l lasts m other = grind (arith, put_other, without_other, no_end)
 
-none_by : (u : Value) (n : ℕ) (s t : State) → Touch u n s t → RiseFrom 0 s.live → ((m : ℕ) → value_at m s.live ≡ Some asked → ⊥) →
-    (m : ℕ) (b : Bool) → (m == n) ≡ b → value_at m t.live ≡ Some asked → ⊥
-none_by u n s t h rise none m b h2 there =
-    grind (arith, some_is, put_here, eqb-true, put_other, unlike, no_row, without_here, without_other)
-
 pub touch_none : (u : Value) (n : ℕ) (s t : State) → Touch u n s t → RiseFrom 0 s.live → ((m : ℕ) → value_at m s.live ≡ Some asked → ⊥) →
     (m : ℕ) → value_at m t.live ≡ Some asked → ⊥
-touch_none u n s t h rise none m = none_by u n s t h rise none m (m == n) refl
+touch_none u n s t h rise none m = grind (arith, some_is, put_here, eqb-true, put_other, unlike, no_row, without_here, without_other)
 
 lives_by : (u : Value) (n : ℕ) (s t : State) → Touch u n s t → t.ended ≡ None → (m : ℕ) (b : Bool) → (m == n) ≡ b → IsLive s m →
     (shuts_of u ≡ Some m → ⊥) → IsLive t m
@@ -86,22 +81,15 @@ pushed_still : (r : ℕ) (z k : Live) (rows : Rows Live) → value_at r rows ≡
 pushed_still r z k [] h = cc
 pushed_still r z k ((i, y) ∷ rows) h = pushed_by r i z k y rows (i == r) refl h (pushed_still r z k rows)
 
-push_by : (m r : ℕ) (k : Live) (rows : Rows Live) (b : Bool) → (m == r) ≡ b → is_some (value_at m rows) ≡ true →
-    (o : Option Live) → value_at r rows ≡ o → is_some (value_at m (rows ++ (r, k) ∷ [])) ≡ true
-push_by m r k rows b e live o h = grind (arith, push_other, unlike, eqb-true, push_here, pushed_still)
-
 pub push_lives : (m r : ℕ) (k : Live) (rows : Rows Live) → is_some (value_at m rows) ≡ true →
     is_some (value_at m (rows ++ (r, k) ∷ [])) ≡ true
-push_lives m r k rows live = push_by m r k rows (m == r) refl live (value_at r rows) refl
+push_lives m r k rows live = grind (arith, push_other, unlike, eqb-true, push_here, pushed_still)
 
 -- ---- units that are no CCs
 
-unit_no_cc : (q : ℕ) (g : Given) → IsNoCc (unit_of q g)
-unit_no_cc q g m x e = grind arith
-
 pub units_no_cc : (q : ℕ) (gs : List Given) → AllByRecursion IsNoCc (map (unit_of q) gs)
 units_no_cc q [] = tt
-units_no_cc q (g ∷ gs) = (unit_no_cc q g, units_no_cc q gs)
+units_no_cc q (g ∷ gs) = (grind arith, units_no_cc q gs)
 
 taking_no_cc : (n q : ℕ) (result : Result Standing LinkFault) (k : Option Class) → k ≡ Some Two →
     AllByRecursion IsNoCc (put_taking n q result k)

@@ -1,27 +1,25 @@
 -- What a unit of the other side does to its connection at the tap of a calling end: one that is open stays so, one that waits is
 -- opened or refused. For the law on a whole end.
-use Rattle.osi_fair.proofs.Vocabulary.{arith, [], ap, Bool, false, if◌then◌else◌, inl, inr, List, None, Option, refl, Some, subst, sym}
-use Rattle.osi_fair.proofs.Vocabulary.{true, ℕ, ◌∙◌, ◌∷◌, ◌≡◌, ◌⊎◌, nat_le, not, position, slice_get, ◌&&◌, ◌==◌, ◌||◌, acknowledge}
-use Rattle.osi_fair.proofs.Vocabulary.{confirm, Connect, data0, data2, destination_of, disconnect, disconnected, error, request, Value}
-use Rattle.osi_fair.proofs.Vocabulary.{Class, Two, Zero, is_applied, is_of_connection, passes_over, reach_of, code_named, first_failed}
-use Rattle.osi_fair.proofs.Vocabulary.{given_again, is_due, is_inside, is_offered, Test, is_closing, is_named, is_open, is_refused}
-use Rattle.osi_fair.proofs.Vocabulary.{is_silent, at_place, class_for, closing_phase, connection_after, course_after, found, found_on}
-use Rattle.osi_fair.proofs.Vocabulary.{half_after, in_doubt, none_told, one_told, Outcome, reached, route, route_in, routed, Traffic, takes}
-use Rattle.osi_fair.proofs.Vocabulary.{unnamed_by, unnamed_told, uses_source, Connection, Course, Right, Finding, Broke, Kept, NotJudged}
-use Rattle.osi_fair.proofs.Vocabulary.{Outside, TooMany, Reach, Rule, Half, Phase, noted}
+use Rattle.osi_fair.proofs.Vocabulary.{arith, [], ap, Bool, false, if◌then◌else◌, inr, List, None, Option, refl, Some, subst, sym, true, ℕ}
+use Rattle.osi_fair.proofs.Vocabulary.{◌∙◌, ◌∷◌, ◌≡◌, ◌⊎◌, nat_le, not, position, slice_get, ◌&&◌, ◌==◌, ◌||◌, acknowledge, confirm}
+use Rattle.osi_fair.proofs.Vocabulary.{Connect, data0, data2, destination_of, disconnect, disconnected, error, request, Value, Two, Zero}
+use Rattle.osi_fair.proofs.Vocabulary.{is_applied, is_of_connection, passes_over, reach_of, code_named, first_failed, given_again, is_due}
+use Rattle.osi_fair.proofs.Vocabulary.{is_inside, is_offered, Test, is_closing, is_named, is_open, is_refused, is_silent, at_place}
+use Rattle.osi_fair.proofs.Vocabulary.{class_for, closing_phase, connection_after, course_after, found, found_on, half_after, in_doubt}
+use Rattle.osi_fair.proofs.Vocabulary.{none_told, one_told, Outcome, reached, route, route_in, routed, Traffic, takes, unnamed_by}
+use Rattle.osi_fair.proofs.Vocabulary.{unnamed_told, uses_source, Connection, Course, Right, Finding, Broke, Kept, NotJudged, Outside}
+use Rattle.osi_fair.proofs.Vocabulary.{TooMany, Reach, Rule, Half, Phase, noted}
 use Rattle.osi_rules.specs.declared.findings.Reach.TheVariants as reach
 use Rattle.osi_rules.specs.declared.findings.Rule.TheVariants as rule
-use Rattle.osi_fair.proofs.small_facts_that_many_lemmas_use.{and_first, and_second, differ, judged_same, open_or_closing, sized_judged}
+use Rattle.osi_fair.proofs.small_facts_that_many_lemmas_use.{and_first, and_second, differ, judged_same, open_or_closing}
 use Rattle.osi_fair.proofs.no_two_open_connections_have_one_peer.{left_open, right_there, there_not_silent}
 use Rattle.osi_fair.proofs.each_connection_has_its_line.{is_tracked}
 use Rattle.osi_fair.proofs.what_keeps_names_apart.{Sound}
 use Rattle.osi_fair.proofs.what_stays_of_each_connection.{right_judged, right_own}
 use Rattle.osi_fair.proofs.what_lasts_at_the_tap.{IsCalm, calm_noted}
-use Rattle.osi_fair.proofs.what_the_other_side_closes.{not_calm, soft, unknown_not}
+use Rattle.osi_fair.proofs.what_the_other_side_closes.{not_calm, unknown_not}
 use Rattle.osi_fair.proofs.which_units_are_for_a_connection.{is_dc}
 use Rattle.osi_fair.proofs.while_no_class_is_selected.{named_where}
-use Rattle.osi_fair.proofs.one_request_waits.{reached_class}
-use Rattle.osi_fair.proofs.an_end_has_broken_no_rule.{er_idle, not_broken}
 
 -- ---- for which connection it is
 
@@ -48,18 +46,13 @@ pub record IsIdle (v : Value) (s : Traffic) (o : Outcome) : Type 0 where
 not_judged : (loose : Bool) → (if loose then in_doubt NotJudged else NotJudged) ≡ NotJudged
 not_judged loose = grind arith
 
-idle_by : (b : Bool) (m source : ℕ) (s : Traffic) → s.course.strays ≡ b → s.course.left_erred ≡ false →
-    IsCalm (unnamed_told Right (disconnected m source) s).state.course →
-    IsIdle (disconnected m source) s (unnamed_told Right (disconnected m source) s)
-idle_by b m source s e fine h = grind (arith, not_judged, unknown_not)
-
 by_bool : (v : Value) → unnamed_by true v ≡ Broke rule.UnknownReference → unnamed_by false v ≡ Broke rule.UnknownReference →
     (b : Bool) → unnamed_by b v ≡ Broke rule.UnknownReference
 by_bool v h k b = grind arith
 
 none_idle : (v : Value) (s : Traffic) → s.course.left_erred ≡ false → IsCalm (unnamed_told Right v s).state.course →
     IsIdle v s (unnamed_told Right v s)
-none_idle v s fine h = grind (arith, idle_by, unknown_not, by_bool)
+none_idle v s fine h = grind (arith, unknown_not, by_bool)
 
 -- the end has broken no rule
 module _ (s : Traffic) (fine : s.course.left_erred ≡ false) where
@@ -74,32 +67,14 @@ module _ (s : Traffic) (fine : s.course.left_erred ≡ false) where
   wrong : (v : Value) → Comes v (none_told Right (Broke rule.UnexpectedUnit) s)
   wrong v h = grind (arith, not_calm, calm_noted)
 
-  by_class : (k : Option Class) → (k ≡ None) ⊎ (k ≡ Some Two) → (v : Value) → Comes v (routed Right v s (route_in k Right false v))
-  by_class (Some Zero) (inl e) v h = absurd (cc e)
-  by_class (Some Zero) (inr e) v h = absurd (cc e)
-  by_class None e (confirm destination x) h = search (arith, at_name)
-  by_class None e (disconnect destination source reason user) h = search (arith, at_name)
-  by_class None e (disconnected destination source) h =
-      at_name (disconnected destination source) destination (position (is_named Right destination) s.connections) refl refl h
-  by_class None e (error destination cause) h = search (arith, at_name)
-  by_class None e v h = search (arith, wrong)
-  by_class (Some Two) e (confirm destination x) h = search (arith, at_name)
-  by_class (Some Two) e (disconnect destination source reason user) h = search (arith, at_name)
-  by_class (Some Two) e (disconnected destination source) h =
-      at_name (disconnected destination source) destination (position (is_named Right destination) s.connections) refl refl h
-  by_class (Some Two) e (data2 destination number end user) h = search (arith, at_name)
-  by_class (Some Two) e (acknowledge credit destination number) h = search (arith, at_name)
-  by_class (Some Two) e (error destination cause) h = search (arith, at_name)
-  by_class (Some Two) e v h = grind (arith, wrong)
-
   pub comes_for : (v : Value) → s.course.left_stopped ≡ false → s.course.right_stopped ≡ false →
       (s.course.class ≡ None) ⊎ (s.course.class ≡ Some Two) → Comes v (takes Right v s)
   comes_for v left right class =
       let so : takes Right v s ≡ routed Right v s (route_in s.course.class Right false v) =
       ap (λ (b : Bool). if b then none_told Right NotJudged s else routed Right v s (route Right s.course v)) right
       ∙ ap (λ (b : Bool). routed Right v s (route_in s.course.class Right b v))
-      (not_broken s.course.left_stopped s.course.left_erred left fine) in
-      subst (Comes v) (sym so) (by_class s.course.class class v)
+      (grind arith) in
+      subst (Comes v) (sym so) (grind (arith, at_name, wrong))
 
 -- ---- what it does to its connection
 
@@ -192,11 +167,6 @@ module _ (s : Traffic) (c : Connection) (judged : c.is_judged ≡ true) (sound :
   not_silent : is_tracked c ≡ true → is_silent c.right.phase ≡ false
   not_silent h = there_not_silent c.right.phase (right_there c h)
 
-  dr_by : (destination source reason : ℕ) (user : List ℕ) (b : Bool) →
-      is_applied (finding (disconnect destination source reason user)) ≡ b → is_tracked c ≡ true →
-      StaysOpen (disconnect destination source reason user)
-  dr_by destination source reason user b e h = grind (arith, right_by, right_there, closing_after, not_silent)
-
   dc_fate : (destination source : ℕ) → Fate (is_due Right c source) (finding (disconnected destination source))
   dc_fate destination source = grind (arith, is_found, dc_or)
 
@@ -204,12 +174,6 @@ module _ (s : Traffic) (c : Connection) (judged : c.is_judged ≡ true) (sound :
   idle_next : (destination source : ℕ) → finding (disconnected destination source) ≡ NotJudged →
       next (disconnected destination source) ≡ c
   idle_next destination source e = grind arith
-
-  -- a DC that is not due
-  dc_idle : (destination source : ℕ) → (is_due Right c source ≡ true → ⊥) →
-      Fate (is_due Right c source) (finding (disconnected destination source)) →
-      is_applied (finding (disconnected destination source)) ≡ false
-  dc_idle destination source none h = grind arith
 
   -- what has no effect
   idle_open : (v : Value) → is_applied (finding v) ≡ false → is_tracked c ≡ true → StaysOpen v
@@ -222,27 +186,22 @@ module _ (s : Traffic) (c : Connection) (judged : c.is_judged ≡ true) (sound :
   pub cc_idle : (destination : ℕ) (x : Connect) → is_silent c.right.phase ≡ false → is_applied (finding (confirm destination x)) ≡ false
   cc_idle destination x h = ap is_applied (cc_wrong destination x h)
 
-  -- and it ends the judging of another
-  cc_far : (destination : ℕ) (x : Connect) → is_silent c.right.phase ≡ false → IsCalm (course (confirm destination x)) →
-      how_far (confirm destination x) ≡ reach.Connection
-  cc_far destination x h p = grind (arith, cc_wrong, soft, calm_noted)
-
   pub cc_lost : (destination : ℕ) (x : Connect) → is_silent c.right.phase ≡ false → IsCalm (course (confirm destination x)) →
       (next (confirm destination x)).is_judged ≡ false
-  cc_lost destination x h p = grind (arith, cc_far, cc_idle)
+  cc_lost destination x h p = grind (arith, cc_idle)
 
   pub cc_loose : (destination : ℕ) (x : Connect) → is_silent c.right.phase ≡ false → IsCalm (course (confirm destination x)) →
       (course (confirm destination x)).loose ≡ true
-  cc_loose destination x h p = grind (arith, cc_far)
+  cc_loose destination x h p = grind arith
 
   pub open_stays : (v : Value) (n : ℕ) → destination_of v ≡ Some n → is_tracked c ≡ true → StaysOpen v
   open_stays (request x) n e h = absurd (cc e)
   open_stays (confirm destination x) n e h = idle_open (confirm destination x) (cc_idle destination x (not_silent h)) h
-  open_stays (disconnect destination source reason user) n e h = grind (arith, dr_by)
+  open_stays (disconnect destination source reason user) n e h = grind arith
   open_stays (disconnected destination source) n e h =
-      grind (arith, idle_open, dc_idle, open_or_closing, and_first, and_second, left_open c h, dc_fate destination source)
+      grind (arith, idle_open, open_or_closing, and_first, and_second, left_open c h, dc_fate destination source)
   open_stays (data0 end user) n e h = absurd (cc e)
-  open_stays (error destination cause) n e h = grind (arith, idle_open, is_found, er_idle, not_silent)
+  open_stays (error destination cause) n e h = grind (arith, idle_open, is_found, not_silent)
   open_stays v n e h = grind (arith, same_by v (is_applied (finding v)) refl refl refl h)
 
   -- ---- a connection that waits is opened, or refused
@@ -255,29 +214,16 @@ module _ (s : Traffic) (c : Connection) (judged : c.is_judged ≡ true) (sound :
     -- a DC that is not judged
     waits_on : is_dc v ≡ true → next v ≡ c → Answered v
 
-  cc_found : (destination : ℕ) (x : Connect) → is_silent c.right.phase ≡ true → Ruled (finding (confirm destination x))
-  cc_found destination x h = grind (arith, is_found, ruled)
-
   fine_applied : (f : Finding) → (f ≡ Kept) ⊎ (f ≡ Broke rule.LargerSize) → is_applied f ≡ true
   fine_applied f h = grind arith
-
-  outside_not : (v : Value) → finding v ≡ Outside → IsCalm (course v) → ⊥
-  outside_not v e h = grind (arith, differ)
-
-  doubtful_not : (v : Value) → finding v ≡ TooMany → IsCalm (course v) → ⊥
-  doubtful_not v e h = grind (arith, differ)
 
   -- a CC that takes effect selects class 2
   abbrev pub SelectsTwo : Value → Type 0
   SelectsTwo v = (m : ℕ) (x : Connect) → v ≡ confirm m x → is_applied (finding v) ≡ true → (x.class == 2) ≡ true
 
-  two_or_zero : (m : ℕ) (x : Connect) (b : Bool) → (x.class == 2) ≡ b → is_applied (finding (confirm m x)) ≡ true →
-      ((course (confirm m x)).class ≡ Some Zero → ⊥) → b ≡ true
-  two_or_zero m x b e applied none = grind (arith, reached_class)
-
   -- if class 0 is not selected after it
   pub not_selected : (v : Value) → ((course v).class ≡ Some Zero → ⊥) → SelectsTwo v
-  not_selected v none m x e applied = grind (arith, two_or_zero)
+  not_selected v none m x e applied = grind arith
 
   cc_by : (destination : ℕ) (x : Connect) → SelectsTwo (confirm destination x) → IsCalm (course (confirm destination x)) →
       Ruled (finding (confirm destination x)) → Answered (confirm destination x)
@@ -290,39 +236,20 @@ module _ (s : Traffic) (c : Connection) (judged : c.is_judged ≡ true) (sound :
       opens destination x refl f (selects destination x refl applied) unused
   cc_by destination x selects p (wrong_answer e) = broke (confirm destination x) rule.BadAnswer e refl refl p
   cc_by destination x selects p (wrong_reference e) = broke (confirm destination x) rule.ReferenceInUse e refl refl p
-  cc_by destination x selects p (doubtful e) = absurd (doubtful_not (confirm destination x) e p)
-  cc_by destination x selects p (outside e) = absurd (outside_not (confirm destination x) e p)
-
-  refuses : (was : Bool) (half : Half) → was ≡ true → is_refused (closing_phase was half).phase ≡ true
-  refuses was half h = grind arith
-
-  silent_kept : (a b : Bool) → a ≡ true → first_failed ((a || b, Broke rule.Closed) ∷ []) ≡ Kept
-  silent_kept a b h = grind arith
-
-  -- what is right leaves the connection judged
-  kept_judged : (v : Value) → finding v ≡ Kept → (next v).is_judged ≡ true
-  kept_judged v e = grind (arith, sized_judged)
+  cc_by destination x selects p (doubtful e) = absurd (grind (arith, differ))
+  cc_by destination x selects p (outside e) = absurd (grind (arith, differ))
 
   -- a DR refuses the CR
   dr_refuses : (destination source reason : ℕ) (user : List ℕ) → is_silent c.right.phase ≡ true →
       Answered (disconnect destination source reason user)
-  dr_refuses destination source reason user h = grind (arith, is_found, silent_kept, right_by, refuses, kept_judged)
-
-  dc_waits : (destination source : ℕ) → IsCalm (course (disconnected destination source)) →
-      (finding (disconnected destination source) ≡ NotJudged) ⊎ (finding (disconnected destination source) ≡ Broke rule.UnknownReference) →
-      Answered (disconnected destination source)
-  dc_waits destination source p h = grind (arith, idle_next, broke)
-
-  dc_found : (destination source : ℕ) → is_silent c.right.phase ≡ true →
-      (finding (disconnected destination source) ≡ NotJudged) ⊎ (finding (disconnected destination source) ≡ Broke rule.UnknownReference)
-  dc_found destination source h = grind (arith, is_found, dc_early, and_none, silent_not_open)
+  dr_refuses destination source reason user h = grind (arith, is_found, right_by)
 
   pub answered : (v : Value) (n : ℕ) → destination_of v ≡ Some n → is_silent c.right.phase ≡ true → SelectsTwo v →
       IsCalm (course v) → Answered v
-  answered (confirm destination x) n e h z p = cc_by destination x z p (cc_found destination x h)
+  answered (confirm destination x) n e h z p = cc_by destination x z p (grind (arith, is_found, ruled))
   answered (disconnect destination source reason user) n e h z p = dr_refuses destination source reason user h
-  answered (disconnected destination source) n e h z p = dc_waits destination source p (dc_found destination source h)
+  answered (disconnected destination source) n e h z p = grind (arith, idle_next, broke)
   answered (data2 destination number end user) n e h z p = grind (arith, broke, is_found, open_broke)
   answered (acknowledge credit destination number) n e h z p = grind (arith, broke, is_found, open_broke)
-  answered (error destination cause) n e h z p = grind (arith, is_found, er_kept, right_by, kept_judged)
+  answered (error destination cause) n e h z p = grind (arith, is_found, er_kept, right_by)
   answered _ n e h z p = absurd (cc e)

@@ -1,11 +1,10 @@
 -- A DR that refuses a CR is right, and after a DR that closed nothing no DC is blamed.
 -- For the law of that name.
-use Rattle.osi_fair.proofs.Vocabulary.{arith, [], Bool, false, if◌then◌else◌, List, None, Option, Some, true, ℕ, ◌∷◌, ◌≡◌, not, position}
-use Rattle.osi_fair.proofs.Vocabulary.{◌&&◌, ◌||◌, Connect, disconnect, disconnected, Value, Two, reach_of, first_failed, is_named, is_open}
-use Rattle.osi_fair.proofs.Vocabulary.{is_silent, other, asks_by, asks_of, at_found, at_place, class_for, course_after, course_after_none}
-use Rattle.osi_fair.proofs.Vocabulary.{course_begins, found, in_doubt, is_stopped, none_told, one_told, Outcome, reached, route_in, routed}
-use Rattle.osi_fair.proofs.Vocabulary.{Traffic as State, takes, unnamed_by, unnamed_told, Connection, Course, Direction, Right, Finding}
-use Rattle.osi_fair.proofs.Vocabulary.{Broke, Kept, NotJudged, Reach, Phase, Route, Named, passes, Passing, has_broken}
+use Rattle.osi_fair.proofs.Vocabulary.{arith, Bool, false, if◌then◌else◌, List, None, Option, Some, true, ℕ, ◌≡◌, position, disconnect}
+use Rattle.osi_fair.proofs.Vocabulary.{disconnected, Value, Two, reach_of, is_named, is_silent, other, asks_of, at_found, class_for, found}
+use Rattle.osi_fair.proofs.Vocabulary.{in_doubt, is_stopped, none_told, one_told, Outcome, reached, route_in, routed, Traffic as State}
+use Rattle.osi_fair.proofs.Vocabulary.{takes, unnamed_by, unnamed_told, Connection, Course, Direction, Right, Finding, Kept, NotJudged}
+use Rattle.osi_fair.proofs.Vocabulary.{Reach, Route, passes, Passing, has_broken}
 use Rattle.osi_rules.specs.declared.findings.Rule.TheVariants as rule
 use Rattle.osi_fair.proofs.small_facts_that_many_lemmas_use.{or_first}
 use Rattle.osi_fair.proofs.what_is_right_passes_each_test.{is_right}
@@ -19,18 +18,9 @@ refusal_right c course in_use destination source reason user h = grind (arith, i
 
 -- ---- a DC
 
-due_or_not : (due told strays : Bool) → strays ≡ true → (due ≡ true → told ≡ true) →
-    IsNotBlamed (first_failed ((due || not strays, NotJudged) ∷ (told, Broke rule.UnknownReference)
-    ∷ (due, Broke rule.NothingToAnswer) ∷ []))
-due_or_not due told strays h k = grind arith
-
--- a DC that is due comes after an answer
-due_told : (p : Phase) (rest : Bool) → (is_open p && rest) ≡ true → not (is_silent p) ≡ true
-due_told p rest h = grind arith
-
 found_so : (d : Direction) (s : State) (c : Connection) (n source : ℕ) (judged in_use : Bool) → s.course.strays ≡ true →
     IsNotBlamed (if judged then found d s.course in_use c (disconnected n source) else NotJudged)
-found_so d s c n source judged in_use h = grind (arith, due_or_not, due_told)
+found_so d s c n source judged in_use h = grind arith
 
 unnamed_so : (loose strays : Bool) (n source : ℕ) → strays ≡ true →
     IsNotBlamed (if loose then in_doubt (unnamed_by strays (disconnected n source)) else unnamed_by strays (disconnected n source))
@@ -43,34 +33,18 @@ at_one : (d : Direction) (s : State) (n source p : ℕ) (c : Option Connection) 
     Spared (at_found d (disconnected n source) s p c)
 at_one d s n source p c h = grind (arith, unnamed_so, found_so)
 
-at_any : (d : Direction) (s : State) (n source : ℕ) (p : Option ℕ) → s.course.strays ≡ true →
-    Spared (at_place d (disconnected n source) s p)
-at_any d s n source p h = grind (arith, unnamed_so, at_one)
-
 two_routes : (d : Direction) (s : State) (n source : ℕ) → s.course.strays ≡ true →
     Spared (routed d (disconnected n source) s (route_in (Some Two) d (has_broken (other d) s.course) (disconnected n source)))
-two_routes d s n source h = grind (arith, at_any)
-
-dc_by : (stopped : Bool) (d : Direction) (s : State) (n source : ℕ) (r : Route) →
-    r ≡ route_in (Some Two) d (has_broken (other d) s.course) (disconnected n source) → s.course.strays ≡ true →
-    Spared (if stopped then none_told d NotJudged s else routed d (disconnected n source) s r)
-dc_by stopped d s n source r e h = grind (arith, two_routes)
+two_routes d s n source h = grind arith
 
 pub dc_spared : (d : Direction) (s : State) (n source : ℕ) → class_for d s.course ≡ Some Two → s.course.strays ≡ true →
     IsNotBlamed (takes d (disconnected n source) s).told.finding
-dc_spared d s n source two h = grind (arith, dc_by)
+dc_spared d s n source two h = grind arith
 
 -- ---- it lasts
 
 pub reached_strays : (d : Direction) (r : Reach) (c : Course) → c.strays ≡ true → (reached d r c).strays ≡ true
 reached_strays d r c h = grind arith
-
-after_strays : (d : Direction) (c : Connection) (v : Value) (applied : Bool) (course : Course) → course.strays ≡ true →
-    (course_after d c v applied course).strays ≡ true
-after_strays d c v applied course h = grind (arith, or_first)
-
-none_strays : (v : Value) (course : Course) → course.strays ≡ true → (course_after_none v course).strays ≡ true
-none_strays v course h = grind arith
 
 abbrev pub Strays : Outcome → Type 0
 Strays o = o.state.course.strays ≡ true
@@ -79,49 +53,27 @@ to_none : (d : Direction) (f : Finding) (s : State) → s.course.strays ≡ true
 to_none d f s h = reached_strays d (reach_of (class_for d s.course) f) s.course h
 
 to_unnamed : (d : Direction) (v : Value) (s : State) → s.course.strays ≡ true → Strays (unnamed_told d v s)
-to_unnamed d v s h = grind (arith, reached_strays, none_strays)
+to_unnamed d v s h = grind (arith, reached_strays)
 
 to_one : (d : Direction) (p : ℕ) (c : Connection) (v : Value) (s : State) → s.course.strays ≡ true → Strays (one_told d p c v s)
-to_one d p c v s h = grind (arith, reached_strays, after_strays)
+to_one d p c v s h = grind (arith, reached_strays)
 
 strays_one : (d : Direction) (v : Value) (s : State) (p : ℕ) (c : Option Connection) → s.course.strays ≡ true → Strays (at_found d v s p c)
 strays_one d v s p None h = to_unnamed d v s h
 strays_one d v s p (Some c) h = to_one d p c v s h
 
-strays_any : (d : Direction) (v : Value) (s : State) (p : Option ℕ) → s.course.strays ≡ true → Strays (at_place d v s p)
-strays_any d v s p h = grind (arith, to_unnamed, strays_one)
-
-asking : (d : Direction) (f : Finding) (c : Connect) (s : State) → s.course.strays ≡ true → Strays (asks_by d f c s)
-asking d f c s h = search (arith, to_none)
-
 asks : (d : Direction) (v : Value) (s : State) → s.course.strays ≡ true → Strays (asks_of d v s)
-asks d v s h = grind (arith, asking, to_none)
+asks d v s h = grind (arith, to_none)
 
 by_route : (d : Direction) (v : Value) (s : State) (r : Route) → s.course.strays ≡ true → Strays (routed d v s r)
-by_route d v s r h = grind (arith, asks, strays_any, to_none)
-
-if_judged : (b : Bool) (d : Direction) (v : Value) (s : State) (r : Route) → s.course.strays ≡ true →
-    Strays (if b then none_told d NotJudged s else routed d v s r)
-if_judged b d v s r h = grind (arith, to_none, by_route)
-
-begun_strays : (d : Direction) (c : Course) → c.strays ≡ true → (course_begins d c).strays ≡ true
-begun_strays d c h = grind arith
+by_route d v s r h = search (arith, asks, to_none)
 
 pub strays_last : (p : Passing) (s : State) → s.course.strays ≡ true → (passes p s).course.strays ≡ true
-strays_last p s h = grind (arith, begun_strays, if_judged, reached_strays)
+strays_last p s h = grind (arith, to_none, by_route, reached_strays)
 
 -- ---- a DR for no connection
-
-stray_by : (d : Direction) (s : State) (n source reason : ℕ) (user : List ℕ) →
-    position (is_named d n) s.connections ≡ None →
-    Strays (routed d (disconnect n source reason user) s (Named n))
-stray_by d s n source reason user none = grind (arith, reached_strays)
-
-pub two_named : (d : Direction) (s : State) (n source reason : ℕ) (user : List ℕ) →
-    route_in (Some Two) d (has_broken (other d) s.course) (disconnect n source reason user) ≡ Named n
-two_named d s n source reason user = grind arith
 
 pub dr_strays : (d : Direction) (s : State) (n source reason : ℕ) (user : List ℕ) → is_stopped d s.course ≡ false →
     class_for d s.course ≡ Some Two → position (is_named d n) s.connections ≡ None →
     (takes d (disconnect n source reason user) s).state.course.strays ≡ true
-dr_strays d s n source reason user judged two none = grind (arith, two_named, stray_by)
+dr_strays d s n source reason user judged two none = grind arith

@@ -12,8 +12,8 @@ use Rattle.osi_fair.proofs.a_right_unit_is_not_blamed.{first_there}
 use Rattle.osi_fair.proofs.names_stay_apart_though_one_is_lost.{AreNamedApart, left_asked}
 use Rattle.osi_fair.proofs.a_reference_names_one_connection.{not_true}
 use Rattle.osi_fair.proofs.what_is_right_passes_each_test.{passes_each}
-use Rattle.osi_fair.proofs.each_connection_of_a_called_end.{AreStrays, Asked, Called, IsFor, IsUnlinked, Running, Stand, Untagged, answers}
-use Rattle.osi_fair.proofs.each_connection_of_a_called_end.{comes, past, refuses, runs}
+use Rattle.osi_fair.proofs.each_connection_of_a_called_end.{AreStrays, Called, IsFor, IsUnlinked, Running, Stand, Untagged, answers, comes}
+use Rattle.osi_fair.proofs.each_connection_of_a_called_end.{past, refuses, runs}
 use Rattle.osi_fair.proofs.units_by_their_place.{Placed, at_first, at_join, at_other, first_at, units_at, values, values_join}
 use Rattle.osi_fair.proofs.what_holds_of_a_line.{is_there}
 use Rattle.osi_fair.proofs.what_holds_of_one_item.{after_add, first_true}
@@ -78,10 +78,6 @@ module _ (local : Local) (w : Whole) (f : Called local w) (apart : AreApart w.ta
       asks : units_at p f.came ≡ []
       un : (r : ℕ) → f.refs p ≡ Some r → IsUnlinked w.end r
 
-    -- a connection that is over for both is past
-    busy_asked : {A : Type 0} (y : Connect) (c : Connection) → Asked y c → is_over Left c ≡ true → A
-    busy_asked y c a h = grind (arith, differ, and_second)
-
     busy_open : {A : Type 0} (p : ℕ) (c : Connection) → slice_get cs p ≡ Some c →
         (g : Running f.shut w.end w.coming (units_at p f.tagged) (w.begun && first_at p f.tagged) (f.refs p) c) → is_over Left c ≡ true → A
     busy_open p c at g h =
@@ -97,9 +93,9 @@ module _ (local : Local) (w : Whole) (f : Called local w) (apart : AreApart w.ta
 
     idle_by : (p : ℕ) (c : Connection) → slice_get cs p ≡ Some c → is_free c ≡ true →
         Stand local f.shut w.end w.coming (units_at p f.tagged) (units_at p f.came) (w.begun && first_at p f.tagged) (f.refs p) c → Idle p
-    idle_by p c at free (comes y a none ask i) = busy_asked y c a (and_first (is_over Left c) (is_over Right c) free)
-    idle_by p c at free (refuses y a reason mine none i seen) = busy_asked y c a (and_first (is_over Left c) (is_over Right c) free)
-    idle_by p c at free (answers h none) = busy_asked h.x c h.asked (and_first (is_over Left c) (is_over Right c) free)
+    idle_by p c at free (comes y a none ask i) = grind (arith, differ, and_second)
+    idle_by p c at free (refuses y a reason mine none i seen) = grind (arith, differ, and_second)
+    idle_by p c at free (answers h none) = grind (arith, differ, and_second)
     idle_by p c at free (runs g none) = busy_open p c at g (and_first (is_over Left c) (is_over Right c) free)
     idle_by p c at free (past silent up none ask un off) = (none, ask, un)
 
@@ -148,12 +144,6 @@ module _ (local : Local) (w : Whole) (f : Called local w) (apart : AreApart w.ta
       abbrev refs : ℕ → Option ℕ
       refs i = if i == p then None else f.refs i
 
-      refs_here : (i : ℕ) → (i == p) ≡ true → refs i ≡ None
-      refs_here i e = ap (λ (b : Bool). if◌then◌else◌ {A = Option ℕ} b None (f.refs i)) e
-
-      refs_other : (i : ℕ) → (i == p) ≡ false → refs i ≡ f.refs i
-      refs_other i e = ap (λ (b : Bool). if◌then◌else◌ {A = Option ℕ} b None (f.refs i)) e
-
       asks_other : (i : ℕ) → (i ≡ p → ⊥) → units_at i came_at ≡ units_at i f.came
       asks_other i other = grind (arith, at_join, at_other, append-nil)
 
@@ -169,17 +159,17 @@ module _ (local : Local) (w : Whole) (f : Called local w) (apart : AreApart w.ta
       stand_case : (i : ℕ) (c : Connection) (b : Bool) → (i == p) ≡ b → ((i ≡ p) × (c ≡ asked_by x))
           ⊎ ((i ≡ p → ⊥) × (slice_get cs i ≡ Some c)) →
           StandFree i (refs i) c
-      stand_case i c true e (inl (same, so)) = grind (arith, refs_here, stand_new)
+      stand_case i c true e (inl (same, so)) = grind (arith, stand_new)
       stand_case i c true e (inr (other, there)) = absurd (other (eqb-true i p e))
       stand_case i c false e (inl (same, so)) = absurd (unlike i p e same)
       stand_case i c false e (inr (other, there)) =
-          subst (λ (o : Option ℕ). StandFree i o c) (sym (refs_other i e))
+          subst (λ (o : Option ℕ). StandFree i o c) (sym (grind arith))
           (stand_on local w f apart named v ranges calm_after (f.refs i) (λ j. units_at j came_at) (λ r peer link line k row. row_other
           local w f apart named v ranges calm_after r peer link line (no_name r) row) i c
           (units_at i f.tagged) (units_at i f.came) (w.begun && first_at i f.tagged) (asks_other i other) (f.stands i c there))
 
       old_ref : (i r : ℕ) (b : Bool) → (i == p) ≡ b → refs i ≡ Some r → f.refs i ≡ Some r
-      old_ref i r b e h = grind (arith, no_number, refs_here, refs_other)
+      old_ref i r b e h = grind (arith, no_number)
 
       top_case : (i : ℕ) (c : Connection) → ((i ≡ p) × (c ≡ asked_by x)) ⊎ ((i ≡ p → ⊥) × (slice_get cs i ≡ Some c)) →
           c.right.reference ≤ f.last
@@ -194,7 +184,7 @@ module _ (local : Local) (w : Whole) (f : Called local w) (apart : AreApart w.ta
 
       linked_case : (r peer : ℕ) (l : Standing) → w.end.ended ≡ None → value_at r w.end.live ≡ Some (linked peer l) → (b : Bool) →
           (f.home r == p) ≡ b → refs (f.home r) ≡ Some r
-      linked_case r peer l lasts there b e = search (arith, eqb-true, refs_other)
+      linked_case r peer l lasts there b e = search (arith, eqb-true)
 
       strays_case : (ts : List Placed) → AreStrays f.shut w.end f.refs f.home w.tap.course.strays ts →
           AreStrays f.shut w.end (λ i. refs i) f.home w.tap.course.strays ts

@@ -1,19 +1,16 @@
 -- A unit of the other side passes at the tap of a called end that has selected class 0: right has sent what it had.
 -- For the law on a whole called end.
 use Rattle.std.proofs.Common.{arith}
-use Rattle.osi_fair.proofs.Vocabulary.{[], ap, Bool, false, IfSome, if◌then◌else◌, inl, inr, List, None, Option, refl, set}
-use Rattle.osi_fair.proofs.Vocabulary.{Some, subst, suc, sym, true, zero, ℕ, ◌++◌, ◌+◌, ◌∙◌, ◌∷◌, ◌≡◌, ◌≤◌, ◌⊎◌, eqb-true, list_all, not}
-use Rattle.osi_fair.proofs.Vocabulary.{slice_get, ◌&&◌, ◌==◌, ◌||◌, confirm, Connect, Value}
-use Rattle.osi_fair.proofs.Vocabulary.{Class, Zero, Local, is_applied, reach_of, first_failed, Test, is_named, is_open, is_over, is_over_by}
-use Rattle.osi_fair.proofs.Vocabulary.{is_refused, is_silent, closing_phase, connection_after, found_on, half_after}
-use Rattle.osi_fair.proofs.Vocabulary.{judged_on, one_told, Outcome, reached, request_tests, sent_on, Traffic, takes, Connection, Course}
-use Rattle.osi_fair.proofs.Vocabulary.{Left, Finding, Broke, Kept, NotJudged, Reach, Half, Phase}
+use Rattle.osi_fair.proofs.Vocabulary.{[], ap, Bool, false, IfSome, if◌then◌else◌, inl, inr, List, None, Option, refl, set, Some, subst}
+use Rattle.osi_fair.proofs.Vocabulary.{suc, sym, true, zero, ℕ, ◌++◌, ◌+◌, ◌∙◌, ◌∷◌, ◌≡◌, ◌≤◌, ◌⊎◌, eqb-true, list_all, not, slice_get}
+use Rattle.osi_fair.proofs.Vocabulary.{◌&&◌, ◌==◌, ◌||◌, Connect, Value, Class, Zero, Local, is_applied, reach_of, first_failed, Test}
+use Rattle.osi_fair.proofs.Vocabulary.{is_open, is_over, is_over_by, is_refused, connection_after, found_on, half_after, one_told, Outcome}
+use Rattle.osi_fair.proofs.Vocabulary.{reached, request_tests, Traffic, takes, Connection, Course, Left, Finding, Broke, Kept, Reach, Half}
 use Rattle.osi_fair.proofs.Vocabulary.{unit as passing, Whole}
 use Rattle.osi_rules.specs.declared.findings.Reach.TheVariants as reach
 use Rattle.osi_rules.specs.declared.findings.Rule.TheVariants as rule
-use Rattle.osi_fair.proofs.small_facts_that_many_lemmas_use.{and_first, and_second, differ, item_is, seen_after, set_other}
+use Rattle.osi_fair.proofs.small_facts_that_many_lemmas_use.{and_first, and_second, differ, item_is, set_other}
 use Rattle.osi_fair.proofs.all_are_judged_unless_one_broke.{IsJudged}
-use Rattle.osi_fair.proofs.each_connection_of_a_called_end.{Asked}
 use Rattle.osi_fair.proofs.left_selects_no_class.{left_class}
 use Rattle.osi_fair.proofs.what_an_end_does_in_class_zero.{IsInZero}
 use Rattle.osi_fair.proofs.what_comes_to_a_called_end.{open_over}
@@ -26,7 +23,6 @@ use Rattle.osi_fair.proofs.which_unit_comes_to_a_called_end.{Came, IsCalm, asks_
 use Rattle.osi_fair.proofs.while_no_class_is_selected.{after_change, set_there}
 use Rattle.osi_fair.proofs.a_called_end_selects_class_zero.{Selected, Selecting}
 use Rattle.osi_fair.proofs.a_dt_of_class_zero_passes.{unlike}
-use Rattle.osi_fair.proofs.a_unit_comes_to_a_called_end.{cc_not_applied}
 
 -- ---- small facts
 
@@ -39,37 +35,18 @@ all_there f [] p c h at = absurd (cc)
 all_there f (x ∷ xs) zero c h at = ap f (sym (item_is x c (Some x) refl at)) ∙ and_first (f x) (list_all f xs) h
 all_there f (x ∷ xs) (suc p) c h at = all_there f xs p c (and_second (f x) (list_all f xs) h) at
 
-closing_there : (was : Bool) (half : Half) → was ≡ false → is_there (closing_phase was half).phase ≡ true
-closing_there was half h = grind arith
-
-there_started : (p : Phase) → is_there p ≡ true → is_silent p ≡ false
-there_started p h = grind arith
-
-wrong_applied : {A : Type 0} (j a erred : Bool) → a ≡ false → is_applied (if j then first_failed ((a || not erred, NotJudged)
-    ∷ (a, Broke rule.WrongForm) ∷ []) else NotJudged) ≡ true → A
-wrong_applied h a erred e h2 = grind arith
-
-sent_left : (v : Value) (c : Connection) → (sent_on Left v c).left ≡ half_after v c.left
-sent_left v c = grind arith
-
 there_half : (s : Traffic) (c : Connection) (v : Value) → is_applied (found_on Left s c v) ≡ true → is_there c.left.phase ≡ true →
     is_there (half_after v c.left).phase ≡ true
-there_half s c v e h = grind (arith, closing_there, there_started, wrong_applied)
-
-size_sent : (v : Value) (c : Connection) → ((m : ℕ) (x : Connect) → v ≡ confirm m x → ⊥) → (sent_on Left v c).size ≡ c.size
-size_sent v c none = grind arith
-
-size_judged : (r : Reach) (c : Connection) → (judged_on r c).size ≡ c.size
-size_judged r c = grind arith
+there_half s c v e h = grind arith
 
 size_after : (s : Traffic) (c : Connection) (v : Value) (applied : Bool) (r : Reach) → is_applied (found_on Left s c v) ≡ applied →
     (connection_after Left v applied r c).size ≡ c.size
-size_after s c v applied r e = grind (arith, size_judged, size_sent, cc_not_applied)
+size_after s c v applied r e = grind arith
 
 -- left has not refused it, whatever it sends
 there_after : (s : Traffic) (c : Connection) (v : Value) (applied : Bool) (r : Reach) → is_applied (found_on Left s c v) ≡ applied →
     is_there c.left.phase ≡ true → is_there (connection_after Left v applied r c).left.phase ≡ true
-there_after s c v applied r e h = grind (arith, is_there, left_judged, sent_left, there_half)
+there_after s c v applied r e h = grind (arith, is_there, left_judged, there_half)
 
 cr_by : (seen all : Bool) (ts : List Test) → seen ≡ false → first_failed ((seen || all, Broke rule.Negotiating) ∷ ts) ≡ Kept → all ≡ true
 cr_by seen all ts e h = grind arith
@@ -97,9 +74,6 @@ module _ (w : Whole) (apart : AreApart w.tap.connections) (judged : HoldsOfEach 
       open_over c.left.phase c.seen_by_left.phase c.right.phase up there s.left_knows.refused s.left_knows.closing s.left_knows.closed
       s.left_closed (and_second c.is_judged (is_over_by c.left c.seen_by_left) h)
 
-  asked_live : (x : Connect) (c : Connection) → Asked x c → is_over Left c ≡ true → ⊥
-  asked_live x c a h = grind (arith, differ, and_second)
-
   -- no other CR is right while one waits
   cr_not : {A : Type 0} (x : Connect) → first_failed (request_tests w.tap x) ≡ Kept → w.tap.course.class_seen ≡ None →
       (p : ℕ) (c : Connection) →
@@ -121,7 +95,7 @@ module _ (w : Whole) (apart : AreApart w.tap.connections) (judged : HoldsOfEach 
     conns = ap (λ (o : Outcome). o.state.connections) is
 
     seen_same : (takes Left v w.tap).state.course.class_seen ≡ w.tap.course.class_seen
-    seen_same = grind (arith, reached_seen, seen_after)
+    seen_same = grind (arith, reached_seen)
 
     next_right : next.right ≡ e.right
     next_right = right_then v (is_applied found_so) far e
@@ -231,18 +205,10 @@ module _ (w : Whole) (apart : AreApart w.tap.connections) (judged : HoldsOfEach 
     end = f.end;
   })
 
-  -- left can't name the connection yet
-  waits_apart : (local : Local) (f : Selecting local w) (n q : ℕ) (e : Connection) → slice_get cs q ≡ Some e → is_named Left n e ≡ true →
-      q ≡ f.p → ⊥
-  waits_apart local f n q e at named same = grind (arith, item_is, named_not, differ)
-
-  none_not : {A : Type 0} (k : Option Class) → k ≡ None → k ≡ Some Zero → A
-  none_not k e h = absurd (cc (sym e ∙ h))
-
   selecting_by : (local : Local) (f : Selecting local w) → Came v w.tap (takes Left v w.tap) → Selecting local after
-  selecting_by local f (asks_so x e class kept is) = cr_not x kept f.class_seen f.p f.c f.at (asked_live f.x f.c f.asked)
-  selecting_by local f (for_one n q e dest at named is) = selecting_one q e at is local f (waits_apart local f n q e at named)
-  selecting_by local f (only q e at seen is) = none_not w.tap.course.class_seen f.class_seen seen
+  selecting_by local f (asks_so x e class kept is) = cr_not x kept f.class_seen f.p f.c f.at (grind (arith, differ, and_second))
+  selecting_by local f (for_one n q e dest at named is) = selecting_one q e at is local f (grind (arith, item_is, named_not, differ))
+  selecting_by local f (only q e at seen is) = grind arith
   selecting_by local f (lost dc strays same) = selecting_same local same f
 
   asks_zero : (f : Selected w) (x : Connect) → (w.tap.course.class_seen ≡ Some Zero → ⊥) →

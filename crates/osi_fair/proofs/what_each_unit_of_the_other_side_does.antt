@@ -4,8 +4,8 @@ use Rattle.osi_fair.proofs.Vocabulary.{arith, [], ap, Bool, false, if◌then◌e
 use Rattle.osi_fair.proofs.Vocabulary.{◌+◌, ◌<◌, ◌∙◌, ◌∷◌, ◌≡◌, ◌≢◌, ◌⊎◌, not, ◌&&◌, ◌||◌, acknowledge, confirm, data2, destination_of}
 use Rattle.osi_fair.proofs.Vocabulary.{disconnect, disconnected, error, HasFieldsInRange, Value, Standing, Two, is_applied, reach_of}
 use Rattle.osi_fair.proofs.Vocabulary.{first_failed, has_passed, is_due, is_tellable, keeps_credit, Test, is_closing, is_open, is_silent}
-use Rattle.osi_fair.proofs.Vocabulary.{connection_after, found, sent_on, Connection, Course, Left, Right, Finding, Broke, NotJudged, Reach}
-use Rattle.osi_fair.proofs.Vocabulary.{Phase, Acts, after_finding, finding_of, Line}
+use Rattle.osi_fair.proofs.Vocabulary.{found, sent_on, Connection, Course, Left, Right, Finding, Broke, NotJudged, Phase, Acts}
+use Rattle.osi_fair.proofs.Vocabulary.{after_finding, finding_of, Line}
 use Rattle.osi_rules.specs.declared.findings.Reach.TheVariants as reach
 use Rattle.osi_rules.specs.declared.findings.Rule.TheVariants as rule
 use Rattle.osi_fair.specs.Lines.{passes_other}
@@ -24,18 +24,14 @@ Leaves f = (is_applied f ≡ false) × (reach_of (Some Two) f ≡ reach.Nothing)
 abbrev Loses : Finding → Type 0
 Loses f = (is_applied f ≡ false) × (reach_of (Some Two) f ≡ reach.Connection)
 
-after_is : (f : Finding) (a : Bool) (r : Reach) (v : Value) (c : Connection) → is_applied f ≡ a → reach_of (Some Two) f ≡ r →
-    after_finding Right f v c ≡ connection_after Right v a r c
-after_is f a r v c e g = grind arith
-
 applied_after : (f : Finding) (v : Value) (c : Connection) → Applies f → sent_on Right v c ≡ after_finding Right f v c
-applied_after f v c (e, g) = sym (after_is f true reach.Nothing v c e g)
+applied_after f v c (e, g) = sym (grind arith)
 
 left_after : (f : Finding) (v : Value) (c : Connection) → Leaves f → c ≡ after_finding Right f v c
-left_after f v c (e, g) = sym (after_is f false reach.Nothing v c e g)
+left_after f v c (e, g) = sym (grind arith)
 
 lost_after : (f : Finding) (v : Value) (c : Connection) → Loses f → (after_finding Right f v c).is_judged ≡ true → ⊥
-lost_after f v c h judged = grind (arith, after_is)
+lost_after f v c h judged = grind arith
 
 loses_as : (f g : Finding) → f ≡ g → Loses g → Loses f
 loses_as f g e (a, b) = (ap is_applied e ∙ a, ap (λ (h : Finding). reach_of (Some Two) h) e ∙ b)
@@ -133,12 +129,6 @@ module _ (r peer limit : ℕ) (x : Tally) (noted : ℕ) (tap : Connection) (put 
       Goes (disconnect destination source reason user) (sent_on Right (disconnect destination source reason user) tap)
   disconnect_goes destination source reason user live silent = grind (arith, ends_goes)
 
-  disconnect_by : (destination source reason : ℕ) (user : List ℕ) (f : Finding) →
-      ((is_open tap.right.phase ≡ false) × Leaves f) ⊎ ((is_open tap.right.phase ≡ true) × (is_silent tap.right.phase ≡ false)
-      × Applies f) →
-      Goes (disconnect destination source reason user) (after_finding Right f (disconnect destination source reason user) tap)
-  disconnect_by destination source reason user f h = grind (arith, closed_goes, applied_after, disconnect_goes)
-
   -- a DC
   disconnected_by : (destination source : ℕ) (f : Finding) → (Leaves f) ⊎ (Loses f ⊎ ((is_due Right tap source ≡ true) × Applies f)) →
       (after_finding Right f (disconnected destination source) tap).is_judged ≡ true →
@@ -147,21 +137,16 @@ module _ (r peer limit : ℕ) (x : Tally) (noted : ℕ) (tap : Connection) (put 
   disconnected_by destination source f (inr (inl loses)) judged = absurd (lost_after f (disconnected destination source) tap loses judged)
   disconnected_by destination source f (inr (inr (due, applies))) judged = grind (arith, and_first, applied_after, ends_goes, not_closing)
 
-  -- an ER
-  error_by : (destination cause : ℕ) (f : Finding) → (Leaves f) ⊎ (Loses f) →
-      (after_finding Right f (error destination cause) tap).is_judged ≡ true →
-      Goes (error destination cause) (after_finding Right f (error destination cause) tap)
-  error_by destination cause f h judged = grind (arith, left_after, goes_same, lost_after)
-
   pub unit_goes : (course : Course) (in_use : Bool) (unit : Value) → HasFieldsInRange unit → destination_of unit ≡ Some r →
       reach_of (Some Two) (found Right course in_use tap unit) ≢ reach.Everything →
       (after_finding Right (found Right course in_use tap unit) unit tap).is_judged ≡ true →
       Goes unit (after_finding Right (found Right course in_use tap unit) unit tap)
   unit_goes course in_use (confirm destination c) range named some judged =
       grind (arith, first_fails, there_not_silent, lost_after, loses_as)
-  unit_goes course in_use (error destination cause) range named some judged = grind (arith, error_by, error_fate, there_not_silent)
+  unit_goes course in_use (error destination cause) range named some judged =
+      grind (arith, left_after, goes_same, lost_after, error_fate, there_not_silent)
   unit_goes course in_use (disconnect destination source reason user) range named some judged =
-      grind (arith, disconnect_by, disconnect_fate)
+      grind (arith, closed_goes, applied_after, disconnect_goes, disconnect_fate)
   unit_goes course in_use (disconnected destination source) range named some judged =
       grind (arith, disconnected_by, disconnected_fate, there_not_silent)
   unit_goes course in_use (data2 destination number end user) range named some judged = search (arith, data_by, data_fate)

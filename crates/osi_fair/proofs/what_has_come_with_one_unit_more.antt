@@ -11,25 +11,17 @@ use Rattle.osi_fair.proofs.what_is_live_at_a_called_end.{all_add}
 
 -- ---- what has come for a connection, with one unit more
 
-more_other : (r : ℕ) (coming : List Value) (v : Value) → names r v ≡ false → those r (coming ++ v ∷ []) ≡ those r coming
-more_other r coming v e = picked_other (names r) coming v e
-
 -- DCs for a reference, and one more
 pub early_other : (r : ℕ) (coming : List Value) (v : Value) → names r v ≡ false → AllByRecursion IsDc (those r coming) →
     AllByRecursion IsDc (those r (coming ++ v ∷ []))
-early_other r coming v e h = subst (AllByRecursion IsDc) (sym (more_other r coming v e)) h
-
-pub early_more : (r : ℕ) (coming : List Value) (v : Value) → is_dc v ≡ true → (b : Bool) → names r v ≡ b →
-    AllByRecursion IsDc (those r coming) →
-    AllByRecursion IsDc (those r (coming ++ v ∷ []))
-early_more r coming v dc b e h = grind (arith, early_other, picked_more, all_add)
+early_other r coming v e h = subst (AllByRecursion IsDc) (sym (grind (arith, picked_other, names))) h
 
 row_other : (local : Local) (end : State) (coming : List Value) (r peer : ℕ) (line : Line) (v : Value) → names r v ≡ false →
     Row local end coming r peer line → Row local end (coming ++ v ∷ []) r peer line
 row_other local end coming r peer line v e (asks there x source two early dcs first is) =
-    asks there x source two early dcs (more_other r coming v e ∙ first) is
-row_other local end coming r peer line v e (talks link there is all) = talks link there is (more_other r coming v e ∙ all)
-row_other local end coming r peer line v e (closes o there q k is all) = closes o there q k is (more_other r coming v e ∙ all)
+    asks there x source two early dcs ((grind (arith, picked_other, names)) ∙ first) is
+row_other local end coming r peer line v e (talks link there is all) = talks link there is ((grind (arith, picked_other, names)) ∙ all)
+row_other local end coming r peer line v e (closes o there q k is all) = closes o there q k is ((grind (arith, picked_other, names)) ∙ all)
 row_other local end coming r peer line v e (over h) = over h
 
 pub row_add : (local : Local) (end : State) (coming : List Value) (r peer : ℕ) (line after : Line) (v : Value) → names r v ≡ true →
@@ -67,4 +59,4 @@ waiting_other local end coming x v k e = search (arith, early_other)
 -- a DC may come before the answer
 pub waiting_dc : (local : Local) (end : State) (coming : List Value) (x : Connection) (v : Value) → is_dc v ≡ true →
     Waiting local end coming x → Waiting local end (coming ++ v ∷ []) x
-waiting_dc local end coming x v dc k = search (arith, early_more)
+waiting_dc local end coming x v dc k = grind (arith, early_other, picked_more, all_add)

@@ -1,9 +1,8 @@
 -- What holds of one item of a list at most, after an item is changed or added, or all are.
 -- For the law on references.
-use Rattle.osi_fair.proofs.Vocabulary.{arith}
-use Rattle.osi_fair.proofs.Vocabulary.{[], ap, Bool, false, inl, inr, length, List, map, refl, set, Some, subst, suc, sym, true, zero, ℕ}
-use Rattle.osi_fair.proofs.Vocabulary.{◌++◌, ◌∙◌, ◌∷◌, ◌≡◌, ◌⊎◌, position-Some, get_or_from_slice_get, list_any, position, slice_get, ◌||◌}
-use Rattle.osi_fair.proofs.Vocabulary.{Connection, HoldsOfOne}
+use Rattle.osi_fair.proofs.Vocabulary.{arith, [], ap, Bool, false, inl, inr, length, List, map, refl, set, Some, subst, suc, sym, true}
+use Rattle.osi_fair.proofs.Vocabulary.{zero, ℕ, ◌++◌, ◌∙◌, ◌∷◌, ◌≡◌, ◌⊎◌, position-Some, get_or_from_slice_get, list_any, position}
+use Rattle.osi_fair.proofs.Vocabulary.{slice_get, Connection, HoldsOfOne}
 use Rattle.osi_fair.proofs.small_facts_that_many_lemmas_use.{or_right, some_same}
 
 -- ---- where an item is
@@ -36,12 +35,9 @@ after_map f (z ∷ xs) (suc i) y h = after_map f xs i y h
 pub first_true : {X : Type 0} (f : X → Bool) (xs : List X) (p : ℕ) (x : X) → position f xs ≡ Some p → slice_get xs p ≡ Some x → f x ≡ true
 first_true f xs p x h k = grind (arith, position-Some f xs p x h, get_or_from_slice_get xs p x x k)
 
-or_first : (a b : Bool) → (a || b) ≡ false → a ≡ false
-or_first a b h = grind arith
-
 pub none_true : {X : Type 0} (f : X → Bool) (xs : List X) (i : ℕ) (x : X) → list_any f xs ≡ false → slice_get xs i ≡ Some x → f x ≡ false
 none_true f [] i x h k = cc
-none_true f (z ∷ xs) zero x h k = ap f (some_same z x k) ∙ or_first (f z) (list_any f xs) h
+none_true f (z ∷ xs) zero x h k = ap f (some_same z x k) ∙ (grind arith)
 none_true f (z ∷ xs) (suc i) x h k = none_true f xs i x (or_right (f z) (list_any f xs) h) k
 
 -- ---- all items, after one is changed or added

@@ -7,7 +7,8 @@ use Rattle.osi_fair.proofs.Vocabulary.{put_back, user, user_does, UserCall, ends
 use Rattle.osi_fair.proofs.Vocabulary.{Becomes, MayCall, Whole}
 unfoldable use Rattle.osi_carrier.specs.Packets.{after_packet}
 use Rattle.osi_carrier.specs.State.{State}
-use Rattle.osi_fair.proofs.a_packet_is_events.{all_units, becomes_over, becomes_then, call_so, not_over, packet_so, same_so, then_so}
+use Rattle.osi_fair.proofs.a_packet_is_events.{all_units, becomes_over, becomes_then, call_so, packet_so, same_so, then_so}
+use Rattle.osi_fair.proofs.small_facts_that_many_lemmas_use.{none_of, or_left}
 
 -- with these in front the end comes to this state; unless it ends, this is left to come
 abbrev pub Comes : Direction → List Happening → List ℕ → Whole → State → List Value → Type 0
@@ -38,9 +39,6 @@ module _ (d : Direction) (e : List Happening) (o : List ℕ) where
   front_packet : (p : List ℕ) (s : State) → after_packet (put_back e o s) p ≡ put_back e o (after_packet s p)
   front_packet p s = apart_all e o (arrived p ∷ []) s
 
-  front_call : (call : UserCall) (s : State) → user_does call (put_back e o s) ≡ put_back e o (user_does call s)
-  front_call call s = apart_all e o (user call ∷ []) s
-
   -- a unit that can be written is a packet
   front_unit : (u : Value) (s : State) → Fits u → react u (put_back e o s) ≡ put_back e o (react u s)
   unfolding after_packet
@@ -51,9 +49,6 @@ module _ (d : Direction) (e : List Happening) (o : List ℕ) where
   front_units [] s h = refl
   front_units (u ∷ us) s (fits, more) = ap (λ (t : State). reacts us t) (front_unit u s fits) ∙ front_units us (react u s) more
 
-  may_front : (call : UserCall) (s : State) → MayCall call s → MayCall call (put_back e o s)
-  may_front call s may = grind arith
-
   -- ---- so are the events
 
   pub same_front : (w : Whole) (s : State) (later : List Value) → w.end ≡ put_back e o s → w.coming ≡ later → Comes d e o w s later
@@ -63,10 +58,10 @@ module _ (d : Direction) (e : List Happening) (o : List ℕ) where
   pub calls_front : (call : UserCall) (w : Whole) (s : State) (later : List Value) → w.end ≡ put_back e o s → MayCall call s →
       w.coming ≡ later → Comes d e o w (user_does call s) later
   calls_front call w s later is may come =
-      let (b, same) = call_so d call w (subst (MayCall call) (sym is) (may_front call s may)) in
+      let (b, same) = call_so d call w (subst (MayCall call) (sym is) (grind arith)) in
       all_come w (user_does call s) later
       (subst (λ (t : State). (b : Becomes d w t) × (b.coming ≡ later))
-      (ap (λ (t : State). user_does call t) is ∙ front_call call s) (b, same ∙ come))
+      (ap (λ (t : State). user_does call t) is ∙ (grind (arith, apart_all e o (user call ∷ []) s))) (b, same ∙ come))
 
   pub takes_front : (units : List (List ℕ)) (later : List Value) (s new : State) (w : Whole) → w.end ≡ put_back e o s →
       TakesPackets s units new → w.coming ≡ units_in units ++ later → (b : Becomes d w (put_back e o new)) × (b.coming ≡ later)
@@ -75,7 +70,7 @@ module _ (d : Direction) (e : List Happening) (o : List ℕ) where
       subst (λ (t : State). (b : Becomes d w t) × (b.coming ≡ later)) (is ∙ ap (λ (t : State). put_back e o t) (sym h))
       (same_so d w later come)
   takes_front (p ∷ ps) later s new w is (quiet, more) come =
-      let lasts : w.end.ended ≡ None = ap (λ (t : State). t.ended) is ∙ not_over s quiet in
+      let lasts : w.end.ended ≡ None = ap (λ (t : State). t.ended) is ∙ (grind (arith, none_of, or_left)) in
       let (first, rest) = packet_so d (units_of p) (units_in ps ++ later) w lasts
       (come ∙ append_assoc (units_by (units_of p)) (units_in ps) later) in
       let mid : Whole = record w { end = acts_by (units_of p) w.end; put = w.put ++ first.put; coming = first.coming } in

@@ -4,7 +4,6 @@ use Rattle.osi_fair.proofs.Vocabulary.{[], arith, is_some, List, None, Option, S
 use Rattle.osi_fair.proofs.Vocabulary.{AllByRecursion, slice_get, confirm, Connect, disconnect, disconnected, Value, value_at, is_open}
 use Rattle.osi_fair.proofs.Vocabulary.{Connection}
 use Rattle.osi_carrier.specs.State.{State}
-use Rattle.osi_fair.proofs.small_facts_that_many_lemmas_use.{same_cc}
 
 -- ---- what a unit of the other side closes
 
@@ -90,9 +89,6 @@ answers_both : (L M K : ℕ → Type 0) (vs : List Value) → ((m : ℕ) → L m
 answers_both L M K [] h a b = tt
 answers_both L M K (v ∷ vs) h (one, more) (first, others) = search (arith, answers_both L M K vs h more others)
 
-same_number : (o : Option ℕ) (m n : ℕ) → o ≡ Some m → o ≡ Some n → m ≡ n
-same_number o m n e h = let both : Some m ≡ Some n = sym e ∙ h in cc
-
 -- ---- what happens
 
 -- the end takes the first unit
@@ -129,7 +125,7 @@ timely_puts end coming cs put units none h = search (arith, answers_join)
 pub timely_answers : (s : State) (end : State) (coming : List Value) (cs : List Connection) (put : List Value) (m : ℕ) (x : Connect) →
     IsLive end x.source → s.given < x.source → AllByRecursion (IsKnown s.given) coming → Timely end coming cs put →
     Timely end coming cs (put ++ confirm m x ∷ [])
-timely_answers s end coming cs put m x live above known h = search (arith, all_add, same_cc, none_new)
+timely_answers s end coming cs put m x live above known h = grind (arith, all_add, none_new)
 
 -- a unit of the other side passes that closes nothing
 pub timely_comes : (end : State) (coming : List Value) (cs after : List Connection) (put : List Value) (v : Value) → shuts_of v ≡ None →
@@ -159,7 +155,7 @@ pub timely_closes : (end : State) (coming : List Value) (cs after : List Connect
 timely_closes end coming cs after put v n shuts dr given taps others h =
     let keeps : (m : ℕ) → IsHeld end coming m → (m ≡ n → ⊥) → IsHeld end (coming ++ v ∷ []) m = λ m k other. (
       k.0,
-      none_add m coming v k.1 (λ e. other (same_number (shuts_of v) m n e shuts)),
+      none_add m coming v k.1 (λ e. other (grind arith)),
     ) in
     record {
       taps = λ p c at judged left right.
@@ -167,5 +163,5 @@ timely_closes end coming cs after put v n shuts dr given taps others h =
       answers = answers_both (IsHeld end coming) (λ m. m ≡ n → ⊥) (IsHeld end (coming ++ v ∷ [])) put keeps h.answers others;
       firsts = firsts_add (IsLive end) coming v h.firsts (λ m e. dr m e);
       known = all_add (IsKnown end.given) coming v h.known
-          (λ m e. subst (λ (i : ℕ). i ≤ end.given) (sym (same_number (shuts_of v) m n e shuts)) given);
+          (λ m e. subst (λ (i : ℕ). i ≤ end.given) (sym (grind arith)) given);
     }

@@ -16,16 +16,10 @@ abbrev pub tell_a_fault : List Test → Bool
 tell_a_fault [] = true
 tell_a_fault (t ∷ ts) = not (is_kept t.1) && tell_a_fault ts
 
-not_kept : (f : Finding) (more : Bool) → (not (is_kept f) && more) ≡ true → f ≡ Kept → ⊥
-not_kept f more h e = grind arith
-
-others_tell : (f : Finding) (more : Bool) → (not (is_kept f) && more) ≡ true → more ≡ true
-others_tell f more h = grind arith
-
 pub passes_each : (ts : List Test) → tell_a_fault ts ≡ true → first_failed ts ≡ Kept → AllPass ts
 passes_each [] h e = tt
-passes_each ((true, f) ∷ ts) h e = (refl, passes_each ts (others_tell f (tell_a_fault ts) h) e)
-passes_each ((false, f) ∷ ts) h e = absurd (not_kept f (tell_a_fault ts) h e)
+passes_each ((true, f) ∷ ts) h e = (refl, passes_each ts (grind arith) e)
+passes_each ((false, f) ∷ ts) h e = absurd (grind arith)
 
 pub is_right : (ts : List Test) → AllPass ts → first_failed ts ≡ Kept
 is_right [] h = refl

@@ -1,9 +1,8 @@
 -- What keeps the names of connections apart: each change of one connection, and a packet that begins.
 -- For the law on references.
-use Rattle.osi_fair.proofs.Vocabulary.{arith}
-use Rattle.osi_fair.proofs.Vocabulary.{[], Bool, false, List, map, Option, set, Some, true, ℕ, ◌++◌, ◌∷◌, ◌≡◌, ◌⊎◌, not}
-use Rattle.osi_fair.proofs.Vocabulary.{slice_get, ◌&&◌, ◌==◌, ◌||◌, begins, is_closed, is_closing, is_named, is_over_by, is_refused}
-use Rattle.osi_fair.proofs.Vocabulary.{is_silent, uses, judged_on, Connection, Direction, Left, Right, Reach, Half, HoldsOfOne}
+use Rattle.osi_fair.proofs.Vocabulary.{arith, [], Bool, false, List, map, Option, set, Some, true, ℕ, ◌++◌, ◌∷◌, ◌≡◌, slice_get, ◌==◌, ◌||◌}
+use Rattle.osi_fair.proofs.Vocabulary.{begins, is_closed, is_closing, is_named, is_over_by, is_refused, is_silent, uses, judged_on}
+use Rattle.osi_fair.proofs.Vocabulary.{Connection, Direction, Left, Right, Reach, Half, HoldsOfOne}
 use Rattle.osi_fair.proofs.what_holds_of_one_item.{HoldsOfEach, each_add, each_map, each_set, one_added, one_changed, one_mapped, one_put}
 use Rattle.osi_fair.proofs.when_a_connection_has_a_name.{HalfMoves, IsEarlier, earlier_moves, earlier_same, named_by, named_is_used}
 use Rattle.osi_fair.proofs.when_a_connection_has_a_name.{named_still, still_closing, used_before, used_by, used_still}
@@ -41,15 +40,9 @@ used_judged j mine known n e h = grind arith
 
 -- ---- a packet begins
 
-begin_sound_left : (c : Connection) → SoundIf c → SoundIf (begins Left c)
-begin_sound_left c h judged = search (arith, earlier_same)
-
-begin_sound_right : (c : Connection) → SoundIf c → SoundIf (begins Right c)
-begin_sound_right c h judged = search (arith, earlier_same)
-
 pub apart_begins : (d : Direction) (cs : List Connection) → AreApart cs → AreApart (map (begins d) cs)
 apart_begins Left cs a = record {
-  sound = each_map SoundIf (begins Left) cs a.sound begin_sound_left;
+  sound = each_map SoundIf (begins Left) cs a.sound (grind (arith, earlier_same));
   used_left = λ n. one_mapped (uses Left n) (uses Left n) (begins Left) cs (a.used_left n)
       (λ i c at j h. (
         j,
@@ -67,7 +60,7 @@ apart_begins Left cs a = record {
   named_right = λ n. one_mapped (is_named Right n) (is_named Right n) (begins Left) cs (a.named_right n) (λ i c at j h. (j, h));
 }
 apart_begins Right cs a = record {
-  sound = each_map SoundIf (begins Right) cs a.sound begin_sound_right;
+  sound = each_map SoundIf (begins Right) cs a.sound (grind (arith, earlier_same));
   used_left = λ n. one_mapped (uses Left n) (uses Left n) (begins Right) cs (a.used_left n) (λ i c at j h. (j, h));
   used_right = λ n. one_mapped (uses Right n) (uses Right n) (begins Right) cs (a.used_right n)
       (λ i c at j h. (
@@ -112,21 +105,9 @@ same_lessens c s = search (arith)
 pub lessens_on : (r : Reach) (c new : Connection) → Lessens c new → Lessens c (judged_on r new)
 lessens_on r c new l = search (arith)
 
-closed_from : (mine seen theirs : Half) → IsEarlier seen theirs → (is_closed mine.phase ≡ true → is_closing theirs.phase ≡ true) →
-    (is_closed mine.phase ≡ true) ⊎ (is_closing seen.phase ≡ true) → is_closing theirs.phase ≡ true
-closed_from mine seen theirs e was k = grind arith
-
 closed_by : (mine seen theirs after : Half) → HalfMoves mine seen after → IsEarlier seen theirs →
     (is_closed mine.phase ≡ true → is_closing theirs.phase ≡ true) → is_closed after.phase ≡ true → is_closing theirs.phase ≡ true
-closed_by mine seen theirs after m e was k = closed_from mine seen theirs e was (m.closed k)
-
--- left sends more
-pub left_lessens : (c : Connection) (after : Half) (size : Option ℕ) → c.is_judged ≡ true → Sound c →
-    is_over_by c.left c.seen_by_left ≡ false →
-    HalfMoves c.left c.seen_by_left after → (is_silent c.left.phase ≡ true → (is_silent after.phase || is_refused after.phase) ≡ true) →
-    Lessens c (record c { left = after; size = size })
-left_lessens c after size judged s live m silent =
-    grind (arith, earlier_moves, closed_by, still_closing, used_judged, used_still, judged_used, named_judged, named_still, judged_named)
+closed_by mine seen theirs after m e was k = grind arith
 
 -- right sends more
 pub right_lessens : (c : Connection) (after : Half) (size : Option ℕ) → c.is_judged ≡ true → Sound c →
@@ -141,9 +122,6 @@ right_lessens c after size judged s live m silent =
 pub differ : (b : Bool) → b ≡ true → b ≡ false → ⊥
 differ b h k = cc
 
-last_of : (a b c : Bool) → (a && (b && c)) ≡ true → c ≡ true
-last_of a b c h = grind arith
-
 pub apart_opens : (cs : List Connection) (p : ℕ) (c : Connection) (after : Half) (size : Option ℕ) → AreApart cs → slice_get cs p ≡ Some c →
     Sound c → is_over_by c.right c.seen_by_right ≡ false → HalfMoves c.right c.seen_by_right after →
     ((n i : ℕ) (e : Connection) → slice_get cs i ≡ Some e → (after.reference == n) ≡ true → uses Right n e ≡ false) →
@@ -157,8 +135,7 @@ apart_opens cs p c after size a at s live m free = record {
   });
   used_left = λ n. one_changed (uses Left n) cs p (record c { right = after; size = size }) c (a.used_left n) at (λ j h. (j, h));
   used_right = λ n. one_put (uses Right n) cs p (record c { right = after; size = size }) (a.used_right n)
-      (λ i e there je fe j h. differ (uses Right n e) fe (free n i e there (last_of (not (c.is_judged && is_over_by after c.seen_by_right))
-      (not (is_silent after.phase)) (after.reference == n) h)));
+      (λ i e there je fe j h. differ (uses Right n e) fe (free n i e there (grind arith)));
   named_left = λ n. one_changed (is_named Left n) cs p (record c { right = after; size = size }) c (a.named_left n) at (λ j h. (j, h));
   named_right = λ n. one_changed (is_named Right n) cs p (record c { right = after; size = size }) c (a.named_right n) at
       (λ j h. (

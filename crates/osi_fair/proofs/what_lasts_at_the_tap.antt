@@ -1,13 +1,12 @@
 -- What is known at the tap stays known as more passes: that class 2 holds; and what is judged was judged before.
 -- For the law on requests.
-use Rattle.osi_fair.proofs.Vocabulary.{arith, [], Bool, false, if◌then◌else◌, Option, Some, true, ℕ, ◌∷◌, ◌≡◌, ◌&&◌, ◌||◌, confirm, Connect}
-use Rattle.osi_fair.proofs.Vocabulary.{disconnect, request, Value, Two, is_applied, reach_of, first_failed, given_again, asks_by, asks_of}
-use Rattle.osi_fair.proofs.Vocabulary.{at_found, at_place, class_for, class_of, course_after, course_after_none, course_begins, found}
-use Rattle.osi_fair.proofs.Vocabulary.{found_on, none_told, Outcome, reached, request_tests, routed, Traffic as State, unnamed_told}
-use Rattle.osi_fair.proofs.Vocabulary.{Connection, Course, Direction, Right, Finding, Broke, Kept, NotJudged, Outside, Reach, Route, passes}
-use Rattle.osi_fair.proofs.Vocabulary.{Passing, noted}
+use Rattle.osi_fair.proofs.Vocabulary.{arith, Bool, false, if◌then◌else◌, Option, Some, true, ℕ, ◌≡◌, confirm, Connect, disconnect, request}
+use Rattle.osi_fair.proofs.Vocabulary.{Value, Two, is_applied, reach_of, asks_of, at_place, class_for, class_of, course_after}
+use Rattle.osi_fair.proofs.Vocabulary.{course_after_none, course_begins, found, found_on, none_told, Outcome, reached, routed}
+use Rattle.osi_fair.proofs.Vocabulary.{Traffic as State, unnamed_told, Connection, Course, Direction, Right, Finding, NotJudged, Reach}
+use Rattle.osi_fair.proofs.Vocabulary.{Route, passes, Passing, noted}
 use Rattle.osi_rules.specs.declared.findings.Rule.TheVariants as rule
-use Rattle.osi_fair.proofs.small_facts_that_many_lemmas_use.{or_left, or_right}
+use Rattle.osi_fair.proofs.small_facts_that_many_lemmas_use.{or_left}
 use Rattle.osi_fair.proofs.a_reference_names_one_connection.{applied_found}
 
 pub record Lasts (a b : Course) : Type 0 where
@@ -29,29 +28,17 @@ lasts_then a b c x y = search (arith)
 lasts_reached : (d : Direction) (r : Reach) (c : Course) → Lasts c (reached d r c)
 lasts_reached d r c = search (arith, lasts_same)
 
--- what is noted of a unit
-lasts_noted : (d : Direction) (f : Finding) (c : Course) → Lasts c (noted d f c)
-lasts_noted d f c = grind (arith, or_right)
-
 lasts_told : (d : Direction) (f : Finding) (r : Reach) (c : Course) → Lasts c (noted d f (reached d r c))
-lasts_told d f r c = grind (arith, lasts_then, lasts_reached d r c, lasts_noted d f (reached d r c))
+lasts_told d f r c = grind (arith, lasts_then, lasts_reached d r c)
 
 lasts_none : (v : Value) (c : Course) → Lasts c (course_after_none v c)
 lasts_none v o = search (arith, lasts_same)
 
 -- ---- a CC that is right selects class 2 again
 
-two_again : (silent zero two offered others other small unused loose within : Bool) →
-    is_applied (first_failed ((silent, Broke rule.WrongForm) ∷ (
-      (if zero then (offered && false) else (if two then others else other)),
-      Broke rule.BadAnswer,
-    ) ∷ ((zero || (two && small)), Outside) ∷ (unused, given_again loose) ∷ (within, Broke rule.LargerSize)
-    ∷ [])) ≡ true → two ≡ true
-two_again silent zero two offered others other small unused loose within h = grind arith
-
 selects_two : (course : Course) (c : Connection) (in_use : Bool) (destination : ℕ) (x : Connect) → course.class ≡ Some Two →
     is_applied (found Right course in_use c (confirm destination x)) ≡ true → class_of x ≡ Two
-selects_two course c in_use destination x two h = grind (arith, two_again)
+selects_two course c in_use destination x two h = grind arith
 
 lasts_confirmed : (d : Direction) (s : State) (c : Connection) (destination : ℕ) (x : Connect) (applied : Bool) →
     is_applied (found_on d s c (confirm destination x)) ≡ applied →
@@ -81,27 +68,17 @@ pub one_lasts : (d : Direction) (s : State) (c : Connection) (v : Value) →
     Lasts s.course (noted d f (reached d (reach_of (class_for d s.course) f) (course_after d c v (is_applied f) s.course))))
 one_lasts d s c v = search (arith, lasts_then, lasts_told, lasts_after d s c v)
 
-to_one : (d : Direction) (v : Value) (s : State) (p : ℕ) (o : Option Connection) → After s (at_found d v s p o)
-to_one d v s p o = grind (arith, to_unnamed, one_lasts)
-
 to_place : (d : Direction) (v : Value) (s : State) (p : Option ℕ) → After s (at_place d v s p)
-to_place d v s p = grind (arith, to_unnamed, to_one)
-
-asking : (d : Direction) (f : Finding) (x : Connect) (s : State) → After s (asks_by d f x s)
-asking d Kept x s = lasts_same s.course
-asking d v x s = to_none d v s
+to_place d v s p = grind (arith, to_unnamed, one_lasts)
 
 asks : (d : Direction) (v : Value) (s : State) → After s (asks_of d v s)
-asks d (request x) s = asking d (first_failed (request_tests s x)) x s
+asks d (request x) s = grind (arith, lasts_same, to_none)
 asks d _ s = to_none d NotJudged s
-
-by_route : (d : Direction) (v : Value) (s : State) (r : Route) → After s (routed d v s r)
-by_route d v s r = grind (arith, asks, to_place, to_none)
 
 if_judged : (stopped : Bool) (d : Direction) (v : Value) (s : State) (r : Route) →
     After s (if stopped then none_told d NotJudged s else routed d v s r)
 if_judged true d v s r = to_none d NotJudged s
-if_judged false d v s r = by_route d v s r
+if_judged false d v s r = grind (arith, asks, to_place, to_none)
 
 begun : (d : Direction) (c : Course) → Lasts c (course_begins d c)
 begun d c = grind (arith, lasts_same)

@@ -2,28 +2,16 @@
 -- For the laws on a line.
 use Rattle.osi_fair.proofs.Vocabulary.{[], ap, arith, Bool, false, if◌then◌else◌, List, None, Option, subst, sym, true, ℕ, ◌%◌, ◌+◌, ◌<◌}
 use Rattle.osi_fair.proofs.Vocabulary.{◌∙◌, ◌∷◌, ◌≡◌, ◌≤◌, acknowledge, data2, Value, longest_tsdu, Standing, begins, is_open, begun_after}
-use Rattle.osi_fair.proofs.Vocabulary.{closing_phase, found, half_after, sent_on, Connection, Course, Left, Right, Finding, Kept}
-use Rattle.osi_fair.proofs.Vocabulary.{Half, Phase, Acts, after_finding, begins_elsewhere, finding_of, IsRight, IsRightNow, Line}
-use Rattle.osi_fair.specs.Lines.{begins_own, passes_own, begins_other}
+use Rattle.osi_fair.proofs.Vocabulary.{half_after, sent_on, Connection, Course, Left, Right, Finding, Kept, Half, Phase, Acts}
+use Rattle.osi_fair.proofs.Vocabulary.{after_finding, finding_of, IsRight, IsRightNow, Line}
+use Rattle.osi_fair.specs.Lines.{passes_own, begins_other}
 use Rattle.osi_fair.proofs.what_a_link_does.{begun_by}
 use Rattle.osi_fair.proofs.what_holds_of_a_line.{Tally, Ordered, OpenIfAny, PutsAt, TakesAt, Holds, tapped}
-use Rattle.osi_fair.proofs.what_begins_to_pass_is_right.{begins_right}
 
 -- ---- a packet begins
 
-pub begins_own_holds : (r peer : ℕ) (old new : Line) → Acts Left r peer begins_own old new → Holds r peer old → Holds r peer new
-begins_own_holds r peer old new k h = search (arith, begins_right)
-
-pub elsewhere_holds : (r peer : ℕ) (old new : Line) → Acts Left r peer begins_elsewhere old new → Holds r peer old → Holds r peer new
-elsewhere_holds r peer old new k h = search (arith)
-
--- what is found of this side's units doesn't depend on what the other side knows
-same_found : (course : Course) (in_use : Bool) (c : Connection) (unit : Value) → found Left course in_use c unit ≡ Kept →
-    found Left course in_use (begins Right c) unit ≡ Kept
-same_found course in_use c unit e = grind arith
-
 right_still : (tap : Connection) (put : List Value) → IsRightNow Left tap put → IsRightNow Left (begins Right tap) put
-right_still tap put h = search (arith, same_found)
+right_still tap put h = grind arith
 
 pub begins_other_holds : (r peer : ℕ) (old new : Line) → Acts Left r peer begins_other old new → Holds r peer old → Holds r peer new
 begins_other_holds r peer old new new_is h = grind (arith, right_still)
@@ -90,15 +78,10 @@ module _ (r peer limit : ℕ) (x : Tally) (noted : ℕ) (tap : Connection) (o : 
     high : count ≤ x.acked
     puts : PutsAt r peer limit (record x { shown = count }) mine tap.right units link
 
-  ack_puts : (link : Option Standing) (credit destination number : ℕ) (units : List Value) →
-      PutsAt r peer limit x tap.left tap.right (acknowledge credit destination number ∷ units) link →
-      AckPasses number credit (half_after (acknowledge credit destination number) tap.left) units link
-  ack_puts link credit destination number units h = search (arith, open_if)
-
   ack_passes : (link : Option Standing) (credit destination number : ℕ) (units : List Value) →
       PutsAt r peer limit x tap.left tap.right (acknowledge credit destination number ∷ units) link →
       Passed r peer limit x noted units link (sent_on Left (acknowledge credit destination number) tap)
-  ack_passes link credit destination number units p = grind (arith, ack_puts)
+  ack_passes link credit destination number units p = grind arith
 
   -- a DR or a DC is the last
   last_passes : (mine : Half) (units : List Value) → mine.next ≡ tap.left.next → mine.awaited ≡ tap.left.awaited →
@@ -106,13 +89,9 @@ module _ (r peer limit : ℕ) (x : Tally) (noted : ℕ) (tap : Connection) (o : 
       Passed r peer limit x noted units None (record tap { left = mine })
   last_passes mine units next awaited credit reference closed none = search (arith)
 
-  closing_passes : (was : Bool) (units : List Value) → units ≡ [] →
-      Passed r peer limit x noted units None (record tap { left = closing_phase was tap.left })
-  closing_passes was units none = grind (arith, last_passes)
-
   pub unit_passes : (link : Option Standing) (unit : Value) (units : List Value) →
       PutsAt r peer limit x tap.left tap.right (unit ∷ units) link → Passed r peer limit x noted units link (sent_on Left unit tap)
-  unit_passes link unit units p = search (arith, data_passes, ack_passes, closing_passes, last_passes)
+  unit_passes link unit units p = search (arith, data_passes, ack_passes, last_passes)
 
 pub is_kept : (course : Course) (in_use : Bool) (tap : Connection) (unit : Value) → tap.is_judged ≡ true → IsRight Left tap unit →
     finding_of Left course in_use tap unit ≡ Kept
@@ -121,11 +100,6 @@ is_kept course in_use tap unit judged h = grind (arith, h.kept course in_use)
 pub first_is : (tap : Connection) (put units : List Value) (unit : Value) → put ≡ unit ∷ units → IsRightNow Left tap put →
     IsRight Left tap unit
 first_is tap put units unit e h = let f : IsRightNow Left tap (unit ∷ units) = subst (λ (l : List Value). IsRightNow Left tap l) e h in f
-
--- what the end takes doesn't depend on what has passed of its own
-takes_still : (limit : ℕ) (x : Tally) (passed shown : ℕ) (theirs : Half) (coming : List Value) (link : Option Standing) →
-    TakesAt limit x theirs coming link → TakesAt limit (record x { passed = passed; shown = shown }) theirs coming link
-takes_still limit x passed shown theirs coming link h = grind arith
 
 theirs_same : (unit : Value) (tap : Connection) → (sent_on Left unit tap).right ≡ tap.right
 theirs_same unit tap = grind arith
@@ -149,6 +123,6 @@ passes_own_holds r peer course in_use old new (unit, first, begun, new_is) judge
       taps = p.taps;
       puts = p.puts;
       takes = subst (λ (half : Half). TakesAt h.limit (record h.tally { passed = p.passed; shown = p.shown }) half old.coming old.link)
-          (sym (theirs_same unit old.tap)) (takes_still h.limit h.tally p.passed p.shown old.tap.right old.coming old.link h.takes);
+          (sym (theirs_same unit old.tap)) (grind arith);
       under_way = λ b. absurd (cc);
     })

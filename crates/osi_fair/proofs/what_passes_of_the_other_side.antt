@@ -37,12 +37,6 @@ module _ (r peer limit : ℕ) (x : Tally) (noted : ℕ) (tap : Connection) (put 
 
   -- ---- more of the other side has its effect, or nothing has
 
-  puts_later : (came heard edge : ℕ) (later : Half) (l : Option Standing) → (is_closing tap.right.phase ≡ true →
-      is_closing later.phase ≡ true) →
-      PutsAt r peer limit x tap.left tap.right put l →
-      PutsAt r peer limit (record x { came = came; heard = heard; edge = edge }) tap.left later put l
-  puts_later came heard edge later l closing k = search (arith, puts_still)
-
   takes_later : (came heard edge : ℕ) (later : Half) (unit : Value) (l : Option Standing) →
       HasMoreCome (came_of x tap.right) (came_of (record x { came = came; heard = heard; edge = edge }) later) →
       Base (came_of (record x { came = came; heard = heard; edge = edge }) later) unit → TakesAt limit x tap.right coming l →
@@ -73,10 +67,10 @@ module _ (r peer limit : ℕ) (x : Tally) (noted : ℕ) (tap : Connection) (put 
       HasMoreCome (came_of x tap.right) (came_of (record x { came = came; heard = heard; edge = edge }) later) →
       Base (came_of (record x { came = came; heard = heard; edge = edge }) later) unit →
       Went r peer limit x noted tap (record tap { right = later }) put (coming ++ unit ∷ []) link
-  goes_later came heard edge later unit is ordered taps more base = search (arith, puts_later, takes_later, right_later)
+  goes_later came heard edge later unit is ordered taps more base = grind (arith, puts_still, takes_later, right_later)
 
   pub goes_same : (unit : Value) → Base (came_of x tap.right) unit → Went r peer limit x noted tap tap put (coming ++ unit ∷ []) link
-  goes_same unit base = grind (arith, puts_later, takes_later)
+  goes_same unit base = grind (arith, takes_later)
 
   -- ---- a DT
 

@@ -1,16 +1,13 @@
 -- What stays of each connection at the tap of a calling end as units pass: its reference, and that no other has it.
 -- For the law on DRs.
 use Rattle.osi_fair.proofs.Vocabulary.{arith, Bool, false, if◌then◌else◌, List, None, Option, refl, set, Some, true, ℕ, ◌<◌, ◌∙◌, ◌≡◌, ◌⊎◌}
-use Rattle.osi_fair.proofs.Vocabulary.{position, slice_get, ◌&&◌, ◌||◌, confirm, Connect, request, Value, Class, is_applied, reach_of}
-use Rattle.osi_fair.proofs.Vocabulary.{first_failed, is_free, is_live, is_named, is_open, is_refused, is_silent, asked_by, asks_by}
-use Rattle.osi_fair.proofs.Vocabulary.{asks_kept, asks_of, at_found, at_place, class_for, closing_phase, connection_after, found_on}
-use Rattle.osi_fair.proofs.Vocabulary.{half_after, judged_on, none_told, Outcome, request_tests, route, route_in, routed, sent_on, sized}
-use Rattle.osi_fair.proofs.Vocabulary.{Traffic as State, takes, Connection, Direction, Left, Right, Finding, Kept, NotJudged, Reach, Half}
-use Rattle.osi_fair.proofs.Vocabulary.{Route, Asks, Named, Only, Unnamed, has_broken}
+use Rattle.osi_fair.proofs.Vocabulary.{position, slice_get, ◌&&◌, ◌||◌, confirm, Connect, request, Value, is_applied, reach_of}
+use Rattle.osi_fair.proofs.Vocabulary.{first_failed, is_live, is_named, is_open, is_refused, is_silent, asked_by, asks_by, asks_of}
+use Rattle.osi_fair.proofs.Vocabulary.{at_found, at_place, class_for, closing_phase, connection_after, found_on, half_after, judged_on}
+use Rattle.osi_fair.proofs.Vocabulary.{none_told, Outcome, request_tests, route, routed, sent_on, Traffic as State, takes, Connection}
+use Rattle.osi_fair.proofs.Vocabulary.{Direction, Left, Right, Finding, Kept, NotJudged, Reach, Half, Route, Asks, Named, Only, Unnamed}
 use Rattle.osi_rules.specs.declared.findings.Rule.TheVariants as rule
-use Rattle.osi_rules.specs.Sides.{sends}
-use Rattle.osi_fair.proofs.small_facts_that_many_lemmas_use.{closing_same, differ, or_left, sized_judged}
-use Rattle.osi_fair.proofs.a_reference_names_one_connection.{applied_found, error_test}
+use Rattle.osi_fair.proofs.small_facts_that_many_lemmas_use.{sized_judged}
 use Rattle.osi_fair.proofs.what_holds_of_one_item.{HoldsOfEach, after_add, after_set, each_add, each_set}
 
 -- ---- the halves of a connection after a unit
@@ -21,25 +18,19 @@ left_judged r c = grind arith
 pub right_judged : (r : Reach) (c : Connection) → (judged_on r c).right ≡ c.right
 right_judged r c = grind arith
 
-left_sized : (v : Value) (c : Connection) → (sized v c).left ≡ c.left
-left_sized v c = grind arith
-
-right_sized : (v : Value) (c : Connection) → (sized v c).right ≡ c.right
-right_sized v c = grind arith
-
 -- of left, after a unit of left
 pub left_own : (v : Value) (r : Reach) (c : Connection) → (connection_after Left v true r c).left ≡ half_after v c.left
-left_own v r c = left_judged r (sent_on Left v c) ∙ left_sized v (sends Left (half_after v c.left) c)
+left_own v r c = left_judged r (sent_on Left v c) ∙ (grind arith)
 
 pub right_then : (v : Value) (applied : Bool) (r : Reach) (c : Connection) → (connection_after Left v applied r c).right ≡ c.right
-right_then v applied r c = grind (arith, right_judged, right_sized)
+right_then v applied r c = grind (arith, right_judged)
 
 -- after a unit of right
 pub left_then : (v : Value) (applied : Bool) (r : Reach) (c : Connection) → (connection_after Right v applied r c).left ≡ c.left
-left_then v applied r c = grind (arith, left_judged, left_sized)
+left_then v applied r c = grind (arith, left_judged)
 
 pub right_own : (v : Value) (r : Reach) (c : Connection) → (connection_after Right v true r c).right ≡ half_after v c.right
-right_own v r c = right_judged r (sent_on Right v c) ∙ right_sized v (sends Right (half_after v c.right) c)
+right_own v r c = right_judged r (sent_on Right v c) ∙ (grind arith)
 
 -- ---- what holds of each connection
 
@@ -70,21 +61,8 @@ closing_started was half h = grind arith
 abbrev Started : Half → Type 0
 Started half = (is_silent half.phase || is_refused half.phase) ≡ false
 
-half_started : (s : State) (v : Value) (c : Connection) → is_applied (found_on Left s c v) ≡ true → Started c.left →
-    Started (half_after v c.left)
-half_started s v c h k = grind (arith, applied_found, closing_started, or_left, differ, error_test)
-
-half_reference : (s : State) (v : Value) (c : Connection) → is_applied (found_on Left s c v) ≡ true →
-    (half_after v c.left).reference ≡ c.left.reference
-half_reference s v c h = grind (arith, applied_found, closing_same)
-
 closing_there : (was : Bool) (half theirs : Half) → is_there (closing_phase was half) theirs ≡ true → is_there half theirs ≡ true
 closing_there was half theirs h = grind arith
-
--- it was there before
-half_there : (s : State) (v : Value) (c : Connection) → is_applied (found_on Left s c v) ≡ true →
-    is_there (half_after v c.left) c.right ≡ true → is_there c.left c.right ≡ true
-half_there s v c h k = grind (arith, applied_found, closing_there)
 
 -- what stays of a connection after a unit
 pub record Stays (c e : Connection) : Type 0 where
@@ -93,57 +71,36 @@ pub record Stays (c e : Connection) : Type 0 where
 
 pub own_stays : (applied : Bool) (s : State) (v : Value) (r : Reach) (c : Connection) → is_applied (found_on Left s c v) ≡ applied →
     Stays c (connection_after Left v applied r c)
-own_stays applied s v r c h = search (arith, left_own, half_reference, half_started, left_judged)
-
-other_stays : (applied : Bool) (v : Value) (r : Reach) (c : Connection) → Stays c (connection_after Right v applied r c)
-other_stays applied v r c = search (arith, left_then)
+own_stays applied s v r c h = search (arith, left_own, left_judged)
 
 stays_by : (d : Direction) (s : State) (v : Value) (r : Reach) (c : Connection) →
     Stays c (connection_after d v (is_applied (found_on d s c v)) r c)
-stays_by d s v r c = grind (arith, own_stays, other_stays)
-
-judged_before : (r : Reach) (c : Connection) → (judged_on r c).is_judged ≡ true → c.is_judged ≡ true
-judged_before r c h = grind arith
-
-sends_judged : (d : Direction) (half : Half) (c : Connection) → (sends d half c).is_judged ≡ c.is_judged
-sends_judged d half c = grind arith
+stays_by d s v r c = grind (arith, own_stays, left_then)
 
 -- what is judged after a unit was so before it
 pub judged_was : (d : Direction) (v : Value) (applied : Bool) (r : Reach) (c : Connection) →
     (connection_after d v applied r c).is_judged ≡ true → c.is_judged ≡ true
-judged_was d v applied r c h = grind (arith, sized_judged, sends_judged, judged_before)
+judged_was d v applied r c h = grind (arith, sized_judged)
 
 there_before : (applied : Bool) (s : State) (v : Value) (r : Reach) (c : Connection) → is_applied (found_on Left s c v) ≡ applied →
     is_there (connection_after Left v applied r c).left (connection_after Left v applied r c).right ≡ true → is_there c.left c.right ≡ true
-there_before applied s v r c h there = grind (arith, left_own, right_then, half_there, left_judged)
-
-own_lively : (L : ℕ → Type 0) (applied : Bool) (s : State) (v : Value) (r : Reach) (c : Connection) →
-    is_applied (found_on Left s c v) ≡ applied → IsLively L c → IsLively L (connection_after Left v applied r c)
-own_lively L applied s v r c h k judged there = grind (arith, own_stays, judged_was, there_before)
+there_before applied s v r c h there = grind (arith, left_own, right_then, left_judged)
 
 -- ---- all connections, after a unit that passes
 
 abbrev AtPlace : List Connection → ℕ → Connection → ℕ → Connection → Type 0
 AtPlace cs p new i c = ((i ≡ p) × (c ≡ new)) ⊎ (slice_get cs i ≡ Some c)
 
-distinct_by : (cs : List Connection) (p : ℕ) (c new : Connection) → AreDistinct cs → slice_get cs p ≡ Some c →
-    new.left.reference ≡ c.left.reference → (i j : ℕ) (x y : Connection) → AtPlace cs p new i x → AtPlace cs p new j y →
-    x.left.reference ≡ y.left.reference → i ≡ j
-distinct_by cs p c new a at same i j x y l o e = grind arith
-
 distinct_set : (cs : List Connection) (p : ℕ) (c new : Connection) → AreDistinct cs → slice_get cs p ≡ Some c →
     new.left.reference ≡ c.left.reference → AreDistinct (set cs p new)
-distinct_set cs p c new a at same i j x y there too e = grind (arith, distinct_by, after_set)
+distinct_set cs p c new a at same i j x y there too e = grind (arith, after_set)
 
 abbrev pub IsAbove : ℕ → List Connection → Type 0
 IsAbove n cs = HoldsOfEach (λ (c : Connection). c.left.reference < n) cs
 
-less_not : (m n : ℕ) → m < n → m ≡ n → ⊥
-less_not m n h e = omega arith
-
 distinct_new : (cs : List Connection) (p : ℕ) (new : Connection) → AreDistinct cs → IsAbove new.left.reference cs →
     (i j : ℕ) (x y : Connection) → AtPlace cs p new i x → AtPlace cs p new j y → x.left.reference ≡ y.left.reference → i ≡ j
-distinct_new cs p new a above i j x y l o e = grind (arith, less_not)
+distinct_new cs p new a above i j x y l o e = grind arith
 
 -- this holds of the connection that a CR begins
 abbrev pub IfAsked : (Connection → Type 0) → List Connection → Value → Type 0
@@ -173,13 +130,9 @@ module _ (P : Connection → Type 0) where
   to_place d v s None k h a = (h, a)
   to_place d v s (Some p) k h a = to_one d v s p (slice_get s.connections p) refl k h a
 
-  placed_so : (x : Connect) (s : State) (p : Option ℕ) → P (asked_by x) → IsAbove x.source s.connections →
-      HoldsOfEach P s.connections → AreDistinct s.connections → AllSo (asks_kept x s p)
-  placed_so x s p new above h a = search (arith, each_set, distinct_new, after_set, each_add, after_add)
-
   asking : (f : Finding) (x : Connect) (s : State) → P (asked_by x) → IsAbove x.source s.connections →
       HoldsOfEach P s.connections → AreDistinct s.connections → AllSo (asks_by Left f x s)
-  asking Kept x s new above h a = placed_so x s (position is_free s.connections) new above h a
+  asking Kept x s new above h a = grind (arith, each_set, distinct_new, after_set, each_add, after_add)
   asking _ x s new above h a = (h, a)
 
   asks : (v : Value) (s : State) → IfAsked P s.connections v → HoldsOfEach P s.connections → AreDistinct s.connections →
@@ -203,10 +156,6 @@ module _ (P : Connection → Type 0) where
       AreDistinct s.connections → AllSo (takes Left v s)
   left_passes v s k new h a = search (arith, if_judged, left_routes)
 
-  right_asks : (k : Option Class) (stopped : Bool) (x : Connect) (s : State) → HoldsOfEach P s.connections →
-      AreDistinct s.connections → AllSo (routed Right (request x) s (route_in k Right stopped (request x)))
-  right_asks k stopped x s h a = grind arith
-
   right_other : (v : Value) (s : State) (r : Route) → StaysAfter Right v s → HoldsOfEach P s.connections → AreDistinct s.connections →
       AllSo (asks_of Right v s) → AllSo (routed Right v s r)
   right_other v s Asks k h a b = b
@@ -216,7 +165,7 @@ module _ (P : Connection → Type 0) where
 
   right_routes : (v : Value) (s : State) → StaysAfter Right v s → HoldsOfEach P s.connections → AreDistinct s.connections →
       AllSo (routed Right v s (route Right s.course v))
-  right_routes (request x) s k h a = right_asks (class_for Right s.course) (has_broken Left s.course) x s h a
+  right_routes (request x) s k h a = grind arith
   right_routes v s k h a = search (arith, right_other)
 
   pub right_passes : (v : Value) (s : State) → StaysAfter Right v s → HoldsOfEach P s.connections → AreDistinct s.connections →
@@ -229,4 +178,4 @@ pub started_stays : (d : Direction) (v : Value) (s : State) → StaysAfter IsSta
 started_stays d v s c h r = (stays_by d s v r c).started h
 
 pub lively_stays : (L : ℕ → Type 0) (v : Value) (s : State) → StaysAfter (IsLively L) Left v s
-lively_stays L v s c h r = own_lively L (is_applied (found_on Left s c v)) s v r c refl h
+lively_stays L v s c h r = grind (arith, own_stays, judged_was, there_before)

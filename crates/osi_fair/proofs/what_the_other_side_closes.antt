@@ -1,28 +1,23 @@
 -- What the other side closes at the tap of a calling end: if a DR closed something, the end had the connection open there.
 -- For the law on DRs.
-use Rattle.osi_fair.proofs.Vocabulary.{arith, [], ap, Bool, drop, false, if◌then◌else◌, inl, inr, List, None, Option, refl, set, Some}
-use Rattle.osi_fair.proofs.Vocabulary.{subst, sym, true, ℕ, ◌∙◌, ◌∷◌, ◌≡◌, ◌⊎◌, eqb-true, not, position, slice_get, ◌&&◌, ◌==◌, ◌||◌}
-use Rattle.osi_fair.proofs.Vocabulary.{acknowledge, confirm, Connect, data2, disconnect, disconnected, error, Value, Class, Two, Zero}
-use Rattle.osi_fair.proofs.Vocabulary.{is_applied, is_of_connection, passes_over, reach_by, reach_of, reach_past, confirm_tests}
-use Rattle.osi_fair.proofs.Vocabulary.{first_failed, is_closed, is_closing, is_named, is_open, is_refused, is_silent, at_found, at_place}
-use Rattle.osi_fair.proofs.Vocabulary.{class_for, connection_after, course_after, found, found_on, half_after, in_doubt, is_stray}
-use Rattle.osi_fair.proofs.Vocabulary.{none_told, one_told, Outcome, reached, route, route_in, routed, Traffic as State, takes, unnamed_by}
-use Rattle.osi_fair.proofs.Vocabulary.{unnamed_told, uses_source, Connection, Course, Right, Finding, Broke, NotJudged, TooMany, Reach}
-use Rattle.osi_fair.proofs.Vocabulary.{Rule, Half, Phase, noted, unnamed}
+use Rattle.osi_fair.proofs.Vocabulary.{arith, [], ap, Bool, false, if◌then◌else◌, inl, inr, List, None, Option, refl, set, Some, subst, sym}
+use Rattle.osi_fair.proofs.Vocabulary.{true, ℕ, ◌∙◌, ◌∷◌, ◌≡◌, ◌⊎◌, eqb-true, not, position, slice_get, ◌&&◌, ◌==◌, ◌||◌, acknowledge}
+use Rattle.osi_fair.proofs.Vocabulary.{confirm, Connect, data2, disconnect, disconnected, error, Value, Class, Two, Zero, is_applied}
+use Rattle.osi_fair.proofs.Vocabulary.{is_of_connection, passes_over, reach_by, reach_of, first_failed, is_closed, is_closing, is_named}
+use Rattle.osi_fair.proofs.Vocabulary.{is_open, is_refused, is_silent, at_found, at_place, class_for, connection_after, course_after, found}
+use Rattle.osi_fair.proofs.Vocabulary.{found_on, half_after, is_stray, none_told, one_told, Outcome, reached, route, route_in, routed}
+use Rattle.osi_fair.proofs.Vocabulary.{Traffic as State, takes, unnamed_by, unnamed_told, uses_source, Connection, Course, Right, Finding}
+use Rattle.osi_fair.proofs.Vocabulary.{Broke, NotJudged, TooMany, Reach, Rule, Half, Phase, noted}
 use Rattle.osi_rules.specs.declared.findings.Reach.TheVariants as reach
 use Rattle.osi_rules.specs.declared.findings.Rule.TheVariants as rule
-use Rattle.osi_fair.proofs.small_facts_that_many_lemmas_use.{and_first, both, closing_not_silent, closing_shuts, differ, not_not, or_first}
-use Rattle.osi_fair.proofs.small_facts_that_many_lemmas_use.{or_last, or_left, or_right}
+use Rattle.osi_fair.proofs.small_facts_that_many_lemmas_use.{both, closing_shuts, differ, not_not, or_last, or_left, or_right}
 use Rattle.osi_fair.proofs.all_are_judged_unless_one_broke.{AreJudged}
 use Rattle.osi_fair.proofs.what_holds_of_one_item.{HoldsOfEach, each_set}
 use Rattle.osi_fair.proofs.what_keeps_names_apart.{AreApart, Sound}
-use Rattle.osi_fair.proofs.when_a_connection_has_a_name.{three}
 use Rattle.osi_fair.proofs.while_no_class_is_selected.{after_change, named_where}
 use Rattle.osi_fair.proofs.what_stays_of_each_connection.{AreDistinct, IsLively, IsStarted, is_there, left_then, right_judged, right_own}
-use Rattle.osi_fair.proofs.what_a_side_knows_stays.{form_first}
 use Rattle.osi_fair.proofs.names_stay_apart_though_one_is_lost.{AreNamedApart, each_sound}
 use Rattle.osi_fair.proofs.what_lasts_at_the_tap.{IsCalm, calm_noted}
-use Rattle.osi_fair.proofs.an_end_has_broken_no_rule.{no_report, not_broken}
 pub use Rattle.osi_fair.proofs.small_facts_that_many_lemmas_use.{judged_same}
 
 -- both sides are judged, class 0 is not selected, and each DR has closed something
@@ -83,14 +78,10 @@ soft_by : (k : Option Class) (one : Bool) (c : Course) → IsCalm (reached Right
     (reach_by k one ≡ reach.Connection) × (one ≡ true)
 soft_by k one c h = grind (arith, differ)
 
-past_by : (k : Option Class) (past one : Bool) (c : Course) → past ≡ false → IsCalm (reached Right (reach_past past (reach_by k one)) c) →
-    (reach_past past (reach_by k one) ≡ reach.Connection) × (one ≡ true)
-past_by k past one c e h = grind (arith, differ, soft_by)
-
 -- a break that the taker looks at
 pub soft : (k : Option Class) (r : Rule) (c : Course) → passes_over r ≡ false → IsCalm (reached Right (reach_of k (Broke r)) c) →
     (reach_of k (Broke r) ≡ reach.Connection) × (is_of_connection r ≡ true)
-soft k r c e h = past_by k (passes_over r) (is_of_connection r) c e h
+soft k r c e h = grind (arith, differ, soft_by)
 
 pub not_calm : {A : Type 0} (k : Option Class) (r : Rule) (c : Course) → passes_over r ≡ false → is_of_connection r ≡ false →
     IsCalm (reached Right (reach_of k (Broke r)) c) → A
@@ -99,38 +90,22 @@ not_calm k r c e f h = differ (is_of_connection r) (soft k r c e h).1 f
 pub doubt_not_calm : {A : Type 0} (k : Option Class) (c : Course) → IsCalm (reached Right (reach_of k TooMany) c) → A
 doubt_not_calm k c h = differ true refl h.left
 
--- a unit for no connection
-none_rule : (v : Value) → unnamed_by false v ≡ Broke rule.UnknownReference
-none_rule v = grind arith
-
-pub unknown_not_calm : {A : Type 0} (k : Option Class) (loose : Bool) (c : Course) →
-    IsCalm (reached Right (reach_of k (if loose then in_doubt (Broke rule.UnknownReference) else Broke rule.UnknownReference)) c) → A
-unknown_not_calm k loose c h = grind (arith, doubt_not_calm, not_calm)
-
--- what is found of one, if the end has broken no rule
-pub unknown_is : (v : Value) (c : Course) → c.left_erred ≡ false →
-    unnamed Right c v ≡ (if c.loose then in_doubt (unnamed_by c.strays v) else unnamed_by c.strays v)
-unknown_is v c fine = grind (arith, no_report)
-
 pub unknown_not : {A : Type 0} (v : Value) (s : State) → unnamed_by s.course.strays v ≡ Broke rule.UnknownReference →
     s.course.left_erred ≡ false → IsCalm (unnamed_told Right v s).state.course → A
-unknown_not v s is fine h = grind (arith, unknown_is, unknown_not_calm, calm_noted)
+unknown_not v s is fine h = grind (arith, calm_noted)
 
 none_bad : {A : Type 0} (v : Value) (s : State) → s.course.strays ≡ false → s.course.left_erred ≡ false →
     IsPlain (unnamed_told Right v s).state.course → A
-none_bad v s plain fine h = search (arith, unknown_not, none_rule, calm_of)
+none_bad v s plain fine h = search (arith, unknown_not, calm_of)
 
 reached_plain : (r : Reach) (c : Course) → (reached Right r c).strays ≡ false → c.strays ≡ false
 reached_plain r c h = grind arith
 
 -- ---- a unit for a connection
 
-neither : (a b : Bool) → a ≡ false → b ≡ false → (a || b) ≡ false
-neither a b h k = grind arith
-
 there_not : (a : Bool) (theirs : Half) → is_silent theirs.phase ≡ false → is_open theirs.phase ≡ false →
     (a && (is_silent theirs.phase || is_open theirs.phase)) ≡ true → ⊥
-there_not a theirs h k m = grind (arith, differ, neither)
+there_not a theirs h k m = grind (arith, differ)
 
 -- left has not closed what right has not closed
 still_open : (p q : Phase) → (is_silent p || is_refused p) ≡ false → is_closing p ≡ false →
@@ -185,29 +160,18 @@ module _ (L : ℕ → Type 0) (s : State) (q : ℕ) (c : Connection) (at : slice
     lost_after : (v : Value) → after v ≡ c
     lost_after v = ap (λ (f : Finding). connection_after Right v (is_applied f) (reach_of (class_for Right s.course) f) c) (lost_found v)
 
-    still_lost : (v : Value) → (after v).is_judged ≡ false
-    still_lost v = ap (λ (x : Connection). x.is_judged) (lost_after v) ∙ lost
-
-    -- a DR closes nothing there
-    lost_dr : {A : Type 0} (destination source reason : ℕ) (user : List ℕ) →
-        IsPlain (course (disconnect destination source reason user)) → A
-    lost_dr destination source reason user h = grind (arith, reached_plain, differ, or_last, lost_found)
-
     lost_came : (v : Value) → ((n : ℕ) → closed_by v ≡ Some n → c.left.reference ≡ n) → Told v
-    lost_came (disconnect destination source reason user) is h = lost_dr destination source reason user h
+    lost_came (disconnect destination source reason user) is h = grind (arith, reached_plain, differ, or_last, lost_found)
     lost_came (disconnected destination source) is h =
         lost_closed (disconnected destination source) destination refl (is destination refl) (λ dr. dr)
-        (still_lost (disconnected destination source))
+        (grind (arith, lost_after))
     lost_came (error destination cause) is h =
-        lost_closed (error destination cause) destination refl (is destination refl) (λ dr. dr) (still_lost (error destination cause))
-    lost_came v is h = stays refl (lost_lively v (still_lost v))
+        lost_closed (error destination cause) destination refl (is destination refl) (λ dr. dr) (grind (arith, lost_after))
+    lost_came v is h = stays refl (lost_lively v (grind (arith, lost_after)))
 
   -- ---- one that is judged
 
   module _ (judged : c.is_judged ≡ true) where
-    is_found : (v : Value) → finding v ≡ found Right s.course (uses_source Right s.connections v) c v
-    is_found v = judged_same c.is_judged (found Right s.course (uses_source Right s.connections v) c v) judged
-
     -- the half of right after it
     right_by : (v : Value) (b : Bool) → is_applied (finding v) ≡ b → (after v).right ≡ (if b then half_after v c.right else c.right)
     right_by v b e = grind (arith, right_own, right_judged)
@@ -226,22 +190,13 @@ module _ (L : ℕ → Type 0) (s : State) (q : ℕ) (c : Connection) (at : slice
         is_there c.left (if b then half_after v c.right else c.right) ≡ true → is_there c.left c.right ≡ true
     before_more v b e k there = grind arith
 
-    before_by : (v : Value) (b : Bool) → is_applied (finding v) ≡ b →
-        (is_applied (finding v) ≡ true → is_there c.left (half_after v c.right) ≡ true → is_there c.left c.right ≡ true) → Before v
-    before_by v b e k there = search (arith, before_more, right_by, left_then)
-
     same_phase : (v : Value) → (half_after v c.right).phase ≡ c.right.phase → Before v
-    same_phase v e = search (arith, before_by)
+    same_phase v e = search arith
 
     confirms : (destination : ℕ) (x : Connect) → Before (confirm destination x)
     confirms destination x =
         let v = confirm destination x in
-        before_by v (is_applied (finding v)) refl
-        (λ applied there. both (is_open c.left.phase) (is_silent c.right.phase || is_open c.right.phase)
-        (and_first (is_open c.left.phase) true there)
-        (or_first (is_silent c.right.phase) (is_open c.right.phase)
-        (form_first (is_silent c.right.phase) (drop 1 (confirm_tests c s.course.class (uses_source Right s.connections v) s.course.loose x))
-        (ap is_applied (sym (is_found v)) ∙ applied))))
+        grind (arith, before_more, right_by, left_then)
 
     -- if it closes the connection
     ended_there : (v : Value) → is_applied (finding v) ≡ true → is_silent (half_after v c.right).phase ≡ false →
@@ -270,7 +225,7 @@ module _ (L : ℕ → Type 0) (s : State) (q : ℕ) (c : Connection) (at : slice
         let first = or_right (not (source == c.right.reference)) (is_closing c.left.phase) (or_right (not (is_open c.right.phase))
         (not (source == c.right.reference) || is_closing c.left.phase) stray) in
         let mine = still_open c.left.phase c.right.phase started first sound.left_closed opened in
-        closed_so v destination refl is e (closing_not_silent (is_silent c.right.phase) c.right)
+        closed_so v destination refl is e (grind arith)
         (closing_shuts (is_silent c.right.phase) c.right)
         (λ dr. subst L is (lively q c at judged (both (is_open c.left.phase) (is_silent c.right.phase || is_open c.right.phase) mine
         (or_last (is_silent c.right.phase) (is_open c.right.phase) opened))))
@@ -302,7 +257,7 @@ module _ (L : ℕ → Type 0) (s : State) (q : ℕ) (c : Connection) (at : slice
 
     dc_found : (destination source : ℕ) → (is_applied (finding (disconnected destination source)) ≡ true)
         ⊎ (IsBad (finding (disconnected destination source)))
-    dc_found destination source = grind (arith, is_found, dc_by)
+    dc_found destination source = grind (arith, dc_by)
 
     -- ---- an ER
 
@@ -319,7 +274,7 @@ module _ (L : ℕ → Type 0) (s : State) (q : ℕ) (c : Connection) (at : slice
 
     er_found : (destination cause : ℕ) → (is_applied (finding (error destination cause)) ≡ true)
         ⊎ (finding (error destination cause) ≡ Broke rule.WrongForm)
-    er_found destination cause = grind (arith, is_found, er_by)
+    er_found destination cause = grind (arith, er_by)
 
     -- ---- any
 
@@ -341,11 +296,8 @@ pub record IsSane (s : State) : Type 0 where
   pub started : HoldsOfEach IsStarted s.connections
   pub distinct : AreDistinct s.connections
 
-named_so : (a b c : Bool) → (not a && (not b && c)) ≡ true → (a ≡ false) × (b ≡ false) × (c ≡ true)
-named_so a b c h = three a b c h
-
 pub is_name : (c : Connection) (n : ℕ) → Sound c → is_named Right n c ≡ true → c.left.reference ≡ n
-is_name c n sound h = grind (arith, named_so, eqb-true)
+is_name c n sound h = grind (arith, eqb-true)
 
 module _ (L : ℕ → Type 0) (s : State) (sane : IsSane s) (peers : AreNamedApart Right s.connections)
     (lively : HoldsOfEach (IsLively L) s.connections) (before : IsPlain s.course) (fine : s.course.left_erred ≡ false) where
@@ -378,9 +330,6 @@ module _ (L : ℕ → Type 0) (s : State) (sane : IsSane s) (peers : AreNamedApa
   at_name v n (Some q) e same h =
       let (c, at, named) = named_where s.connections n q e in
       there v q c at (λ m k. subst (λ (i : ℕ). is_named Right i c ≡ true) (same m k) named) h
-
-  wrong : (v : Value) → Comes v (none_told Right (Broke rule.UnexpectedUnit) s)
-  wrong v h = grind (arith, not_calm, calm_noted, calm_of)
 
   same_number : (n m : ℕ) → Some n ≡ Some m → n ≡ m
   same_number n m e = cc
@@ -415,12 +364,12 @@ module _ (L : ℕ → Type 0) (s : State) (sane : IsSane s) (peers : AreNamedApa
   by_class (Some Two) is (error destination cause) =
       at_name (error destination cause) destination (position (is_named Right destination) s.connections) refl
       (λ m e. same_number destination m e)
-  by_class _ is v = wrong v
+  by_class _ is v = grind (arith, not_calm, calm_noted, calm_of)
 
   pub what_came : (v : Value) → IsPlain (takes Right v s).state.course → Came L v s (takes Right v s).state
   what_came v =
       let so : takes Right v s ≡ routed Right v s (route_in s.course.class Right false v) =
       ap (λ (b : Bool). if b then none_told Right NotJudged s else routed Right v s (route Right s.course v)) before.right
       ∙ ap (λ (b : Bool). routed Right v s (route_in s.course.class Right b v))
-      (not_broken s.course.left_stopped s.course.left_erred before.left fine) in
+      (grind arith) in
       subst (Comes v) (sym so) (by_class s.course.class refl v)

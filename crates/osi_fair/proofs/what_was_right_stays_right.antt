@@ -1,20 +1,14 @@
 -- What was right stays right if more of the other side has passed: row by row.
 -- For the law of that name.
 use Rattle.osi_fair.proofs.Vocabulary.{arith, Bool, length, nat_lt, true, ℕ, ◌+◌, ◌≡◌, ◌≤◌, le-leb, leb-true, lt-ltb, ltb-true, nat_le}
-use Rattle.osi_fair.proofs.Vocabulary.{◌&&◌, acknowledge, data2, disconnected, Value, acknowledge_tests, data2_tests, disconnected_tests}
-use Rattle.osi_fair.proofs.Vocabulary.{first_failed, steps_from, other, own, seen, theirs, found, Connection, Course, Direction, Left}
-use Rattle.osi_fair.proofs.Vocabulary.{Right, Kept, Half, IsLater, knows}
+use Rattle.osi_fair.proofs.Vocabulary.{◌&&◌, acknowledge, data2, disconnected, Value, data2_tests, first_failed, steps_from, other, own}
+use Rattle.osi_fair.proofs.Vocabulary.{seen, theirs, found, Connection, Course, Direction, Left, Right, Kept, Half, IsLater, knows}
 use Rattle.osi_rules.specs.Sides.{sends}
-use Rattle.osi_fair.proofs.small_facts_that_many_lemmas_use.{or_first}
 use Rattle.osi_fair.proofs.what_is_right_passes_each_test.{passes_each, is_right}
 
 -- the steps to a number within a way are those of the first part and those of the rest
 pub way_parts : (x y z : ℕ) → steps_from x y ≤ steps_from x z → steps_from x z ≡ steps_from x y + steps_from y z
 way_parts x y z h = omega arith
-
-credit_stays : (mine e l : Half) → IsLater mine e l → nat_lt (steps_from e.awaited mine.next) e.credit ≡ true →
-    nat_lt (steps_from l.awaited mine.next) l.credit ≡ true
-credit_stays mine e l h k = grind (arith, way_parts, ltb-true, lt-ltb)
 
 telling_stays : (mine e l : Half) → IsLater mine e l → nat_lt (steps_from e.awaited mine.next) 127 ≡ true →
     nat_lt (steps_from l.awaited mine.next) 127 ≡ true
@@ -29,12 +23,7 @@ passing_stays mine e l number h k = grind (arith, leb-true, le-leb)
 
 data_known : (d : Direction) (c : Connection) (later : Half) (number octets : ℕ) → IsLater (own d c) (seen d c) later →
     first_failed (data2_tests d c number octets) ≡ Kept → first_failed (data2_tests d (knows d later c) number octets) ≡ Kept
-data_known d c later number octets h e = grind (arith, passes_each, credit_stays, is_right)
-
-ack_known : (d : Direction) (c : Connection) (later : Half) (number credit : ℕ) → IsLater (own d c) (seen d c) later →
-    first_failed (acknowledge_tests d c number credit) ≡ Kept →
-    first_failed (acknowledge_tests d (knows d later c) number credit) ≡ Kept
-ack_known d c later number credit h e = grind (arith, passes_each, is_right, passing_stays)
+data_known d c later number octets h e = grind (arith, passes_each, way_parts, ltb-true, lt-ltb, is_right)
 
 -- ---- a DC, which is due
 
@@ -42,29 +31,21 @@ due_stays : (live before after mine : Bool) → (before ≡ true → after ≡ t
     (live && (after && mine)) ≡ true
 due_stays live before after mine more h = grind arith
 
-confirm_known : (d : Direction) (c : Connection) (later : Half) (source : ℕ) (strays : Bool) → IsLater (own d c) (seen d c) later →
-    first_failed (disconnected_tests d c source strays) ≡ Kept → first_failed (disconnected_tests d (knows d later c) source strays) ≡ Kept
-confirm_known d c later source strays h e = search (arith, passes_each, due_stays, is_right, or_first)
-
 -- ---- what has passed of the other side since then
-
-data_passed : (d : Direction) (c : Connection) (later : Half) (number octets : ℕ) → IsLater (own d c) (theirs d c) later →
-    first_failed (data2_tests d c number octets) ≡ Kept → first_failed (data2_tests d (sends (other d) later c) number octets) ≡ Kept
-data_passed d c later number octets h e = grind (arith, passes_each, is_right, telling_stays)
 
 -- ---- each kind of unit
 
 pub known_stays : (d : Direction) (course : Course) (in_use : Bool) (c : Connection) (later : Half) (v : Value) →
     IsLater (own d c) (seen d c) later → found d course in_use c v ≡ Kept → found d course in_use (knows d later c) v ≡ Kept
-known_stays Left course in_use c later (disconnected destination source) h e = grind (arith, confirm_known)
+known_stays Left course in_use c later (disconnected destination source) h e = grind arith
 known_stays Left course in_use c later (data2 destination number end user) h e = data_known Left c later number (length user) h e
-known_stays Left course in_use c later (acknowledge credit destination number) h e = ack_known Left c later number credit h e
+known_stays Left course in_use c later (acknowledge credit destination number) h e = grind (arith, passes_each, is_right, passing_stays)
 known_stays Left course in_use c later _ h e = e
-known_stays Right course in_use c later (disconnected destination source) h e = grind (arith, confirm_known)
+known_stays Right course in_use c later (disconnected destination source) h e = grind arith
 known_stays Right course in_use c later (data2 destination number end user) h e = data_known Right c later number (length user) h e
-known_stays Right course in_use c later (acknowledge credit destination number) h e = ack_known Right c later number credit h e
+known_stays Right course in_use c later (acknowledge credit destination number) h e = grind (arith, passes_each, is_right, passing_stays)
 known_stays Right course in_use c later _ h e = e
 
 pub passed_stays : (d : Direction) (course : Course) (in_use : Bool) (c : Connection) (later : Half) (v : Value) →
     IsLater (own d c) (theirs d c) later → found d course in_use c v ≡ Kept → found d course in_use (sends (other d) later c) v ≡ Kept
-passed_stays d course in_use c later v h e = search (arith, data_passed)
+passed_stays d course in_use c later v h e = search arith

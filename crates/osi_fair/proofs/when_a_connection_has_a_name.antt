@@ -3,7 +3,7 @@
 use Rattle.osi_fair.proofs.Vocabulary.{arith}
 use Rattle.osi_fair.proofs.Vocabulary.{Bool, false, refl, true, ℕ, ◌≡◌, ◌⊎◌, not, ◌&&◌, ◌==◌, ◌||◌, is_closed}
 use Rattle.osi_fair.proofs.Vocabulary.{is_closing, is_open, is_over_by, is_refused, is_silent, Half, Phase}
-use Rattle.osi_fair.proofs.small_facts_that_many_lemmas_use.{differ, or_first, or_last}
+use Rattle.osi_fair.proofs.small_facts_that_many_lemmas_use.{differ}
 
 -- what was known of a side, and what it has sent since
 pub record IsEarlier (known now : Half) : Type 0 where
@@ -21,9 +21,6 @@ earlier_same h = record { reference = λ _. refl; there = λ e. e; refused = λ 
 abbrev over_phase : Phase → Phase → Bool
 over_phase p q = is_refused p || (is_refused q || (is_closed p || (is_closing p && (is_closing q || is_closed q))))
 
-over_refused : (p q : Phase) → is_refused p ≡ true → over_phase p q ≡ true
-over_refused p q h = grind arith
-
 over_known : (p q : Phase) → is_refused q ≡ true → over_phase p q ≡ true
 over_known p q h = grind arith
 
@@ -37,12 +34,7 @@ over_closing p q h k = grind (arith, over_closed)
 pub over_other : (p q k : Phase) → over_phase p q ≡ false → (is_refused k ≡ true → is_refused p ≡ true) →
     (is_closing k ≡ true → is_closing p ≡ true) → (is_closed k ≡ true → is_closed p ≡ true) →
     (is_closed q ≡ true → is_closing p ≡ true) → over_phase q k ≡ false
-over_other p v k h a b c d = grind (arith, differ, over_known, over_closing, over_refused, over_closed)
-
--- what is over stays over if the side knows more
-pub over_still : (p k q : Phase) → (is_refused k ≡ true → is_refused q ≡ true) → (is_closing k ≡ true → is_closing q ≡ true) →
-    (is_closed k ≡ true → is_closed q ≡ true) → over_phase p q ≡ false → over_phase p k ≡ false
-over_still p k q a b c h = grind (arith, differ, over_closed, over_known, over_closing, or_first, or_last)
+over_other p v k h a b c d = grind (arith, differ, over_known, over_closing, over_closed)
 
 -- ---- named, and in use
 
@@ -68,7 +60,7 @@ named_is_used mine theirs known n e closed h = grind (arith, three, three_make, 
 -- what is in use as its packet begins was in use before
 pub used_before : (mine seen theirs : Half) (n : ℕ) → IsEarlier seen theirs → used_by true mine theirs n ≡ true →
     used_by true mine seen n ≡ true
-used_before mine seen theirs n e h = grind (arith, three, three_make, over_still)
+used_before mine seen theirs n e h = grind (arith, three, three_make)
 
 -- ---- a side sends more
 
@@ -79,37 +71,21 @@ pub record HalfMoves (mine seen after : Half) : Type 0 where
   pub phase : (after.phase ≡ mine.phase) ⊎ ((is_silent mine.phase || is_open mine.phase) ≡ true)
   pub closed : is_closed after.phase ≡ true → (is_closed mine.phase ≡ true) ⊎ (is_closing seen.phase ≡ true)
 
-not_refused : (p : Phase) → (is_silent p || is_open p) ≡ true → is_refused p ≡ true → ⊥
-not_refused p h k = grind arith
-
-not_closing : (p : Phase) → (is_silent p || is_open p) ≡ true → is_closing p ≡ true → ⊥
-not_closing p h k = grind arith
-
-not_closed : (p : Phase) → (is_silent p || is_open p) ≡ true → is_closed p ≡ true → ⊥
-not_closed p h k = grind arith
-
-stays : (test : Phase → Bool) (p q : Phase) → (q ≡ p) ⊎ ((is_silent p || is_open p) ≡ true) →
-    ((is_silent p || is_open p) ≡ true → test p ≡ true → ⊥) → test p ≡ true → test q ≡ true
-stays test p q k never h = grind arith
-
 pub still_closing : (mine seen after : Half) → HalfMoves mine seen after → is_closing mine.phase ≡ true → is_closing after.phase ≡ true
-still_closing mine seen after m h = stays is_closing mine.phase after.phase m.phase (not_closing mine.phase) h
+still_closing mine seen after m h = grind arith
 
 pub earlier_moves : (known mine seen after : Half) → IsEarlier known mine → HalfMoves mine seen after → IsEarlier known after
-earlier_moves known mine seen after e m = search (arith, stays, not_refused, not_closing, not_closed)
+earlier_moves known mine seen after e m = grind arith
 
 -- a unit that is for the connection, and no CC, gives it no name
 pub named_still : (mine seen after : Half) (n : ℕ) → is_over_by mine seen ≡ false → named_by true after seen n ≡ true →
     named_by true mine seen n ≡ true
 named_still mine seen after n live h = grind (arith, three, three_make)
 
-second_if : (a b : Bool) → a ≡ false → (a || b) ≡ true → b ≡ true
-second_if a b h k = grind arith
-
 used_by_phase : (mine seen after : Half) (n : ℕ) (silent : Bool) → is_silent mine.phase ≡ silent → is_over_by mine seen ≡ false →
     HalfMoves mine seen after → (is_silent mine.phase ≡ true → (is_silent after.phase || is_refused after.phase) ≡ true) →
     used_by true after seen n ≡ true → used_by true mine seen n ≡ true
-used_by_phase mine seen after n silent is live m k h = grind (arith, three, differ, over_refused, second_if, three_make)
+used_by_phase mine seen after n silent is live m k h = grind (arith, three, differ, three_make)
 
 pub used_still : (mine seen after : Half) (n : ℕ) → is_over_by mine seen ≡ false → HalfMoves mine seen after →
     (is_silent mine.phase ≡ true → (is_silent after.phase || is_refused after.phase) ≡ true) →

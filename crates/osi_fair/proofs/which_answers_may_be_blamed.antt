@@ -1,14 +1,10 @@
 -- After a DR no DC is blamed, unless the DR just closes an open connection that is judged.
 -- For the law on answers without an open connection.
-use Rattle.osi_fair.proofs.Vocabulary.{arith}
-use Rattle.osi_fair.proofs.Vocabulary.{Bool, false, List, None, Option, Some, true, ℕ}
-use Rattle.osi_fair.proofs.Vocabulary.{◌≡◌, ◌⊎◌, eqb-true, not, position, slice_get, ◌||◌, disconnect, Two, is_applied}
-use Rattle.osi_fair.proofs.Vocabulary.{is_named, at_found, at_place, class_for}
-use Rattle.osi_fair.proofs.Vocabulary.{found_on, is_stopped, is_stray, Outcome}
-use Rattle.osi_fair.proofs.Vocabulary.{Traffic as State, takes, Connection, Direction}
-use Rattle.osi_fair.proofs.Vocabulary.{JustCloses}
+use Rattle.osi_fair.proofs.Vocabulary.{arith, Bool, false, List, Option, Some, true, ℕ, ◌≡◌, ◌⊎◌, eqb-true, not, position, slice_get, ◌||◌}
+use Rattle.osi_fair.proofs.Vocabulary.{disconnect, Two, is_applied, is_named, at_found, at_place, class_for, found_on, is_stopped, is_stray}
+use Rattle.osi_fair.proofs.Vocabulary.{Outcome, Traffic as State, takes, Connection, Direction, JustCloses}
 use Rattle.osi_fair.proofs.a_reference_names_one_connection.{applied_judged}
-use Rattle.osi_fair.proofs.what_belongs_to_no_open_connection.{Strays, reached_strays, two_named}
+use Rattle.osi_fair.proofs.what_belongs_to_no_open_connection.{Strays, reached_strays}
 
 not_any : (a b c : Bool) → (a || (not b || c)) ≡ false → (b ≡ true) × (c ≡ false)
 not_any a b c h = grind arith
@@ -21,9 +17,6 @@ module _ (d : Direction) (s : State) (n source reason : ℕ) (user : List ℕ) (
   abbrev Either : Outcome → Type 0
   Either o = Strays o ⊎ JustCloses d s n source
 
-  for_none : Strays (at_place d (disconnect n source reason user) s None)
-  for_none = grind (arith, reached_strays)
-
   by_stray : (p : ℕ) (c : Connection) (b : Bool) → position (is_named d n) s.connections ≡ Some p → slice_get s.connections p ≡ Some c →
       (s.course.strays || (not (is_applied (found_on d s c (disconnect n source reason user))) || is_stray d c source)) ≡ b →
       Either (at_found d (disconnect n source reason user) s p (Some c))
@@ -32,13 +25,13 @@ module _ (d : Direction) (s : State) (n source reason : ℕ) (user : List ℕ) (
 
   by_item : (p : ℕ) (c : Option Connection) → position (is_named d n) s.connections ≡ Some p → slice_get s.connections p ≡ c →
       Either (at_found d (disconnect n source reason user) s p c)
-  by_item p c first at = grind (arith, for_none, by_stray)
+  by_item p c first at = search (arith, by_stray)
 
   by_first : (p : Option ℕ) → position (is_named d n) s.connections ≡ p → Either (at_place d (disconnect n source reason user) s p)
-  by_first p first = grind (arith, for_none, by_item)
+  by_first p first = grind (arith, by_item)
 
   pub strays_or_closes : Either (takes d (disconnect n source reason user) s)
-  strays_or_closes = grind (arith, two_named, by_first)
+  strays_or_closes = grind (arith, by_first)
 
 pub dr_closes : (d : Direction) (s : State) (n source reason : ℕ) (user : List ℕ) → is_stopped d s.course ≡ false →
     class_for d s.course ≡ Some Two →

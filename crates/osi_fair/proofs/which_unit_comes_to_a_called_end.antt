@@ -5,13 +5,12 @@ use Rattle.osi_fair.proofs.Vocabulary.{true, ℕ, ◌∙◌, ◌∷◌, ◌≡�
 use Rattle.osi_fair.proofs.Vocabulary.{confirm, Connect, data0, data2, destination_of, disconnect, disconnected, error, request, Value}
 use Rattle.osi_fair.proofs.Vocabulary.{Class, Two, Zero, is_of_connection, passes_over, reach_by, reach_of, reach_past, first_failed}
 use Rattle.osi_fair.proofs.Vocabulary.{is_free, is_live, is_named, is_over, uses, asks_by, asks_kept, asks_of, at_found, at_place}
-use Rattle.osi_fair.proofs.Vocabulary.{has_place, in_doubt, is_not_judged, none_told, one_told, Outcome, reached, request_tests, route}
-use Rattle.osi_fair.proofs.Vocabulary.{route_in, routed, Traffic, takes, unnamed_by, unnamed_told, Connection, Course, Left, Right, Finding}
-use Rattle.osi_fair.proofs.Vocabulary.{Broke, Kept, NotJudged, TooMany, Rule, has_broken, is_report}
+use Rattle.osi_fair.proofs.Vocabulary.{has_place, is_not_judged, none_told, one_told, Outcome, reached, request_tests, route, route_in}
+use Rattle.osi_fair.proofs.Vocabulary.{routed, Traffic, takes, unnamed_by, unnamed_told, Connection, Course, Left, Right, Finding, Broke}
+use Rattle.osi_fair.proofs.Vocabulary.{Kept, NotJudged, TooMany, Rule, has_broken, is_report}
 use Rattle.osi_rules.specs.declared.findings.Reach.TheVariants as reach
 use Rattle.osi_rules.specs.declared.findings.Rule.TheVariants as rule
 use Rattle.osi_fair.proofs.small_facts_that_many_lemmas_use.{differ}
-use Rattle.osi_fair.proofs.an_end_has_broken_no_rule.{not_broken}
 use Rattle.osi_fair.proofs.each_connection_of_a_called_end.{IsDc}
 use Rattle.osi_fair.proofs.what_holds_of_one_item.{first_true}
 pub use Rattle.osi_fair.proofs.what_lasts_at_the_tap.{IsCalm, calm_before, calm_noted}
@@ -25,12 +24,8 @@ by_reach k c h = grind (arith, differ)
 abbrev IsHard : Rule → Type 0
 IsHard r = (passes_over r ≡ false) × (is_of_connection r ≡ false)
 
-bad_by : {A : Type 0} (k : Option Class) (past one : Bool) (c : Course) → past ≡ false → one ≡ false →
-    IsCalm (reached Left (reach_past past (reach_by k one)) c) → A
-bad_by k past one c e f h = grind (arith, differ, by_reach)
-
 bad : {A : Type 0} (k : Option Class) (r : Rule) (c : Course) → IsHard r → IsCalm (reached Left (reach_of k (Broke r)) c) → A
-bad k r c (e, f) h = bad_by k (passes_over r) (is_of_connection r) c e f h
+bad k r c (e, f) h = grind (arith, differ, by_reach)
 
 side_bad : {A : Type 0} (past one : Bool) (c : Course) → past ≡ false →
     IsCalm (reached Left (reach_past past (reach_by (Some Zero) one)) c) → A
@@ -41,19 +36,13 @@ pub record IsNear (k : Option Class) (f : Finding) : Type 0 where
   pub two : reach_of k f ≡ reach_of (Some Two) f
   pub part : reach_of (Some Two) f ≡ reach.Everything → ⊥
 
-nothing_not : reach.Nothing ≡ reach.Everything → ⊥
-nothing_not e = cc
-
-connection_not : reach.Connection ≡ reach.Everything → ⊥
-connection_not e = cc
-
 near_by : (k : Option Class) (past one : Bool) (c : Course) → IsCalm (reached Left (reach_past past (reach_by k one)) c) →
     (reach_past past (reach_by k one) ≡ reach_past past (reach_by (Some Two) one))
     × (reach_past past (reach_by (Some Two) one) ≡ reach.Everything → ⊥)
-near_by k past one c h = grind (arith, nothing_not, differ, connection_not)
+near_by k past one c h = grind (arith, differ)
 
 pub calm_near : (k : Option Class) (f : Finding) (c : Course) → IsCalm (reached Left (reach_of k f) c) → IsNear k f
-calm_near k f c h = grind (arith, nothing_not, differ, near_by)
+calm_near k f c h = grind (arith, differ, near_by)
 
 -- ---- which unit it is
 
@@ -81,15 +70,11 @@ module _ (v : Value) (s : Traffic) (left : s.course.left_stopped ≡ false) (rig
   abbrev Comes : Outcome → Type 0
   Comes o = IsCalm o.state.course → Came v s o
 
-  none_calm : {A : Type 0} (f : Finding) → ((k : Option Class) (course : Course) → IsCalm (reached Left (reach_of k f) course) → ⊥) →
-      IsCalm (none_told Left f s).state.course → A
-  none_calm f h k = grind (arith, calm_noted)
-
   asks_by_case : (x : Connect) → v ≡ request x → (s.course.class_seen ≡ Some Zero → ⊥) → ((first_failed (request_tests s x)) ≡ Kept)
       ⊎ (((k : Option Class) (course : Course) → IsCalm (reached Left (reach_of k (first_failed (request_tests s x))) course) → ⊥)
       × (first_failed (request_tests s x) ≡ NotJudged → ⊥)) → Comes (asks_by Left (first_failed (request_tests s x)) x s)
   asks_by_case x e class (inl kept) h = asks_so x e class kept (ap (λ (f : Finding). asks_by Left f x s) kept)
-  asks_by_case x e class (inr (wrong, judges)) h = search (arith, none_calm, not_kept)
+  asks_by_case x e class (inr (wrong, judges)) h = grind (arith, not_kept)
 
   asks_came : (x : Connect) → v ≡ request x → (s.course.class_seen ≡ Some Zero → ⊥) →
       Comes (asks_by Left (first_failed (request_tests s x)) x s)
@@ -99,35 +84,24 @@ module _ (v : Value) (s : Traffic) (left : s.course.left_stopped ≡ false) (rig
       (has_place s.connections)
       (first_failed (request_tests s x)) refl) h
 
-  doubt_bad : {A : Type 0} (loose : Bool) (k : Option Class) (f : Finding) (r : Rule) (c : Course) → IsHard r → f ≡ Broke r →
-      IsCalm (reached Left (reach_of k (if loose then in_doubt f else f)) c) → A
-  doubt_bad loose k f r c hard is h = grind (arith, differ, bad)
-
   unknown_bad : {A : Type 0} (w : Value) → unnamed_by s.course.strays w ≡ Broke rule.UnknownReference →
       is_report s.course.right_erred w ≡ false → IsCalm (unnamed_told Left w s).state.course → A
-  unknown_bad w is none h = grind (arith, doubt_bad, calm_noted)
-
-  -- a DC for no connection
-  dc_none : (m n : ℕ) → v ≡ disconnected m n → (b : Bool) → s.course.strays ≡ b → Comes (unnamed_told Left (disconnected m n) s)
-  dc_none m n e b is h = grind (arith, unknown_bad)
+  unknown_bad w is none h = grind (arith, calm_noted)
 
   unknown_by : (b : Bool) (w : Value) → ((m n : ℕ) → w ≡ disconnected m n → ⊥) → unnamed_by b w ≡ Broke rule.UnknownReference
   unknown_by b w none = grind arith
 
   unnamed_case : (w : Value) → v ≡ w → Comes (unnamed_told Left w s)
-  unnamed_case w e h = grind (arith, dc_none, unknown_bad, unknown_by)
-
-  unnamed_came : Comes (unnamed_told Left v s)
-  unnamed_came h = unnamed_case v refl h
+  unnamed_case w e h = grind (arith, unknown_bad, unknown_by)
 
   at_item : (n q : ℕ) (o : Option Connection) → slice_get s.connections q ≡ o → position (is_named Left n) s.connections ≡ Some q →
       destination_of v ≡ Some n → Comes (at_found Left v s q o)
-  at_item n q None e first d h = unnamed_came h
+  at_item n q None e first d h = grind (arith, unnamed_case)
   at_item n q (Some c) e first d h =
       for_one n q c d e (first_true (is_named Left n) s.connections q c first e) refl
 
   at_name : (n : ℕ) (o : Option ℕ) → position (is_named Left n) s.connections ≡ o → destination_of v ≡ Some n → Comes (at_place Left v s o)
-  at_name n None e d h = unnamed_came h
+  at_name n None e d h = grind (arith, unnamed_case)
   at_name n (Some q) e d h = at_item n q (slice_get s.connections q) refl e d h
 
   wrong : (r : Rule) → IsHard r → Comes (none_told Left (Broke r) s)
@@ -135,11 +109,11 @@ module _ (v : Value) (s : Traffic) (left : s.course.left_stopped ≡ false) (rig
 
   at_live : (q : ℕ) (o : Option Connection) → slice_get s.connections q ≡ o → s.course.class_seen ≡ Some Zero →
       Comes (at_found Left v s q o)
-  at_live q None e zero h = unnamed_came h
+  at_live q None e zero h = grind (arith, unnamed_case)
   at_live q (Some c) e zero h = only q c e zero refl
 
   at_only : (o : Option ℕ) → s.course.class_seen ≡ Some Zero → Comes (at_place Left v s o)
-  at_only None zero h = unnamed_came h
+  at_only None zero h = grind (arith, unnamed_case)
   at_only (Some q) zero h = at_live q (slice_get s.connections q) refl zero h
 
   zero_wrong : (r : Rule) → passes_over r ≡ false → s.course.class_seen ≡ Some Zero → Comes (none_told Left (Broke r) s)
@@ -147,7 +121,7 @@ module _ (v : Value) (s : Traffic) (left : s.course.left_stopped ≡ false) (rig
 
   error_wrong : (destination cause : ℕ) → v ≡ error destination cause → s.course.class_seen ≡ Some Zero →
       Comes (routed Left v s (route_in (Some Zero) Left (has_broken Right s.course) (error destination cause)))
-  error_wrong destination cause e zero = grind (arith, not_broken, zero_wrong)
+  error_wrong destination cause e zero = grind (arith, zero_wrong)
 
   routes : (k : Option Class) → s.course.class_seen ≡ k → (w : Value) → v ≡ w →
       Comes (routed Left v s (route_in k Left (has_broken Right s.course) w))

@@ -1,13 +1,12 @@
 -- Which units of a list are for a connection, by their references; and those that the line of a connection has put.
 -- For the law on a whole end.
 use Rattle.osi_fair.proofs.Vocabulary.{arith, [], ap, Bool, false, length, List, None, Option, refl, Some, true, ℕ, ◌++◌, ◌+◌, ◌∙◌, ◌∷◌}
-use Rattle.osi_fair.proofs.Vocabulary.{◌≡◌, ◌≢◌, eq-eqb, eqb-true, append-nil, AllByRecursion, ◌&&◌, ◌==◌, acknowledge, data2}
-use Rattle.osi_fair.proofs.Vocabulary.{destination_of, disconnect, disconnected, Value, Standing, is_open, Half, Line, request, confirm}
-use Rattle.osi_fair.proofs.Vocabulary.{data0, error}
-use Rattle.osi_fair.proofs.small_facts_that_many_lemmas_use.{and_not, both, no_list, no_two, unequal}
+use Rattle.osi_fair.proofs.Vocabulary.{◌≡◌, eq-eqb, eqb-true, append-nil, AllByRecursion, ◌&&◌, ◌==◌, acknowledge, data2, destination_of}
+use Rattle.osi_fair.proofs.Vocabulary.{disconnect, disconnected, Value, is_open, Line, request, confirm, data0, error}
+use Rattle.osi_fair.proofs.small_facts_that_many_lemmas_use.{and_not, both, no_two, unequal}
 use Rattle.osi_fair.proofs.units_in_flight.{Bounds, Puts}
 use Rattle.osi_fair.proofs.what_a_link_does.{begun_by}
-use Rattle.osi_fair.proofs.what_holds_of_a_line.{Holds, PutsAt, Tally}
+use Rattle.osi_fair.proofs.what_holds_of_a_line.{Holds}
 use Rattle.osi_fair.proofs.what_keeps_names_apart.{differ}
 
 abbrev pub names_in : ℕ → Option ℕ → Bool
@@ -35,12 +34,9 @@ leads f (v ∷ vs) = f v
 abbrev pub those : ℕ → List Value → List Value
 those n vs = picked (names n) vs
 
-pub keep_join : (b : Bool) (v : Value) (xs ys : List Value) → keep b v (xs ++ ys) ≡ keep b v xs ++ ys
-keep_join b v xs ys = grind arith
-
 pub picked_join : (f : Value → Bool) (xs ys : List Value) → picked f (xs ++ ys) ≡ picked f xs ++ picked f ys
 picked_join f [] ys = refl
-picked_join f (x ∷ xs) ys = grind (arith, keep_join, picked_join f xs ys)
+picked_join f (x ∷ xs) ys = grind (arith, picked_join f xs ys)
 
 pub picked_first : (f : Value → Bool) (v : Value) (vs : List Value) → f v ≡ true → picked f (v ∷ vs) ≡ v ∷ picked f vs
 picked_first f v vs e = ap (λ (b : Bool). keep b v (picked f vs)) e
@@ -82,9 +78,6 @@ pub each_picked : (P : Value → Type 0) (f : Value → Bool) (vs : List Value) 
 each_picked P f [] h = tt
 each_picked P f (v ∷ vs) (one, more) = kept_each P (f v) v (picked f vs) one (each_picked P f vs more)
 
-pub some_picked : (f : Value → Bool) (units : List Value) → leads f units ≡ true → picked f units ≢ []
-some_picked f units h = grind (arith, no_list, picked_first)
-
 -- ---- the units that name a reference
 
 pub those_join : (n : ℕ) (xs ys : List Value) → those n (xs ++ ys) ≡ those n xs ++ those n ys
@@ -95,9 +88,6 @@ first_kept n v vs e = picked_first (names n) v vs e
 
 pub first_left : (n : ℕ) (v : Value) (vs : List Value) → names n v ≡ false → those n (v ∷ vs) ≡ those n vs
 first_left n v vs e = picked_rest (names n) v vs e
-
-pub one_more : (n : ℕ) (units : List Value) (v : Value) → names n v ≡ true → those n (units ++ v ∷ []) ≡ those n units ++ v ∷ []
-one_more n units v e = picked_more (names n) units v e
 
 abbrev pub AllNamed : ℕ → List Value → Type 0
 AllNamed n units = AllByRecursion (λ (v : Value). destination_of v ≡ Some n) units
@@ -137,9 +127,6 @@ named_so n v e = ap (λ (o : Option ℕ). names_in n o) e ∙ eq-eqb n n refl
 pub named_not : (m n : ℕ) (v : Value) → (m ≡ n → ⊥) → destination_of v ≡ Some m → names n v ≡ false
 named_not m n v other e = ap (λ (o : Option ℕ). names_in n o) e ∙ unequal m n (m == n) refl other
 
-and_parts : (a b : Bool) → (a && b) ≡ true → (a ≡ true) × (b ≡ true)
-and_parts a b h = grind arith
-
 pub named_is : (o : Option ℕ) (n : ℕ) → names_in n o ≡ true → o ≡ Some n
 named_is o n h = grind (arith, eqb-true)
 
@@ -147,7 +134,7 @@ pub ours_so : (r peer : ℕ) (v : Value) → IsOf r peer v → is_ours r peer v 
 ours_so r peer v h = both (names peer v) (is_from r v) (named_so peer v h.named) h.from
 
 pub ours_is : (r peer : ℕ) (v : Value) → is_ours r peer v ≡ true → IsOf r peer v
-ours_is r peer v h = grind (arith, and_parts, named_is)
+ours_is r peer v h = grind (arith, named_is)
 
 -- a unit for another reference of the other side
 pub ours_not : (r m peer : ℕ) (v : Value) → (m ≡ peer → ⊥) → destination_of v ≡ Some m → is_ours r peer v ≡ false
@@ -182,12 +169,8 @@ puts_ours s e passed shown begun (confirm destination x ∷ units) h = absurd h
 puts_ours s e passed shown begun (data0 end user ∷ units) h = absurd h
 puts_ours s e passed shown begun (error destination cause ∷ units) h = absurd h
 
-puts_at : (r peer limit : ℕ) (x : Tally) (mine theirs : Half) (put : List Value) (link : Option Standing) →
-    PutsAt r peer limit x mine theirs put link → AllOurs r peer put
-puts_at r peer limit x mine theirs put link h = grind (arith, puts_ours)
-
 pub line_ours : (r peer : ℕ) (line : Line) → Holds r peer line → AllOurs r peer line.put
-line_ours r peer line h = puts_at r peer h.limit h.tally line.tap.left line.tap.right line.put line.link h.puts
+line_ours r peer line h = grind (arith, puts_ours)
 
 all_named : (r peer : ℕ) (units : List Value) → AllOurs r peer units → AllNamed peer units
 all_named r peer [] h = tt
@@ -200,11 +183,6 @@ pub last_ours : (r peer : ℕ) (xs ys : List Value) → AllOurs r peer (xs ++ ys
 last_ours r peer [] ys h = h
 last_ours r peer (x ∷ xs) ys (one, more) = last_ours r peer xs ys more
 
--- an end that has closed a connection which is open at the tap has put the unit that says so, and it has not passed
-waits_at : (r peer limit : ℕ) (x : Tally) (mine theirs : Half) (put : List Value) (link : Option Standing) →
-    PutsAt r peer limit x mine theirs put link → link ≡ None → is_open mine.phase ≡ true → put ≡ [] → ⊥
-waits_at r peer limit x mine theirs put link h none live e = grind (arith, differ, no_list)
-
 pub close_waits : (r peer : ℕ) (line : Line) → Holds r peer line → line.link ≡ None → is_open line.tap.left.phase ≡ true →
     line.put ≡ [] → ⊥
-close_waits r peer line h none live e = grind (arith, waits_at)
+close_waits r peer line h none live e = grind arith

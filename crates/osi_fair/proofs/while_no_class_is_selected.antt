@@ -1,45 +1,34 @@
 -- What the other side may send a calling end while no class is selected: it answers the CR that waits, and a DC changes nothing.
 -- For the law on requests.
 use Rattle.osi_fair.proofs.Vocabulary.{arith, [], ap, Bool, false, if◌then◌else◌, inl, inr, length, List, map, None, Option, refl, set}
-use Rattle.osi_fair.proofs.Vocabulary.{Some, subst, suc, sym, true, zero, ℕ, ◌++◌, ◌∙◌, ◌∷◌, ◌≡◌, ◌⊎◌, eq-eqb, eqb-true, slice_get-map}
-use Rattle.osi_fair.proofs.Vocabulary.{nat_le, not, position, slice_get, ◌&&◌, ◌==◌, ◌||◌, confirm, Connect, disconnect, disconnected}
-use Rattle.osi_fair.proofs.Vocabulary.{error, Value, is_applied, reach_of, code_named, first_failed, given_again, is_due, is_inside}
-use Rattle.osi_fair.proofs.Vocabulary.{is_offered, begins, is_closing, is_free, is_named, is_open, is_over, is_refused, is_silent, asked_by}
-use Rattle.osi_fair.proofs.Vocabulary.{asks_by, at_found, at_place, class_of, closing_phase, connection_after, course_after, found}
-use Rattle.osi_fair.proofs.Vocabulary.{found_on, offer_of, Outcome, placed, reached, sent_on, Traffic as State, takes, unnamed_told}
-use Rattle.osi_fair.proofs.Vocabulary.{uses_source, Connection, Offer, Course, Direction, Left, Right, Finding, Broke, Kept, NotJudged}
-use Rattle.osi_fair.proofs.Vocabulary.{Outside, TooMany, Reach, Half, Phase, Open, Silent, noted, is_break}
+use Rattle.osi_fair.proofs.Vocabulary.{Some, subst, suc, sym, true, zero, ℕ, ◌++◌, ◌∙◌, ◌∷◌, ◌≡◌, ◌⊎◌, eqb-true, slice_get-map, nat_le, not}
+use Rattle.osi_fair.proofs.Vocabulary.{position, slice_get, ◌==◌, confirm, Connect, disconnect, disconnected, error, Value, is_applied}
+use Rattle.osi_fair.proofs.Vocabulary.{reach_of, code_named, first_failed, given_again, is_inside, is_offered, begins, is_free, is_named}
+use Rattle.osi_fair.proofs.Vocabulary.{is_over, is_refused, is_silent, asked_by, asks_by, at_found, at_place, class_of, closing_phase}
+use Rattle.osi_fair.proofs.Vocabulary.{connection_after, course_after, found, found_on, offer_of, Outcome, placed, reached, sent_on}
+use Rattle.osi_fair.proofs.Vocabulary.{Traffic as State, takes, unnamed_told, uses_source, Connection, Offer, Course, Direction, Left}
+use Rattle.osi_fair.proofs.Vocabulary.{Right, Finding, Broke, Kept, NotJudged, Outside, TooMany, Reach, Open, Silent, noted, is_break}
 use Rattle.osi_rules.specs.declared.findings.Reach.TheVariants as reach
 use Rattle.osi_rules.specs.declared.findings.Rule.TheVariants as rule
-use Rattle.osi_fair.proofs.small_facts_that_many_lemmas_use.{begins_judged, begun_left, begun_right, both, judged_same, judged_so, not_both}
-use Rattle.osi_fair.proofs.small_facts_that_many_lemmas_use.{or_first, some_same}
+use Rattle.osi_fair.proofs.small_facts_that_many_lemmas_use.{begins_judged, begun_left, begun_right, both, judged_same, judged_so, or_first}
+use Rattle.osi_fair.proofs.small_facts_that_many_lemmas_use.{some_same}
 use Rattle.osi_fair.proofs.what_holds_of_one_item.{HoldsOfEach, after_add, after_map, after_set, first_true}
-use Rattle.osi_fair.proofs.when_a_connection_has_a_name.{three}
 use Rattle.osi_fair.proofs.a_right_unit_is_not_blamed.{first_there}
 use Rattle.osi_fair.proofs.a_refused_request_waits_no_more.{refused_over}
 use Rattle.osi_fair.proofs.what_keeps_names_apart.{differ}
 
 -- ---- where an item is
 
-fewer : (i p : ℕ) → suc i ≡ suc p → i ≡ p
-fewer i p e = cc
-
 shifted : {A B : Type 0} (i p : ℕ) → ((i ≡ p) × A) ⊎ ((i ≡ p → ⊥) × B) → ((suc i ≡ suc p) × A) ⊎ ((suc i ≡ suc p → ⊥) × B)
-shifted i p h = grind (arith, fewer)
-
-not_zero : (i : ℕ) → suc i ≡ zero → ⊥
-not_zero i e = cc
-
-zero_not : (i : ℕ) → zero ≡ suc i → ⊥
-zero_not i e = cc
+shifted i p h = grind arith
 
 -- the item that was changed, or another one
 pub after_change : {X : Type 0} (xs : List X) (p i : ℕ) (x y : X) → slice_get (set xs p x) i ≡ Some y →
     ((i ≡ p) × (y ≡ x)) ⊎ ((i ≡ p → ⊥) × (slice_get xs i ≡ Some y))
 after_change [] p i x y h = absurd (cc)
 after_change (z ∷ xs) zero zero x y h = inl (refl, some_same x y h)
-after_change (z ∷ xs) zero (suc i) x y h = inr (not_zero i, h)
-after_change (z ∷ xs) (suc p) zero x y h = inr (zero_not p, h)
+after_change (z ∷ xs) zero (suc i) x y h = inr (grind arith, h)
+after_change (z ∷ xs) (suc p) zero x y h = inr (grind arith, h)
 after_change (z ∷ xs) (suc p) (suc i) x y h = shifted i p (after_change xs p i x y h)
 
 pub set_there : {X : Type 0} (xs : List X) (p : ℕ) (x y : X) → slice_get xs p ≡ Some y → slice_get (set xs p x) p ≡ Some x
@@ -98,27 +87,20 @@ for_none cs strays v h = grind arith
 pub over_done : (c : Connection) → IsDone c → is_over Right c ≡ true
 over_done c k = grind (arith, both, or_first)
 
-done_not_named : (c : Connection) (n : ℕ) → IsDone c → is_named Right n c ≡ true → ⊥
-done_not_named c n h k = grind (arith, not_both, over_done)
-
 pub named_where : (cs : List Connection) (n q : ℕ) → position (is_named Right n) cs ≡ Some q →
     (e : Connection) × (slice_get cs q ≡ Some e) × (is_named Right n e ≡ true)
 named_where cs n q h = grind (arith, first_there, first_true)
 
 none_by : (cs : List Connection) (n : ℕ) (o : Option ℕ) → position (is_named Right n) cs ≡ o → HoldsOfEach IsDone cs → o ≡ None
-none_by cs n o e h = grind (arith, named_where, done_not_named)
+none_by cs n o e h = grind (arith, named_where)
 
 module _ (cs : List Connection) (strays : Bool) where
   abbrev s : State
   s = calm_tap cs strays
 
-  at_none : (v : Value) (o : Option ℕ) → o ≡ None → GoesOn (at_place Right v s o).state →
-      OnlyDc v cs strays (at_place Right v s o).state
-  at_none v o e h = grind (arith, for_none)
-
   -- if none waits, only a DC may come
   pub done_takes : (v : Value) → HoldsOfEach IsDone cs → GoesOn (takes Right v s).state → OnlyDc v cs strays (takes Right v s).state
-  done_takes v done h = search (arith, at_none, none_by)
+  done_takes v done h = search (arith, none_by)
 
 -- ---- one waits for an answer
 
@@ -136,17 +118,10 @@ pub record Waits (r p : ℕ) (o : Offer) (cs : List Connection) : Type 0 where
   pub known : is_silent c.seen_by_right.phase ≡ false → c.seen_by_right.reference ≡ r
   pub others : (i : ℕ) (e : Connection) → slice_get cs i ≡ Some e → (i ≡ p → ⊥) → IsDone e
 
-unlike : (q p : ℕ) → (q == p) ≡ false → q ≡ p → ⊥
-unlike q p h e = differ (q == p) (ap (λ (x : ℕ). x == p) e ∙ eq-eqb p p refl) h
-
-known_named : (over : Bool) (known : Half) (n r : ℕ) → (is_silent known.phase ≡ false → known.reference ≡ r) →
-    (not over && (not (is_silent known.phase) && (known.reference == n))) ≡ true → n ≡ r
-known_named over known n r k h = grind (arith, three, eqb-true)
-
 -- what a unit names is the one that waits
 waits_by : (r p : ℕ) (o : Offer) (cs : List Connection) (w : Waits r p o cs) (n q : ℕ) (e : Connection) (b : Bool) → (q == p) ≡ b →
     slice_get cs q ≡ Some e → is_named Right n e ≡ true → (q ≡ p) × (n ≡ r) × (e ≡ w.c)
-waits_by r p o cs w n q e b h at named = grind (arith, done_not_named, unlike, eqb-true, some_same, known_named)
+waits_by r p o cs w n q e b h at named = grind (arith, eqb-true, some_same)
 
 begun_done : (d : Direction) (c : Connection) → IsDone c → IsDone (begins d c)
 begun_done d c h = grind arith
@@ -157,11 +132,6 @@ begins_offer d c = grind arith
 begins_unseen : (d : Direction) (c : Connection) → c.right.phase ≡ Silent → c.seen_by_left.phase ≡ Silent →
     (begins d c).seen_by_left.phase ≡ Silent
 begins_unseen d c h k = grind arith
-
-begins_known : (d : Direction) (r : ℕ) (c : Connection) → c.left.reference ≡ r →
-    (is_silent c.seen_by_right.phase ≡ false → c.seen_by_right.reference ≡ r) →
-    is_silent (begins d c).seen_by_right.phase ≡ false → (begins d c).seen_by_right.reference ≡ r
-begins_known d r c e k h = grind arith
 
 waits_named : (r p : ℕ) (o : Offer) (cs : List Connection) (w : Waits r p o cs) (n q : ℕ) → position (is_named Right n) cs ≡ Some q →
     (q ≡ p) × (n ≡ r)
@@ -262,9 +232,6 @@ module _ (r p : ℕ) (o : Offer) (cs : List Connection) (strays : Bool) (w : Wai
   refused_all : (new : Connection) → IsDone new → HoldsOfEach IsDone (set cs p new)
   refused_all new h i e at = refused_one new e i h (after_change cs p i new e at)
 
-  kept_so : (a : Bool) (f : Finding) → a ≡ true → first_failed ((a, f) ∷ []) ≡ Kept
-  kept_so a f h = grind arith
-
   refusing : (v : Value) → IsRefusal r v → (f : Finding) → f ≡ Kept → (more : Bool) →
       by_finding p c cs strays v Kept ≡ calm_tap (set cs p (connection_after Right v true reach.Nothing c)) more →
       IsDone (connection_after Right v true reach.Nothing c) → Answer r p o cs strays v (by_finding p c cs strays v f)
@@ -280,13 +247,9 @@ module _ (r p : ℕ) (o : Offer) (cs : List Connection) (strays : Bool) (w : Wai
       let v = disconnect destination source reason user in
       refusing v e (finding v)
       (judged_so c.is_judged (found Right (calm strays) false c v) Kept w.judged
-      (kept_so (is_silent c.right.phase || is_open c.right.phase) (Broke rule.Closed)
-      (or_first (is_silent c.right.phase) (is_open c.right.phase) silent_so)))
+      (grind arith))
       (course_after Right c v true (calm strays)).strays refl
       (w.judged, ap (λ (b : Bool). is_refused (closing_phase b c.right).phase) silent_so)
-
-  kept_er : (a erred : Bool) → a ≡ true → first_failed ((a || not erred, NotJudged) ∷ (a, Broke rule.WrongForm) ∷ []) ≡ Kept
-  kept_er a erred h = grind arith
 
   to_error : (destination cause : ℕ) → destination ≡ r →
       Answer r p o cs strays (error destination cause)
@@ -295,24 +258,8 @@ module _ (r p : ℕ) (o : Offer) (cs : List Connection) (strays : Bool) (w : Wai
       let v = error destination cause in
       refusing v e (finding v)
       (judged_so c.is_judged (found Right (calm strays) false c v) Kept w.judged
-      (kept_er (is_silent c.right.phase) false silent_so))
+      (grind arith))
       strays refl (w.judged, refl)
-
-  not_due : (source : ℕ) → is_due Right c source ≡ false
-  not_due source = ap (λ (h : Phase). is_open h && (is_closing c.seen_by_right.phase && (source == c.right.reference))) w.silent
-
-  not_told : not (is_silent c.right.phase) ≡ false
-  not_told = ap not silent_so
-
-  dc_found : (due told st : Bool) → due ≡ false → told ≡ false →
-      first_failed ((due || not st, NotJudged) ∷ (told, Broke rule.UnknownReference) ∷ (due, Broke rule.NothingToAnswer) ∷ [])
-      ≡ (if st then NotJudged else Broke rule.UnknownReference)
-  dc_found due told st h k = grind arith
-
-  dc_after : (destination source : ℕ) (st : Bool) (f : Finding) → f ≡ (if st then NotJudged else Broke rule.UnknownReference) →
-      GoesOn (by_finding p c cs st (disconnected destination source) f) →
-      by_finding p c cs st (disconnected destination source) f ≡ calm_tap cs st
-  dc_after destination source st f e h = grind (arith, set_same, differ)
 
   to_dc : (destination source : ℕ) →
       GoesOn (by_finding p c cs strays (disconnected destination source) (finding (disconnected destination source))) →
@@ -322,8 +269,8 @@ module _ (r p : ℕ) (o : Offer) (cs : List Connection) (strays : Bool) (w : Wai
       let v = disconnected destination source in
       let is : finding v ≡ (if strays then NotJudged else Broke rule.UnknownReference) =
       judged_same c.is_judged (found Right (calm strays) false c v) w.judged
-      ∙ dc_found (is_due Right c source) (not (is_silent c.right.phase)) strays (not_due source) not_told in
-      says_nothing (tt, dc_after destination source strays (finding v) is h)
+      ∙ (grind arith) in
+      says_nothing (tt, grind (arith, set_same, differ))
 
   abbrev Answers : Value → State → Type 0
   Answers v after = GoesOn after → Answer r p o cs strays v after
@@ -367,7 +314,6 @@ waits_begins d r p o cs w =
       begun_left d w.c,
       begins_unseen d w.c w.silent w.unseen,
       begins_offer d w.c,
-      begins_known d r w.c w.reference w.known,
     )
 
 -- ---- a CR passes

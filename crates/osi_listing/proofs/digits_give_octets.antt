@@ -1,7 +1,7 @@
 -- Digits that are read one after the other give the octets that hex.decode gives, and nothing where it gives an error: for the
 -- reading of a capture's text.
-use Rattle.std.proofs.Common.{◌≡◌, ◌≢◌, ◌∙◌, ℕ, ◌+◌, ◌-◌, ◌*◌, ◌%◌, ◌==◌, ◌≤◌, Bool, true, false, List, [], ◌∷◌, ◌++◌, length, slice_index}
-use Rattle.std.proofs.Common.{take, drop, Option, Some, None, Result, Ok, Err, refl, inl, inr, sym, ap, arith}
+use Rattle.std.proofs.Common.{◌≡◌, ◌≢◌, ◌∙◌, ℕ, ◌+◌, ◌-◌, ◌*◌, ◌%◌, ◌≤◌, Bool, true, false, List, [], ◌∷◌, ◌++◌, length, slice_index, take}
+use Rattle.std.proofs.Common.{drop, Option, Some, None, Result, Ok, Err, refl, inl, inr, sym, ap, arith}
 use Rattle.std.specs.Prelude.{IsErr}
 use Rattle.std.proofs.lemmas.List.{append_assoc, append-nil, nil_from_length, take_all}
 use Rattle.std.proofs.lemmas.Bool.Decides.{eqb_tells}
@@ -9,16 +9,13 @@ use Rattle.hex.specs.Hex.{decode_of, decode_pairs, digit_or_error, hex_digit_val
 use Rattle.hex.specs.declared.error.FromHexError.{FromHexError}
 use Rattle.hex.specs.declared.error.FromHexError.TheVariants.{OddLength}
 use Rattle.hex.proofs.HexLemmas.{decode_of-even, decode_pairs-ok}
-use Rattle.osi_listing.proofs.digits_from_octet_to_octet.{left_comment, left_digit_of}
+use Rattle.osi_listing.proofs.digits_from_octet_to_octet.{left_digit_of}
 use Rattle.osi_listing.specs.Capture.{after_octets, digits_of, digits_left, if_digit, is_blank, octets_from, with_digit}
 
 -- the octets of a result, if it has some
 abbrev octets_in : Result (List ℕ) FromHexError → Option (List ℕ)
 octets_in (Ok octets) = Some octets
 octets_in (Err e) = None
-
-nothing_more : (digit : Option ℕ) → if_digit digit (λ v. None) ≡ None
-nothing_more digit = grind arith
 
 -- two digits, and the octets after them
 two_digits : (a b i : ℕ) (high low : Option ℕ) (rest : Result (List ℕ) FromHexError) →
@@ -30,7 +27,7 @@ two_digits a b i high low rest = grind arith
 pairs_give : (i : ℕ) (s : List ℕ) → octets_in (decode_pairs i s) ≡ octets_from s None
 unfolding decode_pairs
 pairs_give i [] = refl
-pairs_give i (a ∷ []) = sym (nothing_more (hex_digit_value a))
+pairs_give i (a ∷ []) = sym (grind arith)
 pairs_give i (a ∷ b ∷ rest) =
     two_digits a b i (hex_digit_value a) (hex_digit_value b) (decode_pairs (i + 2) rest)
     ∙ ap (λ o. if_digit (hex_digit_value a) (λ h. if_digit (hex_digit_value b) (λ l. after_octets ((h * 16 + l) ∷ []) o)))
@@ -47,10 +44,7 @@ decode_of-odd s odd = grind (arith)
 digits_give : (s : List ℕ) → octets_in (decode_of s) ≡ octets_from s None
 digits_give s = elim (eqb_tells (length s % 2) 1) [
   | inl odd ↦ ap octets_in (decode_of-odd s odd.1) ∙ sym (odd_gives s (decode_pairs 0 s) refl odd.1) ∙ pairs_give 0 s
-  | inr even ↦
-      let differs = even.1 in
-      let half : length s % 2 ≡ 0 = omega arith in
-      ap octets_in (decode_of-even s half) ∙ pairs_give 0 s
+  | inr even ↦ grind (arith, decode_of-even, pairs_give)
 ]
 
 is_ok_of : (r : Result (List ℕ) FromHexError) (octets : List ℕ) → octets_in r ≡ Some octets → r ≡ Ok octets
@@ -63,37 +57,23 @@ is_err_of r e = grind arith
 pub all_are_digits : (s octets : List ℕ) → octets_from s None ≡ Some octets → decode_of s ≡ Ok octets
 all_are_digits s octets e = is_ok_of (decode_of s) octets (digits_give s ∙ e)
 
--- or they are not
-pub not_all_are_digits : (s : List ℕ) → octets_from s None ≡ None → IsErr (decode_of s)
-not_all_are_digits s e = is_err_of (decode_of s) (digits_give s ∙ e)
-
 -- ---- one digit
-
-from_48 : (c v : ℕ) → hex_digit_value c ≡ Some v → 48 ≤ c
-from_48 c v h = grind (arith)
-
--- a digit is neither a line end nor the sign of a comment
-pub digit_no_sign : (c v : ℕ) → hex_digit_value c ≡ Some v → (c ≢ 10) × (c ≢ 35)
-digit_no_sign c v h = let from = from_48 c v h in (omega arith, omega arith)
-
-differ : (a b : ℕ) → a ≢ b → (a == b) ≡ false
-differ a b h = elim (eqb_tells a b) [ inl same ↦ absurd (h same.1) | inr other ↦ other.0 ]
 
 -- and no blank
 pub digit_no_blank : (c v : ℕ) → hex_digit_value c ≡ Some v → is_blank c ≡ false
-digit_no_blank c v h = grind (arith, from_48, differ)
+digit_no_blank c v h = search arith
 
 -- ---- a character of a text
 
 -- a digit outside comments
 pub digit_read : (b : Bool) (c v : ℕ) (high : Option ℕ) (rest : List ℕ) → hex_digit_value c ≡ Some v → b ≡ false →
     octets_from (digits_left b (c ∷ rest)) high ≡ with_digit high v (octets_from (digits_left false rest))
-digit_read b c v high rest h e = grind (arith, left_digit_of, digit_no_sign c v h, digit_no_blank c v h)
+digit_read b c v high rest h e = search (arith, left_digit_of, digit_no_blank c v h)
 
 -- a digit in a comment
 pub digit_skipped : (b : Bool) (c v : ℕ) (rest : List ℕ) → hex_digit_value c ≡ Some v → b ≡ true →
     digits_left b (c ∷ rest) ≡ digits_left b rest
-digit_skipped b c v rest h e = grind (arith, left_comment, differ, digit_no_sign)
+digit_skipped b c v rest h e = grind arith
 
 -- another character outside comments
 pub no_digit : (b : Bool) (c : ℕ) (high : Option ℕ) (rest : List ℕ) → hex_digit_value c ≡ None → b ≡ false → c ≢ 10 → c ≢ 35 →
@@ -114,26 +94,20 @@ front_read text high low two h k = grind (arith, two_read, take_all)
 
 -- ---- the end of a text
 
-no_digits_left : (b : Bool) → digits_left b [] ≡ []
-no_digits_left b = grind arith
-
-left_at_end : (b : Bool) (rest : List ℕ) → length rest ≡ 0 → digits_left b rest ≡ []
-left_at_end b rest e = ap (digits_left b) (nil_from_length rest e) ∙ no_digits_left b
-
 pub captures_at_end : (b : Bool) (high : Option ℕ) (rest text octets : List ℕ) → length rest ≡ 0 → high ≡ None →
     after_octets octets (octets_from (digits_left b rest) high) ≡ octets_from (digits_of text) None → decode_of (digits_of text) ≡ Ok octets
-captures_at_end b high rest text octets e h so_far = grind (arith, all_are_digits, left_at_end, append-nil)
+captures_at_end b high rest text octets e h so_far = grind (arith, all_are_digits, nil_from_length, append-nil)
 
 -- half an octet at the end
 pub no_capture_at_end : (b : Bool) (high : Option ℕ) (first : ℕ) (rest text octets : List ℕ) → length rest ≡ 0 → high ≡ Some first →
     after_octets octets (octets_from (digits_left b rest) high) ≡ octets_from (digits_of text) None → IsErr (decode_of (digits_of text))
-no_capture_at_end b high first rest text octets e h so_far = grind (arith, not_all_are_digits, left_at_end)
+no_capture_at_end b high first rest text octets e h so_far = grind (arith, is_err_of, digits_give, nil_from_length)
 
 -- a character that can't be read
 pub no_capture_here : (b : Bool) (high : Option ℕ) (c : ℕ) (rest behind text octets : List ℕ) → rest ≡ c ∷ behind →
     octets_from (digits_left b (c ∷ behind)) high ≡ None →
     after_octets octets (octets_from (digits_left b rest) high) ≡ octets_from (digits_of text) None → IsErr (decode_of (digits_of text))
-no_capture_here b high c rest behind text octets e none so_far = grind (arith, not_all_are_digits)
+no_capture_here b high c rest behind text octets e none so_far = grind (arith, is_err_of, digits_give)
 
 -- ---- octets after octets
 

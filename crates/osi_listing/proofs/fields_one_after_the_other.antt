@@ -28,11 +28,7 @@ line_of_data_0 end user = grind (arith, decimal_digit)
 pub data_0_added : (text mid new words : List ℕ) (end : Bool) (user : List ℕ) →
     words ≡ codes "  DT number 0 eot " ++ (48 + bit end) ∷ codes " octets " → mid ≡ text ++ words →
     new ≡ mid ++ (decimal (length user) ++ codes "\n") → new ≡ text ++ unit_line (data0 end user)
-data_0_added text mid new words end user e h k =
-    let beginning : List ℕ = codes "  DT number 0 eot " ++ (48 + bit end) ∷ codes " octets " in
-    let rest : List ℕ = decimal (length user) ++ codes "\n" in
-    k ∙ ap (λ t. t ++ rest) (h ∙ ap (λ w. text ++ w) e) ∙ append_assoc text beginning rest
-    ∙ ap (λ t. text ++ t) (sym (line_of_data_0 end user))
+data_0_added text mid new words end user e h k = grind (arith, append_assoc, line_of_data_0)
 
 -- a value that is not there
 pub not_there : (o : Option (List ℕ)) → is_some o ≡ false → o ≡ None
@@ -68,9 +64,7 @@ reference_added old word mid more new a b e h k = grind (arith, append_assoc, en
 -- a value is added in two parts
 pub value_added : (text made lent mid new : List ℕ) → mid ≡ text ++ encode_lower made → new ≡ mid ++ encode_lower lent →
     new ≡ text ++ encode_lower (made ++ lent)
-value_added text made lent mid new h k =
-    k ∙ ap (λ t. t ++ encode_lower lent) h ∙ append_assoc text (encode_lower made) (encode_lower lent)
-    ∙ ap (λ t. text ++ t) (sym (encode_lower_append made lent))
+value_added text made lent mid new h k = grind (arith, append_assoc, encode_lower_append)
 
 -- ---- fields with a blank between each two
 

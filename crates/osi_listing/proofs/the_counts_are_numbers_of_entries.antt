@@ -33,9 +33,6 @@ refused_counted : Counting (λ c. c.refused) is_refused
 unfolding one_more is_refused
 refused_counted c h = grind arith
 
-bumped : (b : Bool) (n m k total : ℕ) → m ≡ cond b (capped (n + 1)) n → total ≡ cond b 1 0 + k → capped (m + k) ≡ capped (n + total)
-bumped b n m k total e f = grind arith
-
 within : (b : Bool) (n m : ℕ) → n ≤ 2 ^ 64 - 1 → m ≡ cond b (capped (n + 1)) n → m ≤ 2 ^ 64 - 1
 within b n m h e = grind arith
 
@@ -46,11 +43,7 @@ field : (get : Counts → ℕ) (p : Entry → Bool) → Counting get p → (c : 
     get (counted c es) ≡ capped (get c + count_by p es)
 field get p step c [] h = omega arith
 field get p step c (e ∷ es) h =
-    grind (arith, within, bumped, count_cons, field get p step (one_more c e) es (within (p e) (get c) (get (one_more c e)) h (step c e)))
-
-from_none : (get : Counts → ℕ) (p : Entry → Bool) → Counting get p → (es : List Entry) → get none ≡ 0 →
-    get (counted none es) ≡ capped (count_by p es)
-from_none get p step es e = field get p step none es (omega arith) ∙ ap capped (omega arith)
+    grind (arith, within, count_cons, field get p step (one_more c e) es (within (p e) (get c) (get (one_more c e)) h (step c e)))
 
 same_counts : (c d : Counts) → c.packets ≡ d.packets → c.units ≡ d.units → c.tsdus ≡ d.tsdus → c.session_units ≡ d.session_units →
     c.refused ≡ d.refused → c ≡ d
@@ -58,11 +51,11 @@ same_counts c d e f g h k = λ i. record { packets = e i; units = f i; tsdus = g
 
 pub counted_is : (es : List Entry) → counted none es ≡ counts_of es
 counted_is es =
-    same_counts (counted none es) (counts_of es) (from_none (λ c. c.packets) is_packet packets_counted es refl)
-    (from_none (λ c. c.units) is_unit units_counted es refl)
-    (from_none (λ c. c.tsdus) is_tsdu tsdus_counted es refl)
-    (from_none (λ c. c.session_units) is_session_unit session_units_counted es refl)
-    (from_none (λ c. c.refused) is_refused refused_counted es refl)
+    same_counts (counted none es) (counts_of es) (grind (arith, field (λ c. c.packets) is_packet packets_counted none es (omega arith)))
+    (grind (arith, field (λ c. c.units) is_unit units_counted none es (omega arith)))
+    (grind (arith, field (λ c. c.tsdus) is_tsdu tsdus_counted none es (omega arith)))
+    (grind (arith, field (λ c. c.session_units) is_session_unit session_units_counted none es (omega arith)))
+    (grind (arith, field (λ c. c.refused) is_refused refused_counted none es (omega arith)))
 
 -- ---- whether something was refused
 

@@ -67,9 +67,7 @@ pub lists_next : (old text more : List ℕ) (was then now : Counts) (unit : Cont
 unfolding line_of
 lists_next old text more was then now unit left others all e line told so_far = record {
   said = so_far.said ++ unit ∷ [];
-  says = subst (λ es. Says old more was now es) (sym (map-push so_far.said unit))
-      (says_both old text more was then now (map SessionUnit so_far.said) (SessionUnit unit ∷ []) so_far.says
-      (says_one text more then now (SessionUnit unit) line told));
+  says = search (arith, map-push, says_both, says_one);
   whole = append_assoc so_far.said (unit ∷ []) others ∙ ap (λ (us : Units). so_far.said ++ us) (sym e) ∙ so_far.whole;
 }
 
@@ -120,8 +118,7 @@ pub then_fault : {A E : Type 0} (r : Result A E) (old new unit : List ℕ) (was 
     units_of unit ≡ Err f →
     OnOk r (new ≡ old ++ line_of (UnitFault f)) → now ≡ one_more was (UnitFault f) →
     OnOk r ((e : List Part) → Holds before e → Says old new was now (read_entries e (units_of unit)))
-then_fault (Ok x) old new unit was now f before exact h told = λ e k.
-    subst (λ read. Says old new was now (read_entries e read)) (sym exact) (says_one old new was now (UnitFault f) h told)
+then_fault (Ok x) old new unit was now f before exact h told = grind (arith, says_one old new was now (UnitFault f) h told)
 then_fault (Err x) old new unit was now f before exact h told = tt
 
 -- a line, and then the lines of a call
@@ -152,8 +149,7 @@ pub record Advanced (old text : List ℕ) (was now : Counts) (streams : Streams)
 
 pub advanced_none : (old : List ℕ) (was : Counts) (streams : Streams) (earlier : List Part) (all : List Value) → Holds streams earlier →
     Advanced old old was was streams all earlier all
-advanced_none old was streams earlier all h =
-    record { said = []; parts = earlier; says = says_none old was; holds = h; entries = refl; brought = refl }
+advanced_none old was streams earlier all h = grind (arith, says_none old was)
 
 pub advanced_step : (old mid new : List ℕ) (was then now : Counts) (before after : Streams) (v : Value) (left rest : List Value)
     (earlier : List Part) (all : List Value) →
@@ -167,8 +163,7 @@ advanced_step old mid new was then now before after v left rest earlier all is s
       parts = a.parts ++ option_to_list (part_of v);
       says = says_both old mid new was then now a.said one a.says (says a.parts a.holds);
       holds = holds a.parts a.holds;
-      entries = append_assoc a.said one (unit_entries (a.parts ++ option_to_list (part_of v)) left)
-          ∙ ap (λ vs. a.said ++ unit_entries a.parts vs) (sym is) ∙ a.entries;
+      entries = grind (arith, append_assoc, option_to_list);
       brought = append_assoc a.parts (option_to_list (part_of v)) (parts_of left) ∙ ap (λ vs. a.parts ++ parts_of vs) (sym is) ∙ a.brought;
     }
 

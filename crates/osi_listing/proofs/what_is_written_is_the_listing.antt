@@ -32,12 +32,6 @@ pub nothing_fed : (work : Work) → work.cutter ≡ fresh → Holds work.streams
     StandsAt stage.Going work [] []
 nothing_fed work cutter streams counts offset = grind (arith, says_none, empty_partial)
 
--- a stream that continues
-listed_longer : (streams : Streams) (counts : Counts) (offset : ℕ) (stream lines rest more : List ℕ) →
-    Listed streams counts offset stream lines rest →
-    Listed streams counts offset (stream ++ more) lines (rest ++ more)
-listed_longer streams counts offset stream lines rest more h = grind (arith, length-append, packets_longer)
-
 -- the entries that are listed, and those that end them
 said_so_far : (lines last : List ℕ) (was now : Counts) (units : List (List ℕ)) (ending : List Entry) →
     Says [] lines none was (packet_entries 0 [] units) →
@@ -76,9 +70,8 @@ unfolding Gained
 gained old new before after piece fault goes octets lines few h =
     let went = goes h.2.0 in
     let listed = subst (λ (r : List ℕ). Listed old.streams old.counts old.offset (octets ++ piece) lines (r ++ piece)) (sym h.2.1)
-    (listed_longer old.streams old.counts old.offset octets lines h.0 piece h.1) in
-    let moved = went.1.listed (octets ++ piece) lines few listed in
-    (moved.0, went.0, moved.1, moved.2, went.2)
+    (grind (arith, length-append, packets_longer)) in
+    grind (arith, went.1.listed (octets ++ piece) lines few listed)
 
 -- it still lists
 pub on_none : (s : Stage) (old new : Work) (before after piece : List ℕ) → s ≡ stage.Going →

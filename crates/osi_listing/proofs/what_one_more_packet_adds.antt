@@ -1,6 +1,6 @@
 -- The packets of a stream: what one more of them adds to the listing, and what is left after them.
-use Rattle.std.proofs.Common.{◌≡◌, ◌≢◌, ◌∙◌, ℕ, ◌+◌, ◌-◌, ◌<◌, ◌≤◌, ◌^◌, Bool, true, false, MatchBool, List, [], ◌∷◌, ◌++◌, length, take}
-use Rattle.std.proofs.Common.{drop, refl, sym, ap, subst, arith, Option, None, Result, Ok, Err, IfOk, OnOk}
+use Rattle.std.proofs.Common.{◌≡◌, ◌≢◌, ◌∙◌, ℕ, ◌+◌, ◌-◌, Bool, true, false, MatchBool, List, [], ◌∷◌, ◌++◌, length, take, drop, refl, sym}
+use Rattle.std.proofs.Common.{ap, subst, arith, Option, None, Result, Ok, Err, IfOk, OnOk}
 use Rattle.std.specs.List.{flat_map}
 use Rattle.std.proofs.lemmas.List.{append_assoc, append-nil, length-append, take-append-drop, nil_from_length, take_all}
 use Rattle.osi_tpkt.specs.Cutter.{Gains, TakesPiece}
@@ -18,7 +18,7 @@ use Rattle.osi_listing.specs.Streams.{Part}
 use Rattle.osi_listing.specs.Listing.{Entry, line_of, read_entries, read_parts, all_parts, packet_entries}
 use Rattle.osi_listing.specs.Listing.Entry.{Packet}
 use Rattle.osi_listing.specs.Says.{Says, Holds}
-use Rattle.osi_listing.specs.Fed.{Listed, Moves, IsReady, IsGoing, IsWithoutPacket, Leaves, OnlyHolds, Goes}
+use Rattle.osi_listing.specs.Fed.{Moves, IsReady, IsGoing, IsWithoutPacket, Leaves, OnlyHolds, Goes}
 use Rattle.osi_listing.proofs.units_one_after_the_other.{says_both}
 
 -- the octets of packets with these units
@@ -51,14 +51,7 @@ packet_entries-push : (at : ℕ) (earlier : List Part) (us : List (List ℕ)) (u
 packet_entries-push at earlier [] u = grind (arith, append-nil)
 packet_entries-push at earlier (v ∷ us) u =
     let parts : List Part = read_parts (units_of v) in
-    let same : at + packet_length v + total_length us ≡ at + (packet_length v + total_length us) = omega arith in
-    ap (λ x. entries_of at earlier v ++ x) (packet_entries-push (at + packet_length v) (earlier ++ parts) us u)
-    ∙ sym (append_assoc (entries_of at earlier v) (packet_entries (at + packet_length v) (earlier ++ parts) us)
-    (entries_of (at + packet_length v + total_length us) ((earlier ++ parts) ++ all_parts us) u))
-    ∙ ap (λ n. (entries_of at earlier v ++ packet_entries (at + packet_length v) (earlier ++ parts) us) ++
-    entries_of n ((earlier ++ parts) ++ all_parts us) u) same
-    ∙ ap (λ ps. (entries_of at earlier v ++ packet_entries (at + packet_length v) (earlier ++ parts) us)
-    ++ entries_of (at + (packet_length v + total_length us)) ps u) (append_assoc earlier parts (all_parts us))
+    grind (arith, append_assoc, packet_entries-push (at + packet_length v) (earlier ++ parts) us u)
 
 -- ---- packets are listed, one after the other
 
@@ -69,18 +62,8 @@ pub moves_both : (old mid new : Work) (a b c r s t : List ℕ) → Moves old a r
 moves_both old mid new a b c r s t h k = record {
   listed = λ stream lines few l.
       let one = h.listed stream lines few l in
-      let two = k.listed stream (lines ++ one.0) few one.2 in (
-        one.0 ++ two.0,
-        two.1 ∙ ap (λ x. x ++ two.0) one.1 ∙ append_assoc a one.0 two.0,
-        subst (λ x. Listed new.streams new.counts new.offset stream x t) (append_assoc lines one.0 two.0) two.2,
-      );
+      let two = k.listed stream (lines ++ one.0) few one.2 in grind (arith, append_assoc);
 }
-
--- the offset after one more packet
-next_place : (stream rest left packet was now : ℕ) → stream < 2 ^ 64 → rest ≤ stream → rest ≡ packet + left →
-    was ≡ offset_of (stream - rest) →
-    now ≡ offset_of (was + packet) → now ≡ offset_of (stream - left)
-next_place stream rest left packet was now few within parts before after = omega arith
 
 pub moves_packet : (old new : Work) (before after rest left u b : List ℕ) → IsPacket u b → rest ≡ b ++ left →
     ((e : List Part) → Holds old.streams e → Says before after old.counts new.counts (Packet old.offset u ∷ read_entries e (units_of u))) →
@@ -91,8 +74,6 @@ moves_packet old new before after rest left u b p parted says holds place = reco
       let parts : List Part = all_parts h.units in
       let total = packets_total h.units stream rest h.packets in
       let size = ap length parted ∙ length-append b left in
-      let packet = ap length p.spelled in
-      let was = h.place in
       let at : old.offset ≡ 0 + total_length h.units = omega arith in
       let said = says parts h.holds in
       let more : List ℕ = flat_map line_of (entries_of old.offset parts u) in
@@ -104,12 +85,9 @@ moves_packet old new before after rest left u b p parted says holds place = reco
           units = h.units ++ u ∷ [];
           packets = packets_more h.units stream rest u b left h.packets p parted;
           says = subst (λ es. Says [] (lines ++ more) none new.counts es) entries
-              (says_both [] lines (lines ++ more) none old.counts new.counts (packet_entries 0 [] h.units) (entries_of old.offset parts u)
-              h.says
-              (record { text = refl; told = said.told }));
+              (search (arith, says_both));
           holds = subst (λ ps. Holds new.streams ps) (sym (all_parts-push h.units u)) (holds parts h.holds);
-          place = next_place (length stream) (length rest) (length left) (packet_length u) old.offset new.offset few (omega arith)
-              (omega arith) h.place place;
+          place = grind arith;
         },
       );
 }
@@ -119,16 +97,11 @@ moves_packet old new before after rest left u b p parted says holds place = reco
 pub nothing_held : (octets piece : List ℕ) → length octets ≡ 0 → octets ++ piece ≡ piece
 nothing_held octets piece e = ap (λ o. o ++ piece) (nil_from_length octets e)
 
--- a piece that completes no packet is held
-pub holds_all : (old new : Held) (piece : List ℕ) (used : ℕ) → IsPartial (old.octets ++ take used piece) × (used ≡ length piece) →
-    Gains old (take used piece) new → IsGoing old → Leaves new (old.octets ++ piece) None
-holds_all old new piece used part gains going = grind (arith, take_all)
-
 pub held_partial : (whole : Bool) (used : ℕ) (old new : Held) (piece : List ℕ) → whole ≡ false →
     MatchBool whole (IsOnePacket (old.octets ++ take used piece)) (IsPartial (old.octets ++ take used piece) × (used ≡ length piece)) →
     Gains old (take used piece) new → IsGoing old → Leaves new (old.octets ++ piece) None
 held_partial true used old new piece e part gains going = cc
-held_partial false used old new piece e part gains going = holds_all old new piece used part gains going
+held_partial false used old new piece e part gains going = grind (arith, take_all)
 
 pub held_whole : (whole : Bool) (used : ℕ) (octets piece : List ℕ) → whole ≡ true →
     MatchBool whole (IsOnePacket (octets ++ take used piece)) (IsPartial (octets ++ take used piece) × (used ≡ length piece)) →
@@ -142,8 +115,7 @@ pub held_rest : (whole : Bool) (used : ℕ) (old new : Held) (rest : List ℕ) �
 held_rest true used old new rest ready without part gains =
     let packet : IsOnePacket (take used rest) = subst (λ o. IsOnePacket (o ++ take used rest)) ready.0 part in
     absurd (without packet.0 (take used rest) (drop used rest) packet.1 (sym (take-append-drop used rest)))
-held_rest false used old new rest ready without part gains =
-    grind (arith, empty_partial, holds_all old new rest used part gains (subst IsPartial (sym ready.0) empty_partial, ready.1))
+held_rest false used old new rest ready without part gains = grind (arith, empty_partial, take_all)
 
 -- a fault other than out of memory is one of the stream
 pub fault_told : (old new : Held) (piece : List ℕ) (f : TpktFault) → f ≢ OutOfMemory → TakesPiece old piece (Err f) new →

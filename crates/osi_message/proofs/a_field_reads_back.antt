@@ -1,17 +1,11 @@
 -- What is written of a field reads back as it.
-use Rattle.std.proofs.Common.{◌≡◌, ◌∙◌, ℕ, ◌+◌, ◌*◌, ◌/◌, ◌%◌, ◌≤◌, Some, option_map, ap, eqb, arith}
-use Rattle.osi_message.proofs.Vocabulary.{bit_and, and_parts, eqb-true, and_assoc, TsduMaximumSize, Wish, TokenSetting, wish_number}
-use Rattle.osi_message.proofs.Vocabulary.{size_octets, setting_octets, written_sizes, named, wish_named, sizes_in, setting_named, first_in}
-
-same_bit : (t b : ℕ) → bit_and 85 b ≡ b → eqb (bit_and (bit_and t 85) b) b ≡ eqb (bit_and t b) b
-same_bit t b e = ap (λ (x : ℕ). eqb x b) (and_assoc b t 85 ∙ ap (bit_and t) e)
+use Rattle.std.proofs.Common.{◌≡◌, ℕ, ◌+◌, ◌*◌, ◌/◌, ◌%◌, ◌≤◌, Some, eqb, arith}
+use Rattle.osi_message.proofs.Vocabulary.{bit_and, and_assoc, TsduMaximumSize, Wish, TokenSetting, wish_number, size_octets, setting_octets}
+use Rattle.osi_message.proofs.Vocabulary.{named, sizes_in, setting_named, first_in}
 
 -- the bits that name no token make no difference
 pub named_again : (t : ℕ) → named (bit_and t 85) ≡ named t
-named_again t = grind (arith, same_bit)
-
-wish_again : (w : Wish) → wish_named (wish_number w) ≡ w
-wish_again w = grind arith
+named_again t = grind (arith, eqb, and_assoc)
 
 pub wish_small : (w : Wish) → wish_number w ≤ 2
 wish_small w = grind arith
@@ -26,16 +20,8 @@ pub setting_again : (s : TokenSetting) → setting_named (first_in (setting_octe
 setting_again s =
     let e = pairs_again (wish_number s.data_token) (wish_number s.minor) (wish_number s.major) (wish_number s.release)
     (wish_small s.data_token) (wish_small s.minor) (wish_small s.major) (wish_small s.release) in
-    let a = ap wish_named e.0 ∙ wish_again s.data_token in
-    let b = ap wish_named e.1 ∙ wish_again s.minor in
-    let c = ap wish_named e.2 ∙ wish_again s.major in
-    let d = ap wish_named e.3 ∙ wish_again s.release in
-    λ i. record { data_token = a i; minor = b i; major = c i; release = d i }
+    grind arith
 
 -- two numbers of two octets are read as the sizes that they represent
 pub sizes_again : (s : TsduMaximumSize) → sizes_in (Some (size_octets s)) ≡ s
 sizes_again s = grind arith
-
--- if nothing is written, both are 0
-pub written_again : (s : TsduMaximumSize) → sizes_in (option_map size_octets (written_sizes s)) ≡ s
-written_again s = grind (arith, and_parts, eqb-true, sizes_again)

@@ -24,12 +24,8 @@ same_pieces (suc f) (suc g) size o some a b =
 abbrev pub all_pieces : ℕ → List ℕ → List (List ℕ)
 all_pieces size o = pieces (length o) size o
 
-step_of : (n size : ℕ) (o : List ℕ) → length o ≡ n → 0 < size → size < length o →
-    pieces n size o ≡ take size o ∷ all_pieces size (drop size o)
-step_of n size o e some long = grind (arith, lt-leb, length-drop, same_pieces)
-
 step : (size : ℕ) (o : List ℕ) → 0 < size → size < length o → all_pieces size o ≡ take size o ∷ all_pieces size (drop size o)
-step size o some long = step_of (length o) size o refl some long
+step size o some long = grind (arith, lt-leb, length-drop, same_pieces)
 
 end_of : (n size : ℕ) (o : List ℕ) → length o ≤ size → pieces n size o ≡ o ∷ []
 end_of n size o short = grind (arith, le-leb)
@@ -40,11 +36,8 @@ pub record IsCons (os : List (List ℕ)) : Type 0 where
   pub tail : List (List ℕ)
   pub is : os ≡ head ∷ tail
 
-cons_if : (b : Bool) (o x : List ℕ) (xs : List (List ℕ)) → IsCons (if b then o ∷ [] else x ∷ xs)
-cons_if b o x xs = grind arith
-
 pub some_piece : (fuel size : ℕ) (o : List ℕ) → IsCons (pieces fuel size o)
-some_piece fuel size o = grind (arith, cons_if)
+some_piece fuel size o = grind arith
 
 -- ---- parts
 
@@ -54,10 +47,6 @@ rest_parts size o = later_parts (all_pieces size o)
 
 pub middle_of : (x : List ℕ) (os : List (List ℕ)) → IsCons os → later_parts (x ∷ os) ≡ part Middle x ∷ later_parts os
 middle_of x os c = subst (λ (l : List (List ℕ)). later_parts (x ∷ l) ≡ part Middle x ∷ later_parts l) (sym c.is) refl
-
-pub rest_step : (size : ℕ) (o : List ℕ) → 0 < size → size < length o →
-    rest_parts size o ≡ part Middle (take size o) ∷ rest_parts size (drop size o)
-rest_step size o some long = grind (arith, step, middle_of, some_piece)
 
 pub rest_end : (size : ℕ) (o : List ℕ) → length o ≤ size → rest_parts size o ≡ part Last o ∷ []
 rest_end size o short = ap later_parts (end_of (length o) size o short)
@@ -82,7 +71,7 @@ parting_begins size all first rest tsdus some long f r t = grind (arith, parts_b
 pub parting_goes_on : (size : ℕ) (all rest piece behind : List ℕ) (old new : List (List ℕ)) → 0 < size → size < length rest
     → piece ≡ take size rest → behind ≡ drop size rest → new ≡ old ++ part_octets Middle piece ∷ []
     → IsParting size all rest old → IsParting size all behind new
-parting_goes_on size all rest piece behind old new some long f r t h = grind (arith, append_assoc, rest_step)
+parting_goes_on size all rest piece behind old new some long f r t h = grind (arith, append_assoc, step, middle_of, some_piece)
 
 -- what has something put after it is not empty
 pub some_put : {A : Type 0} (f : A → List ℕ) (new : List A) (old : List (List ℕ)) (tsdu : List ℕ) → map f new ≡ old ++ tsdu ∷ [] →

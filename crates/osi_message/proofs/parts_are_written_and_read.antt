@@ -1,11 +1,10 @@
 -- Parts of one Data: how they are written and read.
-use Rattle.std.proofs.Common.{◌≡◌, ◌∙◌, refl, sym, ap, ℕ, List, [], ◌∷◌, Some, Result, Ok, arith}
+use Rattle.std.proofs.Common.{◌≡◌, ◌∙◌, refl, ap, ℕ, List, [], ◌∷◌, Some, Result, Ok, arith}
 use Rattle.osi_message.proofs.Vocabulary.{append-nil, DataTransfer, GiveTokens, Enclosure, SpduFault, number_of, is_group, category_of}
 use Rattle.osi_message.proofs.Vocabulary.{codes_of, members_of, required_of, si_of, nothing, put, Contents, Units, canonical, tsdu_at}
-use Rattle.osi_message.proofs.Vocabulary.{written_code, body_octets, unit_octets, tsdu_octets, is_formed, free_len, IsCanonical}
-use Rattle.osi_message.proofs.Vocabulary.{IsFormedUnit, IsFormedTsdu, UnitFits, TsduFits, Place, no_token, GT, says, part, Words}
-use Rattle.osi_message.proofs.Vocabulary.{enclosure_of, part_octets, meaning, word, said_if_read, said_at, said_by_units, unit_with}
-use Rattle.osi_message.proofs.Vocabulary.{behind_tokens}
+use Rattle.osi_message.proofs.Vocabulary.{written_code, body_octets, unit_octets, tsdu_octets, is_formed, free_len, IsFormedUnit}
+use Rattle.osi_message.proofs.Vocabulary.{IsFormedTsdu, UnitFits, TsduFits, Place, no_token, GT, says, part, Words, enclosure_of}
+use Rattle.osi_message.proofs.Vocabulary.{part_octets, meaning, word, said_if_read, said_at, unit_with, behind_tokens}
 use Rattle.osi_message.proofs.what_can_be_sent_has_a_written_form.{HaveRoom, no_value, with_one, no_tokens_fit, behind_formed}
 
 -- ---- how a part is written
@@ -18,17 +17,13 @@ enclosure_good : (place : Place) → canonical Enclosure (enclosure_of place ∷
 unfolding canonical
 enclosure_good place = grind arith
 
-part_good : (place : Place) → IsCanonical (put Enclosure (enclosure_of place ∷ []) nothing)
-unfolding number_of
-part_good place = with_one Enclosure (enclosure_of place ∷ []) nothing (enclosure_good place) refl refl no_value
-
 part_formed : (place : Place) (octets : List ℕ) → IsFormedUnit (part_unit place octets)
 unfolding is_formed codes_of members_of required_of number_of
-part_formed place octets = record { canonical_values = part_good place; formed = refl; informed = tt }
+part_formed place octets = record { canonical_values = grind (arith, no_value, with_one, enclosure_good); formed = refl; informed = tt }
 
 part_fits : HaveRoom → (place : Place) (octets : List ℕ) → UnitFits (part_unit place octets)
 unfolding free_len number_of
-part_fits room place octets = room (part_unit place octets) (part_good place) (omega arith)
+part_fits room place octets = room (part_unit place octets) (grind (arith, no_value, with_one, enclosure_good)) (omega arith)
 
 part_behind : (place : Place) (octets : List ℕ) → IsFormedTsdu (behind_tokens (part_unit place octets))
 unfolding category_of
@@ -48,10 +43,6 @@ tokens_say : word (unit_with GiveTokens nothing) ≡ says (GT no_token)
 unfolding word meaning
 tokens_say = refl
 
-part_units_say : (place : Place) (octets : List ℕ) → said_by_units (behind_tokens (part_unit place octets)) ≡ says (GT no_token) ∷
-    part place octets ∷ []
-part_units_say place octets = λ i. tokens_say i ∷ part_says place octets i ∷ []
-
 -- the octets of a part read back as that part
 pub part_said : HaveRoom → ((units : Units) → IsFormedTsdu units → TsduFits units → tsdu_at (tsdu_octets units) ≡ Ok units)
     → (place : Place) (octets : List ℕ) → said_at (part_octets place octets) ≡ Ok (says (GT no_token) ∷ part place octets ∷ [])
@@ -59,6 +50,5 @@ unfolding said_at
 part_said room again place octets =
     let units = behind_tokens (part_unit place octets) in
     let read : tsdu_at (part_octets place octets) ≡ Ok units =
-    ap tsdu_at (sym (part_written place octets)) ∙
-    again units (part_behind place octets) (no_tokens_fit room, (part_fits room place octets, tt)) in
-    ap said_if_read read ∙ ap {B = Result Words SpduFault} Ok (part_units_say place octets)
+    grind (arith, part_written place octets, part_behind place octets, no_tokens_fit room, part_fits room place octets) in
+    ap said_if_read read ∙ ap {B = Result Words SpduFault} Ok (grind (arith, tokens_say, part_says))

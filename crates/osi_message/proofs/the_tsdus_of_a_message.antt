@@ -1,13 +1,13 @@
 -- What is true of the TSDUs in which a message is sent.
-use Rattle.std.proofs.Common.{◌≡◌, ◌∙◌, refl, sym, ap, subst, ℕ, zero, suc, ◌+◌, ◌-◌, ◌<◌, ◌≤◌, Bool, true, false, not, ◌||◌, if◌then◌else◌}
-use Rattle.std.proofs.Common.{nat_le, List, [], ◌∷◌, ◌++◌, length, take, drop, map, Result, Ok, arith}
+use Rattle.std.proofs.Common.{◌≡◌, refl, sym, ap, subst, ℕ, zero, suc, ◌+◌, ◌-◌, ◌<◌, ◌≤◌, Bool, true, false, not, List, [], ◌∷◌, ◌++◌}
+use Rattle.std.proofs.Common.{length, take, drop, map, Result, Ok, arith}
 use Rattle.osi_message.specs.declared.messages.Message.TheVariants as message
 use Rattle.osi_message.proofs.Vocabulary.{AllByRecursion, leb-true, leb-false, ne_eqb, append-nil, take-append-drop, length-drop}
 use Rattle.osi_message.proofs.Vocabulary.{length-take, IsOctets, octets_cons, octets_take, octets_drop, is_size, tsdu_at, SpduFault, Place}
 use Rattle.osi_message.proofs.Vocabulary.{First, Middle, Last, Message, Meaning, DT, GT, meant_by, no_token, IsInOctets, Word, says, part}
-use Rattle.osi_message.proofs.Vocabulary.{Words, part_octets, word_octets, said_by_units, said_at, IsSendable, words_of, spelled, written}
-use Rattle.osi_message.proofs.Vocabulary.{pieces, later_parts, parts_of, is_whole, is_parted, words_sent, tsdus_of, in_one, AreLater}
-use Rattle.osi_message.proofs.Vocabulary.{AreParts, joined, behind_no_token, AreFull}
+use Rattle.osi_message.proofs.Vocabulary.{Words, part_octets, said_by_units, said_at, IsSendable, words_of, spelled, written, pieces}
+use Rattle.osi_message.proofs.Vocabulary.{later_parts, parts_of, is_whole, is_parted, words_sent, tsdus_of, in_one, AreLater, AreParts}
+use Rattle.osi_message.proofs.Vocabulary.{joined, behind_no_token, AreFull}
 use Rattle.osi_message.proofs.units_of_the_fast_path.{data_written, said_data}
 use Rattle.osi_message.proofs.how_pieces_follow_one_another.{all_pieces, IsCons, some_piece, octets_of, parts_begin}
 
@@ -16,21 +16,15 @@ use Rattle.osi_message.proofs.how_pieces_follow_one_another.{all_pieces, IsCons,
 not_true : (b : Bool) → not b ≡ true → b ≡ false
 not_true b h = grind arith
 
-whole_if : (b : Bool) (m : Meaning) (parts : Words) → not b ≡ false → map word_octets (if b then says m ∷ [] else parts) ≡ in_one m
-whole_if b m parts h = grind arith
-
 -- a message other than data, and data within the limit, is sent in one TSDU
 pub sent_alone : (limit : ℕ) (m : Meaning) → is_parted limit m ≡ false → tsdus_of limit m ≡ in_one m
 unfolding words_sent
-sent_alone limit m h = grind (arith, whole_if)
-
-parts_if : (b : Bool) (whole parts : Words) → not b ≡ true → (if b then whole else parts) ≡ parts
-parts_if b whole parts h = grind arith
+sent_alone limit m h = grind arith
 
 pub words_parted : (limit : ℕ) (octets : List ℕ) → is_parted limit (DT octets) ≡ true →
     words_sent limit (DT octets) ≡ parts_of (all_pieces (limit - 7) octets)
 unfolding words_sent
-words_parted limit octets h = parts_if (is_whole limit octets) (says (DT octets) ∷ []) (parts_of (all_pieces (limit - 7) octets)) h
+words_parted limit octets h = grind arith
 
 -- a message other than data, in memory
 pub message_alone : (limit : ℕ) (m : Message) → ((octets : _) → m ≡ message.Data octets → ⊥) →
@@ -46,9 +40,6 @@ sent_whole limit octets h = sent_alone limit (DT octets) (ap not h)
 pub sent_parted : (limit : ℕ) (octets : List ℕ) → is_whole limit octets ≡ false →
     tsdus_of limit (DT octets) ≡ octets_of (parts_of (pieces (length octets) (limit - 7) octets))
 sent_parted limit octets h = ap octets_of (words_parted limit octets (ap not h))
-
-size_if : (b c : Bool) → (b || c) ≡ true → (b ≡ false) → c ≡ true
-size_if b c h e = grind arith
 
 pub size_of_parts : (limit : ℕ) (octets : List ℕ) → is_size limit ≡ true → is_whole limit octets ≡ false →
     (64 ≤ limit) × (limit ≤ 65535) × (limit < 4 + length octets)
@@ -72,12 +63,7 @@ are_later os c = subst (λ (l : List (List ℕ)). AreLater (later_parts l)) (sym
 pub are_parts : (limit : ℕ) (octets : List ℕ) → is_size limit ≡ true → is_parted limit (DT octets) ≡ true →
     AreParts (words_sent limit (DT octets))
 are_parts limit octets size h =
-    let w : is_whole limit octets ≡ false = not_true (is_whole limit octets) h in
-    subst AreParts
-    (sym (words_parted limit octets h ∙ parts_begin (limit - 7) octets (some_octets limit octets size w)
-    (more_octets limit octets size w)))
-    (are_later (all_pieces (limit - 7) (drop (limit - 7) octets))
-    (some_piece (length (drop (limit - 7) octets)) (limit - 7) (drop (limit - 7) octets)))
+    search (arith, not_true, words_parted, parts_begin, some_octets, more_octets, are_later, all_pieces, some_piece)
 
 -- ---- the octets of all parts together
 
@@ -94,22 +80,14 @@ parts_joined : (os : List (List ℕ)) → joined (parts_of os) ≡ flat os
 unfolding flat
 parts_joined os = grind (arith, later_joined)
 
-flat_if : (b : Bool) (size : ℕ) (o : List ℕ) (os : List (List ℕ)) → flat os ≡ drop size o →
-    flat (if b then o ∷ [] else take size o ∷ os) ≡ o
-unfolding flat
-flat_if b size o os e = grind (arith, append-nil, take-append-drop)
-
 pieces_flat : (fuel size : ℕ) (o : List ℕ) → flat (pieces fuel size o) ≡ o
 unfolding flat
 pieces_flat zero size o = append-nil o
-pieces_flat (suc fuel) size o = grind (arith, flat_if, pieces_flat fuel size (drop size o))
-
-joined_if : (b : Bool) (o : List ℕ) (parts : Words) → joined parts ≡ o → joined (if b then says (DT o) ∷ [] else parts) ≡ o
-joined_if b o parts e = grind (arith, append-nil)
+pieces_flat (suc fuel) size o = grind (arith, append-nil, take-append-drop, pieces_flat fuel size (drop size o))
 
 pub sent_joined : (limit : ℕ) (octets : List ℕ) → joined (words_sent limit (DT octets)) ≡ octets
 unfolding words_sent
-sent_joined limit octets = grind (arith, all_pieces, joined_if, parts_joined, pieces_flat)
+sent_joined limit octets = grind (arith, all_pieces, append-nil, parts_joined, pieces_flat)
 
 -- ---- how they are read
 
@@ -131,40 +109,23 @@ parts_read : ReadAsParts → (os : List (List ℕ)) → map said_at (octets_of (
 parts_read read [] = refl
 parts_read read (x ∷ os) = let a = read First x in let b = later_read read os in λ i. a i ∷ b i
 
-read_if : (b : Bool) (o : List ℕ) (parts : Words) → said_at (written (DT o)) ≡ read_so (says (DT o)) →
-    map said_at (octets_of parts) ≡ map read_so parts
-    → map said_at (octets_of (if b then says (DT o) ∷ [] else parts)) ≡ map read_so (if b then says (DT o) ∷ [] else parts)
-read_if b o parts e h = grind arith
-
 pub sent_read : ((m : Meaning) → IsSendable m → tsdu_at (written m) ≡ Ok (spelled m)) →
     ((m : Meaning) → IsSendable m → said_by_units (spelled m) ≡ words_of m)
     → ReadAsParts → (limit : ℕ) (octets : List ℕ) → map said_at (tsdus_of limit (DT octets)) ≡ map read_so (words_sent limit (DT octets))
 unfolding words_sent
-sent_read read said parts limit octets = grind (arith, all_pieces, read_if, said_data, parts_read)
+sent_read read said parts limit octets = grind (arith, all_pieces, said_data, parts_read)
 
 -- ---- their lengths
-
-full_if : (b : Bool) (size : ℕ) (o : List ℕ) (os : List (List ℕ)) → (b ≡ true → length o ≤ size) → (b ≡ false → size ≤ length o) → IsCons os
-    → AreFull (7 + size) (octets_of (later_parts os)) →
-    AreFull (7 + size) (octets_of (later_parts (if b then o ∷ [] else take size o ∷ os)))
-full_if b size o os short long c h = grind (arith, length-take)
 
 later_full : (fuel size : ℕ) (o : List ℕ) → 0 < size → length o ≤ fuel → AreFull (7 + size) (octets_of (later_parts (pieces fuel size o)))
 later_full zero size o some few = omega (arith, few)
 later_full (suc fuel) size o some few =
     let d = length-drop size o in
-    full_if (nat_le (length o) size) size o (pieces fuel size (drop size o)) (λ h. leb-true (length o) size h)
-    (λ h. let l = leb-false (length o) size h in omega (arith, l))
-    (some_piece fuel size (drop size o)) (later_full fuel size (drop size o) some (omega (arith, few, d, some)))
-
-parts_full : (size : ℕ) (o : List ℕ) → 0 < size → size < length o → AreFull (7 + size) (octets_of (parts_of (all_pieces size o)))
-parts_full size o some long = grind (arith, length-take, parts_begin, later_full)
-
-one_full : (limit : ℕ) (octets : List ℕ) → 0 < limit → is_whole limit octets ≡ true → AreFull limit (in_one (DT octets))
-one_full limit octets some h = grind (arith, leb-true, size_if, ne_eqb, data_written)
+    grind (arith, length-take, leb-true, leb-false, some_piece, later_full fuel size (drop size o) some (omega (arith, few, d, some)))
 
 pub sent_full : (limit : ℕ) (octets : List ℕ) → is_size limit ≡ true → 0 < limit → AreFull limit (tsdus_of limit (DT octets))
-sent_full limit octets size some = grind (arith, sent_whole, one_full, size_of_parts, sent_parted, octets_of, parts_full)
+sent_full limit octets size some =
+    grind (arith, sent_whole, leb-true, ne_eqb, data_written, size_of_parts, sent_parted, octets_of, length-take, parts_begin, later_full)
 
 full_short : (limit most : ℕ) (tsdus : List (List ℕ)) → limit ≤ most → AreFull limit tsdus →
     AllByRecursion (λ (t : List ℕ). length t ≤ most) tsdus
@@ -178,16 +139,12 @@ sent_short limit octets size few = by (is_whole limit octets) refl
   where
     by : (b : Bool) → is_whole limit octets ≡ b → AllByRecursion (λ (t : List ℕ). length t ≤ 1048576) (tsdus_of limit (DT octets))
     by true h =
-        let w = ap length (data_written octets) in
-        subst (AllByRecursion (λ (t : List ℕ). length t ≤ 1048576)) (sym (sent_whole limit octets h)) (omega (arith, w, few), tt)
+        subst (AllByRecursion (λ (t : List ℕ). length t ≤ 1048576)) (sym (sent_whole limit octets h)) (grind (arith, data_written, few), tt)
     by false h =
         let n = size_of_parts limit octets size h in
         full_short limit 1048576 (tsdus_of limit (DT octets)) (omega (arith, n.1)) (sent_full limit octets size (omega (arith, n.0)))
 
 -- ---- their octets
-
-part_is : (place : Place) (o : List ℕ) → IsOctets o → IsOctets (part_octets place o)
-part_is place o h = grind (arith, octets_cons)
 
 pieces_are : (fuel size : ℕ) (o : List ℕ) → IsOctets o → AllByRecursion IsOctets (pieces fuel size o)
 pieces_are zero size o h = (h, tt)
@@ -195,17 +152,10 @@ pieces_are (suc fuel) size o h = grind (arith, octets_take, pieces_are fuel size
 
 later_octets : (os : List (List ℕ)) → AllByRecursion IsOctets os → AllByRecursion IsOctets (octets_of (later_parts os))
 later_octets [] h = tt
-later_octets (x ∷ []) h = (part_is Last x h.0, tt)
-later_octets (x ∷ y ∷ os) h = (part_is Middle x h.0, later_octets (y ∷ os) h.1)
-
-parts_octets : (os : List (List ℕ)) → AllByRecursion IsOctets os → AllByRecursion IsOctets (octets_of (parts_of os))
-parts_octets os h = grind (arith, part_is, later_octets)
-
-octets_if : (b : Bool) (m : Meaning) (parts : Words) → IsOctets (written m) → AllByRecursion IsOctets (octets_of parts)
-    → AllByRecursion IsOctets (octets_of (if b then says m ∷ [] else parts))
-octets_if b m parts h k = grind arith
+later_octets (x ∷ []) h = (grind (arith, octets_cons), tt)
+later_octets (x ∷ y ∷ os) h = (grind (arith, octets_cons), later_octets (y ∷ os) h.1)
 
 -- what is sent is octets, if the message as a whole is
 pub sent_octets : (limit : ℕ) (m : Meaning) → IsInOctets m → IsOctets (written m) → AllByRecursion IsOctets (tsdus_of limit m)
 unfolding words_sent
-sent_octets limit m h k = grind (arith, octets_if, all_pieces, parts_octets, pieces_are)
+sent_octets limit m h k = grind (arith, all_pieces, later_octets, pieces_are)

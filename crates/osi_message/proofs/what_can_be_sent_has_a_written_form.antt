@@ -1,21 +1,20 @@
 -- What can be sent has a written form.
-use Rattle.std.proofs.Common.{◌≡◌, ◌∙◌, refl, sym, ap, subst, ℕ, ◌+◌, ◌<◌, ◌≤◌, ◌==◌, Bool, true, false, cond, List, [], ◌∷◌, length}
-use Rattle.std.proofs.Common.{Option, Some, None, option_map, if◌then◌else◌, arith}
+use Rattle.std.proofs.Common.{◌≡◌, ◌∙◌, refl, sym, ap, subst, ℕ, ◌+◌, ◌<◌, ◌≤◌, Bool, true, false, cond, List, [], ◌∷◌, length, Option}
+use Rattle.std.proofs.Common.{Some, option_map, if◌then◌else◌, arith}
 use Rattle.osi_spdu.specs.declared.codes.Code.TheVariants as code
 use Rattle.osi_spdu.specs.declared.kinds.Category.{Category}
 use Rattle.osi_spdu.specs.declared.kinds.Category.TheVariants.{Two}
 use Rattle.osi_spdu.proofs.basics.the_steps_of_reading.{same_true}
-use Rattle.osi_message.proofs.Vocabulary.{le-leb, lt-ltb, Code, ConnectAcceptItem, SyncType, TokenItem, TransportDisconnect}
-use Rattle.osi_message.proofs.Vocabulary.{ProtocolOptions, UserRequirements, Version, InitialNumber, Number, Reason, CallingSelector}
-use Rattle.osi_message.proofs.Vocabulary.{CalledSelector, UserData, ExtendedUserData, ResyncType, TsduMaximumSize, Kind, GiveTokens}
-use Rattle.osi_message.proofs.Vocabulary.{MinorSyncPoint, TokenSetting, Wish, number_of, is_same, category_of, codes_of, members_of}
-use Rattle.osi_message.proofs.Vocabulary.{required_of, may_stand, digits_of, canonical, wish_number, two_octets, size_octets}
-use Rattle.osi_message.proofs.Vocabulary.{setting_octets, resync_octet, written_sizes, Known, Contents, nothing, put, some_octets}
-use Rattle.osi_message.proofs.Vocabulary.{HasInformation, EndsTsdu, MayFollow, StandTogether, IsCanonical, IsFormedUnit, IsFormedTsdu}
-use Rattle.osi_message.proofs.Vocabulary.{UnitFits, TsduFits, value_len, free_len, is_formed, Tokens, token_octet, Meaning, CN, AC, RF, GT}
-use Rattle.osi_message.proofs.Vocabulary.{PT, MIP, MIA, MAP, MAA, RS, RA, FN, DN, NF, AB, IsSmall, IsNumbered, IsAddress, IsAddressed}
-use Rattle.osi_message.proofs.Vocabulary.{put_some, with_data, terms, numbered, sync_type, unit_with, unit_of, is_second, user_data_of}
-use Rattle.osi_message.proofs.Vocabulary.{alone_units, behind_tokens, spelled, connect_unit}
+use Rattle.osi_message.proofs.Vocabulary.{le-leb, Code, ConnectAcceptItem, SyncType, TokenItem, TransportDisconnect, ProtocolOptions}
+use Rattle.osi_message.proofs.Vocabulary.{Number, Reason, CallingSelector, CalledSelector, UserData, ExtendedUserData, ResyncType}
+use Rattle.osi_message.proofs.Vocabulary.{TsduMaximumSize, GiveTokens, TokenSetting, number_of, is_same, category_of, codes_of, members_of}
+use Rattle.osi_message.proofs.Vocabulary.{required_of, may_stand, digits_of, canonical, wish_number, size_octets, setting_octets}
+use Rattle.osi_message.proofs.Vocabulary.{resync_octet, written_sizes, Known, Contents, nothing, put, some_octets, HasInformation}
+use Rattle.osi_message.proofs.Vocabulary.{MayFollow, StandTogether, IsCanonical, IsFormedUnit, IsFormedTsdu, UnitFits, TsduFits, free_len}
+use Rattle.osi_message.proofs.Vocabulary.{is_formed, Tokens, token_octet, Meaning, CN, AC, RF, GT, PT, MIP, MIA, MAP, MAA, RS, RA, FN, DN}
+use Rattle.osi_message.proofs.Vocabulary.{NF, AB, IsSmall, IsNumbered, IsAddress, IsAddressed, put_some, with_data, terms, numbered}
+use Rattle.osi_message.proofs.Vocabulary.{sync_type, unit_with, unit_of, is_second, user_data_of, alone_units, behind_tokens, spelled}
+use Rattle.osi_message.proofs.Vocabulary.{connect_unit}
 use Rattle.osi_message.proofs.a_field_reads_back.{pairs_again, wish_small}
 use Rattle.osi_message.proofs.what_is_written_means_it.{HaveDigits}
 use Rattle.osi_message.proofs.the_octet_of_a_set_of_tokens.{octet_kept}
@@ -73,23 +72,12 @@ number_good : HaveDigits → (n : ℕ) → n ≤ 999999 → canonical Number (di
 unfolding canonical
 number_good digits n small = ap (option_map digits_of) (digits n small)
 
-serial_good : HaveDigits → (serial : Option ℕ) → IsSmall serial → IsGood InitialNumber (option_map digits_of serial)
-unfolding canonical
-serial_good digits serial small v e = grind (arith, one_good)
-
-not_three : (w : Wish) → (wish_number w == 3) ≡ false
-not_three w = grind arith
-
 setting_good : (s : TokenSetting) → canonical code.TokenSetting (setting_octets s) ≡ Some (setting_octets s)
 unfolding canonical
 setting_good s =
     let e = pairs_again (wish_number s.data_token) (wish_number s.minor) (wish_number s.major) (wish_number s.release)
     (wish_small s.data_token) (wish_small s.minor) (wish_small s.major) (wish_small s.release) in
-    let a = ap (λ (n : ℕ). n == 3) e.0 ∙ not_three s.data_token in
-    let b = ap (λ (n : ℕ). n == 3) e.1 ∙ not_three s.minor in
-    let c = ap (λ (n : ℕ). n == 3) e.2 ∙ not_three s.major in
-    let d = ap (λ (n : ℕ). n == 3) e.3 ∙ not_three s.release in
-    rw (a, b, c, d) refl
+    grind arith
 
 sizes_good : (sizes : TsduMaximumSize) → IsGood code.TsduMaximumSize (option_map size_octets (written_sizes sizes))
 unfolding canonical
@@ -102,10 +90,6 @@ resync_good kind = grind arith
 token_good : (tokens : Tokens) → canonical TokenItem (token_octet tokens ∷ []) ≡ Some (token_octet tokens ∷ [])
 unfolding canonical
 token_good tokens = ap {B = Option (List ℕ)} (λ b. Some (b ∷ [])) (octet_kept tokens)
-
-reason_good : (reason : ℕ) (octets : List ℕ) → canonical Reason (reason ∷ octets) ≡ Some (reason ∷ octets)
-unfolding canonical
-reason_good reason octets = ap (λ (b : Bool). cond b (Some (reason ∷ octets)) None) (lt-ltb 0 (length (reason ∷ octets)) (omega arith))
 
 -- ---- the parameters of each unit
 
@@ -136,10 +120,7 @@ terms_good digits serial setting requirements sizes small =
     with_one ConnectAcceptItem [] _ refl refl refl
     (with_one ProtocolOptions (1 ∷ []) _ refl refl refl
     (with_some code.TsduMaximumSize (option_map size_octets (written_sizes sizes)) _ (sizes_good sizes) refl refl
-    (with_one Version (2 ∷ []) _ refl refl refl
-    (with_some InitialNumber (option_map digits_of serial) _ (serial_good digits serial small) refl refl
-    (with_one code.TokenSetting (setting_octets setting) _ (setting_good setting) refl refl
-    (with_one UserRequirements (two_octets requirements) _ refl refl refl no_value))))))
+    (grind (arith, with_one, with_some, digits_of, setting_good, no_value))))
 
 connect_good : HaveDigits →
     (requirements : ℕ) (serial : Option ℕ) (wishes : TokenSetting) (calling called : Option (List ℕ)) (sizes : TsduMaximumSize)
@@ -156,7 +137,7 @@ tokens_good tokens = with_one TokenItem (token_octet tokens ∷ []) nothing (tok
 
 refuse_good : (reason : ℕ) (octets : List ℕ) → IsCanonical (put TransportDisconnect (1 ∷ []) (put Reason (reason ∷ octets) nothing))
 unfolding canonical number_of
-refuse_good reason octets = grind (arith, with_one, reason_good, no_value)
+refuse_good reason octets = grind (arith, with_one, no_value)
 
 abort_good : (bits : ℕ) → IsCanonical (put TransportDisconnect (bits ∷ []) nothing)
 unfolding canonical number_of
@@ -191,14 +172,9 @@ unit_good digits _ small to = no_value
 
 -- ---- a unit has all mandatory parameters, and only those that it knows
 
-minor_formed : (confirm : Bool) (n : ℕ) (octets : List ℕ) →
-    is_formed MinorSyncPoint (with_data octets (sync_type confirm (numbered n))) ≡ true
-unfolding is_formed codes_of members_of required_of number_of
-minor_formed confirm n octets = grind arith
-
 unit_formed : (m : Meaning) → is_formed (unit_of m).kind (unit_of m).known ≡ true
 unfolding unit_of is_formed codes_of members_of required_of number_of
-unit_formed (MIP confirm n octets) = minor_formed confirm n octets
+unit_formed (MIP confirm n octets) = grind arith
 unit_formed _ = refl
 
 unit_informed : (m : Meaning) → HasInformation (unit_of m).kind (unit_of m).information
@@ -214,16 +190,9 @@ no_tokens_formed = record { canonical_values = no_value; formed = refl; informed
 
 -- ---- and has room
 
-data_len : (octets : List ℕ) → value_len (some_octets (Some octets)) ≤ length octets
-data_len octets = grind arith
-
-minor_len : (confirm : Bool) (n : ℕ) (octets : List ℕ) → free_len (with_data octets (sync_type confirm (numbered n))) ≤ length octets
-unfolding free_len number_of
-minor_len confirm n octets = grind (arith, data_len)
-
 unit_len : (m : Meaning) → free_len (unit_of m).known ≤ 1 + length (user_data_of m)
 unfolding unit_of user_data_of free_len number_of
-unit_len m = grind (arith, data_len, minor_len)
+unit_len m = grind arith
 
 fits : HaveRoom → HaveDigits → (m : Meaning) → IsNumbered m → IsAddressed m → length (user_data_of m) < 65000 → UnitFits (unit_of m)
 fits room digits m small to few = room (unit_of m) (unit_good digits m small to) (let l = unit_len m in omega arith)
@@ -242,16 +211,13 @@ first_place : (m : Meaning) → is_second m ≡ false → may_stand false (categ
 unfolding is_second unit_of category_of may_stand
 first_place m h0 = grind arith
 
-ends_none : (kind : Kind) → EndsTsdu kind []
-ends_none kind = grind arith
-
 follows_none : (category : Category) → may_stand false category ≡ true → MayFollow category []
 unfolding may_stand
 follows_none category h0 = grind arith
 
 pub behind_formed : (unit : Contents) → category_of unit.kind ≡ Two → IsFormedUnit unit → IsFormedTsdu (behind_tokens unit)
 unfolding StandTogether category_of
-behind_formed unit two is = record { together = (omega arith, (two, ends_none unit.kind, tt)); formed = (no_tokens_formed, (is, tt)) }
+behind_formed unit two is = record { together = (omega arith, (two, grind arith, tt)); formed = (no_tokens_formed, (is, tt)) }
 
 alone_formed : (unit : Contents) → may_stand false (category_of unit.kind) ≡ true → IsFormedUnit unit → IsFormedTsdu (alone_units unit)
 unfolding StandTogether
@@ -264,8 +230,7 @@ place_formed false m s is = alone_formed (unit_of m) (first_place m s) is
 
 place_fits : HaveRoom → (b : Bool) (m : Meaning) → UnitFits (unit_of m) →
     TsduFits (if b then behind_tokens (unit_of m) else alone_units (unit_of m))
-place_fits room true m fit = (no_tokens_fit room, (fit, tt))
-place_fits room false m fit = (fit, tt)
+place_fits room b m fit = grind (arith, no_tokens_fit)
 
 pub spelled_formed : HaveDigits → (m : Meaning) → IsNumbered m → IsAddressed m → IsFormedTsdu (spelled m)
 unfolding spelled

@@ -14,7 +14,6 @@ pub use Rattle.std.proofs.lemmas.List.Folds.{list_any-append}
 pub use Rattle.std.proofs.lemmas.List.Sums.{sum_by-cons}
 pub use Rattle.std.proofs.lemmas.Nat.{and_le_r}
 pub use Rattle.std.proofs.lemmas.Option.{slice_get_read}
-pub use Rattle.std.specs.Int.RustNames.{bit_and}
 pub use Rattle.std.specs.List.{AllByRecursion, flat_map, list_any, slice_get}
 pub use Rattle.std.specs.Prelude.{IfSome, List, None, nat_le, ◌≡◌}
 pub use Rattle.osi_tpkt.proofs.a_prefix_of_a_packet.{completed_partial, empty_partial, partial_not_whole}
@@ -23,14 +22,14 @@ pub use Rattle.osi_tpkt.proofs.a_stream_is_cut_in_one_way.{one_list}
 pub use Rattle.osi_tpkt.specs.Held.{Held}
 pub use Rattle.osi_tpkt.specs.Octets.{IsOctets}
 pub use Rattle.osi_tpkt.specs.Packet.{IsFaultOf, IsPacket, IsPartial, packet_of}
-pub use Rattle.osi_tpkt.specs.Stream.{ArePackets, offset_of}
+pub use Rattle.osi_tpkt.specs.Stream.{ArePackets}
 pub use Rattle.osi_tpkt.specs.declared.cutting.Fed.{Fed}
 pub use Rattle.osi_tpkt.specs.declared.faults.TpktFault.{TpktFault}
 pub use Rattle.osi_tpdu.specs.Limits.{tsap_octets}
-pub use Rattle.osi_tpdu.specs.Value.{Value, acknowledge, confirm, data0, data2, disconnect, disconnected, request}
+pub use Rattle.osi_tpdu.specs.Value.{Value, acknowledge, confirm, data0, data2, disconnect, request}
 pub use Rattle.osi_tpdu.specs.declared.tsaps.Tsap.{Tsap}
-pub use Rattle.osi_class.specs.Between.{IsShortTsdu, swapped}
-pub use Rattle.osi_class.specs.Link.{Given, unit_of, Standing as Link}
+pub use Rattle.osi_class.specs.Between.{IsShortTsdu}
+pub use Rattle.osi_class.specs.Link.{Given, Standing as Link}
 pub use Rattle.osi_class.specs.declared.terms.Class.{Class}
 pub use Rattle.osi_class.specs.declared.terms.Class.TheVariants.{Two, Zero}
 pub use Rattle.osi_class.specs.declared.terms.Local.{Local}
@@ -60,8 +59,8 @@ pub use Rattle.osi_between.proofs.zero.the_one_connection_of_class_0.{one_place}
 pub use Rattle.osi_between.specs.Addresses.{reference_of, units_of}
 pub use Rattle.osi_between.specs.Between.{Acted, AreBetween, AreJoinedBy, Between, Both, Carries, IsAllThere, IsOnTheWay, IsStill, Same}
 pub use Rattle.osi_between.specs.Between.{Took, answers_in, arriving, becomes, broken_at, fresh_between, fresh_both, handed_over, is_cut}
-pub use Rattle.osi_between.specs.Between.{last_of, lost_from, put_in, reach_of, side, still_to_tell, to_come, told_of, under_way}
-pub use Rattle.osi_between.specs.Between.{units_from, with_side, within_reach}
+pub use Rattle.osi_between.specs.Between.{last_of, lost_from, put_in, side, still_to_tell, to_come, told_of, under_way, units_from}
+pub use Rattle.osi_between.specs.Between.{with_side}
 pub use Rattle.osi_between.specs.Course.{Course, Holds, IsTsap, accepting, asking, at_end, from_end, met, progress_of, withdrawing}
 pub use Rattle.osi_between.specs.Joined.{AreJoined}
 pub use Rattle.osi_between.specs.Meeting.{Meeting, addressed, here, leaving, left_here, left_there, mirror, out, parted, talking}
@@ -85,7 +84,7 @@ pub use Rattle.osi_message.specs.InOctets.{IsInOctets}
 pub use Rattle.osi_message.specs.Meanings.{AA, AB, CN, DT, GT, Meaning, RF}
 pub use Rattle.osi_message.specs.Parting.{AreLater, AreParts, is_parted, joined, tsdus_of, tsdus_sent}
 unfoldable pub use Rattle.osi_message.specs.Parting.{words_sent}
-pub use Rattle.osi_message.specs.Reading.{Said, names, said_by_units, said_if_read, word}
+pub use Rattle.osi_message.specs.Reading.{Said, said_by_units, said_if_read}
 unfoldable pub use Rattle.osi_message.specs.Reading.{said_at}
 pub use Rattle.osi_message.specs.Sendable.{IsSendable, said_of, words_of}
 pub use Rattle.osi_message.specs.Words.{Words, part_octets, says, word_octets}
@@ -99,15 +98,13 @@ pub use Rattle.osi_session.proofs.tables.what_is_true_of_each_phase.{excluded, i
 pub use Rattle.osi_session.proofs.sent.what_an_accepted_call_sends.{limit_sized}
 pub use Rattle.osi_session.proofs.tsdu.how_many_indications.{words_show}
 pub use Rattle.osi_session.proofs.tables.messages_act_as_the_table_says.{kept_none, moves_as_whole, others, word_behind, words_of_message}
-pub use Rattle.osi_session.specs.Allowed.{AllHold, Answer, Passed, needs, octets_of, sends, Step as SessionStep}
+pub use Rattle.osi_session.specs.Allowed.{Answer, Passed, octets_of, Step as SessionStep}
 unfoldable pub use Rattle.osi_session.specs.Allowed.{allowed}
-pub use Rattle.osi_session.specs.Calls.{Abort, Accept, Call, HasSerial, Refuse, called_by, Unspecified, Congestion, WithData}
-pub use Rattle.osi_session.specs.Calls.{refusal_reason}
-pub use Rattle.osi_session.specs.Joining.{joined_octets, respond_word}
-pub use Rattle.osi_session.specs.Kept.{IsJoined, IsJoinedAs, IsKept, IsKeptIn, IsNoFault, discards}
-pub use Rattle.osi_session.specs.Listening.{Listener, came, came_as, taker_of}
-pub use Rattle.osi_session.specs.Moves.{Input, Move, Standing, after_input, answered, begun, broken, called, denied, opened, refused, rests}
-pub use Rattle.osi_session.specs.Moves.{taken}
+pub use Rattle.osi_session.specs.Calls.{Call, HasSerial, called_by, refusal_reason}
+pub use Rattle.osi_session.specs.Joining.{respond_word}
+pub use Rattle.osi_session.specs.Kept.{IsJoined, IsJoinedAs, IsKept, IsKeptIn, IsNoFault}
+pub use Rattle.osi_session.specs.Listening.{Listener, came, came_as}
+pub use Rattle.osi_session.specs.Moves.{Input, Move, Standing, after_input, begun, broken, called, opened, refused, taken}
 unfoldable pub use Rattle.osi_session.specs.Moves.{react}
 pub use Rattle.osi_session.specs.Parts.{part_comes}
 pub use Rattle.osi_session.specs.Phases.{is_aborting, is_ended, is_over, is_wait_transport, may_hold, shows_loss}
@@ -117,13 +114,11 @@ unfoldable pub use Rattle.osi_session.specs.Respond.{respond_fault}
 pub use Rattle.osi_session.specs.Runs.{HasNumbersInWords}
 pub use Rattle.osi_session.specs.Sessions.{CanBeSent, awaits as awaits_cn}
 pub use Rattle.osi_session.specs.Shown.{Lost, Shown, shown_by}
-pub use Rattle.osi_session.specs.Sizes.{answered_sizes, limit_of}
+pub use Rattle.osi_session.specs.Sizes.{limit_of}
 pub use Rattle.osi_session.specs.Sound.{IsSound as IsSoundState}
-pub use Rattle.osi_session.specs.Units.{functional_units, has_data}
 unfoldable pub use Rattle.osi_session.specs.Units.{is_profile}
 pub use Rattle.osi_session.specs.Whole.{in_words, is_apart, listening}
 pub use Rattle.osi_session.specs.declared.faults.CallError.{CallError}
-pub use Rattle.osi_session.specs.declared.phases.Phase.{Phase}
 pub use Rattle.osi_session.specs.declared.requests.Request.{Request}
 pub use Rattle.osi_session.specs.declared.state.State.{State as SessionState}
 pub use Rattle.osi_machine.proofs.tables.data_behind_is_no_fault.{called_calm, left_is, over_calm}
@@ -146,11 +141,10 @@ pub use Rattle.osi_machine.specs.Machine.{with_connection}
 pub use Rattle.osi_machine.specs.Runs.{is_loss, loses}
 pub use Rattle.osi_machine.specs.Sayings.{units_in, IsHeardAsSaid}
 pub use Rattle.osi_machine.specs.Tables.{Line, Seat, Tables, Turn, after_end, after_turn, asked_in, asked_with, awaits, call_in, closes_by}
-pub use Rattle.osi_machine.specs.Tables.{cut_channels, end_of, ended_lines, ends_there, made, message_taken, puts, refusal, run, seen_from}
+pub use Rattle.osi_machine.specs.Tables.{cut_channels, end_of, ended_lines, ends_there, message_taken, puts, refusal, run, seen_from}
 pub use Rattle.osi_machine.specs.Tables.{shortened, shown_in_order, side_of, start, stays, step, transport_of, turned, unseen}
 pub use Rattle.osi_machine.specs.Tables.{without_first, noted as noted_in}
-pub use Rattle.osi_machine.specs.Views.{is_side}
-pub use Rattle.osi_machine.specs.Worlds.{Message, Transport, World, accepts, agree, ask, bye, deny, over, put, replied, unit, waiting}
+pub use Rattle.osi_machine.specs.Worlds.{Message, Transport, agree, ask, bye, deny, over, put, replied, unit, waiting}
 pub use Rattle.osi_stack.proofs.in_step.what_is_seen_is_the_same.{quieted_at}
 pub use Rattle.osi_stack.proofs.stream.how_calls_end_an_end.{stops_not, in_room, pieces_end}
 pub use Rattle.osi_stack.proofs.carried.events_one_after_the_other.{never_starved, starved_over}
@@ -160,8 +154,8 @@ pub use Rattle.osi_stack.proofs.called.tsdus_that_are_handed_together.{handed, h
 pub use Rattle.osi_stack.proofs.in_step.lines_that_are_gone_do_not_matter.{kept_first, quieted_apart, quieted_up}
 pub use Rattle.osi_stack.proofs.each_session.what_has_joined_is_open.{came_by}
 pub use Rattle.osi_stack.proofs.carried.what_sessions_leave_of_the_carrier.{hears_keep}
-pub use Rattle.osi_stack.proofs.carried.packets_without_events.{both, or_second, packet_is, quiet_attends}
-pub use Rattle.osi_stack.proofs.carried.open_connections_stay_open.{Stays, apart_push, apart_put, used_at, used_by}
+pub use Rattle.osi_stack.proofs.carried.packets_without_events.{or_second, packet_is, quiet_attends}
+pub use Rattle.osi_stack.proofs.carried.open_connections_stay_open.{apart_push, apart_put, used_at, used_by}
 pub use Rattle.osi_stack.proofs.carried.what_a_move_leaves.{Readings, are_lost, came_is, used_live, one_heard}
 pub use Rattle.osi_stack.proofs.opening.connections_that_units_open.{first_here}
 pub use Rattle.osi_stack.proofs.each_line.references_rise.{rise_joins, rise_push}
@@ -170,17 +164,17 @@ pub use Rattle.osi_stack.proofs.stream.an_end_is_what_its_packets_make.{calls_re
 pub use Rattle.osi_stack.proofs.called.what_is_sent_is_short.{SpduLaws, sent_short}
 pub use Rattle.osi_stack.proofs.sound.the_invariant_is_kept.{packet_rises, up_more}
 pub use Rattle.osi_stack.specs.Calls.{after_open, call_error, calls_with, carried, connect_error, first_shown, has_given, held_by, is_long}
-pub use Rattle.osi_stack.specs.Calls.{numbers_of, session_error, session_refusal, table_error}
+pub use Rattle.osi_stack.specs.Calls.{numbers_of, session_refusal, table_error}
 pub use Rattle.osi_stack.specs.Coming.{after_unit, carries_out}
 pub use Rattle.osi_stack.specs.Feeding.{Feeds, FindsNoMemory, Refuses, RunsDry, StopsBehind, TakesPackets, stops, uses_all}
 pub use Rattle.osi_stack.specs.Folds.{AllCameAbout, CameAbout}
 pub use Rattle.osi_stack.specs.Hearing.{RunsOut, Starves, after_packet, all_lost, attends, concludes, hears, hears_first, hears_next}
 pub use Rattle.osi_stack.specs.Hearing.{hears_times, opens, shown_at_loss, starves, with_carrier, with_events, ends as ends_end}
 pub use Rattle.osi_stack.specs.Links.{AreApart, IsSound, Soundness, needs_link}
-pub use Rattle.osi_stack.specs.Messages.{Says, kept_at, put_by, told_all}
+pub use Rattle.osi_stack.specs.Messages.{Says, kept_at, told_all}
 pub use Rattle.osi_stack.specs.Moving.{answers, by_line, limit_for, line_after, line_by, to_session}
 pub use Rattle.osi_stack.specs.Needs.{needs_memory}
-pub use Rattle.osi_stack.specs.Runs.{feeding, telling, CallsInRoom, used_in, told_in, carried_in, carrying, Calls, HasRoom, put_back}
+pub use Rattle.osi_stack.specs.Runs.{feeding, telling, CallsInRoom, used_in, told_in, carried_in, carrying, Calls, HasRoom}
 pub use Rattle.osi_stack.specs.State.{End, Holding, IsAttended, fresh_end, fresh_line, is_used, joined_in, joined_live, joined_of}
 pub use Rattle.osi_stack.specs.State.{session_at, session_in, used_lines, waits, Line as EndLine}
 pub use Rattle.osi_stack.specs.Transport.{answers_by}
@@ -193,13 +187,12 @@ pub use Rattle.osi_pair.specs.Carrying.{CarriesFrom, CarriesPiece, CarriesPieces
 pub use Rattle.osi_pair.specs.Ends.{TwoEnds, after_break, after_call, after_connect, answer_with, called_by_error, connected_by, end_at}
 pub use Rattle.osi_pair.specs.Ends.{fresh_ends, noted, reachable, sent_by, with_end}
 pub use Rattle.osi_pair.specs.Entries.{Entry, asks, entry_by, shows}
-pub use Rattle.osi_pair.specs.Events.{Adds, CarriesAsMuch, CarriesWhereQuiet, Does, HearsOfBreak, IsToldOfBreak, Moves, TellsBreak}
-pub use Rattle.osi_pair.specs.Events.{WantsMemory, error_by_rule, misfit, misfit_break, misfit_told}
+pub use Rattle.osi_pair.specs.Events.{Adds, CarriesAsMuch, CarriesWhereQuiet, Does, HearsOfBreak, IsToldOfBreak, TellsBreak, WantsMemory}
+pub use Rattle.osi_pair.specs.Events.{error_by_rule, misfit}
 pub use Rattle.osi_pair.specs.Memory.{ends_in}
 pub use Rattle.osi_pair.specs.Promises.{AgreeUnlessDuplex, AllWereAskedFor, AreAtRest, AreTakenInOrder, ConfirmedIsSeen, EndsForFewReasons}
 pub use Rattle.osi_pair.specs.Promises.{HasNoFault, HaveOneHolder, IsAllTaken, IsLegalJournal, IsOpenAt, IsSeenThere, IsShownAsAsked}
-pub use Rattle.osi_pair.specs.Promises.{LoseAsTheyEnd, OfEachConnection, begun_of, confirmed_at, ending_of, is_fault, journal_in, kept_of}
-pub use Rattle.osi_pair.specs.Promises.{taken_by, with_word}
+pub use Rattle.osi_pair.specs.Promises.{LoseAsTheyEnd, OfEachConnection, begun_of, ending_of, is_fault, journal_in, kept_of, taken_by}
 pub use Rattle.osi_pair.specs.Reached.{HoldLess, IsReached}
 pub use Rattle.osi_pair.specs.Reaching.{reach_after, within}
 pub use Rattle.osi_pair.specs.Running.{AreStepsOf, HappenAll, Happens, RunsThrough, StandsBehind}

@@ -8,15 +8,14 @@ pub use Rattle.std.specs.Option.{option_and_then}
 pub use Rattle.std.specs.Prelude.{OnErr, is_none, is_some}
 pub use Rattle.osi_message.proofs.numbers_are_those_of_points.{meant_numbered, units_numbered}
 pub use Rattle.osi_message.specs.Meanings.{AA, AB, AC, CN, DN, DT, FN, GT, MAA, MAP, MIA, MIP, Meaning, NF, PT, RA, RF, RS, meant_by}
-pub use Rattle.osi_message.specs.Meanings.{selector_octets}
 pub use Rattle.osi_message.specs.Numbered.{AreNumbered, AreNumberedWords, IsNumbered, IsNumberedWord, IsSmall}
 pub use Rattle.osi_message.specs.Parting.{AreFull, in_one, is_parted, is_whole, tsdus_of, tsdus_sent}
 unfoldable pub use Rattle.osi_message.specs.Parting.{words_sent}
 pub use Rattle.osi_message.specs.Plain.{plain_said, plain_word}
-pub use Rattle.osi_message.specs.Reading.{Said, alone, behind, meaning_by, names, place_of, said_by_units, said_if_read, word_at}
+pub use Rattle.osi_message.specs.Reading.{Said, alone, behind, meaning_by, names, said_by_units, said_if_read}
 unfoldable pub use Rattle.osi_message.specs.Reading.{meaning, said_at, word}
-pub use Rattle.osi_message.specs.Sendable.{IsAddress, IsAddressed, IsSendable, is_of_version_2, is_sized, said_of, words_of}
-pub use Rattle.osi_message.specs.Tokens.{Token, data_token, each, has, major, minor, no_token, release, set_of}
+pub use Rattle.osi_message.specs.Sendable.{IsSendable, said_of, words_of}
+pub use Rattle.osi_message.specs.Tokens.{Token, has, no_token, set_of}
 unfoldable pub use Rattle.osi_message.specs.Tokens.{is_disjoint, is_empty, is_within, token_octet, united, without}
 pub use Rattle.osi_message.specs.Words.{Word, Words, as_message, part, part_octets, says}
 pub use Rattle.osi_message.specs.Written.{spelled, written}
@@ -29,13 +28,12 @@ pub use Rattle.osi_spdu.specs.Groups.{GivesBehind, behind_of, first_of, units_be
 pub use Rattle.osi_spdu.specs.Kinds.{si_of}
 unfoldable pub use Rattle.osi_spdu.specs.Kinds.{category_of}
 pub use Rattle.osi_spdu.specs.Known.{Contents, Known, Units}
-pub use Rattle.osi_spdu.specs.Reading.{Placed, behind_at, contents_of, continued, ended, unit_at}
 unfoldable pub use Rattle.osi_spdu.specs.Reading.{tsdu_at}
 pub use Rattle.osi_spdu.specs.Sizes.{are_sizes, named_by}
 pub use Rattle.osi_spdu.specs.Values.{is_size}
 pub use Rattle.osi_spdu.specs.declared.faults.SpduFault.{SpduFault}
 pub use Rattle.osi_spdu.specs.declared.fields.TsduMaximumSize.{TsduMaximumSize}
-pub use Rattle.osi_spdu.specs.declared.kinds.Category.TheVariants.{One, Two, Zero}
+pub use Rattle.osi_spdu.specs.declared.kinds.Category.TheVariants.{Two, Zero}
 pub use Rattle.osi_spdu.specs.declared.kinds.Kind.{Kind}
 pub use Rattle.osi_spdu.specs.declared.settings.TokenSetting.{TokenSetting}
 pub use Rattle.osi_session.specs.Allowed.{AllHold, Answer, Passed, Step, Test, after, first_error, has_right, is_confirmable}
@@ -43,48 +41,47 @@ pub use Rattle.osi_session.specs.Allowed.{is_restartable, last_number, may_call,
 pub use Rattle.osi_session.specs.Allowed.{opened_with, sends, sized}
 unfoldable pub use Rattle.osi_session.specs.Allowed.{allowed, met}
 pub use Rattle.osi_session.specs.Calls.{Abort, Accept, Call, Data, Give, HasSerial, Major, MajorConfirm, Minor, MinorConfirm, Please}
-pub use Rattle.osi_session.specs.Calls.{Refuse, Release, ReleaseAccept, ReleaseRefuse, Restart, RestartConfirm, called_by, refusal_octets}
-pub use Rattle.osi_session.specs.Causes.{asks_first, asks_for_connection, call_gives, call_holds, call_opens, call_renews, is_taken}
-pub use Rattle.osi_session.specs.Causes.{opens_connection, renews, some_word, to_answerer, to_asker, unit_asks, unit_gives, unit_holds}
-pub use Rattle.osi_session.specs.Causes.{unit_opens, unit_renews}
+pub use Rattle.osi_session.specs.Calls.{Refuse, Release, ReleaseAccept, ReleaseRefuse, Restart, RestartConfirm, called_by}
+pub use Rattle.osi_session.specs.Causes.{asks_for_connection, call_gives, call_holds, call_opens, call_renews, is_taken, opens_connection}
+pub use Rattle.osi_session.specs.Causes.{renews, some_word, to_answerer, to_asker, unit_asks, unit_gives, unit_holds, unit_opens}
+pub use Rattle.osi_session.specs.Causes.{unit_renews}
 pub use Rattle.osi_session.specs.Closing.{awaits_close, closes_alone, is_answer, may_close, may_close_word}
-pub use Rattle.osi_session.specs.Joining.{Hearing, Taker, begins_anew, drops_parts, enacted_word, enclosure_conditions, good_word, heard}
-pub use Rattle.osi_session.specs.Joining.{heard_then, idle, is_in_place, is_last, is_restart_word, joined_by, joined_octets, kept_in}
-pub use Rattle.osi_session.specs.Joining.{respond_came, respond_tsdu, word_conditions, word_verdict}
+pub use Rattle.osi_session.specs.Joining.{Hearing, Taker, begins_anew, drops_parts, enacted_word, good_word, heard, heard_then, idle}
+pub use Rattle.osi_session.specs.Joining.{is_in_place, is_last, is_restart_word, joined_by, joined_octets, kept_in, respond_came}
+pub use Rattle.osi_session.specs.Joining.{respond_tsdu, word_conditions, word_verdict}
 unfoldable pub use Rattle.osi_session.specs.Joining.{acting_words, respond_word, respond_words}
 pub use Rattle.osi_session.specs.Kept.{IsJoined, IsJoinedAs, IsKept, IsKeptIn, IsNoFault, discards}
 pub use Rattle.osi_session.specs.Listening.{Input, Listener, Move, after_input, after_inputs, answered, begun, broken, called, came}
 pub use Rattle.osi_session.specs.Listening.{came_as, denied, in_state, is_opened, moved, opened, refused, rests, taken, taker_of, unread}
 unfoldable pub use Rattle.osi_session.specs.Listening.{react}
-pub use Rattle.osi_session.specs.Numbers.{from_base, lower}
+pub use Rattle.osi_session.specs.Numbers.{lower}
 unfoldable pub use Rattle.osi_session.specs.Numbers.{major_confirmed, minor_confirmed, point_sent, point_taken, restarted_at}
 pub use Rattle.osi_session.specs.Openings.{asked_for}
 pub use Rattle.osi_session.specs.Parts.{Act, AreAlike, AreParts, AreSilent, HasProfile, IsOfProfile, act_in_octets, act_in_words, calls}
 pub use Rattle.osi_session.specs.Parts.{calls_in, comes, has_profile, part_comes}
-pub use Rattle.osi_session.specs.Phases.{every_phase, in_major, is_aborting, is_answering, is_connecting, is_ended, is_major_asked}
-pub use Rattle.osi_session.specs.Phases.{is_major_due, is_over, is_ready, is_release_due, is_releasing, is_restart_due, is_restarting}
-pub use Rattle.osi_session.specs.Phases.{is_settled, is_wait_cn, is_wait_transport, may_abort, may_ask, may_confirm_minor, may_give}
-pub use Rattle.osi_session.specs.Phases.{may_hold, may_restart, shows_loss, takes_data, takes_minor_ack, takes_restart}
-pub use Rattle.osi_session.specs.Points.{PlansPoint, advanced, all_hold, call_for, has_next, in_numbers, may_advance, only_shows}
+pub use Rattle.osi_session.specs.Phases.{every_phase, in_major, is_aborting, is_answering, is_ended, is_major_asked, is_major_due, is_over}
+pub use Rattle.osi_session.specs.Phases.{is_ready, is_releasing, is_restart_due, is_restarting, is_wait_cn, is_wait_transport, may_abort}
+pub use Rattle.osi_session.specs.Phases.{may_ask, may_confirm_minor, may_hold, shows_loss, takes_data, takes_minor_ack}
+pub use Rattle.osi_session.specs.Points.{PlansPoint, advanced, call_for, has_next, may_advance, only_shows}
 pub use Rattle.osi_session.specs.Respond.{AllMet, Condition, IsGood, Outcome, Verdict, and_then, bad, becomes, by_fault, closes_for}
 pub use Rattle.osi_session.specs.Respond.{conditions, dropped, drops, enacted, faulty, fine, first_fault, first_reply, good, has_no_effect}
-pub use Rattle.osi_session.specs.Respond.{in_aborting, in_ended, is_acceptable, is_acknowledgeable, is_expected, is_faulty, is_nil}
-pub use Rattle.osi_session.specs.Respond.{is_resynchronize, is_silent, is_token_item, judged, kind_of, lost, nothing, over, replies_abort}
-pub use Rattle.osi_session.specs.Respond.{reply_for, respond, shown_for, shows, si, verdict}
+pub use Rattle.osi_session.specs.Respond.{in_aborting, in_ended, is_acknowledgeable, is_expected, is_faulty, is_nil, is_resynchronize}
+pub use Rattle.osi_session.specs.Respond.{is_silent, is_token_item, judged, kind_of, lost, nothing, over, replies_abort, reply_for, respond}
+pub use Rattle.osi_session.specs.Respond.{shows, si, verdict}
 unfoldable pub use Rattle.osi_session.specs.Respond.{acting, respond_all, respond_fault, respond_unit, stands, take_expected}
 pub use Rattle.osi_session.specs.Runs.{HasNumbers, HasNumbersInWords, IsFresh}
 pub use Rattle.osi_session.specs.Sessions.{CanBeSent, IsPlanOf, Planned, Refused, RefusedBy, Takes, asking, awaiting, is_memory, lone}
 pub use Rattle.osi_session.specs.Sessions.{lone_of, takes_memory}
 unfoldable pub use Rattle.osi_session.specs.Sessions.{unit_in}
-pub use Rattle.osi_session.specs.Shown.{Aborted, BadUnit, Lost, MinorConfirmed, PeerAbort, Shown, is_connect, shown_by, shows_connect}
+pub use Rattle.osi_session.specs.Shown.{MinorConfirmed, Shown, shown_by, shows_connect}
 unfoldable pub use Rattle.osi_session.specs.Room.{most_whole, most_within}
 pub use Rattle.osi_session.specs.Sizes.{fits_limit, is_bounded, is_data, limit_of, smaller}
 unfoldable pub use Rattle.osi_session.specs.Sizes.{answered_sizes, smaller_sizes}
 pub use Rattle.osi_session.specs.Sound.{AreOrdered, IsSound}
 pub use Rattle.osi_session.specs.State.{without_tokens}
-pub use Rattle.osi_session.specs.Steps.{Hears, Reacts, hearing_of, hearing_of_all, joined_after, outcome_of, outcome_of_all, shown_list}
-pub use Rattle.osi_session.specs.Steps.{step_of, takes_room, told_of, word_by}
-pub use Rattle.osi_session.specs.Units.{functional_units, has_points, units_within}
+pub use Rattle.osi_session.specs.Steps.{Reacts, hearing_of, hearing_of_all, outcome_of, outcome_of_all, shown_list, step_of, takes_room}
+pub use Rattle.osi_session.specs.Steps.{told_of, word_by}
+pub use Rattle.osi_session.specs.Units.{functional_units}
 unfoldable pub use Rattle.osi_session.specs.Units.{available, both_units, has_data, is_profile}
 pub use Rattle.osi_session.specs.Whole.{in_words, is_apart, joins, listening, standing_of}
 pub use Rattle.osi_session.specs.declared.faults.CallError.{CallError}

@@ -1,7 +1,7 @@
 -- What the proofs of this crate take from the library, from the crates below and from its own definitions.
 pub use Rattle.std.proofs.lemmas.Bool.{and_from, and_left, and_parts, and_right, both_ways, cases_Bool, cases_lt, eq-eqb, eqb-false}
-pub use Rattle.std.proofs.lemmas.Bool.{eqb-true, le-leb, le-ltb, leb-true, lt-leb, lt-ltb, ltb-false, ltb-true, ne_eqb, not-true, or_cases}
-pub use Rattle.std.proofs.lemmas.Bool.{or_left, or_parts, or_right}
+pub use Rattle.std.proofs.lemmas.Bool.{eqb-true, le-leb, le-ltb, leb-true, lt-ltb, ltb-false, ltb-true, ne_eqb, not-true, or_cases, or_left}
+pub use Rattle.std.proofs.lemmas.Bool.{or_parts, or_right}
 pub use Rattle.std.proofs.lemmas.Grind.{common_steps}
 pub use Rattle.std.proofs.lemmas.List.{append-nil, drop_all, drop_at, drop_more, get_or-drop, get_or-take, get_or_past, length-append}
 pub use Rattle.std.proofs.lemmas.List.{length-drop, length-set, length-take, length-take-le, nil_from_length, take-append-drop, take_all}
@@ -18,19 +18,18 @@ unfoldable pub use Rattle.osi_spdu.specs.Codes.{is_group, number_of, slot_of}
 pub use Rattle.osi_spdu.specs.Faults.{Failing, HasNoValue, IsBodyFault, IsCrowded, IsFaultAfter, IsFaultBehind, IsFirstFault}
 pub use Rattle.osi_spdu.specs.Faults.{IsFirstMissing, IsItemFault, IsLevelFault, IsNamedFault, IsUnitFault, IsValueFault, indicator_len}
 unfoldable pub use Rattle.osi_spdu.specs.Faults.{FailsInGroup, FailsInUnit}
-pub use Rattle.osi_spdu.specs.Fields.{enclosure_octet, reason_octets, resync_octet, setting_octets, sync_octet, token_octets, tokens_alone}
-pub use Rattle.osi_spdu.specs.Fields.{wish_number}
+pub use Rattle.osi_spdu.specs.Fields.{setting_octets, token_octets, tokens_alone, wish_number}
 pub use Rattle.osi_spdu.specs.Found.{later_of, placed_of}
 pub use Rattle.osi_spdu.specs.Groups.{units_behind, units_from, units_of}
-pub use Rattle.osi_spdu.specs.Kinds.{later_kinds, one_kind, references_of}
+pub use Rattle.osi_spdu.specs.Kinds.{references_of}
 unfoldable pub use Rattle.osi_spdu.specs.Kinds.{category_of, codes_of, kind_named, may_stand, members_of, required_of, si_of}
 pub use Rattle.osi_spdu.specs.Known.{Contents, Known, Units, nothing, put, settled, some_octets}
 pub use Rattle.osi_spdu.specs.Made.{accept_params, connect_params, made}
 pub use Rattle.osi_spdu.specs.Octets.{octets_of}
-pub use Rattle.osi_spdu.specs.Params.{count_of, filled, has_octets, lent_len, no_params, present}
+pub use Rattle.osi_spdu.specs.Params.{filled, has_octets, lent_len, no_params, present}
 unfoldable pub use Rattle.osi_spdu.specs.Params.{cells_of, is_settled, known_of, place_of, slots_of}
 pub use Rattle.osi_spdu.specs.Reading.{Gives, Measured, Next, Placed, Taking, code_among, contents_of, continued, counted_at, crowded}
-pub use Rattle.osi_spdu.specs.Reading.{ended, judged, member_taken, next_if, parameter_taken, params_of, placed_kind, takes_rest, ◌>>=◌}
+pub use Rattle.osi_spdu.specs.Reading.{judged, member_taken, next_if, parameter_taken, params_of, placed_kind, takes_rest, ◌>>=◌}
 unfoldable pub use Rattle.osi_spdu.specs.Reading.{
   all_there,
   behind_at,
@@ -52,12 +51,11 @@ unfoldable pub use Rattle.osi_spdu.specs.Spelling.{MeansInGroup, MeansInUnit, Sp
 pub use Rattle.osi_spdu.specs.UnitLengths.{AreHeld, AreLengths, body_length}
 unfoldable pub use Rattle.osi_spdu.specs.UnitLengths.{held}
 pub use Rattle.osi_spdu.specs.Units.{said_by}
-pub use Rattle.osi_spdu.specs.Values.{any_octet, as_it_is, decimal, is_digit, is_numeral, is_setting, is_three, kept_if, may_have_parts}
-pub use Rattle.osi_spdu.specs.Values.{numeral, octet_if, six_digits, token_bits}
+pub use Rattle.osi_spdu.specs.Values.{any_octet, as_it_is, decimal, is_digit, is_numeral, is_setting, numeral, octet_if, six_digits}
+pub use Rattle.osi_spdu.specs.Values.{token_bits}
 unfoldable pub use Rattle.osi_spdu.specs.Values.{canonical, canonical_in, decimal_from, digits_of, may_enclose, significant}
 pub use Rattle.osi_spdu.specs.Writing.{IsCanonical, IsFormedTsdu, IsFormedUnit, TsduFits, UnitFits, among, is_enclosed, is_informed}
-pub use Rattle.osi_spdu.specs.Writing.{is_zero, may_be_there, member_octets, members_octets, parameter_octets, value_len, value_octets}
-pub use Rattle.osi_spdu.specs.Writing.{written_item}
+pub use Rattle.osi_spdu.specs.Writing.{is_zero, may_be_there, member_octets, parameter_octets, value_len, value_octets}
 unfoldable pub use Rattle.osi_spdu.specs.Writing.{
   body_octets,
   free_len,
@@ -70,19 +68,16 @@ unfoldable pub use Rattle.osi_spdu.specs.Writing.{
 }
 pub use Rattle.osi_spdu.specs.declared.behind.Behind.{Behind}
 pub use Rattle.osi_spdu.specs.declared.codes.Code.{Code}
-pub use Rattle.osi_spdu.specs.declared.codes.Code.TheVariants.{AdditionalReference, CalledReference, CalledSelector, CallingReference}
-pub use Rattle.osi_spdu.specs.declared.codes.Code.TheVariants.{CallingSelector, CommonReference, ConnectAcceptItem, ConnectionIdentifier}
-pub use Rattle.osi_spdu.specs.declared.codes.Code.TheVariants.{Enclosure, ExtendedUserData, InitialNumber, Number, ProtocolOptions, Reason}
-pub use Rattle.osi_spdu.specs.declared.codes.Code.TheVariants.{Reflect, ResyncType, SyncType, TokenItem, TokenSetting, TransportDisconnect}
+pub use Rattle.osi_spdu.specs.declared.codes.Code.TheVariants.{CalledSelector, CallingSelector, ConnectAcceptItem, ConnectionIdentifier}
+pub use Rattle.osi_spdu.specs.declared.codes.Code.TheVariants.{Enclosure, ExtendedUserData, InitialNumber, Number, ProtocolOptions}
+pub use Rattle.osi_spdu.specs.declared.codes.Code.TheVariants.{ResyncType, SyncType, TokenItem, TokenSetting, TransportDisconnect}
 pub use Rattle.osi_spdu.specs.declared.codes.Code.TheVariants.{TsduMaximumSize, UserData, UserRequirements, Version}
 pub use Rattle.osi_spdu.specs.declared.faults.SpduFault.{SpduFault}
 pub use Rattle.osi_spdu.specs.declared.faults.SpduFault.TheVariants.{BadConcatenation, BadValue, DuplicateParameter, LengthPastEnd}
-pub use Rattle.osi_spdu.specs.declared.faults.SpduFault.TheVariants.{MissingParameter, TrailingOctets, UnknownSi}
+pub use Rattle.osi_spdu.specs.declared.faults.SpduFault.TheVariants.{MissingParameter, TrailingOctets}
 pub use Rattle.osi_spdu.specs.declared.groups.Group.{Group}
 pub use Rattle.osi_spdu.specs.declared.kinds.Category.{Category}
 pub use Rattle.osi_spdu.specs.declared.kinds.Category.TheVariants.{One, Two, Zero}
 pub use Rattle.osi_spdu.specs.declared.kinds.Kind.{Kind}
-pub use Rattle.osi_spdu.specs.declared.kinds.Kind.TheVariants.{Abort, AbortAccept, Accept, Connect, DataTransfer, Disconnect, Finish}
-pub use Rattle.osi_spdu.specs.declared.kinds.Kind.TheVariants.{GiveTokens, MajorSyncAck, MajorSyncPoint, MinorSyncAck, MinorSyncPoint}
-pub use Rattle.osi_spdu.specs.declared.kinds.Kind.TheVariants.{NotFinished, PleaseTokens, Refuse, Resynchronize, ResynchronizeAck}
+pub use Rattle.osi_spdu.specs.declared.kinds.Kind.TheVariants.{Accept, Connect}
 pub use Rattle.osi_spdu.specs.declared.params.Params.{Params}

@@ -1,19 +1,17 @@
 -- What the proofs of this crate take from the library, from the crates below and from its own definitions.
-pub use Rattle.std.proofs.lemmas.Bool.{and_parts, cases_Bool, cases_eq, cases_lt, eq-eqb, eqb-false, eqb-true, false≢true, le-leb, le-ltb}
-pub use Rattle.std.proofs.lemmas.Bool.{leb-false, leb-true, lt-leb, ltb-false, ltb-true, ne_eqb, not-false, or_parts}
-pub use Rattle.std.proofs.lemmas.List.{append-nil, drop_all, drop_at, get_or-drop, get_or-take, get_or_past, length-append, length-drop}
-pub use Rattle.std.proofs.lemmas.List.{drop-drop, drop-take, length-take, length-take-le, map-append, take-append-drop, take_all, take_at}
+pub use Rattle.std.proofs.lemmas.Bool.{and_parts, cases_Bool, cases_eq, eq-eqb, eqb-false, eqb-true, false≢true, le-leb, le-ltb, leb-false}
+pub use Rattle.std.proofs.lemmas.Bool.{leb-true, lt-leb, ltb-false, ltb-true, ne_eqb, not-false, or_parts}
+pub use Rattle.std.proofs.lemmas.List.{append-nil, drop_all, drop_at, length-append, length-drop, drop-drop, drop-take, length-take}
+pub use Rattle.std.proofs.lemmas.List.{length-take-le, map-append, take-append-drop, take_all, take_at}
 pub use Rattle.std.proofs.lemmas.Result.{err_from_is_err_and}
-pub use Rattle.std.specs.Bool.{OnFalse}
 pub use Rattle.std.specs.List.{AllByRecursion, flat_map}
-pub use Rattle.std.specs.Prelude.{IfSome, IsOk, IsTrue, filter, is_ok, is_some, map, option_map, option_to_list}
+pub use Rattle.std.specs.Prelude.{IfSome, IsOk, IsTrue, is_ok, is_some, option_to_list}
 pub use Rattle.osi_tpkt.proofs.lists_of_octets_stay_octets.{octets_append, octets_drop, octets_left, octets_nil, octets_right, octets_take}
 pub use Rattle.osi_tpkt.specs.Octets.{IsOctets}
 pub use Rattle.osi_tpdu.specs.Faults.{Acknowledge, Additional, Alternative, BeginsUnit, BeginsWith, Called, Calling, Confirm, Disconnect}
 pub use Rattle.osi_tpdu.specs.Faults.{Disconnected, HasBadIndicator, HasBadLength, HasBadValue, HasCode, HasFault, HasHeader, HasItemFault}
-pub use Rattle.osi_tpdu.specs.Faults.{HasNoHeader, HasNoItem, HasParameterFault, HasParametersBehind, HasUnknownCode, IsFirst, IsRepeated}
-pub use Rattle.osi_tpdu.specs.Faults.{IsUnitFault, Kind, LooksAtParameters, MayBeLong, MayCount, MayHold, Parameter, Report, Request, Size}
-pub use Rattle.osi_tpdu.specs.Faults.{StandsBefore, Transfer, code_of, place_of}
+pub use Rattle.osi_tpdu.specs.Faults.{HasNoHeader, HasParameterFault, HasParametersBehind, IsFirst, IsUnitFault, Kind, LooksAtParameters}
+pub use Rattle.osi_tpdu.specs.Faults.{MayBeLong, MayCount, MayHold, Parameter, Report, Request, Size, Transfer, code_of, place_of}
 pub use Rattle.osi_tpdu.specs.Packet.{AreLeads, AreUnits, Follows, IsFirstFault}
 unfoldable pub use Rattle.osi_tpdu.specs.Packet.{units_at, units_of}
 pub use Rattle.osi_tpdu.specs.Reading.{all_skipped_at, known_at, no_parameters, reference_at, used_by, ◌>>=◌}

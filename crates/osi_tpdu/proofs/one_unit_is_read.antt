@@ -2,14 +2,14 @@
 use Rattle.std.proofs.Common.{◌≡◌, ℕ, ◌+◌, ◌*◌, ◌/◌, ◌%◌, ◌<◌, ◌≤◌, Bool, true, false, cond, eqb, ltb, leb, List, [], ◌∷◌, ◌++◌}
 use Rattle.std.proofs.Common.{length, get_or, take, drop, Result, Ok, Err, refl, sym, ap, subst, ◌∙◌, arith, inl, inr}
 use Rattle.osi_tpkt.specs.Unit.{IsAtFront}
-use Rattle.osi_tpdu.proofs.Vocabulary.{flat_map, OnFalse, ltb-false, leb-true, leb-false, le-leb, lt-leb, le-ltb, eqb-true, eqb-false}
-use Rattle.osi_tpdu.proofs.Vocabulary.{ne_eqb, or_parts, cases_Bool, append-nil, take_at, drop_at, length-append, take-append-drop}
-use Rattle.osi_tpdu.proofs.Vocabulary.{length-take, length-take-le, take_all, drop_all, IsOctets, octets_take, octets_drop, octets_left}
-use Rattle.osi_tpdu.proofs.Vocabulary.{octets_right, TpduFault, BadLi, UnknownCode, Parameters, Connect, Value, request, confirm}
-use Rattle.osi_tpdu.proofs.Vocabulary.{disconnect, disconnected, data0, data2, acknowledge, error, user_data, may_be_followed, IsReference}
-use Rattle.osi_tpdu.proofs.Vocabulary.{IsConnect, HasFieldsInRange, Item, Means, item_octets, two, below_bit, connect_part, IsHeader}
-use Rattle.osi_tpdu.proofs.Vocabulary.{Spells, header_at, reference_at, known_at, all_skipped_at, connect_of, request_of, confirm_of}
-use Rattle.osi_tpdu.proofs.Vocabulary.{disconnect_of, disconnected_of, transfer_of, acknowledge_of, error_of, value_of, unit_at, Follows}
+use Rattle.osi_tpdu.proofs.Vocabulary.{flat_map, ltb-false, leb-true, leb-false, le-leb, lt-leb, le-ltb, eqb-true, eqb-false, ne_eqb}
+use Rattle.osi_tpdu.proofs.Vocabulary.{or_parts, cases_Bool, append-nil, take_at, drop_at, length-append, take-append-drop, length-take}
+use Rattle.osi_tpdu.proofs.Vocabulary.{length-take-le, take_all, drop_all, IsOctets, octets_take, octets_drop, octets_left, octets_right}
+use Rattle.osi_tpdu.proofs.Vocabulary.{TpduFault, BadLi, UnknownCode, Parameters, Connect, Value, request, confirm, disconnect}
+use Rattle.osi_tpdu.proofs.Vocabulary.{disconnected, data0, data2, acknowledge, error, user_data, may_be_followed, IsReference, IsConnect}
+use Rattle.osi_tpdu.proofs.Vocabulary.{HasFieldsInRange, Item, Means, item_octets, two, below_bit, connect_part, IsHeader, Spells}
+use Rattle.osi_tpdu.proofs.Vocabulary.{header_at, reference_at, known_at, all_skipped_at, connect_of, request_of, confirm_of, disconnect_of}
+use Rattle.osi_tpdu.proofs.Vocabulary.{disconnected_of, transfer_of, acknowledge_of, error_of, value_of, unit_at, Follows}
 use Rattle.osi_tpdu.proofs.the_steps_of_reading.{bind_ok, unless_ok, when_ok, chosen, ok_is, IsOctets-rest}
 use Rattle.osi_tpdu.proofs.parameters_are_read_as_they_mean.{known_found, known_only, skipped_found, skipped_only}
 
@@ -33,47 +33,21 @@ split_two : (h : List ℕ) → 2 ≡ length h → h ≡ get_or h 0 0 ∷ get_or 
 split_two (a ∷ b ∷ []) e = refl
 split_two h e = absurd (omega arith)
 
-high_of : (a b : ℕ) → b < 256 → a ≡ (256 * a + b) / 256
-high_of a b lt = omega arith
-
-low_of : (a b : ℕ) → b < 256 → b ≡ (256 * a + b) % 256
-low_of a b lt = omega arith
-
 two_again : (n : ℕ) → 256 * (n / 256) + n % 256 ≡ n
 two_again n = omega arith
 
-is_reference : (a b : ℕ) → a < 256 → b < 256 → IsReference (256 * a + b)
-is_reference a b la lb = omega arith
-
 two_is : (a b : ℕ) → b < 256 → a ∷ b ∷ [] ≡ two (256 * a + b)
-two_is a b lt = grind (arith, high_of, low_of)
-
-front_four : (h : List ℕ) → IsOctets h → 4 ≤ length h → h ≡ get_or h 0 0 ∷ two (reference_at 1 h) ++ (get_or h 3 0 ∷ drop 4 h)
-front_four h octets le = grind (arith, two_is)
+two_is a b lt = grind arith
 
 front_five : (h : List ℕ) → IsOctets h → length h ≡ 5 → h ≡ get_or h 0 0 ∷ two (reference_at 1 h) ++ two (reference_at 3 h)
-front_five (a ∷ b ∷ c ∷ d ∷ e ∷ []) octets le = let first = two_is b c (octets 2) in let second =
-    two_is d e (octets 4) in λ i. a ∷ first i ++ second i
+front_five (a ∷ b ∷ c ∷ d ∷ e ∷ []) octets le = grind (arith, two_is b c (octets 2), two_is d e (octets 4))
 front_five h octets le = absurd (omega arith)
 
-front_six : (h : List ℕ) → IsOctets h → 6 ≤ length h → h ≡ get_or h 0 0 ∷ two (reference_at 1 h) ++ two (reference_at 3 h) ++
-    (get_or h 5 0 ∷ drop 6 h)
-front_six h octets le = grind (arith, two_is)
-
 first_reference : (header : List ℕ) → IsOctets header → IsReference (reference_at 1 header)
-first_reference header octets = is_reference (get_or header 1 0) (get_or header 2 0) (octets 1) (octets 2)
-
-second_reference : (header : List ℕ) → IsOctets header → IsReference (reference_at 3 header)
-second_reference header octets = is_reference (get_or header 3 0) (get_or header 4 0) (octets 3) (octets 4)
+first_reference header octets = grind arith
 
 bit_above : (o : ℕ) → o < 256 → o ≡ below_bit (leb 128 o) (o % 128)
 bit_above o lt = grind (arith, cases_Bool, leb-true, leb-false)
-
-bit_read : (b : Bool) (n : ℕ) → n < 128 → leb 128 (below_bit b n) ≡ b
-bit_read b n lt = grind (arith, le-leb, lt-leb)
-
-number_read : (b : Bool) (n : ℕ) → n < 128 → below_bit b n % 128 ≡ n
-number_read b n lt = grind arith
 
 -- ---- found: what the fields of a unit were read from
 
@@ -105,13 +79,11 @@ connect_found : (at half : ℕ) (header user : List ℕ) (c : Connect) → get_o
 unfolding connect_of
 connect_found at half header user c code octets behind e =
     let a = unless_ok (ltb (length header) 6) (BadLi at) _ c e in
-    let long : 6 ≤ length header = ltb-false _ _ a.0 in
     let b = bind_ok (known_at (at + 7) (drop 6 header)) (λ p. Ok (content header p user)) c a.1 in
     let p = b.0 in
     let f = known_found (at + 7) (drop 6 header) p (octets_drop 6 header octets) b.1 in
     let o0 = get_or header 0 0 in
     let o5 = get_or header 5 0 in
-    let l5 : o5 < 256 = octets 5 in
     let e0 : o0 ≡ 16 * half + o0 % 16 = omega arith in
     let e5 : o5 ≡ 16 * (o5 / 16) + o5 % 16 = omega arith in
     let made = content header p user in
@@ -121,15 +93,8 @@ connect_found at half header user c code octets behind e =
     subst (λ (c' : Connect). ConnectRead (16 * half) header user c') (ok_is made c b.2) (record {
       items = f.0;
       means = f.2;
-      header_is = front_six header octets long ∙ pieces;
-      in_range = record {
-        credit = omega arith;
-        source = second_reference header octets;
-        class = omega arith;
-        options = omega arith;
-        parameters = f.3;
-        user = behind;
-      };
+      header_is = (grind (arith, two_is)) ∙ pieces;
+      in_range = search arith;
       user_is = refl;
     })
 
@@ -140,23 +105,14 @@ request_found : (at : ℕ) (header behind : List ℕ) → get_or header 0 0 / 16
 unfolding request_of
 request_found at header behind code v octets back e =
     let b = bind_ok (connect_of at header behind) (λ c. Ok (request c)) v e in
-    let r = connect_found at 14 header behind b.0 code octets back b.1 in
-    subst (λ (w : Value). IsRead w header behind) (ok_is (request b.0) v b.2) (record {
-      fields = (reference_at 1 header, r.items, r.means, r.header_is);
-      in_range = r.in_range;
-      user = r.user_is;
-    })
+    grind (arith, connect_found at 14 header behind b.0 code octets back b.1, ok_is (request b.0) v b.2)
 
 confirm_found : (at : ℕ) (header behind : List ℕ) → get_or header 0 0 / 16 ≡ 13 → Reading (confirm_of at) header behind
 unfolding confirm_of
 confirm_found at header behind code v octets back e =
     let b = bind_ok (connect_of at header behind) (λ c. Ok (confirm (reference_at 1 header) c)) v e in
     let r = connect_found at 13 header behind b.0 code octets back b.1 in
-    subst (λ (w : Value). IsRead w header behind) (ok_is (confirm (reference_at 1 header) b.0) v b.2) (record {
-      fields = (r.items, r.means, r.header_is);
-      in_range = (first_reference header octets, r.in_range);
-      user = r.user_is;
-    })
+    subst (λ (w : Value). IsRead w header behind) (ok_is (confirm (reference_at 1 header) b.0) v b.2) (grind (arith, first_reference))
 
 disconnect_found : (at : ℕ) (header behind : List ℕ) → get_or header 0 0 ≡ 0x80 → Reading (disconnect_of at) header behind
 unfolding disconnect_of
@@ -165,31 +121,17 @@ disconnect_found at header behind code v octets back e =
     let a = unless_ok (ltb (length header) 6) (BadLi at) _ v e in
     let b = bind_ok (all_skipped_at (at + 7) (drop 6 header)) (λ skipped. Ok made) v a.1 in
     let f = skipped_found (at + 7) (drop 6 header) (octets_drop 6 header octets) b.1 in
-    let pieces : get_or header 0 0 ∷ two (reference_at 1 header) ++ two (reference_at 3 header) ++ (get_or header 5 0 ∷ drop 6 header)
-    ≡ 0x80 ∷ [] ++ two (reference_at 1 header) ++ two (reference_at 3 header) ++ (get_or header 5 0 ∷ []) ++ flat_map item_octets f.0 =
-    λ i. code i ∷ two (reference_at 1 header) ++ two (reference_at 3 header) ++ (get_or header 5 0 ∷ f.1 i) in
-    subst (λ (w : Value). IsRead w header behind) (ok_is made v b.2) (record {
-      fields = (f.0, front_six header octets (ltb-false _ _ a.0) ∙ pieces);
-      in_range = (first_reference header octets, second_reference header octets, octets 5, back);
-      user = refl;
-    })
+    grind (arith, ok_is, two_is, first_reference)
 
 disconnected_found : (at : ℕ) (header behind : List ℕ) → get_or header 0 0 ≡ 0xC0 → Reading (λ h b. disconnected_of at h) header behind
 unfolding disconnected_of
-disconnected_found at header behind code v octets back e =
-    grind (arith, when_ok, ok_is, front_five, eqb-true, first_reference, second_reference)
+disconnected_found at header behind code v octets back e = search (arith, when_ok, ok_is, front_five, eqb-true, first_reference)
 
 data0_found : (header behind : List ℕ) → get_or header 0 0 ≡ 0xF0 → length header ≡ 2 → IsOctets header → IsOctets behind →
     IsRead (data0 (leb 128 (get_or header 1 0)) behind) header behind
 data0_found header behind code len octets back =
     let o1 = get_or header 1 0 in
-    let e1 = bit_above o1 (octets 1) in
-    let pieces : get_or header 0 0 ∷ o1 ∷ [] ≡ 0xF0 ∷ below_bit (leb 128 o1) (o1 % 128) ∷ [] = λ i. code i ∷ e1 i ∷ [] in
-    record {
-      fields = (o1 % 128, omega arith, split_two header (sym len) ∙ pieces);
-      in_range = back;
-      user = refl;
-    }
+    grind (arith, bit_above o1 (octets 1), leb 128 o1, split_two header (sym len))
 
 data2_found : (header behind : List ℕ) → get_or header 0 0 ≡ 0xF0 → length header ≡ 4 → IsOctets header → IsOctets behind
     → IsRead (data2 (reference_at 1 header) (get_or header 3 0 % 128) (leb 128 (get_or header 3 0)) behind) header behind
@@ -207,33 +149,13 @@ acknowledge_found at header behind code v octets back e =
     let made = acknowledge (o0 % 16) (reference_at 1 header) (o3 % 128) in
     let a = when_ok (eqb (length header) 4) (BadLi at) (Ok made) v e in
     let len : length header ≡ 4 = eqb-true _ _ a.0 in
-    let e0 : o0 ≡ 0x60 + o0 % 16 = omega arith in
     let e3 = bit_above o3 (octets 3) in
-    let none = drop_all 4 header (omega arith) in
-    let pieces : o0 ∷ two (reference_at 1 header) ++ (o3 ∷ drop 4 header) ≡ (0x60 + o0 % 16) ∷ [] ++ two (reference_at 1 header) ++
-    (below_bit (leb 128 o3) (o3 % 128) ∷ []) =
-    λ i. e0 i ∷ two (reference_at 1 header) ++ (e3 i ∷ none i) in
-    subst (λ (w : Value). IsRead w header behind) (ok_is made v a.1) (record {
-      fields = (leb 128 o3, front_four header octets (omega arith) ∙ pieces);
-      in_range = (omega arith, first_reference header octets, omega arith);
-      user = refl;
-    })
+    grind (arith, two_is, drop_all 4 header (omega arith), leb 128 o3, ok_is made v a.1, first_reference header octets)
 
 error_found : (at : ℕ) (header behind : List ℕ) → get_or header 0 0 ≡ 0x70 → Reading (λ h b. error_of at h) header behind
 unfolding error_of
 error_found at header behind code v octets back e =
-    let made = error (reference_at 1 header) (get_or header 3 0) in
-    let a = unless_ok (ltb (length header) 4) (BadLi at) _ v e in
-    let b = bind_ok (all_skipped_at (at + 5) (drop 4 header)) (λ skipped. Ok made) v a.1 in
-    let f = skipped_found (at + 5) (drop 4 header) (octets_drop 4 header octets) b.1 in
-    let pieces : get_or header 0 0 ∷ two (reference_at 1 header) ++ (get_or header 3 0 ∷ drop 4 header) ≡ 0x70 ∷ [] ++
-    two (reference_at 1 header) ++ (get_or header 3 0 ∷ []) ++ flat_map item_octets f.0 =
-    λ i. code i ∷ two (reference_at 1 header) ++ (get_or header 3 0 ∷ f.1 i) in
-    subst (λ (w : Value). IsRead w header behind) (ok_is made v b.2) (record {
-      fields = (f.0, front_four header octets (ltb-false _ _ a.0) ∙ pieces);
-      in_range = (first_reference header octets, octets 3);
-      user = refl;
-    })
+    search (arith, unless_ok, bind_ok, skipped_found, ok_is, two_is, first_reference, ltb (length header) 4, octets_drop 4 header octets)
 
 value_found : (at : ℕ) (header behind : List ℕ) → Reading (value_of at) header behind
 unfolding value_of
@@ -281,10 +203,7 @@ confirm_only : (at : ℕ) (header behind : List ℕ) (destination : ℕ) (c : Co
     header ≡ connect_part 0xD0 destination c ++ flat_map item_octets items → IsConnect c → Means c.parameters items
     → c.user ≡ behind → value_of at header behind ≡ Ok (confirm destination c)
 unfolding value_of confirm_of
-confirm_only at header behind destination c items header_is fits means user =
-    let code : (0xD0 + c.credit) / 16 ≡ 13 = omega (arith, fits.credit) in
-    let read = connect_only at 0xD0 destination c items fits means refl in
-    rw (header_is, ← user, code, read) (ap (λ (d : ℕ). ok (confirm d c)) (two_again destination))
+confirm_only at header behind destination c items header_is fits means user = grind (arith, connect_only, two_again)
 
 disconnect_only : (at : ℕ) (destination source reason : ℕ) (user : List ℕ) (items : List Item)
     → value_of at (0x80 ∷ [] ++ two destination ++ two source ++ (reason ∷ []) ++ flat_map item_octets items) user ≡ Ok
@@ -300,50 +219,25 @@ disconnected_only at destination source behind = grind (arith, two_again)
 data0_only : (at number : ℕ) (end : Bool) (user : List ℕ) → number < 128 →
     value_of at (0xF0 ∷ below_bit end number ∷ []) user ≡ Ok (data0 end user)
 unfolding value_of transfer_of
-data0_only at number end user lt = ap (λ (b : Bool). ok (data0 b user)) (bit_read end number lt)
+data0_only at number end user lt = ap (λ (b : Bool). ok (data0 b user)) (grind (arith, le-leb, lt-leb))
 
 data2_only : (at destination number : ℕ) (end : Bool) (user : List ℕ) → number < 128
     → value_of at (0xF0 ∷ [] ++ two destination ++ (below_bit end number ∷ [])) user ≡ Ok (data2 destination number end user)
 unfolding value_of transfer_of
-data2_only at destination number end user lt = grind (arith, two_again, bit_read, number_read)
+data2_only at destination number end user lt = grind (arith, two_again)
 
 acknowledge_only : (at credit destination number : ℕ) (ignored : Bool) (behind : List ℕ) → credit < 16 → number < 128
     → value_of at ((0x60 + credit) ∷ [] ++ two destination ++ (below_bit ignored number ∷ [])) behind ≡ Ok
     (acknowledge credit destination number)
 unfolding value_of acknowledge_of
-acknowledge_only at credit destination number ignored behind fits lt = search (arith, two_again, number_read)
+acknowledge_only at credit destination number ignored behind fits lt = search (arith, two_again)
 
 error_only : (at destination cause : ℕ) (items : List Item) (behind : List ℕ)
     → value_of at (0x70 ∷ [] ++ two destination ++ (cause ∷ []) ++ flat_map item_octets items) behind ≡ Ok (error destination cause)
 unfolding value_of error_of
 error_only at destination cause items behind = grind (arith, le-ltb, two_again, skipped_only)
 
-value_only : (at : ℕ) (v : Value) (header behind : List ℕ) → IsHeader v header → HasFieldsInRange v →
-    user_data v ≡ cond (may_be_followed v) [] behind → value_of at header behind ≡ Ok v
-value_only at (request c) header behind f r user = request_only at header behind f.0 c f.1 f.3 r f.2 user
-value_only at (confirm destination c) header behind f r user = confirm_only at header behind destination c f.0 f.2 r.1 f.1 user
-value_only at (disconnect destination source reason user) header behind f r e =
-    ap (λ (h : List ℕ). value_of at h behind) f.1 ∙
-    ap (λ (u : List ℕ). value_of at (0x80 ∷ [] ++ two destination ++ two source ++ (reason ∷ []) ++ flat_map item_octets f.0) u)
-    (sym e) ∙ disconnect_only at destination source reason user f.0
-value_only at (disconnected destination source) header behind f r e = ap (λ (h : List ℕ). value_of at h behind) f ∙
-    disconnected_only at destination source behind
-value_only at (data0 end user) header behind f r e =
-    ap (λ (h : List ℕ). value_of at h behind) f.2 ∙ ap (λ (u : List ℕ). value_of at (0xF0 ∷ below_bit end f.0 ∷ []) u) (sym e) ∙
-    data0_only at f.0 end user f.1
-value_only at (data2 destination number end user) header behind f r e =
-    ap (λ (h : List ℕ). value_of at h behind) f ∙
-    ap (λ (u : List ℕ). value_of at (0xF0 ∷ [] ++ two destination ++ (below_bit end number ∷ [])) u) (sym e) ∙
-    data2_only at destination number end user r.1
-value_only at (acknowledge credit destination number) header behind f r e =
-    ap (λ (h : List ℕ). value_of at h behind) f.1 ∙ acknowledge_only at credit destination number f.0 behind r.0 r.2
-value_only at (error destination cause) header behind f r e = ap (λ (h : List ℕ). value_of at h behind) f.1 ∙
-    error_only at destination cause f.0 behind
-
 -- ---- whole units
-
-header_least : (v : Value) (header : List ℕ) → IsHeader v header → 1 ≤ length header
-header_least v header f = grind arith
 
 abbrev Measured : Type 0
 Measured = Value × ℕ
@@ -376,9 +270,7 @@ unit_found at b x octets e =
     let whole : IsOctets (length header ∷ header ++ behind) = subst (λ (s : List ℕ). IsOctets s) h.0 octets in
     let inner = IsOctets-rest (length header) (header ++ behind) whole in
     let r = value_found at header behind q.0 (octets_left header behind inner) (octets_right header behind inner) q.1 in
-    let s = stands q.0 header behind (may_be_followed q.0) refl r h.1 h.2 whole in
-    let there : Stands b (measured q.0 header b) = subst (λ (c : List ℕ). Stands c (measured q.0 header c)) (sym h.0) s in
-    subst (λ (y : Measured). Stands b y) (ok_is (measured q.0 header b) x q.2) there
+    grind (arith, stands q.0 header behind (may_be_followed q.0) refl r h.1 h.2 whole, ok_is (measured q.0 header b) x q.2)
 
 lead_user : (v : Value) → may_be_followed v ≡ true → user_data v ≡ []
 lead_user v e = grind arith
@@ -387,55 +279,52 @@ read_again : (at : ℕ) (v : Value) (header behind : List ℕ) → IsHeader v he
     user_data v ≡ cond (may_be_followed v) [] behind
     → unit_at at (length header ∷ header ++ behind) ≡ Ok (measured v header (length header ∷ header ++ behind))
 unfolding unit_at
-read_again at v header behind f r most user = grind (arith, header_again, header_least, value_only)
+read_again at v header behind f r most user =
+    grind (
+      arith,
+      header_again,
+      request_only,
+      confirm_only,
+      value_of,
+      disconnect_only,
+      disconnected_only,
+      data0_only,
+      data2_only,
+      acknowledge_only,
+      error_only,
+    )
 
 only_with : (at : ℕ) (v : Value) (x y : List ℕ) (may : Bool) → may_be_followed v ≡ may → Spells v x → Follows v y →
     unit_at at (x ++ y) ≡ Ok (v, length x)
 only_with at v x y true may s f =
     let none = lead_user v may in
-    let front : x ≡ length s.header ∷ s.header = s.whole ∙ ap (λ (u : List ℕ). length s.header ∷ s.header ++ u) none ∙
-    ap (λ (h : List ℕ). length s.header ∷ h) (append-nil s.header) in
+    let front : x ≡ length s.header ∷ s.header = grind (arith, append-nil) in
     let user : user_data v ≡ cond (may_be_followed v) [] y = rw may none in
-    let read = read_again at v s.header y s.fields s.in_range s.counted user in
-    let n-is : cond (may_be_followed v) (1 + length s.header) (length (length s.header ∷ s.header ++ y)) ≡ length x =
-    ap (λ (m : Bool). cond m (1 + length s.header) (length (length s.header ∷ s.header ++ y))) may ∙ omega (arith, ap length front) in
-    ap (λ (w : List ℕ). unit_at at (w ++ y)) front ∙ read ∙ ap (λ (n : ℕ). ok_measured (v, n)) n-is
+    grind (arith, cond, unit_at, read_again at v s.header y s.fields s.in_range s.counted user)
 only_with at v x y false may s f =
-    let none : y ≡ [] = let g : OnFalse false (y ≡ []) = rw may at f in g in
     let user : user_data v ≡ cond (may_be_followed v) [] (user_data v) = rw may refl in
-    let read = read_again at v s.header (user_data v) s.fields s.in_range s.counted user in
-    let whole : x ++ y ≡ length s.header ∷ s.header ++ user_data v = ap (λ (w : List ℕ). x ++ w) none ∙ append-nil x ∙ s.whole in
-    let n-is : cond (may_be_followed v) (1 + length s.header) (length (length s.header ∷ s.header ++ user_data v)) ≡ length x =
-    ap (λ (m : Bool). cond m (1 + length s.header) (length (length s.header ∷ s.header ++ user_data v))) may ∙ sym (ap length s.whole) in
-    ap (λ (w : List ℕ). unit_at at w) whole ∙ read ∙ ap (λ (n : ℕ). ok_measured (v, n)) n-is
+    grind (arith, append-nil, cond, unit_at, read_again at v s.header (user_data v) s.fields s.in_range s.counted user)
 
 -- complete: what the octets spell is read
 pub unit_only : (at : ℕ) (v : Value) (n : ℕ) (b : List ℕ) → IsAtFront Spells Follows v n b → unit_at at b ≡ Ok (v, n)
 unit_only at v n b f =
     let read = only_with at v (take n b) (drop n b) (may_be_followed v) refl f.spelled f.followed in
-    let len : length (take n b) ≡ n = length-take-le n b f.within in
-    ap (λ (w : List ℕ). unit_at at w) (sym (take-append-drop n b)) ∙ read ∙ ap (λ (k : ℕ). ok_measured (v, k)) len
+    grind (arith, length-take-le, unit_at, take-append-drop)
 
 -- a spelling is read, with what may follow it
 pub unit_spelled : (at : ℕ) (v : Value) (x y : List ℕ) → Spells v x → Follows v y → unit_at at (x ++ y) ≡ Ok (v, length x)
 unit_spelled at v x y s f = only_with at v x y (may_be_followed v) refl s f
 
-some_or_all : (may : Bool) (n all : ℕ) → 1 ≤ n → n ≤ all → (1 ≤ cond may n all) × (cond may n all ≤ all)
-some_or_all may n all some most = grind arith
-
 -- a unit takes some of the octets
 pub unit_takes : (at : ℕ) (b : List ℕ) (x : Value × ℕ) → unit_at at b ≡ Ok x → (1 ≤ x.1) × (x.1 ≤ length b)
 unfolding unit_at
-unit_takes at b x e = grind (arith, bind_ok, header_found, length-append, ok_is, some_or_all)
+unit_takes at b x e = grind (arith, bind_ok, header_found, length-append, ok_is)
 
 -- ---- the laws that a grammar of units asks for
 
-follows_nothing : (v : Value) (may : Bool) → may_be_followed v ≡ may → Follows v []
-follows_nothing v may may2 = grind arith
-
 -- a unit may be the last of its octets
 pub stands_alone : (v : Value) → Follows v []
-stands_alone v = follows_nothing v (may_be_followed v) refl
+stands_alone v = grind arith
 
 -- at most one unit is at the front of octets
 pub one_reading : (v w : Value) (m n : ℕ) (octets : List ℕ) → IsOctets octets → IsAtFront Spells Follows v m octets →

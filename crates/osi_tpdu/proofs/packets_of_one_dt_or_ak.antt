@@ -1,6 +1,6 @@
 -- Packets of one DT or one AK.
-use Rattle.std.proofs.Common.{◌≡◌, ℕ, ◌+◌, ◌-◌, ◌*◌, ◌/◌, ◌%◌, ◌<◌, ◌≤◌, Bool, leb, List, [], ◌∷◌, length, get_or, take, drop}
-use Rattle.std.proofs.Common.{Ok, refl, sym, ap, ◌∙◌, arith}
+use Rattle.std.proofs.Common.{◌≡◌, ℕ, ◌+◌, ◌-◌, ◌*◌, ◌/◌, ◌%◌, ◌<◌, ◌≤◌, Bool, leb, List, [], ◌∷◌, length, get_or, take, drop, Ok, refl}
+use Rattle.std.proofs.Common.{arith}
 use Rattle.osi_tpdu.proofs.Vocabulary.{eq-eqb, length-drop, take_all, IsOctets, units_at, units_of, header_at, unit_at, value_of}
 use Rattle.osi_tpdu.proofs.Vocabulary.{transfer_of, acknowledge_of, Spells, Value, data0, data2, acknowledge, written}
 use Rattle.osi_tpdu.proofs.one_unit_is_read.{header_again}
@@ -45,35 +45,17 @@ data2_in packet = data2 (256 * get_or packet 2 0 + get_or packet 3 0) (get_or pa
 abbrev ack_in : List ℕ → Value
 ack_in packet = acknowledge (get_or packet 1 0 % 16) (256 * get_or packet 2 0 + get_or packet 3 0) (get_or packet 4 0 % 128)
 
--- the octets after this many, as they are sliced
-behind : (n : ℕ) (packet : List ℕ) → drop n packet ≡ take (length packet - n) (drop n packet)
-behind n packet = sym (take_all (length packet - n) (drop n packet) (omega (arith, length-drop n packet)))
-
 pub data0_read : (packet : List ℕ) → 3 ≤ length packet → get_or packet 0 0 ≡ 2 → get_or packet 1 0 ≡ 240 →
     units_of packet ≡ Ok (data0_in packet ∷ [])
-data0_read [] long a b = absurd (omega arith)
-data0_read (x ∷ []) long a b = absurd (omega arith)
-data0_read (x ∷ y ∷ []) long a b = absurd (omega arith)
-data0_read (x ∷ y ∷ last ∷ user) long a b =
-    ap (λ n. units_of (n ∷ y ∷ last ∷ user)) a ∙ ap (λ n. units_of (2 ∷ n ∷ last ∷ user)) b ∙ data0_only last user
-    ∙ ap (λ u. Ok (data0 (leb 128 last) u ∷ [])) (behind 3 (x ∷ y ∷ last ∷ user))
+data0_read packet long a b = grind (arith, units_of, data0_only, leb, take_all, length-drop)
 
 pub data2_read : (packet : List ℕ) → 5 ≤ length packet → get_or packet 0 0 ≡ 4 → get_or packet 1 0 ≡ 240 →
     units_of packet ≡ Ok (data2_in packet ∷ [])
-data2_read [] long a b = absurd (omega arith)
-data2_read (x ∷ []) long a b = absurd (omega arith)
-data2_read (x ∷ y ∷ []) long a b = absurd (omega arith)
-data2_read (x ∷ y ∷ high ∷ []) long a b = absurd (omega arith)
-data2_read (x ∷ y ∷ high ∷ low ∷ []) long a b = absurd (omega arith)
-data2_read (x ∷ y ∷ high ∷ low ∷ last ∷ user) long a b =
-    ap (λ n. units_of (n ∷ y ∷ high ∷ low ∷ last ∷ user)) a ∙ ap (λ n. units_of (4 ∷ n ∷ high ∷ low ∷ last ∷ user)) b ∙
-    data2_only high low last user
-    ∙ ap (λ u. Ok (data2 (256 * high + low) (last % 128) (leb 128 last) u ∷ [])) (behind 5 (x ∷ y ∷ high ∷ low ∷ last ∷ user))
+data2_read packet long a b = grind (arith, units_of, data2_only, leb, take_all, length-drop)
 
 pub ack_read : (packet : List ℕ) → length packet ≡ 5 → get_or packet 0 0 ≡ 4 → get_or packet 1 0 / 16 ≡ 6 →
     units_of packet ≡ Ok (ack_in packet ∷ [])
-ack_read (x ∷ first ∷ high ∷ low ∷ last ∷ []) long a b =
-    ap (λ n. units_of (n ∷ first ∷ high ∷ low ∷ last ∷ [])) a ∙ ack_only first high low last b
+ack_read (x ∷ first ∷ high ∷ low ∷ last ∷ []) long a b = grind (arith, units_of, ack_only)
 ack_read _ long a b = absurd (omega arith)
 
 -- so they spell that unit

@@ -2,14 +2,13 @@
 use Rattle.std.proofs.Common.{◌≡◌, ℕ, zero, suc, ◌+◌, ◌<◌, ◌≤◌, true, false, eqb, ltb, List, [], ◌∷◌, ◌++◌, length, get_or}
 use Rattle.std.proofs.Common.{take, drop, Option, Some, None, Result, Ok, refl, sym, ap, subst, ◌∙◌, append_assoc, arith, inl, inr, ◌⊎◌}
 use Rattle.std.proofs.lemmas.List.Elements.{filter-append}
-use Rattle.osi_tpdu.proofs.Vocabulary.{option_to_list, is_some, IfSome, flat_map, ltb-false, leb-true, le-leb, le-ltb}
-use Rattle.osi_tpdu.proofs.Vocabulary.{eqb-true, eq-eqb, ne_eqb, and_parts, not-false, cases_eq, append-nil, take_at, drop_at}
-use Rattle.osi_tpdu.proofs.Vocabulary.{length-append, take-append-drop, length-take, length-drop, map-append, IsOctets, octets_take}
-use Rattle.osi_tpdu.proofs.Vocabulary.{octets_drop, TpduFault, BadParameterLength, Parameter, Size}
-use Rattle.osi_tpdu.proofs.Vocabulary.{Calling, Called, Additional, Alternative, code_of, Parameters, AreParameters, Item, item_octets}
-use Rattle.osi_tpdu.proofs.Vocabulary.{values_of, single, Means, parameter_at, no_parameters, with_size, with_calling, with_called}
-use Rattle.osi_tpdu.proofs.Vocabulary.{with_additional, with_alternative, with_parameter, parameters_at, known_at, skipped_at}
-use Rattle.osi_tpdu.proofs.Vocabulary.{all_skipped_at}
+use Rattle.osi_tpdu.proofs.Vocabulary.{option_to_list, is_some, flat_map, ltb-false, leb-true, le-leb, le-ltb, eqb-true, eq-eqb, ne_eqb}
+use Rattle.osi_tpdu.proofs.Vocabulary.{and_parts, not-false, cases_eq, append-nil, take_at, drop_at, length-append, take-append-drop}
+use Rattle.osi_tpdu.proofs.Vocabulary.{length-take, length-drop, map-append, IsOctets, octets_take, octets_drop, TpduFault}
+use Rattle.osi_tpdu.proofs.Vocabulary.{BadParameterLength, Parameter, Size, Calling, Called, Additional, Alternative, code_of, Parameters}
+use Rattle.osi_tpdu.proofs.Vocabulary.{AreParameters, Item, item_octets, values_of, single, Means, parameter_at, no_parameters, with_size}
+use Rattle.osi_tpdu.proofs.Vocabulary.{with_calling, with_called, with_additional, with_alternative, with_parameter, parameters_at}
+use Rattle.osi_tpdu.proofs.Vocabulary.{known_at, skipped_at, all_skipped_at}
 use Rattle.osi_tpdu.proofs.the_steps_of_reading.{bind_ok, unless_ok, when_ok, chosen, ok_is, one_long}
 
 -- ---- what items add to a slot
@@ -32,21 +31,14 @@ Adds p items m = (k : Parameter) → Gains (code_of k) (slot k p) items (slot k 
 pub values_of-append : (code : ℕ) (xs ys : List Item) → values_of code (xs ++ ys) ≡ values_of code xs ++ values_of code ys
 values_of-append code xs ys = grind (arith, filter-append, map-append)
 
-Gains-then : (code : ℕ) (a b c : Option (List ℕ)) (xs ys : List Item) → Gains code a xs b → Gains code b ys c → Gains code a (xs ++ ys) c
-Gains-then code a b c xs ys p q = grind (arith, values_of-append, append_assoc)
-
 pub Adds-then : (a b c : Parameters) (xs ys : List Item) → Adds a xs b → Adds b ys c → Adds a (xs ++ ys) c
-Adds-then a b c xs ys p q k = Gains-then (code_of k) (slot k a) (slot k b) (slot k c) xs ys (p k) (q k)
+Adds-then a b c xs ys p q k = grind (arith, values_of-append, append_assoc)
 
 pub Adds-none : (p : Parameters) → Adds p [] p
 Adds-none p k = append-nil (option_to_list (slot k p))
 
 abbrev item : ℕ → List ℕ → Item
 item code value = record { code = code; value = value }
-
--- an item with another code adds nothing
-Gains-other : (code other : ℕ) (value : List ℕ) (o : Option (List ℕ)) → eqb other code ≡ false → Gains code o (item other value ∷ []) o
-Gains-other code other value o ne = rw ne (append-nil (option_to_list o))
 
 is_none : {A : Type 0} (o : Option A) → is_some o ≡ false → o ≡ None
 is_none o e = grind arith
@@ -60,19 +52,9 @@ size_adds : (n : ℕ) (value : List ℕ) (p : Parameters) → value ≡ n ∷ []
     Adds p (item 0xC0 value ∷ []) (record p { size = Some n })
 size_adds n value p one none k = grind arith
 
-calling_adds : (value : List ℕ) (p : Parameters) → p.calling ≡ None → Adds p (item 0xC1 value ∷ []) (record p { calling = Some value })
-calling_adds value p none k = grind arith
-
-called_adds : (value : List ℕ) (p : Parameters) → p.called ≡ None → Adds p (item 0xC2 value ∷ []) (record p { called = Some value })
-called_adds value p none k = grind arith
-
 additional_adds : (n : ℕ) (value : List ℕ) (p : Parameters) → value ≡ n ∷ [] → p.additional ≡ None →
     Adds p (item 0xC6 value ∷ []) (record p { additional = Some n })
 additional_adds n value p one none k = grind arith
-
-alternative_adds : (value : List ℕ) (p : Parameters) → p.alternative ≡ None →
-    Adds p (item 0xC7 value ∷ []) (record p { alternative = Some value })
-alternative_adds value p none k = grind arith
 
 -- this holds in either order of the last two tests
 size_found : (at : ℕ) (value : List ℕ) (p m : Parameters) → AreParameters p → IsOctets value → with_size at value p ≡ Ok m →
@@ -84,12 +66,12 @@ size_found at value p m fits octets e =
 calling_found : (at : ℕ) (value : List ℕ) (p m : Parameters) → AreParameters p → IsOctets value → with_calling at value p ≡ Ok m →
     Adding 0xC1 value p m
 unfolding with_calling
-calling_found at value p m fits octets e = grind (arith, unless_ok, ok_is, calling_adds, is_none, ltb-false)
+calling_found at value p m fits octets e = search (arith, unless_ok, ok_is, is_none, ltb-false)
 
 called_found : (at : ℕ) (value : List ℕ) (p m : Parameters) → AreParameters p → IsOctets value → with_called at value p ≡ Ok m →
     Adding 0xC2 value p m
 unfolding with_called
-called_found at value p m fits octets e = grind (arith, unless_ok, ok_is, called_adds, is_none, ltb-false)
+called_found at value p m fits octets e = search (arith, unless_ok, ok_is, is_none, ltb-false)
 
 additional_found : (at : ℕ) (value : List ℕ) (p m : Parameters) → AreParameters p → IsOctets value → with_additional at value p ≡ Ok m →
     Adding 0xC6 value p m
@@ -100,7 +82,7 @@ additional_found at value p m fits octets e =
 alternative_found : (at : ℕ) (value : List ℕ) (p m : Parameters) → AreParameters p → IsOctets value → with_alternative at value p ≡ Ok m →
     Adding 0xC7 value p m
 unfolding with_alternative
-alternative_found at value p m fits octets e = grind (arith, unless_ok, ok_is, alternative_adds, is_none)
+alternative_found at value p m fits octets e = grind (arith, unless_ok, ok_is, is_none)
 
 -- a code that is not in the table is none of these
 pub other_code : (code : ℕ) → eqb code 0xC0 ≡ false → eqb code 0xC1 ≡ false → eqb code 0xC2 ≡ false → eqb code 0xC6 ≡ false →
@@ -120,10 +102,8 @@ with_found at code value p m fits octets e =
           | inr u ↦ elim (chosen (eqb code 0xC6) (with_additional at value p) _ (Ok m) u.1) [
             | inl v ↦ subst (λ (k : ℕ). Adding k value p m) (sym (eqb-true code 0xC6 v.0)) (additional_found at value p m fits octets v.1)
             | inr v ↦ elim (chosen (eqb code 0xC7) (with_alternative at value p) (Ok p) (Ok m) v.1) [
-              | inl w ↦ subst (λ (k : ℕ). Adding k value p m) (sym (eqb-true code 0xC7 w.0))
-                  (alternative_found at value p m fits octets w.1)
-              | inr w ↦ subst (λ (m' : Parameters). Adding code value p m') (ok_is p m w.1)
-                  ((λ k. Gains-other (code_of k) code value (slot k p) (other_code code s.0 t.0 u.0 v.0 w.0 k)), fits)
+              | inl w ↦ grind (arith, eqb-true code 0xC7 w.0, alternative_found at value p m fits octets w.1)
+              | inr w ↦ grind (arith, ok_is, other_code)
             ]
           ]
         ]
@@ -138,10 +118,6 @@ ok p = Ok p
 abbrev Piece : Type 0
 Piece = ℕ × List ℕ × List ℕ
 
--- a code, a length, the value, and the octets after it
-split_two : (s : List ℕ) → 2 ≤ length s → s ≡ get_or s 0 0 ∷ get_or s 1 0 ∷ drop 2 s
-split_two s le = grind arith
-
 pub parameter_found : (at : ℕ) (s : List ℕ) (x : Piece) → IsOctets s → parameter_at at s ≡ Ok x
     → (s ≡ item_octets (item x.0 x.1) ++ x.2) × IsOctets x.1 × IsOctets x.2 × (length x.2 < length s)
 unfolding parameter_at
@@ -151,16 +127,15 @@ parameter_found at s x octets e =
     let a = unless_ok (ltb (length s) (2 + n)) (BadParameterLength at) (Ok made) x e in
     let long : 2 + n ≤ length s = ltb-false _ _ a.0 in
     let len : length (take n (drop 2 s)) ≡ n = omega (arith, length-take n (drop 2 s), length-drop 2 s) in
-    let parts : s ≡ get_or s 0 0 ∷ n ∷ (take n (drop 2 s) ++ drop n (drop 2 s)) =
-    split_two s (omega arith) ∙ ap (λ (t : List ℕ). get_or s 0 0 ∷ n ∷ t) (sym (take-append-drop n (drop 2 s))) in
-    let whole : s ≡ item_octets (item made.0 made.1) ++ made.2 =
-    parts ∙ ap (λ (k : ℕ). get_or s 0 0 ∷ k ∷ (take n (drop 2 s) ++ drop n (drop 2 s))) (sym len) in
-    subst (λ (y : Piece). (s ≡ item_octets (item y.0 y.1) ++ y.2) × IsOctets y.1 × IsOctets y.2 × (length y.2 < length s))
-    (ok_is made x a.1) (
-      whole,
+    grind (
+      arith,
+      take-append-drop n (drop 2 s),
+      ok_is made x a.1,
       octets_take n (drop 2 s) (octets_drop 2 s octets),
+      octets_drop 2 s octets,
       octets_drop n (drop 2 s) (octets_drop 2 s octets),
-      omega (arith, length-drop n (drop 2 s), length-drop 2 s),
+      length-drop n (drop 2 s),
+      length-drop 2 s,
     )
 
 -- what the octets hold
@@ -169,10 +144,6 @@ pub record Found (p : Parameters) (s : List ℕ) (m : Parameters) : Type 0 where
   pub spelled : s ≡ flat_map item_octets items
   pub adds : Adds p items m
   pub fits : AreParameters m
-
-spelled_on : (s : List ℕ) (i : Item) (behind : List ℕ) (items : List Item) → s ≡ item_octets i ++ behind →
-    behind ≡ flat_map item_octets items → s ≡ flat_map item_octets (i ∷ items)
-spelled_on s i behind items e f = e ∙ ap (λ (t : List ℕ). item_octets i ++ t) f
 
 parameters_found : (n at : ℕ) (p : Parameters) (s : List ℕ) (m : Parameters) → length s ≤ n → IsOctets s → AreParameters p →
     parameters_at n at p s ≡ Ok m → Found p s m
@@ -188,7 +159,7 @@ parameters_found (suc n) at p (o ∷ s) m le octets fits e =
     let first = item a.0.0 a.0.1 in
     record {
       items = first ∷ rest.items;
-      spelled = spelled_on (o ∷ s) first a.0.2 rest.items one.0 rest.spelled;
+      spelled = grind arith;
       adds = Adds-then p b.0 m (first ∷ []) rest.items added.0 rest.adds;
       fits = rest.fits;
     }
@@ -201,13 +172,7 @@ known_found at s m octets e =
     let f = parameters_found (length s) at no_parameters s m (omega arith) octets none e in (
       f.items,
       f.spelled,
-      record {
-        size = f.adds Size;
-        calling = f.adds Calling;
-        called = f.adds Called;
-        additional = f.adds Additional;
-        alternative = f.adds Alternative;
-      },
+      grind (arith, f.adds Size, f.adds Calling, f.adds Called, f.adds Additional, f.adds Alternative),
       f.fits,
     )
 
@@ -274,33 +239,6 @@ pub record TakesItem (at : ℕ) (i : Item) (items : List Item) (p m : Parameters
   pub read : with_parameter at i.code i.value p ≡ Ok more
   pub adds : Adds more items m
 
-size_value : (o : Option ℕ) (n : ℕ) → IfSome o (λ code. (7 ≤ code) × (code ≤ 13)) → o ≡ Some n → (7 ≤ n) × (n ≤ 13)
-size_value o n h e = grind arith
-
-short_value : (o : Option (List ℕ)) (v : List ℕ) → IfSome o (λ s. (length s ≤ 32) × IsOctets s) → o ≡ Some v → length v ≤ 32
-short_value o v h e = grind arith
-
--- the result of reading an item with a code of the table, and what the other items add to it
-size_left : (n : ℕ) (value : List ℕ) (items : List Item) (p m : Parameters) → value ≡ n ∷ [] → p.size ≡ None →
-    Adds p (item 0xC0 value ∷ items) m → Adds (record p { size = Some n }) items m
-size_left n value items p m one none a k = grind arith
-
-calling_left : (value : List ℕ) (items : List Item) (p m : Parameters) → p.calling ≡ None → Adds p (item 0xC1 value ∷ items) m →
-    Adds (record p { calling = Some value }) items m
-calling_left value items p m none a k = grind arith
-
-called_left : (value : List ℕ) (items : List Item) (p m : Parameters) → p.called ≡ None → Adds p (item 0xC2 value ∷ items) m →
-    Adds (record p { called = Some value }) items m
-called_left value items p m none a k = grind arith
-
-additional_left : (n : ℕ) (value : List ℕ) (items : List Item) (p m : Parameters) → value ≡ n ∷ [] → p.additional ≡ None →
-    Adds p (item 0xC6 value ∷ items) m → Adds (record p { additional = Some n }) items m
-additional_left n value items p m one none a k = grind arith
-
-alternative_left : (value : List ℕ) (items : List Item) (p m : Parameters) → p.alternative ≡ None → Adds p (item 0xC7 value ∷ items) m →
-    Adds (record p { alternative = Some value }) items m
-alternative_left value items p m none a k = grind arith
-
 size_read : (at n : ℕ) (value : List ℕ) (p : Parameters) → value ≡ n ∷ [] → p.size ≡ None → (7 ≤ n) × (n ≤ 13) →
     with_parameter at 0xC0 value p ≡ Ok (record p { size = Some n })
 unfolding with_parameter with_size
@@ -318,40 +256,32 @@ known_taken Size at value items p m fits a =
     let f = first_value (single p.size) (single m.size) value (values_of 0xC0 items) (a Size) in
     let one = single_some m.size value f.1 in
     let none = single_none p.size f.0 in
-    record {
-      more = record p { size = Some one.0 };
-      read = size_read at one.0 value p one.2 none (size_value m.size one.0 fits.size one.1);
-      adds = size_left one.0 value items p m one.2 none a;
-    }
+    grind (arith, size_read at one.0 value p one.2 none (grind arith))
 known_taken Calling at value items p m fits a =
     let f = first_value p.calling m.calling value (values_of 0xC1 items) (a Calling) in
     record {
       more = record p { calling = Some value };
-      read = rw (le-ltb 32 (length value) (short_value m.calling value fits.calling f.1), f.0) refl;
-      adds = calling_left value items p m f.0 a;
+      read = rw (le-ltb 32 (length value) (grind arith), f.0) refl;
+      adds = grind arith;
     }
 known_taken Called at value items p m fits a =
     let f = first_value p.called m.called value (values_of 0xC2 items) (a Called) in
     record {
       more = record p { called = Some value };
-      read = rw (le-ltb 32 (length value) (short_value m.called value fits.called f.1), f.0) refl;
-      adds = called_left value items p m f.0 a;
+      read = rw (le-ltb 32 (length value) (grind arith), f.0) refl;
+      adds = grind arith;
     }
 known_taken Additional at value items p m fits a =
     let f = first_value (single p.additional) (single m.additional) value (values_of 0xC6 items) (a Additional) in
     let one = single_some m.additional value f.1 in
     let none = single_none p.additional f.0 in
-    record {
-      more = record p { additional = Some one.0 };
-      read = additional_read at one.0 value p one.2 none;
-      adds = additional_left one.0 value items p m one.2 none a;
-    }
+    grind (arith, additional_read at one.0 value p one.2 none)
 known_taken Alternative at value items p m fits a =
     let f = first_value p.alternative m.alternative value (values_of 0xC7 items) (a Alternative) in
     record {
       more = record p { alternative = Some value };
       read = rw f.0 refl;
-      adds = alternative_left value items p m f.0 a;
+      adds = grind arith;
     }
 
 abbrev Taken : ℕ → ℕ → List ℕ → List Item → Parameters → Parameters → Type 0
@@ -396,15 +326,10 @@ parameters_only (suc n) at p (i ∷ items) m le fits a =
     let others = parameters_only n (at + (2 + length i.value)) t.more items m shorter fits t.adds in
     rw (parameter_again at i rest, t.read) others
 
-meant : (items : List Item) (m : Parameters) → Means m items → Adds no_parameters items m
-meant items m means h = grind arith
-
 -- once items were read, their meaning is known
 pub known_only : (at : ℕ) (items : List Item) (m : Parameters) → AreParameters m → Means m items →
     known_at at (flat_map item_octets items) ≡ Ok m
-known_only at items m fits means =
-    parameters_only (length (flat_map item_octets items)) at no_parameters items m (omega arith) fits
-    (meant items m means)
+known_only at items m fits means = grind (arith, parameters_only)
 
 skipped_only_with : (n at : ℕ) (items : List Item) → length (flat_map item_octets items) ≤ n →
     skipped_at n at (flat_map item_octets items) ≡ Ok tt

@@ -1,14 +1,14 @@
 -- The fault that the reader of a unit returns is its first one.
-use Rattle.std.proofs.Common.{◌≡◌, ℕ, ◌+◌, ◌*◌, ◌/◌, ◌%◌, ◌<◌, ◌≤◌, true, false, cond, eqb, ltb, leb, List, ◌∷◌, ◌++◌, length, get_or}
-use Rattle.std.proofs.Common.{take, drop, Option, Some, None, Result, Ok, Err, refl, sym, ap, subst, ◌∙◌, arith, inl, inr, ◌⊎◌}
+use Rattle.std.proofs.Common.{◌≡◌, ℕ, ◌+◌, ◌/◌, ◌%◌, ◌≤◌, true, false, cond, eqb, ltb, leb, List, ◌∷◌, ◌++◌, length, get_or, take, drop}
+use Rattle.std.proofs.Common.{Option, Some, None, Result, Ok, Err, refl, sym, ap, subst, ◌∙◌, arith, inl, inr}
 use Rattle.osi_tpdu.proofs.Vocabulary.{IsOk, false≢true, ltb-true, ltb-false, eqb-true, eqb-false, length-take-le, drop_at}
 use Rattle.osi_tpdu.proofs.Vocabulary.{take-append-drop, IsOctets, octets_drop, octets_left, TpduFault, BadLi, UnknownCode, Parameters}
 use Rattle.osi_tpdu.proofs.Vocabulary.{Connect, Value, request, confirm, disconnect, disconnected, data0, data2, acknowledge, error}
-use Rattle.osi_tpdu.proofs.Vocabulary.{may_be_followed, header_at, reference_at, known_at, all_skipped_at, connect_of, request_of}
-use Rattle.osi_tpdu.proofs.Vocabulary.{confirm_of, disconnect_of, disconnected_of, transfer_of, acknowledge_of, error_of, value_of, unit_at}
-use Rattle.osi_tpdu.proofs.Vocabulary.{Kind, Request, Confirm, Disconnect, Disconnected, Transfer, Acknowledge, Report, HasCode, MayCount}
-use Rattle.osi_tpdu.proofs.Vocabulary.{HasParametersBehind, LooksAtParameters, HasParameterFault, HasHeader, HasNoHeader, BeginsUnit}
-use Rattle.osi_tpdu.proofs.Vocabulary.{HasBadIndicator, HasUnknownCode, HasFault, IsFirst, IsUnitFault}
+use Rattle.osi_tpdu.proofs.Vocabulary.{header_at, reference_at, known_at, all_skipped_at, connect_of, request_of, confirm_of, disconnect_of}
+use Rattle.osi_tpdu.proofs.Vocabulary.{disconnected_of, transfer_of, acknowledge_of, error_of, value_of, unit_at, Kind, Request, Confirm}
+use Rattle.osi_tpdu.proofs.Vocabulary.{Disconnect, Disconnected, Transfer, Acknowledge, Report, HasCode, MayCount, HasParametersBehind}
+use Rattle.osi_tpdu.proofs.Vocabulary.{LooksAtParameters, HasParameterFault, HasHeader, HasNoHeader, BeginsUnit, HasBadIndicator, HasFault}
+use Rattle.osi_tpdu.proofs.Vocabulary.{IsFirst, IsUnitFault}
 use Rattle.osi_tpdu.proofs.the_steps_of_reading.{chosen, ok_is, IsOctets-rest}
 use Rattle.osi_tpdu.proofs.one_unit_is_read.{header_found, header_again}
 use Rattle.osi_tpdu.proofs.the_first_fault_of_the_parameters.{Judges, judges_same, judges_bind, judges_map, judges_cond, parameters_judged}
@@ -28,22 +28,6 @@ kind_named code =
     (cond (eqb code 0x80) (Some Disconnect)
     (cond (eqb code 0xC0) (Some Disconnected) (cond (eqb code 0xF0) (Some Transfer) (cond (eqb code 0x70) (Some Report) None))))))
 
-named_kind : (kind : Kind) (code : ℕ) → HasCode kind code → kind_named code ≡ Some kind
-named_kind kind code h = search arith
-
-some_is : (k j : Kind) → (let o : Option Kind = Some k in o) ≡ Some j → k ≡ j
-some_is k j e = cc
-
-same_kind : (k j : Kind) (code : ℕ) → HasCode k code → HasCode j code → k ≡ j
-same_kind k j code a b = some_is k j (sym (named_kind k code a) ∙ named_kind j code b)
-
--- a statement about the unit at the front of the octets, for two names of the same kind
-same_unit : (P : Kind → List ℕ → Type 0) (k j : Kind) (b h g : List ℕ) → BeginsUnit k b h → BeginsUnit j b g → P k h → P j g
-same_unit P k j b h g x y p = grind (arith, same_kind, same_header b h x.behind g y.behind x.there y.there)
-
-behind_one : (kind : Kind) (m n : ℕ) → HasParametersBehind kind m → HasParametersBehind kind n → m ≡ n
-behind_one kind m n a b = grind arith
-
 -- ---- a bad length indicator
 
 li_first : (at : ℕ) (b : List ℕ) → HasBadIndicator b → IsFirst (HasFault at b) (BadLi at)
@@ -53,11 +37,8 @@ no_li : (b header : List ℕ) (kind : Kind) → BeginsUnit kind b header → May
 no_li b header kind u counts h =
     elim h [
       | inl none ↦ none header u.behind u.there
-      | inr c ↦ c.3 (same_unit (λ k o. MayCount k (length o)) kind c.0 b header c.1 u c.2 counts)
+      | inr c ↦ c.3 (grind (arith, same_header b header u.behind c.1 c.2.behind u.there c.2.there))
     ]
-
-no_code : (b header : List ℕ) (kind : Kind) → BeginsUnit kind b header → HasUnknownCode b → ⊥
-no_code b header kind u h = grind (arith, same_header b header u.behind h.0 h.1 u.there h.2)
 
 -- ---- units without parameters
 
@@ -67,8 +48,8 @@ plain_fine at b header kind u counts none f h =
     elim h [
       | inl a ↦ no_li b header kind u counts a.1
       | inr a ↦ elim a [
-        | inl c ↦ no_code b header kind u c.1
-        | inr p ↦ none (length p.1) (same_unit (λ k o. HasParametersBehind k (length p.1)) p.0 kind b (p.1 ++ p.2) header p.3 u p.4)
+        | inl c ↦ (grind (arith, same_header b header u.behind c.1.0 c.1.1 u.there c.1.2))
+        | inr p ↦ none (length p.1) (grind (arith, same_header b (p.1 ++ p.2) p.3.behind header u.behind p.3.there u.there))
       ]
     ]
 
@@ -85,19 +66,11 @@ parameters_only at b fixed s kind r u counts behind =
     (λ f h. elim h [
       | inl a ↦ absurd (no_li b (fixed ++ s) kind u counts a.1)
       | inr a ↦ elim a [
-        | inl c ↦ absurd (no_code b (fixed ++ s) kind u c.1)
+        | inl c ↦ absurd (grind (arith, same_header b (fixed ++ s) u.behind c.1.0 c.1.1 u.there c.1.2))
         | inr p ↦
             let x = p.1 in
             let t = p.2 in
-            let headers : x ++ t ≡ fixed ++ s = same_header b (x ++ t) p.3.behind (fixed ++ s) u.behind p.3.there u.there in
-            let kinds : p.0 ≡ kind = same_unit (λ k o. p.0 ≡ k) p.0 kind b (x ++ t) (fixed ++ s) p.3 u refl in
-            let len : length x ≡ length fixed =
-            behind_one kind (length x) (length fixed) (subst (λ (k : Kind). HasParametersBehind k (length x)) kinds p.4) behind in
-            let there : HasParameterFault kind (at + (1 + length x)) t f =
-            subst (λ (k : Kind). HasParameterFault k (at + (1 + length x)) t f) kinds p.5 in
-            let moved : HasParameterFault kind (at + (1 + length fixed)) t f =
-            subst (λ (n : ℕ). HasParameterFault kind (at + (1 + n)) t f) len there in
-            subst (λ (o : List ℕ). HasParameterFault kind (at + (1 + length fixed)) o f) (same_front x fixed t s len headers) moved
+            grind (arith, same_front, same_header b (x ++ t) p.3.behind (fixed ++ s) u.behind p.3.there u.there)
       ]
     ])
 
@@ -117,10 +90,6 @@ behind_judged at n b header kind r long u counts behind j =
 
 too_short : (n least : ℕ) → ltb n least ≡ true → least ≤ n → ⊥
 too_short n least e le = omega (arith, ltb-true)
-
-offset_moved : {A : Type 0} (kind : Kind) (at to : ℕ) (s : List ℕ) (r : Result A TpduFault) → at ≡ to →
-    Judges (HasParameterFault kind at s) r → Judges (HasParameterFault kind to s) r
-offset_moved kind at to s r e j = subst (λ (n : ℕ). Judges (HasParameterFault kind n s) r) e j
 
 abbrev made : List ℕ → List ℕ → Parameters → Connect
 made header user p = record {
@@ -143,8 +112,7 @@ connect_judged at b header user kind octets u looks counts long behind =
     let le : 6 ≤ length header = ltb-false (length header) 6 e in
     let j = parameters_judged kind (at + 7) (drop 6 header) looks (octets_drop 6 header octets) in
     judges_map (HasFault at b) (known_at (at + 7) (drop 6 header)) (made header user)
-    (behind_judged at 6 b header kind (known_at (at + 7) (drop 6 header)) le u (counts le) behind
-    (offset_moved kind (at + 7) (at + (1 + 6)) (drop 6 header) (known_at (at + 7) (drop 6 header)) (omega arith) j)))
+    (search (arith, behind_judged)))
 
 request_judged : (at : ℕ) (b header user : List ℕ) → IsOctets header → BeginsUnit Request b header →
     Judges (HasFault at b) (request_of at header user)
@@ -171,8 +139,7 @@ disconnect_judged at b header user octets u =
     let j = skips_judged Disconnect (at + 7) (drop 6 header) (λ no. no) (octets_drop 6 header octets) in
     judges_map (HasFault at b) (all_skipped_at (at + 7) (drop 6 header))
     (λ skipped. disconnect (reference_at 1 header) (reference_at 3 header) (get_or header 5 0) user)
-    (behind_judged at 6 b header Disconnect (all_skipped_at (at + 7) (drop 6 header)) le u le refl
-    (offset_moved Disconnect (at + 7) (at + (1 + 6)) (drop 6 header) (all_skipped_at (at + 7) (drop 6 header)) (omega arith) j)))
+    (search (arith, behind_judged)))
 
 error_judged : (at : ℕ) (b header : List ℕ) → IsOctets header → BeginsUnit Report b header → Judges (HasFault at b) (error_of at header)
 unfolding error_of
@@ -183,8 +150,7 @@ error_judged at b header octets u =
     let le : 4 ≤ length header = ltb-false (length header) 4 e in
     let j = skips_judged Report (at + 5) (drop 4 header) (λ no. no) (octets_drop 4 header octets) in
     judges_map (HasFault at b) (all_skipped_at (at + 5) (drop 4 header)) (λ skipped. error (reference_at 1 header) (get_or header 3 0))
-    (behind_judged at 4 b header Report (all_skipped_at (at + 5) (drop 4 header)) le u le refl
-    (offset_moved Report (at + 5) (at + (1 + 4)) (drop 4 header) (all_skipped_at (at + 5) (drop 4 header)) (omega arith) j)))
+    (search (arith, behind_judged)))
 
 disconnected_judged : (at : ℕ) (b header : List ℕ) → BeginsUnit Disconnected b header → Judges (HasFault at b) (disconnected_of at header)
 unfolding disconnected_of
@@ -201,9 +167,6 @@ acknowledge_judged at b header u =
     (λ e. plain_fine at b header Acknowledge u (eqb-true (length header) 4 e) (λ n no. no))
     (λ e. li_first at b (inr (Acknowledge, header, u, eqb-false (length header) 4 e)))
 
-neither : (n : ℕ) → eqb n 2 ≡ false → eqb n 4 ≡ false → (n ≡ 2) ⊎ (n ≡ 4) → ⊥
-neither n a b h = grind (arith, eqb-false)
-
 transfer_judged : (at : ℕ) (b header user : List ℕ) → BeginsUnit Transfer b header → Judges (HasFault at b) (transfer_of at header user)
 unfolding transfer_of
 transfer_judged at b header user u =
@@ -212,7 +175,7 @@ transfer_judged at b header user u =
     (λ e. judges_cond (HasFault at b) (eqb (length header) 4)
     (Ok (data2 (reference_at 1 header) (get_or header 3 0 % 128) (leb 128 (get_or header 3 0)) user)) (Err (BadLi at))
     (λ d. plain_fine at b header Transfer u (inr (eqb-true (length header) 4 d)) (λ n no. no))
-    (λ d. li_first at b (inr (Transfer, header, u, neither (length header) e d))))
+    (λ d. li_first at b (inr (Transfer, header, u, grind (arith, eqb-false)))))
 
 -- ---- any code
 
@@ -233,18 +196,9 @@ code_first at b header behind there unknown =
           | inl none_there ↦ absurd (none_there header behind there)
           | inr c ↦ absurd (none c.0 c.1 c.2)
         ]
-        | inr a ↦ elim a [
-          | inl c ↦ inl c.0
-          | inr p ↦ absurd (none p.0 (p.1 ++ p.2) p.3)
-        ]
+        | inr a ↦ grind arith
       ];
     }
-
-half_is : (code half : ℕ) → code / 16 ≡ half → code ≡ 16 * half + code % 16
-half_is code half e = omega arith
-
-low_half : (code : ℕ) → code % 16 < 16
-low_half code = omega arith
 
 value_judged : (at : ℕ) (b header behind : List ℕ) → IsOctets header → HasHeader b header behind →
     Judges (HasFault at b) (value_of at header behind)
@@ -255,13 +209,11 @@ value_judged at b header behind octets there =
     let begins = λ (kind : Kind) (h : HasCode kind code).
     (let u : BeginsUnit kind b header = record { behind = behind; there = there; code = h } in u) in
     judges_cond P (eqb (code / 16) 0xE) (request_of at header behind) _
-    (λ e. request_judged at b header behind octets
-    (begins Request (code % 16, low_half code, half_is code 14 (eqb-true (code / 16) 0xE e))))
+    (λ e. grind (arith, request_judged at b header behind octets (begins Request (code % 16, grind arith, grind arith))))
     (λ nE. judges_cond P (eqb (code / 16) 0xD) (confirm_of at header behind) _
-    (λ e. confirm_judged at b header behind octets
-    (begins Confirm (code % 16, low_half code, half_is code 13 (eqb-true (code / 16) 0xD e))))
+    (λ e. grind (arith, confirm_judged at b header behind octets (begins Confirm (code % 16, grind arith, grind arith))))
     (λ nD. judges_cond P (eqb (code / 16) 0x6) (acknowledge_of at header) _
-    (λ e. acknowledge_judged at b header (begins Acknowledge (code % 16, low_half code, half_is code 6 (eqb-true (code / 16) 0x6 e))))
+    (λ e. acknowledge_judged at b header (begins Acknowledge (code % 16, grind arith, grind arith)))
     (λ n6. judges_cond P (eqb code 0x80) (disconnect_of at header behind) _
     (λ e. disconnect_judged at b header behind octets (begins Disconnect (eqb-true code 0x80 e)))
     (λ n80. judges_cond P (eqb code 0xC0) (disconnected_of at header) _
@@ -290,9 +242,7 @@ unit_judged at b octets =
     let found = header_found at b x e in
     let there : HasHeader b x.0 x.1 = record { whole = found.0; at_least = found.1; at_most = found.2 } in
     let whole : IsOctets (length x.0 ∷ x.0 ++ x.1) = subst (λ (s : List ℕ). IsOctets s) found.0 octets in
-    let inner = octets_left x.0 x.1 (IsOctets-rest (length x.0) (x.0 ++ x.1) whole) in
-    judges_map (HasFault at b) (value_of at x.0 x.1) (λ v. (v, cond (may_be_followed v) (1 + length x.0) (length b)))
-    (value_judged at b x.0 x.1 inner there))
+    search (arith, judges_map, value_of, cond, value_judged, octets_left x.0 x.1 (IsOctets-rest (length x.0) (x.0 ++ x.1) whole)))
 
 abbrev Read : Type 0
 Read = Result (Value × ℕ) TpduFault

@@ -8,8 +8,8 @@ use Rattle.osi_tpdu.proofs.Vocabulary.{BadParameterLength, BadParameterValue, Du
 use Rattle.osi_tpdu.proofs.Vocabulary.{item_octets, values_of, single, ◌>>=◌, parameter_at, no_parameters, with_size, with_calling}
 use Rattle.osi_tpdu.proofs.Vocabulary.{with_called, with_additional, with_alternative, with_parameter, parameters_at, known_at, skipped_at}
 use Rattle.osi_tpdu.proofs.Vocabulary.{all_skipped_at, Kind, LooksAtParameters, Parameter, Size, Calling, Called, Additional, Alternative}
-use Rattle.osi_tpdu.proofs.Vocabulary.{code_of, MayBeLong, MayHold, HasNoItem, BeginsWith, HasBadLength, IsRepeated, HasBadValue}
-use Rattle.osi_tpdu.proofs.Vocabulary.{HasItemFault, HasParameterFault, place_of, StandsBefore, IsFirst}
+use Rattle.osi_tpdu.proofs.Vocabulary.{code_of, MayBeLong, MayHold, BeginsWith, HasBadLength, HasBadValue, HasItemFault, HasParameterFault}
+use Rattle.osi_tpdu.proofs.Vocabulary.{place_of, IsFirst}
 use Rattle.osi_tpdu.proofs.the_steps_of_reading.{chosen, ok_is}
 use Rattle.osi_tpdu.proofs.parameters_are_read_as_they_mean.{Adds, other_code, Adds-then, Adds-none, with_found, parameter_found}
 use Rattle.osi_tpdu.proofs.parameters_are_read_as_they_mean.{parameter_again}
@@ -34,12 +34,6 @@ judges_map P r g j = grind arith
 pub judges_cond : {A : Type 0} (P : TpduFault → Type 0) (b : Bool) (x y : Result A TpduFault) → (b ≡ true → Judges P x) →
     (b ≡ false → Judges P y) → Judges P (cond b x y)
 judges_cond P b x y t f = grind arith
-
-pub judges_err : {A : Type 0} (P : TpduFault → Type 0) (r : Result A TpduFault) (f : TpduFault) → r ≡ Err f → Judges P r → IsFirst P f
-judges_err P r f e j = grind arith
-
-pub judges_ok : {A : Type 0} (P : TpduFault → Type 0) (r : Result A TpduFault) (x : A) → r ≡ Ok x → Judges P r → (f : TpduFault) → P f → ⊥
-judges_ok P r x e j = grind arith
 
 -- ---- the item at the front
 
@@ -74,11 +68,6 @@ pub item_place : (kind : Kind) (at : ℕ) (before : List Item) (s : List ℕ) (f
     place_of f ≡ at
 item_place kind at before s f h = grind arith
 
--- a bad length comes before all other faults of an item
-length_first : (kind : Kind) (at : ℕ) (before : List Item) (s : List ℕ) (f : TpduFault) → HasItemFault kind at before s f →
-    (f ≡ BadParameterLength at) ⊎ StandsBefore (BadParameterLength at) f
-length_first kind at before s f h = grind arith
-
 no_length : (kind : Kind) (k : Parameter) (value s : List ℕ) → BeginsWith kind k value s → MayBeLong k (length value) →
     HasBadLength kind s → ⊥
 no_length kind k value s b long h =
@@ -87,16 +76,12 @@ no_length kind k value s b long h =
       | inr c ↦ c.3 (same_front (λ q v. MayBeLong q (length v)) kind k c.0 value c.1 s b c.2 long)
     ]
 
-not_twice : (kind : Kind) (before : List Item) (k : Parameter) (value s : List ℕ) → BeginsWith kind k value s →
-    length (values_of (code_of k) before) ≡ 0 → IsRepeated kind before s → ⊥
-not_twice kind before k value s b once h = grind (arith, same_front)
-
 not_bad : (kind : Kind) (k : Parameter) (value s : List ℕ) → BeginsWith kind k value s → MayHold k value → HasBadValue kind s → ⊥
 not_bad kind k value s b holds h = h.3 (same_front (λ q v. MayHold q v) kind k h.0 value h.1 s b h.2 holds)
 
 too_long : (kind : Kind) (at : ℕ) (before : List Item) (k : Parameter) (value s : List ℕ) → BeginsWith kind k value s →
     (MayBeLong k (length value) → ⊥) → IsFirst (HasItemFault kind at before s) (BadParameterLength at)
-too_long kind at before k value s b long = record { there = inl (refl, inr (k, value, b, long)); first = length_first kind at before s }
+too_long kind at before k value s b long = record { there = inl (refl, inr (k, value, b, long)); first = (grind arith) }
 
 twice : (kind : Kind) (at : ℕ) (before : List Item) (k : Parameter) (value s : List ℕ) → BeginsWith kind k value s →
     MayBeLong k (length value) → 1 ≤ length (values_of (code_of k) before)
@@ -105,10 +90,7 @@ twice kind at before k value s b long again = record {
   there = inr (inl (refl, (k, value, b, again)));
   first = λ f h. elim h [
     | inl a ↦ absurd (no_length kind k value s b long a.1)
-    | inr a ↦ elim a [
-      | inl d ↦ inl d.0
-      | inr v ↦ inr (subst (λ (g : TpduFault). StandsBefore (DuplicateParameter at) g) (sym v.0) (inr (refl, omega arith)))
-    ]
+    | inr a ↦ grind arith
   ];
 }
 
@@ -119,10 +101,7 @@ bad_value kind at before k value s b long once bad = record {
   there = inr (inr (refl, (k, value, b, bad)));
   first = λ f h. elim h [
     | inl a ↦ absurd (no_length kind k value s b long a.1)
-    | inr a ↦ elim a [
-      | inl d ↦ absurd (not_twice kind before k value s b once d.1)
-      | inr v ↦ inl v.0
-    ]
+    | inr a ↦ grind (arith, same_front)
   ];
 }
 
@@ -133,7 +112,7 @@ fine kind at before k value s b long once holds f h =
     elim h [
       | inl a ↦ no_length kind k value s b long a.1
       | inr a ↦ elim a [
-        | inl d ↦ not_twice kind before k value s b once d.1
+        | inl d ↦ (grind (arith, same_front))
         | inr v ↦ not_bad kind k value s b holds v.1
       ]
     ]
@@ -149,18 +128,6 @@ empty o xs e h = grind arith
 single_there : (o : Option ℕ) → is_some (single o) ≡ is_some o
 single_there o = grind arith
 
-not_one : (n : ℕ) → not (eqb n 1) ≡ true → n ≡ 1 → ⊥
-not_one n e one = grind (arith, eq-eqb, false≢true)
-
-one_of : (n : ℕ) → not (eqb n 1) ≡ false → n ≡ 1
-one_of n e = eqb-true n 1 (not-false _ e)
-
-out_of_range : (n : ℕ) → leb 7 n && leb n 13 ≡ false → (7 ≤ n) × (n ≤ 13) → ⊥
-out_of_range n e h = grind (arith, le-leb, false≢true)
-
-in_bounds : (n : ℕ) → leb 7 n && leb n 13 ≡ true → (7 ≤ n) × (n ≤ 13)
-in_bounds n e = grind (arith, and_parts, leb-true)
-
 size_judged : (kind : Kind) (at : ℕ) (before : List Item) (value s : List ℕ) (p : Parameters) → BeginsWith kind Size value s →
     Adds no_parameters before p → Judges (HasItemFault kind at before s) (with_size at value p)
 unfolding with_size
@@ -168,18 +135,15 @@ size_judged kind at before value s p b adds =
     let P : TpduFault → Type 0 = HasItemFault kind at before s in
     let n = get_or value 0 0 in
     judges_cond P (not (eqb (length value) 1)) (Err (BadParameterLength at)) _
-    (λ e. too_long kind at before Size value s b (not_one (length value) e))
+    (λ e. too_long kind at before Size value s b (grind (arith, eq-eqb, false≢true)))
     (λ e. judges_cond P (is_some p.size) (Err (DuplicateParameter at)) _
-    (λ d. twice kind at before Size value s b (one_of (length value) e)
+    (λ d. twice kind at before Size value s b (grind (arith, eqb-true, not-false))
     (full (single p.size) (values_of 0xC0 before) (adds Size) (single_there p.size ∙ d)))
     (λ d. judges_cond P (leb 7 n && leb n 13) (Ok (record p { size = Some n })) (Err (BadParameterValue at))
-    (λ h. fine kind at before Size value s b (one_of (length value) e)
-    (empty (single p.size) (values_of 0xC0 before) (adds Size) (single_there p.size ∙ d)) (in_bounds n h))
-    (λ h. bad_value kind at before Size value s b (one_of (length value) e)
-    (empty (single p.size) (values_of 0xC0 before) (adds Size) (single_there p.size ∙ d)) (out_of_range n h))))
-
-above_32 : (n : ℕ) → ltb 32 n ≡ true → n ≤ 32 → ⊥
-above_32 n e le = omega (arith, ltb-true)
+    (λ h. fine kind at before Size value s b (grind (arith, eqb-true, not-false))
+    (empty (single p.size) (values_of 0xC0 before) (adds Size) (single_there p.size ∙ d)) (grind (arith, and_parts, leb-true)))
+    (λ h. bad_value kind at before Size value s b (grind (arith, eqb-true, not-false))
+    (empty (single p.size) (values_of 0xC0 before) (adds Size) (single_there p.size ∙ d)) (grind (arith, le-leb, false≢true)))))
 
 calling_judged : (kind : Kind) (at : ℕ) (before : List Item) (value s : List ℕ) (p : Parameters) → BeginsWith kind Calling value s →
     Adds no_parameters before p → Judges (HasItemFault kind at before s) (with_calling at value p)
@@ -187,7 +151,7 @@ unfolding with_calling
 calling_judged kind at before value s p b adds =
     let P : TpduFault → Type 0 = HasItemFault kind at before s in
     judges_cond P (ltb 32 (length value)) (Err (BadParameterLength at)) _
-    (λ e. too_long kind at before Calling value s b (above_32 (length value) e))
+    (λ e. too_long kind at before Calling value s b (grind (arith, ltb-true)))
     (λ e. judges_cond P (is_some p.calling) (Err (DuplicateParameter at)) (Ok (record p { calling = Some value }))
     (λ d. twice kind at before Calling value s b (ltb-false 32 (length value) e) (full p.calling (values_of 0xC1 before) (adds Calling) d))
     (λ d. fine kind at before Calling value s b (ltb-false 32 (length value) e) (empty p.calling (values_of 0xC1 before) (adds Calling) d)
@@ -199,7 +163,7 @@ unfolding with_called
 called_judged kind at before value s p b adds =
     let P : TpduFault → Type 0 = HasItemFault kind at before s in
     judges_cond P (ltb 32 (length value)) (Err (BadParameterLength at)) _
-    (λ e. too_long kind at before Called value s b (above_32 (length value) e))
+    (λ e. too_long kind at before Called value s b (grind (arith, ltb-true)))
     (λ e. judges_cond P (is_some p.called) (Err (DuplicateParameter at)) (Ok (record p { called = Some value }))
     (λ d. twice kind at before Called value s b (ltb-false 32 (length value) e) (full p.called (values_of 0xC2 before) (adds Called) d))
     (λ d. fine kind at before Called value s b (ltb-false 32 (length value) e) (empty p.called (values_of 0xC2 before) (adds Called) d) tt))
@@ -211,11 +175,11 @@ unfolding with_additional
 additional_judged kind at before value s p b adds =
     let P : TpduFault → Type 0 = HasItemFault kind at before s in
     judges_cond P (not (eqb (length value) 1)) (Err (BadParameterLength at)) _
-    (λ e. too_long kind at before Additional value s b (not_one (length value) e))
+    (λ e. too_long kind at before Additional value s b (grind (arith, eq-eqb, false≢true)))
     (λ e. judges_cond P (is_some p.additional) (Err (DuplicateParameter at)) (Ok (record p { additional = Some (get_or value 0 0) }))
-    (λ d. twice kind at before Additional value s b (one_of (length value) e)
+    (λ d. twice kind at before Additional value s b (grind (arith, eqb-true, not-false))
     (full (single p.additional) (values_of 0xC6 before) (adds Additional) (single_there p.additional ∙ d)))
-    (λ d. fine kind at before Additional value s b (one_of (length value) e)
+    (λ d. fine kind at before Additional value s b (grind (arith, eqb-true, not-false))
     (empty (single p.additional) (values_of 0xC6 before) (adds Additional) (single_there p.additional ∙ d)) tt))
 
 alternative_judged : (kind : Kind) (at : ℕ) (before : List Item) (value s : List ℕ) (p : Parameters) → BeginsWith kind Alternative value s →
@@ -264,8 +228,7 @@ with_judged kind at code before value rest s p looks whole adds =
     (λ n6. judges_cond P (eqb code 0xC7) (with_alternative at value p) (Ok p)
     (λ e. alternative_judged kind at before value s p (begins Alternative (eqb-true code 0xC7 e)) adds)
     (λ n7. ignored kind at code before value rest s whole
-    (λ k v b. eqb-false code (code_of k) (other_code code n0 n1 n2 n6 n7 k)
-    (same_item (item code value) (item (code_of k) v) rest b.rest (sym whole ∙ b.whole)).code))))))
+    (grind (arith, eqb-false, other_code, same_item)))))))
 
 -- ---- items after others
 
@@ -280,10 +243,6 @@ pub record HasLater (kind : Kind) (at : ℕ) (before : List Item) (octets : List
 moved : (kind : Kind) (at to : ℕ) (before others : List Item) (s : List ℕ) (f : TpduFault) → at ≡ to → before ≡ others →
     HasItemFault kind at before s f → HasItemFault kind to others s f
 moved kind at to before others s f e same h = grind arith
-
-here : (kind : Kind) (at : ℕ) (before : List Item) (s : List ℕ) (f : TpduFault) → 1 ≤ length s → HasItemFault kind at before s f →
-    HasLater kind at before s f
-here kind at before s f there h = grind (arith, moved, add-zero, append-nil)
 
 later : (kind : Kind) (at : ℕ) (before : List Item) (i : Item) (s t : List ℕ) (f : TpduFault) → s ≡ item_octets i ++ t →
     HasLater kind (at + (2 + length i.value)) (before ++ i ∷ []) t f → HasLater kind at before s f
@@ -307,35 +266,22 @@ here_or_later kind at before i s t f [] rest e whole some bad =
 here_or_later kind at before i s t f (j ∷ items) rest e whole some bad =
     let same = same_item i j t (flat_map item_octets items ++ rest)
     (sym e ∙ whole ∙ append_assoc (item_octets j) (flat_map item_octets items) rest) in
-    let is : j ≡ i = λ k. record { code = sym same.code k; value = sym same.value k } in
-    let lists : before ++ j ∷ items ≡ (before ++ i ∷ []) ++ items = ap (λ (x : Item). before ++ x ∷ items) is ∙
-    sym (append_assoc before (i ∷ []) items) in
+    let lists : before ++ j ∷ items ≡ (before ++ i ∷ []) ++ items = grind (arith, append_assoc) in
     let offset : at + length (flat_map item_octets (j ∷ items)) ≡ at + (2 + length i.value) + length (flat_map item_octets items) =
     omega (arith, length-append j.value (flat_map item_octets items), ap length same.value) in
-    inr (record {
-      items = items;
-      rest = rest;
-      whole = same.behind;
-      some = some;
-      bad = moved kind (at + length (flat_map item_octets (j ∷ items))) (at + (2 + length i.value) + length (flat_map item_octets items))
-          (before ++ j ∷ items) ((before ++ i ∷ []) ++ items) rest f offset lists bad;
-    })
+    inr (search (arith, moved))
 
 pub later_place : (kind : Kind) (at : ℕ) (before : List Item) (s : List ℕ) (f : TpduFault) → HasLater kind at before s f → at ≤ place_of f
-later_place kind at before s f h =
-    omega (arith, item_place kind (at + length (flat_map item_octets h.items)) (before ++ h.items) h.rest f h.bad)
+later_place kind at before s f h = grind (arith, item_place)
 
 -- if the item has a fault, it is the first
 item_first : (kind : Kind) (at : ℕ) (before : List Item) (i : Item) (s t : List ℕ) (f : TpduFault) → s ≡ item_octets i ++ t →
     IsFirst (HasItemFault kind at before s) f → IsFirst (HasLater kind at before s) f
 item_first kind at before i s t f e h = record {
-  there = here kind at before s f (subst (λ (o : List ℕ). 1 ≤ length o) (sym e) (omega arith)) h.there;
+  there = grind (arith, moved, add-zero, append-nil);
   first = λ g l. elim (here_or_later kind at before i s t g l.items l.rest e l.whole l.some l.bad) [
     | inl now ↦ h.first g now
-    | inr after ↦
-        let mine = item_place kind at before s f h.there in
-        let theirs = later_place kind (at + (2 + length i.value)) (before ++ i ∷ []) t g after in
-        inr (inl (omega arith))
+    | inr after ↦ grind (arith, item_place, later_place)
   ];
 }
 
@@ -355,19 +301,10 @@ parameter_bad : (at : ℕ) (s : List ℕ) (f : TpduFault) → parameter_at at s 
 unfolding parameter_at
 parameter_bad at s f e = grind (arith, chosen, get_or)
 
-parameter_none : (at : ℕ) (s : List ℕ) (f : TpduFault) → parameter_at at s ≡ Err f → HasNoItem s
-parameter_none at s f e i rest whole = grind (arith, parameter_again)
-
-cut_by : (kind : Kind) (at : ℕ) (before : List Item) (s : List ℕ) (f : TpduFault) (items : List Item) (rest : List ℕ) → HasNoItem s →
-    s ≡ flat_map item_octets items ++ rest
-    → HasItemFault kind (at + length (flat_map item_octets items)) (before ++ items) rest f →
-    (f ≡ BadParameterLength at) ⊎ StandsBefore (BadParameterLength at) f
-cut_by kind at before s f items rest none whole bad = grind arith
-
 -- no complete item is there
 cut_first : (kind : Kind) (at : ℕ) (before : List Item) (s : List ℕ) (f : TpduFault) → 1 ≤ length s → parameter_at at s ≡ Err f →
     IsFirst (HasLater kind at before s) f
-cut_first kind at before s f there e = grind (arith, parameter_none, here, cut_by, parameter_bad)
+cut_first kind at before s f there e = search (arith, parameter_again, parameter_bad)
 
 nothing_later : (kind : Kind) (at : ℕ) (before : List Item) (f : TpduFault) → HasLater kind at before [] f → ⊥
 nothing_later kind at before f h = omega (arith, ap length h.whole, length-append (flat_map item_octets h.items) h.rest, h.some)
@@ -389,12 +326,12 @@ known_judged (suc n) at kind before (o ∷ s) p looks enough octets fits adds =
     let judged = with_judged kind at x.0 before x.1 x.2 (o ∷ s) p looks one.0 adds in
     judges_bind P (with_parameter at x.0 x.1 p) _
     (λ f bad. item_first kind at before i (o ∷ s) x.2 f one.0
-    (judges_err (HasItemFault kind at before (o ∷ s)) (with_parameter at x.0 x.1 p) f bad judged))
+    (grind arith))
     (λ more good.
     let added = with_found at x.0 x.1 p more fits one.1 good in
     let joined = Adds-then no_parameters p more before (i ∷ []) adds added.0 in
     item_passed kind at before i (o ∷ s) x.2 (parameters_at n (at + (2 + length x.1)) more x.2) one.0
-    (judges_ok (HasItemFault kind at before (o ∷ s)) (with_parameter at x.0 x.1 p) more good judged)
+    (grind arith)
     (known_judged n (at + (2 + length x.1)) kind (before ++ i ∷ []) x.2 more looks (omega (arith, one.3)) one.2 added.1 joined)))
 
 skipped_judged : (n at : ℕ) (kind : Kind) (before : List Item) (s : List ℕ) → (LooksAtParameters kind → ⊥) → length s ≤ n → IsOctets s →
@@ -427,8 +364,7 @@ parameters_judged kind at s looks octets =
 
 pub skips_judged : (kind : Kind) (at : ℕ) (s : List ℕ) → (LooksAtParameters kind → ⊥) → IsOctets s →
     Judges (HasParameterFault kind at s) (all_skipped_at at s)
-skips_judged kind at s blind octets =
-    from_start kind at s (all_skipped_at at s) (skipped_judged (length s) at kind [] s blind (omega arith) octets)
+skips_judged kind at s blind octets = grind (arith, from_start, skipped_judged (length s) at kind [] s blind (omega arith) octets)
 
 pub parameter_place : (kind : Kind) (at : ℕ) (s : List ℕ) (f : TpduFault) → HasParameterFault kind at s f → at ≤ place_of f
 parameter_place kind at s f h = omega (arith, item_place kind (at + length (flat_map item_octets h.items)) h.items h.rest f h.bad)

@@ -46,9 +46,7 @@ units_at_found (suc n) at b vs octets e =
     let k = p.0.1 in
     let s = unit_found at b p.0 octets p.1 in
     elim (chosen (eqb k (length b)) (Ok (v ∷ [])) (with_first v (units_at n (at + k) (drop k b))) (Ok vs) p.2) [
-      | inl t ↦
-          let all : take k b ≡ b = take_all k b (omega (arith, eqb-true k (length b) t.0)) in
-          subst (λ (us : List Value). AreUnits us b) (ok_is (v ∷ []) vs t.1) (subst (λ (c : List ℕ). Spells v c) all s.0.spelled)
+      | inl t ↦ grind (arith, take_all, eqb-true, ok_is)
       | inr t ↦
           let q = bind_ok (units_at n (at + k) (drop k b)) (λ us. Ok (v ∷ us)) vs t.1 in
           let differ : k ≡ length b → ⊥ = eqb-false k (length b) t.0 in
@@ -73,9 +71,6 @@ units_least [] b us = absurd us
 units_least (v ∷ []) b us = spelling_least v b us
 units_least (v ∷ w ∷ vs) b us = grind (arith, length-append, spelling_least)
 
-follows_lead : (v : Value) (y : List ℕ) → IsTrue (may_be_followed v) → (may : Bool) → may_be_followed v ≡ may → Follows v y
-follows_lead v y lead may may2 = grind (arith, false≢true)
-
 units_at_only : (n at : ℕ) (vs : List Value) (b : List ℕ) → length b < n → AreUnits vs b → units_at n at b ≡ Ok vs
 unfolding units_at
 units_at_only zero at vs b le us = absurd (omega arith)
@@ -89,7 +84,7 @@ units_at_only (suc n) at (v ∷ w ∷ vs) b le us =
     let least' = spelling_least v x us.4 in
     let len = length-append x y in
     let read : unit_at at b ≡ Ok (v, length x) =
-    ap (unit_at at) us.3 ∙ unit_spelled at v x y us.4 (follows_lead v y us.0 (may_be_followed v) refl) in
+    ap (unit_at at) us.3 ∙ unit_spelled at v x y us.4 (grind (arith, false≢true)) in
     let more : eqb (length x) (length b) ≡ false = ne_eqb _ _ (λ e. omega (arith, ap length us.3)) in
     let behind : drop (length x) b ≡ y = ap (drop (length x)) us.3 ∙ drop_at x y (length x) refl in
     let others = units_at_only n (at + length x) (w ∷ vs) y (omega (arith, ap length us.3)) us.5 in
@@ -127,15 +122,9 @@ pub record Ends (at : ℕ) (rest : List ℕ) (whole : Read) : Type 0 where
   pub enough : length rest < fuel
   pub same : SameEnd (units_at fuel at rest) whole
 
-SameEnd-refl : (r : Read) → SameEnd r r
-SameEnd-refl r = grind arith
-
 pub Ends-first : (b : List ℕ) → Ends 0 b (units_of b)
 unfolding units_of
-Ends-first b = record { fuel = suc (length b); enough = omega arith; same = SameEnd-refl (units_at (suc (length b)) 0 b) }
-
-SameEnd-others : (v : Value) (others whole : Read) → SameEnd (with_first v others) whole → SameEnd others whole
-SameEnd-others v others whole s = grind arith
+Ends-first b = record { fuel = suc (length b); enough = omega arith; same = (grind arith) }
 
 Ends-more-with : (n at : ℕ) (rest : List ℕ) (whole : Read) (x : Value × ℕ) → length rest < n → SameEnd (units_at n at rest) whole →
     unit_at at rest ≡ Ok x → x.1 < length rest → 1 ≤ x.1
@@ -143,11 +132,10 @@ Ends-more-with : (n at : ℕ) (rest : List ℕ) (whole : Read) (x : Value × ℕ
 unfolding units_at
 Ends-more-with zero at rest whole x enough same read more some = absurd (omega arith)
 Ends-more-with (suc n) at rest whole x enough same read more some =
-    let not_all : eqb x.1 (length rest) ≡ false = ne_eqb _ _ (λ e. omega arith) in
     record {
       fuel = n;
       enough = omega (arith, length-drop x.1 rest);
-      same = SameEnd-others x.0 (units_at n (at + x.1) (drop x.1 rest)) whole (rw (read, not_all) at same);
+      same = grind arith;
     }
 
 pub Ends-more : (at : ℕ) (rest : List ℕ) (whole : Read) (x : Value × ℕ) → Ends at rest whole → unit_at at rest ≡ Ok x → x.1 < length rest →
@@ -210,16 +198,7 @@ first_left at rest x some can read =
       | inr not_all ↦
           let differ : x.1 ≡ length rest → ⊥ = eqb-false x.1 (length rest) not_all in
           let shorter = length-drop x.1 rest in
-          let there = some_left (at + x.1) (drop x.1 rest) (omega arith) in
-          let same = units_enough (suc (length (drop x.1 rest))) (length rest) (at + x.1) (drop x.1 rest) (omega arith) (omega arith) in
-          let whole : units_at (suc (length rest)) at rest ≡ with_first x.0
-          (units_at (suc (length (drop x.1 rest))) (at + x.1) (drop x.1 rest)) = rw (read, not_all, same) refl in
-          let others = others_left x.0 (units_at (suc (length (drop x.1 rest))) (at + x.1) (drop x.1 rest))
-          (ap is_ok_read (sym whole) ∙ sym here.0 ∙ can) in
-          record {
-            readable = there.0 ∙ others.0;
-            given = here.1 ∙ ap left_of whole ∙ others.1 ∙ ap (λ (vs : List Value). x.0 ∷ vs) (sym there.1);
-          }
+          grind (arith, units_enough, units_at, others_left, some_left (at + x.1) (drop x.1 rest) (omega arith))
     ]
 
 -- a unit that can't be read is no part of octets that can
@@ -229,9 +208,7 @@ none_bad at rest f some can read = grind (arith, some_left, false≢true)
 
 packet_by : (b : List ℕ) (r : Read) → units_at (suc (length b)) 0 b ≡ r → 1 ≤ length b → IsOk r →
     (can_be_read 0 b ≡ true) × (r ≡ Ok (rest_at 0 b))
-packet_by b (Ok vs) e some h =
-    let here = some_left 0 b some in
-    (here.0 ∙ ap is_ok_read e, ap (λ (us : List Value). ok us) (sym (ap left_of e) ∙ sym here.1))
+packet_by b (Ok vs) e some h = grind (arith, some_left 0 b some)
 packet_by b (Err f) e some h = absurd (false≢true h)
 
 -- a packet that was read can be read, and all its units are left
@@ -242,15 +219,11 @@ packet_left (o ∷ b) h = packet_by (o ∷ b) (units_at (suc (length (o ∷ b)))
 
 -- octets with a fault spell no units
 pub no_units : (b : List ℕ) (f : TpduFault) (vs : List Value) → units_of b ≡ Err f → AreUnits vs b → ⊥
-no_units b f vs bad us =
-    let read : units_of b ≡ Ok vs = units_only b vs us in
-    cc
+no_units b f vs bad us = grind (arith, units_of, units_only)
 
 -- octets that were read spell no other units
 pub one_reading : (b : List ℕ) (vs ws : List Value) → units_of b ≡ Ok vs → AreUnits ws b → vs ≡ ws
-one_reading b vs ws read us =
-    let again : units_of b ≡ Ok ws = units_only b ws us in
-    cc
+one_reading b vs ws read us = grind (arith, units_of, units_only)
 
 -- ---- units after others
 
@@ -296,18 +269,6 @@ record Stops (at : ℕ) (b : List ℕ) (f : TpduFault) : Type 0 where
   pub some : 1 ≤ length b → 1 ≤ length rest
   pub bad : unit_at (at + length front) rest ≡ Err f
 
-bad_is : (g f : TpduFault) → units_bad g ≡ units_bad f → bad_one g ≡ bad_one f
-bad_is g f e = cc
-
-ok_no_fault : (vs : List Value) (f : TpduFault) → ok vs ≡ Err f → ⊥
-ok_no_fault vs f e = cc
-
-others_bad : (v : Value) (others : Read) (f : TpduFault) → with_first v others ≡ Err f → others ≡ Err f
-others_bad v others f e = grind arith
-
-stops_here : (at : ℕ) (b : List ℕ) (f : TpduFault) → unit_at at b ≡ Err f → Stops at b f
-stops_here at b f e = grind (arith, add-zero)
-
 stops_later : (at k : ℕ) (v : Value) (b : List ℕ) (f : TpduFault) → Spells v (take k b) → k < length b → IsTrue (may_be_followed v) →
     Stops (at + k) (drop k b) f → Stops at b f
 stops_later at k v b f s less lead stop =
@@ -329,21 +290,21 @@ stop_by : (n at : ℕ) (b : List ℕ) (f : TpduFault) (first : Result (Value × 
     IsOctets b → units_at (suc n) at b ≡ Err f
     → ((at' : ℕ) (c : List ℕ) → length c < n → IsOctets c → units_at n at' c ≡ Err f → Stops at' c f) → Stops at b f
 unfolding units_at
-stop_by n at b f (Err g) e enough octets failed later = grind (arith, stops_here, bad_is)
+stop_by n at b f (Err g) e enough octets failed later = grind arith
 stop_by n at b f (Ok x) e enough octets bad later =
     let v = x.0 in
     let k = x.1 in
     let s = unit_found at b x octets e in
     let after = rw e at bad in
     elim (chosen (eqb k (length b)) (ok (v ∷ [])) (with_first v (units_at n (at + k) (drop k b))) (Err f) after) [
-      | inl t ↦ absurd (ok_no_fault (v ∷ []) f t.1)
+      | inl t ↦ absurd (grind arith)
       | inr t ↦
           let differ : k ≡ length b → ⊥ = eqb-false k (length b) t.0 in
           let left : 1 ≤ length (drop k b) = omega (arith, length-drop k b) in
           let lead = lead_by_rest v (drop k b) (may_be_followed v) refl left s.0.followed in
           let more : length (drop k b) < n = omega (arith, length-drop k b, s.1) in
           stops_later at k v b f s.0.spelled (omega arith) lead
-          (later (at + k) (drop k b) more (octets_drop k b octets) (others_bad v (units_at n (at + k) (drop k b)) f t.1))
+          (later (at + k) (drop k b) more (octets_drop k b octets) (grind arith))
     ]
 
 units_at_stop : (n at : ℕ) (b : List ℕ) (f : TpduFault) → length b < n → IsOctets b → units_at n at b ≡ Err f → Stops at b f
@@ -382,7 +343,7 @@ units_at_bad (suc n) at (v ∷ leads) front rest f enough are some bad =
     let parts' = length-append y rest in
     let left : 1 ≤ length rest = some (omega arith) in
     let read : unit_at at (front ++ rest) ≡ Ok (v, length x) =
-    ap (unit_at at) whole ∙ unit_spelled at v x (y ++ rest) are.4 (follows_lead v (y ++ rest) are.0 (may_be_followed v) refl) in
+    ap (unit_at at) whole ∙ unit_spelled at v x (y ++ rest) are.4 (grind (arith, false≢true)) in
     let more : eqb (length x) (length (front ++ rest)) ≡ false = ne_eqb _ _ (λ e. omega arith) in
     let behind : drop (length x) (front ++ rest) ≡ y ++ rest = ap (drop (length x)) whole ∙ drop_at x (y ++ rest) (length x) refl in
     let offset : at + length x + length y ≡ at + length front = omega (arith, ap length are.3, length-append x y) in
@@ -394,10 +355,5 @@ pub fault_only : (b : List ℕ) (f : TpduFault) → IsOctets b → IsFirstFault 
 unfolding units_of
 fault_only b f octets first =
     let behind : IsOctets first.rest = octets_right first.front first.rest (subst (λ (t : List ℕ). IsOctets t) first.whole octets) in
-    let some : 1 ≤ length (first.front ++ first.rest) → 1 ≤ length first.rest =
-    λ h. first.some (subst (λ (t : List ℕ). 1 ≤ length t) (sym first.whole) h) in
-    let bad : unit_at (0 + length first.front) first.rest ≡ Err f = ap (λ (k : ℕ). unit_at k first.rest) (zero-add (length first.front)) ∙
-    unit_fault_only (length first.front) first.rest f behind first.bad in
-    let there = units_at_bad (suc (length (first.front ++ first.rest))) 0 first.leads first.front first.rest f (omega arith) first.are_leads
-    some bad in
-    ap (λ (t : List ℕ). units_at (suc (length t)) 0 t) first.whole ∙ there
+    let bad : unit_at (0 + length first.front) first.rest ≡ Err f = search (arith, unit_at, zero-add, unit_fault_only) in
+    grind (arith, units_at_bad, units_at)

@@ -1,12 +1,11 @@
 -- A unit that is in range and has room is written as a spelling of it, which reads back as the unit.
-use Rattle.std.proofs.Common.{◌≡◌, [], ◌∷◌, Ok, sym, subst}
+use Rattle.std.proofs.Common.{arith, ◌≡◌, [], ◌∷◌, Ok}
 use Rattle.osi_tpdu.proofs.Vocabulary.{Tpdu, HasFieldsInRange, Spells, written, HasRoom, units_of, value}
 use Rattle.osi_tpdu.proofs.the_written_form_spells_its_value.{written_spells}
 use Rattle.osi_tpdu.proofs.the_units_of_a_packet.{units_only}
 
 pub unit_spelled : (u t : Tpdu) → u ≡ t → HasFieldsInRange (value t) → HasRoom (value u) → Spells (value u) (written (value u))
-unit_spelled u t is range room =
-    written_spells (value u) (record { in_range = subst (λ (w : Tpdu). HasFieldsInRange (value w)) (sym is) range; counted = room })
+unit_spelled u t is range room = grind (arith, written_spells)
 
 pub unit_read : (u t : Tpdu) → u ≡ t → HasFieldsInRange (value t) → HasRoom (value u) → units_of (written (value u)) ≡ Ok (value u ∷ [])
 unit_read u t is range room = units_only (written (value u)) (value u ∷ []) (unit_spelled u t is range room)

@@ -1,16 +1,10 @@
 -- The code octet of a unit tells whether another unit may follow it.
-use Rattle.std.proofs.Common.{◌≡◌, ℕ, ◌≤◌, ◌/◌, Bool, true, false, List, length, get_or, Result, Ok, Err}
-use Rattle.std.proofs.Common.{refl, arith}
-use Rattle.osi_tpdu.proofs.Vocabulary.{ne_eqb, eqb-true, TpduFault, Value}
-use Rattle.osi_tpdu.proofs.Vocabulary.{IsOk, may_be_followed, header_at}
-use Rattle.osi_tpdu.proofs.Vocabulary.{request_of, confirm_of, disconnect_of, disconnected_of, transfer_of, acknowledge_of}
-use Rattle.osi_tpdu.proofs.Vocabulary.{error_of, value_of, is_lead_code, used_by, unit_at, can_be_read}
+use Rattle.std.proofs.Common.{◌≡◌, ℕ, ◌≤◌, Bool, true, false, List, length, get_or, Result, Ok, Err, refl, arith}
+use Rattle.osi_tpdu.proofs.Vocabulary.{eqb-true, TpduFault, Value, IsOk, may_be_followed, header_at, request_of, confirm_of, disconnect_of}
+use Rattle.osi_tpdu.proofs.Vocabulary.{disconnected_of, transfer_of, acknowledge_of, error_of, value_of, is_lead_code, used_by, unit_at}
+use Rattle.osi_tpdu.proofs.Vocabulary.{can_be_read}
 use Rattle.osi_tpdu.proofs.the_steps_of_reading.{bind_ok, unless_ok, when_ok, chosen, ok_is}
 use Rattle.osi_tpdu.proofs.the_units_of_a_packet.{none_bad}
-
-no_lead : (code : ℕ) → (code / 16 ≡ 0x6 → ⊥) → (code ≡ 0xC0 → ⊥) → (code ≡ 0x70 → ⊥) → is_lead_code code ≡ false
-unfolding is_lead_code
-no_lead code a d e = rw (ne_eqb (code / 16) 0x6 a, ne_eqb code 0xC0 d, ne_eqb code 0x70 e) refl
 
 abbrev Leads : Bool → Value → Type 0
 Leads may v = may_be_followed v ≡ may
@@ -52,7 +46,6 @@ lead_code at header behind v e =
       chosen,
       eqb-true,
       request_leads,
-      no_lead,
       confirm_leads,
       acknowledge_leads,
       disconnect_leads,
@@ -93,10 +86,5 @@ pub first_known : (at : ℕ) (b : List ℕ) (x : List ℕ × List ℕ) → 1 ≤
     IsOk (value_of at x.0 x.1)
 first_known at b x some can header = rw (first_stands at b x some can header).1 refl
 
-header_stands : (at : ℕ) (b : List ℕ) (r : Result (List ℕ × List ℕ) TpduFault) → 1 ≤ length b → can_be_read at b ≡ true → header_at at b ≡ r
-    → IsOk (header_at at b)
-header_stands at b (Ok x) some can read = rw read refl
-header_stands at b (Err f) some can read = absurd (no_bad_header at b f some can read)
-
 pub header_known : (at : ℕ) (b : List ℕ) → 1 ≤ length b → can_be_read at b ≡ true → IsOk (header_at at b)
-header_known at b some can = header_stands at b (header_at at b) some can refl
+header_known at b some can = grind (arith, no_bad_header)

@@ -30,11 +30,7 @@ pub front_taken : (held piece : List ℕ) (n : ℕ) → IsOctets held → IsOcte
 front_taken held piece n ho po version least some within =
     let same : held ++ piece ≡ (held ++ take n piece) ++ drop n piece =
     ap (λ x. held ++ x) (sym (take-append-drop n piece)) ∙ sym (append_assoc held (take n piece) (drop n piece)) in
-    let size = length-append held (take n piece) in
-    let taken = length-take-le n piece some in
-    front_part (held ++ take n piece) (drop n piece) (subst IsOctets same (octets_append held piece ho po))
-    (subst (λ x. get_or x 0 0 ≡ 3) same version) (subst (λ x. 7 ≤ stated_length x) same least)
-    (subst (λ x. length (held ++ take n piece) ≤ stated_length x) same (omega arith))
+    grind (arith, length-append, length-take-le, front_part, octets_append)
 
 pub front_prefix : (r more : List ℕ) → IsFront (r ++ more) → IsFront r
 front_prefix r more f =
@@ -57,22 +53,8 @@ full_packet b f g = grind arith
 long_partial : (r : List ℕ) → IsFront r → IsUnfinished r → 4 ≤ length r → IsPartial r
 long_partial r f g h =
     let n : ℕ = stated_length r - length r in
-    let less = g h in
     let total = length-append r (replicate n 0) in
-    let zeros : length (replicate {A = ℕ} n 0) ≡ n = length-replicate n 0 in
-    let stated = stated_length-append r (replicate n 0) h in
-    let least = f.at_least h in
-    let front : IsFront (r ++ replicate n 0) = record {
-      octets = octets_append r (replicate n 0) f.octets (octets_zeros n);
-      version = λ _. get_or_append_left r (replicate n 0) 0 0 (omega arith) ∙ f.version (omega arith);
-      at_least = λ _. omega arith;
-      within = λ _. omega arith;
-    } in
-    record {
-      more = replicate n 0;
-      some = omega arith;
-      completes = (drop 4 (r ++ replicate n 0), full_packet (r ++ replicate n 0) front (omega arith, omega arith));
-    }
+    grind (arith, length-replicate, stated_length-append, octets_append, octets_zeros, get_or_append_left, full_packet)
 
 -- fewer than four: first the header is completed
 pub completed_partial : (r header : List ℕ) → IsPartial (r ++ header) → IsPartial r
@@ -83,8 +65,7 @@ header_partial : (b c d : ℕ) → b < 256 → c < 256 → d < 256 → 7 ≤ 256
 header_partial b c d hb hc hd h = grind (arith, long_partial, octets_cons, octets_nil)
 
 pub short_partial : (r : List ℕ) → IsFront r → IsUnfinished r → IsPartial r
-short_partial [] f g =
-    completed_partial [] (3 ∷ 0 ∷ 0 ∷ 7 ∷ []) (header_partial 0 0 7 (omega arith) (omega arith) (omega arith) (omega arith))
+short_partial [] f g = grind (arith, completed_partial, header_partial 0 0 7 (omega arith) (omega arith) (omega arith) (omega arith))
 short_partial (a ∷ []) f g = grind (arith, header_partial 0 0 7 (omega arith) (omega arith) (omega arith) (omega arith))
 short_partial (a ∷ b ∷ []) f g = grind (arith, header_partial b 0 7 (f.octets 1) (omega arith) (omega arith) (omega arith))
 short_partial (a ∷ b ∷ c ∷ []) f g = grind (arith, header_partial b c 7 (f.octets 1) (f.octets 2) (omega arith) (omega arith))
@@ -102,26 +83,14 @@ front_version h t some f bad = bad.1 (get_or_append_left h t 0 0 some ∙ f.vers
 pub front_length : (h t : List ℕ) → 4 ≤ length h → IsFront h → IsBadLength (h ++ t) → ⊥
 front_length h t some f bad = omega (arith, stated_length-append)
 
-bad_version : (r more : List ℕ) → IsFront r → (4 ≤ length r) ⊎ (more ≡ []) → IsBadVersion (r ++ more) → ⊥
-bad_version r more front h bad = grind (arith, front_version, append-nil)
-
-bad_length : (r more : List ℕ) → IsFront r → (4 ≤ length r) ⊎ (more ≡ []) → IsBadLength (r ++ more) → ⊥
-bad_length r more front h bad = grind (arith, front_length, append-nil)
-
 pub fault_behind : (r more : List ℕ) (at : ℕ) (f : TpktFault) → IsFront r → (4 ≤ length r) ⊎ (more ≡ []) → IsFaultOf at (r ++ more) f → ⊥
-fault_behind r more at f front enough bad = grind (arith, bad_version, bad_length)
+fault_behind r more at f front enough bad = grind (arith, front_version, append-nil, front_length)
 
 -- if a complete packet or all of the piece was taken, its octets have no fault
 pub no_fault : (held piece : List ℕ) (n at : ℕ) (f : TpktFault) → IsFront (held ++ take n piece) →
     (4 ≤ length (held ++ take n piece)) ⊎ (n ≡ length piece) → IsFaultOf at (held ++ piece) f → ⊥
 no_fault held piece n at f front enough fault =
-    let same : held ++ piece ≡ (held ++ take n piece) ++ drop n piece =
-    ap (λ x. held ++ x) (sym (take-append-drop n piece)) ∙ sym (append_assoc held (take n piece) (drop n piece)) in
-    elim enough [
-      | inl long ↦ fault_behind (held ++ take n piece) (drop n piece) at f front (inl long) (subst (λ x. IsFaultOf at x f) same fault)
-      | inr all ↦ fault_behind (held ++ take n piece) (drop n piece) at f front
-          (inr (ap (λ k. drop k piece) all ∙ drop_all (length piece) piece (omega arith))) (subst (λ x. IsFaultOf at x f) same fault)
-    ]
+    grind (arith, fault_behind, drop_all, take-append-drop n piece, append_assoc held (take n piece) (drop n piece))
 
 -- octets have at most one fault
 pub one_fault : (at : ℕ) (s : List ℕ) (f g : TpktFault) → IsFaultOf at s f → IsFaultOf at s g → f ≡ g
@@ -180,16 +149,6 @@ pub same_held : (offset : ℕ) (fault : Option TpktFault) (xs ys : List ℕ) (m 
     holding offset fault xs m ≡ holding offset fault ys n
 same_held offset fault xs ys m n e f = ap (λ x. holding offset fault x m) e ∙ ap (λ k. holding offset fault ys k) f
 
-counted : (whole : Bool) (held used stated piece : ℕ) → MatchBool whole (held + used ≡ stated) ((held + piece < stated) × (used ≡ piece)) →
-    held + used ≤ stated
-counted whole held used stated piece h = grind arith
-
-whole_part : (whole : Bool) (held piece : List ℕ) (used : ℕ) → 7 ≤ stated_length (held ++ piece) → used ≤ length piece →
-    MatchBool whole (length held + used ≡ stated_length (held ++ piece))
-    ((length held + length piece < stated_length (held ++ piece)) × (used ≡ length piece)) →
-    MatchBool whole (IsFull (held ++ take used piece)) (IsUnfinished (held ++ take used piece) × (used ≡ length piece))
-whole_part whole held piece used least some h = grind (arith, length-append, length-take-le, stated_taken)
-
 -- what `part_of` ensures about lengths, as a statement about the octets themselves
 pub part_front : (r : Result Fed HeaderFault) (held piece : List ℕ) → IsFront held → get_or (held ++ piece) 0 0 ≡ 3 → IsOctets piece →
     4 ≤ length (held ++ piece) →
@@ -197,7 +156,7 @@ pub part_front : (r : Result Fed HeaderFault) (held piece : List ℕ) → IsFron
     IfOk r (λ fed. MatchBool fed.whole (length held + fed.used ≡ stated_length (held ++ piece))
     ((length held + length piece < stated_length (held ++ piece)) × (fed.used ≡ length piece))) →
     IfOk r (λ fed. IsFront (held ++ take fed.used piece))
-part_front r held piece front version octets long least used part = grind (arith, front_taken, counted)
+part_front r held piece front version octets long least used part = grind (arith, front_taken)
 
 pub part_whole : (r : Result Fed HeaderFault) (held piece : List ℕ) → IsFront held → 4 ≤ length (held ++ piece) →
     OnOk r (7 ≤ stated_length (held ++ piece)) → IfOk r (λ fed. fed.used ≤ length piece) →
@@ -205,16 +164,13 @@ pub part_whole : (r : Result Fed HeaderFault) (held piece : List ℕ) → IsFron
     ((length held + length piece < stated_length (held ++ piece)) × (fed.used ≡ length piece))) →
     IfOk r (λ fed. MatchBool fed.whole (IsFull (held ++ take fed.used piece))
     (IsUnfinished (held ++ take fed.used piece) × (fed.used ≡ length piece)))
-part_whole r held piece front long least used part = grind (arith, whole_part)
+part_whole r held piece front long least used part = grind (arith, length-append, length-take-le, stated_taken)
 
 -- what is written after other octets and a header is a packet
 pub packet_behind : (before unit octets : List ℕ) → octets ≡ before ++ packet_of unit → IsOctets octets → 3 ≤ length unit →
     length unit ≤ 65531 →
     IsPacket unit (packet_of unit)
 packet_behind before unit octets same known least most = grind (arith, octets_right before (packet_of unit) (subst IsOctets same known))
-
-whole_where : (P Q : Type 0) (whole : Bool) → whole ≡ true → MatchBool whole P Q → P
-whole_where P Q whole e h = grind arith
 
 -- a packet that becomes ready needed some of the piece
 pub belonging_some : (octets piece : List ℕ) (fed : Fed) → IsPartial octets → Belongs octets piece fed → fed.whole ≡ true → 0 < fed.used
@@ -223,9 +179,7 @@ belonging_some octets piece fed partial h whole = elim (cases_lt 0 fed.used) [
   | inr none ↦
       let no_more : fed.used ≡ 0 = omega arith in
       let same : octets ++ take fed.used piece ≡ octets = ap (λ n. octets ++ take n piece) no_more ∙ append-nil octets in
-      absurd (partial_not_whole octets partial (subst IsOnePacket same
-      (whole_where (IsOnePacket (octets ++ take fed.used piece)) (IsPartial (octets ++ take fed.used piece) × (fed.used ≡ length piece))
-      fed.whole whole h.whole)))
+      absurd (partial_not_whole octets partial (grind arith))
 ]
 
 -- of two lists of octets, the first of which has the version

@@ -2,8 +2,8 @@
 use Rattle.std.proofs.Common.{◌≡◌, ℕ, zero, suc, ◌+◌, ◌-◌, ◌≤◌, ◌⊎◌, inl, inr, List, [], ◌∷◌, ◌++◌, length, get_or, take, drop, refl, sym}
 use Rattle.std.proofs.Common.{◌∙◌, ap, subst, arith, Result, Err}
 use Rattle.osi_tpkt.proofs.Vocabulary.{cases_lt, cases_eq, append_cancel_left, length-append, length-take-le, take-append-drop, append-nil}
-use Rattle.osi_tpkt.proofs.Vocabulary.{IsOctets, IsPacket, IsPartial, IsBadVersion, IsBadLength, IsFaultOf, stated_length, IsFront}
-use Rattle.osi_tpkt.proofs.Vocabulary.{ArePackets, EndsAt, Cuts, offset_of, Ending, Fed, HeaderFault, TpktFault, BadVersion, BadLength}
+use Rattle.osi_tpkt.proofs.Vocabulary.{IsOctets, IsPacket, IsPartial, IsBadVersion, IsBadLength, IsFaultOf, stated_length, ArePackets}
+use Rattle.osi_tpkt.proofs.Vocabulary.{EndsAt, Cuts, offset_of, Ending, Fed, HeaderFault, TpktFault, BadVersion, BadLength}
 use Rattle.osi_tpkt.proofs.lists_of_octets_stay_octets.{octets_right}
 use Rattle.osi_tpkt.proofs.no_packet_is_a_prefix_of_another.{packet_front, one_packet, stated_length-append}
 use Rattle.osi_tpkt.specs.Stream.Ending.{Faulty, Rest}
@@ -45,15 +45,10 @@ pub one_list : (s r q : List ℕ) (us vs : List (List ℕ)) → IsPartial r → 
     (us ≡ vs) × (r ≡ q)
 one_list s r q us vs left right h k = one_reading us vs s r q (partial_no_packet r left) (partial_no_packet q right) h k
 
--- octets end a stream in at most one way
-one_end : (at : ℕ) (r : List ℕ) (e f : Ending) → EndsAt at r e → EndsAt at r f → e ≡ f
-one_end at r e f h k = search (arith, one_fault, partial_no_fault)
-
 pub one_cut : (s : List ℕ) (us vs : List (List ℕ)) (e f : Ending) → Cuts s us e → Cuts s vs f → (us ≡ vs) × (e ≡ f)
 one_cut s us vs e f h k =
-    let at : ℕ = offset_of (0 + (length s - length h.0)) in
     let one = one_reading us vs s h.0 k.0 (end_no_packet _ h.0 e h.2) (end_no_packet _ k.0 f k.2) h.1 k.1 in
-    (one.0, one_end at h.0 e f h.2 (subst (λ r. EndsAt (offset_of (0 + (length s - length r))) r f) (sym one.1) k.2))
+    (one.0, grind (arith, one_fault, partial_no_fault))
 
 -- what is at the front of octets: a packet, or an end of the stream
 abbrev Front : List ℕ → Type 0
@@ -64,33 +59,13 @@ front_whole : (s : List ℕ) → IsOctets s → get_or s 0 0 ≡ 3 → 4 ≤ len
     (u : List ℕ) × (b : List ℕ) × (t : List ℕ) × IsPacket u b × (s ≡ b ++ t)
 front_whole s octets version long least enough =
     let n : ℕ = stated_length s in
-    let b : List ℕ = take n s in
-    let same : s ≡ b ++ drop n s = sym (take-append-drop n s) in
-    let size : length b ≡ n = length-take-le n s enough in
-    let front : IsFront b = front_part b (drop n s) (subst IsOctets same octets) (subst (λ x. get_or x 0 0 ≡ 3) same version)
-    (subst (λ x. 7 ≤ stated_length x) same least) (subst (λ x. length b ≤ stated_length x) same (omega arith)) in
-    let stated : stated_length s ≡ stated_length b = ap stated_length same ∙ stated_length-append b (drop n s) (omega arith) in
-    (drop 4 b, b, drop n s, full_packet b front (omega arith, omega arith), same)
+    grind (arith, front_part, stated_length-append, full_packet, take-append-drop n s, length-take-le n s enough)
 
 front_of : (s : List ℕ) → IsOctets s → Front s
 front_of [] octets = search (arith, short_partial)
 front_of (a ∷ s) octets = elim (cases_eq a 3) [
   | inr other ↦ inr (inl (omega arith, other))
-  | inl version ↦ elim (cases_lt (length (a ∷ s)) 4) [
-    | inl less ↦ inr
-        (inr (inr (short_partial (a ∷ s)
-        (record { octets = octets; version = λ _. version; at_least = λ h. absurd (omega arith); within = λ h. absurd (omega arith) })
-        (λ h. absurd (omega arith)))))
-    | inr long ↦ elim (cases_lt (stated_length (a ∷ s)) 7) [
-      | inl low ↦ inr (inr (inl (long, version, low)))
-      | inr least ↦ elim (cases_lt (length (a ∷ s)) (stated_length (a ∷ s))) [
-        | inl less ↦ inr
-            (inr (inr (short_partial (a ∷ s)
-            (record { octets = octets; version = λ _. version; at_least = λ _. least; within = λ _. omega arith }) (λ _. less))))
-        | inr enough ↦ inl (front_whole (a ∷ s) octets version long least enough)
-      ]
-    ]
-  ]
+  | inl version ↦ grind (arith, short_partial, front_whole, cases_lt (length (a ∷ s)) 4)
 ]
 
 some_end : (at : ℕ) (s : List ℕ) → IsBadVersion s ⊎ (IsBadLength s ⊎ IsPartial s) → (e : Ending) × EndsAt at s e
@@ -104,9 +79,8 @@ some_packets : (fuel : ℕ) (s : List ℕ) → length s ≤ fuel → IsOctets s 
 some_packets zero s few octets = grind (arith, front_of, packet_front, length-append)
 some_packets (suc fuel) s few octets = elim (front_of s octets) [
   | inl h ↦
-      let long = (packet_front h.0 h.1 h.3).1 in
       let size = ap length h.4 ∙ length-append h.1 h.2 in
-      let more = some_packets fuel h.2 (omega (arith, long.0)) (octets_right h.1 h.2 (subst IsOctets h.4 octets)) in
+      let more = some_packets fuel h.2 (grind (arith, packet_front)) (octets_right h.1 h.2 (subst IsOctets h.4 octets)) in
       (h.0 ∷ more.0, more.1, (h.1, h.2, h.3, h.4, more.2), more.3)
   | inr end ↦ ([], s, refl, end)
 ]
@@ -114,8 +88,7 @@ some_packets (suc fuel) s few octets = elim (front_of s octets) [
 pub some_cut : (s : List ℕ) → IsOctets s → (us : List (List ℕ)) × (e : Ending) × Cuts s us e
 some_cut s octets =
     let packets = some_packets (length s) s (omega arith) octets in
-    let end = some_end (offset_of (0 + (length s - length packets.1))) packets.1 packets.3 in
-    (packets.0, end.0, (packets.1, packets.2, end.1))
+    grind (arith, some_end (offset_of (0 + (length s - length packets.1))) packets.1 packets.3)
 
 -- octets that a survey refuses begin with no packet
 pub refused_no_packet : (s : List ℕ) (r : Result Fed HeaderFault) (e : HeaderFault) → r ≡ Err e → (r ≡ Err Version → IsBadVersion s) →

@@ -1,5 +1,5 @@
 -- Laws of packets: what a header states, that no packet is a prefix of another, and that the written form is a packet.
-use Rattle.std.proofs.Common.{◌≡◌, ℕ, ◌+◌, ◌*◌, ◌≤◌, List, ◌∷◌, ◌++◌, length, take, drop, refl, sym, ◌∙◌, ap, arith}
+use Rattle.std.proofs.Common.{◌≡◌, ℕ, ◌+◌, ◌≤◌, List, ◌++◌, length, take, refl, ap, arith}
 use Rattle.osi_tpkt.proofs.Vocabulary.{get_or_append_left, length-take-le, take_at, IsOctets, IsPacket, IsUnit, packet_of, stated_length}
 use Rattle.osi_tpkt.proofs.Vocabulary.{IsFront, IsFull}
 use Rattle.osi_tpkt.proofs.lists_of_octets_stay_octets.{octets_cons}
@@ -10,15 +10,8 @@ use Rattle.osi_tpkt.specs.Unit.{IsAtFront}
 pub stated_length-append : (r more : List ℕ) → 4 ≤ length r → stated_length (r ++ more) ≡ stated_length r
 stated_length-append r more h = grind (arith, get_or_append_left)
 
-spelled_front : (r h l : ℕ) (u : List ℕ) → IsOctets (3 ∷ r ∷ h ∷ l ∷ u) → 256 * h + l ≡ length u + 4 → 3 ≤ length u →
-    IsFront (3 ∷ r ∷ h ∷ l ∷ u) × IsFull (3 ∷ r ∷ h ∷ l ∷ u)
-spelled_front r h l u o e m = grind arith
-
 pub packet_front : (u b : List ℕ) → IsPacket u b → IsFront b × IsFull b
-packet_front u b p = grind (arith, spelled_front)
-
-pub packet_unit : (u b : List ℕ) → IsPacket u b → u ≡ drop 4 b
-packet_unit u b p = sym (ap (drop 4) p.spelled)
+packet_front u b p = grind arith
 
 -- no packet is a proper prefix of another
 pub one_packet : (u v b c x y : List ℕ) → IsPacket u b → IsPacket v c → b ++ x ≡ c ++ y → (b ≡ c) × (u ≡ v)
@@ -29,8 +22,7 @@ one_packet u v b c x y p q e =
     let right = stated_length-append c y g.1.0 in
     let same : stated_length (b ++ x) ≡ stated_length (c ++ y) = ap stated_length e in
     let lengths : length c ≡ length b = omega arith in
-    let equal : b ≡ c = sym (take_at b x (length b) refl) ∙ ap (take (length b)) e ∙ take_at c y (length b) lengths in
-    (equal, packet_unit u b p ∙ ap (drop 4) equal ∙ sym (packet_unit v c q))
+    grind (arith, take_at b x (length b) refl, take_at c y (length b) lengths)
 
 -- two packets at the front of the same octets are the same
 pub one_front : (octets u v : List ℕ) (m n : ℕ) → m ≤ length octets → n ≤ length octets →

@@ -1,26 +1,18 @@
 -- What every cutter holds, and what its calls do to it.
-use Rattle.std.proofs.Common.{◌≡◌, ℕ, ◌+◌, ◌-◌, ◌<◌, ◌≤◌, ◌^◌, ◌∷◌, ◌⊎◌, inl, inr, List, [], ◌++◌, length, take, drop, refl, sym, ◌∙◌, ap}
-use Rattle.std.proofs.Common.{subst, arith, Bool, true, false, Option, Some, None, Result, Ok, Err, IfOk, MatchBool}
+use Rattle.std.proofs.Common.{◌≡◌, ℕ, ◌+◌, ◌-◌, ◌<◌, ◌≤◌, ◌^◌, ◌∷◌, ◌⊎◌, inl, inr, List, [], ◌++◌, length, take, drop, refl, sym, ap, subst}
+use Rattle.std.proofs.Common.{arith, Bool, true, false, Option, Some, None, Result, Ok, Err, IfOk, MatchBool}
 use Rattle.osi_tpkt.specs.declared.cutting.Progress.{Progress}
-use Rattle.osi_tpkt.specs.declared.cutting.Progress.TheVariants.{Awaited, Partial, Stopped}
-use Rattle.osi_tpkt.specs.declared.cutting.Stop.TheVariants.{Whole}
-use Rattle.osi_tpkt.proofs.Vocabulary.{length-take-le, none-some, IsPacket, IsOnePacket, IsPartial, IsFaultOf, offset_of, IsFront, IsFull}
-use Rattle.osi_tpkt.proofs.Vocabulary.{IsUnfinished, Held, IsHolding, fresh, Gains, TakesPiece, Feeds, Passes, Advances, CutterRun, Feed}
-use Rattle.osi_tpkt.proofs.Vocabulary.{Advance, fault_of, FitsProgress, IsKept, TpktFault, BadVersion, BadLength, OutOfMemory, Fed}
+use Rattle.osi_tpkt.specs.declared.cutting.Progress.TheVariants.{Awaited, Partial}
+use Rattle.osi_tpkt.proofs.Vocabulary.{length-take-le, none-some, IsOnePacket, IsPartial, IsFaultOf, offset_of, IsFront, IsFull}
+use Rattle.osi_tpkt.proofs.Vocabulary.{IsUnfinished, Held, IsHolding, Gains, TakesPiece, Feeds, Passes, Advances, CutterRun, Feed, Advance}
+use Rattle.osi_tpkt.proofs.Vocabulary.{fault_of, FitsProgress, IsKept, TpktFault, BadVersion, BadLength, OutOfMemory, Fed}
 use Rattle.osi_tpkt.proofs.a_prefix_of_a_packet.{short_partial, full_packet, front_packet, partial_not_whole, belonging_some}
 use Rattle.osi_tpkt.proofs.a_prefix_of_a_packet.{belonging_no_fault, surveyed, one_fault, holding, empty_partial}
-
--- the fields of a cutter, in terms of what contracts see
-pub holding_sound : (offset : ℕ) (octets : List ℕ) (progress : Progress) (room : ℕ) → IsKept offset octets progress →
-    IsHolding (holding offset (fault_of offset progress) octets room)
-holding_sound offset octets Awaited room h = record { offset = h.offset; octets = inl (subst IsPartial (sym h.progress) empty_partial) }
-holding_sound offset octets (Stopped Whole) room h = search (arith, full_packet)
-holding_sound offset octets _ room h = record { offset = h.offset; octets = inl (short_partial octets h.progress.0 h.progress.1) }
 
 -- the same of its value
 pub kept_sound : (offset : ℕ) (octets : List ℕ) (progress : Progress) (room : ℕ) (now : Held) → IsKept offset octets progress →
     holding offset (fault_of offset progress) octets room ≡ now → IsHolding now
-kept_sound offset octets progress room now h same = subst IsHolding same (holding_sound offset octets progress room h)
+kept_sound offset octets progress room now h same = subst IsHolding same (grind (arith, empty_partial, full_packet, short_partial))
 
 -- a cutter that awaits a packet, or whose packet continues, has no fault
 goes_on : (offset : ℕ) (octets : List ℕ) (progress : Progress) → (progress ≡ Awaited) ⊎ (progress ≡ Partial) →
@@ -59,17 +51,12 @@ stands : (P : Type 0) (whole : Bool) (octets : List ℕ) (fault : Option TpktFau
 stands P true octets fault h e = inr (h, e)
 stands P false octets fault h e = inl h.0
 
--- a cutter that holds a proper prefix, with the fault that it may have answered
-with_fault : (old new : Held) (fault : Option TpktFault) → IsHolding old → IsPartial old.octets → new ≡ record old { fault = fault } →
-    IsHolding new
-with_fault old new fault h partial same = subst IsHolding (sym same) (record { offset = h.offset; octets = inl partial })
-
 pub taken_sound : (old : Held) (piece : List ℕ) (result : Result Fed TpktFault) (new : Held) → IsHolding old → old.fault ≡ None →
     IsPartial old.octets →
     TakesPiece old piece result new → IsHolding new
 taken_sound old piece (Ok fed) new h unfaulted partial t = grind (arith, stands)
-taken_sound old piece (Err (BadVersion at)) new h unfaulted partial t = with_fault old new (Some (BadVersion at)) h partial t.1
-taken_sound old piece (Err (BadLength at)) new h unfaulted partial t = with_fault old new (Some (BadLength at)) h partial t.1
+taken_sound old piece (Err (BadVersion at)) new h unfaulted partial t = grind arith
+taken_sound old piece (Err (BadLength at)) new h unfaulted partial t = grind arith
 taken_sound old piece (Err OutOfMemory) new h unfaulted partial t = subst IsHolding (sym t.3) h
 
 pub feeds_sound : (old : Held) (piece : List ℕ) (result : Result Fed TpktFault) (new : Held) → IsHolding old → Feeds old piece result new →
@@ -87,9 +74,6 @@ advances_sound old new h k = elim h.octets [
   | inl partial ↦ subst IsHolding (sym (k.partial partial)) h
   | inr whole ↦ subst IsHolding (sym (k.whole whole.0.0 whole.0.1)) (record { offset = omega arith; octets = inl empty_partial })
 ]
-
-pub fresh_holding : IsHolding fresh
-fresh_holding = record { offset = omega arith; octets = inl empty_partial }
 
 -- a cutter that begins at an offset
 pub begins : (at room : ℕ) (octets : List ℕ) → octets ≡ [] → at < 2 ^ 64 → IsHolding (holding at None octets room)
@@ -125,11 +109,7 @@ taken_whole offset used before after octets piece items progress now is kept sam
     let none : octets ≡ [] = awaiting offset octets progress is kept in
     subst (λ h. TakesPiece h piece (Ok (record { used = used; whole = true })) (holding offset None (take used items) after)) same (
       surveyed [] octets piece (record { used = used; whole = true }) (sym none) within front full,
-      record {
-        octets = ap (λ x. holding offset None x after) put ∙ ap (λ l. holding offset None (l ++ take used piece) after) (sym none)
-            ∙ ap (λ f. holding offset f (octets ++ take used piece) after) (sym (ap (fault_of offset) is));
-        room = omega arith;
-      },
+      grind (arith, holding),
     )
 
 -- ---- a packet that is taken without a copy
@@ -148,27 +128,11 @@ pub passed_sound : (offset sum room : ℕ) (octets : List ℕ) (progress : Progr
 passed_sound offset sum room octets progress is kept fits =
     grind (arith, begins sum room octets (awaiting offset octets progress is kept) fits)
 
-passing_feeds : (old new : Held) (unit piece : List ℕ) → Passes old unit piece new →
-    Feeds old piece (Ok (record { used = 4 + length unit; whole = true })) (record old { octets = take (4 + length unit) piece })
-passing_feeds old new unit piece p =
-    taken_feeds old piece (Ok (record { used = 4 + length unit; whole = true })) (record old { octets = take (4 + length unit) piece })
-    p.faultless
-    (subst IsPartial (sym p.empty) empty_partial) (
-      record { within = p.within; whole = (unit, subst (λ l. IsPacket unit (l ++ take (4 + length unit) piece)) (sym p.empty) p.packet) },
-      record {
-        octets = ap (λ l. holding old.offset old.fault (l ++ take (4 + length unit) piece) old.room) (sym p.empty);
-        room = omega arith;
-      },
-    )
-
 passing_advances : (old new : Held) (unit piece : List ℕ) → Passes old unit piece new →
     Advances (record old { octets = take (4 + length unit) piece }) new
 passing_advances old new unit piece p =
-    let size = length-take-le (4 + length unit) piece p.within in
     record {
-      whole = λ u h. p.after ∙ ap (λ l. holding (offset_of (old.offset + (4 + length unit))) old.fault l old.room) p.empty
-          ∙ ap (λ f. holding (offset_of (old.offset + (4 + length unit))) f [] old.room) p.faultless
-          ∙ ap (λ n. holding (offset_of (old.offset + n)) None [] old.room) (sym size);
+      whole = grind (arith, holding);
       partial = λ h. absurd (partial_not_whole (take (4 + length unit) piece) h (unit, p.packet));
     }
 
@@ -179,7 +143,7 @@ passing_runs old new unit piece p = (
   record old { octets = take (4 + length unit) piece },
   [],
   unit ∷ [],
-  (passing_feeds old new unit piece p, refl),
+  (grind (arith, taken_feeds, empty_partial, holding), refl),
   (new, unit ∷ [], [], (passing_advances old new unit piece p, inl (unit, p.packet, refl)), (refl, refl), refl),
   refl,
 )

@@ -40,16 +40,8 @@ IsRestOnce rest = (p q : TwoEnds) (a b : List ℕ) (s t : ℕ) → AreBehind p q
 
 -- ---- an event
 
-same_carried : (x : Event) (p q : TwoEnds) → AreSameEnds p q → carried_by x p ≡ carried_by x q
-same_carried x p q h = grind arith
-
 same_misfit : (x : Event) (p q : TwoEnds) → AreSameEnds p q → misfit x p ≡ misfit x q
 same_misfit x p q h = grind arith
-
--- it fits in neither run
-fails_once : (number : ℕ) (x y : Event) (p q : TwoEnds) (a b : List ℕ) (s t : ℕ) → misfit x p ≡ misfit y q → FailsAt number x p a s →
-    FailsAt number y q b t → AreOne a b s t
-fails_once number x y p q a b s t same h k = grind arith
 
 -- it fits in one of two runs, and not in the other
 fits_both : (number : ℕ) (x y : Event) (p q new : TwoEnds) (text : List ℕ) (status : ℕ) → misfit x p ≡ misfit y q → IsApplied x p new →
@@ -61,7 +53,7 @@ event_once : DoesOnce → (number : ℕ) (x y : Event) (rest : Rest) → IsRestO
     Applies number x rest p a s → Applies number y rest q b t → AreOne a b s t
 event_once law number x y rest once one p q a b s t h (inl i) (inl k) =
     let n : ℕ = carried_by x p in
-    let many : carried_by y q ≡ n = sym (one.carries q) ∙ sym (same_carried x p q h.same) in
+    let many : carried_by y q ≡ n = sym (one.carries q) ∙ sym (grind arith) in
     let does = one.does q k.0 n (subst (λ (m : ℕ). Does y q m k.0) many k.2.does) in
     let new = law x p q i.0 k.0 n h.here h.there i.2.reached k.2.reached h.same i.2.does does i.2.memory k.2.memory in
     let more = once i.0 k.0 i.1 k.1 s t (record { here = i.2.reached; there = k.2.reached; same = new }) i.4 k.4 in
@@ -74,7 +66,7 @@ event_once law number x y rest once one p q a b s t h (inl i) (inl k) =
     )
 event_once law number x y rest once one p q a b s t h (inl i) (inr k) = search (arith, fits_both, same_misfit)
 event_once law number x y rest once one p q a b s t h (inr i) (inl k) = search (arith, fits_both, same_misfit)
-event_once law number x y rest once one p q a b s t h (inr i) (inr k) = grind (arith, fails_once, same_misfit)
+event_once law number x y rest once one p q a b s t h (inr i) (inr k) = grind (arith, same_misfit)
 
 -- ---- a line
 

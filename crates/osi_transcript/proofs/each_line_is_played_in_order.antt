@@ -1,6 +1,6 @@
 -- Lines of a script, one after the other.
 -- For `play`, `play_line` and `play_event`.
-use Rattle.std.proofs.Common.{◌≡◌, ◌∙◌, ℕ, Bool, true, false, List, [], ◌∷◌, ◌++◌, Option, Some, None, inl, inr, refl, sym, ap, subst}
+use Rattle.std.proofs.Common.{arith, ◌≡◌, ◌∙◌, ℕ, Bool, true, false, List, [], ◌∷◌, ◌++◌, Option, Some, None, inl, inr, refl, sym, subst}
 use Rattle.std.proofs.lemmas.List.{append_assoc, append-nil}
 use Rattle.osi_pair.specs.Ends.{TwoEnds}
 use Rattle.osi_pair.specs.declared.events.Event.{Event}
@@ -8,27 +8,16 @@ use Rattle.osi_script.specs.Answers.{answer_line}
 use Rattle.osi_script.specs.Commands.{Command, Ends, Connect, OfUser, Carry, Break, Told, command_of}
 use Rattle.osi_script.specs.declared.answers.Answer.TheVariants.{LineRefused}
 use Rattle.osi_transcript.specs.Asking.{IsEvent, IsNoEvent}
-use Rattle.osi_transcript.specs.Playing.{Lines, Applies, PlaysLine, Plays, BeginsWith, Transcribes, carried_by, event_text, new_texts}
+use Rattle.osi_transcript.specs.Playing.{Lines, Applies, Plays, BeginsWith, Transcribes, carried_by, event_text, new_texts}
 use Rattle.osi_transcript.specs.Standings.{all_standings}
 use Rattle.osi_transcript.specs.Starting.{IsStart}
 use Rattle.osi_transcript.specs.Steps.{DoesEvent, FailsEvent, PlaysEvent, StopsAtLine, GoesBehind, PlaysAll}
-
-by_command : (number : ℕ) (c : Command) (event : Event) (lines : Lines) (p : TwoEnds) (text : List ℕ) (status : ℕ) → IsEvent c event →
-    Applies number event (Plays lines) p text status → PlaysLine number (Some c) (Plays lines) p text status
-by_command number (Ends caller called size window) event lines p text status is h = absurd is
-by_command number (Connect requirements serial wishes sizes octets) event lines p text status is h = (event, is, h)
-by_command number (OfUser side reference call) event lines p text status is h = (event, is, h)
-by_command number (Carry side octets) event lines p text status is h = (event, is, h)
-by_command number (Break left right) event lines p text status is h = (event, is, h)
-by_command number (Told side) event lines p text status is h = (event, is, h)
 
 -- the event of a line is applied, or does not fit
 plays_event : (number : ℕ) (line : List ℕ) (c : Command) (event : Event) (lines : Lines) (p : TwoEnds) (text : List ℕ) (status : ℕ) →
     command_of line ≡ Some c → IsEvent c event → Applies number event (Plays lines) p text status →
     Plays ((number, line) ∷ lines) p text status
-plays_event number line c event lines p text status read is h =
-    subst (λ (o : Option Command). PlaysLine number o (Plays lines) p text status) (sym read)
-    (by_command number c event lines p text status is h)
+plays_event number line c event lines p text status read is h = grind arith
 
 pub done : (number : ℕ) (line : List ℕ) (c : Command) (event : Event) (old new : TwoEnds) (before after : List ℕ) →
     command_of line ≡ Some c → IsEvent c event → DoesEvent event old before new after → GoesBehind number line old before new after
@@ -51,32 +40,13 @@ failed number line c event old before after read is h = record {
 -- a line that spells nothing
 pub unread : (number : ℕ) (line : List ℕ) (old : TwoEnds) (before after : List ℕ) → command_of line ≡ None →
     after ≡ before ++ answer_line (LineRefused number) → StopsAtLine number line old before after
-unread number line old before after read says = record {
-  text = answer_line (LineRefused number);
-  says = says;
-  plays = λ lines. subst (λ (o : Option Command). PlaysLine number o (Plays lines) old (answer_line (LineRefused number)) 1) (sym read)
-      (record { says = refl; bad = refl });
-}
-
-no_event : (number : ℕ) (c : Command) (lines : Lines) (p : TwoEnds) → IsNoEvent c →
-    PlaysLine number (Some c) (Plays lines) p (answer_line (LineRefused number)) 1
-no_event number (Ends caller called size window) lines p is = record { says = refl; bad = refl }
-no_event number (Connect requirements serial wishes sizes octets) lines p is = absurd is
-no_event number (OfUser side reference call) lines p is = absurd is
-no_event number (Carry side octets) lines p is = absurd is
-no_event number (Break left right) lines p is = absurd is
-no_event number (Told side) lines p is = absurd is
+unread number line old before after read says = grind arith
 
 -- a line that declares two ends after the first
 pub misplaced : (number : ℕ) (line : List ℕ) (c : Command) (old : TwoEnds) (before after : List ℕ) → command_of line ≡ Some c →
     IsNoEvent c →
     after ≡ before ++ answer_line (LineRefused number) → StopsAtLine number line old before after
-misplaced number line c old before after read is says = record {
-  text = answer_line (LineRefused number);
-  says = says;
-  plays = λ lines. subst (λ (o : Option Command). PlaysLine number o (Plays lines) old (answer_line (LineRefused number)) 1) (sym read)
-      (no_event number c lines old is);
-}
+misplaced number line c old before after read is says = grind arith
 
 -- ---- lines one after the other
 
@@ -91,12 +61,7 @@ played_none all old before = record { text = []; says = sym (append-nil before);
 
 pub played_all : (all : Lines) (old : TwoEnds) (before : List ℕ) (lines : Lines) (new : TwoEnds) (said after : List ℕ) →
     HasPlayed all old before lines new said → lines ≡ [] → after ≡ said ++ all_standings new → PlaysAll all old before after 0
-played_all all old before lines new said after h none says = record {
-  text = h.text ++ all_standings new;
-  says = says ∙ ap (λ (t : List ℕ). t ++ all_standings new) h.says ∙ append_assoc before h.text (all_standings new);
-  plays = h.plays (all_standings new) 0
-      (subst (λ (ls : Lines). Plays ls new (all_standings new) 0) (sym none) (record { stands = refl; good = refl }));
-}
+played_all all old before lines new said after h none says = grind (arith, append_assoc)
 
 -- ---- the effect of a line, by whether the next is to be read
 
@@ -125,7 +90,4 @@ begins number (Some (Told side)) lines p text status starts plays = absurd start
 pub transcribed : (lines left : Lines) (number : ℕ) (line : List ℕ) (p : TwoEnds) (before text : List ℕ) (status : ℕ) →
     lines ≡ (number, line) ∷ left →
     IsStart (command_of line) p → before ≡ [] → PlaysAll left p before text status → Transcribes lines text status
-transcribed lines left number line p before text status is starts none h =
-    let said : text ≡ h.text = h.says ∙ ap (λ (t : List ℕ). t ++ h.text) none in
-    subst (λ (ls : Lines). Transcribes ls text status) (sym is)
-    (begins number (command_of line) left p text status starts (subst (λ (t : List ℕ). Plays left p t status) (sym said) h.plays))
+transcribed lines left number line p before text status is starts none h = grind (arith, begins)

@@ -1,7 +1,6 @@
 -- Two events in memory for the same line of a script have the same effect, carry as many octets and give the same text.
 -- For a_script_has_one_transcript.
-use Rattle.std.proofs.Common.{◌≡◌, ◌∙◌, ℕ, ◌+◌, ◌||◌, true, not, List, [], ◌∷◌, length, Option, Some, None, refl, sym, ap, ap₂, subst}
-use Rattle.std.proofs.Common.{if◌then◌else◌, arith}
+use Rattle.std.proofs.Common.{◌≡◌, ℕ, ◌+◌, ◌||◌, true, not, [], ◌∷◌, length, Option, Some, None, subst, if◌then◌else◌, arith}
 use Rattle.std.specs.Prelude.{nat_le}
 use Rattle.osi_carrier.specs.Calls.{may_connect, asks}
 use Rattle.osi_carrier.specs.declared.events.Ref.{Ref}
@@ -16,21 +15,19 @@ use Rattle.osi_session.specs.Sides.{offered}
 use Rattle.osi_session.specs.Units.{functional_units, is_profile}
 use Rattle.osi_session.specs.declared.phases.Phase.TheVariants.{WaitTransport}
 use Rattle.osi_session.specs.declared.requests.Request.{Request}
-use Rattle.osi_spdu.specs.declared.fields.TsduMaximumSize.{TsduMaximumSize}
-use Rattle.osi_spdu.specs.declared.settings.TokenSetting.{TokenSetting}
-use Rattle.osi_stack.specs.Calls.{after_open, is_long_address, connect_error}
+use Rattle.osi_stack.specs.Calls.{after_open, is_long_address}
 use Rattle.osi_stack.specs.State.{End, Holding, joins}
 use Rattle.osi_stack.specs.declared.connecting.Connect.{Connect as Wanted}
 use Rattle.osi_stack.specs.declared.connecting.ConnectError.{ConnectError}
 use Rattle.osi_stack.specs.declared.connecting.ConnectError.TheVariants.{NotSelected, TooLong}
 use Rattle.osi_pair.specs.Asked.{Asked, asked_of}
-use Rattle.osi_pair.specs.Ends.{TwoEnds, answer_with, noted, connected_by, after_connect}
+use Rattle.osi_pair.specs.Ends.{TwoEnds, answer_with, noted, connected_by}
 use Rattle.osi_pair.specs.Entries.{asks as entry}
 use Rattle.osi_pair.specs.Events.{misfit, Does}
 use Rattle.osi_pair.specs.declared.events.Event.{Event}
 use Rattle.osi_pair.specs.declared.events.Event.TheVariants as event
 use Rattle.osi_pair.specs.declared.sides.Side as ends
-use Rattle.osi_script.specs.Commands.{Command, Ends, Connect, OfUser, Carry, Break, Told}
+use Rattle.osi_script.specs.Commands.{Command, Connect, Carry, Break, Told}
 use Rattle.osi_script.specs.declared.sides.Side.{Side}
 use Rattle.osi_transcript.specs.Asking.{side_in, IsEvent}
 use Rattle.osi_transcript.specs.Playing.{carried_by, event_text}
@@ -42,11 +39,8 @@ pub record AreOneEvent (x y : Event) : Type 0 where
   pub says : (octets : ℕ) → event_text x octets ≡ event_text y octets
   pub does : (p new : TwoEnds) (octets : ℕ) → Does y p octets new → Does x p octets new
 
-one_of : (x : Event) → AreOneEvent x x
-one_of x = record { fits = λ p. refl; carries = λ p. refl; says = λ octets. refl; does = λ p new octets h. h }
-
 equal_one : (x y : Event) → x ≡ y → AreOneEvent x y
-equal_one x y same = subst (AreOneEvent x) same (one_of x)
+equal_one x y same = subst (AreOneEvent x) same (grind arith)
 
 -- ---- a connection that is asked for, by what the journal keeps of it
 
@@ -91,17 +85,9 @@ same_end : (o : Option ConnectError) (c : Wanted) (h : Holding) → connected_by
 unfolding asked_by asked_end asked_session
 same_end o c h = grind arith
 
-same_error : (c : Wanted) (e : End) → connect_error c e ≡ asked_error (asked_of c) e
-unfolding asked_error
-same_error c e = refl
-
-as_asked : (c : Wanted) (p : TwoEnds) → after_connect c p ≡ after_asked (asked_of c) p
-unfolding after_asked
-as_asked c p = grind (arith, same_error, asked_error, same_end)
-
 connects_one : (x y : Wanted) → asked_of x ≡ asked_of y → AreOneEvent (event.Connect x) (event.Connect y)
 unfolding event_text
-connects_one x y same = grind (arith, as_asked, after_asked)
+connects_one x y same = grind (arith, asked_error, same_end, after_asked)
 
 -- ---- a call, by what it asks for
 
@@ -114,46 +100,14 @@ calls_one s r x y same = grind arith
 named : ends.Side → ℕ → Request → Event
 named s reference request = event.Call s (record { 0 = reference }) request
 
-call_is : (s t : ends.Side) (r : Ref) (reference : ℕ) (request : Request) → s ≡ t → r.0 ≡ reference →
-    event.Call s r request ≡ named t reference request
-unfolding named
-call_is s t r reference request side same = ap₂ (λ (u : ends.Side) (n : ℕ). event.Call u (record { 0 = n }) request) side same
-
 of_carry : (side : Side) (octets : ℕ) (x : Event) → IsEvent (Carry side octets) x → x ≡ event.Carry (side_in side) octets
-of_carry side octets (event.Carry s most) is = ap₂ event.Carry is.0 is.1
-of_carry side octets x is = absurd is
+of_carry side octets x is = grind arith
 
 of_break : (left right : ℕ) (x : Event) → IsEvent (Break left right) x → x ≡ event.Break left right
-of_break left right (event.Break l r) is = ap₂ event.Break is.0 is.1
-of_break left right x is = absurd is
+of_break left right x is = grind arith
 
 of_told : (side : Side) (x : Event) → IsEvent (Told side) x → x ≡ event.Told (side_in side)
-of_told side (event.Told s) is = ap event.Told is
-of_told side x is = absurd is
-
-connect_events : (requirements serial : ℕ) (wishes : TokenSetting) (sizes : TsduMaximumSize) (octets : List ℕ) (x y : Event) →
-    IsEvent (Connect requirements serial wishes sizes octets) x → IsEvent (Connect requirements serial wishes sizes octets) y →
-    AreOneEvent x y
-connect_events requirements serial wishes sizes octets (event.Connect x) (event.Connect y) is there = connects_one x y (is ∙ sym there)
-connect_events requirements serial wishes sizes octets (event.Connect x) y is there = absurd there
-connect_events requirements serial wishes sizes octets x y is there = absurd is
-
-call_events : (side : Side) (reference : ℕ) (call : session.Call) (x y : Event) → IsEvent (OfUser side reference call) x →
-    IsEvent (OfUser side reference call) y → AreOneEvent x y
-unfolding named
-call_events side reference call (event.Call s r x) (event.Call t q y) is there =
-    subst (λ (e : Event). AreOneEvent e (event.Call t q y)) (sym (call_is s (side_in side) r reference x is.0 is.1))
-    (subst (λ (e : Event). AreOneEvent (named (side_in side) reference x) e)
-    (sym (call_is t (side_in side) q reference y there.0 there.1))
-    (calls_one (side_in side) (record { 0 = reference }) x y (is.2 ∙ sym there.2)))
-call_events side reference call (event.Call s r x) y is there = absurd there
-call_events side reference call x y is there = absurd is
+of_told side x is = grind arith
 
 pub one_event : (c : Command) (x y : Event) → IsEvent c x → IsEvent c y → AreOneEvent x y
-one_event (Ends caller called size window) x y is there = absurd is
-one_event (Connect requirements serial wishes sizes octets) x y is there = connect_events requirements serial wishes sizes octets x y is
-    there
-one_event (OfUser side reference call) x y is there = call_events side reference call x y is there
-one_event (Carry side octets) x y is there = equal_one x y (of_carry side octets x is ∙ sym (of_carry side octets y there))
-one_event (Break left right) x y is there = equal_one x y (of_break left right x is ∙ sym (of_break left right y there))
-one_event (Told side) x y is there = equal_one x y (of_told side x is ∙ sym (of_told side y there))
+one_event c x y is there = grind (arith, connects_one, named, calls_one, equal_one, of_carry, of_break, of_told)

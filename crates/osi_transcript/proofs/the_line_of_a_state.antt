@@ -33,17 +33,8 @@ standings_more side e n = grind (arith, add-one)
 not_given : (r given : ℕ) → given < r → (nat_lt 0 r && nat_le r given) ≡ false
 not_given r given h = grind (arith, nat_tests)
 
-given_before : (r given : ℕ) → 0 < r → (nat_lt 0 r && nat_le r given) ≡ false → given < r
-given_before r given some h = grind (arith, nat_tests)
-
-none_alone : (b : Bool) (p : Phase) → (if b then Some p else None) ≡ None → b ≡ false
-none_alone b p h = grind arith
-
 no_phase : (r : ℕ) (e : End) → e.carrier.given < r → phase_at r e ≡ None
 no_phase r e h = ap (λ (b : Bool). if b then Some (phase_of (session_at r e)) else None) (not_given r e.carrier.given h)
-
-last_given : (r : ℕ) (e : End) → 0 < r → phase_at r e ≡ None → e.carrier.given < r
-last_given r e some h = grind (arith, given_before, none_alone)
 
 no_standing : (side : Side) (r : ℕ) (e : End) → e.carrier.given < r → standing_text side r e ≡ []
 unfolding standing_text
@@ -63,7 +54,7 @@ pub standings_end : (side : Side) (e : End) (n : ℕ) (before after : List ℕ) 
     after ≡ before ++ standing_texts side e n → after ≡ before ++ standing_texts side e 65535
 standings_end side e n before after none within h =
     h ∙ ap (λ (t : List ℕ). before ++ t)
-    (sym (none_behind side e n (65535 - n) 65535 (last_given (n + 1) e (omega arith) none) (omega arith)))
+    (sym (none_behind side e n (65535 - n) 65535 (grind arith) (omega arith)))
 
 -- the line of one that was given
 pub standing_here : (side : Side) (e : End) (r : ℕ) (p : Phase) → phase_at r e ≡ Some p → standing_text side r e ≡ phase_text side r e p

@@ -12,23 +12,13 @@ use Rattle.osi_pair.specs.declared.entries.Entry.{Entry}
 use Rattle.osi_pair.specs.declared.events.Applied.{Applied}
 use Rattle.osi_pair.specs.declared.events.Event.{Event}
 use Rattle.osi_transcript.specs.Entries.{entry_texts}
-use Rattle.osi_transcript.specs.Playing.{carried_by, event_text, new_texts}
+use Rattle.osi_transcript.specs.Playing.{event_text}
 use Rattle.osi_transcript.specs.Steps.{DoesEvent}
-
--- the lines of the new entries of the journal
-pub new_texts_are : (old new : TwoEnds) (xs ys : List Entry) → map entry_by xs ≡ old.journal → map entry_by ys ≡ new.journal →
-    entry_texts (map entry_by (drop (length xs) ys)) ≡ new_texts old new
-new_texts_are old new xs ys h k = grind (arith, length-map, drop-map)
 
 -- the journal keeps its entries, and may get more
 pub journal_grows : (old new : TwoEnds) (xs ys : List Entry) → map entry_by xs ≡ old.journal → map entry_by ys ≡ new.journal →
     Adds old.journal new.journal → length xs ≤ length ys
 journal_grows old new xs ys h k more = grind (arith, length-map, length-append)
-
--- a carry that is not cut short carries all
-pub all_carried : (event : Event) (p : TwoEnds) (applied : Applied) → CarriesAsMuch event p applied → applied.is_cut_short ≡ false →
-    applied.carried ≡ carried_by event p
-all_carried event p applied h e = grind arith
 
 -- an event is applied, and its text is added
 pub event_done : (event : Event) (old new : TwoEnds) (applied : Applied) (before mid after : List ℕ) (xs ys shown : List Entry) →
@@ -38,7 +28,7 @@ pub event_done : (event : Event) (old new : TwoEnds) (applied : Applied) (before
     mid ≡ before ++ event_text event applied.carried → after ≡ mid ++ entry_texts (map entry_by shown) →
     DoesEvent event old before new after
 event_done event old new applied before mid after xs ys shown fits does much whole memory reached h k from says more =
-    grind (arith, all_carried, new_texts_are)
+    grind (arith, length-map, drop-map)
 
 -- no side has ended because memory ran out
 pub found_memory : (p : TwoEnds) → p.left.end.carrier.ended ≢ Some NoMemory → p.right.end.carrier.ended ≢ Some NoMemory → FoundMemory p

@@ -1,6 +1,6 @@
 -- Two configurations of an end with the same numbers are the same.
 -- For one_line_has_one_effect.
-use Rattle.std.proofs.Common.{◌≡◌, ◌∙◌, ℕ, ◌≤◌, Bool, ap₂, subst}
+use Rattle.std.proofs.Common.{arith, ◌≡◌, ℕ, ◌≤◌, Bool, ap₂, subst}
 use Rattle.std.specs.Coded.{le_prop}
 use Rattle.osi_class.specs.declared.terms.Local.{Local}
 use Rattle.osi_tpdu.specs.declared.limits.SizeCode.{SizeCode}
@@ -25,7 +25,4 @@ with_terms zero two size window = record { class0 = zero; class2 = two; size = s
 pub one_local : (a b : Local) → a.class0 ≡ b.class0 → a.class2 ≡ b.class2 → size_code a.size ≡ size_code b.size →
     window_units a.window ≡ window_units b.window → a ≡ b
 unfolding with_terms
-one_local a b zero two size window =
-    ap₂ (λ (x y : Bool). with_terms x y a.size a.window) zero two
-    ∙ ap₂ (λ (x : SizeCode) (y : Window). with_terms b.class0 b.class2 x y) (size_same a.size b.size size)
-    (window_same a.window b.window window)
+one_local a b zero two size window = grind (arith, with_terms, size_same a.size b.size size, window_same a.window b.window window)

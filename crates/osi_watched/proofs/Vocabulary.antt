@@ -4,7 +4,7 @@ pub use Rattle.std.proofs.Common.{leb, length, List, map, nat_lt, None, not, Ok,
 pub use Rattle.std.proofs.Common.{sym, take, true, zero, ℕ, ◌%◌, ◌&&◌, ◌*◌, ◌++◌, ◌+◌, ◌-◌, ◌/◌, ◌<◌, ◌==◌, ◌^◌, ◌∙◌, ◌∷◌, ◌≡◌, ◌≢◌, ◌≤◌}
 pub use Rattle.std.proofs.Common.{◌⊎◌}
 pub use Rattle.std.proofs.Math.Seq.{take-append_seam}
-pub use Rattle.std.proofs.lemmas.Bool.{eq-eqb, eqb-true, le-leb, le-ltb, leb-false, leb-true, lt-ltb, ltb-false, ltb-true}
+pub use Rattle.std.proofs.lemmas.Bool.{eq-eqb, eqb-true, le-leb, le-ltb, lt-ltb, ltb-false, ltb-true}
 pub use Rattle.std.proofs.lemmas.Bool.Decides.{leb_tells, nat_tests}
 pub use Rattle.std.proofs.lemmas.Grind.{flat_map-append}
 pub use Rattle.std.proofs.lemmas.List.{append-nil, append_cancel_left, length-append, length-map, map-append, take-append-drop, take_all}
@@ -18,26 +18,24 @@ pub use Rattle.osi_tpkt.specs.Octets.{IsOctets}
 pub use Rattle.osi_tpkt.specs.Packet.{IsPacket, packet_of}
 pub use Rattle.osi_tpkt.specs.Stream.{ArePackets, Ending, EndsAt, offset_of}
 pub use Rattle.osi_tpkt.specs.declared.cutting.Fed.{Fed}
-pub use Rattle.osi_tpkt.specs.declared.faults.TpktFault.TheVariants.{BadLength, BadVersion}
+pub use Rattle.osi_tpkt.specs.declared.faults.TpktFault.TheVariants.{BadLength}
 pub use Rattle.osi_tpdu.proofs.the_units_of_a_packet.{units_fit, units_found, units_only}
 pub use Rattle.osi_tpdu.proofs.the_written_form_spells_its_value.{written_spells}
 pub use Rattle.osi_tpdu.specs.Limits.{tsap_octets}
 pub use Rattle.osi_tpdu.specs.Packet.{units_of}
 pub use Rattle.osi_tpdu.specs.Value.{acknowledge, confirm, Connect, data0, data2, destination_of, disconnect, disconnected, error}
-pub use Rattle.osi_tpdu.specs.Value.{HasFieldsInRange, IsConnect, request, user_data, Value}
-pub use Rattle.osi_tpdu.specs.Writing.{Fits, written, written_header}
+pub use Rattle.osi_tpdu.specs.Value.{HasFieldsInRange, request, Value}
+pub use Rattle.osi_tpdu.specs.Writing.{Fits, written}
 pub use Rattle.osi_tpdu.specs.declared.faults.TpduFault.{TpduFault}
 pub use Rattle.osi_tpdu.specs.declared.tsaps.Tsap.{Tsap}
-pub use Rattle.osi_class.proofs.between.parts_stay_in_order.{at_some, choose_some}
-pub use Rattle.osi_class.proofs.bounds.what_a_call_preserves.{move_keeps, Sends}
+pub use Rattle.osi_class.proofs.between.parts_stay_in_order.{at_some}
+pub use Rattle.osi_class.proofs.bounds.what_a_call_preserves.{move_keeps}
 pub use Rattle.osi_class.proofs.giving.what_calls_send.{all}
 pub use Rattle.osi_class.specs.Ends.{Ends}
-pub use Rattle.osi_class.specs.Flow.{ack_number, after_acked, Flow}
+pub use Rattle.osi_class.specs.Flow.{Flow}
 pub use Rattle.osi_class.specs.Giving.{all_given}
-pub use Rattle.osi_class.specs.Link.{ack, Given, given_part, next, next_by, part0, part2, sent_flow, Standing, two_standing, unit_of}
-pub use Rattle.osi_class.specs.Link.{with_tsdu}
-pub use Rattle.osi_class.specs.Negotiation.{accept, keeps_flow_control, proposes, proposes_zero_alone, refuse, selected_by, selected_size}
-pub use Rattle.osi_class.specs.Negotiation.{Selection}
+pub use Rattle.osi_class.specs.Link.{ack, Given, given_part, part0, part2, Standing, unit_of, with_tsdu}
+pub use Rattle.osi_class.specs.Negotiation.{accept, refuse, selected_by, Selection}
 pub use Rattle.osi_class.specs.Runs.{give_out, given_parts, hand_in, hand_out, Move, Moves, MovesAlong, part_in, part_out, parts_in}
 pub use Rattle.osi_class.specs.Runs.{parts_out, take_in, tsdus_in, tsdus_out, unit_parts}
 pub use Rattle.osi_class.specs.Tsdus.{give, Part, tsdus, tsdus_after, uncut}
@@ -47,25 +45,16 @@ pub use Rattle.osi_class.specs.declared.terms.Class.TheVariants.{Two, Zero}
 pub use Rattle.osi_class.specs.declared.terms.Local.{Local}
 pub use Rattle.osi_carrier.proofs.effects.what_is_in_front_changes_nothing.{apart_all}
 pub use Rattle.osi_carrier.proofs.stream.a_piece_is_read_packet_by_packet.{acts_cases}
-pub use Rattle.osi_carrier.specs.Calls.{closed_on, closed_with, closes as closes_in, ended_by, link_of, may_connect, open_link}
-pub use Rattle.osi_carrier.specs.Calls.{send_all_error, sent, sent_all}
+pub use Rattle.osi_carrier.specs.Calls.{closed_with, may_connect, open_link, send_all_error, sent, sent_all}
 pub use Rattle.osi_carrier.specs.Happenings.{Happening}
-pub use Rattle.osi_carrier.specs.Negotiation.{acceptance, agreed_size, confirmed, opened_link, proposes_two, unit_octets}
-pub use Rattle.osi_carrier.specs.Orderly.{connection_by}
-pub use Rattle.osi_carrier.specs.Packets.{acts_by}
-pub use Rattle.osi_carrier.specs.Pump.{pumped, written_by}
-pub use Rattle.osi_carrier.specs.React.{accepts, answers_request, before_class, breaks as breaks_in, denies, handed_out, has_peer, in_class}
-pub use Rattle.osi_carrier.specs.React.{in_two, in_zero, is_full, leaves, pumps, react, react_by, reacts, taking, to_asked, to_closing}
-pub use Rattle.osi_carrier.specs.React.{to_connection, to_linked, to_only, to_reference, to_unknown}
+pub use Rattle.osi_carrier.specs.Negotiation.{acceptance, opened_link}
+pub use Rattle.osi_carrier.specs.React.{before_class, denies, handed_out, in_class, in_two, react, react_by}
 pub use Rattle.osi_carrier.specs.Rows.{Rows, value_at}
 pub use Rattle.osi_carrier.specs.Runs.{connects, put_back, sends, sends_all, user, user_does, UserCall}
-pub use Rattle.osi_carrier.specs.State.{closing, Connection as Live, ends, linked, packets, State as Carrier}
+pub use Rattle.osi_carrier.specs.State.{closing, Connection as Live, linked, packets, State as Carrier}
 pub use Rattle.osi_carrier.specs.declared.ends.EndReason.{EndReason}
-pub use Rattle.osi_carrier.specs.declared.ends.EndReason.TheVariants.{Broken, NoMemory}
+pub use Rattle.osi_carrier.specs.declared.ends.EndReason.TheVariants.{NoMemory}
 pub use Rattle.osi_carrier.specs.declared.faults.OpenError.{OpenError}
-pub use Rattle.osi_carrier.specs.declared.faults.OpenError.TheVariants.{Ended, NotCaller}
-pub use Rattle.osi_carrier.specs.declared.faults.SendError.{SendError}
-pub use Rattle.osi_carrier.specs.declared.faults.SendError.TheVariants.{TooLong}
 pub use Rattle.osi_session.proofs.tsdu.what_is_sent_is_taken_as_meant.{said_again}
 pub use Rattle.osi_session.specs.Listening.{called, Input, Listener}
 pub use Rattle.osi_session.specs.Sessions.{awaits}
@@ -77,30 +66,27 @@ pub use Rattle.osi_stack.proofs.carried.what_each_step_preserves.{events_heard}
 pub use Rattle.osi_stack.proofs.given_up.the_invariant_stays.{disconnect_carrier}
 pub use Rattle.osi_stack.proofs.stream.an_end_is_what_its_packets_make.{none_ended}
 pub use Rattle.osi_stack.proofs.stream.the_room_for_a_packet.{found_how}
-pub use Rattle.osi_stack.specs.Calls.{after_open, has_given, terms_error}
+pub use Rattle.osi_stack.specs.Calls.{after_open, has_given}
 pub use Rattle.osi_stack.specs.Feeding.{Feeds, Goes, TakesPackets, uses_all}
-pub use Rattle.osi_stack.specs.Hearing.{attends, hears_all, hears_times, RunsOut, Starves, with_carrier, with_events}
+pub use Rattle.osi_stack.specs.Hearing.{hears_times, RunsOut, Starves, with_carrier, with_events}
 pub use Rattle.osi_stack.specs.Inputs.{IsAccepted}
 pub use Rattle.osi_stack.specs.Messages.{AreShort}
-pub use Rattle.osi_stack.specs.Moving.{by_line, carrier_by, to_session}
-pub use Rattle.osi_stack.specs.Rounds.UserCall.{breaking, calling, connecting, disconnecting}
+pub use Rattle.osi_stack.specs.Moving.{carrier_by, to_session}
+pub use Rattle.osi_stack.specs.Rounds.UserCall.{calling}
 pub use Rattle.osi_stack.specs.Runs.{Call, Calls, carried_in, used_in}
-pub use Rattle.osi_stack.specs.Runs.Call.{carrying, feeding, telling}
 pub use Rattle.osi_stack.specs.State.{End, Holding}
-pub use Rattle.osi_stack.specs.Transport.{answers_by, sent_unless}
+pub use Rattle.osi_stack.specs.Transport.{answers_by}
 pub use Rattle.osi_stack.specs.declared.connecting.ConnectError.{ConnectError}
 pub use Rattle.osi_rules.proofs.a_stop_is_said.{stops_are_said, stops_last}
 pub use Rattle.osi_rules.specs.Reaches.{is_applied, reach_of}
-pub use Rattle.osi_rules.specs.Rows.{acknowledge_tests, code_named, data0_tests, data2_tests, first_failed, fits_size, fits_tsdu}
-pub use Rattle.osi_rules.specs.Rows.{given_again, has_credit, has_passed, is_due, is_inside, is_offered, is_tellable, keeps_credit, Test}
+pub use Rattle.osi_rules.specs.Rows.{data0_tests, first_failed, given_again, Test}
 pub use Rattle.osi_rules.specs.Sides.{begins, is_closed, is_closing, is_free, is_live, is_named, is_open, is_over, is_over_by, is_refused}
 pub use Rattle.osi_rules.specs.Sides.{is_silent, own, seen, uses}
 pub use Rattle.osi_rules.specs.Traffic.{asked_by, asks_by, asks_kept, asks_of, at_found, at_place, class_for, class_of, closing_phase}
-pub use Rattle.osi_rules.specs.Traffic.{connection_after, course_after, course_after_none, course_begins, found, found_on, fresh}
-pub use Rattle.osi_rules.specs.Traffic.{half_after, has_broken, in_doubt, is_report, is_stopped, judged_on, meaning_if, noted}
-pub use Rattle.osi_rules.specs.Traffic.{meant, none_told, one_told, Outcome, refused_reach}
-pub use Rattle.osi_rules.specs.Traffic.{request_tests, route, route_in, route_zero, routed, sent_on, silent_half, State as Traffic}
-pub use Rattle.osi_rules.specs.Traffic.{stops_by, takes, unnamed, unnamed_by, unnamed_told, uses_source}
+pub use Rattle.osi_rules.specs.Traffic.{connection_after, course_after, course_after_none, found, found_on, fresh, half_after, has_broken}
+pub use Rattle.osi_rules.specs.Traffic.{in_doubt, is_report, is_stopped, judged_on, meaning_if, noted, meant, none_told, one_told, Outcome}
+pub use Rattle.osi_rules.specs.Traffic.{refused_reach, request_tests, route, route_in, route_zero, routed, sent_on, silent_half}
+pub use Rattle.osi_rules.specs.Traffic.{State as Traffic, takes, unnamed_by, unnamed_told, uses_source}
 pub use Rattle.osi_rules.specs.declared.connections.Connection.{Connection}
 pub use Rattle.osi_rules.specs.declared.connections.Offer.{Offer}
 pub use Rattle.osi_rules.specs.declared.courses.Course.{Course as Rules}
@@ -108,13 +94,12 @@ pub use Rattle.osi_rules.specs.declared.directions.Direction.{Direction as Way}
 pub use Rattle.osi_rules.specs.declared.findings.Finding.{Finding}
 pub use Rattle.osi_rules.specs.declared.findings.Finding.TheVariants.{Broke, Kept, NotJudged, Outside, TooMany}
 pub use Rattle.osi_rules.specs.declared.findings.Meaning.{Meaning}
-pub use Rattle.osi_rules.specs.declared.findings.Meaning.TheVariants.{Adds}
 pub use Rattle.osi_rules.specs.declared.findings.Reach.{Reach}
 pub use Rattle.osi_rules.specs.declared.findings.Rule.{Rule}
 pub use Rattle.osi_rules.specs.declared.findings.Told.{Told}
 pub use Rattle.osi_rules.specs.declared.halves.Half.{Half}
 pub use Rattle.osi_rules.specs.declared.halves.Phase.{Phase}
-pub use Rattle.osi_rules.specs.declared.halves.Phase.TheVariants.{Closed, Closing, Open, Refused, Silent}
+pub use Rattle.osi_rules.specs.declared.halves.Phase.TheVariants.{Closed}
 pub use Rattle.osi_rules.specs.declared.routes.Route.{Route}
 pub use Rattle.osi_rules.specs.declared.routes.Route.TheVariants.{Asks, Named, Only, Unnamed}
 pub use Rattle.osi_judge.proofs.honest.a_call_is_explained.{AsSent}
@@ -124,7 +109,6 @@ pub use Rattle.osi_judge.proofs.honest.an_honest_run_stays_in_the_profile.{AllIn
 pub use Rattle.osi_judge.proofs.honest.an_honest_side_is_kept.{CalledLaw, CallerLaw}
 pub use Rattle.osi_judge.specs.Captures.{Capture, of, other, Passed, passed_before, stream}
 pub use Rattle.osi_judge.specs.Explaining.{IsExplained}
-pub use Rattle.osi_judge.specs.Explaining.Explains.{done}
 pub use Rattle.osi_judge.specs.Judging.{IsFound}
 pub use Rattle.osi_judge.specs.Profiles.{selects_outside}
 pub use Rattle.osi_judge.specs.Running.{IsHonest, IsSentFrom}
@@ -139,24 +123,21 @@ pub use Rattle.osi_honest.proofs.class_0.what_a_turn_does_in_class_0.{all_octets
 pub use Rattle.osi_honest.proofs.class_0.what_class_0_writes_of_a_tsdu.{packets_joined}
 pub use Rattle.osi_honest.proofs.class_0.what_packets_do_in_class_0.{never_lasts}
 pub use Rattle.osi_honest.proofs.courses.how_long_a_connection_is_open.{amid, early, Life, opens_by, past, Stage as Time, stage_at}
-pub use Rattle.osi_honest.proofs.courses.how_long_a_connection_is_open.{stage_is, stage_over, stage_there, stays, WhenPast}
+pub use Rattle.osi_honest.proofs.courses.how_long_a_connection_is_open.{stage_is, stage_over, stays}
 pub use Rattle.osi_honest.proofs.courses.units_of_each_connection.{all_units_more, none_mark, units_more}
 pub use Rattle.osi_honest.proofs.courses.what_a_run_does_to_it.{fresh_course, fresh_turns, TurnOf, TurnsOf}
-pub use Rattle.osi_honest.proofs.courses.what_calls_of_a_link_say.{fresh_of, none_said, out_more, said_more, taken_more}
+pub use Rattle.osi_honest.proofs.courses.what_calls_of_a_link_say.{fresh_of, none_said, out_more, said_more}
 pub use Rattle.osi_honest.proofs.courses.what_sessions_hear_of_it.{Known}
 pub use Rattle.osi_honest.proofs.courses.what_units_do_to_a_course.{no_calls}
 pub use Rattle.osi_honest.proofs.courses.what_was_said_is_explained.{IsSaid, nothing, shown_said, something, units_came}
-pub use Rattle.osi_honest.proofs.keeping.what_holds_of_each_connection_stays.{row_at, row_more, row_put, row_without}
 pub use Rattle.osi_honest.proofs.opening.the_session_of_a_request_is_a_caller.{opens_so}
 pub use Rattle.osi_honest.proofs.opening.what_an_asking_end_does.{can_begin}
-pub use Rattle.osi_honest.proofs.reading.a_cr_and_a_cc_can_be_written.{cc_plain, cr_by, size_in_range}
 pub use Rattle.osi_honest.proofs.reading.all_that_an_end_puts_can_be_read.{AreNumbered}
 pub use Rattle.osi_honest.proofs.reading.two_readings_of_a_stream_agree.{first, GoesBeyond, packets_on, packets_then, second, two_readings}
-pub use Rattle.osi_honest.proofs.reading.what_a_link_gives_can_be_written.{gives_written, IsNumbered, link_opens, taken_numbered}
 pub use Rattle.osi_honest.proofs.reading.what_is_written_is_read_again.{CanBeWritten, read_again}
 pub use Rattle.osi_honest.proofs.sessions.a_history_is_a_run.{history_runs}
 pub use Rattle.osi_honest.proofs.sessions.what_an_end_put_was_caused.{front_of as part_of}
-pub use Rattle.osi_honest.specs.Arriving.{Answers, Begins, GivesTo, is_shut, Lives, Opens, opens, Parts, TakesAll}
+pub use Rattle.osi_honest.specs.Arriving.{Answers, Begins, is_shut, Opens, opens, TakesAll}
 pub use Rattle.osi_honest.specs.Courses.{all_did, AreCalls, Continues, Deeds, Gone, no_deeds, said_in, Speaks, then_did, units_given}
 pub use Rattle.osi_honest.specs.Courses.{units_in, units_read, units_taken}
 pub use Rattle.osi_honest.specs.Courses.Course.{is_gone}
@@ -173,11 +154,11 @@ pub use Rattle.osi_tap.proofs.no_break_was_before_the_first.{marked_past, noted_
 pub use Rattle.osi_tap.proofs.octets_are_looked_at.{packet_front}
 pub use Rattle.osi_tap.specs.Blaming.{AreSpotless, BreaksFirst, IsBreakOf, IsFirstOf, IsQuiet, IsToBlame, of_session, of_transport}
 pub use Rattle.osi_tap.specs.Connections.{adds, adds_all, adds_if, all_begin, asked, changed, count, Joined, none, opened, placed}
-pub use Rattle.osi_tap.specs.Connections.{reference_of, Sessions, shut, source_of, spoken, taken, taken_at, user_of}
-pub use Rattle.osi_tap.specs.Courses.{cause_of, changes, earlier, first_by, first_marked, first_of, halts, is_break, kind_of, mark_by}
-pub use Rattle.osi_tap.specs.Courses.{marked, marks_of, Moment, moment_of, moved, noted_by, number_at, packet_by, packet_passes, reached}
-pub use Rattle.osi_tap.specs.Courses.{unit_passes, units_pass, unread, unread_mark, unread_moment, way_of}
-pub use Rattle.osi_tap.specs.Lines.{added, before, Begun, begun_before, begun_octets, heard, octets_of, Spoken, told, told_of}
+pub use Rattle.osi_tap.specs.Connections.{reference_of, Sessions, shut, spoken, taken, taken_at, user_of}
+pub use Rattle.osi_tap.specs.Courses.{cause_of, changes, earlier, first_by, first_of, is_break, kind_of, mark_by, marked, marks_of, Moment}
+pub use Rattle.osi_tap.specs.Courses.{moment_of, moved, noted_by, number_at, packet_by, packet_passes, reached, unit_passes, units_pass}
+pub use Rattle.osi_tap.specs.Courses.{unread, unread_mark, unread_moment, way_of}
+pub use Rattle.osi_tap.specs.Lines.{added, Begun, begun_before, begun_octets, heard, octets_of, Spoken, told}
 pub use Rattle.osi_tap.specs.Rooms.{fits, spent}
 pub use Rattle.osi_tap.specs.Standing.{first_in, IsFed}
 pub use Rattle.osi_tap.specs.Streams.{advanced, by_version, counted, faulty, Front, front_of, gathered, partial, sized, Streamed, whole}
@@ -191,11 +172,9 @@ pub use Rattle.osi_tap.specs.declared.rooms.Room.{Room}
 pub use Rattle.osi_tap.specs.declared.rooms.Room.TheVariants.{All}
 pub use Rattle.osi_tap.specs.declared.tap.Tap.{Tap}
 pub use Rattle.osi_fair.proofs.a_called_end_is_fair.{called_fair, lines, selected, selecting}
-pub use Rattle.osi_fair.proofs.a_called_end_is_judged_as_the_other_side_is.{own_judged}
 pub use Rattle.osi_fair.proofs.a_called_end_selects_class_zero.{Selecting}
 pub use Rattle.osi_fair.proofs.a_calling_end_is_fair.{calling_fair}
-pub use Rattle.osi_fair.proofs.a_calling_end_is_fair_in_class_2.{first_joined, Joined as Follows, next_joined}
-pub use Rattle.osi_fair.proofs.a_dr_for_what_is_gone.{before_clear}
+pub use Rattle.osi_fair.proofs.a_calling_end_is_fair_in_class_2.{first_joined, Joined as Follows}
 pub use Rattle.osi_fair.proofs.a_dt_of_class_zero_passes.{only_first, unlike}
 pub use Rattle.osi_fair.proofs.a_reference_names_one_connection.{applied_found, applied_judged, fresh_apart, no_item, not_first, not_true}
 pub use Rattle.osi_fair.proofs.a_reference_names_one_connection.{passes_apart}
@@ -205,53 +184,44 @@ pub use Rattle.osi_fair.proofs.a_unit_of_an_end_of_class_zero_passes.{selecting_
 pub use Rattle.osi_fair.proofs.all_are_judged_unless_one_broke.{AreJudged, still_judged}
 pub use Rattle.osi_fair.proofs.class_0_stays_selected.{zero_stays}
 pub use Rattle.osi_fair.proofs.one_request_waits.{reached_class}
-pub use Rattle.osi_fair.proofs.each_connection_has_its_line.{all_so, asking, Followed, is_tracked, IsAnswer, IsAsking, IsNoCc, IsOwned, Row}
-pub use Rattle.osi_fair.proofs.each_connection_has_its_line.{stray, Tracked}
+pub use Rattle.osi_fair.proofs.each_connection_has_its_line.{Followed, is_tracked, IsNoCc, IsOwned, Row, Tracked}
 pub use Rattle.osi_fair.proofs.each_connection_of_a_called_end.{Answering, answers as answering, AreAbove, AreStrays, Asked, Called, comes}
-pub use Rattle.osi_fair.proofs.each_connection_of_a_called_end.{line_of, refuses, Running, runs, Stand, StrayIf, Untagged}
+pub use Rattle.osi_fair.proofs.each_connection_of_a_called_end.{line_of, refuses, runs, Stand, StrayIf, Untagged}
 pub use Rattle.osi_fair.proofs.how_a_calling_end_asks.{IsOver, one}
 pub use Rattle.osi_fair.proofs.how_requests_go_on.{answered, Calling, known, quiet, refused}
 pub use Rattle.osi_fair.proofs.left_selects_no_class.{left_class}
 pub use Rattle.osi_fair.proofs.no_request_is_blamed.{Holds, holds_first, holds_next}
-pub use Rattle.osi_fair.proofs.no_two_open_connections_have_one_peer.{left_open}
 pub use Rattle.osi_fair.proofs.one_request_waits.{begun_live}
 pub use Rattle.osi_fair.proofs.references_of_requests_rise.{all_gives, closed_gives, ended_gives, not_less, Rise, rise_from, sent_gives}
-pub use Rattle.osi_fair.proofs.the_end_is_judged_as_the_other_side_is.{other_judged}
-pub use Rattle.osi_fair.proofs.small_facts_that_many_lemmas_use.{both, judged_same}
+pub use Rattle.osi_fair.proofs.small_facts_that_many_lemmas_use.{judged_same}
 pub use Rattle.osi_fair.proofs.units_by_their_place.{at_first, at_join, first_at, Placed, values}
 pub use Rattle.osi_fair.proofs.which_units_are_for_a_connection.{names_in as is_at}
 pub use Rattle.osi_fair.proofs.what_a_called_end_does_to_its_lines.{above_more}
-pub use Rattle.osi_fair.proofs.what_a_carrier_puts.{call_writes, unit_writes}
 pub use Rattle.osi_fair.proofs.what_a_link_does.{begun_by, gives_so, takes_so}
 pub use Rattle.osi_fair.proofs.what_an_end_does_in_class_zero.{anyhow, IsInZero, zero_puts}
 pub use Rattle.osi_fair.proofs.what_an_end_puts_in_class_zero.{PutsData}
-pub use Rattle.osi_fair.proofs.what_becomes_of_a_called_end.{above_up, IsCalled, units_no_cc}
-pub use Rattle.osi_fair.proofs.what_becomes_of_a_connection.{comes_for, IsIdle}
+pub use Rattle.osi_fair.proofs.what_becomes_of_a_called_end.{IsCalled, units_no_cc}
 pub use Rattle.osi_fair.proofs.what_holds_of_one_item.{after_add, after_map, after_set, each_add, each_map, each_set, first_true}
-pub use Rattle.osi_fair.proofs.what_holds_of_one_item.{HoldsOfEach, none_true, one_added, one_changed, one_mapped, one_put}
+pub use Rattle.osi_fair.proofs.what_holds_of_one_item.{HoldsOfEach, one_added, one_changed, one_mapped, one_put}
 pub use Rattle.osi_fair.proofs.what_is_right_passes_each_test.{passes_each}
 pub use Rattle.osi_fair.proofs.what_keeps_names_apart.{AreApart as NamesApart, Sound}
 pub use Rattle.osi_fair.proofs.what_lasts_at_the_tap.{lasts_passing}
-pub use Rattle.osi_fair.proofs.what_stays_of_each_connection.{left_then, own_stays, right_passes}
-pub use Rattle.osi_fair.proofs.what_the_other_side_closes.{going_on, is_name, IsClear, IsFirm, IsOngoing}
+pub use Rattle.osi_fair.proofs.what_the_other_side_closes.{IsFirm, IsOngoing}
 pub use Rattle.osi_fair.proofs.which_requests_are_put.{asked_among, call_asks, unit_asks}
-pub use Rattle.osi_fair.proofs.which_unit_comes_to_a_called_end.{asks_so, Came, came_so, for_one, IsCalm, lost}
-pub use Rattle.osi_fair.proofs.which_unit_comes_to_a_called_end.{only}
+pub use Rattle.osi_fair.proofs.which_unit_comes_to_a_called_end.{IsCalm}
 pub use Rattle.osi_fair.proofs.which_units_are_for_a_connection.{each_picked, first_kept, first_left, is_dc, IsDc, keep, leads, names}
-pub use Rattle.osi_fair.proofs.which_units_are_for_a_connection.{picked, picked_each, picked_first, picked_join, picked_more, picked_other}
-pub use Rattle.osi_fair.proofs.which_units_are_for_a_connection.{picked_rest, those, those_join}
-pub use Rattle.osi_fair.proofs.while_no_class_is_selected.{after_change, calm_tap, done_takes, GoesOn, IsDone, set_same, set_there, Waits}
+pub use Rattle.osi_fair.proofs.which_units_are_for_a_connection.{picked, picked_first, picked_join, picked_rest, those, those_join}
+pub use Rattle.osi_fair.proofs.while_no_class_is_selected.{after_change, calm_tap, done_takes, GoesOn, set_same, set_there, Waits}
 pub use Rattle.osi_fair.specs.Asking.{asked_in}
-pub use Rattle.osi_fair.specs.Lines.{Act, Acts, ActsAlong, begins_elsewhere, ignores, Line, moves, opened_half, opened_line, units_put}
+pub use Rattle.osi_fair.specs.Lines.{Act, Acts, ActsAlong, begins_elsewhere, ignores, Line, moves, opened_line, units_put}
 pub use Rattle.osi_fair.specs.Naming.{HoldsOfOne, packet, passes, Passing, rubbish, unit}
 pub use Rattle.osi_fair.specs.Pieces.{units_by}
-pub use Rattle.osi_fair.specs.Putting.{put_at, put_before, put_by, put_closed, put_closing, put_for, put_for_request, put_for_selection}
-pub use Rattle.osi_fair.specs.Putting.{put_in, put_in_two, put_in_zero, put_leaving, put_linked, put_only, put_sent, put_taking, put_to}
-pub use Rattle.osi_fair.specs.Putting.{put_together, put_unknown, refusal}
-pub use Rattle.osi_fair.specs.Wholes.{arrives, calls, Event, HappenAlong, Happens, MayCall, passes_rubbish, Whole}
+pub use Rattle.osi_fair.specs.Putting.{put_at, put_before, put_by, put_closing, put_for, put_for_selection, put_in, put_in_two, put_leaving}
+pub use Rattle.osi_fair.specs.Putting.{put_only, put_sent, put_taking, put_together, refusal}
+pub use Rattle.osi_fair.specs.Wholes.{arrives, calls, Event, HappenAlong, Happens, passes_rubbish, Whole}
 pub use Rattle.osi_watched.specs.Joint.{begins_other, begins_own, Joint, passes_other, passes_own, Step, Steps, StepsAlong, TakesTurn}
 pub use Rattle.osi_watched.specs.Joint.{turns}
 pub use Rattle.osi_watched.specs.Passing.{AreOctets, ComesBySteps, IsOctet, TurnsBad}
 pub use Rattle.osi_watched.specs.Shown.{all_before, AreAfter, before_begun, before_of, calls_from, IsJoinedFrom, IsShownNow, IsShownOf}
 pub use Rattle.osi_watched.specs.Shown.{left_over, parts_of, with_next}
-pub use Rattle.osi_watched.specs.ShownPlaces.{HasAsked, HaveSamePlaces, IsJoinedAt, IsOneOf, named_by}
+pub use Rattle.osi_watched.specs.ShownPlaces.{HasAsked, HaveSamePlaces, IsOneOf, named_by}

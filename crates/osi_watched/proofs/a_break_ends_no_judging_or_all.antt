@@ -20,8 +20,8 @@ use Rattle.osi_rules.specs.declared.findings.Reach.{Reach}
 use Rattle.osi_rules.specs.declared.findings.Reach.TheVariants as reach
 use Rattle.osi_rules.specs.declared.routes.Route.{Route}
 use Rattle.osi_rules.specs.Reaches.{reach_of}
-use Rattle.osi_rules.specs.Traffic.{State, Outcome, class_for, course_after, course_after_none, none_told, one_told}
-use Rattle.osi_rules.specs.Traffic.{unnamed_told, at_found, at_place, asks_by, asks_of, routed, route, is_stopped, takes}
+use Rattle.osi_rules.specs.Traffic.{State, Outcome, class_for, none_told, one_told, unnamed_told, at_place, asks_by, routed, is_stopped}
+use Rattle.osi_rules.specs.Traffic.{takes}
 use Rattle.osi_rules.specs.Traffic as traffic
 use Rattle.osi_rules.proofs.a_stop_is_said.{stops_are_said, stops_last}
 use Rattle.osi_fair.specs.Naming.{rubbish, unit}
@@ -32,11 +32,11 @@ use Rattle.osi_tap.specs.declared.marks.Cause.TheVariants as cause
 use Rattle.osi_tap.specs.declared.marks.Mark.{Mark}
 use Rattle.osi_tap.specs.declared.marks.Marks.{Marks}
 use Rattle.osi_tap.specs.Connections.{taken}
-use Rattle.osi_tap.specs.Courses.{Course, breaks, cause_of, changes, earlier, first_marked, halts, is_break, kind_of}
-use Rattle.osi_tap.specs.Courses.{marked, marks_of, moment_of, moved, noted_by, number_at, packet_begins, reached, unit_passes, unread}
-use Rattle.osi_tap.specs.Courses.{unread_mark, unread_moment, way_of}
+use Rattle.osi_tap.specs.Courses.{Course, breaks, cause_of, changes, earlier, first_marked, is_break, kind_of, marked, marks_of, moment_of}
+use Rattle.osi_tap.specs.Courses.{moved, noted_by, number_at, packet_begins, reached, unit_passes, unread, unread_mark, unread_moment}
+use Rattle.osi_tap.specs.Courses.{way_of}
 use Rattle.osi_watched.proofs.the_first_break_is_not_of_an_end.{IsNoBreak}
-use Rattle.osi_watched.proofs.what_a_unit_leaves_at_a_tap.{IsJudged, IsOver, begins_over, unread_over}
+use Rattle.osi_watched.proofs.what_a_unit_leaves_at_a_tap.{IsJudged, IsOver, unread_over}
 use Rattle.osi_watched.proofs.what_passes_keeps_a_claim.{IsClaim}
 use Rattle.osi_watched.proofs.sessions.class_0_is_known_once_it_is_selected.{IsKnownOnce}
 use Rattle.osi_watched.proofs.sessions.connections_have_the_same_places.{marked_leaves, marked_traffic, unit_knows}
@@ -60,46 +60,26 @@ IsReached d s o = Reaches (class_for d s.course) s.course.loose o
 pub reached_loose : (d : Direction) (r : Reach) (c : Judging) (old : Bool) → c.loose ≡ old → (traffic.reached d r c).loose ≡ loose_by r old
 reached_loose d r c old e = grind arith
 
-keeps_loose : (d : Direction) (c : Connection) (v : Value) (applied : Bool) (course : Judging) →
-    (course_after d c v applied course).loose ≡ course.loose
-keeps_loose d c v applied course = grind arith
-
-none_loose : (v : Value) (course : Judging) → (course_after_none v course).loose ≡ course.loose
-none_loose v course = grind arith
-
-none_class : (d : Direction) (v : Value) (course : Judging) → class_for d (course_after_none v course) ≡ class_for d course
-none_class d v course = grind arith
-
 to_none : (d : Direction) (f : Finding) (s : State) → IsReached d s (none_told d f s)
 to_none d f s = grind (arith, reached_loose)
 
 to_unnamed : (d : Direction) (v : Value) (s : State) → IsReached d s (unnamed_told d v s)
-to_unnamed d v s = grind (arith, reached_loose, none_loose, none_class)
+to_unnamed d v s = grind (arith, reached_loose)
 
 to_one : (d : Direction) (place : ℕ) (c : Connection) (v : Value) (s : State) → IsReached d s (one_told d place c v s)
-to_one d place c v s = grind (arith, reached_loose, keeps_loose)
-
-at_one : (d : Direction) (v : Value) (s : State) (place : ℕ) (c : Option Connection) → IsReached d s (at_found d v s place c)
-at_one d v s place c = search (arith, to_unnamed, to_one)
+to_one d place c v s = grind (arith, reached_loose)
 
 at_any : (d : Direction) (v : Value) (s : State) (place : Option ℕ) → IsReached d s (at_place d v s place)
-at_any d v s place = grind (arith, to_unnamed, at_one)
+at_any d v s place = search (arith, to_unnamed)
 
 asking : (d : Direction) (f : Finding) (c : Connect) (s : State) → IsReached d s (asks_by d f c s)
 asking d f c s = search (arith, to_none)
 
-asks : (d : Direction) (v : Value) (s : State) → IsReached d s (asks_of d v s)
-asks d v s = grind (arith, asking, to_none)
-
 by_route : (d : Direction) (v : Value) (s : State) (r : Route) → IsReached d s (routed d v s r)
-by_route d v s r = grind (arith, asks, at_any, to_none)
-
-if_judged : (b : Bool) (d : Direction) (v : Value) (s : State) (r : Route) →
-    IsReached d s (if b then none_told d NotJudged s else routed d v s r)
-if_judged b d v s r = grind (arith, to_none, by_route)
+by_route d v s r = grind (arith, asking, to_none, at_any)
 
 pub takes_reach : (d : Direction) (v : Value) (s : State) → IsReached d s (takes d v s)
-takes_reach d v s = if_judged (is_stopped d s.course) d v s (route d s.course v)
+takes_reach d v s = grind (arith, to_none, by_route)
 
 -- what ends all judging is told
 all_caused : (k : Option Class) (f : Finding) → reach_of k f ≡ reach.Everything → (x : Cause) × (cause_of f ≡ Some x)
@@ -118,34 +98,19 @@ pub record IsGoing (c : Course) : Type 0 where
   pub left_goes : c.left.halted ≡ None
   pub right_goes : c.right.halted ≡ None
 
-breaks_halted : (m : Mark) (k : Marks) → (breaks m k).halted ≡ k.halted
-breaks_halted m k = grind arith
-
-breaks_no : (m : Mark) (k : Marks) → is_break m.cause ≡ false → (breaks m k).broke ≡ k.broke
-breaks_no m k h = ap (λ (b : Bool). (if b then record k { broke = earlier k.broke m } else k).broke) h
-
 pub halted_by : (d e : Side) (m : Mark) (c : Course) →
     (marks_of e (changes d (breaks m) (first_marked m c))).halted ≡ (marks_of e c).halted
-halted_by d e m c = grind (arith, breaks_halted)
+halted_by d e m c = grind arith
 
 pub some_earlier : (o : Option Mark) (m : Mark) → is_some (earlier o m) ≡ true
 some_earlier o m = grind arith
 
--- who is not judged any more keeps what was found before
-changes_broke : (d e : Side) (m : Mark) (c : Course) → (marks_of e (changes d (halts m) c)).broke ≡ (marks_of e c).broke
-changes_broke d e m c = grind arith
-
 reached_broke : (e : Side) (m : Mark) (r : Reach) (c : Course) → (marks_of e (reached m r c)).broke ≡ (marks_of e c).broke
-reached_broke e m r c = grind (arith, changes_broke)
-
--- a mark of the other side, and one that is no break
-other_marked : (d : Side) (m : Mark) (c : Course) →
-    (marks_of d (changes (other d) (breaks m) (first_marked m c))).broke ≡ (marks_of d c).broke
-other_marked d m c = grind arith
+reached_broke e m r c = grind arith
 
 own_marked : (d : Side) (m : Mark) (c : Course) → is_break m.cause ≡ false →
     (marks_of d (changes d (breaks m) (first_marked m c))).broke ≡ (marks_of d c).broke
-own_marked d m c h = grind (arith, breaks_no)
+own_marked d m c h = grind arith
 
 module _ (d : Side) (at : ℕ) (v : Value) (c : Course) where
   abbrev pub o : Outcome
@@ -172,10 +137,6 @@ module _ (d : Side) (at : ℕ) (v : Value) (c : Course) where
   halts_by : (e : Side) (k : Cause) → is_some (marks_of e (marked (mark k) reach.Everything mid)).halted ≡ true
   halts_by e k = grind (arith, some_earlier)
 
-  halts_all : (e : Side) (k : Option Cause) (x : Cause) → k ≡ Some x → o.told.reach ≡ reach.Everything →
-      is_some (marks_of e (noted_by d at v o.told k mid)).halted ≡ true
-  halts_all e k x caused is = grind (arith, halts_by)
-
   abbrev next : Course
   next = unit_passes d at v c
 
@@ -188,13 +149,6 @@ module _ (d : Side) (at : ℕ) (v : Value) (c : Course) where
 
   pub loose_so : (r : Reach) → o.told.reach ≡ r → next.traffic.course.loose ≡ loose_by r c.traffic.course.loose
   loose_so r is = grind (arith, unit_knows, reach_so)
-
-  zero_known : (e : Side) → IsKnownOnce c.traffic → class_for (way_of e) c.traffic.course ≡ Some Zero →
-      c.traffic.course.class ≡ Some Zero
-  zero_known e once h = grind arith
-
-  own_stops : (e : Side) (b : Bool) → (traffic.stops_by (way_of e) reach.Side (way_of e) || b) ≡ true
-  own_stops e b = grind arith
 
   pub nothing_ends : o.told.reach ≡ reach.Nothing → IsJudged c → IsJudged next
   nothing_ends is j = record {
@@ -211,8 +165,8 @@ module _ (d : Side) (at : ℕ) (v : Value) (c : Course) where
       record {
         left = stops_so reach.Everything is Left;
         right = stops_so reach.Everything is Right;
-        left_halts = halts_all side.Left (cause_of o.told.finding) x caused is;
-        right_halts = halts_all side.Right (cause_of o.told.finding) x caused is;
+        left_halts = grind (arith, halts_by);
+        right_halts = grind (arith, halts_by);
       }
 
   pub side_so : o.told.reach ≡ reach.Side → IsKnownOnce c.traffic →
@@ -220,8 +174,8 @@ module _ (d : Side) (at : ℕ) (v : Value) (c : Course) where
   side_so is once =
       let k = side_zero (class_for (way_of d) c.traffic.course) o.told.finding (sym reach_so.far ∙ is) in (
         ap (λ (s : State). s.course.class) (unit_knows d at v c)
-            ∙ zero_stays (unit (way_of d) v) c.traffic (zero_known d once k),
-        stops_so reach.Side is (way_of d) ∙ own_stops d (is_stopped (way_of d) c.traffic.course),
+            ∙ zero_stays (unit (way_of d) v) c.traffic (grind arith),
+        stops_so reach.Side is (way_of d) ∙ (grind arith),
       )
 
   pub nothing_goes : o.told.reach ≡ reach.Nothing → IsGoing c → IsGoing next
@@ -242,21 +196,14 @@ module _ (d : Side) (at : ℕ) (v : Value) (c : Course) where
 
   -- in class 0
   pub side_known : o.told.reach ≡ reach.Side → IsKnownOnce c.traffic → c.traffic.course.class ≡ Some Zero
-  side_known is once = grind (arith, zero_known, side_zero, reach_so)
+  side_known is once = grind (arith, side_zero, reach_so)
 
   pub far_of : (f : Finding) → o.told.finding ≡ f → o.told.reach ≡ reach_of (class_for (way_of d) c.traffic.course) f
   far_of f is = reach_so.far ∙ ap (reach_of (class_for (way_of d) c.traffic.course)) is
 
-  none_by : (f : Finding) → o.told.finding ≡ f → IsNoBreak f → IsJudged c → IsJudged next ⊎ IsOver next
-  none_by Kept is none j = inl (nothing_ends (far_of Kept is) j)
-  none_by NotJudged is none j = inl (nothing_ends (far_of NotJudged is) j)
-  none_by TooMany is none j = inr (all_ends (far_of TooMany is))
-  none_by (Broke rule) is none j = absurd none
-  none_by Outside is none j = absurd none
-
   -- one that is no break ends no judging, or all
   pub none_ends : IsNoBreak o.told.finding → IsJudged c → IsJudged next ⊎ IsOver next
-  none_ends none j = none_by o.told.finding refl none j
+  none_ends none j = grind (arith, nothing_ends, far_of, all_ends)
 
   -- how far it reaches then
   pub mild_reach : (f : Finding) → o.told.finding ≡ f → IsNoBreak f → (o.told.reach ≡ reach.Nothing) ⊎ (o.told.reach ≡ reach.Everything)
@@ -284,12 +231,9 @@ other_unbroken d at v c = by (cause_of (o (other d) at v c).told.finding)
     by (Some k) =
         let m = mark (other d) at v c k in
         reached_broke d m (o (other d) at v c).told.reach (changes (other d) (breaks m) (first_marked m (mid (other d) at v c)))
-        ∙ other_marked d m (mid (other d) at v c) ∙ ap (λ (x : Marks). x.broke) (mid_marks (other d) at v c d)
+        ∙ (grind arith) ∙ ap (λ (x : Marks). x.broke) (mid_marks (other d) at v c d)
 
 -- ---- a packet begins
-
-pub begins_judged : (e : Side) (c : Course) → IsJudged c → IsJudged (packet_begins e c)
-begins_judged e c j = grind arith
 
 pub begins_going : (e : Side) (c : Course) → IsGoing c → IsGoing (packet_begins e c)
 begins_going e c j = grind arith
@@ -330,7 +274,7 @@ module _ (d : Side) (at : ℕ) (k : Cause) (c : Course) where
   known_too e once h = grind arith
 
 pub unread_unbroken : (d : Side) (at : ℕ) (k : Cause) (c : Course) → (marks_of d (unread (other d) at k c)).broke ≡ (marks_of d c).broke
-unread_unbroken d at k c = grind (arith, reached_broke, other_marked)
+unread_unbroken d at k c = grind (arith, reached_broke)
 
 -- it joins nothing
 pub unread_sessions : (d : Side) (at : ℕ) (k : Cause) (c : Course) → (unread d at k c).sessions ≡ c.sessions
@@ -338,29 +282,20 @@ unread_sessions d at k c = grind (arith, marked_leaves)
 
 -- ---- what stays so, whatever passes
 
-stopped_so : (e : Side) (c : Course) → IsOver c → is_stopped (way_of e) c.traffic.course ≡ true
-stopped_so e c over = grind arith
-
 -- nothing is judged any more, and this side has broken no rule
 pub record IsLeft (d : Side) (c : Course) : Type 0 where
   pub over : IsOver c
   pub unbroken : (marks_of d c).broke ≡ None
 
-left_begins : (d e : Side) (c : Course) → IsLeft d c → IsLeft d (packet_begins e c)
-left_begins d e c h = grind (arith, begins_over)
-
 pub still_over : (e : Side) (at : ℕ) (v : Value) (c : Course) → IsOver c → IsOver (unit_passes e at v c)
-still_over e at v c over = grind (arith, stops_last, stopped_so)
+still_over e at v c over = grind (arith, stops_last)
 
 still_unbroken : (d e : Side) (at : ℕ) (v : Value) (c : Course) → IsOver c →
     (marks_of d (unit_passes e at v c)).broke ≡ (marks_of d c).broke
-still_unbroken d e at v c over = grind (arith, stops_last, stopped_so)
-
-left_passes : (d e : Side) (at : ℕ) (v : Value) (c : Course) → IsLeft d c → IsLeft d (unit_passes e at v c)
-left_passes d e at v c h = grind (arith, still_over, still_unbroken)
+still_unbroken d e at v c over = grind (arith, stops_last)
 
 pub left_claim : (d : Side) → IsClaim (IsLeft d)
-left_claim d = grind (arith, left_begins, left_passes, unread_over)
+left_claim d = grind (arith, unread_over)
 
 -- what has lost its judgement stays so
 pub loose_more : (r : Reach) → loose_by r true ≡ true

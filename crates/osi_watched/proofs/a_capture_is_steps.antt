@@ -28,7 +28,7 @@ use Rattle.osi_watched.proofs.what_follows_what_cannot_be_read.{LaterComes, Othe
 use Rattle.osi_watched.proofs.what_follows_what_cannot_be_read.{other_moved as other_moved_later}
 use Rattle.osi_watched.proofs.what_is_halted_stays_halted.{unread_halts}
 use Rattle.osi_watched.proofs.turns_are_taken_late.{Follows, all_passed, other_passes, own_passes, seen_follows, turn_taken}
-use Rattle.osi_watched.proofs.what_an_octet_does.{begins, passes_so, same_course}
+use Rattle.osi_watched.proofs.what_an_octet_does.{begins, passes_so}
 use Rattle.osi_watched.proofs.what_the_turns_among_steps_do.{ComesByDoing, IsOfTap, StepsDo, TurnDoes, tap_first}
 use Rattle.osi_watched.proofs.what_the_first_octets_are.{begins_none, own_front, whole_front, whole_packet}
 
@@ -286,7 +286,7 @@ module _ (d : Direction) (is_caller : Bool) (deeds : ℕ → Deeds) (x : ℕ) (c
           cause = cause;
           bad = bad;
           unreadable = ap (λ (z : State). z.course) is
-              ∙ same_course (other d) t (record s { course = unread (other d) other_now.at cause other_course }) ∙ course;
+              ∙ (grind arith) ∙ course;
         });
         on = inr (record {
           at = other_now.at;
@@ -442,16 +442,13 @@ along_steps d is_caller _ _ _ _ (turn_taken turn still all ahead capture left is
     (along_steps d is_caller (still ++ turn.put) ahead capture left more (all_did deeds k.does.of.on.more) s k.later end octets
     (k.goes_on left end does.3) k.stands)
 
-stands_first : (d : Direction) (h : Holding) → h.held.octets ≡ [] → Stands d tapping.begin (joints.begin h) [] []
-stands_first d h none = grind (arith, octets_nil, append-nil)
-
 pub capture_steps : Known → (d : Direction) (is_caller : Bool) (local : Local) (first end : Holding) (turns_all : List Turn)
     (capture : Capture) → IsFresh is_caller local first → Run first turns_all end → AreOctets capture → IsSeen d turns_all capture →
     ComesByDoing d is_caller capture first
 capture_steps known d is_caller local first end turns_all capture fresh run octets seen =
     let does = fresh_turns known is_caller local first end turns_all fresh run in
     let c = along_steps d is_caller [] [] capture turns_all (seen_follows d turns_all capture seen) (λ r. no_deeds) tapping.begin
-    (joints.begin first) end octets does (stands_first d first fresh.held) in
+    (joints.begin first) end octets does (grind (arith, octets_nil, append-nil)) in
     record { steps = c.steps; last = c.last; along = c.along; does = c.does; all = by c.last.course c.all; on = goes c.last c.on }
   where
     goes : (last : Joint) → ((after capture tapping.begin).course ≡ last.course) ⊎ Spoils d capture tapping.begin last →

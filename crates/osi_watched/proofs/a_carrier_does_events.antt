@@ -15,7 +15,7 @@ use Rattle.osi_tpdu.specs.declared.faults.TpduFault.{TpduFault}
 use Rattle.osi_tpdu.specs.declared.tsaps.Tsap.{Tsap}
 use Rattle.osi_tpdu.proofs.the_units_of_a_packet.{units_fit, units_found}
 use Rattle.osi_class.specs.Link.{Standing}
-use Rattle.osi_carrier.specs.Calls.{asks, closed_on, closed_with, ended_by, link_of, may_connect, open_link, sent, sent_all, sent_on}
+use Rattle.osi_carrier.specs.Calls.{asks, closed_on, closed_with, ended_by, link_of, may_connect, open_link, sent_all}
 use Rattle.osi_carrier.specs.Happenings.{Happening}
 use Rattle.osi_carrier.specs.Packets as carriers
 use Rattle.osi_carrier.specs.React.{react_by, reacts}
@@ -52,12 +52,9 @@ idle_unit v c over = ap (λ (b : Bool). react_by b v c) over
 no_link : (r : ℕ) (c : State) → is_some c.ended ≡ true → open_link r c ≡ None
 no_link r c over = ap (λ (b : Bool). if b then None else link_of (value_at r c.live)) over
 
-idle_sent : (r : ℕ) (tsdu : List ℕ) (c : State) → is_some c.ended ≡ true → sent r tsdu c ≡ c
-idle_sent r tsdu c over = ap (λ (o : Option (ℕ × Standing)). sent_on r tsdu o c) (no_link r c over)
-
 idle_all : (r : ℕ) (tsdus : List (List ℕ)) (c : State) → is_some c.ended ≡ true → sent_all r tsdus c ≡ c
 idle_all r [] c over = refl
-idle_all r (tsdu ∷ tsdus) c over = ap (sent_all r tsdus) (idle_sent r tsdu c over) ∙ idle_all r tsdus c over
+idle_all r (tsdu ∷ tsdus) c over = ap (sent_all r tsdus) (grind (arith, no_link)) ∙ idle_all r tsdus c over
 
 idle_closed : (r reason : ℕ) (c : State) → is_some c.ended ≡ true → closed_with r reason c ≡ c
 idle_closed r reason c over = ap (λ (o : Option (ℕ × Standing)). closed_on r reason o c) (no_link r c over)
@@ -213,10 +210,6 @@ module _ (d : Direction) (w : Whole) (out : List ℕ) where
       units_in (us ++ u ∷ []) ++ later ≡ units_in us ++ (units_by (units_of u) ++ later)
   one_more us u later = grind (arith, units_join, append_assoc, append-nil)
 
-  with_packet : (us : List (List ℕ)) (u : List ℕ) (c : State) → Came us c → (later : List Value) →
-      (w.end.ended ≡ None → w.coming ≡ units_in (us ++ u ∷ []) ++ later) → HasCome d w out (units_by (units_of u) ++ later) c
-  with_packet us u c p later next = p (units_by (units_of u) ++ later) (λ lasts. next lasts ∙ one_more us u later)
-
   acts_so : (r : Result (List Value) TpduFault) (u : List ℕ) (later : List Value) (c : State) → IsOctets u → units_of u ≡ r →
       HasCome d w out (units_by r ++ later) c → HasCome d w out later (carriers.acts_by r c)
   acts_so (Ok units) u later c octets e h = all_come units later c (units_fit units u (units_found u units octets e)) h
@@ -224,7 +217,7 @@ module _ (d : Direction) (w : Whole) (out : List ℕ) where
 
   packet_so : (us : List (List ℕ)) (u : List ℕ) (c : State) → IsOctets u → Came us c → Came (us ++ u ∷ []) (carriers.after_packet c u)
   unfolding carriers.after_packet
-  packet_so us u c octets p = λ later next. acts_so (units_of u) u later c octets refl (with_packet us u c p later next)
+  packet_so us u c octets p = λ later next. acts_so (units_of u) u later c octets refl (grind (arith, one_more))
 
   front_fits : (some others : List Value) → AllByRecursion Fits (some ++ others) → AllByRecursion Fits some
   front_fits [] others all = tt
@@ -239,7 +232,7 @@ module _ (d : Direction) (w : Whole) (out : List ℕ) where
       ap (λ (r : Result (List Value) TpduFault). units_by r ++ later) read ∙ ap (λ (l : List Value). l ++ later) run.all
       ∙ append_assoc run.done rest later in
       let first = all_come run.done (rest ++ later) c (front_fits run.done rest all)
-      (subst (λ (l : List Value). HasCome d w out l c) order (with_packet us u c p later next)) in
+      (subst (λ (l : List Value). HasCome d w out l c) order (grind (arith, one_more))) in
       subst (HasCome d w out later) (sym run.ended) (ends_come NoMemory (rest ++ later) later (reacts run.done c) first)
 
   untold_so : (us : List (List ℕ)) (events : List Happening) (c : State) → Came us c → Came us (record c { events = events })

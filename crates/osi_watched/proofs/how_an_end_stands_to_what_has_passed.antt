@@ -3,8 +3,8 @@
 use Rattle.osi_watched.proofs.Vocabulary.{[], ap, append_assoc, arith, Bool, false, is_some, length, List, None, Option, refl, Some, true}
 use Rattle.osi_watched.proofs.Vocabulary.{ℕ, ◌++◌, ◌<◌, ◌∷◌, ◌≡◌, ◌≢◌, ◌≤◌, length-append, AllByRecursion, end_no_packet, some_cut}
 use Rattle.osi_watched.proofs.Vocabulary.{octets_append, octets_cons, octets_left, octets_nil, IsOctets, ArePackets, Ending, EndsAt, Value}
-use Rattle.osi_watched.proofs.Vocabulary.{written, written_header, packets, EndReason, Holding, over_acts, never_lasts, CanBeWritten}
-use Rattle.osi_watched.proofs.Vocabulary.{Continues, Deeds, Takes, Turn, front_of, partial}
+use Rattle.osi_watched.proofs.Vocabulary.{written, packets, EndReason, Holding, over_acts, never_lasts, CanBeWritten, Continues, Deeds}
+use Rattle.osi_watched.proofs.Vocabulary.{Takes, Turn, front_of, partial}
 use Rattle.osi_carrier.specs.Fetching.{IsNoFront}
 use Rattle.osi_watched.proofs.what_the_first_octets_are.{packets_octets, part_begins_none, used_first}
 
@@ -42,11 +42,8 @@ one_octet held x octets small = octets_append held (x ∷ []) octets (octets_con
 
 -- ---- an octet of the end
 
-some_header : (v : Value) → 2 ≤ length (written_header v)
-some_header v = grind arith
-
 pub some_octets : (v : Value) → 3 ≤ length (written v)
-some_octets v = grind (arith, some_header, length-append)
+some_octets v = grind (arith, length-append)
 
 never_none : (held still : List ℕ) (x : ℕ) → held ++ x ∷ still ≡ [] → ⊥
 never_none [] still x e = cc
@@ -89,18 +86,15 @@ module _ (held ahead : List ℕ) (coming : List (List ℕ)) (is_caller : Bool) (
   passed : old.end.carrier.ended ≡ None → ArePackets coming (octets_in ++ ahead) held
   passed lasts = grind (arith, append_assoc)
 
-  not_both : (o : Option EndReason) (e : EndReason) → o ≡ Some e → o ≡ None → ⊥
-  not_both o e some none = cc
-
   pub uses : (was is : Option EndReason) → old.end.carrier.ended ≡ was → new.end.carrier.ended ≡ is → Uses held ahead coming old turn new
   uses (Some e) is was now = record {
     used = [];
     later = coming;
     parts = refl;
     rest = new.held.octets;
-    cut = λ lasts. absurd (not_both old.end.carrier.ended e was lasts);
+    cut = λ lasts. absurd (grind arith);
     kept = λ lasts. refl;
-    all = λ lasts over more last h. absurd (not_both old.end.carrier.ended e was lasts);
+    all = λ lasts over more last h. absurd (grind arith);
     left = λ lasts. absurd (never_lasts new.end.carrier.ended (over_acts turn old new (ap is_some was) takes).0 lasts);
   }
   uses None None was now = grind (arith, used_first, passed)
@@ -114,7 +108,7 @@ module _ (held ahead : List ℕ) (coming : List (List ℕ)) (is_caller : Bool) (
         parts = p.1;
         rest = k.2.0;
         cut = λ lasts. k.2.1;
-        kept = λ lasts. absurd (not_both new.end.carrier.ended e now lasts);
+        kept = λ lasts. absurd (grind arith);
         all = λ lasts over more last h. none_more _ k.2.0 k.1 k.2.2 more last h;
-        left = λ lasts. absurd (not_both new.end.carrier.ended e now lasts);
+        left = λ lasts. absurd (grind arith);
       }

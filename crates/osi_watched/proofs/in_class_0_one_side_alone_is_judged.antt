@@ -8,14 +8,13 @@ use Rattle.osi_class.specs.declared.terms.Class.{Class}
 use Rattle.osi_class.specs.declared.terms.Class.TheVariants.{Zero}
 use Rattle.osi_judge.specs.Captures.{other}
 use Rattle.osi_judge.specs.declared.directions.Direction.{Direction}
-use Rattle.osi_rules.specs.Reaches.{reach_by, reach_of}
+use Rattle.osi_rules.specs.Reaches.{reach_of}
 use Rattle.osi_rules.specs.Traffic as traffic
 use Rattle.osi_rules.specs.Traffic.{State, Outcome, class_for, is_stopped}
 use Rattle.osi_rules.specs.declared.findings.Finding.{Finding}
 use Rattle.osi_rules.specs.declared.findings.Finding.TheVariants.{Kept, Broke, Outside, TooMany, NotJudged}
 use Rattle.osi_rules.specs.declared.findings.Reach.{Reach}
 use Rattle.osi_rules.specs.declared.findings.Reach.TheVariants as reach
-use Rattle.osi_rules.proofs.a_stop_is_said.{stops_last}
 use Rattle.osi_fair.specs.Naming.{unit}
 use Rattle.osi_fair.proofs.class_0_stays_selected.{zero_stays}
 use Rattle.osi_tap.specs.declared.marks.Cause.{Cause}
@@ -23,12 +22,11 @@ use Rattle.osi_tap.specs.declared.marks.Cause.TheVariants as cause
 use Rattle.osi_tap.specs.Connections.{taken}
 use Rattle.osi_tap.specs.Courses.{Course, cause_of, marked, marks_of, moment_of, moved, noted_by, packet_begins, unit_passes}
 use Rattle.osi_tap.specs.Courses.{unread, way_of}
-use Rattle.osi_watched.proofs.a_break_ends_no_judging_or_all.{class_kept, far_of, known_too, loose_by}
-use Rattle.osi_watched.proofs.a_break_ends_no_judging_or_all.{loose_more, loose_so, mark, mid, o}
-use Rattle.osi_watched.proofs.a_break_ends_no_judging_or_all.{reached_loose, reach_so, refused_over}
-use Rattle.osi_watched.proofs.a_break_ends_no_judging_or_all.{refused_stops, refused_traffic, refuses, side_so, stops_so, unread_if}
+use Rattle.osi_watched.proofs.a_break_ends_no_judging_or_all.{far_of, loose_by, loose_more, loose_so, mark, mid, o, reached_loose, reach_so}
+use Rattle.osi_watched.proofs.a_break_ends_no_judging_or_all.{refused_over, refused_traffic, refuses, side_so, stops_so, unread_if}
+use Rattle.osi_watched.proofs.a_break_ends_no_judging_or_all.{some_earlier}
 use Rattle.osi_watched.proofs.what_a_unit_leaves_at_a_tap.{IsJudged, IsOver}
-use Rattle.osi_watched.proofs.what_is_halted_stays_halted.{IsHalted, halted_claim, side_halts, unread_halts, unread_same}
+use Rattle.osi_watched.proofs.what_is_halted_stays_halted.{IsHalted, halted_claim}
 use Rattle.osi_watched.proofs.what_passes_keeps_a_claim.{IsClaim}
 use Rattle.osi_watched.proofs.sessions.class_0_is_known_once_it_is_selected.{IsKnownOnce}
 use Rattle.osi_watched.proofs.sessions.connections_have_the_same_places.{unit_knows}
@@ -38,14 +36,11 @@ use Rattle.osi_watched.proofs.sessions.connections_have_the_same_places.{unit_kn
 abbrev pub IsLoose : Course → Type 0
 IsLoose c = c.traffic.course.loose ≡ true
 
-loose_begins : (e : Direction) (c : Course) → IsLoose c → IsLoose (packet_begins e c)
-loose_begins e c h = grind arith
-
 loose_unread : (b : Bool) (e : Direction) (at : ℕ) (k : Cause) (c : Course) → IsLoose c → IsLoose (unread_if b e at k c)
 loose_unread b e at k c h = grind (arith, refused_traffic, reached_loose, loose_more)
 
 pub loose_claim : IsClaim IsLoose
-loose_claim = grind (arith, loose_begins, loose_so, loose_by, loose_more, loose_unread)
+loose_claim = grind (arith, loose_so, loose_by, loose_more, loose_unread)
 
 -- ---- the end alone is judged
 
@@ -60,16 +55,10 @@ pub record IsAlone (d : Direction) (c : Course) : Type 0 where
 pub alone_begins : (d e : Direction) (c : Course) → IsAlone d c → IsAlone d (packet_begins e c)
 alone_begins d e c a = grind arith
 
-pub alone_unread : (d : Direction) (at : ℕ) (k : Cause) (c : Course) → IsAlone d c → IsAlone d (unread (other d) at k c)
-alone_unread d at k c a = subst (IsAlone d) (sym (unread_same (other d) at k c a.halted)) a
-
 -- what is told of a unit of the other side changes nothing
 abbrev passed : Direction → (at : ℕ) → Value → Outcome → Course → Course
 passed e at v x c = noted_by e at v x.told (cause_of x.told.finding)
     (moved (moment_of e at v x.told (taken e at v x.told.meaning x.told.place c.sessions)) (record c { traffic = x.state }))
-
-pub alone_other : (d : Direction) (at : ℕ) (v : Value) (c : Course) → IsAlone d c → IsAlone d (unit_passes (other d) at v c)
-alone_other d at v c a = grind (arith, stops_last)
 
 pub alone_own : (d : Direction) (at : ℕ) (v : Value) (c : Course) → (traffic.takes (way_of d) v c.traffic).told.finding ≡ Kept →
     IsAlone d c → IsAlone d (unit_passes d at v c)
@@ -118,7 +107,7 @@ unit_alone d at v c j once is =
       stopped = stopped;
       halted = ap (λ (y : Option Cause). is_some (marks_of e (noted_by e at v (o e at v c).told y (mid e at v c))).halted) caused
           ∙ ap (λ (r : Reach). is_some (marks_of e (marked (mark e at v c x) r (mid e at v c))).halted) is
-          ∙ side_halts e (mark e at v c x) _;
+          ∙ (grind (arith, some_earlier));
     }
 
 -- and what can't be read of it
@@ -133,26 +122,11 @@ module _ (d : Direction) (at : ℕ) (k : Cause) (c : Course) (j : IsJudged c) (o
   pub unread_is : unread e at k c ≡ refuses e at k c
   unread_is = ap (λ (b : Bool). unread_if b e at k c) (goes_on e c j)
 
-  refused_alone : class_for (way_of e) c.traffic.course ≡ Some Zero → IsAlone d (unread e at k c)
-  refused_alone zero =
-      let is : traffic.refused_reach (way_of e) c.traffic ≡ reach.Side = ap (λ (x : Option Class). reach_by x false) zero in
-      record {
-        zero = ap (λ (x : Course). x.traffic.course.class) unread_is ∙ class_kept e at k c (known_too e at k c e once zero);
-        firm = ap (λ (x : Course). x.traffic.course.loose) unread_is ∙ ap (λ (s : State). s.course.loose) (refused_traffic e at k c)
-            ∙ ap (λ (r : Reach). (traffic.reached (way_of e) r c.traffic.course).loose) is
-            ∙ reached_loose (way_of e) reach.Side c.traffic.course false j.firm;
-        own = ap (λ (x : Course). is_stopped (way_of d) x.traffic.course) unread_is ∙ refused_stops e at k c reach.Side is (way_of d)
-            ∙ other_apart d (is_stopped (way_of d) c.traffic.course) ∙ judged_own d c j;
-        stopped = ap (λ (x : Course). is_stopped (way_of e) x.traffic.course) unread_is ∙ refused_stops e at k c reach.Side is (way_of e)
-            ∙ side_stops e (is_stopped (way_of e) c.traffic.course);
-        halted = unread_halts e at k c;
-      }
-
   pub refused_over_so : traffic.refused_reach (way_of e) c.traffic ≡ reach.Everything → IsOver (unread e at k c)
   refused_over_so is = subst IsOver (sym unread_is) (refused_over e at k c is)
 
   by_class : (x : Option Class) → class_for (way_of e) c.traffic.course ≡ x → AfterUnread d (unread e at k c)
-  by_class x is = search (arith, refused_over_so, refused_alone)
+  by_class x is = search (arith, refused_over_so)
 
   pub unread_alone : AfterUnread d (unread e at k c)
   unread_alone = by_class (class_for (way_of e) c.traffic.course) refl

@@ -30,9 +30,6 @@ module _ (d : Direction) (first : Whole) where
   later_followed proper (passes_other at packet units) old new (octets, read, is) f = grind (arith, passes_other_so, fits_by)
 
   module _ (at : ℕ) (cause : Cause) (packets : List (List ℕ)) (none : units_in packets ≡ []) (j : Joint) (f : IsFollowed d first j) where
-    same_units : units_in j.coming ≡ units_in (j.coming ++ packets)
-    same_units = grind (arith, units_join, append-nil)
-
     spoilt_by : (b : Bool) → is_some (marks_of (other d) j.course).halted ≡ b → IsFollowed d first (spoilt d at cause packets j)
     spoilt_by true halted =
         let same : unread (other d) at cause j.course ≡ j.course = ap (λ (b : Bool). unread_if b (other d) at cause j.course) halted in
@@ -43,7 +40,7 @@ module _ (d : Direction) (first : Whole) where
           put = f.put;
           begun = f.begun;
           tap = f.tap ∙ sym (ap (λ (c : Course). c.traffic) same);
-          coming = λ lasts. f.coming lasts ∙ same_units;
+          coming = λ lasts. f.coming lasts ∙ (grind (arith, units_join, append-nil));
           like = f.like;
           can = f.can;
           links = f.links;
@@ -61,7 +58,7 @@ module _ (d : Direction) (first : Whole) where
           tap = ap (traffic.refused (sides.other (way_of d))) f.tap
               ∙ ap (λ (w : Way). traffic.refused w j.course.traffic) (sym (turned d))
               ∙ sym (ap (λ (c : Course). c.traffic) is ∙ refused_traffic (other d) at cause j.course);
-          coming = λ lasts. f.coming lasts ∙ same_units;
+          coming = λ lasts. f.coming lasts ∙ (grind (arith, units_join, append-nil));
           like = f.like;
           can = f.can;
           links = f.links;

@@ -13,7 +13,7 @@ use Rattle.osi_class.specs.declared.terms.Class.{Class}
 use Rattle.osi_rules.specs.Sides as sides
 use Rattle.osi_rules.specs.Traffic as traffic
 use Rattle.osi_rules.specs.Traffic.{class_for}
-use Rattle.osi_watched.proofs.what_a_unit_leaves_at_a_tap.{IsJudged, IsOver}
+use Rattle.osi_watched.proofs.what_a_unit_leaves_at_a_tap.{IsJudged}
 use Rattle.osi_rules.specs.Traffic.{State as Traffic, is_stopped, takes}
 use Rattle.osi_fair.specs.Pieces.{units_in}
 use Rattle.osi_fair.specs.Naming.{unit as unit_passing}
@@ -21,6 +21,7 @@ use Rattle.osi_fair.specs.Wholes as wholes
 use Rattle.osi_fair.proofs.a_connection_is_lost_in_class_2_alone.{IsOfTwo, firm_unless_two, still_two}
 use Rattle.osi_class.specs.declared.terms.Class.TheVariants.{Two, Zero}
 use Rattle.osi_rules.specs.declared.directions.Direction.TheVariants as way
+use Rattle.osi_rules.proofs.a_stop_is_said.{stops_last}
 use Rattle.osi_stack.specs.State.{Holding}
 use Rattle.osi_honest.specs.Seeing.{IsFresh}
 use Rattle.osi_honest.proofs.class_0.what_a_packet_does_in_class_0.{AllProper}
@@ -30,13 +31,12 @@ use Rattle.osi_tap.specs.Tapping.{comes_to}
 use Rattle.osi_watched.specs.Joint.{Joint, Step, Steps, StepsAlong, begin, begins_other, begins_own, passes_other, passes_own, turns}
 use Rattle.osi_watched.specs.Passing.{ComesBySteps}
 use Rattle.osi_watched.specs.Spoilt.{GoesOn, LaterAlong, LaterSteps, spoilt}
-use Rattle.osi_watched.proofs.a_break_ends_no_judging_or_all.{IsGoing, IsLeft, all_ends, begins_going, left_claim}
-use Rattle.osi_watched.proofs.a_break_ends_no_judging_or_all.{known_too, mild_reach, nothing_goes, part_goes, refused_over, side_known}
-use Rattle.osi_watched.proofs.a_break_ends_no_judging_or_all.{unread_if}
-use Rattle.osi_watched.proofs.a_break_ends_no_judging_or_all.{other_unbroken, own_unbroken, unread_unbroken}
+use Rattle.osi_watched.proofs.a_break_ends_no_judging_or_all.{IsGoing, IsLeft, all_ends, begins_going, left_claim, known_too, mild_reach}
+use Rattle.osi_watched.proofs.a_break_ends_no_judging_or_all.{nothing_goes, part_goes, side_known, other_unbroken, own_unbroken}
+use Rattle.osi_watched.proofs.a_break_ends_no_judging_or_all.{unread_unbroken}
 use Rattle.osi_watched.proofs.an_end_that_is_judged_alone_stays_so.{own_alone}
-use Rattle.osi_watched.proofs.in_class_0_one_side_alone_is_judged.{AfterUnread, IsAlone, all_over, alone_begins, alone_other, alone_own}
-use Rattle.osi_watched.proofs.in_class_0_one_side_alone_is_judged.{alone_unread, unit_alone, unread_alone}
+use Rattle.osi_watched.proofs.in_class_0_one_side_alone_is_judged.{AfterUnread, IsAlone, all_over, alone_begins, alone_own, unit_alone}
+use Rattle.osi_watched.proofs.in_class_0_one_side_alone_is_judged.{unread_alone}
 use Rattle.osi_watched.proofs.later_steps_are_events.{later_followed, spoilt_followed}
 use Rattle.osi_watched.proofs.steps_are_events.{IsFollowed, begin_followed, own_first, step_followed}
 use Rattle.osi_watched.proofs.the_first_break_is_not_of_an_end.{IsFairAlone, IsFairThroughout, IsNoBreak}
@@ -104,7 +104,7 @@ module _ (d : Direction) where
       by : IsBlamedNowhere c → IsBlamedNowhere (unit_passes (other d) at v c)
       by (is_whole w) = other_by at v c once w (takes (way_of (other d)) v c.traffic).told.reach refl
       by (is_left l) = is_left ((left_claim d).passes (other d) at v c l)
-      by (is_alone a none) = is_alone (alone_other d at v c a) (other_unbroken d at v c ∙ none)
+      by (is_alone a none) = is_alone (grind (arith, stops_last)) (other_unbroken d at v c ∙ none)
 
   module _ (proper : AllProper) (is_caller : Bool) (local : Local) (fair : IsFairThroughout (way_of d) (wholes.begin is_caller local))
       (fair_alone : IsFairAlone (way_of d) (wholes.begin is_caller local)) where
@@ -189,17 +189,14 @@ module _ (d : Direction) where
       abbrev bad : Course
       bad = unread (other d) at cause c
 
-      over_so : IsWhole c → traffic.refused_reach (way_of (other d)) c.traffic ≡ reach.Everything → IsOver bad
-      over_so w is = grind (arith, unread_if, goes_on, refused_over)
-
       unread_whole : IsWhole c → (k : Option Class) → class_for (way_of (other d)) c.traffic.course ≡ k → AfterUnread d bad
-      unread_whole w k is = grind (arith, all_over, over_so, unread_alone, judged_of, firm_in_zero, known_too)
+      unread_whole w k is = grind (arith, all_over, unread_alone, judged_of, firm_in_zero, known_too)
 
       unread_by : (marks_of d c).broke ≡ None → AfterUnread d bad → IsBlamedNowhere bad
       unread_by none h = grind (arith, unread_unbroken)
 
       unread_so : IsBlamedNowhere c → IsBlamedNowhere bad
-      unread_so h = grind (arith, unread_by, unread_whole, left_claim, alone_unread, unread_unbroken)
+      unread_so h = grind (arith, unread_by, unread_whole, left_claim, unread_unbroken)
 
     spoilt_so : (at : ℕ) (cause : Cause) (packets : List (List ℕ)) → units_in packets ≡ [] → (j : Joint) → Stood j →
         Stood (spoilt d at cause packets j)

@@ -4,10 +4,9 @@ use Rattle.std.proofs.Common.{arith}
 use Rattle.osi_watched.proofs.Vocabulary.{[], ap, append_assoc, Bool, false, is_some, List, map, None, Ok, Option, refl, Some, subst, sym}
 use Rattle.osi_watched.proofs.Vocabulary.{true, ℕ, ◌++◌, ◌∙◌, ◌∷◌, ◌≡◌, ◌≢◌, append-nil, append_cancel_left, AllByRecursion, IsOctets}
 use Rattle.osi_watched.proofs.Vocabulary.{units_fit, units_found, units_of, Value, Fits, written, Local, packets, Carrier, EndReason, End}
-use Rattle.osi_watched.proofs.Vocabulary.{Holding, Traffic, takes, Way, Reach, Told, other, Direction, AllProper, AreNumbered, CanBeWritten}
-use Rattle.osi_watched.proofs.Vocabulary.{IsFresh, Turn, noted_by, reached, unit_passes, units_pass, way_of, Cause, Mark, units_by, Event}
-use Rattle.osi_watched.proofs.Vocabulary.{HappenAlong, Whole, begins_other, begins_own, Joint, passes_other, passes_own, Step, Steps}
-use Rattle.osi_watched.proofs.Vocabulary.{TakesTurn, turns}
+use Rattle.osi_watched.proofs.Vocabulary.{Holding, Traffic, takes, Way, Told, other, Direction, AllProper, AreNumbered, CanBeWritten}
+use Rattle.osi_watched.proofs.Vocabulary.{IsFresh, Turn, noted_by, unit_passes, units_pass, way_of, Cause, units_by, Event, HappenAlong}
+use Rattle.osi_watched.proofs.Vocabulary.{Whole, begins_other, begins_own, Joint, passes_other, passes_own, Step, Steps, TakesTurn, turns}
 use Rattle.osi_rules.specs.Sides as sides
 use Rattle.osi_rules.specs.Traffic as traffic
 use Rattle.osi_rules.specs.declared.findings.Reach.TheVariants as reach
@@ -29,12 +28,9 @@ use Rattle.osi_watched.proofs.what_packets_and_short_tsdus_keep_a_turn_keeps.{Tr
 pub turned : (d : Direction) → way_of (other d) ≡ sides.other (way_of d)
 turned d = grind arith
 
-reached_traffic : (m : Mark) (r : Reach) (c : Course) → (reached m r c).traffic ≡ c.traffic
-reached_traffic m r c = grind (arith, changes_traffic)
-
 noted_traffic : (d : Direction) (at : ℕ) (v : Value) (told : Told) (o : Option Cause) (c : Course) →
     (noted_by d at v told o c).traffic ≡ c.traffic
-noted_traffic d at v told o c = grind (arith, reached_traffic, changes_traffic)
+noted_traffic d at v told o c = grind (arith, changes_traffic)
 
 unit_traffic : (d : Direction) (at : ℕ) (v : Value) (c : Course) → (unit_passes d at v c).traffic ≡ (takes (way_of d) v c.traffic).state
 unit_traffic d at v c = grind (arith, noted_traffic)

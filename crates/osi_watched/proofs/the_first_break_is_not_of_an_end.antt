@@ -2,11 +2,11 @@
 -- side is judged.
 -- For the law on the first break.
 use Rattle.std.proofs.Common.{arith}
-use Rattle.osi_watched.proofs.Vocabulary.{[], ap, Bool, false, inl, inr, List, None, Option, refl, Some, subst, sym, true, ℕ, ◌∙◌, ◌∷◌, ◌≡◌}
-use Rattle.osi_watched.proofs.Vocabulary.{◌⊎◌, Value, Local, Holding, is_stopped, Traffic, takes, Way, Finding, Broke, Outside, Capture}
-use Rattle.osi_watched.proofs.Vocabulary.{other, Direction, Left, Right, AllProper, IsFresh, unit_passes, units_pass, way_of, after}
-use Rattle.osi_watched.proofs.Vocabulary.{comes_to, First, Event, HappenAlong, Whole, begins_other, begins_own, Joint, passes_other}
-use Rattle.osi_watched.proofs.Vocabulary.{passes_own, Step, Steps, StepsAlong, turns, ComesBySteps, TurnsBad}
+use Rattle.osi_watched.proofs.Vocabulary.{[], ap, Bool, false, inl, inr, List, None, refl, Some, subst, sym, true, ℕ, ◌∙◌, ◌∷◌, ◌≡◌, ◌⊎◌}
+use Rattle.osi_watched.proofs.Vocabulary.{Value, Local, Holding, is_stopped, Traffic, takes, Way, Finding, Broke, Outside, Capture, other}
+use Rattle.osi_watched.proofs.Vocabulary.{Direction, Left, Right, AllProper, IsFresh, unit_passes, units_pass, way_of, after, comes_to}
+use Rattle.osi_watched.proofs.Vocabulary.{First, Event, HappenAlong, Whole, begins_other, begins_own, Joint, passes_other, passes_own, Step}
+use Rattle.osi_watched.proofs.Vocabulary.{Steps, StepsAlong, turns, ComesBySteps, TurnsBad}
 use Rattle.osi_class.specs.declared.terms.Class.TheVariants.{Zero}
 use Rattle.osi_rules.specs.declared.findings.Finding.TheVariants.{Kept}
 use Rattle.osi_rules.specs.Sides as sides
@@ -15,8 +15,8 @@ use Rattle.osi_tap.specs.Courses.{Course, packet_begins}
 use Rattle.osi_tap.specs.Tapping as tapping
 use Rattle.osi_watched.specs.Joint.{begin}
 use Rattle.osi_watched.proofs.steps_are_events.{IsFollowed, begin_followed, own_first, step_followed}
-use Rattle.osi_watched.proofs.what_a_unit_leaves_at_a_tap.{IsCalm, IsJudged, IsOver, Leaves, begins_calm, begins_over, unit_first}
-use Rattle.osi_watched.proofs.what_a_unit_leaves_at_a_tap.{unit_leaves, unit_over, unread_breaks, unread_first, unread_over}
+use Rattle.osi_watched.proofs.what_a_unit_leaves_at_a_tap.{IsCalm, IsJudged, IsOver, Leaves, begins_over, unit_first, unit_leaves}
+use Rattle.osi_watched.proofs.what_a_unit_leaves_at_a_tap.{unit_over, unread_first, unread_over}
 use Rattle.osi_watched.proofs.what_passes_keeps_a_claim.{IsClaim, after_join, after_kept}
 
 -- this is no break
@@ -69,7 +69,7 @@ module _ (d : Direction) where
 
   -- a packet begins
   begins_so : (e : Direction) (c : Course) → IsNotFirst d c → IsNotFirst d (packet_begins e c)
-  begins_so e c h = grind (arith, begins_calm)
+  begins_so e c h = grind arith
 
   -- the other side is judged
   judged_so : (c : Course) → IsJudged c → is_stopped (sides.other (way_of d)) c.traffic.course ≡ false
@@ -125,18 +125,15 @@ module _ (d : Direction) where
   abbrev pub IsOfOther : Course → Type 0
   IsOfOther c = (f : First) → c.first ≡ Some f → f.direction ≡ other d
 
-  same_first : (f g : First) (o : Option First) → o ≡ Some f → o ≡ Some g → f ≡ g
-  same_first f g o e h = cc
-
   still_other : (capture : Capture) (s : tapping.State) (g : First) → s.course.first ≡ Some g → g.direction ≡ other d →
       IsOfOther (after capture s).course
-  still_other capture s g is of = grind (arith, after_kept, same_first, first_claim g)
+  still_other capture s g is of = grind (arith, after_kept, first_claim g)
 
   of_other : (c : Course) → IsNotFirst d c → IsOfOther c
-  of_other c h = grind (arith, same_first)
+  of_other c h = grind arith
 
   bad_so : (capture : Capture) (c : Course) → TurnsBad d capture c → IsNotFirst d c → IsOfOther (comes_to capture).course
-  bad_so capture c t h = search (arith, after_join, unread_breaks, still_other, unread_over, after_kept, over_claim, unread_first)
+  bad_so capture c t h = search (arith, after_join, still_other, unread_over, after_kept, over_claim, unread_first)
 
   pub first_other : AllProper → (is_caller : Bool) (local : Local) (h : Holding) (capture : Capture) → IsFresh is_caller local h →
       IsFairFrom (way_of d) (wholes.begin is_caller local) → ComesBySteps d capture h → IsOfOther (comes_to capture).course
@@ -152,10 +149,5 @@ module _ (d : Direction) where
       by (inl is) = subst IsOfOther (sym is) (of_other comes.last.course last)
       by (inr bad) = bad_so capture comes.last.course bad last
 
--- if it is neither of left nor of right, there is none
-none_by : (o : Option First) → ((f : First) → o ≡ Some f → f.direction ≡ Right) → ((f : First) → o ≡ Some f → f.direction ≡ Left) →
-    o ≡ None
-none_by o left right = grind arith
-
 pub neither_first : (c : Course) → IsOfOther Left c → IsOfOther Right c → c.first ≡ None
-neither_first c left right = none_by c.first left right
+neither_first c left right = grind arith

@@ -77,10 +77,6 @@ own_left : (x y : ℕ) (own theirs put ahead : List ℕ) (before : ℕ → ℕ) 
     Sees (x ∷ own) theirs before turns (y ∷ put) ahead → (y ≡ x) × Sees own theirs (λ k. before (suc k)) turns put ahead
 own_left x y own theirs put ahead before turns s = grind (arith, late_next)
 
-other_left : (x : ℕ) (own theirs put ahead : List ℕ) (before now : ℕ → ℕ) (turns : List Turn) → ((k : ℕ) → before k ≡ now k + 1) →
-    Sees own (x ∷ theirs) before turns put ahead → Sees own theirs now turns put (ahead ++ x ∷ [])
-other_left x own theirs put ahead before now turns one s = grind (arith, append_assoc, late_more, length-append)
-
 turn_left : (x : ℕ) (own theirs ahead : List ℕ) (before : ℕ → ℕ) (turn : Turn) (turns : List Turn) → before 0 ≡ 0 →
     Sees (x ∷ own) theirs before (turn ∷ turns) [] ahead →
     (rest : List ℕ) × (ahead ≡ turn.used ++ rest) × Sees (x ∷ own) theirs before turns turn.put rest
@@ -136,12 +132,10 @@ order Right (of Right x ∷ capture) turns put ahead s =
     (λ turns put ahead s. order Right capture turns put ahead s) turns put ahead s
 order Left (of Right x ∷ capture) turns put ahead s =
     other_passes x (of Right x) put ahead capture turns refl (order Left capture turns put (ahead ++ x ∷ [])
-    (other_left x (stream Left capture) (stream Right capture) put ahead (passed_before Left (of Right x ∷ capture))
-    (passed_before Left capture) turns (λ k. refl) s))
+    (grind (arith, append_assoc, late_more, length-append)))
 order Right (of Left x ∷ capture) turns put ahead s =
     other_passes x (of Left x) put ahead capture turns refl (order Right capture turns put (ahead ++ x ∷ [])
-    (other_left x (stream Right capture) (stream Left capture) put ahead (passed_before Right (of Left x ∷ capture))
-    (passed_before Right capture) turns (λ k. refl) s))
+    (grind (arith, append_assoc, late_more, length-append)))
 
 late_all : (d : Direction) (capture : Capture) (used put : ℕ) (turns : List Turn) → PassAfter d capture used put turns →
     PassLate (length (stream d capture)) (passed_before d capture) 0 used put turns

@@ -14,21 +14,18 @@ use Rattle.osi_class.specs.Negotiation.{accept, refuse, selected_by}
 use Rattle.osi_class.specs.declared.faults.LinkFault.{LinkFault}
 use Rattle.osi_class.specs.declared.terms.Class.{Class}
 use Rattle.osi_class.specs.declared.terms.Class.TheVariants.{Two, Zero}
-use Rattle.osi_carrier.specs.Calls.{closed_on, closes as closes_in, closed_with, link_of, open_link, sent, sent_all, sent_on}
-use Rattle.osi_carrier.specs.Negotiation.{acceptance}
+use Rattle.osi_carrier.specs.Calls.{closed_on, closed_with, link_of, open_link, sent, sent_all, sent_on}
 use Rattle.osi_carrier.specs.Orderly.{connection_by}
 use Rattle.osi_carrier.specs.Pump.{written_by}
-use Rattle.osi_carrier.specs.React.{accepts, answers, before_class, breaks as breaks_in, denies, handed_out, has_peer, in_class, in_two}
-use Rattle.osi_carrier.specs.React.{in_zero, is_full, leaves, opens, pumps, react_by, taking, to_asked, to_closing, to_connection}
-use Rattle.osi_carrier.specs.React.{to_linked, to_only, to_reference, to_unknown}
+use Rattle.osi_carrier.specs.React.{answers, before_class, denies, handed_out, has_peer, in_class, in_two, in_zero, is_full, opens, pumps}
+use Rattle.osi_carrier.specs.React.{react_by, taking, to_connection, to_linked, to_only, to_reference}
 unfoldable use Rattle.osi_carrier.specs.React.{react}
 use Rattle.osi_carrier.specs.Rows.{Rows, value_at}
 use Rattle.osi_carrier.specs.Runs.{connects, user_does}
 use Rattle.osi_carrier.specs.State.{Connection, State, asked, closing, ends, linked}
 use Rattle.osi_carrier.specs.declared.ends.EndReason.{EndReason}
-use Rattle.osi_fair.specs.Putting.{put_at, put_before, put_by, put_closed, put_closing, put_for, put_for_selection}
-use Rattle.osi_fair.specs.Putting.{put_in, put_in_two, put_in_zero, put_leaving, put_linked, put_only, put_sent, put_taking, put_to}
-use Rattle.osi_fair.specs.Putting.{put_together, put_unknown, refusal}
+use Rattle.osi_fair.specs.Putting.{put_at, put_before, put_by, put_closing, put_for, put_for_selection, put_in, put_in_two, put_in_zero}
+use Rattle.osi_fair.specs.Putting.{put_linked, put_only, put_sent, put_taking, put_to, put_together, refusal}
 use Rattle.osi_honest.proofs.keeping.what_holds_of_each_connection_stays.{row_at, row_more, row_put, row_without}
 use Rattle.osi_honest.specs.Writable.{CanBeWritten}
 use Rattle.osi_honest.proofs.reading.a_cr_and_a_cc_can_be_written.{cc_plain, cr_by, size_in_range}
@@ -49,10 +46,6 @@ IsNumberedRow (closing peer) = Unit {0}
 module _ (s : State) (p : AreNumbered s.live) where
   -- ---- a CR
 
-  accepted : (class : Class) (size : Option ℕ) (c : Connect) → IsConnect c → IfSome size (λ code. (7 ≤ code) × (code ≤ 13)) →
-      Fine (confirm c.source (acceptance class size c s.local (s.given + 1)) ∷ []) (accepts class size c s)
-  accepted class size c h range = grind (arith, cc_plain, row_more, link_opens)
-
   denied : (reason peer : ℕ) → Fine (refusal reason peer) (denies reason peer s)
   denied reason peer = ((tt, tt), p)
 
@@ -63,8 +56,8 @@ module _ (s : State) (p : AreNumbered s.live) where
       (if a then accept Two size else (if b then accept Zero size else (if d then refuse 0 else refuse 130))) held s)
       (answers c
       (if a then accept Two size else (if b then accept Zero size else (if d then refuse 0 else refuse 130))) held s)
-  by_selection true b d size held c h range = accepted Two size c h range
-  by_selection false true d size None c h range = accepted Zero size c h range
+  by_selection true b d size held c h range = grind (arith, cc_plain, row_more, link_opens)
+  by_selection false true d size None c h range = grind (arith, cc_plain, row_more, link_opens)
   by_selection false true d size (Some class) c h range = denied 136 c.source
   by_selection false false true size held c h range = denied 0 c.source
   by_selection false false false size held c h range = denied 130 c.source
@@ -81,18 +74,8 @@ module _ (s : State) (p : AreNumbered s.live) where
 
   -- ---- a unit of a connection
 
-  by_unknown : (unit : Value) → Fine (put_unknown unit) (to_unknown unit s)
-  by_unknown unit = grind arith
-
   by_opens : (r : ℕ) (c : Connect) (class : Option Class) → Fine [] (opens r c class s)
   by_opens r c class = grind (arith, row_put, link_opens)
-
-  by_asked : (r : ℕ) (unit : Value) → Fine [] (to_asked r unit s)
-  by_asked r unit = grind (arith, by_opens, row_without)
-
-  by_breaks : (r peer : ℕ) (fault : LinkFault) (held : Option Class) →
-      Fine (put_taking r peer (Err fault) held) (breaks_in r peer fault held s)
-  by_breaks r peer fault held = grind (arith, row_put)
 
   pumps_so : (r peer : ℕ) (link : Standing) → IsNumbered link.flow → Fine (written_by peer link) (pumps r peer link s)
   pumps_so r peer link numbered = grind (arith, row_put, gives_written peer link numbered)
@@ -100,25 +83,19 @@ module _ (s : State) (p : AreNumbered s.live) where
   by_taking : (r peer : ℕ) (link : Standing) (unit : Value) (result : Result Standing LinkFault) → IsNumbered link.flow →
       taken link unit ≡ result → Fine (put_taking r peer result s.class) (taking r peer result s)
   by_taking r peer link unit (Ok after) numbered e = pumps_so r peer (handed_out after) (taken_numbered link after unit numbered e)
-  by_taking r peer link unit (Err fault) numbered e = by_breaks r peer fault s.class
-
-  by_leaves : (r peer reason : ℕ) (held : Option Class) → Fine (put_leaving r peer held) (leaves r peer reason held s)
-  by_leaves r peer reason held = grind (arith, row_without)
+  by_taking r peer link unit (Err fault) numbered e = grind (arith, row_put)
 
   by_linked : (r peer : ℕ) (link : Standing) (unit : Value) → IsNumbered link.flow →
       Fine (put_linked r peer link unit s.class) (to_linked r peer link unit s)
-  by_linked r peer link (disconnect destination source reason user) numbered = by_leaves r peer reason s.class
+  by_linked r peer link (disconnect destination source reason user) numbered = grind (arith, row_without)
   by_linked r peer link unit numbered = by_taking r peer link unit (taken link unit) numbered refl
-
-  by_closing : (r : ℕ) (unit : Value) → Fine [] (to_closing r unit s)
-  by_closing r unit = grind (arith, row_without)
 
   by_connection : (r : ℕ) (at : Option Connection) (unit : Value) → ((x : Connection) → at ≡ Some x → IsNumberedRow x) →
       Fine (put_at r at unit s.class) (to_connection r at unit s)
-  by_connection r None unit here = by_unknown unit
-  by_connection r (Some asked) unit here = by_asked r unit
+  by_connection r None unit here = grind arith
+  by_connection r (Some asked) unit here = grind (arith, by_opens, row_without)
   by_connection r (Some (linked peer link)) unit here = by_linked r peer link unit (here (linked peer link) refl)
-  by_connection r (Some (closing peer)) unit here = by_closing r unit
+  by_connection r (Some (closing peer)) unit here = grind (arith, row_without)
 
   by_reference : (r : ℕ) (unit : Value) → Fine (put_to (Some r) unit s) (to_reference r unit s)
   by_reference r unit = by_connection r (value_at r s.live) unit (λ x e. row_at IsNumberedRow r x s.live p e)
@@ -171,12 +148,9 @@ module _ (s : State) (p : AreNumbered s.live) where
   sent_fine r tsdu false (Some (linked peer link)) here = pumps_so r peer (with_tsdu link tsdu) (here (linked peer link) refl)
   sent_fine r tsdu false (Some (closing peer)) here = (tt, p)
 
-  closes_fine : (r peer reason : ℕ) (held : Option Class) → Fine (put_closed r reason peer held) (closes_in r peer reason held s)
-  closes_fine r peer reason held = grind (arith, row_put)
-
   closed_by : (r reason : ℕ) (o : Option (ℕ × Standing)) → Fine (put_closing r reason o s.class) (closed_on r reason o s)
   closed_by r reason None = (tt, p)
-  closed_by r reason (Some (peer, link)) = closes_fine r peer reason s.class
+  closed_by r reason (Some (peer, link)) = grind (arith, row_put)
 
   pub closed_fine : (r reason : ℕ) → Fine (put_closing r reason (open_link r s) s.class) (closed_with r reason s)
   closed_fine r reason = closed_by r reason (open_link r s)

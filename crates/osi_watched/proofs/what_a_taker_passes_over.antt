@@ -1,7 +1,6 @@
 -- A unit that is no break, or a break that its taker passes over: it takes the unit all the same, or, if it is a DR, answers it.
 -- For the sessions of an end after such a break of the other side.
-use Rattle.std.proofs.Common.{arith}
-use Rattle.std.proofs.Common.{◌≡◌, ◌⊎◌, Bool, true, false, Option}
+use Rattle.std.proofs.Common.{arith, ◌≡◌, ◌⊎◌, true, false, Option}
 use Rattle.osi_tpdu.specs.Value.{Value, disconnect}
 use Rattle.osi_class.specs.declared.terms.Class.{Class}
 use Rattle.osi_rules.specs.declared.findings.Finding.{Finding}
@@ -9,7 +8,7 @@ use Rattle.osi_rules.specs.declared.findings.Finding.TheVariants.{Broke, Kept, N
 use Rattle.osi_rules.specs.declared.findings.Reach.TheVariants as reach
 use Rattle.osi_rules.specs.declared.findings.Rule.{Rule}
 use Rattle.osi_rules.specs.declared.findings.Rule.TheVariants as rule
-use Rattle.osi_rules.specs.Reaches.{is_applied, reach_by, reach_of}
+use Rattle.osi_rules.specs.Reaches.{is_applied, reach_of}
 use Rattle.osi_watched.proofs.the_first_break_is_not_of_an_end.{IsNoBreak}
 
 abbrev pub IsDr : Value → Type 0
@@ -37,20 +36,13 @@ mild_of v f none = grind arith
 abbrev IsClear : Finding → Type 0
 IsClear f = (f ≡ Kept) ⊎ ((r : Rule) × (f ≡ Broke r))
 
-rule_applied : (v : Value) (r : Rule) → (IsDr v → ⊥) → IsMild v (Broke r) → is_applied (Broke r) ≡ true
-rule_applied v r h mild = grind arith
-
 pub applied_of : (v : Value) (f : Finding) → (IsDr v → ⊥) → IsClear f → IsMild v f → is_applied f ≡ true
-applied_of v f h h2 mild = grind (arith, rule_applied)
+applied_of v f h h2 mild = grind arith
 
 -- ---- how far it reaches
 
--- such a unit ends no judging, unless it is one connection too many
-rule_nothing : (v : Value) (k : Option Class) (r : Rule) → IsMild v (Broke r) → reach_of k (Broke r) ≡ reach.Nothing
-rule_nothing v k r mild = grind arith
-
 pub mild_reach : (v : Value) (k : Option Class) (f : Finding) → IsMild v f → (f ≡ TooMany → ⊥) → reach_of k f ≡ reach.Nothing
-mild_reach v k f mild few = grind (arith, rule_nothing)
+mild_reach v k f mild few = grind arith
 
 -- a unit is such a one; or a DT or an AK of a side that has closed its connection; or it has no effect, and ends judging
 pub data Sort (v : Value) (f : Finding) : Type 0 where
@@ -58,14 +50,8 @@ pub data Sort (v : Value) (f : Finding) : Type 0 where
   is_shut : f ≡ Broke rule.Closed → (IsDr v → ⊥) → Sort v f
   is_hard : is_applied f ≡ false → ((k : Option Class) → reach_of k f ≡ reach.Nothing → ⊥) → Sort v f
 
-not_nothing : (k : Option Class) (b : Bool) → reach_by k b ≡ reach.Nothing → ⊥
-not_nothing k b e = grind arith
-
-closed_sort : (v : Value) → Sort v (Broke rule.Closed)
-closed_sort v = grind arith
-
 rule_sort : (v : Value) (r : Rule) → Sort v (Broke r)
-rule_sort v r = grind (arith, closed_sort, not_nothing)
+rule_sort v r = grind arith
 
 pub sort_of : (v : Value) (f : Finding) → Sort v f
 sort_of v f = grind (arith, rule_sort)

@@ -1,8 +1,8 @@
 -- What an octet that passes does to the tap's state, while packets are read in its direction.
 -- For the law that a capture of an end is steps.
 use Rattle.std.proofs.Common.{arith}
-use Rattle.osi_watched.proofs.Vocabulary.{[], false, List, ℕ, ◌++◌, ◌∷◌, ◌≡◌, of, Direction, going, looks}
-use Rattle.osi_watched.proofs.Vocabulary.{Front, front_of, gathered, Streamed, begun, looked_at, octet_passes, stream_of, with_stream}
+use Rattle.osi_watched.proofs.Vocabulary.{[], false, List, ℕ, ◌++◌, ◌∷◌, ◌≡◌, of, Direction, going, looks, Front, front_of, gathered}
+use Rattle.osi_watched.proofs.Vocabulary.{looked_at, octet_passes, stream_of}
 use Rattle.osi_tap.specs.Courses.{Course, packet_begins}
 use Rattle.osi_tap.specs.Tapping.{State}
 
@@ -11,13 +11,7 @@ abbrev pub begins : Direction → List ℕ → Course → Course
 begins d [] c = packet_begins d c
 begins d (octet ∷ held) c = c
 
-begun_is : (d : Direction) (held : List ℕ) (s : State) → begun d held s ≡ record s { course = begins d held s.course }
-begun_is d held s = grind arith
-
 pub passes_so : (d : Direction) (x : ℕ) (s : State) (f : Front) → (stream_of d s).spent ≡ false →
     front_of ((stream_of d s).held ++ x ∷ []) ≡ f → octet_passes (of d x) s ≡ looked_at d (gathered (x ∷ []) (stream_of d s)) f
     (record s { course = begins d (stream_of d s).held s.course })
-passes_so d x s f reads is = grind (arith, going, looks, begun_is)
-
-pub same_course : (d : Direction) (t : Streamed) (s : State) → (with_stream d t s).course ≡ s.course
-same_course d t s = grind arith
+passes_so d x s f reads is = grind (arith, going, looks)

@@ -1,23 +1,20 @@
 -- What follows what the other side sends and nobody can read is steps too: of the end and of the tap, which reads of that side what it can.
 -- For the law that a capture of an end is steps.
 use Rattle.std.proofs.Common.{arith}
-use Rattle.osi_watched.proofs.Vocabulary.{[], ap, append_assoc, Bool, false, if◌then◌else◌, inl, inr, List, None}
-use Rattle.osi_watched.proofs.Vocabulary.{refl, Result, subst, sym, true, ℕ, ◌++◌, ◌<◌, ◌∙◌, ◌∷◌, ◌≡◌, ◌≢◌, ◌⊎◌, append-nil}
-use Rattle.osi_watched.proofs.Vocabulary.{AllByRecursion, octets_nil, octets_right, IsOctets, packet_of, ArePackets, units_of}
-use Rattle.osi_watched.proofs.Vocabulary.{Value, written, TpduFault, packets, Holding, Capture}
-use Rattle.osi_watched.proofs.Vocabulary.{of, other, Passed, Direction, Left, Right, packets_joined}
-use Rattle.osi_watched.proofs.Vocabulary.{TurnOf, TurnsOf, packets_on, packets_then, CanBeWritten, read_again, all_did}
-use Rattle.osi_watched.proofs.Vocabulary.{Deeds, all_units, Takes, Turn, packet_by, packet_passes}
+use Rattle.osi_watched.proofs.Vocabulary.{[], ap, append_assoc, Bool, false, if◌then◌else◌, inl, inr, List, None, refl, Result, subst, sym}
+use Rattle.osi_watched.proofs.Vocabulary.{true, ℕ, ◌++◌, ◌<◌, ◌∙◌, ◌∷◌, ◌≡◌, ◌≢◌, ◌⊎◌, append-nil, AllByRecursion, octets_nil, octets_right}
+use Rattle.osi_watched.proofs.Vocabulary.{IsOctets, packet_of, ArePackets, units_of, Value, written, TpduFault, packets, Holding, Capture}
+use Rattle.osi_watched.proofs.Vocabulary.{of, other, Passed, Direction, packets_joined, TurnOf, TurnsOf, packets_on, packets_then}
+use Rattle.osi_watched.proofs.Vocabulary.{CanBeWritten, read_again, all_did, Deeds, all_units, Takes, Turn, packet_by, packet_passes}
 use Rattle.osi_watched.proofs.Vocabulary.{units_pass, unread, advanced, counted, faulty, Front, front_of, gathered, looks, partial}
-use Rattle.osi_watched.proofs.Vocabulary.{Streamed}
-use Rattle.osi_watched.proofs.Vocabulary.{whole, after, begun, octet_passes, stream_of, with_stream, BadPacket, Joint, Step}
+use Rattle.osi_watched.proofs.Vocabulary.{Streamed, whole, after, begun, octet_passes, stream_of, with_stream, BadPacket, Joint, Step}
 use Rattle.osi_watched.proofs.Vocabulary.{TakesTurn, AreOctets, IsOctet}
 use Rattle.osi_carrier.specs.Fetching.{IsNoFront}
 use Rattle.osi_tpkt.specs.declared.faults.TpktFault.{TpktFault}
 use Rattle.osi_fair.specs.Pieces.{units_by}
 use Rattle.osi_tap.specs.Courses.{Course}
 use Rattle.osi_tap.specs.Streams.{ended}
-use Rattle.osi_tap.specs.Tapping.{State, looked_at}
+use Rattle.osi_tap.specs.Tapping.{State}
 use Rattle.osi_watched.specs.Joint.Step.{turns, begins_own, passes_own, begins_other, passes_other}
 use Rattle.osi_watched.specs.Spoilt.{IsNoPacket, LaterAlong, LaterSteps}
 use Rattle.osi_watched.proofs.small_facts_that_many_lemmas_use.{can_more}
@@ -25,7 +22,7 @@ use Rattle.osi_watched.proofs.how_an_end_stands_to_what_has_passed.{OtherRest, O
 use Rattle.osi_watched.proofs.how_an_end_stands_to_what_has_passed.{one_octet, rest_of, some_octets, uses}
 use Rattle.osi_watched.proofs.turns_are_taken_late.{Follows, all_passed, other_passes, own_passes, turn_taken}
 use Rattle.osi_watched.proofs.what_an_octet_does.{begins, passes_so}
-use Rattle.osi_watched.proofs.what_is_halted_stays_halted.{IsHalted, begins_halted, halted_claim, read_same, unread_same}
+use Rattle.osi_watched.proofs.what_is_halted_stays_halted.{IsHalted, begins_halted, halted_claim, unread_same}
 use Rattle.osi_watched.proofs.what_passes_keeps_a_claim.{units_kept}
 use Rattle.osi_watched.proofs.what_the_first_octets_are.{begins_none, own_front, whole_front, whole_packet}
 
@@ -52,17 +49,8 @@ spent_passes : (d : Direction) (x : ℕ) (s : State) → (stream_of d s).spent �
     octet_passes (of d x) s ≡ with_stream d (counted 1 (stream_of d s)) s
 spent_passes d x s spent = grind (arith, looks)
 
--- a stream of which nothing more is read stays so
-left_stays : (t : Streamed) (f : Front) (held : List ℕ) (s : State) → s.left.spent ≡ true →
-    (looked_at Right t f (begun Right held s)).left.spent ≡ true
-left_stays t f held s h = grind arith
-
-right_stays : (t : Streamed) (f : Front) (held : List ℕ) (s : State) → s.right.spent ≡ true →
-    (looked_at Left t f (begun Left held s)).right.spent ≡ true
-right_stays t f held s h = grind arith
-
 pub spent_stays : (e : Direction) (o : Passed) (s : State) → (stream_of e s).spent ≡ true → (stream_of e (octet_passes o s)).spent ≡ true
-spent_stays e o s h = grind (arith, spent_passes, left_stays, right_stays)
+spent_stays e o s h = grind (arith, spent_passes)
 
 abbrev pub later_octet : (d : Direction) (o : Passed) (capture : Capture) (s : State) (j : Joint) →
     LaterComes d capture (octet_passes o s) j →
@@ -279,7 +267,7 @@ module _ (d : Direction) (x : ℕ) (capture : Capture) (s : State) (j : Joint) (
           coming = j.coming ++ u ∷ [];
         } in
         let course : after_it ≡ last.course = ap (packet_by (other d) other_now.at (units_of u)) same_course
-        ∙ read_same (other d) other_now.at (units_of u) other_joint.course other_halted in
+        ∙ (grind (arith, unread_same)) in
         let octets : IsOctets u = octets_right (_ ∷ _ ∷ _ ∷ _ ∷ []) u (subst IsOctets packet.spelled packet.octets) in
         let others : OtherStands [] (ahead ++ x ∷ []) j.holding (j.coming ++ u ∷ []) = record {
           octets = octets_nil;

@@ -1,39 +1,28 @@
 -- A side of which nothing more is judged stays so, whatever passes; and so it is after what can't be read.
 -- For what follows what can't be read.
-use Rattle.std.proofs.Common.{arith}
-use Rattle.std.proofs.Common.{◌≡◌, ℕ, Bool, true, false, Option, is_some, List, refl, ap}
-use Rattle.std.specs.Prelude.{Result}
+use Rattle.std.proofs.Common.{arith, ◌≡◌, ℕ, Bool, true, false, Option, is_some, List, ap}
 use Rattle.osi_tpdu.specs.Value.{Value}
-use Rattle.osi_tpdu.specs.declared.faults.TpduFault.{TpduFault}
 use Rattle.osi_class.specs.declared.terms.Class.{Class}
 use Rattle.osi_judge.specs.declared.directions.Direction.{Direction}
 use Rattle.osi_rules.specs.Reaches.{reach_by}
 use Rattle.osi_rules.specs.Traffic as traffic
 use Rattle.osi_rules.specs.declared.findings.Reach.{Reach}
 use Rattle.osi_rules.specs.declared.findings.Reach.TheVariants as reach
-use Rattle.osi_fair.specs.Pieces.{units_by}
 use Rattle.osi_tap.specs.declared.marks.Cause.{Cause}
 use Rattle.osi_tap.specs.declared.marks.Mark.{Mark}
-use Rattle.osi_tap.specs.Courses.{Course, changes, halts, marks_of, noted_by}
-use Rattle.osi_tap.specs.Courses.{packet_begins, packet_by, reached, units_pass, unread, unread_mark}
-use Rattle.osi_watched.proofs.a_break_ends_no_judging_or_all.{halted_by, mark, mid, mid_marks, o, refuses, some_earlier, unread_if}
+use Rattle.osi_tap.specs.Courses.{Course, marks_of, noted_by, reached, unread, unread_mark}
+use Rattle.osi_watched.proofs.a_break_ends_no_judging_or_all.{halted_by, mark, mid, mid_marks, o, some_earlier, unread_if}
 use Rattle.osi_watched.proofs.what_an_octet_does.{begins}
 use Rattle.osi_watched.proofs.what_passes_keeps_a_claim.{IsClaim}
 
 abbrev pub IsHalted : Direction → Course → Type 0
 IsHalted e c = is_some (marks_of e c).halted ≡ true
 
-side_halted : (d e : Direction) (m : Mark) (c : Course) → IsHalted e c → IsHalted e (changes d (halts m) c)
-side_halted d e m c h = grind (arith, some_earlier)
-
 reached_halted : (e : Direction) (m : Mark) (r : Reach) (c : Course) → IsHalted e c → IsHalted e (reached m r c)
-reached_halted e m r c h = grind (arith, side_halted, some_earlier)
-
-begun_halted : (e d : Direction) (c : Course) → IsHalted e c → IsHalted e (packet_begins d c)
-begun_halted e d c h = grind arith
+reached_halted e m r c h = grind (arith, some_earlier)
 
 pub begins_halted : (e d : Direction) (held : List ℕ) (c : Course) → IsHalted e c → IsHalted e (begins d held c)
-begins_halted e d held c h = grind (arith, begun_halted)
+begins_halted e d held c h = grind arith
 
 noted_halted : (e d : Direction) (at : ℕ) (v : Value) (c : Course) (k : Option Cause) → IsHalted e c →
     IsHalted e (noted_by d at v (o d at v c).told k (mid d at v c))
@@ -43,35 +32,17 @@ noted_halted e d at v c k h = grind (arith, mid_marks, mark, mid, reached_halted
 pub unread_same : (d : Direction) (at : ℕ) (k : Cause) (c : Course) → IsHalted d c → unread d at k c ≡ c
 unread_same d at k c h = ap (λ (b : Bool). unread_if b d at k c) h
 
-refused_halted : (e d : Direction) (at : ℕ) (k : Cause) (c : Course) → IsHalted e c → IsHalted e (refuses d at k c)
-refused_halted e d at k c h = grind (arith, reached_halted, halted_by)
-
 unread_halted : (b : Bool) (e d : Direction) (at : ℕ) (k : Cause) (c : Course) → IsHalted e c → IsHalted e (unread_if b d at k c)
-unread_halted b e d at k c h = grind (arith, refused_halted)
+unread_halted b e d at k c h = search arith
 
 pub halted_claim : (e : Direction) → IsClaim (IsHalted e)
-halted_claim e = grind (arith, begins, begun_halted, noted_halted, o, unread_halted)
-
--- of a packet whose units can't be read none pass
-pub read_same : (d : Direction) (at : ℕ) (r : Result (List Value) TpduFault) (c : Course) → IsHalted d c →
-    packet_by d at r c ≡ units_pass d at (units_by r) c
-read_same d h h2 c h3 = grind (arith, unread_same)
+halted_claim e = grind (arith, begins, noted_halted, o, unread_halted)
 
 -- ---- after what can't be read
 
-pub side_halts : (d : Direction) (m : Mark) (c : Course) → IsHalted d (changes d (halts m) c)
-side_halts d m c = grind (arith, some_earlier)
-
-all_halts : (d : Direction) (m : Mark) (c : Course) → IsHalted d (reached m reach.Everything c)
-all_halts d m c = grind (arith, some_earlier)
-
 class_halts : (k : Option Class) (d : Direction) (at : ℕ) (cause : Cause) (c : Course) →
     IsHalted d (reached (unread_mark d at cause) (reach_by k false) c)
-class_halts k d at cause c = grind (arith, all_halts, side_halts)
-
-unread_by : (b : Bool) (d : Direction) (at : ℕ) (k : Cause) (c : Course) → is_some (marks_of d c).halted ≡ b →
-    IsHalted d (unread_if b d at k c)
-unread_by b d at k c h = grind (arith, class_halts)
+class_halts k d at cause c = grind arith
 
 pub unread_halts : (d : Direction) (at : ℕ) (k : Cause) (c : Course) → IsHalted d (unread d at k c)
-unread_halts d at k c = unread_by (is_some (marks_of d c).halted) d at k c refl
+unread_halts d at k c = grind (arith, class_halts)

@@ -1,9 +1,8 @@
 -- In class 0 a break of the other side changes nothing that is judged of an end but that the other side is not judged any more. So a tap
 -- judges what the end sends after it as if the break had not come. For the sessions of an end after such a break.
-use Rattle.std.proofs.Common.{arith}
-use Rattle.std.proofs.Common.{◌≡◌, ◌∙◌, refl, ap, ℕ, Bool, true, false, if◌then◌else◌, Option, Some}
+use Rattle.std.proofs.Common.{arith, ◌≡◌, ◌∙◌, ap, ℕ, Bool, false, if◌then◌else◌, Option, Some}
 use Rattle.std.specs.Prelude.{slice_get, slice_set}
-use Rattle.osi_tpdu.specs.Value.{Connect, Value, data0, disconnected, error}
+use Rattle.osi_tpdu.specs.Value.{Value, data0, disconnected, error}
 use Rattle.osi_class.specs.declared.terms.Class.{Class}
 use Rattle.osi_class.specs.declared.terms.Class.TheVariants.{Zero}
 use Rattle.osi_judge.specs.Captures.{other}
@@ -14,7 +13,7 @@ use Rattle.osi_rules.specs.declared.courses.Course.{Course as Judging}
 use Rattle.osi_rules.specs.declared.directions.Direction.{Direction as Way}
 use Rattle.osi_rules.specs.declared.directions.Direction.TheVariants as way
 use Rattle.osi_rules.specs.declared.findings.Finding.{Finding}
-use Rattle.osi_rules.specs.declared.findings.Finding.TheVariants.{Broke, Kept, NotJudged, Outside, TooMany}
+use Rattle.osi_rules.specs.declared.findings.Finding.TheVariants.{NotJudged}
 use Rattle.osi_rules.specs.declared.findings.Reach.{Reach}
 use Rattle.osi_rules.specs.declared.findings.Reach.TheVariants as reach
 use Rattle.osi_rules.specs.declared.findings.Rule.TheVariants as rule
@@ -22,10 +21,9 @@ use Rattle.osi_rules.specs.declared.routes.Route.{Route}
 use Rattle.osi_rules.specs.Reaches.{is_applied, reach_by, reach_of}
 use Rattle.osi_rules.specs.Sides as sides
 use Rattle.osi_rules.specs.Traffic as traffic
-use Rattle.osi_rules.specs.Traffic.{Outcome, State, asks_by, asks_of, at_found, at_place, class_for, connection_after, course_after}
-use Rattle.osi_rules.specs.Traffic.{course_after_none, found_on, has_broken, in_doubt, is_report, is_stopped, none_told, noted, one_told}
-use Rattle.osi_rules.specs.Traffic.{reached, route, route_in, routed, stops, takes, unnamed_by, unnamed_told}
-use Rattle.osi_rules.proofs.a_stop_is_said.{stops_last}
+use Rattle.osi_rules.specs.Traffic.{Outcome, State, asks_of, at_found, at_place, class_for, connection_after, course_after, found_on}
+use Rattle.osi_rules.specs.Traffic.{has_broken, in_doubt, is_stopped, none_told, noted, one_told, reached, route_in, routed, stops, takes}
+use Rattle.osi_rules.specs.Traffic.{unnamed_by, unnamed_told}
 use Rattle.osi_fair.proofs.while_no_class_is_selected.{set_same}
 use Rattle.osi_tap.specs.declared.marks.Cause.{Cause}
 use Rattle.osi_tap.specs.Courses.{Course, packet_begins, unit_passes, unread, way_of}
@@ -57,26 +55,14 @@ reached_same : (d : Direction) (r : Reach) (erred : Bool) (c : Judging) →
     reached (way_of d) r (halting d erred c) ≡ halting d erred (reached (way_of d) r c)
 reached_same d r erred c = grind arith
 
-noted_same : (d : Direction) (f : Finding) (erred : Bool) (c : Judging) →
-    noted (way_of d) f (halting d erred c) ≡ halting d erred (noted (way_of d) f c)
-noted_same d f erred c = grind arith
-
 -- how far a finding reaches, and that it is noted
 found_so_same : (d : Direction) (f : Finding) (r : Reach) (erred : Bool) (c : Judging) →
     noted (way_of d) f (reached (way_of d) r (halting d erred c)) ≡ halting d erred (noted (way_of d) f (reached (way_of d) r c))
-found_so_same d f r erred c = ap (noted (way_of d) f) (reached_same d r erred c) ∙ noted_same d f erred (reached (way_of d) r c)
+found_so_same d f r erred c = ap (noted (way_of d) f) (reached_same d r erred c) ∙ (grind arith)
 
 none_same : (d : Direction) (erred : Bool) (f : Finding) (s : State) →
     none_told (way_of d) f (halts d erred s) ≡ halts_after d erred (none_told (way_of d) f s)
 none_same d erred f s = grind (arith, found_so_same)
-
-after_none_same : (d : Direction) (erred : Bool) (v : Value) (c : Judging) →
-    course_after_none v (halting d erred c) ≡ halting d erred (course_after_none v c)
-after_none_same d erred v c = grind arith
-
-after_same : (d : Direction) (erred : Bool) (c : Connection) (v : Value) (b : Bool) (k : Judging) →
-    course_after (way_of d) c v b (halting d erred k) ≡ halting d erred (course_after (way_of d) c v b k)
-after_same d erred c v b k = grind arith
 
 -- an ER may answer a break of the other side
 abbrev IsEr : Value → Type 0
@@ -105,7 +91,7 @@ one_same d erred place c v s plain = by d
         by_finding d place c v s f r (course_after (way_of d) c v (is_applied f) (halts d erred s).course)
         ≡ halts_after d erred (by_finding d place c v s f r (course_after (way_of d) c v (is_applied f) s.course))
     last d f r =
-        ap (by_finding d place c v s f r) (after_same d erred c v (is_applied f) s.course)
+        ap (by_finding d place c v s f r) (grind arith)
         ∙ (λ i. record {
           told = (by_finding d place c v s f r (course_after (way_of d) c v (is_applied f) s.course)).told;
           state = record {
@@ -124,36 +110,21 @@ one_same d erred place c v s plain = by d
         (course_after (way_of Right) c v (is_applied f) (halts Right erred s).course)) (found_same Right erred s c v plain)
         ∙ last Right (found_on (way_of Right) s c v) (reach_of (class_for (way_of Right) s.course) (found_on (way_of Right) s c v))
 
-report_same : (v : Value) → (IsEr v → ⊥) → (a b : Bool) → is_report a v ≡ is_report b v
-report_same v plain a b = grind arith
-
 -- what is found of it, if it reports a break or not
 abbrev found_if : Judging → Value → (reports : Bool) → Finding
 found_if c v reports = if reports then NotJudged else (if c.loose then in_doubt (unnamed_by c.strays v) else unnamed_by c.strays v)
 
 unnamed_same : (d : Direction) (erred : Bool) (v : Value) (s : State) → (IsEr v → ⊥) →
     unnamed_told (way_of d) v (halts d erred s) ≡ halts_after d erred (unnamed_told (way_of d) v s)
-unnamed_same d erred v s plain = grind (arith, after_none_same, none_same, report_same)
-
-at_found_same : (d : Direction) (erred : Bool) (v : Value) (s : State) (p : ℕ) (o : Option Connection) → (IsEr v → ⊥) →
-    at_found (way_of d) v (halts d erred s) p o ≡ halts_after d erred (at_found (way_of d) v s p o)
-at_found_same d erred v s p o plain = grind (arith, unnamed_same, one_same)
+unnamed_same d erred v s plain = grind (arith, none_same)
 
 at_place_same : (d : Direction) (erred : Bool) (v : Value) (s : State) (o : Option ℕ) → (IsEr v → ⊥) →
     at_place (way_of d) v (halts d erred s) o ≡ halts_after d erred (at_place (way_of d) v s o)
-at_place_same d erred v s o plain = grind (arith, unnamed_same, at_found_same)
-
-asks_by_same : (d : Direction) (erred : Bool) (f : Finding) (x : Connect) (s : State) →
-    asks_by (way_of d) f x (halts d erred s) ≡ halts_after d erred (asks_by (way_of d) f x s)
-asks_by_same d erred Kept x s = refl
-asks_by_same d erred NotJudged x s = none_same d erred NotJudged s
-asks_by_same d erred Outside x s = none_same d erred Outside s
-asks_by_same d erred TooMany x s = none_same d erred TooMany s
-asks_by_same d erred (Broke r) x s = none_same d erred (Broke r) s
+at_place_same d erred v s o plain = grind (arith, unnamed_same, one_same)
 
 asks_same : (d : Direction) (erred : Bool) (v : Value) (s : State) →
     asks_of (way_of d) v (halts d erred s) ≡ halts_after d erred (asks_of (way_of d) v s)
-asks_same d erred v s = grind (arith, asks_by_same, none_same)
+asks_same d erred v s = grind (arith, none_same)
 
 routed_same : (d : Direction) (erred : Bool) (v : Value) (s : State) (r : Route) → (IsEr v → ⊥) →
     routed (way_of d) v (halts d erred s) r ≡ halts_after d erred (routed (way_of d) v s r)
@@ -172,19 +143,9 @@ module _ (d : Direction) (v : Value) (erred : Bool) (s : State) (goes : is_stopp
   abbrev theirs : Bool
   theirs = has_broken (sides.other (way_of d)) s.course
 
-  goes_there : takes (way_of d) v s ≡ routed (way_of d) v s (by_class (class_for (way_of d) s.course) theirs)
-  goes_there = ap (λ (b : Bool). if b then none_told (way_of d) NotJudged s else routed (way_of d) v s (route (way_of d) s.course v)) goes
-
-  route_so : (k : Option Class) → by_class k true ≡ by_class k theirs
-  route_so k = grind (arith, zero_route)
-
-  halted_there : takes (way_of d) v (halts d erred s)
-      ≡ routed (way_of d) v (halts d erred s) (by_class (class_for (way_of d) s.course) true)
-  halted_there = grind arith
-
   -- it is found to be the same, and leaves the same
   pub own_same : takes (way_of d) v (halts d erred s) ≡ halts_after d erred (takes (way_of d) v s)
-  own_same = grind (arith, halted_there, route_so, routed_same, goes_there)
+  own_same = grind (arith, routed_same)
 
 -- ---- the break
 
@@ -202,30 +163,18 @@ IsThere (data0 end user) = Unit {0}
 IsThere (disconnected n source) = Unit {0}
 IsThere v = ⊥
 
-unnamed_halts : (e : Direction) (v : Value) (s : State) → IsThere v → Halts e s (unnamed_told (way_of e) v s)
-unnamed_halts e v s h unapplied side = grind (arith, none_halts)
-
 after_there : (e : Direction) (c : Connection) (v : Value) (b : Bool) (k : Judging) → IsThere v → course_after (way_of e) c v b k ≡ k
 after_there e c v b k h = grind arith
 
-one_halts : (e : Direction) (p : ℕ) (c : Connection) (v : Value) (s : State) → slice_get s.connections p ≡ Some c → IsThere v →
-    Halts e s (one_told (way_of e) p c v s)
-one_halts e p c v s there h unapplied side = grind (arith, set_same, after_there)
-
 found_halts : (e : Direction) (p : ℕ) (o : Option Connection) (v : Value) (s : State) → slice_get s.connections p ≡ o → IsThere v →
     Halts e s (at_found (way_of e) v s p o)
-found_halts e p o v s there h = grind (arith, unnamed_halts, one_halts)
+found_halts e p o v s there h = grind (arith, none_halts, set_same, after_there)
 
 place_halts : (e : Direction) (o : Option ℕ) (v : Value) (s : State) → IsThere v → Halts e s (at_place (way_of e) v s o)
-place_halts e o v s h = grind (arith, unnamed_halts, found_halts)
+place_halts e o v s h = grind (arith, found_halts)
 
 zero_halts : (e : Direction) (b : Bool) (v : Value) (s : State) → Halts e s (routed (way_of e) v s (traffic.route_zero (way_of e) b v))
 zero_halts e b v s = grind (arith, none_halts, place_halts)
-
--- in class 0 nothing else is changed
-pub break_halts : (e : Direction) (v : Value) (s : State) → class_for (way_of e) s.course ≡ Some Zero →
-    is_stopped (way_of e) s.course ≡ false → Halts e s (takes (way_of e) v s)
-break_halts e v s zero goes = grind (arith, zero_halts)
 
 -- ---- at a tap
 
@@ -245,27 +194,15 @@ pub record IsBeside (d : Direction) (c without : Course) : Type 0 where
   pub sessions : c.sessions ≡ without.sessions
   pub traffic : c.traffic ≡ halts d erred without.traffic
 
-begins_same : (d e : Direction) (erred : Bool) (s : State) →
-    traffic.packet_begins (way_of e) (halts d erred s) ≡ halts d erred (traffic.packet_begins (way_of e) s)
-begins_same d e erred s = grind arith
-
 pub beside_begins : (d e : Direction) (c without : Course) → IsBeside d c without → IsBeside d (packet_begins e c) (packet_begins e without)
-beside_begins d e c without b = grind (arith, begins_same)
-
-no_er : (v : Value) → IsDt0 v → IsEr v → ⊥
-no_er v dt er = grind arith
+beside_begins d e c without b = grind arith
 
 -- a unit of the end
 pub beside_own : (d : Direction) (at : ℕ) (v : Value) (c without : Course) → is_stopped (way_of d) without.traffic.course ≡ false →
     IsDt0 v → IsBeside d c without →
     IsBeside d (unit_passes d at v c) (unit_passes d at v without)
     × ((takes (way_of d) v c.traffic).told.finding ≡ (takes (way_of d) v without.traffic).told.finding)
-beside_own d at v c without goes dt b = search (arith, own_same, no_er, unit_joins, unit_knows)
-
--- units of the other side, of which nothing is judged any more
-pub beside_other : (d : Direction) (at : ℕ) (v : Value) (c without : Course) → is_stopped (way_of (other d)) c.traffic.course ≡ true →
-    IsBeside d c without → IsBeside d (unit_passes (other d) at v c) without
-beside_other d at v c without stopped b = search (arith, stops_last, unit_joins, unit_knows)
+beside_own d at v c without goes dt b = search (arith, own_same, unit_joins, unit_knows)
 
 -- the break itself
 pub beside_break : (d : Direction) (at : ℕ) (v : Value) (c : Course) → class_for (way_of (other d)) c.traffic.course ≡ Some Zero →
@@ -278,7 +215,7 @@ beside_break d at v c zero goes unapplied side =
     record {
       erred = traffic.has_erred (way_of e) (noted (way_of e) f stopped);
       sessions = joins_none e at v c unapplied;
-      traffic = unit_knows e at v c ∙ break_halts e v c.traffic zero goes unapplied side
+      traffic = unit_knows e at v c ∙ (grind (arith, zero_halts))
           ∙ ap (λ (k : Judging). record c.traffic { course = k }) (noted_is e f stopped);
     }
 

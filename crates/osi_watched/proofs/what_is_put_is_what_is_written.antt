@@ -27,12 +27,8 @@ record Heads (n m : ℕ) (a b : List ℕ) : Type 0 where
   low : (n + 4) % 256 ≡ (m + 4) % 256
   rest : a ≡ b
 
-heads : (n m : ℕ) (a b : List ℕ) →
-    (3 ∷ 0 ∷ ((n + 4) / 256) ∷ ((n + 4) % 256) ∷ a) ≡ (3 ∷ 0 ∷ ((m + 4) / 256) ∷ ((m + 4) % 256) ∷ b) → Heads n m a b
-heads n m a b e = record { high = cc; low = cc; rest = cc }
-
 one_packet : (u w x y : List ℕ) → packet_of u ++ x ≡ packet_of w ++ y → (u ≡ w) × (x ≡ y)
-one_packet u w x y e = grind (arith, heads, same_split, same_length)
+one_packet u w x y e = grind (arith, same_split, same_length)
 
 -- the same octets are of the same written units
 pub same_written : (us vs : List Value) → packets us ≡ packets vs → map written us ≡ map written vs

@@ -5,20 +5,19 @@ use Rattle.osi_watched.proofs.Vocabulary.{[], ap, append_assoc, arith, Bool, dro
 use Rattle.osi_watched.proofs.Vocabulary.{List, nat_lt, None, Option, option_map, refl, Some, subst, sym, take, true, ℕ, ◌++◌, ◌∙◌, ◌∷◌}
 use Rattle.osi_watched.proofs.Vocabulary.{◌≡◌, ◌⊎◌, nat_tests, append-nil, take-append-drop, take_all, AllByRecursion, list_any, ◌||◌}
 use Rattle.osi_watched.proofs.Vocabulary.{IsOctets, ArePackets, Fed, tsap_octets, Tsap, Standing, acts_cases, closed_with, may_connect}
-use Rattle.osi_watched.proofs.Vocabulary.{send_all_error, sent_all, Happening, value_at, Carrier, EndReason, Broken, NoMemory, OpenError}
-use Rattle.osi_watched.proofs.Vocabulary.{SendError, TooLong, called, Input, Listener, awaits, concluded_carrier, packet_is, quiet_stops}
-use Rattle.osi_watched.proofs.Vocabulary.{events_heard, disconnect_carrier, none_ended, found_how, after_open, Feeds, Goes as GoesThrough}
-use Rattle.osi_watched.proofs.Vocabulary.{TakesPackets, uses_all, attends, hears_all, hears_times, RunsOut, Starves, with_carrier}
-use Rattle.osi_watched.proofs.Vocabulary.{with_events, IsAccepted, AreShort, by_line, carrier_by, to_session, calling, Call, Calls}
-use Rattle.osi_watched.proofs.Vocabulary.{carried_in, used_in, End, Holding, answers_by, sent_unless, ConnectError, AllProper, all_octets}
-use Rattle.osi_watched.proofs.Vocabulary.{more_used, stopped_within, never_lasts, packets_on, packets_then, carried_by, Takes, Turn}
-use Rattle.osi_watched.proofs.Vocabulary.{used_by, serving, using}
+use Rattle.osi_watched.proofs.Vocabulary.{send_all_error, sent_all, Happening, Carrier, EndReason, NoMemory, OpenError, called, Input}
+use Rattle.osi_watched.proofs.Vocabulary.{Listener, awaits, concluded_carrier, packet_is, quiet_stops, events_heard, disconnect_carrier}
+use Rattle.osi_watched.proofs.Vocabulary.{none_ended, found_how, after_open, Feeds, Goes as GoesThrough, TakesPackets, uses_all}
+use Rattle.osi_watched.proofs.Vocabulary.{hears_times, RunsOut, Starves, with_carrier, with_events, IsAccepted, AreShort, carrier_by}
+use Rattle.osi_watched.proofs.Vocabulary.{to_session, calling, Call, Calls, carried_in, used_in, End, Holding, answers_by, ConnectError}
+use Rattle.osi_watched.proofs.Vocabulary.{AllProper, all_octets, more_used, stopped_within, never_lasts, packets_on, packets_then}
+use Rattle.osi_watched.proofs.Vocabulary.{carried_by, Takes, Turn, used_by, serving, using}
 use Rattle.osi_carrier.specs.Calls.{asks}
 use Rattle.osi_carrier.specs.Packets as carriers
 use Rattle.osi_carrier.specs.State as states
 use Rattle.osi_stack.specs.Hearing.{after_packet, ends}
 use Rattle.osi_stack.specs.Rounds.{UserCall, user_does}
-use Rattle.osi_stack.specs.State.{waits, Line}
+use Rattle.osi_stack.specs.State.{waits}
 use Rattle.osi_honest.specs.Talking as history
 use Rattle.osi_honest.specs.Turns.{Act, Acts}
 
@@ -38,29 +37,18 @@ all_short : (tsdus : List (List ℕ)) → list_any (λ (t : List ℕ). nat_lt 10
 all_short [] h = tt
 all_short (tsdu ∷ tsdus) h = short_if (nat_lt 1048576 (length tsdu)) tsdu tsdus refl (all_short tsdus) h
 
-short_by : (tsdus : List (List ℕ)) (b : Bool) → list_any (λ (t : List ℕ). nat_lt 1048576 (length t)) tsdus ≡ b →
-    (if b then Some TooLong else None) ≡ None → AreShort tsdus
-short_by tsdus b e h = grind (arith, all_short)
-
 are_short : (tsdus : List (List ℕ)) (o : Option (ℕ × Standing)) → send_all_error tsdus o ≡ None → AreShort tsdus
-are_short tsdus o h = grind (arith, short_by)
+are_short tsdus o h = grind (arith, all_short)
 
 module _ (P : Carrier → Type 0) (law : Carries P) where
-  unless_carried : (o : Option SendError) (r : ℕ) (tsdus : List (List ℕ)) (c : Carrier) → (o ≡ None → AreShort tsdus) → P c →
-      P (sent_unless o r tsdus c)
-  unless_carried o r tsdus c short p = grind arith
-
   answer_carried : (closing : Bool) (r : ℕ) (tsdus : List (List ℕ)) (c : Carrier) → P c → P (answers_by closing r tsdus c)
-  answer_carried closing r tsdus c p = grind (arith, unless_carried, are_short)
+  answer_carried closing r tsdus c p = grind (arith, are_short)
 
   move_carried : (r : ℕ) (o : Option Listener) (input : Input) (c : Carrier) → P c → P (carrier_by r o input c)
   move_carried r o input c p = grind (arith, answer_carried)
 
-  line_carried : (r : ℕ) (o : Option Line) (input : Input) (e : End) → P e.carrier → P (by_line r o input e).carrier
-  line_carried r o input e p = grind (arith, move_carried)
-
   session_carried : (r : ℕ) (input : Input) (e : End) → P e.carrier → P (to_session r input e).carrier
-  session_carried r input e p = line_carried r (value_at r e.lines) input e p
+  session_carried r input e p = grind (arith, move_carried)
 
 -- what holds of the packets that a carrier used and of the carrier, if it holds before each packet and before TSDUs of a session
 pub record IsTracked (P : List (List ℕ) → Carrier → Type 0) : Type 0 where
@@ -101,13 +89,10 @@ module _ (P : List (List ℕ) → Carrier → Type 0) (tracked : IsTracked P) wh
         moves = λ event x q. session_carried (P us) (tracked.carries us) _ _ x q;
       }) n e p
 
-  attended : (us : List (List ℕ)) (e : End) → P us e.carrier → P us (attends e).carrier
-  attended us e p = subst (P us) (sym (concluded_carrier (hears_all e))) (heard us (length e.carrier.events) e p)
-
   after : (us : List (List ℕ)) (u : List ℕ) (e : End) → IsOctets u → P us e.carrier → P (us ++ u ∷ []) (after_packet e u).carrier
   after us u e octets p =
       subst (λ (x : End). P (us ++ u ∷ []) x.carrier) (sym (packet_is e u))
-      (attended (us ++ u ∷ []) (with_carrier (carriers.after_packet e.carrier u) e) (tracked.packet us u e.carrier octets p))
+      (grind (arith, concluded_carrier, heard))
 
   takes : (us units : List (List ℕ)) (old new : End) → AllByRecursion IsOctets units → P us old.carrier → TakesPackets old units new →
       P (us ++ units) new.carrier
@@ -132,7 +117,7 @@ module _ (P : List (List ℕ) → Carrier → Type 0) (tracked : IsTracked P) wh
 
   starves : (us : List (List ℕ)) (u : List ℕ) (old new : End) → IsOctets u → P us old.carrier → Starves old u new →
       P (us ++ u ∷ []) new.carrier
-  starves us u old new octets p (inl (c, short, there)) = grind (arith, attended)
+  starves us u old new octets p (inl (c, short, there)) = grind (arith, concluded_carrier, heard)
   starves us u old new octets p (inr (c, acts, out)) = search (arith, runs_out, acts_or)
 
   -- ---- a piece
@@ -235,12 +220,9 @@ module _ (P : List (List ℕ) → Carrier → Type 0) (tracked : IsTracked P) wh
 
   -- ---- a call of the user
 
-  broken_end : (us : List (List ℕ)) (b : Bool) (e : End) → P us e.carrier → P us (if b then e else ends Broken e).carrier
-  broken_end us b e p = grind arith
-
   user_tracked : (us : List (List ℕ)) → AsksToo (P us) → (call : UserCall) (e : End) → IsAccepted call e → P us e.carrier →
       P us (user_does call e).carrier
-  user_tracked us too call e allowed p = grind (arith, may_of, session_carried, disconnect_carrier, broken_end)
+  user_tracked us too call e allowed p = grind (arith, may_of, session_carried, disconnect_carrier)
 
   pub turn_tracked : AllProper → (us : List (List ℕ)) → AsksToo (P us) → (turn : Turn) (old new : Holding) → P us old.end.carrier →
       Takes old turn new → Tracks P us turn.used turn.put old new

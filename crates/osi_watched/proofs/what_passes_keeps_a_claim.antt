@@ -2,11 +2,9 @@
 -- and of the tap.
 -- For the first break.
 use Rattle.std.proofs.Common.{arith}
-use Rattle.osi_watched.proofs.Vocabulary.{[], Bool, if◌then◌else◌, length, List, refl, Result, ℕ, ◌++◌}
-use Rattle.osi_watched.proofs.Vocabulary.{◌∷◌, ◌≡◌, Value, TpduFault, Capture, of, Direction, looks}
-use Rattle.osi_watched.proofs.Vocabulary.{packet_by, unit_passes, units_pass, unread, counted, Front, gathered}
-use Rattle.osi_watched.proofs.Vocabulary.{Streamed, after, begun, looked_at, octet_passes, stream_of, with_stream, Cause}
-use Rattle.osi_watched.proofs.Vocabulary.{Joint, Step, Steps}
+use Rattle.osi_watched.proofs.Vocabulary.{[], Bool, if◌then◌else◌, length, List, refl, ℕ, ◌++◌, ◌∷◌, ◌≡◌, Value, Capture, of, Direction}
+use Rattle.osi_watched.proofs.Vocabulary.{looks, unit_passes, units_pass, unread, counted, Front, gathered, Streamed, after, begun}
+use Rattle.osi_watched.proofs.Vocabulary.{looked_at, octet_passes, stream_of, with_stream, Cause, Joint, Step, Steps}
 use Rattle.osi_tap.specs.Courses.{Course, packet_begins}
 use Rattle.osi_tap.specs.Tapping.{State}
 
@@ -20,14 +18,8 @@ module _ (P : Course → Type 0) (k : IsClaim P) where
   units_kept d at [] c h = h
   units_kept d at (v ∷ vs) c h = units_kept d at vs (unit_passes d at v c) (k.passes d at v c h)
 
-  read_kept : (d : Direction) (at : ℕ) (read : Result (List Value) TpduFault) (c : Course) → P c → P (packet_by d at read c)
-  read_kept d h h2 c h3 = grind (arith, units_kept)
-
-  with_kept : (d : Direction) (t : Streamed) (s : State) → P s.course → P (with_stream d t s).course
-  with_kept d t s h = grind arith
-
   looked_kept : (d : Direction) (t : Streamed) (f : Front) (s : State) → P s.course → P (looked_at d t f s).course
-  looked_kept d t f s h = grind (arith, with_kept, read_kept)
+  looked_kept d t f s h = grind (arith, units_kept)
 
   begun_kept : (d : Direction) (held : List ℕ) (s : State) → P s.course → P (begun d held s).course
   begun_kept d held s h = grind arith
@@ -35,7 +27,7 @@ module _ (P : Course → Type 0) (k : IsClaim P) where
   octet_by : (b : Bool) (d : Direction) (os : List ℕ) (s : State) → P s.course
       → P (if b then with_stream d (counted (length os) (stream_of d s)) s
       else looks d (gathered os (stream_of d s)) (begun d (stream_of d s).held s)).course
-  octet_by b d os s h = grind (arith, with_kept, looked_kept, begun_kept)
+  octet_by b d os s h = grind (arith, looked_kept, begun_kept)
 
   pub after_kept : (capture : Capture) (s : State) → P s.course → P (after capture s).course
   after_kept [] s h = h

@@ -26,9 +26,6 @@ module _ (P : Course → Course → Type 0) (k : IsClaim P) where
     pub same : record s { course = course } ≡ t
     pub so : P s.course course
 
-  both : (s : State) (e : Course) → P s.course e → AreBoth s (record s { course = e })
-  both s e h = record { course = e; same = refl; so = h }
-
   units_kept : (d : Direction) (at : ℕ) (vs : List Value) (c e : Course) → P c e → P (units_pass d at vs c) (units_pass d at vs e)
   units_kept d at [] c e h = h
   units_kept d at (v ∷ vs) c e h = units_kept d at vs (unit_passes d at v c) (unit_passes d at v e) (k.passes d at v c e h)
@@ -57,7 +54,7 @@ module _ (P : Course → Course → Type 0) (k : IsClaim P) where
   begun_kept : (d : Direction) (held : List ℕ) (s : State) (e : Course) → P s.course e →
       AreBoth (begun d held s) (begun d held (record s { course = e }))
   begun_kept d [] s e h = record { course = packet_begins d e; same = refl; so = k.begins d s.course e h }
-  begun_kept d (o ∷ held) s e h = both s e h
+  begun_kept d (o ∷ held) s e h = grind arith
 
   then_looked : (d : Direction) (t : Streamed) (s u : State) → AreBoth s u → AreBoth (looks d t s) (looks d t u)
   then_looked d t s u b = grind (arith, looks, looked_kept)

@@ -3,9 +3,9 @@
 use Rattle.osi_watched.proofs.Vocabulary.{[], ap, append_assoc, arith, Bool, false, if◌then◌else◌, inl, inr, leb, length, List, refl, subst}
 use Rattle.osi_watched.proofs.Vocabulary.{sym, take, true, ℕ, ◌*◌, ◌++◌, ◌+◌, ◌-◌, ◌<◌, ◌∙◌, ◌∷◌, ◌≡◌, ◌≤◌, ◌⊎◌, take-append_seam, eqb-true}
 use Rattle.osi_watched.proofs.Vocabulary.{le-ltb, lt-ltb, ltb-false, ltb-true, leb_tells, append-nil, length-append, take_all, take_at}
-use Rattle.osi_watched.proofs.Vocabulary.{octets_append, IsOctets, IsPacket, packet_of, ArePackets, BadLength, BadVersion, first}
-use Rattle.osi_watched.proofs.Vocabulary.{GoesBeyond, packets_on, second, two_readings, part_of, packet_front, by_version, faulty, Front}
-use Rattle.osi_watched.proofs.Vocabulary.{front_of, partial, sized, whole}
+use Rattle.osi_watched.proofs.Vocabulary.{octets_append, IsOctets, IsPacket, packet_of, ArePackets, BadLength, first, GoesBeyond}
+use Rattle.osi_watched.proofs.Vocabulary.{packets_on, second, two_readings, part_of, packet_front, by_version, faulty, Front, front_of}
+use Rattle.osi_watched.proofs.Vocabulary.{partial, sized, whole}
 use Rattle.osi_carrier.specs.Fetching.{IsNoFront}
 use Rattle.osi_tpkt.specs.declared.faults.TpktFault.{TpktFault}
 
@@ -14,15 +14,8 @@ use Rattle.osi_tpkt.specs.declared.faults.TpktFault.{TpktFault}
 abbrev by_tests : (short long : Bool) → Front → Front
 by_tests short long unit = if short then faulty (BadLength 0) else (if long then partial else unit)
 
-right_version : (v : ℕ) (f : Front) → v ≡ 3 → by_version v f ≡ f
-right_version v f e = subst (λ (z : ℕ). by_version z f ≡ f) (sym e) refl
-
 sized_whole : (stated : ℕ) (u rest : List ℕ) → stated ≡ length u + 4 → 3 ≤ length u → sized stated (u ++ rest) ≡ whole u
 sized_whole stated u rest e least = grind (arith, length-append u rest, le-ltb stated 7 (omega arith), take-append_seam u rest)
-
-sized_partial : (stated : ℕ) (t more : List ℕ) → stated ≡ length (t ++ more) + 4 → 3 ≤ length (t ++ more) → 0 < length more →
-    sized stated t ≡ partial
-sized_partial stated t more e least some = grind (arith, length-append, le-ltb, lt-ltb)
 
 -- ---- of a packet that is written
 
@@ -30,7 +23,7 @@ pub whole_front : (w rest : List ℕ) → 3 ≤ length w → front_of (packet_of
 whole_front w rest least = grind (arith, sized_whole)
 
 part_front : (s more w : List ℕ) → s ++ more ≡ packet_of w → 0 < length more → 3 ≤ length w → front_of s ≡ partial
-part_front s more w e some least = grind (arith, right_version, sized_partial)
+part_front s more w e some least = grind (arith, length-append, le-ltb, lt-ltb)
 
 pub same_parts : (a b x y : List ℕ) → length a ≡ length b → a ++ x ≡ b ++ y → (a ≡ b) × (x ≡ y)
 same_parts [] [] x y l e = (refl, e)
@@ -78,28 +71,18 @@ own_front held w rest back x part e least = by (leb_tells (length (packet_of w))
 
 -- ---- of a packet that has just passed
 
-version_is : (v : ℕ) (f g : Front) → by_version v f ≡ g → (faulty (BadVersion 0) ≡ g → ⊥) → (v ≡ 3) × (f ≡ g)
-version_is v f g e right = grind (arith, eqb-true)
-
 version_whole : (v : ℕ) (f : Front) (u : List ℕ) → by_version v f ≡ whole u → (v ≡ 3) × (f ≡ whole u)
-version_whole v f u e = version_is v f (whole u) e (λ bad. cc)
+version_whole v f u e = grind (arith, eqb-true)
 
 version_partial : (v : ℕ) (f : Front) → by_version v f ≡ partial → (v ≡ 3) × (f ≡ partial)
-version_partial v f e = version_is v f partial e (λ bad. cc)
-
-tests_whole : (short long : Bool) (unit u : List ℕ) → by_tests short long (whole unit) ≡ whole u →
-    (short ≡ false) × (long ≡ false) × (unit ≡ u)
-tests_whole short long unit u e = grind arith
-
-tests_partial : (short long : Bool) (unit : List ℕ) → by_tests short long (whole unit) ≡ partial → long ≡ true
-tests_partial short long unit e = grind arith
+version_partial v f e = grind (arith, eqb-true)
 
 sized_is : (stated : ℕ) (t u : List ℕ) → sized stated t ≡ whole u →
     (7 ≤ stated) × (stated ≤ length t + 4) × (take (stated - 4) t ≡ u)
-sized_is stated t u e = grind (arith, tests_whole, ltb-false)
+sized_is stated t u e = grind (arith, ltb-false)
 
 sized_less : (stated : ℕ) (t : List ℕ) → sized stated t ≡ partial → length t + 4 < stated
-sized_less stated t e = grind (arith, ltb-true, tests_partial)
+sized_less stated t e = grind (arith, ltb-true)
 
 pub whole_packet : (held u : List ℕ) (y : ℕ) → IsOctets (held ++ y ∷ []) → front_of held ≡ partial → front_of (held ++ y ∷ []) ≡ whole u →
     IsPacket u (held ++ y ∷ [])
@@ -161,8 +144,8 @@ sized_faulty : (stated : ℕ) (t : List ℕ) (f : TpktFault) → sized stated t 
 sized_faulty stated t f e least = grind (arith, le-ltb)
 
 not_partial : (v : ℕ) (f : TpktFault) → v ≡ 3 → by_version v partial ≡ faulty f → ⊥
-not_partial v f three e = let no : partial ≡ faulty f = sym (right_version v partial three) ∙ e in cc no
+not_partial v f three e = let no : partial ≡ faulty f = sym (grind arith) ∙ e in cc no
 
 -- whatever follows them
 pub begins_none : (held more : List ℕ) (f : TpktFault) → front_of held ≡ faulty f → IsNoFront (held ++ more)
-begins_none held more f e = grind (arith, not_partial, sized_faulty, right_version)
+begins_none held more f e = grind (arith, not_partial, sized_faulty)

@@ -35,10 +35,7 @@ module _ (f : State → State) (apart : IsApart f) where
   pub done_alike : (s c : State) → bare s ≡ bare c → bare (f s) ≡ bare (f c)
   done_alike s c e = ap bare (done_so s) ∙ ap (λ (x : State). bare (f x)) e ∙ sym (ap bare (done_so c))
 
-  out_so : (s : State) → (f s).outgoing ≡ s.outgoing ++ (f (bare s)).outgoing
-  out_so s = ap (λ (x : State). x.outgoing) (done_so s)
-
   -- and write the same
   pub written_alike : (s c : State) (x : List ℕ) → bare s ≡ bare c → (f s).outgoing ≡ s.outgoing ++ x →
       (f c).outgoing ≡ c.outgoing ++ x
-  written_alike s c x e is = grind (arith, append_cancel_left, out_so)
+  written_alike s c x e is = grind (arith, append_cancel_left, done_so)

@@ -1,17 +1,17 @@
 -- The invariant of two carriers is kept when an end acts.
 -- For joined carriers, class 0 and the invariant.
 use Rattle.osi_between.specs.Between.{under_way}
-use Rattle.osi_between.proofs.Vocabulary.{◌≡◌, ◌≢◌, ℕ, ◌+◌, ◌≤◌, ◌||◌, Bool, true, false, not, List, [], ◌++◌, length, Option, Some, None}
-use Rattle.osi_between.proofs.Vocabulary.{is_some, IfSome, refl, sym, ap, subst, ◌∙◌, append_assoc, arith, ◌⊎◌, inl, inr, flat_map}
-use Rattle.osi_between.proofs.Vocabulary.{AllByRecursion, append-nil, append_cancel_right, Value, IsSendable, place_at, connection_in}
-use Rattle.osi_between.proofs.Vocabulary.{Connection, State, packets, EndReason, units_of, AreFor, Both, side, reach_of, within_reach}
-use Rattle.osi_between.proofs.Vocabulary.{arriving, Between, last_of, units_from, lost_from, IsOnTheWay, AreJoinedBy, AreBetween, is_cut}
-use Rattle.osi_between.proofs.Vocabulary.{to_come, told_of, put_in, Carries, Acted, becomes, progress_of, BringsTo, under_way_for, ActsFor}
-use Rattle.osi_between.proofs.Vocabulary.{Message, messages_to, messages_after, begun_at, AreLike, references_for, class_behind_all}
-use Rattle.osi_between.proofs.Vocabulary.{leaves_use, Terms, by_two, accepts_in, class_of}
+use Rattle.osi_between.proofs.Vocabulary.{◌≡◌, ◌≢◌, ℕ, ◌+◌, ◌||◌, Bool, true, false, not, List, [], ◌++◌, Option, Some, None, is_some, refl}
+use Rattle.osi_between.proofs.Vocabulary.{sym, ap, subst, ◌∙◌, append_assoc, arith, ◌⊎◌, inl, inr, flat_map, AllByRecursion, append-nil}
+use Rattle.osi_between.proofs.Vocabulary.{append_cancel_right, Value, IsSendable, place_at, connection_in, Connection, State, packets}
+use Rattle.osi_between.proofs.Vocabulary.{EndReason, units_of, AreFor, Both, side, reach_of, within_reach, arriving, Between, last_of}
+use Rattle.osi_between.proofs.Vocabulary.{units_from, lost_from, IsOnTheWay, AreJoinedBy, AreBetween, to_come, told_of, Carries, Acted}
+use Rattle.osi_between.proofs.Vocabulary.{becomes, progress_of, BringsTo, under_way_for, ActsFor, Message, messages_to, messages_after}
+use Rattle.osi_between.proofs.Vocabulary.{begun_at, AreLike, references_for, class_behind_all, leaves_use, Terms, by_two, accepts_in}
+use Rattle.osi_between.proofs.Vocabulary.{class_of, length-append}
 use Rattle.osi_between.proofs.unit.the_units_of_one_connection.{units_join, units_same, units_other}
 use Rattle.osi_between.proofs.unit.what_a_taken_unit_means.{same_like}
-use Rattle.osi_between.proofs.way.octets_are_written_and_handed_over.{going_then, lost_then, all_then, way_out, bound_out}
+use Rattle.osi_between.proofs.way.octets_are_written_and_handed_over.{going_then, lost_then, way_out}
 
 -- ---- with all units
 
@@ -84,9 +84,6 @@ steps_two n this other next going coming behind rest taken put cut lasts a =
 pub by_end : (end : Bool) (P : Bool → Type 0) → P end → P (not end) → (e : Bool) → P e
 by_end end P a b e = grind arith
 
-pub unreached : (end : Bool) (reach : Option (ℕ × ℕ)) → reach_of end reach ≡ None → reach ≡ None
-unreached end reach e = grind arith
-
 cut_alive : (broken : Bool) (ended : Option EndReason) → ended ≡ None → (broken || is_some ended) ≡ broken
 cut_alive broken ended e = grind (arith, is_some)
 
@@ -121,29 +118,6 @@ out_part end (Some r) o c d n going lost units stays gone put none before after 
   after = same_like o (sum_of o n going true d) (sum_of o n going true c ++ []) (sym (append-nil (sum_of o n going true c)));
 }
 out_part end reach o c d n going lost units stays gone put none before after = grind (arith, append-nil)
-
-put_is : (both : Both) (put : List Message) (reach : Option (ℕ × ℕ)) → both.reach ≡ reach → if_whole reach put ≡ put_in both put
-put_is both put reach e = grind arith
-
--- what arrived at it
-came_part : (n : ℕ) (old new there : Option Connection) (cut : Bool) (coming taken left : List Value) (arrived : List Message) →
-    coming ≡ taken ++ left → AreFor n taken →
-    ((units : List Value) → AreLike new (messages_after (begun_at old) (taken ++ units)) (arrived ++ messages_after (begun_at new) units)) →
-    AreLike new (sum_of old n coming cut there) (arrived ++ sum_of new n left cut there)
-came_part n old new there cut coming taken left arrived parts all more = grind (arith, units_join, units_same, append_assoc)
-
--- of another connection
-other_out : (end : Bool) (reach : Option (ℕ × ℕ)) (q n : ℕ) (going units : List Value) → q ≢ n → AreFor n units →
-    units_of q going ≡ units_of q (going_then (reach_of end reach) going units)
-other_out end reach q n going units apart all = grind (arith, units_join, units_other, append-nil)
-
-other_in : (q n : ℕ) (coming taken left : List Value) → q ≢ n → coming ≡ taken ++ left → AreFor n taken →
-    units_of q coming ≡ units_of q left
-other_in q n coming taken left apart parts all = grind (arith, units_join, units_other)
-
-same_sum : (o p c d : Option Connection) (q : ℕ) (us vs : List Value) (a b : Bool) → o ≡ p → units_of q us ≡ units_of q vs → a ≡ b → c ≡ d →
-    sum_of o q us a c ≡ sum_of p q vs b d
-same_sum o p c d q us vs a b x y z w = grind arith
 
 -- ---- an end acts
 
@@ -180,7 +154,7 @@ stands_at terms true (inl none) n both b next behind left taken put a alive way 
 stands_at terms end each n both b next behind left taken put a alive way d =
     let units = d.steps.units in
     let reach = reach_of end both.reach in
-    let none : reach ≡ None → lost_from end b ≡ [] = λ e. a.unbroken (unreached end both.reach e) end in
+    let none : reach ≡ None → lost_from end b ≡ [] = λ e. a.unbroken (grind arith) end in
     let new = becomes end next behind both in
     let now = now_of end both b next units left in
     let same = a.lives end alive in
@@ -189,7 +163,7 @@ stands_at terms end each n both b next behind left taken put a alive way d =
     record {
       lives = by_end end (λ e. (side e new).state.ended ≡ None → (side e new).state ≡ last_of e now) (λ _. refl) (λ h. a.lives (not end) h);
       joined = subst (λ (l : List Value). JoinedAt end terms next (last_of (not end) b) l (left ++ lost_from (not end) b))
-          (all_then reach (units_from end b) (lost_from end b) units none) d.joined;
+          (grind (arith, append-nil, append_assoc)) d.joined;
       comes = by_end end (λ e. (side (not e) new).state.ended ≡ None →
           IsOnTheWay (side (not e) new).held (arriving e new) (units_from e now) (lost_from e now))
           (λ h. subst (λ (l : List ℕ). IsOnTheWay (side (not end) both).held (within_reach reach l) (units_from end now)
@@ -199,10 +173,7 @@ stands_at terms end each n both b next behind left taken put a alive way d =
           (λ h. way);
       unbroken = λ e. by_end end (λ x. lost_from x now ≡ [])
           (ap (λ (r : Option (ℕ × ℕ)). lost_then (reach_of end r) (lost_from end b) units) e ∙ a.unbroken e end) (a.unbroken e (not end));
-      bound = by_end end (λ e. IfSome (reach_of e both.reach) (λ k. k ≤ length (side e new).state.outgoing))
-          (subst (λ (l : List ℕ). IfSome reach (λ k. k ≤ length l)) (sym out)
-          (bound_out reach (side end both).state.outgoing (packets units) (a.bound end)))
-          (a.bound (not end));
+      bound = grind (arith, by_end, length-append);
     }
 
 carries_at : (terms : Terms) (end : Bool) → Each →
@@ -217,9 +188,7 @@ carries_at terms end each n both b next behind left taken put a alive cut d =
     let c = connection_in (place_at n (last_of end b)) in
     let e = connection_in (place_at n next) in
     let o = connection_in (place_at n (last_of (not end) b)) in
-    let going = going_then (reach_of end both.reach) (units_from end b) st.units in
     let was = cut_alive (is_some both.reach) (side end both).state.ended alive in
-    let is = cut_alive (is_some both.reach) next.ended st.lasts in
     let p = out_part end both.reach o c e n (units_from end b) (lost_from end b) st.units st.stays st.lost put
     (λ none. a.unbroken none end) st.before st.after in
     record {
@@ -227,24 +196,14 @@ carries_at terms end each n both b next behind left taken put a alive cut d =
       stays = p.stays;
       gone = p.gone;
       told = st.told;
-      came = came_part n c e o (is_cut (not end) both) (units_from (not end) b) taken left st.arrived cut st.all_for st.brings.more;
+      came = grind (arith, units_join, units_same, append_assoc);
       before = subst (λ (t : Bool). AreLike o (sum_of o n (units_from end b) t c) (p.stays ++ p.gone)) (sym was) p.before;
-      after = subst (λ (t : Bool). AreLike o (sum_of o n going t e) (p.stays ++ put_in both put)) (sym is)
-          (subst (λ (l : List Message). AreLike o (sum_of o n going (is_some both.reach) e) (p.stays ++ l))
-          (put_is both put both.reach refl) p.after);
+      after = grind arith;
       brings = st.brings;
       others = λ q apart. by_end end
           (λ x. under_way x q both b ≡ under_way x q (becomes end next behind both) (now_of end both b next st.units left))
-          (same_sum (connection_in (place_at q (last_of (not end) b))) (connection_in (place_at q (last_of (not end) b)))
-          (connection_in (place_at q (last_of end b))) (connection_in (place_at q next)) q (units_from end b) going
-          (is_cut end both) (is_some both.reach || is_some next.ended) refl
-          (other_out end both.reach q n (units_from end b) st.units apart st.written_for) (was ∙ sym is)
-          (ap connection_in (sym (st.others_stay q apart))))
-          (same_sum (connection_in (place_at q (last_of end b))) (connection_in (place_at q next))
-          (connection_in (place_at q (last_of (not end) b))) (connection_in (place_at q (last_of (not end) b))) q
-          (units_from (not end) b) left
-          (is_cut (not end) both) (is_cut (not end) both) (ap connection_in (sym (st.others_stay q apart)))
-          (other_in q n (units_from (not end) b) taken left apart cut st.all_for) refl refl);
+          (search (arith, units_join, units_other, append-nil))
+          (grind (arith, units_join, units_other));
       other_places = st.others_stay;
       given = st.given;
       class = st.class;

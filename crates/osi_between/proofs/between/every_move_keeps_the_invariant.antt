@@ -2,37 +2,22 @@
 -- connection breaks.
 -- For the invariant and the laws.
 use Rattle.osi_between.specs.Between.{under_way}
-use Rattle.osi_between.proofs.Vocabulary.{◌≡◌, ℕ, ◌+◌, ◌<◌, ◌≤◌, ◌||◌, Bool, true, false, not, List, [], ◌∷◌, ◌++◌, length, take, drop}
-use Rattle.osi_between.proofs.Vocabulary.{Option, Some, None, is_some, IfSome, refl, sym, ap, subst, ◌∙◌, append_assoc, arith, inl, inr}
-use Rattle.osi_between.proofs.Vocabulary.{append-nil, IsOctets, IsPacket, packet_of, Value, written, IsShortTsdu, Standing, may_connect}
-use Rattle.osi_between.proofs.Vocabulary.{asks, sent, closed_with, place_at, connection_in, Happening, after_packet, react, value_at}
-use Rattle.osi_between.proofs.Vocabulary.{Connection, linked, State, ends, EndReason, Closed, packet_reacts, reference_of, units_of, Both}
-use Rattle.osi_between.proofs.Vocabulary.{side, reach_of, within_reach, arriving, Between, last_of, units_from, lost_from, IsOnTheWay}
-use Rattle.osi_between.proofs.Vocabulary.{AreJoinedBy, AreBetween, is_cut, to_come, answers_in, Acted, becomes, Took, Same, reach_less}
-use Rattle.osi_between.proofs.Vocabulary.{handed_over, still_to_tell, ended_at, broken_at, Loses, Lost, IsTsap, Message, ask, message, bye}
-use Rattle.osi_between.proofs.Vocabulary.{messages_after, begun_at, Terms, by_two, by_zero, refusing}
-use Rattle.osi_between.proofs.between.an_acting_end_keeps_the_invariant.{JoinedAt, Does, by_end, Each, all_from, acted}
+use Rattle.osi_between.proofs.Vocabulary.{◌≡◌, ℕ, ◌+◌, ◌<◌, ◌≤◌, Bool, true, false, not, List, [], ◌∷◌, ◌++◌, length, take, drop, Option}
+use Rattle.osi_between.proofs.Vocabulary.{Some, None, IfSome, refl, sym, ap, subst, ◌∙◌, append_assoc, arith, inl, inr, append-nil}
+use Rattle.osi_between.proofs.Vocabulary.{IsOctets, IsPacket, packet_of, Value, written, IsShortTsdu, Standing, may_connect, asks, sent}
+use Rattle.osi_between.proofs.Vocabulary.{closed_with, place_at, Happening, react, value_at, Connection, linked, State, ends, EndReason}
+use Rattle.osi_between.proofs.Vocabulary.{Closed, packet_reacts, reference_of, units_of, Both, side, reach_of, within_reach, arriving}
+use Rattle.osi_between.proofs.Vocabulary.{Between, last_of, units_from, lost_from, IsOnTheWay, AreJoinedBy, AreBetween, is_cut, to_come}
+use Rattle.osi_between.proofs.Vocabulary.{answers_in, Acted, becomes, Took, Same, handed_over, still_to_tell, ended_at, broken_at, Loses}
+use Rattle.osi_between.proofs.Vocabulary.{Lost, IsTsap, Message, ask, message, bye, messages_after, begun_at, Terms, by_two, by_zero}
+use Rattle.osi_between.proofs.between.an_acting_end_keeps_the_invariant.{Does, by_end, Each, all_from, acted}
 use Rattle.osi_between.proofs.unit.the_units_of_one_connection.{units_join}
 use Rattle.osi_between.proofs.joined.feeding_keeps_carriers_joined.{with_queues}
 use Rattle.osi_between.proofs.unit.units_are_read_as_messages.{messages_front}
-use Rattle.osi_between.proofs.way.octets_are_written_and_handed_over.{less_by, way_over, bound_over, way_takes, way_unit, way_breaks}
+use Rattle.osi_between.proofs.way.octets_are_written_and_handed_over.{way_over, bound_over, way_takes, way_unit, way_breaks}
 use Rattle.osi_between.proofs.joined.class_2_provides_what_is_asked.{Provides, closes_two}
-use Rattle.osi_between.proofs.zero.a_called_end_that_refuses_all.{none_open}
-use Rattle.osi_between.proofs.zero.class_0_provides_what_is_asked.{closes_zero}
 
 -- ---- reach
-
-less_own : (end : Bool) (k : ℕ) (reach : Option (ℕ × ℕ)) → less_by k (reach_of end reach) ≡ reach_of end (reach_less end k reach)
-less_own end k reach = grind arith
-
-less_other : (end : Bool) (k : ℕ) (reach : Option (ℕ × ℕ)) → reach_of (not end) reach ≡ reach_of (not end) (reach_less end k reach)
-less_other end k reach = grind arith
-
-less_none : (end : Bool) (k : ℕ) (reach : Option (ℕ × ℕ)) → reach_less end k reach ≡ None → reach ≡ None
-less_none end k reach e = grind arith
-
-pub less_some : (end : Bool) (k : ℕ) (reach : Option (ℕ × ℕ)) → is_some reach ≡ is_some (reach_less end k reach)
-less_some end k reach = grind arith
 
 -- ---- messages
 
@@ -43,29 +28,12 @@ record Front (all first : List Message) : Type 0 where
   gone : List Message
   parts : all ≡ first ++ gone
 
-front_same : (all first : List Message) → all ≡ first → Front all first
-front_same all first e = record { gone = []; parts = e ∙ sym (append-nil first) }
-
 front_parts : (o : Option Connection) (n : ℕ) (units done left tail : List Value) → units ≡ done ++ left →
     Front (messages_after (begun_at o) (units_of n units ++ tail)) (messages_after (begun_at o) (units_of n done ++ []))
 front_parts o n units done left tail parts =
     let us = units_of n done in
     let vs = units_of n left ++ tail in
-    let f = messages_front us (begun_at o) vs in
-    record {
-      gone = f.0;
-      parts = ap (λ (l : List Value). messages_after (begun_at o) (l ++ tail)) (ap (units_of n) parts ∙ units_join n done left)
-          ∙ ap (messages_after (begun_at o)) (append_assoc us (units_of n left) tail) ∙ f.1
-          ∙ ap (λ (l : List Value). messages_after (begun_at o) l ++ f.0) (sym (append-nil us));
-    }
-
-or_true : (b : Bool) → true ≡ (b || true)
-or_true b = grind arith
-
--- what is still to be cut into units is lost
-front_cut : (o : Option Connection) (n : ℕ) (units : List Value) (cut after : Bool) (c : Option Connection) → true ≡ after →
-    Front (sum_of o n units cut c) (sum_of o n units after c)
-front_cut o n units cut after c e = grind (arith, front_parts o n units units [] (to_come cut c) (sym (append-nil units)), append-nil units)
+    grind (arith, messages_front us (begun_at o) vs, units_join n done left, append_assoc us (units_of n left) tail, append-nil us)
 
 -- ---- the byte connection breaks
 
@@ -106,27 +74,17 @@ breaks terms both b k l a whole less less_called =
     record {
       now = now;
       between = record {
-        lives = by_end true (λ e. (side e new).state.ended ≡ None → (side e new).state ≡ last_of e now) (λ h. a.lives true h)
-            (λ h. a.lives false h);
+        lives = grind (arith, by_end);
         joined = subst (λ (us : List Value). AreJoinedBy terms b.caller b.called us (back.done ++ back.left))
             (all_parts b.going b.going_lost out.done out.left (a.unbroken whole true) out.parts)
             (subst (λ (us : List Value). AreJoinedBy terms b.caller b.called (b.going ++ b.going_lost) us)
             (all_parts b.coming b.coming_lost back.done back.left (a.unbroken whole false) back.parts) a.joined);
-        comes = by_end true (λ e. (side (not e) new).state.ended ≡ None →
-            IsOnTheWay (side (not e) new).held (arriving e new) (units_from e now) (lost_from e now)) (λ h. out.way h) (λ h. back.way h);
+        comes = grind (arith, by_end);
         unbroken = λ e x. cc;
         bound = by_end true (λ e. IfSome (reach_of e new.reach) (λ m. m ≤ length (side e new).state.outgoing)) less less_called;
       };
-      units = λ e. by_end true (λ x. units_from x b ++ lost_from x b ≡ units_from x now ++ lost_from x now)
-          (all_parts b.going b.going_lost out.done out.left (a.unbroken whole true) out.parts)
-          (all_parts b.coming b.coming_lost back.done back.left (a.unbroken whole false) back.parts) e;
-      loses = λ e n. by_end true (λ x. Loses x n both new b now)
-          (loses_of true n both new b now
-          (front_parts (connection_in (place_at n b.called)) n b.going out.done out.left
-          (to_come (is_cut true both) (connection_in (place_at n b.caller))) out.parts))
-          (loses_of false n both new b now
-          (front_parts (connection_in (place_at n b.caller)) n b.coming back.done back.left
-          (to_come (is_cut false both) (connection_in (place_at n b.called))) back.parts)) e;
+      units = grind (arith, by_end, all_parts);
+      loses = grind (arith, by_end, loses_of, front_parts);
       cut = λ e h. refl;
       whole = λ e n h. cc;
       stays = λ e n. by_end true (λ x. place_at n (last_of x now) ≡ place_at n (last_of x b)) refl refl e;
@@ -141,10 +99,6 @@ comes_to : (terms : Terms) (end : Bool) (both : Both) (b : Between) → AreBetwe
     IsOnTheWay (side end both).held (arriving (not end) both) (units_from (not end) b) (lost_from (not end) b)
 comes_to terms end both b a alive = grind arith
 
-joined_at : (terms : Terms) (end : Bool) (both : Both) (b : Between) → AreBetween terms both b →
-    JoinedAt end terms (last_of end b) (last_of (not end) b) (all_from end b) (all_from (not end) b)
-joined_at terms end both b a = grind arith
-
 -- a unit is taken
 takes : (terms : Terms) (p : Provides terms) (end : Bool) (both : Both) (b : Between) (u : Value) (rest : List Value) (behind : List ℕ) →
     AreBetween terms both b → (side end both).state.ended ≡ None → units_from (not end) b ≡ u ∷ rest →
@@ -156,10 +110,8 @@ takes terms p end both b u rest behind a alive first way =
     let put = answers_in terms (place_at (reference_of u) this) u in
     let lost = lost_from (not end) b in
     let d = p.takes_one end this (last_of (not end) b) (all_from end b) (all_from (not end) b) (rest ++ lost) u
-    (joined_at terms end both b a) (ap (λ (l : List Value). l ++ lost) first) in
-    subst (λ (s : State). Acted terms end (reference_of u) both (becomes end (react u s) behind both) b (u ∷ []) put)
-    (sym (a.lives end alive))
-    (acted terms end (reference_of u) both b (react u this) behind rest (u ∷ []) put a alive way first d)
+    (grind arith) (ap (λ (l : List Value). l ++ lost) first) in
+    grind (arith, a.lives end alive, acted terms end (reference_of u) both b (react u this) behind rest (u ∷ []) put a alive way first d)
 
 -- the packet that is held first is taken
 pub took : (terms : Terms) (p : Provides terms) (end : Bool) (both : Both) (b : Between) (packet octets behind : List ℕ) →
@@ -168,11 +120,7 @@ pub took : (terms : Terms) (p : Provides terms) (end : Bool) (both : Both) (b : 
 took terms p end both b packet octets behind a alive is cut =
     let w = way_takes packet octets behind (side end both).held (arriving (not end) both) (units_from (not end) b)
     (lost_from (not end) b) is cut (comes_to terms end both b a alive) in
-    search (
-      ap (after_packet (side end both).state) w.is
-          ∙ packet_reacts (side end both).state w.unit w.sendable,
-      takes terms p end both b w.unit w.left behind a alive w.parts w.way,
-    )
+    grind (arith, packet_reacts, takes terms p end both b w.unit w.left behind a alive w.parts w.way)
 
 -- the unit that comes first is taken
 pub took_unit : (terms : Terms) (p : Provides terms) (end : Bool) (both : Both) (b : Between) (u : Value) (rest : List Value)
@@ -199,7 +147,7 @@ sends terms p end both b n peer link tsdu a alive at short are =
     (sym same)
     (call terms end n both b (sent n tsdu (last_of end b)) (message tsdu ∷ []) a alive
     (p.hands_in end (last_of end b) (last_of (not end) b) (all_from end b) (all_from (not end) b) n peer link tsdu
-    (joined_at terms end both b a) (ap (λ (s : State). value_at n s.live) (sym same) ∙ at) short are))
+    (grind arith) (ap (λ (s : State). value_at n s.live) (sym same) ∙ at) short are))
 
 pub closes : (end : Bool) (both : Both) (b : Between) (n peer : ℕ) (link : Standing) (reason : ℕ) → AreBetween by_two both b →
     (side end both).state.ended ≡ None → value_at n (side end both).state.live ≡ Some (linked peer link) → reason < 256 →
@@ -210,13 +158,13 @@ closes end both b n peer link reason a alive at small =
     (sym same)
     (call by_two end n both b (closed_with n reason (last_of end b)) (bye reason ∷ []) a alive
     (closes_two end (last_of end b) (last_of (not end) b) (all_from end b) (all_from (not end) b) n peer link reason
-    (joined_at by_two end both b a) (ap (λ (s : State). value_at n s.live) (sym same) ∙ at) small))
+    (grind arith) (ap (λ (s : State). value_at n s.live) (sym same) ∙ at) small))
 
 -- in class 0 a close ends the carrier
 pub closes_ends : (end : Bool) (both : Both) (b : Between) (n peer : ℕ) (link : Standing) (reason : ℕ) → AreBetween by_zero both b →
     (side end both).state.ended ≡ None → value_at n (side end both).state.live ≡ Some (linked peer link) →
     closed_with n reason (side end both).state ≡ ends Closed (side end both).state
-closes_ends end both b n peer link reason a alive at = search (arith, closes_zero, all_from, joined_at)
+closes_ends end both b n peer link reason a alive at = search (arith, all_from)
 
 pub connects : (terms : Terms) (p : Provides terms) (both : Both) (b : Between) (calling to : Option (List ℕ)) → AreBetween terms both b →
     both.caller.state.ended ≡ None → may_connect both.caller.state ≡ None → IsTsap calling → IsTsap to →
@@ -244,7 +192,6 @@ over_at terms end each p both b k a less =
     let new = handed_over end k both in
     let rest = drop k (side end both).state.outgoing in
     let now : Between = with_last end (with_queues rest (last_of end b).events (last_of end b)) b in
-    let some = less_some end k both.reach in
     record {
       now = now;
       between = record {
@@ -255,26 +202,20 @@ over_at terms end each p both b k a less =
         comes = by_end end (λ e. (side (not e) new).state.ended ≡ None →
             IsOnTheWay (side (not e) new).held (arriving e new) (units_from e now) (lost_from e now))
             (λ h. subst (λ (r : Option ℕ). IsOnTheWay ((side (not end) both).held ++ take k (side end both).state.outgoing)
-            (within_reach r rest) (units_from end b) (lost_from end b)) (less_own end k both.reach)
+            (within_reach r rest) (units_from end b) (lost_from end b)) (grind arith)
             (way_over (reach_of end both.reach) k (side (not end) both).held (side end both).state.outgoing (units_from end b)
             (lost_from end b) less (a.bound end) (a.comes end h)))
             (λ h. subst (λ (r : Option ℕ). IsOnTheWay (side end both).held (within_reach r (side (not end) both).state.outgoing)
-            (units_from (not end) b) (lost_from (not end) b)) (less_other end k both.reach) (a.comes (not end) h));
-        unbroken = λ e x. by_end end (λ y. lost_from y now ≡ []) (a.unbroken (less_none end k both.reach e) end)
-            (a.unbroken (less_none end k both.reach e) (not end)) x;
+            (units_from (not end) b) (lost_from (not end) b)) (grind arith) (a.comes (not end) h));
+        unbroken = λ e x. grind (arith, by_end, a.unbroken (grind arith) end, a.unbroken (grind arith) (not end));
         bound = by_end end (λ e. IfSome (reach_of e new.reach) (λ m. m ≤ length (side e new).state.outgoing))
-            (subst (λ (r : Option ℕ). IfSome r (λ m. m ≤ length rest)) (less_own end k both.reach)
+            (subst (λ (r : Option ℕ). IfSome r (λ m. m ≤ length rest)) (grind arith)
             (bound_over (reach_of end both.reach) k (side end both).state.outgoing (a.bound end)))
-            (subst (λ (r : Option ℕ). IfSome r (λ m. m ≤ length (side (not end) both).state.outgoing)) (less_other end k both.reach)
-            (a.bound (not end)));
+            (grind (arith, a.bound (not end)));
       };
       units = λ e. by_end end (λ x. units_from x now ≡ units_from x b) refl refl e;
       lost = λ e. by_end end (λ x. lost_from x now ≡ lost_from x b) refl refl e;
-      under = λ e n. by_end end (λ x. under_way x n both b ≡ under_way x n new now)
-          (ap (λ (t : Bool). sum_of (connection_in (place_at n (last_of (not end) b))) n (units_from end b)
-          (t || is_some (side end both).state.ended) (connection_in (place_at n (last_of end b)))) some)
-          (ap (λ (t : Bool). sum_of (connection_in (place_at n (last_of end b))) n (units_from (not end) b)
-          (t || is_some (side (not end) both).state.ended) (connection_in (place_at n (last_of (not end) b)))) some) e;
+      under = grind (arith, by_end);
       stays = λ e n. by_end end (λ x. place_at n (last_of x now) ≡ place_at n (last_of x b)) refl refl e;
       given = λ e. by_end end (λ x. (last_of x now).given ≡ (last_of x b).given) refl refl e;
       class = λ e. by_end end (λ x. (last_of x now).class ≡ (last_of x b).class) refl refl e;
@@ -294,12 +235,9 @@ tells_at terms end each p both b events a =
             (λ h. ap (λ (s : State). record s { events = events }) (a.lives end h)) (λ h. a.lives (not end) h);
         joined = p.queued end (last_of end b) (last_of (not end) b) (last_of end b).outgoing events (all_from end b)
             (all_from (not end) b) a.joined;
-        comes = by_end end (λ e. (side (not e) new).state.ended ≡ None →
-            IsOnTheWay (side (not e) new).held (arriving e new) (units_from e now) (lost_from e now)) (λ h. a.comes end h)
-            (λ h. a.comes (not end) h);
+        comes = grind (arith, by_end);
         unbroken = λ e x. by_end end (λ y. lost_from y now ≡ []) (a.unbroken e end) (a.unbroken e (not end)) x;
-        bound = by_end end (λ e. IfSome (reach_of e new.reach) (λ m. m ≤ length (side e new).state.outgoing)) (a.bound end)
-            (a.bound (not end));
+        bound = grind (arith, by_end);
       };
       units = λ e. by_end end (λ x. units_from x now ≡ units_from x b) refl refl e;
       lost = λ e. by_end end (λ x. lost_from x now ≡ lost_from x b) refl refl e;
@@ -326,14 +264,9 @@ ends_by terms end each both b reason a =
             (λ e. IfSome (reach_of e new.reach) (λ m. m ≤ length (side e new).state.outgoing)) (a.bound end) (a.bound (not end)),
       );
       units = λ e. refl;
-      loses = λ e n. by_end end (λ x. Loses x n both new b b)
-          (loses_of end n both new b b
-          (front_cut (connection_in (place_at n (last_of (not end) b))) n (units_from end b) (is_cut end both)
-          (is_some both.reach || true) (connection_in (place_at n (last_of end b))) (or_true (is_some both.reach))))
-          (loses_of (not end) n both new b b (front_same (under_way (not end) n both b) (under_way (not end) n new b) refl)) e;
-      cut = λ e. by_end end (λ x. is_cut x both ≡ true → is_cut x new ≡ true) (λ h. sym (or_true (is_some both.reach))) (λ h. h) e;
-      whole = λ e n. by_end end (λ x. is_cut x new ≡ false → under_way x n both b ≡ under_way x n new b)
-          (λ h. (let no : true ≡ false = or_true (is_some both.reach) ∙ h in cc)) (λ h. refl) e;
+      loses = grind (arith, by_end, loses_of, front_parts, append-nil);
+      cut = λ e. by_end end (λ x. is_cut x both ≡ true → is_cut x new ≡ true) (λ h. sym (grind arith)) (λ h. h) e;
+      whole = grind (arith, by_end);
       stays = λ e n. refl;
       given = λ e. refl;
       class = λ e. refl;
@@ -350,8 +283,3 @@ tells terms p end both b events a = tells_at terms end (inr tt) p both b events 
 pub ends_at : (terms : Terms) (end : Bool) (both : Both) (b : Between) (reason : EndReason) → AreBetween terms both b →
     Lost terms both (ended_at end reason both) b
 ends_at terms end both b reason a = ends_by terms end (inr tt) both b reason a
-
--- if CRs are refused, no connection is open
-pub no_open : (reason : ℕ) (end : Bool) (both : Both) (b : Between) (n peer : ℕ) (link : Standing) → AreBetween (refusing reason) both b →
-    (side end both).state.ended ≡ None → value_at n (side end both).state.live ≡ Some (linked peer link) → ⊥
-no_open reason end both b n peer link a alive at = grind (arith, none_open)

@@ -1,15 +1,15 @@
 -- If no unit is in flight, nothing is in flight for a connection that is open at both ends.
 -- For the laws.
 use Rattle.osi_between.specs.Zero.{unasked, talking, at_end, from_end, Holds}
-use Rattle.osi_between.proofs.Vocabulary.{◌≡◌, ℕ, true, false, List, [], ◌∷◌, ◌++◌, Option, Some, None, refl, sym, subst, arith, Value}
-use Rattle.osi_between.proofs.Vocabulary.{LinkPair, Standing, quiet_unsent, nothing_begun, was_given, value_at, linked, State, packets}
-use Rattle.osi_between.proofs.Vocabulary.{Both, within_reach, Between, IsOnTheWay, AreJoinedBy, AreBetween, IsStill, IsAllThere, IsEmpty}
-use Rattle.osi_between.proofs.Vocabulary.{under_way_for, AreOpen, Terms, by_two, by_zero, refusing, ZeroCourse, HasOne}
+use Rattle.osi_between.proofs.Vocabulary.{◌≡◌, ℕ, true, false, List, [], ◌∷◌, ◌++◌, Some, refl, sym, subst, arith, Value, LinkPair}
+use Rattle.osi_between.proofs.Vocabulary.{Standing, nothing_begun, was_given, value_at, linked, State, packets, Both, Between, AreJoinedBy}
+use Rattle.osi_between.proofs.Vocabulary.{AreBetween, IsStill, IsAllThere, IsEmpty, under_way_for, AreOpen, Terms, by_two, by_zero}
+use Rattle.osi_between.proofs.Vocabulary.{refusing, ZeroCourse, HasOne}
 use Rattle.osi_between.proofs.joined.requests_beginnings_and_nothing_in_flight.{still, none_addressed}
 use Rattle.osi_between.proofs.meeting.a_connection_after_each_unit_and_call.{open_mirror}
 use Rattle.osi_between.proofs.joined.class_2_provides_what_is_asked.{linked_own}
 use Rattle.osi_between.proofs.zero.a_called_end_that_refuses_all.{none_open}
-use Rattle.osi_between.proofs.zero.class_0_provides_what_is_asked.{at_one, not_here, not_asked}
+use Rattle.osi_between.proofs.zero.class_0_provides_what_is_asked.{at_one}
 use Rattle.osi_between.proofs.zero.the_one_connection_of_class_0.{one_place, under_is}
 
 -- what is left of a connection that is open at both: nothing
@@ -20,17 +20,14 @@ pub record IsDone (n : ℕ) (s r : State) (link peer : Standing) : Type 0 where
 
 -- ---- class 0
 
-quiet_zero : (p : LinkPair) → AreOpen false p → p.rightward ≡ [] → p.leftward ≡ [] → p.left.ends.unsent ≡ []
-quiet_zero p a rightward leftward = grind (arith, quiet_unsent)
-
 done_links : (s r : State) (p : LinkPair) → HasOne s (was_given (Some (linked 1 p.left))) → HasOne r (was_given (Some (linked 1 p.right))) →
     AreOpen false p → p.rightward ≡ [] → p.leftward ≡ [] → IsDone 1 s r p.left p.right
-done_links s r p one other a rightward leftward = grind (arith, quiet_zero, open_mirror, nothing_begun, one_place, under_is)
+done_links s r p one other a rightward leftward = grind (arith, open_mirror, nothing_begun, one_place, under_is)
 
 done_by : (s r : State) (n p q : ℕ) (x y : Standing) (g : ZeroCourse) → HasOne s (at_end true g) → HasOne r (at_end false g) →
     [] ≡ from_end true r.local g → [] ≡ from_end false r.local g → Holds s.local r.local g → value_at n s.live ≡ Some (linked p x) →
     value_at n r.live ≡ Some (linked q y) → IsDone n s r x y
-done_by s r n p q x y unasked one other is back h at at_there = absurd (not_here s n (linked p x) one at)
+done_by s r n p q x y unasked one other is back h at at_there = absurd (grind arith)
 done_by s r n p q x y (talking l) one other is back h at at_there =
     let here = at_one s n (linked 1 l.left) (linked p x) one at in
     let there = at_one r n (linked 1 l.right) (linked q y) other at_there in
@@ -39,7 +36,7 @@ done_by s r n p q x y (talking l) one other is back h at at_there =
     subst (λ (m : ℕ). IsDone m s r x y) (sym here.reference)
     (subst (λ (z : Standing). IsDone 1 s r z y) left (subst (λ (z : Standing). IsDone 1 s r l.left z) right
     (done_links s r l one other h (none_addressed 1 l.rightward (sym is)) (none_addressed 1 l.leftward (sym back)))))
-done_by s r n p q x y g one other is back h at at_there = absurd (not_asked s n p x one at)
+done_by s r n p q x y g one other is back h at at_there = absurd (grind (arith, at_one))
 
 -- ---- whatever the two agree on
 
@@ -54,16 +51,12 @@ packets_none : (us : List Value) (front : List ℕ) → [] ≡ packets us ++ fro
 packets_none [] front e = refl
 packets_none (u ∷ us) front e = cc
 
-way_none : (held outgoing : List ℕ) (reach : Option ℕ) (us lost : List Value) → held ≡ [] → outgoing ≡ [] → reach ≡ None →
-    IsOnTheWay held (within_reach reach outgoing) us lost → us ≡ []
-way_none held outgoing reach us lost none empty whole w = grind (arith, packets_none)
-
 pub emptied : (terms : Terms) (both : Both) (b : Between) (n p q : ℕ) (x y : Standing) → AreBetween terms both b → IsStill both →
     value_at n both.caller.state.live ≡ Some (linked p x) → value_at n both.called.state.live ≡ Some (linked q y) → IsAllThere n both b x y
 emptied terms both b n p q x y a still at at_there =
     grind (
       arith,
-      way_none,
+      packets_none,
       done_at,
       a.lives true still.lasts,
       a.lives false still.lasts_called,

@@ -6,9 +6,10 @@ use Rattle.osi_between.proofs.Vocabulary.{State, Closed, Both, side, Between, Ar
 use Rattle.osi_between.proofs.Vocabulary.{hands_in, closes, tells, breaks, May, moved, MayAll, ended_behind, ended_by_all, StayBetween}
 use Rattle.osi_between.proofs.Vocabulary.{Terms, by_two, by_zero, refusing}
 use Rattle.osi_between.proofs.between.an_acting_end_keeps_the_invariant.{by_end, Each}
-use Rattle.osi_between.proofs.between.every_move_keeps_the_invariant.{took, sends, closes_ends, hands_over, ends_at, no_open}
+use Rattle.osi_between.proofs.between.every_move_keeps_the_invariant.{took, sends, closes_ends, hands_over, ends_at}
 use Rattle.osi_between.proofs.between.every_move_keeps_the_invariant as all
 use Rattle.osi_between.proofs.between.any_terms_provide_what_is_asked.{provides}
+use Rattle.osi_between.proofs.zero.a_called_end_that_refuses_all.{none_open}
 
 -- after one move
 record Stays (terms : Terms) (m : Move) (both : Both) : Type 0 where
@@ -22,9 +23,7 @@ took_stays terms true (inl none) both b packet octets behind alive t = absurd no
 took_stays terms end each both b packet octets behind alive t = record {
   now = t.acted.now;
   between = subst (λ (s : State). AreBetween terms (becomes end s behind both) t.acted.now) (sym t.acts) t.acted.between;
-  ended = by_end end (λ e. (side e (moved (takes end packet octets behind) both)).state.ended ≡ ended_behind terms e
-      (takes end packet octets behind) (side e both).state.ended)
-      (ap (λ (s : State). s.ended) t.acts ∙ t.acted.lasts ∙ sym alive) refl;
+  ended = grind (arith, by_end);
 }
 
 connect_stays : (terms : Terms) (both : Both) (b : Between) (calling to : Option (List ℕ)) → AreBetween terms both b →
@@ -55,10 +54,9 @@ close_stays by_zero end each both b n reason a may =
     record {
       now = t.now;
       between = subst (λ (s : State). AreBetween by_zero (becomes end s (side end both).held both) t.now) (sym is) t.between;
-      ended = by_end end (λ e. (side e (moved (closes end n reason) both)).state.ended ≡ ended_behind by_zero e (closes end n reason)
-          (side e both).state.ended) (ap (λ (s : State). s.ended) is) refl;
+      ended = grind (arith, by_end);
     }
-close_stays (refusing why) end each both b n reason a may = absurd (no_open why end both b n may.0.peer may.0.link a may.0.lasts may.0.is)
+close_stays (refusing why) end each both b n reason a may = absurd (grind (arith, none_open))
 
 one_stays : (terms : Terms) (m : Move) (both : Both) (b : Between) → AreBetween terms both b → May m both → Stays terms m both
 one_stays terms (carries end k) both b a may =
@@ -81,10 +79,7 @@ one_stays terms (breaks k l) both b a may =
     record {
       now = t.now;
       between = t.between;
-      ended =
-          by_end true (λ e. (side e (moved (breaks k l) both)).state.ended ≡ ended_behind terms e (breaks k l) (side e both).state.ended)
-          refl
-          refl;
+      ended = grind (arith, by_end);
     }
 
 pub all_stay : (terms : Terms) (ms : List Move) (both : Both) (b : Between) → AreBetween terms both b → MayAll ms both →

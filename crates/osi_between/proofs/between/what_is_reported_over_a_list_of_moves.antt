@@ -3,24 +3,22 @@
 use Rattle.osi_between.specs.Between.{under_way}
 use Rattle.osi_between.specs.Journey.{ends}
 use Rattle.osi_between.proofs.Vocabulary.{◌≡◌, ℕ, ◌+◌, Bool, true, false, not, List, [], ◌∷◌, ◌++◌, length, drop, Option, None, is_some}
-use Rattle.osi_between.proofs.Vocabulary.{refl, sym, ap, subst, ◌∙◌, append_assoc, nat_lt, if◌then◌else◌, arith, inl, inr, drop-append_seam}
-use Rattle.osi_between.proofs.Vocabulary.{side, flat_map, append-nil, Local, never, was_given, place_at, connection_in, Happening}
-use Rattle.osi_between.proofs.Vocabulary.{after_packet, value_at, State, Closed, reference_of, Both, Between, last_of, AreBetween, is_cut}
-use Rattle.osi_between.proofs.Vocabulary.{told_of, answers_in, Acted, becomes, Took, Same, Lost, handed_over, still_to_tell, fresh_both}
-use Rattle.osi_between.proofs.Vocabulary.{fresh_between, tsdus_told, tsdus_in, told_in, handed_in, all_told, all_handed_in, AreFirstOf}
-use Rattle.osi_between.proofs.Vocabulary.{progress_of, Move, carries, takes, connects, hands_in, closes, tells, breaks, May, moved, MayAll}
-use Rattle.osi_between.proofs.Vocabulary.{Message, ask, message, bye, Terms, by_two, by_zero, refusing, terms_of}
+use Rattle.osi_between.proofs.Vocabulary.{refl, sym, ap, subst, ◌∙◌, append_assoc, nat_lt, arith, inl, inr, drop-append_seam, side}
+use Rattle.osi_between.proofs.Vocabulary.{flat_map, append-nil, Local, place_at, Happening, after_packet, value_at, State, Closed}
+use Rattle.osi_between.proofs.Vocabulary.{reference_of, Both, Between, last_of, AreBetween, is_cut, told_of, answers_in, Acted, becomes}
+use Rattle.osi_between.proofs.Vocabulary.{Took, Same, Lost, fresh_both, fresh_between, tsdus_told, tsdus_in, told_in, handed_in, all_told}
+use Rattle.osi_between.proofs.Vocabulary.{all_handed_in, AreFirstOf, progress_of, Move, carries, takes, connects, hands_in, closes, tells}
+use Rattle.osi_between.proofs.Vocabulary.{breaks, May, moved, MayAll, Message, ask, message, bye, Terms, by_two, by_zero, refusing}
+use Rattle.osi_between.proofs.Vocabulary.{terms_of}
 use Rattle.osi_between.proofs.between.an_acting_end_keeps_the_invariant.{by_end, Each}
-use Rattle.osi_between.proofs.between.what_is_reported_was_handed_in.{first_none, first_more, first_through, first_behind, is_over}
-use Rattle.osi_between.proofs.between.what_is_reported_was_handed_in.{is_sealed, tsdus_under, sealed_same, or_left, or_still, Fact}
-use Rattle.osi_between.proofs.between.what_is_reported_was_handed_in.{fact_lost, fact_still, fact_plain, fact_handed, fact_taken}
-use Rattle.osi_between.proofs.between.what_is_reported_was_handed_in.{fact_called, acts_at, stays_open, may_be_open, answers_none}
-use Rattle.osi_between.proofs.between.every_move_keeps_the_invariant.{took, sends, closes_ends, hands_over, ends_at, no_open, less_some}
+use Rattle.osi_between.proofs.between.what_is_reported_was_handed_in.{first_none, first_more, is_over, is_sealed, tsdus_under, sealed_same}
+use Rattle.osi_between.proofs.between.what_is_reported_was_handed_in.{Fact, fact_lost, fact_still, fact_plain, fact_handed, fact_taken}
+use Rattle.osi_between.proofs.between.what_is_reported_was_handed_in.{fact_called, acts_at, stays_open, answers_none}
+use Rattle.osi_between.proofs.between.every_move_keeps_the_invariant.{took, sends, closes_ends, hands_over, ends_at}
 use Rattle.osi_between.proofs.between.every_move_keeps_the_invariant as all
 use Rattle.osi_between.proofs.between.any_terms_provide_what_is_asked.{provides, begins}
-
-drop_front : {A : Type 0} (xs ys : List A) → drop (length xs) (xs ++ ys) ≡ ys
-drop_front xs ys = drop-append_seam xs ys
+use Rattle.osi_between.proofs.zero.a_called_end_that_refuses_all.{none_open}
+use Rattle.osi_between.proofs.meeting.how_a_connection_changes_at_each_end.{is_given}
 
 -- after one move, with what it reported and what was handed in
 record Goes (terms : Terms) (m : Move) (both : Both) (b : Between) : Type 0 where
@@ -28,29 +26,17 @@ record Goes (terms : Terms) (m : Move) (both : Both) (b : Between) : Type 0 wher
   between : AreBetween terms (moved m both) now
   facts : (from : Bool) (n : ℕ) → Fact from (not from) n both (moved m both) b now (told_in (not from) n m both) (handed_in from n m)
 
--- a direction in which something may still be put is not cut off
-sealed_cut : (from : Bool) (n : ℕ) (both : Both) (b : Between) → is_sealed from n both b ≡ false → is_cut from both ≡ false
-sealed_cut from n both b s = or_left (is_cut from both) (is_over (progress_of (place_at n (last_of from b)))) s
-
-lost_sealed : (from : Bool) (n : ℕ) (old new : Both) (b c : Between) → (is_cut from old ≡ true → is_cut from new ≡ true) →
-    place_at n (last_of from c) ≡ place_at n (last_of from b) → is_sealed from n old b ≡ true → is_sealed from n new c ≡ true
-lost_sealed from n old new b c cut place s = grind (arith, or_still, is_over)
-
-same_fact : (terms : Terms) (from x : Bool) (n : ℕ) (both new : Both) (b : Between) → (t : Same terms both new b) →
-    is_cut from both ≡ is_cut from new → Fact from x n both new b t.now [] []
-same_fact terms from x n both new b t cut = search (arith, fact_still, sealed_same)
-
 lost_fact : (terms : Terms) (from x : Bool) (n : ℕ) (both new : Both) (b : Between) → (t : Lost terms both new b) →
     Fact from x n both new b t.now [] []
 lost_fact terms from x n both new b t =
     fact_lost from x n both new b t.now (t.loses from n).gone (t.loses from n).all (t.stays x n)
-    (λ s. t.whole from n (sealed_cut from n new t.now s)) (lost_sealed from n both new b t.now (t.cut from) (t.stays from n))
+    (λ s. t.whole from n (grind arith)) (grind (arith, is_over))
 
 -- ---- a packet
 
 told_is : (n : ℕ) (s t : State) (old new : State) (es : List Happening) → s ≡ old → t ≡ new → new.events ≡ old.events ++ es →
     tsdus_told n (drop (length s.events) t.events) ≡ tsdus_told n es
-told_is n s t old new es here now e = grind (arith, drop, length, drop_front)
+told_is n s t old new es here now e = grind (arith, drop, length, drop-append_seam)
 
 takes_at : (terms : Terms) (end : Bool) → Each → (both : Both) (b : Between) (packet octets behind : List ℕ) → AreBetween terms both b →
     (side end both).state.ended ≡ None → Took terms end packet behind both b → Goes terms (takes end packet octets behind) both b
@@ -66,10 +52,9 @@ takes_at terms end each both b packet octets behind a alive t =
       now = d.now;
       between = d.between;
       facts = λ from n. by_end end (λ f. Fact f (not f) n both (moved m both) b d.now (told_in (not f) n m both) (handed_in f n m))
-          (fact_plain terms end q n both (moved m both) b d.now (u ∷ []) put d.carries w
-          (answers_none terms (place_at q (last_of end b)) u))
+          (search (arith, fact_plain, answers_none))
           (fact_taken terms end q n both (moved m both) b d.now (u ∷ []) put (told_in end n m both) d.carries (refl, tt) w
-          (may_be_open terms end both b q a alive)
+          (grind (arith, is_given))
           (told_is n (side end both).state (after_packet (side end both).state packet) (last_of end b) (last_of end d.now)
           (flat_map (told_of terms q (place_at q (last_of end b))) d.carries.arrived)
           (a.lives end alive) (d.between.lives end d.lasts) d.carries.told)) from;
@@ -89,7 +74,7 @@ connect_goes terms both b calling to a may =
       between = d.between;
       facts = λ from n. by_end true (λ f. Fact f (not f) n both (moved m both) b d.now (told_in (not f) n m both) (handed_in f n m))
           (fact_plain terms true q n both (moved m both) b d.now [] (ask ∷ []) d.carries w refl)
-          (fact_called terms true q n both (moved m both) b d.now (ask ∷ []) d.carries w (may_be_open terms true both b q a may.0)) from;
+          (fact_called terms true q n both (moved m both) b d.now (ask ∷ []) d.carries w (grind (arith, is_given))) from;
     }
 
 send_goes : (terms : Terms) (end : Bool) → Each → (both : Both) (b : Between) (q : ℕ) (tsdu : List ℕ) → AreBetween terms both b →
@@ -107,7 +92,7 @@ send_goes terms end each both b q tsdu a may =
       facts = λ from n. by_end end (λ f. Fact f (not f) n both (moved m both) b d.now (told_in (not f) n m both) (handed_in f n m))
           (fact_handed terms end q n both (moved m both) b d.now [] tsdu d.carries w o)
           (fact_called terms end q n both (moved m both) b d.now (message tsdu ∷ []) d.carries w
-          (may_be_open terms end both b q a may.0.lasts)) from;
+          (grind (arith, is_given))) from;
     }
 
 close_goes : (terms : Terms) (end : Bool) → Each → (both : Both) (b : Between) (q reason : ℕ) → AreBetween terms both b →
@@ -135,7 +120,7 @@ close_goes by_zero end each both b q reason a may =
       facts = λ from n. by_end true (λ f. Fact f (not f) n both (moved m both) b t.now (told_in (not f) n m both) (handed_in f n m))
           (lost_fact by_zero true false n both (moved m both) b t) (lost_fact by_zero false true n both (moved m both) b t) from;
     }
-close_goes (refusing why) end each both b q reason a may = absurd (no_open why end both b q may.0.peer may.0.link a may.0.lasts may.0.is)
+close_goes (refusing why) end each both b q reason a may = absurd (grind (arith, none_open))
 
 -- ---- any move
 
@@ -148,7 +133,7 @@ same_goes terms m both b t cut told put = record {
   facts = λ from n. subst (λ (l : List (List ℕ)). Fact from (not from) n both (moved m both) b t.now l (handed_in from n m))
       (sym (told from n))
       (subst (λ (l : List (List ℕ)). Fact from (not from) n both (moved m both) b t.now [] l) (sym (put from n))
-      (same_fact terms from (not from) n both (moved m both) b t (cut from)));
+      (grind (arith, fact_still, sealed_same)));
 }
 
 lost_goes : (terms : Terms) (m : Move) (both : Both) (b : Between) → (t : Lost terms both (moved m both) b) →
@@ -156,26 +141,15 @@ lost_goes : (terms : Terms) (m : Move) (both : Both) (b : Between) → (t : Lost
 lost_goes terms m both b t told put = record {
   now = t.now;
   between = t.between;
-  facts = λ from n. subst (λ (l : List (List ℕ)). Fact from (not from) n both (moved m both) b t.now l (handed_in from n m))
-      (sym (told from n))
-      (subst (λ (l : List (List ℕ)). Fact from (not from) n both (moved m both) b t.now [] l) (sym (put from n))
-      (lost_fact terms from (not from) n both (moved m both) b t));
+  facts = λ from n. grind (arith, lost_fact terms from (not from) n both (moved m both) b t);
 }
 
 by_from : (P : Bool → Type 0) → P true → P false → (from : Bool) → P from
 by_from P a b from = grind arith
 
--- carrying octets and reporting events cut nothing off
-carried_cut : (end : Bool) (k : ℕ) (both : Both) (from : Bool) → is_cut from both ≡ is_cut from (handed_over end k both)
-carried_cut end k both from = grind (arith, is_some, less_some)
-
-told_cut : (end : Bool) (events : List Happening) (both : Both) (from : Bool) →
-    is_cut from both ≡ is_cut from (still_to_tell end events both)
-told_cut end events both from = grind arith
-
 move_goes : (terms : Terms) (m : Move) (both : Both) (b : Between) → AreBetween terms both b → May m both → Goes terms m both b
 move_goes terms (carries end k) both b a may =
-    same_goes terms (carries end k) both b (hands_over terms (provides terms) end both b k a may) (carried_cut end k both)
+    same_goes terms (carries end k) both b (hands_over terms (provides terms) end both b k a may) (grind (arith, is_some))
     (λ from n. by_from (λ f. told_in (not f) n (carries end k) both ≡ []) refl refl from)
     (λ from n. by_from (λ f. handed_in f n (carries end k) ≡ []) refl refl from)
 move_goes terms (takes end packet octets behind) both b a may =
@@ -185,7 +159,7 @@ move_goes terms (connects calling to) both b a may = connect_goes terms both b c
 move_goes terms (hands_in end q tsdu) both b a may = send_goes terms end (inr tt) both b q tsdu a may
 move_goes terms (closes end q reason) both b a may = close_goes terms end (inr tt) both b q reason a may
 move_goes terms (tells end events) both b a may =
-    same_goes terms (tells end events) both b (all.tells terms (provides terms) end both b events a) (told_cut end events both)
+    same_goes terms (tells end events) both b (all.tells terms (provides terms) end both b events a) (grind arith)
     (λ from n. by_from (λ f. told_in (not f) n (tells end events) both ≡ []) refl refl from)
     (λ from n. by_from (λ f. handed_in f n (tells end events) ≡ []) refl refl from)
 move_goes terms (ends end reason) both b a may =
@@ -212,24 +186,16 @@ record Told (from : Bool) (n : ℕ) (ms : List Move) (both : Both) (b : Between)
 ends_told : (told more under : List (List ℕ)) → more ≡ [] → AreFirstOf told under → AreFirstOf (told ++ more) under
 ends_told told more under none h = grind (arith, append-nil)
 
--- after it, only what is in flight is reported
-sealed_told : (told more under first : List (List ℕ)) → AreFirstOf (told ++ under) first → AreFirstOf more under →
-    AreFirstOf (told ++ more) first
-sealed_told told more under first f h = first_through (told ++ more) (told ++ under) first (first_behind told more under h) f
-
 whole_told : (told more under first put later : List (List ℕ)) → told ++ under ≡ first ++ put → AreFirstOf more (under ++ later) →
     AreFirstOf (told ++ more) (first ++ (put ++ later))
-whole_told told more under first put later f h = grind (arith, append_assoc, first_behind)
+whole_told told more under first put later f h = grind (arith, append_assoc)
 
 told_sealed : (terms : Terms) (from : Bool) (n : ℕ) (m : Move) (ms : List Move) (both : Both) (b : Between) (over : Bool) →
     (g : Goes terms m both b) → is_over (progress_of (place_at n (last_of (not from) g.now))) ≡ over → Told from n ms (moved m both) g.now →
     is_over (progress_of (place_at n (last_of (not from) b))) ≡ false → is_sealed from n both b ≡ true →
     AreFirstOf (all_told (not from) n (m ∷ ms) both) (tsdus_under from n both b)
 told_sealed terms from n m ms both b true g e r d s = grind (arith, ends_told, not, tsdus_under)
-told_sealed terms from n m ms both b false g e r d s =
-    let f = (g.facts from n).sealed d e s in
-    sealed_told (told_in (not from) n m both) (all_told (not from) n ms (moved m both)) (tsdus_under from n (moved m both) g.now)
-    (tsdus_under from n both b) f.1 (r.sealed e f.0)
+told_sealed terms from n m ms both b false g e r d s = grind (arith, append_assoc)
 
 told_first : (terms : Terms) (from : Bool) (n : ℕ) (m : Move) (ms : List Move) (both : Both) (b : Between) (over sealed : Bool) →
     (g : Goes terms m both b) → is_over (progress_of (place_at n (last_of (not from) g.now))) ≡ over →
@@ -246,9 +212,7 @@ told_first terms from n m ms both b false true g e s r d =
     let was = tsdus_under from n both b in
     let put = handed_in from n m in
     let later = all_handed_in from n ms in
-    subst (λ (l : List (List ℕ)). AreFirstOf (told ++ more) l) (append_assoc was put later)
-    (first_more (told ++ more) (was ++ put) later
-    (sealed_told told more (tsdus_under from n (moved m both) g.now) (was ++ put) ((g.facts from n).first d e) (r.sealed e s)))
+    grind (arith, append_assoc was put later, first_more (told ++ more) (was ++ put) later (grind (arith, append_assoc)))
 told_first terms from n m ms both b false false g e s r d = grind (arith, whole_told, not, tsdus_under)
 
 told_along : (terms : Terms) (from : Bool) (n : ℕ) (ms : List Move) (both : Both) (b : Between) → AreBetween terms both b → MayAll ms both →
@@ -278,11 +242,8 @@ told_from terms from n ms both b a may = grind (arith, told_was_handed_in, is_ov
 
 -- ---- from the beginning on
 
-fresh_conn_by : (n : ℕ) (b : Bool) → connection_in (if b then never else was_given None) ≡ None
-fresh_conn_by n b = grind arith
-
 fresh_none : (from : Bool) (n : ℕ) (caller called : Local) → under_way from n (fresh_both caller called) (fresh_between caller called) ≡ []
-fresh_none from n caller called = grind (arith, fresh_conn_by, nat_lt)
+fresh_none from n caller called = grind (arith, nat_lt)
 
 pub told_fresh : (caller called : Local) (ms : List Move) (from : Bool) (n : ℕ) → MayAll ms (fresh_both caller called) →
     AreFirstOf (all_told (not from) n ms (fresh_both caller called)) (all_handed_in from n ms)

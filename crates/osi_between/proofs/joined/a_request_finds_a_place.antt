@@ -3,12 +3,12 @@
 -- For joined carriers.
 use Rattle.osi_between.proofs.Vocabulary.{◌≡◌, ◌≢◌, ℕ, ◌+◌, ◌<◌, ◌≤◌, ◌==◌, Bool, true, false, List, [], ◌∷◌, ◌++◌, length, map, Option}
 use Rattle.osi_between.proofs.Vocabulary.{Some, None, refl, sym, ap, subst, ◌∙◌, arith, nat_lt, is_some, eq-eqb, eqb-true, ne_eqb, ltb-true}
-use Rattle.osi_between.proofs.Vocabulary.{ltb-false, map-append, Value, request, disconnect, disconnected, Local, dropped, references}
-use Rattle.osi_between.proofs.Vocabulary.{never, was_given, place_at, RiseFrom, AreUpTo, IsOrderly, Rows, value_at, without, Connection}
-use Rattle.osi_between.proofs.Vocabulary.{State, absent, beyond, push_here, without_here, push_other, without_other, push_rise, push_up}
-use Rattle.osi_between.proofs.Vocabulary.{without_rise, without_up, reference_of, units_of, asked_by, requests, behind, live_behind}
-use Rattle.osi_between.proofs.Vocabulary.{live_after, is_last, Course, at_end, from_end, AreJoined, farewell, found}
-use Rattle.osi_between.proofs.meeting.how_a_connection_changes_at_each_end.{given_place, is_given}
+use Rattle.osi_between.proofs.Vocabulary.{ltb-false, map-append, Value, request, disconnect, disconnected, dropped, references, never}
+use Rattle.osi_between.proofs.Vocabulary.{place_at, RiseFrom, AreUpTo, IsOrderly, Rows, value_at, without, Connection, State, absent}
+use Rattle.osi_between.proofs.Vocabulary.{beyond, push_here, without_here, push_other, without_other, push_rise, push_up, without_rise}
+use Rattle.osi_between.proofs.Vocabulary.{without_up, reference_of, units_of, asked_by, requests, behind, live_behind, live_after, is_last}
+use Rattle.osi_between.proofs.Vocabulary.{AreJoined, found}
+use Rattle.osi_between.proofs.meeting.how_a_connection_changes_at_each_end.{given_place}
 use Rattle.osi_between.proofs.unit.the_units_of_one_connection.{units_of_by}
 
 -- ---- references as a table
@@ -85,8 +85,7 @@ dropped_behind g d refs u rise up same none is stays =
       next = g;
       rise = subst (λ (l : Marks). RiseFrom 0 l) (sym rows) (without_rise 0 d (marked refs) rise);
       up = subst (λ (l : Marks). AreUpTo g l) (sym rows) (without_up g d (marked refs) up);
-      own = ap (λ (l : Marks). value_at (reference_of u) l) rows ∙ ap (λ (q : ℕ). value_at q (without d (marked refs))) is
-          ∙ without_here d (marked refs) rise ∙ sym stays;
+      own = grind (arith, without_here);
       other = λ q apart. ap (λ (l : Marks). value_at q l) rows ∙ without_other q d (marked refs) (λ e. apart (e ∙ sym is));
       numbers = λ k more e. (k, ap (λ (l : List ℕ). l ++ more) (sym none) ∙ e);
     }
@@ -104,18 +103,14 @@ asked_behind g n refs u rise up same asks is next stays =
       next = g + 1;
       rise = subst (λ (l : Marks). RiseFrom 0 l) (sym rows) (push_rise 0 g tt (marked refs) (omega arith) rise up);
       up = subst (λ (l : Marks). AreUpTo (g + 1) l) (sym rows) (push_up g tt (marked refs) up);
-      own = ap (λ (l : Marks). value_at (reference_of u) l) rows ∙ ap (λ (q : ℕ). value_at q (marked refs ++ (g + 1, tt) ∷ [])) (is ∙ next)
-          ∙ push_here (g + 1) tt (marked refs) (beyond (g + 1) g (marked refs) up (omega arith)) ∙ sym stays;
+      own = grind (arith, push_here, beyond);
       other = λ q apart. ap (λ (l : Marks). value_at q l) rows ∙ push_other q (g + 1) tt (marked refs) (λ e. apart (e ∙ sym next ∙ sym is));
       numbers = λ k more e. behind_numbers g k n more (ap (λ (l : List ℕ). l ++ more) (sym asks) ∙ e) next;
     }
 
-first_is : (g k n : ℕ) (more : List ℕ) → n ∷ more ≡ behind g k → n ≡ g + 1
-first_is g k n more e = grind arith
-
 one_behind : (g k : ℕ) (refs : List ℕ) (u : Value) (more : List ℕ) → RiseFrom 0 (marked refs) → AreUpTo g (marked refs) →
     asked_by u ++ more ≡ behind g k → Behind g refs u
-one_behind g k refs u more rise up e = grind (arith, asked_behind, first_is, dropped_behind, same_behind)
+one_behind g k refs u more rise up e = grind (arith, asked_behind, dropped_behind, same_behind)
 
 -- ---- units one after the other
 
@@ -139,10 +134,6 @@ after_all (u ∷ us) g k refs rise up e =
 
 -- ---- two tables in the order of references
 
--- a reference of a table is above what all its rows are above
-above_first : (x y : ℕ) (ys : Rows Connection) (b : Bool) → nat_lt y x ≡ b → RiseFrom y ys → is_some (value_at x ys) ≡ true → y < x
-above_first x y ys b e rise there = grind (arith, ltb-true, absent, ltb-false, is_some)
-
 sub_by : (ys : Rows Connection) (y : ℕ) (c : Connection) (m x : ℕ) (xs : Marks) (b : Bool) → (x == y) ≡ b → RiseFrom x xs → RiseFrom y ys →
     ((q : ℕ) → is_some (value_at q ((x, tt) ∷ xs)) ≡ true → is_some (value_at q ((y, c) ∷ ys)) ≡ true) →
     ((n : ℕ) (zs : Marks) → RiseFrom n zs → RiseFrom n ys → ((q : ℕ) → is_some (value_at q zs) ≡ true → is_some (value_at q ys) ≡ true) →
@@ -150,15 +141,9 @@ sub_by : (ys : Rows Connection) (y : ℕ) (c : Connection) (m x : ℕ) (xs : Mar
 sub_by ys y c m x xs true e rx ry h more = grind (arith, eqb-true, ne_eqb, absent, is_some, found)
 sub_by ys y c m x xs false e rx ry h more =
     let apart : (y == x) ≡ false = ne_eqb y x (λ is. let yes = eq-eqb x y (sym is) in cc) in
-    let there : is_some (value_at x ys) ≡ true =
-    sym (ap is_some (found x y c ys false apart)) ∙ h x (ap is_some (found x x tt xs true (eq-eqb x x refl))) in
-    let above : y < x = above_first x y ys (nat_lt y x) refl ry there in
+    let above : y < x = grind (arith, ltb-true, absent, ltb-false, is_some) in
     let rest = more y ((x, tt) ∷ xs) (above, rx) ry
-    (λ q in_xs.
-    let other : (y == q) ≡ false =
-    ne_eqb y q (λ is. let none = absent y y ((x, tt) ∷ xs) (omega arith) (above, rx) in let here =
-    ap (λ (n : ℕ). is_some (value_at n ((x, tt) ∷ xs))) is ∙ in_xs in let gone = sym (ap is_some none) ∙ here in cc) in
-    sym (ap is_some (found q y c ys false other)) ∙ h q in_xs) in
+    (grind (arith, ne_eqb, absent, found)) in
     omega arith
 
 sub_length : (ys : Rows Connection) (m : ℕ) (xs : Marks) → RiseFrom m xs → RiseFrom m ys →
@@ -169,23 +154,9 @@ sub_length ys m xs rx ry h = omega arith
 
 -- ---- a connection that is live after the units is live at the caller
 
-last_behind : (o : Option (Unit {0})) (u : Value) → is_last u ≡ true → stays_behind o u ≡ None
-last_behind o u e = grind arith
-
 last_after : (us : List Value) (u : Value) (o : Option (Unit {0})) → is_last u ≡ true → stays_after o (us ++ u ∷ []) ≡ None
-last_after [] u o e = last_behind o u e
+last_after [] u o e = grind arith
 last_after (v ∷ us) u o e = last_after us u (stays_behind o v) e
-
-farewell_last : (n : ℕ) (last : Option ℕ) → is_last (farewell n last) ≡ true
-farewell_last n last = grind arith
-
-live_at : (q : ℕ) (s : State) (x : Connection) → place_at q s ≡ was_given (Some x) → is_some (value_at q s.live) ≡ true
-live_at q s x at = ap is_some (is_given q s (Some x) at).is
-
-live_by : (q : ℕ) (s : State) (called : Local) (g : Course) (o : Option (Unit {0})) → place_at q s ≡ at_end true q g →
-    (at_end false q g ≡ never → o ≡ None) → (at_end false q g ≡ was_given None → o ≡ None) →
-    is_some (stays_after o (from_end true q called g)) ≡ true → is_some (value_at q s.live) ≡ true
-live_by q s called g o at unmade h h_ = grind (arith, is_some, live_at, last_after, farewell_last)
 
 never_live_by : (q : ℕ) (r : State) (b : Bool) → nat_lt r.given q ≡ b → IsOrderly r → place_at q r ≡ never → value_at q r.live ≡ None
 never_live_by q r b e orderly at = grind (arith, beyond, ltb-true, given_place, ltb-false)
@@ -194,7 +165,8 @@ live_behind_one : (q : ℕ) (b : Bool) (s r : State) (going coming : List Value)
     After (references r.live) going → is_some (value_at q (marked (live_after (references r.live) going))) ≡ true →
     is_some (value_at q s.live) ≡ true
 live_behind_one q false s r going coming e j a there = grind (arith, absent, ltb-false, is_some)
-live_behind_one q true s r going coming e j a there = grind (arith, live_by, marked_none, never_live_by, j.stands q (ltb-true 0 q e))
+live_behind_one q true s r going coming e j a there =
+    search (arith, is_some, last_after, marked_none, never_live_by, j.stands q (ltb-true 0 q e))
 
 marked_length : (refs : List ℕ) → length (marked refs) ≡ length refs
 marked_length [] = refl
@@ -207,5 +179,4 @@ no_more_live s r going coming j =
     (marked_up r.given r.live j.orderly_called.up_to) j.numbers in
     let few = sub_length s.live 0 (marked (live_after (references r.live) going)) a.rise j.orderly.rise
     (λ q there. live_behind_one q (nat_lt 0 q) s r going coming refl j a there) in
-    let same = marked_length (live_after (references r.live) going) in
-    omega arith
+    grind (arith, marked_length)

@@ -1,12 +1,12 @@
 -- The laws of two joined carriers in class 2, in the form in which the invariant uses them.
 -- For class 0 and the invariant.
-use Rattle.osi_between.proofs.Vocabulary.{◌≡◌, ℕ, ◌+◌, ◌<◌, Bool, true, List, [], ◌∷◌, ◌++◌, Option, Some, None, refl, sym, ap, subst, ◌∙◌}
-use Rattle.osi_between.proofs.Vocabulary.{arith, IsOctets, Value, IsShortTsdu, Standing, may_connect, asks, sent, closed_with, was_given}
-use Rattle.osi_between.proofs.Vocabulary.{place_at, Happening, react, value_at, linked, State, reference_of, answers_in, IsTsap, Course}
-use Rattle.osi_between.proofs.Vocabulary.{at_end, JoinedFrom, Did, Meeting, here, Message, ask, message, bye, Terms, by_two}
+use Rattle.osi_between.proofs.Vocabulary.{◌≡◌, ℕ, ◌+◌, ◌<◌, Bool, true, List, [], ◌∷◌, ◌++◌, Option, Some, None, ap, ◌∙◌, arith, IsOctets}
+use Rattle.osi_between.proofs.Vocabulary.{Value, IsShortTsdu, Standing, may_connect, asks, sent, closed_with, place_at, Happening, react}
+use Rattle.osi_between.proofs.Vocabulary.{value_at, linked, State, reference_of, answers_in, IsTsap, JoinedFrom, Did, Message, ask, message}
+use Rattle.osi_between.proofs.Vocabulary.{bye, Terms, by_two}
 use Rattle.osi_between.proofs.between.an_acting_end_keeps_the_invariant.{steps_two, JoinedAt, Does}
 use Rattle.osi_between.proofs.joined.requests_beginnings_and_nothing_in_flight.{caller_asks}
-use Rattle.osi_between.proofs.joined.joined_carriers_stay_joined.{seen, takes_one, sends, closes, given_live, within_given}
+use Rattle.osi_between.proofs.joined.joined_carriers_stay_joined.{seen, takes_one, sends, closes, within_given}
 use Rattle.osi_between.proofs.joined.feeding_keeps_carriers_joined.{with_queues, queued}
 
 -- what is asked of two carriers, whatever they agree on
@@ -38,22 +38,8 @@ does_two : (end : Bool) (n : ℕ) (this other next : State) (going coming rest t
     coming ≡ taken ++ rest → Did end n this other next going coming rest put → Does by_two end n this other next going coming rest taken put
 does_two end n this other next going coming rest taken put cut d = record {
   steps = steps_two n this other next going coming d.behind rest taken put cut (seen end next other d.behind rest d.joined).lasts d.acts;
-  joined = to_at end next other (going ++ d.acts.writes.units) rest
-      (subst (λ (l : List Value). JoinedFrom end next other l rest) d.acts.writes.written d.joined);
+  joined = grind (arith, to_at);
 }
-
-takes_two : (end : Bool) (this other : State) (going coming rest : List Value) (unit : Value) →
-    JoinedAt end by_two this other going coming → coming ≡ unit ∷ rest →
-    Does by_two end (reference_of unit) this other (react unit this) going coming rest (unit ∷ [])
-    (answers_in by_two (place_at (reference_of unit) this) unit)
-takes_two end this other going coming rest unit j cut = search (arith, does_two, takes_one, to_from)
-
--- the peer's number of an open connection is its own
-own_met : (n peer : ℕ) (link : Standing) (m : Meeting) → here n m ≡ Some (linked peer link) → peer ≡ n
-own_met n peer link m e = grind arith
-
-own_at : (end : Bool) (n peer : ℕ) (link : Standing) (g : Course) → at_end end n g ≡ was_given (Some (linked peer link)) → peer ≡ n
-own_at end n peer link g e = grind (arith, own_met)
 
 -- so its state is that of a connection whose peer's number is its own
 pub linked_own : (end : Bool) (this other : State) (going coming : List Value) (n peer : ℕ) (link : Standing) →
@@ -62,27 +48,21 @@ linked_own end this other going coming n peer link j at =
     let v = seen end this other going coming j in
     let st = v.stands n (within_given n this (linked peer link) v.orderly at).0 in
     at ∙ ap (λ (q : ℕ). Some (linked q link))
-    (own_at end n peer link st.course (sym st.place ∙ given_live n this (linked peer link) v.orderly at))
+    (grind arith)
 
 sends_two : (end : Bool) (this other : State) (going coming : List Value) (n peer : ℕ) (link : Standing) (tsdu : List ℕ) →
     JoinedAt end by_two this other going coming → value_at n this.live ≡ Some (linked peer link) → IsShortTsdu tsdu → IsOctets tsdu →
     Does by_two end n this other (sent n tsdu this) going coming coming [] (message tsdu ∷ [])
 sends_two end this other going coming n peer link tsdu j at short are =
     let k = to_from end this other going coming j in
-    does_two end n this other (sent n tsdu this) going coming coming [] (message tsdu ∷ []) refl
-    (sends end this other going coming n link tsdu k (linked_own end this other going coming n peer link k at) short are)
+    search (arith, does_two, sends, linked_own end this other going coming n peer link k at)
 
 pub closes_two : (end : Bool) (this other : State) (going coming : List Value) (n peer : ℕ) (link : Standing) (reason : ℕ) →
     JoinedAt end by_two this other going coming → value_at n this.live ≡ Some (linked peer link) → reason < 256 →
     Does by_two end n this other (closed_with n reason this) going coming coming [] (bye reason ∷ [])
 closes_two end this other going coming n peer link reason j at small =
     let k = to_from end this other going coming j in
-    does_two end n this other (closed_with n reason this) going coming coming [] (bye reason ∷ []) refl
-    (closes end this other going coming n link reason k (linked_own end this other going coming n peer link k at) small)
-
-queued_two : (end : Bool) (this other : State) (o : List ℕ) (e : List Happening) (going coming : List Value) →
-    JoinedAt end by_two this other going coming → JoinedAt end by_two (with_queues o e this) other going coming
-queued_two end this other o e going coming j = grind (arith, to_at, with_queues, queued, to_from)
+    search (arith, does_two, closes, linked_own end this other going coming n peer link k at)
 
 pub provides_two : Provides by_two
-provides_two = search (arith, takes_two, does_two, caller_asks, sends_two, queued_two)
+provides_two = search (arith, does_two, takes_one, to_from, caller_asks, sends_two, to_at, with_queues, queued)

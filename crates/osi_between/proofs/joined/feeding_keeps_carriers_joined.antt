@@ -1,10 +1,9 @@
 -- Feeding octets that the other end wrote keeps two carriers joined.
 -- For joined carriers, class 0, the invariant and the laws.
-use Rattle.osi_between.proofs.Vocabulary.{◌≡◌, ℕ, Bool, true, false, not, ◌≤◌, List, [], ◌∷◌, ◌++◌, length, take, drop, Option, None, refl}
-use Rattle.osi_between.proofs.Vocabulary.{sym, ap, subst, inl, inr, arith, AreLinked, with_state, with_events, TakesFor, WasFed, Fed, Value}
-use Rattle.osi_between.proofs.Vocabulary.{Local, fresh_state, AreComing, place_at, Happening, Carrying, Feeds, is_spoilt, react, State}
-use Rattle.osi_between.proofs.Vocabulary.{EndReason, orderly_same, reference_of, TakesUnits, TakesSome, Course, Holds, answers_at}
-use Rattle.osi_between.proofs.Vocabulary.{StandsBetween, AreJoined, JoinedFrom, ActsFor, Did, Message}
+use Rattle.osi_between.proofs.Vocabulary.{◌≡◌, ℕ, Bool, true, false, not, ◌≤◌, List, [], ◌∷◌, ◌++◌, length, take, refl, arith, AreLinked}
+use Rattle.osi_between.proofs.Vocabulary.{with_state, with_events, TakesFor, WasFed, Fed, Value, Local, fresh_state, AreComing, place_at}
+use Rattle.osi_between.proofs.Vocabulary.{Happening, Carrying, Feeds, react, State, orderly_same, reference_of, TakesUnits, TakesSome}
+use Rattle.osi_between.proofs.Vocabulary.{answers_at, StandsBetween, AreJoined, JoinedFrom, ActsFor, Did, Message}
 use Rattle.osi_between.proofs.way.units_are_taken_in_turn.{feeds_some, more_coming}
 use Rattle.osi_between.proofs.joined.requests_beginnings_and_nothing_in_flight.{fresh_joined}
 use Rattle.osi_between.proofs.joined.joined_carriers_stay_joined.{seen, takes_one}
@@ -14,13 +13,9 @@ use Rattle.osi_between.proofs.joined.joined_carriers_stay_joined.{seen, takes_on
 abbrev pub with_queues : List ℕ → List Happening → State → State
 with_queues outgoing events s = record s { outgoing = outgoing; events = events }
 
-holds_queues : (n : ℕ) (s r : State) (o p : List ℕ) (e f : List Happening) (g : Course) → Holds n s r g →
-    Holds n (with_queues o e s) (with_queues p f r) g
-holds_queues n s r o p e f g h = grind arith
-
 stands_queues : (n : ℕ) (s r : State) (o p : List ℕ) (e f : List Happening) (going coming : List Value) →
     StandsBetween true n s r going coming → StandsBetween true n (with_queues o e s) (with_queues p f r) going coming
-stands_queues n s r o p e f going coming h = grind (arith, holds_queues)
+stands_queues n s r o p e f going coming h = grind arith
 
 joined_queues : (s r : State) (o p : List ℕ) (e f : List Happening) (going coming : List Value) → AreJoined s r going coming →
     AreJoined (with_queues o e s) (with_queues p f r) going coming
@@ -53,9 +48,7 @@ behind_octets : (n : ℕ) (this other next : State) (going coming behind rest : 
     AreComing held this.outgoing going → ActsFor n this other next going coming behind rest put → AreComing held next.outgoing behind
 behind_octets n this other next going coming behind rest put held c a =
     let w = a.writes in
-    subst (λ (l : List Value). AreComing held next.outgoing l) (sym w.written)
-    (subst (λ (o : List ℕ). AreComing held o (going ++ w.units)) (sym w.outgoing)
-    (more_coming held this.outgoing going w.units c w.sendable))
+    grind (arith, more_coming held this.outgoing going w.units c w.sendable)
 
 took : (end : Bool) (done : List Value) (this other next : State) (going coming left : List Value) (held : List ℕ) →
     JoinedFrom end this other going coming → AreComing held this.outgoing going → coming ≡ done ++ left → TakesUnits this done next →
@@ -71,9 +64,6 @@ took end (u ∷ us) this other next going coming left held j c cut takes =
 
 -- ---- feeding
 
-lasts_sound : (o : Option EndReason) → o ≡ None → is_spoilt o ≡ false
-lasts_sound o e = ap is_spoilt e
-
 fed_ends : (end : Bool) (this other next : Carrying) (going coming : List Value) (used : ℕ)
     (t : TakesSome this other.state.outgoing coming used next) →
     (h : Took end this.state other.state t.reached going coming t.done t.left other.held.octets) →
@@ -84,23 +74,7 @@ fed_ends end this other next going coming used t h = record {
   behind = h.behind;
   reached = t.reached;
   takes = h.takes;
-  linked = elim t.how [
-    | inl same ↦ inr (
-      same,
-      (let joined = subst (λ (x : State). JoinedFrom end x other.state h.behind t.left) (sym same) h.joined in
-          let rest = with_queues (drop used other.state.outgoing) other.state.events other.state in
-          assumption (
-            joined_back end next.state rest h.behind t.left
-                (queued (not end) other.state next.state (drop used other.state.outgoing) other.state.events t.left h.behind
-                (joined_turned end next.state other.state h.behind t.left joined)),
-            subst
-                (λ (x : State). AreComing other.held.octets x.outgoing h.behind) (sym same) h.octets,
-            t.coming_then
-                (lasts_sound next.state.ended (seen end next.state other.state h.behind t.left joined).lasts),
-          )),
-    )
-    | inr none ↦ inl none
-  ];
+  linked = grind (arith, joined_back, queued, joined_turned, seen);
 }
 
 pub was_fed : (end : Bool) (this other next : Carrying) (going coming : List Value) (k : ℕ) (fed : Fed) →

@@ -1,18 +1,16 @@
 -- Two joined carriers stay joined when one of them acts.
 -- For joined carriers, the invariant and the laws.
-use Rattle.osi_between.proofs.Vocabulary.{◌≡◌, ◌≢◌, ℕ, zero, suc, ◌+◌, ◌<◌, ◌≤◌, Bool, true, false, not, List, [], ◌∷◌, ◌++◌, length, Some}
-use Rattle.osi_between.proofs.Vocabulary.{None, refl, sym, ap, subst, ◌∙◌, arith, length-append, nat_lt, AllByRecursion, eq-eqb, ne_eqb}
-use Rattle.osi_between.proofs.Vocabulary.{ltb-true, ltb-false, append_cancel_left, IsOctets, Value, Connect, request, confirm, IsShortTsdu}
-use Rattle.osi_between.proofs.Vocabulary.{Standing, Local, references, sent, closed_with, Place, never, was_given, place_at, RiseFrom}
-use Rattle.osi_between.proofs.Vocabulary.{IsOrderly, react, is_of_peer, has_peer, Rows, value_at, Connection, asked, linked, State, absent}
-use Rattle.osi_between.proofs.Vocabulary.{beyond, orderly_unit, orderly_sent, orderly_closed, has_room, reference_of, units_of, AreFor}
-use Rattle.osi_between.proofs.Vocabulary.{requests, behind, live_after, Course, asking, accepting, withdrawing, met, answer_of, at_end}
-use Rattle.osi_between.proofs.Vocabulary.{from_end, IsAskedBy, Holds, HoldsAt, called_local, asked_in, answers_at, CourseMoves}
-use Rattle.osi_between.proofs.Vocabulary.{StandsBetween, HasPlaces, AreJoined, JoinedFrom, Did, Meeting, mirror, here, out, Message, agree}
-use Rattle.osi_between.proofs.Vocabulary.{message, bye, found}
-use Rattle.osi_between.proofs.unit.the_units_of_one_connection.{first_of_all, requests_join, behind_join, places_join, places_rest}
-use Rattle.osi_between.proofs.unit.the_units_of_one_connection.{places_for}
-use Rattle.osi_between.proofs.meeting.how_a_connection_changes_at_each_end.{given_place, is_given, met_caller, met_called, answers_plain}
+use Rattle.osi_between.proofs.Vocabulary.{◌≡◌, ℕ, zero, suc, ◌+◌, ◌<◌, ◌≤◌, Bool, true, false, not, List, [], ◌∷◌, ◌++◌, length, Some, None}
+use Rattle.osi_between.proofs.Vocabulary.{refl, sym, ap, subst, ◌∙◌, arith, length-append, AllByRecursion, eq-eqb, ne_eqb, ltb-true}
+use Rattle.osi_between.proofs.Vocabulary.{ltb-false, append_cancel_left, IsOctets, Value, Connect, request, IsShortTsdu, Standing, Local}
+use Rattle.osi_between.proofs.Vocabulary.{references, sent, closed_with, Place, never, was_given, place_at, RiseFrom, IsOrderly, react}
+use Rattle.osi_between.proofs.Vocabulary.{is_of_peer, has_peer, Rows, value_at, Connection, asked, linked, State, absent, beyond}
+use Rattle.osi_between.proofs.Vocabulary.{orderly_unit, orderly_sent, orderly_closed, has_room, reference_of, units_of, AreFor, requests}
+use Rattle.osi_between.proofs.Vocabulary.{behind, live_after, Course, asking, accepting, withdrawing, met, at_end, from_end, IsAskedBy}
+use Rattle.osi_between.proofs.Vocabulary.{Holds, HoldsAt, called_local, answers_at, CourseMoves, StandsBetween, HasPlaces, AreJoined}
+use Rattle.osi_between.proofs.Vocabulary.{JoinedFrom, Did, mirror, here, out, Message, agree, message, bye, found, flat_map-append}
+use Rattle.osi_between.proofs.unit.the_units_of_one_connection.{first_of_all, behind_join, places_join, places_rest, places_for}
+use Rattle.osi_between.proofs.meeting.how_a_connection_changes_at_each_end.{given_place, is_given, met_caller, met_called}
 use Rattle.osi_between.proofs.meeting.how_a_connection_is_opened.{accepts_moves, accepted_sends, accepted_closes, confirm_moves}
 use Rattle.osi_between.proofs.meeting.how_a_connection_is_opened.{withdrawn_moves}
 use Rattle.osi_between.proofs.joined.each_connection_is_in_a_shared_state.{all_stand, acts_for, stands_flip, stands_flip_back}
@@ -51,7 +49,7 @@ joined_caller s r t going coming rest taken put n count some j st cut all orderl
       named_rest,
       named_join going mv.units j.named (named_for n mv.units some mv.acts.all_for),
       all_stand true n count s r t going coming rest taken put j.stands st cut all mv,
-      requests_join going mv.units,
+      flat_map-append,
       behind_join r.given j.ahead count,
       places_join (references r.live) going mv.units j.places fits,
     )
@@ -62,17 +60,13 @@ joined_called : (s r t : State) (going coming rest taken : List Value) (put : Li
     (j : AreJoined s r going coming) → going ≡ taken ++ rest → AreFor n taken → IsOrderly t →
     (mv : CourseMoves false n (j.stands n some).course r s t taken count put) → AreJoined s t rest (coming ++ mv.units)
 joined_called s r t going coming rest taken put n count some j cut all orderly mv =
-    let before = j.given in
     let after = mv.given in
     let left = length (requests rest) in
     let parts : behind r.given j.ahead ≡ behind r.given count ++ requests rest =
-    sym j.numbers ∙ ap requests cut ∙ requests_join taken rest ∙ ap (λ (l : List ℕ). l ++ requests rest) mv.numbers in
+    sym j.numbers ∙ ap requests cut ∙ (grind (arith, flat_map-append)) ∙ ap (λ (l : List ℕ). l ++ requests rest) mv.numbers in
     let sizes = sym (length_behind r.given j.ahead) ∙ ap length parts ∙ length-append (behind r.given count) (requests rest) in
     let one = length_behind r.given count in
-    let total : j.ahead ≡ count + left = omega arith in
-    let more : behind (r.given + count) left ≡ requests rest =
-    append_cancel_left (behind r.given count) (behind (r.given + count) left) (requests rest)
-    (sym (behind_join r.given count left) ∙ ap (λ (k : ℕ). behind r.given k) (sym total) ∙ parts) in
+    let more : behind (r.given + count) left ≡ requests rest = grind (arith, append_cancel_left, behind_join) in
     record {
       is_caller = j.is_caller;
       is_called = mv.acts.is_caller ∙ j.is_called;
@@ -92,8 +86,7 @@ joined_called s r t going coming rest taken put n count some j cut all orderly m
       ahead = left;
       given = omega arith;
       numbers = sym more ∙ ap (λ (g : ℕ). behind g left) (sym after);
-      places = subst (λ (l : List ℕ). HasPlaces l rest) (sym mv.places)
-          (places_rest (references r.live) taken rest (subst (λ (l : List Value). HasPlaces (references r.live) l) cut j.places));
+      places = grind (arith, places_rest);
     }
 
 -- ---- an end acts
@@ -121,10 +114,6 @@ abbrev Fits : Bool → State → List Value → List Value → Type 0
 Fits true other going units = HasPlaces (live_after (references other.live) going) units
 Fits false other going units = Unit {0}
 
-fits_none : (end : Bool) (other : State) (going units taken : List Value) → requests (asked_in end units taken) ≡ [] →
-    Fits end other going units
-fits_none end other going units taken e = grind (arith, places_for)
-
 joined_after : (end : Bool) (this other next : State) (going coming rest taken : List Value) (put : List Message) (n count : ℕ)
     (some : 0 < n) (j : JoinedFrom end this other going coming) → coming ≡ taken ++ rest → AreFor n taken → IsOrderly next →
     (mv : CourseMoves end n ((seen end this other going coming j).stands n some).course this other next taken count put) →
@@ -151,19 +140,14 @@ caller_takes : (n : ℕ) (s r : State) (going coming : List Value) (g : Course) 
     CourseMoves true n g s r (react u s) (u ∷ []) 0 (answers_at (at_end true n g) u)
 caller_takes n s r going coming (accepting c p) u more some j at h e =
     let here = is_given n s (Some asked) at in
-    let same : confirm n (answer_of n r.local c) ≡ u = cc in
-    subst (λ (x : Value). CourseMoves true n (accepting c p) s r (react x s) (x ∷ []) 0 []) same
-    (confirm_moves n c p s r h j.lasts j.is_caller j.class j.supports here.within here.is)
+    grind (arith, confirm_moves n c p s r h j.lasts j.is_caller j.class j.supports here.within here.is)
 caller_takes n s r going coming (withdrawing c p reason) u more some j at h e =
     let here = is_given n s (Some asked) at in
-    let same : confirm n (answer_of n r.local c) ≡ u = cc in
-    subst (λ (x : Value). CourseMoves true n (withdrawing c p reason) s r (react x s) (x ∷ []) 0 []) same
-    (withdrawn_moves n c p reason s r h j.lasts j.is_caller j.class j.supports here.within here.is)
+    grind (arith, withdrawn_moves n c p reason s r h j.lasts j.is_caller j.class j.supports here.within here.is)
 caller_takes n s r going coming (met m) u more some j at h e =
     let place = is_given n s (here n m) at in
-    met_caller n m s r (react u s) (u ∷ []) (answers_at (was_given (here n m)) u) h place.within (answers_plain (here n m) u)
-    (take_here n s m u more some (let most = j.orderly.given in let le =
-    place.within in omega arith) j.lasts h.class j.orderly place.is h.stands e)
+    met_caller n m s r (react u s) (u ∷ []) (answers_at (was_given (here n m)) u) h place.within (grind arith)
+    (take_here n s m u more some (grind arith) j.lasts h.class j.orderly place.is h.stands e)
 caller_takes n s r going coming g u more some j at h e = cc
 
 -- ---- the called end takes a unit
@@ -178,20 +162,8 @@ no_peer n m ((r, x) ∷ rows) rise h =
     (λ q y above at. h q y (let low = rise.0 in omega arith) (found q r x rows false (ne_eqb r q (λ same. omega arith)) ∙ at)) in
     rw first others
 
--- a live connection was given
-given_live_by : (q : ℕ) (r : State) (x : Connection) (b : Bool) → nat_lt r.given q ≡ b → IsOrderly r → value_at q r.live ≡ Some x →
-    place_at q r ≡ was_given (Some x)
-given_live_by q r x b e orderly at = grind (arith, beyond, ltb-true, given_place, ltb-false)
-
 pub given_live : (q : ℕ) (r : State) (x : Connection) → IsOrderly r → value_at q r.live ≡ Some x → place_at q r ≡ was_given (Some x)
-given_live q r x orderly at = given_live_by q r x (nat_lt r.given q) refl orderly at
-
-own_here : (n q : ℕ) (x : Connection) (m : Meeting) → q ≢ n → Some x ≡ here q m → is_of_peer n x ≡ false
-own_here n q x m other e = grind (arith, ne_eqb)
-
--- at the called end each connection has its own number
-own_number : (n q : ℕ) (x : Connection) (g : Course) → q ≢ n → was_given (Some x) ≡ at_end false q g → is_of_peer n x ≡ false
-own_number n q x g other e = grind (arith, ne_eqb, own_here)
+given_live q r x orderly at = grind (arith, beyond, ltb-true, given_place, ltb-false)
 
 -- the CR is for the next reference, and there is a place for it
 first_number : (g k n : ℕ) (more : List ℕ) → behind g k ≡ n ∷ more → (n ≡ g + 1) × (0 < k)
@@ -209,16 +181,11 @@ request_moves n s r going coming rest c some j at a cut =
     let first = first_number r.given j.ahead c.source (requests rest) (sym j.numbers ∙ ap requests cut) in
     let next : n ≡ r.given + 1 = sym source ∙ first.0 in
     let more = first.1 in
-    let total = j.given in
-    let most = j.orderly.given in
     let few : length (references r.live) < 64 = (subst (λ (l : List Value). HasPlaces (references r.live) l) cut j.places).0 in
     let size = references_length r.live in
     let free : has_peer c.source r.live ≡ false =
     no_peer c.source 0 r.live j.orderly_called.rise (λ q x above live.
-    let st = j.stands q above in
-    own_number c.source q x st.course (λ same. let there : place_at n r ≡ was_given (Some x) =
-    subst (λ (m : ℕ). place_at m r ≡ was_given (Some x)) (same ∙ source) (given_live q r x j.orderly_called live) in cc)
-    (sym (given_live q r x j.orderly_called live) ∙ st.place_there)) in
+    grind (arith, j.stands q above, given_live q r x j.orderly_called live)) in
     accepts_moves n c s r next a j.orderly_called j.lasts_called j.is_called j.class_called free (has_room r (omega arith) (omega arith))
     (omega arith) j.supports_called
 
@@ -238,9 +205,9 @@ called_takes n s r going coming rest (met m) u more some j at h cut e =
     record {
       count = 0;
       moves = met_called n m r s (react u r) (u ∷ []) (answers_at (was_given (here n (mirror m))) u) h place.within tt
-          (answers_plain (here n (mirror m)) u)
-          (take_here n r (mirror m) u more some (let most = j.orderly_called.given in let le =
-          place.within in omega arith) j.lasts_called h.class_called j.orderly_called place.is (mirror_stands m h.stands)
+          (grind arith)
+          (take_here n r (mirror m) u more some (let most = j.orderly_called.given in omega arith) j.lasts_called h.class_called
+          j.orderly_called place.is (mirror_stands m h.stands)
           (ap (out n) (mirror_twice m) ∙ e));
       fits = tt;
     }
@@ -253,7 +220,7 @@ takes_by : (end : Bool) (n : ℕ) (this other : State) (going coming rest : List
     from_end (not end) n (called_local end this other) g ≡ u ∷ more → Moved end n g this other going u
 takes_by true n s r going coming rest g u more some j at h cut e =
     let mv = caller_takes n s r going coming g u more some j at h e in
-    record { count = 0; moves = mv; fits = fits_none true r going mv.units (u ∷ []) mv.numbers }
+    record { count = 0; moves = mv; fits = (grind (arith, places_for)) }
 takes_by false n r s coming going rest g u more some j at h cut e = called_takes n s r going coming rest g u more some j at h cut e
 
 pub takes_one : (end : Bool) (this other : State) (going coming rest : List Value) (u : Value) → JoinedFrom end this other going coming →
@@ -272,12 +239,8 @@ takes_one end this other going coming rest u j cut =
 
 -- ---- calls
 
--- a live connection has a reference that was given, and its peer's number is that one
-above_zero : (n : ℕ) (s : State) (x : Connection) (b : Bool) → nat_lt 0 n ≡ b → IsOrderly s → value_at n s.live ≡ Some x → 0 < n
-above_zero n s x b e orderly at = grind (arith, ltb-true, absent, ltb-false)
-
 pub within_given : (n : ℕ) (s : State) (x : Connection) → IsOrderly s → value_at n s.live ≡ Some x → (0 < n) × (n ≤ s.given)
-within_given n s x orderly at = grind (arith, above_zero, is_given, given_live)
+within_given n s x orderly at = grind (arith, ltb-true, absent, ltb-false, is_given, given_live)
 
 sends_by : (end : Bool) (n : ℕ) (this other : State) (g : Course) (link : Standing) (octets : List ℕ) → this.ended ≡ None → IsOrderly this →
     place_at n this ≡ at_end end n g → HoldsAt end n this other g → value_at n this.live ≡ Some (linked n link) → n ≤ this.given →
@@ -305,7 +268,7 @@ sends end this other going coming n link octets j live short are =
     let st = v.stands n within.0 in
     let mv = sends_by end n this other st.course link octets v.lasts v.orderly st.place st.holds live within.1 short are in
     did end this other (sent n octets this) going coming coming [] (message octets ∷ []) n 0 within.0 j refl tt
-    (orderly_sent n octets this v.orderly) mv (fits_none end other going mv.units [] mv.numbers)
+    (orderly_sent n octets this v.orderly) mv (grind (arith, places_for))
 
 closes_by : (end : Bool) (n : ℕ) (this other : State) (g : Course) (link : Standing) (reason : ℕ) → 0 < n → reason < 256 →
     this.ended ≡ None → IsOrderly this → place_at n this ≡ at_end end n g → HoldsAt end n this other g →
@@ -334,4 +297,4 @@ closes end this other going coming n link reason j live small =
     let st = v.stands n within.0 in
     let mv = closes_by end n this other st.course link reason within.0 small v.lasts v.orderly st.place st.holds live within.1 in
     did end this other (closed_with n reason this) going coming coming [] (bye reason ∷ []) n 0 within.0 j refl tt
-    (orderly_closed n reason this v.orderly) mv (fits_none end other going mv.units [] mv.numbers)
+    (orderly_closed n reason this v.orderly) mv (grind (arith, places_for))

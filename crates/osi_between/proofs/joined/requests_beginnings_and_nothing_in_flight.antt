@@ -1,11 +1,11 @@
 -- The caller requests a connection; two new carriers are joined; and if no unit is in flight, no message is.
 -- For joined carriers, class 0, the invariant and the laws.
 use Rattle.osi_between.proofs.Vocabulary.{◌≡◌, ℕ, ◌+◌, ◌<◌, Bool, true, false, List, [], ◌∷◌, ◌++◌, length, Option, Some, None, refl, sym}
-use Rattle.osi_between.proofs.Vocabulary.{ap, ◌∙◌, inr, arith, if◌then◌else◌, lt-ltb, Value, LinkPair, swapped, IsQuiet, Standing, Given}
-use Rattle.osi_between.proofs.Vocabulary.{Local, quiet_unsent, nothing_begun, references, fresh_state, may_connect, asks, Place, never}
-use Rattle.osi_between.proofs.Vocabulary.{was_given, place_at, value_at, linked, State, free_of, orderly_asks, orderly_fresh, live_after}
-use Rattle.osi_between.proofs.Vocabulary.{Course, unasked, met, at_end, from_end, IsTsap, Holds, StandsBetween, AreJoined, Did}
-use Rattle.osi_between.proofs.Vocabulary.{under_way_for, IsEmpty, talking, addressed, ask, AreOpen}
+use Rattle.osi_between.proofs.Vocabulary.{ap, ◌∙◌, inr, arith, if◌then◌else◌, lt-ltb, Value, LinkPair, swapped, Standing, Given, Local}
+use Rattle.osi_between.proofs.Vocabulary.{quiet_unsent, nothing_begun, references, fresh_state, may_connect, asks, Place, never, was_given}
+use Rattle.osi_between.proofs.Vocabulary.{place_at, value_at, linked, State, free_of, orderly_asks, orderly_fresh, live_after, Course}
+use Rattle.osi_between.proofs.Vocabulary.{unasked, met, at_end, from_end, IsTsap, Holds, StandsBetween, AreJoined, Did, under_way_for}
+use Rattle.osi_between.proofs.Vocabulary.{IsEmpty, talking, addressed, ask, AreOpen}
 use Rattle.osi_between.proofs.meeting.how_a_connection_is_opened.{asks_moves}
 use Rattle.osi_between.proofs.joined.a_request_finds_a_place.{no_more_live}
 use Rattle.osi_between.proofs.joined.joined_carriers_stay_joined.{joined_caller, within_given, given_live}
@@ -13,9 +13,6 @@ use Rattle.osi_between.proofs.meeting.a_connection_after_each_unit_and_call.{ope
 use Rattle.osi_between.proofs.joined.each_connection_is_in_a_shared_state.{acts_for}
 
 -- ---- a connection is requested
-
-pub not_asked : (n : ℕ) (g : Course) → at_end true n g ≡ never → g ≡ unasked
-not_asked n g e = grind arith
 
 pub next_never : (s : State) (n : ℕ) → s.given < n → place_at n s ≡ never
 next_never s n above = ap (λ (b : Bool). if◌then◌else◌ {A = Place} b never (was_given (value_at n s.live))) (lt-ltb s.given n above)
@@ -39,10 +36,9 @@ caller_asks s r going coming calling called j may fits fits_called =
     let some : 0 < n = omega arith in
     let at : place_at n s ≡ never = next_never s n (omega arith) in
     let old = j.stands n some in
-    let st = fresh_course n s r going coming at old (not_asked n old.course (sym old.place ∙ at)) in
+    let st = fresh_course n s r going coming at old (grind arith) in
     let free = free_of s may in
     let mv = asks_moves s r calling called j.orderly free.left j.supports fits fits_called in
-    let few = free.room in
     let less = no_more_live s r going coming j in
     let room : length (live_after (references r.live) going) < 64 = omega arith in
     record {
@@ -54,12 +50,9 @@ caller_asks s r going coming calling called j may fits fits_called =
 
 -- ---- the beginning
 
-fresh_stands : (caller called : Local) (n : ℕ) → 0 < n → StandsBetween true n (fresh_state true caller) (fresh_state false called) [] []
-fresh_stands caller called n some = grind (arith, next_never)
-
 pub fresh_joined : (caller called : Local) → caller.class2 ≡ true → called.class2 ≡ true →
     AreJoined (fresh_state true caller) (fresh_state false called) [] []
-fresh_joined caller called a b = grind (arith, orderly_fresh, fresh_stands)
+fresh_joined caller called a b = grind (arith, orderly_fresh)
 
 -- ---- nothing is in flight
 
@@ -67,11 +60,8 @@ pub none_addressed : (n : ℕ) (gs : List Given) → addressed n gs ≡ [] → g
 none_addressed n [] e = refl
 none_addressed n (g ∷ gs) e = cc
 
-still_pair : (p : LinkPair) → AreOpen true p → p.rightward ≡ [] → p.leftward ≡ [] → IsQuiet p
-still_pair p a rightward leftward = grind arith
-
 still_unsent : (p : LinkPair) → AreOpen true p → p.rightward ≡ [] → p.leftward ≡ [] → p.left.ends.unsent ≡ []
-still_unsent p a rightward leftward = quiet_unsent p (inr (a.agree.window, a.agree.some, a.agree.agree)) (still_pair p a rightward leftward)
+still_unsent p a rightward leftward = quiet_unsent p (inr (a.agree.window, a.agree.some, a.agree.agree)) (grind arith)
 
 still_links : (p : LinkPair) → AreOpen true p → p.rightward ≡ [] → p.leftward ≡ [] → IsEmpty p.left p.right
 still_links p a rightward leftward =

@@ -1,13 +1,11 @@
 -- The effect of a carrier's calls on an open link, as turns of the two links of its connection.
 -- For connections of class 2 and class 0.
-use Rattle.osi_between.proofs.Vocabulary.{◌≡◌, ℕ, ◌<◌, Bool, true, false, List, [], ◌∷◌, ◌++◌, map, take, drop, Option, Result, Ok, Err}
-use Rattle.osi_between.proofs.Vocabulary.{refl, sym, ◌∙◌, ap, subst, arith, append_assoc, nat_lt, length, if◌then◌else◌, IfOk, hand_in}
-use Rattle.osi_between.proofs.Vocabulary.{give_out, take_in, hand_out, MovesAlong, zero_turns, said, oldest_in_class_0, oldest_in_class_2}
-use Rattle.osi_between.proofs.Vocabulary.{stays_short, move_sound, move_same, flat_map, AllByRecursion, append-nil, map-append}
-use Rattle.osi_between.proofs.Vocabulary.{flat_map-append, IsOctets, Value, LeftMoves, LinkPair, swapped, Turn, at_left, TurnsAlong}
-use Rattle.osi_between.proofs.Vocabulary.{opposite, left_in, right_out, under_way_before, under_way, HasWholeTsdus, IsShortTsdu}
-use Rattle.osi_between.proofs.Vocabulary.{TakesOldest, Ends, Flow, Sender, all_given, Joining, with_part, Standing, Given, taken, taken_by}
-use Rattle.osi_between.proofs.Vocabulary.{unit_of, with_tsdu, with_joined, with_sender, HasGivenInRange, LinkFault, TsduTooLong, in_range}
+use Rattle.osi_between.proofs.Vocabulary.{◌≡◌, ℕ, ◌<◌, Bool, true, false, List, [], ◌∷◌, ◌++◌, map, take, drop, Ok, refl, sym, ◌∙◌, ap}
+use Rattle.osi_between.proofs.Vocabulary.{subst, arith, append_assoc, hand_in, give_out, take_in, hand_out, MovesAlong, zero_turns, said}
+use Rattle.osi_between.proofs.Vocabulary.{oldest_in_class_0, oldest_in_class_2, stays_short, move_sound, flat_map, AllByRecursion}
+use Rattle.osi_between.proofs.Vocabulary.{append-nil, map-append, flat_map-append, IsOctets, LeftMoves, LinkPair, swapped, Turn, at_left}
+use Rattle.osi_between.proofs.Vocabulary.{TurnsAlong, opposite, left_in, right_out, under_way_before, under_way, HasWholeTsdus, IsShortTsdu}
+use Rattle.osi_between.proofs.Vocabulary.{TakesOldest, all_given, Standing, Given, taken, unit_of, with_tsdu, HasGivenInRange, in_range}
 use Rattle.osi_between.proofs.Vocabulary.{stays_octets, unit_fits, agree_turns, drained_moves, drained_ends, drained_leaves, choose_ok}
 use Rattle.osi_between.proofs.Vocabulary.{at_ok, turns_keep, whole_kept, stays_whole, other_way, pumped, handed_out, IsWell, IsSettled}
 use Rattle.osi_between.proofs.Vocabulary.{AgreeIn, AreOpen, links, Passes, after_send, after_take, LeftTakes}
@@ -27,19 +25,8 @@ along_join : (a b c : LinkPair) (ts us : List Turn) → TurnsAlong a ts b → Tu
 along_join a b c [] us e more = subst (λ (p : LinkPair). TurnsAlong p us c) e more
 along_join a b c (t ∷ ts) us (mid, first, rest) more = (mid, first, along_join mid b c ts us rest more)
 
-joined_outs : (f : Turn → List (List ℕ)) (ts us : List Turn) (xs ys : List (List ℕ)) → flat_map f ts ≡ xs → flat_map f us ≡ ys →
-    flat_map f (ts ++ us) ≡ xs ++ ys
-joined_outs f ts us xs ys a b = grind (arith, flat_map-append)
-
-joined_backs : (f : Turn → List (List ℕ)) (ts us : List Turn) (xs ys : List (List ℕ)) → flat_map f (map opposite ts) ≡ xs →
-    flat_map f (map opposite us) ≡ ys → flat_map f (map opposite (ts ++ us)) ≡ xs ++ ys
-joined_backs f ts us xs ys a b = grind (arith, map-append, joined_outs)
-
 pub turned_join : (a b c : LinkPair) (i j o p : List (List ℕ)) → Turned a b i o → Turned b c j p → Turned a c (i ++ j) (o ++ p)
-turned_join a b c i j o p first second = grind (arith, along_join, joined_outs, joined_backs)
-
-pub turned_none : (p : LinkPair) → Turned p p [] []
-turned_none p = record { turns = []; along = refl; sent = refl; none = refl; sent_back = refl; got = refl }
+turned_join a b c i j o p first second = grind (arith, along_join, flat_map-append, map-append)
 
 -- ---- giving
 
@@ -94,7 +81,7 @@ with_whole s whole = record s { ends = record s.ends { joining = record s.ends.j
 
 turned_out_by : (l r : Standing) (out back : List Given) (whole : List (List ℕ)) → l.ends.joining.whole ≡ whole →
     Turned (links l out r back) (links (handed_out l) out r back) [] (take 1 whole)
-turned_out_by l r out back [] e = grind (arith, drop, turned_none)
+turned_out_by l r out back [] e = grind (arith, drop)
 turned_out_by l r out back (t ∷ ts) e =
     let hands : l ≡ with_whole l (t ∷ drop 1 l.ends.joining.whole) =
     ap (λ (w : List (List ℕ)). with_whole l w) (e ∙ ap (λ (w : List (List ℕ)). t ∷ drop 1 w) (sym e)) in
@@ -106,10 +93,6 @@ turned_out_by l r out back (t ∷ ts) e =
       sent_back = refl;
       got = refl;
     }
-
-pub turned_out : (l r : Standing) (out back : List Given) →
-    Turned (links l out r back) (links (handed_out l) out r back) [] (take 1 l.ends.joining.whole)
-turned_out l r out back = turned_out_by l r out back l.ends.joining.whole refl
 
 -- ---- what turns keep
 
@@ -149,23 +132,14 @@ pub turned_passes : (two : Bool) (old new : LinkPair) (i o : List (List ℕ)) �
     AllByRecursion HasGivenInRange new.leftward → IsSettled new.left → IsSettled new.right → Passes two old new i o
 turned_passes two old new i o t short agree whole whole_back s s_back range range_back left right =
     let back = other_way old new t.turns t.along in
-    assumption (
+    grind (
+      arith,
+      stays_short,
       turned_right old new i o t whole,
       turned_left old new i o t whole_back,
       agree_turned two old new i o t agree,
-      stays_whole
-          old new t.turns whole t.along,
-      stays_whole (swapped old) (swapped new)
-          (map opposite t.turns) whole_back back,
-      stays_short old new t.turns whole s
-          (subst (λ (l : List (List ℕ)). AllByRecursion IsShortTsdu l) (sym t.sent) short) t.along,
-      stays_short (swapped old) (swapped new)
-          (map opposite t.turns) whole_back s_back
-          (subst (λ (l : List (List ℕ)). AllByRecursion IsShortTsdu l) (sym t.sent_back) tt) back,
-      range,
-      range_back,
-      left,
-      right,
+      stays_whole old new t.turns whole t.along,
+      stays_whole (swapped old) (swapped new) (map opposite t.turns) whole_back back,
     )
 
 -- ---- a link between calls
@@ -175,14 +149,10 @@ gives_well : (gs : List Given) (s t : Standing) → IsWell s → MovesAlong s (m
 gives_well [] s t h e = (subst (λ (l : Standing). IsWell l) (sym e) h, tt)
 gives_well (g ∷ gs) s t h (mid, first, rest) =
     let well : IsWell mid = assumption (move_sound (give_out g) s mid h.sound tt first, stays_octets s mid g h.sound h.octets first) in
-    let more = gives_well gs mid t well rest in
-    (more.0, (in_range s mid g h.sound h.octets first, more.1))
+    grind (arith, in_range, gives_well gs mid t well rest)
 
 pub pumped_well : (s : Standing) → IsWell s → IsWell (pumped s) × AllByRecursion HasGivenInRange (all_given s)
 pumped_well s h = gives_well (all_given s) s (pumped s) h (drained_moves s)
-
-pub pumped_settled : (s : Standing) → 0 < s.ends.limit → s.ends.joining.whole ≡ [] → IsWell s → IsSettled (pumped s)
-pumped_settled s limit handed well = grind (arith, drained_leaves, drained_ends, pumped_well)
 
 octets_behind : (ts : List (List ℕ)) (t : List ℕ) → AllByRecursion IsOctets ts → IsOctets t → AllByRecursion IsOctets (ts ++ t ∷ [])
 octets_behind [] t h is = (is, tt)
@@ -203,36 +173,9 @@ out_well s h = grind arith
 abbrev HasOne : Standing → Type 0
 HasOne s = drop 1 s.ends.joining.whole ≡ []
 
-part_one : (e : Ends) (flow : Option Flow) (end : Bool) (octets : List ℕ) → e.joining.whole ≡ [] →
-    HasOne (record { ends = record e { joining = with_part e.joining end octets }; flow = flow })
-part_one e flow end octets none = grind (arith, drop)
-
-joined_one : (e : Ends) (flow : Option Flow) (end : Bool) (octets : List ℕ) (long : Bool) → e.joining.whole ≡ [] →
-    IfOk (with_joined e flow (if long then Err TsduTooLong else Ok (with_part e.joining end octets))) HasOne
-joined_one e flow end octets long none = grind (arith, part_one)
-
-sender_one : (e : Ends) (f : Flow) (r : Result Sender LinkFault) → e.joining.whole ≡ [] → IfOk (with_sender e f r) HasOne
-sender_one e f r none = grind (arith, drop)
-
-taken_one_by : (e : Ends) (flow : Option Flow) (unit : Value) → e.joining.whole ≡ [] → IfOk (taken_by e flow unit) HasOne
-taken_one_by e flow unit none = grind (arith, joined_one, nat_lt, length, choose_ok, sender_one)
-
-taken_one : (s t : Standing) (unit : Value) → s.ends.joining.whole ≡ [] → taken s unit ≡ Ok t → HasOne t
-taken_one s t unit none e = at_ok HasOne (taken s unit) t (taken_one_by s.ends s.flow unit none) e
-
 -- what is to be sent does not change with a unit
 abbrev Unsent : List (List ℕ) → Standing → Type 0
 Unsent unsent s = s.ends.unsent ≡ unsent
-
-joined_unsent : (e : Ends) (flow : Option Flow) (r : Result Joining LinkFault) → IfOk (with_joined e flow r) (Unsent e.unsent)
-joined_unsent e flow r = grind arith
-
-sender_unsent : (e : Ends) (f : Flow) (r : Result Sender LinkFault) → IfOk (with_sender e f r) (Unsent e.unsent)
-sender_unsent e f r = grind arith
-
-taken_unsent_by : (e : Ends) (flow : Option Flow) (destination : ℕ) (g : Given) →
-    IfOk (taken_by e flow (unit_of destination g)) (Unsent e.unsent)
-taken_unsent_by e flow destination g = grind (arith, joined_unsent, choose_ok, sender_unsent)
 
 taken_well : (s t : Standing) (destination : ℕ) (g : Given) → destination < 65536 → HasGivenInRange g → IsWell s →
     taken s (unit_of destination g) ≡ Ok t → IsWell t
@@ -241,7 +184,7 @@ taken_well s t destination g few range h e =
       move_sound (take_in (unit_of destination g)) s t h.sound (unit_fits destination g few range).in_range e,
       subst
           (λ (l : List (List ℕ)). AllByRecursion IsOctets l)
-          (sym (at_ok (Unsent s.ends.unsent) (taken s (unit_of destination g)) t (taken_unsent_by s.ends s.flow destination g) e)) h.octets,
+          (sym (at_ok (Unsent s.ends.unsent) (taken s (unit_of destination g)) t (grind (arith, choose_ok)) e)) h.octets,
     )
 
 -- ---- the two calls at the left, whatever the peer
@@ -269,7 +212,7 @@ turned_take l t r out g rest destination is =
       got = refl;
     } in
     let all : Turned old new [] (got ++ []) =
-    turned_join old after new [] [] got [] (turned_join old mid after [] [] [] got first (turned_out t r out rest))
+    turned_join old after new [] [] got [] (turned_join old mid after [] [] [] got first (grind (arith, turned_out_by)))
     (turned_pumped (handed_out t) r out rest) in
     subst (λ (l : List (List ℕ)). Turned old new [] l) (append-nil got) all
 
@@ -288,7 +231,7 @@ sends_passes two p tsdu a short octets =
     turned_passes two p (after_send p tsdu) (tsdu ∷ []) [] (turned_send p.left p.right p.rightward p.leftward tsdu)
     (short, tt) a.agree a.whole a.whole_back a.short a.short_back
     (range_behind p.rightward (all_given (with_tsdu p.left tsdu)) a.range (pumped_well (with_tsdu p.left tsdu) well).1) a.range_back
-    (pumped_settled (with_tsdu p.left tsdu) a.left.limit a.left.handed well) a.right
+    (grind (arith, drained_leaves, drained_ends, pumped_well)) a.right
 
 oldest_taken : (two : Bool) (p : LinkPair) (unit : Given) (rest : List Given) (destination : ℕ) → AreOpen two p → AgreeIn two p →
     p.leftward ≡ unit ∷ rest → TakesOldest (swapped p) (unit_of destination unit) rest
@@ -300,18 +243,15 @@ left_takes_by : (two : Bool) (p : LinkPair) (g : Given) (rest : List Given) (des
 left_takes_by two p g rest destination few a e t =
     let range = subst (λ (us : List Given). AllByRecursion HasGivenInRange us) e a.range_back in
     let well = out_well t.new (taken_well p.left t.new destination g few range.0 a.left.well t.taken) in
-    let same = (move_same (take_in (unit_of destination g)) p.left t.new t.taken).0 in
-    let limit : 0 < t.new.ends.limit = (let before = a.left.limit in omega arith) in
     let got = take 1 t.new.ends.joining.whole in
     record {
       link = t.new;
       taken = t.taken;
       passes = turned_passes two p (after_take p t.new rest) [] got
-          (subst (λ (us : List Given). Turned (links p.left p.rightward p.right us) (after_take p t.new rest) [] got) (sym e)
-          (turned_take p.left t.new p.right p.rightward g rest destination t.taken))
+          (grind (arith, turned_take p.left t.new p.right p.rightward g rest destination t.taken))
           tt a.agree a.whole a.whole_back a.short a.short_back
           (range_behind p.rightward (all_given (handed_out t.new)) a.range (pumped_well (handed_out t.new) well).1) range.1
-          (pumped_settled (handed_out t.new) limit (taken_one p.left t.new (unit_of destination g) a.left.handed t.taken) well) a.right;
+          (grind (arith, drained_leaves, drained_ends, pumped_well)) a.right;
     }
 
 pub left_takes : (two : Bool) (p : LinkPair) (unit : Given) (rest : List Given) (destination : ℕ) → destination < 65536 → AreOpen two p →

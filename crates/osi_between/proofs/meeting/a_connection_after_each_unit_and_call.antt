@@ -2,30 +2,27 @@
 -- For connections of class 2, joined carriers, class 0, the invariant and the laws.
 use Rattle.osi_between.specs.Meeting.{Carries}
 use Rattle.osi_between.proofs.Vocabulary.{is_none, ◌≡◌, ℕ, ◌<◌, ◌||◌, Bool, true, false, List, [], ◌∷◌, ◌++◌, map, take, Some, None, refl}
-use Rattle.osi_between.proofs.Vocabulary.{sym, ap, subst, ◌∙◌, arith, uncut_units, list_any, Changes, Brings, progress_in, leaves_use}
-use Rattle.osi_between.proofs.Vocabulary.{there, append-nil, map-append, IsOctets, Value, disconnected, LinkPair, swapped, AreOfClass}
-use Rattle.osi_between.proofs.Vocabulary.{IsShortTsdu, all_given, Standing, Given, unit_of, is_of_two, with_tsdu, Two, sent, closed_with}
-use Rattle.osi_between.proofs.Vocabulary.{tsdu, closed, react, handed_out, IsOrderly, value_at, linked, State, reference_of, AreFor}
-use Rattle.osi_between.proofs.Vocabulary.{is_last, Meeting, talking, left_here, left_there, left_both, waiting_here, waiting_there, parted}
-use Rattle.osi_between.proofs.Vocabulary.{mirror, here, addressed, leaving, farewell, out, back, Stands, answers_of, Moves, AgreeIn}
-use Rattle.osi_between.proofs.Vocabulary.{AreOpen, after_take, after_send, Message, message, bye, over, messages_after}
-use Rattle.osi_between.proofs.unit.what_a_taken_unit_means.{brings_given, brings_sent, brings_shut, brings_ignored, brings_bye}
-use Rattle.osi_between.proofs.unit.what_a_taken_unit_means.{brings_crossed}
-use Rattle.osi_between.proofs.meeting.what_is_in_flight_for_a_connection.{parting_is, talking_takes, talking_sends, talking_closes}
-use Rattle.osi_between.proofs.meeting.what_is_in_flight_for_a_connection.{behind_takes, behind_sends, leaving_takes, behind_closes, ignores}
-use Rattle.osi_between.proofs.meeting.what_is_in_flight_for_a_connection.{kinds_first, both_takes, waiting_over, waiting_crossed}
+use Rattle.osi_between.proofs.Vocabulary.{sym, ap, ◌∙◌, arith, uncut_units, list_any, Changes, Brings, progress_in, leaves_use, there}
+use Rattle.osi_between.proofs.Vocabulary.{append-nil, map-append, IsOctets, Value, disconnected, LinkPair, swapped, AreOfClass, IsShortTsdu}
+use Rattle.osi_between.proofs.Vocabulary.{all_given, Standing, Given, unit_of, with_tsdu, Two, sent, closed_with, tsdu, closed, react}
+use Rattle.osi_between.proofs.Vocabulary.{handed_out, IsOrderly, value_at, linked, State, AreFor, is_last, Meeting, talking, left_here}
+use Rattle.osi_between.proofs.Vocabulary.{left_there, left_both, waiting_here, waiting_there, parted, mirror, here, addressed, leaving}
+use Rattle.osi_between.proofs.Vocabulary.{farewell, out, back, Stands, answers_of, Moves, AreOpen, after_take, after_send, Message, message}
+use Rattle.osi_between.proofs.Vocabulary.{bye, over}
+use Rattle.osi_between.proofs.unit.what_a_taken_unit_means.{brings_given, brings_sent, brings_ignored}
+use Rattle.osi_between.proofs.meeting.what_is_in_flight_for_a_connection.{talking_takes, talking_sends, talking_closes, behind_takes}
+use Rattle.osi_between.proofs.meeting.what_is_in_flight_for_a_connection.{behind_sends, leaving_takes, behind_closes, ignores, kinds_first}
+use Rattle.osi_between.proofs.meeting.what_is_in_flight_for_a_connection.{both_takes, waiting_over, waiting_crossed}
 use Rattle.osi_between.proofs.meeting.what_a_unit_or_call_changes.{given_changes, given_ignored, leaving_changes, crossed_changes}
 use Rattle.osi_between.proofs.meeting.what_a_unit_or_call_changes.{over_changes, send_changes, close_changes}
-use Rattle.osi_between.proofs.unit.a_unit_fits_a_packet.{all_sendable, range_end, leaving_sendable, over_sendable}
+use Rattle.osi_between.proofs.unit.a_unit_fits_a_packet.{all_sendable, range_end}
 use Rattle.osi_between.proofs.link.a_call_is_turns_of_two_links.{left_takes, sends_passes}
+use Rattle.osi_between.proofs.unit.units_are_read_as_messages.{kinds_begun}
 
 -- ---- from the other side
 
-agree_mirror : (two : Bool) (p : LinkPair) → AgreeIn two p → AgreeIn two (swapped p)
-agree_mirror two p a = grind arith
-
 pub open_mirror : (two : Bool) (p : LinkPair) → AreOpen two p → AreOpen two (swapped p)
-open_mirror two p a = grind (arith, agree_mirror)
+open_mirror two p a = grind arith
 
 pub mirror_stands : (m : Meeting) → Stands m → Stands (mirror m)
 mirror_stands m h = grind (arith, open_mirror)
@@ -46,15 +43,9 @@ class_join (u ∷ us) vs a b = (a.0, class_join us vs a.1 b)
 pub addressed_join : (n : ℕ) (us vs : List Given) → addressed n (us ++ vs) ≡ addressed n us ++ addressed n vs
 addressed_join n us vs = map-append (unit_of n) us vs
 
-first_two : (p : LinkPair) (g : Given) (gs : List Given) → AreOpen true p → p.leftward ≡ g ∷ gs → is_of_two g ≡ true
-first_two p g gs a e = (subst (λ (us : List Given). AreOfClass true us) e a.agree.agree_back.class).0
-
-unit_for : (n : ℕ) (g : Given) → is_of_two g ≡ true → reference_of (unit_of n g) ≡ n
-unit_for n g e = grind arith
-
 pub addressed_for : (n : ℕ) (gs : List Given) → AreOfClass true gs → AreFor n (addressed n gs)
 addressed_for n [] h = tt
-addressed_for n (g ∷ gs) h = (unit_for n g h.0, addressed_for n gs h.1)
+addressed_for n (g ∷ gs) h = (grind arith, addressed_for n gs h.1)
 
 given_stays : (n : ℕ) (g : Given) → is_last (unit_of n g) ≡ false
 given_stays n g = grind arith
@@ -70,11 +61,9 @@ take_talking n s p g gs some few quiet class orderly at a e =
       new = talking (after_take p t.link gs);
       units = addressed n (all_given (handed_out t.link));
       events = map (tsdu n) (take 1 t.link.ends.joining.whole);
-      changes = given_changes n s p.left t.link g quiet class orderly (first_two p g gs a e) at t.taken;
-      all_for = addressed_for n (all_given (handed_out t.link))
-          (class_end p.rightward (all_given (handed_out t.link)) t.passes.stay_open.agree.agree.class);
-      sendable = all_sendable n (all_given (handed_out t.link)) few
-          (range_end p.rightward (all_given (handed_out t.link)) t.passes.stay_open.range);
+      changes = given_changes n s p.left t.link g quiet class orderly (grind arith) at t.taken;
+      all_for = search (arith, addressed_for, class_end);
+      sendable = search (arith, all_sendable, range_end);
       there = refl;
       out = addressed_join n p.rightward (all_given (handed_out t.link));
       back = ap (addressed n) e;
@@ -95,11 +84,9 @@ take_behind n s p hs reason g gs some few quiet class orderly at a two e =
       new = left_there (after_take p t.link gs) (hs ++ given) reason;
       units = addressed n given;
       events = map (tsdu n) (take 1 t.link.ends.joining.whole);
-      changes = given_changes n s p.left t.link g quiet class orderly (first_two p g gs a e) at t.taken;
-      all_for = addressed_for n (all_given (handed_out t.link))
-          (class_end p.rightward (all_given (handed_out t.link)) t.passes.stay_open.agree.agree.class);
-      sendable = all_sendable n (all_given (handed_out t.link)) few
-          (range_end p.rightward (all_given (handed_out t.link)) t.passes.stay_open.range);
+      changes = given_changes n s p.left t.link g quiet class orderly (grind arith) at t.taken;
+      all_for = search (arith, addressed_for, class_end);
+      sendable = search (arith, all_sendable, range_end);
       there = refl;
       out = addressed_join n hs given;
       back = ap (λ (us : List Given). addressed n us ++ leaving n reason ∷ []) e;
@@ -119,14 +106,14 @@ take_leaving n s p hs reason some few quiet class orderly at two e = record {
   events = closed n reason ∷ [];
   changes = leaving_changes n s p.left reason quiet class orderly at;
   all_for = (refl, tt);
-  sendable = (over_sendable n few, tt);
+  sendable = (grind arith, tt);
   there = refl;
   out = refl;
   back = ap (λ (us : List Given). addressed n us ++ leaving n reason ∷ []) e;
   goes = refl;
   stands = two;
   carries = leaving_takes n p hs reason some e;
-  brings = brings_bye n reason p.left (λ units. ap (λ (m : Message). m ∷ messages_after [] units) (parting_is n reason some));
+  brings = grind arith;
   keeps = λ e. cc;
 }
 
@@ -144,8 +131,7 @@ take_talking_by : (n : ℕ) (s : State) (p : LinkPair) (gs : List Given) (unit :
     back n (talking p) ≡ unit ∷ rest → Moves n (talking p) s (react unit s) (unit ∷ []) (answers_of (here n (talking p)) unit)
 take_talking_by n s p [] unit rest some few quiet class orderly at a e b = let none = sym (ap (addressed n) e) ∙ b in cc
 take_talking_by n s p (g ∷ gs) unit rest some few quiet class orderly at a e b =
-    at_head n (talking p) s (unit_of n g) unit (addressed n gs) rest [] (ap (addressed n) e) b (given_answers n p.left g)
-    (take_talking n s p g gs some few quiet class orderly at a e)
+    grind (arith, at_head, given_answers n p.left g, take_talking n s p g gs some few quiet class orderly at a e)
 
 take_behind_by : (n : ℕ) (s : State) (p : LinkPair) (hs : List Given) (reason : ℕ) (gs : List Given) (unit : Value) (rest : List Value) →
     0 < n → n < 65536 → s.ended ≡ None → s.class ≡ Some Two → IsOrderly s → value_at n s.live ≡ Some (linked n p.left) → AreOpen true p →
@@ -153,9 +139,7 @@ take_behind_by : (n : ℕ) (s : State) (p : LinkPair) (hs : List Given) (reason 
     Moves n (left_there p hs reason) s (react unit s) (unit ∷ []) (answers_of (here n (left_there p hs reason)) unit)
 take_behind_by n s p hs reason [] unit rest some few quiet class orderly at a two e b = grind (arith, at_head, take_leaving)
 take_behind_by n s p hs reason (g ∷ gs) unit rest some few quiet class orderly at a two e b =
-    at_head n (left_there p hs reason) s (unit_of n g) unit (addressed n gs ++ leaving n reason ∷ []) rest []
-    (ap (λ (us : List Given). addressed n us ++ leaving n reason ∷ []) e) b (given_answers n p.left g)
-    (take_behind n s p hs reason g gs some few quiet class orderly at a two e)
+    grind (arith, at_head, given_answers n p.left g, take_behind n s p hs reason g gs some few quiet class orderly at a two e)
 
 -- a unit that is not answered and not reported
 takes_quietly : (n : ℕ) (old new : Meeting) (s t : State) (unit : Value) → Changes n s t (here n new) [] [] → there n new ≡ there n old →
@@ -184,7 +168,7 @@ take_here n s (left_both hs reason [] other) unit rest some few quiet class orde
     (takes_quietly n (left_both hs reason [] other) (waiting_there hs (Some reason)) s _ (leaving n other)
     (crossed_changes n s other quiet class orderly at) refl refl refl
     refl h.0 (both_takes n hs reason other some)
-    (brings_crossed n other (λ units. ap (λ (m : Message). m ∷ messages_after [] units) (parting_is n other some))) (λ e. refl))
+    (grind arith) (λ e. refl))
 take_here n s (left_both hs reason (g ∷ gs) other) unit rest some few quiet class orderly at h b =
     at_head n (left_both hs reason (g ∷ gs) other) s (unit_of n g) unit (addressed n gs ++ leaving n other ∷ []) rest [] refl b refl
     (takes_quietly n (left_both hs reason (g ∷ gs) other) (left_both hs reason gs other) s _ (unit_of n g)
@@ -194,14 +178,13 @@ take_here n s (left_both hs reason (g ∷ gs) other) unit rest some few quiet cl
     (λ e. refl))
 take_here n s (waiting_here [] None) unit rest some few quiet class orderly at h b =
     at_head n (waiting_here [] None) s (disconnected n n) unit [] rest [] refl b refl
-    (takes_quietly n (waiting_here [] None) parted s _ (disconnected n n) (over_changes n s quiet class orderly at) refl refl refl
-    refl tt (waiting_over n) (record { is = refl; more = λ units. refl; may = (refl, tt); becomes = refl }) (λ e. refl))
+    (search (arith, takes_quietly, over_changes n s quiet class orderly at, waiting_over n))
 take_here n s (waiting_here [] (Some reason)) unit rest some few quiet class orderly at h b =
     at_head n (waiting_here [] (Some reason)) s (leaving n reason) unit [] rest [] refl b refl
     (takes_quietly n (waiting_here [] (Some reason)) parted s _ (leaving n reason)
     (crossed_changes n s reason quiet class orderly at) refl refl refl
     refl tt (waiting_crossed n reason some)
-    (brings_crossed n reason (λ units. ap (λ (m : Message). m ∷ messages_after [] units) (parting_is n reason some))) (λ e. refl))
+    (grind arith) (λ e. refl))
 take_here n s (waiting_here (g ∷ gs) last) unit rest some few quiet class orderly at h b =
     at_head n (waiting_here (g ∷ gs) last) s (unit_of n g) unit (addressed n gs ++ farewell n last ∷ []) rest [] refl b refl
     (takes_quietly n (waiting_here (g ∷ gs) last) (waiting_here gs last) s _ (unit_of n g)
@@ -223,10 +206,8 @@ send_here n s (talking p) link octets few quiet orderly at is h short are =
       units = addressed n (all_given (with_tsdu p.left octets));
       events = [];
       changes = send_changes n s p.left octets quiet orderly at;
-      all_for = addressed_for n (all_given (with_tsdu p.left octets))
-          (class_end p.rightward (all_given (with_tsdu p.left octets)) passes.stay_open.agree.agree.class);
-      sendable = all_sendable n (all_given (with_tsdu p.left octets)) few
-          (range_end p.rightward (all_given (with_tsdu p.left octets)) passes.stay_open.range);
+      all_for = search (arith, addressed_for, class_end);
+      sendable = search (arith, all_sendable, range_end);
       there = refl;
       out = addressed_join n p.rightward (all_given (with_tsdu p.left octets));
       back = refl;
@@ -244,10 +225,8 @@ send_here n s (left_there p hs reason) link octets few quiet orderly at is h sho
       units = addressed n given;
       events = [];
       changes = send_changes n s p.left octets quiet orderly at;
-      all_for = addressed_for n (all_given (with_tsdu p.left octets))
-          (class_end p.rightward (all_given (with_tsdu p.left octets)) passes.stay_open.agree.agree.class);
-      sendable = all_sendable n (all_given (with_tsdu p.left octets)) few
-          (range_end p.rightward (all_given (with_tsdu p.left octets)) passes.stay_open.range);
+      all_for = search (arith, addressed_for, class_end);
+      sendable = search (arith, all_sendable, range_end);
       there = refl;
       out = addressed_join n hs given;
       back = refl;
@@ -268,14 +247,14 @@ close_here n s (talking p) link reason some few small quiet class orderly at is 
   events = [];
   changes = close_changes n s p.left reason quiet class orderly at;
   all_for = (refl, tt);
-  sendable = (leaving_sendable n reason few small, tt);
+  sendable = (grind arith, tt);
   there = refl;
   out = refl;
   back = refl;
   goes = refl;
   stands = (h, h.agree.agree_back.class);
   carries = talking_closes n p reason some;
-  brings = brings_shut n p.left reason;
+  brings = grind (arith, kinds_begun);
   keeps = λ e. cc;
 }
 close_here n s (left_there p hs other) link reason some few small quiet class orderly at is h = record {
@@ -284,14 +263,14 @@ close_here n s (left_there p hs other) link reason some few small quiet class or
   events = [];
   changes = close_changes n s p.left reason quiet class orderly at;
   all_for = (refl, tt);
-  sendable = (leaving_sendable n reason few small, tt);
+  sendable = (grind arith, tt);
   there = refl;
   out = refl;
   back = refl;
   goes = refl;
   stands = (h.1, h.0.agree.agree_back.class);
   carries = behind_closes n p hs reason other some;
-  brings = brings_shut n p.left reason;
+  brings = grind (arith, kinds_begun);
   keeps = λ e. cc;
 }
 close_here n s m link reason some few small quiet class orderly at is h = cc

@@ -1,14 +1,13 @@
 -- How the state of a connection changes at each end.
 -- For connections of class 2, joined carriers, class 0 and the invariant.
 use Rattle.osi_between.specs.Meeting.{Carries}
-use Rattle.osi_between.proofs.Vocabulary.{◌≡◌, ℕ, ◌+◌, ◌≤◌, is_none, Bool, true, false, List, [], ◌∷◌, ◌++◌, map, Option, Some, refl, sym}
-use Rattle.osi_between.proofs.Vocabulary.{ap, subst, ◌∙◌, arith, nat_lt, if◌then◌else◌, flat_map, list_any, AllByRecursion, le-ltb}
-use Rattle.osi_between.proofs.Vocabulary.{ltb-false, Value, AreOfClass, Given, Class, Two, Local, dropped, references, Place, never}
-use Rattle.osi_between.proofs.Vocabulary.{was_given, place_at, Happening, Rows, value_at, put, Connection, State, AreFor, reference_of}
-use Rattle.osi_between.proofs.Vocabulary.{asked_by, is_last, live_behind, live_after, requests, met, HaveMet, told_opening, CourseCarries}
-use Rattle.osi_between.proofs.Vocabulary.{Acts, CourseMoves, Meeting, talking, left_here, left_there, left_both, waiting_there, mirror}
-use Rattle.osi_between.proofs.Vocabulary.{here, addressed, farewell, rows_with, out, back, Stands, Changes, told_at, messages_back}
-use Rattle.osi_between.proofs.Vocabulary.{messages_out, answers_of, Moves, Message, ask, agree, deny, message, bye, over, messages_to}
+use Rattle.osi_between.proofs.Vocabulary.{◌≡◌, ℕ, ◌+◌, ◌≤◌, Bool, true, false, List, [], ◌∷◌, ◌++◌, map, Option, Some, refl, sym, ap, subst}
+use Rattle.osi_between.proofs.Vocabulary.{◌∙◌, arith, nat_lt, if◌then◌else◌, flat_map, AllByRecursion, le-ltb, ltb-false, Value, AreOfClass}
+use Rattle.osi_between.proofs.Vocabulary.{Given, Class, Two, Local, references, Place, never, was_given, place_at, Happening, value_at, put}
+use Rattle.osi_between.proofs.Vocabulary.{Connection, State, AreFor, reference_of, asked_by, requests, met, HaveMet, told_opening}
+use Rattle.osi_between.proofs.Vocabulary.{CourseCarries, Acts, CourseMoves, Meeting, talking, left_here, left_there, left_both}
+use Rattle.osi_between.proofs.Vocabulary.{waiting_there, mirror, here, addressed, farewell, out, back, Stands, Changes, told_at}
+use Rattle.osi_between.proofs.Vocabulary.{messages_back, messages_out, Moves, Message, ask, agree, deny, message, bye, over, messages_to}
 use Rattle.osi_between.proofs.Vocabulary.{AreLike, Progress, not_yet, awaiting, in_use, shutting, gone, progress_in, may_arrive, asks_in}
 use Rattle.osi_between.proofs.Vocabulary.{class_behind_all, leaves_use, Brings, put_named, drop_named}
 use Rattle.osi_between.proofs.meeting.a_connection_after_each_unit_and_call.{mirror_twice, mirror_stands}
@@ -22,49 +21,24 @@ pub record IsGiven (n given : ℕ) (v o : Option Connection) : Type 0 where
   pub within : n ≤ given
   pub is : v ≡ o
 
-is_given_by : (n given : ℕ) (v o : Option Connection) (b : Bool) → nat_lt given n ≡ b → (if b then never else was_given v) ≡ was_given o →
-    IsGiven n given v o
-is_given_by n given v o b e h = grind (arith, ltb-false)
-
 pub is_given : (n : ℕ) (s : State) (o : Option Connection) → place_at n s ≡ was_given o → IsGiven n s.given (value_at n s.live) o
-is_given n s o h = is_given_by n s.given (value_at n s.live) o (nat_lt s.given n) refl h
+is_given n s o h = grind (arith, ltb-false)
 
 -- what changed at one reference
 pub acts_changed : (n : ℕ) (s t : State) (after : Option Connection) (us : List Value) (es : List Happening) → Changes n s t after us es →
     AreFor n us → Acts n s t us es
 acts_changed n s t after us es c all = grind (arith, nat_lt)
 
-pub place_changed : (n : ℕ) (s t : State) (after : Option Connection) (us : List Value) (es : List Happening) → n ≤ s.given →
-    Changes n s t after us es → place_at n t ≡ was_given after
-place_changed n s t after us es le c = grind (arith, given_place)
-
 -- ---- the references that are live
-
-stay_references : (n : ℕ) (after : Option Connection) (rows : Rows Connection) → is_none after ≡ false →
-    references (rows_with n after rows) ≡ references rows
-stay_references n after rows e = grind (arith, put_named)
-
-gone_references : (n m : ℕ) (after : Option Connection) (rows : Rows Connection) → is_none after ≡ true → m ≡ n →
-    references (rows_with n after rows) ≡ dropped m (references rows)
-gone_references n m after rows e same = grind (arith, drop_named)
 
 -- for this connection, and no CR
 abbrev pub IsPlain : ℕ → Value → Type 0
 IsPlain n u = (reference_of u ≡ n) × (asked_by u ≡ [])
 
-references_behind : (n : ℕ) (u : Value) (after : Option Connection) (rows : Rows Connection) → IsPlain n u →
-    is_none after ≡ list_any is_last (u ∷ []) → references (rows_with n after rows) ≡ live_behind (references rows) u
-references_behind n u after rows h goes = grind (arith, stay_references, gone_references)
-
 abbrev pub IsOneAtMost : List Value → Type 0
 IsOneAtMost [] = Unit {0}
 IsOneAtMost (u ∷ []) = Unit {0}
 IsOneAtMost (u ∷ v ∷ us) = ⊥
-
-references_after : (n : ℕ) (taken : List Value) (after : Option Connection) (rows : Rows Connection) → IsOneAtMost taken →
-    AllByRecursion (IsPlain n) taken → is_none after ≡ list_any is_last taken →
-    references (rows_with n after rows) ≡ live_after (references rows) taken
-references_after n taken after rows one all goes = grind (arith, stay_references, references_behind)
 
 -- the units of open links, and those that close a connection
 plain_units : (n : ℕ) (gs : List Given) → AreOfClass true gs → AllByRecursion (IsPlain n) (addressed n gs)
@@ -75,10 +49,6 @@ plain_join : (n : ℕ) (us vs : List Value) → AllByRecursion (IsPlain n) us �
     AllByRecursion (IsPlain n) (us ++ vs)
 plain_join n [] vs a b = b
 plain_join n (u ∷ us) vs a b = (a.0, plain_join n us vs a.1 b)
-
-plain_front : (n : ℕ) (us vs : List Value) → AllByRecursion (IsPlain n) (us ++ vs) → AllByRecursion (IsPlain n) us
-plain_front n [] vs h = tt
-plain_front n (u ∷ us) vs h = (h.0, plain_front n us vs h.1)
 
 plain_back : (n : ℕ) (us vs : List Value) → AllByRecursion (IsPlain n) (us ++ vs) → AllByRecursion (IsPlain n) vs
 plain_back n [] vs h = h
@@ -158,43 +128,29 @@ is_opening (message octets) = false
 is_opening (bye reason) = false
 is_opening over = false
 
-not_opening : (p : Progress) (m : Message) → is_met p ≡ true → may_arrive p m ≡ true → is_opening m ≡ false
-not_opening p m e h = grind arith
-
 -- it asks for nothing and settles no class
 pub record IsIdle (ms : List Message) : Type 0 where
   pub asks : asks_in ms ≡ 0
   pub class : (settled held : Option Class) → class_behind_all settled held ms ≡ held
 
-idle_class : (settled held : Option Class) (m : Message) (ms : List Message) → is_opening m ≡ false → IsIdle ms →
-    class_behind_all settled held (m ∷ ms) ≡ held
-idle_class settled held m ms e h = grind arith
-
 idle_first : (m : Message) (ms : List Message) → is_opening m ≡ false → IsIdle ms → IsIdle (m ∷ ms)
-idle_first m ms e h = grind (arith, idle_class)
+idle_first m ms e h = grind arith
 
 idle_all : (p : Progress) (ms : List Message) → is_met p ≡ true → AllByRecursion (λ m. may_arrive p m ≡ true) ms → IsIdle ms
 idle_all p [] e h = record { asks = refl; class = λ settled held. refl }
-idle_all p (m ∷ ms) e h = idle_first m ms (not_opening p m e h.0) (idle_all p ms e h.1)
+idle_all p (m ∷ ms) e h = idle_first m ms (grind arith) (idle_all p ms e h.1)
 
 pub idle_messages : (got : List (List ℕ)) → IsIdle (map message got)
 idle_messages [] = record { asks = refl; class = λ settled held. refl }
 idle_messages (octets ∷ got) = idle_first (message octets) (map message got) refl (idle_messages got)
 
-here_met : (n : ℕ) (m : Meeting) → is_met (progress_in (here n m)) ≡ true
-here_met n m = grind arith
-
 none_asked : (n : ℕ) (m : Meeting) (arrived put : List Message) →
     AllByRecursion (λ x. may_arrive (progress_in (here n m)) x ≡ true) arrived → asks_in put ≡ 0 → 0 ≡ asks_in arrived + asks_in put
-none_asked n m arrived put may none = let idle = (idle_all (progress_in (here n m)) arrived (here_met n m) may).asks in omega arith
+none_asked n m arrived put may none = let idle = (idle_all (progress_in (here n m)) arrived (grind arith) may).asks in omega arith
 
 class_stays : (n : ℕ) (m : Meeting) (settled held : Option Class) (arrived : List Message) →
     AllByRecursion (λ x. may_arrive (progress_in (here n m)) x ≡ true) arrived → class_behind_all settled held arrived ≡ held
-class_stays n m settled held arrived may = (idle_all (progress_in (here n m)) arrived (here_met n m) may).class settled held
-
--- what a unit is answered asks for nothing
-pub answers_plain : (o : Option Connection) (u : Value) → asks_in (answers_of o u) ≡ 0
-answers_plain o u = grind arith
+class_stays n m settled held arrived may = (idle_all (progress_in (here n m)) arrived (grind arith) may).class settled held
 
 pub met_caller : (n : ℕ) (m : Meeting) (s r t : State) (taken : List Value) (put : List Message) → HaveMet s r m → n ≤ s.given →
     asks_in put ≡ 0 → Moves n m s t taken put → CourseMoves true n (met m) s r t taken 0 put
@@ -204,7 +160,7 @@ met_caller n m s r t taken put h le none mv = record {
   events = mv.events;
   acts = acts_changed n s t (here n mv.new) mv.units mv.events mv.changes mv.all_for;
   sendable = mv.sendable;
-  place = place_changed n s t (here n mv.new) mv.units mv.events le mv.changes;
+  place = grind (arith, given_place);
   there = ap was_given mv.there;
   out = mv.out;
   back = mv.back;
@@ -241,21 +197,16 @@ met_called n m r s t taken put h le one none mv = record {
   events = mv.events;
   acts = acts_changed n r t (here n mv.new) mv.units mv.events mv.changes mv.all_for;
   sendable = mv.sendable;
-  place = place_changed n r t (here n mv.new) mv.units mv.events le mv.changes
-      ∙ ap (λ (x : Meeting). was_given (here n x)) (sym (mirror_twice mv.new));
+  place = grind (arith, given_place, mirror_twice);
   there = ap was_given (mv.there ∙ ap (here n) (mirror_twice m));
   out = ap (out n) (mirror_twice mv.new) ∙ mv.out;
   back = ap (out n) (sym (mirror_twice m)) ∙ mv.back;
   holds = record { class = h.class; class_called = mv.changes.class ∙ h.class_called; stands = mirror_stands mv.new mv.stands };
   given = mv.changes.given ∙ none_more r.given;
-  numbers = plain_requests n taken (plain_front n taken (back n mv.new)
-      (subst (λ (l : List Value). AllByRecursion (IsPlain n) l) (ap (out n) (sym (mirror_twice m)) ∙ mv.back) (plain_out n m h.stands)));
+  numbers = plain_requests n taken (grind (arith, mirror_twice, plain_out));
   places =
-      let taken_are : AllByRecursion (IsPlain n) taken =
-      plain_front n taken (back n mv.new)
-      (subst (λ (l : List Value). AllByRecursion (IsPlain n) l) (ap (out n) (sym (mirror_twice m)) ∙ mv.back)
-      (plain_out n m h.stands)) in
-      ap references mv.changes.live ∙ references_after n taken (here n mv.new) r.live one taken_are mv.goes;
+      let taken_are : AllByRecursion (IsPlain n) taken = grind (arith, mirror_twice, plain_out) in
+      ap references mv.changes.live ∙ (grind (arith, put_named, drop_named));
   carries = carries_mirror n r.local m (mirror mv.new) mv.events put
       (turned_carries n m mv.new mv.events taken put mv.carries mv.brings mv.keeps).carries;
   brings = (turned_carries n m mv.new mv.events taken put mv.carries mv.brings mv.keeps).brings;

@@ -2,35 +2,31 @@
 -- caller has it open.
 -- For joined carriers and class 0.
 use Rattle.osi_between.proofs.Vocabulary.{◌≡◌, ◌≢◌, ℕ, ◌+◌, ◌<◌, ◌≤◌, Bool, true, false, List, [], ◌∷◌, ◌++◌, map, Option, Some, None, refl}
-use Rattle.osi_between.proofs.Vocabulary.{sym, ap, subst, ◌∙◌, inr, arith, nat_lt, ltb-false, ltb-true, append-nil, map-append, IsOctets}
-use Rattle.osi_between.proofs.Vocabulary.{Value, Connect, request, confirm, LinkPair, swapped, opened_pair, under_way, IsShortTsdu}
-use Rattle.osi_between.proofs.Vocabulary.{all_given, Standing, Given, with_tsdu, Selection, accept, selected_by, selected_size, Class, Two}
-use Rattle.osi_between.proofs.Vocabulary.{Local, references, asks, sent, closed_with, was_given, place_at, opened, proposal_by, IsOrderly}
-use Rattle.osi_between.proofs.Vocabulary.{react, answers_request, answers, accepts, has_peer, is_full, opens, to_reference, value_at}
+use Rattle.osi_between.proofs.Vocabulary.{sym, ap, subst, ◌∙◌, inr, arith, nat_lt, append-nil, map-append, IsOctets, Value, Connect}
+use Rattle.osi_between.proofs.Vocabulary.{request, confirm, LinkPair, swapped, opened_pair, under_way, IsShortTsdu, all_given, Standing}
+use Rattle.osi_between.proofs.Vocabulary.{with_tsdu, selected_size, Class, Two, Local, references, asks, sent, closed_with, was_given}
+use Rattle.osi_between.proofs.Vocabulary.{place_at, opened, proposal_by, IsOrderly, react, accepts, has_peer, is_full, opens, value_at}
 use Rattle.osi_between.proofs.Vocabulary.{Connection, asked, linked, closing, State, packets, push_here, beyond, put_here, push_other}
 use Rattle.osi_between.proofs.Vocabulary.{put_other, react_quiet, unasked, asking, accepting, withdrawing, met, answer_of, IsTsap}
 use Rattle.osi_between.proofs.Vocabulary.{IsAskedBy, MayTakeTwo, IsAccepted, Acts, CourseMoves, talking, left_there, addressed, leaving}
-use Rattle.osi_between.proofs.Vocabulary.{Message, ask, agree, message, bye, messages_after, uncut_units, kind_of, AreOpen, after_send}
-use Rattle.osi_between.proofs.Vocabulary.{not_yet, awaiting, in_use, Brings, put_named}
-use Rattle.osi_between.proofs.unit.what_a_taken_unit_means.{brings_none, brings_sent, brings_shut}
+use Rattle.osi_between.proofs.Vocabulary.{Message, ask, agree, message, bye, messages_after, uncut_units, kind_of, after_send, not_yet}
+use Rattle.osi_between.proofs.Vocabulary.{awaiting, put_named, length, length-append}
+use Rattle.osi_between.proofs.unit.what_a_taken_unit_means.{brings_none, brings_sent}
 use Rattle.osi_between.proofs.meeting.what_a_unit_or_call_changes.{send_changes, close_changes}
-use Rattle.osi_between.proofs.meeting.how_a_connection_changes_at_each_end.{given_place, acts_changed, place_changed, none_more}
+use Rattle.osi_between.proofs.meeting.how_a_connection_changes_at_each_end.{given_place, acts_changed, none_more}
 use Rattle.osi_between.proofs.meeting.a_connection_after_each_unit_and_call.{open_mirror, class_end, addressed_join, addressed_for}
 use Rattle.osi_between.proofs.meeting.what_is_in_flight_for_a_connection.{pair_messages, behind_leaving}
-use Rattle.osi_between.proofs.unit.units_are_read_as_messages.{messages_front}
-use Rattle.osi_between.proofs.link.a_request_and_its_answer_open_two_links.{request_of, selects_two, confirms_two, caller_link, called_link}
-use Rattle.osi_between.proofs.link.a_request_and_its_answer_open_two_links.{opens_links, asked_sendable, answer_sendable}
-use Rattle.osi_between.proofs.unit.a_unit_fits_a_packet.{all_sendable, range_end, leaving_sendable}
+use Rattle.osi_between.proofs.unit.units_are_read_as_messages.{messages_front, kinds_begun}
+use Rattle.osi_between.proofs.link.a_request_and_its_answer_open_two_links.{request_of, caller_link, called_link, opens_links}
+use Rattle.osi_between.proofs.link.a_request_and_its_answer_open_two_links.{asked_sendable, no_octets}
+use Rattle.osi_between.proofs.unit.a_unit_fits_a_packet.{all_sendable, range_end}
 use Rattle.osi_between.proofs.link.a_call_is_turns_of_two_links.{sends_passes}
 
 -- ---- a new reference
 
-next_test : (g q : ℕ) (b c : Bool) → q ≢ g + 1 → nat_lt (g + 1) q ≡ b → nat_lt g q ≡ c → b ≡ c
-next_test g q b c other x y = grind (arith, ltb-true, ltb-false)
-
 pub push_places : (s t : State) (x : Connection) (q : ℕ) → t.given ≡ s.given + 1 → t.live ≡ s.live ++ (s.given + 1, x) ∷ [] →
     q ≢ s.given + 1 → place_at q t ≡ place_at q s
-push_places s t x q given live other = grind (arith, nat_lt, next_test, push_other)
+push_places s t x q given live other = grind (arith, nat_lt, push_other)
 
 pub push_place : (s t : State) (x : Connection) → IsOrderly s → t.given ≡ s.given + 1 → t.live ≡ s.live ++ (s.given + 1, x) ∷ [] →
     place_at (s.given + 1) t ≡ was_given (Some x)
@@ -77,14 +73,6 @@ asks_moves s r calling called orderly left supports fits fits_called =
 
 -- ---- the CC
 
-pub react_request : (c : Connect) (r : State) → r.ended ≡ None → r.is_caller ≡ false → MayTakeTwo r.class →
-    react (request c) r ≡ answers_request c r
-react_request c r quiet h h_ = grind (arith, react_quiet)
-
-request_accepted : (c : Connect) (r : State) → has_peer c.source r.live ≡ false → is_full r ≡ false →
-    selected_by c r.local ≡ accept Two (selected_size c r.local) → answers_request c r ≡ accepts Two (selected_size c r.local) c r
-request_accepted c r free room selects = rw (free, room) (ap (λ (x : Selection). answers c x r.class r) selects)
-
 accepts_moves_by : (s r : State) (class : Option Class) (calling called : Option (List ℕ)) → IsOrderly r → r.given < 65535 →
     IsTsap calling → IsTsap called →
     CourseMoves false (r.given + 1) (asking (request_of s.local class calling called (r.given + 1))) r s
@@ -111,18 +99,12 @@ accepts_moves_by s r class calling called orderly left fits fits_called =
         may = λ h. inr refl;
         all_for = (refl, tt);
       };
-      sendable = (answer_sendable s.local r.local class calling called n (omega arith) fits fits_called, tt);
+      sendable = (grind (arith, length, length-append, no_octets), tt);
       place = push_place r t (linked n (called_link r.local c)) orderly refl refl;
       there = refl;
       out = refl;
       back = refl;
-      holds = record {
-        asked = record { class = class; calling = calling; called = called; is = refl; calling_fits = fits; called_fits = fits_called };
-        class = refl;
-        open_links = opens_links s.local r.local class calling called n;
-        rightward = refl;
-        left = refl;
-      };
+      holds = grind (arith, opens_links s.local r.local class calling called n);
       given = refl;
       numbers = refl;
       places = map-append (λ (row : ℕ × Connection). row.0) r.live ((n, linked n (called_link r.local c)) ∷ []);
@@ -138,37 +120,13 @@ pub accepts_moves : (n : ℕ) (c : Connect) (s r : State) → n ≡ r.given + 1 
     r.local.class2 ≡ true → CourseMoves false n (asking c) r s (react (request c) r) (request c ∷ []) 1 (agree ∷ [])
 accepts_moves n c s r next a orderly quiet called two free room left supports =
     let d = request_of s.local a.class a.calling a.called (r.given + 1) in
-    let same : c ≡ d = a.is ∙ ap (λ (m : ℕ). request_of s.local a.class a.calling a.called m) next in
-    let does : react (request c) r ≡ accepts Two (selected_size d r.local) d r =
-    react_request c r quiet called two
-    ∙ request_accepted c r free room
-    (ap (λ (x : Connect). selected_by x r.local) same ∙ selects_two s.local r.local a.class a.calling a.called (r.given + 1) supports
-    ∙ ap (λ (x : Connect). accept Two (selected_size x r.local)) (sym same))
-    ∙ ap (λ (x : Connect). accepts Two (selected_size x r.local) x r) same in
-    subst (λ (t : State). CourseMoves false n (asking c) r s t (request c ∷ []) 1 (agree ∷ [])) (sym does)
-    (subst (λ (m : ℕ). CourseMoves false m (asking c) r s (accepts Two (selected_size d r.local) d r) (request c ∷ []) 1 (agree ∷ []))
-    (sym next)
-    (subst (λ (x : Connect). CourseMoves false (r.given + 1) (asking x) r s (accepts Two (selected_size d r.local) d r) (request x ∷ []) 1
-    (agree ∷ [])) (sym same)
-    (accepts_moves_by s r a.class a.calling a.called orderly left a.calling_fits a.called_fits)))
+    let does : react (request c) r ≡ accepts Two (selected_size d r.local) d r = grind (arith, react_quiet) in
+    grind (arith, accepts_moves_by s r a.class a.calling a.called orderly left a.calling_fits a.called_fits)
 
 -- ---- the called end before the CC is taken
 
--- the link that the CC opens has nothing to send and has taken nothing
-nothing_begun : (n : ℕ) (s r : State) (c : Connect) (p : LinkPair) → IsAccepted n s r c p → p.left.ends.joining.begun ≡ []
-nothing_begun n s r c p h = ap (λ (l : Standing). l.ends.joining.begun) h.left
-
 nothing_unsent : (n : ℕ) (s r : State) (c : Connect) (p : LinkPair) → IsAccepted n s r c p → p.left.ends.unsent ≡ []
 nothing_unsent n s r c p h = ap (λ (l : Standing). l.ends.unsent) h.left
-
--- what follows the CC
-behind_confirm : (n : ℕ) (p : LinkPair) → AreOpen true p → p.left.ends.joining.begun ≡ [] →
-    messages_after [] (addressed n p.leftward ++ uncut_units p.right.ends.unsent) ≡ map message (under_way (swapped p))
-behind_confirm n p a none = grind (arith, pair_messages n (swapped p) a.left.handed)
-
-accepted_there : (n : ℕ) (s r t : State) (c : Connect) (p q : LinkPair) → IsAccepted n s r c p → t.local ≡ r.local → t.class ≡ r.class →
-    AreOpen true q → q.rightward ≡ p.rightward → q.left ≡ p.left → IsAccepted n s t c q
-accepted_there n s r t c p q h local class a rightward left = grind (arith, caller_link)
 
 pub accepted_sends : (n : ℕ) (c : Connect) (p : LinkPair) (s r : State) (octets : List ℕ) → IsAccepted n s r c p → r.ended ≡ None →
     IsOrderly r → n ≤ r.given → value_at n r.live ≡ Some (linked n p.right) → IsShortTsdu octets → IsOctets octets →
@@ -176,29 +134,26 @@ pub accepted_sends : (n : ℕ) (c : Connect) (p : LinkPair) (s r : State) (octet
 accepted_sends n c p s r octets h quiet orderly le at short are =
     let q = after_send (swapped p) octets in
     let given = all_given (with_tsdu p.right octets) in
-    let t = sent n octets r in
     let few : n < 65536 = (let most = orderly.given in omega arith) in
     let passes = sends_passes true (swapped p) octets (open_mirror true p h.open_links) short are in
     let changes = send_changes n r p.right octets quiet orderly at in
-    let none = nothing_begun n s r c p h in
     let new_open = open_mirror true q passes.stay_open in
     let stays = messages_after [] (addressed n p.leftward ++ uncut_units p.right.ends.unsent) in
     let more : messages_after [] (addressed n (swapped q).leftward ++ uncut_units (swapped q).right.ends.unsent) ≡ stays ++ message octets ∷
-    [] = behind_confirm n (swapped q) new_open none ∙ ap (map message) (sym passes.rightward)
+    [] = (grind (arith, pair_messages n (swapped (swapped q)) new_open.left.handed)) ∙ ap (map message) (sym passes.rightward)
     ∙ map-append message (under_way (swapped p)) (octets ∷ [])
-    ∙ ap (λ (l : List Message). l ++ message octets ∷ []) (sym (behind_confirm n p h.open_links none)) in
+    ∙ ap (λ (l : List Message). l ++ message octets ∷ []) (sym (grind (arith, pair_messages n (swapped p) h.open_links.left.handed))) in
     record {
       new = accepting c (swapped q);
       units = addressed n given;
       events = [];
-      acts = acts_changed n r t (Some (linked n (swapped q).right)) (addressed n given) [] changes
-          (addressed_for n given (class_end p.leftward given passes.stay_open.agree.agree.class));
+      acts = search (arith, acts_changed, addressed_for, class_end);
       sendable = all_sendable n given few (range_end p.leftward given passes.stay_open.range);
-      place = place_changed n r t (Some (linked n (swapped q).right)) (addressed n given) [] le changes;
+      place = grind (arith, given_place);
       there = refl;
       out = ap (λ (l : List Value). confirm n (answer_of n r.local c) ∷ l) (addressed_join n p.leftward given);
       back = refl;
-      holds = accepted_there n s r t c p (swapped q) h changes.local changes.class new_open refl refl;
+      holds = grind (arith, caller_link);
       given = changes.given ∙ none_more r.given;
       numbers = refl;
       places = ap references changes.live ∙ put_named n (linked n (swapped q).right) r.live;
@@ -231,12 +186,12 @@ accepted_closes n c p s r reason some small h quiet orderly le at =
       units = leaving n reason ∷ [];
       events = [];
       acts = acts_changed n r t (Some (closing n)) (leaving n reason ∷ []) [] changes (refl, tt);
-      sendable = (leaving_sendable n reason few small, tt);
-      place = place_changed n r t (Some (closing n)) (leaving n reason ∷ []) [] le changes;
+      sendable = (grind arith, tt);
+      place = grind (arith, given_place);
       there = refl;
       out = refl;
       back = refl;
-      holds = accepted_there n s r t c p p h changes.local changes.class h.open_links refl refl;
+      holds = grind (arith, caller_link);
       given = changes.given ∙ none_more r.given;
       numbers = refl;
       places = ap references changes.live ∙ put_named n (closing n) r.live;
@@ -249,7 +204,7 @@ accepted_closes n c p s r reason some small h quiet orderly le at =
         before = ap (λ (l : List Message). agree ∷ l) front.1;
         after = ap (λ (l : List Message). agree ∷ l) (behind_leaving n us reason [] some);
       };
-      brings = brings_shut n p.right reason;
+      brings = grind (arith, kinds_begun);
       keeps = λ e. cc;
       gives = refl;
       settles = changes.class;
@@ -257,27 +212,9 @@ accepted_closes n c p s r reason some small h quiet orderly le at =
 
 -- ---- the caller takes the CC
 
-pub confirm_to : (n : ℕ) (c : Connect) (s : State) → s.ended ≡ None → s.is_caller ≡ true → MayTakeTwo s.class →
-    react (confirm n c) s ≡ to_reference n (confirm n c) s
-confirm_to n c s quiet caller h = grind (arith, react_quiet)
-
-confirm_opens : (n : ℕ) (c : Connect) (s : State) (called : Local) → s.ended ≡ None → s.is_caller ≡ true → MayTakeTwo s.class →
-    s.local.class2 ≡ true → value_at n s.live ≡ Some asked →
-    react (confirm n (answer_of n called c)) s ≡ opens n (answer_of n called c) (Some Two) s
-confirm_opens n c s called quiet caller two supports at = grind (arith, confirm_to, confirms_two)
-
 confirm_acts : (n : ℕ) (c : Connect) (s : State) (called : Local) →
     Acts n s (opens n (answer_of n called c) (Some Two) s) [] (opened n ∷ [])
 confirm_acts n c s called = grind (arith, nat_lt, put_other, caller_link, append-nil)
-
-confirm_place : (n : ℕ) (c : Connect) (s : State) (called : Local) (link : Standing) → n ≤ s.given → value_at n s.live ≡ Some asked →
-    link ≡ caller_link n s.local called c → place_at n (opens n (answer_of n called c) (Some Two) s) ≡ was_given (Some (linked n link))
-confirm_place n c s called link le at is = grind (arith, given_place, put_here, caller_link)
-
--- what the CC brings
-brings_agree : (n : ℕ) (s r : State) (c : Connect) (p : LinkPair) → IsAccepted n s r c p →
-    Brings true awaiting in_use (Some asked) (Some (linked n p.left)) (confirm n (answer_of n r.local c) ∷ []) (agree ∷ []) []
-brings_agree n s r c p h = grind (arith, nothing_begun)
 
 pub confirm_moves : (n : ℕ) (c : Connect) (p : LinkPair) (s r : State) → IsAccepted n s r c p → s.ended ≡ None → s.is_caller ≡ true →
     MayTakeTwo s.class → s.local.class2 ≡ true → n ≤ s.given → value_at n s.live ≡ Some asked →
@@ -286,13 +223,13 @@ confirm_moves n c p s r h quiet caller two supports le at =
     let unit = confirm n (answer_of n r.local c) in
     let us = addressed n p.leftward ++ uncut_units p.right.ends.unsent in
     subst (λ (t : State). CourseMoves true n (accepting c p) s r t (unit ∷ []) 0 [])
-    (sym (confirm_opens n c s r.local quiet caller two supports at)) (record {
+    (sym (grind (arith, react_quiet))) (record {
       new = met (talking p);
       units = [];
       events = opened n ∷ [];
       acts = confirm_acts n c s r.local;
       sendable = tt;
-      place = confirm_place n c s r.local p.left le at h.left;
+      place = grind (arith, given_place, put_here, caller_link);
       there = refl;
       out = ap (addressed n) h.rightward;
       back = refl;
@@ -305,13 +242,11 @@ confirm_moves n c p s r h quiet caller two supports le at =
         stays = [];
         lost = [];
         told = refl;
-        came = ap (λ (b : List ℕ). agree ∷ messages_after b us) (sym (nothing_begun n s r c p h));
+        came = ap (λ (b : List ℕ). agree ∷ messages_after b us) (sym (grind arith));
         before = refl;
-        after = ap (λ (gs : List Given). messages_after p.right.ends.joining.begun (addressed n gs ++ uncut_units p.left.ends.unsent))
-            h.rightward
-            ∙ ap (λ (ts : List (List ℕ)). messages_after p.right.ends.joining.begun (uncut_units ts)) (nothing_unsent n s r c p h);
+        after = grind (arith, nothing_unsent);
       };
-      brings = brings_agree n s r c p h;
+      brings = grind arith;
       keeps = λ e. refl;
       gives = refl;
       settles = refl;
@@ -325,13 +260,13 @@ withdrawn_moves n c p reason s r h quiet caller two supports le at =
     let unit = confirm n (answer_of n r.local c) in
     let us = (addressed n p.leftward ++ leaving n reason ∷ []) ++ [] in
     subst (λ (t : State). CourseMoves true n (withdrawing c p reason) s r t (unit ∷ []) 0 [])
-    (sym (confirm_opens n c s r.local quiet caller two supports at)) (record {
+    (sym (grind (arith, react_quiet))) (record {
       new = met (left_there p [] reason);
       units = [];
       events = opened n ∷ [];
       acts = confirm_acts n c s r.local;
       sendable = tt;
-      place = confirm_place n c s r.local p.left le at h.left;
+      place = grind (arith, given_place, put_here, caller_link);
       there = refl;
       out = refl;
       back = refl;
@@ -344,11 +279,11 @@ withdrawn_moves n c p reason s r h quiet caller two supports le at =
         stays = [];
         lost = [];
         told = refl;
-        came = ap (λ (b : List ℕ). agree ∷ messages_after b us) (sym (nothing_begun n s r c p h));
+        came = ap (λ (b : List ℕ). agree ∷ messages_after b us) (sym (grind arith));
         before = refl;
         after = ap (λ (ts : List (List ℕ)). map kind_of (messages_after [] (uncut_units ts))) (nothing_unsent n s r c p h);
       };
-      brings = brings_agree n s r c p h;
+      brings = grind arith;
       keeps = λ e. refl;
       gives = refl;
       settles = refl;

@@ -1,8 +1,8 @@
 -- The units for one connection among those of all, and the references that they ask for.
 -- For octets in flight, joined carriers, class 0 and the invariant.
 use Rattle.osi_between.proofs.Vocabulary.{◌≡◌, ◌≢◌, ℕ, zero, suc, ◌+◌, ◌==◌, Bool, true, List, [], ◌∷◌, ◌++◌, refl, sym, ap, ◌∙◌, arith}
-use Rattle.osi_between.proofs.Vocabulary.{if◌then◌else◌, eq-eqb, ne_eqb, flat_map-append, Value, reference_of, units_of, AreFor, asked_by}
-use Rattle.osi_between.proofs.Vocabulary.{requests, behind, live_behind, live_after, HasPlaces}
+use Rattle.osi_between.proofs.Vocabulary.{if◌then◌else◌, eq-eqb, ne_eqb, Value, reference_of, units_of, AreFor, asked_by, requests, behind}
+use Rattle.osi_between.proofs.Vocabulary.{live_behind, live_after, HasPlaces}
 
 pub units_of_by : (n : ℕ) (u : Value) (us : List Value) (b : Bool) → (reference_of u == n) ≡ b →
     units_of n (u ∷ us) ≡ (if b then u ∷ units_of n us else units_of n us)
@@ -30,15 +30,6 @@ first_of_all u us = units_of_by (reference_of u) u us true (eq-eqb (reference_of
 
 -- ---- references that are asked for
 
-pub requests_join : (us vs : List Value) → requests (us ++ vs) ≡ requests us ++ requests vs
-requests_join us vs = flat_map-append asked_by us vs
-
-zero_more : (b : ℕ) → zero + b ≡ b
-zero_more b = omega arith
-
-none_more : (g : ℕ) → g ≡ g + zero
-none_more g = omega arith
-
 suc_more : (a b : ℕ) → suc a + b ≡ suc (a + b)
 suc_more a b = omega arith
 
@@ -46,7 +37,7 @@ one_more : (g a : ℕ) → (g + 1) + a ≡ g + suc a
 one_more g a = omega arith
 
 pub behind_join : (g a b : ℕ) → behind g (a + b) ≡ behind g a ++ behind (g + a) b
-behind_join g zero b = ap (λ (m : ℕ). behind g m) (zero_more b) ∙ ap (λ (m : ℕ). behind m b) (none_more g)
+behind_join g zero b = ap (λ (m : ℕ). behind g m) (grind arith) ∙ ap (λ (m : ℕ). behind m b) (grind arith)
 behind_join g (suc a) b = search (arith, suc_more, one_more, behind_join (g + 1) a b)
 
 -- ---- places

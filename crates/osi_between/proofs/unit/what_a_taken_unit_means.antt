@@ -1,11 +1,10 @@
 -- What the units mean that an end takes.
 -- For connections of class 2, class 0 and the invariant.
-use Rattle.osi_between.proofs.Vocabulary.{◌≡◌, ℕ, Bool, true, List, [], ◌∷◌, map, take, Option, Some, None, Ok, refl, sym, arith}
-use Rattle.osi_between.proofs.Vocabulary.{AllByRecursion, map-append, Value, disconnect, Standing, Given, taken, unit_of, with_tsdu}
-use Rattle.osi_between.proofs.Vocabulary.{drained_leaves, pumped, handed_out, Connection, linked, closing, Message, message, bye, over}
-use Rattle.osi_between.proofs.Vocabulary.{messages_after, begun_at, AreLike, Progress, in_use, shutting, gone, may_arrive, behind_arrivals}
-use Rattle.osi_between.proofs.Vocabulary.{behind_puts, Brings}
-use Rattle.osi_between.proofs.unit.units_are_read_as_messages.{begun_after, kinds_begun, kinds_join}
+use Rattle.osi_between.proofs.Vocabulary.{◌≡◌, ℕ, Bool, true, List, [], ◌∷◌, map, take, Option, Some, Ok, arith, AllByRecursion, map-append}
+use Rattle.osi_between.proofs.Vocabulary.{Value, Standing, Given, taken, unit_of, with_tsdu, drained_leaves, pumped, handed_out, Connection}
+use Rattle.osi_between.proofs.Vocabulary.{linked, closing, Message, message, messages_after, begun_at, AreLike, Progress, in_use, shutting}
+use Rattle.osi_between.proofs.Vocabulary.{may_arrive, behind_arrivals, behind_puts, Brings}
+use Rattle.osi_between.proofs.unit.units_are_read_as_messages.{begun_after, kinds_join}
 
 pub same_like : (o : Option Connection) (some others : List Message) → some ≡ others → AreLike o some others
 same_like o some others e = grind (arith, map)
@@ -20,10 +19,6 @@ brings_none accepts from to old new put same is = grind (arith, same_like)
 pub brings_sent : (n : ℕ) (link : Standing) (octets : List ℕ) →
     Brings true in_use in_use (Some (linked n link)) (Some (linked n (pumped (with_tsdu link octets)))) [] [] (message octets ∷ [])
 brings_sent n link octets = grind (arith, brings_none, drained_leaves)
-
-pub brings_shut : (n : ℕ) (link : Standing) (reason : ℕ) →
-    Brings true in_use shutting (Some (linked n link)) (Some (closing n)) [] [] (bye reason ∷ [])
-brings_shut n link reason = grind (arith, kinds_begun)
 
 -- ---- a unit of a link is taken
 
@@ -50,14 +45,3 @@ pub brings_ignored : (n : ℕ) (g : Given) →
 brings_ignored n g = search (arith, kinds_join, map-append, ignored_may, ignored_stay)
 
 -- ---- a DR or a DC is taken
-
-pub brings_bye : (n reason : ℕ) (link : Standing) →
-    ((units : List Value) → messages_after link.ends.joining.begun (disconnect n n reason [] ∷ units) ≡ bye reason ∷
-    messages_after [] units) →
-    Brings true in_use gone (Some (linked n link)) None (disconnect n n reason [] ∷ []) (bye reason ∷ []) (over ∷ [])
-brings_bye n reason link h = record { is = sym (h []); more = λ units. h units; may = (refl, tt); becomes = refl }
-
-pub brings_crossed : (n reason : ℕ) →
-    ((units : List Value) → messages_after [] (disconnect n n reason [] ∷ units) ≡ bye reason ∷ messages_after [] units) →
-    Brings true shutting gone (Some (closing n)) None (disconnect n n reason [] ∷ []) (bye reason ∷ []) []
-brings_crossed n reason h = record { is = sym (h []); more = λ units. h units; may = (refl, tt); becomes = refl }

@@ -19,10 +19,6 @@ abbrev pub lost_then : Option ℕ → List Value → List Value → List Value
 lost_then None lost units = lost
 lost_then (Some k) lost units = lost ++ units
 
-pub all_then : (reach : Option ℕ) (going lost units : List Value) → (reach ≡ None → lost ≡ []) →
-    (going ++ lost) ++ units ≡ going_then reach going units ++ lost_then reach lost units
-all_then reach going lost units none = grind (arith, append-nil, append_assoc)
-
 pub way_out : (reach : Option ℕ) (held outgoing : List ℕ) (going lost units : List Value) → (reach ≡ None → lost ≡ []) →
     IfSome reach (λ k. k ≤ length outgoing) → IsOnTheWay held (within_reach reach outgoing) going lost → AllByRecursion IsSendable units →
     IsOnTheWay held (within_reach reach (outgoing ++ packets units)) (going_then reach going units) (lost_then reach lost units)
@@ -32,10 +28,6 @@ way_out (Some k) held outgoing going lost units none bound w all = search (
   sym (append_assoc w.front w.never (packets units)) ∙ ap (λ (l : List ℕ). l ++ packets units) w.rest ∙ sym (packets_join lost units),
   all_behind lost units w.sendable_lost all,
 )
-
-pub bound_out : (reach : Option ℕ) (outgoing more : List ℕ) → IfSome reach (λ k. k ≤ length outgoing) →
-    IfSome reach (λ k. k ≤ length (outgoing ++ more))
-bound_out reach outgoing more h = grind (arith, length-append)
 
 -- ---- octets are handed over
 
@@ -75,27 +67,9 @@ way_takes packet octets behind held arriving [] lost p cut w =
 way_takes packet octets behind held arriving (v ∷ vs) lost p cut w =
     let all = w.sendable in
     let own = unit_packet v all.0 in
-    let same : octets ++ (behind ++ arriving) ≡ packet_of (written v) ++ (packets vs ++ w.front) =
-    sym (append_assoc octets behind arriving) ∙ ap (λ (l : List ℕ). l ++ arriving) (sym cut) ∙ w.octets
-    ∙ append_assoc (packet_of (written v)) (packets vs) w.front in
+    let same : octets ++ (behind ++ arriving) ≡ packet_of (written v) ++ (packets vs ++ w.front) = grind (arith, append_assoc) in
     let one = one_packet packet (written v) octets (packet_of (written v)) (behind ++ arriving) (packets vs ++ w.front) p own same in
-    record {
-      unit = v;
-      left = vs;
-      parts = refl;
-      is = one.1;
-      sendable = all.0;
-      way = record {
-        front = w.front;
-        never = w.never;
-        octets = append_cancel_left (packet_of (written v)) (behind ++ arriving) (packets vs ++ w.front)
-            (ap (λ (l : List ℕ). l ++ (behind ++ arriving)) (sym one.0) ∙ same);
-        partial = w.partial;
-        rest = w.rest;
-        sendable = all.1;
-        sendable_lost = w.sendable_lost;
-      };
-    }
+    grind (arith, append_cancel_left)
 
 -- the first unit is taken
 pub way_unit : (u : Value) (rest : List Value) (behind held arriving : List ℕ) (units lost : List Value) → units ≡ u ∷ rest →
@@ -130,22 +104,7 @@ cut_first : (x y : List ℕ) (u : Value) (us : List Value) → AllByRecursion Is
     x ++ y ≡ packet_of (written u) ++ packets us → length x < length (packet_of (written u)) → CutPackets x y (u ∷ us)
 cut_first x y u us all e short =
     let own = split_front x y (packet_of (written u)) (packets us) (sym e) (omega arith) in
-    let size = ap length own.1 ∙ length-append x own.0 in
-    record {
-      done = [];
-      left = u ∷ us;
-      front = x;
-      parts = refl;
-      octets = refl;
-      rest = e;
-      partial = record {
-        more = own.0;
-        some = omega arith;
-        completes = (written u, subst (λ (l : List ℕ). IsPacket (written u) l) own.1 (unit_packet u all.0));
-      };
-      sendable = tt;
-      sendable_left = all;
-    }
+    grind (arith, length-append x own.0, unit_packet u all.0)
 
 cut_next : (x y m : List ℕ) (u : Value) (us : List Value) → AllByRecursion IsSendable (u ∷ us) → x ≡ packet_of (written u) ++ m →
     CutPackets m y us → CutPackets x y (u ∷ us)
@@ -154,8 +113,7 @@ cut_next x y m u us all is c = record {
   left = c.left;
   front = c.front;
   parts = ap (λ (l : List Value). u ∷ l) c.parts;
-  octets = is ∙ ap (λ (l : List ℕ). packet_of (written u) ++ l) c.octets
-      ∙ sym (append_assoc (packet_of (written u)) (packets c.done) c.front);
+  octets = grind (arith, append_assoc);
   rest = c.rest;
   partial = c.partial;
   sendable = (all.0, c.sendable);
@@ -186,8 +144,5 @@ pub way_breaks : (held outgoing : List ℕ) (k : ℕ) (units lost : List Value) 
     Breaks held outgoing k units
 way_breaks held outgoing k units lost none w =
     let f : w.front ≡ [] = front_none w.front w.never (w.rest ∙ ap packets none) in
-    let whole : (held ++ take k outgoing) ++ drop k outgoing ≡ packets units =
-    append_assoc held (take k outgoing) (drop k outgoing) ∙ ap (λ (l : List ℕ). held ++ l) (take-append-drop k outgoing) ∙ w.octets
-    ∙ ap (λ (l : List ℕ). packets units ++ l) f ∙ append-nil (packets units) in
-    let c = cut_packets units (held ++ take k outgoing) (drop k outgoing) w.sendable whole in
-    search
+    let whole : (held ++ take k outgoing) ++ drop k outgoing ≡ packets units = grind (arith, append_assoc, take-append-drop, append-nil) in
+    grind (arith, cut_packets units (held ++ take k outgoing) (drop k outgoing) w.sendable whole)

@@ -1,8 +1,7 @@
 -- However many octets of what was written are fed, units are taken one after the other.
 -- For joined carriers and the laws.
-use Rattle.osi_tpdu.specs.Packet.{units_of}
 use Rattle.osi_between.proofs.Vocabulary.{◌≡◌, ℕ, ◌+◌, ◌-◌, ◌≤◌, Bool, true, false, ◌||◌, is_some, List, [], ◌∷◌, ◌++◌, length, map, take}
-use Rattle.osi_between.proofs.Vocabulary.{drop, Option, None, Ok, refl, sym, ap, subst, ◌∙◌, inl, inr, arith, append_assoc, if◌then◌else◌}
+use Rattle.osi_between.proofs.Vocabulary.{drop, Option, None, refl, sym, ap, subst, ◌∙◌, inl, inr, arith, append_assoc, if◌then◌else◌}
 use Rattle.osi_between.proofs.Vocabulary.{ArePackets, AllByRecursion, append-nil, length-take-le, take-take, packet_of, Value, written}
 use Rattle.osi_between.proofs.Vocabulary.{IsSendable, AreComing, TakesUnits, TakesSome, Fed, Carrying, Feeds, waits, is_spoilt}
 use Rattle.osi_between.proofs.Vocabulary.{TakesPackets, RunsDry, StopsBehind, Refuses, Starves, FindsNoMemory, Goes, react, State, packets}
@@ -18,10 +17,6 @@ units_taken (u ∷ us) s t all h =
       units_taken us (react u s) t all.1 (subst (λ (x : State). TakesPackets x (map written us) t) (packet_reacts s u all.0) h.1),
     )
 
-front_taken : (s t : State) (units : List (List ℕ)) (coming : List Value) (r behind : List ℕ) (f : Fronts units coming r behind) →
-    TakesPackets s units t → TakesUnits s f.done t
-front_taken s t units coming r behind f h = units_taken f.done s t f.sendable (subst (λ (l : List (List ℕ)). TakesPackets s l t) f.are h)
-
 runs_dry : (old new : Carrying) (outgoing : List ℕ) (coming : List Value) (k used : ℕ) → k ≤ length outgoing →
     AreComing old.held.octets outgoing coming → RunsDry old (take k outgoing) used new → TakesSome old outgoing coming used new
 runs_dry old new outgoing coming k used less c h =
@@ -32,7 +27,7 @@ runs_dry old new outgoing coming k used less c h =
       left = f.left;
       parts = f.parts;
       reached = new.state;
-      taken = front_taken old.state new.state h.units coming new.held.octets (drop k outgoing) f h.taken;
+      taken = grind (arith, units_taken);
       how = inl refl;
       coming_then = λ sound. subst (λ n. AreComing new.held.octets (drop n outgoing) f.left) (sym all) f.rest;
     }
@@ -49,12 +44,9 @@ stops_behind old new outgoing coming k used less c h =
       left = f.left;
       parts = f.parts;
       reached = new.state;
-      taken = front_taken old.state new.state h.units coming [] (drop n outgoing) f h.taken;
+      taken = grind (arith, units_taken);
       how = inl refl;
-      coming_then = λ sound.
-          let all : used ≡ n = h.uses ∙ ap (λ (b : Bool). if◌then◌else◌ {A = ℕ} b (length (take k outgoing)) n) sound in
-          subst (λ m. AreComing new.held.octets (drop m outgoing) f.left) (sym all)
-          (subst (λ l. AreComing l (drop n outgoing) f.left) (sym h.held) f.rest);
+      coming_then = grind arith;
     }
 
 refuses_none : (old new : Carrying) (outgoing : List ℕ) (coming : List Value) (k used : ℕ) → AreComing old.held.octets outgoing coming →
@@ -81,15 +73,14 @@ finds_none old new outgoing coming k used less c h =
     let ended : new.state ≡ ends NoMemory h.before =
     elim h.how [
       | inl e ↦ e.ended
-      | inr p ↦ starved_by h.before new.state p.0 f.left [] (drop n outgoing)
-          (units_front (p.0 ∷ []) f.left h.rest [] (drop n outgoing) f.rest.sendable p.1 f.rest.octets) p.2
+      | inr p ↦ search (arith, starved_by, units_front (p.0 ∷ []) f.left h.rest [] (drop n outgoing) f.rest.sendable p.1 f.rest.octets)
     ] in
     record {
       done = f.done;
       left = f.left;
       parts = f.parts;
       reached = h.before;
-      taken = front_taken old.state h.before h.units coming h.rest (drop n outgoing) f h.taken;
+      taken = grind (arith, units_taken);
       how = inr ended;
       coming_then = λ sound. let spoilt : is_spoilt new.state.ended ≡ true = ap (λ (s : State). is_spoilt s.ended) ended in absurd (cc);
     }
@@ -113,9 +104,7 @@ feeds_by old new outgoing coming k fed true less c quiet wait h =
       reached = old.state;
       taken = refl;
       how = inl (ap (λ (x : Carrying). x.state) none.1);
-      coming_then = λ sound.
-          subst (λ n. AreComing new.held.octets (drop n outgoing) coming) (sym none.0)
-          (subst (λ (x : Carrying). AreComing x.held.octets outgoing coming) (sym none.1) c);
+      coming_then = grind arith;
     }
 feeds_by old new outgoing coming k fed false less c quiet wait h =
     goes_some old new outgoing coming k fed.used less c
@@ -132,15 +121,11 @@ pub more_coming : (held outgoing : List ℕ) (coming units : List Value) → Are
     AreComing held (outgoing ++ packets units) (coming ++ units)
 more_coming held outgoing coming units c all = grind (arith, append_assoc, packets_join, all_behind)
 
-written_one : (u v : Value) → IsSendable u → IsSendable v → written u ≡ written v → u ≡ v
-written_one u v a b e = let same : Ok (u ∷ []) ≡ Ok (v ∷ []) = sym (unit_read u a) ∙ ap units_of e ∙ unit_read v b in cc
-
 written_all : (us vs : List Value) → AllByRecursion IsSendable us → AllByRecursion IsSendable vs → map written us ≡ map written vs → us ≡ vs
 written_all [] [] a b e = refl
 written_all (u ∷ us) (v ∷ vs) a b e =
-    let first : written u ≡ written v = cc in
     let others : map written us ≡ map written vs = cc in
-    ap (λ x. x ∷ us) (written_one u v a.0 b.0 first) ∙ ap (λ l. v ∷ l) (written_all us vs a.1 b.1 others)
+    ap (λ x. x ∷ us) (grind (arith, unit_read u a.0, unit_read v b.0)) ∙ ap (λ l. v ∷ l) (written_all us vs a.1 b.1 others)
 written_all us vs a b e = cc
 
 are_packets : (us : List Value) → AllByRecursion IsSendable us → ArePackets (map written us) (packets us) []
@@ -155,5 +140,4 @@ pub one_coming : (held outgoing : List ℕ) (us vs : List Value) → AreComing h
 one_coming held outgoing us vs a b =
     let f = units_front (map written us) vs (packets us) [] [] b.sendable (are_packets us a.sendable)
     (append-nil (packets us) ∙ sym a.octets ∙ b.octets) in
-    written_all us f.done a.sendable f.sendable f.are
-    ∙ sym (append-nil f.done) ∙ ap (λ l. f.done ++ l) (sym (none_left f.left (sym f.rest.octets))) ∙ sym f.parts
+    grind (arith, written_all, append-nil, none_left)

@@ -1,14 +1,13 @@
 -- Two carriers that agree on class 0: each unit that is taken, and each call.
 -- For the invariant.
 use Rattle.osi_between.specs.Zero.{unasked, asking, accepting, talking, answer_of, at_end, from_end, IsAccepted, Holds}
-use Rattle.osi_between.proofs.Vocabulary.{◌≡◌, ℕ, ◌==◌, Bool, true, false, List, [], ◌∷◌, ◌++◌, map, Option, Some, None, is_some, refl, sym}
-use Rattle.osi_between.proofs.Vocabulary.{ap, subst, ◌∙◌, arith, if◌then◌else◌, eqb-true, append-nil, append_cancel_left, map-append}
-use Rattle.osi_between.proofs.Vocabulary.{IsOctets, Value, Connect, request, confirm, LinkPair, swapped, under_way, IsShortTsdu, all_given}
-use Rattle.osi_between.proofs.Vocabulary.{Standing, Given, unit_of, with_tsdu, Zero, Local, sent, sent_on, closed_with, Place, never}
-use Rattle.osi_between.proofs.Vocabulary.{was_given, place_at, connection_in, Happening, pumped, react, pumps, value_at, Connection, asked}
-use Rattle.osi_between.proofs.Vocabulary.{linked, State, ends, Closed, reference_of, answers_in, answers_at, under_way_for, addressed}
-use Rattle.osi_between.proofs.Vocabulary.{Message, agree, message, messages_after, uncut_units, AreOpen, after_send, by_zero, terms_of}
-use Rattle.osi_between.proofs.Vocabulary.{ZeroCourse, HasOne, AreJoinedZero}
+use Rattle.osi_between.proofs.Vocabulary.{◌≡◌, ℕ, Bool, true, false, List, [], ◌∷◌, ◌++◌, map, Option, Some, refl, sym, ap, subst, ◌∙◌}
+use Rattle.osi_between.proofs.Vocabulary.{arith, eqb-true, append-nil, append_cancel_left, map-append, IsOctets, Value, Connect, request}
+use Rattle.osi_between.proofs.Vocabulary.{confirm, LinkPair, swapped, under_way, IsShortTsdu, all_given, Standing, Given, unit_of}
+use Rattle.osi_between.proofs.Vocabulary.{with_tsdu, Local, sent, sent_on, Place, never, was_given, place_at, connection_in, Happening}
+use Rattle.osi_between.proofs.Vocabulary.{pumped, react, pumps, value_at, Connection, asked, linked, State, ends, reference_of, answers_in}
+use Rattle.osi_between.proofs.Vocabulary.{answers_at, under_way_for, addressed, Message, agree, message, messages_after, uncut_units}
+use Rattle.osi_between.proofs.Vocabulary.{AreOpen, after_send, by_zero, terms_of, ZeroCourse, HasOne, AreJoinedZero}
 use Rattle.osi_between.proofs.between.an_acting_end_keeps_the_invariant.{JoinedAt, Does}
 use Rattle.osi_between.proofs.unit.what_a_taken_unit_means.{same_like, brings_sent}
 use Rattle.osi_between.proofs.meeting.what_a_unit_or_call_changes.{open_is_linked}
@@ -21,8 +20,7 @@ use Rattle.osi_between.proofs.joined.class_2_provides_what_is_asked.{Provides}
 use Rattle.osi_between.proofs.unit.a_unit_fits_a_packet.{all_sendable, range_end}
 use Rattle.osi_between.proofs.link.a_call_is_turns_of_two_links.{sends_passes}
 use Rattle.osi_between.proofs.zero.the_one_connection_of_class_0.{one_place, zero_for, under_is, brings_at, asks_zero, request_taken}
-use Rattle.osi_between.proofs.zero.the_one_connection_of_class_0.{confirm_taken, put_places, put_one, Talks, Talked, talk_takes, talk_sends}
-use Rattle.osi_between.proofs.zero.the_one_connection_of_class_0.{one_of}
+use Rattle.osi_between.proofs.zero.the_one_connection_of_class_0.{confirm_taken, put_places, Talks, Talked, talk_takes, talk_sends}
 use Rattle.osi_between.proofs.unit.the_units_of_one_connection.{none_left}
 
 -- ---- open links
@@ -72,9 +70,6 @@ finish : (end : Bool) (this other : State) (going coming rest : List Value) (u u
     (answers_in by_zero (place_at (reference_of unit) this) unit)
 finish end this other going coming rest u unit put same ref ans d = grind arith
 
-given_answer : (link : Standing) (g : Given) → answers_at (was_given (Some (linked 1 link))) (unit_of 1 g) ≡ []
-given_answer link g = grind arith
-
 talking_takes : (end : Bool) (this other : State) (going coming rest : List Value) (unit : Value) (p : LinkPair) (gs : List Given) →
     JoinedAt end by_zero this other going coming → HasOne this (was_given (Some (linked 1 p.left))) →
     HasOne other (was_given (Some (linked 1 p.right))) → going ≡ addressed 1 p.rightward → coming ≡ addressed 1 p.leftward →
@@ -84,8 +79,8 @@ talking_takes : (end : Bool) (this other : State) (going coming rest : List Valu
 talking_takes end this other going coming rest unit p [] j one there is back a e cut = grind (arith, none_left)
 talking_takes end this other going coming rest unit p (g ∷ gs) j one there is back a e cut =
     let head : unit_of 1 g ≡ unit = (let x = sym (back ∙ ap (addressed 1) e) ∙ cut in cc) in
-    finish end this other going coming rest (unit_of 1 g) unit [] head (one_of g)
-    (ap (λ (x : Place). answers_at x (unit_of 1 g)) (one_place this (was_given (Some (linked 1 p.left))) one) ∙ given_answer p.left g)
+    finish end this other going coming rest (unit_of 1 g) unit [] head (grind arith)
+    (ap (λ (x : Place). answers_at x (unit_of 1 g)) (one_place this (was_given (Some (linked 1 p.left))) one) ∙ (grind arith))
     (does_zero end this other (react (unit_of 1 g) this) going coming rest (unit_of 1 g ∷ []) [] p j there back
     (talk_takes this other going coming rest p g gs (talks this other going coming p one there is a)
     (cut ∙ ap (λ (x : Value). x ∷ rest) (sym head)) e))
@@ -134,18 +129,8 @@ pub record AtOne (n : ℕ) (x y : Connection) : Type 0 where
   pub reference : n ≡ 1
   pub is : x ≡ y
 
-at_one_by : (n : ℕ) (x y : Connection) (b : Bool) → (1 == n) ≡ b → (if b then Some x else None) ≡ Some y → AtOne n x y
-at_one_by n x y b e h = grind (arith, eqb-true)
-
 pub at_one : (s : State) (n : ℕ) (x y : Connection) → HasOne s (was_given (Some x)) → value_at n s.live ≡ Some y → AtOne n x y
-at_one s n x y one h = at_one_by n x y (1 == n) refl (sym (ap (value_at n) one.live) ∙ h)
-
-pub not_here : (s : State) (n : ℕ) (y : Connection) → HasOne s never → value_at n s.live ≡ Some y → ⊥
-not_here s n y one h = let no : None ≡ Some y = sym (ap (value_at n) one.live) ∙ h in cc
-
-pub not_asked : (s : State) (n peer : ℕ) (link : Standing) → HasOne s (was_given (Some asked)) →
-    value_at n s.live ≡ Some (linked peer link) → ⊥
-not_asked s n peer link one h = let no = (at_one s n asked (linked peer link) one h).is in cc
+at_one s n x y one h = grind (arith, eqb-true)
 
 -- after the CC
 accept_sends : (s r : State) (going coming : List Value) (c : Connect) (p : LinkPair) (octets : List ℕ) → AreJoinedZero s r going coming →
@@ -160,7 +145,7 @@ accept_sends s r going coming c p octets j one other none is h short are =
     let given = all_given (with_tsdu p.right octets) in
     let next = pumps 1 1 (with_tsdu p.right octets) r in
     let place = was_given (Some (linked 1 link)) in
-    let two : HasOne next place = put_one r next (linked 1 p.right) (linked 1 link) other refl refl refl refl refl in
+    let two : HasOne next place = grind arith in
     let here = one_place r (was_given (Some (linked 1 p.right))) other in
     let there = one_place s (was_given (Some asked)) one in
     let now_there = one_place next place two in
@@ -168,11 +153,9 @@ accept_sends s r going coming c p octets j one other none is h short are =
     let answer = confirm 1 (answer_of r.local c) in
     let all : coming ++ units ≡ answer ∷ addressed 1 q.rightward =
     ap (λ (l : List Value). l ++ units) is ∙ ap (λ (l : List Value). answer ∷ l) (sym (addressed_join 1 p.leftward given)) in
-    let begun : p.left.ends.joining.begun ≡ [] = ap (λ (l : Standing). l.ends.joining.begun) h.left in
     let behind : (x : LinkPair) → x.right ≡ p.left → x.right.ends.joining.whole ≡ [] →
     messages_after [] (addressed 1 x.rightward ++ uncut_units x.left.ends.unsent) ≡ map message (under_way x) =
-    λ x same whole. ap (λ (b : List ℕ). messages_after b (addressed 1 x.rightward ++ uncut_units x.left.ends.unsent))
-    (sym begun ∙ ap (λ (l : Standing). l.ends.joining.begun) (sym same)) ∙ pair_messages 1 x whole in
+    λ x same whole. grind (arith, pair_messages 1 x whole) in
     let was = under_is r s (was_given (Some (linked 1 p.right))) (was_given (Some asked)) coming
     (answer ∷ addressed 1 p.leftward) here there is (refl, zero_for p.leftward)
     ∙ ap (λ (l : List Message). agree ∷ l) (behind (swapped p) refl a.right.handed) in
@@ -195,11 +178,8 @@ accept_sends s r going coming c p octets j one other none is h short are =
         all_for = tt;
         written_for = zero_for given;
         before = same_like (connection_in (place_at 1 s)) (under_way_for 1 r s coming) (stays ++ []) (was ∙ sym (append-nil stays));
-        after = same_like (connection_in (place_at 1 s)) (under_way_for 1 next s (coming ++ units)) (stays ++ message octets ∷ [])
-            (now ∙ ap (λ (l : List Message). agree ∷ l)
-            (ap (map message) (sym passes.rightward) ∙ map-append message (under_way (swapped p)) (octets ∷ [])));
-        brings = brings_at r next (was_given (Some (linked 1 p.right))) place [] [] (message octets ∷ []) here now_there
-            (brings_sent 1 p.right octets);
+        after = grind (arith, same_like, map-append);
+        brings = search (arith, brings_at, brings_sent);
         others_stay = λ m apart. put_places r next (linked 1 link) m refl refl apart;
         given = none_more r.given;
         class = refl;
@@ -224,13 +204,12 @@ caller_sends : (s r : State) (going coming : List Value) (n peer : ℕ) (link : 
     AreJoinedZero s r going coming → HasOne s (at_end true g) → HasOne r (at_end false g) → going ≡ from_end true r.local g →
     coming ≡ from_end false r.local g → Holds s.local r.local g → value_at n s.live ≡ Some (linked peer link) → IsShortTsdu octets →
     IsOctets octets → Does by_zero true n s r (sent n octets s) going coming coming [] (message octets ∷ [])
-caller_sends s r going coming n peer link octets unasked j one other is back h at short are = grind (arith, not_here)
+caller_sends s r going coming n peer link octets unasked j one other is back h at short are = grind arith
 caller_sends s r going coming n peer link octets (talking p) j one other is back h at short are =
     subst (λ (m : ℕ). Does by_zero true m s r (sent m octets s) going coming coming [] (message octets ∷ []))
     (sym (at_one s n (linked 1 p.left) (linked peer link) one at).reference)
-    (does_zero true s r (sent 1 octets s) going coming coming [] (message octets ∷ []) p j other back
-    (talk_sends s r going coming p octets (talks s r going coming p one other is h) short are))
-caller_sends s r going coming n peer link octets g j one other is back h at short are = absurd (not_asked s n peer link one at)
+    (search (arith, does_zero, talk_sends))
+caller_sends s r going coming n peer link octets g j one other is back h at short are = absurd (grind (arith, at_one))
 
 called_sends : (s r : State) (going coming : List Value) (n peer : ℕ) (link : Standing) (octets : List ℕ) (g : ZeroCourse) →
     AreJoinedZero s r going coming → HasOne s (at_end true g) → HasOne r (at_end false g) → going ≡ from_end true r.local g →
@@ -245,7 +224,7 @@ called_sends s r going coming n peer link octets (talking p) j one other is back
     (sym (at_one r n (linked 1 p.right) (linked peer link) other at).reference)
     (does_zero false r s (sent 1 octets r) coming going going [] (message octets ∷ []) (swapped p) j one is
     (talk_sends r s coming going (swapped p) octets (talks r s coming going (swapped p) other one back (open_mirror false p h)) short are))
-called_sends s r going coming n peer link octets g j one other is back h at short are = absurd (not_here r n (linked peer link) other at)
+called_sends s r going coming n peer link octets g j one other is back h at short are = absurd (grind arith)
 
 sends_zero : (end : Bool) (this other : State) (going coming : List Value) (n peer : ℕ) (link : Standing) (octets : List ℕ) →
     JoinedAt end by_zero this other going coming → value_at n this.live ≡ Some (linked peer link) → IsShortTsdu octets → IsOctets octets →
@@ -255,27 +234,11 @@ sends_zero false this other going coming n peer link octets j at short are = sea
 
 -- ---- octets and events
 
-has_one_still : (s : State) (p : Place) (o : List ℕ) (e : List Happening) → HasOne s p → HasOne (with_queues o e s) p
-has_one_still s p o e h = record { live = h.live; given = h.given; class = h.class; lasts = h.lasts }
-
 queued_zero : (end : Bool) (this other : State) (o : List ℕ) (e : List Happening) (going coming : List Value) →
     JoinedAt end by_zero this other going coming → JoinedAt end by_zero (with_queues o e this) other going coming
-queued_zero end this other o e going coming j = grind (arith, has_one_still)
+queued_zero end this other o e going coming j = grind arith
 
 pub provides_zero : Provides by_zero
 provides_zero = search (arith, takes_zero, asks_zero, sends_zero, queued_zero)
 
 -- ---- a close ends the carrier
-
-closed_by : (s : State) (n peer reason : ℕ) (link : Standing) (p : Place) → s.ended ≡ None → s.class ≡ Some Zero →
-    value_at n s.live ≡ Some (linked peer link) → closed_with n reason s ≡ ends Closed s
-closed_by s n peer reason link p lasts class at = grind (arith, is_some)
-
-class_at : (s : State) (n peer : ℕ) (link : Standing) (end : Bool) (g : ZeroCourse) → HasOne s (at_end end g) →
-    value_at n s.live ≡ Some (linked peer link) → s.class ≡ Some Zero
-class_at s n peer link end g one at = grind (arith, not_here, not_asked)
-
-pub closes_zero : (end : Bool) (this other : State) (going coming : List Value) (n peer : ℕ) (link : Standing) (reason : ℕ) →
-    JoinedAt end by_zero this other going coming → value_at n this.live ≡ Some (linked peer link) →
-    closed_with n reason this ≡ ends Closed this
-closes_zero end this other going coming n peer link reason j at = grind (arith, closed_by, class_at)

@@ -1,5 +1,5 @@
 -- When a link refuses a unit, nothing has changed yet; when it takes one, its row, the octets to send and the events have.
-use Rattle.std.proofs.Common.{◌≡◌, ℕ, List, [], ◌∷◌, ◌++◌, length, map, take, Some, Result, Ok, Err, IsOk, refl, sym, ap, ◌∙◌}
+use Rattle.std.proofs.Common.{arith, ◌≡◌, ℕ, List, [], ◌∷◌, ◌++◌, length, map, take, Some, Result, Err, IsOk, refl, sym, ap, ◌∙◌}
 use Rattle.osi_carrier.specs.declared.events.Event.{Event}
 use Rattle.osi_carrier.proofs.Vocabulary.{append-nil, map-append, disconnect, Standing, LinkFault, Two, Happening, happening, faulted}
 use Rattle.osi_carrier.proofs.Vocabulary.{breaks, taking, Rows, value_at, put, peer_in, link_in, Connection, linked, closing, State}
@@ -9,9 +9,7 @@ use Rattle.osi_carrier.proofs.references.the_row_at_a_place.{put_same}
 
 pub broke_rows : (r peer : ℕ) (live new : Rows Connection) (t : Result Standing LinkFault) (fault : LinkFault) → t ≡ Err fault →
     peer_in (value_at r live) ≡ Some peer → new ≡ put r (linked peer (link_after (link_in (value_at r live)) t)) live → new ≡ live
-broke_rows r peer live new t fault e opened h =
-    h ∙ ap (λ u. put r (linked peer (link_after (link_in (value_at r live)) u)) live) e
-    ∙ put_same r (linked peer (link_in (value_at r live))) live (open_is (value_at r live) peer opened)
+broke_rows r peer live new t fault e opened h = grind (arith, put_same, open_is)
 
 pub broke_octets : (peer : ℕ) (before after : List ℕ) (t : Result Standing LinkFault) (fault : LinkFault) → t ≡ Err fault →
     after ≡ before ++ packets (units_after peer t) → after ≡ before
@@ -19,8 +17,7 @@ broke_octets peer before after t fault e h = h ∙ ap (λ u. before ++ packets (
 
 pub broke_taking : (r peer : ℕ) (s mid new : State) (t : Result Standing LinkFault) (fault : LinkFault) → t ≡ Err fault → mid ≡ s →
     new ≡ breaks r peer fault mid.class mid → new ≡ taking r peer t s
-broke_taking r peer s mid new t fault e same h = h ∙ ap (λ (x : State). breaks r peer fault x.class x) same ∙
-    sym (ap (λ u. taking r peer u s) e)
+broke_taking r peer s mid new t fault e same h = grind arith
 
 -- ---- when it takes a unit
 
@@ -31,13 +28,7 @@ pub took_taking : (r peer : ℕ) (s now : State) (t : Result Standing LinkFault)
       events = s.events ++ map (tsdu r) whole;
     } →
     now ≡ taking r peer t s
-took_taking r peer s now (Ok link) whole ok e h =
-    h ∙ ap (λ (w : List (List ℕ)). record s {
-      live = put r (linked peer (link_after (link_in (value_at r s.live)) (Ok link))) s.live;
-      outgoing = s.outgoing ++ packets (units_after peer (Ok link));
-      events = s.events ++ map (tsdu r) w;
-    }) e
-took_taking r peer s now (Err fault) whole ok e h = cc
+took_taking r peer s now h whole ok e h2 = grind arith
 
 -- nothing stays of what was written behind this many octets
 pub undone : (octets more : List ℕ) → take (length octets) (octets ++ more) ≡ octets

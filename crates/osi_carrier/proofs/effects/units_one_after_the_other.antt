@@ -28,17 +28,10 @@ pub record IsAlong (start : State) (all : List Value) (now : State) (left : List
   pub acted : now ≡ reacts done start
   pub lasts : now.ended ≡ None
 
-pub along_first : (s : State) (all : List Value) → s.ended ≡ None → IsAlong s all s all
-along_first s all quiet = record { done = []; parts = refl; acted = refl; lasts = quiet }
-
 pub along_next : (start now after : State) (all left more : List Value) (unit : Value) → IsAlong start all now left → left ≡ unit ∷ more →
     after ≡ in_class now.class unit now → after.ended ≡ None → IsAlong start all after more
-along_next start now after all left more unit h e acts lasts = record {
-  done = h.done ++ unit ∷ [];
-  parts = h.parts ∙ ap (λ l. h.done ++ l) e ∙ sym (append_assoc h.done (unit ∷ []) more);
-  acted = acts ∙ sym (react_quiet unit now h.lasts) ∙ ap (react unit) h.acted ∙ sym (reacts_join h.done (unit ∷ []) start);
-  lasts = lasts;
-}
+along_next start now after all left more unit h e acts lasts =
+    grind (arith, append_assoc h.done (unit ∷ []) more, react_quiet unit now h.lasts, react unit, reacts_join h.done (unit ∷ []) start)
 
 pub along_end : (start now : State) (all left : List Value) → IsAlong start all now left → left ≡ [] → Act start all now
 along_end start now all left h e = inl (h.acted ∙ ap (λ l. reacts l start) (sym (h.parts ∙ ap (λ l. h.done ++ l) e ∙ append-nil h.done)))
@@ -46,11 +39,7 @@ along_end start now all left h e = inl (h.acted ∙ ap (λ l. reacts l start) (s
 -- a unit that ended the carrier was the last that acted
 pub along_over : (start now after : State) (all left more : List Value) (unit : Value) → IsAlong start all now left → left ≡ unit ∷ more →
     after ≡ in_class now.class unit now → is_some after.ended ≡ true → Act start all after
-along_over start now after all left more unit h e acts over =
-    let one : after ≡ react unit now = acts ∙ sym (react_quiet unit now h.lasts) in
-    let rest : reacts more after ≡ after = reacts_over more after over in
-    inl (sym (ap (λ l. reacts l start) (h.parts ∙ ap (λ l. h.done ++ l) e) ∙ reacts_join h.done (unit ∷ more) start
-    ∙ ap (λ s. reacts (unit ∷ more) s) (sym h.acted) ∙ ap (reacts more) (sym one) ∙ rest))
+along_over start now after all left more unit h e acts over = search (arith, react, react_quiet, reacts_over, reacts_join)
 
 -- a unit for which memory ran out did nothing
 pub along_starved : (start now tried after : State) (all left more : List Value) (unit : Value) → IsAlong start all now left →
@@ -62,16 +51,11 @@ along_starved start now tried after all left more unit h e nothing needs ended =
 pub none_of : {A : Type 0} (o : Option A) → is_some o ≡ false → o ≡ None
 none_of o e = grind arith
 
--- one unit acts, or memory ran out for it
-pub one_acts : (start after : State) (unit : Value) → start.ended ≡ None → after ≡ in_class start.class unit start →
-    Act start (unit ∷ []) after
-one_acts start after unit quiet acts = inl (acts ∙ sym (react_quiet unit start quiet))
-
 pub one_starved : (start tried after : State) (unit : Value) → start.ended ≡ None → ends NoMemory tried ≡ ends NoMemory start →
     grows start (in_class start.class unit start) ≡ true → after ≡ ends NoMemory tried → Act start (unit ∷ []) after
 one_starved start tried after unit quiet nothing needs ended =
-    along_starved start start tried after (unit ∷ []) (unit ∷ []) [] unit (along_first start (unit ∷ []) quiet) refl nothing needs ended
+    along_starved start start tried after (unit ∷ []) (unit ∷ []) [] unit (grind arith) refl nothing needs ended
 
 pub one_taken : (start after then : State) (unit : Value) → start.ended ≡ None → in_class start.class unit start ≡ then → after ≡ then →
     Act start (unit ∷ []) after
-one_taken start after then unit quiet acts is = one_acts start after unit quiet (is ∙ sym acts)
+one_taken start after then unit quiet acts is = grind (arith, react_quiet)

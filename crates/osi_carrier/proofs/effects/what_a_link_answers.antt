@@ -1,39 +1,29 @@
 -- What a unit does to its link, from the answers of the link: it was refused and nothing has changed, or it was taken, a
 -- complete TSDU was handed out, and what the link then gave was written. For the call that hands a unit to its link.
-use Rattle.std.proofs.Common.{◌≡◌, ℕ, Bool, List, take, Option, Some, None, Result, Ok, Err, IsOk, OnErr, option_to_list}
-use Rattle.std.proofs.Common.{refl, sym, ap, subst, ◌∙◌}
+use Rattle.std.proofs.Common.{arith, ◌≡◌, ℕ, Bool, List, Option, Result, Ok, Err, IsOk, OnErr, option_to_list, sym, ap, ◌∙◌}
 use Rattle.osi_class.specs.Taking.{TakesUnit}
-use Rattle.osi_class.specs.declared.faults.LinkFault.TheVariants.{WrongForm, OutOfSequence, CreditReduced, TsduTooLong, OutOfMemory}
+use Rattle.osi_class.specs.declared.faults.LinkFault.TheVariants.{OutOfMemory}
 use Rattle.osi_carrier.proofs.Vocabulary.{Standing, Hands, LinkFault, pumped, written_by, link_after, units_after, whole_after}
-use Rattle.osi_carrier.proofs.written.what_needs_memory_does_something.{handed_is}
 
 pub refused_by : {A : Type 0} (r : Result A LinkFault) (f : LinkFault) (needs : Bool) (t : Result Standing LinkFault) (old new : Standing) →
     r ≡ Err f → (f ≡ OutOfMemory → ⊥) →
     TakesUnit r needs t old new → (t ≡ Err f) × (new ≡ old)
-refused_by (Ok a) f needs t old new e other h = cc
-refused_by (Err WrongForm) f needs t old new e other h = (cc, h.1)
-refused_by (Err OutOfSequence) f needs t old new e other h = (cc, h.1)
-refused_by (Err CreditReduced) f needs t old new e other h = (cc, h.1)
-refused_by (Err TsduTooLong) f needs t old new e other h = (cc, h.1)
-refused_by (Err OutOfMemory) f needs t old new e other h = absurd (other cc)
+refused_by h f needs t old new e other h2 = grind arith
 
 -- what is known of a refusal
 pub on_err : {A E P : Type 0} (r : Result A E) (e : E) → r ≡ Err e → OnErr r P → P
-on_err (Err f) e is h = h
-on_err (Ok a) e is h = cc
+on_err h e is h2 = grind arith
 
 -- the TSDU that was handed out
 pub took_whole : (o : Option (List ℕ)) (t u : Standing) (r : Result Standing LinkFault) → r ≡ Ok t → Hands o t u →
     IsOk r × (option_to_list o ≡ whole_after r)
-took_whole None t u r ok h = (subst IsOk (sym ok) refl, sym (ap whole_after ok ∙ ap (take 1) h.0))
-took_whole (Some octets) t u r ok h =
-    (subst IsOk (sym ok) refl, sym (ap whole_after ok ∙ ap (λ (x : Standing). take 1 x.ends.joining.whole) h))
+took_whole h t u r ok h2 = grind arith
 
 -- the link after everything that it gives now was written
 pub took_link : (o : Option (List ℕ)) (s t u : Standing) (r : Result Standing LinkFault) → r ≡ Ok t → Hands o t u →
     pumped u ≡ link_after s r
-took_link o s t u r ok h = ap pumped (handed_is o t u h) ∙ sym (ap (link_after s) ok)
+took_link o s t u r ok h = ap pumped (grind arith) ∙ sym (ap (link_after s) ok)
 
 pub took_units : (peer : ℕ) (o : Option (List ℕ)) (t u : Standing) (r : Result Standing LinkFault) → r ≡ Ok t → Hands o t u →
     written_by peer u ≡ units_after peer r
-took_units peer o t u r ok h = ap (written_by peer) (handed_is o t u h) ∙ sym (ap (units_after peer) ok)
+took_units peer o t u r ok h = ap (written_by peer) (grind arith) ∙ sym (ap (units_after peer) ok)

@@ -25,11 +25,8 @@ push_other_by : {X : Type 0} (q p n : ℕ) (x y : X) (rows : Rows X) (c : Bool) 
     value_at q (rows ++ (n, x) ∷ []) ≡ value_at q rows → value_at q ((p, y) ∷ (rows ++ (n, x) ∷ [])) ≡ value_at q ((p, y) ∷ rows)
 push_other_by q p n x y rows c f more = grind arith
 
-none_there : {X : Type 0} (q n : ℕ) (x : X) (c : Bool) → (n == q) ≡ c → q ≢ n → value_at q ((n, x) ∷ []) ≡ None
-none_there q n x c f other = grind (arith, eqb-true)
-
 pub push_other : {X : Type 0} (q n : ℕ) (x : X) (rows : Rows X) → q ≢ n → value_at q (rows ++ (n, x) ∷ []) ≡ value_at q rows
-push_other q n x [] other = none_there q n x (n == q) refl other
+push_other q n x [] other = grind (arith, eqb-true)
 push_other q n x ((p, y) ∷ rows) other = push_other_by q p n x y rows (p == q) refl (push_other q n x rows other)
 
 -- ---- references without a value

@@ -1,6 +1,6 @@
 -- Rows that rise by a key, such as a reference: each key has one place, and what preserves the order.
-use Rattle.std.proofs.Common.{◌≡◌, ℕ, Bool, zero, suc, ◌<◌, ◌≤◌, ◌==◌, true, false, List, [], ◌∷◌, ◌++◌, length, get_or, set, Some, Result}
-use Rattle.std.proofs.Common.{Ok, Err, refl, sym, arith, None, inl, inr}
+use Rattle.std.proofs.Common.{◌≡◌, ℕ, Bool, zero, suc, ◌<◌, ◌≤◌, ◌==◌, true, List, [], ◌∷◌, ◌++◌, length, get_or, set, Some, Result, Ok}
+use Rattle.std.proofs.Common.{Err, refl, sym, arith, None}
 use Rattle.std.specs.List.Sorted.{IsSearchInRange, IsBinarySearchResult, IsNonDecreasingBy}
 use Rattle.std.specs.Ordering.{nat_cmp, ordering_index}
 use Rattle.std.specs.Result.{result_ok}
@@ -27,16 +27,12 @@ before_at key n (y ∷ rows) (suc i) zero d h within less = above_at key (key y)
 before_at key n (y ∷ rows) (suc i) (suc k) d h within less = before_at key (key y) rows i k d h.1 (omega arith) (omega arith)
 before_at key n rows i k d h within less = absurd (omega arith)
 
-other_by : (q r : ℕ) (b : Bool) → (q == r) ≡ b → q < r → b ≡ false
-other_by q r b e less = grind (arith, eqb-true)
-
 pub place_here : {X : Type 0} (key : X → ℕ) (r : ℕ) (rows : List X) (i : ℕ) (d : X) → RiseBy key 0 rows → i < length rows →
     key (get_or rows i d) ≡ r → place_by key r rows ≡ Some i
 place_here key r rows i d h within here =
     let at : position_or_len (λ row. key row == r) rows ≡ i =
     position_or_len_is (λ row. key row == r) rows i d (omega arith)
-    (λ k less. other_by (key (get_or rows k d)) r (key (get_or rows k d) == r) refl
-    (let lower = before_at key 0 rows i k d h within less in omega arith))
+    (λ k less. grind (arith, before_at key 0 rows i k d h within less))
     (λ inside. eq-eqb (key (get_or rows i d)) r here) in
     grind (arith, common_steps)
 
@@ -57,9 +53,6 @@ comparisons_rise key r rows d rise =
     IsNonDecreasingBy-from_default (λ row. ordering_index (nat_cmp (key row) r)) rows d
     (λ i j before within. let lower = up_to_at key 0 rows j i d rise within before in grind (arith, nat_tests))
 
-over_by : (q r : ℕ) (b : Bool) → (q == r) ≡ b → r < q → b ≡ false
-over_by q r b e less = grind (arith, eqb-true)
-
 -- rows before a place are below a key, and those from it on above
 nowhere : {X : Type 0} (key : X → ℕ) (r : ℕ) (rows : List X) (i : ℕ) (d : X) → i ≤ length rows →
     ((k : ℕ) → k < i → key (get_or rows k d) < r) →
@@ -67,10 +60,7 @@ nowhere : {X : Type 0} (key : X → ℕ) (r : ℕ) (rows : List X) (i : ℕ) (d 
 nowhere key r rows i d within below above =
     let none : position_or_len (λ row. key row == r) rows ≡ length rows =
     position_or_len_is (λ row. key row == r) rows (length rows) d (omega arith)
-    (λ k less. elim (cases_lt k i) [
-      | inl lower ↦ other_by (key (get_or rows k d)) r (key (get_or rows k d) == r) refl (below k lower)
-      | inr behind ↦ over_by (key (get_or rows k d)) r (key (get_or rows k d) == r) refl (above k (omega arith) less)
-    ])
+    (grind (arith, cases_lt, eqb-true))
     (λ inside. absurd (omega arith)) in
     grind (arith, common_steps)
 

@@ -10,14 +10,10 @@ found {X} m q y rows b e = ap (λ (c : Bool). if◌then◌else◌ {A = Option X}
 
 -- ---- put
 
-put_row : {X : Type 0} (r q : ℕ) (x y : X) (rows : Rows X) (b : Bool) → (q == r) ≡ b →
-    put r x ((q, y) ∷ rows) ≡ (if b then (q, x) ∷ rows else (q, y) ∷ put r x rows)
-put_row {X} r q x y rows b e = ap (λ (c : Bool). if◌then◌else◌ {A = Rows X} c ((q, x) ∷ rows) ((q, y) ∷ put r x rows)) e
-
 put_here_by : {X : Type 0} (r q : ℕ) (x y z : X) (rows : Rows X) (b : Bool) → (q == r) ≡ b →
     (value_at r rows ≡ Some z → value_at r (put r x rows) ≡ Some x) →
     value_at r ((q, y) ∷ rows) ≡ Some z → value_at r (put r x ((q, y) ∷ rows)) ≡ Some x
-put_here_by {X} r q x y z rows b e more h = grind (arith, put_row, found)
+put_here_by {X} r q x y z rows b e more h = grind (arith, found)
 
 pub put_here : {X : Type 0} (r : ℕ) (x z : X) (rows : Rows X) → value_at r rows ≡ Some z → value_at r (put r x rows) ≡ Some x
 put_here r x z [] h = cc
@@ -28,11 +24,6 @@ put_here r x z ((q, y) ∷ rows) h = put_here_by r q x y z rows (q == r) refl (p
 without_row : {X : Type 0} (r q : ℕ) (y : X) (rows : Rows X) (b : Bool) → (q == r) ≡ b →
     without r ((q, y) ∷ rows) ≡ (if b then rows else (q, y) ∷ without r rows)
 without_row {X} r q y rows b e = ap (λ (c : Bool). if◌then◌else◌ {A = Rows X} c rows ((q, y) ∷ without r rows)) e
-
-without_here_by : {X : Type 0} (r q : ℕ) (y : X) (rows : Rows X) (b : Bool) → (q == r) ≡ b → value_at q rows ≡ None →
-    value_at r (without r rows) ≡ None →
-    value_at r (without r ((q, y) ∷ rows)) ≡ None
-without_here_by {X} r q y rows b e none more = grind (arith, without_row, eqb-true, found)
 
 -- a reference that is not above the first has no row
 absent_by : {X : Type 0} (m n q : ℕ) (y : X) (rows : Rows X) (b : Bool) → (q == m) ≡ b → m ≤ n → n < q → value_at m rows ≡ None →
@@ -45,7 +36,7 @@ absent m n ((q, y) ∷ rows) le h = absent_by m n q y rows (q == m) refl le h.0 
 
 without_above : {X : Type 0} (n r : ℕ) (rows : Rows X) → RiseFrom n rows → value_at r (without r rows) ≡ None
 without_above n r [] h = refl
-without_above n r ((q, y) ∷ rows) h = grind (arith, without_here_by, absent, without_above q r rows h.1)
+without_above n r ((q, y) ∷ rows) h = grind (arith, absent, without_above q r rows h.1)
 
 pub without_here : {X : Type 0} (r : ℕ) (rows : Rows X) → RiseFrom 0 rows → value_at r (without r rows) ≡ None
 without_here r rows h = without_above 0 r rows h

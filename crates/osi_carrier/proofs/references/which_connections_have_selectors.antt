@@ -1,15 +1,13 @@
 -- Which connections have transport selectors, and that these stay.
-use Rattle.std.proofs.Common.{◌≡◌, ℕ, ◌+◌, ◌==◌, Bool, true, false, List, [], ◌∷◌, ◌++◌, Option, Some, None, is_some, IsSome, Result, Ok}
-use Rattle.std.proofs.Common.{Err, refl, sym, ap, subst, ◌∙◌, arith, if◌then◌else◌}
-use Rattle.std.proofs.Common.{eq-eqb}
+use Rattle.std.proofs.Common.{◌≡◌, ℕ, ◌+◌, ◌==◌, Bool, true, false, List, [], ◌∷◌, ◌++◌, Option, Some, None, is_some, Result, Ok, Err, refl}
+use Rattle.std.proofs.Common.{sym, ap, subst, ◌∙◌, arith, if◌then◌else◌, eq-eqb}
 use Rattle.osi_carrier.specs.References.{references, dropped}
 use Rattle.osi_carrier.proofs.Vocabulary.{connection_by, eqb-true, Value, Connect, request, confirm, disconnect, disconnected, data0, error}
 use Rattle.osi_carrier.proofs.Vocabulary.{Standing, Selection, accept, refuse, selected_by, LinkFault, Class, Zero, Two, Local, fresh_state}
 use Rattle.osi_carrier.proofs.Vocabulary.{asks, sent_on, sent, open_link, closes, closed_on, closed_with, ended_by, tsaps_at, AreNamed}
-use Rattle.osi_carrier.proofs.Vocabulary.{KeepsTsaps, confirmed, IsOrderly, denies, answers, is_full, has_peer, answers_request, to_unknown}
-use Rattle.osi_carrier.proofs.Vocabulary.{opens, to_asked, taking, breaks, leaves, to_linked, to_closing, to_connection, to_reference}
-use Rattle.osi_carrier.proofs.Vocabulary.{before_class, to_only, in_zero, in_two, in_class, react, react_by, Rows, value_at, put, without}
-use Rattle.osi_carrier.proofs.Vocabulary.{Connection, asked, TsapIds, State, ends, EndReason, sent_all}
+use Rattle.osi_carrier.proofs.Vocabulary.{KeepsTsaps, confirmed, IsOrderly, denies, answers, to_unknown, opens, to_asked, taking, breaks}
+use Rattle.osi_carrier.proofs.Vocabulary.{leaves, to_closing, to_reference, before_class, to_only, in_zero, in_two, react, react_by, Rows}
+use Rattle.osi_carrier.proofs.Vocabulary.{value_at, put, without, Connection, asked, TsapIds, State, EndReason, sent_all}
 use Rattle.osi_carrier.proofs.references.what_a_change_leaves_there.{without_here}
 use Rattle.osi_carrier.proofs.references.rows_after_a_change.{without_other, push_other}
 
@@ -70,9 +68,6 @@ request_names_by : (c : Connect) (s : State) (in_use full : Bool) →
 request_names_by c s false false = answers_names c (selected_by c s.local) s.class s
 request_names_by c s in_use full = stays refl refl
 
-request_names : (c : Connect) (s : State) → Naming s (answers_request c s)
-request_names c s = request_names_by c s (has_peer c.source s.live) (is_full s)
-
 unknown_names : (unit : Value) (s : State) → Naming s (to_unknown unit s)
 unknown_names (disconnect destination source reason octets) s = stays refl refl
 unknown_names (disconnected destination source) s = stays refl refl
@@ -99,19 +94,13 @@ leaves_names : (r peer reason : ℕ) (held : Option Class) (s : State) → Namin
 leaves_names r peer reason (Some Two) s = loses r refl refl
 leaves_names r peer reason held s = clears refl refl
 
-linked_names : (r peer : ℕ) (link : Standing) (unit : Value) (s : State) → Naming s (to_linked r peer link unit s)
-linked_names r peer link unit s = grind (arith, leaves_names, taking_names)
-
 closing_names : (r : ℕ) (unit : Value) (s : State) → Naming s (to_closing r unit s)
 closing_names r (disconnected destination source) s = loses r refl refl
 closing_names r (disconnect destination source reason octets) s = loses r refl refl
 closing_names r unit s = stays refl refl
 
-connection_names : (r : ℕ) (at : Option Connection) (unit : Value) (s : State) → Naming s (to_connection r at unit s)
-connection_names r at unit s = grind (arith, unknown_names, asked_names, linked_names, closing_names)
-
 reference_names : (r : ℕ) (unit : Value) (s : State) → Naming s (to_reference r unit s)
-reference_names r unit s = connection_names r (value_at r s.live) unit s
+reference_names r unit s = grind (arith, unknown_names, asked_names, leaves_names, taking_names, closing_names)
 
 -- ---- by class
 
@@ -119,12 +108,12 @@ before_names : (is_caller : Bool) (unit : Value) (s : State) → Naming s (befor
 before_names true (confirm destination c) s = reference_names destination (confirm destination c) s
 before_names true (disconnect destination source reason octets) s = grind (arith, reference_names)
 before_names true (error destination cause) s = reference_names destination (error destination cause) s
-before_names false (request c) s = request_names c s
+before_names false (request c) s = search (arith, request_names_by)
 before_names is_caller unit s = clears refl refl
 
 only_names : (live : Rows Connection) (unit : Value) (s : State) → Naming s (to_only live unit s)
 only_names [] unit s = stays refl refl
-only_names ((r, connection) ∷ rows) unit s = connection_names r (Some connection) unit s
+only_names ((r, connection) ∷ rows) unit s = grind (arith, unknown_names, asked_names, leaves_names, taking_names, closing_names)
 
 zero_names : (is_caller : Bool) (unit : Value) (s : State) → Naming s (in_zero is_caller unit s)
 zero_names true (request c) s = clears refl refl
@@ -132,16 +121,13 @@ zero_names is_caller unit s = only_names s.live unit s
 
 two_names : (is_caller : Bool) (unit : Value) (s : State) → Naming s (in_two is_caller unit s)
 two_names true (request c) s = clears refl refl
-two_names false (request c) s = request_names c s
+two_names false (request c) s = search (arith, request_names_by)
 two_names is_caller (data0 end octets) s = clears refl refl
 two_names is_caller unit s = reference_names (connection_by (Some Two) unit s) unit s
 
-class_names : (held : Option Class) (unit : Value) (s : State) → Naming s (in_class held unit s)
-class_names held unit s = grind (arith, before_names, zero_names, two_names)
-
 over_names : (over : Bool) (unit : Value) (s : State) → Naming s (react_by over unit s)
 over_names true unit s = stays refl refl
-over_names false unit s = class_names s.class unit s
+over_names false unit s = grind (arith, before_names, zero_names, two_names)
 
 unit_names : (unit : Value) (s : State) → Naming s (react unit s)
 unfolding react
@@ -169,14 +155,9 @@ closed_names r reason (Some (peer, link)) s = closes_names r peer reason s.class
 pub named : (s t : State) → Naming s t → AreNamed s → AreNamed t
 named s t h h_ = grind (arith, drop_named, join_named)
 
-lost_by : (r q : ℕ) (s t : State) (b : Bool) → (q == r) ≡ b → IsOrderly s → t.tsaps ≡ without r s.tsaps → t.live ≡ without r s.live →
-    IsSome (value_at q t.live) →
-    value_at q t.tsaps ≡ value_at q s.tsaps
-lost_by r q s t b e orderly tsaps live there = grind (arith, eqb-true, without_here, is_some, without_other, eq-eqb)
-
 keeps : (s t : State) → Naming s t → IsOrderly s → KeepsTsaps s t
 keeps s t (stays tsaps live) orderly q within there = ap (value_at q) tsaps
-keeps s t (loses r tsaps live) orderly q within there = lost_by r q s t (q == r) refl orderly tsaps live there
+keeps s t (loses r tsaps live) orderly q within there = grind (arith, eqb-true, without_here, is_some, without_other, eq-eqb)
 keeps s t (gains c ids tsaps live) orderly q within there = grind (arith, push_other)
 keeps s t (clears tsaps live) orderly q within there = grind arith
 
@@ -204,11 +185,8 @@ sent_all_named r (tsdu ∷ tsdus) s h = sent_all_named r tsdus (sent r tsdu s) (
 pub closed_named : (r reason : ℕ) (s : State) → AreNamed s → AreNamed (closed_with r reason s)
 closed_named r reason s h = named s (closed_with r reason s) (closed_names r reason (open_link r s) s) h
 
-ended_by_named : (over : Bool) (reason : EndReason) (s : State) → AreNamed s → AreNamed (if over then s else ends reason s)
-ended_by_named over reason s h = grind arith
-
 pub ended_named : (reason : EndReason) (s : State) → AreNamed s → AreNamed (ended_by reason s)
-ended_named reason s h = ended_by_named (is_some s.ended) reason s h
+ended_named reason s h = grind arith
 
 pub unit_keeps : (unit : Value) (s : State) → IsOrderly s → KeepsTsaps s (react unit s)
 unit_keeps unit s orderly = keeps s (react unit s) (unit_names unit s) orderly
@@ -219,12 +197,9 @@ asks_keeps calling called s orderly = keeps s (asks calling called s) (asks_name
 pub sent_keeps : (r : ℕ) (tsdu : List ℕ) (s : State) → IsOrderly s → KeepsTsaps s (sent r tsdu s)
 sent_keeps r tsdu s orderly = keeps s (sent r tsdu s) (sent_names r tsdu (open_link r s) s) orderly
 
-sent_tsaps : (r : ℕ) (tsdu : List ℕ) (link : Option (ℕ × Standing)) (s : State) → (sent_on r tsdu link s).tsaps ≡ s.tsaps
-sent_tsaps r tsdu link s = grind arith
-
 sent_all_tsaps : (r : ℕ) (tsdus : List (List ℕ)) (s : State) → (sent_all r tsdus s).tsaps ≡ s.tsaps
 sent_all_tsaps r [] s = refl
-sent_all_tsaps r (tsdu ∷ tsdus) s = sent_all_tsaps r tsdus (sent r tsdu s) ∙ sent_tsaps r tsdu (open_link r s) s
+sent_all_tsaps r (tsdu ∷ tsdus) s = sent_all_tsaps r tsdus (sent r tsdu s) ∙ (grind arith)
 
 pub sent_all_keeps : (r : ℕ) (tsdus : List (List ℕ)) (s : State) → IsOrderly s → KeepsTsaps s (sent_all r tsdus s)
 sent_all_keeps r tsdus s orderly q within there = ap (value_at q) (sent_all_tsaps r tsdus s)

@@ -1,49 +1,24 @@
 -- Over every run of calls, a carrier has done exactly what the packets of the octets used and its user's calls do.
-use Rattle.std.proofs.Common.{◌≡◌, ℕ, ◌+◌, ◌-◌, ◌<◌, ◌^◌, ◌||◌, Bool, true, false, List, [], ◌∷◌, ◌++◌, length, take, map, Option, Some}
-use Rattle.std.proofs.Common.{None, is_some, refl, sym, ap, subst, ◌∙◌, inl, inr, arith, append_assoc, length-append, if◌then◌else◌}
+use Rattle.std.proofs.Common.{◌≡◌, ℕ, ◌+◌, ◌-◌, ◌<◌, ◌^◌, Bool, true, false, List, [], ◌∷◌, ◌++◌, length, take, map, Option, Some, None}
+use Rattle.std.proofs.Common.{is_some, refl, sym, ap, ◌∙◌, arith, append_assoc, length-append}
 use Rattle.std.proofs.lemmas.List.Concat.{flat_map-append}
 pub use Rattle.osi_tpkt.proofs.the_packets_are_those_of_the_stream.{packets_joined}
-use Rattle.osi_carrier.proofs.Vocabulary.{append-nil, take_all, flat_map, IsPartial, ArePackets, offset_of, Fed, Tells, sent_on}
-use Rattle.osi_carrier.proofs.Vocabulary.{closes as closes_at, closed_on, Happening, Standing, Class, Carrying, Feeds, Goes, RunsDry}
-use Rattle.osi_carrier.proofs.Vocabulary.{StopsBehind, TakesPackets, after_packet, waits, UserCall, Act, Call, user_does, does, all_done}
-use Rattle.osi_carrier.proofs.Vocabulary.{packet_in, call_in, Calls, CallsAlong, used_in, told_in, carried_in, called_in, put_back, Reads}
-use Rattle.osi_carrier.proofs.Vocabulary.{AreAlike, packet, user, feeding, telling, carrying, calling, State, ends, EndReason, sent_all}
-use Rattle.osi_carrier.proofs.Vocabulary.{sent, open_link}
+use Rattle.osi_carrier.proofs.Vocabulary.{append-nil, take_all, flat_map, IsPartial, ArePackets, offset_of, Fed, Tells, Happening, Carrying}
+use Rattle.osi_carrier.proofs.Vocabulary.{Feeds, TakesPackets, after_packet, waits, Act, Call, does, all_done, packet_in, call_in, Calls}
+use Rattle.osi_carrier.proofs.Vocabulary.{CallsAlong, used_in, told_in, carried_in, called_in, put_back, Reads, AreAlike, packet, user}
+use Rattle.osi_carrier.proofs.Vocabulary.{feeding, telling, carrying, calling, State, sent_all, sent}
 use Rattle.osi_carrier.proofs.effects.what_is_in_front_changes_nothing.{apart_all}
 use Rattle.osi_carrier.proofs.effects.units_one_after_the_other.{none_of}
 use Rattle.osi_carrier.proofs.stream.a_piece_is_read_packet_by_packet.{packets_leave}
 
 -- ---- an end stays
 
-sent_ended : (r : ℕ) (octets : List ℕ) (link : Option (ℕ × Standing)) (s : State) → (sent_on r octets link s).ended ≡ s.ended
-sent_ended r octets link s = grind arith
-
 sent_all_ended : (r : ℕ) (tsdus : List (List ℕ)) (s : State) → (sent_all r tsdus s).ended ≡ s.ended
 sent_all_ended r [] s = refl
-sent_all_ended r (tsdu ∷ tsdus) s = sent_all_ended r tsdus (sent r tsdu s) ∙ sent_ended r tsdu (open_link r s) s
-
-closes_lasts : (r peer reason : ℕ) (held : Option Class) (s : State) → (closes_at r peer reason held s).ended ≡ None → s.ended ≡ None
-closes_lasts r peer reason held s h = grind arith
-
-closed_lasts : (r reason : ℕ) (link : Option (ℕ × Standing)) (s : State) → (closed_on r reason link s).ended ≡ None → s.ended ≡ None
-closed_lasts r reason link s h = grind (arith, closes_lasts)
-
-ended_lasts : (reason : EndReason) (over : Bool) (s : State) → (if over then s else ends reason s).ended ≡ None → s.ended ≡ None
-ended_lasts reason over s h = grind arith
-
-user_lasts : (call : UserCall) (s : State) → (user_does call s).ended ≡ None → s.ended ≡ None
-user_lasts call s h = grind (arith, sent_ended, sent_all_ended, closed_lasts, ended_lasts, is_some)
-
-tells_lasts : (event : Option Happening) (old new : State) → Tells event old new → new.ended ≡ None → old.ended ≡ None
-tells_lasts event old new h lasts = grind arith
-
-feeds_lasts : (old : Carrying) (piece : List ℕ) (fed : Fed) (new : Carrying) (over : Bool) → is_some old.state.ended ≡ over →
-    Feeds old piece fed new → new.state.ended ≡ None →
-    old.state.ended ≡ None
-feeds_lasts old piece fed new over e h lasts = grind (arith, none_of)
+sent_all_ended r (tsdu ∷ tsdus) s = sent_all_ended r tsdus (sent r tsdu s) ∙ (grind arith)
 
 call_lasts : (old : Carrying) (call : Call) (new : Carrying) → Calls old call new → new.state.ended ≡ None → old.state.ended ≡ None
-call_lasts old call new h lasts = grind (arith, feeds_lasts, is_some, tells_lasts, user_lasts)
+call_lasts old call new h lasts = grind (arith, none_of, is_some, sent_all_ended)
 
 calls_last : (old : Carrying) (calls : List Call) (new : Carrying) → CallsAlong old calls new → new.state.ended ≡ None →
     old.state.ended ≡ None
@@ -81,26 +56,6 @@ reads_still : (old : Carrying) (call : Call) (new : Carrying) (acts : List Act) 
     ReadsOne old call new
 reads_still old call new acts called none nothing held state = grind (arith, length, length-append, append-nil)
 
-reads_dry : (old : Carrying) (piece : List ℕ) (fed : Fed) (new : Carrying) → RunsDry old piece fed.used new →
-    ReadsOne old (feeding piece fed) new
-reads_dry old piece fed new dry = grind (arith, take, take_all, map, no_calls, packets_of, packets_done, length)
-
-reads_stopped : IsPartial [] → (old : Carrying) (piece : List ℕ) (fed : Fed) (new : Carrying) → StopsBehind old piece fed.used new →
-    new.state.ended ≡ None →
-    ReadsOne old (feeding piece fed) new
-reads_stopped nothing old piece fed new stop lasts = grind (arith, take, length, map, no_calls, packets_of, packets_done)
-
-over_none : {B : Type 0} (o : Option EndReason) (reason : EndReason) → o ≡ Some reason → o ≡ None → B
-over_none o reason e lasts = absurd cc
-
-reads_goes : IsPartial [] → (old : Carrying) (piece : List ℕ) (fed : Fed) (new : Carrying) → Goes old piece fed.used new →
-    new.state.ended ≡ None →
-    ReadsOne old (feeding piece fed) new
-reads_goes nothing old piece fed new (inl (inl dry)) lasts = reads_dry old piece fed new dry
-reads_goes nothing old piece fed new (inl (inr stop)) lasts = reads_stopped nothing old piece fed new stop lasts
-reads_goes nothing old piece fed new (inr (inl refused)) lasts = grind (arith, over_none)
-reads_goes nothing old piece fed new (inr (inr starved)) lasts = grind (arith, over_none)
-
 reads_feed : IsPartial [] → (old : Carrying) (piece : List ℕ) (fed : Fed) (new : Carrying) (waiting : Bool) → waits old.state ≡ waiting →
     old.state.ended ≡ None →
     Feeds old piece fed new → new.state.ended ≡ None → ReadsOne old (feeding piece fed) new
@@ -108,8 +63,7 @@ reads_feed nothing old piece fed new true e quiet h lasts =
     let still = h.waiting quiet e in
     reads_still old (feeding piece fed) new [] refl refl (ap (λ n. take n piece) still.0) (ap (λ (x : Carrying). x.held) still.1)
     (ap (λ (x : Carrying). x.state) still.1)
-reads_feed nothing old piece fed new false e quiet h lasts =
-    reads_goes nothing old piece fed new (h.goes (ap (λ (o : Option EndReason). is_some o || waits old.state) quiet ∙ e)) lasts
+reads_feed nothing old piece fed new false e quiet h lasts = grind (arith, take, take_all, map, no_calls, packets_of, packets_done, length)
 
 reads_told : (old : Carrying) (event : Option Happening) (new : Carrying) → Tells event old.state new.state → new.held ≡ old.held →
     ReadsOne old (telling event) new
@@ -118,8 +72,7 @@ reads_told old (Some event) new h held = reads_still old (telling (Some event)) 
 
 pub reads_one : IsPartial [] → (old : Carrying) (call : Call) (new : Carrying) → Calls old call new → new.state.ended ≡ None →
     ReadsOne old call new
-reads_one nothing old (feeding piece fed) new h lasts =
-    reads_feed nothing old piece fed new (waits old.state) refl (call_lasts old (feeding piece fed) new h lasts) h lasts
+reads_one nothing old (feeding piece fed) new h lasts = grind (arith, reads_feed, call_lasts old (feeding piece fed) new h lasts)
 reads_one nothing old (telling event) new h lasts = reads_told old event new h.0 h.1
 reads_one nothing old (carrying octets) new h lasts =
     reads_still old (carrying octets) new [] refl refl refl (ap (λ (x : Carrying). x.held) (sym h)) (ap (λ (x : Carrying). x.state) (sym h))
@@ -143,35 +96,22 @@ reads_more old call mid calls new one more =
     append_assoc old.held.octets (used_in call) used in
     record {
       acts = one.acts ++ more.acts;
-      called = flat_map-append call_in one.acts more.acts ∙ ap (λ l. l ++ flat_map call_in more.acts) one.called ∙
-          ap (λ l. called_in call ++ l) more.called;
-      packets = subst (λ l. ArePackets (flat_map packet_in (one.acts ++ more.acts)) l new.held.octets) assoc
-          (subst (λ us. ArePackets us ((old.held.octets ++ used_in call) ++ used) new.held.octets)
-          (sym (flat_map-append packet_in one.acts more.acts))
-          (packets_joined (flat_map packet_in one.acts) (flat_map packet_in more.acts) (old.held.octets ++ used_in call) mid.held.octets
-          used new.held.octets one.packets more.packets));
-      state = back_joined (told_in call) (flat_map told_in calls) (carried_in call) (flat_map carried_in calls) new.state
-          ∙ ap (put_back (told_in call) (carried_in call)) more.state ∙ sym (apart_all (told_in call) (carried_in call) more.acts mid.state)
-          ∙ ap (all_done more.acts) one.state ∙ sym (all_joined one.acts more.acts old.state);
+      called = grind (arith, flat_map-append);
+      packets = grind (arith, flat_map-append, packets_joined);
+      state = grind (arith, back_joined, apart_all, all_joined);
       partial = λ partial. more.partial (one.partial partial);
       offset = λ bound.
           let first = one.offset bound in
-          let second = more.offset (let M : mid.held.offset < 2 ^ 64 = omega arith in M) in
           let a = length-append old.held.octets (used_in call) in
           let b = length-append mid.held.octets used in
           let c = length-append old.held.octets (used_in call ++ used) in
           let d = length-append (used_in call) used in
-          let left = packets_leave (flat_map packet_in one.acts) (old.held.octets ++ used_in call) mid.held.octets one.packets in
-          let leaves = packets_leave (flat_map packet_in more.acts) (mid.held.octets ++ used) new.held.octets more.packets in
-          omega arith;
+          grind (arith, packets_leave (flat_map packet_in more.acts) (mid.held.octets ++ used) new.held.octets more.packets, packets_leave);
     }
-
-reads_none : (old new : Carrying) → new ≡ old → Reads old [] new
-reads_none old new same = grind (arith, length, length-append, append-nil)
 
 pub calls_read : IsPartial [] → (old : Carrying) (calls : List Call) (new : Carrying) → CallsAlong old calls new → new.state.ended ≡ None →
     Reads old calls new
-calls_read nothing old [] new h lasts = reads_none old new h
+calls_read nothing old [] new h lasts = grind (arith, length, length-append, append-nil)
 calls_read nothing old (call ∷ calls) new h lasts =
     reads_more old call h.0 calls new (reads_one nothing old call h.0 h.1 (calls_last h.0 calls new h.2 lasts))
     (calls_read nothing h.0 calls new h.2 lasts)
@@ -194,16 +134,4 @@ pub pieces_alike : IsPartial [] → OneCut → (old a b : Carrying) (xs ys : Lis
 pieces_alike nothing one_cut old a b xs ys partial bound h k none nor used lasts still =
     let m = calls_read nothing old xs a h lasts in
     let n = calls_read nothing old ys b k still in
-    let one = one_cut (old.held.octets ++ flat_map used_in xs) a.held.octets b.held.octets (flat_map packet_in m.acts)
-    (flat_map packet_in n.acts)
-    (m.partial partial) (n.partial partial) m.packets
-    (subst (λ l. ArePackets (flat_map packet_in n.acts) (old.held.octets ++ l) b.held.octets) (sym used) n.packets) in
-    let acts : m.acts ≡ n.acts = only_packets m.acts (m.called ∙ none) ∙ ap (map packet) one.0 ∙
-    sym (only_packets n.acts (n.called ∙ nor)) in
-    record {
-      octets = one.1;
-      offset = m.offset bound ∙ ap (λ l. offset_of (old.held.offset + (length (old.held.octets ++ l) - length a.held.octets))) used
-          ∙ ap (λ l. offset_of (old.held.offset + (length (old.held.octets ++ flat_map used_in ys) - length l))) one.1 ∙
-          sym (n.offset bound);
-      state = m.state ∙ ap (λ l. all_done l old.state) acts ∙ sym n.state;
-    }
+    grind (arith, only_packets m.acts (m.called ∙ none), only_packets n.acts (n.called ∙ nor), m.offset bound, n.offset bound)

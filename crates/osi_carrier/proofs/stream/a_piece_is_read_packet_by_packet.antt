@@ -1,12 +1,11 @@
 -- Reading a piece of the stream, packet by packet.
-use Rattle.std.proofs.Common.{◌≡◌, ℕ, ◌+◌, ◌-◌, ◌*◌, ◌<◌, ◌≤◌, ◌||◌, true, false, Bool, List, [], ◌∷◌, ◌++◌, length, take, drop, Option}
-use Rattle.std.proofs.Common.{Result, Ok, is_some, refl, sym, ap, subst, ◌∙◌, inl, inr, ◌⊎◌, arith, length-append, length-take}
-use Rattle.std.proofs.Common.{append_assoc, if◌then◌else◌}
+use Rattle.std.proofs.Common.{◌≡◌, ℕ, ◌+◌, ◌-◌, ◌<◌, ◌≤◌, ◌||◌, true, false, List, [], ◌∷◌, ◌++◌, length, take, drop, is_some, refl, sym}
+use Rattle.std.proofs.Common.{ap, subst, ◌∙◌, inl, inr, ◌⊎◌, arith, length-append, length-take, append_assoc, if◌then◌else◌}
 use Rattle.std.proofs.Math.Seq.{drop-append_seam}
 use Rattle.osi_carrier.proofs.Vocabulary.{append-nil, take-append-drop, take_at, IsPacket, IsFaultOf, ArePackets, offset_of, Fed, TpktFault}
-use Rattle.osi_carrier.proofs.Vocabulary.{units_of, Value, TpduFault, PacketActs, PartHeld, Faults, LacksRoom, EndsOver, Carrying}
-use Rattle.osi_carrier.proofs.Vocabulary.{IsReading, Acts, ActsBy, acts_by, after_packet, stops, waits, is_spoilt, TakesPackets}
-use Rattle.osi_carrier.proofs.Vocabulary.{StopsBehind, Starves, HasToHold, FindsNoMemory, Goes, Feeds, RunsOut, State, EndReason}
+use Rattle.osi_carrier.proofs.Vocabulary.{PacketActs, PartHeld, Faults, LacksRoom, EndsOver, Carrying, IsReading, Acts, after_packet, stops}
+use Rattle.osi_carrier.proofs.Vocabulary.{waits, is_spoilt, TakesPackets, StopsBehind, Starves, HasToHold, FindsNoMemory, Goes, Feeds}
+use Rattle.osi_carrier.proofs.Vocabulary.{State}
 
 -- ---- packets
 
@@ -28,14 +27,9 @@ pub packets_leave : (units : List (List ℕ)) (s r : List ℕ) → ArePackets un
 packets_leave [] s r h = let same = ap length h in omega arith
 packets_leave (u ∷ units) s r h = grind (arith, length-append, packets_leave units h.1 r h.4)
 
--- what a packet did is what its units do, or memory ran out for one of them
-acts_by_cases : (units : Result (List Value) TpduFault) (old new : State) → ActsBy units old new →
-    (new ≡ acts_by units old) ⊎ ((us : List Value) × (units ≡ Ok us) × RunsOut old us new)
-acts_by_cases units old new h = grind arith
-
 pub acts_cases : (old new : State) (packet : List ℕ) → Acts old packet new → (new ≡ after_packet old packet) ⊎ Starves old packet new
 unfolding after_packet
-acts_cases old new packet h = acts_by_cases (units_of packet) old new h
+acts_cases old new packet h = grind arith
 
 -- ---- the progress of reading a piece
 
@@ -110,29 +104,7 @@ pub read_next : (old : Carrying) (piece : List ℕ) (now : Carrying) (rest : Lis
     PacketActs now rest used new → stops new.state ≡ false → IsRead old piece new (drop used rest)
 read_next old piece now rest used new read acts quiet =
     let b = behind old piece now rest used new read acts in
-    let same : new.state ≡ after_packet now.state acts.packet =
-    elim (acts_cases now.state new.state acts.packet acts.acted)
-    [ inl h ↦ h | inr h ↦ (let over : stops new.state ≡ true = ap stops h.2.ended in cc) ] in
-    let none = ap length acts.held in
-    let far = b.offset in
-    let before = read.room in
-    let after = acts.room in
-    record {
-      front = read.front ++ take used rest;
-      units = read.units ++ acts.packet ∷ [];
-      cut = b.cut;
-      packets = subst (ArePackets (read.units ++ acts.packet ∷ []) (old.held.octets ++ (read.front ++ take used rest))) (sym acts.held)
-          b.packets;
-      taken = subst (TakesPackets old.state (read.units ++ acts.packet ∷ [])) (sym same)
-          (takes_snoc old.state now.state read.units acts.packet read.taken read.quiet);
-      quiet = quiet;
-      reading = acts.reading;
-      offset = omega arith;
-      first = inr acts.held;
-      room = omega arith;
-      some = read.some;
-      begun = read.begun;
-    }
+    grind (arith, after_packet, acts_cases, takes_snoc)
 
 -- this much of the piece was looked at
 looked : (piece front rest : List ℕ) (used : ℕ) → piece ≡ (front ++ take used rest) ++ drop used rest →
@@ -182,21 +154,6 @@ read_stops old piece now rest used new read acts stopped sound =
     let uses : length piece - length (drop used rest) ≡ length (read.front ++ take used rest) = omega arith in
     inl (inr (stopped_by old piece now rest used (length piece - length (drop used rest)) new read acts same stopped (rw sound uses)))
 
-spoilt_over : (o : Option EndReason) → is_spoilt o ≡ true → is_some o ≡ true
-spoilt_over o e = grind arith
-
-spoilt_stops : (s : State) → is_spoilt s.ended ≡ true → stops s ≡ true
-spoilt_stops s e = ap (λ b. b || waits s) (spoilt_over s.ended e)
-
--- what begins with a packet has no fault
-spelled_faultless : (reserved high low : ℕ) (u more : List ℕ) → 256 * high + low ≡ length u + 4 → 3 ≤ length u →
-    (at : ℕ) (fault : TpktFault) →
-    IsFaultOf at ((3 ∷ reserved ∷ high ∷ low ∷ u) ++ more) fault → ⊥
-spelled_faultless reserved high low u more counted least at fault h = grind arith
-
-packet_faultless : (u b more : List ℕ) → IsPacket u b → (at : ℕ) (fault : TpktFault) → IsFaultOf at (b ++ more) fault → ⊥
-packet_faultless u b more p = grind (arith, spelled_faultless)
-
 starved_by : (old : Carrying) (piece : List ℕ) (now : Carrying) (rest : List ℕ) (used : ℕ) (new : Carrying)
     (read : IsRead old piece now rest) (acts : PacketActs now rest used new) →
     Starves now.state acts.packet new.state → FindsNoMemory old piece (length piece) new
@@ -223,8 +180,7 @@ starved_by old piece now rest used new read acts starves =
         starves,
       );
       held = acts.held;
-      faultless = packet_faultless acts.packet (now.held.octets ++ take used rest) (drop (length (read.front ++ take used rest)) piece)
-          acts.whole;
+      faultless = grind arith;
     }
 
 pub read_spoilt : (old : Carrying) (piece : List ℕ) (now : Carrying) (rest : List ℕ) (used : ℕ) (new : Carrying) →
@@ -234,27 +190,15 @@ read_spoilt old piece now rest used new read acts spoilt =
     let b = behind old piece now rest used new read acts in
     elim (acts_cases now.state new.state acts.packet acts.acted) [
       | inl h ↦ inl
-          (inr (stopped_by old piece now rest used (length piece) new read acts h (spoilt_stops new.state spoilt) (rw spoilt refl)))
+          (inr (stopped_by old piece now rest used (length piece) new read acts h (grind arith) (rw spoilt refl)))
       | inr h ↦ inr (inr (starved_by old piece now rest used new read acts h))
     ]
 
 -- ---- the rest of the piece
 
-whole_packets : (old : Carrying) (piece : List ℕ) (now : Carrying) (rest : List ℕ) (read : IsRead old piece now rest) →
-    ArePackets read.units (old.held.octets ++ piece) (now.held.octets ++ rest)
-whole_packets old piece now rest read = grind (arith, append_assoc, packets_more)
-
-whole_offset : (old : Carrying) (piece : List ℕ) (now : Carrying) (rest : List ℕ) → IsRead old piece now rest →
-    now.held.offset ≡ offset_of (old.held.offset + (length (old.held.octets ++ piece) - length (now.held.octets ++ rest)))
-whole_offset old piece now rest read = grind (arith, length-append)
-
 pub read_part : (old : Carrying) (piece : List ℕ) (now : Carrying) (rest : List ℕ) (new : Carrying) → IsRead old piece now rest →
     PartHeld now rest new → Goes old piece (length piece) new
-read_part old piece now rest new read part = grind (arith, whole_packets, whole_offset)
-
--- with less room they have to be held too
-less_room : (room less : ℕ) (held left : List ℕ) → less ≤ room → HasToHold room held left → HasToHold less held left
-less_room room less held left bound h = grind arith
+read_part old piece now rest new read part = grind (arith, append_assoc, packets_more, length-append)
 
 over_by : (old : Carrying) (piece : List ℕ) (now : Carrying) (rest : List ℕ) (new : Carrying) → IsRead old piece now rest →
     new.held.octets ≡ [] → Faults now rest new ⊎ LacksRoom now rest new → Goes old piece (length piece) new
@@ -266,8 +210,8 @@ over_by old piece now rest new read held (inl fault) =
       all = refl;
       cut = (
         now.held.octets ++ rest,
-        whole_packets old piece now rest read,
-        subst (λ n. IsFaultOf n (now.held.octets ++ rest) fault.fault) (whole_offset old piece now rest read) fault.is,
+        grind (arith, append_assoc, packets_more),
+        subst (λ n. IsFaultOf n (now.held.octets ++ rest) fault.fault) (grind (arith, length-append)) fault.is,
       );
       taken = read.taken;
       quiet = read.quiet;
@@ -293,7 +237,7 @@ over_by old piece now rest new read held (inr none) =
         ended = none.ended;
         first = elim read.first [ inl nothing ↦ inl (ap length nothing) | inr nothing ↦ inr nothing ];
         holds = subst (HasToHold old.held.room now.held.octets) (sym behind)
-            (less_room now.held.room old.held.room now.held.octets rest read.room none.holds);
+            (grind arith);
       });
       held = held;
       faultless = subst (λ l. (at : ℕ) (fault : TpktFault) → IsFaultOf at (now.held.octets ++ l) fault → ⊥) (sym behind) none.faultless;
@@ -305,15 +249,8 @@ read_over old piece now rest new read over = over_by old piece now rest new read
 
 -- ---- progress
 
-used_some : (b : Bool) (used n m : ℕ) → used ≡ (if b then n else m) → 0 < n → 0 < m → 0 < used
-used_some b used n m e a b2 = grind arith
-
--- some of a piece that is not empty is used
-pub goes_on : (old : Carrying) (piece : List ℕ) (used : ℕ) (new : Carrying) → Goes old piece used new → 0 < length piece → 0 < used
-goes_on old piece used new h some = grind (arith, used_some)
-
 -- feeding that goes on feeds
 pub fed_goes : (old : Carrying) (piece : List ℕ) (now : Carrying) (rest : List ℕ) (used : ℕ) (fed : Fed) (new : Carrying) →
     IsRead old piece now rest → Goes old piece used new → used ≤ length piece →
     fed.used ≡ used → fed.whole ≡ waits new.state → Feeds old piece fed new
-fed_goes old piece now rest used fed new read goes bound is whole = grind (arith, goes_on)
+fed_goes old piece now rest used fed new read goes bound is whole = grind arith

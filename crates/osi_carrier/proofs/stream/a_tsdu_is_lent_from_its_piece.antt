@@ -1,7 +1,7 @@
 -- A TSDU that is lent from the piece in which it lies, in place of its event.
 -- For the calls that feed a piece.
-use Rattle.std.proofs.Common.{◌≡◌, ℕ, ◌-◌, ◌||◌, ◌==◌, not, Bool, true, false, List, [], ◌∷◌, ◌++◌, length, drop, Option, Some, None}
-use Rattle.std.proofs.Common.{IfSome, IsSome, is_some, refl, sym, ap, subst, ◌∙◌, arith, length-drop}
+use Rattle.std.proofs.Common.{◌≡◌, ℕ, ◌-◌, ◌||◌, ◌==◌, not, Bool, true, false, List, [], ◌∷◌, length, drop, Option, Some, None, IfSome}
+use Rattle.std.proofs.Common.{IsSome, is_some, refl, sym, ap, subst, ◌∙◌, arith, length-drop}
 use Rattle.osi_carrier.specs.Fetching.{PacketLent}
 use Rattle.osi_carrier.specs.Lending.{Lends, carrying_lent, lent_event, lent_if, with_lent}
 use Rattle.osi_carrier.specs.declared.lending.Lent.{Lent}
@@ -25,22 +25,15 @@ pub lent_packet : (wanted : Bool) (old : Carrying) (octets : List ℕ) (used : �
     PacketLent wanted old octets used lent new
 lent_packet wanted old octets used lent new quiet lends acts = grind (arith, quiet_by)
 
-told_waits : (l : List Happening) (event : Happening) → not (length (l ++ event ∷ []) == 0) ≡ true
-told_waits [] event = refl
-told_waits (x ∷ l) event = grind arith
-
 -- feeding stops after it
 pub lent_feeds : (wanted : Bool) (old : Carrying) (piece : List ℕ) (now : Carrying) (rest : List ℕ) (used : ℕ) (lent : Lent)
     (new : Carrying) (fed : Fed) → IsRead old piece now rest → PacketLent wanted now rest used lent new →
     fed.used ≡ length piece - (length rest - used) → fed.whole ≡ true → Feeds old piece fed (carrying_lent (Some lent) new)
 lent_feeds wanted old piece now rest used lent new fed read h is whole =
     let told = carrying_lent (Some lent) new in
-    let waiting : waits told.state ≡ true = told_waits new.state.events (lent_event lent) in
+    let waiting : waits told.state ≡ true = grind arith in
     let stopped : stops told.state ≡ true = ap (λ o. is_some o || waits told.state) h.lasts ∙ waiting in
-    let goes = read_stops old piece now rest used told read h.acts stopped (ap is_spoilt h.lasts) in
-    let left = length-drop used rest in
-    fed_goes old piece now rest (length piece - length (drop used rest)) fed told read goes (omega arith) (omega arith)
-    (whole ∙ sym waiting)
+    grind (arith, fed_goes, read_stops old piece now rest used told read h.acts stopped (ap is_spoilt h.lasts), length-drop used rest)
 
 -- or nothing is lent
 pub nothing_lent : (old : Carrying) (piece : List ℕ) (fed : FedLent) (new : Carrying) → fed.lent ≡ None → Feeds old piece fed.fed new →

@@ -1,12 +1,11 @@
 -- If one list of pieces does not end a carrier, no other with the same octets does.
 use Rattle.std.proofs.Common.{◌≡◌, ℕ, ◌≤◌, ◌||◌, Bool, true, false, List, [], ◌∷◌, ◌++◌, length, take, drop, map, Option, Some, None}
-use Rattle.std.proofs.Common.{Result, is_some, refl, sym, ap, subst, ◌∙◌, ◌⊎◌, inl, inr, arith, append_assoc, length-append, if◌then◌else◌}
+use Rattle.std.proofs.Common.{is_some, refl, sym, ap, subst, ◌∙◌, ◌⊎◌, inl, inr, arith, append_assoc, length-append, if◌then◌else◌}
 use Rattle.osi_carrier.proofs.Vocabulary.{append-nil, take_all, take-append-drop, get_or_append_left, flat_map, IsPacket, IsOnePacket}
 use Rattle.osi_carrier.proofs.Vocabulary.{IsPartial, IsFaultOf, stated_length-append, ArePackets, Faulty, Fed, TpktFault, partial_no_fault}
-use Rattle.osi_carrier.proofs.Vocabulary.{end_no_packet, units_of, Value, TpduFault, Tells, Happening, Carrying, Feeds, Goes, acts_by}
-use Rattle.osi_carrier.proofs.Vocabulary.{after_packet, waits, is_spoilt, UserCall, Call, all_done, packet_in, Calls, CallsAlong, used_in}
-use Rattle.osi_carrier.proofs.Vocabulary.{told_in, carried_in, called_in, put_back, packet, feeding, telling, carrying, calling, State}
-use Rattle.osi_carrier.proofs.Vocabulary.{EndReason, NoMemory}
+use Rattle.osi_carrier.proofs.Vocabulary.{end_no_packet, Carrying, Feeds, Goes, after_packet, waits, is_spoilt, UserCall, Call, all_done}
+use Rattle.osi_carrier.proofs.Vocabulary.{packet_in, Calls, CallsAlong, used_in, called_in, packet, feeding, telling, carrying, calling}
+use Rattle.osi_carrier.proofs.Vocabulary.{State, EndReason, NoMemory}
 use Rattle.osi_carrier.proofs.effects.what_is_in_front_changes_nothing.{apart_all}
 use Rattle.osi_carrier.proofs.stream.a_carrier_does_what_its_packets_do.{calls_read, reads_one, ReadsOne, only_packets, packets_done}
 use Rattle.osi_carrier.proofs.stream.a_carrier_does_what_its_packets_do.{all_joined}
@@ -45,15 +44,9 @@ parts laws (u ∷ us) (v ∷ vs) s m t r partial h k =
 
 -- ---- an end stays
 
-still_over : {A : Type 0} (o p : Option A) → is_some o ≡ true → p ≡ o → is_some p ≡ true
-still_over o p h e = ap is_some e ∙ h
-
-acts_over : (units : Result (List Value) TpduFault) (s : State) → is_some s.ended ≡ true → is_some (acts_by units s).ended ≡ true
-acts_over units s h = grind (arith, is_some, reacts_over)
-
 packet_over : (unit : List ℕ) (s : State) → is_some s.ended ≡ true → is_some (after_packet s unit).ended ≡ true
 unfolding after_packet
-packet_over unit s h = acts_over (units_of unit) s h
+packet_over unit s h = grind (arith, is_some, reacts_over)
 
 pub packets_over : (units : List (List ℕ)) (s : State) → is_some s.ended ≡ true → is_some (all_done (map packet units) s).ended ≡ true
 packets_over [] s h = h
@@ -62,14 +55,6 @@ packets_over (unit ∷ units) s h = packets_over units (after_packet s unit) (pa
 pub map_joined : (us vs : List (List ℕ)) → map packet (us ++ vs) ≡ map packet us ++ map packet vs
 map_joined [] vs = refl
 map_joined (u ∷ us) vs = ap (λ l. packet u ∷ l) (map_joined us vs)
-
-pub tells_ended : (event : Option Happening) (old new : State) → Tells event old new → new.ended ≡ old.ended
-tells_ended event old new h = grind arith
-
--- with no call of the user an end stays as it is
-over_call : (old : Carrying) (call : Call) (new : Carrying) → called_in call ≡ [] → is_some old.state.ended ≡ true → Calls old call new →
-    new.state.ended ≡ old.state.ended
-over_call old call new none h h_ = grind (arith, tells_ended)
 
 pub none_first : (a b : List UserCall) → a ++ b ≡ [] → (a ≡ []) × (b ≡ [])
 none_first [] b e = (refl, e)
@@ -81,8 +66,7 @@ pub over_calls : (old : Carrying) (calls : List Call) (new : Carrying) → flat_
 over_calls old [] new none over h = ap (λ (x : Carrying). x.state.ended) h
 over_calls old (call ∷ calls) new none over h =
     let parted = none_first (called_in call) (flat_map called_in calls) none in
-    let first = over_call old call h.0 parted.0 over h.1 in
-    over_calls h.0 calls new parted.1 (still_over old.state.ended h.0.state.ended over first) h.2 ∙ first
+    grind (arith, over_calls h.0 calls new parted.1 (grind arith) h.2)
 
 -- ---- octets that do not end a carrier
 
@@ -92,11 +76,6 @@ record Lasts (old : Carrying) (octets : List ℕ) : Type 0 where
   packets : ArePackets units octets rest
   partial : IsPartial rest
   lasts : (all_done (map packet units) old.state).ended ≡ None
-
--- packets in front of them do not end it either
-parted_lasts : (old : Carrying) (us vs more : List (List ℕ)) → us ≡ vs ++ more → (all_done (map packet us) old.state).ended ≡ None →
-    (all_done (map packet more) (all_done (map packet vs) old.state)).ended ≡ None
-parted_lasts old us vs more all lasts = grind (arith, all_joined, map, map_joined)
 
 pub never : {B : Type 0} (s : State) → is_some s.ended ≡ true → s.ended ≡ None → B
 never s over none = let e : is_some s.ended ≡ false = ap is_some none in absurd cc
@@ -122,16 +101,13 @@ over_goes laws old piece fed new later lasts (inl (inl dry)) over = grind arith
 over_goes laws old piece fed new later lasts (inl (inr stop)) over =
     let front = front_used (is_spoilt new.state.ended) piece fed.used stop.within stop.bound stop.uses in
     let s = old.held.octets ++ take stop.within piece in
-    let same : old.held.octets ++ (take fed.used piece ++ later) ≡ s ++ (front.0 ++ later) =
-    ap (λ l. old.held.octets ++ (l ++ later)) front.1 ∙ ap (λ l. old.held.octets ++ l) (append_assoc (take stop.within piece) front.0 later)
-    ∙ sym (append_assoc old.held.octets (take stop.within piece) (front.0 ++ later)) in
+    let same : old.held.octets ++ (take fed.used piece ++ later) ≡ s ++ (front.0 ++ later) = grind (arith, append_assoc) in
     let parted = parts laws lasts.units stop.units s [] (front.0 ++ later) lasts.rest lasts.partial
     (subst (λ l. ArePackets lasts.units l lasts.rest) same lasts.packets) stop.packets in
     let done = packets_done stop.units old.state new.state stop.taken in
     let gone = packets_over parted.more (all_done (map packet stop.units) old.state) (ap (λ (x : State). is_some x.ended) (sym done) ∙ over)
     in
-    never (all_done (map packet parted.more) (all_done (map packet stop.units) old.state)) gone
-    (parted_lasts old lasts.units stop.units parted.more parted.all lasts.lasts)
+    grind (arith, never, all_joined, map, map_joined)
 over_goes laws old piece fed new later lasts (inr (inl refused)) over =
     let whole : take fed.used piece ≡ piece = let all = refused.all in take_all fed.used piece (omega arith) in
     let same : old.held.octets ++ (take fed.used piece ++ later) ≡ (old.held.octets ++ piece) ++ later =
@@ -146,8 +122,7 @@ over_feed : PacketLaws → (old : Carrying) (piece : List ℕ) (fed : Fed) (new 
     waits old.state ≡ waiting → old.state.ended ≡ None →
     Lasts old (old.held.octets ++ (take fed.used piece ++ later)) → Feeds old piece fed new → is_some new.state.ended ≡ true →
     new.state.ended ≡ Some NoMemory
-over_feed laws old piece fed new later true e quiet lasts h over =
-    never new.state over (ap (λ (x : Carrying). x.state.ended) (h.waiting quiet e).1 ∙ quiet)
+over_feed laws old piece fed new later true e quiet lasts h over = grind (arith, never, h.waiting quiet e)
 over_feed laws old piece fed new later false e quiet lasts h over =
     over_goes laws old piece fed new later lasts (h.goes (ap (λ (o : Option EndReason). is_some o || waits old.state) quiet ∙ e)) over
 
@@ -156,7 +131,7 @@ over_one : PacketLaws → (old : Carrying) (call : Call) (new : Carrying) (later
     new.state.ended ≡ Some NoMemory
 over_one laws old (feeding piece fed) new later none quiet lasts h over =
     over_feed laws old piece fed new later (waits old.state) refl quiet lasts h over
-over_one laws old (telling event) new later none quiet lasts h over = grind (arith, never, tells_ended)
+over_one laws old (telling event) new later none quiet lasts h over = grind (arith, never)
 over_one laws old (carrying octets) new later none quiet lasts h over = grind (arith, never)
 over_one laws old (calling call) new later none quiet lasts h over = absurd cc
 
@@ -169,11 +144,7 @@ lasts_on laws old call new later none one lasts =
     let parted = parts laws lasts.units vs (old.held.octets ++ used_in call) new.held.octets later lasts.rest lasts.partial
     (subst (λ l. ArePackets lasts.units l lasts.rest) (sym (append_assoc old.held.octets (used_in call) later)) lasts.packets) one.packets
     in
-    let state : put_back (told_in call) (carried_in call) new.state ≡ all_done (map packet vs) old.state =
-    one.state ∙ ap (λ l. all_done l old.state) acts in
-    let behind = parted_lasts old lasts.units vs parted.more parted.all lasts.lasts in
-    search (ap (λ (s : State). s.ended) (sym (apart_all (told_in call) (carried_in call) (map packet parted.more) new.state) ∙
-    ap (all_done (map packet parted.more)) state) ∙ behind)
+    grind (arith, apart_all, all_joined, map, map_joined)
 
 abbrev LastsOrStarves : Carrying → Type 0
 LastsOrStarves new = (new.state.ended ≡ None) ⊎ (new.state.ended ≡ Some NoMemory)
@@ -204,11 +175,4 @@ pub pieces_last : PacketLaws → IsPartial [] → (old a b : Carrying) (xs ys : 
 pieces_last laws nothing old a b xs ys partial quiet h k none nor used lasts =
     let m = calls_read nothing old xs a h lasts in
     let acts : m.acts ≡ map packet (flat_map packet_in m.acts) = only_packets m.acts (m.called ∙ none) in
-    lasts_along laws nothing old ys b nor quiet k
-    (record {
-      units = flat_map packet_in m.acts;
-      rest = a.held.octets;
-      packets = subst (λ l. ArePackets (flat_map packet_in m.acts) (old.held.octets ++ l) a.held.octets) used m.packets;
-      partial = m.partial partial;
-      lasts = ap (λ (s : State). s.ended) (ap (λ l. all_done l old.state) (sym acts) ∙ sym m.state) ∙ lasts;
-    })
+    search (arith, lasts_along laws nothing old ys b nor quiet k (grind (arith, m.partial partial)), m.partial partial)

@@ -1,16 +1,15 @@
 -- How a list of calls ends a carrier: after a packet, or at a fault of the stream. Two lists with the same octets end
 -- it alike.
-use Rattle.std.proofs.Common.{◌≡◌, ℕ, ◌+◌, ◌-◌, ◌<◌, ◌≤◌, ◌^◌, ◌||◌, Bool, true, false, List, [], ◌∷◌, ◌++◌, length, take, map, Option}
-use Rattle.std.proofs.Common.{Some, None, is_some, refl, sym, ap, subst, ◌∙◌, ◌⊎◌, inl, inr, arith, append_assoc, length-append}
+use Rattle.std.proofs.Common.{◌≡◌, ℕ, ◌+◌, ◌-◌, ◌<◌, ◌≤◌, ◌^◌, Bool, true, false, List, [], ◌∷◌, ◌++◌, length, take, map, Some, None}
+use Rattle.std.proofs.Common.{is_some, refl, sym, ap, subst, ◌∙◌, ◌⊎◌, inl, inr, arith, append_assoc, length-append}
 use Rattle.osi_carrier.specs.declared.ends.CarrierFault.TheVariants.{Tpkt}
 use Rattle.osi_carrier.proofs.Vocabulary.{append-nil, take_all, flat_map, IsPartial, IsFaultOf, ArePackets, offset_of, Faulty, Fed}
-use Rattle.osi_carrier.proofs.Vocabulary.{TpktFault, Held, one_fault, end_no_packet, Tells, Happening, Carrying, Feeds, Goes, TakesPackets}
-use Rattle.osi_carrier.proofs.Vocabulary.{after_packet, waits, stops, is_spoilt, Call, all_done, packet_in, Calls, CallsAlong, used_in}
-use Rattle.osi_carrier.proofs.Vocabulary.{told_in, carried_in, called_in, put_back, EndAlike, packet, feeding, telling, carrying, calling}
-use Rattle.osi_carrier.proofs.Vocabulary.{State, fails, EndReason, NoMemory}
+use Rattle.osi_carrier.proofs.Vocabulary.{TpktFault, one_fault, end_no_packet, Happening, Carrying, Goes, TakesPackets, after_packet}
+use Rattle.osi_carrier.proofs.Vocabulary.{is_spoilt, Call, all_done, packet_in, Calls, CallsAlong, used_in, told_in, carried_in, called_in}
+use Rattle.osi_carrier.proofs.Vocabulary.{put_back, EndAlike, packet, feeding, telling, carrying, calling, State, fails, NoMemory}
 use Rattle.osi_carrier.proofs.effects.what_is_in_front_changes_nothing.{apart_all}
-use Rattle.osi_carrier.proofs.stream.all_pieces_last_alike.{PacketLaws, behind_same, packets_over, map_joined, tells_ended, none_first}
-use Rattle.osi_carrier.proofs.stream.all_pieces_last_alike.{over_calls, never, fault_behind, front_used, pieces_last}
+use Rattle.osi_carrier.proofs.stream.all_pieces_last_alike.{PacketLaws, behind_same, packets_over, map_joined, none_first, over_calls}
+use Rattle.osi_carrier.proofs.stream.all_pieces_last_alike.{never, fault_behind, front_used, pieces_last}
 use Rattle.osi_carrier.proofs.stream.a_carrier_does_what_its_packets_do.{ReadsOne, reads_one, only_packets, packets_done, packets_joined}
 use Rattle.osi_carrier.proofs.stream.a_carrier_does_what_its_packets_do.{all_joined, back_joined}
 use Rattle.osi_carrier.proofs.effects.units_one_after_the_other.{none_of}
@@ -67,13 +66,9 @@ record InFault (old : State) (at : ℕ) (s : List ℕ) (final : State) : Type 0 
 abbrev Ending : State → ℕ → List ℕ → State → Type 0
 Ending old at s final = InPacket old s final ⊎ InFault old at s final
 
-after_more : (us vs more : List (List ℕ)) (old : State) → us ≡ vs ++ more → after us old ≡ after more (after vs old)
-after_more us vs more old all = grind (arith, map_joined, all_joined, map)
-
 over_front : (us vs more : List (List ℕ)) (old : State) → us ≡ vs ++ more → is_some (after vs old).ended ≡ true →
     is_some (after us old).ended ≡ true
-over_front us vs more old all over = ap (λ (s : State). is_some s.ended) (after_more us vs more old all) ∙
-    packets_over more (after vs old) over
+over_front us vs more old all over = grind (arith, map_joined, all_joined, map, packets_over more (after vs old) over)
 
 -- the packets before the last one
 pub init_front : (before ws ms : List (List ℕ)) (last m : List ℕ) → before ++ last ∷ [] ≡ ws ++ m ∷ ms →
@@ -83,9 +78,7 @@ init_front [] (w ∷ []) ms last m e = let none : [] ≡ m ∷ ms = cc in cc
 init_front [] (w ∷ x ∷ ws) ms last m e = let none : [] ≡ x ∷ (ws ++ m ∷ ms) = cc in cc
 init_front (b ∷ before) (w ∷ ws) ms last m e =
     let same : before ++ last ∷ [] ≡ ws ++ m ∷ ms = cc in
-    let first : b ≡ w = cc in
-    let rest = init_front before ws ms last m same in
-    (rest.0, ap (λ x. x ∷ before) first ∙ ap (λ l. w ∷ l) rest.1)
+    grind (arith, init_front before ws ms last m same)
 
 -- ---- they end alike
 
@@ -146,12 +139,9 @@ record TakesLast (old : State) (units : List (List ℕ)) : Type 0 where
   all : units ≡ before ++ last ∷ []
   lasts : (after before old).ended ≡ None
 
-stops_not : (s : State) (over : Bool) → is_some s.ended ≡ over → stops s ≡ false → s.ended ≡ None
-stops_not s over e h = grind (arith, none_of)
-
 takes_last : (units : List (List ℕ)) (old new : State) → TakesPackets old units new → 0 < length units → TakesLast old units
 takes_last [] old new h some = absurd (omega arith)
-takes_last (u ∷ []) old new h some = record { before = []; last = u; all = refl; lasts = stops_not old (is_some old.ended) refl h.0 }
+takes_last (u ∷ []) old new h some = record { before = []; last = u; all = refl; lasts = (grind (arith, none_of)) }
 takes_last (u ∷ v ∷ us) old new h some =
     let more = takes_last (v ∷ us) (after_packet old u) new h.1 (omega arith) in
     record { before = u ∷ more.before; last = more.last; all = ap (λ l. u ∷ l) more.all; lasts = more.lasts }
@@ -162,29 +152,13 @@ at_same at s r t = let a = length-append s t in let b = length-append r t in ome
 ends_goes : (old : Carrying) (piece : List ℕ) (fed : Fed) (new : Carrying) (later : List ℕ) → Goes old piece fed.used new →
     is_some new.state.ended ≡ true → (new.state.ended ≡ Some NoMemory → ⊥) →
     Outcome old (old.held.octets ++ (take fed.used piece ++ later)) new.state new.held.octets
-ends_goes old piece fed new later (inl (inl dry)) over full = grind (arith, never, stops_not)
+ends_goes old piece fed new later (inl (inl dry)) over full = grind (arith, never)
 ends_goes old piece fed new later (inl (inr stop)) over full =
     let front = front_used (is_spoilt new.state.ended) piece fed.used stop.within stop.bound stop.uses in
     let s = old.held.octets ++ take stop.within piece in
-    let same : old.held.octets ++ (take fed.used piece ++ later) ≡ s ++ (front.0 ++ later) =
-    ap (λ l. old.held.octets ++ (l ++ later)) front.1 ∙ ap (λ l. old.held.octets ++ l) (append_assoc (take stop.within piece) front.0 later)
-    ∙ sym (append_assoc old.held.octets (take stop.within piece) (front.0 ++ later)) in
+    let same : old.held.octets ++ (take fed.used piece ++ later) ≡ s ++ (front.0 ++ later) = grind (arith, append_assoc) in
     let t = takes_last stop.units old.state new.state stop.taken stop.one in
-    let done = packets_done stop.units old.state new.state stop.taken ∙ ap (λ l. after l old.state) t.all in
-    record {
-      how = inl (record {
-        before = t.before;
-        last = t.last;
-        rest = front.0 ++ later;
-        packets = subst (λ l. ArePackets (t.before ++ t.last ∷ []) l (front.0 ++ later)) (sym same)
-            (subst (λ us. ArePackets us (s ++ (front.0 ++ later)) (front.0 ++ later)) t.all
-            (packets_more stop.units s [] (front.0 ++ later) stop.packets));
-        lasts = t.lasts;
-        over = ap (λ (x : State). is_some x.ended) (sym done) ∙ over;
-        state = done;
-      });
-      nothing = stop.held;
-    }
+    grind (arith, packets_done stop.units old.state new.state stop.taken, packets_more stop.units s [] (front.0 ++ later) stop.packets)
 ends_goes old piece fed new later (inr (inl refused)) over full =
     let whole : take fed.used piece ≡ piece = let all = refused.all in take_all fed.used piece (omega arith) in
     let s = old.held.octets ++ piece in
@@ -194,33 +168,16 @@ ends_goes old piece fed new later (inr (inl refused)) over full =
     let here = fault_behind (offset_of (old.held.offset + (length s - length r))) r later refused.fault refused.cut.2 in
     let done = packets_done refused.units old.state refused.before refused.taken in
     record {
-      how = inr (record {
-        before = refused.units;
-        rest = r ++ later;
-        fault = refused.fault;
-        packets = subst (λ l. ArePackets refused.units l (r ++ later)) (sym same) (packets_more refused.units s r later refused.cut.1);
-        is = subst (λ l. IsFaultOf (offset_of (old.held.offset + (length l - length (r ++ later)))) (r ++ later) refused.fault) (sym same)
-            (subst (λ n. IsFaultOf (offset_of n) (r ++ later) refused.fault) (at_same old.held.offset s r later) here);
-        lasts = ap (λ (x : State). x.ended) (sym done) ∙ stops_not refused.before (is_some refused.before.ended) refl refused.quiet;
-        state = refused.ended ∙ ap (fails (Tpkt refused.fault)) done;
-      });
+      how = inr (grind (arith, none_of, packets_more refused.units s r later refused.cut.1, at_same old.held.offset s r later));
       nothing = refused.held;
     }
 ends_goes old piece fed new later (inr (inr starved)) over full = grind arith
 
-ends_feed : (old : Carrying) (piece : List ℕ) (fed : Fed) (new : Carrying) (later : List ℕ) (waiting : Bool) → waits old.state ≡ waiting →
-    old.state.ended ≡ None → Feeds old piece fed new → is_some new.state.ended ≡ true →
-    (new.state.ended ≡ Some NoMemory → ⊥) → Outcome old (old.held.octets ++ (take fed.used piece ++ later)) new.state new.held.octets
-ends_feed old piece fed new later true e quiet h over full = grind (arith, never)
-ends_feed old piece fed new later false e quiet h over full =
-    ends_goes old piece fed new later (h.goes (ap (λ (o : Option EndReason). is_some o || waits old.state) quiet ∙ e)) over full
-
 ends_one : (old : Carrying) (call : Call) (new : Carrying) (later : List ℕ) → called_in call ≡ [] → old.state.ended ≡ None →
     Calls old call new → is_some new.state.ended ≡ true → (new.state.ended ≡ Some NoMemory → ⊥) →
     Outcome old (old.held.octets ++ (used_in call ++ later)) (put_back (told_in call) (carried_in call) new.state) new.held.octets
-ends_one old (feeding piece fed) new later none quiet h over full =
-    ends_feed old piece fed new later (waits old.state) refl quiet h over full
-ends_one old (telling event) new later none quiet h over full = never new.state over (tells_ended event old.state new.state h.0 ∙ quiet)
+ends_one old (feeding piece fed) new later none quiet h over full = grind (arith, never, ends_goes)
+ends_one old (telling event) new later none quiet h over full = never new.state over ((grind arith) ∙ quiet)
 ends_one old (carrying octets) new later none quiet h over full = grind (arith, never)
 ends_one old (calling call) new later none quiet h over full = absurd cc
 
@@ -230,13 +187,9 @@ record Stays (old : Carrying) (told : List Happening) (carried : List ℕ) (new 
   state : put_back told carried new.state ≡ old.state
   held : new.held ≡ old.held
 
-stays_told : (old : Carrying) (event : Option Happening) (new : Carrying) → Tells event old.state new.state → new.held ≡ old.held →
-    Stays old (told_in (telling event)) [] new
-stays_told old event new h held = grind arith
-
 stays_one : (old : Carrying) (call : Call) (new : Carrying) → called_in call ≡ [] → is_some old.state.ended ≡ true → Calls old call new →
     Stays old (told_in call) (carried_in call) new
-stays_one old call new none h h_ = grind (arith, stays_told)
+stays_one old call new none h h_ = grind arith
 
 stays_along : (old : Carrying) (calls : List Call) (new : Carrying) → flat_map called_in calls ≡ [] → is_some old.state.ended ≡ true →
     CallsAlong old calls new → Stays old (flat_map told_in calls) (flat_map carried_in calls) new
@@ -244,12 +197,7 @@ stays_along old [] new none over h = record { state = ap (λ (x : Carrying). x.s
 stays_along old (call ∷ calls) new none over h =
     let parted = none_first (called_in call) (flat_map called_in calls) none in
     let one = stays_one old call h.0 parted.0 over h.1 in
-    let more = stays_along h.0 calls new parted.1 (ap (λ (s : State). is_some s.ended) one.state ∙ over) h.2 in
-    record {
-      state = back_joined (told_in call) (flat_map told_in calls) (carried_in call) (flat_map carried_in calls) new.state
-          ∙ ap (put_back (told_in call) (carried_in call)) more.state ∙ one.state;
-      held = more.held ∙ one.held;
-    }
+    grind (arith, back_joined, stays_along h.0 calls new parted.1 (ap (λ (s : State). is_some s.ended) one.state ∙ over) h.2)
 
 -- ---- calls one after the other
 
@@ -262,7 +210,7 @@ offsets_join at mid s m t r e less few = omega arith
 behind_call : (told : List Happening) (carried : List ℕ) (vs more us : List (List ℕ)) (old mid : State) → us ≡ vs ++ more →
     put_back told carried mid ≡ after vs old → after us old ≡ put_back told carried (after more mid)
 behind_call told carried vs more us old mid all e =
-    after_more us vs more old all ∙ ap (after more) (sym e) ∙ apart_all told carried (map packet more) mid
+    (grind (arith, map_joined, all_joined, map)) ∙ ap (after more) (sym e) ∙ apart_all told carried (map packet more) mid
 
 ending_more : (old mid : Carrying) (call : Call) (t : List ℕ) (final : State) → called_in call ≡ [] → old.held.offset < 2 ^ 64 →
     ReadsOne old call mid → Ending mid.state mid.held.offset (mid.held.octets ++ t) final →
@@ -279,9 +227,7 @@ ending_more old mid call t final none bound one (inl a) =
       before = vs ++ a.before;
       last = a.last;
       rest = a.rest;
-      packets = subst (λ l. ArePackets ((vs ++ a.before) ++ a.last ∷ []) l a.rest) (append_assoc old.held.octets (used_in call) t)
-          (subst (λ l. ArePackets l ((old.held.octets ++ used_in call) ++ t) a.rest) (sym parts)
-          (packets_joined vs us (old.held.octets ++ used_in call) mid.held.octets t a.rest one.packets a.packets));
+      packets = grind (arith, packets_joined, append_assoc old.held.octets (used_in call) t);
       lasts = ap (λ (s : State). s.ended) first ∙ a.lasts;
       over = ap (λ (s : State). is_some s.ended) all ∙ a.over;
       state = ap (put_back (told_in call) (carried_in call)) a.state ∙ sym all;
@@ -296,24 +242,7 @@ ending_more old mid call t final none bound one (inr a) =
     let leaves = packets_leave a.before (mid.held.octets ++ t) a.rest a.packets in
     let m = length-append mid.held.octets t in
     let n = length-append s t in
-    let at : offset_of (mid.held.offset + (length (mid.held.octets ++ t) - length a.rest)) ≡ offset_of
-    (old.held.offset + (length (s ++ t) - length a.rest)) =
-    ap (λ k. offset_of (mid.held.offset + (k - length a.rest))) m
-    ∙ offsets_join old.held.offset mid.held.offset (length s) (length mid.held.octets) (length t) (length a.rest) (one.offset bound)
-    (omega arith) (omega arith)
-    ∙ ap (λ k. offset_of (old.held.offset + (k - length a.rest))) (sym n) in
-    inr (record {
-      before = vs ++ a.before;
-      rest = a.rest;
-      fault = a.fault;
-      packets = subst (λ l. ArePackets (vs ++ a.before) l a.rest) (append_assoc old.held.octets (used_in call) t)
-          (packets_joined vs a.before s mid.held.octets t a.rest one.packets a.packets);
-      is = subst (λ l. IsFaultOf (offset_of (old.held.offset + (length l - length a.rest))) a.rest a.fault)
-          (append_assoc old.held.octets (used_in call) t)
-          (subst (λ n. IsFaultOf n a.rest a.fault) at a.is);
-      lasts = ap (λ (s : State). s.ended) all ∙ a.lasts;
-      state = ap (put_back (told_in call) (carried_in call)) a.state ∙ ap (fails (Tpkt a.fault)) (sym all);
-    })
+    inr (grind (arith, append_assoc, packets_joined))
 
 outcome_by : IsPartial [] → (old : Carrying) (call : Call) (mid : Carrying) (calls : List Call) (new : Carrying) (over : Bool) →
     is_some mid.state.ended ≡ over → called_in call ≡ [] → flat_map called_in calls ≡ [] → old.state.ended ≡ None →
@@ -327,27 +256,12 @@ outcome_by nothing old call mid calls new true e none nor quiet bound h rest ful
     let still = stays_along mid calls new nor e rest in
     let one = ends_one old call mid (flat_map used_in calls) none quiet h e
     (λ starved. full (over_calls mid calls new nor e rest ∙ starved)) in
-    let same : put_back (told_in call ++ flat_map told_in calls) (carried_in call ++ flat_map carried_in calls) new.state ≡ put_back
-    (told_in call) (carried_in call) mid.state =
-    back_joined (told_in call) (flat_map told_in calls) (carried_in call) (flat_map carried_in calls) new.state ∙
-    ap (put_back (told_in call) (carried_in call)) still.state in
-    record {
-      how = subst (λ (s : State). Ending old.state old.held.offset (old.held.octets ++ (used_in call ++ flat_map used_in calls)) s)
-          (sym same) one.how;
-      nothing = ap (λ (x : Held). x.octets) still.held ∙ one.nothing;
-    }
+    grind arith
 outcome_by nothing old call mid calls new false e none nor quiet bound h rest full on =
     let alive = none_of mid.state.ended e in
     let one = reads_one nothing old call mid h alive in
-    let small = one.offset bound in
     let more = on alive (omega arith) in
-    record {
-      how = subst (λ (s : State). Ending old.state old.held.offset (old.held.octets ++ (used_in call ++ flat_map used_in calls)) s)
-          (sym (back_joined (told_in call) (flat_map told_in calls) (carried_in call) (flat_map carried_in calls) new.state))
-          (ending_more old mid call (flat_map used_in calls) (put_back (flat_map told_in calls) (flat_map carried_in calls) new.state) none
-          bound one more.how);
-      nothing = more.nothing;
-    }
+    search (arith, back_joined, ending_more)
 
 outcome_along : IsPartial [] → (old : Carrying) (calls : List Call) (new : Carrying) → flat_map called_in calls ≡ [] →
     old.state.ended ≡ None → old.held.offset < 2 ^ 64 → CallsAlong old calls new → is_some new.state.ended ≡ true →
@@ -362,9 +276,6 @@ outcome_along nothing old (call ∷ calls) new none quiet bound h over full =
 
 -- ---- two lists of calls
 
-some_of : {A : Type 0} (o : Option A) → (o ≡ None → ⊥) → is_some o ≡ true
-some_of o h = grind arith
-
 ends_too : {B : Type 0} (s : State) → (s.ended ≡ None) ⊎ (s.ended ≡ Some NoMemory) → (s.ended ≡ None → ⊥) → (s.ended ≡ Some NoMemory → ⊥) →
     B
 ends_too s h h_ full = grind arith
@@ -377,7 +288,7 @@ alike_by : PacketLaws → IsPartial [] → (old a b : Carrying) (xs ys : List Ca
 alike_by laws nothing old a b xs ys false e partial bound quiet h k none nor used ended full full_too =
     ends_too a.state (pieces_last laws nothing old b a ys xs partial quiet k h nor none (sym used) (none_of b.state.ended e)) ended full
 alike_by laws nothing old a b xs ys true e partial bound quiet h k none nor used ended full full_too =
-    let m = outcome_along nothing old xs a none quiet bound h (some_of a.state.ended ended) full in
+    let m = outcome_along nothing old xs a none quiet bound h (grind arith) full in
     let n = outcome_along nothing old ys b nor quiet bound k e full_too in
     record {
       octets = m.nothing;
@@ -385,8 +296,7 @@ alike_by laws nothing old a b xs ys true e partial bound quiet h k none nor used
       state = end_alike laws old.state old.held.offset (old.held.octets ++ flat_map used_in xs)
           (put_back (flat_map told_in xs) (flat_map carried_in xs) a.state)
           (put_back (flat_map told_in ys) (flat_map carried_in ys) b.state)
-          m.how (subst (λ l. Ending old.state old.held.offset (old.held.octets ++ l)
-          (put_back (flat_map told_in ys) (flat_map carried_in ys) b.state)) (sym used) n.how);
+          m.how (grind arith);
     }
 
 pub pieces_end : PacketLaws → IsPartial [] → (old a b : Carrying) (xs ys : List Call) → IsPartial old.held.octets →

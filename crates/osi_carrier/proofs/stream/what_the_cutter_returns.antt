@@ -1,10 +1,10 @@
 -- The result of the cutter, as the carrier's look at the stream.
 use Rattle.std.proofs.Common.{◌≡◌, ℕ, zero, suc, ◌+◌, ◌<◌, Bool, true, false, List, [], ◌++◌, length, take, drop, None, Result, Ok, Err}
-use Rattle.std.proofs.Common.{MatchBool, refl, sym, ap, subst, ◌∙◌, arith}
+use Rattle.std.proofs.Common.{MatchBool, refl, sym, subst, arith}
 use Rattle.osi_tpkt.specs.Cutter.{TakesPiece, Belongs, Passes}
 use Rattle.osi_carrier.proofs.Vocabulary.{append-nil, take-append-drop, length-take-le, Held, IsHolding, IsPacket, IsOnePacket, IsPartial}
 use Rattle.osi_carrier.proofs.Vocabulary.{IsFaultOf, offset_of, Fed, TpktFault, BadVersion, BadLength, OutOfMemory, PacketActs, EndsOver}
-use Rattle.osi_carrier.proofs.Vocabulary.{IsNoFront, Carrying, IsReading, HasToHold, Acts, after_refusal}
+use Rattle.osi_carrier.proofs.Vocabulary.{IsNoFront, Carrying, HasToHold, Acts, after_refusal}
 
 -- a proper prefix of a packet is no packet
 abbrev pub Proper : Type 0
@@ -75,11 +75,7 @@ fetched_packet proper nothing old new octets fed held packet taken stands progre
 
 -- ---- a packet that is taken without a copy
 
-pub passed_reading : IsPartial [] → (old new : Held) (unit piece : List ℕ) → Passes old unit piece new → IsHolding new → IsReading new
-passed_reading nothing old new unit piece p holding =
-    search (subst IsPartial (sym (ap (λ (h : Held). h.octets) p.after ∙ p.empty)) nothing, ap (λ (h : Held). h.fault) p.after ∙ p.faultless)
-
 pub passed_packet : IsPartial [] → (old new : Carrying) (octets packet : List ℕ) → Passes old.held packet octets new.held →
     IsHolding new.held →
     Acts old.state packet new.state → PacketActs old octets (4 + length packet) new
-passed_packet nothing old new octets packet p holding acted = grind (arith, length-take-le, passed_reading)
+passed_packet nothing old new octets packet p holding acted = grind (arith, length-take-le)

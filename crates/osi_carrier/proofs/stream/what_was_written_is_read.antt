@@ -1,5 +1,5 @@
 -- Octets that a carrier wrote read back as the units that it wrote.
-use Rattle.std.proofs.Common.{◌≡◌, ℕ, ◌<◌, List, [], ◌∷◌, ◌++◌, length, map, take, drop, Result, Ok, sym, ap, ◌∙◌, arith, append_assoc}
+use Rattle.std.proofs.Common.{◌≡◌, ℕ, List, [], ◌∷◌, ◌++◌, length, map, take, drop, Result, Ok, sym, ap, ◌∙◌, arith, append_assoc}
 use Rattle.std.proofs.Common.{length-append}
 use Rattle.osi_tpdu.proofs.the_written_form_spells_its_value.{written_spells}
 use Rattle.osi_tpdu.proofs.the_units_of_a_packet.{units_only}
@@ -37,14 +37,11 @@ pub record Fronts (units : List (List ℕ)) (coming : List Value) (r t : List �
   pub sendable : AllByRecursion IsSendable done
   pub rest : AreComing r t left
 
-some_octets : (u b : List ℕ) → IsPacket u b → 0 < length b
-some_octets u b p = let e = ap length p.spelled in omega arith
-
 pub units_front : (units : List (List ℕ)) (coming : List Value) (s r t : List ℕ) → AllByRecursion IsSendable coming → ArePackets units s r →
     s ++ t ≡ packets coming →
     Fronts units coming r t
 units_front [] coming s r t all h e = grind arith
-units_front (u ∷ us) [] s r t all h e = grind (arith, some_octets, length-append)
+units_front (u ∷ us) [] s r t all h e = grind (arith, length-append)
 units_front (u ∷ us) (v ∷ vs) s r t all h e =
     let packet = unit_packet v all.0 in
     let same : h.0 ++ (h.1 ++ t) ≡ packet_of (written v) ++ packets vs = sym (append_assoc h.0 h.1 t) ∙ ap (λ l. l ++ t) (sym h.3) ∙ e in
@@ -61,23 +58,15 @@ units_front (u ∷ us) (v ∷ vs) s r t all h e =
       rest = more.rest;
     }
 
--- what was written has no fault
-front_free : (at : ℕ) (b r t x : List ℕ) (u : List ℕ) (f : TpktFault) → IsPacket u b → r ++ t ≡ b ++ x → IsFaultOf at r f → ⊥
-front_free at b r t x u f p e bad = grind (arith, get_or_append_left)
-
 short_none : (r t : List ℕ) → r ++ t ≡ [] → length r ≡ 0
 short_none r t e = let total = length-append r t in let none = ap length e in omega arith
 
 pub fault_free : (at : ℕ) (r t : List ℕ) (f : TpktFault) (units : List Value) → AreComing r t units → IsFaultOf at r f → ⊥
-fault_free at r t f (u ∷ us) c bad = front_free at (packet_of (written u)) r t (packets us) (written u) f (unit_packet u c.sendable.0)
-    c.octets bad
+fault_free at r t f (u ∷ us) c bad = grind (arith, get_or_append_left)
 fault_free at r t OutOfMemory [] c bad = bad
 fault_free at r t f [] c bad = let none = short_none r t c.octets in let some = bad.0.0 in omega arith
 
 -- ---- feeding
-
-whole_piece : (held outgoing : List ℕ) (n : ℕ) → (held ++ take n outgoing) ++ drop n outgoing ≡ held ++ outgoing
-whole_piece held outgoing n = append_assoc held (take n outgoing) (drop n outgoing) ∙ ap (λ l. held ++ l) (take-append-drop n outgoing)
 
 -- one unit for which memory ran out had done nothing
 pub alone_starved : (old new : State) (unit : Value) (done more : List Value) (next : Value) → unit ∷ [] ≡ done ++ (next ∷ more) →
@@ -97,4 +86,4 @@ starved_unit old new packet unit sendable is h =
 pub reads_part : (held outgoing : List ℕ) (coming : List Value) (n : ℕ) (units : List (List ℕ)) (r : List ℕ) →
     AreComing held outgoing coming →
     ArePackets units (held ++ take n outgoing) r → Fronts units coming r (drop n outgoing)
-reads_part held outgoing coming n units r c h = grind (arith, units_front, whole_piece)
+reads_part held outgoing coming n units r c h = grind (arith, units_front, append_assoc, take-append-drop)

@@ -1,13 +1,13 @@
 -- Writing a TSDU straight from its octets, part after part, and keeping what may not be sent yet.
-use Rattle.std.proofs.Common.{◌≡◌, ℕ, ◌+◌, ◌<◌, ◌≤◌, Bool, List, [], ◌∷◌, ◌++◌, length, drop, Option, None, refl, sym, ap, ◌∙◌, subst}
-use Rattle.std.proofs.Common.{append_assoc, length-append, arith}
+use Rattle.std.proofs.Common.{◌≡◌, ℕ, ◌+◌, ◌<◌, ◌≤◌, Bool, List, [], ◌∷◌, ◌++◌, length, drop, None, refl, sym, ap, ◌∙◌, subst, append_assoc}
+use Rattle.std.proofs.Common.{length-append, arith}
 use Rattle.std.proofs.Math.Seq.{drop-append-add}
 use Rattle.std.proofs.lemmas.List.{drop-drop}
 use Rattle.osi_class.proofs.giving.a_part_that_is_given_at_once.{goes_at_once, some_rest}
 use Rattle.osi_carrier.proofs.Vocabulary.{Drained, drained, all_given, octets_of, octets_in, GoesAtOnce, GivesPart, with_rest, Standing}
 use Rattle.osi_carrier.proofs.Vocabulary.{Given, next, unit_of, with_tsdu, drained_none, drained_some, pumped, written_by, packets}
-use Rattle.osi_carrier.proofs.written.all_that_a_link_gives.{IsPumping, pumping_first, pumping_next, pumping_octets, pumping_link}
-use Rattle.osi_carrier.proofs.written.all_that_a_link_gives.{pumping_room}
+use Rattle.osi_carrier.proofs.Vocabulary.{append-nil}
+use Rattle.osi_carrier.proofs.written.all_that_a_link_gives.{IsPumping, pumping_next, pumping_room}
 use Rattle.osi_carrier.specs.Pump.{left_of, LeavesRest}
 
 -- what is left of a TSDU is sent now, except for what is kept
@@ -26,19 +26,14 @@ pub record IsParting (peer : ℕ) (first : Standing) (before : List ℕ) (link :
 pub parting_first : (peer : ℕ) (link : Standing) (tsdu kept before : List ℕ) (spare : ℕ) → Goes link tsdu kept →
     length (packets (written_by peer (with_tsdu link tsdu))) ≤ spare →
     IsParting peer (with_tsdu link tsdu) before link tsdu kept before spare
-parting_first peer link tsdu kept before spare goes room = grind (arith, pumping_first)
+parting_first peer link tsdu kept before spare goes room = grind (arith, append-nil)
 
 -- a part of it may be given if any may
 pub part_goes : (link : Standing) (rest : List ℕ) → next link ≡ None → 0 < length (all_given (with_tsdu link rest)) → GoesAtOnce link
 part_goes link rest quiet some = grind (arith, goes_at_once, drained_none)
 
--- nothing is given if no part may be
-nothing_by : (link : Standing) (rest : List ℕ) (o : Option (Given × Standing)) → next link ≡ None → (GoesAtOnce link → ⊥) →
-    next (with_tsdu link rest) ≡ o → next (with_tsdu link rest) ≡ None
-nothing_by link rest o quiet never e = grind (arith, goes_at_once)
-
 pub nothing_goes : (link : Standing) (rest : List ℕ) → next link ≡ None → (GoesAtOnce link → ⊥) → next (with_tsdu link rest) ≡ None
-nothing_goes link rest quiet never = nothing_by link rest (next (with_tsdu link rest)) quiet never refl
+nothing_goes link rest quiet never = grind (arith, goes_at_once)
 
 -- what is left of two pieces after this many octets is left of the second
 pub left_behind : (head body rest : List ℕ) (octets n : ℕ) → length head + n ≡ octets → rest ≡ drop n body →
@@ -67,25 +62,13 @@ empty_list (x ∷ l) h = absurd (omega arith)
 pub put_length : (octets after unit : List ℕ) → after ≡ octets ++ unit → length after ≡ length octets + length unit
 put_length octets after unit e = ap length e ∙ length-append octets unit
 
--- what is left of it may be sent now too, except for the same that is kept
-pub rest_goes : (link new : Standing) (rest kept : List ℕ) (unit : Given) → Goes link rest kept → 0 < link.ends.limit →
-    GivesPart unit rest link new →
-    new.ends.unsent ≡ [] → 0 < length (drop (octets_of unit) rest) → Goes new (drop (octets_of unit) rest) kept
-rest_goes link new rest kept unit goes room part alone some = grind (arith, parts_from, some_rest, drop-drop)
-
 -- the part was written
 pub parting_next : (peer : ℕ) (first link new : Standing) (before rest kept octets after : List ℕ) (unit : Given) (spare left : ℕ) →
     IsParting peer first before link rest kept octets spare → 0 < link.ends.limit → GivesPart unit rest link new → new.ends.unsent ≡ [] →
     after ≡ octets ++ packets (unit_of peer unit ∷ []) → spare ≤ left + length (packets (unit_of peer unit ∷ [])) →
     0 < length (drop (octets_of unit) rest) → IsParting peer first before new (drop (octets_of unit) rest) kept after left
 parting_next peer first link new before rest kept octets after unit spare left h room part alone put took some =
-    grind (
-      arith,
-      pumping_next,
-      pumping_room,
-      parts_from link new rest unit room part,
-      rest_goes link new rest kept unit h.goes room part alone some,
-    )
+    grind (arith, pumping_next, pumping_room, parts_from link new rest unit room part, parts_from, some_rest, drop-drop)
 
 -- the last part was written
 pub record IsWhole (peer : ℕ) (first : Standing) (before : List ℕ) (now : Standing) (octets : List ℕ) : Type 0 where
@@ -100,8 +83,7 @@ parting_last peer first link new before rest kept octets after unit spare h room
     let step = parts_from link new rest unit room part in
     let more = pumping_next peer first (with_tsdu link rest) (with_rest new behind) before octets after unit h.pumping step put in
     let all = subst (λ (r : List ℕ). IsPumping peer first before (with_rest new r) after) none more in
-    let end = drained_none new part.last in
-    record { link = pumping_link peer first new before after all end; written = pumping_octets peer first new before after all end }
+    search (arith, drained_none, append-nil)
 
 -- no more parts may be sent, and what is left is kept
 pub record IsKept (peer : ℕ) (first : Standing) (before : List ℕ) (now : Standing) (octets : List ℕ) : Type 0 where
@@ -116,15 +98,7 @@ parting_kept peer first link now before rest kept octets spare h never is =
     let none = nothing_goes link rest h.goes.quiet never in
     let end = drained_none then none in
     let all : kept ≡ rest = h.goes.left ∙ ap (λ (d : Drained). drop (octets_in d.units) rest) end in
-    let same : now ≡ then = is ∙ ap (with_tsdu link) all in
-    record {
-      whole = record {
-        link = same ∙ pumping_link peer first then before octets h.pumping end;
-        written = pumping_octets peer first then
-            before octets h.pumping end;
-      };
-      quiet = ap next same ∙ none;
-    }
+    search (arith, append-nil)
 
 -- the first part was written, which ends before these octets
 pub parting_then : (peer : ℕ) (link new : Standing) (tsdu rest kept before after : List ℕ) (unit : Given) (spare left : ℕ) →

@@ -1,8 +1,8 @@
 -- Writing all that a link gives, one unit after the other.
 use Rattle.std.proofs.Common.{◌≡◌, ℕ, ◌+◌, ◌*◌, ◌<◌, ◌≤◌, List, [], ◌∷◌, ◌++◌, length, take, map, refl, sym, ap, ◌∙◌, append_assoc}
 use Rattle.std.proofs.Common.{length-append, arith}
-use Rattle.osi_carrier.proofs.Vocabulary.{cases_lt, append-nil, take_at, packet_of, Value, written, Drained, drained, octets_of, octets_in}
-use Rattle.osi_carrier.proofs.Vocabulary.{Standing, Given, unit_of, next, pumped, written_by, packets}
+use Rattle.osi_carrier.proofs.Vocabulary.{cases_lt, take_at, Value, Drained, drained, octets_in, Standing, Given, unit_of, next, pumped}
+use Rattle.osi_carrier.proofs.Vocabulary.{written_by, packets}
 
 pub packets_join : (us vs : List Value) → packets (us ++ vs) ≡ packets us ++ packets vs
 packets_join [] vs = refl
@@ -15,23 +15,12 @@ pub record IsPumping (peer : ℕ) (first : Standing) (before : List ℕ) (now : 
   pub all : more ++ packets (written_by peer now) ≡ packets (written_by peer first)
   pub link : pumped now ≡ pumped first
 
-pub pumping_first : (peer : ℕ) (first : Standing) (before : List ℕ) → IsPumping peer first before first before
-pumping_first peer first before = record { more = []; is = sym (append-nil before); all = refl; link = refl }
-
 pub pumping_next : (peer : ℕ) (first now next : Standing) (before octets after : List ℕ) (unit : Given) →
     IsPumping peer first before now octets →
     drained now ≡ record { units = unit ∷ (drained next).units; link = (drained next).link } →
     after ≡ octets ++ packets (unit_of peer unit ∷ []) →
     IsPumping peer first before next after
 pumping_next peer first now next before octets after unit h e put = grind (arith, append_assoc, packets_join)
-
-pub pumping_octets : (peer : ℕ) (first now : Standing) (before octets : List ℕ) → IsPumping peer first before now octets →
-    drained now ≡ record { units = []; link = now } → octets ≡ before ++ packets (written_by peer first)
-pumping_octets peer first now before octets h e = grind (arith, append-nil)
-
-pub pumping_link : (peer : ℕ) (first now : Standing) (before octets : List ℕ) → IsPumping peer first before now octets →
-    drained now ≡ record { units = []; link = now } → now ≡ pumped first
-pumping_link peer first now before octets h e = sym (ap (λ (d : Drained). d.link) e) ∙ h.link
 
 pub pumping_full : (peer : ℕ) (first now : Standing) (before octets after : List ℕ) → IsPumping peer first before now octets →
     after ≡ octets → take (length before) after ≡ before
@@ -50,13 +39,10 @@ pub pumping_short : (peer : ℕ) (first now then : Standing) (unit : Given) (roo
     left < length (packets (unit_of peer unit ∷ [])) → room < length (packets (written_by peer first))
 pumping_short peer first now then unit room left e more full = grind (arith, pumping_room, cases_lt)
 
-unit_most : (peer : ℕ) (unit : Given) → length (packet_of (written (unit_of peer unit))) ≤ octets_of unit + 9
-unit_most peer unit = grind arith
-
 -- a unit takes at most 9 octets more than its part
 pub packets_most : (peer : ℕ) (units : List Given) → length (packets (map (unit_of peer) units)) ≤ octets_in units + 9 * length units
 packets_most peer [] = omega arith
-packets_most peer (u ∷ units) = grind (arith, unit_most, length-append, packets_most peer units)
+packets_most peer (u ∷ units) = grind (arith, length-append, packets_most peer units)
 
 -- if a link gives one unit and then none, the link after it
 pub whole_link : (s new : Standing) (unit : Given) → drained s ≡ record { units = unit ∷ (drained new).units; link = (drained new).link } →

@@ -1,7 +1,7 @@
 -- Octets that are cut into pieces, each behind its head: the TSDUs one after the other.
 -- For `room` and `copies` of pieces, `write_some` of links, and `send_pieces_open` of the switch.
 use Rattle.std.proofs.Common.{◌≡◌, refl, ℕ, zero, suc, ◌+◌, ◌^◌, ◌<◌, ◌≤◌, Bool, true, false, nat_le, List, [], ◌∷◌, ◌++◌, length, take}
-use Rattle.std.proofs.Common.{drop, arith, length-append, length-drop, if◌then◌else◌, nat_lt, ◌||◌, Option, Some, None, IfSome, IsSome}
+use Rattle.std.proofs.Common.{drop, arith, length-append, length-drop, if◌then◌else◌, nat_lt, Option, Some, None, IfSome, IsSome}
 use Rattle.std.proofs.lemmas.Bool.{lt-leb, le-ltb}
 use Rattle.std.proofs.lemmas.List.{length-take}
 use Rattle.osi_class.proofs.giving.all_that_may_go_is_given.{more_units}
@@ -30,21 +30,13 @@ same_headed (suc f) (suc g) h m l size o some a b =
     (λ no. let long : size < length o = leb-false (length o) size no in let d = length-drop size o in
     same_headed f g m m l size (drop size o) some (omega arith) (omega arith))
 
-step_of : (n : ℕ) (h m l : List ℕ) (size : ℕ) (o : List ℕ) → length o ≡ n → 0 < size → size < length o →
-    headed n h m l size o ≡ (h ++ take size o) ∷ headed (length (drop size o)) m m l size (drop size o)
-step_of n h m l size o e some long = grind (arith, lt-leb, length-drop, same_headed)
-
 -- the next of several
 pub cut_next : (p : Pieces) (head rest piece behind : List ℕ) → 0 < p.size → p.size < length rest → piece ≡ take p.size rest →
     behind ≡ drop p.size rest → tsdus_from p head rest ≡ (head ++ piece) ∷ tsdus_from p p.middle.now behind
-cut_next p head rest piece behind some long first after = grind (arith, step_of)
+cut_next p head rest piece behind some long first after = grind (arith, lt-leb, length-drop, same_headed)
 
 end_of : (n : ℕ) (h m l : List ℕ) (size : ℕ) (o : List ℕ) → length o ≤ size → headed n h m l size o ≡ (l ++ o) ∷ []
 end_of n h m l size o short = grind (arith, le-leb)
-
--- the last
-pub cut_last : (p : Pieces) (head rest : List ℕ) → length rest ≤ p.size → tsdus_from p head rest ≡ (p.last.now ++ rest) ∷ []
-cut_last p head rest short = end_of (length rest) head p.middle.now p.last.now p.size rest short
 
 -- ---- their units and octets
 
@@ -72,7 +64,7 @@ pub record AreCounted (p : Pieces) (limit units octets : ℕ) : Type 0 where
 
 pub counting_last : (p : Pieces) (limit u o v q : ℕ) (head rest : List ℕ) → IsCounted p limit u o head rest → length rest ≤ p.size →
     v ≡ u + parts_needed limit (length p.last.now + length rest) → q ≡ o + (length p.last.now + length rest) → AreCounted p limit v q
-counting_last p limit u o v q head rest h short units octets = grind (arith, cut_last, length-append, more_units, more_octets)
+counting_last p limit u o v q head rest h short units octets = grind (arith, end_of, length-append, more_units, more_octets)
 
 -- what is counted, if it fits a usize
 pub counted_units : (p : Pieces) (limit u o : ℕ) (head rest : List ℕ) (r : Option Room) → IsCounted p limit u o head rest →
@@ -102,9 +94,7 @@ pub fits_next : (p : Pieces) (limit u o : ℕ) (head rest : List ℕ) (r : Optio
 fits_next p limit u o head rest r fit h long fits units octets =
     let more = counting_next p limit u o (u + parts_needed limit (length head + p.size)) (o + (length head + p.size)) head rest
     (drop p.size rest) fit h long refl refl refl in
-    let all_units = more.units_are in
-    let all_octets = more.octets_are in
-    fits (omega (arith, all_units, units)) (omega (arith, all_octets, octets))
+    grind arith
 
 -- and of the last
 pub fits_last : (p : Pieces) (limit u o : ℕ) (head rest : List ℕ) (r : Option Room) → IsCounted p limit u o head rest →
@@ -114,34 +104,16 @@ pub fits_last : (p : Pieces) (limit u o : ℕ) (head rest : List ℕ) (r : Optio
 fits_last p limit u o head rest r h short fits units octets =
     let all = counting_last p limit u o (u + parts_needed limit (length p.last.now + length rest)) (o + (length p.last.now + length rest))
     head rest h short refl refl in
-    let all_units = all.units_are in
-    let all_octets = all.octets_are in
-    fits (omega (arith, all_units, units)) (omega (arith, all_octets, octets))
+    grind arith
 
 -- ---- their lengths
 
-any_if : (b : Bool) (ts : List (List ℕ)) → b ≡ false → list_any (λ (t : List ℕ). nat_lt 1048576 (length t)) ts ≡ false →
-    (b || list_any (λ (t : List ℕ). nat_lt 1048576 (length t)) ts) ≡ false
-any_if b ts e h = grind arith
-
-not_long : (head piece : List ℕ) (size : ℕ) → FitsTsdu size head → length piece ≤ size → nat_lt 1048576 (length (head ++ piece)) ≡ false
-not_long head piece size fits few = grind (arith, length-append, le-ltb)
-
-long_if : (b : Bool) (last first : List ℕ) (ts : List (List ℕ)) → (b ≡ true → nat_lt 1048576 (length last) ≡ false) →
-    (b ≡ false → nat_lt 1048576 (length first) ≡ false) → list_any (λ (t : List ℕ). nat_lt 1048576 (length t)) ts ≡ false →
-    list_any (λ (t : List ℕ). nat_lt 1048576 (length t)) (if b then last ∷ [] else first ∷ ts) ≡ false
-long_if b last first ts one other more = grind (arith, any_if)
-
 none_long : (n : ℕ) (h m l : List ℕ) (size : ℕ) (o : List ℕ) → length o ≤ n → 0 < size → FitsTsdu size h → FitsTsdu size m →
     FitsTsdu size l → list_any (λ (t : List ℕ). nat_lt 1048576 (length t)) (headed n h m l size o) ≡ false
-none_long zero h m l size o within some first middle last = grind (arith, any_if, not_long)
+none_long zero h m l size o within some first middle last = grind (arith, length-append, le-ltb)
 none_long (suc n) h m l size o within some first middle last =
     let d = length-drop size o in
-    let t = length-take size o in
-    long_if (nat_le (length o) size) (l ++ o) (h ++ take size o) (headed n m m l size (drop size o))
-    (λ yes. not_long l o size last (leb-true (length o) size yes))
-    (λ no. not_long h (take size o) size first (omega arith))
-    (none_long n m m l size (drop size o) (omega arith) some middle middle last)
+    grind (arith, length-take, length-append, le-ltb, leb-true, none_long n m m l size (drop size o) (omega arith) some middle middle last)
 
 -- none of them is too long
 pub all_fit : (p : Pieces) → FitTsdus p → lengths_error (tsdus_in p) ≡ None

@@ -1,18 +1,19 @@
 -- TSDUs that are cut from octets are written straight from their heads and pieces, as far as their units may go now.
 -- For `write_some` and `write_pieces` of links.
-use Rattle.std.proofs.Common.{◌≡◌, ◌∙◌, ap, ℕ, ◌+◌, ◌<◌, ◌≤◌, Bool, true, false, List, [], ◌∷◌, ◌++◌, length, take, drop, arith}
-use Rattle.std.proofs.Common.{append_assoc, length-append, Option, None}
+use Rattle.std.proofs.Common.{◌≡◌, ℕ, ◌+◌, ◌<◌, ◌≤◌, Bool, true, false, List, [], ◌∷◌, ◌++◌, length, take, drop, arith, append_assoc}
+use Rattle.std.proofs.Common.{length-append, Option, None}
 use Rattle.osi_class.proofs.giving.a_link_gives_finitely_many_units.{drained_ends}
 use Rattle.osi_class.proofs.giving.when_nothing_is_given.{class_0, class_2}
 use Rattle.osi_class.specs.Ends.{Ends}
 use Rattle.osi_class.specs.Flow.{Flow}
-use Rattle.osi_carrier.proofs.Vocabulary.{append-nil, Drained, drained_leaves, drained_none, given_one_by_one, one_by_one, Standing, next}
-use Rattle.osi_carrier.proofs.Vocabulary.{with_tsdu, with_tsdus, pumped, written_by, written_for, packets}
-use Rattle.osi_carrier.proofs.written.octets_are_cut_into_tsdus.{cut_next, cut_last}
-use Rattle.osi_carrier.proofs.written.tsdus_are_written_straight.{first_room, first_written}
+use Rattle.osi_carrier.proofs.Vocabulary.{append-nil, drained_leaves, drained_none, given_one_by_one, one_by_one, Standing, next, with_tsdu}
+use Rattle.osi_carrier.proofs.Vocabulary.{with_tsdus, written_by, written_for, packets, map-append}
+use Rattle.osi_carrier.proofs.written.octets_are_cut_into_tsdus.{cut_next}
+use Rattle.osi_carrier.proofs.written.tsdus_are_written_straight.{first_room}
 use Rattle.osi_carrier.specs.Pieces.{tsdus_from, FitTsdus}
 use Rattle.osi_carrier.specs.Pump.{LeavesRest}
 use Rattle.osi_carrier.specs.declared.pieces.Pieces.{Pieces}
+use Rattle.osi_carrier.proofs.written.all_that_a_link_gives.{packets_join}
 
 -- Some TSDUs were written whole behind the octets `before`. This is the link after them, and `rest` are the others. The
 -- end is this link after they are handed in too, and `target` are all units that are to be written.
@@ -44,7 +45,7 @@ next_of_several p peer end target before link head rest piece behind octets spar
 pub last_of_all : (p : Pieces) (peer : ℕ) (end : Standing) (target before : List ℕ) (link : Standing) (head rest octets : List ℕ)
     (spare : ℕ) → length rest ≤ p.size → IsSending peer end target before link (tsdus_from p head rest) octets spare →
     IsSending peer end target before link ((p.last.now ++ rest) ∷ []) octets spare
-last_of_all p peer end target before link head rest octets spare short h = grind (arith, cut_last)
+last_of_all p peer end target before link head rest octets spare short h = grind arith
 
 -- there is room for its units
 pub next_room : (peer : ℕ) (end : Standing) (target before : List ℕ) (link : Standing) (tsdu : List ℕ) (rest : List (List ℕ))
@@ -54,30 +55,19 @@ next_room peer end target before link tsdu rest octets spare h = search (arith, 
 
 -- ---- it was written whole
 
-whole_then : (peer : ℕ) (end : Standing) (target before : List ℕ) (link : Standing) (tsdu : List ℕ) (rest : List (List ℕ))
-    (octets after : List ℕ) (spare left : ℕ) → IsSending peer end target before link (tsdu ∷ rest) octets spare →
-    next (pumped (with_tsdu link tsdu)) ≡ None → (pumped (with_tsdu link tsdu)).ends.unsent ≡ [] →
-    after ≡ octets ++ packets (written_by peer (with_tsdu link tsdu)) → length octets + spare ≤ length after + left →
-    IsSending peer end target before (pumped (with_tsdu link tsdu)) rest after left
-whole_then peer end target before link tsdu rest octets after spare left h quiet alone put kept =
-    grind (arith, length-append, append_assoc, drained_leaves (with_tsdu link tsdu), first_written peer link tsdu rest)
-
 pub sending_next : (peer : ℕ) (end : Standing) (target before : List ℕ) (link now : Standing) (tsdu : List ℕ) (rest : List (List ℕ))
     (octets after : List ℕ) (spare left : ℕ) → IsSending peer end target before link (tsdu ∷ rest) octets spare →
     LeavesRest true link tsdu now → next now ≡ None → now.ends.unsent ≡ [] →
     after ≡ octets ++ packets (written_by peer (with_tsdu link tsdu)) → length octets + spare ≤ length after + left →
     IsSending peer end target before now rest after left
-sending_next peer end target before link now tsdu rest octets after spare left h is quiet alone put kept = grind (arith, whole_then)
+sending_next peer end target before link now tsdu rest octets after spare left h is quiet alone put kept =
+    grind (arith, length-append, append_assoc, drained_leaves, map-append, packets_join)
 
 -- ---- what waits keeps the others waiting
 
 stays_by : (e : Ends) (flow : Option Flow) (t : List ℕ) → next (record { ends = e; flow = flow }) ≡ None → (e.unsent ≡ [] → ⊥) →
     next (with_tsdu (record { ends = e; flow = flow }) t) ≡ None
 stays_by e flow t quiet some = grind (arith, class_0, class_2)
-
-not_empty : (xs : List (List ℕ)) (x : List ℕ) → xs ++ x ∷ [] ≡ [] → ⊥
-not_empty [] x e = cc
-not_empty (y ∷ ys) x e = cc
 
 -- none of them is given
 pub record AllStay (link : Standing) (ts : List (List ℕ)) : Type 0 where
@@ -90,12 +80,8 @@ all_stay link (t ∷ ts) quiet some =
     let then = with_tsdu link t in
     let still = stays_by link.ends link.flow t quiet some in
     let drain = drained_none then still in
-    let more = all_stay then ts still (not_empty link.ends.unsent t) in
-    record {
-      kept = ap (λ (d : Drained). one_by_one d.link ts) drain ∙ more.kept
-          ∙ ap (λ (u : List (List ℕ)). record link { ends = record link.ends { unsent = u } }) (append_assoc link.ends.unsent (t ∷ []) ts);
-      none = ap (λ (d : Drained). d.units ++ given_one_by_one d.link ts) drain ∙ more.none;
-    }
+    let more = all_stay then ts still (grind arith) in
+    grind (arith, append_assoc)
 
 -- ---- the end
 
@@ -103,11 +89,6 @@ all_stay link (t ∷ ts) quiet some =
 pub record AreSent (end : Standing) (target before : List ℕ) (link : Standing) (octets : List ℕ) : Type 0 where
   pub link_is : with_tsdus link end.ends.unsent ≡ end
   pub written : octets ≡ before ++ target
-
--- a link at which nothing waits, and what it would keep
-kept_is : (now : Standing) (ts : List (List ℕ)) → now.ends.unsent ≡ [] →
-    with_tsdus now (with_tsdus now ts).ends.unsent ≡ with_tsdus now ts
-kept_is now ts alone = grind arith
 
 -- not all units of the next may go
 pub sending_stops : (peer : ℕ) (end : Standing) (target before : List ℕ) (link now : Standing) (tsdu : List ℕ) (rest : List (List ℕ))
@@ -119,7 +100,7 @@ sending_stops peer end target before link now tsdu rest octets after spare h is 
 
 sent_all : (peer : ℕ) (end : Standing) (target before : List ℕ) (link : Standing) (octets : List ℕ) (spare : ℕ) →
     IsSending peer end target before link [] octets spare → AreSent end target before link octets
-sent_all peer end target before link octets spare h = grind (arith, append-nil, kept_is)
+sent_all peer end target before link octets spare h = grind (arith, append-nil)
 
 -- the last was written, or as much of it as may go
 pub sending_last : (b : Bool) (peer : ℕ) (end : Standing) (target before : List ℕ) (link now : Standing) (tsdu : List ℕ)

@@ -1,9 +1,6 @@
 -- How many units of TSDUs may go now if not all may, by the units that a link gives for one TSDU that fills as many.
 -- For `some_at_once`, `send_parts`, `send_some` and `write_pieces` of links.
-use Rattle.std.proofs.Common.{◌≡◌, ◌∙◌, sym, ap, ℕ, ◌+◌, ◌-◌, ◌*◌, ◌^◌, ◌<◌, ◌≤◌, List, [], ◌∷◌, ◌++◌, length, map, arith, Option, Some}
-use Rattle.std.proofs.Common.{None, inl, inr}
-use Rattle.std.proofs.Math.Nat.{div-lt_iff_lt-mul}
-use Rattle.std.proofs.lemmas.Nat.{mul-le}
+use Rattle.std.proofs.Common.{◌≡◌, ℕ, ◌+◌, ◌*◌, ◌^◌, ◌<◌, ◌≤◌, List, [], ◌∷◌, length, arith, Option, Some, None}
 use Rattle.osi_class.proofs.giving.a_link_gives_finitely_many_units.{drained_ends}
 use Rattle.osi_class.proofs.giving.all_that_may_go_is_given.{goes_whole, more_units}
 use Rattle.osi_class.proofs.giving.the_units_of_one_tsdu.{room_of_class_0, room_of_class_2}
@@ -12,44 +9,32 @@ use Rattle.osi_class.proofs.giving.units_have_at_most_so_many_octets.{all_take}
 use Rattle.osi_class.proofs.giving.when_nothing_is_given.{class_2}
 use Rattle.osi_class.specs.Ends.{Ends}
 use Rattle.osi_class.specs.Flow.{Flow}
-use Rattle.osi_class.specs.Giving.{MayGoAll, most_given, octets_in_parts, parts_needed, units_needed}
+use Rattle.osi_class.specs.Giving.{most_given, units_needed}
 use Rattle.osi_class.specs.Tsdus.{octets_of_tsdus}
-use Rattle.osi_carrier.proofs.Vocabulary.{AllGoAtOnce, Drained, all_given, drained_leaves, octets_in, one_by_one, min, Standing}
-use Rattle.osi_carrier.proofs.Vocabulary.{next, with_tsdu}
-use Rattle.osi_carrier.proofs.Vocabulary.{with_tsdus, unit_of, packets, pumped, written_for}
+use Rattle.osi_carrier.proofs.Vocabulary.{AllGoAtOnce, all_given, drained_leaves, octets_in, one_by_one, min, Standing, next, with_tsdu}
+use Rattle.osi_carrier.proofs.Vocabulary.{with_tsdus, packets, pumped, written_for}
 use Rattle.osi_carrier.proofs.written.all_that_a_link_gives.{packets_most}
 use Rattle.osi_carrier.proofs.written.what_is_left_after_some_units.{drained_left}
 use Rattle.osi_carrier.proofs.written.whether_all_tsdus_may_go_now.{fills, in_parts, none_waits}
-use Rattle.osi_carrier.specs.Pieces.{left_after, SomeGo}
+use Rattle.osi_carrier.specs.Pieces.{SomeGo}
 
 -- ---- one TSDU
-
--- so many units of a TSDU are enough for all of its octets
-few_parts : (limit octets credit : ℕ) → 0 < limit → 0 < credit → octets ≤ credit * limit → parts_needed limit octets ≤ credit
-few_parts limit octets credit room some fits = grind (arith, div-lt_iff_lt-mul, mul-le)
-
-goes_by : (e : Ends) (flow : Option Flow) (t : List ℕ) → 0 < e.limit → next (record { ends = e; flow = flow }) ≡ None →
-    e.unsent ≡ [] → 0 < length (all_given (with_tsdu (record { ends = e; flow = flow }) t)) →
-    octets_in (all_given (with_tsdu (record { ends = e; flow = flow }) t)) ≡ length t → MayGoAll (units_needed e.limit (t ∷ [])) flow
-goes_by e flow t room quiet alone some all = grind (arith, class_2, room_of_class_2, more_units, few_parts)
 
 -- nothing is left if all octets are given in some units
 pub whole_goes : (s : Standing) (t : List ℕ) → 0 < s.ends.limit → next s ≡ None → s.ends.unsent ≡ [] →
     0 < length (all_given (with_tsdu s t)) → octets_in (all_given (with_tsdu s t)) ≡ length t → (pumped (with_tsdu s t)).ends.unsent ≡ []
 whole_goes s t room quiet alone some all =
-    (goes_whole s t [] room (record { alone = alone; may = goes_by s.ends s.flow t room quiet alone some all })).others.alone
+    (goes_whole s t [] room (record { alone = alone; may = (grind (arith, class_2, room_of_class_2, more_units)) })).others.alone
 
 -- nothing is left of TSDUs that all go
 pub none_left : (s : Standing) (ts : List (List ℕ)) → 0 < s.ends.limit → AllGoAtOnce s ts → (one_by_one s ts).ends.unsent ≡ []
 none_left s [] room go = go.alone
 none_left s (t ∷ ts) room go =
-    let same = (drained_leaves (with_tsdu s t)).0 in
-    none_left (pumped (with_tsdu s t)) ts (omega (arith, same, room)) (goes_whole s t ts room go).others
+    none_left (pumped (with_tsdu s t)) ts (grind (arith, drained_leaves, room)) (goes_whole s t ts room go).others
 
 -- the link gives no more after all of them
 pub gives_no_more : (s : Standing) (ts : List (List ℕ)) → 0 < s.ends.limit → next s ≡ None → next (one_by_one s ts) ≡ None
-gives_no_more s ts room quiet =
-    sym (ap (λ (d : Drained). next d.link) (many_at_once s ts room quiet)) ∙ drained_ends (with_tsdus s ts) room
+gives_no_more s ts room quiet = grind (arith, many_at_once s ts room quiet, drained_ends (with_tsdus s ts) room)
 
 -- ---- some and not all
 
@@ -65,27 +50,16 @@ part_by : (e : Ends) (flow : Option Flow) (t : List ℕ) (ts : List (List ℕ)) 
 part_by e None t ts n room quiet needs size given some not_all counted = grind (arith, room_of_class_0, fills)
 part_by e (Some f) t ts n room quiet needs size given some not_all counted =
     let s : Standing = record { ends = e; flow = Some f } in
-    let credit = f.sender.credit in
-    let both = (class_2 e f).0 quiet in
-    let units = (room_of_class_2 e f t room quiet).0 in
-    let parts = ap (parts_needed e.limit) size ∙ fills e.limit (units_needed e.limit ts) room needs in
-    let same : n ≡ credit = omega (arith, units, parts, given, not_all) in
-    elim both.1 as (λ _. GoInPart s n ts) [
-      | inl alone ↦
-          let left = sym (ap (λ (d : Drained). d.link.ends.unsent) (many_at_once s ts room quiet))
-          ∙ drained_left (record e { unsent = e.unsent ++ ts }) f room both.0
-          ∙ ap (λ (u : List (List ℕ)). left_after credit e.limit (u ++ ts)) alone
-          ∙ ap (λ (m : ℕ). left_after m e.limit ts) (sym same) in
-          let all = ap (λ (u : List (List ℕ)). octets_in_parts 9 e.limit (u ++ ts)) alone in
-          let sum = in_parts 9 e.limit ts in
-          let acks = none_waits f.receiver.waiting 9 both.0 in
-          let product = ap (λ (m : ℕ). m * (e.limit + 9)) same in
-          record {
-            go = record { alone = alone; left = left; counted = counted };
-            room = omega (arith, all, sum, acks, product);
-          }
-      | inr closed ↦ absurd (omega (arith, closed, same, some))
-    ]
+    grind (
+      arith,
+      drained_left,
+      none_waits,
+      class_2 e f,
+      room_of_class_2 e f t room quiet,
+      fills e.limit (units_needed e.limit ts) room needs,
+      many_at_once s ts room quiet,
+      in_parts 9 e.limit ts,
+    )
 
 pub go_in_part : (s : Standing) (t : List ℕ) (ts : List (List ℕ)) (n : ℕ) → 0 < s.ends.limit → next s ≡ None →
     0 < units_needed s.ends.limit ts → length t ≡ units_needed s.ends.limit ts * s.ends.limit →
@@ -100,8 +74,4 @@ pub enough_for_some : (peer : ℕ) (s : Standing) (ts : List (List ℕ)) (n sum 
     all_room ≡ min sum most → length (packets (written_for peer s ts)) ≤ all_room
 enough_for_some peer s ts n sum most all_room room quiet part sum_is most_is is =
     let then = with_tsdus s ts in
-    let all = ap (λ (d : Drained). length (packets (map (unit_of peer) d.units))) (many_at_once s ts room quiet) in
-    let each = packets_most peer (all_given then) in
-    let takes = all_take 9 then room in
-    let few = part.room in
-    omega (arith, all, each, takes, few, sum_is, most_is, is)
+    grind (arith, many_at_once s ts room quiet, packets_most peer (all_given then), all_take 9)

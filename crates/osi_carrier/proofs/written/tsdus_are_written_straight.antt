@@ -32,26 +32,11 @@ pub rest_from : {V : Type 0} (items : V → List ℕ) (vs : List V) (i : ℕ) (v
     map items (drop i vs) ≡ octets ∷ map items (drop (i + 1) vs)
 rest_from items vs i v octets within is same = grind (arith, drop_more)
 
--- the units of the first TSDU, and then those of the others
-pub first_written : (peer : ℕ) (link : Standing) (tsdu : List ℕ) (rest : List (List ℕ)) →
-    packets (written_for peer link (tsdu ∷ rest))
-    ≡ packets (written_by peer (with_tsdu link tsdu)) ++ packets (written_for peer (pumped (with_tsdu link tsdu)) rest)
-first_written peer link tsdu rest = grind (arith, map-append, packets_join)
-
 -- there is room for the first where there is for all
 pub first_room : (peer : ℕ) (link : Standing) (tsdu : List ℕ) (rest : List (List ℕ)) →
     length (packets (written_for peer link (tsdu ∷ rest)))
     ≡ length (packets (written_by peer (with_tsdu link tsdu))) + length (packets (written_for peer (pumped (with_tsdu link tsdu)) rest))
-first_room peer link tsdu rest = grind (arith, length-append, first_written peer link tsdu rest)
-
-writing_then : (peer : ℕ) (end : Standing) (target before : List ℕ) (link : Standing) (tsdu : List ℕ) (rest : List (List ℕ))
-    (octets after : List ℕ) (spare left : ℕ) →
-    IsWriting peer end target before link (tsdu ∷ rest) octets spare → GoesWhole link tsdu rest →
-    next (pumped (with_tsdu link tsdu)) ≡ None →
-    after ≡ octets ++ packets (written_by peer (with_tsdu link tsdu)) → length octets + spare ≤ length after + left →
-    IsWriting peer end target before (pumped (with_tsdu link tsdu)) rest after left
-writing_then peer end target before link tsdu rest octets after spare left h goes quiet put kept =
-    grind (arith, length-append, append_assoc, drained_leaves (with_tsdu link tsdu), first_written peer link tsdu rest)
+first_room peer link tsdu rest = grind (arith, length-append, map-append, packets_join)
 
 -- the first of them was written
 pub writing_next : (peer : ℕ) (end : Standing) (target before : List ℕ) (link now : Standing) (tsdu : List ℕ) (rest : List (List ℕ))
@@ -60,7 +45,8 @@ pub writing_next : (peer : ℕ) (end : Standing) (target before : List ℕ) (lin
     next now ≡ None →
     after ≡ octets ++ packets (written_by peer (with_tsdu link tsdu)) → length octets + spare ≤ length after + left →
     IsWriting peer end target before now rest after left
-writing_next peer end target before link now tsdu rest octets after spare left h goes is quiet put kept = grind (arith, writing_then)
+writing_next peer end target before link now tsdu rest octets after spare left h goes is quiet put kept =
+    grind (arith, length-append, append_assoc, drained_leaves, map-append, packets_join)
 
 -- all were written
 pub record AreWritten (end : Standing) (target before : List ℕ) (link : Standing) (octets : List ℕ) : Type 0 where

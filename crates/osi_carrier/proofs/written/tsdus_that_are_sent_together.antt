@@ -53,12 +53,9 @@ written_then : (peer : ℕ) (link : Standing) (t : List ℕ) (ts : List (List �
     ≡ before ++ packets (written_for peer link (t ∷ ts))
 written_then peer link t ts before = grind (arith, append_assoc, packets_join, map-append)
 
-none_written : (r peer : ℕ) (link : Standing) (s : State) → value_at r s.live ≡ Some (linked peer link) → s ≡ pumps_all r peer link [] s
-none_written r peer link s at = grind (arith, put_same, append-nil)
-
 all_sent : (r peer : ℕ) (link : Standing) (ts : List (List ℕ)) (s : State) → s.ended ≡ None → value_at r s.live ≡ Some (linked peer link) →
     sent_all r ts s ≡ pumps_all r peer link ts s
-all_sent r peer link [] s alive at = none_written r peer link s at
+all_sent r peer link [] s alive at = grind (arith, put_same, append-nil)
 all_sent r peer link (t ∷ ts) s alive at =
     let after = pumped (with_tsdu link t) in
     let live = put_twice r (linked peer (one_by_one after ts)) (linked peer after) s.live in
@@ -74,4 +71,4 @@ sent_open r peer ts s alive e = sym (all_sent r peer (link_in (value_at r s.live
 -- nothing is sent if there is nothing
 pub sends_none : (r peer : ℕ) (ts : List (List ℕ)) (s : State) → ts ≡ [] → peer_in (value_at r s.live) ≡ Some peer →
     s ≡ pumps_all r peer (link_in (value_at r s.live)) ts s
-sends_none r peer ts s none e = grind (arith, none_written, open_is)
+sends_none r peer ts s none e = grind (arith, put_same, append-nil, open_is)

@@ -1,8 +1,8 @@
 -- Copies of what is left of the TSDUs that are cut from octets, one after the other.
 -- For `copies` of pieces.
-use Rattle.std.proofs.Common.{◌≡◌, ◌∙◌, refl, sym, ap, ℕ, ◌<◌, ◌≤◌, List, [], ◌∷◌, ◌++◌, length, take, drop}
+use Rattle.std.proofs.Common.{arith, ◌≡◌, refl, ℕ, ◌<◌, ◌≤◌, List, [], ◌∷◌, ◌++◌, length, take, drop}
 use Rattle.osi_carrier.proofs.Vocabulary.{append-nil}
-use Rattle.osi_carrier.proofs.written.octets_are_cut_into_tsdus.{cut_next, cut_last}
+use Rattle.osi_carrier.proofs.written.octets_are_cut_into_tsdus.{cut_next}
 use Rattle.osi_carrier.proofs.written.what_is_left_after_some_units.{left_of_none}
 use Rattle.osi_carrier.specs.Pieces.{left_after, tsdus_from, tsdus_in, FitsTsdu, FitTsdus}
 use Rattle.osi_carrier.specs.declared.pieces.Pieces.{Pieces}
@@ -20,17 +20,10 @@ pub copying_next : (p : Pieces) (limit units : ℕ) (done after : List (List ℕ
     behind ≡ drop p.size rest →
     ((others : List (List ℕ)) → after ++ left_after more limit others ≡ done ++ left_after left limit ((head ++ piece) ∷ others)) →
     IsCopied p limit units after more p.middle.now behind
-copying_next p limit units done after left more head rest piece behind fit h long first next put = record {
-  fits = fit.middle;
-  all = put (tsdus_from p p.middle.now behind)
-      ∙ ap (λ (ts : List (List ℕ)). done ++ left_after left limit ts) (sym (cut_next p head rest piece behind fit.some long first next))
-      ∙ h.all;
-}
+copying_next p limit units done after left more head rest piece behind fit h long first next put = grind (arith, cut_next)
 
 pub copying_last : (p : Pieces) (limit units : ℕ) (done after : List (List ℕ)) (left more : ℕ) (head rest : List ℕ) →
     IsCopied p limit units done left head rest → length rest ≤ p.size →
     ((others : List (List ℕ)) → after ++ left_after more limit others ≡ done ++ left_after left limit ((p.last.now ++ rest) ∷ others)) →
     after ≡ left_after units limit (tsdus_in p)
-copying_last p limit units done after left more head rest h short put =
-    sym (append-nil after) ∙ ap (λ (ts : List (List ℕ)). after ++ ts) (sym (left_of_none more limit)) ∙ put []
-    ∙ ap (λ (ts : List (List ℕ)). done ++ left_after left limit ts) (sym (cut_last p head rest short)) ∙ h.all
+copying_last p limit units done after left more head rest h short put = grind (arith, append-nil, left_of_none)

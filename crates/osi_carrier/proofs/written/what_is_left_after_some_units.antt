@@ -1,7 +1,7 @@
 -- What is left of TSDUs after some of their units, TSDU by TSDU, and that a link keeps this.
 -- For `put_rest` and `copies` of pieces, and `some_at_once` and `send_some` of links.
 use Rattle.std.proofs.Common.{◌≡◌, ◌∙◌, refl, sym, ap, subst, ℕ, zero, suc, ◌+◌, ◌-◌, ◌*◌, ◌%◌, ◌<◌, ◌≤◌, Bool, true, false, nat_lt, List}
-use Rattle.std.proofs.Common.{[], ◌∷◌, ◌++◌, length, take, drop, arith, append_assoc, length-drop, if◌then◌else◌, Option, Some, None}
+use Rattle.std.proofs.Common.{[], ◌∷◌, ◌++◌, length, take, drop, arith, append_assoc, length-drop, if◌then◌else◌, Option, Some}
 use Rattle.std.proofs.lemmas.Bool.{ltb-false}
 use Rattle.std.proofs.lemmas.List.{drop-drop}
 use Rattle.std.proofs.lemmas.Nat.{mul-le}
@@ -14,7 +14,7 @@ use Rattle.osi_class.specs.Giving.{parts_needed}
 use Rattle.osi_class.specs.Joining.{Joining}
 use Rattle.osi_class.specs.Link.{given_part, sent_flow, two_standing}
 use Rattle.osi_class.specs.Tsdus.{Part, octets_of_tsdus}
-use Rattle.osi_carrier.proofs.Vocabulary.{lt-ltb, ltb-true, drained_none, drained_some, Drained, drained, Given, Standing, next, part_under}
+use Rattle.osi_carrier.proofs.Vocabulary.{ltb-true, drained_none, drained_some, Drained, drained, Given, Standing, next, part_under}
 use Rattle.osi_carrier.proofs.written.octets_are_cut_into_tsdus.{more_octets}
 use Rattle.osi_carrier.specs.Pieces.{left_by, left_after}
 
@@ -30,14 +30,8 @@ left_whole (suc n) limit t ts room enough =
     ≡ left_by (t ∷ ts) (if b then Some ((false, take limit t), drop limit t ∷ ts) else Some ((true, t), ts)) (left_after n limit)) [
       | true ↦ λ b. let longer : limit < length t = ltb-true limit (length t) b in
           let shorter = length-drop limit t in
-          let count : parts_needed limit (length t) ≡ parts_needed limit (length (drop limit t)) + 1 =
-          parts_cut limit (length t) room longer ∙ ap (λ (m : ℕ). parts_needed limit m + 1) (sym shorter) in
-          let same : suc n - parts_needed limit (length t) ≡ n - parts_needed limit (length (drop limit t)) = omega (arith, count) in
-          ap (λ (m : ℕ). left_after m limit ts) same ∙ left_whole n limit (drop limit t) ts room (omega (arith, count, enough))
-      | false ↦ λ b. let short : length t ≤ limit = ltb-false limit (length t) b in
-          let one = one_part limit (length t) room short in
-          let same : suc n - parts_needed limit (length t) ≡ n = omega (arith, one) in
-          ap (λ (m : ℕ). left_after m limit ts) same
+          grind (arith, parts_cut, left_whole n limit (drop limit t) ts room (grind (arith, parts_cut, enough)))
+      | false ↦ grind (arith, ltb-false, one_part)
     ] refl
 
 -- not all of it is sent
@@ -50,14 +44,8 @@ left_part (suc n) limit t ts room few =
     ≡ drop (suc n * limit) t ∷ ts) [
       | true ↦ λ b. let longer : limit < length t = ltb-true limit (length t) b in
           let shorter = length-drop limit t in
-          let count : parts_needed limit (length t) ≡ parts_needed limit (length (drop limit t)) + 1 =
-          parts_cut limit (length t) room longer ∙ ap (λ (m : ℕ). parts_needed limit m + 1) (sym shorter) in
-          let more : limit + n * limit ≡ suc n * limit = let one = suc-mul n limit in omega (arith, one) in
-          left_part n limit (drop limit t) ts room (omega (arith, count, few))
-          ∙ ap (λ (r : List ℕ). r ∷ ts) (drop-drop (n * limit) limit t ∙ ap (λ (m : ℕ). drop m t) more)
-      | false ↦ λ b. let short : length t ≤ limit = ltb-false limit (length t) b in
-          let one = one_part limit (length t) room short in
-          absurd (omega (arith, one, few))
+          grind (arith, suc-mul, parts_cut, drop-drop, left_part n limit (drop limit t) ts room (grind (arith, parts_cut, few)))
+      | false ↦ grind (arith, ltb-false, one_part)
     ] refl
 
 -- after the last nothing is left
@@ -116,11 +104,9 @@ two_left (suc n) limit a u c w x j [] room is = grind (arith, drained_none, two_
 two_left (suc n) limit a u c w x j (t ∷ ts) room is =
     let e : Ends = record { limit = limit; unsent = t ∷ ts; joining = j } in
     let f : Flow = two_flow a u c w x in
-    let some = lt-ltb 0 c (omega (arith, is)) in
     let left : c - 1 ≡ n = omega (arith, is) in
     let open_is : next (two_standing e f) ≡ given_part e (Some (sent_flow f)) (Some a) (gave limit t ts (nat_lt limit (length t))) =
-    ap (λ (k : Bool). if◌then◌else◌ {A = Next} k
-    (given_part e (Some (sent_flow f)) (Some a) (gave limit t ts (nat_lt limit (length t)))) None) some in
+    grind arith in
     elim (nat_lt limit (length t)) as (λ b. nat_lt limit (length t) ≡ b →
     (drained (two_standing e f)).link.ends.unsent ≡ left_by (t ∷ ts) (gave limit t ts b) (left_after n limit)) [
       | true ↦ λ b.

@@ -1,19 +1,17 @@
 -- What needs memory writes, reports or keeps something.
-use Rattle.std.proofs.Common.{◌≡◌, ℕ, ◌+◌, ◌<◌, ◌≤◌, ◌⊎◌, inl, inr, Bool, true, false, List, [], ◌∷◌, ◌++◌, length, take, Option, Some}
-use Rattle.std.proofs.Common.{Result, Ok, Err, IfOk, IsOk, OnErr, ◌==◌, map, refl, sym, ap, subst, nat_lt, if◌then◌else◌, length-append}
-use Rattle.std.proofs.Common.{arith}
+use Rattle.std.proofs.Common.{◌≡◌, ℕ, ◌+◌, ◌<◌, ◌≤◌, ◌⊎◌, Bool, true, false, List, [], ◌∷◌, ◌++◌, length, Option, Some, Result, Ok, Err}
+use Rattle.std.proofs.Common.{IfOk, IsOk, OnErr, ◌==◌, map, refl, subst, nat_lt, length-append, arith}
 use Rattle.osi_class.specs.Flow.{Flow}
 use Rattle.osi_class.specs.Joining.{with_part}
 use Rattle.osi_class.specs.Taking.{TakesUnit}
-use Rattle.osi_class.specs.declared.faults.LinkFault.TheVariants.{TsduTooLong, OutOfMemory}
+use Rattle.osi_class.specs.declared.faults.LinkFault.TheVariants.{OutOfMemory}
 use Rattle.osi_class.proofs.between.parts_stay_in_order.{choose_ok}
 pub use Rattle.std.proofs.lemmas.Bool.{or_cases}
 use Rattle.osi_carrier.proofs.Vocabulary.{or_left, or_right, lt-ltb, ltb-true, sum_by-cons, packet_of, Value, Connect, disconnect}
-use Rattle.osi_carrier.proofs.Vocabulary.{disconnected, written, Standing, Hands, taken, taken_by, with_joined, needs_memory}
-use Rattle.osi_carrier.proofs.Vocabulary.{part_needs_memory, LinkFault, Class, Two, drained_leaves, begun_by, kept_in, grows, Happening}
-use Rattle.osi_carrier.proofs.Vocabulary.{tsdu, pumped, written_by, accepts, breaks, denies, handed_out, leaves, opens, taking, to_unknown}
-use Rattle.osi_carrier.proofs.Vocabulary.{Rows, value_at, put, peer_in, link_in, Connection, linked, State, packets, drops, tells}
-use Rattle.osi_carrier.proofs.Vocabulary.{link_grows, units_after, whole_after, link_after}
+use Rattle.osi_carrier.proofs.Vocabulary.{disconnected, written, Standing, Hands, taken, needs_memory, part_needs_memory, LinkFault, Class}
+use Rattle.osi_carrier.proofs.Vocabulary.{Two, drained_leaves, begun_by, kept_in, grows, Happening, tsdu, written_by, accepts, breaks}
+use Rattle.osi_carrier.proofs.Vocabulary.{denies, handed_out, leaves, opens, taking, to_unknown, Rows, value_at, put, peer_in, link_in}
+use Rattle.osi_carrier.proofs.Vocabulary.{Connection, State, packets, drops, tells, link_grows, units_after, whole_after, link_after}
 use Rattle.osi_carrier.proofs.references.what_is_open.{open_is}
 
 -- ---- at a link
@@ -21,24 +19,10 @@ use Rattle.osi_carrier.proofs.references.what_is_open.{open_is}
 abbrev Grown : ℕ → Standing → Standing → Type 0
 Grown peer s t = link_grows peer s (Ok t) ≡ true
 
-whole_some : (whole : List (List ℕ)) (octets : List ℕ) → 0 < length (take 1 (whole ++ octets ∷ []))
-whole_some [] octets = omega arith
-whole_some (first ∷ whole) octets = omega arith
-
 part_grows : (peer : ℕ) (s : Standing) (flow : Option Flow) (end : Bool) (octets : List ℕ) → part_needs_memory end octets ≡ true →
     Grown peer s (record { ends = record s.ends { joining = with_part s.ends.joining end octets }; flow = flow })
 unfolding link_grows
-part_grows peer s flow end octets needs = grind (arith, or_right, or_left, lt-ltb, whole_some, drained_leaves, ltb-true, length-append)
-
-joined_grows : (peer : ℕ) (s : Standing) (flow : Option Flow) (end : Bool) (octets : List ℕ) (long : Bool) →
-    part_needs_memory end octets ≡ true →
-    IfOk (with_joined s.ends flow (if long then Err TsduTooLong else Ok (with_part s.ends.joining end octets))) (Grown peer s)
-joined_grows peer s flow end octets true needs = tt
-joined_grows peer s flow end octets false needs = part_grows peer s flow end octets needs
-
-taken_by_grows : (peer : ℕ) (s : Standing) (flow : Option Flow) (unit : Value) → needs_memory unit ≡ true →
-    IfOk (taken_by s.ends flow unit) (Grown peer s)
-taken_by_grows peer s flow unit needs = grind (arith, joined_grows, choose_ok)
+part_grows peer s flow end octets needs = grind (arith, or_right, or_left, lt-ltb, drained_leaves, ltb-true, length-append)
 
 grown_of : (peer : ℕ) (s : Standing) (r : Result Standing LinkFault) → IfOk r (Grown peer s) → IsOk r → link_grows peer s r ≡ true
 grown_of peer s r h ok = grind arith
@@ -46,16 +30,13 @@ grown_of peer s r h ok = grind arith
 -- a unit that the link would take if there were memory
 pub taken_grows : (peer : ℕ) (s : Standing) (unit : Value) → needs_memory unit ≡ true → IsOk (taken s unit) →
     link_grows peer s (taken s unit) ≡ true
-taken_grows peer s unit needs ok = grown_of peer s (taken s unit) (taken_by_grows peer s s.flow unit needs) ok
+taken_grows peer s unit needs ok = grown_of peer s (taken s unit) (grind (arith, part_grows, choose_ok)) ok
 
 -- what a call of a link answers if memory ran out
 pub want_taken : {A : Type 0} (r : Result A LinkFault) (f : LinkFault) (needs : Bool) (t : Result Standing LinkFault) (old new : Standing) →
     r ≡ Err f → f ≡ OutOfMemory →
     TakesUnit r needs t old new → (needs ≡ true) × IsOk t
 want_taken r f needs t old new e g h = grind arith
-
-pub handed_is : (o : Option (List ℕ)) (old new : Standing) → Hands o old new → new ≡ handed_out old
-handed_is o old new h = grind arith
 
 given_grows : (peer : ℕ) (s t : Standing) → nat_lt 0 (length (written_by peer (handed_out t))) ≡ true → Grown peer s t
 unfolding link_grows
@@ -64,9 +45,7 @@ given_grows peer s t some = or_left _ _ (subst (λ (n : ℕ). nat_lt 0 n ≡ tru
 -- a unit that was taken, after which the link gives a unit
 pub pump_grows : (peer : ℕ) (s t u : Standing) (o : Option (List ℕ)) (r : Result Standing LinkFault) → r ≡ Ok t → Hands o t u →
     nat_lt 0 (length (written_by peer u)) ≡ true → link_grows peer s r ≡ true
-pump_grows peer s t u o r ok handed some =
-    subst (λ (x : Result Standing LinkFault). link_grows peer s x ≡ true) (sym ok)
-    (given_grows peer s t (subst (λ (x : Standing). nat_lt 0 (length (written_by peer x)) ≡ true) (handed_is o t u handed) some))
+pump_grows peer s t u o r ok handed some = grind (arith, link_grows, given_grows)
 
 -- memory is needed only if something is to be written
 pub some_written : (us : List Value) (spare : ℕ) → (length (packets us) ≤ spare → ⊥) → nat_lt 0 (length us) ≡ true
@@ -133,20 +112,14 @@ put_kept_by : (r q : ℕ) (z x y : Connection) (rows : Rows Connection) (b : Boo
     (value_at r rows ≡ Some x → kept_in (put r y rows) + begun_by x ≡ kept_in rows + begun_by y) →
     value_at r ((q, z) ∷ rows) ≡ Some x → kept_in (put r y ((q, z) ∷ rows)) + begun_by x ≡ kept_in ((q, z) ∷ rows) + begun_by y
 put_kept_by r q z x y rows true t more h =
-    let here : Some z ≡ Some x = rw t at h in
     let same : z ≡ x = cc in
-    let sizes : begun_by z ≡ begun_by x = ap begun_by same in
     let before = sum_by-cons (λ (row : ℕ × Connection). begun_by row.1) (q, z) rows in
     let after = sum_by-cons (λ (row : ℕ × Connection). begun_by row.1) (q, y) rows in
-    let sum : kept_in ((q, y) ∷ rows) + begun_by x ≡ kept_in ((q, z) ∷ rows) + begun_by y = omega arith in
-    rw t sum
+    grind arith
 put_kept_by r q z x y rows false t more h =
-    let behind : value_at r rows ≡ Some x = rw t at h in
-    let rest = more behind in
     let before = sum_by-cons (λ (row : ℕ × Connection). begun_by row.1) (q, z) rows in
     let after = sum_by-cons (λ (row : ℕ × Connection). begun_by row.1) (q, z) (put r y rows) in
-    let sum : kept_in ((q, z) ∷ put r y rows) + begun_by x ≡ kept_in ((q, z) ∷ rows) + begun_by y = omega arith in
-    rw t sum
+    grind arith
 
 put_kept : (r : ℕ) (x y : Connection) (rows : Rows Connection) → value_at r rows ≡ Some x →
     kept_in (put r y rows) + begun_by x ≡ kept_in rows + begun_by y
@@ -166,33 +139,14 @@ length_told : (r : ℕ) (whole : List (List ℕ)) → length (map (tsdu r) whole
 length_told r [] = refl
 length_told r (octets ∷ whole) = let more = length_told r whole in omega arith
 
-taking_by : (r peer : ℕ) (s : State) (link : Standing) (t : Result Standing LinkFault) → value_at r s.live ≡ Some (linked peer link) →
-    LinkGrows peer link t →
-    grows s (taking r peer t s) ≡ true
-taking_by r peer s link (Ok next) there (inl units) = written_grows s (taking r peer (Ok next) s) (units_after peer (Ok next)) units refl
-taking_by r peer s link (Ok next) there (inr (inl whole)) =
-    let same = length_told r (whole_after (Ok next)) in
-    told_grows s (taking r peer (Ok next) s) (map (tsdu r) (whole_after (Ok next))) (omega arith) refl
-taking_by r peer s link (Ok next) there (inr (inr kept)) =
-    let sum = put_kept r (linked peer link) (linked peer (pumped (handed_out next))) s.live there in
-    kept_grows s (taking r peer (Ok next) s) (omega arith)
-taking_by r peer s link (Err fault) there (inl units) = absurd (omega arith)
-taking_by r peer s link (Err fault) there (inr more) = absurd (omega arith)
-
 pub taking_grows : (r peer : ℕ) (s : State) (t : Result Standing LinkFault) → peer_in (value_at r s.live) ≡ Some peer →
     link_grows peer (link_in (value_at r s.live)) t ≡ true → grows s (taking r peer t s) ≡ true
-taking_grows r peer s t stands h =
-    taking_by r peer s (link_in (value_at r s.live)) t (open_is (value_at r s.live) peer stands)
-    (link_cases peer (link_in (value_at r s.live)) t h)
+taking_grows r peer s t stands h = grind (arith, written_grows, length_told, told_grows, put_kept, kept_grows, open_is, link_cases)
 
 -- a TSDU that became complete is reported
 pub took_grows : (r peer : ℕ) (s : State) (t : Result Standing LinkFault) (whole : List (List ℕ)) → IsOk t → whole ≡ whole_after t →
     0 < length whole → grows s (taking r peer t s) ≡ true
-took_grows r peer s (Ok link) whole ok e some =
-    let one = ap length e in
-    let same = length_told r (whole_after (Ok link)) in
-    told_grows s (taking r peer (Ok link) s) (map (tsdu r) (whole_after (Ok link))) (omega arith) refl
-took_grows r peer s (Err fault) whole ok e some = cc
+took_grows r peer s h whole ok e some = grind (arith, length_told, told_grows)
 
 pub broke_grows : (r peer : ℕ) (s mid : State) (t : Result Standing LinkFault) (fault : LinkFault) → t ≡ Err fault → mid ≡ s →
     grows mid (breaks r peer fault mid.class mid) ≡ true → grows s (taking r peer t s) ≡ true

@@ -1,7 +1,7 @@
 -- Whether all units of TSDUs may go now, by the units that a link gives for one TSDU that fills as many.
 -- For `may_send`, `room_at_once` and `some_at_once` of links.
-use Rattle.std.proofs.Common.{◌≡◌, ◌∙◌, refl, ap, ℕ, zero, suc, ◌+◌, ◌-◌, ◌*◌, ◌^◌, ◌<◌, ◌≤◌, List, [], ◌∷◌, ◌++◌, length, Option, Some}
-use Rattle.std.proofs.Common.{None, arith, subst, map, IfSome, IsSome, SomeIff}
+use Rattle.std.proofs.Common.{◌≡◌, ◌∙◌, ap, ℕ, zero, suc, ◌+◌, ◌-◌, ◌*◌, ◌^◌, ◌<◌, ◌≤◌, List, [], ◌∷◌, length, Option, Some, None, arith}
+use Rattle.std.proofs.Common.{subst, IfSome, IsSome, SomeIff}
 use Rattle.std.proofs.Math.Nat.{suc-mul}
 use Rattle.std.proofs.lemmas.Nat.{mul-le}
 use Rattle.osi_class.proofs.giving.all_that_may_go_is_given.{goes_whole, more_units}
@@ -11,10 +11,10 @@ use Rattle.osi_class.proofs.giving.units_have_at_most_so_many_octets.{all_take}
 use Rattle.osi_class.proofs.giving.when_nothing_is_given.{class_0, class_2}
 use Rattle.osi_class.specs.Ends.{Ends}
 use Rattle.osi_class.specs.Flow.{Flow}
-use Rattle.osi_class.specs.Giving.{MayGoAll, most_by, most_given, octets_in_parts, parts_needed, units_needed}
+use Rattle.osi_class.specs.Giving.{MayGoAll, octets_in_parts, parts_needed, units_needed}
 use Rattle.osi_class.specs.Tsdus.{octets_of_tsdus}
-use Rattle.osi_carrier.proofs.Vocabulary.{AllGoAtOnce, Drained, all_given, octets_in, cases_lt, min, Standing, next, with_tsdu, with_tsdus}
-use Rattle.osi_carrier.proofs.Vocabulary.{sum_by-cons, unit_of, written_for, packets}
+use Rattle.osi_carrier.proofs.Vocabulary.{AllGoAtOnce, all_given, octets_in, cases_lt, min, Standing, next, with_tsdu, with_tsdus}
+use Rattle.osi_carrier.proofs.Vocabulary.{sum_by-cons, written_for, packets}
 use Rattle.osi_carrier.proofs.written.all_that_a_link_gives.{packets_most}
 
 -- ---- one TSDU that fills the units
@@ -22,14 +22,11 @@ use Rattle.osi_carrier.proofs.written.all_that_a_link_gives.{packets_most}
 fewer : (units credit limit : ℕ) → 0 < limit → min (units * limit) (credit * limit) ≡ units * limit → units ≤ credit
 fewer units credit limit room e = grind (arith, cases_lt, mul-le)
 
-none_goes : (units credit limit : ℕ) → 0 < units → 0 < limit → credit ≡ 0 → min (units * limit) (credit * limit) ≡ units * limit → ⊥
-none_goes units credit limit some room closed e = let few = fewer units credit limit room e in omega arith
-
 filled_by : (e : Ends) (flow : Option Flow) (t : List ℕ) (units : ℕ) → 0 < e.limit → next (record { ends = e; flow = flow }) ≡ None →
     0 < units → length t ≡ units * e.limit →
     octets_in (all_given (with_tsdu (record { ends = e; flow = flow }) t)) ≡ units * e.limit → (e.unsent ≡ []) × MayGoAll units flow
 filled_by e None t units room quiet some size all = ((class_0 e).0 quiet, tt)
-filled_by e (Some f) t units room quiet some size all = grind (arith, fewer, none_goes, class_2 e f, room_of_class_2 e f t room quiet)
+filled_by e (Some f) t units room quiet some size all = grind (arith, fewer, class_2 e f, room_of_class_2 e f t room quiet)
 
 -- they may go if the link gives such a TSDU whole
 pub all_may_go : (s : Standing) (t : List ℕ) (units : ℕ) (tsdus : List (List ℕ)) → 0 < s.ends.limit → next s ≡ None → 0 < units →
@@ -43,22 +40,14 @@ all_may_go s t units tsdus room quiet some size all is = grind (arith, filled_by
 pub fills : (limit units : ℕ) → 0 < limit → 0 < units → parts_needed limit (units * limit) ≡ units
 fills limit zero room some = absurd (omega arith)
 fills limit (suc zero) room some = one_part limit (1 * limit) room (omega arith)
-fills limit (suc (suc n)) room some =
-    let two : suc (suc n) * limit ≡ suc n * limit + limit = suc-mul (suc n) limit in
-    let one : suc n * limit ≡ n * limit + limit = suc-mul n limit in
-    let rest : suc (suc n) * limit - limit ≡ suc n * limit = omega (arith, two) in
-    let more : suc n + 1 ≡ suc (suc n) = omega arith in
-    parts_cut limit (suc (suc n) * limit) room (omega (arith, two, one))
-    ∙ ap (λ (m : ℕ). parts_needed limit m + 1) rest ∙ ap (λ (m : ℕ). m + 1) (fills limit (suc n) room (omega arith)) ∙ more
+fills limit (suc (suc n)) room some = grind (arith, suc-mul, parts_cut, fills limit (suc n) room (omega arith))
 
 pub given_whole : (s : Standing) (t : List ℕ) (units : ℕ) (tsdus : List (List ℕ)) → 0 < s.ends.limit → 0 < units →
     length t ≡ units * s.ends.limit → units ≡ units_needed s.ends.limit tsdus → AllGoAtOnce s tsdus →
     octets_in (all_given (with_tsdu s t)) ≡ length t
 given_whole s t units tsdus room some size is go =
-    let none : units_needed s.ends.limit [] ≡ 0 = refl in
-    let parts = ap (parts_needed s.ends.limit) size ∙ fills s.ends.limit units room some in
     let one = more_units s.ends.limit t [] in
-    let same : units_needed s.ends.limit tsdus ≡ units_needed s.ends.limit (t ∷ []) = omega (arith, is, none, parts, one) in
+    let same : units_needed s.ends.limit tsdus ≡ units_needed s.ends.limit (t ∷ []) = grind (arith, is, fills, one) in
     (goes_whole s t [] room (record { alone = go.alone; may = subst (λ (n : ℕ). MayGoAll n s.flow) same go.may })).octets
 
 -- ---- their room
@@ -67,23 +56,12 @@ pub in_parts : (headers limit : ℕ) (tsdus : List (List ℕ)) →
     octets_in_parts headers limit tsdus ≡ octets_of_tsdus tsdus + units_needed limit tsdus * headers
 in_parts headers limit [] = let none : 0 ≡ 0 + 0 * headers = omega arith in none
 in_parts headers limit (t ∷ ts) =
-    let more = in_parts headers limit ts in
     let parts = sum_by-cons (λ (t : List ℕ). length t + parts_needed limit (length t) * headers) t ts in
-    let octets = sum_by-cons length t ts in
     let units = ap (λ (n : ℕ). n * headers) (more_units limit t ts) in
-    omega (arith, more, parts, octets, units)
+    grind (arith, in_parts headers limit ts, parts, sum_by-cons length t ts, units)
 
 pub none_waits : (waiting headers : ℕ) → waiting ≡ 0 → waiting * headers ≡ 0
 none_waits waiting headers e = ap (λ (n : ℕ). n * headers) e ∙ (let z : 0 * headers ≡ 0 = omega arith in z)
-
-most_if : (headers : ℕ) (e : Ends) (flow : Option Flow) (tsdus : List (List ℕ)) → e.unsent ≡ [] →
-    MayGoAll (units_needed e.limit tsdus) flow →
-    most_by headers (record e { unsent = e.unsent ++ tsdus }) flow ≤ octets_of_tsdus tsdus + units_needed e.limit tsdus * headers
-most_if headers e flow tsdus alone may = grind (arith, in_parts, none_waits)
-
-pub most_of_all : (headers : ℕ) (s : Standing) (tsdus : List (List ℕ)) → AllGoAtOnce s tsdus →
-    most_given headers (with_tsdus s tsdus) ≤ octets_of_tsdus tsdus + units_needed s.ends.limit tsdus * headers
-most_of_all headers s tsdus go = most_if headers s.ends s.flow tsdus go.alone go.may
 
 -- so much room is enough for all of them
 pub enough_room : (peer : ℕ) (s : Standing) (tsdus : List (List ℕ)) (units octets headers room : ℕ) → 0 < s.ends.limit → next s ≡ None →
@@ -91,12 +69,7 @@ pub enough_room : (peer : ℕ) (s : Standing) (tsdus : List (List ℕ)) (units o
     room ≡ octets + headers → length (packets (written_for peer s tsdus)) ≤ room
 enough_room peer s tsdus units octets headers room some quiet go count size product sum =
     let then = with_tsdus s tsdus in
-    let all = ap (λ (d : Drained). length (packets (map (unit_of peer) d.units))) (many_at_once s tsdus some quiet) in
-    let each = packets_most peer (all_given then) in
-    let most = all_take 9 then some in
-    let few = most_of_all 9 s tsdus go in
-    let same = ap (λ (n : ℕ). n * 9) count in
-    omega (arith, all, each, most, few, same, size, product, sum)
+    grind (arith, many_at_once s tsdus some quiet, packets_most peer (all_given then), all_take 9, in_parts, none_waits)
 
 if_some : {A : Type 0} (o : Option A) (P : A → Type 0) → ((a : A) → o ≡ Some a → P a) → IfSome o P
 if_some o P h = grind arith
@@ -117,14 +90,11 @@ pub exact_room : (s : Standing) (tsdus : List (List ℕ)) (units octets headers 
     IfSome o (λ room. room ≡ octets_in_parts 9 s.ends.limit tsdus)
 exact_room s tsdus units octets headers o P count size product sum = grind (arith, in_parts, if_some, sum_is)
 
-some_sum : (o : Option ℕ) (P : Type 0) (v : ℕ) → SomeIff o P v → P → IsSome o
-some_sum o P v h p = grind arith
-
 -- which is there if it fits a usize
 pub some_room : (s : Standing) (tsdus : List (List ℕ)) (units octets headers : ℕ) (o : Option ℕ) →
     units ≡ units_needed s.ends.limit tsdus → octets ≡ octets_of_tsdus tsdus → headers ≡ units * 9 →
     SomeIff o (octets + headers < 2 ^ 64) (octets + headers) → octets_in_parts 9 s.ends.limit tsdus < 2 ^ 64 → IsSome o
-some_room s tsdus units octets headers o count size product sum fits = grind (arith, in_parts, some_sum)
+some_room s tsdus units octets headers o count size product sum fits = grind (arith, in_parts)
 
 -- and so do their numbers
 pub counts_fit : (limit : ℕ) (tsdus : List (List ℕ)) → octets_in_parts 9 limit tsdus < 2 ^ 64 →

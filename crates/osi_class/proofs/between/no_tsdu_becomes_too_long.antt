@@ -1,9 +1,7 @@
 -- No TSDU between two links becomes too long to be taken.
-use Rattle.std.proofs.Common.{◌≡◌, ℕ, ◌+◌, ◌≤◌, Bool, true, false, List, [], ◌∷◌, ◌++◌, length, Ok, sym, ◌∙◌, ap, arith, length-append}
-use Rattle.std.proofs.Common.{append_assoc}
-use Rattle.osi_class.proofs.Vocabulary.{flat_map, AllByRecursion, append_cancel_left, map-append, longest_tsdu, LinkPair, Turn, TurnsAlong}
-use Rattle.osi_class.proofs.Vocabulary.{left_in, parts_under_way, under_way, HasWholeTsdus, IsShortTsdu, with_part, joined, Part}
-use Rattle.osi_class.proofs.Vocabulary.{tsdus_after, uncut}
+use Rattle.std.proofs.Common.{◌≡◌, ℕ, ◌+◌, Bool, true, false, List, [], ◌∷◌, ◌++◌, length, Ok, arith, length-append, append_assoc}
+use Rattle.osi_class.proofs.Vocabulary.{flat_map, AllByRecursion, append_cancel_left, map-append, LinkPair, Turn, TurnsAlong, left_in}
+use Rattle.osi_class.proofs.Vocabulary.{parts_under_way, under_way, HasWholeTsdus, IsShortTsdu, with_part, joined, Part, tsdus_after, uncut}
 use Rattle.osi_class.proofs.between.parts_stay_in_order.{append_nil}
 use Rattle.osi_class.proofs.between.tsdus_come_in_order.{whole_kept}
 
@@ -25,10 +23,6 @@ begun_short [] begun ends all = grind (arith, append_nil begun)
 begun_short ((false, octets) ∷ parts) begun ends all = omega (arith, length-append {A = ℕ}, begun_short parts (begun ++ octets) ends all)
 begun_short ((true, octets) ∷ parts) begun ends all = omega (arith, length-append {A = ℕ})
 
-part_short : (end : Bool) (octets : List ℕ) (rest : List Part) (begun : List ℕ) → End begun ((end, octets) ∷ rest) →
-    AllByRecursion IsShortTsdu (tsdus_after begun ((end, octets) ∷ rest)) → length begun + length octets ≤ longest_tsdu
-part_short end octets rest begun ends all = grind (arith, begun_short, length-append)
-
 -- all that is in flight, as parts
 abbrev pub pending : LinkPair → List Part
 pending p = parts_under_way p.rightward ++ uncut p.left.ends.unsent
@@ -39,20 +33,14 @@ pending_end p whole t =
     let ps = parts_under_way p.rightward in
     let unsent = p.left.ends.unsent in
     let cut : uncut (unsent ++ t ∷ []) ≡ uncut unsent ++ (true, t) ∷ [] = map-append (λ (x : List ℕ). (true, x)) unsent (t ∷ []) in
-    let longer : pending p ++ (true, t) ∷ [] ≡ ps ++ uncut (unsent ++ t ∷ []) =
-    append_assoc ps (uncut unsent) ((true, t) ∷ []) ∙ ap (λ (x : List Part). ps ++ x) (sym cut) in
-    let all : j.whole ++ tsdus_after j.begun (ps ++ uncut (unsent ++ t ∷ [])) ≡ j.whole ++ (tsdus_after j.begun (pending p) ++ t ∷ []) =
-    whole (t ∷ [])
-    ∙ ap (λ (u : List (List ℕ)). (j.whole ++ tsdus_after j.begun (ps ++ uncut u)) ++ t ∷ []) (append_nil unsent)
-    ∙ append_assoc j.whole (tsdus_after j.begun (pending p)) (t ∷ []) in
-    ap (λ (x : List Part). tsdus_after j.begun x) longer
-    ∙ append_cancel_left j.whole (tsdus_after j.begun (ps ++ uncut (unsent ++ t ∷ []))) (tsdus_after j.begun (pending p) ++ t ∷ []) all
+    grind (arith, append_assoc, append_nil, append_cancel_left)
 
 pub not_too_long : (p : LinkPair) (end : Bool) (octets : List ℕ) (rest : List Part) → HasWholeTsdus p →
     AllByRecursion IsShortTsdu (under_way p) →
     parts_under_way p.rightward ≡ (end, octets) ∷ rest →
     joined p.right.ends.joining end octets ≡ Ok (with_part p.right.ends.joining end octets)
-not_too_long p end octets rest whole all first = grind (arith, all_behind, part_short, pending_end p whole, append_nil p.left.ends.unsent)
+not_too_long p end octets rest whole all first =
+    grind (arith, all_behind, begun_short, length-append, pending_end p whole, append_nil p.left.ends.unsent)
 
 pub stays_short : (old new : LinkPair) (turns : List Turn) → HasWholeTsdus old → AllByRecursion IsShortTsdu (under_way old) →
     AllByRecursion IsShortTsdu (flat_map left_in turns) → TurnsAlong old turns new → AllByRecursion IsShortTsdu (under_way new)

@@ -1,32 +1,17 @@
 -- If nothing is in flight and nothing is owed, what was handed in has been handed out; and what a link sends before its
 -- peer's link is opened.
-use Rattle.std.proofs.Common.{◌≡◌, ℕ, ◌<◌, List, [], ◌∷◌, ◌++◌, map, Option, Some, None, ◌⊎◌, refl, sym, ◌∙◌, ap, subst, arith}
-use Rattle.std.proofs.Common.{append_assoc}
+use Rattle.std.proofs.Common.{◌≡◌, ℕ, List, [], ◌∷◌, ◌++◌, map, refl, ap, subst, arith, append_assoc}
 use Rattle.osi_class.proofs.Vocabulary.{flat_map, AllByRecursion, LinkPair, swapped, Turn, at_right, TurnsAlong, opposite, left_in}
 use Rattle.osi_class.proofs.Vocabulary.{right_out, given_by, under_way, HasWholeTsdus, IsFresh, opened_pair, awaiting_pair, OnlySends}
-use Rattle.osi_class.proofs.Vocabulary.{IsQuiet, Agree, AgreeZero, AgreeInClass, Flow, Standing, Given, next_by, next, Move, hand_in}
-use Rattle.osi_class.proofs.Vocabulary.{give_out, MovesAlong, tsdu_in, tsdus_in, Part}
+use Rattle.osi_class.proofs.Vocabulary.{IsQuiet, AgreeInClass, Standing, Given, Move, hand_in, give_out, MovesAlong, tsdu_in, tsdus_in}
+use Rattle.osi_class.proofs.Vocabulary.{Part}
 use Rattle.osi_class.proofs.giving.when_nothing_is_given as nothing
 use Rattle.osi_class.proofs.between.parts_stay_in_order.{append_nil}
-use Rattle.osi_class.proofs.between.owed_acks_keep_the_counts.{nothing_under_way}
 use Rattle.osi_class.proofs.between.no_tsdu_becomes_too_long.{End, pending, pending_end}
 use Rattle.osi_class.proofs.between.tsdus_come_in_order.{whole_kept, stays_whole, other_way, begins}
 
-pub unsent_in_class_0 : (p : LinkPair) → AgreeZero p → next p.left ≡ None → p.left.ends.unsent ≡ []
-unsent_in_class_0 p a none = (nothing.class_0 p.left.ends).0 (sym (ap (λ (f : Option Flow). next_by p.left.ends f) a.left) ∙ none)
-
--- a link of class 2 with nothing to give
-none_at : (s : Standing) (f : Flow) → s.flow ≡ Some f → next s ≡ None →
-    (f.receiver.waiting ≡ 0) × ((s.ends.unsent ≡ []) ⊎ (f.sender.credit ≡ 0))
-none_at s f is none = (nothing.class_2 s.ends f).0 (sym (ap (λ (o : Option Flow). next_by s.ends o) is) ∙ none)
-
-pub unsent_in_class_2 : (p : LinkPair) (units : ℕ) → 0 < units → Agree p units → p.rightward ≡ [] → p.leftward ≡ [] → next p.left ≡ None →
-    next p.right ≡ None →
-    p.left.ends.unsent ≡ []
-unsent_in_class_2 p units some a rightward leftward left right = grind (arith, none_at, nothing_under_way)
-
 pub quiet_unsent : (p : LinkPair) → AgreeInClass p → IsQuiet p → p.left.ends.unsent ≡ []
-quiet_unsent p h quiet = grind (arith, unsent_in_class_0, unsent_in_class_2)
+quiet_unsent p h quiet = grind arith
 
 -- nothing is in flight if no unit is and nothing is unsent
 no_parts : (p : LinkPair) → p.rightward ≡ [] → p.left.ends.unsent ≡ [] → pending p ≡ []
@@ -39,19 +24,12 @@ pub nothing_begun : (p : LinkPair) → HasWholeTsdus p → p.rightward ≡ [] �
 nothing_begun p whole rightward unsent =
     let begun = p.right.ends.joining.begun in
     let ends : End begun [] = subst (λ (ps : List Part). End begun ps) (no_parts p rightward unsent) (pending_end p whole) in
-    let one : (begun ++ []) ∷ [] ≡ [] ∷ [] = ends [] in
-    let none : begun ++ [] ≡ [] = cc in
-    sym (append_nil begun) ∙ none
-
-pub arrived : (old new : LinkPair) (turns : List Turn) → HasWholeTsdus old → under_way old ≡ [] → TurnsAlong old turns new →
-    under_way new ≡ [] →
-    flat_map left_in turns ≡ flat_map right_out turns
-arrived old new turns whole none run quiet = grind (arith, whole_kept, append_nil)
+    grind (arith, append_nil begun)
 
 pub quiet_arrived : (old new : LinkPair) (turns : List Turn) → HasWholeTsdus old → under_way old ≡ [] → TurnsAlong old turns new →
     AgreeInClass new → IsQuiet new →
     flat_map left_in turns ≡ flat_map right_out turns
-quiet_arrived old new turns whole none run agree quiet = grind (arith, arrived, nothing_between, quiet_unsent)
+quiet_arrived old new turns whole none run agree quiet = grind (arith, whole_kept, append_nil, nothing_between, quiet_unsent)
 
 pub quiet_begun : (p : LinkPair) → HasWholeTsdus p → AgreeInClass p → IsQuiet p → p.right.ends.joining.begun ≡ []
 quiet_begun p whole agree quiet = nothing_begun p whole quiet.rightward (quiet_unsent p agree quiet)
@@ -84,14 +62,7 @@ pub early_whole : (left right new : Standing) (moves : List Move) → IsFresh le
     MovesAlong right moves new →
     HasWholeTsdus (awaiting_pair left new (flat_map given_by moves)) ×
     HasWholeTsdus (swapped (awaiting_pair left new (flat_map given_by moves)))
-early_whole left right new moves a b sends run =
-    let old = opened_pair left right in
-    let after = awaiting_pair left new (flat_map given_by moves) in
-    let turns = map at_right moves in
-    let along = sent_early left right new moves sends run in (
-      stays_whole old after turns (begins left right a b).0 along,
-      stays_whole (swapped old) (swapped after) (map opposite turns) (begins right left b a).0 (other_way old after turns along),
-    )
+early_whole left right new moves a b sends run = grind (arith, stays_whole, begins, other_way, sent_early left right new moves sends run)
 
 pub early_under_way : (left right new : Standing) (moves : List Move) → IsFresh left → IsFresh right → AllByRecursion OnlySends moves →
     MovesAlong right moves new →

@@ -1,10 +1,9 @@
 -- All that a link gives: a finite list of units.
-use Rattle.std.proofs.Common.{◌≡◌, ℕ, zero, suc, ◌-◌, ◌<◌, ◌≤◌, List, [], ◌∷◌, map, Option, Some, None, refl, ◌∙◌, ap, arith, is_some}
-use Rattle.std.proofs.Common.{IfSome}
-use Rattle.osi_class.proofs.Vocabulary.{Ends, Flow, Drained, drained_by, drained_within, drained, left_to_give, Standing, Given, given_part}
-use Rattle.osi_class.proofs.Vocabulary.{next_by, next, is_of_two, give_out, MovesAlong, Part}
+use Rattle.std.proofs.Common.{◌≡◌, ℕ, zero, suc, ◌-◌, ◌<◌, ◌≤◌, [], ◌∷◌, map, Option, Some, None, refl, arith, is_some}
+use Rattle.osi_class.proofs.Vocabulary.{Ends, Flow, drained_by, drained_within, drained, left_to_give, Standing, Given, next, is_of_two}
+use Rattle.osi_class.proofs.Vocabulary.{give_out, MovesAlong}
 use Rattle.osi_class.proofs.giving.giving_ends.{giving_lowers}
-use Rattle.osi_class.proofs.between.parts_stay_in_order.{choose_some, at_some}
+use Rattle.osi_class.proofs.between.parts_stay_in_order.{at_some}
 
 -- giving a unit leaves the receiving state unchanged; and the class of the unit
 pub record LeavesTaking (e : Ends) (flow : Option Flow) (g : Given) (new : Standing) : Type 0 where
@@ -16,38 +15,20 @@ pub record LeavesTaking (e : Ends) (flow : Option Flow) (g : Given) (new : Stand
 abbrev Leaves : Ends → Option Flow → Given × Standing → Type 0
 Leaves e flow (g, new) = LeavesTaking e flow g new
 
-zero_leaves : (e : Ends) (o : Option (Part × List (List ℕ))) → IfSome (given_part e None None o) (Leaves e None)
-zero_leaves e o = grind arith
-
-two_leaves : (e : Ends) (f g : Flow) (number : ℕ) (o : Option (Part × List (List ℕ))) →
-    IfSome (given_part e (Some g) (Some number) o) (Leaves e (Some f))
-two_leaves e f g number o = grind arith
-
-next_leaves : (e : Ends) (flow : Option Flow) → IfSome (next_by e flow) (Leaves e flow)
-next_leaves e flow = grind (arith, zero_leaves, choose_some, two_leaves)
-
 pub giving_leaves : (old new : Standing) (given : Given) → next old ≡ Some (given, new) → LeavesTaking old.ends old.flow given new
-giving_leaves old new given e = search (arith, at_some, next_leaves)
-
-limit_stays : (old new : Standing) (given : Given) → next old ≡ Some (given, new) → 0 < old.ends.limit → 0 < new.ends.limit
-limit_stays old new given e room = let same = (giving_leaves old new given e).limit in omega arith
-
--- if nothing is left, nothing is given
-nothing_left : (s : Standing) → 0 < s.ends.limit → left_to_give s ≤ 0 → next s ≡ None
-nothing_left s room none = grind (arith, giving_lowers)
+giving_leaves old new given e = search (arith, at_some)
 
 -- more fuel makes no difference
 within_enough : (n m : ℕ) (s : Standing) → 0 < s.ends.limit → left_to_give s ≤ n → left_to_give s ≤ m →
     drained_within n s ≡ drained_within m s
 within_enough zero zero s room a b = refl
-within_enough zero (suc m) s room a b = grind (arith, nothing_left)
-within_enough (suc n) zero s room a b = grind (arith, nothing_left)
+within_enough zero (suc m) s room a b = grind arith
+within_enough (suc n) zero s room a b = grind arith
 within_enough (suc n) (suc m) s room a b =
     elim (next s) as (λ o. next s ≡ o → drained_by o s (drained_within n) ≡ drained_by o s (drained_within m)) [
       | None ↦ λ e. refl
       | Some p ↦ λ e. let less = giving_lowers s p.1 p.0 room e in
-          ap (λ (d : Drained). record { units = p.0 ∷ d.units; link = d.link })
-          (within_enough n m p.1 (limit_stays s p.1 p.0 e room) (omega arith) (omega arith))
+          grind (arith, giving_leaves, within_enough n m p.1 (grind (arith, giving_leaves)) (omega arith) (omega arith))
     ] refl
 
 pub within_none : (n : ℕ) (s : Standing) → next s ≡ None → drained_within n s ≡ record { units = []; link = s }
@@ -61,7 +42,7 @@ drained_none s e = within_none (left_to_give s) s e
 first_step : (n : ℕ) (s t : Standing) (g : Given) → 0 < s.ends.limit → next s ≡ Some (g, t) → left_to_give s ≡ suc n →
     drained s ≡ record { units = g ∷ (drained t).units; link = (drained t).link }
 unfolding drained
-first_step n s t g room e is = grind (arith, giving_lowers, within_enough, limit_stays)
+first_step n s t g room e is = grind (arith, giving_lowers, within_enough)
 
 pub drained_some : (s t : Standing) (g : Given) → 0 < s.ends.limit → next s ≡ Some (g, t) →
     drained s ≡ record { units = g ∷ (drained t).units; link = (drained t).link }
@@ -70,12 +51,12 @@ drained_some s t g room e =
     first_step (left_to_give s - 1) s t g room e (omega arith)
 
 within_ends : (n : ℕ) (s : Standing) → 0 < s.ends.limit → left_to_give s ≤ n → next (drained_within n s).link ≡ None
-within_ends zero s room a = nothing_left s room a
+within_ends zero s room a = grind (arith, giving_lowers)
 within_ends (suc n) s room a =
     elim (next s) as (λ o. next s ≡ o → next (drained_by o s (drained_within n)).link ≡ None) [
       | None ↦ λ e. e
       | Some p ↦ λ e. let less = giving_lowers s p.1 p.0 room e in
-          within_ends n p.1 (limit_stays s p.1 p.0 e room) (omega arith)
+          within_ends n p.1 (grind (arith, giving_leaves)) (omega arith)
     ] refl
 
 pub drained_ends : (s : Standing) → 0 < s.ends.limit → next (drained s).link ≡ None
@@ -104,9 +85,7 @@ within_leaves (suc n) s =
     ((drained_by o s (drained_within n)).link.ends.joining ≡ s.ends.joining) ×
     (is_some (drained_by o s (drained_within n)).link.flow ≡ is_some s.flow)) [
       | None ↦ λ e. (refl, refl, refl)
-      | Some p ↦ λ e. let one = giving_leaves s p.1 p.0 e in
-          let more = within_leaves n p.1 in
-          (more.0 ∙ one.limit, more.1 ∙ one.joining, more.2 ∙ one.class)
+      | Some p ↦ grind (arith, giving_leaves, within_leaves n p.1)
     ] refl
 
 pub drained_leaves : (s : Standing) → ((drained s).link.ends.limit ≡ s.ends.limit) ×

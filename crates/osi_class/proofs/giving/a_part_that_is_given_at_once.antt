@@ -2,8 +2,8 @@
 use Rattle.std.proofs.Common.{◌≡◌, ℕ, ◌<◌, Bool, true, false, List, [], ◌∷◌, length, take, drop, Option, Some, None, arith, nat_lt, leb}
 use Rattle.std.proofs.Common.{if◌then◌else◌, length-drop}
 use Rattle.osi_class.proofs.Vocabulary.{min, le-ltb, leb-true, length-take-le, take_all, Ends, Flow, GoesAtOnce, GivesPart, with_rest}
-use Rattle.osi_class.proofs.Vocabulary.{Standing, Given, part0, part2, part_under, given_part, next, sent_flow, with_tsdu, zero_standing}
-use Rattle.osi_class.proofs.Vocabulary.{two_standing, Part, give}
+use Rattle.osi_class.proofs.Vocabulary.{Standing, Given, part0, part2, part_under, next, sent_flow, with_tsdu, zero_standing, two_standing}
+use Rattle.osi_class.proofs.Vocabulary.{Part}
 use Rattle.osi_class.proofs.giving.when_nothing_is_given.{class_0, class_2}
 
 pub some_rest : (s : Standing) (rest : List ℕ) → 0 < length rest → with_rest s rest ≡ with_tsdu s rest
@@ -21,27 +21,14 @@ first_of limit t longer = if longer then Some ((false, take limit t), drop limit
 abbrev given_first : Option ℕ → Standing → List ℕ → Bool → ℕ → Option (Given × Standing)
 given_first number s t end n = Some (part_under number end (take n t), with_rest s (drop (length (take n t)) t))
 
-part_first : (e : Ends) (flow : Option Flow) (number : Option ℕ) (t : List ℕ) (end : Bool) (n : ℕ) → leb (length t) e.limit ≡ end →
-    n ≡ min e.limit (length t) →
-    given_part (record e { unsent = t ∷ [] }) flow number (give e.limit (t ∷ [])) ≡ given_first number (nothing_unsent e flow) t end n
-part_first e flow number t end n all is = grind (arith, leb-true, le-ltb, take_all, length-drop, length-take-le, some_rest)
-
 pub part_of_class_0 : (e : Ends) (t : List ℕ) (n : ℕ) → n ≡ min e.limit (length t) → e.unsent ≡ [] →
     GivesPart (part0 (leb (length t) e.limit) (take n t)) t (zero_standing e) (zero_standing e)
-part_of_class_0 e t n is alone = grind (arith, leb, part_first, class_0, length-take-le)
+part_of_class_0 e t n is alone = grind (arith, leb, leb-true, le-ltb, take_all, length-drop, length-take-le, some_rest, class_0)
 
 pub part_of_class_2 : (e : Ends) (f : Flow) (t : List ℕ) (n : ℕ) → n ≡ min e.limit (length t) → e.unsent ≡ [] →
     nat_lt 0 f.receiver.waiting ≡ false → nat_lt 0 f.sender.credit ≡ true →
     GivesPart (part2 f.sender.next (leb (length t) e.limit) (take n t)) t (two_standing e f) (two_standing e (sent_flow f))
-part_of_class_2 e f t n is alone quiet credit = grind (arith, part_first, length-take-le)
-
-positive : (n : ℕ) → (n ≡ 0 → ⊥) → 0 < n
-positive n h = grind arith
-
--- A link that gives nothing, and would give something of a TSDU that is handed in, may give that at once.
-goes_by : (e : Ends) (flow : Option Flow) (t : List ℕ) → next (record { ends = e; flow = flow }) ≡ None →
-    (next (with_tsdu (record { ends = e; flow = flow }) t) ≡ None → ⊥) → GoesAtOnce (record { ends = e; flow = flow })
-goes_by e flow t none some = grind (arith, class_0, class_2, positive)
+part_of_class_2 e f t n is alone quiet credit = grind (arith, leb-true, le-ltb, take_all, length-drop, length-take-le, some_rest)
 
 pub goes_at_once : (s : Standing) (t : List ℕ) → next s ≡ None → (next (with_tsdu s t) ≡ None → ⊥) → GoesAtOnce s
-goes_at_once s t none some = goes_by s.ends s.flow t none some
+goes_at_once s t none some = grind (arith, class_0, class_2)

@@ -8,7 +8,7 @@ use Rattle.osi_class.proofs.Vocabulary.{parts_needed, units_needed, MayGoAll, Al
 use Rattle.osi_class.proofs.Vocabulary.{sent_flow, with_tsdu, zero_standing, two_standing, give}
 use Rattle.osi_class.proofs.giving.a_link_gives_finitely_many_units.{within_none, drained_ends, drained_leaves}
 use Rattle.osi_class.proofs.giving.when_nothing_is_given.{class_0}
-use Rattle.osi_class.proofs.giving.the_units_of_one_tsdu.{parts_cut, one_part, parts_some, take_drop, two_flow, two_with, no_tsdus, alone}
+use Rattle.osi_class.proofs.giving.the_units_of_one_tsdu.{parts_cut, one_part, take_drop, two_flow, two_with, no_tsdus, alone}
 use Rattle.osi_class.proofs.giving.the_units_of_one_tsdu.{room_of_class_0}
 
 pub more_units : (limit : ℕ) (t : List ℕ) (ts : List (List ℕ)) →
@@ -27,10 +27,7 @@ zero_goes e t others room none =
     let ends = subst (λ (f : Option Flow). next (record { ends = last.ends; flow = f }) ≡ None) flow (drained_ends first room) in
     record {
       octets = (room_of_class_0 e t room ((class_0 e).1 none)).1;
-      others = record {
-        alone = (class_0 last.ends).0 ends;
-        may = subst (λ (f : Option Flow). MayGoAll (units_needed last.ends.limit others) f) (sym flow) tt;
-      };
+      others = grind (arith, alone, class_0);
     }
 
 -- a link of class 2 with nothing to be sent
@@ -52,7 +49,6 @@ two_empties limit room (suc n) a u c w x t j small enough =
     let e : Ends = record { limit = limit; unsent = t ∷ []; joining = j } in
     let f : Flow = two_flow a u c w x in
     let left = c - parts_needed limit (length t) in
-    let needed = parts_some limit (length t) in
     elim (nat_lt 0 c) as (λ k. nat_lt 0 c ≡ k → Emptied limit j left w x (length t)
     (drained_by (if k then given_part e (Some (sent_flow f)) (Some a) (give limit (t ∷ [])) else None) (two_standing e f)
     (drained_within n))) [
@@ -66,28 +62,8 @@ two_empties limit room (suc n) a u c w x t j small enough =
                 parts_cut limit (length t) room longer ∙ ap (λ (m : ℕ). parts_needed limit m + 1) (sym shorter) in
                 let more = two_empties limit room n ((a + 1) % 128) (u + 1) (c - 1) w x (drop limit t) j (omega arith)
                 (omega (arith, count)) in
-                let credit : c - 1 - parts_needed limit (length (drop limit t)) ≡ left = omega (arith, count) in
-                let octets = more.all in
-                record {
-                  number = more.number;
-                  unacknowledged = more.unacknowledged;
-                  link = more.link ∙ ap (nothing_left limit j more.number more.unacknowledged w x) credit;
-                  all = omega (arith, both, octets);
-                }
-            | false ↦ λ b. let short : length t ≤ limit = ltb-false limit (length t) b in
-                let none = within_none n (nothing_left limit j ((a + 1) % 128) (u + 1) w x (c - 1))
-                (no_tsdus limit j ((a + 1) % 128) (u + 1) (c - 1) w x) in
-                let count = one_part limit (length t) room short in
-                let credit : c - 1 ≡ left = omega (arith, count) in
-                let octets = ap (λ (d : Drained). octets_in d.units) none in
-                let last = drained_within n (nothing_left limit j ((a + 1) % 128) (u + 1) w x (c - 1)) in
-                let link : last.link ≡ nothing_left limit j ((a + 1) % 128) (u + 1) w x (c - 1) = ap (λ (d : Drained). d.link) none in
-                record {
-                  number = (a + 1) % 128;
-                  unacknowledged = u + 1;
-                  link = link ∙ ap (nothing_left limit j ((a + 1) % 128) (u + 1) w x) credit;
-                  all = omega (arith, octets);
-                }
+                grind arith
+            | false ↦ grind (arith, ltb-false, within_none, no_tsdus, one_part)
           ] refl
       | false ↦ λ k. let none : c ≤ 0 = ltb-false 0 c k in absurd (omega arith)
     ] refl
@@ -105,19 +81,13 @@ emptied e f t room unsent waiting enough =
     (drained (two_standing (record e { unsent = u }) (record f { receiver = record r { waiting = w } }))) in
     let one : P (t ∷ []) 0 = two_empties e.limit room (length t + 1 + 0 + 0) s.next s.unacknowledged s.credit r.window r.expected t
     e.joining (omega arith) enough in
-    let two : P (t ∷ []) r.waiting = subst (λ (w : ℕ). P (t ∷ []) w) (sym waiting) one in
-    subst (λ (u : List (List ℕ)). P u r.waiting) (sym (alone e.unsent t unsent)) two
+    grind (arith, alone)
 
 two_goes : (e : Ends) (f : Flow) (t : List ℕ) (others : List (List ℕ)) → 0 < e.limit → e.unsent ≡ [] → f.receiver.waiting ≡ 0 →
     units_needed e.limit (t ∷ others) ≤ f.sender.credit → GoesWhole (two_standing e f) t others
 two_goes e f t others room unsent waiting enough =
     let units = more_units e.limit t others in
-    let all = emptied e f t room unsent waiting (omega (arith, units)) in
-    let fits : units_needed e.limit others ≤ f.sender.credit - parts_needed e.limit (length t) = omega (arith, units) in
-    record {
-      octets = all.all;
-      others = subst (λ (l : Standing). AllGoAtOnce l others) (sym all.link) (record { alone = refl; may = (refl, fits) });
-    }
+    grind (arith, alone, emptied e f t room unsent waiting (omega (arith, units)))
 
 goes_by : (e : Ends) (flow : Option Flow) (t : List ℕ) (others : List (List ℕ)) → 0 < e.limit → e.unsent ≡ [] →
     MayGoAll (units_needed e.limit (t ∷ others)) flow → GoesWhole (record { ends = e; flow = flow }) t others

@@ -1,6 +1,6 @@
 -- The octets of the units of one TSDU, at a link that had nothing more to give.
 use Rattle.std.proofs.Common.{◌≡◌, ℕ, zero, suc, ◌+◌, ◌-◌, ◌*◌, ◌%◌, ◌<◌, ◌≤◌, true, false, List, [], ◌∷◌, ◌++◌, length, take, drop, Some}
-use Rattle.std.proofs.Common.{None, inl, inr, refl, sym, ◌∙◌, ap, subst, arith, nat_lt, if◌then◌else◌, length-drop, length-append}
+use Rattle.std.proofs.Common.{None, inl, inr, refl, sym, ◌∙◌, ap, arith, nat_lt, if◌then◌else◌, length-drop, length-append}
 use Rattle.osi_class.proofs.Vocabulary.{min, add-div_right, div-eq_of_lt, ltb-true, ltb-false, take-append-drop, Ends, Flow, drained_by}
 use Rattle.osi_class.proofs.Vocabulary.{drained_within, drained, octets_in, parts_needed, Joining, Standing, Given, given_part, next}
 use Rattle.osi_class.proofs.Vocabulary.{sent_flow, with_tsdu, zero_standing, two_standing, give}
@@ -38,19 +38,8 @@ zero_counts limit room (suc n) t j small =
     (parts_needed limit (length t)) (length t)) [
       | true ↦ λ b. let longer : limit < length t = ltb-true limit (length t) b in
           let shorter = length-drop limit t in
-          let all = take_drop limit t in
-          let more = zero_counts limit room n (drop limit t) j (omega arith) in
-          let count : parts_needed limit (length t) ≡ parts_needed limit (length (drop limit t)) + 1 =
-          parts_cut limit (length t) room longer ∙ ap (λ (m : ℕ). parts_needed limit m + 1) (sym shorter) in
-          let first = more.0 in
-          let octets = more.1 in
-          (omega (arith, count, first), omega (arith, all, octets))
-      | false ↦ λ b. let short : length t ≤ limit = ltb-false limit (length t) b in
-          let none = within_none n (zero_standing (record { limit = limit; unsent = []; joining = j })) refl in
-          let count = one_part limit (length t) room short in
-          let units = ap (λ d. length d.units) none in
-          let octets = ap (λ d. octets_in d.units) none in
-          (omega (arith, count, units), omega (arith, octets))
+          grind (arith, take_drop, parts_cut, zero_counts limit room n (drop limit t) j (omega arith))
+      | false ↦ grind (arith, ltb-false, within_none, one_part)
     ] refl
 
 -- class 2, with this credit
@@ -86,7 +75,6 @@ two_counts limit room (suc n) a u c w x t j small =
     (min (parts_needed limit (length t)) c) (min (length t) (c * limit))) [
       | true ↦ λ k. let some : 0 < c = ltb-true 0 c k in
           let more_room = more_credit c limit some in
-          let needed = parts_some limit (length t) in
           elim (nat_lt limit (length t)) as (λ b. nat_lt limit (length t) ≡ b →
           Counts (drained_by (given_part e (Some (sent_flow f)) (Some a)
           (if b then Some ((false, take limit t), drop limit t ∷ []) else Some ((true, t), []))) (two_standing e f)
@@ -95,24 +83,10 @@ two_counts limit room (suc n) a u c w x t j small =
             | true ↦ λ b. let longer : limit < length t = ltb-true limit (length t) b in
                 let shorter = length-drop limit t in
                 let all = take_drop limit t in
-                let more = two_counts limit room n ((a + 1) % 128) (u + 1) (c - 1) w x (drop limit t) j (omega arith) in
-                let count : parts_needed limit (length t) ≡ parts_needed limit (length (drop limit t)) + 1 =
-                parts_cut limit (length t) room longer ∙ ap (λ (m : ℕ). parts_needed limit m + 1) (sym shorter) in
-                let first = more.0 in
-                let octets = more.1 in
-                (omega (arith, count, first), omega (arith, all, octets, more_room))
-            | false ↦ λ b. let short : length t ≤ limit = ltb-false limit (length t) b in
-                let none = within_none n (two_standing (record { limit = limit; unsent = []; joining = j }) (sent_flow f))
-                (no_tsdus limit j ((a + 1) % 128) (u + 1) (c - 1) w x) in
-                let count = one_part limit (length t) room short in
-                let units = ap (λ d. length d.units) none in
-                let octets = ap (λ d. octets_in d.units) none in
-                (omega (arith, count, units), omega (arith, octets, more_room))
+                grind (arith, parts_cut, two_counts limit room n ((a + 1) % 128) (u + 1) (c - 1) w x (drop limit t) j (omega arith))
+            | false ↦ grind (arith, ltb-false, within_none, no_tsdus, one_part)
           ] refl
-      | false ↦ λ k. let none : c ≤ 0 = ltb-false 0 c k in
-          let is : c ≡ 0 = omega arith in
-          let product : c * limit ≡ 0 = ap (λ (m : ℕ). m * limit) is ∙ (let z : 0 * limit ≡ 0 = omega arith in z) in
-          (omega (arith, is), omega (arith, product))
+      | false ↦ grind (arith, ltb-false)
     ] refl
 
 -- what is to be sent is one TSDU, if nothing was
@@ -123,9 +97,7 @@ pub room_of_class_0 : (e : Ends) (t : List ℕ) → 0 < e.limit → next (zero_s
     Counts (drained (with_tsdu (zero_standing e) t)).units (parts_needed e.limit (length t)) (length t)
 unfolding drained
 room_of_class_0 e t room none =
-    let P : List (List ℕ) → Type 0 = λ u. Counts (drained (zero_standing (record e { unsent = u }))).units (parts_needed e.limit (length t))
-    (length t) in
-    subst P (sym (alone e.unsent t ((class_0 e).0 none))) (zero_counts e.limit room (length t + 1 + 0 + 0) t e.joining (omega arith))
+    grind (arith, drained, alone, class_0 e, zero_counts e.limit room (length t + 1 + 0 + 0) t e.joining (omega arith))
 
 two_room : (e : Ends) (f : Flow) (t : List ℕ) → 0 < e.limit → f.receiver.waiting ≡ 0 → e.unsent ≡ [] →
     Counts (drained (with_tsdu (two_standing e f) t)).units (min (parts_needed e.limit (length t)) f.sender.credit)
@@ -139,8 +111,7 @@ two_room e f t room waiting unsent =
     (min (parts_needed e.limit (length t)) s.credit) (min (length t) (s.credit * e.limit)) in
     let one : P (t ∷ []) 0 = two_counts e.limit room (length t + 1 + 0 + 0) s.next s.unacknowledged s.credit r.window r.expected t e.joining
     (omega arith) in
-    let two : P (t ∷ []) r.waiting = subst (λ (w : ℕ). P (t ∷ []) w) (sym waiting) one in
-    subst (λ (u : List (List ℕ)). P u r.waiting) (sym (alone e.unsent t unsent)) two
+    grind (arith, alone)
 
 pub room_of_class_2 : (e : Ends) (f : Flow) (t : List ℕ) → 0 < e.limit → next (two_standing e f) ≡ None →
     Counts (drained (with_tsdu (two_standing e f) t)).units (min (parts_needed e.limit (length t)) f.sender.credit)
@@ -149,11 +120,5 @@ room_of_class_2 e f t room none =
     let both = (class_2 e f).0 none in
     elim both.1 [
       | inl unsent ↦ two_room e f t room both.0 unsent
-      | inr closed ↦
-          let still = drained_none (with_tsdu (two_standing e f) t)
-          ((class_2 (with_tsdu (two_standing e f) t).ends f).1 (both.0, inr closed)) in
-          let units = ap (λ d. length d.units) still in
-          let octets = ap (λ d. octets_in d.units) still in
-          let product : f.sender.credit * e.limit ≡ 0 = ap (λ (m : ℕ). m * e.limit) closed ∙ (let z : 0 * e.limit ≡ 0 = omega arith in z) in
-          (omega (arith, units, closed), omega (arith, octets, product))
+      | inr closed ↦ grind (arith, drained_none, class_2)
     ]

@@ -1,8 +1,8 @@
 -- TSDUs that are added to those to be sent together.
 use Rattle.std.proofs.Common.{◌≡◌, ℕ, zero, suc, ◌<◌, ◌≤◌, List, [], ◌∷◌, ◌++◌, map, Option, Some, None, refl, sym, ◌∙◌, ap, arith}
 use Rattle.std.proofs.Common.{if◌then◌else◌}
-use Rattle.osi_class.proofs.Vocabulary.{append_assoc, Ends, Flow, Drained, drained, all_given, left_to_give, given_one_by_one, one_by_one}
-use Rattle.osi_class.proofs.Vocabulary.{Standing, Given, with_tsdu, with_tsdus, next, next_by, given_part, hand_in, MovesAlong, Part, give}
+use Rattle.osi_class.proofs.Vocabulary.{append_assoc, Drained, drained, all_given, left_to_give, given_one_by_one, one_by_one, Standing}
+use Rattle.osi_class.proofs.Vocabulary.{Given, with_tsdu, with_tsdus, next, hand_in, MovesAlong, Part}
 use Rattle.osi_class.proofs.giving.giving_ends.{giving_lowers}
 use Rattle.osi_class.proofs.giving.a_link_gives_finitely_many_units.{giving_leaves, drained_none, drained_some}
 use Rattle.osi_class.proofs.between.parts_stay_in_order.{append_nil}
@@ -16,28 +16,12 @@ abbrev behind_gave : List ℕ → Gave → Gave
 behind_gave t None = None
 behind_gave t (Some (p, more)) = Some (p, more ++ t ∷ [])
 
-give_behind : (limit : ℕ) (x t : List ℕ) (xs : List (List ℕ)) → give limit ((x ∷ xs) ++ t ∷ []) ≡ behind_gave t (give limit (x ∷ xs))
-give_behind limit x t xs = grind arith
-
 abbrev Next : Type 0
 Next = Option (Given × Standing)
 
 abbrev behind_next : List ℕ → Next → Next
 behind_next t None = None
 behind_next t (Some (unit, s)) = Some (unit, with_tsdu s t)
-
-part_behind : (e : Ends) (flow : Option Flow) (number : Option ℕ) (t : List ℕ) (g : Gave) →
-    given_part (record e { unsent = e.unsent ++ t ∷ [] }) flow number (behind_gave t g) ≡ behind_next t (given_part e flow number g)
-part_behind e flow number t g = grind arith
-
-given_behind : (e : Ends) (flow : Option Flow) (number : Option ℕ) (t : List ℕ) (xs : List (List ℕ)) (unit : Given) (s : Standing) →
-    given_part e flow number (give e.limit xs) ≡ Some (unit, s) →
-    given_part (record e { unsent = e.unsent ++ t ∷ [] }) flow number (give e.limit (xs ++ t ∷ [])) ≡ Some (unit, with_tsdu s t)
-given_behind e flow number t xs unit s h = grind (arith, give_behind, part_behind)
-
-next_behind : (e : Ends) (flow : Option Flow) (t : List ℕ) (unit : Given) (s : Standing) → next_by e flow ≡ Some (unit, s) →
-    next_by (record e { unsent = e.unsent ++ t ∷ [] }) flow ≡ Some (unit, with_tsdu s t)
-next_behind e flow t unit s h = grind (arith, given_behind)
 
 -- ---- all that is given of one more
 
@@ -53,9 +37,7 @@ step_given : (s x : Standing) (t : List ℕ) (unit : Given) → 0 < s.ends.limit
     drained (with_tsdu x t) ≡ both_given x t →
     drained (with_tsdu s t) ≡ both_given s t
 step_given s x t unit room h more =
-    drained_some (with_tsdu s t) (with_tsdu x t) unit room (next_behind s.ends s.flow t unit x h)
-    ∙ ap (λ (d : Drained). record { units = unit ∷ d.units; link = d.link }) more
-    ∙ sym (ap (then_given t) (drained_some s x unit room h))
+    grind (arith, drained_some (with_tsdu s t) (with_tsdu x t) unit room (grind arith), drained_some s x unit room h)
 
 end_given : (s : Standing) (t : List ℕ) → next s ≡ None → drained (with_tsdu s t) ≡ both_given s t
 end_given s t h = sym (ap (then_given t) (drained_none s h))
@@ -69,8 +51,7 @@ one_behind (suc n) s t room le = by (next s) refl (λ x r l. one_behind n x t r 
     by None h again = end_given s t h
     by (Some (unit, x)) h again =
         let l = giving_lowers s x unit room h in
-        let e = (giving_leaves s x unit h).limit in
-        step_given s x t unit room h (again x (omega arith) (omega arith))
+        grind (arith, giving_leaves, step_given)
 
 -- ---- and of more
 

@@ -2,9 +2,9 @@
 use Rattle.std.proofs.Common.{◌≡◌, ℕ, zero, suc, ◌+◌, ◌-◌, ◌*◌, ◌<◌, ◌≤◌, true, false, List, [], ◌∷◌, length, take, drop, map, get_or}
 use Rattle.std.proofs.Common.{Option, Some, None, refl, arith, IfSome, length-drop}
 use Rattle.std.proofs.lemmas.List.Sums.{sum_by-cons}
-use Rattle.osi_class.proofs.Vocabulary.{min, ltb-true, length-take-le, Ends, Flow, drained_by, drained_within, drained, all_given}
-use Rattle.osi_class.proofs.Vocabulary.{left_to_give, octets_of, octets_in, parts_needed, octets_in_parts, most_by, most_given, Standing}
-use Rattle.osi_class.proofs.Vocabulary.{Given, given_part, next_by, next, sent_flow, Part, give}
+use Rattle.osi_class.proofs.Vocabulary.{ltb-true, length-take-le, Ends, Flow, drained_by, drained_within, drained, all_given, left_to_give}
+use Rattle.osi_class.proofs.Vocabulary.{octets_of, octets_in, parts_needed, octets_in_parts, most_by, most_given, Standing, Given}
+use Rattle.osi_class.proofs.Vocabulary.{given_part, next_by, next, sent_flow, Part, give}
 use Rattle.osi_class.proofs.giving.a_link_gives_finitely_many_units.{giving_leaves}
 use Rattle.osi_class.proofs.between.parts_stay_in_order.{choose_some, at_some}
 use Rattle.osi_class.proofs.giving.the_units_of_one_tsdu.{more_credit, one_part, parts_cut}
@@ -24,12 +24,8 @@ cut_parts : (headers limit : ℕ) (t : List ℕ) (more : List (List ℕ)) → 0 
     Parts headers limit (t ∷ more) ((false, take limit t), drop limit t ∷ more)
 cut_parts headers limit t more room longer = grind (arith, length-take-le, length-drop, less_parts, parts_cut)
 
-whole_parts : (headers limit : ℕ) (t : List ℕ) (more : List (List ℕ)) → 0 < limit → length t ≤ limit →
-    Parts headers limit (t ∷ more) ((true, t), more)
-whole_parts headers limit t more room short = grind (arith, less_parts, one_part)
-
 give_parts : (headers limit : ℕ) → 0 < limit → (unsent : List (List ℕ)) → IfSome (give limit unsent) (Parts headers limit unsent)
-give_parts headers limit room unsent = grind (arith, cut_parts, whole_parts)
+give_parts headers limit room unsent = grind (arith, cut_parts, less_parts, one_part)
 
 -- the next unit, with its headers, and what may be given after it are at most what might be given
 abbrev Within : ℕ → ℕ → Given × Standing → Type 0
@@ -39,15 +35,10 @@ zero_within : (headers : ℕ) (e : Ends) (o : Option (Part × List (List ℕ))) 
     IfSome (given_part e None None o) (Within headers (most_by headers e None))
 zero_within headers e o parts = grind arith
 
--- a part goes for one unit of credit
-part_within : (waits octets headers limit left all credit : ℕ) → octets + headers + left ≡ all → octets ≤ limit → 0 < credit →
-    octets + headers + (waits + min left ((credit - 1) * (limit + headers))) ≤ waits + min all (credit * (limit + headers))
-part_within waits octets headers limit left all credit is short some = omega (arith, more_credit)
-
 two_within : (headers : ℕ) (e : Ends) (f : Flow) (o : Option (Part × List (List ℕ))) → IfSome o (Parts headers e.limit e.unsent) →
     0 < f.sender.credit →
     IfSome (given_part e (Some (sent_flow f)) (Some f.sender.next) o) (Within headers (most_by headers e (Some f)))
-two_within headers e f o parts some = grind (arith, part_within)
+two_within headers e f o parts some = grind arith
 
 ack_within : (waiting headers more : ℕ) → 0 < waiting → 0 + headers + ((waiting - 1) * headers + more) ≤ waiting * headers + more
 ack_within waiting headers more some = let fewer = more_credit waiting headers some in omega (arith, fewer)
@@ -59,16 +50,11 @@ next_within headers e (Some f) room = search (arith, choose_some, ack_within, lt
 
 giving_within : (headers : ℕ) (old new : Standing) (unit : Given) → 0 < old.ends.limit → next old ≡ Some (unit, new) →
     octets_of unit + headers + most_given headers new ≤ most_given headers old
-giving_within headers old new unit room e =
-    at_some (Within headers (most_given headers old)) (next old) (unit, new) (next_within headers old.ends old.flow room) e
+giving_within headers old new unit room e = grind (arith, at_some, next_within headers old.ends old.flow room)
 
 -- what units take with this many octets of headers for each
 abbrev With : ℕ → List Given → ℕ → Type 0
 With headers units most = octets_in units + length units * headers ≤ most
-
-unit_more : (headers octets units first left most : ℕ) → octets + units * headers ≤ left → first + headers + left ≤ most →
-    (first + octets) + (suc units) * headers ≤ most
-unit_more headers octets units first left most more step = omega arith
 
 within_take : (headers n : ℕ) (s : Standing) → 0 < s.ends.limit → With headers (drained_within n s).units (most_given headers s)
 within_take headers zero s room = omega arith
@@ -77,10 +63,7 @@ within_take headers (suc n) s room =
       | None ↦ λ e. omega arith
       | Some p ↦ λ e. let step = giving_within headers s p.1 p.0 room e in
           let same = (giving_leaves s p.1 p.0 e).limit in
-          let more = within_take headers n p.1 (omega arith) in
-          unit_more headers (octets_in (drained_within n p.1).units) (length (drained_within n p.1).units) (octets_of p.0)
-          (most_given headers p.1)
-          (most_given headers s) more step
+          grind (arith, within_take headers n p.1 (omega arith))
     ] refl
 
 pub all_take : (headers : ℕ) (s : Standing) → 0 < s.ends.limit →

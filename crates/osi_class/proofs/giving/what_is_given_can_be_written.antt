@@ -1,10 +1,10 @@
 -- What a link gives can be written.
-use Rattle.std.proofs.Common.{◌≡◌, ℕ, ◌+◌, ◌<◌, ◌≤◌, List, length, Option, Some, None, arith, IfSome, length-drop}
+use Rattle.std.proofs.Common.{◌≡◌, ℕ, ◌+◌, ◌<◌, ◌≤◌, List, length, Option, Some, arith, IfSome, length-drop}
 use Rattle.osi_tpkt.specs.Octets.{IsOctets}
 use Rattle.osi_tpkt.proofs.lists_of_octets_stay_octets.{octets_take, octets_drop}
 use Rattle.osi_tpdu.specs.Writing.{written, Fits}
-use Rattle.osi_class.proofs.Vocabulary.{AllByRecursion, Ends, Flow, octets_of, header_octets, Standing, Given, given_part, next_by, next}
-use Rattle.osi_class.proofs.Vocabulary.{unit_of, IsSound, IsSoundFlow, HasGivenInRange, Part, give}
+use Rattle.osi_class.proofs.Vocabulary.{AllByRecursion, Ends, Flow, octets_of, header_octets, Standing, Given, next_by, next, unit_of}
+use Rattle.osi_class.proofs.Vocabulary.{IsSound, IsSoundFlow, HasGivenInRange, Part}
 use Rattle.osi_class.proofs.between.parts_stay_in_order.{choose_some, at_some}
 use Rattle.osi_class.proofs.giving.the_units_of_one_tsdu.{take_drop}
 
@@ -12,24 +12,12 @@ use Rattle.osi_class.proofs.giving.the_units_of_one_tsdu.{take_drop}
 abbrev Parts : ℕ → Part × List (List ℕ) → Type 0
 Parts limit p = IsOctets p.0.1 × (length p.0.1 ≤ limit) × AllByRecursion IsOctets p.1
 
-give_octets : (limit : ℕ) (unsent : List (List ℕ)) → AllByRecursion IsOctets unsent → IfSome (give limit unsent) (Parts limit)
-give_octets limit unsent all = grind (arith, length-drop, take_drop, octets_take, octets_drop)
-
 abbrev Ranges : Given × Standing → Type 0
 Ranges (g, new) = HasGivenInRange g × AllByRecursion IsOctets new.ends.unsent
 
-zero_ranges : (e : Ends) → e.limit ≤ 8189 → (o : Option (Part × List (List ℕ))) → IfSome o (Parts e.limit) →
-    IfSome (given_part e None None o) Ranges
-zero_ranges e most o parts = grind arith
-
-two_ranges : (e : Ends) (f : Flow) (number : ℕ) → number < 128 → e.limit ≤ 8189 → (o : Option (Part × List (List ℕ))) →
-    IfSome o (Parts e.limit) →
-    IfSome (given_part e (Some f) (Some number) o) Ranges
-two_ranges e f number below most o parts = grind arith
-
 next_ranges : (e : Ends) (flow : Option Flow) → e.limit ≤ 8189 → IfSome flow IsSoundFlow → AllByRecursion IsOctets e.unsent →
     IfSome (next_by e flow) Ranges
-next_ranges e flow most sound all = grind (arith, zero_ranges, give_octets, choose_some, two_ranges)
+next_ranges e flow most sound all = grind (arith, length-drop, take_drop, octets_take, octets_drop, choose_some)
 
 given_ranges : (old new : Standing) (unit : Given) → IsSound old → AllByRecursion IsOctets old.ends.unsent → next old ≡ Some (unit, new) →
     Ranges (unit, new)

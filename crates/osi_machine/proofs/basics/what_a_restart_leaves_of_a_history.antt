@@ -1,7 +1,7 @@
 -- Histories: how many points they have, how these are numbered, and what a restart leaves.
 -- For the calls and units that add points or cut them.
 use Rattle.std.proofs.Common.{◌≡◌, refl, ap, ℕ, zero, suc, ◌+◌, ◌-◌, ◌≤◌, List, [], ◌∷◌, ◌++◌, arith}
-use Rattle.osi_machine.specs.Histories.{Item, Octets, Point, PointKind, points, upto, cutat, AreNumberedFrom}
+use Rattle.osi_machine.specs.Histories.{Item, Octets, Point, points, upto, cutat, AreNumberedFrom}
 
 pub points_append : (h k : List Item) → points (h ++ k) ≡ points h + points k
 points_append [] k = omega arith
@@ -28,10 +28,6 @@ upto_append zero h more le = refl
 upto_append (suc k) [] more le = absurd (omega arith)
 upto_append (suc k) (Octets octets ∷ h) more le = ap (λ (r : List Item). Octets octets ∷ r) (upto_append (suc k) h more le)
 upto_append (suc k) (Point m kind octets ∷ h) more le = ap (λ (r : List Item). Point m kind octets ∷ r) (upto_append k h more (omega arith))
-
--- V(M) of what a restart at n leaves is n
-pub points_cut : (base n : ℕ) (h : List Item) → base ≤ n → n ≤ base + points h → n ≡ base + points (cutat base h n)
-points_cut base n h from to = let e = points_upto (n - base) h (omega arith) in omega arith
 
 -- ---- the numbers of the points
 
@@ -62,10 +58,3 @@ points_upto_least (suc k) (Point n kind octets ∷ h) = let e = points_upto_leas
 -- a restart leaves equally many points of two histories with equally many points
 pub cut_points : (a b n : ℕ) (g h : List Item) → a ≡ b → points g ≡ points h → points (cutat a g n) ≡ points (cutat b h n)
 cut_points a b n g h e q = grind (arith, points_upto_least)
-
-pub one_point_more : (m n : ℕ) (t v : List Item) (k : PointKind) (octets : List ℕ) → points t ≡ points v
-    → points (t ++ Point m k octets ∷ []) ≡ points (v ++ Point n k octets ∷ [])
-one_point_more m n t v k octets e = grind (arith, points_append)
-
-pub no_point_more : (t : List Item) (octets : List ℕ) → points (t ++ Octets octets ∷ []) ≡ points t
-no_point_more t octets = let a = points_append t (Octets octets ∷ []) in omega arith

@@ -51,12 +51,6 @@ by_test b h k = grind arith
 pub by_either : {A B C : Type 0} → A ⊎ B → (A → C) → (B → C) → C
 by_either h f g = grind arith
 
-pub if_yes : {A : Type 0} → (b : Bool) (x y : A) → b ≡ true → (if b then x else y) ≡ x
-if_yes b x y e = grind arith
-
-pub if_no : {A : Type 0} → (b : Bool) (x y : A) → b ≡ false → (if b then x else y) ≡ y
-if_no b x y e = grind arith
-
 pub if_first : {A : Type 0} → (b : Bool) (x y : A) → y ≡ x → (if b then x else y) ≡ x
 if_first b x y e = grind arith
 

@@ -1,7 +1,7 @@
 -- The connection at a reference after one is replaced, one is added, a side ends, or a break.
 -- For the law of the same name, and for all that is said of each connection of a run.
-use Rattle.std.proofs.Common.{◌≡◌, refl, ◌∙◌, ap, subst, ℕ, zero, suc, ◌+◌, ◌<◌, ◌≤◌, true, List, [], ◌∷◌, ◌++◌, length, Some, None}
-use Rattle.std.proofs.Common.{is_some, arith}
+use Rattle.std.proofs.Common.{◌≡◌, refl, ap, subst, ℕ, zero, suc, ◌+◌, ◌<◌, ◌≤◌, true, List, [], ◌∷◌, ◌++◌, length, Some, None, is_some}
+use Rattle.std.proofs.Common.{arith}
 use Rattle.osi_machine.specs.Tables.{seen_from, cut_channels}
 use Rattle.osi_machine.proofs.Vocabulary.{AllByRecursion, slice_get, Side, connection_at, replaced, with_connection, Line, ends_there}
 use Rattle.osi_machine.proofs.Vocabulary.{ended_lines, cut_line}
@@ -82,8 +82,7 @@ ended_got side keep k (suc r) (x ∷ ls) l e = grind (arith, ended_got side keep
 pub ended_there : (side : Side) (keep : ℕ → ℕ) (q : ℕ) (ls : List Line) (l : Line) → connection_at q ls ≡ Some l
     → connection_at q (ended_lines side keep 1 ls) ≡ Some (seen_from side (ends_there (keep q) (seen_from side l)))
 ended_there side keep zero ls l e = absurd (cc)
-ended_there side keep (suc q) ls l e =
-    ended_got side keep 1 q ls l e ∙ ap (λ (n : ℕ). Some (seen_from side (ends_there (keep n) (seen_from side l)))) (omega arith)
+ended_there side keep (suc q) ls l e = grind (arith, ended_got side keep 1 q ls l e)
 
 cut_got : (left right : ℕ → ℕ) (k r : ℕ) (ls : List Line) (l : Line) → slice_get ls r ≡ Some l
     → slice_get (cut_channels left right k ls) r ≡ Some (cut_line (left (k + r)) (right (k + r)) l)
@@ -94,8 +93,7 @@ cut_got left right k (suc r) (x ∷ ls) l e = grind (arith, cut_got left right (
 pub cut_there : (left right : ℕ → ℕ) (q : ℕ) (ls : List Line) (l : Line) → connection_at q ls ≡ Some l
     → connection_at q (cut_channels left right 1 ls) ≡ Some (cut_line (left q) (right q) l)
 cut_there left right zero ls l e = absurd (cc)
-cut_there left right (suc q) ls l e =
-    cut_got left right 1 q ls l e ∙ ap (λ (n : ℕ). Some (cut_line (left n) (right n) l)) (omega arith)
+cut_there left right (suc q) ls l e = grind (arith, cut_got left right 1 q ls l e)
 
 pub ended_count : (side : Side) (keep : ℕ → ℕ) (k : ℕ) (ls : List Line) → length (ended_lines side keep k ls) ≡ length ls
 ended_count side keep k [] = refl

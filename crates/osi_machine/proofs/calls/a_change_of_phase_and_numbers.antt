@@ -2,7 +2,7 @@
 -- For points, their confirmations and releases.
 use Rattle.std.proofs.Common.{◌≡◌, refl, sym, ◌∙◌, ap, subst, ℕ, Bool, true, false, not, ◌&&◌, ◌||◌, if◌then◌else◌, List, [], ◌∷◌, ◌⊎◌, inl}
 use Rattle.std.proofs.Common.{inr, arith, ◌≤◌, ◌<◌, ◌++◌}
-use Rattle.osi_machine.proofs.Vocabulary.{list_any, State, TokenSetting, Meaning, RS, RestartDue, may_hold, is_restarting, is_restart_due}
+use Rattle.osi_machine.proofs.Vocabulary.{list_any, State, TokenSetting, Meaning, RestartDue, may_hold, is_restarting, is_restart_due}
 use Rattle.osi_machine.proofs.Vocabulary.{has_no_effect, passes_restarting, restarted_at, without_tokens, becomes, stands, drops, next}
 use Rattle.osi_machine.proofs.Vocabulary.{Good, Item, seen, is_plain, Fits, AllFit, flush, stops, heard, view_next, heard_view, or_parts}
 use Rattle.osi_machine.proofs.Vocabulary.{append-nil, FunctionalUnits, Tokens, Token, has, available, data_token, lower, is_answering}
@@ -70,8 +70,7 @@ unfolding stands
 listening_stands s n h = rw h refl
 
 same_stops : (s r : State) (u : Meaning) → is_restarting s.phase ≡ false → is_restarting r.phase ≡ false → stops r u ≡ stops s u
-same_stops s r (RS j n w o) h k = listening_stands r n k ∙ sym (listening_stands s n h)
-same_stops s r _ h k = refl
+same_stops s r u h k = grind (arith, listening_stands)
 
 same_seen : (s r : State) (u : Meaning) (v : List Item) → is_restarting s.phase ≡ false → is_restarting r.phase ≡ false → Still s r
     → seen r u v ≡ seen s u v
@@ -118,11 +117,8 @@ inv_next : (k : Shift) (s : State) (u : Meaning) → k.inv s → k.never u ≡ f
 inv_next k s u i n f st =
     let both : drops (k.to s) u ≡ drops s u = same_drops s (k.to s) u (inv_listens k s i) (after_listens k s i) in
     by_test (drops s u)
-    (λ d. let a = next_dropped s u d in
-    (next_dropped (k.to s) u (both ∙ d) ∙ ap k.to (sym a), subst k.inv (sym a) i))
-    (λ d. let a = next_acted s u d in
-    let p = k.step s u i n f.plain (or_parts (has_no_effect u) (is_restarting s.phase && not (passes_restarting u)) d).0 (f.good d) st in
-    (next_acted (k.to s) u (both ∙ d) ∙ p.0 ∙ ap k.to (sym a), subst k.inv (sym a) p.1))
+    (grind (arith, next_dropped))
+    (search (arith, next_acted, or_parts))
 
 stood_next : (k : Shift) (s : State) (u : Meaning) → k.inv s → stops s u ≡ true → Due (next s u) (next (k.to s) u)
 stood_next k s u i st =
@@ -159,9 +155,7 @@ shifts k s (u ∷ us) i n f =
     let no = or_parts (k.never u) (list_any k.never us) n in
     by no.0 (stops s u) refl (λ st.
     let p = inv_next k s u i no.0 f.0 st in
-    subst (λ (q : State). AllFit q us × Shifted k (flush (next s u) us) (flush q us) × (heard q us ≡ k.to (heard (next s u) us)) × k.inv
-    (heard (next s u) us)) (sym p.0)
-    (let more = shifts k (next s u) us p.1 no.1 f.1 in (more.fits, more.flush, more.heard.0, more.heard.1)))
+    grind (arith, shifts k (next s u) us p.1 no.1 f.1))
   where
     there : stops (k.to s) u ≡ stops s u
     there = same_stops s (k.to s) u (inv_listens k s i) (after_listens k s i)
@@ -183,8 +177,7 @@ shifts k s (u ∷ us) i n f =
         }
     by c true e more =
         let d = stood_next k s u i e in
-        let a = due_fits (next s u) (next (k.to s) u) us d f.1 in
-        grind (arith, inv_fits, due_end)
+        grind (arith, inv_fits, due_end, due_fits)
 
 -- what is seen is the same
 pub shift_view : (k : Shift) (s : State) (us : List Meaning) (v : List Item) → k.inv s → list_any k.never us ≡ false → AllFit s us
@@ -311,10 +304,8 @@ module _ (w : Core) (k : Shift) (m : Meaning) (more : List Item) (g : Sending w 
   sides : Deaf ⊎ Acts
   sides = by_either runs.flush
       (λ z. let l = not-true (is_restarting there.phase) (phase_there may_hold (λ q. not (is_restarting q)) refl h.own (k.holds was z.1)) in
-      let a = acts_listening there m l g.unit.effect in
-      inr (record { listens = l; inv = z.1; there_is = z.0; same = next_acted there m a; acts = a }))
-      (λ d. let r = phase_there is_restart_due is_restarting refl h.own d.due in
-      inl (record { asked = r; due = d; same = next_dropped there m (drops_waiting there m r g.unit.waits) }))
+      grind (arith, acts_listening, listens, next_acted))
+      (λ d. grind (arith, next_dropped, drops_waiting, phase_there is_restart_due is_restarting refl h.own d.due))
 
   other_fits : Fits there m
   other_fits = search (arith, by_either, sides, drops_waiting)
@@ -326,8 +317,7 @@ module _ (w : Core) (k : Shift) (m : Meaning) (more : List Item) (g : Sending w 
       (λ d. subst (λ (q : State). matched end.phase q.phase ≡ true) (sym d.same)
       (implied_two (λ p q. is_restart_due p && is_restarting q) matched refl end.phase there.phase
       (and_from (is_restart_due end.phase) (is_restarting there.phase) d.due.other d.asked)))
-      (λ a. subst (λ (q : State). matched q.phase then_there.phase ≡ true) (sym a.there_is)
-      (subst (λ (q : State). matched (k.to was).phase q.phase ≡ true) (sym a.same) (g.meets a.listens a.inv)))
+      (grind (arith, matched))
 
   own_still : Still was end
   own_still = shifted_still k was end runs.flush
@@ -463,8 +453,7 @@ module _ (w : Core) (k : Shift) (m : Meaning) (more : List Item) (g : Sending w 
         (λ e. let r : is_restarting then_there.phase ≡ true = then_heard is_restarting r in
         absurd (not_both _ (next_hears there m (ap not e)) r)));
     due = λ r. absurd (none_due_there w.owner w.own w.peer h.own h.peer listens r);
-    stream = λ d. streams (ap (λ (u : FunctionalUnits). u.duplex) (sym other_still.units)
-        ∙ ap (λ (q : State). q.units.duplex) (sym other_end) ∙ d);
+    stream = λ d. streams (grind (arith, other_still, other_end));
   }
     where
       cuts : is_restarting there.phase ≡ true → w.peer.view ≡ cutat w.peer.session.base (w.history ++ more) w.peer.session.numbers.next
@@ -473,14 +462,7 @@ module _ (w : Core) (k : Shift) (m : Meaning) (more : List Item) (g : Sending w 
           c ∙ sym (cut_append w.peer.session.base w.peer.session.numbers.next w.history more w.peer.view c h.consistent.peer.count)
 
       streams : there.units.duplex ≡ true → (w.peer.got ++ data_of (w.own.sent ++ m ∷ []) ≡ w.own.said ++ []) × (w.history ++ more ≡ [])
-      streams d =
-          let s = h.peer_views.stream d in
-          let e = data_append w.own.sent (m ∷ []) ∙ ap (λ (r : List (List ℕ)). data_of w.own.sent ++ (r ++ [])) g.unit.empty
-          ∙ append-nil (data_of w.own.sent) in (
-            ap (λ (r : List (List ℕ)). w.peer.got ++ r) e ∙ s.0 ∙ sym (append-nil w.own.said),
-            ap (λ (v : List Item). w.history ++ v) (g.duplex (ap (λ (u : FunctionalUnits). u.duplex) h.own.meeting.units ∙ d))
-                ∙ append-nil w.history ∙ s.1,
-          )
+      streams d = grind (arith, data_append, append-nil)
 
   -- ---- the numbers
 

@@ -1,17 +1,16 @@
 -- The calls of MinorConfirm and of MajorConfirm keep the invariant of both sides.
 -- For each_step_keeps_both_sides.
-use Rattle.std.proofs.Common.{◌≡◌, refl, sym, ◌∙◌, ap, subst, ℕ, ◌+◌, ◌-◌, ◌==◌, ◌≤◌, ◌<◌, Bool, true, false, not, ◌&&◌, ◌||◌, nat_le}
-use Rattle.std.proofs.Common.{nat_lt, if◌then◌else◌, List, [], ◌⊎◌, inl, inr, Ok, arith}
-use Rattle.osi_machine.proofs.Vocabulary.{append-nil, and_parts, ltb-true, leb-true, lt-ltb, le-leb, eq-eqb, cases_lt, and_from, list_any}
-use Rattle.osi_machine.proofs.Vocabulary.{State, Phase, Numbers, FunctionalUnits, Ready, MajorDue, Meaning, MIA, MAA, data_token, is_ready}
-use Rattle.osi_machine.proofs.Vocabulary.{is_major_asked, is_major_due, is_releasing, is_release_due, is_restarting, may_hold}
-use Rattle.osi_machine.proofs.Vocabulary.{may_confirm_minor, takes_minor_ack, lower, point_taken, minor_confirmed, major_confirmed, becomes}
-use Rattle.osi_machine.proofs.Vocabulary.{drops, next, Good, MinorConfirm, MajorConfirm, Item, points, AreNumberedFrom, seen, is_plain}
-use Rattle.osi_machine.proofs.Vocabulary.{AllFit, heard_view, stops, needs_token, Core, answered, is_opening}
+use Rattle.std.proofs.Common.{◌≡◌, refl, sym, ◌∙◌, ap, subst, ℕ, ◌+◌, ◌-◌, ◌≤◌, ◌<◌, Bool, true, false, not, ◌&&◌, ◌||◌, nat_le, nat_lt}
+use Rattle.std.proofs.Common.{if◌then◌else◌, List, [], ◌⊎◌, inl, inr, Ok, arith}
+use Rattle.osi_machine.proofs.Vocabulary.{append-nil, and_parts, ltb-true, leb-true, lt-ltb, le-leb, eq-eqb, cases_lt, and_from, State}
+use Rattle.osi_machine.proofs.Vocabulary.{Phase, Numbers, Ready, MajorDue, Meaning, MIA, MAA, is_ready, is_major_asked, is_major_due}
+use Rattle.osi_machine.proofs.Vocabulary.{is_releasing, is_release_due, is_restarting, may_hold, may_confirm_minor, takes_minor_ack}
+use Rattle.osi_machine.proofs.Vocabulary.{point_taken, minor_confirmed, major_confirmed, becomes, drops, next, Good, MinorConfirm}
+use Rattle.osi_machine.proofs.Vocabulary.{MajorConfirm, Item, points, AreNumberedFrom, is_plain, AllFit, heard_view, stops, Core, answered}
+use Rattle.osi_machine.proofs.Vocabulary.{is_opening}
 use Rattle.osi_machine.proofs.basics.what_holds_in_each_phase.{implied_both, implied, excluded, implied_two, by_test}
 use Rattle.osi_machine.proofs.channels.a_unit_is_dropped_bad_or_acted_on.{next_cases, next_hears}
-use Rattle.osi_machine.proofs.channels.what_every_unit_in_flight_keeps.{kept_heard, heard_flush, lower_first, lower_second, lower_from}
-use Rattle.osi_machine.proofs.channels.what_every_unit_in_flight_keeps.{heard_turned}
+use Rattle.osi_machine.proofs.channels.what_every_unit_in_flight_keeps.{kept_heard, heard_flush, lower_first, lower_second, heard_turned}
 use Rattle.osi_machine.proofs.channels.a_deaf_side_acts_on_nothing.{not_both}
 use Rattle.osi_machine.proofs.channels.a_held_token_keeps_units_out.{flush_open, heard_open}
 use Rattle.osi_machine.proofs.channels.what_a_side_will_have_seen.{until_heard, view_cases, heard_counted, view_grows, major_came}
@@ -66,9 +65,6 @@ own_count w h = h.consistent.own.count
 seen_all : (w : Core) → Answers w.own.session → Stands w → points w.own.view ≤ points w.history
 seen_all w a h = grind (arith, heeds, view_grows)
 
-heard_number : (w : Core) → Answers w.own.session → Stands w → (hearing w.own w.peer).numbers.next ≡ w.own.session.base + points w.history
-heard_number w a h = search (arith, heard_counted, heard_base, heeds)
-
 -- what this side has seen, the other has
 all_above : (w : Core) (n : ℕ) → Answers w.own.session → Stands w → is_restarting (flushed w.peer w.own).phase ≡ false
     → (hearing w.own w.peer).base ≤ n → n < w.own.session.base + points w.history → n < w.peer.session.numbers.next
@@ -92,10 +88,6 @@ was_below w n a h from to =
     h.peer_counts.below (heeds w a h) n (subst (λ (q : State). q.base ≤ n) (sym (ends_same w a h)) from)
     (subst (λ (q : State). n < q.numbers.confirmed) (sym (ends_same w a h)) to)
 
-was_reach : (w : Core) → Answers w.own.session → Stands w
-    → lower w.own.session.numbers.next (flushed w.peer w.own).numbers.confirmed ≤ w.own.session.numbers.confirmed
-was_reach w a h = grind (arith, ends_same)
-
 -- ---- the confirmation of a minor point
 
 abbrev confirmed_at : ℕ → State → State
@@ -107,12 +99,7 @@ confirm_good n s u a p g = grind (arith, and_parts, not_both)
 
 taken_confirmed : (n : ℕ) (v : Numbers) → v.answers ≡ true → point_taken (minor_confirmed n v) ≡ minor_confirmed n (point_taken v)
 unfolding point_taken minor_confirmed
-taken_confirmed n v e = ap (λ (b : Bool). record {
-  next = v.next + 1;
-  confirmed = if b then n + 1 else v.next;
-  lowest = v.lowest;
-  answers = true;
-}) e
+taken_confirmed n v e = grind arith
 
 point_answers : (v : Numbers) → (point_taken v).answers ≡ true
 unfolding point_taken
@@ -147,7 +134,7 @@ own_answers w n k = record { phase = implied may_confirm_minor is_confirming ref
 
 -- nothing at or above it was confirmed
 confirmed_below : (w : Core) (n : ℕ) → Confirms w n → Stands w → (flushed w.peer w.own).numbers.confirmed ≤ n
-confirmed_below w n k h = grind (arith, cases_lt, lower_from, flushed w.peer w.own, was_reach w (own_answers w n k) h, own_answers w n k)
+confirmed_below w n k h = grind (arith, cases_lt, flushed w.peer w.own, ends_same, own_answers w n k)
 
 ruleset there_laws = (own_answers, other_number, there_base, ends_same, own_count)
 
@@ -165,20 +152,12 @@ confirm_sending w n octets k h = record {
   unit = assumption;
   shows = λ s v. sym (append-nil v);
   good = λ l i.
-      let fx = flushed w.own w.peer in
-      let fy = flushed w.peer w.own in
       let a = own_answers w n k in
       record {
         expected = phase_there is_confirming takes_minor_ack refl h.own i.phase;
         met = (
-          ap (λ (u : FunctionalUnits). u.minor) (sym h.own.meeting.units ∙ end_units w.owner w.own w.peer h.own (open_now w a))
-              ∙ k.selected,
-          (
-            and_from (not (flushed w.peer w.own).numbers.answers) _ (ap not (there_sends w a h))
-                (and_from (nat_le (flushed w.peer w.own).numbers.confirmed n) _
-                (le-leb (flushed w.peer w.own).numbers.confirmed n (confirmed_below w n k h)) (confirm_above w n k h l)),
-            tt,
-          ),
+          grind (arith, end_units w.owner w.own w.peer h.own (open_now w a), open_now w a),
+          grind (arith, and_from, le-leb, flushed w.peer w.own, there_sends w a h, confirmed_below w n k h, confirm_above w n k h l),
         );
       };
   meets = λ l i. h.own.meeting.meets;
@@ -194,12 +173,9 @@ confirm_sending w n octets k h = record {
   other_below = λ m from to. next_cases (λ q. m < q.numbers.confirmed → m < w.own.session.numbers.next) (flushed w.peer w.own)
       (MIA n octets)
       (λ d. was_below w m (own_answers w n k) h from) (λ d e. let x = k.to in omega arith) to;
-  other_reach = λ f. next_cases (λ q. lower w.own.session.numbers.next q.numbers.confirmed ≤ n + 1) (flushed w.peer w.own) (MIA n octets)
-      (λ d. let x = was_reach w (own_answers w n k) h in let y = k.from in omega arith)
-      (λ d. lower_second w.own.session.numbers.next (n + 1));
+  other_reach = grind (arith, next_cases, flushed, ends_same, own_answers, lower_second);
   numbered = λ p. subst (AreNumberedFrom (flushed w.own w.peer).base) (sym (append-nil w.history)) p;
-  one_way = λ d. ap (λ (b : Bool). b && list_any (needs_token data_token) w.peer.sent)
-      (list_any_append (needs_token data_token) w.own.sent (MIA n octets) refl) ∙ h.pair.one_way d;
+  one_way = grind (arith, list_any_append);
 }
 
 pub minor_confirm_stands : (w : Core) (n : ℕ) (octets : List ℕ) → IsGranted w (MinorConfirm n octets) → Stands w
@@ -240,28 +216,11 @@ due_shift = record {
   step = λ s u i f p e g st. due_step s u i p (good_in MajorDue s u i.phase g) st;
 }
 
--- nothing is seen by a side that owes the answer
-due_seen : (s : State) (u : Meaning) (v : List Item) → Owes s → is_plain u ≡ true → Good (in_phase MajorDue s) u → stops s u ≡ false
-    → seen s u v ≡ v
-due_seen s u v i p g st = grind (arith, listening_stands)
-
 owes_nothing : (s : State) (us : List Meaning) (v : List Item) → Owes s → AllFit s us → heard_view s us v ≡ v
 owes_nothing s us v i f =
     (until_heard (λ q x. Owes q × (x ≡ v))
-    (λ q u x g st a. view_cases (λ r y. Owes r × (y ≡ v)) q u x g a (λ c.
-    let d = good_in MajorDue q u a.0.phase c in
-    ((due_step q u a.0 g.plain d st).1, due_seen q u x a.0 g.plain d st ∙ a.1)))
+    (λ q u x g st a. view_cases (λ r y. Owes r × (y ≡ v)) q u x g a (grind (arith, good_in, due_step, listening_stands)))
     s us v (i, refl) f).1
-
-due_answers : (w : Core) → Owes w.own.session → Answers w.own.session
-due_answers w k = record { phase = ap is_confirming k.phase; answers = k.answers }
-
-due_all : (w : Core) → Owes w.own.session → Stands w → w.own.session.numbers.next ≡ w.own.session.base + points w.history
-due_all w k h = search (arith, own_count, owes_nothing, heeds, due_answers)
-
-due_number : (w : Core) → Owes w.own.session → Stands w → is_restarting (flushed w.peer w.own).phase ≡ false
-    → ((w.own.session.numbers.next - 1) + 1 == (flushed w.peer w.own).numbers.next) ≡ true
-due_number w k h l = search (arith, due_answers, due_all, other_number, there_base, ends_same, eq-eqb)
 
 due_sending : (w : Core) (octets : List ℕ) → Owes w.own.session → Stands w
     → Sending w due_shift (MAA (w.own.session.numbers.next - 1) octets) []
@@ -271,38 +230,28 @@ due_sending w octets k h = record {
   none = none_never w.peer.sent;
   unit = assumption;
   shows = λ s v. sym (append-nil v);
-  good = λ l i. search (arith, implied_both, due_number);
+  good = λ l i. search (arith, implied_both, own_count, owes_nothing, heeds, other_number, there_base, ends_same, eq-eqb);
   meets = λ l i. refl;
   release = λ s i r. absurd (cc);
   releasing = λ s i r. absurd (cc);
   sees = λ l. ap (heard_view w.own.session w.peer.sent) (append-nil w.own.view) ∙ h.own_views.ends l ∙ sym (append-nil w.history);
   duplex = λ d. refl;
-  flag = λ f. keeps_flag w (MAA (w.own.session.numbers.next - 1) octets) (λ s. refl) (due_answers w k) h;
-  below = λ l n from to. all_above w n (due_answers w k) h
+  flag = λ f. keeps_flag w (MAA (w.own.session.numbers.next - 1) octets) (λ s. refl) (grind arith) h;
+  below = λ l n from to. all_above w n (grind arith) h
       (hears_there (flushed w.peer w.own) (MAA (w.own.session.numbers.next - 1) octets) refl l) from
-      (subst (λ (m : ℕ). n < m) (heard_number w (due_answers w k) h) to);
-  reach = λ t. absurd (none_back w (due_answers w k) h t);
+      (subst (λ (m : ℕ). n < m) (grind (arith, heard_counted, heard_base, heeds)) to);
+  reach = λ t. absurd (none_back w (grind arith) h t);
   other_flag = h.peer_counts.flag;
   other_below = λ n from to. by_test (drops (flushed w.peer w.own) (MAA (w.own.session.numbers.next - 1) octets))
-      (λ d. let e = rw d at to in was_below w n (due_answers w k) h from e)
-      (λ d. let e = rw d at to in let a = due_answers w k in
-      let x = due_all w k h in
-      let y = other_number w h (there_base w a h) (ends_same w a h) (by_test (is_restarting (flushed w.peer w.own).phase)
-      (λ q. let p = rw q at d in absurd (cc))
-      (λ q. q)) in
-      omega arith);
-  other_reach = λ f. lower_first w.own.session.numbers.next
-      (next (flushed w.peer w.own) (MAA (w.own.session.numbers.next - 1) octets)).numbers.confirmed;
+      (λ d. let e = rw d at to in was_below w n (grind arith) h from e)
+      (grind (arith, own_count, owes_nothing, heeds, other_number, there_base, ends_same, by_test, flushed));
+  other_reach = grind (arith, lower_first, flushed);
   numbered = λ p. subst (AreNumberedFrom (flushed w.own w.peer).base) (sym (append-nil w.history)) p;
-  one_way = λ d. ap (λ (b : Bool). b && list_any (needs_token data_token) w.peer.sent)
-      (list_any_append (needs_token data_token) w.own.sent (MAA (w.own.session.numbers.next - 1) octets) refl) ∙ h.pair.one_way d;
+  one_way = grind (arith, list_any_append);
 }
-
-major_due_is : (p : Phase) → is_major_due p ≡ true → p ≡ MajorDue
-major_due_is p h = grind arith
 
 pub major_confirm_stands : (w : Core) (octets : List ℕ) → IsGranted w (MajorConfirm octets) → Stands w
     → Stands (answered w (MajorConfirm octets) (Ok (granted w.own.session (MajorConfirm octets))))
 major_confirm_stands w octets q h =
-    let k : Owes w.own.session = record { phase = major_due_is w.own.session.phase q.phase; answers = h.consistent.own.major q.phase } in
+    let k : Owes w.own.session = record { phase = grind arith; answers = h.consistent.own.major q.phase } in
     sending_stands w due_shift (MAA (w.own.session.numbers.next - 1) octets) [] (due_sending w octets k h) h q.kept

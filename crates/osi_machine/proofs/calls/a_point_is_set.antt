@@ -1,15 +1,15 @@
 -- The calls of Minor and of Major keep the invariant of both sides.
 -- For each_step_keeps_both_sides.
-use Rattle.std.proofs.Common.{◌≡◌, refl, sym, ◌∙◌, ap, subst, ℕ, ◌+◌, ◌≤◌, ◌<◌, Bool, true, false, not, ◌&&◌, ◌||◌, nat_le, nat_lt}
-use Rattle.std.proofs.Common.{if◌then◌else◌, List, [], ◌∷◌, ◌++◌, ◌⊎◌, inl, inr, Ok, arith}
-use Rattle.osi_machine.proofs.Vocabulary.{and_parts, ltb-true, leb-true, lt-ltb, le-leb, eq-eqb, or_left, and_from, not-true, not-false}
-use Rattle.osi_machine.proofs.Vocabulary.{and_right, list_any, State, Phase, Numbers, FunctionalUnits, Ready, MajorAsked, Meaning, DT, GT}
-use Rattle.osi_machine.proofs.Vocabulary.{PT, MIP, MIA, MAP, RS, FN, Token, data_token, minor, major, has, available, has_right, is_ready}
-use Rattle.osi_machine.proofs.Vocabulary.{is_major_asked, is_restarting, is_restart_due, may_ask, may_hold, takes_please, takes_minor_ack}
-use Rattle.osi_machine.proofs.Vocabulary.{takes_restart, lower, point_sent, point_taken, minor_confirmed, becomes, drops, next, Good}
-use Rattle.osi_machine.proofs.Vocabulary.{has_no_effect, passes_restarting, Minor, Major, after, Item, PointKind, Point, points, minor_kind}
-use Rattle.osi_machine.proofs.Vocabulary.{major_point, AreNumberedFrom, is_plain, heard_view, stops, needs_token, Core, answered}
-use Rattle.osi_machine.proofs.Vocabulary.{is_opening, AreConsistent, is_release_due, is_releasing, seen}
+use Rattle.std.proofs.Common.{◌≡◌, refl, sym, ◌∙◌, ap, subst, ℕ, ◌+◌, ◌≤◌, ◌<◌, Bool, true, false, not, ◌&&◌, nat_le, nat_lt, if◌then◌else◌}
+use Rattle.std.proofs.Common.{List, [], ◌∷◌, ◌++◌, ◌⊎◌, inl, inr, Ok, arith}
+use Rattle.osi_machine.proofs.Vocabulary.{and_parts, ltb-true, lt-ltb, eq-eqb, or_left, and_from, not-true, not-false, and_right, list_any}
+use Rattle.osi_machine.proofs.Vocabulary.{State, Phase, Numbers, FunctionalUnits, Ready, MajorAsked, Meaning, DT, GT, PT, MIP, MIA, MAP, RS}
+use Rattle.osi_machine.proofs.Vocabulary.{FN, Token, data_token, minor, major, has, available, has_right, is_ready, is_major_asked}
+use Rattle.osi_machine.proofs.Vocabulary.{is_restarting, is_restart_due, may_ask, may_hold, takes_please, takes_minor_ack, takes_restart}
+use Rattle.osi_machine.proofs.Vocabulary.{lower, point_sent, point_taken, minor_confirmed, becomes, drops, next, Good, has_no_effect}
+use Rattle.osi_machine.proofs.Vocabulary.{passes_restarting, Minor, Major, after, Item, PointKind, Point, points, minor_kind, major_point}
+use Rattle.osi_machine.proofs.Vocabulary.{is_plain, heard_view, stops, needs_token, Core, answered, is_opening, AreConsistent}
+use Rattle.osi_machine.proofs.Vocabulary.{is_release_due, is_releasing, seen}
 use Rattle.osi_machine.proofs.basics.what_holds_in_each_phase.{implied, excluded, by_test}
 use Rattle.osi_machine.proofs.channels.what_every_unit_in_flight_keeps.{heard_flush, heard_sends}
 use Rattle.osi_machine.proofs.channels.a_deaf_side_acts_on_nothing.{not_both}
@@ -20,7 +20,7 @@ use Rattle.osi_machine.proofs.invariant.what_holds_of_both_sides.{flushed, heari
 use Rattle.osi_machine.proofs.invariant.each_step_keeps_one_side.{IsGranted, granted}
 use Rattle.osi_machine.proofs.calls.a_unit_that_changes_no_state.{HasRight, right_of, other_lacks, end_units, none_owed}
 use Rattle.osi_machine.proofs.calls.a_change_of_phase_and_numbers.{Shift, listening_stands, none_never, Sending, sending_stands, IsUnit}
-use Rattle.osi_machine.proofs.calls.a_release_and_its_refusal.{in_phase, good_in, is_ready_is}
+use Rattle.osi_machine.proofs.calls.a_release_and_its_refusal.{in_phase, good_in}
 
 -- ---- what the call changes
 
@@ -45,9 +45,6 @@ still_acks : (p : Phase) (v : Numbers) (n : ℕ) → (not v.answers && (nat_le v
     && (if is_major_asked p then nat_lt (n + 1) (v.next + 1) else nat_lt n (v.next + 1)))) ≡ true
 still_acks p v n h = grind (arith, and_parts, and_from, ltb-true, lt-ltb)
 
-still_below : (b n next : ℕ) → (nat_le b n && (false || nat_le n next)) ≡ true → (nat_le b n && nat_le n (next + 1)) ≡ true
-still_below b n next h = grind (arith, and_parts, leb-true, and_from, le-leb)
-
 point_good : (p : Phase) → IsOpenPhase p → (s : State) (u : Meaning) → has s.held data_token ≡ true → is_plain u ≡ true
     → has_no_effect u ≡ false
     → Good (in_phase Ready s) u → Good (sent_in p s) u
@@ -58,7 +55,7 @@ point_good p k s (PT j o) d pl e g = record { expected = k.please; met = g.met }
 point_good p k s (MIP c n o) d pl e g = grind (arith, not_both, and_parts)
 point_good p k s (MIA n o) d pl e g = record { expected = k.acks; met = (g.met.0, (still_acks p s.numbers n g.met.1.0, tt)) }
 point_good p k s (MAP n o) d pl e g = grind (arith, not_both, and_parts)
-point_good p k s (RS j n w o) d pl e g = search (arith, excluded, still_below)
+point_good p k s (RS j n w o) d pl e g = grind (arith, excluded)
 point_good p k s (FN o) d pl e g = absurd (let a = empty_has s.held data_token g.met.0 in cc)
 point_good p k s _ d pl e g = absurd (let a = g.expected in cc)
 
@@ -73,11 +70,7 @@ point_step p s (DT o) i pl g st = (refl, i)
 point_step p s (GT j) i pl g st = search (arith, united_has, or_left)
 point_step p s (PT j o) i pl g st = (refl, i)
 point_step p s (MIP c n o) i pl g st = grind (arith, not_both, and_parts)
-point_step p s (MIA n o) i pl g st =
-    let a = and_parts (not s.numbers.answers) (nat_le s.numbers.confirmed n && nat_lt n s.numbers.next) g.met.1.0 in (
-      ap (λ (v : Numbers). record s { phase = p; numbers = v }) (same_numbers s.numbers n (not-true s.numbers.answers a.0)),
-      record { phase = i.phase; held = i.held },
-    )
+point_step p s (MIA n o) i pl g st = grind (arith, and_parts, same_numbers, not-true)
 point_step p s (MAP n o) i pl g st = grind (arith, not_both, and_parts)
 point_step p s (RS j n w o) i pl g st = absurd (let t = listening_stands s n (ap is_restarting i.phase) in cc)
 point_step p s (FN o) i pl g st = absurd (let a = empty_has s.held data_token g.met.0 in let b = i.held in cc)
@@ -175,8 +168,7 @@ module _ (w : Core) (a : Points w) (h : Stands w) where
   holding = record { held = holds_data; phase = implied is_ready may_hold refl w.own.session.phase a.phase }
 
   heeds : not (is_restarting heard_here.phase) ≡ true
-  heeds = ap not (excluded may_hold is_restarting refl heard_here.phase
-      (heard_holds data_token w.own.session w.peer.sent holding h.own.fits).phase)
+  heeds = grind (arith, excluded, holding, heard_holds data_token w.own.session w.peer.sent holding h.own.fits)
 
   -- this side has seen all
   all_seen : w.own.view ≡ w.history
@@ -185,32 +177,19 @@ module _ (w : Core) (a : Points w) (h : Stands w) where
   point_sees : (more : List Item) → heard_view w.own.session w.peer.sent (w.own.view ++ more) ≡ w.history ++ more
   point_sees more = grind (arith, nothing_to_see, holding, all_seen)
 
-  own_number : w.own.session.numbers.next ≡ w.own.session.base + points w.history
-  own_number = h.consistent.own.count ∙ ap (λ (v : List Item). w.own.session.base + points v) all_seen
-
-  end_base : here.base ≡ w.own.session.base
-  end_base = (flush_open w.own.session w.peer.sent open_now h.own.fits).base
-
   ends_same : hearing w.peer w.own ≡ there
   ends_same = heard_flush w.peer.session w.own.sent h.peer.fits owed
 
   there_base : there.base ≡ w.own.session.base
-  there_base = sym h.own.meeting.base ∙ end_base
+  there_base = sym h.own.meeting.base ∙ (grind (arith, open_now, flush_open w.own.session w.peer.sent open_now h.own.fits))
 
   same_base : w.peer.session.base ≡ w.own.session.base ⊎ (is_opening w.peer.session.phase ≡ true)
   same_base = by_test (is_opening w.peer.session.phase)
       (λ e. inr e)
       (λ e. inl (sym (flush_open w.peer.session w.own.sent e h.peer.fits).base ∙ there_base))
 
-  heard_number : heard_here.numbers.next ≡ w.own.session.base + points w.history
-  heard_number = search (arith, heard_counted, heard_open, excluded, heeds)
-
   nothing_needed : list_any (needs_token data_token) w.peer.sent ≡ false
   nothing_needed = none_needs data_token w.own.session w.peer.sent holding h.own.fits
-
-  -- if points were taken last here, none is in flight there
-  both_answer : heard_here.numbers.answers ≡ true → there.numbers.answers ≡ false
-  both_answer t = search (arith, ends_same, heard_sends, nothing_needed)
 
   -- ---- the numbers
 
@@ -218,9 +197,9 @@ module _ (w : Core) (a : Points w) (h : Stands w) where
       → n < (if heard_here.numbers.answers then heard_here.numbers.next else heard_here.numbers.confirmed) → n < w.peer.session.numbers.next
   point_below n l from to = by_test heard_here.numbers.answers
       (λ e. let k = rw e at to in
-      other_above w h n same_base (other_saw w h ends_same l (both_answer e))
+      other_above w h n same_base (other_saw w h ends_same l (grind (arith, ends_same, heard_sends, nothing_needed)))
       (subst (λ (b : ℕ). b ≤ n) (heard_open w.own.session w.peer.sent open_now h.own.fits).base from)
-      (subst (λ (m : ℕ). n < m) heard_number k))
+      (subst (λ (m : ℕ). n < m) (grind (arith, heard_counted, heard_open, excluded, heeds)) k))
       (λ e. let k = rw e at to in h.own_counts.below (ap (λ (q : State). not (is_restarting q.phase)) ends_same ∙ ap not l) n from k)
 
   point_other_below : (m : Meaning) (n : ℕ) → passes_restarting m ≡ false → ((s : State) → (becomes s m).numbers ≡ point_taken s.numbers)
@@ -240,11 +219,7 @@ module _ (w : Core) (a : Points w) (h : Stands w) where
       acted : is_restarting there.phase ≡ false → (b : Bool) → n < (if b then there.numbers.confirmed else there.numbers.next)
           → n < w.own.session.numbers.next + 1
       acted l true k = was k
-      acted l false k = search (arith, own_number, other_number, there_base, ends_same)
-
-  point_numbered : (k : PointKind) (octets : List ℕ) → AreNumberedFrom here.base w.history
-      → AreNumberedFrom here.base (w.history ++ Point w.own.session.numbers.next k octets ∷ [])
-  point_numbered k octets p = search (arith, numbered_point, own_number, end_base)
+      acted l false k = search (arith, all_seen, other_number, there_base, ends_same)
 
   -- ---- the other takes it
 
@@ -266,12 +241,12 @@ module _ (w : Core) (a : Points w) (h : Stands w) where
       → Sending w (point_shift p k) m (Point w.own.session.numbers.next kind octets ∷ [])
   unfolding point_sent point_taken
   point_sending p k m kind octets q = record {
-    now = record { phase = is_ready_is w.own.session.phase a.phase; held = holds_data };
+    now = record { phase = grind arith; held = holds_data };
     none = none_never w.peer.sent;
     unit = q.unit;
     shows = q.shows;
-    good = λ l i. q.good (ready i.phase) (own_number ∙ sym (other_number w h there_base ends_same l));
-    meets = λ l i. q.meets (is_ready_is there.phase (ready i.phase));
+    good = λ l i. q.good (ready i.phase) ((grind (arith, all_seen)) ∙ sym (other_number w h there_base ends_same l));
+    meets = λ l i. q.meets (grind arith);
     release = λ s i r. absurd (let n = q.due in cc);
     releasing = λ s i r. absurd (let n = q.asks in cc);
     sees = λ l. point_sees (Point w.own.session.numbers.next kind octets ∷ []);
@@ -282,9 +257,8 @@ module _ (w : Core) (a : Points w) (h : Stands w) where
     other_flag = λ f. refl;
     other_below = λ n from to. point_other_below m n q.unit.waits q.taken from to;
     other_reach = λ f. absurd (cc);
-    numbered = point_numbered kind octets;
-    one_way = λ d. and_right (list_any (needs_token data_token) (w.own.sent ++ m ∷ []))
-        (list_any (needs_token data_token) w.peer.sent) nothing_needed;
+    numbered = grind (arith, numbered_point, all_seen, open_now, flush_open w.own.session w.peer.sent open_now h.own.fits);
+    one_way = grind (arith, and_right, nothing_needed);
   }
     where
       ready : here.phase ≡ Ready → is_ready there.phase ≡ true
@@ -303,11 +277,7 @@ module _ (w : Core) (a : Points w) (h : Stands w) where
       expected = r;
       met = (
         ap (λ (u : FunctionalUnits). u.minor) (sym h.own.meeting.units ∙ own_units) ∙ sel,
-        (
-          and_from (not (has there.held data_token)) (not (has there.held minor)) (there_lacks data_token a.right r)
-              (there_lacks minor right r),
-          (eq-eqb w.own.session.numbers.next there.numbers.next e, tt),
-        ),
+        search (arith, and_from, there_lacks, eq-eqb),
       );
     };
     meets = λ e. subst (λ (q : Phase). matched Ready q ≡ true) (sym e) refl;
@@ -326,24 +296,13 @@ module _ (w : Core) (a : Points w) (h : Stands w) where
       expected = r;
       met = (
         ap (λ (u : FunctionalUnits). u.major) (sym h.own.meeting.units ∙ own_units) ∙ sel,
-        (
-          and_from (not (has there.held data_token)) (not (has there.held minor) && not (has there.held major))
-              (there_lacks data_token a.right r)
-              (and_from (not (has there.held minor)) (not (has there.held major)) (there_lacks minor right r) (there_lacks major right' r)),
-          (eq-eqb w.own.session.numbers.next there.numbers.next e, tt),
-        ),
+        search (arith, and_from, there_lacks, eq-eqb),
       );
     };
     meets = λ e. refl;
     due = refl;
     asks = refl;
   }
-
-ready_open : IsOpenPhase Ready
-ready_open = record { holds = refl; asks = refl; please = refl; acks = refl; restart = refl }
-
-asked_open : IsOpenPhase MajorAsked
-asked_open = record { holds = refl; asks = refl; please = refl; acks = refl; restart = refl }
 
 -- the phase is unchanged
 same_phase : (s : State) → s.phase ≡ Ready → after s (Minor false []) ≡ sent_in Ready s
@@ -354,11 +313,11 @@ pub minor_stands : (w : Core) (confirm : Bool) (octets : List ℕ) → IsGranted
 minor_stands w confirm octets q h =
     let p = and_parts (has_right w.own.session data_token) (has_right w.own.session minor) q.needed.1.0 in
     let a : Points w = record { phase = q.phase; selected = inl q.needed.0; right = right_of w.own.session data_token p.0 } in
-    let same = same_phase w.own.session (is_ready_is w.own.session.phase a.phase) in
+    let same = same_phase w.own.session (grind arith) in
     let m = MIP confirm w.own.session.numbers.next octets in
     subst (λ (s : State). Stands (answered w (Minor confirm octets) (Ok (record { next = s; sent = m })))) (sym same)
-    (sending_stands w (point_shift Ready ready_open) m (Point w.own.session.numbers.next (minor_kind confirm) octets ∷ [])
-    (point_sending w a h Ready ready_open m (minor_kind confirm) octets
+    (sending_stands w (point_shift Ready (grind arith)) m (Point w.own.session.numbers.next (minor_kind confirm) octets ∷ [])
+    (point_sending w a h Ready (grind arith) m (minor_kind confirm) octets
     (minor_point w a h confirm octets q.needed.0 (right_of w.own.session minor p.1))) h
     (subst (λ (s : State). AreConsistent (answered w (Minor confirm octets) (Ok (record { next = s; sent = m })))) same q.kept))
 
@@ -369,6 +328,6 @@ major_stands w octets q h =
     let r = and_parts (has_right w.own.session minor) (has_right w.own.session major) p.1 in
     let a : Points w = record { phase = q.phase; selected = inr q.needed.0; right = right_of w.own.session data_token p.0 } in
     let m = MAP w.own.session.numbers.next octets in
-    sending_stands w (point_shift MajorAsked asked_open) m (Point w.own.session.numbers.next major_point octets ∷ [])
-    (point_sending w a h MajorAsked asked_open m major_point octets
+    sending_stands w (point_shift MajorAsked (grind arith)) m (Point w.own.session.numbers.next major_point octets ∷ [])
+    (point_sending w a h MajorAsked (grind arith) m major_point octets
     (major_point_is w a h octets q.needed.0 (right_of w.own.session minor r.0) (right_of w.own.session major r.1))) h q.kept

@@ -5,7 +5,7 @@ use Rattle.std.proofs.Common.{arith}
 use Rattle.osi_machine.proofs.Vocabulary.{append-nil, and_parts, not-true, or_parts, and_right, list_any, State, Phase, Numbers}
 use Rattle.osi_machine.proofs.Vocabulary.{FunctionalUnits, Ready, Releasing, ReleaseDue, Tokens, Meaning, DT, GT, PT, MIP, MIA, MAP, RS, FN}
 use Rattle.osi_machine.proofs.Vocabulary.{NF, Token, data_token, minor, major, has, available, each, has_right, is_empty, is_within}
-use Rattle.osi_machine.proofs.Vocabulary.{is_disjoint, is_ready, is_releasing, is_release_due, is_restarting, is_restart_due, lower}
+use Rattle.osi_machine.proofs.Vocabulary.{is_disjoint, is_ready, is_releasing, is_release_due, is_restarting, is_restart_due}
 use Rattle.osi_machine.proofs.Vocabulary.{passes_restarting, has_no_effect, may_hold, becomes, next, Good, Release, ReleaseRefuse}
 use Rattle.osi_machine.proofs.Vocabulary.{AreNumberedFrom, turned_owners, is_plain, Fits, AllFit, flush, stops, heard_view, needs_token}
 use Rattle.osi_machine.proofs.Vocabulary.{Core, answered, is_opening}
@@ -19,12 +19,6 @@ use Rattle.osi_machine.proofs.invariant.each_step_keeps_one_side.{IsGranted, gra
 use Rattle.osi_machine.proofs.calls.a_unit_that_changes_no_state.{HasRight, right_of, other_lacks, end_units, list_any_append, none_owed}
 use Rattle.osi_machine.proofs.calls.tokens_that_are_given.{is_empty_of, within_has, disjoint_has}
 use Rattle.osi_machine.proofs.calls.a_change_of_phase_and_numbers.{Shift, listening_stands, none_never, Sending, sending_stands}
-
-pub is_ready_is : (p : Phase) → is_ready p ≡ true → p ≡ Ready
-is_ready_is p h = grind arith
-
-pub is_release_due_is : (p : Phase) → is_release_due p ≡ true → p ≡ ReleaseDue
-is_release_due_is p h = grind arith
 
 -- the same, in another phase
 abbrev pub in_phase : Phase → State → State
@@ -73,9 +67,7 @@ release_good s (MIP c n o) right f p e g = absurd (
     not_both (has s.held minor) l.1 (has_it s minor (right minor) g.met.0))
 release_good s (MIA n o) right f p e g = record { expected = refl; met = g.met }
 release_good s (MAP n o) right f p e g = absurd (
-    let l = and_parts (not (has s.held data_token)) (not (has s.held minor) && not (has s.held major)) g.met.1.0 in
-    let m = and_parts (not (has s.held minor)) (not (has s.held major)) l.1 in
-    not_both (has s.held major) m.1 (has_it s major (right major) g.met.0))
+    grind (arith, not_both, has_it s major (right major) g.met.0))
 release_good s (RS j n w o) right f p e g = record { expected = refl; met = g.met }
 release_good s _ right f p e g = absurd (let a = g.expected in cc)
 
@@ -178,9 +170,7 @@ module _ (w : Core) (a : Asks w) (h : Stands w) where
       (λ e. absurd (
       let r = finish_ends w.own.session w.peer.sent (excluded is_ready is_restarting refl w.own.session.phase a.phase) open_now
       (profile.alone d).2 h.own.fits e in
-      let m = phase_there is_release_due is_releasing refl h.own r in
-      let n = unreleased w.peer.session w.own.sent there h.peer.fits in
-      cc))
+      grind (arith, phase_there is_release_due is_releasing refl h.own r, unreleased w.peer.session w.own.sent there h.peer.fits)))
       (λ e. e)
     where
       profile : IsOfProfile w.own.session.units
@@ -195,25 +185,17 @@ module _ (w : Core) (a : Asks w) (h : Stands w) where
           let units = sym (end_units (turned_owners w.owner) w.peer w.own h.peer
           (excluded is_releasing is_opening refl w.peer.session.phase e))
           ∙ sym h.own.meeting.units ∙ own_units in
-          let c = h.consistent.peer.asker e (ap (λ (v : FunctionalUnits). v.duplex) units ∙ d) in
-          let n = h.pair.callers in
-          let m = here in
-          cc))
+          grind arith))
           (λ e. e)
 
   held_none : has w.own.session.held data_token ≡ true → list_any (needs_token data_token) w.peer.sent ≡ false
-  held_none e = none_needs data_token w.own.session w.peer.sent
-      (record { held = e; phase = implied is_ready may_hold refl w.own.session.phase a.phase }) h.own.fits
+  held_none e = search (arith, none_needs, implied is_ready may_hold refl w.own.session.phase a.phase)
 
   release_one_way : (octets : List ℕ) → (flushed w.own w.peer).units.half_duplex ≡ true
       → (list_any (needs_token data_token) (w.own.sent ++ FN octets ∷ []) && list_any (needs_token data_token) w.peer.sent) ≡ false
   release_one_way octets d = by_either (a.right data_token)
-      (λ e. and_right (list_any (needs_token data_token) (w.own.sent ++ FN octets ∷ [])) (list_any (needs_token data_token) w.peer.sent)
-      (held_none e))
-      (λ e. absurd (
-      let n = no_half w.own.session.units e in
-      let y = ap (λ (v : FunctionalUnits). v.half_duplex) (sym own_units) ∙ d in
-      cc))
+      (grind (arith, and_right, held_none))
+      (grind (arith, no_half, own_units))
 
 -- ---- a call that changes no number
 
@@ -231,9 +213,7 @@ same_numbers w m same waits listens owed h = record {
   numbers = next_cases (λ q. q.numbers ≡ (flushed w.peer w.own).numbers) (flushed w.peer w.own) m (λ d. refl)
       (λ d. same (flushed w.peer w.own)) ∙ ap (λ (q : State). q.numbers) (sym end);
   hears = λ l. ap (λ (q : State). not (is_restarting q.phase)) end ∙ by_test (is_restarting (flushed w.peer w.own).phase)
-      (λ e. ap (λ (q : State). not (is_restarting q.phase))
-      (sym (next_dropped (flushed w.peer w.own) m (dropped (is_restarting (flushed w.peer w.own).phase) (passes_restarting m) e waits)))
-      ∙ l)
+      (grind (arith, next_dropped, flushed))
       (λ e. ap not e);
   heeds = kept_heard (λ (q : State). not (is_restarting q.phase) ≡ true) (λ q u p g. next_hears q u p) w.own.session w.peer.sent
       (ap not listens) h.own.fits;
@@ -251,11 +231,8 @@ release_sending w octets a h =
     let owed : is_restart_due (flushed w.peer w.own).phase ≡ false = none_owed w.owner w.own w.peer h.own listens in
     let n : SameNumbers w (FN octets) = same_numbers w (FN octets) (λ s. refl) refl listens owed h in
     record {
-      now = record { phase = is_ready_is w.own.session.phase a.phase; right = a.right };
-      none = by_either (a.right data_token)
-          (λ e. finish_needs w.peer.sent (held_none w a h e))
-          (λ e. let p = subst IsOfProfile (own_units w a h) h.pair.profile in
-          duplex_none w a h (p.duplex ∙ ap not (no_half w.own.session.units e)));
+      now = record { phase = grind arith; right = a.right };
+      none = grind (arith, by_either, finish_needs, held_none, duplex_none, no_half, a.right data_token, own_units w a h);
       unit = assumption;
       shows = λ s v. sym (append-nil v);
       good = λ l i.
@@ -280,8 +257,7 @@ release_sending w octets a h =
       other_flag = h.peer_counts.flag;
       other_below = λ k from to. h.peer_counts.below n.heeds k (subst (λ (q : State). q.base ≤ k) (sym n.heard) from)
           (subst (λ (v : Numbers). k < v.confirmed) n.numbers to);
-      other_reach = λ f. subst (λ (v : Numbers). lower w.own.session.numbers.next v.confirmed ≤ w.own.session.numbers.confirmed)
-          (sym n.numbers) (h.peer_counts.reach f);
+      other_reach = grind arith;
       numbered = λ p. subst (AreNumberedFrom (flushed w.own w.peer).base) (sym (append-nil w.history)) p;
       one_way = release_one_way w a h octets;
     }
@@ -320,9 +296,6 @@ record Refuses (w : Core) : Type 0 where
   phase : is_release_due w.own.session.phase ≡ true
   selected : w.own.session.units.negotiated_release ≡ true
 
-other_releasing : (w : Core) → Stands w → (flushed w.own w.peer).phase ≡ ReleaseDue → is_releasing (flushed w.peer w.own).phase ≡ true
-other_releasing w h i = phase_there is_release_due is_releasing refl h.own (ap is_release_due i)
-
 refusal_sending : (w : Core) (octets : List ℕ) → Refuses w → Stands w → Sending w refusal_shift (NF octets) []
 refusal_sending w octets a h =
     let listens : is_restarting w.own.session.phase ≡ false = excluded is_release_due is_restarting refl w.own.session.phase a.phase in
@@ -331,14 +304,11 @@ refusal_sending w octets a h =
     let units : (flushed w.peer w.own).units ≡ w.own.session.units = sym h.own.meeting.units
     ∙ end_units w.owner w.own w.peer h.own (excluded is_release_due is_opening refl w.own.session.phase a.phase) in
     record {
-      now = is_release_due_is w.own.session.phase a.phase;
+      now = grind arith;
       none = none_never w.peer.sent;
       unit = assumption;
       shows = λ s v. sym (append-nil v);
-      good = λ l i. record {
-        expected = other_releasing w h i;
-        met = (ap (λ (v : FunctionalUnits). v.negotiated_release) units ∙ a.selected, tt);
-      };
+      good = grind (arith, phase_there);
       meets = λ l i. refl;
       release = λ s i r. absurd (cc);
       releasing = λ s i r. absurd (cc);
@@ -350,14 +320,11 @@ refusal_sending w octets a h =
       other_flag = h.peer_counts.flag;
       other_below = λ k from to. h.peer_counts.below n.heeds k (subst (λ (q : State). q.base ≤ k) (sym n.heard) from)
           (subst (λ (v : Numbers). k < v.confirmed) n.numbers to);
-      other_reach = λ f. subst (λ (v : Numbers). lower w.own.session.numbers.next v.confirmed ≤ w.own.session.numbers.confirmed)
-          (sym n.numbers) (h.peer_counts.reach f);
+      other_reach = grind arith;
       numbered = λ p. subst (AreNumberedFrom (flushed w.own w.peer).base) (sym (append-nil w.history)) p;
-      one_way = λ d. ap (λ (b : Bool). b && list_any (needs_token data_token) w.peer.sent)
-          (list_any_append (needs_token data_token) w.own.sent (NF octets) refl) ∙ h.pair.one_way d;
+      one_way = grind (arith, list_any_append);
     }
 
 pub refuse_stands : (w : Core) (octets : List ℕ) → IsGranted w (ReleaseRefuse octets) → Stands w
     → Stands (answered w (ReleaseRefuse octets) (Ok (granted w.own.session (ReleaseRefuse octets))))
-refuse_stands w octets q h =
-    sending_stands w refusal_shift (NF octets) [] (refusal_sending w octets (record { phase = q.phase; selected = q.needed.0 }) h) h q.kept
+refuse_stands w octets q h = search (arith, sending_stands, refusal_sending w octets (record { phase = q.phase; selected = q.needed.0 }) h)

@@ -1,12 +1,11 @@
 -- The call of RestartConfirm keeps the invariant of both sides.
 -- For each_step_keeps_both_sides.
 use Rattle.std.proofs.Common.{◌≡◌, refl, sym, ◌∙◌, ap, subst, ℕ, true, false, not, ◌&&◌, List, [], ◌∷◌, ◌++◌, Ok, arith}
-use Rattle.osi_machine.proofs.Vocabulary.{append-nil, eq-eqb, and_from, TokenSetting, State, FunctionalUnits, Sides, Ready, Meaning, RA}
-use Rattle.osi_machine.proofs.Vocabulary.{Tokens, Token, has, available, settle, setting_of, of_answerer, is_restarting, is_restart_due}
-use Rattle.osi_machine.proofs.Vocabulary.{may_hold, RestartConfirm, becomes, next, turned_owners, settled_by, Fits, flush, heard, Party}
-use Rattle.osi_machine.proofs.Vocabulary.{Core, answered, AreConsistent}
+use Rattle.osi_machine.proofs.Vocabulary.{append-nil, eq-eqb, and_from, State, Sides, Ready, Meaning, RA, Tokens, Token, has, available}
+use Rattle.osi_machine.proofs.Vocabulary.{settle, setting_of, of_answerer, is_restarting, is_restart_due, may_hold, RestartConfirm, becomes}
+use Rattle.osi_machine.proofs.Vocabulary.{next, turned_owners, settled_by, Fits, flush, heard, Party, Core, answered, AreConsistent}
 use Rattle.osi_machine.proofs.basics.what_holds_in_each_phase.{excluded, implied_two}
-use Rattle.osi_machine.proofs.channels.a_unit_is_dropped_bad_or_acted_on.{none_due, next_acted, and_false}
+use Rattle.osi_machine.proofs.channels.a_unit_is_dropped_bad_or_acted_on.{none_due, and_false}
 use Rattle.osi_machine.proofs.channels.what_every_unit_in_flight_keeps.{fit_append, flush_append, heard_append, view_append, data_append}
 use Rattle.osi_machine.proofs.channels.a_deaf_side_acts_on_nothing.{AllEmpty, all_empty, empty_laws, empty_view, deaf_end, deaf_heard}
 use Rattle.osi_machine.proofs.channels.a_deaf_side_acts_on_nothing.{deaf_view, empty_end, empty_heard}
@@ -73,19 +72,16 @@ module _ (w : Core) (due : is_restart_due w.own.session.phase ≡ true) (s : Sta
   other_wishes : (flushed w.peer w.own).wishes ≡ w.own.session.wishes
   other_wishes = (s.peer.meeting.restart other_waits).1 ∙ ap (λ (r : State). r.wishes) own_end
 
-answer_next : (s : State) (n : ℕ) (t : TokenSetting) (o : List ℕ) → next s (RA n t o) ≡ becomes s (RA n t o)
-answer_next s n t o = next_acted s (RA n t o) (and_false (is_restarting s.phase))
-
 answer_fits : (w : Core) (a : Sides) (o : List ℕ) → is_restart_due w.own.session.phase ≡ true → Stands w
     → Fits (flushed w.peer w.own) (answer w.own.session a o)
 answer_fits w a o due s = search (arith, other_waits, eq-eqb, own_end, other_units, other_wishes, settled_answers)
 
 end_after : (w : Core) (a : Sides) (o : List ℕ) → flush w.peer.session (w.own.sent ++ answer w.own.session a o ∷ []) ≡ restarted w a o
-end_after w a o = grind (arith, flush_append, answer_next, flushed)
+end_after w a o = grind (arith, flush_append, flushed)
 
 heard_after : (w : Core) (a : Sides) (o : List ℕ) → is_restart_due w.own.session.phase ≡ true → Stands w
     → heard w.peer.session (w.own.sent ++ answer w.own.session a o ∷ []) ≡ restarted w a o
-heard_after w a o due s = search (arith, heard_append, other_owes_none, answer_next)
+heard_after w a o due s = grind (arith, heard_append, other_owes_none)
 
 -- ---- tokens
 
@@ -122,12 +118,9 @@ module _ (w : Core) (a : Sides) (o : List ℕ) (due : is_restart_due w.own.sessi
               base = sym s.own.meeting.base ∙ ap (λ (r : State). r.base) (own_end w due s);
               restart = λ k. absurd (cc);
               connect = λ k. absurd (cc);
-              holds = λ t. ap (λ (v : Tokens). has v t) no_tokens ∙ none_held t
-                  ∙ their_held (has (held_by w.own.session a) t) (has (available w.own.session.units) t);
-              wants = λ m t. will_hold w a o t due s ∙ their_wanted (has (held_by w.own.session a) t)
-                  (has (available w.own.session.units) t);
-              absent = λ t z. their_absent (has (held_by w.own.session a) t) (has (available w.own.session.units) t) (there w a t)
-                  (ap (λ (v : FunctionalUnits). has (available v) t) (sym (other_units w due s)) ∙ z);
+              holds = grind (arith, none_held, their_held, available);
+              wants = λ m t. search (arith, will_hold, their_wanted, available);
+              absent = grind (arith, their_absent, available, there, other_units);
               released = λ d. absurd (cc);
             })));
       }

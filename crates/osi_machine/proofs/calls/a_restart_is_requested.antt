@@ -1,28 +1,28 @@
 -- The call of Restart keeps the invariant: its side discards what is in flight to it, but for a restart that takes effect.
 -- For each_step_keeps_both_sides.
-use Rattle.std.proofs.Common.{◌≡◌, refl, ℕ, Bool, true, false, ◌||◌, List, [], ◌∷◌, ◌⊎◌, inl, arith, sym, ◌∙◌, ap, subst, ◌+◌, ◌==◌, ◌≤◌}
-use Rattle.std.proofs.Common.{not, ◌&&◌, nat_le, nat_lt, inr, ◌-◌, ◌++◌, Ok}
+use Rattle.std.proofs.Common.{◌≡◌, refl, ℕ, true, false, ◌||◌, List, [], ◌∷◌, ◌⊎◌, inl, arith, sym, ◌∙◌, ap, subst, ◌+◌, ◌==◌, ◌≤◌, not}
+use Rattle.std.proofs.Common.{◌&&◌, nat_le, nat_lt, inr, ◌-◌, ◌++◌, Ok}
 use Rattle.osi_machine.proofs.Vocabulary.{and_parts, TokenSetting, ResyncType, State, Meaning, RS, is_restarting, is_restart_due}
 use Rattle.osi_machine.proofs.Vocabulary.{passes_restarting, restarted_at, stands, next, Item, Fits, AllFit, flush, stops, heard}
-use Rattle.osi_machine.proofs.Vocabulary.{heard_view, lt-ltb, le-ltb, le-leb, eq-eqb, ne_eqb, cases_order, and_from, not-true}
-use Rattle.osi_machine.proofs.Vocabulary.{FunctionalUnits, Restarting, may_restart, takes_restart, is_connecting, without_tokens, points}
-use Rattle.osi_machine.proofs.Vocabulary.{hears, Core, is_opening, append-nil, leb-true, has, available, is_release_due, is_restartable}
-use Rattle.osi_machine.proofs.Vocabulary.{offered, Restart, IsSound, cutat, Begins, Owner, turned_owner, turned_owners, is_own, is_to_own}
-use Rattle.osi_machine.proofs.Vocabulary.{is_absent, own_to_pool, given_up, Party, answered, AreConsistent}
+use Rattle.osi_machine.proofs.Vocabulary.{heard_view, le-leb, and_from, not-true, Restarting, may_restart, takes_restart, is_connecting}
+use Rattle.osi_machine.proofs.Vocabulary.{without_tokens, points, hears, Core, is_opening, append-nil, leb-true, available, is_restartable}
+use Rattle.osi_machine.proofs.Vocabulary.{Restart, IsSound, cutat, Begins, Owner, turned_owner, turned_owners, is_own, is_to_own, is_absent}
+use Rattle.osi_machine.proofs.Vocabulary.{own_to_pool, given_up, Party, answered}
 use Rattle.osi_machine.proofs.basics.what_holds_in_each_phase.{excluded, if_first, by_test, implied, implied_two}
 use Rattle.osi_machine.proofs.basics.what_a_restart_leaves_of_a_history.{upto_append}
 use Rattle.osi_machine.proofs.channels.a_unit_is_dropped_bad_or_acted_on.{fit_cases, next_dropped, none_due, restart_due, and_false}
 use Rattle.osi_machine.proofs.channels.a_unit_is_dropped_bad_or_acted_on.{next_hears}
 use Rattle.osi_machine.proofs.channels.what_every_unit_in_flight_keeps.{kept_heard, heard_flush, fit_append, flush_append, due_end}
-use Rattle.osi_machine.proofs.channels.what_every_unit_in_flight_keeps.{data_append, lower_second, lower_less, lower_both, heard_turned}
+use Rattle.osi_machine.proofs.channels.what_every_unit_in_flight_keeps.{data_append, lower_second, lower_both, heard_turned, view_append}
+use Rattle.osi_machine.proofs.channels.what_every_unit_in_flight_keeps.{lower_first}
 use Rattle.osi_machine.proofs.channels.a_deaf_side_acts_on_nothing.{AllEmpty, all_empty, empty_laws, empty_view, crossed, restart_kept}
-use Rattle.osi_machine.proofs.channels.a_deaf_side_acts_on_nothing.{restart_next, yielded, stood, deaf_end, heard_restart, view_restart}
+use Rattle.osi_machine.proofs.channels.a_deaf_side_acts_on_nothing.{restart_next, yielded, stood, deaf_end, heard_restart, yielded_view}
 use Rattle.osi_machine.proofs.channels.a_held_token_keeps_units_out.{becomes_open, is_lively, Lively, becomes_lively, flush_open, none_held}
 use Rattle.osi_machine.proofs.channels.a_held_token_keeps_units_out.{heard_open}
 use Rattle.osi_machine.proofs.channels.what_a_side_will_have_seen.{begins_points, listener_count, listener_begins, Grown, heard_grown}
-use Rattle.osi_machine.proofs.invariant.what_holds_of_both_sides.{flushed, hearing, matched, Stands, Meeting, Half, Views, Counting, Counts}
+use Rattle.osi_machine.proofs.invariant.what_holds_of_both_sides.{flushed, hearing, matched, Stands, Half, Views, Counting, Counts}
 use Rattle.osi_machine.proofs.invariant.what_holds_of_both_sides.{IsOfProfile, Pair, phase_there}
-use Rattle.osi_machine.proofs.invariant.each_step_keeps_one_side.{below_if, IsGranted, granted}
+use Rattle.osi_machine.proofs.invariant.each_step_keeps_one_side.{IsGranted, granted}
 use Rattle.osi_machine.proofs.calls.a_unit_that_changes_no_state.{end_units, none_owed, list_any_append}
 use Rattle.osi_machine.proofs.calls.a_change_of_phase_and_numbers.{drops_waiting, listening_stands}
 use Rattle.osi_spdu.specs.declared.fields.ResyncType.TheVariants as resync
@@ -44,22 +44,12 @@ pub record Flow (s r : State) (us : List Meaning) : Type 0 where
 
 -- ---- what comes before a restart is discarded
 
-pub or_true : (b : Bool) → (b || true) ≡ true
-or_true b = grind arith
-
-not_asking : (s : State) → Lively s → is_restarting s.phase ≡ false
-not_asking s h = excluded is_lively is_restarting refl s.phase h
-
 before : (s : State) (u : Meaning) → Lively s → Fits s u → stops s u ≡ false → passes_restarting u ≡ false
 unfolding stands
-before s u h f st = grind (arith, not_asking, and_false)
+before s u h f st = grind (arith, and_false)
 
 next_asks : (s r : State) (u : Meaning) → Asks s r → Fits s u → stops s u ≡ false → Asks (next s u) r
 next_asks s r u a f st = search (arith, excluded, fit_cases, becomes_open, becomes_lively)
-
-flow_before : (s r : State) (u : Meaning) (us : List Meaning) → Asks s r → Fits s u → stops s u ≡ false → Flow (next s u) r us
-    → Flow s r (u ∷ us)
-flow_before s r u us a f st more = search (arith, drops_waiting, before, next_dropped, if_first)
 
 -- ---- the restart
 
@@ -82,7 +72,7 @@ restart_flow s r [] a f = record { fits = tt; heard = refl; view = λ v. refl; e
 restart_flow s r (u ∷ us) a f = by_test (stops s u)
     (λ e. flow_stop s r u us a f.0 e f.1)
     (λ e. let more : (stops s u ≡ false → Flow (next s u) r us) = (λ e. restart_flow (next s u) r us (next_asks s r u a f.0 e) f.1) in
-    flow_before s r u us a f.0 e (more e))
+    grind (arith, drops_waiting, before, next_dropped, if_first))
 
 -- ---- which of two restarts takes effect
 
@@ -90,15 +80,6 @@ asked_stands : (s : State) (n : ℕ) → is_restarting s.phase ≡ true
     → stands s n ≡ (nat_lt n s.numbers.next || ((n == s.numbers.next) && not s.is_caller))
 unfolding stands
 asked_stands s n r = rw r refl
-
--- of two restarts that cross, exactly one takes effect
-of_two : (n m : ℕ) (c : Bool) → (nat_lt m n || ((m == n) && not c)) ≡ not (nat_lt n m || ((n == m) && not (not c)))
-of_two n m c = search (arith, cases_order, le-ltb, eq-eqb, lt-ltb, ne_eqb)
-
-pub one_stands : (s r : State) (n m : ℕ) → is_restarting s.phase ≡ true → is_restarting r.phase ≡ true → s.numbers.next ≡ n
-    → r.numbers.next ≡ m
-    → r.is_caller ≡ not s.is_caller → stands s m ≡ not (stands r n)
-one_stands s r n m a b e f c = grind (arith, asked_stands, of_two)
 
 -- ---- two sides, one of which waits for the answer that the other owes
 
@@ -121,7 +102,7 @@ meets_one a b n w r e f st = subst (Met a) (sym (stood b n w st)) (grind (arith,
 meets_both : (a b : State) (n m : ℕ) (w v : TokenSetting) → is_restarting a.phase ≡ true → a.numbers.next ≡ n → a.wishes ≡ w
     → is_restarting b.phase ≡ true → b.numbers.next ≡ m → b.wishes ≡ v → b.is_caller ≡ not a.is_caller → Met (crossed a m v) (crossed b n w)
 meets_both a b n m w v r e f t g h c =
-    let one : stands a m ≡ not (stands b n) = one_stands a b n m r t e g c in
+    let one : stands a m ≡ not (stands b n) = grind (arith, asked_stands) in
     by_test (stands b n)
     (λ st. subst (λ (q : State). Met q (crossed b n w)) (sym (yielded a m v (one ∙ ap not st))) (meets_one a b n w r e f st))
     (λ st. subst (Met (crossed a m v)) (sym (yielded b n w st)) (turn_met b (crossed a m v) (meets_one b a m v t g h (one ∙ ap not st))))
@@ -220,8 +201,7 @@ module _ (w : Core) (n : ℕ) (t : TokenSetting) (o : List ℕ) (q : Restarts w 
   pub ends_meet : Met end (crossed fy n t)
   unfolding restarted_at
   ends_meet = elim flows.end [
-    | inl e ↦ subst (λ (r : State). Met r (crossed fy n t)) (sym e.1)
-        (meets_one (asked w.own.session n t) fy n t refl refl refl (listening_stands fy n (other_takes e.0).1))
+    | inl e ↦ grind (arith, crossed, meets_one, listening_stands, other_takes)
     | inr e ↦
         let a = other_asked e.0 in
         let same = s.peer.meeting.restart a in
@@ -255,9 +235,6 @@ module _ (w : Core) (n : ℕ) (t : TokenSetting) (o : List ℕ) (q : Restarts w 
   own_units : end.units ≡ w.own.session.units
   own_units = (flush_open (asked w.own.session n t) w.peer.sent refl flows.fits).units
 
-  own_base : end.base ≡ w.own.session.base
-  own_base = (flush_open (asked w.own.session n t) w.peer.sent refl flows.fits).base
-
   was_units : fx.units ≡ w.own.session.units
   was_units = (flush_open w.own.session w.peer.sent begun s.own.fits).units
 
@@ -265,52 +242,45 @@ module _ (w : Core) (n : ℕ) (t : TokenSetting) (o : List ℕ) (q : Restarts w 
 
   own_half : Half (given_up w.owner) asks w.peer
   own_half =
-      let flow : Flow w.own.session (asked w.own.session n t) w.peer.sent = flows in
-      let met : Met end (crossed fy n t) = ends_meet in
-      record {
-        fits = flow.fits;
-        meeting = subst (λ (e : State). Meeting (given_up w.owner) (asked w.own.session n t) end e
-            (heard (asked w.own.session n t) w.peer.sent) w.peer.session) (sym other_end)
-            (subst (λ (e : State). Meeting (given_up w.owner) (asked w.own.session n t) end (crossed fy n t) e w.peer.session)
-            (sym flow.heard) (record {
-              meets = met.meets;
-              units = own_units ∙ sym (crossed_units fy n t ∙ other_units);
-              base = own_base ∙ sym (crossed_base fy n t ∙ other_base);
-              restart = met.restart;
-              connect = λ c. absurd (let e = met.connect in cc);
-              holds = λ k. none_held k ∙ given_own (w.owner k);
-              wants = λ m. absurd (cc);
-              absent = λ k z. given_absent (w.owner k) (s.own.meeting.absent k
-                  (ap (λ (u : FunctionalUnits). has (available u) k) (was_units ∙ sym own_units) ∙ z));
-              released = λ d. absurd (cc);
-            }));
-      }
-
-  -- the other owes no answer to a release
-  no_release : is_release_due (hearing w.peer w.own).phase ≡ true → ⊥
-  no_release d = grind arith
+      grind (
+        arith,
+        flows,
+        crossed,
+        ends_meet,
+        other_end,
+        own_units,
+        crossed_units,
+        other_units,
+        flush_open (asked w.own.session n t) w.peer.sent refl flows.fits,
+        crossed_base,
+        other_base,
+        none_held,
+        given_own,
+        given_absent,
+        available,
+        was_units,
+      )
 
   peer_half : Half (turned_owners (given_up w.owner)) w.peer asks
   peer_half =
-      let end : State = end in
-      let met : Met end (crossed fy n t) = ends_meet in
-      record {
-        fits = fit_append w.peer.session w.own.sent (RS resync.Restart n t o) s.peer.fits restart_fits;
-        meeting = subst (λ (e : State). Meeting (turned_owners (given_up w.owner)) w.peer.session e end
-            (heard w.peer.session (w.own.sent ++ RS resync.Restart n t o ∷ [])) (asked w.own.session n t)) (sym other_end)
-            (subst (λ (e : State). Meeting (turned_owners (given_up w.owner)) w.peer.session (crossed fy n t) end e
-            (asked w.own.session n t)) (sym other_before) (record {
-              meets = met.turned;
-              units = sym (own_units ∙ sym (crossed_units fy n t ∙ other_units));
-              base = sym (own_base ∙ sym (crossed_base fy n t ∙ other_base));
-              restart = met.back;
-              connect = λ c. absurd (let e = met.other_connect in cc);
-              holds = λ k. s.peer.meeting.holds k ∙ given_theirs (w.owner k);
-              wants = λ m k. s.peer.meeting.wants m k ∙ given_wanted (w.owner k);
-              absent = λ k z. grind arith;
-              released = λ d. absurd (no_release d);
-            }));
-      }
+      grind (
+        arith,
+        crossed,
+        ends_meet,
+        fit_append,
+        restart_fits,
+        other_end,
+        other_before,
+        own_units,
+        crossed_units,
+        other_units,
+        flows,
+        flush_open (asked w.own.session n t) w.peer.sent refl flows.fits,
+        crossed_base,
+        other_base,
+        given_theirs,
+        given_wanted,
+      )
 
   -- ---- what was seen
 
@@ -319,7 +289,7 @@ module _ (w : Core) (n : ℕ) (t : TokenSetting) (o : List ℕ) (q : Restarts w 
   own_views = grind (arith, flows, same_cut, listener_begins, own_hears, append-nil, was_units, own_units)
 
   peer_views : Views (w.history ++ []) w.peer asks
-  peer_views = grind (arith, view_restart, not_due, other_before, append-nil, due_end, crossed_units, other_end, data_append)
+  peer_views = search (arith, view_append, yielded_view, not_due, other_before, append-nil, due_end, crossed_units, other_end, data_append)
 
   -- ---- the numbers
 
@@ -343,7 +313,7 @@ module _ (w : Core) (n : ℕ) (t : TokenSetting) (o : List ℕ) (q : Restarts w 
         reach = λ f.
             let up = lower_second n w.own.session.numbers.confirmed in
             let grew = grown.from in
-            lower_less w.peer.session.numbers.next _ _ w.peer.session.numbers.confirmed (omega arith) (s.own_counts.reach f);
+            grind (arith, lower_first, lower_second);
       }))
 
   peer_counts : Counts w.peer asks
@@ -365,27 +335,24 @@ module _ (w : Core) (n : ℕ) (t : TokenSetting) (o : List ℕ) (q : Restarts w 
   pair_kept : Pair (w.history ++ []) asks w.peer
   pair_kept =
       let was : fx.base ≡ w.own.session.base = (flush_open w.own.session w.peer.sent begun s.own.fits).base in
-      let same : fx.units ≡ end.units = was_units ∙ sym own_units in
-      grind (arith, asked, append-nil, own_base, list_any_append, IsOfProfile)
+      grind (arith, asked, append-nil, flows, flush_open, list_any_append, IsOfProfile, was_units, own_units)
 
 -- ---- the call
 
-all_kept : (w : Core) (n : ℕ) (wishes : TokenSetting) (o : List ℕ) → Restarts w n → Stands w
-    → AreConsistent (answered w (Restart n wishes o)
-    (Ok (record {
-      next = asked w.own.session n (offered w.own.session.units wishes);
-      sent = RS resync.Restart n (offered w.own.session.units wishes) o;
-    })))
-    → Stands (answered w (Restart n wishes o) (Ok
-    (record {
-      next = asked w.own.session n (offered w.own.session.units wishes);
-      sent = RS resync.Restart n (offered w.own.session.units wishes) o;
-    })))
-all_kept w n wishes o q s c = search (arith, own_half, peer_half, own_views, peer_views, own_counts, peer_counts, pair_kept)
-
 pub in_range : (s : State) (n : ℕ) → IsSound s → is_restartable s n ≡ true → (s.base ≤ n) × (n ≤ s.numbers.next)
-in_range s n sound h = grind (arith, and_parts, leb-true, below_if)
+in_range s n sound h = grind (arith, and_parts, leb-true)
 
 pub restart_stands : (w : Core) (n : ℕ) (wishes : TokenSetting) (o : List ℕ) → IsGranted w (Restart n wishes o) → Stands w
     → Stands (answered w (Restart n wishes o) (Ok (granted w.own.session (Restart n wishes o))))
-restart_stands w n wishes o p s = grind (arith, all_kept, in_range w.own.session n s.consistent.own.sound p.needed.1.0)
+restart_stands w n wishes o p s =
+    search (
+      arith,
+      own_half,
+      peer_half,
+      own_views,
+      peer_views,
+      own_counts,
+      peer_counts,
+      pair_kept,
+      in_range w.own.session n s.consistent.own.sound p.needed.1.0,
+    )

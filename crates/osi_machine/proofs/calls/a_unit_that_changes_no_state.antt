@@ -4,10 +4,10 @@ use Rattle.std.proofs.Common.{◌≡◌, refl, sym, ◌∙◌, ap, subst, ℕ, B
 use Rattle.std.proofs.Common.{arith, ◌+◌, if◌then◌else◌, Ok, append_assoc}
 use Rattle.osi_machine.proofs.Vocabulary.{list_any, State, FunctionalUnits, Meaning, DT, PT, Tokens, Token, data_token, has, available}
 use Rattle.osi_machine.proofs.Vocabulary.{has_right, is_within, is_ready, may_ask, may_hold, takes_data, takes_please, is_restarting}
-use Rattle.osi_machine.proofs.Vocabulary.{is_restart_due, becomes, Item, Owners, Owner, turned_owner, turned_owners, is_own, is_to_own}
-use Rattle.osi_machine.proofs.Vocabulary.{is_absent, seen, Fits, AllFit, flush, heard, hears, heard_view, Party, is_opening, not_from_false}
-use Rattle.osi_machine.proofs.Vocabulary.{append-nil, Data, Octets, Point, cutat, AreNumberedFrom, data_of, Core, answered, IsConsistent}
-use Rattle.osi_machine.proofs.Vocabulary.{AreConsistent, and_from, not-true, and_right, Please, needs_token}
+use Rattle.osi_machine.proofs.Vocabulary.{is_restart_due, becomes, Item, Owners, turned_owners, seen, Fits, AllFit, flush, heard, hears}
+use Rattle.osi_machine.proofs.Vocabulary.{heard_view, Party, is_opening, not_from_false, append-nil, Data, Octets, Point, cutat}
+use Rattle.osi_machine.proofs.Vocabulary.{AreNumberedFrom, data_of, Core, answered, IsConsistent, AreConsistent, and_from, not-true}
+use Rattle.osi_machine.proofs.Vocabulary.{and_right, Please}
 use Rattle.osi_machine.proofs.basics.what_holds_in_each_phase.{implied, excluded, if_first, by_either, implied_two}
 use Rattle.osi_machine.proofs.basics.what_a_restart_leaves_of_a_history.{cut_append}
 use Rattle.osi_machine.proofs.channels.a_unit_is_dropped_bad_or_acted_on.{next_cases, next_hears}
@@ -61,12 +61,6 @@ HasRight s t = (has s.held t ≡ true) ⊎ (has (available s.units) t ≡ false)
 pub right_of : (s : State) (t : Token) → has_right s t ≡ true → HasRight s t
 right_of s t h = grind arith
 
-own_not_theirs : (o : Owner) → is_own o ≡ true → (is_own (turned_owner o) || is_to_own (turned_owner o)) ≡ false
-own_not_theirs o h = grind arith
-
-absent_not_theirs : (o : Owner) → is_absent o ≡ true → (is_own (turned_owner o) || is_to_own (turned_owner o)) ≡ false
-absent_not_theirs o h = grind arith
-
 pub end_units : (o : Owners) (x y : Party) → Half o x y → is_opening x.session.phase ≡ false → (flushed x y).units ≡ x.session.units
 end_units o x y h p = (flush_open x.session y.sent p h.fits).units
 
@@ -74,14 +68,7 @@ end_units o x y h p = (flush_open x.session y.sent p h.fits).units
 pub other_lacks : (o : Owners) (x y : Party) (t : Token) → Half o x y → Half (turned_owners o) y x → is_opening x.session.phase ≡ false
     → HasRight x.session t
     → is_restart_due (flushed y x).phase ≡ false → may_hold (flushed y x).phase ≡ true → has (flushed y x).held t ≡ false
-other_lacks o x y t h k p right due hold =
-    let same = heard_flush y.session x.sent k.fits due in
-    let may = subst (λ (r : State). may_hold r.phase ≡ true) (sym same) hold in
-    let want = k.meeting.wants may t in
-    let all = subst (λ (r : State). has r.held t ≡ (is_own (turned_owner (o t)) || is_to_own (turned_owner (o t)))) same want in
-    all ∙ by_either right
-    (λ e. own_not_theirs (o t) (sym (h.meeting.holds t) ∙ e))
-    (λ e. absent_not_theirs (o t) (h.meeting.absent t (ap (λ (u : FunctionalUnits). has (available u) t) (end_units o x y h p) ∙ e)))
+other_lacks o x y t h k p right due hold = grind (arith, by_either, available, h.meeting.holds t, end_units o x y h p, heard_flush)
 
 -- ---- Data
 
@@ -105,9 +92,7 @@ pub other_takes_data : (o : Owners) (x y : Party) → Half o x y → IsOfProfile
 other_takes_data o x y h p ready right listens =
     elim (ends_talking x.session y.sent (talks o x y h p ready right) h.fits) [
       | inl t ↦ phase_there is_talking takes_data refl h t.phase
-      | inr due ↦ absurd (
-          let r = phase_there is_restart_due is_restarting refl h due in
-          cc)
+      | inr due ↦ grind (arith, phase_there)
     ]
 
 restarting_of : (b : Bool) → (false || (b && true)) ≡ false → b ≡ false
@@ -122,14 +107,7 @@ data_fits o x y octets h k p ready right = record {
       let takes = other_takes_data o x y h p ready right listens in
       let due = excluded takes_data is_restart_due refl (flushed y x).phase takes in
       let hold = implied takes_data may_hold refl (flushed y x).phase takes in
-      record {
-        expected = takes;
-        met = (
-          not_from_false (has (flushed y x).held data_token)
-              (other_lacks o x y data_token h k (excluded is_ready is_opening refl x.session.phase ready) right due hold),
-          tt,
-        );
-      };
+      search (arith, not_from_false, other_lacks, flushed y x, excluded is_ready is_opening refl x.session.phase ready);
 }
 
 -- ---- Please
@@ -141,8 +119,7 @@ please_fits o x y tokens octets h asks within = record {
   good = λ d. record {
     expected = by_either (ends_lively x.session y.sent (implied may_ask is_lively refl x.session.phase asks) h.fits)
         (λ t. phase_there is_lively takes_please refl h t)
-        (λ due. absurd (dropped _ _ d
-        (phase_there is_restart_due is_restarting refl h due)));
+        (grind (arith, phase_there));
     met = (all, tt);
   };
 }
@@ -274,11 +251,7 @@ peer_views o h x y octets a b ready c more k = record {
         × (h ++ added x.session octets ≡ [])
     streams d =
         let old = k.stream (ap (λ (u : FunctionalUnits). u.duplex) units ∙ d) in
-        let one : y.got ++ data_of (x.sent ++ DT octets ∷ []) ≡ y.got ++ (data_of x.sent ++ octets ∷ []) =
-        ap (λ (r : List (List ℕ)). y.got ++ r) (data_append x.sent (DT octets ∷ [])) in
-        let two : y.got ++ (data_of x.sent ++ octets ∷ []) ≡ x.said ++ octets ∷ [] =
-        sym (append_assoc y.got (data_of x.sent) (octets ∷ [])) ∙ ap (λ (r : List (List ℕ)). r ++ octets ∷ []) old.0 in
-        (one ∙ two ∙ some_spoken x.session.units.duplex x.said octets d, none_added x.session.units.duplex h (Octets octets) d old.1)
+        grind (arith, data_append, append_assoc, some_spoken, none_added)
 
 -- ---- both at once
 
@@ -292,8 +265,7 @@ pair_kept : (o : Owners) (h : List Item) (x y : Party) (octets : List ℕ) → H
 pair_kept o h x y octets a ready right p = record {
   numbered = numbered_octets x.session.units.duplex (flushed x y).base h octets p.numbered;
   one_way = λ d. by_either right
-      (λ held. and_right _ _ (none_needs data_token x.session y.sent
-      (record { held = held; phase = implied is_ready may_hold refl x.session.phase ready }) a.fits))
+      (search (arith, and_right, none_needs, implied is_ready may_hold refl x.session.phase ready))
       (λ none. absurd (half_of x.session.units none
       (sym (ap (λ (u : FunctionalUnits). u.half_duplex) (end_units o x y a (excluded is_ready is_opening refl x.session.phase ready)))
       ∙ d)));
@@ -324,8 +296,7 @@ data_stands w octets ready has h c =
       own_views = own_views w.history (w.history ++ added x.session octets) x y (DT octets) v said (idle octets) h.own.fits
           (listens_of x ready) (excluded is_ready is_restart_due refl x.session.phase ready)
           (own_sees w.history x y octets h.own.fits p ready right h.own_views)
-          (λ d. none_added x.session.units.duplex w.history (Octets octets) (sym (ap (λ (u : FunctionalUnits). u.duplex) units) ∙ d)
-          (h.own_views.stream d).1)
+          (grind (arith, none_added))
           h.own_views;
       peer_views = peer_views w.owner w.history x y octets h.own h.peer ready h.consistent.peer more h.peer_views;
       own_counts = own_counts x y (DT octets) v said (idle octets) h.peer.fits more h.own_counts;
@@ -362,11 +333,5 @@ please_stands w tokens octets asks within h c =
       peer_views = please_peer_views w.history x y tokens octets h.peer.fits more h.peer_views;
       own_counts = own_counts x y m (x.view ++ []) (x.said ++ []) (please_idle tokens octets) h.peer.fits more h.own_counts;
       peer_counts = peer_counts x y m (x.view ++ []) (x.said ++ []) (please_idle tokens octets) h.peer.fits more h.peer_counts;
-      pair = record {
-        numbered = subst (AreNumberedFrom (flushed x y).base) (sym (append-nil w.history)) h.pair.numbered;
-        one_way = λ d. ap (λ (b : Bool). b && list_any (needs_token data_token) y.sent)
-            (list_any_append (needs_token data_token) x.sent (PT tokens octets) refl) ∙ h.pair.one_way d;
-        callers = h.pair.callers;
-        profile = h.pair.profile;
-      };
+      pair = grind (arith, flushed, append-nil, list_any_append);
     }

@@ -6,7 +6,7 @@ use Rattle.osi_spdu.specs.declared.settings.TokenSetting.{TokenSetting}
 use Rattle.osi_spdu.specs.declared.settings.Wish.{Wish}
 use Rattle.osi_spdu.specs.declared.settings.Side.{Side}
 use Rattle.osi_spdu.specs.Fields.{wish_of}
-use Rattle.osi_session.specs.Sides.{wish_for, sides_by, settled, stated_side, allows}
+use Rattle.osi_session.specs.Sides.{wish_for, settled, allows}
 use Rattle.osi_machine.proofs.Vocabulary.{FunctionalUnits, Sides, Token, data_token, minor, major, release, has, each, available, side_for}
 use Rattle.osi_machine.proofs.Vocabulary.{is_asker, settle, stated, setting_of, of_asker, of_answerer, answers_wishes, Owner, Own, ToThem}
 use Rattle.osi_machine.proofs.Vocabulary.{Absent, turned_owner, is_own, is_to_own, is_absent, append-nil, and_parts, and_from, agreed_base}
@@ -17,36 +17,25 @@ use Rattle.osi_machine.proofs.Vocabulary.{Party, Core, answered, is_opening, IsF
 use Rattle.osi_machine.proofs.basics.what_holds_in_each_phase.{implied, excluded, implied_two, if_first}
 use Rattle.osi_machine.proofs.channels.a_unit_is_dropped_bad_or_acted_on.{next_acted}
 use Rattle.osi_machine.proofs.channels.what_every_unit_in_flight_keeps.{fit_append, flush_append, heard_append, view_append, data_append}
-use Rattle.osi_machine.proofs.channels.a_deaf_side_acts_on_nothing.{AllEmpty, all_empty, empty_laws, empty_view, none_answering, waiting}
-use Rattle.osi_machine.proofs.channels.a_deaf_side_acts_on_nothing.{empty_end, empty_heard}
+use Rattle.osi_machine.proofs.channels.a_deaf_side_acts_on_nothing.{AllEmpty, all_empty, empty_laws, empty_view, waiting, empty_end}
+use Rattle.osi_machine.proofs.channels.a_deaf_side_acts_on_nothing.{empty_heard}
 use Rattle.osi_machine.proofs.channels.a_held_token_keeps_units_out.{has_set, none_held}
 use Rattle.osi_machine.proofs.invariant.what_holds_of_both_sides.{flushed, hearing, Meeting, Half, Views, Counts, IsOfProfile, Pair, Stands}
 use Rattle.osi_machine.proofs.invariant.what_holds_of_both_sides.{profile_of, profile_data, within_duplex, within_half, within_both}
-use Rattle.osi_machine.proofs.invariant.what_holds_of_both_sides.{same_first}
 use Rattle.osi_machine.proofs.invariant.each_step_keeps_one_side.{IsGranted, granted}
 use Rattle.osi_machine.proofs.calls.a_unit_that_changes_no_state.{list_any_append}
 
 -- ---- a side for each token
 
-side_by : (f : Token → Side) (t : Token) → side_for (sides_by f) t ≡ f t
-side_by f t = grind arith
-
 settle_side : (u : FunctionalUnits) (w : TokenSetting) (a : Sides) (t : Token)
     → side_for (settle u w a) t ≡ settled (has (available u) t) (wish_for w t) (side_for a t)
 unfolding settle
-settle_side u w a t = side_by (λ t. settled (has (available u) t) (wish_for w t) (side_for a t)) t
-
-setting_wish : (s : Sides) (t : Token) → wish_for (setting_of s) t ≡ wish_of (side_for s t)
-setting_wish s t = grind arith
-
--- what is settled is stated unchanged
-named : (b : Bool) (w : Wish) (s : Side) → stated_side b (wish_of (settled b w s)) ≡ settled b w s
-named b w s = grind arith
+settle_side u w a t = grind arith
 
 stated_settled : (u : FunctionalUnits) (w : TokenSetting) (a : Sides) (t : Token)
     → side_for (stated u (setting_of (settle u w a))) t ≡ side_for (settle u w a) t
 unfolding stated
-stated_settled u w a t = grind (arith, side_by, setting_wish, settle_side, named)
+stated_settled u w a t = grind (arith, settle_side)
 
 -- and answers each wish
 one_allowed : (b : Bool) (w : Wish) (s : Side) → allows b w (wish_of (settled b w s)) ≡ true
@@ -57,7 +46,7 @@ each_of p h = let a = h data_token in let b = h minor in let c = h major in let 
 
 pub settled_answers : (u : FunctionalUnits) (w : TokenSetting) (a : Sides) → answers_wishes u w (setting_of (settle u w a)) ≡ true
 unfolding answers_wishes
-settled_answers u w a = search (arith, each_of, setting_wish, settle_side, one_allowed)
+settled_answers u w a = search (arith, each_of, settle_side, one_allowed)
 
 -- ---- the tokens of either side
 
@@ -140,7 +129,7 @@ connected w u n a z o = becomes (flushed w.peer w.own) (acceptance w.own.session
 
 module _ (w : Core) (u : ℕ) (q : Accepts w u) where
   none_under_way : AllEmpty w.peer.sent
-  none_under_way = grind (arith, all_empty, none_answering, excluded)
+  none_under_way = grind (arith, all_empty, excluded)
 
   own_end : flushed w.own w.peer ≡ w.own.session
   own_end = empty_end w.own.session w.peer.sent none_under_way
@@ -164,9 +153,6 @@ module _ (w : Core) (u : ℕ) (q : Accepts w u) where
   other_units = sym q.all.own.meeting.units ∙ ap (λ (r : State). r.units) own_end
 
 module _ (w : Core) (u : ℕ) where
-  other_wishes : Accepts w u → (flushed w.peer w.own).wishes ≡ w.own.session.wishes
-  other_wishes q = (q.all.peer.meeting.connect (other_waits w u q)).0 ∙ ap (λ (r : State). r.wishes) (own_end w u q)
-
   other_fresh : Accepts w u → IsFresh w.peer
   other_fresh q = q.all.consistent.peer.fresh (implied is_connecting is_opening refl w.peer.session.phase (other_connects w u q))
 
@@ -177,11 +163,11 @@ module _ (w : Core) (u : ℕ) where
 
   agreed_first : (n : ℕ) → Accepts w u → agreed_base (both_units (flushed w.peer w.own).units (functional_units u))
       (serial_for (functional_units u) n) (flushed w.peer w.own).proposed ≡ base_for (functional_units u) n
-  agreed_first n q = search (arith, agreed_units, same_first)
+  agreed_first n q = grind (arith, agreed_units)
 
   accept_fits : (n : ℕ) (a : Sides) (z : TsduMaximumSize) (o : List ℕ) → Accepts w u
       → are_sizes (answered_sizes w.own.session.sizes z) ≡ true → Fits (flushed w.peer w.own) (acceptance w.own.session u n a z o)
-  accept_fits n a z o q k = search (arith, other_waits, and_from, agreed_units, profile_data, other_wishes, settled_answers)
+  accept_fits n a z o q k = grind (arith, other_waits, and_from, agreed_units, profile_data, own_end, settled_answers)
 
   accept_kept : Accepts w u → (is_restarting (flushed w.peer w.own).phase && true) ≡ false
   accept_kept q = ap (λ (b : Bool). b && true) (excluded is_connecting is_restarting refl (flushed w.peer w.own).phase (other_waits w u q))
@@ -202,10 +188,6 @@ module _ (w : Core) (u : ℕ) where
 
   there : (a : Sides) (t : Token) → has (held_by w.own.session u a) t ≡ true → has (available (functional_units u)) t ≡ true
   there a t h = answerer_there (functional_units u) (settle (functional_units u) w.own.session.wishes a) t h
-
-  will_hold : (n : ℕ) (a : Sides) (z : TsduMaximumSize) (o : List ℕ) (t : Token) → Accepts w u
-      → has (connected w u n a z o).held t ≡ (has (available (functional_units u)) t && not (has (held_by w.own.session u a) t))
-  will_hold n a z o t q = search (arith, agreed_units, asker_holds)
 
   -- ---- the two halves
 
@@ -236,12 +218,9 @@ module _ (w : Core) (u : ℕ) where
               base = agreed_first n q;
               restart = λ k. absurd (cc);
               connect = λ k. absurd (cc);
-              holds = λ t. ap (λ (v : Tokens). has v t) no_tokens ∙ none_held t
-                  ∙ their_held (has (held_by w.own.session u a) t) (has (available (functional_units u)) t);
-              wants = λ h t. will_hold n a z o t q ∙ their_wanted (has (held_by w.own.session u a) t)
-                  (has (available (functional_units u)) t);
-              absent = λ t k. their_absent (has (held_by w.own.session u a) t) (has (available (functional_units u)) t) (there a t)
-                  (ap (λ (v : FunctionalUnits). has (available v) t) (sym (agreed_units q)) ∙ k);
+              holds = grind (arith, none_held, their_held, available);
+              wants = λ h t. search (arith, agreed_units, asker_holds, their_wanted, available);
+              absent = grind (arith, their_absent, available, there, agreed_units);
               released = λ d. absurd (cc);
             })));
       }

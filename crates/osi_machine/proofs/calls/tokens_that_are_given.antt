@@ -6,15 +6,15 @@ use Rattle.osi_machine.proofs.Vocabulary.{and_parts, or_left, and_from, not-true
 use Rattle.osi_machine.proofs.Vocabulary.{data_token, minor, major, release, has, some, is_empty, is_within, is_disjoint, without, united}
 use Rattle.osi_machine.proofs.Vocabulary.{available, lacks, may_ask, is_restart_due, becomes, stands, Good, Item, Fits, stops, view_next}
 use Rattle.osi_machine.proofs.Vocabulary.{append-nil, FunctionalUnits, may_give, may_hold, is_restarting, Give, drops, next, Owner, ToThem}
-use Rattle.osi_machine.proofs.Vocabulary.{turned_owner, turned_owners, is_own, is_to_own, is_absent, passed_to, flush, heard, heard_view}
-use Rattle.osi_machine.proofs.Vocabulary.{Party, Core, answered, is_opening, AreConsistent}
+use Rattle.osi_machine.proofs.Vocabulary.{turned_owner, turned_owners, is_own, is_to_own, passed_to, flush, heard, heard_view, Party, Core}
+use Rattle.osi_machine.proofs.Vocabulary.{answered, is_opening, AreConsistent}
 use Rattle.osi_machine.proofs.basics.what_holds_in_each_phase.{excluded, cut_or, implied, by_either}
 use Rattle.osi_machine.proofs.channels.a_unit_is_dropped_bad_or_acted_on.{next_acted, restart_due, due_next, next_cases, next_dropped}
 use Rattle.osi_machine.proofs.channels.what_every_unit_in_flight_keeps.{Steps, fit_append, flush_append, heard_flush, heard_append}
 use Rattle.osi_machine.proofs.channels.what_every_unit_in_flight_keeps.{data_append, Runs, alike, alike_view}
 use Rattle.osi_machine.proofs.channels.a_held_token_keeps_units_out.{each_has, empty_has, united_has, without_has}
-use Rattle.osi_machine.proofs.invariant.what_holds_of_both_sides.{flushed, hearing, Meeting, Half, Views, IsOfProfile, Stands, Like, like}
-use Rattle.osi_machine.proofs.invariant.what_holds_of_both_sides.{itself, Tokens_of, retoken, recount, phase_there}
+use Rattle.osi_machine.proofs.invariant.what_holds_of_both_sides.{flushed, hearing, Meeting, Half, Views, Stands, Like, like, itself}
+use Rattle.osi_machine.proofs.invariant.what_holds_of_both_sides.{Tokens_of, retoken, recount, phase_there}
 use Rattle.osi_machine.proofs.calls.a_unit_that_changes_no_state.{end_units, other_lacks, view_idle, list_any_append, none_owed}
 use Rattle.osi_machine.proofs.calls.an_answer_settles_the_tokens.{each_of}
 
@@ -53,20 +53,13 @@ still_lacks k s t h = grind (arith, without_has)
 two_lack : (a b c d : Bool) → (a ≡ true → c ≡ true) → (b ≡ true → d ≡ true) → (a && b) ≡ true → (c && d) ≡ true
 two_lack a b c d f g h = let p = and_parts a b h in let q = f p.0 in let r = g p.1 in rw (q, r) refl
 
-still_disjoint : (k j : Tokens) (s : State) → is_disjoint j s.held ≡ true → is_disjoint j (without s.held k) ≡ true
-still_disjoint k j s h = grind (arith, disjoint_of, disjoint_has, without_has)
-
-still_empty : (k : Tokens) (s : State) → is_empty s.held ≡ true → is_empty (without s.held k) ≡ true
-still_empty k s h = is_empty_of (without s.held k)
-    (λ t. without_has s.held k t ∙ ap (λ (b : Bool). b && not (has k t)) (empty_has s.held t h))
-
 -- a good unit stays good
 fewer_good : (k : Tokens) (s : State) (u : Meaning) → Good s u → Good (less k s) u
 fewer_good k s (DT o) g = record { expected = g.expected; met = (still_lacks k s data_token g.met.0, tt) }
-fewer_good k s (GT j) g = grind (arith, and_parts, and_from, still_disjoint)
+fewer_good k s (GT j) g = grind (arith, and_parts, and_from, disjoint_of, disjoint_has, without_has)
 fewer_good k s (MIP c n o) g = search (arith, two_lack, still_lacks)
 fewer_good k s (MAP n o) g = search (two_lack, still_lacks)
-fewer_good k s (FN o) g = record { expected = g.expected; met = (still_empty k s g.met.0, tt) }
+fewer_good k s (FN o) g = record { expected = g.expected; met = (grind (arith, is_empty_of, without, without_has, empty_has), tt) }
 fewer_good k s _ g = record { expected = g.expected; met = g.met }
 
 -- ---- what is in flight to it
@@ -84,16 +77,10 @@ Fewer k s r = ((r ≡ less k s) × Gives k s) ⊎ ((r ≡ s) × (is_restart_due 
 gives_something : (k : Tokens) (s : State) → Gives k s → is_empty s.held ≡ true → ⊥
 gives_something k s h e = grind (arith, is_empty_of, empty_has)
 
-swap : (a b c : Bool) → (b ≡ true → a ≡ true) → (c && a) ≡ false → (a && not b || c) ≡ ((a || c) && not b)
-swap a b c f g = grind arith
-
 -- giving and getting other tokens, in either order
 given_and_got : (k j : Tokens) (s : State) → Gives k s → is_disjoint j s.held ≡ true
     → united (without s.held k) j ≡ without (united s.held j) k
-given_and_got k j s h d = tokens_same _ _ (λ t.
-    united_has (without s.held k) j t ∙ ap (λ (b : Bool). b || has j t) (without_has s.held k t)
-    ∙ swap (has s.held t) (has k t) (has j t) (h.all t) (disjoint_has j s.held t d)
-    ∙ sym (without_has (united s.held j) k t ∙ ap (λ (b : Bool). b && not (has k t)) (united_has s.held j t)))
+given_and_got k j s h d = tokens_same _ _ (search (arith, united_has, without, without_has, disjoint_has, united))
 
 -- what such a unit leaves
 fewer_becomes : (k : Tokens) (s : State) (u : Meaning) → Fits s u → Good s u → stops s u ≡ false → Gives k s
@@ -122,8 +109,7 @@ unfolding stands
 less_shows k s u v = grind arith
 
 pub fewer_shows : (k : Tokens) (s r : State) (u : Meaning) (v : List Item) → Fewer k s r → view_next r u v ≡ view_next s u v
-fewer_shows k s r u v (inl (e, h)) = ap (λ (q : State). view_next q u v) e ∙ less_shows k s u v
-fewer_shows k s r u v (inr (e, d)) = ap (λ (q : State). view_next q u v) e
+fewer_shows k s r u v h = grind (arith, less_shows)
 
 -- everything except the tokens is the same
 pub but_held : (k : Tokens) (s r : State) → Fewer k s r → r ≡ record s { held = r.held }
@@ -163,12 +149,9 @@ runs w k g h = alike (Fewer k) (fewer_step k) w.own.session (less k w.own.sessio
 
 -- ---- the unit fits
 
-dropped_not : (e r : Bool) → (e || (r && true)) ≡ false → r ≡ true → ⊥
-dropped_not e r h k = grind arith
-
 other_asks : (w : Core) (k : Tokens) → Giving w k → Half w.owner w.own w.peer → drops (flushed w.peer w.own) (GT k) ≡ false
     → may_ask (flushed w.peer w.own).phase ≡ true
-other_asks w k g h d = grind (arith, by_either, phase_there, dropped_not, runs w k g h)
+other_asks w k g h d = grind (arith, by_either, phase_there, runs w k g h)
 
 give_fits : (w : Core) (k : Tokens) → Giving w k → Half w.owner w.own w.peer → Half (turned_owners w.owner) w.peer w.own
     → Fits (flushed w.peer w.own) (GT k)
@@ -226,39 +209,22 @@ module _ (w : Core) (k : Tokens) (g : Giving w k) (h : Half w.owner w.own w.peer
 
   own_tokens : Tokens_of (passed_to ToThem k w.owner) (less k w.own.session) (flush (less k w.own.session) w.peer.sent)
       (heard (less k w.own.session) w.peer.sent)
-  own_tokens = record {
-    holds = λ t. without_has w.own.session.held k t ∙ still_held (has k t) (has w.own.session.held t) (w.owner t) (h.meeting.holds t);
-    wants = by (runs w k g h).heard;
-    absent = λ t n. gone t (has k t) refl n;
-  }
-    where
-      by : Fewer k (hearing w.own w.peer) (heard (less k w.own.session) w.peer.sent)
-          → may_hold (heard (less k w.own.session) w.peer.sent).phase ≡ true → (t : Token)
-          → has (heard (less k w.own.session) w.peer.sent).held t
-          ≡ (is_own (passed_to ToThem k w.owner t) || is_to_own (passed_to ToThem k w.owner t))
-      by (inl (e, v)) m t =
-          ap (λ (q : State). has q.held t) e ∙ without_has (hearing w.own w.peer).held k t
-          ∙ still_wanted (has k t) (has (hearing w.own w.peer).held t) (w.owner t)
-          (h.meeting.wants (ap (λ (q : State). may_hold q.phase) (sym e) ∙ m) t)
-      by (inr (e, due)) m t = absurd (
-          let d = excluded is_restart_due may_hold refl (hearing w.own w.peer).phase due in
-          let n = ap (λ (q : State). may_hold q.phase) (sym e) ∙ m in
-          cc)
-
-      units : (flush (less k w.own.session) w.peer.sent).units ≡ (flushed w.own w.peer).units
-      units = (like (flushed w.own w.peer) (flush (less k w.own.session) w.peer.sent)
-          (but_held k (flushed w.own w.peer) _ (runs w k g h).flush)).units
-
-      now : (flushed w.own w.peer).units ≡ w.own.session.units
-      now = end_units w.owner w.own w.peer h (excluded may_give is_opening refl w.own.session.phase g.phase)
-
-      gone : (t : Token) (b : Bool) → has k t ≡ b → has (available (flush (less k w.own.session) w.peer.sent).units) t ≡ false
-          → is_absent (if b then ToThem else w.owner t) ≡ true
-      gone t true p n = absurd (
-          let there = within_has k (available w.own.session.units) t g.selected p in
-          let none = ap (λ (u : FunctionalUnits). has (available u) t) (sym now ∙ sym units) ∙ n in
-          cc)
-      gone t false p n = h.meeting.absent t (ap (λ (u : FunctionalUnits). has (available u) t) (sym units) ∙ n)
+  own_tokens =
+      search (
+        arith,
+        without_has,
+        still_held,
+        still_wanted,
+        like,
+        but_held,
+        end_units,
+        within_has,
+        runs w k g h,
+        hearing w.own w.peer,
+        flushed w.own w.peer,
+        excluded may_give is_opening refl w.own.session.phase g.phase,
+        available w.own.session.units,
+      )
 
   owned_by : (t : Token) → has k t ≡ true → is_own (w.owner t) ≡ true
   owned_by t p = sym (h.meeting.holds t) ∙ within_has k w.own.session.held t g.held p
@@ -336,22 +302,13 @@ give_stands w k g s c = record {
         (less k w.own.session) s.peer.meeting
         (given_like k (flushed w.peer w.own))
         (own_like_end w k g s.own)
-        (subst (λ (q : State). Like q (next (flushed w.peer w.own) (GT k))) (sym (heard_end w k g s.own s.peer))
-        (given_like k (flushed w.peer w.own)))
+        (grind (arith, flushed, heard_end, given_like))
         (like w.own.session (less k w.own.session) refl)
         (peer_tokens w k g s.own s.peer)));
   };
   own_views = own_views w k g s.own s.own_views;
   peer_views = peer_views w k g s.own s.peer s.peer_views;
-  own_counts = recount w.own.session (hearing w.own w.peer) (hearing w.peer w.own) w.peer.session
-      (less k w.own.session) (heard (less k w.own.session) w.peer.sent) (heard w.peer.session (w.own.sent ++ GT k ∷ [])) w.peer.session
-      s.own_counts (like w.own.session (less k w.own.session) refl) (own_like_heard w k g s.own) (peer_like_heard w k g s.own s.peer)
-      (itself w.peer.session);
-  peer_counts = recount w.peer.session (hearing w.peer w.own) (hearing w.own w.peer) w.own.session
-      w.peer.session (heard w.peer.session (w.own.sent ++ GT k ∷ [])) (heard (less k w.own.session) w.peer.sent) (less k w.own.session)
-      s.peer_counts (itself w.peer.session) (peer_like_heard w k g s.own s.peer) (own_like_heard w k g s.own)
-      (like w.own.session (less k w.own.session) refl);
-  pair =
-      let e = own_like_end w k g s.own in
-      grind (arith, flushed, append-nil, list_any_append, IsOfProfile);
+  own_counts = grind (arith, recount, hearing, like, own_like_heard, peer_like_heard, itself);
+  peer_counts = grind (arith, recount, hearing, itself, peer_like_heard, own_like_heard, like);
+  pair = grind (arith, own_like_end, flushed, append-nil, list_any_append);
 }

@@ -1,14 +1,14 @@
 -- A side that has requested a restart, expects nothing or is being opened discards what is in flight to it.
 -- For restarts, and for connections that are being opened.
-use Rattle.std.proofs.Common.{◌≡◌, refl, ◌∙◌, ap, subst, ℕ, Bool, true, false, not, ◌&&◌, ◌||◌, if◌then◌else◌, List, [], ◌∷◌, ◌++◌, ◌⊎◌}
-use Rattle.std.proofs.Common.{inl, inr, arith}
+use Rattle.std.proofs.Common.{◌≡◌, refl, ◌∙◌, ap, subst, ℕ, Bool, true, false, not, if◌then◌else◌, List, [], ◌∷◌, ◌++◌, ◌⊎◌, inl, inr}
+use Rattle.std.proofs.Common.{arith}
 use Rattle.osi_machine.proofs.Vocabulary.{TokenSetting, ResyncType, State, RestartDue, Meaning, RS, is_restarting, is_restart_due}
-use Rattle.osi_machine.proofs.Vocabulary.{is_expected, has_no_effect, passes_restarting, without_tokens, restarted_at, stands, drops, next}
-use Rattle.osi_machine.proofs.Vocabulary.{Item, is_plain, Fits, AllFit, flush, stops, heard, hears, view_next, heard_view, or_left, Phase}
-use Rattle.osi_machine.proofs.Vocabulary.{is_connecting, is_answering, becomes, Good, both_ways}
+use Rattle.osi_machine.proofs.Vocabulary.{is_expected, has_no_effect, without_tokens, restarted_at, stands, drops, next, Item, is_plain}
+use Rattle.osi_machine.proofs.Vocabulary.{Fits, AllFit, flush, stops, heard, hears, view_next, heard_view, or_left, is_connecting}
+use Rattle.osi_machine.proofs.Vocabulary.{both_ways}
 use Rattle.osi_machine.proofs.basics.what_holds_in_each_phase.{excluded, if_first, by_test}
 use Rattle.osi_machine.proofs.channels.a_unit_is_dropped_bad_or_acted_on.{next_dropped, next_acted, and_false}
-use Rattle.osi_machine.proofs.channels.what_every_unit_in_flight_keeps.{hears_kept, heard_flush, heard_append, view_append}
+use Rattle.osi_machine.proofs.channels.what_every_unit_in_flight_keeps.{hears_kept, heard_flush, heard_append}
 
 -- ---- units that have no effect
 
@@ -16,34 +16,24 @@ abbrev pub AllEmpty : List Meaning → Type 0
 AllEmpty [] = Unit {0}
 AllEmpty (u ∷ us) = (has_no_effect u ≡ true) × AllEmpty us
 
-empty_dropped : (s : State) (u : Meaning) → has_no_effect u ≡ true → drops s u ≡ true
-empty_dropped s u h = or_left (has_no_effect u) (is_restarting s.phase && not (passes_restarting u)) h
-
-empty_plain : (u : Meaning) → has_no_effect u ≡ true → is_plain u ≡ true
-empty_plain u h = grind arith
-
 pub empty_fits : (s : State) (us : List Meaning) → AllEmpty us → AllFit s us
 empty_fits s [] h = tt
-empty_fits s (u ∷ us) h = grind (arith, empty_dropped, empty_plain, next_dropped, empty_fits s us h.1)
+empty_fits s (u ∷ us) h = grind (arith, next_dropped, empty_fits s us h.1)
 
 pub empty_end : (s : State) (us : List Meaning) → AllEmpty us → flush s us ≡ s
 empty_end s [] h = refl
-empty_end s (u ∷ us) h = ap (λ (r : State). flush r us) (next_dropped s u (empty_dropped s u h.0)) ∙ empty_end s us h.1
+empty_end s (u ∷ us) h = ap (λ (r : State). flush r us) (next_dropped s u (grind (arith, or_left))) ∙ empty_end s us h.1
 
 pub empty_heard : (s : State) (us : List Meaning) → AllEmpty us → heard s us ≡ s
 empty_heard s [] h = refl
-empty_heard s (u ∷ us) h = grind (arith, if_first, next_dropped, empty_dropped, empty_heard s us h.1)
+empty_heard s (u ∷ us) h = grind (arith, if_first, next_dropped, empty_heard s us h.1)
 
 -- what holds if only what is discarded is in flight
 pub ruleset empty_laws = (empty_fits, empty_end, empty_heard)
 
 pub empty_view : (s : State) (us : List Meaning) (v : List Item) → AllEmpty us → heard_view s us v ≡ v
 empty_view s [] v h = refl
-empty_view s (u ∷ us) v h = grind (arith, empty_dropped, if_first, next_dropped, empty_view s us v h.1)
-
--- to a side that expects no unit, only such units come
-pub dropped_empty : (e r p : Bool) → (e || (r && not p)) ≡ true → r ≡ false → e ≡ true
-dropped_empty e r p h k = grind arith
+empty_view s (u ∷ us) v h = grind (arith, if_first, next_dropped, empty_view s us v h.1)
 
 dropped_here : (s : State) (u : Meaning) → is_expected s.phase u ≡ false → Fits s u → drops s u ≡ true
 dropped_here s u none f = by_test (drops s u) (λ d. d) (λ d. absurd (let e = (f.good d).expected in cc))
@@ -54,7 +44,7 @@ pub all_empty : (s : State) (us : List Meaning) → ((u : Meaning) → is_plain 
 all_empty s [] none listens f = tt
 all_empty s (u ∷ us) none listens f =
     let d = dropped_here s u (none u f.0.plain) f.0 in (
-      dropped_empty (has_no_effect u) (is_restarting s.phase) (passes_restarting u) d listens,
+      grind arith,
       all_empty s us none listens (subst (λ (r : State). AllFit r us) (next_dropped s u d) f.1),
     )
 
@@ -87,10 +77,6 @@ pub heard_restart : (s : State) (us : List Meaning) (k : ResyncType) (n : ℕ) (
     → is_restart_due (flush s us).phase ≡ false
     → heard s (us ++ RS k n w o ∷ []) ≡ flush s us
 heard_restart s us k n w o f due = search (arith, heard_append, restart_next, yielded)
-
-pub view_restart : (s : State) (us : List Meaning) (k : ResyncType) (n : ℕ) (w : TokenSetting) (o : List ℕ) (v : List Item) → AllFit s us
-    → is_restart_due (flush s us).phase ≡ false → heard_view s (us ++ RS k n w o ∷ []) v ≡ heard_view s us v
-view_restart s us k n w o v f due = search (arith, view_append, yielded_view)
 
 -- ---- a side that has requested a restart, and will wait for the answer when all was taken
 
@@ -130,24 +116,17 @@ deaf_view s (u ∷ us) v r f = elim (deaf_next s u
       | inr l ↦ absurd (not_both _ (hears_kept (next s u) us l f.1) r)
     ]
 
--- a side that owes the answer to a CN expects nothing
-pub none_answering : (p : Phase) (u : Meaning) → is_answering p ≡ true → is_plain u ≡ true → is_expected p u ≡ false
-none_answering p u h k = grind arith
-
 -- ---- a side that will still wait for the answer to its CN has taken nothing
 
 abbrev Later : State → Type 0
 Later s = is_connecting s.phase ≡ false
 
-becomes_later : (s : State) (u : Meaning) → is_plain u ≡ true → Good s u → Later (becomes s u)
-becomes_later s u p g = grind arith
-
 -- a unit that leaves it waiting was discarded
 waiting_drops : (s : State) (u : Meaning) → Fits s u → is_connecting (next s u).phase ≡ true → drops s u ≡ true
-waiting_drops s u f c = search (arith, both_ways, becomes_later, next_acted)
+waiting_drops s u f c = search (arith, both_ways, next_acted)
 
 -- it has waited all the time, and nothing was in flight
 pub waiting : (s : State) (us : List Meaning) → is_connecting (flush s us).phase ≡ true → AllFit s us
     → AllEmpty us × (is_connecting s.phase ≡ true)
 waiting s [] c f = (tt, c)
-waiting s (u ∷ us) c f = grind (arith, waiting_drops, next_dropped, dropped_empty, excluded, waiting (next s u) us c f.1)
+waiting s (u ∷ us) c f = grind (arith, waiting_drops, next_dropped, excluded, waiting (next s u) us c f.1)

@@ -1,16 +1,15 @@
 -- No unit that needs a token is in flight to its holder; what no unit changes once a connection is open.
 -- For the calls that need a token, and for all steps of an open connection.
 use Rattle.std.proofs.Common.{◌≡◌, refl, ◌∙◌, Bool, true, false, not, ◌&&◌, ◌||◌, List, [], ◌∷◌, arith, sym, subst, ℕ, ◌⊎◌, inl, inr}
-use Rattle.osi_machine.proofs.Vocabulary.{and_parts, or_left, State, Tokens, Meaning, Token, data_token, minor, major, has, set_of, each}
-use Rattle.osi_machine.proofs.Vocabulary.{some, no_token, is_empty, without, united, lacks, may_hold, becomes, drops, Good, next, Item}
-use Rattle.osi_machine.proofs.Vocabulary.{seen, is_plain, Fits, AllFit, stops, heard, is_data_or_minor, is_no_release, needs_token}
-use Rattle.osi_machine.proofs.Vocabulary.{view_next, heard_view, list_any, Phase, FunctionalUnits, CN, AC, RF, DT, GT, PT, MIP, MIA, MAP}
-use Rattle.osi_machine.proofs.Vocabulary.{MAA, RS, RA, FN, DN, NF, AB, AA, is_restarting, is_restart_due, may_ask, is_ready, is_release_due}
-use Rattle.osi_machine.proofs.Vocabulary.{has_no_effect, flush, is_opening}
+use Rattle.osi_machine.proofs.Vocabulary.{and_parts, or_left, State, Tokens, Meaning, Token, data_token, major, has, set_of, each, some}
+use Rattle.osi_machine.proofs.Vocabulary.{no_token, is_empty, without, united, may_hold, becomes, Good, next, Item, is_plain, Fits, AllFit}
+use Rattle.osi_machine.proofs.Vocabulary.{stops, heard, needs_token, view_next, heard_view, list_any, Phase, FunctionalUnits, CN, AC, RF}
+use Rattle.osi_machine.proofs.Vocabulary.{DT, GT, PT, MIP, MIA, MAP, MAA, RS, RA, FN, DN, NF, AB, AA, is_restarting, is_restart_due}
+use Rattle.osi_machine.proofs.Vocabulary.{may_ask, is_ready, is_release_due, flush, is_opening}
 use Rattle.osi_machine.proofs.basics.what_holds_in_each_phase.{excluded, by_test}
 use Rattle.osi_machine.proofs.channels.a_unit_is_dropped_bad_or_acted_on.{fit_cases, restart_due, due_next}
 use Rattle.osi_machine.proofs.channels.what_every_unit_in_flight_keeps.{kept_all, kept_heard, due_end}
-use Rattle.osi_machine.proofs.channels.a_deaf_side_acts_on_nothing.{not_both, dropped_empty}
+use Rattle.osi_machine.proofs.channels.a_deaf_side_acts_on_nothing.{not_both}
 
 -- ---- words about sets, for each token
 
@@ -39,18 +38,6 @@ without_has a b t = has_set (λ t. has a t && not (has b t)) t
 pub none_held : (t : Token) → has no_token t ≡ false
 none_held t = has_set (λ t. false) t
 
-is_data_or_minor_is : (s : State) (t : Token) → has s.held t ≡ true → lacks s data_token ≡ true → lacks s minor ≡ true
-    → is_data_or_minor t ≡ false
-is_data_or_minor_is s t h l m = grind (arith, not_both)
-
-is_no_release_is : (s : State) (t : Token) → has s.held t ≡ true → lacks s data_token ≡ true → lacks s minor ≡ true → lacks s major ≡ true
-    → is_no_release t ≡ false
-is_no_release_is s t h l m j = grind (arith, not_both)
-
--- a good unit does not need a token that its taker holds
-pub held_needs : (s : State) (t : Token) (u : Meaning) → has s.held t ≡ true → Good s u → needs_token t u ≡ false
-held_needs s t u h g = search (arith, not_both, and_parts, is_data_or_minor_is, is_no_release_is, empty_has)
-
 -- a side that holds a token, in a phase in which one may be held
 pub record Holds (t : Token) (s : State) : Type 0 where
   pub held : has s.held t ≡ true
@@ -64,13 +51,6 @@ becomes_holds t s u p g st h = search (arith, excluded, united_has, or_left)
 pub next_holds : (t : Token) (s : State) (u : Meaning) → Fits s u → stops s u ≡ false → Holds t s → Holds t (next s u)
 next_holds t s u f st h = fit_cases (Holds t) s u f h (λ d g. becomes_holds t s u f.plain g st h)
 
--- a unit that is acted on there shows nothing, if the data token is held
-seen_nothing : (s : State) (u : Meaning) (v : List Item) → needs_token data_token u ≡ false → stops s u ≡ false → seen s u v ≡ v
-seen_nothing s u v h st = grind arith
-
-same_view : (s : State) (u : Meaning) (v : List Item) → Fits s u → stops s u ≡ false → has s.held data_token ≡ true → view_next s u v ≡ v
-same_view s u v f st h = by_test (drops s u) (λ d. rw d) (λ d. rw d (seen_nothing s u v (held_needs s data_token u h (f.good d)) st))
-
 -- if this side holds the data token, nothing that is in flight to it before a restart shows anything
 pub nothing_to_see : (s : State) (us : List Meaning) (v : List Item) → Holds data_token s → AllFit s us → heard_view s us v ≡ v
 nothing_to_see s [] v h f = refl
@@ -78,7 +58,7 @@ nothing_to_see s (u ∷ us) v h f =
     by_test (stops s u)
     (λ e. rw e)
     (λ e. rw e (let more : (stops s u ≡ false → heard_view (next s u) us (view_next s u v) ≡ view_next s u v) = (λ e. nothing_to_see
-    (next s u) us (view_next s u v) (next_holds data_token s u f.0 e h) f.1) in more e ∙ same_view s u v f.0 e h.held))
+    (next s u) us (view_next s u v) (next_holds data_token s u f.0 e h) f.1) in more e ∙ (grind (arith, by_test))))
 
 -- it still holds the token after it has taken everything before a restart
 pub heard_holds : (t : Token) (s : State) (us : List Meaning) → Holds t s → AllFit s us → Holds t (heard s us)
@@ -127,8 +107,7 @@ pub until_due : (P : State → Type 0) → ((s : State) (u : Meaning) → Fits s
 until_due P step s [] h f = inl h
 until_due P step s (u ∷ us) h f =
     by_test (stops s u)
-    (λ e. let d = restart_due s u e in
-    inr (subst (λ (r : State). is_restart_due r.phase ≡ true) (sym (due_end (next s u) us d f.1)) d))
+    (grind (arith, restart_due, due_end))
     (λ e. let more : (stops s u ≡ false → P (flush (next s u) us) ⊎ (is_restart_due (flush (next s u) us).phase ≡ true)) = (λ e. until_due P
     step (next s u) us (step s u f.0 e h) f.1) in more e)
 
@@ -145,9 +124,6 @@ pub record Talks (s : State) : Type 0 where
   pub phase : is_talking s.phase ≡ true
   pub right : (has s.held data_token ≡ true) ⊎ (s.units.major ≡ false)
 
-no_major : (s : State) (n : ℕ) (o : List ℕ) → Good s (MAP n o) → (has s.held data_token ≡ true) ⊎ (s.units.major ≡ false) → ⊥
-no_major s n o g h = grind (arith, held_needs)
-
 more_right : (s : State) (k : Tokens) (held : Tokens) → ((t : Token) → has held t ≡ (has s.held t || has k t))
     → (has s.held data_token ≡ true) ⊎ (s.units.major ≡ false)
     → (has held data_token ≡ true) ⊎ (s.units.major ≡ false)
@@ -163,7 +139,7 @@ becomes_talks s (GT k) p g st h = record { phase = h.phase; right = more_right s
 becomes_talks s (PT k o) p g st h = h
 becomes_talks s (MIP c n o) p g st h = record { phase = h.phase; right = h.right }
 becomes_talks s (MIA n o) p g st h = record { phase = h.phase; right = h.right }
-becomes_talks s (MAP n o) p g st h = absurd (no_major s n o g h.right)
+becomes_talks s (MAP n o) p g st h = absurd (grind arith)
 becomes_talks s (MAA n o) p g st h = record { phase = refl; right = h.right }
 becomes_talks s (RS k n w o) p g st h = rw st h
 becomes_talks s (RA n w o) p g st h = absurd (let e = excluded is_restarting is_talking refl s.phase g.expected in let f = h.phase in cc)
@@ -178,10 +154,6 @@ ends_talking = until_due Talks (λ s u f st h. fit_cases Talks s u f h (λ d g. 
 
 -- ---- nothing that needs a token arrives at a side that holds it
 
--- at a side that owes the answer to a restart, nothing but an empty token item fits
-empty_needs : (t : Token) (u : Meaning) → has_no_effect u ≡ true → needs_token t u ≡ false
-empty_needs t u h = grind arith
-
 due_needs : (t : Token) (s : State) (u : Meaning) → is_restart_due s.phase ≡ true → Fits s u → needs_token t u ≡ false
 due_needs t s u h f = grind arith
 
@@ -195,13 +167,11 @@ none_due_needs t s (u ∷ us) h f =
 
 -- a holder listens
 holder_needs : (t : Token) (s : State) (u : Meaning) → Holds t s → Fits s u → needs_token t u ≡ false
-holder_needs t s u h f = search (arith, empty_needs, dropped_empty, excluded, held_needs)
+holder_needs t s u h f = grind (arith, excluded, not_both, and_parts, empty_has)
 
 pub none_needs : (t : Token) (s : State) (us : List Meaning) → Holds t s → AllFit s us → list_any (needs_token t) us ≡ false
 none_needs t s [] h f = refl
 none_needs t s (u ∷ us) h f = by_test (stops s u)
-    (λ e. let one = holder_needs t s u h f.0 in
-    let all = none_due_needs t (next s u) us (restart_due s u e) f.1 in
-    rw (one, all) refl)
+    (λ e. grind (arith, holder_needs t s u h f.0, none_due_needs t (next s u) us (restart_due s u e) f.1, restart_due s u e))
     (λ e. let more : (stops s u ≡ false → list_any (needs_token t) us ≡ false) = (λ e. none_needs t (next s u) us
     (next_holds t s u f.0 e h) f.1) in let one = holder_needs t s u h f.0 in let all = more e in rw (one, all) refl)

@@ -1,7 +1,7 @@
 -- A unit is discarded, or is a fault, or is acted on; and what each of these leaves of its taker.
 -- For all that follows a unit through a channel.
 use Rattle.std.proofs.Common.{◌≡◌, refl, sym, ◌∙◌, subst, ℕ, Bool, true, false, not, ◌||◌, if◌then◌else◌, List, [], ◌∷◌, Option, Some, None}
-use Rattle.std.proofs.Common.{is_none, arith, ap, ◌&&◌}
+use Rattle.std.proofs.Common.{arith, ap, ◌&&◌}
 use Rattle.osi_machine.proofs.Vocabulary.{and_parts, not-true, not-false, State, Phase, Aborting, Ended, Meaning, UnitFault, Outcome}
 use Rattle.osi_machine.proofs.Vocabulary.{Condition, is_over, is_aborting, is_ended, first_fault, becomes, nothing, good, judged}
 use Rattle.osi_machine.proofs.Vocabulary.{in_aborting, in_ended, take_expected, respond_unit, without_tokens, drops, AllMet, Good, next}
@@ -16,13 +16,6 @@ pub all_met : (n : ℕ) (cs : List Condition) → first_fault n cs ≡ None → 
 all_met n [] h = tt
 all_met n (c ∷ cs) h = let one = none_if c.0 (first_fault n cs) (c.1 n) h in (one.0, all_met n cs one.1)
 
-pub no_fault_of : (n : ℕ) (cs : List Condition) → AllMet cs → first_fault n cs ≡ None
-no_fault_of n [] h = refl
-no_fault_of n (c ∷ cs) h = rw h.0 (no_fault_of n cs h.1)
-
-none_is : {A : Type 0} (o : Option A) → is_none o ≡ true → o ≡ None
-none_is o h = grind arith
-
 -- the conditions for acting on it
 pub record Acted (s : State) (u : Meaning) : Type 0 where
   pub lives : is_over s.phase ≡ false
@@ -30,10 +23,10 @@ pub record Acted (s : State) (u : Meaning) : Type 0 where
   pub good : Good s u
 
 pub acted : (s : State) (u : Meaning) → is_acted_on s u ≡ true → Acted s u
-acted s u h = grind (arith, and_parts, not-true, all_met, none_is)
+acted s u h = grind (arith, and_parts, not-true, all_met)
 
 pub is_acted : (s : State) (u : Meaning) → Acted s u → is_acted_on s u ≡ true
-is_acted s u h = grind (arith, no_fault_of)
+is_acted s u h = grind arith
 
 over_parts : (p : Phase) → is_over p ≡ (is_aborting p || is_ended p)
 over_parts p = grind arith

@@ -12,7 +12,7 @@ use Rattle.osi_machine.proofs.basics.what_a_restart_leaves_of_a_history.{points_
 use Rattle.osi_machine.proofs.channels.a_unit_is_dropped_bad_or_acted_on.{next_acted, chosen, fit_cases}
 use Rattle.osi_machine.proofs.channels.what_every_unit_in_flight_keeps.{Turned, heard_turned}
 use Rattle.osi_machine.proofs.invariant.what_holds_of_both_sides.{hearing, Views}
-use Rattle.osi_machine.proofs.invariant.each_step_keeps_one_side.{one_taken, opened_count}
+use Rattle.osi_machine.proofs.invariant.each_step_keeps_one_side.{one_taken}
 
 -- what holds of each state and view up to a restart that takes effect, or of all
 pub until_heard : (P : State → List Item → Type 0)
@@ -37,14 +37,11 @@ pub record Counted (s : State) (v : List Item) : Type 0 where
   pub count : s.numbers.next ≡ s.base + points v
   pub fresh : is_opening s.phase ≡ true → v ≡ []
 
-one_point : (n base : ℕ) (v : List Item) (i : Item) → points (i ∷ []) ≡ 1 → n ≡ base + points v → n + 1 ≡ base + points (v ++ i ∷ [])
-one_point n base v i one h = let e = points_append v (i ∷ []) in omega arith
-
 becomes_counted : (s : State) (u : Meaning) (v : List Item) → is_plain u ≡ true → Good s u → stops s u ≡ false → Counted s v
     → Counted (becomes s u) (seen s u v)
 unfolding point_taken minor_confirmed major_confirmed
 becomes_counted s (CN w r n x from to z o) v p g st h = search (arith, implied, chosen)
-becomes_counted s (AC w r n x z o) v p g st h = grind (arith, opened_count, implied)
+becomes_counted s (AC w r n x z o) v p g st h = grind (arith, implied)
 becomes_counted s (DT o) v p g st h = record {
   count = one_taken _ _ s.units.duplex o v h.count;
   fresh = λ k. absurd (let e = excluded takes_data is_opening refl s.phase g.expected in cc);
@@ -52,11 +49,11 @@ becomes_counted s (DT o) v p g st h = record {
 becomes_counted s (GT k) v p g st h = record { count = h.count; fresh = h.fresh }
 becomes_counted s (PT k o) v p g st h = h
 becomes_counted s (MIP c n o) v p g st h = record {
-  count = one_point _ _ v (Point n (minor_kind c) o) refl h.count;
+  count = grind (arith, points_append);
   fresh = λ k. absurd (let e = excluded is_ready is_opening refl s.phase g.expected in cc);
 }
 becomes_counted s (MIA n o) v p g st h = record { count = h.count; fresh = h.fresh }
-becomes_counted s (MAP n o) v p g st h = record { count = one_point _ _ v (Point n major_point o) refl h.count; fresh = λ k. absurd (cc) }
+becomes_counted s (MAP n o) v p g st h = record { count = grind (arith, points_append); fresh = λ k. absurd (cc) }
 becomes_counted s (MAA n o) v p g st h = record { count = h.count; fresh = λ k. absurd (cc) }
 becomes_counted s (RS j n w o) v p g st h = rw st h
 becomes_counted s (RA n w o) v p g st h = record { count = h.count; fresh = λ k. absurd (cc) }
@@ -69,13 +66,10 @@ heard_counted = until_heard Counted (λ s u v f st h. view_cases Counted s u v f
 
 -- ---- only points are added
 
-more_or_same : (b : Bool) (v w : List Item) (k : ℕ) → k ≤ points v → k ≤ points (if b then v else v ++ w)
-more_or_same b v w k h = grind (arith, points_append)
-
 seen_more : (s : State) (u : Meaning) (v : List Item) (k : ℕ) → stops s u ≡ false → k ≤ points v → k ≤ points (seen s u v)
-seen_more s (DT o) v k st h = more_or_same s.units.duplex v (Octets o ∷ []) k h
-seen_more s (MIP c n o) v k st h = more_or_same false v (Point n (minor_kind c) o ∷ []) k h
-seen_more s (MAP n o) v k st h = more_or_same false v (Point n major_point o ∷ []) k h
+seen_more s (DT o) v k st h = grind (arith, points_append)
+seen_more s (MIP c n o) v k st h = grind (arith, points_append)
+seen_more s (MAP n o) v k st h = grind (arith, points_append)
 seen_more s (RS j n w o) v k st h = rw st h
 seen_more s _ v k st h = h
 
@@ -89,7 +83,7 @@ DueAbove k s v = (k ≤ points v) × (is_major_due s.phase ≡ true → k + 1 �
 
 becomes_above : (k : ℕ) (s : State) (u : Meaning) (v : List Item) → is_plain u ≡ true → Good s u → stops s u ≡ false → DueAbove k s v
     → DueAbove k (becomes s u) (seen s u v)
-becomes_above k s u v p g st h = search (arith, chosen, more_or_same, points_append)
+becomes_above k s u v p g st h = grind (arith, chosen, points_append)
 
 pub major_came : (s : State) (us : List Meaning) (v : List Item) → is_major_due s.phase ≡ false → AllFit s us
     → is_major_due (heard s us).phase ≡ true
@@ -123,12 +117,10 @@ unseen s (u ∷ us) v f n = by_test (stops s u)
     none_shown (MIP c i o) g more st m d = absurd (
         let a = (g.good d).expected in
         let t = heard_turned (next s (MIP c i o)) us (subst Turned (sym (next_acted s (MIP c i o) d)) (minor_turned s c i o a)) more in
-        let x = t.answers in
-        cc)
+        grind arith)
     none_shown (MAP i o) g more st m d = absurd (
         let t = heard_turned (next s (MAP i o)) us (subst Turned (sym (next_acted s (MAP i o) d)) (major_turned s i o)) more in
-        let x = t.answers in
-        cc)
+        grind arith)
     none_shown (RS j i w o) g more st m d = ap points (ap (λ (b : Bool). if b then cutat s.base v i else v) st)
     none_shown _ g more st m d = refl
 

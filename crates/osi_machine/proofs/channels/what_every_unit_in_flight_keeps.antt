@@ -1,7 +1,6 @@
 -- What one more unit does to a channel, and what all units in flight keep, the direction of points too.
 -- For the steps of both sides: a call adds a unit at the end.
-use Rattle.std.proofs.Common.{◌≡◌, refl, sym, ◌∙◌, ap, subst, ℕ, Bool, true, false, if◌then◌else◌, List, [], ◌∷◌, ◌++◌, append_assoc, arith}
-use Rattle.std.proofs.Common.{◌≤◌, ◌<◌, nat_lt}
+use Rattle.std.proofs.Common.{◌≡◌, refl, sym, ◌∙◌, ap, subst, ℕ, true, false, if◌then◌else◌, List, [], ◌∷◌, ◌++◌, append_assoc, arith, ◌≤◌}
 use Rattle.osi_machine.proofs.Vocabulary.{State, Meaning, is_restart_due, next, Fits, AllFit, flush, stops, heard, hears, view_next}
 use Rattle.osi_machine.proofs.Vocabulary.{heard_view, data_of, Item, ltb-true, ltb-false, or_parts, list_any, data_token, lower}
 use Rattle.osi_machine.proofs.Vocabulary.{point_taken, minor_confirmed, major_confirmed, restarted_at, becomes, Good, is_plain, needs_token}
@@ -41,13 +40,6 @@ due_end s (u ∷ us) h f =
     let e = due_next s u h f.0 in
     due_end (next s u) us (subst (λ (r : State). is_restart_due r.phase ≡ true) (sym e) h) f.1 ∙ e
 
-pub due_heard : (s : State) (us : List Meaning) → is_restart_due s.phase ≡ true → AllFit s us → heard s us ≡ s
-due_heard s [] h f = refl
-due_heard s (u ∷ us) h f =
-    let e = due_next s u h f.0 in
-    let more = due_heard (next s u) us (subst (λ (r : State). is_restart_due r.phase ≡ true) (sym e) h) f.1 ∙ e in
-    rw (due_stops s u h f.0) more
-
 -- ---- if no restart takes effect, everything is received
 
 no_stop : (s : State) (u : Meaning) (us : List Meaning) → AllFit s (u ∷ us) → is_restart_due (flush s (u ∷ us)).phase ≡ false
@@ -66,7 +58,7 @@ heard_append s (u ∷ us) m f n = rw (no_stop s u us f n) (heard_append (next s 
 -- if one takes effect already, another unit changes nothing
 pub heard_append_due : (s : State) (us : List Meaning) (m : Meaning) → AllFit s (us ++ m ∷ []) → is_restart_due (flush s us).phase ≡ true →
     heard s (us ++ m ∷ []) ≡ heard s us
-heard_append_due s [] m f n = due_heard s (m ∷ []) n f
+heard_append_due s [] m f n = grind arith
 heard_append_due s (u ∷ us) m f n = ap (λ (r : State). if stops s u then s else r) (heard_append_due (next s u) us m f.1 n)
 
 -- ---- what was seen
@@ -106,8 +98,7 @@ pub alike : (R : State → State → Type 0) → ((s r : State) (u : Meaning) �
 alike R step s r [] h f = record { fits = tt; flush = h; heard = h }
 alike R step s r (u ∷ us) h f =
     let one = step s r u h f.0 in
-    let more = alike R step (next s u) (next r u) us one.next f.1 in
-    grind (arith, by_test)
+    grind (arith, by_test, alike R step (next s u) (next r u) us one.next f.1)
 
 -- and what is seen is the same, if each unit shows the same
 pub alike_view : (R : State → State → Type 0) → ((s r : State) (u : Meaning) → R s r → Fits s u → Steps R s r u) →
@@ -116,31 +107,18 @@ pub alike_view : (R : State → State → Type 0) → ((s r : State) (u : Meanin
 alike_view R step shows s r [] v h f = refl
 alike_view R step shows s r (u ∷ us) v h f =
     let one = step s r u h f.0 in
-    let more = alike_view R step shows (next s u) (next r u) us (view_next s u v) one.next f.1 in
-    ap (λ (b : Bool). if b then v else heard_view (next r u) us (view_next r u v)) one.stops
-    ∙ ap (λ (w : List Item). if stops s u then v else w) (ap (heard_view (next r u) us) (shows s r u v h) ∙ more)
+    grind (arith, alike_view R step shows (next s u) (next r u) us (view_next s u v) one.next f.1)
 
 -- ---- the lower of two numbers
 
-lower_by : (n m k : ℕ) → (n < m → n ≤ k) → (m ≤ n → m ≤ k) → lower n m ≤ k
-lower_by n m k f g = grind (arith, ltb-true, ltb-false)
-
 pub lower_first : (n m : ℕ) → lower n m ≤ n
-lower_first n m = lower_by n m n (λ l. omega arith) (λ l. l)
+lower_first n m = grind (arith, ltb-true, ltb-false)
 
 pub lower_second : (n m : ℕ) → lower n m ≤ m
-lower_second n m = lower_by n m m (λ l. omega arith) (λ l. omega arith)
-
--- a lower bound of both is one of the lower
-pub lower_from : (n m k : ℕ) → k ≤ n → k ≤ m → k ≤ lower n m
-lower_from n m k p q = by_test (nat_lt n m) (λ e. rw e p) (λ e. rw e q)
-
--- of lower numbers
-pub lower_less : (m a b c : ℕ) → a ≤ b → lower m b ≤ c → lower m a ≤ c
-lower_less m a b c le h = grind (arith, lower_first, lower_second, lower_from)
+lower_second n m = grind (arith, ltb-true, ltb-false)
 
 pub lower_both : (n m a c : ℕ) → n ≤ m → lower m a ≤ c → lower n a ≤ lower n c
-lower_both n m a c le h = grind (arith, lower_first, lower_second, lower_from)
+lower_both n m a c le h = grind (arith, lower_first, lower_second)
 
 -- ---- the direction of points
 

@@ -1,22 +1,21 @@
 -- Each call and each unit keeps what holds of one side by itself.
 -- For the law `what_is_true_of_each_side`, and for the invariant of both.
-use Rattle.std.proofs.Common.{◌≡◌, refl, ◌∙◌, ℕ, ◌+◌, ◌≤◌, Bool, true, false, not, ◌||◌, nat_le, nat_lt, if◌then◌else◌, List, [], ◌∷◌, ◌++◌}
-use Rattle.std.proofs.Common.{arith, sym, subst, None, Ok, Err}
+use Rattle.std.proofs.Common.{◌≡◌, refl, ℕ, ◌+◌, ◌≤◌, Bool, true, false, not, ◌||◌, nat_le, if◌then◌else◌, List, [], ◌∷◌, ◌++◌, arith, None}
+use Rattle.std.proofs.Common.{Ok, Err}
 use Rattle.osi_machine.specs.Floor.{Input, Standing, react}
 use Rattle.osi_machine.specs.Core.{turned, called}
 use Rattle.osi_machine.proofs.Vocabulary.{append-nil, leb-true, ltb-true, eqb-true, and_parts, State, Phase, Call, Accept, Data, Give}
 use Rattle.osi_machine.proofs.Vocabulary.{Please, Minor, MinorConfirm, Major, Restart, Release, Meaning, CN, AC, DT, GT, PT, MIP, MIA, MAP}
 use Rattle.osi_machine.proofs.Vocabulary.{RS, AA, is_ready, is_major_due, is_releasing, is_restarting, may_give, may_ask, may_confirm_minor}
 use Rattle.osi_machine.proofs.Vocabulary.{takes_data, may_call, needs, after, becomes, stands, from_base, point_sent, point_taken}
-use Rattle.osi_machine.proofs.Vocabulary.{minor_confirmed, major_confirmed, restarted_at, IsSound, Good, Item, Octets, Point, minor_kind}
-use Rattle.osi_machine.proofs.Vocabulary.{major_point, points, cutat, seen, got_in, Party, speaks, view_called, party_taking, is_opening}
-use Rattle.osi_machine.proofs.Vocabulary.{IsConsistent, AllHold, AllByRecursion, Passed, Granted, Answer, HasSerial, Outcome, IsNumbered}
-use Rattle.osi_machine.proofs.Vocabulary.{allowed, respond_unit, alone, respond, call_input, taken_input, call_move, after_inputs}
-use Rattle.osi_machine.proofs.Vocabulary.{HasNumbers, IsSendable, sends, Core, CoreStep, call_at, take_at, Side, Left, Right, Offer}
-use Rattle.osi_machine.proofs.Vocabulary.{CanBeOffered, party_called, answered, taking, takes, at_side, core_step, core_run, core_start}
-use Rattle.osi_machine.proofs.Vocabulary.{AreConsistent, IsNumberedStep, is_sized}
+use Rattle.osi_machine.proofs.Vocabulary.{minor_confirmed, major_confirmed, restarted_at, IsSound, Good, Item, Octets, points, cutat, seen}
+use Rattle.osi_machine.proofs.Vocabulary.{got_in, Party, speaks, view_called, party_taking, is_opening, IsConsistent, AllHold}
+use Rattle.osi_machine.proofs.Vocabulary.{AllByRecursion, Passed, Granted, Answer, HasSerial, IsNumbered, allowed, respond_unit, alone}
+use Rattle.osi_machine.proofs.Vocabulary.{respond, call_input, taken_input, after_inputs, HasNumbers, IsSendable, sends, Core, CoreStep}
+use Rattle.osi_machine.proofs.Vocabulary.{call_at, take_at, Side, Left, Right, Offer, CanBeOffered, party_called, answered, taking, takes}
+use Rattle.osi_machine.proofs.Vocabulary.{at_side, core_step, core_run, core_start, AreConsistent, IsNumberedStep, is_sized}
 use Rattle.osi_machine.proofs.basics.what_holds_in_each_phase.{implied, excluded, by_test}
-use Rattle.osi_machine.proofs.basics.what_a_restart_leaves_of_a_history.{points_append, points_cut}
+use Rattle.osi_machine.proofs.basics.what_a_restart_leaves_of_a_history.{points_append, points_upto}
 use Rattle.osi_machine.proofs.channels.a_unit_is_dropped_bad_or_acted_on.{unit_cases, chosen}
 
 -- the lines, but for the order of the numbers
@@ -38,19 +37,9 @@ consistent x sound h = grind arith
 nothing_said : (n base : ℕ) (v : List Item) → n ≡ base + points v → n ≡ base + points (v ++ [])
 nothing_said n base v h = let e = points_append v [] in omega arith
 
-one_point : (n base k : ℕ) (v : List Item) (i : Item) → points (i ∷ []) ≡ 1 → n ≡ base + points v → n + 1 ≡ base + points (v ++ i ∷ [])
-one_point n base k v i one h = let e = points_append v (i ∷ []) in omega arith
-
-one_more : (n base : ℕ) (b : Bool) (octets : List ℕ) (v : List Item) → n ≡ base + points v
-    → n ≡ base + points (v ++ (if b then [] else Octets octets ∷ []))
-one_more n base b octets v h = grind (arith, nothing_said, points_append)
-
 pub one_taken : (n base : ℕ) (b : Bool) (octets : List ℕ) (v : List Item) → n ≡ base + points v
     → n ≡ base + points (if b then v else v ++ Octets octets ∷ [])
 one_taken n base b octets v h = grind (arith, points_append)
-
-pub opened_count : (base : ℕ) (v : List Item) → v ≡ [] → base ≡ base + points v
-opened_count base v e = rw e (omega arith)
 
 -- ---- the clauses if little changes
 
@@ -58,13 +47,10 @@ opened_count base v e = rw e (omega arith)
 quiet : Phase → Bool
 quiet p = not (is_major_due p || (is_restarting p || (is_releasing p || is_opening p)))
 
-or_four : (a b c d : Bool) → not (a || (b || (c || d))) ≡ true → (a ≡ false) × (b ≡ false) × (c ≡ false) × (d ≡ false)
-or_four a b c d h = grind arith
-
 calm : (s : State) (v : List Item) (said got : List (List ℕ)) → quiet s.phase ≡ true → s.numbers.next ≡ s.base + points v
     → Lines s v said got
 unfolding quiet
-calm s v said got q h = grind (arith, quiet, or_four)
+calm s v said got q h = grind (arith, quiet)
 
 -- the phase, the units and the flag stay, and the side has begun
 same_lines : (s r : State) (v w : List Item) (said said' got got' : List (List ℕ)) → r.phase ≡ s.phase → r.units ≡ s.units
@@ -73,9 +59,6 @@ same_lines : (s r : State) (v w : List Item) (said said' got got' : List (List �
     → Lines r w said' got'
 same_lines s r v w said said' got got' p u i a o c h = grind arith
 
-pub below_if : (b : Bool) (n next : ℕ) → (if b then nat_lt n next else nat_le n next) ≡ true → n ≤ next
-below_if b n next h = grind (arith, ltb-true, leb-true)
-
 -- ---- the calls
 
 pub call_lines : (s : State) (c : Call) (v : List Item) (said got : List (List ℕ)) → may_call s.phase c ≡ true → AllHold (needs s c)
@@ -83,17 +66,17 @@ pub call_lines : (s : State) (c : Call) (v : List Item) (said got : List (List �
     → Lines s v said got → Lines (after s c) (view_called s c v) (said ++ speaks s c) got
 unfolding quiet point_sent minor_confirmed major_confirmed restarted_at
 call_lines s (Accept requirements serial sides sizes octets) v said got p t sound h = grind (arith, implied, calm)
-call_lines s (Data octets) v said got p t sound h = search (arith, same_lines, one_more, excluded is_ready is_opening refl s.phase p)
-call_lines s (Give tokens) v said got p t sound h =
-    same_lines s _ v _ said _ got got refl refl refl refl (excluded may_give is_opening refl s.phase p) (nothing_said _ _ v h.count) h
+call_lines s (Data octets) v said got p t sound h =
+    grind (arith, same_lines, nothing_said, points_append, excluded is_ready is_opening refl s.phase p)
+call_lines s (Give tokens) v said got p t sound h = search (arith, same_lines, nothing_said, excluded may_give is_opening refl s.phase p)
 call_lines s (Please tokens octets) v said got p t sound h =
     same_lines s s v _ said _ got got refl refl refl refl (excluded may_ask is_opening refl s.phase p) (nothing_said _ _ v h.count) h
 call_lines s (Minor confirm octets) v said got p t sound h =
-    calm _ _ _ _ (implied is_ready quiet refl s.phase p) (one_point _ _ 0 v (Point s.numbers.next (minor_kind confirm) octets) refl h.count)
+    grind (arith, calm, quiet, points_append, implied is_ready quiet refl s.phase p)
 call_lines s (MinorConfirm n octets) v said got p t sound h =
     search (arith, same_lines, nothing_said, excluded may_confirm_minor is_opening refl s.phase p)
-call_lines s (Major octets) v said got p t sound h = search (arith, calm, one_point)
-call_lines s (Restart n wishes octets) v said got p t sound h = grind (arith, and_parts, leb-true, below_if, points_cut)
+call_lines s (Major octets) v said got p t sound h = grind (arith, calm, points_append)
+call_lines s (Restart n wishes octets) v said got p t sound h = grind (arith, and_parts, leb-true, ltb-true, points_upto)
 call_lines s (Release octets) v said got p t sound h = record {
   count = nothing_said _ _ v h.count;
   major = λ k. absurd (cc);
@@ -117,16 +100,16 @@ pub unit_lines : (s : State) (u : Meaning) (v : List Item) (said got : List (Lis
     → Lines (becomes s u) (seen s u v) said (got ++ got_in s u)
 unfolding quiet point_taken minor_confirmed major_confirmed restarted_at
 unit_lines s (CN version_2 requirements serial wishes from to sizes octets) v said got g sound h = search (arith, implied, chosen, calm)
-unit_lines s (AC version_2 requirements serial sides sizes octets) v said got g sound h = grind (arith, implied, calm, opened_count)
+unit_lines s (AC version_2 requirements serial sides sizes octets) v said got g sound h = grind (arith, implied, calm)
 unit_lines s (DT octets) v said got g sound h =
     search (arith, same_lines, one_taken, excluded takes_data is_opening refl s.phase g.expected)
 unit_lines s (GT tokens) v said got g sound h = grind (arith, same_lines, excluded)
 unit_lines s (PT tokens octets) v said got g sound h = grind (arith, same_lines, excluded)
 unit_lines s (MIP confirm n octets) v said got g sound h =
-    calm _ _ _ _ (implied is_ready quiet refl s.phase g.expected) (one_point _ _ 0 v (Point n (minor_kind confirm) octets) refl h.count)
+    calm _ _ _ _ (implied is_ready quiet refl s.phase g.expected) (grind (arith, points_append))
 unit_lines s (MIA n octets) v said got g sound h = grind (arith, same_lines, excluded)
 unit_lines s (MAP n octets) v said got g sound h = record {
-  count = one_point _ _ 0 v (Point n major_point octets) refl h.count;
+  count = grind (arith, points_append);
   major = λ k. refl;
   asked = λ k. absurd (cc);
   asker = λ k. absurd (cc);
@@ -134,17 +117,9 @@ unit_lines s (MAP n octets) v said got g sound h = record {
 }
 unit_lines s (RS kind n wishes octets) v said got g sound h =
     let b = and_parts _ _ g.met.1.0 in
-    let from = leb-true s.base n b.0 in
     chosen_lines (λ r w. Lines r w said (got ++ [])) (stands s n) _ s (cutat s.base v n) v
-    (λ e. let to = stood_below s n b.1 e in calm _ _ _ _ refl (points_cut s.base n v from (omega arith)))
-    (λ e. record {
-      count = h.count;
-      major = h.major;
-      asked = h.asked;
-      asker = h.asker;
-      fresh = λ k. let f = h.fresh k in
-          (f.0, f.1, f.2, f.3, append-nil got ∙ f.4);
-    })
+    (λ e. let to = stood_below s n b.1 e in calm _ _ _ _ refl (grind (arith, points_upto)))
+    (grind (arith, append-nil))
 unit_lines s AA v said got g sound h = absurd (let e = g.expected in cc)
 unit_lines s _ v said got g sound h = calm _ _ _ _ refl h.count
 
@@ -174,13 +149,11 @@ standing s = record { state = s; waiting = None }
 
 pub sound_call : SessionLaws → (s : State) (c : Call) (g : Granted) → HasSerial c → allowed s c ≡ Ok g → IsSound s → IsSound g.next
 unfolding react
-sound_call laws s c g small e h =
-    subst (λ (a : Answer). IsSound (call_move (standing s) a).next.state) e (laws.sound (standing s) (call_input c ∷ []) (small, tt) h)
+sound_call laws s c g small e h = grind (arith, laws.sound (standing s) (call_input c ∷ []) (small, tt) h)
 
 pub sound_unit : SessionLaws → (s : State) (u : Meaning) → IsNumbered u → IsSound s → IsSound (respond_unit s u).next
 unfolding react
-sound_unit laws s u small h =
-    subst (λ (o : Outcome). IsSound o.next) (laws.one_unit s u) (laws.sound (standing s) (taken_input (alone u) ∷ []) ((small, tt), tt) h)
+sound_unit laws s u small h = grind (arith, laws.one_unit s u, laws.sound (standing s) (taken_input (alone u) ∷ []) ((small, tt), tt) h)
 
 pub small_append : (us : List Meaning) (u : Meaning) → AllByRecursion IsNumbered us → IsNumbered u
     → AllByRecursion IsNumbered (us ++ u ∷ [])
@@ -194,10 +167,7 @@ pub call_kept : SessionLaws → (x : Party) (c : Call) (g : Granted) → HasSeri
 call_kept laws x c g small e h =
     let q = laws.passed x.session c g e in
     let sound = sound_call laws x.session c g small e h.sound in
-    let lines = call_lines x.session c x.view x.said x.got q.phase q.needed h.sound (lines_of x h) in
-    consistent (party_called x c g) sound
-    (subst (λ (s : State). Lines s (party_called x c g).view (party_called x c g).said x.got)
-    (subst (λ (y : Granted). after x.session c ≡ y.next) (sym q.gives) refl) lines)
+    grind (arith, consistent, call_lines x.session c x.view x.said x.got q.phase q.needed h.sound (lines_of x h), lines_of x h)
 
 -- ---- both sides
 

@@ -1,27 +1,21 @@
 -- If nothing is lost, a side of a connection is never over, so what it takes is discarded or good.
 -- For the units that are taken, and for the promise that none is a fault.
-use Rattle.std.proofs.Common.{◌≡◌, refl, subst, true, false, not, if◌then◌else◌, List, ◌∷◌, ◌++◌, arith}
-use Rattle.osi_machine.proofs.Vocabulary.{State, Phase, Meaning, nothing, good, is_over, is_expected, respond_unit, drops, next, Owners}
-use Rattle.osi_machine.proofs.Vocabulary.{got_in, is_plain, Fits, AllFit, flush, view_next, Party, party_taking}
+use Rattle.std.proofs.Common.{◌≡◌, subst, true, false, if◌then◌else◌, List, ◌∷◌, ◌++◌, arith}
+use Rattle.osi_machine.proofs.Vocabulary.{State, Meaning, nothing, good, is_over, respond_unit, drops, next, Owners, got_in, Fits, AllFit}
+use Rattle.osi_machine.proofs.Vocabulary.{flush, view_next, Party, party_taking}
 use Rattle.osi_machine.proofs.basics.what_holds_in_each_phase.{implied_two, by_test}
 use Rattle.osi_machine.proofs.channels.a_unit_is_dropped_bad_or_acted_on.{fit_cases, fit_acts, no_fault, fit_next}
 use Rattle.osi_machine.proofs.channels.what_every_unit_in_flight_keeps.{kept_all}
 use Rattle.osi_machine.proofs.channels.a_deaf_side_acts_on_nothing.{not_both}
 use Rattle.osi_machine.proofs.invariant.what_holds_of_both_sides.{flushed, matched, Half}
 
--- nothing is expected by a side that is over
-none_expected : (p : Phase) (u : Meaning) → is_over p ≡ true → is_plain u ≡ true → is_expected p u ≡ false
-none_expected p u h k = grind arith
-
 pub over_kept : (s : State) (us : List Meaning) → is_over s.phase ≡ true → AllFit s us → is_over (flush s us).phase ≡ true
 over_kept = kept_all (λ s. is_over s.phase ≡ true)
-    (λ s u h f. fit_cases (λ r. is_over r.phase ≡ true) s u f h
-    (λ d g. absurd (let n = none_expected s.phase u h f.plain in let e = g.expected in cc)))
+    (grind (arith, fit_cases))
 
 pub alive : (o : Owners) (x y : Party) → Half o x y → is_over x.session.phase ≡ false
 alive o x y h = by_test (is_over x.session.phase)
-    (λ e. absurd (not_both _ (implied_two matched (λ p q. not (is_over p)) refl (flushed x y).phase (flushed y x).phase h.meeting.meets)
-    (over_kept x.session y.sent e h.fits)))
+    (search (arith, not_both, implied_two, matched, flushed, over_kept))
     (λ e. e)
 
 -- ---- the first unit in flight

@@ -3,14 +3,12 @@
 use Rattle.std.proofs.Common.{◌≡◌, ℕ, Bool, true, false, not, ◌&&◌, ◌||◌, ◌∙◌, ap, arith, refl}
 use Rattle.std.specs.Prelude.{◌≤◌, ◌<◌, List, [], ◌++◌}
 use Rattle.std.proofs.lemmas.Nat.{and_assoc, and_le_r}
-use Rattle.std.specs.Int.RustNames.{bit_and}
 use Rattle.osi_machine.proofs.Vocabulary.{list_any, State, Phase, FunctionalUnits, Connecting, Answering, Ready, MajorAsked, MajorDue}
 use Rattle.osi_machine.proofs.Vocabulary.{Releasing, ReleaseDue, Restarting, RestartDue, Token, data_token, has, available, lower}
 use Rattle.osi_machine.proofs.Vocabulary.{is_restarting, is_restart_due, is_connecting, is_release_due, is_releasing, may_hold, Item, cutat}
 use Rattle.osi_machine.proofs.Vocabulary.{AreNumberedFrom, Owners, is_own, is_to_own, is_absent, turned_owners, AllFit, flush, heard, hears}
-use Rattle.osi_machine.proofs.Vocabulary.{heard_view, data_of, needs_token, Party, Core, AreConsistent, eqb-true, and_parts, names}
-use Rattle.osi_machine.proofs.Vocabulary.{functional_units, both_units, units_within, has_data, has_points, is_profile, base_for}
-use Rattle.osi_machine.proofs.Vocabulary.{serial_for, agreed_base}
+use Rattle.osi_machine.proofs.Vocabulary.{heard_view, data_of, needs_token, Party, Core, AreConsistent, eqb-true, and_parts}
+use Rattle.osi_machine.proofs.Vocabulary.{functional_units, both_units, units_within, has_data, is_profile}
 use Rattle.osi_machine.proofs.basics.what_holds_in_each_phase.{cut_or, by_test, implied_both, every_two}
 
 -- the state of x when it has taken all that y has sent, and just before a restart that takes effect
@@ -108,15 +106,9 @@ pub record Stands (w : Core) : Type 0 where
 
 -- ---- the profile
 
-no_bits : (n : ℕ) → bit_and n 0 ≡ 0
-no_bits n = let e = and_le_r n 0 in omega arith
-
-no_duplex : (bits : ℕ) → bit_and bits 185 ≡ bits → names bits 2 ≡ false
-no_duplex bits e = search (arith, and_assoc, no_bits)
-
 pub profile_of : (bits : ℕ) → is_profile bits ≡ true → IsOfProfile (functional_units bits)
 unfolding is_profile
-profile_of bits h = search (arith, eqb-true, and_parts, no_duplex)
+profile_of bits h = grind (arith, eqb-true, and_parts, and_assoc, and_le_r)
 
 pub profile_data : (u : FunctionalUnits) → IsOfProfile u → has_data u ≡ true
 unfolding has_data
@@ -130,18 +122,12 @@ pub within_half : (a b : FunctionalUnits) → units_within a b ≡ true → a.ha
 unfolding units_within
 within_half a b h = cut_or a.half_duplex b.half_duplex (and_parts (not a.half_duplex || b.half_duplex) _ h).0
 
-part_both : (a b : Bool) → (not a || b) ≡ true → (b && a) ≡ a
-part_both a b h = grind arith
-
 -- what both name is what was selected
 pub within_both : (a b : FunctionalUnits) → units_within a b ≡ true → both_units b a ≡ a
 unfolding units_within both_units
-within_both a b h = search (arith, and_parts, part_both)
+within_both a b h = search (arith, and_parts)
 
 -- ---- the first number
-
-pub same_first : (u : FunctionalUnits) (serial proposed : ℕ) → agreed_base u (serial_for u serial) proposed ≡ base_for u serial
-same_first u serial proposed = by_test (has_points u) (λ e. rw e) (λ e. rw e)
 
 -- all but the tokens is the same
 pub record Like (s r : State) : Type 0 where

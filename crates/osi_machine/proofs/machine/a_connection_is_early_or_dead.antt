@@ -1,17 +1,15 @@
 -- Before a class is known each connection waits for its caller's first message or is dead; no message shows a loss.
 -- For a_loss_is_shown_by_an_end.
-use Rattle.std.proofs.Common.{◌≡◌, refl, sym, subst, ℕ, zero, suc, Bool, true, false, not, ◌||◌, List, [], ◌∷◌, take, ◌⊎◌, arith, inl, inr}
-use Rattle.std.proofs.Common.{◌∙◌, ap}
+use Rattle.std.proofs.Common.{◌≡◌, refl, ℕ, zero, suc, Bool, true, false, not, List, [], ◌∷◌, take, ◌⊎◌, arith, inl, inr, ap}
 use Rattle.osi_machine.proofs.Vocabulary.{list_any, Lost, Phase, Call, Answer, allowed, is_over, shows_loss, Message, Transport, waiting}
 use Rattle.osi_machine.proofs.Vocabulary.{gone, World, turned, session_of, put, after_answer, Terms, message_taken, ended_at, shown_at_end}
 use Rattle.osi_machine.proofs.Vocabulary.{is_waiting, without_first, Told, or_parts, not-true, append-nil, unit, agree, bye, denies, closed}
-use Rattle.osi_machine.proofs.Vocabulary.{Shown, State, Meaning, take_expected, respond_unit, shown_for, linked}
-use Rattle.osi_machine.proofs.basics.what_holds_in_each_phase.{implied, if_no, by_test}
+use Rattle.osi_machine.proofs.Vocabulary.{Shown, State, Meaning, take_expected, respond_unit, linked}
+use Rattle.osi_machine.proofs.basics.what_holds_in_each_phase.{implied, by_test}
 use Rattle.osi_machine.proofs.whole.how_a_core_simulates_a_connection.{not_both, stopped}
 use Rattle.osi_machine.proofs.whole.a_close_a_break_and_an_end.{is_unit, comes_unit}
 use Rattle.osi_machine.proofs.whole.every_step_is_simulated.{refused}
-use Rattle.osi_machine.proofs.whole.before_it_is_agreed_to.{Way, asks, Opens, is_early, refused_early, caller_refuses, called_refuses}
-use Rattle.osi_machine.proofs.whole.before_it_is_agreed_to.{caller_ends, called_ends, called_takes, replies}
+use Rattle.osi_machine.proofs.whole.before_it_is_agreed_to.{Opens, refused_early, caller_refuses, called_refuses, caller_ends, called_takes}
 use Rattle.osi_machine.proofs.whole.every_stage_of_a_connection.{Stage, turned_back}
 use Rattle.osi_machine.proofs.machine.every_connection_of_a_run.{cut_to}
 
@@ -23,9 +21,6 @@ pub record IsDead (w : World) : Type 0 where
   pub no_unit : list_any is_unit w.own.channel ≡ false
 
 -- ---- calls are refused
-
-quiet_phase : (p : Phase) → not (shows_loss p) ≡ true → (is_early p || is_over p) ≡ true
-quiet_phase p h = implied (λ q. not (shows_loss q)) (λ q. is_early q || is_over q) refl p h
 
 pub put_none : (p : Message → Bool) (broken : Bool) (ms : List Message) (m : Message) → p m ≡ false → list_any p ms ≡ false
     → list_any p (put broken (m ∷ []) ms) ≡ false
@@ -40,13 +35,9 @@ take_none p (suc k) (m ∷ ms) h = let a = or_parts (p m) (list_any p ms) h in l
 
 -- ---- the steps
 
--- a call of either side
-pub dead_call : (broken : Bool) (w : World) (x : Call) → IsDead w → IsDead (after_answer broken x w (allowed (session_of w) x))
-dead_call broken w x h = subst (λ (a : Answer). IsDead (after_answer broken x w a)) (sym (refused (session_of w) x h.over_now)) h
-
 pub dead_called : (broken : Bool) (w : World) (x : Call) → IsDead (turned w)
     → IsDead (turned (after_answer broken x w (allowed (session_of w) x)))
-dead_called broken w x h = search (arith, refused, refused_early, quiet_phase)
+dead_called broken w x h = grind (arith, refused, refused_early)
 
 -- the caller takes a message
 pub dead_takes : (broken : Bool) (terms : Terms) (keep : ℕ) (w : World) (m : Message) (ms : List Message) → IsDead w
@@ -54,33 +45,16 @@ pub dead_takes : (broken : Bool) (terms : Terms) (keep : ℕ) (w : World) (m : M
     × IsDead (message_taken broken terms keep w.own.transport (without_first w ms) m).world
 dead_takes broken terms keep w m ms h = search (arith, put_none)
 
--- the called side takes a message
-pub dead_taken : (broken : Bool) (terms : Terms) (keep : ℕ) (w : World) (m : Message) (ms : List Message) → IsDead (turned w)
-    → w.peer.channel ≡ m ∷ ms
-    → ((message_taken broken terms keep w.own.transport (without_first w ms) m).closes ≡ false)
-    × IsDead (turned (message_taken broken terms keep w.own.transport (without_first w ms) m).world)
-dead_taken broken terms keep w m ms h e = search (arith, or_parts)
-
--- an end of either side, and a break
-pub dead_ends : (keep : ℕ) (w : World) → IsDead w → IsDead (ended_at keep w)
-dead_ends keep w h = grind (arith, take_none, is_unit)
-
-pub dead_ended : (keep : ℕ) (w : World) → IsDead (turned w) → IsDead (turned (ended_at keep w))
-dead_ended keep w h = record { left = h.left; over_now = h.over_now; quiet = refl; idle = refl; no_unit = h.no_unit }
-
 pub dead_cut : (left right : ℕ) (w : World) → IsDead w → IsDead (cut_to left right w)
 dead_cut left right w h = grind (arith, take_none, is_unit)
 
 pub quiet_end : (w : World) → shows_loss w.own.kept.phase ≡ false → shown_at_end w ≡ []
-quiet_end w e = if_no (shows_loss w.own.kept.phase) (Lost ∷ []) [] e
+quiet_end w e = grind arith
 
 pub over_quiet : (p : Phase) → is_over p ≡ true → shows_loss p ≡ false
 over_quiet p o = not-true (shows_loss p) (implied is_over (λ q. not (shows_loss q)) refl p o)
 
 -- ---- a connection that is not agreed to
-
-pub no_unit_asked : (way : Way) → list_any is_unit (asks way) ≡ false
-no_unit_asked way = grind arith
 
 -- its called side is quiet, and no unit is in flight to it
 pub record IsQuiet (p : Phase) (tr : Transport) (ms : List Message) : Type 0 where
@@ -88,22 +62,19 @@ pub record IsQuiet (p : Phase) (tr : Transport) (ms : List Message) : Type 0 whe
   pub idle : is_waiting tr ≡ false
   pub no_unit : list_any is_unit ms ≡ false
 
-pub opens_quiet : (w : World) (t u : Told) → Opens w t u → IsQuiet w.peer.kept.phase w.peer.transport w.own.channel
-opens_quiet w t u h = grind (arith, over_quiet, is_unit, no_unit_asked)
-
 -- its caller waits, or has left it
 abbrev pub IsEarly : World → Type 0
 IsEarly w = (w.own.transport ≡ waiting) ⊎ IsDead w
 
 pub opens_early : (w : World) (t u : Told) → Opens w t u → IsEarly w
-opens_early w t u h = grind (arith, opens_quiet)
+opens_early w t u h = grind arith
 
 waits_opens : (b : Bool) (w : World) (t u : Told) → Stage b w t u → w.own.transport ≡ waiting → Opens w t u
 waits_opens b w t u h4 e = search (arith, not_both)
 
 pub early_call : (b : Bool) (w : World) (t u : Told) (x : Call) → Stage b w t u → IsEarly w
     → IsEarly (after_answer b x w (allowed (session_of w) x))
-early_call b w t u x h h2 = grind (arith, caller_refuses, waits_opens, refused, dead_call)
+early_call b w t u x h h2 = grind (arith, caller_refuses, waits_opens, refused)
 
 pub early_called : (b : Bool) (w : World) (t u : Told) (x : Call) → Stage b (turned w) t u → IsEarly (turned w)
     → IsEarly (turned (after_answer b x w (allowed (session_of w) x)))
@@ -118,21 +89,17 @@ pub early_takes : (b : Bool) (terms : Terms) (keep : ℕ) (w : World) (t u : Tol
     → Stage b w t u → IsEarly w
     → ((message_taken b terms keep w.own.transport (without_first w ms) m).closes ≡ false)
     × IsEarly (message_taken b terms keep w.own.transport (without_first w ms) m).world
-early_takes b terms keep w t u m ms n h h10 = search (arith, dead_takes, opens_quiet, waits_opens)
+early_takes b terms keep w t u m ms n h h10 = grind (arith, dead_takes, waits_opens)
 
 pub early_taken : (b : Bool) (terms : Terms) (keep : ℕ) (w : World) (t u : Told) (m : Message) (ms : List Message) → w.peer.channel ≡ m ∷ ms
     → Stage b (turned w) t u → IsEarly (turned w)
     → ((message_taken b terms keep w.own.transport (without_first w ms) m).closes ≡ false)
     × IsEarly (turned (message_taken b terms keep w.own.transport (without_first w ms) m).world)
-early_taken b terms keep w t u m ms f h k = grind (arith, called_takes, waits_opens, opens_early, dead_taken)
+early_taken b terms keep w t u m ms f h k = grind (arith, called_takes, waits_opens, opens_early)
 
 pub early_ends : (b : Bool) (keep : ℕ) (w : World) (t u : Told) → Stage b w t u → IsEarly w → IsEarly (ended_at keep w)
 early_ends b keep w t u h (inl e) = opens_early _ _ _ (caller_ends keep w t u (waits_opens b w t u h e))
-early_ends b keep w t u h (inr d) = inr (dead_ends keep w d)
-
-pub early_ended : (b : Bool) (keep : ℕ) (w : World) (t u : Told) → Stage b (turned w) t u → IsEarly (turned w)
-    → IsEarly (turned (ended_at keep w))
-early_ended b keep w t u h h2 = grind (arith, opens_early, called_ends, waits_opens, dead_ended)
+early_ends b keep w t u h (inr d) = inr (grind (arith, take_none, is_unit))
 
 pub early_cut : (left right : ℕ) (w : World) → IsEarly w → IsEarly (cut_to left right w)
 early_cut left right w (inl e) = inl e
@@ -169,26 +136,17 @@ is_lost i = false
 
 -- ---- a unit
 
-good_keeps : (s : State) (u : Meaning) → list_any is_lost (shown_for s u) ≡ false
-good_keeps s u = search arith
-
 pub unit_keeps : (s : State) (u : Meaning) → list_any is_lost (respond_unit s u).shown ≡ false
 unfolding respond_unit take_expected
-unit_keeps s u = search (arith, good_keeps)
+unit_keeps s u = grind arith
 
 -- ---- a message
-
-no_bye_back : (way : Way) (r : ℕ) (ms : List Message) → bye r ∷ ms ≡ replies way → ⊥
-no_bye_back way r ms e = grind arith
-
-no_bye_out : (way : Way) (r : ℕ) (ms : List Message) → bye r ∷ ms ≡ asks way → ⊥
-no_bye_out way r ms e = grind arith
 
 -- a close comes only if the session is over
 close_quiet : (b : Bool) (w : World) (t u : Told) (r : ℕ) (ms : List Message) → Stage b w t u → w.peer.channel ≡ bye r ∷ ms
     → shows_loss w.own.kept.phase ≡ false
-close_quiet b w t u r ms (inl h) e = absurd (no_bye_back h.way r ms (sym e ∙ h.peer_channel))
-close_quiet b w t u r ms (inr (inl h)) e = absurd (no_bye_out h.way r ms (sym e ∙ h.own_channel))
+close_quiet b w t u r ms (inl h) e = absurd (grind arith)
+close_quiet b w t u r ms (inr (inl h)) e = absurd (grind arith)
 close_quiet b w t u r ms (inr (inr h)) e = by_test (stopped w.own)
     (λ o. over_quiet w.own.kept.phase o)
     (λ l. absurd (let x = comes_unit b w h.core h.projects (bye r) ms l e in cc))
@@ -199,10 +157,6 @@ is_heard linked (unit u) = true
 is_heard linked (bye r) = true
 is_heard tr m = false
 
-shows_none : (b : Bool) (terms : Terms) (keep : ℕ) (tr : Transport) (w : World) (m : Message) → is_heard tr m ≡ false
-    → list_any is_lost (message_taken b terms keep tr w m).shown ≡ false
-shows_none b terms keep tr w m h = grind arith
-
 pub message_keeps : (b : Bool) (terms : Terms) (keep : ℕ) (w : World) (t u : Told) (x : Message) (xs : List Message) → Stage b w t u
     → w.peer.channel ≡ x ∷ xs → list_any is_lost (message_taken b terms keep w.own.transport (without_first w xs) x).shown ≡ false
 message_keeps b terms keep w t u x xs h e = by w.own.transport x e
@@ -211,4 +165,4 @@ message_keeps b terms keep w t u x xs h e = by w.own.transport x e
         → list_any is_lost (message_taken b terms keep tr (without_first w xs) m).shown ≡ false
     by linked (unit v) f = unit_keeps (session_of (without_first w xs)) v
     by linked (bye r) f = ap (list_any is_lost) (quiet_end w (close_quiet b w t u r xs h f))
-    by tr m f = shows_none b terms keep tr (without_first w xs) m refl
+    by tr m f = grind arith

@@ -16,17 +16,17 @@ use Rattle.osi_machine.proofs.basics.what_holds_in_each_phase.{by_either, by_tes
 use Rattle.osi_machine.proofs.basics.what_stands_at_a_reference.{all_more, all_replaced, all_with, some_same, all_got, all_at}
 use Rattle.osi_machine.proofs.invariant.each_step_keeps_one_side.{SessionLaws}
 use Rattle.osi_machine.proofs.whole.how_a_core_simulates_a_connection.{stopped}
-use Rattle.osi_machine.proofs.whole.every_step_is_simulated.{message_repeats}
+use Rattle.osi_machine.proofs.whole.every_step_is_simulated.{message_repeats, refused}
 use Rattle.osi_machine.proofs.whole.before_it_is_agreed_to.{caller_takes, called_takes}
 use Rattle.osi_machine.proofs.whole.every_stage_of_a_connection.{Stage, Whole, whole_kept, turned_back}
 use Rattle.osi_machine.proofs.machine.every_connection_of_a_run.{Lines, cut_to, IsGood, if_none, step_good, Claim, IsKept, taking_of}
 use Rattle.osi_machine.proofs.machine.every_connection_of_a_run.{none_yet}
-use Rattle.osi_machine.proofs.machine.a_connection_is_early_or_dead.{IsDead, IsEarly, dead_call, dead_called, dead_takes, dead_taken}
-use Rattle.osi_machine.proofs.machine.a_connection_is_early_or_dead.{dead_ends, dead_ended, dead_cut, quiet_end, over_quiet, NoAgree}
-use Rattle.osi_machine.proofs.machine.a_connection_is_early_or_dead.{is_agree, early_call, early_called, early_takes, early_taken}
-use Rattle.osi_machine.proofs.machine.a_connection_is_early_or_dead.{early_ends, early_ended, early_cut, none_back, none_call, none_takes}
-use Rattle.osi_machine.proofs.machine.a_connection_is_early_or_dead.{none_closed, none_ends, none_cut, is_lost, message_keeps}
+use Rattle.osi_machine.proofs.machine.a_connection_is_early_or_dead.{IsDead, IsEarly, dead_called, dead_takes, dead_cut, quiet_end}
+use Rattle.osi_machine.proofs.machine.a_connection_is_early_or_dead.{over_quiet, NoAgree, is_agree, early_call, early_called, early_takes}
+use Rattle.osi_machine.proofs.machine.a_connection_is_early_or_dead.{early_taken, early_ends, early_cut, none_back, none_call, none_takes}
+use Rattle.osi_machine.proofs.machine.a_connection_is_early_or_dead.{none_closed, none_ends, none_cut, is_lost, message_keeps, take_none}
 use Rattle.osi_machine.proofs.machine.what_two_records_tell.{StageOf, stage_of, stage_from}
+use Rattle.osi_machine.proofs.whole.a_close_a_break_and_an_end.{is_unit}
 use Rattle.osi_session.specs.declared.faults.CallError.TheVariants as error
 
 -- ---- all but one are dead
@@ -149,20 +149,11 @@ back P w h = subst P (sym (turned_back w)) h
 dead_quiet : (side : Side) (w : World) → IsDead w → shows_loss (seen_from side w).own.kept.phase ≡ false
 dead_quiet side w h = grind (arith, over_quiet)
 
-dead_side_call : (b : Bool) (side : Side) (w : World) (x : Call) → IsDead w
-    → IsDead (seen_from side (after_answer b x (seen_from side w) (allowed (session_of (seen_from side w)) x)))
-dead_side_call b side w x h = grind (arith, dead_call, dead_called, back)
-
-early_side_call : (b : Bool) (side : Side) (w : World) (x : Call) → StageOf b w → IsEarly w
-    → IsEarly (seen_from side (after_answer b x (seen_from side w) (allowed (session_of (seen_from side w)) x)))
-early_side_call b Left w x s h = early_call b w s.own s.peer x s.stage h
-early_side_call b Right w x s h = early_called b (turned w) s.own s.peer x (back (λ v. Stage b v s.own s.peer) w s.stage) (back IsEarly w h)
-
 dead_side_takes : (b : Bool) (terms : Terms) (keep : ℕ) (side : Side) (w : World) (x : Message) (xs : List Message)
     → (seen_from side w).peer.channel ≡ x ∷ xs → IsDead w
     → ((taking_of b terms keep (seen_from side w) x xs).closes ≡ false)
     × IsDead (seen_from side (taking_of b terms keep (seen_from side w) x xs).world)
-dead_side_takes b terms keep side w x xs e h = grind (arith, dead_takes, dead_taken, back)
+dead_side_takes b terms keep side w x xs e h = search (arith, dead_takes, back)
 
 known_before : (terms : Terms) (tr : Transport) (x : Message) (known : Option Class) → is_known (learns terms tr x known) ≡ false
     → is_known known ≡ false
@@ -183,16 +174,10 @@ ends_or_not : (P : World → Type 0) (side : Side) (n : ℕ) (w : World) → P (
     → P (seen_from side (ends_there n (seen_from side w)))
 ends_or_not P side n w h k = grind arith
 
-dead_ends_at : (side : Side) (n : ℕ) (w : World) → IsDead w → IsDead (seen_from side (ended_at n (seen_from side w)))
-dead_ends_at side n w h = grind (arith, dead_ends, dead_ended, back)
-
-dead_side_ends : (side : Side) (n : ℕ) (w : World) → IsDead w → IsDead (seen_from side (ends_there n (seen_from side w)))
-dead_side_ends side n w h = ends_or_not IsDead side n w (dead_ends_at side n w h) h
-
 early_ends_at : (b : Bool) (side : Side) (n : ℕ) (w : World) → StageOf b w × IsEarly w
     → IsEarly (seen_from side (ended_at n (seen_from side w)))
 early_ends_at b Left n w h = early_ends b n w h.0.own h.0.peer h.0.stage h.1
-early_ends_at b Right n w h = grind (arith, early_ended, back)
+early_ends_at b Right n w h = grind (arith, back)
 
 stages : (b : Bool) (j : List Entry) (k : ℕ) (ws : List World) (os : List Offer) → Lines Whole b j k ws os → AllByRecursion (StageOf b) ws
 stages b j k [] [] h = tt
@@ -216,23 +201,11 @@ none_more p [] ys h k = k
 none_more p (x ∷ xs) ys h k = let a = or_parts (p x) (list_any p xs) h in let b = none_more p xs ys a.1 k in rw (a.0, b) refl
 
 module _ (d side : Side) where
-  one_kept : (r : ℕ) (i : Shown) → is_lost i ≡ false → is_loss d (shown_at side r i) ≡ false
-  one_kept r i h = grind arith
-
   shown_kept : (r : ℕ) (shown : List Shown) → list_any is_lost shown ≡ false → list_any (is_loss d) (map (shown_at side r) shown) ≡ false
   shown_kept r [] h = refl
   shown_kept r (i ∷ shown) h =
       let a = or_parts (is_lost i) (list_any is_lost shown) h in
-      let b = one_kept r i a.0 in
-      let c = shown_kept r shown a.1 in
-      rw (b, c) refl
-
-  one_other : (r : ℕ) (i : Shown) → is_side d side ≡ false → is_loss d (shown_at side r i) ≡ false
-  one_other r i h = grind arith
-
-  shown_other : (r : ℕ) (shown : List Shown) → is_side d side ≡ false → list_any (is_loss d) (map (shown_at side r) shown) ≡ false
-  shown_other r [] h = refl
-  shown_other r (i ∷ shown) h = let b = one_other r i h in let c = shown_other r shown h in rw (b, c) refl
+      grind (arith, shown_kept r shown a.1)
 
   -- what an end shows of one connection, and then of those after it
   and_rest : (k : ℕ) (w : World) (ws : List World) → list_any (is_loss d) (map (shown_at side k) (shown_at_end (seen_from side w))) ≡ false
@@ -241,15 +214,11 @@ module _ (d side : Side) where
 
   order_other : (k : ℕ) (ws : List World) → is_side d side ≡ false → list_any (is_loss d) (shown_in_order side k ws) ≡ false
   order_other k [] h = refl
-  order_other k (w ∷ ws) h = and_rest k w ws (shown_other k (shown_at_end (seen_from side w)) h) (order_other (k + 1) ws h)
-
-  quiet_first : (k : ℕ) (w : World) → shows_loss (seen_from side w).own.kept.phase ≡ false
-      → list_any (is_loss d) (map (shown_at side k) (shown_at_end (seen_from side w))) ≡ false
-  quiet_first k w e = ap (λ (shown : List Shown). list_any (is_loss d) (map (shown_at side k) shown)) (quiet_end (seen_from side w) e)
+  order_other k (w ∷ ws) h = and_rest k w ws (grind arith) (order_other (k + 1) ws h)
 
   order_dead : (k : ℕ) (ws : List World) → AllByRecursion IsDead ws → list_any (is_loss d) (shown_in_order side k ws) ≡ false
   order_dead k [] h = refl
-  order_dead k (w ∷ ws) h = and_rest k w ws (quiet_first k w (dead_quiet side w h.0)) (order_dead (k + 1) ws h.1)
+  order_dead k (w ∷ ws) h = and_rest k w ws (grind (arith, quiet_end)) (order_dead (k + 1) ws h.1)
 
   -- if one connection that was not dead is over now
   order_one : (k r : ℕ) (ws : List World) (w v : World) → slice_get ws r ≡ Some w → (IsDead w → ⊥)
@@ -257,8 +226,8 @@ module _ (d side : Side) where
       → OneAlive ws → list_any (is_loss d) (shown_in_order side k (replaced r v ws)) ≡ false
   order_one k r [] w v e n q h = absurd (cc)
   order_one k zero (x ∷ ws) w v e n q (inl h) = absurd (n (subst IsDead (some_same x w e) h.0))
-  order_one k zero (x ∷ ws) w v e n q (inr h) = and_rest k v ws (quiet_first k v q) (order_dead (k + 1) ws h)
-  order_one k (suc r) (x ∷ ws) w v e n q (inl h) = grind (arith, and_rest, quiet_first, dead_quiet, order_one (k + 1) r ws w v e n q h.1)
+  order_one k zero (x ∷ ws) w v e n q (inr h) = and_rest k v ws (grind (arith, quiet_end)) (order_dead (k + 1) ws h)
+  order_one k (suc r) (x ∷ ws) w v e n q (inl h) = grind (arith, and_rest, dead_quiet, order_one (k + 1) r ws w v e n q h.1)
   order_one k (suc r) (x ∷ ws) w v e n q (inr h) = absurd (n (all_got IsDead r ws w e h))
 
   order_with : (r : ℕ) (ws : List World) (w v : World) → connection_at r ws ≡ Some w → (IsDead w → ⊥)
@@ -302,17 +271,10 @@ call_calm : (m : Machine) (side : Side) (r : ℕ) (x : Call) → ((w : World) �
     → (a : Option World) → connection_at r m.worlds ≡ a → IsCalm m → IsCalm (call_in m side r x (side_of side a))
 call_calm m side r x g None e c = note_calm m (call_answered side r x (Some error.NoSuchConnection) ∷ []) (λ d. refl) c
 call_calm m side r x g (Some w) e c =
-    let s : StageOf m.broken w = g w e in
     let a = allowed (session_of (seen_from side w)) x in
     by_test (is_given (seen_from side w).own.transport)
     (λ q. rw q (move_calm m m.known side r w (after_answer m.broken x (seen_from side w) a) (call_answered side r x (error_of a) ∷ []) e
-    (record {
-      classes = c.classes;
-      before = λ n. n;
-      dead = dead_side_call m.broken side w x;
-      early = λ n. early_side_call m.broken side w x s;
-      kept = λ d. refl;
-    }) c))
+    (grind (arith, refused, dead_called, back, early_call, early_called)) c))
     (λ q. rw q (note_calm m (call_answered side r x (Some error.NoSuchConnection) ∷ []) (λ d. refl) c))
 
 -- ---- the end of a side
@@ -345,38 +307,23 @@ lost_calm m side e keep t g c = marked_calm side e _
     (λ d n. let p = own_loses (is_side d side) e (end_at m.left_end m.right_end d) t n in
     end_journal d side e m (c.losses d p.1) (order_other d side 1 m.worlds p.0))
     c.classes
-    (λ a. one_ended side keep (dead_side_ends side) 1 m.worlds (c.alone a))
+    (λ a. one_ended side keep (grind (arith, take_none, is_unit, back, ends_or_not)) 1 m.worlds (c.alone a))
     (λ n. all_from side keep (λ w. StageOf m.broken w × IsEarly w) IsEarly
     (λ i w h. ends_or_not IsEarly side i w (early_ends_at m.broken side i w h) h.1)
     1 m.worlds (both_of (StageOf m.broken) IsEarly m.worlds g (c.early n)))
-
--- a side ends that has closed: the connection is over, and all others are dead
-closed_loses : (b : Bool) (o : Option Ending) → (b ≡ true → is_some o ≡ false) → loses (if b then Some closed_here else o) ≡ false
-    → loses o ≡ false
-closed_loses b o i n = grind arith
-
-here : (d side : Side) (l r : Option Ending) → is_some (end_at l r side) ≡ false → is_side d side ≡ true → is_some (end_at l r d) ≡ false
-here d side l r i e = grind arith
-
-not_2 : (terms : Terms) → by_terms terms (Some class_0) ≡ true → is_class_2 terms ≡ false
-not_2 terms h = grind arith
-
-quiet_back : (side : Side) (v : World) → shows_loss v.own.kept.phase ≡ false
-    → shows_loss (seen_from side (seen_from side v)).own.kept.phase ≡ false
-quiet_back side v q = grind arith
 
 -- `m` is the machine after the receiver's indications are recorded, `v` the connection after them
 over_calm : (m : Machine) (side : Side) (r : ℕ) (keep : ℕ → ℕ) (w v : World) → connection_at r m.worlds ≡ Some w
     → is_some (end_at m.left_end m.right_end side) ≡ false → m.known ≡ Some class_0 → (IsDead w → ⊥) → shows_loss v.own.kept.phase ≡ false
     → IsCalm m → IsCalm (after_end side closed_here keep (stays m side r v))
 over_calm m side r keep w v e i known n q c =
-    let one = c.alone (not_2 m.terms (subst (λ (k : Option Class). by_terms m.terms k ≡ true) known c.classes)) in
+    let one = c.alone (grind arith) in
     marked_calm side closed_here _
     (λ d k. end_journal d side closed_here (stays m side r v)
-    (c.losses d (closed_loses (is_side d side) (end_at m.left_end m.right_end d) (here d side m.left_end m.right_end i) k))
-    (order_with d side r m.worlds w (seen_from side v) e n (quiet_back side v q) one))
+    (c.losses d (grind arith))
+    (order_with d side r m.worlds w (seen_from side v) e n (grind arith) one))
     c.classes
-    (λ t. one_ended side keep (dead_side_ends side) 1 (with_connection r (seen_from side v) m.worlds)
+    (λ t. one_ended side keep (grind (arith, take_none, is_unit, back, ends_or_not)) 1 (with_connection r (seen_from side v) m.worlds)
     (one_with r m.worlds w (seen_from side v) e (λ d. absurd (n d)) one))
     (λ k. absurd (let x = sym (ap is_known known) ∙ k in cc))
 
@@ -470,40 +417,27 @@ delivery_calm laws m side r keep i g c (Some w) e = by (seen_from side w).peer.c
 dead_all : (ws : List World) → AllByRecursion IsEarly ws → list_any is_waiting (map transport_of ws) ≡ false → AllByRecursion IsDead ws
 dead_all [] h e = tt
 dead_all (w ∷ ws) h e = let p = or_parts (is_waiting w.own.transport) (list_any is_waiting (map transport_of ws)) e in (
-  by_either h.0
-      (λ t. let n : is_waiting w.own.transport ≡ false = p.0 in absurd (let z = sym (ap is_waiting t) ∙ n in cc))
-      (λ d. d),
+  grind (arith, by_either),
   dead_all ws h.1 p.1,
 )
 
 abbrev new_line : Bool → Offer → World
 new_line b o = if b then record (asked_with o) { own = record (asked_with o).own { channel = [] } } else asked_with o
 
-new_early : (b : Bool) (o : Offer) → IsEarly (new_line b o)
-new_early b o = grind arith
-
-none_waits : (known : Option Class) (asked : List Transport) → (not (is_known known) && list_any is_waiting asked) ≡ false
-    → is_known known ≡ false
-    → list_any is_waiting asked ≡ false
-none_waits known asked h n = grind arith
-
 one_asked : (m : Machine) (w : World) → IsCalm m → (not (is_known m.known) && list_any is_waiting (map transport_of m.worlds)) ≡ false
     → is_class_0 m.known ≡ false → is_class_2 m.terms ≡ false → (known : Option Class) → m.known ≡ known → OneAlive (m.worlds ++ w ∷ [])
-one_asked m w c a z t known e = search (arith, one_more, dead_all, none_waits)
+one_asked m w c a z t known e = grind (arith, one_more, dead_all)
 
 asked_calm : (m : Machine) (o : Offer) (a : Option Refusal) → refusal m o ≡ a → IsCalm m
     → IsCalm (noted (connect_answered o a ∷ []) (asked_in m o a))
 asked_calm m o (Some e) q c = note_calm m (connect_answered o (Some e) ∷ []) (λ d. refl) c
 asked_calm m o None q c =
     let a = if_none (is_some m.left_end) _ _ q in
-    let b = if_none (not (is_known m.known) && list_any is_waiting (map transport_of m.worlds)) _ _ a.1 in
-    let z = if_none (is_class_0 m.known) _ _ b.1 in
-    note_calm (record m { worlds = m.worlds ++ new_line m.broken o ∷ [] }) (connect_answered o None ∷ []) (λ d. refl) (record {
-      classes = c.classes;
-      alone = λ t. one_asked m (new_line m.broken o) c b.0 z.0 t m.known refl;
-      early = λ n. all_more IsEarly m.worlds (new_line m.broken o) (new_early m.broken o) (c.early n);
-      losses = c.losses;
-    })
+    note_calm (record m { worlds = m.worlds ++ new_line m.broken o ∷ [] }) (connect_answered o None ∷ []) (λ d. refl) (grind (
+      arith,
+      one_asked,
+      all_more,
+    ))
 
 -- ---- a step, and a list of steps
 
@@ -532,8 +466,7 @@ module _ (laws : SessionLaws) (terms : Terms) where
   known_at : (m : Machine) → Keeps m → (r : ℕ) (w : World) → connection_at r m.worlds ≡ Some w → Known m.terms m.broken w
   known_at m g r w e = record {
     stage = stage_of terms m g.good r w e;
-    denied = λ d. all_at NoAgree r m.worlds w e (all_denied terms m.broken m.journal 1 m.worlds g.denied.offers g.denied.lines
-        (ap is_denial (sym g.denied.agreed) ∙ d));
+    denied = λ d. all_at NoAgree r m.worlds w e (grind (arith, all_denied));
   }
 
   step_calm : (m : Machine) (s : Step) → Keeps m → IsCalm (step m s)
@@ -547,11 +480,7 @@ module _ (laws : SessionLaws) (terms : Terms) where
 
   run_keeps : (m : Machine) (steps : List Step) → AllByRecursion HasNumber steps → Keeps m → Keeps (run m steps)
   run_keeps m [] small g = g
-  run_keeps m (s ∷ steps) small g = run_keeps (step m s) steps small.1 (record {
-    good = step_good terms Whole (whole_kept laws terms) m s small.0 g.good;
-    denied = step_good terms (Denied terms) (denied_kept terms) m s small.0 g.denied;
-    calm = step_calm m s g;
-  })
+  run_keeps m (s ∷ steps) small g = run_keeps (step m s) steps small.1 (search (arith, step_good, whole_kept, denied_kept, step_calm))
 
   losses_of : (steps : List Step) → AllByRecursion HasNumber steps → (side : Side)
       → list_any (is_loss side) (run (start terms) steps).journal ≡ true → loses (end_of side (run (start terms) steps)) ≡ true
@@ -562,11 +491,7 @@ module _ (laws : SessionLaws) (terms : Terms) where
       m = run (start terms) steps
 
       calm : IsCalm m
-      calm = (run_keeps (start terms) steps small (record {
-        good = none_yet terms Whole (whole_kept laws terms);
-        denied = none_yet terms (Denied terms) (denied_kept terms);
-        calm = record { classes = refl; alone = λ t. tt; early = λ n. tt; losses = λ d n. refl };
-      })).calm
+      calm = (run_keeps (start terms) steps small (grind (arith, none_yet, whole_kept, denied_kept))).calm
 
 pub losses_have_an_end : SessionLaws → (m : Machine) → IsRun m → LosesByItsEnd m
 losses_have_an_end laws m h side = grind (arith, losses_of)

@@ -11,8 +11,8 @@ use Rattle.osi_machine.proofs.Vocabulary.{after_answer, Taking, Terms, message_t
 use Rattle.osi_machine.proofs.Vocabulary.{error_of, without_first, Told, told_call, told_shown, told_by, is_side, record_of, untold}
 use Rattle.osi_machine.proofs.Vocabulary.{told_of, AllByRecursion, Class, class_2, Transport, Ending, closed_here, Refusal, Step, ended}
 use Rattle.osi_machine.proofs.Vocabulary.{start, connection_at, stays, noted, refusal_by, transport_of, refusal, asked_in, call_in, side_of}
-use Rattle.osi_machine.proofs.Vocabulary.{ended_worlds, marked_ended, after_end, closes_by, after_taking, learns, taken_in, delivered_to}
-use Rattle.osi_machine.proofs.Vocabulary.{cut_channels, step, run, HasNumber, and_right, not-false}
+use Rattle.osi_machine.proofs.Vocabulary.{ended_worlds, marked_ended, after_end, closes_by, after_taking, learns, taken_in, cut_channels}
+use Rattle.osi_machine.proofs.Vocabulary.{step, run, HasNumber, and_right, not-false}
 use Rattle.osi_machine.proofs.basics.what_holds_in_each_phase.{by_test, by_either}
 use Rattle.osi_machine.proofs.promises.what_a_record_tells.{told_all, record_append, told_append, other}
 use Rattle.osi_machine.proofs.basics.what_stands_at_a_reference.{some_same, replaced_count}
@@ -137,8 +137,7 @@ order_apart side d n k [] l = refl
 order_apart side d n k (w ∷ ws) l =
     let there : (n < k + 1) ⊎ (k + 1 + length ws ≤ n) = by_either l (λ a. inl (omega arith)) (λ a. inr (omega arith)) in
     none_twice d n (map (shown_at side k) (shown_at_end (seen_from side w))) (shown_in_order side (k + 1) ws)
-    (shown_by side k (shown_at_end (seen_from side w)) d n
-    (other_number d side k n (λ e. by_either l (λ a. omega arith) (λ a. omega arith))))
+    (grind (arith, shown_by, other_number, by_either))
     (order_apart side d n (k + 1) ws there)
 
 -- ---- all connections
@@ -232,26 +231,14 @@ cut_length left right k [] = refl
 cut_length left right k (w ∷ ws) = ap suc (cut_length left right (k + 1) ws)
 
 module _ (terms : Terms) (P : Claim) (kept : IsKept terms P) where
-  -- a note that tells nothing
-  mute_good : (m : Machine) (es : List Entry) → IsMute es → offers_in es ≡ [] → IsGood terms P m → IsGood terms P (noted es m)
-  mute_good m es f q g = grind (arith, mute_lines, told_more, none_asked)
-
   -- ---- seen from one side
-
-  to_side : (b : Bool) (side : Side) (w : World) (o : Offer) (T : Side → Told) → P b w o (T Left) (T Right)
-      → P b (seen_from side w) o (T side) (T (other side))
-  to_side b side w o T h = grind arith
-
-  from_side : (b : Bool) (side : Side) (w : World) (o : Offer) (T : Side → Told) → P b w o (T side) (T (other side))
-      → P b (seen_from side w) o (T Left) (T Right)
-  from_side b side w o T h = grind arith
 
   -- what is noted of a connection is of one side alone
   one_told : (b : Bool) (side : Side) (k : ℕ) (v : World) (o : Offer) (j es : List Entry) (f : Told → Told)
       → record_of (other side) k es ≡ []
       → ((t : Told) → told_by t (record_of side k es) ≡ f t) → P b v o (f (told_of side k o j)) (told_of (other side) k o j)
       → At P b (j ++ es) k (seen_from side v) o
-  one_told b side k v o j es f quiet tells h = grind (arith, from_side, seen_told, told_more, told_same, other)
+  one_told b side k v o j es f quiet tells h = grind (arith, seen_told, told_more, told_same, other)
 
   -- one connection moves, by one side
   move_good : (m : Machine) (side : Side) (r : ℕ) (w v : World) (es : List Entry) (f : Told → Told) → connection_at r m.worlds ≡ Some w
@@ -265,12 +252,8 @@ module _ (terms : Terms) (P : Claim) (kept : IsKept terms P) where
         (λ d n q. by d n (other_number d side (suc r) n (λ y. q (omega arith)))) e (λ o h.
         at_number P m.broken (m.journal ++ es) (suc r) (1 + r) (seen_from side v) o (omega arith)
         (one_told m.broken side (suc r) v o m.journal es f (by (other side) (suc r) (other_side side (suc r == suc r))) tells
-        (moves o _ _ (to_side m.broken side w o (λ d. told_of d (suc r) o m.journal)
-        (at_number P m.broken m.journal (1 + r) (suc r) w o (omega arith) h))))) g.lines;
-    fresh = λ d n o l.
-        let a = get_below m.worlds r w e in
-        let b = replaced_count r m.worlds (seen_from side v) in
-        told_same d n o m.journal es (by d n (other_number d side (suc r) n (λ y. omega arith))) ∙ g.fresh d n o (omega arith);
+        (moves o _ _ (grind arith)))) g.lines;
+    fresh = grind (arith, get_below, replaced_count, told_same, other_number);
     none = λ d o. told_same d 0 o m.journal es (by d 0 (other_number d side (suc r) 0 (λ y. omega arith))) ∙ g.none d o;
     agreed = g.agreed;
     asked = none_asked m.journal es none ∙ g.asked;
@@ -280,16 +263,14 @@ module _ (terms : Terms) (P : Claim) (kept : IsKept terms P) where
 
   asked_good : (m : Machine) (o : Offer) → CanBeOffered o → IsGood terms P m → (a : Option Refusal) → refusal m o ≡ a
       → IsGood terms P (noted (connect_answered o a ∷ []) (asked_in m o a))
-  asked_good m o small g (Some e) h = mute_good m (connect_answered o (Some e) ∷ []) (λ d n t. refl) refl g
+  asked_good m o small g (Some e) h = grind (arith, mute_lines, told_more, none_asked)
   asked_good m o small g None h = record {
     offers = g.offers ++ o ∷ [];
     lines = mute_lines P m.broken m.journal es 1 (m.worlds ++ new ∷ []) (g.offers ++ o ∷ []) (λ d n t. refl)
         (append_line P m.broken m.journal 1 m.worlds g.offers new o (seen_told P m.broken new o _ _ _ _
         (sym (g.fresh Left (1 + length m.worlds) o (omega arith))) (sym (g.fresh Right (1 + length m.worlds) o (omega arith))) first)
         g.lines);
-    fresh = λ d n p l.
-        let e = length-append m.worlds (new ∷ []) in
-        told_more d n p m.journal es ∙ g.fresh d n p (omega arith);
+    fresh = grind (arith, length-append, told_more);
     none = λ d p. told_more d 0 p m.journal es ∙ g.none d p;
     agreed = g.agreed;
     asked = offers_append m.journal es ∙ ap (λ (os : List Offer). os ++ o ∷ []) g.asked;
@@ -312,7 +293,7 @@ module _ (terms : Terms) (P : Claim) (kept : IsKept terms P) where
   call_good : (m : Machine) (side : Side) (r : ℕ) (c : Call) → HasSerial c → IsGood terms P m → (a : Option World)
       → connection_at r m.worlds ≡ a
       → IsGood terms P (call_in m side r c (side_of side a))
-  call_good m side r c small g None e = grind (arith, mute_good, refused_mute)
+  call_good m side r c small g None e = grind (arith, mute_lines, told_more, none_asked, refused_mute)
   call_good m side r c small g (Some w) e =
       let v = seen_from side w in
       let a = allowed (session_of v) c in
@@ -320,14 +301,9 @@ module _ (terms : Terms) (P : Claim) (kept : IsKept terms P) where
       (λ given. rw given (move_good m side r w (after_answer m.broken c v a) (call_answered side r c (error_of a) ∷ [])
       (λ t. told_of_call t c (error_of a)) e (call_by side r c (error_of a)) (λ t. call_own side r t c (error_of a)) refl
       (λ o s t h. kept.calls m.broken v o s t c small given h) g))
-      (λ given. rw given (mute_good m (call_answered side r c (Some error.NoSuchConnection) ∷ [])
-      (refused_mute side r c error.NoSuchConnection) refl g))
+      (λ given. rw given (grind (arith, mute_lines, told_more, none_asked)))
 
   -- ---- the end of a side
-
-  ends_kept : (b : Bool) (w : World) (o : Offer) (s t : Told) (keep : ℕ) → P b w o s t
-      → P b (ends_there keep w) o (told_all s (shown_at_end w)) t
-  ends_kept b w o s t keep h = grind arith
 
   end_lines : (b : Bool) (side : Side) (keep : ℕ → ℕ) (j es : List Entry) (k : ℕ) (ws : List World) (os : List Offer)
       → ((d : Side) (n : ℕ) → k ≤ n → record_of d n es ≡ []) → Lines P b j k ws os
@@ -337,10 +313,9 @@ module _ (terms : Terms) (P : Claim) (kept : IsKept terms P) where
     one_told b side k (ends_there (keep k) v) o j (es ++ (first ++ rest)) (λ t. told_all t (shown_at_end v))
         (alone (other side) ∙ shown_by side k (shown_at_end v) (other side) k (other_side side (k == k)))
         (λ t. ap (told_by t) (alone side) ∙ shown_own side k t (shown_at_end v))
-        (ends_kept b v o _ _ (keep k) (to_side b side w o (λ d. told_of d k o j) h.0)),
+        (grind arith),
     subst (λ (x : List Entry). Lines P b (j ++ x) (k + 1) (ended_worlds side keep (k + 1) ws) os) (append_assoc es first rest)
-        (end_lines b side keep j (es ++ first) (k + 1) ws os (λ d n l. none_twice d n es first (f d n (omega arith))
-        (shown_by side k (shown_at_end v) d n (other_number d side k n (λ e. omega arith)))) h.1),
+        (end_lines b side keep j (es ++ first) (k + 1) ws os (grind (arith, none_twice, shown_by, other_number)) h.1),
   )
     where
       v : World
@@ -376,8 +351,7 @@ module _ (terms : Terms) (P : Claim) (kept : IsKept terms P) where
         told_same d n o m.journal _ (none_told d n (order_apart side d n 1 m.worlds (inr (omega arith)))) ∙ g.fresh d n o (omega arith);
     none = λ d o. told_same d 0 o m.journal _ (none_told d 0 (order_apart side d 0 1 m.worlds (inl (omega arith)))) ∙ g.none d o;
     agreed = g.agreed;
-    asked = none_asked m.journal (shown ++ ended side e ∷ [])
-        (offers_append shown (ended side e ∷ []) ∙ append-nil (offers_in shown) ∙ order_offers side 1 m.worlds) ∙ g.asked;
+    asked = grind (arith, none_asked, offers_append, append-nil, order_offers);
   })
     where
       shown : List Entry
@@ -419,12 +393,7 @@ module _ (terms : Terms) (P : Claim) (kept : IsKept terms P) where
       let n : Machine = record m { known = learns m.terms (seen_from side w).own.transport x m.known } in
       subst (λ (z : Terms). IsGood terms P (after_taking n side r keep (taking_of m.broken z (keep r) (seen_from side w) x xs)))
       (sym g.agreed)
-      (taking_good n side r keep w x xs e c
-      (record { offers = g.offers; lines = g.lines; fresh = g.fresh; none = g.none; agreed = g.agreed; asked = g.asked }))
-
-  delivery_good : (m : Machine) (side : Side) (r : ℕ) (keep : ℕ → ℕ) → IsGood terms P m → (a : Option World) → connection_at r m.worlds ≡ a
-      → IsGood terms P (delivered_to m side r keep (side_of side a))
-  delivery_good m side r keep g a e = grind (arith, taken_good)
+      (search (arith, taking_good))
 
   -- ---- a break
 
@@ -434,14 +403,10 @@ module _ (terms : Terms) (P : Claim) (kept : IsKept terms P) where
   cut_lines j left right k (w ∷ ws) (o ∷ os) h = grind (arith, cut_lines j left right (k + 1) ws os h.1)
   cut_lines j left right k _ _ h = absurd h
 
-  break_good : (m : Machine) (left right : ℕ → ℕ) → IsGood terms P m
-      → IsGood terms P (if m.broken then m else record m { broken = true; worlds = cut_channels left right 1 m.worlds })
-  break_good m left right g = search (arith, cut_lines, cut_length)
-
   -- ---- a step, and a list of steps
 
   pub step_good : (m : Machine) (s : Step) → HasNumber s → IsGood terms P m → IsGood terms P (step m s)
-  step_good m s small g = search (arith, asked_good, call_good, delivery_good, break_good, end_good)
+  step_good m s small g = search (arith, asked_good, call_good, taken_good, cut_lines, cut_length, end_good)
 
   run_good : (m : Machine) (steps : List Step) → AllByRecursion HasNumber steps → IsGood terms P m → IsGood terms P (run m steps)
   run_good m [] small g = g

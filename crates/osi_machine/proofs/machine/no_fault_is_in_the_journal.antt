@@ -3,9 +3,9 @@
 use Rattle.std.proofs.Common.{◌≡◌, refl, sym, ◌∙◌, ℕ, zero, suc, ◌<◌, Bool, false, ◌||◌, if◌then◌else◌, List, [], ◌∷◌, length, Option, Some}
 use Rattle.std.proofs.Common.{None, arith}
 use Rattle.osi_machine.specs.Examples.{for_asker}
-use Rattle.osi_machine.proofs.Vocabulary.{or_assoc, or-false, or-true, list_any, slice_get, Call, no_sizes, Offer, Side, Left, Right, World}
-use Rattle.osi_machine.proofs.Vocabulary.{Machine, Entry, shown_at, connection_at, Told, told_call, told_entry, told_by, is_of, record_of}
-use Rattle.osi_machine.proofs.Vocabulary.{untold, told_of, IsRun, is_fault, HasNoFault, or_parts}
+use Rattle.osi_machine.proofs.Vocabulary.{or_assoc, or-false, list_any, slice_get, no_sizes, Offer, Side, Left, Right, World, Machine}
+use Rattle.osi_machine.proofs.Vocabulary.{Entry, shown_at, connection_at, Told, told_entry, told_by, is_of, record_of, untold, told_of}
+use Rattle.osi_machine.proofs.Vocabulary.{IsRun, is_fault, HasNoFault, or_parts}
 use Rattle.osi_machine.proofs.invariant.each_step_keeps_one_side.{SessionLaws}
 use Rattle.osi_machine.proofs.whole.every_stage_of_a_connection.{Whole}
 use Rattle.osi_machine.proofs.machine.every_connection_of_a_run.{own_entry, IsGood}
@@ -13,15 +13,9 @@ use Rattle.osi_machine.proofs.machine.what_two_records_tell.{good_run, no_faults
 
 -- ---- a record tells whether one of its entries is a fault
 
-call_faulted : (t : Told) (c : Call) → (told_call t c).faulted ≡ t.faulted
-call_faulted t c = grind arith
-
-entry_faulted : (t : Told) (e : Entry) → (told_entry t e).faulted ≡ (t.faulted || is_fault e)
-entry_faulted t e = search (arith, call_faulted, or-false, or-true)
-
 told_faulted : (t : Told) (es : List Entry) → (told_by t es).faulted ≡ (t.faulted || list_any is_fault es)
 told_faulted t [] = sym (or-false t.faulted)
-told_faulted t (e ∷ es) = grind (arith, entry_faulted, or_assoc, told_faulted (told_entry t e) es)
+told_faulted t (e ∷ es) = grind (arith, or_assoc, told_faulted (told_entry t e) es)
 
 fine_record : (t : Told) (es : List Entry) → (told_by t es).faulted ≡ false → list_any is_fault es ≡ false
 fine_record t es h = (or_parts t.faulted (list_any is_fault es) (sym (told_faulted t es) ∙ h)).1
@@ -38,9 +32,7 @@ fine_behind e es b h = grind (arith, or_parts)
 fine_journal : (j : List Entry) → ((d : Side) (n : ℕ) → list_any is_fault (record_of d n j) ≡ false) → list_any is_fault j ≡ false
 fine_journal [] h = refl
 fine_journal (e ∷ es) h =
-    let first = entry_fine e es h in
-    let rest = fine_journal es (λ d n. fine_behind e (record_of d n es) (is_of d n e) (h d n)) in
-    rw (first, rest) refl
+    grind (arith, fine_behind, entry_fine e es h, fine_journal es (λ d n. fine_behind e (record_of d n es) (is_of d n e) (h d n)))
 
 -- ---- the record of each reference, also of one that was not given
 
@@ -55,9 +47,6 @@ an_offer = record {
   octets = [];
 }
 
-untold_fine : (d : Side) (o : Offer) → (untold d o).faulted ≡ false
-untold_fine d o = grind arith
-
 none_from : (ws : List World) (r : ℕ) → slice_get ws r ≡ None → length ws < suc r
 none_from [] r e = omega arith
 none_from (w ∷ ws) zero e = absurd (cc)
@@ -69,8 +58,7 @@ not_given m h g d n o e = grind (arith, none_from)
 
 fine_at : SessionLaws → (m : Machine) → IsRun m → (d : Side) (n : ℕ) (a : Option World) → connection_at n m.worlds ≡ a
     → list_any is_fault (record_of d n m.journal) ≡ false
-fine_at laws m h d n None e =
-    grind (arith, fine_record, an_offer, not_given m h (good_run laws m h) d n an_offer e, good_run laws m h, untold_fine d an_offer)
+fine_at laws m h d n None e = grind (arith, fine_record, an_offer, not_given m h (good_run laws m h) d n an_offer e, good_run laws m h)
 fine_at laws m h Left n (Some w) e = fine_record (untold Left w.offer) (record_of Left n m.journal) (no_faults laws m h n w e).0
 fine_at laws m h Right n (Some w) e = fine_record (untold Right w.offer) (record_of Right n m.journal) (no_faults laws m h n w e).1
 

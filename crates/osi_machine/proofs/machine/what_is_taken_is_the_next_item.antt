@@ -1,22 +1,15 @@
 -- Data or a point that is taken is the item of the history at the mark of its taker.
 -- For the clause `item` of `what_two_records_tell`.
-use Rattle.std.proofs.Common.{◌≡◌, sym, ◌∙◌, ap, subst, ℕ, Bool, true, false, List, [], ◌∷◌, ◌++◌, take, length, inl, inr, arith}
-use Rattle.osi_machine.proofs.Vocabulary.{State, Meaning, is_over, Item, Begins, is_acted_on, Message, unit, World, session_of, Machine}
-use Rattle.osi_machine.proofs.Vocabulary.{Told, brings, IsRun, OfEach, TakesItsItem, TakeTheirItems}
+use Rattle.std.proofs.Common.{◌≡◌, sym, ◌∙◌, ap, subst, ℕ, Bool, true, false, List, ◌∷◌, ◌++◌, take, length, inl, inr, arith}
+use Rattle.osi_machine.proofs.Vocabulary.{State, Meaning, Item, Begins, is_acted_on, Message, unit, World, session_of, Machine, Told}
+use Rattle.osi_machine.proofs.Vocabulary.{brings, IsRun, OfEach, TakesItsItem, TakeTheirItems}
 use Rattle.osi_machine.proofs.invariant.each_step_keeps_one_side.{SessionLaws}
 use Rattle.osi_machine.proofs.promises.what_two_users_may_rely_on.{none_brought, sees_the_history, takes_the_next_item}
-use Rattle.osi_machine.proofs.whole.how_a_core_simulates_a_connection.{stopped, IsLast, Carried, taken_view, session_is}
+use Rattle.osi_machine.proofs.whole.how_a_core_simulates_a_connection.{stopped, Carried, taken_view, session_is}
 use Rattle.osi_machine.proofs.whole.a_unit_is_taken.{split_first}
 use Rattle.osi_machine.proofs.whole.every_step_is_simulated.{Repeats}
 use Rattle.osi_machine.proofs.whole.every_stage_of_a_connection.{Stage, turned_stage}
 use Rattle.osi_machine.proofs.machine.what_two_records_tell.{stage_at}
-use Rattle.osi_machine.proofs.whole.before_it_is_agreed_to.{no_unit_back, no_unit_out}
-
-acted_lives : (s : State) (u : Meaning) → is_acted_on s u ≡ true → is_over s.phase ≡ false
-acted_lives s u a = grind arith
-
-last_brings : (s r : State) (u : Meaning) → IsLast r u → brings s u ≡ []
-last_brings s r u l = grind arith
 
 next_there : SessionLaws → (b : Bool) (w : World) (t u : Told) (m : Meaning) (ms : List Message) (h : Repeats b w t u)
     → w.peer.channel ≡ unit m ∷ ms → stopped w.own ≡ false
@@ -26,15 +19,14 @@ next_there laws b w t u m ms h e l a =
     (h.projects.own.carried l) in
     elim (split_first b (stopped w.peer) m ms h.core.peer.sent h.core.peer.session way) [
       | inl f ↦ takes_the_next_item laws h.core h.stands m f.rest f.sent_is a
-      | inr z ↦ subst (λ (is : List Item). Begins (h.core.own.view ++ is) h.core.history)
-          (sym (last_brings h.core.own.session h.core.peer.session m z.last)) (none_brought h.core h.stands)
+      | inr z ↦ grind (arith, none_brought)
     ]
 
 takes_its_item : SessionLaws → (b : Bool) (w : World) (t u : Told) → Stage b w t u → TakesItsItem w
-takes_its_item laws b w t u (inl h) m ms e a = absurd (no_unit_back h.way m ms (sym e ∙ h.peer_channel))
-takes_its_item laws b w t u (inr (inl h)) m ms e a = absurd (no_unit_out h.way m ms (sym e ∙ h.own_channel))
+takes_its_item laws b w t u (inl h) m ms e a = absurd (grind arith)
+takes_its_item laws b w t u (inr (inl h)) m ms e a = absurd (grind arith)
 takes_its_item laws b w t u (inr (inr h)) m ms e a =
-    let l : stopped w.own ≡ false = acted_lives (session_of w) m a in
+    let l : stopped w.own ≡ false = grind arith in
     let same = session_is w h.core h.stands h.projects.history h.projects.own.counted (h.projects.own.alike l) in
     let seen = ap (λ (k : ℕ). take k w.history) h.projects.own.counted.marked ∙ ap (take (length h.core.own.view)) h.projects.history
     ∙ taken_view h.core.own.view h.core.history (sees_the_history h.core h.stands) in

@@ -6,7 +6,7 @@ use Rattle.osi_machine.specs.Core.{turned as turned_core}
 use Rattle.osi_machine.proofs.Vocabulary.{or_comm, slice_get, is_over, FunctionalUnits, Item, Point, PointKind, points, Begins, Agree}
 use Rattle.osi_machine.proofs.Vocabulary.{Offer, Left, Right, Core, is_opening, World, Machine, Entry, connection_at, Told, told_of, IsRun}
 use Rattle.osi_machine.proofs.Vocabulary.{OfEach, HasOneHolder, ShowNoFault, RecordsAgree, ShownAsAsked, ConfirmedThere, ConfirmedInBoth}
-use Rattle.osi_machine.proofs.Vocabulary.{untold, Side, seen_from, Terms}
+use Rattle.osi_machine.proofs.Vocabulary.{Side, seen_from, Terms}
 use Rattle.osi_machine.proofs.basics.what_holds_in_each_phase.{by_test, by_either}
 use Rattle.osi_machine.proofs.basics.what_a_restart_leaves_of_a_history.{points_append}
 use Rattle.osi_machine.proofs.channels.a_held_token_keeps_units_out.{flush_open}
@@ -86,12 +86,9 @@ record Silent (t : Told) : Type 0 where
   view : t.view ≡ []
   indicated : t.indicated ≡ []
 
-silent : (d : Side) (o : Offer) (t : Told) → t ≡ untold d o → Silent t
-silent d o t e = grind arith
-
 agreed_or_not : (b : Bool) (w : World) (s t : Told) → Stage b w s t → Silent s ⊎ Repeats b w s t
-agreed_or_not b w s t (inl h) = inl (silent Left w.offer s h.own_told)
-agreed_or_not b w s t (inr (inl h)) = inl (silent Right w.offer s h.peer_told)
+agreed_or_not b w s t (inl h) = inl (grind arith)
+agreed_or_not b w s t (inr (inl h)) = inl (grind arith)
 agreed_or_not b w s t (inr (inr h)) = inr h
 
 -- ---- the views
@@ -181,8 +178,7 @@ nil_begins (i ∷ v) b = absurd (let e = ap length b.1 in omega arith)
 duplex_view : (c : Core) → Stands c → is_opening c.own.session.phase ≡ false → c.own.session.units.duplex ≡ true → c.own.view ≡ []
 duplex_view c s e d =
     let units = (flush_open c.own.session c.peer.sent e s.own.fits).units in
-    nil_begins c.own.view (subst (Begins c.own.view) (s.own_views.stream (ap (λ (u : FunctionalUnits). u.duplex) units ∙ d)).1
-    (sees_the_history c s))
+    nil_begins c.own.view (grind (arith, sees_the_history))
 
 pointed : (before v : List Item) (n : ℕ) (kind : PointKind) (octets : List ℕ) → Begins (before ++ Point n kind octets ∷ []) v → points v ≡ 0
     → ⊥

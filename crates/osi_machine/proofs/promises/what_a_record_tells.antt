@@ -7,15 +7,14 @@ use Rattle.osi_machine.proofs.Vocabulary.{append-nil, Shown, State, FunctionalUn
 use Rattle.osi_machine.proofs.Vocabulary.{Major, MajorConfirm, Restart, RestartConfirm, Release, ReleaseRefuse, Meaning, CN, AC, DT, GT, PT}
 use Rattle.osi_machine.proofs.Vocabulary.{MIP, MIA, MAP, MAA, RS, RA, FN, NF, Phase, is_over, is_connecting, is_ready, is_major_asked}
 use Rattle.osi_machine.proofs.Vocabulary.{is_major_due, is_releasing, is_release_due, is_restarting, is_restart_due, becomes, shown_for}
-use Rattle.osi_machine.proofs.Vocabulary.{after, may_call, Good, Item, Octets, Point, PointKind, points, seen, got_in, is_plain}
-use Rattle.osi_machine.proofs.Vocabulary.{view_called, speaks, stays_in_core, is_opening, Told, told_call, told_shown, AllByRecursion}
-use Rattle.osi_machine.proofs.Vocabulary.{CallError, Granted, Answer, Outcome, nothing, good, drops, allowed, respond_unit, Agree}
-use Rattle.osi_machine.proofs.Vocabulary.{is_acted_on, AllFit, Core, CoreStep, call_at, take_at, Side, Left, Right, Offer, answered, taking}
-use Rattle.osi_machine.proofs.Vocabulary.{takes, core_step, core_run, core_start, IsNumberedStep, Entry, call_answered, shown_at, error_of}
-use Rattle.osi_machine.proofs.Vocabulary.{told_entry, told_by, record_of, untold, call_entries, take_entries, core_entries, core_journal}
-use Rattle.osi_machine.proofs.Vocabulary.{left_told, right_told, AreTold}
+use Rattle.osi_machine.proofs.Vocabulary.{after, may_call, Good, Item, points, seen, got_in, is_plain, view_called, speaks, stays_in_core}
+use Rattle.osi_machine.proofs.Vocabulary.{is_opening, Told, told_call, told_shown, AllByRecursion, CallError, Granted, Answer, Outcome}
+use Rattle.osi_machine.proofs.Vocabulary.{nothing, good, drops, allowed, respond_unit, Agree, is_acted_on, AllFit, Core, CoreStep, call_at}
+use Rattle.osi_machine.proofs.Vocabulary.{take_at, Side, Left, Right, Offer, answered, taking, core_step, core_run, core_start}
+use Rattle.osi_machine.proofs.Vocabulary.{IsNumberedStep, Entry, shown_at, error_of, told_entry, told_by, record_of, untold, call_entries}
+use Rattle.osi_machine.proofs.Vocabulary.{take_entries, core_entries, core_journal, left_told, right_told, AreTold}
 use Rattle.osi_machine.proofs.basics.what_holds_in_each_phase.{implied, excluded, by_test, every}
-use Rattle.osi_machine.proofs.basics.what_a_restart_leaves_of_a_history.{cut_points, one_point_more, no_point_more}
+use Rattle.osi_machine.proofs.basics.what_a_restart_leaves_of_a_history.{cut_points, points_append}
 use Rattle.osi_machine.proofs.channels.a_unit_is_dropped_bad_or_acted_on.{fit_acts, no_fault}
 use Rattle.osi_machine.proofs.invariant.what_holds_of_both_sides.{Stands}
 use Rattle.osi_machine.proofs.invariant.each_step_keeps_one_side.{SessionLaws}
@@ -72,14 +71,6 @@ calm_tells t s v said got c b e a d f x y q = search (arith, calm_parts)
 none_more : (t : Told) (v : List Item) (b : Bool) → (b ≡ false → t.view ≡ v) → b ≡ false → t.view ≡ v ++ []
 none_more t v b f d = f d ∙ sym (append-nil v)
 
-octets_called : (b : Bool) (t v : List Item) (octets : List ℕ) → points t ≡ points v
-    → points (t ++ Octets octets ∷ []) ≡ points (v ++ (if b then [] else Octets octets ∷ []))
-octets_called b t v octets e = grind (arith, no_point_more, append-nil)
-
-octets_taken : (b : Bool) (t v : List Item) (octets : List ℕ) → points t ≡ points v
-    → points (t ++ Octets octets ∷ []) ≡ points (if b then v else v ++ Octets octets ∷ [])
-octets_taken b t v octets e = grind (arith, no_point_more)
-
 same_points : (t : Told) (s : State) (v : List Item) (said got : List (List ℕ)) → Tells t s v said got → points t.view ≡ points (v ++ [])
 same_points t s v said got h = h.pointed ∙ ap points (sym (append-nil v))
 
@@ -88,24 +79,6 @@ same_points t s v said got h = h.pointed ∙ ap points (sym (append-nil v))
 not_asking : (t : Told) (s : State) (v : List Item) (said got : List (List ℕ)) → Tells t s v said got → is_restarting s.phase ≡ false
     → t.asking ≡ false
 not_asking t s v said got h e = h.asking ∙ e
-
-data_added : (b : Bool) (t v : List Item) (octets : List ℕ) → t ≡ v → b ≡ false
-    → t ++ Octets octets ∷ [] ≡ v ++ (if b then [] else Octets octets ∷ [])
-data_added b t v octets e d = rw (e, d) refl
-
-point_added : (n base : ℕ) (t v : List Item) (k : PointKind) (octets : List ℕ) → base + points t ≡ n → t ≡ v
-    → t ++ Point (base + points t) k octets ∷ [] ≡ v ++ Point n k octets ∷ []
-point_added n base t v k octets e f = ap (λ (m : ℕ). t ++ Point m k octets ∷ []) e ∙ ap (λ (r : List Item). r ++ Point n k octets ∷ []) f
-
--- the number of the next point
-next_point : (t : Told) (s : State) (v : List Item) (said got : List (List ℕ)) → Tells t s v said got → s.numbers.next ≡ s.base + points v
-    → s.units.duplex ≡ false
-    → t.base + points t.view ≡ s.numbers.next
-next_point t s v said got h c d = let a = h.base in let b = ap points (h.view d) in omega arith
-
-octets_said : (b : Bool) (t v : List (List ℕ)) (octets : List ℕ) → t ≡ v → b ≡ true
-    → t ++ octets ∷ [] ≡ v ++ (if b then octets ∷ [] else [])
-octets_said b t v octets e d = rw (e, d) refl
 
 -- from a phase f of an open connection, in which no restart is awaited, to one in which nothing is opened
 module _ (f : Phase → Bool) (opens : every (λ p. not (f p) || is_open p) ≡ true)
@@ -142,10 +115,9 @@ pub call_tells : (t : Told) (s : State) (c : Call) (v : List Item) (said got : L
 unfolding calm
 call_tells t s (Accept requirements serial sides sizes octets) v said got k p n f h =
     grind (arith, implied, calm_tells, append-nil, not_asking, excluded, same_points)
-call_tells t s (Data octets) v said got k p n f h = grind (arith, open_tells, implied, calm, data_added, octets_said, octets_called)
-call_tells t s (Minor confirm octets) v said got k p n f h =
-    grind (arith, open_tells, implied, calm, point_added, next_point, append-nil, one_point_more)
-call_tells t s (Major octets) v said got k p n f h = grind (arith, open_tells, point_added, next_point, append-nil, one_point_more)
+call_tells t s (Data octets) v said got k p n f h = grind (arith, open_tells, implied, calm, points_append, append-nil)
+call_tells t s (Minor confirm octets) v said got k p n f h = grind (arith, open_tells, implied, calm, append-nil, points_append)
+call_tells t s (Major octets) v said got k p n f h = grind (arith, open_tells, append-nil, points_append)
 call_tells t s (MajorConfirm octets) v said got k p n f h = quiet_call is_major_due refl refl t s _ v said got p refl refl refl h
 call_tells t s (Restart m wishes octets) v said got k p n f h = grind (arith, append-nil, cut_points)
 call_tells t s (RestartConfirm sides octets) v said got k p n f h = quiet_call is_restart_due refl refl t s _ v said got p refl refl refl h
@@ -161,10 +133,6 @@ call_tells t s _ v said got k p n f h = absurd (cc)
 abbrev pub told_all : Told → List Shown → Told
 told_all t [] = t
 told_all t (i ∷ shown) = told_all (told_shown t i) shown
-
-data_taken : (b : Bool) (t v : List Item) (octets : List ℕ) → t ≡ v → b ≡ false
-    → t ++ Octets octets ∷ [] ≡ (if b then v else v ++ Octets octets ∷ [])
-data_taken b t v octets e d = rw (e, d) refl
 
 either : (P : List Shown → State → List Item → Type 0) (b : Bool) (a c : List Shown) (x y : State) (v w : List Item) → (b ≡ true → P a x v)
     → (b ≡ false → P c y w)
@@ -182,9 +150,9 @@ unfolding calm
 unit_tells t s (CN w r n x from to z o) v said got p g f h =
     grind (arith, implied, either_state, not_asking, append-nil, calm_tells, excluded)
 unit_tells t s (AC w r n x z o) v said got p g f h = grind (arith, implied, calm_tells, not_asking, excluded, append-nil)
-unit_tells t s (DT o) v said got p g f h = grind (arith, open_tells, implied, calm, data_taken, octets_said, octets_taken)
-unit_tells t s (MIP c n o) v said got p g f h = grind (arith, open_tells, implied, calm, append-nil, one_point_more)
-unit_tells t s (MAP n o) v said got p g f h = grind (arith, open_tells, append-nil, one_point_more)
+unit_tells t s (DT o) v said got p g f h = grind (arith, open_tells, implied, calm, points_append)
+unit_tells t s (MIP c n o) v said got p g f h = grind (arith, open_tells, implied, calm, append-nil, points_append)
+unit_tells t s (MAP n o) v said got p g f h = grind (arith, open_tells, append-nil, points_append)
 unit_tells t s (MAA n o) v said got p g f h = quiet_unit is_major_asked refl refl t s _ v said got g.expected refl refl refl h
 unit_tells t s (RS j n w o) v said got p g f h = grind (arith, either, calm_tells, implied, append-nil, cut_points, same_tells)
 unit_tells t s (RA n w o) v said got p g f h = grind (arith, calm_tells, implied, append-nil)
@@ -205,10 +173,6 @@ pub told_append : (t : Told) (es fs : List Entry) → told_by t (es ++ fs) ≡ t
 told_append t [] fs = refl
 told_append t (e ∷ es) fs = told_append (told_entry t e) es fs
 
-told_more : (side : Side) (t : Told) (es fs : List Entry)
-    → told_by t (record_of side 1 (es ++ fs)) ≡ told_by (told_by t (record_of side 1 es)) (record_of side 1 fs)
-told_more side t es fs = ap (told_by t) (record_append side 1 es fs) ∙ told_append t (record_of side 1 es) (record_of side 1 fs)
-
 -- ---- the entries of a step
 
 abbrev told_answer : Told → Call → Bool → Option CallError → Told
@@ -216,13 +180,9 @@ told_answer t c true None = told_call t c
 told_answer t c true (Some e) = t
 told_answer t c false e = t
 
-one_answer : (side : Side) (t : Told) (c : Call) (e : Option CallError)
-    → told_by t (record_of side 1 (call_answered side 1 c e ∷ [])) ≡ told_answer t c true e
-one_answer side t c e = grind arith
-
 call_told : (side : Side) (t : Told) (s : State) (c : Call)
     → told_by t (record_of side 1 (call_entries side s c)) ≡ told_answer t c (stays_in_core c) (error_of (allowed s c))
-call_told side t s c = grind (arith, one_answer)
+call_told side t s c = grind arith
 
 abbrev pub other : Side → Side
 other Left = Right
@@ -289,9 +249,7 @@ taken_tells w (u ∷ us) t e s h shown k =
     let acts : is_acted_on w.own.session u ≡ not (drops w.own.session u) = fit_acts w.own.session u lives f.0 in
     subst (λ (i : List Shown). Tells (told_all t i) (taking w (u ∷ us)).own.session (taking w (u ∷ us)).own.view
     (taking w (u ∷ us)).own.said (taking w (u ∷ us)).own.got) k (by_test (drops w.own.session u)
-    (λ d. subst (Wanted w u t (respond_unit w.own.session u)) (sym (acts ∙ ap not d))
-    (subst (λ (o : Outcome). Wanted w u t o false)
-    (sym (same ∙ ap (λ (b : Bool). if b then nothing w.own.session else good w.own.session u) d)) h))
+    (grind (arith, respond_unit))
     (λ d. subst (Wanted w u t (respond_unit w.own.session u)) (sym (acts ∙ ap not d))
     (subst (λ (o : Outcome). Wanted w u t o true)
     (sym (same ∙ ap (λ (b : Bool). if b then nothing w.own.session else good w.own.session u) d))
@@ -321,19 +279,15 @@ step_tells : SessionLaws → (w : Core) (step : CoreStep) (left right : Told) �
 step_tells laws w (call_at Left c) left right s h = search (arith, call_told, called_tells, call_untold, called_peer)
 step_tells laws w (call_at Right c) left right s h =
     record {
-      left = subst (λ (t : Told). Tells t (called (turned w) c).peer.session (called (turned w) c).peer.view (called (turned w) c).peer.said
-          (called (turned w) c).peer.got) (sym (call_untold Right left w.peer.session c)) (called_peer (turned w) c left h.left);
+      left = grind (arith, call_untold Right left w.peer.session c, called_peer (turned w) c left h.left);
       right = subst (λ (t : Told). Tells t (called (turned w) c).own.session (called (turned w) c).own.view (called (turned w) c).own.said
           (called (turned w) c).own.got) (sym (call_told Right right w.peer.session c))
           (called_tells laws (turned w) c right (turned_stands w s) h.right);
     }
 step_tells laws w (take_at Left) left right s h = search (Tells, take_told, taken_tells, take_untold, taken_peer)
 step_tells laws w (take_at Right) left right s h = record {
-  left = subst (λ (t : Told). Tells t (takes (turned w)).peer.session (takes (turned w)).peer.view (takes (turned w)).peer.said
-      (takes (turned w)).peer.got) (sym (take_untold Right left w.peer.session w.own.sent)) (taken_peer (turned w) w.own.sent left h.left);
-  right = subst (λ (t : Told). Tells t (takes (turned w)).own.session (takes (turned w)).own.view (takes (turned w)).own.said
-      (takes (turned w)).own.got) (sym (take_told Right right (turned w) w.own.sent))
-      (taken_tells (turned w) w.own.sent right refl (turned_stands w s) h.right (shown_of (turned w) w.own.sent) refl);
+  left = grind (arith, take_untold, taken_peer);
+  right = search (arith, taken_tells, take_told Right right (turned w) w.own.sent, turned_stands w s);
 }
 
 -- ---- a list of steps
@@ -348,7 +302,7 @@ run_tells laws w (step ∷ steps) left right small s h =
     let more = run_tells laws (core_step w step) steps (told_by left (record_of Left 1 (core_entries w step)))
     (told_by right (record_of Right 1 (core_entries w step)))
     small.1 (step_stands laws w step small.0 s) one in
-    search (Tells, told_more)
+    search (Tells, record_append, told_append)
 
 starts_told : (o : Offer) → TellBoth (core_start o) (untold Left o) (untold Right o)
 starts_told o = grind arith

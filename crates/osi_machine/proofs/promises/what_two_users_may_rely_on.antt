@@ -14,7 +14,6 @@ use Rattle.osi_machine.proofs.channels.a_held_token_keeps_units_out.{flush_open,
 use Rattle.osi_machine.proofs.channels.what_a_side_will_have_seen.{begins_points, heard_grown, listener_begins, begins_twice}
 use Rattle.osi_machine.proofs.invariant.what_holds_of_both_sides.{hearing, Views, Stands, profile_of, profile_data}
 use Rattle.osi_machine.proofs.invariant.each_step_keeps_one_side.{SessionLaws}
-use Rattle.osi_machine.proofs.invariant.it_holds_when_a_cn_is_sent.{starts_stand}
 use Rattle.osi_machine.proofs.invariant.no_side_is_over.{first_is_no_fault}
 use Rattle.osi_machine.proofs.calls.a_unit_that_changes_no_state.{said_seen}
 use Rattle.osi_machine.proofs.each_step_keeps_both_sides.{taking_stands, run_stands}
@@ -22,7 +21,7 @@ use Rattle.osi_machine.proofs.each_step_keeps_both_sides.{taking_stands, run_sta
 -- ---- the invariant holds of each connection that is reached
 
 pub offer_stands : (o : Offer) → CanBeOffered o → is_profile o.requirements ≡ true → Stands (core_start o)
-offer_stands o serial profile = search (arith, profile_of, starts_stand, profile_data)
+offer_stands o serial profile = grind (arith, profile_of, profile_data)
 
 pub reached_stands : SessionLaws → (w : Core) → IsReached w → Stands w
 reached_stands laws w r = grind (arith, run_stands, offer_stands)
@@ -59,13 +58,10 @@ abbrev tail_of : {A : Type 0} → List A → List A
 tail_of [] = []
 tail_of (x ∷ xs) = xs
 
-head_is : {A : Type 0} → (x y : A) (xs ys : List A) → x ∷ xs ≡ y ∷ ys → x ≡ y
-head_is x y xs ys e = grind arith
-
 agree_of : {A : Type 0} → (a b m k : List A) → a ++ m ≡ b ++ k → Agree a b
 agree_of [] b m k e = inl (b, refl)
 agree_of (x ∷ a) [] m k e = inr (x ∷ a, refl)
-agree_of (x ∷ a) (y ∷ b) m k e = grind (arith, head_is, agree_of a b m k (ap tail_of e))
+agree_of (x ∷ a) (y ∷ b) m k e = grind (arith, agree_of a b m k (ap tail_of e))
 
 begins_agree : {A : Type 0} → (a b h : List A) → Begins a h → Begins b h → Agree a b
 begins_agree a b h p q = agree_of a b p.0 q.0 (p.1 ∙ sym q.1)
@@ -153,17 +149,14 @@ confirmed_is_seen w s before n kind octets b l r = by (is_opening w.own.session.
   where
     by : (p q : Bool) → is_opening w.own.session.phase ≡ p → is_opening w.peer.session.phase ≡ q
         → Begins (before ++ Point n kind octets ∷ []) w.peer.view
-    by true q e f = absurd (none_in_nil before (Point n kind octets)
-        (subst (Begins (before ++ Point n kind octets ∷ [])) (s.consistent.own.fresh e).view b))
+    by true q e f = absurd (grind (arith, none_in_nil))
     by false q e f =
         let begun = flush_open w.own.session w.peer.sent e s.own.fits in
         let all = begins_twice (before ++ Point n kind octets ∷ []) w.own.view w.history b (sees_the_history w s) in
         let number = numbered_at w.own.session.base before n kind octets all.0
-        (subst (AreNumberedFrom w.own.session.base) (sym all.1 ∙ append_assoc before (Point n kind octets ∷ []) all.0)
-        (subst (λ (k : ℕ). AreNumberedFrom k w.history) begun.base s.pair.numbered)) in
+        (grind (arith, append_assoc)) in
         let grown = heard_grown w.own.session.numbers.confirmed w.own.session w.peer.sent
         (record { phase = e; from = omega arith; to = s.consistent.own.sound.ordered.confirmed_to }) s.own.fits in
-        let from = grown.from in
         let base = (heard_open w.own.session w.peer.sent e s.own.fits).base in
         let hears = kept_heard (λ (k : State). not (is_restarting k.phase) ≡ true) (λ k u p g. next_hears k u p) w.peer.session w.own.sent
         (ap not r) s.peer.fits in
@@ -176,7 +169,6 @@ confirmed_is_seen w s before n kind octets b l r = by (is_opening w.own.session.
         there true f k all = absurd (let z = ap (λ (v : Numbers). v.next) (s.consistent.peer.fresh f).numbers in omega arith)
         there false f k all =
             let base = sym (flush_open w.peer.session w.own.sent f s.peer.fits).base ∙ s.peer.meeting.base in
-            let c = s.consistent.peer.count in
             let p = subst (λ (m : ℕ). AreNumberedFrom m w.history) (sym base) s.pair.numbered in
             seen_there w.peer.session.base n before kind octets w.peer.view w.history p all
             (view_begins w.history w.peer w.own s.peer_views) (omega arith)

@@ -1,16 +1,16 @@
 -- A connection of the machine as its two sides keep it: every move of it is the same in the tables.
 -- For the_tables_are_the_machine.
-use Rattle.std.proofs.Common.{◌≡◌, refl, sym, ◌∙◌, ap, ◌+◌, Bool, true, false, List, ◌∷◌, take, Option, Some, Ok, Err, arith, ℕ}
-use Rattle.std.proofs.Common.{if◌then◌else◌, [], None}
+use Rattle.std.proofs.Common.{◌≡◌, refl, sym, ◌∙◌, ap, Bool, true, false, List, ◌∷◌, take, Option, Some, Ok, Err, arith, ℕ, if◌then◌else◌}
+use Rattle.std.proofs.Common.{[], None}
 use Rattle.osi_machine.proofs.Vocabulary.{called, taken, react, said_of, State, WaitTransport, Ended, Meaning, Token, Call, HasSerial}
-use Rattle.osi_machine.proofs.Vocabulary.{Answer, Granted, CallError, without_tokens, allowed, respond, respond_unit, awaiting, points}
-use Rattle.osi_machine.proofs.Vocabulary.{is_own, given_up, left_by, offering, offer_sent, Message, unit, Transport, not_yet, waiting}
-use Rattle.osi_machine.proofs.Vocabulary.{linked, kept_of, World, turned, session_of, after_call, after_answer, Taking, unit_taken}
-use Rattle.osi_machine.proofs.Vocabulary.{error_of, without_first, Seat, Line, Turn, Told, opened, refused, broken as broken_off}
-use Rattle.osi_machine.proofs.Vocabulary.{RefusedByTransport, is_wait_transport, lost, Offer, ask, agree, deny, bye, over, closing, gone}
-use Rattle.osi_machine.proofs.Vocabulary.{Kept, asked_with, put, unchanged, moves, moved, Terms, accepts, denies, asked_at, message_taken}
-use Rattle.osi_machine.proofs.Vocabulary.{shortened, closed, ended_at, shown_at_end}
-use Rattle.osi_machine.proofs.basics.what_holds_in_each_phase.{if_yes, by_test}
+use Rattle.osi_machine.proofs.Vocabulary.{Answer, Granted, CallError, without_tokens, allowed, respond, respond_unit, awaiting, is_own}
+use Rattle.osi_machine.proofs.Vocabulary.{given_up, left_by, offering, offer_sent, Message, unit, Transport, not_yet, waiting, linked}
+use Rattle.osi_machine.proofs.Vocabulary.{kept_of, World, turned, session_of, after_call, after_answer, Taking, unit_taken, error_of}
+use Rattle.osi_machine.proofs.Vocabulary.{without_first, Seat, Line, Turn, Told, opened, refused, broken as broken_off, RefusedByTransport}
+use Rattle.osi_machine.proofs.Vocabulary.{is_wait_transport, lost, Offer, ask, agree, deny, bye, over, closing, gone, Kept, asked_with, put}
+use Rattle.osi_machine.proofs.Vocabulary.{unchanged, moves, moved, Terms, accepts, denies, asked_at, message_taken, shortened, closed}
+use Rattle.osi_machine.proofs.Vocabulary.{ended_at, shown_at_end}
+use Rattle.osi_machine.proofs.basics.what_holds_in_each_phase.{by_test}
 use Rattle.osi_machine.proofs.invariant.each_step_keeps_one_side.{SessionLaws}
 use Rattle.osi_machine.proofs.calls.a_restart_is_requested.{given_theirs}
 use Rattle.osi_machine.proofs.whole.how_a_core_simulates_a_connection.{is_begun, not_both, stopped}
@@ -19,7 +19,6 @@ use Rattle.osi_machine.proofs.whole.a_unit_is_taken.{put_nothing}
 use Rattle.osi_machine.proofs.whole.every_step_is_simulated.{Repeats}
 use Rattle.osi_machine.proofs.whole.before_it_is_agreed_to.{Refuses}
 use Rattle.osi_machine.proofs.whole.every_stage_of_a_connection.{turned_back}
-use Rattle.osi_machine.proofs.machine.every_connection_of_a_run.{cut_to}
 use Rattle.osi_machine.proofs.tables.each_side_has_the_same_session.{state_from, Disowned, owned_none, owned_as, called_disowned}
 use Rattle.osi_machine.proofs.tables.each_side_has_the_same_session.{taken_disowned, Followed, call_followed, unit_followed}
 use Rattle.osi_machine.specs.Tables as tables
@@ -125,10 +124,7 @@ module _ (broken : Bool) (w : World) (a b : Option Meaning) where
             first = a;
             second = b;
             same = accepted_call c g e (call_followed laws broken w t u h c g small s.peer.disowned e);
-            seated = record {
-              own = begun_seated (after_call broken (session_of w) c g w) a h.projects.own.begun none.0;
-              peer = begun_seated (turned (after_call broken (session_of w) c g w)) b h.projects.peer.begun none.1;
-            };
+            seated = grind (arith, begun_seated);
           }
       by (Err e) q = record { first = a; second = b; same = refused_call c e q; seated = s }
 
@@ -150,33 +146,22 @@ module _ (broken : Bool) (w : World) (a b : Option Meaning) where
       → TurnTabled (tables.hears broken linked (taken (said_of m)) (line_of (without_first w ms) a b))
       (unit_taken broken (without_first w ms) m)
   unit_tabled laws says t u m ms h e l s =
-      let none = taken_disowned broken (session_of w) m (without_first w ms) s.peer.disowned in
-      record {
-        first = a;
-        second = b;
-        same = unit_turn says ms m l (unit_followed laws broken w t u h m ms e s.own.disowned s.peer.disowned);
-        seated = record {
-          own = begun_seated (unit_taken broken (without_first w ms) m).world a h.projects.own.begun none.0;
-          peer = begun_seated (turned (unit_taken broken (without_first w ms) m).world) b h.projects.peer.begun none.1;
-        };
-      }
+      grind (
+        arith,
+        begun_seated,
+        taken_disowned broken (session_of w) m (without_first w ms) s.peer.disowned,
+        unit_turn says ms m l (unit_followed laws broken w t u h m ms e s.own.disowned s.peer.disowned),
+        unit_followed laws broken w t u h m ms e s.own.disowned s.peer.disowned,
+      )
 
   -- ---- what changes nothing but the transport and what is in flight
-
-  -- the own side, at the same session
-  still_seated : (ms : List Message) → AreSeated w a b → AreSeated (record w { own = record w.own { channel = ms } }) a b
-  still_seated ms h = grind arith
-
-  linked_seated : (tr : Transport) (ms : List Message) → is_begun tr ≡ true → AreSeated w a b
-      → AreSeated (record w { own = record w.own { transport = tr; channel = ms } }) a b
-  linked_seated tr ms e h = grind (arith, begun_seated)
 
   -- ---- the other has asked
 
   asked_tabled : (terms : Terms) → w.own.transport ≡ not_yet → AreSeated w a b
       → TurnTabled (tables.unseen (tables.asked_at broken terms (line_of w a b))) (unchanged (asked_at broken terms w))
   asked_tabled (accepts class) e h = grind (arith, state_from, begun_seated)
-  asked_tabled (denies reason) e h = grind (arith, still_seated)
+  asked_tabled (denies reason) e h = grind arith
 
   agreed_tabled : w.own.transport ≡ waiting → AreSeated w a b
       → TurnTabled (tables.hears broken linked opened (line_of w a b))
@@ -191,7 +176,6 @@ module _ (broken : Bool) (w : World) (a b : Option Meaning) where
   denied_tabled reason e h =
       grind (
         arith,
-        if_yes,
         gone_state w,
         theirs_stay (without_tokens Ended (session_of w)) w,
         waits_now w (h.own.called e),
@@ -223,9 +207,9 @@ module _ (broken : Bool) (w : World) (a b : Option Meaning) where
   message_tabled terms keep waiting (deny r) e q h = denied_tabled r e h
   message_tabled terms keep linked (unit u) e q h = absurd (cc)
   message_tabled terms keep linked (bye r) e q h = lost_tabled keep r h
-  message_tabled terms keep closing (bye r) e q h = grind (arith, linked_seated)
-  message_tabled terms keep closing over e q h = grind (arith, linked_seated)
-  message_tabled terms keep gone (bye r) e q h = grind (arith, still_seated)
+  message_tabled terms keep closing (bye r) e q h = grind arith
+  message_tabled terms keep closing over e q h = grind arith
+  message_tabled terms keep gone (bye r) e q h = grind arith
   message_tabled terms keep _ _ e q h = record { first = a; second = b; same = refl; seated = h }
 
   -- ---- a close, an end, a break
@@ -238,18 +222,9 @@ module _ (broken : Bool) (w : World) (a b : Option Meaning) where
       record {
         first = a;
         second = b;
-        same = λ i. record {
-          own = record {
-            transport = closing;
-            session = record { state = state_from w.own.kept (held i) (w.own.kept.base + points (take w.own.mark w.history)); waiting = a };
-            channel = put broken (bye 128 ∷ []) (take keep w.own.channel);
-          };
-          peer = record { transport = w.peer.transport; session = record { state = peer i; waiting = b }; channel = w.peer.channel };
-        };
+        same = grind (arith, state_from);
         seated = record {
-          own = begun_seated (closed broken keep w) a refl
-              (λ o t. by_test (stopped w.own) (λ o. rw o (own_gone (w.owner t) ∙ sym (h.own.disowned o t))) (λ o. rw o)
-              ∙ h.own.disowned o t);
+          own = grind (arith, begun_seated, by_test, stopped, own_gone);
           peer = record {
             calls = h.peer.calls;
             called = h.peer.called;
@@ -276,17 +251,10 @@ end_tabled keep w a b h =
       gone_seated w gone (take keep w.own.channel) a b refl h,
     )
 
-pub break_tabled : (left right : ℕ) (w : World) (a b : Option Meaning) → AreSeated w a b → AreSeated (cut_to left right w) a b
-break_tabled left right w a b h = grind arith
-
 -- ---- a new connection
-
-pub new_seated : (o : Offer) (ms : List Message)
-    → AreSeated (record (asked_with o) { own = record (asked_with o).own { channel = ms } }) (Some (offer_sent o)) None
-new_seated o ms = grind arith
 
 pub new_tabled : (broken : Bool) (o : Offer)
     → Tabled (tables.asked_with broken o) (if broken then record (asked_with o) { own = record (asked_with o).own { channel = [] } }
     else asked_with o)
-new_tabled true o = record { first = Some (offer_sent o); second = None; same = refl; seated = new_seated o [] }
-new_tabled false o = record { first = Some (offer_sent o); second = None; same = refl; seated = new_seated o (ask ∷ []) }
+new_tabled true o = record { first = Some (offer_sent o); second = None; same = refl; seated = (grind arith) }
+new_tabled false o = record { first = Some (offer_sent o); second = None; same = refl; seated = (grind arith) }

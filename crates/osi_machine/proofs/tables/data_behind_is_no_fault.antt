@@ -1,15 +1,14 @@
 -- Data anywhere in flight to a side is no fault there; a side whose transport connection closes is over.
 -- For the laws `data_is_no_fault_behind`, `the_next_is_no_fault` and `who_is_left_is_over`.
-use Rattle.std.proofs.Common.{◌≡◌, refl, sym, ◌∙◌, ap, subst, ℕ, Bool, true, false, if◌then◌else◌, List, [], ◌∷◌, ◌++◌, map, None, Ok, Err}
-use Rattle.std.proofs.Common.{◌⊎◌, inl, inr, append_assoc, arith}
+use Rattle.std.proofs.Common.{◌≡◌, refl, sym, ◌∙◌, ap, subst, ℕ, Bool, true, false, List, [], ◌∷◌, ◌++◌, map, None, Ok, Err, ◌⊎◌, inl, inr}
+use Rattle.std.proofs.Common.{append_assoc, arith}
 use Rattle.osi_session.specs.Moves.{answered as answered_move}
 use Rattle.osi_machine.specs.Calm.{left_by, after_calls, after_message, IsCalm, StaysCalm, IsNoFaultBehind}
 use Rattle.osi_machine.proofs.Vocabulary.{cases_Bool, AllByRecursion, list_any, Input, called, taken, Standing, react, verdict, is_faulty}
 use Rattle.osi_machine.proofs.Vocabulary.{respond_all, acting, said_of, State, Meaning, DT, Call, HasSerial, CallError, Granted, Answer}
-use Rattle.osi_machine.proofs.Vocabulary.{Outcome, allowed, is_over, is_wait_transport, respond_unit, Core, stays_in_core, taking, Message}
-use Rattle.osi_machine.proofs.Vocabulary.{unit, ask, agree, deny, bye, over, World, session_of, Told, Tables, IsTableRun, AtEachSide}
-use Rattle.osi_machine.proofs.Vocabulary.{IsNoFaultNext, is_leaving, IsOverWhenLeft}
-use Rattle.osi_machine.proofs.basics.what_holds_in_each_phase.{excluded}
+use Rattle.osi_machine.proofs.Vocabulary.{Outcome, allowed, is_over, respond_unit, Core, stays_in_core, Message, unit, ask, agree, deny}
+use Rattle.osi_machine.proofs.Vocabulary.{bye, over, World, session_of, Told, Tables, IsTableRun, AtEachSide, IsNoFaultNext, is_leaving}
+use Rattle.osi_machine.proofs.Vocabulary.{IsOverWhenLeft}
 use Rattle.osi_machine.proofs.invariant.what_holds_of_both_sides.{Stands}
 use Rattle.osi_machine.proofs.invariant.each_step_keeps_one_side.{SessionLaws}
 use Rattle.osi_machine.proofs.each_step_keeps_both_sides.{called_stands, taking_stands}
@@ -17,9 +16,7 @@ use Rattle.osi_machine.proofs.whole.how_a_core_simulates_a_connection.{IsTail, C
 use Rattle.osi_machine.proofs.whole.a_call.{stop_over}
 use Rattle.osi_machine.proofs.whole.a_unit_is_taken.{over_next}
 use Rattle.osi_machine.proofs.whole.every_step_is_simulated.{refused}
-use Rattle.osi_machine.proofs.whole.before_it_is_agreed_to.{Way, replies, asks}
 use Rattle.osi_machine.proofs.whole.every_stage_of_a_connection.{Stage}
-use Rattle.osi_machine.proofs.machine.a_connection_is_early_or_dead.{no_unit_asked}
 use Rattle.osi_machine.proofs.tables.a_line_is_a_connection.{SaysItsUnit}
 use Rattle.osi_machine.proofs.tables.what_two_tables_tell.{of_stages}
 use Rattle.osi_session.specs.declared.faults.CallError.TheVariants as error
@@ -47,25 +44,18 @@ over_calls s [] o = o
 over_calls s (c ∷ calls) o = over_calls (left_by s (called c)) calls
     (ap (λ (x : State). is_over x.phase) (unmoved s c error.Ended (refused s c o)) ∙ o)
 
-either : (b : Bool) (x y : Outcome) → is_over x.next.phase ≡ true → is_over y.next.phase ≡ true
-    → is_over (if b then x else y).next.phase ≡ true
-either b x y p q = grind arith
-
 over_all : (s : State) (us : List Meaning) → is_over s.phase ≡ true → is_over (respond_all s us).next.phase ≡ true
 unfolding respond_all
 over_all s [] o = o
-over_all s (u ∷ us) o = grind (arith, either, over_next, over_all (respond_unit s u).next us (over_next s u o))
+over_all s (u ∷ us) o = grind (arith, over_next, over_all (respond_unit s u).next us (over_next s u o))
 
 over_unit : (s : State) (u : Meaning) → is_over s.phase ≡ true → is_over (left_by s (taken (said_of u))).phase ≡ true
 unfolding react
 over_unit s u o = over_all s (acting (said_of u)) o
 
-not_waiting : (s : State) → is_over s.phase ≡ true → is_wait_transport s.phase ≡ false
-not_waiting s o = excluded is_over is_wait_transport refl s.phase o
-
 pub over_message : (s : State) (m : Message) → is_over s.phase ≡ true → is_over (after_message s m).phase ≡ true
 unfolding react
-over_message s m o = search (arith, over_unit, not_waiting)
+over_message s m o = grind (arith, over_unit)
 
 pub over_calm : (s : State) (ms : List Message) → is_over s.phase ≡ true → StaysCalm s ms
 over_calm s [] o = λ calls small octets. unit_when_over (after_calls s calls) (DT octets) (over_calls s calls o)
@@ -107,8 +97,7 @@ module _ (laws : SessionLaws) (c : Core) (call : Call) (sent : List Meaning) (sm
       inl (ap (λ (x : Granted). is_over x.next.phase) (laws.passed c.own.session call g e).gives ∙ stop_over c.own.session call q)
 
   answers : (a : Answer) → allowed c.own.session call ≡ a → Lives (left_by c.own.session (called call)) sent
-  answers (Ok g) e =
-      subst (λ (s : State). Lives s sent) (sym (accepted c.own.session call g e)) (granted g e (stays_in_core call) refl)
+  answers (Ok g) e = grind (arith, accepted c.own.session call g e, granted g e (stays_in_core call) refl)
   answers (Err x) e = inr (record { core = c; stands = stands; is = unmoved c.own.session call x e; way = way })
 
 one_call : SessionLaws → (s : State) (call : Call) (sent : List Meaning) → HasSerial call → Lives s sent
@@ -128,9 +117,7 @@ said says s u = ap (λ (o : Outcome). o.next) (says s u)
 one_unit : SessionLaws → SaysItsUnit → (s : State) (u : Meaning) (sent : List Meaning) → Lives s (u ∷ sent)
     → Lives (left_by s (taken (said_of u))) sent
 one_unit laws says s u sent (inl o) = inl (over_unit s u o)
-one_unit laws says s u sent (inr h) =
-    subst (λ (x : State). Lives x sent) (ap (λ (x : State). (respond_unit x u).next) (sym h.is) ∙ sym (said says s u))
-    (inr (record { core = taking h.core (u ∷ sent); stands = taking_stands laws h.core (u ∷ sent) h.way h.stands; is = refl; way = refl }))
+one_unit laws says s u sent (inr h) = grind (arith, respond_unit, said says s u, taking_stands laws h.core (u ∷ sent) h.way h.stands)
 
 no_fault_first : (s : State) (octets : List ℕ) (rest : List Meaning) → Lives s (DT octets ∷ rest) → IsCalm s
 no_fault_first s octets rest h3 x = grind arith
@@ -188,12 +175,7 @@ carried_calm : SessionLaws → SaysItsUnit → (b o : Bool) (c : Core) (ch ms : 
 carried_calm laws says b o c ch ms octets rest stands k e =
     let h = ahead_of o c.peer.session k.lost k.there k.tail ms octets rest k.last (sym e ∙ k.carries) in
     subst (StaysCalm c.own.session) (sym h.ahead)
-    (calm_behind laws says c.own.session h.units octets (h.rest ++ k.lost) (inr (record {
-      core = c;
-      stands = stands;
-      is = refl;
-      way = sym k.splits ∙ ap (λ (l : List Meaning). l ++ k.lost) h.splits ∙ append_assoc h.units (DT octets ∷ h.rest) k.lost;
-    })))
+    (calm_behind laws says c.own.session h.units octets (h.rest ++ k.lost) (inr (grind (arith, append_assoc))))
 
 -- ---- at every step
 
@@ -209,13 +191,9 @@ has_unit (bye r ∷ ms) u rest = has_unit ms u rest
 has_unit (over ∷ ms) u rest = has_unit ms u rest
 has_unit _ u rest = refl
 
-no_unit_replied : (way : Way) → list_any is_unit (replies way) ≡ false
-no_unit_replied way = grind arith
-
 no_fault_behind : SessionLaws → SaysItsUnit → (b : Bool) (w : World) (t u : Told) → Stage b w t u
     → IsNoFaultBehind (session_of w) w.peer.channel
-no_fault_behind laws says b w t u h6 ms octets rest e =
-    search (arith, not_both, has_unit, no_unit_replied, no_unit_asked, cases_Bool, over_calm, session_is, carried_calm)
+no_fault_behind laws says b w t u h6 ms octets rest e = grind (arith, not_both, has_unit, cases_Bool, over_calm, session_is, carried_calm)
 
 pub behind_is_no_fault : SessionLaws → SaysItsUnit → (t : Tables) → IsTableRun t → AtEachSide IsNoFaultBehind t
 behind_is_no_fault laws says = of_stages laws says IsNoFaultBehind (no_fault_behind laws says)
@@ -230,14 +208,5 @@ no_unit_leaves : (us : List Meaning) → list_any is_leaving (map unit us) ≡ f
 no_unit_leaves [] = refl
 no_unit_leaves (u ∷ us) = no_unit_leaves us
 
-no_reply_leaves : (way : Way) → list_any is_leaving (replies way) ≡ false
-no_reply_leaves way = grind arith
-
-no_ask_leaves : (way : Way) → list_any is_leaving (asks way) ≡ false
-no_ask_leaves way = grind arith
-
-over_when_left : (b : Bool) (w : World) (t u : Told) → Stage b w t u → IsOverWhenLeft (session_of w) w.peer.channel
-over_when_left b w t u h4 e = search (arith, not_both, no_reply_leaves, no_ask_leaves, cases_Bool, no_unit_leaves)
-
 pub left_is_over : SessionLaws → SaysItsUnit → (t : Tables) → IsTableRun t → AtEachSide IsOverWhenLeft t
-left_is_over laws says = of_stages laws says IsOverWhenLeft over_when_left
+left_is_over laws says = of_stages laws says IsOverWhenLeft (grind (arith, not_both, cases_Bool, no_unit_leaves))

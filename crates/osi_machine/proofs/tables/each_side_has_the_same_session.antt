@@ -2,11 +2,11 @@
 -- For a_line_is_a_connection.
 use Rattle.std.proofs.Common.{◌≡◌, refl, sym, ◌∙◌, ap, subst, ℕ, Bool, true, false, if◌then◌else◌, List, ◌∷◌, inl, inr, Ok, arith}
 use Rattle.osi_machine.specs.Core.{turned}
-use Rattle.osi_machine.proofs.Vocabulary.{State, Ended, Meaning, Token, Tokens, no_token, without_tokens, Call, Granted, Answer, HasSerial}
-use Rattle.osi_machine.proofs.Vocabulary.{Outcome, allowed, after, is_over, respond_unit, becomes, Own, ToThem, Absent, Owners, is_own}
-use Rattle.osi_machine.proofs.Vocabulary.{turned_owner, owned, given_up, left_by, is_acted_on, owners_after, Core, stays_in_core}
-use Rattle.osi_machine.proofs.Vocabulary.{owners_called, answered, taking, Message, unit, Kept, kept_of, World, session_of, after_call}
-use Rattle.osi_machine.proofs.Vocabulary.{after_unit, turned as turned_world, without_first, Told}
+use Rattle.osi_machine.proofs.Vocabulary.{State, Meaning, Token, Tokens, no_token, Call, Granted, Answer, HasSerial, Outcome, allowed}
+use Rattle.osi_machine.proofs.Vocabulary.{after, is_over, respond_unit, becomes, Owners, is_own, turned_owner, owned, given_up, left_by}
+use Rattle.osi_machine.proofs.Vocabulary.{is_acted_on, owners_after, Core, stays_in_core, owners_called, answered, taking, Message, unit}
+use Rattle.osi_machine.proofs.Vocabulary.{Kept, kept_of, World, session_of, after_call, after_unit, turned as turned_world, without_first}
+use Rattle.osi_machine.proofs.Vocabulary.{Told}
 use Rattle.osi_machine.proofs.basics.what_holds_in_each_phase.{by_test}
 use Rattle.osi_machine.proofs.channels.a_held_token_keeps_units_out.{has_set}
 use Rattle.osi_machine.proofs.invariant.what_holds_of_both_sides.{Stands}
@@ -72,12 +72,9 @@ lives_as s e = ap (λ (b : Bool). state_from (kept_of s) (unless_over b s.held) 
 left_none : (s : State) (o : Owners) (t : Token) → is_over s.phase ≡ true → is_own (left_by s o t) ≡ false
 left_none s o t e = ap (λ (b : Bool). is_own ((if b then given_up o else o) t)) e ∙ own_gone (o t)
 
-not_theirs : (a b : Bool) → is_own (turned_owner (if a then Own else if b then ToThem else Absent)) ≡ false
-not_theirs a b = grind arith
-
 none_called : (s : State) (c : Call) (o : Owners) (t : Token) → is_own (turned_owner (o t)) ≡ false
     → is_own (turned_owner (owners_called s c o t)) ≡ false
-none_called s c o t e = grind (arith, not_theirs, given_theirs)
+none_called s c o t e = grind (arith, given_theirs)
 
 none_after : (s : State) (u : Meaning) (o : Owners) (t : Token) → is_own (turned_owner (o t)) ≡ false
     → is_own (turned_owner (owners_after s u o t)) ≡ false
@@ -126,8 +123,7 @@ module _ (laws : SessionLaws) (broken : Bool) (w : World) (t u : Told) (h : Repe
       let v = after_call broken h.core.own.session x g w in
       let c = answered h.core x (Ok g) in
       let now : Stands (answered h.core x (Ok g)) = subst (λ (a : Answer). Stands (answered h.core x a)) e
-      (subst (λ (b : Bool). Stands (if b then answered h.core x (allowed h.core.own.session x) else h.core)) q
-      (called_stands laws h.core x small h.stands)) in
+      (grind (arith, allowed h.core.own.session x, called_stands laws h.core x small h.stands)) in
       let p = call_projects laws broken w h.core x g q l h.projects h.stands e in
       let none = called_disowned broken h.core.own.session x g w d in
       record {
@@ -190,9 +186,7 @@ module _ (laws : SessionLaws) (broken : Bool) (w : World) (t u : Told) (h : Repe
             ∙ subst (λ (o : Outcome). state_from (kept_of o.next)
             (unless_over (is_over o.next.phase) h.core.own.session.held) h.core.own.session.numbers.next ≡ o.next)
             (sym (last_good h.core m h.stands l.none l.last)) (last_state h.core.own.session h.core.peer.session m l.last);
-        peer = seat_same broken (turned_world w) (turned_world v) (turned h.core) (turned h.core) (turned_stands h.core h.stands)
-            (turned_stands h.core h.stands) h.projects.history p.history h.projects.peer p.peer
-            d none.1 refl refl;
+        peer = grind (arith, seat_same, turned_stands);
       }
 
   over_seats : (m : Meaning) (ms : List Message) → stopped w.own ≡ true → w.peer.channel ≡ unit m ∷ ms → Disowned w
@@ -206,8 +200,7 @@ module _ (laws : SessionLaws) (broken : Bool) (w : World) (t u : Told) (h : Repe
         own = seat_state broken v h.core h.stands p.history p.own none.0
             ∙ over_as (λ r. state_from (kept_of r) (unless_over (is_over r.phase) h.core.own.session.held)
             h.core.own.session.numbers.next ≡ r) (session_of w) m o (sym was)
-            (ap (state_from (kept_of (without_tokens Ended (session_of w))) no_token)
-            (sym (next_is w h.core h.stands h.projects.history h.projects.own.counted)));
+            (grind (arith, next_is));
         peer = seat_same broken (turned_world w) (turned_world v) (turned h.core) (turned h.core) (turned_stands h.core h.stands)
             (turned_stands h.core h.stands) h.projects.history p.history h.projects.peer p.peer
             d none.1 refl refl;

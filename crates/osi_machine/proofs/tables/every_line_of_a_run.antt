@@ -2,15 +2,14 @@
 -- For what_is_heard_was_said and what_is_in_flight_can_be_sent.
 use Rattle.std.proofs.Common.{◌≡◌, refl, sym, subst, ℕ, zero, suc, ◌+◌, Bool, true, false, not, ◌&&◌, ◌==◌, if◌then◌else◌, List, [], ◌∷◌}
 use Rattle.std.proofs.Common.{◌++◌, append_assoc, map, Option, Some, None, is_some, inl, inr, ◌⊎◌, arith}
-use Rattle.osi_machine.specs.Tables.{after_call, message_taken, closed, start, seen_from, side_of, end_of, stays, noted, refusal, asked_in}
-use Rattle.osi_machine.specs.Tables.{call_in, marked_ended, after_end, closes_by, without_first, taken_in, delivered_to, cut_channels, step}
-use Rattle.osi_machine.specs.Tables.{run, asked_with, turned}
+use Rattle.osi_machine.specs.Tables.{after_call, message_taken, closed, start, seen_from, side_of, end_of, noted, call_in, closes_by}
+use Rattle.osi_machine.specs.Tables.{without_first, taken_in, delivered_to, cut_channels, step, run, asked_with, turned}
 use Rattle.osi_machine.proofs.Vocabulary.{eqb-true, eq-eqb, append-nil, slice_get, called, react, Meaning, Call, Offer, Side, Left, Right}
-use Rattle.osi_machine.proofs.Vocabulary.{Class, class_2, Message, Transport, Terms, Ending, closed_here, Refusal, Step, connects, calls}
-use Rattle.osi_machine.proofs.Vocabulary.{delivers, breaks, ends, shown_at, connection_at, with_connection, is_given, learns, Line, Turn}
-use Rattle.osi_machine.proofs.Vocabulary.{Tables, ends_there, ended_lines, after_turn, cut_line, one_or_none, said_to_first, heard_of_first}
-use Rattle.osi_machine.proofs.Vocabulary.{said_at_delivery, heard_at_delivery, said_at_call, said_at, heard_at, said_in, heard_in, is_long}
-use Rattle.osi_machine.proofs.Vocabulary.{refusal_by, AllByRecursion, said_to, heard_of}
+use Rattle.osi_machine.proofs.Vocabulary.{Class, class_2, Message, Transport, Terms, Ending, Step, connects, calls, delivers, breaks, ends}
+use Rattle.osi_machine.proofs.Vocabulary.{shown_at, connection_at, with_connection, is_given, learns, Line, Turn, Tables, ends_there}
+use Rattle.osi_machine.proofs.Vocabulary.{ended_lines, after_turn, cut_line, one_or_none, said_to_first, heard_of_first, said_at_delivery}
+use Rattle.osi_machine.proofs.Vocabulary.{heard_at_delivery, said_at_call, said_at, heard_at, said_in, heard_in, is_long, refusal_by}
+use Rattle.osi_machine.proofs.Vocabulary.{AllByRecursion, said_to, heard_of}
 use Rattle.osi_machine.proofs.basics.what_holds_in_each_phase.{by_test}
 use Rattle.osi_machine.proofs.basics.what_stands_at_a_reference.{with_other, with_same, ended_there, cut_there}
 use Rattle.osi_machine.proofs.machine.every_connection_of_a_run.{if_none}
@@ -109,12 +108,6 @@ abbrev KnowsAt : Claim → Side → ℕ → Tables → Words → Words → Type 
 KnowsAt P side r t x y = HoldsAt P side t.broken x y (connection_at r t.lines)
 
 module _ (P : Claim) (Ok : Step → Type 0) (kept : IsKept P Ok) where
-  pub told_from : (side : Side) (b : Bool) (l : Line) (x y : Words) → HoldsAt P side b x y (Some l) → P b (seen_from side l) x y
-  told_from side b l x y h = grind arith
-
-  told_as : (side : Side) (b : Bool) (l : Line) (x y : Words) → P b l x y → HoldsAt P side b x y (Some (seen_from side l))
-  told_as side b l x y h = grind arith
-
   -- nothing of it is changed
   same_holds : (side : Side) (b : Bool) (x y : Words) (o p : Option Line) → p ≡ o → HoldsAt P side b x y o → HoldsAt P side b x y p
   same_holds side b x y o p e h = subst (HoldsAt P side b x y) (sym e) h
@@ -126,17 +119,9 @@ module _ (P : Claim) (Ok : Step → Type 0) (kept : IsKept P Ok) where
   now_holds : (t : Tables) (side : Side) (r : ℕ) (old l : Line) (x y : Words) → connection_at r t.lines ≡ Some old → P t.broken l x y
       → HoldsAt P side t.broken x y (connection_at r (with_connection r (seen_from side l) t.lines))
   now_holds t side r old l x y e h = same_holds side t.broken x y (Some (seen_from side l)) _ (with_same r t.lines old (seen_from side l) e)
-      (told_as side t.broken l x y h)
-
-  other_holds : (t : Tables) (side : Side) (q r : ℕ) (l : Line) (x y : Words) → (r ≡ q → ⊥) → KnowsAt P side r t x y
-      → HoldsAt P side t.broken x y (connection_at r (with_connection q l t.lines))
-  other_holds t side q r l x y n h = same_holds side t.broken x y (connection_at r t.lines) _ (with_other r q t.lines l n) h
+      (grind arith)
 
   -- ---- a new connection
-
-  asked_knows : (t : Tables) (r : ℕ) (o : Offer) (a : Option Refusal) (x y : Words) → Ok (connects o) → refusal t o ≡ a → Knows P r t x y
-      → Knows P r (asked_in t o a) x y
-  asked_knows t r o a x y small q h = grind (arith, new_there, same_holds, asked_short)
 
   -- ---- a call
 
@@ -147,33 +132,20 @@ module _ (P : Claim) (Ok : Step → Type 0) (kept : IsKept P Ok) where
   call_same t side r c x y None small e h = grind (arith, same_holds, quiet_holds)
   call_same t side r c x y (Some l) small e h = by_test (is_given (seen_from side l).own.transport)
       (λ g. rw g (now_holds t side r l (after_call t.broken c (seen_from side l)) _ y e
-      (kept.call t.broken side r c (seen_from side l) x y small g (told_from side t.broken l x y h))))
+      (kept.call t.broken side r c (seen_from side l) x y small g (grind arith))))
       (λ g. rw g (same_holds side t.broken (and_more x [] []) y (Some l) _ e (quiet_holds side t.broken x y (Some l) h)))
-
-  call_other : (t : Tables) (side : Side) (q r : ℕ) (c : Call) (x y : Words) (o : Option Line) → (r ≡ q → ⊥) → KnowsAt P side r t x y
-      → KnowsAt P side r (call_in t side q c (side_of side o)) x y
-  call_other t side q r c x y o n h = grind (arith, by_test, other_holds)
 
   call_knows : (t : Tables) (side : Side) (q r : ℕ) (c : Call) (x y : Words) → Ok (calls side q c) → KnowsAt P side r t x y
       → KnowsAt P side r (call_in t side q c (side_of side (connection_at q t.lines)))
       (and_more x (if q == r then said_at_call c (side_of side (connection_at r t.lines)) else []) []) y
-  call_knows t side q r c x y small h = search (arith, eqb-true, call_same, quiet_holds, call_other, not_equal)
+  call_knows t side q r c x y small h = search (arith, eqb-true, call_same, quiet_holds, by_test, same_holds, with_other, not_equal)
 
   -- ---- the end of a side
-
-  marked_knows : (side at : Side) (e : Ending) (t : Tables) (r : ℕ) (x y : Words) → KnowsAt P at r t x y
-      → KnowsAt P at r (marked_ended side e t) x y
-  marked_knows side at e t r x y h = grind arith
 
   ended_knows : (side : Side) (keep : ℕ → ℕ) (b : Bool) (ls : List Line) (r : ℕ) (x y : Words) (o : Option Line) → connection_at r ls ≡ o
       → HoldsAt P side b x y o → HoldsAt P side b x y (connection_at r (ended_lines side keep 1 ls))
   ended_knows side keep b ls r x y None e h = same_holds side b x y None _ (ended_none side keep r ls e) h
-  ended_knows side keep b ls r x y (Some l) e h =
-      grind (arith, same_holds, told_as, ended_there side keep r ls l e, told_from side b l x y h)
-
-  end_knows : (side : Side) (e : Ending) (keep : ℕ → ℕ) (t : Tables) (r : ℕ) (x y : Words) → KnowsAt P side r t x y
-      → KnowsAt P side r (after_end side e keep t) x y
-  end_knows side e keep t r x y h = grind (arith, marked_knows, ended_knows)
+  ended_knows side keep b ls r x y (Some l) e h = grind (arith, same_holds, ended_there side keep r ls l e)
 
   -- ---- a delivery
 
@@ -188,7 +160,7 @@ module _ (P : Claim) (Ok : Step → Type 0) (kept : IsKept P Ok) where
       last : (known : Option Class) → turn.closes ≡ true
           → KnowsAt P side r (closes_by known (noted (map (shown_at side q) turn.shown) t) side q keep turn.line) x y
       last (Some class_2) c = close c
-      last _ c = end_knows side closed_here keep (stays (noted (map (shown_at side q) turn.shown) t) side q turn.line) r x y stayed
+      last _ c = grind (arith, ended_knows)
 
   taken_same : (t : Tables) (side : Side) (r : ℕ) (keep : ℕ → ℕ) (l : Line) (x y : Words) → connection_at r t.lines ≡ Some l
       → HoldsAt P side t.broken x y (Some l) → (ms : List Message) → (seen_from side l).peer.channel ≡ ms
@@ -210,22 +182,12 @@ module _ (P : Claim) (Ok : Step → Type 0) (kept : IsKept P Ok) where
       turn = message_taken t.broken t.terms (keep r) v.own.transport (without_first v xs) m
 
       told : P t.broken turn.line (and_more x (said_to v.own.transport v.own.session m) (heard_of v.own.transport m)) y
-      told = kept.take t.broken t.terms (keep r) v m xs x y f (told_from side t.broken l x y h)
-
-  delivery_same : (t : Tables) (side : Side) (r : ℕ) (keep : ℕ → ℕ) (x y : Words) (o : Option Line) → connection_at r t.lines ≡ o
-      → HoldsAt P side t.broken x y o → KnowsAt P side r (delivered_to t side r keep (side_of side o))
-      (and_more x (said_at_delivery (side_of side o)) (heard_at_delivery (side_of side o))) y
-  delivery_same t side r keep x y o e h = grind (arith, same_holds, quiet_holds, taken_same)
+      told = kept.take t.broken t.terms (keep r) v m xs x y f (grind arith)
 
   taken_other : (t : Tables) (side : Side) (q r : ℕ) (keep : ℕ → ℕ) (l : Line) (x y : Words) (ms : List Message) → (r ≡ q → ⊥)
       → KnowsAt P side r t x y → KnowsAt P side r (taken_in t side q keep l ms) x y
   taken_other t side q r keep l x y [] n h = h
-  taken_other t side q r keep l x y (m ∷ xs) n h = search (arith, turn_knows, other_holds)
-
-  delivery_other : (t : Tables) (side : Side) (q r : ℕ) (keep : ℕ → ℕ) (x y : Words) (o : Option Line) → (r ≡ q → ⊥)
-      → KnowsAt P side r t x y
-      → KnowsAt P side r (delivered_to t side q keep o) x y
-  delivery_other t side q r keep x y o n h = grind (arith, taken_other)
+  taken_other t side q r keep l x y (m ∷ xs) n h = search (arith, turn_knows, same_holds, with_other)
 
   delivery_knows : (t : Tables) (side : Side) (q r : ℕ) (keep : ℕ → ℕ) (x y : Words) → KnowsAt P side r t x y
       → KnowsAt P side r (step t (delivers side q keep))
@@ -239,9 +201,8 @@ module _ (P : Claim) (Ok : Step → Type 0) (kept : IsKept P Ok) where
           (if a && not past then heard_at_delivery (side_of side (connection_at r t.lines)) else [])) y
       by true true e = quiet_holds side t.broken x y (connection_at r t.lines) h
       by false true e = quiet_holds side t.broken x y (connection_at r t.lines) h
-      by true false e = search (arith, eqb-true, delivery_same)
-      by false false e = quiet_holds side _ x y _ (delivery_other t side q r keep x y (side_of side (connection_at q t.lines))
-          (not_equal q r e) h)
+      by true false e = search (arith, eqb-true, same_holds, quiet_holds, taken_same)
+      by false false e = quiet_holds side _ x y _ (grind (arith, taken_other))
 
   -- ---- a break
 
@@ -250,12 +211,9 @@ module _ (P : Claim) (Ok : Step → Type 0) (kept : IsKept P Ok) where
   cut_knows left right b ls r x y None e h = same_holds Left true x y None _ (cut_none left right r ls e) h
   cut_knows left right b ls r x y (Some l) e h = grind (arith, same_holds, cut_there left right r ls l e)
 
-  break_knows : (t : Tables) (left right : ℕ → ℕ) (r : ℕ) (x y : Words) → Knows P r t x y → Knows P r (step t (breaks left right)) x y
-  break_knows t left right r x y h = grind (arith, cut_knows)
-
   ends_knows : (t : Tables) (side : Side) (e : Ending) (keep : ℕ → ℕ) (r : ℕ) (x y : Words) → KnowsAt P side r t x y
       → KnowsAt P side r (step t (ends side e keep)) x y
-  ends_knows t side e keep r x y h = search (arith, end_knows)
+  ends_knows t side e keep r x y h = grind (arith, ended_knows)
 
   -- ---- a step, and a list of steps
 
@@ -265,12 +223,12 @@ module _ (P : Claim) (Ok : Step → Type 0) (kept : IsKept P Ok) where
   step_knows : (r : ℕ) (t : Tables) (s : Step) (x y : Words) → Ok s → Knows P r t x y
       → Knows P r (step t s) (and_more x (said_at Left r t s) (heard_at Left r t s))
       (and_more y (said_at Right r t s) (heard_at Right r t s))
-  step_knows r t (connects o) x y small h = both_quiet _ x y _ (asked_knows t r o (refusal t o) x y small refl h)
+  step_knows r t (connects o) x y small h = both_quiet _ x y _ (grind (arith, new_there, same_holds, asked_short))
   step_knows r t (calls Left q c) x y small h = quiet_holds Right _ y _ _ (call_knows t Left q r c x y small h)
   step_knows r t (calls Right q c) x y small h = quiet_holds Left _ x _ _ (call_knows t Right q r c y x small h)
   step_knows r t (delivers Left q keep) x y small h = quiet_holds Right _ y _ _ (delivery_knows t Left q r keep x y h)
   step_knows r t (delivers Right q keep) x y small h = quiet_holds Left _ x _ _ (delivery_knows t Right q r keep y x h)
-  step_knows r t (breaks left right) x y small h = both_quiet _ x y _ (break_knows t left right r x y h)
+  step_knows r t (breaks left right) x y small h = both_quiet _ x y _ (grind (arith, cut_knows))
   step_knows r t (ends Left e keep) x y small h = both_quiet _ x y _ (ends_knows t Left e keep r x y h)
   step_knows r t (ends Right e keep) x y small h = both_quiet _ x y _ (ends_knows t Right e keep r y x h)
 
@@ -281,11 +239,8 @@ module _ (P : Claim) (Ok : Step → Type 0) (kept : IsKept P Ok) where
   run_knows r t (s ∷ steps) x y small h =
       grind (arith, one_by_one, step_knows, run_knows r (step t s) steps _ _ small.1 (step_knows r t s x y small.0 h))
 
-  start_knows : (r : ℕ) (terms : Terms) → Knows P r (start terms) silent silent
-  start_knows r terms = grind arith
-
   pub all_know : (r : ℕ) (terms : Terms) (steps : List Step) → AllByRecursion Ok steps
       → Knows P r (run (start terms) steps) (record
       { said = said_in Left r (start terms) steps; heard = heard_in Left r (start terms) steps })
       (record { said = said_in Right r (start terms) steps; heard = heard_in Right r (start terms) steps })
-  all_know r terms steps small = run_knows r (start terms) steps silent silent small (start_knows r terms)
+  all_know r terms steps small = run_knows r (start terms) steps silent silent small (grind arith)

@@ -1,23 +1,23 @@
 -- Over every list of steps the tables do what the machine does.
 -- For the law of the same name, and for all laws of the tables.
-use Rattle.std.proofs.Common.{◌≡◌, refl, sym, ◌∙◌, subst, ℕ, zero, suc, ◌+◌, Bool, if◌then◌else◌, List, [], ◌∷◌, ◌++◌, map, Option, Some}
-use Rattle.std.proofs.Common.{None, is_some, inl, inr, arith}
+use Rattle.std.proofs.Common.{◌≡◌, refl, sym, subst, ℕ, zero, suc, ◌+◌, Bool, if◌then◌else◌, List, [], ◌∷◌, ◌++◌, map, Option, Some, None}
+use Rattle.std.proofs.Common.{is_some, inl, inr, arith}
 use Rattle.osi_machine.specs.Machine.{ends_there}
 use Rattle.osi_machine.proofs.Vocabulary.{AllByRecursion, slice_get, taken, said_of, Call, HasSerial, Meaning, allowed, Offer, Side, Class}
 use Rattle.osi_machine.proofs.Vocabulary.{class_2, Message, unit, Transport, linked, World, turned, session_of, after_answer, Taking}
 use Rattle.osi_machine.proofs.Vocabulary.{unit_taken, Terms, message_taken, Ending, Refusal, Step, connects, calls, delivers, breaks, ends}
-use Rattle.osi_machine.proofs.Vocabulary.{Entry, connect_answered, shown_at, Machine, start, connection_at, replaced, with_connection}
-use Rattle.osi_machine.proofs.Vocabulary.{seen_from, end_of, stays, noted, is_given, transport_of, asked_in, call_in, side_of, ended_worlds}
-use Rattle.osi_machine.proofs.Vocabulary.{shown_in_order, marked_ended, after_end, closes_by, after_taking, without_first, learns, taken_in}
-use Rattle.osi_machine.proofs.Vocabulary.{delivered_to, cut_channels, step, run, HasNumber, Line, Turn, Tables, Told}
+use Rattle.osi_machine.proofs.Vocabulary.{Entry, connect_answered, shown_at, Machine, start, connection_at, replaced, seen_from, end_of}
+use Rattle.osi_machine.proofs.Vocabulary.{stays, noted, is_given, transport_of, asked_in, call_in, side_of, ended_worlds, shown_in_order}
+use Rattle.osi_machine.proofs.Vocabulary.{marked_ended, after_end, closes_by, after_taking, without_first, learns, taken_in, delivered_to}
+use Rattle.osi_machine.proofs.Vocabulary.{cut_channels, step, run, HasNumber, Line, Turn, Tables, Told}
 use Rattle.osi_machine.proofs.basics.what_holds_in_each_phase.{by_test}
 use Rattle.osi_machine.proofs.invariant.each_step_keeps_one_side.{SessionLaws}
-use Rattle.osi_machine.proofs.whole.before_it_is_agreed_to.{caller_refuses, called_refuses, no_unit_back, no_unit_out}
+use Rattle.osi_machine.proofs.whole.before_it_is_agreed_to.{caller_refuses, called_refuses}
 use Rattle.osi_machine.proofs.whole.every_stage_of_a_connection.{Stage, Whole, whole_kept, turned_back}
 use Rattle.osi_machine.proofs.machine.every_connection_of_a_run.{IsGood, step_good}
 use Rattle.osi_machine.proofs.tables.a_line_is_a_connection.{line_of, AreSeated, Tabled, TurnTabled, turned_tabled, call_tabled}
 use Rattle.osi_machine.proofs.tables.a_line_is_a_connection.{refused_tabled, error_as, SaysItsUnit, unit_tabled, message_tabled}
-use Rattle.osi_machine.proofs.tables.a_line_is_a_connection.{close_tabled, shown_as, end_tabled, break_tabled, new_tabled}
+use Rattle.osi_machine.proofs.tables.a_line_is_a_connection.{close_tabled, shown_as, end_tabled, new_tabled}
 use Rattle.osi_machine.proofs.machine.what_two_records_tell.{StageOf, stage_of, stage_from}
 use Rattle.osi_machine.specs.Tables as tables
 
@@ -69,10 +69,6 @@ replaced_tabled (x ∷ ls) (v ∷ ws) zero l w h k = (h, k.1)
 replaced_tabled (x ∷ ls) (v ∷ ws) (suc r) l w h k = (k.0, replaced_tabled ls ws r l w h k.1)
 replaced_tabled _ _ r l w h k = absurd k
 
-with_tabled : (ls : List Line) (ws : List World) (r : ℕ) (l : Line) (w : World) → Tabled l w → AllTabled ls ws
-    → AllTabled (with_connection r l ls) (with_connection r w ws)
-with_tabled ls ws r l w h k = grind (arith, replaced_tabled)
-
 side_tabled : (side : Side) (l : Line) (w : World) → Tabled l w → Tabled (tables.seen_from side l) (seen_from side w)
 side_tabled side l w h = search (arith, turned_tabled)
 
@@ -87,7 +83,7 @@ appended _ _ l w h k = absurd k
 stays_follows : (m : Machine) (ls : List Line) (side : Side) (r : ℕ) (l : Line) (w : World) (es : List Entry) → AllTabled ls m.worlds
     → Tabled l w
     → Follows (tables.noted es (tables.stays (tables_of m ls) side r l)) (noted es (stays m side r w))
-stays_follows m ls side r l w es k h = grind (arith, with_tabled, side_tabled)
+stays_follows m ls side r l w es k h = grind (arith, replaced_tabled, side_tabled)
 
 -- ---- a connection is requested
 
@@ -149,8 +145,7 @@ ended_tabled side keep r [] [] h = tt
 ended_tabled side keep r (l ∷ ls) (w ∷ ws) h =
     let k = side_tabled side l w h.0 in (
       side_tabled side (tables.ends_there (keep r) (tables.seen_from side l)) (ends_there (keep r) (seen_from side w))
-          (subst (λ (x : Line). Tabled (tables.ends_there (keep r) x) (ends_there (keep r) (seen_from side w))) (sym k.same)
-          (ends_tabled (keep r) (seen_from side w) k.first k.second k.seated)),
+          (grind (arith, ends_tabled (keep r) (seen_from side w) k.first k.second k.seated)),
       ended_tabled side keep (r + 1) ls ws h.1,
     )
 ended_tabled side keep r _ _ h = absurd h
@@ -174,13 +169,13 @@ end_follows side e keep t m h = grind (arith, marked_follows, ended_tabled, show
 still : (m : Machine) (ls : List Line) (side : Side) (r : ℕ) (k : Taking) (first second : Option Meaning) → AllTabled ls m.worlds
     → AreSeated k.world first second
     → Follows (tables.stays (tables_of m ls) side r (line_of k.world first second)) (stays m side r k.world)
-still m ls side r k first second h s = grind (arith, line_of, with_tabled, side_tabled)
+still m ls side r k first second h s = grind (arith, line_of, replaced_tabled, side_tabled)
 
 closes_follows : (m : Machine) (ls : List Line) (side : Side) (r : ℕ) (keep : ℕ → ℕ) (k : Taking) (first second : Option Meaning)
     (known : Option Class) → AllTabled ls m.worlds → AreSeated k.world first second
     → Follows (tables.closes_by known (tables_of m ls) side r keep (line_of k.world first second)) (closes_by known m side r keep k)
 closes_follows m ls side r keep k first second (Some class_2) h s =
-    grind (arith, with_tabled, side_tabled, line_of k.world first second, close_tabled m.broken k.world first second (keep r) s)
+    grind (arith, replaced_tabled, side_tabled, line_of k.world first second, close_tabled m.broken k.world first second (keep r) s)
 closes_follows m ls side r keep k first second _ h s = search (arith, end_follows, line_of, still)
 
 turn_follows : (m : Machine) (ls : List Line) (side : Side) (r : ℕ) (keep : ℕ → ℕ) (x : Turn) (k : Taking) → AllTabled ls m.worlds
@@ -190,8 +185,7 @@ turn_follows m ls side r keep x k h t =
     subst (λ (y : Turn). Follows (tables.after_turn (tables_of m ls) side r keep y) (after_taking m side r keep k)) (sym t.same)
     (if_follows k.closes _ _ _ _
     (closes_follows (noted (map (shown_at side r) k.shown) m) ls side r keep k t.first t.second m.known h t.seated)
-    (stays_follows m ls side r (line_of k.world t.first t.second) k.world (map (shown_at side r) k.shown) h
-    (record { first = t.first; second = t.second; same = refl; seated = t.seated })))
+    (search (arith, stays_follows, line_of)))
 
 -- a message, at any stage
 stage_unit : SessionLaws → SaysItsUnit → (b : Bool) (w : World) (t u : Told) (first second : Option Meaning) (m : Meaning)
@@ -199,12 +193,9 @@ stage_unit : SessionLaws → SaysItsUnit → (b : Bool) (w : World) (t u : Told)
     → w.own.transport ≡ linked → AreSeated w first second
     → TurnTabled (tables.hears b linked (taken (said_of m)) (line_of (without_first w ms) first second))
     (unit_taken b (without_first w ms) m)
-stage_unit laws says b w t u first second m ms (inl h) e l s = absurd (no_unit_back h.way m ms (sym e ∙ h.peer_channel))
-stage_unit laws says b w t u first second m ms (inr (inl h)) e l s = absurd (no_unit_out h.way m ms (sym e ∙ h.own_channel))
+stage_unit laws says b w t u first second m ms (inl h) e l s = absurd (grind arith)
+stage_unit laws says b w t u first second m ms (inr (inl h)) e l s = absurd (grind arith)
 stage_unit laws says b w t u first second m ms (inr (inr h)) e l s = unit_tabled b w first second laws says t u m ms h e l s
-
-popped_seated : (w : World) (ms : List Message) (a b : Option Meaning) → AreSeated w a b → AreSeated (without_first w ms) a b
-popped_seated w ms a b h = grind arith
 
 stage_message : SessionLaws → SaysItsUnit → (b : Bool) (terms : Terms) (keep : ℕ) (w : World) (t u : Told) (first second : Option Meaning)
     (ms : List Message) (tr : Transport) (x : Message)
@@ -212,7 +203,7 @@ stage_message : SessionLaws → SaysItsUnit → (b : Bool) (terms : Terms) (keep
     → TurnTabled (tables.message_taken b terms keep tr (line_of (without_first w ms) first second) x)
     (message_taken b terms keep tr (without_first w ms) x)
 stage_message laws says b terms keep w t u first second ms linked (unit m) p e l s = stage_unit laws says b w t u first second m ms p e l s
-stage_message laws says b terms keep w t u first second ms tr x p e l s = search (arith, message_tabled, popped_seated)
+stage_message laws says b terms keep w t u first second ms tr x p e l s = search (arith, message_tabled)
 
 taken_follows : SessionLaws → SaysItsUnit → (m : Machine) (ls : List Line) (side : Side) (r : ℕ) (keep : ℕ → ℕ) (w : World)
     (first second : Option Meaning) → AllTabled ls m.worlds
@@ -237,7 +228,7 @@ delivery_follows laws says terms m ls side r keep k g _ _ e h = absurd h
 cut_tabled : (left right : ℕ → ℕ) (r : ℕ) (ls : List Line) (ws : List World) → AllTabled ls ws
     → AllTabled (tables.cut_channels left right r ls) (cut_channels left right r ws)
 cut_tabled left right r [] [] h = tt
-cut_tabled left right r (l ∷ ls) (w ∷ ws) h = grind (arith, break_tabled, cut_tabled left right (r + 1) ls ws h.1)
+cut_tabled left right r (l ∷ ls) (w ∷ ws) h = grind (arith, cut_tabled left right (r + 1) ls ws h.1)
 cut_tabled left right r _ _ h = absurd h
 
 -- ---- a step, and a list of steps
@@ -255,21 +246,16 @@ module _ (laws : SessionLaws) (says : SaysItsUnit) (terms : Terms) where
       (tables.side_of side (connection_at r ls))) (step m (delivers side r keep)))
       (sym (end_as side m ls))
       (if_follows (is_some (end_of side m)) _ _ _ _ (record { lines = ls; all = k; same = refl })
-      (delivery_follows laws says terms m ls side r keep k g (connection_at r ls) (connection_at r m.worlds) refl
-      (line_there ls m.worlds r k)))
+      (search (arith, delivery_follows, line_there)))
   step_of m ls (breaks left right) small k g = grind (arith, if_follows, cut_tabled)
   step_of m ls (ends side e keep) small k g =
       grind (arith, if_follows, end_as side m ls, end_follows side e keep (tables_of m ls) m (record { lines = ls; all = k; same = refl }))
-
-  step_follows : (t : Tables) (m : Machine) (s : Step) → HasNumber s → Follows t m → IsGood terms Whole m
-      → Follows (tables.step t s) (step m s)
-  step_follows t m s small h g = grind (arith, step_of)
 
   run_follows : (t : Tables) (m : Machine) (steps : List Step) → AllByRecursion HasNumber steps → Follows t m → IsGood terms Whole m
       → Follows (tables.run t steps) (run m steps)
   run_follows t m [] small h g = h
   run_follows t m (s ∷ steps) small h g =
-      run_follows (tables.step t s) (step m s) steps small.1 (step_follows t m s small.0 h g)
+      run_follows (tables.step t s) (step m s) steps small.1 (grind (arith, step_of))
       (step_good terms Whole (whole_kept laws terms) m s small.0 g)
 
   pub all_follow : (steps : List Step) → AllByRecursion HasNumber steps

@@ -1,14 +1,14 @@
 -- What each side of a connection sent, and what the other received of it, over lists of steps.
 -- For the law of the same name.
-use Rattle.std.proofs.Common.{◌≡◌, ◌∙◌, ℕ, Bool, true, false, ◌||◌, List, [], ◌∷◌, ◌++◌, append_assoc, Option, Some, None, arith}
+use Rattle.std.proofs.Common.{◌≡◌, ◌∙◌, ℕ, Bool, true, false, ◌||◌, List, [], ◌∷◌, ◌++◌, append_assoc, Option, Some, arith}
 use Rattle.osi_session.specs.Phases.{is_ended}
-use Rattle.osi_machine.specs.Tables.{message_taken, start, seen_from, side_of, run}
+use Rattle.osi_machine.specs.Tables.{message_taken, start, side_of, run}
 use Rattle.osi_machine.proofs.Vocabulary.{append-nil, Meaning, Begins, Side, Left, Right, Message, Transport, Terms, Step, connection_at}
 use Rattle.osi_machine.proofs.Vocabulary.{Line, said_in, heard_in, other_side, units_in, IsHeardAsSaid, AllByRecursion}
 use Rattle.osi_machine.proofs.basics.what_stands_at_a_reference.{some_same}
 use Rattle.osi_machine.proofs.tables.what_one_side_received_the_other_sent.{SayLaws, Carried, Told, turned_told, call_told}
 use Rattle.osi_machine.proofs.tables.what_one_side_received_the_other_sent.{close_told, ends_told, cut_told, asked_told, message_told}
-use Rattle.osi_machine.proofs.tables.every_line_of_a_run.{Words, silent, all_know, HoldsAt, IsKept}
+use Rattle.osi_machine.proofs.tables.every_line_of_a_run.{Words, all_know, HoldsAt, IsKept}
 
 -- ---- what each move keeps
 
@@ -26,18 +26,12 @@ any_steps (s ∷ steps) = (tt, any_steps steps)
 
 -- ---- one side at a time
 
-told_side : (side : Side) (b : Bool) (l : Line) (x y : Words) → HoldsAt Told side b x y (Some l) → Told b (seen_from side l) x y
-told_side side b l x y h = grind (arith, turned_told)
-
-none_at : (side : Side) (b : Bool) (x y : Words) → HoldsAt Told side b x y None → (x ≡ silent) × (y ≡ silent)
-none_at side b x y h = grind arith
-
 line_of_side : (side : Side) (b : Bool) (x y : Words) (o : Option Line) (l : Line) → HoldsAt Told side b x y o → side_of side o ≡ Some l
     → Told b l x y
-line_of_side side b x y o l h e = grind (arith, some_same, told_side)
+line_of_side side b x y o l h e = grind (arith, some_same)
 
 heard_begins : (side : Side) (b : Bool) (x y : Words) (o : Option Line) → HoldsAt Told side b x y o → Begins x.heard y.said
-heard_begins side b x y o h = search (arith, none_at, append-nil, told_side)
+heard_begins side b x y o h = search (arith, append-nil)
 
 then_under_way : (a : Bool) (ch : List Message) (said heard : List Meaning) → Carried a ch said heard → Begins (heard ++ units_in ch) said
 then_under_way a ch said heard h = (h.lost, append_assoc heard (units_in ch) h.lost ∙ h.splits)

@@ -5,17 +5,16 @@ use Rattle.std.proofs.Common.{Err, arith}
 use Rattle.osi_session.specs.Moves.{answered as answered_move, after_inputs}
 use Rattle.osi_session.specs.Runs.{HasNumbers}
 use Rattle.osi_session.specs.Sessions.{CanBeSent}
-use Rattle.osi_message.specs.Written.{is_second, user_data_of}
+use Rattle.osi_message.specs.Written.{user_data_of}
 use Rattle.osi_machine.specs.Tables.{asked_with, shortened, after_call, message_taken, closed, ended_at, without_first, turned}
-use Rattle.osi_machine.proofs.Vocabulary.{leb-true, ltb-false, or_parts, not-false, AllByRecursion, Input, called, taken, opened, refused}
-use Rattle.osi_machine.proofs.Vocabulary.{broken as broken_off, Standing, Move, react, Said, said_of, IsAddress, State, Meaning}
-use Rattle.osi_machine.proofs.Vocabulary.{WaitTransport, Call, HasSerial, Granted, Answer, IsSound, IsSendable, allowed, respond}
-use Rattle.osi_machine.proofs.Vocabulary.{without_tokens, awaiting, Offer, CanBeOffered, offering, offer_sent, Message, unit, ask, agree}
-use Rattle.osi_machine.proofs.Vocabulary.{deny, bye, over, Transport, not_yet, waiting, linked, closing, gone, put, replied, Terms, accepts}
-use Rattle.osi_machine.proofs.Vocabulary.{denies, connection_at, is_given, is_long_selector, is_long, HasNumber, Line, Tables, in_transport}
-use Rattle.osi_machine.proofs.Vocabulary.{puts, made, ends_there, AreSendable, IsSoundLine, AreSoundLines, IsTableRun, cut_line}
+use Rattle.osi_machine.proofs.Vocabulary.{leb-true, or_parts, not-false, AllByRecursion, Input, called, taken, opened, refused}
+use Rattle.osi_machine.proofs.Vocabulary.{broken as broken_off, Standing, Move, react, Said, said_of, State, Meaning, Call, HasSerial}
+use Rattle.osi_machine.proofs.Vocabulary.{Granted, Answer, IsSound, IsSendable, allowed, respond, Offer, CanBeOffered, offer_sent, Message}
+use Rattle.osi_machine.proofs.Vocabulary.{unit, ask, agree, deny, bye, over, Transport, not_yet, waiting, linked, closing, gone, put}
+use Rattle.osi_machine.proofs.Vocabulary.{replied, Terms, accepts, denies, is_given, is_long, HasNumber, Line, Tables, in_transport, puts}
+use Rattle.osi_machine.proofs.Vocabulary.{made, ends_there, AreSendable, IsSoundLine, AreSoundLines, IsTableRun, cut_line}
 use Rattle.osi_machine.proofs.basics.what_holds_in_each_phase.{by_test}
-use Rattle.osi_machine.proofs.tables.every_line_of_a_run.{all_know, Knows, Holds, Words, Claim, IsKept}
+use Rattle.osi_machine.proofs.tables.every_line_of_a_run.{all_know, Claim, IsKept}
 
 -- what is proved of one session
 pub record SendLaws : Type 0 where
@@ -42,9 +41,6 @@ take_sendable (suc n) (x ∷ ms) h = take_sendable n ms h
 
 replied_sendable : (r : Option Meaning) → CanBeSent r → AreSendable (replied r)
 replied_sendable r h = grind arith
-
-rest_sendable : (x : Message) (ms : List Message) → AreSendable (x ∷ ms) → AreSendable ms
-rest_sendable x ms h = grind arith
 
 -- ---- a move
 
@@ -97,9 +93,6 @@ put_line : (b : Bool) (ms : List Message) (tr : Transport) (l : Line) → AreSen
     → IsSoundLine (puts b ms (in_transport tr l))
 put_line b ms tr l k h = grind (arith, put_sendable)
 
-gone_line : (tr : Transport) (l : Line) → IsSoundLine l → IsSoundLine (in_transport tr l)
-gone_line tr l h = record { own = record { sound = h.own.sound; waits = h.own.waits; under_way = h.own.under_way }; peer = h.peer }
-
 short_line : (n : ℕ) (l : Line) → IsSoundLine l → IsSoundLine (shortened n l)
 short_line n l h = grind (arith, take_sendable)
 
@@ -114,55 +107,30 @@ message_line : SendLaws → (b : Bool) (terms : Terms) (keep : ℕ) (tr : Transp
     → IsSoundLine (message_taken b terms keep tr (without_first l xs) x).line
 message_line laws b (accepts class) keep not_yet l ask xs k h = search (arith, put_line, popped_line)
 message_line laws b (denies reason) keep not_yet l ask xs k h = grind (arith, popped_line, put_sendable)
-message_line laws b terms keep waiting l agree xs k h =
-    moved_line b linked (react l.own.session opened) (without_first l xs) (well_opened laws l.own.session h.own.sound h.own.waits)
-    (popped_line l xs k h)
-message_line laws b terms keep waiting l (deny r) xs k h =
-    moved_line b gone (react l.own.session (refused r)) (without_first l xs) (well_refused laws l.own.session r h.own.sound h.own.waits)
-    (popped_line l xs k h)
+message_line laws b terms keep waiting l agree xs k h = search (arith, moved_line, react, well_opened, popped_line)
+message_line laws b terms keep waiting l (deny r) xs k h = search (arith, moved_line, react, well_refused, popped_line)
 message_line laws b terms keep linked l (unit u) xs k h =
     moved_line b linked (react l.own.session (taken (said_of u))) (without_first l xs)
-    (well_taken laws l.own.session (said_of u) (by_test (is_second u) (λ e. rw e (tt, ((k.0).numbered, tt)))
-    (λ e. rw e ((k.0).numbered, tt))) h.own.sound h.own.waits) (popped_line l xs k.1 h)
+    (well_taken laws l.own.session (said_of u) (grind (arith, by_test)) h.own.sound h.own.waits) (popped_line l xs k.1 h)
 message_line laws b terms keep linked l (bye r) xs k h =
-    let p = moved_line b gone (react l.own.session broken_off) (shortened keep (without_first l xs))
-    (well_broken laws l.own.session h.own.sound h.own.waits) (short_line keep (without_first l xs) (popped_line l xs k h)) in
-    record {
-      own = record {
-        sound = p.own.sound;
-        waits = p.own.waits;
-        under_way = put_sendable b (over ∷ []) (put b (replied (react l.own.session broken_off).reply) (take keep l.own.channel)) tt
-            p.own.under_way;
-      };
-      peer = p.peer;
-    }
-message_line laws b terms keep closing l (bye r) xs k h = gone_line gone (without_first l xs) (popped_line l xs k h)
-message_line laws b terms keep closing l over xs k h = gone_line gone (without_first l xs) (popped_line l xs k h)
+    search (arith, moved_line, react, well_broken, short_line, popped_line, put_sendable)
+message_line laws b terms keep closing l (bye r) xs k h = grind arith
+message_line laws b terms keep closing l over xs k h = grind arith
 message_line laws b terms keep gone l (bye r) xs k h = grind (arith, popped_line, put_sendable)
-message_line laws b terms keep tr l x xs k h = popped_line l xs (rest_sendable x xs k) h
+message_line laws b terms keep tr l x xs k h = popped_line l xs (grind arith) h
 
 closed_line : (b : Bool) (keep : ℕ) (l : Line) → IsSoundLine l → IsSoundLine (closed b keep l)
 closed_line b keep l h = put_line b (bye 128 ∷ []) closing (shortened keep l) tt (short_line keep l h)
 
 ended_line : SendLaws → (keep : ℕ) (l : Line) → IsSoundLine l → IsSoundLine (ended_at keep l).line
-ended_line laws keep l h = moved_line true gone (react l.own.session broken_off) (shortened keep l)
-    (well_broken laws l.own.session h.own.sound h.own.waits) (short_line keep l h)
-
-short_selector : (s : Option (List ℕ)) → is_long_selector s ≡ false → IsAddress s
-short_selector s h = grind (arith, ltb-false)
+ended_line laws keep l h = grind (arith, moved_line, react, well_broken, short_line)
 
 offer_sendable : (o : Offer) → CanBeOffered o → is_long o ≡ false → IsSendable (offer_sent o)
 unfolding user_data_of
-offer_sendable o small h = search (arith, or_parts, leb-true, not-false, short_selector)
-
-calling_sound : (o : Offer) → CanBeOffered o → IsSound (without_tokens WaitTransport (offering o))
-calling_sound o small = search arith
-
-awaiting_sound : IsSound awaiting
-awaiting_sound = grind arith
+offer_sendable o small h = grind (arith, or_parts, leb-true, not-false)
 
 asked_line : (b : Bool) (o : Offer) → CanBeOffered o → is_long o ≡ false → IsSoundLine (asked_with b o)
-asked_line b o small h = search (arith, calling_sound, offer_sendable, put_sendable, awaiting_sound)
+asked_line b o small h = search (arith, offer_sendable, put_sendable)
 
 -- ---- all connections
 
@@ -190,8 +158,5 @@ sound_kept laws = record {
   cut = λ b left right l x y h. cut_sound left right l h;
 }
 
-known_sound : (r : ℕ) (t : Tables) (x y : Words) (l : Line) → Knows Sound r t x y → connection_at r t.lines ≡ Some l → IsSoundLine l
-known_sound r t x y l h e = subst (Holds Sound t.broken x y) e h
-
 pub are_sound : SendLaws → (t : Tables) → IsTableRun t → AreSoundLines t
-are_sound laws t h r l e = grind (arith, known_sound, all_know, sound_kept)
+are_sound laws t h r l e = grind (arith, all_know, sound_kept)

@@ -106,9 +106,6 @@ pub reply_said : (b parts : Bool) (ch : List Message) (said heard : List Meaning
     → Carried (b || parts) (put b (replied r) ch) (said ++ one_or_none r) heard
 reply_said b parts ch said heard r n h = search (arith, one_said, append-nil, same_units, put_no_units)
 
-pub begins_so : (a : Bool) (ch : List Message) (said heard : List Meaning) → Carried a ch said heard → Begins heard said
-begins_so a ch said heard h = (units_in ch ++ h.lost, h.splits)
-
 pub begins_more : (said heard more : List Meaning) → Begins heard said → Begins heard (said ++ more)
 begins_more said heard more h = (h.0 ++ more, sym (append_assoc heard h.0 more) ∙ ap (λ (us : List Meaning). us ++ more) h.1)
 
@@ -116,9 +113,6 @@ begins_more said heard more h = (h.0 ++ more, sym (append_assoc heard h.0 more) 
 
 over_mute : (p : Phase) → is_over p ≡ true → may_abort p ≡ false
 over_mute p e = excluded is_over may_abort refl p e
-
-waits_mute : (p : Phase) → is_wait_transport p ≡ true → may_abort p ≡ false
-waits_mute p e = excluded is_wait_transport may_abort refl p e
 
 ended_over : (p : Phase) → is_ended p ≡ true → is_over p ≡ true
 ended_over p e = implied is_ended is_over refl p e
@@ -156,11 +150,6 @@ turned_told b l x y h = record { own_fits = h.peer_fits; peer_fits = h.own_fits;
 -- seen from the side that stays: the other's transport connection is there, or closes
 past : (own peer peer' : Seat) → is_early peer'.transport ≡ false → Fits own peer → Fits own peer'
 past own peer peer' e h = grind (arith, is_early)
-
--- the first message of its channel is taken
-rest_fits : (own peer : Seat) (m : Message) (ms : List Message) → own.channel ≡ m ∷ ms → Fits own peer
-    → Fits (record own { channel = ms }) peer
-rest_fits own peer m ms e h = search arith
 
 -- its transport connection is there, or closes, and its session is another
 opened_fits : (own' peer : Seat) → is_early own'.transport ≡ false
@@ -200,35 +189,17 @@ says_told : (b : Bool) (l : Line) (s : Standing) (r : Option Meaning) (x y : Wor
     (says_more x (one_or_none r)) y
 says_told b l s r x y p e h = search (arith, opened_fits, past, begins_more, reply_said)
 
--- a side whose transport connection comes puts what is no unit
-links_told : (b : Bool) (l : Line) (ms : List Message) (x y : Words) → is_parting l.own.transport ≡ false → units_in ms ≡ [] → Told b l x y
-    → Told b (record l { own = record { transport = linked; session = l.own.session; channel = put b ms l.own.channel } }) x y
-links_told b l ms x y p n h = search (arith, opened_fits, put_no_units, past, same_units)
-
--- a side denies the connection, and stays as it is
-denies_told : (b : Bool) (l : Line) (reason : ℕ) (x y : Words) → Told b l x y
-    → Told b (record l { own = record l.own { channel = put b (deny reason ∷ []) l.own.channel } }) x y
-denies_told b l reason x y h = search (arith, put_no_units, no_agree_put, same_units)
-
 -- ---- lists with nothing in them
 
 no_words : (b : Bool) (l : Line) (x y : Words) → Told b l x y → Told b l (and_more x [] []) y
 no_words b l x y h = search (arith, append-nil)
 
-none_heard : (b : Bool) (l : Line) (x y : Words) → Told b l x y → Told b l (hears_more x []) y
-none_heard b l x y h = subst (λ (us : List Meaning). Told b l (record { said = x.said; heard = us }) y) (sym (append-nil x.heard)) h
-
 -- ---- a call
-
--- a call that is refused changes nothing, and puts nothing
-nothing_put : (b : Bool) (l : Line) (x y : Words) → Told b l x y
-    → Told b (record l { own = record l.own { channel = put b [] l.own.channel } }) x y
-nothing_put b l x y h = search (arith, append-nil)
 
 -- if a call is accepted the transport connection is there at both sides, or closes at the other
 linked_there : (tr : Transport) (p : Phase) → is_given tr ≡ true → may_abort p ≡ true → (tr ≡ waiting → is_wait_transport p ≡ true)
     → (is_parting tr ≡ true → is_over p ≡ true) → tr ≡ linked
-linked_there tr p g m w o = grind (arith, waits_mute, over_mute)
+linked_there tr p g m w o = grind (arith, over_mute)
 
 not_early : (e : Bool) (p : Phase) → (e ≡ true → may_abort p ≡ false) → may_abort p ≡ true → e ≡ false
 not_early e p f m = grind arith
@@ -240,7 +211,7 @@ call_told laws b c l x y g h = by (allowed l.own.session.state c) refl
   where
     by : (a : Answer) → allowed l.own.session.state c ≡ a
         → Told b (made b (answered_move l.own.session a) l) (and_more x (one_or_none (answered_move l.own.session a).reply) []) y
-    by (Err f) e = no_words b _ x y (nothing_put b l x y h)
+    by (Err f) e = no_words b _ x y (grind (arith, append-nil))
     by (Ok step) e =
         let m = laws.accepted l.own.session.state c step e in
         let t = linked_there l.own.transport l.own.session.state.phase g m h.own_fits.waits h.own_fits.over_now in
@@ -253,7 +224,7 @@ call_told laws b c l x y g h = by (allowed l.own.session.state c) refl
           };
         }) (and_more x (step.sent ∷ []) []) y) (sym t)
         (says_told b l (record l.own.session { state = step.next }) (Some step.sent) (hears_more x []) y (ap is_parting t) d
-        (none_heard b l x y h))
+        (grind (arith, append-nil)))
 
 -- ---- a close, the end of a side, and a break
 
@@ -292,7 +263,7 @@ asked_told b o = search arith
 popped : (b : Bool) (l : Line) (m : Message) (xs : List Message) (x y : Words) → l.peer.channel ≡ m ∷ xs
     → (is_parting l.own.transport ≡ false → units_in xs ≡ units_in (m ∷ xs)) → Told b l x y
     → Told b (without_first l xs) x y
-popped b l m xs x y e n h = grind (arith, rest_fits, same_units)
+popped b l m xs x y e n h = grind (arith, same_units)
 
 -- the message is a unit, and is received
 heard_first : (b : Bool) (l : Line) (u : Meaning) (xs : List Message) (x y : Words) → l.peer.channel ≡ unit u ∷ xs
@@ -301,22 +272,7 @@ heard_first : (b : Bool) (l : Line) (u : Meaning) (xs : List Message) (x y : Wor
 heard_first b l u xs x y e p h =
     let c = first_heard (b || is_parting l.peer.transport) u xs y.said x.heard
     (subst (λ (ms : List Message). Carried (b || is_parting l.peer.transport) ms y.said x.heard) e (h.back.carried p)) in
-    search (rest_fits, begins_so)
-
--- the message that tells of an open transport connection comes from a side that has one
-agreed_there : (tr : Transport) (l : Line) (xs : List Message) → l.own.transport ≡ waiting → l.peer.channel ≡ agree ∷ xs
-    → l.peer.transport ≡ tr → Fits l.own l.peer → Fits l.peer l.own → is_early tr ≡ false
-agreed_there tr l xs w e f h k = search arith
-
--- a unit comes from a side with a transport connection
-unit_there : (early : Bool) (l : Line) (u : Meaning) (xs : List Message) → l.peer.channel ≡ unit u ∷ xs → is_early l.peer.transport ≡ early
-    → Fits l.peer l.own → early ≡ false
-unit_there early l u xs e f k = grind arith
-
--- and goes to a side with one
-no_unit_early : {A : Type 0} (l : Line) (u : Meaning) (xs : List Message) → l.peer.channel ≡ unit u ∷ xs → is_early l.own.transport ≡ true
-    → Fits l.peer l.own → A
-no_unit_early l u xs e f k = absurd (let n = ap units_in (sym e) ∙ k.unsaid f in cc)
+    search arith
 
 denied_over : (s : Standing) (reason : ℕ) → is_wait_transport s.state.phase ≡ true
     → (is_over (react s (refused reason)).next.state.phase ≡ true) × ((react s (refused reason)).reply ≡ None)
@@ -335,16 +291,16 @@ pub message_told : SayLaws → (b : Bool) (terms : Terms) (keep : ℕ) (tr : Tra
     (x y : Words) → l.own.transport ≡ tr → l.peer.channel ≡ m ∷ xs → Told b l x y
     → Told b (message_taken b terms keep tr (without_first l xs) m).line (and_more x (said_to tr l.own.session m) (heard_of tr m)) y
 message_told laws b (accepts class) keep not_yet l ask xs x y t e h =
-    no_words b _ x y (links_told b (without_first l xs) (agree ∷ []) x y (ap is_parting t) refl (popped b l ask xs x y e (λ k. refl) h))
+    no_words b _ x y (grind (arith, opened_fits, put_no_units, past, same_units))
 message_told laws b (denies reason) keep not_yet l ask xs x y t e h =
-    no_words b _ x y (denies_told b (without_first l xs) reason x y (popped b l ask xs x y e (λ k. refl) h))
-message_told laws b terms keep not_yet l (unit u) xs x y t e h = no_unit_early l u xs e (ap is_early t) h.peer_fits
-message_told laws b terms keep waiting l (unit u) xs x y t e h = no_unit_early l u xs e (ap is_early t) h.peer_fits
+    no_words b _ x y (grind (arith, put_no_units, no_agree_put, same_units))
+message_told laws b terms keep not_yet l (unit u) xs x y t e h = grind arith
+message_told laws b terms keep waiting l (unit u) xs x y t e h = grind arith
 message_told laws b terms keep waiting l agree xs x y t e h =
     says_told b (without_first l xs) (react l.own.session opened).next (react l.own.session opened).reply (hears_more x []) y
     (ap is_parting t)
-    (agreed_there l.peer.transport l xs t e refl h.own_fits h.peer_fits)
-    (none_heard b (without_first l xs) x y (popped b l agree xs x y e (λ k. refl) h))
+    (grind arith)
+    (grind (arith, append-nil))
 message_told laws b terms keep waiting l (deny reason) xs x y t e h =
     let d = denied_over l.own.session reason (h.own_fits.waits t) in
     no_words b _ x y
@@ -358,26 +314,21 @@ message_told laws b terms keep waiting l (deny reason) xs x y t e h =
 message_told laws b terms keep linked l (unit u) xs x y t e h =
     says_told b (without_first l xs) (react l.own.session (taken (said_of u))).next (react l.own.session (taken (said_of u))).reply
     (hears_more x (u ∷ [])) y (ap is_parting t)
-    (unit_there (is_early l.peer.transport) l u xs e refl h.peer_fits)
+    (grind arith)
     (heard_first b l u xs x y e (ap is_parting t) h)
 message_told laws b terms keep linked l (bye reason) xs x y t e h =
     no_words b _ x y
     (cuts_told b (without_first l xs) (message_taken b terms keep linked (without_first l xs) (bye reason)).line.own keep x y refl refl
     (ended_over (react l.own.session broken_off).next.state.phase (laws.lost l.own.session))
-    (put_no_units b (over ∷ []) (put b (replied (react l.own.session broken_off).reply) (take keep l.own.channel)) refl
-    ∙ nothing_replied b (react l.own.session broken_off).reply (take keep l.own.channel) (lost_none l.own.session))
+    (grind (arith, put_no_units, react, nothing_replied, lost_none))
     (popped b l (bye reason) xs x y e (λ k. refl) h))
 message_told laws b terms keep closing l (bye reason) xs x y t e h =
-    no_words b _ x y (goes_told b (without_first l xs) (record l.own { transport = gone }) x y refl refl
-    (h.own_fits.over_now (ap is_parting t)) refl (popped b l (bye reason) xs x y e (λ k. refl) h))
+    no_words b _ x y (grind (arith, goes_told, popped))
 message_told laws b terms keep closing l over xs x y t e h =
-    no_words b _ x y (goes_told b (without_first l xs) (record l.own { transport = gone }) x y refl refl
-    (h.own_fits.over_now (ap is_parting t)) refl (popped b l over xs x y e (λ k. refl) h))
+    no_words b _ x y (grind (arith, goes_told, popped))
 message_told laws b terms keep gone l (bye reason) xs x y t e h =
     no_words b _ x y
-    (goes_told b (without_first l xs) (record l.own { channel = put b (over ∷ []) l.own.channel }) x y (ap is_parting t) (ap is_early t)
-    (h.own_fits.over_now (ap is_parting t))
-    (put_no_units b (over ∷ []) l.own.channel refl) (popped b l (bye reason) xs x y e (λ k. refl) h))
+    (grind (arith, goes_told, put_no_units, popped))
 message_told laws b terms keep closing l (unit u) xs x y t e h =
     no_words b _ x y (popped b l (unit u) xs x y e (λ k. absurd (let n = sym (ap is_parting t) ∙ k in cc)) h)
 message_told laws b terms keep gone l (unit u) xs x y t e h =

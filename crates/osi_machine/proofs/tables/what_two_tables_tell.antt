@@ -3,8 +3,8 @@
 use Rattle.std.proofs.Common.{◌≡◌, refl, sym, ◌∙◌, ap, subst, ℕ, zero, suc, List, [], ◌∷◌, map, Option, Some, None, Bool, ◌+◌, arith}
 use Rattle.osi_machine.proofs.Vocabulary.{AllByRecursion, list_any, slice_get, State, Offer, Side, Left, Right, Message, World, Terms}
 use Rattle.osi_machine.proofs.Vocabulary.{turned, session_of, IsLegal, Step, Entry, Machine, start, connection_at, run, HasNumber, Line}
-use Rattle.osi_machine.proofs.Vocabulary.{Tables, Told, told_of, IsRun, is_fault, IsLine, AreLines, AtEachSide, IsAsTables, offers_in}
-use Rattle.osi_machine.proofs.Vocabulary.{IsTableRun, AreOffered, OfEachLine, Meaning, TellsNoFault, LosesAsItEnds}
+use Rattle.osi_machine.proofs.Vocabulary.{Tables, Told, told_of, IsRun, is_fault, AreLines, AtEachSide, IsAsTables, IsTableRun, AreOffered}
+use Rattle.osi_machine.proofs.Vocabulary.{OfEachLine, Meaning, TellsNoFault, LosesAsItEnds}
 use Rattle.osi_machine.proofs.basics.what_stands_at_a_reference.{some_same}
 use Rattle.osi_machine.proofs.invariant.each_step_keeps_one_side.{SessionLaws}
 use Rattle.osi_machine.proofs.whole.every_stage_of_a_connection.{Whole, Stage, turned_stage}
@@ -38,12 +38,9 @@ map_option f (Some x) = Some (f x)
 
 -- ---- the machine and its tables side by side
 
-line_as : (w : World) (l : Line) → Tabled l w → IsLine w l
-line_as w l h = search arith
-
 lines_as : (ws : List World) (ls : List Line) → AllTabled ls ws → AreLines ws ls
 lines_as [] [] h = tt
-lines_as (w ∷ ws) (l ∷ ls) h = (line_as w l h.0, lines_as ws ls h.1)
+lines_as (w ∷ ws) (l ∷ ls) h = (grind arith, lines_as ws ls h.1)
 lines_as _ _ h = absurd h
 
 follows_as : (m : Machine) (t : Tables) → Follows t m → IsAsTables m t
@@ -80,35 +77,23 @@ are_offered laws m h = let g = good_run laws m h in g.asked ∙ lines_offers m.b
 
 module _ (t : Tables) (m : Machine) (h : Follows t m) where
   there : (r : ℕ) (l : Line) → connection_at r t.lines ≡ Some l → IsThere m r l
-  there r l e = line_found m r l (connection_at r h.lines) (connection_at r m.worlds) (line_there h.lines m.worlds r h.all)
-      (ap (λ (x : Tables). connection_at r x.lines) (sym h.same) ∙ e) refl
+  there r l e = grind (arith, line_found, line_there h.lines m.worlds r h.all)
 
   same_journal : t.journal ≡ m.journal
   same_journal = ap (λ (x : Tables). x.journal) h.same
 
-  offer_there : Offered m → (r : ℕ) (w : World) → connection_at r m.worlds ≡ Some w → connection_at r (offers_in t.journal) ≡ Some w.offer
-  offer_there q r w e = grind (arith, same_journal, offer_got)
-
   offered_as : Offered m → AreOffered t
-  offered_as q r l e = let x = there r l e in record { offer = x.world.offer; found = offer_there q r x.world x.found }
+  offered_as q r l e = let x = there r l e in record { offer = x.world.offer; found = (grind (arith, same_journal, offer_got)) }
 
   lifted : (P : State → State → Told → Told → Type 0) → Offered m → OfWorlds P m → OfEachLine P t
   lifted P q all r l o e f =
       let x = there r l e in
-      let offer = some_same x.world.offer o (sym (offer_there q r x.world x.found) ∙ f) in
-      subst (λ (y : Line). P y.own.session.state y.peer.session.state (told_of Left r o t.journal) (told_of Right r o t.journal))
-      (sym x.tabled.same)
-      (subst (λ (j : List Entry). P (session_of x.world) (session_of (turned x.world)) (told_of Left r o j) (told_of Right r o j))
-      (sym same_journal)
-      (subst (λ (p : Offer). P (session_of x.world) (session_of (turned x.world)) (told_of Left r p m.journal)
-      (told_of Right r p m.journal))
-      offer (all r x.world x.found)))
+      grind (arith, same_journal, offer_got, some_same x.world.offer o (sym (grind (arith, same_journal, offer_got)) ∙ f))
 
   sides_lifted : (P : State → List Message → Type 0) → OfSides P m → AtEachSide P t
   sides_lifted P all side r l e =
       let x = there r l e in
-      subst (λ (y : Line). P (tables.seen_from side y).own.session.state (tables.seen_from side y).peer.channel) (sym x.tabled.same)
-      (at_side P side x.world x.tabled.first x.tabled.second (all r x.world x.found))
+      grind (arith, at_side P side x.world x.tabled.first x.tabled.second (all r x.world x.found))
 
 -- ---- a run of the tables, and the run of the machine that it is
 
@@ -131,16 +116,14 @@ module _ (laws : SessionLaws) (says : SaysItsUnit) where
 
   pub of_runs : (P : State → State → Told → Told → Type 0) → ((m : Machine) → IsRun m → OfWorlds P m) → (t : Tables) → IsTableRun t
       → OfEachLine P t
-  of_runs P all t h =
-      lifted t (machine_of t h) (follows_run t h) P (are_offered laws (machine_of t h) (run_of t h)) (all (machine_of t h) (run_of t h))
+  of_runs P all t h = search (arith, lifted, follows_run t h, are_offered laws (machine_of t h) (run_of t h), run_of t h)
 
   -- what holds of one side at each stage holds of both
   pub of_stages : (P : State → List Message → Type 0)
       → ((b : Bool) (w : World) (t u : Told) → Stage b w t u → P (session_of w) w.peer.channel) → (t : Tables) → IsTableRun t
       → AtEachSide P t
   of_stages P all t h = sides_lifted t (machine_of t h) (follows_run t h) P (λ r w e.
-      let s = stage_at laws (machine_of t h) (run_of t h) r w e in
-      (all _ w _ _ s, all _ (turned w) _ _ (turned_stage _ w _ _ s)))
+      search (arith, turned_stage, stage_at laws (machine_of t h) (run_of t h) r w e, run_of t h))
 
   pub table_offers : (t : Tables) → IsTableRun t → AreOffered t
   table_offers t h = offered_as t (machine_of t h) (follows_run t h) (are_offered laws (machine_of t h) (run_of t h))

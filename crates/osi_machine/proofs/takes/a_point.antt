@@ -1,14 +1,13 @@
 -- Taking a synchronization point keeps the invariant of both sides.
 -- For each_step_keeps_both_sides.
-use Rattle.std.proofs.Common.{◌≡◌, refl, sym, ◌∙◌, ap, subst, ℕ, ◌+◌, ◌≤◌, ◌<◌, Bool, true, false, not, ◌&&◌, ◌||◌, nat_lt, if◌then◌else◌}
-use Rattle.std.proofs.Common.{List, ◌∷◌, ◌⊎◌, arith}
+use Rattle.std.proofs.Common.{◌≡◌, refl, sym, ◌∙◌, ap, subst, ℕ, ◌+◌, ◌≤◌, ◌<◌, Bool, true, false, not, nat_lt, if◌then◌else◌, List, ◌∷◌}
+use Rattle.std.proofs.Common.{◌⊎◌, arith}
 use Rattle.osi_machine.proofs.Vocabulary.{ltb-true, ltb-false, false_from_ne_true, list_any, State, Numbers, FunctionalUnits, Meaning, MIP}
-use Rattle.osi_machine.proofs.Vocabulary.{MAP, data_token, lower, MajorDue, is_ready, is_releasing, is_restarting, is_restart_due}
-use Rattle.osi_machine.proofs.Vocabulary.{point_taken, drops, next, AllFit, flush, stops, heard, hears, needs_token, Core, is_opening}
+use Rattle.osi_machine.proofs.Vocabulary.{MAP, data_token, lower, MajorDue, is_ready, is_restarting, is_restart_due, point_taken, drops}
+use Rattle.osi_machine.proofs.Vocabulary.{next, flush, stops, heard, hears, needs_token, Core, is_opening}
 use Rattle.osi_machine.proofs.basics.what_holds_in_each_phase.{excluded}
 use Rattle.osi_machine.proofs.channels.a_unit_is_dropped_bad_or_acted_on.{next_hears}
-use Rattle.osi_machine.proofs.channels.what_every_unit_in_flight_keeps.{heard_flush, kept_heard, lower_second, lower_from, heard_turned}
-use Rattle.osi_machine.proofs.channels.what_every_unit_in_flight_keeps.{heard_sends}
+use Rattle.osi_machine.proofs.channels.what_every_unit_in_flight_keeps.{heard_flush, kept_heard, lower_second, heard_turned, heard_sends}
 use Rattle.osi_machine.proofs.channels.a_held_token_keeps_units_out.{flush_open}
 use Rattle.osi_machine.proofs.invariant.what_holds_of_both_sides.{IsOfProfile, Stands}
 use Rattle.osi_machine.proofs.calls.a_unit_that_changes_no_state.{none_owed}
@@ -18,7 +17,7 @@ use Rattle.osi_machine.proofs.takes.a_unit_that_cuts_nothing.{at, heard_is, Calm
 -- the number of points that are confirmed, once one more is taken
 reach_point : (a : Bool) (next c confirmed : ℕ) → c ≤ next → (a ≡ true → lower next c ≤ confirmed)
     → lower (next + 1) c ≤ (if a then confirmed else next)
-reach_point a next c confirmed le f = grind (arith, lower_from, lower_second)
+reach_point a next c confirmed le f = grind (arith, lower_second)
 
 -- half-duplex, if points are selected
 half : (u : FunctionalUnits) → IsOfProfile u → (u.minor ≡ true) ⊎ (u.major ≡ true) → u.half_duplex ≡ true
@@ -41,24 +40,13 @@ module _ (w : Core) (u : Meaning) (us : List Meaning) (r : State) where
   none_back : Stands (at w (u ∷ us)) → Pointed w u us r → list_any (needs_token data_token) w.own.sent ≡ false
   none_back h k =
       let units = (flush_open w.own.session (u ∷ us) (excluded is_ready is_opening refl w.own.session.phase k.ready) h.own.fits).units in
-      let two = half w.own.session.units (subst IsOfProfile units h.pair.profile) k.selected in
-      by (list_any (needs_token data_token) w.own.sent) (needs_token data_token u) (list_any (needs_token data_token) us) k.needs
-      (h.pair.one_way (ap (λ (v : FunctionalUnits). v.half_duplex) units ∙ two))
-    where
-      by : (a b c : Bool) → b ≡ true → (a && (b || c)) ≡ false → a ≡ false
-      by false b c e f = refl
-      by true true c e f = absurd (cc)
-      by true false c e f = absurd (cc)
+      grind (arith, half)
 
   -- the other side does not answer
   other_sends : Stands (at w (u ∷ us)) → Pointed w u us r → w.peer.session.numbers.answers ≡ false
   unfolding point_taken
   other_sends h k = false_from_ne_true w.peer.session.numbers.answers (λ a.
-      let no = h.peer_counts.flag a in
-      let turned = heard_turned r us (record { phase = k.opened; answers = ap (λ (v : Numbers). v.answers) k.numbers })
-      (subst (λ (q : State). AllFit q us) k.next h.own.fits.1) in
-      let yes = ap (λ (q : State). q.numbers.answers) (heard_is w.own.session r u us k.stays k.next) ∙ turned.answers in
-      cc)
+      grind (arith, heard_turned, h.peer_counts.flag a, heard_is w.own.session r u us k.stays k.next))
 
   listens : Pointed w u us r → is_restarting w.own.session.phase ≡ false
   listens k = excluded is_ready is_restarting refl w.own.session.phase k.ready
@@ -123,18 +111,16 @@ pub minor_calm : (w : Core) (confirm : Bool) (n : ℕ) (octets : List ℕ) (us :
 unfolding taken_minor
 minor_calm w confirm n octets us d h =
     let k = minor_pointed w confirm n octets us d h in
-    record {
-      acts = d;
-      plain = assumption;
-      next = k.next;
-      listens = listens w (MIP confirm n octets) us (taken_minor w.own.session) k;
-      hears = excluded is_ready is_restarting refl w.own.session.phase k.ready;
-      owes = excluded is_ready is_restart_due refl w.own.session.phase k.ready;
-      released = h.peer.meeting.released;
-      flag = λ a. point_flag w (MIP confirm n octets) us (taken_minor w.own.session) h k;
-      below = point_below w (MIP confirm n octets) us (taken_minor w.own.session) h k;
-      reach = λ a. point_reach w (MIP confirm n octets) us (taken_minor w.own.session) h k;
-    }
+    search (
+      arith,
+      point_flag,
+      point_reach,
+      listens w (MIP confirm n octets) us (taken_minor w.own.session) k,
+      taken_minor w.own.session,
+      excluded is_ready is_restarting refl w.own.session.phase k.ready,
+      excluded is_ready is_restart_due refl w.own.session.phase k.ready,
+      point_below w (MIP confirm n octets) us (taken_minor w.own.session) h k,
+    )
 
 major_pointed : (w : Core) (n : ℕ) (octets : List ℕ) (us : List Meaning) → drops w.own.session (MAP n octets) ≡ false
     → Stands (at w (MAP n octets ∷ us)) → Pointed w (MAP n octets) us (taken_major w.own.session)
@@ -153,8 +139,7 @@ major_calm w n octets us d h =
       listens = listens w (MAP n octets) us (taken_major w.own.session) k;
       hears = refl;
       owes = refl;
-      released = λ r. absurd (let a = h.peer.meeting.released r in
-          let b = excluded is_ready is_releasing refl w.own.session.phase k.ready in cc);
+      released = grind (arith, excluded);
       flag = λ a. point_flag w (MAP n octets) us (taken_major w.own.session) h k;
       below = point_below w (MAP n octets) us (taken_major w.own.session) h k;
       reach = λ a. point_reach w (MAP n octets) us (taken_major w.own.session) h k;

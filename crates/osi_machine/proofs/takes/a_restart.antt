@@ -1,24 +1,22 @@
 -- Taking a restart keeps the invariant: if it takes effect it cuts what was seen, else it changes nothing.
 -- For each_step_keeps_both_sides.
-use Rattle.std.proofs.Common.{◌≡◌, refl, sym, ◌∙◌, ap, subst, ℕ, ◌-◌, ◌≤◌, ◌<◌, Bool, true, false, not, if◌then◌else◌, List, [], ◌∷◌, arith}
+use Rattle.std.proofs.Common.{◌≡◌, refl, sym, ◌∙◌, ap, subst, ℕ, ◌-◌, ◌≤◌, Bool, true, false, if◌then◌else◌, List, [], ◌∷◌, arith}
 use Rattle.osi_machine.proofs.Vocabulary.{and_parts, and_from, TokenSetting, ResyncType, State, RestartDue, Meaning, RS, is_restarting}
 use Rattle.osi_machine.proofs.Vocabulary.{without_tokens, restarted_at, stands, next, Item, upto, cutat, Owner, turned_owner, turned_owners}
-use Rattle.osi_machine.proofs.Vocabulary.{is_own, all_to_pool, pooled, is_acted_on, seen, cut_by, owners_after, Fits, flush, heard}
-use Rattle.osi_machine.proofs.Vocabulary.{view_next, Party, Core, taking, AreConsistent}
+use Rattle.osi_machine.proofs.Vocabulary.{is_own, all_to_pool, pooled, Fits, flush, heard, view_next, Party, Core, taking, AreConsistent}
 use Rattle.osi_machine.proofs.basics.what_holds_in_each_phase.{excluded, implied_two, if_second}
 use Rattle.osi_machine.proofs.basics.what_a_restart_leaves_of_a_history.{upto_twice, numbered_cut}
-use Rattle.osi_machine.proofs.channels.a_unit_is_dropped_bad_or_acted_on.{none_due, restart_due, fit_acts}
-use Rattle.osi_machine.proofs.channels.what_every_unit_in_flight_keeps.{lower_second, lower_less, lower_both}
+use Rattle.osi_machine.proofs.channels.a_unit_is_dropped_bad_or_acted_on.{none_due, restart_due}
+use Rattle.osi_machine.proofs.channels.what_every_unit_in_flight_keeps.{lower_second, lower_both, lower_first}
 use Rattle.osi_machine.proofs.channels.a_deaf_side_acts_on_nothing.{AllEmpty, all_empty, empty_fits, empty_end, empty_heard, empty_view}
 use Rattle.osi_machine.proofs.channels.a_deaf_side_acts_on_nothing.{restart_kept, restart_next, stood, deaf_end, deaf_heard, not_both}
-use Rattle.osi_machine.proofs.channels.a_deaf_side_acts_on_nothing.{yielded, yielded_view}
+use Rattle.osi_machine.proofs.channels.a_deaf_side_acts_on_nothing.{yielded}
 use Rattle.osi_machine.proofs.channels.a_held_token_keeps_units_out.{none_held}
 use Rattle.osi_machine.proofs.invariant.what_holds_of_both_sides.{Meeting, Half, Views, Counting, Counts, Pair, Stands}
 use Rattle.osi_machine.proofs.invariant.each_step_keeps_one_side.{SessionLaws, taking_kept, stood_below}
 use Rattle.osi_machine.proofs.invariant.no_side_is_over.{alive, taken_party, takes_as}
-use Rattle.osi_machine.proofs.takes.a_unit_that_changes_no_state.{rest_of, one_less}
-use Rattle.osi_machine.proofs.takes.a_unit_that_cuts_nothing.{at, stands_at, party_after, none_got, Moves, moves_stands, same_tokens}
-use Rattle.osi_machine.proofs.takes.a_unit_that_cuts_nothing.{same_stream}
+use Rattle.osi_machine.proofs.takes.a_unit_that_changes_no_state.{rest_of}
+use Rattle.osi_machine.proofs.takes.a_unit_that_cuts_nothing.{at, stands_at, party_after, none_got, Moves, moves_stands, same_stream}
 
 -- ---- the taker after it
 
@@ -95,16 +93,13 @@ taker : (w : Core) (n : ℕ) (t : TokenSetting) → Party
 taker w n t = party_after w.own (answering w.own.session n t) (cutat w.own.session.base w.own.view n) w.own.got
 
 module _ (w : Core) (k : ResyncType) (n : ℕ) (t : TokenSetting) (o : List ℕ) (us : List Meaning) (c : Comes w k n t o us) where
-  was_met : Meeting w.owner w.own.session (answering w.own.session n t) (flush w.peer.session w.own.sent) w.own.session w.peer.session
-  was_met = search (arith, end_is, heard_is)
-
   was_met_there : Meeting (turned_owners w.owner) w.peer.session (flush w.peer.session w.own.sent) (answering w.own.session n t)
       (heard w.peer.session w.own.sent) w.own.session
   was_met_there = search (arith, end_is)
 
   taker_half : Half (pooled w.owner) (taker w n t) (rest_of w.peer us)
   unfolding taker
-  taker_half = search (arith, was_met, none_behind, empty_fits, empty_end, empty_heard, none_held, pool_own)
+  taker_half = grind (arith, end_is, heard_is, none_behind, empty_fits, empty_end, empty_heard, none_held, pool_own)
 
   giver_half : Half (turned_owners (pooled w.owner)) (rest_of w.peer us) (taker w n t)
   unfolding taker
@@ -136,8 +131,7 @@ module _ (w : Core) (k : ResyncType) (n : ℕ) (t : TokenSetting) (o : List ℕ)
       (sym (empty_heard (answering w.own.session n t) us (none_behind w k n t o us c))) (record {
         flag = old.flag;
         below = λ l. absurd (not_both _ l (heard_asking w k n t o us c));
-        reach = λ f. lower_less w.peer.session.numbers.next _ w.own.session.numbers.confirmed w.peer.session.numbers.confirmed
-            (lower_second n w.own.session.numbers.confirmed) (old.reach f);
+        reach = λ f. search (arith, lower_first, lower_second, lower_second n w.own.session.numbers.confirmed, old.reach f);
       })
 
   giver_counts : Counts (rest_of w.peer us) (taker w n t)
@@ -148,12 +142,7 @@ module _ (w : Core) (k : ResyncType) (n : ℕ) (t : TokenSetting) (o : List ℕ)
       subst (λ (e : State). Counting w.peer.session (heard w.peer.session w.own.sent) e (answering w.own.session n t))
       (sym (empty_heard (answering w.own.session n t) us (none_behind w k n t o us c))) (record {
         flag = old.flag;
-        below = λ l a from to.
-            let high = subst (λ (v : State). a < v.numbers.confirmed)
-            (deaf_heard w.peer.session w.own.sent (other_waits w k n t o us c) c.all.peer.fits) to in
-            let order = c.all.consistent.peer.sound.ordered.confirmed_to in
-            let same = same_number w k n t o us c in
-            omega arith;
+        below = grind (arith, deaf_heard, other_waits, same_number);
         reach = λ f. lower_both n w.own.session.numbers.next _ w.own.session.numbers.confirmed (top w k n t o us c) (old.reach f);
       })
 
@@ -161,7 +150,7 @@ module _ (w : Core) (k : ResyncType) (n : ℕ) (t : TokenSetting) (o : List ℕ)
 
   pair_after : Pair (cutat w.own.session.base w.history n) (taker w n t) (rest_of w.peer us)
   unfolding taker
-  pair_after = search (arith, end_is, empty_end, none_behind, numbered_cut, one_less)
+  pair_after = grind (arith, end_is, empty_end, none_behind, numbered_cut)
 
 -- ---- all that is true of both sides
 
@@ -176,12 +165,8 @@ takes_restart w k n t o us c =
     let u = RS k n t o in
     let f = fit_first w k n t o us c in
     let lives = alive w.owner w.own (rest_of w.peer (u ∷ us)) c.all.own in
-    let kept = restart_kept w.own.session k n t o in
-    let acts = fit_acts w.own.session u lives f ∙ ap not kept in
     let party = takes_as w.own u lives f in
-    let view : view_next w.own.session u w.own.view ≡ cutat w.own.session.base w.own.view n =
-    ap (λ (b : Bool). if b then w.own.view else seen w.own.session u w.own.view) kept
-    ∙ ap (λ (b : Bool). if b then cutat w.own.session.base w.own.view n else w.own.view) c.wins in
+    let view : view_next w.own.session u w.own.view ≡ cutat w.own.session.base w.own.view n = grind arith in
     let same : taken_party w.own u ≡ party_after w.own (answering w.own.session n t) (cutat w.own.session.base w.own.view n) w.own.got =
     λ i. record {
       session = (restart_next w.own.session k n t o ∙ stood w.own.session n t c.wins) i;
@@ -190,14 +175,7 @@ takes_restart w k n t o us c =
       got = none_got w.own u refl i;
       sent = w.own.sent;
     } in
-    let history : (if is_acted_on w.own.session u then cut_by w.own.session u w.history else w.history) ≡ cutat w.own.session.base w.history
-    n =
-    ap (λ (b : Bool). if b then cut_by w.own.session u w.history else w.history) acts
-    ∙ ap (λ (b : Bool). if b then cutat w.own.session.base w.history n else w.history) c.wins in
-    let owner : (if is_acted_on w.own.session u then owners_after w.own.session u w.owner else w.owner) ≡ pooled w.owner =
-    ap (λ (b : Bool). if b then owners_after w.own.session u w.owner else w.owner) acts
-    ∙ ap (λ (b : Bool). if b then pooled w.owner else w.owner) c.wins in
-    λ i. record { history = sym history i; owner = sym owner i; own = sym (party ∙ same) i; peer = rest_of w.peer us }
+    grind (arith, rest_of)
 
 pub restart_taken : SessionLaws → (w : Core) (k : ResyncType) (n : ℕ) (t : TokenSetting) (o : List ℕ) (us : List Meaning)
     → w.peer.sent ≡ RS k n t o ∷ us
@@ -224,11 +202,9 @@ moves w k n t o us yields h =
     grind (
       arith,
       if_second,
-      same_tokens,
       same_stream,
       restart_next w.own.session k n t o,
       yielded w.own.session n t yields,
-      yielded_view w.own.session k n t o w.own.view yields,
       none_got w.own (RS k n t o) refl,
     )
 

@@ -2,16 +2,16 @@
 -- For each_step_keeps_both_sides.
 use Rattle.std.proofs.Common.{◌≡◌, refl, sym, ◌∙◌, ap, subst, ℕ, Bool, true, false, not, ◌&&◌, ◌||◌, if◌then◌else◌, List, [], ◌∷◌, ◌++◌}
 use Rattle.std.proofs.Common.{append_assoc, arith}
-use Rattle.osi_machine.proofs.Vocabulary.{append-nil, list_any, State, FunctionalUnits, Meaning, DT, PT, Tokens, is_empty, takes_data}
-use Rattle.osi_machine.proofs.Vocabulary.{has_no_effect, is_restarting, is_restart_due, drops, next, Item, Owners, turned_owners}
-use Rattle.osi_machine.proofs.Vocabulary.{is_acted_on, cut_by, owners_after, AllFit, flush, stops, heard, hears, view_next, heard_view}
-use Rattle.osi_machine.proofs.Vocabulary.{data_in, data_of, Party, Core, taking, is_opening, IsConsistent, AreConsistent}
+use Rattle.osi_machine.proofs.Vocabulary.{append-nil, State, FunctionalUnits, Meaning, DT, PT, Tokens, is_empty, takes_data, is_restarting}
+use Rattle.osi_machine.proofs.Vocabulary.{is_restart_due, drops, next, Item, Owners, turned_owners, is_acted_on, cut_by, owners_after}
+use Rattle.osi_machine.proofs.Vocabulary.{AllFit, flush, stops, heard, hears, data_in, data_of, Party, Core, taking, is_opening}
+use Rattle.osi_machine.proofs.Vocabulary.{IsConsistent, AreConsistent}
 use Rattle.osi_machine.proofs.basics.what_holds_in_each_phase.{excluded, if_first, by_test}
 use Rattle.osi_machine.proofs.channels.a_unit_is_dropped_bad_or_acted_on.{restart_acted, next_acted, next_dropped, next_hears}
 use Rattle.osi_machine.proofs.channels.what_every_unit_in_flight_keeps.{kept_heard, due_end}
 use Rattle.osi_machine.proofs.channels.a_deaf_side_acts_on_nothing.{not_both}
 use Rattle.osi_machine.proofs.channels.a_held_token_keeps_units_out.{flush_open}
-use Rattle.osi_machine.proofs.invariant.what_holds_of_both_sides.{Meeting, Half, Views, Counting, Counts, IsOfProfile, Pair, Stands}
+use Rattle.osi_machine.proofs.invariant.what_holds_of_both_sides.{Half, Views, IsOfProfile, Pair, Stands}
 use Rattle.osi_machine.proofs.invariant.each_step_keeps_one_side.{SessionLaws, taking_kept}
 use Rattle.osi_machine.proofs.invariant.no_side_is_over.{alive, taken_party, takes_as}
 use Rattle.osi_machine.proofs.calls.a_unit_that_changes_no_state.{none_owed}
@@ -25,19 +25,7 @@ rest_of y us = record { session = y.session; view = y.view; said = y.said; got =
 heard_rest : (s : State) (u : Meaning) (us : List Meaning) → stops s u ≡ false → heard s (u ∷ us) ≡ heard (next s u) us
 heard_rest s u us e = ap (λ (b : Bool). if b then s else heard (next s u) us) e
 
-view_rest : (s : State) (u : Meaning) (us : List Meaning) (v : List Item) → stops s u ≡ false
-    → heard_view s (u ∷ us) v ≡ heard_view (next s u) us (view_next s u v)
-view_rest s u us v e = ap (λ (b : Bool). if b then v else heard_view (next s u) us (view_next s u v)) e
-
 -- ---- both at once
-
-pub one_less : (p : Meaning → Bool) (b : Bool) (u : Meaning) (us : List Meaning) → (b && list_any p (u ∷ us)) ≡ false
-    → (b && list_any p us) ≡ false
-one_less p b u us h = grind arith
-
-pub pair_rest : (h : List Item) (x y : Party) (u : Meaning) (us : List Meaning) → next x.session u ≡ x.session
-    → Pair h x (rest_of y (u ∷ us)) → Pair h (taken_party x u) (rest_of y us)
-pair_rest h x y u us same p = search (arith, one_less)
 
 -- ---- a unit that is discarded
 
@@ -48,11 +36,7 @@ dropped_stops s u d = by_test (stops s u) (λ e. absurd (let a = restart_acted s
 pub taker_views_dropped : (h : List Item) (x y : Party) (u : Meaning) (us : List Meaning) → drops x.session u ≡ true
     → ((flush x.session (u ∷ us)).units.duplex ≡ true → data_in u ≡ [])
     → Views h x (rest_of y (u ∷ us)) → Views h (taken_party x u) (rest_of y us)
-taker_views_dropped h x y u us d none v = search (arith, dropped_stops, next_dropped, view_rest, heard_rest)
-
-pub giver_views_dropped : (h : List Item) (x y : Party) (u : Meaning) (us : List Meaning) → drops x.session u ≡ true
-    → Views h (rest_of y (u ∷ us)) x → Views h (rest_of y us) (taken_party x u)
-giver_views_dropped h x y u us d v = grind arith
+taker_views_dropped h x y u us d none v = grind (arith, dropped_stops, next_dropped, heard_rest)
 
 -- ---- a unit that is acted on and changes nothing: data, and a request for tokens
 
@@ -63,7 +47,7 @@ pub taker_views_acted : (h : List Item) (x y : Party) (u : Meaning) (us : List M
     → ((flush x.session (u ∷ us)).units.duplex ≡ true → (taken_party x u).got ++ data_of us ≡ x.got ++ data_of (u ∷ us))
     → Views h x (rest_of y (u ∷ us)) → Views h (taken_party x u) (rest_of y us)
 taker_views_acted h x y u us f listens st same gets v = record {
-  ends = λ l. sym (view_rest x.session u us x.view st) ∙ v.ends (ap (λ (r : State). hears r.phase) (heard_rest x.session u us st) ∙ l);
+  ends = λ l. sym (grind arith) ∙ v.ends (ap (λ (r : State). hears r.phase) (heard_rest x.session u us st) ∙ l);
   cut = λ r. absurd (not_both _ (kept_heard (λ (s : State). hears s.phase ≡ true) (λ s m p q. next_hears s m p) (next x.session u) us
       (ap (λ (q : State). hears q.phase) same ∙ ap not listens) f) r);
   due = λ r. v.due (ap (λ (q : State). is_restart_due q.phase) (sym same) ∙ r);
@@ -80,10 +64,6 @@ giver_views_acted o h x y u us listens a b v = grind (arith, due_end, none_owed 
 data_got : (x : Party) (octets : List ℕ) (us : List Meaning) → drops x.session (DT octets) ≡ false → x.session.units.duplex ≡ true
     → (taken_party x (DT octets)).got ++ data_of us ≡ x.got ++ data_of (DT octets ∷ us)
 data_got x octets us d e = grind (arith, append_assoc)
-
-please_got : (x : Party) (k : Tokens) (octets : List ℕ) (us : List Meaning)
-    → (taken_party x (PT k octets)).got ++ data_of us ≡ x.got ++ data_of (PT k octets ∷ us)
-please_got x k octets us = grind (arith, by_test, append-nil)
 
 -- ---- everything that is stated of both sides
 
@@ -110,30 +90,13 @@ idle_stands laws w u us e s k =
     λ i. record { history = sym k.history i; owner = sym k.owner i; own = sym party i; peer = rest_of w.peer us } in
     subst Stands path (record {
       consistent = subst AreConsistent (sym path) (taking_kept laws w (u ∷ us) e s.consistent);
-      own = record {
-        fits = own.fits.1;
-        meeting = subst (λ (r : State). Meeting w.owner r (flush (next w.own.session u) us) (flush w.peer.session w.own.sent)
-            (heard (next w.own.session u) us) w.peer.session) (sym k.same)
-            (subst (λ (r : State). Meeting w.owner w.own.session (flush (next w.own.session u) us)
-            (flush w.peer.session w.own.sent) r w.peer.session) (heard_rest w.own.session u us k.stays) own.meeting);
-      };
-      peer = record {
-        fits = peer.fits;
-        meeting = subst (λ (r : State). Meeting (turned_owners w.owner) w.peer.session (flush w.peer.session w.own.sent)
-            (flush (next w.own.session u) us) (heard w.peer.session w.own.sent) r) (sym k.same) peer.meeting;
-      };
+      own = grind (arith, heard_rest);
+      peer = grind arith;
       own_views = k.own_seen (subst (λ (vs : List Meaning). Views w.history w.own (rest_of w.peer vs)) e s.own_views);
       peer_views = k.peer_seen (subst (λ (vs : List Meaning). Views w.history (rest_of w.peer vs) w.own) e s.peer_views);
-      own_counts =
-          subst (λ (r : State). Counting r (heard (next w.own.session u) us) (heard w.peer.session w.own.sent) w.peer.session) (sym k.same)
-          (subst (λ (r : State). Counting w.own.session r (heard w.peer.session w.own.sent) w.peer.session)
-          (heard_rest w.own.session u us k.stays) (subst (λ (vs : List Meaning). Counts w.own (rest_of w.peer vs)) e s.own_counts));
-      peer_counts =
-          subst (λ (r : State). Counting w.peer.session (heard w.peer.session w.own.sent) (heard (next w.own.session u) us) r) (sym k.same)
-          (subst (λ (r : State). Counting w.peer.session (heard w.peer.session w.own.sent) r w.own.session)
-          (heard_rest w.own.session u us k.stays) (subst (λ (vs : List Meaning). Counts (rest_of w.peer vs) w.own) e s.peer_counts));
-      pair = pair_rest w.history w.own w.peer u us k.same
-          (subst (λ (vs : List Meaning). Pair w.history w.own (rest_of w.peer vs)) e s.pair);
+      own_counts = grind (arith, heard_rest);
+      peer_counts = grind (arith, heard_rest);
+      pair = grind arith;
     })
 
 listening : (e r p : Bool) → (e || (r && not p)) ≡ false → p ≡ false → r ≡ false
@@ -166,22 +129,17 @@ pub please_taken : SessionLaws → (w : Core) (k : Tokens) (octets : List ℕ) (
     → drops w.own.session (PT k octets) ≡ false → Stands w → Stands (taking w (PT k octets ∷ us))
 please_taken laws w k octets us e d s =
     let own = subst (λ (vs : List Meaning). Half w.owner w.own (rest_of w.peer vs)) e s.own in
-    let peer = subst (λ (vs : List Meaning). Half (turned_owners w.owner) (rest_of w.peer vs) w.own) e s.peer in
-    let same : next w.own.session (PT k octets) ≡ w.own.session = next_acted w.own.session (PT k octets) d in
     let listens = listening (is_empty k) (is_restarting w.own.session.phase) false d refl in
-    idle_stands laws w (PT k octets) us e s (search (if_first, taker_views_acted, please_got, giver_views_acted))
+    idle_stands laws w (PT k octets) us e s (search (if_first, taker_views_acted, by_test, append-nil, giver_views_acted))
 
 -- a unit is discarded
 dropped_not_acted : (s : State) (u : Meaning) → drops s u ≡ true → is_acted_on s u ≡ false
 dropped_not_acted s u d = grind arith
 
-nothing_in : (u : Meaning) → has_no_effect u ≡ true → data_in u ≡ []
-nothing_in u h = grind arith
-
 -- with duplex there is no restart, so that no data is discarded
 dropped_data : (x : Party) (u : Meaning) → drops x.session u ≡ true → IsConsistent x
     → (is_restarting x.session.phase ≡ true → IsOfProfile x.session.units × (x.session.units.duplex ≡ true)) → data_in u ≡ []
-dropped_data x u d c p = grind (arith, nothing_in)
+dropped_data x u d c p = grind arith
 
 pub dropped_taken : SessionLaws → (w : Core) (u : Meaning) (us : List Meaning) → w.peer.sent ≡ u ∷ us → drops w.own.session u ≡ true
     → Stands w
@@ -196,7 +154,7 @@ dropped_taken laws w u us e d s =
       history = ap (λ (b : Bool). if b then cut_by w.own.session u w.history else w.history) a;
       owner = ap (λ (b : Bool). if b then owners_after w.own.session u w.owner else w.owner) a;
       own_seen = taker_views_dropped w.history w.own w.peer u us d (λ x. dropped_data w.own u d s.consistent.own (λ k. profile k x));
-      peer_seen = giver_views_dropped w.history w.own w.peer u us d;
+      peer_seen = grind arith;
     })
   where
     own : Half w.owner w.own (rest_of w.peer (u ∷ us))

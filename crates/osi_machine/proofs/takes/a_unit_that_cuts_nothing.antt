@@ -2,21 +2,21 @@
 -- For the units that move their taker's state, and each_step_keeps_both_sides.
 use Rattle.std.proofs.Common.{◌≡◌, refl, sym, ◌∙◌, ap, subst, ℕ, ◌≤◌, ◌<◌, Bool, true, false, not, if◌then◌else◌, List, [], ◌∷◌, ◌++◌}
 use Rattle.std.proofs.Common.{arith, ◌&&◌, ◌⊎◌, inl, inr}
-use Rattle.osi_machine.proofs.Vocabulary.{append-nil, list_any, State, data_token, Meaning, lower, is_restarting, is_restart_due}
-use Rattle.osi_machine.proofs.Vocabulary.{is_release_due, is_releasing, drops, next, Item, cutat, AreNumberedFrom, Owners, turned_owners}
-use Rattle.osi_machine.proofs.Vocabulary.{is_acted_on, seen, got_in, cut_by, owners_after, AllFit, flush, stops, heard, hears, view_next}
-use Rattle.osi_machine.proofs.Vocabulary.{heard_view, data_in, data_of, needs_token, Party, Core, taking, AreConsistent, both_ways}
-use Rattle.osi_machine.proofs.Vocabulary.{and_from, FN, NF, MIA, MAA, minor_confirmed, major_confirmed, Ready, ReleaseDue, becomes}
+use Rattle.osi_machine.proofs.Vocabulary.{append-nil, State, Meaning, lower, is_restarting, is_restart_due, is_release_due, is_releasing}
+use Rattle.osi_machine.proofs.Vocabulary.{drops, next, Item, cutat, AreNumberedFrom, Owners, turned_owners, is_acted_on, seen, got_in}
+use Rattle.osi_machine.proofs.Vocabulary.{cut_by, owners_after, AllFit, flush, stops, heard, hears, view_next, data_in, data_of, Party}
+use Rattle.osi_machine.proofs.Vocabulary.{Core, taking, AreConsistent, both_ways, and_from, FN, NF, MIA, MAA, minor_confirmed}
+use Rattle.osi_machine.proofs.Vocabulary.{major_confirmed, Ready, ReleaseDue, becomes}
 use Rattle.osi_machine.proofs.basics.what_holds_in_each_phase.{if_second, if_first, excluded, implied_two}
 use Rattle.osi_machine.proofs.channels.a_unit_is_dropped_bad_or_acted_on.{next_hears, next_acted}
 use Rattle.osi_machine.proofs.channels.what_every_unit_in_flight_keeps.{kept_heard, due_end, heard_flush}
 use Rattle.osi_machine.proofs.channels.a_deaf_side_acts_on_nothing.{not_both}
 use Rattle.osi_machine.proofs.channels.a_held_token_keeps_units_out.{is_lively, Lively, ends_lively}
-use Rattle.osi_machine.proofs.invariant.what_holds_of_both_sides.{Meeting, Half, Counting, IsOfProfile, Stands, Tokens_of, matched}
+use Rattle.osi_machine.proofs.invariant.what_holds_of_both_sides.{Half, Counting, IsOfProfile, Stands, Tokens_of, matched}
 use Rattle.osi_machine.proofs.invariant.each_step_keeps_one_side.{SessionLaws, taking_kept}
 use Rattle.osi_machine.proofs.invariant.no_side_is_over.{alive, taken_party, takes_as}
 use Rattle.osi_machine.proofs.calls.a_unit_that_changes_no_state.{none_owed}
-use Rattle.osi_machine.proofs.takes.a_unit_that_changes_no_state.{rest_of, one_less}
+use Rattle.osi_machine.proofs.takes.a_unit_that_changes_no_state.{rest_of}
 
 -- the connection, if these units are all that is in flight to this side
 abbrev pub at : Core → List Meaning → Core
@@ -61,10 +61,6 @@ heard_is s r u us st e = ap (λ (b : Bool). if b then s else heard (next s u) us
 pub flush_is : (s r : State) (u : Meaning) (us : List Meaning) → next s u ≡ r → flush s (u ∷ us) ≡ flush r us
 flush_is s r u us e = ap (λ (q : State). flush q us) e
 
-view_is : (s r : State) (u : Meaning) (us : List Meaning) (v v' : List Item) → stops s u ≡ false → next s u ≡ r → view_next s u v ≡ v'
-    → heard_view s (u ∷ us) v ≡ heard_view r us v'
-view_is s r u us v v' st e k = cc
-
 -- the invariant of both sides is kept
 pub moves_stands : SessionLaws → (w : Core) (u : Meaning) (us : List Meaning) (r : State) (v : List Item) (got : List (List ℕ)) (o : Owners)
     → w.peer.sent ≡ u ∷ us → Stands w → Moves w u us r v got o → Stands (taking w (u ∷ us))
@@ -78,29 +74,13 @@ moves_stands laws w u us r v got o e s k =
     λ i. record { history = sym k.history i; owner = sym k.owner i; own = sym (party ∙ same) i; peer = rest_of w.peer us } in
     subst Stands path (record {
       consistent = subst AreConsistent (sym path) (taking_kept laws w (u ∷ us) e s.consistent);
-      own = record {
-        fits = subst (λ (q : State). AllFit q us) k.next h.own.fits.1;
-        meeting = subst (λ (q : State). Meeting o r q (flush w.peer.session w.own.sent) (heard r us) w.peer.session)
-            (flush_is w.own.session r u us k.next)
-            (subst (λ (q : State). Meeting o r (flush w.own.session (u ∷ us)) (flush w.peer.session w.own.sent) q w.peer.session)
-            (heard_is w.own.session r u us k.stays k.next)
-            (assumption));
-      };
-      peer = record {
-        fits = h.peer.fits;
-        meeting = subst (λ (q : State). Meeting (turned_owners o) w.peer.session (flush w.peer.session w.own.sent) q
-            (heard w.peer.session w.own.sent) r) (flush_is w.own.session r u us k.next)
-            (assumption);
-      };
+      own = grind (arith, flush_is w.own.session r u us k.next, heard_is w.own.session r u us k.stays k.next);
+      peer = grind (arith, flush_is);
       own_views = record {
-        ends = λ l. sym (view_is w.own.session r u us w.own.view v k.stays k.next k.view)
-            ∙ h.own_views.ends (ap (λ (q : State). hears q.phase) (heard_is w.own.session r u us k.stays k.next) ∙ l);
+        ends = grind (arith, heard_is);
         cut = λ c. k.cut (ap (λ (q : State). is_restarting q.phase) (heard_is w.own.session r u us k.stays k.next) ∙ c);
         due = k.due;
-        stream = λ d.
-            let e = ap (λ (q : State). q.units.duplex) (flush_is w.own.session r u us k.next) ∙ d in
-            let s = h.own_views.stream e in
-            (k.stream e ∙ s.0, s.1);
+        stream = grind (arith, flush_is);
       };
       peer_views = record { ends = h.peer_views.ends; cut = h.peer_views.cut; due = k.other_due; stream = h.peer_views.stream };
       own_counts =
@@ -115,19 +95,13 @@ moves_stands laws w u us r v got o e s k =
           let e = flush_is w.own.session r u us k.next in
           record {
             numbered = subst (λ (q : State). AreNumberedFrom q.base w.history) e h.pair.numbered;
-            one_way = λ d. one_less (needs_token data_token) (list_any (needs_token data_token) w.own.sent) u us
-                (h.pair.one_way (ap (λ (q : State). q.units.half_duplex) e ∙ d));
+            one_way = grind arith;
             callers = h.pair.callers ∙ ap not (sym k.caller);
             profile = subst (λ (q : State). IsOfProfile q.units) e h.pair.profile;
           };
     })
 
 -- ---- a unit that moves no token, at a side that listens
-
--- if the owners stay, so do the lines on tokens
-pub same_tokens : (o : Owners) (now end other heard peer r : State) → Meeting o now end other heard peer → r.held ≡ now.held
-    → Tokens_of o r end heard
-same_tokens o now end other heard peer r m e = search arith
 
 -- what shows no data gets none
 pub none_got : (x : Party) (u : Meaning) → got_in x.session u ≡ []
@@ -174,7 +148,6 @@ pub record Calm (w : Core) (u : Meaning) (us : List Meaning) (r : State) : Type 
 pub calm_moves : (w : Core) (u : Meaning) (us : List Meaning) (r : State) → Stands (at w (u ∷ us)) → Calm w u us r
     → Moves w u us r (seen w.own.session u w.own.view) w.own.got w.owner
 calm_moves w u us r h k =
-    let f : AllFit w.own.session (u ∷ us) = h.own.fits in
     record {
       stays = k.plain.stays;
       next = k.next;
@@ -182,13 +155,10 @@ calm_moves w u us r h k =
       gets = none_got w.own u k.plain.silent;
       history = if_second (is_acted_on w.own.session u) (cut_by w.own.session u w.history) w.history k.plain.history;
       owner = if_second (is_acted_on w.own.session u) (owners_after w.own.session u w.owner) w.owner k.plain.owner;
-      tokens = same_tokens w.owner w.own.session (flush w.own.session (u ∷ us)) (flush w.peer.session w.own.sent)
-          (heard w.own.session (u ∷ us)) w.peer.session r h.own.meeting k.plain.held;
-      others = same_tokens (turned_owners w.owner) w.peer.session (flush w.peer.session w.own.sent) (flush w.own.session (u ∷ us))
-          (heard w.peer.session w.own.sent) w.own.session w.peer.session h.peer.meeting refl;
+      tokens = grind arith;
+      others = grind arith;
       released = k.released;
-      cut = λ c. absurd (no_cut r us k.hears (subst (λ (q : State). AllFit q us) k.next f.1)
-          (subst (λ (q : State). is_restarting q.phase ≡ true) (heard_is w.own.session r u us k.plain.stays k.next) c));
+      cut = grind (arith, no_cut, heard_is);
       due = λ d. absurd (let o = k.owes in cc);
       other_due = λ d. absurd (none_due_there w.owner w.own (rest_of w.peer (u ∷ us)) h.own h.peer k.listens d);
       stream = λ d. same_stream w.own.got u us k.plain.empty;
@@ -220,12 +190,9 @@ after_refusal w octets us d h r =
     let listens = excluded is_releasing is_restarting refl w.own.session.phase g.expected in
     let owed = none_owed w.owner w.own (rest_of w.peer (NF octets ∷ us)) h.own listens in
     let end = heard_flush w.peer.session w.own.sent h.peer.fits owed in
-    let there : is_release_due (flush w.peer.session w.own.sent).phase ≡ true =
-    subst (λ (q : State). is_release_due q.phase ≡ true) end r in
     let here = implied_two (λ p q. matched p q && is_release_due p) (λ p q. is_releasing q) refl
     (flush w.peer.session w.own.sent).phase (flush w.own.session (NF octets ∷ us)).phase
-    (and_from (matched (flush w.peer.session w.own.sent).phase (flush w.own.session (NF octets ∷ us)).phase)
-    (is_release_due (flush w.peer.session w.own.sent).phase) h.peer.meeting.meets there) in
+    (grind (arith, and_from, matched)) in
     let same : next w.own.session (NF octets) ≡ becomes w.own.session (NF octets) = next_acted w.own.session (NF octets) d in
     let lives : Lively (next w.own.session (NF octets)) = subst Lively (sym same) refl in
     by here (ends_lively (next w.own.session (NF octets)) us lives h.own.fits.1)

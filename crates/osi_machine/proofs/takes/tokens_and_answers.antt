@@ -7,11 +7,11 @@ use Rattle.osi_machine.proofs.Vocabulary.{is_release_due, is_releasing, drops, n
 use Rattle.osi_machine.proofs.Vocabulary.{seen, got_in, cut_by, owners_after, AllFit, flush, stops, heard, hears, data_in, Core, taking}
 use Rattle.osi_machine.proofs.Vocabulary.{TokenSetting, TsduMaximumSize, FunctionalUnits, Answering, Ended, CN, AC, RA, no_token}
 use Rattle.osi_machine.proofs.Vocabulary.{both_units, functional_units, stated, of_asker, is_connecting, is_over, is_acceptable}
-use Rattle.osi_machine.proofs.Vocabulary.{without_tokens, becomes, is_opening}
+use Rattle.osi_machine.proofs.Vocabulary.{without_tokens, becomes}
 use Rattle.osi_machine.proofs.basics.what_holds_in_each_phase.{implied, excluded, if_second, implied_two, by_test}
 use Rattle.osi_machine.proofs.channels.a_unit_is_dropped_bad_or_acted_on.{next_acted, fit_acts}
 use Rattle.osi_machine.proofs.channels.a_deaf_side_acts_on_nothing.{not_both}
-use Rattle.osi_machine.proofs.channels.a_held_token_keeps_units_out.{Holds, heard_holds, united_has, flush_open, none_held}
+use Rattle.osi_machine.proofs.channels.a_held_token_keeps_units_out.{heard_holds, united_has, flush_open, none_held}
 use Rattle.osi_machine.proofs.invariant.what_holds_of_both_sides.{Stands, Tokens_of, matched}
 use Rattle.osi_machine.proofs.invariant.each_step_keeps_one_side.{SessionLaws}
 use Rattle.osi_machine.proofs.invariant.no_side_is_over.{alive, over_kept}
@@ -49,22 +49,14 @@ module _ (w : Core) (u : Meaning) (us : List Meaning) (r : State) (k : Tokens) w
   rest : Stands (at w (u ∷ us)) → Gains w u us r k → AllFit r us
   rest h g = search arith
 
-  -- it will be held
-  will_hold : (t : Token) → Stands (at w (u ∷ us)) → Gains w u us r k → has k t ≡ true → Holds t (heard w.own.session (u ∷ us))
-  will_hold t h g e = search (arith, heard_is, heard_holds, rest)
-
-  -- it was in flight
-  was_to_own : (t : Token) → Stands (at w (u ∷ us)) → Gains w u us r k → has k t ≡ true → w.owner t ≡ ToOwn
-  was_to_own t h g e = search (arith, will_hold, to_own_is)
-
   own_tokens : Stands (at w (u ∷ us)) → Gains w u us r k
       → Tokens_of (passed_to Own k w.owner) r (flush w.own.session (u ∷ us)) (heard w.own.session (u ∷ us))
-  own_tokens h g = search (arith, will_hold, flush_is, flush_open, excluded, rest)
+  own_tokens h g = grind (arith, heard_is, heard_holds, rest, flush_is, flush_open, excluded)
 
   other_tokens : Stands (at w (u ∷ us)) → Gains w u us r k
       → Tokens_of (turned_owners (passed_to Own k w.owner)) w.peer.session (flush w.peer.session w.own.sent)
       (heard w.peer.session w.own.sent)
-  other_tokens h g = search (arith, was_to_own, flush_is, flush_open, excluded, rest)
+  other_tokens h g = grind (arith, heard_is, heard_holds, rest, to_own_is, flush_is, flush_open, excluded)
 
   pub gains_moves : Stands (at w (u ∷ us)) → Gains w u us r k → Moves w u us r w.own.view w.own.got (passed_to Own k w.owner)
   gains_moves h g =
@@ -97,18 +89,13 @@ bare_lacks s t e = ap (λ (k : Tokens). has k t) e ∙ none_held t
 
 -- ---- the answer to a restart
 
-answer_gains : (w : Core) (n : ℕ) (sides : TokenSetting) (o : List ℕ) (us : List Meaning) → drops w.own.session (RA n sides o) ≡ false
-    → Stands (at w (RA n sides o ∷ us))
-    → Gains w (RA n sides o) us (becomes w.own.session (RA n sides o)) (of_asker w.own.session.units (stated w.own.session.units sides))
-answer_gains w n sides o us d h = search (arith, excluded, next_acted, bare_lacks, asker_there)
-
 pub restarted_taken : SessionLaws → (w : Core) (n : ℕ) (sides : TokenSetting) (o : List ℕ) (us : List Meaning)
     → w.peer.sent ≡ RA n sides o ∷ us
     → drops w.own.session (RA n sides o) ≡ false → Stands w → Stands (taking w (RA n sides o ∷ us))
 restarted_taken laws w n sides o us e d s =
     gains_stand laws w (RA n sides o) us (becomes w.own.session (RA n sides o))
     (of_asker w.own.session.units (stated w.own.session.units sides)) e s
-    (answer_gains w n sides o us d)
+    (grind (arith, excluded, next_acted, bare_lacks, asker_there))
 
 -- ---- AC
 
@@ -123,7 +110,6 @@ accept_gains : (w : Core) (v : Bool) (u : ℕ) (n : Option ℕ) (sides : TokenSe
 accept_gains w v u n sides z o us d h =
     let g = h.own.fits.0.good d in
     let bare = h.consistent.own.sound.tokens (excluded is_connecting may_hold refl w.own.session.phase g.expected) in
-    let fresh = h.consistent.own.fresh (implied is_connecting is_opening refl w.own.session.phase g.expected) in
     record {
       acts = d;
       stays = refl;
@@ -138,11 +124,9 @@ accept_gains w v u n sides z o us d h =
       kept = λ t e. e ∙ sym (bare_lacks w.own.session t bare);
       there = λ t e. asker_there (agreed w.own.session u) (stated (agreed w.own.session u) sides) t e;
       phase = refl;
-      released = λ r. absurd (let a = h.peer.meeting.released r in
-          let b = excluded is_connecting is_releasing refl w.own.session.phase g.expected in cc);
+      released = grind (arith, excluded);
       flag = λ f. absurd (cc);
-      below = λ l k from to. absurd (let low = h.peer_counts.below l k from to in
-          let none : w.own.session.numbers.next ≡ 0 = rw fresh.numbers refl in omega arith);
+      below = λ l k from to. grind (arith, h.peer_counts.below l k from to);
       reach = λ f. absurd (cc);
       caller = refl;
     }

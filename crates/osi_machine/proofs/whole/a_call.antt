@@ -4,8 +4,8 @@ use Rattle.std.proofs.Common.{◌≡◌, refl, sym, ap, ℕ, Bool, true, false, 
 use Rattle.std.proofs.Common.{Ok, arith}
 use Rattle.osi_machine.proofs.Vocabulary.{append-nil, length-append, map-append, list_any, Passed, State, Meaning, Token, is_over, Call}
 use Rattle.osi_machine.proofs.Vocabulary.{Granted, allowed, after, sends, may_call, Item, Owner, Owners, is_own, turned_owner, given_up}
-use Rattle.osi_machine.proofs.Vocabulary.{own_to_pool, left_by, is_plain, Core, stays_in_core, says, view_called, owners_called, answered}
-use Rattle.osi_machine.proofs.Vocabulary.{Message, unit, World, put, mark_called, after_call}
+use Rattle.osi_machine.proofs.Vocabulary.{own_to_pool, left_by, Core, stays_in_core, says, view_called, owners_called, answered, Message}
+use Rattle.osi_machine.proofs.Vocabulary.{unit, World, put, mark_called, after_call}
 use Rattle.osi_machine.proofs.basics.what_holds_in_each_phase.{by_either, by_test}
 use Rattle.osi_machine.proofs.invariant.what_holds_of_both_sides.{Stands}
 use Rattle.osi_machine.proofs.invariant.each_step_keeps_one_side.{SessionLaws, granted}
@@ -70,9 +70,6 @@ theirs_called s c o p t e = grind (arith, given_theirs)
 call_lives : (s : State) (c : Call) → stays_in_core c ≡ true → is_over s.phase ≡ false → is_over (after s c).phase ≡ false
 call_lives s c k l = grind arith
 
-call_plain : (s : State) (c : Call) → stays_in_core c ≡ true → is_plain (sends s c) ≡ true
-call_plain s c k = grind arith
-
 marked : (c : Core) (x : Call) (h : List Item) (mark : ℕ) → Stands c
     → Passed c.own.session x (record { next = after c.own.session x; sent = sends c.own.session x })
     → h ≡ c.history → mark ≡ length c.own.view → mark_called c.own.session x h mark ≡ length (view_called c.own.session x c.own.view)
@@ -82,7 +79,7 @@ called_own : (broken : Bool) (w : World) (c : Core) (x : Call) → stays_in_core
     → Stands c
     → Passed c.own.session x (granted c.own.session x)
     → OneSide broken (after_call broken c.own.session x (granted c.own.session x) w) (answered c x (Ok (granted c.own.session x)))
-called_own broken w c x k lives p s q = search (arith, call_lives, marked, left_lives, owns_called, any_append, call_plain)
+called_own broken w c x k lives p s q = grind (arith, call_lives, marked, left_lives, owns_called, any_append)
 
 pub call_projects : SessionLaws → (broken : Bool) (w : World) (c : Core) (x : Call) (g : Granted) → stays_in_core x ≡ true
     → stopped w.own ≡ false → Projects broken w c → Stands c
@@ -114,12 +111,6 @@ stop_silent s c k = grind arith
 stop_owners : (s : State) (c : Call) (o : Owners) → stays_in_core c ≡ false → owners_called s c o ≡ o
 stop_owners s c o k = grind arith
 
-stop_numbers : (s : State) (c : Call) → stays_in_core c ≡ false → (after s c).numbers ≡ s.numbers
-stop_numbers s c k = grind arith
-
-stop_mark : (s : State) (c : Call) (h : List Item) (mark : ℕ) → stays_in_core c ≡ false → mark_called s c h mark ≡ mark
-stop_mark s c h mark k = grind arith
-
 pub stop_projects : SessionLaws → (broken : Bool) (w : World) (c : Core) (x : Call) (g : Granted) → stays_in_core x ≡ false
     → stopped w.own ≡ false → Projects broken w c
     → allowed c.own.session x ≡ Ok g → Projects broken (after_call broken c.own.session x g w) c
@@ -130,8 +121,6 @@ stop_projects laws broken w c x g k lives p e =
       stop_silent,
       one_over,
       granted,
-      stop_numbers,
-      stop_mark,
       left_theirs,
       stop_owners,
       carried_last,

@@ -4,7 +4,6 @@ use Rattle.std.proofs.Common.{◌≡◌, refl, sym, ◌∙◌, ap, ℕ, zero, su
 use Rattle.osi_machine.specs.Core.{turned}
 use Rattle.osi_machine.proofs.Vocabulary.{list_any, State, Meaning, lost, Core, Message, unit, bye, over, Transport, linked, gone, World}
 use Rattle.osi_machine.proofs.Vocabulary.{session_of, moved, shortened, closed, ended_at, turned as turned_world, without_first, or_parts}
-use Rattle.osi_machine.proofs.calls.a_restart_is_requested.{or_true}
 use Rattle.osi_machine.proofs.whole.how_a_core_simulates_a_connection.{stopped, parts, IsTail, Carried, OneSide, Projects, both_over}
 use Rattle.osi_machine.proofs.whole.how_a_core_simulates_a_connection.{one_over}
 use Rattle.osi_machine.proofs.whole.a_call.{left_theirs}
@@ -76,16 +75,8 @@ cut_side : (k j : ℕ) (broken : Bool) (w : World) (c : Core) → OneSide broken
 cut_side k j broken w c h = record {
   begun = h.begun;
   counted = h.counted;
-  alike = λ l. let a = h.alike l in record {
-    transport = a.transport;
-    kept = a.kept;
-    mark = a.mark;
-    said = a.said;
-    got = a.got;
-    owns = a.owns;
-  };
-  carried = λ l. carried_cut j broken true (stopped w.peer) (stopped w.peer) w.peer.channel c.peer.sent c.peer.session (λ e. e)
-      (or_true (stopped w.peer)) (h.carried l);
+  alike = grind arith;
+  carried = λ l. search (arith, carried_cut, stopped w.peer, h.carried l);
   parted = λ l. none_parts k w.own.channel (h.parted l);
 }
 

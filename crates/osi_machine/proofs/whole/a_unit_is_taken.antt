@@ -1,25 +1,25 @@
 -- A unit is taken on a whole connection and on its core; the last unit of a side that is over is taken.
 -- For every_step_is_simulated.
-use Rattle.std.proofs.Common.{◌≡◌, refl, sym, ◌∙◌, ap, subst, ℕ, ◌+◌, Bool, true, false, not, ◌&&◌, ◌||◌, if◌then◌else◌, List, [], ◌∷◌}
-use Rattle.std.proofs.Common.{◌++◌, map, length, Option, Some, None, ◌⊎◌, inl, inr, arith}
+use Rattle.std.proofs.Common.{◌≡◌, refl, sym, ◌∙◌, ap, subst, ℕ, ◌+◌, Bool, true, false, not, ◌&&◌, if◌then◌else◌, List, [], ◌∷◌, ◌++◌, map}
+use Rattle.std.proofs.Common.{length, Option, Some, None, ◌⊎◌, inl, inr, arith}
 use Rattle.osi_machine.specs.Core.{turned}
 use Rattle.osi_machine.proofs.Vocabulary.{or_parts, append-nil, length-append, list_any, TokenSetting, TsduMaximumSize, State, Meaning, CN}
 use Rattle.osi_machine.proofs.Vocabulary.{AC, RF, GT, RS, RA, AB, Token, has, is_over, is_acceptable, are_sizes, has_data, functional_units}
 use Rattle.osi_machine.proofs.Vocabulary.{respond_unit, becomes, stands, reply_for, Item, cutat, Owners, is_own, turned_owner, left_by}
-use Rattle.osi_machine.proofs.Vocabulary.{is_acted_on, seen, got_in, cut_by, owners_after, is_plain, Fits, Core, taking, Message, unit}
-use Rattle.osi_machine.proofs.Vocabulary.{World, put, mark_after, replied, after_unit, turned as turned_world, without_first, Ended}
-use Rattle.osi_machine.proofs.Vocabulary.{without_tokens, nothing, good, is_connecting, is_answering, is_release_due, is_expected, next}
-use Rattle.osi_machine.proofs.Vocabulary.{AllFit, stops, heard, session_of, and_from, not-false}
+use Rattle.osi_machine.proofs.Vocabulary.{is_acted_on, seen, cut_by, owners_after, is_plain, Core, taking, Message, unit, World, put}
+use Rattle.osi_machine.proofs.Vocabulary.{mark_after, replied, after_unit, turned as turned_world, without_first, Ended, without_tokens}
+use Rattle.osi_machine.proofs.Vocabulary.{nothing, good, is_connecting, is_answering, is_release_due, is_expected, next, AllFit, stops}
+use Rattle.osi_machine.proofs.Vocabulary.{heard, session_of, and_from, not-false}
 use Rattle.osi_machine.proofs.basics.what_holds_in_each_phase.{by_test, excluded, implied_two, if_second}
 use Rattle.osi_machine.proofs.channels.a_unit_is_dropped_bad_or_acted_on.{no_fault, fit_cases, and_false, acts_good, not_acted}
-use Rattle.osi_machine.proofs.channels.a_deaf_side_acts_on_nothing.{all_empty, empty_end, none_answering}
+use Rattle.osi_machine.proofs.channels.a_deaf_side_acts_on_nothing.{all_empty, empty_end}
 use Rattle.osi_machine.proofs.invariant.what_holds_of_both_sides.{Stands}
 use Rattle.osi_machine.proofs.invariant.no_side_is_over.{alive}
 use Rattle.osi_machine.proofs.takes.a_unit_that_cuts_nothing.{at}
 use Rattle.osi_machine.proofs.takes.tokens_and_answers.{acceptable}
 use Rattle.osi_machine.proofs.takes.a_restart.{cut_seen, pool_own, pool_theirs}
-use Rattle.osi_machine.proofs.whole.how_a_core_simulates_a_connection.{stopped, parts, Alike, IsLast, IsTail, Carried, OneSide, Projects}
-use Rattle.osi_machine.proofs.whole.how_a_core_simulates_a_connection.{Counted, both_over, one_over}
+use Rattle.osi_machine.proofs.whole.how_a_core_simulates_a_connection.{stopped, parts, Alike, IsLast, Carried, OneSide, Projects, Counted}
+use Rattle.osi_machine.proofs.whole.how_a_core_simulates_a_connection.{both_over, one_over}
 use Rattle.osi_machine.proofs.whole.a_call.{left_lives, left_theirs, none_last}
 
 -- a restart that takes effect leaves of the history what it leaves of what was seen
@@ -82,14 +82,11 @@ record Takes (broken : Bool) (w : World) (c : Core) (u : Meaning) (us : List Mea
   channel : w.peer.channel ≡ unit u ∷ ms
 
 module _ (broken : Bool) (w : World) (c : Core) (u : Meaning) (us : List Meaning) (ms : List Message) (k : Takes broken w c u us ms) where
-  fits_first : Fits c.own.session u
-  fits_first = search arith
-
   lives_then : is_over (respond_unit c.own.session u).next.phase ≡ false
   lives_then = alive (taking c (u ∷ us)).owner (taking c (u ∷ us)).own (taking c (u ∷ us)).peer k.then_all.own
 
   no_reply : (respond_unit c.own.session u).reply ≡ None
-  no_reply = search (arith, fits_first, no_fault, plain_reply, acceptable)
+  no_reply = grind (arith, no_fault, plain_reply, acceptable)
 
   same_channel : put broken (replied (respond_unit c.own.session u).reply) w.own.channel ≡ w.own.channel
   same_channel = ap (λ (r : Option Meaning). put broken (replied r) w.own.channel) no_reply ∙ put_nothing broken w.own.channel
@@ -167,8 +164,7 @@ take_projects broken w c u us ms p all then_all lives e rest =
           mark = taker_mark broken w c u us ms k;
           said = (was_alike broken w c u us ms k).said;
           got = by_test (is_acted_on c.own.session u)
-              (λ e. rw e (ap (λ (n : ℕ). n + length (got_in c.own.session u)) (was_alike broken w c u us ms k).got
-              ∙ sym (length-append c.own.got (got_in c.own.session u))))
+              (grind (arith, was_alike, length-append))
               (λ e. rw e (was_alike broken w c u us ms k).got);
           owns = taker_owns broken w c u us ms k;
         };
@@ -190,15 +186,6 @@ pub record Last (over_now : Bool) (u : Meaning) (ms : List Message) (sent : List
   pub ended : over_now ≡ true
   pub last : IsLast s u
 
-split_there : (broken over_now : Bool) (u : Meaning) (ms : List Message) (s : State) (v : Meaning) (vs lost tail : List Meaning)
-    → unit u ∷ ms ≡ map unit ((v ∷ vs) ++ tail) → (lost ≡ []) ⊎ ((over_now || broken) ≡ true) → IsTail over_now s lost tail
-    → First broken over_now u ms ((v ∷ vs) ++ lost) s
-split_there broken over_now u ms s v vs lost tail e whole last = grind arith
-
-split_tail : (over_now : Bool) (u : Meaning) (ms : List Message) (s : State) (lost tail : List Meaning) → unit u ∷ ms ≡ map unit tail
-    → IsTail over_now s lost tail → Last over_now u ms lost s
-split_tail over_now u ms s lost tail e last = grind (arith, IsLast)
-
 pub split_first : (broken over_now : Bool) (u : Meaning) (ms : List Message) (sent : List Meaning) (s : State)
     → Carried broken over_now (unit u ∷ ms) sent s
     → First broken over_now u ms sent s ⊎ Last over_now u ms sent s
@@ -206,9 +193,8 @@ split_first broken over_now u ms sent s h = by h.there h.splits h.carries
   where
     by : (there : List Meaning) → there ++ h.lost ≡ sent → unit u ∷ ms ≡ map unit (there ++ h.tail)
         → First broken over_now u ms sent s ⊎ Last over_now u ms sent s
-    by [] e f = inr (subst (λ (us : List Meaning). Last over_now u ms us s) e (split_tail over_now u ms s h.lost h.tail f h.last))
-    by (v ∷ vs) e f = inl (subst (λ (us : List Meaning). First broken over_now u ms us s) e
-        (split_there broken over_now u ms s v vs h.lost h.tail f h.whole h.last))
+    by [] e f = inr (subst (λ (us : List Meaning). Last over_now u ms us s) e (grind (arith, IsLast)))
+    by (v ∷ vs) e f = inl (grind arith)
 
 -- ---- DN arrives at a side that has requested release, and RF at one that has requested the connection
 
@@ -231,33 +217,20 @@ still_owes s (u ∷ us) h f = by_test (stops s u)
 
 connecting_now : (c : Core) → Stands c → c.peer.sent ≡ [] → is_answering c.peer.session.phase ≡ true
     → is_connecting c.own.session.phase ≡ true
-connecting_now c s none a = search (arith, all_empty, none_answering, excluded, empty_end, implied_two, and_from)
+connecting_now c s none a = grind (arith, all_empty, excluded, empty_end, implied_two, and_from)
 
 pub last_good : (c : Core) (u : Meaning) → Stands c → c.peer.sent ≡ [] → IsLast c.peer.session u
     → respond_unit c.own.session u ≡ good c.own.session u
 last_good c u s none l = search (arith, acts_good, alive, and_false, still_owes, excluded, connecting_now)
 
-good_over : (s r : State) (u : Meaning) → IsLast r u → is_over (good s u).next.phase ≡ true
-good_over s r u l = grind arith
-
-last_cuts : (s r : State) (u : Meaning) (h : List Item) → IsLast r u → cut_by s u h ≡ h
-last_cuts s r u h l = grind arith
-
 last_numbers : (s r : State) (u : Meaning) → IsLast r u → (becomes s u).numbers.confirmed ≡ s.numbers.confirmed
 last_numbers s r u l = grind arith
-
-last_base : (s r : State) (u : Meaning) → IsLast r u → (becomes s u).base ≡ s.base
-last_base s r u l = grind arith
-
-last_mark : (s r : State) (u : Meaning) (h : List Item) (mark : ℕ) → IsLast r u → mark_after s u h mark ≡ mark
-last_mark s r u h mark l = grind arith
 
 -- both sides are over after it
 pub last_projects : (broken : Bool) (w : World) (c : Core) (u : Meaning) (ms : List Message) → Projects broken w c → Stands c
     → Last (stopped w.peer) u ms c.peer.sent c.peer.session
     → (stopped (took broken w c u ms).own ≡ true) × Projects broken (took broken w c u ms) c
-last_projects broken w c u ms p s l =
-    search (arith, last_good, good_over, both_over, if_second, last_cuts, last_numbers, last_base, last_mark)
+last_projects broken w c u ms p s l = grind (arith, last_good, both_over, if_second, last_numbers)
 
 -- ---- a side that is over
 
@@ -312,7 +285,5 @@ over_projects broken w c u ms p o e = by_test (stopped w.peer)
       acked = over_as (λ r. r.numbers.confirmed ≡ c.own.session.numbers.confirmed)
           (session_of (without_first w ms)) u o p.own.counted.acked p.own.counted.acked;
       based = over_as (λ r. r.base ≡ c.own.session.base) (session_of (without_first w ms)) u o p.own.counted.based p.own.counted.based;
-      marked = ap (λ (b : Bool). if b then mark_after (session_of (without_first w ms)) u w.history w.own.mark else w.own.mark)
-          (over_not_acted (session_of (without_first w ms)) u o)
-          ∙ p.own.counted.marked;
+      marked = grind (arith, over_not_acted);
     }

@@ -2,18 +2,16 @@
 -- For every_stage_of_a_connection.
 use Rattle.std.proofs.Common.{◌≡◌, refl, sym, ◌∙◌, ap, ℕ, zero, Bool, true, false, ◌||◌, List, [], ◌∷◌, take, ◌⊎◌, inl, inr, Err, arith}
 use Rattle.std.proofs.Common.{subst, ◌++◌}
-use Rattle.osi_machine.specs.Core.{turned}
-use Rattle.osi_machine.proofs.Vocabulary.{take-nil, State, Phase, Token, Call, CallError, allowed, may_call, is_over, is_wait_transport}
-use Rattle.osi_machine.proofs.Vocabulary.{is_wait_cn, is_profile, awaiting, Owner, Absent, Owners, own_to_pool, turned_owner, left_by}
-use Rattle.osi_machine.proofs.Vocabulary.{Offer, CanBeOffered, Left, Right, Message, ask, agree, deny, Transport, not_yet, waiting, linked}
-use Rattle.osi_machine.proofs.Vocabulary.{gone, Kept, kept_of, End, World, session_of, asked_with, ended_at, shown_at_end}
-use Rattle.osi_machine.proofs.Vocabulary.{turned as turned_world, Told, untold, or_left, or_right, list_any, Ended, Meaning, without_tokens}
-use Rattle.osi_machine.proofs.Vocabulary.{offering, offer_sent, core_start, unit, put, moved, Taking, unchanged, Terms, accepts, denies}
-use Rattle.osi_machine.proofs.Vocabulary.{asked_at, message_taken, without_first}
-use Rattle.osi_machine.proofs.basics.what_holds_in_each_phase.{excluded, if_yes, if_no, by_test}
+use Rattle.osi_machine.proofs.Vocabulary.{take-nil, State, Phase, Token, Call, CallError, allowed, is_over, is_wait_transport, is_wait_cn}
+use Rattle.osi_machine.proofs.Vocabulary.{is_profile, awaiting, Absent, Owners, own_to_pool, left_by, Offer, CanBeOffered, Left, Right}
+use Rattle.osi_machine.proofs.Vocabulary.{Message, ask, agree, deny, Transport, not_yet, waiting, linked, gone, kept_of, End, World}
+use Rattle.osi_machine.proofs.Vocabulary.{session_of, ended_at, shown_at_end, turned as turned_world, Told, untold, or_left, or_right}
+use Rattle.osi_machine.proofs.Vocabulary.{list_any, Ended, Meaning, without_tokens, offering, offer_sent, core_start, unit, put, moved}
+use Rattle.osi_machine.proofs.Vocabulary.{Taking, unchanged, Terms, accepts, denies, asked_at, message_taken, without_first}
+use Rattle.osi_machine.proofs.basics.what_holds_in_each_phase.{excluded, by_test}
 use Rattle.osi_machine.proofs.promises.what_two_users_may_rely_on.{offer_stands}
 use Rattle.osi_machine.proofs.promises.what_a_record_tells.{told_all, Tells}
-use Rattle.osi_machine.proofs.whole.how_a_core_simulates_a_connection.{stopped, is_begun, parts, Alike, Carried, OneSide}
+use Rattle.osi_machine.proofs.whole.how_a_core_simulates_a_connection.{stopped, is_begun, parts, Carried, OneSide}
 use Rattle.osi_machine.proofs.whole.a_unit_is_taken.{put_nothing}
 use Rattle.osi_machine.proofs.whole.every_step_is_simulated.{refused, loss_told, Repeats}
 use Rattle.osi_session.specs.declared.faults.CallError.TheVariants as error
@@ -48,9 +46,6 @@ pub record Left_it (x : End) : Type 0 where
   pub over_now : stopped x ≡ true
   pub zero_now : AreZero x.kept.confirmed x.kept.base x.mark
 
-pub caller_zero : (x : End) → Waits x ⊎ Left_it x → AreZero x.kept.confirmed x.kept.base x.mark
-caller_zero x h = grind arith
-
 pub called_zero : (x : End) → Idle not_yet x ⊎ (Idle linked x ⊎ Left_it x) → AreZero x.kept.confirmed x.kept.base x.mark
 called_zero x h1 = search arith
 
@@ -69,13 +64,6 @@ abbrev pub replies : Way → List Message
 replies agreed = agree ∷ []
 replies (denied reason) = deny reason ∷ []
 replies _ = []
-
--- before a connection is agreed to no unit is in flight
-pub no_unit_back : (way : Way) (m : Meaning) (ms : List Message) → unit m ∷ ms ≡ replies way → ⊥
-no_unit_back way m ms e = grind arith
-
-pub no_unit_out : (way : Way) (m : Meaning) (ms : List Message) → unit m ∷ ms ≡ asks way → ⊥
-no_unit_out way m ms e = grind arith
 
 abbrev pub suits : Way → Transport → Bool
 suits agreed tr = is_begun tr
@@ -96,20 +84,14 @@ pub record Opens (w : World) (t u : Told) : Type 0 where
   pub own_told : t ≡ untold Left w.offer
   pub peer_told : u ≡ untold Right w.offer
 
-pub asked_opens : (o : Offer) → CanBeOffered o → is_profile o.requirements ≡ true → Opens (asked_with o) (untold Left o) (untold Right o)
-asked_opens o small profile = grind arith
-
 -- ---- every call is refused
 
 abbrev pub is_early : Phase → Bool
 is_early p = is_wait_transport p || is_wait_cn p
 
-no_call : (p : Phase) (x : Call) → is_early p ≡ true → may_call p x ≡ false
-no_call p x h = grind arith
-
 pub refused_early : (s : State) (x : Call) → is_early s.phase ≡ true → allowed s x ≡ Err error.BadState
 unfolding allowed
-refused_early s x h = grind (arith, if_no, excluded, if_yes, no_call)
+refused_early s x h = grind (arith, excluded)
 
 -- a call that is refused changes nothing
 pub record Refuses (s : State) (x : Call) : Type 0 where
@@ -120,24 +102,16 @@ pub caller_refuses : (w : World) (t u : Told) (x : Call) → Opens w t u → Ref
 caller_refuses w t u x h = elim h.caller [
   | inl k ↦ record {
     fault = error.BadState;
-    refused = refused_early (session_of w) x
-        (or_left (is_wait_transport w.own.kept.phase) (is_wait_cn w.own.kept.phase) k.phase);
+    refused = grind (arith, refused_early, or_left);
   }
   | inr k ↦ record { fault = error.Ended; refused = refused (session_of w) x k.over_now }
 ]
 
-waits_cn : (tr : Transport) (w : World) (x : Call) → Idle tr w.own → Refuses (session_of w) x
-waits_cn tr w x k = record {
-  fault = error.BadState;
-  refused = refused_early (session_of w) x (or_right (is_wait_transport w.own.kept.phase) (is_wait_cn w.own.kept.phase)
-      (ap (λ (y : Kept). is_wait_cn y.phase) k.kept));
-}
-
 pub called_refuses : (w : World) (t u : Told) (x : Call) → Opens w t u → Refuses (session_of (turned_world w)) x
 called_refuses w t u x h = elim h.called [
-  | inl k ↦ waits_cn not_yet (turned_world w) x k
+  | inl k ↦ grind (arith, refused, or_right, refused_early (session_of (turned_world w)) x (grind (arith, or_right)))
   | inr k ↦ elim k [
-    | inl i ↦ waits_cn linked (turned_world w) x i
+    | inl i ↦ grind (arith, refused, or_right, refused_early (session_of (turned_world w)) x (grind (arith, or_right)))
     | inr g ↦ record { fault = error.Ended; refused = refused (session_of (turned_world w)) x g.over_now }
   ]
 ]
@@ -146,9 +120,6 @@ called_refuses w t u x h = elim h.called [
 
 pub absent_left : (s : State) (o : Owners) (k : Token) → o k ≡ Absent → left_by s o k ≡ Absent
 absent_left s o k e = by_test (is_over s.phase) (λ q. rw q (ap own_to_pool e)) (λ q. rw q e)
-
-pub absent_back : (p : Owner) → turned_owner p ≡ Absent → p ≡ Absent
-absent_back p e = grind arith
 
 -- what is left of what is in flight
 abbrev cut_asks : ℕ → Way → Way
@@ -166,20 +137,16 @@ take_asks k way = grind (arith, take-nil)
 take_replies : (k : ℕ) (way : Way) → take k (replies way) ≡ replies (cut_replies k way)
 take_replies k way = grind (arith, take-nil)
 
--- only one of the two sides has something in flight
-replies_kept : (k : ℕ) (way : Way) → replies (cut_asks k way) ≡ replies way
-replies_kept k way = grind arith
-
 asks_kept : (k : ℕ) (way : Way) → asks (cut_replies k way) ≡ asks way
 asks_kept k way = grind arith
 
 -- the caller ends, and the called side
 pub caller_ends : (k : ℕ) (w : World) (t u : Told) → Opens w t u → Opens (ended_at k w) (told_all t (shown_at_end w)) u
-caller_ends k w t u h = search (arith, absent_left, caller_zero, take_asks, replies_kept, loss_told)
+caller_ends k w t u h = search (arith, absent_left, take_asks, loss_told)
 
 pub called_ends : (k : ℕ) (w : World) (t u : Told) → Opens (turned_world w) t u
     → Opens (turned_world (ended_at k w)) t (told_all u (shown_at_end w))
-called_ends k w t u h = search (arith, absent_left, absent_back, called_zero, asks_kept, take_replies, loss_told)
+called_ends k w t u h = search (arith, absent_left, called_zero, asks_kept, take_replies, loss_told)
 
 -- ---- a break
 
@@ -189,24 +156,8 @@ cut_both k j w = record w {
   peer = record w.peer { channel = take j w.peer.channel };
 }
 
-caller_kept : (x : End) (ch : List Message) → Waits x ⊎ Left_it x → Waits (record x { channel = ch }) ⊎ Left_it (record x { channel = ch })
-caller_kept x ch h = grind arith
-
-called_kept : (x : End) (ch : List Message) → Idle not_yet x ⊎ (Idle linked x ⊎ Left_it x)
-    → Idle not_yet (record x { channel = ch }) ⊎ (Idle linked (record x { channel = ch }) ⊎ Left_it (record x { channel = ch }))
-called_kept x ch h2 = search arith
-
 pub break_opens : (k j : ℕ) (w : World) (t u : Told) → Opens w t u → Opens (cut_both k j w) t u
-break_opens k j w t u h =
-    search (
-      arith,
-      caller_kept w.own (take k w.own.channel) h.caller,
-      called_kept w.peer (take j w.peer.channel) h.called,
-      take_asks k h.way,
-      asks_kept j (cut_asks k h.way),
-      replies_kept k h.way,
-      take_replies j (cut_asks k h.way),
-    )
+break_opens k j w t u h = search (arith, take_asks k h.way, asks_kept j (cut_asks k h.way), take_replies j (cut_asks k h.way))
 
 -- ---- the start
 
@@ -242,28 +193,14 @@ started_own broken w t u h k e = record {
   parted = λ l. first_parted broken w.offer w.own.channel e;
 }
 
-started_alike : (broken : Bool) (w : World) (t u : Told) → Opens w t u → is_begun w.peer.transport ≡ true → stopped w.peer ≡ false
-    → Alike (turned_world (started broken w)) (turned (core_start w.offer))
-started_alike broken w t u h b l = grind arith
-
-started_peer : (broken : Bool) (w : World) (t u : Told) → Opens w t u → is_begun w.peer.transport ≡ true → w.own.channel ≡ []
-    → OneSide broken (turned_world (started broken w)) (turned (core_start w.offer))
-started_peer broken w t u h b e = grind (arith, called_zero, started_alike, first_carried)
-
-caller_tells : (o : Offer) → Tells (untold Left o) (offering o) [] [] []
-caller_tells o = search arith
-
-called_tells : (o : Offer) → Tells (untold Right o) awaiting [] [] []
-called_tells o = search arith
-
 start_repeats : (broken : Bool) (w : World) (t u : Told) → Opens w t u → Waits w.own → w.own.channel ≡ [] → is_begun w.peer.transport ≡ true
     → Repeats broken (started broken w) t u
 start_repeats broken w t u h k e b = record {
   core = core_start w.offer;
   stands = offer_stands w.offer h.small h.profile;
-  projects = record { history = h.history; own = started_own broken w t u h k e; peer = started_peer broken w t u h b e };
-  own = subst (λ (d : Told). Tells d (offering w.offer) [] [] []) (sym h.own_told) (caller_tells w.offer);
-  peer = subst (λ (d : Told). Tells d awaiting [] [] []) (sym h.peer_told) (called_tells w.offer);
+  projects = record { history = h.history; own = started_own broken w t u h k e; peer = (grind (arith, called_zero, first_carried)) };
+  own = subst (λ (d : Told). Tells d (offering w.offer) [] [] []) (sym h.own_told) (grind arith);
+  peer = subst (λ (d : Told). Tells d awaiting [] [] []) (sym h.peer_told) (grind arith);
 }
 
 -- ---- what the caller takes
@@ -279,7 +216,7 @@ answered w t u h e = search arith
 
 refused_now : (broken : Bool) (w : World) (t u : Told) (reason : ℕ) → Opens w t u → w.own.channel ≡ []
     → Opens (moved broken gone (without_tokens Ended (session_of (without_first w []))) [] (without_first w [])) t u
-refused_now broken w t u reason h e = search (arith, answered, absent_left, caller_zero, put_nothing)
+refused_now broken w t u reason h e = search (arith, answered, absent_left, put_nothing)
 
 asks_none : (way : Way) (m : Message) (ms : List Message) → m ∷ ms ≡ replies way → asks way ≡ []
 asks_none way m ms e = grind arith
@@ -316,11 +253,6 @@ pub record CalledTaken (t u : Told) (k : Taking) : Type 0 where
 asked_late : (w : World) (t u : Told) → Opens (turned_world w) t u → w.own.channel ≡ [] → Opens (turned_world (without_first w [])) t u
 asked_late w t u h e = search arith
 
-accepted_now : (broken : Bool) (w : World) (t u : Told) → Opens (turned_world w) t u → w.own.channel ≡ [] → Idle not_yet w.own
-    → (way : Way) → put broken (agree ∷ []) w.own.channel ≡ replies way → asks way ≡ [] → suits way linked ≡ true
-    → Opens (turned_world (moved broken linked awaiting (agree ∷ []) (without_first w []))) t u
-accepted_now broken w t u h e k way f none s = grind arith
-
 denied_now : (broken : Bool) (w : World) (t u : Told) (reason : ℕ) → Opens (turned_world w) t u → w.own.channel ≡ [] → Idle not_yet w.own
     → (way : Way) → put broken (deny reason ∷ []) w.own.channel ≡ replies way → asks way ≡ [] → suits way w.own.transport ≡ true
     → Opens (turned_world (record (without_first w [])
@@ -329,8 +261,8 @@ denied_now broken w t u reason h e k way f none s = grind arith
 
 asked_now : (broken : Bool) (terms : Terms) (w : World) (t u : Told) → Opens (turned_world w) t u → w.own.channel ≡ [] → Idle not_yet w.own
     → CalledTaken t u (unchanged (asked_at broken terms (without_first w [])))
-asked_now true (accepts class) w t u h e k = record { stays_open = refl; leads = accepted_now true w t u h e k nothing_sent e refl refl }
-asked_now false (accepts class) w t u h e k = search (arith, accepted_now)
+asked_now true (accepts class) w t u h e k = record { stays_open = refl; leads = (grind arith) }
+asked_now false (accepts class) w t u h e k = search arith
 asked_now true (denies reason) w t u h e k =
     record { stays_open = refl; leads = denied_now true w t u reason h e k nothing_sent e refl refl }
 asked_now false (denies reason) w t u h e k =

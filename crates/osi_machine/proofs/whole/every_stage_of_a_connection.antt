@@ -1,18 +1,17 @@
 -- A connection was requested and not yet agreed to, or a core simulates it; every move keeps this.
 -- For every law of the machine.
-use Rattle.std.proofs.Common.{◌≡◌, refl, sym, ◌∙◌, subst, ℕ, Bool, true, false, List, [], ◌∷◌, ◌⊎◌, inl, inr, arith}
-use Rattle.osi_machine.proofs.Vocabulary.{Call, HasSerial, Answer, allowed, is_profile, Offer, CanBeOffered, Left, Right, Message}
-use Rattle.osi_machine.proofs.Vocabulary.{Transport, World, session_of, asked_with, after_answer, Terms, message_taken, closed, ended_at}
-use Rattle.osi_machine.proofs.Vocabulary.{shown_at_end, turned, error_of, without_first, Told, untold}
+use Rattle.std.proofs.Common.{◌≡◌, refl, sym, ◌∙◌, subst, ℕ, Bool, true, false, List, ◌∷◌, ◌⊎◌, inl, inr, arith}
+use Rattle.osi_machine.proofs.Vocabulary.{Call, HasSerial, Answer, allowed, Offer, Message, World, session_of, after_answer, Terms, closed}
+use Rattle.osi_machine.proofs.Vocabulary.{ended_at, shown_at_end, turned, error_of, Told}
 use Rattle.osi_machine.proofs.basics.what_holds_in_each_phase.{by_either}
 use Rattle.osi_machine.proofs.invariant.each_step_keeps_one_side.{SessionLaws}
-use Rattle.osi_machine.proofs.each_step_keeps_both_sides.{turned_twice}
+use Rattle.osi_machine.proofs.each_step_keeps_both_sides.{turned_twice, turned_stands}
 use Rattle.osi_machine.proofs.promises.what_a_record_tells.{told_all}
 use Rattle.osi_machine.proofs.whole.how_a_core_simulates_a_connection.{not_both}
-use Rattle.osi_machine.proofs.whole.every_step_is_simulated.{Repeats, told_answer, turned_repeats, call_repeats, message_repeats}
-use Rattle.osi_machine.proofs.whole.every_step_is_simulated.{close_repeats, break_repeats, end_repeats}
-use Rattle.osi_machine.proofs.whole.before_it_is_agreed_to.{Opens, Refuses, asked_opens, caller_refuses, called_refuses, caller_ends}
-use Rattle.osi_machine.proofs.whole.before_it_is_agreed_to.{called_ends, break_opens, caller_takes, called_takes}
+use Rattle.osi_machine.proofs.whole.every_step_is_simulated.{Repeats, told_answer, call_repeats, message_repeats, close_repeats}
+use Rattle.osi_machine.proofs.whole.every_step_is_simulated.{break_repeats, end_repeats}
+use Rattle.osi_machine.proofs.whole.before_it_is_agreed_to.{Opens, Refuses, caller_refuses, called_refuses, caller_ends, called_ends}
+use Rattle.osi_machine.proofs.whole.before_it_is_agreed_to.{break_opens, caller_takes, called_takes}
 use Rattle.osi_machine.proofs.machine.every_connection_of_a_run.{told_of_call, taking_of, cut_to, IsKept}
 
 -- seen from the caller, from the called side, or once it was agreed to from either
@@ -31,15 +30,12 @@ turned_back w = λ i. record { offer = w.offer; history = w.history; owner = tur
 pub turned_stage : (b : Bool) (w : World) (s t : Told) → Stage b w s t → Stage b (turned w) t s
 turned_stage b w s t (inl h) = inr (inl (subst (λ (v : World). Opens v s t) (sym (turned_back w)) h))
 turned_stage b w s t (inr (inl h)) = inl h
-turned_stage b w s t (inr (inr h)) = inr (inr (turned_repeats b w s t h))
+turned_stage b w s t (inr (inr h)) = inr (inr (search (arith, turned_stands, turned_twice)))
 
 -- ---- a call
 
 same_told : (s : Told) (c : Call) (a : Answer) → told_answer s c a ≡ told_of_call s c (error_of a)
 same_told s c a = grind arith
-
-pub call_offer : (b : Bool) (c : Call) (w : World) (a : Answer) → (after_answer b c w a).offer ≡ w.offer
-call_offer b c w a = grind arith
 
 refused_stage : (b : Bool) (w : World) (s t : Told) (c : Call) → Refuses (session_of w) c → Stage b w s t
     → Stage b (after_answer b c w (allowed (session_of w) c)) (told_of_call s c (error_of (allowed (session_of w) c))) t
@@ -54,10 +50,6 @@ called_stage laws b w s t c small (inr (inr h)) =
 
 -- ---- a message
 
-pub message_offer : (b : Bool) (terms : Terms) (k : ℕ) (tr : Transport) (w : World) (m : Message)
-    → (message_taken b terms k tr w m).world.offer ≡ w.offer
-message_offer b terms k tr w m = grind arith
-
 module _ (laws : SessionLaws) (terms : Terms) (b : Bool) (w : World) (s t : Told) (k : ℕ) (x : Message) (xs : List Message)
     (e : w.peer.channel ≡ x ∷ xs) where
   taken_stage : Stage b w s t → Stage b (taking_of b terms k w x xs).world (told_all s (taking_of b terms k w x xs).shown) t
@@ -71,9 +63,7 @@ module _ (laws : SessionLaws) (terms : Terms) (b : Bool) (w : World) (s t : Told
   closed_stage (inr (inl h)) c = not_both (taking_of b terms k w x xs).closes c (called_takes b terms k w t s x xs h e).stays_open
   closed_stage (inr (inr h)) c =
       let y = message_repeats b w s t h laws terms k x xs e in
-      let both = y.over_now c in
-      inr (inr (close_repeats b (taking_of b terms k w x xs).world
-      (told_all s (taking_of b terms k w x xs).shown) t y.repeats k both.0 both.1))
+      inr (inr (search (arith, close_repeats, taking_of, told_all)))
 
 -- ---- an end, and a break
 
@@ -89,23 +79,19 @@ broken_stage w s t k j (inr (inr h)) = inr (inr (break_repeats false w s t h k j
 
 -- ---- how it begins
 
-lost_opens : (o : Offer) → CanBeOffered o → is_profile o.requirements ≡ true
-    → Opens (record (asked_with o) { own = record (asked_with o).own { channel = [] } }) (untold Left o) (untold Right o)
-lost_opens o small profile = grind arith
-
 pub whole_kept : SessionLaws → (terms : Terms) → IsKept terms Whole
 whole_kept laws terms = record {
-  starts = λ o small profile. record { offer = refl; stage = inl (asked_opens o small profile) };
-  lost = λ o small profile. record { offer = refl; stage = inl (lost_opens o small profile) };
+  starts = λ o small profile. record { offer = refl; stage = inl (grind arith) };
+  lost = λ o small profile. record { offer = refl; stage = inl (grind arith) };
   turns = λ b w o s t h. record { offer = h.offer; stage = turned_stage b w s t h.stage };
   calls = λ b w o s t c small given h.
-      record { offer = call_offer b c w (allowed (session_of w) c) ∙ h.offer; stage = called_stage laws b w s t c small h.stage };
+      record { offer = (grind arith) ∙ h.offer; stage = called_stage laws b w s t c small h.stage };
   takes = λ b w o s t k x xs e h. record {
-    offer = message_offer b terms k w.own.transport (without_first w xs) x ∙ h.offer;
+    offer = (grind arith) ∙ h.offer;
     stage = taken_stage laws terms b w s t k x xs e h.stage;
   };
   closes = λ b w o s t k x xs e h c. record {
-    offer = message_offer b terms k w.own.transport (without_first w xs) x ∙ h.offer;
+    offer = (grind arith) ∙ h.offer;
     stage = closed_stage laws terms b w s t k x xs e h.stage c;
   };
   ends = λ b w o s t k h. record { offer = h.offer; stage = ended_stage b w s t k h.stage };

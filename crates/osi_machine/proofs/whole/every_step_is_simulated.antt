@@ -3,18 +3,18 @@
 use Rattle.std.proofs.Common.{◌≡◌, refl, sym, ◌∙◌, ap, subst, Bool, true, false, if◌then◌else◌, List, [], ◌∷◌, inl, inr, Ok, Err, arith, ℕ}
 use Rattle.std.proofs.Common.{take}
 use Rattle.osi_session.specs.Respond.{shown_for}
-use Rattle.osi_machine.proofs.Vocabulary.{closes_for, State, Meaning, Call, Answer, HasSerial, Outcome, allowed, is_over, respond_unit}
-use Rattle.osi_machine.proofs.Vocabulary.{drops, is_plain, Core, stays_in_core, Message, unit, World, session_of, after_call, after_answer}
-use Rattle.osi_machine.proofs.Vocabulary.{after_unit, Taking, unit_taken, turned as turned_world, without_first, Told, told_call}
-use Rattle.osi_machine.proofs.Vocabulary.{shows_loss, lost, ask, agree, deny, bye, over, Transport, not_yet, waiting, linked, closing, gone}
-use Rattle.osi_machine.proofs.Vocabulary.{moved, moves, put, shortened, unchanged, Terms, message_taken, closed, ended_at, shown_at_end}
-use Rattle.osi_machine.proofs.basics.what_holds_in_each_phase.{if_yes, by_test}
+use Rattle.osi_machine.proofs.Vocabulary.{State, Meaning, Call, Answer, HasSerial, Outcome, allowed, is_over, respond_unit, drops, is_plain}
+use Rattle.osi_machine.proofs.Vocabulary.{Core, stays_in_core, Message, unit, World, session_of, after_call, after_answer, after_unit}
+use Rattle.osi_machine.proofs.Vocabulary.{Taking, unit_taken, without_first, Told, told_call, shows_loss, lost, ask, agree, deny, bye, over}
+use Rattle.osi_machine.proofs.Vocabulary.{Transport, not_yet, waiting, linked, closing, gone, moved, moves, put, shortened, unchanged}
+use Rattle.osi_machine.proofs.Vocabulary.{Terms, message_taken, closed, ended_at, shown_at_end}
+use Rattle.osi_machine.proofs.basics.what_holds_in_each_phase.{by_test}
 use Rattle.osi_machine.proofs.channels.a_unit_is_dropped_bad_or_acted_on.{no_fault}
 use Rattle.osi_machine.proofs.invariant.what_holds_of_both_sides.{Stands}
 use Rattle.osi_machine.proofs.invariant.each_step_keeps_one_side.{SessionLaws}
 use Rattle.osi_machine.proofs.invariant.no_side_is_over.{alive}
 use Rattle.osi_machine.proofs.takes.a_unit_that_cuts_nothing.{at, stands_at}
-use Rattle.osi_machine.proofs.each_step_keeps_both_sides.{called_stands, taking_stands, turned_stands, turned_twice}
+use Rattle.osi_machine.proofs.each_step_keeps_both_sides.{called_stands, taking_stands}
 use Rattle.osi_machine.proofs.promises.what_a_record_tells.{Tells, told_all, answer_tells, taken_tells}
 use Rattle.osi_machine.proofs.whole.how_a_core_simulates_a_connection.{stopped, IsLast, Carried, Projects, session_is, not_both, parts}
 use Rattle.osi_machine.proofs.whole.how_a_core_simulates_a_connection.{is_begun, both_over}
@@ -33,10 +33,6 @@ pub record Repeats (broken : Bool) (w : World) (t u : Told) : Type 0 where
   pub own : Tells t core.own.session core.own.view core.own.said core.own.got
   pub peer : Tells u core.peer.session core.peer.view core.peer.said core.peer.got
 
--- the same, as the other side sees it
-pub turned_repeats : (broken : Bool) (w : World) (t u : Told) → Repeats broken w t u → Repeats broken (turned_world w) u t
-turned_repeats broken w t u h = search (arith, turned_stands, turned_twice)
-
 -- ---- a call
 
 -- the effect of a call on a connection, if this is the session
@@ -53,7 +49,7 @@ stop_told t x k = grind arith
 
 pub refused : (s : State) (x : Call) → is_over s.phase ≡ true → allowed s x ≡ Err error.Ended
 unfolding allowed
-refused s x o = if_yes (is_over s.phase) _ _ o
+refused s x o = grind arith
 
 -- the connection after it, what the record then tells, and that a side that closes is over, and so is the other
 pub record Taken (broken : Bool) (t u : Told) (k : Taking) : Type 0 where
@@ -64,15 +60,11 @@ unit_as : Bool → World → Meaning → List Message → State → Taking
 unit_as broken w m ms s =
     record { world = after_unit broken s m (without_first w ms); shown = (respond_unit s m).shown; closes = (respond_unit s m).closes }
 
--- the first unit of the core's channel
-plain_open : (u : Meaning) → is_plain u ≡ true → closes_for u ≡ false
-plain_open u p = grind arith
-
 first_open : (c : Core) (m : Meaning) (us : List Meaning) → Stands (at c (m ∷ us)) → (respond_unit c.own.session m).closes ≡ false
 first_open c m us s = ap (λ (o : Outcome). o.closes)
     (no_fault c.own.session m (alive c.owner c.own (at c (m ∷ us)).peer s.own) s.own.fits.0) ∙ by_test (drops c.own.session m)
     (λ e. rw e)
-    (λ e. rw e (let p : is_plain m ≡ true = s.own.fits.0.plain in plain_open m p))
+    (λ e. rw e (let p : is_plain m ≡ true = s.own.fits.0.plain in grind arith))
 
 -- the last of a side that is over
 last_told : (t : Told) (s r : State) (m : Meaning) → IsLast r m → told_all t (shown_for s m) ≡ t
@@ -109,8 +101,7 @@ module _ (broken : Bool) (w : World) (t u : Told) (h : Repeats broken w t u) whe
       (λ o. subst (λ (a : Answer). Repeats broken (after_answer broken x w a) (told_answer t x a) u) (sym (refused (session_of w) x o)) h)
       (λ l. let e = session_is w h.core h.stands h.projects.history h.projects.own.counted (h.projects.own.alike l) in
       subst (λ (v : World). Repeats broken v (told_answer t x (allowed (session_of w) x)) u) (answers_as x (allowed (session_of w) x))
-      (subst (λ (s : State). Repeats broken (answered_by broken s x w (allowed s x)) (told_answer t x (allowed s x)) u) (sym e)
-      (core_answer laws x small l (stays_in_core x) refl (allowed h.core.own.session x) refl)))
+      (grind (arith, core_answer laws x small l (stays_in_core x) refl (allowed h.core.own.session x) refl, allowed h.core.own.session x)))
 
   -- ---- a message that is taken
 
@@ -136,13 +127,7 @@ module _ (broken : Bool) (w : World) (t u : Told) (h : Repeats broken w t u) whe
   unfolding unit_as
   take_over m ms o e = record {
     repeats = search (over_projects, Tells, told_all, over_silent);
-    over_now = λ k. (
-      over_next (session_of w) m o,
-      parting_over broken w h.core h.projects (unit m) ms e (by_test (is_plain m)
-          (λ p. rw p (not_both (respond_unit (session_of w) m).closes k
-          (ap (λ (x : Outcome). x.closes) (over_nothing (session_of w) m o p))))
-          (λ p. rw p)),
-    );
+    over_now = grind (arith, over_next, parting_over, by_test, not_both, respond_unit, over_nothing);
   }
 
   pub unit_repeats : SessionLaws → (m : Meaning) (ms : List Message) → w.peer.channel ≡ unit m ∷ ms
@@ -172,8 +157,7 @@ module _ (broken : Bool) (w : World) (t u : Told) (h : Repeats broken w t u) whe
 
   popped : (m : Message) (ms : List Message) → w.peer.channel ≡ m ∷ ms → stopped w.own ≡ true
       → Taken broken t u (unchanged (without_first w ms))
-  popped m ms e o =
-      record { repeats = same_core broken _ (popped_projects broken w h.core h.projects m ms o e); over_now = λ k. absurd (cc) }
+  popped m ms e o = grind (arith, same_core, popped_projects broken w h.core h.projects m ms o e)
 
   not_linked_over : (tr : Transport) → w.own.transport ≡ tr → is_linked tr ≡ false → stopped w.own ≡ true
   not_linked_over tr e q = unlinked_over broken w h.core h.projects (ap is_linked e ∙ q)

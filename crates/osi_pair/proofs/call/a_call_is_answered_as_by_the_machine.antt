@@ -1,14 +1,13 @@
 -- A call is answered as the machine answers it.
 -- For calls.
-use Rattle.osi_machine.specs.Worlds.{gone}
 use Rattle.osi_session.specs.declared.faults.CallError.TheVariants as error
-use Rattle.osi_pair.proofs.Vocabulary.{◌≡◌, refl, sym, ◌∙◌, ap, ℕ, zero, suc, ◌<◌, ◌≤◌, ◌&&◌, Bool, true, false, not, nat_le, if◌then◌else◌}
-use Rattle.osi_pair.proofs.Vocabulary.{length, Option, Some, None, arith, lt-ltb, le-leb, leb-true, leb-false, was_given, place_at}
-use Rattle.osi_pair.proofs.Vocabulary.{value_at, Connection, State as Carrier, Between, connection_at, is_given, Seat, Line, Tables}
-use Rattle.osi_pair.proofs.Vocabulary.{side_of, allowed, Call, HasSerial, Listener, Standing, called, react, is_ended, CallError, has_given}
-use Rattle.osi_pair.proofs.Vocabulary.{session_error, call_error, table_error, AllCameAbout, Soundness, End, Holding, session_at, TwoEnds}
-use Rattle.osi_pair.proofs.Vocabulary.{end_at, side_in, transport_in, is_parting, IsSeated, Stands, Side}
-use Rattle.osi_pair.proofs.turn.what_an_acting_end_leaves_in_flight.{of_end, there, NoneBeyond, place_given, place_ahead}
+use Rattle.osi_pair.proofs.Vocabulary.{◌≡◌, refl, sym, ◌∙◌, ap, ℕ, zero, suc, ◌<◌, ◌≤◌, ◌&&◌, Bool, true, false, nat_le, if◌then◌else◌}
+use Rattle.osi_pair.proofs.Vocabulary.{length, Option, Some, None, arith, lt-ltb, le-leb, leb-true, leb-false, was_given, value_at}
+use Rattle.osi_pair.proofs.Vocabulary.{Connection, State as Carrier, Between, connection_at, is_given, Seat, Line, Tables, side_of, allowed}
+use Rattle.osi_pair.proofs.Vocabulary.{Call, HasSerial, Standing, called, react, is_ended, CallError, has_given, call_error, table_error}
+use Rattle.osi_pair.proofs.Vocabulary.{AllCameAbout, Soundness, End, Holding, session_at, TwoEnds, end_at, side_in, transport_in, IsSeated}
+use Rattle.osi_pair.proofs.Vocabulary.{Stands, Side}
+use Rattle.osi_pair.proofs.turn.what_an_acting_end_leaves_in_flight.{of_end, there, NoneBeyond, place_given}
 use Rattle.osi_pair.proofs.session.an_end_moves_as_the_tables_do.{calls_so}
 use Rattle.osi_pair.proofs.turn.a_turn_keeps_the_match.{seen}
 
@@ -31,10 +30,6 @@ ended_refuses s call e = grind arith
 was_there : (r : ℕ) (c : Carrier) → 0 < r → r ≤ c.given → has_given r c ≡ true
 was_there r c some h = ap (λ (b : Bool). b && nat_le r c.given) (lt-ltb 0 r some) ∙ le-leb r c.given h
 
-by_given : (r : ℕ) (call : Call) (e : End) (b : Bool) → has_given r e.carrier ≡ b →
-    table_error r call e ≡ (if not b then Some error.NoSuchConnection else session_error (session_at r e) call)
-by_given r call e b h = grind arith
-
 pub no_such : (r : ℕ) (call : Call) (e : End) → e.carrier.given < r → table_error r call e ≡ Some error.NoSuchConnection
 no_such r call e h = grind arith
 
@@ -44,25 +39,10 @@ session_gone r e h = grind arith
 live_given : (x : Connection) → is_given (transport_in (was_given (Some x))) ≡ true
 live_given x = grind arith
 
-seat_by : (r : ℕ) (h : Holding) (seat : Seat) (call : Call) (o : Option Connection) → 0 < r → r ≤ h.end.carrier.given →
-    value_at r h.end.carrier.live ≡ o → IsSeated r h seat → table_error r call h.end ≡ seat_error seat call
-seat_by r h seat call None some within at s =
-    let place : place_at r h.end.carrier ≡ was_given None = place_given r h.end.carrier within ∙ ap was_given at in
-    let transport : seat.transport ≡ gone = s.transport ∙ ap transport_in place in
-    by_given r call h.end true (was_there r h.end.carrier some within)
-    ∙ ap (λ (o : Option Listener). session_error o call) (session_gone r h.end at)
-    ∙ sym (ended_refuses seat.session call (over_gone s transport))
-    ∙ sym (ap (λ (t : _). if◌then◌else◌ {A = Option CallError} (is_given t) (react seat.session (called call)).error
-    (Some error.NoSuchConnection)) transport)
-  where
-    over_gone : IsSeated r h seat → seat.transport ≡ gone → is_ended seat.session.state.phase ≡ true
-    over_gone x e = x.over_now (ap is_parting e)
-seat_by r h seat call (Some x) some within at s = grind (arith, place_given, live_given, by_given, was_there, calls_so)
-
 seat_at : (r : ℕ) (h : Holding) (seat : Seat) (call : Call) (given : Bool) → 0 < r → nat_le r h.end.carrier.given ≡ given →
     IsSeated r h seat → table_error r call h.end ≡ seat_error seat call
-seat_at r h seat call true some e s = seat_by r h seat call (value_at r h.end.carrier.live) some (leb-true r h.end.carrier.given e) refl s
-seat_at r h seat call false some e s = grind (arith, leb-false, place_ahead, no_such)
+seat_at r h seat call true some e s = grind (arith, place_given, was_there, session_gone, ended_refuses, react, live_given, calls_so)
+seat_at r h seat call false some e s = search (arith, leb-false, no_such)
 
 -- ---- at two ends that match the tables
 
@@ -74,8 +54,7 @@ none_there (suc k) side p b t call s at = by_fit (nat_le (suc k) (length t.lines
     by_fit : (fits : Bool) → nat_le (suc k) (length t.lines) ≡ fits →
         table_error (suc k) call (end_at side p).end ≡ Some error.NoSuchConnection
     by_fit true e = let h = s.lines (suc k) (omega arith) (leb-true (suc k) (length t.lines) e) in let no = sym at ∙ h.found in absurd cc
-    by_fit false e = let above = leb-false (suc k) (length t.lines) e in let few =
-        (of_end side p b t s).given in no_such (suc k) call (end_at side p).end (omega arith)
+    by_fit false e = let above = leb-false (suc k) (length t.lines) e in grind (arith, of_end, no_such)
 
 table_at : NoneBeyond → (r : ℕ) (side : Side) (p : TwoEnds) (b : Between) (t : Tables) (call : Call) (o : Option Line) → Stands p b t →
     connection_at r t.lines ≡ o → table_error r call (end_at side p).end ≡ line_error (side_of (side_in side) o) call

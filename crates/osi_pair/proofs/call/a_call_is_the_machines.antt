@@ -7,32 +7,29 @@ use Rattle.osi_machine.specs.Tables.{after_call}
 use Rattle.osi_machine.specs.Tables as tables
 use Rattle.osi_machine.specs.Worlds as worlds
 use Rattle.osi_session.specs.Listening as words
-use Rattle.osi_stack.specs.Messages.{puts}
 use Rattle.osi_stack.specs.State as stack
 use Rattle.osi_pair.specs.Entries.{calls}
-use Rattle.osi_pair.proofs.Vocabulary.{◌≡◌, ◌≢◌, refl, sym, ◌∙◌, ap, subst, ℕ, zero, suc, ◌≤◌, Bool, true, false, nat_lt, if◌then◌else◌}
-use Rattle.osi_pair.proofs.Vocabulary.{List, [], ◌∷◌, ◌++◌, length, map, Option, Some, None, is_some, IsSome, IfSome, Ok, arith, append-nil}
-use Rattle.osi_pair.proofs.Vocabulary.{AllByRecursion, slice_get, IsOctets, IsShortTsdu, open_link, sent, sent_all, was_given, place_at}
-use Rattle.osi_pair.proofs.Vocabulary.{RiseFrom, Rows, value_at, Connection, linked, State as Carrier, EndReason, put_here, put_other, Both}
-use Rattle.osi_pair.proofs.Vocabulary.{Between, AreBetween, Acted, Carries, becomes, last_of, progress_of, Progress, in_use, leaves_use}
-use Rattle.osi_pair.proofs.Vocabulary.{Terms, terms_of, IsTableRun, AreSoundLines, connection_at, with_connection, call_answered, is_given}
-use Rattle.osi_pair.proofs.Vocabulary.{replaced, Seat, Line, Tables, seen_from, side_of, stays, made, call_in, step, Message, unit, replied}
-use Rattle.osi_pair.proofs.Vocabulary.{IsInOctets, Meaning, IsSendable, words_sent, tsdus_of, Answer, allowed, octets_of, Passed, Call}
-use Rattle.osi_pair.proofs.Vocabulary.{HasSerial, Listener, called, answered, react, Shown, limit_of, CallError, call_error, AllCameAbout}
-use Rattle.osi_pair.proofs.Vocabulary.{IsSound, put_by, Says, kept_at, line_by as line_then, to_session, End, Holding, session_in}
-use Rattle.osi_pair.proofs.Vocabulary.{session_at, IsAttended, puts_words, TwoEnds, end_at, with_end, noted, called_by_error, side_in}
-use Rattle.osi_pair.proofs.Vocabulary.{is_caller, carriers_of, transport_in, is_parting, IsSeated, IsInOrder, Stands, HasJoined, joining}
-use Rattle.osi_pair.proofs.Vocabulary.{word_in, waiting_in, Word, Side, Left, Right, IsJoinedAs, called_calm, Link, put_row as put}
-use Rattle.osi_pair.proofs.Vocabulary.{SessionStep as Step, IsSoundState, SessionState as State}
+use Rattle.osi_pair.proofs.Vocabulary.{◌≡◌, ◌≢◌, refl, sym, ◌∙◌, ap, subst, ℕ, zero, suc, ◌≤◌, Bool, true, false, if◌then◌else◌, List, []}
+use Rattle.osi_pair.proofs.Vocabulary.{◌∷◌, ◌++◌, length, map, Option, Some, None, is_some, IsSome, Ok, arith, append-nil, AllByRecursion}
+use Rattle.osi_pair.proofs.Vocabulary.{slice_get, IsOctets, IsShortTsdu, open_link, sent, sent_all, was_given, place_at, RiseFrom, Rows}
+use Rattle.osi_pair.proofs.Vocabulary.{value_at, Connection, linked, State as Carrier, EndReason, put_here, put_other, Both, Between}
+use Rattle.osi_pair.proofs.Vocabulary.{AreBetween, Acted, Carries, becomes, last_of, progress_of, Progress, in_use, leaves_use, Terms}
+use Rattle.osi_pair.proofs.Vocabulary.{terms_of, IsTableRun, AreSoundLines, connection_at, with_connection, call_answered, replaced, Seat}
+use Rattle.osi_pair.proofs.Vocabulary.{Line, Tables, seen_from, side_of, stays, call_in, step, Message, unit, replied, IsInOctets, Meaning}
+use Rattle.osi_pair.proofs.Vocabulary.{IsSendable, words_sent, tsdus_of, allowed, octets_of, Passed, Call, HasSerial, Listener, called}
+use Rattle.osi_pair.proofs.Vocabulary.{react, Shown, limit_of, CallError, call_error, AllCameAbout, IsSound, Says, kept_at}
+use Rattle.osi_pair.proofs.Vocabulary.{line_by as line_then, to_session, End, Holding, session_in, session_at, IsAttended, puts_words}
+use Rattle.osi_pair.proofs.Vocabulary.{TwoEnds, end_at, with_end, noted, called_by_error, side_in, is_caller, carriers_of, transport_in}
+use Rattle.osi_pair.proofs.Vocabulary.{is_parting, IsSeated, IsInOrder, Stands, HasJoined, joining, word_in, waiting_in, Word, Side, Left}
+use Rattle.osi_pair.proofs.Vocabulary.{Right, called_calm, Link, put_row as put, SessionStep as Step, IsSoundState, SessionState as State}
 use Rattle.osi_pair.proofs.turn.what_an_acting_end_leaves_in_flight.{out_way, back_way, place_given, OfEnd, of_end, NoneBeyond, more_said}
 use Rattle.osi_pair.proofs.turn.what_an_acting_end_leaves_in_flight.{StandsOn}
 use Rattle.osi_pair.proofs.call.a_call_is_answered_as_by_the_machine.{line_error, Answered}
 use Rattle.osi_pair.proofs.session.an_end_moves_as_the_tables_do.{calls_so, calls_keep}
-use Rattle.osi_pair.proofs.flight.whether_something_is_cut_off.{reach_same}
 use Rattle.osi_pair.proofs.session.a_seat_is_its_progress_and_session.{live_session}
 use Rattle.osi_pair.proofs.words.added_and_cut_words_are_messages.{AreWords}
 use Rattle.osi_pair.proofs.words.a_message_leaves_in_its_words.{PartLaws, word_of, carried_words}
-use Rattle.osi_pair.proofs.turn.a_turn_keeps_the_match.{IsSeen, seen_twice, Others, still_there}
+use Rattle.osi_pair.proofs.turn.a_turn_keeps_the_match.{IsSeen, seen_twice}
 
 -- the laws of the crates below
 pub record CallLaws : Type 0 where
@@ -66,14 +63,10 @@ pub record CallLaws : Type 0 where
 pub put_nothing : (broken : Bool) (channel : List Message) → worlds.put broken [] channel ≡ channel
 put_nothing broken channel = grind (arith, append-nil)
 
-made_rest : (broken : Bool) (l : Line) (a : Answer) (e : CallError) → (answered l.own.session a).error ≡ Some e →
-    made broken (answered l.own.session a) l ≡ l
-made_rest broken l a e h = grind (arith, put_nothing)
-
 refused_line : (broken : Bool) (call : Call) (l : Line) (e : CallError) → (react l.own.session (called call)).error ≡ Some e →
     after_call broken call l ≡ l
 unfolding react
-refused_line broken call l e h = made_rest broken l (allowed l.own.session.state call) e h
+refused_line broken call l e h = grind (arith, put_nothing)
 
 -- the same line in its place
 same_place : (r : ℕ) (l : Line) (ls : List Line) → slice_get ls r ≡ Some l → replaced r l ls ≡ ls
@@ -81,25 +74,10 @@ same_place r l [] e = refl
 same_place zero l (x ∷ ls) e = let same : l ≡ x = cc in ap (λ (y : Line). y ∷ ls) same
 same_place (suc r) l (x ∷ ls) e = ap (λ (ys : List Line). x ∷ ys) (same_place r l ls e)
 
-stays_same : (t : Tables) (side : Side) (r : ℕ) (l : Line) → connection_at r t.lines ≡ Some l →
-    stays t (side_in side) r (seen_from (side_in side) l) ≡ t
-stays_same t side r l at = grind (arith, seen_twice, same_place)
-
-refused_by : (b : Bool) (t moved : Tables) (side : Side) (r : ℕ) (call : Call) (other_error : Option CallError) (first : Option CallError)
-    (e : CallError) → (b ≡ true → first ≡ Some e → moved ≡ t) → (if b then first else other_error) ≡ Some e →
-    (if b then tables.noted (call_answered (side_in side) r call first ∷ []) moved else tables.noted
-    (call_answered (side_in side) r call other_error ∷ []) t) ≡ tables.noted (call_answered (side_in side) r call (Some e) ∷ []) t
-refused_by b t moved side r call other_error first e same h = grind arith
-
 refused_step : (t : Tables) (side : Side) (r : ℕ) (call : Call) (o : Option Line) (e : CallError) → connection_at r t.lines ≡ o →
     line_error (side_of (side_in side) o) call ≡ Some e →
     call_in t (side_in side) r call (side_of (side_in side) o) ≡ tables.noted (call_answered (side_in side) r call (Some e) ∷ []) t
-refused_step t side r call None e at h = ap (λ (x : Option CallError). tables.noted (call_answered (side_in side) r call x ∷ []) t) h
-refused_step t side r call (Some l) e at h =
-    let x : Line = seen_from (side_in side) l in
-    refused_by (is_given x.own.transport) t (stays t (side_in side) r (after_call t.broken call x)) side r call _
-    (react x.own.session (called call)).error e
-    (λ given error. ap (stays t (side_in side) r) (refused_line t.broken call x e error) ∙ stays_same t side r l at) h
+refused_step t side r call o e h h2 = search (arith, react, refused_line, seen_twice, same_place)
 
 with_same : (side : Side) (p : TwoEnds) → with_end side (end_at side p) p ≡ p
 with_same side p = grind arith
@@ -168,10 +146,9 @@ all_sent : (r : ℕ) (tsdus : List (List ℕ)) (c : Carrier) (peer : ℕ) (link 
 all_sent r [] c peer link lasts at = grind arith
 all_sent r (tsdu ∷ tsdus) c peer link lasts at =
     let k = sent_is r tsdu c peer link (open_is r c peer link lasts at) in
-    let more = all_sent r tsdus (sent r tsdu c) k.peer k.link (k.ended ∙ lasts)
-    (ap (value_at r) k.live ∙ put_here r (linked k.peer k.link) (linked peer link) c.live at) in
     grind (
       arith,
+      put_here,
       put_other,
       all_sent r tsdus (sent r tsdu c) k.peer k.link (k.ended ∙ lasts)
           (ap (value_at r) k.live ∙ put_here r (linked k.peer k.link) (linked peer link) c.live at),
@@ -210,19 +187,13 @@ called_is laws r call h none =
     open_by r h.end.carrier h.end.carrier.ended (value_at r h.end.carrier.live) refl refl g.opened in
     let limit = limit_of session.state in
     let is : (now_of r call h).end.carrier ≡ sent_all r (tsdus_of limit g.step.sent) h.end.carrier =
-    s.acts.carrier ∙ ap (λ (b : Bool). puts r (put_by b limit (words.react session (words.called call)).reply) h.end.carrier) g.closes
-    ∙ ap (λ (o : Option Meaning). puts r (put_by false limit o) h.end.carrier) g.reply
-    ∙ sym (puts_words r (words_sent limit g.step.sent) h.end.carrier) in
+    grind (arith, puts_words, words_sent) in
     let waits = ap (λ (x : Listener). x.waiting) g.next in
     let kept = subst (StaysOpen r h.end.carrier) (sym is)
     (all_sent r (tsdus_of limit g.step.sent) h.end.carrier open_now.peer open_now.link open_now.lasts open_now.at) in
     let line_now = line_then s.acts.line (Some session) (words.called call) in
     let waiting_now = ap (λ (l : List Shown). s.acts.line.waiting ++ l) g.shown ∙ append-nil s.acts.line.waiting in
     search
-
-value_now : (r : ℕ) (call : Call) (h : Holding) (c : Called r call h) →
-    value_at r (now_of r call h).end.carrier.live ≡ Some (linked c.kept.peer c.kept.link)
-value_now r call h c = c.kept.at
 
 place_now : (r : ℕ) (call : Call) (h : Holding) (c : Called r call h) → r ≤ h.end.carrier.given →
     place_at r (now_of r call h).end.carrier ≡ was_given (Some (linked c.kept.peer c.kept.link))
@@ -250,10 +221,6 @@ next_so : (r : ℕ) (call : Call) (h : Holding) (seat : Seat) (c : Called r call
     (react seat.session (called call)).next
 next_so r call h seat c s = grind (arith, seat_session, calls_so)
 
-reply_so : (r : ℕ) (call : Call) (h : Holding) (seat : Seat) (c : Called r call h) → IsSeated r h seat →
-    (react seat.session (called call)).reply ≡ Some c.granted.sent
-reply_so r call h seat c s = grind (arith, calls_so, seat_session)
-
 seat_now : (r : ℕ) (call : Call) (h : Holding) (broken : Bool) (x : Line) (c : Called r call h) → r ≤ h.end.carrier.given →
     IsSeated r h x.own → IsSeated r (now_of r call h) (after_call broken call x).own
 seat_now r call h broken x c within s =
@@ -265,14 +232,11 @@ seat_now r call h broken x c within s =
     record {
       joined = joined;
       transport = transport ∙ ap transport_in (sym (place_now r call h c within));
-      live = λ e. session_now_is r (now_of r call h).end (linked c.kept.peer c.kept.link) c.line_now (value_now r call h c)
-          (line_found r call h c) ∙ now;
+      live = grind (arith, session_now_is, line_found r call h c);
       kept = λ y e. let is : Some y ≡ session = sym e ∙ ap session_in (line_found r call h c) ∙ now in cc;
       over_now = λ e. let no : false ≡ true = sym (ap is_parting transport) ∙ e in absurd cc;
       awaiting = λ e. let no : worlds.linked ≡ worlds.not_yet = sym transport ∙ e in absurd cc;
-      octets = subst (λ (o : Option Meaning). IfSome o IsInOctets)
-          (sym (ap (λ (y : Listener). y.waiting) (sym next) ∙ c.waits
-          ∙ ap (λ (y : Listener). y.waiting) (sym (seat_session r call h x.own c s)))) s.octets;
+      octets = grind (arith, seat_session);
     }
 
 -- ---- the two of an accepted call
@@ -331,17 +295,10 @@ acted_at laws side r call p b t c s within octets are =
 pub lasts_now : (r : ℕ) (call : Call) (h : Holding) → Called r call h → (now_of r call h).end.carrier.ended ≡ None
 lasts_now r call h c = c.kept.ended ∙ c.opened.lasts
 
--- the end that acted is in its last state
-pub lives_now : (side : Side) (r : ℕ) (call : Call) (p : TwoEnds) (b : Between) (words : List Word) (m : Meaning)
-    (a : MayAct side r call p b words m) → (now_of r call (end_at side p)).end.carrier.ended ≡ None →
-    (now_of r call (end_at side p)).end.carrier ≡ last_of (is_caller side) a.now
-lives_now side r call p b words m a e = grind arith
-
 progress_now : (side : Side) (r : ℕ) (call : Call) (p : TwoEnds) (b : Between) (c : Called r call (end_at side p))
     (a : MayAct side r call p b (sent_words r call (end_at side p) c) c.granted.sent) → r ≤ (end_at side p).end.carrier.given →
     progress_of (place_at r (last_of (is_caller side) a.now)) ≡ in_use
-progress_now side r call p b c a within =
-    search (arith, lives_now, lasts_now r call (end_at side p) c, place_now r call (end_at side p) c within)
+progress_now side r call p b c a within = search (arith, lasts_now r call (end_at side p) c, place_now r call (end_at side p) c within)
 
 none_gone : (g h : Progress) (gone : List carrier.Message) → g ≡ in_use → h ≡ in_use → (leaves_use g h ≡ false → gone ≡ []) → gone ≡ []
 none_gone g h gone a b keeps = keeps (ap (λ (x : Progress). leaves_use x h) a ∙ ap (λ (x : Progress). leaves_use in_use x) b)
@@ -351,33 +308,28 @@ keeps_joined : (r : ℕ) (call : Call) (h : Holding) (c : Called r call h) (begu
     HasJoined r (now_of r call h) begun
 keeps_joined r call h c begun held y at =
     let was : kept_at r h.end.lines ≡ Some c.session = sym (live_session r h.end (ap is_some c.opened.at)) ∙ c.was in
-    let now : Some y ≡ Some (words.react c.session (words.called call)).next =
-    sym at ∙ ap session_in (line_found r call h c) ∙ c.session_now in
-    let same : y ≡ (words.react c.session (words.called call)).next = cc in
-    subst (λ (z : Listener). IsJoinedAs z.state z.joined begun) (sym same) (calls_keep c.session call begun (held c.session was))
+    grind (arith, line_found r call h c, calls_keep c.session call begun (held c.session was))
 
 pub line_acts : (side : Side) (r : ℕ) (call : Call) (p : TwoEnds) (b : Between) (t : Tables) (x : Line) (c : Called r call (end_at side p))
     (a : MayAct side r call p b (sent_words r call (end_at side p) c) c.granted.sent) → HasSerial call → OfEnd side p b t →
     t.broken ≡ is_some p.reach → r ≤ (end_at side p).end.carrier.given → IsSeen side r p b x →
     IsSeen side r (new_of side r call p) a.now (after_call t.broken call x)
 line_acts side r call p b t x c a serial o broken within h =
-    let sends : (react x.own.session (called call)).reply ≡ Some c.granted.sent = reply_so r call (end_at side p) x.own c h.here in
+    let sends : (react x.own.session (called call)).reply ≡ Some c.granted.sent = grind (arith, calls_so, seat_session) in
     let before = progress_then side r call p b t c o within in
     let after = progress_now side r call p b c a within in
     record {
-      here = subst (λ (y : Holding). IsSeated r y (after_call t.broken call x).own) (sym (end_is side r call p))
-          (seat_now r call (end_at side p) t.broken x c within h.here);
+      here = search (arith, end_is, seat_now);
       there = subst (λ (y : Holding). IsSeated r y x.peer) (sym (grind arith)) h.there;
       out = out_way (terms_now p) side r p (new_of side r call p) b a.now (sent_words r call (end_at side p) c)
           (unit c.granted.sent ∷ []) x.own.channel t.broken (after_call t.broken call x).own x.peer a.are a.carries broken
           (none_gone _ _ a.carries.gone before after a.carries.keeps) (grind arith) c.opened.lasts
-          (reach_same side (now_of r call (end_at side p)) p) h.out
+          (grind arith) h.out
           (ap (λ (y : Option Meaning). worlds.put t.broken (replied y) x.own.channel) sends);
       back = back_way (terms_now p) side r p (new_of side r call p) b a.now (map word_in (sent_words r call (end_at side p) c)) x.peer x.own
           (after_call t.broken call x).own a.carries (before ∙ sym after)
-          (grind arith) c.opened.lasts (reach_same side (now_of r call (end_at side p)) p)
-          (λ begun held. subst (λ (y : Holding). HasJoined r y begun) (sym (end_is side r call p))
-          (keeps_joined r call (end_at side p) c begun held))
+          (grind arith) c.opened.lasts (grind arith)
+          (λ begun held. grind (arith, end_is side r call p, keeps_joined r call (end_at side p) c begun held))
           (λ calm. called_calm x.own.session call x.peer.channel serial calm) h.back;
     }
 
@@ -385,12 +337,6 @@ line_acts side r call p b t x c a serial o broken within h =
 
 abbrev pub tables_now : Tables → Side → ℕ → Call → Line → Tables
 tables_now t side r call l = stays t (side_in side) r (after_call t.broken call (seen_from (side_in side) l))
-
--- all other connections are unchanged
-pub others_left : (side : Side) (r : ℕ) (call : Call) (p : TwoEnds) (b : Between) (words : List Word) (m : Meaning) →
-    Called r call (end_at side p) → (a : MayAct side r call p b words m) →
-    Others side p b (now_of r call (end_at side p)).end (end_at side p).held a.now r
-others_left side r call p b words m c a = grind (arith, put_other, if◌then◌else◌, nat_lt, still_there)
 
 -- ---- what is pending
 

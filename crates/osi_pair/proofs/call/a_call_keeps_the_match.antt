@@ -10,16 +10,17 @@ use Rattle.osi_pair.proofs.Vocabulary.{limit_sized, AllByRecursion, IsOctets, Lo
 use Rattle.osi_pair.proofs.Vocabulary.{IsSoundLine, connection_at, call_answered, Step, Line, Tables, seen_from, side_of, call_in, step}
 use Rattle.osi_pair.proofs.Vocabulary.{run, unit, IsSendable, tsdus_of, allowed, octets_of, Call, HasSerial, Listener, limit_of, CallError}
 use Rattle.osi_pair.proofs.Vocabulary.{call_error, Holding, End, TwoEnds, end_at, side_in, Stands, StandsAt, Side, Left, Right}
-use Rattle.osi_pair.proofs.Vocabulary.{SessionStep as Granted, IsSoundState, SessionState as State}
+use Rattle.osi_pair.proofs.Vocabulary.{SessionStep as Granted, IsSoundState, SessionState as State, if◌then◌else◌, nat_lt, put_other}
+use Rattle.osi_pair.proofs.Vocabulary.{append-nil}
 use Rattle.osi_pair.proofs.turn.what_an_acting_end_leaves_in_flight.{There, there, more_said, StandsOn, begun_with, one_step, of_end}
 use Rattle.osi_pair.proofs.call.a_call_is_answered_as_by_the_machine.{line_error, answer_same}
 use Rattle.osi_pair.proofs.call.a_call_is_the_machines.{CallLaws, refused_stands, after_by, now_of, new_of, tables_now, Called, called_is}
 use Rattle.osi_pair.proofs.call.a_call_is_the_machines.{seat_session, sent_words, MayAct, acted_at, lasts_now, quiet_now, order_now}
-use Rattle.osi_pair.proofs.call.a_call_is_the_machines.{line_acts, others_left}
+use Rattle.osi_pair.proofs.call.a_call_is_the_machines.{line_acts}
 use Rattle.osi_pair.proofs.words.added_and_cut_words_are_messages.{AreWords}
 use Rattle.osi_pair.proofs.words.a_message_leaves_in_its_words.{IsBounded, words_of_message}
-use Rattle.osi_pair.proofs.turn.an_open_connection_acts.{turned_by, nothing_noted}
-use Rattle.osi_pair.proofs.turn.a_turn_keeps_the_match.{turned_stands, seen, seen_twice, still_there}
+use Rattle.osi_pair.proofs.turn.an_open_connection_acts.{turned_by}
+use Rattle.osi_pair.proofs.turn.a_turn_keeps_the_match.{turned_stands, seen, seen_twice, still_there, with_holding}
 
 -- ---- two ends
 
@@ -33,13 +34,13 @@ stand_at laws side r call p b t l c a serial s at th within =
     let x : Line = seen_from (side_in side) l in
     let o = of_end side p b t s in
     let lasts = lasts_now r call h c in
-    subst (λ (q : TwoEnds). Stands q a.now (tables_now t side r call l)) (nothing_noted side e p r)
+    subst (λ (q : TwoEnds). Stands q a.now (tables_now t side r call l)) (grind (arith, with_holding, append-nil))
     (turned_stands side p b t e h.held a.now (tables_now t side r call l) r [] s c.opened.lasts
     (turned_by side p b t e h.held a.now r x (after_call t.broken call x) s
     (record { is_caller = c.kept.is_caller; local = c.kept.local; class = c.kept.class; given = c.kept.given; lasts = lasts }) a.between
     (at ∙ ap Some (sym (seen_twice (side_in side) l)))
     (line_acts side r call p b t x c a serial o s.broken within (seen side r p b l th.is))
-    (others_left side r call p b (sent_words r call h c) c.granted.sent c a)
+    (grind (arith, put_other, if◌then◌else◌, nat_lt, still_there))
     (still_there side b a.now a.carries.there) (order_now laws r call h serial (o.order c.opened.lasts) lasts)
     (quiet_now r call h c o.quiet)))
 
@@ -107,8 +108,7 @@ accepted_stands laws side r call p b t tabled serial octets s none fine =
     record {
       now = a.now;
       stands = subst (Stands (after_by None side r call p) a.now) (sym d.is)
-          (more_said (new_of side r call p) a.now (tables_now t side r call d.line) (calls side r call None)
-          (call_answered (side_in side) r call None) refl on);
+          (search (arith, more_said, new_of, tables_now));
     }
 
 call_by : (laws : CallLaws) (side : Side) (r : ℕ) (call : Call) (p : TwoEnds) (b : Between) (t : Tables) (o : Option CallError) →

@@ -2,22 +2,18 @@
 -- For calls.
 use Rattle.osi_carrier.specs.declared.faults.OpenError.TheVariants as opening
 use Rattle.osi_machine.specs.Worlds as worlds
-use Rattle.osi_pair.proofs.Vocabulary.{◌≡◌, refl, sym, ◌∙◌, ap, subst, ℕ, zero, suc, ◌+◌, ◌≤◌, ◌==◌, ◌&&◌, ◌||◌, Bool, true, false, not}
-use Rattle.osi_pair.proofs.Vocabulary.{nat_le, nat_lt, if◌then◌else◌, List, [], ◌∷◌, length, map, Option, Some, None, option_map, is_some}
-use Rattle.osi_pair.proofs.Vocabulary.{arith, eqb-true, nat_tests, length-map, list_any, slice_get, Class, Zero, Two, or_else, was_given}
-use Rattle.osi_pair.proofs.Vocabulary.{RiseFrom, AreUpTo, Rows, value_at, Connection, asked, State as Carrier, EndReason, OpenError, absent}
-use Rattle.osi_pair.proofs.Vocabulary.{Both, Between, AreBetween, Terms, terms_of, Ending, Refusal, has_ended, negotiating, one_connection}
-use Rattle.osi_pair.proofs.Vocabulary.{too_many, references_used_up, not_selected, too_long, is_waiting, is_live, is_known, is_class_0}
-use Rattle.osi_pair.proofs.Vocabulary.{live_count, Line, Tables, refusal, transport_of, Transport, unit_bits, is_profile, is_long}
-use Rattle.osi_pair.proofs.Vocabulary.{after_open, connect_error, ConnectError, NotSelected, TooLong, asked_of, TwoEnds, answer_with}
-use Rattle.osi_pair.proofs.Vocabulary.{transport_in, class_in, ending_in, offer_in, answer_in, carriers_of, Stands, ConnectCall as Connect}
+use Rattle.osi_pair.proofs.Vocabulary.{◌≡◌, refl, sym, ◌∙◌, ap, subst, ℕ, zero, suc, ◌+◌, ◌≤◌, ◌==◌, ◌&&◌, Bool, true, false, not, nat_le}
+use Rattle.osi_pair.proofs.Vocabulary.{nat_lt, if◌then◌else◌, List, [], ◌∷◌, length, map, Option, Some, None, option_map, is_some, arith}
+use Rattle.osi_pair.proofs.Vocabulary.{eqb-true, nat_tests, length-map, list_any, slice_get, Class, Zero, Two, or_else, was_given, RiseFrom}
+use Rattle.osi_pair.proofs.Vocabulary.{AreUpTo, Rows, value_at, Connection, asked, State as Carrier, EndReason, OpenError, absent, Both}
+use Rattle.osi_pair.proofs.Vocabulary.{Between, AreBetween, Terms, terms_of, Refusal, has_ended, negotiating, one_connection, too_many}
+use Rattle.osi_pair.proofs.Vocabulary.{references_used_up, not_selected, too_long, is_waiting, is_live, is_known, is_class_0, live_count}
+use Rattle.osi_pair.proofs.Vocabulary.{Line, Tables, refusal, transport_of, Transport, unit_bits, is_profile, is_long, after_open}
+use Rattle.osi_pair.proofs.Vocabulary.{connect_error, ConnectError, NotSelected, TooLong, asked_of, TwoEnds, answer_with, transport_in}
+use Rattle.osi_pair.proofs.Vocabulary.{class_in, offer_in, answer_in, carriers_of, Stands, ConnectCall as Connect}
 use Rattle.osi_pair.proofs.turn.what_an_acting_end_leaves_in_flight.{place_given}
 
 -- ---- the live connections are those of the lines
-
-at_row : (q p : ℕ) (y : Connection) (rows : Rows Connection) (b : Bool) → (p == q) ≡ b →
-    value_at q ((p, y) ∷ rows) ≡ (if b then Some y else value_at q rows)
-at_row q p y rows b e = ap (λ (c : Bool). if◌then◌else◌ {A = Option Connection} c (Some y) (value_at q rows)) e
 
 -- the transport connections of this many references after this one
 transports : ℕ → ℕ → Rows Connection → List Transport
@@ -42,21 +38,17 @@ transports_are k (l ∷ lines) live h =
 skip : (k m q : ℕ) (x : Connection) (live : Rows Connection) → q ≤ k → transports k m ((q, x) ∷ live) ≡ transports k m live
 unfolding transports
 skip k zero q x live le = refl
-skip k (suc m) q x live le = grind (arith, nat_tests, transports, at_row, skip (k + 1) m q x live (omega arith))
+skip k (suc m) q x live le = grind (arith, nat_tests, transports, skip (k + 1) m q x live (omega arith))
 
 live_is : (x : Connection) → is_live (transport_in (was_given (Some x))) ≡ true
 live_is x = grind arith
-
-more_live : (t : Transport) (ts : List Transport) (b : Bool) → is_live t ≡ b →
-    live_count (t ∷ ts) ≡ (if b then live_count ts + 1 else live_count ts)
-more_live t ts b e = ap (λ (c : Bool). if◌then◌else◌ {A = ℕ} c (live_count ts + 1) (live_count ts)) e
 
 count_by : (k m q : ℕ) (x : Connection) (live : Rows Connection) (b : Bool) → (q == k + 1) ≡ b → RiseFrom k ((q, x) ∷ live) →
     AreUpTo (k + suc m) ((q, x) ∷ live) →
     ((rows : Rows Connection) → RiseFrom (k + 1) rows → AreUpTo (k + 1 + m) rows → live_count (transports (k + 1) m rows) ≡ length rows) →
     live_count (transports k (suc m) ((q, x) ∷ live)) ≡ length ((q, x) ∷ live)
 unfolding transports
-count_by k m q x live b e rise up more = grind (arith, at_row, eqb-true, more_live, transports, live_is, skip, nat_tests, absent)
+count_by k m q x live b e rise up more = grind (arith, eqb-true, transports, live_is, skip, nat_tests, absent)
 
 count_live : (k m : ℕ) (live : Rows Connection) → RiseFrom k live → AreUpTo (k + m) live → live_count (transports k m live) ≡ length live
 unfolding transports
@@ -66,10 +58,6 @@ count_live k (suc m) [] rise up = count_live (k + 1) m [] tt tt
 count_live k (suc m) ((q, x) ∷ live) rise up = count_by k m q x live (q == k + 1) refl rise up (λ rows. count_live (k + 1) m rows)
 
 -- ---- one that awaits its answer
-
-more_any : (t : Transport) (ts : List Transport) (b : Bool) → is_waiting t ≡ b →
-    list_any is_waiting (t ∷ ts) ≡ (b || list_any is_waiting ts)
-more_any t ts b e = ap (λ (c : Bool). c || list_any is_waiting ts) e
 
 -- if all live connections await their answer
 AllAsked : Rows Connection → Type 0
@@ -85,10 +73,8 @@ waits_by : (k m q : ℕ) (x : Connection) (live : Rows Connection) (b : Bool) �
     list_any is_waiting (transports k (suc m) ((q, x) ∷ live)) ≡ nat_lt 0 (length ((q, x) ∷ live))
 unfolding transports AllAsked
 waits_by k m q x live true e rise up all more =
-    let here : value_at (k + 1) ((q, x) ∷ live) ≡ Some x = at_row (k + 1) q x live true e in
-    more_any (transport_in (was_given (value_at (k + 1) ((q, x) ∷ live)))) (transports (k + 1) m ((q, x) ∷ live)) true
-    (ap (λ (o : Option Connection). is_waiting (transport_in (was_given o))) (here ∙ ap Some (all (k + 1) x here))) ∙ some_live q x live
-waits_by k m q x live false e rise up all more = grind (arith, nat_tests, absent, more_any, transports)
+    (grind arith) ∙ some_live q x live
+waits_by k m q x live false e rise up all more = grind (arith, nat_tests, absent, transports)
 
 any_waits : (k m : ℕ) (live : Rows Connection) → RiseFrom k live → AreUpTo (k + m) live → AllAsked live →
     list_any is_waiting (transports k m live) ≡ nat_lt 0 (length live)
@@ -125,17 +111,7 @@ error_by_tests class over waits many up profile long =
 
 -- ---- what each makes of them
 
-refusal_is : (t : Tables) (c : Connect) (known : Option worlds.Class) (over waits many up : Bool) → t.known ≡ known →
-    is_some t.left_end ≡ over → list_any is_waiting (map transport_of t.lines) ≡ waits →
-    nat_le 64 (live_count (map transport_of t.lines)) ≡ many → nat_le 65535 (length (map transport_of t.lines)) ≡ up →
-    refusal t (offer_in (asked_of c)) ≡ by_tests over (is_known known) waits (is_class_0 known) many up
-    (is_profile (unit_bits c.requirements)) (is_long c)
-refusal_is t c known over waits many up k o w m u = cc
-
 -- ---- at two ends that match the tables
-
-some_same : (x : Option Ending) (y : Option EndReason) → option_map Some x ≡ option_map ending_in y → is_some x ≡ is_some y
-some_same x y e = grind arith
 
 -- before a class is agreed, each that is live awaits its answer
 abbrev pub Awaits : Type 0
@@ -157,7 +133,6 @@ lines_are p b t s i l at = by_fit (nat_le (suc i) (length t.lines)) refl
         let few : suc i ≤ length t.lines = grind (arith, nat_tests) in
         let h = s.lines (suc i) (omega arith) few in
         let same : h.line ≡ l = (let x = sym h.found ∙ at in cc) in
-        let given = s.given in
         let place = place_given (suc i) p.left.end.carrier (omega arith) in
         ap (λ (x : Line). x.own.transport) (sym same) ∙ h.is.left.transport ∙ ap transport_in place
         ∙ ap (λ (n : ℕ). transport_in (was_given (value_at n p.left.end.carrier.live))) (omega arith)
@@ -176,27 +151,19 @@ alive_by : (g : ℕ) (c : Connect) (p : TwoEnds) (b : Between) (t : Tables) (cla
     answer_in (answer_with g (connect_error c p.left.end)) ≡ Some (refusal t (offer_in (asked_of c)))
 alive_by g c p b t class waits s is lasts any same count =
     let e : Carrier = p.left.end.carrier in
-    let over : is_some t.left_end ≡ is_some e.ended = some_same t.left_end e.ended s.left_end in
-    let many : nat_le 64 (live_count (map transport_of t.lines)) ≡ nat_le 64 (length e.live) = ap (nat_le 64) count in
+    let over : is_some t.left_end ≡ is_some e.ended = grind arith in
     let up : nat_le 65535 (length (map transport_of t.lines)) ≡ nat_le 65535 e.given =
     ap (nat_le 65535) (length-map t.lines transport_of ∙ s.given) in
     let known : t.known ≡ option_map class_in class = s.known ∙ ap (option_map class_in) is in
     ap (λ (o : Option ConnectError). answer_in (answer_with g o)) (grind (arith, s.caller))
     ∙ tests g class (is_some e.ended) (nat_lt 0 (length e.live)) waits (nat_le 64 (length e.live)) (nat_le 65535 e.given)
     (is_profile (unit_bits c.requirements)) (is_long c) same
-    ∙ sym (ap Some (refusal_is t c (option_map class_in class) (is_some e.ended) waits (nat_le 64 (length e.live))
-    (nat_le 65535 e.given) known over any many up))
-
--- an end that has ended
-over_answer : (g : ℕ) (c : Connect) (p : TwoEnds) (b : Between) (t : Tables) (reason : EndReason) → Stands p b t →
-    p.left.end.carrier.ended ≡ Some reason →
-    answer_in (answer_with g (connect_error c p.left.end)) ≡ Some (refusal t (offer_in (asked_of c)))
-over_answer g c p b t reason s is = grind arith
+    ∙ sym (ap Some (grind arith))
 
 pub refusal_same : Awaits → (g : ℕ) (c : Connect) (p : TwoEnds) (b : Between) (t : Tables) (ended : Option EndReason) → Stands p b t →
     p.left.end.carrier.ended ≡ ended → answer_in (answer_with g (connect_error c p.left.end)) ≡ Some (refusal t (offer_in (asked_of c)))
 unfolding AllAsked
-refusal_same awaits g c p b t (Some reason) s is = over_answer g c p b t reason s is
+refusal_same awaits g c p b t (Some reason) s is = grind arith
 refusal_same awaits g c p b t None s is =
     let e : Carrier = p.left.end.carrier in
     let o = (s.order_left is).sound.orderly in

@@ -5,24 +5,23 @@ use Rattle.osi_between.specs.Messages as carrier
 use Rattle.osi_machine.specs.Tables as tables
 use Rattle.osi_stack.specs.Calls.{connects}
 use Rattle.osi_stack.specs.State as stack
-use Rattle.osi_pair.proofs.Vocabulary.{◌≡◌, ◌≢◌, refl, sym, ◌∙◌, ap, subst, ℕ, suc, ◌+◌, ◌<◌, ◌≤◌, ◌==◌, Bool, true, false, not}
-use Rattle.osi_pair.proofs.Vocabulary.{if◌then◌else◌, List, [], ◌∷◌, ◌++◌, length, length-append, map, Option, Some, None, option_map, Ok}
-use Rattle.osi_pair.proofs.Vocabulary.{Err, arith, inl, nat_le, eqb-true, eq-eqb, leb-true, leb-false, nat_tests, tsap_octets, may_connect}
-use Rattle.osi_pair.proofs.Vocabulary.{was_given, place_at, RiseFrom, Rows, value_at, Connection, asked, State as Carrier, EndReason}
-use Rattle.osi_pair.proofs.Vocabulary.{OpenError, push_here, absent, beyond, push_other, free_of, Both, Between, AreBetween, Acted, becomes}
-use Rattle.osi_pair.proofs.Vocabulary.{under_way, is_cut, progress_of, IsTsap, Progress, not_yet, awaiting, leaves_use, Terms, terms_of}
-use Rattle.osi_pair.proofs.Vocabulary.{Offer, Step, connects as connecting, connection_at, connect_answered, Refusal, Line, Tables}
-use Rattle.osi_pair.proofs.Vocabulary.{asked_with, refusal, asked_in, step, run, ask, Listener, Shown, is_profile, unit_bits, named_by}
-use Rattle.osi_pair.proofs.Vocabulary.{after_open, connect_error, calls_with, AllCameAbout, Soundness, IsSound, kept_at, End, Holding}
-use Rattle.osi_pair.proofs.Vocabulary.{session_in, is_used, used_lines, IsAttended, fresh_line, ConnectError, NotSelected, TooLong, used_by}
-use Rattle.osi_pair.proofs.Vocabulary.{used_live, rise_push, asked_of, CanBeAsked, TwoEnds, noted, connected_by, answer_with, after_connect}
-use Rattle.osi_pair.proofs.Vocabulary.{asks as asked_entry, carriers_of, offer_in, answer_in, IsSeated, IsLine, HasLine, IsInOrder, Stands}
-use Rattle.osi_pair.proofs.Vocabulary.{StandsAt, HasJoined, whole, waiting_in, Left, none_of, ConnectCall as Connect}
+use Rattle.osi_pair.proofs.Vocabulary.{◌≡◌, ◌≢◌, refl, sym, ◌∙◌, ap, subst, ℕ, suc, ◌+◌, ◌<◌, ◌≤◌, ◌==◌, Bool, true, false, if◌then◌else◌}
+use Rattle.osi_pair.proofs.Vocabulary.{List, [], ◌∷◌, ◌++◌, length, length-append, map, Option, Some, None, option_map, Ok, Err, arith}
+use Rattle.osi_pair.proofs.Vocabulary.{nat_le, eqb-true, eq-eqb, leb-true, leb-false, nat_tests, tsap_octets, may_connect, was_given}
+use Rattle.osi_pair.proofs.Vocabulary.{place_at, RiseFrom, Rows, value_at, Connection, asked, State as Carrier, EndReason, push_here}
+use Rattle.osi_pair.proofs.Vocabulary.{absent, beyond, push_other, free_of, Both, Between, AreBetween, Acted, becomes, under_way, is_cut}
+use Rattle.osi_pair.proofs.Vocabulary.{progress_of, IsTsap, Progress, awaiting, Terms, terms_of, Offer, Step, connects as connecting}
+use Rattle.osi_pair.proofs.Vocabulary.{connection_at, connect_answered, Refusal, Line, Tables, asked_with, refusal, asked_in, step, run}
+use Rattle.osi_pair.proofs.Vocabulary.{ask, Listener, Shown, is_profile, unit_bits, named_by, connect_error, calls_with, AllCameAbout}
+use Rattle.osi_pair.proofs.Vocabulary.{Soundness, IsSound, kept_at, End, Holding, session_in, is_used, used_lines, IsAttended, fresh_line}
+use Rattle.osi_pair.proofs.Vocabulary.{ConnectError, used_by, used_live, rise_push, asked_of, CanBeAsked, TwoEnds, noted, connected_by}
+use Rattle.osi_pair.proofs.Vocabulary.{answer_with, after_connect, asks as asked_entry, carriers_of, offer_in, answer_in, IsSeated, IsLine}
+use Rattle.osi_pair.proofs.Vocabulary.{HasLine, IsInOrder, Stands, StandsAt, HasJoined, whole, waiting_in, Left, none_of}
+use Rattle.osi_pair.proofs.Vocabulary.{ConnectCall as Connect}
 use Rattle.osi_pair.proofs.words.added_and_cut_words_are_messages.{wholes}
-use Rattle.osi_pair.proofs.turn.what_an_acting_end_leaves_in_flight.{out_way, place_given, place_ahead, more_said, StandsOn, begun_with}
-use Rattle.osi_pair.proofs.turn.what_an_acting_end_leaves_in_flight.{one_step}
+use Rattle.osi_pair.proofs.turn.what_an_acting_end_leaves_in_flight.{out_way, place_given, more_said, StandsOn, begun_with, one_step}
 use Rattle.osi_pair.proofs.call.a_call_is_the_machines.{session_now_is}
-use Rattle.osi_pair.proofs.call.what_a_call_sends_can_be_written.{profile_small, asker_small, answerer_small}
+use Rattle.osi_pair.proofs.call.what_a_call_sends_can_be_written.{profile_small, asker_small}
 use Rattle.osi_pair.proofs.call.a_request_is_answered_as_by_the_machine.{Awaits, refusal_same}
 use Rattle.osi_pair.proofs.flight.what_is_in_flight_when_an_end_acts.{none_under_way, same_alike, alike_trans, like_alike}
 use Rattle.osi_pair.proofs.turn.a_turn_keeps_the_match.{seen, unseen, Others, other_seen}
@@ -57,26 +56,15 @@ record MayAsk (c : Connect) (h : Holding) : Type 0 where
   lasts : h.end.carrier.ended ≡ None
   profile : is_profile (unit_bits c.requirements) ≡ true
 
-profile_by : (profile long : Bool) → (if not profile then Some NotSelected else (if long then Some TooLong else None)) ≡ None →
-    profile ≡ true
-profile_by profile long h = grind arith
-
-opened_by : (o : Option OpenError) (error : Option ConnectError) → after_open o error ≡ None → (o ≡ None) × (error ≡ None)
-opened_by o error h = grind arith
-
 may_ask : (c : Connect) (h : Holding) → connect_error c h.end ≡ None → MayAsk c h
-may_ask c h none = grind (arith, opened_by, none_of, free_of, profile_by)
+may_ask c h none = search (arith, none_of, free_of)
 
 -- ---- the lines of the end
-
-at_row : (q p : ℕ) (y : stack.Line) (rows : Rows stack.Line) (b : Bool) → (p == q) ≡ b →
-    value_at q ((p, y) ∷ rows) ≡ (if b then Some y else value_at q rows)
-at_row q p y rows b e = ap (λ (c : Bool). if◌then◌else◌ {A = Option stack.Line} c (Some y) (value_at q rows)) e
 
 used_kept_by : (q p : ℕ) (y l : stack.Line) (live : Rows Connection) (lines : Rows stack.Line) (u b : Bool) → is_used live (p, y) ≡ u →
     (p == q) ≡ b → RiseFrom p lines → (value_at q (used_lines live lines) ≡ Some l → value_at q lines ≡ Some l) →
     value_at q (used_lines live ((p, y) ∷ lines)) ≡ Some l → value_at q ((p, y) ∷ lines) ≡ Some l
-used_kept_by q p y l live lines u b used same rise more at = grind (arith, at_row, used_by, eqb-true, absent)
+used_kept_by q p y l live lines u b used same rise more at = grind (arith, used_by, eqb-true, absent)
 
 used_kept : (k q : ℕ) (l : stack.Line) (live : Rows Connection) (lines : Rows stack.Line) → RiseFrom k lines →
     value_at q (used_lines live lines) ≡ Some l → value_at q lines ≡ Some l
@@ -108,19 +96,16 @@ quiet_push n s ((p, y) ∷ lines) = ap (λ (w : List (ℕ × Shown)). map (λ sh
 abbrev line_of : Connect → stack.Line
 line_of c = fresh_line (calls_with c)
 
-value_new : (c : Connect) (h : Holding) → Soundness h.end → value_at (next_of h) (asked_end c h).end.carrier.live ≡ Some asked
-value_new c h o = grind (arith, push_here, beyond)
-
 place_new : (c : Connect) (h : Holding) → Soundness h.end → place_at (next_of h) (asked_end c h).end.carrier ≡ was_given (Some asked)
-place_new c h o = place_given (next_of h) (asked_end c h).end.carrier (omega arith) ∙ ap was_given (value_new c h o)
+place_new c h o = place_given (next_of h) (asked_end c h).end.carrier (omega arith) ∙ ap was_given (grind (arith, push_here, beyond))
 
 line_new : (c : Connect) (h : Holding) → Soundness h.end → value_at (next_of h) (asked_end c h).end.lines ≡ Some (line_of c)
-line_new c h o = grind (arith, used_live, value_new, push_here, beyond)
+line_new c h o = grind (arith, used_live, push_here, beyond)
 
 place_apart : (q : ℕ) (c : Connect) (h : Holding) (given : Bool) → nat_le q h.end.carrier.given ≡ given → q ≢ next_of h →
     value_at q (asked_end c h).end.carrier.live ≡ value_at q h.end.carrier.live →
     place_at q (asked_end c h).end.carrier ≡ place_at q h.end.carrier
-place_apart q c h given e apart live = grind (arith, leb-true, place_given, leb-false, place_ahead)
+place_apart q c h given e apart live = grind (arith, leb-true, place_given, leb-false)
 
 left_alone : (c : Connect) (p : TwoEnds) (b : Between)
     (a : Acted (terms_of p.left.end.carrier.local p.right.end.carrier.local) true (next_of p.left) (carriers_of p)
@@ -135,8 +120,7 @@ left_alone c p b a o =
     record {
       places = λ q apart. place_apart q c h (nat_le q h.end.carrier.given) refl apart (live q apart);
       lives = live;
-      sessions = λ q apart e. ap session_in (used_live q (asked_end c h).end.carrier.live (h.end.lines ++ (next_of h, line_of c) ∷ []) e
-          ∙ push_other q (next_of h) (line_of c) h.end.lines apart);
+      sessions = grind (arith, used_live, push_other);
       kept = λ q apart s e. ap session_in (sym (push_other q (next_of h) (line_of c) h.end.lines apart))
           ∙ kept_used 0 q (asked_end c h).end.carrier.live (h.end.lines ++ (next_of h, line_of c) ∷ []) s
           (value_at q (asked_end c h).end.lines) rise refl e;
@@ -148,15 +132,13 @@ left_alone c p b a o =
 own_new : (broken : Bool) (c : Connect) (h : Holding) → Soundness h.end → MayAsk c h → CanBeAsked c →
     IsSeated (next_of h) (asked_end c h) (asked_with broken (offer_in (asked_of c))).own
 own_new broken c h o may can =
-    grind (
+    search (
       arith,
       session_now_is,
       place_new c h o,
-      value_new c h o,
       line_new c h o,
       profile_small (unit_bits c.requirements) may.profile,
       asker_small (named_by c.sizes) can.sizes,
-      answerer_small (named_by c.sizes) can.sizes,
     )
 
 -- ---- the end that is asked
@@ -184,9 +166,6 @@ terms_now p = terms_of p.left.end.carrier.local p.right.end.carrier.local
 abbrev HasAsked : Connect → TwoEnds → Between → Type 0
 HasAsked c p b = Acted (terms_now p) true (next_of p.left) (carriers_of p) (carriers_of (new_two c p)) b [] (carrier.ask ∷ [])
 
-none_gone : (g h : Progress) (gone : List carrier.Message) → g ≡ not_yet → h ≡ awaiting → (leaves_use g h ≡ false → gone ≡ []) → gone ≡ []
-none_gone g h gone a b keeps = keeps (ap (λ (x : Progress). leaves_use x h) a ∙ ap (λ (x : Progress). leaves_use not_yet x) b)
-
 line_asks : ConnectLaws → (c : Connect) (p : TwoEnds) (b : Between) (t : Tables) (a : HasAsked c p b) → Stands p b t → MayAsk c p.left →
     CanBeAsked c → IsLine (next_of p.left) (new_two c p) a.now (asked_with t.broken (offer_in (asked_of c)))
 line_asks laws c p b t a s may can =
@@ -205,22 +184,13 @@ line_asks laws c p b t a s may can =
       out = out_way (terms_now p) Left n p new b a.now (whole ask ∷ []) (ask ∷ []) [] t.broken
           (asked_with t.broken (offer_in (asked_of c))).own (asked_with t.broken (offer_in (asked_of c))).peer
           (wholes (ask ∷ [])) a.carries s.broken
-          (none_gone _ _ a.carries.gone (ap progress_of (place_ahead n b.caller few)) now a.carries.keeps) refl may.lasts refl
+          (grind arith) refl may.lasts refl
           (none_under_way p.right.end.carrier.ended (progress_of (place_at n b.called)) (is_cut true (carriers_of p)) (HasJoined n p.right)
           (asked_with t.broken (offer_in (asked_of c))).peer.session.state (under_way true n (carriers_of p) b)
-          (λ y at. (let none = (unaware n p b t p.right.end.carrier.ended refl s above).kept in let no : None ≡ Some y =
-          sym none ∙ at in absurd cc))
+          (λ y at. (let none = (unaware n p b t p.right.end.carrier.ended refl s above).kept in grind arith))
           (λ e. same_alike (progress_of (place_at n b.called)) _ _ (sym (laws.ahead (terms_now p) (carriers_of p) b true n s.between few))))
           refl;
-      back = none_under_way new.left.end.carrier.ended g (is_cut false (carriers_of new)) (HasJoined n new.left)
-          (asked_with t.broken (offer_in (asked_of c))).own.session.state (under_way false n (carriers_of new) a.now)
-          (λ y at. (let is : Some y ≡ Some (calls_with c) = sym at ∙ ap session_in (line_new c p.left o.sound) in
-          let same : y ≡ calls_with c = cc in inl (ap (λ (z : Listener). z.joined) same)))
-          (λ e. alike_trans g [] (under_way false n (carriers_of p) b) (under_way false n (carriers_of new) a.now)
-          (same_alike g _ _ (sym none_back))
-          (alike_trans g _ (a.carries.arrived ++ under_way false n (carriers_of new) a.now) _
-          (like_alike (place_at n a.now.caller) _ _ a.carries.came)
-          (same_alike g _ _ (ap (λ (l : List carrier.Message). l ++ under_way false n (carriers_of new) a.now) a.carries.brings.is))));
+      back = grind (arith, none_under_way, alike_trans, same_alike, like_alike, line_new c p.left o.sound);
     })
 
 abbrev with_line : Tables → Connect → Tables
@@ -233,8 +203,7 @@ line_by true laws m c p b t a e s may can some few =
     let last : next_of p.left ≡ suc (length t.lines) = (let x = s.given in omega arith) in
     let new : HasLine (next_of p.left) (new_two c p) a.now (with_line t c) = record {
       line = asked_with t.broken (offer_in (asked_of c));
-      found = ap (λ (k : ℕ). connection_at k (t.lines ++ asked_with t.broken (offer_in (asked_of c)) ∷ [])) last
-          ∙ laws.last t.lines (asked_with t.broken (offer_in (asked_of c)));
+      found = grind (arith, laws.last t.lines (asked_with t.broken (offer_in (asked_of c))));
       is = line_asks laws c p b t a s may can;
     } in
     subst (λ (k : ℕ). HasLine k (new_two c p) a.now (with_line t c)) (sym (eqb-true m (next_of p.left) e)) new
@@ -246,8 +215,7 @@ line_by false laws m c p b t a e s may can some few =
       line = h.line;
       found = laws.before m t.lines h.line (asked_with t.broken (offer_in (asked_of c))) h.found;
       is = unseen Left m (new_two c p) a.now h.line
-          (other_seen Left p b (asked_end c p.left).end p.left.held a.now (next_of p.left) m h.line apart may.lasts
-          (left_alone c p b a (s.order_left may.lasts)) (seen Left m p b h.line h.is));
+          (search (arith, other_seen, left_alone c p b a (s.order_left may.lasts), s.order_left may.lasts, seen Left m p b h.line h.is));
     }
 
 asks_stand : ConnectLaws → (c : Connect) (p : TwoEnds) (b : Between) (t : Tables) (a : HasAsked c p b) → connect_error c p.left.end ≡ None →
@@ -263,14 +231,9 @@ asks_stand laws c p b t a none s may can =
     let sound = laws.sound c p.left.end none (λ h. o.sound) in
     let rising = laws.rising c p.left.end o.sound o.rising in
     let came = laws.came c p.left.end o.came in
-    let quiet_left = quiet_used (asked_end c p.left).end.carrier.live (p.left.end.lines ++ (next_of p.left, line_of c) ∷ [])
-    (quiet_push (next_of p.left) (calls_with c) p.left.end.lines ∙ s.quiet_left) in
-    grind arith
+    grind (arith, quiet_used, quiet_push)
 
 -- ---- the step
-
-none_refused : (r : Option Refusal) → Some None ≡ Some r → r ≡ None
-none_refused r h = let is : None ≡ r = cc in sym is
 
 connect_by : ConnectLaws → (c : Connect) (p : TwoEnds) (b : Between) (t : Tables) (o : Option ConnectError) →
     connect_error c p.left.end ≡ o → CanBeAsked c → Stands p b t →
@@ -293,7 +256,7 @@ connect_by laws c p b t None is can s =
     let answer : Some None ≡ Some (refusal t o) =
     ap (λ (x : Option ConnectError). answer_in (answer_with (next_of p.left) x)) (sym is)
     ∙ refusal_same laws.awaits (next_of p.left) c p b t p.left.end.carrier.ended s refl in
-    let fine : refusal t o ≡ None = none_refused (refusal t o) answer in
+    let fine : refusal t o ≡ None = grind arith in
     let may = may_ask c p.left is in
     let a : HasAsked c p b =
     laws.asked (terms_now p) (carriers_of p) b (option_map tsap_octets c.calling_tsap)
@@ -306,14 +269,9 @@ connect_by laws c p b t None is can s =
           (tables.noted (connect_answered o r ∷ []) (asked_in t o r))) (sym fine) said;
     }
 
-local_by : (c : Connect) (p : TwoEnds) (o : Option ConnectError) →
-    terms_of (connected_by o c p.left).end.carrier.local p.right.end.carrier.local ≡
-    terms_of p.left.end.carrier.local p.right.end.carrier.local
-local_by c p o = grind arith
-
 pub connect_at : ConnectLaws → (p : TwoEnds) (steps : List Step) (c : Connect) → CanBeAsked c → StandsAt p steps →
     StandsAt (after_connect c p) (steps ++ connecting (offer_in (asked_of c)) ∷ [])
 connect_at laws p steps c can s =
     one_step p (after_connect c p) steps (connecting (offer_in (asked_of c))) (can.serial, can.sizes)
-    (local_by c p (connect_error c p.left.end)) s.numbered
+    (grind arith) s.numbered
     (connect_by laws c p s.now (run (begun_with p) steps) (connect_error c p.left.end) refl can s.stands)

@@ -3,20 +3,13 @@
 -- For carries, pairs in the same state and the laws of `standing`.
 use Rattle.osi_pair.proofs.Vocabulary.{◌≡◌, ℕ, ◌+◌, ◌-◌, ◌≤◌, Bool, List, [], ◌∷◌, ◌++◌, length, sum, min, Option, Some, None, refl, sym}
 use Rattle.osi_pair.proofs.Vocabulary.{ap, subst, ◌∙◌, arith, length-drop, sum_by-cons, IsFaultOf, TpktFault, EndReason, Both, Between}
-use Rattle.osi_pair.proofs.Vocabulary.{AreBetween, side, Terms, Step, carried, Holding, Crossing, CarriesPiece, CarriesPieces, CarriesFrom}
-use Rattle.osi_pair.proofs.Vocabulary.{crossing, TwoEnds, end_at, reachable, within, reach_after, other, StandsAt, StandsAtArrivals, Reach}
-use Rattle.osi_pair.proofs.Vocabulary.{Side}
+use Rattle.osi_pair.proofs.Vocabulary.{AreBetween, side, Terms, Step, carried, Crossing, CarriesPiece, CarriesPieces, CarriesFrom, crossing}
+use Rattle.osi_pair.proofs.Vocabulary.{TwoEnds, end_at, reachable, reach_after, other, StandsAt, StandsAtArrivals, Reach, Side}
 use Rattle.osi_pair.proofs.carry.few_indications_are_pending.{FewLaws, few_wait}
 use Rattle.osi_pair.proofs.carry.handed_octets_are_no_step.{CarriedLaw}
 use Rattle.osi_pair.proofs.carry.packets_are_taken_in_turn.{PacketStands, taken_laws, none_less, alive_deliveries, join_arrivals, no_more}
-use Rattle.osi_pair.proofs.carry.pieces_are_fed_in_turn.{PieceLaws, crossed, crossed_twice, crossed_same, crossed_reach, within_less}
-use Rattle.osi_pair.proofs.carry.pieces_are_fed_in_turn.{reach_twice, piece_alive, piece_over}
-
--- what is left of what can be carried
-left_over : (f : Side) (c : Crossing) (o : Option Reach) (from : Holding) (used : ℕ) →
-    c.from ≡ record from { end = carried used from.end } →
-    reachable f (crossed f c (reach_after f used o)) ≡ within o f (length from.end.carrier.outgoing) - used
-left_over f c o from used is = grind (arith, length-drop, within_less)
+use Rattle.osi_pair.proofs.carry.pieces_are_fed_in_turn.{PieceLaws, crossed, crossed_twice, within_less, reach_twice, piece_alive}
+use Rattle.osi_pair.proofs.carry.pieces_are_fed_in_turn.{piece_over}
 
 -- two ends after pieces of this many octets
 pub record SoFar (f : Side) (p : TwoEnds) (steps : List Step) (most octets : ℕ) (new : Crossing) : Type 0 where
@@ -39,7 +32,7 @@ pub pieces_stand : PieceLaws → (f : Side) (p : TwoEnds) (steps : List Step) (m
 pieces_stand laws f p steps most [] new at le c =
     let same : crossed f new (reach_after f 0 p.reach) ≡ p =
     ap (λ (d : Crossing). crossed f d (reach_after f 0 p.reach)) c ∙ ap (crossed f (crossing f p)) (none_less f p.reach)
-    ∙ crossed_same f p in
+    ∙ (grind arith) in
     record {
       stands = no_more (other f) (crossed f new (reach_after f 0 p.reach)) steps (subst (λ (q : TwoEnds). StandsAt q steps) (sym same) at);
       left = let there : reachable f (crossed f new (reach_after f 0 p.reach)) ≡ reachable f p = ap (reachable f) same in omega arith;
@@ -56,11 +49,11 @@ pieces_stand laws f p steps most (used ∷ before) new at le c =
     let y = piece_then laws f q steps (most - sum before) used new (end_at (other f) q).end.carrier.ended refl x.stands left piece in
     let all : sum (used ∷ before) ≡ used + sum before = sum_by-cons (λ n. n) used before in
     let reach : reach_after f used q.reach ≡ reach_after f (sum (used ∷ before)) p.reach =
-    ap (reach_after f used) (crossed_reach f b o) ∙ reach_twice f (sum before) used (sum (used ∷ before)) p.reach (omega arith) in
+    ap (reach_after f used) (grind arith) ∙ reach_twice f (sum before) used (sum (used ∷ before)) p.reach (omega arith) in
     record {
       stands = subst (λ (r : Option Reach). StandsAtArrivals (other f) (crossed f new r) steps) reach y;
       left = let there : reachable f (crossed f new (reach_after f (sum (used ∷ before)) p.reach)) ≡ reachable f q - used =
-          ap (λ (r : Option Reach). reachable f (crossed f new r)) (sym reach) ∙ (left_over f new q.reach (end_at f q) used piece.taken) in
+          ap (λ (r : Option Reach). reachable f (crossed f new r)) (sym reach) ∙ (grind (arith, length-drop, within_less)) in
           omega arith;
     }
 
@@ -71,7 +64,7 @@ carry_at laws f most p octets new steps at c =
     let x = pieces_stand laws f p steps (min most (reachable f p)) c.way.pieces (crossing f new) at (omega arith) c.way.each in
     let same : crossed f (crossing f new) (reach_after f (sum c.way.pieces) p.reach) ≡ new =
     ap (λ (n : ℕ). crossed f (crossing f new) (reach_after f n p.reach)) (sym c.way.length) ∙ ap (crossed f (crossing f new)) (sym c.reach)
-    ∙ crossed_same f new in
+    ∙ (grind arith) in
     subst (λ (q : TwoEnds). StandsAtArrivals (other f) q steps) same x.stands
 
 -- ---- the laws that this rests on

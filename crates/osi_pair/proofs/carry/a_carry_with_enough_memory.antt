@@ -8,9 +8,8 @@ use Rattle.osi_pair.proofs.Vocabulary.{sym, ap, ap₂, subst, ◌∙◌, ◌⊎�
 use Rattle.osi_pair.proofs.Vocabulary.{found_how, feeding, telling, CallsInRoom, used_in, told_in, carried_in, append-nil, append_assoc}
 use Rattle.osi_pair.proofs.Vocabulary.{length-take, map-append, sum_by-cons, flat_map, first_shown, Held, IsPacket, ArePackets, Rows}
 use Rattle.osi_pair.proofs.Vocabulary.{EndReason, NoMemory, Step, Shown, carried, FindsNoMemory, Starves, End, Holding, ends_end as ends}
-use Rattle.osi_pair.proofs.Vocabulary.{EndLine as Line, Crossing, CarriesPiece, CarriesPieces, crossing, TwoEnds, end_at, reachable, Entry}
-use Rattle.osi_pair.proofs.Vocabulary.{shows, reach_after, other, StandsAt, ShowsFirst, end_entries, told_entries, waiting_in, quieted}
-use Rattle.osi_pair.proofs.Vocabulary.{Side}
+use Rattle.osi_pair.proofs.Vocabulary.{EndLine as Line, Crossing, CarriesPiece, CarriesPieces, crossing, TwoEnds, end_at, reachable, shows}
+use Rattle.osi_pair.proofs.Vocabulary.{reach_after, other, StandsAt, ShowsFirst, told_entries, waiting_in, quieted, Side}
 use Rattle.osi_pair.proofs.carry.a_carry_is_deliveries.{CarryLaws, SoFar, piece_laws, pieces_stand}
 use Rattle.osi_pair.proofs.packet.a_packet_is_one_delivery_or_none.{quiet_of}
 use Rattle.osi_pair.proofs.carry.packets_are_taken_in_turn.{GoesOn, still_goes}
@@ -96,19 +95,9 @@ tell_all h (p ∷ rest) is =
           (tell_all mid rest f.others),
     )
 
-pub all_told : (between new : Holding) (first : List (ℕ × Shown)) → ShowsFirst between first new → waiting_in new.end.lines ≡ [] →
-    waiting_in between.end.lines ≡ first
-all_told between new first h quiet = h.shown ∙ ap (λ (w : List (ℕ × Shown)). first ++ w) quiet ∙ append-nil first
-
-pub quieted_is : (between new : Holding) (first : List (ℕ × Shown)) → ShowsFirst between first new → waiting_in new.end.lines ≡ [] →
-    new ≡ record between { end = record between.end { lines = quieted between.end.lines } }
-quieted_is between new first h quiet = grind (arith, quiet_same)
-
 tells_all : (between new : Holding) (first : List (ℕ × Shown)) → ShowsFirst between first new → waiting_in new.end.lines ≡ [] →
     CallsInRoom between (tellings first) new
-tells_all between new first h quiet =
-    subst (λ (x : Holding). CallsInRoom between (tellings first) x) (sym (quieted_is between new first h quiet))
-    (tell_all between first (all_told between new first h quiet))
+tells_all between new first h quiet = grind (arith, tellings, quiet_same, tell_all, append-nil)
 
 used_none : (shown : List (ℕ × Shown)) → flat_map used_in (tellings shown) ≡ []
 unfolding tellings
@@ -142,18 +131,6 @@ pub record IsCarried (s : Side) (old : Crossing) (octets : ℕ) (new : Crossing)
   pub says : new.journal ≡ old.journal ++ told_entries s old.to.end.carrier.ended new.to.end.carrier.ended (flat_map told_in calls)
   pub over : (reason : EndReason) → old.to.end.carrier.ended ≡ Some reason → (new.to ≡ old.to) × (flat_map told_in calls ≡ [])
 
-end_once : (s : Side) (o : Option EndReason) → end_entries s o o ≡ []
-end_once s o = grind arith
-
-pub carried_none_yet : (s : Side) (old new : Crossing) → new ≡ old → IsCarried s old 0 new
-carried_none_yet s old new same = grind (arith, append-nil, end_once)
-
--- the journal entries of both ends
-says_then : (s : Side) (first mid last : List Entry) (xs ys : List (ℕ × Shown)) (o m n : Option EndReason) →
-    mid ≡ first ++ told_entries s o m xs → last ≡ mid ++ told_entries s m n ys → (m ≡ None → o ≡ None) →
-    ((reason : EndReason) → m ≡ Some reason → (n ≡ m) × (ys ≡ [])) → last ≡ first ++ told_entries s o n (xs ++ ys)
-says_then s first mid last xs ys o m n h k alive over = grind (arith, append-nil, append_assoc, map-append)
-
 alive_by : (o m : Option EndReason) → ((reason : EndReason) → o ≡ Some reason → m ≡ o) → m ≡ None → o ≡ None
 alive_by o m f e = grind arith
 
@@ -175,10 +152,7 @@ carried_then s old mid new n m h k =
             end = record old.from.end
                 { carrier = record old.from.end.carrier { outgoing = l } };
           }) (drop-drop m n out);
-      says = says_then s old.journal mid.journal new.journal (flat_map told_in h.calls) (flat_map told_in k.calls) (ended_of old)
-          (ended_of mid) (ended_of new) h.says k.says
-          (alive_by (ended_of old) (ended_of mid) (λ reason over. ap (λ (x : Holding). x.end.carrier.ended) (h.over reason over).0))
-          (λ reason over. (ap (λ (x : Holding). x.end.carrier.ended) (k.over reason over).0, (k.over reason over).1))
+      says = (grind (arith, append-nil, append_assoc, map-append))
           ∙ ap (λ (w : List (ℕ × Shown)). old.journal ++ told_entries s (ended_of old) (ended_of new) w)
           (sym (flat_map-append told_in h.calls k.calls));
       over = λ reason over.
@@ -194,7 +168,7 @@ has_room none h = grind arith
 
 over_told : (old between new : Holding) (first : List (ℕ × Shown)) → between ≡ old → waiting_in old.end.lines ≡ [] →
     ShowsFirst between first new → waiting_in new.end.lines ≡ [] → (new ≡ old) × (first ≡ [])
-over_told old between new first same none h quiet = grind (arith, quieted_is, quiet_same, all_told)
+over_told old between new first same none h quiet = grind (arith, quiet_same, append-nil)
 
 piece_carried : CarryLaws → (f : Side) (q : TwoEnds) (steps : List Step) (most used : ℕ) (new : Crossing) → StandsAt q steps →
     most ≤ reachable f q → CarriesPiece (other f) most (crossing f q) used new → new.to.end.carrier.ended ≢ Some NoMemory →
@@ -239,7 +213,7 @@ quiet_behind f p steps most octets new x = grind (arith, crossed, crossed_twice,
 pub pieces_carried : CarryLaws → (f : Side) (p : TwoEnds) (steps : List Step) (most : ℕ) (pieces : List ℕ) (new : Crossing) →
     StandsAt p steps → most ≤ reachable f p → CarriesPieces (other f) most pieces (crossing f p) new →
     new.to.end.carrier.ended ≢ Some NoMemory → IsCarried (other f) (crossing f p) (sum pieces) new
-pieces_carried laws f p steps most [] new at le c memory = carried_none_yet (other f) (crossing f p) new c
+pieces_carried laws f p steps most [] new at le c memory = grind (arith, append-nil)
 pieces_carried laws f p steps most (used ∷ before) new at le c memory =
     let s = other f in
     let b = c.0 in

@@ -6,20 +6,19 @@ use Rattle.osi_carrier.specs.State as states
 use Rattle.osi_session.specs.Listening.{Input, Move, begun, denied, rests, react}
 use Rattle.osi_session.specs.Listening as inputs
 use Rattle.osi_spdu.specs.Reading.{behind_at, tsdu_at}
-use Rattle.osi_spdu.specs.declared.kinds.Category.TheVariants.{Zero}
 use Rattle.osi_stack.specs.Moving.{noted}
-use Rattle.osi_pair.proofs.Vocabulary.{◌≡◌, ℕ, zero, suc, ◌+◌, ◌≤◌, ◌==◌, ◌⊎◌, inl, inr, Bool, true, false, if◌then◌else◌, List, [], ◌∷◌}
-use Rattle.osi_pair.proofs.Vocabulary.{◌++◌, length, map, nat_lt, Option, Some, None, is_some, IsSome, Result, Ok, Err, refl, sym, ap}
-use Rattle.osi_pair.proofs.Vocabulary.{subst, ◌∙◌, arith, words_show, ◌>>=◌, Next, Placed, next_at, unit_at, continued, category_of}
-use Rattle.osi_pair.proofs.Vocabulary.{Category, SpduFault, EndLine as Line, eqb-true, eq-eqb, length-append, length-map, Held, IsPacket}
-use Rattle.osi_pair.proofs.Vocabulary.{Value, never, was_given, place_at, Happening, tsdu, closed, RiseFrom, Rows, value_at, Connection}
+use Rattle.osi_pair.proofs.Vocabulary.{◌≡◌, ℕ, zero, suc, ◌+◌, ◌≤◌, ◌⊎◌, inl, inr, Bool, true, false, if◌then◌else◌, List, [], ◌∷◌, ◌++◌}
+use Rattle.osi_pair.proofs.Vocabulary.{length, map, nat_lt, Option, Some, None, is_some, IsSome, Result, Ok, Err, refl, sym, ap, subst, ◌∙◌}
+use Rattle.osi_pair.proofs.Vocabulary.{arith, words_show, ◌>>=◌, Next, Placed, next_at, unit_at, continued, category_of, Category}
+use Rattle.osi_pair.proofs.Vocabulary.{SpduFault, EndLine as Line, eqb-true, eq-eqb, length-append, length-map, Held, IsPacket, Value}
+use Rattle.osi_pair.proofs.Vocabulary.{never, was_given, place_at, Happening, tsdu, closed, RiseFrom, Rows, value_at, Connection}
 use Rattle.osi_pair.proofs.Vocabulary.{State as Carrier, NoMemory, put_other, put_rise, reference_of, Both, Between, AreBetween, side}
 use Rattle.osi_pair.proofs.Vocabulary.{progress_of, Progress, awaiting, in_use, shutting, Terms, Tables, said_at, said_if_read, Words}
-use Rattle.osi_pair.proofs.Vocabulary.{Listener, came, came_as, shows_loss, is_wait_transport, respond_fault, Shown, Units, after_packet}
-use Rattle.osi_pair.proofs.Vocabulary.{concludes, hears, hears_first, hears_next, hears_times, all_lost, opens, starves, with_carrier}
-use Rattle.osi_pair.proofs.Vocabulary.{with_events, RunsOut, Starves, kept_at, told_all, line_by, to_session, by_line, needs_memory, End}
-use Rattle.osi_pair.proofs.Vocabulary.{never_starved, hears_keep, TwoEnds, end_at, carriers_of, Stands, waiting_in, Side, Left, Right}
-use Rattle.osi_pair.proofs.Vocabulary.{told_opened as opened, told_refused as refused, put_row as put, SessionState as State}
+use Rattle.osi_pair.proofs.Vocabulary.{Listener, came, came_as, is_wait_transport, respond_fault, Shown, Units, after_packet, concludes}
+use Rattle.osi_pair.proofs.Vocabulary.{hears, hears_first, hears_next, all_lost, opens, with_carrier, with_events, RunsOut, Starves}
+use Rattle.osi_pair.proofs.Vocabulary.{told_all, line_by, to_session, by_line, End, never_starved, hears_keep, TwoEnds, end_at, carriers_of}
+use Rattle.osi_pair.proofs.Vocabulary.{Stands, waiting_in, Side, Left, Right, told_opened as opened, told_refused as refused}
+use Rattle.osi_pair.proofs.Vocabulary.{put_row as put, SessionState as State}
 use Rattle.osi_pair.proofs.packet.a_request_begins_a_session.{begun_waits}
 use Rattle.osi_pair.proofs.turn.what_remains_when_a_unit_was_taken.{terms_at, order_of, was_at, PacketAt}
 use Rattle.osi_pair.proofs.packet.an_end_handles_its_carriers_events.{one_told, lasting}
@@ -48,8 +47,7 @@ few_behind (suc room) at (si ∷ octets) = few_next room (next_at at (si ∷ oct
 few_behind room at octets = grind arith
 
 few_continued : (c : Category) (unit : Placed) → FewIn 17 (continued c unit)
-few_continued Zero unit = grind (arith, few_behind 16 unit.end unit.rest)
-few_continued c unit = grind arith
+few_continued c unit = grind (arith, few_behind)
 
 few_by : (r : Result Placed SpduFault) → FewIn 17 (r >>= λ unit. continued (category_of unit.kind) unit)
 few_by r = grind (arith, few_continued)
@@ -117,14 +115,9 @@ put_same : (n : ℕ) (line : Line) (lines : Rows Line) → value_at n lines ≡ 
 put_same n line [] is = cc
 put_same n line ((r, x) ∷ lines) is = grind (arith, put_same n line lines)
 
-live_then_by : (n q : ℕ) (line : Line) (lines : Rows Line) (live : Rows Connection) (y : Listener) (b : Bool) → (q == n) ≡ b →
-    IsSome (value_at n live) → AreLive lines live → kept_at q (put n line lines) ≡ Some y → shows_loss y.state.phase ≡ true →
-    IsSome (value_at q live)
-live_then_by n q line lines live y b e here all kept shown = grind (arith, eqb-true, eq-eqb, put_other)
-
 live_then : (n : ℕ) (line : Line) (lines : Rows Line) (live : Rows Connection) → IsSome (value_at n live) → AreLive lines live →
     AreLive (put n line lines) live
-live_then n line lines live here all q y kept shown = live_then_by n q line lines live y (q == n) refl here all kept shown
+live_then n line lines live here all q y kept shown = grind (arith, eqb-true, eq-eqb, put_other)
 
 -- what is known of the end when the session receives something
 record Hearing (e : End) (live : Rows Connection) (n : ℕ) : Type 0 where
@@ -145,8 +138,7 @@ moved_few n input e live (Some line) is h shows = line_few line.session refl
         ap (λ (y : Option Listener). put n (line_by line y input) e.lines) f ∙ put_same n line e.lines is in
         concluded_by (by_line n (Some line) input e) live (is_some (by_line n (Some line) input e).carrier.ended)
         (subst (RiseFrom 0) (sym same) h.rise) (subst (λ (l : Rows Line). AreLive l live) (sym same) h.all) h.most
-        (let none : length (waiting_in (by_line n (Some line) input e).lines) ≡ 0 =
-        ap (λ (l : Rows Line). length (waiting_in l)) same ∙ ap length h.quiet in omega arith)
+        (grind arith)
     line_few (Some x) f =
         let there : (by_line n (Some line) input e).lines ≡ put n (line_by line (Some x) input) e.lines =
         ap (λ (y : Option Listener). put n (line_by line y input) e.lines) f in
@@ -156,9 +148,7 @@ moved_few n input e live (Some line) is h shows = line_few line.session refl
         (let many : length (waiting_in (by_line n (Some line) input e).lines) ≡ length (with_reference n (react x input).shown) =
         ap (λ (l : Rows Line). length (waiting_in l)) there
         ∙ ap length (put_waits n (noted x input line) line (react x input) e.lines refl h.quiet is) in
-        let same = with_length n (react x input).shown in
-        let few = shows x in
-        omega arith)
+        grind (arith, with_length))
 
 -- ---- a packet
 
@@ -180,7 +170,6 @@ pub live_lines : (s : Side) (p : TwoEnds) (b : Between) (t : Tables) → Stands 
     AreLive (end_at s p).end.lines (end_at s p).end.carrier.live
 live_lines Left p b t old alive =
     let o = old.order_left alive in
-    let given = old.given in
     all_live Left p.left t o.rising o.sound.known (omega arith) (λ n a c. let l = old.lines n a c in (l.line, l.found, l.is.left))
 live_lines Right p b t old alive =
     let o = old.order_right alive in
@@ -228,8 +217,7 @@ input_of n row h = cc
 -- a requested connection is there
 opens_few : (n : ℕ) (e : End) (live : Rows Connection) (o : Option Line) → value_at n e.lines ≡ o → e.carrier.ended ≡ None →
     Hearing e live n → length (waiting_in (concludes (opens n o e)).lines) ≤ 81
-opens_few n e live None is lasts h = grind (arith, lasting, begun_waits, quiet, length)
-opens_few n e live (Some line) is lasts h = grind (arith, moved_few n inputs.opened e live (Some line) is h opened_shows)
+opens_few n e live o is lasts h = grind (arith, lasting, begun_waits, quiet, moved_few, opened_shows)
 
 heard_few : PacketLaws → (s : Side) (p : TwoEnds) (b : Between) (t : Tables) (packet : List ℕ) (h : Held) → Stands p b t → Lasts s p →
     (pa : PacketAt s p b packet h) → HasInput (reference_of pa.unit) pa.did.row ⊎ (pa.did.row ≡ agrees) →
@@ -244,8 +232,7 @@ heard_few laws s p b t packet h old alive pa (inl x) =
     let here = there_is n e.carrier (ap is_there stood ∙ x.there) in
     let is : after_packet e packet ≡ concludes (to_session n x.input (told_all pa.unit e)) =
     one_told e packet pa.unit x.event f.acts (f.events ∙ x.told) ∙ ap concludes (x.hears_it (told_all pa.unit e)) in
-    subst (λ (y : End). length (waiting_in y.lines) ≤ 81) (sym is)
-    (moved_few n x.input (told_all pa.unit e) e.carrier.live (value_at n e.lines) refl (heard_of s p b t pa.unit n old alive here) x.shows)
+    grind (arith, moved_few, heard_of s p b t pa.unit n old alive here)
 heard_few laws s p b t packet h old alive pa (inr row) =
     let n = reference_of pa.unit in
     let e = (end_at s p).end in
@@ -285,14 +272,7 @@ one_told_by x new event (suc m) one out e =
     let next : hears_next x ≡ hears event (with_events [] x) = ap (λ (l : List Happening). hears_first l x) one in
     let none : (hears_next x).carrier.events ≡ [] =
     ap (λ (y : End). y.carrier.events) next ∙ (hears_keep event (with_events [] x)).events in
-    let rest : RunsOut (hears_next x) new = record {
-      heard = m;
-      event = out.event;
-      more = out.more;
-      waits = subst (λ (k : ℕ). (hears_times k x).carrier.events ≡ out.event ∷ out.more) e out.waits;
-      needed = subst (λ (k : ℕ). needs_memory out.event (with_events out.more (hears_times k x)) ≡ true) e out.needed;
-      starved = out.starved ∙ ap (λ (k : ℕ). starves (with_events out.more (hears_times k x))) e;
-    } in
+    let rest : RunsOut (hears_next x) new = grind arith in
     never_starved (hears_next x) new none rest
 
 abbrev ToldAtMostOne : List Happening → Type 0

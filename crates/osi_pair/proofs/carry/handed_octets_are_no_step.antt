@@ -2,10 +2,9 @@
 -- For carries.
 use Rattle.osi_pair.proofs.Vocabulary.{◌≡◌, ℕ, ◌≤◌, Bool, true, false, List, ◌++◌, length, take, Option, None, is_some, option_map, sym, ap}
 use Rattle.osi_pair.proofs.Vocabulary.{subst, ◌∙◌, arith, ◌<◌, length-take, Held, Between, Both, AreBetween, Same, side, with_side}
-use Rattle.osi_pair.proofs.Vocabulary.{arriving, reach_of, within_reach, under_way, handed_over, is_cut, progress_of, Terms, Step, Seat}
-use Rattle.osi_pair.proofs.Vocabulary.{Tables, run, start, carried, End, Holding, TwoEnds, end_at, with_end, reachable, within, reach_after}
-use Rattle.osi_pair.proofs.Vocabulary.{other, is_caller, carriers_of, IsSeated, IsInOrder, terms_in, Stands, StandsAt, HasJoined, HasLine}
-use Rattle.osi_pair.proofs.Vocabulary.{Reach, Side, Left, Right}
+use Rattle.osi_pair.proofs.Vocabulary.{arriving, under_way, handed_over, progress_of, Terms, Step, Seat, Tables, run, start, carried}
+use Rattle.osi_pair.proofs.Vocabulary.{Holding, TwoEnds, end_at, with_end, reachable, reach_after, other, is_caller, carriers_of, IsSeated}
+use Rattle.osi_pair.proofs.Vocabulary.{terms_in, Stands, StandsAt, HasJoined, HasLine, Reach, Side, Left, Right}
 use Rattle.osi_pair.proofs.turn.what_remains_when_a_unit_was_taken.{terms_at}
 use Rattle.osi_pair.proofs.flight.what_is_in_flight_when_an_end_acts.{way_same}
 use Rattle.osi_pair.proofs.flight.whether_something_is_cut_off.{Lasts}
@@ -56,30 +55,15 @@ seat_sent n k h seat i = grind arith
 seat_held : (n : ℕ) (h : Holding) (held : Held) (seat : Seat) → IsSeated n h seat → IsSeated n (record h { held = held }) seat
 seat_held n h held seat i = grind arith
 
-order_sent : (k : ℕ) (e : End) → IsInOrder e → IsInOrder (carried k e)
-order_sent k e o = search
-
 -- ---- how far octets reach
-
-count_left : (o : Option Reach) (octets : List ℕ) →
-    length (within_reach (reach_of true (reach_in o)) octets) ≡ within o Left (length octets)
-count_left o octets = grind (arith, length-take)
-
-count_right : (o : Option Reach) (octets : List ℕ) →
-    length (within_reach (reach_of false (reach_in o)) octets) ≡ within o Right (length octets)
-count_right o octets = grind (arith, length-take)
 
 -- what arrives is what can be carried
 pub arriving_count : (f : Side) (p : TwoEnds) → length (arriving (is_caller f) (carriers_of p)) ≡ reachable f p
-arriving_count Left p = count_left p.reach p.left.end.carrier.outgoing
-arriving_count Right p = count_right p.reach p.right.end.carrier.outgoing
+arriving_count Left p = grind (arith, length-take)
+arriving_count Right p = grind (arith, length-take)
 
 still_reach : (f : Side) (k : ℕ) (o : Option Reach) → is_some (reach_after f k o) ≡ is_some o
 still_reach f k o = grind arith
-
-handed_cut : (f s : Side) (k : ℕ) (h : Held) (p : TwoEnds) → is_cut (is_caller s) (carriers_of (handed f k h p)) ≡ false →
-    is_cut (is_caller s) (carriers_of p) ≡ false
-handed_cut f s k h p e = grind arith
 
 -- ---- two ends
 
@@ -115,12 +99,11 @@ handed_left law p b t k h old le more =
         left = seat_sent n k p.left was.line.own was.is.left;
         right = seat_held n p.right h was.line.peer was.is.right;
         rightward = way_same _ _ _ _ _ _ (HasJoined n p.right) (HasJoined n new.right) _ _ _ _ (λ e. e)
-            (ap progress_of (same.stays false n)) (handed_cut Left Left k h p) (λ x held. held) (going n) was.is.rightward;
+            (ap progress_of (same.stays false n)) (grind arith) (λ x held. held) (going n) was.is.rightward;
         leftward = way_same _ _ _ _ _ _ (HasJoined n p.left) (HasJoined n new.left) _ _ _ _ (λ e. e) (ap progress_of (same.stays true n))
-            (handed_cut Left Right k h p) (λ x held. held) (coming n) was.is.leftward;
+            (grind arith) (λ x held. held) (coming n) was.is.leftward;
       };
     } in
-    let order : (e : End) → IsInOrder e → IsInOrder (carried k e) = λ e. order_sent k e in
     let stands : Stands new same.now t = grind arith in
     record { now = same.now; stands = stands }
 
@@ -152,12 +135,11 @@ handed_right law p b t k h old le more =
         left = seat_held n p.left h was.line.own was.is.left;
         right = seat_sent n k p.right was.line.peer was.is.right;
         rightward = way_same _ _ _ _ _ _ (HasJoined n p.right) (HasJoined n new.right) _ _ _ _ (λ e. e)
-            (ap progress_of (same.stays false n)) (handed_cut Right Left k h p) (λ x held. held) (going n) was.is.rightward;
+            (ap progress_of (same.stays false n)) (grind arith) (λ x held. held) (going n) was.is.rightward;
         leftward = way_same _ _ _ _ _ _ (HasJoined n p.left) (HasJoined n new.left) _ _ _ _ (λ e. e) (ap progress_of (same.stays true n))
-            (handed_cut Right Right k h p) (λ x held. held) (coming n) was.is.leftward;
+            (grind arith) (λ x held. held) (coming n) was.is.leftward;
       };
     } in
-    let order : (e : End) → IsInOrder e → IsInOrder (carried k e) = λ e. order_sent k e in
     let stands : Stands new same.now t = grind arith in
     record { now = same.now; stands = stands }
 

@@ -1,12 +1,12 @@
 -- Packets that an end takes one after the other, only the last of which may stop it.
 -- For packets and carries.
 use Rattle.osi_machine.specs.Core as machine
-use Rattle.osi_pair.proofs.Vocabulary.{◌≡◌, ℕ, ◌≤◌, ◌==◌, ◌||◌, false, not, List, [], ◌∷◌, ◌++◌, length, Option, None, is_some, refl, sym}
-use Rattle.osi_pair.proofs.Vocabulary.{ap, subst, ◌∙◌, arith, quiet_none, stops_not, append-nil, append_assoc, Held, IsPacket, ArePackets}
-use Rattle.osi_pair.proofs.Vocabulary.{Rows, EndReason, NoMemory, Step, delivers, Tables, end_of, step, run, start, Shown, TakesPackets}
-use Rattle.osi_pair.proofs.Vocabulary.{stops, after_packet, Starves, End, Holding, waits, or_second, TwoEnds, end_at, noted, Entry, side_in}
-use Rattle.osi_pair.proofs.Vocabulary.{terms_in, AreDeliveries, AreArrivals, StandsAt, StandsAtArrivals, waiting_in, Reach, Side, Left}
-use Rattle.osi_pair.proofs.Vocabulary.{Right, reach_after, ends_end as ends, EndLine as Line}
+use Rattle.osi_pair.proofs.Vocabulary.{◌≡◌, ℕ, ◌≤◌, ◌||◌, false, List, [], ◌∷◌, ◌++◌, length, Option, None, is_some, refl, sym, ap, subst}
+use Rattle.osi_pair.proofs.Vocabulary.{◌∙◌, arith, quiet_none, stops_not, append-nil, append_assoc, Held, IsPacket, ArePackets, Rows}
+use Rattle.osi_pair.proofs.Vocabulary.{EndReason, NoMemory, Step, delivers, Tables, end_of, step, run, start, TakesPackets, stops}
+use Rattle.osi_pair.proofs.Vocabulary.{after_packet, Starves, End, Holding, waits, or_second, TwoEnds, end_at, side_in, terms_in}
+use Rattle.osi_pair.proofs.Vocabulary.{AreDeliveries, AreArrivals, StandsAt, StandsAtArrivals, waiting_in, Reach, Side, Left, Right}
+use Rattle.osi_pair.proofs.Vocabulary.{reach_after, ends_end as ends, EndLine as Line}
 use Rattle.osi_pair.proofs.ending.a_break_is_the_machines.{run_behind}
 use Rattle.osi_pair.proofs.turn.what_remains_when_a_unit_was_taken.{terms_at}
 use Rattle.osi_pair.proofs.carry.handed_octets_are_no_step.{CarriedLaw, with_held, handed_at}
@@ -73,8 +73,7 @@ taken_laws laws few = record {
 pub still_waits : (lines : Rows Line) → waiting_in lines ≡ [] → waits lines ≡ false
 still_waits [] e = refl
 still_waits ((r, line) ∷ lines) e =
-    ap (λ (w : List Shown). not (length w == 0) || waits lines) (none_first (λ shown. (r, shown)) line.waiting (waiting_in lines) e)
-    ∙ still_waits lines (none_second (λ shown. (r, shown)) line.waiting (waiting_in lines) e)
+    grind (arith, none_first, none_second, still_waits lines (none_second (λ shown. (r, shown)) line.waiting (waiting_in lines) e))
 
 -- an end that does not stop lasts, and nothing is pending
 pub stops_quiet : (e : End) → stops e ≡ false → waiting_in e.lines ≡ []
@@ -83,13 +82,10 @@ stops_quiet e h = none_waits e.lines (quiet_none e.lines (or_second (is_some e.c
 pub goes_on : (e : End) → e.carrier.ended ≡ None → waiting_in e.lines ≡ [] → stops e ≡ false
 goes_on e lasts quiet = ap (λ (o : Option EndReason). is_some o || waits e.lines) lasts ∙ still_waits e.lines quiet
 
-noted_none : (p : TwoEnds) → noted [] p ≡ p
-noted_none p = ap (λ (j : List Entry). record p { journal = j }) (append-nil p.journal)
-
 -- if there is no indication and the end lasts
 pub shown_plain : (s : Side) (e : End) (h : Held) (p : TwoEnds) → e.carrier.ended ≡ None → waiting_in e.lines ≡ [] →
     shown_pair s e h p ≡ with_holding s e h p
-shown_plain s e h p lasts quiet = grind (arith, with_holding, noted_none, quiet_same)
+shown_plain s e h p lasts quiet = grind (arith, with_holding, append-nil, quiet_same)
 
 pub shown_again : (s : Side) (e a : End) (h g : Held) (p : TwoEnds) → shown_pair s e h (with_holding s a g p) ≡ shown_pair s e h p
 shown_again s e a h g p = grind arith
@@ -121,8 +117,7 @@ pub alive_deliveries : (s : Side) (p : TwoEnds) (steps more : List Step) → Sta
     AreArrivals (side_in s) more → AreDeliveries (side_in s) more
 alive_deliveries s p steps more at alive are =
     let first = start (terms_in (terms_at p)) in
-    arrivals_alive (side_in s) (run first steps) more are
-    (ap (end_of (side_in s)) (sym (run_behind first steps more)) ∙ lasting_in s p at.now (run first (steps ++ more)) at.stands alive)
+    grind (arith, arrivals_alive, run_behind first steps more, lasting_in s p at.now (run first (steps ++ more)) at.stands alive)
 
 deliveries_then : (who : machine.Side) (xs ys : List Step) → AreDeliveries who xs → AreArrivals who ys → AreArrivals who (xs ++ ys)
 deliveries_then who (delivers taker r keep ∷ xs) ys are more = (are.0, deliveries_then who xs ys are.1 more)
@@ -151,10 +146,7 @@ pub still_goes : (s : Side) (p : TwoEnds) (steps : List Step) (e : End) (h : Hel
 still_goes s p steps e h quiet x =
     let at : StandsAt (with_holding s e h p) (steps ++ x.more) =
     subst (λ (q : TwoEnds). StandsAt q (steps ++ x.more)) (shown_plain s e h p (stops_not e quiet) (stops_quiet e quiet)) x.stands in
-    let here : end_at s (with_holding s e h p) ≡ record { end = e; held = h } = holding_here s e h p in
-    let are = alive_deliveries s (with_holding s e h p) steps x.more at
-    (ap (λ (y : Holding). y.end.carrier.ended) here ∙ stops_not e quiet) x.are in
-    grind arith
+    search (arith, with_holding, holding_here, alive_deliveries, stops_not)
 
 -- what comes after it
 pub behind : (s : Side) (p : TwoEnds) (steps : List Step) (e : End) (g : Held) (new : End) (h : Held) → (x : GoesOn s p steps e g) →

@@ -4,16 +4,15 @@ use Rattle.osi_carrier.specs.Packets as carriers
 use Rattle.osi_carrier.specs.State as states
 use Rattle.osi_stack.specs.Feeding.{Goes}
 use Rattle.osi_pair.proofs.Vocabulary.{◌≡◌, ℕ, zero, suc, ◌+◌, ◌-◌, ◌≤◌, ◌⊎◌, inl, inr, Bool, true, false, List, [], ◌∷◌, ◌++◌, length}
-use Rattle.osi_pair.proofs.Vocabulary.{take, drop, Option, Some, None, is_some, refl, sym, ap, subst, ◌∙◌, if◌then◌else◌, arith, found_how}
-use Rattle.osi_pair.proofs.Vocabulary.{drop-nil, append-nil, length-append, length-take, length-drop, Held, IsPacket, IsFaultOf, ArePackets}
-use Rattle.osi_pair.proofs.Vocabulary.{offset_of, TpktFault, State, Rows, EndReason, NoMemory, Both, Between, AreBetween, side, Terms, Step}
-use Rattle.osi_pair.proofs.Vocabulary.{run, start, Shown, carried, TakesPackets, stops, uses_all, RunsDry, StopsBehind, Refuses}
-use Rattle.osi_pair.proofs.Vocabulary.{FindsNoMemory, attends, with_carrier, Starves, End, Holding, waits, starved_over, Crossing}
-use Rattle.osi_pair.proofs.Vocabulary.{CarriesPiece, crossing, TwoEnds, end_at, reachable, Entry, within, reach_after, other, terms_in}
-use Rattle.osi_pair.proofs.Vocabulary.{carriers_of, StandsAt, StandsAtArrivals, waiting_in, quieted, told_entries, ShowsFirst, Reach, Side}
-use Rattle.osi_pair.proofs.Vocabulary.{Left, Right, ends_end as ends, EndLine as Line}
+use Rattle.osi_pair.proofs.Vocabulary.{take, drop, Option, Some, None, is_some, refl, sym, ap, subst, ◌∙◌, arith, found_how, drop-nil}
+use Rattle.osi_pair.proofs.Vocabulary.{append-nil, length-append, length-take, length-drop, Held, IsPacket, IsFaultOf, ArePackets}
+use Rattle.osi_pair.proofs.Vocabulary.{TpktFault, State, EndReason, NoMemory, Both, Between, AreBetween, side, Terms, Step, run, start}
+use Rattle.osi_pair.proofs.Vocabulary.{Shown, carried, TakesPackets, stops, uses_all, RunsDry, StopsBehind, Refuses, FindsNoMemory, attends}
+use Rattle.osi_pair.proofs.Vocabulary.{with_carrier, Starves, End, Holding, starved_over, Crossing, CarriesPiece, crossing, TwoEnds, end_at}
+use Rattle.osi_pair.proofs.Vocabulary.{reachable, Entry, within, reach_after, other, terms_in, carriers_of, StandsAt, StandsAtArrivals}
+use Rattle.osi_pair.proofs.Vocabulary.{waiting_in, quieted, told_entries, ShowsFirst, Reach, Side, Left, Right, ends_end as ends}
 use Rattle.osi_pair.proofs.turn.what_remains_when_a_unit_was_taken.{terms_at, order_of}
-use Rattle.osi_pair.proofs.carry.handed_octets_are_no_step.{CarriedLaw, handed, HoldsMore, handed_at}
+use Rattle.osi_pair.proofs.carry.handed_octets_are_no_step.{CarriedLaw, handed, handed_at}
 use Rattle.osi_pair.proofs.packet.a_packet_is_one_delivery_or_none.{quiet_of}
 use Rattle.osi_pair.proofs.carry.packets_are_taken_in_turn.{TakenLaws, StandsFew, GoesOn, goes_on, still_goes, behind, packets_stand}
 use Rattle.osi_pair.proofs.session.an_end_with_nothing_pending.{quiet_same}
@@ -85,14 +84,9 @@ packed laws f p steps k octets units mid rest at alive le is taken packets =
     (handed_at laws.carried f p steps k g at le (λ lasts. refl))
     (ap (λ (b : Holding). b.end.carrier.ended) there ∙ alive)
     (subst (λ (b : Holding). TakesPackets b.end units mid) (sym there) taken)
-    (subst (λ (b : Holding). ArePackets units b.held.octets rest.octets) (sym there)
-    (subst (λ (l : List ℕ). ArePackets units ((end_at (other f) p).held.octets ++ l) rest.octets) is packets))
+    (grind arith)
 
 -- ---- what is handed over after it: of that an end that lasts holds nothing
-
-holds_more : (f : Side) (p : TwoEnds) (k j : ℕ) (e : End) (rest h g : Held) →
-    (e.carrier.ended ≡ None → (j ≡ 0) × (h.octets ≡ rest.octets)) → HoldsMore f j h (shown_pair (other f) e rest (handed f k g p))
-holds_more f p k j e rest h g all = grind (arith, append-nil)
 
 handed_twice : (f : Side) (p : TwoEnds) (k j n : ℕ) (e : End) (rest h g : Held) → k + j ≡ n →
     handed f j h (shown_pair (other f) e rest (handed f k g p)) ≡ shown_pair (other f) e h (handed f n h p)
@@ -104,7 +98,7 @@ finished : PieceLaws → (f : Side) (p : TwoEnds) (steps : List Step) (k j used 
 finished laws f p steps k j used e rest h g is le all x =
     let q = shown_pair (other f) e rest (handed f k g p) in
     let left = less_shown f p k e rest g in
-    let at = handed_at laws.carried f q (steps ++ x.stands.more) j h x.stands.stands (omega arith) (holds_more f p k j e rest h g all) in
+    let at = handed_at laws.carried f q (steps ++ x.stands.more) j h x.stands.stands (omega arith) (grind (arith, append-nil)) in
     record {
       stands = record {
         more = x.stands.more;
@@ -134,10 +128,6 @@ starved_ended laws s p steps packet octets behind new at alive is cut (inr st) =
 over_not : {A : Type 0} (o : Option EndReason) → is_some o ≡ true → o ≡ None → A
 over_not o e h = grind arith
 
-no_fault : PieceLaws → (s : Side) (p : TwoEnds) (steps : List Step) (place : ℕ) (fault : TpktFault) → StandsAt p steps → Lasts s p →
-    IsFaultOf place (end_at s p).held.octets fault → ⊥
-no_fault laws s p steps place fault at alive is = grind arith
-
 -- ---- a piece is fed
 
 -- the piece: the first `most` octets that the end has to send
@@ -152,13 +142,8 @@ dry_stands : PieceLaws → (f : Side) (p : TwoEnds) (steps : List Step) (most us
     StandsFew (other f) (handed f used new.held p) steps new.end new.held
 dry_stands laws f p steps most used new at alive le d =
     let long = piece_long f most p le in
-    let all = d.all in
     finished laws f p steps most 0 used new.end new.held new.held (more_held f most p) (omega arith) (omega arith) (λ lasts. (refl, refl))
     (packed laws f p steps most (piece_of f most p) d.units new.end new.held at alive le refl d.taken d.packets)
-
--- the end stopped after a packet: if it lasts, no more was used
-used_by : (e : End) (k n used : ℕ) (b : Bool) → uses_all e ≡ b → k ≤ n → used ≡ (if b then n else k) → k ≤ used
-used_by e k n used b f le is = grind arith
 
 stopped_uses : (e : End) → stops e ≡ true → e.carrier.ended ≡ None → uses_all e ≡ false
 stopped_uses e stopped lasts = grind arith
@@ -170,14 +155,10 @@ behind_stands laws f p steps most used new at alive le d =
     let long = piece_long f most p le in
     let bound = d.bound in
     let k = d.within in
-    let at_least : k ≤ used = used_by new.end k (length (piece_of f most p)) used (uses_all new.end) refl bound d.uses in
-    let at_most : used ≤ length (piece_of f most p) = (grind (arith, d.uses)) in
+    let at_least : k ≤ used = grind arith in
+    let at_most : used ≤ length (piece_of f most p) = grind (arith, d.uses) in
     finished laws f p steps k (used - k) used new.end new.held new.held (more_held f k p) (omega arith) (omega arith)
-    (λ lasts. (
-      (let same : used ≡ k = d.uses
-          ∙ ap (λ (b : Bool). if b then length (piece_of f most p) else k) (stopped_uses new.end d.stopped lasts) in omega arith),
-      refl,
-    ))
+    (grind (arith, stopped_uses))
     (packed laws f p steps k (take k (piece_of f most p)) d.units new.end new.held at alive (omega arith)
     (take_less k most (end_at f p).end.carrier.outgoing (omega arith)) d.taken
     (subst (λ (l : List ℕ). ArePackets d.units ((end_at (other f) p).held.octets ++ take k (piece_of f most p)) l) (sym d.held) d.packets))
@@ -190,10 +171,7 @@ refused_not laws f p steps most used new at alive le d =
     let rest : Held = record g { octets = d.cut.0 } in
     let y = packed laws f p steps most (piece_of f most p) d.units d.before rest at alive le refl d.taken d.cut.1 in
     let z = still_goes (other f) (handed f most g p) steps d.before rest d.quiet y.stands in
-    let place : ℕ = offset_of
-    ((end_at (other f) p).held.offset + (length ((end_at (other f) p).held.octets ++ piece_of f most p) - length d.cut.0)) in
-    no_fault laws (other f) (with_holding (other f) d.before rest (handed f most g p)) (steps ++ z.more) place d.fault z.stands z.lasts
-    (subst (λ (b : Holding). IsFaultOf place b.held.octets d.fault) (sym z.here) d.cut.2)
+    grind arith
 
 -- it ends because memory runs out
 starving : PieceLaws → (f : Side) (p : TwoEnds) (steps : List Step) (used k : ℕ) (new : Holding) (rest : Held) → k ≤ used →
@@ -208,7 +186,6 @@ memory_stands : PieceLaws → (f : Side) (p : TwoEnds) (steps : List Step) (most
     StandsFew (other f) (handed f used new.held p) steps new.end new.held
 memory_stands laws f p steps most used new at alive le d =
     let long = piece_long f most p le in
-    let bound = d.bound in
     let all = d.all in
     let k = d.within in
     let g = more_held f k p in
@@ -264,13 +241,9 @@ record AllShown (old : Holding) (first : List (ℕ × Shown)) (new : Holding) : 
   all : first ≡ waiting_in old.end.lines
   is : new ≡ record old { end = record old.end { lines = quieted old.end.lines } }
 
-none_left : (waits first rest : List (ℕ × Shown)) → waits ≡ first ++ rest → length waits ≤ 81 → (rest ≡ []) ⊎ (length first ≡ 81) →
-    rest ≡ []
-none_left waits first rest is few h = grind (arith, length-append, none_in)
-
 all_shown : (old : Holding) (first : List (ℕ × Shown)) (new : Holding) → ShowsFirst old first new → length (waiting_in old.end.lines) ≤ 81 →
     AllShown old first new
-all_shown old first new s few = grind (arith, none_left, append-nil, quiet_same)
+all_shown old first new s few = grind (arith, length-append, none_in, append-nil, quiet_same)
 
 -- ---- a piece is carried
 
@@ -281,30 +254,6 @@ crossed Right c o = record { left = c.to; right = c.from; reach = o; journal = c
 
 pub crossed_twice : (f : Side) (c : Crossing) (o : Option Reach) → crossing f (crossed f c o) ≡ c
 crossed_twice f c o = grind arith
-
-pub crossed_reach : (f : Side) (c : Crossing) (o : Option Reach) → (crossed f c o).reach ≡ o
-crossed_reach f c o = grind arith
-
-pub crossed_same : (f : Side) (p : TwoEnds) → crossed f (crossing f p) p.reach ≡ p
-crossed_same f p = grind arith
-
--- what was carried, and what the users received
-shown_crossing : (f : Side) (p : TwoEnds) (used : ℕ) (e : End) (h g : Held) →
-    crossed f (record {
-      from = record (end_at f p) { end = carried used (end_at f p).end };
-      to =
-          record { end = record e { lines = quieted e.lines }; held = h };
-      journal =
-          p.journal ++ told_entries (other f) None e.carrier.ended (waiting_in e.lines);
-    }) (reach_after f used p.reach) ≡ shown_pair
-    (other f) e h (handed f used g p)
-shown_crossing f p used e h g = grind arith
-
--- nothing of it was
-over_crossing : (f : Side) (p : TwoEnds) (used : ℕ) →
-    crossed f (record { from = record (end_at f p) { end = carried used (end_at f p).end }; to = end_at (other f) p; journal = p.journal })
-    (reach_after f used p.reach) ≡ handed f used (end_at (other f) p).held p
-over_crossing f p used = grind arith
 
 same_crossing : (c : Crossing) (from to : Holding) (journal : List Entry) → c.from ≡ from → c.to ≡ to → c.journal ≡ journal →
     c ≡ record { from = from; to = to; journal = journal }
@@ -322,14 +271,10 @@ piece_alive laws f p steps most used new at alive le c =
     subst (λ (n : ℕ). Goes (end_at s p) (piece_of f most p) n c.between) fed.uses (fed.feeds.goes (goes_on (end_at s p).end alive quiet)) in
     let x = goes_stands laws f p steps most used c.between at alive le goes in
     let all = all_shown c.between c.first new.to c.shows x.few in
-    let says : new.journal ≡ p.journal ++ told_entries s None c.between.end.carrier.ended (waiting_in c.between.end.lines) =
-    c.says ∙ ap (λ (o : Option EndReason). p.journal ++ told_entries s o new.to.end.carrier.ended c.first) alive
-    ∙ ap (λ (b : Holding). p.journal ++ told_entries s None b.end.carrier.ended c.first) all.is
-    ∙ ap (λ (l : List (ℕ × Shown)). p.journal ++ told_entries s None c.between.end.carrier.ended l) all.all in
+    let says : new.journal ≡ p.journal ++ told_entries s None c.between.end.carrier.ended (waiting_in c.between.end.lines) = grind arith in
     let same = same_crossing new _ _ _ c.taken all.is says in
     subst (λ (q : TwoEnds). StandsAtArrivals s q steps)
-    (sym (ap (λ (d : Crossing). crossed f d (reach_after f used p.reach)) same
-    ∙ shown_crossing f p used c.between.end c.between.held c.between.held)) x.stands
+    (grind arith) x.stands
 
 -- to an end that has ended
 pub piece_over : PieceLaws → (f : Side) (p : TwoEnds) (steps : List Step) (most used : ℕ) (new : Crossing) (why : EndReason) →
@@ -342,17 +287,10 @@ piece_over laws f p steps most used new why at over le c =
     let none = fed.feeds.over (ap is_some over) in
     let all_used : used ≡ most = sym fed.uses ∙ none.0 ∙ (piece_long f most p le) in
     let still : waiting_in c.between.end.lines ≡ [] = ap (λ (b : Holding). waiting_in b.end.lines) none.1 ∙ quiet in
-    let all = all_shown c.between c.first new.to c.shows (let zero_waits : length (waiting_in c.between.end.lines) ≡ 0 =
-    ap length still in omega arith) in
-    let to : new.to ≡ end_at s p =
-    all.is ∙ ap (λ (l : Rows Line). record c.between { end = record c.between.end { lines = l } }) (quiet_same c.between.end.lines still)
-    ∙ none.1 in
-    let says : new.journal ≡ p.journal =
-    c.says ∙ ap (λ (o : Option EndReason). p.journal ++ told_entries s o new.to.end.carrier.ended c.first) over
-    ∙ ap (λ (l : List (ℕ × Shown)). p.journal ++ told_entries s (Some why) new.to.end.carrier.ended l) (all.all ∙ still)
-    ∙ append-nil p.journal in
+    let all = all_shown c.between c.first new.to c.shows (grind arith) in
+    let to : new.to ≡ end_at s p = grind (arith, quiet_same) in
+    let says : new.journal ≡ p.journal = grind (arith, append-nil) in
     subst (λ (q : TwoEnds). StandsAt q steps)
-    (sym (ap (λ (d : Crossing). crossed f d (reach_after f used p.reach)) (same_crossing new _ _ _ c.taken to says)
-    ∙ over_crossing f p used))
+    (grind (arith, same_crossing))
     (handed_at laws.carried f p steps used (end_at s p).held at (omega arith)
     (λ lasts. over_not (end_at s p).end.carrier.ended (ap is_some over) lasts))

@@ -30,11 +30,6 @@ shown_more side old before count mid new after p h e is =
       append_assoc before (shown_entries side h.first) (shows side p.0 p.1 ∷ []),
     )
 
--- a user received all pending indications
-pub shown_all : (side : Side) (old : Holding) (before : List Entry) (count : ℕ) (new : Holding) (after : List Entry) →
-    HasShown side old before count new after → first_shown new.end.lines ≡ None → Tells side old before new after
-shown_all side old before count new after h e = grind (arith, none_waits)
-
 -- the indications, and then the end
 pub says_all : (side : Side) (before said after : List Entry) (first : List (ℕ × Shown)) (was is was_then is_then : Option EndReason) →
     said ≡ before ++ shown_entries side first → after ≡ said ++ end_entries side was is → was ≡ was_then → is ≡ is_then →
@@ -45,8 +40,7 @@ says_all side before said after first was is was_then is_then h k e f = grind (a
 pub shown_end : (side : Side) (old : Holding) (before : List Entry) (count : ℕ) (mid new : Holding) (after : List Entry) →
     HasShown side old before count mid after → first_shown mid.end.lines ≡ None →
     new ≡ record mid { end = record mid.end { lines = without_first mid.end.lines } } → Tells side old before new after
-shown_end side old before count mid new after h e is =
-    grind (arith, none_taken mid.end.lines e, shown_all side old before count mid after h e)
+shown_end side old before count mid new after h e is = grind (arith, none_taken mid.end.lines e, none_waits)
 
 -- one more is given, and noted
 pub shown_then : (side : Side) (old : Holding) (before : List Entry) (count : ℕ) (mid new : Holding) (after said : List Entry)

@@ -3,16 +3,16 @@
 use Rattle.osi_between.specs.Between.{Lost}
 use Rattle.osi_between.specs.Messages as carrier
 use Rattle.osi_pair.proofs.Vocabulary.{◌≡◌, refl, sym, ◌∙◌, ap, subst, ℕ, ◌≤◌, Bool, true, false, if◌then◌else◌, List, [], ◌∷◌, ◌++◌}
-use Rattle.osi_pair.proofs.Vocabulary.{length, map, take, min, Option, Some, None, option_map, is_some, arith, ◌<◌, inl, inr}
-use Rattle.osi_pair.proofs.Vocabulary.{AllByRecursion, Local, place_at, Between, Both, AreBetween, under_way, broken_at, fresh_both}
-use Rattle.osi_pair.proofs.Vocabulary.{fresh_between, is_cut, progress_of, Progress, Terms, terms_of, connection_at, Step, breaks}
-use Rattle.osi_pair.proofs.Vocabulary.{HasNumber, IsTableRun, Seat, Line, Tables, turned, cut_channels, step, run, start, Message, TwoEnds}
-use Rattle.osi_pair.proofs.Vocabulary.{sent_by, after_break, fresh_ends, terms_in, carriers_of, AreAlike, IsSeated, IsLine, Stands}
-use Rattle.osi_pair.proofs.Vocabulary.{StandsAt, StandsAtBreak, AreUnderWay, word_in, HasLine, HasJoined, IsSound, Holding, fresh_end, Left}
-use Rattle.osi_pair.proofs.Vocabulary.{Right, EndReason, cut_there, cut_count, SessionState as State}
+use Rattle.osi_pair.proofs.Vocabulary.{length, take, min, Option, Some, None, option_map, arith, ◌<◌, inl, inr, AllByRecursion, Local}
+use Rattle.osi_pair.proofs.Vocabulary.{place_at, Between, Both, AreBetween, under_way, broken_at, fresh_both, fresh_between, is_cut}
+use Rattle.osi_pair.proofs.Vocabulary.{progress_of, Progress, Terms, terms_of, connection_at, Step, breaks, HasNumber, IsTableRun, Seat}
+use Rattle.osi_pair.proofs.Vocabulary.{Line, Tables, turned, cut_channels, step, run, start, Message, TwoEnds, sent_by, after_break}
+use Rattle.osi_pair.proofs.Vocabulary.{fresh_ends, terms_in, carriers_of, IsSeated, IsLine, Stands, StandsAt, StandsAtBreak, AreUnderWay}
+use Rattle.osi_pair.proofs.Vocabulary.{HasLine, HasJoined, IsSound, Holding, fresh_end, Left, Right, EndReason, cut_there, cut_count}
+use Rattle.osi_pair.proofs.Vocabulary.{SessionState as State}
 use Rattle.osi_pair.proofs.flight.who_receives_what_is_in_flight.{TakeLaws, TakesFrom, takes_from}
 use Rattle.osi_pair.proofs.flight.what_is_in_flight_when_an_end_acts.{Takes, Front, front_at, map_take, alike_take}
-use Rattle.osi_pair.proofs.flight.whether_something_is_cut_off.{IsWithin, outside_not, within_or}
+use Rattle.osi_pair.proofs.flight.whether_something_is_cut_off.{IsWithin}
 
 -- what is proved of two carriers
 pub record BreakLaws : Type 0 where
@@ -51,9 +51,7 @@ left_over : (end : Bool) (n : ℕ) (o : Option EndReason) (g h : Progress) (c : 
 left_over end n o g h c H x ms old new b now gone all same takes w =
     let first = under_way end n new now in
     front_at o o g h c true H x ms (length first) (under_way end n old b) first w takes refl
-    (λ e. subst (λ (y : Progress). AreAlike y (map word_in (take (length first) w.words)) first) (sym same)
-    (subst (λ (l : List carrier.Message). AreAlike g l first) (sym (map_take word_in (length first) w.words))
-    (alike_take g (map word_in w.words) first gone (subst (AreAlike g (map word_in w.words)) all (w.alike e)))))
+    (grind (arith, map_take, alike_take))
 
 break_line : (n k l : ℕ) (p : TwoEnds) (b : Between)
     (lost : Lost (terms_of p.left.end.carrier.local p.right.end.carrier.local) (carriers_of p) (carriers_of (after_break k l p)) b)
@@ -74,12 +72,7 @@ break_line n k l p b lost t rightward leftward h =
       is = λ some few. record {
         line = h.line;
         found = h.found;
-        is = record {
-          left = still_seated n p.left h.line.own (take out.keep h.line.own.channel) h.is.left;
-          right = still_seated n p.right h.line.peer (take back.keep h.line.peer.channel) h.is.right;
-          rightward = out.way;
-          leftward = back.way;
-        };
+        is = search (arith, still_seated);
       };
     }
 
@@ -88,14 +81,10 @@ breaks_at : (n k l : ℕ) (p : TwoEnds) (b : Between)
     (lost : Lost (terms_of p.left.end.carrier.local p.right.end.carrier.local) (carriers_of p) (carriers_of (after_break k l p)) b)
     (t : Tables) → Stands p b t → TakesFrom Left t → TakesFrom Right t → IsWithin n (length t.lines) →
     Breaks n k l p b (length t.lines) lost.now t.lines
-breaks_at n k l p b lost t s rightward leftward (inl out) = grind (arith, outside_not)
+breaks_at n k l p b lost t s rightward leftward (inl out) = grind arith
 breaks_at n k l p b lost t s rightward leftward (inr given) = break_line n k l p b lost t rightward leftward (s.lines n given.0 given.1)
 
 -- ---- a break
-
-one_step : (t : Tables) (left right : ℕ → ℕ) → t.broken ≡ false →
-    run t (breaks left right ∷ []) ≡ record t { broken = true; lines = cut_channels left right 1 t.lines }
-one_step t left right e = ap (λ (b : Bool). if b then t else record t { broken = true; lines = cut_channels left right 1 t.lines }) e
 
 -- two ends match the tables after a break of the machine
 record StandBroken (p : TwoEnds) (t : Tables) : Type 0 where
@@ -112,7 +101,7 @@ break_stands laws p b t k l s run none =
     (ap (option_map (λ r. (r.left, r.right))) none) (omega arith) (omega arith) in
     let at : (n : ℕ) → Breaks n k l p b (length t.lines) lost.now t.lines =
     λ n. breaks_at n k l p b lost t s (takes_from laws.takes Left t run) (takes_from laws.takes Right t run)
-    (within_or n (length t.lines)) in
+    (grind arith) in
     let left : ℕ → ℕ = λ n. (at n).left in
     let right : ℕ → ℕ = λ n. (at n).right in
     let count = cut_count left right 1 t.lines in
@@ -120,7 +109,6 @@ break_stands laws p b t k l s run none =
     HasLine n (after_break k l p) lost.now (record t { broken = true; lines = cut_channels left right 1 t.lines }) = λ n a c.
     let h = (at n).is a (subst (λ (m : ℕ). n ≤ m) count c) in
     record { line = cut_line (left n) (right n) h.line; found = cut_there left right n t.lines h.line h.found; is = h.is } in
-    let given = lost.given true ∙ s.given_then in
     let class = lost.class true ∙ s.class_then in
     let stands : Stands (after_break k l p) lost.now (record t { broken = true; lines = cut_channels left right 1 t.lines }) =
     grind arith in
@@ -128,7 +116,7 @@ break_stands laws p b t k l s run none =
       keep_left = left;
       keep_right = right;
       now = lost.now;
-      stands = subst (Stands (after_break k l p) lost.now) (sym (one_step t left right (s.broken ∙ ap is_some none))) stands;
+      stands = subst (Stands (after_break k l p) lost.now) (sym (grind arith)) stands;
     }
 
 -- ---- at a list of steps
@@ -154,8 +142,7 @@ break_at laws p steps k l s none =
       stands = record {
         numbered = numbered_behind done.keep_left done.keep_right steps s.numbered;
         now = done.now;
-        stands = subst (Stands (after_break k l p) done.now)
-            (sym (run_behind first steps (breaks done.keep_left done.keep_right ∷ []))) done.stands;
+        stands = grind (arith, run_behind);
       };
     }
 

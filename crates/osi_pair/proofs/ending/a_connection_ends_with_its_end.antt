@@ -3,15 +3,15 @@
 use Rattle.osi_between.specs.Messages as between
 use Rattle.osi_machine.specs.Core as machine
 use Rattle.osi_machine.specs.Worlds.{not_yet, gone}
-use Rattle.osi_pair.proofs.Vocabulary.{◌≡◌, refl, sym, ◌∙◌, ap, subst, ℕ, zero, suc, ◌+◌, ◌≤◌, Bool, true, false, if◌then◌else◌, not, List}
-use Rattle.osi_pair.proofs.Vocabulary.{[], ◌∷◌, ◌++◌, length, map, take, nat_lt, Option, Some, None, is_some, arith, messages_front}
-use Rattle.osi_pair.proofs.Vocabulary.{slice_get, IfSome, append-nil, Value, Place, never, was_given, place_at, connection_in, Rows}
-use Rattle.osi_pair.proofs.Vocabulary.{value_at, Connection, State, units_of, Between, Both, is_cut, to_come, under_way, side, last_of}
+use Rattle.osi_pair.proofs.Vocabulary.{◌≡◌, refl, sym, ◌∙◌, ap, ℕ, zero, suc, ◌+◌, ◌≤◌, Bool, true, false, if◌then◌else◌, not, List, []}
+use Rattle.osi_pair.proofs.Vocabulary.{◌∷◌, ◌++◌, length, map, take, nat_lt, Option, Some, None, is_some, arith, messages_front, slice_get}
+use Rattle.osi_pair.proofs.Vocabulary.{IfSome, append-nil, Value, Place, never, was_given, place_at, connection_in, Rows, value_at}
+use Rattle.osi_pair.proofs.Vocabulary.{Connection, State, units_of, Between, Both, is_cut, to_come, under_way, side, last_of}
 use Rattle.osi_pair.proofs.Vocabulary.{messages_after, begun_at, Progress, connection_at, is_given, Seat, Line, awaits, seen_from}
 use Rattle.osi_pair.proofs.Vocabulary.{ends_there, ended_lines, Message, IsInOctets, Listener, Standing, broken as broken_off, react}
-use Rattle.osi_pair.proofs.Vocabulary.{kept_at, Holding, both, AreAlike, transport_in, IsSeated, AreUnderWay, word_in, EndReason}
-use Rattle.osi_pair.proofs.Vocabulary.{SessionState as Session}
-use Rattle.osi_pair.proofs.flight.what_is_in_flight_when_an_end_acts.{Takes, front_takes, as_now, map_take, alike_take}
+use Rattle.osi_pair.proofs.Vocabulary.{kept_at, Holding, transport_in, IsSeated, AreUnderWay, EndReason, SessionState as Session}
+use Rattle.osi_pair.proofs.Vocabulary.{append_assoc, list_any-append}
+use Rattle.osi_pair.proofs.flight.what_is_in_flight_when_an_end_acts.{Takes, as_now, map_take, alike_take}
 use Rattle.osi_pair.proofs.flight.what_is_in_flight_when_an_end_acts as ways
 use Rattle.osi_pair.proofs.ending.all_sessions_are_lost_in_order.{is_over}
 
@@ -25,21 +25,14 @@ ended_seat false keep s = s
 abbrev pub ended_line : ℕ → Line → Line
 ended_line keep l = record l { own = ended_seat (is_given l.own.transport) keep l.own }
 
-line_by : (b : Bool) (keep : ℕ) (l : Line) → is_given l.own.transport ≡ b → ends_there keep l ≡ record l { own = ended_seat b keep l.own }
-line_by b keep l e = grind arith
-
 -- what is asked of a seat that is going to end, by whether its carrier has given the reference
 pub record IsPlaced (n : ℕ) (c : State) (seat : Seat) : Type 0 where
   pub given : is_given seat.transport ≡ not (nat_lt c.given n)
   pub awaiting : seat.transport ≡ not_yet → seat.session ≡ awaits
   pub octets : IfSome seat.session.waiting IsInOctets
 
-given_by : (o : Option Connection) (never_given : Bool) →
-    is_given (transport_in (if never_given then never else was_given o)) ≡ not never_given
-given_by o never_given = grind arith
-
 pub given_place : (n : ℕ) (c : State) → is_given (transport_in (place_at n c)) ≡ not (nat_lt c.given n)
-given_place n c = given_by (value_at n c.live) (nat_lt c.given n)
+given_place n c = grind arith
 
 pub placed_seat : (n : ℕ) (h : Holding) (seat : Seat) → IsSeated n h seat → IsPlaced n h.end.carrier seat
 placed_seat n h seat i = record { given = ap is_given i.transport ∙ given_place n h.end.carrier; awaiting = i.awaiting; octets = i.octets }
@@ -49,10 +42,6 @@ pub record HasEnded (c : State) (new : Holding) : Type 0 where
   pub given : new.end.carrier.given ≡ c.given
   pub live : new.end.carrier.live ≡ []
   pub none : (n : ℕ) → kept_at n new.end.lines ≡ None
-
-place_ended : (n : ℕ) (c : State) (new : Holding) (b : Bool) → HasEnded c new → nat_lt c.given n ≡ b →
-    place_at n new.end.carrier ≡ (if b then never else was_given None)
-place_ended n c new b h e = cc
 
 not_live : (n : ℕ) (live : Rows Connection) → live ≡ [] → is_some (value_at n live) ≡ true → ⊥
 not_live n live none some = grind arith
@@ -67,14 +56,9 @@ still_waiting s = refl
 pub not_of : (b : Bool) (x : Bool) → x ≡ not b → b ≡ not x
 not_of b x e = grind arith
 
-seat_ends_by : (n : ℕ) (c : State) (new : Holding) (seat : Seat) (b : Bool) (keep : ℕ) → is_given seat.transport ≡ b → HasEnded c new →
-    IsPlaced n c seat → IsSeated n new (ended_seat b keep seat)
-seat_ends_by n c new seat true keep e ended s = grind (arith, place_ended, not_of, nat_lt, not_live, not_kept, is_over, still_waiting)
-seat_ends_by n c new seat false keep e ended s = grind arith
-
 pub seat_ends : (n : ℕ) (c : State) (new : Holding) (seat : Seat) (keep : ℕ) → HasEnded c new → IsPlaced n c seat →
     IsSeated n new (ended_seat (is_given seat.transport) keep seat)
-seat_ends n c new seat keep ended s = seat_ends_by n c new seat (is_given seat.transport) keep refl ended s
+seat_ends n c new seat keep ended s = grind (arith, not_of, not_live, not_kept, is_over, still_waiting)
 
 -- ---- all lines
 
@@ -87,11 +71,7 @@ ended_got side keep k (suc i) (x ∷ ls) l e = grind (arith, ended_got side keep
 pub ended_at_line : (side : machine.Side) (keep : ℕ → ℕ) (n : ℕ) (ls : List Line) (l : Line) → connection_at n ls ≡ Some l →
     connection_at n (ended_lines side keep 1 ls) ≡ Some (seen_from side (ended_line (keep n) (seen_from side l)))
 ended_at_line side keep zero ls l e = absurd (cc)
-ended_at_line side keep (suc i) ls l e =
-    ended_got side keep 1 i ls l e
-    ∙ ap (λ (n : ℕ). Some (seen_from side (ends_there (keep n) (seen_from side l)))) (let same : 1 + i ≡ suc i = omega arith in same)
-    ∙ ap (λ (x : Line). Some (seen_from side x))
-    (line_by (is_given (seen_from side l).own.transport) (keep (suc i)) (seen_from side l) refl)
+ended_at_line side keep (suc i) ls l e = grind (arith, ended_got side keep 1 i ls l e)
 
 pub ended_count : (side : machine.Side) (keep : ℕ → ℕ) (k : ℕ) (ls : List Line) → length (ended_lines side keep k ls) ≡ length ls
 ended_count side keep k [] = refl
@@ -137,15 +117,7 @@ pub way_ended : (o : Option EndReason) (g : Progress) (c : Bool) (H : Option (Li
     Takes x seat.channel → Front old new → (given ≡ false → old ≡ new) → AreUnderWay o g c H x kept old → EndsWith o g H x given seat new
 way_ended o g c H x true seat kept more old new parts none takes f same w =
     let k = length new in
-    let y = ways.front_at o o g g c true H x kept k old new w (front_takes x kept more (subst (Takes x) parts takes)) refl
-    (λ e. subst (λ (l : List between.Message). AreAlike g l new) (sym (map_take word_in k w.words))
-    (alike_take g (map word_in w.words) new f.gone (subst (AreAlike g (map word_in w.words)) f.parts (w.alike e)))) in
-    record {
-      keep = y.keep;
-      way = subst (λ (l : List Message). AreUnderWay o g true H x l new)
-          (sym (ap (take y.keep) parts ∙ take_front y.keep kept more y.fits)) y.way;
-    }
+    let y = ways.front_at o o g g c true H x kept k old new w (grind (arith, append_assoc, list_any-append)) refl
+    (grind (arith, map_take, alike_take)) in
+    grind (arith, take_front)
 way_ended o g c H x false seat kept more old new parts none takes f same w = grind (arith, append-nil, as_now, map)
-
-pub cut_by_end : (end : Bool) (both : Both) → is_some (side end both).state.ended ≡ true → is_cut end both ≡ true
-cut_by_end end both e = grind arith

@@ -4,11 +4,10 @@ use Rattle.osi_machine.specs.Core as machine
 use Rattle.osi_machine.specs.Machine as entries
 use Rattle.osi_stack.specs.State as stack
 use Rattle.osi_pair.specs.Entries.{ends}
-use Rattle.osi_pair.proofs.Vocabulary.{◌≡◌, refl, sym, ◌∙◌, ap, subst, ℕ, true, List, [], ◌∷◌, ◌++◌, Option, Some, None, is_some, arith}
+use Rattle.osi_pair.proofs.Vocabulary.{◌≡◌, refl, sym, ◌∙◌, subst, ℕ, true, List, [], ◌∷◌, ◌++◌, Option, Some, None, is_some, arith}
 use Rattle.osi_pair.proofs.Vocabulary.{AllByRecursion, Rows, EndReason, Broken, IsTableRun, told_of_break, Step, HasNumber, Tables, end_of}
-use Rattle.osi_pair.proofs.Vocabulary.{after_end, run, start, Shown, Holding, terms_of, Terms, TwoEnds, end_at, Entry, HearsOfBreak}
-use Rattle.osi_pair.proofs.Vocabulary.{TellsBreak, terms_in, Stands, StandsAt, StandsAtEnd, StandsAtTold, side_in, shown_entries, Side}
-use Rattle.osi_pair.proofs.Vocabulary.{other}
+use Rattle.osi_pair.proofs.Vocabulary.{after_end, run, start, Shown, Holding, terms_of, TwoEnds, end_at, Entry, HearsOfBreak, TellsBreak}
+use Rattle.osi_pair.proofs.Vocabulary.{terms_in, StandsAt, StandsAtEnd, StandsAtTold, side_in, shown_entries, Side, other}
 use Rattle.osi_pair.proofs.ending.a_break_is_the_machines.{run_behind}
 use Rattle.osi_pair.proofs.flight.who_receives_what_is_in_flight.{TakeLaws, takes_from}
 use Rattle.osi_pair.proofs.ending.an_end_of_an_end_is_the_machines.{ended_holding, ended_pair, may_end, shown_then, ended_stands}
@@ -27,18 +26,6 @@ told_end h lines = ended_holding Broken h.end.carrier lines h.held
 
 abbrev told_pair : Side → TwoEnds → Rows stack.Line → List Entry → TwoEnds
 told_pair s p lines journal = ended_pair s Broken (end_at s p).end.carrier lines (end_at s p).held journal p
-
-told_here : (s : Side) (p : TwoEnds) (lines : Rows stack.Line) (journal : List Entry) →
-    told_end (end_at s p) lines ≡ end_at s (told_pair s p lines journal)
-told_here s p lines journal = grind arith
-
-told_there : (s : Side) (p : TwoEnds) (lines : Rows stack.Line) (journal : List Entry) →
-    end_at (other s) p ≡ end_at (other s) (told_pair s p lines journal)
-told_there s p lines journal = grind arith
-
-told_rest : (s : Side) (p : TwoEnds) (lines : Rows stack.Line) (journal : List Entry) →
-    (p.reach ≡ (told_pair s p lines journal).reach) × (journal ≡ (told_pair s p lines journal).journal)
-told_rest s p lines journal = grind arith
 
 -- ---- at a list of steps
 
@@ -65,10 +52,7 @@ ended_at laws s p steps lines first journal at broken none told said =
       stands = record {
         numbered = numbered_told (side_in s) done.keep steps at.numbered;
         now = at.now;
-        stands = subst (λ (k : Terms). Stands (told_pair s p lines journal) at.now
-            (run (start (terms_in k)) (steps ++ entries.ends (side_in s) told_of_break done.keep ∷ []))) (sym (grind arith))
-            (subst (Stands (told_pair s p lines journal) at.now)
-            (sym (run_behind begin steps (entries.ends (side_in s) told_of_break done.keep ∷ []) ∙ is)) done.stands);
+        stands = grind (arith, run_behind);
       };
     }
 
@@ -88,21 +72,12 @@ heard who old new before after none h = grind arith
 told_by : TakeLaws → (who : Side) (old new : TwoEnds) (steps : List Step) (o : Option EndReason) → (end_at who old).end.carrier.ended ≡ o →
     StandsAt old steps → is_some old.reach ≡ true → TellsBreak who old new → StandsAtTold o who new steps
 told_by laws who old new steps (Some reason) e s broken h =
-    let same = h.told.over (ap is_some e) in
-    subst (λ (x : TwoEnds). StandsAt x steps) (sym (grind (arith, same.0, h.other, h.reach, same.1))) s
+    subst (λ (x : TwoEnds). StandsAt x steps) (sym (grind (arith, h.other, h.reach))) s
 told_by laws who old new steps None e s broken h =
     let now = heard who (end_at who old) (end_at who new) old.journal new.journal e (h.told.hears e) in
     let lines = (end_at who new).end.lines in
-    let rest = told_rest who old lines new.journal in
     subst (λ (x : TwoEnds). StandsAtEnd who x steps)
-    (sym (grind (
-      arith,
-      now.is ∙ told_here who old lines new.journal,
-      h.other ∙ told_there who old lines new.journal,
-      h.reach
-          ∙ rest.0,
-      rest.1,
-    )))
+    (sym (grind (arith, now.is, h.other)))
     (ended_at laws who old steps lines now.first new.journal s broken e now.told now.says)
 
 pub told_at : TakeLaws → (who : Side) (old new : TwoEnds) (steps : List Step) → StandsAt old steps → is_some old.reach ≡ true →

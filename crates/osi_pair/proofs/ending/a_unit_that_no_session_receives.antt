@@ -1,11 +1,11 @@
 -- An end may end when its carrier acted for a unit that no session received.
 -- For breaks and ends.
+use Rattle.std.proofs.Common.{arith}
 use Rattle.osi_machine.specs.Worlds as worlds
 use Rattle.osi_pair.proofs.Vocabulary.{◌≡◌, ◌≢◌, ℕ, ◌≤◌, ◌==◌, Bool, true, false, List, [], length, Some, None, IfSome, option_map, refl}
-use Rattle.osi_pair.proofs.Vocabulary.{sym, ap, subst, ◌∙◌, ◌<◌, eqb-true, eq-eqb, append-nil, Held, place_at, State, reference_of, Between}
-use Rattle.osi_pair.proofs.Vocabulary.{is_cut, under_way, last_of, progress_of, is_given, Seat, Line, Tables, awaits, seen_from, IsInOctets}
-use Rattle.osi_pair.proofs.Vocabulary.{End, TwoEnds, end_at, side_in, is_caller, transport_in, class_in, carriers_of, HasLine, Stands}
-use Rattle.osi_pair.proofs.Vocabulary.{HasJoined, Side, other}
+use Rattle.osi_pair.proofs.Vocabulary.{sym, ap, subst, ◌∙◌, ◌<◌, eqb-true, eq-eqb, append-nil, Held, place_at, reference_of, Between}
+use Rattle.osi_pair.proofs.Vocabulary.{last_of, progress_of, is_given, Seat, Line, Tables, awaits, seen_from, IsInOctets, End, TwoEnds}
+use Rattle.osi_pair.proofs.Vocabulary.{end_at, side_in, is_caller, transport_in, class_in, HasLine, Stands, Side, other}
 use Rattle.osi_pair.proofs.flight.who_receives_what_is_in_flight.{TakesFrom}
 use Rattle.osi_pair.proofs.ending.an_end_of_an_end_is_the_machines.{EndingLine, MayEnd, whole_line}
 use Rattle.osi_pair.proofs.ending.a_connection_ends_with_its_end.{IsPlaced, given_place}
@@ -25,14 +25,7 @@ pub placed_then : (s : Side) (p : TwoEnds) (b : Between) (e : End) (h : Held) (n
     e.carrier.ended ≡ None → is_given seat.transport ≡ is_given (transport_by (after d.row)) →
     (seat.transport ≡ worlds.not_yet → seat.session ≡ awaits) → IfSome seat.session.waiting IsInOctets → IsPlaced n e.carrier seat
 placed_then s p b e h n seat d lasts same awaiting octets =
-    assumption (
-      same ∙ ap is_given
-          (sym (transport_at (place_at n e.carrier) (after d.row)
-          (ap (λ (c : State). progress_of (place_at n c)) (sym (last_is s p b e h n d lasts)) ∙ d.stands)))
-          ∙ given_place n e.carrier,
-      awaiting,
-      octets,
-    )
+    grind (arith, transport_at, after d.row, last_is s p b e h n d lasts, given_place n e.carrier)
 
 -- all others
 other_ending : (s : Side) (p : TwoEnds) (b : Between) (t u : Tables) (e : End) (h : Held) (n q : ℕ) (line : Line) → Stands p b t →
@@ -50,12 +43,7 @@ other_ending s p b t u e h n q line old alive d lasts apart a has =
       octets = i.here.octets;
     }) i.there
     (out_there s p d.now e h q (progress_of (place_at q (last_of (is_caller (other s)) d.now))) l.peer.session.state l.own.channel
-    (way_same (end_at (other s) p).end.carrier.ended (end_at (other s) p).end.carrier.ended _ _ (is_cut (is_caller s) (carriers_of p))
-    (is_cut (is_caller s) (carriers_of (with_holding s e h p)))
-    (HasJoined q (end_at (other s) p)) (HasJoined q (end_at (other s) p)) l.peer.session.state l.own.channel
-    (under_way (is_caller s) q (carriers_of p) b) (under_way (is_caller s) q (carriers_of (with_holding s e h p)) d.now)
-    (λ x. x) (ap progress_of (d.there q)) (end_out s (record { end = e; held = h }) p alive) (λ x held. held)
-    (d.others q apart (is_caller s)) i.out))
+    (grind (arith, way_same, end_out, with_holding s e h p, d.there q, d.others q apart (is_caller s))))
 
 ending_by : (s : Side) (p : TwoEnds) (b : Between) (t u : Tables) (e : End) (h : Held) (n q : ℕ) (line : Line) (same : Bool) →
     (q == n) ≡ same → Stands p b t → Lasts s p → (d : DidAt s p b e h n) → e.carrier.ended ≡ None → LinesAfter s n line t u →

@@ -4,27 +4,23 @@ use Rattle.osi_machine.specs.Machine as entries
 use Rattle.osi_session.specs.Listening as words
 use Rattle.osi_stack.specs.State as stack
 use Rattle.osi_pair.proofs.Vocabulary.{◌≡◌, ◌≢◌, refl, sym, ◌∙◌, ap, subst, ℕ, zero, suc, ◌+◌, ◌<◌, ◌≤◌, ◌==◌, Bool, true, false}
-use Rattle.osi_pair.proofs.Vocabulary.{if◌then◌else◌, List, [], ◌∷◌, ◌++◌, length, map, nat_lt, nat_le, Option, Some, None, is_some, IsSome}
-use Rattle.osi_pair.proofs.Vocabulary.{inl, inr, ◌⊎◌, arith, slice_get, eqb-true, eq-eqb, nat_tests, append-nil, length-map, map-append}
+use Rattle.osi_pair.proofs.Vocabulary.{if◌then◌else◌, List, [], ◌∷◌, ◌++◌, length, map, nat_lt, nat_le, Option, Some, None, IsSome, inl}
+use Rattle.osi_pair.proofs.Vocabulary.{inr, ◌⊎◌, arith, slice_get, eqb-true, eq-eqb, nat_tests, append-nil, length-map, map-append}
 use Rattle.osi_pair.proofs.Vocabulary.{length-append, never, was_given, place_at, RiseFrom, AreUpTo, Rows, value_at, without, Connection}
 use Rattle.osi_pair.proofs.Vocabulary.{absent, beyond, without_other, side, connection_at, shown_at, Seat, Line, Tables, awaits, seen_from}
 use Rattle.osi_pair.proofs.Vocabulary.{shown_in_order, Listener, Standing, broken as broken_off, react, is_ended, shows_loss, Shown, Lost}
-use Rattle.osi_pair.proofs.Vocabulary.{Phase, excluded, shown_at_loss, all_lost, kept_at, Holding, session_in, session_at, are_lost, Entry}
-use Rattle.osi_pair.proofs.Vocabulary.{entry_in, side_in, is_parting, transport_in, IsSeated, IsInOrder, joining, waiting_in, quieted}
-use Rattle.osi_pair.proofs.Vocabulary.{shown_entries, Side}
+use Rattle.osi_pair.proofs.Vocabulary.{shown_at_loss, all_lost, kept_at, Holding, session_in, are_lost, Entry, entry_in, side_in}
+use Rattle.osi_pair.proofs.Vocabulary.{is_parting, transport_in, IsSeated, IsInOrder, joining, waiting_in, quieted, shown_entries, Side}
 
 -- ---- a session that is lost
 
-unshown : (p : Phase) → shows_loss p ≡ false → (if shows_loss p then Lost ∷ [] else []) ≡ []
-unshown p h = ap (λ (b : Bool). if◌then◌else◌ {A = List Shown} b (Lost ∷ []) []) h
-
 pub ended_shows : (s : Standing) → is_ended s.state.phase ≡ true → (react s broken_off).shown ≡ []
 unfolding react
-ended_shows s h = unshown s.state.phase (excluded is_ended shows_loss refl s.state.phase h)
+ended_shows s h = grind arith
 
 pub quiet_shows : (s : Standing) → shows_loss s.state.phase ≡ false → (react s broken_off).shown ≡ []
 unfolding react
-quiet_shows s h = unshown s.state.phase h
+quiet_shows s h = grind arith
 
 awaits_shows : (react awaits broken_off).shown ≡ []
 unfolding react
@@ -36,7 +32,7 @@ few b = grind arith
 -- the session of an end indicates as much
 pub quiet_loss : (l : Listener) → shows_loss l.state.phase ≡ false → (words.react l words.broken).shown ≡ []
 unfolding words.react
-quiet_loss l h = unshown l.state.phase h
+quiet_loss l h = grind arith
 
 pub shows_one : (l : Listener) → length (words.react l words.broken).shown ≤ 1
 unfolding words.react
@@ -78,10 +74,8 @@ waiting_lost ((r, line) ∷ lines) e =
       arith,
       map_nil,
       front_nil,
-      map,
       behind_nil,
-      waiting_lost lines
-          (behind_nil (map (λ shown. (r, shown)) line.waiting) (waiting_in lines) e),
+      waiting_lost lines (behind_nil (map (λ shown. (r, shown)) line.waiting) (waiting_in lines) e),
     )
 
 -- ---- at most one for each live connection
@@ -117,20 +111,11 @@ few_lost_by : (r : ℕ) (line : stack.Line) (lines : Rows stack.Line) (live : Ro
     length (lost_of r line ++ lost_in lines) ≤ length live
 few_lost_by r line lines live None b e is rise all more = grind (arith, still_live r line lines live rise all)
 few_lost_by r line lines live (Some s) false e is rise all more =
-    let rest = more live (still_live r line lines live rise all) in
-    let none : lost_of r line ≡ [] = ap (λ (o : Option Listener). map (λ shown. (r, shown)) (shown_at_loss o)) e
-    ∙ ap (map (λ shown. (r, shown))) (quiet_loss s (is s refl)) in
-    let same : length (lost_of r line ++ lost_in lines) ≡ length (lost_in lines) =
-    ap (λ (l : List (ℕ × Shown)). length (l ++ lost_in lines)) none in
-    omega arith
+    grind (arith, still_live r line lines live rise all, quiet_loss s (is s refl))
 few_lost_by r line lines live (Some s) true e is rise all more =
     let fewer = without_fewer r live (all r s (at_here r line lines ∙ e) (is s refl)) in
     let rest = more (without r live) (live_without r lines live rise (still_live r line lines live rise all)) in
-    let long = length-append (lost_of r line) (lost_in lines) in
-    let one : length (lost_of r line) ≡ length (words.react s words.broken).shown =
-    length-map (shown_at_loss line.session) (λ shown. (r, shown)) ∙ ap (λ (o : Option Listener). length (shown_at_loss o)) e in
-    let most = shows_one s in
-    omega arith
+    grind (arith, length-append, length-map, shows_one)
 
 phase_shows : (o : Option Listener) → (b : Bool) × ((s : Listener) → o ≡ Some s → shows_loss s.state.phase ≡ b)
 phase_shows None = (false, λ s e. cc)
@@ -224,8 +209,7 @@ ordered side m (l ∷ ls) ((r, line) ∷ lines) rise up all = ordered_by side m 
 kept_shows : (o : Option Listener) (joined : Option (List ℕ)) (seat : Seat) →
     ((s : Listener) → o ≡ Some s → s ≡ joining joined seat.session) → is_ended seat.session.state.phase ≡ true →
     (react seat.session broken_off).shown ≡ shown_at_loss o
-kept_shows None joined seat kept over = ended_shows seat.session over
-kept_shows (Some s) joined seat kept over = lost_so joined seat.session ∙ ap (λ (x : Listener). shown_at_loss (Some x)) (sym (kept s refl))
+kept_shows h joined seat kept over = grind (arith, ended_shows, lost_so)
 
 seat_shows_by : (n : ℕ) (h : Holding) (seat : Seat) (never_given : Bool) (o : Option Connection) →
     nat_lt h.end.carrier.given n ≡ never_given → value_at n h.end.carrier.live ≡ o → AreUpTo h.end.carrier.given h.end.lines →
@@ -235,10 +219,7 @@ seat_shows_by n h seat false None e at up s =
     let place : place_at n h.end.carrier ≡ was_given None =
     ap (λ (b : Bool). if b then never else was_given (value_at n h.end.carrier.live)) e ∙ ap was_given at in
     kept_shows (kept_at n h.end.lines) s.joined seat s.kept (s.over_now (ap is_parting (s.transport ∙ ap transport_in place)))
-seat_shows_by n h seat false (Some c) e at up s =
-    let here : session_at n h.end ≡ kept_at n h.end.lines =
-    ap (λ (x : Option Connection). if is_some x then session_in (value_at n h.end.lines) else None) at in
-    lost_so s.joined seat.session ∙ ap shown_at_loss (sym (s.live (ap is_some at)) ∙ here)
+seat_shows_by n h seat false (Some c) e at up s = grind (arith, lost_so)
 
 -- ---- the indications
 
@@ -290,8 +271,7 @@ all_live who h t rise up few all q s kept shown =
     within true e = grind (arith, nat_tests)
     within false e =
         let above : h.end.carrier.given < q = grind (arith, nat_tests) in
-        let no : None ≡ Some s = sym (ap session_in (beyond q h.end.carrier.given h.end.lines up above)) ∙ kept in
-        cc
+        grind (arith, beyond)
 
 slice_within : (ls : List Line) (i : ℕ) (l : Line) → slice_get ls i ≡ Some l → i < length ls
 slice_within (x ∷ ls) (suc i) l e = let more = slice_within ls i l e in omega arith
@@ -302,12 +282,7 @@ all_kept : (who : Side) (h : Holding) (t : Tables) → AreUpTo h.end.carrier.giv
 all_kept who h t up all i l e =
     let less = slice_within t.lines i l e in
     let seat = all (suc i) (omega arith) (omega arith) in
-    let found : Some seat.0 ≡ Some l = sym seat.1 ∙ e in
-    let same : seat.0 ≡ l = cc in
-    ap (λ (x : Line). (react (seen_from (side_in who) x).own.session broken_off).shown) (sym same)
-    ∙ seat_shows_by (suc i) h (seen_from (side_in who) seat.0).own (nat_lt h.end.carrier.given (suc i))
-    (value_at (suc i) h.end.carrier.live) refl refl up seat.2
-    ∙ ap (λ n. shown_at_loss (kept_at n h.end.lines)) (let at : suc i ≡ 0 + 1 + i = omega arith in at)
+    grind (arith, react, seat_shows_by)
 
 up_in_all : (m n : ℕ) (lines : Rows stack.Line) → m ≤ n → AreUpTo m lines → AreUpTo n lines
 up_in_all m n [] less up = tt
@@ -327,12 +302,7 @@ says_all who h lines first t told quiet order few all =
     let entries_are = ordered who 0 t.lines h.end.lines order.rising
     (up_in_all h.end.carrier.given (0 + length t.lines) h.end.lines (omega arith) order.sound.known)
     (all_kept who h t order.sound.known all) in
-    record {
-      quiet = none;
-      says = ap (λ n. map Some (shown_in_order (side_in who) n t.lines)) (let at : 1 ≡ 0 + 1 = omega arith in at)
-          ∙ entries_are ∙ ap (λ l. map entry_in (shown_entries who l))
-          (sym (first_all h.end.lines first (waiting_in lines) quiet told.shown none));
-    }
+    grind (arith, first_all)
 
 -- the journals continue alike
 pub journal_on : (old : List entries.Entry) (more : List entries.Entry) (last : entries.Entry) (before said : List Entry) (end : Entry) →

@@ -5,23 +5,23 @@ use Rattle.osi_machine.specs.Core as machine
 use Rattle.osi_machine.specs.Machine as entries
 use Rattle.osi_stack.specs.State as stack
 use Rattle.osi_pair.specs.Entries.{ends}
-use Rattle.osi_pair.proofs.Vocabulary.{◌≡◌, refl, sym, ◌∙◌, ap, subst, ℕ, ◌<◌, ◌≤◌, Bool, true, false, List, [], ◌∷◌, ◌++◌, length, map}
-use Rattle.osi_pair.proofs.Vocabulary.{Some, None, option_map, inl, arith, inr, append-nil, Held, place_at, connection_in, Rows, State}
-use Rattle.osi_pair.proofs.Vocabulary.{Between, AreBetween, under_way, last_of, is_cut, progress_of, terms_of, Local, EndReason, Ending}
-use Rattle.osi_pair.proofs.Vocabulary.{connection_at, is_given, Seat, Line, Tables, turned, seen_from, shown_in_order, after_end, Message}
-use Rattle.osi_pair.proofs.Vocabulary.{Shown, all_lost, kept_at, End, Holding, TwoEnds, end_at, Entry, other, side_in, ending_in, terms_in}
-use Rattle.osi_pair.proofs.Vocabulary.{class_in, entry_in, carriers_of, IsSeated, IsUnderWay, IsLine, Stands, AreUnderWay, HasJoined}
-use Rattle.osi_pair.proofs.Vocabulary.{HasLine, waiting_in, quieted, shown_entries, Side, Left, Right}
+use Rattle.osi_pair.proofs.Vocabulary.{◌≡◌, refl, sym, ◌∙◌, ap, subst, ℕ, ◌<◌, ◌≤◌, true, false, List, [], ◌∷◌, ◌++◌, length, map, Some}
+use Rattle.osi_pair.proofs.Vocabulary.{None, option_map, inl, arith, inr, append-nil, Held, place_at, Rows, State, Between, AreBetween}
+use Rattle.osi_pair.proofs.Vocabulary.{under_way, last_of, is_cut, progress_of, terms_of, Local, EndReason, Ending, connection_at, is_given}
+use Rattle.osi_pair.proofs.Vocabulary.{Line, Tables, turned, seen_from, shown_in_order, after_end, Message, Shown, all_lost, kept_at, End}
+use Rattle.osi_pair.proofs.Vocabulary.{Holding, TwoEnds, end_at, Entry, other, side_in, ending_in, terms_in, class_in, entry_in}
+use Rattle.osi_pair.proofs.Vocabulary.{carriers_of, IsSeated, IsUnderWay, IsLine, Stands, HasJoined, HasLine, waiting_in, quieted}
+use Rattle.osi_pair.proofs.Vocabulary.{shown_entries, Side, Left, Right}
 use Rattle.osi_pair.proofs.ending.all_sessions_are_lost_in_order.{none_kept, IsTold, AllSeated, SaysAll, says_all, journal_on}
 use Rattle.osi_pair.proofs.session.an_end_with_nothing_pending.{quiet_waits}
 use Rattle.osi_pair.proofs.turn.what_remains_when_a_unit_was_taken.{terms_at}
 use Rattle.osi_pair.proofs.turn.all_is_shown.{shown_pair}
 use Rattle.osi_pair.proofs.turn.a_turn_keeps_the_match.{IsSeen, seen, with_holding}
 use Rattle.osi_pair.proofs.ending.a_connection_ends_with_its_end.{ended_line, IsPlaced, placed_seat, seat_ends, ended_at_line, ended_count}
-use Rattle.osi_pair.proofs.ending.a_connection_ends_with_its_end.{way_cut, way_none, way_ended, cut_by_end}
+use Rattle.osi_pair.proofs.ending.a_connection_ends_with_its_end.{way_cut, way_none, way_ended}
 use Rattle.osi_pair.proofs.flight.who_receives_what_is_in_flight.{TakesFrom}
 use Rattle.osi_pair.proofs.flight.what_is_in_flight_when_an_end_acts.{over_way}
-use Rattle.osi_pair.proofs.flight.whether_something_is_cut_off.{IsWithin, outside_not, within_or, Lasts}
+use Rattle.osi_pair.proofs.flight.whether_something_is_cut_off.{IsWithin, Lasts}
 
 -- ---- two ends, one of which has ended
 
@@ -68,10 +68,6 @@ pub record MayEnd (s : Side) (p : TwoEnds) (t u : Tables) (e : End) (h : Held) (
   pub takes : TakesFrom s u
   pub lines : (n : ℕ) → 0 < n → n ≤ length t.lines → EndingLine s p u e h c n
 
-none_there : (n : ℕ) (a last : State) (seat : Seat) → a ≡ last → IsPlaced n a seat → is_given seat.transport ≡ false →
-    connection_in (place_at n last) ≡ None
-none_there n a last seat same i given = grind arith
-
 -- what becomes of a line
 record HasEnds (s : Side) (p : TwoEnds) (u : Tables) (c : Between) (keep n : ℕ) : Type 0 where
   line : Line
@@ -92,8 +88,8 @@ left_line p u e h c reason lines held journal most n last none takes l =
     let out = way_ended p.right.end.carrier.ended (progress_of (place_at n (last_of false c))) (is_cut true (carriers_of mid))
     (HasJoined n p.right) l.line.peer.session.state (is_given l.line.own.transport) l.line.own l.kept l.more
     (under_way true n (carriers_of mid) c) (under_way true n (carriers_of q) c) l.parts l.whole (takes n l.line l.found)
-    (way_cut true n (carriers_of mid) (carriers_of q) c (cut_by_end true (carriers_of q) refl))
-    (λ given. way_none true n (carriers_of mid) (carriers_of q) c (none_there n e.carrier (last_of true c) l.line.own last l.here given))
+    (way_cut true n (carriers_of mid) (carriers_of q) c (grind arith))
+    (λ given. way_none true n (carriers_of mid) (carriers_of q) c (grind arith))
     l.out in
     record {
       keep = out.keep;
@@ -103,12 +99,8 @@ left_line p u e h c reason lines held journal most n last none takes l =
         is = record {
           left = seat_ends n e.carrier q.left l.line.own out.keep (record { given = refl; live = refl; none = none }) l.here;
           right = l.there;
-          rightward = subst (λ (cut : Bool). AreUnderWay p.right.end.carrier.ended (progress_of (place_at n (last_of false c))) cut
-              (HasJoined n p.right) l.line.peer.session.state (ended_line out.keep l.line).own.channel (under_way true n (carriers_of q) c))
-              (sym (cut_by_end true (carriers_of q) refl)) out.way;
-          leftward = over_way q.left.end.carrier.ended (progress_of (place_at n (last_of true c))) (is_cut false (carriers_of q))
-              (HasJoined n q.left) (ended_line out.keep l.line).own.session.state l.line.peer.channel (under_way false n (carriers_of q) c)
-              (λ y at. (let no : None ≡ Some y = sym (none n) ∙ at in absurd cc)) (λ x. cc);
+          rightward = grind (arith, ended_line);
+          leftward = grind (arith, over_way, ended_line);
         };
       };
     }
@@ -122,8 +114,8 @@ right_line p u e h c reason lines held journal most n last none takes l =
     let out = way_ended p.left.end.carrier.ended (progress_of (place_at n (last_of true c))) (is_cut false (carriers_of mid))
     (HasJoined n p.left) l.line.peer.session.state (is_given l.line.own.transport) l.line.own l.kept l.more
     (under_way false n (carriers_of mid) c) (under_way false n (carriers_of q) c) l.parts l.whole (takes n l.line l.found)
-    (way_cut false n (carriers_of mid) (carriers_of q) c (cut_by_end false (carriers_of q) refl))
-    (λ given. way_none false n (carriers_of mid) (carriers_of q) c (none_there n e.carrier (last_of false c) l.line.own last l.here given))
+    (way_cut false n (carriers_of mid) (carriers_of q) c (grind arith))
+    (λ given. way_none false n (carriers_of mid) (carriers_of q) c (grind arith))
     l.out in
     record {
       keep = out.keep;
@@ -133,12 +125,8 @@ right_line p u e h c reason lines held journal most n last none takes l =
         is = record {
           left = l.there;
           right = seat_ends n e.carrier q.right l.line.own out.keep (record { given = refl; live = refl; none = none }) l.here;
-          rightward = over_way q.right.end.carrier.ended (progress_of (place_at n (last_of false c))) (is_cut true (carriers_of q))
-              (HasJoined n q.right) (ended_line out.keep l.line).own.session.state l.line.peer.channel (under_way true n (carriers_of q) c)
-              (λ y at. (let no : None ≡ Some y = sym (none n) ∙ at in absurd cc)) (λ x. cc);
-          leftward = subst (λ (cut : Bool). AreUnderWay p.left.end.carrier.ended (progress_of (place_at n (last_of true c))) cut
-              (HasJoined n p.left) l.line.peer.session.state (ended_line out.keep l.line).own.channel (under_way false n (carriers_of q) c))
-              (sym (cut_by_end false (carriers_of q) refl)) out.way;
+          rightward = grind (arith, over_way, ended_line);
+          leftward = grind (arith, ended_line);
         };
       };
     }
@@ -148,7 +136,7 @@ left_at : (p : TwoEnds) (u : Tables) (e : End) (h : Held) (c : Between) (reason 
     (journal : List Entry) (most n : ℕ) → e.carrier ≡ last_of true c → ((q : ℕ) → kept_at q lines ≡ None) → TakesFrom Left u →
     ((m : ℕ) → 0 < m → m ≤ most → EndingLine Left p u e h c m) → IsWithin n most →
     Ends Left (ended_pair Left reason e.carrier lines held journal p) u c most n
-left_at p u e h c reason lines held journal most n last none takes all (inl out) = grind (arith, outside_not)
+left_at p u e h c reason lines held journal most n last none takes all (inl out) = grind arith
 left_at p u e h c reason lines held journal most n last none takes all (inr given) =
     left_line p u e h c reason lines held journal most n last none takes (all n given.0 given.1)
 
@@ -156,7 +144,7 @@ right_at : (p : TwoEnds) (u : Tables) (e : End) (h : Held) (c : Between) (reason
     (journal : List Entry) (most n : ℕ) → e.carrier ≡ last_of false c → ((q : ℕ) → kept_at q lines ≡ None) → TakesFrom Right u →
     ((m : ℕ) → 0 < m → m ≤ most → EndingLine Right p u e h c m) → IsWithin n most →
     Ends Right (ended_pair Right reason e.carrier lines held journal p) u c most n
-right_at p u e h c reason lines held journal most n last none takes all (inl out) = grind (arith, outside_not)
+right_at p u e h c reason lines held journal most n last none takes all (inl out) = grind arith
 right_at p u e h c reason lines held journal most n last none takes all (inr given) =
     right_line p u e h c reason lines held journal most n last none takes (all n given.0 given.1)
 
@@ -175,11 +163,9 @@ ended_stands Left p b t u e h c reason ending lines held first journal s m is no
     let q = ended_pair Left reason e.carrier lines held journal p in
     let at : (n : ℕ) → Ends Left q u c (length t.lines) n =
     λ n. left_at p u e h c reason lines held journal (length t.lines) n (m.between.lives true m.lasts) none m.takes m.lines
-    (within_or n (length t.lines)) in
+    (grind arith) in
     let keep : ℕ → ℕ = λ n. (at n).keep in
     let count = ended_count machine.Left keep 1 u.lines ∙ m.count in
-    let between = subst (λ (l : Local). AreBetween (terms_of l p.right.end.carrier.local) (carriers_of q) c) (sym m.local)
-    (grind (arith, m.between)) in
     let terms = m.terms ∙ s.terms ∙ ap (λ (l : Local). terms_in (terms_of l p.right.end.carrier.local)) (sym m.local) in
     let journal_now = journal_on u.journal (shown_in_order machine.Left 1 u.lines) (entries.ended machine.Left ending) p.journal
     (shown_entries Left first) (ends Left reason)
@@ -196,11 +182,9 @@ ended_stands Right p b t u e h c reason ending lines held first journal s m is n
     let q = ended_pair Right reason e.carrier lines held journal p in
     let at : (n : ℕ) → Ends Right q u c (length t.lines) n =
     λ n. right_at p u e h c reason lines held journal (length t.lines) n (m.between.lives false m.lasts) none m.takes m.lines
-    (within_or n (length t.lines)) in
+    (grind arith) in
     let keep : ℕ → ℕ = λ n. (at n).keep in
     let count = ended_count machine.Right keep 1 u.lines ∙ m.count in
-    let between = subst (λ (l : Local). AreBetween (terms_of p.left.end.carrier.local l) (carriers_of q) c) (sym m.local)
-    (grind (arith, m.between)) in
     let terms = m.terms ∙ s.terms ∙ ap (λ (l : Local). terms_in (terms_of p.left.end.carrier.local l)) (sym m.local) in
     let journal_now = journal_on u.journal (shown_in_order machine.Right 1 u.lines) (entries.ended machine.Right ending) p.journal
     (shown_entries Right first) (ends Right reason)

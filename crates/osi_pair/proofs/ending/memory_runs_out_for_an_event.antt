@@ -9,10 +9,10 @@ use Rattle.osi_pair.proofs.Vocabulary.{◌≡◌, ℕ, Bool, true, false, ◌||�
 use Rattle.osi_pair.proofs.Vocabulary.{refl, sym, ap, subst, ◌∙◌, ◌⊎◌, inl, inr, arith, list_any, append-nil, Held, IsPacket, place_at}
 use Rattle.osi_pair.proofs.Vocabulary.{Happening, NoMemory, State, reference_of, Between, last_of, progress_of, leaves_use, IsTableRun}
 use Rattle.osi_pair.proofs.Vocabulary.{LosesAsItEnds, delivers, learns, shown_at, is_given, Line, Turn, Tables, awaits, seen_from, end_of}
-use Rattle.osi_pair.proofs.Vocabulary.{step, unseen, puts, shortened, without_first, message_taken, is_side, Message, over, put, replied}
-use Rattle.osi_pair.proofs.Vocabulary.{IsInOctets, Meaning, Standing, opened, broken as broken_off, begun, react, shows_loss, Shown, Lost}
-use Rattle.osi_pair.proofs.Vocabulary.{Starves, told_all, End, TwoEnds, end_at, other, side_in, is_caller, carriers_of, message_in, Stands}
-use Rattle.osi_pair.proofs.Vocabulary.{Goes, Side, kind_of}
+use Rattle.osi_pair.proofs.Vocabulary.{step, unseen, puts, shortened, without_first, message_taken, Message, over, put, replied, IsInOctets}
+use Rattle.osi_pair.proofs.Vocabulary.{Meaning, Standing, opened, broken as broken_off, begun, react, shows_loss, Shown, Lost, Starves}
+use Rattle.osi_pair.proofs.Vocabulary.{told_all, End, TwoEnds, end_at, other, side_in, is_caller, carriers_of, message_in, Stands, Goes}
+use Rattle.osi_pair.proofs.Vocabulary.{Side, kind_of}
 use Rattle.osi_pair.proofs.turn.what_an_acting_end_leaves_in_flight.{run_one, number_one}
 use Rattle.osi_pair.proofs.packet.when_a_session_replies_or_closes.{opened_stays}
 use Rattle.osi_pair.proofs.flight.a_taken_packet_is_one_row.{packet_acts}
@@ -25,12 +25,12 @@ use Rattle.osi_pair.proofs.turn.what_remains_when_a_unit_was_taken.{terms_at, Ta
 use Rattle.osi_pair.proofs.turn.what_remains_when_a_unit_was_taken.{PacketAt}
 use Rattle.osi_pair.proofs.packet.the_class_is_known.{moved_known}
 use Rattle.osi_pair.proofs.ending.all_sessions_are_lost_in_order.{ended_shows, quiet_shows, is_over}
-use Rattle.osi_pair.proofs.packet.a_session_makes_its_move.{turn_then, turn_moves}
-use Rattle.osi_pair.proofs.packet.a_packet_is_one_delivery_or_none.{PacketLaws, acts_at, both_carrier, both_held, lasting_in}
+use Rattle.osi_pair.proofs.packet.a_session_makes_its_move.{turn_then}
+use Rattle.osi_pair.proofs.packet.a_packet_is_one_delivery_or_none.{PacketLaws, acts_at, both_carrier, lasting_in}
 use Rattle.osi_pair.proofs.packet.a_unit_at_rest_keeps_the_match.{acted_end, did_at, same_row, line_at, transport_before, out_row}
 use Rattle.osi_pair.proofs.packet.a_unit_at_rest_keeps_the_match.{back_alone}
-use Rattle.osi_pair.proofs.packet.a_unit_with_which_no_session_acts.{step_opens, delivered, tables_delivered, tables_rest, is_awaited}
-use Rattle.osi_pair.proofs.packet.a_unit_with_which_no_session_acts.{learns_row, turn_rests, rests, sends_then, unless_broken, put_unless}
+use Rattle.osi_pair.proofs.packet.a_unit_with_which_no_session_acts.{step_opens, delivered, tables_delivered, is_awaited, learns_row}
+use Rattle.osi_pair.proofs.packet.a_unit_with_which_no_session_acts.{turn_rests, rests, sends_then, unless_broken, put_unless}
 use Rattle.osi_pair.proofs.flight.what_may_arrive_row_by_row.{Row, begins, agrees, leaves, before, after, arrived_in, told_for}
 use Rattle.osi_pair.proofs.session.a_seat_is_its_progress_and_session.{transport_by}
 use Rattle.osi_pair.proofs.turn.all_is_shown.{StandsShown}
@@ -69,10 +69,8 @@ lone_shown laws takes s p b t packet h held old run alive pa lone =
     let tr = transport_before s p b t e h n l old alive d at.is in
     let line = whole_line s p t e h d.now n l at.found
     (placed_then s p b e h n l.own d f.lasts (ap is_given tr ∙ q.given) at.is.here.awaiting at.is.here.octets) at.is.there
-    (subst (λ (ms : List Message). Goes s (other s) n (with_holding s e h p) d.now
-    (progress_of (place_at n (last_of (is_caller (other s)) d.now))) l.peer.session.state ms)
-    (q.sends t.broken l.own.channel) (out_row s p b t e h n l old d at.is q.stays alive)) in
-    let m = acted_may_end laws s p b t t packet h l old alive pa d (tables_rest s n l t at.found) line
+    (grind (arith, with_holding s e h p, q.sends t.broken l.own.channel, out_row s p b t e h n l old d at.is q.stays alive)) in
+    let m = acted_may_end laws s p b t t packet h l old alive pa d (grind (arith, append-nil)) line
     (known_then s p b t e h n old alive d f.lasts pa.first.given q.agree) (takes_from takes s t run) in
     alone_shown s p b t e h d.now was.lines held old m (all_shown_then s p b t old alive) (lasting_in s p b t old alive)
 
@@ -151,10 +149,9 @@ agrees_shown laws takes s p b t packet h held old run alive pa agreed =
     let u = delivered t (side_in s) n known turn in
     let is : step t (delivers (side_in s) n (λ r. 0)) ≡ u =
     step_opens t (side_in s) n (λ r. 0) l sp.first sp.others turn lasting at.found sp.parts
-    (turn_moves t.broken t.terms 0 agrees l sp.first sp.others carrier.agree tr refl refl alike) (opened_stays x) in
+    (grind arith) (opened_stays x) in
     let a : TablesAfter s n t u [] turn.line =
-    subst (λ (shown : List Shown). TablesAfter s n t u shown turn.line) (opened_shows x)
-    (tables_delivered s n (seen_from (side_in s) l) t known turn at.found) in
+    grind (arith, opened_shows x, tables_delivered s n (seen_from (side_in s) l) t known turn at.found) in
     let ending : EndingLine s p u e h d.now n = record {
       line = turn.line;
       found = a.lines.found;
@@ -205,26 +202,13 @@ any_last : (P : Entry → Bool) (es : List Entry) (e : Entry) → P e ≡ true �
 any_last P [] e h = ap (λ (b : Bool). b || false) h
 any_last P (x ∷ es) e h = grind (arith, any_last P es e h)
 
-own_side : (s : machine.Side) → is_side s s ≡ true
-own_side s = grind arith
-
 shows_by : (x : Standing) → shows_loss x.state.phase ≡ true → (react x broken_off).shown ≡ Lost ∷ []
 unfolding react
 shows_by x e = ap (λ (b : Bool). if◌then◌else◌ {A = List Shown} b (Lost ∷ []) []) e
 
-none_lost_by : (who : machine.Side) (n : ℕ) (x : Standing) (u : Tables) (es : List Entry) (b : Bool) → shows_loss x.state.phase ≡ b →
-    LosesAsItEnds u → end_of who u ≡ None → u.journal ≡ es ++ map (shown_at who n) (react x broken_off).shown →
-    (react x broken_off).shown ≡ []
-none_lost_by who n x u es false e law none says = quiet_shows x e
-none_lost_by who n x u es true e law none says = grind (arith, map, shows_by, any_last, own_side)
-
 none_lost : (who : machine.Side) (n : ℕ) (x : Standing) (u : Tables) (es : List Entry) → LosesAsItEnds u → end_of who u ≡ None →
     u.journal ≡ es ++ map (shown_at who n) (react x broken_off).shown → (react x broken_off).shown ≡ []
-none_lost who n x u es law none says = none_lost_by who n x u es (shows_loss x.state.phase) refl law none says
-
-end_after : (s : Side) (t : Tables) (n : ℕ) (known : Option worlds.Class) (turn : Turn) →
-    end_of (side_in s) (delivered t (side_in s) n known turn) ≡ end_of (side_in s) t
-end_after s t n known turn = grind arith
+none_lost who n x u es law none says = grind (arith, quiet_shows, shows_by, any_last)
 
 leaves_shown : PacketLaws → TakeLaws → LosesLate → (s : Side) (p : TwoEnds) (b : Between) (t : Tables) (packet : List ℕ) (h held : Held) →
     Stands p b t → IsTableRun t → Lasts s p → (pa : PacketAt s p b packet h) → (reason : ℕ) → pa.did.row ≡ leaves reason →
@@ -254,7 +238,7 @@ leaves_shown laws takes late s p b t packet h held old run alive pa reason left 
     let all : TablesAfter s n t u turn.shown turn.line = tables_delivered s n (seen_from (side_in s) l) t known turn at.found in
     let none : (react x broken_off).shown ≡ [] =
     none_lost (side_in s) n x u t.journal (late u (run_more t u (side_in s) n (λ r. k) is run))
-    (end_after s t n known turn ∙ lasting) all.journal in
+    ((grind arith) ∙ lasting) all.journal in
     let a : TablesAfter s n t u [] turn.line = subst (λ (shown : List Shown). TablesAfter s n t u shown turn.line) none all in
     let kept = put t.broken (over ∷ []) (take k l.own.channel) in
     let ending : EndingLine s p u e h d.now n = record {
@@ -265,8 +249,7 @@ leaves_shown laws takes late s p b t packet h held old run alive pa reason left 
       there = still_seated n (end_at (other s) p) l.peer sp.others at.is.there;
       kept = kept;
       more = [];
-      parts = channel_leaves t.broken (react x broken_off).reply (take k l.own.channel) (silent_loss x)
-          ∙ sym (put_unless t.broken (over ∷ []) (take k l.own.channel)) ∙ sym (append-nil kept);
+      parts = grind (arith, channel_leaves, react, silent_loss, put_unless, append-nil);
       whole = λ y. refl;
       out = out.way;
     } in
@@ -309,10 +292,9 @@ starved_shown laws s p b t packet octets h held new old run alive is cut x =
     let c = both_carrier s p in
     let pa = packet_acts laws.packet.two (terms_at p) (is_caller s) (carriers_of p) b packet octets h.octets old.between
     (ap (λ (y : State). y.ended) c ∙ alive)
-    (ap (λ (y : State). y.events) c ∙ (order_of s p b t old alive).heard) is (both_held s p ∙ cut) in
+    (ap (λ (y : State). y.events) c ∙ (order_of s p b t old alive).heard) is ((grind arith) ∙ cut) in
     elim (has_starved laws.want s p b t packet octets h new old alive is cut pa x) [
-      | inl nothing ↦ subst (λ (e : End). StandsShown s p t e held) (sym nothing)
-          (ended_shown s p b t held old (takes_from laws.takes s t run) alive)
+      | inl nothing ↦ grind (arith, ended_shown s p b t held old (takes_from laws.takes s t run) alive, takes_from laws.takes s t run)
       | inr some ↦ subst (λ (e : End). StandsShown s p t e held) (sym some.is)
           (unheard_shown laws s p b t packet h held old run alive pa (tells_one (reference_of pa.unit) pa.did.row some.event some.one))
     ]

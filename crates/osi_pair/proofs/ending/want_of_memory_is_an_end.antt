@@ -11,7 +11,7 @@ use Rattle.osi_pair.proofs.Vocabulary.{◌≡◌, ◌≢◌, ℕ, zero, suc, ◌
 use Rattle.osi_pair.proofs.Vocabulary.{map, Option, Some, None, is_some, refl, sym, ap, subst, ◌∙◌, ◌⊎◌, inl, inr, arith, slice_get, eq-eqb}
 use Rattle.osi_pair.proofs.Vocabulary.{Held, IsPacket, Value, ended_by, Happening, Rows, State, EndReason, NoMemory, reference_of, Both}
 use Rattle.osi_pair.proofs.Vocabulary.{side, Between, AreBetween, Terms, no_memory, connection_at, delivers, shown_at, Line, Tables}
-use Rattle.osi_pair.proofs.Vocabulary.{seen_from, end_of, shown_in_order, after_end, step, broken as broken_off, react, Shown, with_carrier}
+use Rattle.osi_pair.proofs.Vocabulary.{seen_from, end_of, shown_in_order, step, broken as broken_off, react, Shown, with_carrier}
 use Rattle.osi_pair.proofs.Vocabulary.{with_events, hears_first, hears_next, hears_times, starves, all_lost, RunsOut, Starves, told_all}
 use Rattle.osi_pair.proofs.Vocabulary.{needs_memory, End, never_starved, hears_keep, TwoEnds, end_at, side_in, carriers_of, Stands}
 use Rattle.osi_pair.proofs.Vocabulary.{waiting_in, quieted, Side, Left, Right}
@@ -27,14 +27,6 @@ use Rattle.osi_pair.proofs.flight.whether_something_is_cut_off.{Lasts}
 
 -- ---- the step
 
-pub end_step : (who : machine.Side) (t : Tables) (keep : ℕ → ℕ) → end_of who t ≡ None →
-    step t (entries.ends who no_memory keep) ≡ after_end who no_memory keep t
-end_step who t keep none = grind arith
-
-same_end : (s : Side) (p : TwoEnds) (t u : Tables) (e : End) (h : Held) (c : Between) → MayEnd s p t u e h c →
-    end_of (side_in s) u ≡ end_of (side_in s) t
-same_end s p t u e h c m = grind arith
-
 -- an end that may end is told that memory ran out
 pub alone_shown : (s : Side) (p : TwoEnds) (b : Between) (t : Tables) (e : End) (h : Held) (c : Between) (lines : Rows stack.Line)
     (held : Held) → Stands p b t → MayEnd s p t t e h c → SaysAll s (quieted (all_lost lines)) (waiting_in (all_lost lines)) t →
@@ -47,8 +39,7 @@ alone_shown s p b t e h c lines held old m says none =
       are = (refl, refl, refl);
       now = c;
       local = m.local;
-      stands = subst (λ (v : Tables). Stands (shown_pair s (lost_end NoMemory e.carrier lines) held p) c v)
-          (sym (end_step (side_in s) t keep none)) done.stands;
+      stands = grind (arith, shown_pair, lost_end);
     }
 
 -- after a delivery
@@ -66,7 +57,7 @@ behind_shown s p b t u e h c lines held n cut old m says none is =
       local = m.local;
       stands = subst (λ (v : Tables). Stands (shown_pair s (lost_end NoMemory e.carrier lines) held p) c v)
           (sym (ap (λ (v : Tables). step v (entries.ends (side_in s) no_memory keep)) is
-          ∙ end_step (side_in s) u keep (same_end s p t u e h c m ∙ none)))
+          ∙ (grind arith)))
           done.stands;
     }
 
@@ -97,9 +88,7 @@ shows_by : (s : Side) (n i : ℕ) (line l x y : Line) (t u : Tables) (same : Boo
 shows_by s n i line l x y t u true f a found shows at now = grind arith
 shows_by s n i line l x y t u false f a found shows at now =
     let apart : suc i ≢ n = λ same. (let no_way : true ≡ false = sym (eq-eqb (suc i) n same) ∙ f in cc) in
-    let both : Some y ≡ Some x = sym now ∙ a.others (suc i) apart ∙ at in
-    let same : y ≡ x = cc in
-    ap (λ (m : Line). (react (seen_from (side_in s) m).own.session broken_off).shown) same
+    grind (arith, react, a.others (suc i) apart)
 
 -- if the new line has as many indications as the old one
 pub same_shown : (s : Side) (n : ℕ) (line l : Line) (t u : Tables) → LinesAfter s n line t u →

@@ -1,5 +1,6 @@
 -- The state after an event that is applied or refused.
 -- For the code of `Pair`.
+use Rattle.std.proofs.Common.{arith}
 use Rattle.osi_pair.proofs.Vocabulary.{◌≡◌, List, Result, Ok, Err, OnOk, OnErr, IfOk, None, sym, subst, PairError, Step, CanHappen}
 use Rattle.osi_pair.proofs.Vocabulary.{StandsAfter, TwoEnds, misfit, Does, CarriesAsMuch, CarriesWhereQuiet, IsReached, StandsAt, Applied}
 use Rattle.osi_pair.proofs.Vocabulary.{Event}
@@ -18,23 +19,18 @@ result_reached laws event old new (Err error) can fits does same at = subst IsRe
 pub result_stands : EventLaws → (event : Event) (old new : TwoEnds) (result : Result Applied PairError) → CanHappen event →
     OnOk result (misfit event old ≡ None) → IfOk result (λ applied. Does event old applied.carried new) →
     OnOk result ((steps : List Step) → StandsAt old steps → StandsAfter event old new steps)
-result_stands laws event old new (Ok applied) can fits does =
-    λ steps s. event_stands laws event old new applied.carried steps can fits does s
-result_stands laws event old new (Err error) can fits does = tt
+result_stands laws event old new result can h does = grind (arith, event_stands)
 
 pub result_carries : (event : Event) (old : TwoEnds) (result : Result Applied PairError) → IsReached old →
     IfOk result (λ applied. CarriesWhereQuiet event old applied) → IfOk result (λ applied. CarriesAsMuch event old applied)
-result_carries event old (Ok applied) at h = carries_as_much event old applied at h
-result_carries event old (Err error) at h = tt
+result_carries event old result h h2 = grind (arith, carries_as_much)
 
 pub result_cut : EventLaws → (event : Event) (old new : TwoEnds) (result : Result Applied PairError) → IsReached old →
     IfOk result (λ applied. CarriesWhereQuiet event old applied) → IfOk result (λ applied. NotesWhereQuiet event old applied new) →
     IfOk result (λ applied. NotesIfCutShort old applied new)
-result_cut laws event old new (Ok applied) at moves h = cut_by_notes laws event old applied new at moves h
-result_cut laws event old new (Err error) at moves h = tt
+result_cut laws event old new result h moves h2 = grind (arith, cut_by_notes)
 
 pub result_full : EventLaws → (event : Event) (old : TwoEnds) (new : Pairing) (result : Result Applied PairError) → IsReached old →
     IfOk result (λ applied. CarriesWhereQuiet event old applied) → IfOk result (λ applied. IsFullWhereQuiet event old applied new) →
     IfOk result (λ applied. IsFullIfCutShort applied new)
-result_full laws event old new (Ok applied) at moves h = cut_when_full laws event old applied new at moves h
-result_full laws event old new (Err error) at moves h = tt
+result_full laws event old new result h moves h2 = grind (arith, cut_when_full)

@@ -1,20 +1,12 @@
 -- Events that happen one after the other, and their steps of the machine.
 -- For the code of `Pair`.
+use Rattle.std.proofs.Common.{arith}
 use Rattle.osi_pair.specs.declared.events.Event.TheVariants.{Call}
-use Rattle.osi_pair.proofs.Vocabulary.{◌≡◌, ◌∙◌, ◌||◌, Bool, true, false, List, [], ◌∷◌, ◌++◌, Option}
-use Rattle.osi_pair.proofs.Vocabulary.{Some, None, refl, sym, ap, subst, Applied, append_assoc, append-nil, EndReason, Step}
-use Rattle.osi_pair.proofs.Vocabulary.{connects, calls, breaks, ends, told_of_break, called_by, StandsAfter, asked_of, TwoEnds, end_at}
-use Rattle.osi_pair.proofs.Vocabulary.{Happens, HappenAll, AreStepsOf, StandsBehind, RunsThrough, side_in, offer_in, StandsAt, StandsAtTold}
+use Rattle.osi_pair.proofs.Vocabulary.{◌∙◌, ◌||◌, Bool, false, List, [], ◌∷◌, ◌++◌, Option, Some, None, refl, ap, subst, Applied}
+use Rattle.osi_pair.proofs.Vocabulary.{append_assoc, append-nil, EndReason, Step, connects, breaks, ends, StandsAfter, asked_of, TwoEnds}
+use Rattle.osi_pair.proofs.Vocabulary.{end_at, Happens, HappenAll, AreStepsOf, StandsBehind, RunsThrough, offer_in, StandsAt, StandsAtTold}
 use Rattle.osi_pair.proofs.Vocabulary.{Event, Connect, Carry, Break, Told, Side}
 use Rattle.osi_pair.specs.Pairings.{Pairing}
-
-or_false : (b : Bool) → b ≡ (b || false)
-or_false true = refl
-or_false false = refl
-
-or_later : (a b c : Bool) → ((a || b) || c) ≡ (a || (b || c))
-or_later true b c = refl
-or_later false b c = refl
 
 -- one more event happens
 pub happen_more : (events : List Event) (event : Event) (applied : Applied) (is_cut : Bool) (old mid new : Pairing) →
@@ -24,7 +16,7 @@ happen_more [] event applied is_cut old mid new h more = (
   new,
   applied,
   false,
-  ap (λ (b : Bool). b || applied.is_cut_short) h.0 ∙ or_false applied.is_cut_short,
+  ap (λ (b : Bool). b || applied.is_cut_short) h.0 ∙ (grind arith),
   subst (λ (p : Pairing). Happens event p applied new) h.1 more,
   (refl, refl),
 )
@@ -32,7 +24,7 @@ happen_more (first ∷ events) event applied is_cut old mid new h more = (
   h.0,
   h.1,
   h.2 || applied.is_cut_short,
-  ap (λ (b : Bool). b || applied.is_cut_short) h.3 ∙ or_later h.1.is_cut_short h.2 applied.is_cut_short,
+  ap (λ (b : Bool). b || applied.is_cut_short) h.3 ∙ (grind arith),
   h.4,
   happen_more events event applied h.2 h.0 mid new h.5 more,
 )
@@ -45,24 +37,12 @@ record StandsBehindOne (event : Event) (p : TwoEnds) (steps : List Step) : Type 
 
 told_behind : (before : Option EndReason) (side : Side) (p : TwoEnds) (steps : List Step) → StandsAtTold before side p steps →
     StandsBehindOne (Told side) p steps
-told_behind (Some reason) side p steps s = record {
-  more = [];
-  are = tt;
-  stands = subst (λ (l : List Step). StandsAt p l) (sym (append-nil steps)) s;
-}
-told_behind None side p steps s = record {
-  more = ends (side_in side) told_of_break s.keep ∷ [];
-  are = (refl, refl);
-  stands = s.stands;
-}
+told_behind (Some reason) side p steps s = grind (arith, append-nil steps)
+told_behind None side p steps s = grind arith
 
 one_behind : (event : Event) (old new : TwoEnds) (steps : List Step) → StandsAfter event old new steps → StandsBehindOne event new steps
 one_behind (Connect asked) old new steps s = record { more = connects (offer_in (asked_of asked)) ∷ []; are = refl; stands = s }
-one_behind (Call side reference request) old new steps s = record {
-  more = calls (side_in side) reference.0 (called_by request) ∷ [];
-  are = refl;
-  stands = s;
-}
+one_behind (Call side reference request) old new steps s = grind arith
 one_behind (Carry side most) old new steps s = record { more = s.more; are = s.are; stands = s.stands }
 one_behind (Break left right) old new steps s = record { more = breaks s.keep_left s.keep_right ∷ []; are = tt; stands = s.stands }
 one_behind (Told side) old new steps s = told_behind (end_at side old).end.carrier.ended side new steps s
@@ -70,12 +50,7 @@ one_behind (Told side) old new steps s = told_behind (end_at side old).end.carri
 -- the steps of all of them
 all_behind : (events : List Event) (is_cut : Bool) (old new : Pairing) (steps : List Step) → HappenAll events old is_cut new →
     StandsAt old.ends steps → StandsBehind events new.ends steps
-all_behind [] is_cut old new steps h s = record {
-  more = [];
-  are = refl;
-  stands = subst (λ (l : List Step). StandsAt new.ends l) (sym (append-nil steps))
-      (subst (λ (p : Pairing). StandsAt p.ends steps) (sym h.1) s);
-}
+all_behind [] is_cut old new steps h s = grind (arith, append-nil steps)
 all_behind (event ∷ events) is_cut old new steps h s =
     let one = one_behind event old.ends h.0.ends steps (h.4.stands steps s) in
     let rest = all_behind events h.2 h.0 new (steps ++ one.more) h.5 one.stands in

@@ -4,21 +4,18 @@ use Rattle.osi_session.specs.Calls as call
 use Rattle.osi_session.specs.declared.requests.Request.TheVariants as request
 use Rattle.osi_pair.specs.Asked as here
 use Rattle.osi_pair.specs.declared.events.Event.TheVariants.{Call}
-use Rattle.osi_pair.proofs.Vocabulary.{◌≡◌, ℕ, zero, suc, ◌<◌, ◌≤◌, ◌&&◌, Bool, true, List, [], ◌∷◌, ◌++◌, length, take, Option, None}
-use Rattle.osi_pair.proofs.Vocabulary.{is_some, arith, TsduSizes, Tsap, Request, named_by, are_sizes, IsOctets, tsap_octets, Step, connects}
-use Rattle.osi_pair.proofs.Vocabulary.{calls, octets_of, Call as Asked, HasSerial, called_by, CanHappen, StandsAfter, asked_of, CanBeAsked}
-use Rattle.osi_pair.proofs.Vocabulary.{CarriesFrom, TwoEnds, end_at, after_connect, after_call, after_break, TellsBreak, misfit}
-use Rattle.osi_pair.proofs.Vocabulary.{misfit_break, misfit_told, Does, other, side_in, offer_in, StandsAt, StandsAtArrivals, StandsAtBreak}
-use Rattle.osi_pair.proofs.Vocabulary.{StandsAtTold, Event, Connect, Carry, Break, Told, Reach, Side, ConnectCall as Wanted}
+use Rattle.osi_pair.proofs.Vocabulary.{◌≡◌, ℕ, zero, suc, ◌<◌, ◌≤◌, true, List, [], ◌∷◌, ◌++◌, length, take, None, is_some, arith}
+use Rattle.osi_pair.proofs.Vocabulary.{TsduSizes, Tsap, Request, named_by, are_sizes, IsOctets, tsap_octets, Step, connects, calls}
+use Rattle.osi_pair.proofs.Vocabulary.{octets_of, Call as Asked, HasSerial, called_by, CanHappen, StandsAfter, asked_of, CanBeAsked}
+use Rattle.osi_pair.proofs.Vocabulary.{CarriesFrom, TwoEnds, end_at, after_connect, after_call, after_break, TellsBreak, misfit, Does}
+use Rattle.osi_pair.proofs.Vocabulary.{other, side_in, offer_in, StandsAt, StandsAtArrivals, StandsAtBreak, StandsAtTold, Event, Connect}
+use Rattle.osi_pair.proofs.Vocabulary.{Carry, Break, Told, Side, ConnectCall as Wanted}
 
 -- ---- what is asked for
 
-both_true : (a b : Bool) → a ≡ true → b ≡ true → (a && b) ≡ true
-both_true a b h k = grind arith
-
 -- a user gives no other sizes
 pub named_sizes : (s : TsduSizes) → are_sizes (named_by s) ≡ true
-named_sizes s = both_true _ _ s.from_asker.is_size s.from_answerer.is_size
+named_sizes s = grind arith
 
 pub serial_small : (r : Request) → HasSerial (called_by r)
 serial_small r = grind (arith, named_sizes)
@@ -50,17 +47,11 @@ pub record EventLaws : Type 0 where
   pub tells : (side : Side) (old new : TwoEnds) (steps : List Step) → StandsAt old steps → is_some old.reach ≡ true →
       TellsBreak side old new → StandsAtTold (end_at side old).end.carrier.ended side new steps
 
-unbroken : (o : Option Reach) → misfit_break o ≡ None → o ≡ None
-unbroken o e = grind arith
-
-is_broken : (o : Option Reach) → misfit_told o ≡ None → is_some o ≡ true
-is_broken o e = grind arith
-
 pub event_stands : EventLaws → (event : Event) (old new : TwoEnds) (octets : ℕ) (steps : List Step) → CanHappen event →
     misfit event old ≡ None → Does event old octets new → StandsAt old steps → StandsAfter event old new steps
 event_stands laws (Connect asked) old new octets steps can fits does s = grind (arith, laws.connects old steps asked can s)
 event_stands laws (Call side reference request) old new octets steps can fits does s =
     grind (arith, laws.calls old steps side reference.0 (called_by request) can.0 can.1 s)
 event_stands laws (Carry side most) old new octets steps can fits does s = laws.carries side most old new octets steps s does
-event_stands laws (Break left right) old new octets steps can fits does s = grind (arith, unbroken)
-event_stands laws (Told side) old new octets steps can fits does s = laws.tells side old new steps s (is_broken old.reach fits) does.0
+event_stands laws (Break left right) old new octets steps can fits does s = grind arith
+event_stands laws (Told side) old new octets steps can fits does s = laws.tells side old new steps s (grind arith) does.0

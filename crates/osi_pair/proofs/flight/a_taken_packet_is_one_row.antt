@@ -7,11 +7,11 @@ use Rattle.osi_carrier.specs.React.{react}
 use Rattle.osi_carrier.specs.State.{ends}
 use Rattle.osi_between.specs.Messages.{Message, bye}
 use Rattle.osi_pair.proofs.Vocabulary.{◌≡◌, ◌≢◌, ℕ, ◌+◌, ◌<◌, Bool, true, false, not, List, [], ◌∷◌, ◌++◌, Some, None, sym, ap, subst, ◌∙◌}
-use Rattle.osi_pair.proofs.Vocabulary.{arith, flat_map, AllByRecursion, IsOctets, IsPacket, Value, IsShortTsdu, sent, closed_with, place_at}
+use Rattle.osi_pair.proofs.Vocabulary.{arith, AllByRecursion, IsOctets, IsPacket, Value, IsShortTsdu, sent, closed_with, place_at}
 use Rattle.osi_pair.proofs.Vocabulary.{connection_in, Happening, value_at, State, linked, Closed, reference_of, Both, side, Between}
-use Rattle.osi_pair.proofs.Vocabulary.{last_of, units_from, AreBetween, under_way, told_of, answers_in, put_in, Acted, becomes, Took, Same}
-use Rattle.osi_pair.proofs.Vocabulary.{still_to_tell, progress_of, message, AreLike, behind_arrivals, behind_puts, leaves_use, may_arrive}
-use Rattle.osi_pair.proofs.Vocabulary.{references_for, class_behind_all, Terms, by_two, by_zero, accepts_in, class_of, Link as Standing}
+use Rattle.osi_pair.proofs.Vocabulary.{last_of, units_from, AreBetween, under_way, answers_in, put_in, Acted, becomes, Took, Same}
+use Rattle.osi_pair.proofs.Vocabulary.{still_to_tell, progress_of, message, AreLike, leaves_use, may_arrive, references_for}
+use Rattle.osi_pair.proofs.Vocabulary.{class_behind_all, Terms, by_two, by_zero, accepts_in, class_of, Link as Standing}
 use Rattle.osi_pair.proofs.flight.which_unit_arrives_first.{IsFirstFor, first_for}
 use Rattle.osi_pair.proofs.flight.what_may_arrive_row_by_row.{Row, before, after, arrived_in, put_for, told_for, is_row, row_of, row_after}
 
@@ -69,10 +69,6 @@ pub record PacketActs (terms : Terms) (end : Bool) (both : Both) (b : Between) (
   pub lasts : (react unit (side end both).state).ended ≡ None
   pub local : (react unit (side end both).state).local ≡ (side end both).state.local
 
-first_sendable : (terms : Terms) (end : Bool) (both : Both) (b : Between) (u : Value) (rest : List Value) → AreBetween terms both b →
-    (side end both).state.ended ≡ None → units_from (not end) b ≡ u ∷ rest → IsSendable u
-first_sendable terms end both b u rest a alive e = grind arith
-
 side_same : (end : Bool) (s : State) (behind : List ℕ) (both : Both) → (side end (becomes end s behind both)).state ≡ s
 side_same end s behind both = grind arith
 
@@ -100,7 +96,7 @@ packet_acts laws terms end both b packet octets behind a alive none is cut =
     record {
       unit = u;
       is = tk.is;
-      sendable = first_sendable terms end both b u (units_from (not end) d.now) a alive y.cut;
+      sendable = grind arith;
       acts = tk.acts;
       first = f;
       did = record {
@@ -109,44 +105,22 @@ packet_acts laws terms end both b packet octets behind a alive none is cut =
         row = r.row;
         is = r.is;
         stood = r.stands;
-        stands = ap progress_of (same.stays end n) ∙ y.brings.becomes
-            ∙ ap (λ g. behind_puts (behind_arrivals (accepts_in terms) g y.arrived) put) r.stands
-            ∙ ap (λ (l : List Message). behind_puts (behind_arrivals (accepts_in terms) (before r.row) l) put) arrived
-            ∙ ap (λ (l : List Message). behind_puts (behind_arrivals (accepts_in terms) (before r.row) (arrived_in r.row)) l) r.answers
-            ∙ row_after terms r.row r.is;
-        came = subst (λ p. AreLike (connection_in p) (under_way (not end) n both b)
-            (arrived_in r.row ++ under_way (not end) n new same.now)) (sym (same.stays end n))
-            (subst (λ (l : List Message). AreLike (connection_in (place_at n (last_of end d.now))) (under_way (not end) n both b)
-            (arrived_in r.row ++ l)) (same.under (not end) n)
-            (subst (λ (l : List Message). AreLike (connection_in (place_at n (last_of end d.now))) (under_way (not end) n both b)
-            (l ++ under_way (not end) n mid d.now)) arrived y.came));
+        stands = grind (arith, same.stays end n, before r.row, arrived_in r.row, row_after terms r.row r.is);
+        came = grind (arith, arrived_in r.row, same.stays end n, same.under (not end) n);
         stays = y.stays;
         gone = y.gone;
         out_before = y.before;
-        out_after = subst (λ (l : List Message). AreLike (connection_in (place_at n (last_of (not end) b))) l
-            (y.stays ++ put_in both (put_for r.row))) (same.under end n)
-            (subst (λ (l : List Message). AreLike (connection_in (place_at n (last_of (not end) b))) (under_way end n mid d.now)
-            (y.stays ++ put_in both l)) r.answers y.after);
-        keeps = λ e. y.keeps (ap (λ g. leaves_use g (progress_of (place_at n (last_of end d.now)))) r.stands
-            ∙ ap (leaves_use (before r.row)) (y.brings.becomes
-            ∙ ap (λ g. behind_puts (behind_arrivals (accepts_in terms) g y.arrived) put) r.stands
-            ∙ ap (λ (l : List Message). behind_puts (behind_arrivals (accepts_in terms) (before r.row) l) put) arrived
-            ∙ ap (λ (l : List Message). behind_puts (behind_arrivals (accepts_in terms) (before r.row) (arrived_in r.row)) l) r.answers
-            ∙ row_after terms r.row r.is) ∙ e);
+        out_after = grind (arith, put_for r.row, same.under end n);
+        keeps = grind (arith, before, arrived_in, row_after);
         others = λ q apart from. y.others q apart from ∙ same.under from q;
         other_places = λ q apart. same.stays end q ∙ y.other_places q apart;
         there = λ q. same.stays (not end) q ∙ ap (place_at q) y.there;
-        given = same.given end ∙ y.given
-            ∙ ap (λ (l : List Message). (last_of end b).given + references_for (accepts_in terms) l put) arrived
-            ∙ ap (λ (l : List Message). (last_of end b).given + references_for (accepts_in terms) (arrived_in r.row) l) r.answers;
+        given = grind (arith, same.given end, arrived_in r.row);
         given_there = same.given (not end) ∙ ap (λ (s : State). s.given) y.there;
         class = same.class end ∙ y.class ∙ ap (class_behind_all (class_of terms) (last_of end b).class) arrived;
         class_there = same.class (not end) ∙ ap (λ (s : State). s.class) y.there;
       };
-      events = ap (λ (s : State). s.events) (sym reached) ∙ y.told
-          ∙ ap (λ (s : State). s.events ++ flat_map (told_of terms n old) y.arrived) was
-          ∙ ap (λ (l : List Happening). l ++ flat_map (told_of terms n old) y.arrived) none
-          ∙ ap (flat_map (told_of terms n old)) y.brings.is ∙ r.told;
+      events = grind arith;
       lasts = sym (ap (λ (s : State). s.ended) (side_same end (react u st) behind both)) ∙ d.lasts;
       local = ap (λ (s : State). s.local) (sym reached) ∙ y.local ∙ ap (λ (s : State). s.local) was;
     }

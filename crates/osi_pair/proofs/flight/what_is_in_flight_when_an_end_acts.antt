@@ -3,15 +3,15 @@
 use Rattle.osi_between.specs.Messages as carrier
 use Rattle.osi_between.specs.Progress as progress
 use Rattle.osi_pair.proofs.Vocabulary.{◌≡◌, ℕ, suc, Bool, true, false, ◌≤◌, ◌⊎◌, inl, inr, List, [], ◌∷◌, ◌++◌, length, map, take, drop}
-use Rattle.osi_pair.proofs.Vocabulary.{Option, Some, None, refl, sym, ap, subst, ◌∙◌, append_assoc, arith, take-append_seam, length-map}
-use Rattle.osi_pair.proofs.Vocabulary.{map-append, append-nil, take-append-drop, Place, connection_in, progress_of, kind_of, AreLike}
-use Rattle.osi_pair.proofs.Vocabulary.{Progress, shutting, Message, unit, EndReason, AreAlike, message_in, word_in, AreUnderWay}
-use Rattle.osi_pair.proofs.Vocabulary.{IsOverWhenLeft, after_message, IsCalm, StaysCalm, IsNoFaultBehind, over_calm, Word, whole, part}
-use Rattle.osi_pair.proofs.Vocabulary.{joins, left_of, IsBegun, AreInOrder, MayFollow, most_data, is_leaving, DT, part_octets, First}
-use Rattle.osi_pair.proofs.Vocabulary.{Middle, Last, list_any, SessionState as State, PartPlace, list_any-append}
-use Rattle.osi_pair.proofs.words.added_and_cut_words_are_messages.{IsRest, Next, FrontOf, next_is, front_of, cut_behind, cut_fits, AreWords}
-use Rattle.osi_pair.proofs.words.added_and_cut_words_are_messages.{wholes, put_words, MayLeave, leave_behind, joins_whole, whole_order}
-use Rattle.osi_pair.proofs.words.added_and_cut_words_are_messages.{whole_left}
+use Rattle.osi_pair.proofs.Vocabulary.{Option, Some, None, refl, sym, ap, subst, ◌∙◌, arith, take-append_seam, length-map, map-append}
+use Rattle.osi_pair.proofs.Vocabulary.{append-nil, take-append-drop, Place, connection_in, progress_of, kind_of, AreLike, Progress}
+use Rattle.osi_pair.proofs.Vocabulary.{shutting, Message, unit, EndReason, AreAlike, message_in, word_in, AreUnderWay, IsOverWhenLeft}
+use Rattle.osi_pair.proofs.Vocabulary.{after_message, IsCalm, StaysCalm, IsNoFaultBehind, over_calm, Word, whole, part, joins, left_of}
+use Rattle.osi_pair.proofs.Vocabulary.{IsBegun, AreInOrder, most_data, is_leaving, DT, part_octets, First, Middle, Last, list_any}
+use Rattle.osi_pair.proofs.Vocabulary.{SessionState as State, PartPlace, length-append}
+use Rattle.osi_pair.proofs.words.added_and_cut_words_are_messages.{IsRest, Next, FrontOf, next_is, front_of, cut_behind, AreWords, wholes}
+use Rattle.osi_pair.proofs.words.added_and_cut_words_are_messages.{put_words, MayLeave, leave_behind, joins_whole, whole_order, whole_left}
+use Rattle.osi_pair.proofs.words.added_and_cut_words_are_messages.{joins_append}
 use Rattle.osi_pair.proofs.flight.what_may_arrive_row_by_row.{Row, before, after}
 
 abbrev pub Sent : Type 0
@@ -22,24 +22,14 @@ Sent = List carrier.Message
 pub same_alike : (g : Progress) (xs ys : Sent) → xs ≡ ys → AreAlike g xs ys
 same_alike g xs ys h = grind arith
 
-alike_append : (g : Progress) (xs ys zs : Sent) → AreAlike g xs ys → AreAlike g (xs ++ zs) (ys ++ zs)
-alike_append g xs ys zs h = grind (arith, map-append)
-
 pub map_take : {A B : Type 0} (f : A → B) (k : ℕ) (xs : List A) → map f (take k xs) ≡ take k (map f xs)
 map_take f (suc k) (x ∷ xs) = ap (λ r. f x ∷ r) (map_take f k xs)
 map_take f k xs = grind arith
 
-kinds_take : (xs ys gone : Sent) → map kind_of xs ≡ map kind_of (ys ++ gone) → map kind_of (take (length ys) xs) ≡ map kind_of ys
-kinds_take xs ys gone h = grind (arith, map_take, map-append, length-map, take-append_seam)
-
 pub alike_take : (g : Progress) (xs ys gone : Sent) → AreAlike g xs (ys ++ gone) → AreAlike g (take (length ys) xs) ys
-alike_take g xs ys gone h = grind (arith, kinds_take, take-append_seam)
+alike_take g xs ys gone h = grind (arith, map_take, map-append, length-map, take-append_seam)
 
 -- ---- if one place is unchanged
-
-pub alike_like : (p : Place) (xs ys zs : Sent) → AreAlike (progress_of p) xs ys → AreLike (connection_in p) ys zs →
-    AreAlike (progress_of p) xs zs
-alike_like p xs ys zs h k = grind arith
 
 pub alike_back : (p : Place) (xs ys zs : Sent) → AreAlike (progress_of p) xs zs → AreLike (connection_in p) ys zs →
     AreAlike (progress_of p) xs ys
@@ -50,7 +40,7 @@ alike_trans g xs ys zs h k = grind arith
 
 -- messages that are like at a connection are alike there
 pub like_alike : (p : Place) (xs ys : Sent) → AreLike (connection_in p) xs ys → AreAlike (progress_of p) xs ys
-like_alike p xs ys h = alike_like p xs xs ys (same_alike (progress_of p) xs xs refl) h
+like_alike p xs ys h = grind arith
 
 -- ---- the same words
 
@@ -93,14 +83,7 @@ words_of_puts (m ∷ puts) = ap (λ (l : Sent). message_in m ∷ l) (words_of_pu
 -- words after words
 put_alike : (p : Place) (words more : List Word) (stays put new : Sent) → AreAlike (progress_of p) (map word_in words) stays →
     AreLike (connection_in p) new (stays ++ put) → map word_in more ≡ put → AreAlike (progress_of p) (map word_in (words ++ more)) new
-put_alike p words more stays put new first after same = grind (arith, map-append, alike_back, alike_append)
-
-keeps_whole : (o : Option EndReason) (p : Place) (c d : Bool) (H : About) (x : State) (ms puts : List Message) (more : List Word)
-    (old new stays put : Sent) → (w : AreUnderWay o (progress_of p) c H x ms old) → c ≡ false → AreWords more puts →
-    (o ≡ None → AreAlike (progress_of p) (map word_in w.words) stays) → AreLike (connection_in p) new (stays ++ put) →
-    map word_in more ≡ put → AreUnderWay o (progress_of p) d H x (ms ++ puts) new
-keeps_whole o p c d H x ms puts more old new stays put w uncut are first after same =
-    grind (arith, put_alike, no_begun, put_words w.begun w.words more puts w.order (w.finished uncut) are, w.finished uncut)
+put_alike p words more stays put new first after same = grind (arith, map-append, alike_back)
 
 -- nothing of it is lost, and something is put after it, unless what is in flight was cut
 pub out_puts : (o : Option EndReason) (p : Place) (c d : Bool) (H : About) (x : State) (ms puts : List Message) (more : List Word)
@@ -108,11 +91,9 @@ pub out_puts : (o : Option EndReason) (p : Place) (c d : Bool) (H : About) (x : 
     (d ≡ false → c ≡ false) → AreLike (connection_in p) old (stays ++ gone) → AreLike (connection_in p) new (stays ++ put) → gone ≡ [] →
     map word_in more ≡ put → AreUnderWay o (progress_of p) d H x (ms ++ puts) new
 out_puts o p c d H x ms puts more old new stays gone put w are spare cut before after none same =
-    let first : o ≡ None → AreAlike (progress_of p) (map word_in w.words) stays =
-    λ e. subst (λ (l : Sent). AreAlike (progress_of p) (map word_in w.words) l) (ap (λ (l : Sent). stays ++ l) none ∙ append-nil stays)
-    (alike_like p (map word_in w.words) old (stays ++ gone) (w.alike e) before) in
+    let first : o ≡ None → AreAlike (progress_of p) (map word_in w.words) stays = grind (arith, append-nil) in
     elim spare [
-      | inl uncut ↦ keeps_whole o p c d H x ms puts more old new stays put w uncut are first after same
+      | inl uncut ↦ grind (arith, put_alike, no_begun, put_words w.begun w.words more puts w.order (w.finished uncut) are, w.finished uncut)
       | inr nothing ↦ (grind (arith, after, map, append-nil, as_now, alike_back))
     ]
 
@@ -132,10 +113,6 @@ out_keeps o p c d H x ms puts old new stays gone put w spare cut before after no
 pub record Takes (x : State) (ms : List Message) : Type 0 where
   pub behind : IsNoFaultBehind x ms
   pub left : IsOverWhenLeft x ms
-
--- so do they of the first of it
-pub front_takes : (x : State) (ms more : List Message) → Takes x (ms ++ more) → Takes x ms
-front_takes x ms more t = grind (arith, append_assoc, list_any-append)
 
 front_calm : (x : State) (left : Option (List ℕ)) (ms all : List Message) → Takes x all → (IsBegun left → StaysCalm x all) →
     FrontOf left ms all → StaysCalm x ms
@@ -166,7 +143,7 @@ front_at o q g h c d H x ms k old new w takes cut alike =
     let left : take (length (joins w.begun kept)) ms ≡ joins w.begun kept = ap (take (length (joins w.begun kept))) (sym all) ∙ y.0 in
     record {
       keep = length (joins w.begun kept);
-      fits = subst (λ (l : List Message). length (joins w.begun kept) ≤ length l) all (cut_fits w.begun kept gone);
+      fits = subst (λ (l : List Message). length (joins w.begun kept) ≤ length l) all (grind (arith, joins_append, length-append));
       way = record {
         words = kept;
         begun = w.begun;
@@ -192,8 +169,7 @@ leave_at o p c d H x ms m k old new stays put w goes first now_is same =
     let kept = take k w.words in
     let gone = drop k w.words in
     let parts : kept ++ gone ≡ w.words = take-append-drop k w.words in
-    let y = leave_behind w.begun kept gone m (subst (AreInOrder w.begun) (sym parts) w.order) goes in
-    grind (arith, length, put_alike, take, no_begun)
+    grind (arith, put_alike, no_begun, leave_behind w.begun kept gone m (subst (AreInOrder w.begun) (sym parts) w.order) goes)
 
 -- what is put if the sender leaves: a message of that kind, or nothing if what is in flight was cut
 pub record IsLeave (puts : List Message) : Type 0 where
@@ -208,9 +184,7 @@ pub out_cuts : (o : Option EndReason) (p : Place) (c d : Bool) (H : About) (x : 
 out_cuts o p c d H x ms puts old new stays gone put w takes which before after same =
     let k = length stays in
     let first : o ≡ None → AreAlike (progress_of p) (map word_in (take k w.words)) stays =
-    λ e. subst (λ (l : Sent). AreAlike (progress_of p) l stays) (sym (map_take word_in k w.words))
-    (alike_take (progress_of p) (map word_in w.words) stays gone
-    (alike_like p (map word_in w.words) old (stays ++ gone) (w.alike e) before)) in
+    λ e. grind (arith, map_take word_in k w.words, alike_take (progress_of p) (map word_in w.words) stays gone (grind arith)) in
     elim which [
       | inl leave ↦ subst (λ (l : List Message). Left o (progress_of p) d H x ms l new) (sym leave.is)
           (leave_at o p c d H x ms leave.m k old new stays put w leave.leaves first after (sym (ap (map message_in) leave.is) ∙ same))
@@ -218,13 +192,8 @@ out_cuts o p c d H x ms puts old new stays gone put w takes which before after s
           let left : stays ++ put ≡ stays =
           ap (λ (l : Sent). stays ++ l) (sym (sym (ap (map message_in) nothing.1) ∙ same)) ∙ append-nil stays in
           let y = front_at o o (progress_of p) (progress_of p) c d H x ms k old new w takes nothing.0
-          (λ e. alike_back p (map word_in (take k w.words)) new stays (first e)
-          (subst (λ (l : Sent). AreLike (connection_in p) new l) left after)) in
-          record {
-            keep = y.keep;
-            way = subst (λ (l : List Message). AreUnderWay o (progress_of p) d H x l new)
-                (sym (ap (λ (l : List Message). take y.keep ms ++ l) nothing.1 ∙ append-nil (take y.keep ms))) y.way;
-          }
+          (grind (arith, alike_back)) in
+          grind (arith, append-nil (take y.keep ms))
     ]
 
 -- ---- to the end that acts
@@ -260,10 +229,6 @@ split g ms m rest h = grind (arith, split_kinds, split_same)
 -- the way after it, if this has begun, to a session with this state
 abbrev pub BehindFirst : Progress → Bool → Option (List ℕ) → State → List Message → Sent → Type 0
 BehindFirst h d begun x ms rest = AreUnderWay None h d (λ b. b ≡ begun) x ms rest
-
-pub behind_first : (q : Option EndReason) (h : Progress) (d : Bool) (K : About) (begun : Option (List ℕ)) (x y : State) (ms : List Message)
-    (rest : Sent) → BehindFirst h d begun x ms rest → K begun → (StaysCalm x ms → StaysCalm y ms) → AreUnderWay q h d K y ms rest
-behind_first q h d K begun x y ms rest w held calms = grind (arith, as_now)
 
 -- a message comes by itself
 pub record IsAlone (g : Progress) (H : About) (first : Message) (m : carrier.Message) : Type 0 where
@@ -320,9 +285,6 @@ pub record PartFirst (g h : Progress) (d : Bool) (H : About) (x : State) (ms : L
 abbrev pub Comes : Progress → Progress → Bool → About → State → List Message → carrier.Message → Sent → Type 0
 Comes g h d H x ms m rest = Split g h d H x ms m rest ⊎ PartFirst g h d H x ms m rest
 
-follows : (b : Option (List ℕ)) (m : Message) → MayFollow b m → is_leaving m ≡ false → b ≡ None
-follows b m h e = grind arith
-
 next_of : (x : State) (now : List ℕ) (left : Option (List ℕ)) (ms : List Message) → (IsBegun left → StaysCalm x ms) → Next now left ms →
     NextOf x now ms
 next_of x now left ms calm (inl r) = inl r
@@ -344,7 +306,7 @@ split_way g h d H x ms m rest begun (whole first) others is stays joined order f
   others = joins None others;
   parts = sym joined;
   kind = grind arith;
-  how = inl (record { is = is; held = λ e. subst H (follows begun first order.0 e) held });
+  how = inl (record { is = is; held = λ e. subst H (grind arith) held });
   stays = record {
     words = others;
     begun = None;

@@ -138,13 +138,6 @@ row_leaves (refusing reason) n peer link why put e one = cc
 row_leaves terms n peer link reason put e one =
     record { row = leaves reason; is = tt; stands = refl; comes_as = refl; answers = one; told = refl }
 
-row_linked : (terms : Terms) (n peer : ℕ) (link : Standing) (u : Value) → accepts_in terms ≡ true →
-    comes true (was_given (Some (linked peer link))) u ≡ true →
-    ((v : Value) → answers_in terms (was_given (Some (linked peer link))) v ≡ answers_in by_two (was_given (Some (linked peer link))) v) →
-    HasRow terms n (was_given (Some (linked peer link))) (messages_after link.ends.joining.begun (u ∷ []))
-    (answers_in terms (was_given (Some (linked peer link))) u)
-row_linked terms n peer link u e h a = grind (arith, row_quiet, row_tells, row_leaves)
-
 -- at one that is closing
 row_still : (terms : Terms) (n peer : ℕ) (put : List Message) → accepts_in terms ≡ true → put ≡ [] →
     HasRow terms n (was_given (Some (closing peer))) [] put
@@ -171,19 +164,15 @@ row_shut terms n peer m put e may none = cc
 abbrev May : Progress → List Message → Type 0
 May from arrived = AllByRecursion (λ m. may_arrive from m ≡ true) arrived
 
-row_closing : (terms : Terms) (n peer : ℕ) (u : Value) (put : List Message) → accepts_in terms ≡ true →
-    May shutting (messages_after [] (u ∷ [])) → put ≡ [] → HasRow terms n (was_given (Some (closing peer))) (messages_after [] (u ∷ [])) put
-row_closing terms n peer u put e may none = grind (arith, row_shut, row_still)
-
 pub row_of : (terms : Terms) (n : ℕ) (place : Place) (u : Value) → comes (accepts_in terms) place u ≡ true →
     AllByRecursion (λ m. may_arrive (progress_of place) m ≡ true) (messages_after (begun_at (connection_in place)) (u ∷ [])) →
     HasRow terms n place (messages_after (begun_at (connection_in place)) (u ∷ [])) (answers_in terms place u)
 row_of terms n never u h may = row_never terms n u h
 row_of terms n (was_given (Some asked)) u h may = row_asked terms n u h
-row_of by_two n (was_given (Some (linked peer link))) u h may = row_linked by_two n peer link u refl h (λ v. refl)
-row_of by_zero n (was_given (Some (linked peer link))) u h may = row_linked by_zero n peer link u refl h (λ v. refl)
-row_of by_two n (was_given (Some (closing peer))) u h may = row_closing by_two n peer u [] refl may refl
-row_of by_zero n (was_given (Some (closing peer))) u h may = row_closing by_zero n peer u [] refl may refl
+row_of by_two n (was_given (Some (linked peer link))) u h may = grind (arith, row_quiet, row_tells, row_leaves)
+row_of by_zero n (was_given (Some (linked peer link))) u h may = grind (arith, row_quiet, row_tells, row_leaves)
+row_of by_two n (was_given (Some (closing peer))) u h may = grind (arith, row_shut, row_still)
+row_of by_zero n (was_given (Some (closing peer))) u h may = grind (arith, row_shut, row_still)
 row_of terms n place u h may = grind arith
 
 -- the state of the connection then

@@ -1,21 +1,11 @@
 -- Whether something of what is in flight was cut off.
 -- For turns, calls, breaks and ends, packets, carries and the promises.
 use Rattle.osi_pair.proofs.Vocabulary.{◌≡◌, ℕ, ◌<◌, ◌≤◌, ◌⊎◌, Bool, true, false, None, is_some, arith, is_cut, Holding, TwoEnds, end_at}
-use Rattle.osi_pair.proofs.Vocabulary.{with_end, other, is_caller, carriers_of, Side}
+use Rattle.osi_pair.proofs.Vocabulary.{with_end, is_caller, carriers_of, Side}
 
 -- the end of the side has not ended
 abbrev pub Lasts : Side → TwoEnds → Type 0
 Lasts s p = (end_at s p).end.carrier.ended ≡ None
-
--- if an end acts that lasts, nothing new is cut of what is in flight from it
-pub cut_out : (s : Side) (p new : TwoEnds) → new.reach ≡ p.reach → Lasts s p → is_cut (is_caller s) (carriers_of new) ≡ false →
-    is_cut (is_caller s) (carriers_of p) ≡ false
-cut_out s p new reach alive h = grind arith
-
--- nor to it
-pub cut_back : (s : Side) (p new : TwoEnds) → new.reach ≡ p.reach → end_at (other s) new ≡ end_at (other s) p →
-    is_cut (is_caller (other s)) (carriers_of new) ≡ false → is_cut (is_caller (other s)) (carriers_of p) ≡ false
-cut_back s p new reach there h = grind arith
 
 -- if nothing is broken nothing is cut of what is in flight from an end that lasts
 pub cut_none : (s : Side) (p : TwoEnds) (broken : Bool) → broken ≡ is_some p.reach → Lasts s p → broken ≡ false →
@@ -28,24 +18,11 @@ cut_broken s p new broken is reach e = grind arith
 
 -- ---- an end is another
 
-pub reach_same : (s : Side) (h : Holding) (p : TwoEnds) → (with_end s h p).reach ≡ p.reach
-reach_same s h p = grind arith
-
 pub end_out : (s : Side) (h : Holding) (p : TwoEnds) → Lasts s p → is_cut (is_caller s) (carriers_of (with_end s h p)) ≡ false →
     is_cut (is_caller s) (carriers_of p) ≡ false
-end_out s h p alive = cut_out s p (with_end s h p) (reach_same s h p) alive
-
-pub end_back : (s : Side) (h : Holding) (p : TwoEnds) → is_cut (is_caller (other s)) (carriers_of (with_end s h p)) ≡ false →
-    is_cut (is_caller (other s)) (carriers_of p) ≡ false
-end_back s h p = grind arith
+end_out s h p alive = grind arith
 
 -- ---- references that were given, or not
 
 abbrev pub IsWithin : ℕ → ℕ → Type 0
 IsWithin n most = ((n ≡ 0) ⊎ (most < n)) ⊎ ((0 < n) × (n ≤ most))
-
-pub within_or : (n most : ℕ) → IsWithin n most
-within_or n most = grind arith
-
-pub outside_not : (n most : ℕ) → ((n ≡ 0) ⊎ (most < n)) → 0 < n → n ≤ most → ⊥
-outside_not n most h2 some few = grind arith

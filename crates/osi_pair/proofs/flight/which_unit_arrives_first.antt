@@ -1,17 +1,15 @@
 -- Which unit can arrive first at an end, by the state of its connection there.
 -- For what is in flight and packets.
-use Rattle.osi_tpdu.specs.Value.{Connect}
-use Rattle.osi_between.specs.Refusing.{Refusal}
 use Rattle.osi_between.specs.Refusing as refusal
 use Rattle.osi_between.specs.Zero as zero_class
-use Rattle.osi_pair.proofs.Vocabulary.{◌≡◌, ℕ, zero, suc, ◌<◌, ◌≤◌, Bool, true, false, not, ◌&&◌, List, [], ◌∷◌, ◌++◌, nat_lt, Option, Some}
-use Rattle.osi_pair.proofs.Vocabulary.{None, refl, sym, ap, subst, ◌∙◌, arith, if◌then◌else◌, AreJoined, first_of_all, source_is, one_place}
-use Rattle.osi_pair.proofs.Vocabulary.{AllByRecursion, nat_tests, Value, request, confirm, disconnect, data0, data2, acknowledge, Given}
-use Rattle.osi_pair.proofs.Vocabulary.{unit_of, Zero, Two, Local, Place, never, was_given, place_at, Rows, value_at, Connection, asked}
-use Rattle.osi_pair.proofs.Vocabulary.{linked, closing, State, reference_of, units_of, Both, Between, last_of, units_from, AreJoinedBy}
-use Rattle.osi_pair.proofs.Vocabulary.{AreBetween, Course, asking, accepting, withdrawing, met, at_end, from_end, Holds, Meeting, talking}
-use Rattle.osi_pair.proofs.Vocabulary.{left_here, left_there, waiting_here, waiting_there, parted, mirror, here, addressed, leaving, out}
-use Rattle.osi_pair.proofs.Vocabulary.{Terms, by_two, by_zero, refusing, accepts_in, class_of, ZeroCourse, HasOne, given_in}
+use Rattle.osi_pair.proofs.Vocabulary.{◌≡◌, ℕ, zero, suc, ◌<◌, ◌≤◌, Bool, true, false, not, ◌&&◌, List, [], ◌∷◌, ◌++◌, Some, None, sym, ap}
+use Rattle.osi_pair.proofs.Vocabulary.{subst, ◌∙◌, arith, AreJoined, first_of_all, source_is, one_place, AllByRecursion, Value, request}
+use Rattle.osi_pair.proofs.Vocabulary.{confirm, disconnect, data0, data2, acknowledge, Given, Zero, Two, Local, Place, never, was_given}
+use Rattle.osi_pair.proofs.Vocabulary.{place_at, asked, linked, closing, State, reference_of, units_of, Both, Between, last_of, units_from}
+use Rattle.osi_pair.proofs.Vocabulary.{AreJoinedBy, AreBetween, Course, asking, accepting, withdrawing, met, at_end, from_end, Holds}
+use Rattle.osi_pair.proofs.Vocabulary.{Meeting, talking, left_here, left_there, waiting_here, waiting_there, parted, mirror, here}
+use Rattle.osi_pair.proofs.Vocabulary.{addressed, leaving, out, Terms, by_two, by_zero, refusing, accepts_in, class_of, ZeroCourse, HasOne}
+use Rattle.osi_pair.proofs.Vocabulary.{given_in}
 
 -- ---- by place
 
@@ -60,12 +58,6 @@ pub record IsFirstFor (terms : Terms) (end : Bool) (caller : State) (place : Pla
 
 -- ---- in class 2
 
-given_open : (n : ℕ) (g : Given) → comes_open (unit_of n g) ≡ true
-given_open n g = grind arith
-
-same_open : (u v : Value) → v ≡ u → comes_open v ≡ true → comes_open u ≡ true
-same_open u v e h = subst (λ (x : Value). comes_open x ≡ true) e h
-
 first_is : {A : Type 0} (x y : A) (xs ys : List A) → x ∷ xs ≡ y ∷ ys → x ≡ y
 first_is x y xs ys e = cc
 
@@ -74,12 +66,12 @@ none_first y ys e = cc
 
 open_first : (n : ℕ) (gs : List Given) (u : Value) (vs : List Value) → addressed n gs ≡ u ∷ vs → comes_open u ≡ true
 open_first n [] u vs e = none_first u vs e
-open_first n (g ∷ gs) u vs e = same_open u (unit_of n g) (first_is (unit_of n g) u (addressed n gs) vs e) (given_open n g)
+open_first n (g ∷ gs) u vs e = grind arith
 
 left_first : (n reason : ℕ) (gs : List Given) (u : Value) (vs : List Value) → 0 < n → addressed n gs ++ leaving n reason ∷ [] ≡ u ∷ vs →
     comes_open u ≡ true
-left_first n reason [] u vs some e = same_open u (leaving n reason) (first_is (leaving n reason) u [] vs e) (grind arith)
-left_first n reason (g ∷ gs) u vs some e = grind (arith, same_open, first_is, given_open)
+left_first n reason [] u vs some e = grind arith
+left_first n reason (g ∷ gs) u vs some e = grind (arith, first_is)
 
 met_comes : (n : ℕ) (m : Meeting) (u : Value) (vs : List Value) → 0 < n → out n (mirror m) ≡ u ∷ vs →
     comes true (was_given (here n m)) u ≡ true
@@ -97,42 +89,28 @@ met_back n (waiting_here units last) u vs some e = none_first u vs e
 met_back n parted u vs some e = none_first u vs e
 met_back n m u vs some e = grind arith
 
-not_asked : {A : Type 0} (p : Place) → is_asked p ≡ false → is_asked p ≡ true → A
-not_asked p e h = absurd (cc)
-
 record ComesBy (end : Bool) (n : ℕ) (caller : State) (g : Course) (place : Place) (u : Value) : Type 0 where
   may : comes true place u ≡ true
   class : is_linked place ≡ true → caller.class ≡ Some Two
   given : at_end true n g ≡ never → ⊥
   waits : is_asked place ≡ true → end ≡ true
 
-confirm_comes : (c : Connect) (n : ℕ) (u : Value) → confirm n c ≡ u → comes_asked true u ≡ true
-confirm_comes c n u e = subst (λ (x : Value). comes_asked true x ≡ true) e refl
-
 to_caller : (n : ℕ) (caller called : State) (g : Course) (u : Value) (vs : List Value) → 0 < n → Holds n caller called g →
     from_end false n called.local g ≡ u ∷ vs → ComesBy true n caller g (at_end true n g) u
-to_caller n caller called (accepting c p) u vs some h e = grind (arith, confirm_comes, first_is)
-to_caller n caller called (withdrawing c p reason) u vs some h e = grind (arith, confirm_comes, first_is)
-to_caller n caller called (met m) u vs some h e =
-    record { may = met_comes n m u vs some e; class = λ x. h.class; given = λ x. cc; waits = λ x. refl }
+to_caller n caller called (accepting c p) u vs some h e = grind (arith, first_is)
+to_caller n caller called (withdrawing c p reason) u vs some h e = grind (arith, first_is)
+to_caller n caller called (met m) u vs some h e = grind (arith, met_comes n m u vs some e)
 to_caller n caller called g u vs some h e = none_first u vs e
-
-request_comes : (c : Connect) (u : Value) → request c ≡ u → comes_new u ≡ true
-request_comes c u e = subst (λ (x : Value). comes_new x ≡ true) e refl
 
 to_called : (n : ℕ) (caller called : State) (g : Course) (u : Value) (vs : List Value) → 0 < n → Holds n caller called g →
     from_end true n called.local g ≡ u ∷ vs → ComesBy false n caller g (at_end false n g) u
-to_called n caller called (asking c) u vs some h e = grind (arith, request_comes, first_is)
-to_called n caller called (met m) u vs some h e = grind (arith, not_asked, met_back n m u vs some e)
+to_called n caller called (asking c) u vs some h e = grind (arith, first_is)
+to_called n caller called (met m) u vs some h e = grind (arith, met_back n m u vs some e)
 to_called n caller called g u vs some h e = none_first u vs e
-
-given_by : (n given : ℕ) (o : Option Connection) (b : Bool) → nat_lt given n ≡ b →
-    ((if nat_lt given n then never else was_given o) ≡ never → ⊥) → n ≤ given
-given_by n given o b e none = grind arith
 
 -- a reference that the caller has a place for was given
 was : (n : ℕ) (s : State) → (place_at n s ≡ never → ⊥) → n ≤ s.given
-was n s none = given_by n s.given (value_at n s.live) (nat_lt s.given n) refl none
+was n s none = grind arith
 
 two_to_caller : (caller called : State) (going coming : List Value) (u : Value) (rest : List Value) → AreJoined caller called going coming →
     coming ≡ u ∷ rest → IsFirstFor by_two true caller (place_at (reference_of u) caller) u
@@ -142,7 +120,6 @@ two_to_caller caller called going coming u rest j e =
     let st = j.stands n some in
     let c = to_caller n caller called st.course u (units_of n rest) some st.holds (sym st.back ∙ ap (units_of n) e ∙ first_of_all u rest) in
     let given = was n caller (λ x. c.given (sym st.place ∙ x)) in
-    let may = subst (λ (p : Place). comes true p u ≡ true) (sym st.place) c.may in
     grind arith
 
 two_to_called : (caller called : State) (going coming : List Value) (u : Value) (rest : List Value) → AreJoined caller called going coming →
@@ -153,7 +130,6 @@ two_to_called caller called going coming u rest j e =
     let st = j.stands n some in
     let c = to_called n caller called st.course u (units_of n rest) some st.holds (sym st.out ∙ ap (units_of n) e ∙ first_of_all u rest) in
     let given = was n caller (λ x. c.given (sym st.place ∙ x)) in
-    let may = subst (λ (p : Place). comes true p u ≡ true) (sym st.place_there) c.may in
     grind arith
 
 -- ---- in class 0
@@ -165,43 +141,27 @@ record ZeroBy (end : Bool) (caller : Place) (place : Place) (u : Value) : Type 0
   given : given_in caller ≡ 1
   waits : is_asked place ≡ true → end ≡ true
 
-one_unit : (u v : Value) → v ≡ u → reference_of v ≡ 1 → reference_of u ≡ 1
-one_unit u v e h = subst (λ (x : Value). reference_of x ≡ 1) e h
-
 one_first : (gs : List Given) (u : Value) (vs : List Value) → addressed 1 gs ≡ u ∷ vs → reference_of u ≡ 1
 one_first [] u vs e = none_first u vs e
-one_first (g ∷ gs) u vs e = one_unit u (unit_of 1 g) (first_is (unit_of 1 g) u (addressed 1 gs) vs e) (grind arith)
+one_first (g ∷ gs) u vs e = grind arith
 
 zero_to_caller : (caller called : Local) (g : ZeroCourse) (u : Value) (vs : List Value) → zero_class.Holds caller called g →
     zero_class.from_end false called g ≡ u ∷ vs → ZeroBy true (zero_class.at_end true g) (zero_class.at_end true g) u
-zero_to_caller caller called (zero_class.accepting c p) u vs h e = grind (arith, one_unit, first_is, confirm_comes)
+zero_to_caller caller called (zero_class.accepting c p) u vs h e = grind (arith, first_is)
 zero_to_caller caller called (zero_class.talking p) u vs h e = search (arith, one_first, open_first)
 zero_to_caller caller called g u vs h e = none_first u vs e
 
 zero_to_called : (caller called : Local) (g : ZeroCourse) (u : Value) (vs : List Value) → zero_class.Holds caller called g →
     zero_class.from_end true called g ≡ u ∷ vs → ZeroBy false (zero_class.at_end true g) (zero_class.at_end false g) u
-zero_to_called caller called (zero_class.asking c) u vs h e = grind (arith, one_unit, first_is, source_is, request_comes)
+zero_to_called caller called (zero_class.asking c) u vs h e = grind (arith, first_is, source_is)
 zero_to_called caller called (zero_class.talking p) u vs h e = search (arith, one_first, open_first)
 zero_to_called caller called g u vs h e = none_first u vs e
-
-place_by : (n : ℕ) (s : State) (given : ℕ) (live : Rows Connection) → s.given ≡ given → s.live ≡ live →
-    place_at n s ≡ (if nat_lt given n then never else was_given (value_at n live))
-place_by n s given live e f = grind arith
 
 zero_first : (end : Bool) (caller taker : State) (there place : Place) (u : Value) → HasOne caller there → HasOne taker place →
     ZeroBy end there place u → IsFirstFor by_zero end caller (place_at (reference_of u) taker) u
 zero_first end caller taker there place u one other z = search (arith, one_place)
 
 -- ---- if CRs are refused
-
-never_at : (n : ℕ) (s : State) → 0 < n → s.given ≡ 0 → place_at n s ≡ never
-never_at n s some e = grind (arith, place_by, nat_tests)
-
-refusing_to_called : (reason : ℕ) (caller called : State) (stage : Refusal) (u : Value) (vs : List Value) → refusal.Holds caller stage →
-    called.given ≡ 0 → refusal.from_end true reason caller.given stage ≡ u ∷ vs →
-    IsFirstFor (refusing reason) false caller (place_at (reference_of u) called) u
-refusing_to_called reason caller called stage u vs h zero_given e =
-    grind (arith, first_is, source_is, never_at, request_comes, not_asked, none_first)
 
 -- ---- at either end
 
@@ -217,7 +177,7 @@ to_called_by : (terms : Terms) (caller called : State) (going coming : List Valu
 to_called_by by_two caller called going coming u rest j e = two_to_called caller called going coming u rest j e
 to_called_by by_zero caller called going coming u rest j e =
     search (arith, zero_first, zero_to_called caller.local called.local j.course u rest j.holds (sym j.going ∙ e))
-to_called_by (refusing reason) caller called going coming u rest j e = search (arith, refusing_to_called)
+to_called_by (refusing reason) caller called going coming u rest j e = search arith
 
 pub first_for : (terms : Terms) (end : Bool) (both : Both) (b : Between) (u : Value) (rest : List Value) → AreBetween terms both b →
     units_from (not end) b ≡ u ∷ rest → IsFirstFor terms end b.caller (place_at (reference_of u) (last_of end b)) u

@@ -5,14 +5,12 @@ use Rattle.osi_carrier.specs.State as carriers
 use Rattle.osi_machine.specs.Worlds as worlds
 use Rattle.osi_pair.specs.Entries.{ends}
 use Rattle.osi_pair.proofs.Vocabulary.{◌≡◌, ℕ, ◌≤◌, Bool, true, List, [], ◌∷◌, ◌++◌, map, Some, None, refl, sym, ap, subst, ◌∙◌, arith}
-use Rattle.osi_pair.proofs.Vocabulary.{append-nil, append_assoc, map-append, Held, closed_with, RiseFrom, AreUpTo, Rows, value_at, State}
-use Rattle.osi_pair.proofs.Vocabulary.{linked, Closed, Between, AreBetween, Terms, by_zero, closed_here, delivers, Tables, after_end, step}
-use Rattle.osi_pair.proofs.Vocabulary.{tsdus_sent, Input, react, Shown, after_packet, concludes, all_lost, answers, End, answers_by}
-use Rattle.osi_pair.proofs.Vocabulary.{TwoEnds, end_at, Entry, side_in, carriers_of, Stands, waiting_in, quieted, shown_entries, Side, Left}
-use Rattle.osi_pair.proofs.Vocabulary.{Right, Link, EndLine as Line}
-use Rattle.osi_pair.proofs.packet.when_a_session_replies_or_closes.{AnswerLaws, closes_alone, known_zero}
-use Rattle.osi_pair.proofs.packet.a_reply_or_close_keeps_the_match.{answered_end, line_with, closing_by, move_ends, linked_closes}
-use Rattle.osi_pair.proofs.packet.a_reply_or_close_keeps_the_match.{moved_order}
+use Rattle.osi_pair.proofs.Vocabulary.{append-nil, append_assoc, map-append, Held, RiseFrom, AreUpTo, Rows, State, Closed, Between, by_zero}
+use Rattle.osi_pair.proofs.Vocabulary.{closed_here, delivers, Tables, after_end, step, tsdus_sent, Input, react, Shown, after_packet}
+use Rattle.osi_pair.proofs.Vocabulary.{concludes, all_lost, answers, End, answers_by, TwoEnds, end_at, Entry, side_in, Stands, waiting_in}
+use Rattle.osi_pair.proofs.Vocabulary.{quieted, shown_entries, Side, Left, Right, EndLine as Line}
+use Rattle.osi_pair.proofs.packet.when_a_session_replies_or_closes.{AnswerLaws, closes_alone, class_known}
+use Rattle.osi_pair.proofs.packet.a_reply_or_close_keeps_the_match.{answered_end, line_with, move_ends, linked_closes, moved_order}
 use Rattle.osi_pair.proofs.flight.a_taken_packet_is_one_row.{CarrierLaws}
 use Rattle.osi_pair.proofs.call.a_call_is_the_machines.{put_nothing}
 use Rattle.osi_pair.proofs.flight.who_receives_what_is_in_flight.{TakesFrom}
@@ -21,7 +19,7 @@ use Rattle.osi_pair.proofs.turn.what_remains_when_a_unit_was_taken.{terms_at, li
 use Rattle.osi_pair.proofs.session.an_end_moves_as_the_tables_do.{as_made}
 use Rattle.osi_pair.proofs.packet.a_session_that_moved.{move_of, loud_lines, moved_end, known_by, turn_of, moved_tables, HasMoved}
 use Rattle.osi_pair.proofs.packet.a_session_makes_its_move.{heard_by}
-use Rattle.osi_pair.proofs.packet.a_packet_is_one_delivery_or_none.{PacketLaws, terms_then}
+use Rattle.osi_pair.proofs.packet.a_packet_is_one_delivery_or_none.{PacketLaws}
 use Rattle.osi_pair.proofs.session.an_end_with_nothing_pending.{quiet_waits}
 use Rattle.osi_pair.proofs.flight.what_may_arrive_row_by_row.{before}
 use Rattle.osi_pair.proofs.turn.all_is_shown.{StandsShown, shown_pair}
@@ -39,22 +37,14 @@ IsAlone (x ∷ (y ∷ lines)) = ⊥
 alone_by : (k : ℕ) (lines : Rows Line) → k ≤ 1 → RiseFrom 0 (quieted lines) → AreUpTo k (quieted lines) → IsAlone lines
 alone_by k lines most rise up = grind arith
 
--- what is pending, and then the indications of its session's loss
-alone_shows : (lines : Rows Line) → IsAlone lines → waiting_in (all_lost lines) ≡ waiting_in lines ++ waiting_in (all_lost (quieted lines))
-alone_shows lines alone = grind (arith, append-nil, map-append)
-
 -- ---- the two ends
-
-shown_apart : (s : Side) (before : List Entry) (first second : List (ℕ × Shown)) (last : List Entry) →
-    before ++ (shown_entries s (first ++ second) ++ last) ≡ (before ++ shown_entries s first) ++ (shown_entries s second ++ last)
-shown_apart s before first second last = grind (arith, map-append, append_assoc)
 
 -- what they received, in two parts
 says_so : (s : Side) (before : List Entry) (n : ℕ) (shown : List Shown) (lines : Rows Line) (last : List Entry) →
     waiting_in lines ≡ map (λ x. (n, x)) shown → IsAlone lines →
     before ++ (shown_entries s (waiting_in (all_lost lines)) ++ last) ≡ (before ++ shown_entries s (map (λ x. (n, x)) shown)) ++
     (shown_entries s (waiting_in (all_lost (quieted lines))) ++ last)
-says_so s before n shown lines last waits alone = grind (arith, alone_shows, shown_apart)
+says_so s before n shown lines last waits alone = grind (arith, append-nil, map-append, append_assoc)
 
 zero_stands : (s : Side) (p : TwoEnds) (a : State) (lines : Rows Line) (h : Held) (n : ℕ) (shown : List Shown) (now : Between)
     (t : Tables) → Stands (turned_pair s (record { carrier = a; lines = quieted lines }) h n shown p) now t → TakesFrom s t →
@@ -81,21 +71,13 @@ zero_stands Right p a lines h n shown now t old takes lasts waits alone =
 
 -- ---- the carrier
 
-closes_carrier : CarrierLaws →
-    (s : Side) (p : TwoEnds) (e : End) (h : Held) (n : ℕ) (shown : List Shown) (now : Between) (peer : ℕ) (link : Link) →
-    AreBetween by_zero (carriers_of (turned_pair s e h n shown p)) now → e.carrier.ended ≡ None →
-    value_at n e.carrier.live ≡ Some (linked peer link) → closed_with n 128 e.carrier ≡ carriers.ends Closed e.carrier
-closes_carrier laws Left p e h n shown now peer link a lasts at = grind (arith, turned_pair)
-closes_carrier laws Right p e h n shown now peer link a lasts at = grind (arith, turned_pair)
-
 -- ---- the tables
 
 -- the delivery ends the side
 shut_step : (s : Side) (p : TwoEnds) (t : Tables) (packet : List ℕ) (h : Held) (v : HasMoved s p t packet h) (keep : ℕ → ℕ) →
     known_by t v.m ≡ Some worlds.class_0 → (move_of v.m).closes ≡ true → (move_of v.m).reply ≡ None →
     step t (delivers (side_in s) v.m.n keep) ≡ after_end (side_in s) closed_here keep (moved_tables s t v.m)
-shut_step s p t packet h v keep known closing reply =
-    search (arith, known_by, move_of, closing_by, turn_of, line_with, line_then, put_nothing)
+shut_step s p t packet h v keep known closing reply = search (arith, known_by, move_of, turn_of, line_with, line_then, put_nothing)
 
 -- ---- the packet
 
@@ -108,14 +90,12 @@ shut_shown laws s p t packet h v zero known closing reply =
     let lines = loud_lines s p v.m in
     let shown = (move_of v.m).shown in
     let p1 = turned_pair s e h n shown p in
-    let between : AreBetween by_zero (carriers_of p1) v.now =
-    subst (λ (k : Terms). AreBetween k (carriers_of p1) v.now) (terms_then s p e h v.local ∙ zero) v.stands.between in
     let order = moved_order s p t packet h v in
     let alone = alone_by e.carrier.given lines (grind (arith, v.lasts)) order.rising order.sound.known in
     let open_now = linked_closes s p t packet h v closing (move_ends v.m.row v.row) in
     let acts : answers n 0 (as_made (move_of v.m)) e.carrier ≡ carriers.ends Closed e.carrier =
     ap (λ (b : Bool). answers_by b n (tsdus_sent 0 (move_of v.m).reply) e.carrier) closing
-    ∙ closes_carrier laws s p e h n shown v.now open_now.peer open_now.link between v.lasts open_now.at in
+    ∙ (grind (arith, turned_pair)) in
     let same : after_packet (end_at s p).end packet ≡ lost_end Closed e.carrier lines =
     v.does ∙ ap (λ (k : State). concludes (answered_end k lines)) acts in
     let done = zero_stands s p e.carrier lines h n shown v.now (moved_tables s t v.m) v.stands v.takes v.lasts v.waits alone in
@@ -140,5 +120,5 @@ closes_zero laws moves s p b t packet h old alive pa v row input shut zero =
     let x = v.m.seen.own.session in
     let a = closes_alone moves v.m.row v.m.first x v.row (ap (λ (i : Input). (react x i).closes) (sym input) ∙ shut) in
     shut_shown laws.two s p t packet h v zero
-    (known_zero s p b t packet h old pa (ap before (sym row) ∙ a.used) zero v.m.seen.own.transport v.m.first) shut
+    (grind (arith, class_known)) shut
     (ap (λ (i : Input). (react x i).reply) input ∙ a.reply)

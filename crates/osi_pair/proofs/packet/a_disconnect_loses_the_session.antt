@@ -3,13 +3,12 @@
 -- For breaks and ends and packets.
 use Rattle.osi_between.specs.Messages as carrier
 use Rattle.osi_machine.specs.Worlds as worlds
-use Rattle.osi_pair.proofs.Vocabulary.{◌≡◌, ℕ, Bool, true, false, List, [], ◌∷◌, map, take, Option, is_some, refl, sym, ap, subst, ◌∙◌}
-use Rattle.osi_pair.proofs.Vocabulary.{arith, Held, Place, place_at, State as Carrier, reference_of, Between, last_of, under_way, put_in}
-use Rattle.osi_pair.proofs.Vocabulary.{is_cut, progress_of, IsTableRun, delivers, learns, Seat, Line as TableLine, Turn, Tables, seen_from}
-use Rattle.osi_pair.proofs.Vocabulary.{step, without_first, message_taken, Message, over, put, replied, Meaning, tsdus_sent}
-use Rattle.osi_pair.proofs.Vocabulary.{broken as broken_off, Standing, Move, react, after_packet, concludes, answers, End, answers_by}
-use Rattle.osi_pair.proofs.Vocabulary.{hands_none, TwoEnds, end_at, other, side_in, is_caller, carriers_of, message_in, Stands, Goes}
-use Rattle.osi_pair.proofs.Vocabulary.{HasJoined, quieted, Side, kind_of}
+use Rattle.osi_pair.proofs.Vocabulary.{◌≡◌, ℕ, Bool, true, false, List, [], ◌∷◌, map, take, Option, refl, sym, ap, subst, ◌∙◌, arith, Held}
+use Rattle.osi_pair.proofs.Vocabulary.{place_at, reference_of, Between, last_of, under_way, put_in, is_cut, progress_of, IsTableRun}
+use Rattle.osi_pair.proofs.Vocabulary.{delivers, learns, Seat, Line as TableLine, Turn, Tables, seen_from, step, without_first}
+use Rattle.osi_pair.proofs.Vocabulary.{message_taken, Message, over, put, replied, Meaning, broken as broken_off, Standing, Move, react}
+use Rattle.osi_pair.proofs.Vocabulary.{after_packet, answers, End, hands_none, TwoEnds, end_at, other, side_in, is_caller, carriers_of}
+use Rattle.osi_pair.proofs.Vocabulary.{message_in, Stands, Goes, HasJoined, quieted, Side, kind_of, put_other, quieted_at}
 use Rattle.osi_pair.proofs.packet.a_reply_or_close_keeps_the_match.{answered_end, shown_is}
 use Rattle.osi_pair.proofs.call.a_call_is_the_machines.{put_nothing}
 use Rattle.osi_pair.proofs.turn.what_remains_when_a_unit_was_taken.{DidAt, TablesAfter, is_agree, line_then, finish, known_then, PacketAt}
@@ -18,20 +17,19 @@ use Rattle.osi_pair.proofs.packet.what_a_session_hears_row_by_row.{got_in}
 use Rattle.osi_pair.proofs.session.an_end_moves_as_the_tables_do.{as_made}
 use Rattle.osi_pair.proofs.packet.a_session_that_moved.{move_of, loud_lines, MovingLaws, Arriving, moving, EndOf, DidThen, moved_then}
 use Rattle.osi_pair.proofs.packet.a_session_that_moved.{rest_then, does_then, ArrivesAt}
-use Rattle.osi_pair.proofs.packet.a_session_makes_its_move.{heard_by, moved_others}
+use Rattle.osi_pair.proofs.packet.a_session_makes_its_move.{heard_by}
 use Rattle.osi_pair.proofs.packet.a_packet_is_one_delivery_or_none.{ActsAt, acts_at, is_heard, lasting_in, quiet_of}
 use Rattle.osi_pair.proofs.session.an_end_with_nothing_pending.{put_waits}
 use Rattle.osi_pair.proofs.session.a_reply_can_be_sent.{silent_broken}
 use Rattle.osi_pair.proofs.packet.a_unit_with_which_no_session_acts.{step_opens, delivered, tables_delivered, is_awaited, learns_row}
-use Rattle.osi_pair.proofs.packet.a_unit_with_which_no_session_acts.{answer_for, unless_broken, put_unless, answers_same, seat_now}
-use Rattle.osi_pair.proofs.packet.a_unit_with_which_no_session_acts.{leave_by}
-use Rattle.osi_pair.proofs.packet.a_unit_at_rest_keeps_the_match.{did_at, same_row, broken_is}
+use Rattle.osi_pair.proofs.packet.a_unit_with_which_no_session_acts.{answer_for, unless_broken, put_unless, seat_now, leave_by}
+use Rattle.osi_pair.proofs.packet.a_unit_at_rest_keeps_the_match.{did_at, same_row}
 use Rattle.osi_pair.proofs.flight.what_may_arrive_row_by_row.{Row, leaves, before, after, put_for}
 use Rattle.osi_pair.proofs.session.a_seat_is_its_progress_and_session.{transport_by, HasSession}
 use Rattle.osi_pair.proofs.turn.all_is_shown.{StandsShown, shown_pair}
-use Rattle.osi_pair.proofs.turn.a_turn_keeps_the_match.{IsSeen, with_holding, turned_pair, Turned, turned_stands, out_there, GoesTo}
+use Rattle.osi_pair.proofs.turn.a_turn_keeps_the_match.{IsSeen, with_holding, turned_pair, Turned, turned_stands, out_there}
 use Rattle.osi_pair.proofs.flight.what_is_in_flight_when_an_end_acts.{out_cuts, Takes}
-use Rattle.osi_pair.proofs.flight.whether_something_is_cut_off.{cut_broken, reach_same, Lasts}
+use Rattle.osi_pair.proofs.flight.whether_something_is_cut_off.{cut_broken, Lasts}
 use Rattle.osi_pair.proofs.flight.who_receives_what_is_in_flight.{takes_from}
 
 -- ---- the turn of the tables
@@ -59,18 +57,6 @@ lost_turn broken keep reply x channel peer = record {
   closes = false;
 }
 
-turn_leaves : (broken : Bool) (terms : worlds.Terms) (keep reason : ℕ) (x : Standing) (channel : List Message) (peer : Seat) (m : Message) →
-    kind_of (message_in m) ≡ carrier.bye reason →
-    message_taken broken terms keep worlds.linked (record { own = seat_now worlds.linked x channel; peer = peer }) m ≡ lost_turn broken keep
-    (react x broken_off).reply x channel peer
-turn_leaves broken terms keep reason x channel peer m e = grind arith
-
-taken_leaves : (broken : Bool) (terms : worlds.Terms) (keep reason : ℕ) (l : TableLine) (m : Message) (xs : List Message) →
-    l.own.transport ≡ worlds.linked → kind_of (message_in m) ≡ carrier.bye reason →
-    message_taken broken terms keep l.own.transport (without_first l xs) m ≡ left_turn broken keep (leaves reason)
-    (react l.own.session broken_off) xs l
-taken_leaves broken terms keep reason l m xs tr e = grind (arith, seat_now, turn_leaves, silent_broken, put_nothing)
-
 -- ---- what is in flight from it
 
 -- `keep` messages of it remain, followed by the answer
@@ -94,17 +80,14 @@ out_leaves s p b t e h n reason l old d same i takes =
     (HasJoined n (end_at (other s) p)) l.peer.session.state l.own.channel (unless_broken t.broken (over ∷ []))
     (under_way (is_caller s) n (carriers_of p) b)
     (under_way (is_caller s) n (carriers_of two) d.now) d.stays d.gone (put_in (carriers_of p) (put_for d.row)) i.out takes
-    (leave_by t.broken cut over (λ begun. tt) (cut_broken s p two t.broken old.broken (reach_same s (record { end = e; held = h }) p)))
+    (leave_by t.broken cut over (λ begun. tt) (cut_broken s p two t.broken old.broken (grind arith)))
     d.out_before d.out_after
-    (ap (map message_in) (sym puts) ∙ answers_same t.broken (is_some (carriers_of p).reach) d.row (broken_is p b t old)) in
+    (ap (map message_in) (sym puts) ∙ (grind arith)) in
     record {
       keep = x.keep;
       way = out_there s p d.now e h n (progress_of (place_at n (last_of (is_caller (other s)) d.now))) l.peer.session.state
           (left_channel t.broken x.keep l.own.channel)
-          (subst (λ (q : Place). GoesTo s (end_at (other s) p) n two d.now (progress_of q) l.peer.session.state
-          (left_channel t.broken x.keep l.own.channel)) (sym (d.there n))
-          (subst (λ (ms : List Message). GoesTo s (end_at (other s) p) n two d.now (progress_of there) l.peer.session.state ms)
-          (sym (put_unless t.broken (over ∷ []) (take x.keep l.own.channel))) x.way));
+          (grind (arith, d.there n, put_unless t.broken (over ∷ []) (take x.keep l.own.channel)));
     }
 
 -- ---- two ends
@@ -138,10 +121,9 @@ left_unit laws s p b t packet h reason old alive pa heard is a d same f out back
     let new = moved_then laws s p b t packet h old alive pa a d same f in
     finish s p b t u e h n move.shown a.seen move.next channel a.rest old alive d new.lasts new.local new.role pa.first.given
     (laws.packet.behind _ _ d.now d.between) new.order new.waits
-    (moved_others s p e n m.line x m.input refl)
+    (grind (arith, quieted_at, put_other, as_made))
     (subst (λ (r : Row). HasSession n e.lines (after r) move.next) (sym same)
-    (session_then n m.line a.kept.line x m.input (end_at s p).end.lines
-    (after row) a.kept.here a.hears.ended a.hears.waits a.hears.goes.octets)) a.stands
+    (search (arith, session_then, after))) a.stands
     (assumption (
       out.way,
       subst (λ (r : Row). Goes (other s) s n (with_holding s e h p) d.now (after r) move.next.state a.rest)
@@ -161,11 +143,9 @@ left_step s p b t n keep reason row old alive is a =
     subst (λ (r : Row). kind_of (message_in a.first) ≡ kind_of (got_in r)) is a.kind in
     let taken : message_taken t.broken t.terms keep a.seen.own.transport (without_first a.seen a.rest) a.first ≡ left_turn t.broken keep row
     (react a.seen.own.session (heard_by row a.first)) a.rest a.seen =
-    taken_leaves t.broken t.terms keep reason a.seen a.first a.rest tr same
+    (grind (arith, seat_now, silent_broken, put_nothing))
     ∙ ap (λ (r : Row). left_turn t.broken keep r (react a.seen.own.session (heard_by r a.first)) a.rest a.seen) (sym is) in
-    step_opens t (side_in s) n (λ r. keep) a.seen a.first a.rest
-    (left_turn t.broken keep row (react a.seen.own.session (heard_by row a.first)) a.rest a.seen)
-    (lasting_in s p b t old alive) a.found a.parts taken refl
+    grind (arith, step_opens, react, heard_by, lasting_in)
 
 -- a packet that closes an open connection
 pub leaving_packet : MovingLaws → (s : Side) (p : TwoEnds) (b : Between) (t : Tables) (packet : List ℕ) (h : Held) (reason : ℕ) →
@@ -185,17 +165,12 @@ leaving_packet laws s p b t packet h reason old run alive pa v is =
     let out = out_leaves s p b t e h n reason a.seen old d (same ∙ is) a.stands (takes_from laws.takes s t run n a.seen a.found) in
     let keep = out.keep in
     let silent = a.hears.silent (ap after is) in
-    let acts : answers n 0 (as_made (move_of m)) e.carrier ≡ e.carrier =
-    ap (λ (b : Bool). answers_by b n (tsdus_sent 0 (move_of m).reply) e.carrier) silent.1
-    ∙ ap (λ (o : Option Meaning). answers_by false n (tsdus_sent 0 o) e.carrier) silent.0
-    ∙ hands_none n e.carrier in
+    let acts : answers n 0 (as_made (move_of m)) e.carrier ≡ e.carrier = grind (arith, move_of m, hands_none n e.carrier) in
     let then : after_packet (end_at s p).end packet ≡ answered_end e.carrier lines =
-    does_then s p b t packet h pa a f ∙ ap (λ (c : Carrier). concludes (answered_end c lines)) acts
-    ∙ lasting (answered_end e.carrier lines) f.lasts in
+    grind (arith, does_then s p b t packet h pa a f, lasting (answered_end e.carrier lines) f.lasts, answered_end e.carrier lines) in
     let waits = put_waits n m.line a.kept.line (as_made (move_of m)) (end_at s p).end.lines refl (quiet_of s p b t old) a.kept.here in
     let stands : Stands (turned_pair s e h n (move_of m).shown p) d.now (LeftTables s p b t n keep row a) =
-    turned_stands s p b t e h d.now (LeftTables s p b t n keep row a) n (move_of m).shown old alive
-    (left_unit laws s p b t packet h reason old alive pa heard is a d same f out (rest_then s p b t packet h pa v heard)) in
+    search (arith, turned_stands, move_of, left_unit, rest_then) in
     subst (λ (x : End). StandsShown s p t x h) (sym then)
     (record {
       more = delivers (side_in s) n (λ r. keep) ∷ [];

@@ -6,18 +6,18 @@ use Rattle.osi_carrier.specs.React.{react as carrier_react}
 use Rattle.osi_between.specs.Messages as carrier
 use Rattle.osi_machine.specs.Core as machine
 use Rattle.osi_stack.specs.State.{joins}
-use Rattle.osi_pair.proofs.Vocabulary.{◌≡◌, ℕ, ◌≤◌, Bool, true, false, List, [], ◌∷◌, ◌++◌, Option, Some, None, refl, sym, ap, subst, ◌∙◌}
-use Rattle.osi_pair.proofs.Vocabulary.{◌⊎◌, inl, inr, arith, EndLine as Line, AllByRecursion, append-nil, Held, IsPacket, Value, place_at}
+use Rattle.osi_pair.proofs.Vocabulary.{◌≡◌, ℕ, ◌≤◌, Bool, true, false, List, [], ◌∷◌, ◌++◌, Option, None, refl, sym, ap, subst, ◌∙◌, ◌⊎◌}
+use Rattle.osi_pair.proofs.Vocabulary.{inl, inr, arith, EndLine as Line, AllByRecursion, append-nil, Held, IsPacket, Value, place_at}
 use Rattle.osi_pair.proofs.Vocabulary.{RiseFrom, Rows, value_at, State, reference_of, Both, side, Between, last_of, AreBetween, is_cut}
 use Rattle.osi_pair.proofs.Vocabulary.{under_way, progress_of, leaves_use, shutting, Terms, beyond, Step, delivers, HasNumber}
 use Rattle.osi_pair.proofs.Vocabulary.{Line as TableLine, Tables, end_of, step, run, start, Message, after_unit, carries_out, AllCameAbout}
 use Rattle.osi_pair.proofs.Vocabulary.{after_packet, attends, concludes, opens, IsSound, told_all, End, IsAttended, rise_joins, TwoEnds}
 use Rattle.osi_pair.proofs.Vocabulary.{end_at, side_in, is_caller, terms_in, carriers_of, packet_taken, AreDeliveries, StandsAtDeliveries}
-use Rattle.osi_pair.proofs.Vocabulary.{IsInOrder, Stands, StandsAt, Goes, HasJoined, message_in, waiting_in, Side, Left, Right, is_leaving}
-use Rattle.osi_pair.proofs.Vocabulary.{other, kind_of as message_kind, after_message, StaysCalm, told_opened as opened, awaits_cn as awaits}
+use Rattle.osi_pair.proofs.Vocabulary.{IsInOrder, Stands, StandsAt, Goes, HasJoined, message_in, waiting_in, Side, Left, Right, other}
+use Rattle.osi_pair.proofs.Vocabulary.{kind_of as message_kind, after_message, StaysCalm, told_opened as opened, awaits_cn as awaits}
 use Rattle.osi_pair.proofs.Vocabulary.{SessionState}
 use Rattle.osi_pair.proofs.flight.a_taken_packet_is_one_row.{CarrierLaws, packet_acts}
-use Rattle.osi_pair.proofs.packet.a_request_begins_a_session.{asks_same, begun_lines, begun_waits, begins_unit, new_at}
+use Rattle.osi_pair.proofs.packet.a_request_begins_a_session.{begun_lines, begun_waits, begins_unit, new_at}
 use Rattle.osi_pair.proofs.turn.what_remains_when_a_unit_was_taken.{terms_at, DidAt, is_agree, last_is, order_of, was_at, PacketAt}
 use Rattle.osi_pair.proofs.packet.an_end_handles_its_carriers_events.{carried_out, nothing_heard, one_told, lasting}
 use Rattle.osi_pair.proofs.packet.a_unit_with_which_no_session_acts.{is_awaited, rests, sends_then}
@@ -25,7 +25,7 @@ use Rattle.osi_pair.proofs.packet.a_unit_at_rest_keeps_the_match.{acted_end, did
 use Rattle.osi_pair.proofs.packet.a_unit_at_rest_keeps_the_match.{FoundLine, line_at, back_none, back_one, back_alone, back_then}
 use Rattle.osi_pair.proofs.packet.a_unit_at_rest_keeps_the_match.{over_holds, over_stays}
 use Rattle.osi_pair.proofs.flight.what_may_arrive_row_by_row.{Row, begins, refuses, agrees, denies, tells, leaves, ignores, ends, before}
-use Rattle.osi_pair.proofs.flight.what_may_arrive_row_by_row.{after, arrived_in, told_for, is_row}
+use Rattle.osi_pair.proofs.flight.what_may_arrive_row_by_row.{after, arrived_in, told_for}
 use Rattle.osi_pair.proofs.turn.a_turn_keeps_the_match.{with_holding, turned_pair, turned_stands, IsSeen}
 use Rattle.osi_pair.proofs.flight.what_is_in_flight_when_an_end_acts.{Alone, is_tsdu}
 use Rattle.osi_pair.proofs.session.a_seat_is_its_progress_and_session.{session_of_seat}
@@ -89,9 +89,7 @@ rest_end : PacketLaws → (s : Side) (p : TwoEnds) (b : Between) (t : Tables) (p
 rest_end laws s p b t packet h old alive pa same heard lasts local =
     let e = acted_end pa.unit (end_at s p).end.lines (end_at s p).end in
     let role = same_role laws s p b t e h (reference_of pa.unit) old alive (did_at s p b packet h (end_at s p).end.lines pa) lasts in
-    let order = order_then laws s p b t pa.unit e old alive pa.sendable heard lasts refl (order_of s p b t old alive).rising in
-    let waits = quiet_of s p b t old in
-    grind arith
+    search (arith, order_then, order_of s p b t old alive, quiet_of s p b t old)
 
 -- what a row is, which is not answered, and that no session receives
 record IsQuietRow (row : Row) (n : ℕ) : Type 0 where
@@ -115,21 +113,6 @@ record IsRestRow (row : Row) (n : ℕ) : Type 0 where
 
 refuses_row : (n reason : ℕ) → IsRestRow (refuses reason) n
 refuses_row n reason = grind arith
-
-ignores_row : (n : ℕ) (octets : List ℕ) → IsRestRow (ignores octets) n
-ignores_row n octets = record {
-  got = carrier.message octets;
-  one = refl;
-  rest = refl;
-  resting = refl;
-  agree = refl;
-  awaited = refl;
-  stays = refl;
-  told = refl;
-}
-
-ends_row : (n : ℕ) (m : carrier.Message) → IsRestRow (ends m) n
-ends_row n m = record { got = m; one = refl; rest = refl; resting = refl; agree = refl; awaited = refl; stays = refl; told = refl }
 
 -- ---- what the carrier did, at the end of a side
 
@@ -248,10 +231,6 @@ ignored_packet laws s p b t packet h old alive pa octets is at back =
 got_is : (row : Row) (n : ℕ) (q : IsRestRow row n) (m : carrier.Message) → arrived_in row ≡ m ∷ [] → q.got ≡ m
 got_is row n q m e = let two : q.got ∷ [] ≡ m ∷ [] = sym q.one ∙ e in cc
 
-row_of_pa : (s : Side) (p : TwoEnds) (b : Between) (packet : List ℕ) (h : Held) → (pa : PacketAt s p b packet h) →
-    is_row (terms_at p) pa.did.row
-row_of_pa s p b packet h pa = grind arith
-
 -- of a message that is no TSDU
 came_alone : (s : Side) (p : TwoEnds) (b : Between) (t : Tables) (packet : List ℕ) (h : Held) → Lasts s p → (pa : PacketAt s p b packet h) →
     (q : IsRestRow pa.did.row (reference_of pa.unit)) → (at : FoundLine s (reference_of pa.unit) p b t) → is_tsdu q.got ≡ false →
@@ -270,8 +249,7 @@ held_then : (s : Side) (p : TwoEnds) (b : Between) (t : Tables) (n : ℕ) (row :
 held_then s p b t n row l begun old alive stood i shuts =
     let now : progress_of (place_at n (end_at s p).end.carrier) ≡ shutting =
     ap (λ (c : State). progress_of (place_at n c)) (sym (was_at s p b t old alive)) ∙ stood ∙ shuts in
-    over_holds s p n shutting l.own.session begun (order_of s p b t old alive)
-    (session_of_seat n (end_at s p) l.own shutting now i.here) refl
+    search (arith, over_holds, order_of s p b t old alive, session_of_seat n (end_at s p) l.own shutting now i.here)
 
 -- and its session takes data, whatever comes before it
 calm_then : (s : Side) (p : TwoEnds) (b : Between) (t : Tables) (n : ℕ) (row : Row) (l : TableLine) (ms : List Message) → Stands p b t →
@@ -298,8 +276,7 @@ begins_packet laws s p b t packet h old alive pa begun =
     let d = did_at s p b packet h lines pa in
     let row : d.row ≡ begins = same_row s p b packet h lines pa ∙ begun in
     let order = order_of s p b t old alive in
-    let above = new_at n was.carrier (ap (λ (c : State). progress_of (place_at n c)) (sym (was_at s p b t old alive)) ∙ d.stood
-    ∙ ap before row) in
+    let above = new_at n was.carrier (grind (arith, was_at, before)) in
     let none : value_at n was.lines ≡ None = beyond n was.carrier.given was.lines order.sound.known above in
     let told : (carrier_react pa.unit was.carrier).events ≡ opened n ∷ [] = f.events ∙ ap (told_for n) begun in
     let same : after_packet was packet ≡ e =
@@ -307,14 +284,13 @@ begins_packet laws s p b t packet h old alive pa begun =
     ∙ lasting (joins n awaits (told_all pa.unit was)) f.lasts in
     let heard = sym (carried_out was packet pa.unit f.acts) ∙ same in
     let new : EndThen s p e =
-    assumption (
-      f.lasts,
-      f.local,
+    search (
+      arith,
+      order_then,
+      begun_waits,
       same_role laws s p b t e h n old alive d f.lasts,
-      order_then laws s p b t pa.unit e old alive
-          pa.sendable heard f.lasts refl
-          (rise_joins was.carrier.given n awaits (told_all pa.unit was) above order.sound.known order.rising),
-      begun_waits n (told_all pa.unit was).carrier.live was.lines (quiet_of s p b t old),
+      rise_joins was.carrier.given n awaits (told_all pa.unit was) above order.sound.known order.rising,
+      quiet_of s p b t old,
     ) in
     let x = begins_unit s p b t packet h old alive (lasting_in s p b t old alive) pa d row (laws.behind _ _ d.now d.between) new in
     record {
@@ -351,16 +327,6 @@ RestsAt row n = ((reason : ℕ) × (row ≡ refuses reason))
 abbrev Kind : Row → ℕ → Type 0
 Kind row n = IsQuietRow row n ⊎ (RestsAt row n ⊎ (row ≡ begins))
 
-kind_of : (n : ℕ) (row : Row) → is_heard row ≡ false → Kind row n
-kind_of n row e = grind arith
-
--- what ends a connection that is closing is no TSDU
-ends_kind : (terms : Terms) (m : carrier.Message) → is_row terms (ends m) → is_tsdu m ≡ false
-ends_kind terms m is = grind arith
-
-asks_stays : (m : Message) → message_kind (message_in m) ≡ carrier.ask → is_leaving m ≡ false
-asks_stays m k = grind arith
-
 resting_packet : PacketLaws → (s : Side) (p : TwoEnds) (b : Between) (t : Tables) (packet : List ℕ) (h : Held) → Stands p b t → Lasts s p →
     (pa : PacketAt s p b packet h) → RestsAt pa.did.row (reference_of pa.unit) → StandsBehind s p t packet h
 resting_packet laws s p b t packet h old alive pa (inl is) =
@@ -374,18 +340,18 @@ resting_packet laws s p b t packet h old alive pa (inl is) =
     rest_packet laws s p b t packet h old alive pa q at sp.first sp.others sp.parts sp.kind
     (back_then s p (did_at s p b packet h lines pa).now e h n (after (did_at s p b packet h lines pa).row) None
     (after_message at.line.own.session.state sp.first) at.line.own.session.state sp.others sp.stays
-    (sp.alone.held (asks_stays sp.first (sp.kind ∙ ap message_kind kind)))
+    (sp.alone.held (grind arith))
     (λ calm. subst (λ (x : SessionState). StaysCalm x sp.others)
-    (asks_same at.line.own.session.state sp.first (sp.kind ∙ ap message_kind kind)) calm))
+    (grind arith) calm))
 resting_packet laws s p b t packet h old alive pa (inr (inl is)) =
     let n = reference_of pa.unit in
     let lines = (end_at s p).end.lines in
     let e = acted_end pa.unit lines (end_at s p).end in
     let at = line_at s n p b t old pa.first.named pa.first.given in
-    let q : IsRestRow pa.did.row n = subst (λ (r : Row). IsRestRow r n) (sym is.1) (ends_row n is.0) in
+    let q : IsRestRow pa.did.row n = subst (λ (r : Row). IsRestRow r n) (sym is.1) (grind arith) in
     let kind : q.got ≡ is.0 = got_is pa.did.row n q is.0 (ap arrived_in is.1) in
     let sp = came_alone s p b t packet h alive pa q at
-    (ap is_tsdu kind ∙ ends_kind (terms_at p) is.0 (subst (is_row (terms_at p)) is.1 (row_of_pa s p b packet h pa))) in
+    (ap is_tsdu kind ∙ (grind arith)) in
     rest_packet laws s p b t packet h old alive pa q at sp.first sp.others sp.parts sp.kind
     (back_then s p (did_at s p b packet h lines pa).now e h n (after (did_at s p b packet h lines pa).row) None
     (after_message at.line.own.session.state sp.first) at.line.own.session.state sp.others sp.stays
@@ -401,16 +367,14 @@ resting_packet laws s p b t packet h old alive pa (inr (inr is)) =
     λ begun. held_then s p b t n pa.did.row at.line begun old alive (stood_at s p b packet h pa) at.is (ap before is.1) in
     elim (back_one s p b e h n at.line (carrier.message is.0) d at.is alive (ap arrived_in (same_row s p b packet h lines pa ∙ is.1))) [
       | inl sp ↦
-          let q : IsRestRow pa.did.row n = subst (λ (r : Row). IsRestRow r n) (sym is.1) (ignores_row n is.0) in
+          let q : IsRestRow pa.did.row n = subst (λ (r : Row). IsRestRow r n) (sym is.1) (grind arith) in
           rest_packet laws s p b t packet h old alive pa q at sp.first sp.others sp.parts
           (sp.kind ∙ ap message_kind (sym (got_is pa.did.row n q (carrier.message is.0) (ap arrived_in is.1))))
           (back_then s p d.now e h n (after d.row) None
           (after_message at.line.own.session.state sp.first) at.line.own.session.state sp.others sp.stays (held None)
           (λ calm. calm_then s p b t n pa.did.row at.line sp.others old alive (stood_at s p b packet h pa) at.is (ap before is.1)))
       | inr sp ↦ ignored_packet laws s p b t packet h old alive pa is.0 is.1 at
-          (back_then s p d.now e h n (after d.row)
-          (Some sp.now) at.line.own.session.state at.line.own.session.state at.line.peer.channel sp.stays (held (Some sp.now))
-          (λ calm. calm))
+          (search (arith, back_then, after))
     ]
 
 by_kind : PacketLaws → (s : Side) (p : TwoEnds) (b : Between) (t : Tables) (packet : List ℕ) (h : Held) → Stands p b t → Lasts s p →
@@ -423,7 +387,7 @@ by_kind laws s p b t packet h old alive pa (inr (inr e)) = begins_packet laws s 
 pub unheard_packet : PacketLaws → (s : Side) (p : TwoEnds) (b : Between) (t : Tables) (packet : List ℕ) (h : Held) → Stands p b t →
     Lasts s p → (pa : PacketAt s p b packet h) → is_heard pa.did.row ≡ false → StandsBehind s p t packet h
 unheard_packet laws s p b t packet h old alive pa e =
-    by_kind laws s p b t packet h old alive pa (kind_of (reference_of pa.unit) pa.did.row e)
+    by_kind laws s p b t packet h old alive pa (grind arith)
 
 -- ---- at a list of steps
 
@@ -438,15 +402,8 @@ pub terms_then : (s : Side) (p : TwoEnds) (a : End) (h : Held) → a.carrier.loc
     terms_at (with_holding s a h p) ≡ terms_at p
 terms_then s p a h e = grind arith
 
--- no user received an indication
-shown_nothing : (s : Side) (p : TwoEnds) (a e : End) (h : Held) (n : ℕ) → a ≡ e → turned_pair s e h n [] p ≡ with_holding s a h p
-shown_nothing s p a e h n same = grind (arith, with_holding, append-nil)
-
 pub both_carrier : (s : Side) (p : TwoEnds) → (side (is_caller s) (carriers_of p)).state ≡ (end_at s p).end.carrier
 both_carrier s p = grind arith
-
-pub both_held : (s : Side) (p : TwoEnds) → (side (is_caller s) (carriers_of p)).held ≡ (end_at s p).held.octets
-both_held s p = grind arith
 
 pub untold_at : PacketLaws → (p : TwoEnds) (steps : List Step) (s : Side) (packet octets : List ℕ) (h : Held) → StandsAt p steps →
     Lasts s p → IsPacket packet octets → (end_at s p).held.octets ≡ octets ++ h.octets →
@@ -457,7 +414,7 @@ untold_at laws p steps s packet octets h at alive is cut none =
     let c = both_carrier s p in
     let pa = packet_acts laws.two (terms_at p) (is_caller s) (carriers_of p) at.now packet octets h.octets at.stands.between
     (ap (λ (x : State). x.ended) c ∙ alive)
-    (ap (λ (x : State). x.events) c ∙ (order_of s p at.now t at.stands alive).heard) is (both_held s p ∙ cut) in
+    (ap (λ (x : State). x.events) c ∙ (order_of s p at.now t at.stands alive).heard) is ((grind arith) ∙ cut) in
     let f = acts_at s p at.now packet h pa in
     let told : told_for (reference_of pa.unit) pa.did.row ≡ [] = sym f.events ∙ ap (λ (x : State). x.events) (sym f.acts) ∙ none in
     let b = unheard_packet laws s p at.now t packet h at.stands alive pa (quiet_told (reference_of pa.unit) pa.did.row told) in
@@ -471,6 +428,6 @@ untold_at laws p steps s packet octets h at alive is cut none =
         now = b.now;
         stands = subst (λ (u : Tables). Stands (with_holding s a h p) b.now u)
             (sym (run_behind first steps b.more) ∙ ap (λ (x : Terms). run (start (terms_in x)) (steps ++ b.more)) (sym terms))
-            (subst (λ (q : TwoEnds). Stands q b.now (run t b.more)) (shown_nothing s p a b.end h b.n b.same) b.stands);
+            (subst (λ (q : TwoEnds). Stands q b.now (run t b.more)) (grind (arith, with_holding, append-nil)) b.stands);
       };
     }

@@ -1,18 +1,17 @@
 -- A packet is taken: how two ends match a list of steps when its users received the indications.
 -- For packets and carries.
 use Rattle.osi_machine.specs.Core as machine
-use Rattle.osi_pair.proofs.Vocabulary.{◌≡◌, ℕ, false, List, [], ◌∷◌, ◌++◌, None, sym, ap, subst, ◌∙◌, arith, AllByRecursion, Held, IsPacket}
-use Rattle.osi_pair.proofs.Vocabulary.{State, Between, Terms, Step, delivers, HasNumber, ends as ends_side, Tables, run, start}
-use Rattle.osi_pair.proofs.Vocabulary.{after_packet, End, TwoEnds, end_at, side_in, is_caller, terms_in, carriers_of, AreDeliveries}
-use Rattle.osi_pair.proofs.Vocabulary.{AreArrivals, StandsAtArrivals, Stands, StandsAt, waiting_in, Side}
+use Rattle.osi_pair.proofs.Vocabulary.{◌≡◌, ℕ, false, List, [], ◌∷◌, ◌++◌, sym, ap, subst, ◌∙◌, arith, AllByRecursion, Held, IsPacket}
+use Rattle.osi_pair.proofs.Vocabulary.{State, Between, Step, delivers, HasNumber, ends as ends_side, Tables, run, after_packet, End}
+use Rattle.osi_pair.proofs.Vocabulary.{TwoEnds, end_at, side_in, is_caller, carriers_of, AreDeliveries, AreArrivals, StandsAtArrivals}
+use Rattle.osi_pair.proofs.Vocabulary.{Stands, StandsAt, Side}
 use Rattle.osi_pair.proofs.flight.a_taken_packet_is_one_row.{PacketActs, packet_acts}
 use Rattle.osi_pair.proofs.turn.what_remains_when_a_unit_was_taken.{terms_at, order_of, PacketAt}
 use Rattle.osi_pair.proofs.packet.a_packet_is_one_delivery_or_none.{PacketLaws, StandsBehind, is_heard, unheard_packet, both_carrier}
-use Rattle.osi_pair.proofs.packet.a_packet_is_one_delivery_or_none.{both_held}
 pub use Rattle.osi_pair.proofs.promise.matching_ends_keep_the_promises.{tables_at, is_run}
 use Rattle.osi_pair.proofs.session.an_end_with_nothing_pending.{quiet_same}
 use Rattle.osi_pair.proofs.turn.all_is_shown.{shown_pair, StandsShown}
-use Rattle.osi_pair.proofs.turn.a_turn_keeps_the_match.{with_holding, turned_pair}
+use Rattle.osi_pair.proofs.turn.a_turn_keeps_the_match.{with_holding}
 use Rattle.osi_pair.proofs.ending.a_break_is_the_machines.{run_behind}
 use Rattle.osi_pair.proofs.flight.whether_something_is_cut_off.{Lasts}
 
@@ -21,11 +20,6 @@ use Rattle.osi_pair.proofs.flight.whether_something_is_cut_off.{Lasts}
 are_arrivals : (s : machine.Side) (xs : List Step) → AreDeliveries s xs → AreArrivals s xs
 are_arrivals s (delivers q r keep ∷ xs) d = (d.0, are_arrivals s xs d.1)
 are_arrivals s xs d = search
-
--- an end that goes on, with no indication pending
-pub shown_nothing : (s : Side) (p : TwoEnds) (e : End) (h : Held) (n : ℕ) → e.carrier.ended ≡ None → waiting_in e.lines ≡ [] →
-    shown_pair s e h p ≡ turned_pair s e h n [] p
-shown_nothing s p e h n lasts waits = grind (arith, with_holding, quiet_same)
 
 behind_shown : (s : Side) (p : TwoEnds) (t : Tables) (packet : List ℕ) (h : Held) → StandsBehind s p t packet h →
     StandsShown s p t (after_packet (end_at s p).end packet) h
@@ -36,7 +30,7 @@ behind_shown s p t packet h b =
       are = are_arrivals (side_in s) b.more b.are;
       now = b.now;
       local = b.local;
-      stands = subst (λ (q : TwoEnds). Stands q b.now (run t b.more)) (sym (shown_nothing s p b.end h b.n b.lasts b.waits)) b.stands;
+      stands = subst (λ (q : TwoEnds). Stands q b.now (run t b.more)) (sym (grind (arith, with_holding, quiet_same))) b.stands;
     })
 
 -- a packet that no session receives
@@ -68,9 +62,7 @@ arrivals_at s p steps e h at x =
       stands = record {
         numbered = numbered_then (side_in s) steps x.more at.numbered x.are;
         now = x.now;
-        stands = subst (λ (u : Tables). Stands (shown_pair s e h p) x.now u)
-            (sym (run_behind (start (terms_in (terms_at p))) steps x.more)
-            ∙ ap (λ (k : Terms). run (start (terms_in k)) (steps ++ x.more)) (sym terms)) x.stands;
+        stands = grind (arith, shown_pair, run_behind, terms_at);
       };
     }
 
@@ -82,4 +74,4 @@ packet_at laws s p steps packet octets h at alive is cut =
     let c = both_carrier s p in
     packet_acts laws.two (terms_at p) (is_caller s) (carriers_of p) at.now packet octets h.octets at.stands.between
     (ap (λ (x : State). x.ended) c ∙ alive)
-    (ap (λ (x : State). x.events) c ∙ (order_of s p at.now (tables_at p steps) at.stands alive).heard) is (both_held s p ∙ cut)
+    (ap (λ (x : State). x.events) c ∙ (order_of s p at.now (tables_at p steps) at.stands alive).heard) is ((grind arith) ∙ cut)

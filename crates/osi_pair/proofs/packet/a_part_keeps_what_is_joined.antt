@@ -6,25 +6,23 @@ use Rattle.osi_machine.specs.Worlds as worlds
 use Rattle.osi_session.specs.Listening.{rests}
 use Rattle.osi_session.specs.Listening as words
 use Rattle.osi_stack.specs.Moving.{noted}
-use Rattle.osi_pair.proofs.Vocabulary.{◌≡◌, ℕ, ◌≤◌, false, true, List, [], Some, refl, sym, ap, subst, ◌∙◌, arith, Held, place_at, tsdu}
-use Rattle.osi_pair.proofs.Vocabulary.{IsOrderly, Rows, State as Carrier, put_here, put_other, orderly_unit, orderly_same, reference_of}
-use Rattle.osi_pair.proofs.Vocabulary.{Between, last_of, progress_of, leaves_use, Line as TableLine, Tables, Message, part_octets, Listener}
-use Rattle.osi_pair.proofs.Vocabulary.{came, came_as, part_comes, HasNumbersInWords, after_packet, concludes, told_all, kept_at, line_after}
-use Rattle.osi_pair.proofs.Vocabulary.{to_session, End, session_in, came_numbers, hands_none, packet_rises, TwoEnds, end_at, other}
-use Rattle.osi_pair.proofs.Vocabulary.{is_caller, joining, HasJoined, Goes, IsInOrder, Stands, waiting_in, Side, put_row as put}
-use Rattle.osi_pair.proofs.Vocabulary.{EndLine as Line}
+use Rattle.osi_pair.proofs.Vocabulary.{◌≡◌, ℕ, ◌≤◌, false, true, List, [], Some, refl, sym, ap, subst, ◌∙◌, arith, Held, tsdu, IsOrderly}
+use Rattle.osi_pair.proofs.Vocabulary.{Rows, State as Carrier, put_here, put_other, orderly_unit, orderly_same, reference_of, Between}
+use Rattle.osi_pair.proofs.Vocabulary.{leaves_use, Line as TableLine, Tables, part_octets, Listener, came, came_as, part_comes}
+use Rattle.osi_pair.proofs.Vocabulary.{HasNumbersInWords, after_packet, concludes, told_all, kept_at, line_after, to_session, End}
+use Rattle.osi_pair.proofs.Vocabulary.{session_in, came_numbers, hands_none, packet_rises, TwoEnds, end_at, other, joining, HasJoined, Goes}
+use Rattle.osi_pair.proofs.Vocabulary.{IsInOrder, Stands, waiting_in, Side, put_row as put, EndLine as Line, append-nil}
 use Rattle.osi_pair.proofs.turn.what_remains_when_a_unit_was_taken.{TablesAfter, is_agree, order_of, finish, known_then, PacketAt}
 use Rattle.osi_pair.proofs.packet.an_end_handles_its_carriers_events.{one_told, lasting}
 use Rattle.osi_pair.proofs.packet.a_session_that_moved.{MovingLaws, PartArrives, opened_then, lives_then, open_at, seat_transport}
 use Rattle.osi_pair.proofs.session.a_moved_session_keeps_the_order.{session_moves, moves_order}
 use Rattle.osi_pair.proofs.packet.a_packet_is_one_delivery_or_none.{ActsAt, acts_at, same_role, quiet_of, stood_at}
-use Rattle.osi_pair.proofs.session.an_end_with_nothing_pending.{put_waits}
-use Rattle.osi_pair.proofs.packet.a_unit_with_which_no_session_acts.{tables_rest, sends_then}
+use Rattle.osi_pair.proofs.session.an_end_with_nothing_pending.{put_waits, quiet_same}
+use Rattle.osi_pair.proofs.packet.a_unit_with_which_no_session_acts.{sends_then}
 use Rattle.osi_pair.proofs.packet.a_unit_at_rest_keeps_the_match.{acted_end, did_at, same_row, out_row, back_then, other_lines, line_same}
 use Rattle.osi_pair.proofs.flight.what_may_arrive_row_by_row.{Row, tells, before, after, told_for}
 use Rattle.osi_pair.proofs.session.a_seat_is_its_progress_and_session.{transport_by, HasSession}
 use Rattle.osi_pair.proofs.turn.all_is_shown.{StandsShown}
-use Rattle.osi_pair.proofs.packet.a_packet_is_taken.{shown_nothing}
 use Rattle.osi_pair.proofs.turn.a_turn_keeps_the_match.{with_holding, turned_pair, Turned, turned_stands}
 use Rattle.osi_pair.proofs.flight.whether_something_is_cut_off.{Lasts}
 
@@ -132,9 +130,7 @@ part_unit laws s p b t packet h old alive pa v f =
     let same = same_row s p b packet h lines pa in
     let octets = part_octets v.place v.octets in
     let row : d.row ≡ tells octets = same ∙ v.is in
-    let waits : waiting_in lines ≡ [] =
-    put_waits n (part_line s p b t packet h pa v) v.kept.line (rests (joining v.joins.now x)) (end_at s p).end.lines refl
-    (quiet_of s p b t old) v.kept.here in
+    let waits : waiting_in lines ≡ [] = search (arith, put_waits, quiet_of) in
     let steady : leaves_use (before d.row) (after d.row) ≡ false = ap (λ (r : Row). leaves_use (before r) (after r)) row in
     let tr : l.own.transport ≡ transport_by (after d.row) =
     seat_transport s p b t n pa.did.row l old alive (stood_at s p b packet h pa) v.stands ∙ ap (λ (r : Row). transport_by (before r)) v.is
@@ -144,16 +140,13 @@ part_unit laws s p b t packet h old alive pa v f =
     (part_order laws s p b t packet h old alive pa v f) waits (grind (arith, put_other))
     (subst (λ (r : Row). HasSession n lines (after r) x) (sym row) (part_has s p b t packet h pa v octets)) v.stands
     (record {
-      out = subst (λ (ms : List Message). Goes s (other s) n (with_holding s e h p) d.now
-          (progress_of (place_at n (last_of (is_caller (other s)) d.now))) l.peer.session.state ms)
-          (ap (λ (r : Row). sends_then r t.broken l.own.channel) row)
-          (out_row s p b t e h n l old d v.stands steady alive);
+      out = grind (arith, sends_then, with_holding s e h p, out_row s p b t e h n l old d v.stands steady alive);
       back = subst (λ (r : Row). Goes (other s) s n (with_holding s e h p) d.now (after r) x.state l.peer.channel) (sym same)
           (back_then s p d.now e h n (after pa.did.row) (Some v.now) x.state x.state l.peer.channel
           (other_lines s p b packet h n (end_at s p).end.lines lines pa (after pa.did.row) (Some v.now) x.state l.peer.channel v.stays)
           (part_holds s p b t packet h pa v) (λ calm. calm));
     })
-    (subst (λ (m : TableLine). TablesAfter s n t t [] m) (sym (line_same d.row l tr)) (tables_rest s n l t v.found))
+    (subst (λ (m : TableLine). TablesAfter s n t t [] m) (sym (line_same d.row l tr)) (grind (arith, append-nil)))
     (known_then s p b t e h n old alive d f.lasts pa.first.given (ap is_agree row))
 
 pub part_shown : MovingLaws → (s : Side) (p : TwoEnds) (b : Between) (t : Tables) (packet : List ℕ) (h : Held) → Stands p b t → Lasts s p →
@@ -164,9 +157,6 @@ part_shown laws s p b t packet h old alive pa v =
     let e = part_end s p b t packet h pa v in
     let d = did_at s p b packet h lines pa in
     let f = acts_at s p b packet h pa in
-    let waits : waiting_in lines ≡ [] =
-    put_waits n (part_line s p b t packet h pa v) v.kept.line (rests (joining v.joins.now v.seen.own.session))
-    (end_at s p).end.lines refl (quiet_of s p b t old) v.kept.here in
     let stands : Stands (turned_pair s e h n [] p) d.now t =
     turned_stands s p b t e h d.now t n [] old alive (part_unit laws s p b t packet h old alive pa v f) in
     subst (λ (y : End). StandsShown s p t y h) (sym (part_does laws s p b t packet h pa v f))
@@ -175,5 +165,5 @@ part_shown laws s p b t packet h old alive pa v =
       are = tt;
       now = d.now;
       local = f.local;
-      stands = subst (λ (q : TwoEnds). Stands q d.now t) (sym (shown_nothing s p e h n f.lasts waits)) stands;
+      stands = subst (λ (q : TwoEnds). Stands q d.now t) (sym (grind (arith, with_holding, quiet_same))) stands;
     })

@@ -7,12 +7,11 @@ use Rattle.osi_machine.specs.Tables.{closed}
 use Rattle.osi_machine.specs.Worlds as worlds
 use Rattle.osi_pair.proofs.Vocabulary.{◌≡◌, ℕ, zero, suc, Bool, true, false, List, [], ◌∷◌, map, Option, Some, None, refl, sym, ap, subst}
 use Rattle.osi_pair.proofs.Vocabulary.{◌∙◌, ◌⊎◌, arith, noted_in, append-nil, Held, open_link, sent, sent_on, closed_with, Rows}
-use Rattle.osi_pair.proofs.Vocabulary.{State as Carrier, EndReason, in_use, gone, by_two, delivers, shown_at, replaced, with_connection}
-use Rattle.osi_pair.proofs.Vocabulary.{Line as TableLine, Turn, Tables, stays, puts, closes_by, after_turn, step, Message, unit, put}
-use Rattle.osi_pair.proofs.Vocabulary.{replied, Meaning, tsdus_sent, written, is_ended, Shown, after_packet, concludes, with_carrier}
-use Rattle.osi_pair.proofs.Vocabulary.{IsSound, answers, End, answers_by, hands_none, handed, sent_by_itself, TwoEnds, end_at, Entry}
-use Rattle.osi_pair.proofs.Vocabulary.{side_in, IsInOrder, Stands, waiting_in, quieted, shown_entries, told_entries, Side, Link}
-use Rattle.osi_pair.proofs.Vocabulary.{EndLine as Line, quieted_at}
+use Rattle.osi_pair.proofs.Vocabulary.{State as Carrier, in_use, gone, by_two, delivers, shown_at, replaced, with_connection}
+use Rattle.osi_pair.proofs.Vocabulary.{Line as TableLine, Tables, stays, puts, closes_by, step, Message, unit, put, replied, Meaning}
+use Rattle.osi_pair.proofs.Vocabulary.{tsdus_sent, written, is_ended, Shown, after_packet, concludes, with_carrier, IsSound, answers, End}
+use Rattle.osi_pair.proofs.Vocabulary.{answers_by, hands_none, handed, sent_by_itself, TwoEnds, end_at, side_in, IsInOrder, Stands}
+use Rattle.osi_pair.proofs.Vocabulary.{waiting_in, quieted, Side, Link, EndLine as Line, quieted_at}
 use Rattle.osi_pair.proofs.turn.what_an_acting_end_leaves_in_flight.{StandsOn}
 use Rattle.osi_pair.proofs.flight.a_taken_packet_is_one_row.{CarrierLaws}
 use Rattle.osi_pair.proofs.call.a_call_is_the_machines.{put_nothing, open_is}
@@ -40,27 +39,14 @@ turned_here s e h n shown p = grind arith
 abbrev pub answered_end : Carrier → Rows Line → End
 answered_end c lines = record { carrier = c; lines = lines }
 
-told_is : (s : Side) (n : ℕ) (shown : List Shown) (ended : Option EndReason) (waits : List (ℕ × Shown)) → ended ≡ None →
-    waits ≡ map (λ x. (n, x)) shown → shown_entries s (map (λ x. (n, x)) shown) ≡ told_entries s None ended waits
-told_is s n shown ended waits lasts e = grind (arith, append-nil)
-
 pub shown_is : (s : Side) (p : TwoEnds) (e : End) (h : Held) (n : ℕ) (shown : List Shown) (c : Carrier) (lines : Rows Line) →
     c.ended ≡ None → waiting_in lines ≡ map (λ x. (n, x)) shown →
     with_holding s (answered_end c (quieted lines)) h (turned_pair s e h n shown p) ≡ shown_pair s (answered_end c lines) h p
-shown_is s p e h n shown c lines lasts waits = grind (arith, with_holding, told_is)
-
--- it is in order, as before, if it has the connections that its sessions need
-order_then : (e : End) (c : Carrier) (lines : Rows Line) → e.lines ≡ quieted lines → c.ended ≡ None → c.given ≡ e.carrier.given →
-    c.events ≡ e.carrier.events → IsInOrder e → IsSound (answered_end c lines) → IsInOrder (with_carrier c e)
-order_then e c lines same lasts given events was sound = grind (arith, quieted_at)
+shown_is s p e h n shown c lines lasts waits = grind (arith, with_holding, append-nil)
 
 sent_events : (n : ℕ) (tsdu : List ℕ) (c : Carrier) (peer : ℕ) (link : Link) → open_link n c ≡ Some (peer, link) →
     (sent n tsdu c).events ≡ c.events
 sent_events n tsdu c peer link is = ap (λ (o : Option (ℕ × Link)). (sent_on n tsdu o c).events) is
-
-closed_events : (n reason : ℕ) (c : Carrier) (peer : ℕ) (link : Link) → open_link n c ≡ Some (peer, link) →
-    (closed_with n reason c).events ≡ c.events
-closed_events n reason c peer link is = grind arith
 
 -- ---- the tables
 
@@ -72,25 +58,9 @@ replaced_twice (suc r) x y (l ∷ ls) = ap (λ (more : List TableLine). l ∷ mo
 with_twice : (r : ℕ) (x y : TableLine) (ls : List TableLine) → with_connection r y (with_connection r x ls) ≡ with_connection r y ls
 with_twice r x y ls = grind (arith, replaced_twice)
 
--- a line that was another in between
-pub stays_twice : (t : Tables) (s : machine.Side) (n : ℕ) (es : List entries.Entry) (x y : TableLine) →
-    stays (noted_in es (stays t s n x)) s n y ≡ noted_in es (stays t s n y)
-stays_twice t s n es x y = grind (arith, with_twice)
-
-pub closing_by : (t : Tables) (s : machine.Side) (n : ℕ) (keep : ℕ → ℕ) (turn : Turn) → turn.closes ≡ true →
-    after_turn t s n keep turn ≡ closes_by t.known (noted_in (map (shown_at s n) turn.shown) t) s n keep turn.line
-closing_by t s n keep turn e = grind arith
-
 -- the line if this is sent
 abbrev pub line_with : Bool → Moving → Option Meaning → TableLine
 line_with broken m reply = line_then m.row (move_of m).next (put broken (replied reply) m.seen.own.channel) m.rest m.seen
-
--- the delivery if the move sends a unit
-answered_step : (s : Side) (p : TwoEnds) (t : Tables) (packet : List ℕ) (h : Held) (v : HasMoved s p t packet h) (x : Meaning)
-    (keep : ℕ → ℕ) → (move_of v.m).closes ≡ false → (move_of v.m).reply ≡ Some x →
-    step t (delivers (side_in s) v.m.n keep) ≡ stays (moved_tables s t v.m) (side_in s) v.m.n (puts t.broken (unit x ∷ []) (moved_line v.m))
-answered_step s p t packet h v x keep open_still reply =
-    grind (arith, known_by, move_of, open_by, turn_of, stays_twice, moved_line, v.steps keep)
 
 -- the delivery if the move closes
 closed_step : (s : Side) (p : TwoEnds) (t : Tables) (packet : List ℕ) (h : Held) (v : HasMoved s p t packet h) (keep : ℕ) →
@@ -100,13 +70,13 @@ closed_step s p t packet h v keep known closing reply =
     let m = v.m in
     let t0 = record t { known = known_by t m } in
     let es = map (shown_at (side_in s) m.n) (move_of m).shown in
-    v.steps (λ r. keep) ∙ closing_by t0 (side_in s) m.n (λ r. keep) (turn_of t.broken m) closing
+    v.steps (λ r. keep) ∙ (grind arith)
     ∙ ap (λ (o : Option worlds.Class). closes_by o (noted_in es t0) (side_in s) m.n (λ r. keep) (turn_of t.broken m).line) known
     ∙ ap (λ (o : Option Meaning). noted_in es (stays t0 (side_in s) m.n (closed t.broken keep (line_with t.broken m o)))) reply
     ∙ ap (λ (ms : List Message). noted_in es
     (stays t0 (side_in s) m.n (closed t.broken keep (line_then m.row (move_of m).next ms m.rest m.seen))))
     (put_nothing t.broken m.seen.own.channel)
-    ∙ sym (stays_twice t0 (side_in s) m.n es (moved_line m) (closed t.broken keep (moved_line m)))
+    ∙ sym (grind (arith, with_twice))
 
 -- ---- the connection of a move that sends or closes is open
 
@@ -143,9 +113,7 @@ finish_shown s p t packet h v c keep u same lasts local is on =
       are = (refl, tt);
       now = on.now;
       local = local ∙ v.local;
-      stands = subst (λ (y : Tables). Stands (shown_pair s (answered_end c lines) h p) on.now y) (sym is)
-          (subst (λ (q : TwoEnds). Stands q on.now u)
-          (shown_is s p (moved_end s p v.unit v.m) h n (move_of v.m).shown c lines lasts v.waits) on.stands);
+      stands = grind (arith, shown_pair, shown_is, moved_end, move_of);
     })
 
 -- the session sends a unit, and closes nothing
@@ -164,18 +132,14 @@ answered_shown laws s p t packet h v x sound open_still reply =
     let linked_now = linked_sends s p t packet h v x reply (move_ends v.m.row v.row) in
     let a = sent_acts n (written x) e.carrier linked_now.peer linked_now.link v.lasts linked_now.at in
     let acts : answers n 0 (as_made (move_of v.m)) e.carrier ≡ c =
-    ap (λ (b : Bool). answers_by b n (tsdus_sent 0 (move_of v.m).reply) e.carrier) open_still
-    ∙ ap (λ (o : Option Meaning). answers_by false n (tsdus_sent 0 o) e.carrier) reply
-    ∙ (ap (λ (l : List (List ℕ)). answers_by false n l e.carrier) (sym (sent_by_itself (Some x)))
-    ∙ handed n (written x ∷ []) e.carrier (go.short, tt)) in
+    grind (arith, move_of v.m, sent_by_itself (Some x), handed n (written x ∷ []) e.carrier (go.short, tt)) in
     let same : after_packet (end_at s p).end packet ≡ answered_end c lines =
     v.does ∙ ap (λ (k : Carrier). concludes (answered_end k lines)) acts ∙ lasting (answered_end c lines) a.lasts in
     let events = sent_events n (written x) e.carrier linked_now.peer linked_now.link
     (open_is n e.carrier linked_now.peer linked_now.link v.lasts linked_now.at) in
-    let order : IsInOrder (with_carrier c e) =
-    order_then e c lines refl a.lasts a.given events (moved_order s p t packet h v) (subst IsSound same sound) in
+    let order : IsInOrder (with_carrier c e) = grind (arith, quieted_at) in
     finish_shown s p t packet h v c (λ r. 0) (stays t1 (side_in s) n (puts t.broken (unit x ∷ []) (moved_line v.m))) same a.lasts a.local
-    (answered_step s p t packet h v x (λ r. 0) open_still reply)
+    (grind (arith, known_by, move_of, open_by, turn_of, with_twice, moved_line))
     (sends_from laws s p1 v.now t1 n linked_now.peer linked_now.link x (moved_line v.m) (record { end = e; held = h })
     (turned_here s e h n (move_of v.m).shown p) v.stands go.short go.octets v.found_now v.lasts linked_now.at order)
 
@@ -200,10 +164,7 @@ closed_shown laws s p t packet h v sound two known closing reply over =
     ap (λ (b : Bool). answers_by b n (tsdus_sent 0 (move_of v.m).reply) e.carrier) closing in
     let same : after_packet (end_at s p).end packet ≡ answered_end c lines =
     v.does ∙ ap (λ (k : Carrier). concludes (answered_end k lines)) acts ∙ lasting (answered_end c lines) a.lasts in
-    let events = closed_events n 128 e.carrier linked_now.peer linked_now.link
-    (open_is n e.carrier linked_now.peer linked_now.link v.lasts linked_now.at) in
-    let order : IsInOrder (with_carrier c e) =
-    order_then e c lines refl a.lasts a.given events (moved_order s p t packet h v) (subst IsSound same sound) in
+    let order : IsInOrder (with_carrier c e) = grind (arith, quieted_at) in
     let on = closes_from laws s p1 v.now t1 n linked_now.peer linked_now.link (moved_line v.m)
     (record { end = e; held = h }) here v.stands two_now v.found_now
     (v.takes n (moved_line v.m) v.found_now) over v.lasts linked_now.at order in
@@ -224,10 +185,7 @@ silent_shown s p t packet h v open_still reply =
     let lines = loud_lines s p v.m in
     let p1 = turned_pair s e h n (move_of v.m).shown p in
     let t1 = moved_tables s t v.m in
-    let acts : answers n 0 (as_made (move_of v.m)) e.carrier ≡ e.carrier =
-    ap (λ (b : Bool). answers_by b n (tsdus_sent 0 (move_of v.m).reply) e.carrier) open_still
-    ∙ ap (λ (o : Option Meaning). answers_by false n (tsdus_sent 0 o) e.carrier) reply
-    ∙ hands_none n e.carrier in
+    let acts : answers n 0 (as_made (move_of v.m)) e.carrier ≡ e.carrier = grind (arith, move_of, hands_none) in
     let same : after_packet (end_at s p).end packet ≡ answered_end e.carrier lines =
     v.does ∙ ap (λ (k : Carrier). concludes (answered_end k lines)) acts ∙ lasting (answered_end e.carrier lines) v.lasts in
     finish_shown s p t packet h v e.carrier (λ r. 0) t1 same v.lasts refl (silent_step s p t packet h v (λ r. 0) open_still reply)

@@ -2,21 +2,20 @@
 -- For packets and carries.
 use Rattle.osi_between.specs.Messages as carrier
 use Rattle.osi_machine.specs.Tables as tables
-use Rattle.osi_pair.proofs.Vocabulary.{◌≡◌, ◌≢◌, ℕ, ◌<◌, ◌≤◌, Bool, true, List, [], ◌∷◌, ◌++◌, map, Some, None, is_some, refl, sym, ap}
-use Rattle.osi_pair.proofs.Vocabulary.{subst, ◌∙◌, inl, arith, Held, Value, place_at, Rows, value_at, Connection, State, push_here, beyond}
-use Rattle.osi_pair.proofs.Vocabulary.{push_other, reference_of, Between, progress_of, not_yet, in_use, leaves_use, delivers, learns}
-use Rattle.osi_pair.proofs.Vocabulary.{Tables, seen_from, end_of, step, unseen, Listener, Standing, AreApart, told_all, kept_at, session_in}
-use Rattle.osi_pair.proofs.Vocabulary.{is_used, used_lines, fresh_line, used_by, used_at, Stays, apart_push, used_live, TwoEnds, end_at}
-use Rattle.osi_pair.proofs.Vocabulary.{side_in, message_in, Stands, waiting_in, Side, after_message, StaysCalm, kind_of, Message}
-use Rattle.osi_pair.proofs.Vocabulary.{awaits_cn as awaits, EndLine as Line, SessionState}
-use Rattle.osi_pair.proofs.turn.what_remains_when_a_unit_was_taken.{terms_at, DidAt, TablesAfter, line_then, is_agree, last_is, order_of}
-use Rattle.osi_pair.proofs.turn.what_remains_when_a_unit_was_taken.{finish, known_then, was_at, PacketAt}
+use Rattle.osi_pair.proofs.Vocabulary.{◌≡◌, ◌≢◌, ℕ, ◌<◌, ◌≤◌, true, List, [], ◌∷◌, ◌++◌, Some, None, is_some, refl, sym, ap, subst, ◌∙◌}
+use Rattle.osi_pair.proofs.Vocabulary.{arith, Held, Value, place_at, Rows, value_at, Connection, State, push_here, beyond, push_other}
+use Rattle.osi_pair.proofs.Vocabulary.{reference_of, Between, progress_of, not_yet, in_use, leaves_use, delivers, learns, Tables, seen_from}
+use Rattle.osi_pair.proofs.Vocabulary.{end_of, step, unseen, Listener, AreApart, told_all, kept_at, session_in, used_lines, fresh_line}
+use Rattle.osi_pair.proofs.Vocabulary.{used_at, apart_push, used_live, TwoEnds, end_at, side_in, Stands, waiting_in, Side, after_message}
+use Rattle.osi_pair.proofs.Vocabulary.{StaysCalm, awaits_cn as awaits, EndLine as Line, SessionState}
+use Rattle.osi_pair.proofs.turn.what_remains_when_a_unit_was_taken.{terms_at, DidAt, line_then, is_agree, last_is, order_of, finish}
+use Rattle.osi_pair.proofs.turn.what_remains_when_a_unit_was_taken.{known_then, was_at, PacketAt}
 use Rattle.osi_pair.proofs.packet.a_unit_with_which_no_session_acts.{step_opens, tables_delivered, is_awaited, learns_row, rests}
 use Rattle.osi_pair.proofs.packet.a_unit_with_which_no_session_acts.{turn_rests, sends_then}
 use Rattle.osi_pair.proofs.packet.a_unit_at_rest_keeps_the_match.{acted_end, line_at, EndThen, NextFor, transport_before, out_row}
 use Rattle.osi_pair.proofs.packet.a_unit_at_rest_keeps_the_match.{back_alone, back_then}
 use Rattle.osi_pair.proofs.flight.what_may_arrive_row_by_row.{Row, begins, before, after, arrived_in}
-use Rattle.osi_pair.proofs.session.a_seat_is_its_progress_and_session.{transport_by, lives_in, live_there, HasSession}
+use Rattle.osi_pair.proofs.session.a_seat_is_its_progress_and_session.{transport_by}
 use Rattle.osi_pair.proofs.session.an_end_with_nothing_pending.{none_first, none_second}
 use Rattle.osi_pair.proofs.flight.whether_something_is_cut_off.{Lasts}
 
@@ -31,19 +30,12 @@ joined n lines = lines ++ (n, new_line) ∷ []
 joined_waits : (n : ℕ) (lines : Rows Line) → waiting_in lines ≡ [] → waiting_in (joined n lines) ≡ []
 joined_waits n [] e = refl
 joined_waits n ((r, line) ∷ lines) e =
-    ap (λ w. map (λ shown. (r, shown)) w ++ waiting_in (joined n lines))
-    (none_first (λ shown. (r, shown)) line.waiting (waiting_in lines) e)
-    ∙ joined_waits n lines (none_second (λ shown. (r, shown)) line.waiting (waiting_in lines) e)
-
-used_waits_by : (live : Rows Connection) (r : ℕ) (line : Line) (lines : Rows Line) (b : Bool) → is_used live (r, line) ≡ b →
-    waiting_in ((r, line) ∷ lines) ≡ [] → waiting_in (used_lines live lines) ≡ [] → waiting_in (used_lines live ((r, line) ∷ lines)) ≡ []
-used_waits_by live r line lines b u e more = grind (arith, used_by, none_first)
+    grind (arith, none_first, none_second, joined_waits n lines (none_second (λ shown. (r, shown)) line.waiting (waiting_in lines) e))
 
 pub used_waits : (live : Rows Connection) (lines : Rows Line) → waiting_in lines ≡ [] → waiting_in (used_lines live lines) ≡ []
 used_waits live [] e = refl
 used_waits live ((r, line) ∷ lines) e =
-    used_waits_by live r line lines (is_used live (r, line)) refl e
-    (used_waits live lines (none_second (λ shown. (r, shown)) line.waiting (waiting_in lines) e))
+    grind (arith, none_second, used_waits live lines (none_second (λ shown. (r, shown)) line.waiting (waiting_in lines) e))
 
 pub begun_waits : (n : ℕ) (live : Rows Connection) (lines : Rows Line) → waiting_in lines ≡ [] →
     waiting_in (used_lines live (joined n lines)) ≡ []
@@ -54,13 +46,9 @@ pub begun_here : (n : ℕ) (live : Rows Connection) (lines : Rows Line) → valu
     kept_at n (used_lines live (joined n lines)) ≡ Some awaits
 begun_here n live lines none lives = ap session_in (used_live n live (joined n lines) lives ∙ push_here n new_line lines none)
 
-kept_by : (n q : ℕ) (live : Rows Connection) (lines : Rows Line) (x : Listener) → q ≢ n → Stays q live (joined n lines) →
-    kept_at q (used_lines live (joined n lines)) ≡ Some x → kept_at q lines ≡ Some x
-kept_by n q live lines x apart h h2 = grind (arith, push_other)
-
 pub begun_kept : (n q : ℕ) (live : Rows Connection) (lines : Rows Line) (x : Listener) → q ≢ n → value_at n lines ≡ None → AreApart lines →
     kept_at q (used_lines live (joined n lines)) ≡ Some x → kept_at q lines ≡ Some x
-begun_kept n q live lines x apart none all h = grind (arith, kept_by, used_at, apart_push)
+begun_kept n q live lines x apart none all h = grind (arith, push_other, used_at, apart_push)
 
 -- ---- the reference is new
 
@@ -71,10 +59,6 @@ new_at n s h = grind arith
 
 abbrev pub begun_lines : Side → TwoEnds → Value → ℕ → Rows Line
 begun_lines s p u n = used_lines (told_all u (end_at s p).end).carrier.live (joined n (end_at s p).end.lines)
-
--- a request has no effect on a session
-pub asks_same : (x : SessionState) (m : Message) → kind_of (message_in m) ≡ carrier.ask → after_message x m ≡ x
-asks_same x m k = grind arith
 
 pub begins_unit : (s : Side) (p : TwoEnds) (b : Between) (t : Tables) (packet : List ℕ) (h : Held) → Stands p b t → Lasts s p →
     end_of (side_in s) t ≡ None → (pa : PacketAt s p b packet h) →
@@ -94,7 +78,7 @@ begins_unit s p b t packet h old alive lasting pa d row behind new =
     let none : value_at n was.lines ≡ None = beyond n was.carrier.given was.lines order.sound.known (new_at n was.carrier stood) in
     let stands : progress_of (place_at n e.carrier) ≡ in_use =
     ap (λ (c : State). progress_of (place_at n c)) (sym (last_is s p b e h n d new.lasts)) ∙ d.stands ∙ ap after row in
-    let lives : is_some (value_at n e.carrier.live) ≡ true = live_there n e.carrier (ap lives_in stands) in
+    let lives : is_some (value_at n e.carrier.live) ≡ true = grind arith in
     let at = line_at s n p b t old pa.first.named pa.first.given in
     let l = at.line in
     let one : arrived_in d.row ≡ carrier.ask ∷ [] = ap arrived_in row in
@@ -113,26 +97,14 @@ begins_unit s p b t packet h old alive lasting pa d row behind new =
       sessions = λ q apart lives. (ap session_in (used_live q live (joined n was.lines) lives ∙ push_other q n new_line was.lines apart));
       kept = λ q apart x kept. begun_kept n q live was.lines x apart none order.sound.apart kept;
     })
-    (subst (λ (x : Standing). HasSession n e.lines (after d.row) x) (sym session)
-    (subst (λ (r : Row). HasSession n e.lines (after r) tables.awaits) (sym row)
-    (let k = begun_here n live was.lines none lives in
-    record {
-      joined = None;
-      live = λ x. k;
-      kept = λ y given. (let two : Some awaits ≡ Some y = sym k ∙ given in let same : awaits ≡ y = cc in sym same);
-      over_now = λ x. cc;
-      awaiting = λ x. refl;
-      octets = tt;
-    }))) at.is
+    (grind (arith, after, begun_here)) at.is
     (record {
       out = out_row s p b t e h n l old d at.is (ap (λ (r : Row). leaves_use (before r) (after r)) row) alive;
       back = back_then s p d.now e h n (after d.row) None
           (after_message l.own.session.state sp.first) l.own.session.state sp.others sp.stays
-          (λ y kept. (let two : Some awaits ≡ Some y = sym (begun_here n live was.lines none lives) ∙ kept in let same : awaits ≡ y =
-          cc in inl (ap (λ (z : Listener). z.joined) (sym same))))
-          (λ calm. subst (λ (x : SessionState). StaysCalm x sp.others) (asks_same l.own.session.state sp.first sp.kind) calm);
+          (λ y kept. (let two : Some awaits ≡ Some y = sym (begun_here n live was.lines none lives) ∙ kept in grind arith))
+          (λ calm. subst (λ (x : SessionState). StaysCalm x sp.others) (grind arith) calm);
     })
-    (subst (λ (u : Tables). TablesAfter s n t u [] line) (sym is)
-    (tables_delivered s n (seen_from (side_in s) l) t known (unseen line) at.found))
+    (grind (arith, tables_delivered s n (seen_from (side_in s) l) t known (unseen line) at.found))
     (ap (λ (u : Tables). u.known) is ∙ learns_row d.row l.own.transport t.terms sp.first t.known tr (ap is_awaited row)
     ∙ known_then s p b t e h n old alive d new.lasts pa.first.given (ap is_agree row))

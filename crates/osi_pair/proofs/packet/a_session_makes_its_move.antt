@@ -2,21 +2,22 @@
 -- For breaks and ends and packets.
 use Rattle.osi_between.specs.Messages as carrier
 use Rattle.osi_machine.specs.Worlds as worlds
-use Rattle.osi_pair.proofs.Vocabulary.{◌≡◌, ℕ, ◌≤◌, Bool, true, false, List, [], ◌∷◌, Option, Some, None, IfSome, option_map, refl, sym, ap}
+use Rattle.osi_pair.proofs.Vocabulary.{◌≡◌, ℕ, ◌≤◌, Bool, true, false, List, [], ◌∷◌, Option, Some, None, IfSome, option_map, sym, ap}
 use Rattle.osi_pair.proofs.Vocabulary.{subst, ◌∙◌, arith, Held, place_at, Rows, value_at, reference_of, Between, last_of, progress_of}
 use Rattle.osi_pair.proofs.Vocabulary.{leaves_use, connection_at, delivers, learns, Line as TableLine, Turn, Tables, awaits, seen_from}
-use Rattle.osi_pair.proofs.Vocabulary.{end_of, after_turn, step, without_first, message_taken, Message, unit, put, replied, IsInOctets}
-use Rattle.osi_pair.proofs.Vocabulary.{said_of, Meaning, Input, taken, opened, refused, broken as broken_off, Standing, Move, react}
-use Rattle.osi_pair.proofs.Vocabulary.{is_ended, End, TwoEnds, end_at, other, side_in, is_caller, class_in, message_in, is_parting, Stands}
-use Rattle.osi_pair.proofs.Vocabulary.{Goes, quieted, Side, kind_of, EndLine as Line}
-use Rattle.osi_pair.proofs.turn.what_remains_when_a_unit_was_taken.{DidAt, TablesAfter, OtherSessions, line_then, finish, PacketAt}
-use Rattle.osi_pair.proofs.packet.an_end_handles_its_carriers_events.{lines_then, kept_other, session_then}
+use Rattle.osi_pair.proofs.Vocabulary.{end_of, after_turn, step, Message, unit, put, replied, IsInOctets, said_of, Meaning, Input, taken}
+use Rattle.osi_pair.proofs.Vocabulary.{opened, refused, broken as broken_off, Standing, Move, react, is_ended, TwoEnds, end_at, other}
+use Rattle.osi_pair.proofs.Vocabulary.{side_in, is_caller, class_in, message_in, is_parting, Stands, Goes, quieted, Side, kind_of}
+use Rattle.osi_pair.proofs.Vocabulary.{EndLine as Line, put_other, quieted_at}
+use Rattle.osi_pair.proofs.turn.what_remains_when_a_unit_was_taken.{DidAt, TablesAfter, line_then, finish, PacketAt}
+use Rattle.osi_pair.proofs.packet.an_end_handles_its_carriers_events.{lines_then, session_then}
 use Rattle.osi_pair.proofs.packet.a_unit_with_which_no_session_acts.{delivered, tables_delivered, sends_then}
 use Rattle.osi_pair.proofs.packet.a_unit_at_rest_keeps_the_match.{acted_end, EndThen, NextFor, out_row}
 use Rattle.osi_pair.proofs.flight.what_may_arrive_row_by_row.{Row, agrees, denies, tells, before, after, arrived_in}
 use Rattle.osi_pair.proofs.session.a_seat_is_its_progress_and_session.{transport_by, HasSession}
 use Rattle.osi_pair.proofs.turn.a_turn_keeps_the_match.{IsSeen, with_holding}
 use Rattle.osi_pair.proofs.flight.whether_something_is_cut_off.{Lasts}
+use Rattle.osi_pair.proofs.session.an_end_moves_as_the_tables_do.{as_made}
 
 -- ---- the turn of the tables
 
@@ -42,13 +43,6 @@ turn_then row input broken reply x channel back l = record {
   closes = (react x input).closes;
 }
 
-pub turn_moves : (broken : Bool) (terms : worlds.Terms) (keep : ℕ) (row : Row) (l : TableLine) (m : Message) (xs : List Message)
-    (got : carrier.Message) → l.own.transport ≡ transport_by (before row) → is_move row ≡ true → arrived_in row ≡ got ∷ [] →
-    kind_of (message_in m) ≡ kind_of got →
-    message_taken broken terms keep l.own.transport (without_first l xs) m ≡ turn_then row (heard_by row m) broken
-    (react l.own.session (heard_by row m)).reply l.own.session l.own.channel xs l
-turn_moves broken terms keep row l m xs got f is e a = grind arith
-
 -- the step of the tables
 pub step_moves : (t : Tables) (s : Side) (n : ℕ) (keep : ℕ → ℕ) (row : Row) (l : TableLine) (m : Message) (xs : List Message)
     (got : carrier.Message) → end_of (side_in s) t ≡ None → connection_at n t.lines ≡ Some (seen_from (side_in s) l) →
@@ -59,10 +53,6 @@ pub step_moves : (t : Tables) (s : Side) (n : ℕ) (keep : ℕ → ℕ) (row : R
 step_moves t s n keep row l m xs got lasting found first tr move one alike = grind arith
 
 -- ---- the sessions of all others
-
-pub moved_others : (s : Side) (p : TwoEnds) (e : End) (n : ℕ) (line : Line) (x : Standing) (input : Input) →
-    e.lines ≡ quieted (lines_then n line x input (end_at s p).end.lines) → OtherSessions s p e n
-moved_others s p e n line x input is = grind (arith, kept_other)
 
 -- ---- two ends
 
@@ -111,7 +101,7 @@ move_unit s p b t packet h l m xs row input old alive pa found seen k d same mov
     let steady : leaves_use (before d.row) (after d.row) ≡ false = ap (λ (r : Row). leaves_use (before r) (after r)) same ∙ (grind arith) in
     finish s p b t u e h n (react x input).shown l
     (react x input).next l.own.channel xs old alive d new.lasts new.local new.role pa.first.given behind new.order new.waits
-    (moved_others s p e n k.line x input refl)
+    (grind (arith, quieted_at, put_other, as_made))
     (subst (λ (r : Row). HasSession n e.lines (after r) (react x input).next) (sym same)
     (session_then n k.line k.was x input (end_at s p).end.lines (after row) k.here k.ended k.waits k.octets)) seen
     (record {

@@ -10,19 +10,19 @@ use Rattle.osi_pair.proofs.Vocabulary.{option_map, refl, sym, ap, subst, ◌∙�
 use Rattle.osi_pair.proofs.Vocabulary.{IsOrderly, Rows, value_at, State as Carrier, linked, is_open, orderly_unit, orderly_same}
 use Rattle.osi_pair.proofs.Vocabulary.{reference_of, Between, under_way, is_cut, last_of, progress_of, in_use, gone, class_of, IsTableRun}
 use Rattle.osi_pair.proofs.Vocabulary.{AreSoundLines, IsSoundLine, AreSendable, is_leaving, connection_at, delivers, learns}
-use Rattle.osi_pair.proofs.Vocabulary.{Line as TableLine, Turn, Tables, seen_from, after_turn, step, Message, unit, agree, deny, put}
-use Rattle.osi_pair.proofs.Vocabulary.{replied, SessionLaws, Meaning, DT, Input, Standing, Move, opened, refused, react, listening}
-use Rattle.osi_pair.proofs.Vocabulary.{after_packet, concludes, told_all, kept_at, answers, End, session_in, packet_rises, TwoEnds, end_at}
-use Rattle.osi_pair.proofs.Vocabulary.{other, side_in, is_caller, class_in, carriers_of, message_in, AreAlike, IsInOrder, Stands, Goes}
-use Rattle.osi_pair.proofs.Vocabulary.{joining, HasJoined, waiting_in, quieted, Side, IsNoFault, IsJoinedAs, Listener, kind_of, IsInOctets}
-use Rattle.osi_pair.proofs.Vocabulary.{part_octets, Last, after_message, StaysCalm, left_is, Link, EndLine as Line, PartPlace, SessionState}
+use Rattle.osi_pair.proofs.Vocabulary.{Line as TableLine, Turn, Tables, seen_from, after_turn, step, Message, unit, put, replied}
+use Rattle.osi_pair.proofs.Vocabulary.{SessionLaws, Meaning, DT, Input, Standing, Move, opened, react, listening, after_packet, concludes}
+use Rattle.osi_pair.proofs.Vocabulary.{told_all, kept_at, answers, End, packet_rises, TwoEnds, end_at, other, side_in, is_caller, class_in}
+use Rattle.osi_pair.proofs.Vocabulary.{carriers_of, message_in, AreAlike, IsInOrder, Stands, Goes, joining, HasJoined, waiting_in, quieted}
+use Rattle.osi_pair.proofs.Vocabulary.{Side, IsNoFault, IsJoinedAs, kind_of, IsInOctets, part_octets, Last, after_message, StaysCalm}
+use Rattle.osi_pair.proofs.Vocabulary.{left_is, Link, EndLine as Line, PartPlace, SessionState}
 use Rattle.osi_pair.proofs.turn.what_remains_when_a_unit_was_taken.{terms_at, DidAt, line_then, last_is, order_of, was_at, PacketAt}
 use Rattle.osi_pair.proofs.packet.an_end_handles_its_carriers_events.{lines_then, kept_then, one_told}
-use Rattle.osi_pair.proofs.packet.what_a_session_hears_row_by_row.{as_move, move_heard, got_in, one_in, HearsBy, HearLaws, IsWhole}
-use Rattle.osi_pair.proofs.packet.what_a_session_hears_row_by_row.{hears_row, IsTaker, tells_by, tells_last}
+use Rattle.osi_pair.proofs.packet.what_a_session_hears_row_by_row.{move_heard, got_in, HearsBy, HearLaws, IsWhole, hears_row, IsTaker}
+use Rattle.osi_pair.proofs.packet.what_a_session_hears_row_by_row.{tells_by, tells_last}
 use Rattle.osi_pair.proofs.packet.the_class_is_known.{moved_known, moved_class}
 use Rattle.osi_pair.proofs.session.an_end_moves_as_the_tables_do.{as_made, none_joined, kept_of, PartJoins, first_joins, middle_joins}
-use Rattle.osi_pair.proofs.session.an_end_moves_as_the_tables_do.{last_moves, over_fine}
+use Rattle.osi_pair.proofs.session.an_end_moves_as_the_tables_do.{last_moves}
 use Rattle.osi_pair.proofs.packet.a_session_makes_its_move.{is_move, heard_by, MovesBy, step_moves, move_unit}
 use Rattle.osi_pair.proofs.session.a_moved_session_keeps_the_order.{session_acts, acted_order}
 use Rattle.osi_pair.proofs.packet.a_packet_is_one_delivery_or_none.{PacketLaws, ActsAt, acts_at, same_role, is_heard, lasting_in, quiet_of}
@@ -33,8 +33,7 @@ use Rattle.osi_pair.proofs.packet.a_unit_with_which_no_session_acts.{delivered, 
 use Rattle.osi_pair.proofs.packet.a_unit_at_rest_keeps_the_match.{acted_end, did_at, same_row, line_at, EndThen, back_one, FoundLine}
 use Rattle.osi_pair.proofs.packet.a_unit_at_rest_keeps_the_match.{back_then, other_lines, over_stays}
 use Rattle.osi_pair.proofs.flight.what_may_arrive_row_by_row.{Row, before, after, arrived_in, tells}
-use Rattle.osi_pair.proofs.session.a_seat_is_its_progress_and_session.{transport_by, value_same, HasSession, lives_in, session_of_seat}
-use Rattle.osi_pair.proofs.session.a_seat_is_its_progress_and_session.{transport_at}
+use Rattle.osi_pair.proofs.session.a_seat_is_its_progress_and_session.{transport_by, value_same, HasSession, session_of_seat, transport_at}
 use Rattle.osi_pair.proofs.turn.a_turn_keeps_the_match.{IsSeen, with_holding, turned_pair, turned_stands}
 use Rattle.osi_pair.proofs.session.a_waiting_session_has_its_request.{is_calling}
 use Rattle.osi_between.specs.Messages as carrier
@@ -154,14 +153,6 @@ pub record KeptLine (n : ℕ) (lines : Rows Line) (joined : Option (List ℕ)) (
   pub here : value_at n lines ≡ Some line
   pub is : line.session ≡ Some (joining joined x)
 
-line_by : (n : ℕ) (lines : Rows Line) (joined : Option (List ℕ)) (x : Standing) (o : Option Line) → value_at n lines ≡ o →
-    session_in o ≡ Some (joining joined x) → KeptLine n lines joined x
-line_by n lines joined x o e h = grind arith
-
--- a message that a session receives arrives at a live one
-heard_lives : (row : Row) → is_heard row ≡ true → lives_in (before row) ≡ true
-heard_lives row e = grind arith
-
 -- the line at its reference, and what happens to its session
 pub record Arriving (s : Side) (p : TwoEnds) (b : Between) (t : Tables) (n : ℕ) (row : Row) : Type 0 where
   pub seen : TableLine
@@ -211,13 +202,9 @@ comes_at s p b t packet h alive pa got at one =
     (under_way (is_caller (other s)) n (carriers_of (with_holding s e h p)) d.now)) same
     (back_one s p b e h n at.line got d at.is alive (ap arrived_in same ∙ one))
 
-pub seat_progress : (s : Side) (p : TwoEnds) (b : Between) (t : Tables) (n : ℕ) (row : Row) → Stands p b t → Lasts s p →
-    progress_of (place_at n (last_of (is_caller s) b)) ≡ before row → progress_of (place_at n (end_at s p).end.carrier) ≡ before row
-seat_progress s p b t n row old alive stood = ap (λ (c : Carrier). progress_of (place_at n c)) (sym (was_at s p b t old alive)) ∙ stood
-
 pub seat_transport : (s : Side) (p : TwoEnds) (b : Between) (t : Tables) (n : ℕ) (row : Row) (l : TableLine) → Stands p b t → Lasts s p →
     progress_of (place_at n (last_of (is_caller s) b)) ≡ before row → IsSeen s n p b l → l.own.transport ≡ transport_by (before row)
-seat_transport s p b t n row l old alive stood i = grind (arith, transport_at, before, seat_progress)
+seat_transport s p b t n row l old alive stood i = grind (arith, transport_at, before)
 
 -- ---- data that comes is no fault
 
@@ -234,19 +221,14 @@ record FineData (s : Standing) : Type 0 where
 part_fine : MovingLaws → (s : Side) (t : Tables) (n : ℕ) (l : TableLine) → IsTableRun t →
     connection_at n t.lines ≡ Some (seen_from (side_in s) l) → (now : List ℕ) → NextOf l.own.session.state now l.peer.channel →
     FineData l.own.session
-part_fine laws s t n l run found now (inl r) =
-    record { all = now ++ r.rest; fine = next_at laws s t n l run found (now ++ r.rest) r.others r.is }
-part_fine laws s t n l run found now (inr (inl away)) =
-    record { all = []; fine = over_fine l.own.session.state [] ((takes_here laws.takes s t run n l found).left away) }
+part_fine laws s t n l run found now (inl r) = grind (arith, next_at laws s t n l run found (now ++ r.rest) r.others r.is)
+part_fine laws s t n l run found now (inr (inl away)) = grind (arith, takes_here laws.takes s t run n l found)
 part_fine laws s t n l run found now (inr (inr calm)) = record { all = []; fine = calm [] }
 
 part_joins : (joined : Option (List ℕ)) (x : Standing) (place : PartPlace) (octets now : List ℕ) (H : Option (List ℕ) → Type 0) →
     ((begun : Option (List ℕ)) → H begun → IsJoinedAs x.state joined begun) → length now ≤ most_data → IsTaker x joined → FineData x →
     (Begins H place octets now ⊎ GoesOn H place octets now) → PartJoins joined x place octets (Some now)
 part_joins joined x place octets now H holds short kept f h = search (arith, first_joins, middle_joins)
-
-alone_is : (x y : List ℕ) → carrier.message x ∷ [] ≡ carrier.message y ∷ [] → y ≡ x
-alone_is x y e = let same : x ≡ y = cc in sym same
 
 part_tells : (row : Row) (place : PartPlace) (octets : List ℕ) → is_heard row ≡ true →
     AreAlike (before row) (carrier.message (part_octets place octets) ∷ []) (got_in row ∷ []) → row ≡ tells (part_octets place octets)
@@ -303,12 +285,10 @@ hears_tsdu laws s p b t n row octets l joined first rest run found parts whole l
     tells_by laws.hear n octets first joined x (none_joined x.state joined (a.held stays (joining joined x) live)) same whole waits
 hears_tsdu laws s p b t n row octets l joined first rest run found parts whole live kept waits is kind (inr q) =
     let x = l.own.session in
-    let same : carrier.message (part_octets Last q.last) ∷ [] ≡ carrier.message octets ∷ [] =
-    subst (λ (r : Row). AreAlike (before r) (carrier.message (part_octets Last q.last) ∷ []) (got_in r ∷ [])) is q.is in
     let fine : IsNoFault x.state (q.front ++ q.last) =
     next_at laws s t n l run found (q.front ++ q.last) rest (parts ∙ ap (λ (m : Message). m ∷ rest) q.first_is) in
     subst (λ (m : Message). HearsBy n (tells octets) m joined x) (sym q.first_is)
-    (tells_last laws.hear n octets q.front q.last joined x (alone_is _ _ same)
+    (tells_last laws.hear n octets q.front q.last joined x (grind arith)
     (last_moves joined x q.front q.last q.short kept fine (q.held (joining joined x) live)) waits)
 
 arriving_as : MovingLaws → (s : Side) (p : TwoEnds) (b : Between) (t : Tables) (packet : List ℕ) (h : Held) → Stands p b t → IsTableRun t →
@@ -326,7 +306,7 @@ arriving_as laws s p b t packet h old run alive pa heard at was (inl sp) =
     let sound = seen_sound (side_in s) l (laws.sound_lines t run n (seen_from (side_in s) l) at.found) in
     let whole = first_whole sp.first sp.others (subst AreSendable sp.parts sound.peer.under_way) in
     let joined = was.joined in
-    let live : kept_at n lines ≡ Some (joining joined x) = was.live (heard_lives row heard) in
+    let live : kept_at n lines ≡ Some (joining joined x) = was.live (grind arith) in
     let keeps = kept_of n (joining joined x) (end_at s p).end (order_of s p b t old alive) live in
     let hears = hears_row laws.hear n row sp.first joined l.own keeps.phase
     (λ move other_kind. elim sp.how [
@@ -347,7 +327,7 @@ arriving_as laws s p b t packet h old run alive pa heard at was (inl sp) =
         parts = sp.parts;
         kind = sp.kind;
         joined = joined;
-        kept = line_by n lines joined x (value_at n lines) refl live;
+        kept = grind arith;
         hears = hears;
       };
       stays = sp.stays;
@@ -359,7 +339,7 @@ arriving_as laws s p b t packet h old run alive pa heard at was (inr sp) =
     let l = at.line in
     let x = l.own.session in
     let joined = was.joined in
-    let live : kept_at n lines ≡ Some (joining joined x) = was.live (heard_lives row heard) in
+    let live : kept_at n lines ≡ Some (joining joined x) = was.live (grind arith) in
     let keeps = kept_of n (joining joined x) (end_at s p).end (order_of s p b t old alive) live in
     let fine = part_fine laws s t n l run at.found sp.now sp.next in
     inr (record {
@@ -367,7 +347,7 @@ arriving_as laws s p b t packet h old run alive pa heard at was (inr sp) =
       found = at.found;
       stands = at.is;
       joined = joined;
-      kept = line_by n lines joined x (value_at n lines) refl live;
+      kept = grind arith;
       had = was;
       place = sp.place;
       octets = sp.octets;
@@ -385,9 +365,8 @@ arriving laws s p b t packet h old run alive pa heard =
     let n = reference_of pa.unit in
     let at = line_at s n p b t old pa.first.named pa.first.given in
     let was = session_of_seat n (end_at s p) at.line.own (before pa.did.row)
-    (seat_progress s p b t n pa.did.row old alive (stood_at s p b packet h pa)) at.is.here in
-    arriving_as laws s p b t packet h old run alive pa heard at was
-    (comes_at s p b t packet h alive pa (got_in pa.did.row) at (one_in pa.did.row heard))
+    (grind (arith, was_at)) at.is.here in
+    search (arith, arriving_as, comes_at s p b t packet h alive pa (got_in pa.did.row) at (grind arith), got_in pa.did.row)
 
 -- the move the line of the end, with the selectors of a CN that its session receives
 abbrev pub heard_line : (s : Side) (p : TwoEnds) (b : Between) (t : Tables) (n : ℕ) (row : Row) → Arriving s p b t n row → Line
@@ -467,19 +446,9 @@ pub moved_then : MovingLaws → (s : Side) (p : TwoEnds) (b : Between) (t : Tabl
 moved_then laws s p b t packet h old alive pa a d same f =
     let loud = loud_lines s p (moving s p b t (reference_of pa.unit) pa.did.row a) in
     let role = same_role laws.packet s p b t (EndOf s p b t packet h pa a) h (reference_of pa.unit) old alive d f.lasts in
-    let order = quiet_order (acted_end pa.unit loud (end_at s p).end) (loud_order s p b t packet h old alive pa a d same f) in
-    let waits = quiet_waits loud in
-    grind arith
+    search (arith, quiet_order, acted_end, loud_order s p b t packet h old alive pa a d same f, quiet_waits loud)
 
 -- ---- two ends then
-
--- a message that arrives at a session has the effect of what the session receives
-agrees_left : (x : Standing) (m : Message) → kind_of (message_in m) ≡ carrier.agree → after_message x.state m ≡ (react x opened).next.state
-agrees_left x m k = grind (arith, left_is)
-
-denies_left : (x : Standing) (reason : ℕ) (m : Message) → kind_of (message_in m) ≡ carrier.deny reason →
-    after_message x.state m ≡ (react x (refused reason)).next.state
-denies_left x reason m k = grind (arith, left_is)
 
 tells_left : (x : Standing) (octets : List ℕ) (m : Message) → kind_of (message_in m) ≡ carrier.message [] →
     after_message x.state m ≡ (react x (heard_by (tells octets) m)).next.state
@@ -488,7 +457,7 @@ tells_left x octets m k = grind (arith, left_is)
 hears_calm : (row : Row) (x : Standing) (m : Message) (ms : List Message) → is_heard row ≡ true →
     kind_of (message_in m) ≡ kind_of (got_in row) → StaysCalm (after_message x.state m) ms →
     StaysCalm (react x (heard_by row m)).next.state ms
-hears_calm row x m ms e k calm = grind (arith, agrees_left, denies_left, tells_left, over_stays, is_lost)
+hears_calm row x m ms e k calm = grind (arith, left_is, tells_left, over_stays, is_lost)
 
 -- what is still in flight to it
 pub rest_then : (s : Side) (p : TwoEnds) (b : Between) (t : Tables) (packet : List ℕ) (h : Held) → (pa : PacketAt s p b packet h) →
@@ -506,10 +475,7 @@ rest_then s p b t packet h pa v heard =
     let next = after_message x.state v.a.first in
     let now : kept_at n e.lines ≡ Some (listening (move_of m).next) =
     kept_then n (heard_line s p b t n row v.a) v.a.kept.line x (heard_by row v.a.first) (end_at s p).end.lines v.a.kept.here in
-    let held : HasJoined n (record { end = e; held = h }) None =
-    λ y at. (let two : Some (listening (move_of m).next) ≡ Some y = sym now ∙ at in
-    let is : listening (move_of m).next ≡ y = cc in
-    inl (ap (λ (z : Listener). z.joined) (sym is))) in
+    let held : HasJoined n (record { end = e; held = h }) None = grind arith in
     back_then s p (did_at s p b packet h lines pa).now e h n (after row) None next (move_of m).next.state v.a.rest
     (other_lines s p b packet h n (end_at s p).end.lines lines pa (after row) None next v.a.rest v.stays) held
     (λ calm. hears_calm row x v.a.first v.a.rest heard v.a.kind calm)
@@ -531,7 +497,7 @@ stands_then laws s p b t packet h old alive pa move a d same f back =
     (moves_by s p b t n pa.did.row a) d same move
     back (laws.packet.behind _ _ d.now d.between) (moved_then laws s p b t packet h old alive pa a d same f)
     (moved_known s p b t e h n a.seen a.first pa.unit pa.did.row old alive d f.lasts pa.first pa.first.given same
-    (as_move pa.did.row move) a.transport a.kind))
+    (grind arith) a.transport a.kind))
 
 -- what the packet does to the end
 pub does_then : (s : Side) (p : TwoEnds) (b : Between) (t : Tables) (packet : List ℕ) (h : Held) → (pa : PacketAt s p b packet h) →
@@ -573,7 +539,6 @@ has_moved laws s p b t packet h old run alive pa v move =
     let d = did_at s p b packet h (quieted (loud_lines s p m)) pa in
     let same = same_row s p b packet h (quieted (loud_lines s p m)) pa in
     let f = acts_at s p b packet h pa in
-    let count = old.given in
     let kept = old.given_then in
     let given = pa.first.given in
     let takes_out = takes_from laws.takes s t run in
@@ -593,7 +558,7 @@ has_moved laws s p b t packet h old run alive pa v move =
         does = does_then s p b t packet h pa a f;
         waits = put_waits n m.line a.kept.line (as_made (move_of m)) (end_at s p).end.lines refl (quiet_of s p b t old) a.kept.here;
         steps = λ keep. step_moves t s n keep row a.seen a.first a.rest (got_in row)
-            (lasting_in s p b t old alive) a.found a.parts a.transport move (one_in row heard) a.kind;
+            (lasting_in s p b t old alive) a.found a.parts a.transport move (grind arith) a.kind;
         lasts = f.lasts;
         local = f.local;
         kept = kept_then n m.line a.kept.line a.seen.own.session (heard_by row a.first) (end_at s p).end.lines a.kept.here;
@@ -602,7 +567,7 @@ has_moved laws s p b t packet h old run alive pa v move =
         found_now = after_it.lines.found;
         opened = λ open_now. opened_then s p b e h n row d f.lasts same open_now;
         agreed = λ open_now. moved_class s p b t e h n a.seen a.first pa.unit row old d pa.first same
-            (as_move row move) a.transport a.kind open_now;
+            (grind arith) a.transport a.kind open_now;
         silent = a.hears.silent;
         sends = a.hears.goes.sends;
         takes = takes_then s t (moved_tables s t m) n (moved_line m) after_it.lines (takes_out n a.seen a.found) takes_out;

@@ -2,24 +2,23 @@
 -- For turns, breaks and ends and packets.
 use Rattle.osi_between.specs.Messages as carrier
 use Rattle.osi_pair.proofs.Vocabulary.{◌≡◌, ℕ, ◌<◌, ◌≤◌, Bool, true, false, List, [], ◌∷◌, ◌++◌, Option, Some, None, is_some, refl, sym, ap}
-use Rattle.osi_pair.proofs.Vocabulary.{subst, ◌∙◌, arith, append-nil, Held, Value, Place, place_at, connection_in, Rows, reference_of}
-use Rattle.osi_pair.proofs.Vocabulary.{Between, last_of, under_way, put_in, is_cut, progress_of, AreLike, kind_of, Progress, leaves_use}
-use Rattle.osi_pair.proofs.Vocabulary.{connection_at, delivers, learns, Line as TableLine, Tables, seen_from, end_of, step, unseen, Message}
-use Rattle.osi_pair.proofs.Vocabulary.{Standing, Shown, told_all, kept_at, End, TwoEnds, end_at, other, side_in, is_caller, carriers_of}
-use Rattle.osi_pair.proofs.Vocabulary.{IsInOrder, Stands, Goes, HasJoined, is_parting, message_in, waiting_in, Side, Left, Right, Listener}
-use Rattle.osi_pair.proofs.Vocabulary.{is_ended, is_over, implied, gone_is, StaysCalm, over_calm, EndLine as Line, SessionState}
+use Rattle.osi_pair.proofs.Vocabulary.{subst, ◌∙◌, arith, append-nil, Held, Value, Place, place_at, Rows, reference_of, Between, last_of}
+use Rattle.osi_pair.proofs.Vocabulary.{under_way, put_in, is_cut, progress_of, kind_of, Progress, leaves_use, connection_at, delivers}
+use Rattle.osi_pair.proofs.Vocabulary.{learns, Line as TableLine, Tables, seen_from, end_of, step, unseen, Message, Standing, Shown}
+use Rattle.osi_pair.proofs.Vocabulary.{told_all, kept_at, End, TwoEnds, end_at, other, side_in, is_caller, carriers_of, IsInOrder, Stands}
+use Rattle.osi_pair.proofs.Vocabulary.{Goes, HasJoined, is_parting, message_in, waiting_in, Side, Left, Right, Listener, is_ended, is_over}
+use Rattle.osi_pair.proofs.Vocabulary.{implied, gone_is, StaysCalm, over_calm, EndLine as Line, SessionState}
 use Rattle.osi_pair.proofs.turn.what_remains_when_a_unit_was_taken.{terms_at, DidAt, TablesAfter, OtherSessions, is_agree, line_then}
 use Rattle.osi_pair.proofs.turn.what_remains_when_a_unit_was_taken.{finish, known_then, was_at, PacketAt}
-use Rattle.osi_pair.proofs.packet.a_unit_with_which_no_session_acts.{step_opens, tables_delivered, tables_rest, is_awaited, learns_row}
-use Rattle.osi_pair.proofs.packet.a_unit_with_which_no_session_acts.{turn_rests, answer_for, unless_broken, put_unless, answers_same, rests}
-use Rattle.osi_pair.proofs.packet.a_unit_with_which_no_session_acts.{sends_then, spare_by}
+use Rattle.osi_pair.proofs.packet.a_unit_with_which_no_session_acts.{step_opens, tables_delivered, is_awaited, learns_row, turn_rests}
+use Rattle.osi_pair.proofs.packet.a_unit_with_which_no_session_acts.{answer_for, unless_broken, put_unless, rests, sends_then, spare_by}
 use Rattle.osi_pair.proofs.flight.what_may_arrive_row_by_row.{Row, quiet, still, refuses, ignores, ends, before, after, arrived_in, put_for}
 use Rattle.osi_pair.proofs.session.a_seat_is_its_progress_and_session.{transport_by, transport_at, HasSession, session_of_seat}
 use Rattle.osi_pair.proofs.turn.a_turn_keeps_the_match.{IsSeen, seen, seen_twice, with_holding, Turned, GoesTo, out_there, back_here}
 use Rattle.osi_pair.proofs.flight.what_is_in_flight_when_an_end_acts.{shuts, out_keeps, back_comes, back_waits, Comes, Alone, alone_of}
-use Rattle.osi_pair.proofs.flight.what_is_in_flight_when_an_end_acts.{is_tsdu, BehindFirst, behind_first}
-use Rattle.osi_pair.proofs.flight.whether_something_is_cut_off.{cut_none, end_out, end_back, Lasts}
-use Rattle.osi_pair.proofs.session.an_end_moves_as_the_tables_do.{kept_of, discards_over}
+use Rattle.osi_pair.proofs.flight.what_is_in_flight_when_an_end_acts.{is_tsdu, BehindFirst}
+use Rattle.osi_pair.proofs.flight.whether_something_is_cut_off.{cut_none, end_out, Lasts}
+use Rattle.osi_pair.proofs.session.an_end_moves_as_the_tables_do.{kept_of}
 
 -- ---- the end that took the unit
 
@@ -51,17 +50,9 @@ line_at s n p b t old some le =
     let count = old.given in
     let kept = old.given_then in
     let has = old.lines n some (omega arith) in
-    record {
-      line = seen_from (side_in s) has.line;
-      found = has.found ∙ ap (λ (l : TableLine). Some l) (sym (seen_twice (side_in s) has.line));
-      is = seen s n p b has.line has.is;
-    }
+    grind (arith, seen_twice (side_in s) has.line, seen s n p b has.line has.is)
 
 -- ---- its session stays
-
-session_gone : (n : ℕ) (lines : Rows Line) (m : carrier.Message) (x : Standing) → HasSession n lines (before (ends m)) x →
-    HasSession n lines (after (ends m)) x
-session_gone n lines m x h = grind arith
 
 -- the rows in which a session does nothing, and none begins
 abbrev pub is_rest : Row → Bool
@@ -74,7 +65,7 @@ is_rest row = false
 
 pub session_rests : (n : ℕ) (lines : Rows Line) (row : Row) (x : Standing) → is_rest row ≡ true → HasSession n lines (before row) x →
     HasSession n lines (after row) x
-session_rests n lines row x e h = search (arith, session_gone)
+session_rests n lines row x e h = search arith
 
 -- ---- what is in flight from it
 
@@ -83,10 +74,6 @@ broken_is p b t old = grind arith
 
 none_sent : (broken : Bool) (channel : List Message) → channel ≡ channel ++ unless_broken broken []
 none_sent broken channel = grind (arith, append-nil)
-
-pub sends_is : (row : Row) (broken : Bool) (channel : List Message) → leaves_use (before row) (after row) ≡ false →
-    sends_then row broken channel ≡ channel ++ unless_broken broken (answer_for row)
-sends_is row broken channel e = grind (arith, put_unless, answer_for, none_sent)
 
 pub out_row : (s : Side) (p : TwoEnds) (b : Between) (t : Tables) (e : End) (h : Held) (n : ℕ) (l : TableLine) → Stands p b t →
     (d : DidAt s p b e h n) → IsSeen s n p b l → leaves_use (before d.row) (after d.row) ≡ false → Lasts s p →
@@ -105,13 +92,13 @@ out_row s p b t e h n l old d i stays alive =
     (under_way (is_caller s) n (carriers_of p) b) new d.stays d.gone
     (put_in (carriers_of p) (put_for d.row)) i.out (spare_by t.broken (is_cut (is_caller s) (carriers_of p)) (answer_for d.row) free)
     (end_out s (record { end = e; held = h }) p alive)
-    d.out_before d.out_after (d.keeps stays) (answers_same t.broken (is_some (carriers_of p).reach) d.row (broken_is p b t old)) in
+    d.out_before d.out_after (d.keeps stays) (grind arith) in
     out_there s p d.now e h n (progress_of (place_at n (last_of (is_caller (other s)) d.now))) l.peer.session.state
     (sends_then d.row t.broken l.own.channel)
     (subst (λ (q : Place). GoesTo s (end_at (other s) p) n now d.now (progress_of q) l.peer.session.state
     (sends_then d.row t.broken l.own.channel)) (sym (d.there n))
     (subst (λ (ms : List Message). GoesTo s (end_at (other s) p) n now d.now (progress_of there) l.peer.session.state ms)
-    (sym (sends_is d.row t.broken l.own.channel stays)) all))
+    (sym (grind (arith, put_unless, answer_for, none_sent))) all))
 
 -- ---- what is in flight to it
 
@@ -130,9 +117,8 @@ back_none s p b e h n l d i alive none same kept =
     (is_cut (is_caller (other s)) (carriers_of p)) (is_cut (is_caller (other s)) (carriers_of two))
     (HasJoined n (end_at s p)) (HasJoined n (record { end = e; held = h })) l.own.session.state l.peer.channel
     (under_way (is_caller (other s)) n (carriers_of p) b) new (λ x. ap shuts (d.stands ∙ sym same ∙ sym d.stood) ∙ x)
-    i.back alive (end_back s (record { end = e; held = h }) p) (λ x held y at. held y (kept y at))
-    (subst (λ (ms : List carrier.Message). AreLike (connection_in now) (under_way (is_caller (other s)) n (carriers_of p) b) (ms ++ new))
-    none d.came)))
+    i.back alive (grind arith) (λ x held y at. held y (kept y at))
+    (grind arith)))
 
 -- one did
 pub back_one : (s : Side) (p : TwoEnds) (b : Between) (e : End) (h : Held) (n : ℕ) (l : TableLine) (got : carrier.Message) →
@@ -147,9 +133,8 @@ back_one s p b e h n l got d i alive one =
     (is_cut (is_caller (other s)) (carriers_of p))
     (is_cut (is_caller (other s)) (carriers_of two)) (HasJoined n (end_at s p)) l.own.session.state l.peer.channel got
     (under_way (is_caller (other s)) n (carriers_of p) b) new d.stood d.stands i.back alive
-    (end_back s (record { end = e; held = h }) p)
-    (subst (λ (ms : List carrier.Message). AreLike (connection_in (place_at n (last_of (is_caller s) d.now)))
-    (under_way (is_caller (other s)) n (carriers_of p) b) (ms ++ new)) one d.came)
+    (grind arith)
+    (grind arith)
 
 -- that is no TSDU
 pub back_alone : (s : Side) (p : TwoEnds) (b : Between) (e : End) (h : Held) (n : ℕ) (l : TableLine) (got : carrier.Message) →
@@ -165,7 +150,7 @@ pub back_then : (s : Side) (p : TwoEnds) (c : Between) (e : End) (h : Held) (n :
     BehindFirst g (is_cut (is_caller (other s)) (carriers_of (with_holding s e h p))) begun x ms
     (under_way (is_caller (other s)) n (carriers_of (with_holding s e h p)) c) → HasJoined n (record { end = e; held = h }) begun →
     (StaysCalm x ms → StaysCalm y ms) → Goes (other s) s n (with_holding s e h p) c g y ms
-back_then s p c e h n g begun x y ms way held calms = search (arith, back_here, behind_first, with_holding)
+back_then s p c e h n g begun x y ms way held calms = search (arith, back_here, with_holding)
 
 -- the lines of the end have no effect on what is in flight
 pub other_lines : (s : Side) (p : TwoEnds) (b : Between) (packet : List ℕ) (h : Held) (n : ℕ) (lines more : Rows Line) →
@@ -186,7 +171,7 @@ other_lines Right p b packet h n lines more pa g begun x ms way = way
 pub over_holds : (s : Side) (p : TwoEnds) (n : ℕ) (g : Progress) (x : Standing) (begun : Option (List ℕ)) → IsInOrder (end_at s p).end →
     HasSession n (end_at s p).end.lines g x → is_parting (transport_by g) ≡ true → HasJoined n (end_at s p) begun
 over_holds s p n g x begun order h parts y at =
-    grind (arith, discards_over, implied, gone_is, h.kept y at, h.over_now parts, kept_of n y (end_at s p).end order at)
+    grind (arith, implied, gone_is, h.kept y at, h.over_now parts, kept_of n y (end_at s p).end order at)
 
 -- and data is no fault to it
 pub over_stays : (x : Standing) (ms : List Message) → is_ended x.state.phase ≡ true → StaysCalm x.state ms
@@ -202,11 +187,6 @@ pub record EndThen (s : Side) (p : TwoEnds) (e : End) : Type 0 where
 
 same_sessions : (s : Side) (p : TwoEnds) (u : Value) (n : ℕ) → OtherSessions s p (acted_end u (end_at s p).end.lines (end_at s p).end) n
 same_sessions s p u n = record { sessions = λ q apart is. refl; kept = λ q apart x is. is }
-
--- the session of its connection before
-pub session_before : (s : Side) (p : TwoEnds) (b : Between) (t : Tables) (e : End) (h : Held) (n : ℕ) (l : TableLine) → Stands p b t →
-    Lasts s p → (d : DidAt s p b e h n) → IsSeen s n p b l → HasSession n (end_at s p).end.lines (before d.row) l.own.session
-session_before s p b t e h n l old alive d i = grind (arith, session_of_seat, before, was_at)
 
 pub transport_before : (s : Side) (p : TwoEnds) (b : Between) (t : Tables) (e : End) (h : Held) (n : ℕ) (l : TableLine) → Stands p b t →
     Lasts s p → (d : DidAt s p b e h n) → IsSeen s n p b l → l.own.transport ≡ transport_by (before d.row)
@@ -237,14 +217,14 @@ quiet_unit s p b t packet h old alive pa d at back same rest agree stays sends b
     let tr = transport_before s p b t e h n l old alive d at.is ∙ ap transport_by same in
     finish s p b t t e h n [] l l.own.session l.own.channel l.peer.channel old alive d new.lasts new.local new.role pa.first.given behind
     new.order new.waits (same_sessions s p pa.unit n)
-    (session_rests n (end_at s p).end.lines d.row l.own.session rest (session_before s p b t e h n l old alive d at.is)) at.is
+    (session_rests n (end_at s p).end.lines d.row l.own.session rest (grind (arith, session_of_seat, before, was_at))) at.is
     (assumption (
       subst (λ (ms : List Message). Goes s (other s) n (with_holding s e h p) d.now
           (progress_of (place_at n (last_of (is_caller (other s)) d.now))) l.peer.session.state ms) (sends t.broken l.own.channel)
           (out_row s p b t e h n l old d at.is stays alive),
       back,
     ))
-    (subst (λ (m : TableLine). TablesAfter s n t t [] m) (sym (line_same d.row l tr)) (tables_rest s n l t at.found))
+    (subst (λ (m : TableLine). TablesAfter s n t t [] m) (sym (line_same d.row l tr)) (grind (arith, append-nil)))
     (known_then s p b t e h n old alive d new.lasts pa.first.given agree)
 
 -- one arrived, and no session received it
@@ -271,9 +251,8 @@ rest_unit s p b t packet h got old alive lasting pa d at first others parts kind
     finish s p b t (step t (delivers (side_in s) n (λ r. 0))) e h n [] l l.own.session
     (sends_then d.row t.broken l.own.channel) others old alive d new.lasts new.local new.role pa.first.given behind new.order new.waits
     (same_sessions s p pa.unit n)
-    (session_rests n (end_at s p).end.lines d.row l.own.session rest (session_before s p b t e h n l old alive d at.is)) at.is
+    (session_rests n (end_at s p).end.lines d.row l.own.session rest (grind (arith, session_of_seat, before, was_at))) at.is
     (record { out = out_row s p b t e h n l old d at.is stays alive; back = back })
-    (subst (λ (u : Tables). TablesAfter s n t u [] line) (sym is)
-    (tables_delivered s n (seen_from (side_in s) l) t known (unseen line) at.found))
+    (grind (arith, tables_delivered s n (seen_from (side_in s) l) t known (unseen line) at.found))
     (ap (λ (u : Tables). u.known) is ∙ learns_row d.row l.own.transport t.terms first t.known tr awaited
     ∙ known_then s p b t e h n old alive d new.lasts pa.first.given agree)

@@ -5,17 +5,16 @@ use Rattle.osi_between.specs.Messages as carrier
 use Rattle.osi_machine.specs.Core as machine
 use Rattle.osi_machine.specs.Worlds as worlds
 use Rattle.osi_pair.proofs.Vocabulary.{◌≡◌, ℕ, Bool, true, false, if◌then◌else◌, List, [], ◌∷◌, ◌++◌, length, map, Option, Some, None, ◌⊎◌}
-use Rattle.osi_pair.proofs.Vocabulary.{arith, append-nil, kind_of, Terms, delivers, shown_at, connection_at, with_connection, learns, Seat}
-use Rattle.osi_pair.proofs.Vocabulary.{Line, Turn, Tables, seen_from, unseen, without_first, message_taken, after_turn, stays, end_of, step}
-use Rattle.osi_pair.proofs.Vocabulary.{Message, Transport, agree, deny, over, put, with_same, with_other, with_count, Standing, side_in}
-use Rattle.osi_pair.proofs.Vocabulary.{message_in, word_in, terms_in, Word, Side, noted_in as noted}
+use Rattle.osi_pair.proofs.Vocabulary.{arith, append-nil, kind_of, Terms, delivers, shown_at, connection_at, learns, Seat, Line, Turn}
+use Rattle.osi_pair.proofs.Vocabulary.{Tables, seen_from, unseen, without_first, message_taken, after_turn, stays, end_of, step, Message}
+use Rattle.osi_pair.proofs.Vocabulary.{Transport, agree, deny, over, put, with_same, with_other, with_count, Standing, side_in, message_in}
+use Rattle.osi_pair.proofs.Vocabulary.{word_in, terms_in, Word, Side, noted_in as noted}
 use Rattle.osi_pair.proofs.turn.what_remains_when_a_unit_was_taken.{TablesAfter, line_then}
 use Rattle.osi_pair.proofs.flight.what_may_arrive_row_by_row.{Row, begins, refuses, agrees, denies, leaves, ignores, ends, before}
-use Rattle.osi_pair.proofs.flight.what_may_arrive_row_by_row.{arrived_in, put_for, is_row}
+use Rattle.osi_pair.proofs.flight.what_may_arrive_row_by_row.{arrived_in, is_row}
 use Rattle.osi_pair.proofs.session.a_seat_is_its_progress_and_session.{transport_by}
-use Rattle.osi_pair.proofs.turn.a_turn_keeps_the_match.{LinesAfter}
-use Rattle.osi_pair.proofs.flight.what_is_in_flight_when_an_end_acts.{Sent, IsLeave}
-use Rattle.osi_pair.proofs.words.added_and_cut_words_are_messages.{MayLeave, AreWords}
+use Rattle.osi_pair.proofs.flight.what_is_in_flight_when_an_end_acts.{IsLeave}
+use Rattle.osi_pair.proofs.words.added_and_cut_words_are_messages.{MayLeave}
 
 -- ---- a delivery of the tables
 
@@ -33,18 +32,9 @@ pub step_opens : (t : Tables) (s : machine.Side) (r : ℕ) (keep : ℕ → ℕ) 
     step t (delivers s r keep) ≡ delivered t s r (learns t.terms l.own.transport x t.known) turn
 step_opens t s r keep l x xs turn alive found first is e = grind arith
 
-lines_after : (s : Side) (n : ℕ) (old line : Line) (t u : Tables) → u.lines ≡ with_connection n (seen_from (side_in s) line) t.lines →
-    connection_at n t.lines ≡ Some old → LinesAfter s n line t u
-lines_after s n old line t u e found = grind (arith, length, with_count, with_same, with_other)
-
 pub tables_delivered : (s : Side) (n : ℕ) (old : Line) (t : Tables) (known : Option worlds.Class) (turn : Turn) →
     connection_at n t.lines ≡ Some old → TablesAfter s n t (delivered t (side_in s) n known turn) turn.shown turn.line
-tables_delivered s n old t known turn found = search (arith, lines_after)
-
--- the tables are unchanged
-pub tables_rest : (s : Side) (n : ℕ) (line : Line) (t : Tables) → connection_at n t.lines ≡ Some (seen_from (side_in s) line) →
-    TablesAfter s n t t [] line
-tables_rest s n line t found = grind (arith, append-nil)
+tables_delivered s n old t known turn found = grind (arith, length, with_count, with_same, with_other)
 
 -- ---- the class is learned from a CC alone
 
@@ -72,14 +62,6 @@ unless_broken broken ms = if broken then [] else ms
 pub put_unless : (broken : Bool) (ms channel : List Message) → put broken ms channel ≡ channel ++ unless_broken broken ms
 put_unless broken ms channel = grind (arith, append-nil)
 
-pub unless_same : (broken whole : Bool) (ms : List Message) (ys : Sent) → broken ≡ whole → map message_in ms ≡ ys →
-    map message_in (unless_broken broken ms) ≡ (if whole then [] else ys)
-unless_same broken whole ms ys e h = grind arith
-
-pub answers_same : (broken whole : Bool) (row : Row) → broken ≡ whole →
-    map message_in (unless_broken broken (answer_for row)) ≡ (if whole then [] else put_for row)
-answers_same broken whole row e = grind arith
-
 -- nothing is put if something of what is in flight was cut
 pub spare_by : (broken cut : Bool) (ms : List Message) → (broken ≡ false → cut ≡ false) → (cut ≡ false) ⊎ (unless_broken broken ms ≡ [])
 spare_by broken cut ms free = grind arith
@@ -87,10 +69,6 @@ spare_by broken cut ms free = grind arith
 -- the words of what is put
 abbrev pub words_put : Bool → List Word → List Word
 words_put broken words = if broken then [] else words
-
-pub are_put : (broken : Bool) (words : List Word) (ms : List Message) → AreWords words ms →
-    AreWords (words_put broken words) (unless_broken broken ms)
-are_put broken words ms are = grind arith
 
 pub put_same : (broken whole : Bool) (words : List Word) → broken ≡ whole →
     map word_in (words_put broken words) ≡ (if whole then [] else map word_in words)

@@ -3,10 +3,10 @@
 use Rattle.osi_carrier.specs.Packets as carriers
 use Rattle.osi_carrier.specs.React.{react as carrier_react}
 use Rattle.osi_machine.specs.Worlds as worlds
-use Rattle.osi_pair.proofs.Vocabulary.{◌≡◌, ◌≢◌, ℕ, true, List, [], ◌∷◌, Some, None, is_some, IfSome, ap, ◌∙◌, arith, Value, Happening}
-use Rattle.osi_pair.proofs.Vocabulary.{Rows, value_at, State as Carrier, Progress, IsInOctets, Input, Standing, react, is_ended, listening}
+use Rattle.osi_pair.proofs.Vocabulary.{◌≡◌, ℕ, true, List, [], ◌∷◌, Some, None, is_some, IfSome, ap, ◌∙◌, arith, Value, Happening, Rows}
+use Rattle.osi_pair.proofs.Vocabulary.{value_at, State as Carrier, Progress, IsInOctets, Input, Standing, react, is_ended, listening}
 use Rattle.osi_pair.proofs.Vocabulary.{awaits, carries_out, after_packet, attends, concludes, hears, with_carrier, told_all, kept_at}
-use Rattle.osi_pair.proofs.Vocabulary.{line_after, End, put_here, put_other, quiet_attends, packet_is, is_parting, quieted, put_row as put}
+use Rattle.osi_pair.proofs.Vocabulary.{line_after, End, put_here, quiet_attends, packet_is, is_parting, quieted, put_row as put}
 use Rattle.osi_pair.proofs.Vocabulary.{EndLine as Line, quieted_at, one_heard}
 use Rattle.osi_pair.proofs.session.an_end_moves_as_the_tables_do.{as_made}
 use Rattle.osi_pair.proofs.packet.a_unit_at_rest_keeps_the_match.{acted_end}
@@ -44,10 +44,6 @@ lasting e h = grind arith
 pub kept_then : (n : ℕ) (line was : Line) (x : Standing) (input : Input) (lines : Rows Line) → value_at n lines ≡ Some was →
     kept_at n (quieted (lines_then n line x input lines)) ≡ Some (listening (react x input).next)
 kept_then n line was x input lines here = grind (arith, quieted_at, put_here, as_made)
-
-pub kept_other : (n q : ℕ) (line : Line) (x : Standing) (input : Input) (lines : Rows Line) → q ≢ n →
-    kept_at q (quieted (lines_then n line x input lines)) ≡ kept_at q lines
-kept_other n q line x input lines apart = grind (arith, quieted_at, put_other, as_made)
 
 pub session_then : (n : ℕ) (line was : Line) (x : Standing) (input : Input) (lines : Rows Line) (g : Progress) →
     value_at n lines ≡ Some was → (is_parting (transport_by g) ≡ true → is_ended (react x input).next.state.phase ≡ true) →

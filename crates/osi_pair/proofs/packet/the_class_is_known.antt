@@ -3,9 +3,9 @@
 use Rattle.osi_between.specs.Messages as carrier
 use Rattle.osi_between.specs.Progress as progress
 use Rattle.osi_machine.specs.Worlds as worlds
-use Rattle.osi_pair.proofs.Vocabulary.{◌≡◌, ℕ, ◌≤◌, true, None, option_map, sym, ap, subst, ◌∙◌, inl, inr, arith, Held, Value, place_at}
-use Rattle.osi_pair.proofs.Vocabulary.{Between, last_of, in_use, Terms, class_of, learns, Line, Tables, Message, End, TwoEnds, is_caller}
-use Rattle.osi_pair.proofs.Vocabulary.{class_in, terms_in, message_in, Stands, Side, kind_of}
+use Rattle.osi_pair.proofs.Vocabulary.{◌≡◌, ℕ, ◌≤◌, None, option_map, sym, ap, subst, ◌∙◌, inl, inr, arith, Held, Value, place_at, Between}
+use Rattle.osi_pair.proofs.Vocabulary.{last_of, in_use, Terms, class_of, learns, Line, Tables, Message, End, TwoEnds, is_caller, class_in}
+use Rattle.osi_pair.proofs.Vocabulary.{terms_in, message_in, Stands, Side, kind_of}
 use Rattle.osi_pair.proofs.flight.which_unit_arrives_first.{IsFirstFor}
 use Rattle.osi_pair.proofs.turn.what_remains_when_a_unit_was_taken.{terms_at, DidAt, is_agree, last_is, known_then}
 use Rattle.osi_pair.proofs.packet.what_a_session_hears_row_by_row.{AsMove, got_in}
@@ -16,11 +16,6 @@ use Rattle.osi_pair.proofs.turn.a_turn_keeps_the_match.{with_holding}
 use Rattle.osi_pair.proofs.flight.whether_something_is_cut_off.{Lasts}
 
 -- ---- a CC
-
--- the caller has the class then
-class_agreed : (s : Side) (p : TwoEnds) (b : Between) (e : End) (h : Held) (n : ℕ) → (d : DidAt s p b e h n) → e.carrier.ended ≡ None →
-    d.row ≡ agrees → is_caller s ≡ true → (with_holding s e h p).left.end.carrier.class ≡ class_of (terms_at p)
-class_agreed s p b e h n d lasts same caller = search (arith, last_is, terms_at, arrived_in, is_row)
 
 -- and the tables learn it
 learned : (t : Tables) (l : Line) (m : Message) (terms : Terms) → t.terms ≡ terms_in terms → l.own.transport ≡ worlds.waiting →
@@ -40,14 +35,11 @@ moved_known s p b t e h n l m u row old alive d lasts first given same (inl is) 
     let one : d.row ≡ agrees = same ∙ is in
     let row_is : is_row (terms_at p) agrees = subst (λ (r : Row). is_row (terms_at p) r) one d.is in
     let alike_is : kind_of (message_in m) ≡ carrier.agree = subst (λ (r : Row). kind_of (message_in m) ≡ kind_of (got_in r)) is alike in
-    let caller : is_caller s ≡ true = first.waits (grind (arith, d.stood ∙ ap before one)) in
     learned t l m (terms_at p) old.terms (tr ∙ ap (λ (r : Row). transport_by (before r)) is) row_is alike_is
-    ∙ ap (option_map class_in) (sym (class_agreed s p b e h n d lasts one caller))
+    ∙ ap (option_map class_in) (sym (grind (arith, last_is, terms_at, arrived_in, is_row)))
 moved_known s p b t e h n l m u row old alive d lasts first given same (inr (inl is)) tr alike =
     let one : d.row ≡ denies is.0 = same ∙ is.1 in
-    ap (λ (x : worlds.Terms). learns x l.own.transport m t.known) old.terms
-    ∙ grind (arith, subst (λ (r : Row). is_row (terms_at p) r) one d.is)
-    ∙ known_then s p b t e h n old alive d lasts given (ap is_agree one)
+    grind (arith, is_row, is_agree, terms_at p, known_then s p b t e h n old alive d lasts given (ap is_agree one))
 moved_known s p b t e h n l m u row old alive d lasts first given same (inr (inr is)) tr alike =
     learns_row row l.own.transport t.terms m t.known tr (ap is_awaited is.1)
     ∙ known_then s p b t e h n old alive d lasts given (ap is_agree (same ∙ is.1))

@@ -15,7 +15,7 @@ use Rattle.osi_pair.proofs.packet.a_session_makes_its_move.{heard_by, is_move}
 use Rattle.osi_pair.proofs.packet.a_packet_is_one_delivery_or_none.{is_heard}
 use Rattle.osi_pair.proofs.session.a_reply_can_be_sent.{CanGo, ReplyLaws, GoesBy, goes_taken, goes_opened, goes_refused, silent_refused}
 use Rattle.osi_pair.proofs.session.a_reply_can_be_sent.{ended_refused, goes_broken, silent_broken, ended_broken, offer_goes}
-use Rattle.osi_pair.proofs.flight.what_may_arrive_row_by_row.{Row, agrees, denies, tells, leaves, before, after, arrived_in, told_for}
+use Rattle.osi_pair.proofs.flight.what_may_arrive_row_by_row.{Row, agrees, denies, tells, leaves, before, after, told_for}
 use Rattle.osi_pair.proofs.session.a_seat_is_its_progress_and_session.{transport_by, lives_in}
 use Rattle.osi_pair.proofs.session.a_waiting_session_has_its_request.{IsCalling}
 use Rattle.osi_pair.proofs.session.an_end_moves_as_the_tables_do.{as_made, moves_so, moves_apart}
@@ -26,12 +26,6 @@ use Rattle.osi_pair.proofs.flight.what_is_in_flight_when_an_end_acts.{is_tsdu}
 
 abbrev pub AsMove : Row → Type 0
 AsMove row = (row ≡ agrees) ⊎ (((reason : ℕ) × (row ≡ denies reason)) ⊎ ((octets : List ℕ) × (row ≡ tells octets)))
-
-no_move : false ≡ true → ⊥
-no_move e = cc
-
-pub as_move : (row : Row) → is_move row ≡ true → AsMove row
-as_move row e = grind arith
 
 -- or the connection is closed
 abbrev pub AsHeard : Row → Type 0
@@ -50,12 +44,6 @@ got_in (denies reason) = carrier.deny reason
 got_in (tells octets) = carrier.message octets
 got_in (leaves reason) = carrier.bye reason
 got_in row = carrier.over
-
-one_by : (row : Row) → AsHeard row → arrived_in row ≡ got_in row ∷ []
-one_by row h1 = grind arith
-
-pub one_in : (row : Row) → is_heard row ≡ true → arrived_in row ≡ got_in row ∷ []
-one_in row heard = one_by row (as_heard row heard)
 
 -- ---- what is true of a row
 
@@ -94,14 +82,14 @@ hears_agrees n m joined x kept none goes octets = record {
   numbered = tt;
   goes = goes_opened x goes octets;
   lives = refl;
-  ended = λ e. absurd (no_move e);
+  ended = λ e. absurd (grind arith);
   waits = λ e. (let no : worlds.linked ≡ worlds.not_yet = e in cc);
   silent = λ e. (let no : in_use ≡ gone = e in cc);
   needs = λ e. refl;
 }
 
 needs_none : (x : Standing) → is_ended x.state.phase ≡ true → needs_link x.state.phase ≡ true → in_use ≡ gone
-needs_none x ended needs = grind (arith, excluded, no_move)
+needs_none x ended needs = grind (arith, excluded)
 
 hears_denies : (n reason : ℕ) (m : Message) (joined : Option (List ℕ)) (x : Standing) → IsTaker x joined → joined ≡ None →
     is_ended (react x (session.refused reason)).next.state.phase ≡ true → IfSome x.waiting IsInOctets → HearsBy n (denies reason) m joined x
@@ -111,8 +99,7 @@ hears_denies n reason m joined x kept none past octets = record {
   heard = words.refused reason;
   hears = λ e line here. refl;
   moves = moves_apart joined x (session.refused reason) kept refl
-      (ap (kept_in (react x (session.refused reason)).next.state.phase) none
-      ∙ kept_none (react x (session.refused reason)).next.state.phase);
+      (grind (arith, react, kept_none));
   alone = λ l. refl;
   numbered = tt;
   goes = goes_refused x reason octets;
@@ -161,7 +148,7 @@ hears_tells laws readings units n octets u joined x is sendable none waits =
       numbered = subst HasNumbersInWords same (came_numbers units octets);
       goes = goes_taken laws x u waits;
       lives = refl;
-      ended = λ e. absurd (no_move e);
+      ended = λ e. absurd (grind arith);
       waits = λ e. (let no : worlds.linked ≡ worlds.not_yet = e in cc);
       silent = λ e. (let no : in_use ≡ gone = e in cc);
       needs = λ e. refl;
@@ -208,7 +195,7 @@ tells_last laws n octets front last joined x is moves waits =
       numbered = subst HasNumbersInWords same (came_numbers laws.units octets);
       goes = goes_taken laws.replies x (DT (front ++ last)) waits;
       lives = refl;
-      ended = λ e. absurd (no_move e);
+      ended = λ e. absurd (grind arith);
       waits = λ e. (let no : worlds.linked ≡ worlds.not_yet = e in cc);
       silent = λ e. (let no : in_use ≡ gone = e in cc);
       needs = λ e. refl;

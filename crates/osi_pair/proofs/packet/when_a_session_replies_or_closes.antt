@@ -3,19 +3,17 @@
 -- For breaks and ends, packets and the laws of `standing`.
 use Rattle.osi_machine.specs.Worlds as worlds
 use Rattle.osi_pair.proofs.Vocabulary.{◌≡◌, ℕ, Bool, true, false, List, Option, Some, None, option_map, refl, sym, ap, subst, ◌∙◌, ◌⊎◌, inl}
-use Rattle.osi_pair.proofs.Vocabulary.{inr, arith, Held, Between, in_use, Terms, by_two, by_zero, class_of, learns, Tables, Message}
-use Rattle.osi_pair.proofs.Vocabulary.{Transport, unit, accepts, Meaning, said_of, Input, opened, refused, taken, broken, Standing, react}
-use Rattle.osi_pair.proofs.Vocabulary.{after_input, is_wait_transport, is_ended, respond, respond_unit, after_packet, IsSound, TwoEnds}
-use Rattle.osi_pair.proofs.Vocabulary.{end_at, class_in, terms_in, Stands, Side, SessionState as State}
+use Rattle.osi_pair.proofs.Vocabulary.{inr, arith, Held, Between, in_use, Terms, by_two, by_zero, class_of, Tables, Message, unit, Meaning}
+use Rattle.osi_pair.proofs.Vocabulary.{said_of, Input, opened, refused, taken, broken, Standing, react, after_input, is_ended, respond}
+use Rattle.osi_pair.proofs.Vocabulary.{respond_unit, after_packet, IsSound, TwoEnds, end_at, class_in, Stands, Side, SessionState as State}
 use Rattle.osi_pair.proofs.packet.a_reply_or_close_keeps_the_match.{answered_shown, closed_shown, silent_shown}
 use Rattle.osi_pair.proofs.turn.what_remains_when_a_unit_was_taken.{terms_at, order_of, PacketAt}
 use Rattle.osi_pair.proofs.packet.an_end_handles_its_carriers_events.{carried_out}
 use Rattle.osi_pair.proofs.packet.a_session_that_moved.{move_of, HasMoved}
 use Rattle.osi_pair.proofs.packet.a_session_makes_its_move.{heard_by, is_move}
 use Rattle.osi_pair.proofs.packet.a_packet_is_one_delivery_or_none.{PacketLaws}
-use Rattle.osi_pair.proofs.flight.what_may_arrive_row_by_row.{Row, agrees, denies, tells, before, is_row}
+use Rattle.osi_pair.proofs.flight.what_may_arrive_row_by_row.{Row, before, is_row}
 use Rattle.osi_pair.proofs.turn.all_is_shown.{StandsShown}
-use Rattle.osi_pair.proofs.session.a_reply_can_be_sent.{refused_open}
 use Rattle.osi_pair.proofs.flight.whether_something_is_cut_off.{Lasts}
 
 -- what is proved of one session
@@ -41,7 +39,7 @@ opened_stays x = grind arith
 
 refused_stays : (x : Standing) (reason : ℕ) → (react x (refused reason)).closes ≡ false
 unfolding react
-refused_stays x reason = refused_open (is_wait_transport x.state.phase) reason x
+refused_stays x reason = grind arith
 
 broken_stays : (x : Standing) → (react x broken).closes ≡ false
 unfolding react
@@ -57,20 +55,9 @@ pub record ClosesAlone (row : Row) (m : Message) (x : Standing) : Type 0 where
   pub reply : (react x (heard_by row m)).reply ≡ None
   pub used : before row ≡ in_use
 
-no_close : (b : Bool) → b ≡ false → b ≡ true → ⊥
-no_close b e f = cc
-
-tells_alone : AnswerLaws → (octets : List ℕ) (m : Message) (x : Standing) → (react x (heard_by (tells octets) m)).closes ≡ true →
-    ClosesAlone (tells octets) m x
-tells_alone laws octets (unit u) x h = record { reply = taken_alone laws x u h; used = refl }
-tells_alone laws octets m x h = absurd (no_close _ (broken_stays x) h)
-
 pub closes_alone : AnswerLaws → (row : Row) (m : Message) (x : Standing) → is_move row ≡ true → (react x (heard_by row m)).closes ≡ true →
     ClosesAlone row m x
-closes_alone laws (tells octets) m x is h = tells_alone laws octets m x h
-closes_alone laws agrees m x is h = absurd (no_close _ (opened_stays x) h)
-closes_alone laws (denies reason) m x is h = absurd (no_close _ (refused_stays x reason) h)
-closes_alone laws row m x is h = cc
+closes_alone laws row m x is h = grind (arith, taken_alone, broken_stays, opened_stays, refused_stays)
 
 -- ---- the class is known
 
@@ -79,28 +66,7 @@ pub class_known : (s : Side) (p : TwoEnds) (b : Between) (t : Tables) (packet : 
     (pa : PacketAt s p b packet h) → before pa.did.row ≡ in_use → t.known ≡ option_map class_in (class_of (terms_at p))
 class_known s p b t packet h old pa used = grind arith
 
-known_by_class : (s : Side) (p : TwoEnds) (b : Between) (t : Tables) (packet : List ℕ) (h : Held) (terms : Terms) (class : worlds.Class) →
-    Stands p b t → (pa : PacketAt s p b packet h) → before pa.did.row ≡ in_use → terms_at p ≡ terms → terms_in terms ≡ accepts class →
-    option_map class_in (class_of terms) ≡ Some class → (tr : Transport) (m : Message) → learns t.terms tr m t.known ≡ Some class
-known_by_class s p b t packet h terms class old pa used is accepted agreed tr m = grind (arith, class_known s p b t packet h old pa used)
-
-pub known_two : (s : Side) (p : TwoEnds) (b : Between) (t : Tables) (packet : List ℕ) (h : Held) → Stands p b t →
-    (pa : PacketAt s p b packet h) → before pa.did.row ≡ in_use → terms_at p ≡ by_two → (tr : Transport) (m : Message) →
-    learns t.terms tr m t.known ≡ Some worlds.class_2
-known_two s p b t packet h old pa used two tr m = known_by_class s p b t packet h by_two worlds.class_2 old pa used two refl refl tr m
-
-pub known_zero : (s : Side) (p : TwoEnds) (b : Between) (t : Tables) (packet : List ℕ) (h : Held) → Stands p b t →
-    (pa : PacketAt s p b packet h) → before pa.did.row ≡ in_use → terms_at p ≡ by_zero → (tr : Transport) (m : Message) →
-    learns t.terms tr m t.known ≡ Some worlds.class_0
-known_zero s p b t packet h old pa used zero tr m = known_by_class s p b t packet h by_zero worlds.class_0 old pa used zero refl refl tr m
-
 -- ---- the packet
-
--- the session answers
-pub answering_packet : PacketLaws → (s : Side) (p : TwoEnds) (b : Between) (t : Tables) (packet : List ℕ) (h : Held) → Stands p b t →
-    Lasts s p → PacketAt s p b packet h → (v : HasMoved s p t packet h) (x : Meaning) → (move_of v.m).closes ≡ false →
-    (move_of v.m).reply ≡ Some x → StandsShown s p t (after_packet (end_at s p).end packet) h
-answering_packet laws s p b t packet h old alive pa v x open_still reply = search (arith, answered_shown, sound_behind)
 
 -- in class 2 it closes
 pub closing_packet : PacketLaws → AnswerLaws → (s : Side) (p : TwoEnds) (b : Between) (t : Tables) (packet : List ℕ) (h : Held) →
@@ -111,7 +77,7 @@ closing_packet laws moves s p b t packet h old alive pa v row input two shut =
     let x = v.m.seen.own.session in
     let a = closes_alone moves v.m.row v.m.first x v.row (ap (λ (i : Input). (react x i).closes) (sym input) ∙ shut) in
     closed_shown laws.two s p t packet h v (sound_behind laws s p b t packet h old alive pa) two
-    (known_two s p b t packet h old pa (ap before (sym row) ∙ a.used) two v.m.seen.own.transport v.m.first) shut
+    (grind (arith, class_known)) shut
     (ap (λ (i : Input). (react x i).reply) input ∙ a.reply) (moves.ended x v.m.input shut)
 
 -- ---- by what the move does
@@ -137,8 +103,7 @@ pub shutting_packet : PacketLaws → AnswerLaws → (s : Side) (p : TwoEnds) (b 
 shutting_packet laws moves s p b t packet h old alive pa v row input shut zero =
     let x = v.m.seen.own.session in
     let a = closes_alone moves v.m.row v.m.first x v.row (ap (λ (i : Input). (react x i).closes) (sym input) ∙ shut) in
-    by_terms laws moves s p b t packet h old alive pa v row input shut zero
-    (open_terms (terms_at p) pa.did.row pa.did.is (ap before (sym row) ∙ a.used))
+    search (arith, by_terms, before, open_terms (terms_at p) pa.did.row pa.did.is (ap before (sym row) ∙ a.used), terms_at p)
 
 by_move : PacketLaws → AnswerLaws → (s : Side) (p : TwoEnds) (b : Between) (t : Tables) (packet : List ℕ) (h : Held) → Stands p b t →
     Lasts s p → (pa : PacketAt s p b packet h) → (v : HasMoved s p t packet h) → v.m.row ≡ pa.did.row →
@@ -148,7 +113,7 @@ by_move : PacketLaws → AnswerLaws → (s : Side) (p : TwoEnds) (b : Between) (
     StandsShown s p t (after_packet (end_at s p).end packet) h
 by_move laws moves s p b t packet h old alive pa v row input true reply shut e zero = search (arith, shutting_packet)
 by_move laws moves s p b t packet h old alive pa v row input false None stays e zero = silent_shown s p t packet h v stays e
-by_move laws moves s p b t packet h old alive pa v row input false (Some x) stays e zero = search (arith, answering_packet)
+by_move laws moves s p b t packet h old alive pa v row input false (Some x) stays e zero = search (arith, answered_shown, sound_behind)
 
 -- a packet with which a session moves; the state of two ends of class 0, if it closes, is given
 pub moving_packet : PacketLaws → AnswerLaws → (s : Side) (p : TwoEnds) (b : Between) (t : Tables) (packet : List ℕ) (h : Held) →

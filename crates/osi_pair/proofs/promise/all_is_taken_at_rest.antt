@@ -11,14 +11,14 @@ use Rattle.osi_pair.specs.Promises.{sent_by, kept_at as kept_by}
 use Rattle.osi_pair.proofs.Vocabulary.{◌≡◌, refl, sym, ◌∙◌, ap, subst, ℕ, ◌<◌, ◌≤◌, Bool, true, false, List, [], ◌∷◌, ◌++◌, length, map}
 use Rattle.osi_pair.proofs.Vocabulary.{Option, Some, None, option_map, is_some, arith, unit_packet, units_in, IsHeardAsSaid, append-nil}
 use Rattle.osi_pair.proofs.Vocabulary.{AllByRecursion, completed_partial, partial_not_whole, IsPartial, packet_of, Value, begun_by, kept_in}
-use Rattle.osi_pair.proofs.Vocabulary.{was_given, place_at, value_at, Connection, State, linked, packets, Both, Between, AreBetween}
-use Rattle.osi_pair.proofs.Vocabulary.{IsOnTheWay, AreJoinedBy, arriving, reach_of, within_reach, last_of, lost_from, units_from, under_way}
-use Rattle.osi_pair.proofs.Vocabulary.{IsStill, IsAllThere, is_cut, progress_of, Progress, Terms, terms_of, Step, side_of, turned, Message}
-use Rattle.osi_pair.proofs.Vocabulary.{Listener, kept_at, session_at, joined_of, joined_in, End, TwoEnds, end_at, taken_by, AreTakenInOrder}
-use Rattle.osi_pair.proofs.Vocabulary.{AreAtRest, IsOpenAt, begun_of, kept_of, IsAllTaken, HoldLess, other, terms_in, is_caller}
-use Rattle.osi_pair.proofs.Vocabulary.{transport_in, carriers_of, AreAlike, HasLine, StandsAt, AreUnderWay, word_in, HasJoined, IsInOrder}
-use Rattle.osi_pair.proofs.Vocabulary.{Reach, Side, Left, Right, EndReason, Word, IsJoinedAs, may_hold, joined_holds, implied, needs_link}
-use Rattle.osi_pair.proofs.Vocabulary.{is_open, given_live, SessionState as Session, Link as Standing, seen_from, side_in}
+use Rattle.osi_pair.proofs.Vocabulary.{was_given, place_at, value_at, Connection, linked, packets, Both, Between, AreBetween, IsOnTheWay}
+use Rattle.osi_pair.proofs.Vocabulary.{AreJoinedBy, arriving, last_of, lost_from, units_from, under_way, IsStill, IsAllThere, progress_of}
+use Rattle.osi_pair.proofs.Vocabulary.{Progress, Terms, terms_of, Step, side_of, turned, Message, Listener, kept_at, session_at, joined_of}
+use Rattle.osi_pair.proofs.Vocabulary.{joined_in, End, TwoEnds, end_at, taken_by, AreTakenInOrder, AreAtRest, IsOpenAt, begun_of, kept_of}
+use Rattle.osi_pair.proofs.Vocabulary.{IsAllTaken, HoldLess, other, terms_in, is_caller, transport_in, carriers_of, AreAlike, HasLine}
+use Rattle.osi_pair.proofs.Vocabulary.{StandsAt, AreUnderWay, word_in, HasJoined, IsInOrder, Side, Left, Right, EndReason, Word, IsJoinedAs}
+use Rattle.osi_pair.proofs.Vocabulary.{may_hold, joined_holds, implied, needs_link, is_open, given_live, SessionState as Session}
+use Rattle.osi_pair.proofs.Vocabulary.{Link as Standing, seen_from, side_in}
 use Rattle.osi_pair.proofs.promise.nothing_is_kept_at_rest.{open_there, open_here, none_begun, none_joined as all_none_joined}
 use Rattle.osi_pair.proofs.turn.what_remains_when_a_unit_was_taken.{order_of}
 use Rattle.osi_pair.proofs.promise.matching_ends_keep_the_promises.{tables_at, line_at, outside_by, within}
@@ -33,9 +33,6 @@ record Resting (p : TwoEnds) : Type 0 where
   lasts : (side : Side) → Lasts side p
   outgoing : (side : Side) → (end_at side p).end.carrier.outgoing ≡ []
   held : HoldLess p
-
-resting : (p : TwoEnds) → HoldLess p → AreAtRest p → Resting p
-resting p held rest = record { unbroken = rest.unbroken; lasts = rest.lasts; outgoing = rest.outgoing; held = held }
 
 -- what is proved of the tables, and of two carriers
 abbrev pub Heard : Type 0
@@ -60,9 +57,6 @@ no_words (w ∷ words) e = absurd (cc)
 none_comes : (o : Option EndReason) (g : Progress) (c : Bool) (H : Option (List ℕ) → Type 0) (x : Session) (ms : List Message)
     (sent : List carrier.Message) → (w : AreUnderWay o g c H x ms sent) → c ≡ false → map word_in w.words ≡ [] → (ms ≡ []) × H None
 none_comes o g c H x ms sent w uncut none = grind (arith, no_words)
-
-uncut_at : (side : Side) (p : TwoEnds) → Resting p → is_cut (is_caller side) (carriers_of p) ≡ false
-uncut_at side p rest = cut_none side p (is_some p.reach) refl (rest.lasts side) (ap is_some rest.unbroken)
 
 open_place : (side : Side) (r : ℕ) (p : TwoEnds) (steps : List Step) (h : StandsAt p steps) → Lasts side p →
     (o : IsOpenAt r (end_at side p).end) → place_at r (end_at side p).end.carrier ≡ was_given (Some (linked o.peer o.link))
@@ -104,13 +98,11 @@ rests_at : (side : Side) (p : TwoEnds) (steps : List Step) (h : StandsAt p steps
     (units_from (is_caller (other side)) h.now ≡ []) × ((end_at side p).held.octets ≡ [])
 rests_at Left p steps h rest =
     none_coming p.left.held.octets (arriving false (carriers_of p)) h.now.coming h.now.coming_lost (rest.held Left)
-    (ap (λ (r : Option Reach). within_reach (reach_of false (option_map (λ r. (r.left, r.right)) r)) p.right.end.carrier.outgoing)
-    rest.unbroken ∙ rest.outgoing Right)
+    (grind (arith, rest.outgoing Right))
     (none_lost false p steps h rest) (h.stands.between.comes false (rest.lasts Left))
 rests_at Right p steps h rest =
     none_coming p.right.held.octets (arriving true (carriers_of p)) h.now.going h.now.going_lost (rest.held Right)
-    (ap (λ (r : Option Reach). within_reach (reach_of true (option_map (λ r. (r.left, r.right)) r)) p.left.end.carrier.outgoing)
-    rest.unbroken ∙ rest.outgoing Left)
+    (grind (arith, rest.outgoing Left))
     (none_lost true p steps h rest) (h.stands.between.comes true (rest.lasts Right))
 
 at_rest : (p : TwoEnds) (steps : List Step) → StandsAt p steps → Resting p → IsStill (carriers_of p)
@@ -146,8 +138,7 @@ open_at_both empties p steps r h rest left right =
     record {
       at = both;
       here = line_at r p steps h given.0 given.1;
-      there = empties (terms_of p.left.end.carrier.local p.right.end.carrier.local) (carriers_of p) h.now r left.peer right.peer left.link
-          right.link h.stands.between (at_rest p steps h rest) left.live right.live;
+      there = search (arith, at_rest p steps h rest);
     }
   where
     both : (side : Side) → IsOpenAt r (end_at side p).end
@@ -160,7 +151,7 @@ gets_all : (p : TwoEnds) (steps : List Step) (r : ℕ) → (h : StandsAt p steps
 gets_all p steps r h rest o side =
     let w = (seen side r p h.now o.here.line o.here.is).out in
     let sent = under_way (is_caller side) r (carriers_of p) h.now in
-    none_comes _ _ _ (HasJoined r (end_at (other side) p)) _ _ sent w (uncut_at side p rest)
+    none_comes _ _ _ (HasJoined r (end_at (other side) p)) _ _ sent w (grind (arith, cut_none))
     (open_alike (other side) r p steps h (rest.lasts (other side)) (o.at (other side)) (map word_in w.words) sent
     (w.alike (rest.lasts (other side))) ∙ none_sent side)
   where
@@ -207,14 +198,11 @@ all_there heard empties p steps r h rest left right =
         kept_of r (end_at side p).end ≡ 0
     kept o side none =
         let lives = ap is_some (o.at side).live in
-        let joined : joined_of (session_at r (end_at side p).end) ≡ 0 =
-        none_of r (end_at side p).end _ lives ((seen side r p h.now o.here.line o.here.is).here.live lives)
-        (has_joined_none p steps r h rest o side) in
-        omega arith
+        grind (arith, none_of, seen side r p h.now o.here.line o.here.is, has_joined_none p steps r h rest o side)
 
 pub all_taken : Heard → Empties → (p : TwoEnds) (steps : List Step) (r : ℕ) → StandsAt p steps → HoldLess p → AreAtRest p →
     IsOpenAt r p.left.end → IsOpenAt r p.right.end → IsAllTaken r p steps
-all_taken heard empties p steps r h held rest left right = all_there heard empties p steps r h (resting p held rest) left right
+all_taken heard empties p steps r h held rest left right = all_there heard empties p steps r h (grind arith) left right
 
 -- ---- nothing is kept
 
@@ -226,11 +214,7 @@ joined_at_rest p steps h rest =
     ∙ (rests_at Right p steps h rest).0 in
     let coming = ap (λ (l : List Value). h.now.coming ++ l) (none_lost false p steps h rest) ∙ append-nil h.now.coming
     ∙ (rests_at Left p steps h rest).0 in
-    subst (λ (s : State). AreJoinedBy terms s p.right.end.carrier [] []) (sym (last_now Left p steps h (rest.lasts Left)))
-    (subst (λ (s : State). AreJoinedBy terms h.now.caller s [] []) (sym (last_now Right p steps h (rest.lasts Right)))
-    (subst (λ (l : List Value). AreJoinedBy terms h.now.caller h.now.called l []) going
-    (subst (λ (l : List Value). AreJoinedBy terms h.now.caller h.now.called (h.now.going ++ h.now.going_lost) l) coming
-    h.stands.between.joined)))
+    grind (arith, last_now Left p steps h (rest.lasts Left), rest.lasts Left, last_now Right p steps h (rest.lasts Right), rest.lasts Right)
 
 there_open : (side : Side) (p : TwoEnds) (steps : List Step) (h : StandsAt p steps) → Resting p → (r : ℕ) → IsOpenAt r (end_at side p).end →
     IsOpenAt r (end_at (other side) p).end
@@ -291,4 +275,4 @@ none_kept empties p steps h rest side =
 
 pub nothing_kept : Empties → (p : TwoEnds) (steps : List Step) → StandsAt p steps → HoldLess p → AreAtRest p → (side : Side) →
     kept_by side p ≡ 0
-nothing_kept empties p steps h held rest side = none_kept empties p steps h (resting p held rest) side
+nothing_kept empties p steps h held rest side = none_kept empties p steps h (grind arith) side

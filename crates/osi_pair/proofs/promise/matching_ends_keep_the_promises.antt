@@ -12,9 +12,8 @@ use Rattle.osi_pair.proofs.Vocabulary.{HoldNoneTwice, AreAgreed, IsSeenInBoth, T
 use Rattle.osi_pair.proofs.Vocabulary.{has, Ending, IsLegal, Step, connection_at, is_loss, loses, Tables, run, start, Listener, Standing}
 use Rattle.osi_pair.proofs.Vocabulary.{held_by, numbers_of, Holding, session_at, session_in, TwoEnds, end_at, Entry, journal_in}
 use Rattle.osi_pair.proofs.Vocabulary.{IsLegalJournal, AllWereAskedFor, OfEachConnection, HaveOneHolder, AgreeUnlessDuplex, IsShownAsAsked}
-use Rattle.osi_pair.proofs.Vocabulary.{IsSeenThere, confirmed_at, ConfirmedIsSeen, is_fault, HasNoFault, EndsForFewReasons, ending_of}
-use Rattle.osi_pair.proofs.Vocabulary.{LoseAsTheyEnd, side_in, entry_in, ending_in, terms_in, HasLine, IsInOrder, StandsAt, joining, Side}
-use Rattle.osi_pair.proofs.Vocabulary.{Left, Right}
+use Rattle.osi_pair.proofs.Vocabulary.{IsSeenThere, ConfirmedIsSeen, is_fault, HasNoFault, EndsForFewReasons, ending_of, LoseAsTheyEnd}
+use Rattle.osi_pair.proofs.Vocabulary.{side_in, entry_in, ending_in, terms_in, HasLine, IsInOrder, StandsAt, joining, Side, Left, Right}
 
 -- ---- plain facts
 
@@ -182,10 +181,7 @@ confirmed_is_seen all p steps h = of_each IsSeenInBoth (ConfirmedIsSeen p) p ste
         (is_some (value_at r p.left.end.carrier.live)) refl line.is.left.live) in
         let peer = no_more r p.right line.line.peer.session
         (says_by r p.right line.line.peer.session line.is.right.joined
-        (is_some (value_at r p.right.end.carrier.live)) refl line.is.right.live) in (
-          fewer_seen (confirmed_at Left r p) line.line.own.session.state.numbers.confirmed left right own seen.0,
-          fewer_seen (confirmed_at Right r p) line.line.peer.session.state.numbers.confirmed right left peer seen.1,
-        )
+        (is_some (value_at r p.right.end.carrier.live)) refl line.is.right.live) in search (arith, fewer_seen)
 
 -- ---- the end of an end
 

@@ -3,11 +3,10 @@
 -- For the promises.
 use Rattle.osi_between.specs.Zero as zero
 use Rattle.osi_pair.proofs.Vocabulary.{◌≡◌, refl, sym, ◌∙◌, ap, subst, ℕ, Bool, true, false, if◌then◌else◌, List, [], ◌∷◌, ◌++◌, Option}
-use Rattle.osi_pair.proofs.Vocabulary.{Some, None, is_some, arith, none_open, at_one, first_here, eqb-true, sum_by-cons, Value, Local}
-use Rattle.osi_pair.proofs.Vocabulary.{absent, begun_by, kept_in, Place, was_given, place_at, RiseFrom, Rows, value_at, Connection, State}
-use Rattle.osi_pair.proofs.Vocabulary.{linked, given_live, within_given, AreJoinedBy, Course, at_end, from_end, Terms, by_two, by_zero}
-use Rattle.osi_pair.proofs.Vocabulary.{refusing, Listener, kept_at, joined_of, joined_live, joined_in, Link as Standing, EndLine as Line}
-use Rattle.osi_pair.proofs.Vocabulary.{kept_first}
+use Rattle.osi_pair.proofs.Vocabulary.{Some, None, is_some, arith, none_open, at_one, first_here, eqb-true, sum_by-cons, Value, absent}
+use Rattle.osi_pair.proofs.Vocabulary.{begun_by, kept_in, Place, was_given, place_at, RiseFrom, Rows, value_at, Connection, State, linked}
+use Rattle.osi_pair.proofs.Vocabulary.{within_given, AreJoinedBy, at_end, from_end, Terms, by_two, by_zero, refusing, Listener, kept_at}
+use Rattle.osi_pair.proofs.Vocabulary.{joined_of, joined_live, joined_in, Link as Standing, EndLine as Line, kept_first}
 
 -- ---- a connection that is open at one end
 
@@ -25,15 +24,6 @@ pub record IsLinkedAt (n : ℕ) (s : State) : Type 0 where
 last_there : (us : List Value) (u : Value) → us ++ u ∷ [] ≡ [] → ⊥
 last_there [] u e = cc
 last_there (v ∷ us) u e = cc
-
--- class 2: at the called end, and at the caller
-linked_there : (n p : ℕ) (x : Standing) (called : Local) (g : Course) → at_end true n g ≡ was_given (Some (linked p x)) →
-    from_end false n called g ≡ [] → IsLinked (at_end false n g)
-linked_there n p x called g a back = grind (arith, last_there)
-
-linked_here : (n p : ℕ) (x : Standing) (called : Local) (g : Course) → at_end false n g ≡ was_given (Some (linked p x)) →
-    from_end true n called g ≡ [] → from_end false n called g ≡ [] → IsLinked (at_end true n g)
-linked_here n p x called g a out back = grind (arith, last_there)
 
 at_place : (n : ℕ) (s : State) → IsLinked (place_at n s) → IsLinkedAt n s
 at_place n s l = grind arith
@@ -55,8 +45,7 @@ pub open_there : (terms : Terms) (s r : State) (n p : ℕ) (x : Standing) → Ar
     value_at n s.live ≡ Some (linked p x) → IsLinkedAt n r
 open_there by_two s r n p x j at =
     let st = j.stands n (within_given n s (linked p x) j.orderly at).0 in
-    at_place n r (subst IsLinked (sym st.place_there)
-    (linked_there n p x r.local st.course (sym st.place ∙ given_live n s (linked p x) j.orderly at) (sym st.back)))
+    grind (arith, last_there, at_place n r (subst IsLinked (sym st.place_there) (grind (arith, last_there))))
 open_there by_zero s r n p x j at = zero_there s r n p x j.course j.one j.one_called at
 open_there (refusing reason) s r n p x j at = absurd (none_open s j.stage n p x j.live at)
 
@@ -64,30 +53,20 @@ pub open_here : (terms : Terms) (s r : State) (n p : ℕ) (x : Standing) → Are
     value_at n r.live ≡ Some (linked p x) → IsLinkedAt n s
 open_here by_two s r n p x j at =
     let st = j.stands n (within_given n r (linked p x) j.orderly_called at).0 in
-    at_place n s (subst IsLinked (sym st.place)
-    (linked_here n p x r.local st.course (sym st.place_there ∙ given_live n r (linked p x) j.orderly_called at) (sym st.out) (sym st.back)))
+    grind (arith, last_there, at_place n s (subst IsLinked (sym st.place) (grind (arith, last_there))))
 open_here by_zero s r n p x j at = zero_here s r n p x j.course j.one j.one_called j.coming at
 open_here (refusing reason) s r n p x j at = absurd (let no : None ≡ Some (linked p x) = sym (ap (value_at n) j.live_called) ∙ at in cc)
 
 -- ---- the octets of all connections
-
-row_behind : (r q : ℕ) (x y : Connection) (rows : Rows Connection) → RiseFrom r rows → value_at q rows ≡ Some y →
-    value_at q ((r, x) ∷ rows) ≡ Some y
-row_behind r q x y rows rise at = grind (arith, eqb-true, absent)
 
 pub none_begun : (n : ℕ) (rows : Rows Connection) → RiseFrom n rows →
     ((r : ℕ) (x : Connection) → value_at r rows ≡ Some x → begun_by x ≡ 0) → kept_in rows ≡ 0
 none_begun n [] rise all = refl
 none_begun n ((r, x) ∷ rows) rise all =
     let first : begun_by x ≡ 0 = all r x (first_here r x rows) in
-    let rest : kept_in rows ≡ 0 = none_begun r rows rise.1 (λ q y at. all q y (row_behind r q x y rows rise.1 at)) in
-    (sum_by-cons (λ (row : ℕ × Connection). begun_by row.1) (r, x) rows) ∙ omega arith
+    grind (arith, eqb-true, absent, sum_by-cons, none_begun r rows rise.1 (λ q y at. all q y (grind (arith, eqb-true, absent))))
 
 -- ---- the octets that sessions have joined
-
-behind_by : (r q : ℕ) (line : Line) (lines : Rows Line) (l : Listener) → RiseFrom r lines → kept_at q lines ≡ Some l →
-    kept_at q ((r, line) ∷ lines) ≡ Some l
-behind_by r q line lines l rise at = grind (arith, eqb-true, absent)
 
 none_of : (live : Bool) (session : Option Listener) → ((l : Listener) → live ≡ true → session ≡ Some l → l.joined ≡ None) →
     (if live then joined_of session else 0) ≡ 0
@@ -100,5 +79,5 @@ none_joined n live ((r, line) ∷ lines) rise all =
     let first : joined_live live (r, line) ≡ 0 =
     none_of (is_some (value_at r live)) line.session (λ l lives is. all r l lives (kept_first r line lines ∙ is)) in
     let rest : joined_in live lines ≡ 0 =
-    none_joined r live lines rise.1 (λ q l lives at. all q l lives (behind_by r q line lines l rise.1 at)) in
+    none_joined r live lines rise.1 (λ q l lives at. all q l lives (grind (arith, eqb-true, absent))) in
     (sum_by-cons (λ (row : ℕ × Line). joined_live live row) (r, line) lines) ∙ omega arith

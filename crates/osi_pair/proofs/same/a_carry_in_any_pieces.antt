@@ -2,13 +2,12 @@
 -- suffices, however the octets are cut into pieces.
 -- For pairs in the same state and the laws of `standing`.
 use Rattle.osi_stack.specs.Runs.{Call, AreAlike}
-use Rattle.osi_pair.proofs.Vocabulary.{◌≡◌, ℕ, ◌<◌, ◌^◌, List, [], ◌∷◌, ◌++◌, min, take, Option, Some, None, refl, sym, ap, subst, ◌∙◌, ◌⊎◌}
-use Rattle.osi_pair.proofs.Vocabulary.{inl, inr, arith, PacketLaws, in_room, pieces_end, calls_read, pieces_alike, feeding, telling}
-use Rattle.osi_pair.proofs.Vocabulary.{carrying, Calls, CallsInRoom, HasRoom, used_in, told_in, carried_in, empty_partial}
-use Rattle.osi_pair.proofs.Vocabulary.{completed_partial, partial_not_whole, one_packet, one_list, IsSameEnd, AreSameEnds, FoundMemory}
-use Rattle.osi_pair.proofs.Vocabulary.{append-nil, flat_map, EndReason, IsPartial, Shown, carried, RunsDry, StopsBehind, Refuses, End}
-use Rattle.osi_pair.proofs.Vocabulary.{Holding, Crossing, CarriesFrom, crossing, TwoEnds, end_at, reachable, Entry, reach_after, other}
-use Rattle.osi_pair.proofs.Vocabulary.{IsReached, told_entries, waiting_in, Side}
+use Rattle.osi_pair.proofs.Vocabulary.{◌≡◌, ℕ, ◌<◌, ◌^◌, List, [], ◌∷◌, min, Option, Some, None, refl, sym, ap, subst, ◌⊎◌, inl, inr, arith}
+use Rattle.osi_pair.proofs.Vocabulary.{PacketLaws, in_room, pieces_end, calls_read, pieces_alike, feeding, telling, carrying, Calls}
+use Rattle.osi_pair.proofs.Vocabulary.{CallsInRoom, HasRoom, used_in, told_in, carried_in, empty_partial, completed_partial}
+use Rattle.osi_pair.proofs.Vocabulary.{partial_not_whole, one_packet, one_list, IsSameEnd, AreSameEnds, FoundMemory, append-nil, flat_map}
+use Rattle.osi_pair.proofs.Vocabulary.{EndReason, IsPartial, RunsDry, StopsBehind, Refuses, End, Holding, Crossing, CarriesFrom, crossing}
+use Rattle.osi_pair.proofs.Vocabulary.{TwoEnds, end_at, reachable, other, IsReached, waiting_in, Side}
 use Rattle.osi_pair.proofs.carry.a_carry_with_enough_memory.{IsCarried, pieces_carried}
 use Rattle.osi_pair.proofs.carry.a_carry_is_deliveries.{CarryLaws, carries_stand}
 use Rattle.osi_pair.proofs.packet.a_packet_is_one_delivery_or_none.{quiet_of}
@@ -20,22 +19,8 @@ use Rattle.osi_pair.proofs.session.an_end_with_nothing_pending.{quiet_same}
 pub same_at : (s : Side) (p q : TwoEnds) → AreSameEnds p q → IsSameEnd (end_at s p) (end_at s q)
 same_at s p q h = grind arith
 
-pub same_both : (s : Side) (p q : TwoEnds) → IsSameEnd (end_at s p) (end_at s q) → IsSameEnd (end_at (other s) p) (end_at (other s) q) →
-    p.reach ≡ q.reach → p.journal ≡ q.journal → AreSameEnds p q
-same_both s p q own there reach journal = grind arith
-
 pub same_moved : (a b c d : Holding) → IsSameEnd a b → c ≡ a → d ≡ b → IsSameEnd c d
 same_moved a b c d h e f = subst (λ (x : Holding). IsSameEnd x d) (sym e) (subst (λ (x : Holding). IsSameEnd a x) (sym f) h)
-
--- an end that lasts, to which the same is done
-pub same_done : (a b : Holding) (does : End → End) → IsSameEnd a b → a.end.carrier.ended ≡ None →
-    IsSameEnd (record a { end = does a.end }) (record b { end = does b.end })
-same_done a b does h alive = grind arith
-
--- octets of it are carried
-same_carried : (octets : ℕ) (a b : Holding) → IsSameEnd a b →
-    IsSameEnd (record a { end = carried octets a.end }) (record b { end = carried octets b.end })
-same_carried octets a b h = record { end = ap (carried octets) h.end; octets = h.octets; offset = h.offset; counted = h.counted }
 
 -- ---- room affects nothing else
 
@@ -46,27 +31,13 @@ plain h = record h { held = record h.held { fault = None; room = 0 } }
 made : End → ℕ → List ℕ → Holding
 made e offset octets = record { end = e; held = record { offset = offset; octets = octets; fault = None; room = 0 } }
 
-plain_same : (a b : Holding) → IsSameEnd a b → a.end.carrier.ended ≡ None → plain a ≡ plain b
-unfolding made
-plain_same a b h alive = grind (arith, made)
-
 plain_goes : (old new : Holding) (piece : List ℕ) (used : ℕ) →
     (RunsDry old piece used new ⊎ StopsBehind old piece used new) ⊎ Refuses old piece used new →
     (RunsDry (plain old) piece used (plain new) ⊎ StopsBehind (plain old) piece used (plain new))
     ⊎ Refuses (plain old) piece used (plain new)
 plain_goes old new piece used (inl (inl d)) = grind arith
 plain_goes old new piece used (inl (inr d)) = grind arith
-plain_goes old new piece used (inr d) = inr (record {
-  units = d.units;
-  fault = d.fault;
-  before = d.before;
-  all = d.all;
-  cut = d.cut;
-  taken = d.taken;
-  quiet = d.quiet;
-  ended = d.ended;
-  held = d.held;
-})
+plain_goes old new piece used (inr d) = inr (search arith)
 
 no_want : {D R M : Type 0} → D ⊎ R → D ⊎ (R ⊎ M)
 no_want h = grind arith
@@ -114,8 +85,7 @@ one_by h a b xs ys (Some reason) m e f partial bound alive x y used = record {
 }
 one_by h a b xs ys None (Some reason) e f partial bound alive x y used =
     let back = (pieces_end packet_laws empty_partial h b a ys xs partial bound alive y x (sym used) (λ lasts. absurd (cc))).0 in
-    let over : b.end.carrier.ended ≡ a.end.carrier.ended = ap (λ (z : End). z.carrier.ended) back.end in
-    absurd (cc)
+    grind arith
 
 -- if nothing is pending and nothing was carried, what is alike is the same
 hushed_same : (a b : Holding) (xs ys : List Call) → AreAlike a xs b ys → flat_map carried_in xs ≡ [] → flat_map carried_in ys ≡ [] →
@@ -141,21 +111,17 @@ fed_by : (s : Side) (p q a b : Crossing) (n : ℕ) (o : Option EndReason) → p.
 fed_by s p q a b n (Some reason) e same from partial x y quiet still = grind (arith, same_moved)
 fed_by s p q a b n None e same from partial x y quiet still =
     let h = plain p.to in
-    let used : flat_map used_in x.calls ≡ flat_map used_in y.calls = x.used ∙ ap (λ (z : End). take n z.carrier.outgoing) from
-    ∙ sym y.used in
+    let used : flat_map used_in x.calls ≡ flat_map used_in y.calls = grind arith in
     let here = plain_calls x.calls p.to a.to x.room in
-    let there = subst (λ (z : Holding). CallsInRoom z y.calls (plain b.to)) (sym (plain_same p.to q.to same e))
+    let there = subst (λ (z : Holding). CallsInRoom z y.calls (plain b.to)) (sym (grind (arith, made)))
     (plain_calls y.calls q.to b.to y.room) in
     let bound : p.to.held.offset < 2 ^ 64 = same.counted e in
     let one = one_by h (plain a.to) (plain b.to) x.calls y.calls a.to.end.carrier.ended b.to.end.carrier.ended refl refl partial bound e
     here there used in
-    assumption (
-      hushed_same (plain a.to)
-          (plain b.to) x.calls y.calls one.alike x.untaken y.untaken quiet still,
-      one.alike.octets,
-      one.offset,
-      counted_by h
-          (plain a.to) x.calls bound here,
+    grind (
+      arith,
+      hushed_same (plain a.to) (plain b.to) x.calls y.calls one.alike x.untaken y.untaken quiet still,
+      counted_by h (plain a.to) x.calls bound here,
       told_same (plain a.to) (plain b.to) x.calls y.calls one.alike quiet still,
     )
 
@@ -183,17 +149,4 @@ same_carry laws f most p q a b octets at there same c d found found_too =
     let fed = fed_by s (crossing f p) (crossing f q) (crossing f a) (crossing f b) octets (end_at s p).end.carrier.ended refl
     (same_at s p q same) own.end (at.held s) x y
     (quiet_then laws f most p a octets at c) (quiet_then laws f most q b octets there d) in
-    same_both f a b
-    (same_moved (record (end_at f p) { end = carried octets (end_at f p).end })
-    (record (end_at f q) { end = carried octets (end_at f q).end }) (end_at f a) (end_at f b)
-    (same_carried octets (end_at f p) (end_at f q) own) x.from y.from)
-    fed.same
-    (c.reach ∙ ap (reach_after f octets) same.reach ∙ sym d.reach)
-    (x.says ∙ ap (λ (j : List Entry). j ++ told_entries s (end_at s p).end.carrier.ended (end_at s a).end.carrier.ended
-    (flat_map told_in x.calls)) same.journal
-    ∙ ap (λ (o : Option EndReason). q.journal ++ told_entries s o (end_at s a).end.carrier.ended (flat_map told_in x.calls))
-    (ap (λ (z : End). z.carrier.ended) (same_at s p q same).end)
-    ∙ ap (λ (o : Option EndReason). q.journal ++ told_entries s (end_at s q).end.carrier.ended o (flat_map told_in x.calls))
-    (ap (λ (z : End). z.carrier.ended) fed.same.end)
-    ∙ ap (λ (w : List (ℕ × Shown)). q.journal ++ told_entries s (end_at s q).end.carrier.ended
-    (end_at s b).end.carrier.ended w) fed.told ∙ sym y.says)
+    grind arith

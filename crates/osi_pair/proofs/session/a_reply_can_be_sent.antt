@@ -5,9 +5,8 @@ use Rattle.osi_session.specs.Respond.{over}
 use Rattle.osi_pair.proofs.Vocabulary.{◌≡◌, ◌<◌, ◌≤◌, ℕ, Bool, true, false, not, if◌then◌else◌, [], length, Some, None, IfSome, refl, sym}
 use Rattle.osi_pair.proofs.Vocabulary.{ap, subst, ◌∙◌, arith, SpduLaws, sent_short, IsOctets, Offer, offer_sent, IsInOctets, Meaning, CN}
 use Rattle.osi_pair.proofs.Vocabulary.{RF, AB, AA, Said, said_of, IsSendable, written, Input, opened, refused, broken, taken, Standing}
-use Rattle.osi_pair.proofs.Vocabulary.{denied, rests, react, is_wait_transport, is_aborting, is_ended, Outcome, in_aborting, in_ended}
-use Rattle.osi_pair.proofs.Vocabulary.{reply_for, respond, respond_unit, Verdict, dropped, faulty, fine, verdict, enacted}
-use Rattle.osi_pair.proofs.Vocabulary.{SessionState as State}
+use Rattle.osi_pair.proofs.Vocabulary.{react, is_wait_transport, is_aborting, is_ended, Outcome, in_aborting, in_ended, reply_for, respond}
+use Rattle.osi_pair.proofs.Vocabulary.{respond_unit, Verdict, dropped, faulty, fine, verdict, enacted, SessionState as State}
 
 -- what is sent can be handed to the carrier
 pub record CanGo (x : Meaning) : Type 0 where
@@ -48,18 +47,12 @@ accept_answer = record { none = refl; octets = tt }
 
 -- ---- a unit
 
-ended_answer : (s : State) (u m : Meaning) → (in_ended s u).reply ≡ Some m → IsAnswer m
-ended_answer s (AB bits octets) m e = same_answer AA m accept_answer e
-ended_answer s u m e = absurd cc
-
 over_answer : (b : Bool) (s : State) (u m : Meaning) → (if b then in_aborting s u else in_ended s u).reply ≡ Some m → IsAnswer m
-over_answer b s u m e = search (arith, ended_answer)
+over_answer b s u m e = search (arith, same_answer, accept_answer)
 
 connect_answer : (version some : Bool) (m : Meaning) →
     (if not version then Some (RF 132 []) else (if not some then Some (RF 134 []) else None)) ≡ Some m → IsAnswer m
-connect_answer false some m e = same_answer (RF 132 []) m (refuse_answer 132 (omega arith)) e
-connect_answer true false m e = same_answer (RF 134 []) m (refuse_answer 134 (omega arith)) e
-connect_answer true true m e = absurd cc
+connect_answer version some m e = grind (arith, same_answer, refuse_answer)
 
 good_answer : (u m : Meaning) → reply_for u ≡ Some m → IsAnswer m
 good_answer (CN version requirements serial wishes from to sizes octets) m e = search (arith, connect_answer)
@@ -91,9 +84,6 @@ goes_taken laws x u waits = record { sends = λ m e. taken_goes laws x.state u m
 pub goes_opened : (x : Standing) → ((m : Meaning) → x.waiting ≡ Some m → CanGo m) → IfSome x.waiting IsInOctets → GoesBy x opened
 unfolding react
 goes_opened x goes waits = grind arith
-
-pub refused_open : (b : Bool) (reason : ℕ) (x : Standing) → (if b then denied reason x else rests x).closes ≡ false
-refused_open b reason x = grind arith
 
 -- it sends and closes nothing
 pub silent_refused : (x : Standing) (reason : ℕ) → ((react x (refused reason)).reply ≡ None) × ((react x (refused reason)).closes ≡ false)

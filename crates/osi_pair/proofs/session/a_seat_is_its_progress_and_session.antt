@@ -2,9 +2,9 @@
 -- For turns, calls, breaks and ends, packets and the promises.
 use Rattle.osi_between.specs.Progress as progress
 use Rattle.osi_machine.specs.Worlds as worlds
-use Rattle.osi_pair.proofs.Vocabulary.{◌≡◌, ℕ, Bool, true, false, nat_lt, if◌then◌else◌, List, Option, Some, None, is_some, IfSome, refl}
-use Rattle.osi_pair.proofs.Vocabulary.{ap, arith, nat_tests, Held, Place, never, was_given, place_at, IsOrderly, Rows, value_at, State}
-use Rattle.osi_pair.proofs.Vocabulary.{beyond, progress_of, Progress, not_yet, awaiting, in_use, shutting, Seat, awaits, Message, Transport}
+use Rattle.osi_pair.proofs.Vocabulary.{◌≡◌, ℕ, Bool, true, false, nat_lt, if◌then◌else◌, List, Option, Some, None, is_some, IfSome, ap}
+use Rattle.osi_pair.proofs.Vocabulary.{arith, nat_tests, Held, Place, never, was_given, place_at, IsOrderly, Rows, value_at, State, beyond}
+use Rattle.osi_pair.proofs.Vocabulary.{progress_of, Progress, not_yet, awaiting, in_use, shutting, Seat, awaits, Message, Transport}
 use Rattle.osi_pair.proofs.Vocabulary.{IsInOctets, Listener, Standing, is_ended, kept_at, End, Holding, session_in, session_at}
 use Rattle.osi_pair.proofs.Vocabulary.{transport_in, is_parting, IsSeated, joining, EndLine as Line}
 
@@ -30,24 +30,8 @@ transport_at p g e = grind arith
 pub place_by : (n : ℕ) (s : State) (b : Bool) → nat_lt s.given n ≡ b → place_at n s ≡ (if b then never else was_given (value_at n s.live))
 place_by n s b e = ap (λ (c : Bool). if◌then◌else◌ {A = Place} c never (was_given (value_at n s.live))) e
 
--- if it is live there is a row
-pub live_there : (n : ℕ) (s : State) → lives_in (progress_of (place_at n s)) ≡ true → is_some (value_at n s.live) ≡ true
-live_there n s h = grind arith
-
-lives_by : (n : ℕ) (s : State) (b : Bool) → nat_lt s.given n ≡ b → IsOrderly s → is_some (value_at n s.live) ≡ true →
-    lives_in (progress_of (place_at n s)) ≡ true
-lives_by n s b e o h = grind (arith, nat_tests, beyond, place_by)
-
-pub lives_there : (n : ℕ) (s : State) → IsOrderly s → is_some (value_at n s.live) ≡ true → lives_in (progress_of (place_at n s)) ≡ true
-lives_there n s o h = lives_by n s (nat_lt s.given n) refl o h
-
--- the rows of two carriers at one place
-value_by : (n : ℕ) (s t : State) (b c : Bool) → nat_lt s.given n ≡ b → nat_lt t.given n ≡ c → IsOrderly s → IsOrderly t →
-    place_at n s ≡ place_at n t → value_at n s.live ≡ value_at n t.live
-value_by n s t b c e f o q h = grind (arith, nat_tests, beyond, place_by)
-
 pub value_same : (n : ℕ) (s t : State) → IsOrderly s → IsOrderly t → place_at n s ≡ place_at n t → value_at n s.live ≡ value_at n t.live
-value_same n s t o q h = value_by n s t (nat_lt s.given n) (nat_lt t.given n) refl refl o q h
+value_same n s t o q h = grind (arith, nat_tests, beyond, place_by)
 
 -- ---- the session
 
@@ -64,9 +48,9 @@ live_session n e h = ap (λ (b : Bool). if◌then◌else◌ {A = Option Listener
 
 pub session_of_seat : (n : ℕ) (h : Holding) (seat : Seat) (g : Progress) → progress_of (place_at n h.end.carrier) ≡ g → IsSeated n h seat →
     HasSession n h.end.lines g seat.session
-session_of_seat n h seat g e i = grind (arith, transport_at, live_there, live_session)
+session_of_seat n h seat g e i = grind (arith, transport_at, live_session)
 
 pub seat_of_session : (n : ℕ) (e : End) (h : Held) (g : Progress) (x : Standing) (channel : List Message) → IsOrderly e.carrier →
     progress_of (place_at n e.carrier) ≡ g → HasSession n e.lines g x →
     IsSeated n (record { end = e; held = h }) (record { transport = transport_by g; session = x; channel = channel })
-seat_of_session n e h g x channel o p s = grind (arith, transport_at, live_session, lives_there)
+seat_of_session n e h g x channel o p s = grind (arith, transport_at, live_session, nat_tests, beyond, place_by)

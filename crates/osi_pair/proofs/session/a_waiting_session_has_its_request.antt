@@ -2,19 +2,15 @@
 -- For packets.
 use Rattle.osi_machine.specs.Core as machine
 use Rattle.osi_machine.specs.Machine.{start, run}
-use Rattle.osi_pair.proofs.Vocabulary.{◌≡◌, ℕ, true, Option, Some, sym, ap, subst, ◌∙◌, arith, SaysItsUnit, At, line_there, all_follow}
-use Rattle.osi_pair.proofs.Vocabulary.{IsTableRun, Offer, offer_sent, Machine, connection_at, Seat, Line, Tables, seen_from, World, waiting}
-use Rattle.osi_pair.proofs.Vocabulary.{SessionLaws, is_wait_transport}
+use Rattle.osi_pair.proofs.Vocabulary.{◌≡◌, ℕ, true, Some, sym, ap, subst, ◌∙◌, arith, SaysItsUnit, At, line_there, all_follow, IsTableRun}
+use Rattle.osi_pair.proofs.Vocabulary.{Offer, offer_sent, Machine, connection_at, Seat, Line, Tables, seen_from, waiting, SessionLaws}
+use Rattle.osi_pair.proofs.Vocabulary.{is_wait_transport}
 use Rattle.osi_pair.proofs.turn.a_turn_keeps_the_match.{seen_twice}
 
 pub record IsCalling (x : Seat) : Type 0 where
   pub phase : is_wait_transport x.session.state.phase ≡ true
   pub offer : Offer
   pub calls : x.session.waiting ≡ Some (offer_sent offer)
-
-calls_at : (s : machine.Side) (l : Line) (o : Option World) → At (Some l) o → (seen_from s l).own.transport ≡ waiting →
-    IsCalling (seen_from s l).own
-calls_at s l o h e = search arith
 
 -- in tables that are reached, seen from either side
 pub is_calling : SessionLaws → SaysItsUnit → (s : machine.Side) (r : ℕ) (l : Line) (t : Tables) → IsTableRun t →
@@ -23,9 +19,7 @@ is_calling laws says s r l t h found e =
     let f = all_follow laws says h.agreed h.steps h.numbered in
     let m : Machine = run (start h.agreed) h.steps in
     let lines = sym (ap (λ (x : Tables). x.lines) f.same) ∙ ap (λ (x : Tables). x.lines) h.reached in
-    let at : At (Some (seen_from s l)) (connection_at r m.worlds) =
-    subst (λ (o : Option Line). At o (connection_at r m.worlds)) (ap (connection_at r) lines ∙ found)
-    (line_there f.lines m.worlds r f.all) in
+    let at : At (Some (seen_from s l)) (connection_at r m.worlds) = grind (arith, line_there) in
     let twice = seen_twice s l in
     subst (λ (x : Line). IsCalling x.own) twice
-    (calls_at s (seen_from s l) (connection_at r m.worlds) at (ap (λ (x : Line). x.own.transport) twice ∙ e))
+    (grind arith)

@@ -8,10 +8,9 @@ use Rattle.osi_message.specs.Words.{part}
 use Rattle.osi_pair.proofs.Vocabulary.{◌≡◌, Some, ◌∙◌, ℕ, List, Option, None, Ok, Err, true, refl, sym, ◌++◌, ◌≤◌, length, [], ◌∷◌, subst}
 use Rattle.osi_pair.proofs.Vocabulary.{arith, taken_is, came_by, Input, Standing, Move, react, called, taken, listening, in_words, is_apart}
 use Rattle.osi_pair.proofs.Vocabulary.{kept_none, moves_as_whole, others, word_behind, words_of_message, Listener, Answer, allowed, Call}
-use Rattle.osi_pair.proofs.Vocabulary.{respond_word, IsKeptIn, IsJoinedAs, IsNoFault, IsJoined, IsKept, discards, call_keeps, first_arrives}
-use Rattle.osi_pair.proofs.Vocabulary.{middle_arrives, last_arrives, joining, IsInOrder, part_comes, is_over, DT, GT, said_of, words_of}
-use Rattle.osi_pair.proofs.Vocabulary.{says, First, Middle, Last, Phase, inputs_kept, kept_at, End, value_at, SessionState as State}
-use Rattle.osi_pair.proofs.Vocabulary.{PartPlace as Place}
+use Rattle.osi_pair.proofs.Vocabulary.{respond_word, IsKeptIn, IsJoinedAs, IsNoFault, IsJoined, IsKept, call_keeps, first_arrives}
+use Rattle.osi_pair.proofs.Vocabulary.{middle_arrives, last_arrives, joining, IsInOrder, part_comes, DT, GT, said_of, says, First, Middle}
+use Rattle.osi_pair.proofs.Vocabulary.{Last, inputs_kept, kept_at, End, value_at, SessionState as State, PartPlace as Place}
 
 -- a move of the session of the tables, as that of the end makes it
 abbrev pub as_made : Move → words.Move
@@ -79,21 +78,12 @@ pub last_moves : (joined : Option (List ℕ)) (x : Standing) (front last : List 
 last_moves joined x front last short kept fine stands =
     let h = respond_word (record { state = x.state; joined = None }) (says (DT (front ++ last))) in
     taken_is (joining joined x) (says (GT no_token) ∷ part Last last ∷ []) h
-    (word_behind (record { state = x.state; joined = joined }) (part Last last)
-    ∙ last_arrives x.state joined front last short kept fine stands)
-    ∙ sym (taken_is (listening x) (words_of (DT (front ++ last))) h
-    (words_of_message (record { state = x.state; joined = None }) (DT (front ++ last))))
+    (grind (arith, word_behind, last_arrives))
+    ∙ sym (grind (arith, taken_is, words_of_message))
     ∙ moves_so x (taken (said_of (DT (front ++ last))))
-
--- for a session that is over data is no fault
-pub over_fine : (s : State) (octets : List ℕ) → is_over s.phase ≡ true → IsNoFault s octets
-over_fine s octets over = rw over refl
 
 -- ---- the phase of a session of an end keeps what it has joined
 
 pub kept_of : (r : ℕ) (s : Listener) (e : End) → IsInOrder e → kept_at r e.lines ≡ Some s → IsKept s
 kept_of r s e order is = let h =
     came_by r s e.lines (value_at r e.lines) refl is order.came in subst IsKept h.is (inputs_kept h.first h.inputs (grind (arith, h.fresh)))
-
-pub discards_over : (q : Phase) → is_over q ≡ true → discards q ≡ true
-discards_over q e = grind arith

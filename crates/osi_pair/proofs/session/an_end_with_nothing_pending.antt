@@ -1,9 +1,9 @@
 -- The lines of an end when all indications were fetched.
 -- For breaks and ends, packets, carries and pairs in the same state.
 use Rattle.osi_session.specs.Listening.{Move}
-use Rattle.osi_pair.proofs.Vocabulary.{◌≡◌, ℕ, ◌==◌, Bool, List, [], ◌∷◌, ◌++◌, map, Some, refl, sym, ap, ◌∙◌, arith, eqb-true, append-nil}
-use Rattle.osi_pair.proofs.Vocabulary.{RiseFrom, Rows, value_at, Shown, AllCameAbout, line_after, End, IsInOrder, waiting_in, quieted}
-use Rattle.osi_pair.proofs.Vocabulary.{put_row as put, EndLine as Line, quieted_at, quieted_apart, quieted_up}
+use Rattle.osi_pair.proofs.Vocabulary.{◌≡◌, ℕ, ◌==◌, Bool, List, [], ◌∷◌, ◌++◌, map, Some, refl, arith, eqb-true, append-nil, RiseFrom}
+use Rattle.osi_pair.proofs.Vocabulary.{Rows, value_at, Shown, AllCameAbout, line_after, End, IsInOrder, waiting_in, quieted, put_row as put}
+use Rattle.osi_pair.proofs.Vocabulary.{EndLine as Line, quieted_at, quieted_apart, quieted_up}
 
 pub quiet_waits : (lines : Rows Line) → waiting_in (quieted lines) ≡ []
 quiet_waits [] = refl
@@ -20,9 +20,7 @@ none_second f (x ∷ xs) ys e = cc
 pub quiet_same : (lines : Rows Line) → waiting_in lines ≡ [] → quieted lines ≡ lines
 quiet_same [] e = refl
 quiet_same ((r, line) ∷ lines) e =
-    let here : line.waiting ≡ [] = none_first (λ shown. (r, shown)) line.waiting (waiting_in lines) e in
-    let more = quiet_same lines (none_second (λ shown. (r, shown)) line.waiting (waiting_in lines) e) in
-    ap (λ (w : List Shown). (r, record line { waiting = w }) ∷ quieted lines) (sym here) ∙ ap (λ (rows : Rows Line). (r, line) ∷ rows) more
+    grind (arith, none_first, none_second, quiet_same lines (none_second (λ shown. (r, shown)) line.waiting (waiting_in lines) e))
 
 -- ---- an end stays in order
 

@@ -3,22 +3,21 @@
 -- For packets.
 use Rattle.osi_between.specs.Messages as carrier
 use Rattle.osi_machine.specs.Tables.{closed}
-use Rattle.osi_pair.proofs.Vocabulary.{◌≡◌, ℕ, Bool, true, List, [], ◌∷◌, take, Some, None, is_some, refl, sym, subst, arith, ap, ◌∙◌}
-use Rattle.osi_pair.proofs.Vocabulary.{closed_with, place_at, value_at, State, linked, Between, AreBetween, Acted, last_of, under_way}
-use Rattle.osi_pair.proofs.Vocabulary.{put_in, is_cut, progress_of, in_use, shutting, Terms, by_two, connection_at, Line, Tables, seen_from}
-use Rattle.osi_pair.proofs.Vocabulary.{stays, Message, bye, put, is_ended, Standing, with_carrier, Holding, Rows, TwoEnds, end_at, other}
-use Rattle.osi_pair.proofs.Vocabulary.{side_in, is_caller, carriers_of, IsInOrder, Stands, HasJoined, Side, Link, EndLine as StackLine}
+use Rattle.osi_pair.proofs.Vocabulary.{◌≡◌, ℕ, Bool, true, [], ◌∷◌, take, Some, None, refl, sym, subst, arith, ap, ◌∙◌, closed_with}
+use Rattle.osi_pair.proofs.Vocabulary.{place_at, value_at, State, linked, Between, Acted, last_of, under_way, put_in, is_cut, in_use}
+use Rattle.osi_pair.proofs.Vocabulary.{shutting, Terms, by_two, connection_at, Line, Tables, seen_from, stays, bye, put, is_ended, Standing}
+use Rattle.osi_pair.proofs.Vocabulary.{with_carrier, Holding, Rows, TwoEnds, end_at, other, side_in, is_caller, carriers_of, IsInOrder}
+use Rattle.osi_pair.proofs.Vocabulary.{Stands, HasJoined, Side, Link, EndLine as StackLine}
 use Rattle.osi_pair.proofs.turn.an_open_connection_acts.{ActsOn, CarrierActs, end_with, pair_with, ways_at, acted_stands, seen_at}
 use Rattle.osi_pair.proofs.turn.an_open_connection_acts.{session_in_use, OutNow, acted_by}
 use Rattle.osi_pair.proofs.turn.what_an_acting_end_leaves_in_flight.{StandsOn}
 use Rattle.osi_pair.proofs.flight.a_taken_packet_is_one_row.{CarrierLaws}
 use Rattle.osi_pair.proofs.turn.what_remains_when_a_unit_was_taken.{terms_at}
-use Rattle.osi_pair.proofs.packet.a_unit_with_which_no_session_acts.{unless_broken, put_unless, unless_same, leave_by}
-use Rattle.osi_pair.proofs.packet.a_unit_at_rest_keeps_the_match.{broken_is}
+use Rattle.osi_pair.proofs.packet.a_unit_with_which_no_session_acts.{unless_broken, put_unless, leave_by}
 use Rattle.osi_pair.proofs.session.a_seat_is_its_progress_and_session.{HasSession}
-use Rattle.osi_pair.proofs.turn.a_turn_keeps_the_match.{IsSeen, with_holding, GoesTo, holding_here}
+use Rattle.osi_pair.proofs.turn.a_turn_keeps_the_match.{IsSeen, with_holding, holding_here}
 use Rattle.osi_pair.proofs.flight.what_is_in_flight_when_an_end_acts.{Takes, out_cuts}
-use Rattle.osi_pair.proofs.flight.whether_something_is_cut_off.{cut_broken, reach_same, Lasts}
+use Rattle.osi_pair.proofs.flight.whether_something_is_cut_off.{cut_broken, Lasts}
 use Rattle.osi_pair.proofs.packet.a_packet_is_one_delivery_or_none.{both_carrier}
 
 -- ---- the carrier
@@ -30,9 +29,6 @@ closed_acts n c peer reason link alive at lasts = grind arith
 abbrev pub CloseActs : Side → TwoEnds → Between → ℕ → Type 0
 CloseActs s p b n = CarrierActs s p b n shutting (closed_with n 128 (end_at s p).end.carrier) (carrier.bye 128 ∷ [])
 
-in_two : (p : TwoEnds) (b : Between) (t : Tables) → Stands p b t → terms_at p ≡ by_two → AreBetween by_two (carriers_of p) b
-in_two p b t old two = subst (λ (x : Terms). AreBetween x (carriers_of p) b) two old.between
-
 abbrev ActedBy : Bool → TwoEnds → TwoEnds → Between → ℕ → Terms → Type 0
 ActedBy end p new b n x = Acted x end n (carriers_of p) (carriers_of new) b [] (carrier.bye 128 ∷ [])
 
@@ -43,11 +39,10 @@ close_acts laws s p b t n peer link old alive two at =
     let closed = closed_with n 128 (end_at s p).end.carrier in
     let new = pair_with s closed p in
     let a = subst (ActedBy (is_caller s) p new b n) (sym two) (acted_by s p b n by_two (closed_with n 128) (carrier.bye 128 ∷ [])
-    (laws.closed (is_caller s) (carriers_of p) b n peer link 128 (in_two p b t old two) (ap (λ (x : State). x.ended) c ∙ alive)
+    (laws.closed (is_caller s) (carriers_of p) b n peer link 128 (grind arith) (ap (λ (x : State). x.ended) c ∙ alive)
     (ap (λ (x : State). value_at n x.live) c ∙ at) (omega arith))) in
     let is = both_carrier s new ∙ ap (λ (y : Holding). y.end.carrier) (holding_here s (end_with s closed p) (end_at s p).held p) in
     let on = closed_acts n (end_at s p).end.carrier peer 128 link alive at (sym (ap (λ (x : State). x.ended) is) ∙ a.lasts) in
-    let was = linked peer link in
     let ways = ways_at s n p new b a.now (carrier.bye 128 ∷ []) a.carries in
     search
 
@@ -73,14 +68,10 @@ out_closes s p b t n l old a i takes =
     (HasJoined n (end_at (other s) p)) l.peer.session.state l.own.channel (unless_broken t.broken (bye 128 ∷ []))
     (under_way (is_caller s) n (carriers_of p) b) new a.ways.stays a.ways.gone
     (put_in (carriers_of p) left) i.out takes
-    (leave_by t.broken cut (bye 128) (λ begun. tt) (cut_broken s p two t.broken old.broken (reach_same s h p))) a.ways.before
+    (leave_by t.broken cut (bye 128) (λ begun. tt) (cut_broken s p two t.broken old.broken (grind arith))) a.ways.before
     a.ways.after
-    (unless_same t.broken (is_some (carriers_of p).reach) (bye 128 ∷ []) left (broken_is p b t old) refl) in
-    record {
-      keep = x.keep;
-      way = subst (λ (ms : List Message). GoesTo s (end_at (other s) p) n two a.now (progress_of place) l.peer.session.state ms)
-          (sym (put_unless t.broken (bye 128 ∷ []) (take x.keep l.own.channel))) x.way;
-    }
+    (grind arith) in
+    grind (arith, put_unless)
 
 -- ---- two ends
 

@@ -2,18 +2,17 @@
 -- For packets.
 use Rattle.osi_between.specs.Messages as carrier
 use Rattle.osi_machine.specs.Worlds as worlds
-use Rattle.osi_pair.proofs.Vocabulary.{◌≡◌, ℕ, false, List, [], ◌∷◌, Some, None, is_some, refl, sym, ap, subst, ◌∙◌, arith, IsOctets}
-use Rattle.osi_pair.proofs.Vocabulary.{IsShortTsdu, sent, place_at, value_at, State, linked, Between, last_of, under_way, put_in, is_cut}
-use Rattle.osi_pair.proofs.Vocabulary.{progress_of, Progress, in_use, leaves_use, connection_at, Line, Tables, seen_from, stays, puts}
-use Rattle.osi_pair.proofs.Vocabulary.{Message, unit, put, Meaning, written, with_carrier, Holding, TwoEnds, end_at, other, side_in}
-use Rattle.osi_pair.proofs.Vocabulary.{is_caller, carriers_of, IsInOrder, Stands, HasJoined, Side, given_live, Link}
+use Rattle.osi_pair.proofs.Vocabulary.{◌≡◌, ℕ, false, List, [], ◌∷◌, Some, None, refl, sym, ap, subst, ◌∙◌, arith, IsOctets, IsShortTsdu}
+use Rattle.osi_pair.proofs.Vocabulary.{sent, place_at, value_at, State, linked, Between, last_of, under_way, put_in, is_cut, progress_of}
+use Rattle.osi_pair.proofs.Vocabulary.{Progress, in_use, leaves_use, connection_at, Line, Tables, seen_from, stays, puts, Message, unit}
+use Rattle.osi_pair.proofs.Vocabulary.{put, Meaning, written, with_carrier, Holding, TwoEnds, end_at, other, side_in, is_caller}
+use Rattle.osi_pair.proofs.Vocabulary.{carriers_of, IsInOrder, Stands, HasJoined, Side, given_live, Link}
 use Rattle.osi_pair.proofs.turn.an_open_connection_acts.{ActsOn, CarrierActs, end_with, pair_with, ways_at, acted_stands, seen_at}
 use Rattle.osi_pair.proofs.turn.an_open_connection_acts.{session_in_use, stood_in_use, stands_now, OutNow, acted_by}
 use Rattle.osi_pair.proofs.turn.what_an_acting_end_leaves_in_flight.{StandsOn}
 use Rattle.osi_pair.proofs.flight.a_taken_packet_is_one_row.{CarrierLaws}
 use Rattle.osi_pair.proofs.turn.what_remains_when_a_unit_was_taken.{terms_at, order_of}
-use Rattle.osi_pair.proofs.packet.a_unit_with_which_no_session_acts.{unless_broken, put_unless, unless_same, spare_by}
-use Rattle.osi_pair.proofs.packet.a_unit_at_rest_keeps_the_match.{broken_is}
+use Rattle.osi_pair.proofs.packet.a_unit_with_which_no_session_acts.{unless_broken, put_unless, spare_by}
 use Rattle.osi_pair.proofs.session.a_seat_is_its_progress_and_session.{transport_at}
 use Rattle.osi_pair.proofs.turn.a_turn_keeps_the_match.{IsSeen, with_holding, GoesTo}
 use Rattle.osi_pair.proofs.flight.what_is_in_flight_when_an_end_acts.{out_keeps}
@@ -37,10 +36,7 @@ send_acts laws s p b t n peer link tsdu old alive at short octets =
     let a = acted_by s p b n (terms_at p) (sent n tsdu) (carrier.message tsdu ∷ [])
     (laws.handed_in (terms_at p) (is_caller s) (carriers_of p) b n peer link tsdu old.between (ap (λ (x : State). x.ended) c ∙ alive)
     (ap (λ (x : State). value_at n x.live) c ∙ at) short octets) in
-    let on = sent_acts n tsdu (end_at s p).end.carrier peer link alive at in
-    let was = linked peer link in
-    let ways = ways_at s n p (pair_with s (sent n tsdu (end_at s p).end.carrier) p) b a.now (carrier.message tsdu ∷ []) a.carries in
-    search
+    search (arith, sent_acts, ways_at, pair_with)
 
 -- ---- what is in flight from it
 
@@ -56,8 +52,7 @@ out_sends s p b t n m l old alive a order i =
     let place = place_at n (last_of (is_caller (other s)) b) in
     let new = under_way (is_caller s) n (carriers_of (pair_with s c p)) a.now in
     let sends = carrier.message (written m) ∷ [] in
-    let none = a.ways.keeps (stays_open _ _ (stood_in_use s p b t n in_use c sends old alive a)
-    (stands_now s p b n in_use c sends a order)) in
+    let none = a.ways.keeps (search (arith, stays_open, stood_in_use, stands_now)) in
     let lasts = (end_at (other s) p).end.carrier.ended in
     let two = pair_with s c p in
     subst (λ (ms : List Message). GoesTo s (end_at (other s) p) n two a.now (progress_of place) l.peer.session.state ms)
@@ -68,7 +63,7 @@ out_sends s p b t n m l old alive a order i =
     a.ways.stays a.ways.gone (put_in (carriers_of p) sends) i.out
     (spare_by t.broken (is_cut (is_caller s) (carriers_of p)) (unit m ∷ []) (cut_none s p t.broken old.broken alive))
     (end_out s (record { end = end_with s c p; held = (end_at s p).held }) p alive) a.ways.before a.ways.after none
-    (unless_same t.broken (is_some (carriers_of p).reach) (unit m ∷ []) sends (broken_is p b t old) refl))
+    (grind arith))
 
 -- ---- two ends
 

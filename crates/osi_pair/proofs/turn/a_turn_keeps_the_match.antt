@@ -6,10 +6,10 @@ use Rattle.osi_pair.proofs.Vocabulary.{◌≡◌, ◌≢◌, ℕ, ◌≤◌, ◌
 use Rattle.osi_pair.proofs.Vocabulary.{option_map, refl, sym, ap, subst, ◌∙◌, not, ◌<◌, arith, eqb-true, eq-eqb, map-append, Held, place_at}
 use Rattle.osi_pair.proofs.Vocabulary.{value_at, Between, AreBetween, last_of, under_way, is_cut, progress_of, terms_of, Local, shown_at}
 use Rattle.osi_pair.proofs.Vocabulary.{connection_at, Seat, Line, Tables, seen_from, Listener, Shown, kept_at, End, Holding, TwoEnds}
-use Rattle.osi_pair.proofs.Vocabulary.{end_at, with_end, noted, Entry, other, side_in, is_caller, ending_in, terms_in, transport_in}
-use Rattle.osi_pair.proofs.Vocabulary.{class_in, entry_in, carriers_of, IsSeated, IsUnderWay, IsLine, HasLine, IsInOrder, Stands, HasJoined}
-use Rattle.osi_pair.proofs.Vocabulary.{AreUnderWay, Goes, waiting_in, shown_entries, Side, Left, Right, Progress, Message, SessionState}
-use Rattle.osi_pair.proofs.flight.whether_something_is_cut_off.{end_out, end_back, Lasts}
+use Rattle.osi_pair.proofs.Vocabulary.{end_at, with_end, noted, Entry, other, side_in, is_caller, ending_in, terms_in, class_in, entry_in}
+use Rattle.osi_pair.proofs.Vocabulary.{carriers_of, IsSeated, IsUnderWay, IsLine, HasLine, IsInOrder, Stands, HasJoined, AreUnderWay, Goes}
+use Rattle.osi_pair.proofs.Vocabulary.{waiting_in, shown_entries, Side, Left, Right, Progress, Message, SessionState}
+use Rattle.osi_pair.proofs.flight.whether_something_is_cut_off.{end_out, Lasts}
 use Rattle.osi_pair.proofs.flight.what_is_in_flight_when_an_end_acts.{way_same}
 
 -- ---- a connection, seen from one of its sides
@@ -72,9 +72,7 @@ pub record Others (s : Side) (p : TwoEnds) (b : Between) (e : End) (h : Held) (c
 
 other_seated : (s : Side) (p : TwoEnds) (b : Between) (e : End) (h : Held) (c : Between) (n q : ℕ) (seat : Seat) → q ≢ n →
     Others s p b e h c n → IsSeated q (end_at s p) seat → IsSeated q (record { end = e; held = h }) seat
-other_seated s p b e h c n q seat apart o i =
-    let transport = i.transport ∙ ap transport_in (sym (o.places q apart)) in
-    grind arith
+other_seated s p b e h c n q seat apart o i = grind arith
 
 pub other_seen : (s : Side) (p : TwoEnds) (b : Between) (e : End) (h : Held) (c : Between) (n q : ℕ) (l : Line) → q ≢ n → Lasts s p →
     Others s p b e h c n → IsSeen s q p b l → IsSeen s q (with_holding s e h p) c l
@@ -84,17 +82,13 @@ other_seen s p b e h c n q l apart alive o i =
       here = subst (λ (x : Holding). IsSeated q x l.own) (sym (holding_here s e h p)) (other_seated s p b e h c n q l.own apart o i.here);
       there = subst (λ (x : Holding). IsSeated q x l.peer) (sym (holding_there s e h p)) i.there;
       out = out_there s p c e h q (progress_of (place_at q (last_of (is_caller (other s)) c))) l.peer.session.state l.own.channel
-          (way_same (end_at (other s) p).end.carrier.ended (end_at (other s) p).end.carrier.ended _ _ (is_cut (is_caller s) (carriers_of p))
-          (is_cut (is_caller s) (carriers_of p2)) (HasJoined q (end_at (other s) p))
-          (HasJoined q (end_at (other s) p)) l.peer.session.state l.own.channel (under_way (is_caller s) q (carriers_of p) b)
-          (under_way (is_caller s) q (carriers_of p2) c) (λ x. x) (ap progress_of (o.there q))
-          (end_out s (record { end = e; held = h }) p alive) (λ x held. held) (o.ways q apart (is_caller s)) i.out);
+          (grind (arith, way_same, end_out));
       back = back_here s p c e h q (progress_of (place_at q (last_of (is_caller s) c))) l.own.session.state l.peer.channel
           (way_same (end_at s p).end.carrier.ended e.carrier.ended _ _ (is_cut (is_caller (other s)) (carriers_of p))
           (is_cut (is_caller (other s)) (carriers_of p2)) (HasJoined q (end_at s p))
           (HasJoined q (record { end = e; held = h })) l.own.session.state l.peer.channel
           (under_way (is_caller (other s)) q (carriers_of p) b) (under_way (is_caller (other s)) q (carriers_of p2) c) (λ x. alive)
-          (ap progress_of (o.last q apart)) (end_back s (record { end = e; held = h }) p) (λ x held y at. held y (o.kept q apart y at))
+          (ap progress_of (o.last q apart)) (grind arith) (λ x held y at. held y (o.kept q apart y at))
           (o.ways q apart (is_caller (other s))) i.back);
     }
 
@@ -116,8 +110,7 @@ lines_by s p b e h c n q line t u false f alive o i a old =
       line = old.line;
       found = a.others q apart ∙ old.found;
       is = subst (λ (l : Line). IsLine q (with_holding s e h p) c l) (seen_twice (side_in s) old.line)
-          (unseen s q (with_holding s e h p) c (seen_from (side_in s) old.line)
-          (other_seen s p b e h c n q (seen_from (side_in s) old.line) apart alive o (seen s q p b old.line old.is)));
+          (search (arith, unseen, other_seen, seen));
     }
 
 -- ---- the journal
@@ -173,13 +166,7 @@ turned_stands Left p b t e h c u n shown old alive x =
     let journal = ap (map Some) x.journal ∙ says_more Left n shown t.journal p.journal old.journal in
     let lines : (q : ℕ) → 0 < q → q ≤ length u.lines → HasLine q (turned_pair Left e h n shown p) c u =
     λ q some le. (let was = old.lines q some (subst (λ (k : ℕ). q ≤ k) x.lines.count le) in
-    let l = lines_by Left p b e h c n q x.line t u (q == n) refl alive x.others x.is x.lines was in
-    record {
-      line = l.line;
-      found = l.found;
-      is =
-          record { left = l.is.left; right = l.is.right; rightward = l.is.rightward; leftward = l.is.leftward };
-    }) in
+    grind (arith, lines_by Left p b e h c n q x.line t u (q == n) refl alive x.others x.is x.lines was)) in
     grind arith
 turned_stands Right p b t e h c u n shown old alive x =
     let between = subst (λ (l : Local). AreBetween (terms_of p.left.end.carrier.local l) (carriers_of (with_holding Right e h p)) c)
@@ -190,11 +177,5 @@ turned_stands Right p b t e h c u n shown old alive x =
     let journal = ap (map Some) x.journal ∙ says_more Right n shown t.journal p.journal old.journal in
     let lines : (q : ℕ) → 0 < q → q ≤ length u.lines → HasLine q (turned_pair Right e h n shown p) c u =
     λ q some le. (let was = old.lines q some (subst (λ (k : ℕ). q ≤ k) x.lines.count le) in
-    let l = lines_by Right p b e h c n q x.line t u (q == n) refl alive x.others x.is x.lines was in
-    record {
-      line = l.line;
-      found = l.found;
-      is =
-          record { left = l.is.left; right = l.is.right; rightward = l.is.rightward; leftward = l.is.leftward };
-    }) in
+    grind (arith, lines_by Right p b e h c n q x.line t u (q == n) refl alive x.others x.is x.lines was)) in
     grind arith

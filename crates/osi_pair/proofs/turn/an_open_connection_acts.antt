@@ -3,7 +3,7 @@
 -- For turns and calls.
 use Rattle.osi_between.specs.Messages as carrier
 use Rattle.osi_pair.proofs.Vocabulary.{◌≡◌, ◌≢◌, ℕ, Bool, true, false, List, [], ◌++◌, Some, None, option_map, sym, ap, subst, ◌∙◌, arith}
-use Rattle.osi_pair.proofs.Vocabulary.{not, append-nil, place_at, connection_in, value_at, Connection, State, put_here, put_other, Between}
+use Rattle.osi_pair.proofs.Vocabulary.{append-nil, place_at, connection_in, value_at, Connection, State, put_here, put_other, Between}
 use Rattle.osi_pair.proofs.Vocabulary.{AreBetween, Carries, last_of, under_way, put_in, is_cut, Acted, becomes, side, progress_of, AreLike}
 use Rattle.osi_pair.proofs.Vocabulary.{Progress, in_use, progress_in, leaves_use, connection_at, Line, Tables, seen_from, stays, Message}
 use Rattle.osi_pair.proofs.Vocabulary.{with_same, with_other, with_count, none_there, with_carrier, End, Holding, TwoEnds, end_at, other}
@@ -13,9 +13,9 @@ use Rattle.osi_pair.proofs.turn.what_an_acting_end_leaves_in_flight.{StandsOn, t
 use Rattle.osi_pair.proofs.turn.what_remains_when_a_unit_was_taken.{terms_at, order_of, was_at, GivenAfter}
 use Rattle.osi_pair.proofs.session.a_seat_is_its_progress_and_session.{transport_by, HasSession, place_by, seat_of_session}
 use Rattle.osi_pair.proofs.turn.a_turn_keeps_the_match.{IsSeen, seen, seen_twice, with_holding, holding_here, holding_there, Others}
-use Rattle.osi_pair.proofs.turn.a_turn_keeps_the_match.{LinesAfter, Turned, turned_pair, turned_stands, out_there, back_here, GoesTo}
+use Rattle.osi_pair.proofs.turn.a_turn_keeps_the_match.{LinesAfter, Turned, turned_stands, out_there, back_here, GoesTo}
 use Rattle.osi_pair.proofs.flight.what_is_in_flight_when_an_end_acts.{shuts, back_waits}
-use Rattle.osi_pair.proofs.flight.whether_something_is_cut_off.{end_back, Lasts}
+use Rattle.osi_pair.proofs.flight.whether_something_is_cut_off.{Lasts}
 
 -- ---- the carrier
 
@@ -56,11 +56,7 @@ pub record WaysAt (s : Side) (n : ℕ) (p new : TwoEnds) (b c : Between) (put : 
 
 pub ways_at : (s : Side) (n : ℕ) (p new : TwoEnds) (b c : Between) (put : List carrier.Message) →
     Carries (terms_at p) (is_caller s) n (carriers_of p) (carriers_of new) b c [] put → WaysAt s n p new b c put
-ways_at s n p new b c put k =
-    let came = subst (λ (l : List carrier.Message). AreLike (connection_in (place_at n (last_of (is_caller s) c)))
-    (under_way (not (is_caller s)) n (carriers_of p) b) (l ++ under_way (not (is_caller s)) n (carriers_of new) c)) k.brings.is
-    k.came in
-    grind arith
+ways_at s n p new b c put k = grind arith
 
 -- the carrier of a side acts, of the two that the ends are
 pub acted_by : (s : Side) (p : TwoEnds) (b : Between) (n : ℕ) (terms : Terms) (f : State → State) (put : List carrier.Message) →
@@ -80,10 +76,6 @@ pub record CarrierActs (s : Side) (p : TwoEnds) (b : Between) (n : ℕ) (g : Pro
   pub between : AreBetween (terms_at p) (carriers_of (pair_with s c p)) now
   pub ways : WaysAt s n p (pair_with s c p) b now put
 
-last_now : (s : Side) (p : TwoEnds) (b : Between) (n : ℕ) (g : Progress) (c : State) (put : List carrier.Message) →
-    (a : CarrierActs s p b n g c put) → last_of (is_caller s) a.now ≡ c
-last_now s p b n g c put a = grind arith
-
 -- how far the connection was, and is
 pub stood_in_use : (s : Side) (p : TwoEnds) (b : Between) (t : Tables) (n : ℕ) (g : Progress) (c : State) (put : List carrier.Message) →
     Stands p b t → Lasts s p → CarrierActs s p b n g c put → progress_of (place_at n (last_of (is_caller s) b)) ≡ in_use
@@ -97,17 +89,12 @@ here_now s p b n g c ms a order = grind (arith, given_live, put_here n a.on.conn
 
 pub stands_now : (s : Side) (p : TwoEnds) (b : Between) (n : ℕ) (g : Progress) (c : State) (put : List carrier.Message) →
     (a : CarrierActs s p b n g c put) → IsInOrder (end_with s c p) → progress_of (place_at n (last_of (is_caller s) a.now)) ≡ g
-stands_now s p b n g c put a order =
-    ap (λ (x : State). progress_of (place_at n x)) (last_now s p b n g c put a) ∙ here_now s p b n g c put a order
+stands_now s p b n g c put a order = search (arith, here_now s p b n g c put a order)
 
 -- ---- all other connections
 
 other_place : (q n : ℕ) (g : Progress) (old new : State) → ActsOn n g old new → q ≢ n → place_at q new ≡ place_at q old
 other_place q n g old new a apart = grind (arith, place_by, put_other)
-
-others_stay : (s : Side) (p : TwoEnds) (b : Between) (n : ℕ) (g : Progress) (c : State) (put : List carrier.Message) →
-    (a : CarrierActs s p b n g c put) → Others s p b (end_with s c p) (end_at s p).held a.now n
-others_stay s p b n g c ms a = grind (arith, other_place, put_other, there)
 
 -- ---- the connection
 
@@ -132,8 +119,7 @@ seen_acts s p b t n g c put channel l old alive a order i x out =
     let h = (end_at s p).held in
     let stood = stood_in_use s p b t n g c put old alive a in
     record {
-      here = subst (λ (y : Holding). IsSeated n y (acted_line g channel l).own) (sym (holding_here s e h p))
-          (seat_of_session n e h g l.own.session channel order.sound.orderly (here_now s p b n g c put a order) x);
+      here = search (arith, holding_here, seat_of_session, here_now);
       there = subst (λ (y : Holding). IsSeated n y l.peer) (sym (holding_there s e h p)) i.there;
       out = subst (λ (y : State). Goes s (other s) n (pair_with s c p) a.now (progress_of (place_at n y)) l.peer.session.state channel)
           (sym a.ways.there)
@@ -146,7 +132,7 @@ seen_acts s p b t n g c put channel l old alive a order i x out =
           (under_way (is_caller (other s)) n (carriers_of p) b)
           (under_way (is_caller (other s)) n (carriers_of (pair_with s c p)) a.now)
           (λ f. (let no_way : false ≡ true = sym (ap shuts stood) ∙ f in cc)) i.back alive
-          (end_back s (record { end = e; held = h }) p) (λ x held. held) a.ways.came);
+          (grind arith) (λ x held. held) a.ways.came);
     }
 
 -- ---- two ends
@@ -179,14 +165,7 @@ pub turned_by : (s : Side) (p : TwoEnds) (b : Between) (t : Tables) (e : End) (h
     Turned s p b t e h c (stays t (side_in s) n line) n []
 turned_by s p b t e h c n l line old k between found i o there order quiet =
     let g = kept_given s p b t e h c old k between there in
-    let known = kept_known s p b t e h old k in
-    let journal = sym (append-nil t.journal) in
-    let lines = lines_stay s n l line t found in
-    search
-
-pub nothing_noted : (s : Side) (e : End) (p : TwoEnds) (n : ℕ) →
-    turned_pair s e (end_at s p).held n [] p ≡ with_holding s e (end_at s p).held p
-nothing_noted s e p n = grind (arith, with_holding, append-nil)
+    grind (arith, kept_known s p b t e h old k, append-nil t.journal, lines_stay s n l line t found)
 
 -- the line at a reference, seen from a side
 pub seen_at : (s : Side) (p : TwoEnds) (b : Between) (t : Tables) (n : ℕ) (l : Line) → Stands p b t →
@@ -211,9 +190,9 @@ acted_stands s p b t n g c put channel l old alive a order found x out =
     let i = seen_acts s p b t n g c put channel l old alive a order (seen_at s p b t n l old found) x out in
     record {
       now = a.now;
-      stands = subst (λ (q : TwoEnds). Stands q a.now (stays t (side_in s) n line)) (nothing_noted s (end_with s c p) p n)
+      stands = subst (λ (q : TwoEnds). Stands q a.now (stays t (side_in s) n line)) (grind (arith, with_holding, append-nil))
           (turned_stands s p b t (end_with s c p) (end_at s p).held a.now (stays t (side_in s) n line) n [] old alive
           (turned_by s p b t (end_with s c p) (end_at s p).held a.now n l line old
           (record { is_caller = a.on.is_caller; local = a.on.local; class = a.on.class; given = a.on.given; lasts = a.on.lasts }) a.between
-          found i (others_stay s p b n g c put a) a.ways.there order (of_end s p b t old).quiet));
+          found i (grind (arith, other_place, put_other, there)) a.ways.there order (of_end s p b t old).quiet));
     }

@@ -2,16 +2,16 @@
 -- For turns, calls, breaks and ends and packets.
 use Rattle.osi_between.specs.Messages as carrier
 use Rattle.osi_machine.specs.Machine as entries
-use Rattle.osi_pair.proofs.Vocabulary.{◌≡◌, refl, sym, ◌∙◌, ap, subst, ℕ, zero, suc, ◌<◌, ◌≤◌, Bool, true, false, nat_le, if◌then◌else◌}
-use Rattle.osi_pair.proofs.Vocabulary.{List, [], ◌∷◌, ◌++◌, length, map, Option, Some, None, is_some, IsSome, arith, lt-ltb, leb-true}
-use Rattle.osi_pair.proofs.Vocabulary.{leb-false, map-append, AllByRecursion, Place, never, was_given, place_at, value_at, State as Carrier}
-use Rattle.osi_pair.proofs.Vocabulary.{Between, Carries, last_of, under_way, put_in, is_cut, progress_of, Progress, Terms, terms_of}
-use Rattle.osi_pair.proofs.Vocabulary.{connection_at, Step, HasNumber, Seat, Line, Tables, step, run, start, Message, put, Holding, TwoEnds}
-use Rattle.osi_pair.proofs.Vocabulary.{end_at, noted, Entry, other, is_caller, terms_in, carriers_of, entry_in, AreAlike, IsUnderWay}
-use Rattle.osi_pair.proofs.Vocabulary.{IsInOrder, IsLine, Stands, StandsAt, Goes, word_in, HasJoined, HasLine, waiting_in, Word, Side, Left}
-use Rattle.osi_pair.proofs.Vocabulary.{Right, StaysCalm, noted_in}
-use Rattle.osi_pair.proofs.flight.whether_something_is_cut_off.{cut_none, cut_out, cut_back, Lasts}
-use Rattle.osi_pair.proofs.packet.a_unit_with_which_no_session_acts.{unless_broken, put_unless, words_put, are_put, put_same, put_spare}
+use Rattle.osi_pair.proofs.Vocabulary.{◌≡◌, refl, sym, ◌∙◌, subst, ℕ, zero, suc, ◌<◌, ◌≤◌, Bool, true, false, nat_le, List, [], ◌∷◌, ◌++◌}
+use Rattle.osi_pair.proofs.Vocabulary.{length, map, Option, Some, None, is_some, IsSome, arith, leb-true, leb-false, map-append}
+use Rattle.osi_pair.proofs.Vocabulary.{AllByRecursion, was_given, place_at, value_at, State as Carrier, Between, Carries, last_of}
+use Rattle.osi_pair.proofs.Vocabulary.{under_way, put_in, is_cut, progress_of, Progress, Terms, terms_of, connection_at, Step, HasNumber}
+use Rattle.osi_pair.proofs.Vocabulary.{Seat, Line, Tables, step, run, start, Message, put, Holding, TwoEnds, end_at, noted, Entry, other}
+use Rattle.osi_pair.proofs.Vocabulary.{is_caller, terms_in, carriers_of, entry_in, AreAlike, IsUnderWay, IsInOrder, IsLine, Stands}
+use Rattle.osi_pair.proofs.Vocabulary.{StandsAt, Goes, word_in, HasJoined, HasLine, waiting_in, Word, Side, Left, Right, StaysCalm}
+use Rattle.osi_pair.proofs.Vocabulary.{noted_in}
+use Rattle.osi_pair.proofs.flight.whether_something_is_cut_off.{cut_none, Lasts}
+use Rattle.osi_pair.proofs.packet.a_unit_with_which_no_session_acts.{unless_broken, put_unless, words_put, put_same, put_spare}
 use Rattle.osi_pair.proofs.flight.what_is_in_flight_when_an_end_acts.{as_now, out_puts, like_alike}
 use Rattle.osi_pair.proofs.turn.a_turn_keeps_the_match.{GoesTo}
 use Rattle.osi_pair.proofs.words.added_and_cut_words_are_messages.{AreWords}
@@ -36,9 +36,9 @@ out_way terms Left r p new b c words more channel broken seat to are k reach non
     (out_puts lasts (place_at r b.called) (is_cut true (carriers_of p)) (is_cut true (carriers_of new))
     (HasJoined r p.right) to.session.state channel (unless_broken broken more) (words_put broken words)
     (under_way true r (carriers_of p) b)
-    (under_way true r (carriers_of new) c) k.stays k.gone (put_in (carriers_of p) (map word_in words)) was (are_put broken words more are)
+    (under_way true r (carriers_of new) c) k.stays k.gone (put_in (carriers_of p) (map word_in words)) was (grind arith)
     (put_spare broken (is_cut true (carriers_of p)) words (cut_none Left p broken reach alive))
-    (cut_out Left p new same alive) k.before k.after none
+    (grind arith) k.before k.after none
     (put_same broken (is_some (carriers_of p).reach) words (sym (reach_in p broken reach))))))
 out_way terms Right r p new b c words more channel broken seat to are k reach none there alive same was is =
     let lasts = p.left.end.carrier.ended in
@@ -49,9 +49,9 @@ out_way terms Right r p new b c words more channel broken seat to are k reach no
     (out_puts lasts (place_at r b.caller) (is_cut false (carriers_of p)) (is_cut false (carriers_of new))
     (HasJoined r p.left) to.session.state channel (unless_broken broken more) (words_put broken words)
     (under_way false r (carriers_of p) b)
-    (under_way false r (carriers_of new) c) k.stays k.gone (put_in (carriers_of p) (map word_in words)) was (are_put broken words more are)
+    (under_way false r (carriers_of new) c) k.stays k.gone (put_in (carriers_of p) (map word_in words)) was (grind arith)
     (put_spare broken (is_cut false (carriers_of p)) words (cut_none Right p broken reach alive))
-    (cut_out Right p new same alive) k.before k.after none
+    (grind arith) k.before k.after none
     (put_same broken (is_some (carriers_of p).reach) words (sym (reach_in p broken reach))))))
 
 -- ---- what is in flight to it
@@ -72,26 +72,19 @@ back_way terms Left r p new b c messages seat to now k same there alive reach ho
     as_now p.left.end.carrier.ended new.left.end.carrier.ended (progress_of (place_at r b.caller)) (progress_of (place_at r c.caller))
     (is_cut false (carriers_of p)) (is_cut false (carriers_of new)) (HasJoined r p.left)
     (HasJoined r new.left) to.session.state now.session.state seat.channel
-    (under_way false r (carriers_of p) b) (under_way false r (carriers_of new) c) was (cut_back Left p new reach there) holds calms
-    (λ e. came_same (progress_of (place_at r b.caller)) (progress_of (place_at r c.caller)) (map word_in was.words)
-    (under_way false r (carriers_of p) b) (under_way false r (carriers_of new) c) k.arrived
-    same k.brings.is (was.alike alive) (like_alike (place_at r c.caller) _ _ k.came))
+    (under_way false r (carriers_of p) b) (under_way false r (carriers_of new) c) was (grind arith) holds calms
+    (grind (arith, came_same, like_alike))
 back_way terms Right r p new b c messages seat to now k same there alive reach holds calms was =
     as_now p.right.end.carrier.ended new.right.end.carrier.ended (progress_of (place_at r b.called)) (progress_of (place_at r c.called))
     (is_cut true (carriers_of p)) (is_cut true (carriers_of new)) (HasJoined r p.right)
     (HasJoined r new.right) to.session.state now.session.state seat.channel
-    (under_way true r (carriers_of p) b) (under_way true r (carriers_of new) c) was (cut_back Right p new reach there) holds calms
-    (λ e. came_same (progress_of (place_at r b.called)) (progress_of (place_at r c.called)) (map word_in was.words)
-    (under_way true r (carriers_of p) b) (under_way true r (carriers_of new) c) k.arrived
-    same k.brings.is (was.alike alive) (like_alike (place_at r c.called) _ _ k.came))
+    (under_way true r (carriers_of p) b) (under_way true r (carriers_of new) c) was (grind arith) holds calms
+    (grind (arith, came_same, like_alike))
 
 -- ---- places
 
 pub place_given : (r : ℕ) (c : Carrier) → r ≤ c.given → place_at r c ≡ was_given (value_at r c.live)
 place_given r c h = grind arith
-
-pub place_ahead : (r : ℕ) (c : Carrier) → c.given < r → place_at r c ≡ never
-place_ahead r c h = ap (λ (b : Bool). if◌then◌else◌ {A = Place} b never (was_given (value_at r c.live))) (lt-ltb c.given r h)
 
 -- ---- an end of two ends that match the tables
 
@@ -141,13 +134,7 @@ pub more_said : (p : TwoEnds) (b : Between) (t : Tables) (e : Entry) (x : entrie
 more_said p b t e x is s =
     let journal = says_more t.journal p.journal x e s.journal is in
     let lines : (n : ℕ) → 0 < n → n ≤ length t.lines → HasLine n (noted (e ∷ []) p) b (noted_in (x ∷ []) t) = λ n a c.
-    let h = s.lines n a c in
-    record {
-      line = h.line;
-      found = h.found;
-      is =
-          record { left = h.is.left; right = h.is.right; rightward = h.is.rightward; leftward = h.is.leftward };
-    } in
+    grind (arith, s.lines n a c) in
     grind arith
 
 -- ---- one more step
@@ -173,7 +160,5 @@ pub one_step : (p new : TwoEnds) (steps : List Step) (x : Step) → HasNumber x 
 one_step p new steps x number same numbered h = record {
   numbered = number_one steps x numbered number;
   now = h.now;
-  stands = subst (λ (k : Terms). Stands new h.now (run (start (terms_in k)) (steps ++ x ∷ []))) (sym same)
-      (subst (Stands new h.now) (sym (run_one (start (terms_in (terms_of p.left.end.carrier.local p.right.end.carrier.local))) steps x))
-      h.stands);
+  stands = grind (arith, run_one);
 }

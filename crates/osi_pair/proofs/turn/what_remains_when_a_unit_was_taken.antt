@@ -75,16 +75,7 @@ others_then s p b t e h n old alive d lasts order o =
     let last = last_is s p b e h n d lasts in
     let places : (q : ℕ) → q ≢ n → place_at q e.carrier ≡ place_at q (end_at s p).end.carrier =
     λ q apart. ap (place_at q) (sym last) ∙ d.other_places q apart ∙ ap (place_at q) (was_at s p b t old alive) in
-    record {
-      places = places;
-      lives = λ q apart. value_same q e.carrier (end_at s p).end.carrier order.sound.orderly (order_of s p b t old alive).sound.orderly
-          (places q apart);
-      sessions = o.sessions;
-      kept = o.kept;
-      ways = d.others;
-      last = d.other_places;
-      there = d.there;
-    }
+    search (arith, value_same, order_of s p b t old alive)
 
 -- what is in flight then, each way
 pub record WaysThen (s : Side) (p : TwoEnds) (b : Between) (e : End) (h : Held) (n : ℕ) (d : DidAt s p b e h n) (own peer : Standing)
@@ -131,9 +122,7 @@ pub given_after : (s : Side) (p : TwoEnds) (b : Between) (t : Tables) (e : End) 
 given_after Left p b t e h n old alive d lasts named behind =
     let last = last_is Left p b e h n d lasts in
     let new : before d.row ≡ not_yet → ⊥ = λ f. given_not_new n b.caller (nat_lt b.caller.given n) refl named (d.stood ∙ f) in
-    let refs = refs_row (terms_at p) d.row d.is new in
-    let same : d.now.caller.given ≡ b.caller.given = let more = d.given in omega arith in
-    grind arith
+    grind (arith, refs_row)
 given_after Right p b t e h n old alive d lasts named behind = search (arith, last_is)
 
 -- for an end that took a unit, everything that is stated of an end that acted
@@ -146,9 +135,7 @@ pub finish : (s : Side) (p : TwoEnds) (b : Between) (t u : Tables) (e : End) (h 
     u.known ≡ option_map class_in (with_holding s e h p).left.end.carrier.class → Turned s p b t e h d.now u n shown
 finish s p b t u e h n shown l x channel back old alive d lasts local role named behind order none o hs i w a known =
     let g = given_after s p b t e h n old alive d lasts named behind in
-    let is = seen_then s p b t e h n l x channel back d lasts order hs i w in
-    let others = others_then s p b t e h n old alive d lasts order o in
-    search
+    search (arith, seen_then, others_then)
 
 -- ---- the class
 
@@ -157,7 +144,6 @@ pub known_then : (s : Side) (p : TwoEnds) (b : Between) (t : Tables) (e : End) (
     (d : DidAt s p b e h n) → e.carrier.ended ≡ None → n ≤ b.caller.given → is_agree d.row ≡ false →
     t.known ≡ option_map class_in (with_holding s e h p).left.end.carrier.class
 known_then Left p b t e h n old alive d lasts named row =
-    let new : before d.row ≡ not_yet → ⊥ = λ f. given_not_new n b.caller (nat_lt b.caller.given n) refl named (d.stood ∙ f) in
     let same : e.carrier.class ≡ b.caller.class =
     ap (λ (c : State). c.class) (sym (last_is Left p b e h n d lasts)) ∙ d.class ∙ (grind (arith, d.is)) in
     old.known ∙ ap (option_map class_in) (sym old.class_then) ∙ ap (option_map class_in) (sym same)

@@ -34,8 +34,7 @@ rest_is begun (sent.part Middle octets ∷ words) later short =
     let front : begun ++ (octets ++ joined words) ≡ (begun ++ octets) ++ joined words = sym (append_assoc begun octets (joined words)) in
     let all = subst (λ (o : List ℕ). length o ≤ most_data) front short in
     let more = rest_is (begun ++ octets) words later all in
-    let fits : length (begun ++ octets) ≤ most_data = omega (arith, all, length-append (begun ++ octets) (joined words)) in
-    grind arith
+    grind (arith, length-append)
 rest_is begun words later short = search
 
 parts_are : (words : Words) → AreParts words → length (joined words) ≤ most_data →
@@ -65,16 +64,12 @@ in_parts : PartLaws → (limit : ℕ) (octets : List ℕ) → is_size limit ≡ 
     length octets ≤ most_data → AreWords (map word_of (words_sent limit (DT octets))) (unit (DT octets) ∷ [])
 in_parts laws limit octets size parted short = grind (arith, parts_are)
 
-by_itself : (limit : ℕ) (m : Meaning) → is_parted limit m ≡ false → AreWords (map word_of (words_sent limit m)) (unit m ∷ [])
-by_itself limit m e = subst (λ (words : Words). AreWords (map word_of words) (unit m ∷ [])) (sym (word_alone limit m e))
-    (wholes (unit m ∷ []))
-
 data_words : PartLaws → (limit : ℕ) (octets : List ℕ) (parted : Bool) → is_parted limit (DT octets) ≡ parted → is_size limit ≡ true →
     length octets ≤ most_data → AreWords (map word_of (words_sent limit (DT octets))) (unit (DT octets) ∷ [])
 data_words laws limit octets true e size short = in_parts laws limit octets size e short
-data_words laws limit octets false e size short = by_itself limit (DT octets) e
+data_words laws limit octets false e size short = grind (arith, word_alone, wholes)
 
 pub words_of_message : PartLaws → (limit : ℕ) (m : Meaning) → is_size limit ≡ true → IsBounded m →
     AreWords (map word_of (words_sent limit m)) (unit m ∷ [])
 words_of_message laws limit (DT octets) size short = data_words laws limit octets (is_parted limit (DT octets)) refl size short
-words_of_message laws limit m size short = by_itself limit m refl
+words_of_message laws limit m size short = grind (arith, word_alone, wholes)

@@ -1,9 +1,9 @@
 -- Words that are added, words that are cut off, and the messages that they then make.
 -- For words, what is in flight, turns, calls and packets.
-use Rattle.osi_pair.proofs.Vocabulary.{◌≡◌, refl, ◌∙◌, ap, subst, sym, ℕ, ◌≤◌, List, [], ◌∷◌, ◌++◌, length, take, map, Option, Some, None}
-use Rattle.osi_pair.proofs.Vocabulary.{append_assoc, ◌⊎◌, inl, inr, true, arith, take-append_seam, append-nil, length-append, Message, unit}
-use Rattle.osi_pair.proofs.Vocabulary.{ask, agree, deny, bye, over, DT, First, Middle, Last, Word, whole, part, begun_octets, joins}
-use Rattle.osi_pair.proofs.Vocabulary.{left_of, MayFollow, IsBegun, AreInOrder, list_any, is_leaving}
+use Rattle.osi_pair.proofs.Vocabulary.{◌≡◌, refl, ◌∙◌, ap, ℕ, List, [], ◌∷◌, ◌++◌, length, take, map, Option, Some, None, append_assoc, ◌⊎◌}
+use Rattle.osi_pair.proofs.Vocabulary.{inl, inr, true, arith, take-append_seam, append-nil, Message, unit, ask, agree, deny, bye, over, DT}
+use Rattle.osi_pair.proofs.Vocabulary.{First, Middle, Last, Word, whole, part, begun_octets, joins, left_of, MayFollow, IsBegun, AreInOrder}
+use Rattle.osi_pair.proofs.Vocabulary.{list_any, is_leaving}
 
 pub joins_append : (b : Option (List ℕ)) (xs ys : List Word) → joins b (xs ++ ys) ≡ joins b xs ++ joins (left_of b xs) ys
 joins_append b [] ys = refl
@@ -48,7 +48,7 @@ order_back b (part Last o ∷ xs) ys h = order_back None xs ys h.2
 
 pub whole_order : (ms : List Message) → AreInOrder None (map whole ms)
 whole_order [] = tt
-whole_order (m ∷ ms) = ((grind arith), whole_order ms)
+whole_order (m ∷ ms) = (grind arith, whole_order ms)
 
 pub whole_left : (ms : List Message) → left_of None (map whole ms) ≡ None
 whole_left [] = refl
@@ -70,15 +70,12 @@ pub record IsCut (begun : Option (List ℕ)) (ms : List Message) : Type 0 where
 abbrev pub Next : List ℕ → Option (List ℕ) → List Message → Type 0
 Next b left ms = IsRest b ms ⊎ ((list_any is_leaving ms ≡ true) ⊎ IsCut left ms)
 
-next_more : (b x : List ℕ) (left : Option (List ℕ)) (ms : List Message) → Next (b ++ x) left ms → Next b left ms
-next_more b x left ms h = grind (arith, append_assoc)
-
 pub next_is : (b : List ℕ) (words : List Word) → AreInOrder (Some b) words → Next b (left_of (Some b) words) (joins (Some b) words)
 next_is b [] h = inr (inr (record { none = refl; begins = tt }))
 next_is b (whole (bye r) ∷ words) h = inr (inl refl)
 next_is b (whole over ∷ words) h = inr (inl refl)
 next_is b (part Last x ∷ words) h = inl (record { rest = x; others = joins None words; is = refl })
-next_is b (part Middle x ∷ words) h = search (arith, next_more, next_is (b ++ x) words h.2)
+next_is b (part Middle x ∷ words) h = grind (arith, append_assoc, next_is (b ++ x) words h.2)
 next_is b _ h = let no : Some b ≡ None = h.0 in cc
 
 -- ---- what is in flight
@@ -87,9 +84,6 @@ next_is b _ h = let no : Some b ≡ None = h.0 in cc
 pub cut_behind : (b : Option (List ℕ)) (kept gone : List Word) → AreInOrder b (kept ++ gone) →
     (take (length (joins b kept)) (joins b (kept ++ gone)) ≡ joins b kept) × AreInOrder b kept
 cut_behind b kept gone h = grind (arith, joins_append, take-append_seam, order_front)
-
-pub cut_fits : (b : Option (List ℕ)) (kept gone : List Word) → length (joins b kept) ≤ length (joins b (kept ++ gone))
-cut_fits b kept gone = grind (arith, joins_append, length-append)
 
 -- words that are these messages, each of them whole
 pub record AreWords (words : List Word) (messages : List Message) : Type 0 where
@@ -147,9 +141,7 @@ pub front_of : (b : Option (List ℕ)) (kept gone : List Word) → AreInOrder b 
     FrontOf (left_of b (kept ++ gone)) (joins b kept) (joins b (kept ++ gone))
 front_of b kept gone h some =
     behind_it (left_of b kept) (left_of b (kept ++ gone)) (joins b kept) (joins (left_of b kept) gone) (joins b (kept ++ gone)) some
-    (λ x e. subst (λ (l : Option (List ℕ)). Next x l (joins (left_of b kept) gone)) (sym (left_append b kept gone))
-    (subst (λ (q : Option (List ℕ)). Next x (left_of q gone) (joins q gone)) (sym e)
-    (next_is x gone (subst (λ (q : Option (List ℕ)). AreInOrder q gone) e (order_back b kept gone h)))))
+    (grind (arith, left_append, next_is, order_back))
     (joins_append b kept gone)
 
 pub leave_behind : (b : Option (List ℕ)) (kept gone : List Word) (m : Message) → AreInOrder b (kept ++ gone) → MayLeave m →

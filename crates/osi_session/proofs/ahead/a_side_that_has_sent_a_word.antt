@@ -1,13 +1,12 @@
 -- A side that has already sent a word takes TSDUs just as the side that has not, for the words that may be sent first.
-use Rattle.std.proofs.Common.{◌≡◌, ◌∙◌, refl, sym, ap, subst, ℕ, Bool, true, false, not, ◌||◌, ◌⊎◌, inl, inr, if◌then◌else◌, List, [], ◌∷◌}
-use Rattle.std.proofs.Common.{length, Option, Some, None, option_map, Result, Ok, Err}
+use Rattle.std.proofs.Common.{arith, ◌≡◌, ◌∙◌, refl, sym, ap, subst, ℕ, Bool, true, false, not, ◌||◌, ◌⊎◌, inl, inr, if◌then◌else◌, List}
+use Rattle.std.proofs.Common.{[], ◌∷◌, length, Option, None, option_map, Result, Ok, Err}
 use Rattle.osi_message.specs.Words.{Word, Words}
 use Rattle.osi_session.specs.Standing.{Seen, Count, counted, kept_count}
 use Rattle.osi_session.specs.Steady.{Hears}
-use Rattle.osi_session.proofs.Vocabulary.{cases_Bool, SpduFault, Spelling, Phase, Aborting, State, is_over, is_wait_transport, may_hold}
-use Rattle.osi_session.proofs.Vocabulary.{Meaning, replies_abort, first_reply, is_faulty, respond_unit, respond_fault, nothing, bad, Taker}
-use Rattle.osi_session.proofs.Vocabulary.{Hearing, heard_then, word_verdict, respond_word, respond_words, acting_words, respond_came}
-use Rattle.osi_session.proofs.Vocabulary.{said_at}
+use Rattle.osi_session.proofs.Vocabulary.{cases_Bool, SpduFault, Phase, Aborting, State, is_over, is_wait_transport, may_hold, Meaning}
+use Rattle.osi_session.proofs.Vocabulary.{replies_abort, first_reply, is_faulty, respond_unit, respond_fault, Taker, Hearing, heard_then}
+use Rattle.osi_session.proofs.Vocabulary.{word_verdict, respond_word, respond_words, acting_words, respond_came, said_at}
 use Rattle.osi_session.proofs.tsdu.words_one_after_the_other.{good_then}
 use Rattle.osi_session.proofs.tsdu.the_effect_of_a_word.{word_told}
 use Rattle.osi_session.proofs.tables.what_is_true_of_each_phase.{excluded}
@@ -46,8 +45,7 @@ gone_word P gone f a t v h = word_keeps (λ s. gone s.phase ≡ true) t v (λ u 
 
 either_gone : (gone : Phase → Bool) (b : Bool) (x y : Hearing) → gone x.next.state.phase ≡ true → gone y.next.state.phase ≡ true →
     gone (if b then x else y).next.state.phase ≡ true
-either_gone gone true x y h k = h
-either_gone gone false x y h k = k
+either_gone gone b x y h k = grind arith
 
 gone_words : (P : State → Type 0) (gone : Phase → Bool) (f : State → State) → IsAheadBy P gone f → (t : Taker) (vs : Words) →
     gone t.state.phase ≡ true
@@ -61,11 +59,7 @@ gone_words P gone f a t (v ∷ vs) h =
 gone_fault : (gone : Phase → Bool) (s : State) (fault : SpduFault) → gone Aborting ≡ true → gone s.phase ≡ true →
     gone (respond_fault s fault).next.phase ≡ true
 unfolding respond_fault
-gone_fault gone s fault a h = by (is_over s.phase)
-  where
-    by : (b : Bool) → gone (if b then nothing s else bad s (Spelling fault)).next.phase ≡ true
-    by true = h
-    by false = a
+gone_fault gone s fault a h = grind arith
 
 gone_came : (P : State → Type 0) (gone : Phase → Bool) (f : State → State) → IsAheadBy P gone f →
     (t : Taker) (came : Result Words SpduFault) → gone t.state.phase ≡ true
@@ -76,8 +70,7 @@ gone_came P gone f a t (Err fault) h = gone_fault gone t.state fault a.aborts h
 -- ---- words
 
 quiet_both : (a b : Option Meaning) → first_reply a b ≡ None → (a ≡ None) × (b ≡ None)
-quiet_both None b h = (refl, h)
-quiet_both (Some m) b h = absurd (cc)
+quiet_both a b h = grind arith
 
 -- what is not answered is not bad
 pub quiet_good : (t : Taker) (v : Word) → (respond_word t v).reply ≡ None → is_faulty (word_verdict t v) ≡ false
@@ -94,13 +87,6 @@ words_quiet t v vs r = by (is_faulty (word_verdict t v)) refl r
     by true e h = let k = quiet_good t v h in absurd (cc)
     by false e h = quiet_both (respond_word t v).reply _ h
 
-both_shifted : (f : State → State) (h i k l : Hearing) → Shifted f h k → Shifted f i l → Shifted f (heard_then h i) (heard_then k l)
-both_shifted f h i k l a b = record {
-  next = b.next;
-  quiet = ap (λ (r : Option Meaning). first_reply r l.reply) a.quiet ∙ b.quiet;
-  closes = ap (λ (c : Bool). c || l.closes) a.closes ∙ ap (λ (c : Bool). h.closes || c) b.closes;
-}
-
 words_go : (P : State → Type 0) (gone : Phase → Bool) (f : State → State) → IsAheadBy P gone f → (t : Taker) (vs : Words) → P t.state →
     (respond_words t vs).reply ≡ None
     → Goes P gone f (respond_words t vs) (respond_words (shifted f t) vs)
@@ -115,26 +101,14 @@ words_go P gone f a t (v ∷ vs) p r =
       | inl g ↦ inl (subst (λ (x : Hearing). gone x.next.state.phase ≡ true) (sym whole) (gone_words P gone f a h.next vs g))
       | inr s ↦ (let ahead = good_then (shifted f t) v vs (quiet_good (shifted f t) v s.1.quiet)
           ∙ ap (λ (x : Taker). heard_then k (respond_words x vs)) s.1.next in
-          elim (words_go P gone f a h.next vs s.0 q.1) [
-            | inl g ↦ inl (subst (λ (x : Hearing). gone x.next.state.phase ≡ true) (sym whole) g)
-            | inr m ↦ inr (
-              subst (λ (x : Hearing). P x.next.state) (sym whole) m.0,
-              subst (λ (x : Hearing). Shifted f x (respond_words (shifted f t) (v ∷ vs))) (sym whole)
-                  (subst (λ (x : Hearing). Shifted f (heard_then h (respond_words h.next vs)) x) (sym ahead)
-                  (both_shifted f h (respond_words h.next vs) k (respond_words (shifted f h.next) vs) s.1 m.1)),
-            )
-          ])
+          grind (arith, respond_words, words_go P gone f a h.next vs s.0 q.1))
     ]
 
 -- ---- a TSDU
 
 fault_loud : (s : State) (fault : SpduFault) → is_over s.phase ≡ false → (respond_fault s fault).reply ≡ None → ⊥
 unfolding respond_fault
-fault_loud s fault o h = by (is_over s.phase) o h
-  where
-    by : (b : Bool) → b ≡ false → (if b then nothing s else bad s (Spelling fault)).reply ≡ None → ⊥
-    by true e k = cc
-    by false e k = cc
+fault_loud s fault o h = grind arith
 
 came_goes : (P : State → Type 0) (gone : Phase → Bool) (f : State → State) → IsAheadBy P gone f →
     (t : Taker) (came : Result Words SpduFault) → P t.state
@@ -158,14 +132,7 @@ kept_held p n h = rw h refl
 
 shifted_count : (f : State → State) (h k : Hearing) (c : Count) → Shifted f h k → counted h ≡ c → c.reply ≡ None →
     counted k ≡ record c { state = f c.state }
-shifted_count f h k c s e r =
-    let next : k.next ≡ shifted f h.next = s.next in
-    let reply : k.reply ≡ c.reply = s.quiet ∙ sym r in
-    let closes : k.closes ≡ c.closes = s.closes ∙ ap (λ (x : Count). x.closes) e in
-    let state : k.next.state ≡ f c.state = ap (λ (x : Taker). x.state) next ∙ ap (λ (x : Count). f x.state) e in
-    let joined : option_map length k.next.joined ≡ c.joined = ap (λ (x : Taker). option_map length x.joined) next ∙
-    ap (λ (x : Count). x.joined) e in
-    λ i. record { state = state i; joined = joined i; reply = reply i; closes = closes i }
+shifted_count f h k c s e r = grind arith
 
 -- both take one TSDU, or the word is gone
 pub hears_ahead : (P : State → Type 0) (gone : Phase → Bool) (f : State → State) (g : Option ℕ → Option ℕ) → IsAheadBy P gone f →
@@ -191,10 +158,7 @@ hears_ahead P gone f g a s t tsdu p h = elim (cases_Bool (gone h.count.state.pha
     on n =
         let q = (went_on n (so_many s.joined) (so_many_are s.joined)).0 in
         let held = a.holds h.count.state q in
-        let sent = kept_held h.count.state.phase s.sent held in
-        let ahead = kept_held (f h.count.state).phase (g s.sent) (ap may_hold (a.phase h.count.state) ∙ held) in
-        let behind : t ≡ record { state = h.count.state; joined = h.count.joined; sent = s.sent; closed = s.closed || h.count.closes }
-        = h.next ∙ (λ i. record { state = h.count.state; joined = h.count.joined; sent = sent i; closed = s.closed || h.count.closes }) in (
+        let sent = kept_held h.count.state.phase s.sent held in (
           subst (λ (x : Seen). P x.state) (sym h.next) q,
           record {
             count = record h.count { state = f h.count.state };
@@ -202,8 +166,7 @@ hears_ahead P gone f g a s t tsdu p h = elim (cases_Bool (gone h.count.state.pha
             taken = λ j e. shifted_count f (came_of s tsdu j) (came_of (leaves f g s) tsdu j) h.count (went_on n j e).1 (h.taken j e)
                 h.quiet;
             quiet = h.quiet;
-            next = ap (leaves f g) behind ∙
-                (λ i. record { state = f h.count.state; joined = h.count.joined; sent = sym ahead i; closed = s.closed || h.count.closes });
+            next = grind arith;
           },
         )
 

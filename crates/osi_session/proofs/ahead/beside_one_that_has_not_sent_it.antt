@@ -1,17 +1,16 @@
 -- A side that has sent a word at the first point at which it may, beside one that has not sent it: what both take, and
 -- what the other sends.
-use Rattle.std.proofs.Common.{◌≡◌, ◌∙◌, refl, sym, ap, subst, ℕ, ◌+◌, Bool, true, false, not, ◌&&◌, ◌||◌, ◌==◌, ◌⊎◌, inl, inr, is_none}
-use Rattle.std.proofs.Common.{unwrap_or, if◌then◌else◌, List, [], ◌∷◌, length, Option, Some, None, option_map}
+use Rattle.std.proofs.Common.{arith, ◌≡◌, ◌∙◌, refl, sym, subst, ℕ, ◌+◌, Bool, true, false, ◌||◌, ◌==◌, ◌⊎◌, inl, inr, is_none, unwrap_or}
+use Rattle.std.proofs.Common.{if◌then◌else◌, List, [], ◌∷◌, length, Option, Some, None, option_map}
 use Rattle.osi_message.specs.Words.{Word, says, part}
-use Rattle.osi_session.specs.Standing.{Seen, goes, where_is, calling, may_send, stands_in_place, CanSay}
+use Rattle.osi_session.specs.Standing.{Seen, goes, where_is, calling, CanSay}
 use Rattle.osi_session.specs.Steady.{is_steady, Hears, HearsAll}
-use Rattle.osi_session.proofs.Vocabulary.{and_parts, Phase, State, Place, is_last, is_ready, may_hold, may_confirm_minor, limit_of}
-use Rattle.osi_session.proofs.Vocabulary.{has_right, Call, Minor, MinorConfirm, DT, GT, MIA, MIP, PT, data_token, minor, available}
-use Rattle.osi_session.proofs.Vocabulary.{minor_confirmed, point_sent}
+use Rattle.osi_session.proofs.Vocabulary.{and_parts, Phase, State, Place, is_last, Call, Minor, MinorConfirm, DT, GT, MIA, MIP, PT}
+use Rattle.osi_session.proofs.Vocabulary.{available, minor_confirmed, point_sent}
 use Rattle.osi_session.proofs.ahead.a_side_that_has_sent_a_word.{leaves, IsAheadBy, hears_ahead, hears_gone}
 use Rattle.osi_session.proofs.ahead.words_that_may_be_sent_first.{past_ready, past_confirming, IsReady, same_state, part_ahead, renumbered}
 use Rattle.osi_session.proofs.ahead.words_that_may_be_sent_first.{MayPoint, point_ahead, MayConfirm, conf_ahead}
-use Rattle.osi_session.proofs.tables.what_is_true_of_each_phase.{implied, excluded}
+use Rattle.osi_session.proofs.tables.what_is_true_of_each_phase.{excluded}
 use Rattle.osi_session.proofs.ahead.the_state_after_a_word.{if_seen, if_state, within, CallLeaves, call_leaves, mapped, idle_leaves}
 
 -- ---- what each word leaves
@@ -23,15 +22,11 @@ same_sent sent = sent
 abbrev sent_by : Place → List ℕ → Option ℕ → Option ℕ
 sent_by place octets sent = if is_last place then None else Some (unwrap_or sent 0 + length octets)
 
-goes_holding : (s : Seen) (next : State) → may_hold next.phase ≡ true → goes s next ≡ record s { state = next }
-goes_holding s next h = rw h refl
-
 call_next : (s y : Seen) (c : Call) (b : Bool) → (if b then option_map (goes s) (calling s.state c) else None) ≡ Some y →
     (n : State) × CallLeaves s.state c n × (y ≡ goes s n)
 call_next s y c b h =
     let a = if_seen b _ y h in
-    let m = mapped (goes s) (calling s.state c) y a.1 in
-    (m.0, call_leaves s.state c m.0 m.1, m.2)
+    search (arith, call_leaves, mapped (goes s) (calling s.state c) y a.1)
 
 numbered_next : (s y : Seen) (c : Call) (b d : Bool) → (if b then option_map (goes s) (where_is d (calling s.state c)) else None) ≡ Some y →
     (n : State) × CallLeaves s.state c n × (y ≡ goes s n)
@@ -40,44 +35,22 @@ numbered_next s y c b d h =
     let m = mapped (goes s) (where_is d (calling s.state c)) y a.1 in
     (m.0, call_leaves s.state c m.0 (if_state d (calling s.state c) m.0 m.1).1, m.2)
 
-held_right : (available held : Bool) → available ≡ true → (not available || held) ≡ true → held ≡ true
-held_right true held e h = h
-held_right false held e h = absurd (cc)
-
 said_point : (s y : Seen) (c : Bool) (k : ℕ) (o : List ℕ) (n : ℕ) → CanSay s (says (MIP c k o)) n y →
     MayPoint s.state × (y ≡ leaves (renumbered point_sent) same_sent s)
 unfolding available
 said_point s y c k o n h =
     let m = numbered_next s y (Minor c o) (is_none s.sent || false) (k == s.state.numbers.next) (within s y (says (MIP c k o)) n h).1 in
-    let l = m.1 in
-    let rights = and_parts (has_right s.state data_token) (has_right s.state minor) l.needed.1.0 in
-    let next = ap (goes s) l.next in (
-      record { ready = l.phase; minor = held_right s.state.units.minor s.state.held.minor l.needed.0 rights.1 },
-      m.2 ∙ next ∙ goes_holding s (renumbered point_sent s.state) (implied is_ready may_hold refl s.state.phase l.phase),
-    )
+    grind (arith, and_parts)
 
 said_conf : (s y : Seen) (k : ℕ) (o : List ℕ) (n : ℕ) → CanSay s (says (MIA k o)) n y →
     MayConfirm s.state × (y ≡ leaves (renumbered (minor_confirmed k)) same_sent s)
 said_conf s y k o n h =
     let m = call_next s y (MinorConfirm k o) (is_none s.sent || true) (within s y (says (MIA k o)) n h).1 in
-    let l = m.1 in
-    let next = ap (goes s) l.next in (
-      record { phase = l.phase; answers = (and_parts s.state.numbers.answers _ l.needed.1.0).0 },
-      m.2 ∙ next ∙ goes_holding s (renumbered (minor_confirmed k) s.state) (implied may_confirm_minor may_hold refl s.state.phase l.phase),
-    )
-
-if_this : (b : Bool) (x y : Seen) → (if b then Some x else None) ≡ Some y → (b ≡ true) × (y ≡ x)
-if_this true x y h = (refl, cc)
-if_this false x y h = absurd (cc)
+    grind (arith, and_parts)
 
 said_part : (s y : Seen) (place : Place) (o : List ℕ) (n : ℕ) → CanSay s (part place o) n y →
     IsReady s.state × (y ≡ leaves same_state (sent_by place o) s)
-said_part s y place o n h =
-    let a = if_this (not (limit_of s.state == 0) && (stands_in_place s.sent place && may_send s.state (unwrap_or s.sent 0 + length o))) _ y
-    (within s y (part place o) n h).1 in
-    let b = and_parts (not (limit_of s.state == 0)) _ a.0 in
-    let c = and_parts (stands_in_place s.sent place) _ b.1 in
-    ((and_parts (is_ready s.state.phase) _ c.1).0, a.1)
+said_part s y place o n h = search (arith, and_parts, unwrap_or s.sent 0, within s y (part place o) n h)
 
 -- ---- beside each other
 
@@ -96,13 +69,7 @@ is_gone (part place octets) p = past_ready p
 is_gone _ p = false
 
 pub said_ahead : (s y : Seen) (w : Word) (n : ℕ) → is_steady w ≡ true → CanSay s w n y → IsAhead w s y
-said_ahead s y (says (DT o)) n e h = idle_leaves s y (says (DT o)) n e h
-said_ahead s y (says (PT k o)) n e h = idle_leaves s y (says (PT k o)) n e h
-said_ahead s y (says (GT k)) n e h = idle_leaves s y (says (GT k)) n e h
-said_ahead s y (says (MIP c k o)) n e h = said_point s y c k o n h
-said_ahead s y (says (MIA k o)) n e h = said_conf s y k o n h
-said_ahead s y (part place o) n e h = said_part s y place o n h
-said_ahead s y _ n e h = absurd (cc)
+said_ahead s y w n e h = grind (arith, idle_leaves, said_point, said_conf, said_part)
 
 -- if the first sends it too, both are equal
 pub said_alike : (s y z : Seen) (w : Word) (n : ℕ) → is_steady w ≡ true → IsAhead w s y → CanSay s w n z → z ≡ y
@@ -143,19 +110,8 @@ gone_stays s t (says (MIA k o)) tsdu g h = hears_gone MayConfirm past_confirming
 gone_stays s t (part place o) tsdu g h = hears_gone IsReady past_ready same_state part_ahead s t tsdu g h
 gone_stays s t _ tsdu g h = absurd (cc)
 
-neither : (b : Bool) → b ≡ true → b ≡ false → ⊥
-neither true h k = cc
-neither false h k = cc
-
 pub gone_said : (s z : Seen) (w : Word) (n : ℕ) → is_gone w s.state.phase ≡ true → CanSay s w n z → ⊥
-gone_said s z (says (MIP c k o)) n g h =
-    neither (is_ready s.state.phase) (said_point s z c k o n h).0.ready (excluded past_ready is_ready refl s.state.phase g)
-gone_said s z (says (MIA k o)) n g h =
-    neither (may_confirm_minor s.state.phase) (said_conf s z k o n h).0.phase
-    (excluded past_confirming may_confirm_minor refl s.state.phase g)
-gone_said s z (part place o) n g h =
-    neither (is_ready s.state.phase) (said_part s z place o n h).0 (excluded past_ready is_ready refl s.state.phase g)
-gone_said s z _ n g h = absurd (cc)
+gone_said s z w n g h = grind (arith, said_point, excluded, past_ready, said_conf, past_confirming, said_part)
 
 -- ---- and so over all TSDUs that are taken
 

@@ -1,23 +1,20 @@
 -- The state of a side after it sent a word that it may send: for each word, and for those that leave it unchanged.
-use Rattle.std.proofs.Common.{◌≡◌, ◌∙◌, refl, ap, ℕ, Bool, true, false, not, ◌&&◌, ◌||◌, is_none, if◌then◌else◌, nat_le, length, Option}
-use Rattle.std.proofs.Common.{Some, None, Ok, Err, option_map}
-use Rattle.osi_message.specs.Words.{Word, says, part}
-use Rattle.osi_session.specs.Standing.{Seen, goes, said, said_within, left_by, calling, CanSay, is_in_size, answers, answers_word}
+use Rattle.std.proofs.Common.{arith, ◌≡◌, refl, ℕ, Bool, true, false, not, ◌&&◌, ◌||◌, is_none, if◌then◌else◌, nat_le, length, Option, Some}
+use Rattle.std.proofs.Common.{None, Ok, option_map}
+use Rattle.osi_message.specs.Words.{Word, says}
+use Rattle.osi_session.specs.Standing.{Seen, goes, said, said_within, left_by, calling, CanSay, is_in_size, answers_word}
 use Rattle.osi_session.specs.Steady.{is_steady}
-use Rattle.osi_session.proofs.Vocabulary.{and_parts, is_ready, may_ask, may_hold, State, Call, Data, Please, AllHold, Answer, Step, needs}
-use Rattle.osi_session.proofs.Vocabulary.{may_call, met, after, most_of, octets_of, Meaning, AB, AA, DT, GT, PT, RF, is_empty, is_answer}
-use Rattle.osi_session.proofs.tables.what_an_accepted_call_has_passed.{first_error_ok}
+use Rattle.osi_session.proofs.Vocabulary.{is_ready, may_ask, may_hold, State, Call, Data, Please, AllHold, Answer, Step, needs, may_call}
+use Rattle.osi_session.proofs.Vocabulary.{met, after, most_of, octets_of, Meaning, DT, GT, PT, is_empty}
 use Rattle.osi_session.proofs.tables.what_is_true_of_each_phase.{implied}
 
 -- ---- the tests that a word passed which may be sent
 
 pub if_seen : (b : Bool) (o : Option Seen) (n : Seen) → (if b then o else None) ≡ Some n → (b ≡ true) × (o ≡ Some n)
-if_seen true o n h = (refl, h)
-if_seen false o n h = absurd (cc)
+if_seen b o n h = grind arith
 
 pub if_state : (b : Bool) (o : Option State) (n : State) → (if b then o else None) ≡ Some n → (b ≡ true) × (o ≡ Some n)
-if_state true o n h = (refl, h)
-if_state false o n h = absurd (cc)
+if_state b o n h = grind arith
 
 -- the side has not closed, the size is kept, and the word may be sent within what is unfinished
 pub within : (s next : Seen) (w : Word) (n : ℕ) → CanSay s w n next →
@@ -26,8 +23,7 @@ unfolding said
 within s next w n h = if_seen (not s.closed && is_in_size s.state n) (said_within s w) next h
 
 answer_is : (a : Answer) (n : State) → left_by a ≡ Some n → (x : Step) × (a ≡ Ok x) × (x.next ≡ n)
-answer_is (Ok x) n h = (x, refl, cc)
-answer_is (Err e) n h = absurd (cc)
+answer_is a n h = grind arith
 
 -- a call that is allowed
 pub record CallLeaves (s : State) (c : Call) (n : State) : Type 0 where
@@ -40,32 +36,22 @@ pub call_leaves : (s : State) (c : Call) (n : State) → calling s c ≡ Some n 
 unfolding met
 call_leaves s c n h =
     let a = if_state (may_call s.phase c && nat_le (length (octets_of c)) (most_of c)) (left_by (met s c)) n h in
-    let p = and_parts (may_call s.phase c) _ a.0 in
     let b = answer_is (met s c) n a.1 in
-    let t = first_error_ok (needs s c) _ b.0 b.1 in
-    let g : _ ≡ _ = t.1 in
-    let k = b.2 in
-    record { phase = p.0; short = p.1; needed = t.0; next = (cc) }
+    grind arith
 
 pub mapped : (f : State → Seen) (o : Option State) (x : Seen) → option_map f o ≡ Some x → (n : State) × (o ≡ Some n) × (x ≡ f n)
-mapped f (Some n) x h = (n, refl, cc)
-mapped f None x h = absurd (cc)
+mapped f o x h = grind arith
 
 -- ---- what leaves a side unchanged
-
-pub goes_same : (s : Seen) → may_hold s.state.phase ≡ true → goes s s.state ≡ s
-goes_same s h = rw h refl
 
 left_same : (s x : Seen) (c : Call) → option_map (goes s) (calling s.state c) ≡ Some x → after s.state c ≡ s.state
     → (may_call s.state.phase c ≡ true → may_hold s.state.phase ≡ true) → x ≡ s
 left_same s x c h a p =
     let m = mapped (goes s) (calling s.state c) x h in
-    let l = call_leaves s.state c m.0 m.1 in
-    m.2 ∙ ap (goes s) (l.next ∙ a) ∙ goes_same s (p l.phase)
+    grind (arith, call_leaves s.state c m.0 m.1)
 
 either_same : (b : Bool) (o : Option Seen) (s x : Seen) → (if b then Some s else o) ≡ Some x → (o ≡ Some x → x ≡ s) → x ≡ s
-either_same true o s x h k = cc
-either_same false o s x h k = k h
+either_same b o s x h k = grind arith
 
 -- data, a request for tokens, and a token item that names none
 abbrev pub is_idle : Word → Bool
@@ -83,26 +69,8 @@ idle_leaves s next (says (PT tokens octets)) n e h =
     either_same (is_empty tokens) _ s next (within s next (says (PT tokens octets)) n h).1 (λ k.
     let a = if_seen (is_none s.sent || true) _ next k in
     left_same s next (Please tokens octets) a.1 refl (implied may_ask may_hold refl s.state.phase))
-idle_leaves s next (says (GT tokens)) n e h = only_same (is_empty tokens) _ s next e (within s next (says (GT tokens)) n h).1
-  where
-    only_same : (b : Bool) (o : Option Seen) (s x : Seen) → b ≡ true → (if b then Some s else o) ≡ Some x → x ≡ s
-    only_same true o s x e h = cc
-    only_same false o s x e h = absurd (cc)
+idle_leaves s next (says (GT tokens)) n e h = grind (arith, is_empty, within)
 idle_leaves s next _ n e h = absurd (cc)
 
--- it is no answer
-answers_are : (reply m : Meaning) → answers reply m ≡ true → is_answer m ≡ true
-answers_are (RF reason octets) (RF said data_octets) h = refl
-answers_are (AB bits octets) (AB said data_octets) h = refl
-answers_are AA AA h = refl
-answers_are _ _ h = absurd (cc)
-
-answers_none : (m : Meaning) → is_steady (says m) ≡ true → is_answer m ≡ true → ⊥
-answers_none (RF reason octets) e h = cc
-answers_none (AB bits octets) e h = cc
-answers_none AA e h = cc
-answers_none _ e h = cc
-
 pub no_answer : (reply : Meaning) (w : Word) → is_steady w ≡ true → answers_word reply w ≡ true → ⊥
-no_answer reply (says m) e h = answers_none m e (answers_are reply m h)
-no_answer reply (part place octets) e h = cc
+no_answer reply w e h = grind arith

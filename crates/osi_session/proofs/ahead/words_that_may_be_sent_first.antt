@@ -1,15 +1,15 @@
 -- The words that may be sent first, by what they leave: a part of Data, a minor point, and its confirmation.
-use Rattle.std.proofs.Common.{◌≡◌, ◌∙◌, refl, sym, ap, subst, ℕ, ◌+◌, Bool, true, false, not, ◌&&◌, ◌||◌, ◌⊎◌, inl, inr, nat_le, nat_lt}
-use Rattle.std.proofs.Common.{if◌then◌else◌, List, [], ◌∷◌, Option, Some, None, arith}
+use Rattle.std.proofs.Common.{◌≡◌, refl, sym, subst, ℕ, Bool, true, false, not, ◌&&◌, ◌⊎◌, inl, inr, if◌then◌else◌, List, Option, None}
+use Rattle.std.proofs.Common.{arith}
 use Rattle.osi_message.specs.Words.{Word, says, part}
 use Rattle.osi_session.specs.declared.numbers.Numbers.{Numbers}
-use Rattle.osi_session.proofs.Vocabulary.{cases_Bool, and_parts, ltb-true, lt-ltb, Phase, Ready, MajorDue, ReleaseDue, RestartDue, Aborting}
-use Rattle.osi_session.proofs.Vocabulary.{Ended, State, UnitFault, Unexpected, is_over, is_ready, is_restarting, may_confirm_minor, Meaning}
-use Rattle.osi_session.proofs.Vocabulary.{AB, AC, AA, CN, DN, DT, FN, GT, MAA, MAP, MIA, MIP, NF, PT, RA, RF, RS, First, Middle, Last}
-use Rattle.osi_session.proofs.Vocabulary.{as_message, AllMet, Condition, si, first_fault, is_expected, drops, Tokens, Verdict, over}
-use Rattle.osi_session.proofs.Vocabulary.{dropped, faulty, fine, by_fault, is_faulty, becomes, stands, without_tokens, restarted_at}
-use Rattle.osi_session.proofs.Vocabulary.{respond_unit, Taker, Hearing, kept_in, word_conditions, word_verdict, enacted_word, respond_word}
-use Rattle.osi_session.proofs.Vocabulary.{minor_confirmed, point_sent, point_taken, united}
+use Rattle.osi_session.proofs.Vocabulary.{cases_Bool, ltb-true, lt-ltb, Phase, Ready, MajorDue, ReleaseDue, RestartDue, Aborting, Ended}
+use Rattle.osi_session.proofs.Vocabulary.{State, UnitFault, Unexpected, is_over, is_ready, is_restarting, may_confirm_minor, Meaning, AB}
+use Rattle.osi_session.proofs.Vocabulary.{AC, AA, CN, DN, DT, FN, GT, MAA, MAP, MIA, MIP, NF, PT, RA, RF, RS, First, Middle, Last}
+use Rattle.osi_session.proofs.Vocabulary.{as_message, AllMet, si, first_fault, is_expected, drops, Tokens, Verdict, over, dropped, faulty}
+use Rattle.osi_session.proofs.Vocabulary.{fine, by_fault, is_faulty, becomes, stands, restarted_at, respond_unit, Taker, Hearing}
+use Rattle.osi_session.proofs.Vocabulary.{word_conditions, word_verdict, enacted_word, respond_word, minor_confirmed, point_sent}
+use Rattle.osi_session.proofs.Vocabulary.{point_taken, united}
 use Rattle.osi_session.proofs.ahead.a_side_that_has_sent_a_word.{shifted, Goes, IsAheadBy, quiet_good}
 use Rattle.osi_session.proofs.tables.what_is_true_of_each_phase.{implied, excluded}
 use Rattle.osi_session.proofs.tables.the_outcomes_of_each_input.{unit_cases}
@@ -48,11 +48,8 @@ from_ready _ = false
 neither : (b : Bool) → b ≡ true → b ≡ false → ⊥
 neither b h k = grind arith
 
-either_phase : (p : Phase → Bool) (b : Bool) (x y : State) → p x.phase ≡ true → p y.phase ≡ true → p (if b then x else y).phase ≡ true
-either_phase p b x y h k = grind arith
-
 ready_becomes : (s : State) (u : Meaning) → past_ready s.phase ≡ true → is_expected s.phase u ≡ true → past_ready (becomes s u).phase ≡ true
-ready_becomes s u h x = grind (arith, neither, excluded, either_phase)
+ready_becomes s u h x = grind (arith, neither, excluded)
 
 past_ready_ends : (s : State) (u : Meaning) → past_ready s.phase ≡ true → past_ready (respond_unit s u).next.phase ≡ true
 past_ready_ends s u h =
@@ -61,7 +58,7 @@ past_ready_ends s u h =
 
 confirming_becomes : (s : State) (u : Meaning) → past_confirming s.phase ≡ true → is_expected s.phase u ≡ true →
     past_confirming (becomes s u).phase ≡ true
-confirming_becomes s u h x = grind (arith, neither, excluded, either_phase)
+confirming_becomes s u h x = grind (arith, neither, excluded)
 
 past_confirming_ends : (s : State) (u : Meaning) → past_confirming s.phase ≡ true → past_confirming (respond_unit s u).next.phase ≡ true
 past_confirming_ends s u h =
@@ -69,7 +66,7 @@ past_confirming_ends s u h =
     (record { same = h; ended = λ a. refl; bad = λ a e. refl; good = λ a e x m. confirming_becomes s u h x })
 
 stays_from : (s : State) (u : Meaning) → from_ready s.phase ≡ true → is_expected s.phase u ≡ true → from_ready (becomes s u).phase ≡ true
-stays_from s u h x = grind (arith, neither, excluded, either_phase)
+stays_from s u h x = grind (arith, neither, excluded)
 
 unit_stays : (s : State) (u : Meaning) → from_ready s.phase ≡ true → from_ready (respond_unit s u).next.phase ≡ true
 unit_stays s u h =
@@ -90,12 +87,8 @@ IsReady s = is_ready s.phase ≡ true
 abbrev pub same_state : State → State
 same_state s = s
 
-part_step : (t : Taker) (v : Word) → IsReady t.state → (respond_word t v).reply ≡ None →
-    Goes IsReady past_ready same_state (respond_word t v) (respond_word (shifted same_state t) v)
-part_step t v p r = grind (arith, cases_Bool, still_ready, word_stays, implied)
-
 pub part_ahead : IsAheadBy IsReady past_ready same_state
-part_ahead = grind (arith, implied, past_ready_ends, part_step)
+part_ahead = grind (arith, implied, past_ready_ends, cases_Bool, still_ready, word_stays)
 
 -- ---- what is taken without an answer is discarded, or good
 
@@ -114,19 +107,6 @@ passed_by o d x n f h = grind arith
 
 pub passes : (t : Taker) (v : Word) → word_verdict t v ≡ fine → Passes t v
 passes t v h = grind (arith, passed_by, all_met)
-
-no_fault : (n : ℕ) (cs : List Condition) → AllMet cs → first_fault n cs ≡ None
-no_fault n [] h = refl
-no_fault n (c ∷ cs) h = rw h.0 (no_fault n cs h.1)
-
-pub passing : (t : Taker) (v : Word) → Passes t v → word_verdict t v ≡ fine
-passing t v h = let f = no_fault (si (as_message v)) (word_conditions t v) h.met in rw (h.lives, h.acts, h.expected, f) refl
-
-dropped_by : (o d x : Bool) (n : ℕ) (f : Option UnitFault) → verdict_by o d x n f ≡ dropped → (o ≡ false) × (d ≡ true)
-dropped_by o d x n f h = grind arith
-
-is_dropped : (t : Taker) (v : Word) → is_over t.state.phase ≡ false → drops t.state (as_message v) ≡ true → word_verdict t v ≡ dropped
-is_dropped t v o d = rw (o, d) refl
 
 quiet_verdict : (w : Verdict) (o d x : Bool) (n : ℕ) (f : Option UnitFault) → verdict_by o d x n f ≡ w → o ≡ false → is_faulty w ≡ false →
     (w ≡ dropped) ⊎ (w ≡ fine)
@@ -156,10 +136,6 @@ fine_gone : (P : State → Type 0) (gone : Phase → Bool) (f : State → State)
     → Goes P gone f (respond_word t v) (respond_word (shifted f t) v)
 fine_gone P gone f t v h g = inl (subst (λ (x : Hearing). gone x.next.state.phase ≡ true) (sym (word_at t v fine h)) g)
 
-loud : (t : Taker) (v : Word) (m : Meaning) → word_verdict t v ≡ fine → (respond_word t v).reply ≡ None →
-    (enacted_word t v fine).reply ≡ Some m → ⊥
-loud t v m h r e = let x : (respond_word t v).reply ≡ Some m = ap (λ (y : Hearing). y.reply) (word_at t v fine h) ∙ e in cc
-
 -- ---- only the numbers change
 
 abbrev pub renumbered : (Numbers → Numbers) → State → State
@@ -169,11 +145,7 @@ dropped_goes : (P : State → Type 0) (gone : Phase → Bool) (g : Numbers → N
     word_verdict t v ≡ dropped
     → Goes P gone (renumbered g) (respond_word t v) (respond_word (shifted (renumbered g) t) v)
 dropped_goes P gone g t v p h =
-    let a = dropped_by (is_over t.state.phase) (drops t.state (as_message v)) (is_expected t.state.phase (as_message v)) (si (as_message v))
-    (first_fault (si (as_message v)) (word_conditions t v)) h in
-    goes_as P gone (renumbered g) _ _ _ _ (word_at t v dropped h)
-    (word_at (shifted (renumbered g) t) v dropped (is_dropped (shifted (renumbered g) t) v a.0 a.1))
-    (inr (p, record { next = refl; quiet = refl; closes = refl }))
+    grind (arith, goes_as, word_at t v dropped h, word_at (shifted (renumbered g) t) v dropped (grind arith), shifted (renumbered g) t)
 
 -- ---- a minor point
 
@@ -186,23 +158,6 @@ stands_ready : (s : State) (n : ℕ) → is_restarting s.phase ≡ false → sta
 unfolding stands
 stands_ready s n h = rw h refl
 
-restart_gone : (gone : Phase → Bool) (s : State) (k : _) (n : ℕ) (w : _) (o : List ℕ) → is_restarting s.phase ≡ false →
-    gone RestartDue ≡ true → gone (becomes s (RS k n w o)).phase ≡ true
-restart_gone gone s k n w o r g = by (stands s n) (stands_ready s n r)
-  where
-    by : (b : Bool) → b ≡ true →
-        gone (if b then record (without_tokens RestartDue s) { wishes = w; numbers = restarted_at n s.numbers } else s).phase ≡ true
-    by true e = g
-    by false e = absurd (cc)
-
-lacks_none : (a b : Bool) → b ≡ true → (not a && not b) ≡ true → ⊥
-lacks_none a b h k = grind arith
-
-acknowledges : (answers asked : Bool) (c k n : ℕ) → asked ≡ false →
-    (not answers && (nat_le c k && (if asked then nat_lt (k + 1) n else nat_lt k n))) ≡ true
-    → (answers ≡ false) × (nat_le c k ≡ true) × (nat_lt k n ≡ true)
-acknowledges answers asked c k n a h = grind (arith, and_parts)
-
 -- a confirmation that is taken then, is also taken after the point
 abbrev with_point : State → State
 with_point s = renumbered point_sent s
@@ -211,19 +166,16 @@ taken_conf : (s : State) (j : Option (List ℕ)) (n : ℕ) (o : List ℕ) → is
     Passes (record { state = s; joined = j }) (says (MIA n o))
     → (s.numbers.answers ≡ false) × (Passes (record { state = with_point s; joined = j }) (says (MIA n o)))
 unfolding point_sent
-taken_conf s j n o r p = grind (arith, acknowledges, excluded, ltb-true, lt-ltb)
+taken_conf s j n o r p = grind (arith, excluded, ltb-true, lt-ltb)
 
 -- both leave the same numbers
 numbers_alike : (v : Numbers) (n : ℕ) → v.answers ≡ false → minor_confirmed n (point_sent v) ≡ point_sent (minor_confirmed n v)
 unfolding minor_confirmed point_sent
 numbers_alike v n e = grind arith
 
-or_more : (a b : Bool) → a ≡ true → (a || b) ≡ true
-or_more a b e = grind arith
-
 still_held : (held more : Tokens) → held.minor ≡ true → (united held more).minor ≡ true
 unfolding united
-still_held held more h = or_more held.minor more.minor h
+still_held held more h = grind arith
 
 point_good : (t : Taker) (v : Word) → MayPoint t.state → word_verdict t v ≡ fine → (respond_word t v).reply ≡ None
     → Goes MayPoint past_ready with_point (respond_word t v) (respond_word (shifted with_point t) v)
@@ -234,25 +186,17 @@ point_good t (says (GT k)) p h r =
     (inr (record { ready = p.ready; minor = still_held t.state.held k p.minor }, record { next = refl; quiet = refl; closes = refl }))
 point_good t (says (PT k o)) p h r =
     fine_goes MayPoint past_ready with_point t _ h h (inr (p, record { next = refl; quiet = refl; closes = refl }))
-point_good t (says (MIP c n o)) p h r = grind (arith, lacks_none, passes)
+point_good t (says (MIP c n o)) p h r = grind (arith, passes)
 point_good t (says (MIA n o)) p h r =
     let q = taken_conf t.state t.joined n o p.ready (passes t (says (MIA n o)) h) in
-    fine_goes MayPoint past_ready with_point t _ h (passing (shifted with_point t) (says (MIA n o)) q.1)
-    (inr (
-      record { ready = p.ready; minor = p.minor },
-      record {
-        next = (let e = numbers_alike t.state.numbers n q.0 in
-            λ i. record { state = record t.state { numbers = e i }; joined = kept_in t.state.phase t.joined });
-        quiet = refl;
-        closes = refl;
-      },
-    ))
+    fine_goes MayPoint past_ready with_point t _ h (grind arith)
+    (grind (arith, numbers_alike))
 point_good t (says (MAP n o)) p h r = fine_gone MayPoint past_ready with_point t _ h refl
 point_good t (says (FN o)) p h r = fine_gone MayPoint past_ready with_point t _ h refl
 point_good t (says (RS k n w o)) p h r =
     fine_gone MayPoint past_ready with_point t _ h
-    (restart_gone past_ready t.state k n w o (excluded is_ready is_restarting refl t.state.phase p.ready) refl)
-point_good t (says (AB b o)) p h r = absurd (loud t (says (AB b o)) AA h r refl)
+    (grind (arith, stands, stands_ready, restarted_at))
+point_good t (says (AB b o)) p h r = absurd (grind (arith, respond_word t (says (AB b o)), word_at t (says (AB b o)) fine h))
 point_good t (says (CN v n m w from to z o)) p h r = grind (arith, neither, passes, excluded)
 point_good t (says (AC v n m w z o)) p h r = grind (arith, neither, passes, excluded)
 point_good t (says (RF c o)) p h r = grind (arith, neither, passes, excluded)
@@ -317,15 +261,7 @@ conf_good m t (says (PT k o)) p h r =
     fine_goes MayConfirm past_confirming (with_conf m) t _ h h (inr (p, record { next = refl; quiet = refl; closes = refl }))
 conf_good m t (says (MIP c n o)) p h r =
     fine_goes MayConfirm past_confirming (with_conf m) t _ h (same_point m t.state t.joined c n o h)
-    (inr (
-      record { phase = p.phase; answers = answers_on t.state.numbers },
-      record {
-        next = (let e = points_alike t.state.numbers m p.answers in
-            λ i. record { state = record t.state { numbers = e i }; joined = kept_in t.state.phase t.joined });
-        quiet = refl;
-        closes = refl;
-      },
-    ))
+    (grind (arith, answers_on, points_alike))
 conf_good m t (says (MIA n o)) p h r = absurd (no_ack t.state.numbers.answers _ p.answers (passes t (says (MIA n o)) h).met.1.0)
 conf_good m t (says (MAP n o)) p h r = fine_gone MayConfirm past_confirming (with_conf m) t _ h refl
 conf_good m t (says (FN o)) p h r =
@@ -333,8 +269,8 @@ conf_good m t (says (FN o)) p h r =
     (inr (record { phase = refl; answers = p.answers }, record { next = refl; quiet = refl; closes = refl }))
 conf_good m t (says (RS k n w o)) p h r =
     fine_gone MayConfirm past_confirming (with_conf m) t _ h
-    (restart_gone past_confirming t.state k n w o (excluded may_confirm_minor is_restarting refl t.state.phase p.phase) refl)
-conf_good m t (says (AB b o)) p h r = absurd (loud t (says (AB b o)) AA h r refl)
+    (grind (arith, stands, stands_ready, restarted_at))
+conf_good m t (says (AB b o)) p h r = absurd (grind (arith, respond_word t (says (AB b o)), word_at t (says (AB b o)) fine h))
 conf_good m t (says (CN v n x w from to z o)) p h r = grind (arith, neither, passes, excluded)
 conf_good m t (says (AC v n x w z o)) p h r = grind (arith, neither, passes, excluded)
 conf_good m t (says (RF c o)) p h r = grind (arith, neither, passes, excluded)

@@ -1,5 +1,6 @@
 -- A TSDU that is read without its units has the effect of one word.
 -- For the fast path of sessions and for the count of a TSDU.
+use Rattle.std.proofs.Common.{arith}
 use Rattle.std.proofs.Common.{◌≡◌, ◌∙◌, sym, ap, ℕ, false, List, [], ◌∷◌, Option, Some, None, Result, Ok}
 use Rattle.osi_message.specs.declared.plain.PlainUnit.{PlainUnit}
 use Rattle.osi_session.proofs.Vocabulary.{SpduFault, Meaning, DT, GT, no_token, Word, Words, says, words_of, State, Taker, Outcome, enacted}
@@ -9,19 +10,15 @@ use Rattle.osi_session.specs.declared.reactions.Reaction.{Reaction}
 use Rattle.osi_session.proofs.tables.messages_act_as_the_table_says.{word_behind, words_of_message}
 use Rattle.osi_session.proofs.tsdu.the_effect_of_a_word.{message_is}
 
-comes_behind : (read : Result Words SpduFault) (w : Word) (t : Taker) → read ≡ Ok (says (GT no_token) ∷ w ∷ []) →
-    respond_came t read ≡ respond_word t w
-comes_behind read w t e = ap (respond_came t) e ∙ word_behind t w
-
 -- data after a token item that names no token
 pub comes_as_data : (read : Result Words SpduFault) (octets : List ℕ) (t : Taker) → read ≡ Ok (says (GT no_token) ∷ says (DT octets) ∷ [])
     → respond_came t read ≡ respond_word t (says (DT octets))
-comes_as_data read octets t e = comes_behind read (says (DT octets)) t e
+comes_as_data read octets t e = grind (arith, word_behind)
 
 -- a unit of the fast path
 pub comes_as_unit : (read : Result Words SpduFault) (p : PlainUnit) (w : Word) (t : Taker) → read ≡ Ok (plain_said p) → w ≡ plain_word p →
     respond_came t read ≡ respond_word t w
-comes_as_unit read p w t e h = comes_behind read (plain_word p) t e ∙ ap (respond_word t) (sym h)
+comes_as_unit read p w t e h = (grind (arith, word_behind)) ∙ ap (respond_word t) (sym h)
 
 -- the words of a message
 pub comes_as_message : (read : Result Words SpduFault) (m : Meaning) (t : Taker) → read ≡ Ok (words_of m) →
@@ -33,15 +30,10 @@ pub message_heard : (l : Listener) (s : State) (w : Option Meaning) (j k : Optio
     (read : Result Words SpduFault) → (let v : Listener = record { state = s; waiting = w; joined = j } in v ≡ l) → k ≡ j
     → read ≡ Ok (words_of m) → (let t : Taker = record { state = s; joined = k } in enacted s m (word_verdict t (says m)) ≡ o)
     → respond_came (taker_of l) read ≡ heard l.joined o
-message_heard l s w j k m o read view same e h =
-    let es : s ≡ l.state = ap (λ (x : Listener). x.state) view in
-    let ej : k ≡ l.joined = same ∙ ap (λ (x : Listener). x.joined) view in
-    let p : _ ≡ _ = (λ i. enacted (es i) m (word_verdict (record { state = es i; joined = ej i }) (says m))) in
-    comes_as_message read m (taker_of l) e ∙ message_is (taker_of l) m ∙ ap (heard l.joined) (sym p ∙ h)
+message_heard l s w j k m o read view same e h = grind (arith, comes_as_message read m (taker_of l) e, message_is (taker_of l) m)
 
 -- a message that only has an indication and a new state
 pub shows_alone : (l new : Listener) (r : Reaction) (next : State) (shown : Indication) →
     (let only : Reaction = record { next = next; shown = Some shown; reply = None; closes = false } in r ≡ only) → new ≡ in_state l next →
     moved l (heard l.joined (outcome_of r)) ≡ only_shows new (shown_by shown)
-shows_alone l new r next shown e n =
-    ap (λ (x : Reaction). moved l (heard l.joined (outcome_of x))) e ∙ ap (λ (x : Listener). only_shows x (shown_by shown)) (sym n)
+shows_alone l new r next shown e n = grind arith

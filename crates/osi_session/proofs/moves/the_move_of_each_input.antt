@@ -1,5 +1,5 @@
 -- The move of each input, from the answers of the tables.
-use Rattle.std.proofs.Common.{inl, inr, ◌≡◌, refl, sym, ◌∙◌, ap, ℕ, List, true, false, Some, None, Result, Ok, Err}
+use Rattle.std.proofs.Common.{arith, ◌≡◌, refl, sym, ◌∙◌, ap, ℕ, List, true, false, Some, None, Result, Ok, Err}
 use Rattle.osi_session.specs.declared.faults.CallError.TheVariants as error
 use Rattle.osi_session.proofs.Vocabulary.{SpduFault, Units, tsdu_at, said_at, said_by_units, said_if_read, State, CallError, Words}
 use Rattle.osi_session.proofs.Vocabulary.{tsdus_of, tsdus_sent, Call, Step, Answer, allowed, respond_fault, lost, Hearing, heard}
@@ -38,8 +38,7 @@ taken_is s words h e = ap (moved s) e
 pub came_is : (s : Listener) (read : Result Words SpduFault) (h : Hearing) → respond_came (taker_of s) read ≡ h →
     react s (came_as read) ≡ moved s h
 unfolding react
-came_is s (Ok words) h e = ap (moved s) e
-came_is s (Err fault) h e = ap (moved s) e
+came_is s read h e = grind arith
 
 pub came_words : (tsdu : List ℕ) (units : Units) → tsdu_at tsdu ≡ Ok units → taken (said_by_units units) ≡ came tsdu
 unfolding said_at
@@ -71,13 +70,7 @@ over_refused s c h = rw h refl
 
 -- there is none of a session that is over
 pub planned_live : (c : Call) (plan : Planned) → IsPlanOf c plan → is_over plan.was.phase ≡ false
-planned_live c plan p = elim (cases_Bool (is_over plan.was.phase)) [
-  | inl t ↦ absurd (apart _ (sym (over_refused plan.was c t) ∙ p.1))
-  | inr f ↦ f
-]
-  where
-    apart : (x : Step) → (let a : Answer = Err error.Ended in a) ≡ Ok x → ⊥
-    apart x e = cc
+planned_live c plan p = grind (arith, cases_Bool, over_refused)
 
 -- what was decided and written is a plan
 pub plan_of : (c : Call) (plan : Planned) (x : Step) → allowed plan.was c ≡ Ok x → plan.next ≡ x.next →

@@ -1,18 +1,17 @@
 -- What closes the transport connection, and that nothing is sent with it.
-use Rattle.std.proofs.Common.{◌≡◌, refl, sym, ◌∙◌, ap, subst, ℕ, Bool, true, false, not, ◌||◌, List, [], ◌∷◌, None, Result, Ok}
-use Rattle.std.proofs.Common.{if◌then◌else◌, arith}
+use Rattle.std.proofs.Common.{◌≡◌, refl, sym, ◌∙◌, ap, subst, ℕ, Bool, true, false, ◌||◌, List, [], ◌∷◌, None, Result, Ok, if◌then◌else◌}
+use Rattle.std.proofs.Common.{arith}
 use Rattle.std.proofs.lemmas.List.Folds.{list_any-append}
 use Rattle.osi_session.specs.Moves as whole
 use Rattle.osi_session.proofs.Vocabulary.{list_any, SpduFault, Kind, Zero, Two, category_of, Known, Meaning, meaning_by, said_at, Word}
-use Rattle.osi_session.proofs.Vocabulary.{Words, State, is_ended, is_over, Call, Answer, allowed, may_close, may_close_word, closes_alone}
-use Rattle.osi_session.proofs.Vocabulary.{Taker, Hearing, word_verdict, respond_word, respond_words, heard_then, acting_words, respond_tsdu}
-use Rattle.osi_session.proofs.Vocabulary.{Input, called, came_as, came, Listener, Move, answered, react, listening, in_words, Outcome}
-use Rattle.osi_session.proofs.Vocabulary.{becomes, reply_for, closes_for, in_aborting, in_ended, respond_unit, Verdict, verdict, enacted}
-use Rattle.osi_session.proofs.Vocabulary.{is_faulty, respond_fault}
-use Rattle.osi_session.proofs.tables.units_that_are_alone.{StandsAlone, stands_alone, alone_in_octets}
+use Rattle.osi_session.proofs.Vocabulary.{Words, State, is_ended, Call, may_close, may_close_word, closes_alone, Taker, Hearing}
+use Rattle.osi_session.proofs.Vocabulary.{word_verdict, respond_word, respond_words, heard_then, acting_words, respond_tsdu, Input, called}
+use Rattle.osi_session.proofs.Vocabulary.{came_as, came, Listener, Move, react, listening, in_words, Outcome, reply_for, closes_for}
+use Rattle.osi_session.proofs.Vocabulary.{respond_unit, is_faulty, respond_fault}
+use Rattle.osi_session.proofs.tables.units_that_are_alone.{stands_alone, alone_in_octets}
 use Rattle.osi_session.proofs.runs.what_every_run_preserves.{word_ended}
 use Rattle.osi_session.proofs.tables.the_verdict_on_a_unit.{enacts}
-use Rattle.osi_session.proofs.tables.a_word_acts_as_its_message.{acts_alike, outcome_in, word_does, all_keep, any_word}
+use Rattle.osi_session.proofs.tables.a_word_acts_as_its_message.{outcome_in, word_does, all_keep, any_word}
 use Rattle.osi_session.proofs.tables.messages_act_as_the_table_says.{word_alone, moves_as_whole}
 
 -- ---- one unit
@@ -28,23 +27,8 @@ open_still o h = record { silent = λ k. absurd (cc); last = λ k. absurd (cc) }
 good_silent : (u : Meaning) → closes_for u ≡ true → reply_for u ≡ None
 good_silent u h0 = grind arith
 
-good_last : (s : State) (u : Meaning) → closes_for u ≡ true → is_ended (becomes s u).phase ≡ true
-good_last s u h0 = grind arith
-
-aborting_last : (s : State) (u : Meaning) → ClosesLast (in_aborting s u)
-aborting_last s u = grind (arith, open_still)
-
-ended_last : (s : State) (u : Meaning) → ClosesLast (in_ended s u)
-ended_last s u = grind (arith, open_still)
-
-either_last : (b : Bool) (x y : Outcome) → ClosesLast x → ClosesLast y → ClosesLast (if b then x else y)
-either_last b x y h k = grind arith
-
-enacted_last : (s : State) (u : Meaning) (v : Verdict) → ClosesLast (enacted s u v)
-enacted_last s u v = grind (arith, either_last, aborting_last, ended_last, open_still, good_silent, good_last)
-
 unit_closes_last : (s : State) (u : Meaning) → ClosesLast (respond_unit s u)
-unit_closes_last s u = subst ClosesLast (sym (enacts s u)) (enacted_last s u (verdict s u))
+unit_closes_last s u = subst ClosesLast (sym (enacts s u)) (grind (arith, open_still, good_silent))
 
 pub unit_silent : (s : State) (u : Meaning) → (respond_unit s u).closes ≡ true → (respond_unit s u).reply ≡ None
 unit_silent s u = (unit_closes_last s u).silent
@@ -81,24 +65,6 @@ all_end t (w ∷ ws) =
 
 -- ---- units that leave the transport connection open
 
-good_open : (u : Meaning) → may_close u ≡ false → closes_for u ≡ false
-good_open u h0 = grind arith
-
-aborting_open : (s : State) (u : Meaning) → may_close u ≡ false → (in_aborting s u).closes ≡ false
-aborting_open s u h0 = grind arith
-
-ended_open : (s : State) (u : Meaning) → (in_ended s u).closes ≡ false
-ended_open s u = grind arith
-
-either_open : (b : Bool) (x y : Outcome) → x.closes ≡ false → y.closes ≡ false → (if b then x else y).closes ≡ false
-either_open b x y h k = grind arith
-
-enacted_open : (s : State) (u : Meaning) (v : Verdict) → may_close u ≡ false → (enacted s u v).closes ≡ false
-enacted_open s u v h0 = grind (arith, either_open, aborting_open, ended_open, good_open)
-
-pub unit_open : (s : State) (u : Meaning) → may_close u ≡ false → (respond_unit s u).closes ≡ false
-unit_open s u h = subst (λ (o : Outcome). o.closes ≡ false) (sym (enacts s u)) (enacted_open s u (verdict s u) h)
-
 pub neither : (a b : Bool) → (a || b) ≡ false → (a ≡ false) × (b ≡ false)
 neither a b h = grind arith
 
@@ -106,11 +72,7 @@ none_closes : (a b : Bool) → a ≡ false → b ≡ false → (a || b) ≡ fals
 none_closes a b h k = rw (h, k) refl
 
 pub word_open : (t : Taker) (w : Word) → may_close_word w ≡ false → (respond_word t w).closes ≡ false
-word_open t w h = word_does (λ o. o.closes ≡ false) t w (record {
-  acts = λ u a. unit_open t.state u (acts_alike may_close (λ a b. refl) w u a ∙ h);
-  bad = λ fault o. refl;
-  rests = refl;
-})
+word_open t w h = word_does (λ o. o.closes ≡ false) t w (grind (arith, enacts))
 
 either_still : (b : Bool) (x y : Hearing) → x.closes ≡ false → y.closes ≡ false → (if b then x else y).closes ≡ false
 either_still b x y h k = grind arith
@@ -123,31 +85,21 @@ all_open t (w ∷ ws) h =
     let one = word_open t w q.0 in
     either_still (is_faulty (word_verdict t w)) _ _ one (none_closes _ _ one (all_open (respond_word t w).next ws q.1))
 
-either_none : (p : Word → Bool) (b : Bool) (x y : Words) → list_any p x ≡ false → list_any p y ≡ false →
-    list_any p (if b then x else y) ≡ false
-either_none p b x y h k = grind arith
-
 pub acting_none : (p : Word → Bool) (words : Words) → list_any p words ≡ false → list_any p (acting_words words) ≡ false
 unfolding acting_words
-acting_none p words h = grind (arith, neither, either_none, list_any-append, none_closes)
+acting_none p words h = grind (arith, neither, list_any-append, none_closes)
 
 -- ---- the words of a TSDU
 
 pub words_open : (t : Taker) (words : Words) → list_any may_close_word words ≡ false → (respond_tsdu t words).closes ≡ false
 words_open t words h = all_open t (acting_words words) (acting_none may_close_word words h)
 
-pub not_true : (b : Bool) → not b ≡ true → b ≡ false
-not_true b h = grind arith
-
 pub words_silent : (t : Taker) (words : Words) → closes_alone words ≡ true → (respond_tsdu t words).closes ≡ true →
     (respond_tsdu t words).reply ≡ None
 words_silent t [] h c = let o = words_open t [] refl in absurd (cc)
 words_silent t (w ∷ []) h c = subst (λ (x : Hearing). x.closes ≡ true → x.reply ≡ None) (sym (word_alone t w)) (word_closes_last t w).silent
     c
-words_silent t (w ∷ v ∷ ws) h c = grind (arith, words_open, not_true)
-
-pub words_end : (t : Taker) (words : Words) → (respond_tsdu t words).closes ≡ true → is_ended (respond_tsdu t words).next.state.phase ≡ true
-words_end t words = all_end t (acting_words words)
+words_silent t (w ∷ v ∷ ws) h c = grind (arith, words_open)
 
 -- ---- what is read from octets
 
@@ -159,38 +111,28 @@ item_open : (k : Kind) (known : Known) (information : List ℕ) → category_of 
 unfolding category_of
 item_open k known information h0 = grind arith
 
--- no token item and no unit of category 2 closes it
-opens_behind : StandsAlone may_close
-opens_behind = record { item = item_open; behind = behind_open; plain = λ octets. refl }
-
 closes_so : (words : Words) → stands_alone may_close words ≡ true → closes_alone words ≡ true
 closes_so words h0 = grind arith
 
 -- in the meaning of octets, a word that may close is alone
 pub octets_alone : (octets : List ℕ) (words : Words) → said_at octets ≡ Ok words → closes_alone words ≡ true
-octets_alone octets words e = closes_so words (alone_in_octets may_close opens_behind octets words e)
+octets_alone octets words e = closes_so words (alone_in_octets may_close (grind (arith, item_open, behind_open)) octets words e)
 
 -- ---- moves
-
-either_quiet : (b : Bool) (x y : Move) → x.closes ≡ false → y.closes ≡ false → (if b then x else y).closes ≡ false
-either_quiet b x y h k = grind arith
-
-answered_open : (s : Listener) (a : Answer) → (answered s a).closes ≡ false
-answered_open s a = grind arith
 
 -- a call leaves the transport connection open, and so do its own events
 pub call_open : (s : Listener) (c : Call) → (react s (called c)).closes ≡ false
 unfolding react
-call_open s c = answered_open s (allowed s.state c)
+call_open s c = grind arith
 
 pub fault_open : (s : State) (fault : SpduFault) → (respond_fault s fault).closes ≡ false
 unfolding respond_fault
-fault_open s fault = either_open (is_over s.phase) _ _ refl refl
+fault_open s fault = grind arith
 
 -- a TSDU that closes it is the last
 pub input_ends : (s : Listener) (input : Input) → (react s input).closes ≡ true → is_ended (react s input).next.state.phase ≡ true
 unfolding react
-input_ends s input h0 = grind (arith, answered_open, words_end, fault_open, either_quiet)
+input_ends s input h0 = grind (arith, all_end, acting_words, fault_open)
 
 -- and so over whole messages
 pub whole_ends : (s : whole.Standing) (input : whole.Input) → (whole.react s input).closes ≡ true →

@@ -1,15 +1,14 @@
 -- What leads to a phase in which tokens may be held.
-use Rattle.std.proofs.Common.{inl, inr, ◌≡◌, refl, sym, subst, Bool, true, false, ◌||◌, List, [], ◌∷◌, if◌then◌else◌, arith}
+use Rattle.std.proofs.Common.{inl, inr, ◌≡◌, Bool, true, false, ◌||◌, List, [], ◌∷◌, arith}
 use Rattle.osi_session.proofs.Vocabulary.{list_any, cases_Bool, or_left, or_right, Phase, State, may_hold, Call, Meaning, Word, Words}
-use Rattle.osi_session.proofs.Vocabulary.{as_message, Step, may_call, after, is_expected, becomes, respond_unit, is_faulty, Taker, Hearing}
-use Rattle.osi_session.proofs.Vocabulary.{word_verdict, respond_word, respond_words, acting_words, Input, called, taken, unread, opened}
-use Rattle.osi_session.proofs.Vocabulary.{refused, broken, Listener, taker_of, after_input, after_inputs, some_word, call_opens, unit_opens}
-use Rattle.osi_session.proofs.Vocabulary.{opens_connection}
+use Rattle.osi_session.proofs.Vocabulary.{as_message, respond_unit, Taker, respond_word, respond_words, acting_words, Input, called, taken}
+use Rattle.osi_session.proofs.Vocabulary.{unread, opened, refused, broken, Listener, taker_of, after_input, after_inputs, some_word}
+use Rattle.osi_session.proofs.Vocabulary.{call_opens, unit_opens, opens_connection}
 use Rattle.osi_session.proofs.tables.what_an_accepted_call_has_passed.{passed}
 use Rattle.osi_session.proofs.tables.what_is_true_of_each_phase.{implied}
 use Rattle.osi_session.proofs.tables.the_outcomes_of_each_input.{call_cases, unit_cases, taken_cases, fault_cases, opened_cases}
 use Rattle.osi_session.proofs.tables.the_outcomes_of_each_input.{refused_cases, broken_cases}
-use Rattle.osi_session.proofs.tables.a_word_acts_as_its_message.{acts_alike, word_keeps}
+use Rattle.osi_session.proofs.tables.a_word_acts_as_its_message.{word_keeps}
 
 -- if tokens may be held after but not before, this is the cause
 abbrev OpenedBy : Bool → Phase → Phase → Type 0
@@ -18,32 +17,12 @@ OpenedBy cause p q = may_hold p ≡ false → may_hold q ≡ true → cause ≡ 
 same : (cause : Bool) (p : Phase) → OpenedBy cause p p
 same cause p h k = absurd (cc)
 
--- the phase before is one in which tokens may be held
-open_before : (cause : Bool) (p q : Phase) → may_hold p ≡ true → OpenedBy cause p q
-open_before cause p q m h k = absurd (cc)
-
-chosen : (cause b : Bool) (p : Phase) (x y : State) → OpenedBy cause p x.phase → OpenedBy cause p y.phase →
-    OpenedBy cause p (if b then x else y).phase
-chosen cause b p x y h k = grind arith
-
-after_opens : (s : State) (c : Call) → may_call s.phase c ≡ true → OpenedBy (call_opens c) s.phase (after s c).phase
-after_opens s c p = grind (arith, open_before, implied, same)
-
 call_opened : (s : Listener) (c : Call) → OpenedBy (call_opens c) s.state.phase (after_input s (called c)).state.phase
 call_opened s c = call_cases (λ next. OpenedBy (call_opens c) s.state.phase next.phase) s c (same _ s.state.phase)
-    (λ x e. let q = passed s.state c x e in subst (λ (y : Step). OpenedBy (call_opens c) s.state.phase y.next.phase) (sym q.gives)
-    (after_opens s.state c q.phase))
-
-becomes_opens : (s : State) (u : Meaning) → is_expected s.phase u ≡ true → OpenedBy (unit_opens u) s.phase (becomes s u).phase
-becomes_opens s u p = search (arith, chosen, open_before, implied, same)
+    (λ x e. let q = passed s.state c x e in grind (arith, implied, same))
 
 unit_opened : (s : State) (u : Meaning) → OpenedBy (unit_opens u) s.phase (respond_unit s u).next.phase
-unit_opened s u = unit_cases (λ next. OpenedBy (unit_opens u) s.phase next.phase) s u (record {
-  same = same _ s.phase;
-  ended = λ a h k. absurd (cc);
-  bad = λ a e h k. absurd (cc);
-  good = λ a e p m. becomes_opens s u p;
-})
+unit_opened s u = unit_cases (λ next. OpenedBy (unit_opens u) s.phase next.phase) s u (grind (arith, same))
 
 -- two units, one after the other
 both_opened : (a b : Bool) (p mid q : Phase) → OpenedBy a p mid → OpenedBy b mid q → OpenedBy (a || b) p q
@@ -54,13 +33,8 @@ weaker a b p q f h k = or_left a b (f h k)
 
 word_opened : (t : Taker) (w : Word) → OpenedBy (unit_opens (as_message w)) t.state.phase (respond_word t w).next.state.phase
 word_opened t w = word_keeps (λ next. OpenedBy (unit_opens (as_message w)) t.state.phase next.phase) t w
-    (λ u a. subst (λ cause. OpenedBy cause t.state.phase (respond_unit t.state u).next.phase) (acts_alike unit_opens (λ a b. refl) w u a)
-    (unit_opened t.state u))
+    (grind (arith, respond_unit, unit_opened))
     (λ o h k. absurd (cc)) (same _ t.state.phase)
-
-either_opened : (cause b : Bool) (p : Phase) (x y : Hearing) → OpenedBy cause p x.next.state.phase → OpenedBy cause p y.next.state.phase →
-    OpenedBy cause p (if b then x else y).next.state.phase
-either_opened cause b p x y h k = grind arith
 
 abbrev word_opens : Word → Bool
 word_opens w = unit_opens (as_message w)
@@ -73,7 +47,7 @@ all_opened t (w ∷ ws) =
     let one = weaker (word_opens w) (list_any word_opens ws) t.state.phase next.state.phase (word_opened t w) in
     let both = both_opened (word_opens w) (list_any word_opens ws) t.state.phase next.state.phase
     (respond_words next ws).next.state.phase (word_opened t w) (all_opened next ws) in
-    either_opened (word_opens w || list_any word_opens ws) (is_faulty (word_verdict t w)) t.state.phase _ _ one both
+    grind arith
 
 pub input_opened : (s : Listener) (input : Input) → may_hold s.state.phase ≡ false → may_hold (after_input s input).state.phase ≡ true →
     opens_connection input ≡ true

@@ -1,18 +1,17 @@
 -- What raises V(A), and that only a restart lowers it.
-use Rattle.std.proofs.Common.{◌≡◌, refl, sym, ◌∙◌, subst, ℕ, ◌+◌, ◌≤◌, Bool, true, false, not, ◌&&◌, ◌||◌, nat_le, nat_lt, List, [], ◌∷◌}
-use Rattle.std.proofs.Common.{Ok, Option, if◌then◌else◌, arith}
+use Rattle.std.proofs.Common.{◌≡◌, ◌∙◌, ℕ, ◌+◌, ◌≤◌, Bool, true, false, ◌||◌, List, [], ◌∷◌, Ok, Option, arith}
 use Rattle.osi_spdu.specs.declared.fields.ResyncType.{ResyncType}
 use Rattle.osi_session.proofs.Vocabulary.{AllByRecursion, list_any, leb-true, and_parts, UnitFault, TokenSetting, State, Numbers}
-use Rattle.osi_session.proofs.Vocabulary.{point_sent, point_taken, minor_confirmed, major_confirmed, is_wait_cn, IsSound, AreOrdered, Call}
-use Rattle.osi_session.proofs.Vocabulary.{Accept, Minor, MinorConfirm, Major, MajorConfirm, Restart, Meaning, CN, AC, MIP, MIA, MAP, MAA}
-use Rattle.osi_session.proofs.Vocabulary.{RS, IsNumberedWord, Word, Words, as_message, MinorConfirmed, BadUnit, Step, needs, after, allowed}
-use Rattle.osi_session.proofs.Vocabulary.{AllHold, Outcome, si, conditions, first_fault, stands, becomes, bad, judged, take_expected}
-use Rattle.osi_session.proofs.Vocabulary.{respond_unit, is_faulty, AllMet, Taker, Hearing, word_verdict, respond_word, respond_words}
-use Rattle.osi_session.proofs.Vocabulary.{acting_words, Input, called, taken, unread, opened, refused, broken, Listener, taker_of}
-use Rattle.osi_session.proofs.Vocabulary.{after_input, after_inputs, HasNumbersInWords, call_renews, unit_renews, renews}
+use Rattle.osi_session.proofs.Vocabulary.{point_sent, point_taken, minor_confirmed, major_confirmed, IsSound, AreOrdered, Call, Accept}
+use Rattle.osi_session.proofs.Vocabulary.{Minor, MinorConfirm, Major, MajorConfirm, Restart, Meaning, CN, AC, MIP, MIA, MAP, MAA, RS}
+use Rattle.osi_session.proofs.Vocabulary.{IsNumberedWord, Word, Words, as_message, MinorConfirmed, Step, needs, after, allowed, AllHold}
+use Rattle.osi_session.proofs.Vocabulary.{Outcome, si, conditions, first_fault, stands, becomes, judged, take_expected, respond_unit}
+use Rattle.osi_session.proofs.Vocabulary.{AllMet, Taker, respond_word, respond_words, acting_words, Input, called, taken, unread, opened}
+use Rattle.osi_session.proofs.Vocabulary.{refused, broken, Listener, taker_of, after_input, after_inputs, HasNumbersInWords, call_renews}
+use Rattle.osi_session.proofs.Vocabulary.{unit_renews, renews}
 use Rattle.osi_session.proofs.tables.what_an_accepted_call_has_passed.{passed}
 use Rattle.osi_session.proofs.tsdu.what_the_words_of_a_tsdu_preserve.{word_sound}
-use Rattle.osi_session.proofs.tables.a_word_acts_as_its_message.{acts_alike, word_keeps, all_acting}
+use Rattle.osi_session.proofs.tables.a_word_acts_as_its_message.{word_keeps, all_acting}
 use Rattle.osi_session.proofs.tables.the_outcomes_of_each_input.{call_cases, unit_cases, taken_cases, fault_cases, opened_cases}
 use Rattle.osi_session.proofs.tables.the_outcomes_of_each_input.{refused_cases, broken_cases}
 use Rattle.osi_session.proofs.runs.what_every_run_preserves.{input_sound}
@@ -28,20 +27,9 @@ call_confirms s n octets x h = grind (arith, passed, and_parts, leb-true)
 abbrev Confirms : ℕ → List ℕ → Outcome → Type 0
 Confirms n octets o = o.shown ≡ MinorConfirmed n octets ∷ [] → o.next.numbers.confirmed ≡ n + 1
 
-either : (n : ℕ) (octets : List ℕ) (b : Bool) (x y : Outcome) → Confirms n octets x → Confirms n octets y →
-    Confirms n octets (if b then x else y)
-either n octets b x y h k = grind arith
-
-not_shown : (b : Bool) (n : ℕ) (octets : List ℕ) (fault : UnitFault) → (if b then [] else BadUnit fault ∷ []) ≡ MinorConfirmed n octets ∷
-    [] → ⊥
-not_shown b n octets fault h = grind arith
-
-bad_confirms : (s : State) (n : ℕ) (octets : List ℕ) (fault : UnitFault) → Confirms n octets (bad s fault)
-bad_confirms s n octets fault h = absurd (not_shown (is_wait_cn s.phase) n octets fault h)
-
 judged_confirms : (s : State) (n : ℕ) (octets : List ℕ) (f : Option UnitFault) → Confirms n octets (judged s (MIA n octets) f)
 unfolding minor_confirmed
-judged_confirms s n octets f h = grind (arith, bad_confirms)
+judged_confirms s n octets f h = grind arith
 
 expected_confirms : (s : State) (n : ℕ) (octets : List ℕ) → Confirms n octets (take_expected s (MIA n octets))
 unfolding take_expected
@@ -50,7 +38,7 @@ expected_confirms s n octets = judged_confirms s n octets (first_fault (si (MIA 
 pub unit_confirms : (s : State) (n : ℕ) (octets : List ℕ) → (respond_unit s (MIA n octets)).shown ≡ MinorConfirmed n octets ∷ []
     → (respond_unit s (MIA n octets)).next.numbers.confirmed ≡ n + 1
 unfolding respond_unit
-unit_confirms s n octets = grind (arith, either, bad_confirms, expected_confirms)
+unit_confirms s n octets = grind (arith, expected_confirms)
 
 -- ---- V(A) does not fall
 
@@ -60,16 +48,13 @@ Rises v w = v.confirmed ≤ w.confirmed
 same : (v : Numbers) → Rises v v
 same v = omega arith
 
-chosen_from : (b : Bool) (low x y : ℕ) → low ≤ x → low ≤ y → low ≤ (if b then x else y)
-chosen_from b low x y h k = grind arith
-
 sent_rises : (base : ℕ) (v : Numbers) → AreOrdered base v → Rises v (point_sent v)
 unfolding point_sent
-sent_rises base v h = chosen_from v.answers v.confirmed v.next v.confirmed h.confirmed_to (omega arith)
+sent_rises base v h = grind arith
 
 taken_rises : (base : ℕ) (v : Numbers) → AreOrdered base v → Rises v (point_taken v)
 unfolding point_taken
-taken_rises base v h = chosen_from v.answers v.confirmed v.confirmed v.next (omega arith) h.confirmed_to
+taken_rises base v h = grind arith
 
 minor_rises : (n : ℕ) (v : Numbers) → v.confirmed ≤ n → Rises v (minor_confirmed n v)
 unfolding minor_confirmed
@@ -82,39 +67,25 @@ major_rises base v h = h.confirmed_to
 after_rises : (s : State) (c : Call) → call_renews c ≡ false → AllHold (needs s c) → IsSound s → Rises s.numbers (after s c).numbers
 after_rises s (Accept requirements serial sides sizes octets) r t h = absurd (cc)
 after_rises s (Minor confirm octets) r t h = sent_rises s.base s.numbers h.ordered
-after_rises s (MinorConfirm n octets) r t h =
-    let a = and_parts s.numbers.answers (nat_le s.numbers.confirmed n && nat_lt n s.numbers.next) t.1.0 in
-    minor_rises n s.numbers (leb-true s.numbers.confirmed n (and_parts (nat_le s.numbers.confirmed n) (nat_lt n s.numbers.next) a.1).0)
+after_rises s (MinorConfirm n octets) r t h = grind (arith, and_parts, minor_rises, leb-true)
 after_rises s (Major octets) r t h = sent_rises s.base s.numbers h.ordered
 after_rises s (MajorConfirm octets) r t h = major_rises s.base s.numbers h.ordered
 after_rises s (Restart n wishes octets) r t h = absurd (cc)
 after_rises s _ r t h = same s.numbers
 
-chosen : (v : Numbers) (b : Bool) (x y : State) → Rises v x.numbers → Rises v y.numbers → Rises v (if b then x else y).numbers
-chosen v b x y h k = grind arith
-
-acknowledged : (s : State) (n : ℕ) (b : Bool) → (not s.numbers.answers && (nat_le s.numbers.confirmed n && b)) ≡ true →
-    s.numbers.confirmed ≤ n
-acknowledged s n b h = grind (arith, leb-true, and_parts)
-
 becomes_rises : (s : State) (u : Meaning) → unit_renews u ≡ false → AllMet (conditions s u) → IsSound s →
     Rises s.numbers (becomes s u).numbers
-becomes_rises s (CN version_2 requirements serial wishes from to sizes octets) r t h = grind (arith, chosen, same)
+becomes_rises s (CN version_2 requirements serial wishes from to sizes octets) r t h = grind (arith, same)
 becomes_rises s (AC version_2 requirements serial sides sizes octets) r t h = absurd (cc)
 becomes_rises s (MIP confirm n octets) r t h = taken_rises s.base s.numbers h.ordered
-becomes_rises s (MIA n octets) r t h = minor_rises n s.numbers (acknowledged s n _ t.1.0)
+becomes_rises s (MIA n octets) r t h = minor_rises n s.numbers (grind (arith, leb-true, and_parts))
 becomes_rises s (MAP n octets) r t h = taken_rises s.base s.numbers h.ordered
 becomes_rises s (MAA n octets) r t h = major_rises s.base s.numbers h.ordered
 becomes_rises s (RS kind n wishes octets) r t h = absurd (cc)
 becomes_rises s _ r t h = same s.numbers
 
 unit_rises : (s : State) (u : Meaning) → unit_renews u ≡ false → IsSound s → Rises s.numbers (respond_unit s u).next.numbers
-unit_rises s u r h = unit_cases (λ next. Rises s.numbers next.numbers) s u (record {
-  same = same s.numbers;
-  ended = λ a. same s.numbers;
-  bad = λ a e. same s.numbers;
-  good = λ a e p m. becomes_rises s u r m h;
-})
+unit_rises s u r h = unit_cases (λ next. Rises s.numbers next.numbers) s u (grind (arith, same, becomes_rises))
 
 or_parts : (a b : Bool) → (a || b) ≡ false → (a ≡ false) × (b ≡ false)
 or_parts a b h = grind arith
@@ -122,11 +93,7 @@ or_parts a b h = grind arith
 word_rises : (t : Taker) (w : Word) → unit_renews (as_message w) ≡ false → IsSound t.state →
     Rises t.state.numbers (respond_word t w).next.state.numbers
 word_rises t w r h = word_keeps (λ next. Rises t.state.numbers next.numbers) t w
-    (λ u a. unit_rises t.state u (acts_alike unit_renews (λ a b. refl) w u a ∙ r) h) (λ o. same t.state.numbers) (same t.state.numbers)
-
-either_rises : (v : Numbers) (b : Bool) (x y : Hearing) → Rises v x.next.state.numbers → Rises v y.next.state.numbers →
-    Rises v (if b then x else y).next.state.numbers
-either_rises v b x y h k = grind arith
+    (λ u a. unit_rises t.state u ((grind arith) ∙ r) h) (λ o. same t.state.numbers) (same t.state.numbers)
 
 all_rises : (t : Taker) (ws : Words) → list_any (λ w. unit_renews (as_message w)) ws ≡ false → AllByRecursion IsNumberedWord ws →
     IsSound t.state
@@ -137,13 +104,12 @@ all_rises t (w ∷ ws) r small h =
     let parts = or_parts (unit_renews (as_message w)) (list_any (λ w. unit_renews (as_message w)) ws) r in
     let one = word_rises t w parts.0 h in
     let more = all_rises (respond_word t w).next ws parts.1 small.1 (word_sound t w small.0 h) in
-    either_rises t.state.numbers (is_faulty (word_verdict t w)) _ _ one (omega arith)
+    grind arith
 
 input_rises : (s : Listener) (input : Input) → renews input ≡ false → HasNumbersInWords input → IsSound s.state →
     Rises s.state.numbers (after_input s input).state.numbers
 input_rises s (called c) r small h = call_cases (λ next. Rises s.state.numbers next.numbers) s c (same s.state.numbers)
-    (λ x e. let q = passed s.state c x e in subst (λ (y : Step). Rises s.state.numbers y.next.numbers) (sym q.gives)
-    (after_rises s.state c r q.needed h))
+    (λ x e. let q = passed s.state c x e in grind (arith, after_rises))
 input_rises s (taken words) r small h =
     taken_cases (λ next. Rises s.state.numbers next.numbers) s words
     (all_rises (taker_of s) (acting_words words) r (all_acting IsNumberedWord words small) h)
@@ -164,9 +130,4 @@ never_falls s (input ∷ inputs) small r h =
 
 pub yielded : (s : State) (kind : ResyncType) (n : ℕ) (wishes : TokenSetting) (octets : List ℕ) → stands s n ≡ false
     → (respond_unit s (RS kind n wishes octets)).next.numbers ≡ s.numbers
-yielded s kind n wishes octets h = unit_cases (λ next. next.numbers ≡ s.numbers) s (RS kind n wishes octets) (record {
-  same = refl;
-  ended = λ a. refl;
-  bad = λ a e. refl;
-  good = λ a e p m. rw h refl;
-})
+yielded s kind n wishes octets h = unit_cases (λ next. next.numbers ≡ s.numbers) s (RS kind n wishes octets) (grind (arith, same))

@@ -1,5 +1,5 @@
 -- Each accepted call keeps the invariant of a session.
-use Rattle.std.proofs.Common.{◌≡◌, refl, ℕ, ◌≤◌, ◌<◌, Bool, true, false, Ok, arith, if◌then◌else◌}
+use Rattle.std.proofs.Common.{◌≡◌, refl, ℕ, ◌≤◌, ◌<◌, true, false, Ok, arith}
 use Rattle.osi_session.proofs.Vocabulary.{leb-true, ltb-true, and_parts, TokenSetting, TsduMaximumSize, are_sizes, Phase, Ready, MajorAsked}
 use Rattle.osi_session.proofs.Vocabulary.{Releasing, Restarting, Aborting, Ended, State, Numbers, FunctionalUnits, Tokens, point_sent}
 use Rattle.osi_session.proofs.Vocabulary.{minor_confirmed, restarted_at, in_major, is_restart_due, may_hold, is_ready, is_major_due}
@@ -10,7 +10,7 @@ use Rattle.osi_session.proofs.Vocabulary.{needs, may_call, after, allowed, AllHo
 use Rattle.osi_session.proofs.tables.what_an_accepted_call_has_passed.{passed}
 use Rattle.osi_session.proofs.tables.what_is_true_of_each_phase.{implied, excluded}
 use Rattle.osi_session.proofs.values.what_sizes_are_agreed.{answered_are}
-use Rattle.osi_session.proofs.runs.numbers_stay_in_order.{from_ordered, sent_ordered, minor_ordered, major_ordered, restart_ordered}
+use Rattle.osi_session.proofs.runs.numbers_stay_in_order.{sent_ordered, major_ordered, restart_ordered}
 
 -- a phase in which no token is held, no point is outstanding and no restart is due
 pub bare : (p : Phase) (s : State) → in_major p ≡ false → is_restart_due p ≡ false → IsSound s → IsSound (without_tokens p s)
@@ -30,15 +30,12 @@ moved v s h0 h1 h2 h3 = grind arith
 pub opened : (units : FunctionalUnits) (held : Tokens) (base : ℕ) (sizes : TsduMaximumSize) (s : State) → base ≤ 1000000 →
     are_sizes sizes ≡ true
     → IsSound s → IsSound (opened_with units held base sizes s)
-opened units held base sizes s h0 h1 h2 = grind (arith, from_ordered)
-
-base_small : (b : Bool) (serial : ℕ) → serial < 1000000 → (if b then serial else 0) ≤ 1000000
-base_small b serial h = grind arith
+opened units held base sizes s h0 h1 h2 = grind arith
 
 minor_moved : (s : State) (n : ℕ) → is_confirmable s.numbers n ≡ true → may_confirm_minor s.phase ≡ true → IsSound s
     → IsSound (record s { numbers = minor_confirmed n s.numbers })
 unfolding minor_confirmed
-minor_moved s n c p h = grind (arith, and_parts, leb-true, ltb-true, moved, minor_ordered, excluded)
+minor_moved s n c p h = grind (arith, and_parts, leb-true, ltb-true, moved, excluded)
 
 restart_moved : (s : State) (n : ℕ) (w : TokenSetting) → is_restartable s n ≡ true → IsSound s
     → IsSound (record (without_tokens Restarting s) { wishes = w; numbers = restarted_at n s.numbers })
@@ -46,15 +43,7 @@ restart_moved s n w r h =
     let a = and_parts _ _ r in
     let low = leb-true s.numbers.lowest n a.0 in
     let top = leb-true n last_number (and_parts _ _ a.1).0 in
-    let from = h.ordered.lowest_from in
-    record {
-      ordered = restart_ordered s.base n s.numbers h.ordered (omega arith) (omega arith);
-      first = h.first;
-      major = λ k. absurd (cc);
-      restart = λ k. absurd (cc);
-      tokens = λ k. refl;
-      sizes = h.sizes;
-    }
+    grind (arith, restart_ordered s.base n s.numbers h.ordered (omega arith) (omega arith))
 
 pub major_moved : (s : State) → s.numbers.next < 1000000 → IsSound s
     → IsSound (record s { phase = MajorAsked; numbers = point_sent s.numbers })
@@ -62,20 +51,17 @@ unfolding point_sent
 major_moved s left h = grind (arith, sent_ordered)
 
 pub after_sound : (s : State) (c : Call) → HasSerial c → may_call s.phase c ≡ true → AllHold (needs s c) → IsSound s → IsSound (after s c)
-after_sound s (Accept requirements serial sides sizes octets) small p t h = grind (arith, opened, base_small, answered_are)
+after_sound s (Accept requirements serial sides sizes octets) small p t h = grind (arith, opened, answered_are)
 after_sound s (Data octets) small p t h = h
 after_sound s (Give tokens) small p t h = grind (arith, implied)
 after_sound s (Please tokens octets) small p t h = h
 after_sound s (Minor confirm octets) small p t h =
     let left = leb-true s.numbers.next last_number t.1.1.0 in
-    let from = h.ordered.confirmed_from in let to = h.ordered.confirmed_to in
-    moved (point_sent s.numbers) s (sent_ordered s.base s.numbers h.ordered (omega arith))
+    let from = h.ordered.confirmed_from in moved (point_sent s.numbers) s (sent_ordered s.base s.numbers h.ordered (omega arith))
     (λ k. absurd (let m = excluded is_ready in_major refl s.phase p in cc))
     (excluded is_ready is_restart_due refl s.phase p) h
 after_sound s (MinorConfirm n octets) small p t h = minor_moved s n t.1.0 p h
-after_sound s (Major octets) small p t h =
-    let left = leb-true s.numbers.next last_number t.1.1.0 in
-    major_moved s (omega arith) h
+after_sound s (Major octets) small p t h = grind (arith, leb-true, major_moved)
 after_sound s (MajorConfirm octets) small p t h =
     grind (arith, holding_phase, moved, major_ordered s.base s.numbers h.ordered, excluded is_major_due is_restart_due refl s.phase p)
 after_sound s (Restart n wishes octets) small p t h = restart_moved s n _ t.1.0 h
@@ -85,13 +71,9 @@ after_sound s (ReleaseRefuse octets) small p t h = holding_phase Ready s refl re
 after_sound s (Abort octets) small p t h = bare Aborting s refl refl h
 after_sound s _ small p t h = bare Ended s refl refl h
 
--- no call is allowed while the transport connection is awaited, and none goes back to that
-pub after_begun : (s : State) (c : Call) → may_call s.phase c ≡ true → is_wait_transport (after s c).phase ≡ false
-after_begun s c p = grind (arith, excluded)
-
 -- an accepted call keeps what is true at all times
 pub call_sound : (s : State) (c : Call) (x : Step) → HasSerial c → allowed s c ≡ Ok x → IsSound s → IsSound x.next
 call_sound s c x small h sound = grind (arith, after_sound, passed s c x h)
 
 pub call_begun : (s : State) (c : Call) (x : Step) → allowed s c ≡ Ok x → is_wait_transport x.next.phase ≡ false
-call_begun s c x h = grind (arith, passed, after_begun)
+call_begun s c x h = grind (arith, passed)

@@ -1,24 +1,19 @@
 -- The first indication of a side that awaits a CN is a Connect, and only a CN leads to it.
-use Rattle.std.proofs.Common.{◌⊎◌, inl, inr, ◌≡◌, refl, sym, ◌∙◌, subst, ℕ, Bool, true, false, not, List, [], ◌∷◌, ◌++◌, Option, Result, Ok}
-use Rattle.std.proofs.Common.{if◌then◌else◌, arith}
+use Rattle.std.proofs.Common.{◌⊎◌, inl, inr, ◌≡◌, refl, ℕ, Bool, true, false, List, [], ◌∷◌, ◌++◌, Result, Ok, if◌then◌else◌, arith}
 use Rattle.osi_session.proofs.Vocabulary.{list_any, SpduFault, Kind, Zero, Two, category_of, Known, Meaning, CN, AB, meaning_by, said_at}
-use Rattle.osi_session.proofs.Vocabulary.{Word, Words, UnitFault, Unexpected, Spelling, Phase, WaitCn, State, Answer, unit_asks, asks_first}
-use Rattle.osi_session.proofs.Vocabulary.{asks_for_connection, is_taken, is_wait_transport, is_wait_cn, is_aborting, is_ended, is_over}
-use Rattle.osi_session.proofs.Vocabulary.{may_abort, shows_loss, Taker, Hearing, word_verdict, respond_word, respond_words, heard_then}
-use Rattle.osi_session.proofs.Vocabulary.{acting_words, respond_tsdu, Input, called, taken, unread, opened, refused, broken, came, came_as}
-use Rattle.osi_session.proofs.Vocabulary.{Listener, Move, taker_of, answered, react, after_input, Shown, BadUnit, is_connect, shows_connect}
-use Rattle.osi_session.proofs.Vocabulary.{Outcome, si, conditions, first_fault, is_expected, drops, nothing, good, bad, judged}
-use Rattle.osi_session.proofs.Vocabulary.{take_expected, shown_for, in_aborting, in_ended, respond_unit, Verdict, verdict, enacted}
-use Rattle.osi_session.proofs.Vocabulary.{is_faulty, respond_fault}
-use Rattle.osi_session.proofs.tables.units_that_are_alone.{StandsAlone, passes, stands_alone, alone_in_octets}
+use Rattle.osi_session.proofs.Vocabulary.{Word, Words, Phase, WaitCn, State, unit_asks, asks_for_connection, is_taken, is_wait_transport}
+use Rattle.osi_session.proofs.Vocabulary.{is_wait_cn, is_over, may_abort, shows_loss, Taker, Hearing, word_verdict, respond_word}
+use Rattle.osi_session.proofs.Vocabulary.{respond_words, heard_then, acting_words, Input, called, taken, unread, opened, refused, broken}
+use Rattle.osi_session.proofs.Vocabulary.{came, came_as, Listener, taker_of, react, after_input, Shown, shows_connect, Outcome, is_expected}
+use Rattle.osi_session.proofs.Vocabulary.{nothing, good, bad, take_expected, respond_unit, is_faulty, respond_fault}
+use Rattle.osi_session.proofs.tables.units_that_are_alone.{passes, stands_alone, alone_in_octets}
 use Rattle.osi_session.proofs.tsdu.the_answer_to_a_tsdu.{accepted_callable, stays_over}
-use Rattle.osi_session.proofs.moves.what_closes_the_connection.{neither, not_true, acting_none}
+use Rattle.osi_session.proofs.moves.what_closes_the_connection.{neither, acting_none}
 use Rattle.osi_session.proofs.tables.what_is_true_of_each_phase.{excluded}
-use Rattle.osi_session.proofs.tables.the_outcomes_of_each_input.{not_false, call_cases, fault_cases, opened_cases, refused_cases}
-use Rattle.osi_session.proofs.tables.the_outcomes_of_each_input.{broken_cases}
+use Rattle.osi_session.proofs.tables.the_outcomes_of_each_input.{call_cases, fault_cases, opened_cases, refused_cases, broken_cases}
 use Rattle.osi_session.proofs.runs.what_every_run_preserves.{input_over}
 use Rattle.osi_session.proofs.tables.the_verdict_on_a_unit.{enacts}
-use Rattle.osi_session.proofs.tables.a_word_acts_as_its_message.{acts_alike, outcome_in, word_does}
+use Rattle.osi_session.proofs.tables.a_word_acts_as_its_message.{outcome_in, word_does}
 
 -- While a CN is awaited there is no indication. If the user would afterwards be told of a loss, the first indication
 -- is a Connect.
@@ -34,34 +29,14 @@ ends o h0 = grind (arith, excluded)
 
 -- ---- one unit
 
-connects : (b : Bool) (x y : State) (i : Shown) → is_wait_cn x.phase ≡ false → shows_connect (i ∷ []) ≡ true → is_over y.phase ≡ true →
-    (o : Outcome)
-    → o.next ≡ (if b then x else y) → o.shown ≡ (if b then i ∷ [] else []) → Begins o
-connects b x y i h0 h1 h2 o h3 h4 = grind (arith, ends)
-
 good_in : (s : State) (u : Meaning) → is_expected WaitCn u ≡ true → Begins (good s u)
-good_in s (CN version_2 requirements serial wishes from to sizes octets) h = grind (arith, connects)
+good_in s (CN version_2 requirements serial wishes from to sizes octets) h = grind arith
 good_in s (AB bits octets) h = ends (good s (AB bits octets)) refl
 good_in s _ h = absurd (cc)
 
-good_at : (s : State) (u : Meaning) (p : Phase) → s.phase ≡ p → is_wait_cn p ≡ true → is_expected p u ≡ true → Begins (good s u)
-good_at s u p e w h = grind (arith, good_in)
-
-judged_begins : (s : State) (u : Meaning) (f : Option UnitFault) → is_wait_cn s.phase ≡ true → is_expected s.phase u ≡ true →
-    Begins (judged s u f)
-judged_begins s u f w h = grind (arith, good_at, ends)
-
-either : (b : Bool) (x y : Outcome) → (b ≡ true → Begins x) → (b ≡ false → Begins y) → Begins (if b then x else y)
-either b x y h k = grind arith
-
 unit_begins : (s : State) (u : Meaning) → is_wait_cn s.phase ≡ true → Begins (respond_unit s u)
 unfolding respond_unit take_expected
-unit_begins s u w =
-    either (is_aborting s.phase) _ _ (λ a. absurd (let e = excluded is_wait_cn is_aborting refl s.phase w in cc)) (λ a.
-    either (is_ended s.phase) _ _ (λ e. absurd (let k = excluded is_wait_cn is_ended refl s.phase w in cc)) (λ e.
-    either (drops s u) _ _ (λ d. still s w) (λ d.
-    either (not (is_expected s.phase u)) _ _ (λ x. ends (bad s (Unexpected (si u))) refl)
-    (λ x. judged_begins s u (first_fault (si u) (conditions s u)) w (not_false (is_expected s.phase u) x)))))
+unit_begins s u w = grind (arith, excluded, still, ends, good_in)
 
 word_begins : (t : Taker) (w : Word) → is_wait_cn t.state.phase ≡ true → Begins (outcome_in (respond_word t w))
 word_begins t w h =
@@ -76,9 +51,6 @@ Which p = (is_wait_cn p ≡ true) ⊎ ((is_over p ≡ true) ⊎ (shows_loss p �
 which : (p : Phase) → Which p
 which p = grind arith
 
-first_connect : (shown more : List Shown) → shows_connect shown ≡ true → shows_connect (shown ++ more) ≡ true
-first_connect shown more h = grind arith
-
 abbrev Shows : Hearing → Type 0
 Shows h = shows_loss h.next.state.phase ≡ true → shows_connect h.shown ≡ true
 
@@ -87,7 +59,7 @@ then_shows : (t : Taker) (w : Word) (ws : Words) → Begins (outcome_in (respond
     Shows (heard_then (respond_word t w) (respond_words (respond_word t w).next ws))
 then_shows t w ws one (inl wait) more k = grind arith
 then_shows t w ws one (inr (inl gone)) more k = grind (arith, excluded, stays_over (respond_word t w).next ws gone)
-then_shows t w ws one (inr (inr loss)) more k = grind (arith, first_connect)
+then_shows t w ws one (inr (inr loss)) more k = grind arith
 
 either_shows : (b : Bool) (x y : Hearing) → Shows x → Shows y → Shows (if b then x else y)
 either_shows b x y h k = grind arith
@@ -111,20 +83,17 @@ taken_shows : (l : Listener) (words : Words) → is_wait_cn l.state.phase ≡ tr
 unfolding react
 taken_shows l words w k = words_show (taker_of l) (acting_words words) w k
 
-hidden : (l : Listener) → is_wait_cn l.state.phase ≡ true → Hidden l.state
-hidden l w = excluded is_wait_cn shows_loss refl l.state.phase w
-
 waiting_shows : (l : Listener) (input : Input) → is_wait_cn l.state.phase ≡ true → shows_loss (after_input l input).state.phase ≡ true →
     shows_connect (react l input).shown ≡ true
 waiting_shows l (called c) w k =
-    absurd (let h = call_cases Hidden l c (hidden l w)
+    absurd (let h = call_cases Hidden l c (grind (arith, excluded))
     (λ x e. absurd (let a = accepted_callable l.state c x e in let b = excluded is_wait_cn may_abort refl l.state.phase w in cc)) in cc)
 waiting_shows l (taken words) w k = taken_shows l words w k
-waiting_shows l (unread fault) w k = absurd (let h = fault_cases Hidden l fault (hidden l w) (λ o. refl) in cc)
+waiting_shows l (unread fault) w k = absurd (let h = fault_cases Hidden l fault (grind (arith, excluded)) (λ o. refl) in cc)
 waiting_shows l opened w k =
     absurd (let h = opened_cases Hidden l (λ t. absurd (let e = excluded is_wait_cn is_wait_transport refl l.state.phase w in cc))
-    (hidden l w) in cc)
-waiting_shows l (refused reason) w k = absurd (let h = refused_cases Hidden l reason (λ t. refl) (hidden l w) in cc)
+    (grind (arith, excluded)) in cc)
+waiting_shows l (refused reason) w k = absurd (let h = refused_cases Hidden l reason (λ t. refl) (grind (arith, excluded)) in cc)
 waiting_shows l broken w k = absurd (let h = broken_cases Hidden l refl in cc)
 
 input_shows : (l : Listener) (input : Input) → Which l.state.phase → shows_loss l.state.phase ≡ false →
@@ -143,42 +112,11 @@ shown_first l input h k = input_shows l input (which l.state.phase) h k
 abbrev Hides : List Shown → Type 0
 Hides shown = shows_connect shown ≡ false
 
-either_hides : (b : Bool) (x y : List Shown) → Hides x → Hides y → Hides (if b then x else y)
-either_hides b x y h k = grind arith
-
-either_item : (b : Bool) (x y : Shown) → is_connect x ≡ false → is_connect y ≡ false → is_connect (if b then x else y) ≡ false
-either_item b x y h k = grind arith
-
 both_hide : (x y : List Shown) → Hides x → Hides y → Hides (x ++ y)
 both_hide x y h k = grind arith
 
-bad_hides : (s : State) (fault : UnitFault) → Hides (bad s fault).shown
-bad_hides s fault = either_hides (is_wait_cn s.phase) [] (BadUnit fault ∷ []) refl refl
-
-good_hides : (s : State) (u : Meaning) → unit_asks u ≡ false → Hides (shown_for s u)
-good_hides s u h = grind (arith, either_hides, either_item)
-
-aborting_hides : (s : State) (u : Meaning) → Hides (in_aborting s u).shown
-aborting_hides s u = grind arith
-
-ended_hides : (s : State) (u : Meaning) → Hides (in_ended s u).shown
-ended_hides s u = grind arith
-
-either_outcome : (b : Bool) (x y : Outcome) → Hides x.shown → Hides y.shown → Hides (if b then x else y).shown
-either_outcome b x y h k = grind arith
-
-enacted_hides : (s : State) (u : Meaning) (v : Verdict) → unit_asks u ≡ false → Hides (enacted s u v).shown
-enacted_hides s u v h0 = grind (arith, either_outcome, aborting_hides, ended_hides, bad_hides, good_hides)
-
-unit_hides : (s : State) (u : Meaning) → unit_asks u ≡ false → Hides (respond_unit s u).shown
-unit_hides s u h = subst (λ (o : Outcome). Hides o.shown) (sym (enacts s u)) (enacted_hides s u (verdict s u) h)
-
 word_hides : (t : Taker) (w : Word) → passes unit_asks w ≡ false → Hides (respond_word t w).shown
-word_hides t w h = word_does (λ o. Hides o.shown) t w (record {
-  acts = λ u a. unit_hides t.state u (acts_alike unit_asks (λ a b. refl) w u a ∙ h);
-  bad = λ fault o. bad_hides t.state fault;
-  rests = refl;
-})
+word_hides t w h = word_does (λ o. Hides o.shown) t w (grind (arith, enacts))
 
 either_heard : (b : Bool) (x y : Hearing) → Hides x.shown → Hides y.shown → Hides (if b then x else y).shown
 either_heard b x y h k = grind arith
@@ -191,9 +129,6 @@ words_hide t (w ∷ ws) h =
     let one = word_hides t w q.0 in
     either_heard (is_faulty (word_verdict t w)) _ _ one (both_hide _ _ one (words_hide (respond_word t w).next ws q.1))
 
-tsdu_hides : (t : Taker) (words : Words) → list_any (passes unit_asks) words ≡ false → Hides (respond_tsdu t words).shown
-tsdu_hides t words h = words_hide t (acting_words words) (acting_none (passes unit_asks) words h)
-
 -- a CN is alone
 behind_asks : (k : Kind) (known : Known) (information : List ℕ) → category_of k ≡ Two → unit_asks (meaning_by k known information) ≡ false
 unfolding category_of
@@ -203,29 +138,13 @@ item_asks : (k : Kind) (known : Known) (information : List ℕ) → category_of 
 unfolding category_of
 item_asks k known information h0 = grind arith
 
-asks_alone : StandsAlone unit_asks
-asks_alone = record { item = item_asks; behind = behind_asks; plain = λ octets. refl }
-
-first_asks : (t : Taker) (w : Word) (b : Bool) → passes unit_asks w ≡ b → shows_connect (respond_tsdu t (w ∷ [])).shown ≡ true → b ≡ true
-first_asks t w b e k = grind (arith, tsdu_hides)
-
-tsdu_asks : (t : Taker) (words : Words) → stands_alone unit_asks words ≡ true → shows_connect (respond_tsdu t words).shown ≡ true →
-    asks_first words ≡ true
-tsdu_asks t words h0 h1 = grind (arith, tsdu_hides, first_asks, passes, not_true)
-
-either_move : (b : Bool) (x y : Move) → Hides x.shown → Hides y.shown → Hides (if b then x else y).shown
-either_move b x y h k = grind arith
-
-answered_hides : (l : Listener) (a : Answer) → Hides (answered l a).shown
-answered_hides l a = grind arith
-
 fault_hides : (l : Listener) (fault : SpduFault) → Hides (react l (unread fault)).shown
 unfolding react respond_fault
-fault_hides l fault = either_outcome (is_over l.state.phase) _ _ refl (bad_hides l.state (Spelling fault))
+fault_hides l fault = grind arith
 
 taken_only : (l : Listener) (input : Input) (b : Bool) → is_taken input ≡ b → shows_connect (react l input).shown ≡ true → b ≡ true
 unfolding react
-taken_only l input b h0 h1 = grind (arith, answered_hides, fault_hides, either_move, either_hides)
+taken_only l input b h0 h1 = grind (arith, fault_hides)
 
 pub only_taken : (l : Listener) (input : Input) → shows_connect (react l input).shown ≡ true → is_taken input ≡ true
 only_taken l input k = taken_only l input (is_taken input) refl k
@@ -233,8 +152,8 @@ only_taken l input k = taken_only l input (is_taken input) refl k
 came_asks : (l : Listener) (read : Result Words SpduFault) → ((words : Words) → read ≡ Ok words → stands_alone unit_asks words ≡ true)
     → shows_connect (react l (came_as read)).shown ≡ true → asks_for_connection (came_as read) ≡ true
 unfolding react
-came_asks l read h k = grind (arith, tsdu_asks, fault_hides)
+came_asks l read h k = grind (arith, words_hide, acting_words, acting_none, passes, fault_hides)
 
 pub octets_ask : (l : Listener) (octets : List ℕ) → shows_connect (react l (came octets)).shown ≡ true →
     asks_for_connection (came octets) ≡ true
-octets_ask l octets k = came_asks l (said_at octets) (alone_in_octets unit_asks asks_alone octets) k
+octets_ask l octets k = came_asks l (said_at octets) (alone_in_octets unit_asks (grind (arith, item_asks, behind_asks)) octets) k

@@ -1,15 +1,14 @@
 -- Each unit keeps the invariant of a session.
-use Rattle.std.proofs.Common.{◌≡◌, refl, ℕ, ◌+◌, ◌≤◌, ◌<◌, Bool, true, false, not, ◌&&◌, ◌==◌, nat_lt, List, [], ◌∷◌, Option, Some, None}
-use Rattle.std.proofs.Common.{unwrap_or, arith, if◌then◌else◌}
-use Rattle.osi_session.proofs.Vocabulary.{leb-true, ltb-true, and_parts, TokenSetting, Ready, MajorDue, ReleaseDue, RestartDue, Aborting}
-use Rattle.osi_session.proofs.Vocabulary.{Ended, UnitFault, State, point_taken, minor_confirmed, restarted_at, in_major, is_restart_due}
-use Rattle.osi_session.proofs.Vocabulary.{may_hold, is_ready, is_wait_cn, is_major_asked, is_aborting, is_ended, takes_minor_ack}
-use Rattle.osi_session.proofs.Vocabulary.{without_tokens, IsSound, Meaning, CN, AC, DT, GT, PT, MIP, MIA, MAP, MAA, RS, RA, FN, NF, AA}
-use Rattle.osi_session.proofs.Vocabulary.{IsSmall, IsNumbered, Outcome, Condition, conditions, first_fault, is_expected, is_acknowledgeable}
-use Rattle.osi_session.proofs.Vocabulary.{stands, becomes, judged, take_expected, in_aborting, in_ended, drops, respond_unit, AllMet}
+use Rattle.std.proofs.Common.{◌≡◌, refl, ℕ, ◌≤◌, ◌<◌, Bool, true, false, not, List, [], ◌∷◌, Option, Some, None, arith, if◌then◌else◌}
+use Rattle.osi_session.proofs.Vocabulary.{leb-true, and_parts, TokenSetting, Ready, MajorDue, ReleaseDue, RestartDue, Aborting, Ended}
+use Rattle.osi_session.proofs.Vocabulary.{UnitFault, State, point_taken, minor_confirmed, restarted_at, in_major, is_restart_due, may_hold}
+use Rattle.osi_session.proofs.Vocabulary.{is_ready, is_wait_cn, is_major_asked, is_aborting, is_ended, takes_minor_ack, without_tokens}
+use Rattle.osi_session.proofs.Vocabulary.{IsSound, Meaning, CN, AC, DT, GT, PT, MIP, MIA, MAP, MAA, RS, RA, FN, NF, AA, IsNumbered, Outcome}
+use Rattle.osi_session.proofs.Vocabulary.{Condition, conditions, first_fault, is_expected, is_acknowledgeable, stands, becomes, judged}
+use Rattle.osi_session.proofs.Vocabulary.{take_expected, in_aborting, in_ended, drops, respond_unit, AllMet}
 use Rattle.osi_session.proofs.tables.what_is_true_of_each_phase.{implied, excluded}
 use Rattle.osi_session.proofs.values.what_sizes_are_agreed.{smaller_are}
-use Rattle.osi_session.proofs.runs.numbers_stay_in_order.{taken_ordered, minor_ordered, major_ordered, restart_ordered}
+use Rattle.osi_session.proofs.runs.numbers_stay_in_order.{taken_ordered, major_ordered, restart_ordered}
 use Rattle.osi_session.proofs.runs.calls_keep_the_invariant.{bare, holding_phase, moved, opened}
 
 none_if : (b : Bool) (a : Option UnitFault) (f : UnitFault) → (if b then a else Some f) ≡ None → (b ≡ true) × (a ≡ None)
@@ -25,23 +24,10 @@ chosen b x y h k = grind arith
 chosen_if : (b : Bool) (x y : State) → (b ≡ true → IsSound x) → IsSound y → IsSound (if b then x else y)
 chosen_if b x y h k = grind arith
 
-third : (a b c : Bool) → (a && (b && c)) ≡ true → c ≡ true
-third a b c h = (and_parts b c (and_parts a (b && c) h).1).1
-
-pub base_small : (b : Bool) (serial : Option ℕ) (proposed : ℕ) → IsSmall serial → proposed < 1000000 →
-    (if b then unwrap_or serial proposed else 0) ≤ 1000000
-base_small b serial proposed h0 h1 = grind arith
-
-pub first_small : (serial : Option ℕ) → IsSmall serial → unwrap_or serial 0 < 1000000
-first_small serial h = grind arith
-
-below : (b : Bool) (n next : ℕ) → (if b then nat_lt (n + 1) next else nat_lt n next) ≡ true → n < next
-below b n next h = grind (arith, ltb-true)
-
 minor_moved : (s : State) (n : ℕ) → is_acknowledgeable s n ≡ true → takes_minor_ack s.phase ≡ true → IsSound s
     → IsSound (record s { numbers = minor_confirmed n s.numbers })
 unfolding minor_confirmed
-minor_moved s n c p h = grind (arith, and_parts, leb-true, below, moved, minor_ordered, excluded)
+minor_moved s n c p h = grind (arith, and_parts, leb-true, moved, excluded)
 
 restart_moved : (s : State) (n : ℕ) (w : TokenSetting) → s.base ≤ n → n ≤ 999999 → IsSound s
     → IsSound (record (without_tokens RestartDue s) { wishes = w; numbers = restarted_at n s.numbers })
@@ -53,24 +39,21 @@ major_moved : (s : State) → s.numbers.next < 1000000 → IsSound s
 unfolding point_taken
 major_moved s left h = grind (arith, taken_ordered)
 
-same_small : (n next : ℕ) → (n == next) ≡ true → n ≤ 999999 → next < 1000000
-same_small n next e h = grind arith
-
 -- the state after a good unit
 pub becomes_sound : (s : State) (u : Meaning) → IsNumbered u → is_expected s.phase u ≡ true → AllMet (conditions s u) → IsSound s →
     IsSound (becomes s u)
 becomes_sound s (CN version_2 requirements serial wishes from to sizes octets) small p t h =
-    grind (arith, chosen_if, third, first_small serial small, excluded is_wait_cn may_hold refl s.phase p, bare Ended s refl refl h)
-becomes_sound s (AC version_2 requirements serial sides sizes octets) small p t h = grind (arith, opened, base_small, smaller_are, third)
+    search (arith, chosen_if, excluded is_wait_cn may_hold refl s.phase p, bare Ended s refl refl h)
+becomes_sound s (AC version_2 requirements serial sides sizes octets) small p t h = search (arith, opened, smaller_are)
 becomes_sound s (DT octets) small p t h = h
 becomes_sound s (GT tokens) small p t h = grind (arith, implied)
 becomes_sound s (PT tokens octets) small p t h = h
 becomes_sound s (MIP confirm n octets) small p t h =
-    moved (point_taken s.numbers) s (taken_ordered s.base s.numbers h.ordered (same_small n s.numbers.next t.1.1.0 small))
+    moved (point_taken s.numbers) s (taken_ordered s.base s.numbers h.ordered (grind arith))
     (λ k. absurd (let m = excluded is_ready in_major refl s.phase p in cc))
     (excluded is_ready is_restart_due refl s.phase p) h
 becomes_sound s (MIA n octets) small p t h = minor_moved s n t.1.0 p h
-becomes_sound s (MAP n octets) small p t h = major_moved s (same_small n s.numbers.next t.1.1.0 small) h
+becomes_sound s (MAP n octets) small p t h = major_moved s (grind arith) h
 becomes_sound s (MAA n octets) small p t h =
     grind (arith, holding_phase, moved, major_ordered s.base s.numbers h.ordered, excluded is_major_asked is_restart_due refl s.phase p)
 becomes_sound s (RS kind n wishes octets) small p t h =
@@ -99,14 +82,10 @@ ended_sound s u h = grind arith
 either : (b : Bool) (x y : Outcome) → (b ≡ true → IsSound x.next) → (b ≡ false → IsSound y.next) → IsSound (if b then x else y).next
 either b x y h k = grind arith
 
-not_false : (b : Bool) → not b ≡ false → b ≡ true
-not_false b h = grind arith
-
 pub unit_sound : (s : State) (u : Meaning) → IsNumbered u → IsSound s → IsSound (respond_unit s u).next
 unfolding respond_unit
 unit_sound s u small h =
     either (is_aborting s.phase) _ _ (λ k. aborting_sound s u h) (λ k.
     either (is_ended s.phase) _ _ (λ l. ended_sound s u h) (λ l.
     either (drops s u) _ _ (λ m. h) (λ m.
-    either (not (is_expected s.phase u)) _ _ (λ n. bare Aborting s refl refl h) (λ n.
-    expected_sound s u small (not_false (is_expected s.phase u) n) h))))
+    either (not (is_expected s.phase u)) _ _ (λ n. bare Aborting s refl refl h) (grind (arith, expected_sound)))))

@@ -1,12 +1,11 @@
 -- What every run of a session preserves.
-use Rattle.std.proofs.Common.{◌≡◌, refl, true, false, ◌||◌, List, [], ◌∷◌, map, Err, arith}
+use Rattle.std.proofs.Common.{◌≡◌, refl, true, List, [], ◌∷◌, map, Err, arith}
 use Rattle.osi_session.specs.declared.faults.CallError.TheVariants as error
-use Rattle.osi_session.proofs.Vocabulary.{AllByRecursion, Phase, Connecting, Aborting, Ended, State, is_wait_transport, is_aborting}
-use Rattle.osi_session.proofs.Vocabulary.{is_ended, is_over, IsSound, Call, Meaning, allowed, respond_unit, Opening, awaiting, asking}
-use Rattle.osi_session.proofs.Vocabulary.{Input, called, taken, unread, opened, refused, broken, Listener, taker_of, react, after_input}
-use Rattle.osi_session.proofs.Vocabulary.{after_inputs, HasNumbers, HasNumbersInWords, IsFresh, in_words, Taker, respond_word, respond_tsdu}
-use Rattle.osi_session.proofs.Vocabulary.{Said, AreNumbered, AreNumberedWords, Word, Words, says}
-use Rattle.osi_session.proofs.runs.the_invariant_in_memory.{first_small}
+use Rattle.osi_session.proofs.Vocabulary.{AllByRecursion, Phase, Connecting, Aborting, Ended, State, is_wait_transport, is_ended, is_over}
+use Rattle.osi_session.proofs.Vocabulary.{IsSound, Call, Meaning, allowed, respond_unit, Opening, awaiting, asking, Input, called, taken}
+use Rattle.osi_session.proofs.Vocabulary.{unread, opened, refused, broken, Listener, taker_of, react, after_input, after_inputs, HasNumbers}
+use Rattle.osi_session.proofs.Vocabulary.{HasNumbersInWords, IsFresh, in_words, Taker, respond_word, respond_tsdu, Said, AreNumbered}
+use Rattle.osi_session.proofs.Vocabulary.{AreNumberedWords, Word, Words, says}
 use Rattle.osi_session.specs.Moves as whole
 use Rattle.osi_session.proofs.runs.no_unit_goes_back_to_awaiting.{Begins}
 use Rattle.osi_session.proofs.tables.a_word_acts_as_its_message.{word_keeps, any_tsdu_keeps}
@@ -17,7 +16,6 @@ use Rattle.osi_session.proofs.tables.the_outcomes_of_each_input.{call_cases, uni
 use Rattle.osi_session.proofs.tables.the_outcomes_of_each_input.{refused_cases, broken_cases}
 use Rattle.osi_session.proofs.runs.calls_keep_the_invariant.{bare, call_sound, call_begun}
 use Rattle.osi_session.proofs.values.what_sizes_are_agreed.{user_sizes}
-use Rattle.osi_session.proofs.runs.numbers_stay_in_order.{from_ordered}
 
 -- ---- what is true at all times
 
@@ -59,29 +57,18 @@ pub awaiting_fresh : IsFresh awaiting
 awaiting_fresh = record { phase = refl; held = refl; base = refl; numbers = refl; first = omega arith; sizes = refl }
 
 pub asking_fresh : (o : Opening) → IsFresh (asking o)
-asking_fresh o = grind (arith, first_small, user_sizes)
+asking_fresh o = grind (arith, user_sizes)
 
 pub fresh_sound : (s : State) → IsFresh s → IsSound s
-fresh_sound s h = grind (arith, excluded, from_ordered)
+fresh_sound s h = grind (arith, excluded)
 
 -- ---- what is over stays over
 
 pub unit_over : (s : State) (u : Meaning) → is_over s.phase ≡ true → is_over (respond_unit s u).next.phase ≡ true
-unit_over s u h = unit_cases (λ next. is_over next.phase ≡ true) s u (record {
-  same = h;
-  ended = λ a. refl;
-  bad = λ a e. refl;
-  good = λ a e. absurd (let w = implied is_over (λ p. is_aborting p || is_ended p) refl s.phase h in
-      (let f : (is_aborting s.phase || is_ended s.phase) ≡ false = rw (a, e) refl in cc));
-})
+unit_over s u h = unit_cases (λ next. is_over next.phase ≡ true) s u (grind (arith, implied))
 
 pub unit_ended : (s : State) (u : Meaning) → is_ended s.phase ≡ true → is_ended (respond_unit s u).next.phase ≡ true
-unit_ended s u h = unit_cases (λ next. is_ended next.phase ≡ true) s u (record {
-  same = h;
-  ended = λ a. refl;
-  bad = λ a e. absurd (cc);
-  good = λ a e. absurd (cc);
-})
+unit_ended s u h = unit_cases (λ next. is_ended next.phase ≡ true) s u (grind arith)
 
 over_refused : (s : State) (c : Call) → is_over s.phase ≡ true → allowed s c ≡ Err error.Ended
 unfolding allowed
@@ -102,15 +89,12 @@ word_over t w h = word_keeps IsOver t w (λ u a. unit_over t.state u h) (λ o. r
 pub word_ended : (t : Taker) (w : Word) → is_ended t.state.phase ≡ true → is_ended (respond_word t w).next.state.phase ≡ true
 word_ended t w h = word_keeps HasEnded t w (λ u a. unit_ended t.state u h) (λ o. absurd (let e = ended_over t.state.phase h in cc)) h
 
-words_over : (t : Taker) (words : Words) → is_over t.state.phase ≡ true → is_over (respond_tsdu t words).next.state.phase ≡ true
-words_over t words h = any_tsdu_keeps IsOver t words word_over h
-
 words_ended : (t : Taker) (words : Words) → is_ended t.state.phase ≡ true → is_ended (respond_tsdu t words).next.state.phase ≡ true
 words_ended t words h = any_tsdu_keeps HasEnded t words word_ended h
 
 pub input_over : (s : Listener) (input : Input) → is_over s.state.phase ≡ true → is_over (after_input s input).state.phase ≡ true
 input_over s (called c) h = call_cases IsOver s c h (λ x e. absurd (let o = over_refused s.state c h in cc))
-input_over s (taken words) h = taken_cases IsOver s words (words_over (taker_of s) words h)
+input_over s (taken words) h = taken_cases IsOver s words (grind (arith, word_over, any_tsdu_keeps IsOver (taker_of s) words word_over h))
 input_over s (unread fault) h = fault_cases IsOver s fault h (λ o. refl)
 input_over s opened h = opened_cases IsOver s (λ w. absurd (let o = excluded is_wait_transport is_over refl s.state.phase w in cc)) h
 input_over s (refused reason) h = refused_cases IsOver s reason (λ w. refl) h

@@ -1,35 +1,25 @@
 -- Data that is lent in parts has the TSDUs in which it is sent.
 -- For `in_parts` and `in_one` of lending.
-use Rattle.std.proofs.Common.{◌≡◌, refl, ℕ, zero, suc, ◌-◌, ◌<◌, ◌≤◌, Bool, true, false, List, [], ◌∷◌, ◌++◌, length, take, drop, arith}
-use Rattle.std.proofs.Common.{if◌then◌else◌}
+use Rattle.std.proofs.Common.{◌≡◌, refl, ℕ, zero, suc, ◌-◌, ◌≤◌, true, false, List, [], ◌∷◌, ◌++◌, length, drop, arith}
 use Rattle.std.proofs.lemmas.Bool.{lt-leb}
-use Rattle.osi_message.specs.Parting.{pieces, later_parts, parts_of}
+use Rattle.osi_message.specs.Parting.{pieces, later_parts}
 use Rattle.osi_message.specs.Words.{part_head}
-use Rattle.osi_message.proofs.how_pieces_follow_one_another.{octets_of, IsCons, middle_of, some_piece}
+use Rattle.osi_message.proofs.how_pieces_follow_one_another.{octets_of, middle_of, some_piece}
 use Rattle.osi_message.proofs.the_tsdus_of_a_message.{sent_parted, more_octets}
 use Rattle.osi_session.proofs.Vocabulary.{le-leb, DT, First, Middle, Last, is_whole, tsdus_of, is_size}
 use Rattle.osi_session.specs.Lent.{headed}
 
 -- ---- several parts
 
-later_if : (b : Bool) (size : ℕ) (o : List ℕ) (os lent : List (List ℕ)) → IsCons os → lent ≡ octets_of (later_parts os) →
-    (if b then (part_head Last ++ o) ∷ [] else (part_head Middle ++ take size o) ∷ lent)
-    ≡ octets_of (later_parts (if b then o ∷ [] else take size o ∷ os))
-later_if b size o os lent c e = grind (arith, octets_of, middle_of)
-
 -- those after the first
 later_lent : (fuel size : ℕ) (o : List ℕ) →
     headed fuel (part_head Middle) (part_head Middle) (part_head Last) size o ≡ octets_of (later_parts (pieces fuel size o))
 later_lent zero size o = refl
-later_lent (suc fuel) size o = grind (arith, later_if, some_piece, later_lent fuel size (drop size o))
-
-all_lent : (n size : ℕ) (o : List ℕ) → 0 < n → size < length o →
-    headed n (part_head First) (part_head Middle) (part_head Last) size o ≡ octets_of (parts_of (pieces n size o))
-all_lent n size o some long = grind (arith, lt-leb, later_lent)
+later_lent (suc fuel) size o = grind (arith, octets_of, middle_of, some_piece, later_lent fuel size (drop size o))
 
 pub parted : (limit : ℕ) (o : List ℕ) → is_size limit ≡ true → is_whole limit o ≡ false →
     headed (length o) (part_head First) (part_head Middle) (part_head Last) (limit - 7) o ≡ tsdus_of limit (DT o)
-parted limit o size h = grind (arith, more_octets, all_lent, sent_parted)
+parted limit o size h = grind (arith, more_octets, lt-leb, later_lent, sent_parted)
 
 -- ---- one TSDU
 

@@ -7,28 +7,23 @@ use Rattle.osi_session.specs.Calls.{refusal_with}
 use Rattle.osi_session.specs.Standing.{Seen, goes, said_within, Count, left_by, calling, fits_user_data, connecting, accepting_in, where_is}
 use Rattle.osi_session.specs.Standing.{said_message, seen_calling}
 use Rattle.osi_session.proofs.Vocabulary.{says, has_no_effect, begins_anew, and_parts, Phase, Releasing, is_over, is_wait_transport}
-use Rattle.osi_session.proofs.Vocabulary.{is_answering, may_hold, State, FunctionalUnits, TokenSetting, TsduMaximumSize, are_sizes}
-use Rattle.osi_session.proofs.Vocabulary.{has_points, has_data, IsSound, Call, Refuse, Data, Give, Please, Minor, MinorConfirm, Major}
-use Rattle.osi_session.proofs.Vocabulary.{MajorConfirm, Restart, ReleaseAccept, ReleaseRefuse, Abort, HasSerial, Answer, Step, may_call}
-use Rattle.osi_session.proofs.Vocabulary.{met, most_of, octets_of, names, Meaning, CN, AC, RF, DT, GT, PT, MIP, MIA, MAP, MAA, RS, RA, FN}
-use Rattle.osi_session.proofs.Vocabulary.{DN, NF, AB, AA, IsNumbered, IsSmall, said_at, meant_by, meant_numbered}
+use Rattle.osi_session.proofs.Vocabulary.{is_answering, State, FunctionalUnits, TokenSetting, TsduMaximumSize, are_sizes, has_data, IsSound}
+use Rattle.osi_session.proofs.Vocabulary.{Call, Refuse, Data, Give, Please, Minor, MinorConfirm, Major, MajorConfirm, Restart}
+use Rattle.osi_session.proofs.Vocabulary.{ReleaseAccept, ReleaseRefuse, Abort, HasSerial, Answer, Step, may_call, met, most_of, octets_of}
+use Rattle.osi_session.proofs.Vocabulary.{names, Meaning, CN, AC, RF, DT, GT, PT, MIP, MIA, MAP, MAA, RS, RA, FN, DN, NF, AB, AA}
+use Rattle.osi_session.proofs.Vocabulary.{IsNumbered, IsSmall, said_at, meant_by, meant_numbered}
 use Rattle.osi_message.specs.declared.messages.Message.{Message}
 use Rattle.osi_session.specs.Respond.{is_restart}
 use Rattle.osi_session.specs.Sides.{answers_wishes}
-use Rattle.osi_session.proofs.tables.what_an_accepted_call_has_passed.{over_calls, first_error_ok}
+use Rattle.osi_session.proofs.tables.what_an_accepted_call_has_passed.{first_error_ok}
 use Rattle.osi_session.proofs.tables.what_is_true_of_each_phase.{excluded}
-use Rattle.osi_session.proofs.runs.the_invariant_in_memory.{at_first}
 use Rattle.osi_session.proofs.values.what_sizes_are_agreed.{smaller_are}
 use Rattle.osi_session.proofs.runs.calls_keep_the_invariant.{opened, holding_phase, after_sound}
-use Rattle.osi_session.proofs.runs.units_keep_the_invariant.{base_small, first_small}
 use Rattle.osi_session.proofs.tsdu.what_the_words_of_a_tsdu_preserve.{octets_sound}
-
-either_way : (b : Bool) (o : Bool) → o ≡ true → (b ≡ true → o ≡ false) → b ≡ false
-either_way b o h k = grind arith
 
 -- no call is allowed if the connection is over
 pub over_refuses : (c : Call) (p : Phase) → is_over p ≡ true → may_call p c ≡ false
-over_refuses c p h = either_way (may_call p c) (is_over p) h (over_calls c p)
+over_refuses c p h = grind arith
 
 -- ---- the state after sending is sound
 
@@ -60,15 +55,7 @@ connecting_left : (s : State) (requirements : ℕ) (serial : Option ℕ) (wishes
     → connecting s requirements serial wishes sizes octets ≡ Some n → IsSound s → IsSound n
 connecting_left s requirements serial wishes sizes octets n small e h =
     let a = is_left (is_wait_transport s.phase && (fits_user_data octets && are_sizes sizes)) _ n e in
-    let p = and_parts (is_wait_transport s.phase) _ a.0 in
-    subst IsSound a.1 (record {
-      ordered = h.ordered;
-      first = first_small serial small;
-      major = λ k. absurd (cc);
-      restart = λ k. absurd (cc);
-      tokens = λ k. h.tokens (excluded is_wait_transport may_hold refl s.phase p.0);
-      sizes = (and_parts (fits_user_data octets) (are_sizes sizes) p.1).1;
-    })
+    search (arith, and_parts, excluded)
 
 accepting_left : (units : FunctionalUnits) (s : State) (version_2 : Bool) (serial : Option ℕ) (sides : TokenSetting)
     (sizes : TsduMaximumSize) (octets : List ℕ) (n : State) → IsSmall serial
@@ -77,11 +64,7 @@ accepting_left units s version_2 serial sides sizes octets n small e h =
     let a = is_left
     (is_answering s.phase &&
     (fits_user_data octets && ((version_2 && (has_data units && are_sizes sizes)) && answers_wishes units s.wishes sides))) _ n e in
-    let p = and_parts (fits_user_data octets) _ (and_parts (is_answering s.phase) _ a.0).1 in
-    let q = and_parts (version_2 && (has_data units && are_sizes sizes)) _ p.1 in
-    let r = and_parts (has_data units) (are_sizes sizes) (and_parts version_2 _ q.0).1 in
-    subst IsSound a.1
-    (opened _ _ _ _ s (base_small (has_points units) serial s.proposed small h.first) (smaller_are s.sizes sizes h.sizes r.1) h)
+    search (arith, and_parts, has_data, opened, smaller_are)
 
 pub said_sound : (s : State) (m : Meaning) (n : State) → IsNumbered m → said_message s m ≡ Some n → IsSound s → IsSound n
 said_sound s (CN version_2 requirements serial wishes from to sizes octets) n small e h = search (arith, connecting_left)
@@ -125,7 +108,7 @@ count_sound s n tsdu c k h =
     subst (λ (x : Count). IsSound x.state) (k (so_many n) (so_many_are n)) (octets_sound (taker_with s (so_many n)) tsdu _ refl h)
 
 pub calling_sound : IsSound seen_calling.state
-calling_sound = at_first seen_calling.state refl refl (omega arith) refl refl refl refl
+calling_sound = grind arith
 
 -- the numbers of a message in memory are those that a point may have
 pub message_sound : (s : State) (m : Message) (n : State) → said_message s (meant_by m) ≡ Some n → IsSound s → IsSound n
@@ -143,12 +126,9 @@ said_by_message s x v n m a b w e f g h k l = grind arith
 pub none_where : (b : Bool) (o : Option State) → o ≡ None → where_is b o ≡ None
 none_where b o h = grind arith
 
-none_if : (b : Bool) (s : Seen) (o : Option State) → o ≡ None → (if b then option_map (goes s) o else None) ≡ None
-none_if b s o h = grind arith
-
 pub not_said : (s : Seen) (v : State) (m : Meaning) (a : Bool) → v ≡ s.state → a ≡ has_no_effect m → a ≡ false → said_message v m ≡ None →
     said_within s (says m) ≡ None
-not_said s v m a w e f k = grind (arith, none_if)
+not_said s v m a w e f k = grind arith
 
 -- and one that breaks no rule
 pub breaks_none : (s : Seen) (v : State) (m : Meaning) (a b : Bool) → v ≡ s.state → a ≡ has_no_effect m → a ≡ false →

@@ -1,54 +1,34 @@
 -- If nothing is joined, messages have the effect that the table of units gives. Also the effect of a TSDU of one word.
-use Rattle.std.proofs.Common.{◌≡◌, refl, sym, ◌∙◌, ap, ℕ, Bool, true, false, ◌||◌, if◌then◌else◌, List, [], ◌∷◌, ◌++◌, map, Option, Some}
-use Rattle.std.proofs.Common.{None, inl, inr, arith}
+use Rattle.std.proofs.Common.{◌≡◌, refl, sym, ◌∙◌, ap, ℕ, Bool, true, false, ◌||◌, if◌then◌else◌, List, [], ◌∷◌, ◌++◌, map, Option, None}
+use Rattle.std.proofs.Common.{inl, inr, arith}
 use Rattle.osi_session.specs.Moves as whole
-use Rattle.osi_session.proofs.Vocabulary.{list_any, cases_Bool, append-nil, State, Phase, UnitFault, Answer, is_over, is_aborting, Outcome}
-use Rattle.osi_session.proofs.Vocabulary.{nothing, Condition, first_fault, is_resynchronize, first_reply, Verdict, over, dropped, verdict}
-use Rattle.osi_session.proofs.Vocabulary.{is_faulty, enacted, respond_unit, respond_all, acting, respond, and_then, Meaning, GT, no_token}
-use Rattle.osi_session.proofs.Vocabulary.{Said, words_of, Word, Words, says, Taker, drops_parts, kept_in, word_verdict, Hearing, heard}
-use Rattle.osi_session.proofs.Vocabulary.{enacted_word, respond_word, respond_words, heard_then, idle, is_restart_word, acting_words}
-use Rattle.osi_session.proofs.Vocabulary.{respond_tsdu, Listener, Move, react, after_input, after_inputs, taken, answered, rests, listening}
-use Rattle.osi_session.proofs.Vocabulary.{standing_of, in_words, is_apart, joins}
+use Rattle.osi_session.proofs.Vocabulary.{list_any, cases_Bool, append-nil, State, Phase, is_over, Outcome, nothing, is_resynchronize}
+use Rattle.osi_session.proofs.Vocabulary.{Verdict, over, dropped, verdict, is_faulty, enacted, respond_unit, respond_all, acting, respond}
+use Rattle.osi_session.proofs.Vocabulary.{and_then, Meaning, GT, no_token, Said, words_of, Word, says, Taker, drops_parts, kept_in}
+use Rattle.osi_session.proofs.Vocabulary.{word_verdict, Hearing, heard, enacted_word, respond_word, respond_words, heard_then, idle}
+use Rattle.osi_session.proofs.Vocabulary.{is_restart_word, acting_words, respond_tsdu, Listener, Move, react, after_input, after_inputs}
+use Rattle.osi_session.proofs.Vocabulary.{taken, listening, standing_of, in_words, is_apart, joins}
 use Rattle.osi_session.proofs.tables.the_verdict_on_a_unit.{enacts, empty_item}
 
 -- ---- what is kept
 
-none_either : (b : Bool) → (if◌then◌else◌ {A = Option (List ℕ)} b None None) ≡ None
-none_either b = grind arith
-
 pub kept_none : (p : Phase) → kept_in p None ≡ None
-kept_none p = none_either (drops_parts p)
+kept_none p = grind arith
 
 pub kept_some : (p : Phase) (joined : Option (List ℕ)) → drops_parts p ≡ false → kept_in p joined ≡ joined
 kept_some p joined h = rw h refl
 
-pub kept_gone : (p : Phase) (joined : Option (List ℕ)) → drops_parts p ≡ true → kept_in p joined ≡ None
-kept_gone p joined h = rw h refl
-
-either_twice : (b : Bool) (joined : Option (List ℕ)) →
-    (if◌then◌else◌ {A = Option (List ℕ)} b None (if◌then◌else◌ {A = Option (List ℕ)} b None joined)) ≡
-    (if◌then◌else◌ {A = Option (List ℕ)} b None joined)
-either_twice b joined = grind arith
-
 pub kept_twice : (p : Phase) (joined : Option (List ℕ)) → kept_in p (kept_in p joined) ≡ kept_in p joined
-kept_twice p joined = either_twice (drops_parts p) joined
+kept_twice p joined = grind arith
 
 -- ---- one word
 
-passes_true : (n : ℕ) (cs : List Condition) (f : ℕ → UnitFault) → first_fault n (cs ++ (true, f) ∷ []) ≡ first_fault n cs
-passes_true n [] f = refl
-passes_true n (c ∷ cs) f = ap (λ r. if c.0 then r else Some (c.1 n)) (passes_true n cs f)
-
 pub plain_verdict : (s : State) (u : Meaning) → word_verdict (record { state = s; joined = None }) (says u) ≡ verdict s u
-plain_verdict s u = grind (arith, passes_true)
-
-plain_enacted : (s : State) (u : Meaning) (v : Verdict) →
-    enacted_word (record { state = s; joined = None }) (says u) v ≡ heard None (enacted s u v)
-plain_enacted s u v = grind arith
+plain_verdict s u = grind arith
 
 pub plain_word : (s : State) (u : Meaning) → respond_word (record { state = s; joined = None }) (says u) ≡ heard None (respond_unit s u)
 unfolding respond_word
-plain_word s u = plain_enacted s u _ ∙ ap (λ v. heard None (enacted s u v)) (plain_verdict s u) ∙ ap (heard None) (sym (enacts s u))
+plain_word s u = (grind arith) ∙ ap (λ v. heard None (enacted s u v)) (plain_verdict s u) ∙ ap (heard None) (sym (enacts s u))
 
 pub word_at : (t : Taker) (w : Word) (v : Verdict) → word_verdict t w ≡ v → respond_word t w ≡ enacted_word t w v
 unfolding respond_word
@@ -97,12 +77,9 @@ says_at_end : (us : List Meaning) (u : Meaning) → map says us ++ says u ∷ []
 says_at_end [] u = refl
 says_at_end (v ∷ us) u = ap (λ ws. says v ∷ ws) (says_at_end us u)
 
-says_either : (b : Bool) (us vs : List Meaning) → (if b then map says us else map says vs) ≡ map says (if b then us else vs)
-says_either b us vs = grind arith
-
 pub plain_acting : (said : Said) → acting_words (map says said) ≡ map says (acting said)
 unfolding acting_words acting
-plain_acting said = grind (arith, some_restart, says_at_end, says_either)
+plain_acting said = grind (arith, some_restart, says_at_end)
 
 pub plain_tsdu : (s : State) (said : Said) →
     respond_tsdu (record { state = s; joined = None }) (map says said) ≡ heard None (respond s said)
@@ -110,19 +87,11 @@ plain_tsdu s said = ap (respond_words (record { state = s; joined = None })) (pl
 
 -- ---- moves
 
-answer_joins : (l : Listener) (a : Answer) → kept_in l.state.phase l.joined ≡ l.joined →
-    answered l a ≡ joins l.joined (whole.answered (standing_of l) a)
-answer_joins l a k = grind arith
-
-either_joins : (l : Listener) (b : Bool) (m : Move) (n : whole.Move) → kept_in l.state.phase l.joined ≡ l.joined → m ≡ joins l.joined n →
-    (if b then m else rests l) ≡ joins l.joined (if b then n else whole.rests (standing_of l))
-either_joins l b m n k h = grind arith
-
 -- all but the words of a TSDU do to a session what they do over whole messages, and keep what the phase keeps
 pub others : (l : Listener) (input : whole.Input) → kept_in l.state.phase l.joined ≡ l.joined → is_apart input ≡ true →
     react l (in_words input) ≡ joins l.joined (whole.react (standing_of l) input)
 unfolding react whole.react
-others l input h0 h1 = grind (arith, answer_joins, either_joins)
+others l input h0 h1 = grind arith
 
 messages_move : (s : whole.Standing) (said : Said) →
     react (listening s) (taken (map says said)) ≡ joins None (whole.react s (whole.taken said))
@@ -131,58 +100,33 @@ messages_move s said = grind (arith, plain_tsdu)
 
 -- and if nothing is joined, so do messages
 pub moves_as_whole : (s : whole.Standing) (input : whole.Input) → react (listening s) (in_words input) ≡ joins None (whole.react s input)
-moves_as_whole s (whole.called c) = others (listening s) (whole.called c) (kept_none s.state.phase) refl
-moves_as_whole s (whole.taken said) = messages_move s said
-moves_as_whole s (whole.unread fault) = others (listening s) (whole.unread fault) (kept_none s.state.phase) refl
-moves_as_whole s whole.opened = others (listening s) whole.opened (kept_none s.state.phase) refl
-moves_as_whole s (whole.refused reason) = others (listening s) (whole.refused reason) (kept_none s.state.phase) refl
-moves_as_whole s whole.broken = others (listening s) whole.broken (kept_none s.state.phase) refl
+moves_as_whole s input = grind (arith, others, kept_none, messages_move)
 
 joins_none : (m : whole.Move) → (joins None m).next ≡ listening m.next
 joins_none m = let k = kept_none m.next.state.phase in λ i. record { state = m.next.state; waiting = m.next.waiting; joined = k i }
 
-pub next_as_whole : (s : whole.Standing) (input : whole.Input) →
-    after_input (listening s) (in_words input) ≡ listening (whole.after_input s input)
-next_as_whole s input = ap (λ (m : Move). m.next) (moves_as_whole s input) ∙ joins_none (whole.react s input)
-
 pub run_as_whole : (s : whole.Standing) (inputs : List whole.Input) →
     after_inputs (listening s) (map in_words inputs) ≡ listening (whole.after_inputs s inputs)
 run_as_whole s [] = refl
-run_as_whole s (input ∷ inputs) = grind (arith, next_as_whole, run_as_whole (whole.after_input s input) inputs)
+run_as_whole s (input ∷ inputs) = grind (arith, moves_as_whole, joins_none, run_as_whole (whole.after_input s input) inputs)
 
 -- ---- a TSDU of one word
-
-enacted_kept : (t : Taker) (w : Word) (v : Verdict) →
-    record {
-      state = (enacted_word t w v).next.state;
-      joined = kept_in (enacted_word t w v).next.state.phase (enacted_word t w v).next.joined;
-    } ≡ (enacted_word t w v).next
-enacted_kept t w v = grind (arith, kept_twice)
 
 -- what a word leaves is kept
 pub word_kept : (t : Taker) (w : Word) →
     record { state = (respond_word t w).next.state; joined = kept_in (respond_word t w).next.state.phase (respond_word t w).next.joined } ≡
     (respond_word t w).next
 unfolding respond_word
-word_kept t w = enacted_kept t w (word_verdict t w)
-
-both_nothing : (b : Bool) (s : State) → (if b then nothing s else nothing s) ≡ nothing s
-both_nothing b s = grind arith
+word_kept t w = grind (arith, kept_twice)
 
 empty_word : (t : Taker) → respond_word t (says (GT no_token)) ≡ heard t.joined (nothing t.state)
 empty_word t = elim (cases_Bool (is_over t.state.phase)) [
-  | inl o ↦ word_at t (says (GT no_token)) over (rw o refl) ∙ ap (heard t.joined) (both_nothing (is_aborting t.state.phase) t.state)
+  | inl o ↦ word_at t (says (GT no_token)) over (rw o refl) ∙ ap (heard t.joined) (grind arith)
   | inr o ↦ word_at t (says (GT no_token)) dropped (let e = empty_item in rw (o, e) refl)
 ]
 
-reply_none : (r : Option Meaning) → first_reply r None ≡ r
-reply_none r = grind arith
-
-or_false : (b : Bool) → (b || false) ≡ b
-or_false b = grind arith
-
 then_quiet : (h : Hearing) (next : Taker) → next ≡ h.next → heard_then h (idle next) ≡ h
-then_quiet h next k = grind (arith, append-nil, reply_none, or_false)
+then_quiet h next k = grind (arith, append-nil)
 
 pub one_word : (t : Taker) (w : Word) → respond_words t (w ∷ []) ≡ respond_word t w
 unfolding respond_words
@@ -205,14 +149,10 @@ pub word_alone : (t : Taker) (w : Word) → respond_tsdu t (w ∷ []) ≡ respon
 unfolding acting_words
 word_alone t w = one_word t w
 
-either_words : (b : Bool) (t : Taker) (x y : Words) (h : Hearing) → respond_words t x ≡ h → respond_words t y ≡ h →
-    respond_words t (if b then x else y) ≡ h
-either_words b t x y h e k = grind arith
-
 -- after a token item that names no token a word does what it does alone
 pub word_behind : (t : Taker) (w : Word) → respond_tsdu t (says (GT no_token) ∷ w ∷ []) ≡ respond_word t w
 unfolding acting_words
-word_behind t w = grind (arith, either_words, one_word, two_words)
+word_behind t w = grind (arith, one_word, two_words)
 
 -- a message as a word has the effect of the message
 pub words_of_message : (t : Taker) (m : Meaning) → respond_tsdu t (words_of m) ≡ respond_word t (says m)

@@ -1,23 +1,22 @@
 -- Data, minor points and confirmations: those that are expected, and points that are sent.
 use Rattle.std.proofs.Common.{◌≡◌, ◌∙◌, ap, ℕ, ◌≤◌, ◌==◌, nat_le, nat_lt, Bool, List, [], ◌∷◌, Option, Some, None, is_some, Result, Ok, Err}
-use Rattle.std.proofs.Common.{if◌then◌else◌, true, false, refl, sym, subst, length, arith}
+use Rattle.std.proofs.Common.{if◌then◌else◌, true, false, refl, sym, length, arith}
 use Rattle.osi_message.specs.declared.plain.PlainUnit.{PlainUnit}
 use Rattle.osi_message.specs.Plain.{plain_word as unit_word}
 use Rattle.osi_session.specs.declared.plans.PlannedPoint.{PlannedPoint}
 use Rattle.osi_session.specs.declared.plans.SentPoint.{SentPoint}
 use Rattle.osi_session.specs.declared.plans.SentPoint.TheVariants as point
 use Rattle.osi_session.specs.Shown.{Data, Minor}
-use Rattle.osi_session.proofs.Vocabulary.{and_from, and_parts, AllHold, Answer, Test, after, fits_limit, most_of, most_user_data, octets_of}
-use Rattle.osi_session.proofs.Vocabulary.{sends, all_hold, advanced, after_input, call_for, has_next, may_advance, may_call, needs}
-use Rattle.osi_session.proofs.Vocabulary.{SpduFault, Meaning, DT, MIP, MIA, GT, tsdus_of, no_token, Words, says, Indication, Numbers, Phase}
-use Rattle.osi_session.proofs.Vocabulary.{State, Step, allowed, Call, HasSerial, heard, joined_octets, kept_in, respond_came, Listener}
-use Rattle.osi_session.proofs.Vocabulary.{called, react, came_as, taker_of, point_taken, minor_confirmed, is_ready, takes_data}
-use Rattle.osi_session.proofs.Vocabulary.{respond_unit, shows, take_expected, in_numbers, only_shows, PlansPoint, limit_of, Shown}
-use Rattle.osi_session.proofs.Vocabulary.{MinorConfirmed, shown_by, IsSound, IsNumberedWord, Word, respond_word, moved}
+use Rattle.osi_session.proofs.Vocabulary.{and_from, and_parts, Answer, after, fits_limit, most_user_data, sends, advanced, after_input}
+use Rattle.osi_session.proofs.Vocabulary.{call_for, has_next, may_advance, may_call, SpduFault, Meaning, DT, MIP, MIA, GT, tsdus_of}
+use Rattle.osi_session.proofs.Vocabulary.{no_token, Words, says, Indication, Numbers, Phase, State, Step, allowed, Call, heard}
+use Rattle.osi_session.proofs.Vocabulary.{joined_octets, kept_in, respond_came, Listener, called, react, came_as, taker_of, point_taken}
+use Rattle.osi_session.proofs.Vocabulary.{minor_confirmed, is_ready, takes_data, respond_unit, shows, take_expected, only_shows, PlansPoint}
+use Rattle.osi_session.proofs.Vocabulary.{limit_of, Shown, MinorConfirmed, shown_by, IsSound, IsNumberedWord, Word, respond_word, moved}
 use Rattle.osi_session.proofs.moves.the_move_of_each_input.{came_is, call_errs, call_next, call_passes, call_sends}
 use Rattle.osi_session.proofs.tables.what_an_accepted_call_has_passed.{accepted, passed}
 use Rattle.osi_session.proofs.sent.what_is_sent_can_be_written.{call_sendable}
-use Rattle.osi_session.proofs.moves.the_moves_in_memory.{holds, leaves_as, stays_in, leaves_word}
+use Rattle.osi_session.proofs.moves.the_moves_in_memory.{holds, leaves_as, leaves_word}
 use Rattle.osi_session.proofs.runs.calls_keep_the_invariant.{after_sound}
 use Rattle.osi_session.proofs.tables.messages_act_as_the_table_says.{kept_none, plain_word, word_behind}
 
@@ -68,28 +67,12 @@ pub unit_comes : (s : State) (u : Meaning) (v : Numbers) (i : Shown) (read : Res
     respond_came (record { state = s; joined = None }) read ≡ heard None (shows (record s { numbers = v }) i)
 unit_comes s u v i read e h = grind (arith, word_behind, word_comes s u v i h)
 
-none_joined : (j : Option (List ℕ)) (b : Bool) → b ≡ is_some j → b ≡ false → j ≡ None
-none_joined j b h k = grind arith
-
-comes_to : (s : State) (j : Option (List ℕ)) (b : Bool) (v : Numbers) (i : Indication) (read : Result Words SpduFault) → b ≡ is_some j
-    → (b ≡ false) × (respond_came (record { state = s; joined = None }) read ≡ heard None (shows (record s { numbers = v }) (shown_by i)))
-    → respond_came (record { state = s; joined = j }) read ≡ heard None (shows (record s { numbers = v }) (shown_by i))
-comes_to s j b v i read n h = grind (arith, none_joined)
-
--- what a session does with it
-point_moves : (s : State) (w : Option Meaning) (j : Option (List ℕ)) (b : Bool) (v : Numbers) (i : Indication)
-    (read : Result Words SpduFault) → b ≡ is_some j
-    → (b ≡ false) × (respond_came (record { state = s; joined = None }) read ≡ heard None (shows (record s { numbers = v }) (shown_by i)))
-    → (let l : Listener = record { state = s; waiting = w; joined = j } in react l (came_as read) ≡ only_shows (in_numbers l v)
-    (shown_by i))
-point_moves s w j b v i read n h = grind (arith, kept_none, none_joined, came_is, comes_to)
-
 pub point_shows : (l : Listener) (s : State) (w : Option Meaning) (j : Option (List ℕ)) (b : Bool) (v : Numbers) (i : Indication)
     (read : Result Words SpduFault)
     → (let y : Listener = record { state = s; waiting = w; joined = j } in y ≡ l) → b ≡ is_some j
     → (b ≡ false) × (respond_came (record { state = s; joined = None }) read ≡ heard None (shows (record s { numbers = v }) (shown_by i)))
     → react l (came_as read) ≡ only_shows (record { state = record s { numbers = v }; waiting = w; joined = j }) (shown_by i)
-point_shows l s w j b v i read view n h = grind (arith, point_moves s w j b v i read n h)
+point_shows l s w j b v i read view n h = grind (arith, kept_none, came_is)
 
 -- the same of a word alone
 pub word_shows : (l : Listener) (s : State) (w : Option Meaning) (j : Option (List ℕ)) (b : Bool) (v : Numbers) (i : Indication)
@@ -108,7 +91,7 @@ pub point_leaves : (s : State) (w : Option Meaning) (j : Option (List ℕ)) (b :
 point_leaves s w j b v i word small n h sound kept few =
     let l : Listener = record { state = s; waiting = w; joined = j } in
     (leaves_as l (heard None (shows (record s { numbers = v }) (shown_by i))) (respond_word (taker_of l) word)
-    (sym (ap (λ (x : Option (List ℕ)). respond_word (record { state = s; joined = x }) word) (none_joined j b n h.0) ∙ h.1))
+    (sym (ap (λ (x : Option (List ℕ)). respond_word (record { state = s; joined = x }) word) (grind arith) ∙ h.1))
     (leaves_word l word (holds l s w j refl sound kept few) small)).sound
 
 -- the numbers in a unit that the fast path reads
@@ -117,41 +100,13 @@ plain_numbered p = grind arith
 
 -- ---- a point that is planned, and then sent
 
-all_held : (ts : List Test) → AllHold ts → all_hold ts ≡ true
-all_held [] h = refl
-all_held (t ∷ ts) h = rw h.0 (all_held ts h.1)
-
-held_all : (ts : List Test) → all_hold ts ≡ true → AllHold ts
-held_all [] h = tt
-held_all (t ∷ ts) h = let a = and_parts _ _ h in (a.0, held_all ts a.1)
-
--- the user data of a call for a point changes nothing but what is sent
-same_after : (s : State) (p : SentPoint) (confirm : Bool) (octets : List ℕ) →
-    after s (call_for p confirm octets) ≡ after s (call_for p true [])
-same_after s p confirm octets = grind arith
-
 same_phase : (s : State) (p : SentPoint) (confirm : Bool) (octets : List ℕ) →
     may_call s.phase (call_for p confirm octets) ≡ may_call s.phase (call_for p true [])
 same_phase s p confirm octets = grind arith
 
-same_needs : (s : State) (p : SentPoint) (confirm : Bool) (octets : List ℕ) →
-    needs s (call_for p confirm octets) ≡ needs s (call_for p true [])
-same_needs s p confirm octets = grind arith
-
-point_serial : (p : SentPoint) (confirm : Bool) (octets : List ℕ) → HasSerial (call_for p confirm octets)
-point_serial p confirm octets = grind arith
-
-sized_point : (p : SentPoint) (confirm : Bool) (octets : List ℕ) → nat_le (length octets) most_user_data ≡ true
-    → nat_le (length (octets_of (call_for p confirm octets))) (most_of (call_for p confirm octets)) ≡ true
-sized_point p confirm octets h = grind arith
-
-goes_to : (s : State) (p : SentPoint) (confirm : Bool) (octets : List ℕ) (x : Step) → allowed s (call_for p confirm octets) ≡ Ok x →
-    x.next ≡ after s (call_for p true [])
-goes_to s p confirm octets x h = ap (λ (y : Step). y.next) (passed s _ x h).gives ∙ same_after s p confirm octets
-
 goes_from : (s : State) (p : SentPoint) (confirm : Bool) (octets : List ℕ) (x : Step) → has_next s p ≡ true →
     allowed s (call_for p confirm octets) ≡ Ok x → may_advance s p ≡ true
-goes_from s p confirm octets x n h = search (arith, passed, and_from, same_phase, same_needs, all_held)
+goes_from s p confirm octets x n h = search (arith, passed, and_from, same_phase)
 
 -- what is accepted is the step of the table
 accepts_point : (l : Listener) (c : Call) → (react l (called c)).error ≡ None → (x : Step) × (allowed l.state c ≡ Ok x)
@@ -164,7 +119,7 @@ accepts_point l c h = by (allowed l.state c) refl
 pub point_steps : (l : Listener) (p : SentPoint) (confirm : Bool) (octets : List ℕ) →
     (react l (called (call_for p confirm octets))).error ≡ None
     → after_input l (called (call_for p confirm octets)) ≡ advanced l p
-point_steps l p confirm octets h = grind (arith, accepts_point, call_next, goes_to)
+point_steps l p confirm octets h = grind (arith, accepts_point, call_next, passed)
 
 pub point_may : (l : Listener) (p : SentPoint) (confirm : Bool) (octets : List ℕ) → has_next l.state p ≡ true
     → (react l (called (call_for p confirm octets))).error ≡ None → may_advance l.state p ≡ true
@@ -180,8 +135,8 @@ point_accepted l p confirm octets m size limit =
     call_passes l c (record { next = after l.state c; sent = sends l.state c })
     (accepted l.state c (record { next = after l.state c; sent = sends l.state c }) (record {
       phase = same_phase l.state p confirm octets ∙ a.0;
-      needed = held_all _ (ap all_hold (same_needs l.state p confirm octets) ∙ (and_parts _ _ a.1).1);
-      size = sized_point p confirm octets size;
+      needed = grind arith;
+      size = grind arith;
       limit = limit;
       gives = refl;
     }))
@@ -191,25 +146,17 @@ point_accepted l p confirm octets m size limit =
 numbers_alone : (s : State) (p : SentPoint) → after s (call_for p true []) ≡ record s { numbers = (after s (call_for p true [])).numbers }
 numbers_alone s p = grind arith
 
-some_after : (b : Bool) (v n : Numbers) → Some v ≡ (if b then Some n else None) → (b ≡ true) × (v ≡ n)
-some_after b v n h = grind arith
-
-goes_on_to : (s : State) (p : SentPoint) (v : Numbers) →
-    Some v ≡ (if may_advance s p then Some (after s (call_for p true [])).numbers else None)
-    → record s { numbers = v } ≡ after s (call_for p true [])
-goes_on_to s p v h = ap (λ (n : Numbers). record s { numbers = n }) (some_after (may_advance s p) v _ h).1 ∙ sym (numbers_alone s p)
-
 pub advance_sound : (s : State) (p : SentPoint) (v : Numbers) →
     Some v ≡ (if may_advance s p then Some (after s (call_for p true [])).numbers else None)
     → IsSound s → IsSound (record s { numbers = v })
-advance_sound s p v h sound = grind (arith, and_parts, some_after, goes_on_to, after_sound, point_serial, held_all)
+advance_sound s p v h sound = grind (arith, and_parts, after_sound)
 
 pub advance_leaves : (l : Listener) (s : State) (w : Option Meaning) (j : Option (List ℕ)) (p : SentPoint) (v : Numbers)
     → (let y : Listener = record { state = s; waiting = w; joined = j } in y ≡ l) → kept_in s.phase j ≡ j
     → Some v ≡ (if may_advance s p then Some (after s (call_for p true [])).numbers else None)
     → (may_advance l.state p ≡ true) ×
     (let y : Listener = record { state = record s { numbers = v }; waiting = w; joined = j } in y ≡ advanced l p)
-advance_leaves l s w j p v view kept h = grind (arith, some_after, stays_in, goes_on_to)
+advance_leaves l s w j p v view kept h = grind arith
 
 planned_here : (l : Listener) (p : PlannedPoint) (confirm : Bool) (octets : List ℕ) (x : Step) → has_next l.state p.point ≡ true
     → allowed l.state (call_for p.point confirm octets) ≡ Ok x → IsSound l.state → p.sent ≡ tsdus_of (limit_of l.state) x.sent →
@@ -220,7 +167,7 @@ planned_here l p confirm octets x n h sound sent =
       may = goes_from l.state p.point confirm octets x n h;
       sent = sent ∙ call_sends l c x h;
       accepted = call_passes l c x h;
-      sendable = call_sendable l c x sound (point_serial p.point confirm octets) h;
+      sendable = call_sendable l c x sound (grind arith) h;
     }
 
 pub point_planned : (l : Listener) (s : State) (w : Option Meaning) (j : Option (List ℕ)) (p : PlannedPoint) (confirm : Bool)
@@ -234,5 +181,4 @@ point_planned l s w j p confirm octets x view n h sound sent =
 pub point_passes : (l : Listener) (s : State) (w : Option Meaning) (j : Option (List ℕ)) (c : Call) (x : Step) →
     (let y : Listener = record { state = s; waiting = w; joined = j } in y ≡ l)
     → allowed s c ≡ Ok x → (react l (called c)).error ≡ None
-point_passes l s w j c x view h =
-    subst (λ (k : Listener). (react k (called c)).error ≡ None) view (call_passes (record { state = s; waiting = w; joined = j }) c x h)
+point_passes l s w j c x view h = grind (arith, react, call_passes (record { state = s; waiting = w; joined = j }) c x h)

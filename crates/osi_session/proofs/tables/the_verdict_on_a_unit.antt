@@ -1,29 +1,21 @@
 -- The verdict on a unit, and on a token item that names no token.
-use Rattle.std.proofs.Common.{◌≡◌, refl, sym, ◌∙◌, ap, subst, Bool, true, false, not, ◌||◌, List, [], ◌∷◌, ◌++◌, Option, None}
-use Rattle.std.proofs.Common.{if◌then◌else◌, arith}
-use Rattle.osi_session.proofs.Vocabulary.{cases_Bool, append-nil, Aborting, UnitFault, Unexpected, State, no_token, is_empty, is_aborting}
-use Rattle.osi_session.proofs.Vocabulary.{is_ended, is_over, without_tokens, Meaning, GT, alone, behind, said_of, Outcome, Condition, si}
-use Rattle.osi_session.proofs.Vocabulary.{conditions, first_fault, drops, nothing, bad, judged, take_expected, in_aborting, in_ended}
-use Rattle.osi_session.proofs.Vocabulary.{has_no_effect, is_token_item, is_resynchronize, reply_for, first_reply, replies_abort}
+use Rattle.std.proofs.Common.{◌≡◌, refl, ◌∙◌, Bool, true, false, not, ◌||◌, List, [], ◌∷◌, ◌++◌, Option, None, if◌then◌else◌, arith}
+use Rattle.osi_session.proofs.Vocabulary.{cases_Bool, append-nil, UnitFault, Unexpected, State, no_token, is_empty, is_over, Meaning, GT}
+use Rattle.osi_session.proofs.Vocabulary.{alone, behind, said_of, Outcome, Condition, si, conditions, first_fault, drops, nothing, bad}
+use Rattle.osi_session.proofs.Vocabulary.{judged, take_expected, has_no_effect, is_token_item, is_resynchronize, replies_abort}
 use Rattle.osi_session.proofs.Vocabulary.{respond_unit, and_then, Verdict, dropped, faulty, fine, by_fault, verdict, enacted, is_faulty}
 use Rattle.osi_session.proofs.Vocabulary.{AllMet, IsGood, respond_all, acting, respond}
-use Rattle.osi_session.proofs.tables.what_is_true_of_each_phase.{implied, every_is}
+use Rattle.osi_session.proofs.tables.what_is_true_of_each_phase.{implied}
 
 live : (s : State) (u : Meaning) (d x : Bool) (f : Option UnitFault) →
     (if d then nothing s else if not x then bad s (Unexpected (si u)) else judged s u f)
     ≡ enacted s u (if d then dropped else if not x then faulty (Unexpected (si u)) else by_fault f)
 live s u d x f = grind arith
 
-neither : (a e o : Bool) → (not o || (a || e)) ≡ true → a ≡ false → e ≡ false → o ≡ false
-neither a e o h0 h1 h2 = grind arith
-
-pub not_over : (s : State) → is_aborting s.phase ≡ false → is_ended s.phase ≡ false → is_over s.phase ≡ false
-not_over s a e = neither _ _ _ (every_is (λ p. not (is_over p) || (is_aborting p || is_ended p)) refl s.phase) a e
-
 -- the table of units enacts the verdict
 pub enacts : (s : State) (u : Meaning) → respond_unit s u ≡ enacted s u (verdict s u)
 unfolding respond_unit take_expected
-enacts s u = grind (arith, cases_Bool, implied, not_over, live)
+enacts s u = grind (arith, cases_Bool, implied, live)
 
 all_passed : (s : State) (u : Meaning) (cs : List Condition) → AllMet cs → first_fault (si u) cs ≡ None
 all_passed s u [] h = refl
@@ -35,21 +27,12 @@ good_is_fine s u o d h = let f = all_passed s u (conditions s u) h.met in let x 
 
 -- ---- a token item that names no token
 
-same_of : (a e : Bool) (o : Outcome) → (if a then o else if e then o else o) ≡ o
-same_of a e o = grind arith
-
 pub no_effect : (s : State) (u : Meaning) → has_no_effect u ≡ true → respond_unit s u ≡ nothing s
 unfolding respond_unit
-no_effect s u h0 = grind (arith, same_of)
-
-reply_none : (r : Option Meaning) → first_reply r None ≡ r
-reply_none r = grind arith
-
-or_false : (b : Bool) → (b || false) ≡ b
-or_false b = grind arith
+no_effect s u h0 = grind arith
 
 pub and_nothing : (o : Outcome) → and_then o (nothing o.next) ≡ o
-and_nothing o = grind (arith, append-nil, reply_none, or_false)
+and_nothing o = grind (arith, append-nil)
 
 -- a unit by itself
 pub one : (s : State) (u : Meaning) → respond_all s (u ∷ []) ≡ respond_unit s u
@@ -66,15 +49,11 @@ unfolding respond_all
 behind_all s [] item h = one s item ∙ no_effect s item h
 behind_all s (u ∷ us) item h = same_rest (is_faulty (verdict s u)) (respond_unit s u) _ _ (behind_all (respond_unit s u).next us item h)
 
-either : (b : Bool) (s : State) (x y : List Meaning) (o : Outcome) → respond_all s x ≡ o → respond_all s y ≡ o →
-    respond_all s (if b then x else y) ≡ o
-either b s x y o h k = grind arith
-
 -- in front of units it changes nothing
 pub in_front_of_all : (s : State) (item : Meaning) (units : List Meaning) → has_no_effect item ≡ true →
     respond s (item ∷ units) ≡ respond_all s units
 unfolding acting
-in_front_of_all s item units h = grind (arith, either, behind_all)
+in_front_of_all s item units h = grind (arith, behind_all)
 
 pub in_front : (s : State) (item u : Meaning) → has_no_effect item ≡ true → respond s (behind item u) ≡ respond_unit s u
 in_front s item u h = in_front_of_all s item (u ∷ []) h ∙ one s u
@@ -96,18 +75,9 @@ of_said s u = grind (arith, in_front, empty_item, said_alone)
 faulty_is : (v : Verdict) → is_faulty v ≡ true → (f : UnitFault) × (v ≡ faulty f)
 faulty_is v h0 = grind arith
 
-after_abort : (s : State) (item : Meaning) → is_token_item item ≡ true →
-    respond_unit (without_tokens Aborting s) item ≡ nothing (without_tokens Aborting s)
-unfolding respond_unit
-after_abort s item h0 = grind arith
-
 after_bad : (s : State) (u item : Meaning) → is_token_item item ≡ true → is_faulty (verdict s u) ≡ true
     → and_then (respond_unit s u) (respond_unit (respond_unit s u).next item) ≡ respond_unit s u
-after_bad s u item t h =
-    let w = faulty_is (verdict s u) h in
-    let e = enacts s u ∙ ap (enacted s u) w.1 in
-    subst (λ (o : Outcome). and_then o (respond_unit o.next item) ≡ o) (sym e)
-    (ap (and_then (bad s w.0)) (after_abort s item t) ∙ and_nothing (bad s w.0))
+after_bad s u item t h = grind (arith, faulty_is, enacts, respond_unit, and_nothing)
 
 pub two : (s : State) (u item : Meaning) → is_token_item item ≡ true
     → respond_all s (u ∷ item ∷ []) ≡ and_then (respond_unit s u) (respond_unit (respond_unit s u).next item)
@@ -131,26 +101,5 @@ no_abort_if : (b : Bool) (x y : Option Meaning) → replies_abort x ≡ false �
     replies_abort (if b then x else y) ≡ false
 no_abort_if b x y h k = grind arith
 
-pub good_reply : (u : Meaning) → replies_abort (reply_for u) ≡ false
-good_reply u = grind (arith, no_abort_if)
-
-aborting_reply : (s : State) (u : Meaning) → replies_abort (in_aborting s u).reply ≡ false
-aborting_reply s u = grind arith
-
-ended_reply : (s : State) (u : Meaning) → replies_abort (in_ended s u).reply ≡ false
-ended_reply s u = grind arith
-
-over_reply : (b : Bool) (x y : Outcome) → replies_abort x.reply ≡ false → replies_abort y.reply ≡ false →
-    replies_abort (if b then x else y).reply ≡ false
-over_reply b x y h k = grind arith
-
 pub enacted_reply : (s : State) (u : Meaning) (v : Verdict) → replies_abort (enacted s u v).reply ≡ is_faulty v
-enacted_reply s u v = grind (arith, over_reply, aborting_reply, ended_reply, good_reply)
-
-pub bad_is_aborted : (s : State) (u : Meaning) → replies_abort (respond_unit s u).reply ≡ is_faulty (verdict s u)
-bad_is_aborted s u = ap (λ (o : Outcome). replies_abort o.reply) (enacts s u) ∙ enacted_reply s u (verdict s u)
-
--- what is reported of an outcome of a unit
-pub told_bad : (s : State) (u : Meaning) (o : Outcome) (b : Bool) → respond_unit s u ≡ o → b ≡ replies_abort o.reply →
-    b ≡ is_faulty (verdict s u)
-told_bad s u o b e h = h ∙ ap (λ (p : Outcome). replies_abort p.reply) (sym e) ∙ bad_is_aborted s u
+enacted_reply s u v = grind arith

@@ -1,10 +1,9 @@
 -- Two restarts that cross: which of them takes effect.
-use Rattle.std.proofs.Common.{inl, inr, ◌⊎◌, ◌≡◌, refl, sym, ◌∙◌, ap, ℕ, ◌≤◌, ◌<◌, Bool, true, false, not, List, None, if◌then◌else◌, arith}
+use Rattle.std.proofs.Common.{inl, inr, ◌⊎◌, ◌≡◌, refl, ℕ, ◌≤◌, ◌<◌, true, false, not, List, arith}
 use Rattle.osi_spdu.specs.declared.fields.ResyncType.TheVariants.{Restart}
 use Rattle.osi_session.specs.Restarts.{HasAsked, AreCrossed, after_restart}
-use Rattle.osi_session.proofs.Vocabulary.{lt-ltb, le-ltb, le-leb, eq-eqb, ne_eqb, cases_order, TokenSetting, State, is_restarting}
-use Rattle.osi_session.proofs.Vocabulary.{is_restart_due, restarted_at, lower, no_token, GT, RS, Outcome, si, conditions, first_fault}
-use Rattle.osi_session.proofs.Vocabulary.{stands, becomes, good, take_expected, respond_unit}
+use Rattle.osi_session.proofs.Vocabulary.{lt-ltb, le-ltb, eq-eqb, ne_eqb, cases_order, TokenSetting, State, is_restarting, is_restart_due}
+use Rattle.osi_session.proofs.Vocabulary.{restarted_at, lower, RS, stands, becomes, good, take_expected, respond_unit}
 use Rattle.osi_session.proofs.tables.what_is_true_of_each_phase.{implied, excluded}
 use Rattle.osi_session.proofs.tables.the_verdict_on_a_unit.{in_front, empty_item}
 
@@ -27,11 +26,7 @@ equal_stands s n r e = grind (arith, le-ltb, eq-eqb)
 
 pub of_equal : (c o : State) → AreCrossed c o → c.numbers.next ≡ o.numbers.next →
     (stands o c.numbers.next ≡ true) × (stands c o.numbers.next ≡ false)
-of_equal c o x e = (
-  equal_stands o c.numbers.next x.other_asked.phase e ∙ ap not x.is_other,
-  equal_stands c o.numbers.next x.asked.phase (sym e) ∙
-      ap not x.is_caller,
-)
+of_equal c o x e = grind (arith, equal_stands)
 
 pub of_lower : (a b : State) → HasAsked a → HasAsked b → a.numbers.next < b.numbers.next →
     (stands b a.numbers.next ≡ true) × (stands a b.numbers.next ≡ false)
@@ -39,37 +34,22 @@ of_lower a b x y lt = (lower_stands b a.numbers.next y.phase lt, higher_yields a
 
 -- ---- what both sides become
 
-other : (b : Bool) (x y : Outcome) → b ≡ false → (if b then x else y) ≡ y
-other b x y h = grind arith
-
-expected : (s : State) (n : ℕ) (wishes : TokenSetting) (octets : List ℕ) → HasAsked s → s.base ≤ n →
-    first_fault (si (RS Restart n wishes octets)) (conditions s (RS Restart n wishes octets)) ≡ None
-expected s n wishes octets x from = grind (arith, le-leb)
-
 good_restart : (s : State) (n : ℕ) (wishes : TokenSetting) (octets : List ℕ) → HasAsked s → s.base ≤ n →
     respond_unit s (RS Restart n wishes octets) ≡ good s (RS Restart n wishes octets)
 unfolding respond_unit take_expected
-good_restart s n wishes octets x from = grind (arith, excluded, implied, other, expected)
+good_restart s n wishes octets x from = grind (arith, excluded, implied)
 
 taken : (s : State) (n : ℕ) (wishes : TokenSetting) (octets : List ℕ) → HasAsked s → s.base ≤ n →
     after_restart s n wishes octets ≡ becomes s (RS Restart n wishes octets)
-taken s n wishes octets x from =
-    ap (λ (o : Outcome). o.next) (in_front s (GT no_token) (RS Restart n wishes octets) empty_item ∙ good_restart s n wishes octets x from)
+taken s n wishes octets x from = grind (arith, in_front, empty_item, good_restart)
 
 stands_next : (s : State) (n : ℕ) (wishes : TokenSetting) (octets : List ℕ) → HasAsked s → s.base ≤ n → stands s n ≡ true
     → ((after_restart s n wishes octets).numbers.next ≡ n) × (is_restart_due (after_restart s n wishes octets).phase ≡ true)
 unfolding restarted_at
 stands_next s n wishes octets x from e = rw (taken s n wishes octets x from, e) (refl, refl)
 
-yields_next : (s : State) (n : ℕ) (wishes : TokenSetting) (octets : List ℕ) → HasAsked s → s.base ≤ n → stands s n ≡ false
-    → ((after_restart s n wishes octets).numbers.next ≡ s.numbers.next) × (is_restarting (after_restart s n wishes octets).phase ≡ true)
-yields_next s n wishes octets x from e = rw (taken s n wishes octets x from, e) (refl, x.phase)
-
 abbrev pub Agree : ℕ → State → State → Type 0
 Agree n a b = (a.numbers.next ≡ n) × (b.numbers.next ≡ n)
-
-lower_is : (n m : ℕ) → n < m → lower n m ≡ n
-lower_is n m lt = rw (lt-ltb n m lt) refl
 
 lower_other : (n m : ℕ) → m ≤ n → lower n m ≡ m
 lower_other n m le = rw (le-ltb n m le) refl
@@ -79,24 +59,11 @@ pub agreed : (c o : State) (wishes asked : TokenSetting) (octets others : List �
     ((after_restart c o.numbers.next asked others).numbers.next ≡ lower c.numbers.next o.numbers.next)
     × ((after_restart o c.numbers.next wishes octets).numbers.next ≡ lower c.numbers.next o.numbers.next)
 agreed c o wishes asked octets others x = elim (cases_order c.numbers.next o.numbers.next) [
-  | inl e ↦
-      let h = of_equal c o x e in
-      let low = lower_other c.numbers.next o.numbers.next (omega arith) in (
-        (yields_next c o.numbers.next asked others x.asked x.other_number h.1).0 ∙ e ∙ sym low,
-        (stands_next o c.numbers.next wishes octets x.other_asked x.number h.0).0 ∙ e ∙ sym low,
-      )
-  | inr (inl lt) ↦
-      let h = of_lower c o x.asked x.other_asked lt in
-      let low = lower_is c.numbers.next o.numbers.next lt in (
-        (yields_next c o.numbers.next asked others x.asked x.other_number h.1).0 ∙ sym low,
-        (stands_next o c.numbers.next wishes octets x.other_asked x.number h.0).0 ∙ sym low,
-      )
+  | inl e ↦ grind (arith, of_equal, lower_other, taken, stands_next)
+  | inr (inl lt) ↦ grind (arith, taken, stands_next, of_lower c o x.asked x.other_asked lt)
   | inr (inr gt) ↦
       let h = of_lower o c x.other_asked x.asked gt in
-      let low = lower_other c.numbers.next o.numbers.next (omega arith) in (
-        (stands_next c o.numbers.next asked others x.asked x.other_number h.0).0 ∙ sym low,
-        (yields_next o c.numbers.next wishes octets x.other_asked x.number h.1).0 ∙ sym low,
-      )
+      let low = lower_other c.numbers.next o.numbers.next (omega arith) in grind (arith, stands_next, taken)
 ]
 
 -- the one has a restart to answer, and the other awaits the answer
@@ -105,4 +72,4 @@ pub one_answers : (c o : State) (wishes asked : TokenSetting) (octets others : L
     (is_restarting (after_restart o c.numbers.next wishes octets).phase ≡ true))
     ⊎ ((is_restarting (after_restart c o.numbers.next asked others).phase ≡ true) ×
     (is_restart_due (after_restart o c.numbers.next wishes octets).phase ≡ true))
-one_answers c o wishes asked octets others h0 = grind (arith, cases_order, of_equal, yields_next, stands_next, of_lower)
+one_answers c o wishes asked octets others h0 = grind (arith, cases_order, of_equal, taken, stands_next, of_lower)

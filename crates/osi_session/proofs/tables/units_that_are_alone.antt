@@ -1,12 +1,10 @@
 -- Units that are alone in a TSDU: those of category 1 (X.225 section 6.3.7).
-use Rattle.std.proofs.Common.{◌≡◌, refl, subst, ℕ, Bool, true, false, not, ◌||◌, List, [], ◌∷◌, Option, Result, Ok, arith}
-use Rattle.osi_spdu.specs.declared.kinds.Category.{Category}
+use Rattle.std.proofs.Common.{◌≡◌, refl, ℕ, Bool, true, false, not, ◌||◌, List, [], ◌∷◌, Result, Ok, arith}
 use Rattle.osi_spdu.specs.Spelling.{AreBehind}
 use Rattle.osi_spdu.proofs.basics.the_steps_of_reading.{bind_ok, ok_is}
 use Rattle.osi_spdu.proofs.tsdu.units_and_tsdus_are_read.{behind_stands}
-use Rattle.osi_session.proofs.Vocabulary.{list_any, SpduFault, Kind, Zero, Two, category_of, Known, Contents, Units, Placed, contents_of}
-use Rattle.osi_session.proofs.Vocabulary.{behind_at, ended, continued, tsdu_at, Meaning, DT, Place, meaning_by, meaning, place_of, word_at}
-use Rattle.osi_session.proofs.Vocabulary.{word, said_by_units, said_if_read, said_at, Word, Words, as_message}
+use Rattle.osi_session.proofs.Vocabulary.{list_any, SpduFault, Kind, Zero, Two, category_of, Known, Contents, Units, tsdu_at, Meaning, DT}
+use Rattle.osi_session.proofs.Vocabulary.{meaning_by, meaning, word, said_by_units, said_if_read, said_at, Word, Words, as_message}
 
 -- a test that passes no token item and no unit of category 2
 pub record StandsAlone (p : Meaning → Bool) : Type 0 where
@@ -28,17 +26,13 @@ IsAlone p units = stands_alone p (said_by_units units) ≡ true
 none_passes : (a b : Bool) → a ≡ false → b ≡ false → (a || b) ≡ false
 none_passes a b h k = rw (h, k) refl
 
-word_passes : (p : Meaning → Bool) → StandsAlone p → (place : Option Place) (unit : Contents) → p (meaning unit) ≡ false →
-    passes p (word_at place unit) ≡ false
-word_passes p a place unit h = grind arith
-
 behind_word : (p : Meaning → Bool) → StandsAlone p → (unit : Contents) → category_of unit.kind ≡ Two → passes p (word unit) ≡ false
 unfolding word meaning
-behind_word p a unit h = word_passes p a (place_of unit) unit (a.behind unit.kind unit.known unit.information h)
+behind_word p a unit h = grind arith
 
 item_word : (p : Meaning → Bool) → StandsAlone p → (unit : Contents) → category_of unit.kind ≡ Zero → passes p (word unit) ≡ false
 unfolding word meaning
-item_word p a unit h = word_passes p a (place_of unit) unit (a.item unit.kind unit.known unit.information h)
+item_word p a unit h = grind arith
 
 all_behind : (p : Meaning → Bool) → StandsAlone p → (units : Units) → AreBehind units → list_any (passes p) (said_by_units units) ≡ false
 all_behind p a [] h = refl
@@ -47,23 +41,9 @@ all_behind p a (unit ∷ units) h = none_passes _ _ (behind_word p a unit h.0) (
 none_alone : (p : Meaning → Bool) (words : Words) → list_any (passes p) words ≡ false → stands_alone p words ≡ true
 none_alone p words h0 = grind arith
 
-ended_alone : (p : Meaning → Bool) (at : ℕ) (octets : List ℕ) (unit : Contents) (units : Units) → ended at octets unit ≡ Ok units →
-    IsAlone p units
-ended_alone p at octets unit units e = grind (arith, ok_is)
-
-continued_alone : (p : Meaning → Bool) → StandsAlone p → (first : Placed) (units : Units) (category : Category)
-    → category_of first.kind ≡ category → continued category first ≡ Ok units → IsAlone p units
-continued_alone p a first units Zero same e =
-    let b = bind_ok (behind_at 16 first.end first.rest) (λ behind. Ok (contents_of first [] ∷ behind)) units e in
-    let r = behind_stands 16 first.end first.rest b.0 b.1 in
-    let item = item_word p a (contents_of first []) same in
-    subst (IsAlone p) (ok_is (contents_of first [] ∷ b.0) units b.2)
-    (none_alone p (said_by_units (contents_of first [] ∷ b.0)) (none_passes _ _ item (all_behind p a b.0 r.0)))
-continued_alone p a first units _ same e = ended_alone p first.end first.rest (contents_of first []) units e
-
 units_alone : (p : Meaning → Bool) → StandsAlone p → (octets : List ℕ) (units : Units) → tsdu_at octets ≡ Ok units → IsAlone p units
 unfolding tsdu_at
-units_alone p a octets units e = grind (arith, bind_ok, continued_alone)
+units_alone p a octets units e = grind (arith, bind_ok, behind_stands, item_word, ok_is, none_alone, none_passes, all_behind)
 
 read_alone : (p : Meaning → Bool) (read : Result Units SpduFault) (words : Words) → ((units : Units) → read ≡ Ok units → IsAlone p units)
     → said_if_read read ≡ Ok words → stands_alone p words ≡ true

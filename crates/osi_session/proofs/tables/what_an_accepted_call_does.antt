@@ -1,10 +1,9 @@
 -- The effect on a session of a call that its table accepts.
-use Rattle.std.proofs.Common.{◌≡◌, ◌∙◌, subst, ℕ, None, Ok, ap}
+use Rattle.std.proofs.Common.{arith, ◌≡◌, ℕ, None, Ok}
 use Rattle.osi_session.proofs.Vocabulary.{Meaning, tsdus_of, tsdus_sent, Step, allowed, Call, HasSerial, kept_in, called, Listener}
 use Rattle.osi_session.proofs.Vocabulary.{in_state, react, CanBeSent, limit_of, IsSound}
 use Rattle.osi_session.proofs.moves.the_move_of_each_input.{call_leaves, call_sends, call_passes}
 use Rattle.osi_session.proofs.sent.what_is_sent_can_be_written.{call_sendable}
-use Rattle.osi_session.proofs.moves.the_moves_in_memory.{stays}
 
 pub record Accepts (limit : ℕ) (l : Listener) (c : Call) (x : Step) : Type 0 where
   pub leaves : in_state l x.next ≡ (react l (called c)).next
@@ -15,16 +14,10 @@ pub record Accepts (limit : ℕ) (l : Listener) (c : Call) (x : Step) : Type 0 w
 -- by what is in memory
 pub accepts : (limit : ℕ) (v l : Listener) (c : Call) (x : Step) → limit ≡ limit_of v.state → v ≡ l → IsSound v.state → HasSerial c →
     allowed v.state c ≡ Ok x → Accepts limit l c x
-accepts limit v l c x e view sound small h = subst (λ (s : Listener). Accepts limit s c x) view (record {
-  leaves = call_leaves v c x h;
-  sends = ap (λ (n : ℕ). tsdus_of n x.sent) e ∙ call_sends v c x h;
-  sendable = call_sendable v c x sound small h;
-  passes = call_passes v c x h;
-})
+accepts limit v l c x e view sound small h = search (arith, call_leaves, call_sends, call_sendable, call_passes)
 
 -- a call that changes no state changes nothing
 pub rests_by : (v l : Listener) (c : Call) (m : Meaning) → v ≡ l → kept_in v.state.phase v.joined ≡ v.joined →
     allowed v.state c ≡ Ok (record { next = v.state; sent = m })
     → l ≡ (react l (called c)).next
-rests_by v l c m view kept h =
-    subst (λ (s : Listener). s ≡ (react s (called c)).next) view (stays v kept ∙ call_leaves v c (record { next = v.state; sent = m }) h)
+rests_by v l c m view kept h = grind (arith, react, call_leaves v c (record { next = v.state; sent = m }) h)

@@ -1,9 +1,8 @@
 -- What is refused for which reason: a CN that cannot be accepted is answered by RF with the reason that comes
 -- first, and a part that is out of its place is a bad enclosure, however long it is.
-use Rattle.std.proofs.Common.{◌≡◌, ◌∙◌, refl, ℕ, true, false, List, [], Option, Some}
+use Rattle.std.proofs.Common.{arith, ◌≡◌, ℕ, true, false, List, [], Option, Some}
 use Rattle.osi_spdu.specs.declared.fields.TsduMaximumSize.{TsduMaximumSize}
 use Rattle.osi_spdu.specs.declared.settings.TokenSetting.{TokenSetting}
-use Rattle.osi_session.specs.declared.phases.Phase.TheVariants.{WaitCn, Ready, Releasing}
 use Rattle.osi_session.proofs.Vocabulary.{Phase, BadEnclosure, State, Taker, Place}
 use Rattle.osi_session.proofs.Vocabulary.{CN, RF, DT, part, is_wait_cn, takes_data, has_data, functional_units, respond_unit}
 use Rattle.osi_session.proofs.Vocabulary.{take_expected, si, is_in_place, word_verdict, faulty}
@@ -13,40 +12,29 @@ version_at : (s : State) (requirements : ℕ) (serial : Option ℕ) (wishes : To
     (sizes : TsduMaximumSize) (octets : List ℕ) (p : Phase) → s.phase ≡ p
     → is_wait_cn p ≡ true → (respond_unit s (CN false requirements serial wishes from to sizes octets)).reply ≡ Some (RF 132 [])
 unfolding respond_unit take_expected
-version_at s requirements serial wishes from to sizes octets WaitCn e h = rw e refl
-version_at s requirements serial wishes from to sizes octets _ e h = absurd (cc)
+version_at s requirements serial wishes from to sizes octets h e h2 = grind arith
 
 -- a CN that doesn't name version 2
 pub refused_version : (s : State) (requirements : ℕ) (serial : Option ℕ) (wishes : TokenSetting) (from to : Option (List ℕ))
     (sizes : TsduMaximumSize) (octets : List ℕ)
     → is_wait_cn s.phase ≡ true → (respond_unit s (CN false requirements serial wishes from to sizes octets)).reply ≡ Some (RF 132 [])
-refused_version s requirements serial wishes from to sizes octets h =
-    version_at s requirements serial wishes from to sizes octets s.phase refl h
+refused_version s requirements serial wishes from to sizes octets h = grind (arith, version_at)
 
 units_at : (s : State) (requirements : ℕ) (serial : Option ℕ) (wishes : TokenSetting) (from to : Option (List ℕ)) (sizes : TsduMaximumSize)
     (octets : List ℕ) (p : Phase) → s.phase ≡ p
     → is_wait_cn p ≡ true → has_data (functional_units requirements) ≡ false →
     (respond_unit s (CN true requirements serial wishes from to sizes octets)).reply ≡ Some (RF 134 [])
 unfolding respond_unit take_expected
-units_at s requirements serial wishes from to sizes octets WaitCn e h d = rw (e, d) refl
-units_at s requirements serial wishes from to sizes octets _ e h d = absurd (cc)
+units_at s requirements serial wishes from to sizes octets h e h2 d = grind arith
 
 -- a CN that does, and names neither half-duplex nor duplex
 pub refused_units : (s : State) (requirements : ℕ) (serial : Option ℕ) (wishes : TokenSetting) (from to : Option (List ℕ))
     (sizes : TsduMaximumSize) (octets : List ℕ)
     → is_wait_cn s.phase ≡ true → has_data (functional_units requirements) ≡ false →
     (respond_unit s (CN true requirements serial wishes from to sizes octets)).reply ≡ Some (RF 134 [])
-refused_units s requirements serial wishes from to sizes octets h d =
-    units_at s requirements serial wishes from to sizes octets s.phase refl h d
-
-place_at : (t : Taker) (place : Place) (octets : List ℕ) (p : Phase) → t.state.phase ≡ p → takes_data p ≡ true →
-    t.state.held.data_token ≡ false
-    → is_in_place t.joined place ≡ false → word_verdict t (part place octets) ≡ faulty (BadEnclosure (si (DT octets)))
-place_at t place octets Ready e h d k = part_verdict t place octets ∙ rw (e, d, k) refl
-place_at t place octets Releasing e h d k = part_verdict t place octets ∙ rw (e, d, k) refl
-place_at t place octets _ e h d k = absurd (cc)
+refused_units s requirements serial wishes from to sizes octets h d = grind (arith, units_at)
 
 -- a part that is out of its place
 pub out_of_place : (t : Taker) (place : Place) (octets : List ℕ) → takes_data t.state.phase ≡ true → t.state.held.data_token ≡ false
     → is_in_place t.joined place ≡ false → word_verdict t (part place octets) ≡ faulty (BadEnclosure (si (DT octets)))
-out_of_place t place octets h d k = place_at t place octets t.state.phase refl h d k
+out_of_place t place octets h d k = grind (arith, part_verdict)

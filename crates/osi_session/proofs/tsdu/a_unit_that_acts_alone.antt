@@ -1,13 +1,13 @@
 -- A TSDU of one unit, or of one after a GT that names no token, has the effect of that unit.
 -- For the units of a TSDU that are taken, and for those that are counted.
-use Rattle.std.proofs.Common.{◌≡◌, ◌∙◌, ap, refl, sym, Bool, true, [], ◌∷◌, Option, None, option_map}
+use Rattle.std.proofs.Common.{arith, ◌≡◌, refl, Bool, true, [], ◌∷◌, Option, None, option_map}
 use Rattle.osi_spdu.specs.declared.codes.Code.TheVariants.{TokenItem}
 use Rattle.osi_spdu.specs.declared.kinds.Kind.{Kind}
 use Rattle.osi_spdu.specs.declared.kinds.Kind.TheVariants.{GiveTokens}
 use Rattle.osi_spdu.specs.declared.tokens.TokenSet.{TokenSet}
 use Rattle.osi_spdu.specs.Fields.{token_octets}
 use Rattle.osi_spdu.specs.Known.{Contents, Known}
-use Rattle.osi_session.proofs.Vocabulary.{GT, no_token, Units, Word, says, word, meaning, said_by_units, Taker, respond_tsdu, respond_word}
+use Rattle.osi_session.proofs.Vocabulary.{GT, no_token, Units, says, word, meaning, said_by_units, Taker, respond_tsdu, respond_word}
 use Rattle.osi_session.proofs.tables.messages_act_as_the_table_says.{word_alone, word_behind}
 
 empty_unit : (unit : Contents) → unit.kind ≡ GiveTokens → unit.known TokenItem ≡ None → word unit ≡ says (GT no_token)
@@ -16,20 +16,13 @@ empty_unit unit k n = rw (k, n) refl
 
 pub empty_give : (unit : Contents) (kind : Kind) (known : Known) (item : Option TokenSet) → kind ≡ unit.kind → kind ≡ GiveTokens →
     known ≡ unit.known → option_map token_octets item ≡ known TokenItem → item ≡ None → word unit ≡ says (GT no_token)
-empty_give unit kind known item k g n o e =
-    empty_unit unit (sym k ∙ g)
-    (ap (λ (x : Known). x TokenItem) (sym n) ∙ sym o ∙ ap (λ (x : Option TokenSet). option_map token_octets x) e)
+empty_give unit kind known item k g n o e = grind (arith, empty_unit)
 
 pub first_acts : (first u : Contents) (others : Units) (t : Taker) → others ≡ [] → u ≡ first →
     respond_tsdu t (said_by_units (first ∷ others)) ≡ respond_word t (word u)
-first_acts first u others t e h =
-    ap (λ (us : Units). respond_tsdu t (said_by_units (first ∷ us))) e ∙ word_alone t (word first)
-    ∙ ap (λ (x : Contents). respond_word t (word x)) (sym h)
+first_acts first u others t e h = grind (arith, word_alone, word, respond_word)
 
 pub second_acts : (b : Bool) (first f second : Contents) (others : Units) (t : Taker) → (b ≡ true → word f ≡ says (GT no_token)) →
     b ≡ true → f ≡ first → others ≡ second ∷ [] →
     respond_tsdu t (said_by_units (first ∷ others)) ≡ respond_word t (word second)
-second_acts b first f second others t gives e g h =
-    ap (λ (us : Units). respond_tsdu t (said_by_units (first ∷ us))) h
-    ∙ ap (λ (x : Contents). respond_tsdu t (word x ∷ word second ∷ [])) (sym g)
-    ∙ ap (λ (w : Word). respond_tsdu t (w ∷ word second ∷ [])) (gives e) ∙ word_behind t (word second)
+second_acts b first f second others t gives e g h = grind (arith, word, word_behind)

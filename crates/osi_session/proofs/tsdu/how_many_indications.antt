@@ -1,31 +1,15 @@
 -- How many indications a TSDU has.
-use Rattle.std.proofs.Common.{sym, subst, ℕ, ◌+◌, ◌≤◌, Bool, List, [], ◌∷◌, ◌++◌, length, if◌then◌else◌, arith}
-use Rattle.osi_session.proofs.Vocabulary.{length-append, State, Meaning, AA, Word, Words, Taker, Hearing, word_verdict, respond_word}
-use Rattle.osi_session.proofs.Vocabulary.{respond_words, acting_words, respond_tsdu, Shown, Outcome, shown_for, in_aborting, in_ended}
-use Rattle.osi_session.proofs.Vocabulary.{respond_unit, Verdict, faulty, verdict, enacted, is_faulty}
+use Rattle.std.proofs.Common.{sym, subst, ℕ, ◌+◌, ◌≤◌, List, [], ◌∷◌, ◌++◌, length, arith}
+use Rattle.osi_session.proofs.Vocabulary.{length-append, State, Meaning, AA, Word, Words, Taker, respond_word, respond_words, acting_words}
+use Rattle.osi_session.proofs.Vocabulary.{respond_tsdu, Shown, Outcome, respond_unit, Verdict, faulty, verdict, enacted}
 use Rattle.osi_session.proofs.tables.the_verdict_on_a_unit.{enacts}
 use Rattle.osi_session.proofs.tables.a_word_acts_as_its_message.{word_does}
 
 abbrev AtMost : ℕ → List Shown → Type 0
 AtMost n shown = length shown ≤ n
 
-either : (b : Bool) (n : ℕ) (x y : List Shown) → AtMost n x → AtMost n y → AtMost n (if b then x else y)
-either b n x y h k = grind arith
-
-either_shows : (b : Bool) (n : ℕ) (x y : Outcome) → AtMost n x.shown → AtMost n y.shown → AtMost n (if b then x else y).shown
-either_shows b n x y h k = grind arith
-
-good_shows : (s : State) (u : Meaning) → AtMost 1 (shown_for s u)
-good_shows s u = grind (arith, either)
-
-aborting_shows : (s : State) (u : Meaning) → AtMost 1 (in_aborting s u).shown
-aborting_shows s u = grind arith
-
-ended_shows : (s : State) (u : Meaning) → AtMost 1 (in_ended s u).shown
-ended_shows s u = grind arith
-
 enacted_shows : (s : State) (u : Meaning) (v : Verdict) → AtMost 1 (enacted s u v).shown
-enacted_shows s u v = grind (arith, either_shows, aborting_shows, ended_shows, either, good_shows)
+enacted_shows s u v = grind arith
 
 -- a unit shows at most one thing
 pub unit_shows : (s : State) (u : Meaning) → length (respond_unit s u).shown ≤ 1
@@ -39,9 +23,6 @@ word_shows t w =
     word_does (λ o. AtMost 1 o.shown) t w
     (record { acts = λ u a. unit_shows t.state u; bad = λ fault o. enacted_shows t.state AA (faulty fault); rests = omega arith })
 
-either_heard : (b : Bool) (n : ℕ) (x y : Hearing) → AtMost n x.shown → AtMost n y.shown → AtMost n (if b then x else y).shown
-either_heard b n x y h k = grind arith
-
 all_show : (t : Taker) (ws : Words) → length (respond_words t ws).shown ≤ length ws
 unfolding respond_words
 all_show t [] = omega arith
@@ -49,14 +30,11 @@ all_show t (w ∷ ws) =
     let one = word_shows t w in
     let both = both_show (respond_word t w).shown (respond_words (respond_word t w).next ws).shown (length ws) one
     (all_show (respond_word t w).next ws) in
-    either_heard (is_faulty (word_verdict t w)) (length (w ∷ ws)) _ _ (omega arith) (omega arith)
-
-either_long : (b : Bool) (n : ℕ) (x y : Words) → length x ≤ n → length y ≤ n → length (if b then x else y) ≤ n
-either_long b n x y h k = grind arith
+    grind arith
 
 acting_len : (words : Words) → length (acting_words words) ≤ length words
 unfolding acting_words
-acting_len words = grind (arith, either_long, length-append)
+acting_len words = grind (arith, length-append)
 
 -- and a TSDU at most one for each word
 pub words_show : (t : Taker) (words : Words) → length (respond_tsdu t words).shown ≤ length words

@@ -1,16 +1,14 @@
 -- If memory is needed for one word, it is needed for all: a word that indicates and sends nothing joins no less.
-use Rattle.std.proofs.Common.{◌≡◌, refl, sym, ap, subst, ℕ, ◌≤◌, ◌<◌, Bool, true, false, not, ◌&&◌, ◌||◌, if◌then◌else◌, nat_lt, List, []}
-use Rattle.std.proofs.Common.{◌∷◌, ◌++◌, length, Option, Some, None, arith}
-use Rattle.osi_session.proofs.Vocabulary.{is_none, cases_Bool, and_parts, ltb-true, lt-ltb, length-append, UnitFault, State, is_over}
-use Rattle.osi_session.proofs.Vocabulary.{may_hold, nothing, becomes, good, bad, is_nil, is_silent, first_reply, Verdict, over, dropped}
-use Rattle.osi_session.proofs.Vocabulary.{faulty, fine, by_fault, Shown, Meaning, First, Middle, Last, Word, Words, says, part, Taker}
-use Rattle.osi_session.proofs.Vocabulary.{Hearing, joined_octets, kept_in, word_verdict, heard, heard_then, respond_word, respond_words}
-use Rattle.osi_session.proofs.Vocabulary.{takes_room}
-use Rattle.osi_session.proofs.tsdu.the_effect_of_a_word.{fine_holds, first_is, middle_is, last_is, kept_held}
+use Rattle.std.proofs.Common.{◌≡◌, refl, sym, ap, subst, ℕ, ◌≤◌, Bool, true, false, not, ◌&&◌, if◌then◌else◌, List, [], ◌∷◌, ◌++◌, length}
+use Rattle.std.proofs.Common.{Option, Some, arith}
+use Rattle.osi_session.proofs.Vocabulary.{is_none, cases_Bool, and_parts, length-append, UnitFault, State, is_over, may_hold, nothing}
+use Rattle.osi_session.proofs.Vocabulary.{is_nil, Verdict, over, dropped, faulty, fine, by_fault, Shown, First, Middle, Last, Word, Words}
+use Rattle.osi_session.proofs.Vocabulary.{says, part, Taker, Hearing, joined_octets, kept_in, word_verdict, heard, heard_then, respond_word}
+use Rattle.osi_session.proofs.Vocabulary.{respond_words, takes_room}
+use Rattle.osi_session.proofs.tsdu.the_effect_of_a_word.{fine_holds, first_is, middle_is, last_is}
 use Rattle.osi_session.proofs.tsdu.what_is_joined.{InPhase}
 use Rattle.osi_session.proofs.tsdu.the_verdict_while_joining.{bad_loud}
-use Rattle.osi_session.proofs.tables.what_is_true_of_each_phase.{excluded}
-use Rattle.osi_session.proofs.tables.messages_act_as_the_table_says.{word_at, word_kept, kept_gone}
+use Rattle.osi_session.proofs.tables.messages_act_as_the_table_says.{word_at, word_kept}
 
 abbrev pub quiet : Hearing → Bool
 quiet h = is_nil h.shown && is_none h.reply
@@ -20,71 +18,39 @@ size joined = length (joined_octets joined)
 
 -- ---- what needs memory
 
-takes_by : (q : Bool) (m n : ℕ) → (not q || nat_lt m n) ≡ true → q ≡ true → m < n
-takes_by q m n h k = grind (arith, ltb-true)
-
-by_takes : (q : Bool) (m n : ℕ) → (q ≡ true → m < n) → (not q || nat_lt m n) ≡ true
-by_takes q m n h = grind (arith, lt-ltb)
-
-none_after : (r t : Option Meaning) → is_none (first_reply r t) ≡ true → (is_none r ≡ true) × (is_none t ≡ true)
-none_after r t h = grind arith
-
 nil_after : (a b : List Shown) → is_nil (a ++ b) ≡ true → (is_nil a ≡ true) × (is_nil b ≡ true)
 nil_after [] b h = (refl, h)
 nil_after (i ∷ a) b h = absurd (cc)
 
-both_true : (a b : Bool) → a ≡ true → b ≡ true → (a && b) ≡ true
-both_true a b h k = grind arith
-
 -- what is quiet together is quiet in each
 pub quiet_both : (a b : Hearing) → quiet (heard_then a b) ≡ true → (quiet a ≡ true) × (quiet b ≡ true)
-quiet_both a b h = grind (arith, and_parts, nil_after, none_after, both_true)
+quiet_both a b h = grind (arith, and_parts, nil_after)
 
 pub takes_then : (j : Option (List ℕ)) (a b : Hearing) → takes_room j a ≡ true →
     (quiet b ≡ true → size a.next.joined ≤ size b.next.joined) → takes_room j (heard_then a b) ≡ true
-takes_then j a b h g = grind (arith, by_takes, quiet_both, takes_by)
+takes_then j a b h g = grind (arith, quiet_both)
 
 pub takes_behind : (j : Option (List ℕ)) (a b : Hearing) → (quiet a ≡ true → size j ≤ size a.next.joined) →
     takes_room a.next.joined b ≡ true → takes_room j (heard_then a b) ≡ true
-takes_behind j a b g h = grind (arith, by_takes, quiet_both, takes_by)
+takes_behind j a b g h = search (arith, quiet_both)
 
 -- ---- a good unit that shows and sends nothing changes nothing
-
-connect_quiet : (v d : Bool) (s a b : State) (i : Shown) (r t : Meaning) →
-    (is_nil (if v && d then i ∷ [] else []) && is_none (if not v then Some r else (if not d then Some t else None))) ≡ true →
-    (if v && d then a else b) ≡ s
-connect_quiet v d s a b i r t h0 = grind arith
-
-restart_quiet : (b : Bool) (s a : State) (i : Shown) → (is_nil (if b then i ∷ [] else []) && true) ≡ true → (if b then a else s) ≡ s
-restart_quiet b s a i h = grind arith
-
-not_both : (b : Bool) → (b && false) ≡ true → ⊥
-not_both b h = grind arith
-
-quiet_good : (s : State) (u : Meaning) → is_silent (good s u) ≡ true → becomes s u ≡ s
-quiet_good s u h = grind (arith, connect_quiet, restart_quiet, not_both)
 
 -- ---- a quiet word joins no less
 
 kept_size : (s next : State) (j : Option (List ℕ)) → kept_in s.phase j ≡ j → next ≡ s → size j ≤ size (kept_in next.phase j)
 kept_size s next j k e = grind arith
 
-gone : (b : Bool) → b ≡ false → not b ≡ true
-gone b h = grind arith
-
-gone_size : (t : Taker) → InPhase t → is_over t.state.phase ≡ true → size t.joined ≡ 0
-gone_size t k o = grind (arith, kept_gone, gone, excluded)
-
 early_grows : (t : Taker) (w : Word) (octets : List ℕ) → may_hold t.state.phase ≡ true →
     respond_word t w ≡ heard (Some (joined_octets t.joined ++ octets)) (nothing t.state)
     → size t.joined ≤ size (respond_word t w).next.joined
-early_grows t w octets m e = grind (arith, kept_held, length-append)
+early_grows t w octets m e = grind (arith, length-append)
 
 abbrev Grows : Option (List ℕ) → Hearing → Type 0
 Grows j h = quiet h ≡ true → size j ≤ size h.next.joined
 
 fine_grows : (t : Taker) (w : Word) → InPhase t → word_verdict t w ≡ fine → Grows t.joined (respond_word t w)
-fine_grows t (says u) k e = grind (arith, kept_size, quiet_good, word_at t (says u) fine e)
+fine_grows t (says u) k e = grind (arith, kept_size, word_at t (says u) fine e)
 fine_grows t (part First octets) k e = λ q. early_grows t (part First octets) octets (fine_holds t First octets e) (first_is t octets e)
 fine_grows t (part Middle octets) k e = λ q. early_grows t (part Middle octets) octets (fine_holds t Middle octets e) (middle_is t octets e)
 fine_grows t (part Last octets) k e = subst (Grows t.joined) (sym (last_is t octets e)) (λ q. absurd (cc))
@@ -93,18 +59,15 @@ over_by : (b d x : Bool) (n : UnitFault) (f : Option UnitFault) →
     (if b then over else if d then dropped else if not x then faulty n else by_fault f) ≡ over → b ≡ true
 over_by b d x n f h0 = grind arith
 
-loud_or : (s : State) (fault : UnitFault) → is_silent (bad s fault) ≡ true → ⊥
-loud_or s fault h = let k = bad_loud s fault in cc
-
 live_grows : (t : Taker) (w : Word) (v : Verdict) → InPhase t → is_over t.state.phase ≡ false → word_verdict t w ≡ v →
     Grows t.joined (respond_word t w)
 live_grows t w over k o e = grind (arith, over_by)
 live_grows t w dropped k o e = subst (Grows t.joined) (sym (word_at t w dropped e)) (λ q. kept_size t.state t.state t.joined k refl)
-live_grows t w (faulty fault) k o e = subst (Grows t.joined) (sym (word_at t w (faulty fault) e)) (λ q. absurd (loud_or t.state fault q))
+live_grows t w (faulty fault) k o e = subst (Grows t.joined) (sym (word_at t w (faulty fault) e)) (λ q. absurd (grind (arith, bad_loud)))
 live_grows t w fine k o e = fine_grows t w k e
 
 word_grows : (t : Taker) (w : Word) → InPhase t → Grows t.joined (respond_word t w)
-word_grows t w h0 = grind (arith, cases_Bool, gone_size, live_grows)
+word_grows t w h0 = grind (arith, cases_Bool, live_grows)
 
 pub word_in_phase : (t : Taker) (w : Word) → InPhase (respond_word t w).next
 word_in_phase t w = ap (λ (r : Taker). r.joined) (word_kept t w)
@@ -137,10 +100,6 @@ word_takes t w ws h = search (arith, either_takes, takes_then, words_grow (respo
 pub record SoFar (j : Option (List ℕ)) (h : Hearing) : Type 0 where
   pub grows : quiet h ≡ true → size j ≤ size h.next.joined
   pub phase : InPhase h.next
-
-pub none_so_far : (t : Taker) (h : Hearing) → h ≡ record { next = t; shown = []; reply = None; closes = false } → InPhase t →
-    SoFar t.joined h
-none_so_far t h e k = subst (SoFar t.joined) (sym e) (record { grows = λ q. omega arith; phase = k })
 
 pub word_so_far : (j : Option (List ℕ)) (h : Hearing) (w : Word) → SoFar j h → SoFar j (heard_then h (respond_word h.next w))
 word_so_far j h w s = search (arith, both_grow, word_grows, word_in_phase)

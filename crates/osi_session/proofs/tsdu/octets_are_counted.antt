@@ -1,6 +1,6 @@
 -- The effect of a word with the octets of an unfinished SSDU counted: it is the same whatever these octets are.
 use Rattle.std.proofs.Common.{◌≡◌, ◌∙◌, refl, sym, ap, subst, ℕ, ◌+◌, ◌<◌, ◌≤◌, Bool, true, false, not, ◌||◌, if◌then◌else◌, nat_le, List}
-use Rattle.std.proofs.Common.{[], ◌∷◌, ◌++◌, length, Option, Some, None, Result, Err, is_none, option_map, unwrap_or, arith}
+use Rattle.std.proofs.Common.{[], ◌∷◌, ◌++◌, length, Option, Some, None, Result, Err, option_map, unwrap_or, arith}
 use Rattle.osi_session.specs.declared.joining.PartVerdict.TheVariants as is
 use Rattle.osi_session.specs.Counting.{no_octets, count_by, count_by_idle, taker_with, Counts, CountsAll, CountsCame}
 use Rattle.osi_session.specs.Standing.{Count, counted}
@@ -16,29 +16,18 @@ use Rattle.osi_session.proofs.tsdu.the_effect_of_a_word.{word_told, message_is, 
 
 -- ---- a hearing, counted
 
-kept_map : (b : Bool) (j : Option (List ℕ)) →
-    option_map length (if◌then◌else◌ {A = Option (List ℕ)} b None j) ≡ (if◌then◌else◌ {A = Option ℕ} b None (option_map length j))
-kept_map b j = grind arith
-
 pub heard_counted : (j : Option (List ℕ)) (o : Outcome) → counted (heard j o) ≡ count_by (option_map length j) o
-heard_counted j o = grind (arith, kept_map)
+heard_counted j o = grind arith
 
 -- this many octets are joined
 heard_so_many : (j : Option (List ℕ)) (n : Option ℕ) (o : Outcome) → option_map length j ≡ n → counted (heard j o) ≡ count_by n o
 heard_so_many j n o e = heard_counted j o ∙ ap (λ (m : Option ℕ). count_by m o) e
 
-none_same : (j : Option (List ℕ)) (n : Option ℕ) → option_map length j ≡ n → is_none j ≡ is_none (no_octets n)
-none_same j n e = grind arith
-
 -- ---- a message
-
-verdict_same : (s : State) (j k : Option (List ℕ)) (u : Meaning) → is_none j ≡ is_none k →
-    word_verdict (taker_with s j) (says u) ≡ word_verdict (taker_with s k) (says u)
-verdict_same s j k u e = grind arith
 
 pub message_counts : (s : State) (n : Option ℕ) (k : Option (List ℕ)) (u : Meaning) (o : Outcome) (c : Count) → k ≡ no_octets n
     → enacted s u (word_verdict (taker_with s k) (says u)) ≡ o → c ≡ count_by n o → Counts s n (says u) c
-message_counts s n k u o c e h d = grind (arith, message_is, verdict_same, none_same, heard_so_many)
+message_counts s n k u o c e h d = grind (arith, message_is, heard_so_many)
 
 -- ---- a part
 
@@ -47,22 +36,13 @@ part_by n v r e h p s = if v || r then (if v then over else dropped) else if not
     faulty (TokenHeld n)
     else if not p then faulty (BadEnclosure n) else if not s then faulty (DataTooLong n) else fine
 
-dropped_by : (n : ℕ) (v r e h p a b : Bool) → is.Dropped ≡ told_of (part_by n v r e h p b) → is.Dropped ≡ told_of (part_by n v r e h p a)
-dropped_by n v r e h p a b h0 = grind arith
-
 bad_by : (n : ℕ) (v r e h p a b : Bool) (f : UnitFault) → (b ≡ false → a ≡ false) → is.Bad f ≡ told_of (part_by n v r e h p b) →
     is.Bad f ≡ told_of (part_by n v r e h p a)
 bad_by n v r e h p a b f h0 h1 = grind arith
 
-fine_by : (n : ℕ) (v r e h p a b : Bool) → a ≡ true → is.Good ≡ told_of (part_by n v r e h p b) → part_by n v r e h p a ≡ fine
-fine_by n v r e h p a b h0 h1 = grind arith
-
 long_by : (n : ℕ) (v r e h p a b : Bool) → a ≡ false → is.Good ≡ told_of (part_by n v r e h p b) →
     is.Bad (DataTooLong n) ≡ told_of (part_by n v r e h p a)
 long_by n v r e h p a b h0 h1 = grind arith
-
-place_same : (j k : Option (List ℕ)) (place : Place) → is_none j ≡ is_none k → is_in_place j place ≡ is_in_place k place
-place_same j k place e = grind arith
 
 -- whether what a part leaves fits
 abbrev fits : Option (List ℕ) → List ℕ → Bool
@@ -76,37 +56,26 @@ abbrev by_place : State → Option (List ℕ) → Place → List ℕ → Bool �
 by_place s k place o b = part_by (si (DT o)) (is_over s.phase) (is_restarting s.phase) (takes_data s.phase) s.held.data_token
     (is_in_place k place) b
 
-verdict_at : (s : State) (j k : Option (List ℕ)) (place : Place) (o : List ℕ) → is_none j ≡ is_none k →
-    told_at s j place o ≡ by_place s k place o (fits j o)
-verdict_at s j k place o e = grind (arith, part_verdict, place_same)
-
 len_of : (j : Option (List ℕ)) (n : Option ℕ) (o : List ℕ) → option_map length j ≡ n →
     length (joined_octets j ++ o) ≡ unwrap_or n 0 + length o
 len_of j n o e = grind (arith, length-append)
 
-none_len : (n : Option ℕ) (o : List ℕ) → length (joined_octets (no_octets n) ++ o) ≡ length o
-none_len n o = grind arith
-
-not_leb : (a b m : ℕ) → b ≤ a → nat_le b m ≡ false → nat_le a m ≡ false
-not_leb a b m h e = grind (arith, leb-true)
-
 shorter : (j : Option (List ℕ)) (n : Option ℕ) (o : List ℕ) → option_map length j ≡ n → fits (no_octets n) o ≡ false → fits j o ≡ false
-shorter j n o e h = grind (arith, len_of, none_len, not_leb)
+shorter j n o e h = grind (arith, len_of)
 
 pub dropped_counts : (s : State) (n : Option ℕ) (k : Option (List ℕ)) (place : Place) (o : List ℕ) (c : Count) → k ≡ no_octets n
     → is.Dropped ≡ told_of (word_verdict (taker_with s k) (part place o)) → c ≡ count_by n (nothing s) → Counts s n (part place o) c
-dropped_counts s n k place o c e h d = grind (arith, none_same, dropped_by, verdict_at, part_dropped, heard_so_many)
+dropped_counts s n k place o c e h d = grind (arith, part_dropped, heard_so_many)
 
 pub bad_counts : (s : State) (n : Option ℕ) (k : Option (List ℕ)) (place : Place) (o : List ℕ) (fault : UnitFault) (c : Count) →
     k ≡ no_octets n
     → is.Bad fault ≡ told_of (word_verdict (taker_with s k) (part place o)) → c ≡ count_by n (bad s fault) → Counts s n (part place o) c
 bad_counts s n k place o fault c e h d = λ j f.
-    let same = none_same j n f ∙ ap is_none (sym e) in
     let less : fits k o ≡ false → fits j o ≡ false = λ x. shorter j n o f (ap (λ (y : Option (List ℕ)). fits y o) (sym e) ∙ x) in
     let told = bad_by (si (DT o)) (is_over s.phase) (is_restarting s.phase) (takes_data s.phase) s.held.data_token (is_in_place k place)
     (fits j o) (fits k o) fault less
-    (h ∙ ap told_of (verdict_at s k k place o refl)) in
-    ap counted (part_bad (taker_with s j) place o fault (told ∙ ap told_of (sym (verdict_at s j k place o same)))) ∙
+    (h ∙ ap told_of (grind (arith, part_verdict))) in
+    ap counted (part_bad (taker_with s j) place o fault (told ∙ ap told_of (sym (grind (arith, part_verdict))))) ∙
     heard_so_many j n (bad s fault) f ∙ sym d
 
 -- too much is joined
@@ -114,29 +83,22 @@ pub long_counts : (s : State) (n : Option ℕ) (k : Option (List ℕ)) (place : 
     → is.Good ≡ told_of (word_verdict (taker_with s k) (part place o)) → most_data < unwrap_or n 0 + length o
     → c ≡ count_by n (bad s (DataTooLong (si (DT o)))) → Counts s n (part place o) c
 long_counts s n k place o c e h l d = λ j f.
-    let same = none_same j n f ∙ ap is_none (sym e) in
     let long : fits j o ≡ false = rw (len_of j n o f) (above (unwrap_or n 0 + length o) l) in
     let told = long_by (si (DT o)) (is_over s.phase) (is_restarting s.phase) (takes_data s.phase) s.held.data_token (is_in_place k place)
     (fits j o) (fits k o) long
-    (h ∙ ap told_of (verdict_at s k k place o refl)) in
-    ap counted (part_bad (taker_with s j) place o (DataTooLong (si (DT o))) (told ∙ ap told_of (sym (verdict_at s j k place o same))))
+    (h ∙ ap told_of (grind (arith, part_verdict))) in
+    ap counted (part_bad (taker_with s j) place o (DataTooLong (si (DT o))) (told ∙ ap told_of (sym (grind (arith, part_verdict)))))
     ∙ heard_so_many j n (bad s (DataTooLong (si (DT o)))) f ∙ sym d
   where
     above : (m : ℕ) → most_data < m → nat_le m most_data ≡ false
     above m h = grind (arith, leb-true)
 
--- what a good part leaves
-left_of : (s : State) (j : Option (List ℕ)) (n : Option ℕ) (place : Place) (o : List ℕ) (total : ℕ) → option_map length j ≡ n →
-    word_verdict (taker_with s j) (part place o) ≡ fine
-    → total ≡ unwrap_or n 0 + length o →
-    counted (respond_word (taker_with s j) (part place o)) ≡ count_by (if is_last place then None else Some total) (nothing s)
-left_of s j n place o total f v t = grind (arith, first_is, heard_so_many, len_of, middle_is, last_is, heard_counted)
-
 pub good_counts : (s : State) (n : Option ℕ) (k : Option (List ℕ)) (place : Place) (o : List ℕ) (total : ℕ) (c : Count) → k ≡ no_octets n
     → is.Good ≡ told_of (word_verdict (taker_with s k) (part place o)) → unwrap_or n 0 + length o ≤ most_data →
     total ≡ unwrap_or n 0 + length o
     → c ≡ count_by (if is_last place then None else Some total) (nothing s) → Counts s n (part place o) c
-good_counts s n k place o total c e h l t d = grind (arith, none_same, len_of, le-leb, unwrap_or, fine_by, verdict_at, left_of)
+good_counts s n k place o total c e h l t d =
+    grind (arith, len_of, le-leb, unwrap_or, first_is, heard_so_many, middle_is, last_is, heard_counted)
 
 -- ---- words one after the other
 
@@ -149,13 +111,11 @@ here s c w h k e = grind arith
 
 pub then_bad : (s c : Count) (w : Word) (b : Bool) → Counts s.state s.joined w c → b ≡ replies_abort c.reply → (h : Hearing) →
     counted h ≡ s → b ≡ is_faulty (word_verdict h.next w)
-then_bad s c w b k n h e =
-    word_told h.next w (respond_word h.next w) b refl (n ∙ ap (λ (x : Count). replies_abort x.reply) (sym (here s c w h k e)))
+then_bad s c w b k n h e = grind (arith, word_told, respond_word h.next w, here s c w h k e)
 
 pub then_left : (s c n : Count) (w : Word) → Counts s.state s.joined w c → n ≡ count_then s c → (h : Hearing) → counted h ≡ s →
     counted (heard_then h (respond_word h.next w)) ≡ n
-then_left s c n w k m h e =
-    ap (λ (x : Count). count_then (counted h) x) (here s c w h k e) ∙ ap (λ (x : Count). count_then x c) e ∙ sym m
+then_left s c n w k m h e = grind (arith, here s c w h k e)
 
 -- what the loop over the words of a TSDU keeps: a hearing of what was done so far, whatever octets are joined
 pub record Walks (s : State) (n : Option ℕ) (words : Words) (c : Count) (restarts : Bool) (item : Word) (us : Words)
@@ -173,9 +133,7 @@ pub walks_begin : (s : State) (n : Option ℕ) (c : Count) (item first : Word) (
     → WalksAll s n (first ∷ units) c false item us
 walks_begin s n c item first us units e i b = λ j f. record {
   heard = idle (taker_with s j);
-  leads = subst (λ (x : Word). Leads (respond_tsdu (taker_with s j) (first ∷ units)) (idle (taker_with s j)) false x us) (sym i)
-      (subst (λ (xs : Words). Leads (respond_tsdu (taker_with s j) (first ∷ units)) (idle (taker_with s j)) false first xs) (sym b)
-      (tsdu_begins (taker_with s j) (idle (taker_with s j)) first units refl));
+  leads = grind (arith, tsdu_begins (taker_with s j) (idle (taker_with s j)) first units refl);
   counts = ap (count_by_idle s) f ∙ sym e;
 }
 
@@ -198,9 +156,7 @@ walks_on s n words c next restarts now b item u us w t g l r = λ j f.
     let x = w j f in
     record {
       heard = heard_then x.heard (respond_word x.heard.next u);
-      leads = subst (λ (y : Bool). Leads (respond_tsdu (taker_with s j) words) (heard_then x.heard (respond_word x.heard.next u)) y item us)
-          (sym r)
-          (goes_on (respond_tsdu (taker_with s j) words) x.heard restarts item u us x.leads (sym (t x.heard x.counts) ∙ g));
+      leads = grind (arith, respond_word, goes_on);
       counts = l x.heard x.counts;
     }
 

@@ -1,23 +1,22 @@
 -- The answer to a TSDU, the phases in which a session closes the transport connection, and those in which a call is
 -- accepted.
-use Rattle.std.proofs.Common.{◌⊎◌, inl, inr, ◌≡◌, refl, sym, ◌∙◌, ap, subst, ℕ, Bool, true, false, not, ◌&&◌, ◌||◌, List, [], ◌∷◌, Option}
-use Rattle.std.proofs.Common.{Some, None, unwrap_or, Result, Ok, Err, if◌then◌else◌, arith}
-use Rattle.osi_session.proofs.Vocabulary.{list_any, SpduFault, TokenSetting, TsduMaximumSize, Meaning, CN, RF, AB, AA, said_at, Word, Words}
-use Rattle.osi_session.proofs.Vocabulary.{as_message, UnitFault, Spelling, Unexpected, Phase, WaitTransport, Answering, State}
-use Rattle.osi_session.proofs.Vocabulary.{is_wait_transport, is_wait_cn, is_aborting, is_ended, is_over, may_abort, Call, Step, may_call}
-use Rattle.osi_session.proofs.Vocabulary.{allowed, may_close, may_close_word, closes_alone, is_answer, awaits_close, Taker, Hearing}
-use Rattle.osi_session.proofs.Vocabulary.{word_verdict, respond_word, respond_words, heard_then, acting_words, respond_tsdu, respond_came}
-use Rattle.osi_session.proofs.Vocabulary.{Input, called, taken, unread, opened, refused, broken, is_opened, came_as, came, Listener}
-use Rattle.osi_session.proofs.Vocabulary.{taker_of, react, after_input, functional_units, Outcome, si, conditions, first_fault, is_expected}
-use Rattle.osi_session.proofs.Vocabulary.{drops, nothing, good, bad, becomes, judged, take_expected, in_aborting, in_ended, respond_unit}
-use Rattle.osi_session.proofs.Vocabulary.{first_reply, and_then, over, verdict, enacted, is_faulty, respond_fault}
-use Rattle.osi_session.proofs.moves.what_closes_the_connection.{neither, acting_none, not_true, words_open, octets_alone, fault_open}
+use Rattle.std.proofs.Common.{◌⊎◌, inl, inr, ◌≡◌, refl, sym, ◌∙◌, ap, subst, ℕ, Bool, true, false, ◌||◌, List, [], ◌∷◌, Option, Some, None}
+use Rattle.std.proofs.Common.{unwrap_or, Result, Ok, Err, if◌then◌else◌, arith}
+use Rattle.osi_session.proofs.Vocabulary.{list_any, SpduFault, TokenSetting, TsduMaximumSize, Meaning, CN, AB, AA, said_at, Word, Words}
+use Rattle.osi_session.proofs.Vocabulary.{as_message, UnitFault, Spelling, Phase, Answering, State, is_wait_transport, is_wait_cn}
+use Rattle.osi_session.proofs.Vocabulary.{is_aborting, is_ended, is_over, may_abort, Call, Step, may_call, allowed, may_close_word}
+use Rattle.osi_session.proofs.Vocabulary.{closes_alone, is_answer, awaits_close, Taker, Hearing, word_verdict, respond_word, respond_words}
+use Rattle.osi_session.proofs.Vocabulary.{heard_then, acting_words, respond_tsdu, respond_came, Input, called, taken, unread, opened}
+use Rattle.osi_session.proofs.Vocabulary.{refused, broken, is_opened, came_as, came, Listener, taker_of, react, after_input}
+use Rattle.osi_session.proofs.Vocabulary.{functional_units, Outcome, is_expected, drops, nothing, good, bad, take_expected, in_aborting}
+use Rattle.osi_session.proofs.Vocabulary.{in_ended, respond_unit, first_reply, and_then, over, is_faulty, respond_fault}
+use Rattle.osi_session.proofs.moves.what_closes_the_connection.{neither, acting_none, words_open, octets_alone, fault_open}
 use Rattle.osi_session.proofs.tables.what_an_accepted_call_has_passed.{passed}
 use Rattle.osi_session.proofs.tables.what_is_true_of_each_phase.{implied, excluded}
-use Rattle.osi_session.proofs.tables.the_outcomes_of_each_input.{not_false, call_cases, unit_cases, taken_cases, fault_cases, refused_cases}
+use Rattle.osi_session.proofs.tables.the_outcomes_of_each_input.{call_cases, unit_cases, taken_cases, fault_cases, refused_cases}
 use Rattle.osi_session.proofs.tables.the_outcomes_of_each_input.{broken_cases}
 use Rattle.osi_session.proofs.runs.what_every_run_preserves.{word_over}
-use Rattle.osi_session.proofs.tables.the_verdict_on_a_unit.{enacts, not_over}
+use Rattle.osi_session.proofs.tables.the_verdict_on_a_unit.{enacts}
 use Rattle.osi_session.proofs.tables.a_word_acts_as_its_message.{outcome_in, word_does, word_keeps, all_keep, any_word, any_tsdu_keeps}
 use Rattle.osi_session.proofs.tables.messages_act_as_the_table_says.{word_at, word_alone}
 
@@ -33,10 +32,6 @@ silent o h = record { last = λ m e. absurd (cc) }
 abbrev some : Meaning → Option Meaning
 some m = Some m
 
--- an outcome that sends this
-sends_one : (o : Outcome) (u : Meaning) → o.reply ≡ Some u → is_answer u ≡ true → is_over o.next.phase ≡ true → Answers o
-sends_one o u h0 h1 h2 = grind arith
-
 either : (b : Bool) (x y : Outcome) → (b ≡ true → Answers x) → (b ≡ false → Answers y) → Answers (if b then x else y)
 either b x y h k = grind arith
 
@@ -44,13 +39,7 @@ aborting_answers : (s : State) (u : Meaning) → Answers (in_aborting s u)
 aborting_answers s u = grind (arith, silent)
 
 ended_answers : (s : State) (u : Meaning) → is_over s.phase ≡ true → Answers (in_ended s u)
-ended_answers s u h = grind (arith, sends_one, silent)
-
--- a CN that cannot be accepted
-refused_over : (version_2 transfers : Bool) (x y : State) (m : Meaning) → is_over y.phase ≡ true
-    → (if not version_2 then Some (RF 132 []) else (if not transfers then Some (RF 134 []) else None)) ≡ Some m
-    → (is_answer m ≡ true) × (is_over (if version_2 && transfers then x else y).phase ≡ true)
-refused_over version_2 transfers x y m h0 h1 = grind arith
+ended_answers s u h = grind (arith, silent)
 
 -- the state after a CN that is accepted
 abbrev becomes_answering : State → ℕ → Option ℕ → TokenSetting → TsduMaximumSize → State
@@ -58,27 +47,23 @@ becomes_answering s requirements serial wishes sizes =
     record s { phase = Answering; units = functional_units requirements; wishes = wishes; proposed = unwrap_or serial 0; sizes = sizes }
 
 good_answers : (s : State) (u : Meaning) → Answers (good s u)
-good_answers s (CN version_2 requirements serial wishes from to sizes octets) = search (arith, refused_over)
-good_answers s (AB bits octets) = sends_one _ AA refl refl refl
+good_answers s (CN version_2 requirements serial wishes from to sizes octets) = search arith
+good_answers s (AB bits octets) = grind arith
 good_answers s _ = silent _ refl
 
 bad_answers : (s : State) (fault : UnitFault) → Answers (bad s fault)
-bad_answers s fault = sends_one _ (AB 5 []) refl refl refl
-
-judged_answers : (s : State) (u : Meaning) (f : Option UnitFault) → Answers (judged s u f)
-judged_answers s u f = grind (arith, good_answers, bad_answers)
+bad_answers s fault = grind arith
 
 expected_answers : (s : State) (u : Meaning) → Answers (take_expected s u)
 unfolding take_expected
-expected_answers s u = judged_answers s u (first_fault (si u) (conditions s u))
+expected_answers s u = grind (arith, good_answers, bad_answers)
 
 answers : (s : State) (u : Meaning) → Answers (respond_unit s u)
 unfolding respond_unit
 answers s u =
     either (is_aborting s.phase) _ _ (λ a. aborting_answers s u) (λ a.
     either (is_ended s.phase) _ _ (λ e. ended_answers s u (implied is_ended is_over refl s.phase e)) (λ e.
-    either (drops s u) _ _ (λ d. silent _ refl) (λ d.
-    either (not (is_expected s.phase u)) _ _ (λ x. bad_answers s (Unexpected (si u))) (λ x. expected_answers s u))))
+    either (drops s u) _ _ (λ d. silent _ refl) (grind (arith, either, bad_answers, expected_answers))))
 
 pub unit_answers : (s : State) (u m : Meaning) → (respond_unit s u).reply ≡ Some m →
     (is_answer m ≡ true) × (is_over (respond_unit s u).next.phase ≡ true)
@@ -134,26 +119,13 @@ octets_answered s octets = read_answers s (said_at octets)
 
 -- ---- a session that is over
 
-aborting_still : (s : State) (u : Meaning) → may_close u ≡ false → in_aborting s u ≡ nothing s
-aborting_still s u h0 = grind arith
-
-ended_still : (s : State) (u : Meaning) → may_close u ≡ false → in_ended s u ≡ nothing s
-ended_still s u h = grind arith
-
-over_still : (s : State) (u : Meaning) → may_close u ≡ false → enacted s u over ≡ nothing s
-over_still s u h0 = grind (arith, aborting_still, ended_still)
-
-over_verdict : (s : State) (u : Meaning) → is_over s.phase ≡ true → verdict s u ≡ over
-over_verdict s u o = rw o refl
-
 -- if a session is over, a word does what its message does
 over_word : (t : Taker) (w : Word) → is_over t.state.phase ≡ true → outcome_in (respond_word t w) ≡ respond_unit t.state (as_message w)
-over_word t w o =
-    grind (arith, outcome_in, word_at t w over (rw o refl), enacts t.state (as_message w), over_verdict t.state (as_message w) o)
+over_word t w o = grind (arith, outcome_in, word_at t w over (rw o refl), enacts t.state (as_message w))
 
 word_still : (t : Taker) (w : Word) → is_over t.state.phase ≡ true → may_close_word w ≡ false →
     outcome_in (respond_word t w) ≡ nothing t.state
-word_still t w o h = ap outcome_in (word_at t w over (rw o refl)) ∙ over_still t.state (as_message w) h
+word_still t w o h = ap outcome_in (word_at t w over (rw o refl)) ∙ (grind arith)
 
 over_no_fault : (t : Taker) (w : Word) → is_over t.state.phase ≡ true → is_faulty (word_verdict t w) ≡ false
 over_no_fault t w o = rw o refl
@@ -173,37 +145,27 @@ all_still t (w ∷ ws) o h =
     ap nothing same)
     ∙ ap (λ (x : Outcome). and_then x (nothing t.state)) e
 
-words_still : (t : Taker) (words : Words) → is_over t.state.phase ≡ true → list_any may_close_word words ≡ false →
-    outcome_in (respond_tsdu t words) ≡ nothing t.state
-words_still t words o h = all_still t (acting_words words) o (acting_none may_close_word words h)
-
 -- what arrives at a session that is over: a single word, or nothing
 over_said : (P : Outcome → Type 0) (t : Taker) (words : Words) → is_over t.state.phase ≡ true → closes_alone words ≡ true
     → P (nothing t.state) → ((u : Meaning) → P (respond_unit t.state u)) → P (outcome_in (respond_tsdu t words))
-over_said P t words h0 h1 h2 h3 = grind (arith, words_still, outcome_in, word_alone, over_word, not_true)
+over_said P t words h0 h1 h2 h3 = grind (arith, all_still, acting_words, acting_none, outcome_in, word_alone, over_word)
 
 abbrev Silent : Outcome → Type 0
 Silent o = o.reply ≡ None
 
-aborting_reply : (s : State) (u : Meaning) → Silent (in_aborting s u)
-aborting_reply s u = grind arith
-
 unit_unanswered : (s : State) (u : Meaning) → is_aborting s.phase ≡ true → Silent (respond_unit s u)
 unfolding respond_unit
-unit_unanswered s u a = rw a (aborting_reply s u)
+unit_unanswered s u a = rw a (grind arith)
 
 abbrev AcceptsAbort : Outcome → Type 0
 AcceptsAbort o = (m : Meaning) → o.reply ≡ Some m → m ≡ AA
-
-ended_accepts : (s : State) (u : Meaning) → AcceptsAbort (in_ended s u)
-ended_accepts s u m e = grind arith
 
 not_aborting : (p : Phase) → is_ended p ≡ true → is_aborting p ≡ false
 not_aborting p h = excluded is_ended is_aborting refl p h
 
 unit_accepts : (s : State) (u : Meaning) → is_ended s.phase ≡ true → AcceptsAbort (respond_unit s u)
 unfolding respond_unit
-unit_accepts s u e = let a = not_aborting s.phase e in rw (a, e) (ended_accepts s u)
+unit_accepts s u e = let a = not_aborting s.phase e in rw (a, e) (grind arith)
 
 over_fault : (s : State) (fault : SpduFault) → is_over s.phase ≡ true → respond_fault s fault ≡ nothing s
 unfolding respond_fault
@@ -220,14 +182,11 @@ reply_read : (s : Listener) (read : Result Words SpduFault) →
 unfolding react
 reply_read s read = grind arith
 
-aborting_over : (p : Phase) → is_aborting p ≡ true → is_over p ≡ true
-aborting_over p h = implied is_aborting is_over refl p h
-
 -- an aborted session answers nothing
 pub aborting_silent : (s : Listener) (octets : List ℕ) → is_aborting s.state.phase ≡ true → (react s (came octets)).reply ≡ None
 aborting_silent s octets a =
     reply_read s (said_at octets)
-    ∙ read_over Silent s (said_at octets) (aborting_over s.state.phase a) (octets_alone octets) refl (λ u. unit_unanswered s.state u a)
+    ∙ read_over Silent s (said_at octets) (grind (arith, implied)) (octets_alone octets) refl (λ u. unit_unanswered s.state u a)
 
 -- an ended one answers an abort
 pub ended_accepting : (s : Listener) (octets : List ℕ) (m : Meaning) → is_ended s.state.phase ≡ true →
@@ -245,29 +204,16 @@ record Awaited (s : State) (o : Outcome) : Type 0 where
 left_open : (s : State) (o : Outcome) → o.closes ≡ false → Awaited s o
 left_open s o h = record { awaits = λ c. absurd (cc) }
 
-either_awaited : (s : State) (b : Bool) (x y : Outcome) → (b ≡ true → Awaited s x) → (b ≡ false → Awaited s y) →
-    Awaited s (if b then x else y)
-either_awaited s b x y h k = grind arith
-
-good_awaited : (s : State) (u : Meaning) → is_expected s.phase u ≡ true → Awaited s (good s u)
-good_awaited s u h0 = grind (arith, implied, left_open)
-
-judged_awaited : (s : State) (u : Meaning) (f : Option UnitFault) → is_expected s.phase u ≡ true → Awaited s (judged s u f)
-judged_awaited s u f x = grind (arith, good_awaited, left_open)
-
 expected_awaited : (s : State) (u : Meaning) → is_expected s.phase u ≡ true → Awaited s (take_expected s u)
 unfolding take_expected
-expected_awaited s u x = judged_awaited s u (first_fault (si u) (conditions s u)) x
-
-ended_awaited : (s : State) (u : Meaning) → Awaited s (in_ended s u)
-ended_awaited s u = grind (arith, left_open)
+expected_awaited s u x = grind (arith, left_open)
 
 aborting_awaited : (s : State) (u : Meaning) → is_aborting s.phase ≡ true → Awaited s (in_aborting s u)
 aborting_awaited s u a = record { awaits = λ c. implied is_aborting awaits_close refl s.phase a }
 
 unit_awaited : (s : State) (u : Meaning) → Awaited s (respond_unit s u)
 unfolding respond_unit
-unit_awaited s u = grind (arith, either_awaited, aborting_awaited, ended_awaited, left_open, expected_awaited, not_false)
+unit_awaited s u = grind (arith, aborting_awaited, left_open, expected_awaited)
 
 word_awaited : (t : Taker) (w : Word) → Awaited t.state (outcome_in (respond_word t w))
 word_awaited t w =
@@ -275,7 +221,7 @@ word_awaited t w =
     (record { acts = λ u a. unit_awaited t.state u; bad = λ fault o. left_open t.state _ refl; rests = left_open t.state _ refl })
 
 words_awaited : (t : Taker) (words : Words) → closes_alone words ≡ true → Awaited t.state (outcome_in (respond_tsdu t words))
-words_awaited t words h0 = grind (arith, left_open, words_open, outcome_in, word_alone, word_awaited, not_true)
+words_awaited t words h0 = grind (arith, left_open, words_open, outcome_in, word_alone, word_awaited)
 
 read_awaited : (s : Listener) (read : Result Words SpduFault) → ((words : Words) → read ≡ Ok words → closes_alone words ≡ true)
     → (react s (came_as read)).closes ≡ true → awaits_close s.state.phase ≡ true
@@ -303,39 +249,20 @@ callable_open p h = grind (arith, excluded)
 abbrev Waits : State → Type 0
 Waits s = (is_wait_transport s.phase || is_over s.phase) ≡ true
 
-waits_in : (p : Phase) → is_wait_transport p ≡ true → p ≡ WaitTransport
-waits_in p h = grind arith
-
-good_waits : (s : State) (u : Meaning) → is_expected WaitTransport u ≡ true → Waits (becomes s u)
-good_waits s u x = grind arith
-
-either_is : (a b : Bool) → (a || b) ≡ true → b ≡ false → a ≡ true
-either_is a b h k = grind arith
-
 unit_waits : (s : State) (u : Meaning) → Waits s → Waits (respond_unit s u).next
-unit_waits s u h = unit_cases Waits s u (record {
-  same = h;
-  ended = λ a. refl;
-  bad = λ a e. refl;
-  good = λ a e x met.
-      let w = either_is (is_wait_transport s.phase) (is_over s.phase) h (not_over s a e) in
-      good_waits s u (subst (λ (p : Phase). is_expected p u ≡ true) (waits_in s.phase w) x);
-})
+unit_waits s u h = unit_cases Waits s u (grind arith)
 
 word_waits : (t : Taker) (w : Word) → Waits t.state → Waits (respond_word t w).next.state
 word_waits t w h = word_keeps Waits t w (λ u a. unit_waits t.state u h) (λ o. refl) h
-
-first_true : (a b : Bool) → a ≡ true → (a || b) ≡ true
-first_true a b h = rw h refl
 
 -- what happens before it is open leaves the session waiting for it, or is the end
 pub input_waits : (s : Listener) (input : Input) → is_opened input ≡ false → is_wait_transport s.state.phase ≡ true
     → (is_wait_transport (after_input s input).state.phase || is_over (after_input s input).state.phase) ≡ true
 input_waits s (called c) n w =
-    call_cases Waits s c (first_true _ _ w)
+    call_cases Waits s c (grind arith)
     (λ x e. absurd (let b = callable_open s.state.phase (accepted_callable s.state c x e) in let q = b.0 in cc))
-input_waits s (taken words) n w = taken_cases Waits s words (any_tsdu_keeps Waits (taker_of s) words word_waits (first_true _ _ w))
-input_waits s (unread fault) n w = fault_cases Waits s fault (first_true _ _ w) (λ o. refl)
+input_waits s (taken words) n w = taken_cases Waits s words (any_tsdu_keeps Waits (taker_of s) words word_waits (grind arith))
+input_waits s (unread fault) n w = fault_cases Waits s fault (grind arith) (λ o. refl)
 input_waits s opened n w = absurd (cc)
-input_waits s (refused reason) n w = refused_cases Waits s reason (λ k. refl) (first_true _ _ w)
+input_waits s (refused reason) n w = refused_cases Waits s reason (λ k. refl) (grind arith)
 input_waits s broken n w = broken_cases Waits s refl

@@ -1,49 +1,35 @@
 -- The effect of a word, from its result in memory.
-use Rattle.std.proofs.Common.{◌≡◌, ◌∙◌, refl, sym, ap, subst, ℕ, ◌<◌, Bool, true, false, not, ◌&&◌, ◌||◌, if◌then◌else◌, nat_lt, List, []}
-use Rattle.std.proofs.Common.{◌∷◌, ◌++◌, length, Option, Some, None, is_none, arith}
+use Rattle.std.proofs.Common.{◌≡◌, ◌∙◌, refl, sym, ap, subst, ℕ, ◌<◌, Bool, true, false, List, [], ◌∷◌, ◌++◌, length, Option, Some, None}
+use Rattle.std.proofs.Common.{arith}
 use Rattle.osi_session.specs.declared.joining.PartVerdict.TheVariants as is
 use Rattle.osi_session.specs.Shown.{Data}
-use Rattle.osi_session.proofs.Vocabulary.{lt-ltb, length-append, append-nil, State, UnitFault, Heard, Unexpected, TokenHeld, BadEnclosure}
-use Rattle.osi_session.proofs.Vocabulary.{DataTooLong, takes_data, may_hold, Phase, nothing, shows, bad, Verdict, over, dropped, faulty}
-use Rattle.osi_session.proofs.Vocabulary.{fine, is_faulty, enacted, is_silent, is_nil, replies_abort, Taker, Hearing, joined_octets}
-use Rattle.osi_session.proofs.Vocabulary.{kept_in, is_in_place, word_verdict, joined_by, good_word, heard, enacted_word, respond_word}
-use Rattle.osi_session.proofs.Vocabulary.{told_of, hearing_of, takes_room, outcome_of, Meaning, Place, First, Middle, Last, Word, says}
-use Rattle.osi_session.proofs.Vocabulary.{part}
+use Rattle.osi_session.proofs.Vocabulary.{lt-ltb, length-append, append-nil, State, UnitFault, Heard, takes_data, may_hold, nothing, shows}
+use Rattle.osi_session.proofs.Vocabulary.{bad, Verdict, fine, is_faulty, enacted, is_silent, replies_abort, Taker, Hearing, joined_octets}
+use Rattle.osi_session.proofs.Vocabulary.{is_in_place, word_verdict, joined_by, good_word, heard, enacted_word, respond_word, told_of}
+use Rattle.osi_session.proofs.Vocabulary.{hearing_of, takes_room, outcome_of, Meaning, Place, First, Middle, Last, Word, says, part}
 use Rattle.osi_session.proofs.tsdu.the_verdict_while_joining.{part_verdict}
 use Rattle.osi_session.proofs.tables.what_is_true_of_each_phase.{implied}
-use Rattle.osi_session.proofs.tables.the_verdict_on_a_unit.{enacted_reply, good_reply}
+use Rattle.osi_session.proofs.tables.the_verdict_on_a_unit.{enacted_reply}
 use Rattle.osi_session.proofs.tables.messages_act_as_the_table_says.{word_at}
-
-pub kept_held : (p : Phase) (joined : Option (List ℕ)) → may_hold p ≡ true → kept_in p joined ≡ joined
-kept_held p joined h = rw h refl
 
 -- ---- a message
 
-enacted_says : (t : Taker) (u : Meaning) (v : Verdict) → enacted_word t (says u) v ≡ heard t.joined (enacted t.state u v)
-enacted_says t u v = grind arith
-
 pub message_is : (t : Taker) (u : Meaning) → respond_word t (says u) ≡ heard t.joined (enacted t.state u (word_verdict t (says u)))
-message_is t u = word_at t (says u) (word_verdict t (says u)) refl ∙ enacted_says t u (word_verdict t (says u))
+message_is t u = word_at t (says u) (word_verdict t (says u)) refl ∙ (grind arith)
 
 -- ---- what needs memory
 
-pub loud_takes : (joined : Option (List ℕ)) (h : Hearing) → (is_nil h.shown && is_none h.reply) ≡ false → takes_room joined h ≡ true
-loud_takes joined h e = rw e refl
-
 pub message_takes : (t : Taker) (u : Meaning) → is_silent (enacted t.state u (word_verdict t (says u))) ≡ false →
     takes_room t.joined (respond_word t (says u)) ≡ true
-message_takes t u h = grind (arith, message_is, loud_takes)
+message_takes t u h = grind (arith, message_is)
 
 -- ---- a part
-
-enacted_over : (b : Bool) (s : State) → (if b then nothing s else nothing s) ≡ nothing s
-enacted_over b s = grind arith
 
 -- a part that does nothing
 pub part_dropped : (t : Taker) (place : Place) (octets : List ℕ) → is.Dropped ≡ told_of (word_verdict t (part place octets)) →
     respond_word t (part place octets) ≡ heard t.joined (nothing t.state)
 unfolding respond_word
-part_dropped t place octets h0 = grind (arith, enacted_over)
+part_dropped t place octets h0 = grind arith
 
 -- a bad part
 pub part_bad : (t : Taker) (place : Place) (octets : List ℕ) (fault : UnitFault) →
@@ -61,25 +47,16 @@ pub part_is : (t : Taker) (place : Place) (octets : List ℕ) → word_verdict t
     respond_word t (part place octets) ≡ heard (joined_by t.joined (part place octets)) (good_word t (part place octets))
 part_is t place octets e = word_at t (part place octets) fine e
 
--- what a good part passed
-fine_by : (n : ℕ) (v r e h p s : Bool) →
-    (if v || r then (if v then over else dropped) else if not e then faulty (Unexpected n) else if h then faulty (TokenHeld n)
-    else if not p then faulty (BadEnclosure n) else if not s then faulty (DataTooLong n) else fine) ≡ fine → (e ≡ true) × (p ≡ true)
-fine_by n v r e h p s h0 = grind arith
-
 passed : (t : Taker) (place : Place) (octets : List ℕ) → word_verdict t (part place octets) ≡ fine →
     (takes_data t.state.phase ≡ true) × (is_in_place t.joined place ≡ true)
-passed t place octets e = grind (arith, fine_by, part_verdict)
+passed t place octets e = grind (arith, part_verdict)
 
 pub fine_holds : (t : Taker) (place : Place) (octets : List ℕ) → word_verdict t (part place octets) ≡ fine → may_hold t.state.phase ≡ true
 fine_holds t place octets e = implied takes_data may_hold refl t.state.phase (passed t place octets e).0
 
-first_joins : (joined : Option (List ℕ)) (octets : List ℕ) → is_none joined ≡ true → octets ≡ joined_octets joined ++ octets
-first_joins joined octets h = grind arith
-
 pub first_is : (t : Taker) (octets : List ℕ) → word_verdict t (part First octets) ≡ fine →
     respond_word t (part First octets) ≡ heard (Some (joined_octets t.joined ++ octets)) (nothing t.state)
-first_is t octets e = grind (arith, part_is, first_joins, passed)
+first_is t octets e = grind (arith, part_is, passed)
 
 pub middle_is : (t : Taker) (octets : List ℕ) → word_verdict t (part Middle octets) ≡ fine →
     respond_word t (part Middle octets) ≡ heard (Some (joined_octets t.joined ++ octets)) (nothing t.state)
@@ -99,22 +76,18 @@ pub grown_first : (u : List ℕ) → length u ≡ 0 → Some [] ≡ Some u
 grown_first [] h = refl
 grown_first (b ∷ u) h = absurd (cc)
 
-longer : (x u : List ℕ) → 0 < length u → nat_lt (length x) (length (x ++ u)) ≡ true
-longer x u h = let n = length-append x u in lt-ltb (length x) (length (x ++ u)) (omega arith)
-
 pub early_takes : (s : State) (joined : Option (List ℕ)) (octets : List ℕ) → may_hold s.phase ≡ true → 0 < length octets →
     takes_room joined (heard (Some (joined_octets joined ++ octets)) (nothing s)) ≡ true
-early_takes s joined octets m h = grind (arith, kept_held, longer)
+early_takes s joined octets m h = grind (arith, length-append, lt-ltb)
 
 -- ---- a bad word is one that is answered by AB
 
 enacted_bad : (t : Taker) (w : Word) (v : Verdict) → replies_abort (enacted_word t w v).reply ≡ is_faulty v
-enacted_bad t w v = grind (arith, enacted_reply, good_reply)
+enacted_bad t w v = search (arith, enacted_reply)
 
 pub word_told : (t : Taker) (w : Word) (h : Hearing) (b : Bool) → respond_word t w ≡ h → b ≡ replies_abort h.reply →
     b ≡ is_faulty (word_verdict t w)
-word_told t w h b e k = k ∙ ap (λ (x : Hearing). replies_abort x.reply) (sym e ∙ word_at t w (word_verdict t w) refl) ∙
-    enacted_bad t w (word_verdict t w)
+word_told t w h b e k = grind (arith, word_at t w (word_verdict t w) refl, enacted_bad t w (word_verdict t w))
 
 pub told_as : (s : State) (j k : Option (List ℕ)) (w : Word) (h : Heard) (b : Bool) → j ≡ k →
     (let t : Taker = record { state = s; joined = j } in respond_word t w ≡ hearing_of j h.joined (outcome_of h.reaction))

@@ -1,8 +1,6 @@
 -- If one of two outcomes shows or sends something, both together do.
-use Rattle.std.proofs.Common.{◌≡◌, refl, false, ◌&&◌, List, [], ◌∷◌, Option, Some, None}
+use Rattle.std.proofs.Common.{arith, ◌≡◌, false, ◌&&◌, List, Option}
 use Rattle.osi_session.proofs.Vocabulary.{is_none, Shown, Meaning, is_nil}
 
 pub loud_reply : (shown : List Shown) (reply : Option Meaning) → is_none reply ≡ false → (is_nil shown && is_none reply) ≡ false
-loud_reply shown None h = absurd (cc)
-loud_reply [] (Some m) h = refl
-loud_reply (i ∷ shown) (Some m) h = refl
+loud_reply shown reply h = grind arith

@@ -5,33 +5,15 @@ use Rattle.std.proofs.Common.{if◌then◌else◌, arith}
 use Rattle.osi_spdu.specs.declared.behind.Behind.{Behind}
 use Rattle.osi_spdu.specs.declared.units.Spdu.{Spdu}
 use Rattle.osi_session.proofs.Vocabulary.{OnErr, list_any, append_assoc, append-nil, GivesBehind, units_behind, Reactions, hearing_of_all}
-use Rattle.osi_session.proofs.Vocabulary.{takes_room, Meaning, Word, Words, first_reply, is_faulty, Taker, Hearing, heard_then, idle}
-use Rattle.osi_session.proofs.Vocabulary.{is_restart_word, word_verdict, respond_word, respond_words, acting_words, respond_tsdu}
+use Rattle.osi_session.proofs.Vocabulary.{takes_room, Word, Words, is_faulty, Taker, Hearing, heard_then, idle, is_restart_word}
+use Rattle.osi_session.proofs.Vocabulary.{word_verdict, respond_word, respond_words, acting_words, respond_tsdu}
 use Rattle.osi_session.proofs.tsdu.what_is_joined.{InPhase}
-use Rattle.osi_session.proofs.tsdu.memory_for_one_word.{SoFar, none_so_far, word_so_far, word_takes, takes_behind}
+use Rattle.osi_session.proofs.tsdu.memory_for_one_word.{SoFar, word_so_far, word_takes, takes_behind}
 use Rattle.osi_session.proofs.tables.messages_act_as_the_table_says.{one_word}
-
-or_again : (a b c : Bool) → (a || (b || c)) ≡ ((a || b) || c)
-or_again a b c = grind arith
-
-reply_again : (a b c : Option Meaning) → first_reply a (first_reply b c) ≡ first_reply (first_reply a b) c
-reply_again a b c = grind arith
-
--- messages that are received one after the other
-then_again : (o p q : Hearing) → heard_then o (heard_then p q) ≡ heard_then (heard_then o p) q
-then_again o p q = grind (arith, append_assoc, reply_again, or_again)
 
 -- what is still to act: these units, and after them the item unless one of them is an RS, or one before them was
 abbrev pub acting_behind : Bool → Word → Words → Words
 acting_behind restarts item us = if restarts || list_any is_restart_word us then us else us ++ item ∷ []
-
-shift : (restarts r a : Bool) (u item : Word) (us : Words) →
-    (if restarts || (r || a) then u ∷ us else (u ∷ us) ++ item ∷ []) ≡ u ∷ (if (restarts || r) || a then us else us ++ item ∷ [])
-shift restarts r a u item us = grind arith
-
-pub taken_next : (restarts : Bool) (item u : Word) (us : Words) →
-    acting_behind restarts item (u ∷ us) ≡ u ∷ acting_behind (restarts || is_restart_word u) item us
-taken_next restarts item u us = shift restarts (is_restart_word u) (list_any is_restart_word us) u item us
 
 -- this outcome, and those of what is still to act, are what is wanted
 abbrev pub Leads : Hearing → Hearing → Bool → Word → Words → Type 0
@@ -49,41 +31,22 @@ bad_then s u us h = rw h refl
 -- a unit that is not bad
 pub goes_on : (want o : Hearing) (restarts : Bool) (item u : Word) (us : Words) → Leads want o restarts item (u ∷ us)
     → is_faulty (word_verdict o.next u) ≡ false → Leads want (heard_then o (respond_word o.next u)) (restarts || is_restart_word u) item us
-goes_on want o restarts item u us h good =
-    let rest = acting_behind (restarts || is_restart_word u) item us in
-    let e = ap (λ (xs : Words). heard_then o (respond_words o.next xs)) (taken_next restarts item u us) in
-    let f = ap (heard_then o) (good_then o.next u rest good) in
-    let g = then_again o (respond_word o.next u) (respond_words (respond_word o.next u).next rest) in
-    sym g ∙ sym f ∙ sym e ∙ h
+goes_on want o restarts item u us h good = grind (arith, respond_words, good_then, append_assoc, respond_word)
 
 -- a bad unit is the last that acts
 pub stops : (want o : Hearing) (restarts : Bool) (item u : Word) (us : Words) → Leads want o restarts item (u ∷ us)
     → is_faulty (word_verdict o.next u) ≡ true → heard_then o (respond_word o.next u) ≡ want
-stops want o restarts item u us h bad =
-    let rest = acting_behind (restarts || is_restart_word u) item us in
-    let e = ap (λ (xs : Words). heard_then o (respond_words o.next xs)) (taken_next restarts item u us) in
-    let f = ap (heard_then o) (bad_then o.next u rest bad) in
-    sym f ∙ sym e ∙ h
+stops want o restarts item u us h bad = grind (arith, respond_words, bad_then)
 
 -- if memory is needed for a word, it is needed for the whole
 pub takes : (j : Option (List ℕ)) (want o : Hearing) (restarts : Bool) (item u : Word) (us : Words) → SoFar j o →
     Leads want o restarts item (u ∷ us)
     → takes_room o.next.joined (respond_word o.next u) ≡ true → takes_room j want ≡ true
-takes j want o restarts item u us s h room = grind (arith, taken_next, takes_behind, word_takes)
-
--- no unit is left
-or_false : (b : Bool) → (b || false) ≡ b
-or_false b = grind arith
-
-reply_none : (r : Option Meaning) → first_reply r None ≡ r
-reply_none r = grind arith
-
-then_idle : (h : Hearing) → heard_then h (idle h.next) ≡ h
-then_idle h = grind (arith, append-nil, reply_none, or_false)
+takes j want o restarts item u us s h room = search (arith, takes_behind, word_takes)
 
 pub ends_restarted : (want o : Hearing) (item : Word) → Leads want o true item [] → o ≡ want
 unfolding respond_words
-ends_restarted want o item h = sym (then_idle o) ∙ h
+ends_restarted want o item h = sym (grind (arith, append-nil)) ∙ h
 
 pub ends_with_item : (want o : Hearing) (item : Word) → Leads want o false item [] → heard_then o (respond_word o.next item) ≡ want
 ends_with_item want o item h = sym (ap (heard_then o) (one_word o.next item)) ∙ h
@@ -107,13 +70,7 @@ pub record Walks (want : Hearing) (j : Option (List ℕ)) (r : Reactions) (resta
 pub walks_begin : (t : Taker) (r : Reactions) (item first : Word) (us units : Words) → hearing_of_all t.joined r ≡ idle t → InPhase t →
     r.more.items ≡ []
     → item ≡ first → us ≡ units → Walks (respond_tsdu t (first ∷ units)) t.joined r false item us
-walks_begin t r item first us units e k m i b = record {
-  leads = subst (λ (x : Word). Leads (respond_tsdu t (first ∷ units)) (hearing_of_all t.joined r) false x us) (sym i)
-      (subst (λ (xs : Words). Leads (respond_tsdu t (first ∷ units)) (hearing_of_all t.joined r) false first xs) (sym b)
-      (tsdu_begins t (hearing_of_all t.joined r) first units e));
-  so_far = none_so_far t (hearing_of_all t.joined r) e k;
-  ordered = λ k. m;
-}
+walks_begin t r item first us units e k m i b = grind (arith, tsdu_begins t (hearing_of_all t.joined r) first units e)
 
 -- one word is taken off
 pub walks_turn : (want : Hearing) (j : Option (List ℕ)) (r : Reactions) (restarts : Bool) (item u v : Word) (us units : Words) →

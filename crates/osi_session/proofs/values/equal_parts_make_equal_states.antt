@@ -1,23 +1,12 @@
 -- Two states with the same parts are the same.
 use Rattle.std.proofs.Common.{◌≡◌, ◌≢◌, ◌∙◌, ◌==◌, ◌&&◌, ℕ, sym, ap, Bool, true, MatchBool, if◌then◌else◌, arith}
-use Rattle.osi_spdu.specs.declared.settings.Wish.{Wish}
-use Rattle.osi_session.specs.Same.{same_bit, same_wish, place_of, same_setting, same_tokens, same_units, same_numbers, same_sizes}
-use Rattle.osi_session.specs.Same.{same_state}
+use Rattle.osi_session.specs.Same.{same_bit, place_of, same_setting, same_tokens, same_units, same_numbers, same_sizes, same_state}
 use Rattle.osi_session.proofs.Vocabulary.{and_parts, and_from, eqb-true, eq-eqb, TokenSetting, TsduMaximumSize, Tokens, Phase}
 use Rattle.osi_session.proofs.Vocabulary.{WaitTransport, WaitCn, Connecting, Answering, Ready, MajorAsked, MajorDue, Releasing, ReleaseDue}
 use Rattle.osi_session.proofs.Vocabulary.{Restarting, RestartDue, Aborting, Ended, Numbers, FunctionalUnits, State}
 
 bit_is : (a b : Bool) → same_bit a b ≡ true → a ≡ b
 bit_is a b h0 = grind arith
-
-bit_refl : (a : Bool) → same_bit a a ≡ true
-bit_refl a = grind arith
-
-wish_is : (a b : Wish) → same_wish a b ≡ true → a ≡ b
-wish_is a b h0 = grind arith
-
-wish_refl : (a : Wish) → same_wish a a ≡ true
-wish_refl a = grind arith
 
 phase_at : ℕ → Phase
 phase_at n = if n == 0 then WaitTransport else if n == 1 then WaitCn else if n == 2 then Connecting else if n == 3 then Answering else
@@ -33,11 +22,11 @@ phase_is a b e = sym (there a) ∙ ap phase_at (eqb-true (place_of a) (place_of 
 
 same_setting_is : (a b : TokenSetting) → same_setting a b ≡ true → a ≡ b
 unfolding same_setting
-same_setting_is a b e = search (arith, and_parts, wish_is)
+same_setting_is a b e = search (arith, and_parts)
 
 same_setting_refl : (a : TokenSetting) → same_setting a a ≡ true
 unfolding same_setting
-same_setting_refl a = grind (arith, and_from, wish_refl)
+same_setting_refl a = grind (arith, and_from)
 
 same_tokens_is : (a b : Tokens) → same_tokens a b ≡ true → a ≡ b
 unfolding same_tokens
@@ -45,7 +34,7 @@ same_tokens_is a b e = grind (arith, and_parts, bit_is)
 
 same_tokens_refl : (a : Tokens) → same_tokens a a ≡ true
 unfolding same_tokens
-same_tokens_refl a = grind (arith, and_from, bit_refl)
+same_tokens_refl a = grind (arith, and_from)
 
 same_units_is : (a b : FunctionalUnits) → same_units a b ≡ true → a ≡ b
 unfolding same_units
@@ -53,7 +42,7 @@ same_units_is a b e = search (arith, and_parts, bit_is)
 
 same_units_refl : (a : FunctionalUnits) → same_units a a ≡ true
 unfolding same_units
-same_units_refl a = grind (arith, and_from, bit_refl)
+same_units_refl a = search (arith, and_from)
 
 same_numbers_is : (a b : Numbers) → same_numbers a b ≡ true → a ≡ b
 unfolding same_numbers
@@ -61,7 +50,7 @@ same_numbers_is a b e = grind (arith, and_parts, eqb-true, bit_is)
 
 same_numbers_refl : (a : Numbers) → same_numbers a a ≡ true
 unfolding same_numbers
-same_numbers_refl a = grind (arith, and_from, eq-eqb, bit_refl)
+same_numbers_refl a = grind (arith, and_from, eq-eqb)
 
 same_sizes_is : (a b : TsduMaximumSize) → same_sizes a b ≡ true → a ≡ b
 unfolding same_sizes
@@ -114,7 +103,7 @@ same_state_is a b e =
 same_state_refl : (a : State) → same_state a a ≡ true
 unfolding same_state
 same_state_refl a =
-    grind (arith, and_from, eq-eqb, bit_refl, same_units_refl, same_setting_refl, same_tokens_refl, same_numbers_refl, same_sizes_refl)
+    grind (arith, and_from, eq-eqb, same_units_refl, same_setting_refl, same_tokens_refl, same_numbers_refl, same_sizes_refl)
 
 -- the test tells
 pub told : (a b : State) → MatchBool (same_state a b) (a ≡ b) (a ≢ b)

@@ -1,4 +1,5 @@
 -- Sets of tokens, and their octets.
+use Rattle.std.proofs.Common.{arith}
 use Rattle.std.proofs.Common.{◌≡◌, refl, ◌==◌, Bool, true, false, not, ◌&&◌, ◌||◌}
 use Rattle.osi_session.proofs.Vocabulary.{bit_and, and_parts, eqb-true, Tokens, is_disjoint, token_octet}
 
@@ -7,8 +8,7 @@ every_bool f = f true && f false
 
 bool_is : (f : Bool → Bool) → every_bool f ≡ true → (b : Bool) → f b ≡ true
 unfolding every_bool
-bool_is f h true = (and_parts (f true) (f false) h).0
-bool_is f h false = (and_parts (f true) (f false) h).1
+bool_is f h b = grind (arith, and_parts)
 
 tokens_with : Bool → Bool → Bool → Bool → Tokens
 tokens_with a b c d = record { data_token = a; minor = b; major = c; release = d }
@@ -31,13 +31,9 @@ all_apart : every_set (λ a. every_set (apart a)) ≡ true
 unfolding every_set every_bool tokens_with apart is_disjoint token_octet
 all_apart = refl
 
-cut_or : (a b : Bool) → (not a || b) ≡ true → a ≡ true → b ≡ true
-cut_or true b h k = h
-cut_or false b h k = absurd (cc)
-
 -- sets without a common token have no common bit
 pub disjoint_octets : (a b : Tokens) → is_disjoint a b ≡ true → bit_and (token_octet a) (token_octet b) ≡ 0
 unfolding apart
 disjoint_octets a b h =
     let all = set_is (apart a) (set_is (λ x. every_set (apart x)) all_apart a) b in
-    eqb-true _ 0 (cut_or (is_disjoint a b) (bit_and (token_octet a) (token_octet b) == 0) all h)
+    eqb-true _ 0 (grind arith)

@@ -1,29 +1,20 @@
 -- What a CN and an AC agree, and what it limits.
-use Rattle.std.proofs.Common.{◌≡◌, refl, ℕ, ◌==◌, ◌<◌, ◌≤◌, Bool, true, ◌||◌, nat_lt, nat_le, length, Ok, arith, if◌then◌else◌}
+use Rattle.std.proofs.Common.{◌≡◌, ℕ, ◌==◌, ◌<◌, ◌≤◌, true, ◌||◌, nat_le, length, Ok, arith}
 use Rattle.osi_spdu.specs.declared.sizes.TsduSizes.{TsduSizes}
 use Rattle.osi_session.specs.Sizes.{answered}
-use Rattle.osi_session.proofs.Vocabulary.{and_parts, and_from, TsduMaximumSize, named_by, are_sizes, is_size, Meaning, written, State, Step}
-use Rattle.osi_session.proofs.Vocabulary.{allowed, Call, smaller, smaller_sizes, answered_sizes, limit_of, is_bounded, fits_limit}
+use Rattle.osi_session.proofs.Vocabulary.{and_parts, and_from, TsduMaximumSize, named_by, are_sizes, is_size, written, State, Step, allowed}
+use Rattle.osi_session.proofs.Vocabulary.{Call, smaller, smaller_sizes, answered_sizes, limit_of, is_bounded}
 use Rattle.osi_session.proofs.tables.what_an_accepted_call_has_passed.{passed}
-
-either : (b : Bool) (m n : ℕ) → is_size m ≡ true → is_size n ≡ true → is_size (if b then m else n) ≡ true
-either b m n h k = grind arith
-
-smaller_is : (a b : ℕ) → is_size a ≡ true → is_size b ≡ true → is_size (smaller a b) ≡ true
-smaller_is a b h k = either (a == 0) b _ k (either (b == 0) a _ h (either (nat_lt a b) a b h k))
-
-answered_is : (a b : ℕ) → is_size a ≡ true → is_size b ≡ true → is_size (answered a b) ≡ true
-answered_is a b h k = either (a == 0) 0 _ refl (smaller_is a b h k)
 
 -- the smaller of sizes are sizes
 pub smaller_are : (a b : TsduMaximumSize) → are_sizes a ≡ true → are_sizes b ≡ true → are_sizes (smaller_sizes a b) ≡ true
 unfolding smaller_sizes
-smaller_are a b h k = grind (arith, and_parts, and_from, smaller_is)
+smaller_are a b h k = grind (arith, and_parts, and_from)
 
 -- and so are those that an AC names
 pub answered_are : (a b : TsduMaximumSize) → are_sizes a ≡ true → are_sizes b ≡ true → are_sizes (answered_sizes a b) ≡ true
 unfolding answered_sizes
-answered_are a b h k = grind (arith, and_parts, and_from, answered_is)
+answered_are a b h k = grind (arith, and_parts, and_from)
 
 -- those that a user gives are sizes
 pub user_sizes : (s : TsduSizes) → are_sizes (named_by s) ≡ true
@@ -56,10 +47,6 @@ sizes_agreed a b = λ i. record { from_asker = agreed a.from_asker b.from_asker 
 under : (limit len : ℕ) → 0 < limit → ((limit == 0) || nat_le len limit) ≡ true → len ≤ limit
 under limit len h k = grind arith
 
-fits_under : (s : State) (c : Call) (m : Meaning) → is_bounded c ≡ true → fits_limit s c m ≡ true → 0 < limit_of s →
-    length (written m) ≤ limit_of s
-fits_under s c m h0 h1 h2 = grind (arith, under)
-
 pub sent_under : (s : State) (c : Call) (x : Step) → allowed s c ≡ Ok x → is_bounded c ≡ true → 0 < limit_of s →
     length (written x.sent) ≤ limit_of s
-sent_under s c x e b h = grind (arith, passed, fits_under)
+sent_under s c x e b h = search (arith, passed)

@@ -1,6 +1,6 @@
 -- Digits of numbers, written and read.
-use Rattle.std.proofs.Common.{inl, inr, ◌≡◌, ℕ, suc, ◌+◌, ◌-◌, ◌*◌, ◌%◌, ◌^◌, ◌<◌, ◌≤◌, Bool, true, false, ltb, leb, eqb, List, [], ◌∷◌}
-use Rattle.std.proofs.Common.{length, get_or, drop, Some, refl, sym, ap, ◌∙◌, arith}
+use Rattle.std.proofs.Common.{◌≡◌, ℕ, suc, ◌+◌, ◌-◌, ◌*◌, ◌^◌, ◌<◌, ◌≤◌, Bool, true, ltb, leb, eqb, List, [], ◌∷◌, length, get_or, drop}
+use Rattle.std.proofs.Common.{Some, refl, arith}
 use Rattle.osi_spdu.proofs.Vocabulary.{list_all, cases_Bool, and_parts, and_from, eqb-true, eq-eqb, ne_eqb, le-leb, lt-ltb, drop_more}
 use Rattle.osi_spdu.proofs.Vocabulary.{drop_all, length-drop, common_steps, significant, six_digits, digits_of, decimal_from, decimal}
 use Rattle.osi_spdu.proofs.Vocabulary.{is_digit, numeral}
@@ -11,11 +11,7 @@ pub significant_step : (xs : List ℕ) (i : ℕ) → i + 1 < length xs → get_o
 unfolding significant
 significant_step xs i lt e =
     let a : i < length xs = omega arith in
-    let one = drop_more xs i 0 a in
-    let two = drop_more xs (i + 1) 0 lt in
-    let yes : eqb (get_or xs i 0) 48 ≡ true = eq-eqb (get_or xs i 0) 48 e in
-    let whole : drop i xs ≡ get_or xs i 0 ∷ get_or xs (i + 1) 0 ∷ drop (i + 1 + 1) xs = one ∙ ap (λ (t : List ℕ). get_or xs i 0 ∷ t) two in
-    ap significant two ∙ sym (ap significant whole ∙ rw yes refl)
+    grind (arith, significant, drop_more xs i 0 a, drop_more xs (i + 1) 0 lt, eqb (get_or xs i 0) 48, eq-eqb (get_or xs i 0) 48 e)
 
 -- any other digit stays, and so does the last
 pub significant_end : (xs : List ℕ) (i : ℕ) → i < length xs → (i + 1 < length xs → get_or xs i 0 ≡ 48 → ⊥) →
@@ -26,12 +22,7 @@ significant_end xs i lt h = ends (drop i xs) refl
     ends : (s : List ℕ) → drop i xs ≡ s → significant s ≡ s
     ends [] e = refl
     ends (d ∷ []) e = refl
-    ends (d ∷ f ∷ s) e =
-        let one = drop_more xs i 0 lt in
-        let head : get_or xs i 0 ≡ d = (let q : get_or xs i 0 ∷ drop (i + 1) xs ≡ d ∷ f ∷ s = sym one ∙ e in cc) in
-        let more : i + 1 < length xs = omega (arith, ap length e, length-drop i xs) in
-        let not_zero : eqb d 48 ≡ false = ne_eqb d 48 (λ z. h more (head ∙ z)) in
-        rw not_zero refl
+    ends (d ∷ f ∷ s) e = grind (arith, ne_eqb, length-drop i xs, eqb d 48, drop_more)
 
 pub pow_small : (i : ℕ) → i ≤ 6 → 10 ^ i ≤ 1000000
 pow_small (suc (suc (suc (suc (suc (suc (suc i))))))) h = absurd (omega arith)
@@ -48,13 +39,10 @@ pub record IsReading (digits : List ℕ) (i number : ℕ) : Type 0 where
   pub good : list_all is_digit (drop i digits) ≡ list_all is_digit digits
   pub small : number < 10 ^ i
 
-digit_from : (d : ℕ) → 48 ≤ d → d ≤ 57 → is_digit d ≡ true
-digit_from d low high = and_from (leb 48 d) (ltb d 58) (le-leb 48 d low) (lt-ltb d 58 (omega arith))
-
 pub reading_step : (digits : List ℕ) (i number d : ℕ) → i < length digits → d ≡ get_or digits i 0 → 48 ≤ d → d ≤ 57 →
     IsReading digits i number → IsReading digits (i + 1) (number * 10 + (d - 48))
 unfolding decimal_from
-reading_step digits i number d lt is low high r = grind (arith, drop_more, digit_from, common_steps)
+reading_step digits i number d lt is low high r = grind (arith, drop_more, common_steps)
 
 pub reading_end : (digits : List ℕ) (number : ℕ) → 0 < length digits → length digits ≤ 6 → IsReading digits (length digits) number →
     numeral digits ≡ Some number
@@ -65,13 +53,7 @@ reading_end digits number h0 h1 h2 = grind (arith, drop_all, and_from, lt-ltb, l
 
 significant_same : (n : ℕ) (xs : List ℕ) → decimal (significant xs) ≡ decimal xs
 unfolding significant decimal_from
-significant_same n (d ∷ e ∷ xs) =
-    elim (cases_Bool (eqb d 48)) [
-      | inl t ↦ rw t
-          (significant_same n (e ∷ xs) ∙
-          ap (λ (m : ℕ). decimal_from m (e ∷ xs)) (let q = eqb-true d 48 t in (let z : 0 ≡ 10 * 0 + (d - 48) = omega arith in z)))
-      | inr f ↦ rw f refl
-    ]
+significant_same n (d ∷ e ∷ xs) = grind (arith, decimal_from, eqb-true, cases_Bool (eqb d 48), eqb d 48, significant_same n (e ∷ xs))
 significant_same n _ = refl
 
 significant_all : (xs : List ℕ) → list_all is_digit xs ≡ true → list_all is_digit (significant xs) ≡ true
@@ -87,12 +69,6 @@ significant_len [] h = absurd (omega arith)
 significant_len (d ∷ []) h = (omega arith, omega arith)
 significant_len (d ∷ e ∷ xs) h = grind (arith, cases_Bool, eqb, significant_len (e ∷ xs) (omega arith))
 
-digit_low : (k : ℕ) → is_digit (k % 10 + 48) ≡ true
-digit_low k = digit_from (k % 10 + 48) (omega arith) (omega arith)
-
-six_all : (n : ℕ) → list_all is_digit (six_digits n) ≡ true
-six_all n = grind (arith, digit_low)
-
 six_value : (n : ℕ) → n ≤ 999999 → decimal (six_digits n) ≡ n
 unfolding decimal_from
 six_value n h = omega arith
@@ -100,4 +76,4 @@ six_value n h = omega arith
 -- a number at most 999,999 is read from its digits
 pub numeral_digits : (n : ℕ) → n ≤ 999999 → numeral (digits_of n) ≡ Some n
 unfolding digits_of
-numeral_digits n h0 = grind (arith, significant_len, significant_all, six_all, and_from, lt-ltb, le-leb, significant_same, six_value)
+numeral_digits n h0 = search (arith, significant_len, significant_all, and_from, lt-ltb, le-leb, significant_same, six_value)

@@ -38,12 +38,9 @@ sole_first [] o h = h
 sole_first (None ∷ xs) o h = sole_first xs o h
 sole_first (Some v ∷ xs) o h = h.0
 
-joins_none : (m o : Option (List ℕ)) → o ≡ m → Joins m None o
-joins_none m o e = grind arith
-
 pub sole_split : (k : Option (List ℕ)) (xs : List (Option (List ℕ))) (o : Option (List ℕ)) → Sole (k ∷ xs) o →
     Sole xs (first xs) × Joins (first xs) k o
-sole_split k xs o h0 = grind (arith, sole_first, joins_none, first, Joins)
+sole_split k xs o h0 = grind (arith, sole_first, first, Joins)
 
 pub sole_join : (m k : Option (List ℕ)) (xs : List (Option (List ℕ))) (o : Option (List ℕ)) → Sole xs m → Joins m k o → Sole (k ∷ xs) o
 sole_join m k xs o h0 h1 = grind arith
@@ -53,24 +50,15 @@ pub joins_both : (p m k kg k' : Option (List ℕ)) → Joins p k kg → Joins m 
     Sole (p ∷ m ∷ []) (first (p ∷ m ∷ [])) × Joins (first (p ∷ m ∷ [])) k k'
 joins_both p m k kg k' h j = sole_split k (p ∷ m ∷ []) k' (sole_back p k kg (m ∷ []) k' h (sole_join m kg (m ∷ []) k' (sole_one m) j))
 
-first_one : (m : Option (List ℕ)) → first (m ∷ []) ≡ m
-first_one m = grind arith
-
 -- both at once is one after the other
 pub joins_apart : (p m g k k' : Option (List ℕ)) → Sole (p ∷ m ∷ []) g → Joins g k k' → Joins p k (merged k p) × Joins m (merged k p) k'
-joins_apart p m g k k' h0 h1 = grind (arith, sole_join, sole_joins, sole_step, merged, Joins, first_one, sole_split)
+joins_apart p m g k k' h0 h1 = grind (arith, sole_join, sole_joins, sole_step, merged, Joins, sole_split)
 
 -- ---- a value put at a slot
 
 pub put_joins : (b : Bool) (v : List ℕ) (k : Option (List ℕ)) → (b ≡ true → k ≡ None) → Joins (cond b (Some v) None) k (cond b (Some v) k)
 put_joins b v k h = grind arith
 
-pub joins_put : (b : Bool) (v : List ℕ) (k k' : Option (List ℕ)) → Joins (cond b (Some v) None) k k' → k' ≡ cond b (Some v) k
-joins_put b v k k' j = grind arith
-
-pub joins_free : (b : Bool) (v : List ℕ) (k k' : Option (List ℕ)) → b ≡ true → Joins (cond b (Some v) None) k k' → k ≡ None
-joins_free b v k k' e j = grind arith
-
 pub joins_merged : (b : Bool) (v : List ℕ) (k : Option (List ℕ)) → Joins (cond b (Some v) None) k (merged k (cond b (Some v) None)) →
     merged k (cond b (Some v) None) ≡ cond b (Some v) k
-joins_merged b v k j = joins_put b v k (merged k (cond b (Some v) None)) j
+joins_merged b v k j = grind arith

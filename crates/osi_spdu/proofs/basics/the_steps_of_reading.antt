@@ -1,13 +1,12 @@
 -- The steps of a reading function.
+use Rattle.std.proofs.Common.{arith}
 use Rattle.std.proofs.Common.{◌≡◌, ℕ, Bool, true, false, cond, List, Option, Some, None, Result, Ok, Err, refl, sym, ap, ◌∙◌, eqb}
-use Rattle.osi_spdu.proofs.Vocabulary.{is_some, find, eqb-true, eq-eqb, SpduFault, Code, ConnectionIdentifier, number_of, is_same}
-use Rattle.osi_spdu.proofs.Vocabulary.{every_code, ◌>>=◌}
+use Rattle.osi_spdu.proofs.Vocabulary.{is_some, find, eqb-true, eq-eqb, SpduFault, Code, number_of, is_same, every_code, ◌>>=◌}
 
 -- the value of a step that did not fail
 pub bind_ok : {A B : Type 0} (r : Result A SpduFault) (f : A → Result B SpduFault) (y : B) → (r >>= f) ≡ Ok y →
     (x : A) × (r ≡ Ok x) × (f x ≡ Ok y)
-bind_ok (Ok x) f y e = (x, refl, e)
-bind_ok (Err d) f y e = absurd cc
+bind_ok h f y e = grind arith
 
 pub bind_of : {A B : Type 0} (r : Result A SpduFault) (f : A → Result B SpduFault) (x : A) (z : Result B SpduFault) → r ≡ Ok x → f x ≡ z →
     (r >>= f) ≡ z
@@ -21,12 +20,10 @@ ok_is x y e = cc
 
 -- a test that did not fail
 pub guard_ok : {A : Type 0} (b : Bool) (d : SpduFault) (x : A) (r : Result A SpduFault) → cond b (Err d) r ≡ Ok x → (b ≡ false) × (r ≡ Ok x)
-guard_ok true d x r e = absurd cc
-guard_ok false d x r e = (refl, e)
+guard_ok h d x r e = grind arith
 
 pub is_none_of : (o : Option (List ℕ)) → is_some o ≡ false → o ≡ None
-is_none_of None e = refl
-is_none_of (Some v) e = absurd cc
+is_none_of h e = grind arith
 
 pub none_is : (o : Option (List ℕ)) → o ≡ None → is_some o ≡ false
 none_is o e = ap is_some e
@@ -39,8 +36,7 @@ named n = find (λ c. eqb (number_of c) n) every_code
 
 pub named_back : (c : Code) → named (number_of c) ≡ Some c
 unfolding number_of
-named_back ConnectionIdentifier = refl
-named_back _ = refl
+named_back c = grind arith
 
 some_is : (c d : Code) → (let o : Option Code = Some c in o ≡ Some d) → c ≡ d
 some_is c d e = cc

@@ -2,12 +2,12 @@
 use Rattle.std.proofs.Common.{◌⊎◌, inl, inr, ◌≡◌, ℕ, zero, suc, ◌+◌, ◌<◌, ◌≤◌, Bool, true, cond, ltb, eqb, List, [], ◌∷◌, ◌++◌, length, map}
 use Rattle.std.proofs.Common.{Option, Some, None, Result, Ok, Err, refl, sym, ap, subst, ◌∙◌, append_assoc, add-zero, arith}
 use Rattle.osi_spdu.proofs.Vocabulary.{is_some, flat_map, AllByRecursion, length-append, drop_at, IsOctets, SpduFault, LengthPastEnd}
-use Rattle.osi_spdu.proofs.Vocabulary.{BadValue, MissingParameter, Code, Kind, number_of, is_group, slot_of, codes_of, members_of, Known}
-use Rattle.osi_spdu.proofs.Vocabulary.{nothing, put, ◌>>=◌, Measured, counted_at, long_at, measured_at, Taking, params_at, params_of}
-use Rattle.osi_spdu.proofs.Vocabulary.{code_among, judged, stored, member_taken, in_group, parameter_taken, in_unit, all_there}
-use Rattle.osi_spdu.proofs.Vocabulary.{length_octets, Part, part_octets, Sole, IsPart, MeansInGroup, MeansInUnit, indicator_len, HasNoValue}
-use Rattle.osi_spdu.proofs.Vocabulary.{IsValueFault, Failing, IsItemFault, IsLevelFault, FailsInGroup, FailsInUnit, IsFirstMissing}
-use Rattle.osi_spdu.proofs.basics.options_that_are_added.{merged, sole_one, sole_same, sole_back, sole_step, sole_joins}
+use Rattle.osi_spdu.proofs.Vocabulary.{MissingParameter, Code, Kind, number_of, is_group, slot_of, codes_of, members_of, Known, nothing}
+use Rattle.osi_spdu.proofs.Vocabulary.{put, ◌>>=◌, Measured, counted_at, long_at, measured_at, Taking, params_at, params_of, code_among}
+use Rattle.osi_spdu.proofs.Vocabulary.{stored, member_taken, in_group, parameter_taken, in_unit, all_there, Part, part_octets, Sole, IsPart}
+use Rattle.osi_spdu.proofs.Vocabulary.{MeansInGroup, MeansInUnit, indicator_len, HasNoValue, IsValueFault, Failing, IsItemFault}
+use Rattle.osi_spdu.proofs.Vocabulary.{IsLevelFault, FailsInGroup, FailsInUnit, IsFirstMissing}
+use Rattle.osi_spdu.proofs.basics.options_that_are_added.{merged, sole_one, sole_back, sole_step, sole_joins}
 use Rattle.osi_spdu.proofs.basics.the_steps_of_reading.{bind_of, ok_is, guard_ok, is_none_of, none_is}
 use Rattle.osi_spdu.proofs.basics.length_indicators.{IsMeasured, octets-tail, octets-drop, measured_ok, measured_again, chosen}
 use Rattle.osi_spdu.proofs.basics.length_indicators as lengths
@@ -27,12 +27,9 @@ never A x f e = cc
 
 -- ---- lengths
 
-counted_bad : (at used n : ℕ) (octets : List ℕ) (f : SpduFault) → counted_at at used n octets ≡ Err f → f ≡ LengthPastEnd at
-counted_bad at used n octets f e = grind (arith, chosen, ltb, fault_is, never)
-
 long_bad : (at : ℕ) (octets : List ℕ) (f : SpduFault) → long_at at octets ≡ Err f → f ≡ LengthPastEnd at
 unfolding long_at
-long_bad at octets f e = grind (arith, counted_bad, fault_is)
+long_bad at octets f e = grind (arith, fault_is)
 
 pub measured_bad : (at : ℕ) (octets : List ℕ) (f : SpduFault) → measured_at at octets ≡ Err f → f ≡ LengthPastEnd at
 unfolding measured_at
@@ -40,17 +37,12 @@ measured_bad at [] f e = sym (fault_is Measured (LengthPastEnd at) f e)
 measured_bad at (n ∷ octets) f e =
     elim (chosen (eqb n 255) (long_at at octets) (counted_at at 1 n octets) (Err f) e) [
       | inl q ↦ long_bad at octets f q.1
-      | inr q ↦ counted_bad at 1 n octets f q.1
+      | inr q ↦ grind (arith, chosen, ltb, fault_is, never)
     ]
-
--- a length that can't be read is spelled in neither form of length indicator
-pub no_value : (at : ℕ) (octets : List ℕ) (f : SpduFault) → measured_at at octets ≡ Err f → HasNoValue octets
-no_value at octets f h0 = grind (arith, indicator_len, measured_again, never)
 
 pub value_of_no : (at : ℕ) (octets : List ℕ) (r : Result Measured SpduFault) → measured_at at octets ≡ r → IsOctets octets →
     HasNoValue octets → r ≡ Err (LengthPastEnd at)
-value_of_no at octets (Ok m) e fits lacks =
-    (let is = measured_ok at octets m fits e in absurd (lacks is.long m.value m.rest (is.counted, is.parts)))
+value_of_no at octets (Ok m) e fits lacks = grind (arith, measured_ok at octets m fits e)
 value_of_no at octets (Err f) e fits lacks = ap (λ (g : SpduFault). failed {A = Measured} g) (measured_bad at octets f e)
 
 -- how a value was counted
@@ -58,27 +50,20 @@ pub record IsCounted (at : ℕ) (octets : List ℕ) (m : Measured) : Type 0 wher
   pub is : IsMeasured m octets
   pub used : m.used ≡ indicator_len is.long
 
-pub same_len : (long : Bool) → lengths.indicator_len long ≡ indicator_len long
-same_len long = grind arith
-
 pub counted_is : (at : ℕ) (octets : List ℕ) (m : Measured) → IsOctets octets → measured_at at octets ≡ Ok m → IsCounted at octets m
 counted_is at octets m fits e =
     let is = measured_ok at octets m fits e in
     let made : Measured = record { used = lengths.indicator_len is.long; value = m.value; rest = m.rest } in
     let again : measured_at at octets ≡ Ok made = ap (measured_at at) is.parts ∙ measured_again at is.long m.value m.rest is.counted in
     let same : m ≡ made = ok_is m made (sym e ∙ again) in
-    record { is = is; used = ap (λ (x : Measured). x.used) same ∙ same_len is.long }
+    record { is = is; used = ap (λ (x : Measured). x.used) same ∙ (grind arith) }
 
 -- ---- one value
-
-judged_bad : (at : ℕ) (c : Code) (known : Known) (o : Option (List ℕ)) (f : SpduFault) → judged at c known o ≡ Err f →
-    (o ≡ None) × (f ≡ BadValue (number_of c) at)
-judged_bad at c known o f e = grind (arith, fault_is, never)
 
 stored_bad : (kind : Kind) (at : ℕ) (c : Code) (value : List ℕ) (known : Known) (f : SpduFault) → stored kind at c value known ≡ Err f →
     IsValueFault kind at c value known f
 unfolding stored
-stored_bad kind at c value known f h0 = grind (arith, chosen, fault_is, judged_bad, is_none_of)
+stored_bad kind at c value known f h0 = grind (arith, chosen, fault_is, is_none_of)
 
 stored_fails : (kind : Kind) (at : ℕ) (c : Code) (value : List ℕ) (known : Known) (f : SpduFault) → IsValueFault kind at c value known f →
     stored kind at c value known ≡ Err f
@@ -126,8 +111,7 @@ fault_later means failing at before mid p octets rest f whole is joins level =
         parts = p ∷ level.fills.parts;
         whole = ap (λ (t : List ℕ). part_octets p ++ t) level.fills.whole;
         each = (is, level.fills.each);
-        once = λ c. sole_back (p.gives c) (before c) (mid c) (map (λ q. q.gives c) level.fills.parts) (level.known c) (joins c)
-            (level.fills.once c);
+        once = grind (arith, sole_back);
       };
       bad = subst (λ (k : ℕ). IsItemFault failing k level.rest level.known f) offset level.bad;
     }
@@ -154,7 +138,6 @@ taken_bad taking means failing follows fails n at before code octets f le fits m
     let one = follows.takes at (at + (1 + m.used)) code m.value before mid is.is.value_octets t in
     let p : Part = record { code = code; long = is.is.long; value = m.value; gives = one.0 } in
     let byte : code < 256 = fits 0 in
-    let used = is.used in
     let len = len_of_part code is.is.long m.value one.0 in
     let offset : at + (1 + m.used + length m.value) ≡ at + length (part_octets p) = omega arith in
     let shorter : length m.rest ≤ n = omega (arith, is.is.shorter) in
@@ -170,8 +153,7 @@ item_bad : (taking : Taking) (means : ℕ → List ℕ → Known → Type 0) (fa
     m.rest) ≡ Err f
     → Later taking means failing n f → Level means failing at before (code ∷ octets) f
 item_bad taking means failing follows fails n at before code octets f le fits (Err g) q e later =
-    fault_here means failing at before (code ∷ octets) f
-    (inl (no_value at octets g q, sym (fault_is Known g f e) ∙ measured_bad at octets g q))
+    grind (arith, fault_here, indicator_len, measured_again, never, fault_is, measured_bad)
 item_bad taking means failing follows fails n at before code octets f le fits (Ok m) q e later = grind (arith, taken_bad)
 
 level_found : (taking : Taking) (means : ℕ → List ℕ → Known → Type 0) (failing : Failing) → Follows taking means → Fails taking failing →
@@ -200,12 +182,9 @@ unfolding params_at
 level_bad taking means failing follows fails n at before after [] [] f le fits each once bad = absurd bad
 level_bad taking means failing follows fails zero at before after [] (code ∷ octets) f le fits each once bad = absurd (omega arith)
 level_bad taking means failing follows fails (suc n) at before after [] (code ∷ octets) f le fits each once bad =
-    let same : after ≡ before = λ i c. (sole_same (before c) (after c) (once c)) i in
     let next = λ (m : Measured).
     (taking at (at + (1 + m.used)) code m.value before >>= λ k. params_at taking n (at + (1 + m.used + length m.value)) k m.rest) in
-    let here : IsItemFault failing at (code ∷ octets) before f =
-    subst (λ (k : ℕ). IsItemFault failing k (code ∷ octets) before f) (add-zero at)
-    (subst (λ (k : Known). IsItemFault failing (at + 0) (code ∷ octets) k f) same bad) in
+    let here : IsItemFault failing at (code ∷ octets) before f = grind (arith, add-zero) in
     elim here [
       | inl q ↦ bind_bad (measured_at at octets) next f
           (value_of_no at octets (measured_at at octets) refl (octets-tail code octets fits) q.0 ∙
@@ -217,12 +196,7 @@ level_bad taking means failing follows fails (suc n) at before after [] (code �
           let made : Measured = record { used = lengths.indicator_len long; value = value; rest = rest } in
           let read : measured_at at octets ≡ Ok made = ap (measured_at at) q.3.1 ∙ measured_again at long value rest q.3.0 in
           let is = measured_ok at octets made (octets-tail code octets fits) read in
-          let at_value : failing at (at + (1 + lengths.indicator_len long)) code value before f =
-          subst (λ (u : ℕ). failing at (at + (1 + u)) code value before f) (sym (same_len long)) q.4 in
-          bind_of (measured_at at octets) next made (Err f) read
-          (bind_bad (taking at (at + (1 + lengths.indicator_len long)) code value before)
-          (λ k. params_at taking n (at + (1 + lengths.indicator_len long + length value)) k rest) f
-          (fails.back at (at + (1 + lengths.indicator_len long)) code value before f is.value_octets at_value))
+          grind (arith, lengths.indicator_len, bind_of, measured_at, bind_bad, params_at)
     ]
 level_bad taking means failing follows fails zero at before after (p ∷ parts) rest f le fits each once bad = absurd (omega arith)
 level_bad taking means failing follows fails (suc n) at before after (p ∷ parts) rest f le fits each once bad =
@@ -232,7 +206,6 @@ level_bad taking means failing follows fails (suc n) at before after (p ∷ part
     let used = lengths.indicator_len p.long in
     let behind = at + (1 + used + length p.value) in
     let one = follows.back at (at + (1 + used)) p.code p.value p.gives before mid each.0.2 joins in
-    let same = same_len p.long in
     let len = len_of_part p.code p.long p.value p.gives in
     let whole = length-append (part_octets p) (octets_of_parts parts) in
     let all = length-append (part_octets p) others in
@@ -242,14 +215,7 @@ level_bad taking means failing follows fails (suc n) at before after (p ∷ part
     let later = level_bad taking means failing follows fails n behind mid after parts rest f (omega arith) fits each.1
     (λ c. sole_step (p.gives c) (before c) (mid c) (map (λ q. q.gives c) parts) (after c) (joins c) (once c))
     (subst (λ (k : ℕ). IsItemFault failing k rest after f) offset bad) in
-    let tail = length_octets p.long (length p.value) ++ p.value ++ others in
-    let made : Measured = record { used = used; value = p.value; rest = others } in
-    ap (params_at taking (suc n) at before) assoc
-    ∙ bind_of (measured_at at tail)
-    (λ m. taking at (at + (1 + m.used)) p.code m.value before >>= λ k. params_at taking n (at + (1 + m.used + length m.value)) k m.rest)
-    made (Err f)
-    (measured_again at p.long p.value others each.0.1)
-    (bind_of (taking at (at + (1 + used)) p.code p.value before) (λ k. params_at taking n behind k others) mid (Err f) one later)
+    grind (arith, params_at, bind_of, measured_at, measured_again)
 
 level_only : (taking : Taking) (means : ℕ → List ℕ → Known → Type 0) (failing : Failing) → Follows taking means → Fails taking failing →
     (at : ℕ) (before : Known) (octets : List ℕ) (f : SpduFault)
@@ -257,20 +223,13 @@ level_only : (taking : Taking) (means : ℕ → List ℕ → Known → Type 0) (
 level_only taking means failing follows fails at before octets f fits level =
     let parts = level.fills.parts in
     let rest = level.rest in
-    let whole : octets ≡ octets_of_parts parts ++ rest = level.whole ∙ ap (λ (t : List ℕ). t ++ rest) level.fills.whole in
-    let behind : IsOctets rest = subst IsOctets (drop_at (octets_of_parts parts) rest (length (octets_of_parts parts)) refl)
-    (octets-drop (length (octets_of_parts parts)) (octets_of_parts parts ++ rest) (subst IsOctets whole fits)) in
-    let bad = subst (λ (t : List ℕ). IsItemFault failing (at + length t) rest level.known f) level.fills.whole level.bad in
-    subst (λ (o : List ℕ). params_at taking (length o) at before o ≡ Err f) (sym whole)
-    (level_bad taking means failing follows fails (length (octets_of_parts parts ++ rest)) at before level.known parts rest f (omega arith)
-    behind level.fills.each level.fills.once bad)
+    grind (arith, octets-drop, params_at, level_bad, drop_at (octets_of_parts parts) rest (length (octets_of_parts parts)) refl)
 
 -- ---- within a group
 
 member_bad : (kind : Kind) (at : ℕ) (value : List ℕ) (known : Known) (o : Option Code) (f : SpduFault) →
     member_taken kind at value known o ≡ Err f → (c : Code) × (o ≡ Some c) × IsValueFault kind at c value known f
-member_bad kind at value known None f e = absurd (never Known known f e)
-member_bad kind at value known (Some c) f e = (c, refl, stored_bad kind at c value known f e)
+member_bad kind at value known o f e = grind (arith, never, stored_bad)
 
 group_fails : (kind : Kind) (members : List Code) → Fails (in_group kind members) (FailsInGroup kind members)
 unfolding in_group FailsInGroup
@@ -301,24 +260,23 @@ opened_bad : (kind : Kind) (at body : ℕ) (c : Code) (value : List ℕ) (known 
     (r : Result Known SpduFault) → stored kind at c value known ≡ r
     → (r >>= λ mid. cond (is_group c) (params_of (in_group kind (members_of kind c)) body mid value) (Ok mid)) ≡ Err f →
     InUnit kind at body c value known f
-opened_bad kind at body c value known f fits (Err g) s e = inl (stored_bad kind at c value known f (s ∙ e))
-opened_bad kind at body c value known f fits (Ok mid) s e =
-    let members = members_of kind c in
-    elim (chosen (is_group c) (params_of (in_group kind members) body mid value) (Ok mid) (Err f) e) [
-      | inl q ↦
-          let free = stored_free kind at c value known mid s in
-          let same : mid ≡ put (slot_of c) [] known =
-          ok_is mid (put (slot_of c) [] known) (sym s ∙ stored_group kind at c value known q.0 free) in
-          let level = level_found (in_group kind members) (MeansInGroup kind members) (FailsInGroup kind members)
-          (group_follows kind members) (group_fails kind members) (length value) body mid value f (omega arith) fits q.1 in
-          inr (
-            q.0,
-            free,
-            subst (λ (k : Known). IsLevelFault (MeansInGroup kind members) (FailsInGroup kind members) body k value f) same
-                level,
-          )
-      | inr q ↦ absurd (never Known mid f q.1)
-    ]
+opened_bad kind at body c value known f h r s e =
+    grind (
+      arith,
+      stored_bad,
+      members_of,
+      chosen,
+      is_group,
+      in_group,
+      stored_free,
+      slot_of,
+      ok_is,
+      stored_group,
+      level_found,
+      group_follows,
+      group_fails,
+      never,
+    )
 
 opened_fails : (kind : Kind) (at body : ℕ) (c : Code) (value : List ℕ) (known : Known) (f : SpduFault) → IsOctets value →
     InUnit kind at body c value known f
@@ -332,9 +290,7 @@ opened_fails kind at body c value known f fits h =
       | inr q ↦
           let read = level_only (in_group kind members) (MeansInGroup kind members) (FailsInGroup kind members) (group_follows kind members)
           (group_fails kind members) body (put (slot_of c) [] known) value f fits q.2 in
-          bind_of (stored kind at c value known) next (put (slot_of c) [] known) (Err f) (stored_group kind at c value known q.0 q.1)
-          (ap (λ (b : Bool). cond b (params_of (in_group kind members) body (put (slot_of c) [] known) value)
-          (Ok (put (slot_of c) [] known))) q.0 ∙ read)
+          grind (arith, bind_of, stored, slot_of, stored_group, cond, in_group)
     ]
 
 parameter_bad : (kind : Kind) (at body : ℕ) (value : List ℕ) (known : Known) (o : Option Code) (f : SpduFault) → IsOctets value →
@@ -348,20 +304,16 @@ unit_fails : (kind : Kind) → Fails (in_unit kind) (FailsInUnit kind)
 unfolding in_unit FailsInUnit
 unit_fails kind = record {
   fails = λ at body code value known f fits e. parameter_bad kind at body value known (code_among (codes_of kind) code) f fits e;
-  back = λ at body code value known f fits h. ap (parameter_taken kind at body value known) h.1 ∙
-      opened_fails kind at body h.0 value known f fits h.2;
+  back = λ at body code value known f fits h. grind (arith, opened_fails kind at body h.0 value known f fits h.2);
 }
 
 pub unit_level_found : (kind : Kind) (at : ℕ) (octets : List ℕ) (f : SpduFault) → IsOctets octets →
     params_of (in_unit kind) at nothing octets ≡ Err f → IsLevelFault (MeansInUnit kind) (FailsInUnit kind) at nothing octets f
-unit_level_found kind at octets f fits e =
-    level_found (in_unit kind) (MeansInUnit kind) (FailsInUnit kind) (unit_follows kind) (unit_fails kind) (length octets) at nothing octets
-    f (omega arith) fits e
+unit_level_found kind at octets f fits e = grind (arith, level_found, in_unit, unit_follows, unit_fails)
 
 pub unit_level_only : (kind : Kind) (at : ℕ) (octets : List ℕ) (f : SpduFault) → IsOctets octets →
     IsLevelFault (MeansInUnit kind) (FailsInUnit kind) at nothing octets f → params_of (in_unit kind) at nothing octets ≡ Err f
-unit_level_only kind at octets f fits level =
-    level_only (in_unit kind) (MeansInUnit kind) (FailsInUnit kind) (unit_follows kind) (unit_fails kind) at nothing octets f fits level
+unit_level_only kind at octets f fits level = search (arith, level_only, in_unit, unit_follows, unit_fails)
 
 -- ---- mandatory parameters
 

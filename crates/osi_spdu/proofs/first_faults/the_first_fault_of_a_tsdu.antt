@@ -1,14 +1,14 @@
 -- The first fault of a TSDU is the one that reading returns.
 use Rattle.std.proofs.Common.{◌⊎◌, inl, inr, ◌≡◌, ℕ, zero, suc, ◌+◌, ◌≤◌, Bool, true, false, List, [], ◌∷◌, ◌++◌, length, Result, Ok, Err}
 use Rattle.std.proofs.Common.{refl, sym, ap, subst, ◌∙◌, append_assoc, add-zero, arith}
-use Rattle.osi_spdu.proofs.Vocabulary.{AllByRecursion, cases_Bool, length-append, drop_at, IsOctets, SpduFault, TrailingOctets, Category}
-use Rattle.osi_spdu.proofs.Vocabulary.{Zero, One, Two, category_of, may_stand, Contents, Units, ◌>>=◌, Placed, unit_at, contents_of}
-use Rattle.osi_spdu.proofs.Vocabulary.{takes_rest, Next, next_if, next_at, behind_at, ended, continued, tsdu_at, AreBehind, AreUnits}
-use Rattle.osi_spdu.proofs.Vocabulary.{IsUnitFault, IsCrowded, IsFaultBehind, IsFaultAfter, IsFirstFault}
+use Rattle.osi_spdu.proofs.Vocabulary.{AllByRecursion, cases_Bool, length-append, drop_at, IsOctets, SpduFault, Category, Zero, One, Two}
+use Rattle.osi_spdu.proofs.Vocabulary.{category_of, may_stand, Units, ◌>>=◌, Placed, unit_at, contents_of, takes_rest, Next, next_if}
+use Rattle.osi_spdu.proofs.Vocabulary.{next_at, behind_at, continued, tsdu_at, AreBehind, AreUnits, IsUnitFault, IsCrowded, IsFaultBehind}
+use Rattle.osi_spdu.proofs.Vocabulary.{IsFaultAfter, IsFirstFault}
 use Rattle.osi_spdu.proofs.basics.the_steps_of_reading.{bind_of}
 use Rattle.osi_spdu.proofs.basics.length_indicators.{octets-drop}
-use Rattle.osi_spdu.proofs.tsdu.units_and_tsdus_are_read.{IsUnitAt, unit_found, unit_only, second_stands, two_second, informed_none}
-use Rattle.osi_spdu.proofs.tsdu.units_and_tsdus_are_read.{informed_plain, ends_none, not_second, behind_cons}
+use Rattle.osi_spdu.proofs.tsdu.units_and_tsdus_are_read.{IsUnitAt, unit_found, unit_only, second_stands, two_second, informed_plain}
+use Rattle.osi_spdu.proofs.tsdu.units_and_tsdus_are_read.{not_second, behind_cons}
 use Rattle.osi_spdu.proofs.first_faults.the_first_fault_is_returned.{failed, fault_is, never, bind_bad}
 use Rattle.osi_spdu.proofs.first_faults.the_first_fault_of_a_unit.{unit_end, unit_fault_found, unit_fault_only}
 
@@ -44,20 +44,9 @@ with_first n others = others >>= λ us. Ok (n.unit ∷ us)
 abbrev goes_on : ℕ → Next → Result Units SpduFault
 goes_on room n = with_first n (behind_at room n.end n.rest)
 
-others_bad : (n : Next) (others : Result Units SpduFault) (f : SpduFault) → with_first n others ≡ Err f → others ≡ Err f
-others_bad n others f e = grind (arith, never, failed, fault_is)
-
 nothing_behind : (room at : ℕ) → behind_at room at [] ≡ Ok []
 unfolding behind_at
 nothing_behind room at = refl
-
-ended_found : (end at : ℕ) (rest : List ℕ) (unit : Contents) (f : SpduFault) → end ≡ at → ended end rest unit ≡ Err f →
-    (1 ≤ length rest) × (f ≡ TrailingOctets at)
-ended_found end at rest unit f e h = grind (arith, never, fault_is)
-
-ended_only : (end at : ℕ) (rest : List ℕ) (unit : Contents) (f : SpduFault) → end ≡ at → (1 ≤ length rest) × (f ≡ TrailingOctets at) →
-    ended end rest unit ≡ Err f
-ended_only end at rest unit f e h = grind (arith, failed)
 
 -- ---- the fault returned is the first
 
@@ -67,14 +56,6 @@ fault_at_once room at octets f some bad = grind (arith, add-zero at)
 
 abbrev Bad : ℕ → ℕ → ℕ → List ℕ → SpduFault → Type 0
 Bad count room at rest f = ((count ≡ room) × IsCrowded at rest f) ⊎ ((1 + count ≤ room) × IsUnitFault true at rest f)
-
-bad_more : (count room at at' : ℕ) (rest : List ℕ) (f : SpduFault) → at ≡ at' → Bad count room at rest f →
-    Bad (suc count) (suc room) at' rest f
-bad_more count room at at' rest f h0 h1 = grind arith
-
-bad_less : (count room at at' : ℕ) (rest : List ℕ) (f : SpduFault) → at ≡ at' → Bad (suc count) (suc room) at rest f →
-    Bad count room at' rest f
-bad_less count room at at' rest f h0 h1 = grind arith
 
 fault_behind_one : (room at : ℕ) (octets : List ℕ) (p : Placed) (f : SpduFault) → IsOctets octets → unit_at true at octets ≡ Ok p →
     IsUnitAt true octets p → takes_rest p.kind ≡ false → IsFaultBehind room p.end p.rest f
@@ -88,12 +69,12 @@ fault_behind_one room at octets p f fits e is plain later =
       front = front;
       rest = later.rest;
       whole = is.parts ∙ ap (λ (t : List ℕ). is.front ++ t) later.whole ∙ sym (append_assoc is.front later.front later.rest);
-      are_units = (is.front, later.front, refl, is.spelled [], informed_none p.kind, later.are_units);
-      behind = (second_stands (category_of p.kind) is.stands, ends_none p.kind later.units plain, later.behind);
+      are_units = (is.front, later.front, refl, is.spelled [], grind arith, later.are_units);
+      behind = (second_stands (category_of p.kind) is.stands, grind arith, later.behind);
       plain = (plain, later.plain);
       few = omega (arith, later.few);
       some = later.some;
-      bad = bad_more (length later.units) room (p.end + length later.front) (at + length front) later.rest f offset later.bad;
+      bad = grind arith;
     }
 
 behind_case : (room at si : ℕ) (octets : List ℕ) (f : SpduFault) → IsOctets (si ∷ octets) →
@@ -111,15 +92,14 @@ behind_case room at si octets f fits e later (Ok p) q =
       | inl t ↦
           let n : Next = record { unit = contents_of p p.rest; end = p.end + length p.rest; rest = [] } in
           let one : (next_at at (si ∷ octets) >>= λ x. goes_on room x) ≡ Ok (n.unit ∷ []) =
-          bind_of (next_at at (si ∷ octets)) (λ x. goes_on room x) n (Ok (n.unit ∷ [])) (data_next at (si ∷ octets) p q t)
-          (ap (with_first n) (nothing_behind room (p.end + length p.rest))) in
+          grind (arith, bind_of, next_at at (si ∷ octets), data_next at (si ∷ octets) p q t, nothing_behind room (p.end + length p.rest)) in
           absurd (never Units (n.unit ∷ []) f (sym one ∙ e))
       | inr t ↦
           let n : Next = record { unit = contents_of p []; end = p.end; rest = p.rest } in
           let one : (next_at at (si ∷ octets) >>= λ x. goes_on room x) ≡ goes_on room n =
           bind_of (next_at at (si ∷ octets)) (λ x. goes_on room x) n (goes_on room n) (plain_next at (si ∷ octets) p q t) refl in
           fault_behind_one room at (si ∷ octets) p f fits q is t
-          (later p.end p.rest is.rest_octets (others_bad n (behind_at room p.end p.rest) f (sym one ∙ e)))
+          (later p.end p.rest is.rest_octets (grind (arith, never, failed, fault_is)))
     ]
 
 behind_found : (room at : ℕ) (octets : List ℕ) (f : SpduFault) → IsOctets octets → behind_at room at octets ≡ Err f →
@@ -132,29 +112,14 @@ behind_found (suc room) at (si ∷ octets) f fits e =
 
 after_found : (category : Category) (p : Placed) (front : List ℕ) (f : SpduFault) → IsOctets p.rest → p.end ≡ length front →
     (category ≡ Two → ⊥) → continued category p ≡ Err f → IsFaultAfter category (length front) p.rest f
-after_found Zero p front f fits ends not_two e =
-    let behind = λ (us : Units). read (contents_of p [] ∷ us) in
-    subst (λ (k : ℕ). IsFaultBehind 16 k p.rest f) ends
-    (behind_found 16 p.end p.rest f fits
-    (others_bad (let n : Next = record { unit = contents_of p []; end = p.end; rest = p.rest } in n) (behind_at 16 p.end p.rest) f e))
-after_found One p front f fits ends not_two e = ended_found p.end (length front) p.rest (contents_of p []) f ends e
-after_found Two p front f fits ends not_two e = absurd (not_two refl)
+after_found category p front f h ends not_two e = grind (arith, behind_found, behind_at)
 
 tsdu_case : (octets : List ℕ) (f : SpduFault) → IsOctets octets → (r : Result Placed SpduFault) → unit_at false 0 octets ≡ r →
     (r >>= λ unit. continued (category_of unit.kind) unit) ≡ Err f → IsFirstFault octets f
 tsdu_case octets f fits (Err g) q e = grind (arith, unit_fault_found, failed, fault_is)
 tsdu_case octets f fits (Ok p) q e =
     let is = unit_found false 0 octets p fits q in
-    let ends : p.end ≡ length is.front = omega (arith, ends_at false 0 octets p fits q is.front is.parts) in
-    inr (
-      contents_of p [],
-      is.front,
-      p.rest,
-      is.parts,
-      is.spelled [],
-      refl,
-      after_found (category_of p.kind) p is.front f is.rest_octets ends (not_second (category_of p.kind) is.stands) e,
-    )
+    grind (arith, after_found, is.spelled [], category_of p.kind, not_second (category_of p.kind) is.stands, ends_at)
 
 pub first_fault_found : (octets : List ℕ) (f : SpduFault) → IsOctets octets → tsdu_at octets ≡ Err f → IsFirstFault octets f
 unfolding tsdu_at
@@ -189,7 +154,7 @@ behind_only (suc room) at (unit ∷ units) front rest f s are plain few some fit
     let n : Next = record { unit = contents_of p []; end = u.0; rest = theirs ++ rest } in
     let later = behind_only room u.0 units theirs rest f s.5 are.2 plain.1 (omega (arith, few)) some
     (behind_octets mine (theirs ++ rest) fits')
-    (bad_less (length units) room (at + length front) (u.0 + length theirs) rest f offset bad) in
+    (grind arith) in
     ap (behind_at (suc room) at) octets ∙ behind_cons room at mine (theirs ++ rest) unit s.3
     ∙ bind_of (next_at at (mine ++ (theirs ++ rest))) (λ x. goes_on room x) n (Err f)
     (plain_next at (mine ++ (theirs ++ rest)) p u.1 plain.0)
@@ -208,15 +173,14 @@ after_only Zero p front f fits ends h =
     bind_bad (behind_at 16 p.end p.rest) (λ us. Ok (contents_of p [] ∷ us)) f
     (ap (behind_at 16 p.end) octets ∙ behind_only 16 p.end later.units later.front later.rest f later.are_units later.behind later.plain
     later.few later.some (subst IsOctets octets fits) later.bad)
-after_only One p front f fits ends h = ended_only p.end (length front) p.rest (contents_of p []) f ends h
+after_only One p front f fits ends h = grind (arith, failed)
 after_only Two p front f fits ends h = absurd h
 
 pub first_fault_only : (octets : List ℕ) (f : SpduFault) → IsOctets octets → IsFirstFault octets f → tsdu_at octets ≡ Err f
 unfolding tsdu_at
 first_fault_only octets f fits h =
     elim h [
-      | inl q ↦ bind_bad (unit_at false 0 octets) (λ unit. continued (category_of unit.kind) unit) f
-          (unit_fault_only false 0 octets f fits q)
+      | inl q ↦ grind (arith, bind_bad, unit_at, category_of, unit_fault_only)
       | inr q ↦
           let unit = q.0 in
           let front = q.1 in
@@ -226,6 +190,5 @@ first_fault_only octets f fits h =
           let p : Placed = record { kind = unit.kind; known = unit.known; end = u.0; rest = rest } in
           let ends : u.0 ≡ length front = omega (arith, ends_at false 0 (front ++ rest) p fits' u.1 front refl) in
           let goes : unit_at false 0 octets ≡ Ok p = ap (unit_at false 0) q.3 ∙ u.1 in
-          bind_of (unit_at false 0 octets) (λ x. continued (category_of x.kind) x) p (Err f) goes
-          (after_only (category_of unit.kind) p front f (behind_octets front rest fits') ends q.6)
+          search (arith, bind_of, unit_at, category_of, after_only, behind_octets)
     ]

@@ -1,17 +1,16 @@
 -- The first fault of a unit is the one that reading returns.
-use Rattle.std.proofs.Common.{inl, inr, ◌≡◌, ℕ, ◌+◌, Bool, cond, List, [], ◌∷◌, ◌++◌, length, Option, Some, None, Result, Ok, Err, refl}
-use Rattle.std.proofs.Common.{sym, ap, subst, ◌∙◌, arith}
+use Rattle.std.proofs.Common.{inl, inr, ◌≡◌, ℕ, ◌+◌, Bool, cond, List, [], ◌∷◌, length, Option, Some, None, Result, Ok, Err, refl, sym, ap}
+use Rattle.std.proofs.Common.{subst, ◌∙◌, arith}
 use Rattle.osi_spdu.proofs.Vocabulary.{flat_map, cases_Bool, length-append, IsOctets, SpduFault, LengthPastEnd, BadConcatenation, Kind}
 use Rattle.osi_spdu.proofs.Vocabulary.{required_of, kind_named, Known, nothing, settled, ◌>>=◌, Measured, measured_at, params_of, in_unit}
-use Rattle.osi_spdu.proofs.Vocabulary.{all_there, Placed, placed_kind, unit_at, length_octets, part_octets, Spells, MeansInUnit}
-use Rattle.osi_spdu.proofs.Vocabulary.{indicator_len, FailsInUnit, IsLevelFault, IsBodyFault, IsNamedFault, IsUnitFault}
+use Rattle.osi_spdu.proofs.Vocabulary.{all_there, Placed, placed_kind, unit_at, part_octets, Spells, MeansInUnit, indicator_len}
+use Rattle.osi_spdu.proofs.Vocabulary.{IsBodyFault, IsNamedFault, IsUnitFault}
 use Rattle.osi_spdu.proofs.basics.the_steps_of_reading.{bind_ok, bind_of, ok_is}
 use Rattle.osi_spdu.proofs.basics.length_indicators.{octets-tail, measured_ok, measured_again}
 use Rattle.osi_spdu.proofs.basics.length_indicators as lengths
 use Rattle.osi_spdu.proofs.parameters.one_level_is_read.{params_found, params_only, unit_follows}
-use Rattle.osi_spdu.proofs.first_faults.the_first_fault_is_returned.{failed, fault_is, never, no_value}
-use Rattle.osi_spdu.proofs.first_faults.the_first_fault_is_returned.{measured_bad, value_of_no, counted_is}
-use Rattle.osi_spdu.proofs.first_faults.the_first_fault_is_returned.{same_len, bind_bad, unit_level_found, unit_level_only, missing_found}
+use Rattle.osi_spdu.proofs.first_faults.the_first_fault_is_returned.{failed, fault_is, never, measured_bad, value_of_no, counted_is}
+use Rattle.osi_spdu.proofs.first_faults.the_first_fault_is_returned.{bind_bad, unit_level_found, unit_level_only, missing_found}
 use Rattle.osi_spdu.proofs.first_faults.the_first_fault_is_returned.{missing_only}
 
 -- a unit of this kind whose parameters are these
@@ -29,11 +28,6 @@ body_in kind at octets = measured_at at octets >>= λ m. value_in kind at m
 
 -- ---- the fault returned is the first
 
-required_found : (kind : Kind) (at : ℕ) (m : Measured) (raw : Known) (f : SpduFault) (r : Result Known SpduFault) →
-    all_there at (required_of kind) raw ≡ r → (r >>= λ whole. Ok (placed kind at m whole)) ≡ Err f
-    → all_there at (required_of kind) raw ≡ Err f
-required_found kind at m raw f r q e = grind (arith, failed, fault_is, never)
-
 value_found : (kind : Kind) (at : ℕ) (octets : List ℕ) (m : Measured) (f : SpduFault) → IsOctets octets → measured_at at octets ≡ Ok m →
     (r : Result Known SpduFault) → params_of (in_unit kind) (at + (1 + m.used)) nothing m.value ≡ r
     → (r >>= λ raw. required_in kind at m raw) ≡ Err f → IsBodyFault kind at octets f
@@ -43,16 +37,11 @@ value_found kind at octets m f fits q (Ok raw) t e =
     let r = params_found (in_unit kind) (MeansInUnit kind) (unit_follows kind) (length m.value) (at + (1 + m.used)) nothing raw m.value
     (omega arith) is.is.value_octets t in
     let spelled : Spells (MeansInUnit kind) raw m.value = record { parts = r.parts; whole = r.whole; each = r.each; once = r.once } in
-    let missing = missing_found at (required_of kind) raw f (required_found kind at m raw f (all_there at (required_of kind) raw) refl e) in
-    inr (is.is.long, m.value, m.rest, (is.is.counted, is.is.parts), inr (raw, spelled, missing))
-
-body_found : (kind : Kind) (at : ℕ) (octets : List ℕ) (f : SpduFault) → IsOctets octets → (r : Result Measured SpduFault) →
-    measured_at at octets ≡ r → (r >>= λ m. value_in kind at m) ≡ Err f → IsBodyFault kind at octets f
-body_found kind at octets f fits r q e = search (arith, no_value, fault_is, measured_bad, value_found)
+    grind (arith, missing_found, required_of, failed, fault_is, never)
 
 named_found : (second : Bool) (at : ℕ) (o : Option Kind) (octets : List ℕ) (f : SpduFault) → IsOctets octets →
     (placed_kind second at o >>= λ kind. body_in kind at octets) ≡ Err f → IsNamedFault second at o octets f
-named_found second at o octets f h0 h1 = grind (arith, fault_is, cases_Bool, body_found)
+named_found second at o octets f h0 h1 = search (arith, fault_is, cases_Bool, measured_again, never, measured_bad, value_found)
 
 pub unit_fault_found : (second : Bool) (at : ℕ) (octets : List ℕ) (f : SpduFault) → IsOctets octets → unit_at second at octets ≡ Err f →
     IsUnitFault second at octets f
@@ -66,8 +55,7 @@ body_only : (kind : Kind) (at : ℕ) (octets : List ℕ) (f : SpduFault) → IsO
     body_in kind at octets ≡ Err f
 body_only kind at octets f fits h =
     elim h [
-      | inl q ↦ bind_bad (measured_at at octets) (λ m. value_in kind at m) f (value_of_no at octets (measured_at at octets) refl fits q.0 ∙
-          ap (λ (g : SpduFault). failed {A = Measured} g) (sym q.1))
+      | inl q ↦ grind (arith, bind_bad, failed, measured_at at octets, value_of_no at octets (measured_at at octets) refl fits q.0)
       | inr q ↦
           let long = q.0 in
           let value = q.1 in
@@ -77,20 +65,14 @@ body_only kind at octets f fits h =
           let read : measured_at at octets ≡ Ok made = ap (measured_at at) q.3.1 ∙ measured_again at long value rest q.3.0 in
           let is = measured_ok at octets made fits read in
           bind_of (measured_at at octets) (λ m. value_in kind at m) made (Err f) read (elim q.4 [
-            | inl level ↦
-                let here = subst (λ (u : ℕ). IsLevelFault (MeansInUnit kind) (FailsInUnit kind) (at + (1 + u)) nothing value f)
-                (sym (same_len long)) level in
-                bind_bad (params_of (in_unit kind) (at + (1 + used)) nothing value) (λ raw. required_in kind at made raw) f
-                (unit_level_only kind (at + (1 + used)) value f is.value_octets here)
+            | inl level ↦ search (arith, bind_bad, in_unit, unit_level_only)
             | inr w ↦
                 let s = w.1 in
                 let params : params_of (in_unit kind) (at + (1 + used)) nothing value ≡ Ok w.0 =
                 subst (λ (b : List ℕ). params_of (in_unit kind) (at + (1 + used)) nothing b ≡ Ok w.0) (sym s.whole)
                 (params_only (in_unit kind) (MeansInUnit kind) (unit_follows kind) (length (flat_map part_octets s.parts)) (at + (1 + used))
                 nothing w.0 s.parts (omega arith) s.each s.once) in
-                bind_of (params_of (in_unit kind) (at + (1 + used)) nothing value) (λ raw. required_in kind at made raw) w.0 (Err f) params
-                (bind_bad (all_there at (required_of kind) w.0) (λ whole. Ok (placed kind at made whole)) f
-                (missing_only at (required_of kind) w.0 f w.2))
+                grind (arith, bind_of, in_unit, bind_bad, all_there, required_of, missing_only)
           ])
     ]
 
@@ -112,10 +94,6 @@ unit_fault_only second at (si ∷ octets) f fits h = named_only second at (kind_
 
 -- ---- the end of a unit
 
-indicator_octets : (long : Bool) (value rest : List ℕ) →
-    length (length_octets long (length value) ++ value ++ rest) ≡ indicator_len long + (length value + length rest)
-indicator_octets long value rest = grind (arith, length-append)
-
 pub unit_end : (second : Bool) (at : ℕ) (octets : List ℕ) (p : Placed) → IsOctets octets → unit_at second at octets ≡ Ok p →
     p.end + length p.rest ≡ at + length octets
 unfolding unit_at
@@ -125,8 +103,4 @@ unit_end second at (si ∷ octets) p fits e =
     let b = bind_ok (measured_at at octets) (λ m. value_in a.0 at m) p a.2 in
     let m = b.0 in
     let c = bind_ok (params_of (in_unit a.0) (at + (1 + m.used)) nothing m.value) (λ raw. required_in a.0 at m raw) p b.2 in
-    let d = bind_ok (all_there at (required_of a.0) c.0) (λ whole. Ok (placed a.0 at m whole)) p c.2 in
-    let is = counted_is at octets m (octets-tail si octets fits) b.1 in
-    let len = ap length is.is.parts ∙ indicator_octets is.is.long m.value m.rest in
-    let used = is.used in
-    subst (λ (x : Placed). x.end + length x.rest ≡ at + length (si ∷ octets)) (ok_is (placed a.0 at m d.0) p d.2) (omega arith)
+    grind (arith, length-append, ok_is, counted_is at octets m (octets-tail si octets fits) b.1, octets-tail si octets fits)

@@ -1,23 +1,10 @@
 -- The written form of a value is no longer than the octets that were read.
-use Rattle.std.proofs.Common.{◌≡◌, ℕ, zero, suc, ◌+◌, ◌*◌, ◌^◌, ◌<◌, ◌≤◌, Bool, true, false, cond, ◌&&◌, List, [], ◌∷◌, length, Option}
-use Rattle.std.proofs.Common.{Some, None, option_map, refl, ap, subst, ◌-◌, add-zero, zero-add, eqb, ltb, leb, arith}
+use Rattle.std.proofs.Common.{◌≡◌, ℕ, zero, suc, ◌+◌, ◌*◌, ◌^◌, ◌<◌, ◌≤◌, Bool, true, false, cond, ◌&&◌, List, [], ◌∷◌, length, Some, None}
+use Rattle.std.proofs.Common.{option_map, refl, subst, ◌-◌, add-zero, zero-add, eqb, ltb, leb, arith}
 use Rattle.osi_spdu.proofs.Vocabulary.{common_steps, list_all, cases_Bool, and_parts, ltb-true, leb-true, Code, Kind, significant}
-use Rattle.osi_spdu.proofs.Vocabulary.{six_digits, digits_of, decimal_from, decimal, is_digit, is_numeral, numeral, octet_if, kept_if}
-use Rattle.osi_spdu.proofs.Vocabulary.{canonical, canonical_in}
+use Rattle.osi_spdu.proofs.Vocabulary.{six_digits, digits_of, decimal_from, decimal, is_digit, is_numeral, numeral, canonical, canonical_in}
 
 -- ---- a value is written in no more octets than it was read in
-
-one_shorter : (good : ℕ → Bool) (form : ℕ → ℕ) (value v : List ℕ) → octet_if good form value ≡ Some v → length v ≤ length value
-one_shorter good form value v h0 = grind arith
-
-kept_shorter : (good : Bool) (value v : List ℕ) → kept_if good value ≡ Some v → length v ≤ length value
-kept_shorter good value v e = grind arith
-
-some_shorter : (value v : List ℕ) → (let o : Option (List ℕ) = Some value in o ≡ Some v) → length v ≤ length value
-some_shorter value v e = (let same : value ≡ v = cc in omega (arith, ap length same))
-
-none_shorter : (value v : List ℕ) → (let o : Option (List ℕ) = Some [] in o ≡ Some v) → length v ≤ length value
-none_shorter value v e = (let same : [] ≡ v = cc in omega (arith, ap length same))
 
 pub significant_len : (xs : List ℕ) → length (significant xs) ≤ length xs
 unfolding significant
@@ -48,9 +35,7 @@ decimal_small (d ∷ ds) n k all h =
     let b = and_parts (leb 48 d) (ltb d 58) a.0 in
     let high = ltb-true d 58 b.1 in
     let power : 10 ^ (k + 1) ≡ 10 * 10 ^ k = grind (arith, common_steps) in
-    let r = decimal_small ds (10 * n + (d - 48)) (k + 1) a.1 (omega arith) in
-    let same : k + 1 + length ds ≡ k + suc (length ds) = omega arith in
-    subst (λ (m : ℕ). decimal_from (10 * n + (d - 48)) ds < 10 ^ m) same r
+    grind (arith, decimal_from, decimal_small ds (10 * n + (d - 48)) (k + 1) a.1 (omega arith))
 
 numeral_shorter : (value v : List ℕ) → option_map digits_of (numeral value) ≡ Some v → length v ≤ length value
 numeral_shorter value v e = by (is_numeral value) refl e
@@ -69,7 +54,7 @@ numeral_shorter value v e = by (is_numeral value) refl e
 
 pub canonical_shorter : (c : Code) (value v : List ℕ) → canonical c value ≡ Some v → length v ≤ length value
 unfolding canonical
-canonical_shorter c value v e = grind (arith, none_shorter, one_shorter, kept_shorter, eqb, numeral_shorter, ltb, leb, some_shorter)
+canonical_shorter c value v e = search (arith, eqb, numeral_shorter, ltb, leb)
 
 -- what a unit of some kind takes as the value of a code is one
 pub canonical_from : (kind : Kind) (c : Code) (value v : List ℕ) → canonical_in kind c value ≡ Some v → canonical c value ≡ Some v

@@ -2,16 +2,12 @@
 use Rattle.std.proofs.Common.{◌≡◌, ℕ, zero, suc, ◌+◌, ◌<◌, ◌≤◌, List, [], ◌∷◌, ◌++◌, length, drop, get_or, refl, ap, ◌∙◌, arith}
 use Rattle.osi_spdu.proofs.Vocabulary.{flat_map, length-append, append-nil, drop_more, drop_all, Code}
 
-pub piece_next : (f : Code → List ℕ) (codes : List Code) (i : ℕ) (c : Code) → i < length codes →
-    flat_map f (drop i codes) ≡ f (get_or codes i c) ++ flat_map f (drop (i + 1) codes)
-piece_next f codes i c lt = ap (flat_map f) (drop_more codes i c lt)
-
 pub pieces_end : (f : Code → List ℕ) (codes : List Code) (i : ℕ) → length codes ≤ i → flat_map f (drop i codes) ≡ []
 pieces_end f codes i le = ap (flat_map f) (drop_all i codes le)
 
 pub piece_len : (f : Code → List ℕ) (codes : List Code) (i : ℕ) (c : Code) → i < length codes →
     length (flat_map f (drop i codes)) ≡ length (f (get_or codes i c)) + length (flat_map f (drop (i + 1) codes))
-piece_len f codes i c lt = ap length (piece_next f codes i c lt) ∙ length-append (f (get_or codes i c)) (flat_map f (drop (i + 1) codes))
+piece_len f codes i c lt = ap length (grind (arith, drop_more)) ∙ length-append (f (get_or codes i c)) (flat_map f (drop (i + 1) codes))
 
 -- the length so far, and the length of the rest
 pub record IsCounting (f : Code → List ℕ) (codes : List Code) (i len : ℕ) : Type 0 where

@@ -4,12 +4,11 @@ use Rattle.std.proofs.Common.{Some, None, refl, sym, ap, subst, ◌∙◌, ltb, 
 use Rattle.osi_spdu.proofs.Vocabulary.{is_some, is_none, IsSome, flat_map, list_any, list_all, AllByRecursion, cases_Bool, and_parts}
 use Rattle.osi_spdu.proofs.Vocabulary.{and_from, or_cases, or_parts, or_left, or_right, ltb-false, not-true, length-append, IsOctets, Code}
 use Rattle.osi_spdu.proofs.Vocabulary.{Enclosure, UserData, ExtendedUserData, Kind, number_of, is_same, is_group, slot_of, every_code}
-use Rattle.osi_spdu.proofs.Vocabulary.{codes_of, members_of, required_of, canonical, may_enclose, canonical_in, Known, some_octets, settled}
-use Rattle.osi_spdu.proofs.Vocabulary.{Contents, Units, length_octets, HasLength, Part, part_octets, Sole, IsPart, Spells, only, MemberOf}
-use Rattle.osi_spdu.proofs.Vocabulary.{MeansInGroup, GroupOf, ParameterOf, KnownOf, MeansInUnit, SpellsUnit, AreUnits, SpellsTsdu}
-use Rattle.osi_spdu.proofs.Vocabulary.{written_item, among, written_code, member_octets, group_octets, value_octets, parameter_octets}
-use Rattle.osi_spdu.proofs.Vocabulary.{body_octets, unit_octets, tsdu_octets, may_be_there, is_enclosed, is_formed, IsCanonical}
-use Rattle.osi_spdu.proofs.Vocabulary.{IsFormedUnit, UnitFits, IsFormedTsdu, TsduFits}
+use Rattle.osi_spdu.proofs.Vocabulary.{codes_of, members_of, required_of, canonical, may_enclose, canonical_in, Known, settled, Contents}
+use Rattle.osi_spdu.proofs.Vocabulary.{Units, HasLength, Part, part_octets, Sole, IsPart, Spells, only, MemberOf, MeansInGroup, GroupOf}
+use Rattle.osi_spdu.proofs.Vocabulary.{ParameterOf, KnownOf, MeansInUnit, SpellsUnit, AreUnits, SpellsTsdu, among, written_code}
+use Rattle.osi_spdu.proofs.Vocabulary.{member_octets, group_octets, value_octets, parameter_octets, body_octets, unit_octets, tsdu_octets}
+use Rattle.osi_spdu.proofs.Vocabulary.{may_be_there, is_enclosed, is_formed, IsCanonical, IsFormedUnit, UnitFits, IsFormedTsdu, TsduFits}
 use Rattle.osi_spdu.proofs.basics.options_that_are_added.{sole_one}
 use Rattle.osi_spdu.proofs.basics.the_steps_of_reading.{same_true, same_refl}
 use Rattle.osi_spdu.proofs.parameters.one_level_is_read.{group_form}
@@ -30,15 +29,10 @@ abbrev octets_if : (Code → List ℕ → Part) → Code → Option (List ℕ) �
 octets_if make c None = []
 octets_if make c (Some v) = part_octets (make c v)
 
-whole_if : (make : Code → List ℕ → Part) (c : Code) (o : Option (List ℕ)) (octets : List ℕ) (parts : List Part) →
-    octets ≡ flat_map part_octets parts
-    → octets_if make c o ++ octets ≡ flat_map part_octets (part_if make c o parts)
-whole_if make c o octets parts e = grind arith
-
 parts_whole : (make : Code → List ℕ → Part) (known : Known) (codes : List Code) →
     flat_map (λ c. octets_if make c (known c)) codes ≡ flat_map part_octets (parts_of make known codes)
 parts_whole make known [] = refl
-parts_whole make known (c ∷ codes) = grind (arith, whole_if, parts_whole make known codes)
+parts_whole make known (c ∷ codes) = grind (arith, parts_whole make known codes)
 
 -- what makes each part one of the level
 abbrev Makes : (ℕ → List ℕ → Known → Type 0) → (Code → List ℕ → Part) → Known → List Code → Type 0
@@ -70,19 +64,13 @@ Shares owner make known = (c : Code) (v : List ℕ) (d : Code) → (make c v).gi
 abbrev given : List Part → Code → List (Option (List ℕ))
 given parts d = map (λ p. p.gives d) parts
 
-none_if : (make : Code → List ℕ → Part) (c : Code) (o : Option (List ℕ)) (parts : List Part) (d : Code) →
-    ((v : List ℕ) → (make c v).gives d ≡ None)
-    → Sole (given parts d) None → Sole (given (part_if make c o parts) d) None
-none_if make c o parts d g h = grind arith
-
 parts_none : (owner : Code → Code → Bool) (make : Code → List ℕ → Part) (known : Known) (codes : List Code) (d : Code) →
     Shares owner make known
     → list_any (λ c. owner c d) codes ≡ false → Sole (given (parts_of make known codes) d) None
 parts_none owner make known [] d g e = refl
 parts_none owner make known (c ∷ codes) d g e =
     let o = or_parts (owner c d) (list_any (λ x. owner x d) codes) e in
-    none_if make c (known c) (parts_of make known codes) d (λ v. g c v d ∙ ap (λ (b : Bool). cond b (known d) None) o.0)
-    (parts_none owner make known codes d g o.1)
+    grind (arith, cond, parts_none owner make known codes d g o.1)
 
 pub once_tail : (b x y : Bool) → cond b (not x) y ≡ true → (b ≡ true → x ≡ false) × (b ≡ false → y ≡ true)
 once_tail b x y e = grind (arith, not-true)
@@ -138,9 +126,6 @@ own_only known c v d e = search (arith, cases_Bool, same_true)
 abbrev member_part : Known → Code → List ℕ → Part
 member_part known c v = record { code = number_of c; long = ltb 254 (length v); value = v; gives = λ d. cond (is_same d c) (known d) None }
 
-fitting : (code : ℕ) (v : List ℕ) → length (written_item code v) < 65536 → HasLength (ltb 254 (length v)) (length v)
-fitting code v fits = grind (arith, ltb, length-append, ltb-false)
-
 member_makes : (kind : Kind) (known : Known) (g : Code) → IsCanonicalIn kind known →
     Makes (MeansInGroup kind (members_of kind g)) (member_part known) known (members_of kind g)
 unfolding MeansInGroup
@@ -149,17 +134,14 @@ member_makes kind known g is c v there e fits =
     let same : (let m : Known = λ d. cond (is_same d c) (known d) None in m) ≡ only (slot_of c) v =
     (λ i d. (own_only known c v d e) i) ∙ ap (λ (s : Code). only s v) (sym (own_slot kind known c v is e)) in
     let means : MemberOf kind v (λ d. cond (is_same d c) (known d) None) (Some c) = (v, is.values c v e, same) in
-    (number_octet c, fitting (number_of c) v fits, rw found means)
-
-cond_none : (b : Bool) → cond b (let o : Option (List ℕ) = None in o) None ≡ None
-cond_none b = grind arith
+    (number_octet c, grind (arith, ltb, length-append, ltb-false), rw found means)
 
 same_and_there : (known : Known) (d c : Code) (v : List ℕ) → known d ≡ Some v → (is_same d c && is_some (known c)) ≡ is_same d c
 same_and_there known d c v e = grind (arith, cases_Bool, same_true)
 
 shown_member : (known : Known) (members : List Code) (d : Code) (o : Option (List ℕ)) → known d ≡ o
     → cond (list_any (λ c. is_same d c && is_some (known c)) members) (known d) None ≡ cond (among members d) (known d) None
-shown_member known members d None e = grind (arith, cond, cond_none)
+shown_member known members d None e = grind (arith, cond)
 shown_member known members d (Some v) e =
     ap (λ (p : Code → Bool). cond (list_any p members) (known d) None) (λ i c. (same_and_there known d c v e) i)
 
@@ -203,9 +185,6 @@ unit_part kind known c v = record {
 abbrev owned : Kind → Known → Code → Known
 owned kind known c = λ d. cond (owns kind c d) (known d) None
 
-owned_alone : (kind : Kind) (known : Known) (c : Code) (v : List ℕ) → is_group c ≡ false → known c ≡ Some v → owned kind known c ≡ only c v
-owned_alone kind known c v leaf e = grind (arith, members_none, own_only)
-
 group_means : (kind : Kind) (known : Known) (c : Code) (v : List ℕ) → IsCanonicalIn kind known → is_group c ≡ true → known c ≡ Some v →
     length (group_octets kind known c) < 65536
     → GroupOf kind c (group_octets kind known c) (owned kind known c)
@@ -224,7 +203,7 @@ parameter_means : (kind : Kind) (known : Known) (c : Code) (v : List ℕ) (b : B
     ParameterOf kind c (cond b (group_octets kind known c) v) (owned kind known c) b
 parameter_means kind known c v true group is e fits = group_means kind known c v is group e fits
 parameter_means kind known c v false group is e fits =
-    (v, is.values c v e, owned_alone kind known c v group e ∙ ap (λ (s : Code). only s v) (sym (own_slot kind known c v is e)))
+    (v, is.values c v e, (grind (arith, members_none, own_only)) ∙ ap (λ (s : Code). only s v) (sym (own_slot kind known c v is e)))
 
 -- user data in the code of its length
 long_data_means : (kind : Kind) (known : Known) (c : Code) (v : List ℕ) → c ≡ UserData → known c ≡ Some v
@@ -233,7 +212,7 @@ unfolding is_group canonical canonical_in may_enclose number_of slot_of
 long_data_means kind known c v data_code e =
     subst (λ (x : Code). known x ≡ Some v → KnownOf kind (value_octets kind known x v) (owned kind known x) (Some ExtendedUserData))
     (sym data_code)
-    (λ there. (v, refl, owned_alone kind known UserData v refl there)) e
+    (λ there. (v, refl, grind (arith, members_none, own_only))) e
 
 unit_means : (kind : Kind) (known : Known) (c : Code) (v : List ℕ) → IsCanonicalIn kind known → among (codes_of kind) c ≡ true →
     known c ≡ Some v
@@ -252,30 +231,19 @@ unit_means kind known c v is there e fits =
 
 unit_makes : (kind : Kind) (known : Known) → IsCanonicalIn kind known →
     Makes (MeansInUnit kind) (unit_part kind known) known (codes_of kind)
-unit_makes kind known is c v there e fits =
-    let value = value_octets kind known c v in
-    let code = number_of (written_code kind c v) in
-    let shorter : length value < 65536 =
-    omega (arith, length-append (code ∷ [] ++ length_octets (ltb 254 (length value)) (length value)) value) in
-    (number_octet (written_code kind c v), fitting code value fits, unit_means kind known c v is there e shorter)
+unit_makes kind known is c v there e fits = grind (arith, number_of, written_code, length-append, ltb, number_octet, unit_means)
 
 shown_owned : (kind : Kind) (known : Known) (d : Code) (o : Option (List ℕ)) → known d ≡ o →
     (may_be_there kind known d || is_none (known d)) ≡ true
     → cond (list_any (λ c. owns kind c d && is_some (known c)) (codes_of kind)) (known d) None ≡ known d
-shown_owned kind known d None e formed = grind (arith, cond, owns, cond_none)
+shown_owned kind known d None e formed = grind (arith, cond, owns)
 shown_owned kind known d (Some v) e formed =
-    let present : may_be_there kind known d ≡ true = elim (or_cases (may_be_there kind known d) (is_none (known d)) formed) [
-      | inl t ↦ t
-      | inr f ↦ absurd (let h : is_none (known d) ≡ false = ap is_none e in cc)
-    ] in
+    let present : may_be_there kind known d ≡ true = grind (arith, or_cases) in
     let by : list_any (λ c. owns kind c d && is_some (known c)) (codes_of kind) ≡ true =
     elim (or_cases (among (codes_of kind) d) (list_any (λ g. among (members_of kind g) d && is_some (known g)) (codes_of kind)) present) [
       | inl a ↦ any_weaker (λ c. is_same d c) (λ c. owns kind c d && is_some (known c)) (codes_of kind)
-          (λ c t. and_from (owns kind c d) (is_some (known c)) (or_left (is_same d c) (among (members_of kind c) d) t)
-          (ap is_some (sym (ap known (same_true d c t)) ∙ e))) a
-      | inr a ↦ any_weaker (λ g. among (members_of kind g) d && is_some (known g)) (λ c. owns kind c d && is_some (known c)) (codes_of kind)
-          (λ c t. (let q = and_parts (among (members_of kind c) d) (is_some (known c)) t in
-          and_from (owns kind c d) (is_some (known c)) (or_right (is_same d c) (among (members_of kind c) d) q.0) q.1)) a
+          (grind (arith, and_from, owns, or_left, members_of, same_true)) a
+      | inr a ↦ grind (arith, any_weaker, members_of, owns, codes_of, and_parts, and_from, or_right)
     ] in
     rw by refl
 
@@ -310,11 +278,8 @@ all_some known [] e = tt
 all_some known (c ∷ codes) e =
     (let a = and_parts (is_some (known c)) (list_all (λ d. is_some (known d)) codes) e in (a.0, all_some known codes a.1))
 
-settled_option : (o : Option (List ℕ)) → (o ≡ Some [] → ⊥) → some_octets o ≡ o
-settled_option o h = grind arith
-
 settled_same : (known : Known) → IsCanonical known → settled known ≡ known
-settled_same known is = grind (arith, cases_Bool, settled_option, same_true)
+settled_same known is = grind (arith, cases_Bool, same_true)
 
 pub unit_written : (unit : Contents) → IsFormedUnit unit → UnitFits unit → SpellsUnit unit (unit_octets unit)
 unfolding unit_octets is_formed

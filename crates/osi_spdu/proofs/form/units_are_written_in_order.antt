@@ -1,7 +1,7 @@
 -- Writing units one after the other, by a loop.
 use Rattle.std.proofs.Common.{◌≡◌, ℕ, ◌+◌, ◌*◌, ◌<◌, ◌≤◌, List, [], ◌∷◌, ◌++◌, length, refl, sym, ap, subst, ◌∙◌, append_assoc, arith}
-use Rattle.osi_spdu.proofs.Vocabulary.{AllByRecursion, length-append, append-nil, drop_at, IsOctets, Kind, Contents, Units, HasInformation}
-use Rattle.osi_spdu.proofs.Vocabulary.{EndsTsdu, AreBehind, unit_octets, tsdu_octets, IsFormedUnit, UnitFits, TsduFits}
+use Rattle.osi_spdu.proofs.Vocabulary.{AllByRecursion, length-append, append-nil, drop_at, IsOctets, Contents, Units, AreBehind}
+use Rattle.osi_spdu.proofs.Vocabulary.{unit_octets, tsdu_octets, IsFormedUnit, UnitFits, TsduFits}
 use Rattle.osi_spdu.proofs.basics.length_indicators.{octets-drop}
 
 pub octets_none : (units : Units) → units ≡ [] → tsdu_octets units ≡ []
@@ -15,19 +15,12 @@ octets_next units others unit e = ap tsdu_octets e
 
 len_next : (units others : Units) (unit : Contents) → units ≡ unit ∷ others →
     length (tsdu_octets units) ≡ length (unit_octets unit) + (length unit.information + length (tsdu_octets others))
-len_next units others unit e =
-    let a = ap length (octets_next units others unit e) in
-    let b = length-append (unit_octets unit) (unit.information ++ tsdu_octets others) in
-    let c = length-append unit.information (tsdu_octets others) in
-    omega arith
+len_next units others unit e = grind (arith, length-append, unit_octets, tsdu_octets, octets_next units others unit e)
 
 -- ---- one unit
 
 pub one_octets : (units : Units) (unit : Contents) → units ≡ unit ∷ [] → tsdu_octets units ≡ unit_octets unit ++ unit.information
-one_octets units unit e =
-    octets_next units [] unit e
-    ∙ ap (λ (t : List ℕ). unit_octets unit ++ (unit.information ++ t)) (octets_none [] refl) ∙
-    ap (λ (t : List ℕ). unit_octets unit ++ t) (append-nil unit.information)
+one_octets units unit e = grind (arith, unit_octets, octets_next units [] unit e, octets_none [] refl, append-nil unit.information)
 
 pub one_len : (units : Units) (unit : Contents) → units ≡ unit ∷ [] →
     length (tsdu_octets units) ≡ length (unit_octets unit) + length unit.information
@@ -47,10 +40,6 @@ pub record IsCountingUnits (units : Units) (len : ℕ) (all : Units) : Type 0 wh
   pub few : length units ≤ 16
   pub small : 1 ≤ length units → len + 65540 * length units ≤ 65540 * 16
 
-plain_or_last : (kind : Kind) (information : List ℕ) (units : Units) → HasInformation kind information → EndsTsdu kind units →
-    1 ≤ length units → length information ≡ 0
-plain_or_last kind information units h e some = grind arith
-
 pub counting_start : (units : Units) → TsduFits units → AllByRecursion IsFormedUnit units → AreBehind units → length units ≤ 16 →
     IsCountingUnits units 0 units
 counting_start units h0 h1 h2 h3 = grind arith
@@ -61,15 +50,9 @@ pub record CountsNext (units : Units) (len : ℕ) (unit : Contents) (others all 
   pub small : len ≤ 65540 * 15
   pub next : length (unit_octets unit) < 65540 → IsCountingUnits others (len + (length (unit_octets unit) + length unit.information)) all
 
-counts_cons : (len : ℕ) (unit : Contents) (others all : Units) → IsCountingUnits (unit ∷ others) len all →
-    CountsNext (unit ∷ others) len unit others all
-counts_cons len unit others all so_far = grind (arith, len_next, plain_or_last)
-
 pub counts_next : (units : Units) (len : ℕ) (unit : Contents) (others all : Units) → units ≡ unit ∷ others → IsCountingUnits units len all →
     CountsNext units len unit others all
-counts_next units len unit others all e so_far =
-    subst (λ (us : Units). CountsNext us len unit others all) (sym e)
-    (counts_cons len unit others all (subst (λ (us : Units). IsCountingUnits us len all) e so_far))
+counts_next units len unit others all e so_far = grind (arith, len_next)
 
 pub counting_end : (units : Units) (len : ℕ) (all : Units) → units ≡ [] → IsCountingUnits units len all → len ≡ length (tsdu_octets all)
 counting_end units len all e so_far = (let n = ap length (octets_none units e) in let k = so_far.counted in omega arith)
@@ -98,25 +81,15 @@ puts_cons : (items : List ℕ) (spare : ℕ) (unit : Contents) (others all : Uni
     IsPuttingUnits (unit ∷ others) items spare all before room
     → PutsNext (unit ∷ others) items spare unit others all before room
 puts_cons items spare unit others all before room so_far =
-    let n = len_next (unit ∷ others) others unit refl in
-    let r = so_far.enough in
-    let l = so_far.left in
-    let front = unit_octets unit in
-    let info = unit.information in
-    let rest = tsdu_octets others in
-    let whole : ((items ++ front) ++ info) ++ rest ≡ items ++ tsdu_octets (unit ∷ others) =
-    append_assoc (items ++ front) info rest ∙ append_assoc items front (info ++ rest) ∙
-    ap (λ (t : List ℕ). items ++ t) (sym (octets_next (unit ∷ others) others unit refl)) in
-    record {
-      fits = so_far.fits.0;
-      enough = omega arith;
-      next = λ less e. record {
-        put = whole ∙ so_far.put;
-        fits = so_far.fits.1;
-        enough = omega arith;
-        left = omega arith;
-      };
-    }
+    grind (
+      arith,
+      append_assoc,
+      len_next (unit ∷ others) others unit refl,
+      unit_octets unit,
+      tsdu_octets others,
+      tsdu_octets (unit ∷ others),
+      octets_next (unit ∷ others) others unit refl,
+    )
 
 pub puts_next : (units : Units) (items : List ℕ) (spare : ℕ) (unit : Contents) (others all : Units) (before : List ℕ) (room : ℕ) →
     units ≡ unit ∷ others → IsPuttingUnits units items spare all before room
@@ -127,8 +100,7 @@ puts_next units items spare unit others all before room e so_far =
 
 pub putting_end : (units : Units) (items : List ℕ) (spare : ℕ) (all : Units) (before : List ℕ) (room : ℕ) → units ≡ [] →
     IsPuttingUnits units items spare all before room → items ≡ before ++ tsdu_octets all
-putting_end units items spare all before room e so_far =
-    sym (append-nil items) ∙ ap (λ (t : List ℕ). items ++ t) (sym (octets_none units e)) ∙ so_far.put
+putting_end units items spare all before room e so_far = grind (arith, append-nil, octets_none)
 
 pub putting_spare : (units : Units) (items : List ℕ) (spare : ℕ) (all : Units) (before : List ℕ) (room : ℕ) → units ≡ [] →
     IsPuttingUnits units items spare all before room → spare + length (tsdu_octets all) ≡ room
@@ -138,8 +110,7 @@ putting_spare units items spare all before room e so_far = (let n = ap length (o
 
 pub first_octets : (unit : Contents) (others : Units) → unit.information ≡ [] →
     tsdu_octets (unit ∷ others) ≡ unit_octets unit ++ tsdu_octets others
-first_octets unit others e = octets_next (unit ∷ others) others unit refl ∙
-    ap (λ (t : List ℕ). unit_octets unit ++ (t ++ tsdu_octets others)) e
+first_octets unit others e = grind (arith, unit_octets, octets_next (unit ∷ others) others unit refl, tsdu_octets others)
 
 pub first_len : (unit : Contents) (others : Units) → unit.information ≡ [] →
     length (tsdu_octets (unit ∷ others)) ≡ length (unit_octets unit) + length (tsdu_octets others)

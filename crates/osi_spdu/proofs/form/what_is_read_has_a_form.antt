@@ -3,10 +3,10 @@ use Rattle.std.proofs.Common.{◌⊎◌, inl, inr, ◌≡◌, ℕ, Bool, true, f
 use Rattle.std.proofs.Common.{refl, sym, ap, subst, ◌∙◌, arith}
 use Rattle.osi_spdu.proofs.Vocabulary.{is_some, is_none, IsSome, list_any, list_all, AllByRecursion, cases_Bool, and_parts, and_from}
 use Rattle.osi_spdu.proofs.Vocabulary.{or_left, or_right, not-true, IsOctets, Code, Enclosure, UserData, ExtendedUserData, Kind, number_of}
-use Rattle.osi_spdu.proofs.Vocabulary.{is_same, is_group, slot_of, every_code, codes_of, members_of, references_of, required_of, octet_if}
-use Rattle.osi_spdu.proofs.Vocabulary.{as_it_is, canonical, may_enclose, canonical_in, Known, settled, Contents, code_among, Placed}
-use Rattle.osi_spdu.proofs.Vocabulary.{contents_of, unit_at, Part, Sole, IsPart, Spells, only, MemberOf, MeansInGroup, GroupOf, ParameterOf}
-use Rattle.osi_spdu.proofs.Vocabulary.{KnownOf, MeansInUnit, SpellsUnit, among, may_be_there, is_enclosed, is_formed}
+use Rattle.osi_spdu.proofs.Vocabulary.{is_same, is_group, slot_of, every_code, codes_of, members_of, required_of, canonical, may_enclose}
+use Rattle.osi_spdu.proofs.Vocabulary.{canonical_in, Known, settled, Contents, code_among, Placed, contents_of, unit_at, Part, Sole, IsPart}
+use Rattle.osi_spdu.proofs.Vocabulary.{Spells, only, MemberOf, MeansInGroup, GroupOf, ParameterOf, KnownOf, MeansInUnit, SpellsUnit, among}
+use Rattle.osi_spdu.proofs.Vocabulary.{may_be_there, is_enclosed, is_formed}
 use Rattle.osi_spdu.proofs.basics.options_that_are_added.{Joins, first, sole_same, sole_split}
 use Rattle.osi_spdu.proofs.basics.the_steps_of_reading.{same_true, same_refl}
 use Rattle.osi_spdu.proofs.parameters.each_slot_has_one_code.{among_named, any_weaker}
@@ -14,15 +14,8 @@ use Rattle.osi_spdu.proofs.tsdu.units_and_tsdus_are_read.{unit_found}
 
 -- ---- the source of a value
 
-sole_of_head : (x : Option (List ℕ)) (xs : List (Option (List ℕ))) (o : Option (List ℕ)) (w : List ℕ) → x ≡ Some w → Sole (x ∷ xs) o →
-    o ≡ Some w
-sole_of_head x xs o w e h = grind arith
-
 joins_some : (m k o : Option (List ℕ)) (w : List ℕ) → m ≡ Some w → Joins m k o → o ≡ Some w
 joins_some m k o w e j = grind arith
-
-joins_from : (m o : Option (List ℕ)) (v : List ℕ) → o ≡ Some v → Joins m None o → m ≡ Some v
-joins_from m o v e j = grind arith
 
 -- a part that gives the value of a slot, and gives nothing but what is known
 record Source (means : ℕ → List ℕ → Known → Type 0) (raw : Known) (d : Code) (v : List ℕ) : Type 0 where
@@ -42,10 +35,6 @@ later means p parts raw d v once s = record {
       ((sole_split (p.gives c) (map (λ q. q.gives c) parts) (raw c) (once c)).1);
 }
 
-here : (means : ℕ → List ℕ → Known → Type 0) (p : Part) (parts : List Part) (raw : Known) (d : Code) (v w : List ℕ) → IsPart means p
-    → ((c : Code) → Sole (p.gives c ∷ map (λ q. q.gives c) parts) (raw c)) → raw d ≡ Some v → p.gives d ≡ Some w → Source means raw d v
-here means p parts raw d v w is once e g = grind (arith, sole_of_head)
-
 pub option_cases : (o : Option (List ℕ)) → ((w : List ℕ) × (o ≡ Some w)) ⊎ (o ≡ None)
 option_cases None = inr refl
 option_cases (Some w) = inl (w, refl)
@@ -58,10 +47,10 @@ source means (p ∷ parts) raw d v each once e =
     let rest : Known = λ c. first (map (λ q. q.gives c) parts) in
     let split = λ (c : Code). sole_split (p.gives c) (map (λ q. q.gives c) parts) (raw c) (once c) in
     elim (option_cases (p.gives d)) [
-      | inl s ↦ here means p parts raw d v s.0 each.0 once e s.1
+      | inl s ↦ grind arith
       | inr n ↦
           let j : Joins (rest d) None (raw d) = subst (λ (k : Option (List ℕ)). Joins (rest d) k (raw d)) n ((split d).1) in
-          later means p parts raw d v once (source means parts rest d v each.1 (λ c. (split c).0) (joins_from (rest d) (raw d) v e j))
+          later means p parts raw d v once (source means parts rest d v each.1 (λ c. (split c).0) (grind arith))
     ]
 
 -- ---- what a part may give
@@ -80,13 +69,9 @@ slot_among : (kind : Kind) (c : Code) → among (codes_of kind) c ≡ true → a
 unfolding slot_of
 slot_among kind c e = grind (arith, extended_unit)
 
-no_extended_reference : (kind : Kind) → among (references_of kind) ExtendedUserData ≡ false
-unfolding number_of
-no_extended_reference kind = grind arith
-
 no_extended : (kind : Kind) (g : Code) → among (members_of kind g) ExtendedUserData ≡ false
 unfolding members_of number_of
-no_extended kind g = grind (arith, no_extended_reference)
+no_extended kind g = grind arith
 
 pub member_slot : (kind : Kind) (g c : Code) → among (members_of kind g) c ≡ true → slot_of c ≡ c
 unfolding slot_of
@@ -98,9 +83,7 @@ member_source : (kind : Kind) (g : Code) (value v : List ℕ) (gives : Known) (d
     → among (members_of kind g) d ≡ true
 member_source kind g value v gives d None n named m e = absurd (let h : None ≡ Some v = sym (ap (λ (k : Known). k d) m) ∙ e in cc)
 member_source kind g value v gives d (Some c) n named m e =
-    let there = among_named (members_of kind g) n c named in
-    let same : d ≡ slot_of c = only_slot d (slot_of c) m.0 v (sym (ap (λ (k : Known). k d) m.2) ∙ e) in
-    subst (λ (x : Code). among (members_of kind g) x ≡ true) (sym (same ∙ member_slot kind g c there)) there
+    grind (arith, only_slot, member_slot, among_named (members_of kind g) n c named, members_of kind g, slot_of c)
 
 pub inner_source : (kind : Kind) (g : Code) (value v : List ℕ) (inner : Known) (d : Code) →
     Spells (MeansInGroup kind (members_of kind g)) inner value → inner d ≡ Some v → among (members_of kind g) d ≡ true
@@ -119,8 +102,7 @@ group_source : (kind : Kind) (raw : Known) (g : Code) (value v : List ℕ) (give
     GroupOf kind g value gives → gives d ≡ Some v
     → ((c : Code) (w : List ℕ) → gives c ≡ Some w → raw c ≡ Some w) → IsOwned kind raw d
 group_source kind raw g value v gives d there m e within =
-    let presence : gives g ≡ Some [] =
-    sole_of_head (only g [] g) (m.0 g ∷ []) (gives g) [] (ap (λ (b : Bool). cond b (Some []) None) (same_refl g)) (m.2 g) in
+    let presence : gives g ≡ Some [] = grind arith in
     elim (option_cases (only g [] d)) [
       | inl s ↦ inl (subst (λ (x : Code). among (codes_of kind) x ≡ true) (sym (only_slot d g [] s.0 s.1)) there)
       | inr n ↦
@@ -133,9 +115,7 @@ parameter_source : (kind : Kind) (raw : Known) (c : Code) (value v : List ℕ) (
     among (codes_of kind) c ≡ true → ParameterOf kind c value gives b → gives d ≡ Some v
     → ((x : Code) (w : List ℕ) → gives x ≡ Some w → raw x ≡ Some w) → IsOwned kind raw d
 parameter_source kind raw c value v gives d true there m e within = group_source kind raw c value v gives d there m e within
-parameter_source kind raw c value v gives d false there m e within =
-    let same : d ≡ slot_of c = only_slot d (slot_of c) m.0 v (sym (ap (λ (k : Known). k d) m.2) ∙ e) in
-    inl (subst (λ (x : Code). among (codes_of kind) x ≡ true) (sym same) (slot_among kind c there))
+parameter_source kind raw c value v gives d false there m e within = grind (arith, slot_of, only_slot, codes_of, slot_among)
 
 unit_source : (kind : Kind) (raw : Known) (value v : List ℕ) (gives : Known) (d : Code) (o : Option Code) (n : ℕ) →
     code_among (codes_of kind) n ≡ o → KnownOf kind value gives o → gives d ≡ Some v
@@ -154,20 +134,13 @@ owned kind raw body v d s e =
 
 -- ---- an enclosure that is there
 
-octet_same : (good : ℕ → Bool) (value v : List ℕ) → octet_if good as_it_is value ≡ Some v → value ≡ v
-octet_same good value v h0 = grind arith
-
 enclosed_value : (kind : Kind) (value v : List ℕ) → canonical_in kind Enclosure value ≡ Some v → is_enclosed kind (Some v) ≡ true
 unfolding canonical_in may_enclose canonical number_of
-enclosed_value kind value v h0 = grind (arith, octet_same)
-
-other_number : number_of Enclosure ≡ number_of UserData → ⊥
-unfolding number_of
-other_number h = omega arith
+enclosed_value kind value v h0 = search arith
 
 enclosure_slot : (c : Code) → Enclosure ≡ slot_of c → c ≡ Enclosure
 unfolding slot_of
-enclosure_slot c e = grind (arith, other_number)
+enclosure_slot c e = grind arith
 
 no_group : is_group Enclosure ≡ true → ⊥
 unfolding is_group
@@ -177,13 +150,9 @@ no_user_data : is_same Enclosure UserData ≡ false
 unfolding number_of
 no_user_data = refl
 
-no_enclosed_reference : (kind : Kind) → among (references_of kind) Enclosure ≡ false
-unfolding number_of
-no_enclosed_reference kind = grind arith
-
 no_enclosed_member : (kind : Kind) (g : Code) → among (members_of kind g) Enclosure ≡ false
 unfolding members_of number_of
-no_enclosed_member kind g = grind (arith, no_enclosed_reference)
+no_enclosed_member kind g = grind arith
 
 -- a group gives none
 group_encloses : (kind : Kind) (g : Code) (value v : List ℕ) (gives : Known) → is_group g ≡ true → GroupOf kind g value gives →
@@ -203,25 +172,13 @@ parameter_encloses : (kind : Kind) (c : Code) (value v : List ℕ) (gives : Know
     ParameterOf kind c value gives b → gives Enclosure ≡ Some v → is_enclosed kind (Some v) ≡ true
 parameter_encloses kind c value v gives true group m e = absurd (group_encloses kind c value v gives group m e)
 parameter_encloses kind c value v gives false group m e =
-    let own : only (slot_of c) m.0 Enclosure ≡ Some v = sym (ap (λ (k : Known). k Enclosure) m.2) ∙ e in
-    let slot = only_slot Enclosure (slot_of c) m.0 v own in
-    let form : m.0 ≡ v =
-    (let h : Some m.0 ≡ Some v = sym
-    (ap (λ (b : Bool). cond b (Some m.0) None) (ap (λ (s : Code). is_same Enclosure s) (sym slot) ∙ same_refl Enclosure)) ∙ own in cc)
-    in
-    enclosed_value kind value v
-    (subst (λ (x : Code). canonical_in kind x value ≡ Some v) (enclosure_slot c slot)
-    (m.1 ∙ ap {B = Option (List ℕ)} (λ x. Some x) form))
-
-unit_encloses : (kind : Kind) (value v : List ℕ) (gives : Known) (o : Option Code) → KnownOf kind value gives o → gives Enclosure ≡ Some v →
-    is_enclosed kind (Some v) ≡ true
-unit_encloses kind value v gives o m e = grind (arith, parameter_encloses)
+    search (arith, slot_of, only_slot, cond, same_refl, enclosed_value, canonical_in, enclosure_slot)
 
 enclosed : (kind : Kind) (raw : Known) (body : List ℕ) (o : Option (List ℕ)) → Spells (MeansInUnit kind) raw body → raw Enclosure ≡ o →
     is_enclosed kind o ≡ true
 unfolding MeansInUnit
 enclosed kind raw body None s e = refl
-enclosed kind raw body (Some v) s e = grind (arith, unit_encloses, source (MeansInUnit kind) s.parts raw Enclosure v s.each s.once e)
+enclosed kind raw body (Some v) s e = grind (arith, parameter_encloses, source (MeansInUnit kind) s.parts raw Enclosure v s.each s.once e)
 
 -- ---- and so the unit is formed
 
@@ -247,18 +204,13 @@ settled_some : (raw : Known) (d : Code) (o : Option (List ℕ)) → raw d ≡ o 
     (is_none (settled raw d) ≡ true) ⊎ ((v : List ℕ) × (raw d ≡ Some v))
 settled_some raw d o h0 = grind (arith, cases_Bool)
 
-each_test : (p : Code → Bool) (codes : List Code) → ((c : Code) → p c ≡ true) → list_all p codes ≡ true
-each_test p [] h = refl
-each_test p (c ∷ codes) h = and_from (p c) (list_all p codes) (h c) (each_test p codes h)
-
 -- mandatory parameters are no user data
 required_stay : (raw : Known) (codes : List Code) → list_all (λ c. not (is_same c UserData)) codes ≡ true →
     AllByRecursion (λ c. IsSome (raw c)) codes → list_all (λ c. is_some (settled raw c)) codes ≡ true
 required_stay raw [] plain there = refl
 required_stay raw (c ∷ codes) plain there =
     let a = and_parts (not (is_same c UserData)) (list_all (λ d. not (is_same d UserData)) codes) plain in
-    and_from (is_some (settled raw c)) (list_all (λ d. is_some (settled raw d)) codes)
-    (ap is_some (settled_other raw c (not-true (is_same c UserData) a.0)) ∙ there.0) (required_stay raw codes a.1 there.1)
+    grind (arith, and_from, settled_other, not-true, required_stay raw codes a.1 there.1)
 
 required_plain : (kind : Kind) → list_all (λ c. not (is_same c UserData)) (required_of kind) ≡ true
 unfolding required_of number_of
@@ -274,7 +226,7 @@ unit_formed unit octets s =
       | inr v ↦ or_left (may_be_there kind (settled s.raw) c) (is_none (settled s.raw c))
           (there_from kind s.raw c (owned kind s.raw s.body v.0 c s.params v.1))
     ] in
-    let all : list_all (test (settled s.raw)) every_code ≡ true = each_test (test (settled s.raw)) every_code one in
+    let all : list_all (test (settled s.raw)) every_code ≡ true = grind arith in
     let required = required_stay s.raw (required_of kind) (required_plain kind) s.required in
     let enclosure : is_enclosed kind (settled s.raw Enclosure) ≡ true =
     ap (is_enclosed kind) (settled_other s.raw Enclosure no_user_data) ∙ enclosed kind s.raw s.body (s.raw Enclosure) s.params refl in

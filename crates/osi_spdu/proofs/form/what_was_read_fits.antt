@@ -3,10 +3,10 @@ use Rattle.std.proofs.Common.{inl, inr, ◌≡◌, ℕ, ◌+◌, ◌<◌, ◌≤
 use Rattle.std.proofs.Common.{None, refl, sym, ap, subst, ◌∙◌, ltb, arith}
 use Rattle.osi_spdu.proofs.Vocabulary.{flat_map, list_any, list_all, AllByRecursion, cases_Bool, or_cases, or_left, or_right, ltb-true}
 use Rattle.osi_spdu.proofs.Vocabulary.{le-ltb, lt-ltb, both_ways, length-append, Code, Kind, number_of, is_same, is_group, slot_of}
-use Rattle.osi_spdu.proofs.Vocabulary.{every_code, codes_of, members_of, Known, nothing, some_octets, settled, Contents, Units, code_among}
+use Rattle.osi_spdu.proofs.Vocabulary.{every_code, codes_of, members_of, Known, nothing, settled, Contents, Units, code_among}
 use Rattle.osi_spdu.proofs.Vocabulary.{length_octets, HasLength, Part, part_octets, Sole, IsPart, Spells, only, MemberOf, MeansInGroup}
-use Rattle.osi_spdu.proofs.Vocabulary.{GroupOf, ParameterOf, KnownOf, MeansInUnit, SpellsUnit, AreUnits, SpellsTsdu, written_item, among}
-use Rattle.osi_spdu.proofs.Vocabulary.{member_octets, group_octets, value_octets, parameter_octets, body_octets, UnitFits, TsduFits}
+use Rattle.osi_spdu.proofs.Vocabulary.{GroupOf, ParameterOf, KnownOf, MeansInUnit, SpellsUnit, AreUnits, SpellsTsdu, among, group_octets}
+use Rattle.osi_spdu.proofs.Vocabulary.{value_octets, body_octets, UnitFits, TsduFits}
 use Rattle.osi_spdu.proofs.basics.options_that_are_added.{Joins, first, sole_one, sole_same, sole_split}
 use Rattle.osi_spdu.proofs.basics.the_steps_of_reading.{same_true, same_refl}
 use Rattle.osi_spdu.proofs.parameters.one_level_is_read.{JoinsAll}
@@ -28,9 +28,7 @@ total_flat f (c ∷ codes) = (let r = total_flat f codes in let l = length-appen
 total_same : (f g : Code → ℕ) (codes : List Code) → ((c : Code) → among codes c ≡ true → f c ≡ g c) → total f codes ≡ total g codes
 total_same f g [] h = refl
 total_same f g (c ∷ codes) h =
-    let one = h c (or_left (is_same c c) (among codes c) (same_refl c)) in
-    let rest = total_same f g codes (λ d a. h d (or_right (is_same d c) (among codes d) a)) in
-    omega arith
+    grind (arith, or_left, same_refl, or_right, total_same f g codes (λ d a. h d (or_right (is_same d c) (among codes d) a)))
 
 pub total_less : (f g : Code → ℕ) (codes : List Code) → ((c : Code) → f c ≤ g c) → total f codes ≤ total g codes
 total_less f g [] h = omega arith
@@ -43,9 +41,7 @@ total_both f g (c ∷ codes) = (let rest = total_both f g codes in omega arith)
 total_zero : (f : Code → ℕ) (codes : List Code) → ((c : Code) → among codes c ≡ true → f c ≡ 0) → total f codes ≡ 0
 total_zero f [] h = refl
 total_zero f (c ∷ codes) h =
-    let one = h c (or_left (is_same c c) (among codes c) (same_refl c)) in
-    let rest = total_zero f codes (λ d a. h d (or_right (is_same d c) (among codes d) a)) in
-    omega arith
+    grind (arith, or_left, same_refl, or_right, total_zero f codes (λ d a. h d (or_right (is_same d c) (among codes d) a)))
 
 -- only one code counts, and it occurs once
 total_one : (f : Code → ℕ) (s : Code) (codes : List Code) → once (λ c e. is_same e c) codes s ≡ true →
@@ -54,27 +50,16 @@ total_one f s [] single h = omega arith
 total_one f s (c ∷ codes) single h =
     let t = once_tail (is_same s c) (list_any (λ e. is_same s e) codes) (once (λ x e. is_same e x) codes s) single in
     elim (cases_Bool (is_same s c)) [
-      | inl same ↦
-          let here : s ≡ c = same_true s c same in
-          let others : total f codes ≡ 0 = total_zero f codes (λ d a. h d (or_right (is_same d c) (among codes d) a)
-          (λ e. both_ways (among codes s) (t.0 same) (subst (λ (x : Code). among codes x ≡ true) e a))) in
-          let first_is : f c ≡ f s = ap f (sym here) in
-          omega arith
+      | inl same ↦ grind (arith, same_true, total_zero, or_right, both_ways)
       | inr other ↦
-          let none : f c ≡ 0 =
-          h c (or_left (is_same c c) (among codes c) (same_refl c))
-          (λ e. both_ways (is_same s c) other (subst (λ (x : Code). is_same s x ≡ true) (sym e) (same_refl s))) in
-          let rest = total_one f s codes (t.1 other) (λ d a n. h d (or_right (is_same d c) (among codes d) a) n) in
-          omega arith
+          let none : f c ≡ 0 = grind (arith, or_left, same_refl, both_ways) in
+          grind (arith, or_right, total_one f s codes (t.1 other) (λ d a n. h d (or_right (is_same d c) (among codes d) a) n))
     ]
 
 -- ---- what is written for a value
 
 abbrev pub cost : ℕ → ℕ
 cost n = 1 + cond (ltb 254 n) 3 1 + n
-
-written_cost : (code : ℕ) (v : List ℕ) → length (written_item code v) ≡ cost (length v)
-written_cost code v = grind (arith, cases_Bool, length-append)
 
 cost_less : (m n : ℕ) → m ≤ n → cost m ≤ cost n
 cost_less m n h0 = grind (arith, cases_Bool, ltb-true, lt-ltb)
@@ -116,18 +101,11 @@ parts_cost means f codes Good is (p ∷ parts) known each sole =
     let here = is.one p each.0 in
     omega (arith, length-append (part_octets p) (flat_map part_octets parts))
 
-sole_head_is : (x : Option (List ℕ)) (xs : List (Option (List ℕ))) (o : Option (List ℕ)) (w : List ℕ) → x ≡ Some w → Sole (x ∷ xs) o →
-    o ≡ Some w
-sole_head_is x xs o w e h = grind arith
-
 -- ---- a group
 
 abbrev pub member_cost : Option (List ℕ) → ℕ
 member_cost None = 0
 member_cost (Some v) = cost (length v)
-
-member_len : (c : Code) (o : Option (List ℕ)) → length (member_octets c o) ≡ member_cost o
-member_len c o = grind (arith, written_cost)
 
 member_add : (m k o : Option (List ℕ)) → Joins m k o → member_cost o ≡ member_cost m + member_cost k
 member_add m k o j = grind arith
@@ -166,26 +144,20 @@ group_cost kind g = record {
 pub group_len : (kind : Kind) (known : Known) (g : Code) →
     length (group_octets kind known g) ≡ total (λ c. member_cost (known c)) (members_of kind g)
 unfolding group_octets
-group_len kind known g = grind (arith, total_flat, total_same, member_len)
+group_len kind known g = grind (arith, total_flat, total_same)
 
 group_fits : (kind : Kind) (known : Known) (g : Code) (value : List ℕ) → Spells (MeansInGroup kind (members_of kind g)) known value →
     length (group_octets kind known g) ≤ length value
 group_fits kind known g value s =
     let p = parts_cost (MeansInGroup kind (members_of kind g)) (λ k c. member_cost (k c)) (members_of kind g) (λ k. Unit {0})
     (group_cost kind g) s.parts known s.each s.once in
-    let l = group_len kind known g in
-    let w = ap length s.whole in
-    omega arith
+    grind (arith, group_len)
 
 -- ---- a unit
 
 abbrev pub unit_cost : Kind → Known → Code → Option (List ℕ) → ℕ
 unit_cost kind known c None = 0
 unit_cost kind known c (Some v) = cost (length (value_octets kind known c v))
-
-unit_len : (kind : Kind) (known : Known) (c : Code) (o : Option (List ℕ)) →
-    length (parameter_octets kind known c o) ≡ unit_cost kind known c o
-unit_len kind known c o = grind (arith, written_cost)
 
 -- two codes of a unit that own the same slot are the same
 one_owner : (kind : Kind) (codes : List Code) (d a b : Code) → once (owns kind) codes d ≡ true → among codes a ≡ true →
@@ -211,9 +183,6 @@ abbrev KeepsGroups : Kind → Known → Type 0
 KeepsGroups kind known = (g d : Code) (v : List ℕ) → among (codes_of kind) g ≡ true → among (members_of kind g) d ≡ true →
     known d ≡ Some v → (w : List ℕ) × (known g ≡ Some w)
 
-member_owned : (kind : Kind) (g d : Code) → among (members_of kind g) d ≡ true → owns kind g d ≡ true
-member_owned kind g d m = or_right (is_same d g) (among (members_of kind g) d) m
-
 -- no member of a group is known outside it
 apart_from_unit : (kind : Kind) (g d : Code) → among (codes_of kind) g ≡ true → among (members_of kind g) d ≡ true →
     among (codes_of kind) d ≡ true → ⊥
@@ -222,7 +191,7 @@ apart_from_unit kind g d hg m hd = grind (arith, one_owner, code_once kind d, gr
 keeps_from : (kind : Kind) (raw : Known) (g d : Code) → among (codes_of kind) g ≡ true → among (members_of kind g) d ≡ true →
     IsOwned kind raw d → (w : List ℕ) × (raw g ≡ Some w)
 keeps_from kind raw g d hg m (inl hd) = absurd (apart_from_unit kind g d hg m hd)
-keeps_from kind raw g d hg m (inr q) = grind (arith, one_owner, code_once kind d, member_owned kind q.0 d q.2, member_owned kind g d m)
+keeps_from kind raw g d hg m (inr q) = grind (arith, one_owner, code_once kind d)
 
 keeps_groups : (kind : Kind) (parts : List Part) (raw : Known) → AllByRecursion (IsPart (MeansInUnit kind)) parts →
     ((c : Code) → Sole (map (λ p. p.gives c) parts) (raw c)) → KeepsGroups kind raw
@@ -233,9 +202,7 @@ keeps_groups kind parts raw each sole g d v hg m e =
 -- if only one of two values has a group, its members are those of that value
 members_same : (kind : Kind) (x o : Known) (c : Code) → ((d : Code) → among (members_of kind c) d ≡ true → o d ≡ x d) →
     length (group_octets kind o c) ≡ length (group_octets kind x c)
-members_same kind x o c h =
-    group_len kind o c ∙ total_same (λ d. member_cost (o d)) (λ d. member_cost (x d)) (members_of kind c) (λ d a. ap member_cost (h d a)) ∙
-    sym (group_len kind x c)
+members_same kind x o c h = grind (arith, group_len, total_same, members_of)
 
 value_same : (kind : Kind) (x o : Known) (c : Code) (v : List ℕ) → ((d : Code) → among (members_of kind c) d ≡ true → o d ≡ x d) →
     cost (length (value_octets kind o c v)) ≡ cost (length (value_octets kind x c v))
@@ -250,18 +217,8 @@ unit_add_at : (kind : Kind) (x y o : Known) (c : Code) (a b : Option (List ℕ))
     KeepsGroups kind y → among (codes_of kind) c ≡ true
     → unit_cost kind o c (o c) ≡ unit_cost kind x c a + unit_cost kind y c b
 unit_add_at kind x y o c None None ex ey j kx ky hc = grind arith
-unit_add_at kind x y o c None (Some v) ex ey j kx ky hc =
-    let e : o c ≡ Some v = subst (λ (m : Option (List ℕ)). Joins m (y c) (o c)) ex (j c) ∙ ey in
-    let same = value_same kind y o c v (λ d m. subst (λ (q : Option (List ℕ)). Joins q (y d) (o d)) (stays_out kind x c d kx hc m ex) (j d))
-    in
-    let at = ap (unit_cost kind o c) e in
-    omega arith
-unit_add_at kind x y o c (Some w) None ex ey j kx ky hc =
-    let e : o c ≡ Some w = joins_is (x c) (o c) (subst (λ (k : Option (List ℕ)). Joins (x c) k (o c)) ey (j c)) ∙ ex in
-    let same = value_same kind x o c w
-    (λ d m. joins_is (x d) (o d) (subst (λ (k : Option (List ℕ)). Joins (x d) k (o d)) (stays_out kind y c d ky hc m ey) (j d))) in
-    let at = ap (unit_cost kind o c) e in
-    omega arith
+unit_add_at kind x y o c None (Some v) ex ey j kx ky hc = grind (arith, value_same, stays_out)
+unit_add_at kind x y o c (Some w) None ex ey j kx ky hc = grind (arith, value_same, joins_is, stays_out)
 unit_add_at kind x y o c (Some w) (Some v) ex ey j kx ky hc = grind arith
 
 -- ---- one part of a unit
@@ -269,9 +226,6 @@ unit_add_at kind x y o c (Some w) (Some v) ex ey j kx ky hc = grind arith
 codes_single : (kind : Kind) → list_all (once (λ c e. is_same e c) (codes_of kind)) every_code ≡ true
 unfolding number_of codes_of
 codes_single kind = grind arith
-
-code_single : (kind : Kind) (s : Code) → once (λ c e. is_same e c) (codes_of kind) s ≡ true
-code_single kind s = every_passes (once (λ c e. is_same e c) (codes_of kind)) s (codes_single kind)
 
 slot_leaf : (c : Code) → is_group c ≡ false → is_group (slot_of c) ≡ false
 unfolding is_group slot_of
@@ -289,7 +243,7 @@ leaf_part kind p c leaf h m =
     let s = slot_of c in
     let form = m.0 in
     let there : p.gives s ≡ Some form = ap (λ (k : Known). k s) m.2 ∙ ap (λ (b : Bool). cond b (Some form) None) (same_refl s) in
-    let one = total_one (part_cost kind p.gives) s (codes_of kind) (code_single kind s)
+    let one = total_one (part_cost kind p.gives) s (codes_of kind) (grind (arith, every_passes, once, codes_of kind, codes_single kind))
     (λ d a n. absent_cost kind p.gives d (elim (option_cases (p.gives d)) [
       | inl q ↦ absurd (n (only_slot d s form q.0 (sym (ap (λ (k : Known). k d) m.2) ∙ q.1)))
       | inr e ↦ e
@@ -311,9 +265,9 @@ group_part kind p g group hg h m =
       | inr f ↦ ap (λ (b : Bool). cond b (Some []) None) f
     ] in bare d e) in
     let there : p.gives g ≡ Some [] =
-    (let k = m.2 g in sole_head_is (only g [] g) (inner g ∷ []) (p.gives g) [] (ap (λ (b : Bool). cond b (Some []) None) (same_refl g)) k)
+    (let k = m.2 g in grind arith)
     in
-    let one = total_one (part_cost kind p.gives) g (codes_of kind) (code_single kind g)
+    let one = total_one (part_cost kind p.gives) g (codes_of kind) (grind (arith, every_passes, once, codes_of kind, codes_single kind))
     (λ d a n. absent_cost kind p.gives d (elim (option_cases (p.gives d)) [
       | inl q ↦ absurd (apart_from_unit kind g d hg (inner_source kind g p.value q.0 inner d m.1 (sym (outside d n) ∙ q.1)) a)
       | inr e ↦ e
@@ -353,27 +307,10 @@ whole_cost kind = record {
 
 pub body_len : (kind : Kind) (known : Known) → length (body_octets kind known) ≡ total (part_cost kind known) (codes_of kind)
 unfolding body_octets
-body_len kind known = grind (arith, total_flat, total_same, part_cost, unit_len)
-
-octets_less : (o : Option (List ℕ)) → member_cost (some_octets o) ≤ member_cost o
-octets_less o = grind arith
-
--- nothing grows when empty user data is dropped
-settled_member : (raw : Known) (c : Code) → member_cost (settled raw c) ≤ member_cost (raw c)
-settled_member raw c = grind (arith, cases_Bool, octets_less)
-
-settled_value : (kind : Kind) (raw : Known) (c : Code) (v : List ℕ) →
-    cost (length (value_octets kind (settled raw) c v)) ≤ cost (length (value_octets kind raw c v))
-settled_value kind raw c v = grind (arith, cases_Bool, group_len, total_less, member_cost, settled_member)
-
-settled_cost : (kind : Kind) (raw : Known) (c : Code) (o : Option (List ℕ)) → unit_cost kind (settled raw) c o ≤ unit_cost kind raw c o
-settled_cost kind raw c o = grind (arith, settled_value)
-
-octets_cost : (kind : Kind) (raw : Known) (c : Code) (o : Option (List ℕ)) → unit_cost kind raw c (some_octets o) ≤ unit_cost kind raw c o
-octets_cost kind raw c o = grind arith
+body_len kind known = grind (arith, total_flat, total_same, part_cost)
 
 settled_part : (kind : Kind) (raw : Known) (c : Code) → part_cost kind (settled raw) c ≤ part_cost kind raw c
-settled_part kind raw c = grind (arith, cases_Bool, cond, settled_cost, octets_cost)
+settled_part kind raw c = search (arith, cases_Bool, cond, group_len, total_less, member_cost)
 
 body_short : (long : Bool) (n : ℕ) → HasLength long n → n < 65536
 body_short long n h = grind arith

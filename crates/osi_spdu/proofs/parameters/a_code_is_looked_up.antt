@@ -1,7 +1,7 @@
 -- A code is looked up by its number, and then among the codes that the unit knows.
-use Rattle.std.proofs.Common.{inl, inr, ◌≡◌, ◌≤◌, ◌<◌, ℕ, false, List, [], ◌∷◌, Option, Some, None, refl, sym, ap, ◌∙◌, eqb, if◌then◌else◌}
+use Rattle.std.proofs.Common.{inl, inr, ◌≡◌, ◌≤◌, ◌<◌, ℕ, false, List, [], ◌∷◌, Option, Some, None, refl, sym, ◌∙◌, eqb, if◌then◌else◌}
 use Rattle.std.proofs.Common.{arith}
-use Rattle.osi_spdu.proofs.Vocabulary.{cases_Bool, eqb-true, eqb-false, ne_eqb, Code, number_of, is_same, every_code, code_among, among}
+use Rattle.osi_spdu.proofs.Vocabulary.{cases_Bool, eqb-true, eqb-false, ne_eqb, Code, number_of, every_code, code_among, among}
 use Rattle.osi_spdu.proofs.basics.the_steps_of_reading.{named, named_back}
 
 -- a number that names no code
@@ -16,17 +16,10 @@ pub low_unknown : (n : ℕ) → n ≤ 52 → (n ≡ 1 → ⊥) → (n ≡ 5 → 
     (n ≡ 16 → ⊥) → (n ≡ 17 → ⊥) → (n ≡ 19 → ⊥) → (n ≡ 20 → ⊥) → (n ≡ 21 → ⊥) → (n ≡ 22 → ⊥) → (n ≡ 23 → ⊥) → (n ≡ 25 → ⊥) → (n ≡ 26 → ⊥) →
     (n ≡ 27 → ⊥) → (n ≡ 42 → ⊥) → (n ≡ 49 → ⊥) → (n ≡ 50 → ⊥) → (n ≡ 51 → ⊥) → (n ≡ 52 → ⊥)
     → code_among every_code n ≡ None
-low_unknown n low n1 n5 n9 n10 n11 n12 n15 n16 n17 n19 n20 n21 n22 n23 n25 n26 n27 n42 n49 n50 n51 n52 =
-    unknown n n1 n5 n9 n10 n11 n12 n15 n16 n17 n19 n20 n21 n22 n23 n25 n26 n27 n42 n49 n50 n51 n52 (λ e. absurd (omega arith))
-    (λ e. absurd (omega arith))
+low_unknown n low n1 n5 n9 n10 n11 n12 n15 n16 n17 n19 n20 n21 n22 n23 n25 n26 n27 n42 n49 n50 n51 n52 = grind (arith, unknown)
 
 pub high_unknown : (n : ℕ) → 52 < n → (n ≡ 193 → ⊥) → (n ≡ 194 → ⊥) → code_among every_code n ≡ None
-high_unknown n high n193 n194 = unknown n (λ e. absurd (omega arith)) (λ e. absurd (omega arith)) (λ e. absurd (omega arith))
-    (λ e. absurd (omega arith)) (λ e. absurd (omega arith)) (λ e. absurd (omega arith)) (λ e. absurd (omega arith))
-    (λ e. absurd (omega arith)) (λ e. absurd (omega arith)) (λ e. absurd (omega arith)) (λ e. absurd (omega arith))
-    (λ e. absurd (omega arith)) (λ e. absurd (omega arith)) (λ e. absurd (omega arith)) (λ e. absurd (omega arith))
-    (λ e. absurd (omega arith)) (λ e. absurd (omega arith)) (λ e. absurd (omega arith)) (λ e. absurd (omega arith))
-    (λ e. absurd (omega arith)) (λ e. absurd (omega arith)) (λ e. absurd (omega arith)) n193 n194
+high_unknown n high n193 n194 = grind (arith, unknown)
 
 -- the code, if it is one of these
 abbrev pub if_among : List Code → Option Code → Option Code
@@ -37,18 +30,14 @@ named_number : (codes : List Code) (n : ℕ) (c : Code) → code_among codes n �
 named_number [] n c e = absurd cc
 named_number (d ∷ codes) n c e =
     elim (cases_Bool (eqb (number_of d) n)) [
-      | inl t ↦ (let h : Some d ≡ Some c = sym (rw t refl) ∙ e in let same : d ≡ c = cc in ap number_of (sym same) ∙
-          eqb-true (number_of d) n t)
+      | inl t ↦ grind (arith, number_of, eqb-true)
       | inr f ↦ named_number codes n c (sym (rw f refl) ∙ e)
     ]
-
-other_code : (d c : Code) (codes : List Code) → is_same c d ≡ false → if_among (d ∷ codes) (Some c) ≡ if_among codes (Some c)
-other_code d c codes f = rw f refl
 
 skipped : (n : ℕ) (d : Code) (codes : List Code) (o : Option Code) → named n ≡ o → eqb (number_of d) n ≡ false →
     if_among (d ∷ codes) o ≡ if_among codes o
 skipped n d codes None e f = refl
-skipped n d codes (Some c) e f = grind (arith, other_code, ne_eqb, eqb-false, named_number every_code n c e)
+skipped n d codes (Some c) e f = grind (arith, ne_eqb, eqb-false, named_number every_code n c e)
 
 looked_by : (codes : List Code) (n : ℕ) (o : Option Code) → named n ≡ o → code_among codes n ≡ if_among codes o
 looked_by [] n None e = refl

@@ -1,11 +1,10 @@
 -- The contents of a group of a unit, which are counted once.
-use Rattle.std.proofs.Common.{inl, inr, ◌≡◌, ℕ, zero, suc, ◌<◌, ◌≤◌, true, List, [], ◌∷◌, ◌++◌, length, get_or, Option, refl, ap, subst}
-use Rattle.std.proofs.Common.{ltb, arith}
+use Rattle.std.proofs.Common.{inl, inr, ◌≡◌, ℕ, zero, suc, ◌<◌, ◌≤◌, true, List, [], ◌∷◌, length, get_or, Option, ap, subst, arith}
 use Rattle.osi_spdu.specs.declared.writing.GroupLengths.{GroupLengths}
 use Rattle.osi_spdu.proofs.Vocabulary.{is_some, option_map, flat_map, or_cases, or_left, or_right, length-append, Code}
 use Rattle.osi_spdu.proofs.Vocabulary.{ConnectionIdentifier, ConnectAcceptItem, Kind, Two, is_same, is_group, number_of, codes_of}
-use Rattle.osi_spdu.proofs.Vocabulary.{category_of, Known, Contents, Units, length_octets, AreBehind, held, AreHeld, among, written_item}
-use Rattle.osi_spdu.proofs.Vocabulary.{group_octets, value_octets, parameter_octets, body_octets}
+use Rattle.osi_spdu.proofs.Vocabulary.{category_of, Known, Contents, Units, AreBehind, held, AreHeld, among, group_octets, parameter_octets}
+use Rattle.osi_spdu.proofs.Vocabulary.{body_octets}
 use Rattle.osi_spdu.proofs.basics.the_steps_of_reading.{same_true, same_refl}
 
 -- a piece is no longer than all pieces
@@ -18,16 +17,9 @@ piece_within f (d ∷ codes) c there =
       | inr e ↦ (let rest = piece_within f codes c e in omega arith)
     ]
 
-value_within : (code : ℕ) (value : List ℕ) → length value ≤ length (written_item code value)
-value_within code value = (let l = length-append (code ∷ [] ++ length_octets (ltb 254 (length value)) (length value)) value in omega arith)
-
-octets_of_group : (kind : Kind) (known : Known) (c : Code) (value : List ℕ) → is_group c ≡ true →
-    value_octets kind known c value ≡ group_octets kind known c
-octets_of_group kind known c value e = rw e refl
-
 held_within : (kind : Kind) (known : Known) (c : Code) (o : Option (List ℕ)) → is_group c ≡ true → is_some o ≡ true →
     length (group_octets kind known c) ≤ length (parameter_octets kind known c o)
-held_within kind known c o h0 h1 = grind (arith, value_within, octets_of_group)
+held_within kind known c o h0 h1 = grind arith
 
 -- what a group holds is no longer than all parameters and groups of its unit
 pub group_within : (kind : Kind) (known : Known) (c : Code) → among (codes_of kind) c ≡ true → is_group c ≡ true →

@@ -78,15 +78,12 @@ has_present b = grind arith
 
 -- ---- what a unit keeps
 
-some_again : (o : Option (List ℕ)) → some_octets (some_octets o) ≡ some_octets o
-some_again o = grind arith
-
 -- parameters that differ only in how they keep the token item and the user data have the same meaning
 pub settled_known : (p q : Params) → q ≡ (let r : Params = record p { token_item = q.token_item; user_data = q.user_data } in r) →
     option_map token_octets q.token_item ≡ option_map token_octets p.token_item
     → option_map (λ s. s.now) q.user_data ≡ some_octets (option_map (λ s. s.now) p.user_data) → known_of q ≡ known_of p
 unfolding known_of slots_of cells_of place_of number_of
-settled_known p q same tokens octets = grind (arith, some_again)
+settled_known p q same tokens octets = grind arith
 
 pub some_there : (o : Option (List ℕ)) → has_octets (some_octets o) ≡ true
 some_there o = grind (arith, lt-ltb)

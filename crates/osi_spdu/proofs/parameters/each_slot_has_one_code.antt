@@ -1,30 +1,17 @@
 -- Each slot belongs to one code of a unit: to itself, or to the group that knows it.
-use Rattle.std.proofs.Common.{inl, inr, ◌≡◌, ℕ, ◌<◌, Bool, true, false, cond, not, ◌||◌, List, [], ◌∷◌, Option, Some, refl, sym, ap, subst}
-use Rattle.std.proofs.Common.{◌∙◌, eqb, ltb, arith}
-use Rattle.osi_spdu.proofs.Vocabulary.{list_any, list_all, and_parts, or_cases, or_left, or_right, eqb-true, ltb-true, cases_Bool, Code}
-use Rattle.osi_spdu.proofs.Vocabulary.{ConnectionIdentifier, ProtocolOptions, TsduMaximumSize, Version, InitialNumber, TokenSetting, Kind}
-use Rattle.osi_spdu.proofs.Vocabulary.{number_of, is_same, is_group, every_code, codes_of, members_of, references_of, code_among, among}
+use Rattle.std.proofs.Common.{inl, inr, ◌≡◌, ℕ, ◌<◌, Bool, true, false, cond, not, ◌||◌, List, [], ◌∷◌, Option, Some, refl, ap, eqb, ltb}
+use Rattle.std.proofs.Common.{arith}
+use Rattle.osi_spdu.proofs.Vocabulary.{list_any, list_all, or_cases, or_left, or_right, eqb-true, ltb-true, cases_Bool, Code}
+use Rattle.osi_spdu.proofs.Vocabulary.{ProtocolOptions, TsduMaximumSize, Version, InitialNumber, TokenSetting, Kind, number_of, is_same}
+use Rattle.osi_spdu.proofs.Vocabulary.{is_group, every_code, codes_of, members_of, references_of, code_among, among}
 use Rattle.osi_spdu.proofs.basics.the_steps_of_reading.{same_true, same_refl, number_one}
 use Rattle.osi_spdu.proofs.basics.length_indicators.{chosen}
 
 -- ---- every code
 
-each_there : (c : Code) → among every_code c ≡ true
-unfolding number_of
-each_there c = grind arith
-
-pub all_pass : (p : Code → Bool) (codes : List Code) (c : Code) → list_all p codes ≡ true → among codes c ≡ true → p c ≡ true
-all_pass p [] c all there = absurd cc
-all_pass p (d ∷ codes) c all there =
-    let a = and_parts (p d) (list_all p codes) all in
-    elim (or_cases (is_same c d) (among codes c) there) [
-      | inl e ↦ ap p (same_true c d e) ∙ a.0
-      | inr e ↦ all_pass p codes c a.1 e
-    ]
-
 -- a test of every code holds of each code
 pub every_passes : (p : Code → Bool) (c : Code) → list_all p every_code ≡ true → p c ≡ true
-every_passes p c all = all_pass p every_code c all (each_there c)
+every_passes p c all = grind arith
 
 number_small : (c : Code) → ltb (number_of c) 256 ≡ true
 number_small c =
@@ -43,9 +30,7 @@ among_found (d ∷ codes) c there =
     elim (cases_Bool (eqb (number_of d) (number_of c))) [
       | inl e ↦ rw e (ap {B = Option Code} (λ x. Some x) (number_one d c (eqb-true (number_of d) (number_of c) e)))
       | inr e ↦ rw e (elim (or_cases (is_same c d) (among codes c) there) [
-        | inl s ↦ absurd
-            (let h : eqb (number_of d) (number_of c) ≡ true = subst (λ (x : Code). eqb (number_of d) (number_of x) ≡ true)
-            (sym (same_true c d s)) (same_refl d) in cc)
+        | inl s ↦ grind (arith, eqb, number_of, same_true, same_refl)
         | inr r ↦ among_found codes c r
       ])
     ]
@@ -54,8 +39,7 @@ pub among_named : (codes : List Code) (n : ℕ) (c : Code) → code_among codes 
 among_named [] n c e = absurd cc
 among_named (d ∷ codes) n c e =
     elim (chosen (eqb (number_of d) n) (Some d) (code_among codes n) (Some c) e) [
-      | inl q ↦ (let same : c ≡ d = (let h : Some d ≡ Some c = q.1 in cc) in
-          or_left (is_same c d) (among codes c) (subst (λ (x : Code). is_same c x ≡ true) same (same_refl c)))
+      | inl q ↦ grind (arith, or_left, same_refl)
       | inr q ↦ or_right (is_same c d) (among codes c) (among_named codes n c q.1)
     ]
 
@@ -95,24 +79,17 @@ items_once : list_all (once (λ c d. is_same d c) (ProtocolOptions ∷ TsduMaxim
 unfolding number_of
 items_once = refl
 
-nothing_once : list_all (once (λ c d. is_same d c) []) every_code ≡ true
-nothing_once = refl
-
 members_once : (kind : Kind) (g : Code) → list_all (once (λ c d. is_same d c) (members_of kind g)) every_code ≡ true
 unfolding members_of
-members_once kind g = grind (arith, references_once, items_once, nothing_once)
+members_once kind g = grind (arith, references_once, items_once)
 
 pub member_once : (kind : Kind) (g d : Code) → once (λ c e. is_same e c) (members_of kind g) d ≡ true
 member_once kind g d = every_passes (once (λ c e. is_same e c) (members_of kind g)) d (members_once kind g)
 
-references_apart : (kind : Kind) → among (references_of kind) ConnectionIdentifier ≡ false
-unfolding number_of
-references_apart kind = grind arith
-
 -- a group is not in itself
 pub group_apart : (kind : Kind) (g : Code) → among (members_of kind g) g ≡ false
 unfolding members_of number_of
-group_apart kind g = grind (arith, references_apart)
+group_apart kind g = grind arith
 
 -- a parameter that is not a group has no members
 pub members_none : (kind : Kind) (c : Code) → is_group c ≡ false → members_of kind c ≡ []

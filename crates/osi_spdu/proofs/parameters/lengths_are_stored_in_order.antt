@@ -1,6 +1,6 @@
 -- The lengths of units are stored one after the other, by a loop.
 use Rattle.std.proofs.Common.{inl, inr, ◌≡◌, ℕ, zero, suc, ◌+◌, ◌<◌, ◌≤◌, List, [], ◌∷◌, ◌++◌, length, take, drop, get_or, set, refl, ap}
-use Rattle.std.proofs.Common.{subst, append_assoc, ltb, arith}
+use Rattle.std.proofs.Common.{append_assoc, ltb, arith}
 use Rattle.osi_spdu.proofs.Vocabulary.{cases_Bool, ltb-true, ltb-false, append-nil, length-set, take_more_set, drop_more, drop_all}
 use Rattle.osi_spdu.proofs.Vocabulary.{Contents, Units, body_length, AreLengths}
 
@@ -47,13 +47,8 @@ pub record IsNextLength (lens : List ℕ) (count : ℕ) (unit : Contents) (other
 pub next_length : (lens : List ℕ) (count : ℕ) (units others : Units) (unit : Contents) → units ≡ unit ∷ others →
     AreLengths (drop count lens) units → IsNextLength lens count unit others
 next_length lens count units others unit e h =
-    let here : AreLengths (drop count lens) (unit ∷ others) = subst (λ (us : Units). AreLengths (drop count lens) us) e h in
     elim (cases_Bool (ltb count (length lens))) [
       | inl t ↦ (let lt = ltb-true count (length lens) t in
-          let both : AreLengths (get_or lens count 0 ∷ drop (count + 1) lens) (unit ∷ others) =
-          subst (λ (x : List ℕ). AreLengths x (unit ∷ others)) (drop_more lens count 0 lt) here in
-          record { within = lt; is = both.0; rest = both.1 })
-      | inr f ↦ absurd
-          (let none : AreLengths [] (unit ∷ others) = subst (λ (x : List ℕ). AreLengths x (unit ∷ others))
-          (drop_all count lens (ltb-false count (length lens) f)) here in none)
+          grind (arith, drop_more lens count 0 lt))
+      | inr f ↦ grind (arith, drop_all, ltb-false)
     ]

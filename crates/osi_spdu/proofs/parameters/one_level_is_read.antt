@@ -1,14 +1,13 @@
 -- Parameters of one level: reading is sound and complete.
 use Rattle.std.proofs.Common.{◌≡◌, ℕ, zero, suc, ◌+◌, ◌<◌, ◌≤◌, Bool, true, false, cond, List, [], ◌∷◌, ◌++◌, length, map, Option, Some}
-use Rattle.std.proofs.Common.{None, Ok, refl, sym, ap, subst, ◌∙◌, arith}
+use Rattle.std.proofs.Common.{None, Ok, refl, sym, subst, ◌∙◌, arith}
 use Rattle.osi_spdu.proofs.Vocabulary.{flat_map, AllByRecursion, length-append, IsOctets, Code, Kind, number_of, is_same, is_group, slot_of}
-use Rattle.osi_spdu.proofs.Vocabulary.{members_of, canonical, may_enclose, canonical_in, Known, nothing, put, ◌>>=◌, Measured, measured_at}
-use Rattle.osi_spdu.proofs.Vocabulary.{Taking, params_at, params_of, judged, stored, member_taken, in_group, parameter_taken, in_unit}
+use Rattle.osi_spdu.proofs.Vocabulary.{members_of, canonical, may_enclose, canonical_in, Known, nothing, put, ◌>>=◌, measured_at, Taking}
+use Rattle.osi_spdu.proofs.Vocabulary.{params_at, params_of, judged, stored, member_taken, in_group, parameter_taken, in_unit}
 use Rattle.osi_spdu.proofs.Vocabulary.{length_octets, Part, part_octets, Sole, IsPart, Spells, only, MemberOf, MeansInGroup, GroupOf}
 use Rattle.osi_spdu.proofs.Vocabulary.{ParameterOf, KnownOf, MeansInUnit}
 use Rattle.osi_spdu.proofs.basics.options_that_are_added.{Joins, merged, first, sole_one, sole_same, sole_step, sole_back, sole_joins}
-use Rattle.osi_spdu.proofs.basics.options_that_are_added.{sole_split, sole_join, joins_both, joins_apart, put_joins, joins_put, joins_free}
-use Rattle.osi_spdu.proofs.basics.options_that_are_added.{joins_merged}
+use Rattle.osi_spdu.proofs.basics.options_that_are_added.{sole_split, sole_join, joins_both, joins_apart, put_joins, joins_merged}
 use Rattle.osi_spdu.proofs.basics.the_steps_of_reading.{bind_ok, bind_of, ok_is, guard_ok, is_none_of, none_is, same_true, same_refl}
 use Rattle.osi_spdu.proofs.basics.length_indicators.{octets-tail, measured_ok, measured_again, indicator_len}
 
@@ -51,8 +50,7 @@ params_found taking means follows (suc n) at known more (code ∷ octets) le fit
     let byte : code < 256 = fits 0 in
     record {
       parts = part ∷ rest.parts;
-      whole = ap (λ (t : List ℕ). code ∷ t)
-          (is.parts ∙ ap (λ (t : List ℕ). length_octets is.long (length m.value) ++ m.value ++ t) rest.whole);
+      whole = grind arith;
       each = ((byte, is.counted, one.1), rest.each);
       once = λ c. sole_back (one.0 c) (known c) (b.0 c) (map (λ p. p.gives c) rest.parts) (more c) (one.2 c) (rest.once c);
     }
@@ -74,13 +72,7 @@ params_only taking means follows (suc n) at known more (p ∷ parts) le each onc
     omega (arith, length-append (length_octets p.long (length p.value) ++ p.value) (flat_map part_octets parts)) in
     let rest = params_only taking means follows n after mid more parts shorter each.1
     (λ c. sole_step (p.gives c) (known c) (mid c) (map (λ q. q.gives c) parts) (more c) (joins c) (once c)) in
-    let made : Measured = record { used = indicator_len p.long; value = p.value; rest = flat_map part_octets parts } in
-    let tail = length_octets p.long (length p.value) ++ p.value ++ flat_map part_octets parts in
-    bind_of (measured_at at tail)
-    (λ m. taking at (at + (1 + m.used)) p.code m.value known >>= λ k. params_at taking n (at + (1 + m.used + length m.value)) k m.rest)
-    made (Ok more) (measured_again at p.long p.value (flat_map part_octets parts) each.0.1)
-    (bind_of (taking at (at + (1 + indicator_len p.long)) p.code p.value known)
-    (λ k. params_at taking n after k (flat_map part_octets parts)) mid (Ok more) one rest)
+    grind (arith, indicator_len, bind_of, measured_at, params_at, measured_again)
 
 -- ---- one parameter
 
@@ -99,27 +91,19 @@ pub stored_back : (kind : Kind) (at : ℕ) (c : Code) (value form : List ℕ) (k
     JoinsAll (only (slot_of c) form) known more
     → stored kind at c value known ≡ Ok more
 unfolding stored
-stored_back kind at c value form known more h0 h1 = grind (arith, joins_free, same_refl, none_is, joins_put)
-
-joins_nothing : (known more : Known) → known ≡ more → JoinsAll nothing known more
-joins_nothing known more e c = ap (λ (k : Known). k c) (sym e)
-
-same_of_nothing : (known more : Known) → JoinsAll nothing known more → known ≡ more
-same_of_nothing known more j = λ i c. (sym (j c)) i
+stored_back kind at c value form known more h0 h1 = grind (arith, same_refl, none_is)
 
 -- ---- within a group
 
 member_takes : (kind : Kind) (at : ℕ) (value : List ℕ) (known more : Known) (o : Option Code) → member_taken kind at value known o ≡ Ok more
     → (gives : Known) × MemberOf kind value gives o × JoinsAll gives known more
-member_takes kind at value known more None e = (nothing, refl, joins_nothing known more (ok_is known more e))
-member_takes kind at value known more (Some c) e =
-    let s = stored_ok kind at c value known more e in
-    (only (slot_of c) s.0, (s.0, s.1, refl), s.3)
+member_takes kind at value known more None e = (nothing, refl, grind arith)
+member_takes kind at value known more (Some c) e = search (arith, stored_ok kind at c value known more e, slot_of c)
 
 member_back : (kind : Kind) (at : ℕ) (value : List ℕ) (gives known more : Known) (o : Option Code) → MemberOf kind value gives o →
     JoinsAll gives known more
     → member_taken kind at value known o ≡ Ok more
-member_back kind at value gives known more None m j = grind (arith, same_of_nothing)
+member_back kind at value gives known more None m j = grind arith
 member_back kind at value gives known more (Some c) m j =
     stored_back kind at c value m.0 known more m.1 (subst (λ (g : Known). JoinsAll g known more) m.2 j)
 
@@ -170,8 +154,7 @@ group_back kind at body c value gives known more is m j =
     params_only (in_group kind members) (MeansInGroup kind members) (group_follows kind members) (length (flat_map part_octets m.1.parts))
     body mid more m.1.parts (omega arith) m.1.each
     (λ d. sole_join (m.0 d) (mid d) (map (λ p. p.gives d) m.1.parts) (more d) (m.1.once d) (contents d)) in
-    bind_of (stored kind at c value known) (λ k. params_of (in_group kind members) body k value) mid (Ok more) one
-    (subst (λ (v : List ℕ). params_of (in_group kind members) body mid v ≡ Ok more) (sym m.1.whole) read)
+    grind (arith, bind_of, stored, in_group)
 
 opened_takes : (kind : Kind) (at body : ℕ) (c : Code) (value : List ℕ) (known more : Known) (b : Bool) → is_group c ≡ b → IsOctets value
     → (stored kind at c value known >>= λ mid. cond b (params_of (in_group kind (members_of kind c)) body mid value) (Ok mid)) ≡ Ok more
@@ -180,9 +163,7 @@ opened_takes kind at body c value known more true is fits e =
     let a = bind_ok (stored kind at c value known) (λ mid. params_of (in_group kind (members_of kind c)) body mid value) more e in
     let s = stored_ok kind at c value known a.0 a.1 in
     let form : s.0 ≡ [] = (let h : Some s.0 ≡ Some [] = sym s.1 ∙ group_form kind c value is in cc) in
-    let joins : JoinsAll (only c []) known a.0 =
-    subst (λ (x : Code). JoinsAll (only x []) known a.0) (group_slot c is)
-    (subst (λ (v : List ℕ). JoinsAll (only (slot_of c) v) known a.0) form s.3) in
+    let joins : JoinsAll (only c []) known a.0 = grind (arith, group_slot, slot_of) in
     group_takes kind body c value known a.0 more fits joins a.2
 opened_takes kind at body c value known more false is fits e =
     let a = bind_ok (stored kind at c value known) (λ mid. Ok mid) more e in
@@ -200,13 +181,13 @@ opened_back kind at body c value gives known more false is m j =
 parameter_takes : (kind : Kind) (at body : ℕ) (value : List ℕ) (known more : Known) (o : Option Code) → IsOctets value →
     parameter_taken kind at body value known o ≡ Ok more
     → (gives : Known) × KnownOf kind value gives o × JoinsAll gives known more
-parameter_takes kind at body value known more None fits e = (nothing, refl, joins_nothing known more (ok_is known more e))
+parameter_takes kind at body value known more None fits e = (nothing, refl, grind arith)
 parameter_takes kind at body value known more (Some c) fits e = opened_takes kind at body c value known more (is_group c) refl fits e
 
 parameter_back : (kind : Kind) (at body : ℕ) (value : List ℕ) (gives known more : Known) (o : Option Code) → KnownOf kind value gives o →
     JoinsAll gives known more
     → parameter_taken kind at body value known o ≡ Ok more
-parameter_back kind at body value gives known more None m j = grind (arith, same_of_nothing)
+parameter_back kind at body value gives known more None m j = grind arith
 parameter_back kind at body value gives known more (Some c) m j = opened_back kind at body c value gives known more (is_group c) refl m j
 
 pub unit_follows : (kind : Kind) → Follows (in_unit kind) (MeansInUnit kind)

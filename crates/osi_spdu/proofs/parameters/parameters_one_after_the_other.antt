@@ -1,9 +1,9 @@
 -- Reading parameters one after the other, by a loop.
-use Rattle.std.proofs.Common.{◌≡◌, ℕ, zero, suc, ◌+◌, ◌<◌, ◌≤◌, true, false, ltb, List, [], ◌∷◌, length, Result, Ok, Err, refl, sym, ap}
-use Rattle.std.proofs.Common.{◌∙◌, arith, if◌then◌else◌}
+use Rattle.std.proofs.Common.{◌≡◌, ℕ, zero, suc, ◌+◌, ◌<◌, ◌≤◌, true, false, ltb, List, [], ◌∷◌, length, Result, Ok, Err, refl, arith}
+use Rattle.std.proofs.Common.{if◌then◌else◌}
 use Rattle.osi_spdu.proofs.Vocabulary.{is_some, length-drop, SpduFault, DuplicateParameter, BadValue, Code, Kind, Params, number_of}
-use Rattle.osi_spdu.proofs.Vocabulary.{slot_of, canonical_in, Known, ◌>>=◌, Measured, counted_at, long_at, measured_at, parameter_at}
-use Rattle.osi_spdu.proofs.Vocabulary.{Taking, params_at, params_of, stored, place_of, cells_of, filled, slots_of}
+use Rattle.osi_spdu.proofs.Vocabulary.{slot_of, canonical_in, Known, ◌>>=◌, Measured, long_at, measured_at, parameter_at, Taking, params_at}
+use Rattle.osi_spdu.proofs.Vocabulary.{params_of, stored, place_of, cells_of, filled, slots_of}
 use Rattle.osi_spdu.proofs.basics.the_steps_of_reading.{bind_ok, bind_of, ok_is, guard_ok}
 use Rattle.osi_spdu.proofs.basics.length_indicators.{chosen}
 use Rattle.osi_spdu.proofs.parameters.a_slot_is_filled.{slots_put}
@@ -38,16 +38,13 @@ stored_done kind at c value p q h0 h1 h2 = grind (arith, slots_put)
 
 -- ---- fuel
 
-counted_rest : (at used n : ℕ) (octets : List ℕ) (m : Measured) → counted_at at used n octets ≡ Ok m → length m.rest ≤ length octets
-counted_rest at used n octets m e = grind (arith, guard_ok, ltb, ok_is, length-drop)
-
 long_rest : (at : ℕ) (octets : List ℕ) (m : Measured) → long_at at octets ≡ Ok m → length m.rest ≤ length octets
 unfolding long_at
-long_rest at octets m e = grind (arith, counted_rest)
+long_rest at octets m e = grind (arith, guard_ok, ltb, ok_is, length-drop)
 
 measured_rest : (at : ℕ) (octets : List ℕ) (m : Measured) → measured_at at octets ≡ Ok m → length m.rest < length octets
 unfolding measured_at
-measured_rest at octets m h0 = grind (arith, chosen, long_rest, counted_rest)
+measured_rest at octets m h0 = grind (arith, chosen, long_rest, guard_ok, ltb, ok_is, length-drop)
 
 -- two results of steps that agree if the first did not fail
 same_bind : {A B : Type 0} (r : Result A SpduFault) (f g : A → Result B SpduFault) → ((x : A) → r ≡ Ok x → f x ≡ g x) →
@@ -99,28 +96,21 @@ pub taking_next : (taking : Taking) (at code : ℕ) (m : Measured) (known more :
     taking at (at + (1 + m.used)) code m.value known ≡ Ok more
     → IsTaking taking at known rest start before octets →
     IsTaking taking (at + (1 + m.used + length m.value)) more m.rest start before octets
-taking_next taking at code m known more rest start before octets read len one so_far = record {
-  taken =
-      sym (bind_of (taking at (at + (1 + m.used)) code m.value known) (λ x. params_of taking (at + (1 + m.used + length m.value)) x m.rest)
-      more (params_of taking (at + (1 + m.used + length m.value)) more m.rest) one refl)
-      ∙ sym (params_next taking at code m known rest read) ∙ so_far.taken;
-  room = (let r = so_far.room in omega arith);
-}
+taking_next taking at code m known more rest start before octets read len one so_far =
+    grind (arith, bind_of, params_next taking at code m known rest read)
 
 pub taking_fault : (taking : Taking) (at : ℕ) (known : Known) (rest : List ℕ) (start : ℕ) (before : Known) (octets : List ℕ)
     (fault : SpduFault)
     → 0 < length rest → parameter_at at rest ≡ Err fault → IsTaking taking at known rest start before octets →
     params_of taking start before octets ≡ Err fault
-taking_fault taking at known rest start before octets fault some e so_far =
-    sym so_far.taken ∙ params_fault taking at known rest fault some e
+taking_fault taking at known rest start before octets fault some e so_far = grind (arith, params_fault)
 
 pub taking_refused : (taking : Taking) (at code : ℕ) (m : Measured) (known : Known) (rest : List ℕ) (start : ℕ) (before : Known)
     (octets : List ℕ) (fault : SpduFault)
     → parameter_at at rest ≡ Ok (code, m) → taking at (at + (1 + m.used)) code m.value known ≡ Err fault
     → IsTaking taking at known rest start before octets → params_of taking start before octets ≡ Err fault
 taking_refused taking at code m known rest start before octets fault read e so_far =
-    sym so_far.taken ∙ params_next taking at code m known rest read ∙
-    ap (λ r. r >>= λ x. params_of taking (at + (1 + m.used + length m.value)) x m.rest) e
+    grind (arith, params_next taking at code m known rest read)
 
 pub taking_end : (taking : Taking) (at : ℕ) (known : Known) (rest : List ℕ) (start : ℕ) (before : Known) (octets : List ℕ) → length rest ≡ 0
     → IsTaking taking at known rest start before octets → params_of taking start before octets ≡ Ok known

@@ -15,7 +15,6 @@ AtFront units n octets = IsAtFront {V = Units} SpellsTsdu IsAll units n octets
 
 pub front_whole : (units : Units) (n : ℕ) (octets : List ℕ) → AtFront units n octets → (n ≡ length octets) × SpellsTsdu units octets
 front_whole units n octets h =
-    let w = h.within in
     let all : n ≡ length octets = omega (arith, ap length h.followed, length-drop n octets) in
     (all, subst (λ (o : List ℕ). SpellsTsdu units o) (take_all n octets (omega arith)) h.spelled)
 

@@ -3,7 +3,7 @@ use Rattle.std.proofs.Common.{◌≡◌, ℕ, Bool, true, false, List, [], ◌�
 use Rattle.osi_spdu.specs.declared.reading.Found.{Found}
 use Rattle.osi_spdu.proofs.Vocabulary.{IfOk, IsOkAnd, IsOctets, SpduFault, TrailingOctets, Kind, category_of, may_stand, Category, Zero}
 use Rattle.osi_spdu.proofs.Vocabulary.{Group, Contents, Units, Params, known_of, is_formed, is_joined, IsFormedTsdu, TsduFits, Gives}
-use Rattle.osi_spdu.proofs.Vocabulary.{Placed, unit_at, contents_of, ended, continued, tsdu_at, SpellsTsdu, placed_of, units_of, Known}
+use Rattle.osi_spdu.proofs.Vocabulary.{Placed, unit_at, contents_of, continued, tsdu_at, SpellsTsdu, placed_of, units_of, Known}
 use Rattle.osi_spdu.specs.Kept.{followed_at}
 use Rattle.osi_spdu.proofs.basics.the_steps_of_reading.{ok_is}
 use Rattle.osi_spdu.proofs.form.what_is_read_has_a_form.{placed_formed}
@@ -31,19 +31,13 @@ pub tsdu_followed : (octets : List ℕ) (p : Placed) (known : Known) → unit_at
 unfolding followed_at
 tsdu_followed octets p known e zero same = grind (arith, tsdu_goes octets p e)
 
-ended_none : (at : ℕ) (octets : List ℕ) (unit : Contents) → length octets ≡ 0 → ended at octets unit ≡ Ok (unit ∷ [])
-ended_none at octets unit e = grind arith
-
-ended_some : (at : ℕ) (octets : List ℕ) (unit : Contents) → (length octets ≡ 0 → ⊥) → ended at octets unit ≡ Err (TrailingOctets at)
-ended_some at octets unit h = grind arith
-
 pub continued_alone : (category : Category) (p : Placed) → (category ≡ Zero → ⊥) → length p.rest ≡ 0 →
     continued category p ≡ Ok (contents_of p [] ∷ [])
-continued_alone category p other e = grind (arith, ended_none)
+continued_alone category p other e = grind arith
 
 pub continued_trailing : (category : Category) (p : Placed) → (category ≡ Zero → ⊥) → (length p.rest ≡ 0 → ⊥) →
     continued category p ≡ Err (TrailingOctets p.end)
-continued_trailing category p other h = grind (arith, ended_some)
+continued_trailing category p other h = grind arith
 
 -- ---- the laws, at what a reader returned
 

@@ -1,10 +1,10 @@
 -- Units after the first one, given one after the other.
-use Rattle.std.proofs.Common.{◌≡◌, ℕ, zero, suc, ◌-◌, ◌≤◌, ◌&&◌, not, true, false, List, [], ◌∷◌, length, drop, get_or, Option, Some, None}
-use Rattle.std.proofs.Common.{Result, Ok, Err, refl, sym, ap, subst, ◌∙◌, arith}
-use Rattle.osi_spdu.proofs.Vocabulary.{is_ok, AllByRecursion, result_unwrap_or, and_parts, or_right, eq-eqb, SpduFault, Kind, Category}
-use Rattle.osi_spdu.proofs.Vocabulary.{Zero, One, Two, kind_named, category_of, may_stand, Units, ◌>>=◌, Next, next_at, behind_at, crowded}
-use Rattle.osi_spdu.proofs.Vocabulary.{takes_rest, is_zero, is_joined, IsFormedUnit, left_at, AreLeft, is_behind, Contents, Behind}
-use Rattle.osi_spdu.proofs.Vocabulary.{units_from, units_behind}
+use Rattle.std.proofs.Common.{◌≡◌, ℕ, ◌-◌, ◌≤◌, ◌&&◌, not, true, false, List, [], ◌∷◌, length, drop, get_or, Option, Some, None, Result, Ok}
+use Rattle.std.proofs.Common.{Err, refl, sym, ap, subst, ◌∙◌, arith}
+use Rattle.osi_spdu.proofs.Vocabulary.{AllByRecursion, result_unwrap_or, and_parts, or_right, eq-eqb, SpduFault, Kind, Category, Zero, One}
+use Rattle.osi_spdu.proofs.Vocabulary.{Two, kind_named, category_of, may_stand, Units, ◌>>=◌, Next, next_at, behind_at, crowded, takes_rest}
+use Rattle.osi_spdu.proofs.Vocabulary.{is_zero, is_joined, IsFormedUnit, left_at, AreLeft, is_behind, Contents, Behind, units_from}
+use Rattle.osi_spdu.proofs.Vocabulary.{units_behind}
 use Rattle.osi_spdu.specs.declared.units.Spdu.{Spdu}
 use Rattle.osi_spdu.specs.Groups.{GivesBehind}
 use Rattle.osi_spdu.proofs.tsdu.units_and_tsdus_are_read.{left_read}
@@ -33,13 +33,7 @@ behind_step room at octets h0 h1 = grind arith
 
 pub behind_bad : (room at : ℕ) (octets : List ℕ) (f : SpduFault) → 1 ≤ room → 1 ≤ length octets → next_at at octets ≡ Err f →
     behind_at room at octets ≡ Err f
-behind_bad room at octets f one some e = behind_step room at octets one some ∙
-    ap (λ r. r >>= λ n. with_first n (behind_at (room - 1) n.end n.rest)) e
-
-pub behind_goes : (room at : ℕ) (octets : List ℕ) (n : Next) → 1 ≤ room → 1 ≤ length octets → next_at at octets ≡ Ok n →
-    behind_at room at octets ≡ (behind_at (room - 1) n.end n.rest >>= λ us. Ok (n.unit ∷ us))
-behind_goes room at octets n one some e = behind_step room at octets one some ∙
-    ap (λ r. r >>= λ x. with_first x (behind_at (room - 1) x.end x.rest)) e
+behind_bad room at octets f one some e = grind (arith, behind_step, behind_at)
 
 -- ---- the units that are left
 
@@ -57,47 +51,19 @@ left_none room at octets e = are_left room at octets [] (behind_none room at oct
 pub left_empty : (room at : ℕ) (octets : List ℕ) → length octets ≡ 0 → left_at room at octets ≡ []
 left_empty room at octets e = left_of room at octets [] (behind_none room at octets e)
 
--- a unit before those that are left
-pub left_more : (room at : ℕ) (octets : List ℕ) (n : Next) → 1 ≤ room → 1 ≤ length octets → next_at at octets ≡ Ok n → IsFormedUnit n.unit →
-    AreLeft (room - 1) n.end n.rest → AreLeft room at octets
-left_more room at octets n one some e formed left =
-    let units = left_at (room - 1) n.end n.rest in
-    let read : behind_at room at octets ≡ Ok (n.unit ∷ units) = behind_goes room at octets n one some e ∙
-    ap (with_first n) (left_read (room - 1) n.end n.rest left.readable) in
-    are_left room at octets (n.unit ∷ units) read (formed, left.formed)
-
 -- the first of the units that are left, and those after it
 pub record GoesOn (room at : ℕ) (octets : List ℕ) (n : Next) : Type 0 where
   pub some : 1 ≤ room
   pub left : AreLeft (room - 1) n.end n.rest
   pub given : left_at room at octets ≡ n.unit ∷ left_at (room - 1) n.end n.rest
 
-room_left : (room at : ℕ) (octets : List ℕ) → 1 ≤ length octets → is_ok (behind_at room at octets) ≡ true → 1 ≤ room
-room_left zero at octets some e = absurd (let h = ap is_ok (behind_full 0 at octets refl some) in let g : false ≡ true = sym h ∙ e in cc)
-room_left (suc room) at octets some e = omega arith
-
-others_ok : (n : Next) (others : Read) (units : Units) → with_first n others ≡ Ok units →
-    (us : Units) × (others ≡ Ok us) × (units ≡ n.unit ∷ us)
-others_ok n others units e = grind arith
-
 pub left_goes : (room at : ℕ) (octets : List ℕ) (n : Next) → 1 ≤ length octets → AreLeft room at octets → next_at at octets ≡ Ok n →
     GoesOn room at octets n
-left_goes room at octets n some left e =
-    let one = room_left room at octets some left.readable in
-    let read = left_read room at octets left.readable in
-    let o = others_ok n (behind_at (room - 1) n.end n.rest) (left_at room at octets) (sym (behind_goes room at octets n one some e) ∙ read)
-    in
-    let same = left_of (room - 1) n.end n.rest o.0 o.1 in
-    let formed : AllByRecursion IsFormedUnit (n.unit ∷ o.0) = subst (λ (us : Units). AllByRecursion IsFormedUnit us) o.2 left.formed in
-    record {
-      some = one;
-      left = are_left (room - 1) n.end n.rest o.0 o.1 formed.1;
-      given = o.2 ∙ ap (λ (us : Units). n.unit ∷ us) (sym same);
-    }
+left_goes room at octets n some left e = grind (arith, left_read, behind_at, left_at, behind_step, left_of, are_left, behind_full)
 
 pub left_never_bad : (room at : ℕ) (octets : List ℕ) (f : SpduFault) → 1 ≤ length octets → AreLeft room at octets →
     next_at at octets ≡ Err f → ⊥
-left_never_bad room at octets f h0 h1 h2 = grind (arith, room_left, behind_bad)
+left_never_bad room at octets f h0 h1 h2 = grind (arith, behind_full, behind_bad)
 
 -- ---- reading on, as a loop does
 
@@ -112,7 +78,7 @@ leads_start room at octets = record { left = λ h. h; refused = λ f h. h }
 pub leads_next : (whole start : ℕ) (octets : List ℕ) (room at : ℕ) (rest : List ℕ) (n : Next) → Leads whole start octets room at rest →
     1 ≤ room → 1 ≤ length rest → next_at at rest ≡ Ok n → IsFormedUnit n.unit
     → Leads whole start octets (room - 1) n.end n.rest
-leads_next whole start octets room at rest n leads one some e formed = grind (arith, left_more, behind_goes room at rest n one some e)
+leads_next whole start octets room at rest n leads one some e formed = grind (arith, are_left, left_at, behind_at, behind_step, left_read)
 
 -- ---- one unit and those after it
 
@@ -130,12 +96,11 @@ none_stands = refl
 
 pub others_bad : (room at : ℕ) (octets : List ℕ) (n : Next) (f : SpduFault) → 1 ≤ room → 1 ≤ length octets → next_at at octets ≡ Ok n →
     behind_at (room - 1) n.end n.rest ≡ Err f → behind_at room at octets ≡ Err f
-others_bad room at octets n f one some e h = behind_goes room at octets n one some e ∙ ap (with_first n) h
+others_bad room at octets n f one some e h = (grind (arith, behind_step, behind_at)) ∙ ap (with_first n) h
 
 pub others_read : (room at : ℕ) (octets : List ℕ) (n : Next) → 1 ≤ room → 1 ≤ length octets → next_at at octets ≡ Ok n →
     AreLeft (room - 1) n.end n.rest → behind_at room at octets ≡ Ok (n.unit ∷ left_at (room - 1) n.end n.rest)
-others_read room at octets n one some e left = behind_goes room at octets n one some e ∙
-    ap (with_first n) (left_read (room - 1) n.end n.rest left.readable)
+others_read room at octets n one some e left = grind (arith, behind_step, behind_at, left_read)
 
 -- ---- which units may occur together
 

@@ -1,30 +1,22 @@
 -- Units and TSDUs: reading is sound and complete.
 use Rattle.std.proofs.Common.{inl, inr, ◌≡◌, ℕ, zero, suc, ◌+◌, ◌≤◌, Bool, true, false, List, [], ◌∷◌, ◌++◌, length, Option, Some, Result}
 use Rattle.std.proofs.Common.{Ok, Err, refl, sym, ap, subst, ◌∙◌, eqb, arith}
-use Rattle.osi_spdu.proofs.Vocabulary.{is_some, is_ok, IsSome, result_unwrap_or, flat_map, find, AllByRecursion, eqb-true, append-nil}
-use Rattle.osi_spdu.proofs.Vocabulary.{IsOctets, SpduFault, MissingParameter, Code, Kind, Category, One, Two, number_of, si_of, category_of}
-use Rattle.osi_spdu.proofs.Vocabulary.{required_of, kind_named, may_stand, one_kind, later_kinds, Known, nothing, settled, Contents, Units}
-use Rattle.osi_spdu.proofs.Vocabulary.{◌>>=◌, Measured, measured_at, params_of, in_unit, all_there, Placed, placed_kind, unit_at}
-use Rattle.osi_spdu.proofs.Vocabulary.{contents_of, takes_rest, Next, next_if, next_at, behind_at, ended, continued, tsdu_at, length_octets}
-use Rattle.osi_spdu.proofs.Vocabulary.{part_octets, item_octets, Spells, MeansInUnit, SpellsUnit, HasInformation, EndsTsdu, AreBehind}
-use Rattle.osi_spdu.proofs.Vocabulary.{MayFollow, StandTogether, AreUnits, SpellsTsdu, left_at}
+use Rattle.osi_spdu.proofs.Vocabulary.{is_some, is_ok, IsSome, flat_map, AllByRecursion, eqb-true, append-nil, IsOctets, SpduFault}
+use Rattle.osi_spdu.proofs.Vocabulary.{MissingParameter, Code, Kind, Category, Two, number_of, si_of, category_of, required_of, kind_named}
+use Rattle.osi_spdu.proofs.Vocabulary.{may_stand, Known, nothing, settled, Contents, Units, ◌>>=◌, Measured, measured_at, params_of}
+use Rattle.osi_spdu.proofs.Vocabulary.{in_unit, all_there, Placed, placed_kind, unit_at, contents_of, takes_rest, Next, next_if, next_at}
+use Rattle.osi_spdu.proofs.Vocabulary.{behind_at, continued, tsdu_at, length_octets, part_octets, item_octets, Spells, MeansInUnit}
+use Rattle.osi_spdu.proofs.Vocabulary.{SpellsUnit, HasInformation, EndsTsdu, AreBehind, MayFollow, StandTogether, AreUnits, SpellsTsdu}
+use Rattle.osi_spdu.proofs.Vocabulary.{left_at}
 use Rattle.osi_spdu.proofs.basics.the_steps_of_reading.{bind_ok, bind_of, ok_is}
 use Rattle.osi_spdu.proofs.basics.length_indicators.{octets-tail, measured_ok, measured_again, indicator_len, chosen}
 use Rattle.osi_spdu.proofs.parameters.one_level_is_read.{params_found, params_only, unit_follows}
 
 -- ---- kinds
 
-found_passes : (p : Kind → Bool) (kinds : List Kind) (kind : Kind) → find p kinds ≡ Some kind → p kind ≡ true
-found_passes p [] kind e = absurd cc
-found_passes p (k ∷ kinds) kind e =
-    elim (chosen (p k) (Some k) (find p kinds) (Some kind) e) [
-      | inl q ↦ (let same : k ≡ kind = (let h : Some k ≡ Some kind = q.1 in cc) in subst (λ (x : Kind). p x ≡ true) same q.0)
-      | inr q ↦ found_passes p kinds kind q.1
-    ]
-
 si_named : (second : Bool) (si : ℕ) (kind : Kind) → kind_named second si ≡ Some kind → si_of kind ≡ si
 unfolding kind_named
-si_named second si kind e = eqb-true (si_of kind) si (found_passes (λ k. eqb (si_of k) si) (one_kind second ∷ later_kinds) kind e)
+si_named second si kind e = eqb-true (si_of kind) si (grind arith)
 
 pub named_back : (second : Bool) (kind : Kind) → may_stand second (category_of kind) ≡ true → kind_named second (si_of kind) ≡ Some kind
 unfolding kind_named si_of may_stand category_of
@@ -151,23 +143,8 @@ pub two_second : (category : Category) → category ≡ Two → may_stand true c
 unfolding may_stand
 two_second category e = rw e refl
 
-informed_all : (kind : Kind) (information : List ℕ) → takes_rest kind ≡ true → HasInformation kind information
-informed_all kind information e = grind arith
-
-pub informed_none : (kind : Kind) → HasInformation kind []
-informed_none kind = grind arith
-
 pub informed_plain : (kind : Kind) (information : List ℕ) → takes_rest kind ≡ false → HasInformation kind information → information ≡ []
 informed_plain kind information e h = grind arith
-
-pub ends_none : (kind : Kind) (units : Units) → takes_rest kind ≡ false → EndsTsdu kind units
-ends_none kind units e = grind arith
-
-ends_all : (kind : Kind) (units : Units) → units ≡ [] → EndsTsdu kind units
-ends_all kind units e = grind arith
-
-ended_units : (kind : Kind) (units : Units) → takes_rest kind ≡ true → EndsTsdu kind units → units ≡ []
-ended_units kind units e h = grind arith
 
 -- octets that begin with a unit of category 2 and its user information
 record IsNext (octets : List ℕ) (n : Next) : Type 0 where
@@ -178,7 +155,7 @@ record IsNext (octets : List ℕ) (n : Next) : Type 0 where
   rest_octets : IsOctets n.rest
 
 next_is : (octets : List ℕ) (p : Placed) (b : Bool) → takes_rest p.kind ≡ b → IsUnitAt true octets p → IsNext octets (next_if b p)
-next_is octets p b e is = grind (arith, append-nil, informed_all, informed_none)
+next_is octets p b e is = grind (arith, append-nil)
 
 next_found : (at : ℕ) (octets : List ℕ) (n : Next) → IsOctets octets → next_at at octets ≡ Ok n → IsNext octets n
 unfolding next_at
@@ -274,8 +251,7 @@ record IsSecond (n : Next) : Type 0 where
   ends : (units : Units) → (n.rest ≡ [] → units ≡ []) → EndsTsdu n.unit.kind units
 
 second_is : (p : Placed) (b : Bool) → takes_rest p.kind ≡ b → may_stand true (category_of p.kind) ≡ true → IsSecond (next_if b p)
-second_is p true e s = record { two = second_stands (category_of p.kind) s; ends = λ units h. ends_all p.kind units (h refl) }
-second_is p false e s = record { two = second_stands (category_of p.kind) s; ends = λ units h. ends_none p.kind units e }
+second_is p b e s = grind (arith, second_stands, category_of)
 
 second_found : (at : ℕ) (octets : List ℕ) (n : Next) → next_at at octets ≡ Ok n → IsSecond n
 unfolding next_at
@@ -316,7 +292,7 @@ behind_only zero at (unit ∷ units) octets s are few = absurd (omega arith)
 behind_only (suc room) at (unit ∷ units) octets s are few =
     let front = s.0 in
     let rest = s.1 in
-    let ends : takes_rest unit.kind ≡ true → rest ≡ [] = λ t. none_spelled units rest (ended_units unit.kind units t are.1) s.5 in
+    let ends : takes_rest unit.kind ≡ true → rest ≡ [] = λ t. none_spelled units rest (grind arith) s.5 in
     let n = next_only at unit front rest s.3 s.4 are.0 ends in
     let made : Next = record { unit = unit; end = n.0; rest = rest } in
     let others = behind_only room n.0 units rest s.5 are.2 (omega arith) in
@@ -328,10 +304,6 @@ behind_only (suc room) at (unit ∷ units) octets s are few =
 
 -- ---- a TSDU
 
-ended_ok : (at : ℕ) (octets : List ℕ) (unit : Contents) (units : Units) → ended at octets unit ≡ Ok units →
-    (octets ≡ []) × (unit ∷ [] ≡ units)
-ended_ok at octets unit units e = grind (arith, ok_is)
-
 pub not_second : (category : Category) → may_stand false category ≡ true → category ≡ Two → ⊥
 unfolding may_stand
 not_second category e h = grind arith
@@ -341,20 +313,11 @@ first_found : (octets : List ℕ) (p : Placed) (behind : Units) → IsOctets oct
     MayFollow (category_of p.kind) behind → AreBehind behind → AreUnits behind p.rest
     → SpellsTsdu (contents_of p [] ∷ behind) octets
 unfolding SpellsTsdu StandTogether
-first_found octets p behind fits is follow are spelled = grind (arith, informed_none)
-
-ended_found : (octets : List ℕ) (p : Placed) (units : Units) → IsOctets octets → category_of p.kind ≡ One → IsUnitAt false octets p →
-    ended p.end p.rest (contents_of p []) ≡ Ok units → SpellsTsdu units octets
-ended_found octets p units h0 h1 h2 h3 = grind (arith, ended_ok, first_found)
-
-continued_found : (octets : List ℕ) (p : Placed) (units : Units) (category : Category) → IsOctets octets → category_of p.kind ≡ category →
-    IsUnitAt false octets p → continued category p ≡ Ok units → SpellsTsdu units octets
-continued_found octets p units category h0 h1 h2 h3 =
-    grind (arith, bind_ok, behind_stands, ok_is, first_found, behind_found, ended_found, not_second)
+first_found octets p behind fits is follow are spelled = grind arith
 
 pub tsdu_found : (octets : List ℕ) (units : Units) → IsOctets octets → tsdu_at octets ≡ Ok units → SpellsTsdu units octets
 unfolding tsdu_at
-tsdu_found octets units h0 h1 = grind (arith, bind_ok, continued_found, unit_found)
+tsdu_found octets units h0 h1 = grind (arith, bind_ok, behind_stands, ok_is, first_found, behind_found, not_second, unit_found)
 
 -- ---- and back
 
@@ -365,10 +328,6 @@ first_stands category behind h = grind arith
 first_plain : (kind : Kind) → may_stand false (category_of kind) ≡ true → takes_rest kind ≡ false
 unfolding may_stand category_of
 first_plain kind e = grind arith
-
-continued_only : (category : Category) (p : Placed) (behind : Units) → MayFollow category behind → AreBehind behind → AreUnits behind p.rest
-    → continued category p ≡ Ok (contents_of p [] ∷ behind)
-continued_only category p behind h0 h1 h2 = grind (arith, bind_of, behind_only, none_spelled)
 
 -- units that may occur together are read; this needs no bound on the numbers of the list
 pub tsdu_read : (units : Units) (octets : List ℕ) → StandTogether units → AreUnits units octets → tsdu_at octets ≡ Ok units
@@ -384,7 +343,7 @@ tsdu_read (first ∷ behind) octets together u =
     λ i. (let c : Contents = record { kind = first.kind; known = first.known; information = sym empty i } in c) in
     let read : tsdu_at (u.0 ++ u.1) ≡ Ok (contents_of p [] ∷ behind) =
     bind_of (unit_at false 0 (u.0 ++ u.1)) (λ unit. continued (category_of unit.kind) unit) p (Ok (contents_of p [] ∷ behind)) one.1
-    (continued_only (category_of first.kind) p behind together.0 together.1 u.5) in
+    (grind (arith, bind_of, behind_only, none_spelled)) in
     ap tsdu_at whole ∙ read ∙ ap (λ (c : Contents). Ok (c ∷ behind)) same
 
 pub tsdu_only : (units : Units) (octets : List ℕ) → SpellsTsdu units octets → tsdu_at octets ≡ Ok units
@@ -396,14 +355,11 @@ tsdu_only units octets s = tsdu_read units octets s.1 s.2
 abbrev read : Units → Result Units SpduFault
 read units = Ok units
 
-left_from : (r : Result Units SpduFault) → is_ok r ≡ true → r ≡ Ok (result_unwrap_or r [])
-left_from r e = grind arith
-
 -- octets that can be read are the units that are left
 pub left_read : (room at : ℕ) (octets : List ℕ) → is_ok (behind_at room at octets) ≡ true →
     behind_at room at octets ≡ Ok (left_at room at octets)
 unfolding left_at
-left_read room at octets e = left_from (behind_at room at octets) e
+left_read room at octets e = grind arith
 
 pub left_stands : (room at : ℕ) (octets : List ℕ) → is_ok (behind_at room at octets) ≡ true →
     AreBehind (left_at room at octets) × (length (left_at room at octets) ≤ room)

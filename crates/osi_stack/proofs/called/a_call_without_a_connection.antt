@@ -3,12 +3,11 @@ use Rattle.std.proofs.Common.{◌≡◌, ℕ, Bool, true, false, Option, Some, N
 use Rattle.osi_carrier.proofs.references.what_is_open.{no_link}
 use Rattle.osi_session.specs.declared.faults.CallError.TheVariants as error
 use Rattle.osi_session.specs.declared.phases.Phase.TheVariants.{Ended}
-use Rattle.osi_stack.proofs.Vocabulary.{OnOk, OnErr, IfErr, Carrying, Rows, value_at, Connection, State as Carrier, is_open, EndReason}
-use Rattle.osi_stack.proofs.Vocabulary.{allowed, Call, Listener, called, answered, react, is_wait_transport, is_over, limit_of, CallError}
-use Rattle.osi_stack.proofs.Vocabulary.{Phase, has_given, move_refusal, session_refusal, session_error, call_error, table_error, Refuses}
-use Rattle.osi_stack.proofs.Vocabulary.{by_rule, needs_link, kept_at, IsSettled, Line, End, Holding, holding, session_in, session_at}
+use Rattle.osi_stack.proofs.Vocabulary.{OnOk, OnErr, IfErr, Carrying, Rows, value_at, State as Carrier, is_open, EndReason, allowed, Call}
+use Rattle.osi_stack.proofs.Vocabulary.{Listener, called, answered, react, is_wait_transport, is_over, limit_of, CallError, Phase}
+use Rattle.osi_stack.proofs.Vocabulary.{has_given, move_refusal, session_refusal, session_error, call_error, table_error, Refuses, by_rule}
+use Rattle.osi_stack.proofs.Vocabulary.{needs_link, kept_at, IsSettled, Line, End, Holding, holding, session_in, session_at}
 use Rattle.osi_stack.proofs.Vocabulary.{SessionState as State}
-use Rattle.osi_stack.proofs.sound.the_invariant_between_calls.{answered_by_table}
 
 -- ---- a session that is over
 
@@ -40,8 +39,7 @@ gone_phase r s e settled lasts none kept =
     over_phase p
     (unneeded (needs_link p) (is_open r e.carrier) (λ needs. (settled.sound lasts).links lasts r s kept needs)
     (ap is_some (no_link r e.carrier none)))
-    (unneeded (is_wait_transport p) (is_some (value_at r e.carrier.live)) (λ waits. ap is_some (settled.asks lasts r s kept waits))
-    (ap is_some none))
+    (grind (arith, unneeded))
 
 gone_by : (r : ℕ) (call : Call) (e : End) (o : Option Listener) (over : Option EndReason) → IsSettled e → value_at r e.carrier.live ≡ None →
     kept_at r e.lines ≡ o → e.carrier.ended ≡ over →
@@ -56,15 +54,7 @@ record AreAlike (r : ℕ) (call : Call) (e : End) : Type 0 where
   refusal : session_refusal r (session_in (value_at r e.lines)) call e.carrier ≡ session_refusal r (session_at r e) call e.carrier
   error : session_error (session_in (value_at r e.lines)) call ≡ session_error (session_at r e) call
 
-alike_by : (r : ℕ) (call : Call) (e : End) (o : Option Connection) → value_at r e.carrier.live ≡ o → IsSettled e → AreAlike r call e
-alike_by r call e None at settled = grind (arith, gone_by r call e (kept_at r e.lines) e.carrier.ended settled at refl refl)
-alike_by r call e (Some connection) at settled = grind arith
-
 -- ---- what was accepted
-
-lasts_by : {A F : Type 0} (result : Result A F) (over : Option EndReason) (refusal : Option CallError) → (IsSome over → IsSome refusal) →
-    OnOk result (refusal ≡ None) → OnOk result (over ≡ None)
-lasts_by result over refusal h none = grind arith
 
 -- what a stack answers a call of this reference
 pub record IsAnswered {A : Type 0} (result : Result A CallError) (r : ℕ) (call : Call) (e : End) : Type 0 where
@@ -80,7 +70,7 @@ pub answered_there : {A : Type 0} (result : Result A CallError) (r : ℕ) (call 
     (IsSome e.carrier.ended → IsSome (call_error r call e)) → OnOk result (session_refusal r (kept_at r e.lines) call e.carrier ≡ None) →
     IfErr result (λ f. Refuses f (session_error (kept_at r e.lines) call) (session_refusal r (kept_at r e.lines) call e.carrier)) →
     IsAnswered result r call e
-answered_there result r call e given settled law over ok err = grind (arith, alike_by, answered_by_table, lasts_by)
+answered_there result r call e given settled law over ok err = search (arith, gone_by)
 
 -- ---- what became of the end
 

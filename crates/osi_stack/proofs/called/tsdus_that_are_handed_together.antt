@@ -1,11 +1,11 @@
 -- TSDUs that are handed over together.
-use Rattle.std.proofs.Common.{◌≡◌, ◌∙◌, refl, ap, ℕ, Bool, false, ◌||◌, List, [], ◌∷◌, length, map, nat_lt, Option, Some, None, option_map}
+use Rattle.std.proofs.Common.{◌≡◌, ◌∙◌, refl, ap, ℕ, Bool, false, List, [], ◌∷◌, length, map, nat_lt, Option, Some, None, option_map}
 use Rattle.std.proofs.Common.{unwrap_or, arith, if◌then◌else◌}
 use Rattle.osi_carrier.specs.declared.faults.SendError.TheVariants.{TooLong}
 use Rattle.osi_stack.proofs.Vocabulary.{list_any, nat_tests, or-false, send_error, send_all_error, lengths_error, open_link, sent, sent_on}
-use Rattle.osi_stack.proofs.Vocabulary.{sent_all, State as Carrier, SendError, Standing as Link, Meaning, is_parted, tsdus_sent, in_one}
-use Rattle.osi_stack.proofs.Vocabulary.{Words, Word, word_octets, sent_alone, Listener, Move, came, AreShort, message_of, does, puts}
-use Rattle.osi_stack.proofs.Vocabulary.{limit_for, answers, event_input, sent_unless, hands, answers_by, SessionEvent}
+use Rattle.osi_stack.proofs.Vocabulary.{sent_all, State as Carrier, SendError, Standing as Link, Meaning, tsdus_sent, in_one, Words}
+use Rattle.osi_stack.proofs.Vocabulary.{word_octets, sent_alone, Listener, Move, came, AreShort, message_of, does, puts, limit_for, answers}
+use Rattle.osi_stack.proofs.Vocabulary.{event_input, sent_unless, hands, answers_by, SessionEvent}
 
 -- ---- one, and none
 
@@ -15,11 +15,8 @@ one_error tsdu o = grind (arith, or-false)
 pub hands_one : (r : ℕ) (tsdu : List ℕ) (c : Carrier) → send_error tsdu (open_link r c) ≡ None → hands r (tsdu ∷ []) c ≡ sent r tsdu c
 hands_one r tsdu c none = ap (λ o. sent_unless o r (tsdu ∷ []) c) (one_error tsdu (open_link r c) ∙ none)
 
-none_by : (r : ℕ) (c : Carrier) (o : Option (ℕ × Link)) → sent_unless (send_all_error [] o) r [] c ≡ c
-none_by r c o = grind arith
-
 pub hands_none : (r : ℕ) (c : Carrier) → hands r [] c ≡ c
-hands_none r c = none_by r c (open_link r c)
+hands_none r c = grind arith
 
 -- ---- what is short is sent on an open connection, and on another nothing is
 
@@ -27,50 +24,33 @@ unlinked : (r : ℕ) (tsdus : List (List ℕ)) (c : Carrier) → open_link r c �
 unlinked r [] c e = refl
 unlinked r (tsdu ∷ tsdus) c e = ap (sent_all r tsdus) (ap (λ o. sent_on r tsdu o c) e) ∙ unlinked r tsdus c e
 
-any_if : (b : Bool) (tsdus : List (List ℕ)) → b ≡ false → list_any (λ (t : List ℕ). nat_lt 1048576 (length t)) tsdus ≡ false →
-    (b || list_any (λ (t : List ℕ). nat_lt 1048576 (length t)) tsdus) ≡ false
-any_if b tsdus e h = grind arith
-
 none_long : (tsdus : List (List ℕ)) → AreShort tsdus → list_any (λ (t : List ℕ). nat_lt 1048576 (length t)) tsdus ≡ false
 none_long [] h = refl
-none_long (tsdu ∷ tsdus) h = grind (arith, any_if, nat_tests, none_long tsdus h.1)
+none_long (tsdu ∷ tsdus) h = grind (arith, nat_tests, none_long tsdus h.1)
 
 pub lengths_fit : (tsdus : List (List ℕ)) → AreShort tsdus → lengths_error tsdus ≡ None
 lengths_fit tsdus h = ap (λ (b : Bool). if◌then◌else◌ {A = Option SendError} b (Some TooLong) None) (none_long tsdus h)
 
-handed_by : (r : ℕ) (tsdus : List (List ℕ)) (c : Carrier) (o : Option (ℕ × Link)) → open_link r c ≡ o → AreShort tsdus →
-    hands r tsdus c ≡ sent_all r tsdus c
-handed_by r tsdus c o e short = grind (arith, unlinked, lengths_fit)
-
 pub handed : (r : ℕ) (tsdus : List (List ℕ)) (c : Carrier) → AreShort tsdus → hands r tsdus c ≡ sent_all r tsdus c
-handed r tsdus c short = handed_by r tsdus c (open_link r c) refl short
+handed r tsdus c short = grind (arith, unlinked, lengths_fit)
 
 -- ---- words
 
-does_word : (r : ℕ) (w : Word) (c : Carrier) → sent r (word_octets w) c ≡ does r (message_of w) c
-does_word r w c = grind arith
-
 pub puts_words : (r : ℕ) (words : Words) (c : Carrier) → sent_all r (map word_octets words) c ≡ puts r (map message_of words) c
 puts_words r [] c = refl
-puts_words r (w ∷ words) c = ap (sent_all r (map word_octets words)) (does_word r w c) ∙ puts_words r words (does r (message_of w) c)
+puts_words r (w ∷ words) c = ap (sent_all r (map word_octets words)) (grind arith) ∙ puts_words r words (does r (message_of w) c)
 
 -- ---- what a session sends by itself
 
-not_parted : (m : Meaning) → is_parted 0 m ≡ false
-not_parted m = grind arith
-
 pub sent_by_itself : (reply : Option Meaning) → unwrap_or (option_map in_one reply) [] ≡ tsdus_sent 0 reply
-sent_by_itself reply = grind (arith, sent_alone, not_parted)
+sent_by_itself reply = grind (arith, sent_alone)
 
 pub came_unbounded : (s : Listener) (octets : List ℕ) → limit_for s (came octets) ≡ 0
 came_unbounded s octets = grind arith
-
-pub told_unbounded : (s : Listener) (told : SessionEvent) → limit_for s (event_input told) ≡ 0
-told_unbounded s told = grind (arith, came_unbounded)
 
 -- what is handed over for a session that handles an event
 pub answer_heard : (s : Listener) (told : SessionEvent) (r : ℕ) (reply : Option (List (List ℕ))) (closes : Bool) (move : Move)
     (c : Carrier) →
     reply ≡ option_map in_one move.reply → closes ≡ move.closes →
     answers_by closes r (unwrap_or reply []) c ≡ answers r (limit_for s (event_input told)) move c
-answer_heard s told r reply closes move c e f = grind (arith, answers_by, unwrap_or, sent_by_itself, answers, told_unbounded)
+answer_heard s told r reply closes move c e f = grind (arith, answers_by, unwrap_or, sent_by_itself, answers)

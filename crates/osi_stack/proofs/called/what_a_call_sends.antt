@@ -1,10 +1,8 @@
 -- What a call sends, and what it does not do.
-use Rattle.std.proofs.Common.{◌≡◌, ℕ, Bool, false, List, [], Option, Some, None, is_none, Result, Ok, Err, OnOk, IfErr, sym, ap, ◌∙◌}
-use Rattle.std.proofs.Common.{if◌then◌else◌, arith}
-use Rattle.osi_stack.proofs.Vocabulary.{append-nil, Carrying, send_all_error, open_link, State as Carrier, Meaning, tsdus_sent, Answer}
-use Rattle.osi_stack.proofs.Vocabulary.{allowed, Call, CallError, Listener, Move, called, answered, react, limit_of, send_refusal}
-use Rattle.osi_stack.proofs.Vocabulary.{reply_refusal, move_refusal, or_else, Refuses, answers, line_by, carrier_by, Line, hands}
-use Rattle.osi_stack.proofs.Vocabulary.{answers_by}
+use Rattle.std.proofs.Common.{◌≡◌, ℕ, false, List, [], Some, None, is_none, Result, Ok, Err, OnOk, IfErr, arith}
+use Rattle.osi_stack.proofs.Vocabulary.{append-nil, Carrying, send_all_error, open_link, State as Carrier, tsdus_sent, Call, CallError}
+use Rattle.osi_stack.proofs.Vocabulary.{Listener, Move, called, react, limit_of, send_refusal, move_refusal, Refuses, answers, line_by}
+use Rattle.osi_stack.proofs.Vocabulary.{carrier_by, Line, hands}
 
 -- a call indicates nothing and closes nothing, and one that is accepted sends something
 pub record IsCall (move : Move) : Type 0 where
@@ -12,31 +10,13 @@ pub record IsCall (move : Move) : Type 0 where
   pub closes : move.closes ≡ false
   pub sends : move.error ≡ None → is_none move.reply ≡ false
 
-call_by : (s : Listener) (a : Answer) → IsCall (answered s a)
-call_by s a = grind arith
-
 pub call_is : (s : Listener) (call : Call) → IsCall (react s (called call))
 unfolding react
-call_is s call = call_by s (allowed s.state call)
-
--- what is sent decides the answer of the carrier
-reply_by : (r limit : ℕ) (reply : Option Meaning) (c : Carrier) → is_none reply ≡ false →
-    reply_refusal r limit reply c ≡ send_refusal (send_all_error (tsdus_sent limit reply) (open_link r c))
-reply_by r limit reply c e = grind arith
+call_is s call = grind arith
 
 pub record IsSent (r limit : ℕ) (move : Move) (sent : List (List ℕ)) (c : Carrier) : Type 0 where
   pub refusal : move_refusal r limit move c ≡ send_refusal (send_all_error sent (open_link r c))
   pub handed : answers r limit move c ≡ hands r sent c
-
-pub call_sends : (s : Listener) (call : Call) (sent : List (List ℕ)) (r limit : ℕ) (c : Carrier) → (react s (called call)).error ≡ None →
-    sent ≡ tsdus_sent limit (react s (called call)).reply → IsSent r limit (react s (called call)) sent c
-call_sends s call sent r limit c none e = record {
-  refusal = ap (λ o. or_else o (reply_refusal r limit (react s (called call)).reply c)) none
-      ∙ reply_by r limit (react s (called call)).reply c ((call_is s call).sends none)
-      ∙ ap (λ (l : List (List ℕ)). send_refusal (send_all_error l (open_link r c))) (sym e);
-  handed = ap (λ (b : Bool). answers_by b r (tsdus_sent limit (react s (called call)).reply) c) (call_is s call).closes ∙
-      ap (λ (l : List (List ℕ)). hands r l c) (sym e);
-}
 
 -- ---- the carrier's answer to what a call sends
 
@@ -46,29 +26,21 @@ pub call_handed : {A E : Type 0} (result : Result A E) (s : Listener) (call : Ca
     OnOk result (d ≡ record c { state = hands r tsdus c.state }) →
     OnOk result (d ≡ record c { state = answers r limit (react s (called call)) c.state })
 call_handed (Err f) s call sent tsdus r limit c d none e same h = tt
-call_handed (Ok a) s call sent tsdus r limit c d none e same h = grind (arith, call_sends s call sent r limit c.state none e)
-
-refusal_is : (s : Listener) (call : Call) (sent tsdus : List (List ℕ)) (r limit : ℕ) (c : Carrier) → (react s (called call)).error ≡ None →
-    sent ≡ tsdus_sent limit (react s (called call)).reply → tsdus ≡ sent →
-    send_refusal (send_all_error tsdus (open_link r c)) ≡ move_refusal r limit (react s (called call)) c
-refusal_is s call sent tsdus r limit c none e same = grind (arith, call_sends)
+call_handed (Ok a) s call sent tsdus r limit c d none e same h = grind (arith, react, call_is)
 
 pub call_allowed : {A E : Type 0} (result : Result A E) (s : Listener) (call : Call) (sent tsdus : List (List ℕ)) (r limit : ℕ)
     (c : Carrier) → (react s (called call)).error ≡ None →
     sent ≡ tsdus_sent limit (react s (called call)).reply → tsdus ≡ sent →
     OnOk result (send_refusal (send_all_error tsdus (open_link r c)) ≡ None) →
     OnOk result (move_refusal r limit (react s (called call)) c ≡ None)
-call_allowed result s call sent tsdus r limit c none e same h = grind (arith, refusal_is)
-
-refuses_is : (e : CallError) (first all other : Option CallError) → first ≡ None → other ≡ all → Refuses e None other → Refuses e first all
-refuses_is e first all other none same h = grind arith
+call_allowed result s call sent tsdus r limit c none e same h = grind arith
 
 pub call_refused : {A : Type 0} (result : Result A CallError) (s : Listener) (call : Call) (sent tsdus : List (List ℕ)) (r limit : ℕ)
     (c : Carrier) → (react s (called call)).error ≡ None →
     sent ≡ tsdus_sent limit (react s (called call)).reply → tsdus ≡ sent →
     IfErr result (λ e. Refuses e None (send_refusal (send_all_error tsdus (open_link r c)))) →
     IfErr result (λ e. Refuses e (react s (called call)).error (move_refusal r limit (react s (called call)) c))
-call_refused result s call sent tsdus r limit c none e same h = grind (arith, refuses_is, refusal_is)
+call_refused result s call sent tsdus r limit c none e same h = search (arith, react, call_is)
 
 -- ---- the line and the carrier after a call
 

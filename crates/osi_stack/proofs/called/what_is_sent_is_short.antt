@@ -1,13 +1,12 @@
 -- What a session sends is no longer than a TSDU may be.
-use Rattle.std.proofs.Common.{◌≡◌, ℕ, ◌+◌, ◌<◌, ◌≤◌, Bool, true, List, [], ◌∷◌, length, nat_le, Ok, refl, sym, ap, subst, arith}
-use Rattle.std.proofs.Common.{length-append}
+use Rattle.std.proofs.Common.{◌≡◌, ◌+◌, ◌<◌, ◌≤◌, Bool, true, [], ◌∷◌, length, nat_le, Ok, refl, arith, length-append}
 use Rattle.osi_spdu.specs.Writing.{unit_octets, tsdu_octets, UnitFits, TsduFits}
 use Rattle.osi_message.proofs.what_can_be_sent_has_a_written_form.{HaveRoom, spelled_fits}
 use Rattle.osi_message.proofs.units_of_the_fast_path.{data_written}
 use Rattle.osi_message.proofs.what_is_written_means_it.{HaveDigits}
 use Rattle.osi_session.proofs.sent.what_an_accepted_call_sends.{sent_alone as call_alone, data_short as data_all_short}
 use Rattle.osi_session.specs.Allowed.{sends}
-use Rattle.osi_stack.proofs.Vocabulary.{nat_tests, Contents, Meaning, DT, IsSendable, unit_of, is_second, spelled, written, tsdus_of}
+use Rattle.osi_stack.proofs.Vocabulary.{nat_tests, Contents, Meaning, IsSendable, unit_of, is_second, spelled, written, tsdus_of}
 use Rattle.osi_stack.proofs.Vocabulary.{sent_alone, sent_short as parts_short, limit_of, AreShort, allowed, Step, octets_of, most_of}
 use Rattle.osi_stack.proofs.Vocabulary.{Passed, Call, IsSoundState as IsSound, SessionState as State}
 
@@ -37,21 +36,12 @@ pub record SpduLaws : Type 0 where
 pub sent_short : SpduLaws → (m : Meaning) → IsSendable m → (unit_of m).information ≡ [] → length (written m) ≤ 1048576
 sent_short law m h none = spelled_short m (is_second m) refl (spelled_fits law.room law.digits m h.numbered h.addressed h.short) none
 
-data_short : (octets : List ℕ) → nat_le (length octets) 1048572 ≡ true → length (written (DT octets)) ≤ 1048576
-data_short octets h = grind (arith, length, data_written, nat_tests)
-
 call_by : SpduLaws → (s : State) (c : Call) → nat_le (length (octets_of c)) (most_of c) ≡ true → IsSendable (sends s c) →
     length (written (sends s c)) ≤ 1048576
 unfolding unit_of
-call_by law s c size h = grind (arith, data_short, sent_short)
-
--- what an accepted call sends
-pub call_short : SpduLaws → (s : State) (c : Call) (x : Step) → Passed s c x → IsSendable x.sent → length (written x.sent) ≤ 1048576
-call_short law s c x passed sendable =
-    let is : x.sent ≡ sends s c = ap (λ (y : Step). y.sent) passed.gives in
-    subst (λ (m : Meaning). length (written m) ≤ 1048576) (sym is) (call_by law s c passed.size (subst IsSendable is sendable))
+call_by law s c size h = grind (arith, length, data_written, nat_tests, sent_short)
 
 -- each TSDU that it sends
 pub tsdus_short : SpduLaws → (s : State) (c : Call) (x : Step) → IsSound s → allowed s c ≡ Ok x → Passed s c x → IsSendable x.sent →
     AreShort (tsdus_of (limit_of s) x.sent)
-tsdus_short law s c x sound h passed sendable = grind (arith, data_all_short, parts_short, call_alone, sent_alone, call_short)
+tsdus_short law s c x sound h passed sendable = grind (arith, data_all_short, parts_short, call_alone, sent_alone, call_by)

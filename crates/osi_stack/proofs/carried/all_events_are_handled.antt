@@ -1,14 +1,12 @@
 -- An end that has not ended has handled all events of its carrier.
-use Rattle.std.proofs.Common.{ℕ, List, ◌∙◌}
+use Rattle.std.proofs.Common.{arith, ℕ, List}
 use Rattle.osi_stack.proofs.Vocabulary.{Fed, Input, connects, breaks, Feeds, to_session, End, Holding, IsAttended, Connect}
 use Rattle.osi_stack.proofs.carried.what_sessions_leave_of_the_carrier.{session_keeps}
 use Rattle.osi_stack.proofs.stream.what_feeding_keeps.{feeds_kept, breaks_kept}
 use Rattle.osi_stack.proofs.stream.what_was_written_is_read.{attended_kept}
 
 pub session_attended : (r : ℕ) (input : Input) (e : End) → IsAttended e → IsAttended (to_session r input e)
-session_attended r input e attended over =
-    let keeps = session_keeps r input e in
-    keeps.events ∙ attended (keeps.lasts over)
+session_attended r input e attended over = grind (arith, session_keeps)
 
 pub connect_attended : (c : Connect) (e : End) → IsAttended e → IsAttended (connects c e)
 connect_attended c e attended over = attended over

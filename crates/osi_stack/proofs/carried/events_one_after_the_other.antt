@@ -1,6 +1,6 @@
 -- Pending events are handled one after the other.
 use Rattle.std.proofs.Common.{◌≡◌, ℕ, ◌+◌, ◌<◌, ◌==◌, zero, suc, Bool, true, false, not, List, ◌∷◌, length, Option, Some, None, IsSome}
-use Rattle.std.proofs.Common.{is_some, refl, sym, ap, subst, ◌∙◌, inl, inr, arith, if◌then◌else◌, [], Result, Ok, Err}
+use Rattle.std.proofs.Common.{is_some, refl, sym, ap, subst, ◌∙◌, inl, arith, if◌then◌else◌, [], Result, Ok, Err}
 use Rattle.osi_carrier.specs.Happenings as events
 use Rattle.osi_carrier.specs.Lending.{carrying_lent, lent_event}
 use Rattle.osi_carrier.specs.Packets as carriers
@@ -45,14 +45,11 @@ pub heard_next : (old now : Holding) (event : Happening) (mid : Carrier) (new : 
     now.end.carrier ≡ record mid { events = event ∷ mid.events } →
     new.end ≡ hears event (with_carrier mid now.end) → new.held ≡ now.held → HasHeard old new
 heard_next old now event mid new so_far h is held =
-    let t = taken_is now.end event mid h in
     let fewer = heard_fewer now.end event mid h in
     let same = ap (λ (e : End). length e.carrier.events) is in
-    let before = so_far.left in
     record {
       count = suc so_far.count;
-      is = is ∙ ap (hears event) (sym t.rest) ∙ sym (ap (λ l. hears_first l now.end) t.first) ∙ ap hears_next so_far.is ∙
-          sym (one_later so_far.count old.end);
+      is = grind (arith, one_later);
       left = omega arith;
       held = held ∙ so_far.held;
     }
@@ -109,9 +106,6 @@ record IsOnly (lent : Lent) (carrier : Carrying) (lines : Rows Line) : Type 0 wh
 only_is : (lent : Lent) (carrier : Carrying) (lines : Rows Line) → carrier.state.events ≡ [] → IsOnly lent carrier lines
 only_is lent carrier lines none = grind arith
 
-heard_only : (e : End) (event : Happening) → e.carrier.events ≡ event ∷ [] → hears_all e ≡ hears event (with_events [] e)
-heard_only e event one = grind arith
-
 -- the events of what a carrier told were handled, or memory ran out for one of them
 pub record IsAttendedTo {A E : Type 0} (result : Result A E) (told : Carrying) (lines : Rows Line) (new : Holding) : Type 0 where
   pub ok : OnOk result (new.end ≡ hears_all (holding told lines).end)
@@ -123,7 +117,7 @@ lent_attended : {A E : Type 0} (result : Result A E) (lent : Lent) (carrier : Ca
     carrier.state.events ≡ [] → IsHeard result (lent_event lent) (holding carrier lines) new →
     IsAttendedTo result (carrying_lent (Some lent) carrier) lines new
 lent_attended (Ok a) lent carrier lines new none h =
-    grind (arith, heard_only, only_is lent carrier lines none, hears_keep (lent_event lent) (holding carrier lines).end)
+    grind (arith, only_is lent carrier lines none, hears_keep (lent_event lent) (holding carrier lines).end)
 lent_attended (Err e) lent carrier lines new none h =
     let only = only_is lent carrier lines none in
     record {
@@ -156,9 +150,6 @@ none_attended result other o carrier after now lines left rows is h a b d = grin
 
 -- ---- an allocation failure
 
-pub starved_is : (old mid : End) → LeftOff old mid → RunsOut old (starves mid)
-starved_is old mid left = grind arith
-
 -- ---- no event is queued
 
 pub no_events : {A : Type 0} (events : List A) → not (length events == 0) ≡ false → events ≡ []
@@ -187,23 +178,13 @@ all_keep_by (suc n) e = grind (arith, hears_keep, all_keep_by n (hears_next e))
 pub starved_over : (e : End) → is_some (starves e).carrier.ended ≡ true
 starved_over e = grind arith
 
-pub starved_attended : (e new : End) → new ≡ starves e → IsAttended new
-starved_attended e new h none = grind arith
-
-concluded_by : (b : Bool) (e : End) → (if b then record e { lines = all_lost e.lines } else e).carrier ≡ e.carrier
-concluded_by b e = grind arith
-
 pub concluded_carrier : (e : End) → (concludes e).carrier ≡ e.carrier
-concluded_carrier e = concluded_by (is_some e.carrier.ended) e
+concluded_carrier e = grind arith
 
 pub concluded_attended : (e new : End) → new ≡ concludes e → e.carrier.events ≡ [] → IsAttended new
 concluded_attended e new h none over = ap (λ (x : End). x.carrier.events) h ∙ ap (λ (c : Carrier). c.events) (concluded_carrier e) ∙ none
 
 -- ---- one look at the stream
-
-concluded_lines : (b : Bool) (e : End) (lines : Rows Line) → is_some e.carrier.ended ≡ b →
-    lines ≡ (if b then all_lost e.lines else e.lines) → record e { lines = lines } ≡ concludes e
-concluded_lines b e lines is h = grind arith
 
 -- the carrier took packets, and its events were handled
 pub fetched : (old : Holding) (octets : List ℕ) (fed : Fed) (told : Carrying) (heard : Holding) (lines : Rows Line) (b : Bool) →
@@ -212,7 +193,7 @@ pub fetched : (old : Holding) (octets : List ℕ) (fed : Fed) (told : Carrying) 
     is_some heard.end.carrier.ended ≡ b → lines ≡ (if b then all_lost heard.end.lines else heard.end.lines) →
     FeedsToEvent old octets fed.used (record heard { end = record heard.end { lines = lines } })
 fetched old octets fed told heard lines b feeds all none held over left =
-    let is : record heard.end { lines = lines } ≡ concludes heard.end = concluded_lines b heard.end lines over left in
+    let is : record heard.end { lines = lines } ≡ concludes heard.end = grind arith in
     record {
       fed = fed;
       told = told;
@@ -232,10 +213,6 @@ fetched_not old octets fed told heard new feeds left held is = record {
   told = told;
   feeds = feeds;
   held = ap (λ (h : Holding). h.held) is ∙ held;
-  heard = inr (
-    subst (RunsOut (with_carrier told.state old.end)) (sym (ap (λ (h : Holding). h.end) is))
-        (starved_is (with_carrier told.state old.end) heard.end left),
-    refl,
-  );
-  attended = starved_attended heard.end new.end (ap (λ (h : Holding). h.end) is);
+  heard = grind arith;
+  attended = grind arith;
 }

@@ -1,15 +1,13 @@
 -- Sessions keep their open transport connections, whatever event is handled.
 use Rattle.std.proofs.Common.{◌≡◌, ◌≢◌, ℕ, zero, suc, ◌==◌, Bool, true, false, not, ◌&&◌, ◌||◌, List, ◌∷◌, ◌++◌, length, Option, Some, None}
-use Rattle.std.proofs.Common.{is_some, IsSome, option_map, Result, refl, sym, ap, subst, ◌∙◌, inl, inr, ◌⊎◌, if◌then◌else◌, [], arith}
+use Rattle.std.proofs.Common.{IsSome, option_map, refl, sym, ap, subst, ◌∙◌, inl, inr, ◌⊎◌, [], arith}
 use Rattle.osi_carrier.specs.Happenings as told
-use Rattle.osi_stack.proofs.Vocabulary.{ne_eqb, eqb-true, eq-eqb, or_right, and-true, open_link, link_of, sent, sent_on, closes, closed_on}
-use Rattle.osi_stack.proofs.Vocabulary.{closed_with, sent_all, Happening, Rows, value_at, put, Connection, State as Carrier, is_open}
-use Rattle.osi_stack.proofs.Vocabulary.{open_after, SendError, put_here, push_here, put_other, push_other, put_none, put_same, told_of}
-use Rattle.osi_stack.proofs.Vocabulary.{sent_opens, closed_opens, Standing as Link, Class, Input, Listener, opened, refused, broken, came}
-use Rattle.osi_stack.proofs.Vocabulary.{came_as, react, said_at, Words, SpduFault, is_ended, awaits, Phase, opens, hears, hears_first}
-use Rattle.osi_stack.proofs.Vocabulary.{hears_next, hears_times, with_events, loses, all_lost, needs_link, AreApart, kept_at, by_line}
-use Rattle.osi_stack.proofs.Vocabulary.{to_session, Line, End, session_in, is_used, used_lines, joins, fresh_line, sent_unless, answers_by}
-use Rattle.osi_stack.proofs.Vocabulary.{input_of}
+use Rattle.osi_stack.proofs.Vocabulary.{eqb-true, eq-eqb, or_right, and-true, sent, closes, sent_all, Happening, Rows, value_at, put}
+use Rattle.osi_stack.proofs.Vocabulary.{Connection, State as Carrier, is_open, open_after, put_here, push_here, put_other, push_other}
+use Rattle.osi_stack.proofs.Vocabulary.{put_none, put_same, told_of, sent_opens, closed_opens, Input, Listener, opened, refused, broken}
+use Rattle.osi_stack.proofs.Vocabulary.{came, react, is_ended, awaits, Phase, opens, hears, hears_first, hears_next, hears_times}
+use Rattle.osi_stack.proofs.Vocabulary.{with_events, loses, all_lost, needs_link, AreApart, kept_at, to_session, Line, End, session_in}
+use Rattle.osi_stack.proofs.Vocabulary.{used_lines, joins, fresh_line, answers_by, input_of}
 use Rattle.osi_stack.proofs.carried.what_sessions_leave_of_the_carrier.{hears_keep}
 use Rattle.osi_stack.proofs.carried.packets_without_events.{both}
 use Rattle.osi_stack.proofs.carried.what_a_move_leaves.{lost_at, used_keep}
@@ -29,17 +27,8 @@ pub record SessionLaws : Type 0 where
 
 -- ---- what a session does to the carrier
 
-put_some_by : {X : Type 0} (r q : ℕ) (x : X) (rows : Rows X) (o : Option X) (b : Bool) → (r == q) ≡ b → value_at r rows ≡ o → IsSome o →
-    IsSome (value_at r (put q x rows))
-put_some_by r q x rows None b e at some = cc
-put_some_by {X} r q x rows (Some y) true e at some =
-    let same = eqb-true r q e in
-    let there = put_here r x y rows at in
-    subst (λ (n : ℕ). IsSome (value_at r (put n x rows))) same (ap is_some there)
-put_some_by r q x rows (Some y) false e at some = grind (arith, both, eq-eqb, put_other)
-
 pub put_some : {X : Type 0} (r q : ℕ) (x : X) (rows : Rows X) → IsSome (value_at r rows) → IsSome (value_at r (put q x rows))
-put_some r q x rows some = put_some_by r q x rows (value_at r rows) (r == q) refl refl some
+put_some r q x rows some = grind (arith, eqb-true, put_here, both, eq-eqb, put_other)
 
 -- after the answer of a session that closes its connection, or not
 pub record Answered (q : ℕ) (closes : Bool) (c d : Carrier) : Type 0 where
@@ -48,71 +37,26 @@ pub record Answered (q : ℕ) (closes : Bool) (c d : Carrier) : Type 0 where
   pub here : closes ≡ false → is_open q d ≡ is_open q c
   pub closing_here : closes ≡ true → d.ended ≡ None → (is_open q d ≡ is_open q c) ⊎ IsSome (value_at q d.live)
 
-sent_stays_by : (q : ℕ) (tsdu : List ℕ) (o : Option (ℕ × Link)) (c : Carrier) (r : ℕ) → IsSome (value_at r c.live) →
-    IsSome (value_at r (sent_on q tsdu o c).live)
-sent_stays_by q tsdu o c r some = grind (arith, put_some)
-
 all_open : (q r : ℕ) (tsdus : List (List ℕ)) (c : Carrier) → is_open r (sent_all q tsdus c) ≡ is_open r c
 all_open q r [] c = refl
 all_open q r (tsdu ∷ tsdus) c = all_open q r tsdus (sent q tsdu c) ∙ sent_opens q r tsdu c
 
 all_stay : (q r : ℕ) (tsdus : List (List ℕ)) (c : Carrier) → IsSome (value_at r c.live) → IsSome (value_at r (sent_all q tsdus c).live)
 all_stay q r [] c some = some
-all_stay q r (tsdu ∷ tsdus) c some = all_stay q r tsdus (sent q tsdu c) (sent_stays_by q tsdu (open_link q c) c r some)
-
-all_answered : (q : ℕ) (tsdus : List (List ℕ)) (c : Carrier) → Answered q false c (sent_all q tsdus c)
-all_answered q tsdus c = grind (arith, all_open, all_stay)
-
-hands_by : (q : ℕ) (tsdus : List (List ℕ)) (c : Carrier) (o : Option SendError) → Answered q false c (sent_unless o q tsdus c)
-hands_by q tsdus c None = all_answered q tsdus c
-hands_by q tsdus c (Some e) = grind arith
-
-live_of_link : (over : Bool) (o : Option Connection) (link : ℕ × Link) → (if over then None else link_of o) ≡ Some link → IsSome o
-live_of_link over o link e = grind arith
-
-closes_stays : (q peer : ℕ) (class : Option Class) (c : Carrier) → (closes q peer 128 class c).ended ≡ None → (r : ℕ) →
-    IsSome (value_at r c.live) →
-    IsSome (value_at r (closes q peer 128 class c).live)
-closes_stays q peer class c over r some = grind (arith, put_some)
-
-closed_stays_by : (q : ℕ) (o : Option (ℕ × Link)) (c : Carrier) → (closed_on q 128 o c).ended ≡ None → (r : ℕ) →
-    IsSome (value_at r c.live) →
-    IsSome (value_at r (closed_on q 128 o c).live)
-closed_stays_by q o c over r some = grind (arith, closes_stays)
-
-closing_by : (q : ℕ) (o : Option (ℕ × Link)) (c : Carrier) → open_link q c ≡ o → (closed_on q 128 o c).ended ≡ None →
-    (is_open q (closed_on q 128 o c) ≡ is_open q c) ⊎ IsSome (value_at q (closed_on q 128 o c).live)
-closing_by q o c e over = grind (arith, closed_stays_by, live_of_link)
-
-pub unlike : (q r : ℕ) → r ≢ q → (q == r) ≡ false
-unlike q r ne = ne_eqb q r (λ same. ne (sym same))
-
-closed_answered : (q : ℕ) (c : Carrier) → Answered q true c (closed_with q 128 c)
-closed_answered q c = grind (arith, closed_opens, unlike, and-true, closed_stays_by, closing_by)
+all_stay q r (tsdu ∷ tsdus) c some = all_stay q r tsdus (sent q tsdu c) (grind (arith, put_some))
 
 answered_by : (q : ℕ) (closes : Bool) (tsdus : List (List ℕ)) (c : Carrier) → Answered q closes c (answers_by closes q tsdus c)
-answered_by q closes tsdus c = grind (arith, closed_answered, hands_by)
+answered_by q closes tsdus c = grind (arith, closed_opens, and-true, put_some, all_open, all_stay)
 
 -- ---- the events that are still to be handled
-
-pub mono_or : (a b x : Bool) → (a ≡ true → b ≡ true) → (a || x) ≡ true → (b || x) ≡ true
-mono_or a b x imp h = grind (arith, or_right)
-
-mono_and : (a b x : Bool) → (a ≡ true → b ≡ true) → (a && x) ≡ true → (b && x) ≡ true
-mono_and a b x imp h = grind arith
 
 pub mono : (r : ℕ) (events : List Happening) (a b : Bool) → (a ≡ true → b ≡ true) → open_after r a events ≡ true →
     open_after r b events ≡ true
 mono r [] a b imp h = imp h
-mono r (told.opened q ∷ events) a b imp h = mono r events (a || (q == r)) (b || (q == r)) (mono_or a b (q == r) imp) h
-mono r (told.closed q reason ∷ events) a b imp h = mono r events (a && not (q == r)) (b && not (q == r)) (mono_and a b (not (q == r)) imp) h
-mono r (told.faulted q fault ∷ events) a b imp h = mono r events (a && not (q == r)) (b && not (q == r)) (mono_and a b (not (q == r)) imp) h
+mono r (told.opened q ∷ events) a b imp h = mono r events (a || (q == r)) (b || (q == r)) (grind (arith, or_right)) h
+mono r (told.closed q reason ∷ events) a b imp h = mono r events (a && not (q == r)) (b && not (q == r)) (grind arith) h
+mono r (told.faulted q fault ∷ events) a b imp h = mono r events (a && not (q == r)) (b && not (q == r)) (grind arith) h
 mono r (event ∷ events) a b imp h = mono r events a b imp h
-
--- one event that is handled
-later_false : (r : ℕ) (event : Happening) (rest : List Happening) → open_after r false rest ≡ true →
-    open_after r false (event ∷ rest) ≡ true
-later_false r event rest h = grind (arith, mono)
 
 -- ---- what is true of one reference while events wait
 
@@ -139,7 +83,7 @@ other_linked event rest r o c d ne same stays l = search (arith, event_other)
 -- no session is there
 none_linked : (event : Happening) (rest : List Happening) (r : ℕ) (o : Option Listener) (c : Carrier) → o ≡ None →
     IsLinked r o (event ∷ rest) c → IsLinked r o rest c
-none_linked event rest r o c none l = grind (arith, later_false)
+none_linked event rest r o c none l = search (arith, mono)
 
 -- the session there made its move
 here_linked : SessionLaws → (q : ℕ) (s : Listener) (input : Input) (event : Happening) (rest : List Happening) (c d : Carrier) (b : Bool) →
@@ -148,28 +92,18 @@ here_linked : SessionLaws → (q : ℕ) (s : Listener) (input : Input) (event : 
     (needs_link (react s input).next.state.phase ≡ true → open_after q true rest ≡ true → is_open q c ≡ true) →
     IsLinked q (Some s) (event ∷ rest) c → IsLinked q (Some (react s input).next) rest d
 here_linked laws q s input event rest c d false e a over needs l = record {
-  needed = λ t is n h.
-      let same : (react s input).next ≡ t = cc in
-      a.here e ∙ needs (ap (λ (x : Listener). needs_link x.state.phase) same ∙ n) h;
+  needed = grind (arith, react);
   fresh = elim l.fresh [
-    | inl f ↦ inl (λ h. a.here e ∙ f (later_false q event rest h))
-    | inr k ↦ inr (let same : k.session ≡ s = cc k.is in record {
-      live = a.stays over q k.live;
-      session = (react s input).next;
-      is = refl;
-      ended = laws.ended s input (ap (λ (x : Listener). is_ended x.state.phase) (sym same) ∙ k.ended);
-    })
+    | inl f ↦ inl (λ h. a.here e ∙ f (grind (arith, mono)))
+    | inr k ↦ search (arith, react)
   ];
 }
 here_linked laws q s input event rest c d true e a over needs l = record {
-  needed = λ t is n h.
-      let same : (react s input).next ≡ t = cc in
-      let none = laws.unneeded (react s input).next.state.phase (laws.closed s input e) in
-      both (needs_link (react s input).next.state.phase) (ap (λ (x : Listener). needs_link x.state.phase) same ∙ n) none;
+  needed = search (arith, react, both);
   fresh = elim (a.closing_here e over) [
     | inr live ↦ inr (record { live = live; session = (react s input).next; is = refl; ended = laws.closed s input e })
     | inl still ↦ elim l.fresh [
-      | inl f ↦ inl (λ h. still ∙ f (later_false q event rest h))
+      | inl f ↦ inl (λ h. still ∙ f (grind (arith, mono)))
       | inr k ↦ inr (record { live = a.stays over q k.live; session = (react s input).next; is = refl; ended = laws.closed s input e })
     ]
   ];
@@ -191,15 +125,8 @@ pub record HasRested (q : ℕ) (old new : End) : Type 0 where
 abbrev pub Hearing : ℕ → Input → End → End → Type 0
 Hearing q input old new = HasMoved q input old new ⊎ HasRested q old new
 
-line_hears : (q : ℕ) (input : Input) (e : End) (line : Line) (o : Option Listener) → value_at q e.lines ≡ Some line → line.session ≡ o →
-    Hearing q input e (by_line q (Some line) input e)
-line_hears q input e line o here is = grind (arith, put_same, put_here, put_other, answered_by)
-
-session_hears_by : (q : ℕ) (input : Input) (e : End) (o : Option Line) → value_at q e.lines ≡ o → Hearing q input e (by_line q o input e)
-session_hears_by q input e o here = grind (arith, line_hears)
-
 pub session_hears : (q : ℕ) (input : Input) (e : End) → Hearing q input e (to_session q input e)
-session_hears q input e = session_hears_by q input e (value_at q e.lines) refl
+session_hears q input e = grind (arith, put_same, put_here, put_other, answered_by)
 
 -- what is true of all references
 abbrev pub AllLinked : List Happening → End → Type 0
@@ -216,8 +143,7 @@ moved_linked laws q input event rest e d of m over needs l r true at =
     subst (λ (o : Option Listener). IsLinked q o (event ∷ rest) e.carrier) m.was (l q) in
     let after = here_linked laws q m.session input event rest e.carrier d.carrier (react m.session input).closes refl m.answered over
     (needs m.session m.was) before in
-    subst (λ (n : ℕ). IsLinked n (kept_at n d.lines) rest d.carrier) (sym same)
-    (subst (λ (o : Option Listener). IsLinked q o rest d.carrier) (sym m.is) after)
+    grind arith
 moved_linked laws q input event rest e d of m over needs l r false at =
     let ne : r ≢ q = (λ same. both (r == q) (eq-eqb r q same) at) in
     let other : r ≢ told_of event = (λ same. ne (same ∙ of)) in
@@ -267,23 +193,13 @@ abbrev pub Stays : ℕ → Rows Connection → Rows Line → Type 0
 Stays r live lines = (value_at r (used_lines live lines) ≡ value_at r lines) ⊎
     ((value_at r (used_lines live lines) ≡ None) × (value_at r live ≡ None))
 
-used_at_by : (r p : ℕ) (y : Line) (live : Rows Connection) (lines : Rows Line) (b u : Bool) → (p == r) ≡ b → is_used live (p, y) ≡ u →
-    value_at p lines ≡ None → Stays r live lines →
-    Stays r live ((p, y) ∷ lines)
-used_at_by r p y live lines b u e used alone more = grind arith
-
 pub used_at : (r : ℕ) (live : Rows Connection) (lines : Rows Line) → AreApart lines → Stays r live lines
 used_at r live [] apart = inl refl
-used_at r live ((p, y) ∷ lines) apart = grind (arith, used_at_by, used_at r live lines apart.1)
-
--- no line comes about
-used_none : (r : ℕ) (live : Rows Connection) (lines : Rows Line) → AreApart lines → value_at r lines ≡ None →
-    value_at r (used_lines live lines) ≡ None
-used_none r live lines apart none = grind (arith, used_at)
+used_at r live ((p, y) ∷ lines) apart = grind (arith, used_at r live lines apart.1)
 
 pub apart_used : (live : Rows Connection) (lines : Rows Line) → AreApart lines → AreApart (used_lines live lines)
 apart_used live [] apart = tt
-apart_used live ((p, y) ∷ lines) apart = grind (arith, used_keep, used_none, apart_used live lines apart.1)
+apart_used live ((p, y) ∷ lines) apart = grind (arith, used_keep, used_at, apart_used live lines apart.1)
 
 pub apart_joins : (r : ℕ) (s : Listener) (e : End) → value_at r e.lines ≡ None → AreApart e.lines → AreApart (joins r s e).lines
 apart_joins r s e none apart = apart_used e.carrier.live _ (apart_push r (fresh_line s) e.lines none apart)
@@ -294,23 +210,16 @@ apart_lost ((r, line) ∷ lines) apart = (lost_at r lines ∙ ap (option_map los
 
 -- ---- a new session
 
--- the connection of a session that is new
-joined_here : (q : ℕ) (rest : List Happening) (e : End) → value_at q e.lines ≡ None →
-    IsLinked q (kept_at q e.lines) (told.opened q ∷ rest) e.carrier →
-    open_after q true rest ≡ true → is_open q e.carrier ≡ true
-joined_here q rest e none l h = grind arith
-
 abbrev pub joined_lines : ℕ → Listener → Rows Line → Rows Line
 joined_lines q s lines = lines ++ (q, fresh_line s) ∷ []
 
 joined_by : (q : ℕ) (rest : List Happening) (e : End) → value_at q e.lines ≡ None → AllLinked (told.opened q ∷ rest) e →
     (r : ℕ) (b : Bool) → (r == q) ≡ b →
     Stays r e.carrier.live (joined_lines q awaits e.lines) → IsLinked r (kept_at r (joins q awaits e).lines) rest e.carrier
-joined_by q rest e none l r true at (inl same) = grind (arith, eqb-true, push_here, joined_here, mono)
+joined_by q rest e none l r true at (inl same) = grind (arith, eqb-true, push_here, mono)
 joined_by q rest e none l r true at (inr gone) =
     let before : kept_at r e.lines ≡ None = ap (λ n. kept_at n e.lines) (eqb-true r q at) ∙ ap session_in none in
-    subst (λ (o : Option Listener). IsLinked r o rest e.carrier) (before ∙ sym (ap session_in gone.0))
-    (none_linked (told.opened q) rest r (kept_at r e.lines) e.carrier before (l r))
+    grind (arith, none_linked (told.opened q) rest r (kept_at r e.lines) e.carrier before (l r))
 joined_by q rest e none l r false at (inl same) = grind (arith, both, eq-eqb, push_other, other_linked)
 joined_by q rest e none l r false at (inr gone) = grind (arith, both, eq-eqb, other_linked)
 
@@ -321,9 +230,6 @@ joined_linked q rest e apart none l =
     (used_at r e.carrier.live (joined_lines q awaits e.lines) (apart_push q _ e.lines none apart))
 
 -- ---- one event
-
-not_opened_by : (read : Result Words SpduFault) → came_as read ≡ opened → ⊥
-not_opened_by read e = grind arith
 
 pub broken_needs_none : (s : Listener) → needs_link (react s broken).next.state.phase ≡ false
 unfolding react
@@ -353,16 +259,13 @@ hears_linked laws (told.refused q reason) rest e apart over l =
     (λ s is n h. (l q).needed s is (laws.linked s (refused reason) (λ no. cc) n) h) l
 hears_linked laws (told.tsdu q octets) rest e apart over l =
     session_linked laws q (came octets) (told.tsdu q octets) rest e _ refl (session_hears q (came octets) e) over
-    (λ s is n h. (l q).needed s is (laws.linked s (came octets) (not_opened_by (said_at octets)) n) h) l
+    (λ s is n h. (l q).needed s is (laws.linked s (came octets) (grind arith) n) h) l
 hears_linked laws event rest e apart over l =
     session_linked laws (told_of event) broken event rest e _ refl (session_hears (told_of event) broken e) over
     (λ s is n h. both (needs_link (react s broken).next.state.phase) n (broken_needs_none s)) l
 
-line_apart : (q : ℕ) (input : Input) (e : End) (o : Option Line) → AreApart e.lines → AreApart (by_line q o input e).lines
-line_apart q input e o apart = grind (arith, apart_put)
-
 pub session_apart : (q : ℕ) (input : Input) (e : End) → AreApart e.lines → AreApart (to_session q input e).lines
-session_apart q input e apart = line_apart q input e (value_at q e.lines) apart
+session_apart q input e apart = grind (arith, apart_put)
 
 heard_apart : Hears (λ x. AreApart x.lines)
 heard_apart = grind (arith, apart_joins, awaits, session_apart, told_of, input_of)
@@ -401,8 +304,7 @@ times_linked laws [] e h apart over l = l
 times_linked laws (event ∷ rest) e h apart over l =
     let here = with_events rest e in
     let is = first_is event rest e h in
-    let lasts : (hears event here).carrier.ended ≡ None = ap (λ (x : End). x.carrier.ended) (sym is) ∙
-    times_last (length rest) (hears_next e) over in
+    let lasts : (hears event here).carrier.ended ≡ None = grind (arith, times_last) in
     let next : AllLinked rest (hears_next e) =
     subst (λ (x : End). AllLinked rest x) (sym is)
     (hears_linked laws event rest here apart lasts (λ r. untold_linked rest r (kept_at r e.lines) (event ∷ rest) e.carrier (l r))) in

@@ -53,14 +53,7 @@ pub lift_dry : (lines : Rows Line) (c d : Carrier) (units : List (List ℕ)) →
 lift_dry lines c d [] none h quiet = ap (λ (x : Carrier). record { carrier = x; lines = lines }) h
 lift_dry lines c d (u ∷ units) none h quiet =
     let next = carriers.after_packet c u in
-    let q = quiet_is next (next_quiet next d units h.1 quiet) in
-    let here : End = record { carrier = c; lines = lines } in
-    let there : End = record { carrier = next; lines = lines } in
-    let acted : after_packet here u ≡ there = packet_is here u ∙ quiet_attends there q in (
-      quiet_stops here (quiet_is c h.0).lasts none,
-      subst (λ (x : End). TakesPackets x units (record { carrier = d; lines = lines })) (sym acted)
-          (lift_dry lines next d units none h.1 quiet),
-    )
+    grind (arith, quiet_is, next_quiet, after_packet, packet_is, quiet_attends, quiet_stops, lift_dry lines next d units none h.1 quiet)
 
 -- ---- packets of which the last stops
 
@@ -134,10 +127,4 @@ pub lift_last : (lines : Rows Line) (c d : Carrier) (units : List (List ℕ)) (n
     TakesPackets (record { carrier = c; lines = lines }) units new
 lift_last lines c d units new none h quiet stopped is =
     let l = last_is c d units h quiet stopped in
-    let before : End = record { carrier = l.before; lines = lines } in
-    let acted : new ≡ after_packet before l.last =
-    is ∙ ap (λ (x : Carrier). attends (record { carrier = x; lines = lines })) l.acts ∙ sym (packet_is before l.last) in
-    subst (λ us. TakesPackets (record { carrier = c; lines = lines }) us new) (sym l.all)
-    (takes_append (record { carrier = c; lines = lines }) before new l.first (l.last ∷ [])
-    (lift_dry lines c l.before l.first none l.taken l.quiet)
-    (quiet_stops before (quiet_is l.before l.quiet).lasts none, acted))
+    grind (arith, takes_append, quiet_stops, packet_is, lift_dry lines c l.before l.first none l.taken l.quiet, quiet_is l.before l.quiet)

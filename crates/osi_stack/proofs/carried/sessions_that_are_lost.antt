@@ -2,7 +2,7 @@
 use Rattle.std.proofs.Common.{◌≡◌, ℕ, ◌+◌, ◌<◌, ◌==◌, zero, suc, Bool, List, [], ◌∷◌, ◌++◌, length, take, drop, map, get_or, set, arith}
 use Rattle.std.proofs.Common.{Some, None, Result, Ok, Err, OnErr, refl, sym, ap, ◌∙◌, if◌then◌else◌}
 use Rattle.osi_stack.proofs.Vocabulary.{append-nil, map-append, placed, here_is, Rows, value_at, place_of, put, Listener, broken, react}
-use Rattle.osi_stack.proofs.Vocabulary.{shows_loss, Shown, Lost, shown_by, Indication, shown_at_loss, loses, all_lost, Line}
+use Rattle.osi_stack.proofs.Vocabulary.{shows_loss, Shown, Lost, shown_by, Indication, loses, all_lost, Line}
 
 -- what a session indicates when it is lost
 lost_shown : (s : Listener) → (react s broken).shown ≡ (if shows_loss s.state.phase then Lost ∷ [] else [])
@@ -11,10 +11,7 @@ lost_shown s = refl
 
 pub lost_line : (s : Listener) (l : Line) (b : Bool) (waiting : List Shown) → l.session ≡ Some s → b ≡ shows_loss s.state.phase →
     waiting ≡ l.waiting ++ (if b then Lost ∷ [] else []) → record l { session = None; waiting = waiting } ≡ loses l
-lost_line s l b waiting e shows h =
-    ap (λ (w : List Shown). record l { session = None; waiting = w })
-    (h ∙ ap (λ (v : Bool). l.waiting ++ (if v then Lost ∷ [] else [])) shows
-    ∙ ap (λ v. l.waiting ++ v) (sym (lost_shown s)) ∙ ap (λ o. l.waiting ++ shown_at_loss o) (sym e))
+lost_line s l b waiting e shows h = grind (arith, lost_shown)
 
 -- one indication more
 pub one_more : (items new : List Indication) (i : Indication) (shown : Shown) → new ≡ items ++ i ∷ [] → shown_by i ≡ shown →
@@ -23,13 +20,10 @@ one_more items new i shown h e = ap (map shown_by) h ∙ map-append shown_by ite
 
 -- ---- all of them
 
-lost_twice : (l : Line) → loses (loses l) ≡ loses l
-lost_twice l = ap (λ (w : List Shown). record l { session = None; waiting = w }) (append-nil (l.waiting ++ shown_at_loss l.session))
-
 lost_put_by : (r q : ℕ) (y l : Line) (rows : Rows Line) (b : Bool) → (q == r) ≡ b →
     (value_at r rows ≡ Some l → all_lost (put r (loses l) rows) ≡ all_lost rows) →
     value_at r ((q, y) ∷ rows) ≡ Some l → all_lost (put r (loses l) ((q, y) ∷ rows)) ≡ all_lost ((q, y) ∷ rows)
-lost_put_by r q y l rows b t more h = grind (arith, all_lost, lost_twice, loses, value_at)
+lost_put_by r q y l rows b t more h = grind (arith, all_lost, append-nil, loses, value_at)
 
 -- a session that is lost already
 pub lost_put : (r : ℕ) (l : Line) (rows : Rows Line) → value_at r rows ≡ Some l → all_lost (put r (loses l) rows) ≡ all_lost rows

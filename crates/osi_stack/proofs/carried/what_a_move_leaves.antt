@@ -6,18 +6,17 @@ use Rattle.osi_carrier.specs.Happenings as told
 use Rattle.osi_carrier.specs.React as carriers
 use Rattle.osi_message.specs.Words as words
 use Rattle.osi_stack.specs.Messages.{part}
-use Rattle.osi_stack.proofs.Vocabulary.{nat_tests, list_any, Value, send_all_error, Happening, Rows, value_at, Connection, asked, linked}
-use Rattle.osi_stack.proofs.Vocabulary.{State as Carrier, put_here, put_other, Standing as Link, Meaning, said_by_units, said_at, words_of}
-use Rattle.osi_stack.proofs.Vocabulary.{IsSendable, words_sent, tsdus_of, tsdus_sent, behind_no_token, part_octets, written, spelled}
+use Rattle.osi_stack.proofs.Vocabulary.{nat_tests, list_any, Value, Happening, Rows, value_at, Connection, asked, linked, State as Carrier}
+use Rattle.osi_stack.proofs.Vocabulary.{put_here, put_other, Standing as Link, Meaning, said_by_units, said_at, words_of, IsSendable}
+use Rattle.osi_stack.proofs.Vocabulary.{words_sent, tsdus_of, tsdus_sent, behind_no_token, part_octets, written, spelled}
 use Rattle.osi_stack.proofs.Vocabulary.{Place as PartPlace, tsdu_at, Input, Listener, called, opened, refused, broken, taken, came, react}
-use Rattle.osi_stack.proofs.Vocabulary.{awaits, limit_of, Shown, first_shown, first_by, without_first, rest_by, has_given, send_refusal}
-use Rattle.osi_stack.proofs.Vocabulary.{move_refusal, session_refusal, call_error, carries_out, after_unit, opens, hears, hears_all}
-use Rattle.osi_stack.proofs.Vocabulary.{with_events, concludes, attends, shown_at_loss, loses, all_lost, Message, unit, ask, agree, deny}
-use Rattle.osi_stack.proofs.Vocabulary.{bye, IsWhole, put_by, puts, Acts, Effect, begins, happens, rests, effect_at, told_at, HasSession}
-use Rattle.osi_stack.proofs.Vocabulary.{AreShort, IsShort, CanHear, Hears, told_all, Arrives, kept_at, waiting_of, Becomes, IsGranted, Says}
-use Rattle.osi_stack.proofs.Vocabulary.{AreLost, shown_of, all_waiting, IsFirstOf, limit_for, line_by, to_session, Line, End, session_in}
-use Rattle.osi_stack.proofs.Vocabulary.{session_at, line_waits, waits, is_used, used_lines, joins, answers_by, Answer, allowed, Call}
-use Rattle.osi_stack.proofs.Vocabulary.{CallError}
+use Rattle.osi_stack.proofs.Vocabulary.{awaits, limit_of, Shown, first_shown, first_by, without_first, rest_by, move_refusal}
+use Rattle.osi_stack.proofs.Vocabulary.{session_refusal, call_error, carries_out, after_unit, opens, hears, hears_all, with_events}
+use Rattle.osi_stack.proofs.Vocabulary.{concludes, loses, all_lost, Message, unit, ask, agree, deny, bye, IsWhole, put_by, puts, Acts}
+use Rattle.osi_stack.proofs.Vocabulary.{Effect, begins, happens, rests, effect_at, told_at, AreShort, IsShort, CanHear, Hears, told_all}
+use Rattle.osi_stack.proofs.Vocabulary.{Arrives, kept_at, waiting_of, Becomes, IsGranted, Says, AreLost, shown_of, all_waiting, IsFirstOf}
+use Rattle.osi_stack.proofs.Vocabulary.{limit_for, line_by, to_session, Line, End, session_in, session_at, line_waits, waits, is_used}
+use Rattle.osi_stack.proofs.Vocabulary.{used_lines, joins, answers_by, Answer, allowed, Call, CallError}
 use Rattle.osi_stack.proofs.called.tsdus_that_are_handed_together.{hands_none, handed, puts_words}
 use Rattle.osi_stack.proofs.carried.events_one_after_the_other.{all_quiet}
 use Rattle.osi_stack.proofs.each_line.the_first_that_indicates.{quiet_line}
@@ -39,10 +38,6 @@ by_acts : (r : ℕ) (input : Input) (e : End) (line : Line) (s : Listener) → v
     Acts r input e (to_session r input e)
 by_acts r input e line s here is short = grind (arith, answers_put)
 
-pub acts_is : (r : ℕ) (input : Input) (e : End) (s : HasSession r e.lines) →
-    IsShort (limit_for s.session input) (react s.session input).reply → Acts r input e (to_session r input e)
-acts_is r input e s short = by_acts r input e s.line s.session s.here s.is short
-
 pub acts_becomes : (r : ℕ) (input : Input) (old new : End) (a : Acts r input old new) →
     Becomes r (react a.session input).next (react a.session input).shown old.lines new.lines
 acts_becomes r input old new a = grind (arith, line_by, value_at, put_here, session_in, waiting_of, react, put_other)
@@ -52,12 +47,6 @@ acts_becomes r input old new a = grind (arith, line_by, value_at, put_here, sess
 pub one_heard : (e : End) (event : Happening) → e.carrier.events ≡ event ∷ [] → hears_all e ≡ hears event (with_events [] e)
 one_heard e event h = grind arith
 
-attends_one : (e : End) (event : Happening) → e.carrier.events ≡ event ∷ [] → attends e ≡ concludes (hears event (with_events [] e))
-attends_one e event h = ap concludes (one_heard e event h)
-
-attends_none : (e : End) → e.carrier.events ≡ [] → attends e ≡ concludes (with_events [] e)
-attends_none e h = ap concludes (all_quiet e h ∙ sym (ap (λ (l : List Happening). with_events l e) (sym h)))
-
 arrives_by : (r : ℕ) (effect : Effect) (v : Value) (e heard : End) → Hears r effect (told_all v e) heard →
     after_unit e v ≡ concludes heard → Arrives r effect v e (after_unit e v)
 arrives_by r effect v e heard h is = record { heard = heard; hears = h; is = is }
@@ -66,8 +55,8 @@ happens_by : (r : ℕ) (input : Input) (event : Happening) (v : Value) (e : End)
     hears event (told_all v e) ≡ to_session r input (told_all v e) → CanHear r (happens input) e.lines →
     Arrives r (happens input) v e (after_unit e v)
 happens_by r input event v e h same can =
-    arrives_by r (happens input) v e (to_session r input (told_all v e)) (acts_is r input (told_all v e) can.0 can.1)
-    (attends_one (carries_out v e) event h ∙ ap concludes same)
+    arrives_by r (happens input) v e (to_session r input (told_all v e)) (search (arith, by_acts))
+    ((grind (arith, one_heard)) ∙ ap concludes same)
 
 pub record Readings : Type 0 where
   pub parts : (place : PartPlace) (octets : List ℕ) → said_at (part_octets place octets) ≡ Ok (behind_no_token (words.part place octets))
@@ -84,15 +73,14 @@ pub arrives : Readings → (r : ℕ) (place : Place) (m : Message) (v : Value) (
     CanHear r (effect_at place m) e.lines → Arrives r (effect_at place m) v e (after_unit e v)
 arrives law r never ask v e whole h can =
     arrives_by r begins v e (joins r awaits (told_all v e)) refl
-    (attends_one (carries_out v e) (told.opened r) h ∙ ap (λ o. concludes (opens r o (told_all v e))) can)
+    ((grind (arith, one_heard)) ∙ ap (λ o. concludes (opens r o (told_all v e))) can)
 arrives law r (was_given (Some asked)) agree v e whole h can =
     happens_by r opened (told.opened r) v e h (ap (λ o. opens r o (told_all v e)) can.0.here) can
 arrives law r (was_given (Some asked)) (deny reason) v e whole h can = happens_by r (refused reason) (told.refused r reason) v e h refl can
-arrives law r (was_given (Some (linked peer link))) (unit m) v e whole h can =
-    happens_by r (taken (words_of m)) (told.tsdu r (written m)) v e h (ap (λ i. to_session r i (told_all v e)) (came_is law m whole)) can
+arrives law r (was_given (Some (linked peer link))) (unit m) v e whole h can = search (arith, happens_by, came_is)
 arrives law r (was_given (Some (linked peer link))) (part place octets) v e whole h can = search (arith, happens_by, law.parts place octets)
 arrives law r (was_given (Some (linked peer link))) (bye reason) v e whole h can = happens_by r broken (told.closed r reason) v e h refl can
-arrives law r place m v e whole h can = arrives_by r rests v e (told_all v e) refl (attends_none (carries_out v e) h)
+arrives law r place m v e whole h can = arrives_by r rests v e (told_all v e) refl (grind (arith, all_quiet))
 
 -- ---- all are lost
 
@@ -105,14 +93,8 @@ pub lost_at : (r : ℕ) (lines : Rows Line) → value_at r (all_lost lines) ≡ 
 lost_at r [] = refl
 lost_at r ((q, line) ∷ lines) = lost_at_by r q line lines (q == r) refl (lost_at r lines)
 
-lost_none : (o : Option Line) → session_in (option_map loses o) ≡ None
-lost_none o = grind arith
-
-lost_waiting : (o : Option Line) → waiting_of (option_map loses o) ≡ waiting_of o ++ shown_at_loss (session_in o)
-lost_waiting o = grind arith
-
 pub are_lost : (lines : Rows Line) → AreLost lines (all_lost lines)
-are_lost lines = grind (arith, session_in, lost_at, lost_none, value_at, waiting_of, lost_waiting)
+are_lost lines = grind (arith, session_in, lost_at, value_at, waiting_of)
 
 -- ---- all that is pending
 
@@ -162,13 +144,10 @@ all_short : (tsdus : List (List ℕ)) → list_any (λ (t : List ℕ). nat_lt 10
 all_short [] h = tt
 all_short (tsdu ∷ tsdus) h = short_if (nat_lt 1048576 (length tsdu)) tsdu tsdus refl (all_short tsdus) h
 
-unsent_link : (o : Option (ℕ × Link)) (tsdus : List (List ℕ)) → send_refusal (send_all_error tsdus o) ≡ None → HasLink o tsdus
-unsent_link o tsdus h = grind (arith, all_short)
-
 granted_by : (r : ℕ) (call : Call) (s : Listener) (c : Carrier) (a : Answer) → allowed s.state call ≡ a →
     move_refusal r (limit_of s.state) (react s (called call)) c ≡ None → IsGranted r call s c
 unfolding react
-granted_by r call s c a e h = grind (arith, unsent_link)
+granted_by r call s c a e h = grind (arith, all_short)
 
 pub line_of : (b : Bool) (o : Option Line) (s : Listener) → (if b then session_in o else None) ≡ Some s →
     (line : Line) × (o ≡ Some line) × (line.session ≡ Some s)
@@ -192,8 +171,7 @@ given_by : (b : Bool) (o : Option CallError) → (if not b then Some error.NoSuc
 given_by b o h = grind arith
 
 pub says_is : (r : ℕ) (call : Call) (e : End) → call_error r call e ≡ None → Says r call e (to_session r (called call) e)
-says_is r call e h =
-    says_at r call e (session_at r e) refl (given_by (has_given r e.carrier) (session_refusal r (session_at r e) call e.carrier) h)
+says_is r call e h = search (arith, says_at, given_by)
 
 -- ---- a new line
 

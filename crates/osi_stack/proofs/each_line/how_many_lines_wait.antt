@@ -1,10 +1,10 @@
 -- How many lines have pending indications.
-use Rattle.std.proofs.Common.{◌≡◌, ℕ, ◌+◌, ◌<◌, ◌≤◌, ◌==◌, ◌||◌, Bool, zero, suc, true, false, not, cond, List, [], ◌∷◌, ◌++◌, length}
-use Rattle.std.proofs.Common.{get_or, set, nat_lt, Option, Some, None, Result, OnOk, OnErr, refl, sym, ap, ◌∙◌, arith}
+use Rattle.std.proofs.Common.{◌≡◌, ℕ, ◌+◌, ◌<◌, ◌==◌, ◌||◌, Bool, zero, suc, true, false, not, cond, List, [], ◌∷◌, ◌++◌, length, get_or}
+use Rattle.std.proofs.Common.{set, nat_lt, Some, None, Result, OnOk, OnErr, refl, sym, ap, ◌∙◌, arith}
 use Rattle.osi_carrier.proofs.references.rows_in_order.{set_rise}
 use Rattle.osi_stack.proofs.Vocabulary.{position, position_or_len, lt-ltb, eqb-true, common_steps, length-set, sum_by-cons, sum_by-set}
-use Rattle.osi_stack.proofs.Vocabulary.{count_by-le-length, position_or_len_is, placed, RiseFrom, Rows, place_of, Input, Listener, Shown}
-use Rattle.osi_stack.proofs.Vocabulary.{Lost, loses, line_by, Line, line_waits, waits, how_many_wait}
+use Rattle.osi_stack.proofs.Vocabulary.{count_by-le-length, position_or_len_is, placed, RiseFrom, Rows, place_of, Input, Shown, Lost, loses}
+use Rattle.osi_stack.proofs.Vocabulary.{line_by, Line, line_waits, waits, how_many_wait}
 use Rattle.osi_stack.proofs.each_line.the_first_that_indicates.{IsNone, quiet_none}
 
 -- ---- one has, or none
@@ -76,14 +76,9 @@ room_at : (rows : Rows Line) (i : ℕ) (row : ℕ × Line) → i < length rows �
     how_many_wait rows < length rows
 unfolding any_waiting
 room_at rows i row within here h =
-    let quiet : line_waits (get_or rows i row).1 ≡ false = ap (λ (x : ℕ × Line). line_waits x.1) (sym here) ∙ h in
-    let none : cond {A = ℕ} (line_waits (get_or rows i row).1) 1 0 ≡ 0 = ap (λ (b : Bool). cond {A = ℕ} b 1 0) quiet in
     let more : how_many_wait (set rows i any_waiting) + cond {A = ℕ} (line_waits (get_or rows i row).1) 1 0 ≡ how_many_wait rows + 1 =
     sum_by-set (λ x. cond (line_waits x.1) 1 0) rows i any_waiting row within in
-    let most : how_many_wait (set rows i any_waiting) ≤ length (set rows i any_waiting) =
-    count_by-le-length (λ x. line_waits x.1) (set rows i any_waiting) in
-    let same : length (set rows i any_waiting) ≡ length rows = length-set rows i any_waiting in
-    omega arith
+    grind (arith, set, any_waiting, count_by-le-length, length-set)
 
 -- if nothing is pending for the line of a reference, it is not counted
 pub room_of : (r : ℕ) (rows items : Rows Line) (i : ℕ) (row : ℕ × Line) (waiting lines : ℕ) → place_of r rows ≡ Some i →
@@ -106,21 +101,15 @@ set_kept waiting counted rises before after rows i row new kept here within name
 
 -- ---- a line whose session receives something
 
-some_wait : (n : ℕ) (b : Bool) → (suc n == 0) ≡ b → not b ≡ true
-some_wait n b e = grind (arith, eqb-true)
-
 more_wait : (w more : List Shown) → not (length w == 0) ≡ true → not (length (w ++ more) == 0) ≡ true
 more_wait [] more h = absurd (cc)
-more_wait (x ∷ w) more h = some_wait (length (w ++ more)) (suc (length (w ++ more)) == 0) refl
-
-line_stays : (l : Line) (o : Option Listener) (input : Input) → line_waits l ≡ true → line_waits (line_by l o input) ≡ true
-line_stays l o input h = grind (arith, more_wait)
+more_wait (x ∷ w) more h = grind (arith, eqb-true)
 
 -- what was pending there stays pending
 pub heard_stays : {A E : Type 0} (result : Result A E) (row new : ℕ × Line) (input : Input) →
     OnOk result (new ≡ (row.0, line_by row.1 row.1.session input)) →
     OnErr result (new ≡ (row.0, loses row.1)) → line_waits row.1 ≡ true → line_waits new.1 ≡ true
-heard_stays result row new input ok lost h = grind (arith, line_stays, more_wait)
+heard_stays result row new input ok lost h = grind (arith, more_wait)
 
 -- a line that has no pending indication afterwards had none before
 pub still_quiet : (before after : Bool) → (before ≡ true → after ≡ true) → after ≡ false → before ≡ false

@@ -1,24 +1,21 @@
 -- The lines of an end are in the order of their references, whatever packets come.
-use Rattle.std.proofs.Common.{◌≡◌, ℕ, zero, suc, ◌+◌, ◌<◌, ◌==◌, Bool, true, false, not, List, ◌∷◌, ◌++◌, length, Option, Some, None}
-use Rattle.std.proofs.Common.{Result, Ok, Err, is_some, IsSome, refl, sym, ap, subst, ◌∙◌, inl, inr, arith, if◌then◌else◌, []}
+use Rattle.std.proofs.Common.{◌≡◌, ℕ, zero, suc, ◌+◌, ◌<◌, ◌==◌, Bool, true, false, List, ◌∷◌, ◌++◌, length, Option, Some, None, IsSome}
+use Rattle.std.proofs.Common.{refl, sym, ap, subst, ◌∙◌, inl, inr, arith, []}
 use Rattle.osi_carrier.specs.Packets as carriers
-use Rattle.osi_carrier.specs.declared.faults.OpenError.TheVariants.{NotCaller}
-use Rattle.osi_stack.proofs.Vocabulary.{eqb-true, eq-eqb, Fed, units_of, Value, TpduFault, Standing as Link, Class, Local, may_connect}
-use Rattle.osi_stack.proofs.Vocabulary.{sent_on, closes, closed_on, Happening, RiseFrom, AreUpTo, IsOrderly, told_of, Rows, value_at}
-use Rattle.osi_stack.proofs.Vocabulary.{Connection, asked, State as Carrier, EndReason, Broken, NoMemory, OpenError, beyond, push_here}
-use Rattle.osi_stack.proofs.Vocabulary.{push_other, free_of, none_of, Input, opened as linked_up, calls_with, connects, connect_error}
-use Rattle.osi_stack.proofs.Vocabulary.{terms_error, breaks, carried, without_first, Feeds, opens, hears, hears_next, hears_times}
-use Rattle.osi_stack.proofs.Vocabulary.{hears_all, with_events, with_carrier, attends, after_packet, ends, starves, loses, all_lost}
-use Rattle.osi_stack.proofs.Vocabulary.{Starves, AreApart, Soundness, IsSound, by_line, to_session, IsOrdered, Line, End, Holding}
-use Rattle.osi_stack.proofs.Vocabulary.{IsAttended, fresh_end, used_lines, fresh_line, Connect, input_of, told_opened as opened}
-use Rattle.osi_stack.proofs.Vocabulary.{carrier_ends}
+use Rattle.osi_stack.proofs.Vocabulary.{eqb-true, eq-eqb, Fed, Standing as Link, Local, may_connect, closed_on, Happening, RiseFrom}
+use Rattle.osi_stack.proofs.Vocabulary.{AreUpTo, IsOrderly, told_of, Rows, value_at, Connection, asked, State as Carrier, EndReason, Broken}
+use Rattle.osi_stack.proofs.Vocabulary.{beyond, push_here, push_other, free_of, none_of, Input, opened as linked_up, connects}
+use Rattle.osi_stack.proofs.Vocabulary.{connect_error, terms_error, breaks, carried, without_first, Feeds, opens, hears, hears_next}
+use Rattle.osi_stack.proofs.Vocabulary.{hears_times, hears_all, with_events, with_carrier, attends, after_packet, ends, starves, loses}
+use Rattle.osi_stack.proofs.Vocabulary.{all_lost, Starves, Soundness, IsSound, to_session, IsOrdered, Line, End, Holding, IsAttended}
+use Rattle.osi_stack.proofs.Vocabulary.{fresh_end, used_lines, Connect, input_of, told_opened as opened, put_up}
 use Rattle.osi_stack.proofs.carried.events_one_after_the_other.{times_quiet}
 use Rattle.osi_stack.proofs.carried.packets_without_events.{both, packet_is}
 use Rattle.osi_stack.proofs.carried.open_connections_stay_open.{SessionLaws, first_is, rest_is, used_at, apart_push, joined_lines, put_some}
-use Rattle.osi_stack.proofs.opening.connections_that_units_open.{AwaitedBefore, awaited_put, linked_not_asked, closing_not_asked, opened_in}
-use Rattle.osi_stack.proofs.opening.connections_that_units_open.{Rises, AreAwaited, OpensAlong, along_units, along_end, along_over}
+use Rattle.osi_stack.proofs.opening.connections_that_units_open.{AwaitedBefore, awaited_put, opened_in, Rises, AreAwaited, OpensAlong}
+use Rattle.osi_stack.proofs.opening.connections_that_units_open.{along_units, along_end, along_over}
 use Rattle.osi_stack.proofs.each_line.references_rise.{rise_joins, rise_lost, rise_first, rise_session, rise_connect}
-use Rattle.osi_stack.proofs.sound.the_invariant_is_kept.{up_more, open_none, session_up, hale_kept, IsHale}
+use Rattle.osi_stack.proofs.sound.the_invariant_is_kept.{up_more, open_none, hale_kept, IsHale}
 use Rattle.osi_stack.proofs.carried.what_each_step_preserves.{Carries, session_carried, events_heard, concluded_end, broken_end}
 use Rattle.osi_stack.proofs.stream.what_feeding_keeps.{IsKeptBeside, feeds_beside}
 use Rattle.osi_stack.proofs.carried.what_a_move_leaves.{used_keep, first_keep}
@@ -29,33 +26,21 @@ pub record Leaves (old new : Carrier) : Type 0 where
   pub side : new.is_caller ≡ old.is_caller
   pub awaited : AwaitedBefore old.live new.live
 
-left : (c : Carrier) → Leaves c c
-left c = record { side = refl; awaited = λ q h. h }
-
-sent_leaves : (r : ℕ) (octets : List ℕ) (o : Option (ℕ × Link)) (c : Carrier) → Leaves c (sent_on r octets o c)
-sent_leaves r octets o c = grind (arith, left, awaited_put, linked_not_asked)
-
-then_leaves : (a b c : Carrier) → Leaves a b → Leaves b c → Leaves a c
-then_leaves a b c h k = record { side = k.side ∙ h.side; awaited = λ q e. h.awaited q (k.awaited q e) }
-
-closes_leaves : (r peer reason : ℕ) (class : Option Class) (c : Carrier) → Leaves c (closes r peer reason class c)
-closes_leaves r peer reason class c = grind (arith, awaited_put, closing_not_asked)
-
 pub closed_leaves : (r reason : ℕ) (o : Option (ℕ × Link)) (c : Carrier) → Leaves c (closed_on r reason o c)
-closed_leaves r reason o c = grind (arith, left, closes_leaves)
+closed_leaves r reason o c = grind (arith, awaited_put)
 
 sessions_leave : (c : Carrier) → Carries (Leaves c)
-sessions_leave c = grind (arith, then_leaves, sent_leaves, closed_leaves)
+sessions_leave c = grind (arith, awaited_put, closed_leaves)
 
 session_leaves : (r : ℕ) (input : Input) (e : End) → Leaves e.carrier (to_session r input e).carrier
-session_leaves r input e = session_carried (Leaves e.carrier) (sessions_leave e.carrier) r input e (left e.carrier)
+session_leaves r input e = session_carried (Leaves e.carrier) (sessions_leave e.carrier) r input e (grind arith)
 
 times_leave : (n : ℕ) (e : End) → Leaves e.carrier (hears_times n e).carrier
 times_leave n e =
     events_heard (λ x. Leaves e.carrier x.carrier) (λ events x l. record { side = l.side; awaited = l.awaited }) (record {
       begins = λ r x none l. l;
       moves = λ event x l. session_carried (Leaves e.carrier) (sessions_leave e.carrier) (told_of event) (input_of event) x l;
-    }) n e (left e.carrier)
+    }) n e (grind arith)
 
 -- ---- a line that is there
 
@@ -72,11 +57,6 @@ has_first : (r : ℕ) (lines : Rows Line) → IsSome (value_at r lines) → IsSo
 has_first r [] h = h
 has_first r ((p, y) ∷ lines) h = grind (arith, first_keep, has_cons, has_first r lines)
 
--- that of a live connection is of use
-has_used : (r : ℕ) (live : Rows Connection) (lines : Rows Line) → AreApart lines → value_at r live ≡ Some asked →
-    IsSome (value_at r lines) → IsSome (value_at r (used_lines live lines))
-has_used r live lines apart here h = grind (arith, used_at, asked)
-
 -- ---- the events of a caller
 
 abbrev pub HaveLines : Rows Line → List ℕ → Type 0
@@ -92,24 +72,10 @@ pub record Heard (old new : End) : Type 0 where
   pub rise : RiseFrom 0 new.lines
   pub kept : (r : ℕ) → IsSome (value_at r old.lines) → IsSome (value_at r new.lines)
 
-kept_by : (r : ℕ) (input : Input) (e : End) (o : Option Line) (q : ℕ) → IsSome (value_at q e.lines) →
-    IsSome (value_at q (by_line r o input e).lines)
-kept_by r input e o q h = grind (arith, put_some)
-
-session_heard : (r : ℕ) (input : Input) (e : End) → RiseFrom 0 e.lines → Heard e (to_session r input e)
-session_heard r input e rise = record { rise = rise_session r input e rise; kept = kept_by r input e (value_at r e.lines) }
-
-opens_heard : (r : ℕ) (o : Option Line) (e : End) → IsSome o → RiseFrom 0 e.lines → Heard e (opens r o e)
-opens_heard r o e some rise = grind (arith, session_heard)
-
 pub one_heard : (event : Happening) (rest : List Happening) (e : End) → HaveLines e.lines (opened_in (event ∷ rest)) → RiseFrom 0 e.lines →
     Heard e (hears event e)
-one_heard (opened r) rest e all rise = opens_heard r (value_at r e.lines) e all.0 rise
-one_heard event rest e all rise = session_heard (told_of event) _ e rise
-
-pub have_rest : (event : Happening) (rest : List Happening) (lines : Rows Line) → HaveLines lines (opened_in (event ∷ rest)) →
-    HaveLines lines (opened_in rest)
-have_rest event rest lines all = grind arith
+one_heard (opened r) rest e all rise = grind (arith, put_some, rise_session)
+one_heard event rest e all rise = grind (arith, put_some, rise_session)
 
 times_heard : (n : ℕ) (l : List Happening) (e : End) → e.carrier.events ≡ l → HaveLines e.lines (opened_in l) → RiseFrom 0 e.lines →
     Heard e (hears_times n e)
@@ -122,7 +88,7 @@ times_heard (suc n) (event ∷ rest) e h all rise =
     let kept : (r : ℕ) → IsSome (value_at r e.lines) → IsSome (value_at r (hears_next e).lines) =
     λ r some. subst (λ (x : End). IsSome (value_at r x.lines)) (sym is) (one.kept r some) in
     let more = times_heard n rest (hears_next e) (rest_is event rest e h)
-    (have_still e.lines (hears_next e).lines (opened_in rest) kept (have_rest event rest e.lines all)) risen in
+    (have_still e.lines (hears_next e).lines (opened_in rest) kept (grind arith)) risen in
     record { rise = more.rise; kept = λ r some. more.kept r (kept r some) }
 
 -- ---- the events of a called end
@@ -140,7 +106,7 @@ record HeardUpTo (n : ℕ) (new : End) : Type 0 where
   up : AreUpTo n new.lines
 
 session_risen : (n r : ℕ) (input : Input) (e : End) → RiseFrom 0 e.lines → AreUpTo n e.lines → HeardUpTo n (to_session r input e)
-session_risen n r input e rise up = record { rise = rise_session r input e rise; up = session_up n r input e up }
+session_risen n r input e rise up = record { rise = rise_session r input e rise; up = (grind (arith, put_up)) }
 
 opens_up : (n r : ℕ) (o : Option Line) (e : End) → n < r → RiseFrom 0 e.lines → AreUpTo n e.lines → HeardUpTo r (opens r o e)
 opens_up n r None e above rise up = search (arith, rise_joins, up_used, up_push)
@@ -180,11 +146,7 @@ heard_by true n e c caller none known o a =
     let mid = with_carrier c e in
     let events : c.events ≡ a.told = a.events ∙ ap (λ (l : List Happening). l ++ a.told) none in
     let heard = times_heard n a.told mid events (awaited_lines e (opened_in a.told) o (a.caller caller)) o.rise in
-    let leaves = times_leave n mid in
-    record {
-      rise = heard.rise;
-      awaiting = λ r h. (leaves.side ∙ a.side ∙ caller, heard.kept r (o.awaiting r (a.awaited r (leaves.awaited r h))).1);
-    }
+    grind (arith, times_leave)
 heard_by false n e c is_called none known o a = grind (arith, both, times_up, times_leave)
 
 heard_ordered : (n : ℕ) (e : End) (c : Carrier) → e.carrier.events ≡ [] → AreUpTo e.carrier.given e.lines → IsOrdered e →
@@ -201,50 +163,31 @@ attends_ordered e c none known o a =
 
 -- ---- a packet
 
-acts_along : (units : Result (List Value) TpduFault) (c : Carrier) → IsOrderly c → OpensAlong c (carriers.acts_by units c)
-acts_along (Ok units) c orderly = along_units units c orderly
-acts_along (Err fault) c orderly = along_over c _
-
 pub packet_along : (packet : List ℕ) (c : Carrier) → IsOrderly c → OpensAlong c (carriers.after_packet c packet)
 unfolding carriers.after_packet
-packet_along packet c orderly = acts_along (units_of packet) c orderly
+packet_along packet c orderly = grind (arith, along_units, along_over)
 
 pub packet_ordered : (packet : List ℕ) (e : End) → e.carrier.events ≡ [] → Soundness e → IsOrdered e → IsOrdered (after_packet e packet)
-packet_ordered packet e none s o =
-    subst IsOrdered (sym (packet_is e packet))
-    (attends_ordered e (carriers.after_packet e.carrier packet) none s.known o (packet_along packet e.carrier s.orderly))
+packet_ordered packet e none s o = search (arith, packet_is, attends_ordered, packet_along)
 
 -- ---- the end
 
 ends_ordered : (reason : EndReason) (e : End) → IsOrdered e → IsOrdered (ends reason e)
 ends_ordered reason e o = record { rise = rise_lost 0 e.lines o.rise; awaiting = λ r h. cc }
 
-starves_by : (b : Bool) (e : End) → IsOrdered e →
-    IsOrdered (record { carrier = if b then e.carrier else carrier_ends NoMemory e.carrier; lines = all_lost e.lines })
-starves_by b e o = grind (arith, lost_ordered, rise_lost)
-
 starves_ordered : (e : End) → IsOrdered e → IsOrdered (starves e)
-starves_ordered e o = starves_by (is_some e.carrier.ended) e o
-
-out_along : (units : List Value) (old new : Carrier) → carriers.RunsOut old units new → IsOrderly old → OpensAlong old new
-out_along units old new h orderly = grind (arith, along_end, along_units)
-
-acted_along : (units : Result (List Value) TpduFault) (old new : Carrier) → carriers.ActsBy units old new → IsOrderly old →
-    OpensAlong old new
-acted_along (Ok units) old new (inl is) orderly = subst (OpensAlong old) (sym is) (along_units units old orderly)
-acted_along (Ok units) old new (inr h) orderly = out_along units old new h orderly
-acted_along (Err fault) old new is orderly = subst (OpensAlong old) (sym is) (along_over old _)
+starves_ordered e o = grind (arith, lost_ordered, rise_lost)
 
 untold : (rest : List Happening) (e : End) → IsOrdered e → IsOrdered (with_events rest e)
 untold rest e o = record { rise = o.rise; awaiting = o.awaiting }
 
 starved_ordered : (e new : End) (packet : List ℕ) → Starves e packet new → e.carrier.events ≡ [] → Soundness e → IsOrdered e → IsOrdered new
 starved_ordered e new packet (inl h) none s o =
-    subst IsOrdered (sym h.2) (attends_ordered e h.0 none s.known o (out_along h.1.0 e.carrier h.0 h.1.2 s.orderly))
+    subst IsOrdered (sym h.2) (attends_ordered e h.0 none s.known o (grind (arith, along_end, along_units)))
 starved_ordered e new packet (inr h) none s o =
     let mid = hears_times h.2.heard (with_carrier h.0 e) in
     subst IsOrdered (sym h.2.starved) (starves_ordered (with_events h.2.more mid)
-    (untold h.2.more mid (heard_ordered h.2.heard e h.0 none s.known o (acted_along (units_of packet) e.carrier h.0 h.1 s.orderly))))
+    (untold h.2.more mid (heard_ordered h.2.heard e h.0 none s.known o (grind (arith, along_units, along_end, along_over)))))
 
 -- ---- feeding
 
@@ -264,33 +207,19 @@ feeds_ordered laws old new piece fed h attended sound ordered = grind (arith, fe
 pub fresh_ordered : (is_caller : Bool) (local : Local) → IsOrdered (fresh_end is_caller local)
 fresh_ordered is_caller local = record { rise = tt; awaiting = λ r h. cc }
 
-caller_by : (b : Bool) (o : Option OpenError) → (if not b then Some NotCaller else o) ≡ None → b ≡ true
-caller_by b o h = grind arith
-
--- the new connection, and those before it
-joined_has : (r q : ℕ) (x : Line) (e : End) (b : Bool) → (r == q) ≡ b → value_at q e.lines ≡ None → IsOrdered e →
-    value_at r (e.carrier.live ++ (q, asked) ∷ []) ≡ Some asked →
-    IsSome (value_at r (e.lines ++ (q, x) ∷ []))
-joined_has r q x e b at none o h = grind (arith, eqb-true, push_here, both, eq-eqb, push_other)
-
 pub connect_ordered : (c : Connect) (e : End) → connect_error c e ≡ None → IsSound e → IsOrdered e → IsOrdered (connects c e)
 connect_ordered c e allowed sound o =
     let may = open_none (may_connect e.carrier) (terms_error c) allowed in
     let s = sound (none_of e.carrier.ended (free_of e.carrier may).lasts) in
     let q = e.carrier.given + 1 in
     let none : value_at q e.lines ≡ None = beyond q e.carrier.given e.lines s.known (omega arith) in
-    let x : Line = fresh_line (calls_with c) in
     record {
       rise = rise_connect c e s o.rise;
-      awaiting = λ r h. (
-        (caller_by e.carrier.is_caller _ may),
-        has_used r (e.carrier.live ++ (q, asked) ∷ []) (joined_lines q (calls_with c) e.lines) (apart_push q x e.lines none s.apart) h
-            (joined_has r q x e (r == q) refl none o h),
-      );
+      awaiting = λ r h. grind (arith, used_at, asked, joined_lines, apart_push, eqb-true, push_here, both, eq-eqb, push_other);
     }
 
 pub call_ordered : (r : ℕ) (input : Input) (e : End) → IsOrdered e → IsOrdered (to_session r input e)
-call_ordered r input e o = grind (arith, session_heard r input e o.rise, session_leaves r input e)
+call_ordered r input e o = grind (arith, put_some, rise_session, session_leaves r input e)
 
 pub first_ordered : (e : End) → IsOrdered e → IsOrdered (record e { lines = without_first e.lines })
 first_ordered e o = grind (arith, rise_first, has_first)

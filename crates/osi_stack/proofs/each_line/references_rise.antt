@@ -1,9 +1,8 @@
 -- The lines of an end are in the order in which their references were given.
-use Rattle.std.proofs.Common.{◌≡◌, ℕ, ◌+◌, ◌<◌, zero, suc, take, [], ◌∷◌, ◌++◌, Option, option_map, refl, sym, subst, arith}
-use Rattle.osi_stack.proofs.Vocabulary.{Value, tsap_octets, asks, RiseFrom, AreUpTo, Rows, value_at, Connection, rise_lower, put_rise}
-use Rattle.osi_stack.proofs.Vocabulary.{Input, Listener, awaits, calls_with, connects, breaks, without_first, all_lost, Soundness, Effect}
-use Rattle.osi_stack.proofs.Vocabulary.{begins, happens, rests, Hears, Arrives, told_all, by_line, to_session, Line, End, used_lines, joins}
-use Rattle.osi_stack.proofs.Vocabulary.{Connect}
+use Rattle.std.proofs.Common.{◌≡◌, ℕ, ◌+◌, ◌<◌, zero, suc, take, [], ◌∷◌, ◌++◌, option_map, refl, sym, subst, arith}
+use Rattle.osi_stack.proofs.Vocabulary.{Value, tsap_octets, asks, RiseFrom, AreUpTo, Rows, Connection, rise_lower, put_rise, Input}
+use Rattle.osi_stack.proofs.Vocabulary.{Listener, awaits, calls_with, connects, breaks, without_first, all_lost, Soundness, Effect, begins}
+use Rattle.osi_stack.proofs.Vocabulary.{happens, rests, Hears, Arrives, told_all, to_session, Line, End, used_lines, joins, Connect}
 use Rattle.osi_stack.proofs.carried.what_each_step_preserves.{concluded_end, broken_end}
 use Rattle.osi_stack.proofs.carried.what_a_move_leaves.{used_keep, first_keep}
 
@@ -41,11 +40,8 @@ rise_first n ((p, y) ∷ lines) rise = first_keep (RiseFrom n) p y lines (rise.0
 pub rise_joins : (g r : ℕ) (s : Listener) (e : End) → g < r → AreUpTo g e.lines → RiseFrom 0 e.lines → RiseFrom 0 (joins r s e).lines
 rise_joins g r s e over up rise = grind (arith, rise_used, rise_push)
 
-rise_line : (r : ℕ) (input : Input) (e : End) (o : Option Line) → RiseFrom 0 e.lines → RiseFrom 0 (by_line r o input e).lines
-rise_line r input e o rise = grind (arith, put_rise)
-
 pub rise_session : (r : ℕ) (input : Input) (e : End) → RiseFrom 0 e.lines → RiseFrom 0 (to_session r input e).lines
-rise_session r input e rise = rise_line r input e (value_at r e.lines) rise
+rise_session r input e rise = grind (arith, put_rise)
 
 pub rise_connect : (c : Connect) (e : End) → Soundness e → RiseFrom 0 e.lines → RiseFrom 0 (connects c e).lines
 rise_connect c e sound rise =

@@ -1,6 +1,6 @@
 -- The first connection for which an indication is pending.
-use Rattle.std.proofs.Common.{◌≡◌, ℕ, ◌<◌, ◌≤◌, ◌==◌, Bool, zero, suc, true, false, not, List, [], ◌∷◌, length, map, get_or, set, Option}
-use Rattle.std.proofs.Common.{Some, None, refl, sym, ap, ◌∙◌, arith}
+use Rattle.std.proofs.Common.{◌≡◌, ℕ, ◌<◌, ◌≤◌, ◌==◌, Bool, zero, suc, true, false, not, List, [], ◌∷◌, length, map, get_or, set, Some}
+use Rattle.std.proofs.Common.{None, refl, sym, ap, ◌∙◌, arith}
 use Rattle.std.proofs.lemmas.List.Quantifiers.{position-Some}
 use Rattle.osi_stack.proofs.Vocabulary.{position, position_or_len, common_steps, Rows, Shown, shown_by, Indication, first_by, first_shown}
 use Rattle.osi_stack.proofs.Vocabulary.{rest_by, without_first, TellsOf, Line, line_waits, waits}
@@ -46,15 +46,12 @@ pub record IsFirst (rows : Rows Line) (i : ℕ) (d : ℕ × Line) : Type 0 where
   pub rest : (shown : Shown) (more : List Shown) → (get_or rows i d).1.waiting ≡ shown ∷ more →
       without_first rows ≡ set rows i ((get_or rows i d).0, record (get_or rows i d).1 { waiting = more })
 
-some_by : (r : ℕ) (w : List Shown) (other : Option (ℕ × Shown)) → not (length w == 0) ≡ true → first_by r w other ≡ first_by r w None
-some_by r w other h = grind arith
-
 first_at : (rows : Rows Line) (i : ℕ) (d : ℕ × Line) → i < length rows → line_waits (get_or rows i d).1 ≡ true →
     ((k : ℕ) → k < i → line_waits (get_or rows k d).1 ≡ false) → IsFirst rows i d
 first_at [] i d within here before = absurd (omega arith)
 first_at ((r, l) ∷ rows) zero d within here before = record {
   within = within;
-  shown = some_by r l.waiting (first_shown rows) here;
+  shown = grind arith;
   waits = here;
   rest = λ shown more e. ap (λ w. rest_by r l w rows (without_first rows)) e;
 }
@@ -90,10 +87,6 @@ pub told_first : (rows items : Rows Line) (i : ℕ) (row new : ℕ × Line) (sho
 told_first rows items i row new shown e here same h =
     let p = first_is rows i row e in
     let waiting : (get_or rows i row).1.waiting ≡ shown ∷ new.1.waiting = ap (λ (x : ℕ × Line). x.1.waiting) (sym here ∙ h) in
-    let named : (get_or rows i row).0 ≡ row.0 = ap (λ (x : ℕ × Line). x.0) (sym here) in
     let left : ((get_or rows i row).0, record (get_or rows i row).1 { waiting = new.1.waiting }) ≡ new =
     ap (λ (x : ℕ × Line). (x.0, record x.1 { waiting = new.1.waiting })) (sym here ∙ h) in
-    record {
-      first = p.shown ∙ ap (λ w. first_by (get_or rows i row).0 w None) waiting ∙ ap (λ n. Some (n, shown)) named;
-      rest = ap (λ l. set l i new) same ∙ ap (λ x. set rows i x) (sym left) ∙ sym (p.rest shown new.1.waiting waiting);
-    }
+    grind (arith, set)

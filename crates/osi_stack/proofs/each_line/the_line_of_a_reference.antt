@@ -1,22 +1,16 @@
 -- The line of a reference, at its place among the lines.
-use Rattle.std.proofs.Common.{◌≡◌, ℕ, Bool, true, get_or, set, Option, Some, None, Result, Ok, Err, OnOk, IfErr, refl, sym, ap, subst, ◌∙◌}
+use Rattle.std.proofs.Common.{arith, ◌≡◌, ℕ, Bool, true, get_or, set, Option, Some, None, Result, OnOk, IfErr, refl, sym, ap}
 pub use Rattle.osi_carrier.proofs.references.the_row_at_a_place.{nowhere}
-use Rattle.osi_stack.proofs.Vocabulary.{placed, here_is, Carrying, RiseFrom, Rows, value_at, place_of, put, State as Carrier, Call, Input}
-use Rattle.osi_stack.proofs.Vocabulary.{Listener, CallError, session_refusal, session_error, Refuses, line_by, carrier_by, by_line}
-use Rattle.osi_stack.proofs.Vocabulary.{to_session, Line}
+use Rattle.osi_stack.proofs.Vocabulary.{placed, here_is, Carrying, RiseFrom, Rows, value_at, place_of, State as Carrier, Call, Input}
+use Rattle.osi_stack.proofs.Vocabulary.{CallError, session_refusal, session_error, Refuses, line_by, carrier_by, by_line, to_session, Line}
 use Rattle.osi_stack.proofs.Vocabulary.{End, session_in}
 
 -- what a search in rows that rise, if they are said to, has found among the lines
 pub found : (r : ℕ) (rises : Bool) (o : Option ℕ) (slice items rows : Rows Line) → slice ≡ items → items ≡ rows →
     (rises ≡ true → RiseFrom 0 items) → ((rises ≡ true → RiseFrom 0 slice) → o ≡ place_of r slice) → place_of r rows ≡ o
-found r rises o slice items rows same is rise search =
-    sym (search (λ e. subst (RiseFrom 0) (sym same) (rise e)) ∙ ap (place_of r) (same ∙ is))
+found r rises o slice items rows same is rise search = grind arith
 
 -- ---- an event for the line at a place
-
-pub same_end : (c d : Carrier) (l k : Rows Line) → c ≡ d → l ≡ k →
-    ◌≡◌ {A = End} (record { carrier = c; lines = l }) (record { carrier = d; lines = k })
-same_end c d l k e f = ap (λ v. record { carrier = v; lines = l }) e ∙ ap (λ v. record { carrier = d; lines = v }) f
 
 -- no line, and nothing happens
 pub unheard : (r : ℕ) (rows : Rows Line) (input : Input) (c : Carrier) → place_of r rows ≡ None →
@@ -30,26 +24,9 @@ pub heard_rows : {A E : Type 0} (result : Result A E) (r : ℕ) (rows items : Ro
     OnOk result (d ≡ record c { state = carrier_by row.0 row.1.session input c.state }) →
     OnOk result (◌≡◌ {A = End} (record { carrier = d.state; lines = set items i new })
     (to_session r input (record { carrier = c.state; lines = rows })))
-heard_rows (Err f) r rows items i row new c d input e here same h k = tt
-heard_rows (Ok a) r rows items i row new c d input e here same h k =
-    let p = placed r rows i row e in
-    let named = ap (λ (x : ℕ × Line). x.0) here ∙ p.named in
-    let line = line_by row.1 row.1.session input in
-    same_end d.state (carrier_by r row.1.session input c.state) (set items i new) (put r line rows)
-    (ap (λ (x : Carrying). x.state) k ∙ ap (λ n. carrier_by n row.1.session input c.state) named)
-    (ap (λ l. set l i new) same ∙ ap (λ x. set rows i x) (h ∙ ap (λ n. (n, line)) named) ∙ sym (p.put_is line))
-    ∙ sym (ap (λ o. by_line r o input (record { carrier = c.state; lines = rows })) (here_is r rows rows i row e here refl))
+heard_rows h r rows items i row new c d input e here same h2 k = search (arith, placed, set, here_is)
 
 -- ---- calls at a place
-
-pub refusal_at : (r : ℕ) (rows : Rows Line) (i : ℕ) (row : ℕ × Line) (call : Call) (c : Carrier) → place_of r rows ≡ Some i →
-    row ≡ get_or rows i row →
-    session_refusal row.0 row.1.session call c ≡ session_refusal r (session_in (value_at r rows)) call c
-refusal_at r rows i row call c e here =
-    let p = placed r rows i row e in
-    let named = ap (λ (x : ℕ × Line). x.0) here ∙ p.named in
-    ap (λ n. session_refusal n row.1.session call c) named ∙
-    sym (ap (λ o. session_refusal r (session_in o) call c) (here_is r rows rows i row e here refl))
 
 pub session_here : (r : ℕ) (rows : Rows Line) (i : ℕ) (row : ℕ × Line) → place_of r rows ≡ Some i → row ≡ get_or rows i row →
     row.1.session ≡ session_in (value_at r rows)
@@ -59,8 +36,7 @@ pub allowed_at : {A E : Type 0} (result : Result A E) (r : ℕ) (rows : Rows Lin
     place_of r rows ≡ Some i →
     row ≡ get_or rows i row → OnOk result (session_refusal row.0 row.1.session call c ≡ None) →
     OnOk result (session_refusal r (session_in (value_at r rows)) call c ≡ None)
-allowed_at result r rows i row call c e here h =
-    subst (λ (o : Option CallError). OnOk result (o ≡ None)) (refusal_at r rows i row call c e here) h
+allowed_at result r rows i row call c e here h = grind (arith, placed, here_is)
 
 pub refused_at : {A : Type 0} (result : Result A CallError) (r : ℕ) (rows : Rows Line) (i : ℕ) (row : ℕ × Line) (call : Call)
     (c : Carrier) → place_of r rows ≡ Some i →
@@ -68,8 +44,4 @@ pub refused_at : {A : Type 0} (result : Result A CallError) (r : ℕ) (rows : Ro
     IfErr result (λ e. Refuses e (session_error row.1.session call) (session_refusal row.0 row.1.session call c)) →
     IfErr result (λ e. Refuses e (session_error (session_in (value_at r rows)) call)
     (session_refusal r (session_in (value_at r rows)) call c))
-refused_at result r rows i row call c e here h =
-    subst (λ (o : Option CallError). IfErr result (λ e. Refuses e (session_error (session_in (value_at r rows)) call) o))
-    (refusal_at r rows i row call c e here)
-    (subst (λ (o : Option Listener). IfErr result (λ e. Refuses e (session_error o call) (session_refusal row.0 row.1.session call c)))
-    (session_here r rows i row e here) h)
+refused_at result r rows i row call c e here h = grind (arith, placed, here_is, session_here)

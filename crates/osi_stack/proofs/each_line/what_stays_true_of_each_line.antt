@@ -1,11 +1,11 @@
 -- What holds of each line of an end stays so, whatever is called and fed.
-use Rattle.std.proofs.Common.{◌≡◌, ℕ, ◌+◌, ◌==◌, Bool, List, ◌∷◌, ◌++◌, length, Option, Some, refl, sym, subst, inl, inr, [], arith}
+use Rattle.std.proofs.Common.{◌≡◌, ℕ, ◌+◌, ◌==◌, Bool, List, ◌∷◌, ◌++◌, length, Some, refl, inl, inr, [], arith}
 use Rattle.osi_carrier.specs.Happenings as told
 use Rattle.osi_carrier.specs.Packets as carriers
 use Rattle.osi_stack.proofs.Vocabulary.{Fed, Happening, Rows, value_at, put, Connection, Input, opened, refused, broken, came, awaits}
 use Rattle.osi_stack.proofs.Vocabulary.{Shown, calls_with, connects, breaks, without_first, Feeds, OfLines, hears_times, hears_all}
-use Rattle.osi_stack.proofs.Vocabulary.{with_events, with_carrier, attends, after_packet, loses, all_lost, Starves, line_by, by_line}
-use Rattle.osi_stack.proofs.Vocabulary.{to_session, Line, End, Holding, used_lines, fresh_line, Connect, told_of, input_of}
+use Rattle.osi_stack.proofs.Vocabulary.{with_events, with_carrier, attends, after_packet, loses, all_lost, Starves, line_by, to_session}
+use Rattle.osi_stack.proofs.Vocabulary.{Line, End, Holding, used_lines, fresh_line, Connect, told_of, input_of}
 use Rattle.osi_stack.proofs.carried.packets_without_events.{packet_is}
 use Rattle.osi_stack.proofs.carried.what_each_step_preserves.{events_heard, concluded_end, broken_end}
 use Rattle.osi_stack.proofs.stream.what_feeding_keeps.{feeds_kept}
@@ -53,16 +53,11 @@ lost_lines Q ((q, y) ∷ lines) lost = (lost y, lost_lines Q lines lost)
 
 -- ---- what happens to them
 
-session_by : (Q : Line → Type 0) (r : ℕ) (input : Input) (e : End) (o : Option Line) → value_at r e.lines ≡ o →
-    ((line : Line) → Q line → Q (line_by line line.session input)) →
-    OfLines Q e.lines → OfLines Q (by_line r o input e).lines
-session_by Q r input e o here moves all = search (arith, put_lines, line_at)
-
 -- in one input
 pub session_lines : (Q : Line → Type 0) (r : ℕ) (input : Input) (e : End) → ((line : Line) → Q line → Q (line_by line line.session input)) →
     OfLines Q e.lines →
     OfLines Q (to_session r input e).lines
-session_lines Q r input e moves all = session_by Q r input e (value_at r e.lines) refl moves all
+session_lines Q r input e moves all = grind (arith, put_lines, line_at)
 
 heard_lines : (Q : Line → Type 0) → LinesStay Q → (event : Happening) (e : End) → OfLines Q e.lines →
     OfLines Q (to_session (told_of event) (input_of event) e).lines
@@ -74,10 +69,7 @@ heard_lines Q law event e all = session_lines Q (told_of event) broken e law.bro
 attends_lines : (Q : Line → Type 0) → LinesStay Q → (e : End) → OfLines Q e.lines → OfLines Q (attends e).lines
 attends_lines Q law e all =
     concluded_end (λ x. OfLines Q x.lines) (λ x all. lost_lines Q x.lines law.lost) (hears_all e)
-    (events_heard (λ x. OfLines Q x.lines) (λ events x all. all) (record {
-      begins = λ r x none all. more_lines Q x.carrier.live x.lines (r, fresh_line awaits) law.begins all;
-      moves = heard_lines Q law;
-    }) (length e.carrier.events) e all)
+    (events_heard (λ x. OfLines Q x.lines) (λ events x all. all) (search (arith, more_lines, heard_lines)) (length e.carrier.events) e all)
 
 pub packet_lines : (Q : Line → Type 0) → LinesStay Q → (packet : List ℕ) (e : End) → OfLines Q e.lines →
     OfLines Q (after_packet e packet).lines
@@ -85,19 +77,14 @@ packet_lines Q law packet e all = search (arith, packet_is, attends_lines)
 
 starved_lines : (Q : Line → Type 0) → LinesStay Q → (e new : End) (packet : List ℕ) → Starves e packet new → OfLines Q e.lines →
     OfLines Q new.lines
-starved_lines Q law e new packet (inl h) all =
-    subst (λ (x : End). OfLines Q x.lines) (sym h.2) (attends_lines Q law (with_carrier h.0 e) all)
+starved_lines Q law e new packet (inl h) all = grind (arith, attends_lines Q law (with_carrier h.0 e) all)
 starved_lines Q law e new packet (inr h) all =
     grind (arith, lost_lines Q (with_events h.2.more (hears_times h.2.heard (with_carrier h.0 e))).lines law.lost)
 
 pub feeds_lines : (Q : Line → Type 0) → LinesStay Q → (old new : Holding) (piece : List ℕ) (fed : Fed) → Feeds old piece fed new →
     OfLines Q old.end.lines → OfLines Q new.end.lines
 feeds_lines Q law old new piece fed h all =
-    feeds_kept (λ x. OfLines Q x.lines) (record {
-      each = λ packet e lasts all. packet_lines Q law packet e all;
-      over = λ reason e all. lost_lines Q e.lines law.lost;
-      starved = λ packet e new lasts h all. starved_lines Q law e new packet h all;
-    }) old new piece fed h all
+    feeds_kept (λ x. OfLines Q x.lines) (search (arith, packet_lines, lost_lines, starved_lines)) old new piece fed h all
 
 -- ---- calls
 

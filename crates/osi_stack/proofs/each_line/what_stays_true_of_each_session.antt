@@ -1,13 +1,12 @@
 -- What holds of each session of an end stays so, whatever is called and fed: each is what its inputs made of it, and
 -- its functional units can be selected together.
-use Rattle.std.proofs.Common.{◌≡◌, ℕ, List, [], ◌∷◌, ◌++◌, Option, Some, refl, inl, inr, arith}
-use Rattle.osi_stack.proofs.Vocabulary.{AllByRecursion, IfSome, Fed, Units, said_by_units, said_at, Rows, value_at, Call, HasSerial, Input}
-use Rattle.osi_stack.proofs.Vocabulary.{Listener, called, taken, opened, refused, broken, came, react, after_inputs, HasNumbersInWords}
-use Rattle.osi_stack.proofs.Vocabulary.{HasProfile, awaiting, awaits, calls_with, connects, breaks, without_first, Feeds, CameAbout}
-use Rattle.osi_stack.proofs.Vocabulary.{IsProfiled, OfSession, OfSessions, AllCameAbout, after_packet, line_by, to_session, Line, End}
-use Rattle.osi_stack.proofs.Vocabulary.{Holding, Connect}
-use Rattle.osi_stack.proofs.each_line.what_stays_true_of_each_line.{LinesStay, line_at, session_lines, packet_lines, feeds_lines}
-use Rattle.osi_stack.proofs.each_line.what_stays_true_of_each_line.{connect_lines, told_lines, breaks_lines}
+use Rattle.std.proofs.Common.{◌≡◌, ℕ, List, [], ◌∷◌, ◌++◌, Option, refl, inl, inr, arith}
+use Rattle.osi_stack.proofs.Vocabulary.{AllByRecursion, IfSome, Fed, Units, said_by_units, said_at, Rows, Call, HasSerial, Input, Listener}
+use Rattle.osi_stack.proofs.Vocabulary.{called, taken, opened, refused, broken, came, react, after_inputs, HasNumbersInWords, HasProfile}
+use Rattle.osi_stack.proofs.Vocabulary.{awaiting, awaits, calls_with, connects, breaks, without_first, Feeds, CameAbout, IsProfiled}
+use Rattle.osi_stack.proofs.Vocabulary.{OfSession, OfSessions, AllCameAbout, after_packet, line_by, to_session, Line, End, Holding, Connect}
+use Rattle.osi_stack.proofs.each_line.what_stays_true_of_each_line.{LinesStay, session_lines, packet_lines, feeds_lines, connect_lines}
+use Rattle.osi_stack.proofs.each_line.what_stays_true_of_each_line.{told_lines, breaks_lines}
 
 -- ---- what stays true of a session
 
@@ -28,10 +27,6 @@ lines_stay : (P : Listener → Type 0) → StaysTrue P → LinesStay (OfSession 
 lines_stay P law = grind (arith, opened, line_all, refused, came, broken)
 
 -- ---- what stays true of each session
-
-pub at_line : (P : Listener → Type 0) (r : ℕ) (line : Line) (lines : Rows Line) → OfSessions P lines → value_at r lines ≡ Some line →
-    IfSome line.session P
-at_line P r line lines all h = line_at (OfSession P) r line lines all h
 
 -- in one input
 pub session_all : (P : Listener → Type 0) (r : ℕ) (input : Input) (e : End) → ((s : Listener) → P s → P (react s input).next) →

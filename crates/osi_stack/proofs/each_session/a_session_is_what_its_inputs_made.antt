@@ -1,39 +1,35 @@
 -- Each session of an end is what its own inputs made of what it began as.
-use Rattle.std.proofs.Common.{◌≡◌, ◌≢◌, ℕ, ◌+◌, ◌<◌, ◌≤◌, ◌==◌, Bool, true, false, List, ◌∷◌, ◌++◌, length, take, Option, Some, None}
-use Rattle.std.proofs.Common.{is_some, IsSome, not, refl, sym, ap, subst, ◌∙◌, inl, inr, ◌⊎◌, arith, append_assoc, option_map}
-use Rattle.std.proofs.Common.{if◌then◌else◌, []}
+use Rattle.std.proofs.Common.{◌≡◌, ◌≢◌, ℕ, ◌+◌, ◌<◌, ◌≤◌, ◌==◌, Bool, true, List, ◌∷◌, ◌++◌, length, take, Option, Some, None, is_some}
+use Rattle.std.proofs.Common.{IsSome, refl, sym, ap, subst, ◌∙◌, inl, inr, ◌⊎◌, arith, append_assoc, option_map, if◌then◌else◌, []}
 use Rattle.osi_carrier.specs.Packets as carriers
 use Rattle.osi_session.specs.Listening.{broken as linked_down}
-use Rattle.osi_session.specs.declared.faults.CallError.TheVariants.{BadState}
-use Rattle.osi_stack.specs.Disconnecting.{given_up, gives_up_by}
+use Rattle.osi_stack.specs.Disconnecting.{gives_up_by}
 use Rattle.osi_stack.specs.Inputs.{Step}
 use Rattle.osi_stack.proofs.Vocabulary.{eqb-true, eq-eqb, append-nil, AllByRecursion, fresh, IsPartial, ArePackets, Fed, tsap_octets, Local}
 use Rattle.osi_stack.proofs.Vocabulary.{beyond, push_here, push_other, OneCut, asks, Happening, told_of, RiseFrom, Rows, value_at}
 use Rattle.osi_stack.proofs.Vocabulary.{Connection, State as Carrier, Broken, Call as SessionCall, Input, Listener, called}
-use Rattle.osi_stack.proofs.Vocabulary.{opened as linked_up, react, after_inputs, awaits, calls_with, connects, call_error, connect_error}
-use Rattle.osi_stack.proofs.Vocabulary.{without_first, TakesPackets, Goes, Feeds, opens, hears, hears_next, hears_times, with_events}
-use Rattle.osi_stack.proofs.Vocabulary.{with_carrier, after_packet, ends, input_of, inputs_told, Past, no_past, then_came, inputs_of}
-use Rattle.osi_stack.proofs.Vocabulary.{made_at, AreMadeBy, told_along, past_called, IsAccepted, serving, using, Steps, StepsAlong}
-use Rattle.osi_stack.proofs.Vocabulary.{AreApart, Soundness, IsSound, kept_at, to_session, IsOrdered, UserCall, user_does, connecting}
-use Rattle.osi_stack.proofs.Vocabulary.{calling, disconnecting, breaking, disconnect_error, disconnects, has_given, NoSuchConnection}
-use Rattle.osi_stack.proofs.Vocabulary.{nat_tests, put, put_here, put_other, line_by, by_line, put_back, Calls, used_in, feeding, telling}
-use Rattle.osi_stack.proofs.Vocabulary.{carrying, Line, End, Holding, IsAttended, fresh_end, session_in, used_lines, joins, waits}
-use Rattle.osi_stack.proofs.Vocabulary.{fresh_line, Connect, told_opened as opened, EndCall as Call}
+use Rattle.osi_stack.proofs.Vocabulary.{opened as linked_up, react, after_inputs, awaits, calls_with, connects, call_error, TakesPackets}
+use Rattle.osi_stack.proofs.Vocabulary.{Goes, Feeds, opens, hears, hears_next, hears_times, with_events, with_carrier, after_packet, ends}
+use Rattle.osi_stack.proofs.Vocabulary.{input_of, inputs_told, Past, no_past, then_came, inputs_of, made_at, AreMadeBy, told_along}
+use Rattle.osi_stack.proofs.Vocabulary.{past_called, IsAccepted, serving, using, Steps, StepsAlong, AreApart, Soundness, IsSound, kept_at}
+use Rattle.osi_stack.proofs.Vocabulary.{to_session, IsOrdered, UserCall, user_does, connecting, calling, disconnecting, breaking}
+use Rattle.osi_stack.proofs.Vocabulary.{disconnect_error, disconnects, put_here, put_other, by_line, Calls, used_in, feeding, telling}
+use Rattle.osi_stack.proofs.Vocabulary.{carrying, Line, End, Holding, IsAttended, fresh_end, used_lines, joins, waits, fresh_line, Connect}
+use Rattle.osi_stack.proofs.Vocabulary.{told_opened as opened, EndCall as Call}
 use Rattle.osi_stack.proofs.carried.all_events_are_handled.{session_attended, connect_attended, feeds_attended}
 use Rattle.osi_stack.proofs.stream.what_was_written_is_read.{attended_then}
 use Rattle.osi_stack.proofs.given_up.the_invariant_stays.{disconnect_attended, disconnect_is, disconnect_ordered, disconnect_sound}
 use Rattle.osi_stack.proofs.carried.events_one_after_the_other.{concluded_carrier}
 use Rattle.osi_stack.proofs.carried.packets_without_events.{both, packet_is, lasting_of, never}
-use Rattle.osi_stack.proofs.carried.open_connections_stay_open.{SessionLaws, HasMoved, session_hears, hears_apart, used_at, apart_push}
-use Rattle.osi_stack.proofs.carried.open_connections_stay_open.{joined_lines, unlike, first_is, rest_is, Stays}
+use Rattle.osi_stack.proofs.carried.open_connections_stay_open.{SessionLaws, session_hears, hears_apart, used_at, apart_push, joined_lines}
+use Rattle.osi_stack.proofs.carried.open_connections_stay_open.{first_is, rest_is, Stays}
 use Rattle.osi_stack.proofs.carried.what_a_move_leaves.{kept_first, says_is}
 use Rattle.osi_stack.proofs.opening.connections_that_units_open.{opened_in, IsGiven, Comes, OpensAlong}
-use Rattle.osi_stack.proofs.each_line.lines_stay_in_order.{HaveLines, have_still, have_rest, one_heard, awaited_lines, packet_along}
-use Rattle.osi_stack.proofs.each_line.lines_stay_in_order.{packet_ordered, connect_ordered, call_ordered, feeds_ordered, first_ordered}
-use Rattle.osi_stack.proofs.each_line.lines_stay_in_order.{fresh_ordered}
+use Rattle.osi_stack.proofs.each_line.lines_stay_in_order.{HaveLines, have_still, one_heard, awaited_lines, packet_along, packet_ordered}
+use Rattle.osi_stack.proofs.each_line.lines_stay_in_order.{connect_ordered, call_ordered, feeds_ordered, first_ordered, fresh_ordered}
 use Rattle.osi_stack.proofs.stream.an_end_is_what_its_packets_make.{call_lasts, reads_dry, reads_stopped, ReadsOne, none_ended}
 use Rattle.osi_stack.proofs.sound.the_invariant_is_kept.{concludes_lasting, packet_sound, connect_sound, call_sound, feeds_sound}
-use Rattle.osi_stack.proofs.sound.the_invariant_is_kept.{first_sound, fresh_sound, up_at, closed_given}
+use Rattle.osi_stack.proofs.sound.the_invariant_is_kept.{first_sound, fresh_sound, closed_given}
 use Rattle.osi_stack.proofs.carried.what_each_step_preserves.{Carries, session_carried, events_heard}
 
 -- ---- inputs
@@ -51,24 +47,6 @@ after_more : (s : Listener) (l m : List Input) → after_inputs s (l ++ m) ≡ a
 after_more s [] m = refl
 after_more s (input ∷ l) m = after_more (react s input).next l m
 
-made_more : (r : ℕ) (l : List (ℕ × Input)) (past : Past) → made_at r (then_came l past) ≡ after_inputs (made_at r past) (inputs_of r l)
-made_more r l past = grind (arith, inputs_more, after_more)
-
-one_here : (q : ℕ) (input : Input) → inputs_of q ((q, input) ∷ []) ≡ input ∷ []
-one_here q input = let e = eq-eqb q q refl in rw e refl
-
-one_other : (r q : ℕ) (input : Input) → (q == r) ≡ false → inputs_of r ((q, input) ∷ []) ≡ []
-one_other r q input e = rw e refl
-
-made_here : (q : ℕ) (input : Input) (past : Past) → made_at q (then_came ((q, input) ∷ []) past) ≡ (react (made_at q past) input).next
-made_here q input past = made_more q ((q, input) ∷ []) past ∙ ap (after_inputs (made_at q past)) (one_here q input)
-
-made_other : (r q : ℕ) (input : Input) (past : Past) → (q == r) ≡ false → made_at r (then_came ((q, input) ∷ []) past) ≡ made_at r past
-made_other r q input past e = made_more r ((q, input) ∷ []) past ∙ ap (after_inputs (made_at r past)) (one_other r q input e)
-
-then_joined : (l m : List (ℕ × Input)) (past : Past) → then_came m (then_came l past) ≡ then_came (l ++ m) past
-then_joined l m past = ap (λ (x : List (ℕ × Input)). record past { inputs = x }) (append_assoc past.inputs l m)
-
 -- ---- what is known of the sessions
 
 -- each is what its inputs made of it, and above this reference nothing has happened
@@ -77,30 +55,17 @@ pub record IsKnown (g : ℕ) (past : Past) (lines : Rows Line) : Type 0 where
   pub unasked : (r : ℕ) → g < r → value_at r past.asked ≡ None
   pub unheard : (r : ℕ) → g < r → inputs_of r past.inputs ≡ []
 
-new_awaits : (g : ℕ) (past : Past) (lines : Rows Line) (r : ℕ) → IsKnown g past lines → g < r → made_at r past ≡ awaits
-new_awaits g past lines r k above = grind arith
-
 -- one more input, of a reference that was given
 unheard_more : (g q : ℕ) (input : Input) (past : Past) → ((r : ℕ) → g < r → inputs_of r past.inputs ≡ []) → (r : ℕ) → g < r → r ≢ q →
     inputs_of r (then_came ((q, input) ∷ []) past).inputs ≡ []
-unheard_more g q input past none r above ne = grind (arith, inputs_more, one_other, unlike)
-
-moved_made : (q : ℕ) (input : Input) (e d : End) (past : Past) → HasMoved q input e d →
-    ((r : ℕ) (s : Listener) → kept_at r e.lines ≡ Some s → s ≡ made_at r past) →
-    (r : ℕ) (s : Listener) (b : Bool) → (q == r) ≡ b → kept_at r d.lines ≡ Some s → s ≡ made_at r (then_came ((q, input) ∷ []) past)
-moved_made q input e d past m made r s b at is = search (arith, eqb-true, made_here, both, eq-eqb, made_other)
-
-rested_made : (q : ℕ) (input : Input) (e : End) (past : Past) → kept_at q e.lines ≡ None →
-    ((r : ℕ) (s : Listener) → kept_at r e.lines ≡ Some s → s ≡ made_at r past) →
-    (r : ℕ) (s : Listener) (b : Bool) → (q == r) ≡ b → kept_at r e.lines ≡ Some s → s ≡ made_at r (then_came ((q, input) ∷ []) past)
-rested_made q input e past none made r s b at is = grind (arith, eqb-true, made_other)
+unheard_more g q input past none r above ne = grind (arith, inputs_more)
 
 session_made : (q : ℕ) (input : Input) (e : End) (past : Past) →
     ((r : ℕ) (s : Listener) → kept_at r e.lines ≡ Some s → s ≡ made_at r past) →
     (r : ℕ) (s : Listener) → kept_at r (to_session q input e).lines ≡ Some s → s ≡ made_at r (then_came ((q, input) ∷ []) past)
 session_made q input e past made r s is = elim (session_hears q input e) [
-  | inl m ↦ moved_made q input e (to_session q input e) past m made r s (q == r) refl is
-  | inr m ↦ rested_made q input e past m.none made r s (q == r) refl (ap (λ (x : End). kept_at r x.lines) (sym m.same) ∙ is)
+  | inl m ↦ grind (arith, eqb-true, both, eq-eqb, inputs_more, after_more)
+  | inr m ↦ grind (arith, eqb-true, inputs_more, after_more)
 ]
 
 -- a session of a reference that was given
@@ -128,9 +93,8 @@ joins_known : (g q : ℕ) (e : End) (past : Past) → g < q → AreApart e.lines
 joins_known g q e past above apart none k = record {
   made = λ r t is. elim (kept_joined q r awaits t e.carrier.live e.lines (q == r) refl none
       (used_at r e.carrier.live (joined_lines q awaits e.lines) (apart_push q (fresh_line awaits) e.lines none apart)) is) [
-        | inl h ↦ h.1 ∙ sym (ap (λ (x : Listener). (react x linked_up).next) (new_awaits g past e.lines q k above) ∙ awaits_still)
-            ∙ sym (made_here q linked_up past) ∙ ap (λ n. made_at n (then_came ((q, linked_up) ∷ []) past)) h.0
-        | inr h ↦ k.made r t h.1 ∙ sym (made_other r q linked_up past (unlike q r (λ e. h.0 (sym e))))
+        | inl h ↦ grind (arith, react, awaits_still, inputs_more, after_more)
+        | inr h ↦ k.made r t h.1 ∙ sym (grind (arith, inputs_more, after_more))
       ];
   unasked = λ r up. k.unasked r (omega arith);
   unheard = λ r up. unheard_more g q linked_up past k.unheard r (omega arith) (λ same. absurd (omega arith));
@@ -154,11 +118,6 @@ line_known : (g q : ℕ) (o : Option Line) (e : End) (past : Past) → value_at 
     IsKnown g (then_came ((q, linked_up) ∷ []) past) (opens q o e).lines
 line_known g q o e past here some up k = grind (arith, given_known)
 
-caller_known : (g : ℕ) (event : Happening) (rest : List Happening) (e : End) (past : Past) → IsGiven g event →
-    HaveLines e.lines (opened_in (event ∷ rest)) → IsKnown g past e.lines →
-    IsKnown g (then_came ((told_of event, input_of event) ∷ []) past) (hears event e).lines
-caller_known g event rest e past up all k = grind (arith, line_known, given_known)
-
 -- ---- all events
 
 next_known : (g : ℕ) (event : Happening) (rest : List Happening) (e : End) (past : Past) → e.carrier.events ≡ event ∷ rest →
@@ -168,7 +127,7 @@ next_known g event rest e past is k = subst (λ (x : End). IsKnown g past x.line
 behind_known : (g : ℕ) (event : ℕ × Input) (more : List (ℕ × Input)) (past : Past) (lines : Rows Line) →
     IsKnown g (then_came more (then_came (event ∷ []) past)) lines →
     IsKnown g (then_came (event ∷ more) past) lines
-behind_known g event more past lines k = subst (λ (p : Past). IsKnown g p lines) (then_joined (event ∷ []) more past) k
+behind_known g event more past lines k = subst (λ (p : Past). IsKnown g p lines) (grind (arith, append_assoc)) k
 
 none_known : (g : ℕ) (past : Past) (lines : Rows Line) → IsKnown g past lines → IsKnown g (then_came [] past) lines
 none_known g past lines k = grind (arith, append-nil)
@@ -184,10 +143,10 @@ times_caller g (event ∷ rest) e past is up all rise k =
     let kept : (r : ℕ) → IsSome (value_at r e.lines) → IsSome (value_at r (hears_next e).lines) =
     λ r some. subst (λ (x : End). IsSome (value_at r x.lines)) (sym at) (one.kept r some) in
     let entry : ℕ × Input = (told_of event, input_of event) in
-    let now = next_known g event rest e (then_came (entry ∷ []) past) is (caller_known g event rest (with_events rest e) past up.0 all k) in
+    let now = next_known g event rest e (then_came (entry ∷ []) past) is (grind (arith, line_known, given_known)) in
     behind_known g entry (inputs_told rest) past (hears_times (length rest) (hears_next e)).lines
     (times_caller g rest (hears_next e) (then_came (entry ∷ []) past) (rest_is event rest e is) up.1
-    (have_still e.lines (hears_next e).lines (opened_in rest) kept (have_rest event rest e.lines all)) risen now)
+    (have_still e.lines (hears_next e).lines (opened_in rest) kept (grind arith)) risen now)
 
 next_apart : (event : Happening) (rest : List Happening) (e : End) → e.carrier.events ≡ event ∷ rest → AreApart e.lines →
     AreApart (hears_next e).lines
@@ -221,8 +180,7 @@ times_given : (n : ℕ) (e : End) → (hears_times n e).carrier.given ≡ e.carr
 times_given n e =
     events_heard (λ x. x.carrier.given ≡ e.carrier.given) (λ events x same. same) (record {
       begins = λ r x none same. same;
-      moves = λ event x same. session_carried (λ k. k.given ≡ e.carrier.given) (session_given e.carrier) (told_of event) (input_of event) x
-          same;
+      moves = grind (arith, session_carried, session_given e.carrier);
     }) n e refl
 
 -- ---- packets
@@ -247,7 +205,7 @@ packets_made laws (u ∷ units) old new past h attended sound o over k =
     let next = after_packet old u in
     let first = inputs_told (carriers.after_packet old.carrier u).events in
     let now = packet_made u old past (attended lasts) (sound lasts) o (takes_last units next new h.1 over) k in
-    subst (λ (p : Past). IsKnown new.carrier.given p new.lines) (then_joined first (told_along next units) past)
+    subst (λ (p : Past). IsKnown new.carrier.given p new.lines) (grind (arith, append_assoc))
     (packets_made laws units next new (then_came first past) h.1
     (attended_then (with_carrier (carriers.after_packet old.carrier u) old) next (packet_is old u))
     (packet_sound laws u old lasts (attended lasts) sound) (packet_ordered u old (attended lasts) (sound lasts) o) over now)
@@ -291,11 +249,7 @@ served_still old call new none held given same = record {
   packets = [];
   cut = ap (λ l. old.held.octets ++ l) none ∙ append-nil old.held.octets ∙ sym held;
   partial = subst IsPartial (sym held);
-  known = λ past k. none_known new.end.carrier.given past new.end.lines (record {
-    made = λ r s is. k.made r s (sym (same r) ∙ is);
-    unasked = λ r up. k.unasked r (subst (λ n. n < r) given up);
-    unheard = λ r up. k.unheard r (subst (λ n. n < r) given up);
-  });
+  known = λ past k. none_known new.end.carrier.given past new.end.lines (grind arith);
 }
 
 served_feed : SessionLaws → IsPartial [] → (old : Holding) (piece : List ℕ) (fed : Fed) (new : Holding) (waiting : Bool) →
@@ -306,43 +260,21 @@ served_feed laws nothing old piece fed new waiting e quiet h s lasts =
 
 served : SessionLaws → IsPartial [] → (old : Holding) (call : Call) (new : Holding) → Calls old call new → IsSane old.end →
     new.end.carrier.ended ≡ None → Served old call new
-served laws nothing old (feeding piece fed) new h s lasts =
-    served_feed laws nothing old piece fed new (waits old.end.lines) refl (call_lasts old (feeding piece fed) new h lasts) h s lasts
+served laws nothing old (feeding piece fed) new h s lasts = grind (arith, served_feed, call_lasts old (feeding piece fed) new h lasts)
 served laws nothing old (telling shown) new h s lasts = grind (arith, served_still, kept_first)
 served laws nothing old (carrying octets) new h s lasts = grind (arith, served_still)
 
 -- ---- an end keeps its invariant
 
-sane_carried : (octets : List ℕ) (e : End) → IsSane (put_back octets e) → IsSane e
-sane_carried octets e s = grind arith
-
-sane_first : (e : End) → IsSane e → IsSane (record e { lines = without_first e.lines })
-sane_first e s = record { attended = s.attended; sound = first_sound e s.sound; ordered = first_ordered e s.ordered }
-
 pub sane_served : SessionLaws → (old : Holding) (call : Call) (new : Holding) → Calls old call new → IsSane old.end → IsSane new.end
 sane_served laws old (feeding piece fed) new h s = grind (arith, feeds_attended, feeds_sound, feeds_ordered)
-sane_served laws old (telling shown) new h s = subst (λ (x : Holding). IsSane x.end) (sym h.1) (sane_first old.end s)
-sane_served laws old (carrying octets) new h s = sane_carried octets new.end (subst (λ (x : Holding). IsSane x.end) h s)
-
-pub sane_connect : (c : Connect) (e : End) → connect_error c e ≡ None → IsSane e → IsSane (connects c e)
-sane_connect c e allowed s =
-    search (connect_attended c e s.attended, connect_sound c e allowed s.sound, connect_ordered c e allowed s.sound s.ordered)
+sane_served laws old (telling shown) new h s = subst (λ (x : Holding). IsSane x.end) (sym h.1) (search (arith, first_sound, first_ordered))
+sane_served laws old (carrying octets) new h s = grind arith
 
 pub sane_call : SessionLaws → (r : ℕ) (call : SessionCall) (e : End) → IsSane e → IsSane (to_session r (called call) e)
-sane_call laws r call e s =
-    search (session_attended r (called call) e s.attended, call_sound laws r call e s.sound, call_ordered r (called call) e s.ordered)
+sane_call laws r call e s = search (arith, session_attended, call_sound, call_ordered)
 
 -- ---- a call of the user
-
-session_left : (line : Line) (o : Option Listener) → line.session ≡ o → (given_up line).session ≡ (line_by line o linked_down).session
-session_left line o is = grind arith
-
-asked_here : (q : ℕ) (c : Connect) (past : Past) → value_at q past.asked ≡ None → inputs_of q past.inputs ≡ [] →
-    made_at q (record past { asked = past.asked ++ (q, c) ∷ [] }) ≡ calls_with c
-asked_here q c past unasked unheard = grind (arith, push_here)
-
-asked_other : (r q : ℕ) (c : Connect) (past : Past) → r ≢ q → made_at r (record past { asked = past.asked ++ (q, c) ∷ [] }) ≡ made_at r past
-asked_other r q c past ne = grind (arith, push_other)
 
 connect_known : (c : Connect) (e : End) (past : Past) → Soundness e → IsKnown e.carrier.given past e.lines →
     IsKnown (e.carrier.given + 1) (past_called (connecting c) e past) (connects c e).lines
@@ -354,50 +286,26 @@ connect_known c e past s k =
     (apart_push q (fresh_line (calls_with c)) e.lines none s.apart)) in
     record {
       made = λ r t is. elim (kept_joined q r (calls_with c) t live e.lines (q == r) refl none (stays r) is) [
-        | inl h ↦ h.1 ∙ sym (asked_here q c past (k.unasked q (omega arith)) (k.unheard q (omega arith))) ∙
-            ap (λ n. made_at n (past_called (connecting c) e past)) h.0
-        | inr h ↦ k.made r t h.1 ∙ sym (asked_other r q c past (λ same. h.0 (sym same)))
+        | inl h ↦ grind (arith, push_here)
+        | inr h ↦ k.made r t h.1 ∙ sym (grind (arith, push_other))
       ];
       unasked = λ r up. push_other r q c past.asked (λ same. absurd (omega arith)) ∙ k.unasked r (omega arith);
       unheard = λ r up. k.unheard r (omega arith);
     }
 
-live_by : (o : Option Connection) (kept : Option Listener) (s : Listener) → (if is_some o then kept else None) ≡ Some s → IsSome o
-live_by o kept s h = grind arith
-
 call_known : (r : ℕ) (call : SessionCall) (e : End) (past : Past) → call_error r call e ≡ None → Soundness e →
     IsKnown e.carrier.given past e.lines →
     IsKnown (to_session r (called call) e).carrier.given (past_called (calling r call) e past) (to_session r (called call) e).lines
-call_known r call e past allowed s k =
-    let says = says_is r call e allowed in
-    let up = up_at r e.carrier.given e.carrier.live s.orderly.up_to
-    (live_by (value_at r e.carrier.live) (session_in (value_at r e.lines)) says.acts.session says.live) in
-    subst (λ n. IsKnown n (past_called (calling r call) e past) (to_session r (called call) e).lines)
-    (sym (session_carried (λ k. k.given ≡ e.carrier.given) (session_given e.carrier) r (called call) e refl))
-    (given_known e.carrier.given r (called call) e past up k)
-
--- what is left of sessions if one is given up is what a break leaves of it
-given_line : (r : ℕ) (line : Line) (o : Option Listener) (lines : Rows Line) → line.session ≡ o → value_at r lines ≡ Some line →
-    ((q : ℕ) → kept_at q (put r (given_up line) lines) ≡ kept_at q (put r (line_by line o linked_down) lines))
-given_line r line o lines is here q = grind (arith, eqb-true, put_here, session_left, both, eq-eqb, put_other)
+call_known r call e past allowed s k = search (arith, session_carried, given_known, says_is r call e allowed, session_given e.carrier)
 
 given_same : (r : ℕ) (e : End) (o : Option Line) → value_at r e.lines ≡ o → (q : ℕ) →
     kept_at q (gives_up_by r o e.lines) ≡ kept_at q (by_line r o linked_down e).lines
-given_same r e o here q = grind (arith, given_line)
-
-given_of : (r : ℕ) (c : Carrier) → has_given r c ≡ true → r ≤ c.given
-given_of r c h = grind (arith, nat_tests, has_given)
-
-accepted_given : (b waits : Bool) → (if not b then Some NoSuchConnection else (if waits then Some BadState else None)) ≡ None → b ≡ true
-accepted_given b waits h = grind arith
+given_same r e o here q = grind (arith, eqb-true, put_here, both, eq-eqb, put_other)
 
 disconnect_known : (r : ℕ) (e : End) (past : Past) → disconnect_error r e ≡ None → (disconnects r e).carrier.ended ≡ None →
     IsKnown e.carrier.given past e.lines →
     IsKnown (disconnects r e).carrier.given (past_called (disconnecting r) e past) (disconnects r e).lines
-disconnect_known r e past allowed lasts k = grind (arith, given_of, accepted_given, closed_given, given_known, disconnect_is, given_same)
-
-sane_disconnect : (r : ℕ) (e : End) → IsSane e → IsSane (disconnects r e)
-sane_disconnect r e s = grind (arith, disconnect_attended, disconnect_sound, disconnect_ordered)
+disconnect_known r e past allowed lasts k = search (arith, closed_given, given_known, disconnect_is, given_same)
 
 -- ---- steps
 
@@ -409,18 +317,15 @@ record IsRun (h : Holding) (past : Past) : Type 0 where
 abbrev broken_by : Bool → End → End
 broken_by over e = if over then e else ends Broken e
 
-break_over : (over : Bool) (e : End) → is_some e.carrier.ended ≡ over → is_some (broken_by over e).carrier.ended ≡ true
-break_over over e is = grind arith
-
 used_run : SessionLaws → (call : UserCall) (old : Holding) (before : Past) → old.end.carrier.ended ≡ None → IsAccepted call old.end →
     (user_does call old.end).carrier.ended ≡ None →
     IsRun old before → IsRun (record old { end = user_does call old.end }) (past_called call old.end before)
 used_run laws (connecting c) old before quiet allowed lasts run =
-    search (sane_connect c old.end allowed run.sane, connect_known c old.end before (run.sane.sound quiet) run.known)
-used_run laws (calling r call) old before quiet allowed lasts run =
-    search (sane_call laws r call old.end run.sane, call_known r call old.end before allowed (run.sane.sound quiet) run.known)
-used_run laws (disconnecting r) old before quiet allowed lasts run = grind (arith, sane_disconnect, disconnect_known)
-used_run laws breaking old before quiet allowed lasts run = grind (arith, never, break_over)
+    search (connect_attended, connect_sound, connect_ordered, connect_known c old.end before (run.sane.sound quiet) run.known)
+used_run laws (calling r call) old before quiet allowed lasts run = grind (arith, sane_call, call_known)
+used_run laws (disconnecting r) old before quiet allowed lasts run =
+    grind (arith, disconnect_attended, disconnect_sound, disconnect_ordered, disconnect_known)
+used_run laws breaking old before quiet allowed lasts run = grind (arith, never)
 
 step_run : SessionLaws → IsPartial [] → OneCut → (step : Step) (old new : Holding) (before behind : Past) →
     Steps old before step new behind → new.end.carrier.ended ≡ None →
@@ -432,14 +337,10 @@ step_run laws nothing one_cut (using call) old new before behind h lasts run =
     (subst (λ (p : Past). IsRun (record old { end = user_does call old.end }) p) (sym h.3)
     (used_run laws call old before h.0 h.1 (ap (λ (x : Holding). x.end.carrier.ended) (sym h.2) ∙ lasts) run))
 
-step_lasts : (step : Step) (old new : Holding) (before behind : Past) → Steps old before step new behind → new.end.carrier.ended ≡ None →
-    old.end.carrier.ended ≡ None
-step_lasts step old new before behind h lasts = grind (arith, call_lasts)
-
 steps_last : (steps : List Step) (old new : Holding) (before behind : Past) → StepsAlong old before steps new behind →
     new.end.carrier.ended ≡ None → old.end.carrier.ended ≡ None
 steps_last [] old new before behind h lasts = ap (λ (x : Holding). x.end.carrier.ended) (sym h.0) ∙ lasts
-steps_last (step ∷ steps) old new before behind h lasts = grind (arith, step_lasts, steps_last steps h.0 new h.1 behind h.3 lasts)
+steps_last (step ∷ steps) old new before behind h lasts = grind (arith, steps_last steps h.0 new h.1 behind h.3 lasts)
 
 steps_run : SessionLaws → IsPartial [] → OneCut → (steps : List Step) (old new : Holding) (before behind : Past) →
     StepsAlong old before steps new behind → new.end.carrier.ended ≡ None →
@@ -453,5 +354,4 @@ pub made_along : SessionLaws → IsPartial [] → OneCut →
     (is_caller : Bool) (local : Local) (steps : List Step) (new : Holding) (past : Past) →
     StepsAlong (record { end = fresh_end is_caller local; held = fresh }) no_past steps new past → new.end.carrier.ended ≡ None →
     AreMadeBy past new.end
-made_along laws nothing one_cut is_caller local steps new past h lasts =
-    grind (arith, steps_run, fresh_end, fresh, no_past, fresh_sound, fresh_ordered)
+made_along laws nothing one_cut is_caller local steps new past h lasts = grind (arith, steps_run, fresh_sound, fresh_ordered)

@@ -1,12 +1,10 @@
 -- The parts of one Data have on an end the effect of the whole, whatever calls come between.
 use Rattle.std.proofs.Common.{◌≡◌, ℕ, ◌==◌, Bool, List, [], ◌∷◌, ◌++◌, map, Option, Some, None, refl, sym, ap, ◌∙◌, if◌then◌else◌, arith}
-use Rattle.osi_session.specs.Parts.{AreAlike}
 use Rattle.osi_stack.specs.Parted.{to_session_along}
 use Rattle.osi_stack.proofs.Vocabulary.{append-nil, Rows, value_at, put, State as Carrier, put_here, put_same, part_octets, Input, Listener}
 use Rattle.osi_stack.proofs.Vocabulary.{Move, called, came, react, after_inputs, Act, comes, calls, act_in_octets, calls_in, IsSilent}
 use Rattle.osi_stack.proofs.Vocabulary.{AreSilent, Shown, limit_of, kept_at, limit_for, answers, line_by, by_line, to_session, Selectors}
 use Rattle.osi_stack.proofs.Vocabulary.{selectors_told, shows_connect, Line, End, session_in}
-use Rattle.osi_stack.proofs.called.tsdus_that_are_handed_together.{hands_none}
 
 -- ---- the end with a session at a reference
 
@@ -46,16 +44,10 @@ moves_at r input c l waiting selectors rows h =
 
 -- ---- a part before the last, and a call
 
-quiet_answers : (r limit : ℕ) (move : Move) (c : Carrier) → IsSilent move → answers r limit move c ≡ c
-quiet_answers r limit move c s = grind (arith, hands_none)
-
 silent_at : (r : ℕ) (input : Input) (c : Carrier) (l : Listener) (waiting : List Shown) (selectors : Option Selectors) (rows : Rows Line) →
     HasLine r rows → IsSilent (react l input) →
     to_session r input (at r c l waiting selectors rows) ≡ at r c (react l input).next waiting selectors rows
-silent_at r input c l waiting selectors rows h s = grind (arith, moves_at, react, selectors_told, quiet_answers, limit_for, append-nil)
-
-alike_answers : (r m n : ℕ) (a b : Move) (c : Carrier) → m ≡ n → AreAlike a b → answers r m a c ≡ answers r n b c
-alike_answers r m n a b c sizes same = cc
+silent_at r input c l waiting selectors rows h s = grind (arith, moves_at, react, selectors_told, limit_for, append-nil)
 
 -- ---- both runs
 
@@ -86,7 +78,7 @@ runs r rows c waiting selectors l m (calls call ∷ acts) h silent =
     let same : at r (answers r (limit_of m.state) two c) two.next (waiting ++ two.shown) (names two.shown None selectors) rows
     ≡ at r (answers r (limit_of l.state) one c) two.next (waiting ++ one.shown) (names one.shown None selectors) rows =
     ap (λ (d : Carrier). at r d two.next (waiting ++ two.shown) (names two.shown None selectors) rows)
-    (sym (alike_answers r (limit_of l.state) (limit_of m.state) one two c silent.0.0 silent.0.1))
+    (sym (grind arith))
     ∙ ap (λ (w : List Shown). at r (answers r (limit_of l.state) one c) two.next (waiting ++ w) (names w None selectors) rows)
     (sym silent.0.1.shown) in
     search (

@@ -3,7 +3,7 @@ use Rattle.std.proofs.Common.{◌≡◌, ℕ, ◌≤◌, true, List, length, Opt
 use Rattle.osi_session.specs.Kept.{IsKept}
 use Rattle.osi_stack.proofs.Vocabulary.{IfSome, Rows, value_at, is_open, most_data, joined_octets, Input, Listener, after_inputs, may_hold}
 use Rattle.osi_stack.proofs.Vocabulary.{implied, CameAbout, AllCameAbout, needs_link, kept_at, IsSettled, Line, End, session_in}
-use Rattle.osi_stack.proofs.each_line.what_stays_true_of_each_session.{at_line}
+use Rattle.osi_stack.proofs.each_line.what_stays_true_of_each_line.{line_at}
 
 pub record JoinedLaws : Type 0 where
   pub kept : (l : Listener) (inputs : List Input) → IsKept l → IsKept (after_inputs l inputs)
@@ -15,7 +15,7 @@ came_kept law s h = grind arith
 pub came_by : (r : ℕ) (s : Listener) (lines : Rows Line) (o : Option Line) → value_at r lines ≡ o → session_in o ≡ Some s →
     AllCameAbout lines → CameAbout s
 came_by r s lines None at is all = cc
-came_by r s lines (Some line) at is all = subst (λ (o : Option Listener). IfSome o CameAbout) is (at_line CameAbout r line lines all at)
+came_by r s lines (Some line) at is all = subst (λ (o : Option Listener). IfSome o CameAbout) is (grind (arith, line_at))
 
 kept_of : JoinedLaws → (r : ℕ) (s : Listener) (e : End) → IsSettled e → kept_at r e.lines ≡ Some s → IsKept s
 kept_of law r s e settled is = came_kept law s (came_by r s e.lines (value_at r e.lines) refl is settled.came)

@@ -1,16 +1,14 @@
 -- What the tables of sessions say, in the form in which it is used here.
-use Rattle.std.proofs.Common.{◌≡◌, Bool, true, false, not, ◌||◌, List, [], ◌∷◌, refl, ap}
+use Rattle.std.proofs.Common.{arith, ◌≡◌, Bool, true, false, ◌||◌, List, [], ◌∷◌, refl}
 use Rattle.osi_stack.proofs.Vocabulary.{Input, Listener, opened, is_opened, react, after_inputs, is_wait_transport, is_over, is_ended}
-use Rattle.osi_stack.proofs.Vocabulary.{Phase, implied, excluded, needs_link}
+use Rattle.osi_stack.proofs.Vocabulary.{excluded, needs_link}
 use Rattle.osi_stack.proofs.carried.packets_without_events.{both}
 use Rattle.osi_stack.proofs.carried.open_connections_stay_open.{SessionLaws}
-use Rattle.osi_stack.proofs.in_step.lines_that_are_gone_do_not_matter.{or_either}
 
 -- ---- what happens to a session
 
 pub unopened : (input : Input) → (input ≡ opened → ⊥) → is_opened input ≡ false
-unopened opened other = absurd (other refl)
-unopened input other = refl
+unopened input other = grind arith
 
 pub record Published : Type 0 where
   pub over : (s : Listener) (inputs : List Input) → is_over s.state.phase ≡ true → is_over (after_inputs s inputs).state.phase ≡ true
@@ -19,31 +17,22 @@ pub record Published : Type 0 where
   pub waiting : (s : Listener) (input : Input) → (input ≡ opened → ⊥) → is_wait_transport s.state.phase ≡ true →
       (is_wait_transport (react s input).next.state.phase || is_over (react s input).next.state.phase) ≡ true
 
--- a session that does not need its connection yet, or not any more
-idle : (p : Phase) → needs_link p ≡ false → (is_wait_transport p || is_over p) ≡ true
-idle p h = implied (λ q. not (needs_link q)) (λ q. is_wait_transport q || is_over q) refl p (ap not h)
-
 stays_idle : Published → (s : Listener) (input : Input) (b : Bool) → (input ≡ opened → ⊥) → is_wait_transport s.state.phase ≡ b →
     needs_link s.state.phase ≡ false →
     needs_link (react s input).next.state.phase ≡ false
-stays_idle law s input true other waits none =
-    excluded (λ q. is_wait_transport q || is_over q) needs_link refl (react s input).next.state.phase (law.waiting s input other waits)
+stays_idle law s input true other waits none = grind (arith, excluded, react)
 stays_idle law s input false other waits none =
     excluded is_over needs_link refl (react s input).next.state.phase
-    (law.over s (input ∷ []) (or_either (is_wait_transport s.state.phase) (is_over s.state.phase) (idle s.state.phase none) waits))
+    (law.over s (input ∷ []) (grind arith))
 
 linked_by : Published → (s : Listener) (input : Input) (b : Bool) → (input ≡ opened → ⊥) →
     needs_link (react s input).next.state.phase ≡ true → needs_link s.state.phase ≡ b → b ≡ true
-linked_by law s input true other needs e = refl
-linked_by law s input false other needs e =
-    both (needs_link (react s input).next.state.phase) needs (stays_idle law s input (is_wait_transport s.state.phase) other refl e)
+linked_by law s input b other needs e = grind (arith, both, react, stays_idle)
 
 begun_by : Published → (s : Listener) (b : Bool) → is_ended s.state.phase ≡ b → needs_link (react s opened).next.state.phase ≡ true →
     b ≡ false
 begun_by law s false e needs = refl
-begun_by law s true e needs =
-    both (needs_link (react s opened).next.state.phase) needs
-    (excluded is_ended needs_link refl (react s opened).next.state.phase (law.ended s (opened ∷ []) e))
+begun_by law s true e needs = grind (arith, both, excluded, react s opened, law.ended s (opened ∷ []) e)
 
 pub session_laws : Published → SessionLaws
 session_laws law = record {

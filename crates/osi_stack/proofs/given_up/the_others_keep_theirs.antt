@@ -1,13 +1,13 @@
 -- One connection is given up: the others keep all that is theirs, a DR is written in class 2 and the end ends in class
 -- 0, and nothing is pending for the user of that connection.
-use Rattle.std.proofs.Common.{◌≡◌, ◌≢◌, ℕ, Bool, true, false, [], ◌∷◌, ◌++◌, Option, Some, None, is_some, option_map, refl, sym, ap, subst}
+use Rattle.std.proofs.Common.{arith, ◌≡◌, ◌≢◌, ℕ, Bool, true, false, [], ◌∷◌, ◌++◌, Option, Some, None, is_some, option_map, refl, sym, ap}
 use Rattle.std.proofs.Common.{◌∙◌, if◌then◌else◌}
 use Rattle.osi_carrier.specs.State.{writes, moves}
 use Rattle.osi_carrier.specs.declared.ends.EndReason.TheVariants.{Closed}
-use Rattle.osi_stack.specs.Disconnecting.{given_up, gives_up, disconnects, LeavesOthers}
-use Rattle.osi_stack.proofs.Vocabulary.{Standing as Link, Class, Zero, open_link, closes, closed_on, closed_with, disconnect, value_at}
-use Rattle.osi_stack.proofs.Vocabulary.{put_other, closing, carrier_ends, State as Carrier, Rows, Listener, after_input, broken, react}
-use Rattle.osi_stack.proofs.Vocabulary.{is_ended, shown_at_loss, all_lost, kept_at, waiting_of, waiting_at, Line, End, session_in}
+use Rattle.osi_stack.specs.Disconnecting.{gives_up, disconnects, LeavesOthers}
+use Rattle.osi_stack.proofs.Vocabulary.{Standing as Link, Zero, open_link, closed_on, closed_with, disconnect, value_at, put_other, closing}
+use Rattle.osi_stack.proofs.Vocabulary.{carrier_ends, State as Carrier, Rows, Listener, after_input, broken, react, is_ended, shown_at_loss}
+use Rattle.osi_stack.proofs.Vocabulary.{all_lost, kept_at, waiting_of, waiting_at, Line, End, session_in}
 use Rattle.osi_stack.proofs.given_up.the_invariant_stays.{closed_and_given, disconnect_carrier, disconnect_lasts, disconnect_is, given_here}
 use Rattle.osi_stack.proofs.given_up.the_invariant_stays.{given_other, session_given}
 use Rattle.osi_stack.proofs.carried.what_a_move_leaves.{are_lost}
@@ -21,73 +21,33 @@ record IsLeft (r : ℕ) (old new : Carrier) : Type 0 where
   tsaps : new.tsaps ≡ old.tsaps
   class : new.class ≡ old.class
 
-left_by : (r peer : ℕ) (class : Option Class) (c : Carrier) → (closes r peer 128 class c).ended ≡ None →
-    IsLeft r c (closes r peer 128 class c)
-left_by r peer (Some Zero) c lasts = cc
-left_by r peer _ c lasts = record { live = λ q ne. put_other q r (closing peer) c.live ne; tsaps = refl; class = refl }
-
-left_on : (r : ℕ) (o : Option (ℕ × Link)) (c : Carrier) → (closed_on r 128 o c).ended ≡ None → IsLeft r c (closed_on r 128 o c)
-left_on r None c lasts = record { live = λ q ne. refl; tsaps = refl; class = refl }
-left_on r (Some (peer, link)) c lasts = left_by r peer c.class c lasts
-
 pub leaves_others : (r : ℕ) (e : End) → (disconnects r e).carrier.ended ≡ None → LeavesOthers r e (disconnects r e)
-leaves_others r e over =
-    let left = left_on r (open_link r e.carrier) e.carrier (disconnect_lasts r e over) in
-    subst (LeavesOthers r e) (sym (disconnect_is r e over)) (record {
-      lines = λ q ne. given_other q r e.lines ne;
-      live = left.live;
-      tsaps = left.tsaps;
-      class = left.class;
-      given = closed_given r 128 (open_link r e.carrier) e.carrier;
-    })
+leaves_others r e over = grind (arith, put_other, disconnect_lasts, disconnect_is, given_other, closed_given)
 
 -- ---- what is written
 
-asks_by : (r peer : ℕ) (class : Option Class) (c : Carrier) → (class ≡ Some Zero → ⊥) →
-    closes r peer 128 class c ≡ writes (disconnect peer r 128 [] ∷ []) (moves r (closing peer) c)
-asks_by r peer (Some Zero) c other = absurd (other refl)
-asks_by r peer _ c other = refl
-
 pub asks_peer : (r peer : ℕ) (link : Link) (e : End) → open_link r e.carrier ≡ Some (peer, link) → (e.carrier.class ≡ Some Zero → ⊥) →
     (disconnects r e).carrier ≡ writes (disconnect peer r 128 [] ∷ []) (moves r (closing peer) e.carrier)
-asks_peer r peer link e here other =
-    disconnect_carrier r e ∙ ap (λ (o : Option (ℕ × Link)). closed_on r 128 o e.carrier) here ∙
-    asks_by r peer e.carrier.class e.carrier other
+asks_peer r peer link e here other = grind (arith, disconnect_carrier)
 
 pub ends_in_zero : (r peer : ℕ) (link : Link) (e : End) → open_link r e.carrier ≡ Some (peer, link) → e.carrier.class ≡ Some Zero →
     (disconnects r e).carrier ≡ carrier_ends Closed e.carrier
-ends_in_zero r peer link e here zero =
-    disconnect_carrier r e ∙ ap (λ (o : Option (ℕ × Link)). closed_on r 128 o e.carrier) here
-    ∙ ap (λ (class : Option Class). closes r peer 128 class e.carrier) zero
+ends_in_zero r peer link e here zero = grind (arith, disconnect_carrier)
 
 pub rests_unlinked : (r : ℕ) (e : End) → open_link r e.carrier ≡ None → (disconnects r e).carrier ≡ e.carrier
 rests_unlinked r e here = disconnect_carrier r e ∙ ap (λ (o : Option (ℕ × Link)). closed_on r 128 o e.carrier) here
 
-lasts_by : (r : ℕ) (o : Option (ℕ × Link)) (c : Carrier) → (c.class ≡ Some Zero → ⊥) → c.ended ≡ None → (closed_on r 128 o c).ended ≡ None
-lasts_by r None c other lasts = lasts
-lasts_by r (Some (peer, link)) c other lasts = ap (λ (d : Carrier). d.ended) (asks_by r peer c.class c other) ∙ lasts
-
 pub goes_on : (r : ℕ) (e : End) → e.carrier.ended ≡ None → (e.carrier.class ≡ Some Zero → ⊥) → (disconnects r e).carrier.ended ≡ None
-goes_on r e lasts other = ap (λ (c : Carrier). c.ended) (disconnect_carrier r e) ∙ lasts_by r (open_link r e.carrier) e.carrier other lasts
+goes_on r e lasts other = ap (λ (c : Carrier). c.ended) (disconnect_carrier r e) ∙ (grind arith)
 
 -- ---- the indications
 
 unseen : (o : Option Listener) → shown_at_loss (option_map (λ s. after_input s broken) o) ≡ []
 unfolding react
-unseen None = refl
-unseen (Some s) = refl
-
-given_waits : (o : Option Line) → waiting_of (option_map given_up o) ≡ []
-given_waits None = refl
-given_waits (Some line) = refl
+unseen o = grind arith
 
 none_given : (r : ℕ) (lines : Rows Line) → waiting_at r (gives_up r lines) ≡ []
-none_given r lines = ap waiting_of (given_here r lines) ∙ given_waits (value_at r lines)
-
-lost_given : (r : ℕ) (lines : Rows Line) → shown_at_loss (kept_at r (gives_up r lines)) ≡ []
-lost_given r lines =
-    ap (λ (o : Option Line). shown_at_loss (session_in o)) (given_here r lines) ∙ ap shown_at_loss (session_given (value_at r lines)) ∙
-    unseen (session_in (value_at r lines))
+none_given r lines = ap waiting_of (given_here r lines) ∙ (grind arith)
 
 hushed_by : (r : ℕ) (over : Bool) (e : End) → waiting_at r e.lines ≡ [] → shown_at_loss (kept_at r e.lines) ≡ [] →
     waiting_at r (if over then record e { lines = all_lost e.lines } else e).lines ≡ []
@@ -95,9 +55,7 @@ hushed_by r true e none lost = (are_lost e.lines).waiting r ∙ ap (λ l. l ++ s
 hushed_by r false e none lost = none
 
 pub hushes : (r : ℕ) (e : End) → waiting_at r (disconnects r e).lines ≡ []
-hushes r e =
-    let c = closed_with r 128 e.carrier in
-    hushed_by r (is_some c.ended) (closed_and_given r e) (none_given r e.lines) (lost_given r e.lines)
+hushes r e = search (arith, hushed_by, closed_and_given r e, none_given r e.lines, given_here, session_given, unseen)
 
 -- ---- its session has ended
 
@@ -106,8 +64,7 @@ unfolding react
 broken_ended s = refl
 
 ended_in : (o : Option Listener) (s : Listener) → option_map (λ s. after_input s broken) o ≡ Some s → is_ended s.state.phase ≡ true
-ended_in None s is = cc
-ended_in (Some t) s is = let one : after_input t broken ≡ s = cc in ap (λ (x : Listener). is_ended x.state.phase) (sym one) ∙ broken_ended t
+ended_in o s is = grind (arith, broken_ended)
 
 over_by : (r : ℕ) (over : Bool) (s : Listener) (e : End) →
     kept_at r (if over then record e { lines = all_lost e.lines } else e).lines ≡ Some s →

@@ -1,7 +1,7 @@
 -- An accepted call of a session does the same if indications are pending as if all had been given.
-use Rattle.std.proofs.Common.{◌≡◌, ℕ, ◌==◌, Bool, List, [], ◌∷◌, ◌++◌, Option, Some, None, option_map, refl, sym, ap, ◌∙◌, arith}
-use Rattle.osi_stack.proofs.Vocabulary.{append-nil, Rows, value_at, put, Call as SessionCall, Input, Listener, called, Shown, call_error}
-use Rattle.osi_stack.proofs.Vocabulary.{all_waiting, line_by, by_line, to_session, quieted, hushed, put_back, account_of, Line, End}
+use Rattle.std.proofs.Common.{◌≡◌, ℕ, ◌==◌, Bool, List, [], ◌∷◌, ◌++◌, Some, None, refl, sym, ap, ◌∙◌, arith}
+use Rattle.osi_stack.proofs.Vocabulary.{append-nil, Rows, value_at, put, Call as SessionCall, Input, called, Shown, call_error, all_waiting}
+use Rattle.osi_stack.proofs.Vocabulary.{line_by, by_line, to_session, quieted, hushed, put_back, account_of, Line, End}
 use Rattle.osi_stack.proofs.in_step.the_account_packet_by_packet.{made}
 use Rattle.osi_stack.proofs.in_step.what_is_seen_is_the_same.{call_hushed, hush, quieted_value}
 use Rattle.osi_stack.proofs.carried.what_a_move_leaves.{says_is}
@@ -26,16 +26,8 @@ put_quieted : (r : ℕ) (x y : Line) (lines : Rows Line) → hush x ≡ hush y �
 put_quieted r x y [] same = refl
 put_quieted r x y ((q, line) ∷ lines) same = put_quieted_by r q x y line lines (q == r) refl same (put_quieted r x y lines same)
 
-line_hushed : (line : Line) (session : Option Listener) (input : Input) →
-    hush (line_by line session input) ≡ hush (line_by (hush line) session input)
-line_hushed line session input = grind arith
-
-hushed_by : (r : ℕ) (line : Option Line) (input : Input) (e : End) →
-    hushed (by_line r line input e) ≡ hushed (by_line r (option_map hush line) input (hushed e))
-hushed_by r line input e = grind (arith, quieted_twice, by_line, put_quieted, line_by, hush, line_hushed)
-
 session_hushed : (r : ℕ) (input : Input) (e : End) → hushed (to_session r input e) ≡ hushed (to_session r input (hushed e))
-session_hushed r input e = grind (arith, hushed_by, quieted_value)
+session_hushed r input e = grind (arith, quieted_twice, by_line, put_quieted, line_by, hush, quieted_value)
 
 -- ---- what is pending
 

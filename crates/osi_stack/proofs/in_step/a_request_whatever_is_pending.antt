@@ -1,5 +1,5 @@
 -- A connection is requested, whatever is pending: it is the same but for lines of connections that are gone.
-use Rattle.std.proofs.Common.{◌≡◌, ℕ, ◌+◌, ◌==◌, Bool, true, List, [], ◌∷◌, ◌++◌, is_some, refl, sym, ap, ◌∙◌, arith}
+use Rattle.std.proofs.Common.{◌≡◌, ℕ, ◌+◌, Bool, true, List, [], ◌∷◌, ◌++◌, is_some, refl, sym, ap, ◌∙◌, arith}
 use Rattle.osi_stack.proofs.Vocabulary.{eqb-true, eq-eqb, flat_map, beyond, push_here, push_other, AreUpTo, Rows, value_at, Connection}
 use Rattle.osi_stack.proofs.Vocabulary.{asked, State as Carrier, Listener, Shown, connects, shown_of, all_waiting, quieted, hushed}
 use Rattle.osi_stack.proofs.Vocabulary.{put_back, live_lines, pruned, told_in, carried_in, AreAlike, AreAlikeInLive, Line, End, Holding}
@@ -9,7 +9,7 @@ use Rattle.osi_stack.proofs.in_step.lines_that_are_gone_do_not_matter.{quieted_l
 use Rattle.osi_stack.proofs.carried.packets_without_events.{both, or_second}
 use Rattle.osi_stack.proofs.carried.open_connections_stay_open.{used_by, joined_lines}
 use Rattle.osi_stack.proofs.in_step.the_other_lines_may_be_dropped.{only, only_push}
-use Rattle.osi_stack.proofs.in_step.what_happens_to_live_connections.{reached, reached_live, reached_new, Within, only_less, known_live}
+use Rattle.osi_stack.proofs.in_step.what_happens_to_live_connections.{reached, reached_live, Within, only_less, known_live}
 use Rattle.osi_stack.proofs.in_step.two_runs_reach_the_same_state.{connects_apart}
 
 -- ---- what is pending
@@ -59,13 +59,8 @@ hushed_lines live q s lines =
 pub connects_hushed : (c : Connect) (e : End) → hushed (pruned (connects c e)) ≡ pruned (connects c (hushed e))
 connects_hushed c e = grind (arith, hushed_lines)
 
--- nor are the lines of connections that are gone
-asked_within_by : (r : ℕ) (c : Carrier) (b : Bool) → (r == c.given + 1) ≡ b →
-    is_some (value_at r (c.live ++ (c.given + 1, asked) ∷ [])) ≡ true → reached c r ≡ true
-asked_within_by r c b e here = grind (arith, eqb-true, reached_new, both, eq-eqb, reached_live, push_other)
-
 asked_within : (c : Carrier) → Within (λ r. is_some (value_at r (c.live ++ (c.given + 1, asked) ∷ []))) (reached c)
-asked_within c r here = asked_within_by r c (r == c.given + 1) refl here
+asked_within c r here = grind (arith, eqb-true, both, eq-eqb, reached_live, push_other)
 
 pruned_lines : (c : Carrier) (s : Listener) (lines : Rows Line) → AreUpTo c.given c.live → AreUpTo c.given lines →
     joins_live (c.live ++ (c.given + 1, asked) ∷ []) (c.given + 1) s (live_lines c.live lines) ≡ joins_live
@@ -75,8 +70,7 @@ pruned_lines c s lines up known =
     let live = c.live ++ (q, asked) ∷ [] in
     let K : ℕ → Bool = λ r. is_some (value_at r live) in
     let new : K q ≡ true = ap is_some (push_here q asked c.live (beyond q c.given c.live up (omega arith))) in
-    let less : only K (live_lines c.live lines) ≡ only K lines = ap (only K) (sym (known_live c lines known)) ∙
-    only_less K (reached c) (asked_within c) lines in
+    let less : only K (live_lines c.live lines) ≡ only K lines = grind (arith, only, known_live, only_less, reached, asked_within) in
     live_used live (joined_lines q s (live_lines c.live lines)) ∙ sym (only_push K q s (live_lines c.live lines) new) ∙
     ap (joined_lines q s) less ∙ only_push K q s lines new
     ∙ sym (live_used live (joined_lines q s lines))

@@ -1,14 +1,11 @@
 -- A connection is requested while indications are pending, but only for live connections: the same as if all had been
 -- given.
-use Rattle.std.proofs.Common.{◌≡◌, ℕ, ◌==◌, Bool, true, false, ◌||◌, not, [], ◌∷◌, ◌++◌, is_some, refl, arith}
-use Rattle.osi_stack.proofs.Vocabulary.{Rows, value_at, Connection, Listener, all_waiting, WaitForLive, quieted, Line, line_waits, is_used}
-use Rattle.osi_stack.proofs.Vocabulary.{used_lines, fresh_line}
+use Rattle.std.proofs.Common.{◌≡◌, ℕ, ◌==◌, Bool, true, [], ◌∷◌, ◌++◌, is_some, refl, arith}
+use Rattle.osi_stack.proofs.Vocabulary.{Rows, value_at, Connection, Listener, all_waiting, WaitForLive, quieted, Line, used_lines}
+use Rattle.osi_stack.proofs.Vocabulary.{fresh_line}
 use Rattle.osi_stack.proofs.in_step.what_is_seen_is_the_same.{hush}
 use Rattle.osi_stack.proofs.each_line.the_first_that_indicates.{quiet_line}
-use Rattle.osi_stack.proofs.carried.open_connections_stay_open.{used_by, joined_lines, mono_or}
-
-or_not : (b w : Bool) → b ≡ false → (b || not w) ≡ true → w ≡ false
-or_not b w e h = grind arith
+use Rattle.osi_stack.proofs.carried.open_connections_stay_open.{used_by, joined_lines}
 
 -- ---- live connections stay so when one is requested
 
@@ -25,7 +22,7 @@ live_push r q c ((p, d) ∷ live) here = push_by r p q c d live (p == r) refl he
 pub wait_push : (q : ℕ) (c : Connection) (live : Rows Connection) (lines : Rows Line) → WaitForLive live lines →
     WaitForLive (live ++ (q, c) ∷ []) lines
 wait_push q c live [] all = tt
-wait_push q c live ((r, line) ∷ lines) all = grind (arith, mono_or, live_push, wait_push q c live lines all.1)
+wait_push q c live ((r, line) ∷ lines) all = grind (arith, live_push, wait_push q c live lines all.1)
 
 -- ---- the lines that are kept
 
@@ -38,15 +35,6 @@ pub record Joins (live : Rows Connection) (q : ℕ) (s : Listener) (lines : Rows
 abbrev new_line : ℕ → Listener → ℕ × Line
 new_line q s = (q, fresh_line s)
 
-last_waiting : (live : Rows Connection) (q : ℕ) (s : Listener) (b : Bool) → is_used live (new_line q s) ≡ b →
-    all_waiting (used_lines live (new_line q s ∷ [])) ≡ []
-last_waiting live q s b e = grind (arith, used_by)
-
-row_joins : (live : Rows Connection) (q p : ℕ) (s : Listener) (y : Line) (lines : Rows Line) (b : Bool) → is_some (value_at p live) ≡ b →
-    (is_some (value_at p live) || not (line_waits y)) ≡ true → Joins live q s lines → Joins live q s ((p, y) ∷ lines)
-row_joins live q p s y lines b e may j = grind (arith, hush, used_by, joined_lines, or_not, quiet_line)
-
 pub joins_alike : (live : Rows Connection) (q : ℕ) (s : Listener) (lines : Rows Line) → WaitForLive live lines → Joins live q s lines
-joins_alike live q s [] all =
-    search (last_waiting live q s (is_used live (new_line q s)) refl, last_waiting live q s (is_used live (new_line q s)) refl)
-joins_alike live q s ((p, y) ∷ lines) all = grind (arith, row_joins, joins_alike live q s lines all.1)
+joins_alike live q s [] all = grind arith
+joins_alike live q s ((p, y) ∷ lines) all = grind (arith, hush, used_by, joined_lines, quiet_line, joins_alike live q s lines all.1)

@@ -1,12 +1,11 @@
 -- Two accounts that are the same but for lines of connections that are gone stay so, whatever comes.
-use Rattle.std.proofs.Common.{◌≡◌, ℕ, ◌==◌, Bool, true, false, ◌||◌, List, [], ◌∷◌, ◌++◌, Option, Some, None, is_some, refl, sym, ap, ◌∙◌}
+use Rattle.std.proofs.Common.{◌≡◌, ℕ, ◌==◌, Bool, true, false, List, [], ◌∷◌, Option, Some, None, is_some, refl, sym, ap, ◌∙◌}
 use Rattle.std.proofs.Common.{if◌then◌else◌, arith}
 use Rattle.osi_carrier.specs.Packets as carriers
-use Rattle.osi_stack.proofs.Vocabulary.{eq-eqb, or_right, orderly_same, link_of, AreUpTo, Rows, value_at, Connection, asked, is_open}
-use Rattle.osi_stack.proofs.Vocabulary.{none_of, implied, Listener, broken, react, is_wait_transport, may_abort, shows_loss, Shown}
-use Rattle.osi_stack.proofs.Vocabulary.{shown_at_loss, after_packet, with_carrier, AreApart, HasAsked, IsSound, kept_at, all_waiting}
-use Rattle.osi_stack.proofs.Vocabulary.{quieted, hushed, put_back, live_lines, pruned, Account, account_of, Line, End, IsAttended}
-use Rattle.osi_stack.proofs.Vocabulary.{line_waits, waits}
+use Rattle.osi_stack.proofs.Vocabulary.{eq-eqb, or_right, orderly_same, AreUpTo, Rows, value_at, Connection, is_open, none_of, Listener}
+use Rattle.osi_stack.proofs.Vocabulary.{broken, react, is_wait_transport, may_abort, shows_loss, Shown, shown_at_loss, after_packet}
+use Rattle.osi_stack.proofs.Vocabulary.{with_carrier, AreApart, HasAsked, IsSound, kept_at, quieted, hushed, put_back, live_lines, pruned}
+use Rattle.osi_stack.proofs.Vocabulary.{Account, account_of, Line, End, IsAttended, line_waits, waits}
 use Rattle.osi_stack.proofs.in_step.the_account_packet_by_packet.{made}
 use Rattle.osi_stack.proofs.in_step.what_is_seen_is_the_same.{quieted_at}
 use Rattle.osi_stack.proofs.opening.who_waits_was_requested.{StillWaits, packet_asked}
@@ -15,7 +14,7 @@ use Rattle.osi_stack.proofs.each_line.the_first_that_indicates.{quiet_line}
 use Rattle.osi_stack.proofs.carried.packets_without_events.{both, or_first, or_second, packet_is}
 use Rattle.osi_stack.proofs.carried.open_connections_stay_open.{SessionLaws}
 use Rattle.osi_stack.proofs.in_step.the_other_lines_may_be_dropped.{AreStill}
-use Rattle.osi_stack.proofs.in_step.what_happens_to_live_connections.{reached, unreached, SameInLive}
+use Rattle.osi_stack.proofs.in_step.what_happens_to_live_connections.{reached, SameInLive}
 use Rattle.osi_stack.proofs.sound.the_invariant_is_kept.{packet_sound}
 
 -- ---- what is true of an end, whatever is pending and was carried
@@ -76,25 +75,16 @@ quiet_loss : (s : Listener) → shows_loss s.state.phase ≡ false → (react s 
 unfolding react
 quiet_loss s h = grind arith
 
-pub or_either : (a b : Bool) → (a || b) ≡ true → a ≡ false → b ≡ true
-or_either a b h e = grind arith
-
-link_live : (over : Bool) (o : Option Connection) → o ≡ None → is_some (if over then None else link_of o) ≡ false
-link_live over o none = grind arith
-
 gone_quiet : (e : End) (r : ℕ) (s : Listener) → e.carrier.ended ≡ None → IsFit e → kept_at r e.lines ≡ Some s →
     value_at r e.carrier.live ≡ None → (b c : Bool) → may_abort s.state.phase ≡ b →
     shows_loss s.state.phase ≡ c → c ≡ false
 gone_quiet e r s lasts f kept none b false m shows = refl
 gone_quiet e r s lasts f kept none true true m shows =
     let open_is : is_open r e.carrier ≡ true = (f.sound lasts).links lasts r s kept (or_right _ (may_abort s.state.phase) m) in
-    both (is_open r e.carrier) open_is (link_live (is_some e.carrier.ended) (value_at r e.carrier.live) none)
+    both (is_open r e.carrier) open_is (grind arith)
 gone_quiet e r s lasts f kept none false true m shows =
-    let waits : is_wait_transport s.state.phase ≡ true =
-    or_either (may_abort s.state.phase) (is_wait_transport s.state.phase)
-    (implied shows_loss (λ p. may_abort p || is_wait_transport p) refl s.state.phase shows) m in
-    let no : None ≡ Some asked = sym none ∙ f.asks lasts r s kept waits in
-    cc
+    let waits : is_wait_transport s.state.phase ≡ true = grind arith in
+    grind arith
 
 pub gone_shows : (e : End) (r : ℕ) (s : Listener) → e.carrier.ended ≡ None → IsFit e → kept_at r e.lines ≡ Some s →
     value_at r e.carrier.live ≡ None → (react s broken).shown ≡ []
@@ -110,26 +100,19 @@ ShowNothing K lines = (r : ℕ) (s : Listener) → kept_at r lines ≡ Some s �
 pub kept_first : (q : ℕ) (y : Line) (lines : Rows Line) → kept_at q ((q, y) ∷ lines) ≡ y.session
 kept_first q y lines = let e = eq-eqb q q refl in rw e refl
 
-kept_behind : (r q : ℕ) (y : Line) (lines : Rows Line) (s : Listener) (b : Bool) → (q == r) ≡ b → value_at q lines ≡ None →
-    kept_at r lines ≡ Some s → kept_at r ((q, y) ∷ lines) ≡ Some s
-kept_behind r q y lines s b e none is = grind arith
-
 shown_none : (o : Option Listener) → ((s : Listener) → o ≡ Some s → (react s broken).shown ≡ []) → shown_at_loss o ≡ []
 shown_none o h = grind arith
 
 still_lines : (K : ℕ → Bool) (lines : Rows Line) → AreApart lines → waits lines ≡ false → ShowNothing K lines → AreStill K lines
 still_lines K [] apart quiet shows = tt
 still_lines K ((q, y) ∷ lines) apart quiet shows = (
-  λ gone. record {
-    waiting = quiet_line y (or_first (line_waits y) (waits lines) quiet);
-    lost = shown_none y.session (λ s is. shows q s (kept_first q y lines ∙ is) gone);
-  },
+  search (arith, quiet_line, or_first, shown_none, kept_first),
   still_lines K lines apart.1 (or_second (line_waits y) (waits lines) quiet)
-      (λ r s is gone. shows r s (kept_behind r q y lines s (q == r) refl apart.0 is) gone),
+      (λ r s is gone. shows r s (grind arith) gone),
 )
 
 pub fit_still : (e : End) → e.carrier.ended ≡ None → IsFit e → waits e.lines ≡ false → AreStill (reached e.carrier) e.lines
-fit_still e lasts f quiet = grind (arith, still_lines, reached, gone_shows, unreached)
+fit_still e lasts f quiet = grind (arith, still_lines, reached, gone_shows)
 
 -- ---- accounts
 
@@ -145,14 +128,9 @@ pub quieted_live : (live : Rows Connection) (lines : Rows Line) → live_lines l
 quieted_live live [] = refl
 quieted_live live ((q, y) ∷ lines) = quieted_row live q y lines (is_some (value_at q live)) refl (quieted_live live lines)
 
--- what is left of the account of an end
-pub account_view : (t : List (ℕ × Shown)) (o : List ℕ) (e : End) →
-    pruned_account (account_of t o e) ≡ made (put_back o (hushed (pruned e))) (t ++ all_waiting e.lines)
-account_view t o e = grind (arith, made, quieted_live)
-
 pub account_alike : (t : List (ℕ × Shown)) (o : List ℕ) (a b : End) → SameInLive a b →
     pruned_account (account_of t o a) ≡ pruned_account (account_of t o b)
-account_alike t o a b h = grind (arith, account_view, made)
+account_alike t o a b h = grind (arith, made, quieted_live)
 
 -- all its indications were given
 pub none_waits : (lines : Rows Line) → waits (quieted lines) ≡ false

@@ -1,12 +1,11 @@
 -- Rounds in which connections are requested whatever is pending: two runs in step reach the same state but for lines of
 -- connections that are gone.
-use Rattle.std.proofs.Common.{◌≡◌, ℕ, ◌<◌, ◌^◌, true, false, List, [], ◌++◌, Option, Some, None, is_some, refl, sym, ap, ◌∙◌, if◌then◌else◌}
-use Rattle.osi_stack.proofs.Vocabulary.{flat_map, IsPartial, PacketLaws, OneCut, value_at, Connection, Tpkt, EndReason, Broken, Fault}
-use Rattle.osi_stack.proofs.Vocabulary.{Call as SessionCall, Listener, called, Shown, connects, connect_error, call_error, after_packet}
-use Rattle.osi_stack.proofs.Vocabulary.{ends, all_waiting, to_session, UserCall, user_does, Round, MayAsk, RoundsAsking, calls_of}
-use Rattle.osi_stack.proofs.Vocabulary.{AreInStep, connecting, calling, disconnecting, breaking, disconnects, hushed, put_back, pruned}
-use Rattle.osi_stack.proofs.Vocabulary.{Account, account_of, with_packet, CallsInRoom, used_in, told_in, carried_in, AreAlikeInLive}
-use Rattle.osi_stack.proofs.Vocabulary.{IsSettled, End, Holding, waits, Connect, EndCall as Call}
+use Rattle.std.proofs.Common.{arith, ◌≡◌, ℕ, ◌<◌, ◌^◌, true, false, List, [], ◌++◌, None, refl, sym, ap, ◌∙◌}
+use Rattle.osi_stack.proofs.Vocabulary.{flat_map, IsPartial, PacketLaws, OneCut, Tpkt, EndReason, Broken, Fault, Call as SessionCall}
+use Rattle.osi_stack.proofs.Vocabulary.{called, Shown, connects, connect_error, call_error, after_packet, ends, all_waiting, to_session}
+use Rattle.osi_stack.proofs.Vocabulary.{UserCall, user_does, Round, MayAsk, RoundsAsking, calls_of, AreInStep, connecting, calling}
+use Rattle.osi_stack.proofs.Vocabulary.{disconnecting, breaking, disconnects, hushed, put_back, pruned, Account, account_of, with_packet}
+use Rattle.osi_stack.proofs.Vocabulary.{CallsInRoom, used_in, AreAlikeInLive, IsSettled, End, Holding, waits, Connect, EndCall as Call}
 use Rattle.osi_stack.proofs.in_step.the_account_packet_by_packet.{made}
 use Rattle.osi_stack.proofs.in_step.a_request_whatever_is_pending.{waits_asked, connects_pruned, connects_back}
 use Rattle.osi_stack.proofs.carried.all_events_are_handled.{session_attended, connect_attended}
@@ -15,9 +14,8 @@ use Rattle.osi_stack.proofs.given_up.two_runs_stay_alike.{disconnect_alike}
 use Rattle.osi_stack.proofs.given_up.the_invariant_stays.{disconnect_attended, disconnect_sound}
 use Rattle.osi_stack.proofs.given_up.who_waits_was_still_requested.{disconnect_asked}
 use Rattle.osi_stack.proofs.in_step.lines_that_are_gone_do_not_matter.{IsFit, fit_over, fit_hushed, fit_back, fit_packet, fit_still}
-use Rattle.osi_stack.proofs.in_step.lines_that_are_gone_do_not_matter.{pruned_account, account_view, account_alike, none_waits}
+use Rattle.osi_stack.proofs.in_step.lines_that_are_gone_do_not_matter.{pruned_account, account_alike, none_waits, quieted_live}
 use Rattle.osi_stack.proofs.carried.open_connections_stay_open.{SessionLaws}
-use Rattle.osi_stack.proofs.in_step.what_a_look_finds.{settled_fit}
 use Rattle.osi_stack.proofs.carried.what_a_move_leaves.{says_is}
 use Rattle.osi_stack.proofs.in_step.what_happens_to_live_connections.{is_live, packet_alike, session_alike, ends_alike}
 use Rattle.osi_stack.proofs.in_step.two_runs_reach_the_same_state.{Likeness, alike_at, SameAfter, called_by, account_called, are_first}
@@ -67,8 +65,7 @@ ended reason z = account_of z.told [] (ends reason z.end)
 one_end : (z : Account) (reason : EndReason) → z.end.carrier.ended ≡ None → IsFit z.end → waits z.end.lines ≡ false →
     pruned_account (ended reason z) ≡ pruned_account (ended reason (pruned_account z))
 one_end z reason lasts f quiet =
-    sym (account_alike z.told [] (ends reason (pruned z.end)) (ends reason z.end)
-    (ends_alike reason z.end (f.sound lasts).known (fit_still z.end lasts f quiet)))
+    sym (search (arith, account_alike, ends_alike, f.sound lasts, fit_still z.end lasts f quiet))
 
 like_end : (x y : Account) (reason : EndReason) → x.end.carrier.ended ≡ None → LikeInLive x y → LikeInLive (ended reason x) (ended reason y)
 like_end x y reason lasts h =
@@ -84,24 +81,18 @@ like_end x y reason lasts h =
 
 -- ---- a call of a session
 
-live_by : (o : Option Connection) (kept : Option Listener) (s : Listener) → (if is_some o then kept else None) ≡ Some s → is_some o ≡ true
-live_by None kept s h = cc
-live_by (Some connection) kept s h = refl
-
 -- a call is accepted by a session whose connection is live
 accepted_live : (r : ℕ) (call : SessionCall) (e : End) → call_error r call e ≡ None → is_live e.carrier r ≡ true
-accepted_live r call e h = let says = says_is r call e h in live_by (value_at r e.carrier.live) _ says.acts.session says.live
+accepted_live r call e h = let says = says_is r call e h in grind arith
 
 one_call : (r : ℕ) (call : SessionCall) (z : Account) → is_live z.end.carrier r ≡ true → z.end.carrier.ended ≡ None → IsFit z.end →
     waits z.end.lines ≡ false →
     pruned_account (called_by (calling r call) z) ≡ pruned_account (called_by (calling r call) (pruned_account z))
 one_call r call z here lasts f quiet =
-    sym (account_alike z.told [] (to_session r (called call) (pruned z.end)) (to_session r (called call) z.end)
-    (session_alike r (called call) z.end here (f.sound lasts).known (fit_still z.end lasts f quiet)))
+    sym (search (arith, account_alike, session_alike, f.sound lasts, fit_still z.end lasts f quiet))
 
 fit_call : SessionLaws → StillWaits → (r : ℕ) (call : SessionCall) (e : End) → IsFit e → IsFit (to_session r (called call) e)
-fit_call laws law r call e f =
-    search (session_attended r (called call) e f.attended, call_sound laws r call e f.sound, call_asked law r call e f.asks)
+fit_call laws law r call e f = grind (arith, session_attended, call_sound, call_asked)
 
 like_call : SessionLaws → StillWaits → (r : ℕ) (call : SessionCall) (x y : Account) → is_live x.end.carrier r ≡ true →
     is_live y.end.carrier r ≡ true → x.end.carrier.ended ≡ None → LikeInLive x y →
@@ -122,22 +113,15 @@ like_call laws law r call x y here there lasts h =
 one_disconnect : (r : ℕ) (z : Account) → z.end.carrier.ended ≡ None → IsFit z.end → waits z.end.lines ≡ false →
     pruned_account (called_by (disconnecting r) z) ≡ pruned_account (called_by (disconnecting r) (pruned_account z))
 one_disconnect r z lasts f quiet =
-    sym (account_alike z.told [] (disconnects r (pruned z.end)) (disconnects r z.end)
-    (disconnect_alike r z.end (f.sound lasts).known (fit_still z.end lasts f quiet)))
-
-fit_disconnect : (r : ℕ) (e : End) → IsFit e → IsFit (disconnects r e)
-fit_disconnect r e f =
-    record { attended = disconnect_attended r e f.attended; sound = disconnect_sound r e f.sound; asks = disconnect_asked r e f.asks }
+    sym (search (arith, account_alike, disconnect_alike, f.sound lasts, fit_still z.end lasts f quiet))
 
 like_disconnect : (r : ℕ) (x y : Account) → x.end.carrier.ended ≡ None → LikeInLive x y →
     LikeInLive (called_by (disconnecting r) x) (called_by (disconnecting r) y)
 like_disconnect r x y lasts h =
-    let still = sym (ended_same x y h) ∙ lasts in
     record {
-      same = one_disconnect r x lasts h.left h.quiet ∙ ap (λ (z : Account). pruned_account (called_by (disconnecting r) z)) h.same ∙
-          sym (one_disconnect r y still h.right h.quiet_too);
-      left = fit_hushed [] (disconnects r x.end) (fit_disconnect r x.end h.left);
-      right = fit_hushed [] (disconnects r y.end) (fit_disconnect r y.end h.right);
+      same = grind (arith, one_disconnect, pruned_account, called_by);
+      left = fit_hushed [] (disconnects r x.end) (grind (arith, disconnect_attended, disconnect_sound, disconnect_asked));
+      right = fit_hushed [] (disconnects r y.end) (grind (arith, disconnect_attended, disconnect_sound, disconnect_asked));
       quiet = none_waits (disconnects r x.end).lines;
       quiet_too = none_waits (disconnects r y.end).lines;
     }
@@ -152,7 +136,7 @@ one_asked : (t : List (ℕ × Shown)) (o : List ℕ) (c : Connect) (e : End) →
     pruned_account (account_of t o (connects c e)) ≡ asked_of c (pruned_account (account_of t o e))
 one_asked t o c e lasts f =
     let s = f.sound lasts in
-    account_view t o (connects c e)
+    (grind (arith, made, quieted_live))
     ∙ ap (λ (x : End). made x (t ++ all_waiting (connects c e).lines))
     (connects_back o c e ∙ sym (connects_pruned c (put_back o (hushed e)) s.orderly.up_to s.known))
     ∙ ap (λ (w : List (ℕ × Shown)). made (pruned (connects c (pruned (put_back o (hushed e))))) (t ++ w)) (waits_asked c e)
@@ -175,21 +159,13 @@ like_asked t o a u p b c lasts may might h =
 
 -- ---- a call of the user
 
-breaks_is : (z : Account) → z.end.carrier.ended ≡ None → called_by breaking z ≡ ended Broken z
-breaks_is z lasts = ap (λ (o : Option EndReason). account_of z.told [] (if is_some o then z.end else ends Broken z.end)) lasts
-
 like_user : SessionLaws → StillWaits →
     (t : List (ℕ × Shown)) (o : List ℕ) (a : End) (u : List (ℕ × Shown)) (p : List ℕ) (b : End) (call : UserCall) → a.carrier.ended ≡ None →
     MayAsk call a → MayAsk call b →
     LikeInLive (account_of t o a) (account_of u p b) → LikeInLive (account_of t o (user_does call a)) (account_of u p (user_does call b))
 like_user laws law t o a u p b (connecting c) lasts may might h = like_asked t o a u p b c lasts may might h
 like_user laws law t o a u p b (calling r call) lasts may might h =
-    let x = account_of t o a in
-    let y = account_of u p b in
-    alike_at LikeInLive (account_of t o (to_session r (called call) a)) (account_of u p (to_session r (called call) b))
-    (called_by (calling r call) x) (called_by (calling r call) y)
-    (account_called t o (calling r call) a may) (account_called u p (calling r call) b might)
-    (like_call laws law r call x y (accepted_live r call a may) (accepted_live r call b might) lasts h)
+    search (arith, alike_at, called_by, account_called, like_call, accepted_live)
 like_user laws law t o a u p b (disconnecting r) lasts may might h =
     let x = account_of t o a in
     let y = account_of u p b in
@@ -200,8 +176,8 @@ like_user laws law t o a u p b breaking lasts may might h =
     let x = account_of t o a in
     let y = account_of u p b in
     alike_at LikeInLive (account_of t o (user_does breaking a)) (account_of u p (user_does breaking b)) (ended Broken x) (ended Broken y)
-    (account_called t o breaking a may ∙ breaks_is x lasts)
-    (account_called u p breaking b might ∙ breaks_is y (sym (ended_same x y h) ∙ lasts))
+    (account_called t o breaking a may ∙ (grind arith))
+    (account_called u p breaking b might ∙ (grind arith))
     (like_end x y Broken lasts h)
 
 pub in_live : SessionLaws → StillWaits → Likeness MayAsk LikeInLive
@@ -215,16 +191,8 @@ in_live laws law = record {
 
 -- ---- rounds
 
-like_first : (e : End) → IsSettled e → LikeInLive (account_of [] [] e) (account_of [] [] e)
-like_first e s =
-    let f = fit_hushed [] e (settled_fit e s) in
-    record { same = refl; left = f; right = f; quiet = none_waits e.lines; quiet_too = none_waits e.lines }
-
 alike_after : (a b : Holding) (xs ys : List Call) → SameAfter LikeInLive [] [] xs a [] [] ys b → AreAlikeInLive a xs b ys
-alike_after a b xs ys h =
-    let same = sym (account_view (flat_map told_in xs) (flat_map carried_in xs) a.end) ∙ h.account.same ∙
-    account_view (flat_map told_in ys) (flat_map carried_in ys) b.end in
-    record { octets = h.octets; end = ap (λ (x : Account). x.end) same; told = ap (λ (x : Account). x.told) same }
+alike_after a b xs ys h = grind (arith, made, quieted_live)
 
 pub asking_alike : SessionLaws → StillWaits → IsPartial [] → OneCut → (old a b : Holding) (xs ys : List Round) → IsSettled old.end →
     IsPartial old.held.octets → old.held.offset < 2 ^ 64 →
@@ -232,7 +200,7 @@ pub asking_alike : SessionLaws → StillWaits → IsPartial [] → OneCut → (o
 asking_alike laws law nothing one_cut old a b xs ys s partial bound h k step =
     alike_after a b (calls_of xs) (calls_of ys)
     (rounds_alike MayAsk LikeInLive (in_live laws law) nothing one_cut [] [] old [] [] old xs ys a b
-    (are_first LikeInLive old partial bound (like_first old.end s)) h k step).same
+    (are_first LikeInLive old partial bound (search (arith, fit_hushed, none_waits))) h k step).same
 
 pub whole_asking_alike : SessionLaws → StillWaits → PacketLaws → IsPartial [] → OneCut →
     (old c d a b : Holding) (xs ys : List Round) (zs ws : List Call) → IsSettled old.end → IsPartial old.held.octets →
@@ -240,6 +208,4 @@ pub whole_asking_alike : SessionLaws → StillWaits → PacketLaws → IsPartial
     flat_map used_in zs ≡ flat_map used_in ws →
     AreAlikeInLive a (calls_of xs ++ zs) b (calls_of ys ++ ws)
 whole_asking_alike laws law packets nothing one_cut old c d a b xs ys zs ws s partial bound h k step m n used =
-    alike_after a b (calls_of xs ++ zs) (calls_of ys ++ ws)
-    (whole_alike MayAsk LikeInLive (in_live laws law) packets nothing one_cut old c d a b xs ys zs ws partial bound (like_first old.end s) h
-    k step m n used)
+    search (arith, alike_after, whole_alike, in_live, fit_hushed, none_waits)

@@ -1,47 +1,29 @@
 -- The last octets of two runs, also if they end them.
-use Rattle.std.proofs.Common.{◌≡◌, ℕ, ◌<◌, ◌^◌, Bool, true, false, List, [], ◌∷◌, ◌++◌, None, is_some, inl, inr, refl, sym, ap, subst, ◌∙◌}
-use Rattle.osi_stack.proofs.Vocabulary.{flat_map, Held, IsPartial, PacketLaws, OneCut, Shown, UserCall, Round, RoundsAlong, MayCall}
-use Rattle.osi_stack.proofs.Vocabulary.{RoundsBy, calls_of, AreInStep, Account, account_of, with_packet, with_packets, CallsInRoom, used_in}
-use Rattle.osi_stack.proofs.Vocabulary.{told_in, carried_in, account_along, AreAlike, End, Holding, none_of, EndCall as Call}
+use Rattle.std.proofs.Common.{arith, ◌≡◌, ℕ, ◌<◌, ◌^◌, Bool, true, false, List, [], ◌∷◌, ◌++◌, None, is_some, inl, inr, refl, sym, subst}
+use Rattle.std.proofs.Common.{◌∙◌, append_assoc}
+use Rattle.osi_stack.proofs.Vocabulary.{flat_map, IsPartial, PacketLaws, OneCut, Shown, UserCall, Round, RoundsAlong, RoundsBy, calls_of}
+use Rattle.osi_stack.proofs.Vocabulary.{AreInStep, Account, account_of, with_packets, CallsInRoom, used_in, told_in, carried_in}
+use Rattle.osi_stack.proofs.Vocabulary.{account_along, AreAlike, End, Holding, none_of, EndCall as Call, flat_map-append}
 use Rattle.osi_stack.proofs.in_step.the_account_packet_by_packet.{after_more, account_joined, packets_apart, with_joined}
 use Rattle.osi_stack.proofs.stream.how_calls_end_an_end.{faulted, Ending, end_alike, ending_lasts, ending_apart, Outcome, outcome_along}
 use Rattle.osi_stack.proofs.stream.how_calls_end_an_end.{stays_along, in_room}
 use Rattle.osi_stack.proofs.stream.all_pieces_last_alike.{Lasts, reads_lasts}
-use Rattle.osi_stack.proofs.in_step.two_runs_reach_the_same_state.{Likeness, alike_at, packets_alike, Same, Are, SameAfter, used_alike}
-use Rattle.osi_stack.proofs.in_step.two_runs_reach_the_same_state.{calls_alike, same_joined, same_alike, are_first, rounds_alike, exactly}
+use Rattle.osi_stack.proofs.in_step.two_runs_reach_the_same_state.{Likeness, alike_at, packets_alike, Same, Are, SameAfter, calls_alike}
+use Rattle.osi_stack.proofs.in_step.two_runs_reach_the_same_state.{same_alike, are_first, rounds_alike, exactly}
 
 -- accounts that are alike
 module _ (May : UserCall → End → Type 0) (Like : Account → Account → Type 0) (l : Likeness May Like) where
-  turned : (t : List (ℕ × Shown)) (o : List ℕ) (a : Holding) (u : List (ℕ × Shown)) (p : List ℕ) (b : Holding) → Same Like t o a u p b →
-      Same Like u p b t o a
-  turned t o a u p b same =
-      record { octets = sym same.octets; account = l.turned (account_of t o a.end) (account_of u p b.end) same.account }
-
-  ended_alike : (t : List (ℕ × Shown)) (o : List ℕ) (a : Holding) (u : List (ℕ × Shown)) (p : List ℕ) (b : Holding) →
-      Same Like t o a u p b → a.end.carrier.ended ≡ b.end.carrier.ended
-  ended_alike t o a u p b same = l.ended (account_of t o a.end) (account_of u p b.end) same.account
-
   -- ---- both had ended
 
   account_stays : (t : List (ℕ × Shown)) (o : List ℕ) (old : Holding) (calls : List Call) (new : Holding) →
       account_along calls new.end ≡ account_of [] [] old.end →
       account_of (t ++ flat_map told_in calls) (o ++ flat_map carried_in calls) new.end ≡ account_of t o old.end
-  account_stays t o old calls new h = account_joined t (flat_map told_in calls) o (flat_map carried_in calls) new.end ∙
-      ap (after_more t o) h
+  account_stays t o old calls new h = grind (arith, account_joined, after_more)
 
   stay_alike : (t : List (ℕ × Shown)) (o : List ℕ) (a : Holding) (u : List (ℕ × Shown)) (p : List ℕ) (b : Holding) (xs ys : List Call)
       (c d : Holding) → Same Like t o a u p b →
       is_some a.end.carrier.ended ≡ true → CallsInRoom a xs c → CallsInRoom b ys d → SameAfter Like t o xs c u p ys d
-  stay_alike t o a u p b xs ys c d same over h k =
-      let m = stays_along a xs c over (in_room a xs c h) in
-      let n = stays_along b ys d (sym (ap is_some (ended_alike t o a u p b same)) ∙ over) (in_room b ys d k) in
-      record {
-        octets = ap (λ (x : Held). x.octets) m.held ∙ same.octets ∙ ap (λ (x : Held). x.octets) (sym n.held);
-        account = alike_at Like (account_of (t ++ flat_map told_in xs) (o ++ flat_map carried_in xs) c.end)
-            (account_of (u ++ flat_map told_in ys) (p ++ flat_map carried_in ys) d.end)
-            (account_of t o a.end) (account_of u p b.end) (account_stays t o a xs c m.account) (account_stays u p b ys d n.account)
-            same.account;
-      }
+  stay_alike t o a u p b xs ys c d same over h k = grind (arith, alike_at, account_stays, stays_along, in_room)
 
   -- ---- the octets end both
 
@@ -56,40 +38,19 @@ module _ (May : UserCall → End → Type 0) (Like : Account → Account → Typ
       let us = a.before ++ a.last ∷ [] in
       let front = packets_alike May Like l a.before x y a.lasts like in
       let behind : Like (with_packets us x) (with_packets us y) =
-      alike_at Like (with_packets us x) (with_packets us y) (with_packet (with_packets a.before x) a.last)
-      (with_packet (with_packets a.before y) a.last)
-      (with_joined a.before (a.last ∷ []) x) (with_joined a.before (a.last ∷ []) y)
-      (l.packet (with_packets a.before x) (with_packets a.before y) a.last a.lasts front) in
+      grind (arith, alike_at, with_joined a.before (a.last ∷ []) x, with_joined a.before (a.last ∷ []) y) in
       record {
         final = with_packets us y;
-        how = inl (record {
-          before = a.before;
-          last = a.last;
-          rest = a.rest;
-          packets = a.packets;
-          lasts = sym (l.ended (with_packets a.before x) (with_packets a.before y) front) ∙ a.lasts;
-          over = ap is_some (sym (l.ended (with_packets us x) (with_packets us y) behind)) ∙ a.over;
-          account = refl;
-        });
+        how = grind arith;
         alike = alike_at Like f (with_packets us y) (with_packets us x) (with_packets us y) a.account refl behind;
       }
   ending_alike x y at s f like (inr a) =
-      let here = with_packets a.before x in
       let there = with_packets a.before y in
       let front = packets_alike May Like l a.before x y a.lasts like in
       record {
         final = faulted a.fault there;
-        how = inr (record {
-          before = a.before;
-          rest = a.rest;
-          fault = a.fault;
-          packets = a.packets;
-          is = a.is;
-          lasts = sym (l.ended here there front) ∙ a.lasts;
-          account = refl;
-        });
-        alike = alike_at Like f (faulted a.fault there) (faulted a.fault here) (faulted a.fault there) a.account refl
-            (l.fault here there a.fault a.lasts front);
+        how = inr (grind arith);
+        alike = grind (arith, alike_at, faulted);
       }
 
   end_same : PacketLaws →
@@ -105,18 +66,9 @@ module _ (May : UserCall → End → Type 0) (Like : Account → Account → Typ
       (ending_apart t o (account_of [] [] a.end) a.held.offset s (account_along xs c.end) m.how) in
       let other = ending_apart u p (account_of [] [] b.end) b.held.offset (b.held.octets ++ flat_map used_in ys) (account_along ys d.end)
       n.how in
-      let there : Ending (account_of u p b.end) a.held.offset s final =
-      subst (λ (k : ℕ). Ending (account_of u p b.end) k s final) (sym are.offset)
-      (subst (λ (r : List ℕ). Ending (account_of u p b.end) b.held.offset r final) (sym (used_alike a b xs ys are.same.octets used)) other)
+      let there : Ending (account_of u p b.end) a.held.offset s final = grind arith
       in
-      let one : here.final ≡ final = end_alike laws (account_of u p b.end) a.held.offset s here.final final here.how there in
-      record {
-        octets = m.nothing ∙ sym n.nothing;
-        account = alike_at Like (account_of (t ++ flat_map told_in xs) (o ++ flat_map carried_in xs) c.end)
-            (account_of (u ++ flat_map told_in ys) (p ++ flat_map carried_in ys) d.end)
-            first here.final (account_joined t (flat_map told_in xs) o (flat_map carried_in xs) c.end)
-            (account_joined u (flat_map told_in ys) p (flat_map carried_in ys) d.end ∙ sym one) here.alike;
-      }
+      grind (arith, alike_at, account_joined, end_alike laws (account_of u p b.end) a.held.offset s here.final final here.how there)
 
   -- ---- they end neither, or both
 
@@ -124,19 +76,7 @@ module _ (May : UserCall → End → Type 0) (Like : Account → Account → Typ
   lasts_alike : (t : List (ℕ × Shown)) (o : List ℕ) (a : Holding) (u : List (ℕ × Shown)) (p : List ℕ) (b : Holding) (s : List ℕ) →
       Same Like t o a u p b → Lasts b s → Lasts a s
   lasts_alike t o a u p b s same h =
-      let left = account_of t o a.end in
-      let right = account_of u p b.end in
-      let there : (with_packets h.units right).end.carrier.ended ≡ None =
-      ap (λ (x : Account). x.end.carrier.ended) (packets_apart u p h.units (account_of [] [] b.end)) ∙ h.lasts in
-      let back = packets_alike May Like l h.units right left there (l.turned left right same.account) in
-      record {
-        units = h.units;
-        rest = h.rest;
-        packets = h.packets;
-        partial = h.partial;
-        lasts = ap (λ (x : Account). x.end.carrier.ended) (sym (packets_apart t o h.units (account_of [] [] a.end)))
-            ∙ sym (l.ended (with_packets h.units right) (with_packets h.units left) back) ∙ there;
-      }
+      search (arith, packets_alike, packets_apart u p h.units (account_of [] [] b.end), packets_apart t o h.units (account_of [] [] a.end))
 
   -- one ended and the other did not
   never_one : PacketLaws → IsPartial [] →
@@ -147,7 +87,7 @@ module _ (May : UserCall → End → Type 0) (Like : Account → Account → Typ
       CallsInRoom b ys d → d.end.carrier.ended ≡ None → ⊥
   never_one laws nothing t o a u p b xs ys c d same partial used m k lasts =
       let h = reads_lasts nothing b ys d partial (in_room b ys d k) lasts in
-      let here = subst (Lasts b) (sym (used_alike a b xs ys same.octets used)) h in
+      let here = subst (Lasts b) (sym (grind arith)) h in
       ending_lasts laws a (a.held.octets ++ flat_map used_in xs) (account_along xs c.end)
       (lasts_alike t o a u p b (a.held.octets ++ flat_map used_in xs) same here) m.how
 
@@ -161,15 +101,15 @@ module _ (May : UserCall → End → Type 0) (Like : Account → Account → Typ
       (calls_alike May Like l nothing one_cut t o a u p b xs ys c d are (in_room a xs c h) (in_room b ys d k) used
       (none_of c.end.carrier.ended e) (none_of d.end.carrier.ended f)).same
   alike_by laws nothing one_cut t o a u p b xs ys c d true true e f are quiet h k used =
-      let still = sym (ended_alike t o a u p b are.same) ∙ quiet in
+      let still = sym (grind arith) ∙ quiet in
       end_same laws t o a u p b xs ys c d are used (outcome_along nothing a xs c quiet are.bound h e)
       (outcome_along nothing b ys d still (subst (λ (n : ℕ). n < 2 ^ 64) are.offset are.bound) k f)
   alike_by laws nothing one_cut t o a u p b xs ys c d true false e f are quiet h k used =
       absurd (never_one laws nothing t o a u p b xs ys c d are.same (subst IsPartial are.same.octets are.partial) used
       (outcome_along nothing a xs c quiet are.bound h e) k (none_of d.end.carrier.ended f))
   alike_by laws nothing one_cut t o a u p b xs ys c d false true e f are quiet h k used =
-      let still = sym (ended_alike t o a u p b are.same) ∙ quiet in
-      absurd (never_one laws nothing u p b t o a ys xs d c (turned t o a u p b are.same) are.partial (sym used)
+      let still = sym (grind arith) ∙ quiet in
+      absurd (never_one laws nothing u p b t o a ys xs d c (grind arith) are.partial (sym used)
       (outcome_along nothing b ys d still (subst (λ (n : ℕ). n < 2 ^ 64) are.offset are.bound) k f) h (none_of c.end.carrier.ended e))
 
   last_by : PacketLaws → IsPartial [] → OneCut →
@@ -194,7 +134,7 @@ module _ (May : UserCall → End → Type 0) (Like : Account → Account → Typ
       let last = last_by laws nothing one_cut (flat_map told_in (calls_of xs)) (flat_map carried_in (calls_of xs)) c
       (flat_map told_in (calls_of ys)) (flat_map carried_in (calls_of ys)) d zs ws a b
       (is_some c.end.carrier.ended) refl are m n used in
-      same_joined Like [] [] [] [] (calls_of xs) (calls_of ys) zs ws a b last
+      grind (arith, alike_at, account_of, flat_map, told_in, carried_in, append_assoc, flat_map-append)
 
 -- ends that are the same
 pub whole_runs_alike : PacketLaws → IsPartial [] → OneCut → (old c d a b : Holding) (xs ys : List Round) (zs ws : List Call) →
@@ -203,6 +143,4 @@ pub whole_runs_alike : PacketLaws → IsPartial [] → OneCut → (old c d a b :
     flat_map used_in zs ≡ flat_map used_in ws →
     AreAlike a (calls_of xs ++ zs) b (calls_of ys ++ ws)
 whole_runs_alike laws nothing one_cut old c d a b xs ys zs ws partial bound h k step m n used =
-    same_alike a b (calls_of xs ++ zs) (calls_of ys ++ ws)
-    (whole_alike MayCall (λ (x y : Account). x ≡ y) exactly laws nothing one_cut old c d a b xs ys zs ws partial bound refl h k step m n
-    used)
+    search (arith, same_alike, whole_alike, exactly)

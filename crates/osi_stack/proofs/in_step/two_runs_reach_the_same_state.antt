@@ -1,12 +1,11 @@
 -- Two runs in step reach the same state, whatever the pieces.
-use Rattle.std.proofs.Common.{◌≡◌, ℕ, ◌+◌, ◌-◌, ◌<◌, ◌^◌, Bool, true, false, List, ◌∷◌, ◌++◌, Option, None, is_some, length, option_map}
-use Rattle.std.proofs.Common.{arith, refl, sym, ap, subst, ◌∙◌, append_assoc, if◌then◌else◌, []}
-use Rattle.osi_stack.proofs.Vocabulary.{append-nil, flat_map-append, flat_map, IsPartial, ArePackets, offset_of, TpktFault, tsap_octets}
-use Rattle.osi_stack.proofs.Vocabulary.{apart_all, OneCut, user, State as Carrier, Broken, Shown, connects, calls_with, ends, UserCall}
-use Rattle.osi_stack.proofs.Vocabulary.{user_does, Round, WaitForLive, MayCall, IsCalled, RoundsBy, RoundsAlong, calls_of, AreInStep}
-use Rattle.osi_stack.proofs.Vocabulary.{connecting, put_back, Account, account_of, with_packet, with_packets, CallsAlong, used_in, told_in}
-use Rattle.osi_stack.proofs.Vocabulary.{carried_in, account_along, AreAlike, End, Holding, joins, waits, Connect, none_of, connects_call}
-use Rattle.osi_stack.proofs.Vocabulary.{EndCall as Call}
+use Rattle.std.proofs.Common.{◌≡◌, ℕ, ◌+◌, ◌-◌, ◌<◌, ◌^◌, Bool, true, false, List, ◌∷◌, ◌++◌, Option, None, is_some, option_map, arith}
+use Rattle.std.proofs.Common.{refl, sym, ap, subst, ◌∙◌, append_assoc, []}
+use Rattle.osi_stack.proofs.Vocabulary.{append-nil, flat_map-append, flat_map, IsPartial, TpktFault, tsap_octets, apart_all, OneCut, user}
+use Rattle.osi_stack.proofs.Vocabulary.{State as Carrier, Shown, connects, calls_with, UserCall, user_does, Round, MayCall, IsCalled}
+use Rattle.osi_stack.proofs.Vocabulary.{RoundsBy, RoundsAlong, calls_of, AreInStep, put_back, Account, account_of, with_packet}
+use Rattle.osi_stack.proofs.Vocabulary.{with_packets, CallsAlong, used_in, told_in, carried_in, account_along, AreAlike, End, Holding}
+use Rattle.osi_stack.proofs.Vocabulary.{joins, Connect, none_of, connects_call, EndCall as Call}
 use Rattle.osi_stack.proofs.in_step.the_account_packet_by_packet.{made, after_more, account_quiet, account_joined, packets_apart}
 use Rattle.osi_stack.proofs.in_step.a_request_while_indications_are_pending.{wait_push, joins_alike}
 use Rattle.osi_stack.proofs.given_up.two_runs_stay_alike.{disconnects_apart}
@@ -73,11 +72,6 @@ account_on t o old calls new packets h =
     account_joined t (flat_map told_in calls) o (flat_map carried_in calls) new.end
     ∙ ap (after_more t o) h ∙ sym (packets_apart t o packets (account_of [] [] old.end))
 
--- what was held and what was used
-pub used_alike : (a b : Holding) (xs ys : List Call) → a.held.octets ≡ b.held.octets → flat_map used_in xs ≡ flat_map used_in ys →
-    a.held.octets ++ flat_map used_in xs ≡ b.held.octets ++ flat_map used_in ys
-used_alike a b xs ys same used = ap (λ l. l ++ flat_map used_in xs) same ∙ ap (λ l. b.held.octets ++ l) used
-
 pub calls_alike : (May : UserCall → End → Type 0) (Like : Account → Account → Type 0) → Likeness May Like → IsPartial [] → OneCut →
     (t : List (ℕ × Shown)) (o : List ℕ) (a : Holding) (u : List (ℕ × Shown)) (p : List ℕ) (b : Holding) (xs ys : List Call)
     (c d : Holding) → Are Like t o a u p b →
@@ -87,29 +81,12 @@ pub calls_alike : (May : UserCall → End → Type 0) (Like : Account → Accoun
 calls_alike May Like l nothing one_cut t o a u p b xs ys c d are h k used lasts still =
     let m = calls_read nothing a xs c h lasts in
     let n = calls_read nothing b ys d k still in
-    let same : a.held.octets ++ flat_map used_in xs ≡ b.held.octets ++ flat_map used_in ys = used_alike a b xs ys are.same.octets used in
-    let one = one_cut (a.held.octets ++ flat_map used_in xs) c.held.octets d.held.octets m.packets n.packets (m.partial are.partial)
-    (n.partial (subst IsPartial are.same.octets are.partial)) m.cut (subst (λ l. ArePackets n.packets l d.held.octets) (sym same) n.cut) in
     let at = m.offset are.bound in
     let at' = n.offset (subst (λ (k : ℕ). k < 2 ^ 64) are.offset are.bound) in
     let left = account_of t o a.end in
     let right = account_of u p b.end in
     let here = account_on t o a xs c m.packets m.account in
-    let there = account_on u p b ys d n.packets n.account ∙ ap (λ us. with_packets us right) (sym one.0) in
-    record {
-      same = record {
-        octets = one.1;
-        account = alike_at Like (account_of (t ++ flat_map told_in xs) (o ++ flat_map carried_in xs) c.end)
-            (account_of (u ++ flat_map told_in ys) (p ++ flat_map carried_in ys) d.end)
-            (with_packets m.packets left) (with_packets m.packets right) here there
-            (packets_alike May Like l m.packets left right (ap (λ (x : Account). x.end.carrier.ended) (sym here) ∙ lasts) are.same.account);
-      };
-      partial = m.partial are.partial;
-      offset = at ∙ ap (λ k. offset_of (k + (length (a.held.octets ++ flat_map used_in xs) - length c.held.octets))) are.offset
-          ∙ ap (λ l. offset_of (b.held.offset + (length l - length c.held.octets))) same
-          ∙ ap (λ l. offset_of (b.held.offset + (length (b.held.octets ++ flat_map used_in ys) - length l))) one.1 ∙ sym at';
-      bound = omega arith;
-    }
+    grind (arith, alike_at, packets_alike, account_on u p b ys d n.packets n.account, m.partial are.partial)
 
 -- ---- a call of the user
 
@@ -118,29 +95,17 @@ connects_apart o c e =
     ap (λ (x : Carrier). joins (e.carrier.given + 1) (calls_with c) (record e { carrier = x }))
     (apart_all [] o (user (connects_call (option_map tsap_octets c.calling_tsap) (option_map tsap_octets c.called_tsap)) ∷ []) e.carrier)
 
-breaks_apart : (o : List ℕ) (over : Bool) (e : End) →
-    (if over then put_back o e else ends Broken (put_back o e)) ≡ put_back o (if over then e else ends Broken e)
-breaks_apart o over e = grind arith
-
 user_apart : (o : List ℕ) (call : UserCall) (e : End) → user_does call (put_back o e) ≡ put_back o (user_does call e)
-user_apart o call e = grind (arith, connects_apart, apart_session, disconnects_apart, breaks_apart)
-
--- the account if nothing is pending
-account_still : (t : List (ℕ × Shown)) (o : List ℕ) (e : End) → waits e.lines ≡ false → account_of t o e ≡ made (put_back o e) t
-account_still t o e quiet = ap (after_more t o) (account_quiet e quiet) ∙ ap (made (put_back o e)) (append-nil t)
+user_apart o call e = grind (arith, connects_apart, apart_session, disconnects_apart)
 
 -- what a call of the user makes of an account
 abbrev pub called_by : UserCall → Account → Account
 called_by call a = account_of a.told [] (user_does call a.end)
 
--- a connection is requested while indications are pending, of live connections alone
-account_connecting : (t : List (ℕ × Shown)) (o : List ℕ) (c : Connect) (e : End) → WaitForLive e.carrier.live e.lines →
-    account_of t o (connects c e) ≡ called_by (connecting c) (account_of t o e)
-account_connecting t o c e h = grind (arith, joins_alike, wait_push, made, append-nil, connects_apart)
-
 pub account_called : (t : List (ℕ × Shown)) (o : List ℕ) (call : UserCall) (e : End) → MayCall call e →
     account_of t o (user_does call e) ≡ called_by call (account_of t o e)
-account_called t o call e h = grind (arith, account_connecting, account_calling, user_apart, account_still)
+account_called t o call e h =
+    grind (arith, joins_alike, wait_push, made, append-nil, connects_apart, account_calling, user_apart, after_more, account_quiet)
 
 -- accounts that are the same
 pub exactly : Likeness MayCall (λ (x y : Account). x ≡ y)
@@ -166,21 +131,6 @@ user_alike : (May : UserCall → End → Type 0) (Like : Account → Account →
     Are Like t o a u p b → IsCalled May a call c → IsCalled May b call d → Are Like t o c u p d
 user_alike May Like l t o a u p b call c d are h k = search (arith, held_alike, alike_at, account_of, user_does)
 
-called_lasts : (May : UserCall → End → Type 0) (old : Holding) (call : Option UserCall) (new : Holding) → IsCalled May old call new →
-    old.end.carrier.ended ≡ None
-called_lasts May old call new h = grind arith
-
--- what was given, or sent, before the rounds and in them
-joined : {A : Type 0} (f : Call → List A) (front : List A) (calls rest : List Call) →
-    (front ++ flat_map f calls) ++ flat_map f rest ≡ front ++ flat_map f (calls ++ rest)
-joined f front calls rest = grind (arith, append_assoc, flat_map-append)
-
--- the account after more calls
-account_behind : (t : List (ℕ × Shown)) (o : List ℕ) (xs more : List Call) (e : End) →
-    account_of (t ++ flat_map told_in (xs ++ more)) (o ++ flat_map carried_in (xs ++ more)) e
-    ≡ account_of ((t ++ flat_map told_in xs) ++ flat_map told_in more) ((o ++ flat_map carried_in xs) ++ flat_map carried_in more) e
-account_behind t o xs more e = grind (arith, joined)
-
 abbrev pub SameAfter : (Account → Account → Type 0) → List (ℕ × Shown) → List ℕ → List Call → Holding → List (ℕ × Shown) → List ℕ →
     List Call → Holding → Type 0
 SameAfter Like t o xs a u p ys b = Same Like (t ++ flat_map told_in xs) (o ++ flat_map carried_in xs) a (u ++ flat_map told_in ys)
@@ -191,40 +141,25 @@ abbrev pub AreAfter : (Account → Account → Type 0) → List (ℕ × Shown) �
 AreAfter Like t o xs a u p ys b = Are Like (t ++ flat_map told_in xs) (o ++ flat_map carried_in xs) a (u ++ flat_map told_in ys)
     (p ++ flat_map carried_in ys) b
 
-pub same_joined : (Like : Account → Account → Type 0) (t : List (ℕ × Shown)) (o : List ℕ) (u : List (ℕ × Shown)) (p : List ℕ)
-    (xs ys more rest : List Call) (a b : Holding) →
-    SameAfter Like (t ++ flat_map told_in xs) (o ++ flat_map carried_in xs) more a (u ++ flat_map told_in ys) (p ++ flat_map carried_in ys)
-    rest b →
-    SameAfter Like t o (xs ++ more) a u p (ys ++ rest) b
-same_joined Like t o u p xs ys more rest a b h = grind (arith, alike_at, account_of, flat_map, told_in, carried_in, account_behind)
-
 are_joined : (Like : Account → Account → Type 0) (t : List (ℕ × Shown)) (o : List ℕ) (u : List (ℕ × Shown)) (p : List ℕ)
     (xs ys more rest : List Call) (a b : Holding) →
     AreAfter Like (t ++ flat_map told_in xs) (o ++ flat_map carried_in xs) more a (u ++ flat_map told_in ys) (p ++ flat_map carried_in ys)
     rest b →
     AreAfter Like t o (xs ++ more) a u p (ys ++ rest) b
-are_joined Like t o u p xs ys more rest a b h = search (arith, same_joined)
-
--- no round
-account_none : (t : List (ℕ × Shown)) (o : List ℕ) (a c : Holding) → c ≡ a → account_of (t ++ []) (o ++ []) c.end ≡ account_of t o a.end
-account_none t o a c h = grind (arith, append-nil)
-
-are_behind : (Like : Account → Account → Type 0) (t : List (ℕ × Shown)) (o : List ℕ) (a : Holding) (u : List (ℕ × Shown)) (p : List ℕ)
-    (b c d : Holding) → Are Like t o a u p b → c ≡ a → d ≡ b →
-    Are Like (t ++ []) (o ++ []) c (u ++ []) (p ++ []) d
-are_behind Like t o a u p b c d are h k = grind (arith, alike_at, account_of, account_none)
+are_joined Like t o u p xs ys more rest a b h =
+    grind (arith, alike_at, account_of, flat_map, told_in, carried_in, append_assoc, flat_map-append)
 
 pub rounds_alike : (May : UserCall → End → Type 0) (Like : Account → Account → Type 0) → Likeness May Like → IsPartial [] → OneCut →
     (t : List (ℕ × Shown)) (o : List ℕ) (a : Holding) (u : List (ℕ × Shown)) (p : List ℕ) (b : Holding) (xs ys : List Round)
     (c d : Holding) →
     Are Like t o a u p b → RoundsBy May a xs c → RoundsBy May b ys d → AreInStep xs ys →
     AreAfter Like t o (calls_of xs) c u p (calls_of ys) d
-rounds_alike May Like l nothing one_cut t o a u p b [] [] c d are h k step = are_behind Like t o a u p b c d are h k
+rounds_alike May Like l nothing one_cut t o a u p b [] [] c d are h k step = grind (arith, alike_at, account_of, append-nil)
 rounds_alike May Like l nothing one_cut t o a u p b [] (y ∷ ys) c d are h k step = absurd step
 rounds_alike May Like l nothing one_cut t o a u p b (x ∷ xs) [] c d are h k step = absurd step
 rounds_alike May Like l nothing one_cut t o a u p b (x ∷ xs) (y ∷ ys) c d are h k step =
     let fed = calls_alike May Like l nothing one_cut t o a u p b x.calls y.calls h.0 k.0 are h.2 k.2 step.0
-    (called_lasts May h.0 x.user h.1 h.3) (called_lasts May k.0 y.user k.1 k.3) in
+    (grind arith) (grind arith) in
     let t' = t ++ flat_map told_in x.calls in
     let o' = o ++ flat_map carried_in x.calls in
     let u' = u ++ flat_map told_in y.calls in

@@ -1,18 +1,18 @@
 -- What is seen of two ends that are the same except for lines of connections that are gone; and if a break is found.
-use Rattle.std.proofs.Common.{◌≡◌, ℕ, Bool, true, false, List, [], ◌∷◌, ◌++◌, length, Option, Some, None, is_some, IsSome, refl, sym, ap}
-use Rattle.std.proofs.Common.{subst, ◌∙◌, arith, if◌then◌else◌}
+use Rattle.std.proofs.Common.{◌≡◌, ℕ, Bool, true, false, List, [], ◌∷◌, ◌++◌, None, is_some, IsSome, refl, sym, ap, ◌∙◌, arith}
+use Rattle.std.proofs.Common.{if◌then◌else◌}
 use Rattle.osi_stack.specs.Runs.{Call, told_of}
-use Rattle.osi_stack.proofs.Vocabulary.{flat_map-append, sum_by-cons, flat_map, Held, kept_in, Rows, value_at, Connection, Broken, none_of}
-use Rattle.osi_stack.proofs.Vocabulary.{Call as SessionCall, Listener, Shown, has_given, disconnect_error, connect_error, call_error}
-use Rattle.osi_stack.proofs.Vocabulary.{phase_of, phase_at, breaks, ends, shown_at_loss, all_lost, kept_at, all_waiting, quieted, hushed}
-use Rattle.osi_stack.proofs.Vocabulary.{put_back, live_lines, pruned, Account, account_of, CallsAlong, told_in, carried_in, AreAlikeInLive}
-use Rattle.osi_stack.proofs.Vocabulary.{LookAlike, IsSettled, Line, End, Holding, session_in, session_at, joined_of, joined_live, joined_in}
+use Rattle.osi_stack.proofs.Vocabulary.{flat_map-append, sum_by-cons, flat_map, Rows, value_at, Connection, Broken, none_of}
+use Rattle.osi_stack.proofs.Vocabulary.{Call as SessionCall, disconnect_error, connect_error, call_error, phase_at, breaks, ends}
+use Rattle.osi_stack.proofs.Vocabulary.{shown_at_loss, all_lost, kept_at, all_waiting, hushed, put_back, live_lines, pruned, account_of}
+use Rattle.osi_stack.proofs.Vocabulary.{CallsAlong, told_in, carried_in, AreAlikeInLive, LookAlike, IsSettled, Line, End, Holding}
+use Rattle.osi_stack.proofs.Vocabulary.{session_in, session_at, joined_live, joined_in}
 use Rattle.osi_stack.proofs.in_step.the_account_packet_by_packet.{after_more, account_joined}
 use Rattle.osi_stack.proofs.in_step.what_is_seen_is_the_same.{quieted_at, call_apart, call_hushed, look_alike}
 use Rattle.osi_stack.proofs.in_step.a_break_while_indications_are_pending.{lost_told}
 use Rattle.osi_stack.proofs.stream.how_calls_end_an_end.{stays_along}
 use Rattle.osi_stack.proofs.in_step.lines_that_are_gone_do_not_matter.{IsFit, gone_shows}
-use Rattle.osi_stack.proofs.in_step.what_is_joined_is_the_same.{joined_quiet, kept_same}
+use Rattle.osi_stack.proofs.in_step.what_is_joined_is_the_same.{joined_quiet}
 use Rattle.osi_stack.proofs.in_step.the_other_lines_may_be_dropped.{only_at, only_row}
 
 -- ---- what is seen of one
@@ -23,24 +23,12 @@ session_by : (r : ℕ) (live : Rows Connection) (lines : Rows Line) (b : Bool) �
 session_by r live lines false e = refl
 session_by r live lines true e = ap session_in (only_at (λ q. is_some (value_at q live)) r lines e)
 
-session_pruned : (r : ℕ) (e : End) → session_at r (pruned e) ≡ session_at r e
-session_pruned r e = session_by r e.carrier.live e.lines (is_some (value_at r e.carrier.live)) refl
-
 -- with all indications given, and what was sent put back
 session_view : (r : ℕ) (o : List ℕ) (e : End) → session_at r (put_back o (hushed (pruned e))) ≡ session_at r e
-session_view r o e = grind (arith, quieted_at, session_pruned)
-
-phase_view : (r : ℕ) (o : List ℕ) (e : End) → phase_at r (put_back o (hushed (pruned e))) ≡ phase_at r e
-phase_view r o e = ap (λ (s : Option Listener). if has_given r e.carrier then Some (phase_of s) else None) (session_view r o e)
+session_view r o e = grind (arith, quieted_at, session_by)
 
 call_view : (r : ℕ) (call : SessionCall) (o : List ℕ) (e : End) → call_error r call (put_back o (hushed (pruned e))) ≡ call_error r call e
-call_view r call o e = search (arith, call_apart, call_hushed, session_pruned)
-
-disconnect_view : (r : ℕ) (o : List ℕ) (e : End) → disconnect_error r (put_back o (hushed (pruned e))) ≡ disconnect_error r e
-disconnect_view r o e = search (arith, session_view)
-
-gone_joined : (live : Rows Connection) (row : ℕ × Line) → is_some (value_at row.0 live) ≡ false → joined_live live row ≡ 0
-gone_joined live row e = ap (λ (b : Bool). if◌then◌else◌ {A = ℕ} b (joined_of row.1.session) 0) e
+call_view r call o e = search (arith, call_apart, call_hushed, session_by)
 
 joined_by : (live : Rows Connection) (q : ℕ) (y : Line) (lines : Rows Line) (b : Bool) → is_some (value_at q live) ≡ b →
     joined_in live (live_lines live lines) ≡ joined_in live lines →
@@ -48,16 +36,12 @@ joined_by : (live : Rows Connection) (q : ℕ) (y : Line) (lines : Rows Line) (b
 joined_by live q y lines true e more =
     let one = sum_by-cons (λ row. joined_live live row) (q, y) (live_lines live lines) in
     let two = sum_by-cons (λ row. joined_live live row) (q, y) lines in
-    let three = ap (joined_in live) (only_row (λ r. is_some (value_at r live)) q y lines true e) in
-    omega arith
-joined_by live q y lines false e more = grind (arith, gone_joined, sum_by-cons, only_row)
+    grind (arith, only_row)
+joined_by live q y lines false e more = grind (arith, sum_by-cons, only_row)
 
 joined_pruned : (live : Rows Connection) (lines : Rows Line) → joined_in live (live_lines live lines) ≡ joined_in live lines
 joined_pruned live [] = refl
 joined_pruned live ((q, y) ∷ lines) = joined_by live q y lines (is_some (value_at q live)) refl (joined_pruned live lines)
-
-joined_view : (e : End) → joined_in e.carrier.live e.lines ≡ joined_in e.carrier.live (quieted (live_lines e.carrier.live e.lines))
-joined_view e = sym (joined_quiet e.carrier.live (live_lines e.carrier.live e.lines) ∙ joined_pruned e.carrier.live e.lines)
 
 -- ---- two ends
 
@@ -70,17 +54,15 @@ looks a b xs ys octets same told =
     let o = flat_map carried_in xs in
     let p = flat_map carried_in ys in
     record {
-      phases = λ r. sym (phase_view r o a.end) ∙ ap (phase_at r) same ∙ phase_view r p b.end;
+      phases = λ r. sym (search (arith, session_view)) ∙ ap (phase_at r) same ∙ (search (arith, session_view));
       sessions = λ r. sym (session_view r o a.end) ∙ ap (session_at r) same ∙ session_view r p b.end;
       indications = told;
       octets = ap (λ (e : End). e.carrier.outgoing) same;
       ended = ap (λ (e : End). e.carrier.ended) same;
-      kept = kept_same a b (put_back o (hushed (pruned a.end))) (put_back p (hushed (pruned b.end))) (ap length octets) refl
-          (joined_view a.end) refl (joined_view b.end)
-          (ap (λ (e : End). kept_in e.carrier.live) same) (ap (λ (e : End). joined_in e.carrier.live e.lines) same);
+      kept = grind (arith, joined_quiet, joined_pruned);
       requests = λ c. ap (connect_error c) same;
       answers = λ r call. sym (call_view r call o a.end) ∙ ap (call_error r call) same ∙ call_view r call p b.end;
-      disconnects = λ r. sym (disconnect_view r o a.end) ∙ ap (disconnect_error r) same ∙ disconnect_view r p b.end;
+      disconnects = λ r. sym (search (arith, session_view)) ∙ ap (disconnect_error r) same ∙ (search (arith, session_view));
     }
 
 pub looks_in_live : (a b : Holding) (xs ys : List Call) → AreAlikeInLive a xs b ys → LookAlike a xs b ys
@@ -91,19 +73,6 @@ looks_in_live a b xs ys h = looks a b xs ys h.octets h.end (λ r. ap (told_of r)
 none_live : (lines : Rows Line) → live_lines [] lines ≡ []
 none_live [] = refl
 none_live ((q, y) ∷ lines) = none_live lines
-
--- no line is left
-ended_view : (o : List ℕ) (e : End) → put_back o (hushed (pruned (ends Broken e))) ≡ record (put_back o (ends Broken e)) { lines = [] }
-ended_view o e = ap (λ (l : Rows Line). record (put_back o (ends Broken e)) { lines = quieted l }) (none_live (all_lost e.lines))
-
-ended_same : (o p : List ℕ) (a b : End) → put_back o (hushed (pruned a)) ≡ put_back p (hushed (pruned b)) →
-    put_back o (hushed (pruned (ends Broken a))) ≡ put_back p (hushed (pruned (ends Broken b)))
-ended_same o p a b same = ended_view o a ∙ ap (λ (e : End). record (ends Broken e) { lines = [] }) same ∙ sym (ended_view p b)
-
--- the indications of a session that is lost, if it has none
-lost_none : (e : End) (r : ℕ) (o : Option Listener) → e.carrier.ended ≡ None → IsFit e → kept_at r e.lines ≡ o →
-    value_at r e.carrier.live ≡ None → shown_at_loss o ≡ []
-lost_none e r o lasts f is none = grind (arith, gone_shows)
 
 -- that of a live connection
 kept_view : (r : ℕ) (o : List ℕ) (e : End) → is_some (value_at r e.carrier.live) ≡ true →
@@ -118,10 +87,7 @@ lost_by : (r : ℕ) (o p : List ℕ) (a b : End) (here : Bool) → is_some (valu
 lost_by r o p a b true e same lasts still f g =
     let there : is_some (value_at r b.carrier.live) ≡ true = ap (λ (x : End). is_some (value_at r x.carrier.live)) (sym same) ∙ e in
     ap shown_at_loss (sym (kept_view r o a e) ∙ ap (λ (x : End). kept_at r x.lines) same ∙ kept_view r p b there)
-lost_by r o p a b false e same lasts still f g = grind (arith, lost_none, none_of)
-
-pub settled_fit : (e : End) → IsSettled e → IsFit e
-settled_fit e s = record { attended = s.attended; sound = s.sound; asks = s.asks }
+lost_by r o p a b false e same lasts still f g = grind (arith, gone_shows, none_of)
 
 broken_told : (a b : Holding) (xs ys : List Call) (r : ℕ) → a.end.carrier.ended ≡ None → b.end.carrier.ended ≡ None → IsFit a.end →
     IsFit b.end → AreAlikeInLive a xs b ys →
@@ -139,16 +105,13 @@ breaks_by true a b xs ys over f g h = looks_in_live a b xs ys h
 breaks_by false a b xs ys over f g h =
     let same = ap (λ (e : End). is_some e.carrier.ended) h.end in
     looks (broken_by false a) (broken_by false b) xs ys h.octets
-    (ended_same (flat_map carried_in xs) (flat_map carried_in ys) a.end b.end h.end)
+    (grind (arith, none_live))
     (λ r. broken_told a b xs ys r (none_of a.end.carrier.ended over) (none_of b.end.carrier.ended (sym same ∙ over)) f g h)
 
 -- found whatever is pending
 pub looks_broken : (a b : Holding) (xs ys : List Call) → IsSettled a.end → IsSettled b.end → AreAlikeInLive a xs b ys →
     LookAlike (record a { end = breaks a.end }) xs (record b { end = breaks b.end }) ys
-looks_broken a b xs ys s t h =
-    let same = ap (λ (e : End). is_some e.carrier.ended) h.end in
-    subst (λ (over : Bool). LookAlike (record a { end = breaks a.end }) xs (broken_by over b) ys) same
-    (breaks_by (is_some a.end.carrier.ended) a b xs ys refl (settled_fit a.end s) (settled_fit b.end t) h)
+looks_broken a b xs ys s t h = grind (arith, breaks_by (is_some a.end.carrier.ended) a b xs ys refl (grind arith) (grind arith) h)
 
 -- ---- after an end
 
@@ -185,14 +148,8 @@ look_over a c xs zs over h =
     let o = flat_map carried_in xs in
     let m = stays_along a zs c over h in
     let same : account_of (flat_map told_in (xs ++ zs)) (flat_map carried_in (xs ++ zs)) c.end ≡ account_of t o a.end =
-    ap (λ (l : List (ℕ × Shown)). account_of l (flat_map carried_in (xs ++ zs)) c.end) (flat_map-append told_in xs zs)
-    ∙ ap (λ (l : List ℕ). account_of (t ++ flat_map told_in zs) l c.end) (flat_map-append carried_in xs zs)
-    ∙ account_joined t (flat_map told_in zs) o (flat_map carried_in zs) c.end ∙ ap (after_more t o) m.account in
-    look_alike a c xs (xs ++ zs) (record {
-      octets = ap (λ (x : Held). x.octets) (sym m.held);
-      end = ap (λ (x : Account). x.end) (sym same);
-      told = ap (λ (x : Account). x.told) (sym same);
-    })
+    grind (arith, flat_map-append, account_joined, after_more) in
+    look_alike a c xs (xs ++ zs) (grind arith)
 
 pub looks_behind : (a b c d : Holding) (xs ys zs ws : List Call) → IsSome a.end.carrier.ended → LookAlike a xs b ys → CallsAlong a zs c →
     CallsAlong b ws d →

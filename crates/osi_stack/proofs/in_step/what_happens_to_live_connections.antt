@@ -1,18 +1,17 @@
 -- What happens to an end happens to live connections and to new ones alone: it is the same without the lines of
 -- connections that are gone.
-use Rattle.std.proofs.Common.{◌≡◌, ℕ, ◌<◌, ◌≤◌, Bool, true, false, ◌||◌, nat_lt, List, [], ◌∷◌, Option, None, is_some, refl, sym, ap, subst}
-use Rattle.std.proofs.Common.{◌∙◌, arith}
+use Rattle.std.proofs.Common.{◌≡◌, ℕ, ◌≤◌, Bool, true, ◌||◌, nat_lt, List, [], ◌∷◌, None, is_some, refl, sym, ap, subst, ◌∙◌, arith}
 use Rattle.osi_carrier.specs.Packets as carriers
-use Rattle.osi_stack.proofs.Vocabulary.{nat_tests, AllByRecursion, or_right, sent_gone, closed_gone, Happening, AreUpTo, IsOrderly, told_of}
-use Rattle.osi_stack.proofs.Vocabulary.{Rows, value_at, Connection, State as Carrier, EndReason, Input, hears_times, after_packet, ends}
-use Rattle.osi_stack.proofs.Vocabulary.{all_waiting, to_session, live_lines, pruned, Line, End, input_of}
+use Rattle.osi_stack.proofs.Vocabulary.{AllByRecursion, sent_gone, closed_gone, Happening, AreUpTo, IsOrderly, Rows, value_at}
+use Rattle.osi_stack.proofs.Vocabulary.{State as Carrier, EndReason, Input, hears_times, after_packet, ends, all_waiting, to_session}
+use Rattle.osi_stack.proofs.Vocabulary.{live_lines, pruned, Line, End}
 use Rattle.osi_stack.proofs.carried.events_one_after_the_other.{concluded_carrier}
-use Rattle.osi_stack.proofs.carried.packets_without_events.{both, packet_is}
+use Rattle.osi_stack.proofs.carried.packets_without_events.{packet_is}
 use Rattle.osi_stack.proofs.opening.connections_that_units_open.{IsOf}
 use Rattle.osi_stack.proofs.each_line.lines_stay_in_order.{packet_along}
 use Rattle.osi_stack.proofs.carried.what_each_step_preserves.{Carries, session_carried, events_heard}
-use Rattle.osi_stack.proofs.in_step.the_other_lines_may_be_dropped.{only, only_end, only_row, only_session, only_packet, only_lost}
-use Rattle.osi_stack.proofs.in_step.the_other_lines_may_be_dropped.{only_told, AreOf, AreStill, still_session, still_packet, still_lost}
+use Rattle.osi_stack.proofs.in_step.the_other_lines_may_be_dropped.{only, only_end, only_session, only_packet, only_lost, only_told, AreOf}
+use Rattle.osi_stack.proofs.in_step.the_other_lines_may_be_dropped.{AreStill, still_session, still_packet, still_lost}
 
 -- ---- which connections are reached
 
@@ -26,23 +25,14 @@ reached c r = is_live c r || nat_lt c.given r
 pub reached_live : (c : Carrier) (r : ℕ) → is_live c r ≡ true → reached c r ≡ true
 reached_live c r h = ap (λ (b : Bool). b || nat_lt c.given r) h
 
-pub reached_new : (c : Carrier) (r : ℕ) → c.given < r → reached c r ≡ true
-reached_new c r above = or_right (is_live c r) (nat_lt c.given r) (let new : nat_lt c.given r ≡ true = grind (arith, nat_tests) in new)
-
 -- one that is gone
 pub record IsGone (c : Carrier) (r : ℕ) : Type 0 where
   pub none : value_at r c.live ≡ None
   pub given : r ≤ c.given
 
-pub unreached : (c : Carrier) (r : ℕ) → reached c r ≡ false → IsGone c r
-unreached c r h = grind arith
-
-reached_of : (c : Carrier) (event : Happening) → IsOf c event → reached c (told_of event) ≡ true
-reached_of c event h = grind (arith, reached_live, reached_new)
-
 reached_all : (c : Carrier) (events : List Happening) → AllByRecursion (IsOf c) events → AreOf (reached c) events
 reached_all c [] all = tt
-reached_all c (event ∷ events) all = (reached_of c event all.0, reached_all c events all.1)
+reached_all c (event ∷ events) all = (grind (arith, reached_live), reached_all c events all.1)
 
 -- what a packet tells is of these
 pub packet_reaches : (c : Carrier) (unit : List ℕ) → IsOrderly c → c.events ≡ [] → AreOf (reached c) (carriers.after_packet c unit).events
@@ -55,10 +45,7 @@ sessions_keep q = record { sends = λ r tsdu c none. sent_gone r q tsdu c none; 
 
 gone_times : (n : ℕ) (e : End) (q : ℕ) → value_at q e.carrier.live ≡ None → value_at q (hears_times n e).carrier.live ≡ None
 gone_times n e q none =
-    events_heard (λ x. value_at q x.carrier.live ≡ None) (λ events x none. none) (record {
-      begins = λ r x new none. none;
-      moves = λ event x none. session_carried (λ c. value_at q c.live ≡ None) (sessions_keep q) (told_of event) (input_of event) x none;
-    }) n e none
+    events_heard (λ x. value_at q x.carrier.live ≡ None) (λ events x none. none) (grind (arith, session_carried, sessions_keep q)) n e none
 
 gone_packet : (e : End) (unit : List ℕ) (q : ℕ) → IsOrderly e.carrier → IsGone e.carrier q →
     value_at q (after_packet e unit).carrier.live ≡ None
@@ -68,15 +55,8 @@ gone_packet e unit q orderly gone = grind (arith, concluded_carrier, gone_times,
 abbrev pub Within : (ℕ → Bool) → (ℕ → Bool) → Type 0
 Within K L = (q : ℕ) → K q ≡ true → L q ≡ true
 
-pub within_by : (o : Option Connection) (b : Bool) → (b ≡ false → o ≡ None) → is_some o ≡ true → b ≡ true
-within_by o b none here = grind (arith, both)
-
--- what is live after a packet, or after what happens to a session
-pub packet_within : (e : End) (unit : List ℕ) → IsOrderly e.carrier → Within (is_live (after_packet e unit).carrier) (reached e.carrier)
-packet_within e unit orderly q here = grind (arith, within_by, gone_packet, unreached)
-
 pub session_within : (r : ℕ) (input : Input) (e : End) → Within (is_live (to_session r input e).carrier) (reached e.carrier)
-session_within r input e q here = grind (arith, within_by, session_carried, unreached, sessions_keep q)
+session_within r input e q here = grind (arith, session_carried, sessions_keep q)
 
 -- ---- lines of fewer references
 
@@ -89,17 +69,10 @@ pub only_less : (K L : ℕ → Bool) → Within K L → (lines : Rows Line) → 
 only_less K L within [] = refl
 only_less K L within ((q, y) ∷ lines) = less_by K L within q y lines (L q) (K q) refl refl (only_less K L within lines)
 
-same_row : (K L : ℕ → Bool) (q : ℕ) (y : Line) (lines : Rows Line) (b : Bool) → K q ≡ b → L q ≡ b → only K lines ≡ only L lines →
-    only K ((q, y) ∷ lines) ≡ only L ((q, y) ∷ lines)
-same_row K L q y lines b e f more = grind (arith, only_row)
-
-reached_known : (c : Carrier) (q : ℕ) → q ≤ c.given → reached c q ≡ is_live c q
-reached_known c q low = grind arith
-
 -- if no line is new
 pub known_live : (c : Carrier) (lines : Rows Line) → AreUpTo c.given lines → only (reached c) lines ≡ live_lines c.live lines
 known_live c [] up = refl
-known_live c ((q, y) ∷ lines) up = grind (arith, same_row, reached_known, known_live c lines up.1)
+known_live c ((q, y) ∷ lines) up = grind (arith, known_live c lines up.1)
 
 -- ---- an end without the lines of connections that are gone
 
@@ -121,7 +94,7 @@ pub packet_alike : (e : End) (unit : List ℕ) → IsOrderly e.carrier → e.car
     AreStill (reached e.carrier) e.lines →
     SameInLive (after_packet (pruned e) unit) (after_packet e unit)
 packet_alike e unit orderly none known still =
-    grind (arith, packet_reaches, after_packet, only_packet, pruned_is, acts_alike, packet_within, still_packet)
+    search (arith, packet_reaches, after_packet, only_packet, pruned_is, acts_alike, gone_packet, still_packet)
 
 pub session_alike : (r : ℕ) (input : Input) (e : End) → is_live e.carrier r ≡ true → AreUpTo e.carrier.given e.lines →
     AreStill (reached e.carrier) e.lines →
@@ -136,6 +109,5 @@ pub ends_alike : (reason : EndReason) (e : End) → AreUpTo e.carrier.given e.li
     SameInLive (ends reason (pruned e)) (ends reason e)
 ends_alike reason e known still =
     subst (λ (x : End). SameInLive x (ends reason e))
-    (ap (λ (l : Rows Line). record (ends reason e) { lines = l }) (sym (only_lost (reached e.carrier) e.lines)) ∙
-    ap (ends reason) (pruned_is e known))
+    (grind (arith, only_lost, pruned_is))
     (acts_alike e (ends reason e) (λ q here. cc) (still_lost (reached e.carrier) e.lines still))

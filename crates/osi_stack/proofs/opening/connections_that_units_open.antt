@@ -1,21 +1,20 @@
 -- The connections that units open: those that were requested, and new ones at a called end. A connection stays requested
 -- until its user is told that it is accepted or refused.
-use Rattle.std.proofs.Common.{◌≡◌, ◌≢◌, ℕ, ◌+◌, ◌<◌, ◌≤◌, ◌==◌, Bool, true, false, List, [], ◌∷◌, ◌++◌, take, Option, Some, None, Result}
-use Rattle.std.proofs.Common.{Ok, Err, is_some, IsSome, refl, sym, ap, subst, ◌∙◌, inl, ◌⊎◌, arith, append_assoc, if◌then◌else◌}
+use Rattle.std.proofs.Common.{◌≡◌, ◌≢◌, ℕ, ◌+◌, ◌<◌, ◌≤◌, ◌==◌, Bool, true, false, List, [], ◌∷◌, ◌++◌, Option, Some, None, Result, Ok, Err}
+use Rattle.std.proofs.Common.{is_some, IsSome, refl, sym, ap, subst, ◌∙◌, inl, ◌⊎◌, arith, append_assoc}
 use Rattle.osi_tpdu.specs.Value.{Connect}
-use Rattle.osi_class.specs.Negotiation.{Selection, accept, refuse, selected_by}
+use Rattle.osi_class.specs.Negotiation.{Selection, accept, refuse}
 use Rattle.osi_class.specs.declared.faults.LinkFault.{LinkFault}
 use Rattle.osi_carrier.specs.Negotiation.{confirmed}
-use Rattle.osi_carrier.specs.React.{answers, opens, breaks, react}
+use Rattle.osi_carrier.specs.React.{answers, opens, react}
 use Rattle.osi_stack.proofs.Vocabulary.{eqb-true, eq-eqb, or_left, append-nil, AllByRecursion, Value, request, confirm, disconnect, error}
-use Rattle.osi_stack.proofs.Vocabulary.{Standing, Class, Zero, Two, Happening, closed, faulted, RiseFrom, told_of, IsOrderly, denies}
-use Rattle.osi_stack.proofs.Vocabulary.{is_full, has_peer, answers_request, to_unknown, to_asked, tells_of, taking, leaves, to_linked}
-use Rattle.osi_stack.proofs.Vocabulary.{to_closing, to_connection, to_reference, before_class, to_only, in_zero, in_two, in_class, react_by}
-use Rattle.osi_stack.proofs.Vocabulary.{reacts, Rows, value_at, put, without, Connection, asked, linked, closing, State, drops, EndReason}
-use Rattle.osi_stack.proofs.Vocabulary.{put_here, without_here, beyond, put_other, without_other, put_none, push_other, stays_gone}
-use Rattle.osi_stack.proofs.Vocabulary.{orderly_unit, react_over, told_opened as opened, carrier_ends as ends}
+use Rattle.osi_stack.proofs.Vocabulary.{Standing, Class, Zero, Two, Happening, closed, faulted, RiseFrom, told_of, IsOrderly}
+use Rattle.osi_stack.proofs.Vocabulary.{answers_request, to_unknown, to_asked, taking, leaves, to_closing, to_connection, to_only, reacts}
+use Rattle.osi_stack.proofs.Vocabulary.{Rows, value_at, put, without, Connection, asked, closing, State, EndReason, put_here, without_here}
+use Rattle.osi_stack.proofs.Vocabulary.{beyond, put_other, without_other, put_none, push_other, stays_gone, orderly_unit, react_over}
+use Rattle.osi_stack.proofs.Vocabulary.{told_opened as opened, carrier_ends as ends, nat_tests}
 use Rattle.osi_stack.proofs.opening.which_requests_are_answered.{answered, answered_front, answered_behind}
-use Rattle.osi_stack.proofs.sound.the_invariant_is_kept.{units_rise, up_at}
+use Rattle.osi_stack.proofs.sound.the_invariant_is_kept.{units_rise}
 use Rattle.osi_stack.proofs.carried.packets_without_events.{both}
 
 -- ---- connections that await a CC
@@ -51,12 +50,6 @@ last_at q n c b e other h = grind arith
 awaited_push : (n : ℕ) (c : Connection) (rows : Rows Connection) → (c ≡ asked → ⊥) → AwaitedBefore rows (rows ++ (n, c) ∷ [])
 awaited_push n c [] other = λ q h. last_at q n c (n == q) refl other h
 awaited_push n c ((p, y) ∷ rows) other = λ q h. push_at q p n c y rows (p == q) refl (awaited_push n c rows other q) h
-
-pub linked_not_asked : (peer : ℕ) (link : Standing) → linked peer link ≡ asked → ⊥
-linked_not_asked peer link e = cc
-
-pub closing_not_asked : (peer : ℕ) → closing peer ≡ asked → ⊥
-closing_not_asked peer e = cc
 
 -- ---- what is opened
 
@@ -119,55 +112,30 @@ opens_none s = silent s s refl refl refl (λ q h. h) (λ q h over. inl h)
 opens_end : (reason : EndReason) (s : State) → Opens s (ends reason s)
 opens_end reason s = silent s (ends reason s) refl refl refl (λ q h. cc) (λ q h over. cc)
 
-opens_denies : (reason peer : ℕ) (s : State) → Opens s (denies reason peer s)
-opens_denies reason peer s = silent s (denies reason peer s) refl refl refl (λ q h. h) (λ q h over. inl h)
-
 -- ---- a CR
-
--- a CR is for no connection that is there
-stays_pushed : (c : Connection) (s : State) → IsOrderly s → (q : ℕ) → value_at q s.live ≡ Some asked →
-    value_at q (s.live ++ (s.given + 1, c) ∷ []) ≡ Some asked
-stays_pushed c s o q h = grind (arith, asked, beyond, value_at, push_other)
-
-opens_accepts : (class : Class) (size : Option ℕ) (c : Connect) (s : State) → IsOrderly s → s.is_caller ≡ false →
-    Opens s (answers c (accept class size) None s)
-opens_accepts class size c s o called = grind (arith, opened, awaited_push, linked_not_asked, stays_pushed)
 
 opens_answers : (c : Connect) (selection : Selection) (held : Option Class) (s : State) → IsOrderly s → s.is_caller ≡ false →
     Opens s (answers c selection held s)
-opens_answers c (refuse reason) held s o called = opens_denies reason c.source s
-opens_answers c (accept Two size) held s o called = opens_accepts Two size c s o called
-opens_answers c (accept Zero size) None s o called = opens_accepts Zero size c s o called
-opens_answers c (accept Zero size) (Some class) s o called = opens_denies 136 c.source s
-
-answers_by : (c : Connect) (s : State) (in_use full : Bool) → IsOrderly s → s.is_caller ≡ false →
-    Opens s (if in_use then denies 131 c.source s else (if full then denies 1 c.source s else answers c (selected_by c s.local) s.class s))
-answers_by c s true full o called = opens_denies 131 c.source s
-answers_by c s false true o called = opens_denies 1 c.source s
-answers_by c s false false o called = opens_answers c (selected_by c s.local) s.class s o called
+opens_answers c (refuse reason) held s o called = grind (arith, silent)
+opens_answers c (accept Two size) held s o called = grind (arith, opened, awaited_push, asked, beyond, value_at, push_other)
+opens_answers c (accept Zero size) None s o called = grind (arith, opened, awaited_push, asked, beyond, value_at, push_other)
+opens_answers c (accept Zero size) (Some class) s o called = grind (arith, silent)
 
 opens_request : (c : Connect) (s : State) → IsOrderly s → s.is_caller ≡ false → Opens s (answers_request c s)
-opens_request c s o called = answers_by c s (has_peer c.source s.live) (is_full s) o called
+opens_request c s o called = grind (arith, silent, opens_answers)
 
 -- ---- a unit for a connection
 
 opens_unknown : (unit : Value) (s : State) → Opens s (to_unknown unit s)
 opens_unknown unit s = search (arith, silent, opens_none, opens_end)
 
--- the answer for one, by whether it is this one
-stays_by : (q r : ℕ) (event : Happening) (new : Rows Connection) (b : Bool) → (r == q) ≡ b →
-    ((r == q) ≡ true → answered q (event ∷ []) ≡ true) → (q ≢ r → value_at q new ≡ Some asked) →
-    (value_at q new ≡ Some asked) ⊎ (answered q (event ∷ []) ≡ true)
-stays_by q r event new b e here other = grind (arith, both, eq-eqb)
-
 opens_confirm : (r : ℕ) (c : Connect) (class : Option Class) (s : State) → value_at r s.live ≡ Some asked → Opens s (opens r c class s)
-opens_confirm r c class s here = grind (arith, opens_end, opened, awaited_put, linked_not_asked, stays_by, or_left, put_other)
+opens_confirm r c class s here = grind (arith, opens_end, opened, awaited_put, or_left, put_other)
 
 opens_asked : (r : ℕ) (unit : Value) (s : State) → IsOrderly s → value_at r s.live ≡ Some asked → Opens s (to_asked r unit s)
 opens_asked r (confirm destination c) s o here = opens_confirm r c (confirmed c s.local s.class) s here
-opens_asked r (disconnect destination source reason user) s o here =
-    grind (arith, telling, awaited_without, stays_by, or_left, without_other)
-opens_asked r (error destination cause) s o here = grind (arith, telling, awaited_without, stays_by, or_left, without_other)
+opens_asked r (disconnect destination source reason user) s o here = grind (arith, telling, awaited_without, or_left, without_other)
+opens_asked r (error destination cause) s o here = grind (arith, telling, awaited_without, or_left, without_other)
 opens_asked r unit s o here = opens_unknown unit s
 
 -- a connection that is there, and was not asked for
@@ -175,47 +143,21 @@ record IsThere (r : ℕ) (s : State) : Type 0 where
   here : IsSome (value_at r s.live)
   apart : (q : ℕ) → value_at q s.live ≡ Some asked → q ≢ r
 
-there : (r : ℕ) (c : Connection) (s : State) → value_at r s.live ≡ Some c → (c ≡ asked → ⊥) → IsThere r s
-there r c s here other = grind arith
-
-opens_settles : (r : ℕ) (whole : List (List ℕ)) (c : Connection) (s t : State) → IsThere r s → (c ≡ asked → ⊥) → t.given ≡ s.given →
-    t.is_caller ≡ s.is_caller → t.live ≡ put r c s.live →
-    t.events ≡ s.events → Opens s (tells_of r (take 1 whole) t)
-opens_settles r [] c s t here other given side live events = grind (arith, silent, append-nil, awaited_put, put_other)
-opens_settles r (first ∷ more) c s t here other given side live events = grind (arith, telling, awaited_put, put_other)
-
-opens_breaks : (r peer : ℕ) (fault : LinkFault) (held : Option Class) (s : State) → IsThere r s → Opens s (breaks r peer fault held s)
-opens_breaks r peer fault held s here = search (arith, telling, faulted, awaited_put, closing, closing_not_asked, put_other, opens_end)
-
 opens_taking : (r peer : ℕ) (result : Result Standing LinkFault) (s : State) → IsThere r s → Opens s (taking r peer result s)
-opens_taking r peer (Ok link) s here = opens_settles r link.ends.joining.whole _ s _ here (linked_not_asked _ _) refl refl refl refl
-opens_taking r peer (Err fault) s here = opens_breaks r peer fault s.class s here
+opens_taking r peer (Ok link) s here = grind (arith, silent, append-nil, awaited_put, put_other, telling)
+opens_taking r peer (Err fault) s here = search (arith, telling, faulted, awaited_put, closing, put_other, opens_end)
 
 opens_leaves : (r peer reason : ℕ) (held : Option Class) (s : State) → IsOrderly s → IsThere r s → Opens s (leaves r peer reason held s)
 opens_leaves r peer reason held s o here = grind (arith, telling, leaves, closed, awaited_without, without_other)
 
-opens_linked : (r peer : ℕ) (link : Standing) (unit : Value) (s : State) → IsOrderly s → IsThere r s →
-    Opens s (to_linked r peer link unit s)
-opens_linked r peer link unit s o here = search (arith, opens_leaves, opens_taking)
-
-opens_dropped : (r : ℕ) (s : State) → IsOrderly s → IsThere r s → Opens s (drops r s)
-opens_dropped r s o here = grind (arith, silent, awaited_without, without_other)
-
 opens_closing : (r : ℕ) (unit : Value) (s : State) → IsOrderly s → IsThere r s → Opens s (to_closing r unit s)
-opens_closing r unit s o here = search (arith, opens_dropped, opens_none)
+opens_closing r unit s o here = search (arith, silent, awaited_without, without_other, opens_none)
 
 opens_connection : (r : ℕ) (o : Option Connection) (unit : Value) (s : State) → IsOrderly s → value_at r s.live ≡ o →
     Opens s (to_connection r o unit s)
-opens_connection r o unit s o2 here =
-    grind (arith, opens_unknown, opens_asked, opens_linked, there, linked_not_asked, opens_closing, closing_not_asked)
-
-opens_reference : (r : ℕ) (unit : Value) (s : State) → IsOrderly s → Opens s (to_reference r unit s)
-opens_reference r unit s o = opens_connection r (value_at r s.live) unit s o refl
+opens_connection r o unit s o2 here = search (arith, opens_unknown, opens_asked, opens_leaves, opens_taking, opens_closing)
 
 -- ---- by class
-
-opens_before : (b : Bool) (unit : Value) (s : State) → IsOrderly s → s.is_caller ≡ b → Opens s (before_class b unit s)
-opens_before b unit s o e = search (arith, confirm, opens_reference, disconnect, error, request, opens_request, opens_end)
 
 pub first_here : (r : ℕ) (x : Connection) (rows : Rows Connection) → value_at r ((r, x) ∷ rows) ≡ Some x
 first_here r x rows = let e = eq-eqb r r refl in rw e refl
@@ -225,21 +167,9 @@ only_by [] unit s o is = opens_none s
 only_by ((r, connection) ∷ rows) unit s o is =
     opens_connection r (Some connection) unit s o (ap (value_at r) is ∙ first_here r connection rows)
 
-opens_zero : (b : Bool) (unit : Value) (s : State) → IsOrderly s → Opens s (in_zero b unit s)
-opens_zero b unit s o = search (arith, opens_end, only_by)
-
-opens_two : (b : Bool) (unit : Value) (s : State) → IsOrderly s → s.is_caller ≡ b → Opens s (in_two b unit s)
-opens_two b unit s o e = search (arith, opens_end, opens_request, opens_reference)
-
-opens_class : (held : Option Class) (unit : Value) (s : State) → IsOrderly s → Opens s (in_class held unit s)
-opens_class held unit s o = search (arith, opens_before, opens_zero, opens_two)
-
-opens_by : (over : Bool) (unit : Value) (s : State) → IsOrderly s → Opens s (react_by over unit s)
-opens_by over unit s o = grind (arith, opens_none, opens_class)
-
 opens_unit : (unit : Value) (s : State) → IsOrderly s → Opens s (react unit s)
 unfolding react
-opens_unit unit s o = opens_by (is_some s.ended) unit s o
+opens_unit unit s o = search (arith, opens_none, confirm, opens_connection, disconnect, error, request, opens_request, opens_end, only_by)
 
 -- ---- units one after the other
 
@@ -331,26 +261,15 @@ called_by : (old new : State) (told : List Happening) → Unopened old new told 
     Rises old.given (opened_in told) new.given
 called_by old new told h3 none = grind arith
 
-about_by : (old new : State) (told : List Happening) → Unopened old new told ⊎ (Agreed old new told ⊎ Accepted old new told) →
-    AllByRecursion (IsOf old) told
-about_by old new told h = grind (arith, all_still)
-
-given_here : (s : State) → IsOrderly s → (l : List Happening) → AllByRecursion (λ event. IsSome (value_at (told_of event) s.live)) l →
-    AllByRecursion (IsGiven s.given) l
-given_here s o l all = grind (arith, all_still, up_at)
-
 known_by : (old new : State) (told : List Happening) → IsOrderly old →
     Unopened old new told ⊎ (Agreed old new told ⊎ Accepted old new told) → old.is_caller ≡ true →
     (new.given ≡ old.given) × AllByRecursion (IsGiven old.given) told
-known_by old new told o h4 caller = grind (arith, given_here, up_at, is_some, both)
+known_by old new told o h4 caller = grind (arith, all_still, nat_tests, beyond, is_some, both)
 
 comes_by : (old new : State) (told : List Happening) → IsOrderly old →
     Unopened old new told ⊎ (Agreed old new told ⊎ Accepted old new told) → NoneAwaited old.live →
     Comes old.given told new.given
-comes_by old new told o h4 none = grind (arith, comes_quiet, given_here)
-
-unit_lasts : (unit : Value) (s : State) (over : Option EndReason) → s.ended ≡ over → (react unit s).ended ≡ None → s.ended ≡ None
-unit_lasts unit s over is lasts = grind (arith, react_over)
+comes_by old new told o h4 none = grind (arith, comes_quiet, all_still, nat_tests, beyond, is_some)
 
 along_unit : (unit : Value) (s : State) → IsOrderly s → OpensAlong s (react unit s)
 along_unit unit s orderly =
@@ -362,50 +281,33 @@ along_unit unit s orderly =
       called = λ called none. called_by s (react unit s) o.told o.how none;
       side = o.side;
       awaited = o.awaited;
-      about = about_by s (react unit s) o.told o.how;
+      about = grind (arith, all_still);
       known = λ caller. known_by s (react unit s) o.told orderly o.how caller;
       comes = λ called none. comes_by s (react unit s) o.told orderly o.how none;
       rises = units_rise (unit ∷ []) s;
       gone = λ q up none. stays_gone unit s q up none;
       stays = o.stays;
-      lasts = unit_lasts unit s s.ended refl;
+      lasts = grind (arith, react_over);
     }
-
-about_join : (old mid : State) (event : Happening) → old.given ≤ mid.given →
-    ((q : ℕ) → q ≤ old.given → value_at q old.live ≡ None → value_at q mid.live ≡ None) → IsOf mid event → IsOf old event
-about_join old mid event rises gone h5 = grind arith
-
-gone_join : (old mid new : State) → OpensAlong old mid → OpensAlong mid new → (q : ℕ) → q ≤ old.given → value_at q old.live ≡ None →
-    value_at q new.live ≡ None
-gone_join old mid new a b q up none = let more = a.rises in b.gone q (omega arith) (a.gone q up none)
 
 known_join : (old mid new : State) (a : OpensAlong old mid) (b : OpensAlong mid new) → old.is_caller ≡ true →
     (new.given ≡ old.given) × AllByRecursion (IsGiven old.given) (a.told ++ b.told)
 known_join old mid new a b caller = grind (arith, all_join)
 
-stays_join : (old mid new : State) (a : OpensAlong old mid) (b : OpensAlong mid new) → StaysAsked old new (a.told ++ b.told)
-stays_join old mid new a b q h over = grind (arith, answered_front, answered_behind)
-
 along_join : (old mid new : State) → OpensAlong old mid → OpensAlong mid new → OpensAlong old new
 along_join old mid new a b = record {
   told = a.told ++ b.told;
   events = b.events ∙ ap (λ l. l ++ b.told) a.events ∙ append_assoc old.events a.told b.told;
-  caller = λ caller. subst (AreAwaited old.live) (sym (opened_join a.told b.told))
-      (awaited_join old.live (opened_in a.told) (opened_in b.told) (a.caller caller)
-      (awaited_from old.live mid.live (opened_in b.told) a.awaited (b.caller (a.side ∙ caller))));
-  called = λ called none. subst (λ (l : List ℕ). Rises old.given l new.given) (sym (opened_join a.told b.told))
-      (rises_join old.given (opened_in a.told) mid.given (opened_in b.told) new.given (a.called called none)
-      (b.called (a.side ∙ called) (λ q h. none q (a.awaited q h))));
+  caller = grind (arith, opened_join, awaited_join, awaited_from);
+  called = grind (arith, opened_join, rises_join);
   side = b.side ∙ a.side;
   awaited = λ q h. a.awaited q (b.awaited q h);
-  about = all_join (IsOf old) a.told b.told a.about
-      (all_still (IsOf mid) (IsOf old) b.told (λ event. about_join old mid event a.rises a.gone) b.about);
+  about = grind (arith, all_join, all_still);
   known = λ caller. known_join old mid new a b caller;
-  comes = λ called none. comes_join old.given a.told mid.given b.told new.given (a.comes called none)
-      (b.comes (a.side ∙ called) (λ q h. none q (a.awaited q h)));
+  comes = grind (arith, comes_join);
   rises = let first = a.rises in let second = b.rises in omega arith;
-  gone = gone_join old mid new a b;
-  stays = stays_join old mid new a b;
+  gone = grind arith;
+  stays = grind (arith, answered_front, answered_behind);
   lasts = λ over. a.lasts (b.lasts over);
 }
 

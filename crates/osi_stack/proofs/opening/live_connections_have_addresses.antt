@@ -1,10 +1,10 @@
 -- A live connection that may receive indications has addresses.
-use Rattle.std.proofs.Common.{◌≡◌, ℕ, Bool, true, false, List, Option, Some, None, IsSome, is_some, refl, sym, ◌∙◌, if◌then◌else◌, arith}
+use Rattle.std.proofs.Common.{◌≡◌, ℕ, Bool, true, false, List, Option, IsSome, refl, if◌then◌else◌, arith}
 use Rattle.osi_session.specs.Causes.{asks_for_connection, is_taken}
 use Rattle.osi_session.specs.Shown.{shows_connect}
-use Rattle.osi_stack.proofs.Vocabulary.{IfSome, Rows, value_at, TsapIds, known_is, Call, Input, Listener, called, taken, opened, refused}
-use Rattle.osi_stack.proofs.Vocabulary.{broken, came, react, after_input, shows_loss, addressed, selectors_in, addresses_at, phase_of}
-use Rattle.osi_stack.proofs.Vocabulary.{phase_at, IsNamed, AllNamed, line_by, selectors_told, IsSettled, Line, End, session_in}
+use Rattle.osi_stack.proofs.Vocabulary.{IfSome, known_is, Call, Input, Listener, called, taken, opened, refused, broken, came, react}
+use Rattle.osi_stack.proofs.Vocabulary.{after_input, shows_loss, addresses_at, phase_of, phase_at, IsNamed, line_by, selectors_told}
+use Rattle.osi_stack.proofs.Vocabulary.{IsSettled, Line, End}
 use Rattle.osi_stack.proofs.each_line.what_stays_true_of_each_line.{LinesStay, line_at}
 
 -- the first indication of a user
@@ -17,15 +17,9 @@ pub record ShownFirst : Type 0 where
 
 -- ---- a CN has selectors
 
-input_selectors : (input : Input) → asks_for_connection input ≡ true → IsSome (selectors_told input)
-input_selectors input h = grind arith
-
 -- if this indicates that a connection is requested, it has selectors
 abbrev TellsThem : Input → Type 0
 TellsThem input = (s : Listener) → shows_connect (react s input).shown ≡ true → IsSome (selectors_told input)
-
-untaken : ShownFirst → (input : Input) → is_taken input ≡ false → TellsThem input
-untaken law input not s h = absurd (let t : true ≡ false = sym (law.taken s input h) ∙ not in cc)
 
 -- ---- what happens to a session keeps it
 
@@ -41,27 +35,16 @@ line_named law input tells line o is h = search (arith, shows_loss, moved_by, se
 
 -- a call, and what the carrier tells
 pub call_named : ShownFirst → (call : Call) (line : Line) → IsNamed line → IsNamed (line_by line line.session (called call))
-call_named law call line h = line_named law (called call) (untaken law (called call) refl) line line.session refl h
+call_named law call line h = line_named law (called call) (grind arith) line line.session refl h
 
 pub named_stays : ShownFirst → LinesStay IsNamed
-named_stays law = grind (arith, opened, line_named, untaken, refused, came, input_selectors, broken)
+named_stays law = grind (arith, opened, line_named, refused, came, broken)
 
 -- ---- of a connection that is live
-
-named_by : (r : ℕ) (lines : Rows Line) (o : Option Line) → value_at r lines ≡ o → AllNamed lines → IfSome o IsNamed
-named_by r lines o at all = grind (arith, line_at)
 
 -- said of the phase of a session, which is over if there is none
 abbrev Known : {X : Type 0} → Option Listener → Option X → Type 0
 Known session x = shows_loss (phase_of session) ≡ true → IsSome x
 
-live_known : (live : Bool) (ids : Option TsapIds) (o : Option Line) → is_some ids ≡ live → IfSome o IsNamed →
-    Known (if live then session_in o else None) (if live then addressed ids (selectors_in o) else None)
-live_known live ids o same h k = grind arith
-
-given_known : {X : Type 0} (given : Bool) (session : Option Listener) (x : Option X) → Known session x →
-    IfSome (if given then Some (phase_of session) else None) (λ p. shows_loss p ≡ true → IsSome x)
-given_known given session x h = grind arith
-
 pub known_at : (r : ℕ) (e : End) → IsSettled e → IfSome (phase_at r e) (λ p. shows_loss p ≡ true → IsSome (addresses_at r e))
-known_at r e s = grind (arith, given_known, live_known, known_is, named_by)
+known_at r e s = search (arith, known_is, line_at)

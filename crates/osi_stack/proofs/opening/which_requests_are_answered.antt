@@ -1,6 +1,6 @@
 -- Which connections that were asked for are reported to be agreed to, or denied.
-use Rattle.std.proofs.Common.{◌≡◌, ◌≢◌, ℕ, ◌+◌, ◌==◌, Bool, true, false, ◌||◌, List, [], ◌∷◌, ◌++◌, arith}
-use Rattle.osi_stack.proofs.Vocabulary.{or_right, Happening, told_of, told_opened as opened, told_refused as refused}
+use Rattle.std.proofs.Common.{◌≡◌, ℕ, ◌+◌, ◌==◌, Bool, true, false, ◌||◌, List, [], ◌∷◌, ◌++◌, arith}
+use Rattle.osi_stack.proofs.Vocabulary.{or_right, Happening, told_opened as opened, told_refused as refused}
 
 -- that a connection is agreed to, or denied, is among these
 abbrev pub answered : ℕ → List Happening → Bool
@@ -9,13 +9,10 @@ answered r (opened q ∷ events) = (q == r) || answered r events
 answered r (refused q reason ∷ events) = (q == r) || answered r events
 answered r (event ∷ events) = answered r events
 
-or_more : (x a b : Bool) → (a ≡ true → b ≡ true) → (x || a) ≡ true → (x || b) ≡ true
-or_more x a b more h = grind arith
-
 pub answered_front : (r : ℕ) (first later : List Happening) → answered r first ≡ true → answered r (first ++ later) ≡ true
 answered_front r [] later h = cc
-answered_front r (opened q ∷ first) later h = grind (arith, or_more, answered_front r first later)
-answered_front r (refused q reason ∷ first) later h = grind (arith, or_more, answered_front r first later)
+answered_front r (opened q ∷ first) later h = grind (arith, answered_front r first later)
+answered_front r (refused q reason ∷ first) later h = grind (arith, answered_front r first later)
 answered_front r (event ∷ first) later h = answered_front r first later h
 
 pub answered_behind : (r : ℕ) (first later : List Happening) → answered r later ≡ true → answered r (first ++ later) ≡ true
@@ -23,8 +20,3 @@ answered_behind r [] later h = h
 answered_behind r (opened q ∷ first) later h = or_right (q == r) (answered r (first ++ later)) (answered_behind r first later h)
 answered_behind r (refused q reason ∷ first) later h = or_right (q == r) (answered r (first ++ later)) (answered_behind r first later h)
 answered_behind r (event ∷ first) later h = answered_behind r first later h
-
--- an event of another connection
-pub answered_other : (r : ℕ) (event : Happening) (events : List Happening) → r ≢ told_of event →
-    answered r (event ∷ events) ≡ answered r events
-answered_other r event events ne = grind arith

@@ -1,16 +1,15 @@
 -- Each session that waits for its transport connection has one that was requested.
-use Rattle.std.proofs.Common.{◌≡◌, ◌≢◌, ℕ, ◌==◌, Bool, true, false, List, ◌∷◌, length, Option, Some, None, is_some, refl, sym, ap, subst}
-use Rattle.std.proofs.Common.{◌∙◌, inl, inr, arith, if◌then◌else◌, []}
+use Rattle.std.proofs.Common.{◌≡◌, ℕ, ◌==◌, Bool, true, false, List, ◌∷◌, length, Option, Some, None, refl, sym, ap, subst, ◌∙◌, inl, inr}
+use Rattle.std.proofs.Common.{arith, []}
 use Rattle.osi_carrier.specs.Happenings as told
 use Rattle.osi_carrier.specs.Packets as carriers
-use Rattle.osi_stack.proofs.Vocabulary.{eqb-true, eq-eqb, Fed, Standing as Link, Class, Local, beyond, push_here, put_other, push_other}
-use Rattle.osi_stack.proofs.Vocabulary.{open_link, link_of, sent_on, closes, closed_on, Happening, IsOrderly, told_of, value_at, Connection}
-use Rattle.osi_stack.proofs.Vocabulary.{asked, State as Carrier, Broken, Call, Input, Listener, called, opened, refused, react}
-use Rattle.osi_stack.proofs.Vocabulary.{is_wait_transport, awaits, connects, breaks, carried, without_first, Feeds, opens, hears}
-use Rattle.osi_stack.proofs.Vocabulary.{hears_next, hears_times, with_events, with_carrier, after_packet, ends, AreApart, HasAsked}
-use Rattle.osi_stack.proofs.Vocabulary.{Soundness, IsSound, kept_at, to_session, Line, End, Holding, IsAttended, fresh_end, Connect}
+use Rattle.osi_stack.proofs.Vocabulary.{eqb-true, eq-eqb, Fed, Standing as Link, beyond, push_here, put_other, push_other, open_link}
+use Rattle.osi_stack.proofs.Vocabulary.{sent_on, closes, closed_on, Happening, IsOrderly, told_of, value_at, asked, State as Carrier, Call}
+use Rattle.osi_stack.proofs.Vocabulary.{Input, Listener, called, opened, refused, react, is_wait_transport, awaits, connects, without_first}
+use Rattle.osi_stack.proofs.Vocabulary.{Feeds, opens, hears, hears_next, hears_times, with_events, with_carrier, after_packet, AreApart}
+use Rattle.osi_stack.proofs.Vocabulary.{HasAsked, Soundness, IsSound, kept_at, to_session, Line, End, Holding, IsAttended, Connect}
 use Rattle.osi_stack.proofs.Vocabulary.{input_of}
-use Rattle.osi_stack.proofs.opening.which_requests_are_answered.{answered, answered_other, answered_behind}
+use Rattle.osi_stack.proofs.opening.which_requests_are_answered.{answered, answered_behind}
 use Rattle.osi_stack.proofs.carried.events_one_after_the_other.{concluded_carrier}
 use Rattle.osi_stack.proofs.carried.what_sessions_leave_of_the_carrier.{session_keeps}
 use Rattle.osi_stack.proofs.carried.packets_without_events.{both, packet_is, never}
@@ -20,7 +19,7 @@ use Rattle.osi_stack.proofs.each_session.a_session_is_what_its_inputs_made.{kept
 use Rattle.osi_stack.proofs.carried.what_a_move_leaves.{kept_first}
 use Rattle.osi_stack.proofs.each_line.lines_stay_in_order.{packet_along}
 use Rattle.osi_stack.proofs.sound.the_invariant_is_kept.{concludes_lasting, hale_kept, IsHale}
-use Rattle.osi_stack.proofs.carried.what_each_step_preserves.{session_carried, broken_end}
+use Rattle.osi_stack.proofs.carried.what_each_step_preserves.{session_carried}
 use Rattle.osi_stack.proofs.stream.what_feeding_keeps.{feeds_beside, over_beside}
 
 -- a session that waits for its transport connection did so before
@@ -30,26 +29,15 @@ StillWaits = (s : Listener) (input : Input) → is_wait_transport (react s input
 
 -- ---- what a session does to its carrier
 
-unlinked : (over : Bool) (o : Option Connection) (link : ℕ × Link) → o ≡ Some asked → (if over then None else link_of o) ≡ Some link → ⊥
-unlinked over o link here e = grind arith
-
-other_link : (r q : ℕ) (c : Carrier) (link : ℕ × Link) → value_at r c.live ≡ Some asked → open_link q c ≡ Some link → r ≢ q
-other_link r q c link here e = λ same. unlinked (is_some c.ended) (value_at q c.live) link (ap (λ n. value_at n c.live) (sym same) ∙ here) e
-
 asked_sent : (r q : ℕ) (tsdu : List ℕ) (o : Option (ℕ × Link)) (c : Carrier) → open_link q c ≡ o →
     (c.ended ≡ None → value_at r c.live ≡ Some asked) → (sent_on q tsdu o c).ended ≡ None →
     value_at r (sent_on q tsdu o c).live ≡ Some asked
-asked_sent r q tsdu o c e here over = grind (arith, put_other, other_link)
-
-asked_closes : (r q peer : ℕ) (class : Option Class) (c : Carrier) → (c.ended ≡ None → r ≢ q) →
-    (c.ended ≡ None → value_at r c.live ≡ Some asked) → (closes q peer 128 class c).ended ≡ None →
-    value_at r (closes q peer 128 class c).live ≡ Some asked
-asked_closes r q peer class c ne here over = grind (arith, put_other)
+asked_sent r q tsdu o c e here over = grind (arith, put_other)
 
 pub asked_closed : (r q : ℕ) (o : Option (ℕ × Link)) (c : Carrier) → open_link q c ≡ o → (c.ended ≡ None → value_at r c.live ≡ Some asked) →
     (closed_on q 128 o c).ended ≡ None →
     value_at r (closed_on q 128 o c).live ≡ Some asked
-asked_closed r q o c e here over = grind (arith, asked_closes, other_link)
+asked_closed r q o c e here over = grind (arith, put_other)
 
 -- one that was requested stays so while the carrier lasts
 asked_session : (r q : ℕ) (input : Input) (e : End) → (to_session q input e).carrier.ended ≡ None → value_at r e.carrier.live ≡ Some asked →
@@ -78,14 +66,7 @@ moved_asked : StillWaits → (q : ℕ) (input : Input) (event : Happening) (rest
     AllAsked (event ∷ rest) e →
     (r : ℕ) (s : Listener) (b : Bool) → (r == q) ≡ b → kept_at r d.lines ≡ Some s → is_wait_transport s.state.phase ≡ true →
     answered r rest ≡ false → value_at r d.carrier.live ≡ Some asked
-moved_asked law q input event rest e d of m stays quiet all r s b at is n h =
-    search (arith, eqb-true, answered, both, eq-eqb, answered_other)
-
-rested_asked : (q : ℕ) (event : Happening) (rest : List Happening) (e : End) → told_of event ≡ q → kept_at q e.lines ≡ None →
-    AllAsked (event ∷ rest) e →
-    (r : ℕ) (s : Listener) (b : Bool) → (r == q) ≡ b → kept_at r e.lines ≡ Some s → is_wait_transport s.state.phase ≡ true →
-    answered r rest ≡ false → value_at r e.carrier.live ≡ Some asked
-rested_asked q event rest e of none all r s b at is n h = grind arith
+moved_asked law q input event rest e d of m stays quiet all r s b at is n h = search (arith, eqb-true, answered, both, eq-eqb)
 
 heard_asked : StillWaits → (q : ℕ) (input : Input) (event : Happening) (rest : List Happening) (e d : End) → told_of event ≡ q →
     Hearing q input e d →
@@ -93,7 +74,7 @@ heard_asked : StillWaits → (q : ℕ) (input : Input) (event : Happening) (rest
     AllAsked (event ∷ rest) e → AllAsked rest d
 heard_asked law q input event rest e d of (inl m) stays quiet all =
     λ r s. moved_asked law q input event rest e d of m stays quiet all r s (r == q) refl
-heard_asked law q input event rest e d of (inr m) stays quiet all = grind (arith, rested_asked)
+heard_asked law q input event rest e d of (inr m) stays quiet all = grind arith
 
 session_asked : StillWaits → (q : ℕ) (input : Input) (event : Happening) (rest : List Happening) (e : End) → told_of event ≡ q →
     (to_session q input e).carrier.ended ≡ None →
@@ -117,7 +98,7 @@ joined_asked q rest e apart none all =
     (kept_joined q r awaits s e.carrier.live e.lines (q == r) refl none
     (used_at r e.carrier.live (joined_lines q awaits e.lines) (apart_push q _ e.lines none apart)) is) [
       | inl new ↦ (let no : false ≡ true = ap (λ (x : Listener). is_wait_transport x.state.phase) (sym new.1) ∙ n in cc)
-      | inr old ↦ all r s old.1 n (answered_other r (told.opened q) rest (λ same. old.0 (sym same)) ∙ h)
+      | inr old ↦ all r s old.1 n ((grind arith) ∙ h)
     ]
 
 opens_asked : StillWaits → (q : ℕ) (rest : List Happening) (e : End) (o : Option Line) → value_at q e.lines ≡ o → AreApart e.lines →
@@ -144,8 +125,7 @@ times_asked law [] e h apart over all = all
 times_asked law (event ∷ rest) e h apart over all =
     let here = with_events rest e in
     let is = first_is event rest e h in
-    let lasts : (hears event here).carrier.ended ≡ None = ap (λ (x : End). x.carrier.ended) (sym is) ∙
-    times_last (length rest) (hears_next e) over in
+    let lasts : (hears event here).carrier.ended ≡ None = grind (arith, times_last) in
     let next : AllAsked rest (hears_next e) =
     subst (λ (x : End). AllAsked rest x) (sym is) (hears_asked law event rest here apart lasts all) in
     let still : AreApart (hears_next e).lines = subst (λ (x : End). AreApart x.lines) (sym is) (hears_apart event here apart) in
@@ -165,16 +145,11 @@ packet_asked law packet e lasts sound has over =
 
 -- ---- calls
 
-pub fresh_asked : (is_caller : Bool) (local : Local) → HasAsked (fresh_end is_caller local)
-fresh_asked is_caller local = λ over r s is n. cc
-
 pub call_asked : StillWaits → (r : ℕ) (call : Call) (e : End) → HasAsked e → HasAsked (to_session r (called call) e)
 call_asked law r call e has over =
     let lasts = (session_keeps r (called call) e).lasts over in
     let all : AllAsked (told.tsdu r [] ∷ []) e = (λ q s is n h. has lasts q s is n) in
-    let after : AllAsked [] (to_session r (called call) e) =
-    session_asked law r (called call) (told.tsdu r []) [] e refl over (λ s n. refl) all in
-    λ q s is n. after q s is n refl
+    search (arith, session_asked)
 
 pub connect_asked : (c : Connect) (e : End) → IsSound e → HasAsked e → HasAsked (connects c e)
 connect_asked c e sound has over = grind (arith, beyond, kept_joined, used_at, joined_lines, apart_push, push_here, push_other)
@@ -182,20 +157,11 @@ connect_asked c e sound has over = grind (arith, beyond, kept_joined, used_at, j
 pub first_asked : (e : End) → HasAsked e → HasAsked (record e { lines = without_first e.lines })
 first_asked e has over r s is n = has over r s (sym (kept_first r e.lines) ∙ is) n
 
-pub carried_asked : (octets : ℕ) (e : End) → HasAsked e → HasAsked (carried octets e)
-carried_asked octets e has = has
-
-over_asked : (e : End) → is_some e.carrier.ended ≡ true → HasAsked e
-over_asked e over lasts = never e over lasts
-
-pub breaks_asked : (e : End) → HasAsked e → HasAsked (breaks e)
-breaks_asked e has = broken_end HasAsked (λ x h. over_asked (ends Broken x) refl) e has
-
 -- ---- feeding
 
 pub feeds_asked : SessionLaws → StillWaits → (old new : Holding) (piece : List ℕ) (fed : Fed) → Feeds old piece fed new →
     IsAttended old.end → IsSound old.end → HasAsked old.end → HasAsked new.end
 feeds_asked laws law old new piece fed h attended sound has =
     feeds_beside IsHale HasAsked (hale_kept laws)
-    (over_beside IsHale HasAsked (λ packet e lasts hale has. packet_asked law packet e lasts (hale.1 lasts) has) over_asked)
+    (over_beside IsHale HasAsked (λ packet e lasts hale has. packet_asked law packet e lasts (hale.1 lasts) has) (grind (arith, never)))
     old new piece fed h (attended, sound) has

@@ -1,51 +1,40 @@
 -- The invariant of every end between any two calls is kept.
 use Rattle.std.proofs.Common.{◌≡◌, ℕ, ◌≤◌, ◌<◌, Bool, true, false, not, List, ◌∷◌, length, drop, Option, Some, None, Result, Ok, Err, arith}
-use Rattle.std.proofs.Common.{is_some, IsSome, refl, sym, subst, inl, inr, if◌then◌else◌, []}
+use Rattle.std.proofs.Common.{is_some, IsSome, refl, sym, subst, inl, inr, []}
 use Rattle.osi_carrier.specs.Packets as carriers
 use Rattle.osi_session.specs.Units.{is_profile}
-use Rattle.osi_stack.specs.declared.connecting.ConnectError.TheVariants.{NotSelected}
 use Rattle.osi_session.specs.declared.faults.CallError.TheVariants as error
-use Rattle.osi_stack.proofs.Vocabulary.{OnOk, OnErr, IfErr, IfSome, units_of, Value, TpduFault, Local, Units, said_by_units, Fed}
-use Rattle.osi_stack.proofs.Vocabulary.{may_connect, IsOrderly, reacts, Rows, value_at, State as Carrier, EndReason, Broken, NoMemory}
-use Rattle.osi_stack.proofs.Vocabulary.{orderly_fresh, orderly_units, orderly_packet, orderly_asks, orderly_end, orderly_ended}
-use Rattle.osi_stack.proofs.Vocabulary.{orderly_same, Call, HasSerial, Input, Listener, called, taken, react, after_inputs, HasProfile}
-use Rattle.osi_stack.proofs.Vocabulary.{Opening, unit_bits, OpenError, ConnectError, awaiting, asking, HasNumbersInWords, CallError}
-use Rattle.osi_stack.proofs.Vocabulary.{connects, connect_error, terms_error, after_open, opening_of, calls_with, breaks, carried}
-use Rattle.osi_stack.proofs.Vocabulary.{without_first, has_given, call_error, table_error, session_refusal, session_error, Refuses, by_rule}
-use Rattle.osi_stack.proofs.Vocabulary.{stops, Goes, Feeds, hears_all, hears_times, with_events, with_carrier, attends, after_packet}
-use Rattle.osi_stack.proofs.Vocabulary.{starves, Starves, to_session, Line, End, Holding, IsAttended, fresh_end, session_in, session_at}
-use Rattle.osi_stack.proofs.Vocabulary.{waits, CameAbout, IsProfiled, IsNamed, OfSessions, IsSettled, Connect, IsSound}
+use Rattle.osi_stack.proofs.Vocabulary.{OnOk, OnErr, units_of, Value, TpduFault, Local, Units, said_by_units, Fed, IsOrderly, reacts, Rows}
+use Rattle.osi_stack.proofs.Vocabulary.{value_at, State as Carrier, NoMemory, orderly_fresh, orderly_units, orderly_packet, orderly_asks}
+use Rattle.osi_stack.proofs.Vocabulary.{orderly_end, orderly_ended, orderly_same, Call, HasSerial, Input, Listener, called, taken, react}
+use Rattle.osi_stack.proofs.Vocabulary.{after_inputs, HasProfile, Opening, unit_bits, awaiting, asking, HasNumbersInWords, connects}
+use Rattle.osi_stack.proofs.Vocabulary.{connect_error, opening_of, breaks, carried, without_first, has_given, call_error, table_error}
+use Rattle.osi_stack.proofs.Vocabulary.{session_refusal, session_error, stops, Goes, Feeds, hears_all, with_carrier, attends, after_packet}
+use Rattle.osi_stack.proofs.Vocabulary.{Starves, to_session, Line, End, Holding, fresh_end, session_in, session_at, waits, CameAbout}
+use Rattle.osi_stack.proofs.Vocabulary.{IsProfiled, IsNamed, OfSessions, IsSettled, Connect, free_of, none_of}
 use Rattle.osi_stack.proofs.called.the_result_is_that_of_the_table.{Below, answered_is}
-use Rattle.osi_stack.proofs.opening.who_waits_was_requested.{StillWaits, fresh_asked, connect_asked, call_asked, feeds_asked, first_asked}
-use Rattle.osi_stack.proofs.opening.who_waits_was_requested.{carried_asked, breaks_asked}
+use Rattle.osi_stack.proofs.opening.who_waits_was_requested.{StillWaits, connect_asked, call_asked, feeds_asked, first_asked}
 use Rattle.osi_stack.proofs.carried.all_events_are_handled.{session_attended, connect_attended, breaks_attended, feeds_attended}
-use Rattle.osi_stack.proofs.each_line.what_stays_true_of_each_session.{at_line, session_all, connect_all, call_came, feeds_all, told_all}
-use Rattle.osi_stack.proofs.each_line.what_stays_true_of_each_session.{breaks_all, came_asking, came_true, profile_true}
+use Rattle.osi_stack.proofs.each_line.what_stays_true_of_each_session.{session_all, connect_all, call_came, feeds_all, told_all, breaks_all}
+use Rattle.osi_stack.proofs.each_line.what_stays_true_of_each_session.{came_asking, came_true, profile_true}
 use Rattle.osi_stack.proofs.carried.events_one_after_the_other.{concluded_carrier}
-use Rattle.osi_stack.proofs.carried.no_session_is_left_after_the_end.{lasting_gone, connect_gone, call_gone, first_gone, breaks_gone}
-use Rattle.osi_stack.proofs.carried.no_session_is_left_after_the_end.{feeds_gone}
+use Rattle.osi_stack.proofs.carried.no_session_is_left_after_the_end.{call_gone, first_gone, breaks_gone, feeds_gone}
 use Rattle.osi_stack.proofs.opening.live_connections_have_addresses.{ShownFirst, call_named, named_stays}
 use Rattle.osi_stack.proofs.carried.packets_without_events.{both, or_first, or_second, packet_is}
 use Rattle.osi_stack.proofs.carried.open_connections_stay_open.{SessionLaws}
 use Rattle.osi_stack.proofs.each_line.what_stays_true_of_each_line.{session_lines, feeds_lines, connect_lines, told_lines, breaks_lines}
+use Rattle.osi_stack.proofs.each_line.what_stays_true_of_each_line.{line_at}
 use Rattle.osi_stack.proofs.each_line.lines_stay_in_order.{fresh_ordered, connect_ordered, call_ordered, feeds_ordered, first_ordered}
 use Rattle.osi_stack.proofs.each_line.lines_stay_in_order.{carried_ordered, breaks_ordered}
 use Rattle.osi_stack.proofs.sound.the_invariant_is_kept.{Fits, times_fits, up_more, units_rise, packet_rises, open_none, fresh_sound}
 use Rattle.osi_stack.proofs.sound.the_invariant_is_kept.{connect_sound, call_sound, feeds_sound, first_sound, carried_sound, breaks_sound}
 use Rattle.osi_stack.proofs.sound.the_invariant_is_kept.{session_leaves, hale_kept, IsHale}
-use Rattle.osi_stack.proofs.carried.what_each_step_preserves.{broken_end}
 use Rattle.osi_stack.proofs.stream.what_feeding_keeps.{IsKeptBeside, feeds_beside}
 
 -- ---- calls
 
-pub session_orderly : (r : ℕ) (input : Input) (e : End) → IsOrderly e.carrier → IsOrderly (to_session r input e).carrier
-session_orderly r input e h = (session_leaves r input e h).0
-
 pub connect_orderly : (c : Connect) (e : End) → connect_error c e ≡ None → IsOrderly e.carrier → IsOrderly (connects c e).carrier
 connect_orderly c e allowed h = search (arith, orderly_asks, open_none)
-
-pub breaks_orderly : (e : End) → IsOrderly e.carrier → IsOrderly (breaks e).carrier
-breaks_orderly e h = broken_end (λ x. IsOrderly x.carrier) (λ x h. orderly_end Broken x.carrier h) e h
 
 -- ---- packets
 
@@ -54,9 +43,6 @@ attends_orderly e f = subst IsOrderly (sym (concluded_carrier (hears_all e))) (t
 
 packet_orderly : (packet : List ℕ) (e : End) → Fits e → IsOrderly (after_packet e packet).carrier
 packet_orderly packet e f = search (arith, after_packet, packet_is, attends_orderly, with_carrier, orderly_packet, up_more, packet_rises)
-
-fits_of : (e : End) → e.carrier.ended ≡ None → IsSound e → Fits e
-fits_of e lasts sound = let s = sound lasts in record { orderly = s.orderly; known = s.known }
 
 -- ---- an allocation failure
 
@@ -76,32 +62,23 @@ grows_by (Err fault) old new is o = grind (arith, orderly_end)
 grown_fits : (e : End) (c : Carrier) → Grows e.carrier c → Fits e → Fits (with_carrier c e)
 grown_fits e c g f = record { orderly = g.orderly; known = up_more e.carrier.given c.given e.lines g.given f.known }
 
-starves_orderly : (e : End) → IsOrderly e.carrier → IsOrderly (starves e).carrier
-starves_orderly e h = orderly_ended NoMemory e.carrier h
-
 starved_orderly : (e new : End) (packet : List ℕ) → Starves e packet new → Fits e → IsOrderly new.carrier
 starved_orderly e new packet (inl h) f =
     subst (λ (x : End). IsOrderly x.carrier) (sym h.2)
     (attends_orderly (with_carrier h.0 e) (grown_fits e h.0 (grows_out h.1.0 e.carrier h.0 h.1.2 f.orderly) f))
 starved_orderly e new packet (inr h) f =
-    let mid = hears_times h.2.heard (with_carrier h.0 e) in
     let fits = times_fits h.2.heard (with_carrier h.0 e) (grown_fits e h.0 (grows_by (units_of packet) e.carrier h.0 h.1 f.orderly) f) in
     subst (λ (x : End). IsOrderly x.carrier) (sym h.2.starved)
-    (starves_orderly (with_events h.2.more mid) (orderly_same mid.carrier mid.carrier.outgoing h.2.more fits.orderly))
+    (grind (arith, orderly_ended))
 
 -- ---- feeding
 
 orderly_kept : IsKeptBeside IsHale (λ e. IsOrderly e.carrier)
 orderly_kept = record {
-  each = λ packet e lasts hale o. packet_orderly packet e (fits_of e lasts hale.1);
+  each = λ packet e lasts hale o. packet_orderly packet e (grind arith);
   over = λ reason e hale o. orderly_end reason e.carrier o;
-  starved = λ packet e new lasts h hale o. starved_orderly e new packet h (fits_of e lasts hale.1);
+  starved = λ packet e new lasts h hale o. starved_orderly e new packet h (grind arith);
 }
-
-pub feeds_orderly : SessionLaws → (old new : Holding) (piece : List ℕ) (fed : Fed) → Feeds old piece fed new → IsAttended old.end →
-    IsSound old.end → IsOrderly old.end.carrier →
-    IsOrderly new.end.carrier
-feeds_orderly laws old new piece fed h attended sound orderly = grind (arith, feeds_beside, hale_kept, orderly_kept)
 
 -- ---- the invariant of every end
 
@@ -120,19 +97,7 @@ pub record Steps : Type 0 where
   pub shown : ShownFirst
 
 pub fresh_settled : (is_caller : Bool) (local : Local) → IsSettled (fresh_end is_caller local)
-fresh_settled is_caller local = grind (arith, orderly_fresh, fresh_sound, fresh_asked, fresh_ordered, lasting_gone, fresh_end)
-
--- a connection is requested with units that can be selected together
-units_of_terms : (b : Bool) (error : Option ConnectError) → (if not b then Some NotSelected else error) ≡ None → b ≡ true
-units_of_terms b error h = grind arith
-
-terms_none : (o : Option OpenError) (error : Option ConnectError) → after_open o error ≡ None → error ≡ None
-terms_none o error h = grind arith
-
-asks_profile : Profiles → (c : Connect) (e : End) → connect_error c e ≡ None → IsProfiled (calls_with c)
-asks_profile profiles c e allowed =
-    profiles.caller (opening_of c)
-    (units_of_terms (is_profile (unit_bits c.requirements)) _ (terms_none (may_connect e.carrier) (terms_error c) allowed))
+fresh_settled is_caller local = grind (arith, orderly_fresh, fresh_sound, fresh_ordered, fresh_end)
 
 pub connect_settled : Profiles → (c : Connect) (e : End) → connect_error c e ≡ None → IsSettled e → IsSettled (connects c e)
 connect_settled profiles c e allowed s = record {
@@ -142,9 +107,9 @@ connect_settled profiles c e allowed s = record {
   asks = connect_asked c e s.sound s.asks;
   ordered = connect_ordered c e allowed s.sound s.ordered;
   came = connect_all CameAbout c e (came_asking c) s.came;
-  profiled = connect_all IsProfiled c e (asks_profile profiles c e allowed) s.profiled;
+  profiled = connect_all IsProfiled c e (grind (arith, profiles.caller (opening_of c) (grind arith))) s.profiled;
   named = connect_lines IsNamed c e (λ k. refl) s.named;
-  gone = connect_gone c e allowed;
+  gone = grind (arith, none_of, free_of, open_none);
 }
 
 pub call_settled : Profiles → ShownFirst → SessionLaws → StillWaits →
@@ -152,7 +117,7 @@ pub call_settled : Profiles → ShownFirst → SessionLaws → StillWaits →
     IsSettled e → IsSettled (to_session r (called call) e)
 call_settled profiles shown laws waits still r call e serial s = record {
   attended = session_attended r (called call) e s.attended;
-  orderly = session_orderly r (called call) e s.orderly;
+  orderly = grind (arith, session_leaves r (called call) e s.orderly);
   sound = call_sound laws r call e s.sound;
   asks = call_asked waits r call e s.asks;
   ordered = call_ordered r (called call) e s.ordered;
@@ -166,7 +131,7 @@ pub feeds_settled : Steps → (old new : Holding) (piece : List ℕ) (fed : Fed)
     IsSettled new.end
 feeds_settled steps old new piece fed h s = record {
   attended = feeds_attended old new piece fed h s.attended;
-  orderly = feeds_orderly steps.laws old new piece fed h s.attended s.sound s.orderly;
+  orderly = grind (arith, feeds_beside, hale_kept, orderly_kept);
   sound = feeds_sound steps.laws old new piece fed h s.attended s.sound;
   asks = feeds_asked steps.laws steps.waits old new piece fed h s.attended s.sound s.asks;
   ordered = feeds_ordered steps.laws old new piece fed h s.attended s.sound s.ordered;
@@ -180,19 +145,17 @@ pub first_settled : (e : End) → IsSettled e → IsSettled (record e { lines = 
 first_settled e s = search (arith, first_sound, first_asked, first_ordered, told_all, told_lines, first_gone)
 
 pub carried_settled : (octets : ℕ) (e : End) → IsSettled e → IsSettled (carried octets e)
-carried_settled octets e s = grind (arith, orderly_same, drop, carried_sound, carried_asked, carried_ordered)
+carried_settled octets e s = grind (arith, orderly_same, drop, carried_sound, carried_ordered)
 
 pub breaks_settled : (e : End) → IsSettled e → IsSettled (breaks e)
-breaks_settled e s =
-    grind (arith, breaks_attended, breaks_orderly, breaks_sound, breaks_asked, breaks_ordered, breaks_all, breaks_lines, breaks_gone)
+breaks_settled e s = grind (arith, breaks_attended, breaks_sound, breaks_ordered, breaks_all, breaks_lines, breaks_gone)
 
 -- ---- one session
 
 pub profiled_at : (r : ℕ) (s : Listener) (lines : Rows Line) (o : Option Line) → value_at r lines ≡ o → session_in o ≡ Some s →
     OfSessions IsProfiled lines → HasProfile s.state
 profiled_at r s lines None at is all = cc
-profiled_at r s lines (Some line) at is all =
-    subst (λ (o : Option Listener). IfSome o IsProfiled) is (at_line IsProfiled r line lines all at)
+profiled_at r s lines (Some line) at is all = grind (arith, line_at)
 
 -- ---- after the end
 
@@ -200,12 +163,8 @@ profiled_at r s lines (Some line) at is all =
 pub none_at : (r : ℕ) (e : End) → IsOrderly e.carrier → IsSome e.carrier.ended → session_at r e ≡ None
 none_at r e o over = grind arith
 
-table_by : Below → (r : ℕ) (call : Call) (e : End) (o : Option EndReason) → e.carrier.ended ≡ o → HasSerial call → IsSettled e →
-    call_error r call e ≡ table_error r call e
-table_by law r call e o is serial s = grind (arith, answered_is, none_at, is_some, not, has_given, session_refusal, session_error)
-
 pub table_is : Below → (r : ℕ) (call : Call) (e : End) → HasSerial call → IsSettled e → call_error r call e ≡ table_error r call e
-table_is law r call e serial s = table_by law r call e e.carrier.ended refl serial s
+table_is law r call e serial s = grind (arith, answered_is, none_at, is_some, not, has_given, session_refusal, session_error)
 
 -- no call is accepted
 pub over_is : (r : ℕ) (call : Call) (e : End) → IsSettled e → IsSome e.carrier.ended → IsSome (call_error r call e)
@@ -223,11 +182,6 @@ pub settled_connect : {A F : Type 0} (result : Result A F) (c : Connect) (old ne
     OnOk result (new ≡ record old { end = connects c old.end }) →
     OnOk result (connect_error c old.end ≡ None) → OnErr result (new ≡ old) → IsSettled old.end → IsSettled new.end
 settled_connect result c old new settles ok allowed err was = grind arith
-
-pub answered_by_table : {A : Type 0} (result : Result A CallError) (first all : Option CallError) → all ≡ first →
-    IfErr result (λ e. Refuses e first all) →
-    IfErr result (λ e. by_rule e ≡ first)
-answered_by_table result first all same h = grind arith
 
 -- what is read is fed
 pub feeds_of : (old new : Holding) (piece : List ℕ) (used : ℕ) → stops old.end ≡ false → Goes old piece used new → used ≤ length piece →

@@ -1,16 +1,16 @@
 -- A piece of the stream, read by looks that each take packets up to one that causes an event.
-use Rattle.std.proofs.Common.{◌≡◌, ℕ, ◌+◌, ◌-◌, ◌<◌, ◌≤◌, ◌||◌, ◌==◌, not, true, false, Bool, List, [], ◌∷◌, ◌++◌, length, take, drop}
-use Rattle.std.proofs.Common.{Option, Result, is_some, refl, sym, ap, subst, ◌∙◌, inl, inr, ◌⊎◌, arith, length-append, length-drop}
-use Rattle.std.proofs.Common.{append_assoc, if◌then◌else◌}
+use Rattle.std.proofs.Common.{◌≡◌, ℕ, ◌+◌, ◌-◌, ◌<◌, ◌≤◌, ◌==◌, true, false, Bool, List, [], ◌∷◌, ◌++◌, length, take, drop, Option, Result}
+use Rattle.std.proofs.Common.{is_some, refl, sym, ap, subst, ◌∙◌, inl, inr, ◌⊎◌, arith, length-append, length-drop, append_assoc}
+use Rattle.std.proofs.Common.{if◌then◌else◌}
 use Rattle.std.proofs.Math.Seq.{drop-append_seam}
 use Rattle.osi_carrier.specs.Packets as carriers
 use Rattle.osi_carrier.specs.State as states
 use Rattle.osi_stack.specs.Feeding.{Refuses}
 use Rattle.osi_stack.proofs.Vocabulary.{append-nil, take-append-drop, take_at, or_right, or_left, IsPartial, IsFaultOf, ArePackets}
 use Rattle.osi_stack.proofs.Vocabulary.{offset_of, TpktFault, Value, TpduFault, packets_more, packets_leave, Carrying, HasToHold, is_spoilt}
-use Rattle.osi_stack.proofs.Vocabulary.{ActsBy, Rows, State as Carrier, Tpkt, EndReason, Fault, NoMemory, stops, uses_all, TakesPackets}
-use Rattle.osi_stack.proofs.Vocabulary.{RunsDry, StopsBehind, FindsNoRoom, FindsNoMemory, Goes, FeedsToEvent, attends, with_carrier, ends}
-use Rattle.osi_stack.proofs.Vocabulary.{RunsOut, Starves, Line, End, Holding, IsAttended, waits}
+use Rattle.osi_stack.proofs.Vocabulary.{ActsBy, Rows, State as Carrier, Tpkt, EndReason, Fault, NoMemory, stops, TakesPackets, RunsDry}
+use Rattle.osi_stack.proofs.Vocabulary.{StopsBehind, FindsNoRoom, FindsNoMemory, Goes, FeedsToEvent, attends, with_carrier, ends, RunsOut}
+use Rattle.osi_stack.proofs.Vocabulary.{Starves, Line, End, Holding, IsAttended, waits}
 use Rattle.osi_stack.proofs.carried.events_one_after_the_other.{never_starved, concluded_carrier, all_keep_by}
 use Rattle.osi_stack.proofs.stream.the_room_for_a_packet.{room_stays, less_room, packet_faultless, first_part}
 use Rattle.osi_stack.proofs.carried.packets_without_events.{both, or_second, IsQuiet, quiet_is, quiet_attends, quiet_stops, lift_dry}
@@ -43,8 +43,7 @@ read_first old piece quiet attended =
       taken = refl;
       quiet = quiet;
       attended = attended;
-      offset = λ n. (let same : (length (old.held.octets ++ []) - length old.held.octets) + n ≡ n = omega arith in
-          ap (λ k. offset_of (old.held.offset + k)) (sym same));
+      offset = grind arith;
       room = omega arith;
       first = inl refl;
     }
@@ -83,11 +82,7 @@ looked : (piece front rest : List ℕ) (within : ℕ) → piece ≡ front ++ res
 looked piece front rest within cut =
     let parts : piece ≡ (front ++ take within rest) ++ drop within rest =
     cut ∙ ap (λ l. front ++ l) (sym (take-append-drop within rest)) ∙ sym (append_assoc front (take within rest) (drop within rest)) in
-    let sizes = ap length parts ∙ length-append (front ++ take within rest) (drop within rest) in
-    let seen = ap (take (length (front ++ take within rest))) parts ∙ take_at (front ++ take within rest) (drop within rest)
-    (length (front ++ take within rest)) refl in
-    let behind = ap (drop (length (front ++ take within rest))) parts ∙ drop-append_seam (front ++ take within rest) (drop within rest) in
-    grind arith
+    grind (arith, length-append, take_at, drop-append_seam)
 
 -- the packets so far, with more octets after them
 more_packets : (old : Holding) (piece : List ℕ) (now : Holding) (rest more : List ℕ) (read : IsRead old piece now rest) →
@@ -140,26 +135,18 @@ dry_is : (old : Holding) (piece : List ℕ) (now : Holding) (rest : List ℕ) (f
     RunsDry old piece (length piece) new
 dry_is old piece now rest fed told new read g held is =
     let none = or_second (is_some now.end.carrier.ended) (waits now.end.lines) read.quiet in
-    let there = with_carrier told.state now.end in
     let whole = more_packets old piece now rest rest read in
     let left = packets_leave g.units (now.held.octets ++ rest) told.held.octets g.packets in
-    record {
-      units = read.units ++ g.units;
-      all = refl;
-      packets = subst (λ h. ArePackets (read.units ++ g.units) (old.held.octets ++ piece) h) (ap (λ h. h.octets) (sym held))
-          (subst (λ l. ArePackets (read.units ++ g.units) (old.held.octets ++ l) told.held.octets) (sym read.cut)
-          (packets_append read.units g.units (old.held.octets ++ (read.front ++ rest)) (now.held.octets ++ rest) told.held.octets whole
-          g.packets));
-      partial = subst (λ h. IsPartial h) (ap (λ h. h.octets) (sym held)) g.partial;
-      taken = subst (λ (x : End). TakesPackets old.end (read.units ++ g.units) x) (sym is)
-          (takes_append old.end now.end there read.units g.units read.taken
-          (lift_dry now.end.lines now.end.carrier told.state g.units none g.taken g.quiet));
-      quiet = ap stops is ∙ quiet_stops there (quiet_is told.state g.quiet).lasts none;
-      offset = ap (λ h. h.offset) held ∙ g.offset ∙ place_of_rest old piece now rest rest (length told.held.octets) read left
-          ∙ ap (λ l. offset_of (old.held.offset + (length (old.held.octets ++ l) - length told.held.octets))) (sym read.cut)
-          ∙ ap (λ h. offset_of (old.held.offset + (length (old.held.octets ++ piece) - length h.octets))) (sym held);
-      room = room_stays old.held.room now.held.room told.held new.held read.room g.room held;
-    }
+    grind (
+      arith,
+      packets_append,
+      takes_append,
+      quiet_stops,
+      lift_dry now.end.lines now.end.carrier told.state g.units none g.taken g.quiet,
+      quiet_is told.state g.quiet,
+      place_of_rest old piece now rest rest (length told.held.octets) read left,
+      room_stays old.held.room now.held.room told.held new.held read.room g.room held,
+    )
 
 behind_is : (old : Holding) (piece : List ℕ) (now : Holding) (rest : List ℕ) (used fed : ℕ) (told : Carrying) (new : Holding)
     (read : IsRead old piece now rest) →
@@ -167,7 +154,6 @@ behind_is : (old : Holding) (piece : List ℕ) (now : Holding) (rest : List ℕ)
     new.end ≡ attends (with_carrier told.state now.end) →
     used ≡ fed → IsBehind old piece rest used new
 behind_is old piece now rest used fed told new read g held is same =
-    let none = or_second (is_some now.end.carrier.ended) (waits now.end.lines) read.quiet in
     let look = looked piece read.front rest g.within read.cut in
     let before = packets_leave read.units (old.held.octets ++ read.front) now.held.octets read.packets in
     let a = length-append now.held.octets (take g.within rest) in
@@ -179,33 +165,15 @@ behind_is old piece now rest used fed told new read g held is same =
       front = read.front ++ take g.within rest;
       units = read.units ++ g.units;
       bound = g.bound;
-      uses = same ∙ g.uses ∙ ap (λ (s : Bool). if s then length rest else g.within)
-          (sym (attends_spoilt (with_carrier told.state now.end) new.end is));
+      uses = grind (arith, attends_spoilt (with_carrier told.state now.end) new.end is);
       cut = look.cut;
       seen = look.seen;
       at_most = look.bound;
-      packets = packets_append read.units g.units (old.held.octets ++ (read.front ++ take g.within rest))
-          (now.held.octets ++ take g.within rest) []
-          (more_packets old piece now rest (take g.within rest) read) g.packets;
-      taken = takes_append old.end now.end new.end read.units g.units read.taken
-          (lift_last now.end.lines now.end.carrier told.state g.units new.end none g.taken (quiet_end now.end read.quiet read.attended)
-          g.stopped is);
+      packets = search (arith, packets_append, more_packets);
+      taken = grind (arith, takes_append, lift_last, quiet_end);
       held = ap (λ h. h.octets) held ∙ g.held;
-      offset = λ n. (
-          let here = ap (λ h. h.offset) held ∙ g.offset in
-          let far = read.offset (length (now.held.octets ++ take g.within rest) + n) in
-          let sum : (length (old.held.octets ++ read.front) - length now.held.octets) + (length (now.held.octets ++ take g.within rest) + n)
-          ≡ length (old.held.octets ++ (read.front ++ take g.within rest)) + n = omega arith in
-          let moved : offset_of (new.held.offset + n) ≡ offset_of (now.held.offset + (length (now.held.octets ++ take g.within rest) + n)) =
-          omega arith in
-          moved ∙ far ∙ ap (λ k. offset_of (old.held.offset + k)) sum
-          );
-      place = (
-          let sum : (length (old.held.octets ++ read.front) - length now.held.octets) + length (now.held.octets ++ take g.within rest)
-          ≡ length (old.held.octets ++ (read.front ++ take g.within rest)) = omega arith in
-          ap (λ h. h.offset) held ∙ g.offset ∙ read.offset (length (now.held.octets ++ take g.within rest)) ∙
-          ap (λ k. offset_of (old.held.offset + k)) sum
-          );
+      offset = grind arith;
+      place = grind arith;
       room = room_stays old.held.room now.held.room told.held new.held read.room g.room held;
     }
 
@@ -229,12 +197,8 @@ stopped_is old piece now rest fed told new read g out held =
       before = before;
       all = refl;
       bound = look.bound;
-      packets = subst (λ k. ArePackets (read.units ++ l.first) (old.held.octets ++ k) parts.between) (sym look.seen)
-          (packets_append read.units l.first (old.held.octets ++ (read.front ++ take g.within rest)) (now.held.octets ++ take g.within rest)
-          parts.between
-          (more_packets old piece now rest (take g.within rest) read) parts.front);
-      taken = takes_append old.end now.end before read.units l.first read.taken
-          (lift_dry now.end.lines now.end.carrier l.before l.first none l.taken l.quiet);
+      packets = grind (arith, packets_append, more_packets old piece now rest (take g.within rest) read);
+      taken = grind (arith, takes_append, lift_dry);
       quiet = quiet_stops before (quiet_is l.before l.quiet).lasts none;
       how = inr (l.last, parts.back, inr (told.state, acts_is l.before told.state l.last l.acts, out));
       held = ap (λ h. h.octets) held ∙ g.held;
@@ -259,15 +223,8 @@ refuses_is old piece now rest fed told new read g held is =
       fault = g.fault;
       before = before;
       all = refl;
-      cut = (
-        r,
-        subst (λ l. ArePackets (read.units ++ g.units) (old.held.octets ++ l) r) (sym read.cut)
-            (packets_append read.units g.units (old.held.octets ++ (read.front ++ rest)) (now.held.octets ++ rest) r
-            (more_packets old piece now rest rest read) g.cut.1),
-        subst (λ n. IsFaultOf n r g.fault) place g.cut.2,
-      );
-      taken = takes_append old.end now.end before read.units g.units read.taken
-          (lift_dry now.end.lines now.end.carrier g.before g.units none g.taken g.quiet);
+      cut = grind (arith, packets_append, more_packets old piece now rest rest read);
+      taken = grind (arith, takes_append, lift_dry);
       quiet = quiet_stops before q.lasts none;
       ended = is ∙ ended_attends g.before told.state now.end.lines (Fault (Tpkt g.fault)) g.ended q;
       held = ap (λ h. h.octets) held ∙ g.held;
@@ -309,12 +266,8 @@ starved_with old piece now rest fed told new read g held how =
       before = before;
       all = refl;
       bound = look.bound;
-      packets = subst (λ k. ArePackets (read.units ++ g.units) (old.held.octets ++ k) g.rest) (sym look.seen)
-          (packets_append read.units g.units (old.held.octets ++ (read.front ++ take g.within rest)) (now.held.octets ++ take g.within rest)
-          g.rest
-          (more_packets old piece now rest (take g.within rest) read) g.packets);
-      taken = takes_append old.end now.end before read.units g.units read.taken
-          (lift_dry now.end.lines now.end.carrier g.before g.units none g.taken g.quiet);
+      packets = grind (arith, packets_append, more_packets old piece now rest (take g.within rest) read);
+      taken = grind (arith, takes_append, lift_dry);
       quiet = quiet_stops before (quiet_is g.before g.quiet).lasts none;
       how = how;
       held = ap (λ h. h.octets) held ∙ g.held;
@@ -376,15 +329,13 @@ looks old piece now rest used new read fetch =
             (record {
               all = h.1 ∙ g.all;
               goes = inr (inr
-                  (starved_with old piece now rest fetch.fed.used fetch.told new read g fetch.held
-                  (starved_how old piece now rest fetch.fed.used fetch.told new read g (inl h.0))));
+                  (search (arith, starved_with, starved_how old piece now rest fetch.fed.used fetch.told new read g (inl h.0))));
             })
         | inr h ↦ inr
             (record {
               all = h.1;
               goes = inr (inr
-                  (starved_with old piece now rest fetch.fed.used fetch.told new read g fetch.held
-                  (starved_how old piece now rest fetch.fed.used fetch.told new read g (inr h.0))));
+                  (search (arith, starved_with, starved_how old piece now rest fetch.fed.used fetch.told new read g (inr h.0))));
             })
       ]
     ]
@@ -398,30 +349,13 @@ all_used rest used e = let dropped = length-drop used rest in omega arith
 spoilt_ended : (o : Option EndReason) → is_some o ≡ false → is_spoilt o ≡ false
 spoilt_ended o e = grind arith
 
--- how much is used if an indication is pending
-uses_waiting : (b w : Bool) (piece front rest : List ℕ) (used within : ℕ) → w ≡ true → piece ≡ front ++ drop within rest →
-    within ≤ length rest →
-    used ≡ (if b then length rest else within) →
-    length piece - length (drop used rest) ≡ (if b || not w then length piece else length front)
-uses_waiting b w piece front rest used within w2 cut bound uses = grind (arith, all_used, length, length-append, drop)
-
-uses_ended : (b w : Bool) (all within : ℕ) → w ≡ false → all ≡ (if b || not w then all else within)
-uses_ended b w all within e = grind arith
-
-behind_stops : (old : Holding) (piece rest : List ℕ) (used uses : ℕ) (new : Holding) (b : IsBehind old piece rest used new) →
-    stops new.end ≡ true →
-    uses ≡ (if uses_all new.end then length piece else length b.front) → StopsBehind old piece uses new
-behind_stops old piece rest used uses new b stopped e = grind arith
-
 pub read_waits : (old : Holding) (piece : List ℕ) (now : Holding) (rest : List ℕ) (used : ℕ) (new : Holding) → IsRead old piece now rest →
     FeedsToEvent now rest used new →
     waits new.end.lines ≡ true → Goes old piece (length piece - length (drop used rest)) new
 read_waits old piece now rest used new read fetch waiting = elim (looks old piece now rest used new read fetch) [
   | inl (inl dry) ↦ both (waits new.end.lines) waiting (or_second (is_some new.end.carrier.ended) (waits new.end.lines) dry.runs.quiet)
   | inl (inr b) ↦ inl
-      (inr (behind_stops old piece rest used (length piece - length (drop used rest)) new b
-      (or_right (is_some new.end.carrier.ended) (waits new.end.lines) waiting)
-      (uses_waiting (is_spoilt new.end.carrier.ended) (waits new.end.lines) piece b.front rest used b.within waiting b.cut b.bound b.uses)))
+      (inr (grind (arith, or_right, all_used, length-append)))
   | inr f ↦ (
       let none = all_used rest used f.all in
       let same : length piece ≡ length piece - length (drop used rest) = omega arith in
@@ -435,8 +369,7 @@ pub read_ended : (old : Holding) (piece : List ℕ) (now : Holding) (rest : List
 read_ended old piece now rest used new read fetch none over = elim (looks old piece now rest used new read fetch) [
   | inl (inl dry) ↦ inl (inl dry.runs)
   | inl (inr b) ↦ inl
-      (inr (behind_stops old piece rest used (length piece) new b (or_left (is_some new.end.carrier.ended) (waits new.end.lines) over)
-      (uses_ended (is_spoilt new.end.carrier.ended) (waits new.end.lines) (length piece) (length b.front) none)))
+      (inr (grind (arith, or_left)))
   | inr f ↦ f.goes
 ]
 

@@ -7,8 +7,8 @@ use Rattle.osi_stack.proofs.Vocabulary.{parts, no_fault, fault_behind, front_use
 use Rattle.osi_stack.proofs.Vocabulary.{uses_all, StopsBehind, FindsNoMemory, Goes, Feeds, after_packet, Account, account_of, with_packet}
 use Rattle.osi_stack.proofs.Vocabulary.{with_packets, Calls, CallsAlong, used_in, told_in, carried_in, feeding, telling, carrying, End}
 use Rattle.osi_stack.proofs.Vocabulary.{Holding, waits, none_of, EndCall as Call}
-use Rattle.osi_stack.proofs.in_step.the_account_packet_by_packet.{account_packet, packets_apart, packets_done, with_joined}
-use Rattle.osi_stack.proofs.carried.packets_without_events.{or_first, packets_append, never}
+use Rattle.osi_stack.proofs.in_step.the_account_packet_by_packet.{packets_apart, packets_done, with_joined, account_quiet}
+use Rattle.osi_stack.proofs.carried.packets_without_events.{or_first, packets_append, never, or_second}
 use Rattle.osi_stack.proofs.carried.an_ended_carrier_stays_ended.{packet_over, starved_full}
 use Rattle.osi_stack.proofs.stream.an_end_is_what_its_packets_make.{calls_read, reads_one, ReadsOne}
 
@@ -62,13 +62,11 @@ front_lasts laws old s vs r lasts h =
     let start = account_of [] [] old.end in
     let parted = front_parts laws old s vs r lasts h in
     still_lasts (with_packets vs start).end.carrier.ended
-    (λ over. never (with_packets parted.more (with_packets vs start)).end (account_over parted.more (with_packets vs start) over)
-    (parted_lasts start lasts.units vs parted.more parted.all lasts.lasts))
+    (grind (arith, never, account_over, parted_lasts start lasts.units vs parted.more parted.all lasts.lasts))
 
 pub no_packets_end : PacketLaws → (old : Holding) (s : List ℕ) (vs : List (List ℕ)) (r : List ℕ) → Lasts old s → ArePackets vs s r →
     is_some (with_packets vs (account_of [] [] old.end)).end.carrier.ended ≡ true → ⊥
-no_packets_end laws old s vs r lasts h over =
-    never (with_packets vs (account_of [] [] old.end)).end over (front_lasts laws old s vs r lasts h)
+no_packets_end laws old s vs r lasts h over = grind (arith, never, front_lasts laws old s vs r lasts h)
 
 pub no_fault_ends : PacketLaws → (old : Holding) (s : List ℕ) (vs : List (List ℕ)) (r : List ℕ) (at : ℕ) (fault : TpktFault) → Lasts old s →
     ArePackets vs s r → IsFaultOf at r fault → ⊥
@@ -101,8 +99,7 @@ over_refuses : PacketLaws → (old : Holding) (piece : List ℕ) (fed : Fed) (ne
     Lasts old (old.held.octets ++ (take fed.used piece ++ later)) →
     Refuses old piece fed.used new → ⊥
 over_refuses laws old piece fed new later lasts refused =
-    let whole : take fed.used piece ≡ piece ++ [] = let all = refused.all in take_all fed.used piece (omega arith) ∙
-    sym (append-nil piece) in
+    let whole : take fed.used piece ≡ piece ++ [] = grind (arith, take_all, append-nil) in
     let packets = packets_within refused.units old.held.octets (take fed.used piece) piece [] later refused.cut.0 whole refused.cut.1 in
     no_fault_ends laws old (old.held.octets ++ (take fed.used piece ++ later)) refused.units (refused.cut.0 ++ later) _ refused.fault lasts
     packets
@@ -123,8 +120,7 @@ over_starves laws old piece fed new later lasts starved = elim (starved.how) [
       let start = account_of [] [] old.end in
       let done = packets_done starved.units old.end starved.before starved.taken in
       let here : account_of [] [] (after_packet starved.before p.0) ≡ with_packets (starved.units ++ p.0 ∷ []) start =
-      sym (account_packet starved.before p.0 starved.quiet) ∙ ap (λ (x : Account). with_packet x p.0) done ∙
-      sym (with_joined starved.units (p.0 ∷ []) start) in
+      grind (arith, account_quiet, or_second, with_joined) in
       let still = front_lasts laws old (old.held.octets ++ (take fed.used piece ++ later)) (starved.units ++ p.0 ∷ []) (front.0 ++ later)
       lasts packets in
       starved_full starved.before new.end p.0 p.2 (ap (λ (x : Account). x.end.carrier.ended) here ∙ still)
@@ -143,8 +139,7 @@ over_feed : PacketLaws → (old : Holding) (piece : List ℕ) (fed : Fed) (new :
     waits old.end.lines ≡ waiting → old.end.carrier.ended ≡ None →
     Lasts old (old.held.octets ++ (take fed.used piece ++ later)) → Feeds old piece fed new → is_some new.end.carrier.ended ≡ true →
     new.end.carrier.ended ≡ Some NoMemory
-over_feed laws old piece fed new later true e quiet lasts h over =
-    never new.end over (ap (λ (x : Holding). x.end.carrier.ended) (h.waiting quiet e).1 ∙ quiet)
+over_feed laws old piece fed new later true e quiet lasts h over = grind (arith, never, h.waiting quiet e)
 over_feed laws old piece fed new later false e quiet lasts h over =
     over_goes laws old piece fed new later lasts (h.goes (ap (λ (o : Option EndReason). is_some o || waits old.end.lines) quiet ∙ e)) over
 
@@ -162,9 +157,7 @@ lasts_on : PacketLaws → (old : Holding) (call : Call) (new : Holding) (later :
 lasts_on laws old call new later one lasts =
     let parted = parts laws lasts.units one.packets (old.held.octets ++ used_in call) new.held.octets later lasts.rest lasts.partial
     (subst (λ l. ArePackets lasts.units l lasts.rest) (sym (append_assoc old.held.octets (used_in call) later)) lasts.packets) one.cut in
-    let behind = parted_lasts (account_of [] [] old.end) lasts.units one.packets parted.more parted.all lasts.lasts in
-    let apart = packets_apart (told_in call) (carried_in call) parted.more (account_of [] [] new.end) in
-    search (ap (λ (x : Account). x.end.carrier.ended) (sym apart ∙ ap (with_packets parted.more) one.account) ∙ behind)
+    grind (arith, packets_apart (told_in call) (carried_in call) parted.more (account_of [] [] new.end), parted_lasts)
 
 abbrev LastsOrStarves : Holding → Type 0
 LastsOrStarves new = (new.end.carrier.ended ≡ None) ⊎ (new.end.carrier.ended ≡ Some NoMemory)

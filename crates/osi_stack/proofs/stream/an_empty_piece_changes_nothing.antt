@@ -1,26 +1,14 @@
 -- An empty piece changes nothing.
-use Rattle.std.proofs.Common.{◌≡◌, ℕ, ◌==◌, true, false, List, ◌∷◌, length, is_some, refl, sym, ap, ◌∙◌, inl, inr, arith, []}
+use Rattle.std.proofs.Common.{◌≡◌, ℕ, ◌==◌, true, false, List, ◌∷◌, length, refl, arith, []}
 use Rattle.osi_carrier.specs.Packets as carriers
-use Rattle.osi_stack.proofs.Vocabulary.{eqb-true, append-nil, Fed, Carrying, State as Carrier, stops, RunsDry, Goes, Holding, IsAttended}
-use Rattle.osi_stack.proofs.Vocabulary.{holding}
+use Rattle.osi_stack.proofs.Vocabulary.{eqb-true, append-nil, Fed, Carrying, stops, RunsDry, Goes, Holding, IsAttended, holding}
 use Rattle.osi_stack.proofs.carried.events_one_after_the_other.{carrying_of}
-use Rattle.osi_stack.proofs.carried.packets_without_events.{both, or_first}
+use Rattle.osi_stack.proofs.carried.packets_without_events.{or_first}
 use Rattle.osi_stack.proofs.stream.a_piece_look_by_look.{quiet_end}
-
--- the carrier stays as it is, and has not ended
-ended_not : {A : Type 0} (old told before : Carrier) → is_some old.ended ≡ false → told ≡ old → is_some told.ended ≡ true → A
-ended_not old told before lasts same over = both (is_some old.ended) (ap (λ (c : Carrier). is_some c.ended) (sym same) ∙ over) lasts
 
 dry_is : (old : Holding) (used : ℕ) (told : Carrying) → stops old.end ≡ false → carriers.RunsDry (carrying_of old) [] used told →
     told ≡ carrying_of old → RunsDry old [] 0 old
 dry_is old used told quiet g same = grind (arith, append-nil, carrying_of)
-
-nothing_by : (old : Holding) (used : ℕ) (told : Carrying) → stops old.end ≡ false → carriers.Goes (carrying_of old) [] used told →
-    told ≡ carrying_of old → RunsDry old [] 0 old
-nothing_by old used told quiet (inl (inl g)) same = dry_is old used told quiet g same
-nothing_by old used told quiet (inl (inr g)) same = let some = g.some in let bound = g.bound in absurd (omega arith)
-nothing_by old used told quiet (inr (inl g)) same = grind (arith, ended_not, or_first)
-nothing_by old used told quiet (inr (inr g)) same = grind (arith, ended_not, or_first)
 
 -- no octet was used, nothing has changed, and this is a result of feeding
 pub record IsIdle (old : Holding) (piece : List ℕ) (used : ℕ) (new : Holding) : Type 0 where
@@ -32,10 +20,6 @@ idle_by : (old new : Holding) (piece : List ℕ) (used : ℕ) → piece ≡ [] �
     Goes old piece used new
 idle_by old new piece used none unused same dry = grind arith
 
-idle_is : (old new : Holding) (piece : List ℕ) (fed : Fed) (told : Carrying) → piece ≡ [] → stops old.end ≡ false → IsAttended old.end →
-    carriers.Feeds (carrying_of old) piece fed told → fed.used ≡ 0 → told ≡ carrying_of old → new ≡ old → IsIdle old piece fed.used new
-idle_is old new piece fed told none quiet attended feeds unused still same = grind (arith, quiet_end, idle_by, nothing_by, carrying_of)
-
 pub nothing_of : (l : List ℕ) → (length l == 0) ≡ true → l ≡ []
 nothing_of [] e = refl
 nothing_of (x ∷ l) e = let none = eqb-true (length (x ∷ l)) 0 e in absurd (omega arith)
@@ -45,4 +29,5 @@ pub idle_goes : (old : Holding) (piece : List ℕ) (fed : Fed) (told : Carrying)
     IsAttended old.end →
     carriers.Feeds (carrying_of old) piece fed told → (piece ≡ [] → (fed.used ≡ 0) × (told ≡ carrying_of old)) →
     IsIdle old piece fed.used (holding told old.end.lines)
-idle_goes old piece fed told e quiet attended feeds empty = grind (arith, nothing_of, idle_is, holding)
+idle_goes old piece fed told e quiet attended feeds empty =
+    grind (arith, nothing_of, quiet_end, idle_by, dry_is, or_first, carrying_of, holding)

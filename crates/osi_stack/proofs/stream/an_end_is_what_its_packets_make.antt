@@ -1,15 +1,16 @@
 -- Over every run of calls an end is what the packets of the octets used make of it.
-use Rattle.std.proofs.Common.{◌≡◌, ℕ, ◌+◌, ◌-◌, ◌<◌, ◌^◌, Bool, true, List, ◌∷◌, ◌++◌, length, take, Option, None, is_some, refl, sym, ap}
-use Rattle.std.proofs.Common.{subst, ◌∙◌, inl, inr, arith, append_assoc, length-append, []}
+use Rattle.std.proofs.Common.{◌≡◌, ℕ, ◌+◌, ◌-◌, ◌<◌, ◌^◌, Bool, true, List, ◌∷◌, ◌++◌, length, take, None, is_some, sym, ap, subst, ◌∙◌}
+use Rattle.std.proofs.Common.{inl, inr, arith, append_assoc, length-append, []}
 use Rattle.osi_stack.proofs.Vocabulary.{append-nil, take_all, flat_map, IsPartial, ArePackets, offset_of, Fed, OneCut, packets_joined}
-use Rattle.osi_stack.proofs.Vocabulary.{packets_leave, Shown, RunsDry, StopsBehind, FindsNoMemory, Goes, Feeds, account_of, with_packets}
-use Rattle.osi_stack.proofs.Vocabulary.{Calls, CallsAlong, used_in, told_in, carried_in, account_along, Reads, AreAlike, feeding, telling}
-use Rattle.osi_stack.proofs.Vocabulary.{carrying, End, Holding, waits, EndCall as Call}
+use Rattle.osi_stack.proofs.Vocabulary.{packets_leave, RunsDry, StopsBehind, FindsNoMemory, Goes, Feeds, account_of, with_packets, Calls}
+use Rattle.osi_stack.proofs.Vocabulary.{CallsAlong, used_in, told_in, carried_in, account_along, Reads, AreAlike, feeding, telling}
+use Rattle.osi_stack.proofs.Vocabulary.{carrying, End, Holding, waits, EndCall as Call, hears_times, with_carrier, with_events}
 use Rattle.osi_stack.proofs.in_step.the_account_packet_by_packet.{after_more, account_told, account_joined, packets_apart, with_joined}
 use Rattle.osi_stack.proofs.in_step.the_account_packet_by_packet.{packets_done}
 use Rattle.osi_stack.proofs.stream.what_was_written_is_read.{uses_within}
-use Rattle.osi_stack.proofs.stream.what_feeding_keeps.{starved_ended}
 use Rattle.osi_stack.proofs.carried.packets_without_events.{never}
+use Rattle.osi_stack.proofs.carried.an_ended_carrier_stays_ended.{attends_over}
+use Rattle.osi_stack.proofs.carried.events_one_after_the_other.{starved_over}
 
 -- ---- an end stays
 
@@ -73,7 +74,7 @@ pub none_ended : (old : Holding) (piece : List ℕ) (used : ℕ) (new : Holding)
     is_some new.end.carrier.ended ≡ true
 none_ended old piece used new h = elim (h.how) [
   | inl none ↦ ap (λ (x : End). is_some x.carrier.ended) none.ended
-  | inr p ↦ starved_ended h.before new.end p.0 p.2
+  | inr p ↦ grind (arith, is_some, attends_over, with_carrier, starved_over, with_events, hears_times)
 ]
 
 reads_goes : IsPartial [] → (old : Holding) (piece : List ℕ) (fed : Fed) (new : Holding) → Goes old piece fed.used new →
@@ -90,14 +91,10 @@ reads_feed : IsPartial [] → (old : Holding) (piece : List ℕ) (fed : Fed) (ne
 reads_feed nothing old piece fed new waiting e quiet h lasts =
     search (arith, reads_still, feeding, take, account_of, reads_goes, is_some, waits)
 
-reads_told : (old : Holding) (shown : Option (ℕ × Shown)) (new : Holding) → Calls old (telling shown) new → ReadsOne old (telling shown) new
-reads_told old shown new h = grind (arith, reads_still, account_told)
-
 pub reads_one : IsPartial [] → (old : Holding) (call : Call) (new : Holding) → Calls old call new → new.end.carrier.ended ≡ None →
     ReadsOne old call new
-reads_one nothing old (feeding piece fed) new h lasts =
-    reads_feed nothing old piece fed new (waits old.end.lines) refl (call_lasts old (feeding piece fed) new h lasts) h lasts
-reads_one nothing old (telling shown) new h lasts = reads_told old shown new h
+reads_one nothing old (feeding piece fed) new h lasts = grind (arith, reads_feed, call_lasts old (feeding piece fed) new h lasts)
+reads_one nothing old (telling shown) new h lasts = grind (arith, reads_still, account_told)
 reads_one nothing old (carrying octets) new h lasts = grind (arith, reads_still)
 
 -- ---- calls one after the other
@@ -118,28 +115,21 @@ reads_more old call mid calls new one more =
     let used = flat_map used_in calls in
     record {
       packets = one.packets ++ more.packets;
-      cut = subst (λ l. ArePackets (one.packets ++ more.packets) l new.held.octets) (append_assoc old.held.octets (used_in call) used)
-          (packets_joined one.packets more.packets (old.held.octets ++ used_in call) mid.held.octets used new.held.octets one.cut more.cut);
+      cut = grind (arith, packets_joined, append_assoc old.held.octets (used_in call) used);
       account = account_more call calls one.packets more.packets old.end mid.end new.end one.account more.account;
       partial = λ partial. more.partial (one.partial partial);
       offset = λ bound.
           let first = one.offset bound in
-          let second = more.offset (let M : mid.held.offset < 2 ^ 64 = omega arith in M) in
           let a = length-append old.held.octets (used_in call) in
           let b = length-append mid.held.octets used in
           let c = length-append old.held.octets (used_in call ++ used) in
           let d = length-append (used_in call) used in
-          let left = packets_leave one.packets (old.held.octets ++ used_in call) mid.held.octets one.cut in
-          let leaves = packets_leave more.packets (mid.held.octets ++ used) new.held.octets more.cut in
-          omega arith;
+          grind (arith, packets_leave more.packets (mid.held.octets ++ used) new.held.octets more.cut, packets_leave);
     }
-
-reads_none : (old new : Holding) → new ≡ old → Reads old [] new
-reads_none old new same = grind (arith, length, length-append, append-nil, account_of)
 
 pub calls_read : IsPartial [] → (old : Holding) (calls : List Call) (new : Holding) → CallsAlong old calls new →
     new.end.carrier.ended ≡ None → Reads old calls new
-calls_read nothing old [] new h lasts = reads_none old new h
+calls_read nothing old [] new h lasts = grind (arith, length, length-append, append-nil, account_of)
 calls_read nothing old (call ∷ calls) new h lasts =
     reads_more old call h.0 calls new (reads_one nothing old call h.0 h.1 (calls_last h.0 calls new h.2 lasts))
     (calls_read nothing h.0 calls new h.2 lasts)

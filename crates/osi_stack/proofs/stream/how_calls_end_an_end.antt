@@ -1,17 +1,17 @@
 -- How a list of calls ends an end for which there is memory: after a packet, or at a fault of the stream. Two lists
 -- with the same octets end it alike.
-use Rattle.std.proofs.Common.{◌≡◌, ℕ, ◌+◌, ◌-◌, ◌<◌, ◌^◌, Bool, true, false, List, ◌∷◌, ◌++◌, length, take, Option, None, is_some, refl}
-use Rattle.std.proofs.Common.{sym, ap, subst, ◌∙◌, ◌⊎◌, inl, inr, arith, append_assoc, length-append, []}
+use Rattle.std.proofs.Common.{◌≡◌, ℕ, ◌+◌, ◌-◌, ◌<◌, ◌^◌, Bool, true, false, List, ◌∷◌, ◌++◌, length, take, None, is_some, refl, sym, ap}
+use Rattle.std.proofs.Common.{subst, ◌∙◌, ◌⊎◌, inl, inr, arith, append_assoc, length-append, []}
 use Rattle.osi_tpkt.proofs.a_prefix_of_a_packet.{one_fault}
-use Rattle.osi_carrier.proofs.stream.how_calls_end_a_carrier.{Compared, compare, init_front, no_further, at_same, offsets_join}
+use Rattle.osi_carrier.proofs.stream.how_calls_end_a_carrier.{Compared, compare, init_front, no_further, at_same}
 use Rattle.osi_stack.specs.Feeding.{Refuses}
-use Rattle.osi_stack.proofs.Vocabulary.{append-nil, take_all, flat_map, Held, IsPartial, IsFaultOf, ArePackets, offset_of, Fed, TpktFault}
+use Rattle.osi_stack.proofs.Vocabulary.{append-nil, take_all, flat_map, IsPartial, IsFaultOf, ArePackets, offset_of, Fed, TpktFault}
 use Rattle.osi_stack.proofs.Vocabulary.{PacketLaws, fault_behind, front_used, packets_joined, packets_leave, Tpkt, Fault, Shown, stops}
-use Rattle.osi_stack.proofs.Vocabulary.{uses_all, TakesPackets, RunsDry, StopsBehind, Feeds, after_packet, ends, Account, account_of}
-use Rattle.osi_stack.proofs.Vocabulary.{with_packets, Calls, HasRoom, CallsAlong, CallsInRoom, used_in, told_in, carried_in, account_along}
-use Rattle.osi_stack.proofs.Vocabulary.{AreAlike, feeding, telling, carrying, End, Holding, waits, none_of, EndCall as Call}
+use Rattle.osi_stack.proofs.Vocabulary.{uses_all, TakesPackets, RunsDry, StopsBehind, after_packet, ends, Account, account_of, with_packets}
+use Rattle.osi_stack.proofs.Vocabulary.{Calls, HasRoom, CallsAlong, CallsInRoom, used_in, told_in, carried_in, account_along, AreAlike}
+use Rattle.osi_stack.proofs.Vocabulary.{feeding, telling, carrying, End, Holding, waits, none_of, EndCall as Call}
 use Rattle.osi_stack.proofs.in_step.the_account_packet_by_packet.{made, after_more, account_quiet, account_told, account_joined}
-use Rattle.osi_stack.proofs.in_step.the_account_packet_by_packet.{account_packet, packets_apart, packets_done, with_joined}
+use Rattle.osi_stack.proofs.in_step.the_account_packet_by_packet.{packets_apart, packets_done, with_joined}
 use Rattle.osi_stack.proofs.stream.all_pieces_last_alike.{Lasts, account_over, in_front, packets_within, no_packets_end, no_fault_ends}
 use Rattle.osi_stack.proofs.stream.all_pieces_last_alike.{reads_lasts}
 use Rattle.osi_stack.proofs.carried.packets_without_events.{both, or_first, or_second, never}
@@ -46,13 +46,9 @@ pub record InFault (old : Account) (at : ℕ) (s : List ℕ) (final : Account) :
 abbrev pub Ending : Account → ℕ → List ℕ → Account → Type 0
 Ending old at s final = InPacket old s final ⊎ InFault old at s final
 
-with_parts : (us vs more : List (List ℕ)) (old : Account) → us ≡ vs ++ more → with_packets us old ≡ with_packets more (with_packets vs old)
-with_parts us vs more old all = ap (λ l. with_packets l old) all ∙ with_joined vs more old
-
 over_front : (us vs more : List (List ℕ)) (old : Account) → us ≡ vs ++ more → is_some (with_packets vs old).end.carrier.ended ≡ true →
     is_some (with_packets us old).end.carrier.ended ≡ true
-over_front us vs more old all over = ap (λ (a : Account). is_some a.end.carrier.ended) (with_parts us vs more old all) ∙
-    account_over more (with_packets vs old) over
+over_front us vs more old all over = grind (arith, with_joined, account_over more (with_packets vs old) over)
 
 -- ---- they end alike
 
@@ -129,7 +125,7 @@ takes_last (u ∷ v ∷ us) old new h quiet stopped =
       before = u ∷ more.before;
       last = more.last;
       all = ap (λ l. u ∷ l) more.all;
-      lasts = ap (λ (a : Account). (with_packets more.before a).end.carrier.ended) (account_packet old u quiet) ∙ more.lasts;
+      lasts = ap (λ (a : Account). (with_packets more.before a).end.carrier.ended) (grind (arith, account_quiet, or_second)) ∙ more.lasts;
     }
 
 ends_stops : (old : Holding) (piece : List ℕ) (fed : Fed) (new : Holding) (later : List ℕ) → stops old.end ≡ false →
@@ -139,31 +135,12 @@ ends_stops old piece fed new later quiet stop over =
     let front = front_used (uses_all new.end) piece fed.used stop.within stop.bound stop.uses in
     let packets = packets_within stop.units old.held.octets (take fed.used piece) (take stop.within piece) front.0 later [] front.1
     stop.packets in
-    let t = takes_last stop.units old.end new.end stop.taken quiet stop.stopped in
-    let done = packets_done stop.units old.end new.end stop.taken ∙ ap (λ l. with_packets l (account_of [] [] old.end)) t.all in
-    record {
-      how = inl (record {
-        before = t.before;
-        last = t.last;
-        rest = front.0 ++ later;
-        packets = subst (λ us. ArePackets us (old.held.octets ++ (take fed.used piece ++ later)) (front.0 ++ later)) t.all packets;
-        lasts = t.lasts;
-        over = ap (λ (a : Account). is_some a.end.carrier.ended) (sym done) ∙ over;
-        account = done;
-      });
-      nothing = stop.held;
-    }
-
--- the account of an end that a fault of the stream ended
-refused_account : (e new : End) (fault : TpktFault) → stops e ≡ false → new ≡ ends (Fault (Tpkt fault)) e →
-    account_of [] [] new ≡ faulted fault (account_of [] [] e)
-refused_account e new fault quiet ended = grind (arith, account_quiet, or_second)
+    grind (arith, takes_last, packets_done)
 
 ends_refuses : (old : Holding) (piece : List ℕ) (fed : Fed) (new : Holding) (later : List ℕ) → Refuses old piece fed.used new →
     Outcome old (old.held.octets ++ (take fed.used piece ++ later)) (account_of [] [] new.end) new.held.octets
 ends_refuses old piece fed new later refused =
-    let whole : take fed.used piece ≡ piece ++ [] = let all = refused.all in take_all fed.used piece (omega arith) ∙
-    sym (append-nil piece) in
+    let whole : take fed.used piece ≡ piece ++ [] = grind (arith, take_all, append-nil) in
     let s = old.held.octets ++ piece in
     let r = refused.cut.0 in
     let same = in_front old.held.octets (take fed.used piece) piece [] later whole in
@@ -175,10 +152,9 @@ ends_refuses old piece fed new later refused =
         rest = r ++ later;
         fault = refused.fault;
         packets = packets_within refused.units old.held.octets (take fed.used piece) piece [] later r whole refused.cut.1;
-        is = subst (λ l. IsFaultOf (offset_of (old.held.offset + (length l - length (r ++ later)))) (r ++ later) refused.fault) (sym same)
-            (subst (λ n. IsFaultOf (offset_of n) (r ++ later) refused.fault) (at_same old.held.offset s r later) here);
+        is = grind (arith, at_same old.held.offset s r later);
         lasts = ap (λ (a : Account). a.end.carrier.ended) (sym done) ∙ stops_not refused.before refused.quiet;
-        account = refused_account refused.before new.end refused.fault refused.quiet refused.ended ∙ ap (faulted refused.fault) done;
+        account = (grind (arith, account_quiet, or_second)) ∙ ap (faulted refused.fault) done;
       });
       nothing = refused.held;
     }
@@ -190,20 +166,6 @@ ends_goes : (old : Holding) (piece : List ℕ) (fed : Fed) (new : Holding) (late
 ends_goes old piece fed new later quiet (inl (inl dry)) over = never new.end over (stops_not new.end dry.quiet)
 ends_goes old piece fed new later quiet (inl (inr stop)) over = ends_stops old piece fed new later quiet stop over
 ends_goes old piece fed new later quiet (inr refused) over = ends_refuses old piece fed new later refused
-
-ends_feed : (old : Holding) (piece : List ℕ) (fed : Fed) (new : Holding) (later : List ℕ) (waiting : Bool) → waits old.end.lines ≡ waiting →
-    old.end.carrier.ended ≡ None →
-    Feeds old piece fed new → HasRoom old (feeding piece fed) new → is_some new.end.carrier.ended ≡ true →
-    Outcome old (old.held.octets ++ (take fed.used piece ++ later)) (account_of [] [] new.end) new.held.octets
-ends_feed old piece fed new later waiting e quiet h room over = search (arith, never, stops, is_some, waits, ends_goes)
-
-ends_one : (old : Holding) (call : Call) (new : Holding) (later : List ℕ) → old.end.carrier.ended ≡ None → Calls old call new →
-    HasRoom old call new → is_some new.end.carrier.ended ≡ true →
-    Outcome old (old.held.octets ++ (used_in call ++ later)) (account_of (told_in call) (carried_in call) new.end) new.held.octets
-ends_one old (feeding piece fed) new later quiet h room over =
-    ends_feed old piece fed new later (waits old.end.lines) refl quiet h room over
-ends_one old (telling shown) new later quiet h room over = never new.end over (ap (λ (x : Holding). x.end.carrier.ended) h.1 ∙ quiet)
-ends_one old (carrying octets) new later quiet h room over = never new.end over (ap (λ (x : Holding). x.end.carrier.ended) (sym h) ∙ quiet)
 
 -- ---- after the end
 
@@ -221,11 +183,7 @@ stays_along old [] new over h = record { account = ap (λ (x : Holding). account
 stays_along old (call ∷ calls) new over h =
     let one = stays_one old call h.0 over h.1 in
     let more = stays_along h.0 calls new (ap (λ (a : Account). is_some a.end.carrier.ended) one.account ∙ over) h.2 in
-    record {
-      account = account_joined (told_in call) (flat_map told_in calls) (carried_in call) (flat_map carried_in calls) new.end
-          ∙ ap (after_more (told_in call) (carried_in call)) more.account ∙ one.account;
-      held = more.held ∙ one.held;
-    }
+    grind (arith, account_joined, after_more)
 
 -- ---- calls one after the other
 
@@ -237,13 +195,7 @@ in_room old (call ∷ calls) new h = (h.0, h.1, in_room h.0 calls new h.3)
 behind_call : (told : List (ℕ × Shown)) (carried : List ℕ) (vs more us : List (List ℕ)) (old mid : End) → us ≡ vs ++ more →
     account_of told carried mid ≡ with_packets vs (account_of [] [] old) →
     with_packets us (account_of [] [] old) ≡ after_more told carried (with_packets more (account_of [] [] mid))
-behind_call told carried vs more us old mid all e =
-    grind (arith, with_parts us vs more (account_of [] [] old) all, packets_apart told carried more (account_of [] [] mid))
-
--- a fault ends it so whatever was reported and carried before
-faulted_apart : (told : List (ℕ × Shown)) (carried : List ℕ) (fault : TpktFault) (a : Account) →
-    faulted fault (after_more told carried a) ≡ after_more told carried (faulted fault a)
-faulted_apart told carried fault a = grind (arith, made, append_assoc)
+behind_call told carried vs more us old mid all e = grind (arith, with_joined, packets_apart told carried more (account_of [] [] mid))
 
 ending_more : (old mid : Holding) (call : Call) (t : List ℕ) (final : Account) → old.held.offset < 2 ^ 64 → ReadsOne old call mid →
     Ending (account_of [] [] mid.end) mid.held.offset (mid.held.octets ++ t) final →
@@ -255,17 +207,12 @@ ending_more old mid call t final bound one (inl a) =
     let parts : (vs ++ a.before) ++ a.last ∷ [] ≡ vs ++ us = append_assoc vs a.before (a.last ∷ []) in
     let first = behind_call (told_in call) (carried_in call) vs a.before (vs ++ a.before) old.end mid.end refl one.account in
     let all = behind_call (told_in call) (carried_in call) vs us ((vs ++ a.before) ++ a.last ∷ []) old.end mid.end parts one.account in
-    inl (record {
-      before = vs ++ a.before;
-      last = a.last;
-      rest = a.rest;
-      packets = subst (λ l. ArePackets ((vs ++ a.before) ++ a.last ∷ []) l a.rest) (append_assoc old.held.octets (used_in call) t)
-          (subst (λ l. ArePackets l ((old.held.octets ++ used_in call) ++ t) a.rest) (sym parts)
-          (packets_joined vs us (old.held.octets ++ used_in call) mid.held.octets t a.rest one.cut a.packets));
-      lasts = ap (λ (x : Account). x.end.carrier.ended) first ∙ a.lasts;
-      over = ap (λ (x : Account). is_some x.end.carrier.ended) all ∙ a.over;
-      account = ap (after_more (told_in call) (carried_in call)) a.account ∙ sym all;
-    })
+    grind (
+      arith,
+      append_assoc old.held.octets (used_in call) t,
+      packets_joined vs us (old.held.octets ++ used_in call) mid.held.octets t a.rest one.cut a.packets,
+      after_more (told_in call) (carried_in call),
+    )
 ending_more old mid call t final bound one (inr a) =
     let vs = one.packets in
     let s = old.held.octets ++ used_in call in
@@ -274,26 +221,7 @@ ending_more old mid call t final bound one (inr a) =
     let leaves = packets_leave a.before (mid.held.octets ++ t) a.rest a.packets in
     let m = length-append mid.held.octets t in
     let n = length-append s t in
-    let at : offset_of (mid.held.offset + (length (mid.held.octets ++ t) - length a.rest)) ≡ offset_of
-    (old.held.offset + (length (s ++ t) - length a.rest)) =
-    ap (λ k. offset_of (mid.held.offset + (k - length a.rest))) m
-    ∙ offsets_join old.held.offset mid.held.offset (length s) (length mid.held.octets) (length t) (length a.rest) (one.offset bound)
-    (omega arith) (omega arith)
-    ∙ ap (λ k. offset_of (old.held.offset + (k - length a.rest))) (sym n) in
-    inr (record {
-      before = vs ++ a.before;
-      rest = a.rest;
-      fault = a.fault;
-      packets = subst (λ l. ArePackets (vs ++ a.before) l a.rest) (append_assoc old.held.octets (used_in call) t)
-          (packets_joined vs a.before s mid.held.octets t a.rest one.cut a.packets);
-      is = subst (λ l. IsFaultOf (offset_of (old.held.offset + (length l - length a.rest))) a.rest a.fault)
-          (append_assoc old.held.octets (used_in call) t)
-          (subst (λ n. IsFaultOf n a.rest a.fault) at a.is);
-      lasts = ap (λ (x : Account). x.end.carrier.ended) all ∙ a.lasts;
-      account = ap (after_more (told_in call) (carried_in call)) a.account
-          ∙ sym (faulted_apart (told_in call) (carried_in call) a.fault (with_packets a.before (account_of [] [] mid.end))) ∙
-          ap (faulted a.fault) (sym all);
-    })
+    inr (grind (arith, append_assoc, packets_joined, after_more, made))
 
 outcome_by : IsPartial [] → (old : Holding) (call : Call) (mid : Holding) (calls : List Call) (new : Holding) (over : Bool) →
     is_some mid.end.carrier.ended ≡ over → old.end.carrier.ended ≡ None →
@@ -303,27 +231,12 @@ outcome_by : IsPartial [] → (old : Holding) (call : Call) (mid : Holding) (cal
     Outcome old (old.held.octets ++ (used_in call ++ flat_map used_in calls)) (account_along (call ∷ calls) new.end) new.held.octets
 outcome_by nothing old call mid calls new true e quiet bound h room rest on =
     let still = stays_along mid calls new e (in_room mid calls new rest) in
-    let one = ends_one old call mid (flat_map used_in calls) quiet h room e in
-    let same : account_along (call ∷ calls) new.end ≡ account_of (told_in call) (carried_in call) mid.end =
-    account_joined (told_in call) (flat_map told_in calls) (carried_in call) (flat_map carried_in calls) new.end ∙
-    ap (after_more (told_in call) (carried_in call)) still.account in
-    record {
-      how = subst (λ (a : Account). Ending (account_of [] [] old.end) old.held.offset
-          (old.held.octets ++ (used_in call ++ flat_map used_in calls)) a) (sym same) one.how;
-      nothing = ap (λ (x : Held). x.octets) still.held ∙ one.nothing;
-    }
+    grind (arith, never, ends_goes)
 outcome_by nothing old call mid calls new false e quiet bound h room rest on =
     let alive = none_of mid.end.carrier.ended e in
     let one = reads_one nothing old call mid h alive in
-    let small = one.offset bound in
     let more = on alive (omega arith) in
-    record {
-      how = subst (λ (a : Account). Ending (account_of [] [] old.end) old.held.offset
-          (old.held.octets ++ (used_in call ++ flat_map used_in calls)) a)
-          (sym (account_joined (told_in call) (flat_map told_in calls) (carried_in call) (flat_map carried_in calls) new.end))
-          (ending_more old mid call (flat_map used_in calls) (account_along calls new.end) bound one more.how);
-      nothing = more.nothing;
-    }
+    search (arith, account_joined, ending_more)
 
 pub outcome_along : IsPartial [] → (old : Holding) (calls : List Call) (new : Holding) → old.end.carrier.ended ≡ None →
     old.held.offset < 2 ^ 64 → CallsInRoom old calls new → is_some new.end.carrier.ended ≡ true →
@@ -340,17 +253,9 @@ pub ending_apart : (told : List (ℕ × Shown)) (carried : List ℕ) (old : Acco
     Ending (after_more told carried old) at s (after_more told carried final)
 ending_apart told carried old at s final (inl a) = grind (arith, packets_apart, after_more)
 ending_apart told carried old at s final (inr a) =
-    grind (
-      arith,
-      packets_apart told carried a.before old,
-      after_more told carried,
-      faulted_apart told carried a.fault (with_packets a.before old),
-    )
+    grind (arith, packets_apart told carried a.before old, after_more told carried, made, append_assoc)
 
 -- ---- two lists of calls
-
-some_of : {A : Type 0} (o : Option A) → (o ≡ None → ⊥) → is_some o ≡ true
-some_of o h = grind arith
 
 alike_by : PacketLaws → IsPartial [] → (old a b : Holding) (xs ys : List Call) (over : Bool) → is_some b.end.carrier.ended ≡ over →
     IsPartial old.held.octets → old.held.offset < 2 ^ 64 →
@@ -367,10 +272,7 @@ alike_by laws nothing old a b xs ys true e partial bound k used quiet m =
     end_alike laws (account_of [] [] old.end) old.held.offset (old.held.octets ++ flat_map used_in xs) (account_along xs a.end)
     (account_along ys b.end)
     m.how (subst (λ l. Ending (account_of [] [] old.end) old.held.offset (old.held.octets ++ l) (account_along ys b.end)) (sym used) n.how)
-    in (
-      record { octets = m.nothing ∙ sym n.nothing; end = ap (λ (x : Account). x.end) same; told = ap (λ (x : Account). x.told) same },
-      m.nothing,
-    )
+    in grind arith
 
 pub pieces_end : PacketLaws → IsPartial [] → (old a b : Holding) (xs ys : List Call) → IsPartial old.held.octets →
     old.held.offset < 2 ^ 64 → old.end.carrier.ended ≡ None →
@@ -378,4 +280,4 @@ pub pieces_end : PacketLaws → IsPartial [] → (old a b : Holding) (xs ys : Li
     AreAlike a xs b ys × (a.held.octets ≡ [])
 pieces_end laws nothing old a b xs ys partial bound quiet h k used ended =
     alike_by laws nothing old a b xs ys (is_some b.end.carrier.ended) refl partial bound k used quiet
-    (outcome_along nothing old xs a quiet bound h (some_of a.end.carrier.ended ended))
+    (outcome_along nothing old xs a quiet bound h (grind arith))

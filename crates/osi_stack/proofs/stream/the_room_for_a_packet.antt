@@ -17,15 +17,11 @@ less_room room less held left bound h = grind arith
 pub packet_faultless : (u s more : List ℕ) → ArePackets (u ∷ []) s [] → (at : ℕ) (fault : TpktFault) → IsFaultOf at (s ++ more) fault → ⊥
 packet_faultless u s more p at fault bad = grind (arith, fault_no_packet, append_assoc)
 
-none_left : (units : List (List ℕ)) (held : List ℕ) (within : ℕ) (rest left : List ℕ) → held ≡ [] → within ≡ 0 →
-    ArePackets units (held ++ take within rest) left → left ≡ []
-none_left units held within rest left nothing none packets = grind (arith, packets_leave, take, length-append, length, empty_list)
-
 -- nothing was looked at so far, or nothing of a packet is held
 pub first_part : (units : List (List ℕ)) (front held : List ℕ) (within : ℕ) (rest left : List ℕ) → (front ≡ []) ⊎ (held ≡ []) →
     (within ≡ 0) ⊎ (left ≡ []) →
     ArePackets units (held ++ take within rest) left → (length (front ++ take within rest) ≡ 0) ⊎ (left ≡ [])
-first_part units front held within rest left at_first h7 packets = grind (arith, length, take, none_left)
+first_part units front held within rest left at_first h7 packets = grind (arith, length, take, packets_leave, length-append, empty_list)
 
 -- an end because memory runs out: after the packets that acted, or in the effect of the next one
 pub found_how : (old : Holding) (piece : List ℕ) (used : ℕ) (new : Holding) (h : FindsNoMemory old piece used new) →

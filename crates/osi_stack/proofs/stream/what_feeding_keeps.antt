@@ -1,5 +1,5 @@
 -- What each packet and the end of the carrier keep, feeding keeps.
-use Rattle.std.proofs.Common.{◌≡◌, ℕ, Bool, true, List, ◌∷◌, Option, None, is_some, refl, sym, subst, inl, inr, ◌⊎◌, [], arith}
+use Rattle.std.proofs.Common.{◌≡◌, ℕ, true, List, ◌∷◌, None, is_some, sym, subst, inl, inr, ◌⊎◌, [], arith}
 use Rattle.osi_stack.proofs.Vocabulary.{ArePackets, Fed, EndReason, Broken, NoMemory, breaks, TakesPackets, Goes, Feeds, after_packet, ends}
 use Rattle.osi_stack.proofs.Vocabulary.{hears_times, with_carrier, with_events, Starves, End, Holding, waits}
 use Rattle.osi_stack.proofs.stream.the_room_for_a_packet.{found_how}
@@ -7,10 +7,6 @@ use Rattle.osi_stack.proofs.carried.events_one_after_the_other.{starved_over}
 use Rattle.osi_stack.proofs.carried.packets_without_events.{lasting_of}
 use Rattle.osi_stack.proofs.carried.an_ended_carrier_stays_ended.{attends_over}
 use Rattle.osi_stack.proofs.carried.what_each_step_preserves.{broken_end}
-
--- if memory ran out the end has ended
-pub starved_ended : (e new : End) (packet : List ℕ) → Starves e packet new → is_some new.carrier.ended ≡ true
-starved_ended e new packet h3 = grind (arith, is_some, attends_over, with_carrier, starved_over, with_events, hears_times)
 
 -- a packet, the end of the carrier, and an allocation failure
 pub record IsKept (P : End → Type 0) : Type 0 where
@@ -38,14 +34,9 @@ goes_kept P law old new piece used (inr (inr h)) p =
     (found_how old piece used new h)
     (packets_kept P law h.units old.end h.before h.taken p)
 
-feeds_by : (P : End → Type 0) → IsKept P → (old new : Holding) (piece : List ℕ) (fed : Fed) (o : Option EndReason) (b : Bool) →
-    old.end.carrier.ended ≡ o →
-    waits old.end.lines ≡ b → Feeds old piece fed new → P old.end → P new.end
-feeds_by P law old new piece fed o b is waiting h p = search (arith, is_some, goes_kept, waits)
-
 pub feeds_kept : (P : End → Type 0) → IsKept P → (old new : Holding) (piece : List ℕ) (fed : Fed) → Feeds old piece fed new → P old.end →
     P new.end
-feeds_kept P law old new piece fed h p = feeds_by P law old new piece fed old.end.carrier.ended (waits old.end.lines) refl refl h p
+feeds_kept P law old new piece fed h p = grind (arith, is_some, goes_kept, waits)
 
 pub breaks_kept : (P : End → Type 0) → IsKept P → (e : End) → P e → P (breaks e)
 breaks_kept P law e p = broken_end P (law.over Broken) e p
@@ -54,7 +45,7 @@ breaks_kept P law e p = broken_end P (law.over Broken) e p
 
 pub over_kept : (P : End → Type 0) → ((packet : List ℕ) (e : End) → e.carrier.ended ≡ None → P e → P (after_packet e packet)) →
     ((e : End) → is_some e.carrier.ended ≡ true → P e) → IsKept P
-over_kept P each over = search (arith, ends, starved_ended)
+over_kept P each over = grind (arith, ends, is_some, attends_over, with_carrier, starved_over, with_events, hears_times)
 
 -- ---- beside what is kept already
 
@@ -66,7 +57,7 @@ pub record IsKeptBeside (P Q : End → Type 0) : Type 0 where
 -- if it holds of each end that has ended
 pub over_beside : (P Q : End → Type 0) → ((packet : List ℕ) (e : End) → e.carrier.ended ≡ None → P e → Q e → Q (after_packet e packet)) →
     ((e : End) → is_some e.carrier.ended ≡ true → Q e) → IsKeptBeside P Q
-over_beside P Q each over = search (arith, ends, starved_ended)
+over_beside P Q each over = grind (arith, ends, is_some, attends_over, with_carrier, starved_over, with_events, hears_times)
 
 pub both_kept : (P Q : End → Type 0) → IsKept P → IsKeptBeside P Q → IsKept (λ e. P e × Q e)
 both_kept P Q law beside = record {

@@ -4,8 +4,8 @@ use Rattle.osi_carrier.proofs.written.what_needs_memory_does_something.{written_
 use Rattle.osi_carrier.specs.Growth.{grows}
 use Rattle.osi_session.specs.declared.faults.CallError.{CallError}
 use Rattle.osi_session.specs.declared.faults.CallError.TheVariants.{OutOfMemory}
-use Rattle.osi_stack.proofs.Vocabulary.{disconnect, Standing, Class, Zero, placed, closes, closed_on, closed_with, close_error, open_link}
-use Rattle.osi_stack.proofs.Vocabulary.{Rows, value_at, place_of, State as Carrier, Input, session_needs, Line, session_in}
+use Rattle.osi_stack.proofs.Vocabulary.{disconnect, Class, Zero, placed, closes, closed_with, close_error, open_link, Rows, value_at}
+use Rattle.osi_stack.proofs.Vocabulary.{place_of, State as Carrier, Input, session_needs, Line, session_in}
 use Rattle.osi_stack.proofs.each_line.the_line_of_a_reference.{session_here}
 
 -- ---- a DR
@@ -14,14 +14,10 @@ closing_in : (r peer : ℕ) (c : Carrier) (class : Option Class) → (class ≡ 
 closing_in r peer c (Some Zero) other = absurd (other refl)
 closing_in r peer c _ other = written_grows c _ (disconnect peer r 128 [] ∷ []) (omega arith) refl
 
-closing_on : (r : ℕ) (c : Carrier) (o : Option (ℕ × Standing)) → close_error o ≡ None → (c.class ≡ Some Zero → ⊥) →
-    grows c (closed_on r 128 o c) ≡ true
-closing_on r c o e other = grind (arith, closing_in)
-
 -- a connection that is closed, but not in class 0
 pub closing_needs : (r : ℕ) (c : Carrier) → close_error (open_link r c) ≡ None → (c.class ≡ Some Zero → ⊥) →
     grows c (closed_with r 128 c) ≡ true
-closing_needs r c e other = closing_on r c (open_link r c) e other
+closing_needs r c e other = grind (arith, closing_in)
 
 -- if memory is needed, and there is no other error
 pub wants_memory : {A : Type 0} (result : Result A CallError) (grown : Bool) → OnErr result (grown ≡ true) → result ≡ Err OutOfMemory →

@@ -12,8 +12,8 @@ use Rattle.osi_stack.specs.Feeding.{Refuses}
 use Rattle.osi_stack.proofs.Vocabulary.{AllByRecursion, length-take-le, take-take, ArePackets, Fed, Value, TpduFault, Happening}
 use Rattle.osi_stack.proofs.Vocabulary.{State as Carrier, EndReason, NoMemory, after_unit, carries_out, TakesUnits, IsUnheard, TakesSome}
 use Rattle.osi_stack.proofs.Vocabulary.{stops, uses_all, TakesPackets, RunsDry, StopsBehind, FindsNoMemory, Goes, Feeds, attends}
-use Rattle.osi_stack.proofs.Vocabulary.{after_packet, with_carrier, with_events, hears_all, hears_times, hears_first, hears_next, ends}
-use Rattle.osi_stack.proofs.Vocabulary.{RunsOut, Starves, End, Holding, IsAttended, waits}
+use Rattle.osi_stack.proofs.Vocabulary.{after_packet, with_carrier, hears_all, hears_times, hears_next, ends, Starves, End, Holding}
+use Rattle.osi_stack.proofs.Vocabulary.{IsAttended, waits}
 use Rattle.osi_stack.proofs.carried.events_one_after_the_other.{never_starved, concluded_attended}
 use Rattle.osi_stack.proofs.carried.what_sessions_leave_of_the_carrier.{hears_keep}
 use Rattle.osi_stack.proofs.carried.packets_without_events.{packet_is, lasting_of, never}
@@ -32,10 +32,6 @@ units_taken : (done : List Value) (s t : End) → AllByRecursion IsSendable done
 units_taken [] s t all h = h
 units_taken (u ∷ us) s t all h =
     (h.0, units_taken us (after_unit s u) t all.1 (subst (λ (x : End). TakesPackets x (map written us) t) (packet_is_unit s u all.0) h.1))
-
-front_taken : (s t : End) (units : List (List ℕ)) (coming : List Value) (r behind : List ℕ) (f : Fronts units coming r behind) →
-    TakesPackets s units t → TakesUnits s f.done t
-front_taken s t units coming r behind f h = units_taken f.done s t f.sendable (subst (λ (l : List (List ℕ)). TakesPackets s l t) f.are h)
 
 -- ---- handled events stay handled along packets
 
@@ -67,8 +63,7 @@ unit_starved : (e new : End) (unit : Value) (rest : List Value) → IsSendable u
 unit_starved e new unit rest sendable none (inl h) =
     inl (h.2 ∙ ended_quiet e h.0 none (starved_unit e.carrier h.0 (written unit) unit sendable refl h.1))
 unit_starved e new unit rest sendable none (inr h) = elim (acted_unit e.carrier h.0 unit sendable h.1) [
-  | inl is ↦ inr
-      (record { unit = unit; rest = rest; first = refl; starved = subst (λ (c : Carrier). RunsOut (with_carrier c e) new) is h.2 })
+  | inl is ↦ grind arith
   | inr is ↦ never_starved (with_carrier h.0 e) new (ap (λ (c : Carrier). c.events) is ∙ none) h.2
 ]
 
@@ -95,8 +90,7 @@ starved_over e left new h3 lasts = grind arith
 all_heard : (l : List Happening) (e : End) → e.carrier.events ≡ l → (hears_times (length l) e).carrier.events ≡ []
 all_heard [] e h = h
 all_heard (x ∷ xs) e h =
-    let next : (hears_next e).carrier.events ≡ xs = ap (λ (k : List Happening). (hears_first k e).carrier.events) h ∙
-    (hears_keep x (with_events xs e)).events in
+    let next : (hears_next e).carrier.events ≡ xs = grind (arith, hears_keep) in
     all_heard xs (hears_next e) next
 
 pub attended_then : (e new : End) → new ≡ attends e → IsAttended new
@@ -121,7 +115,7 @@ runs_dry old new outgoing coming k used less c h =
       left = f.left;
       parts = f.parts;
       reached = new.end;
-      taken = front_taken old.end new.end h.units coming new.held.octets (drop k outgoing) f h.taken;
+      taken = grind (arith, units_taken);
       how = inl refl;
       coming_then = λ lasts. subst (λ n. AreComing new.held.octets (drop n outgoing) f.left) (sym all) f.rest;
     }
@@ -144,12 +138,9 @@ stops_behind old new outgoing coming k used less c h =
       left = f.left;
       parts = f.parts;
       reached = new.end;
-      taken = front_taken old.end new.end h.units coming [] (drop n outgoing) f h.taken;
+      taken = grind (arith, units_taken);
       how = inl refl;
-      coming_then = λ lasts.
-          let all : used ≡ n = uses_within new.end (length (take k outgoing)) n used h.stopped lasts h.uses in
-          subst (λ m. AreComing new.held.octets (drop m outgoing) f.left) (sym all)
-          (subst (λ l. AreComing l (drop n outgoing) f.left) (sym h.held) f.rest);
+      coming_then = grind (arith, uses_within);
     }
 
 refuses_none : (old new : Holding) (outgoing : List ℕ) (coming : List Value) (k used : ℕ) → AreComing old.held.octets outgoing coming →
@@ -169,15 +160,14 @@ finds_none old new outgoing coming k used less c attended h =
     let starved : Starved h.before f.left new.end =
     elim h.how [
       | inl none ↦ inl none.ended
-      | inr p ↦ packet_starved h.before new.end p.0 f.left [] (drop n outgoing) none
-          (units_front (p.0 ∷ []) f.left h.rest [] (drop n outgoing) f.rest.sendable p.1 f.rest.octets) p.2
+      | inr p ↦ search (arith, packet_starved, units_front (p.0 ∷ []) f.left h.rest [] (drop n outgoing) f.rest.sendable p.1 f.rest.octets)
     ] in
     record {
       done = f.done;
       left = f.left;
       parts = f.parts;
       reached = h.before;
-      taken = front_taken old.end h.before h.units coming h.rest (drop n outgoing) f h.taken;
+      taken = grind (arith, units_taken);
       how = inr starved;
       coming_then = λ lasts. starved_over h.before f.left new.end starved lasts;
     }
@@ -203,9 +193,7 @@ feeds_by old new outgoing coming k fed true less c attended lasts wait h =
       reached = old.end;
       taken = refl;
       how = inl (ap (λ (x : Holding). x.end) none.1);
-      coming_then = λ over.
-          subst (λ n. AreComing new.held.octets (drop n outgoing) coming) (sym none.0)
-          (subst (λ (x : Holding). AreComing x.held.octets outgoing coming) (sym none.1) c);
+      coming_then = grind arith;
     }
 feeds_by old new outgoing coming k fed false less c attended lasts wait h =
     goes_some old new outgoing coming k fed.used less c attended

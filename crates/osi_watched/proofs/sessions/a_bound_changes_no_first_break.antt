@@ -15,12 +15,10 @@ use Rattle.osi_rules.specs.Traffic.{Outcome, State as Traffic, takes}
 use Rattle.osi_rules.specs.Traffic as traffic
 use Rattle.osi_tap.specs.declared.marks.Cause.{Cause}
 use Rattle.osi_tap.specs.declared.marks.Mark.{Mark}
-use Rattle.osi_tap.specs.declared.marks.Marks.{Marks}
 use Rattle.osi_tap.specs.declared.rooms.Room.TheVariants.{Octets}
 use Rattle.osi_tap.specs.Connections.{Sessions, taken}
-use Rattle.osi_tap.specs.Courses.{Course, Moment, changes, fresh, fresh_within}
-use Rattle.osi_tap.specs.Courses.{marked, marks_of, moved, noted_by, number_at, packet_begins}
-use Rattle.osi_tap.specs.Courses.{reached, unit_passes, unread, unread_mark, unread_moment, way_of}
+use Rattle.osi_tap.specs.Courses.{Course, Moment, fresh, fresh_within, marked, marks_of, moved, noted_by, number_at, packet_begins, reached}
+use Rattle.osi_tap.specs.Courses.{unit_passes, unread, unread_mark, unread_moment, way_of}
 use Rattle.osi_tap.specs.Tapping.{begin, begin_within, comes_to}
 use Rattle.osi_tap.proofs.no_break_was_before_the_first.{marked_past}
 use Rattle.osi_watched.specs.Bounded.{AreMomentsOf, IsCourseOf, IsMomentOf, comes_within}
@@ -40,14 +38,11 @@ record HasMarksOf (c w : Course) : Type 0 where
   right : c.right ≡ w.right
   first : c.first ≡ w.first
 
-changes_same : (d : Direction) (f : Marks → Marks) (c w : Course) → HasMarksOf c w → HasMarksOf (changes d f c) (changes d f w)
-changes_same d f c w h = grind arith
-
 reached_same : (m : Mark) (r : Reach) (c w : Course) → HasMarksOf c w → HasMarksOf (reached m r c) (reached m r w)
-reached_same m r c w h = grind (arith, changes_same)
+reached_same m r c w h = grind arith
 
 marked_same : (m : Mark) (r : Reach) (c w : Course) → HasMarksOf c w → HasMarksOf (marked m r c) (marked m r w)
-marked_same m r c w h = grind (arith, reached_same, changes_same)
+marked_same m r c w h = grind (arith, reached_same)
 
 noted_same : (d : Direction) (at : ℕ) (v : Value) (told : Told) (o : Option Cause) (c w : Course) →
     number_at told.place c.sessions ≡ number_at told.place w.sessions → HasMarksOf c w →
@@ -85,9 +80,6 @@ module _ (d : Direction) (past : List Moment) (s : Sessions) (wholes : List Mome
   moment_clean : NoneIsToBlame d s → IsClean d n → IsClean d m
   moment_clean before clean = grind arith
 
-  moment_breaks : BreaksTransport (other d) n → BreaksTransport (other d) m
-  moment_breaks b = record { mark = b.mark; is = mark ∙ b.is; bad = b.bad; of = b.of }
-
   moment_more : IsNoWorse d (past ++ m ∷ []) m.sessions (wholes ++ n ∷ [])
   moment_more = record {
     clean = λ all.
@@ -100,7 +92,7 @@ module _ (d : Direction) (past : List Moment) (s : Sessions) (wholes : List Mome
     where
       by : HasBroken d wholes ⊎ (AreClean d wholes × BreaksTransport (other d) n) → HasBroken d (past ++ m ∷ [])
       by (inl broken) = broken_more d past (m ∷ []) (h.broken broken)
-      by (inr (front, b)) = broken_then d past m (h.clean front).0 (moment_breaks b)
+      by (inr (front, b)) = broken_then d past m (h.clean front).0 (grind arith)
 
 -- ---- a capture
 

@@ -1,22 +1,18 @@
 -- A called end that has not selected class 0, and that runs along with an end and a tap, has its lines as long as both sides are judged.
 -- For the units that a called end puts.
 use Rattle.std.proofs.Common.{arith}
-use Rattle.osi_watched.proofs.Vocabulary.{ap, false, is_some, None, Some, subst, sym, ℕ, ◌∙◌, ◌≡◌, Zero, Local, Carrier, Traffic}
-use Rattle.osi_watched.proofs.Vocabulary.{Called, IsInZero, IsCalm, Whole, Joint, List, Value}
+use Rattle.osi_watched.proofs.Vocabulary.{ap, false, is_some, None, Some, subst, sym, ◌∙◌, ◌≡◌, Zero, Local, Carrier, Traffic, Called}
+use Rattle.osi_watched.proofs.Vocabulary.{IsCalm, Whole, Joint}
 use Rattle.osi_judge.specs.declared.directions.Direction.TheVariants as side
 use Rattle.osi_rules.specs.declared.directions.Direction.TheVariants as way
 use Rattle.osi_fair.specs.Wholes.{begin}
 use Rattle.osi_fair.proofs.a_called_end_is_fair.{Joined, Stage, all_joined, first_joined}
 use Rattle.osi_fair.proofs.names_stay_apart_though_one_is_lost.{AreNamedApart}
 use Rattle.osi_fair.proofs.what_an_end_does_in_class_zero.{over}
-use Rattle.osi_watched.proofs.small_facts_that_many_lemmas_use.{over_not}
 use Rattle.osi_fair.proofs.small_facts_that_many_lemmas_use.{none_of}
 use Rattle.osi_watched.proofs.steps_are_events.{IsFollowed}
 
 -- ---- the lines
-
-in_zero : (limit : ℕ) (s : Carrier) (begun : ℕ) (units : List Value) → IsInZero limit s begun units → s.ended ≡ None → s.class ≡ Some Zero
-in_zero limit s begun units h lasts = grind (arith, over_not)
 
 -- with what keeps references apart at the tap
 pub record HasCalled (local : Local) (w : Whole) : Type 0 where
@@ -24,7 +20,7 @@ pub record HasCalled (local : Local) (w : Whole) : Type 0 where
   pub named : AreNamedApart way.Left w.tap.connections
 
 lines_by : (local : Local) (w : Whole) → Stage local w → w.end.ended ≡ None → (w.end.class ≡ Some Zero → ⊥) → HasCalled local w
-lines_by local w h lasts two = grind (arith, in_zero)
+lines_by local w h lasts two = grind arith
 
 -- the invariant of osi_fair
 pub called_joined : (local : Local) (j : Joint) (f : IsFollowed side.Right (begin false local) j) → Joined local f.whole

@@ -3,29 +3,27 @@
 -- other side; and nobody of the end is to blame at those that have lost their judgement.
 -- For all connections of an end and a tap.
 use Rattle.std.proofs.Common.{arith}
-use Rattle.osi_watched.proofs.Vocabulary.{[], append_assoc, Bool, false, List, None, Option, refl, Some, subst, sym, true, ℕ}
-use Rattle.osi_watched.proofs.Vocabulary.{◌++◌, ◌∷◌, ◌≡◌, append-nil, AllByRecursion, slice_get, acknowledge, confirm}
-use Rattle.osi_watched.proofs.Vocabulary.{data0, data2, destination_of, disconnect, disconnected, error, request, Value, Class, Zero}
-use Rattle.osi_watched.proofs.Vocabulary.{is_applied, reach_of, is_refused, class_for, found_on, is_stopped, takes}
-use Rattle.osi_watched.proofs.Vocabulary.{Traffic as State, Connection, Finding, Broke, Rule, Left, Right, Deeds, Joined}
-use Rattle.osi_watched.proofs.Vocabulary.{Sessions, unit_passes, units_pass, judged_same}
+use Rattle.osi_watched.proofs.Vocabulary.{[], append_assoc, Bool, false, List, None, Option, refl, Some, subst, sym, true, ℕ, ◌++◌, ◌∷◌}
+use Rattle.osi_watched.proofs.Vocabulary.{◌≡◌, append-nil, AllByRecursion, slice_get, acknowledge, confirm, data0, data2, destination_of}
+use Rattle.osi_watched.proofs.Vocabulary.{disconnect, disconnected, error, request, Value, Class, Zero, is_applied, reach_of, is_refused}
+use Rattle.osi_watched.proofs.Vocabulary.{class_for, found_on, is_stopped, takes, Traffic as State, Connection, Broke, Rule, Left, Right}
+use Rattle.osi_watched.proofs.Vocabulary.{Deeds, Joined, Sessions, unit_passes, units_pass, judged_same}
 use Rattle.osi_rules.specs.declared.directions.Direction.{Direction as Way}
 use Rattle.osi_rules.specs.declared.directions.Direction.TheVariants as way
 use Rattle.osi_rules.specs.declared.findings.Reach.TheVariants as reach
 use Rattle.osi_rules.specs.declared.findings.Rule.TheVariants as rule
 use Rattle.osi_tap.specs.Courses.{Course}
-use Rattle.osi_fair.proofs.small_facts_that_many_lemmas_use.{differ}
 use Rattle.osi_watched.proofs.a_break_ends_no_judging_or_all.{takes_reach}
-use Rattle.osi_watched.proofs.sessions.a_dt_that_is_no_break_is_right.{IsClear, found_two}
+use Rattle.osi_watched.proofs.sessions.a_dt_that_is_no_break_is_right.{found_two}
 use Rattle.osi_watched.proofs.sessions.a_unit_after_a_dr_leaves_all_standing.{after_keeps}
 use Rattle.osi_watched.proofs.sessions.a_unit_is_joined_where_it_is_named.{joined_any}
 use Rattle.osi_watched.proofs.sessions.after_too_many_nobody_is_to_blame.{NoneIsToBlame}
 use Rattle.osi_watched.proofs.sessions.all_connections_stand.{AllStand, Loses, all_room}
 use Rattle.osi_watched.proofs.sessions.connections_have_the_same_places.{at_same, unit_joins, unit_knows}
-use Rattle.osi_watched.proofs.sessions.each_cr_that_passes_gives_a_new_reference.{AreUpTo, IsUpTo, unit_up}
+use Rattle.osi_watched.proofs.sessions.each_cr_that_passes_gives_a_new_reference.{AreUpTo, unit_up}
 use Rattle.osi_watched.proofs.sessions.nothing_comes_before_a_cc_passes.{IsBelow, left_below}
 use Rattle.osi_watched.proofs.sessions.nothing_is_done_before_a_cr_passes.{known_from}
-use Rattle.osi_watched.proofs.sessions.references_of_an_end_are_distinct.{AreDistinct, GivesNew, stays_so, unit_distinct}
+use Rattle.osi_watched.proofs.sessions.references_of_an_end_are_distinct.{AreDistinct, stays_so, unit_distinct}
 use Rattle.osi_watched.proofs.sessions.right_units_leave_all_standing.{dt, link_placed}
 use Rattle.osi_watched.proofs.sessions.the_dr_of_the_other_side_is_in_flight.{AreShut, other_shut}
 use Rattle.osi_watched.proofs.sessions.what_a_unit_does_at_its_place.{Does, unit_does}
@@ -55,17 +53,13 @@ only_closed : (k : Option Class) (r : Rule) → (k ≡ Some Zero → ⊥) → is
     (reach_of k (Broke r) ≡ reach.Everything → ⊥) → (reach_of k (Broke r) ≡ reach.Connection → ⊥) → r ≡ rule.Closed
 only_closed k r two none all part = search arith
 
-closed_by : (k : Option Class) (f : Finding) → IsClear f → (k ≡ Some Zero → ⊥) → is_applied f ≡ false →
-    (reach_of k f ≡ reach.Everything → ⊥) → (reach_of k f ≡ reach.Connection → ⊥) → f ≡ Broke rule.Closed
-closed_by k f h two none all part = grind (arith, differ, only_closed)
-
 pub dt_closed : (d : Way) (n number : ℕ) (end : Bool) (user : List ℕ) (s : State) (e : Connection) → e.is_judged ≡ true →
     (takes d (data2 n number end user) s).told.finding ≡ found_on d s e (data2 n number end user) →
     (class_for d s.course ≡ Some Zero → ⊥) → is_applied (takes d (data2 n number end user) s).told.finding ≡ false →
     ((takes d (data2 n number end user) s).told.reach ≡ reach.Everything → ⊥) →
     ((takes d (data2 n number end user) s).told.reach ≡ reach.Connection → ⊥) →
     (takes d (data2 n number end user) s).told.finding ≡ Broke rule.Closed
-dt_closed d n number end user s e judged finding two none all part = search (arith, judged_same, closed_by, found_two, takes_reach)
+dt_closed d n number end user s e judged finding two none all part = search (arith, judged_same, found_two, takes_reach)
 
 -- ---- its place
 
@@ -154,25 +148,18 @@ module _ (deeds : ℕ → Deeds) (is_live : ℕ → Bool) (put : List Value) (be
   heard_from coming (acknowledge credit n number) s t h = λ r later sure. (sure.0, h r later sure.1)
   heard_from coming (error n cause) s t h = λ r later sure. (sure.0, h r later sure.1)
 
-  -- the other side gives no reference of this one
-  gives_none : (v : Value) (c : Course) → is_applied (takes way.Left v c.traffic).told.finding ≡ true → GivesNew Right v c.sessions
-  gives_none v c applied = grind (arith, cc_unapplied)
-
-  gives_up_to : (v : Value) (c : Course) → is_applied (takes way.Left v c.traffic).told.finding ≡ true → IsUpTo Right b v
-  gives_up_to v c applied = grind (arith, cc_unapplied)
-
   then_distinct : (coming : List Value) (v : Value) (c : Course) (x : Bool) →
       is_applied (takes way.Left v c.traffic).told.finding ≡ x → AreHeard coming c → AreDistinct Right (unit_passes Left at v c).sessions
   then_distinct coming v c false none h = subst (AreDistinct Right) (sym (joins_none Left at v c none)) h.distinct
   then_distinct coming v c true applied h =
       subst (AreDistinct Right) (sym (unit_joins Left at v c))
-      (unit_distinct Right Left at v c.traffic c.sessions h.stand.places h.distinct (gives_none v c applied)
+      (unit_distinct Right Left at v c.traffic c.sessions h.stand.places h.distinct (grind (arith, cc_unapplied))
       (all_room Right deeds (known_from is_live coming) put begun c.traffic c.sessions h.stand))
 
   then_up : (coming : List Value) (v : Value) (c : Course) (x : Bool) → is_applied (takes way.Left v c.traffic).told.finding ≡ x →
       AreHeard coming c → AreUpTo Right b (unit_passes Left at v c).sessions
   then_up coming v c false none h = subst (AreUpTo Right b) (sym (joins_none Left at v c none)) h.up
-  then_up coming v c true applied h = unit_up Right Left b at v c h.stand.places (gives_up_to v c applied) h.up
+  then_up coming v c true applied h = unit_up Right Left b at v c h.stand.places (grind (arith, cc_unapplied)) h.up
 
   loses_so : (coming : List Value) (v : Value) (c : Course) → IsHeardOn v c → AreHeard coming c →
       Loses Right Left v c.traffic c.sessions

@@ -1,9 +1,8 @@
 -- Until class 2 is selected all connections of a called end stand at a tap as units of the other side pass: CRs and DCs, and in class 0
 -- DTs for its one connection. For the session of the connection of a called end in class 0.
-use Rattle.std.proofs.Common.{arith}
-use Rattle.std.proofs.Common.{◌≡◌, ◌∙◌, refl, sym, ap, subst, ℕ, ◌<◌, Bool, true, false, if◌then◌else◌, List, [], ◌∷◌, ◌++◌}
-use Rattle.std.proofs.Common.{Option, Some, None, is_some, append_assoc}
-use Rattle.std.specs.Prelude.{◌||◌, not}
+use Rattle.std.proofs.Common.{arith, ◌≡◌, ◌∙◌, refl, sym, ap, subst, ℕ, ◌<◌, Bool, true, false, if◌then◌else◌, List, [], ◌∷◌, ◌++◌, Option}
+use Rattle.std.proofs.Common.{Some, None, append_assoc}
+use Rattle.std.specs.Prelude.{not}
 use Rattle.std.specs.List.{AllByRecursion, list_all}
 use Rattle.std.proofs.lemmas.List.{append-nil}
 use Rattle.osi_tpdu.specs.Value.{Connect, Value, acknowledge, confirm, data0, data2, disconnect, disconnected, error, request}
@@ -14,12 +13,9 @@ use Rattle.osi_class.specs.declared.terms.Class.TheVariants.{Zero}
 use Rattle.osi_carrier.specs.State.{State as Carrier}
 use Rattle.osi_judge.specs.declared.directions.Direction.TheVariants.{Left, Right}
 use Rattle.osi_rules.specs.declared.directions.Direction.TheVariants as way
-use Rattle.osi_rules.specs.declared.findings.Finding.{Finding}
-use Rattle.osi_rules.specs.declared.findings.Finding.TheVariants.{Broke}
 use Rattle.osi_rules.specs.declared.findings.Rule.TheVariants as rule
-use Rattle.osi_rules.specs.Rows.{Test, first_failed}
 use Rattle.osi_rules.specs.Sides.{is_over, is_refused}
-use Rattle.osi_rules.specs.Traffic.{State, asks_by, is_stopped, route_in, routed, takes}
+use Rattle.osi_rules.specs.Traffic.{State, is_stopped, takes}
 use Rattle.osi_fair.proofs.left_selects_no_class.{left_class}
 use Rattle.osi_honest.specs.Courses.{Deeds}
 use Rattle.osi_tap.specs.Connections.{taken}
@@ -43,7 +39,6 @@ use Rattle.osi_watched.proofs.sessions.what_is_in_flight_to_an_end.{flight_same,
 use Rattle.osi_watched.proofs.sessions.what_passes_leaves_all_standing as in_two
 use Rattle.osi_watched.proofs.sessions.what_passes_leaves_all_standing.{IsHeardFirm}
 use Rattle.osi_watched.proofs.sessions.what_stands_of_a_connection.{Known}
-use Rattle.osi_rules.specs.Traffic.{has_broken}
 
 -- ---- what holds
 
@@ -121,25 +116,12 @@ still_plain v s h = grind arith
 -- ---- left knows no class yet
 
 module _ (s : State) (goes : is_stopped way.Left s.course ≡ false) (seen : s.course.class_seen ≡ None) where
-  takes_early : (v : Value) → takes way.Left v s ≡ routed way.Left v s (route_in None way.Left (has_broken way.Right s.course) v)
-  takes_early v = grind arith
-
   only_asking : (v : Value) → IsMild v (takes way.Left v s).told.finding → IsAsking v
-  only_asking v mild = grind (arith, takes_early)
-
-  -- a CR is a break while a connection is not over
-  first_passes : (v : Value) (a : Bool) (ts : List Test) → IsMild v (first_failed ((a, Broke rule.Negotiating) ∷ ts)) → a ≡ true
-  first_passes v a ts mild = grind arith
-
-  asked_found : (f : Finding) (x : Connect) → IsMild (request x) (asks_by way.Left f x s).told.finding → IsMild (request x) f
-  asked_found f x mild = grind arith
-
-  none_known : (k : Option Class) (all : Bool) → k ≡ None → (is_some k || all) ≡ true → all ≡ true
-  none_known k all e h = grind arith
+  only_asking v mild = grind arith
 
   all_over : (x : Connect) → IsMild (request x) (takes way.Left (request x) s).told.finding →
       list_all (is_over way.Left) s.connections ≡ true
-  all_over x mild = grind (arith, none_known, first_passes, asked_found, takes_early)
+  all_over x mild = grind arith
 
 -- ---- a unit passes
 
@@ -169,9 +151,6 @@ module _ (deeds : ℕ → Deeds) (r : ℕ) (end : Carrier) (put : List Value) (b
     -- ---- left knows no class yet
 
     module _ (seen : c.traffic.course.class_seen ≡ None) where
-      asks : IsAsking v
-      asks = only_asking c.traffic k.right.goes seen v k.right.mild
-
       asked_heard : (u : Value) → IsAsking u → IsHeardFirm Right (known coming) (known (coming ++ u ∷ [])) u put c.traffic c.sessions
       asked_heard (request x) a = same_known coming (request x) refl
       asked_heard (disconnected n source) a = same_known coming (disconnected n source) refl
@@ -204,12 +183,12 @@ module _ (deeds : ℕ → Deeds) (r : ℕ) (end : Carrier) (put : List Value) (b
       unseen_early = record {
         sure = sure_claim.passes Left at v c h.sure;
         all = in_two.other_stands_firm Right deeds (known coming) (known (coming ++ v ∷ [])) at v put begun c k.right.firm k.right.goes
-            (λ e. none_some c.traffic.course.class_seen Zero seen e) k.right.mild (asked_heard v asks) h.all;
+            (λ e. none_some c.traffic.course.class_seen Zero seen e) k.right.mild (asked_heard v (grind (arith, only_asking))) h.all;
         uncalled = uncalled_claim.passes Left at v c h.uncalled;
-        asking = λ none. all_of_both IsAsking coming (v ∷ []) (h.asking (sym (class_was v c) ∙ none)) (asks, tt);
-        plain = all_of_both IsNoCc coming (v ∷ []) h.plain (asking_plain v asks, tt);
+        asking = λ none. all_of_both IsAsking coming (v ∷ []) (h.asking (sym (class_was v c) ∙ none)) (grind (arith, only_asking), tt);
+        plain = all_of_both IsNoCc coming (v ∷ []) h.plain (asking_plain v (grind (arith, only_asking)), tt);
         zero = λ e.
-            let class = sym (class_was v c) ∙ e in still_one (still_so v refl asks class) (h.zero class);
+            let class = sym (class_was v c) ∙ e in still_one (still_so v refl (grind (arith, only_asking)) class) (h.zero class);
       }
 
     -- ---- left knows class 0

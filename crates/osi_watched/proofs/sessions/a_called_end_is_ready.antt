@@ -299,14 +299,11 @@ module _ (local : Local) where
     turn_put : new.put ≡ old.put ++ all_units on.put
     turn_put = t.put ∙ ap (λ (l : List Value). old.put ++ l) units
 
-    new_clear : IsOngoing new.course.traffic.course
-    new_clear = subst (λ (c : Course). IsOngoing c.traffic.course) (sym t.course) clear
-
     before : HasLines local f.whole
     before = has_lines local old f can h.two clear
 
     after : HasLines local g.ahead.followed.whole
-    after = has_lines local new g.ahead.followed can_new turn_two new_clear
+    after = has_lines local new g.ahead.followed can_new turn_two (grind arith)
 
     alike_old : AreAlike f.whole.put old.put
     alike_old = record { same = f.put; can = f.can; can_too = can }
@@ -433,15 +430,12 @@ module _ (local : Local) where
         (λ n r has. above_unused h.ahead.bound r old.course.sessions h.ahead.below
         (above_old n r (subst (HasCc n r) (sym turn_put) (has_back n r old.put (all_units on.put) has))))
 
-    two_so : carrier.ended ≡ None → carrier.class ≡ Some Zero → ⊥
-    two_so lasts zero_is = grind (arith, none_of, no_zero, before)
-
     pub turn_homed : AllByRecursion (IsMarked Right old.course.traffic old.course.sessions) on.put
     turn_homed = by carrier.ended refl
       where
         by : (o : Option EndReason) → carrier.ended ≡ o → AllByRecursion (IsMarked Right old.course.traffic old.course.sessions) on.put
         by None lasts =
-            called_marked local deeds turn old new t on f clear.sure (two_so lasts) places news
+            called_marked local deeds turn old new t on f clear.sure (grind (arith, none_of, no_zero, before)) places news
             (called_turn_two local deeds turn old new t on g.ahead.followed after.called) no_cc
         by (Some reason) gone =
             let done = over_acts turn old.holding new.holding (subst IsSome (sym gone) refl) t.takes in

@@ -49,9 +49,6 @@ move_two peer (hand_out tsdu) old new f is e = record { flow = f; is = sym (ap (
 same_link : (a b : Standing) → Some a ≡ Some b → a ≡ b
 same_link a b e = cc
 
-none_not : {A : Type 0} (l : Standing) → ◌≡◌ {A = Option Standing} None (Some l) → A
-none_not l e = absurd (cc)
-
 act_two : (d : Direction) (r peer : ℕ) (act : Act) (old new : Line) → Acts d r peer act old new → IsOfTwo old → IsOfTwo new
 act_two d r peer (moves move) old new (link, after, is, e, short, coming, new_is) h =
     let (f, flow) = h.flows link is in
@@ -60,9 +57,9 @@ act_two d r peer (moves move) old new (link, after, is, e, short, coming, new_is
       flows = λ l same. (m.flow, ap (λ (k : Standing). k.flow) (sym (same_link after l same)) ∙ m.is);
       put = all_of_both IsNotZero old.put (units_put peer move) h.put m.put;
     })
-act_two d r peer (closes reason units) old new (link, is, coming, new_is) h = grind (arith, none_not, all_of_both)
+act_two d r peer (closes reason units) old new (link, is, coming, new_is) h = grind (arith, all_of_both)
 act_two d r peer (ignores units) old new (gone, coming, new_is) h = grind arith
-act_two d r peer (answers unit) old new (link, is, dr, coming, new_is) h = grind (arith, none_not, all_of_both)
+act_two d r peer (answers unit) old new (link, is, dr, coming, new_is) h = grind (arith, all_of_both)
 act_two d r peer begins_own old new (some, idle, new_is) h = subst IsOfTwo (sym new_is) (record { flows = h.flows; put = h.put })
 act_two d r peer (passes_own course used) old new (unit, first, begun, new_is) h = grind arith
 act_two d r peer begins_elsewhere old new (idle, new_is) h = subst IsOfTwo (sym new_is) (record { flows = h.flows; put = h.put })

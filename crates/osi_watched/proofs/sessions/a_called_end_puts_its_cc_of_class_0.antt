@@ -2,19 +2,15 @@
 -- connection is open. For the session of the connection of a called end in class 0.
 use Rattle.std.proofs.Common.{◌≡◌, ◌∙◌, refl, sym, ap, subst, ℕ, ◌<◌, ◌≤◌, Bool, true, false, if◌then◌else◌, List, [], ◌∷◌, ◌++◌, map}
 use Rattle.std.proofs.Common.{Option, Some, None, arith, is_some, ◌-◌}
-use Rattle.std.specs.Prelude.{◌&&◌, nat_le}
 use Rattle.std.specs.List.{AllByRecursion}
-use Rattle.std.proofs.lemmas.Bool.{le-leb, lt-ltb}
 use Rattle.osi_tpdu.specs.Value.{Connect, Value, acknowledge, confirm, data0, data2, disconnect, disconnected, error, request}
 use Rattle.osi_tpdu.specs.Writing.{written}
-use Rattle.osi_class.specs.Link.{Standing}
 use Rattle.osi_class.specs.declared.terms.Class.TheVariants.{Zero}
 use Rattle.osi_class.specs.declared.terms.Local.{Local}
 use Rattle.osi_carrier.specs.Negotiation.{acceptance, unit_octets}
-use Rattle.osi_carrier.specs.State.{Connection as Live, State as Carrier, linked}
+use Rattle.osi_carrier.specs.State.{State as Carrier}
 use Rattle.osi_judge.specs.declared.directions.Direction.TheVariants.{Right}
 use Rattle.osi_rules.specs.Traffic.{State}
-use Rattle.osi_stack.specs.Calls.{has_given}
 use Rattle.osi_fair.proofs.a_called_end_selects_class_zero.{Selecting}
 use Rattle.osi_fair.proofs.each_connection_of_a_called_end.{AreAbove}
 use Rattle.osi_fair.proofs.what_an_end_does_in_class_zero.{IsInZero, over, zero_puts}
@@ -27,7 +23,7 @@ use Rattle.osi_honest.proofs.courses.how_long_a_connection_is_open.{Life, amid, 
 use Rattle.osi_honest.proofs.courses.how_long_a_connection_is_open.{stage_there}
 use Rattle.osi_honest.proofs.courses.units_of_each_connection.{all_units_more}
 use Rattle.osi_honest.proofs.reading.what_is_written_is_read_again.{CanBeWritten}
-use Rattle.osi_tap.specs.Connections.{Joined, Sessions}
+use Rattle.osi_tap.specs.Connections.{Sessions}
 use Rattle.osi_watched.specs.Joint.{Joint, TakesTurn}
 use Rattle.osi_watched.specs.Shown.{parts_of}
 use Rattle.osi_watched.proofs.a_carrier_does_events.{none_of}
@@ -44,15 +40,15 @@ use Rattle.osi_watched.proofs.sessions.a_called_end_stands_until_its_cc_of_class
 use Rattle.osi_watched.proofs.sessions.a_calling_end_stands_as_units_pass.{known_at}
 use Rattle.osi_watched.proofs.sessions.a_turn_after_which_a_cc_of_class_0_waits.{dts_after, no_cc_taken, turns_waiting}
 use Rattle.osi_watched.proofs.sessions.a_turn_of_a_calling_end_until_class_2.{early_lasts}
-use Rattle.osi_watched.proofs.sessions.all_connections_stand.{AllStand, Rests}
+use Rattle.osi_watched.proofs.sessions.all_connections_stand.{AllStand}
 use Rattle.osi_watched.proofs.sessions.each_cc_that_passes_gives_a_new_reference.{GoesOn, turns_ahead, waits_above}
 use Rattle.osi_watched.proofs.sessions.each_step_leaves_class_0_one_connection.{Sure}
 use Rattle.osi_watched.proofs.sessions.each_unit_of_a_calling_end_has_a_home.{IsWrittenAs}
 use Rattle.osi_watched.proofs.sessions.no_connection_is_opened_before_a_class_is_selected.{AreUncalled, UncalledUntil}
-use Rattle.osi_watched.proofs.sessions.units_written_alike_have_the_same_ccs.{AnswersTwo, AreAlike, HasCc, IsCc, first_not_zero, has_alike}
+use Rattle.osi_watched.proofs.sessions.units_written_alike_have_the_same_ccs.{AnswersTwo, AreAlike, HasCc, first_not_zero, has_alike}
 use Rattle.osi_watched.proofs.sessions.what_a_turn_puts_goes_to_its_peer.{all_so, one_of}
 use Rattle.osi_watched.proofs.sessions.what_is_in_flight_to_an_end.{parts_taken}
-use Rattle.osi_watched.proofs.sessions.what_stands_of_a_connection.{Known, Stands, waiting_for}
+use Rattle.osi_watched.proofs.sessions.what_stands_of_a_connection.{Known, waiting_for}
 use Rattle.osi_watched.proofs.sessions.what_stands_of_a_connection as standing
 use Rattle.osi_watched.proofs.sessions.what_the_stage_of_a_calling_end_says.{IsDt0, all_data}
 
@@ -62,16 +58,10 @@ named_not : {A : Type 0} (o : Option ℕ) (r : ℕ) → o ≡ Some r → o ≡ N
 named_not o r is not = absurd (cc)
 
 module _ (deeds : ℕ → Deeds) (known then_known : Known) (put : List Value) (b : Bool) where
-  stands_unnamed : (c : _) (j : Joined) → j.called ≡ None → Stands Right deeds known put b c j → Stands Right deeds then_known put b c j
-  stands_unnamed c j none h = grind (arith, named_not)
-
-  rests_unnamed : (j : Joined) → j.called ≡ None → Rests Right deeds known j → Rests Right deeds then_known j
-  rests_unnamed j none h = grind (arith, named_not)
-
   -- they stand whatever is known of what is in flight
   pub all_unnamed : (s : State) (t : Sessions) → AreUncalled t → AllStand Right deeds known put b s t →
       AllStand Right deeds then_known put b s t
-  all_unnamed s t none a = search (arith, stands_unnamed, rests_unnamed)
+  all_unnamed s t none a = search arith
 
 -- ---- the first unit that waits is the CC
 
@@ -83,25 +73,15 @@ record StartsWithCc (r : ℕ) (put : List Value) : Type 0 where
   source : x.source ≡ r
   not_two : x.class ≡ 2 → ⊥
 
-cc_by : (m : ℕ) (y : Connect) (v : Value) (rest : List Value) → AreAlike (confirm m y ∷ []) (v ∷ []) → y.class ≡ 0 → IsCc m y.source v →
-    StartsWithCc y.source (v ∷ rest)
-cc_by m y v rest a zero_is h = grind (arith, first_not_zero)
-
-no_more : {A : Type 0} (n r : ℕ) (v : Value) → HasCc n r (v ∷ []) → (IsCc n r v → A) → A
-no_more n r v h f = grind arith
-
-first_alike : (u v : Value) (us vs : List Value) → AreAlike (u ∷ us) (v ∷ vs) → AreAlike (u ∷ []) (v ∷ [])
-first_alike u v us vs a = grind arith
-
 starts_with_cc : (m : ℕ) (y : Connect) (us put : List Value) → AreAlike (confirm m y ∷ us) put → y.class ≡ 0 → StartsWithCc y.source put
 starts_with_cc m y us [] a zero_is = absurd (let same = a.same in cc)
-starts_with_cc m y us (v ∷ put) a zero_is = grind (arith, first_alike, no_more, has_alike, cc_by)
+starts_with_cc m y us (v ∷ put) a zero_is = grind (arith, has_alike)
 
 -- nothing waits before it
 none_two : (m : ℕ) (y : Connect) (us old more : List Value) → AreAlike (confirm m y ∷ us) (old ++ more) → y.class ≡ 0 →
     AllByRecursion AnswersTwo old → old ≡ []
 none_two m y us [] more a zero_is two = refl
-none_two m y us (v ∷ old) more a zero_is two = grind (arith, first_not_zero, first_alike)
+none_two m y us (v ∷ old) more a zero_is two = grind (arith, first_not_zero)
 
 -- ---- its connection is open, or over
 
@@ -116,19 +96,9 @@ given_after given b (data2 n number end user ∷ units) a h = absurd h.0
 given_after given b (acknowledge credit n number ∷ units) a h = absurd h.0
 given_after given b (error n cause ∷ units) a h = absurd h.0
 
-given_so : (r : ℕ) (c : Carrier) → 0 < r → r ≤ c.given → has_given r c ≡ true
-given_so r c some up = ap (λ (b : Bool). b && nat_le r c.given) (lt-ltb 0 r some) ∙ le-leb r c.given up
-
-linked_not : (b : Bool) (peer : ℕ) (link : Standing) →
-    stage_there true (if◌then◌else◌ {A = Option Live} b (Some (linked peer link)) None) ≡ early → ⊥
-linked_not b peer link e = grind arith
-
-over_not : {A : Type 0} (b : Bool) → b ≡ true → b ≡ false → A
-over_not b h k = absurd (cc)
-
 pub not_early_in_zero : (limit begun r : ℕ) (s : Carrier) (units : List Value) → IsInZero limit s begun units → 0 < r → r ≤ s.given →
     s.ended ≡ None → stage_at r s ≡ early → ⊥
-not_early_in_zero limit begun r s units h some up lasts may = grind (arith, linked_not, stage_is, given_so, stage_there, over_not)
+not_early_in_zero limit begun r s units h some up lasts may = grind (arith, stage_is, stage_there)
 
 -- ---- the turn
 
@@ -200,18 +170,12 @@ module _ (local : Local) (proper : AllProper) (turn : Turn) (old new : Joint) (t
     dts : AllByRecursion (IsWrittenAs IsDt0) starts.rest
     dts = dts_after local new f starts.n x starts.rest starts.is z
 
-    none_put : (deeds x.source).put ≡ []
-    none_put = grind (arith, less, empty)
-
     all_for : AllByRecursion (IsFor x.source) (all_units on.put)
     all_for =
         subst (AllByRecursion (IsFor x.source)) (sym all_put) (
           (λ m y is. same_cc starts.n m x y is),
           all_so (IsWrittenAs IsDt0) (IsFor x.source) (λ v w m y is. cc_not_dt m y (subst (IsWrittenAs IsDt0) is w)) starts.rest dts,
         )
-
-    plain : AllByRecursion IsNoCc (units_in old.coming)
-    plain = all_so IsAsking IsNoCc asking_plain (units_in old.coming) asking
 
     is_x : (q : ℕ) → 0 < q → WasOpen q (stage_at q end) on.took on.put → q ≡ x.source
     is_x q more (open_before peer is) = (let (n, has) = shut q peer more is in absurd (subst (HasCc n q) empty has))
@@ -221,7 +185,7 @@ module _ (local : Local) (proper : AllProper) (turn : Turn) (old new : Joint) (t
         (subst (AllByRecursion (IsFor x.source))
         (ap (λ (l : List Marked). all_units l) is ∙ all_units_more front ((0, confirm m y) ∷ later)) all_for) m y refl
     is_x q more (opens_now may m y front later is) =
-        no_cc_taken local proper turn old new t deeds on life units q m y front later plain may is
+        no_cc_taken local proper turn old new t deeds on life units q m y front later (grind (arith, asking_plain, all_so)) may is
 
     up : x.source ≤ f.whole.end.given
     up =
@@ -239,7 +203,7 @@ module _ (local : Local) (proper : AllProper) (turn : Turn) (old new : Joint) (t
         (ap (stage_at x.source) (f.like.lasts lasts) ∙ may)
 
     early_so : StandsCalledEarly deeds x.source end old.put old.begun (units_in old.coming) old.course
-    early_so = search (arith, all_unnamed, known_at, known_one, plain, none_some)
+    early_so = search (arith, all_unnamed, known_at, known_one, asking_plain, all_so, none_some)
 
     some : old.begun ≡ true → old.put ≡ [] → ⊥
     some begun =
@@ -250,5 +214,5 @@ module _ (local : Local) (proper : AllProper) (turn : Turn) (old new : Joint) (t
     pub turns_selecting : StandsAnswering local (λ r. then_did (deeds r) (on.more r)) new
     turns_selecting =
         turns_waiting local proper turn old new t deeds on life units f then_can class starts.n x starts.rest starts.is starts.not_two
-        positive early_so some (none_put ∙ ap (waiting_for (Some starts.n)) (sym empty))
+        positive early_so some ((grind (arith, less, empty)) ∙ ap (waiting_for (Some starts.n)) (sym empty))
         (parts_taken (deeds x.source).calls ∙ ap parts_of (h.called.unheard x.source less)) dts is_x opened

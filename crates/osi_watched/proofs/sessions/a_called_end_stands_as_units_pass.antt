@@ -12,7 +12,7 @@ use Rattle.osi_honest.specs.Courses.{Course}
 use Rattle.osi_tap.specs.Courses.{Course as Passed, packet_begins}
 use Rattle.osi_watched.proofs.small_facts_that_many_lemmas_use.{can_more as all_more}
 use Rattle.osi_watched.proofs.what_is_put_is_what_is_written.{none_written}
-use Rattle.osi_watched.proofs.sessions.a_called_end_hears_what_breaks_no_rule.{AreFine, AreHeard, units_heard}
+use Rattle.osi_watched.proofs.sessions.a_called_end_hears_what_breaks_no_rule.{AreFine, units_heard}
 use Rattle.osi_watched.proofs.sessions.a_called_end_is_ready.{AreKnown, IsCalled, begins_other_called, begins_own_called, first, is_ready}
 use Rattle.osi_watched.proofs.sessions.a_called_end_is_ready.{passes_other_called, passes_own_called, turn_homed, turns_called}
 use Rattle.osi_fair.proofs.what_the_other_side_closes.{IsOngoing}
@@ -30,7 +30,7 @@ use Rattle.osi_watched.proofs.sessions.nothing_is_done_before_a_cr_passes.{known
 use Rattle.osi_watched.proofs.sessions.references_of_an_end_are_distinct.{AreDistinct, begins_distinct, unit_distinct}
 use Rattle.osi_watched.proofs.sessions.steps_leave_all_standing.{IsProper, Standing, step_begins_other, step_begins_own, step_passes_own}
 use Rattle.osi_watched.proofs.sessions.steps_leave_all_standing.{step_turns}
-use Rattle.osi_watched.proofs.sessions.the_dr_of_the_other_side_is_in_flight.{AreShut, HaveRoom, begins_shut, turn_shut}
+use Rattle.osi_watched.proofs.sessions.the_dr_of_the_other_side_is_in_flight.{AreShut, begins_shut, turn_shut}
 use Rattle.osi_watched.proofs.sessions.units_written_alike_have_the_same_ccs.{AnswersTwo}
 use Rattle.osi_watched.proofs.sessions.what_stands_of_a_connection.{waiting_for}
 
@@ -71,9 +71,6 @@ module _ (local : Local) (proper : AllProper) where
         can = h.can;
       })
 
-  rooms : (deeds : ℕ → Deeds) (j : Joint) → StandsCalled deeds j → HaveRoom j.course.sessions
-  rooms deeds j h i k here = search (arith, all_room, known_at)
-
   lost_known : (deeds : ℕ → Deeds) (j : Joint) → StandsCalled deeds j → AreKnown j.course
   lost_known deeds j h i e there lost =
       let a = h.standing.all in
@@ -101,14 +98,10 @@ module _ (local : Local) (proper : AllProper) where
             h.standing;
         distinct = subst (AreDistinct Right) (sym (unit_joins Right at unit old.course))
             (unit_distinct Right Right at unit old.course.traffic old.course.sessions a.places h.distinct
-            (gives_new (first local) at unit old mid step h.called.ahead) (rooms deeds old h));
-        shut = own_passes_shut Right at unit old a.places (rooms deeds old h) h.shut;
+            (gives_new (first local) at unit old mid step h.called.ahead) (search (arith, all_room, known_at)));
+        shut = own_passes_shut Right at unit old a.places (search (arith, all_room, known_at)) h.shut;
         can = (subst (AllByRecursion CanBeWritten) put h.can).1;
       })
-
-  heard_now : (deeds : ℕ → Deeds) (at : ℕ) (j : Joint) (h : StandsCalled deeds j) →
-      AreHeard deeds (may_take j.holding.end.carrier) j.put j.begun h.called.ahead.bound at (units_in j.coming) j.course
-  heard_now deeds at j h = record { stand = h.standing.all; distinct = h.distinct; up = h.called.ahead.below; shut = h.shut }
 
   pub passes_other_stands : (deeds : ℕ → Deeds) (at : ℕ) (packet : List ℕ) (units : List Value) (old new : Joint) →
       Steps Right (passes_other at packet units) old new → AreFine at units old.course → StandsCalled deeds old → StandsCalled deeds new
@@ -118,7 +111,7 @@ module _ (local : Local) (proper : AllProper) where
       let all : units_in old.coming ++ units ≡ units_in (old.coming ++ packet ∷ []) =
       sym (units_join old.coming (packet ∷ []) ∙ ap (λ (l : List Value). units_in old.coming ++ l) one) in
       let k = units_heard deeds (may_take old.holding.end.carrier) old.put old.begun h.called.ahead.bound at units (units_in old.coming)
-      old.course fine (heard_now deeds at old h) in
+      old.course fine (grind arith) in
       subst (StandsCalled deeds) (sym is) (record {
         called = passes_other_called local proper deeds at packet units old mid (octets, read, refl) h.called k.below k.all.up;
         standing = record {

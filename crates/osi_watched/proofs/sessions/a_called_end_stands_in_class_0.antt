@@ -1,13 +1,12 @@
 -- Once the CC has passed that selects class 0, all connections of a called end stand at a tap: after what passes and is no break or is
 -- passed over, and after turns. For the session of the connection of a called end in class 0.
 use Rattle.std.proofs.Common.{arith}
-use Rattle.osi_watched.proofs.Vocabulary.{[], ap, Bool, false, inl, inr, length, List, None, Option, refl, Some, subst, sym, true, ℕ, ◌++◌}
-use Rattle.osi_watched.proofs.Vocabulary.{◌<◌, ◌^◌, ◌∙◌, ◌∷◌, ◌≡◌, ◌≢◌, ◌⊎◌, append-nil, AllByRecursion, slice_get, units_of, confirm}
-use Rattle.osi_watched.proofs.Vocabulary.{Connect, request, Value, Class, Two, Zero, Local, Traffic as State, takes, Left}
-use Rattle.osi_watched.proofs.Vocabulary.{Right, AllProper, amid, early, Life, opens_by, past, Time, stage_at, stays, Answers, Opens, Deeds}
-use Rattle.osi_watched.proofs.Vocabulary.{units_in, units_read, Marked, Joined, Sessions, spoken, units_pass, heard, lines, selected}
-use Rattle.osi_watched.proofs.Vocabulary.{selecting, zero_stays, zero_puts, IsFirm, unit as passing, Whole, begins_other, begins_own, Joint}
-use Rattle.osi_watched.proofs.Vocabulary.{passes_other, passes_own, Steps}
+use Rattle.osi_watched.proofs.Vocabulary.{[], ap, Bool, false, inl, inr, length, List, refl, Some, subst, sym, true, ℕ, ◌++◌, ◌<◌, ◌^◌, ◌∙◌}
+use Rattle.osi_watched.proofs.Vocabulary.{◌∷◌, ◌≡◌, ◌≢◌, ◌⊎◌, append-nil, AllByRecursion, slice_get, units_of, confirm, Connect, request}
+use Rattle.osi_watched.proofs.Vocabulary.{Value, Zero, Local, Traffic as State, takes, Left, Right, AllProper, amid, early, Life, opens_by}
+use Rattle.osi_watched.proofs.Vocabulary.{past, Time, stage_at, stays, Answers, Opens, Deeds, units_in, units_read, Marked, Joined}
+use Rattle.osi_watched.proofs.Vocabulary.{Sessions, spoken, units_pass, heard, lines, selected, selecting, zero_stays, zero_puts, IsFirm}
+use Rattle.osi_watched.proofs.Vocabulary.{unit as passing, Whole, begins_other, begins_own, Joint, passes_other, passes_own, Steps}
 use Rattle.osi_rules.specs.declared.directions.Direction.TheVariants as way
 use Rattle.osi_fair.specs.Wholes as wholes
 use Rattle.osi_fair.proofs.a_called_end_is_fair.{Stage}
@@ -22,7 +21,7 @@ use Rattle.osi_watched.proofs.sessions.a_called_end_hears_what_comes_until_class
 use Rattle.osi_watched.proofs.sessions.a_turn_does_what_its_deeds_say.{units_join}
 use Rattle.osi_watched.proofs.sessions.a_turn_of_a_calling_end_until_class_2.{early_amid, past_amid}
 use Rattle.osi_watched.proofs.sessions.all_connections_stand.{AllStand, all_begin_other, all_begin_own}
-use Rattle.osi_watched.proofs.sessions.class_0_keeps_its_one_place.{HasOne, IsStill, one_begins, one_passes}
+use Rattle.osi_watched.proofs.sessions.class_0_keeps_its_one_place.{HasOne, one_begins, one_passes}
 use Rattle.osi_watched.proofs.sessions.connections_have_the_same_places.{unit_joins, unit_knows}
 use Rattle.osi_watched.proofs.sessions.each_step_leaves_class_0_one_connection.{sure_claim}
 use Rattle.osi_watched.proofs.sessions.each_unit_of_a_calling_end_has_a_home.{IsWrittenAs, first as first_octet, not_two}
@@ -32,12 +31,9 @@ use Rattle.osi_watched.proofs.sessions.what_the_stage_of_a_calling_end_says.{IsD
 
 -- ---- what it has put
 
-pub class_by : {A : Type 0} (k : Option Class) → k ≡ Some Zero → (k ≡ None) ⊎ (k ≡ Some Two) → A
-class_by k h h2 = grind (arith, none_some, zero_two)
-
 -- all DTs
 pub dts_of : (local : Local) (w : Whole) → Stage local w → w.tap.course.class ≡ Some Zero → AllByRecursion IsDt0 w.put
-dts_of local w (lines h c named) zero_is = class_by w.tap.course.class zero_is h.class
+dts_of local w (lines h c named) zero_is = grind (arith, none_some, zero_two)
 dts_of local w (selecting z) zero_is = none_some w.tap.course.class Zero z.class zero_is
 dts_of local w (selected z) zero_is = all_data z.limit z.c.right.begun w.put (zero_puts z.limit w.end z.c.right.begun w.put z.end)
 
@@ -189,9 +185,6 @@ module _ (local : Local) where
 
   -- ---- a unit of the end passes
 
-  dt_still : (v : Value) (s : State) → IsDt0 v → IsStill Right v s
-  dt_still v s h = grind arith
-
   pub passes_own_zero : AllProper → (deeds : ℕ → Deeds) (at : ℕ) (unit : Value) (old new : Joint) →
       Steps Right (passes_own at unit) old new → IsRight Right unit old.course → IsFirm old.course.traffic.course →
       StandsInZero deeds old → StandsInZero deeds new
@@ -224,7 +217,7 @@ module _ (local : Local) where
               (subst (λ (t : Sessions). HasOne Right h.r IsNone (takes way.Right unit old.course.traffic).state t)
               (sym (unit_joins Right at unit old.course))
               (one_passes Right Right h.r IsNone at unit old.course.traffic old.course.sessions (e.zero h.class) e.all.places
-              (dt_still unit old.course.traffic dt)));
+              (grind arith)));
         };
         amid_is = h.amid_is;
         opened = h.opened;

@@ -67,7 +67,7 @@ use Rattle.osi_watched.proofs.sessions.only_a_cc_selects_a_class.{selects_none}
 use Rattle.osi_watched.proofs.sessions.steps_leave_all_standing.{IsProper}
 use Rattle.osi_watched.proofs.sessions.what_passes_leaves_all_standing.{firm_goes, firm_links, mild_stays}
 use Rattle.osi_watched.proofs.sessions.steps_of_either_class_leave_all_standing.{IsRight, stand_none}
-use Rattle.osi_watched.proofs.sessions.units_written_alike_have_the_same_ccs.{AnswersTwo, HasCc, IsCc, has_back, has_front}
+use Rattle.osi_watched.proofs.sessions.units_written_alike_have_the_same_ccs.{AnswersTwo, HasCc, has_back, has_front}
 use Rattle.osi_watched.proofs.sessions.what_a_turn_puts_goes_to_its_peer.{all_back, all_so}
 use Rattle.osi_watched.proofs.what_a_carrier_puts_can_be_written.{all_more}
 
@@ -76,11 +76,8 @@ use Rattle.osi_watched.proofs.what_a_carrier_puts_can_be_written.{all_more}
 none_open : (peer : ℕ) (given : Bool) → stage_there given None ≡ amid peer → ⊥
 none_open peer given e = grind arith
 
-cc_not : (n r : ℕ) (v : Value) → IsCc n r v → IsNoCc v → ⊥
-cc_not n r v h h2 = grind arith
-
 has_later : (n r : ℕ) (v : Value) (vs : List Value) → IsNoCc v → HasCc n r (v ∷ vs) → HasCc n r vs
-has_later n r v vs h h2 = grind (arith, cc_not)
+has_later n r v vs h h2 = grind arith
 
 -- a CC, or another unit
 cc_or : {A : Type 0} (v : Value) → ((m : ℕ) (x : Connect) → v ≡ confirm m x → A) → (IsNoCc v → A) → A
@@ -169,18 +166,12 @@ module _ (local : Local) (proper : AllProper) where
   no_cc_passes at m x old two right sure none =
       search (arith, has_effect, mild_of, unit_knows Right at (confirm m x) old.course, two_class x two)
 
-  not_cc : (at : ℕ) (v : Value) (old : Joint) (rest : List Value) → old.put ≡ v ∷ rest → AllByRecursion AnswersTwo old.put →
-      IsRight Right v old.course → Sure old.course → old.course.traffic.course.class ≡ None →
-      ((unit_passes Right at v old.course).traffic.course.class ≡ Some Two → ⊥) → IsNoCc v
-  not_cc at v old rest put two right sure none not = grind (arith, cc_or, no_cc_passes)
-
   none_passes : (deeds : ℕ → Deeds) (at : ℕ) (v : Value) (old new : Joint) → Steps Right (passes_own at v) old new →
       IsRight Right v old.course → IsFirm old.course.traffic.course → Sure old.course →
       (new.course.traffic.course.class ≡ Some Two → ⊥) → StandsInNone deeds old → StandsInNone deeds new
   none_passes deeds at v old new (read, octets, put, begun, is) right firm sure not h =
       let mid : Joint = record old { put = new.put; begun = false; course = units_pass Right at (v ∷ []) old.course } in
-      let plain : IsNoCc v = not_cc at v old new.put put h.stands.called.two right sure h.class
-      (λ two. not (ap (λ (j : Joint). j.course.traffic.course.class) is ∙ two)) in
+      let plain : IsNoCc v = grind (arith, cc_or, no_cc_passes) in
       let fine : IsProper Right v old.course = record {
         goes = right.goes;
         two = λ zero_is. none_some old.course.traffic.course.class Zero h.class zero_is;

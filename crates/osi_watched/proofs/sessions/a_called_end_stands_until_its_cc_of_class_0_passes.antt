@@ -13,7 +13,7 @@ use Rattle.osi_tap.specs.Courses.{Course as Passed, packet_begins}
 use Rattle.osi_fair.proofs.small_facts_that_many_lemmas_use.{first_is}
 use Rattle.osi_watched.proofs.small_facts_that_many_lemmas_use.{none_some}
 use Rattle.osi_watched.proofs.steps_are_events.{IsFollowed, step_followed}
-use Rattle.osi_watched.proofs.what_a_taker_passes_over.{IsMild, mild_of}
+use Rattle.osi_watched.proofs.what_a_taker_passes_over.{mild_of}
 use Rattle.osi_watched.proofs.sessions.a_called_end_hears_what_comes_until_class_2.{AreTaken, IsAsking, IsNone, StandsCalledEarly}
 use Rattle.osi_watched.proofs.sessions.a_called_end_hears_what_comes_until_class_2.{known_one, units_early}
 use Rattle.osi_watched.proofs.sessions.a_called_end_stands_in_class_0.{StandsInZero, first}
@@ -187,14 +187,8 @@ module _ (local : Local) where
       mid_step : Steps Right (passes_own at cc_is) old mid
       mid_step = (step.0, step.1, step.2, step.3, refl)
 
-      mild : IsMild cc_is (takes way.Right cc_is c.traffic).told.finding
-      mild = mild_of cc_is (takes way.Right cc_is c.traffic).told.finding right.none
-
       effect : HasEffect c.traffic (class_of x) (takes way.Right cc_is c.traffic)
-      effect = has_effect n x c.traffic right.goes h.class right.firm h.early_is.all.judged mild
-
-      zero_is : mid.course.traffic.course.class ≡ Some Zero
-      zero_is = grind (arith, effect, unit_knows Right at cc_is c, zero_class x h.not_two)
+      effect = has_effect n x c.traffic right.goes h.class right.firm h.early_is.all.judged (grind (arith, mild_of))
 
       ready : IsReady Right deeds (known_one x.source old.holding.end.carrier coming) cc_is new.put c.traffic c.sessions
       ready = (
@@ -212,7 +206,7 @@ module _ (local : Local) where
           subst (λ (s : State). HasOne Right x.source IsNone s mid.course.sessions) (sym (unit_knows Right at cc_is c))
           (subst (λ (t : Sessions). HasOne Right x.source IsNone (takes way.Right cc_is c.traffic).state t)
           (sym (unit_joins Right at cc_is c))
-          (cc_answers n x at c h.early_is.all.places right.goes h.class right.firm h.early_is.all.judged mild IsNone
+          (cc_answers n x at c h.early_is.all.places right.goes h.class right.firm h.early_is.all.judged (grind (arith, mild_of)) IsNone
           (h.early_is.uncalled h.class).live (h.early_is.uncalled h.class).done))
 
       cc_passes : StandsInZero local deeds mid
@@ -222,13 +216,13 @@ module _ (local : Local) where
             followed = step_followed Right (first local) proper (passes_own at cc_is) old mid mid_step h.followed;
             r = x.source;
             positive = h.positive;
-            class = zero_is;
+            class = grind (arith, effect, unit_knows, zero_class);
             early_is = record {
               sure = sure_claim.passes Right at cc_is c e.sure;
               all = (any_passes_own Right deeds (known_one x.source old.holding.end.carrier coming) at cc_is old mid mid_step e.sure right
                   (λ not. ready) (record { all = e.all })).all;
               uncalled = uncalled_claim.passes Right at cc_is c e.uncalled;
-              asking = λ none. none_some mid.course.traffic.course.class Zero none zero_is;
+              asking = λ none. none_some mid.course.traffic.course.class Zero none (grind (arith, effect, unit_knows, zero_class));
               plain = e.plain;
               zero = λ class. one;
             };

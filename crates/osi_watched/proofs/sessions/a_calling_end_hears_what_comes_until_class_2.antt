@@ -19,15 +19,13 @@ use Rattle.osi_carrier.specs.declared.ends.EndReason.{EndReason}
 use Rattle.osi_judge.specs.declared.directions.Direction.{Direction}
 use Rattle.osi_judge.specs.declared.directions.Direction.TheVariants.{Left, Right}
 use Rattle.osi_rules.specs.declared.connections.Connection.{Connection}
-use Rattle.osi_rules.specs.declared.courses.Course.{Course as Rules}
 use Rattle.osi_rules.specs.declared.directions.Direction.TheVariants as way
 use Rattle.osi_rules.specs.declared.findings.Finding.{Finding}
 use Rattle.osi_rules.specs.declared.findings.Finding.TheVariants.{TooMany}
 use Rattle.osi_rules.specs.declared.findings.Reach.{Reach}
 use Rattle.osi_rules.specs.Reaches.{is_applied}
 use Rattle.osi_rules.specs.Sides.{is_refused}
-use Rattle.osi_rules.specs.Traffic.{State, at_found, at_place, class_for, class_of, course_after, is_stopped, route_in, routed, stops_by}
-use Rattle.osi_rules.specs.Traffic.{takes}
+use Rattle.osi_rules.specs.Traffic.{State, at_found, at_place, class_for, class_of, is_stopped, stops_by, takes}
 use Rattle.osi_rules.proofs.a_stop_is_said.{stops_are_said}
 use Rattle.osi_stack.specs.Calls.{has_given}
 use Rattle.osi_fair.specs.Naming.{unit as passing}
@@ -46,9 +44,7 @@ use Rattle.osi_watched.proofs.what_a_taker_passes_over.{IsMild, mild_reach}
 use Rattle.osi_watched.proofs.sessions.a_cc_of_class_0_opens_one_connection.{awaits_this, cc_opens, effect}
 use Rattle.osi_watched.proofs.sessions.a_dt_of_class_0_leaves_all_standing as in_zero
 use Rattle.osi_watched.proofs.sessions.a_dt_of_class_0_leaves_all_standing.{GrowsThere, IsHeardZero, IsZero, told_there}
-use Rattle.osi_watched.proofs.sessions.a_calling_end_is_ready.{cr_broke, goes_on}
 use Rattle.osi_watched.proofs.sessions.all_connections_stand.{AllStand, all_room}
-use Rattle.osi_watched.proofs.sessions.class_0_has_one_connection.{none_same}
 use Rattle.osi_watched.proofs.sessions.class_0_keeps_its_one_place.{HasOne, IsStill, one_passes, zero_still}
 use Rattle.osi_watched.proofs.sessions.connections_have_the_same_places.{unit_joins, unit_knows}
 use Rattle.osi_watched.proofs.sessions.each_cr_that_passes_gives_a_new_reference.{AreUpTo, IsUpTo, IsWithin, unit_up}
@@ -64,7 +60,6 @@ use Rattle.osi_watched.proofs.sessions.what_passes_leaves_all_standing as in_two
 use Rattle.osi_watched.proofs.sessions.what_passes_leaves_all_standing.{IsHeardFirm}
 use Rattle.osi_watched.proofs.sessions.what_stands_of_a_connection.{Known, waiting_for}
 use Rattle.osi_watched.proofs.sessions.what_the_stage_of_a_calling_end_says.{AwaitsAnswer, awaits, cc_comes, gone, one_early}
-use Rattle.osi_rules.specs.Traffic.{has_broken}
 
 -- ---- what holds
 
@@ -111,9 +106,6 @@ IsNotTwo c = c.traffic.course.class ≡ Some Two → ⊥
 none_zero : {A : Type 0} (k : Option Class) → k ≡ None → k ≡ Some Zero → A
 none_zero k h e = absurd (cc)
 
-differ : {A : Type 0} (b : Bool) → b ≡ true → b ≡ false → A
-differ b h k = absurd (cc)
-
 none_some : {A : Type 0} (k : Option Class) (a : Class) → k ≡ None → k ≡ Some a → A
 none_some k a h e = absurd (cc)
 
@@ -137,7 +129,7 @@ few_of : (f : Finding) → is_applied f ≡ true → f ≡ TooMany → ⊥
 few_of f h many = let no : false ≡ true = sym (ap is_applied many) ∙ h in cc
 
 refused_not : (c : Connection) → is_refused c.right.phase ≡ true → is_refused c.right.phase ≡ false → ⊥
-refused_not c h k = differ (is_refused c.right.phase) h k
+refused_not c h k = grind arith
 
 same_place : (p q : ℕ) → Some p ≡ Some q → p ≡ q
 same_place p q e = cc
@@ -178,7 +170,7 @@ units_none_before at (v ∷ vs) c none = none_before Right at v c (units_none_be
 
 -- the other side asks for nothing
 not_cr : (b : ℕ) (v : Value) (c : Course) → IsTolerable Right v c → IsUpTo Left b v
-not_cr b v c right = grind (arith, cr_broke, goes_on)
+not_cr b v c right = grind arith
 
 pub no_crs : (b at : ℕ) (vs : List Value) (c : Course) → AreTaken at vs c → AllByRecursion (IsUpTo Left b) vs
 no_crs b at [] c taken = tt
@@ -198,27 +190,17 @@ IsEarlyBreak (disconnected n source) = ⊥
 IsEarlyBreak (error n cause) = ⊥
 
 module _ (s : State) (goes : is_stopped way.Right s.course ≡ false) (class : s.course.class ≡ None) where
-  takes_early : (v : Value) → takes way.Right v s ≡ routed way.Right v s (route_in None way.Right (has_broken way.Left s.course) v)
-  takes_early v = grind arith
-
   early_break : {A : Type 0} (v : Value) → IsEarlyBreak v → IsMild v (takes way.Right v s).told.finding → A
-  early_break v h mild = grind (arith, takes_early)
-
-  -- a DR, a DC or an ER selects none
-  quiet_same : (v : Value) → IsQuiet v → (c : Connection) (b : Bool) (k : Rules) → (course_after way.Right c v b k).class ≡ k.class
-  quiet_same v h c b k = grind arith
+  early_break v h mild = grind arith
 
   nowhere_class : (v : Value) → (at_place way.Right v s None).state.course.class ≡ s.course.class
-  nowhere_class v = grind (arith, reached_class, none_same)
+  nowhere_class v = grind (arith, reached_class)
 
   found_class : (v : Value) → IsQuiet v → (p : ℕ) (o : Option Connection) → (at_found way.Right v s p o).state.course.class ≡ s.course.class
-  found_class v h p o = grind (arith, nowhere_class, reached_class, quiet_same)
-
-  place_class : (v : Value) → IsQuiet v → (o : Option ℕ) → (at_place way.Right v s o).state.course.class ≡ s.course.class
-  place_class v h o = grind (arith, nowhere_class, found_class)
+  found_class v h p o = grind (arith, nowhere_class, reached_class)
 
   quiet_class : (v : Value) → IsQuiet v → (takes way.Right v s).state.course.class ≡ s.course.class
-  quiet_class v h = grind (arith, takes_early, place_class)
+  quiet_class v h = grind arith
 
 quiet_ccs : (r : ℕ) (vs : List Value) → AllByRecursion IsQuiet vs → AllByRecursion (IsCcFor r) vs
 quiet_ccs r [] h = tt

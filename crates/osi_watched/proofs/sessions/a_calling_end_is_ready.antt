@@ -1,19 +1,16 @@
 -- A calling end of class 2 is ready for each CR that passes: nothing is done at its connection, nothing in flight is for it, and its
 -- reference is new. Each step keeps it so, as long as both sides are judged.
 -- For all connections of an end and a tap.
-use Rattle.std.proofs.Common.{◌≡◌, ◌∙◌, refl, sym, ap, subst, ℕ, ◌<◌, ◌≤◌, Bool, true, false, if◌then◌else◌, List, [], ◌∷◌, ◌++◌, None}
-use Rattle.std.proofs.Common.{Option, arith}
+use Rattle.std.proofs.Common.{◌≡◌, ◌∙◌, refl, sym, ap, subst, ℕ, ◌<◌, ◌≤◌, Bool, true, if◌then◌else◌, List, [], ◌∷◌, ◌++◌, None, arith}
 use Rattle.std.specs.List.{AllByRecursion}
 use Rattle.std.proofs.lemmas.List.{append-nil}
 use Rattle.osi_tpdu.specs.Packet.{units_of}
-use Rattle.osi_tpdu.specs.Value.{Connect, Value, acknowledge, confirm, data0, data2, disconnect, disconnected, error, request}
-use Rattle.osi_class.specs.declared.terms.Class.{Class}
+use Rattle.osi_tpdu.specs.Value.{Value, acknowledge, confirm, data0, data2, disconnect, disconnected, error, request}
 use Rattle.osi_class.specs.declared.terms.Local.{Local}
 use Rattle.osi_carrier.specs.State.{State as Carrier}
 use Rattle.osi_judge.specs.declared.directions.Direction.TheVariants.{Left}
 use Rattle.osi_rules.specs.declared.directions.Direction.TheVariants as way
-use Rattle.osi_rules.specs.declared.findings.Finding.TheVariants.{NotJudged}
-use Rattle.osi_rules.specs.Traffic.{Outcome, State, none_told, route_in, routed}
+use Rattle.osi_rules.specs.Traffic.{State}
 use Rattle.osi_carrier.specs.Rows.{value_at}
 use Rattle.osi_stack.specs.Calls.{has_given}
 use Rattle.osi_stack.specs.State.{End, Holding}
@@ -30,7 +27,6 @@ use Rattle.osi_honest.proofs.courses.how_long_a_connection_is_open.{Life, amid, 
 use Rattle.osi_watched.specs.Joint.{Joint, Steps, TakesTurn, begin, begins_other, begins_own, passes_other, passes_own}
 use Rattle.osi_watched.specs.ShownPlaces.{HaveSamePlaces}
 use Rattle.osi_watched.proofs.steps_are_events.{IsFollowed, begin_followed, own_first}
-use Rattle.osi_watched.proofs.what_a_taker_passes_over.{IsMild}
 use Rattle.osi_watched.proofs.sessions.a_right_dt_has_one_place.{AreUsedApart, named_apart}
 use Rattle.osi_watched.proofs.sessions.a_turn_does_what_its_deeds_say.{turn_leaves, units_join}
 use Rattle.osi_watched.proofs.sessions.crs_that_wait_are_above_those_that_passed.{AreAbove, above_along, passes_asked}
@@ -42,14 +38,6 @@ use Rattle.osi_watched.proofs.sessions.nothing_is_done_before_a_cr_passes.{may_t
 use Rattle.osi_watched.proofs.sessions.what_passes_leaves_all_standing.{IsReady}
 
 -- ---- what comes in class 2
-
-pub goes_on : (v : Value) (b : Bool) (s : State) (o : Outcome) → b ≡ false →
-    IsMild v (if b then none_told way.Right NotJudged s else o).told.finding → IsMild v o.told.finding
-goes_on v b s o h none = grind arith
-
-pub cr_broke : {A : Type 0} (k : Option Class) (b : Bool) (x : Connect) (s : State) →
-    IsMild (request x) (routed way.Right (request x) s (route_in k way.Right b (request x))).told.finding → A
-cr_broke k b x s none = grind arith
 
 -- neither a CR nor a DT of class 0
 abbrev pub IsPlain : ℕ → Value → Type 0

@@ -136,9 +136,6 @@ module _ (local : Local) (two : local.class2 ≡ true) (proper : AllProper) wher
         can = h.can;
       })
 
-  some_same : (c e : Connection) → Some c ≡ Some e → c ≡ e
-  some_same c e h = cc
-
   -- no two connections have one reference
   judged_tracked : (deeds : ℕ → Deeds) (j : Joint) → StandsCalling deeds j → (r i : ℕ) (c : Connection) (k : Joined) →
       slice_get j.course.traffic.connections i ≡ Some c → slice_get j.course.sessions.live i ≡ Some k → c.is_judged ≡ true →
@@ -147,7 +144,7 @@ module _ (local : Local) (two : local.class2 ≡ true) (proper : AllProper) wher
       let cs = j.course.traffic.connections in
       let (l, here_too, one) = at_same cs j.course.sessions.live p e h.standing.all.places at in
       let place : i ≡ p = h.distinct.live i p k l r here here_too named (ap (λ (m : ℕ). Some m) (one.calling ∙ same)) in
-      let is : c ≡ e = some_same c e (sym there ∙ ap (slice_get cs) place ∙ at) in
+      let is : c ≡ e = grind arith in
       (p, e, at, tracked, same, subst (λ (x : Connection). x.is_judged ≡ true) is judged)
 
   judged_or : (deeds : ℕ → Deeds) (j : Joint) → StandsCalling deeds j → (r : ℕ) → IsOfOne Left r j.course.traffic j.course.sessions →

@@ -13,14 +13,12 @@ use Rattle.osi_tpdu.proofs.the_units_of_a_packet.{units_fit, units_found}
 use Rattle.osi_class.specs.Tsdus.{Part}
 use Rattle.osi_class.specs.declared.terms.Class.TheVariants.{Zero}
 use Rattle.osi_class.specs.declared.terms.Local.{Local}
-use Rattle.osi_carrier.specs.Rows.{value_at}
 use Rattle.osi_carrier.specs.State.{State as Carrier}
 use Rattle.osi_judge.specs.declared.directions.Direction.{Direction}
 use Rattle.osi_judge.specs.declared.directions.Direction.TheVariants.{Left, Right}
 use Rattle.osi_rules.specs.declared.directions.Direction.TheVariants as way
 use Rattle.osi_rules.specs.Traffic.{State, takes}
-use Rattle.osi_stack.specs.Calls.{has_given}
-use Rattle.osi_stack.specs.State.{End, Holding}
+use Rattle.osi_stack.specs.State.{Holding}
 use Rattle.osi_fair.specs.Wholes.{Event, HappenAlong, Whole}
 use Rattle.osi_fair.specs.Wholes as wholes
 use Rattle.osi_fair.proofs.a_reference_names_one_connection.{fresh_apart, no_item}
@@ -29,7 +27,7 @@ use Rattle.osi_fair.proofs.no_request_is_blamed.{Holds, holds_first, holds_next}
 use Rattle.osi_honest.specs.Courses.{Course, Deeds, no_deeds, units_in, units_read}
 use Rattle.osi_honest.specs.Seeing.{IsFresh}
 use Rattle.osi_honest.proofs.class_0.what_a_packet_does_in_class_0.{AllProper}
-use Rattle.osi_honest.proofs.courses.how_long_a_connection_is_open.{amid, stage_at, stage_is, stage_there}
+use Rattle.osi_honest.proofs.courses.how_long_a_connection_is_open.{amid, stage_at}
 use Rattle.osi_tap.specs.Connections.{Joined, Sessions, spoken, taken}
 use Rattle.osi_tap.specs.Courses.{Course as Passed, packet_begins, units_pass}
 use Rattle.osi_tap.specs.Lines.{heard}
@@ -140,9 +138,6 @@ module _ (local : Local) where
 
   -- ---- at the beginning
 
-  none_open : (peer : ℕ) (given : Bool) → stage_there given None ≡ amid peer → ⊥
-  none_open peer given e = grind arith
-
   -- the references of CRs that have passed were given
   pub given_so : (j : Joint) (a : AreAhead first j) → j.holding.end.carrier.ended ≡ None → a.bound ≤ j.holding.end.carrier.given
   given_so j a lasts = grind (arith, none_of)
@@ -189,10 +184,7 @@ module _ (local : Local) where
       none_below = record { live = λ i j r here named. absurd (cc here); done = λ i j r here named. absurd (cc here) }
 
       shut_at : (r peer : ℕ) → stage_at r holding.end.carrier ≡ amid peer → ⊥
-      shut_at r peer is =
-          none_open peer (has_given r holding.end.carrier)
-          (sym (stage_is r holding.end.carrier None (has_given r holding.end.carrier)
-          (ap (λ (e : End). e.carrier.ended) fresh.end) refl (ap (λ (e : End). value_at r e.carrier.live) fresh.end)) ∙ is)
+      shut_at r peer is = grind arith
 
   -- ---- a packet begins
 

@@ -2,15 +2,15 @@
 -- other CC if the connection is judged. So the end is calm in a turn before the connection opens.
 -- For all connections of an end and a tap.
 use Rattle.std.proofs.Common.{arith}
-use Rattle.osi_watched.proofs.Vocabulary.{[], ap, append_assoc, Bool, List, None, Option, refl, Some, subst, sym, true, ℕ, ◌++◌}
-use Rattle.osi_watched.proofs.Vocabulary.{◌∙◌, ◌∷◌, ◌≡◌, ◌⊎◌, eq-eqb, append-nil, AllByRecursion, confirm, Connect, request, Value, Local}
-use Rattle.osi_watched.proofs.Vocabulary.{value_at, closing, Live, Carrier, has_given, early, Time as Stage, stage_at, stage_is}
-use Rattle.osi_watched.proofs.Vocabulary.{all_units_more, Opens, all_units, Marked, Follows, IsNoCc, Row, Tracked, first_kept}
-use Rattle.osi_watched.proofs.Vocabulary.{IsDc, first_left, names, picked_join, those, those_join, Line, Whole, acknowledge, data0, data2}
-use Rattle.osi_watched.proofs.Vocabulary.{disconnect, disconnected, error, false, ◌||◌, slice_get, Connection, is_tracked}
+use Rattle.osi_watched.proofs.Vocabulary.{[], ap, append_assoc, Bool, List, None, refl, Some, subst, sym, true, ℕ, ◌++◌, ◌∙◌, ◌∷◌, ◌≡◌}
+use Rattle.osi_watched.proofs.Vocabulary.{eq-eqb, append-nil, AllByRecursion, confirm, Connect, request, Value, Local, Carrier, has_given}
+use Rattle.osi_watched.proofs.Vocabulary.{early, Time as Stage, stage_at, stage_is, all_units_more, Opens, all_units, Marked, Follows}
+use Rattle.osi_watched.proofs.Vocabulary.{IsNoCc, Row, Tracked, first_kept, IsDc, first_left, names, picked_join, those, those_join, Line}
+use Rattle.osi_watched.proofs.Vocabulary.{Whole, acknowledge, data0, data2, disconnect, disconnected, error, false, ◌||◌, slice_get}
+use Rattle.osi_watched.proofs.Vocabulary.{Connection, is_tracked}
 use Rattle.osi_honest.proofs.courses.how_long_a_connection_is_open.{is_dr}
 use Rattle.osi_fair.proofs.what_the_other_side_closes.{IsOngoing}
-use Rattle.osi_watched.proofs.small_facts_that_many_lemmas_use.{amid_not, over_not, past_not}
+use Rattle.osi_watched.proofs.small_facts_that_many_lemmas_use.{amid_not, over_not}
 use Rattle.osi_watched.proofs.sessions.nothing_is_done_before_a_cr_passes.{IsNoZero, dcs_none}
 use Rattle.osi_watched.proofs.sessions.what_an_end_takes_at_each_stage.{AreCalm, AreReady, EndsEarly, dcs_before, dcs_first, opens_next}
 use Rattle.osi_watched.proofs.sessions.what_an_end_takes_at_each_stage.{opens_not}
@@ -37,16 +37,13 @@ pub record AwaitsCc (r : ℕ) (coming : List Value) : Type 0 where
   pub calm : AllByRecursion IsNoCc after
 
 module _ (local : Local) (c : Carrier) (r : ℕ) (given : has_given r c ≡ true) (may : stage_at r c ≡ early) (lasts : c.ended ≡ None) where
-  row_gone : {A : Type 0} (o : Option Live) (q : ℕ) → value_at r c.live ≡ o → (o ≡ Some (closing q)) ⊎ (o ≡ None) → A
-  row_gone o q e h = grind (arith, past_not, stage_at, stage_is)
-
   -- as long as it may open, its row awaits the CC
   row_awaits : (coming : List Value) (peer : ℕ) (line : Line) → AllByRecursion IsNoCc line.coming → Row local c coming r peer line →
       AwaitsCc r coming
-  row_awaits coming peer line calm h = grind (arith, amid_not, stage_at, stage_is, row_gone, over_not)
+  row_awaits coming peer line calm h = grind (arith, amid_not, stage_at, stage_is, over_not)
 
   row_has : (coming : List Value) (peer : ℕ) (line : Line) → Row local c coming r peer line → HasCc r coming
-  row_has coming peer line h = grind (arith, amid_not, stage_at, stage_is, row_gone, over_not)
+  row_has coming peer line h = grind (arith, amid_not, stage_at, stage_is, over_not)
 
 -- the connection with this reference is open at the tap, and judged
 abbrev pub TrackedJudged : List Connection → ℕ → Type 0
@@ -80,14 +77,9 @@ zero_front (x ∷ xs) ys h = (h.0, zero_front xs ys h.1)
 own_cc : (r : ℕ) (y : Connect) (rest : List Value) → those r (confirm r y ∷ rest) ≡ confirm r y ∷ those r rest
 own_cc r y rest = first_kept r (confirm r y) rest (eq-eqb r r refl)
 
--- of a front of what comes, right before a CC for the connection, all that comes for it is DCs
-before_cc : (r : ℕ) (front rest : List Value) (y : Connect) → AwaitsCc r (front ++ confirm r y ∷ rest) → AllByRecursion IsDc (those r front)
-before_cc r front rest y a = grind (arith, dcs_before, those, own_cc, those_join)
-
 before_opening : (r peer : ℕ) (unit : Value) (front rest : List Value) → Opens true r peer unit → AwaitsCc r (front ++ unit ∷ rest) →
     AllByRecursion IsDc (those r front)
-before_opening r peer (confirm n x) front rest o a =
-    before_cc r front rest x (subst (λ (m : ℕ). AwaitsCc r (front ++ confirm m x ∷ rest)) o.0 a)
+before_opening r peer (confirm n x) front rest o a = grind (arith, dcs_before, those, own_cc, those_join)
 before_opening r peer (request x) front rest o a = absurd (cc o.0)
 before_opening r peer _ front rest o a = absurd o
 

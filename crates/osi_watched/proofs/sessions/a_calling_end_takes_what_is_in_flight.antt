@@ -3,6 +3,7 @@
 -- For all connections of an end and a tap.
 use Rattle.std.proofs.Common.{◌≡◌, ◌∙◌, ◌⊎◌, inl, inr, refl, sym, ap, subst, ℕ, ◌<◌, ◌≤◌, true, List, [], ◌++◌, Some, None, arith, is_some}
 use Rattle.std.specs.List.{AllByRecursion}
+use Rattle.std.proofs.lemmas.Bool.{le-leb, lt-ltb}
 use Rattle.osi_tpdu.specs.Value.{Value}
 use Rattle.osi_class.specs.Tsdus.{Part}
 use Rattle.osi_class.specs.declared.terms.Local.{Local}
@@ -22,17 +23,14 @@ use Rattle.osi_watched.proofs.sessions.a_calling_end_takes_nothing_before_its_cc
 use Rattle.osi_watched.proofs.sessions.a_turn_does_what_its_deeds_say.{turn_uses}
 use Rattle.osi_watched.proofs.sessions.an_end_takes_what_is_left_for_it.{IsClean, dr_stays, left_takes, none_takes, was_live}
 use Rattle.osi_watched.proofs.sessions.connections_have_the_same_places.{at_same}
-use Rattle.osi_watched.proofs.sessions.nothing_is_done_before_a_cr_passes.{IsNoZero, given_so, may_take, same_units}
+use Rattle.osi_watched.proofs.sessions.nothing_is_done_before_a_cr_passes.{IsNoZero, may_take, same_units}
 use Rattle.osi_watched.proofs.sessions.what_an_end_takes_at_each_stage.{AreReady}
 use Rattle.osi_watched.proofs.sessions.what_is_left_for_an_end.{has_dr, known_left}
 use Rattle.osi_watched.proofs.sessions.what_stands_of_a_connection.{Takes, waiting_for}
 
-early_not : {A : Type 0} (s : Stage) → s ≡ early → s ≡ past → A
-early_not s e h = absurd (cc (sym e ∙ h))
-
 -- an end at which a connection may still open lasts
 pub early_lasts : (r : ℕ) (c : Carrier) → stage_at r c ≡ early → c.ended ≡ None
-early_lasts r c may = grind (arith, early_not, stage_at, stage_over)
+early_lasts r c may = grind (arith, stage_at, stage_over)
 
 module _ (local : Local) (two : local.class2 ≡ true) where
   -- at a connection whose CC has passed and that has not opened, what has come awaits the CC
@@ -51,7 +49,7 @@ module _ (local : Local) (two : local.class2 ≡ true) where
       subst (AwaitsCc r) (f.coming lasts ∙ same_units j.coming)
       (awaits_cc local f.whole r (whole_joined local two j f) (subst (λ (s : State). IsOngoing s.course) (sym f.tap) clear)
       (subst (λ (s : State). TrackedJudged s.connections r) (sym f.tap) tracked)
-      (given_so r f.whole.end some (omega (arith, low, most))) (alike ∙ may) whole_lasts)
+      (grind (arith, lt-ltb, le-leb)) (alike ∙ may) whole_lasts)
 
   module _ (turn : Turn) (old new : Joint) (t : TakesTurn turn old new) (deeds : ℕ → Deeds)
       (on : Continues true deeds old.holding turn new.holding) (h : IsCalling local two deeds old)

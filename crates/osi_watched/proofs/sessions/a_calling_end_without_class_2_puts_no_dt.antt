@@ -17,15 +17,9 @@ holds_along local [] old new is h = subst (Holds local) (sym is) h
 holds_along local (event ∷ events) old new (mid, one, more) h =
     holds_along local events mid new more (holds_next local event old mid one h)
 
-none_put : {A : Type 0} (v : Value) (rest put : List Value) → put ≡ v ∷ rest → put ≡ [] → A
-none_put v rest put e none = let without : v ∷ rest ≡ [] = sym e ∙ none in absurd (cc)
-
-first_of : (u v : Value) (xs ys : List Value) → u ∷ xs ≡ v ∷ ys → v ≡ u
-first_of u v xs ys e = cc
-
 by_stage : (local : Local) → local.class2 ≡ false → (w : Whole) (v : Value) (rest : List Value) → w.put ≡ v ∷ rest → w.begun ≡ true →
     (w.tap.course.class ≡ Some Zero → ⊥) → Stage local w → is_part v ≡ false
-by_stage local without w v rest e begun two h = grind (arith, none_put, is_part, first_of, differ)
+by_stage local without w v rest e begun two h = grind (arith, is_part, differ)
 
 pub calling_puts_none : (local : Local) → local.class2 ≡ false → PutsNoDt Left local
 calling_puts_none local without at v old new (read, octets, put, begun, is) f clear =

@@ -2,23 +2,21 @@
 -- to pass are for this reference: each of them is for a connection whose CC has passed.
 -- For all connections of an end and a tap.
 use Rattle.std.proofs.Common.{◌≡◌, ◌∙◌, refl, ap, ℕ, Bool, true, false, if◌then◌else◌, List, [], ◌∷◌, Option, Some, arith}
-use Rattle.std.specs.Prelude.{◌==◌, ◌||◌, ◌&&◌, not, slice_get}
+use Rattle.std.specs.Prelude.{◌||◌, ◌&&◌, not, slice_get}
 use Rattle.std.specs.List.{AllByRecursion}
-use Rattle.std.proofs.lemmas.Bool.{eqb-true}
 use Rattle.osi_tpdu.specs.Value.{Connect, Value, confirm, destination_of}
 use Rattle.osi_class.specs.declared.terms.Class.{Class}
 use Rattle.osi_judge.specs.declared.directions.Direction.TheVariants.{Left}
 use Rattle.osi_rules.specs.declared.connections.Connection.{Connection}
 use Rattle.osi_rules.specs.declared.directions.Direction.TheVariants as way
-use Rattle.osi_rules.specs.declared.findings.Finding.TheVariants.{Broke, NotJudged, Outside}
+use Rattle.osi_rules.specs.declared.findings.Finding.TheVariants.{Broke, Outside}
 use Rattle.osi_rules.specs.declared.findings.Rule.TheVariants as rule
 use Rattle.osi_rules.specs.declared.halves.Phase.{Phase}
 use Rattle.osi_rules.specs.declared.halves.Phase.TheVariants as phase
 use Rattle.osi_rules.specs.Reaches.{is_applied}
 use Rattle.osi_rules.specs.Rows.{first_failed, given_again}
 use Rattle.osi_rules.specs.Sides.{is_closing, is_open, uses}
-use Rattle.osi_rules.specs.Traffic.{Outcome, State, at_found, at_place, found_on, none_told, route_in, in_doubt, routed, takes, unnamed_by}
-use Rattle.osi_rules.specs.Traffic.{uses_source}
+use Rattle.osi_rules.specs.Traffic.{State, at_found, at_place, found_on, route_in, in_doubt, routed, takes, unnamed_by, uses_source}
 use Rattle.osi_fair.proofs.each_connection_has_its_line.{IsOwned, asking, is_tracked, of, stray}
 use Rattle.osi_fair.proofs.what_holds_of_one_item.{none_true}
 use Rattle.osi_fair.proofs.which_units_are_for_a_connection.{picked_rest}
@@ -58,13 +56,9 @@ module _ (n : ℕ) (x : Connect) (s : State) where
       is_applied (routed way.Right (confirm n x) s (route_in k way.Right b (confirm n x))).told.finding ≡ true → IsNew
   cc_routed k b applied = grind (arith, cc_any)
 
-  cc_goes : (b : Bool) (o : Outcome) → is_applied (if b then none_told way.Right NotJudged s else o).told.finding ≡ true →
-      is_applied o.told.finding ≡ true
-  cc_goes b o applied = grind arith
-
   pub cc_new : is_applied (takes way.Right (confirm n x) s).told.finding ≡ true →
       uses_source way.Right s.connections (confirm n x) ≡ false
-  cc_new applied = grind (arith, cc_routed, cc_goes)
+  cc_new applied = grind (arith, cc_routed)
 
 -- ---- so no connection that is open has its reference
 
@@ -77,15 +71,9 @@ both_so a b h = grind arith
 named_tracked : (p : Phase) (r : ℕ) → (is_open p || is_closing p) ≡ true → named_by p r ≡ Some r
 named_tracked p r h = grind arith
 
-unlike : (m n : ℕ) (b : Bool) → (m == n) ≡ b → (m ≡ n → ⊥) → b ≡ false
-unlike m n b e h = grind (arith, eqb-true)
-
-some_same : (m n : ℕ) → Some m ≡ Some n → m ≡ n
-some_same m n e = cc
-
 -- a unit for another reference
 for_another : (n m : ℕ) (v : Value) → destination_of v ≡ Some m → (m ≡ n → ⊥) → is_for (Some n) v ≡ false
-for_another n m v e other = grind (arith, unlike, some_same)
+for_another n m v e other = grind arith
 
 module _ (n : ℕ) (x : Connect) (s : State) (t : Sessions) (places : HaveSamePlaces s.connections t.live)
     (apart : AreUsedApart Left s.connections) (applied : is_applied (takes way.Right (confirm n x) s).told.finding ≡ true) where

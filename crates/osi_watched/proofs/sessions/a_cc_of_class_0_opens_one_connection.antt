@@ -3,7 +3,7 @@
 use Rattle.std.proofs.Common.{arith}
 use Rattle.std.proofs.Common.{◌≡◌, ◌∙◌, ◌⊎◌, inl, inr, refl, sym, ap, subst, ℕ, Bool, true, false, if◌then◌else◌, List, [], ◌∷◌}
 use Rattle.std.proofs.Common.{Option, Some, None}
-use Rattle.std.specs.Prelude.{◌==◌, position, slice_get}
+use Rattle.std.specs.Prelude.{◌==◌, slice_get}
 use Rattle.std.proofs.lemmas.Bool.{eqb-true}
 use Rattle.osi_tpdu.specs.Value.{Connect, Value, confirm}
 use Rattle.osi_class.specs.declared.terms.Class.{Class}
@@ -21,12 +21,10 @@ use Rattle.osi_rules.specs.declared.halves.Phase.{Phase}
 use Rattle.osi_rules.specs.declared.halves.Phase.TheVariants as phase
 use Rattle.osi_rules.specs.Reaches.{is_applied}
 use Rattle.osi_rules.specs.Rows.{first_failed, given_again}
-use Rattle.osi_rules.specs.Sides.{is_named, is_refused, is_silent}
-use Rattle.osi_rules.specs.Traffic.{Outcome, State, at_found, at_place, class_of, connection_after}
-use Rattle.osi_rules.specs.Traffic.{found_on, is_stopped}
-use Rattle.osi_rules.specs.Traffic.{in_doubt, judged_on, sent_on, takes, unnamed_by}
+use Rattle.osi_rules.specs.Sides.{is_refused, is_silent}
+use Rattle.osi_rules.specs.Traffic.{Outcome, State, at_found, class_of, connection_after, found_on, is_stopped, in_doubt, judged_on}
+use Rattle.osi_rules.specs.Traffic.{sent_on, takes, unnamed_by}
 use Rattle.osi_fair.proofs.a_dt_of_class_zero_passes.{unlike}
-use Rattle.osi_fair.proofs.a_reference_names_one_connection.{applied_found}
 use Rattle.osi_fair.proofs.all_are_judged_unless_one_broke.{AreJudged}
 use Rattle.osi_fair.proofs.class_0_stays_selected.{reached_class}
 use Rattle.osi_fair.proofs.while_no_class_is_selected.{Waits, after_change, calm_tap, set_there}
@@ -37,7 +35,7 @@ use Rattle.osi_watched.specs.ShownPlaces.{HaveSamePlaces}
 use Rattle.osi_watched.proofs.what_a_taker_passes_over.{IsMild}
 use Rattle.osi_watched.proofs.sessions.a_unit_is_joined_where_it_is_named.{joined_named}
 use Rattle.osi_watched.proofs.sessions.class_0_keeps_its_one_place.{HasOne}
-use Rattle.osi_watched.proofs.sessions.connections_have_the_same_places.{at_same, first_answer}
+use Rattle.osi_watched.proofs.sessions.connections_have_the_same_places.{at_same}
 use Rattle.osi_watched.proofs.sessions.each_cr_that_passes_gives_a_new_reference.{AreUpTo, IsWithin}
 use Rattle.osi_watched.proofs.sessions.references_of_an_end_are_distinct.{AreDistinct}
 use Rattle.osi_watched.proofs.sessions.what_a_unit_does_at_its_place.{Does, asks_again, asks_more, nowhere, somewhere, unit_does}
@@ -98,22 +96,13 @@ module _ (n : ℕ) (x : Connect) (s : State) (goes : is_stopped Right s.course �
   applied_so : (c : Connection) → c.is_judged ≡ true → IsMild v (found_on Right s c v) → is_applied (found_on Right s c v) ≡ true
   applied_so c j mild = search (arith, judged_applied, tests_applied)
 
-  silent_so : (c : Connection) → is_applied (found_on Right s c v) ≡ true → is_silent c.right.phase ≡ true
-  silent_so c h = grind (arith, first_answer, applied_found)
-
   found_effect : (p : ℕ) (o : Option Connection) → slice_get s.connections p ≡ o →
       IsMild v (at_found Right v s p o).told.finding → HasEffect s (class_of x) (at_found Right v s p o)
-  found_effect p o there mild = search (arith, unknown_breaks, applied_so, silent_so, reached_class)
-
-  place_effect : (o : Option ℕ) → IsMild v (at_place Right v s o).told.finding → HasEffect s (class_of x) (at_place Right v s o)
-  place_effect o mild = search (arith, unknown_breaks, found_effect)
-
-  takes_so : takes Right v s ≡ at_place Right v s (position (is_named Right n) s.connections)
-  takes_so = grind arith
+  found_effect p o there mild = search (arith, unknown_breaks, applied_so, reached_class)
 
   -- if it is no break, or is passed over
   pub has_effect : IsMild v (takes Right v s).told.finding → HasEffect s (class_of x) (takes Right v s)
-  has_effect mild = grind (arith, takes_so, place_effect)
+  has_effect mild = search (arith, unknown_breaks, found_effect)
 
 -- ---- so it opens that connection
 

@@ -1,13 +1,11 @@
 -- In class 0 one connection was opened, and each other one was refused: there is one place for a DT of either side.
 -- For the session of the connection of an end in class 0.
 use Rattle.std.proofs.Common.{arith}
-use Rattle.osi_watched.proofs.Vocabulary.{ap, Bool, false, is_some, List, not, Some, true, ℕ, ◌&&◌, ◌∙◌, ◌≡◌}
-use Rattle.osi_watched.proofs.Vocabulary.{position, slice_get, ◌||◌, data0, Value, Zero, is_closed, is_closing, is_live, is_open}
-use Rattle.osi_watched.proofs.Vocabulary.{is_over, is_refused, own, at_found, at_place, class_for, is_stopped}
-use Rattle.osi_watched.proofs.Vocabulary.{one_told, route_zero, routed, Traffic as State, takes, Connection, Way}
-use Rattle.osi_watched.proofs.Vocabulary.{Phase, other, Direction, Joined, reference_of, way_of, only_first}
-use Rattle.osi_watched.proofs.Vocabulary.{AreJudged, NamesApart as AreApart, Sound, IsOneOf, named_by}
-use Rattle.osi_watched.proofs.Vocabulary.{has_broken}
+use Rattle.osi_watched.proofs.Vocabulary.{ap, Bool, false, is_some, List, not, Some, true, ℕ, ◌&&◌, ◌∙◌, ◌≡◌, position, slice_get, ◌||◌}
+use Rattle.osi_watched.proofs.Vocabulary.{data0, Zero, is_closed, is_closing, is_live, is_open, is_over, is_refused, own, at_found}
+use Rattle.osi_watched.proofs.Vocabulary.{at_place, class_for, is_stopped, one_told, route_zero, routed, Traffic as State, takes}
+use Rattle.osi_watched.proofs.Vocabulary.{Connection, Way, Phase, other, Direction, Joined, reference_of, way_of, only_first, AreJudged}
+use Rattle.osi_watched.proofs.Vocabulary.{NamesApart as AreApart, Sound, IsOneOf, named_by, has_broken}
 use Rattle.osi_rules.specs.declared.directions.Direction.TheVariants as way
 use Rattle.osi_rules.specs.declared.halves.Phase.TheVariants as phase
 use Rattle.osi_rules.specs.Sides as sides
@@ -67,10 +65,6 @@ module _ (s : State) (judged : AreJudged s) (firm : s.course.loose ≡ false) (a
 
 -- ---- a unit in class 0
 
-pub zero_takes : (d : Way) (v : Value) (s : State) → is_stopped d s.course ≡ false → class_for d s.course ≡ Some Zero →
-    takes d v s ≡ routed d v s (route_zero d (has_broken (sides.other d) s.course) v)
-zero_takes d v s goes class = grind arith
-
 data_routed : (d : Way) (b end : Bool) (user : List ℕ) (s : State) →
     routed d (data0 end user) s (route_zero d b (data0 end user)) ≡ at_place d (data0 end user) s (position (is_live d) s.connections)
 data_routed d b end user s = grind arith
@@ -80,7 +74,7 @@ pub dt_takes : (d : Way) (end : Bool) (user : List ℕ) (s : State) → AreJudge
     (o : IsOnly s) → is_stopped d s.course ≡ false → class_for d s.course ≡ Some Zero →
     takes d (data0 end user) s ≡ one_told d o.place o.connection (data0 end user) s
 dt_takes d end user s judged firm apart o goes class =
-    zero_takes d (data0 end user) s goes class
+    (grind arith)
     ∙ data_routed d (has_broken (sides.other d) s.course) end user s
     ∙ ap (at_place d (data0 end user) s) (only_place s judged firm apart o d class)
     ∙ ap (at_found d (data0 end user) s o.place) o.there
@@ -89,9 +83,6 @@ dt_takes d end user s judged firm apart o goes class =
 
 pub named_open : (p : Phase) (r : ℕ) → is_open p ≡ true → is_some (named_by p r) ≡ true
 named_open p r h = grind arith
-
-named_refused : (p : Phase) (r : ℕ) → is_refused p ≡ true → is_some (named_by p r) ≡ false
-named_refused p r h = grind arith
 
 -- both sides gave it one
 pub both_named : (e : Direction) (c : Connection) (j : Joined) → IsOneOf c j → is_open c.right.phase ≡ true →
@@ -104,4 +95,4 @@ open_there d s o = grind arith
 -- a refused one is not open for its called side, and has no reference for its calling side
 pub other_none : (d : Direction) (c : Connection) (j : Joined) → IsOneOf c j → is_refused c.right.phase ≡ true →
     is_open (own (way_of d) c).phase ≡ true → is_some (reference_of (other d) j) ≡ false
-other_none d c j one refused live = grind (arith, named_refused, open_not_refused)
+other_none d c j one refused live = grind (arith, open_not_refused)

@@ -9,7 +9,6 @@ use Rattle.osi_class.specs.declared.terms.Class.TheVariants.{Zero}
 use Rattle.osi_judge.specs.Captures.{other}
 use Rattle.osi_judge.specs.declared.directions.Direction.{Direction}
 use Rattle.osi_rules.specs.declared.connections.Connection.{Connection}
-use Rattle.osi_rules.specs.declared.directions.Direction.{Direction as Way}
 use Rattle.osi_rules.specs.declared.directions.Direction.TheVariants as way
 use Rattle.osi_rules.specs.declared.findings.Finding.{Finding}
 use Rattle.osi_rules.specs.declared.findings.Finding.TheVariants.{Kept}
@@ -19,9 +18,8 @@ use Rattle.osi_rules.specs.declared.halves.Half.{Half}
 use Rattle.osi_rules.specs.Reaches.{is_applied, reach_of}
 use Rattle.osi_rules.specs.Sides.{is_open, own}
 use Rattle.osi_rules.specs.Sides as sides
-use Rattle.osi_rules.specs.Traffic.{State, class_for, connection_after, is_stopped, meaning_if, meant, route_zero, routed, takes}
+use Rattle.osi_rules.specs.Traffic.{State, class_for, connection_after, is_stopped, meaning_if, meant, takes}
 use Rattle.osi_honest.specs.Courses.{Deeds}
-use Rattle.osi_tap.specs.declared.rooms.Room.TheVariants.{All}
 use Rattle.osi_tap.specs.Connections.{Joined, Sessions, reference_of}
 use Rattle.osi_tap.specs.Connections as joined
 use Rattle.osi_tap.specs.Courses.{Course, unit_passes, way_of}
@@ -29,8 +27,8 @@ use Rattle.osi_watched.specs.ShownPlaces.{IsOneOf}
 use Rattle.osi_watched.proofs.a_break_ends_no_judging_or_all.{takes_reach}
 use Rattle.osi_watched.proofs.the_first_break_is_not_of_an_end.{IsNoBreak}
 use Rattle.osi_watched.proofs.what_a_taker_passes_over.{IsMild, applied_of, mild_of}
-use Rattle.osi_watched.proofs.sessions.a_dt_of_class_0_has_one_place.{IsOnly, both_named, dt_takes, open_there, other_none, zero_takes}
-use Rattle.osi_watched.proofs.sessions.a_dt_that_is_no_break_is_right.{IsClear, dt_clear}
+use Rattle.osi_watched.proofs.sessions.a_dt_of_class_0_has_one_place.{IsOnly, both_named, dt_takes, open_there, other_none}
+use Rattle.osi_watched.proofs.sessions.a_dt_that_is_no_break_is_right.{dt_clear}
 use Rattle.osi_watched.proofs.sessions.a_right_dt_has_one_place.{zero_placed}
 use Rattle.osi_watched.proofs.sessions.all_connections_stand.{AllStand, Leaves, Loses, all_after, like_same, other_after, own_after}
 use Rattle.osi_watched.proofs.sessions.connections_have_the_same_places.{unit_joins, unit_knows}
@@ -41,9 +39,6 @@ use Rattle.osi_watched.proofs.sessions.what_stands_of_a_connection.{stands_part}
 
 -- ---- small facts
 
-kept_of : (f : Finding) → IsClear f → IsNoBreak f → f ≡ Kept
-kept_of f h none = grind arith
-
 no_place : {A : Type 0} (i : ℕ) → Some i ≡ None → A
 no_place i e = absurd (cc)
 
@@ -52,10 +47,6 @@ same_place p i e = cc
 
 same_one : (c e : Connection) → Some c ≡ Some e → c ≡ e
 same_one c e h = cc
-
-stands_room : (d : Direction) (deeds : ℕ → Deeds) (known : Known) (put : List Value) (b : Bool) (c : Connection) (j : Joined) →
-    Stands d deeds known put b c j → j.room ≡ All
-stands_room d deeds known put b c j h = grind arith
 
 -- ---- a DT of either side has its place
 
@@ -115,7 +106,7 @@ own_dt d deeds known at end user rest s t a z kept = record {
         stands_part d deeds known v rest at end c (connection_after (way_of d) v true r c) j refl refl
         (both_named (other d) c j one right) (both_named d c j one right) live
         (ap (λ (x : Half). is_open x.phase) (own_after d v r c) ∙ live)
-        (named_added at end user (other d) d j (stands_room d deeds known (v ∷ rest) true c j h)) h
+        (named_added at end user (other d) d j (grind arith)) h
 
 -- ---- of the other side
 
@@ -153,7 +144,7 @@ other_dt d deeds known then_known at end user put b s t a z applied g = record {
         stands_other_part d deeds known then_known put b at end user c (connection_after (way_of (other d)) v true r c) j
         (both_named d c j one (ap (λ (y : Connection). is_open y.right.phase) same ∙ z.only.right))
         (ap (λ (y : Half). y.phase) (other_after d v true r c))
-        (named_added at end user (other d) (other d) j (stands_room d deeds known put b c j h))
+        (named_added at end user (other d) (other d) j (grind arith))
         (g.grows p j place at_j) h
 
 -- ---- what else may pass in class 0
@@ -169,12 +160,8 @@ Breaks (data0 end user) = ⊥
 Breaks (disconnected n source) = ⊥
 Breaks (error n cause) = ⊥
 
-pub routed_breaks : {A : Type 0} (d : Way) (b : Bool) (v : Value) (s : State) → Breaks v →
-    IsMild v (routed d v s (route_zero d b v)).told.finding → A
-routed_breaks d b v s h none = grind arith
-
 is_break : {A : Type 0} (e : Direction) (v : Value) (s : State) → IsZero e s → Breaks v → IsMild v (takes (way_of e) v s).told.finding → A
-is_break e v s z h mild = grind (arith, routed_breaks, zero_takes)
+is_break e v s z h mild = grind arith
 
 own_break : {A : Type 0} (e : Direction) (v : Value) (s : State) → IsZero e s → Breaks v → IsNoBreak (takes (way_of e) v s).told.finding → A
 own_break e v s z h none = is_break e v s z h (mild_of v (takes (way_of e) v s).told.finding none)
@@ -192,7 +179,7 @@ own_goes : (d : Direction) (deeds : ℕ → Deeds) (known : Known) (at : ℕ) (v
     IsZero d s → IsNoBreak (takes (way_of d) v s).told.finding → AllStand d deeds known (v ∷ rest) true s t →
     Leaves d deeds known known (v ∷ rest) rest true false d at v s t
 own_goes d deeds known at (data0 end user) rest s t z none a =
-    search (arith, own_dt, kept_of, dt_clear (way_of d) (data0 end user) end s refl z.goes z.firm a.judged)
+    search (arith, own_dt, dt_clear (way_of d) (data0 end user) end s refl z.goes z.firm a.judged)
 own_goes d deeds known at (disconnected n source) rest s t z none a = grind (arith, own_close)
 own_goes d deeds known at (error n cause) rest s t z none a = grind (arith, own_close)
 own_goes d deeds known at (request x) rest s t z none a = own_break d (request x) s z tt none

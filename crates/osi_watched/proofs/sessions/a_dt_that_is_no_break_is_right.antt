@@ -1,16 +1,12 @@
 -- A DT that breaks no rule is right, as long as its side and its connection are judged.
 -- For the law on places.
 use Rattle.std.proofs.Common.{arith}
-use Rattle.osi_watched.proofs.Vocabulary.{[], Bool, false, if◌then◌else◌, inl, inr, is_some, length, List, None, Option, refl, Some, subst}
-use Rattle.osi_watched.proofs.Vocabulary.{sym, true, ℕ, ◌∷◌, ◌≡◌, ◌⊎◌, AllByRecursion, slice_get, data0, data2, Value, unit_parts}
-use Rattle.osi_watched.proofs.Vocabulary.{Class, Two, Zero, data0_tests, data2_tests, first_failed, Test, at_found}
-use Rattle.osi_watched.proofs.Vocabulary.{at_place, found, is_stopped, none_told, route_in, routed, Traffic as State}
-use Rattle.osi_watched.proofs.Vocabulary.{in_doubt, takes, unnamed_by, uses_source, Connection, Rules}
-use Rattle.osi_watched.proofs.Vocabulary.{Way, Finding, Broke, Kept, NotJudged, Rule}
-use Rattle.osi_watched.proofs.Vocabulary.{Capture, Direction, user_of, marked, marks_of, moved, unread_mark, unread_moment, way_of}
-use Rattle.osi_watched.proofs.Vocabulary.{comes_to, Cause, no_item, AreJudged, still_judged, packet, unit}
-use Rattle.osi_watched.proofs.Vocabulary.{is_report}
-use Rattle.osi_watched.proofs.Vocabulary.{unnamed}
+use Rattle.osi_watched.proofs.Vocabulary.{[], Bool, false, if◌then◌else◌, inl, inr, is_some, List, None, Option, refl, Some, subst, sym}
+use Rattle.osi_watched.proofs.Vocabulary.{true, ℕ, ◌∷◌, ◌≡◌, ◌⊎◌, AllByRecursion, slice_get, data0, data2, Value, unit_parts, Class, Two}
+use Rattle.osi_watched.proofs.Vocabulary.{Zero, data0_tests, first_failed, Test, at_found, at_place, found, is_stopped, route_in, routed}
+use Rattle.osi_watched.proofs.Vocabulary.{Traffic as State, in_doubt, takes, unnamed_by, uses_source, Connection, Rules, Way, Finding}
+use Rattle.osi_watched.proofs.Vocabulary.{Broke, Kept, NotJudged, Rule, Capture, Direction, user_of, marked, marks_of, moved, unread_mark}
+use Rattle.osi_watched.proofs.Vocabulary.{unread_moment, way_of, comes_to, Cause, no_item, AreJudged, still_judged, packet, unit, is_report}
 use Rattle.osi_rules.specs.declared.directions.Direction.TheVariants as way
 use Rattle.osi_rules.specs.declared.findings.Rule.TheVariants as rule
 use Rattle.osi_rules.specs.Sides as sides
@@ -34,29 +30,13 @@ pub clear_tests : (ts : List Test) → AllByRecursion BreaksARule ts → IsClear
 clear_tests [] h = inl refl
 clear_tests (t ∷ ts) h = clear_by t.0 (first_failed ts) t.1 (clear_tests ts h.1) (inr h.0)
 
-two_clear : (d : Way) (c : Connection) (number octets : ℕ) → IsClear (first_failed (data2_tests d c number octets))
-two_clear d c number octets = clear_tests (data2_tests d c number octets) (
-  (rule.UnknownReference, refl),
-  (
-    (rule.Closed, refl),
-    (
-      (rule.OutOfSequence, refl),
-      ((rule.OutOfSequence, refl), ((rule.TsduTooLong, refl), ((rule.NoCredit, refl), ((rule.SizeExceeded, refl), tt)))),
-    ),
-  ),
-)
-
 zero_clear : (d : Way) (c : Connection) (octets : ℕ) → IsClear (first_failed (data0_tests d c octets))
 zero_clear d c octets = clear_tests (data0_tests d c octets) ((rule.TsduTooLong, refl), ((rule.SizeExceeded, refl), tt))
 
 pub found_two : (d : Way) (n number : ℕ) (end : Bool) (user : List ℕ) (course : Rules) (in_use : Bool) (c : Connection) →
     IsClear (found d course in_use c (data2 n number end user))
-found_two way.Left n number end user course in_use c = two_clear way.Left c number (length user)
-found_two way.Right n number end user course in_use c = two_clear way.Right c number (length user)
-
-found_zero : (d : Way) (end : Bool) (user : List ℕ) (course : Rules) (in_use : Bool) (c : Connection) →
-    IsClear (found d course in_use c (data0 end user))
-found_zero d end user course in_use c = grind (arith, zero_clear)
+found_two way.Left n number end user course in_use c = grind (arith, clear_tests)
+found_two way.Right n number end user course in_use c = grind (arith, clear_tests)
 
 -- ---- by its place
 
@@ -72,15 +52,12 @@ report_clear b f h k = grind arith
 module _ (d : Way) (v : Value) (s : State) (firm : s.course.loose ≡ false) (judged : AreJudged s)
     (plain : is_report (traffic.has_erred (sides.other d) s.course) v ≡ false) (nowhere : IsClear (unnamed_by s.course.strays v))
     (clear : (c : Connection) → IsClear (found d s.course (uses_source d s.connections v) c v)) where
-  nowhere_clear : IsClear (unnamed d s.course v)
-  nowhere_clear = grind (arith, report_clear, loose_clear)
-
   clear_one : (i : ℕ) (o : Option Connection) → slice_get s.connections i ≡ o → IsClear (at_found d v s i o).told.finding
-  clear_one i None e = nowhere_clear
+  clear_one i None e = grind (arith, report_clear, loose_clear)
   clear_one i (Some c) e = search (arith, judged_clear)
 
   pub clear_any : (o : Option ℕ) → IsClear (at_place d v s o).told.finding
-  clear_any o = grind (arith, nowhere_clear, clear_one)
+  clear_any o = grind (arith, clear_one)
 
 nowhere_two : (b : Bool) (n number : ℕ) (end : Bool) (user : List ℕ) → IsClear (unnamed_by b (data2 n number end user))
 nowhere_two b n number end user = grind arith
@@ -100,19 +77,15 @@ routed_two (Some Two) way.Right b n number end user s firm judged = search (arit
 
 routed_zero : (k : Option Class) (d : Way) (b : Bool) (end : Bool) (user : List ℕ) (s : State) → s.course.loose ≡ false → AreJudged s →
     IsClear (routed d (data0 end user) s (route_in k d b (data0 end user))).told.finding
-routed_zero (Some Zero) way.Left b end user s firm judged = search (arith, clear_any, nowhere_zero, found_zero)
-routed_zero (Some Zero) way.Right b end user s firm judged = search (arith, clear_any, nowhere_zero, found_zero)
+routed_zero (Some Zero) way.Left b end user s firm judged = search (arith, clear_any, nowhere_zero, zero_clear)
+routed_zero (Some Zero) way.Right b end user s firm judged = search (arith, clear_any, nowhere_zero, zero_clear)
 routed_zero _ way.Left b end user s firm judged = inr (rule.UnexpectedUnit, refl)
 routed_zero _ way.Right b end user s firm judged = inr (rule.UnexpectedUnit, refl)
 
-pub goes_clear : (b : Bool) (d : Way) (s : State) (o : traffic.Outcome) → b ≡ false → IsClear o.told.finding →
-    IsClear (if b then none_told d NotJudged s else o).told.finding
-goes_clear b d s o h k = grind arith
-
 pub dt_clear : (d : Way) (v : Value) (end : Bool) (s : State) → unit_parts v ≡ (end, user_of v) ∷ [] → is_stopped d s.course ≡ false →
     s.course.loose ≡ false → AreJudged s → IsClear (takes d v s).told.finding
-dt_clear d (data0 e user) end s parts goes firm judged = grind (arith, goes_clear, routed_zero)
-dt_clear d (data2 n number e user) end s parts goes firm judged = grind (arith, goes_clear, routed_two)
+dt_clear d (data0 e user) end s parts goes firm judged = grind (arith, routed_zero)
+dt_clear d (data2 n number e user) end s parts goes firm judged = grind (arith, routed_two)
 dt_clear d _ end s parts goes firm judged = absurd (cc)
 
 right_by : (f : Finding) → IsClear f → ((r : Rule) → f ≡ Broke r → ⊥) → f ≡ Kept

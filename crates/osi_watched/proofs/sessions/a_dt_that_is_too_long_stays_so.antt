@@ -94,9 +94,6 @@ breaks_too_long d end user s sure firm class goes seen unapplied q =
 
 -- ---- a packet begins
 
-begun_right : (e : Direction) (c : Connection) → (begins (way_of e) c).right ≡ c.right
-begun_right e c = grind arith
-
 begun_own : (d e : Direction) (c : Connection) → (own (way_of d) (begins (way_of e) c)).begun ≡ (own (way_of d) c).begun
 begun_own d e c = grind arith
 
@@ -108,17 +105,13 @@ connection_of d (z ∷ xs) (suc i) y h = connection_of d xs i y h
 
 pub begins_too_long : (d e : Direction) (user : List ℕ) (s : State) → IsOnly s → IsTooLong d user s →
     IsTooLong d user (traffic.packet_begins (way_of e) s)
-begins_too_long d e user s o long q = grind (arith, connection_of, same_item, eqb-true, begun_own, open_not_refused, begun_right, unlike)
+begins_too_long d e user s o long q = grind (arith, connection_of, same_item, eqb-true, begun_own, open_not_refused, unlike)
 
 -- ---- a DT of the end passes
 
 none_kept : (d : Direction) (k : Option Class) (b end : Bool) (user : List ℕ) (s : State) →
     (routed (way_of d) (data0 end user) s (route_in k (way_of d) b (data0 end user))).told.finding ≡ Kept → k ≡ Some Zero
 none_kept d k b end user s h = grind arith
-
-kept_zero : (d : Direction) (end : Bool) (user : List ℕ) (s : State) → is_stopped (way_of d) s.course ≡ false →
-    (takes (way_of d) (data0 end user) s).told.finding ≡ Kept → class_for (way_of d) s.course ≡ Some Zero
-kept_zero d end user s goes kept = grind (arith, none_kept)
 
 other_begun : (d : Direction) (v : Value) (b : Bool) (r : Reach) (c : Connection) →
     own (way_of (other d)) (connection_after (way_of d) v b r c) ≡ own (way_of (other d)) c
@@ -128,7 +121,7 @@ own_long : (d : Direction) (end : Bool) (mine user : List ℕ) (s : State) → I
     is_stopped (way_of d) s.course ≡ false → (takes (way_of d) (data0 end mine) s).told.finding ≡ Kept → IsTooLong d user s →
     IsTooLong d user (takes (way_of d) (data0 end mine) s).state
 own_long d end mine user s sure firm class goes kept long =
-    search (arith, dt_takes, after_change, other_begun, open_not_refused, only_of s sure firm class, kept_zero d end mine s goes kept)
+    search (arith, dt_takes, after_change, other_begun, open_not_refused, only_of s sure firm class)
 
 -- a unit of the end is a DT then
 pub own_is_dt : (local : Local) (d : Direction) (at : ℕ) (v : Value) (old new : Joint) → Steps d (passes_own at v) old new →

@@ -7,8 +7,6 @@ use Rattle.std.specs.Prelude.{◌&&◌, ◌||◌, ◌==◌, not, slice_get}
 use Rattle.std.proofs.lemmas.Bool.{eq-eqb}
 use Rattle.osi_tpdu.specs.Value.{Value, acknowledge, confirm, data0, data2, destination_of, disconnect, disconnected, error, request}
 use Rattle.osi_class.specs.Runs.{unit_parts}
-use Rattle.osi_class.specs.Tsdus.{Part}
-use Rattle.osi_class.specs.declared.terms.Class.{Class}
 use Rattle.osi_judge.specs.Captures.{Capture, other}
 use Rattle.osi_judge.specs.declared.directions.Direction.{Direction}
 use Rattle.osi_judge.specs.declared.directions.Direction.TheVariants.{Left, Right}
@@ -24,11 +22,10 @@ use Rattle.osi_rules.specs.declared.halves.Phase.{Phase}
 use Rattle.osi_rules.specs.declared.halves.Phase.TheVariants as phase
 use Rattle.osi_rules.specs.declared.routes.Route.{Route}
 use Rattle.osi_rules.specs.Reaches.{is_applied}
-use Rattle.osi_rules.specs.Rows.{Test, first_failed, fits_size, fits_tsdu, has_credit, is_tellable}
+use Rattle.osi_rules.specs.Rows.{Test, fits_size, fits_tsdu, has_credit, is_tellable}
 use Rattle.osi_rules.specs.Sides.{is_closed, is_closing, is_open, is_refused, is_silent, own, uses}
 use Rattle.osi_rules.specs.Sides as sides
-use Rattle.osi_rules.specs.Traffic.{Outcome, State, at_found, at_place, found, meant, none_told}
-use Rattle.osi_rules.specs.Traffic.{in_doubt, route_in, routed, takes, unnamed_by, uses_source}
+use Rattle.osi_rules.specs.Traffic.{Outcome, State, at_place, found, meant, none_told, in_doubt, routed, takes, unnamed_by, uses_source}
 use Rattle.osi_rules.specs.Traffic as traffic
 use Rattle.osi_fair.specs.Naming.{packet, unit}
 use Rattle.osi_fair.proofs.a_reference_names_one_connection.{fresh_apart, passes_apart}
@@ -41,7 +38,7 @@ use Rattle.osi_tap.specs.Connections.{Joined, reference_of, user_of}
 use Rattle.osi_tap.specs.Courses.{Course, marked, moved, packet_begins, unit_passes, unread_mark, unread_moment, way_of}
 use Rattle.osi_tap.specs.Tapping.{begin, comes_to}
 use Rattle.osi_watched.specs.ShownPlaces.{HaveSamePlaces, IsJoinedAt, IsOneOf, named_by}
-use Rattle.osi_watched.proofs.what_passes_keeps_a_claim.{IsClaim, after_kept}
+use Rattle.osi_watched.proofs.what_passes_keeps_a_claim.{after_kept}
 use Rattle.osi_watched.proofs.sessions.a_unit_is_joined_where_it_is_named.{joined_named}
 use Rattle.osi_watched.proofs.sessions.connections_have_the_same_places.{at_same, joined_there, marked_traffic, unit_knows}
 
@@ -64,54 +61,27 @@ judged_applied b f h = grind arith
 abbrev AddsTo : Value → Bool → Type 0
 AddsTo v end = meant v ≡ Adds end
 
-doubt_applied : (f : Finding) → is_applied (in_doubt f) ≡ true → is_applied f ≡ true
-doubt_applied f h = grind arith
-
-never_known : {A : Type 0} (strays : Bool) (v : Value) → is_applied (unnamed_by strays v) ≡ true → A
-never_known h h2 h3 = grind arith
-
 pub never_unnamed : {A : Type 0} (reports loose strays : Bool) (v : Value) →
     is_applied (if reports then NotJudged else (if loose then in_doubt (unnamed_by strays v) else unnamed_by strays v)) ≡ true → A
-never_unnamed h loose strays v h2 = grind (arith, never_known, doubt_applied)
+never_unnamed h loose strays v h2 = grind arith
 
 module _ (d : Way) (v : Value) (end : Bool) (s : State) (adds : AddsTo v end) where
-  placed_one : (i : ℕ) (o : Option Connection) → slice_get s.connections i ≡ o → is_applied (at_found d v s i o).told.finding ≡ true →
-      IsPlaced d v end s (at_found d v s i o)
-  placed_one i o e h = grind (arith, never_unnamed, judged_applied)
-
   placed_any : (o : Option ℕ) → is_applied (at_place d v s o).told.finding ≡ true → IsPlaced d v end s (at_place d v s o)
-  placed_any o h = grind (arith, never_unnamed, placed_one)
+  placed_any o h = search (arith, never_unnamed)
 
   stopped_or : (b : Bool) (r : Route) → (is_applied (routed d v s r).told.finding ≡ true → IsPlaced d v end s (routed d v s r)) →
       is_applied (if b then none_told d NotJudged s else routed d v s r).told.finding ≡ true →
       IsPlaced d v end s (if b then none_told d NotJudged s else routed d v s r)
   stopped_or b r f h = grind arith
 
--- in class 2
-two_routed : (k : Option Class) (d : Way) (b : Bool) (n number : ℕ) (end : Bool) (user : List ℕ) (s : State) →
-    is_applied (routed d (data2 n number end user) s (route_in k d b (data2 n number end user))).told.finding ≡ true →
-    IsPlaced d (data2 n number end user) end s (routed d (data2 n number end user) s (route_in k d b (data2 n number end user)))
-two_routed k d b n number end user s h = grind (arith, placed_any)
-
--- in class 0
-zero_routed : (k : Option Class) (d : Way) (b : Bool) (end : Bool) (user : List ℕ) (s : State) →
-    is_applied (routed d (data0 end user) s (route_in k d b (data0 end user))).told.finding ≡ true →
-    IsPlaced d (data0 end user) end s (routed d (data0 end user) s (route_in k d b (data0 end user)))
-zero_routed k d b end user s h = grind (arith, placed_any)
-
 pub two_placed : (d : Way) (n number : ℕ) (end : Bool) (user : List ℕ) (s : State) →
     is_applied (takes d (data2 n number end user) s).told.finding ≡ true →
     IsPlaced d (data2 n number end user) end s (takes d (data2 n number end user) s)
-two_placed d n number end user s h = grind (arith, stopped_or, two_routed)
+two_placed d n number end user s h = search (arith, stopped_or, placed_any)
 
 pub zero_placed : (d : Way) (end : Bool) (user : List ℕ) (s : State) → (takes d (data0 end user) s).told.finding ≡ Kept →
     IsPlaced d (data0 end user) end s (takes d (data0 end user) s)
-zero_placed d end user s h = grind (arith, stopped_or, zero_routed)
-
--- its sender has not closed the connection
-second_test : (a b : Bool) (more : List Test) →
-    is_applied (first_failed ((a, Broke rule.UnknownReference) ∷ (b, Broke rule.Closed) ∷ more)) ≡ true → b ≡ true
-second_test a b more h = grind arith
+zero_placed d end user s h = search (arith, stopped_or)
 
 abbrev tests_of_numbers : Way → Connection → (number octets : ℕ) → List Test
 tests_of_numbers d c number octets =
@@ -121,7 +91,7 @@ tests_of_numbers d c number octets =
 
 pub two_open : (d : Way) (n number : ℕ) (end : Bool) (user : List ℕ) (course : Rules) (in_use : Bool) (c : Connection) →
     is_applied (found d course in_use c (data2 n number end user)) ≡ true → is_open (own d c).phase ≡ true
-two_open d n number end user course in_use c h = grind (arith, second_test)
+two_open d n number end user course in_use c h = grind arith
 
 -- ---- it is joined there
 
@@ -131,18 +101,15 @@ joined_at : (d : Direction) (at : ℕ) (v : Value) (end : Bool) (c : Course) →
 joined_at d at v end c h p live =
     search (arith, joined_named, joined_there, at_same c.traffic.connections c.sessions.live p.place p.connection h p.there)
 
-first_part : (e end : Bool) (user : List ℕ) → ◌≡◌ {A = List Part} ((e, user) ∷ []) ((end, user) ∷ []) → e ≡ end
-first_part e end user h = grind arith
-
 pub dt_joined : (d : Direction) (at : ℕ) (v : Value) (end : Bool) (c : Course) → HaveSamePlaces c.traffic.connections c.sessions.live →
     unit_parts v ≡ (end, user_of v) ∷ [] → (takes (way_of d) v c.traffic).told.finding ≡ Kept → IsJoinedAt d at v end c
 dt_joined d at (data0 e user) end c h parts kept =
-    subst (λ (b : Bool). IsJoinedAt d at (data0 e user) b c) (first_part e end user parts)
+    subst (λ (b : Bool). IsJoinedAt d at (data0 e user) b c) (grind arith)
     (joined_at d at (data0 e user) e c h (zero_placed (way_of d) e user c.traffic kept) (λ n k. absurd (cc k)))
 dt_joined d at (data2 m number e user) end c h parts kept =
     let v = data2 m number e user in
     let p = two_placed (way_of d) m number e user c.traffic (ap is_applied kept) in
-    subst (λ (b : Bool). IsJoinedAt d at v b c) (first_part e end user parts)
+    subst (λ (b : Bool). IsJoinedAt d at v b c) (grind arith)
     (joined_at d at v e c h p (λ n k. two_open (way_of d) m number e user c.traffic.course
     (uses_source (way_of d) c.traffic.connections v) p.connection p.applied))
 dt_joined d at (request x) end c h parts kept = absurd (cc)
@@ -168,11 +135,8 @@ bad_by : (b : Bool) (d : Direction) (at : ℕ) (cause : Cause) (c : Course) → 
     (moved (unread_moment d at cause c.sessions) (record c { traffic = traffic.refused (way_of d) c.traffic })))
 bad_by b d at cause c h = grind (arith, marked_traffic, passes_apart)
 
-apart_claim : IsClaim Apart
-apart_claim = search (arith, apart_packet, apart_unit, bad_by)
-
 pub capture_apart : (capture : Capture) → Apart (comes_to capture).course
-capture_apart capture = after_kept Apart apart_claim capture begin fresh_apart
+capture_apart capture = after_kept Apart (search (arith, apart_packet, apart_unit, bad_by)) capture begin fresh_apart
 
 -- ---- a side that has not closed a connection leaves the reference of the other side in use
 
@@ -184,10 +148,6 @@ unlike p h = grind arith
 
 differ : {A : Type 0} (b : Bool) → b ≡ true → b ≡ false → A
 differ b h k = absurd (cc)
-
--- what was known of the other side is neither, if the other side is neither now
-known_not : (f : Phase → Bool) (known now : Phase) → (f known ≡ true → f now ≡ true) → f now ≡ false → f known ≡ false
-known_not f known now h k = not_so (f known) (λ e. differ (f now) (h e) k)
 
 over_not : (a b c g h i : Bool) → a ≡ false → b ≡ false → c ≡ false → h ≡ false → i ≡ false → (a || (b || (c || (g && (h || i))))) ≡ false
 over_not a b c g h i p q r s t = grind arith
@@ -207,8 +167,7 @@ same_number m n e = cc
 -- a side that has a connection open leaves the reference in use that the other side gave it
 pub still_used : (d : Direction) (n : ℕ) (c : Connection) (j : Joined) → IsOneOf c j → Sound c → is_open (own (way_of d) c).phase ≡ true →
     reference_of (other d) j ≡ Some n → uses (way_of (other d)) n c ≡ true
-still_used d n c j h sound live is =
-    grind (arith, given_of, unlike, used_so, over_not, known_not, not_so, differ, eq-eqb, asked_of, same_number)
+still_used d n c j h sound live is = grind (arith, given_of, unlike, used_so, over_not, not_so, differ, eq-eqb, asked_of, same_number)
 
 -- so two places that a side has open, and to which the other side gave this reference, are one
 pub one_place : (d : Direction) (n p q : ℕ) (c e : Connection) (j k : Joined) (cs : List Connection) → AreApart cs →
@@ -242,13 +201,10 @@ judged_apart Right cs apart judged = record {
 pub named_apart : (d : Direction) (cs : List Connection) → AreApart cs → AreNamedApart (way_of (other d)) cs → AreUsedApart d cs
 named_apart d cs apart named = record { sound = each_sound (way_of (other d)) cs apart named; used = λ n. named.used n }
 
-lost_uses : (j over silent same : Bool) → j ≡ false → silent ≡ false → same ≡ true → (not (j && over) && (not silent && same)) ≡ true
-lost_uses j over silent same a b c = grind arith
-
 -- a lost connection leaves the references in use that it has
 lost_used : (d : Direction) (n : ℕ) (c : Connection) (j : Joined) → IsOneOf c j → c.is_judged ≡ false →
     reference_of (other d) j ≡ Some n → uses (way_of (other d)) n c ≡ true
-lost_used d n c j h lost is = grind (arith, given_of, lost_uses, eq-eqb, asked_of, same_number)
+lost_used d n c j h lost is = grind (arith, given_of, eq-eqb, asked_of, same_number)
 
 module _ (d : Direction) (n p q : ℕ) (c e : Connection) (j k : Joined) (cs : List Connection) (apart : AreUsedApart d cs)
     (there : slice_get cs p ≡ Some c) (here : slice_get cs q ≡ Some e) (one : IsOneOf c j) (another : IsOneOf e k)

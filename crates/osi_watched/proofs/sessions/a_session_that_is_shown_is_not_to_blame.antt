@@ -20,7 +20,6 @@ use Rattle.osi_honest.specs.Courses.Gone.{over}
 use Rattle.osi_honest.specs.Talking.{Said, told_of}
 use Rattle.osi_honest.proofs.courses.what_was_said_is_explained.{units_put}
 use Rattle.osi_tap.specs.Lines as lines
-use Rattle.osi_fair.proofs.small_facts_that_many_lemmas_use.{and_false}
 
 -- ---- what was said is a run of a session, also if more was heard than it took
 
@@ -140,12 +139,9 @@ module _ (d : Direction) (r : ℕ) (deeds : Deeds) (e : End) (j : Joined) (cours
 pub not_both : (b : Bool) → b ≡ true → b ≡ false → ⊥
 not_both b h k = grind arith
 
-not_outside : (us : List (List ℕ)) (told : List Told) → AllInside (first_asked us) told → selects_outside us told ≡ false
-not_outside us h a = grind (arith, and_false)
-
 front_outside : (us : List (List ℕ)) (told : List Told) (i : ℕ) → AllInside (first_asked us) told
     → selects_outside us (take i told) ≡ true → ⊥
-front_outside us told i a s = grind (arith, not_both, not_outside, front_inside, first_asked, take-append-drop)
+front_outside us told i a s = grind (arith, not_both, front_inside, first_asked, take-append-drop)
 
 not_broken : (begin : Seen) (us : List (List ℕ)) (told : List Told) (i : ℕ) → IsExplained begin us told →
     (IsExplained begin us (take (i + 1) told) → ⊥) → ⊥

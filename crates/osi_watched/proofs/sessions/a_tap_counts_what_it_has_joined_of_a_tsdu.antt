@@ -7,9 +7,8 @@ use Rattle.std.proofs.lemmas.Bool.{leb-true}
 use Rattle.std.proofs.lemmas.List.{length-append}
 use Rattle.std.proofs.lemmas.Option.{slice_get_within}
 use Rattle.std.specs.Prelude.{set, slice_get}
-use Rattle.osi_tpdu.specs.Value.{Connect, Value, acknowledge, confirm, data0, data2, disconnect, disconnected, error, request}
+use Rattle.osi_tpdu.specs.Value.{Value, acknowledge, confirm, data0, data2, disconnect, disconnected, error, request}
 use Rattle.osi_class.specs.Limits.{longest_tsdu}
-use Rattle.osi_class.specs.declared.terms.Class.{Class}
 use Rattle.osi_judge.specs.Captures.{other}
 use Rattle.osi_judge.specs.declared.directions.Direction.{Direction}
 use Rattle.osi_judge.specs.declared.directions.Direction.TheVariants.{Left}
@@ -24,8 +23,8 @@ use Rattle.osi_rules.specs.Reaches.{is_applied}
 use Rattle.osi_rules.specs.Rows.{Test, first_failed}
 use Rattle.osi_rules.specs.Sides.{begins, own}
 use Rattle.osi_rules.specs.Traffic as traffic
-use Rattle.osi_rules.specs.Traffic.{State, asked_by, begun_after, closing_phase, connection_after, found_on, half_after, judged_on}
-use Rattle.osi_rules.specs.Traffic.{meaning_if, meant, takes}
+use Rattle.osi_rules.specs.Traffic.{State, asked_by, begun_after, closing_phase, connection_after, found_on, half_after, meaning_if, meant}
+use Rattle.osi_rules.specs.Traffic.{takes}
 use Rattle.osi_fair.proofs.what_holds_of_one_item.{after_add}
 use Rattle.osi_fair.proofs.while_no_class_is_selected.{after_change}
 use Rattle.osi_tap.specs.declared.rooms.Room.TheVariants.{All}
@@ -62,18 +61,10 @@ le_so m n h = leb-true m n h
 first_fits : (fits : Bool) (more : List Test) → is_applied (first_failed ((fits, Broke rule.TsduTooLong) ∷ more)) ≡ true → fits ≡ true
 first_fits fits more h = grind arith
 
-open_fits : (a b x y fits : Bool) (more : List Test) →
-    is_applied (first_failed ((a, Broke rule.UnknownReference) ∷ (b, Broke rule.Closed) ∷ (x, Broke rule.OutOfSequence)
-    ∷ (y, Broke rule.OutOfSequence) ∷ (fits, Broke rule.TsduTooLong) ∷ more)) ≡ true → fits ≡ true
-open_fits a b x y fits more h = grind (arith, first_fits)
-
 judged_applied : (b : Bool) (f : Finding) → is_applied (if b then f else NotJudged) ≡ true → is_applied f ≡ true
 judged_applied b f h = grind arith
 
 -- ---- one connection
-
-judged_own : (d : Direction) (r : Reach) (c : Connection) → own (way_of d) (judged_on r c) ≡ own (way_of d) c
-judged_own d r c = grind arith
 
 closing_begun : (b : Bool) (half : Half) → (closing_phase b half).begun ≡ half.begun
 closing_begun b half = grind arith
@@ -131,26 +122,22 @@ shut_same : (d : Direction) (at : ℕ) (v : Value) (r : Reach) (c : Connection) 
     Same d at v r c j h (joined.shut j)
 shut_same d at v r c j h = grind arith
 
-opened_same : (d : Direction) (at : ℕ) (v : Value) (r : Reach) (c : Connection) (j : Joined) (h : IsCounted c j) (n : ℕ) (k : Class) →
-    Same d at v r c j h (joined.opened n k j)
-opened_same d at v r c j h n k = grind arith
-
 found_data0 : (d : Direction) (s : State) (c : Connection) (end : Bool) (user : List ℕ) →
     is_applied (found_on (way_of d) s c (data0 end user)) ≡ true → (own (way_of d) c).begun + length user ≤ longest_tsdu
 found_data0 d s c end user h = grind (arith, le_so, first_fits, judged_applied)
 
 found_data2 : (d : Direction) (s : State) (c : Connection) (n number : ℕ) (end : Bool) (user : List ℕ) →
     is_applied (found_on (way_of d) s c (data2 n number end user)) ≡ true → (own (way_of d) c).begun + length user ≤ longest_tsdu
-found_data2 d s c n number end user h = grind (arith, le_so, open_fits, judged_applied)
+found_data2 d s c n number end user h = grind (arith, le_so, judged_applied)
 
 counted_after : (d : Direction) (at : ℕ) (v : Value) (s : State) (b : Bool) (r : Reach) (c : Connection) (j : Joined) →
     is_applied (found_on (way_of d) s c v) ≡ b → IsCounted c j →
     IsCounted (connection_after (way_of d) v b r c) (joined.meant d at v (meaning_if b (meant v)) j)
-counted_after d at v s false r c j is h = grind (arith, stays, none_same, judged_own)
+counted_after d at v s false r c j is h = grind (arith, stays, none_same)
 counted_after d at (request x) s true r c j is h = applied_same d at (request x) r c j h j (none_same d at (request x) r c j h) refl
 counted_after d at (confirm n x) s true r c j is h =
     applied_same d at (confirm n x) r c j h _
-    (opened_same d at (confirm n x) r c j h (joined.source_of (confirm n x)) (joined.class_of (confirm n x))) refl
+    (grind arith) refl
 counted_after d at (disconnect n source reason user) s true r c j is h =
     search (arith, applied_same, closing_begun, shut_same d at (disconnect n source reason user) r c j h)
 counted_after d at (disconnected n source) s true r c j is h = search (arith, applied_same, none_same)
@@ -187,9 +174,6 @@ module _ (d : Direction) (at : ℕ) (v : Value) (s : State) (t : Sessions) (a : 
       by (inr so) (inl (n, same)) = absurd (let near = slice_get_within s.connections i x so in omega (arith, near, n, long))
       by (inr so) (inr same) = a.each i x y so same
 
-  asked_counted : (x : Connect) (number : ℕ) → IsCounted (asked_by x) (asked number x.source t.room)
-  asked_counted x number = grind arith
-
   abbrev then_places : HaveSamePlaces (takes (way_of d) v s).state.connections
       (taken d at v (takes (way_of d) v s).told.meaning (takes (way_of d) v s).told.place t).live
   then_places = unit_places d at v s t a.places
@@ -209,7 +193,7 @@ module _ (d : Direction) (at : ℕ) (v : Value) (s : State) (t : Sessions) (a : 
   unit_counts (asks_more x request_is number same left) = record {
     places = then_places;
     each = λ i y z there here.
-        at_end (asked_by x) (asked number x.source t.room) (asked_counted x number) i y z
+        at_end (asked_by x) (asked number x.source t.room) (grind arith) i y z
         (ap (λ (l : List Connection). slice_get l i) (sym same) ∙ there)
         (ap (λ (w : Sessions). slice_get w.live i) (sym left) ∙ here);
     room = ap (λ (x : Sessions). x.room) left ∙ a.room;
@@ -217,7 +201,7 @@ module _ (d : Direction) (at : ℕ) (v : Value) (s : State) (t : Sessions) (a : 
   unit_counts (asks_again x request_is number p j was free same left) = record {
     places = then_places;
     each = λ i y z there here.
-        at_change p (asked_by x) (asked number x.source t.room) (asked_counted x number) i y z
+        at_change p (asked_by x) (asked number x.source t.room) (grind arith) i y z
         (ap (λ (l : List Connection). slice_get l i) (sym same) ∙ there)
         (ap (λ (w : Sessions). slice_get w.live i) (sym left) ∙ here);
     room = ap (λ (x : Sessions). x.room) left ∙ a.room;
@@ -227,9 +211,6 @@ module _ (d : Direction) (at : ℕ) (v : Value) (s : State) (t : Sessions) (a : 
 
 abbrev pub Counted : Course → Type 0
 Counted c = AreCounted c.traffic c.sessions
-
-counted_begun : (d : Direction) (c : Connection) (j : Joined) → IsCounted c j → IsCounted (begins (way_of d) c) (packet_begins d j)
-counted_begun d c j h = grind arith
 
 unread_counts : (b : Bool) (d : Direction) (at : ℕ) (k : Cause) (c : Course) → Counted c → Counted (unread_if b d at k c)
 unread_counts b d at k c h = search (arith, refuses, refused_traffic, marked_leaves)
@@ -242,7 +223,7 @@ counted_claim = record {
         let (z, z_at, z_is) = connection_of d c.traffic.connections i x there in
         let (k, k_at, k_is) = map_of (packet_begins d) c.sessions.live i y here in
         subst (λ (w : Connection). IsCounted w y) (sym z_is)
-        (subst (IsCounted (begins (way_of d) z)) (sym k_is) (counted_begun d z k (h.each i z k z_at k_at)));
+        (subst (IsCounted (begins (way_of d) z)) (sym k_is) (grind arith));
     room = h.room;
   };
   passes = λ d at v c h.

@@ -30,7 +30,6 @@ use Rattle.osi_honest.proofs.courses.how_long_a_connection_is_open.{Life, early,
 use Rattle.osi_honest.proofs.courses.units_of_each_connection.{all_units_more, none_mark}
 use Rattle.osi_honest.proofs.courses.what_calls_of_a_link_say.{taken_more}
 use Rattle.osi_honest.proofs.reading.what_is_written_is_read_again.{CanBeWritten}
-use Rattle.osi_tap.specs.Connections.{reference_of}
 use Rattle.osi_tap.specs.Courses.{Course as Passed}
 use Rattle.osi_watched.specs.Joint.{Joint, TakesTurn, turns}
 use Rattle.osi_watched.specs.Shown.{parts_of}
@@ -43,7 +42,6 @@ use Rattle.osi_watched.proofs.sessions.a_called_end_stands_in_class_0.{WasOpen, 
 use Rattle.osi_watched.proofs.sessions.a_called_end_stands_in_class_0.{open_so, opens_now, put_so}
 use Rattle.osi_watched.proofs.sessions.a_called_end_stands_until_its_cc_of_class_0_passes.{StandsAnswering, asking_none}
 use Rattle.osi_watched.proofs.sessions.a_turn_does_what_its_deeds_say.{turn_leaves, turn_uses}
-use Rattle.osi_watched.proofs.sessions.a_turn_leaves_all_standing.{Turns}
 use Rattle.osi_watched.proofs.sessions.a_turn_of_a_calling_end_until_class_2.{dt_so, each_of, early_lasts}
 use Rattle.osi_watched.proofs.sessions.each_step_leaves_class_0_one_connection.{Sure}
 use Rattle.osi_watched.proofs.sessions.each_unit_of_a_calling_end_has_a_home.{IsWrittenAs, written_as}
@@ -211,14 +209,6 @@ module _ (local : Local) (proper : AllProper) (turn : Turn) (old new : Joint) (t
         (λ live. sym (ap parts_of (asking_none x.source coming asking))) in
         none_taken (deeds x.source) (on.more x.source) unheard (none_first (parts_in (on.more x.source).calls) k.rest k.first)
 
-    turns_so : Turns Right on.more (known_one x.source end coming) (known_one x.source then_end then_coming) t.units s old.course.sessions
-    turns_so = record {
-      puts = λ i c j q there here mine live. none_named (reference_of Right j) q mine ((e.uncalled class).live i j here);
-      takes = λ q one later known.
-          let k = turn_takes false turn old new t deeds on q known.1 (life q known.1) (calm q) later known.2 in
-          record { rest = k.rest; first = k.first; sure = (known.0, known.1, k.sure) };
-    }
-
     then_class : new.course.traffic.course.class ≡ None
     then_class = ap (λ (c : Passed). c.traffic.course.class) t.course ∙ class
 
@@ -236,7 +226,7 @@ module _ (local : Local) (proper : AllProper) (turn : Turn) (old new : Joint) (t
       early_is = record {
         sure = subst Sure (sym t.course) e.sure;
         all = (step_turns Right deeds (known_one x.source end coming) turn on.more (known_one x.source then_end then_coming) old new t some
-            turns_so (record { all = e.all })).all;
+            (grind (arith, none_named, turn_takes, calm, first)) (record { all = e.all })).all;
         uncalled = subst UncalledUntil (sym t.course) e.uncalled;
         asking = λ none. all_back IsAsking (units_in t.used) then_coming
             (subst (AllByRecursion IsAsking) (turn_leaves turn old new t) asking);
@@ -265,16 +255,13 @@ module _ (local : Local) (proper : AllProper) (turn : Turn) (old new : Joint) (t
     then_put : new.put ≡ confirm h.n h.x ∷ (h.rest ++ all_units on.put)
     then_put = turn_put ∙ ap (λ (l : List Value). l ++ all_units on.put) h.put
 
-    firm_then : IsFirm new.course.traffic.course
-    firm_then = subst (λ (c : Passed). IsFirm c.traffic.course) (sym t.course) sure
-
     same_early : StandsCalledEarly deeds h.x.source end old.put old.begun coming new.course
     same_early = subst (StandsCalledEarly deeds h.x.source end old.put old.begun coming) (sym t.course) e
 
     dts : AllByRecursion (IsWrittenAs IsDt0) (h.rest ++ all_units on.put)
     dts =
         dts_after local new f h.n h.x (h.rest ++ all_units on.put) then_put
-        (selects local new f h.n h.x (h.rest ++ all_units on.put) then_put then_can firm_then
+        (selects local new f h.n h.x (h.rest ++ all_units on.put) then_put then_can (grind arith)
         (ap (λ (c : Passed). c.traffic.course.class) t.course ∙ h.class) deeds h.x.source end old.put old.begun coming same_early h.not_two)
 
     -- no other CC is put

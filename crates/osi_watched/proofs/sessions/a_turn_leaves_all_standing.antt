@@ -1,17 +1,14 @@
 -- A turn of an end leaves all its connections standing at a tap; and while they stand, no session of the end is to blame.
 -- For the session of each connection of an end.
 use Rattle.std.proofs.Common.{arith}
-use Rattle.osi_watched.proofs.Vocabulary.{[], Bool, false, List, refl, Some, true, ℕ, ◌++◌, ◌≡◌, slice_get, Value, Part, End}
-use Rattle.osi_watched.proofs.Vocabulary.{is_open}
-use Rattle.osi_watched.proofs.Vocabulary.{own, Traffic as State, Connection, AsSent, AsParts, CalledLaw, CallerLaw, other}
-use Rattle.osi_watched.proofs.Vocabulary.{Direction, Deeds, then_did, IsToBlame, Joined, reference_of, Sessions, spoken, way_of}
-use Rattle.osi_watched.proofs.Vocabulary.{calls_from, IsShownNow}
+use Rattle.osi_watched.proofs.Vocabulary.{[], Bool, false, List, refl, Some, true, ℕ, ◌++◌, ◌≡◌, slice_get, Value, Part, End, is_open, own}
+use Rattle.osi_watched.proofs.Vocabulary.{Traffic as State, Connection, AsSent, AsParts, CalledLaw, CallerLaw, other, Direction, Deeds}
+use Rattle.osi_watched.proofs.Vocabulary.{then_did, IsToBlame, Joined, reference_of, Sessions, way_of, calls_from, IsShownNow}
 use Rattle.osi_honest.specs.Courses.{Course}
 use Rattle.osi_watched.proofs.sessions.a_session_that_is_shown_is_not_to_blame.{none_broken, not_both, not_to_blame}
 use Rattle.osi_watched.proofs.sessions.all_connections_stand.{AllStand, Rests, quiet, rests, there_too}
 use Rattle.osi_watched.proofs.sessions.what_a_tap_shows_goes_on.{end_turns}
-use Rattle.osi_watched.proofs.sessions.what_stands_of_a_connection.{IsUnsaid, Known, Stands, Takes, lives, past, stands_turns, unnamed}
-use Rattle.osi_watched.proofs.sessions.what_stands_of_a_connection.{waiting_for}
+use Rattle.osi_watched.proofs.sessions.what_stands_of_a_connection.{Known, Stands, Takes, lives, past, stands_turns, unnamed, waiting_for}
 
 -- a connection that is judged has this reference, or one that is done
 pub data IsOfOne (d : Direction) (r : ℕ) (s : State) (t : Sessions) : Type 0 where
@@ -60,16 +57,13 @@ module _ (known_of : AsSent) (parts : AsParts) (caller : CallerLaw) (called : Ca
       IsShownNow d r (deeds r) waiting later x j → IsToBlame d j → ⊥
   shown_so r waiting later x j h blame = not_to_blame known_of parts caller called d r (deeds r) e j (courses r) h.shown blame
 
-  unsaid_so : (j : Joined) → IsUnsaid (spoken d j) → IsToBlame d j → ⊥
-  unsaid_so j u blame = grind (arith, not_both, none_broken)
-
   pub stands_blameless : (c : Connection) (j : Joined) → Stands d deeds known put b c j → IsToBlame d j → ⊥
-  stands_blameless c j (unnamed none mine theirs room) blame = unsaid_so j mine blame
+  stands_blameless c j (unnamed none mine theirs room) blame = grind (arith, not_both, none_broken)
   stands_blameless c j (lives r o is live later sure h) blame = shown_so r _ later _ j h blame
   stands_blameless c j (past r closed waiting later sure h) blame = shown_so r waiting later false j h blame
 
   pub rests_blameless : (j : Joined) → Rests d deeds known j → IsToBlame d j → ⊥
-  rests_blameless j (quiet none mine theirs) blame = unsaid_so j mine blame
+  rests_blameless j (quiet none mine theirs) blame = grind (arith, not_both, none_broken)
   rests_blameless j (rests r waiting later sure h) blame = shown_so r waiting later false j h blame
 
   either_blameless : (s : State) (t : Sessions) → AllStand d deeds known put b s t → (i : ℕ) (c : Connection) (j : Joined) →

@@ -5,8 +5,7 @@ use Rattle.std.proofs.Common.{None, arith, is_some, append_assoc, inl, inr, ◌�
 use Rattle.std.specs.Prelude.{◌&&◌, ◌==◌, nat_le, nat_lt, slice_get}
 use Rattle.std.specs.List.{AllByRecursion}
 use Rattle.std.proofs.lemmas.Bool.{eq-eqb, eqb-true, le-leb, lt-ltb}
-use Rattle.osi_tpdu.specs.Value.{Connect, Value, confirm, data0}
-use Rattle.osi_tpdu.specs.Writing.{written}
+use Rattle.osi_tpdu.specs.Value.{Connect, Value, confirm}
 use Rattle.osi_class.specs.declared.terms.Class.{Class}
 use Rattle.osi_class.specs.declared.terms.Class.TheVariants.{Two, Zero}
 use Rattle.osi_class.specs.declared.terms.Local.{Local}
@@ -44,7 +43,7 @@ use Rattle.osi_watched.proofs.sessions.all_connections_stand.{one_at}
 use Rattle.osi_watched.proofs.sessions.class_0_keeps_its_one_place.{HasOne, still_gone}
 use Rattle.osi_watched.proofs.sessions.each_cr_that_passes_gives_a_new_reference.{AreUpTo, GoesOn, IsWithin, turns_ahead}
 use Rattle.osi_watched.proofs.sessions.each_step_leaves_class_0_one_connection.{Sure, is_zero}
-use Rattle.osi_watched.proofs.sessions.each_unit_of_a_calling_end_has_a_home.{IsWrittenAs, first as first_octet, not_two, written_as}
+use Rattle.osi_watched.proofs.sessions.each_unit_of_a_calling_end_has_a_home.{IsWrittenAs, not_two, written_as}
 use Rattle.osi_watched.proofs.sessions.nothing_is_done_before_a_cr_passes.{IsNotCc, same_units, turn_undone}
 use Rattle.osi_watched.proofs.sessions.references_of_an_end_are_distinct.{AreDistinct}
 use Rattle.osi_watched.proofs.sessions.steps_leave_all_standing.{step_turns}
@@ -58,9 +57,6 @@ use Rattle.osi_watched.proofs.sessions.what_the_stage_of_a_calling_end_says.{IsD
 
 -- ---- small facts
 
-early_past : {A : Type 0} (s : Time) → s ≡ early → s ≡ past → A
-early_past s e h = absurd (cc (sym e ∙ h))
-
 pub early_amid : {A : Type 0} (s : Time) (peer : ℕ) → s ≡ early → s ≡ amid peer → A
 early_amid s peer e h = absurd (cc (sym e ∙ h))
 
@@ -71,7 +67,7 @@ differ : {A : Type 0} (b : Bool) → b ≡ true → b ≡ false → A
 differ b h k = absurd (cc)
 
 pub early_lasts : (r : ℕ) (c : Carrier) → stage_at r c ≡ early → c.ended ≡ None
-early_lasts r c may = grind (arith, early_past, stage_at, stage_over)
+early_lasts r c may = grind (arith, stage_at, stage_over)
 
 given_so : (r : ℕ) (c : Carrier) → 0 < r → r ≤ c.given → has_given r c ≡ true
 given_so r c some up = ap (λ (b : Bool). b && nat_le r c.given) (lt-ltb 0 r some) ∙ le-leb r c.given up
@@ -126,10 +122,10 @@ open_so q peer (amid m) t took put w e = open_before m refl
 open_so q peer past t took put w e = past_amid t peer w.is e
 
 still_past : (q : ℕ) (s t : Time) (took put : List Marked) → s ≡ past → Life true q s took put t → t ≡ past
-still_past q s t took put e w = grind (arith, early_past, past_amid)
+still_past q s t took put e w = grind (arith, past_amid)
 
 past_apart : (q : ℕ) (s t : Time) (took put : List Marked) → s ≡ past → Life true q s took put t → AreApart q put
-past_apart q s t took put e w = grind (arith, early_past, past_amid)
+past_apart q s t took put e w = grind (arith, past_amid)
 
 -- ---- units
 
@@ -137,13 +133,8 @@ quiet_no_cc : (r : ℕ) (vs : List Value) → AllByRecursion IsQuiet vs → AllB
 quiet_no_cc r [] h = tt
 quiet_no_cc r (v ∷ vs) h = ((λ x is. absurd (subst IsQuiet is h.0)), quiet_no_cc r vs h.1)
 
--- a unit of a link that is written as a DT of class 0 is one
-written_dt : (end : Bool) (user : List ℕ) (v : Value) (o : Option ℕ) → is_of_link v ≡ true → written (data0 end user) ≡ written v →
-    is_for o v ≡ is_some o
-written_dt end user v o link e = grind (arith, not_two, first_octet)
-
 pub dt_so : (v : Value) → is_of_link v ≡ true → IsWrittenAs IsDt0 v → (o : Option ℕ) → is_for o v ≡ is_some o
-dt_so v link w o = grind (arith, is_for, written_dt)
+dt_so v link w o = grind (arith, is_for)
 
 none_is_for : (o : Option ℕ) (v : Value) → is_some o ≡ false → is_for o v ≡ false
 none_is_for o v h = grind arith
@@ -346,9 +337,6 @@ module _ (local : Local) (proper : AllProper) (turn : Turn) (old new : Joint) (t
 
   -- ---- so all stand after it
 
-  class_same : new.course.traffic.course.class ≡ s.course.class
-  class_same = ap (λ (c : Passed). c.traffic.course.class) t.course
-
   puts_by : (k : Option Class) → s.course.class ≡ k → (i : ℕ) (c : Connection) (j : Joined) (r : ℕ) → slice_get s.connections i ≡ Some c →
       slice_get old.course.sessions.live i ≡ Some j → reference_of Left j ≡ Some r → is_open c.left.phase ≡ true →
       (on.more r).put ≡ waiting_for (reference_of Right j) t.units
@@ -380,8 +368,8 @@ module _ (local : Local) (proper : AllProper) (turn : Turn) (old new : Joint) (t
     distinct = subst (λ (c : Passed). AreDistinct Left c.sessions) (sym t.course) h.early.distinct;
     below = subst (λ (c : Passed). AreUpTo Left b c.sessions) (sym t.course) h.early.below;
     quiet = λ class. all_back IsQuiet (units_in t.used) then_coming
-        (subst (AllByRecursion IsQuiet) (turn_leaves turn old new t) (h.early.quiet (sym class_same ∙ class)));
-    zero = λ class. then_zero (sym class_same ∙ class);
+        (subst (AllByRecursion IsQuiet) (turn_leaves turn old new t) (h.early.quiet (sym (grind arith) ∙ class)));
+    zero = λ class. then_zero (sym (grind arith) ∙ class);
   }
 
   pub turns_early : StandsUntilTwo local then_deeds new
@@ -390,8 +378,8 @@ module _ (local : Local) (proper : AllProper) (turn : Turn) (old new : Joint) (t
     early = early_higher then_deeds b g.ahead.bound then_end new.put new.begun then_coming new.course g.rises g.ahead.below now;
     undone = λ class.
         undone_higher b g.ahead.bound then_deeds then_end g.rises
-        (turn_undone b turn old new t deeds on life (λ lasts r less may. quiet_no_cc r coming (h.early.quiet (sym class_same ∙ class)))
-        (h.undone (sym class_same ∙ class)));
-    shut = λ class q peer some is. never_open (sym class_same ∙ class) q some (then_open q peer some is);
+        (turn_undone b turn old new t deeds on life (λ lasts r less may. quiet_no_cc r coming (h.early.quiet (sym (grind arith) ∙ class)))
+        (h.undone (sym (grind arith) ∙ class)));
+    shut = λ class q peer some is. never_open (sym (grind arith) ∙ class) q some (then_open q peer some is);
     some = λ begun none. h.some (sym t.begun ∙ begun) (none_first old.put t.units (sym t.put ∙ none));
   }

@@ -2,17 +2,14 @@
 -- unit but a second DR is found so.
 -- For the sessions of an end after such a unit of the other side.
 use Rattle.std.proofs.Common.{arith}
-use Rattle.osi_watched.proofs.Vocabulary.{[], Bool, false, if◌then◌else◌, List, None, not, Option, refl, Some, sym, true, ℕ, ◌&&◌, ◌∙◌}
-use Rattle.osi_watched.proofs.Vocabulary.{◌∷◌, ◌≡◌, ◌||◌, AllByRecursion, slice_get, acknowledge}
-use Rattle.osi_watched.proofs.Vocabulary.{confirm, Connect, data0, data2, disconnect, disconnected, error, request, Value, Class, Two}
-use Rattle.osi_watched.proofs.Vocabulary.{first_failed, Test, is_closed, is_closing}
-use Rattle.osi_watched.proofs.Vocabulary.{is_named, is_open, is_refused, is_silent, own, asks_by, asks_of}
-use Rattle.osi_watched.proofs.Vocabulary.{at_found, at_place, class_for, found, found_on, none_told, Outcome}
-use Rattle.osi_watched.proofs.Vocabulary.{route_in, routed, takes, uses_source, unnamed_by, Traffic as State, Connection, Rules}
-use Rattle.osi_watched.proofs.Vocabulary.{Way, Finding, Broke, NotJudged, Phase, Closed, Route}
-use Rattle.osi_watched.proofs.Vocabulary.{Asks, Named, Only, Unnamed, other, Direction, Joined, reference_of, way_of, HaveSamePlaces}
-use Rattle.osi_watched.proofs.Vocabulary.{IsOneOf, is_report}
-use Rattle.osi_rules.specs.Rows.{confirm_tests, given_again}
+use Rattle.osi_watched.proofs.Vocabulary.{[], Bool, false, if◌then◌else◌, List, None, not, Option, refl, Some, sym, true, ℕ, ◌∙◌, ◌∷◌, ◌≡◌}
+use Rattle.osi_watched.proofs.Vocabulary.{AllByRecursion, slice_get, acknowledge, confirm, Connect, data0, data2, disconnect, disconnected}
+use Rattle.osi_watched.proofs.Vocabulary.{error, request, Value, Class, Two, first_failed, Test, is_closed, is_closing, is_named, is_open}
+use Rattle.osi_watched.proofs.Vocabulary.{is_refused, is_silent, own, asks_of, at_found, class_for, found, found_on, Outcome, route_in}
+use Rattle.osi_watched.proofs.Vocabulary.{routed, takes, uses_source, unnamed_by, Traffic as State, Connection, Rules, Way, Finding, Broke}
+use Rattle.osi_watched.proofs.Vocabulary.{NotJudged, Phase, Closed, Route, Asks, Named, Only, Unnamed, other, Direction, Joined}
+use Rattle.osi_watched.proofs.Vocabulary.{reference_of, way_of, HaveSamePlaces, IsOneOf, is_report}
+use Rattle.osi_rules.specs.Rows.{confirm_tests}
 use Rattle.osi_rules.specs.Traffic.{in_doubt}
 use Rattle.osi_rules.specs.Sides as sides
 use Rattle.osi_rules.specs.Traffic as traffic
@@ -41,20 +38,12 @@ first_other : (tests : List Test) → AreOthers tests → IsFound (first_failed 
 first_other [] all h = cc
 first_other (t ∷ tests) all h = first_by t.0 (first_failed tests) t.1 (first_other tests all.1) all.0 h
 
--- the second of the tests of a DT or an AK
-second_found : (a b : Bool) (more : List Test) → AreOthers more →
-    IsFound (first_failed ((a, Broke rule.UnknownReference) ∷ (b, Broke rule.Closed) ∷ more)) → (a ≡ true) × (b ≡ false)
-second_found a b more others h = grind (arith, first_other)
-
 -- ---- of which units it is found
 
 -- a DT, an AK or a DR
 pub data MayFollow (v : Value) : Type 0 where
   a_link : (n : ℕ) → IsLink v n → MayFollow v
   a_dr : IsDr v → MayFollow v
-
-given_not : (loose : Bool) → IsFound (given_again loose) → ⊥
-given_not loose h = grind arith
 
 found_follows : (d : Way) (course : Rules) (in_use : Bool) (c : Connection) (v : Value) → IsFound (found d course in_use c v) → MayFollow v
 found_follows d course in_use c (data2 n number end user) h = a_link n (dt number end user refl)
@@ -65,7 +54,7 @@ found_follows way.Right course in_use c (request x) h = absurd (cc)
 found_follows way.Left course in_use c (confirm n x) h = absurd (cc)
 found_follows way.Right course in_use c (confirm n x) h =
     absurd (first_other (confirm_tests c course.class in_use course.loose x)
-    (λ e. cc e, (λ e. cc e, (λ e. cc e, (given_not course.loose, (λ e. cc e, tt))))) h)
+    (λ e. cc e, (λ e. cc e, (λ e. cc e, (grind arith, (λ e. cc e, tt))))) h)
 found_follows way.Left course in_use c (disconnected n source) h = grind (arith, first_other)
 found_follows way.Right course in_use c (disconnected n source) h = grind (arith, first_other)
 found_follows way.Left course in_use c (data0 end user) h = grind (arith, first_other)
@@ -83,20 +72,12 @@ IsOther (Unnamed f) = IsFound f → ⊥
 route_other : (k : Option Class) (d : Way) (b : Bool) (v : Value) → IsOther (route_in k d b v)
 route_other k d b v = grind arith
 
-unknown_not : (loose strays : Bool) (v : Value) →
-    IsFound (if loose then in_doubt (unnamed_by strays v) else unnamed_by strays v) → ⊥
-unknown_not loose strays v h = grind arith
-
 unnamed_not : (reports loose strays : Bool) (v : Value) →
     IsFound (if reports then NotJudged else (if loose then in_doubt (unnamed_by strays v) else unnamed_by strays v)) → ⊥
-unnamed_not reports loose strays v h = grind (arith, unknown_not)
-
--- a CR is not found so
-asks_not : (d : Way) (s : State) (x : Connect) (f : Finding) → (IsFound f → ⊥) → IsFound (asks_by d f x s).told.finding → ⊥
-asks_not d s x f a h = grind arith
+unnamed_not reports loose strays v h = grind arith
 
 asks_none : (d : Way) (v : Value) (s : State) → IsFound (asks_of d v s).told.finding → ⊥
-asks_none d v s h = grind (arith, asks_not, first_other)
+asks_none d v s h = grind (arith, first_other)
 
 -- ---- what it does
 
@@ -121,18 +102,11 @@ module _ (d : Way) (v : Value) (s : State) where
     placed = λ none. cc none;
   }
 
-  place_goes : (o : Option ℕ) → IsFound (at_place d v s o).told.finding → Goes d v s (at_place d v s o)
-  place_goes o h = grind (arith, unnamed_not, found_goes)
-
   routed_goes : (r : Route) → IsOther r → IsFound (routed d v s r).told.finding → Goes d v s (routed d v s r)
-  routed_goes r a h = grind (arith, asks_none, place_goes)
-
-  goes_by : (b : Bool) (r : Route) → IsOther r → IsFound (if b then none_told d NotJudged s else routed d v s r).told.finding →
-      Goes d v s (if b then none_told d NotJudged s else routed d v s r)
-  goes_by b r a h = grind (arith, routed_goes)
+  routed_goes r a h = grind (arith, asks_none, unnamed_not, found_goes)
 
   goes : IsFound (takes d v s).told.finding → Goes d v s (takes d v s)
-  goes h = grind (arith, goes_by, route_other)
+  goes h = grind (arith, routed_goes, route_other)
 
 -- ---- a DT or an AK after a DR of its sender
 
@@ -153,23 +127,11 @@ after_dr e v c found not = by (goes (way_of e) v c.traffic found).follows
 abbrev IsFoundSo : Way → Bool → Option Class → State → Value → Type 0
 IsFoundSo d b k s v = IsFound (routed d v s (route_in k d b v)).told.finding
 
-dt_two : (d : Way) (b : Bool) (k : Option Class) (s : State) (n number : ℕ) (end : Bool) (user : List ℕ) →
-    IsFoundSo d b k s (data2 n number end user) → k ≡ Some Two
-dt_two d b k s n number end user h = grind arith
-
-ak_two : (d : Way) (b : Bool) (k : Option Class) (s : State) (credit n number : ℕ) →
-    IsFoundSo d b k s (acknowledge credit n number) → k ≡ Some Two
-ak_two d b k s credit n number h = grind arith
-
 link_two : (d : Way) (b : Bool) (k : Option Class) (s : State) (v : Value) (n : ℕ) → IsLink v n → IsFoundSo d b k s v → k ≡ Some Two
-link_two d b k s v n h h2 = grind (arith, dt_two, ak_two)
-
-judged_so : (stopped : Bool) (d : Way) (v : Value) (s : State) (r : Route) →
-    IsFound (if stopped then none_told d NotJudged s else routed d v s r).told.finding → IsFound (routed d v s r).told.finding
-judged_so stopped d v s r h = grind arith
+link_two d b k s v n h h2 = grind arith
 
 pub after_two : (e : Direction) (v : Value) (c : Course) → IsAfterDr e v c → class_for (way_of e) c.traffic.course ≡ Some Two
-after_two e v c a = grind (arith, link_two, judged_so)
+after_two e v c a = grind (arith, link_two)
 
 -- ---- the connection that it is for
 
@@ -177,20 +139,13 @@ closing_of : (p : Phase) → not (is_silent p) ≡ true → is_open p ≡ false 
     is_closing p ≡ true
 closing_of p a b c h = grind arith
 
--- it is not over for the side that names it
-over_of : (j over rest : Bool) → j ≡ true → (not (j && over) && rest) ≡ true → over ≡ false
-over_of j over rest e h = grind arith
-
-first_third : (a b c rest : Bool) → (a || (b || (c || rest))) ≡ false → (a ≡ false) × (c ≡ false)
-first_third a b c rest h = grind arith
-
 pub not_over : (d : Way) (n : ℕ) (c : Connection) → c.is_judged ≡ true → is_named d n c ≡ true →
     (is_refused (own d c).phase ≡ false) × (is_closed (own d c).phase ≡ false)
-not_over d n c judged named = grind (arith, first_third, over_of)
+not_over d n c judged named = grind arith
 
 phase_of : (d : Way) (course : Rules) (in_use : Bool) (c : Connection) (v : Value) (n : ℕ) → IsLink v n →
     IsFound (found d course in_use c v) → (not (is_silent (own d c).phase) ≡ true) × (is_open (own d c).phase ≡ false)
-phase_of d course in_use c v n h h2 = search (arith, second_found)
+phase_of d course in_use c v n h h2 = search arith
 
 judged_found : (b : Bool) (f : Finding) → b ≡ true → IsFound (if b then f else NotJudged) → IsFound f
 judged_found b f e h = grind arith

@@ -8,7 +8,7 @@ use Rattle.osi_watched.proofs.Vocabulary.{picked_rest}
 use Rattle.osi_tap.specs.Courses.{Course}
 use Rattle.osi_fair.proofs.small_facts_that_many_lemmas_use.{number_is}
 use Rattle.osi_watched.proofs.sessions.a_unit_after_a_dr_is_for_a_closing_connection.{IsAfterDr, is_there}
-use Rattle.osi_watched.proofs.sessions.right_units_leave_all_standing.{IsLink, other_twice}
+use Rattle.osi_watched.proofs.sessions.right_units_leave_all_standing.{IsLink}
 use Rattle.osi_watched.proofs.sessions.the_dr_of_the_other_side_is_in_flight.{AreShut}
 use Rattle.osi_watched.proofs.sessions.what_is_in_flight_to_an_end.{in_flight}
 use Rattle.osi_watched.proofs.sessions.what_is_left_for_an_end.{has_dr, known_left, left_after, left_still}
@@ -37,7 +37,7 @@ module _ (d : Direction) (is_live : ℕ → Bool) (coming : List Value) (at : �
       let p = is_there (other d) at v c a places in
       let k = h.each p.place p.connection p.joined p.there p.here p.judged p.closing in
       subst (λ (m : ℕ). is_live m ≡ true → has_dr m coming ≡ true)
-      (number_is k.r a.n (sym k.named ∙ sym (other_twice d p.joined) ∙ p.named)) k.dr
+      (number_is k.r a.n (sym k.named ∙ sym (grind arith) ∙ p.named)) k.dr
 
   -- so what is known of the parts that are left over stays
   pub after_keeps : HaveSamePlaces c.traffic.connections c.sessions.live → (r : ℕ) (later : List Part) →

@@ -1,13 +1,11 @@
 -- A unit that names a connection is joined at the place of the connection to which the other side gave this reference.
 -- For the law on places.
 use Rattle.std.proofs.Common.{arith}
-use Rattle.osi_watched.proofs.Vocabulary.{ap, Bool, false, if◌then◌else◌, None, not, Option, refl, Some, subst, sym, true, ℕ, ◌&&◌}
-use Rattle.osi_watched.proofs.Vocabulary.{◌∙◌, ◌≡◌, eqb-true, position, slice_get, ◌||◌, acknowledge, confirm, data0, data2, destination_of}
-use Rattle.osi_watched.proofs.Vocabulary.{disconnect, disconnected, error, request, Value, Class, Two, Zero, is_named}
-use Rattle.osi_watched.proofs.Vocabulary.{is_refused, is_silent, at_found, at_place, none_told, route_in}
-use Rattle.osi_watched.proofs.Vocabulary.{routed, Traffic as State, takes, Connection, Way, Finding, NotJudged, Phase, Route, Named}
-use Rattle.osi_watched.proofs.Vocabulary.{Unnamed, other, Direction, Left, Right, Joined, reference_of, way_of, first_true, HaveSamePlaces}
-use Rattle.osi_watched.proofs.Vocabulary.{IsOneOf, named_by}
+use Rattle.osi_watched.proofs.Vocabulary.{ap, Bool, false, None, not, Option, refl, Some, subst, true, ℕ, ◌&&◌, ◌≡◌, eqb-true, slice_get}
+use Rattle.osi_watched.proofs.Vocabulary.{acknowledge, confirm, data0, data2, destination_of, disconnect, disconnected, error, request}
+use Rattle.osi_watched.proofs.Vocabulary.{Value, Class, Two, Zero, is_named, is_refused, at_found, route_in, routed, Traffic as State}
+use Rattle.osi_watched.proofs.Vocabulary.{takes, Connection, Way, Finding, Route, Named, Unnamed, other, Direction, Left, Right, Joined}
+use Rattle.osi_watched.proofs.Vocabulary.{reference_of, way_of, first_true, HaveSamePlaces, IsOneOf}
 use Rattle.osi_rules.specs.declared.directions.Direction.TheVariants as way
 use Rattle.osi_rules.specs.declared.halves.Phase.TheVariants as phase
 use Rattle.osi_rules.specs.Sides as sides
@@ -63,40 +61,22 @@ module _ (d : Way) (v : Value) (s : State) (n i : ℕ) (c : Connection) (there :
   at_found_there : (p : ℕ) (o : Option Connection) → slice_get s.connections p ≡ o → (at_found d v s p o).told.place ≡ Some i → p ≡ i
   at_found_there p o e h = grind (arith, no_place, number_is)
 
-  at_place_named : (o : Option ℕ) → position (is_named d n) s.connections ≡ o → (at_place d v s o).told.place ≡ Some i →
-      is_named d n c ≡ true
-  at_place_named o e h = grind (arith, no_place, at_found_there, first_true)
-
   routed_named : (r : Route) → IsRouted n r → (routed d v s r).told.place ≡ Some i → is_named d n c ≡ true
-  routed_named r h h2 = grind (arith, at_place_named, no_place)
-
-  taken_named : (b : Bool) (r : Route) → IsRouted n r →
-      (if b then none_told d NotJudged s else routed d v s r).told.place ≡ Some i → is_named d n c ≡ true
-  taken_named b r routed h = grind (arith, no_place, routed_named)
+  routed_named r h h2 = grind (arith, no_place, at_found_there, first_true)
 
   -- it names the connection at the place that is told of it
   pub names_there : destination_of v ≡ Some n → (takes d v s).told.place ≡ Some i → is_named d n c ≡ true
-  names_there e h = search (arith, taken_named, how_routed)
+  names_there e h = search (arith, no_place, routed_named, how_routed)
 
 -- ---- the reference that the other side gave
 
 three : (a b c : Bool) → (not (true && a) && (not b && c)) ≡ true → (a ≡ false) × (b ≡ false) × (c ≡ true)
 three a b c h = grind arith
 
-or_second : (a b : Bool) → (a || b) ≡ false → b ≡ false
-or_second a b h = grind arith
-
-given_so : (p : Phase) (r n : ℕ) → is_silent p ≡ false → is_refused p ≡ false → r ≡ n → named_by p r ≡ Some n
-given_so p r n h k e = grind arith
-
-judged_so : (j over silent same : Bool) → j ≡ true → (not (j && over) && (not silent && same)) ≡ true →
-    (over ≡ false) × (silent ≡ false) × (same ≡ true)
-judged_so j over silent same e h = grind (arith, three)
-
 -- what a unit of a side names has this reference of the other side
 pub named_there : (d : Direction) (n : ℕ) (c : Connection) (j : Joined) → IsOneOf c j → c.is_judged ≡ true →
     is_named (way_of d) n c ≡ true → reference_of (other d) j ≡ Some n
-named_there d n c j h judged is_so = grind (arith, judged_so, given_so, or_first, or_second, eqb-true)
+named_there d n c j h judged is_so = grind (arith, or_first, eqb-true)
 
 -- also of a connection that has lost its judgement, unless right has refused it
 lost_so : (j over silent same : Bool) → j ≡ false → (not (j && over) && (not silent && same)) ≡ true → (silent ≡ false) × (same ≡ true)
@@ -104,7 +84,7 @@ lost_so j over silent same e h = grind arith
 
 lost_there : (d : Direction) (n : ℕ) (c : Connection) (j : Joined) → IsOneOf c j → c.is_judged ≡ false →
     is_refused c.seen_by_left.phase ≡ false → is_named (way_of d) n c ≡ true → reference_of (other d) j ≡ Some n
-lost_there d n c j h lost there is_so = grind (arith, lost_so, given_so, eqb-true)
+lost_there d n c j h lost there is_so = grind (arith, lost_so, eqb-true)
 
 pub named_any : (d : Direction) (n : ℕ) (c : Connection) (j : Joined) → IsOneOf c j →
     (c.is_judged ≡ false → is_refused c.seen_by_left.phase ≡ false) → is_named (way_of d) n c ≡ true → reference_of (other d) j ≡ Some n
@@ -112,16 +92,13 @@ named_any d n c j one there is_so = grind (arith, named_there, lost_there)
 
 -- ---- a unit, and what is joined
 
-same_joined : (j k : Joined) → Some j ≡ Some k → j ≡ k
-same_joined j k e = cc
-
 pub joined_named : (d : Direction) (v : Value) (c : Course) (n i : ℕ) (connection : Connection) (j : Joined) →
     HaveSamePlaces c.traffic.connections c.sessions.live → destination_of v ≡ Some n →
     (takes (way_of d) v c.traffic).told.place ≡ Some i → slice_get c.traffic.connections i ≡ Some connection →
     connection.is_judged ≡ true → slice_get c.sessions.live i ≡ Some j → reference_of (other d) j ≡ Some n
 joined_named d v c n i connection j h e place there judged here =
     let (k, at, one) = at_same c.traffic.connections c.sessions.live i connection h there in
-    subst (λ (x : Joined). reference_of (other d) x ≡ Some n) (same_joined k j (sym at ∙ here))
+    subst (λ (x : Joined). reference_of (other d) x ≡ Some n) (grind arith)
     (named_there d n connection k one judged (names_there (way_of d) v c.traffic n i connection there e place))
 
 pub joined_any : (d : Direction) (v : Value) (c : Course) (n i : ℕ) (connection : Connection) (j : Joined) →
@@ -131,5 +108,5 @@ pub joined_any : (d : Direction) (v : Value) (c : Course) (n i : ℕ) (connectio
     reference_of (other d) j ≡ Some n
 joined_any d v c n i connection j h e place there known here =
     let (k, at, one) = at_same c.traffic.connections c.sessions.live i connection h there in
-    subst (λ (x : Joined). reference_of (other d) x ≡ Some n) (same_joined k j (sym at ∙ here))
+    subst (λ (x : Joined). reference_of (other d) x ≡ Some n) (grind arith)
     (named_any d n connection k one known (names_there (way_of d) v c.traffic n i connection there e place))

@@ -2,20 +2,15 @@
 -- its lines.
 -- For the units that an end puts.
 use Rattle.std.proofs.Common.{arith}
-use Rattle.osi_watched.proofs.Vocabulary.{true, ◌≡◌, Local, Left, first_joined, Follows as Joined, Followed, IsOngoing}
-use Rattle.osi_watched.proofs.Vocabulary.{Joint}
+use Rattle.osi_watched.proofs.Vocabulary.{true, ◌≡◌, Local, Left, first_joined, Followed, IsOngoing, Joint}
 use Rattle.osi_fair.specs.Wholes as wholes
 use Rattle.osi_fair.proofs.a_calling_end_is_fair_in_class_2.{all_joined}
 use Rattle.osi_watched.proofs.steps_are_events.{IsFollowed}
 
 -- ---- a calling end
 
--- the invariant of osi_fair
-pub calling_joined : (local : Local) → local.class2 ≡ true → (j : Joint) (f : IsFollowed Left (wholes.begin true local) j) →
-    Joined local f.whole
-calling_joined local two j f = all_joined local f.events (wholes.begin true local) f.whole f.along (first_joined local two)
-
 -- and its lines, as long as both sides are judged
 pub calling_followed : (local : Local) → local.class2 ≡ true → (j : Joint) (f : IsFollowed Left (wholes.begin true local) j) →
     IsOngoing j.course.traffic.course → Followed local f.whole
-calling_followed local two j f clear = grind (arith, calling_joined local two j f)
+calling_followed local two j f clear =
+    grind (arith, all_joined local f.events (wholes.begin true local) f.whole f.along (first_joined local two), first_joined local two)

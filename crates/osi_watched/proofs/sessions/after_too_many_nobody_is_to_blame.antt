@@ -1,15 +1,13 @@
 -- After one connection too many nothing more is judged or joined: if no session of an end is to blame then, none is ever after.
 -- For the session of each connection of an end.
-use Rattle.std.proofs.Common.{arith}
-use Rattle.std.proofs.Common.{◌≡◌, sym, ap, subst, ℕ, Bool, true, false, List, [], ◌∷◌, Some, None}
+use Rattle.std.proofs.Common.{arith, ◌≡◌, sym, ap, subst, ℕ, List, [], ◌∷◌, Some, None}
 use Rattle.std.specs.Prelude.{slice_get}
 use Rattle.osi_tpdu.specs.Value.{Value}
 use Rattle.osi_judge.specs.declared.directions.Direction.{Direction}
-use Rattle.osi_judge.specs.declared.directions.Direction.TheVariants.{Left}
 use Rattle.osi_rules.specs.declared.findings.Finding.TheVariants.{TooMany}
 use Rattle.osi_rules.specs.declared.findings.Reach.TheVariants as reach
 use Rattle.osi_rules.specs.Reaches.{is_applied}
-use Rattle.osi_rules.specs.Traffic.{State, is_stopped, takes}
+use Rattle.osi_rules.specs.Traffic.{takes}
 use Rattle.osi_rules.proofs.a_stop_is_said.{stops_are_said, stops_last}
 use Rattle.osi_tap.specs.Blaming.{IsToBlame}
 use Rattle.osi_tap.specs.Connections.{Joined, Sessions, all_begin, packet_begins}
@@ -44,12 +42,9 @@ pub record IsSilenced (d : Direction) (c : Course) : Type 0 where
   pub over : IsOver c
   pub none : NoneIsToBlame d c.sessions
 
-stopped_so : (e : Direction) (c : Course) → IsOver c → is_stopped (way_of e) c.traffic.course ≡ true
-stopped_so e c over = grind arith
-
 -- what passes joins nothing
 pub over_joins : (e : Direction) (at : ℕ) (v : Value) (c : Course) → IsOver c → (unit_passes e at v c).sessions ≡ c.sessions
-over_joins e at v c over = grind (arith, joins_none, stops_last, stopped_so)
+over_joins e at v c over = grind (arith, joins_none, stops_last)
 
 module _ (d : Direction) where
   pub unit_silenced : (e : Direction) (at : ℕ) (v : Value) (c : Course) → IsSilenced d c → IsSilenced d (unit_passes e at v c)
@@ -73,17 +68,10 @@ module _ (d : Direction) where
 
 -- ---- the unit with which that begins
 
-both_stop : (d e : Direction) (v : Value) (s : State) → (takes (way_of d) v s).told.finding ≡ TooMany →
-    is_stopped (way_of e) (takes (way_of d) v s).state.course ≡ true
-both_stop d e v s h = grind (arith, stops_are_said, too_many_ends)
-
-differ : {A : Type 0} (b : Bool) → b ≡ true → b ≡ false → A
-differ b h k = absurd (cc)
-
 -- so the session of no connection is judged any further
 pub too_many_over : (d : Direction) (at : ℕ) (v : Value) (c : Course) → IsCalm c → (takes (way_of d) v c.traffic).told.finding ≡ TooMany →
     ((unit_passes d at v c).first ≡ None) × IsOver (unit_passes d at v c)
-too_many_over d at v c calm h = grind (arith, differ, unit_leaves d at v c calm, unit_knows d at v c, both_stop d Left v c.traffic h)
+too_many_over d at v c calm h = grind (arith, unit_leaves d at v c calm, unit_knows d at v c, stops_are_said, too_many_ends)
 
 pub too_many_silenced : (d e : Direction) (at : ℕ) (v : Value) (c : Course) → IsCalm c →
     (takes (way_of e) v c.traffic).told.finding ≡ TooMany → NoneIsToBlame d c.sessions → IsSilenced d (unit_passes e at v c)

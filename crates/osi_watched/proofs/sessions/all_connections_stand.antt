@@ -1,13 +1,13 @@
 -- All connections of an end of class 2 stand at a tap as packets begin and as units pass that are right.
 -- For the session of each connection of an end.
-use Rattle.osi_watched.proofs.Vocabulary.{[], ap, arith, Bool, false, inl, inr, is_some, length, List, map, None, Option, refl, Some, subst}
-use Rattle.osi_watched.proofs.Vocabulary.{suc, sym, true, zero, ℕ, ◌++◌, ◌<◌, ◌^◌, ◌∙◌, ◌∷◌, ◌≡◌, ◌≤◌, ◌⊎◌, eq-eqb, slice_get_within}
-use Rattle.osi_watched.proofs.Vocabulary.{slice_get, confirm, Connect, data0, data2, request, Value, unit_parts, Part, End, is_applied}
-use Rattle.osi_watched.proofs.Vocabulary.{begins, is_open, own, asked_by, connection_after, found_on, half_after, judged_on, meaning_if}
-use Rattle.osi_watched.proofs.Vocabulary.{meant, Traffic as State, takes, Connection, Reach, Half, other, Direction, Deeds, adds, all_begin}
-use Rattle.osi_watched.proofs.Vocabulary.{asked, Joined, reference_of, Sessions, shut, spoken, taken, way_of, heard, Room, All}
-use Rattle.osi_watched.proofs.Vocabulary.{passes_apart, AreJudged, still_judged, after_add, after_map, NamesApart as AreApart, after_change}
-use Rattle.osi_watched.proofs.Vocabulary.{packet, unit, calls_from, IsShownNow, HaveSamePlaces, IsOneOf}
+use Rattle.osi_watched.proofs.Vocabulary.{[], ap, arith, Bool, false, inl, inr, length, List, map, None, Option, refl, Some, subst, suc}
+use Rattle.osi_watched.proofs.Vocabulary.{sym, true, zero, ℕ, ◌++◌, ◌<◌, ◌^◌, ◌∙◌, ◌∷◌, ◌≡◌, ◌≤◌, ◌⊎◌, eq-eqb, slice_get_within, slice_get}
+use Rattle.osi_watched.proofs.Vocabulary.{confirm, Connect, data0, data2, request, Value, unit_parts, Part, End, is_applied, begins}
+use Rattle.osi_watched.proofs.Vocabulary.{is_open, own, asked_by, connection_after, found_on, half_after, judged_on, meaning_if, meant}
+use Rattle.osi_watched.proofs.Vocabulary.{Traffic as State, takes, Connection, Reach, Half, other, Direction, Deeds, adds, all_begin, asked}
+use Rattle.osi_watched.proofs.Vocabulary.{Joined, reference_of, Sessions, shut, spoken, taken, way_of, heard, Room, All, passes_apart}
+use Rattle.osi_watched.proofs.Vocabulary.{AreJudged, still_judged, after_add, after_map, NamesApart as AreApart, after_change, packet, unit}
+use Rattle.osi_watched.proofs.Vocabulary.{calls_from, IsShownNow, HaveSamePlaces, IsOneOf}
 use Rattle.osi_rules.specs.declared.directions.Direction.TheVariants as way
 use Rattle.osi_rules.specs.declared.findings.Reach.TheVariants as reach
 use Rattle.osi_rules.specs.Traffic as traffic
@@ -19,8 +19,8 @@ use Rattle.osi_watched.proofs.a_break_ends_no_judging_or_all.{takes_reach}
 use Rattle.osi_watched.proofs.sessions.connections_have_the_same_places.{as_long, at_same, begun_same, unit_places}
 use Rattle.osi_watched.proofs.sessions.what_a_tap_shows_goes_on.{named_added}
 use Rattle.osi_watched.proofs.sessions.what_a_unit_does_at_its_place.{Does, asks_again, asks_more, nowhere, somewhere, unit_does}
-use Rattle.osi_watched.proofs.sessions.what_holds_of_a_lost_connection.{IsLost, goes_judged, lost_applied, lost_begins, lost_still}
-use Rattle.osi_watched.proofs.sessions.what_holds_of_a_lost_connection.{now_lost, part_applied, was_judged}
+use Rattle.osi_watched.proofs.sessions.what_holds_of_a_lost_connection.{IsLost, lost_applied, lost_begins, lost_still, now_lost}
+use Rattle.osi_watched.proofs.sessions.what_holds_of_a_lost_connection.{part_applied, was_judged}
 use Rattle.osi_watched.proofs.sessions.what_stands_of_a_connection.{IsLike, IsUnsaid, Known, Stands, is_next, lives, names_it, no_next}
 use Rattle.osi_watched.proofs.sessions.what_stands_of_a_connection.{past, stands_begins, stands_none, stands_other_begins}
 use Rattle.osi_watched.proofs.sessions.what_stands_of_a_connection.{stands_other_none, stands_other_part, stands_part, unnamed, waiting_for}
@@ -46,12 +46,6 @@ own_after d v r c = grind (arith, judged_own)
 pub like_same : (d : Direction) (j : Joined) → IsLike d j j
 like_same d j = record { own_is = refl; theirs = refl; named = refl; room = refl }
 
-like_shut : (d : Direction) (j : Joined) → IsLike d j (shut j)
-like_shut d j = grind arith
-
-named_shut : (d : Direction) (j : Joined) → reference_of d (shut j) ≡ reference_of d j
-named_shut d j = grind arith
-
 -- no DT, and no CC that has its effect
 abbrev pub IsPlain : Bool → Value → Type 0
 IsPlain b (data0 end user) = ⊥
@@ -71,7 +65,7 @@ same_left : (d : Direction) (j : Joined) → Left_so d j j
 same_left d j = record { like = like_same d j; named = refl }
 
 shut_left : (d : Direction) (j : Joined) → Left_so d j (shut j)
-shut_left d j = record { like = like_shut d j; named = named_shut (other d) j }
+shut_left d j = record { like = grind arith; named = (grind arith) }
 
 plain_left : (d e : Direction) (at : ℕ) (b : Bool) (v : Value) (j : Joined) → IsPlain b v →
     Left_so d j (joined.meant e at v (meaning_if b (meant v)) j)
@@ -106,10 +100,6 @@ stands_room : (d : Direction) (deeds : ℕ → Deeds) (known : Known) (put : Lis
     Stands d deeds known put b c j → j.room ≡ All
 stands_room d deeds known put b c j h = grind arith
 
-open_named : (d : Direction) (c : Connection) (j : Joined) → IsOneOf c j → is_open (own (way_of d) c).phase ≡ true →
-    is_some (reference_of d j) ≡ true
-open_named d c j one live = grind (arith, named_open)
-
 pub own_part : (d : Direction) (deeds : ℕ → Deeds) (known : Known) (at n number : ℕ) (end : Bool) (user : List ℕ) (rest : List Value)
     (r : Reach) (c : Connection) (j : Joined) → IsOneOf c j → is_open (own (way_of d) c).phase ≡ true →
     reference_of (other d) j ≡ Some n → Stands d deeds known (data2 n number end user ∷ rest) true c j →
@@ -117,12 +107,9 @@ pub own_part : (d : Direction) (deeds : ℕ → Deeds) (known : Known) (at n num
 own_part d deeds known at n number end user rest r c j one live named h =
     let v = data2 n number end user in
     stands_part d deeds known v rest at end c (connection_after (way_of d) v true r c) j refl refl
-    (ap (λ (o : Option ℕ). names_it o n) named ∙ eq-eqb n n refl) (open_named d c j one live) live
+    (ap (λ (o : Option ℕ). names_it o n) named ∙ eq-eqb n n refl) (grind (arith, named_open)) live
     (ap (λ (x : Half). is_open x.phase) (own_after d v r c) ∙ live)
     (named_added at end user (other d) d j (stands_room d deeds known (v ∷ rest) true c j h)) h
-
-some_is : (o : Option ℕ) (n : ℕ) → o ≡ Some n → is_some o ≡ true
-some_is o n e = ap is_some e
 
 pub other_part : (d : Direction) (deeds : ℕ → Deeds) (known then_known : Known) (at n number : ℕ) (end : Bool) (user : List ℕ)
     (put : List Value) (x : Bool) (r : Reach) (c : Connection) (j : Joined) → reference_of d j ≡ Some n →
@@ -131,7 +118,7 @@ pub other_part : (d : Direction) (deeds : ℕ → Deeds) (known then_known : Kno
 other_part d deeds known then_known at n number end user put x r c j named grows h =
     let v = data2 n number end user in
     stands_other_part d deeds known then_known put x at end user c (connection_after (way_of (other d)) v true r c) j
-    (some_is (reference_of d j) n named) (ap (λ (y : Half). y.phase) (other_after d v true r c))
+    (grind arith) (ap (λ (y : Half). y.phase) (other_after d v true r c))
     (named_added at end user (other d) (other d) j (stands_room d deeds known put x c j h))
     (λ m later is sure. subst (λ (i : ℕ). then_known i (later ++ (end, user) ∷ [])) (same_number n m (sym named ∙ is))
     (grows later (subst (λ (i : ℕ). known i later) (sym (same_number n m (sym named ∙ is))) sure))) h
@@ -316,7 +303,7 @@ module _ (d : Direction) (deeds : ℕ → Deeds) (known then_known : Known) (put
         let was = was_judged (way_of e) v x r first now in
         subst (λ (z : Connection). Goes z j) (sym so)
         (subst (λ (z : Joined). Goes (connection_after (way_of e) v x r first) z) (sym same)
-        (l.here p first k x r told there here one finding is far (goes_judged (way_of e) v x r first now) was
+        (l.here p first k x r told there here one finding is far (grind arith) was
         (a.live p first k there here was)))
     place_by i c j (inl (m, so)) (inr (n, same)) judged = absurd (n m)
     place_by i c j (inr (m, so)) (inl (n, same)) judged = absurd (m n)
@@ -354,9 +341,6 @@ module _ (d : Direction) (deeds : ℕ → Deeds) (known then_known : Known) (put
       (subst (λ (z : Joined). Goes (asked_by x) z) (sym (same ∙ ap (λ (z : Room). asked number x.source z) a.room))
       (l.asked_so x number is))
 
-  asked_judged : {A : Type 0} (x : Connect) (c : Connection) → c ≡ asked_by x → c.is_judged ≡ false → A
-  asked_judged x c so lost = let no : true ≡ false = sym (ap (λ (z : Connection). z.is_judged) so) ∙ lost in absurd (cc)
-
   add_by : (x : Connect) (number : ℕ) → v ≡ request x → (i : ℕ) (c : Connection) (j : Joined) →
       ((i ≡ length s.connections) × (c ≡ asked_by x)) ⊎ (slice_get s.connections i ≡ Some c) →
       ((i ≡ length t.live) × (j ≡ asked number x.source t.room)) ⊎ (slice_get t.live i ≡ Some j) → c.is_judged ≡ true → Goes c j
@@ -370,7 +354,7 @@ module _ (d : Direction) (deeds : ℕ → Deeds) (known then_known : Known) (put
   add_lost : (x : Connect) (number : ℕ) (i : ℕ) (c : Connection) (j : Joined) →
       ((i ≡ length s.connections) × (c ≡ asked_by x)) ⊎ (slice_get s.connections i ≡ Some c) →
       ((i ≡ length t.live) × (j ≡ asked number x.source t.room)) ⊎ (slice_get t.live i ≡ Some j) → c.is_judged ≡ false → IsLost d c j
-  add_lost x number i c j (inl (m, so)) here lost = asked_judged x c so lost
+  add_lost x number i c j (inl (m, so)) here lost = grind arith
   add_lost x number i c j (inr so) (inl (n, same)) lost =
       not_in s.connections i c (let m = as_long s.connections t.live a.places in omega (arith, n, m)) so
   add_lost x number i c j (inr so) (inr same) lost = a.lost i c j so same lost
@@ -386,7 +370,7 @@ module _ (d : Direction) (deeds : ℕ → Deeds) (known then_known : Known) (put
   again_lost : (x : Connect) (number p : ℕ) (i : ℕ) (c : Connection) (j : Joined) →
       ((i ≡ p) × (c ≡ asked_by x)) ⊎ ((i ≡ p → ⊥) × (slice_get s.connections i ≡ Some c)) →
       ((i ≡ p) × (j ≡ asked number x.source t.room)) ⊎ ((i ≡ p → ⊥) × (slice_get t.live i ≡ Some j)) → c.is_judged ≡ false → IsLost d c j
-  again_lost x number p i c j (inl (m, so)) here lost = asked_judged x c so lost
+  again_lost x number p i c j (inl (m, so)) here lost = grind arith
   again_lost x number p i c j (inr (m, so)) (inl (n, same)) lost = absurd (m n)
   again_lost x number p i c j (inr (m, so)) (inr (n, same)) lost = a.lost i c j so same lost
 

@@ -1,4 +1,5 @@
 -- What holds of an end and a tap as long as all is judged: each step keeps it. For the sessions of an end after breaks of the other side.
+use Rattle.std.proofs.Common.{arith}
 use Rattle.std.proofs.Common.{◌≡◌, ◌∙◌, sym, ap, subst, ℕ, ◌^◌, ◌<◌, List, ◌++◌, length, Some}
 use Rattle.std.specs.Prelude.{slice_get}
 use Rattle.std.specs.List.{AllByRecursion}
@@ -19,7 +20,6 @@ use Rattle.osi_tap.specs.Courses.{units_pass}
 use Rattle.osi_tap.specs.Lines.{heard}
 use Rattle.osi_watched.specs.Joint.{Joint, Step, Steps, TakesTurn, begins_other, begins_own, passes_other, passes_own, turns}
 use Rattle.osi_watched.specs.Shown.{calls_from}
-use Rattle.osi_watched.proofs.a_break_ends_no_judging_or_all.{begins_judged}
 use Rattle.osi_watched.proofs.small_facts_that_many_lemmas_use.{can_more}
 use Rattle.osi_watched.proofs.steps_are_events.{IsFollowed, step_followed}
 use Rattle.osi_watched.proofs.what_a_unit_leaves_at_a_tap.{IsJudged}
@@ -77,7 +77,7 @@ module _ (proper : AllProper) (barred : Class) (d : Direction) (local : Local) (
       (deeds : ℕ → Deeds) → Goes deeds old → Goes deeds new
   own_begins_goes old new step few deeds g =
       still_goes deeds deeds begins_own old new step g
-      (subst (λ (j : Joint). IsJudged j.course) (sym step.2) (begins_judged d old.course g.judged))
+      (subst (λ (j : Joint). IsJudged j.course) (sym step.2) (grind arith))
       (k.own_begins deeds old new step g.courses few g.holds) (subst (HaveCourses d deeds) (sym step.2) g.courses)
       (subst (λ (j : Joint). IsSane j.holding) (sym step.2) g.sane)
       (subst (λ (j : Joint). AllByRecursion CanBeWritten j.put) (sym step.2) g.can)
@@ -85,7 +85,7 @@ module _ (proper : AllProper) (barred : Class) (d : Direction) (local : Local) (
   pub other_begins_goes : (old new : Joint) → Steps d begins_other old new → (deeds : ℕ → Deeds) → Goes deeds old → Goes deeds new
   other_begins_goes old new step deeds g =
       still_goes deeds deeds begins_other old new step g
-      (subst (λ (j : Joint). IsJudged j.course) (sym step) (begins_judged (other d) old.course g.judged))
+      (subst (λ (j : Joint). IsJudged j.course) (sym step) (grind arith))
       (k.other_begins deeds old new step g.holds) (subst (HaveCourses d deeds) (sym step) g.courses)
       (subst (λ (j : Joint). IsSane j.holding) (sym step) g.sane)
       (subst (λ (j : Joint). AllByRecursion CanBeWritten j.put) (sym step) g.can)

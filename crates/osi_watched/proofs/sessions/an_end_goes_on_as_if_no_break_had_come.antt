@@ -23,6 +23,7 @@ use Rattle.osi_judge.specs.Captures.{other}
 use Rattle.osi_judge.specs.declared.directions.Direction.{Direction}
 use Rattle.osi_rules.specs.declared.findings.Finding.TheVariants.{Kept}
 use Rattle.osi_rules.specs.Traffic.{is_stopped, takes}
+use Rattle.osi_rules.proofs.a_stop_is_said.{stops_last}
 use Rattle.osi_fair.specs.Pieces.{units_in}
 use Rattle.osi_fair.specs.Wholes as wholes
 use Rattle.osi_stack.proofs.carried.packets_without_events.{lasting_of}
@@ -44,11 +45,11 @@ use Rattle.osi_watched.specs.Joint.{Joint, Steps, TakesTurn, begins_other, begin
 use Rattle.osi_watched.specs.Shown.{calls_from}
 use Rattle.osi_watched.proofs.a_break_ends_no_judging_or_all.{far_of, nothing_ends}
 use Rattle.osi_watched.proofs.an_end_that_is_judged_alone_stays_so.{own_alone}
-use Rattle.osi_watched.proofs.in_class_0_one_side_alone_is_judged.{IsAlone, alone_begins, alone_other, alone_own}
+use Rattle.osi_watched.proofs.in_class_0_one_side_alone_is_judged.{IsAlone, alone_begins, alone_own}
 use Rattle.osi_watched.proofs.steps_are_events.{IsFollowed, step_followed}
 use Rattle.osi_watched.proofs.the_first_break_is_not_of_an_end.{IsFairAlone, IsFairFrom}
 use Rattle.osi_watched.proofs.what_a_unit_leaves_at_a_tap.{IsJudged}
-use Rattle.osi_watched.proofs.what_is_judged_beside_a_halted_side.{IsBeside, beside_begins, beside_other, beside_own}
+use Rattle.osi_watched.proofs.what_is_judged_beside_a_halted_side.{IsBeside, beside_begins, beside_own}
 use Rattle.osi_watched.proofs.what_is_put_is_what_is_written.{none_written, same_written, starts_with, written_join}
 use Rattle.osi_watched.proofs.what_passes_keeps_a_claim.{step_kept}
 use Rattle.osi_watched.proofs.sessions.a_dt_that_is_too_long_stays_so.{IsTooLong, begins_too_long, only_of, own_is_dt, passes_too_long}
@@ -56,7 +57,7 @@ use Rattle.osi_watched.proofs.sessions.after_too_many_nobody_is_to_blame.{NoneIs
 use Rattle.osi_watched.proofs.sessions.an_end_beside_a_tap_that_judges_all.{Goes, other_begins_goes, own_begins_goes, own_goes, turn_goes}
 use Rattle.osi_watched.proofs.sessions.an_end_of_class_0_has_begun_what_a_tap_has_joined.{HasBegun}
 use Rattle.osi_watched.proofs.sessions.an_end_of_class_0_has_its_connection_open.{IsOpenIn, MayBeFollowed, end_opens}
-use Rattle.osi_watched.proofs.sessions.connections_have_the_same_places.{at_same}
+use Rattle.osi_watched.proofs.sessions.connections_have_the_same_places.{at_same, unit_joins, unit_knows}
 use Rattle.osi_watched.proofs.sessions.no_more_tsdus_than_moments_have_passed.{AreFew, few_claim}
 use Rattle.osi_watched.proofs.sessions.no_session_of_an_end_breaks_first.{KeepsUnless, firm_so, own_right}
 use Rattle.osi_watched.proofs.sessions.steps_of_either_class_leave_all_standing.{IsRight}
@@ -125,8 +126,8 @@ module _ (known : Known) (barred : Class) (d : Direction) (local : Local)
   still_units at [] c without s = s
   still_units at (u ∷ vs) c without s =
       still_units at vs (unit_passes (other d) at u c) without (record {
-        beside = beside_other d at u c without s.alone.stopped s.beside;
-        alone = alone_other d at u c s.alone;
+        beside = grind (arith, stops_last, unit_joins, unit_knows);
+        alone = grind (arith, stops_last);
         few = (few_claim (other d)).passes (other d) at u c s.few;
       })
 
@@ -364,9 +365,6 @@ module _ (known : Known) (barred : Class) (d : Direction) (local : Local)
       then_few : AreFew (other d) new.course
       then_few = subst (AreFew (other d)) (sym t.course) h.few
 
-      beside_then : (w : Joint) → w.course ≡ v.course → IsBeside d new.course w.course
-      beside_then w same = subst (λ (c : Passed). IsBeside d c w.course) (sym t.course) (subst (IsBeside d old.course) (sym same) h.beside)
-
       put_then : (w : Joint) (units : List Value) → w.put ≡ v.put ++ units → packets units ≡ turn.put →
           map written w.put ≡ map written new.put
       put_then w units put is = search (arith, written_join, same_written)
@@ -380,7 +378,7 @@ module _ (known : Known) (barred : Class) (d : Direction) (local : Local)
           goes = h.goes;
           put = put_then v [] (sym (append-nil v.put)) (sym none);
           begun = h.begun ∙ sym t.begun;
-          beside = beside_then v refl;
+          beside = grind arith;
           alone = subst (IsAlone d) (sym t.course) h.alone;
           followed = then_followed;
           few = then_few;
@@ -398,7 +396,7 @@ module _ (known : Known) (barred : Class) (d : Direction) (local : Local)
           goes = n.goes;
           put = put_then n.w n.units n.put (sym n.written_is ∙ same);
           begun = n.begun ∙ h.begun ∙ sym t.begun;
-          beside = beside_then n.w n.course;
+          beside = grind arith;
           alone = subst (IsAlone d) (sym t.course) h.alone;
           followed = then_followed;
           few = then_few;
@@ -425,9 +423,6 @@ module _ (known : Known) (barred : Class) (d : Direction) (local : Local)
       module _ (same : old.holding ≡ v.holding) (lasts : v.holding.end.carrier.ended ≡ None) (front extra : List (List ℕ))
           (parts : v.coming ≡ front ++ extra) (followed : AllByRecursion MayBeFollowed (units_in extra)) (packet : List ℕ)
           (more : List (List ℕ)) (used : t.used ≡ front ++ packet ∷ more) (hard : IsHardFor d v.course packet) where
-        cut_all : ArePackets (front ++ packet ∷ more) (v.holding.held.octets ++ turn.used) t.rest
-        cut_all = grind arith
-
         front_cut : (us vs : List (List ℕ)) (s r : List ℕ) → ArePackets (us ++ vs) s r → (left : List ℕ) × ArePackets us s left
         front_cut [] vs s r c = (s, refl)
         front_cut (u ∷ us) vs s r (b, y, p, is, c) = let (left, x) = front_cut us vs y r c in (left, (b, y, p, is, x))
@@ -472,7 +467,7 @@ module _ (known : Known) (barred : Class) (d : Direction) (local : Local)
             last_by v deeds h.goes refl coming x (sym taken) (opened v deeds h.goes refl coming lasts)
         last_there (u ∷ us) is x taken still =
             let (left, cut) = front_cut (u ∷ us) (packet ∷ more) (v.holding.held.octets ++ turn.used) t.rest
-            (subst (λ (l : List (List ℕ)). ArePackets (l ++ packet ∷ more) (v.holding.held.octets ++ turn.used) t.rest) is cut_all) in
+            (subst (λ (l : List (List ℕ)). ArePackets (l ++ packet ∷ more) (v.holding.held.octets ++ turn.used) t.rest) is (grind arith)) in
             let to = leads_to known (calls_from d) deeds v.holding h.goes.sane h.goes.courses u us turn.used left x taken.0 cut taken
             still in
             let n = next deeds v h.goes not_barred to.turn to.new to.takes (u ∷ us) extra []
@@ -485,7 +480,7 @@ module _ (known : Known) (barred : Class) (d : Direction) (local : Local)
         stopped : Stopped front turn.put v.holding new.holding
         stopped =
             stopped_there v.holding new.holding turn lasts h.goes.sane.part front packet more t.rest (last_there front refl)
-            (subst (λ (x : Holding). Takes x turn new.holding) same t.takes) cut_all
+            (subst (λ (x : Holding). Takes x turn new.holding) same t.takes) (grind arith)
 
         ends_by : (turn.put ≡ []) ⊎ TakesFirst front turn.put v.holding → IsAsWithout ends new
         ends_by (inl none) = idle none stopped.over

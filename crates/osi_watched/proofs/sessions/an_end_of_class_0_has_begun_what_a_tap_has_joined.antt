@@ -1,8 +1,6 @@
 -- An end of class 0 to which no DT is in flight has begun of a TSDU what a tap has joined of it: a calling end and a called one.
 -- For a TSDU of the other side that becomes too long.
-use Rattle.std.proofs.Common.{arith}
-use Rattle.std.proofs.Common.{◌≡◌, ◌∙◌, ◌⊎◌, inl, inr, refl, sym, ap, subst, ℕ, ◌<◌, Bool, true, if◌then◌else◌}
-use Rattle.std.proofs.Common.{List, [], Option, Some, None}
+use Rattle.std.proofs.Common.{arith, ◌≡◌, ◌∙◌, ◌⊎◌, inl, inr, refl, sym, ap, subst, ℕ, ◌<◌, true, List, [], Some}
 use Rattle.std.proofs.lemmas.Bool.{eq-eqb, eqb-true}
 use Rattle.std.specs.Prelude.{slice_get}
 use Rattle.std.specs.List.{AllByRecursion}
@@ -12,8 +10,7 @@ use Rattle.osi_class.specs.declared.terms.Class.{Class}
 use Rattle.osi_class.specs.declared.terms.Class.TheVariants.{Two, Zero}
 use Rattle.osi_class.specs.declared.terms.Local.{Local}
 use Rattle.osi_carrier.specs.Orderly.{RiseFrom}
-use Rattle.osi_carrier.specs.Rows.{value_at}
-use Rattle.osi_carrier.specs.State.{Connection as Live, State as Carrier, linked}
+use Rattle.osi_carrier.specs.State.{State as Carrier, linked}
 use Rattle.osi_judge.specs.Captures.{other}
 use Rattle.osi_judge.specs.declared.directions.Direction.{Direction}
 use Rattle.osi_judge.specs.declared.directions.Direction.TheVariants.{Left, Right}
@@ -35,7 +32,7 @@ use Rattle.osi_watched.proofs.sessions.a_called_end_hears_what_comes_until_class
 use Rattle.osi_watched.proofs.sessions.a_called_end_stands_in_class_0.{StandsInZero}
 use Rattle.osi_watched.proofs.sessions.a_called_end_stands_until_class_2.{StandsCalledUntilTwo, StandsInNone}
 use Rattle.osi_watched.proofs.sessions.a_called_end_stands_until_its_cc_of_class_0_passes.{StandsAnswering}
-use Rattle.osi_watched.proofs.sessions.a_calling_end_hears_what_comes_until_class_2.{IsGone, known_below}
+use Rattle.osi_watched.proofs.sessions.a_calling_end_hears_what_comes_until_class_2.{known_below}
 use Rattle.osi_watched.proofs.sessions.a_calling_end_stands_until_class_2.{StandsUntilTwo}
 use Rattle.osi_watched.proofs.sessions.a_dt_of_class_0_has_one_place.{IsOnly, open_there}
 use Rattle.osi_watched.proofs.sessions.an_end_of_class_0_has_its_connection_open.{MayBeFollowed}
@@ -57,11 +54,8 @@ HasBegun barred d Inv = (deeds : ℕ → Deeds) (j : Joint) → Inv deeds j → 
 -- ---- the connection of the end
 
 module _ (r peer : ℕ) (link : Standing) (c : Carrier) (z : IsZeroAt r peer link c) where
-  is_here : value_at r c.live ≡ Some (linked peer link)
-  is_here = ap (value_at r) z.live ∙ ap (λ (b : Bool). if◌then◌else◌ {A = Option Live} b (Some (linked peer link)) None) (eq-eqb r r refl)
-
   is_amid : stage_at r c ≡ amid peer
-  is_amid = stage_is r c (Some (linked peer link)) (has_given r c) z.lasts refl is_here
+  is_amid = stage_is r c (Some (linked peer link)) (has_given r c) z.lasts refl (grind (arith, eq-eqb))
 
   is_some : RiseFrom 0 c.live → 0 < r
   is_some rise = (subst (RiseFrom 0) z.live rise).0
@@ -71,11 +65,6 @@ module _ (r peer : ℕ) (link : Standing) (c : Carrier) (z : IsZeroAt r peer lin
   none_later coming all q later same sure =
       sure (ap (λ (n : ℕ). may_take c n) same ∙ ap is_under_way is_amid)
       ∙ none_in_flight q (honest.units_in coming) (subst (AllByRecursion MayBeFollowed) (same_units coming) all)
-
--- the one place
-one_place : (d : Direction) (r : ℕ) (gone : ℕ → Type 0) (j : Joint) (one : HasOne d r gone j.course.traffic j.course.sessions)
-    (o : IsOnly j.course.traffic) → o.place ≡ one.place
-one_place d r gone j one o = grind (arith, eqb-true, unlike)
 
 -- ---- a calling end
 
@@ -87,7 +76,7 @@ calling_begun local deeds j h courses sane firm class not all r peer link at o x
     joined_is_begun Left deeds (known_below h.ahead.bound end (honest.units_in j.coming)) j.put j.begun j.course.traffic j.course.sessions
     j.holding.end h.early.all courses r peer link at o.place o.connection x o.there here
     (h.early.all.judged firm.firm o.place o.connection o.there) (open_there Left j.course.traffic o)
-    (z.one.mine x (ap (slice_get j.course.sessions.live) (sym (one_place Left z.r (IsGone end) j z.one o)) ∙ here)
+    (z.one.mine x (ap (slice_get j.course.sessions.live) (sym (grind (arith, eqb-true, unlike))) ∙ here)
     ∙ ap (λ (n : ℕ). Some n) (sym same))
     (λ q later is sure. none_later r peer link end at j.coming all q later is sure.1)
 
@@ -105,7 +94,7 @@ zero_called local deeds j h courses sane firm all r peer link at o x here =
     joined_is_begun Right deeds (known_one h.r end (honest.units_in j.coming)) j.put j.begun j.course.traffic j.course.sessions
     j.holding.end h.early_is.all courses r peer link at o.place o.connection x o.there here
     (h.early_is.all.judged firm.firm o.place o.connection o.there) (open_there Right j.course.traffic o)
-    (one.mine x (ap (slice_get j.course.sessions.live) (sym (one_place Right h.r IsNone j one o)) ∙ here)
+    (one.mine x (ap (slice_get j.course.sessions.live) (sym (grind (arith, eqb-true, unlike))) ∙ here)
     ∙ ap (λ (n : ℕ). Some n) (sym same))
     (λ q later is sure. none_later r peer link end at j.coming all q later is sure.2)
 

@@ -16,7 +16,7 @@ use Rattle.osi_watched.specs.Shown.{calls_from}
 use Rattle.osi_watched.proofs.a_carrier_does_events.{none_of}
 use Rattle.osi_watched.proofs.small_facts_that_many_lemmas_use.{none_some, over_none, zero_two}
 use Rattle.osi_watched.proofs.steps_are_events.{IsFollowed}
-use Rattle.osi_watched.proofs.sessions.a_called_end_stands_in_class_0.{class_by, stage_of}
+use Rattle.osi_watched.proofs.sessions.a_called_end_stands_in_class_0.{stage_of}
 use Rattle.osi_watched.proofs.sessions.a_calling_end_stands_until_class_2.{runs_staged}
 use Rattle.osi_watched.proofs.sessions.what_a_turn_puts_goes_to_its_peer.{one_of}
 
@@ -57,7 +57,7 @@ module _ (local : Local) (w : Whole) (c : Carrier) (still : w.end.ended ≡ None
   calling_open (known two seen has) all = zero_two w.tap.course.class is two
 
   called_open : CalledStage local w → IsOpenIn c
-  called_open h = grind (arith, class_by, none_some, open_in)
+  called_open h = grind (arith, none_some, open_in)
 
 -- ---- at a tap
 

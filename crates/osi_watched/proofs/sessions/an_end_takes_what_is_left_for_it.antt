@@ -3,8 +3,7 @@
 -- For all connections of an end and a tap, after breaks of the other side too.
 use Rattle.std.proofs.Common.{arith}
 use Rattle.osi_watched.proofs.Vocabulary.{[], ap, Bool, false, List, None, refl, Some, subst, sym, true, ℕ, ◌++◌, ◌<◌, ◌∙◌, ◌∷◌, ◌≡◌, ◌||◌}
-use Rattle.osi_watched.proofs.Vocabulary.{Value, Part, early}
-use Rattle.osi_watched.proofs.Vocabulary.{Life, stage_at, stage_over, Time, Opens, Continues, Deeds, units_in, all_units}
+use Rattle.osi_watched.proofs.Vocabulary.{Value, Part, early, Life, stage_at, stage_over, Time, Continues, Deeds, units_in, all_units}
 use Rattle.osi_watched.proofs.Vocabulary.{Marked, Turn, parts_of, picked_join, Joint, TakesTurn, Carrier}
 use Rattle.osi_honest.proofs.courses.how_long_a_connection_is_open.{HasNoDr}
 use Rattle.osi_watched.proofs.sessions.a_calling_end_takes_nothing_before_its_cc.{quiet_turn}
@@ -25,11 +24,8 @@ during_clean : (r : ℕ) (units : List Marked) → HasNoDr r units → IsClean r
 during_clean r [] h = refl
 during_clean r (m ∷ units) h = ap (λ (b : Bool). b || has_dr r (all_units units)) h.0 ∙ during_clean r units h.1
 
-opening_clean : (is_caller : Bool) (r peer : ℕ) (unit : Value) → Opens is_caller r peer unit → IsClean r (unit ∷ [])
-opening_clean is_caller r peer unit o = grind arith
-
 left_flight : (is_caller : Bool) (r : ℕ) → IsFlight is_caller r (AreLeft r) (IsClean r)
-left_flight is_caller r = grind (arith, left_front, dr_none, during_clean, opening_clean)
+left_flight is_caller r = grind (arith, left_front, dr_none, during_clean)
 
 -- ---- a connection that may take more
 
@@ -58,10 +54,6 @@ module _ (is_caller : Bool) (turn : Turn) (old new : Joint) (t : TakesTurn turn 
       TakesLeft later
   left_takes ready later sure = search (arith, turn_takes_by, left_flight is_caller r)
 
-  -- as long as it may take more, it took no DR for the connection
-  pub took_clean : IsReadyNow → may_take new.holding.end.carrier r ≡ true → IsClean r (all_units on.took)
-  took_clean ready live = search (arith, turn_clean, left_flight is_caller r)
-
   pub was_live : may_take new.holding.end.carrier r ≡ true → may_take old.holding.end.carrier r ≡ true
   was_live live = still_live is_caller r (stage_at r old.holding.end.carrier) on.took on.put (stage_at r new.holding.end.carrier) life live
 
@@ -73,7 +65,7 @@ module _ (is_caller : Bool) (turn : Turn) (old new : Joint) (t : TakesTurn turn 
       let none : s.left ++ units_in new.coming ≡ units_in new.coming =
       ap (λ (l : List Value). l ++ units_in new.coming) (s.all (live_lasts r new.holding.end.carrier live)) in
       subst (λ (l : List Value). has_dr r l ≡ true) none
-      (dr_later r (all_units on.took) (s.left ++ units_in new.coming) (took_clean ready live)
+      (dr_later r (all_units on.took) (s.left ++ units_in new.coming) (search (arith, turn_clean, left_flight is_caller r))
       (subst (λ (l : List Value). has_dr r l ≡ true) s.coming was))
 
   -- ---- nothing of what has come is for it

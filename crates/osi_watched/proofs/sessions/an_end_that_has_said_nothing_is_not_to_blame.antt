@@ -1,19 +1,17 @@
 -- No session of an end is to blame that has sent no DT; and what passes keeps that so, unless it is a DT of the end.
 -- For the law that no session of an end is blamed first, if the end doesn't offer class 2 and class 0 is not selected.
 use Rattle.std.proofs.Common.{arith}
-use Rattle.osi_watched.proofs.Vocabulary.{[], Bool, false, inl, inr, List, Some, subst, sym, true, ℕ, ◌∙◌, ◌∷◌, ◌≡◌}
-use Rattle.osi_watched.proofs.Vocabulary.{◌⊎◌, slice_get, Value, Local, meaning_if, meant}
-use Rattle.osi_watched.proofs.Vocabulary.{Traffic as State, takes, other, Direction, AllProper, Deeds}
-use Rattle.osi_watched.proofs.Vocabulary.{IsToBlame, adds_if, all_begin, asked, Joined, Sessions, spoken, taken, unit_passes, units_pass}
-use Rattle.osi_watched.proofs.Vocabulary.{way_of, told, Room, after_add, after_set, IsOngoing, begins_other}
-use Rattle.osi_watched.proofs.Vocabulary.{begins_own, Joint, passes_other, passes_own, Step, Steps, calls_from}
+use Rattle.osi_watched.proofs.Vocabulary.{[], Bool, false, inl, inr, List, Some, subst, sym, ℕ, ◌∙◌, ◌∷◌, ◌≡◌, ◌⊎◌, slice_get, Value, Local}
+use Rattle.osi_watched.proofs.Vocabulary.{meaning_if, meant, Traffic as State, takes, other, Direction, AllProper, Deeds, adds_if}
+use Rattle.osi_watched.proofs.Vocabulary.{all_begin, asked, Joined, Sessions, spoken, taken, unit_passes, units_pass, way_of, told, Room}
+use Rattle.osi_watched.proofs.Vocabulary.{after_add, after_set, IsOngoing, begins_other, begins_own, Joint, passes_other, passes_own, Step}
+use Rattle.osi_watched.proofs.Vocabulary.{Steps, calls_from}
 use Rattle.osi_rules.specs.declared.findings.Meaning.TheVariants as meaning
 use Rattle.osi_fair.specs.Wholes as wholes
 use Rattle.osi_tap.specs.Connections.{packet_begins}
 use Rattle.osi_tap.specs.Connections as joined
 use Rattle.osi_tap.specs.Courses.{Course}
 use Rattle.osi_watched.proofs.steps_are_events.{IsFollowed, begin_followed, step_followed}
-use Rattle.osi_watched.proofs.sessions.a_session_that_is_shown_is_not_to_blame.{none_broken, not_both}
 use Rattle.osi_watched.proofs.sessions.after_too_many_nobody_is_to_blame.{NoneIsToBlame}
 use Rattle.osi_watched.proofs.sessions.all_connections_stand.{map_of}
 use Rattle.osi_watched.proofs.sessions.connections_have_the_same_places.{Agree, packet_agrees, unit_agrees, unit_joins, units_agree}
@@ -31,40 +29,23 @@ pub record IsMute (d : Direction) (t : Sessions) : Type 0 where
   pub live : (i : ℕ) (j : Joined) → slice_get t.live i ≡ Some j → (spoken d j).said ≡ []
   pub done : (i : ℕ) (j : Joined) → slice_get t.done i ≡ Some j → (spoken d j).said ≡ []
 
-not_blamed : (d : Direction) (j : Joined) → IsUnsaid d j → IsToBlame d j → ⊥
-not_blamed d j none blame = grind (arith, not_both, none_broken)
-
 pub mute_none : (d : Direction) (t : Sessions) → IsMute d t → NoneIsToBlame d t
-mute_none d t h = grind (arith, not_blamed)
+mute_none d t h = grind arith
 
 -- ---- what passes
 
 said_begun : (d e : Direction) (j : Joined) → (spoken d (packet_begins e j)).said ≡ (spoken d j).said
 said_begun d e j = grind arith
 
-said_shut : (d : Direction) (j : Joined) → (spoken d (joined.shut j)).said ≡ (spoken d j).said
-said_shut d j = grind arith
-
-said_opened : (d e : Direction) (at : ℕ) (v : Value) (j : Joined) →
-    (spoken d (joined.meant e at v meaning.Opens j)).said ≡ (spoken d j).said
-said_opened d e at v j = grind arith
-
 -- a DT of the other side
 said_added : (b : Bool) (room : Room) (d : Direction) (at : ℕ) (end : Bool) (octets : List ℕ) (j : Joined) →
     (spoken d (adds_if b room (other d) at end octets j)).said ≡ (spoken d j).said
 said_added b room d at end octets j = grind arith
 
-said_part : (d e : Direction) (at : ℕ) (end : Bool) (octets : List ℕ) (j : Joined) → (e ≡ d → ⊥) →
-    (spoken d (joined.adds e at end octets j)).said ≡ (spoken d j).said
-said_part d e at end octets j apart = grind (arith, said_added)
-
-differ : true ≡ false → ⊥
-differ e = cc
-
 -- what a unit means for its connection
 said_meant : (d e : Direction) (at : ℕ) (v : Value) (b : Bool) (j : Joined) → (e ≡ d → is_part v ≡ false) →
     (spoken d (joined.meant e at v (meaning_if b (meant v)) j)).said ≡ (spoken d j).said
-said_meant d e at v b j h = grind (arith, said_opened, said_shut, said_part, differ)
+said_meant d e at v b j h = grind arith
 
 said_asked : (d : Direction) (number calling : ℕ) (room : Room) → (spoken d (asked number calling room)).said ≡ []
 said_asked d number calling room = grind arith
@@ -73,10 +54,6 @@ module _ (d e : Direction) (at : ℕ) (v : Value) (s : State) (t : Sessions) (no
   one_or : (p i : ℕ) (new j : Joined) → IsUnsaid d new → ((i ≡ p) × (j ≡ new)) ⊎ (slice_get t.live i ≡ Some j) → IsUnsaid d j
   one_or p i new j none (inl (there, is)) = subst (IsUnsaid d) (sym is) none
   one_or p i new j none (inr here) = h.live i j here
-
-  old_or : (p i : ℕ) (old j : Joined) → IsUnsaid d old → ((i ≡ p) × (j ≡ old)) ⊎ (slice_get t.done i ≡ Some j) → IsUnsaid d j
-  old_or p i old j none (inl (there, is)) = subst (IsUnsaid d) (sym is) none
-  old_or p i old j none (inr here) = h.done i j here
 
   mute_by : Does e at v s t (takes (way_of e) v s) →
       IsMute d (taken e at v (takes (way_of e) v s).told.meaning (takes (way_of e) v s).told.place t)
@@ -89,7 +66,7 @@ module _ (d e : Direction) (at : ℕ) (v : Value) (s : State) (t : Sessions) (no
         done = h.done;
       })
   mute_by (asks_more x is number cs ts) = search (arith, one_or, said_asked, after_add)
-  mute_by (asks_again x is number p k here free cs ts) = search (arith, one_or, said_asked, after_set, old_or, after_add)
+  mute_by (asks_again x is number p k here free cs ts) = search (arith, one_or, said_asked, after_set, after_add)
 
 mute_unit : (d e : Direction) (at : ℕ) (v : Value) (c : Course) → Agree c → (e ≡ d → is_part v ≡ false) → IsMute d c.sessions →
     IsMute d (unit_passes e at v c).sessions

@@ -1,12 +1,11 @@
 -- A CR and a CC leave all connections of an end standing at a tap: those of the end, and those of the other side.
 -- For the session of each connection of an end.
 use Rattle.osi_watched.proofs.Vocabulary.{[], ap, arith, Bool, false, length, List, map, None, Option, refl, Some, subst, sym, true, ℕ}
-use Rattle.osi_watched.proofs.Vocabulary.{◌++◌, ◌∙◌, ◌∷◌, ◌≡◌, ◌≤◌, append-nil, AllByRecursion, slice_get, confirm, Connect, request, Value}
-use Rattle.osi_watched.proofs.Vocabulary.{parts_in, Part, Class, is_applied, is_open, asked_by, connection_after, found_on, meaning_if}
-use Rattle.osi_watched.proofs.Vocabulary.{meant, Traffic as State, takes, Connection, Reach, Half, other, Direction, Left, Right, Deeds}
-use Rattle.osi_watched.proofs.Vocabulary.{said_in, asked, Joined, opened, reference_of, Sessions, spoken, heard, Spoken, All, applied_found}
-use Rattle.osi_watched.proofs.Vocabulary.{picked_first, picked_rest, all_before, AreAfter, before_begun, before_of, IsJoinedFrom}
-use Rattle.osi_watched.proofs.Vocabulary.{IsShownNow, IsOneOf}
+use Rattle.osi_watched.proofs.Vocabulary.{◌++◌, ◌∙◌, ◌∷◌, ◌≡◌, ◌≤◌, AllByRecursion, slice_get, confirm, Connect, request, Value, parts_in}
+use Rattle.osi_watched.proofs.Vocabulary.{Part, Class, is_applied, is_open, asked_by, connection_after, found_on, meaning_if, meant}
+use Rattle.osi_watched.proofs.Vocabulary.{Traffic as State, takes, Connection, Reach, Half, other, Direction, Left, Right, Deeds, said_in}
+use Rattle.osi_watched.proofs.Vocabulary.{asked, Joined, opened, reference_of, Sessions, spoken, heard, Spoken, All, applied_found}
+use Rattle.osi_watched.proofs.Vocabulary.{picked_first, picked_rest, all_before, AreAfter, before_begun, before_of, IsShownNow, IsOneOf}
 use Rattle.osi_rules.specs.declared.directions.Direction.TheVariants as way
 use Rattle.osi_tap.specs.Connections.{class_of}
 use Rattle.osi_tap.specs.Connections as joined
@@ -21,9 +20,6 @@ use Rattle.osi_watched.proofs.sessions.what_stands_of_a_connection.{waiting_for}
 
 -- ---- a connection at its beginning
 
-none_joined : (parts : List Part) (s : Spoken) → parts ≡ [] → IsUnsaid s → IsJoinedFrom parts s
-none_joined parts s none u = grind arith
-
 none_before : (s : Spoken) → IsUnsaid s → all_before s ≡ []
 none_before s u = (λ i. map before_of (u.said i) ++ before_begun (u.begun i))
 
@@ -37,12 +33,12 @@ starts_shown d r deeds waiting j named mine theirs room put none = record {
     passed = [];
     waiting = waiting;
     put = put;
-    said = none_joined [] (spoken d j) refl mine;
+    said = grind arith;
     after = subst (λ (l : List ℕ). AreAfter l (said_in 0 deeds.calls)) (sym (none_before (spoken d j) mine)) tt;
     so_far = subst (λ (l : List ℕ). AllByRecursion (λ n. n ≤ length (heard (spoken (other d) j))) l) (sym (none_before
         (spoken d j) mine)) tt;
     later = [];
-    came = none_joined (parts_in deeds.calls ++ []) (spoken (other d) j) (append-nil (parts_in deeds.calls) ∙ none) theirs;
+    came = grind arith;
   };
   waiting_is = refl;
   later_is = refl;
@@ -51,18 +47,11 @@ starts_shown d r deeds waiting j named mine theirs room put none = record {
   room = room;
 }
 
--- as long as the other side gave no reference, nothing is for the connection
-for_none : (v : Value) → is_for None v ≡ false
-for_none v = grind arith
-
 pub none_for : (put : List Value) → waiting_for None put ≡ []
 none_for [] = refl
-none_for (v ∷ put) = picked_rest (is_for None) v put (for_none v) ∙ none_for put
+none_for (v ∷ put) = picked_rest (is_for None) v put (grind arith) ∙ none_for put
 
 -- ---- a CR
-
-unsaid_asked : (number calling : ℕ) → IsUnsaid (spoken Left (asked number calling All))
-unsaid_asked number calling = record { said = refl; begun = refl; since = refl }
 
 -- of a calling end: nothing is done there yet
 pub own_cr : (deeds : ℕ → Deeds) (known : Known) (at : ℕ) (x : Connect) (rest : List Value) (s : State) (t : Sessions) →
@@ -87,35 +76,10 @@ own_cr deeds known at x rest s t put none sure = record {
         subst (λ (z : Connect). Stands Left deeds known rest false (asked_by z) (asked number z.source All)) same
         (lives x.source None refl refl [] sure
         (subst (λ (l : List Value). IsShownNow Left x.source (deeds x.source) l [] false (asked number x.source All)) (sym (none_for rest))
-        (starts_shown Left x.source (deeds x.source) [] (asked number x.source All) refl (unsaid_asked number x.source)
+        (starts_shown Left x.source (deeds x.source) [] (asked number x.source All) refl (grind arith)
         (record { said = refl; begun = refl; since = refl }) refl put none)))
 
--- that comes to a called end
-pub other_cr : (deeds : ℕ → Deeds) (known then_known : Known) (at : ℕ) (x : Connect) (put : List Value) (b : Bool) (s : State)
-    (t : Sessions) →
-    ((r : ℕ) (later : List Part) → known r later → then_known r later) →
-    Leaves Right deeds known then_known put put b b Left at (request x) s t
-other_cr deeds known then_known at x put b s t stays = record {
-  all = λ e c j h. stands_other_none Right deeds known then_known put b c c j j (like_same Right j) refl refl
-      (λ r later is. stays r later) h;
-  elsewhere = λ p i first c k j apart place there one at_k finding at_c at_j another judged h.
-      stands_other_none Right deeds known then_known put b c c j j (like_same Right j) refl refl (λ r later is. stays r later) h;
-  here = λ p c j y r place there at_j one finding is far on judged h.
-      other_plain Right deeds known then_known at (request x) put y b r c j tt (λ n later is. stays n later) h;
-  asked_so = λ y number is. unnamed refl (record { said = refl; begun = refl; since = refl })
-      (record { said = refl; begun = refl; since = refl }) refl;
-  others = λ y is c j h.
-      stands_other_none Right deeds known then_known put b c c j j (like_same Right j) refl refl (λ r later is. stays r later) h;
-  moves = λ y is j h. rests_on Right deeds known then_known j (λ r later is. stays r later) h;
-  keeps = λ i j here h. rests_on Right deeds known then_known j (λ r later is. stays r later) h;
-}
-
 -- ---- a CC
-
--- it is the first answer: right had given no reference
-unanswered : (s : State) (n : ℕ) (x : Connect) (c : Connection) (j : Joined) → IsOneOf c j →
-    is_applied (found_on way.Right s c (confirm n x)) ≡ true → j.called ≡ None
-unanswered s n x c j one h = grind (arith, applied_found, none_given, first_answer)
 
 -- of a called end: what it has put there is what waits after the CC
 pub own_cc : (deeds : ℕ → Deeds) (known : Known) (at n : ℕ) (x : Connect) (rest : List Value) (s : State) (t : Sessions) →
@@ -152,7 +116,7 @@ own_cc deeds known at n x rest s t put none sure a = record {
         Stands Right deeds known rest false (connection_after way.Right (confirm n x) b r c)
         (joined.meant Right at (confirm n x) (meaning_if b (meant (confirm n x))) j)
     by false p c j r is place at_j one h = own_plain Right deeds known at (confirm n x) rest false true r c j refl h
-    by true p c j r is place at_j one h = opens p c j r place at_j (unanswered s n x c j one is) h
+    by true p c j r is place at_j one h = opens p c j r place at_j (grind (arith, applied_found, none_given, first_answer)) h
 
 -- of no unit that waits none is the next
 next_none : (o : Option ℕ) (b : Bool) (put : List Value) → waiting_for o put ≡ [] → is_next o b put ≡ false
@@ -206,4 +170,4 @@ other_cc deeds known then_known at n x put b s t unheard stays = record {
         (joined.meant Right at (confirm n x) (meaning_if y (meant (confirm n x))) j)
     by false c j r is one told h =
         other_plain Left deeds known then_known at (confirm n x) put false b r c j refl (λ m later e. stays m later) h
-    by true c j r is one told h = opens c j r (unanswered s n x c j one is) (unheard (told is)) h
+    by true c j r is one told h = opens c j r (grind (arith, applied_found, none_given, first_answer)) (unheard (told is)) h

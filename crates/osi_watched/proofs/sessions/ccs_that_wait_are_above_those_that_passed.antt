@@ -4,12 +4,11 @@
 use Rattle.osi_watched.proofs.Vocabulary.{[], arith, Bool, Err, false, if◌then◌else◌, is_some, List, None, Ok, Option, refl, Result, Some}
 use Rattle.osi_watched.proofs.Vocabulary.{subst, sym, true, ℕ, ◌++◌, ◌+◌, ◌<◌, ◌∷◌, ◌≡◌, ◌≤◌, AllByRecursion, acknowledge, confirm, Connect}
 use Rattle.osi_watched.proofs.Vocabulary.{data0, data2, disconnect, disconnected, error, request, Value, all_given, Standing, with_tsdu}
-use Rattle.osi_watched.proofs.Vocabulary.{accept, refuse, selected_by, Selection, LinkFault, Class, Two, Zero, sent, answers_request}
-use Rattle.osi_watched.proofs.Vocabulary.{before_class, denies, handed_out, has_peer, in_class, in_two, is_full, react_by, Rows, user_does}
-use Rattle.osi_watched.proofs.Vocabulary.{UserCall, Live, Carrier, unit_gives, AreAbove, all_gives, closed_gives, ended_gives, not_less}
-use Rattle.osi_watched.proofs.Vocabulary.{sent_gives, above_more, units_no_cc, put_at, put_before, put_by, put_closed, put_closing, put_for}
-use Rattle.osi_watched.proofs.Vocabulary.{put_for_request, put_for_selection, put_in, put_in_two, put_in_zero, put_leaving, put_linked}
-use Rattle.osi_watched.proofs.Vocabulary.{put_only, put_sent, put_taking, put_together, put_unknown, refusal, Event, HappenAlong, Happens}
+use Rattle.osi_watched.proofs.Vocabulary.{accept, refuse, selected_by, Selection, LinkFault, Class, Two, Zero, sent, before_class, denies}
+use Rattle.osi_watched.proofs.Vocabulary.{handed_out, in_class, in_two, react_by, Rows, user_does, UserCall, Live, Carrier, unit_gives}
+use Rattle.osi_watched.proofs.Vocabulary.{AreAbove, all_gives, closed_gives, ended_gives, not_less, sent_gives, above_more, units_no_cc}
+use Rattle.osi_watched.proofs.Vocabulary.{put_at, put_before, put_by, put_closing, put_for, put_for_selection, put_in, put_in_two}
+use Rattle.osi_watched.proofs.Vocabulary.{put_leaving, put_only, put_sent, put_taking, put_together, refusal, Event, HappenAlong, Happens}
 use Rattle.osi_watched.proofs.Vocabulary.{Whole}
 use Rattle.osi_carrier.specs.React.{answers}
 unfoldable use Rattle.osi_carrier.specs.React.{react}
@@ -26,9 +25,6 @@ no_ccs_join : (xs ys : List Value) → NoCcs xs → NoCcs ys → NoCcs (xs ++ ys
 no_ccs_join [] ys a b = b
 no_ccs_join (x ∷ xs) ys a b = (a.0, no_ccs_join xs ys a.1 b)
 
-for_unknown : (unit : Value) → NoCcs (put_unknown unit)
-for_unknown unit = grind arith
-
 for_taking : (r peer : ℕ) (result : Result Standing LinkFault) (held : Option Class) → NoCcs (put_taking r peer result held)
 for_taking r peer (Ok link) held = units_no_cc peer (all_given (handed_out link))
 for_taking r peer (Err fault) (Some Two) = (λ m x e. cc e, tt)
@@ -37,67 +33,50 @@ for_taking r peer (Err fault) _ = tt
 for_leaving : (r peer : ℕ) (held : Option Class) → NoCcs (put_leaving r peer held)
 for_leaving r peer held = grind arith
 
-for_linked : (r peer : ℕ) (link : Standing) (unit : Value) (held : Option Class) → NoCcs (put_linked r peer link unit held)
-for_linked r peer link unit held = grind (arith, for_leaving, for_taking)
-
 for_connection : (r : ℕ) (o : Option Live) (unit : Value) (held : Option Class) → NoCcs (put_at r o unit held)
-for_connection r o unit held = grind (arith, for_unknown, for_linked)
+for_connection r o unit held = grind (arith, for_leaving, for_taking)
 
 -- none, or one with the next reference
 data Puts (s new : Carrier) (units : List Value) : Type 0 where
   puts_none : NoCcs units → Puts s new units
   puts_one : (m : ℕ) (x : Connect) → x.source ≡ s.given + 1 → new.given ≡ s.given + 1 → units ≡ confirm m x ∷ [] → Puts s new units
 
-denied : (s new : Carrier) (reason peer : ℕ) → Puts s new (refusal reason peer)
-denied s new reason peer = puts_none (λ m x e. cc e, tt)
-
 by_selection : (c : Connect) (selection : Selection) (held : Option Class) (s : Carrier) →
     Puts s (answers c selection held s) (put_for_selection c selection held s)
-by_selection c (refuse reason) held s = denied s (denies reason c.source s) reason c.source
+by_selection c (refuse reason) held s = grind arith
 by_selection c (accept Two size) held s = puts_one c.source _ refl refl refl
 by_selection c (accept Zero size) None s = puts_one c.source _ refl refl refl
-by_selection c (accept Zero size) (Some class) s = denied s (denies 136 c.source s) 136 c.source
+by_selection c (accept Zero size) (Some class) s = grind arith
 
 by_room : (c : Connect) (in_use full : Bool) (s : Carrier) →
     Puts s
     (if in_use then denies 131 c.source s else (if full then denies 1 c.source s else answers c (selected_by c s.local) s.class s))
     (if in_use then refusal 131 c.source else (if full then refusal 1 c.source else put_for_selection c (selected_by c s.local) s.class s))
-by_room c true full s = denied s (denies 131 c.source s) 131 c.source
-by_room c false true s = denied s (denies 1 c.source s) 1 c.source
+by_room c true full s = grind arith
+by_room c false true s = grind arith
 by_room c false false s = by_selection c (selected_by c s.local) s.class s
-
-for_request : (c : Connect) (s : Carrier) → Puts s (answers_request c s) (put_for_request c s)
-for_request c s = by_room c (has_peer c.source s.live) (is_full s) s
 
 before : (is_caller : Bool) (unit : Value) (s : Carrier) → Puts s (before_class is_caller unit s) (put_before is_caller unit s)
 before true (confirm destination c) s = grind (arith, for_connection)
 before true (disconnect destination source reason user) s = grind (arith, for_connection)
 before true (error destination cause) s = grind (arith, for_connection)
 before true _ s = puts_none tt
-before false (request c) s = for_request c s
+before false (request c) s = search (arith, by_room)
 before false _ s = puts_none tt
 
 only : (live : Rows Live) (unit : Value) (s : Carrier) → NoCcs (put_only live unit s)
 only [] unit s = tt
 only ((r, connection) ∷ rows) unit s = for_connection r (Some connection) unit s.class
 
-in_class_zero : (is_caller : Bool) (unit : Value) (s : Carrier) → NoCcs (put_in_zero is_caller unit s)
-in_class_zero is_caller unit s = grind (arith, only)
-
--- a unit that is no CR
-in_class_two : (is_caller : Bool) (unit : Value) (s : Carrier) → ((c : Connect) → unit ≡ request c → ⊥) →
-    NoCcs (put_in_two is_caller unit s)
-in_class_two is_caller unit s none = grind (arith, for_connection)
-
 two_by : (is_caller : Bool) (unit : Value) (s : Carrier) → Puts s (in_two is_caller unit s) (put_in_two is_caller unit s)
 two_by true (request c) s = puts_none tt
-two_by false (request c) s = for_request c s
-two_by b (confirm destination c) s = puts_none (in_class_two b (confirm destination c) s (λ x e. cc e))
-two_by b v s = puts_none (in_class_two b v s (λ x e. cc e))
+two_by false (request c) s = search (arith, by_room)
+two_by b (confirm destination c) s = puts_none (grind (arith, for_connection))
+two_by b v s = puts_none (grind (arith, for_connection))
 
 by_class : (held : Option Class) (unit : Value) (s : Carrier) → Puts s (in_class held unit s) (put_in held unit s)
 by_class None unit s = before s.is_caller unit s
-by_class (Some Zero) unit s = puts_none (in_class_zero s.is_caller unit s)
+by_class (Some Zero) unit s = puts_none (grind (arith, only))
 by_class (Some Two) unit s = two_by s.is_caller unit s
 
 by_end : (over : Bool) (unit : Value) (s : Carrier) → Puts s (react_by over unit s) (if over then [] else put_in s.class unit s)
@@ -117,11 +96,8 @@ for_together : (r : ℕ) (tsdus : List (List ℕ)) (s : Carrier) → NoCcs (put_
 for_together r [] s = tt
 for_together r (tsdu ∷ tsdus) s = grind (arith, no_ccs_join, for_sent, for_together r tsdus (sent r tsdu s))
 
-for_closed : (r reason peer : ℕ) (held : Option Class) → NoCcs (put_closed r reason peer held)
-for_closed r reason peer held = grind arith
-
 for_closing : (r reason : ℕ) (o : Option (ℕ × Standing)) (held : Option Class) → NoCcs (put_closing r reason o held)
-for_closing r reason o held = grind (arith, for_closed)
+for_closing r reason o held = grind arith
 
 call_puts : (call : UserCall) (s : Carrier) → NoCcs (put_by call s)
 call_puts call s = grind (arith, for_sent, for_together, for_closing)
@@ -179,15 +155,12 @@ module _ (b : ℕ) where
       AreAbove (react unit w.end).given b (w.put ++ put_for unit w.end)
   arrived unit w h a = grind (arith, above_higher, unit_gives, above_more, above_cc)
 
-  passes_one : (given : ℕ) (v : Value) (put : List Value) → AreAbove given b (v ∷ put) → AreAbove given b put
-  passes_one given v put h = grind (arith, above_lower)
-
   above_happens : (event : Event) (old new : Whole) → Happens way.Right event old new → AreAboveAt b old → AreAboveAt b new
   above_happens wholes.arrives old new (unit, coming, is) a =
       subst (AreAboveAt b) (sym is) (arrived unit old (unit_puts unit old.end) a)
   above_happens (wholes.calls call) old new (may, is) a = grind (arith, above_higher, call_gives, above_more, call_puts)
   above_happens wholes.begins_own old new (some, none, is) a = subst (AreAboveAt b) (sym is) a
-  above_happens wholes.passes_own old new (v, put, begun, is) a = grind (arith, passes_one)
+  above_happens wholes.passes_own old new (v, put, begun, is) a = grind (arith, above_lower)
   above_happens wholes.begins_other old new is a = subst (AreAboveAt b) (sym is) a
   above_happens (wholes.passes_other v) old new (ranges, is) a = subst (AreAboveAt b) (sym is) a
   above_happens wholes.passes_rubbish old new is a = subst (AreAboveAt b) (sym is) a

@@ -5,16 +5,14 @@ use Rattle.osi_watched.proofs.Vocabulary.{[], ap, Bool, false, if◌then◌else�
 use Rattle.osi_watched.proofs.Vocabulary.{set, Some, subst, suc, sym, true, zero, ℕ, ◌&&◌, ◌==◌, ◌∙◌, ◌∷◌, ◌≡◌, ◌⊎◌, eqb-true}
 use Rattle.osi_watched.proofs.Vocabulary.{slice_get-map, list_all, position, slice_get, ◌||◌, confirm, Connect, data0, disconnect}
 use Rattle.osi_watched.proofs.Vocabulary.{disconnected, error, request, Value, Class, Two, Zero, is_applied, first_failed, begins}
-use Rattle.osi_watched.proofs.Vocabulary.{is_closed, is_closing, is_live, is_named, is_open, is_over, is_over_by, is_refused}
-use Rattle.osi_watched.proofs.Vocabulary.{is_silent, seen, asked_by, asks_by, asks_kept, at_found, at_place, closing_phase}
-use Rattle.osi_watched.proofs.Vocabulary.{connection_after, course_after, course_after_none, course_begins, found, found_on, fresh}
-use Rattle.osi_watched.proofs.Vocabulary.{half_after, judged_on, none_told, request_tests, route_in}
-use Rattle.osi_watched.proofs.Vocabulary.{routed, sent_on, Traffic as State, takes, unnamed_told, uses_source, Connection, Rules}
-use Rattle.osi_watched.proofs.Vocabulary.{Way as Direction, Finding, Broke, Kept, NotJudged, Reach, Half, Phase, Route, unlike}
-use Rattle.osi_watched.proofs.Vocabulary.{applied_found, applied_judged, no_item, not_first, not_true, AreJudged, reached_class, begun_live}
-use Rattle.osi_watched.proofs.Vocabulary.{each_add, each_map, each_set, first_true, HoldsOfEach, one_added, one_changed, one_mapped}
-use Rattle.osi_watched.proofs.Vocabulary.{one_put, passes_each, NamesApart as AreApart, Sound, lasts_passing, set_there, HoldsOfOne, packet}
-use Rattle.osi_watched.proofs.Vocabulary.{passes, Passing, rubbish, unit, noted}
+use Rattle.osi_watched.proofs.Vocabulary.{is_closed, is_closing, is_live, is_named, is_open, is_over, is_over_by, is_refused, is_silent}
+use Rattle.osi_watched.proofs.Vocabulary.{seen, asked_by, asks_by, asks_kept, at_found, at_place, connection_after, course_after, found}
+use Rattle.osi_watched.proofs.Vocabulary.{found_on, judged_on, none_told, request_tests, route_in, routed, sent_on, Traffic as State, takes}
+use Rattle.osi_watched.proofs.Vocabulary.{unnamed_told, uses_source, Connection, Rules, Way as Direction, Finding, Broke, Kept, NotJudged}
+use Rattle.osi_watched.proofs.Vocabulary.{Reach, Half, Phase, unlike, applied_found, applied_judged, no_item, not_first, not_true}
+use Rattle.osi_watched.proofs.Vocabulary.{AreJudged, reached_class, begun_live, each_add, each_map, each_set, first_true, HoldsOfEach}
+use Rattle.osi_watched.proofs.Vocabulary.{one_added, one_changed, one_mapped, one_put, passes_each, NamesApart as AreApart, Sound}
+use Rattle.osi_watched.proofs.Vocabulary.{lasts_passing, set_there, HoldsOfOne, packet, passes, Passing, rubbish, unit, noted}
 use Rattle.osi_rules.specs.declared.directions.Direction.TheVariants.{Left, Right}
 use Rattle.osi_rules.specs.declared.findings.Reach.TheVariants as reach
 use Rattle.osi_rules.specs.declared.findings.Rule.TheVariants as rule
@@ -104,9 +102,6 @@ narrow_only s apart judged firm n class =
 pub reached_seen : (d : Direction) (r : Reach) (c : Rules) → (reached d r c).class_seen ≡ c.class_seen
 reached_seen d r c = grind arith
 
-pub none_same : (v : Value) (c : Rules) → ((course_after_none v c).class ≡ c.class) × ((course_after_none v c).class_seen ≡ c.class_seen)
-none_same v c = grind arith
-
 pub after_seen : (d : Direction) (c : Connection) (v : Value) (x : Bool) (course : Rules) →
     (course_after d c v x course).class_seen ≡ course.class_seen
 after_seen d c v x course = grind arith
@@ -114,15 +109,11 @@ after_seen d c v x course = grind arith
 after_false : (d : Direction) (c : Connection) (v : Value) (course : Rules) → (course_after d c v false course).class ≡ course.class
 after_false d c v course = grind arith
 
-with_course : (s : State) (c : Rules) → c.class ≡ s.course.class → c.class_seen ≡ s.course.class_seen → Narrow s →
-    Narrow (record s { course = c })
-with_course s c class seen n = grind arith
-
 none_narrow : (d : Direction) (f : Finding) (s : State) → Narrow s → Narrow (none_told d f s).state
-none_narrow d f s n = grind (arith, with_course, reached_class, reached_seen)
+none_narrow d f s n = grind (arith, reached_class, reached_seen)
 
 unnamed_narrow : (d : Direction) (v : Value) (s : State) → Narrow s → Narrow (unnamed_told d v s).state
-unnamed_narrow d v s n = grind (arith, none_same, none_narrow, with_course)
+unnamed_narrow d v s n = search (arith, none_narrow)
 
 -- ---- one connection changes
 
@@ -214,29 +205,16 @@ module _ (s : State) (c : Connection) (in_use : Bool) (up : is_open c.left.phase
     (sound : Sound c) (none : s.course.class ≡ None → is_open c.right.phase ≡ false) where
   -- ---- of left
 
-  left_same : (half : Half) → half.phase ≡ c.left.phase → is_over Left c ≡ false →
-      Fits s s.course c (record c { left = half })
-  left_same half same live = grind arith
-
   left_fits : (v : Value) → MayBe v Left s → is_over Left c ≡ false → is_applied (found Left s.course in_use c v) ≡ true →
       Fits s (course_after Left c v true s.course) c (sent_on Left v c)
-  left_fits v may live h = grind (arith, due_test, due_closing, differ, open_silent, error_test, left_same)
+  left_fits v may live h = grind (arith, due_test, due_closing, differ, open_silent, error_test)
 
   -- ---- of right
-
-  right_same : (half : Half) → half.phase ≡ c.right.phase → Fits s s.course c (record c { right = half })
-  right_same half same = grind arith
-
-  right_refuses : (half : Half) → half.phase ≡ phase.Refused → is_open c.right.phase ≡ false → Fits s s.course c (record c { right = half })
-  right_refuses half refused closed = grind arith
-
-  closing_so : (b : Bool) (half : Half) → b ≡ true → (closing_phase b half).phase ≡ phase.Refused
-  closing_so b half h = grind arith
 
   right_closes : (destination source reason : ℕ) (user : List ℕ) → s.course.class ≡ None → is_silent c.right.phase ≡ true →
       Fits s (course_after Right c (disconnect destination source reason user) true s.course) c
       (sent_on Right (disconnect destination source reason user) c)
-  right_closes destination source reason user class silent = grind (arith, right_refuses, closing_so, silent_closed)
+  right_closes destination source reason user class silent = grind (arith, silent_closed)
 
   right_fits : (v : Value) → MayBe v Right s → is_applied (found Right s.course in_use c v) ≡ true →
       Fits s (course_after Right c v true s.course) c (sent_on Right v c)
@@ -244,8 +222,8 @@ module _ (s : State) (c : Connection) (in_use : Bool) (up : is_open c.left.phase
   right_fits (confirm destination x) may h = grind arith
   right_fits (disconnect destination source reason user) may h = grind (arith, right_closes, or_not, one_test)
   right_fits (disconnected destination source) may h = grind (arith, due_test, due_closing, open_closing)
-  right_fits (error destination cause) may h = grind (arith, right_refuses, silent_closed, error_test)
-  right_fits v may h = right_same (half_after v c.right) refl
+  right_fits (error destination cause) may h = grind (arith, silent_closed, error_test)
+  right_fits v may h = grind arith
 
   both_fits : (d : Direction) (v : Value) → MayBe v d s → is_over d c ≡ false → is_applied (found d s.course in_use c v) ≡ true →
       Fits s (course_after d c v true s.course) c (sent_on d v c)
@@ -389,40 +367,26 @@ module _ (s : State) (apart : AreApart s.connections) (n : Narrow s) where
   right_routed (Some Zero) false (error destination cause) e not_two = none_narrow Right (Broke rule.WrongForm) s n
   right_routed (Some Zero) b _ e not_two = none_narrow Right (Broke rule.WrongForm) s n
 
-  goes_narrow : (b : Bool) (d : Direction) (v : Value) (r : Route) → Narrow (routed d v s r).state →
-      Narrow (if b then none_told d NotJudged s else routed d v s r).state
-  goes_narrow b d v r h = grind (arith, none_narrow)
-
   unit_narrow : (d : Direction) (v : Value) → (s.course.class ≡ Some Two → ⊥) → Narrow (takes d v s).state
-  unit_narrow Left v not_two = grind (arith, goes_narrow, left_routed)
-  unit_narrow Right v not_two = grind (arith, goes_narrow, right_routed)
+  unit_narrow Left v not_two = grind (arith, left_routed)
+  unit_narrow Right v not_two = grind (arith, right_routed)
 
 -- ---- a packet begins
-
-begun_judged : (d : Direction) (c : Connection) → (begins d c).is_judged ≡ true → c.is_judged ≡ true
-begun_judged d c j = grind arith
-
-begun_class : (d : Direction) (c : Rules) → (course_begins d c).class ≡ c.class
-begun_class d c = grind arith
-
-begun_seen : (d : Direction) (c : Rules) → (c.class ≡ Some Two → ⊥) → (c.class_seen ≡ Some Two → ⊥) →
-    (course_begins d c).class_seen ≡ Some Two → ⊥
-begun_seen d c class h h2 = grind arith
 
 begins_narrow : (d : Direction) (s : State) → AreApart s.connections → (s.course.class ≡ Some Two → ⊥) → Narrow s →
     Narrow (passes (packet d) s)
 begins_narrow d s apart not_two n = record {
-  known = begun_seen d s.course not_two n.known;
+  known = grind arith;
   asked = each_map (λ (c : Connection). is_open c.left.phase ≡ true) (begins d) s.connections n.asked
       (λ c h. ap (λ (x : Half). is_open x.phase) (begun_left d c) ∙ h);
   answered = each_map (λ (c : Connection). IsAnswer c.right.phase) (begins d) s.connections n.answered
       (λ c h. subst (λ (x : Half). IsAnswer x.phase) (sym (begun_right d c)) h);
   one = one_mapped (is_live Left) (is_live Left) (begins d) s.connections n.one
-      (λ i c at j k. begun_live d c (apart.sound i c at (begun_judged d c j)).left_knows j k);
+      (λ i c at j k. begun_live d c (apart.sound i c at (grind arith)).left_knows j k);
   none = λ h. each_map (λ (c : Connection). is_open c.right.phase ≡ false) (begins d) s.connections
-      (n.none (sym (begun_class d s.course) ∙ h))
+      (n.none (sym (grind arith) ∙ h))
       (λ c k. ap (λ (x : Half). is_open x.phase) (begun_right d c) ∙ k);
-  opened = λ h. let o = n.opened (sym (begun_class d s.course) ∙ h) in record {
+  opened = λ h. let o = n.opened (sym (grind arith) ∙ h) in record {
     place = o.place;
     connection = begins d o.connection;
     there = slice_get-map (begins d) s.connections o.place ∙ ap (λ (x : Option Connection). option_map (begins d) x) o.there;
@@ -435,12 +399,9 @@ begins_narrow d s apart not_two n = record {
 passing_narrow : (p : Passing) (s : State) → AreApart s.connections → (s.course.class ≡ Some Two → ⊥) → Narrow s → Narrow (passes p s)
 passing_narrow (packet d) s apart not_two n = begins_narrow d s apart not_two n
 passing_narrow (unit d v) s apart not_two n = unit_narrow s apart n d v not_two
-passing_narrow (rubbish d) s apart not_two n = grind (arith, with_course, reached_class, reached_seen)
+passing_narrow (rubbish d) s apart not_two n = grind (arith, reached_class, reached_seen)
 
 pub still_narrow : (p : Passing) (s : State) → AreApart s.connections → NarrowIf s → NarrowIf (passes p s)
 still_narrow p s apart n not_two =
     let before : s.course.class ≡ Some Two → ⊥ = λ h. not_two ((lasts_passing p s).two h) in
     passing_narrow p s apart before (n before)
-
-pub fresh_narrow : NarrowIf fresh
-fresh_narrow not_two = grind (arith, no_item)

@@ -1,13 +1,10 @@
 -- The calling side knows of class 0 only once it is selected, whatever passes.
 -- For the units of both sides that are no breaks.
 use Rattle.std.proofs.Common.{arith}
-use Rattle.osi_watched.proofs.Vocabulary.{◌≡◌, sym, subst, ℕ, Bool, List, [], ◌∷◌, if◌then◌else◌, Option, Some}
-use Rattle.osi_watched.proofs.Vocabulary.{Value, Zero, Local, Direction, Connection, Rules}
-use Rattle.osi_watched.proofs.Vocabulary.{Way, Finding, NotJudged, Reach, Route, reach_of}
-use Rattle.osi_watched.proofs.Vocabulary.{Outcome, Traffic, asks_of, at_found, at_place}
-use Rattle.osi_watched.proofs.Vocabulary.{class_for, course_after, course_after_none, is_stopped, none_told}
-use Rattle.osi_watched.proofs.Vocabulary.{route, routed, takes, unnamed_told, Passing, passes}
-use Rattle.osi_watched.proofs.Vocabulary.{unit, Event, HappenAlong, Happens, Whole, arrives, calls, passes_rubbish, zero_stays}
+use Rattle.osi_watched.proofs.Vocabulary.{◌≡◌, sym, subst, ℕ, Bool, List, [], ◌∷◌, Option, Some, Value, Zero, Local, Direction, Connection}
+use Rattle.osi_watched.proofs.Vocabulary.{Rules, Way, Finding, Reach, Route, reach_of, Outcome, Traffic, at_found, at_place, class_for}
+use Rattle.osi_watched.proofs.Vocabulary.{none_told, routed, takes, unnamed_told, Passing, passes, unit, Event, HappenAlong, Happens, Whole}
+use Rattle.osi_watched.proofs.Vocabulary.{arrives, calls, passes_rubbish, zero_stays}
 use Rattle.osi_rules.specs.declared.findings.Reach.TheVariants as reach
 use Rattle.osi_rules.specs.Sides as sides
 use Rattle.osi_rules.specs.Traffic.{reached}
@@ -20,12 +17,6 @@ use Rattle.osi_watched.proofs.steps_are_events.{IsFollowed}
 reached_seen : (d : Way) (r : Reach) (c : Rules) → (reached d r c).class_seen ≡ c.class_seen
 reached_seen d r c = grind arith
 
-none_seen : (v : Value) (c : Rules) → (course_after_none v c).class_seen ≡ c.class_seen
-none_seen v c = grind arith
-
-after_seen : (d : Way) (c : Connection) (v : Value) (applied : Bool) (k : Rules) → (course_after d c v applied k).class_seen ≡ k.class_seen
-after_seen d c v applied k = grind arith
-
 abbrev Keeps : Traffic → Outcome → Type 0
 Keeps s o = o.state.course.class_seen ≡ s.course.class_seen
 
@@ -33,26 +24,19 @@ to_none : (d : Way) (f : Finding) (s : Traffic) → Keeps s (none_told d f s)
 to_none d f s = reached_seen d (reach_of (class_for d s.course) f) s.course
 
 to_unnamed : (d : Way) (v : Value) (s : Traffic) → Keeps s (unnamed_told d v s)
-to_unnamed d v s = grind (arith, reached_seen, none_seen)
+to_unnamed d v s = grind (arith, reached_seen)
 
 to_one : (d : Way) (v : Value) (s : Traffic) (p : ℕ) (o : Option Connection) → Keeps s (at_found d v s p o)
-to_one d v s p o = grind (arith, to_unnamed, reached_seen, after_seen)
+to_one d v s p o = grind (arith, to_unnamed, reached_seen)
 
 to_place : (d : Way) (v : Value) (s : Traffic) (p : Option ℕ) → Keeps s (at_place d v s p)
 to_place d v s p = grind (arith, to_unnamed, to_one)
 
-asking : (d : Way) (v : Value) (s : Traffic) → Keeps s (asks_of d v s)
-asking d v s = grind (arith, to_none)
-
 by_route : (d : Way) (v : Value) (s : Traffic) (r : Route) → Keeps s (routed d v s r)
-by_route d v s r = grind (arith, asking, to_place, to_none)
-
-if_judged : (stopped : Bool) (d : Way) (v : Value) (s : Traffic) (r : Route) →
-    Keeps s (if stopped then none_told d NotJudged s else routed d v s r)
-if_judged stopped d v s r = grind (arith, to_none, by_route)
+by_route d v s r = search (arith, to_none, to_place)
 
 takes_seen : (d : Way) (v : Value) (s : Traffic) → Keeps s (takes d v s)
-takes_seen d v s = if_judged (is_stopped d s.course) d v s (route d s.course v)
+takes_seen d v s = grind (arith, to_none, by_route)
 
 -- ---- whatever passes
 

@@ -1,7 +1,6 @@
 -- At a tap one connection has class 0, with a reference of the end, and of all others the references are gone: so it stays as packets begin
 -- and as units pass in class 0. For the session of the connection of an end in class 0.
-use Rattle.std.proofs.Common.{arith}
-use Rattle.std.proofs.Common.{◌≡◌, ◌∙◌, ◌⊎◌, inl, inr, refl, sym, ap, subst, ℕ, Bool, true, false, set, Option, Some, None}
+use Rattle.std.proofs.Common.{arith, ◌≡◌, ◌∙◌, ◌⊎◌, inl, inr, refl, sym, ap, subst, ℕ, Bool, true, false, set, Some, None}
 use Rattle.std.specs.Prelude.{◌==◌, slice_get}
 use Rattle.std.proofs.lemmas.Bool.{eqb-true}
 use Rattle.std.proofs.lemmas.Option.{slice_get-map}
@@ -15,8 +14,7 @@ use Rattle.osi_rules.specs.declared.findings.Reach.{Reach}
 use Rattle.osi_rules.specs.declared.findings.Reach.TheVariants as reach
 use Rattle.osi_rules.specs.Sides.{begins, is_refused}
 use Rattle.osi_rules.specs.Sides as sides
-use Rattle.osi_rules.specs.Traffic.{State, class_for, connection_after, is_stopped, judged_on, meaning_if, meant}
-use Rattle.osi_rules.specs.Traffic.{route_zero, routed, sent_on, takes}
+use Rattle.osi_rules.specs.Traffic.{State, class_for, connection_after, is_stopped, meaning_if, meant, route_zero, routed, takes}
 use Rattle.osi_rules.specs.Traffic as traffic
 use Rattle.osi_fair.proofs.a_dt_of_class_zero_passes.{unlike}
 use Rattle.osi_fair.proofs.while_no_class_is_selected.{after_change, set_there}
@@ -25,11 +23,9 @@ use Rattle.osi_tap.specs.Connections as joined
 use Rattle.osi_tap.specs.Courses.{way_of}
 use Rattle.osi_watched.specs.ShownPlaces.{HaveSamePlaces}
 use Rattle.osi_watched.proofs.what_a_taker_passes_over.{IsMild}
-use Rattle.osi_watched.proofs.sessions.a_dt_of_class_0_has_one_place.{zero_takes}
-use Rattle.osi_watched.proofs.sessions.a_dt_of_class_0_leaves_all_standing.{Breaks, routed_breaks}
+use Rattle.osi_watched.proofs.sessions.a_dt_of_class_0_leaves_all_standing.{Breaks}
 use Rattle.osi_watched.proofs.sessions.all_connections_stand.{map_of}
 use Rattle.osi_watched.proofs.sessions.class_0_has_one_connection.{set_other}
-use Rattle.osi_watched.proofs.sessions.each_cr_that_passes_gives_a_new_reference.{named_adds}
 use Rattle.osi_watched.proofs.sessions.what_a_unit_does_at_its_place.{Does, asks_again, asks_more, nowhere, somewhere, unit_does}
 
 -- The called side has not refused the connection at this place, to which this side gave this reference. Of each other one, the reference
@@ -52,13 +48,9 @@ still_gone d r gone then_gone s t f h = grind arith
 named_begun : (d e : Direction) (j : Joined) → reference_of d (packet_begins e j) ≡ reference_of d j
 named_begun d e j = grind arith
 
-begun_right : (d : Way) (c : Connection) → (begins d c).right ≡ c.right
-begun_right d c = grind arith
-
 pub one_begins : (d e : Direction) (r : ℕ) (gone : ℕ → Type 0) (s : State) (t : Sessions) → HasOne d r gone s t →
     HasOne d r gone (traffic.packet_begins (way_of e) s) (all_begin e t)
-one_begins d e r gone s t h =
-    search (arith, map_of, named_begun, slice_get-map (begins (way_of e)) s.connections h.place, begun_right (way_of e) h.connection)
+one_begins d e r gone s t h = search (arith, map_of, named_begun, slice_get-map (begins (way_of e)) s.connections h.place)
 
 -- ---- a unit in class 0
 
@@ -80,16 +72,13 @@ error_nowhere d b n cause s = grind arith
 module _ (e : Direction) (s : State) (goes : is_stopped (way_of e) s.course ≡ false)
     (zero : class_for (way_of e) s.course ≡ Some Zero) where
   breaks_so : {A : Type 0} (v : Value) → Breaks v → IsMild v (takes (way_of e) v s).told.finding → A
-  breaks_so v h mild = grind (arith, routed_breaks, zero_takes)
+  breaks_so v h mild = grind arith
 
   -- every other unit is a break that is not passed over
   pub zero_still : (v : Value) → IsMild v (takes (way_of e) v s).told.finding → IsStill e v s
-  zero_still v mild = grind (arith, zero_takes, error_nowhere, breaks_so)
+  zero_still v mild = grind (arith, error_nowhere, breaks_so)
 
 -- ---- what it leaves
-
-judged_right : (x : Reach) (c : Connection) → (judged_on x c).right ≡ c.right
-judged_right x c = grind arith
 
 -- at a place
 abbrev IsHere : Value → Type 0
@@ -102,23 +91,16 @@ IsHere (disconnect n source reason user) = ⊥
 IsHere (data2 n number end user) = ⊥
 IsHere (acknowledge credit n number) = ⊥
 
-sent_up : (d : Way) (v : Value) (c : Connection) → IsHere v → is_refused c.right.phase ≡ false →
-    is_refused (sent_on d v c).right.phase ≡ false
-sent_up d v c h up = grind arith
-
 after_up : (d : Way) (v : Value) (b : Bool) (x : Reach) (c : Connection) → IsHere v → is_refused c.right.phase ≡ false →
     is_refused (connection_after d v b x c).right.phase ≡ false
-after_up d v b x c h up = grind (arith, judged_right, sent_up)
+after_up d v b x c h up = grind arith
 
 meant_named : (d e : Direction) (at : ℕ) (v : Value) (b : Bool) (j : Joined) → IsHere v →
     reference_of d (joined.meant e at v (meaning_if b (meant v)) j) ≡ reference_of d j
-meant_named d e at v b j h = grind (arith, named_adds)
-
-no_place : {A : Type 0} (o : Option ℕ) (i : ℕ) → o ≡ None → o ≡ Some i → A
-no_place o i h k = absurd (cc)
+meant_named d e at v b j h = grind arith
 
 here_so : (e : Direction) (v : Value) (s : State) (i : ℕ) → IsStill e v s → (takes (way_of e) v s).told.place ≡ Some i → IsHere v
-here_so e v s i h is = grind (arith, no_place)
+here_so e v s i h is = grind arith
 
 no_cr : {A : Type 0} (e : Direction) (v : Value) (s : State) (x : Connect) → v ≡ request x → IsStill e v s → A
 no_cr e v s x is h = absurd (subst (λ (u : Value). IsStill e u s) is h)
@@ -139,17 +121,14 @@ module _ (d e : Direction) (r : ℕ) (gone : ℕ → Type 0) (at : ℕ) (v : Val
     abbrev next : Joined
     next = joined.meant e at v (meaning_if b (meant v)) k
 
-    named : reference_of d next ≡ reference_of d k
-    named = meant_named d e at v b k kind
-
     mine_by : (j : Joined) → ((h.place ≡ p) × (j ≡ next)) ⊎ ((h.place ≡ p → ⊥) × (slice_get t.live h.place ≡ Some j)) →
         reference_of d j ≡ Some r
-    mine_by j (inl (same, is)) = ap (reference_of d) is ∙ named ∙ h.mine k (ap (slice_get t.live) same ∙ here)
+    mine_by j (inl (same, is)) = ap (reference_of d) is ∙ (grind (arith, meant_named)) ∙ h.mine k (ap (slice_get t.live) same ∙ here)
     mine_by j (inr (apart, is)) = h.mine j is
 
     others_by : (i : ℕ) (j : Joined) (q : ℕ) → (i ≡ h.place → ⊥) →
         ((i ≡ p) × (j ≡ next)) ⊎ ((i ≡ p → ⊥) × (slice_get t.live i ≡ Some j)) → reference_of d j ≡ Some q → gone q
-    others_by i j q apart (inl (same, is)) named_q = grind (arith, named)
+    others_by i j q apart (inl (same, is)) named_q = grind (arith, meant_named)
     others_by i j q apart (inr (other, is)) named_q = h.others i j q apart is named_q
 
     place_by : (y : Bool) → (h.place == p) ≡ y →

@@ -1,17 +1,14 @@
 -- A unit leaves each connection at one place for the rules of transport and for what is joined of it; and a DT that is right is
 -- joined at the place that the rules tell.
 -- For the law on places.
-use Rattle.osi_watched.proofs.Vocabulary.{[], ap, arith, Bool, if◌then◌else◌, is_some, length, List, map, None, not, Option, refl, set}
-use Rattle.osi_watched.proofs.Vocabulary.{Some, subst, suc, true, zero, ℕ, ◌++◌, ◌∷◌, ◌≡◌, slice_get_past, position, slice_get, ◌||◌}
-use Rattle.osi_watched.proofs.Vocabulary.{acknowledge, confirm, Connect, data0, data2, disconnect, disconnected, error, request, Value}
-use Rattle.osi_watched.proofs.Vocabulary.{is_applied, first_failed, given_again, begins, is_free, is_open, is_silent, asked_by, asks_by}
-use Rattle.osi_watched.proofs.Vocabulary.{asks_kept, asks_of, at_found, at_place, closing_phase, connection_after, found, found_on}
-use Rattle.osi_watched.proofs.Vocabulary.{judged_on, meaning_if, meant, none_told, Outcome, routed, sent_on, Traffic as State, takes}
-use Rattle.osi_watched.proofs.Vocabulary.{Connection, Rules, Finding, Reach, Told, Half, Phase, Route, Capture, Direction, Left, Right}
-use Rattle.osi_watched.proofs.Vocabulary.{adds, adds_if, asked, changed, Joined, Sessions, source_of, taken, taken_at, user_of, changes}
-use Rattle.osi_watched.proofs.Vocabulary.{marked, marks_of, moved, noted_by, reached, unit_passes, units_pass, unread, unread_mark}
-use Rattle.osi_watched.proofs.Vocabulary.{unread_moment, way_of, fits, spent, comes_to, Cause, Mark, Marks, Room, applied_found}
-use Rattle.osi_watched.proofs.Vocabulary.{first_there, HasAsked, HaveSamePlaces, IsOneOf, named_by}
+use Rattle.osi_watched.proofs.Vocabulary.{[], ap, arith, Bool, if◌then◌else◌, length, List, map, None, not, Option, refl, set, Some, subst}
+use Rattle.osi_watched.proofs.Vocabulary.{suc, true, zero, ℕ, ◌++◌, ◌∷◌, ◌≡◌, slice_get_past, position, slice_get, ◌||◌, Connect, request}
+use Rattle.osi_watched.proofs.Vocabulary.{Value, is_applied, first_failed, given_again, begins, is_free, is_open, is_silent, asks_by}
+use Rattle.osi_watched.proofs.Vocabulary.{asks_kept, at_place, closing_phase, connection_after, found, found_on, judged_on, meaning_if}
+use Rattle.osi_watched.proofs.Vocabulary.{meant, Outcome, routed, sent_on, Traffic as State, takes, Connection, Rules, Finding, Reach, Told}
+use Rattle.osi_watched.proofs.Vocabulary.{Half, Phase, Route, Capture, Direction, Left, adds, changed, Joined, Sessions, taken, taken_at}
+use Rattle.osi_watched.proofs.Vocabulary.{user_of, marked, noted_by, reached, unit_passes, units_pass, unread, way_of, comes_to, Cause}
+use Rattle.osi_watched.proofs.Vocabulary.{Mark, applied_found, first_there, HasAsked, HaveSamePlaces, IsOneOf, named_by}
 use Rattle.osi_rules.specs.declared.directions.Direction.TheVariants as way
 use Rattle.osi_rules.specs.declared.findings.Finding.TheVariants as finding
 use Rattle.osi_rules.specs.declared.findings.Meaning.TheVariants as meaning
@@ -22,9 +19,9 @@ use Rattle.osi_rules.specs.Traffic as traffic
 use Rattle.osi_tap.specs.Connections as joined
 use Rattle.osi_tap.specs.Courses.{Course, packet_begins}
 use Rattle.osi_tap.specs.Tapping.{begin}
-use Rattle.osi_watched.proofs.small_facts_that_many_lemmas_use.{not_some, or_first, same_one}
-use Rattle.osi_fair.proofs.small_facts_that_many_lemmas_use.{and_first, closing_same, differ}
-use Rattle.osi_watched.proofs.what_passes_keeps_a_claim.{IsClaim, after_kept}
+use Rattle.osi_watched.proofs.small_facts_that_many_lemmas_use.{or_first, same_one}
+use Rattle.osi_fair.proofs.small_facts_that_many_lemmas_use.{closing_same, differ}
+use Rattle.osi_watched.proofs.what_passes_keeps_a_claim.{after_kept}
 
 -- ---- lists of the same length
 
@@ -58,15 +55,12 @@ one_more (x ∷ cs) (y ∷ js) c j h k = (h.0, one_more cs js c j h.1 k)
 
 -- ---- a packet begins
 
-begun_one : (d : Direction) (c : Connection) (j : Joined) → IsOneOf c j → IsOneOf (begins (way_of d) c) (joined.packet_begins d j)
-begun_one d c j h = grind arith
-
 pub begun_same : (d : Direction) (cs : List Connection) (js : List Joined) → HaveSamePlaces cs js →
     HaveSamePlaces (map (begins (way_of d)) cs) (map (joined.packet_begins d) js)
 begun_same d [] [] h = tt
 begun_same d [] (j ∷ js) h = absurd h
 begun_same d (c ∷ cs) [] h = absurd h
-begun_same d (c ∷ cs) (j ∷ js) h = (begun_one d c j h.0, begun_same d cs js h.1)
+begun_same d (c ∷ cs) (j ∷ js) h = (grind arith, begun_same d cs js h.1)
 
 -- ---- a unit for a connection, by what is found of it
 
@@ -79,14 +73,9 @@ like_one c e j k left asks right known seen calling called h = grind arith
 judged_one : (r : Reach) (c : Connection) (j : Joined) → IsOneOf c j → IsOneOf (judged_on r c) j
 judged_one r c j h = grind (arith, like_one)
 
--- what a DT adds changes no reference
-if_one : (b : Bool) (room : Room) (d : Direction) (at : ℕ) (end : Bool) (octets : List ℕ) (c : Connection) (j : Joined) → IsOneOf c j →
-    IsOneOf c (adds_if b room d at end octets j)
-if_one b room d at end octets c j h = grind (arith, like_one)
-
 adds_one : (d : Direction) (at : ℕ) (end : Bool) (octets : List ℕ) (c : Connection) (j : Joined) → IsOneOf c j →
     IsOneOf c (adds d at end octets j)
-adds_one d at end octets c j h = if_one (fits j.room (length octets)) (spent j.room (length octets)) d at end octets c j h
+adds_one d at end octets c j h = grind (arith, like_one)
 
 -- what this side has sent changes no reference
 abbrev Stays : Half → Half → Type 0
@@ -129,32 +118,17 @@ pub none_given : (p : Phase) (r : ℕ) → is_silent p ≡ true → named_by p r
 none_given p r h = grind arith
 
 module _ (course : Rules) (in_use : Bool) (at : ℕ) (c : Connection) (j : Joined) (h : IsOneOf c j) where
-  left_half : (half : Half) (k : Joined) → half.reference ≡ c.left.reference → HasAsked half → k.calling ≡ j.calling →
-      k.called ≡ j.called → IsOneOf (record c { left = half }) k
-  left_half half k same asks calling called = like_one c (record c { left = half }) j k same asks refl refl refl calling called h
-
   right_half : (half : Half) (k : Joined) → Stays c.right half → k.calling ≡ j.calling → k.called ≡ j.called →
       IsOneOf (record c { right = half }) k
   right_half half k same calling called = like_one c (record c { right = half }) j k refl h.asks same refl refl calling called h
 
   left_one : (v : Value) → is_applied (found way.Left course in_use c v) ≡ true →
       IsOneOf (sent_on way.Left v c) (joined.meant Left at v (meant v) j)
-  left_one v k = grind (arith, left_half, closing_same, closing_asked, adds_one, differ, error_test, or_first)
-
-  right_one : (v : Value) → is_applied (found way.Right course in_use c v) ≡ true →
-      IsOneOf (sent_on way.Right v c) (joined.meant Right at v (meant v) j)
-  right_one (request x) k = absurd (cc)
-  right_one (confirm destination x) k = grind (arith, none_given, first_answer, not_some)
-  right_one (disconnect destination source reason user) k = grind (arith, right_half, closed_so, one_test)
-  right_one (disconnected destination source) k = grind (arith, right_half, answered_so, and_first, due_test)
-  right_one (data0 end user) k = grind (arith, adds_one, right_half)
-  right_one (data2 destination number end user) k = grind (arith, adds_one, right_half)
-  right_one (acknowledge credit destination number) k = grind (arith, right_half)
-  right_one (error destination cause) k = grind (arith, right_half, refused_so, error_test)
+  left_one v k = grind (arith, closing_same, closing_asked, adds_one, differ, error_test, or_first)
 
   both_one : (d : Direction) (v : Value) → is_applied (found (way_of d) course in_use c v) ≡ true →
       IsOneOf (sent_on (way_of d) v c) (joined.meant d at v (meant v) j)
-  both_one d v k = grind (arith, left_one, right_one)
+  both_one d v k = search (arith, left_one)
 
 -- ---- a unit at a place
 
@@ -173,65 +147,44 @@ module _ (d : Direction) (at : ℕ) (v : Value) (s : State) (t : Sessions) (h : 
       HaveSamePlaces (set s.connections i (connection_after (way_of d) v b r c)) (taken_at d at v (meaning_if b (meant v)) i t).live
   one_by i c j there one b e r = grind (arith, set, not_asked, one_set, judged_one, both_one, applied_found)
 
-  at_one : (i : ℕ) (c : Option Connection) → slice_get s.connections i ≡ c → Places d at v (at_found (way_of d) v s i c) t
-  at_one i c e = grind (arith, at_same, one_by)
-
   at_any : (i : Option ℕ) → Places d at v (at_place (way_of d) v s i) t
-  at_any i = grind (arith, at_one)
+  at_any i = grind (arith, at_same, one_by)
 
   -- ---- a CR, which gets the first free place, or a new one
 
-  new_one : (c : Connect) (number : ℕ) (room : Room) → v ≡ request c → IsOneOf (asked_by c) (asked number (source_of v) room)
-  new_one c number room is = grind arith
-
   placed_same : (c : Connect) (i : Option ℕ) → position is_free s.connections ≡ i → v ≡ request c → Places d at v (asks_kept c s i) t
-  placed_same c i e is = grind (arith, new_one, slice_get_past, as_long, one_more, first_there, at_same, set, one_set)
+  placed_same c i e is = search (arith, slice_get_past, as_long, one_more, first_there, at_same, set, one_set)
 
   asks_same : (f : Finding) (c : Connect) → v ≡ request c → Places d at v (asks_by (way_of d) f c s) t
   asks_same f c is = grind (arith, placed_same)
-
-asks_places : (d : Direction) (at : ℕ) (v : Value) (s : State) (t : Sessions) → HaveSamePlaces s.connections t.live →
-    Places d at v (asks_of (way_of d) v s) t
-asks_places d at v s t h = grind (arith, asks_same)
 
 -- ---- by route
 
 routed_places : (d : Direction) (at : ℕ) (v : Value) (s : State) (t : Sessions) (r : Route) → HaveSamePlaces s.connections t.live →
     Places d at v (routed (way_of d) v s r) t
-routed_places d at v s t r h = grind (arith, asks_places, at_any)
-
-judged_places : (b : Bool) (d : Direction) (at : ℕ) (v : Value) (s : State) (t : Sessions) (r : Route) →
-    HaveSamePlaces s.connections t.live →
-    Places d at v (if b then none_told (way_of d) finding.NotJudged s else routed (way_of d) v s r) t
-judged_places b d at v s t r h = grind (arith, routed_places)
+routed_places d at v s t r h = grind (arith, asks_same, at_any)
 
 pub unit_places : (d : Direction) (at : ℕ) (v : Value) (s : State) (t : Sessions) → HaveSamePlaces s.connections t.live →
     Places d at v (takes (way_of d) v s) t
-unit_places d at v s t h = grind (arith, judged_places)
+unit_places d at v s t h = grind (arith, routed_places)
 
 -- ---- what is found changes no connection
 
-pub changes_leaves : (d : Direction) (f : Marks → Marks) (c : Course) → (changes d f c).sessions ≡ c.sessions
-changes_leaves d f c = grind arith
-
 reached_leaves : (m : Mark) (r : Reach) (c : Course) → (reached m r c).sessions ≡ c.sessions
-reached_leaves m r c = grind (arith, changes_leaves)
+reached_leaves m r c = grind arith
 
 pub marked_leaves : (m : Mark) (r : Reach) (c : Course) → (marked m r c).sessions ≡ c.sessions
-marked_leaves m r c = grind (arith, reached_leaves, changes_leaves)
+marked_leaves m r c = grind (arith, reached_leaves)
 
 noted_leaves : (d : Direction) (at : ℕ) (v : Value) (told : Told) (o : Option Cause) (c : Course) →
     (noted_by d at v told o c).sessions ≡ c.sessions
 noted_leaves d at v told o c = grind (arith, marked_leaves)
 
-changes_traffic : (d : Direction) (f : Marks → Marks) (c : Course) → (changes d f c).traffic ≡ c.traffic
-changes_traffic d f c = grind arith
-
 reached_traffic : (m : Mark) (r : Reach) (c : Course) → (reached m r c).traffic ≡ c.traffic
-reached_traffic m r c = grind (arith, changes_traffic)
+reached_traffic m r c = grind arith
 
 pub marked_traffic : (m : Mark) (r : Reach) (c : Course) → (marked m r c).traffic ≡ c.traffic
-marked_traffic m r c = grind (arith, reached_traffic, changes_traffic)
+marked_traffic m r c = grind (arith, reached_traffic)
 
 noted_traffic : (d : Direction) (at : ℕ) (v : Value) (told : Told) (o : Option Cause) (c : Course) →
     (noted_by d at v told o c).traffic ≡ c.traffic
@@ -264,19 +217,11 @@ packet_agrees d c h = begun_same d c.traffic.connections c.sessions.live h
 marked_agrees : (m : Mark) (r : Reach) (c : Course) → Agree c → Agree (marked m r c)
 marked_agrees m r c h = grind (arith, marked_traffic, marked_leaves)
 
-unread_by : (b : Bool) (d : Direction) (at : ℕ) (cause : Cause) (c : Course) → Agree c →
-    Agree (if b then c else marked (unread_mark d at cause) (traffic.refused_reach (way_of d) c.traffic)
-    (moved (unread_moment d at cause c.sessions) (record c { traffic = traffic.refused (way_of d) c.traffic })))
-unread_by b d at cause c h = grind (arith, marked_agrees)
-
 pub unread_agrees : (d : Direction) (at : ℕ) (cause : Cause) (c : Course) → Agree c → Agree (unread d at cause c)
-unread_agrees d at cause c h = unread_by (is_some (marks_of d c).halted) d at cause c h
-
-agree_claim : IsClaim Agree
-agree_claim = search (arith, packet_agrees, unit_agrees, unread_agrees)
+unread_agrees d at cause c h = grind (arith, marked_agrees)
 
 pub capture_agrees : (capture : Capture) → Agree (comes_to capture).course
-capture_agrees capture = after_kept Agree agree_claim capture begin tt
+capture_agrees capture = after_kept Agree (search (arith, packet_agrees, unit_agrees, unread_agrees)) capture begin tt
 
 -- ---- a DT
 

@@ -1,11 +1,10 @@
 -- Each CR that a calling end has put and that has not passed gives a reference above those of all connections that a tap has seen. So the
 -- CR that passes gives a new one.
 -- For all connections of an end and a tap.
-use Rattle.osi_watched.proofs.Vocabulary.{[], ap, arith, List, refl, subst, sym, ℕ, ◌++◌, ◌+◌, ◌<◌, ◌∷◌, ◌≡◌, ◌≤◌, flat_map-append}
-use Rattle.osi_watched.proofs.Vocabulary.{append-nil, AllByRecursion, Connect, request, Value, react, connects, sends, sends_all, user_does}
-use Rattle.osi_watched.proofs.Vocabulary.{UserCall, Carrier, unit_gives, all_gives, closed_gives, ended_gives, not_less, Rise, rise_from}
-use Rattle.osi_watched.proofs.Vocabulary.{sent_gives, asked_among, call_asks, unit_asks, asked_in, put_by, put_for, Event, HappenAlong}
-use Rattle.osi_watched.proofs.Vocabulary.{Happens, Whole}
+use Rattle.osi_watched.proofs.Vocabulary.{[], arith, List, subst, sym, ℕ, ◌++◌, ◌+◌, ◌<◌, ◌∷◌, ◌≡◌, ◌≤◌, flat_map-append, append-nil}
+use Rattle.osi_watched.proofs.Vocabulary.{AllByRecursion, Connect, request, Value, react, connects, sends, sends_all, user_does, UserCall}
+use Rattle.osi_watched.proofs.Vocabulary.{Carrier, unit_gives, all_gives, closed_gives, ended_gives, not_less, Rise, rise_from, sent_gives}
+use Rattle.osi_watched.proofs.Vocabulary.{asked_among, call_asks, unit_asks, asked_in, put_by, put_for, Event, HappenAlong, Happens, Whole}
 use Rattle.osi_carrier.specs.Runs.{breaks, closes}
 use Rattle.osi_rules.specs.declared.directions.Direction.TheVariants as way
 use Rattle.osi_fair.specs.Wholes as wholes
@@ -39,14 +38,9 @@ module _ (b : ℕ) where
       AreAbove b (record w { end = end; put = w.put ++ more; coming = coming })
   grows w end more coming none h a = grind (arith, asked_among, append-nil, flat_map-append, up_more)
 
-  -- it puts one, with the next reference
-  asks : (w : Whole) (end : Carrier) (more coming : List Value) → asked_among more ≡ (w.end.given + 1) ∷ [] →
-      end.given ≡ w.end.given + 1 → AreAbove b w → AreAbove b (record w { end = end; put = w.put ++ more; coming = coming })
-  asks w end more coming one h a = grind (arith, asked_among, flat_map-append, rise_next, up_join, up_more)
-
   by_call : (call : UserCall) (w : Whole) → AreAbove b w →
       AreAbove b (record w { end = user_does call w.end; put = w.put ++ put_by call w.end })
-  by_call (connects calling called) w a = search (arith, asks, call_asks)
+  by_call (connects calling called) w a = grind (arith, asked_among, flat_map-append, rise_next, up_join, up_more, call_asks)
   by_call (sends r tsdu) w a = search (arith, grows, call_asks, not_less, sent_gives)
   by_call (sends_all r tsdus) w a = search (arith, grows, call_asks, not_less, all_gives)
   by_call (closes r reason) w a = search (arith, grows, call_asks, not_less, closed_gives)
@@ -66,24 +60,16 @@ pub passes_asked : (b : ℕ) (x : Connect) (put : List Value) (w new : Whole) �
     AreAbove b w → Passes b x new
 passes_asked b x put w new e p same a = grind (arith, asked_among)
 
-passes_one : (b : ℕ) (v : Value) (put : List Value) (w new : Whole) → w.put ≡ v ∷ put → new.put ≡ put → new.end ≡ w.end →
-    AreAbove b w → AreAbove b new
-passes_one b v put w new e p same a = grind (arith, passes_asked, rise_from, asked_among, passes_another)
-
-as_before : (b : ℕ) (w new : Whole) → new.put ≡ w.put → new.end ≡ w.end → AreAbove b w → AreAbove b new
-as_before b w new p same a = grind (arith, asked_among)
-
 above_happens : (b : ℕ) (event : Event) (old new : Whole) → Happens way.Left event old new → AreAbove b old → AreAbove b new
 above_happens b wholes.arrives old new (unit, coming, is) a =
     subst (AreAbove b) (sym is) (grows b old (react unit old.end) (put_for unit old.end) new.coming (unit_asks unit old.end)
     (unit_gives unit old.end) a)
 above_happens b (wholes.calls call) old new (may, is) a = subst (AreAbove b) (sym is) (by_call b call old a)
-above_happens b wholes.begins_own old new (some, none, is) a = grind (arith, as_before)
-above_happens b wholes.passes_own old new (v, put, begun, is) a =
-    passes_one b v new.put old new put refl (ap (λ (w : Whole). w.end) is) a
-above_happens b wholes.begins_other old new is a = grind (arith, as_before)
-above_happens b (wholes.passes_other v) old new (ranges, is) a = grind (arith, as_before)
-above_happens b wholes.passes_rubbish old new is a = grind (arith, as_before)
+above_happens b wholes.begins_own old new (some, none, is) a = grind arith
+above_happens b wholes.passes_own old new (v, put, begun, is) a = grind (arith, passes_asked, rise_from, asked_among, passes_another)
+above_happens b wholes.begins_other old new is a = grind arith
+above_happens b (wholes.passes_other v) old new (ranges, is) a = grind arith
+above_happens b wholes.passes_rubbish old new is a = grind arith
 
 pub above_along : (b : ℕ) (events : List Event) (old new : Whole) → HappenAlong way.Left old events new → AreAbove b old → AreAbove b new
 above_along b [] old new e a = subst (AreAbove b) (sym e) a

@@ -4,12 +4,11 @@
 use Rattle.std.proofs.Common.{arith}
 use Rattle.osi_watched.proofs.Vocabulary.{[], ap, append_assoc, Bool, false, inl, inr, List, None, Option, refl, Some, subst, sym, true, ℕ}
 use Rattle.osi_watched.proofs.Vocabulary.{◌&&◌, ◌++◌, ◌∙◌, ◌∷◌, ◌≡◌, ◌⊎◌, eqb-true, AllByRecursion, slice_get, acknowledge, confirm}
-use Rattle.osi_watched.proofs.Vocabulary.{Connect, data2, disconnect, Value, Given, Standing, unit_of}
-use Rattle.osi_watched.proofs.Vocabulary.{Move, Two, Local, acceptance, opened_link, value_at, linked, is_open, uses, Connection}
-use Rattle.osi_watched.proofs.Vocabulary.{Way as Direction, Half, Sessions, Answering, answering, AreStrays, Asked, Called, comes, line_of}
-use Rattle.osi_watched.proofs.Vocabulary.{refuses, Running, runs, Stand, StrayIf, at_first, at_join, first_at, is_at, Placed, values}
-use Rattle.osi_watched.proofs.Vocabulary.{NamesApart as AreApart, keep, Act, Acts, ActsAlong, Line}
-use Rattle.osi_watched.proofs.Vocabulary.{opened_line, units_put, Whole, HaveSamePlaces}
+use Rattle.osi_watched.proofs.Vocabulary.{Connect, data2, disconnect, Value, Standing, Move, Two, Local, acceptance, opened_link, value_at}
+use Rattle.osi_watched.proofs.Vocabulary.{linked, is_open, uses, Connection, Way as Direction, Half, Sessions, Answering, answering}
+use Rattle.osi_watched.proofs.Vocabulary.{AreStrays, Asked, Called, comes, line_of, refuses, runs, Stand, StrayIf, at_first, at_join}
+use Rattle.osi_watched.proofs.Vocabulary.{first_at, is_at, Placed, values, NamesApart as AreApart, keep, Act, ActsAlong, Line, opened_line}
+use Rattle.osi_watched.proofs.Vocabulary.{units_put, Whole, HaveSamePlaces}
 use Rattle.osi_judge.specs.declared.directions.Direction.TheVariants as side
 use Rattle.osi_rules.specs.declared.directions.Direction.TheVariants.{Left, Right}
 use Rattle.osi_fair.proofs.each_connection_of_a_called_end.{past}
@@ -36,22 +35,16 @@ IsTo peer (acknowledge credit n number) = n ≡ peer
 IsTo peer (confirm n x) = ⊥
 IsTo peer _ = Unit {0}
 
-given_to : (peer : ℕ) (g : Given) → IsTo peer (unit_of peer g)
-given_to peer g = grind arith
-
 move_to : (peer : ℕ) (move : Move) → AllByRecursion (IsTo peer) (units_put peer move)
-move_to peer move = grind (arith, given_to)
+move_to peer move = grind arith
 
 module _ (d : Direction) (r peer : ℕ) where
   abbrev PutsTo : Line → Type 0
   PutsTo line = AllByRecursion (IsTo peer) line.put
 
-  act_to : (act : Act) (old new : Line) → Acts d r peer act old new → PutsTo old → PutsTo new
-  act_to act old new new_is h = grind (arith, all_of_both, move_to)
-
   acts_to : (acts : List Act) (old new : Line) → ActsAlong d r peer old acts new → PutsTo old → PutsTo new
   acts_to [] old new e h = subst PutsTo (sym e) h
-  acts_to (act ∷ acts) old new (mid, one, more) h = acts_to acts mid new more (act_to act old mid one h)
+  acts_to (act ∷ acts) old new (mid, one, more) h = acts_to acts mid new more (grind (arith, all_of_both, move_to))
 
 -- ---- small facts
 
@@ -127,11 +120,6 @@ module _ (local : Local) (w : Whole) (t : Sessions) (f : Called local w) (apart 
       units_at p f.tagged ≡ at_place p front rest v
   place_parts p front rest v is = grind (arith, units_at, at_join, at_first)
 
-  runs_to : (p : ℕ) (c : Connection)
-      (h : Running f.shut w.end w.coming (units_at p f.tagged) (w.begun && first_at p f.tagged) (f.refs p) c) →
-      AllByRecursion (IsTo h.peer) (units_at p f.tagged)
-  runs_to p c h = grind (arith, acts_to)
-
   cc_by : (n r p : ℕ) (c : Connection) (front rest : List Placed) (v : Value) → slice_get w.tap.connections p ≡ Some c →
       f.tagged ≡ front ++ (Some p, v) ∷ rest → IsCc n r v → StandsAt p c → CcAt n r ((Some p, v) ∷ rest)
   cc_by n r p c front rest v at is mine (comes x a none ask index) =
@@ -173,7 +161,7 @@ module _ (local : Local) (w : Whole) (t : Sessions) (f : Called local w) (apart 
   cc_by n r p c front rest v at is mine (runs h none) =
       cc_not_to n r h.peer v mine
       (one_of (IsTo h.peer) (units_at p front) (units_at p rest) v
-      (subst (AllByRecursion (IsTo h.peer)) (place_parts p front rest v is) (runs_to p c h)))
+      (subst (AllByRecursion (IsTo h.peer)) (place_parts p front rest v is) (grind (arith, acts_to))))
   cc_by n r p c front rest v at is mine (past silent up none asks un off) =
       not_empty (units_at p front) (units_at p rest) v (sym (place_parts p front rest v is) ∙ none)
 
@@ -198,12 +186,9 @@ module _ (local : Local) (w : Whole) (t : Sessions) (f : Called local w) (apart 
 
   -- ---- no two are for one reference
 
-  used_at : (n r : ℕ) (ts : List Placed) (k : CcAt n r ts) → uses Left n k.c ≡ true
-  used_at n r ts k = subst (λ (i : ℕ). uses Left i k.c ≡ true) k.source (used_asked k.x k.c k.asked)
-
   same_place : (n r q : ℕ) (ts us : List Placed) (k : CcAt n r ts) (l : CcAt n q us) → k.place ≡ l.place
   same_place n r q ts us k l =
-      named.used n k.place l.place k.c l.c k.at l.at (used_at n r ts k) (used_at n q us l)
+      named.used n k.place l.place k.c l.c k.at l.at (grind (arith, used_asked k.x k.c k.asked)) (grind (arith, used_asked l.x l.c l.asked))
 
   pub same_destination : (n r q : ℕ) → HasCc n r w.put → HasCc n q w.put → r ≡ q
   same_destination n r q h i =
@@ -229,7 +214,7 @@ module _ (local : Local) (w : Whole) (t : Sessions) (f : Called local w) (apart 
       let used = still_used side.Right n e j one (each_sound Left w.tap.connections apart named i e at) lives
       (ap (λ (m : ℕ). Some m) (one.calling ∙ is)) in
       let same : k.place ≡ i =
-      named.used n k.place i k.c e k.at at (used_at n r ts k) used in
+      named.used n k.place i k.c e k.at at (grind (arith, used_asked)) used in
       let both : k.c ≡ e = item k.c e (slice_get w.tap.connections i) (ap (slice_get w.tap.connections) (sym same) ∙ k.at) at in
       differ (is_open e.right.phase) lives
       (ap (λ (c : Connection). is_open c.right.phase) (sym both) ∙ ap (λ (h : Half). is_open h.phase) k.asked.right)
@@ -276,12 +261,12 @@ module _ (local : Local) (w : Whole) (t : Sessions) (f : Called local w) (apart 
           (one_of (IsTo h.x.source) zs (units_at p rest) v (subst (AllByRecursion (IsTo h.x.source)) (sym others) later)) in
           let same : p ≡ k.place =
           named.used n p k.place c k.c at k.at
-          (subst (λ (i : ℕ). uses Left i c ≡ true) (sym peer) (used_asked h.x c h.asked)) (used_at n r rest k) in
+          (subst (λ (i : ℕ). uses Left i c ≡ true) (sym peer) (used_asked h.x c h.asked)) (grind (arith, used_asked k.x k.c k.asked)) in
           ordered_here n r p front rest v is mine k same
   ordered_by n r p c front rest v at is zero mine k (runs h none) =
       let peer : n ≡ h.peer = to_peer n h.peer v mine zero
       (one_of (IsTo h.peer) (units_at p front) (units_at p rest) v
-      (subst (AllByRecursion (IsTo h.peer)) (place_parts p front rest v is) (runs_to p c h))) in
+      (subst (AllByRecursion (IsTo h.peer)) (place_parts p front rest v is) (grind (arith, acts_to)))) in
       open_not n r rest k p c at h.there (h.left ∙ sym peer)
   ordered_by n r p c front rest v at is zero mine k (past silent up none asks un off) =
       not_empty (units_at p front) (units_at p rest) v (sym (place_parts p front rest v is) ∙ none)
@@ -368,7 +353,7 @@ module _ (local : Local) (w : Whole) (t : Sessions) (f : Called local w) (apart 
             (acts_to Right h.r h.x.source h.acts (opened_line (opened_link Two h.size local h.x.credit) c)
             (line_of h.link h.more h.come c) (h.along c) tt),
       )
-  two_at p c (runs h none) = all_so (IsTo h.peer) AnswersTwo (to_two h.peer) (units_at p f.tagged) (runs_to p c h)
+  two_at p c (runs h none) = all_so (IsTo h.peer) AnswersTwo (to_two h.peer) (units_at p f.tagged) (grind (arith, acts_to))
   two_at p c (past silent up none asks un off) = subst (AllByRecursion AnswersTwo) (sym none) tt
 
   two_one : (front rest : List Placed) (o : Option ℕ) (v : Value) → f.tagged ≡ front ++ (o, v) ∷ rest →

@@ -14,10 +14,9 @@ use Rattle.osi_fair.proofs.what_holds_of_one_item.{after_add, after_set}
 use Rattle.osi_honest.specs.Turns.{Turn}
 use Rattle.osi_honest.proofs.class_0.what_a_packet_does_in_class_0.{AllProper}
 use Rattle.osi_tap.specs.declared.rooms.Room.{Room}
-use Rattle.osi_tap.specs.Connections.{Joined, Sessions, adds, adds_if, all_begin, asked, packet_begins, reference_of, taken}
+use Rattle.osi_tap.specs.Connections.{Joined, Sessions, adds_if, all_begin, asked, packet_begins, reference_of, taken}
 use Rattle.osi_tap.specs.Connections as joined
 use Rattle.osi_tap.specs.Courses.{Course, unit_passes, units_pass, way_of}
-use Rattle.osi_tap.specs.Rooms.{fits, spent}
 use Rattle.osi_watched.specs.Joint.{Joint, Step, Steps, TakesTurn, begins_other, begins_own, passes_other, passes_own, turns}
 use Rattle.osi_watched.specs.ShownPlaces.{HaveSamePlaces}
 use Rattle.osi_watched.proofs.a_carrier_does_events.{happen_join}
@@ -52,18 +51,8 @@ named_if : (x : Bool) (room : Room) (d e : Direction) (at : ℕ) (end : Bool) (o
     reference_of d (adds_if x room e at end octets j) ≡ reference_of d j
 named_if x room d e at end octets j = grind arith
 
-pub named_adds : (d e : Direction) (at : ℕ) (end : Bool) (octets : List ℕ) (j : Joined) →
-    reference_of d (adds e at end octets j) ≡ reference_of d j
-named_adds d e at end octets j = named_if (fits j.room (length octets)) (spent j.room (length octets)) d e at end octets j
-
-named_shut : (d : Direction) (j : Joined) → reference_of d (joined.shut j) ≡ reference_of d j
-named_shut d j = grind arith
-
 named_begun : (d e : Direction) (j : Joined) → reference_of d (packet_begins e j) ≡ reference_of d j
 named_begun d e j = grind arith
-
-some_same : (m n : ℕ) → Some m ≡ Some n → m ≡ n
-some_same m n e = cc
 
 module _ (d : Direction) (b : ℕ) where
   abbrev IsLow : Joined → Type 0
@@ -74,11 +63,11 @@ module _ (d : Direction) (b : ℕ) where
 
 asked_low : (d : Direction) (b : ℕ) (x : Connect) (number : ℕ) (room : Room) → IsUpTo d b (request x) →
     IsLow d b (asked number x.source room)
-asked_low d b x number room up r is = grind (arith, some_same)
+asked_low d b x number room up r is = grind arith
 
 meant_low : (d : Direction) (b : ℕ) (e : Direction) (at : ℕ) (v : Value) (x : Bool) (j : Joined) → IsUpTo d b v → IsLow d b j →
     IsLow d b (joined.meant e at v (meaning_if x (meant v)) j)
-meant_low d b e at v x j up low = grind (arith, some_same, low_same, named_shut, named_adds)
+meant_low d b e at v x j up low = search (arith, low_same)
 
 module _ (d : Direction) (b : ℕ) (t : Sessions) (h : AreUpTo d b t) where
   low_of : (p i : ℕ) (new j : Joined) → IsLow d b new → ((i ≡ p) × (j ≡ new)) ⊎ (slice_get t.live i ≡ Some j) → IsLow d b j

@@ -2,22 +2,18 @@
 -- knows a class only if it is selected.
 -- For the session of the connection of an end in class 0.
 use Rattle.std.proofs.Common.{arith}
-use Rattle.osi_watched.proofs.Vocabulary.{Bool, false, if◌then◌else◌, is_some, Option, Some, subst, sym, true, ℕ, ◌∙◌, ◌≡◌}
-use Rattle.osi_watched.proofs.Vocabulary.{Connect, Value, Class, Two, Zero, reach_of}
-use Rattle.osi_watched.proofs.Vocabulary.{asks_by, asks_of, at_found, at_place, class_for}
-use Rattle.osi_watched.proofs.Vocabulary.{fresh, is_stopped, none_told, Outcome, refused_reach}
-use Rattle.osi_watched.proofs.Vocabulary.{route, routed, Traffic as State, takes, unnamed_told, Connection, Way, Finding}
-use Rattle.osi_watched.proofs.Vocabulary.{NotJudged, Route, Direction, marked, marks_of, moved, unread_mark}
-use Rattle.osi_watched.proofs.Vocabulary.{unread_moment, way_of, Cause, fresh_apart, no_item, passes_apart, AreJudged, still_judged}
-use Rattle.osi_watched.proofs.Vocabulary.{reached_class, zero_stays, NamesApart as AreApart, packet, passes, Passing, rubbish, unit}
-use Rattle.osi_watched.proofs.Vocabulary.{lasts_passing}
+use Rattle.osi_watched.proofs.Vocabulary.{Bool, false, if◌then◌else◌, is_some, Option, Some, subst, sym, true, ℕ, ◌∙◌, ◌≡◌, Value, Class}
+use Rattle.osi_watched.proofs.Vocabulary.{Two, Zero, reach_of, asks_of, at_place, class_for, fresh, is_stopped, none_told, Outcome}
+use Rattle.osi_watched.proofs.Vocabulary.{refused_reach, routed, Traffic as State, takes, unnamed_told, Way, Finding, Route, Direction}
+use Rattle.osi_watched.proofs.Vocabulary.{marked, marks_of, moved, unread_mark, unread_moment, way_of, Cause, fresh_apart, no_item}
+use Rattle.osi_watched.proofs.Vocabulary.{passes_apart, AreJudged, still_judged, reached_class, zero_stays, NamesApart as AreApart, packet}
+use Rattle.osi_watched.proofs.Vocabulary.{passes, Passing, rubbish, unit, lasts_passing}
 use Rattle.osi_rules.specs.declared.directions.Direction.TheVariants.{Left, Right}
 use Rattle.osi_rules.specs.Traffic as traffic
 use Rattle.osi_tap.specs.Courses.{Course}
 use Rattle.osi_watched.proofs.what_passes_keeps_a_claim.{IsClaim}
 use Rattle.osi_watched.proofs.sessions.a_dt_of_class_0_leaves_all_standing.{IsZero}
-use Rattle.osi_watched.proofs.sessions.class_0_has_one_connection.{NarrowIf, after_seen, fresh_narrow, narrow_only, none_same, reached_seen}
-use Rattle.osi_watched.proofs.sessions.class_0_has_one_connection.{still_narrow}
+use Rattle.osi_watched.proofs.sessions.class_0_has_one_connection.{NarrowIf, after_seen, narrow_only, reached_seen, still_narrow}
 use Rattle.osi_watched.proofs.sessions.connections_have_the_same_places.{marked_traffic, unit_knows}
 
 -- ---- a unit leaves what left knows of the class
@@ -30,28 +26,19 @@ module _ (d : Way) (v : Value) (s : State) where
   none_seen f = reached_seen d (reach_of (class_for d s.course) f) s.course
 
   unnamed_seen : SeenSame s (unnamed_told d v s)
-  unnamed_seen = grind (arith, reached_seen, none_same)
-
-  found_seen : (p : ℕ) (o : Option Connection) → SeenSame s (at_found d v s p o)
-  found_seen p o = grind (arith, unnamed_seen, reached_seen, after_seen)
+  unnamed_seen = grind (arith, reached_seen)
 
   place_seen : (o : Option ℕ) → SeenSame s (at_place d v s o)
-  place_seen o = grind (arith, unnamed_seen, found_seen)
-
-asking_seen : (d : Way) (f : Finding) (x : Connect) (s : State) → SeenSame s (asks_by d f x s)
-asking_seen d f x s = search (arith, none_seen)
+  place_seen o = grind (arith, unnamed_seen, reached_seen, after_seen)
 
 asks_seen : (d : Way) (v : Value) (s : State) → SeenSame s (asks_of d v s)
-asks_seen d v s = grind (arith, asking_seen, none_seen)
+asks_seen d v s = grind (arith, none_seen)
 
 routed_seen : (d : Way) (v : Value) (s : State) (r : Route) → SeenSame s (routed d v s r)
 routed_seen d v s r = search (arith, asks_seen, place_seen, none_seen)
 
-goes_seen : (b : Bool) (d : Way) (v : Value) (s : State) (r : Route) → SeenSame s (if b then none_told d NotJudged s else routed d v s r)
-goes_seen b d v s r = grind (arith, none_seen, routed_seen)
-
 takes_seen : (d : Way) (v : Value) (s : State) → SeenSame s (takes d v s)
-takes_seen d v s = goes_seen (is_stopped d s.course) d v s (route d s.course v)
+takes_seen d v s = grind (arith, none_seen, routed_seen)
 
 -- ---- what holds whatever passes
 
@@ -83,7 +70,7 @@ still_sure p s h = record {
 }
 
 pub fresh_sure : IsSure fresh
-fresh_sure = grind (arith, fresh_apart, no_item, fresh_narrow)
+fresh_sure = grind (arith, fresh_apart, no_item)
 
 -- ---- at a tap
 
@@ -107,13 +94,10 @@ sure_claim = record {
 
 -- ---- in class 0
 
-class_so : (d : Way) (s : State) → IsSure s → class_for d s.course ≡ Some Zero → s.course.class ≡ Some Zero
-class_so d s h h2 = grind arith
-
 not_two : (k : Option Class) → k ≡ Some Zero → k ≡ Some Two → ⊥
 not_two k h e = grind arith
 
 -- a side that knows class 0 and is judged has one connection
 pub is_zero : (d : Direction) (s : State) → IsSure s → s.course.loose ≡ false → is_stopped (way_of d) s.course ≡ false →
     class_for (way_of d) s.course ≡ Some Zero → IsZero d s
-is_zero d s h firm goes zero = grind (arith, class_so, narrow_only, not_two)
+is_zero d s h firm goes zero = grind (arith, narrow_only, not_two)

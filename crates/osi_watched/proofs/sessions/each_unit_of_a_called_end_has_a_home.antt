@@ -2,15 +2,13 @@
 -- end has not closed there, or for one whose CC has not passed; each other unit is for none.
 -- For all connections of an end and a tap.
 use Rattle.std.proofs.Common.{arith}
-use Rattle.osi_watched.proofs.Vocabulary.{[], ap, append_assoc, Bool, false, List, None, not, Option, refl, Some, subst, sym}
-use Rattle.osi_watched.proofs.Vocabulary.{true, ℕ, ◌&&◌, ◌++◌, ◌==◌, ◌∙◌, ◌∷◌, ◌≡◌, eq-eqb, AllByRecursion, slice_get, confirm, Connect}
-use Rattle.osi_watched.proofs.Vocabulary.{disconnect, request, Value, Standing, Zero, Local, value_at, linked, Carrier, is_open, is_over_by}
-use Rattle.osi_watched.proofs.Vocabulary.{is_refused, is_silent, uses, silent_half, Traffic as State, Connection, Half, Phase}
-use Rattle.osi_watched.proofs.Vocabulary.{Left, Right, Answers, Begins, is_shut, Opens, opens, Continues, Deeds, all_units}
-use Rattle.osi_watched.proofs.Vocabulary.{Marked, Turn, Joined, reference_of, Sessions, answering as answers, Asked, Called, comes}
-use Rattle.osi_watched.proofs.Vocabulary.{refuses, runs, Stand, Untagged, at_first, at_join, first_at, Placed, values, NamesApart, IsCalm}
-use Rattle.osi_watched.proofs.Vocabulary.{open_link, ◌<◌}
-use Rattle.osi_watched.proofs.Vocabulary.{opened_half, Whole, Joint, TakesTurn, HaveSamePlaces, named_by}
+use Rattle.osi_watched.proofs.Vocabulary.{[], ap, append_assoc, false, List, None, Option, refl, Some, subst, sym, true, ℕ, ◌&&◌, ◌++◌, ◌∙◌}
+use Rattle.osi_watched.proofs.Vocabulary.{◌∷◌, ◌≡◌, AllByRecursion, slice_get, confirm, Connect, disconnect, request, Value, Standing, Zero}
+use Rattle.osi_watched.proofs.Vocabulary.{Local, value_at, linked, Carrier, is_open, is_refused, uses, silent_half, Traffic as State}
+use Rattle.osi_watched.proofs.Vocabulary.{Connection, Half, Phase, Left, Right, Answers, Begins, is_shut, Opens, opens, Continues, Deeds}
+use Rattle.osi_watched.proofs.Vocabulary.{all_units, Marked, Turn, Joined, reference_of, Sessions, answering as answers, Asked, Called}
+use Rattle.osi_watched.proofs.Vocabulary.{comes, refuses, runs, Stand, Untagged, at_first, at_join, first_at, Placed, values, NamesApart}
+use Rattle.osi_watched.proofs.Vocabulary.{IsCalm, open_link, ◌<◌, Whole, Joint, TakesTurn, HaveSamePlaces, named_by}
 use Rattle.osi_rules.specs.declared.directions.Direction.TheVariants as way
 use Rattle.osi_fair.specs.Wholes.{begin}
 use Rattle.osi_fair.proofs.each_connection_of_a_called_end.{Row, past}
@@ -56,12 +54,8 @@ refused_none p n q r h = grind arith
 
 -- ---- a connection that is asked for
 
-used_now : (b : Bool) (n credit : ℕ) → (not (b && is_over_by (opened_half n credit) silent_half)
-    && (not (is_silent (opened_half n credit).phase) && ((opened_half n credit).reference == n))) ≡ true
-used_now b n credit = grind (arith, eq-eqb)
-
 pub used_asked : (x : Connect) (c : Connection) → Asked x c → uses way.Left x.source c ≡ true
-used_asked x c a = grind (arith, used_now)
+used_asked x c a = grind arith
 
 -- ---- what came
 
@@ -233,9 +227,6 @@ module _ (local : Local) (deeds : ℕ → Deeds) (turn : Turn) (old new : Joint)
   apart : NamesApart f.whole.tap.connections
   apart = (called_joined local old f).apart
 
-  places_so : HaveSamePlaces f.whole.tap.connections t.live
-  places_so = subst (λ (x : State). HaveSamePlaces x.connections t.live) (sym f.tap) places
-
   -- a CC that is put gives a new reference
   new_reference : (q : ℕ) (l : LivedSo q) (others answer : List Marked) → l.left.before ≡ others ++ answer → (cc_is : Connect) →
       cc_is.source ≡ q → answer ≡ (0, confirm l.peer cc_is) ∷ [] → IsUnused Right q t
@@ -251,7 +242,7 @@ module _ (local : Local) (deeds : ℕ → Deeds) (turn : Turn) (old new : Joint)
       Begins false q l.peer carrier new.holding.end.carrier l.arrived l.left → (AreApart q on.put → ⊥) →
       IsHomed Right q l.peer f.whole.tap t
   home_by lasts q positive l (opened link there none none_left) some =
-      linked_homed local f.whole t (lines lasts).called apart (lines lasts).named places_so
+      linked_homed local f.whole t (lines lasts).called apart (lines lasts).named (grind arith)
       (whole_lasts Right false (begin false local) deeds turn old new step on f lasts) q l.peer link
       (linked_so Right false (begin false local) deeds turn old new step on f lasts q l.peer link there)
   home_by lasts q positive l (opens shut unit opening front is others answer gives put) some = by unit opening gives is
@@ -263,7 +254,7 @@ module _ (local : Local) (deeds : ℕ → Deeds) (turn : Turn) (old new : Joint)
           (came Right false (begin false local) deeds turn old new step on f lasts (confirm n x) front q l come)))
       by (request x) (called, theirs) (cc_is, source, one) come =
           subst (λ (k : ℕ). IsHomed Right q k f.whole.tap t) theirs
-          (asked_homed local f.whole t (lines lasts).called apart (lines lasts).named places_so
+          (asked_homed local f.whole t (lines lasts).called apart (lines lasts).named (grind arith)
           (whole_lasts Right false (begin false local) deeds turn old new step on f lasts) q x
           (came Right false (begin false local) deeds turn old new step on f lasts (request x) front q l come)
           (new_reference q l others answer put cc_is source one))

@@ -2,13 +2,12 @@
 -- not closed there; each other unit is for none.
 -- For all connections of an end and a tap.
 use Rattle.osi_watched.proofs.Vocabulary.{[], ap, append_assoc, arith, Bool, false, is_some, List, map, None, Option, refl, Some, subst}
-use Rattle.osi_watched.proofs.Vocabulary.{suc, sym, true, ℕ, ◌++◌, ◌<◌, ◌==◌, ◌∙◌, ◌∷◌, ◌≡◌, ◌≤◌, ◌⊎◌, eq-eqb, AllByRecursion, slice_get}
-use Rattle.osi_watched.proofs.Vocabulary.{◌||◌, confirm, Connect, data0, disconnect, request, Value, written, Standing, Local, value_at}
-use Rattle.osi_watched.proofs.Vocabulary.{closing, Live, linked, Carrier, has_given, is_closing, is_open, Traffic as State, Connection}
-use Rattle.osi_watched.proofs.Vocabulary.{Phase, Left, amid, early, Life, opens_by, past, Time as Stage, stage_at, stays, all_units_more}
-use Rattle.osi_watched.proofs.Vocabulary.{Opens, Continues, Deeds, all_units, Marked, Turn, Sessions, Followed, is_tracked}
-use Rattle.osi_watched.proofs.Vocabulary.{IsOwned, Row, Tracked, each_picked, first_kept, is_dc, IsDc, IsOngoing, names, those, those_join}
-use Rattle.osi_watched.proofs.Vocabulary.{Line, Whole, Joint, TakesTurn, HaveSamePlaces, named_by}
+use Rattle.osi_watched.proofs.Vocabulary.{suc, sym, true, ℕ, ◌++◌, ◌<◌, ◌==◌, ◌∙◌, ◌∷◌, ◌≡◌, ◌⊎◌, eq-eqb, AllByRecursion, slice_get}
+use Rattle.osi_watched.proofs.Vocabulary.{confirm, Connect, data0, disconnect, request, Value, written, Standing, Local, value_at, closing}
+use Rattle.osi_watched.proofs.Vocabulary.{Live, linked, Carrier, has_given, Traffic as State, Connection, Left, amid, early, Life, opens_by}
+use Rattle.osi_watched.proofs.Vocabulary.{past, Time as Stage, stage_at, stays, all_units_more, Opens, Continues, Deeds, all_units, Marked}
+use Rattle.osi_watched.proofs.Vocabulary.{Turn, Sessions, Followed, is_tracked, IsOwned, Row, Tracked, each_picked, first_kept, is_dc, IsDc}
+use Rattle.osi_watched.proofs.Vocabulary.{IsOngoing, names, those, those_join, Line, Whole, Joint, TakesTurn, HaveSamePlaces}
 use Rattle.osi_carrier.specs.State.{asked}
 use Rattle.osi_fair.specs.Wholes.{begin}
 use Rattle.osi_fair.proofs.each_connection_has_its_line.{AreGiven, over}
@@ -23,19 +22,17 @@ use Rattle.osi_watched.proofs.sessions.a_turn_does_what_its_deeds_say.{turn_uses
 use Rattle.osi_watched.proofs.sessions.a_whole_end_runs_along.{calling_followed}
 use Rattle.osi_watched.proofs.sessions.connections_have_the_same_places.{at_same}
 use Rattle.osi_watched.proofs.sessions.each_unit_of_a_turn_has_one_connection.{HasHome, IsHomed, IsMarked, known}
-use Rattle.osi_watched.proofs.sessions.nothing_is_done_before_a_cr_passes.{IsNotCc, given_so, same_units}
-use Rattle.osi_watched.proofs.sessions.what_a_turn_puts_goes_to_its_peer.{GoesTo, IsNotZero, IsPutFor, all_back, all_of_both, all_so}
-use Rattle.osi_watched.proofs.sessions.what_a_turn_puts_goes_to_its_peer.{goes_to, one_of, turn_marked, whole_lasts}
+use Rattle.osi_watched.proofs.sessions.nothing_is_done_before_a_cr_passes.{IsNotCc, same_units}
+use Rattle.osi_watched.proofs.sessions.what_a_turn_puts_goes_to_its_peer.{GoesTo, IsPutFor, all_back, all_of_both, all_so, goes_to, one_of}
+use Rattle.osi_watched.proofs.sessions.what_a_turn_puts_goes_to_its_peer.{turn_marked, whole_lasts}
 use Rattle.osi_watched.proofs.sessions.each_unit_of_a_called_end_has_a_home.{same_peer}
+use Rattle.std.proofs.lemmas.Bool.{le-leb, lt-ltb}
 
 -- ---- a connection that is open at the tap has a home there
 
-named_so : (p : Phase) (n : ℕ) → (is_open p || is_closing p) ≡ true → named_by p n ≡ Some n
-named_so p n h = grind arith
-
 home_of : (s : State) (t : Sessions) → HaveSamePlaces s.connections t.live → (p : ℕ) (c : Connection) → slice_get s.connections p ≡ Some c →
     is_tracked c ≡ true → HasHome Left c.left.reference c.right.reference s t
-home_of s t places p c at tracked = grind (arith, at_same, and_both, named_so)
+home_of s t places p c at tracked = grind (arith, at_same, and_both)
 
 -- ---- the end has the connection open
 
@@ -43,13 +40,10 @@ live_not : {A : Type 0} (o : Option Live) (m : ℕ) (link : Standing) → o ≡ 
     (((q : ℕ) × (o ≡ Some (closing q))) ⊎ (o ≡ None)) → A
 live_not o m link e h = grind arith
 
-closed_so : (o : Option Live) (q : ℕ) → (o ≡ Some (closing q)) ⊎ (o ≡ None) → ((q : ℕ) × (o ≡ Some (closing q))) ⊎ (o ≡ None)
-closed_so o q h = grind arith
-
 -- its line is for the peer of its link
 row_peer : (local : Local) (end : Carrier) (coming : List Value) (r peer : ℕ) (line : Line) (m : ℕ) (link : Standing) →
     Row local end coming r peer line → end.ended ≡ None → value_at r end.live ≡ Some (linked m link) → m ≡ peer
-row_peer local end coming r peer line m link h lasts e = grind (arith, live_not, same_peer, closed_so, over_not)
+row_peer local end coming r peer line m link h lasts e = grind (arith, live_not, same_peer, over_not)
 
 linked_home : (local : Local) (w : Whole) (t : Sessions) (f : Followed local w) → HaveSamePlaces w.tap.connections t.live →
     w.end.ended ≡ None → (q peer : ℕ) (link : Standing) → value_at q w.end.live ≡ Some (linked peer link) → HasHome Left q peer w.tap t
@@ -73,13 +67,9 @@ record HasFirst (r peer : ℕ) (coming : List Value) : Type 0 where
   dcs : AllByRecursion IsDc firsts
   source : x.source ≡ peer
 
-asked_not : {A : Type 0} (o : Option Live) → o ≡ Some asked → ((m : ℕ) × (l : Standing) × (o ≡ Some (linked m l))) ⊎
-    (((q : ℕ) × (o ≡ Some (closing q))) ⊎ (o ≡ None)) → A
-asked_not o e h = grind arith
-
 row_first : (local : Local) (end : Carrier) (coming : List Value) (r peer : ℕ) (line : Line) → Row local end coming r peer line →
     end.ended ≡ None → value_at r end.live ≡ Some asked → HasFirst r peer coming
-row_first local end coming r peer line h lasts e = grind (arith, asked_not, closed_so, over_not)
+row_first local end coming r peer line h lasts e = grind (arith, over_not)
 
 -- the first CC of a list is one
 first_cc : (r : ℕ) (x y : Connect) (xs ys us vs : List Value) → xs ++ confirm r x ∷ ys ≡ us ++ confirm r y ∷ vs →
@@ -104,9 +94,6 @@ module _ (local : Local) (w : Whole) (t : Sessions) (f : Followed local w) (plac
   those_first : AllByRecursion (IsNotCc q) (those q front)
   those_first = grind (arith, each_picked, names, all_so)
 
-  those_come : those q w.coming ≡ those q front ++ confirm q x ∷ those q rest
-  those_come = grind (arith, those, those_join, first_kept, eq-eqb)
-
   asked_home : HasHome Left q x.source w.tap t
   asked_home =
       let (p, c, at, so, mine) = tracked_so in
@@ -115,7 +102,7 @@ module _ (local : Local) (w : Whole) (t : Sessions) (f : Followed local w) (plac
       let h : HasFirst q g.peer w.coming =
       row_first local w.end w.coming q g.peer g.line (subst (λ (n : ℕ). Row local w.end w.coming n g.peer g.line) name g.row) lasts waits in
       let both : those q front ++ confirm q x ∷ those q rest ≡ h.firsts ++ confirm q h.x ∷ h.later =
-      ◌∙◌ {c = h.firsts ++ confirm q h.x ∷ h.later} (sym those_come) h.is in
+      ◌∙◌ {c = h.firsts ++ confirm q h.x ∷ h.later} (sym (grind (arith, those, those_join, first_kept, eq-eqb))) h.is in
       let same : x ≡ h.x = first_cc q x h.x (those q front) (those q rest) h.firsts h.later both those_first
       (all_so IsDc (IsNotCc q) (dc_not_cc q) h.firsts h.dcs) in
       subst (λ (n : ℕ). HasHome Left n x.source w.tap t) mine
@@ -206,17 +193,11 @@ module _ (local : Local) (two : local.class2 ≡ true) (deeds : ℕ → Deeds) (
       all_back IsOwnedSo old.put (all_units on.put)
       (written_as (IsOwned g.whole.tap) g.whole.put (old.put ++ all_units on.put) alike all)
 
-  no_zero : AllByRecursion IsNotZero (all_units on.put)
-  no_zero = grind (arith, all_so, not_data0, owned_units)
-
   -- ---- the connection that a unit is put for
 
   module _ (lasts : carrier.ended ≡ None) (q : ℕ) (positive : 0 < q) (some : AreApart q on.put → ⊥) where
     wholes : f.whole.end.ended ≡ None
     wholes = whole_lasts Left true (begin true local) deeds turn old new step on f lasts
-
-    value_so : value_at q f.whole.end.live ≡ value_at q carrier.live
-    value_so = ap (λ (c : Carrier). value_at q c.live) (f.like.lasts wholes)
 
     -- what it put while it was open
     gives_so : (peer : ℕ) (before put_later later : List Marked) (t : Stage) (w : WhileOpen q peer later put_later t) → AreApart q before →
@@ -254,7 +235,7 @@ module _ (local : Local) (two : local.class2 ≡ true) (deeds : ℕ → Deeds) (
         subst (λ (k : ℕ). HasHome Left q k f.whole.tap t) theirs
         (asked_home local f.whole t followed places_so wholes q x (all_units front) rest
         (subst (λ (k : ℕ). f.whole.coming ≡ all_units front ++ confirm k x ∷ rest) mine come) (units_not_cc front none)
-        (value_so ∙ waits))
+        ((grind (arith, wholes)) ∙ waits))
     opens_home peer (request x) (caller, theirs) front later none is waits = absurd (cc)
     opens_home peer (disconnect n source reason user) o front later none is waits = absurd o
     opens_home peer _ o front later none is waits = absurd o
@@ -280,7 +261,7 @@ module _ (local : Local) (two : local.class2 ≡ true) (deeds : ℕ → Deeds) (
         (subst (AllByRecursion (AreGiven f.whole.end.given)) come followed.few) in
         let up = few refl n refl in
         absurd (let both : true ≡ false =
-        sym (given_so q f.whole.end positive (subst (λ (k : ℕ). k ≤ f.whole.end.given) mine up))
+        sym (grind (arith, lt-ltb, le-leb))
         ∙ ap (has_given q) (f.like.lasts wholes) ∙ free in cc)
     not_given peer (request x) (caller, theirs) front later is free = absurd (cc)
     not_given peer (disconnect n source reason user) o front later is free = absurd o
@@ -298,7 +279,7 @@ module _ (local : Local) (two : local.class2 ≡ true) (deeds : ℕ → Deeds) (
         record {
           peer = peer;
           goes = gives_so peer [] on.put on.took (stage_at q new.holding.end.carrier) w tt refl;
-          homed = known (linked_home local f.whole t followed places_so wholes q peer link (value_so ∙ here));
+          homed = known (linked_home local f.whole t followed places_so wholes q peer link ((grind (arith, wholes)) ∙ here));
         }
     by_stage early is w = by (has_given q carrier) refl
       where
@@ -313,7 +294,7 @@ module _ (local : Local) (two : local.class2 ≡ true) (deeds : ℕ → Deeds) (
 
   pub calling_marked : AllByRecursion (IsMarked Left s t) on.put
   calling_marked =
-      turn_marked Left true (begin true local) deeds turn old new step on f s t no_zero
+      turn_marked Left true (begin true local) deeds turn old new step on f s t (grind (arith, all_so, not_data0, owned_units))
       (λ lasts q positive some.
       let h = is_put lasts q positive some in
       record { peer = h.peer; goes = h.goes; homed = subst (λ (x : State). IsHomed Left q h.peer x t) f.tap h.homed })

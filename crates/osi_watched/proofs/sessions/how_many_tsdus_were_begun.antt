@@ -1,12 +1,11 @@
 -- A session has said each TSDU of which a unit was put, and by then it had taken no more than its link has handed out.
 -- For what a tap shows of a session.
 use Rattle.osi_watched.proofs.Vocabulary.{[], ap, arith, Bool, false, IfSome, if◌then◌else◌, length, List, Option, refl, subst, suc, sym}
-use Rattle.osi_watched.proofs.Vocabulary.{true, ℕ, ◌++◌, ◌+◌, ◌∙◌, ◌∷◌, ◌≡◌, ◌≤◌, flat_map-append, append-nil, length-append, length-map}
-use Rattle.osi_watched.proofs.Vocabulary.{AllByRecursion, Value, at_some, choose_some, move_keeps, Sends, all as all_sent, Ends, Flow}
-use Rattle.osi_watched.proofs.Vocabulary.{Given, given_part, next_by, Standing, give_out, given_parts, hand_in, hand_out, Move, Moves}
-use Rattle.osi_watched.proofs.Vocabulary.{MovesAlong, part_out, parts_out, take_in, tsdus_in, tsdus_out, unit_parts, give, Part, tsdus}
-use Rattle.osi_watched.proofs.Vocabulary.{tsdus_after, uncut, End, fresh_of, no_calls, AreCalls, Deeds, said_in, is_gone, closed}
-use Rattle.osi_watched.proofs.Vocabulary.{ends_whole, left_over, parts_of, never}
+use Rattle.osi_watched.proofs.Vocabulary.{true, ℕ, ◌++◌, ◌+◌, ◌∙◌, ◌∷◌, ◌≡◌, ◌≤◌, flat_map-append, length-append, length-map}
+use Rattle.osi_watched.proofs.Vocabulary.{AllByRecursion, Value, at_some, move_keeps, all as all_sent, Ends, Flow, Given, given_part}
+use Rattle.osi_watched.proofs.Vocabulary.{Standing, give_out, given_parts, hand_in, hand_out, Move, Moves, MovesAlong, part_out, parts_out}
+use Rattle.osi_watched.proofs.Vocabulary.{take_in, tsdus_in, tsdus_out, unit_parts, give, Part, tsdus, tsdus_after, uncut, End, fresh_of}
+use Rattle.osi_watched.proofs.Vocabulary.{no_calls, AreCalls, Deeds, said_in, is_gone, closed, ends_whole, left_over, parts_of, never}
 use Rattle.osi_honest.specs.Courses.{Course}
 use Rattle.osi_honest.specs.Courses.Course.{is_open, awaited, unknown}
 use Rattle.osi_honest.specs.Courses.Gone.{over}
@@ -70,20 +69,9 @@ given_owes : (ended : Bool) (e : Ends) (flow : Option Flow) (number : Option ℕ
     IfSome (given_part e flow number (give e.limit tsdus)) (OwesNext ended)
 given_owes ended e flow number tsdus = grind arith
 
-next_owes : (ended : Bool) (e : Ends) (flow : Option Flow) → Owes ended e → IfSome (next_by e flow) (OwesNext ended)
-next_owes ended e flow h = grind (arith, given_owes, choose_some)
-
--- a call that gives nothing and takes nothing in leaves as many
-as_many : (old new : Ends) → Sends old new [] [] → length new.unsent ≡ length old.unsent
-as_many old new s =
-    grind (arith, uncut_count [] new.unsent, append-nil new.unsent, s.same [] [], append-nil old.unsent, uncut_count [] old.unsent)
-
-owes_same : (ended : Bool) (old new : Ends) → length new.unsent ≡ length old.unsent → Owes ended old → Owes ended new
-owes_same ended old new e h k = let n = h k in omega (arith, n, e)
-
 move_owes : (ended : Bool) (move : Move) (old new : Standing) → Moves move old new → Owes ended old.ends →
     Owes (ends_whole ended (part_out move)) new.ends
-move_owes ended move old new e h = search (arith, length-append, at_some, next_owes, owes_same, as_many, move_keeps)
+move_owes ended move old new e h = search (arith, length-append, at_some, move_keeps)
 
 run_owes : (ended : Bool) (moves : List Move) (old new : Standing) → MovesAlong old moves new → Owes ended old.ends →
     Owes (ends_whole ended (parts_out moves)) new.ends

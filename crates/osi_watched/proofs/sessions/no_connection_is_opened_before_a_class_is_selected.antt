@@ -1,23 +1,17 @@
 -- As long as no class is selected on a byte connection, right has given no connection a reference, whatever passes.
 -- For a called end that has selected class 0, and whose CC has not passed.
 use Rattle.std.proofs.Common.{arith}
-use Rattle.osi_watched.proofs.Vocabulary.{ap, Bool, if◌then◌else◌, inl, inr, List, None, Option, refl, Some, subst}
-use Rattle.osi_watched.proofs.Vocabulary.{sym, ℕ, ◌∙◌, ◌≡◌, ◌⊎◌, slice_get}
-use Rattle.osi_watched.proofs.Vocabulary.{Value, Class, Two, Zero}
-use Rattle.osi_watched.proofs.Vocabulary.{asks_of, at_found, at_place}
-use Rattle.osi_watched.proofs.Vocabulary.{course_after, is_stopped, meaning_if, meant, none_told, Outcome}
-use Rattle.osi_watched.proofs.Vocabulary.{route, routed, Traffic as State, takes, Connection, Way, Finding, NotJudged}
-use Rattle.osi_watched.proofs.Vocabulary.{Meaning, Route, Asks, Direction, adds_if, changed}
-use Rattle.osi_watched.proofs.Vocabulary.{Joined, placed, Sessions, taken, marked, moved, unit_passes}
-use Rattle.osi_watched.proofs.Vocabulary.{unread_mark, unread_moment, way_of, Cause, Room, reached_class, zero_stays}
-use Rattle.osi_watched.proofs.Vocabulary.{after_add, after_set, lasts_passing, unit}
+use Rattle.osi_watched.proofs.Vocabulary.{ap, None, Option, refl, Some, subst, sym, ℕ, ◌∙◌, ◌≡◌, slice_get, Value, Class, Two, Zero}
+use Rattle.osi_watched.proofs.Vocabulary.{at_found, at_place, meant, none_told, Outcome, routed, Traffic as State, takes, Connection, Way}
+use Rattle.osi_watched.proofs.Vocabulary.{Finding, Meaning, Route, Asks, Direction, changed, Joined, placed, Sessions, taken, unit_passes}
+use Rattle.osi_watched.proofs.Vocabulary.{way_of, reached_class, zero_stays, after_add, after_set, lasts_passing, unit}
 use Rattle.osi_rules.specs.declared.findings.Meaning.TheVariants as meaning
 use Rattle.osi_rules.specs.Traffic as traffic
 use Rattle.osi_tap.specs.Connections as joined
 use Rattle.osi_tap.specs.Courses.{Course}
 use Rattle.osi_watched.proofs.what_passes_keeps_a_claim.{IsClaim}
 use Rattle.osi_watched.proofs.sessions.all_connections_stand.{map_of}
-use Rattle.osi_watched.proofs.sessions.connections_have_the_same_places.{marked_leaves, marked_traffic, unit_joins, unit_knows}
+use Rattle.osi_watched.proofs.sessions.connections_have_the_same_places.{unit_joins, unit_knows}
 
 -- ---- a unit that opens a connection selects a class
 
@@ -30,28 +24,17 @@ no_meaning e = cc
 none_selects : (d : Way) (f : Finding) (s : State) → Selects (none_told d f s)
 none_selects d f s opens none = no_meaning opens
 
-opens_applied : (d : Way) (c : Connection) (v : Value) (b : Bool) (s : State) → meaning_if b (meant v) ≡ meaning.Opens →
-    (course_after d c v b s.course).class ≡ None → ⊥
-opens_applied d c v b s opens none = grind (arith, no_meaning)
-
 found_selects : (d : Way) (v : Value) (s : State) (p : ℕ) (o : Option Connection) → Selects (at_found d v s p o)
-found_selects d v s p o opens none = grind (arith, no_meaning, opens_applied, reached_class)
+found_selects d v s p o opens none = search (arith, no_meaning, reached_class)
 
 place_selects : (d : Way) (v : Value) (s : State) (o : Option ℕ) → Selects (at_place d v s o)
 place_selects d v s o opens none = grind (arith, no_meaning, found_selects)
 
-asks_selects : (d : Way) (v : Value) (s : State) → Selects (asks_of d v s)
-asks_selects d v s = grind (arith, none_selects)
-
 routed_selects : (d : Way) (v : Value) (s : State) (r : Route) → Selects (routed d v s r)
-routed_selects d v s r = grind (arith, asks_selects, place_selects, none_selects)
-
-goes_selects : (b : Bool) (d : Way) (v : Value) (s : State) (r : Route) →
-    Selects (if b then none_told d NotJudged s else routed d v s r)
-goes_selects b d v s r = grind (arith, none_selects, routed_selects)
+routed_selects d v s r = grind (arith, none_selects, place_selects)
 
 takes_selects : (d : Way) (v : Value) (s : State) → Selects (takes d v s)
-takes_selects d v s = goes_selects (is_stopped d s.course) d v s (route d s.course v)
+takes_selects d v s = grind (arith, none_selects, routed_selects)
 
 -- ---- what is joined
 
@@ -63,30 +46,18 @@ pub record AreUncalled (t : Sessions) : Type 0 where
 called_begun : (d : Direction) (j : Joined) → (joined.packet_begins d j).called ≡ j.called
 called_begun d j = grind arith
 
-called_added : (b : Bool) (room : Room) (d : Direction) (at : ℕ) (end : Bool) (octets : List ℕ) (j : Joined) →
-    (adds_if b room d at end octets j).called ≡ j.called
-called_added b room d at end octets j = grind arith
-
 called_meant : (d : Direction) (at : ℕ) (v : Value) (m : Meaning) (j : Joined) → (m ≡ meaning.Opens → ⊥) →
     (joined.meant d at v m j).called ≡ j.called
-called_meant d at v m j h = grind (arith, called_added)
+called_meant d at v m j h = grind arith
 
 module _ (t : Sessions) (h : AreUncalled t) where
-  one_or : (p i : ℕ) (new j : Joined) → new.called ≡ None → ((i ≡ p) × (j ≡ new)) ⊎ (slice_get t.live i ≡ Some j) → j.called ≡ None
-  one_or p i new j none (inl (there, is)) = ap (λ (x : Joined). x.called) is ∙ none
-  one_or p i new j none (inr here) = h.live i j here
-
-  done_or : (p i : ℕ) (old j : Joined) → old.called ≡ None → ((i ≡ p) × (j ≡ old)) ⊎ (slice_get t.done i ≡ Some j) → j.called ≡ None
-  done_or p i old j none (inl (there, is)) = ap (λ (x : Joined). x.called) is ∙ none
-  done_or p i old j none (inr here) = h.done i j here
-
   changed_uncalled : (p : ℕ) (f : Joined → Joined) → ((j : Joined) → (f j).called ≡ j.called) → (o : Option Joined) →
       slice_get t.live p ≡ o → AreUncalled (changed p f t o)
-  changed_uncalled p f same o is = grind (arith, one_or, after_set)
+  changed_uncalled p f same o is = grind (arith, after_set)
 
   placed_uncalled : (p : ℕ) (new : Joined) → new.called ≡ None → (o : Option Joined) → slice_get t.live p ≡ o →
       AreUncalled (placed p new t o)
-  placed_uncalled p new none o is = grind (arith, one_or, after_add, after_set, done_or)
+  placed_uncalled p new none o is = grind (arith, after_add, after_set)
 
   taken_uncalled : (d : Direction) (at : ℕ) (v : Value) (m : Meaning) (o : Option ℕ) → (m ≡ meaning.Opens → ⊥) →
       AreUncalled (taken d at v m o t)
@@ -102,13 +73,10 @@ module _ (t : Sessions) (h : AreUncalled t) where
 abbrev pub UncalledUntil : Course → Type 0
 UncalledUntil c = c.traffic.course.class ≡ None → AreUncalled c.sessions
 
-no_class : (k : Class) → Some k ≡ None → ⊥
-no_class k e = cc
-
 -- a class that is selected stays so
 none_before : (k : Option Class) (after : Option Class) → ((k ≡ Some Zero) → after ≡ Some Zero) → ((k ≡ Some Two) → after ≡ Some Two) →
     after ≡ None → k ≡ None
-none_before k after h two none = grind (arith, no_class)
+none_before k after h two none = grind arith
 
 begins_class : (d : Direction) (s : State) → (traffic.packet_begins (way_of d) s).course.class ≡ s.course.class
 begins_class d s = grind arith
@@ -124,10 +92,5 @@ unit_uncalled d at v c h none =
     (taken_uncalled c.sessions (h before) d at v told.meaning told.place
     (λ opens. takes_selects (way_of d) v c.traffic opens after))
 
-unread_uncalled : (b : Bool) (d : Direction) (at : ℕ) (k : Cause) (c : Course) → UncalledUntil c →
-    UncalledUntil (if b then c else marked (unread_mark d at k) (traffic.refused_reach (way_of d) c.traffic)
-    (moved (unread_moment d at k c.sessions) (record c { traffic = traffic.refused (way_of d) c.traffic })))
-unread_uncalled b d at k c h = grind (arith, marked_traffic, marked_leaves, none_before, zero_stays, lasts_passing)
-
 pub uncalled_claim : IsClaim UncalledUntil
-uncalled_claim = grind (arith, map_of, called_begun, begins_class, unit_uncalled, unread_uncalled)
+uncalled_claim = grind (arith, map_of, called_begun, begins_class, unit_uncalled)

@@ -1,10 +1,9 @@
 -- On a connection no more TSDUs of a side have passed than moments in all.
 -- For the law that no session of an end is blamed first: a tap counts TSDUs up to 2^64.
-use Rattle.osi_watched.proofs.Vocabulary.{[], ap, arith, Bool, if◌then◌else◌, length, List, map, None, Option, refl, Some, subst, suc, sym}
-use Rattle.osi_watched.proofs.Vocabulary.{ℕ, ◌++◌, ◌∷◌, ◌≡◌, ◌≤◌, ◌⊎◌, length-append, slice_get, Value, takes, Meaning, Direction}
-use Rattle.osi_watched.proofs.Vocabulary.{marked_past, adds_if, asked, changed, Joined, placed, Sessions, spoken, taken, marked, moved}
-use Rattle.osi_watched.proofs.Vocabulary.{unit_passes, unread_mark, unread_moment, way_of, added, heard, octets_of, Spoken, Cause, Room}
-use Rattle.osi_watched.proofs.Vocabulary.{after_add, after_set}
+use Rattle.osi_watched.proofs.Vocabulary.{[], ap, arith, Bool, length, List, map, None, Option, refl, Some, subst, suc, sym, ℕ, ◌++◌, ◌∷◌}
+use Rattle.osi_watched.proofs.Vocabulary.{◌≡◌, ◌≤◌, ◌⊎◌, length-append, slice_get, Value, takes, Meaning, Direction, marked_past, asked}
+use Rattle.osi_watched.proofs.Vocabulary.{changed, Joined, Sessions, spoken, taken, unit_passes, way_of, added, heard, octets_of, Spoken}
+use Rattle.osi_watched.proofs.Vocabulary.{Room, after_add, after_set}
 use Rattle.osi_rules.specs.declared.findings.Meaning.TheVariants as meaning
 use Rattle.osi_rules.specs.Traffic as traffic
 use Rattle.osi_tap.specs.Connections.{meant, packet_begins}
@@ -33,13 +32,9 @@ module _ (e : Direction) (n : ℕ) where
   few_more : (j : Joined) → HasFew e n j → HasFew e (suc n) j
   few_more j h = omega (arith, h)
 
-  few_adds : (b : Bool) (room : Room) (d : Direction) (at : ℕ) (end : Bool) (octets : List ℕ) (j : Joined) → HasFew e n j →
-      HasFew e (suc n) (adds_if b room d at end octets j)
-  few_adds b room d at end octets j h = grind (arith, few_added)
-
   -- what a unit means for its connection
   few_meant : (d : Direction) (at : ℕ) (v : Value) (m : Meaning) (j : Joined) → HasFew e n j → HasFew e (suc n) (meant d at v m j)
-  few_meant d at v m j h = grind (arith, few_more, few_adds)
+  few_meant d at v m j h = grind (arith, few_more, few_added)
 
   few_begun : (d : Direction) (j : Joined) → HasFew e n j → HasFew e n (packet_begins d j)
   few_begun d j h = grind arith
@@ -63,12 +58,9 @@ module _ (e : Direction) (n : ℕ) (t : Sessions) (h : HaveFew e n t) where
       slice_get t.live p ≡ o → HaveFew e (suc n) (changed p f t o)
   few_changed p f keeps o is = search (arith, still, one_or, after_set)
 
-  few_placed : (p : ℕ) (new : Joined) → HasFew e (suc n) new → (o : Option Joined) → HaveFew e (suc n) (placed p new t o)
-  few_placed p new few o = grind (arith, one_or, after_add, after_set)
-
   few_taken : (d : Direction) (at : ℕ) (v : Value) (m : Meaning) (o : Option ℕ) → HaveFew e (suc n) (taken d at v m o t)
   few_taken d at v m None = still
-  few_taken d at v meaning.Asks (Some p) = search (arith, few_placed, few_asked)
+  few_taken d at v meaning.Asks (Some p) = grind (arith, one_or, after_add, after_set, few_asked)
   few_taken d at v meaning.Nothing (Some p) = grind (arith, few_changed, few_meant)
   few_taken d at v meaning.Opens (Some p) = grind (arith, few_changed, few_meant)
   few_taken d at v meaning.Closes (Some p) = grind (arith, few_changed, few_meant)
@@ -88,10 +80,5 @@ unit_few e d at v c h =
     (subst (HaveFew e (suc (length c.past))) (sym (unit_joins d at v c))
     (few_taken e (length c.past) c.sessions h d at v told.meaning told.place))
 
-unread_few : (b : Bool) (e d : Direction) (at : ℕ) (k : Cause) (c : Course) → AreFew e c →
-    AreFew e (if b then c else marked (unread_mark d at k) (traffic.refused_reach (way_of d) c.traffic)
-    (moved (unread_moment d at k c.sessions) (record c { traffic = traffic.refused (way_of d) c.traffic })))
-unread_few b e d at k c h = grind (arith, marked_leaves, length-append, marked_past)
-
 pub few_claim : (e : Direction) → IsClaim (AreFew e)
-few_claim e = grind (arith, map_of, few_begun, unit_few, unread_few)
+few_claim e = grind (arith, map_of, few_begun, unit_few, marked_leaves, length-append, marked_past)

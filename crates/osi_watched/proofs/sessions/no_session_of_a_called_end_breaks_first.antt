@@ -4,16 +4,15 @@
 use Rattle.std.proofs.Common.{arith}
 use Rattle.osi_watched.proofs.Vocabulary.{[], ap, Bool, false, inl, inr, List, map, None, refl, Some, subst, sym, ℕ, ◌++◌, ◌∙◌, ◌∷◌, ◌≡◌}
 use Rattle.osi_watched.proofs.Vocabulary.{◌⊎◌, AllByRecursion, Value, written, Zero, Local, acceptance, Holding, Traffic as State, takes}
-use Rattle.osi_watched.proofs.Vocabulary.{Connection, AsSent, AsParts, CalledLaw, CallerLaw, Left, Right, AllProper, CanBeWritten, Deeds}
-use Rattle.osi_watched.proofs.Vocabulary.{no_deeds, then_did, units_in, IsFresh, Turn, Joined, none, Sessions, spoken, unit_passes}
-use Rattle.osi_watched.proofs.Vocabulary.{units_pass, Selecting, fresh_apart, no_item, selecting_passes, begins_other, begins_own, Class}
-use Rattle.osi_watched.proofs.Vocabulary.{Option, Two}
-use Rattle.osi_watched.proofs.Vocabulary.{Joint, passes_other, passes_own, Step, Steps, TakesTurn, turns}
+use Rattle.osi_watched.proofs.Vocabulary.{AsSent, AsParts, CalledLaw, CallerLaw, Left, Right, AllProper, CanBeWritten, Deeds, no_deeds}
+use Rattle.osi_watched.proofs.Vocabulary.{then_did, units_in, IsFresh, Turn, none, Sessions, unit_passes, units_pass, Selecting}
+use Rattle.osi_watched.proofs.Vocabulary.{fresh_apart, no_item, selecting_passes, begins_other, begins_own, Class, Option, Two, Joint}
+use Rattle.osi_watched.proofs.Vocabulary.{passes_other, passes_own, Step, Steps, TakesTurn, turns}
 use Rattle.osi_rules.specs.declared.directions.Direction.TheVariants as way
 use Rattle.osi_fair.specs.Wholes as wholes
 use Rattle.osi_tap.specs.Courses.{Course as Passed}
 use Rattle.osi_watched.specs.Joint.{begin}
-use Rattle.osi_watched.proofs.small_facts_that_many_lemmas_use.{all_front, can_more as all_more, not_some}
+use Rattle.osi_watched.proofs.small_facts_that_many_lemmas_use.{all_front, can_more as all_more}
 use Rattle.osi_watched.proofs.steps_are_events.{IsFollowed, own_first, step_followed}
 use Rattle.osi_watched.proofs.what_passes_keeps_a_claim.{step_kept}
 use Rattle.osi_watched.proofs.what_the_turns_among_steps_do.{TurnDoes}
@@ -26,7 +25,7 @@ use Rattle.osi_watched.proofs.sessions.a_called_end_stands_as_units_pass.{Stands
 use Rattle.osi_watched.proofs.sessions.a_called_end_stands_as_units_pass.{passes_other_stands, passes_own_stands, turns_stand}
 use Rattle.osi_watched.proofs.sessions.a_calling_end_stands_as_units_pass.{known_at}
 use Rattle.osi_watched.proofs.sessions.after_too_many_nobody_is_to_blame.{NoneIsToBlame}
-use Rattle.osi_watched.proofs.sessions.all_connections_stand.{AllStand, Rests, there_too}
+use Rattle.osi_watched.proofs.sessions.all_connections_stand.{AllStand, there_too}
 use Rattle.osi_watched.proofs.sessions.an_end_that_has_said_nothing_is_not_to_blame.{IsMute, mute_begins, mute_none, mute_units}
 use Rattle.osi_watched.proofs.sessions.connections_have_the_same_places.{Agree, packet_agrees, unit_knows, units_agree}
 use Rattle.osi_watched.proofs.sessions.no_connection_is_opened_before_a_class_is_selected.{AreUncalled, UncalledUntil, uncalled_claim}
@@ -37,8 +36,7 @@ use Rattle.osi_watched.proofs.sessions.steps_leave_all_standing.{IsProper, Stand
 use Rattle.osi_watched.proofs.sessions.steps_of_either_class_leave_all_standing.{stand_none}
 use Rattle.osi_watched.proofs.sessions.the_dr_of_the_other_side_is_in_flight.{first_shut}
 use Rattle.osi_watched.proofs.sessions.units_written_alike_have_the_same_ccs.{AnswersTwo, first_not_zero}
-use Rattle.osi_watched.proofs.sessions.what_stands_of_a_connection.{Known, Stands}
-use Rattle.osi_watched.proofs.sessions.what_passes_leaves_all_standing.{all_goes}
+use Rattle.osi_watched.proofs.sessions.what_stands_of_a_connection.{Known}
 use Rattle.osi_watched.proofs.sessions.what_stands_after_a_loss_stands_before_one.{AreTakenOn, KeepsThroughout}
 use Rattle.osi_fair.proofs.a_connection_is_lost_in_class_2_alone.{firm_unless_two}
 
@@ -56,20 +54,14 @@ standing_first known h = grind (arith, fresh_apart, no_item)
 -- ---- before a class is selected nothing has been said
 
 module _ (deeds : ℕ → Deeds) (known : Known) (put : List Value) (b : Bool) where
-  stands_mute : (c : Connection) (j : Joined) → j.called ≡ None → Stands Right deeds known put b c j → (spoken Right j).said ≡ []
-  stands_mute c j uncalled h = grind (arith, not_some)
-
-  rests_mute : (j : Joined) → j.called ≡ None → Rests Right deeds known j → (spoken Right j).said ≡ []
-  rests_mute j uncalled h = grind (arith, not_some)
-
   all_mute : (s : State) (t : Sessions) → AllStand Right deeds known put b s t → s.course.loose ≡ false → AreUncalled t → IsMute Right t
-  all_mute s t a firm uncalled = grind (arith, there_too, stands_mute, rests_mute)
+  all_mute s t a firm uncalled = grind (arith, there_too)
 
 -- ---- a packet of the calling side
 
 fine_of : (at : ℕ) (vs : List Value) (c : Passed) → AreTakenOn Right at vs c → AreFine at vs c
 fine_of at [] c h = tt
-fine_of at (v ∷ vs) c h = search (arith, all_goes, fine_of at vs (unit_passes Left at v c) h.1)
+fine_of at (v ∷ vs) c h = search (arith, fine_of at vs (unit_passes Left at v c) h.1)
 
 module _ (local : Local) (proper : AllProper) where
   -- the end has selected class 0, and its CC has not passed
@@ -157,11 +149,8 @@ module _ (local : Local) (proper : AllProper) where
     abbrev Then : Type 0
     Then = StandsCalled local proper (λ r. then_did (deeds r) (does.of.on.more r)) new ⊎ HasSelected new
 
-    units_can : AllByRecursion CanBeWritten t.units
-    units_can = subst (AllByRecursion CanBeWritten) (sym does.units) does.of.on.can
-
     put_can : AllByRecursion CanBeWritten old.put → AllByRecursion CanBeWritten new.put
-    put_can can = subst (AllByRecursion CanBeWritten) (sym t.put) (all_more old.put t.units can units_can)
+    put_can can = subst (AllByRecursion CanBeWritten) (sym t.put) (all_more old.put t.units can (grind arith))
 
     stands_by : StandsCalled local proper deeds old → AllByRecursion AnswersTwo new.put ⊎ Selecting local g.whole → Then
     stands_by h (inl two) =

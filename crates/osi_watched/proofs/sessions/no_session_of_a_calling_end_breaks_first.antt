@@ -26,7 +26,6 @@ use Rattle.osi_watched.proofs.sessions.steps_of_either_class_leave_all_standing.
 use Rattle.osi_watched.proofs.sessions.the_dr_of_the_other_side_is_in_flight.{first_shut}
 use Rattle.osi_watched.proofs.sessions.what_has_come_before_a_cc.{AreQuiet, begin_quiet, begins_other_quiet, begins_own_quiet}
 use Rattle.osi_watched.proofs.sessions.what_has_come_before_a_cc.{closing_tracked, passes_other_quiet, passes_own_quiet, turns_quiet}
-use Rattle.osi_watched.proofs.sessions.what_passes_leaves_all_standing.{all_goes}
 use Rattle.osi_watched.proofs.sessions.what_stands_after_a_loss_stands_before_one.{AreTakenOn, KeepsThroughout}
 use Rattle.osi_watched.proofs.sessions.what_stands_of_a_connection.{Known}
 
@@ -42,7 +41,7 @@ standing_first known h = grind (arith, fresh_apart, no_item)
 
 fine_of : (at : ℕ) (vs : List Value) (c : Passed) → AreTakenOn Left at vs c → AreFine at vs c
 fine_of at [] c h = tt
-fine_of at (v ∷ vs) c h = grind (arith, all_goes, fine_of at vs (unit_passes Right at v c) h.1)
+fine_of at (v ∷ vs) c h = grind (arith, fine_of at vs (unit_passes Right at v c) h.1)
 
 module _ (local : Local) (two : local.class2 ≡ true) (proper : AllProper) where
   -- all connections stand, and nothing is in flight to one whose CC has not passed

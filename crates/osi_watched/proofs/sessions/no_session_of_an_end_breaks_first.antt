@@ -32,7 +32,6 @@ use Rattle.osi_tap.specs.Courses.{unread_moment, way_of}
 use Rattle.osi_tap.specs.Lines.{heard}
 use Rattle.osi_tap.specs.Tapping as tapping
 use Rattle.osi_tap.specs.Tapping.{after, comes_to}
-use Rattle.osi_tap.proofs.no_break_was_before_the_first.{marked_past}
 use Rattle.osi_watched.specs.Joint.{Joint, Step, Steps, StepsAlong, TakesTurn, begin, begins_other, begins_own, passes_other, passes_own}
 use Rattle.osi_watched.specs.Joint.{turns}
 use Rattle.osi_watched.specs.Passing.{TurnsBad}
@@ -116,14 +115,9 @@ class_claim k = record {
   bad = λ d at cause c h. class_bad k (is_some (marks_of d c).halted) d at cause c h;
 }
 
-long_bad : (n : ℕ) (b : Bool) (d : Direction) (at : ℕ) (cause : Cause) (c : Passed) → n ≤ length c.past →
-    n ≤ length (if b then c else marked (unread_mark d at cause) (traffic.refused_reach (way_of d) c.traffic)
-    (moved (unread_moment d at cause c.sessions) (record c { traffic = traffic.refused (way_of d) c.traffic }))).past
-long_bad n b d at cause c h = grind (arith, marked_past, length-append)
-
 -- no moment is lost
 pub long_claim : (n : ℕ) → IsClaim (λ c. n ≤ length c.past)
-long_claim n = grind (arith, unit_past, length-append, moment, long_bad)
+long_claim n = grind (arith, unit_past, length-append, moment)
 
 -- this class is not selected, and fewer units have passed than a tap counts
 pub record IsWithout (barred : Class) (c : Passed) : Type 0 where
@@ -189,9 +183,6 @@ firm_so c j = record { firm = j.firm; left = j.left; right = j.right }
 pub goes_so : (e : Direction) (c : Passed) → IsJudged c → is_stopped (way_of e) c.traffic.course ≡ false
 goes_so e c j = grind arith
 
-other_goes : (e : Direction) (c : Passed) → IsJudged c → is_stopped (sides.other (way_of e)) c.traffic.course ≡ false
-other_goes e c j = grind arith
-
 -- a unit of the end is no break: it is fair
 pub own_right : (d : Direction) (local : Local) → IsFairFrom (way_of d) (wholes.begin (calls_from d) local) → (at : ℕ) (v : Value)
     (old new : Joint) → Steps d (passes_own at v) old new → IsFollowed d (wholes.begin (calls_from d) local) old →
@@ -199,7 +190,7 @@ pub own_right : (d : Direction) (local : Local) → IsFairFrom (way_of d) (whole
 own_right d local fair at v old new (read, octets, put, begun, is) f j =
     let s = own_first d (wholes.begin (calls_from d) local) old new v (read, octets, put) f in
     let found = fair f.events f.whole v s.rest f.along (f.begun ∙ begun) s.is
-    (ap (λ (t : Traffic). is_stopped (sides.other (way_of d)) t.course) f.tap ∙ other_goes d old.course j)
+    (ap (λ (t : Traffic). is_stopped (sides.other (way_of d)) t.course) f.tap ∙ (grind arith))
     (ap (λ (t : Traffic). t.course.loose) f.tap ∙ j.firm) in
     record {
       firm = j.firm;
@@ -402,10 +393,6 @@ module _ (proper : AllProper) (barred : Class) (d : Direction) (local : Local)
 
   -- ---- each step
 
-  few_so : (deeds : ℕ → Deeds) (old : Joint) → Goes deeds old → IsWithout barred old.course → (i : ℕ) (j : Joined) →
-      slice_get old.course.sessions.live i ≡ Some j → length (heard (spoken (other d) j)) < 2 ^ 64
-  few_so deeds old g within i j here = let most = g.few i j here in let few = within.few in omega (arith, most, few)
-
   -- nothing passes
   still_goes : (deeds then_deeds : ℕ → Deeds) (step : Step) (old new : Joint) → Steps d step old new → Goes deeds old →
       IsJudged new.course → new.course.first ≡ None → Inv then_deeds new → HaveCourses d then_deeds new →
@@ -437,7 +424,7 @@ module _ (proper : AllProper) (barred : Class) (d : Direction) (local : Local)
       still_goes deeds deeds begins_own old new step g
       (subst (λ (j : Joint). IsJudged j.course) (sym step.2) (begins_judged d old.course g.judged))
       (ap (λ (j : Joint). j.course.first) step.2 ∙ g.first)
-      (k.own_begins deeds old new step g.courses (few_so deeds old g within) g.holds)
+      (k.own_begins deeds old new step g.courses (grind arith) g.holds)
       (subst (HaveCourses d deeds) (sym step.2) g.courses) (subst (λ (j : Joint). AreClean d j.course.past) (sym step.2) g.clean)
 
   other_begins_so : (old new : Joint) → Steps d begins_other old new → (deeds : ℕ → Deeds) → Goes deeds old → Stays deeds new

@@ -1,9 +1,8 @@
 -- No session of an end is to blame after breaks of the other side, or a connection has lost its judgement, if something holds at each step
 -- by which nobody of the end is to blame, as long as one class is not selected.
 -- For the law that no session of an end is to blame after a break.
-use Rattle.std.proofs.Common.{◌≡◌, ◌∙◌, ◌⊎◌, inl, inr, refl, sym, ap, subst, ℕ, ◌^◌, ◌<◌, Bool, true, false, Ok}
-use Rattle.std.proofs.Common.{List, [], ◌∷◌, ◌++◌, length, Option, Some, None, append_assoc, arith}
-use Rattle.std.specs.Prelude.{slice_get}
+use Rattle.std.proofs.Common.{◌≡◌, ◌∙◌, ◌⊎◌, inl, inr, refl, sym, ap, subst, ℕ, Bool, true, false, Ok, List, [], ◌∷◌, ◌++◌, Option, Some}
+use Rattle.std.proofs.Common.{None, append_assoc, arith}
 use Rattle.std.specs.List.{AllByRecursion}
 use Rattle.std.proofs.lemmas.List.{append-nil}
 use Rattle.osi_tpdu.specs.Packet.{units_of}
@@ -31,10 +30,8 @@ use Rattle.osi_honest.proofs.courses.an_end_is_sound_between_turns.{fresh_sane}
 use Rattle.osi_honest.proofs.courses.what_a_run_does_to_it.{fresh_course}
 use Rattle.osi_honest.proofs.courses.what_sessions_hear_of_it.{Known}
 use Rattle.osi_tap.specs.declared.marks.Cause.{Cause}
-use Rattle.osi_tap.specs.Connections.{Joined, spoken}
 use Rattle.osi_tap.specs.Courses.{Course as Passed}
 use Rattle.osi_tap.specs.Courses.{unit_passes, units_pass, way_of}
-use Rattle.osi_tap.specs.Lines.{heard}
 use Rattle.osi_tap.specs.Tapping as tapping
 use Rattle.osi_tap.specs.Tapping.{after, comes_to}
 use Rattle.osi_watched.specs.Joint.{Joint, Step, Steps, StepsAlong, TakesTurn, begin, begins_other, begins_own, passes_other, passes_own}
@@ -183,12 +180,9 @@ module _ (known : Known) (barred : Class) (d : Direction) (local : Local)
         is_lost : IsLoose next → One
         is_alone : is_applied found ≡ false → (takes (way_of (other d)) v c.traffic).told.reach ≡ reach.Side → IsAlone d next → One
 
-      nobody : NoneIsToBlame d c.sessions
-      nobody = blameless front (v ∷ back) is so.taken
-
       -- it has no effect
       none_joined : is_applied found ≡ false → NoneIsToBlame d next.sessions
-      none_joined unapplied = subst (NoneIsToBlame d) (sym (joins_none (other d) at v c unapplied)) nobody
+      none_joined unapplied = subst (NoneIsToBlame d) (sym (joins_none (other d) at v c unapplied)) (grind (arith, blameless))
 
       by_mild : IsMild v found → (found ≡ TooMany) ⊎ (found ≡ TooMany → ⊥) → One
       by_mild m (inl many) = grind (arith, all_ends, too_many_ends, none_joined)
@@ -298,10 +292,6 @@ module _ (known : Known) (barred : Class) (d : Direction) (local : Local)
 
   -- ---- each step
 
-  few_so : (deeds : ℕ → Deeds) (old : Joint) → Judging deeds old → IsWithout barred old.course → (i : ℕ) (j : Joined) →
-      slice_get old.course.sessions.live i ≡ Some j → length (heard (spoken (other d) j)) < 2 ^ 64
-  few_so deeds old g within i j here = let most = g.few i j here in let few = within.few in omega (arith, most, few)
-
   turn_so : (turn : Turn) (old new : Joint) (t : TakesTurn turn old new) (deeds : ℕ → Deeds)
       (does : TurnDoes (calls_from d) deeds turn old new t) → Judging deeds old → IsWithout barred old.course →
       Stays (all_did deeds does.of.on.more) new
@@ -313,7 +303,7 @@ module _ (known : Known) (barred : Class) (d : Direction) (local : Local)
   tap_so (turns turn) tap old new t within deeds g = absurd tap
   tap_so begins_own tap old new step within deeds g =
       goes (own_begins_goes proper barred d local Inv k old new step
-      (few_so deeds old g (step_without barred d begins_own old new step within)) deeds g)
+      (grind arith) deeds g)
   tap_so begins_other tap old new step within deeds g = goes (other_begins_goes proper barred d local Inv k old new step deeds g)
   tap_so (passes_own at v) tap old new step within deeds g =
       own_so deeds at v old new step g (step_without barred d (passes_own at v) old new step within).not within.not
@@ -321,9 +311,6 @@ module _ (known : Known) (barred : Class) (d : Direction) (local : Local)
       let not : (units_pass (other d) at units old.course).traffic.course.class ≡ Some barred → ⊥ =
       λ is_so. within.not (ap (λ (j : Joint). j.course.traffic.course.class) step.2 ∙ is_so) in
       other_by deeds at octets units old new step g not (passed deeds at octets units old new step g not)
-
-  apart_so : (j : Joint) → IsWithout barred j.course → GoesWithout false j → barred ≡ Zero → ⊥
-  apart_so j within a same = within.not (a.is.alone.zero ∙ ap (λ (x : Class). Some x) (sym same))
 
   -- what is over or lost stays so
   step_stays : (step : Step) (deeds then_deeds : ℕ → Deeds) (old new : Joint) → Steps d step old new → IsWithout barred new.course →
@@ -333,7 +320,7 @@ module _ (known : Known) (barred : Class) (d : Direction) (local : Local)
   step_stays step deeds then_deeds old new does within on (lost b) = lost (step_kept IsLoose loose_claim d step old new does b)
   step_stays step deeds then_deeds old new does within on (alone a) =
       let was = step_without barred d step old new does within in
-      alone (step_alone known barred d local fair fair_alone Inv k has_begun (apart_so old was a) step old new does was.few a)
+      alone (step_alone known barred d local fair fair_alone Inv k has_begun (grind arith) step old new does was.few a)
 
   tap_stays : (step : Step) → IsOfTap step → (deeds : ℕ → Deeds) (old new : Joint) → Steps d step old new → IsWithout barred new.course →
       Stays deeds old → Stays deeds new

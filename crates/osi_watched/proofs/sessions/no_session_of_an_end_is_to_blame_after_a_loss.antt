@@ -18,8 +18,7 @@ use Rattle.osi_tap.specs.Tapping as tapping
 use Rattle.osi_watched.specs.Joint.{begin}
 use Rattle.osi_watched.specs.Spoilt.{GoesOn, LaterAlong, spoilt}
 use Rattle.osi_watched.proofs.a_break_ends_no_judging_or_all.{IsGoing, all_ends, begins_going, mild_reach, nothing_goes, part_goes}
-use Rattle.osi_watched.proofs.a_break_ends_no_judging_or_all.{reach_so}
-use Rattle.osi_watched.proofs.a_break_ends_no_judging_or_all.{refused_over, side_known, unread_if, unread_sessions}
+use Rattle.osi_watched.proofs.a_break_ends_no_judging_or_all.{reach_so, side_known, unread_sessions}
 use Rattle.osi_watched.proofs.an_end_that_is_judged_alone_stays_so.{later_kept}
 use Rattle.osi_watched.proofs.steps_are_events.{IsFollowed, begin_followed, own_first, step_followed}
 use Rattle.osi_watched.proofs.the_first_break_is_not_of_an_end.{IsFairThroughout, IsNoBreak}
@@ -329,13 +328,9 @@ module _ (proper : AllProper) (d : Direction) (local : Local)
     abbrev bad : Joint
     bad = spoilt d at cause_is packets j
 
-    over_so : IsGoing j.course → traffic.refused_reach (way_of (other d)) j.course.traffic ≡ reach.Everything →
-        IsOver (unread (other d) at cause_is j.course)
-    over_so going is = grind (arith, unread_if, halted_so, refused_over)
-
     over_by : (x : Option Class) → IsGoing j.course → class_for (way_of (other d)) j.course.traffic.course ≡ x →
         (class_for (way_of (other d)) j.course.traffic.course ≡ Some Zero → ⊥) → IsOver (unread (other d) at cause_is j.course)
-    over_by x going is not = search (arith, over_so)
+    over_by x going is not = grind arith
 
     unread_so : Stood j → IsDone d bad.course
     unread_so h = search (arith, done_claim, over_by, knows_zero, unread_sessions)

@@ -19,12 +19,8 @@ use Rattle.osi_watched.proofs.sessions.what_is_judged_within_a_bound.{AreBounded
 
 -- ---- who is to blame, by what both sides said
 
--- a connection on which both sides said the same
-same_said : (d : Direction) (j w : Joined) → IsToBlame d j → IsToBlame d (record w { left = j.left; right = j.right })
-same_said d j w b = grind arith
-
 blame_on : (d : Direction) (j w : Joined) → j.left ≡ w.left → j.right ≡ w.right → IsToBlame d j → IsToBlame d w
-blame_on d j w left right b = grind (arith, same_said)
+blame_on d j w left right b = grind arith
 
 -- of a connection of which all was judged so far, who is to blame for it is to blame for the whole
 either_way : (d : Direction) (j w : Joined) → IsJudgedOf j w → (IsToBlame d w → ⊥) → (is_over j.room ≡ true → IsToBlame d j → ⊥) →
@@ -61,12 +57,9 @@ listed : (d : Direction) (js : List Joined) → ((i : ℕ) (j : Joined) → slic
 listed d [] h = tt
 listed d (j ∷ js) h = (h zero j refl, listed d js (λ i k here. h (suc i) k here))
 
-same_one : (j k : Joined) → Some j ≡ Some k → j ≡ k
-same_one j k e = cc
-
 of_one : (d : Direction) (js : List Joined) → NoneOf d js → (i : ℕ) (j : Joined) → slice_get js i ≡ Some j → IsToBlame d j → ⊥
 of_one d [] h i j here blame = absurd (let no : None ≡ Some j = here in cc)
-of_one d (x ∷ js) h zero j here blame = h.0 (subst (IsToBlame d) (sym (same_one x j here)) blame)
+of_one d (x ∷ js) h zero j here blame = h.0 (subst (IsToBlame d) (sym (grind arith)) blame)
 of_one d (x ∷ js) h (suc i) j here blame = of_one d js h.1 i j here blame
 
 set_none : (d : Direction) (js : List Joined) (i : ℕ) (x : Joined) → NoneOf d js → (IsToBlame d x → ⊥) → NoneOf d (set js i x)
@@ -119,16 +112,12 @@ goes_on : (most : ℕ) (room : Room) → room ≡ Octets most → is_over room �
 goes_on most room is over = absurd (let no : false ≡ true = sym (ap is_over is) ∙ over in cc)
 
 module _ (most : ℕ) (d e : Direction) (at : ℕ) (v : Value) (s t : Sessions) (h : AreBounded most s t) (before : NoneIs d s) where
-  changed_so : (m : Meaning) (i : ℕ) → NoneIs d (changed i (meant e at v m) t (slice_get t.live i)) →
-      NoneIs d (changed i (meant e at v m) s (slice_get s.live i))
-  changed_so m i after = search (arith, changed_none, at_place, meant_so, meant_blame)
-
   at_so : (m : Meaning) (i : ℕ) → NoneIs d (taken_at e at v m i t) → NoneIs d (taken_at e at v m i s)
   at_so meaning.Asks i after = search (arith, placed_none, at_place, asked_so, goes_on)
-  at_so meaning.Opens i after = changed_so meaning.Opens i after
-  at_so meaning.Closes i after = changed_so meaning.Closes i after
-  at_so (meaning.Adds end) i after = changed_so (meaning.Adds end) i after
-  at_so meaning.Nothing i after = changed_so meaning.Nothing i after
+  at_so meaning.Opens i after = search (arith, changed_none, at_place, meant_so, meant_blame)
+  at_so meaning.Closes i after = search (arith, changed_none, at_place, meant_so, meant_blame)
+  at_so (meaning.Adds end) i after = search (arith, changed_none, at_place, meant_so, meant_blame)
+  at_so meaning.Nothing i after = search (arith, changed_none, at_place, meant_so, meant_blame)
 
   taken_so : (m : Meaning) (place : Option ℕ) → NoneIs d (taken e at v m place t) → NoneIs d (taken e at v m place s)
   taken_so m place after = grind (arith, at_so)

@@ -30,20 +30,14 @@ IsBelow b (error n cause) = Unit {0}
 unlike : (n r b : ℕ) (x : Bool) → (n == r) ≡ x → n ≤ b → b < r → x ≡ false
 unlike n r b x e low less = grind (arith, eqb-true)
 
-below_not : (b r : ℕ) (v : Value) → b < r → IsBelow b v → is_for (Some r) v ≡ false
-below_not b r v less h = grind (arith, unlike)
-
 -- so nothing is for the references above
 pub none_waits : (b r : ℕ) (vs : List Value) → b < r → AllByRecursion (IsBelow b) vs → waiting_for (Some r) vs ≡ []
 none_waits b r [] less h = refl
-none_waits b r (v ∷ vs) less h = picked_rest (is_for (Some r)) v vs (below_not b r v less h.0) ∙ none_waits b r vs less h.1
-
-higher : (b n : ℕ) (v : Value) → b ≤ n → IsBelow b v → IsBelow n v
-higher b n v up h = grind arith
+none_waits b r (v ∷ vs) less h = picked_rest (is_for (Some r)) v vs (grind (arith, unlike)) ∙ none_waits b r vs less h.1
 
 pub below_higher : (b n : ℕ) (vs : List Value) → b ≤ n → AllByRecursion (IsBelow b) vs → AllByRecursion (IsBelow n) vs
 below_higher b n [] up h = tt
-below_higher b n (v ∷ vs) up h = (higher b n v up h.0, below_higher b n vs up h.1)
+below_higher b n (v ∷ vs) up h = (grind arith, below_higher b n vs up h.1)
 
 -- ---- a unit of the other side that passes
 

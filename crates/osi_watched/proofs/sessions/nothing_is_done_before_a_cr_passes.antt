@@ -3,7 +3,7 @@
 use Rattle.std.proofs.Common.{◌≡◌, ◌∙◌, refl, sym, ap, subst, ℕ, ◌<◌, ◌≤◌, Bool, true, false, if◌then◌else◌, List, [], ◌∷◌, ◌++◌}
 use Rattle.std.proofs.Common.{Option, Some}
 use Rattle.std.proofs.Common.{None, arith, inl, inr, is_some}
-use Rattle.std.specs.Prelude.{◌&&◌, ◌⊎◌, nat_le}
+use Rattle.std.specs.Prelude.{◌⊎◌}
 use Rattle.std.proofs.lemmas.Bool.{le-leb, lt-ltb}
 use Rattle.std.specs.List.{AllByRecursion}
 use Rattle.osi_tpdu.specs.Packet.{units_of}
@@ -80,18 +80,14 @@ opens_not r peer (error n cause) some later o h = absurd o
 
 module _ (r : ℕ) (deeds more : Deeds) (took put : List Marked) (put_is : more.put ≡ units_at r put)
     (taken : units_taken more.calls ≡ units_at r took) where
-  none_more : (s t : Stage) → AreApart r took → AreApart r put → ((peer : ℕ) → t ≡ amid peer → ⊥) → IsUndone deeds s →
-      IsUndone (then_did deeds more) t
-  none_more s t none none_put shut u = grind (arith, apart_none, taken_more)
-
   pub life_undone : (s t : Stage) → Life true r s took put t → (s ≡ early → AllByRecursion (IsNotCc r) (all_units took)) →
       IsUndone deeds s → IsUndone (then_did deeds more) t
-  life_undone early t (stays a b (inl is)) none u = none_more early t a b (λ peer e. not_amid t peer is e) u
-  life_undone early t (stays a b (inr is)) none u = none_more early t a b (λ peer e. past_not_amid t peer is e) u
+  life_undone early t (stays a b (inl is)) none u = grind (arith, apart_none, taken_more)
+  life_undone early t (stays a b (inr is)) none u = grind (arith, apart_none, taken_more)
   life_undone early t (opens_by peer unit o some later none_some is others answer put_later apart none_answer ans put_so w) none u =
       opens_not r peer unit some later o (subst (λ (l : List Marked). AllByRecursion (IsNotCc r) (all_units l)) is (none refl))
   life_undone (amid peer) t w none u = absurd (u.shut peer refl)
-  life_undone past t w none u = none_more past t w.none_took w.none_put (λ peer e. past_not_amid t peer w.is e) u
+  life_undone past t w none u = grind (arith, apart_none, taken_more)
 
 -- ---- all of them
 
@@ -136,11 +132,8 @@ same_units (p ∷ packets) = ap (λ (l : List Value). pieces.units_by (units_of 
 given_or : (r : ℕ) (end : Carrier) → (has_given r end ≡ false) ⊎ (has_given r end ≡ true)
 given_or r end = grind arith
 
-pub given_so : (r : ℕ) (c : Carrier) → 0 < r → r ≤ c.given → has_given r c ≡ true
-given_so r c some up = ap (λ (b : Bool). b && nat_le r c.given) (lt-ltb 0 r some) ∙ le-leb r c.given up
-
 not_given : {A : Type 0} (r : ℕ) (end : Carrier) → 0 < r → has_given r end ≡ false → r ≤ end.given → A
-not_given r end some free up = absurd (let both : true ≡ false = sym (given_so r end some up) ∙ free in cc)
+not_given r end some free up = absurd (let both : true ≡ false = sym (grind (arith, lt-ltb, le-leb)) ∙ free in cc)
 
 module _ (b : ℕ) (s : State) (t : Sessions) (end : Carrier) (places : HaveSamePlaces s.connections t.live) (up : AreUpTo Left b t)
     (lasts : end.ended ≡ None) (r : ℕ) (less : b < r) (may : stage_at r end ≡ early) where

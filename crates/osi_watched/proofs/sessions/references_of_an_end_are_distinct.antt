@@ -2,10 +2,10 @@
 -- gives a new one.
 -- For all connections of an end and a tap.
 use Rattle.std.proofs.Common.{arith}
-use Rattle.osi_watched.proofs.Vocabulary.{[], ap, Bool, inl, inr, length, List, set, Some, subst, sym, ℕ, ◌++◌, ◌∙◌, ◌∷◌}
-use Rattle.osi_watched.proofs.Vocabulary.{◌≡◌, ◌⊎◌, slice_get, confirm, Connect, data2, request, Value}
-use Rattle.osi_watched.proofs.Vocabulary.{meaning_if, meant, Traffic as State, takes, other, Direction, Left, Right, all_begin, asked}
-use Rattle.osi_watched.proofs.Vocabulary.{Joined, reference_of, Sessions, taken, way_of, All, after_add, after_change, HaveSamePlaces}
+use Rattle.osi_watched.proofs.Vocabulary.{[], ap, Bool, inl, inr, length, List, set, Some, subst, sym, ℕ, ◌++◌, ◌∙◌, ◌∷◌, ◌≡◌, ◌⊎◌}
+use Rattle.osi_watched.proofs.Vocabulary.{slice_get, confirm, data2, request, Value, meaning_if, meant, Traffic as State, takes, other}
+use Rattle.osi_watched.proofs.Vocabulary.{Direction, Left, Right, all_begin, Joined, reference_of, Sessions, taken, way_of, All, after_add}
+use Rattle.osi_watched.proofs.Vocabulary.{after_change, HaveSamePlaces}
 use Rattle.osi_tap.specs.Connections as joined
 use Rattle.osi_fair.proofs.small_facts_that_many_lemmas_use.{number_is}
 use Rattle.osi_watched.proofs.sessions.all_connections_stand.{map_of}
@@ -100,23 +100,15 @@ GivesNew d v t = Unit {0}
 pub named_shut : (d : Direction) (j : Joined) → reference_of d (joined.shut j) ≡ reference_of d j
 named_shut d j = grind arith
 
-meant_fresh : (d e : Direction) (at : ℕ) (v : Value) (b : Bool) (j : Joined) (t : Sessions) → j.room ≡ All → GivesNew d v t →
-    IsFresh d j (joined.meant e at v (meaning_if b (meant v)) j) t
-meant_fresh d e at v b j t room new = grind (arith, number_is, named_shut, named_added)
-
-asked_fresh : (d : Direction) (x : Connect) (number : ℕ) (t : Sessions) → GivesNew d (request x) t → (r : ℕ) →
-    reference_of d (asked number x.source t.room) ≡ Some r → IsUnused d r t
-asked_fresh d x number t new r is = grind (arith, number_is)
-
 distinct_by : (d e : Direction) (at : ℕ) (v : Value) (s : State) (t : Sessions) → AreDistinct d t → GivesNew d v t →
     ((i : ℕ) (j : Joined) → slice_get t.live i ≡ Some j → j.room ≡ All) → Does e at v s t (takes (way_of e) v s) →
     AreDistinct d (taken e at v (takes (way_of e) v s).told.meaning (takes (way_of e) v s).told.place t)
 distinct_by d e at v s t h new rooms (nowhere place cs ts) = subst (AreDistinct d) (sym ts) h
 distinct_by d e at v s t h new rooms (somewhere p c k x r place there here one finding is far cs ts) =
     subst (AreDistinct d) (sym ts)
-    (set_distinct d p k (joined.meant e at v (meaning_if x (meant v)) k) t here h (meant_fresh d e at v x k t (rooms p k here) new))
-distinct_by d e at v s t h new rooms (asks_more x is number cs ts) = grind (arith, more_distinct, asked_fresh)
-distinct_by d e at v s t h new rooms (asks_again x is number p k here free cs ts) = grind (arith, again_distinct, asked_fresh)
+    (set_distinct d p k (joined.meant e at v (meaning_if x (meant v)) k) t here h (grind (arith, number_is, named_shut, named_added)))
+distinct_by d e at v s t h new rooms (asks_more x is number cs ts) = grind (arith, more_distinct)
+distinct_by d e at v s t h new rooms (asks_again x is number p k here free cs ts) = grind (arith, again_distinct)
 
 pub unit_distinct : (d e : Direction) (at : ℕ) (v : Value) (s : State) (t : Sessions) → HaveSamePlaces s.connections t.live →
     AreDistinct d t → GivesNew d v t → ((i : ℕ) (j : Joined) → slice_get t.live i ≡ Some j → j.room ≡ All) →

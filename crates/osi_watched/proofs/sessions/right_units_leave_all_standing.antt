@@ -13,7 +13,6 @@ use Rattle.osi_judge.specs.Captures.{other}
 use Rattle.osi_judge.specs.declared.directions.Direction.{Direction}
 use Rattle.osi_judge.specs.declared.directions.Direction.TheVariants.{Left}
 use Rattle.osi_rules.specs.declared.connections.Connection.{Connection}
-use Rattle.osi_rules.specs.declared.courses.Course.{Course as Rules}
 use Rattle.osi_rules.specs.declared.directions.Direction.{Direction as Way}
 use Rattle.osi_rules.specs.declared.directions.Direction.TheVariants as way
 use Rattle.osi_rules.specs.declared.findings.Finding.{Finding}
@@ -22,14 +21,12 @@ use Rattle.osi_rules.specs.declared.findings.Reach.{Reach}
 use Rattle.osi_rules.specs.declared.findings.Reach.TheVariants as reach
 use Rattle.osi_rules.specs.declared.halves.Half.{Half}
 use Rattle.osi_rules.specs.declared.findings.Rule.TheVariants as rule
-use Rattle.osi_rules.specs.declared.routes.Route.{Route}
 use Rattle.osi_rules.specs.Reaches.{is_applied, reach_of}
 use Rattle.osi_rules.specs.Rows.{Test, first_failed, has_passed, keeps_credit}
 use Rattle.osi_rules.specs.Sides.{is_open, own}
 use Rattle.osi_rules.specs.Sides as sides
-use Rattle.osi_rules.specs.Traffic.{State, at_found, at_place, class_for, connection_after, found, found_on, is_stopped, meaning_if}
-use Rattle.osi_rules.specs.Traffic.{course_after_none, unnamed, unnamed_told}
-use Rattle.osi_rules.specs.Traffic.{in_doubt, meant, none_told, route_in, routed, takes, unnamed_by}
+use Rattle.osi_rules.specs.Traffic.{State, at_place, class_for, connection_after, found_on, is_stopped, meaning_if, course_after_none}
+use Rattle.osi_rules.specs.Traffic.{unnamed, unnamed_told, in_doubt, meant, none_told, route_in, routed, takes, unnamed_by}
 use Rattle.osi_honest.specs.Courses.{Deeds}
 use Rattle.osi_tap.specs.Connections.{Joined, Sessions, reference_of}
 use Rattle.osi_tap.specs.Connections as joined
@@ -67,13 +64,9 @@ module _ (d : Way) (v : Value) (s : State) (two : class_for d (course_after_none
   none_goes : {A : Type 0} → ((unnamed_told d v s).told.reach ≡ reach.Everything → ⊥) → A
   none_goes on = absurd (on (ap (λ (k : Option Class). reach_of k (unnamed d s.course v)) two ∙ ends))
 
-  found_placed : {A : Type 0} (i : ℕ) (o : Option Connection) → ((at_found d v s i o).told.reach ≡ reach.Everything → ⊥) →
-      (at_found d v s i o).told.place ≡ None → A
-  found_placed i h on none = grind (arith, none_goes, no_place)
-
   any_placed : {A : Type 0} (o : Option ℕ) → ((at_place d v s o).told.reach ≡ reach.Everything → ⊥) →
       (at_place d v s o).told.place ≡ None → A
-  any_placed h on none = grind (arith, none_goes, found_placed)
+  any_placed h on none = grind (arith, none_goes)
 
 dt_ends : (loose strays : Bool) (n number : ℕ) (end : Bool) (user : List ℕ) →
     reach_of (Some Two) (if loose then in_doubt (unnamed_by strays (data2 n number end user)) else unnamed_by strays
@@ -90,44 +83,21 @@ early_ends : {A : Type 0} (d : Way) (s : State) → class_for d s.course ≡ Non
     ((none_told d (Broke rule.UnexpectedUnit) s).told.reach ≡ reach.Everything → ⊥) → A
 early_ends d s is on = absurd (on (ap (λ (k : Option Class). reach_of k (Broke rule.UnexpectedUnit)) is))
 
-dt_routed : {A : Type 0} (k : Option Class) (d : Way) (b : Bool) (n number : ℕ) (end : Bool) (user : List ℕ) (s : State) →
-    class_for d s.course ≡ k → (k ≡ Some Zero → ⊥) →
-    ((routed d (data2 n number end user) s (route_in k d b (data2 n number end user))).told.reach ≡ reach.Everything → ⊥) →
-    (routed d (data2 n number end user) s (route_in k d b (data2 n number end user))).told.place ≡ None → A
-dt_routed h d b n number end user s is two on none = grind (arith, early_ends, any_placed, dt_ends)
-
-ak_routed : {A : Type 0} (k : Option Class) (d : Way) (b : Bool) (credit n number : ℕ) (s : State) →
-    class_for d s.course ≡ k → (k ≡ Some Zero → ⊥) →
-    ((routed d (acknowledge credit n number) s (route_in k d b (acknowledge credit n number))).told.reach ≡ reach.Everything → ⊥) →
-    (routed d (acknowledge credit n number) s (route_in k d b (acknowledge credit n number))).told.place ≡ None → A
-ak_routed h d b credit n number s is two on none = grind (arith, early_ends, any_placed, ak_ends)
-
-goes_placed : {A : Type 0} (b : Bool) (d : Way) (v : Value) (s : State) (r : Route) → b ≡ false →
-    (((routed d v s r).told.reach ≡ reach.Everything → ⊥) → (routed d v s r).told.place ≡ None → A) →
-    ((if b then none_told d NotJudged s else routed d v s r).told.reach ≡ reach.Everything → ⊥) →
-    (if b then none_told d NotJudged s else routed d v s r).told.place ≡ None → A
-goes_placed h d v s r h2 f on none = grind arith
-
 -- so it has a place, unless all judging ends with it
 pub link_placed : {A : Type 0} (d : Way) (v : Value) (n : ℕ) (s : State) → IsLink v n → is_stopped d s.course ≡ false →
     (class_for d s.course ≡ Some Zero → ⊥) → ((takes d v s).told.reach ≡ reach.Everything → ⊥) → (takes d v s).told.place ≡ None → A
-link_placed d v n s h goes two on none = search (arith, goes_placed, dt_routed, ak_routed)
-
--- a CC of left
-cc_ends : (loose strays : Bool) (n : ℕ) (x : Connect) →
-    reach_of (Some Two) (if loose then in_doubt (unnamed_by strays (confirm n x)) else unnamed_by strays (confirm n x)) ≡ reach.Everything
-cc_ends loose strays n x = grind arith
+link_placed d v n s h goes two on none = search arith
 
 cc_routed : {A : Type 0} (k : Option Class) (b : Bool) (n : ℕ) (x : Connect) (s : State) →
     class_for way.Left s.course ≡ k → (k ≡ Some Zero → ⊥) →
     ((routed way.Left (confirm n x) s (route_in k way.Left b (confirm n x))).told.reach ≡ reach.Everything → ⊥) →
     (routed way.Left (confirm n x) s (route_in k way.Left b (confirm n x))).told.place ≡ None → A
-cc_routed h b n x s is two on none = grind (arith, early_ends, any_placed, cc_ends)
+cc_routed h b n x s is two on none = grind (arith, early_ends, any_placed)
 
 pub cc_placed : {A : Type 0} (n : ℕ) (x : Connect) (s : State) → is_stopped way.Left s.course ≡ false →
     (class_for way.Left s.course ≡ Some Zero → ⊥) → ((takes way.Left (confirm n x) s).told.reach ≡ reach.Everything → ⊥) →
     (takes way.Left (confirm n x) s).told.place ≡ None → A
-cc_placed n x s goes two on none = grind (arith, goes_placed, cc_routed)
+cc_placed n x s goes two on none = grind (arith, cc_routed)
 
 -- ---- its sender has not closed the connection, if it is right
 
@@ -139,16 +109,12 @@ abbrev tests_of_acks : Way → Connection → (number credit : ℕ) → List Tes
 tests_of_acks d c number credit =
     (has_passed d c number, Broke rule.OutOfSequence) ∷ (keeps_credit d c number credit, Broke rule.CreditReduced) ∷ []
 
-ack_open : (d : Way) (credit n number : ℕ) (course : Rules) (in_use : Bool) (c : Connection) →
-    is_applied (found d course in_use c (acknowledge credit n number)) ≡ true → is_open (own d c).phase ≡ true
-ack_open d credit n number course in_use c h = grind (arith, second_test)
-
 judged_applied : (b : Bool) (f : Finding) → is_applied (if b then f else NotJudged) ≡ true → is_applied f ≡ true
 judged_applied b f h = grind arith
 
 link_open : (d : Way) (v : Value) (n : ℕ) (s : State) (c : Connection) → IsLink v n → is_applied (found_on d s c v) ≡ true →
     is_open (own d c).phase ≡ true
-link_open d v n s c h h2 = grind (arith, two_open, judged_applied, ack_open)
+link_open d v n s c h h2 = grind (arith, two_open, judged_applied)
 
 names_so : (o : Option ℕ) (n : ℕ) → names_it o n ≡ true → o ≡ Some n
 names_so o n h = grind (arith, eqb-true)
@@ -273,9 +239,6 @@ own_close d deeds known at v rest s t a plain not_for no_cr = grind (arith, own_
 
 -- ---- units of the other side
 
-pub other_twice : (d : Direction) (j : Joined) → reference_of (other (other d)) j ≡ reference_of d j
-other_twice d j = grind arith
-
 pub rests_on : (d : Direction) (deeds : ℕ → Deeds) (known then_known : Known) (j : Joined) →
     ((r : ℕ) (later : List Part) → reference_of d j ≡ Some r → known r later → then_known r later) → Rests d deeds known j →
     Rests d deeds then_known j
@@ -333,7 +296,7 @@ other_dt d deeds known then_known at n number end user put b s t a goes two on g
         (there_too p c j place there at_j judged finding (ap is_applied finding ∙ is) goes_on) h
     by true p c j r is place there at_j one finding goes_on judged h =
         other_part d deeds known then_known at n number end user put b r c j
-        (sym (other_twice d j) ∙ named_there (other d) n c j one judged
+        (sym (grind arith) ∙ named_there (other d) n c j one judged
         (names_there (way_of (other d)) (data2 n number end user) s n p c there refl place)) grows h
 
 -- what is neither a DT, nor a CC that has its effect, nor a CR

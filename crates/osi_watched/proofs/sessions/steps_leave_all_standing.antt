@@ -1,7 +1,6 @@
 -- Steps of an end of class 2 and of a tap leave all its connections standing, as long as nobody breaks a rule.
 -- For the session of each connection of an end.
-use Rattle.std.proofs.Common.{arith}
-use Rattle.std.proofs.Common.{◌≡◌, ◌≢◌, sym, subst, ℕ, ◌^◌, ◌<◌, Bool, true, false, List, [], ◌∷◌, ◌++◌, length, Some}
+use Rattle.std.proofs.Common.{arith, ◌≡◌, ◌≢◌, sym, subst, ℕ, ◌^◌, ◌<◌, Bool, true, false, List, [], ◌++◌, length, Some}
 use Rattle.std.specs.Prelude.{slice_get}
 use Rattle.osi_tpdu.specs.Value.{Value}
 use Rattle.osi_class.specs.declared.terms.Class.TheVariants.{Zero}
@@ -49,18 +48,13 @@ module _ (d : Direction) (deeds : ℕ → Deeds) (known : Known) where
   step_begins_other old new step h =
       grind (arith, all_begin_other d deeds known old.put old.begun old.course.traffic old.course.sessions h.all)
 
-  -- one that is to pass
-  next_stands : (at : ℕ) (unit : Value) (old new : Joint) → Steps d (passes_own at unit) old new → Standing d deeds known old →
-      AllStand d deeds known (unit ∷ new.put) true old.course.traffic old.course.sessions
-  next_stands at unit old new step h = grind arith
-
   pub step_passes_own : (at : ℕ) (unit : Value) (old new : Joint) → Steps d (passes_own at unit) old new → IsProper d unit old.course →
       AreUsedApart d old.course.traffic.connections → IsReady d deeds known unit new.put old.course.traffic old.course.sessions →
       Standing d deeds known old → Standing d deeds known new
   step_passes_own at unit old new step proper apart ready h =
       subst (Standing d deeds known) (sym step.4) (record {
         all = own_stands d deeds known at unit new.put old.course apart proper.goes proper.two proper.none proper.links ready
-            (next_stands at unit old new step h);
+            (grind arith);
       })
 
   -- what a turn of the end does

@@ -5,9 +5,9 @@ use Rattle.osi_watched.proofs.Vocabulary.{[], ap, arith, Bool, false, if◌then�
 use Rattle.osi_watched.proofs.Vocabulary.{true, ℕ, ◌++◌, ◌∙◌, ◌∷◌, ◌≡◌, ◌⊎◌, eq-eqb, append-nil, slice_get, acknowledge, confirm, Connect}
 use Rattle.osi_watched.proofs.Vocabulary.{data0, data2, disconnect, disconnected, error, request, Value, is_applied, begins, is_closing}
 use Rattle.osi_watched.proofs.Vocabulary.{is_silent, own, asked_by, connection_after, found_on, half_after, meaning_if, meant}
-use Rattle.osi_watched.proofs.Vocabulary.{Traffic as State, takes, Connection, Finding, Broke, NotJudged, Reach, Half, Phase, other}
-use Rattle.osi_watched.proofs.Vocabulary.{Direction, Right, all_begin, asked, Joined, reference_of, Sessions, taken, way_of, All, after_add}
-use Rattle.osi_watched.proofs.Vocabulary.{after_change, after_map, slice_get_within, HaveSamePlaces, IsOneOf, named_by}
+use Rattle.osi_watched.proofs.Vocabulary.{Traffic as State, takes, Connection, Reach, Half, Phase, other, Direction, Right, all_begin}
+use Rattle.osi_watched.proofs.Vocabulary.{asked, Joined, reference_of, Sessions, taken, way_of, All, after_add, after_change, after_map}
+use Rattle.osi_watched.proofs.Vocabulary.{slice_get_within, HaveSamePlaces, IsOneOf, named_by}
 use Rattle.osi_rules.specs.Traffic as traffic
 use Rattle.osi_rules.specs.declared.directions.Direction.TheVariants as way
 use Rattle.osi_rules.specs.declared.findings.Rule.TheVariants as rule
@@ -17,7 +17,6 @@ use Rattle.osi_watched.proofs.sessions.a_unit_is_joined_where_it_is_named.{named
 use Rattle.osi_watched.proofs.sessions.all_connections_stand.{begun_judged, map_of, other_after, own_after}
 use Rattle.osi_watched.proofs.sessions.connections_have_the_same_places.{at_same}
 use Rattle.osi_watched.proofs.sessions.references_of_an_end_are_distinct.{named_shut}
-use Rattle.osi_watched.proofs.sessions.right_units_leave_all_standing.{other_twice}
 use Rattle.osi_watched.proofs.sessions.what_a_tap_shows_goes_on.{named_added}
 use Rattle.osi_watched.proofs.sessions.what_a_unit_does_at_its_place.{Does, asks_again, asks_more, nowhere, somewhere, unit_does}
 use Rattle.osi_watched.proofs.sessions.what_holds_of_a_lost_connection.{was_judged}
@@ -76,14 +75,9 @@ none_after : (d : Direction) (v : Value) (r : Reach) (c : Connection) →
     own (way_of (other d)) (connection_after (way_of (other d)) v false r c) ≡ own (way_of (other d)) c
 none_after d v r c = grind (arith, other_after)
 
--- a CC is right only if none has passed
-silent_by : (b silent : Bool) (f : Finding) → is_applied (if b then (if silent then f else Broke rule.WrongForm) else NotJudged) ≡ true →
-    silent ≡ true
-silent_by b silent f h = grind arith
-
 cc_silent : (s : State) (n : ℕ) (x : Connect) (c : Connection) → is_applied (found_on way.Right s c (confirm n x)) ≡ true →
     is_silent c.right.phase ≡ true
-cc_silent s n x c h = silent_by c.is_judged (is_silent c.right.phase) _ h
+cc_silent s n x c h = grind arith
 
 unnamed_so : (p : Phase) (r : ℕ) → is_silent p ≡ true → named_by p r ≡ None
 unnamed_so p r h = grind arith
@@ -126,18 +120,15 @@ module _ (d e : Direction) (at : ℕ) (v : Value) (is_live : ℕ → Bool) (comi
   place_by p first k x r told at_first at_joined one is i c j closing (inr (m, so)) (inl (n, same)) = absurd (m n)
   place_by p first k x r told at_first at_joined one is i c j closing (inr (m, so)) (inr (n, same)) = still i c j so same closing
 
-  not_asked : {A : Type 0} (x : Connect) (c : Connection) → c ≡ asked_by x → IsClosing c → A
-  not_asked x c is closing = grind (arith, differ, asked_open)
-
   add_by : (x : Connect) (number : ℕ) (i : ℕ) (c : Connection) (j : Joined) → IsClosing c →
       ((i ≡ length s.connections) × (c ≡ asked_by x)) ⊎ (slice_get s.connections i ≡ Some c) →
       ((i ≡ length t.live) × (j ≡ asked number x.source t.room)) ⊎ (slice_get t.live i ≡ Some j) → Goes j
-  add_by x number i c j closing h same = grind (arith, not_asked, at_same, slice_get_within, still)
+  add_by x number i c j closing h same = grind (arith, at_same, slice_get_within, still)
 
   again_by : (x : Connect) (number p : ℕ) (i : ℕ) (c : Connection) (j : Joined) → IsClosing c →
       ((i ≡ p) × (c ≡ asked_by x)) ⊎ ((i ≡ p → ⊥) × (slice_get s.connections i ≡ Some c)) →
       ((i ≡ p) × (j ≡ asked number x.source t.room)) ⊎ ((i ≡ p → ⊥) × (slice_get t.live i ≡ Some j)) → Goes j
-  again_by x number p i c j closing h same = grind (arith, not_asked, still)
+  again_by x number p i c j closing h same = grind (arith, still)
 
   each_by : Does e at v s t (takes (way_of e) v s) → (i : ℕ) (c : Connection) (j : Joined) →
       slice_get (takes (way_of e) v s).state.connections i ≡ Some c → slice_get after.live i ≡ Some j → IsClosing c → Goes j
@@ -167,11 +158,6 @@ HaveRoom t = (i : ℕ) (j : Joined) → slice_get t.live i ≡ Some j → j.room
 
 module _ (d : Direction) (at : ℕ) (v : Value) (is_live : ℕ → Bool) (coming : List Value) (s : State) (t : Sessions)
     (places : HaveSamePlaces s.connections t.live) (rooms : HaveRoom t) (h : AreShut d is_live coming s t) where
-  -- a CC gives a reference to a connection that has none
-  no_cc : (first : Connection) (k : Joined) → IsOneOf first k → is_applied (found_on (way_of d) s first v) ≡ true → (r : ℕ) →
-      reference_of d k ≡ Some r → (n : ℕ) (x : Connect) → v ≡ confirm n x → d ≡ Right → ⊥
-  no_cc first k one applied r named n x is right = grind (arith, none_some, unnamed_so, cc_silent)
-
   own_here : (p : ℕ) (first : Connection) (k : Joined) (x : Bool) (r : Reach) → (takes (way_of d) v s).told.place ≡ Some p →
       slice_get s.connections p ≡ Some first → slice_get t.live p ≡ Some k → IsOneOf first k →
       is_applied (found_on (way_of d) s first v) ≡ x → first.is_judged ≡ true →
@@ -184,7 +170,7 @@ module _ (d : Direction) (at : ℕ) (v : Value) (is_live : ℕ → Bool) (coming
       let old = h.each p first k at_first at_joined judged
       (ap (λ (y : Half). is_closing y.phase) (sym (theirs_after d v true r first)) ∙ closing) in
       grown d is_live coming [] k (joined.meant d at v (meaning_if true (meant v)) k)
-      (named_still d d at v k (rooms p k at_joined) (no_cc first k one applied old.r old.named)) old
+      (named_still d d at v k (rooms p k at_joined) (grind (arith, none_some, unnamed_so, cc_silent))) old
 
   pub own_shut : AreShut d is_live coming (takes (way_of d) v s).state
       (taken d at v (takes (way_of d) v s).told.meaning (takes (way_of d) v s).told.place t)
@@ -199,34 +185,26 @@ module _ (d : Direction) (at : ℕ) (is_live : ℕ → Bool) (coming : List Valu
       is_closing (half_after v (own (way_of (other d)) first)).phase ≡ true →
       IsShutAt d is_live (coming ++ v ∷ []) (joined.meant (other d) at v (meaning_if true (meant v)) k)
 
-  -- it closes nothing
-  same_here : (v : Value) (p : ℕ) (first : Connection) (k : Joined) (r : Reach) →
-      ((n : ℕ) (x : Connect) → v ≡ confirm n x → d ≡ Right → ⊥) →
-      (is_closing (half_after v (own (way_of (other d)) first)).phase ≡ true → is_closing (own (way_of (other d)) first).phase ≡ true) →
-      Here v p first k r
-  same_here v p first k r not was at_first at_joined judged closing =
-      grind (arith, grown, named_still d (other d) at v k (rooms p k at_joined) not)
-
   here_by : (v : Value) (p : ℕ) (first : Connection) (k : Joined) (r : Reach) → (takes (way_of (other d)) v s).told.place ≡ Some p →
       IsOneOf first k → Here v p first k r
   here_by (request x) p first k r told one at_first at_joined judged closing =
-      same_here (request x) p first k r (λ m y e. absurd (cc e)) (λ was. was) at_first at_joined judged closing
+      grind (arith, grown, named_still d (other d) at (request x) k (rooms p k at_joined) (λ m y e. absurd (cc e)))
   here_by (confirm n x) p first k r told one at_first at_joined judged closing = absurd (cc)
   here_by (disconnect n source reason user) p first k r told one at_first at_joined judged closing =
       let v : Value = disconnect n source reason user in
       record {
         r = n;
-        named = named_shut d k ∙ sym (other_twice d k) ∙ named_there (other d) n first k one judged
+        named = named_shut d k ∙ sym (grind arith) ∙ named_there (other d) n first k one judged
             (names_there (way_of (other d)) v s n p first at_first refl told);
         dr = λ live. dr_last n v coming (eq-eqb n n refl);
       }
   here_by (disconnected n source) p first k r told one at_first at_joined judged closing = absurd (cc)
   here_by (data0 end user) p first k r told one at_first at_joined judged closing =
-      same_here (data0 end user) p first k r (λ m y e. absurd (cc e)) (λ was. was) at_first at_joined judged closing
+      grind (arith, grown, named_still d (other d) at (data0 end user) k (rooms p k at_joined) (λ m y e. absurd (cc e)))
   here_by (data2 n number end user) p first k r told one at_first at_joined judged closing =
-      same_here (data2 n number end user) p first k r (λ m y e. absurd (cc e)) (λ was. was) at_first at_joined judged closing
+      grind (arith, grown, named_still d (other d) at (data2 n number end user) k (rooms p k at_joined) (λ m y e. absurd (cc e)))
   here_by (acknowledge credit n number) p first k r told one at_first at_joined judged closing =
-      same_here (acknowledge credit n number) p first k r (λ m y e. absurd (cc e)) (λ was. was) at_first at_joined judged closing
+      grind (arith, grown, named_still d (other d) at (acknowledge credit n number) k (rooms p k at_joined) (λ m y e. absurd (cc e)))
   here_by (error n cause) p first k r told one at_first at_joined judged closing = absurd (cc)
 
   other_here : (v : Value) (p : ℕ) (first : Connection) (k : Joined) (x : Bool) (r : Reach) →

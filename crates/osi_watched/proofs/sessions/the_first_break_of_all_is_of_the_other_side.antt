@@ -2,18 +2,18 @@
 -- and of sessions, is of the other side.
 -- For the law that no session of an end is blamed first.
 use Rattle.std.proofs.Common.{arith}
-use Rattle.osi_watched.proofs.Vocabulary.{[], Bool, false, if◌then◌else◌, inl, inr, is_some, List, None, Option, refl, Some, subst, sym}
-use Rattle.osi_watched.proofs.Vocabulary.{true, ℕ, ◌++◌, ◌∷◌, ◌≡◌, ◌⊎◌, AllByRecursion, Value, stops_last, Outcome, takes, Finding}
-use Rattle.osi_watched.proofs.Vocabulary.{Told, other, Direction, Left, Right, marked_past, noted_past}
-use Rattle.osi_watched.proofs.Vocabulary.{AreSpotless, BreaksFirst, IsBreakOf, IsFirstOf, IsQuiet, IsToBlame, of_session, of_transport}
-use Rattle.osi_watched.proofs.Vocabulary.{Sessions, taken, cause_of, is_break, kind_of, mark_by, marked, marks_of, Moment, moment_of, moved}
-use Rattle.osi_watched.proofs.Vocabulary.{number_at, unit_passes, unread, unread_mark, unread_moment, way_of, Cause, First, Mark}
+use Rattle.osi_watched.proofs.Vocabulary.{[], Bool, if◌then◌else◌, inl, inr, List, None, Option, refl, Some, subst, sym, true, ℕ, ◌++◌, ◌∷◌}
+use Rattle.osi_watched.proofs.Vocabulary.{◌≡◌, ◌⊎◌, AllByRecursion, Value, stops_last, Outcome, takes, Finding, Told, other, Direction}
+use Rattle.osi_watched.proofs.Vocabulary.{Left, Right, marked_past, noted_past, AreSpotless, BreaksFirst, IsBreakOf, IsFirstOf, IsQuiet}
+use Rattle.osi_watched.proofs.Vocabulary.{IsToBlame, of_session, of_transport, Sessions, taken, cause_of, is_break, kind_of, mark_by}
+use Rattle.osi_watched.proofs.Vocabulary.{marked, Moment, moment_of, moved, number_at, unit_passes, unread, unread_mark, unread_moment}
+use Rattle.osi_watched.proofs.Vocabulary.{way_of, Cause, First, Mark}
 use Rattle.osi_rules.specs.Traffic as traffic
 use Rattle.osi_tap.specs.declared.marks.Cause.TheVariants as cause
 use Rattle.osi_tap.specs.Courses.{Course}
 use Rattle.osi_fair.proofs.small_facts_that_many_lemmas_use.{differ}
 use Rattle.osi_watched.proofs.the_first_break_is_not_of_an_end.{IsNoBreak}
-use Rattle.osi_watched.proofs.what_a_unit_leaves_at_a_tap.{IsJudged, IsOver, unread_over}
+use Rattle.osi_watched.proofs.what_a_unit_leaves_at_a_tap.{IsJudged, unread_over}
 use Rattle.osi_watched.proofs.what_passes_keeps_a_claim.{IsClaim}
 use Rattle.osi_watched.proofs.sessions.after_too_many_nobody_is_to_blame.{IsSilenced, NoneIsToBlame, begins_silenced, unit_silenced}
 use Rattle.osi_watched.proofs.sessions.connections_have_the_same_places.{unit_joins}
@@ -59,11 +59,8 @@ broken_more d (x ∷ past) more (inr (c, h)) = inr (c, broken_more d past more h
 other_of : (d e : Direction) → (e ≡ d → ⊥) → e ≡ other d
 other_of d e h = grind arith
 
-same_mark : (a b : Mark) → Some a ≡ Some b → a ≡ b
-same_mark a b e = cc
-
 quiet_not : {A : Type 0} (o : Option Mark) (k : Mark) → IsQuiet o → o ≡ Some k → is_break k.cause ≡ true → A
-quiet_not h k quiet is bad = grind (arith, differ, same_mark)
+quiet_not h k quiet is bad = grind (arith, differ)
 
 of_clean : (d : Direction) (f : First) (m : Moment) → IsClean d m → IsBreakOf f m → f.direction ≡ other d
 of_clean d f m c (of_transport k is bad told) = quiet_not m.mark k c.transport is bad
@@ -72,7 +69,7 @@ of_clean d f m c (of_session place quiet layer side blame) =
     (subst (λ (e : Direction). IsToBlame e blame.connection) same blame.broke))
 
 of_break : (e : Direction) (f : First) (m : Moment) → BreaksTransport e m → IsBreakOf f m → f.direction ≡ e
-of_break e f m b h = grind (arith, same_mark, quiet_not)
+of_break e f m b h = grind (arith, quiet_not)
 
 no_list : {A : Type 0} (front back : List Moment) (m : Moment) → [] ≡ front ++ m ∷ back → A
 no_list [] back m e = absurd (cc)
@@ -99,11 +96,6 @@ module _ (d : Direction) (f : First) (m : Moment) (back : List Moment) (breaks :
   among_broken (x ∷ past) (y ∷ front) (inr (c, h)) is before =
       among_broken past front h (tail_same x y past (front ++ m ∷ back) is) before.1
 
-pub first_of_other : (d : Direction) (f : First) (past : List Moment) → AreClean d past ⊎ HasBroken d past → BreaksFirst f past →
-    f.direction ≡ other d
-first_of_other d f past (inl clean) b = among_clean d f b.moment b.back b.breaks past b.front clean b.parts
-first_of_other d f past (inr broken) b = among_broken d f b.moment b.back b.breaks past b.front broken b.parts b.before
-
 -- ---- in the end
 
 -- All moments are clean, and no session of this side is to blame for what has passed.
@@ -116,8 +108,8 @@ abbrev pub Ends : Direction → Course → Type 0
 Ends d c = IsBlameless d c ⊎ HasBroken d c.past
 
 pub first_of_ends : (d : Direction) (f : First) (c : Course) → Ends d c → BreaksFirst f c.past → f.direction ≡ other d
-first_of_ends d f c (inl h) b = first_of_other d f c.past (inl h.clean) b
-first_of_ends d f c (inr h) b = first_of_other d f c.past (inr h) b
+first_of_ends d f c (inl h) b = search (arith, among_clean, among_broken)
+first_of_ends d f c (inr h) b = search (arith, among_clean, among_broken)
 
 -- no moment has a break of transport
 abbrev pub AreQuiet : List Moment → Type 0
@@ -172,12 +164,8 @@ module _ (d : Direction) (at : ℕ) (v : Value) (c : Course) where
     cause = k;
   }
 
-  marked_so : (f : Finding) (k : Cause) → told.finding ≡ f → cause_of f ≡ Some k → is_break k ≡ true →
-      BreaksTransport (other d) (moment (other d) at v c)
-  marked_so f k is named bad = grind arith
-
   breaks_by : (f : Finding) → told.finding ≡ f → (IsNoBreak f → ⊥) → BreaksTransport (other d) (moment (other d) at v c)
-  breaks_by f is broke = search (arith, marked_so)
+  breaks_by f is broke = search arith
 
   -- it is a break of the other side
   pub unit_breaks : (IsNoBreak told.finding → ⊥) → AreClean d c.past → HasBroken d (unit_passes (other d) at v c).past
@@ -191,30 +179,19 @@ abbrev unread_if : Bool → Direction → (at : ℕ) → Cause → Course → Co
 unread_if b e at k c = if b then c else marked (unread_mark e at k) (traffic.refused_reach (way_of e) c.traffic)
     (moved (unread_moment e at k c.sessions) (record c { traffic = traffic.refused (way_of e) c.traffic }))
 
--- as long as the other side is judged, it breaks a rule
-goes_so : (e : Direction) (c : Course) → IsJudged c → is_some (marks_of e c).halted ≡ false
-goes_so e c j = grind arith
-
 pub unread_breaks_so : (d : Direction) (at : ℕ) (k : Cause) (c : Course) → is_break k ≡ true → IsJudged c → AreClean d c.past →
     HasBroken d (unread (other d) at k c).past
-unread_breaks_so d at k c bad j h = grind (arith, goes_so, marked_past, broken_then)
+unread_breaks_so d at k c bad j h = grind (arith, marked_past, broken_then)
 
 -- ---- what stays so, whatever passes
 
-unread_broken : (b : Bool) (d e : Direction) (at : ℕ) (k : Cause) (c : Course) → HasBroken d c.past →
-    HasBroken d (unread_if b e at k c).past
-unread_broken b d e at k c h = grind (arith, marked_past, broken_more)
-
 pub broken_claim : (d : Direction) → IsClaim (λ c. HasBroken d c.past)
-broken_claim d = grind (arith, unit_past, broken_more, unread_broken)
+broken_claim d = grind (arith, unit_past, broken_more)
 
 -- nothing more is judged, nobody of this side is to blame, and nobody ever was
 pub record IsSilent (d : Direction) (c : Course) : Type 0 where
   pub silenced : IsSilenced d c
   pub clean : AreClean d c.past
-
-stopped_so : (e : Direction) (c : Course) → IsOver c → traffic.is_stopped (way_of e) c.traffic.course ≡ true
-stopped_so e c over = grind arith
 
 pub silent_claim : (d : Direction) → IsClaim (IsSilent d)
 silent_claim d = record {
@@ -222,7 +199,7 @@ silent_claim d = record {
   passes = λ e at v c h. record {
     silenced = unit_silenced d e at v c h.silenced;
     clean = unit_clean e at v c d
-        (subst (λ (x : Outcome). IsNoBreak x.told.finding) (sym (stops_last (way_of e) v c.traffic (stopped_so e c h.silenced.over))) tt)
+        (subst (λ (x : Outcome). IsNoBreak x.told.finding) (sym (stops_last (way_of e) v c.traffic (grind arith))) tt)
         (unit_silenced d e at v c h.silenced).none h.clean;
   };
   bad = λ e at k c h. subst (IsSilent d) (sym (unread_over e at k c h.silenced.over)) h;

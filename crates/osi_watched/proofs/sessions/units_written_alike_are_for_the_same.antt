@@ -1,8 +1,8 @@
 -- Units that are written alike, and can be written, are for the same connections. So of what a joint has put no unit waits for a connection
 -- if none does of what its whole end has put.
 -- For all connections of an end and a tap.
-use Rattle.osi_watched.proofs.Vocabulary.{[], ap, arith, Bool, false, is_some, List, map, Option, refl, sym, true, ℕ, ◌%◌, ◌*◌, ◌+◌, ◌/◌}
-use Rattle.osi_watched.proofs.Vocabulary.{◌==◌, ◌∙◌, ◌∷◌, ◌≡◌, AllByRecursion, Value, written, CanBeWritten, picked_first, picked_rest}
+use Rattle.osi_watched.proofs.Vocabulary.{[], ap, arith, Bool, false, is_some, List, map, Option, refl, sym, true, ℕ, ◌*◌, ◌+◌, ◌/◌, ◌==◌}
+use Rattle.osi_watched.proofs.Vocabulary.{◌∙◌, ◌∷◌, ◌≡◌, AllByRecursion, Value, written, CanBeWritten, picked_first, picked_rest}
 use Rattle.osi_watched.proofs.sessions.what_stands_of_a_connection.{is_for, names_it, waiting_for}
 
 -- ---- for which connection octets are
@@ -27,15 +27,8 @@ for_octets o [] = false
 for_octets o (size ∷ []) = false
 for_octets o (size ∷ code ∷ rest) = of_kind o size (code / 16) rest
 
-number_so : (o : Option ℕ) (n : ℕ) → names_it o n ≡ names_it o (n / 256 * 256 + n % 256)
-number_so o n = ap (names_it o) (omega arith)
-
-kind_of : (o : Option ℕ) (octets : List ℕ) (size code n : ℕ) (rest : List ℕ) → octets ≡ size ∷ code ∷ rest → code / 16 ≡ n →
-    of_kind o size n rest ≡ for_octets o octets
-kind_of o octets size code n rest e k = ap (λ (m : ℕ). of_kind o size m rest) (sym k) ∙ ap (for_octets o) (sym e)
-
 pub for_written : (o : Option ℕ) (v : Value) → CanBeWritten v → is_for o v ≡ for_octets o (written v)
-for_written o v can = search (arith, kind_of, number_so)
+for_written o v can = grind arith
 
 -- ---- lists of units
 

@@ -2,9 +2,9 @@
 -- So what is known of the CCs that a whole end has put holds of those of its joint.
 -- For all connections of a called end and a tap.
 use Rattle.osi_watched.proofs.Vocabulary.{[], ap, arith, if◌then◌else◌, inl, inr, List, map, None, Option, refl, Some, subst, sym, true, ℕ}
-use Rattle.osi_watched.proofs.Vocabulary.{◌%◌, ◌*◌, ◌++◌, ◌+◌, ◌/◌, ◌<◌, ◌==◌, ◌∙◌, ◌∷◌, ◌≡◌, ◌⊎◌, AllByRecursion, acknowledge, confirm}
-use Rattle.osi_watched.proofs.Vocabulary.{Connect, data0, data2, disconnect, disconnected, error, request, Value, written, CanBeWritten}
-use Rattle.osi_watched.proofs.Vocabulary.{AreAbove, picked_rest}
+use Rattle.osi_watched.proofs.Vocabulary.{◌*◌, ◌++◌, ◌+◌, ◌/◌, ◌<◌, ◌==◌, ◌∙◌, ◌∷◌, ◌≡◌, ◌⊎◌, AllByRecursion, acknowledge, confirm, Connect}
+use Rattle.osi_watched.proofs.Vocabulary.{data0, data2, disconnect, disconnected, error, request, Value, written, CanBeWritten, AreAbove}
+use Rattle.osi_watched.proofs.Vocabulary.{picked_rest}
 use Rattle.osi_fair.proofs.small_facts_that_many_lemmas_use.{is_false}
 use Rattle.osi_watched.proofs.sessions.units_written_alike_are_for_the_same.{for_octets, for_written}
 use Rattle.osi_watched.proofs.sessions.what_stands_of_a_connection.{is_for, waiting_for}
@@ -81,34 +81,14 @@ fields_in [] = None
 fields_in (size ∷ []) = None
 fields_in (size ∷ code ∷ rest) = of_kind (code / 16) rest
 
-same_fields : (m source class options : ℕ) → options < 16 →
-    with_fields m source class ≡ with_fields (m / 256 * 256 + m % 256) (source / 256 * 256 + source % 256) ((16 * class + options) / 16)
-same_fields m source class options few = grind arith
-
-kind_of : (octets : List ℕ) (size code n : ℕ) (rest : List ℕ) → octets ≡ size ∷ code ∷ rest → code / 16 ≡ n →
-    of_kind n rest ≡ fields_in octets
-kind_of octets size code n rest e k = ap (λ (m : ℕ). of_kind m rest) (sym k) ∙ ap fields_in (sym e)
-
 fields_written : (v : Value) → CanBeWritten v → fields_of v ≡ fields_in (written v)
-fields_written v can = grind (arith, kind_of, same_fields)
-
-alike : (u v : Value) → written u ≡ written v → CanBeWritten u → CanBeWritten v → fields_of u ≡ fields_of v
-alike u v same a b = fields_written u a ∙ ap fields_in same ∙ sym (fields_written v b)
-
-cc_fields : (n r : ℕ) (v : Value) → IsCc n r v → (k : ℕ) × (fields_of v ≡ with_fields n r k)
-cc_fields n r (confirm m x) (mine, source) =
-    (x.class, λ i. with_fields (mine i) (source i) x.class)
-cc_fields n r (request x) h = absurd h
-cc_fields n r _ h = absurd h
+fields_written v can = grind arith
 
 some_fields : (a b : Fields) → Some a ≡ Some b → a ≡ b
 some_fields a b e = cc
 
-fields_cc : (n r k : ℕ) (v : Value) → fields_of v ≡ with_fields n r k → IsCc n r v
-fields_cc n r k v e = grind (arith, some_fields)
-
 cc_alike : (n r : ℕ) (u v : Value) → written u ≡ written v → CanBeWritten u → CanBeWritten v → IsCc n r u → IsCc n r v
-cc_alike n r u v same a b h = grind (arith, cc_fields, fields_cc, alike)
+cc_alike n r u v same a b h = grind arith
 
 -- if one is a CC of another class, the other doesn't select class 2
 zero_alike : {A : Type 0} (m : ℕ) (x : Connect) (v : Value) → x.class ≡ 0 → fields_of (confirm m x) ≡ fields_of v → AnswersTwo v → A
@@ -140,7 +120,7 @@ has_alike n r us vs h has = has_by n r us vs h.same h.can h.can_too has
 pub first_not_zero : {A : Type 0} (m : ℕ) (x : Connect) (us vs : List Value) → AreAlike (confirm m x ∷ us) vs → x.class ≡ 0 →
     AllByRecursion AnswersTwo vs → A
 first_not_zero m x us [] h zero_is two = absurd (let no = h.same in cc)
-first_not_zero m x us (v ∷ vs) h zero_is two = grind (arith, zero_alike, alike)
+first_not_zero m x us (v ∷ vs) h zero_is two = grind (arith, zero_alike)
 
 -- a CC that is written as one of class 2 selects class 2
 two_fields : (u v : Value) → fields_of u ≡ fields_of v → AnswersTwo u → AnswersTwo v
@@ -154,7 +134,7 @@ two_by (u ∷ us) [] e a b h = absurd (cc)
 two_by (u ∷ us) (v ∷ vs) e a b h =
     let one : written u ≡ written v = cc in
     let more : map written us ≡ map written vs = cc in
-    (two_fields u v (alike u v one a.0 b.0) h.0, two_by us vs more a.1 b.1 h.1)
+    (two_fields u v (grind (arith, fields_written)) h.0, two_by us vs more a.1 b.1 h.1)
 
 pub two_alike : (us vs : List Value) → AreAlike us vs → AllByRecursion AnswersTwo us → AllByRecursion AnswersTwo vs
 two_alike us vs h two = two_by us vs h.same h.can h.can_too two

@@ -2,12 +2,10 @@
 -- has joined the same, if nothing is in flight to the end.
 -- For a TSDU of the other side that becomes too long.
 use Rattle.std.proofs.Common.{arith}
-use Rattle.osi_watched.proofs.Vocabulary.{[], ap, Bool, false, List, None, Option, refl, Some, subst, sym, true, ℕ, ◌++◌, ◌∙◌}
-use Rattle.osi_watched.proofs.Vocabulary.{◌∷◌, ◌≡◌, append-nil, append_assoc, eq-eqb, AllByRecursion, slice_get, Value}
-use Rattle.osi_watched.proofs.Vocabulary.{parts_in, unit_parts, Part, End, Standing, value_at, Live, linked}
-use Rattle.osi_watched.proofs.Vocabulary.{Traffic as State, Connection, is_open, own, Direction, other, Deeds, Joined, Sessions}
-use Rattle.osi_watched.proofs.Vocabulary.{reference_of}
-use Rattle.osi_watched.proofs.Vocabulary.{spoken, way_of, calls_from, left_over, picked_first, picked_rest}
+use Rattle.osi_watched.proofs.Vocabulary.{[], ap, Bool, false, List, None, Option, refl, Some, subst, sym, true, ℕ, ◌++◌, ◌∙◌, ◌∷◌, ◌≡◌}
+use Rattle.osi_watched.proofs.Vocabulary.{append-nil, append_assoc, eq-eqb, AllByRecursion, slice_get, Value, parts_in, Part, End, Standing}
+use Rattle.osi_watched.proofs.Vocabulary.{value_at, Live, linked, Traffic as State, Connection, is_open, own, Direction, other, Deeds}
+use Rattle.osi_watched.proofs.Vocabulary.{Joined, Sessions, reference_of, spoken, way_of, calls_from, left_over, picked_first, picked_rest}
 use Rattle.std.proofs.Common.{if◌then◌else◌}
 use Rattle.std.proofs.lemmas.List.{append_cancel_left}
 use Rattle.osi_class.proofs.bounds.what_a_call_preserves.{takes_run}
@@ -54,11 +52,8 @@ begun_left peer deeds c =
 
 -- ---- no part is in flight
 
-followed_parts : (v : Value) → MayBeFollowed v → unit_parts v ≡ []
-followed_parts v h = grind arith
-
 one_none : (r : ℕ) (v : Value) → MayBeFollowed v → in_flight r (v ∷ []) ≡ []
-one_none r v h = grind (arith, is_for, in_flight, picked_first, followed_parts, picked_rest)
+one_none r v h = grind (arith, is_for, in_flight, picked_first, picked_rest)
 
 pub none_in_flight : (r : ℕ) (units : List Value) → AllByRecursion MayBeFollowed units → in_flight r units ≡ []
 none_in_flight r [] h = refl

@@ -78,15 +78,12 @@ same_units (u ∷ us) = λ i. by_read (units_of u) i ++ same_units us i
 pub differ : {A : Type 0} (b : Bool) → b ≡ true → b ≡ false → A
 differ b h k = absurd (cc)
 
-never : {A : Type 0} → false ≡ true → A
-never e = absurd (cc)
-
 -- no DT of class 0
 abbrev pub IsNotZero : Value → Type 0
 IsNotZero v = (end : Bool) (user : List ℕ) → v ≡ data0 end user → ⊥
 
 pub for_so : (peer : ℕ) (v : Value) → arriving.is_for peer v ≡ true → IsNotZero v → IsFor peer v
-for_so peer v h unlike = grind (arith, eqb-true, never)
+for_so peer v h unlike = grind (arith, eqb-true)
 
 pub none_for : (v : Value) → is_of_link v ≡ false → (o : Option ℕ) → is_for o v ≡ false
 none_for v h o = grind arith

@@ -1,20 +1,16 @@
 -- What an end takes in a turn at a connection is the first of what is in flight to it: all that is for it from the time at which it opens.
 -- For all connections of an end and a tap.
 use Rattle.std.proofs.Common.{arith}
-use Rattle.osi_watched.proofs.Vocabulary.{[], List, refl, Some, ℕ, ◌++◌, ◌∙◌, ◌∷◌, ◌≡◌, append-nil}
-use Rattle.osi_watched.proofs.Vocabulary.{Value, units_more, TakesAll, all_units, Marked, units_at}
+use Rattle.osi_watched.proofs.Vocabulary.{[], List, refl, Some, ℕ, ◌++◌, ◌∙◌, ◌∷◌, ◌≡◌, append-nil, units_more, TakesAll, all_units, Marked}
+use Rattle.osi_watched.proofs.Vocabulary.{units_at}
 use Rattle.osi_honest.specs.Arriving.{AreApart}
 use Rattle.osi_honest.specs.Arriving as arriving
 use Rattle.osi_watched.proofs.sessions.what_a_turn_puts_waits.{Agree, marks_wait}
-use Rattle.osi_watched.proofs.sessions.what_stands_of_a_connection.{is_for, waiting_for}
-
--- the end and the tap say alike for which connection a unit is
-pub same_for : (r : ℕ) (v : Value) → arriving.is_for r v ≡ is_for (Some r) v
-same_for r v = grind arith
+use Rattle.osi_watched.proofs.sessions.what_stands_of_a_connection.{waiting_for}
 
 takes_agree : (r : ℕ) (units : List Marked) → TakesAll r units → Agree r (Some r) units
 takes_agree r [] h = tt
-takes_agree r (m ∷ units) h = (h.0 ∙ same_for r m.1, takes_agree r units h.1)
+takes_agree r (m ∷ units) h = (h.0 ∙ (grind arith), takes_agree r units h.1)
 
 pub apart_none : (r : ℕ) (units : List Marked) → AreApart r units → units_at r units ≡ []
 apart_none r [] h = refl

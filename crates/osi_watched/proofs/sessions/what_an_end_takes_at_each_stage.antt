@@ -174,10 +174,6 @@ module _ (is_caller : Bool) (turn : Turn) (old new : Joint) (t : TakesTurn turn 
       (may_take new.holding.end.carrier) refl (on.more r) later coming (on.taken r some) (stage_at r old.holding.end.carrier) life ready
       left
 
-  none_left : (left : List Value) → (new.holding.end.carrier.ended ≡ None → left ≡ []) → (o : Option EndReason) →
-      new.holding.end.carrier.ended ≡ o → IsLive → left ++ units_in new.coming ≡ units_in new.coming
-  none_left left all o lasts live = grind (arith, over_past)
-
   pub turn_takes_by : (later : List Part) → (may_take old.holding.end.carrier r ≡ true → Left (units_in old.coming) later) →
       Takes (on.more r) later (λ (l : List Part). IsLive → Left (units_in new.coming) l)
   turn_takes_by later sure = by old.holding.end.carrier.ended refl
@@ -187,7 +183,7 @@ module _ (is_caller : Bool) (turn : Turn) (old new : Joint) (t : TakesTurn turn 
       by None lasts =
           let s = turn_uses turn old new t is_caller deeds on lasts in
           takes_as (on.more r) IsLive Left later (s.left ++ units_in new.coming) (units_in new.coming)
-          (none_left s.left s.all new.holding.end.carrier.ended refl)
+          (grind (arith, over_past))
           (takes_with later (s.left ++ units_in new.coming) (λ live. subst (λ (l : List Value). Left l later) s.coming (sure live)))
       by (Some reason) over =
           takes_with later (units_in new.coming) (λ live. over_past r old.holding.end.carrier reason over live)

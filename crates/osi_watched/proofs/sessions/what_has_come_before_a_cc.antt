@@ -3,9 +3,9 @@
 -- For the session of each connection of a calling end.
 use Rattle.std.proofs.Common.{◌≡◌, ◌∙◌, ◌⊎◌, inl, inr, refl, sym, ap, subst, ℕ, ◌<◌, Bool, true, false, List, [], ◌∷◌, ◌++◌, Option, Some}
 use Rattle.std.proofs.Common.{None, length, map, append_assoc, arith}
-use Rattle.std.specs.Prelude.{◌||◌, not, slice_get}
+use Rattle.std.specs.Prelude.{◌||◌, slice_get}
 use Rattle.std.specs.List.{AllByRecursion}
-use Rattle.std.proofs.lemmas.Bool.{eqb-true}
+use Rattle.std.proofs.lemmas.Bool.{eqb-true, le-leb, lt-ltb}
 use Rattle.std.proofs.lemmas.List.{append-nil}
 use Rattle.std.proofs.lemmas.Option.{slice_get-map}
 use Rattle.osi_tpdu.specs.Packet.{units_of}
@@ -29,7 +29,6 @@ use Rattle.osi_rules.specs.declared.findings.Rule.TheVariants as rule
 use Rattle.osi_rules.specs.declared.halves.Half.{Half}
 use Rattle.osi_rules.specs.declared.halves.Phase.{Phase}
 use Rattle.osi_rules.specs.Reaches.{is_applied, reach_of}
-use Rattle.osi_rules.specs.Rows.{Test, first_failed}
 use Rattle.osi_rules.specs.Sides.{begins, is_closed, is_closing, is_open, is_refused, is_silent}
 use Rattle.osi_rules.specs.Traffic.{State, asked_by, connection_after, found, found_on, judged_on, takes, uses_source}
 use Rattle.osi_rules.specs.Traffic as traffic
@@ -50,12 +49,10 @@ use Rattle.osi_fair.proofs.what_stays_of_each_connection.{left_then, own_stays, 
 use Rattle.osi_fair.proofs.what_the_other_side_closes.{IsOngoing, is_name, judged_same}
 use Rattle.osi_fair.proofs.which_units_are_for_a_connection.{each_picked, names, picked_join, picked_other, those, those_join}
 use Rattle.osi_honest.specs.Courses.{Continues, Deeds, units_in, units_read}
-use Rattle.osi_honest.specs.Marked.{Marked}
 use Rattle.osi_honest.specs.Turns.{Turn}
-use Rattle.osi_honest.proofs.courses.how_long_a_connection_is_open.{Life, Stage, early, past, stage_at}
+use Rattle.osi_honest.proofs.courses.how_long_a_connection_is_open.{Life, early, past, stage_at}
 use Rattle.osi_honest.proofs.courses.the_first_cc_opens_a_connection.{asked_so}
 use Rattle.osi_stack.specs.Calls.{has_given}
-use Rattle.osi_watched.proofs.a_break_ends_no_judging_or_all.{takes_reach}
 use Rattle.osi_stack.specs.State.{Holding}
 use Rattle.osi_tap.specs.Connections.{Joined, Sessions}
 use Rattle.osi_tap.specs.Courses.{Course, unit_passes, units_pass}
@@ -71,7 +68,7 @@ use Rattle.osi_watched.proofs.sessions.a_turn_does_what_its_deeds_say.{turn_leav
 use Rattle.osi_watched.proofs.sessions.a_unit_after_a_dr_is_for_a_closing_connection.{not_over}
 use Rattle.osi_watched.proofs.sessions.a_unit_is_joined_where_it_is_named.{named_there, names_there}
 use Rattle.osi_watched.proofs.sessions.connections_have_the_same_places.{unit_knows}
-use Rattle.osi_watched.proofs.sessions.nothing_is_done_before_a_cr_passes.{IsNoZero, given_so, same_units}
+use Rattle.osi_watched.proofs.sessions.nothing_is_done_before_a_cr_passes.{IsNoZero, same_units}
 use Rattle.osi_watched.proofs.sessions.what_a_turn_puts_goes_to_its_peer.{all_front, one_of}
 use Rattle.osi_watched.proofs.sessions.what_a_unit_does_at_its_place.{Does, asks_again, asks_more, nowhere, somewhere, unit_does}
 use Rattle.osi_watched.proofs.sessions.what_passes_leaves_all_standing.{AllGoesOn}
@@ -116,7 +113,7 @@ answer_of local w next more f is r lasts waits a =
     (one r a.confirmed refl lasts (inl waits)).0
 
 given_there : (local : Local) (w : Whole) (r : ℕ) → Follows local w → 0 < r → Tracked w.tap.connections r → has_given r w.end ≡ true
-given_there local w r j some (p, c, at, tracked, same) = search (arith, given_so)
+given_there local w r j some (p, c, at, tracked, same) = search (arith, lt-ltb, le-leb)
 
 -- as the tap knows more of the same end
 still_tracked : (local : Local) (w next : Whole) (more : List Value) → Follows local w → Follows local next → IsOngoing w.tap.course →
@@ -130,16 +127,13 @@ still_tracked local w next more j then_j clear then_clear same is r may tracked 
 
 -- ---- a unit of the end passes
 
-not_open : {A : Type 0} (p : Phase) → is_open p ≡ true → is_closing p ≡ true → A
-not_open p h k = grind arith
-
 own_judged : (r : Reach) (c : Connection) → (judged_on r c).left ≡ c.left
 own_judged r c = grind arith
 
 -- right has sent a CC, and has not answered a DR of left
 there_by : (c : Connection) (n : ℕ) (p : Phase) → Sound c → is_open c.left.phase ≡ true → c.right.phase ≡ p →
     named_by p c.right.reference ≡ Some n → (is_open p || is_closing p) ≡ true
-there_by c n p sound opened e named = grind (arith, not_open)
+there_by c n p sound opened e named = grind arith
 
 -- a unit by which left closes a connection names it
 module _ (c : Connection) (sound : Sound c) (opened : is_open c.left.phase ≡ true) (v : Value)
@@ -268,13 +262,9 @@ for_one r (error n cause) zero h = absurd (cc h)
 unknown_ends : (k : Option Class) → (k ≡ Some Zero → ⊥) → reach_of k (Broke rule.UnknownReference) ≡ reach.Everything
 unknown_ends k two = grind arith
 
-first_silent : (b : Bool) (tests : List Test) → b ≡ true →
-    first_failed ((not b, Broke rule.UnknownReference) ∷ tests) ≡ Broke rule.UnknownReference
-first_silent b tests h = grind arith
-
 silent_found : (s : State) (c : Connection) → c.is_judged ≡ true → (r : ℕ) (v : Value) → IsForOne r v → is_silent c.right.phase ≡ true →
     found_on way.Right s c v ≡ Broke rule.UnknownReference
-silent_found s c judged r v h silent = grind (arith, judged_same, first_silent)
+silent_found s c judged r v h silent = grind (arith, judged_same)
 
 link_goes : (r : ℕ) (v : Value) (s : State) → IsForOne r v → AllGoesOn v Left s → (takes way.Right v s).told.reach ≡ reach.Everything → ⊥
 link_goes r v s h = grind arith
@@ -294,14 +284,9 @@ no_dc r m source v h e = grind arith
 
 module _ (local : Local) (v : Value) (w : Whole) (j : Follows local w) (on : AllGoesOn v Left w.tap) (clear : IsOngoing w.tap.course)
     (then_clear : IsOngoing (takes way.Right v w.tap).state.course) (q : IsQuiet w.end w.coming w.tap) where
-  -- right has not closed the connection that a DT or an AK names, or awaits a DC there
-  not_silent : (r : ℕ) → IsForOne r v → (t : Told v w.tap (takes way.Right v w.tap)) → t.c.is_judged ≡ true →
-      is_silent t.c.right.phase ≡ false
-  not_silent r one t judged = grind (arith, link_goes, takes_reach, silent_found, unknown_ends)
-
   right_there : (r : ℕ) → IsForOne r v → (t : Told v w.tap (takes way.Right v w.tap)) → (b : Bool) → t.c.is_judged ≡ b →
       (is_open t.c.right.phase || is_closing t.c.right.phase) ≡ true
-  right_there r one t b judged = search (arith, not_over, answered_so, not_silent)
+  right_there r one t b judged = search (arith, not_over, answered_so)
 
   -- the connection that a DT or an AK names has its CC
   named_there_by : (r : ℕ) → MayOpen w.end r → (t : Told v w.tap (takes way.Right v w.tap)) → (opened : Bool) →
@@ -395,10 +380,6 @@ units_quiet local at (v ∷ vs) w c (one, more) then_clear ranges j same q =
 
 -- ---- a turn of the end
 
-early_before : (is_caller : Bool) (r : ℕ) (s : Stage) (took put : List Marked) (t : Stage) → Life is_caller r s took put t → t ≡ early →
-    s ≡ early
-early_before is_caller r s took put t life is = grind (arith, past, early)
-
 none_later : (r : ℕ) (xs ys : List Value) → waiting_for (Some r) (xs ++ ys) ≡ [] → waiting_for (Some r) ys ≡ []
 none_later r xs ys none = last (waiting_for (Some r) xs) (waiting_for (Some r) ys) (sym (picked_join (is_for (Some r)) xs ys) ∙ none)
   where
@@ -422,11 +403,8 @@ begin_quiet holding = λ clear. record { before = λ r may. inr refl; closed = �
 begun_left : (d : Way) (c : Connection) → (begins d c).left ≡ c.left
 begun_left d c = grind arith
 
-begun_right : (d : Way) (c : Connection) → (begins d c).right ≡ c.right
-begun_right d c = grind arith
-
 begun_tracked : (d : Way) (cs : List Connection) (r : ℕ) → Tracked cs r → Tracked (map (begins d) cs) r
-begun_tracked d cs r (p, c, at, tracked, same) = grind (arith, begun_right, slice_get-map (begins d) cs p, begun_left d c)
+begun_tracked d cs r (p, c, at, tracked, same) = grind (arith, slice_get-map (begins d) cs p, begun_left d c)
 
 begun_before : (end : Carrier) (coming : List Value) (d : Way) (s : State) → IsQuiet end coming s →
     IsQuiet end coming (traffic.packet_begins d s)
@@ -445,17 +423,12 @@ begins_other_quiet old new is q =
     (q (before_going (packet way.Right) old.course.traffic clear)))
 
 module _ (local : Local) (two : local.class2 ≡ true) where
-  -- an end at which a connection may open, and the whole end that follows it, are alike
-  whole_alike : (j : Joint) (f : IsFollowed Left (first local two) j) (r : ℕ) → MayOpen f.whole.end r →
-      MayOpen j.holding.end.carrier r × (f.whole.coming ≡ units_in j.coming)
-  whole_alike j f r may = grind (arith, early_lasts, stage_at, none_of, same_units)
-
   joint_alike : (j : Joint) (f : IsFollowed Left (first local two) j) (r : ℕ) → MayOpen j.holding.end.carrier r →
       MayOpen f.whole.end r × (f.whole.coming ≡ units_in j.coming)
   joint_alike j f r may = grind (arith, early_lasts, stage_at, none_of, same_units)
 
   to_whole : (j : Joint) (f : IsFollowed Left (first local two) j) → AreQuietNow j → IsQuiet f.whole.end f.whole.coming f.whole.tap
-  to_whole j f q = grind (arith, quiet_as, whole_alike)
+  to_whole j f q = grind (arith, quiet_as, early_lasts, stage_at, none_of, same_units)
 
   pub passes_own_quiet : (deeds : ℕ → Deeds) (at : ℕ) (unit : Value) (old new : Joint) → Steps Left (passes_own at unit) old new →
       IsCalling local two deeds old → HaveSamePlaces old.course.traffic.connections old.course.sessions.live → AreQuiet old →
@@ -507,7 +480,7 @@ turns_quiet turn old new t deeds on life q clear =
     was : (r : ℕ) → MayOpen new.holding.end.carrier r → MayOpen old.holding.end.carrier r
     was r may = (
       may.0,
-      early_before true r (stage_at r old.holding.end.carrier) on.took on.put (stage_at r new.holding.end.carrier) (life r may.0) may.1,
+      grind (arith, past, early),
     )
 
     by : (r : ℕ) → Tracked old.course.traffic.connections r ⊎ (waiting_for (Some r) (units_in old.coming) ≡ []) →

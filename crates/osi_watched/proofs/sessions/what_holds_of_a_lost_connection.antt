@@ -1,11 +1,11 @@
 -- Of a connection that has lost its judgement nothing more is joined: nobody of the end is to blame there, as when it was lost, and what
 -- passes leaves it so. For all connections of an end and a tap.
-use Rattle.osi_watched.proofs.Vocabulary.{arith, Bool, false, if◌then◌else◌, None, not, Option, refl, Some, true, ℕ, ◌&&◌, ◌≡◌}
-use Rattle.osi_watched.proofs.Vocabulary.{slice_get, acknowledge, confirm, data0, data2, destination_of, disconnect, disconnected, error}
-use Rattle.osi_watched.proofs.Vocabulary.{request, Value, Class, Two, Zero, is_applied, reach_of, begins, is_named, is_refused, class_for}
-use Rattle.osi_watched.proofs.Vocabulary.{connection_after, found, found_on, is_stopped, judged_on, none_told, has_broken, route, route_in}
-use Rattle.osi_watched.proofs.Vocabulary.{routed, sent_on, takes, Traffic as State, Connection, Way, Finding, NotJudged, Reach, Phase}
-use Rattle.osi_watched.proofs.Vocabulary.{other, Direction, Left, Right, IsToBlame, Joined, way_of, All, IsOneOf, named_by}
+use Rattle.osi_watched.proofs.Vocabulary.{arith, Bool, false, if◌then◌else◌, None, Option, refl, Some, true, ℕ, ◌≡◌, slice_get, acknowledge}
+use Rattle.osi_watched.proofs.Vocabulary.{confirm, data0, data2, destination_of, disconnect, disconnected, error, request, Value, Class}
+use Rattle.osi_watched.proofs.Vocabulary.{Two, Zero, is_applied, reach_of, begins, is_named, is_refused, class_for, connection_after, found}
+use Rattle.osi_watched.proofs.Vocabulary.{found_on, is_stopped, judged_on, none_told, has_broken, route, route_in, routed, takes}
+use Rattle.osi_watched.proofs.Vocabulary.{Traffic as State, Connection, Way, Finding, NotJudged, Reach, other, Direction, Left, Right}
+use Rattle.osi_watched.proofs.Vocabulary.{IsToBlame, Joined, way_of, All, IsOneOf}
 use Rattle.osi_rules.specs.declared.directions.Direction.TheVariants as way
 use Rattle.osi_rules.specs.declared.findings.Reach.TheVariants as reach
 use Rattle.osi_rules.specs.Sides as sides
@@ -41,26 +41,16 @@ lost_still d r c j h = grind arith
 
 -- ---- which is lost after a unit
 
-on_judged : (r : Reach) (c : Connection) → (judged_on r c).is_judged ≡ true → c.is_judged ≡ true
-on_judged r c h = grind arith
-
 on_lost : (r : Reach) (c : Connection) → (judged_on r c).is_judged ≡ false → c.is_judged ≡ true → r ≡ reach.Connection
 on_lost r c h was = grind arith
 
-sent_judged : (e : Way) (v : Value) (c : Connection) → (sent_on e v c).is_judged ≡ c.is_judged
-sent_judged e v c = grind arith
-
 pub was_judged : (e : Way) (v : Value) (x : Bool) (r : Reach) (c : Connection) → (connection_after e v x r c).is_judged ≡ true →
     c.is_judged ≡ true
-was_judged e v x r c h = grind (arith, sent_judged, on_judged)
+was_judged e v x r c h = grind arith
 
 pub now_lost : (e : Way) (v : Value) (x : Bool) (r : Reach) (c : Connection) → (connection_after e v x r c).is_judged ≡ false →
     c.is_judged ≡ true → r ≡ reach.Connection
-now_lost e v x r c h was = grind (arith, on_lost, sent_judged)
-
-pub goes_judged : (e : Way) (v : Value) (x : Bool) (r : Reach) (c : Connection) → (connection_after e v x r c).is_judged ≡ true →
-    r ≡ reach.Connection → ⊥
-goes_judged e v x r c h is = grind arith
+now_lost e v x r c h was = grind (arith, on_lost)
 
 -- the unit has no effect then
 pub part_applied : (k : Option Class) (f : Finding) → reach_of k f ≡ reach.Connection → is_applied f ≡ false
@@ -99,20 +89,10 @@ dest_so : (b : Bool) (d : Way) (v : Value) (s : State) (p : ℕ) → (class_for 
 dest_so true d v s p two place far = absurd (cc)
 dest_so false d v s p two place far = dest_by (class_for d s.course) d (has_broken (sides.other d) s.course) v s p two place far
 
-refused_not : (p : Phase) (r n : ℕ) → named_by p r ≡ Some n → is_refused p ≡ false
-refused_not p r n h = grind arith
-
--- the names of a connection that is judged
-over_not : (j over rest : Bool) → j ≡ true → (not (j && over) && rest) ≡ true → over ≡ false
-over_not j over rest e h = grind arith
-
 right_not : (d : Direction) (n : ℕ) (c : Connection) (j : Joined) → IsOneOf c j → c.is_judged ≡ true → is_named (way_of d) n c ≡ true →
     is_refused c.right.phase ≡ false
-right_not Left n c j one judged named = grind (arith, refused_not, named_there Left n c j one judged named)
-right_not Right n c j one judged named = grind (arith, or_first, over_not)
-
-left_not : (a b : Bool) → (a ≡ true → b ≡ true) → b ≡ false → a ≡ false
-left_not a b h k = grind arith
+right_not Left n c j one judged named = grind (arith, named_there Left n c j one judged named)
+right_not Right n c j one judged named = grind (arith, or_first)
 
 pub now_so : (d : Direction) (v : Value) (s : State) (p : ℕ) (c : Connection) (j : Joined) → IsOneOf c j → Sound c →
     c.is_judged ≡ true → slice_get s.connections p ≡ Some c → (class_for (way_of (other d)) s.course ≡ Some Zero → ⊥) →
@@ -126,5 +106,5 @@ now_so d v s p c j one sound judged there two place far none room =
       none = none;
       room = room;
       right = right;
-      left_knows = left_not (is_refused c.seen_by_left.phase) (is_refused c.right.phase) sound.left_knows.refused right;
+      left_knows = grind arith;
     }

@@ -10,13 +10,12 @@ use Rattle.osi_rules.specs.declared.findings.Meaning.TheVariants as meaning
 use Rattle.osi_tpdu.specs.Value.{Value}
 use Rattle.osi_tpkt.specs.Stream.{offset_of}
 use Rattle.osi_judge.specs.declared.directions.Direction.{Direction}
-use Rattle.osi_judge.specs.declared.directions.Direction.TheVariants.{Left, Right}
 use Rattle.osi_tap.specs.declared.rooms.Room.{Room}
 use Rattle.osi_tap.specs.declared.rooms.Room.TheVariants.{All, Octets, Over}
 use Rattle.osi_tap.specs.Connections.{Joined, Sessions, adds, adds_all, adds_if, all_begin, asked, changed, count, meant}
 use Rattle.osi_tap.specs.Connections.{packet_begins, placed, taken, taken_at}
 use Rattle.osi_tap.specs.Courses.{number_at, number_of}
-use Rattle.osi_tap.specs.Rooms.{fits, is_over, spent}
+use Rattle.osi_tap.specs.Rooms.{is_over}
 use Rattle.osi_watched.specs.Bounded.{AreJudgedOf, IsJudgedOf, SessionsOf}
 
 -- ---- lists of connections
@@ -55,14 +54,8 @@ one_more (x ∷ js) (y ∷ ws) j w k h = (h.0, one_more js ws j w k h.1)
 
 -- ---- a packet begins
 
-left_begins : (j w : Joined) → IsJudgedOf j w → IsJudgedOf (packet_begins Left j) (packet_begins Left w)
-left_begins j w h = grind arith
-
-right_begins : (j w : Joined) → IsJudgedOf j w → IsJudgedOf (packet_begins Right j) (packet_begins Right w)
-right_begins j w h = grind arith
-
 begun : (d : Direction) (j w : Joined) → IsJudgedOf j w → IsJudgedOf (packet_begins d j) (packet_begins d w)
-begun d j w h = grind (arith, left_begins, right_begins)
+begun d j w h = grind arith
 
 all_begun : (d : Direction) (js ws : List Joined) → AreJudgedOf js ws → AreJudgedOf (map (packet_begins d) js) (map (packet_begins d) ws)
 all_begun d [] [] h = tt
@@ -86,12 +79,8 @@ module _ (d : Direction) (at : ℕ) (end : Bool) (octets : List ℕ) (j w : Join
       IsJudgedOf (adds_if b (if b then Octets rest else Over) d at end octets j) (record (adds_all d at end octets w) { room = All })
   if_room b n rest is = grind (arith, judged, over)
 
-  by_room : (room : Room) → j.room ≡ room → IsJudgedOf (adds_if (fits room (length octets)) (spent room (length octets)) d at end octets j)
-      (record (adds_all d at end octets w) { room = All })
-  by_room room is = search (arith, judged, if_room, over)
-
   adds_so : IsJudgedOf (adds d at end octets j) (adds d at end octets w)
-  adds_so = grind (arith, by_room)
+  adds_so = search arith
 
 -- ---- a unit for a connection
 
@@ -117,24 +106,17 @@ placed_by : (most i : ℕ) (j w : Joined) (s t : Sessions) (o p : Option Joined)
     AreBounded most (placed i j s o) (placed i w t p)
 placed_by most i j w s t o p h k h2 = grind (arith, one_more, set_at)
 
-same_count : (most : ℕ) (s t : Sessions) → AreBounded most s t → count s ≡ count t
-same_count most s t h = grind (arith, as_many)
-
 pub asked_so : (most calling : ℕ) (s t : Sessions) → AreBounded most s t →
     IsJudgedOf (asked (offset_of (count s)) calling s.room) (asked (offset_of (count t)) calling t.room)
-asked_so most calling s t h = grind (arith, same_count)
+asked_so most calling s t h = grind (arith, as_many)
 
 module _ (most : ℕ) (d : Direction) (at : ℕ) (v : Value) (s t : Sessions) (h : AreBounded most s t) where
-  changed_so : (m : Meaning) (i : ℕ) →
-      AreBounded most (changed i (meant d at v m) s (slice_get s.live i)) (changed i (meant d at v m) t (slice_get t.live i))
-  changed_so m i = search (arith, changed_by, at_place, meant_so)
-
   at_so : (m : Meaning) (i : ℕ) → AreBounded most (taken_at d at v m i s) (taken_at d at v m i t)
   at_so meaning.Asks i = search (arith, placed_by, at_place, asked_so)
-  at_so meaning.Opens i = changed_so meaning.Opens i
-  at_so meaning.Closes i = changed_so meaning.Closes i
-  at_so (meaning.Adds end) i = changed_so (meaning.Adds end) i
-  at_so meaning.Nothing i = changed_so meaning.Nothing i
+  at_so meaning.Opens i = search (arith, changed_by, at_place, meant_so)
+  at_so meaning.Closes i = search (arith, changed_by, at_place, meant_so)
+  at_so (meaning.Adds end) i = search (arith, changed_by, at_place, meant_so)
+  at_so meaning.Nothing i = search (arith, changed_by, at_place, meant_so)
 
   pub taken_bounded : (m : Meaning) (place : Option ℕ) → AreBounded most (taken d at v m place s) (taken d at v m place t)
   taken_bounded m None = h

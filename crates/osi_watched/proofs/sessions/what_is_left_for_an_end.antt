@@ -50,15 +50,8 @@ either_then b A B C D f g h = grind arith
 either_or : (b k : Bool) (A B C D : Type 0) → (b || k) ≡ true → (A → C) → (k ≡ true → B → D) → Either b A B → Either b C D
 either_or b k A B C D e f g h = grind arith
 
-either_second : (b k : Bool) (A B : Type 0) → (b || k) ≡ false → Either b A B → B
-either_second b k A B e h = grind arith
-
 or_second : (b k : Bool) → (b || k) ≡ false → k ≡ false
 or_second b k e = grind arith
-
-none_both : {X : Type 0} (xs ys : List X) → xs ++ ys ≡ [] → (xs ≡ []) × (ys ≡ [])
-none_both [] ys e = (refl, e)
-none_both (x ∷ xs) ys e = absurd (cc)
 
 -- ---- one unit more
 
@@ -66,20 +59,17 @@ module _ (r : ℕ) (v : Value) where
   abbrev f : List Part
   f = in_flight r (v ∷ [])
 
-  longer : (x : Value) (later rest : List Part) → later ≡ in_flight r (x ∷ []) ++ rest → later ++ f ≡ in_flight r (x ∷ []) ++ (rest ++ f)
-  longer x later rest is = ap (λ (l : List Part). l ++ f) is ∙ append_assoc (in_flight r (x ∷ [])) rest f
-
   -- it is joined
   some_more : (xs : List Value) (later : List Part) → AreSome r xs later → AreSome r (xs ++ v ∷ []) (later ++ f)
   some_more [] later h = inl ([], ap (λ (l : List Part). l ++ f) h ∙ sym (append-nil f), refl)
-  some_more (x ∷ xs) later (inl (rest, is, more)) = inl (rest ++ f, longer x later rest is, some_more xs rest more)
+  some_more (x ∷ xs) later (inl (rest, is, more)) = inl (rest ++ f, grind (arith, append_assoc, in_flight), some_more xs rest more)
   some_more (x ∷ xs) later (inr more) = inr (some_more xs later more)
 
   pub left_more : (xs : List Value) (later : List Part) → AreLeft r xs later → AreLeft r (xs ++ v ∷ []) (later ++ f)
   left_more [] later h = grind (arith, append-nil, either_both, is_dr)
   left_more (x ∷ xs) later (rest, is, more) = (
     rest ++ f,
-    longer x later rest is,
+    grind (arith, append_assoc, in_flight),
     either_then (is_dr r x) (AreSome r xs rest) (AreLeft r xs rest) (AreSome r (xs ++ v ∷ []) (rest ++ f))
         (AreLeft r (xs ++ v ∷ []) (rest ++ f)) (λ h. some_more xs rest h) (λ h. left_more xs rest h) more,
   )
@@ -137,7 +127,7 @@ pub left_front : (r : ℕ) (xs ys : List Value) (later : List Part) → has_dr r
 left_front r [] ys later none h = (later, refl, h)
 left_front r (x ∷ xs) ys later none (rest, is, more) =
     let (last, same, left) = left_front r xs ys rest (or_second (is_dr r x) (has_dr r xs) none)
-    (either_second (is_dr r x) (has_dr r xs) (AreSome r (xs ++ ys) rest) (AreLeft r (xs ++ ys) rest) none more) in (
+    (grind arith) in (
       last,
       is ∙ ap (λ (l : List Part). in_flight r (x ∷ []) ++ l) same ∙ sym (append_assoc (in_flight r (x ∷ [])) (in_flight r xs) last)
           ∙ ap (λ (l : List Part). l ++ last) (sym (in_flight_more r (x ∷ []) xs)),
@@ -148,7 +138,7 @@ left_front r (x ∷ xs) ys later none (rest, is, more) =
 
 first_none : (r : ℕ) (x : Value) (xs : List Value) → waiting_for (Some r) (x ∷ xs) ≡ [] →
     (waiting_for (Some r) (x ∷ []) ≡ []) × (waiting_for (Some r) xs ≡ [])
-first_none r x xs none = grind (arith, none_both, waiting_for, picked_join, is_for)
+first_none r x xs none = grind (arith, waiting_for, picked_join, is_for)
 
 some_none : (r : ℕ) (xs : List Value) (later : List Part) → waiting_for (Some r) xs ≡ [] → AreSome r xs later → later ≡ []
 some_none r [] later none h = h

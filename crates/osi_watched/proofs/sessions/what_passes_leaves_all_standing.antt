@@ -19,13 +19,12 @@ use Rattle.osi_rules.specs.declared.findings.Finding.{Finding}
 use Rattle.osi_rules.specs.declared.findings.Finding.TheVariants.{Broke, Kept, NotJudged}
 use Rattle.osi_rules.specs.declared.findings.Reach.{Reach}
 use Rattle.osi_rules.specs.declared.findings.Reach.TheVariants as reach
-use Rattle.osi_rules.specs.declared.routes.Route.{Route}
 use Rattle.osi_rules.specs.declared.findings.Rule.TheVariants as rule
 use Rattle.osi_rules.specs.Reaches.{is_applied, reach_of}
 use Rattle.osi_rules.specs.Rows.{acknowledge_tests, first_failed}
 use Rattle.osi_rules.specs.Sides as sides
-use Rattle.osi_rules.specs.Traffic.{Outcome, State, at_found, at_place, class_for, found, found_on, is_stopped, none_told, route, route_in}
-use Rattle.osi_rules.specs.Traffic.{routed, takes, unnamed_by, uses_source}
+use Rattle.osi_rules.specs.Traffic.{Outcome, State, at_place, class_for, found_on, is_stopped, none_told, route, route_in, routed, takes}
+use Rattle.osi_rules.specs.Traffic.{unnamed_by}
 use Rattle.osi_fair.proofs.all_are_judged_unless_one_broke.{AreJudged}
 use Rattle.osi_honest.specs.Courses.{Deeds}
 use Rattle.osi_tap.specs.Connections.{Joined, Sessions}
@@ -34,14 +33,15 @@ use Rattle.osi_fair.proofs.small_facts_that_many_lemmas_use.{differ}
 use Rattle.osi_watched.proofs.a_break_ends_no_judging_or_all.{takes_reach}
 use Rattle.osi_watched.proofs.the_first_break_is_not_of_an_end.{IsNoBreak}
 use Rattle.osi_watched.proofs.what_a_taker_passes_over.{IsMild, applied_of, mild_of, mild_reach}
-use Rattle.osi_watched.proofs.sessions.a_dt_that_is_no_break_is_right.{IsClear, clear_any, clear_tests, dt_clear, found_two, goes_clear}
+use Rattle.osi_watched.proofs.sessions.a_dt_that_is_no_break_is_right.{IsClear, clear_any, clear_tests, dt_clear, found_two}
 use Rattle.osi_watched.proofs.sessions.a_right_dt_has_one_place.{AreUsedApart, judged_apart, never_unnamed}
-use Rattle.osi_watched.proofs.sessions.all_connections_stand.{AllStand, Leaves, Loses, all_after}
-use Rattle.osi_watched.proofs.sessions.ccs_and_crs_leave_all_standing.{other_cc, other_cr, own_cc, own_cr}
+use Rattle.osi_watched.proofs.sessions.all_connections_stand.{AllStand, Leaves, Loses, all_after, like_same, other_plain}
+use Rattle.osi_watched.proofs.sessions.ccs_and_crs_leave_all_standing.{other_cc, own_cc, own_cr}
 use Rattle.osi_watched.proofs.sessions.connections_have_the_same_places.{unit_joins, unit_knows}
 use Rattle.osi_watched.proofs.sessions.right_units_leave_all_standing.{IsLink, StaysElsewhere, StaysThere, ak, dt, other_close}
 use Rattle.osi_watched.proofs.sessions.right_units_leave_all_standing.{other_close_if, other_dt, own_ack, own_close, own_close_if, own_dt}
-use Rattle.osi_watched.proofs.sessions.what_stands_of_a_connection.{Known, waiting_for}
+use Rattle.osi_watched.proofs.sessions.right_units_leave_all_standing.{rests_on}
+use Rattle.osi_watched.proofs.sessions.what_stands_of_a_connection.{Known, waiting_for, stands_other_none, unnamed}
 
 -- ---- what is no break
 
@@ -52,10 +52,6 @@ kept_of f h none = grind arith
 ack_tests_clear : (d : Way) (c : Connection) (number credit : ℕ) → IsClear (first_failed (acknowledge_tests d c number credit))
 ack_tests_clear d c number credit = grind (arith, clear_tests)
 
-found_ack : (d : Way) (credit n number : ℕ) (s : State) (c : Connection) →
-    IsClear (found d s.course (uses_source d s.connections (acknowledge credit n number)) c (acknowledge credit n number))
-found_ack d credit n number s c = grind (arith, ack_tests_clear)
-
 nowhere_ack : (b : Bool) (credit n number : ℕ) → IsClear (unnamed_by b (acknowledge credit n number))
 nowhere_ack b credit n number = grind arith
 
@@ -65,12 +61,12 @@ routed_ack None way.Left b credit n number s firm judged = inr (rule.UnexpectedU
 routed_ack None way.Right b credit n number s firm judged = inr (rule.UnexpectedUnit, refl)
 routed_ack (Some Zero) way.Left b credit n number s firm judged = inr (rule.WrongForm, refl)
 routed_ack (Some Zero) way.Right b credit n number s firm judged = inr (rule.WrongForm, refl)
-routed_ack (Some Two) way.Left b credit n number s firm judged = search (arith, clear_any, nowhere_ack, found_ack)
-routed_ack (Some Two) way.Right b credit n number s firm judged = search (arith, clear_any, nowhere_ack, found_ack)
+routed_ack (Some Two) way.Left b credit n number s firm judged = search (arith, clear_any, nowhere_ack, ack_tests_clear)
+routed_ack (Some Two) way.Right b credit n number s firm judged = search (arith, clear_any, nowhere_ack, ack_tests_clear)
 
 pub ack_clear : (d : Way) (credit n number : ℕ) (s : State) → is_stopped d s.course ≡ false → s.course.loose ≡ false → AreJudged s →
     IsClear (takes d (acknowledge credit n number) s).told.finding
-ack_clear d credit n number s goes firm judged = grind (arith, goes_clear, routed_ack)
+ack_clear d credit n number s goes firm judged = grind (arith, routed_ack)
 
 -- a DT of class 0 is a break in class 2, and before a class is known
 pub zero_broke : {A : Type 0} (k : Option Class) (d : Way) (b : Bool) (end : Bool) (user : List ℕ) (s : State) → (k ≡ Some Zero → ⊥) →
@@ -82,14 +78,9 @@ cr_broke : {A : Type 0} (k : Option Class) (b : Bool) (x : Connect) (s : State) 
     IsMild (request x) (routed way.Right (request x) s (route_in k way.Right b (request x))).told.finding → A
 cr_broke k b x s none = grind arith
 
--- a CC of left
-cc_here : {A : Type 0} (n : ℕ) (x : Connect) (s : State) (i : ℕ) (o : Option Connection) → slice_get s.connections i ≡ o →
-    s.course.loose ≡ false → AreJudged s → IsMild (confirm n x) (at_found way.Left (confirm n x) s i o).told.finding → A
-cc_here n x s i o e firm judged none = grind arith
-
 cc_any : {A : Type 0} (n : ℕ) (x : Connect) (s : State) (o : Option ℕ) → s.course.loose ≡ false → AreJudged s →
     IsMild (confirm n x) (at_place way.Left (confirm n x) s o).told.finding → A
-cc_any n x s o firm judged none = grind (arith, cc_here)
+cc_any n x s o firm judged none = grind arith
 
 pub cc_broke : {A : Type 0} (k : Option Class) (b : Bool) (n : ℕ) (x : Connect) (s : State) → s.course.loose ≡ false → AreJudged s →
     IsMild (confirm n x) (routed way.Left (confirm n x) s (route_in k way.Left b (confirm n x))).told.finding → A
@@ -109,48 +100,26 @@ zero_ends : {A : Type 0} (k : Option Class) (d : Way) (b : Bool) (end : Bool) (u
     (k ≡ Some Zero → ⊥) → ((routed d (data0 end user) s (route_in k d b (data0 end user))).told.reach ≡ reach.Everything → ⊥) → A
 zero_ends k d b end user s is two on = grind (arith, unexpected_ends)
 
-cr_ends : {A : Type 0} (k : Option Class) (b : Bool) (x : Connect) (s : State) → class_for way.Right s.course ≡ k →
-    (k ≡ Some Zero → ⊥) → ((routed way.Right (request x) s (route_in k way.Right b (request x))).told.reach ≡ reach.Everything → ⊥) → A
-cr_ends k b x s is two on = grind (arith, unexpected_ends)
-
-goes_far : (b : Bool) (d : Way) (v : Value) (s : State) (r : Route) → b ≡ false →
-    ((if b then none_told d NotJudged s else routed d v s r).told.reach ≡ reach.Everything → ⊥) →
-    (routed d v s r).told.reach ≡ reach.Everything → ⊥
-goes_far b d v s r h on is = grind arith
-
 -- a DT of class 0 ends it outside class 0
 pub no_zero : {A : Type 0} (d : Way) (end : Bool) (user : List ℕ) (s : State) → is_stopped d s.course ≡ false →
     (class_for d s.course ≡ Some Zero → ⊥) → ((takes d (data0 end user) s).told.reach ≡ reach.Everything → ⊥) → A
-no_zero d end user s goes two on = grind (arith, zero_ends, goes_far)
+no_zero d end user s goes two on = grind (arith, zero_ends)
 
 -- and so does a CR of right
 pub no_request : {A : Type 0} (x : Connect) (s : State) → is_stopped way.Right s.course ≡ false →
     (class_for way.Right s.course ≡ Some Zero → ⊥) → ((takes way.Right (request x) s).told.reach ≡ reach.Everything → ⊥) → A
-no_request x s goes two on = grind (arith, cr_ends, goes_far)
+no_request x s goes two on = grind arith
 
 -- a CC of left has no effect
 pub cc_idle : (s : State) (n : ℕ) (x : Connect) (c : Connection) → is_applied (found_on way.Left s c (confirm n x)) ≡ false
 cc_idle s n x c = grind arith
 
-cc_found : {A : Type 0} (n : ℕ) (x : Connect) (s : State) (i : ℕ) (o : Option Connection) →
-    is_applied (at_found way.Left (confirm n x) s i o).told.finding ≡ true → A
-cc_found n x s i o h = grind (arith, never_unnamed, differ, cc_idle)
-
 cc_placed : {A : Type 0} (n : ℕ) (x : Connect) (s : State) (o : Option ℕ) →
     is_applied (at_place way.Left (confirm n x) s o).told.finding ≡ true → A
-cc_placed n x s o h = grind (arith, never_unnamed, cc_found)
-
-cc_routed : {A : Type 0} (k : Option Class) (b : Bool) (n : ℕ) (x : Connect) (s : State) →
-    is_applied (routed way.Left (confirm n x) s (route_in k way.Left b (confirm n x))).told.finding ≡ true → A
-cc_routed k b n x s h = grind (arith, cc_placed)
-
-cc_goes : {A : Type 0} (b : Bool) (n : ℕ) (x : Connect) (s : State) (r : Route) →
-    (is_applied (routed way.Left (confirm n x) s r).told.finding ≡ true → A) →
-    is_applied (if b then none_told way.Left NotJudged s else routed way.Left (confirm n x) s r).told.finding ≡ true → A
-cc_goes b n x s r f h = grind arith
+cc_placed n x s o h = grind (arith, never_unnamed)
 
 pub cc_unapplied : {A : Type 0} (n : ℕ) (x : Connect) (s : State) → is_applied (takes way.Left (confirm n x) s).told.finding ≡ true → A
-cc_unapplied n x s h = grind (arith, cc_goes, cc_routed)
+cc_unapplied n x s h = grind arith
 
 -- a unit that has its effect ends no judging
 applied_reach : (k : Option Class) (f : Finding) → is_applied f ≡ true → reach_of k f ≡ reach.Nothing
@@ -170,18 +139,13 @@ IsReady Right deeds known (confirm n x) rest s t =
     (deeds x.source).put ≡ waiting_for (Some j.calling) rest) × (parts_in (deeds x.source).calls ≡ []) × known x.source []
 IsReady d deeds known v rest s t = Unit {0}
 
--- a DT or an AK of the end that is no break is right, if its connection is judged
-judged_kept : (j : Bool) (f : Finding) → j ≡ true → IsClear f → IsNoBreak (if j then f else NotJudged) →
-    is_applied (if j then f else NotJudged) ≡ true
-judged_kept j f h clear none = grind (arith, kept_of)
-
 dt_kept : (d : Way) (n number : ℕ) (end : Bool) (user : List ℕ) (s : State) (c : Connection) → c.is_judged ≡ true →
     IsNoBreak (found_on d s c (data2 n number end user)) → is_applied (found_on d s c (data2 n number end user)) ≡ true
-dt_kept d n number end user s c judged none = grind (arith, judged_kept, found_two)
+dt_kept d n number end user s c judged none = grind (arith, found_two)
 
 ak_kept : (d : Way) (credit n number : ℕ) (s : State) (c : Connection) → c.is_judged ≡ true →
     IsNoBreak (found_on d s c (acknowledge credit n number)) → is_applied (found_on d s c (acknowledge credit n number)) ≡ true
-ak_kept d credit n number s c judged none = grind (arith, judged_kept, found_ack)
+ak_kept d credit n number s c judged none = grind arith
 
 -- all judging ends with no DT or AK
 abbrev pub LinksGoOn : Direction → Value → State → Type 0
@@ -271,10 +235,6 @@ AllGoesOn (acknowledge credit n number) d s =
     (takes (way_of (other d)) (acknowledge credit n number) s).told.reach ≡ reach.Everything → ⊥
 AllGoesOn v d s = Unit {0}
 
-pub all_goes : (v : Value) (d : Direction) (s : State) → ((takes (way_of (other d)) v s).told.reach ≡ reach.Everything → ⊥) →
-    AllGoesOn v d s
-all_goes v d s on = grind arith
-
 module _ (deeds : ℕ → Deeds) (known then_known : Known) (at : ℕ) (put : List Value) (b : Bool) (s : State) (t : Sessions) where
   abbrev pub OtherGoes : Direction → Value → Type 0
   OtherGoes d v = is_stopped (way_of (other d)) s.course ≡ false → (class_for (way_of (other d)) s.course ≡ Some Zero → ⊥) →
@@ -288,7 +248,7 @@ module _ (deeds : ℕ → Deeds) (known then_known : Known) (at : ℕ) (put : Li
   other_goes d (disconnect n source reason user) goes two on heard a = grind (arith, other_close)
   other_goes d (disconnected n source) goes two on heard a = grind (arith, other_close)
   other_goes d (error n cause) goes two on heard a = grind (arith, other_close)
-  other_goes Right (request x) goes two on heard a = other_cr deeds known then_known at x put b s t heard
+  other_goes Right (request x) goes two on heard a = search (arith, stands_other_none, like_same, other_plain, unnamed, rests_on)
   other_goes Left (request x) goes two on heard a = no_request x s goes two on
   other_goes Left (confirm n x) goes two on heard a = other_cc deeds known then_known at n x put b s t heard.0 heard.1
   other_goes Right (confirm n x) goes two on heard a = grind (arith, other_close_if, cc_idle)
@@ -327,20 +287,14 @@ mild_loses d v s t mild p c j place there here one judged far = absurd (mild_sta
 module _ (d : Direction) (known then_known : Known) (put : List Value) (s : State) (t : Sessions) (firm : s.course.loose ≡ false)
     (judged : AreJudged s) (goes : is_stopped (way_of (other d)) s.course ≡ false)
     (two : class_for (way_of (other d)) s.course ≡ Some Zero → ⊥) where
-  dt_right : (n number : ℕ) (end : Bool) (user : List ℕ) →
-      IsMild (data2 n number end user) (takes (way_of (other d)) (data2 n number end user) s).told.finding →
-      is_applied (takes (way_of (other d)) (data2 n number end user) s).told.finding ≡ true
-  dt_right n number end user mild =
-      grind (arith, applied_of, dt_clear (way_of (other d)) (data2 n number end user) end s refl goes firm judged)
-
   heard_firm : (v : Value) → IsMild v (takes (way_of (other d)) v s).told.finding → IsHeardFirm d known then_known v put s t →
       IsHeard d known then_known v put s t
-  heard_firm v mild h = grind (arith, differ, dt_right)
+  heard_firm v mild h = search (arith, differ)
 
   -- all judging goes on with those of which that is asked
   pub firm_goes : (v : Value) → IsMild v (takes (way_of (other d)) v s).told.finding → AllGoesOn v d s
   firm_goes (data2 n number end user) mild =
-      applied_goes (way_of (other d)) (data2 n number end user) s reach.Everything (dt_right n number end user mild) (λ e. cc e)
+      applied_goes (way_of (other d)) (data2 n number end user) s reach.Everything (grind (arith, applied_of, dt_clear)) (λ e. cc e)
   firm_goes (data0 end user) mild = grind (arith, zero_broke, goes_on)
   firm_goes (request x) mild = grind (arith, cr_broke, goes_on)
   firm_goes (confirm n x) mild = grind (arith, cc_broke, goes_on)

@@ -60,14 +60,11 @@ pub record KeepsThroughout (d : Direction) (local : Local) (Inv : (ℕ → Deeds
 
 -- ---- while each connection is judged
 
-firm_goes : (e : Direction) (c : Passed) → IsFirm c.traffic.course → is_stopped (way_of e) c.traffic.course ≡ false
-firm_goes e c h = grind arith
-
 firm_lasts : (c : Passed) → IsFirm c.traffic.course → (c.traffic.course.class ≡ Some Zero → ⊥) → IsOngoing c.traffic.course
 firm_lasts c h not = record { sure = record { left = h.left; right = h.right }; two = not }
 
 taken_one : (d : Direction) (v : Value) (c : Passed) → IsPassed Zero d v c → IsTakenOn d v c
-taken_one d v c h = search (arith, firm_goes, firm_lasts, mild_reach, takes_reach)
+taken_one d v c h = search (arith, firm_lasts, mild_reach, takes_reach)
 
 taken_all : (d : Direction) (at : ℕ) (vs : List Value) (c : Passed) → ArePassed Zero d at vs c → AreTakenOn d at vs c
 taken_all d at [] c h = tt

@@ -132,16 +132,8 @@ unsaid_begun : (d e : Direction) (j : Joined) → IsUnsaid (spoken d j) → IsUn
     (packet_begins e j))
 unsaid_begun d e j h o = grind arith
 
-other_unsaid_begun : (d e : Direction) (j : Joined) → IsUnsaid (spoken d j) → IsUnsaid (spoken (other d) j) →
-    IsUnsaid (spoken (other d) (packet_begins e j))
-other_unsaid_begun d e j h o = grind (arith, unsaid_begun)
-
 room_begun : (e : Direction) (j : Joined) → (packet_begins e j).room ≡ j.room
 room_begun e j = grind arith
-
-is_open_begun : (d e : Direction) (c : Connection) (b : Bool) → is_open (own (way_of d) c).phase ≡ b →
-    is_open (own (way_of d) (begins (way_of e) c)).phase ≡ b
-is_open_begun d e c b h = ap is_open (open_begun d e c) ∙ h
 
 -- ---- a packet of the end begins
 
@@ -173,24 +165,23 @@ pub stands_begins : (d : Direction) (deeds : ℕ → Deeds) (known : Known) (put
     ((r : ℕ) → Course (calls_from d) r (deeds r) e) → length (heard (spoken (other d) j)) < 2 ^ 64 → Stands d deeds known put false c j →
     Stands d deeds known put true (begins (way_of d) c) (packet_begins d j)
 stands_begins d deeds known put e c j courses few (unnamed none mine theirs room) =
-    unnamed (named_begun d d j ∙ none) (unsaid_begun d d j mine theirs) (other_unsaid_begun d d j mine theirs) (room_begun d j ∙ room)
+    unnamed (named_begun d d j ∙ none) (unsaid_begun d d j mine theirs) (grind (arith, unsaid_begun)) (room_begun d j ∙ room)
 stands_begins d deeds known put e c j courses few (lives r o is live later sure h) =
-    lives r o (named_begun (other d) d j ∙ is) (is_open_begun d d c true live) later sure
+    lives r o (named_begun (other d) d j ∙ is) (grind (arith, open_begun)) later sure
     (begins_now d r (deeds r) later o e j (courses r) few put h)
 stands_begins d deeds known put e c j courses few (past r closed waiting later sure h) =
-    past r (is_open_begun d d c false closed) waiting later sure (own_begins d r (deeds r) waiting later j h)
+    past r (grind (arith, open_begun)) waiting later sure (own_begins d r (deeds r) waiting later j h)
 
 -- ---- a packet of the other side begins
 
 pub stands_other_begins : (d : Direction) (deeds : ℕ → Deeds) (known : Known) (put : List Value) (b : Bool) (c : Connection) (j : Joined) →
     Stands d deeds known put b c j → Stands d deeds known put b (begins (way_of (other d)) c) (packet_begins (other d) j)
-stands_other_begins d deeds known put b c j (unnamed none mine theirs room) =
-    grind (arith, named_begun, unsaid_begun, other_unsaid_begun, room_begun)
+stands_other_begins d deeds known put b c j (unnamed none mine theirs room) = grind (arith, named_begun, unsaid_begun, room_begun)
 stands_other_begins d deeds known put b c j (lives r o is live later sure h) =
-    lives r o (named_begun (other d) (other d) j ∙ is) (is_open_begun d (other d) c true live) later sure
+    lives r o (named_begun (other d) (other d) j ∙ is) (grind (arith, open_begun)) later sure
     (other_begins d r (deeds r) (waiting_for o put) later (is_next o b put) j h)
 stands_other_begins d deeds known put b c j (past r closed waiting later sure h) =
-    past r (is_open_begun d (other d) c false closed) waiting later sure (other_begins d r (deeds r) waiting later false j h)
+    past r (grind (arith, open_begun)) waiting later sure (other_begins d r (deeds r) waiting later false j h)
 
 -- ---- a unit of the end passes
 
@@ -246,16 +237,13 @@ module _ (d : Direction) (deeds : ℕ → Deeds) (known : Known) (v : Value) (re
   lives_or_past false r o later sure is e h =
       past r e (waiting_for o rest) later sure (like_shown d r (deeds r) (waiting_for o rest) later false j k like h)
 
-  closed_still : (b : Bool) → is_open (own (way_of d) after).phase ≡ b → is_open (own (way_of d) c).phase ≡ false → b ≡ false
-  closed_still b e h = grind (arith, differ)
-
   pub stands_none : (b : Bool) → Stands d deeds known (v ∷ rest) b c j → Stands d deeds known rest false after k
   stands_none b (unnamed is mine theirs room) = grind (arith, like_unsaid)
   stands_none b (lives r o is live later sure h) =
       lives_or_past (is_open (own (way_of d) after).phase) r o later sure is refl
       (waits_by (is_for o v) r o later (is_next o b (v ∷ rest)) refl h)
   stands_none b (past r closed waiting later sure h) =
-      past r (closed_still (is_open (own (way_of d) after).phase) refl closed) waiting later sure
+      past r (grind (arith, differ)) waiting later sure
       (like_shown d r (deeds r) waiting later false j k like h)
 
 -- ---- a unit of the other side passes here
@@ -298,9 +286,6 @@ pub record Takes (more : Deeds) (later : List Part) (known : List Part → Type 
   pub first : later ≡ parts_in more.calls ++ rest
   pub sure : known rest
 
-next_same : (o : Option ℕ) (b : Bool) (put units : List Value) → (b ≡ true → put ≡ [] → ⊥) → is_next o b (put ++ units) ≡ is_next o b put
-next_same o b put units some = grind arith
-
 -- what it puts at a connection that it has not closed waits there
 pub stands_turns : (d : Direction) (deeds more : ℕ → Deeds) (known then_known : Known) (put units : List Value) (b : Bool) (c : Connection)
     (j : Joined) → (b ≡ true → put ≡ [] → ⊥) →
@@ -316,7 +301,7 @@ stands_turns d deeds more known then_known put units b c j some puts takes (live
     ∙ sym (picked_join (is_for o) put units) in
     lives r o is live t.rest t.sure
     (subst (λ (x : Bool). IsShownNow d r (then_did (deeds r) (more r)) (waiting_for o (put ++ units)) t.rest x j)
-    (sym (next_same o b put units some))
+    (sym (grind arith))
     (with_waiting d r (then_did (deeds r) (more r)) (waiting_for o put ++ (more r).put) (waiting_for o (put ++ units)) t.rest
     (is_next o b put) j added (end_turns d r (deeds r) (waiting_for o put) later (more r) t.rest (is_next o b put) j t.first h)))
 stands_turns d deeds more known then_known put units b c j some puts takes (past r closed waiting later sure h) =

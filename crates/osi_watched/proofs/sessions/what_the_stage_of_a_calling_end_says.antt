@@ -2,13 +2,11 @@
 -- in class 0, and what has come for a connection that may still open.
 -- For the session of the connection of an end in class 0.
 use Rattle.std.proofs.Common.{arith}
-use Rattle.osi_watched.proofs.Vocabulary.{[], ap, Bool, if◌then◌else◌, is_some, length, List, None, Option, refl, Some, subst, sym}
-use Rattle.osi_watched.proofs.Vocabulary.{true, ℕ, ◌==◌, ◌∙◌, ◌∷◌, ◌≡◌, eqb-true, AllByRecursion, confirm, Connect, data0, request, Value}
-use Rattle.osi_watched.proofs.Vocabulary.{Standing, Class, Two, Zero, Local, value_at, Live, linked, EndReason, has_given, Traffic as State}
-use Rattle.osi_watched.proofs.Vocabulary.{takes, Connection, Offer, early, past, stage_at, stage_is, IsOver, one, answered, Calling, known}
-use Rattle.osi_watched.proofs.Vocabulary.{quiet, refused, begun_by, anyhow, IsInZero, zero_puts, PutsData, HoldsOfEach, calm_tap}
-use Rattle.osi_watched.proofs.Vocabulary.{done_takes, GoesOn, IsDone, Waits, Whole}
-use Rattle.osi_carrier.specs.State.{asked}
+use Rattle.osi_watched.proofs.Vocabulary.{[], ap, Bool, length, List, None, Option, refl, Some, subst, sym, true, ℕ, ◌∙◌, ◌∷◌, ◌≡◌}
+use Rattle.osi_watched.proofs.Vocabulary.{eqb-true, AllByRecursion, confirm, Connect, data0, request, Value, Class, Two, Zero, Local}
+use Rattle.osi_watched.proofs.Vocabulary.{has_given, Traffic as State, takes, Connection, Offer, early, past, stage_at, stage_is, IsOver}
+use Rattle.osi_watched.proofs.Vocabulary.{one, answered, Calling, known, quiet, refused, begun_by, anyhow, IsInZero, zero_puts, PutsData}
+use Rattle.osi_watched.proofs.Vocabulary.{calm_tap, done_takes, GoesOn, Waits, Whole}
 use Rattle.osi_rules.specs.declared.directions.Direction.TheVariants.{Right}
 use Rattle.osi_fair.proofs.how_requests_go_on.{Stage, asks, ended, waits, zero}
 use Rattle.osi_watched.proofs.small_facts_that_many_lemmas_use.{none_some}
@@ -82,18 +80,13 @@ module _ (local : Local) (w : Whole) where
 
   -- ---- a CC comes
 
-  no_cc : {A : Type 0} (n : ℕ) (x : Connect) (cs : List Connection) (strays : Bool) → w.tap ≡ calm_tap cs strays → HoldsOfEach IsDone cs →
-      GoesOn (takes Right (confirm n x) w.tap).state → A
-  no_cc n x cs strays tap done goes = grind (arith, done_takes)
-
   pub cc_comes : (n : ℕ) (x : Connect) → Stage local w → w.tap.course.class ≡ None → GoesOn (takes Right (confirm n x) w.tap).state →
       (w.put ≡ []) × AwaitsAnswer local w
   cc_comes n x (ended none h) class goes = (none, gone h)
-  cc_comes n x (quiet is none not_begun cs strays tap done dcs) class goes = no_cc n x cs strays tap done goes
-  cc_comes n x (asks y put is offers cs strays tap done dcs all) class goes = no_cc n x cs strays tap done goes
+  cc_comes n x (quiet is none not_begun cs strays tap done dcs) class goes = grind (arith, done_takes)
+  cc_comes n x (asks y put is offers cs strays tap done dcs all) class goes = grind (arith, done_takes)
   cc_comes n x (waits r is none not_begun cs strays tap p o offers waiting dcs) class goes = (none, awaits r p o cs strays is tap waiting)
-  cc_comes n x (refused r is none not_begun cs strays tap done dcs u more coming are refusal too) class goes =
-      no_cc n x cs strays tap done goes
+  cc_comes n x (refused r is none not_begun cs strays tap done dcs u more coming are refusal too) class goes = grind (arith, done_takes)
   cc_comes n x (answered r is none not_begun dcs m y more coming are k has after so z) class goes = grind (arith, none_some)
   cc_comes n x (zero has z) class goes = none_some w.tap.course.class Zero class z.tap.class
   cc_comes n x (known two seen has) class goes = none_some w.tap.course.class Two class two
@@ -113,22 +106,12 @@ module _ (local : Local) (w : Whole) where
   -- ---- a connection that may still open
 
   module _ (r : ℕ) (lasts : w.end.ended ≡ None) (given : has_given r w.end ≡ true) (may : stage_at r w.end ≡ early) where
-    row_early : {A : Type 0} (o : Option Live) → value_at r w.end.live ≡ o → (o ≡ Some asked → A) → A
-    row_early h e f = grind (arith, stage_is)
-
-    not_linked : {A : Type 0} (q peer : ℕ) (link : Standing) (b : Bool) → (q == r) ≡ b →
-        (if◌then◌else◌ {A = Option Live} b (Some (linked peer link)) None) ≡ Some asked → A
-    not_linked q peer link h e h2 = grind arith
-
-    over_not : {A : Type 0} (o : Option EndReason) → is_some o ≡ true → o ≡ None → A
-    over_not h h2 e = grind arith
-
     zero_early : {A : Type 0} (limit begun : ℕ) (units : List Value) → IsInZero limit w.end begun units → A
-    zero_early limit begun units h = grind (arith, row_early, not_linked, over_not)
+    zero_early limit begun units h = grind arith
 
     -- its CC has come, if class 0 is selected
     pub cc_waits : Stage local w → w.tap.course.class ≡ Some Zero → HasCc w.coming
-    cc_waits h class = grind (arith, over_not, none_some, calm_class, zero_early, class_not, zero_two)
+    cc_waits h class = grind (arith, none_some, calm_class, zero_early, class_not, zero_two)
 
   -- an end with one CR has no other connection under way
   pub one_early : (q r : ℕ) → Calling local (one r) w.end → has_given q w.end ≡ true → (q ≡ r → ⊥) → stage_at q w.end ≡ past

@@ -23,7 +23,6 @@ use Rattle.osi_watched.proofs.sessions.units_written_alike_have_the_same_ccs.{Ar
 use Rattle.osi_watched.proofs.sessions.what_a_turn_puts_goes_to_its_peer.{GoesTo, IsNotZero, Lived, by_units, came, for_so, goes_to}
 use Rattle.osi_watched.proofs.sessions.what_a_turn_puts_goes_to_its_peer.{linked_so, none_for, none_shut, one_of, whole_lasts}
 use Rattle.osi_watched.proofs.sessions.what_a_turn_puts_waits.{Agree, marks_wait}
-use Rattle.osi_watched.proofs.sessions.what_an_end_takes_at_a_connection.{same_for}
 use Rattle.osi_watched.proofs.sessions.what_stands_of_a_connection.{is_for, waiting_for}
 
 -- ---- small facts
@@ -64,18 +63,11 @@ module _ (local : Local) (deeds : ℕ → Deeds) (turn : Turn) (old new : Joint)
   put_is : new.put ≡ old.put ++ all_units on.put
   put_is = step.put ∙ ap (λ (l : List Value). old.put ++ l) units
 
-  places_f : HaveSamePlaces f.whole.tap.connections t.live
-  places_f = subst (λ (x : State). HaveSamePlaces x.connections t.live) (sym f.tap) places
-
   tap_g : g.whole.tap ≡ s
   tap_g = g.tap ∙ ap (λ (c : Course). c.traffic) step.course
 
   places_g : HaveSamePlaces g.whole.tap.connections t.live
   places_g = subst (λ (x : State). HaveSamePlaces x.connections t.live) (sym tap_g) places
-
-  -- those that waited, and those of the turn
-  has_old : (n r : ℕ) → HasCc n r f.whole.put → HasCc n r new.put
-  has_old n r h = grind (arith, put_is, has_front, has_alike)
 
   has_turn : (n r : ℕ) → HasCc n r (all_units on.put) → HasCc n r new.put
   has_turn n r h = subst (HasCc n r) (sym put_is) (has_back n r old.put (all_units on.put) h)
@@ -91,12 +83,12 @@ module _ (local : Local) (deeds : ℕ → Deeds) (turn : Turn) (old new : Joint)
   open_named : carrier.ended ≡ None → (q : ℕ) → 0 < q → (l : LivedSo q) →
       Begins false q l.peer carrier new.holding.end.carrier l.arrived l.left → AreApart q on.put ⊎ IsNamed q l.peer
   open_named lasts q positive l (opened link there none none_left) =
-      by (open_there local f.whole t before.called before.apart before.named places_f
+      by (open_there local f.whole t before.called before.apart before.named (grind arith)
       (whole_lasts Right false (begin false local) deeds turn old new step on f lasts) q l.peer link
       (linked_so Right false (begin false local) deeds turn old new step on f lasts q l.peer link there))
     where
       by : HasCc l.peer q f.whole.put ⊎ HasHome Right q l.peer f.whole.tap t → AreApart q on.put ⊎ IsNamed q l.peer
-      by (inl h) = inr (inl (has_old l.peer q h))
+      by (inl h) = inr (inl (grind (arith, put_is, has_front, has_alike)))
       by (inr h) = inr (inr (subst (λ (x : State). HasHome Right q l.peer x t) f.tap h))
   open_named lasts q positive l (opens shut unit opening front is others answer gives put) = by unit opening gives is
     where
@@ -143,7 +135,7 @@ module _ (local : Local) (deeds : ℕ → Deeds) (turn : Turn) (old new : Joint)
           let same : l.peer ≡ n =
           same_source local g.whole t after.called after.apart after.named places_g l.peer n r (has_whole l.peer r h)
           (has_whole n r has) in
-          ap (λ (i : ℕ). is_for (Some i) m.1) (sym same) ∙ sym (same_for l.peer m.1)
+          ap (λ (i : ℕ). is_for (Some i) m.1) (sym same) ∙ sym (grind arith)
           ∙ at (GoesTo r l.peer) (goes_to r on.put l.peer l.left l.gives) e
       forth_by l e (inr (inr h)) = let low = known r l.peer h in absurd (omega (arith, low, above))
 

@@ -1,12 +1,11 @@
 use Rattle.std.proofs.Common.{◌∙◌, ◌≤◌, ◌<◌, sym, subst, length, arith}
-use Rattle.osi_c.specs.TapWatching.{HasNoneBy, HasNoneByEach}
+use Rattle.osi_c.specs.TapWatching.{HasNoneBy}
 use Rattle.osi_c.proofs.each_connection_is_looked_at.{one_more_place, each_place}
 use Rattle.osi_c.proofs.what_is_fetched_of_a_tap.{some_is, none_is}
 use Rattle.osi_c.proofs.tap_watching.due_of_each.Goals as goal
 
 pub returns-then-is_some-clause-none : goal.returns-then-is_some-clause-none
-returns-then-is_some-clause-none c =
-    some_is c.due_by-due.result (HasNoneByEach c.args.tap.now c.args.told.now c.args.joints.now) (sym c.is_some.ensures ∙ c.if-is_some.true)
+returns-then-is_some-clause-none c = grind (arith, some_is)
 
 pub connections-preserved : goal.connections-preserved
 connections-preserved c =

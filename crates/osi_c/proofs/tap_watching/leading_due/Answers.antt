@@ -1,3 +1,4 @@
+use Rattle.std.proofs.Common.{arith}
 use Rattle.std.proofs.Common.{◌≡◌, ◌∙◌, sym, ap, Some, None}
 use Rattle.osi_tap.specs.Standing.{first_in}
 use Rattle.osi_c.specs.Subjects.{leading}
@@ -8,8 +9,7 @@ use Rattle.osi_c.proofs.what_is_fetched_of_a_tap.{no_leading, none_if_leading, b
 use Rattle.osi_c.proofs.tap_watching.leading_due.Goals as goal
 
 pub returns-in-None-clause-none : goal.returns-in-None-clause-none
-returns-in-None-clause-none c =
-    no_leading c.args.tap.now c.args.told.now None (c.in-None.ensures ∙ ap leading c.first.ensures.value) tt
+returns-in-None-clause-none c = grind (arith, no_leading)
 
 pub returns-in-Some-clause-some : goal.returns-in-Some-clause-some
 returns-in-Some-clause-some c =
@@ -22,6 +22,4 @@ returns-in-Some-clause-some c =
     c.due_of.ensures.some
 
 pub returns-in-Some-clause-none : goal.returns-in-Some-clause-none
-returns-in-Some-clause-none c =
-    none_if_leading c.due_of.result c.args.tap.now c.args.told.now c.in-Some.subject (c.in-Some.ensures ∙ ap leading c.first.ensures.value)
-    c.due_of.ensures.none
+returns-in-Some-clause-none c = grind (arith, none_if_leading)

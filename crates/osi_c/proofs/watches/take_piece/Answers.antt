@@ -1,4 +1,4 @@
-use Rattle.std.proofs.Common.{◌≡◌, ◌<◌, ◌-◌, refl, sym, subst, arith, List, ℕ, [], length}
+use Rattle.std.proofs.Common.{◌≡◌, ◌<◌, ◌-◌, refl, sym, subst, arith, List, ℕ, length}
 use Rattle.osi_c.specs.Watched.{room_in}
 use Rattle.osi_c.proofs.a_piece_passes_turn_by_turn.{IsPassing, nothing_passed, more_passed, front_passed, all_passed, no_room, refused}
 use Rattle.osi_c.proofs.a_piece_passes_turn_by_turn.{empty_yes, some_left}
@@ -26,9 +26,7 @@ rest-preserved c =
     c.rest.invariant passed c.in-Ok.ensures.full room)
 
 pub returns : goal.returns
-returns c =
-    let none : c.rest.rest.now ≡ [] = search (empty_yes, c.is_empty.ensures, c.rest-test.false) in
-    all_passed c.args.side c.args.piece.now c.rest.rest.now c.args.watch.now c.rest.watch none c.rest.invariant
+returns c = search (arith, empty_yes, all_passed)
 
 pub rest-init : goal.rest-init
 rest-init c = nothing_passed c.args.side c.args.piece.now c.args.watch.now

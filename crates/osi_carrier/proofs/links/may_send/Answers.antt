@@ -9,8 +9,7 @@ returns c =
     let s = any_standing c.args.link.now in
     let octets = c.in-Some.octets in
     let value = c.limit.ensures.value in
-    let least = c.limit.ensures.at_least in
-    let limit : 0 < s.ends.limit = omega (arith, value, least) in
+    let limit : 0 < s.ends.limit = omega (arith, value) in
     let product : octets ≡ c.args.units * s.ends.limit = c.in-Some.ensures.1 ∙ ap (λ (n : ℕ). c.args.units * n) value in
     let tsdu = replicate octets 0 in
     let size : length tsdu ≡ octets = length-replicate octets 0 in
@@ -20,6 +19,5 @@ returns c =
           all_may_go s tsdu c.args.units tsdus limit c.requires.quiet c.requires.some (size ∙ product)
           (sym given ∙ eqb-true c.room_for-room.result.octets octets e ∙ product) units;
       all = λ tsdus units go few.
-          eq-eqb c.room_for-room.result.octets octets
-          (given ∙ given_whole s tsdu c.args.units tsdus limit c.requires.some (size ∙ product) units go ∙ size);
+          grind (arith, eq-eqb, given_whole s tsdu c.args.units tsdus limit c.requires.some (size ∙ product) units go);
     }

@@ -1,4 +1,4 @@
-use Rattle.std.proofs.Common.{◌∙◌, ◌<◌, ℕ, ap, arith, subst, sym, IsSome}
+use Rattle.std.proofs.Common.{◌∙◌, ◌<◌, ℕ, ap, arith}
 use Rattle.osi_class.specs.Giving.{units_needed}
 use Rattle.osi_carrier.proofs.Vocabulary.{any_standing}
 use Rattle.osi_carrier.proofs.written.whether_all_tsdus_may_go_now.{counts_fit, exact_room, go_of_all, room_of_all, some_room}
@@ -10,8 +10,7 @@ returns c =
     let s = any_standing c.args.link.now in
     let tsdus = tsdus_in c.args.pieces.now in
     let value = c.limit.ensures.value in
-    let least = c.limit.ensures.at_least in
-    let limit : 0 < s.ends.limit = omega (arith, value, least) in
+    let limit : 0 < s.ends.limit = omega (arith, value) in
     let count = c.in_ok-room.ensures.units ∙ ap (λ (n : ℕ). units_needed n tsdus) value in
     let go = c.may_send.ensures.go c.if-not-may_send.false tsdus count in
     record {
@@ -26,11 +25,4 @@ returns c =
     }
 
 pub returns-in_err-room-clause-some : goal.returns-in_err-room-clause-some
-returns-in_err-room-clause-some c = λ all few fits.
-    let s = any_standing c.args.link.now in
-    let tsdus = tsdus_in c.args.pieces.now in
-    let both = counts_fit s.ends.limit tsdus fits in
-    let units = both.0 in
-    let same = ap (λ (n : ℕ). units_needed n tsdus) c.limit.ensures.value in
-    let none = subst IsSome c.in_err-room.was (c.room.ensures.fits (omega (arith, units, same)) both.1) in
-    subst IsSome (sym c.from_residual.ensures) none
+returns-in_err-room-clause-some c = grind (arith, counts_fit)

@@ -1,5 +1,5 @@
 use Rattle.std.proofs.Common.{◌<◌, ◌≤◌, length, map, ap, sym, subst, ◌∙◌, arith}
-use Rattle.osi_carrier.proofs.Vocabulary.{any_standing, all_given, Drained, Standing, unit_of, with_tsdus, written_by, packets}
+use Rattle.osi_carrier.proofs.Vocabulary.{any_standing, all_given, Standing, with_tsdus, written_by, packets}
 use Rattle.osi_carrier.proofs.written.all_that_a_link_gives.{packets_most}
 use Rattle.osi_carrier.proofs.links.send_all_on.Goals as goal
 
@@ -7,20 +7,15 @@ pub write_all-requires-clause-room : goal.write_all-requires-clause-room
 write_all-requires-clause-room c =
     let tsdus = map (λ v. v.items) c.as_slice-lent.result.now in
     let then = with_tsdus (any_standing c.args.link.now) tsdus in
-    let least = c.room_for_all.ensures.at_least in
     let limit : 0 < then.ends.limit = omega arith in
     let most = c.what_units_take.ensures 9 then limit in
-    let room = c.in-Some.ensures.value c.requires in
     let spare = c.in_ok-reserve.ensures.spare.1 in
     let units = packets_most c.args.peer (all_given then) in
-    let all = ap (λ (d : Drained). length (packets (map (unit_of c.args.peer) d.units)))
-    (c.many_go_as_one_by_one.ensures.given (any_standing c.args.link.now) tsdus limit c.requires) in
-    omega arith
+    grind (arith, c.many_go_as_one_by_one.ensures.given (any_standing c.args.link.now) tsdus limit c.requires)
 
 pub unreachable-requires : goal.unreachable-requires
 unreachable-requires c =
     let then = with_tsdus (any_standing c.args.link.now) (map (λ v. v.items) c.as_slice-lent.result.now) in
-    let least = c.room_for_all.ensures.at_least in
     let limit : 0 < then.ends.limit = omega arith in
     let most = c.what_units_take.ensures 9 then limit in
     let room = c.in-Some.ensures.value c.requires in

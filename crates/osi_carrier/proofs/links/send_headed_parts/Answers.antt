@@ -1,4 +1,4 @@
-use Rattle.std.proofs.Common.{◌<◌, ◌++◌, arith, length, length-append}
+use Rattle.std.proofs.Common.{◌++◌, arith, length, length-append}
 use Rattle.osi_carrier.proofs.Vocabulary.{any_standing, all_given, with_tsdu}
 use Rattle.osi_carrier.proofs.written.a_tsdu_part_after_part.{part_goes}
 use Rattle.osi_carrier.proofs.written.all_that_a_link_gives.{packets_most}
@@ -9,17 +9,8 @@ write_keeping-requires-clause-room c =
     let tsdu = c.args.head.now ++ c.args.body.now in
     let long = length-append c.args.head.now c.args.body.now in
     let then = with_tsdu (any_standing c.args.link.now) tsdu in
-    let units = c.room_for-room.ensures.units tsdu long c.requires.quiet in
-    let octets = c.room_for-room.ensures.octets tsdu long c.requires.quiet in
     let room = c.in_ok-reserve.ensures.spare.1 in
-    let most = packets_most c.args.peer (all_given then) in
-    omega arith
+    grind (arith, packets_most c.args.peer (all_given then))
 
 pub write_keeping-requires-clause-alone : goal.write_keeping-requires-clause-alone
-write_keeping-requires-clause-alone c =
-    let tsdu = c.args.head.now ++ c.args.body.now in
-    let long = length-append c.args.head.now c.args.body.now in
-    let then = with_tsdu (any_standing c.args.link.now) tsdu in
-    let units = c.room_for-room.ensures.units tsdu long c.requires.quiet in
-    let some : 0 < length (all_given then) = omega arith in
-    (part_goes (any_standing c.args.link.now) tsdu c.requires.quiet some).alone
+write_keeping-requires-clause-alone c = grind (arith, part_goes, length-append c.args.head.now c.args.body.now)

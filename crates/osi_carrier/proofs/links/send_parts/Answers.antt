@@ -1,4 +1,4 @@
-use Rattle.std.proofs.Common.{◌≡◌, ◌<◌, ◌≤◌, ◌∙◌, ℕ, List, length, refl, ap, sym, subst, arith}
+use Rattle.std.proofs.Common.{◌≡◌, ◌<◌, ◌≤◌, ◌∙◌, ℕ, List, length, ap, sym, subst, arith}
 use Rattle.osi_carrier.proofs.Vocabulary.{any_standing, all_given, octets_in, pumped, Standing, with_tsdu, written_by}
 use Rattle.osi_carrier.proofs.Vocabulary.{packets}
 use Rattle.osi_carrier.proofs.written.a_tsdu_part_after_part.{leaves_nothing, part_goes}
@@ -9,29 +9,19 @@ use Rattle.osi_carrier.proofs.links.send_parts.Goals as goal
 pub write_parts-requires-clause-room : goal.write_parts-requires-clause-room
 write_parts-requires-clause-room c =
     let then = with_tsdu (any_standing c.args.link.now) c.as_slice-octets.result.now in
-    let units = c.room_for-room.ensures.units c.as_slice-octets.result.now refl c.requires in
-    let octets = c.room_for-room.ensures.octets c.as_slice-octets.result.now refl c.requires in
     let room = c.in_ok-reserve.ensures.spare.1 in
-    let most = packets_most c.args.peer (all_given then) in
-    omega arith
+    grind (arith, packets_most c.args.peer (all_given then))
 
 pub write_parts-requires-clause-alone : goal.write_parts-requires-clause-alone
-write_parts-requires-clause-alone c =
-    let then = with_tsdu (any_standing c.args.link.now) c.as_slice-octets.result.now in
-    let units = c.room_for-room.ensures.units c.as_slice-octets.result.now refl c.requires in
-    let some : 0 < length (all_given then) = omega arith in
-    (part_goes (any_standing c.args.link.now) c.as_slice-octets.result.now c.requires some).alone
+write_parts-requires-clause-alone c = grind (arith, part_goes)
 
 pub returns-then-room-gt0-clause-link : goal.returns-then-room-gt0-clause-link
 returns-then-room-gt0-clause-link c =
     let old = any_standing c.args.link.now in
     let tsdu = c.as_slice-octets.result.now in
     let then = with_tsdu old tsdu in
-    let units = c.room_for-room.ensures.units tsdu refl c.requires in
-    let octets = c.room_for-room.ensures.octets tsdu refl c.requires in
     let value = c.limit-limit.ensures.value in
-    let least = c.limit-limit.ensures.at_least in
-    let limit : 0 < old.ends.limit = omega (arith, value, least) in
+    let limit : 0 < old.ends.limit = omega (arith, value) in
     let some : 0 < length (all_given then) = omega arith in
     let all : octets_in (all_given then) ≡ length tsdu = omega arith in
     let none = whole_goes old tsdu limit c.requires (part_goes old tsdu c.requires some).alone some all in
@@ -41,8 +31,6 @@ returns-then-room-gt0-clause-link c =
 pub unreachable-requires : goal.unreachable-requires
 unreachable-requires c =
     let then = with_tsdu (any_standing c.args.link.now) c.as_slice-octets.result.now in
-    let units = c.room_for-room.ensures.units c.as_slice-octets.result.now refl c.requires in
-    let octets = c.room_for-room.ensures.octets c.as_slice-octets.result.now refl c.requires in
     let room = c.in_ok-reserve.ensures.spare.1 in
     let most = packets_most c.args.peer (all_given then) in
     let fits : length (packets (written_by c.args.peer then)) ≤ c.reserve.new.self.spare = omega arith in

@@ -15,8 +15,7 @@ returns c =
     let full = c.in_ok-full.full in
     let n = c.room_for-units.result.units in
     let value = c.limit-limit.ensures.value in
-    let least = c.limit-limit.ensures.at_least in
-    let limit : 0 < s.ends.limit = omega (arith, value, least) in
+    let limit : 0 < s.ends.limit = omega (arith, value) in
     let count : all.units ≡ units_needed s.ends.limit ts = c.in_ok-all.ensures.units ∙ ap (λ (m : ℕ). units_needed m ts) value in
     let size : all.octets ≡ octets_of_tsdus ts = c.in_ok-all.ensures.octets in
     let tsdu : List ℕ = replicate full 0 in
@@ -27,13 +26,11 @@ returns c =
     let needs = c.in_ok-all.ensures.some in
     let sum = c.in_ok-octets.ensures.1 in
     let fits = c.in_ok-octets.ensures.0 in
-    let headers = c.in_ok-headers.ensures.1 in
-    let nines = ap (λ (m : ℕ). m * 9) count in
     let most : c.in_ok-most.most ≡ n * (s.ends.limit + 9) = c.in_ok-most.ensures.1 ∙ ap (λ (m : ℕ). n * (m + 9)) value in
     let part = go_in_part s tsdu ts n limit c.requires.quiet (omega (arith, needs, count)) (long ∙ product) given (omega arith)
     (λ e. omega arith) (omega (arith, size, fits)) in
     record {
       go = part.go;
       enough = λ peer. enough_for_some peer s ts n c.in_ok-octets.octets c.in_ok-most.most c.min.result limit c.requires.quiet part
-          (omega (arith, sum, size, headers, nines)) most c.min.ensures;
+          (omega (arith, sum, size)) most c.min.ensures;
     }

@@ -6,27 +6,17 @@ use Rattle.osi_carrier.proofs.written.tsdus_are_written_straight.{first_room}
 use Rattle.osi_carrier.proofs.links.write_all.Goals as goal
 
 pub tsdus-init : goal.tsdus-init
-tsdus-init c =
-    writing_first c.args.peer (any_standing c.args.link.now) (map (λ v. v.items) c.args.tsdus.now) c.args.out.now.items c.args.out.now.spare
-    c.requires.go c.requires.quiet c.requires.limit c.requires.room
+tsdus-init c = search (arith, writing_first)
 
 pub write_parts-requires-clause-alone : goal.write_parts-requires-clause-alone
 write_parts-requires-clause-alone c = c.tsdus.invariant.go.alone
 
 pub write_parts-requires-clause-room : goal.write_parts-requires-clause-room
 write_parts-requires-clause-room c =
-    let all = map (λ v. v.items) c.args.tsdus.now in
     let first = any_standing c.args.link.now in
     let tsdu = c.deref.result.now in
     let others = map (λ v. v.items) (drop (c.tsdus.tsdu-index + 1) c.args.tsdus.now) in
-    let rest = rest_from (λ v. v.items) c.args.tsdus.now c.tsdus.tsdu-index c.tsdu-item.result tsdu c.tsdus-test.true c.tsdu-item.is
-    c.deref.ensures.value in
-    let writing = subst (λ (r : List (List ℕ)). IsWriting c.args.peer (one_by_one first all)
-    (packets (written_for c.args.peer first all)) c.args.out.now.items
-    (any_standing c.tsdus.link) r c.tsdus.out.items c.tsdus.out.spare) rest c.tsdus.invariant in
-    let room = first_room c.args.peer (any_standing c.tsdus.link) tsdu others in
-    let enough = writing.room in
-    omega arith
+    grind (arith, first_room c.args.peer (any_standing c.tsdus.link) tsdu others, rest_from)
 
 pub tsdus-preserved : goal.tsdus-preserved
 tsdus-preserved c =
@@ -43,8 +33,7 @@ tsdus-preserved c =
     writing_next c.args.peer (one_by_one first all) (packets (written_for c.args.peer first all)) c.args.out.now.items
     (any_standing c.tsdus.link) (any_standing c.write_parts.new.link)
     tsdu others c.tsdus.out.items c.write_parts.new.out.items c.tsdus.out.spare c.write_parts.new.out.spare writing goes
-    (leaves_nothing c.write_parts.result (any_standing c.tsdus.link) (any_standing c.write_parts.new.link) tsdu c.write_parts.ensures.link
-    goes.others.alone)
+    (grind (arith, leaves_nothing))
     c.write_parts.ensures.pumped c.write_parts.ensures.written c.write_parts.ensures.spare
 
 pub returns : goal.returns

@@ -1,7 +1,6 @@
 use Rattle.std.proofs.Common.{◌≡◌, ◌≤◌, ◌+◌, [], ◌∷◌, ◌++◌, length, drop, refl, sym, ap, subst, ◌∙◌, arith}
-use Rattle.osi_class.specs.declared.either.AnyLink.{AnyLink}
 use Rattle.osi_carrier.proofs.Vocabulary.{eqb-true, eqb-false, any_standing, first_in, number_in, octets_of, part_under, Given, unit_of}
-use Rattle.osi_carrier.proofs.Vocabulary.{packets, with_tsdu, next, pumped, GoesAtOnce}
+use Rattle.osi_carrier.proofs.Vocabulary.{packets, with_tsdu, pumped, GoesAtOnce}
 use Rattle.osi_carrier.proofs.written.a_tsdu_part_after_part.{Goes, parting_first, parting_then, parting_last, parting_kept, parting_all}
 use Rattle.osi_carrier.proofs.written.a_tsdu_part_after_part.{leaves_behind, part_room, empty_list, put_length}
 use Rattle.osi_carrier.proofs.written.a_part_in_its_data_unit.{first_cut}
@@ -18,22 +17,12 @@ returns-in_default c =
     let start = parting_first c.args.peer old tsdu kept c.args.out.now.items c.args.out.now.spare goes c.requires.room in
     let all = parting_kept c.args.peer (with_tsdu old tsdu) old (with_tsdu old kept) c.args.out.now.items tsdu kept c.args.out.now.items
     c.args.out.now.spare start never refl in
-    let same = c.in_default.ensures.none in
-    record {
-      link = ap (λ (l : AnyLink). with_tsdu (any_standing l) kept) same ∙ all.whole.link;
-      written = all.whole.written;
-      pumped = ap (λ (l : AnyLink). next (any_standing l)) same ∙ c.requires.quiet;
-      alone = ap (λ (l : AnyLink). (any_standing l).ends.unsent) same ∙ c.requires.alone;
-      spare = omega arith;
-    }
+    grind arith
 
 pub put_part-requires-clause-room : goal.put_part-requires-clause-room
 put_part-requires-clause-room c =
     let tsdu = c.args.head.now ++ c.args.body.now in
     let limit = (any_standing c.args.link.now).ends.limit in
-    let value = c.limit.ensures.value in
-    let least = c.in-Some.ensures.at_least in
-    let short = c.requires.short in
     let cut = first_cut c.in-Some.slot limit c.min-carried.result c.args.head.now c.args.body.now c.split_at.result.0.now
     c.split_at.result.1.now c.is_empty-end.result (omega arith) (omega (arith, c.min-carried.ensures))
     c.split_at.ensures.front c.split_at.ensures.back c.is_empty-end.ensures in
@@ -52,8 +41,6 @@ returns-then-end c =
     let first = with_tsdu old tsdu in
     let then = any_standing c.give_slot.new.self in
     let limit = old.ends.limit in
-    let value = c.limit.ensures.value in
-    let least = c.in-Some.ensures.at_least in
     let short = c.requires.short in
     let cut = first_cut c.in-Some.slot limit c.min-carried.result c.args.head.now c.args.body.now c.split_at.result.0.now
     c.split_at.result.1.now c.is_empty-end.result (omega arith) (omega (arith, c.min-carried.ensures))
@@ -71,41 +58,17 @@ returns-then-end c =
     (packets (unit_of c.args.peer
     (part_under (number_in c.in-Some.slot) c.is_empty-end.result (c.args.head.now ++ c.split_at.result.0.now)) ∷ []))
     c.put_part.ensures.items in
-    let took_room = c.put_part.ensures.spare in
     record {
       link = all.link;
       written = all.written;
       pumped = (c.in-Some.ensures.given tsdu).last;
       alone = c.in-Some.ensures.alone;
-      spare = omega (arith, longer, took_room);
+      spare = omega (arith, longer);
     }
 
 pub write_parts-requires-clause-quiet : goal.write_parts-requires-clause-quiet
 write_parts-requires-clause-quiet c =
-    let old = any_standing c.args.link.now in
-    let tsdu = c.args.head.now ++ c.args.body.now in
-    let kept = left_of old tsdu in
-    let then = any_standing c.give_slot.new.self in
-    let limit = old.ends.limit in
-    let value = c.limit.ensures.value in
-    let least = c.in-Some.ensures.at_least in
-    let short = c.requires.short in
-    let cut = first_cut c.in-Some.slot limit c.min-carried.result c.args.head.now c.args.body.now c.split_at.result.0.now
-    c.split_at.result.1.now c.is_empty-end.result (omega arith) (omega (arith, c.min-carried.ensures))
-    c.split_at.ensures.front c.split_at.ensures.back c.is_empty-end.ensures in
-    let unit = first_in c.in-Some.slot limit tsdu in
-    let put = c.put_part.ensures.items ∙ ap (λ (u : Given). c.args.out.now.items ++ packets (unit_of c.args.peer u ∷ [])) cut.unit in
-    let goes : Goes old tsdu kept = record { quiet = c.requires.quiet; alone = c.requires.alone; left = refl } in
-    let took : c.args.out.now.spare ≤ c.put_part.new.out.spare + length (packets (unit_of c.args.peer unit ∷ [])) =
-    subst (λ (u : Given). c.args.out.now.spare ≤ c.put_part.new.out.spare + length (packets (unit_of c.args.peer u ∷ []))) cut.unit
-    c.put_part.ensures.spare in
-    let something : length c.split_at.result.1.now ≡ 0 →
-    ⊥ = eqb-false (length c.split_at.result.1.now) 0 (sym c.is_empty-end.ensures ∙ c.if-end.false) in
-    let parting = parting_then c.args.peer old then
-    tsdu c.split_at.result.1.now kept c.args.out.now.items c.put_part.new.out.items unit c.args.out.now.spare
-    c.put_part.new.out.spare
-    goes c.requires.room (omega arith) (c.in-Some.ensures.given tsdu) c.in-Some.ensures.alone cut.left put took (omega arith) in
-    parting.goes.quiet
+    grind (arith, first_cut, eqb-false (length c.split_at.result.1.now) 0 (sym c.is_empty-end.ensures ∙ c.if-end.false))
 
 pub write_parts-requires-clause-room : goal.write_parts-requires-clause-room
 write_parts-requires-clause-room c =
@@ -114,8 +77,6 @@ write_parts-requires-clause-room c =
     let kept = left_of old tsdu in
     let then = any_standing c.give_slot.new.self in
     let limit = old.ends.limit in
-    let value = c.limit.ensures.value in
-    let least = c.in-Some.ensures.at_least in
     let short = c.requires.short in
     let cut = first_cut c.in-Some.slot limit c.min-carried.result c.args.head.now c.args.body.now c.split_at.result.0.now
     c.split_at.result.1.now c.is_empty-end.result (omega arith) (omega (arith, c.min-carried.ensures))
@@ -123,9 +84,7 @@ write_parts-requires-clause-room c =
     let unit = first_in c.in-Some.slot limit tsdu in
     let put = c.put_part.ensures.items ∙ ap (λ (u : Given). c.args.out.now.items ++ packets (unit_of c.args.peer u ∷ [])) cut.unit in
     let goes : Goes old tsdu kept = record { quiet = c.requires.quiet; alone = c.requires.alone; left = refl } in
-    let took : c.args.out.now.spare ≤ c.put_part.new.out.spare + length (packets (unit_of c.args.peer unit ∷ [])) =
-    subst (λ (u : Given). c.args.out.now.spare ≤ c.put_part.new.out.spare + length (packets (unit_of c.args.peer u ∷ []))) cut.unit
-    c.put_part.ensures.spare in
+    let took : c.args.out.now.spare ≤ c.put_part.new.out.spare + length (packets (unit_of c.args.peer unit ∷ [])) = grind arith in
     let something : length c.split_at.result.1.now ≡ 0 →
     ⊥ = eqb-false (length c.split_at.result.1.now) 0 (sym c.is_empty-end.ensures ∙ c.if-end.false) in
     let parting = parting_then c.args.peer old then
@@ -142,7 +101,6 @@ returns c =
     let then = any_standing c.give_slot.new.self in
     let limit = old.ends.limit in
     let value = c.limit.ensures.value in
-    let least = c.in-Some.ensures.at_least in
     let short = c.requires.short in
     let cut = first_cut c.in-Some.slot limit c.min-carried.result c.args.head.now c.args.body.now c.split_at.result.0.now
     c.split_at.result.1.now c.is_empty-end.result (omega arith) (omega (arith, c.min-carried.ensures))
@@ -166,13 +124,11 @@ returns c =
     (packets (unit_of c.args.peer
     (part_under (number_in c.in-Some.slot) c.is_empty-end.result (c.args.head.now ++ c.split_at.result.0.now)) ∷ []))
     c.put_part.ensures.items in
-    let took_room = c.put_part.ensures.spare in
-    let more = c.write_parts.ensures.spare in
     record {
       link = leaves_behind c.write_parts.result old then (any_standing c.write_parts.new.link) tsdu rest all.link parting.goes.left
           c.write_parts.ensures.link;
       written = all.written;
       pumped = c.write_parts.ensures.pumped;
       alone = c.write_parts.ensures.alone;
-      spare = omega (arith, longer, took_room, more);
+      spare = omega (arith, longer);
     }

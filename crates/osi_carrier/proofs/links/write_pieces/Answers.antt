@@ -1,5 +1,5 @@
-use Rattle.std.proofs.Common.{◌∙◌, ap}
-use Rattle.osi_carrier.proofs.Vocabulary.{any_standing, next, one_by_one}
+use Rattle.std.proofs.Common.{arith}
+use Rattle.osi_carrier.proofs.Vocabulary.{any_standing, one_by_one}
 use Rattle.osi_carrier.proofs.written.pieces_are_written_straight.{none_kept}
 use Rattle.osi_carrier.proofs.written.some_units_may_go_now.{gives_no_more, none_left}
 use Rattle.osi_carrier.specs.Pieces.{tsdus_in}
@@ -11,17 +11,7 @@ returns c =
     let tsdus = tsdus_in c.args.pieces.now in
     let link = none_kept (any_standing c.write_some.new.link) (one_by_one first tsdus) c.write_some.ensures.alone
     (none_left first tsdus c.requires.limit c.requires.go) c.write_some.ensures.link in
-    record {
-      link = link;
-      written = c.write_some.ensures.written;
-      pumped = ap next link ∙ gives_no_more first tsdus c.requires.limit c.requires.quiet;
-    }
+    grind (arith, gives_no_more)
 
 pub write_some-requires : goal.write_some-requires
-write_some-requires c = record {
-  quiet = c.requires.quiet;
-  alone = c.requires.go.alone;
-  limit = c.requires.limit;
-  fit = c.requires.fit;
-  room = c.requires.room;
-}
+write_some-requires c = grind arith

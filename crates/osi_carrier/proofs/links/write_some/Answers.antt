@@ -1,3 +1,4 @@
+use Rattle.std.proofs.Common.{arith}
 use Rattle.std.proofs.Common.{[], ◌++◌, subst}
 use Rattle.osi_carrier.proofs.Vocabulary.{any_standing, one_by_one, packets, written_for}
 use Rattle.osi_carrier.proofs.written.pieces_are_written_straight.{next_of_several, last_of_all, next_room}
@@ -7,11 +8,7 @@ use Rattle.osi_carrier.specs.Pump.{LeavesRest}
 use Rattle.osi_carrier.proofs.links.write_some.Goals as goal
 
 pub pieces-init : goal.pieces-init
-pieces-init c = (
-  sending_first c.args.peer (any_standing c.args.link.now) (tsdus_in c.args.pieces.now) c.args.out.now.items c.args.out.now.spare
-      c.requires.quiet c.requires.alone c.requires.limit c.requires.room,
-  c.requires.fit.first,
-)
+pieces-init c = search (arith, sending_first)
 
 pub write_headed-requires-clause-room : goal.write_headed-requires-clause-room
 write_headed-requires-clause-room c =

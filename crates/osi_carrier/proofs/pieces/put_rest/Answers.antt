@@ -13,22 +13,15 @@ returns-then-units-eq0 c = λ others.
     ∙ ap (λ (n : ℕ). old ++ left_after n c.args.limit (tsdu ∷ others)) (sym c.if-units-eq0.true)
 
 pub returns-then-parts-units : goal.returns-then-parts-units
-returns-then-parts-units c = λ others.
-    let tsdu = c.args.head.now ++ c.args.piece.now in
-    let least = c.requires.limit in
-    let count = c.count_units-parts.ensures ∙ ap (parts_needed c.args.limit) (sym (length-append c.args.head.now c.args.piece.now)) in
-    copied_none c.args.units c.args.limit c.count_units-parts.result (map (λ v. v.items) c.args.tsdus.now.items) tsdu others
-    (omega (arith, least)) count c.if-parts-units.true
+returns-then-parts-units c = grind (arith, length-append, copied_none)
 
 pub returns : goal.returns
 returns c = λ others.
     let head = c.args.head.now in
     let piece = c.args.piece.now in
-    let least = c.requires.limit in
-    let short = c.requires.short in
     let count = c.count_units-parts.ensures ∙ ap (parts_needed c.args.limit) (sym (length-append head piece)) in
     let some = one_full c.args.units c.args.limit (omega arith) in
     let rest = left_behind head piece c.split_at.result.1.now (c.args.units * c.args.limit) (c.args.units * c.args.limit - length head)
     (omega arith) c.split_at.ensures.back in
     copied_part c.args.units c.args.limit (map (λ v. v.items) c.args.tsdus.now.items) (map (λ v. v.items) c.put_copy-2.new.tsdus.items)
-    (head ++ piece) c.split_at.result.1.now others (omega (arith, least)) (omega arith) rest c.in_ok-put_copy-2.ensures
+    (head ++ piece) c.split_at.result.1.now others (omega arith) (omega arith) rest c.in_ok-put_copy-2.ensures

@@ -1,6 +1,6 @@
+use Rattle.std.proofs.Common.{arith}
 use Rattle.osi_tpdu.specs.declared.unit.Tpdu.TheVariants.{Cr}
 use Rattle.osi_carrier.proofs.writing.put_request.Goals as goal
 
 pub put-requires-clause-fits : goal.put-requires-clause-fits
-put-requires-clause-fits c =
-    record { in_range = c.check_request.ensures; counted = c.written_form.ensures.room (Cr c.args.unit.now) c.requires.few }
+put-requires-clause-fits c = grind (arith, c.written_form.ensures.room (Cr c.args.unit.now) c.requires.few)

@@ -1,3 +1,4 @@
+use Rattle.std.proofs.Common.{arith}
 use Rattle.osi_listing.proofs.a_capture_has_one_listing.{fed_all, one_so_far}
 use Rattle.osi_listing.proofs.laws.the_pieces_do_not_matter.Goals as goal
 
@@ -5,5 +6,4 @@ pub returns-clause-pieces : goal.returns-clause-pieces
 returns-clause-pieces c = λ old new pieces before after h. fed_all old new pieces before after h
 
 pub returns-clause-lines : goal.returns-clause-lines
-returns-clause-lines c = λ octets lines others counts other h k. one_so_far c.a_stream_has_one_cut.ensures.cut octets lines others counts
-    other h k
+returns-clause-lines c = search (arith, one_so_far)

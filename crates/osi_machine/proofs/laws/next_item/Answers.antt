@@ -1,4 +1,4 @@
-use Rattle.osi_machine.specs.Core.{turned}
+use Rattle.std.proofs.Common.{arith}
 use Rattle.osi_machine.proofs.Vocabulary.{Core, IsReached, OfBoth, TakesTheNextItem}
 use Rattle.osi_machine.proofs.invariant.each_step_keeps_one_side.{SessionLaws}
 use Rattle.osi_machine.proofs.each_step_keeps_both_sides.{turned_stands}
@@ -6,8 +6,7 @@ use Rattle.osi_machine.proofs.promises.what_two_users_may_rely_on.{reached_stand
 use Rattle.osi_machine.proofs.laws.next_item.Goals as goal
 
 of_both : SessionLaws → (w : Core) → IsReached w → OfBoth TakesTheNextItem w
-of_both laws w r = let s = reached_stands laws w r in
-    (takes_the_next_item laws w s, takes_the_next_item laws (turned w) (turned_stands w s))
+of_both laws w r = search (arith, reached_stands, takes_the_next_item, turned_stands)
 
 pub returns : goal.returns
 returns c = of_both (assumption)

@@ -1,3 +1,4 @@
+use Rattle.std.proofs.Common.{arith}
 use Rattle.osi_machine.proofs.invariant.each_step_keeps_one_side.{SessionLaws}
 use Rattle.osi_machine.proofs.promises.what_two_users_may_rely_on.{offer_stands}
 use Rattle.osi_machine.proofs.promises.what_a_record_tells.{are_told, told_agree}
@@ -9,6 +10,4 @@ returns-clause-told c o steps serial profile small =
     are_told laws o steps small (offer_stands o serial profile)
 
 pub returns-clause-agreed : goal.returns-clause-agreed
-returns-clause-agreed c o steps serial profile small =
-    let laws : SessionLaws = assumption in
-    told_agree laws o steps small (offer_stands o serial profile)
+returns-clause-agreed c o steps serial profile small = search (arith, told_agree, offer_stands)

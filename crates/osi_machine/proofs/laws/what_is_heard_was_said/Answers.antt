@@ -1,10 +1,7 @@
+use Rattle.std.proofs.Common.{arith}
 use Rattle.osi_machine.proofs.tables.what_one_side_received_the_other_sent.{lost_ends}
 use Rattle.osi_machine.proofs.tables.what_is_heard_was_said.{heard_was_said}
 use Rattle.osi_machine.proofs.laws.what_is_heard_was_said.Goals as goal
 
 pub returns : goal.returns
-returns c = heard_was_said (record {
-  accepted = c.where_a_call_is_accepted.ensures.phase;
-  closed = c.what_closes_sends_nothing.ensures.ended;
-  lost = lost_ends;
-})
+returns c = search (arith, heard_was_said, lost_ends)

@@ -1,11 +1,6 @@
-use Rattle.std.proofs.Common.{◌≡◌, ◌∙◌, ap, sym, ℕ, List, []}
-use Rattle.osi_message.proofs.Vocabulary.{FN, written}
+use Rattle.std.proofs.Common.{arith}
 use Rattle.osi_message.proofs.brief_messages_in_octets.{finish_written, none_left, none_there}
 use Rattle.osi_message.proofs.brief.finish_octets.Goals as goal
 
 pub returns : goal.returns
-returns c =
-    let none : c.args.user_data.now ≡ [] = search (none_there, none_left, c.is_empty.ensures, c.if-not-is_empty.false) in
-    c.bare.ensures
-    ∙ sym finish_written
-    ∙ ap (λ (o : List ℕ). written (FN o)) (sym none)
+returns c = grind (arith, none_there, none_left, finish_written)

@@ -1,5 +1,6 @@
+use Rattle.std.proofs.Common.{arith}
 use Rattle.std.proofs.Common.{◌∙◌, ◌++◌, [], ◌∷◌, ap, map}
-use Rattle.osi_message.proofs.Vocabulary.{First, Middle, part_octets}
+use Rattle.osi_message.proofs.Vocabulary.{First, part_octets}
 use Rattle.osi_message.proofs.how_pieces_follow_one_another.{parting_begins, parting_goes_on, some_put}
 use Rattle.osi_message.proofs.parts.parts.Goals as goal
 
@@ -19,6 +20,5 @@ pieces-preserved c =
       parting_goes_on c.args.size c.args.user_data.now c.pieces.rest.now c.split_at-in-pieces.result.0.now c.split_at-in-pieces.result.1.now
           (map (λ v. v.items) c.pieces.tsdus.items) (map (λ v. v.items) c.put_part-in-pieces.new.tsdus.items)
           c.requires.some c.pieces-test.true c.split_at-in-pieces.ensures.front c.split_at-in-pieces.ensures.back put c.pieces.invariant.0,
-      some_put (λ v. v.items) c.put_part-in-pieces.new.tsdus.items (map (λ v. v.items) c.pieces.tsdus.items)
-          (part_octets Middle c.split_at-in-pieces.result.0.now) put,
+      search (arith, some_put),
     )

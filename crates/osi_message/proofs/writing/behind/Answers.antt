@@ -1,6 +1,6 @@
-use Rattle.std.proofs.Common.{◌∙◌, [], ◌∷◌, sym, subst, arith}
+use Rattle.std.proofs.Common.{◌∙◌, [], ◌∷◌, arith}
 use Rattle.osi_spdu.specs.Units.{said_by}
-use Rattle.osi_message.proofs.Vocabulary.{GiveTokens, nothing, codes_of, body_octets, UnitFits, TsduFits, unit_with, behind_tokens}
+use Rattle.osi_message.proofs.Vocabulary.{GiveTokens, nothing, codes_of, body_octets, UnitFits, unit_with}
 use Rattle.osi_message.proofs.a_unit_is_made_of_its_meaning.{none_known}
 use Rattle.osi_message.proofs.writing.behind.Goals as goal
 
@@ -12,6 +12,4 @@ pub returns-clause-units : goal.returns-clause-units
 returns-clause-units c = c.behind_give_tokens.ensures ∙ (λ i. unit_with GiveTokens (none_known i) ∷ said_by c.args.unit ∷ [])
 
 pub returns-clause-fits : goal.returns-clause-fits
-returns-clause-fits c = λ fits.
-    subst TsduFits (sym (returns-clause-units c)) (let both : TsduFits (behind_tokens (said_by c.args.unit)) = (token_fits, (fits, tt)) in
-    both)
+returns-clause-fits c = grind (arith, returns-clause-units, token_fits)

@@ -1,5 +1,5 @@
-use Rattle.osi_pair.proofs.Vocabulary.{◌≡◌, ◌∙◌, ◌+◌, ◌-◌, ◌<◌, ◌≤◌, inl, inr, map, ap, arith, vec_len, vec_capacity}
-use Rattle.osi_pair.proofs.Vocabulary.{vec_items, ltb-true, entry_by, Crossing, length, waits}
+use Rattle.osi_pair.proofs.Vocabulary.{◌≡◌, ◌∙◌, ◌+◌, ◌-◌, ◌≤◌, inl, inr, map, ap, arith, vec_len, vec_capacity, vec_items, ltb-true}
+use Rattle.osi_pair.proofs.Vocabulary.{entry_by, Crossing, length, waits}
 use Rattle.osi_pair.proofs.carry.each_entry_is_counted.{entries_of}
 use Rattle.osi_pair.proofs.carry.pieces_are_one_carry.{carries_then, not_refused, was_refused, held_up, refused_late}
 use Rattle.osi_pair.proofs.event.the_journal_only_grows.{pieces_add, no_shorter}
@@ -12,8 +12,7 @@ returns-then-used-eq0-clause-carries c =
     let same : c.then-used-eq0.journal.items ≡ c.carry_piece-used.new.journal.items = elim c.then-used-eq0.branch [
       | then-used-eq0-via-then-used-eq0 w ↦ ap vec_items w.journal-is
       | then-used-eq0-via-else-used-eq0+then-carried-octets w ↦ ap vec_items w.journal-is
-      | then-used-eq0-via-else-used-eq0+else-carried-octets+then-is_err w ↦ ap vec_items w.journal-is
-          ∙ w.reserve-else-carried-octets.ensures.items
+      | then-used-eq0-via-else-used-eq0+else-carried-octets+then-is_err w ↦ grind arith
     ] in
     carries_then c.args.side c.args.octets c.pieces.carried c.carry_piece-used.result
     (record { from = c.args.from.now; to = c.args.to.now; journal = map entry_by c.args.journal.now.items })
@@ -56,18 +55,15 @@ returns-then-used-eq0-clause-full c is =
       | then-used-eq0-via-else-used-eq0+else-carried-octets+then-is_err w ↦
           (let full = was_refused _ w.reserve-else-carried-octets.result w.is_err.result w.is_err.ensures.value w.if-is_err.true
           w.reserve-else-carried-octets.ensures.full in
-          let rests = was_refused _ w.reserve-else-carried-octets.result w.is_err.result w.is_err.ensures.value w.if-is_err.true
-          w.reserve-else-carried-octets.ensures.err in
           let len = w.reserve-else-carried-octets.ensures.len in
           let capacity_now = ap vec_capacity w.journal-is in
           let len_now = ap vec_len w.journal-is in
           let counted = entries_of (vec_len c.then-used-eq0.journal) c.then-used-eq0.journal.items c.then-used-eq0.journal.ok.0 in
-          inl (omega (arith, full, rests, len, capacity_now, len_now, counted)))
+          inl (grind (arith, full, was_refused, len, capacity_now, len_now, counted)))
     ]
 
 pub returns-then-used-eq0-clause-cut : goal.returns-then-used-eq0-clause-cut
 returns-then-used-eq0-clause-cut c is =
-    let less = ltb-true (c.pieces.carried + c.carry_piece-used.result) c.args.octets is in
     let now : Crossing = record { from = c.pieces.from; to = c.pieces.to; journal = map entry_by c.pieces.journal.items } in
     elim c.then-used-eq0.branch [
       | then-used-eq0-via-then-used-eq0 w ↦
@@ -77,9 +73,9 @@ returns-then-used-eq0-clause-cut c is =
             between = now;
             each = c.pieces.invariant.0.each;
             waiting = held_up (waits c.pieces.to.end.lines) (c.args.octets - c.pieces.carried) c.carry_piece-used.result
-                c.carry_piece-used.ensures.progress (omega (arith, less, none)) none;
+                c.carry_piece-used.ensures.progress (grind (arith, ltb-true, none)) none;
           }))
-      | then-used-eq0-via-else-used-eq0+then-carried-octets w ↦ absurd (omega (arith, less, w.if-carried-octets.true))
+      | then-used-eq0-via-else-used-eq0+then-carried-octets w ↦ absurd (grind (arith, ltb-true, w.if-carried-octets.true))
       | then-used-eq0-via-else-used-eq0+else-carried-octets+then-is_err w ↦
           (let full = was_refused _ w.reserve-else-carried-octets.result w.is_err.result w.is_err.ensures.value w.if-is_err.true
           w.reserve-else-carried-octets.ensures.full in
@@ -90,11 +86,4 @@ returns-then-used-eq0-clause-cut c is =
     ]
 
 pub returns-then-used-eq0-clause-capacity : goal.returns-then-used-eq0-clause-capacity
-returns-then-used-eq0-clause-capacity c = elim c.then-used-eq0.branch [
-  | then-used-eq0-via-then-used-eq0 w ↦ (let now = ap vec_capacity w.journal-is in omega (arith, now))
-  | then-used-eq0-via-else-used-eq0+then-carried-octets w ↦ (let now = ap vec_capacity w.journal-is in omega (arith, now))
-  | then-used-eq0-via-else-used-eq0+else-carried-octets+then-is_err w ↦
-      (let now = ap vec_capacity w.journal-is in
-      let room = w.reserve-else-carried-octets.ensures.capacity in
-      omega (arith, now, room))
-]
+returns-then-used-eq0-clause-capacity c = grind (arith, then-used-eq0-via-then-used-eq0)

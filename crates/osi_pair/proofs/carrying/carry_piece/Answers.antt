@@ -1,4 +1,5 @@
-use Rattle.osi_pair.proofs.Vocabulary.{map, entry_by, vec_len, vec_capacity, length, ◌+◌, ◌<◌, ◌⊎◌, inl, inr, sym, subst}
+use Rattle.std.proofs.Common.{arith}
+use Rattle.osi_pair.proofs.Vocabulary.{map, entry_by}
 use Rattle.osi_pair.proofs.carry.users_receive_one_after_the_other.{says_all, notes_then}
 use Rattle.osi_pair.proofs.carrying.carry_piece.Goals as goal
 
@@ -18,10 +19,4 @@ returns-clause-carries c =
     }
 
 pub returns-clause-notes : goal.returns-clause-notes
-returns-clause-notes c = elim c.note_end.ensures.notes [
-  | inl same ↦ subst (λ j. (vec_len j + 81 < vec_capacity j)
-      ⊎ (length (map entry_by c.args.journal.now.items) < length (map entry_by j.items)))
-      (sym same) c.show.ensures.notes
-  | inr more ↦ inr (notes_then (map entry_by c.args.journal.now.items) (map entry_by c.show.new.journal.items)
-      (map entry_by c.note_end.new.journal.items) _ c.show.ensures.tells.says more)
-]
+returns-clause-notes c = grind (arith, notes_then)

@@ -1,11 +1,10 @@
+use Rattle.std.proofs.Common.{arith}
 use Rattle.osi_pair.proofs.ending.a_break_is_the_machines.{fresh_at, break_at}
 use Rattle.osi_pair.proofs.ending.a_told_side_ends.{told_at}
 use Rattle.osi_pair.proofs.standing.how_two_ends_stand.Goals as goal
 
 pub returns-clause-begins : goal.returns-clause-begins
-returns-clause-begins c caller called =
-    fresh_at c.a_session_that_is_called_has_a_connection.ensures.begins caller called
-    (c.whatever_becomes_of_two_carriers.ensures.begins caller called)
+returns-clause-begins c caller called = search (arith, fresh_at, c.whatever_becomes_of_two_carriers.ensures.begins caller called)
 
 pub returns-clause-broken : goal.returns-clause-broken
 returns-clause-broken c = break_at (assumption)

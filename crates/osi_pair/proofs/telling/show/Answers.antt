@@ -8,14 +8,10 @@ returns-in_default-clause-tells c =
     (map entry_by c.shown.journal.items) c.shown.invariant.0 (sym c.in_default.ensures.shown) c.in_default.ensures.rest
 
 pub returns-in_default-clause-notes : goal.returns-in_default-clause-notes
-returns-in_default-clause-notes c =
-    notes_by c.args.side c.args.stack.now (map entry_by c.args.journal.now.items) c.shown.count c.shown.stack
-    (map entry_by c.shown.journal.items) _ _ c.shown.invariant.0 c.shown.invariant.1
+returns-in_default-clause-notes c = search (arith, notes_by)
 
 pub returns-clause-notes : goal.returns-clause-notes
-returns-clause-notes c =
-    notes_by c.args.side c.args.stack.now (map entry_by c.args.journal.now.items) c.shown.count c.shown.stack
-    (map entry_by c.shown.journal.items) _ _ c.shown.invariant.0 c.shown.invariant.1
+returns-clause-notes c = search (arith, notes_by)
 
 pub shown-preserved : goal.shown-preserved
 shown-preserved c = (

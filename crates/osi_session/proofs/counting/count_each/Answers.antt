@@ -1,17 +1,14 @@
+use Rattle.std.proofs.Common.{arith}
 use Rattle.std.proofs.Common.{◌∙◌, ap, Bool, ◌||◌, map}
 use Rattle.osi_spdu.specs.Units.{said_by}
 use Rattle.osi_session.specs.Counting.{count_of}
-use Rattle.osi_session.proofs.Vocabulary.{units_behind, behind_of, first_of, units_of, word, said_by_units, word_by}
+use Rattle.osi_session.proofs.Vocabulary.{units_behind, units_of, word, said_by_units, word_by}
 use Rattle.osi_session.proofs.tsdu.octets_are_counted.{walks_begin, walks_turn, walks_on, walks_stop, walks_restarted, walks_item}
 use Rattle.osi_session.proofs.tsdu.words_one_after_the_other.{behind_none}
 use Rattle.osi_session.proofs.counting.count_each.Goals as goal
 
 pub units-init : goal.units-init
-units-init c =
-    walks_begin c.args.state.now c.args.joined (count_of c.none-counting.result) (word_by c.of-first.result)
-    (word (first_of c.args.group.now))
-    (map word (units_behind c.behind-behind.result)) (map word (behind_of c.args.group.now))
-    c.none-counting.ensures (c.of-first.ensures ∙ ap word c.first.ensures) (ap (map word) c.behind-behind.ensures)
+units-init c = grind (arith, walks_begin, word)
 
 pub returns-then-is_bad : goal.returns-then-is_bad
 returns-then-is_bad c =

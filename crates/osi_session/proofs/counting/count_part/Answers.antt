@@ -1,5 +1,4 @@
-use Rattle.std.proofs.Common.{◌∙◌, ap, ℕ, Option, Some, None, if◌then◌else◌, option_copied}
-use Rattle.osi_session.proofs.Vocabulary.{is_last, outcome_of}
+use Rattle.std.proofs.Common.{arith, ◌∙◌, ap, Some, None, option_copied}
 use Rattle.osi_session.specs.Counting.{count_of, count_by}
 use Rattle.osi_session.proofs.tsdu.octets_are_counted.{dropped_counts, bad_counts, long_counts, good_counts}
 use Rattle.osi_session.proofs.counting.count_part.Goals as goal
@@ -18,12 +17,10 @@ returns-in-Bad c = bad_counts c.args.state.now c.args.joined (option_copied c.as
 
 pub returns-in-Some : goal.returns-in-Some
 returns-in-Some c =
-    let left : Option ℕ = if is_last c.args.place then None else Some c.in-Some.total in
     good_counts c.args.state.now c.args.joined (option_copied c.as_ref.result) c.args.place c.args.user_data.now c.in-Some.total
     (count_of c.of-in-Some.result)
     (c.as_ref.ensures.value ∙ c.placeholder-begun.ensures) c.in-Good.ensures c.in-Some.ensures.few c.in-Some.ensures.some
-    (c.of-in-Some.ensures ∙ ap (λ (n : Option ℕ). count_by n (outcome_of c.silent-in-Some.result)) c.behind_part.ensures ∙
-    ap (count_by left) c.silent-in-Some.ensures)
+    (grind arith)
 
 pub returns : goal.returns
 returns c = long_counts c.args.state.now c.args.joined (option_copied c.as_ref.result) c.args.place c.args.user_data.now

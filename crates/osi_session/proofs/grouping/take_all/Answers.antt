@@ -1,5 +1,5 @@
-use Rattle.std.proofs.Common.{◌≡◌, ◌∙◌, ap, sym, subst, true, option_copied}
-use Rattle.osi_session.proofs.Vocabulary.{units_of, said_by_units, Hearing, Taker, respond_tsdu, respond_word, takes_room}
+use Rattle.std.proofs.Common.{arith, ◌∙◌, ap, sym, option_copied}
+use Rattle.osi_session.proofs.Vocabulary.{units_of, said_by_units, Taker, respond_tsdu, respond_word}
 use Rattle.osi_session.proofs.moves.the_moves_in_memory.{of_heard}
 use Rattle.osi_session.proofs.grouping.take_all.Goals as goal
 
@@ -11,7 +11,4 @@ returns-in-Ok-clause-heard c =
     (sym c.in-Ok.ensures ∙ ap (respond_word t) c.of-word.ensures ∙ sym (c.in-Some.ensures t))
 
 pub returns-in-Err-clause-err : goal.returns-in-Err-clause-err
-returns-in-Err-clause-err c =
-    let t : Taker = record { state = c.args.state.now; joined = option_copied c.args.joined } in
-    subst (λ (h : Hearing). takes_room t.joined h ≡ true) (ap (respond_word t) c.of-word.ensures ∙ sym (c.in-Some.ensures t))
-    c.in-Err.ensures
+returns-in-Err-clause-err c = grind (arith, option_copied, respond_word)

@@ -1,13 +1,11 @@
+use Rattle.std.proofs.Common.{arith}
 use Rattle.std.proofs.Common.{◌∙◌, ap, sym, option_copied}
 use Rattle.osi_session.specs.Joining.{Taker, heard}
 use Rattle.osi_session.proofs.tsdu.the_effect_of_a_word.{part_dropped, part_bad}
 use Rattle.osi_session.proofs.hearing.take_part.Goals as goal
 
 pub returns-in-Dropped : goal.returns-in-Dropped
-returns-in-Dropped c =
-    let t : Taker = record { state = c.args.state.now; joined = option_copied c.args.joined } in
-    part_dropped t c.args.place c.args.user_data.now (sym c.in-Dropped.is ∙ c.judge_part.ensures) ∙
-    ap (heard t.joined) (sym c.silent.ensures) ∙ sym (c.of.ensures t.joined)
+returns-in-Dropped c = grind (arith, option_copied, part_dropped)
 
 pub returns-in-Bad : goal.returns-in-Bad
 returns-in-Bad c =

@@ -1,5 +1,5 @@
-use Rattle.std.proofs.Common.{◌≡◌, ◌<◌, ◌∙◌, ℕ, List, Some, length, ap, sym, subst}
-use Rattle.osi_session.proofs.Vocabulary.{in_one, asked_for, unit_in}
+use Rattle.std.proofs.Common.{arith, ◌<◌, ◌∙◌, ℕ, List, length, ap, sym, subst}
+use Rattle.osi_session.proofs.Vocabulary.{in_one, unit_in}
 use Rattle.osi_session.proofs.sent.what_is_sent_can_be_written.{asked_sendable}
 use Rattle.osi_session.proofs.runs.the_invariant_in_memory.{read_again, asked_alone}
 use Rattle.osi_session.proofs.sessions.written_connect.Goals as goal
@@ -11,9 +11,4 @@ pub returns-clause-octets : goal.returns-clause-octets
 returns-clause-octets c = c.in_ok-sent.ensures ∙ ap in_one c.message.ensures.meaning
 
 pub returns-clause-read : goal.returns-clause-read
-returns-clause-read c =
-    let o = c.args.opening.now in
-    let h = asked_sendable o c.requires in
-    subst (λ (sent : List (List ℕ)). unit_in sent ≡ Some (asked_for o)) (sym (c.in_ok-sent.ensures ∙ ap in_one c.message.ensures.meaning))
-    (read_again (asked_for o) (asked_alone o) (c.what_is_sent_is_read.ensures.read (asked_for o) h)
-    (c.what_is_sent_is_read.ensures.said (asked_for o) h))
+returns-clause-read c = grind (arith, asked_sendable, unit_in, read_again, asked_alone)

@@ -1,4 +1,4 @@
-use Rattle.std.proofs.Common.{◌≡◌, ◌≤◌, ◌∙◌, Err, length, ap, sym, arith, rules}
+use Rattle.std.proofs.Common.{◌≤◌, length, arith, rules}
 use Rattle.osi_spdu.proofs.Vocabulary.{err_from_is_err_and, later_of}
 use Rattle.osi_spdu.proofs.tsdu.units_after_the_first.{behind_full, behind_bad, left_none, leads_start, leads_next}
 use Rattle.osi_spdu.proofs.form.values_in_memory_are_in_their_form.{unit_formed}
@@ -8,18 +8,10 @@ pub units-init : goal.units-init
 units-init c = record { leads = leads_start c.args.room c.args.at c.args.octets.now; within = c.requires }
 
 pub returns-then-room-eq0-clause-refused : goal.returns-then-room-eq0-clause-refused
-returns-then-room-eq0-clause-refused c =
-    let some : 1 ≤ length c.units.rest.now = search rules in
-    c.units.invariant.leads.refused c.crowded.result
-    (behind_full c.units.room c.units.at c.units.rest.now c.if-room-eq0.true some ∙ ap (λ f. Err f) (sym c.crowded.ensures))
+returns-then-room-eq0-clause-refused c = grind (arith, behind_full)
 
 pub returns-in_err-later-clause-refused : goal.returns-in_err-later-clause-refused
-returns-in_err-later-clause-refused c =
-    let some : 1 ≤ length c.units.rest.now = search rules in
-    let room : 1 ≤ c.units.room = omega (arith, c.if-room-eq0.false) in
-    let e = err_from_is_err_and c.from_residual.result c.from_residual.ensures.1 in
-    rw (e.1, e.2)
-    (c.units.invariant.leads.refused _ (behind_bad c.units.room c.units.at c.units.rest.now _ room some c.in_err-later.ensures.value))
+returns-in_err-later-clause-refused c = grind (arith, rules, err_from_is_err_and, behind_bad)
 
 pub units-preserved : goal.units-preserved
 units-preserved c =
@@ -33,6 +25,4 @@ units-preserved c =
     }
 
 pub returns-clause-left : goal.returns-clause-left
-returns-clause-left c =
-    let none : length c.units.rest.now ≡ 0 = search rules in
-    c.units.invariant.leads.left (left_none c.units.room c.units.at c.units.rest.now none)
+returns-clause-left c = grind (arith, rules, left_none)

@@ -30,7 +30,4 @@ parameters-preserved g c =
     c.in_ok-parameter.ensures.value c.in_ok-parameter.ensures.whole (c.in_ok-take.ensures) c.parameters.invariant
 
 pub returns : goal.returns
-returns g c =
-    taking_end (g.L.Level.taking c.args.level.now) c.parameters.at (slots_of c.parameters.params) c.parameters.rest.now c.args.at
-    (slots_of c.args.params.now) c.args.octets.now
-    (eqb-true (length c.parameters.rest.now) 0 (sym c.is_empty.ensures ∙ c.parameters-test.false)) c.parameters.invariant
+returns g c = grind (arith, taking_end, slots_of, eqb-true)

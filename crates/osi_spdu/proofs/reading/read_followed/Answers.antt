@@ -7,11 +7,7 @@ use Rattle.osi_spdu.proofs.tsdu.units_after_the_first.{behind_none, behind_bad, 
 use Rattle.osi_spdu.proofs.reading.read_followed.Goals as goal
 
 pub with-requires : goal.with-requires
-with-requires c =
-    let b = c.none.result in
-    let next = option_map (λ (s : Spdu). s.kind) b.next in
-    subst (λ (k : Kind). is_joined k next ≡ true) (sym c.settled.ensures.kind)
-    (joined_behind c.args.kind next b.rest.now c.requires.zero b.stands)
+with-requires c = grind (arith, is_joined, joined_behind)
 
 pub with-requires-2 : goal.with-requires-2
 with-requires-2 c =
@@ -31,9 +27,7 @@ returns-then-is_empty c =
 pub returns : goal.returns
 unfolding followed_at
 returns c =
-    let filled : length c.args.octets.now ≡ 0 → ⊥ =
-    eqb-false (length c.args.octets.now) 0 (sym c.is_empty.ensures ∙ c.if-is_empty.false) in
-    let some : 1 ≤ length c.args.octets.now = omega (arith, filled) in
+    let some : 1 ≤ length c.args.octets.now = grind (arith, eqb-false) in
     let k = c.in_ok-kept.kept in
     let n = kept_of c.kept_at.new.params k in
     let first : Contents = record { kind = c.args.kind; known = known_of c.args.params.now; information = [] } in

@@ -1,3 +1,4 @@
+use Rattle.std.proofs.Common.{arith}
 use Rattle.std.proofs.Common.{◌≡◌, ◌∙◌, true, length, Result, sym, subst, rules}
 use Rattle.osi_spdu.proofs.Vocabulary.{Zero, Known, Units, SpduFault, Gives, category_of, is_formed, known_of, placed_of, units_of}
 use Rattle.osi_spdu.proofs.tsdu.how_reading_goes_on.{tsdu_goes, tsdu_followed, continued_trailing}
@@ -7,8 +8,7 @@ pub read_followed-requires-clause-zero : goal.read_followed-requires-clause-zero
 read_followed-requires-clause-zero c = sym c.category.ensures ∙ c.in-Zero.is
 
 pub read_followed-requires-clause-formed : goal.read_followed-requires-clause-formed
-read_followed-requires-clause-formed c =
-    subst (λ (k : Known). is_formed c.in_ok-found.found.kind k ≡ true) (sym c.settle.ensures.value) c.in_ok-found.ensures.formed
+read_followed-requires-clause-formed c = grind (arith, is_formed)
 
 pub settled-requires-clause-formed : goal.settled-requires-clause-formed
 settled-requires-clause-formed c =

@@ -1,4 +1,4 @@
-use Rattle.std.proofs.Common.{length, ap, arith}
+use Rattle.std.proofs.Common.{arith}
 use Rattle.osi_spdu.proofs.Vocabulary.{units_behind, said_by}
 use Rattle.osi_spdu.proofs.form.units_are_written_in_order.{one_len, one_fits}
 use Rattle.osi_spdu.proofs.parameters.lengths_are_stored_in_order.{one_kept}
@@ -8,15 +8,10 @@ pub unit_len-counted-requires : goal.unit_len-counted-requires
 unit_len-counted-requires c = one_fits (units_behind c.args.behind.now) (said_by c.in-Some.unit.now) c.in-Some.ensures c.requires.fits
 
 pub keep_length-requires-clause-small : goal.keep_length-requires-clause-small
-keep_length-requires-clause-small c =
-    let fits = one_fits (units_behind c.args.behind.now) (said_by c.in-Some.unit.now) c.in-Some.ensures c.requires.fits in
-    omega (arith, fits, c.unit_len-counted.ensures.body)
+keep_length-requires-clause-small c = grind (arith, one_fits)
 
 pub returns-clause-value : goal.returns-clause-value
-returns-clause-value c =
-    let n = one_len (units_behind c.args.behind.now) (said_by c.in-Some.unit.now) c.in-Some.ensures in
-    let info = ap length c.information.ensures in
-    omega (arith, n, info, c.unit_len-counted.ensures.value)
+returns-clause-value c = grind (arith, one_len)
 
 pub returns-clause-lengths : goal.returns-clause-lengths
 returns-clause-lengths c =

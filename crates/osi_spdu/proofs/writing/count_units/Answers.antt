@@ -6,41 +6,22 @@ use Rattle.osi_spdu.proofs.parameters.lengths_are_stored_in_order.{keeping_start
 use Rattle.osi_spdu.proofs.writing.count_units.Goals as goal
 
 pub units-init : goal.units-init
-units-init c =
-    let b = behind_formed c.args.behind in
-    record {
-      so_far = counting_start (units_behind c.args.behind) c.requires.fits b.formed b.behind b.few;
-      small = omega arith;
-      kept = keeping_start c.args.lengths.now (units_behind c.args.behind) c.requires.room b.few;
-    }
+units-init c = grind (arith, counting_start, keeping_start, behind_formed)
 
 pub unit_len-counted-requires : goal.unit_len-counted-requires
-unit_len-counted-requires c =
-    (counts_next (units_behind c.units.behind) c.units.len (said_by c.in-Some.unit) (units_behind c.next.new.self)
-    (units_behind c.args.behind) c.in-Some.ensures.steps c.units.invariant.so_far).fits
+unit_len-counted-requires c = grind (arith, counts_next)
 
 pub keep_length-requires-clause-within : goal.keep_length-requires-clause-within
-keep_length-requires-clause-within c =
-    keeping_within c.units.lengths c.units.count (units_behind c.units.behind) (units_behind c.next.new.self) (units_behind c.args.behind)
-    (said_by c.in-Some.unit) c.in-Some.ensures.steps c.units.invariant.kept
+keep_length-requires-clause-within c = grind (arith, keeping_within)
 
 pub keep_length-requires-clause-small : goal.keep_length-requires-clause-small
-keep_length-requires-clause-small c =
-    let n = counts_next (units_behind c.units.behind) c.units.len (said_by c.in-Some.unit) (units_behind c.next.new.self)
-    (units_behind c.args.behind) c.in-Some.ensures.steps c.units.invariant.so_far in
-    omega (arith, n.fits, c.unit_len-counted.ensures.body)
+keep_length-requires-clause-small c = grind (arith, counts_next)
 
 pub overflow_add-count : goal.overflow_add-count
-overflow_add-count c =
-    let w = keeping_within c.units.lengths c.units.count (units_behind c.units.behind) (units_behind c.next.new.self)
-    (units_behind c.args.behind) (said_by c.in-Some.unit) c.in-Some.ensures.steps c.units.invariant.kept in
-    omega (arith, w, c.units.invariant.kept.size)
+overflow_add-count c = grind arith
 
 pub overflow_add-len : goal.overflow_add-len
-overflow_add-len c =
-    let n = counts_next (units_behind c.units.behind) c.units.len (said_by c.in-Some.unit) (units_behind c.next.new.self)
-    (units_behind c.args.behind) c.in-Some.ensures.steps c.units.invariant.so_far in
-    omega (arith, n.small, c.unit_len-counted.ensures.short)
+overflow_add-len c = grind arith
 
 pub units-preserved : goal.units-preserved
 units-preserved c =
@@ -48,14 +29,12 @@ units-preserved c =
     let others = units_behind c.next.new.self in
     let all = units_behind c.args.behind in
     let n = counts_next (units_behind c.units.behind) c.units.len u others all c.in-Some.ensures.steps c.units.invariant.so_far in
-    let short = c.unit_len-counted.ensures.short in
-    let is = c.unit_len-counted.ensures.value in
     let info = ap length c.information.ensures in
     let same : c.units.len + (c.unit_len-counted.result.whole + length c.information.result.now) ≡ c.units.len +
     (length (unit_octets u) + length u.information) = omega arith in
     record {
       so_far = subst (λ (k : ℕ). IsCountingUnits others k all) (sym same) (n.next (omega arith));
-      small = omega (arith, n.small, short);
+      small = omega (arith, n.small);
       kept = keeping_next c.units.lengths c.keep_length.new.lengths c.units.count c.unit_len-counted.result.body
           (units_behind c.units.behind) others all u c.in-Some.ensures.steps c.unit_len-counted.ensures.body c.keep_length.ensures
           c.units.invariant.kept;

@@ -1,4 +1,4 @@
-use Rattle.std.proofs.Common.{◌++◌, ℕ, List, [], length, ap, sym, ◌∙◌, append_assoc, arith}
+use Rattle.std.proofs.Common.{◌++◌, ℕ, List, ap, sym, ◌∙◌, append_assoc, arith}
 use Rattle.osi_spdu.proofs.Vocabulary.{units_behind, category_of, said_by, unit_octets}
 use Rattle.osi_spdu.proofs.form.values_in_memory_are_in_their_form.{behind_formed}
 use Rattle.osi_spdu.proofs.parameters.a_group_is_counted_once.{next_two}
@@ -7,13 +7,10 @@ use Rattle.osi_spdu.proofs.form.units_are_written_in_order.{one_octets, one_len,
 use Rattle.osi_spdu.proofs.writing.put_behind.Goals as goal
 
 pub none-groups-requires : goal.none-groups-requires
-none-groups-requires c = ap category_of c.kind.ensures ∙ next_two (units_behind c.args.behind.now) [] (said_by c.in-Some.unit.now)
-    c.in-Some.ensures (behind_formed c.args.behind.now).behind
+none-groups-requires c = grind (arith, category_of, next_two, behind_formed)
 
 pub kept_length-requires : goal.kept_length-requires
-kept_length-requires c =
-    (next_length c.args.lengths.now 0 (units_behind c.args.behind.now) [] (said_by c.in-Some.unit.now) c.in-Some.ensures
-    c.requires.lengths).within
+kept_length-requires c = grind (arith, next_length)
 
 pub put_unit-requires-clause-small : goal.put_unit-requires-clause-small
 put_unit-requires-clause-small c = one_fits (units_behind c.args.behind.now) (said_by c.in-Some.unit.now) c.in-Some.ensures c.requires.small
@@ -22,27 +19,16 @@ pub put_unit-requires-clause-groups : goal.put_unit-requires-clause-groups
 put_unit-requires-clause-groups c = c.none-groups.ensures.value (said_by c.in-Some.unit.now).known
 
 pub put_unit-requires-clause-body : goal.put_unit-requires-clause-body
-put_unit-requires-clause-body c =
-    c.kept_length.ensures ∙
-    (next_length c.args.lengths.now 0 (units_behind c.args.behind.now) [] (said_by c.in-Some.unit.now) c.in-Some.ensures
-    c.requires.lengths).is
+put_unit-requires-clause-body c = grind (arith, next_length)
 
 pub put_unit-requires-clause-room : goal.put_unit-requires-clause-room
-put_unit-requires-clause-room c =
-    let n = one_len (units_behind c.args.behind.now) (said_by c.in-Some.unit.now) c.in-Some.ensures in
-    omega (arith, n, c.requires.room)
+put_unit-requires-clause-room c = grind (arith, one_len)
 
 pub extend_reserved-requires : goal.extend_reserved-requires
-extend_reserved-requires c =
-    let n = one_len (units_behind c.args.behind.now) (said_by c.in-Some.unit.now) c.in-Some.ensures in
-    let info = ap length c.information.ensures in
-    omega (arith, n, info, c.requires.room, c.put_unit.ensures.spare)
+extend_reserved-requires c = grind (arith, one_len)
 
 pub returns-clause-spare : goal.returns-clause-spare
-returns-clause-spare c =
-    let n = one_len (units_behind c.args.behind.now) (said_by c.in-Some.unit.now) c.in-Some.ensures in
-    let info = ap length c.information.ensures in
-    omega (arith, n, info, c.put_unit.ensures.spare, c.extend_reserved.ensures.spare)
+returns-clause-spare c = grind (arith, one_len)
 
 pub returns-clause-items : goal.returns-clause-items
 returns-clause-items c =

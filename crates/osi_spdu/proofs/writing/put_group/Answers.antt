@@ -1,5 +1,5 @@
-use Rattle.std.proofs.Common.{◌≡◌, ◌++◌, ◌∙◌, ℕ, List, length, ap, sym, subst, arith, append_assoc}
-use Rattle.osi_spdu.proofs.Vocabulary.{Contents, Units, body_length, AreHeld, AreLengths, said_by, units_behind, unit_octets, tsdu_octets}
+use Rattle.std.proofs.Common.{◌≡◌, ◌++◌, ◌∙◌, ℕ, List, ap, sym, arith, append_assoc}
+use Rattle.osi_spdu.proofs.Vocabulary.{body_length, said_by, units_behind, unit_octets, tsdu_octets}
 use Rattle.osi_spdu.proofs.form.units_are_written_in_order.{first_octets, first_len}
 use Rattle.osi_spdu.proofs.form.values_in_memory_are_in_their_form.{group_plain}
 use Rattle.osi_spdu.proofs.writing.put_group.Goals as goal
@@ -7,39 +7,29 @@ use Rattle.osi_spdu.proofs.writing.put_group.Goals as goal
 pub put_unit-requires-clause-room : goal.put_unit-requires-clause-room
 put_unit-requires-clause-room c =
     let g = c.args.group.now in
-    let n = first_len (said_by g.first) (units_behind g.behind) (group_plain g) in
-    let first = ap (λ x. length (unit_octets x)) c.first.ensures in
-    omega (arith, n, c.requires.room)
+    grind (arith, unit_octets, first_len (said_by g.first) (units_behind g.behind) (group_plain g), group_plain g)
 
 pub put_unit-requires-clause-kind : goal.put_unit-requires-clause-kind
 put_unit-requires-clause-kind c = c.requires.kind ∙ ap (λ u. u.kind) (sym c.first.ensures)
 
 pub put_unit-requires-clause-groups : goal.put_unit-requires-clause-groups
-put_unit-requires-clause-groups c = subst (λ (u : Contents). AreHeld c.args.lengths.now.first.groups u.known) (sym c.first.ensures)
-    c.requires.groups
+put_unit-requires-clause-groups c = grind arith
 
 pub put_unit-requires-clause-body : goal.put_unit-requires-clause-body
 put_unit-requires-clause-body c = c.requires.first ∙ ap body_length (sym c.first.ensures)
 
 pub put_behind-requires-clause-lengths : goal.put_behind-requires-clause-lengths
-put_behind-requires-clause-lengths c = subst (λ (us : Units). AreLengths c.args.lengths.now.behind us) (sym c.others.ensures)
-    c.requires.behind
+put_behind-requires-clause-lengths c = grind arith
 
 pub put_behind-requires-clause-room : goal.put_behind-requires-clause-room
 put_behind-requires-clause-room c =
     let g = c.args.group.now in
-    let n = first_len (said_by g.first) (units_behind g.behind) (group_plain g) in
-    let first = ap (λ x. length (unit_octets x)) c.first.ensures in
-    let behind = ap (λ us. length (tsdu_octets us)) c.others.ensures in
-    omega (arith, n, c.requires.room, c.put_unit.ensures.spare)
+    grind (arith, unit_octets, tsdu_octets, first_len (said_by g.first) (units_behind g.behind) (group_plain g), group_plain g)
 
 pub returns-clause-spare : goal.returns-clause-spare
 returns-clause-spare c =
     let g = c.args.group.now in
-    let n = first_len (said_by g.first) (units_behind g.behind) (group_plain g) in
-    let first = ap (λ x. length (unit_octets x)) c.first.ensures in
-    let behind = ap (λ us. length (tsdu_octets us)) c.others.ensures in
-    omega (arith, n, c.put_unit.ensures.spare, c.put_behind.ensures.spare)
+    grind (arith, unit_octets, tsdu_octets, first_len (said_by g.first) (units_behind g.behind) (group_plain g), group_plain g)
 
 pub returns-clause-items : goal.returns-clause-items
 returns-clause-items c =

@@ -7,5 +7,4 @@ pub put_member-requires-clause-small : goal.put_member-requires-clause-small
 put_member-requires-clause-small c =
     let p = piece_len (λ x. member_octets x (known_of c.args.params.now x)) c.args.codes.now c.codes.code-index ConnectionIdentifier
     c.codes-test.true in
-    let t = tail_less (λ x. member_octets x (known_of c.args.params.now x)) c.args.codes.now c.codes.code-index in
-    omega (arith, c.requires.small)
+    grind (arith, tail_less, known_of)

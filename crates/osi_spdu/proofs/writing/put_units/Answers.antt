@@ -7,21 +7,13 @@ use Rattle.osi_spdu.proofs.parameters.lengths_are_stored_in_order.{next_length}
 use Rattle.osi_spdu.proofs.writing.put_units.Goals as goal
 
 pub units-init : goal.units-init
-units-init c = record {
-  put = putting_start (units_behind c.args.behind) c.args.out.now.items c.args.out.now.spare c.requires.small c.requires.room;
-  kept = c.requires.lengths;
-}
+units-init c = grind (arith, putting_start)
 
 pub put_unit-requires-clause-small : goal.put_unit-requires-clause-small
-put_unit-requires-clause-small c =
-    (puts_next (units_behind c.units.behind) c.units.out.items c.units.out.spare (said_by c.in-Some.unit) (units_behind c.next.new.self)
-    (units_behind c.args.behind) c.args.out.now.items c.args.out.now.spare c.in-Some.ensures.steps c.units.invariant.put).fits
+put_unit-requires-clause-small c = grind (arith, puts_next)
 
 pub none-groups-requires : goal.none-groups-requires
-none-groups-requires c =
-    ap category_of c.kind.ensures
-    ∙ next_two (units_behind c.units.behind) (units_behind c.next.new.self) (said_by c.in-Some.unit) c.in-Some.ensures.steps
-    (behind_formed c.units.behind).behind
+none-groups-requires c = grind (arith, category_of, next_two, behind_formed)
 
 pub put_unit-requires-clause-groups : goal.put_unit-requires-clause-groups
 put_unit-requires-clause-groups c = c.none-groups.ensures.value (said_by c.in-Some.unit).known

@@ -1,7 +1,5 @@
-use Rattle.std.proofs.Common.{◌≡◌, ◌∷◌, [], ◌++◌, Option, Ok, Err, None, refl, sym, ap, subst, ◌∙◌}
-use Rattle.osi_stack.proofs.Vocabulary.{Call, CallError, Data, called_by, called, react, limit_of, move_refusal, send_refusal, Refuses}
-use Rattle.osi_stack.proofs.Vocabulary.{answers}
-use Rattle.osi_stack.proofs.Vocabulary.{open_link, State as Carrier}
+use Rattle.std.proofs.Common.{arith, ◌≡◌, ◌∷◌, [], ◌++◌, Ok, Err, refl, sym, ap, subst}
+use Rattle.osi_stack.proofs.Vocabulary.{Call, CallError, Data, called_by, called, react, limit_of, answers}
 use Rattle.osi_stack.proofs.called.tsdus_that_are_handed_together.{one_error, hands_one}
 use Rattle.osi_stack.proofs.called.what_a_call_sends.{call_handed, call_allowed, call_refused}
 use Rattle.osi_stack.proofs.calls.make_call.Goals as goal
@@ -17,30 +15,10 @@ returns-in-Ok-clause-carrier c =
     (sym (ap called_by c.in-Data.is))
     (call_handed {A = Unit {0}} {E = CallError} (Ok tt) s (Data c.in-Data.user_data.now) (tsdu ∷ []) (tsdu ∷ []) c.args.reference limit
     c.args.carrier.now c.send_headed.new.self c.in-Some.ensures.accepted c.in-Some.ensures.sent refl
-    (c.in-Ok.ensures.ok ∙ ap (λ (x : Carrier). record c.args.carrier.now { state = x })
-    (sym (hands_one c.args.reference tsdu state c.in-Ok.ensures.allowed))))
+    (grind (arith, hands_one c.args.reference tsdu state c.in-Ok.ensures.allowed)))
 
 pub returns-in-Ok-clause-allowed : goal.returns-in-Ok-clause-allowed
-returns-in-Ok-clause-allowed c =
-    let s = c.args.session.now in
-    let limit = limit_of s.state in
-    let tsdu = c.in-Some.head.now ++ c.in-Data.user_data.now in
-    let state = c.args.carrier.now.state in
-    subst (λ (k : Call). move_refusal c.args.reference limit (react s (called k)) state ≡ None) (sym (ap called_by c.in-Data.is))
-    (call_allowed {A = Unit {0}} {E = CallError} (Ok tt) s (Data c.in-Data.user_data.now) (tsdu ∷ []) (tsdu ∷ []) c.args.reference limit
-    state c.in-Some.ensures.accepted c.in-Some.ensures.sent refl
-    (ap send_refusal (one_error tsdu (open_link c.args.reference state) ∙ c.in-Ok.ensures.allowed)))
+returns-in-Ok-clause-allowed c = grind (arith, react, call_allowed, one_error)
 
 pub returns-in-Err-clause-refused : goal.returns-in-Err-clause-refused
-returns-in-Err-clause-refused c =
-    let s = c.args.session.now in
-    let limit = limit_of s.state in
-    let tsdu = c.in-Some.head.now ++ c.in-Data.user_data.now in
-    let state = c.args.carrier.now.state in
-    let same = ap send_refusal (c.in-Err.ensures.refused ∙ sym (one_error tsdu (open_link c.args.reference state))) in
-    subst (λ (k : Call). Refuses c.call_error.result (react s (called k)).error
-    (move_refusal c.args.reference limit (react s (called k)) state))
-    (sym (ap called_by c.in-Data.is))
-    (call_refused {A = Unit {0}} (Err c.call_error.result) s (Data c.in-Data.user_data.now) (tsdu ∷ []) (tsdu ∷ []) c.args.reference limit
-    state c.in-Some.ensures.accepted c.in-Some.ensures.sent refl
-    (subst (λ (o : Option CallError). Refuses c.call_error.result None o) same c.call_error.ensures))
+returns-in-Err-clause-refused c = grind (arith, one_error, react, call_refused)

@@ -1,3 +1,4 @@
+use Rattle.std.proofs.Common.{arith}
 use Rattle.std.proofs.Common.{true, false, is_some, refl, sym, ap, ◌∙◌}
 use Rattle.osi_carrier.specs.Lending.{carrying_lent, lent_event}
 use Rattle.osi_stack.proofs.Vocabulary.{holding}
@@ -11,14 +12,7 @@ returns-in_default c =
     let told : IsAttendedTo c.match-told.heard (carrying_lent c.feed_lent-told.result.lent c.feed_lent-told.new.self) c.args.lines.now
     (holding c.match-told.carrier c.match-told.lines) =
     elim c.match-told.branch [
-      | in-None w ↦ none_attended c.match-told.heard w.hear_events-heard.result c.feed_lent-told.result.lent c.feed_lent-told.new.self
-          w.hear_events-heard.new.carrier c.match-told.carrier c.args.lines.now w.hear_events-heard.new.lines c.match-told.lines
-          w.in-None.is (record {
-            ok = w.hear_events-heard.ensures.ok;
-            none = w.hear_events-heard.ensures.none;
-            held = w.hear_events-heard.ensures.held;
-            err = w.hear_events-heard.ensures.err;
-          }) w.heard-is w.carrier-is w.lines-is
+      | in-None w ↦ grind (arith, none_attended)
       | in-Some w ↦ some_attended c.match-told.heard w.tell-heard.result c.feed_lent-told.result.lent w.in-Some.lent
           c.feed_lent-told.new.self w.tell-heard.new.carrier c.match-told.carrier c.args.lines.now w.tell-heard.new.self
           c.match-told.lines w.in-Some.is c.feed_lent-told.ensures.none
@@ -37,14 +31,7 @@ returns-then-is_some c =
     let told : IsAttendedTo c.match-told.heard (carrying_lent c.feed_lent-told.result.lent c.feed_lent-told.new.self) c.args.lines.now
     (holding c.match-told.carrier c.match-told.lines) =
     elim c.match-told.branch [
-      | in-None w ↦ none_attended c.match-told.heard w.hear_events-heard.result c.feed_lent-told.result.lent c.feed_lent-told.new.self
-          w.hear_events-heard.new.carrier c.match-told.carrier c.args.lines.now w.hear_events-heard.new.lines c.match-told.lines
-          w.in-None.is (record {
-            ok = w.hear_events-heard.ensures.ok;
-            none = w.hear_events-heard.ensures.none;
-            held = w.hear_events-heard.ensures.held;
-            err = w.hear_events-heard.ensures.err;
-          }) w.heard-is w.carrier-is w.lines-is
+      | in-None w ↦ grind (arith, none_attended)
       | in-Some w ↦ some_attended c.match-told.heard w.tell-heard.result c.feed_lent-told.result.lent w.in-Some.lent
           c.feed_lent-told.new.self w.tell-heard.new.carrier c.match-told.carrier c.args.lines.now w.tell-heard.new.self
           c.match-told.lines w.in-Some.is c.feed_lent-told.ensures.none
@@ -64,14 +51,7 @@ returns-else-is_some c =
     let told : IsAttendedTo c.match-told.heard (carrying_lent c.feed_lent-told.result.lent c.feed_lent-told.new.self) c.args.lines.now
     (holding c.match-told.carrier c.match-told.lines) =
     elim c.match-told.branch [
-      | in-None w ↦ none_attended c.match-told.heard w.hear_events-heard.result c.feed_lent-told.result.lent c.feed_lent-told.new.self
-          w.hear_events-heard.new.carrier c.match-told.carrier c.args.lines.now w.hear_events-heard.new.lines c.match-told.lines
-          w.in-None.is (record {
-            ok = w.hear_events-heard.ensures.ok;
-            none = w.hear_events-heard.ensures.none;
-            held = w.hear_events-heard.ensures.held;
-            err = w.hear_events-heard.ensures.err;
-          }) w.heard-is w.carrier-is w.lines-is
+      | in-None w ↦ grind (arith, none_attended)
       | in-Some w ↦ some_attended c.match-told.heard w.tell-heard.result c.feed_lent-told.result.lent w.in-Some.lent
           c.feed_lent-told.new.self w.tell-heard.new.carrier c.match-told.carrier c.args.lines.now w.tell-heard.new.self
           c.match-told.lines w.in-Some.is c.feed_lent-told.ensures.none

@@ -1,5 +1,5 @@
+use Rattle.std.proofs.Common.{arith}
 use Rattle.std.proofs.Common.{ℕ, ◌-◌, ◌<◌, List, length, is_some, sym, ap, subst, ◌∙◌}
-use Rattle.osi_carrier.specs.Lending.{carrying_lent}
 use Rattle.osi_carrier.specs.Packets as carriers
 use Rattle.osi_stack.proofs.Vocabulary.{eqb-true, Goes, holding}
 use Rattle.osi_stack.proofs.stream.a_piece_look_by_look.{IsRead, read_first, read_waits, read_ended, read_dry, read_on, nonzero}
@@ -12,19 +12,11 @@ returns-then-is_empty-clause-goes c =
     let stays = c.feed_lent.ensures.empty (nothing_of c.args.piece.now empty) in
     let i = idle_goes (holding c.args.carrier.now c.args.lines.now) c.args.piece.now c.feed_lent.result.fed c.feed_lent.new.self empty
     c.requires.quiet c.requires.attended
-    (subst (λ o. carriers.Feeds c.args.carrier.now c.args.piece.now c.feed_lent.result.fed (carrying_lent o c.feed_lent.new.self))
-    stays.2 c.feed_lent.ensures.feeds) (λ _. (stays.0, stays.1)) in
+    (grind arith) (λ _. (stays.0, stays.1)) in
     i.goes
 
 pub returns-then-is_empty-clause-empty : goal.returns-then-is_empty-clause-empty
-returns-then-is_empty-clause-empty c =
-    let empty = sym c.is_empty.ensures ∙ c.if-is_empty.true in
-    let stays = c.feed_lent.ensures.empty (nothing_of c.args.piece.now empty) in
-    let i = idle_goes (holding c.args.carrier.now c.args.lines.now) c.args.piece.now c.feed_lent.result.fed c.feed_lent.new.self empty
-    c.requires.quiet c.requires.attended
-    (subst (λ o. carriers.Feeds c.args.carrier.now c.args.piece.now c.feed_lent.result.fed (carrying_lent o c.feed_lent.new.self))
-    stays.2 c.feed_lent.ensures.feeds) (λ _. (stays.0, stays.1)) in
-    λ e. (i.none, i.same)
+returns-then-is_empty-clause-empty c = grind (arith, nothing_of, idle_goes)
 
 pub packets-init : goal.packets-init
 packets-init c = read_first (holding c.args.carrier.now c.args.lines.now) c.args.piece.now c.requires.quiet c.requires.attended

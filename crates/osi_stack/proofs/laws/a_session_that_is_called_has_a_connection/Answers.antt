@@ -1,3 +1,4 @@
+use Rattle.std.proofs.Common.{arith}
 use Rattle.std.proofs.Common.{subst}
 use Rattle.osi_stack.specs.Links.{IsSound}
 use Rattle.osi_stack.proofs.stream.what_was_written_is_read.{packet_is_unit}
@@ -9,12 +10,7 @@ use Rattle.osi_stack.proofs.laws.a_session_that_is_called_has_a_connection.Goals
 
 pub returns : goal.returns
 returns c =
-    let laws = session_laws (record {
-      over = c.an_ended_session_stays_ended.ensures.over;
-      ended = c.an_ended_session_stays_ended.ensures.ended;
-      closed = c.what_closes_sends_nothing.ensures.last;
-      waiting = λ s input other. c.where_a_call_is_accepted.ensures.waiting s input (unopened input other);
-    }) in
+    let laws = session_laws (grind (arith, unopened)) in
     record {
       begins = fresh_sound;
       connects = connect_sound;

@@ -1,3 +1,4 @@
+use Rattle.std.proofs.Common.{arith}
 use Rattle.std.proofs.Common.{◌∷◌, [], refl}
 use Rattle.osi_carrier.specs.Rows.{value_at}
 use Rattle.osi_session.specs.Listening.{broken}
@@ -11,12 +12,7 @@ use Rattle.osi_stack.proofs.laws.an_end_is_settled_between_calls.Goals as goal
 
 pub returns : goal.returns
 returns c =
-    let laws : SessionLaws = session_laws (record {
-      over = c.an_ended_session_stays_ended.ensures.over;
-      ended = c.an_ended_session_stays_ended.ensures.ended;
-      closed = c.what_closes_sends_nothing.ensures.last;
-      waiting = λ s input other. c.where_a_call_is_accepted.ensures.waiting s input (unopened input other);
-    }) in
+    let laws : SessionLaws = session_laws (grind (arith, unopened)) in
     let shown : ShownFirst = record {
       first = c.what_a_user_is_shown_first.ensures.first;
       taken = c.what_a_user_is_shown_first.ensures.taken;
@@ -31,14 +27,7 @@ returns c =
       begins = fresh_settled;
       connects = connect_settled profiles;
       called = call_settled profiles shown laws c.where_a_call_is_accepted.ensures.begun c.what_closes_sends_nothing.ensures.call;
-      fed = feeds_settled
-          (record {
-            laws = laws;
-            profiles = profiles;
-            waits = c.where_a_call_is_accepted.ensures.begun;
-            units = c.what_happens_has_numbers.ensures.units;
-            shown = shown;
-          });
+      fed = grind (arith, feeds_settled);
       shown = first_settled;
       carried = carried_settled;
       disconnected = disconnect_settled (λ s h. c.units_are_a_profile.ensures.kept s (broken ∷ []) h);

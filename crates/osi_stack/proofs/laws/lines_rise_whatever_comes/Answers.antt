@@ -1,3 +1,4 @@
+use Rattle.std.proofs.Common.{arith}
 use Rattle.osi_session.specs.Listening.{called}
 use Rattle.osi_stack.proofs.given_up.the_invariant_stays.{disconnect_ordered}
 use Rattle.osi_stack.proofs.carried.open_connections_stay_open.{SessionLaws}
@@ -8,12 +9,7 @@ use Rattle.osi_stack.proofs.laws.lines_rise_whatever_comes.Goals as goal
 
 pub returns : goal.returns
 returns c =
-    let laws : SessionLaws = session_laws (record {
-      over = c.an_ended_session_stays_ended.ensures.over;
-      ended = c.an_ended_session_stays_ended.ensures.ended;
-      closed = c.what_closes_sends_nothing.ensures.last;
-      waiting = λ s input other. c.where_a_call_is_accepted.ensures.waiting s input (unopened input other);
-    }) in
+    let laws : SessionLaws = session_laws (grind (arith, unopened)) in
     record {
       begins = fresh_ordered;
       connects = connect_ordered;

@@ -1,6 +1,6 @@
-use Rattle.std.proofs.Common.{◌∙◌, ◌++◌, sym, map}
+use Rattle.std.proofs.Common.{arith, ◌++◌}
 use Rattle.osi_message.specs.declared.places.Place.TheVariants.{Last}
-use Rattle.osi_stack.proofs.Vocabulary.{DT, part_octets, written, came, after_inputs, act_in_octets, calls_in}
+use Rattle.osi_stack.proofs.Vocabulary.{DT, part_octets, written, came}
 use Rattle.osi_stack.proofs.called.tsdus_that_are_handed_together.{came_unbounded}
 use Rattle.osi_stack.proofs.each_session.parts_have_the_effect_of_the_whole.{parts_as_whole}
 use Rattle.osi_stack.proofs.opening.the_selectors_of_what_arrives.{data_selectors}
@@ -11,11 +11,5 @@ returns c = λ r session acts front last e kept none profile fits short parts.
     parts_as_whole r session acts (came (part_octets Last last)) (came (written (DT (front ++ last)))) e kept
     (c.parts_are_the_whole.ensures.before session acts front last none profile fits short parts)
     (c.parts_are_the_whole.ensures.octets session acts front last none profile fits short parts)
-    (came_unbounded (after_inputs session (map act_in_octets acts)) (part_octets Last last)
-    ∙ sym (came_unbounded (after_inputs session (calls_in acts)) (written (DT (front ++ last)))))
-    (data_selectors
-    (record {
-      parts = c.what_a_part_says.ensures;
-      read = c.what_is_sent_is_read.ensures.read;
-      said = c.what_is_sent_is_read.ensures.said;
-    }) Last last (front ++ last))
+    (grind (arith, came_unbounded))
+    (search (arith, data_selectors))

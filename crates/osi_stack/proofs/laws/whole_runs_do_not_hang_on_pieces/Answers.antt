@@ -1,3 +1,4 @@
+use Rattle.std.proofs.Common.{arith}
 use Rattle.osi_carrier.proofs.stream.all_pieces_last_alike.{PacketLaws}
 use Rattle.osi_stack.proofs.in_step.what_is_seen_is_the_same.{look_apart}
 use Rattle.osi_stack.proofs.in_step.a_request_whatever_is_pending.{asked_alike}
@@ -20,12 +21,7 @@ returns c =
       front = c.a_prefix_of_a_packet.ensures.front;
       proper = c.a_prefix_of_a_packet.ensures.proper;
     } in
-    let laws : SessionLaws = session_laws (record {
-      over = c.an_ended_session_stays_ended.ensures.over;
-      ended = c.an_ended_session_stays_ended.ensures.ended;
-      closed = c.what_closes_sends_nothing.ensures.last;
-      waiting = λ s input other. c.where_a_call_is_accepted.ensures.waiting s input (unopened input other);
-    }) in
+    let laws : SessionLaws = session_laws (grind (arith, unopened)) in
     let waits = c.where_a_call_is_accepted.ensures.begun in
     record {
       rounds = runs_alike nothing one_cut;

@@ -3,10 +3,7 @@ use Rattle.osi_transcript.proofs.the_lines_of_entries_in_order.{event_done, jour
 use Rattle.osi_transcript.proofs.playing.play_event.Goals as goal
 
 pub split_at-requires : goal.split_at-requires
-split_at-requires c =
-    let grows = journal_grows c.args.pair.now.ends c.apply.new.self.ends c.journal-before.result.now c.journal.result.now
-    c.journal-before.ensures.value c.journal.ensures.value c.in-Ok.ensures.journal in
-    omega arith
+split_at-requires c = grind (arith, journal_grows)
 
 pub returns-in_ok-push_entries-in-Ok : goal.returns-in_ok-push_entries-in-Ok
 returns-in_ok-push_entries-in-Ok c =

@@ -1,18 +1,13 @@
-use Rattle.std.proofs.Common.{ℕ, ◌-◌, List, length, is_some, refl, ap, sym, subst, ◌∙◌, inl, inr, arith}
+use Rattle.std.proofs.Common.{ℕ, ◌-◌, List, length, refl, ap, sym, subst, ◌∙◌, inl, inr, arith}
 use Rattle.osi_carrier.specs.declared.carrier.feeding.Fetched.{Fetched}
-use Rattle.osi_carrier.proofs.Vocabulary.{eqb-false, Fetches, Carrying, IsReading, Goes, stops, waits, is_spoilt}
-use Rattle.osi_carrier.proofs.stream.a_piece_is_read_packet_by_packet.{IsRead, read_first, read_next, read_stops, read_spoilt, read_part}
-use Rattle.osi_carrier.proofs.stream.a_piece_is_read_packet_by_packet.{read_over, fed_goes}
+use Rattle.osi_carrier.proofs.Vocabulary.{eqb-false, Fetches, Carrying, Goes, stops, is_spoilt}
+use Rattle.osi_carrier.proofs.stream.a_piece_is_read_packet_by_packet.{read_first, read_next, read_stops, read_spoilt, read_part, read_over}
+use Rattle.osi_carrier.proofs.stream.a_piece_is_read_packet_by_packet.{fed_goes}
 use Rattle.osi_carrier.proofs.stream.a_tsdu_is_lent_from_its_piece.{lent_feeds, nothing_lent}
 use Rattle.osi_carrier.proofs.carrier.Carrier.feed_by.Goals as goal
 
 pub packets-init : goal.packets-init
-packets-init c =
-    read_first c.args.self.now c.args.piece.now
-    (ap (λ (x : Carrying). is_some x.state.ended) (sym c.self.view_is) ∙ (sym c.has_ended.ensures ∙ c.if-has_ended.false))
-    (ap (λ (x : Carrying). waits x.state) (sym c.self.view_is) ∙ (sym c.has_event.ensures ∙ c.if-has_event.false))
-    (subst IsReading (ap (λ (x : Carrying). x.held) c.self.view_is) c.self.invariant)
-    (eqb-false (length c.args.piece.now) 0 (sym c.is_empty.ensures ∙ c.if-is_empty.false))
+packets-init c = grind (arith, read_first, eqb-false)
 
 pub returns-in-Over-clause-feeds : goal.returns-in-Over-clause-feeds
 returns-in-Over-clause-feeds c =
@@ -62,9 +57,4 @@ returns-in-Lent-clause-feeds c =
     c.read_packet.new.self _ c.packets.invariant c.in-Lent.ensures refl refl
 
 pub packets-preserved : goal.packets-preserved
-packets-preserved c =
-    let quiet = ap (λ (x : Carrying). stops x.state) (sym c.self-in-packets.view_is) ∙ (sym c.stops.ensures ∙ c.if-stops.false) in
-    subst (λ (l : List ℕ). IsRead c.args.self.now c.args.piece.now c.read_packet.new.self l) (sym c.split_at.ensures.back)
-    (read_next c.args.self.now c.args.piece.now c.packets.self c.packets.rest.now c.in-Packet.used c.read_packet.new.self
-    c.packets.invariant
-    c.in-Packet.ensures quiet)
+packets-preserved c = grind (arith, read_next)

@@ -1,6 +1,7 @@
+use Rattle.std.proofs.Common.{arith}
 use Rattle.std.proofs.Common.{◌≡◌, [], subst, sym, ap}
 use Rattle.osi_carrier.specs.contracts.carrier.Carrier.{the_view}
-use Rattle.osi_carrier.proofs.Vocabulary.{Held, EndsOver, PacketActs, IsNoFront, Carrying}
+use Rattle.osi_carrier.proofs.Vocabulary.{Held, EndsOver, IsNoFront, Carrying}
 use Rattle.osi_carrier.proofs.stream.what_the_cutter_returns.{ended_over, fetched_packet, same_fault}
 use Rattle.osi_carrier.proofs.carrier.Carrier.gather.Goals as goal
 
@@ -16,12 +17,4 @@ returns-in-Err c = λ lends lent.
     (ap (λ (h : Held). h.octets) c.new.ensures.value))
 
 pub returns : goal.returns
-returns c = λ lends lent.
-    let new = the_view (record c.self.inside { switch = c.take_held.new.self; cutter = c.advance.new.self }) in
-    let laws = c.a_prefix_of_a_packet.ensures in
-    let stands = c.in-Some.ensures.some in
-    subst (λ (x : Carrying). PacketActs x c.args.octets.now c.in-Ok.fed.used new) c.self.view_is
-    (fetched_packet laws.proper laws.nothing (the_view c.self.inside) new c.args.octets.now c.in-Ok.fed c.feed.new.self c.in-Some.packet.now
-    (c.in-Ok.ensures.taken c.self.invariant.fault c.self.invariant.partial) stands
-    (c.in-Ok.ensures.progress c.self.invariant.fault c.self.invariant.partial) c.take_held.ensures
-    (c.advance.ensures.whole c.in-Some.packet.now stands) c.advance.ensures.sound)
+returns c = grind (arith, fetched_packet)

@@ -1,3 +1,4 @@
+use Rattle.std.proofs.Common.{arith}
 use Rattle.std.proofs.Common.{◌+◌, length, Some, sym, ap, ◌∙◌, subst}
 use Rattle.osi_carrier.specs.Lending.{Lends, carrying_lent, lent_if, with_lent}
 use Rattle.osi_carrier.specs.contracts.carrier.Carrier.{the_view}
@@ -21,13 +22,7 @@ returns-then-take_packet c =
     (subst (λ b. Acts c.self.inside.switch c.in-Some.packet.now (with_lent (lent_if b lent) new.state)) is c.take_packet.ensures.acts)))
 
 pub returns : goal.returns
-returns c =
-    let new = the_view (record c.self.inside { switch = c.take_packet.new.self; cutter = c.pass.new.self }) in
-    subst (λ (x : Carrying). PacketActs x c.args.octets.now (4 + length c.in-Some.packet.now) new) c.self.view_is
-    (passed_packet c.a_prefix_of_a_packet.ensures.nothing (the_view c.self.inside) new c.args.octets.now c.in-Some.packet.now
-    c.in-Some.ensures.passes c.in-Some.ensures.sound
-    (subst (λ b. Acts c.self.inside.switch c.in-Some.packet.now (with_lent (lent_if b c.take_packet.new.lent) new.state))
-    c.if-take_packet.false c.take_packet.ensures.acts))
+returns c = grind (arith, passed_packet)
 
 pub gather-requires-clause-parted : goal.gather-requires-clause-parted
 gather-requires-clause-parted c none =

@@ -1,12 +1,9 @@
-use Rattle.std.proofs.Common.{List, ℕ, map, sym, ap, subst}
-use Rattle.osi_carrier.proofs.written.what_is_copied_of_pieces.{IsCopied, copying_first, copying_next, copying_last}
+use Rattle.std.proofs.Common.{arith, map}
+use Rattle.osi_carrier.proofs.written.what_is_copied_of_pieces.{copying_first, copying_next, copying_last}
 use Rattle.osi_carrier.proofs.pieces.Pieces.copies.Goals as goal
 
 pub pieces-init : goal.pieces-init
-pieces-init c =
-    let p = c.args.self.now in
-    subst (λ (ts : List (List ℕ)). IsCopied p c.args.limit c.args.units ts c.args.units p.first.now p.octets.now)
-    (sym (ap (map (λ v. v.items)) c.new-tsdus.ensures.items)) (copying_first p c.args.limit c.args.units c.requires.fit)
+pieces-init c = grind (arith, copying_first)
 
 pub pieces-preserved : goal.pieces-preserved
 pieces-preserved c =

@@ -1,3 +1,4 @@
+use Rattle.std.proofs.Common.{arith}
 use Rattle.std.proofs.Common.{ℕ, List, ◌++◌, Some, refl, ap, sym, ◌∙◌}
 use Rattle.osi_carrier.proofs.Vocabulary.{any_standing, Standing, with_tsdu, link_of, send_error, pumped, written_by, value_at, peer_in}
 use Rattle.osi_carrier.proofs.Vocabulary.{connection, link_in, Connection, linked, packets}
@@ -41,8 +42,7 @@ returns-then-is_too_long-clause-refused c =
     c.place_in.result c.as_slice.ensures.value c.self.view_is c.self.invariant c.place_in.ensures ∙ c.in-Some.is in
     let row = open_row c.args.reference c.in-Some.place _ _ c.args.self.now _ _ _ _ at c.index_mut.ensures.value c.self.view_is
     c.peer.view_is c.in-Linked.is in
-    sym (ap (λ o. send_error (c.args.head.now ++ c.args.body.now) (link_of o)) row ∙
-    too_long (c.args.head.now ++ c.args.body.now) (sym c.is_too_long.ensures ∙ c.if-is_too_long.true))
+    grind (arith, too_long)
 
 pub returns-in_default-send_headed_parts-clause-refused : goal.returns-in_default-send_headed_parts-clause-refused
 returns-in_default-send_headed_parts-clause-refused c =
@@ -50,8 +50,7 @@ returns-in_default-send_headed_parts-clause-refused c =
     c.place_in.result c.as_slice.ensures.value c.self.view_is c.self.invariant c.place_in.ensures ∙ c.in-Some.is in
     let row = open_row c.args.reference c.in-Some.place _ _ c.args.self.now _ _ _ _ at c.index_mut.ensures.value c.self.view_is
     c.peer.view_is c.in-Linked.is in
-    sym (ap (λ o. send_error (c.args.head.now ++ c.args.body.now) (link_of o)) row ∙
-    short (c.args.head.now ++ c.args.body.now) (sym c.is_too_long.ensures ∙ c.if-is_too_long.false))
+    grind (arith, short (c.args.head.now ++ c.args.body.now) (sym c.is_too_long.ensures ∙ c.if-is_too_long.false))
 
 pub invariant_of-self-then-send_whole-2 : goal.invariant_of-self-then-send_whole-2
 invariant_of-self-then-send_whole-2 c =

@@ -1,22 +1,16 @@
-use Rattle.std.proofs.Common.{◌≡◌, ℕ, List, ◌++◌, Some, ap, sym, subst, ◌∙◌}
-use Rattle.osi_carrier.proofs.Vocabulary.{cow_slice_items, any_standing, Standing, next, with_tsdu, WaitsAlone, connection, IsPumped}
-use Rattle.osi_carrier.proofs.Vocabulary.{pumped, written_by, value_at, peer_in, link_in, Connection, linked, packets}
-use Rattle.osi_carrier.proofs.Vocabulary.{Phase}
+use Rattle.std.proofs.Common.{arith, ◌≡◌, ℕ, ◌++◌, ap, sym, subst, ◌∙◌}
+use Rattle.osi_carrier.proofs.Vocabulary.{cow_slice_items, any_standing, Standing, with_tsdu, WaitsAlone, pumped, written_by, value_at}
+use Rattle.osi_carrier.proofs.Vocabulary.{link_in, Connection, linked, packets}
 use Rattle.osi_carrier.proofs.references.rows_in_order.{set_kept}
 use Rattle.osi_carrier.proofs.references.the_link_in_a_row.{linked_phase, found_at, row_linked, ok_then}
 use Rattle.osi_carrier.proofs.references.the_row_at_a_place.{here_is, put_row}
 use Rattle.osi_carrier.proofs.rows.Connections.send.Goals as goal
 
 pub unreachable-requires : goal.unreachable-requires
-unreachable-requires c =
-    let at = here_is c.args.reference c.args.self.now c.self.inside.rows.items c.args.place c.index_mut.result.now c.requires.place
-    c.index_mut.ensures.value c.self.view_is
-    ∙ ap (λ (x : ℕ × Connection). Some x.1) (sym c.link.view_is) in
-    linked_phase c.link.inside.phase c.args.peer (ap peer_in (sym at) ∙ c.requires.open) c.in_default.not-Linked
+unreachable-requires c = grind (arith, here_is, linked_phase)
 
 pub send_parts-requires : goal.send_parts-requires
-send_parts-requires c = ap next (c.send_whole.ensures.none c.if-send_whole.false).0 ∙
-    subst (λ (p : Phase). IsPumped (connection p)) c.in-Linked.is c.link.invariant
+send_parts-requires c = grind arith
 
 pub invariant_of-self-then-send_whole-2 : goal.invariant_of-self-then-send_whole-2
 invariant_of-self-then-send_whole-2 c =
@@ -74,14 +68,10 @@ pub returns-clause-ok : goal.returns-clause-ok
 returns-clause-ok c =
     let found = found_at c.args.reference c.args.peer c.args.place _ _ c.args.self.now _ _ _ _ c.requires.place c.index_mut.ensures.value
     c.self.view_is c.link.view_is c.in-Linked.is c.requires.open in
-    let none = c.send_whole.ensures.none c.if-send_whole.false in
-    let same = ap (λ (s : Standing). with_tsdu s (cow_slice_items c.args.tsdu)) (none.0 ∙ found.0) in
     ok_then c.send_parts.result
     (λ (e : c.send_parts.new.out.items ≡ c.send_whole.new.out.items ++
     packets (written_by c.args.peer (with_tsdu (any_standing c.send_whole.new.link) (cow_slice_items c.args.tsdu)))).
-    e ∙ ap (λ (o : List ℕ). o ++
-    packets (written_by c.args.peer (with_tsdu (any_standing c.send_whole.new.link) (cow_slice_items c.args.tsdu)))) none.1
-    ∙ ap (λ (s : Standing). c.args.out.now.items ++ packets (written_by c.args.peer s)) same)
+    grind arith)
     c.send_parts.ensures.ok
 
 pub returns-clause-kept : goal.returns-clause-kept

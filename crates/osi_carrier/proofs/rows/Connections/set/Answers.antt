@@ -1,14 +1,12 @@
+use Rattle.std.proofs.Common.{arith}
 use Rattle.std.proofs.Common.{ℕ, ap}
-use Rattle.osi_carrier.proofs.Vocabulary.{connection, Connection}
+use Rattle.osi_carrier.proofs.Vocabulary.{Connection}
 use Rattle.osi_carrier.proofs.references.the_row_at_a_place.{put_row}
 use Rattle.osi_carrier.proofs.references.rows_in_order.{set_kept}
 use Rattle.osi_carrier.proofs.rows.Connections.set.Goals as goal
 
 pub returns : goal.returns
-returns c =
-    put_row c.args.reference c.args.self.now c.self.inside.rows.items c.args.place c.index_mut.result.now c.set.new.self
-    (connection c.args.phase)
-    c.requires.place c.index_mut.ensures.value c.self.view_is c.set.ensures
+returns c = grind (arith, put_row)
 
 pub invariant_of-self : goal.invariant_of-self
 invariant_of-self c =

@@ -1,3 +1,4 @@
+use Rattle.std.proofs.Common.{arith}
 use Rattle.std.proofs.Common.{◌≡◌, ℕ, ◌++◌, true, Option, Some, Result, Err, IsOk, is_some, refl, option_to_list}
 use Rattle.std.proofs.Common.{ap, sym, subst, ◌∙◌, rules}
 use Rattle.osi_class.specs.Handing.{tsdu_handed, user_of}
@@ -7,7 +8,7 @@ use Rattle.osi_class.proofs.bounds.what_a_queue_hands_out.{handing}
 use Rattle.osi_carrier.proofs.Vocabulary.{append-nil, any_standing, value, Standing, LinkFault, needs_memory, taken, connection}
 use Rattle.osi_carrier.proofs.Vocabulary.{value_at, peer_in, link_in, Connection, linked, packets, link_after, units_after, whole_after}
 use Rattle.osi_carrier.proofs.Vocabulary.{link_grows}
-use Rattle.osi_carrier.proofs.effects.what_a_link_answers.{refused_by, took_whole, took_link, took_units, on_err}
+use Rattle.osi_carrier.proofs.effects.what_a_link_answers.{refused_by, took_whole, took_link, on_err}
 use Rattle.osi_carrier.proofs.references.rows_in_order.{set_kept}
 use Rattle.osi_carrier.proofs.references.the_link_in_a_row.{none_known, not_known, open_row, row_linked, sought_place, same_peer}
 use Rattle.osi_carrier.proofs.references.the_row_at_a_place.{here_is, nowhere, put_row, put_same}
@@ -79,8 +80,7 @@ returns-in-Err-OutOfMemory-clause-needs c = λ peer known.
     let refused = want_taken c.receive.result c.in-Err-OutOfMemory.field-0 (needs_memory unit) (taken link unit) link
     (any_standing c.receive.new.self) c.in-Err-OutOfMemory.is c.in-Err-OutOfMemory.field-0-is
     (on_err c.receive.result c.in-Err-OutOfMemory.field-0 c.in-Err-OutOfMemory.is c.receive.ensures.refused) in
-    subst (λ (s : Standing). link_grows peer s (taken s unit) ≡ true) (sym (ap link_in row))
-    (taken_grows peer link unit refused.0 refused.1)
+    grind (arith, link_grows, taken_grows peer link unit refused.0 refused.1)
 
 pub returns-in-Err : goal.returns-in-Err
 returns-in-Err c =
@@ -201,9 +201,5 @@ returns-clause-ok c = λ peer known.
     c.place_in.result c.as_slice.ensures.value c.self.view_is c.self.invariant c.place_in.ensures ∙ c.in-Some.is in
     let row = open_row c.args.reference c.in-Some.place _ _ c.args.self.now _ _ _ _ at c.index_mut-row.ensures.value c.self.view_is
     c.row.view_is c.in-Linked.is in
-    let same = same_peer (peer_in (value_at c.args.reference c.args.self.now)) c.in-Linked.peer peer (ap peer_in row) known in
-    let took = took_units c.in-Linked.peer tsdu (with_handed tsdu new) new (taken link unit) c.in-Ok.ensures.taken
-    (handing tsdu new c.in-Ok.ensures.none) in
     c.in-Ok-pump.ensures.ok ∙ ap (λ us. c.args.out.now.items ++ packets us)
-    (took ∙ ap (λ (s : Standing). units_after c.in-Linked.peer (taken s unit)) (sym (ap link_in row))
-    ∙ ap (λ (n : ℕ). units_after n (taken (link_in (value_at c.args.reference c.args.self.now)) unit)) same)
+    (grind arith)

@@ -1,7 +1,6 @@
-use Rattle.osi_carrier.specs.Happenings.{happening}
+use Rattle.std.proofs.Common.{arith}
 use Rattle.osi_carrier.proofs.written.what_needs_memory_does_something.{tells_drops_grows, on_want}
 use Rattle.osi_carrier.proofs.switch.Switch.drop_telling.Goals as goal
 
 pub returns-in_err-reserve-clause-needs : goal.returns-in_err-reserve-clause-needs
-returns-in_err-reserve-clause-needs c =
-    on_want c.from_residual.result (tells_drops_grows (happening c.args.event) c.args.reference c.args.self.now)
+returns-in_err-reserve-clause-needs c = grind (arith, on_want, tells_drops_grows)

@@ -1,5 +1,4 @@
-use Rattle.std.proofs.Common.{◌≡◌, ◌++◌, ◌∷◌, [], Some, true, map, subst}
-use Rattle.std.proofs.Common.{rules}
+use Rattle.std.proofs.Common.{arith, ◌≡◌, ◌++◌, ◌∷◌, [], Some, map, subst, rules}
 use Rattle.osi_carrier.specs.declared.events.Event.TheVariants.{Faulted}
 use Rattle.osi_carrier.proofs.Vocabulary.{Two, disconnect, grows, happening, faulted, breaks, put, State, closing, packets, the_view}
 use Rattle.osi_carrier.proofs.effects.a_refused_unit_changes_nothing.{changed, told, breaks_two}
@@ -25,17 +24,7 @@ returns-in_ok-put_disconnect-in-Some-Two-clause-ok c =
     c.reserve.ensures.items c.tell.ensures)))
 
 pub returns-in_err-reserve-in-Some-Two-clause-needs : goal.returns-in_err-reserve-in-Some-Two-clause-needs
-returns-in_err-reserve-in-Some-Two-clause-needs c =
-    let s = the_view c.self.inside in
-    let class : c.self.inside.class ≡ Some Two = search rules in
-    on_want c.from_residual.result
-    (subst (λ (x : State). grows x (breaks c.args.reference c.args.peer c.args.fault x.class x) ≡ true) c.self.view_is
-    (breaks_grows c.args.reference c.args.peer c.args.fault s.class s class))
+returns-in_err-reserve-in-Some-Two-clause-needs c = grind (arith, rules, on_want, grows, breaks_grows)
 
 pub returns-in_err-put_disconnect-in-Some-Two-clause-needs : goal.returns-in_err-put_disconnect-in-Some-Two-clause-needs
-returns-in_err-put_disconnect-in-Some-Two-clause-needs c =
-    let s = the_view c.self.inside in
-    let class : c.self.inside.class ≡ Some Two = search rules in
-    on_want c.from_residual-in_err-put_disconnect-in-Some-Two.result
-    (subst (λ (x : State). grows x (breaks c.args.reference c.args.peer c.args.fault x.class x) ≡ true) c.self.view_is
-    (breaks_grows c.args.reference c.args.peer c.args.fault s.class s class))
+returns-in_err-put_disconnect-in-Some-Two-clause-needs c = grind (arith, rules, on_want, grows, breaks_grows)

@@ -1,60 +1,26 @@
-use Rattle.std.proofs.Common.{◌≡◌, ℕ, List, ◌∷◌, [], ◌++◌, true, take, refl, ap, subst, ◌∙◌, option_to_list}
-use Rattle.osi_class.specs.Handing.{tsdu_handed, user_of}
+use Rattle.std.proofs.Common.{arith, ◌≡◌, ℕ, List, true, take, refl, ap, subst, ◌∙◌, option_to_list}
 use Rattle.osi_carrier.specs.declared.links.Step.{Step}
 use Rattle.osi_carrier.specs.declared.links.Step.TheVariants.{Took}
-use Rattle.osi_carrier.proofs.Vocabulary.{value, taken, grows, taking, value_at, place_of, link_in, peer_in, State, StepsTo}
-use Rattle.osi_carrier.proofs.Vocabulary.{the_view, ends, NoMemory, put, linked, link_after, units_after, packets, tells, tsdu}
+use Rattle.osi_carrier.proofs.Vocabulary.{value, taken, grows, taking, value_at, place_of, link_in, peer_in, State, StepsTo, the_view, ends}
+use Rattle.osi_carrier.proofs.Vocabulary.{NoMemory, units_after, packets}
 use Rattle.osi_carrier.proofs.effects.a_refused_unit_changes_nothing.{broke_rows, broke_octets, broke_taking, took_taking, undone, changed}
 use Rattle.osi_carrier.proofs.references.the_link_in_a_row.{same_peer, with_peer}
 use Rattle.osi_carrier.proofs.written.what_needs_memory_does_something.{taking_grows, took_grows, broke_grows, on_want}
 use Rattle.osi_carrier.proofs.switch.Switch.hand_to_link.Goals as goal
 
 pub returns-in_err-step-clause-needs : goal.returns-in_err-step-clause-needs
-returns-in_err-step-clause-needs c = λ peer known.
-    let s = the_view c.self.inside in
-    let t = taken (link_in (value_at c.args.reference c.self.inside.live)) (value c.args.unit.now) in
-    let opened = ap (λ (x : State). peer_in (value_at c.args.reference x.live)) c.self.view_is ∙ known in
-    on_want c.from_residual.result
-    (subst (λ (x : State). grows x
-    (taking c.args.reference peer (taken (link_in (value_at c.args.reference x.live)) (value c.args.unit.now)) x) ≡ true)
-    c.self.view_is (taking_grows c.args.reference peer s t opened (c.in_err-step.ensures.needs peer opened)))
+returns-in_err-step-clause-needs c = grind (arith, on_want, grows, taking_grows)
 
 -- ---- the link takes the unit
 
 -- it is a whole TSDU, and lent
 pub returns-in-Took-Whole-clause-ok : goal.returns-in-Took-Whole-clause-ok
 returns-in-Took-Whole-clause-ok c = λ peer known.
-    let s = the_view c.self.inside in
-    let live = c.self.inside.live in
-    let unit = value c.args.unit.now in
-    let t = taken (link_in (value_at c.args.reference live)) unit in
-    let now = the_view (record c.self.inside { live = c.step.new.self; outgoing = c.step.new.out }) in
-    let opened = ap (λ (x : State). peer_in (value_at c.args.reference x.live)) c.self.view_is ∙ known in
-    let took = subst (λ h. StepsTo (Took h) c.args.reference unit live t) c.in-Took-Whole.field-0-is
-    (subst (λ (x : Step). StepsTo x c.args.reference unit live t) c.in-Took-Whole.is c.in_ok-step.ensures.step) in
-    subst (λ (x : State). tells (tsdu c.args.reference (user_of unit)) now ≡
-    taking c.args.reference peer (taken (link_in (value_at c.args.reference x.live)) unit) x) c.self.view_is
-    (took_taking c.args.reference peer s (tells (tsdu c.args.reference (user_of unit)) now) t (user_of unit ∷ []) took.1 took.2
-    (changed s c.step.new.self (put c.args.reference (linked peer (link_after (link_in (value_at c.args.reference live)) t)) live)
-    c.step.new.out.items (s.outgoing ++ packets (units_after peer t)) _ _
-    (c.in_ok-step.ensures.rows peer opened) (c.in_ok-step.ensures.ok peer opened) refl))
+    grind (arith, took_taking, changed)
 
 pub returns-in-Ok-clause-ok : goal.returns-in-Ok-clause-ok
 returns-in-Ok-clause-ok c = λ peer known.
-    let s = the_view c.self.inside in
-    let live = c.self.inside.live in
-    let unit = value c.args.unit.now in
-    let t = taken (link_in (value_at c.args.reference live)) unit in
-    let opened = ap (λ (x : State). peer_in (value_at c.args.reference x.live)) c.self.view_is ∙ known in
-    let took = subst (λ (x : Step). StepsTo x c.args.reference unit live t) c.in-Took.is c.in_ok-step.ensures.step in
-    subst (λ (x : State). c.tell_tsdu.new.self ≡
-    taking c.args.reference peer (taken (link_in (value_at c.args.reference x.live)) unit) x) c.self.view_is
-    (took_taking c.args.reference peer s c.tell_tsdu.new.self t _ took.1
-    (ap (λ h. option_to_list (tsdu_handed (user_of unit) h)) c.in-Took.handed-is ∙ took.2)
-    (c.in-Ok.ensures.ok ∙
-    changed s c.step.new.self (put c.args.reference (linked peer (link_after (link_in (value_at c.args.reference live)) t)) live)
-    c.step.new.out.items (s.outgoing ++ packets (units_after peer t)) _ _
-    (c.in_ok-step.ensures.rows peer opened) (c.in_ok-step.ensures.ok peer opened) refl))
+    grind (arith, took_taking, option_to_list, changed)
 
 pub returns-in_default-clause-err : goal.returns-in_default-clause-err
 returns-in_default-clause-err c =
@@ -74,14 +40,7 @@ returns-in_default-clause-err c =
 
 pub returns-in_default-clause-needs : goal.returns-in_default-clause-needs
 returns-in_default-clause-needs c = λ peer known.
-    let s = the_view c.self.inside in
-    let unit = value c.args.unit.now in
-    let t = taken (link_in (value_at c.args.reference c.self.inside.live)) unit in
-    let took = subst (λ (x : Step). StepsTo x c.args.reference unit c.self.inside.live t) c.in-Took.is c.in_ok-step.ensures.step in
-    subst (λ (x : State). grows x
-    (taking c.args.reference peer (taken (link_in (value_at c.args.reference x.live)) unit) x) ≡ true)
-    c.self.view_is (took_grows c.args.reference peer s t _ took.1
-    (ap (λ h. option_to_list (tsdu_handed (user_of unit) h)) c.in-Took.handed-is ∙ took.2) c.in_default.ensures.some)
+    grind (arith, grows, took_grows, option_to_list)
 
 -- ---- the link refuses it
 

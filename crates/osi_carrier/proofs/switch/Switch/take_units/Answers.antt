@@ -1,3 +1,4 @@
+use Rattle.std.proofs.Common.{arith}
 use Rattle.std.proofs.Common.{ap, sym, ◌∙◌, is_some}
 use Rattle.osi_carrier.proofs.Vocabulary.{units_left, value, State}
 use Rattle.osi_carrier.proofs.effects.units_one_after_the_other.{along_over, along_next, along_starved, none_of}
@@ -11,11 +12,7 @@ returns-then-is_some c =
     c.units.invariant c.in-Some.ensures.steps.0 c.in-Ok.ensures.ok over
 
 pub units-preserved : goal.units-preserved
-units-preserved c =
-    let lasts = ap (λ (s : State). is_some s.ended) (sym c.self.view_is) ∙ (sym c.is_some.ensures ∙ c.if-is_some.false) in
-    along_next c.args.self.now c.units.self c.react.new.self (units_left c.args.units) (units_left c.units.units)
-    (units_left c.next.new.self) (value c.in-Some.unit)
-    c.units.invariant c.in-Some.ensures.steps.0 c.in-Ok.ensures.ok (none_of c.react.new.self.ended lasts)
+units-preserved c = grind (arith, along_next, none_of)
 
 pub returns-in_default-react : goal.returns-in_default-react
 returns-in_default-react c =

@@ -1,4 +1,4 @@
-use Rattle.std.proofs.Common.{ℕ, length, map, sym, subst, ◌∙◌, refl}
+use Rattle.std.proofs.Common.{arith, ℕ, length, map, sym, ◌∙◌, refl}
 use Rattle.osi_class.specs.declared.units.Slot.TheVariants.{Data2}
 use Rattle.osi_class.proofs.Vocabulary.{min, Ends, Flow, Sender, after_sent, GivesSlot, joining, Two, two_standing}
 use Rattle.osi_class.proofs.giving.a_part_that_is_given_at_once.{part_of_class_2}
@@ -19,8 +19,4 @@ returns-clause-given c =
     let slot : Slots flow.sender.next (after_sent flow.sender) (record { ends = ends; flow = flow }) =
     λ tsdu. part_of_class_2 ends flow tsdu (min ends.limit (length tsdu)) refl (c.if-not-is_empty.ensures.nothing refl)
     (sym c.has_ack.ensures ∙ c.if-has_ack.false) (sym c.if-not-has_credit.ensures) in
-    let numbered = subst (λ (n : ℕ). Slots n (after_sent flow.sender) (record { ends = ends; flow = flow }))
-    (sym c.count_unit.ensures.number) slot in
-    let counted = subst (λ (s : Sender). Slots c.count_unit.result s (record { ends = ends; flow = flow })) (sym c.count_unit.ensures.after)
-    numbered in
-    subst (λ (old : Two). Slots c.count_unit.result c.count_unit.new.self old) c.self.view_is counted
+    grind arith

@@ -1,20 +1,10 @@
-use Rattle.std.proofs.Common.{◌≡◌, ℕ, ◌∙◌, ◌*◌, sym, ap, arith, ◌<◌, length}
-use Rattle.osi_class.proofs.Vocabulary.{min, parts_needed, Two}
+use Rattle.std.proofs.Common.{◌≡◌, ◌∙◌, ap, arith, ◌<◌}
+use Rattle.osi_class.proofs.Vocabulary.{Two}
 use Rattle.osi_class.proofs.giving.the_units_of_one_tsdu.{room_of_class_2}
 use Rattle.osi_class.proofs.class_two.Class2Link.room_for.Goals as goal
 
 pub returns-clause-units : goal.returns-clause-units
-returns-clause-units c tsdu same none =
-    let two : Two = c.args.self.now in
-    let limit : c.self.inside.limit ≡ two.ends.limit = ap (λ (t : Two). t.ends.limit) c.self.view_is in
-    let credit : c.credit.result ≡ two.flow.sender.credit =
-    c.credit.ensures.value ∙ ap (λ (t : Two). t.flow.sender.credit) c.self.view_is in
-    let room : 0 < two.ends.limit = omega arith in
-    c.room_within.ensures.units
-    ∙ ap (λ (n : ℕ). min (parts_needed n c.args.octets) c.credit.result) limit
-    ∙ ap (λ (n : ℕ). min (parts_needed two.ends.limit c.args.octets) n) credit
-    ∙ ap (λ (n : ℕ). min (parts_needed two.ends.limit n) two.flow.sender.credit) (sym same)
-    ∙ sym (room_of_class_2 two.ends two.flow tsdu room none).0
+returns-clause-units c tsdu same none = grind (arith, room_of_class_2)
 
 pub returns-clause-octets : goal.returns-clause-octets
 returns-clause-octets c tsdu same none =
@@ -23,8 +13,4 @@ returns-clause-octets c tsdu same none =
     let credit : c.credit.result ≡ two.flow.sender.credit =
     c.credit.ensures.value ∙ ap (λ (t : Two). t.flow.sender.credit) c.self.view_is in
     let room : 0 < two.ends.limit = omega arith in
-    c.room_within.ensures.octets
-    ∙ ap (λ (n : ℕ). min c.args.octets (c.credit.result * n)) limit
-    ∙ ap (λ (n : ℕ). min c.args.octets (n * two.ends.limit)) credit
-    ∙ ap (λ (n : ℕ). min n (two.flow.sender.credit * two.ends.limit)) (sym same)
-    ∙ sym (room_of_class_2 two.ends two.flow tsdu room none).1
+    grind (arith, room_of_class_2 two.ends two.flow tsdu room none)

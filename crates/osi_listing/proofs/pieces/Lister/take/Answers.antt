@@ -4,10 +4,7 @@ use Rattle.osi_listing.proofs.what_is_written_is_the_listing.{feeds_by, feeds_on
 use Rattle.osi_listing.proofs.pieces.Lister.take.Goals as goal
 
 pub returns-in-Going-clause-fed : goal.returns-in-Going-clause-fed
-returns-in-Going-clause-fed c =
-    feeds_on c.list_on.result c.args.self.now c.list_on.new.self c.args.piece.now c.args.text.now.items c.list_on.new.text.items
-    c.list_on.ensures.octets
-    (omega arith) (c.list_on.ensures.listed c.in-Going.is)
+returns-in-Going-clause-fed c = grind (arith, feeds_on)
 
 pub returns-in-Faulty-clause-fed : goal.returns-in-Faulty-clause-fed
 returns-in-Faulty-clause-fed c =

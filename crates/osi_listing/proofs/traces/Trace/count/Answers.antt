@@ -1,11 +1,10 @@
-use Rattle.std.proofs.Common.{◌++◌, inl, inr}
+use Rattle.std.proofs.Common.{arith, ◌++◌}
 use Rattle.osi_listing.specs.Traced.{unfetched}
 use Rattle.osi_listing.proofs.a_trace_is_a_prefix_of_the_listing.{stops_counters, stops_for_streams, counted_on}
 use Rattle.osi_listing.proofs.traces.Trace.count.Goals as goal
 
 pub returns-in-Err-clause-traced : goal.returns-in-Err-clause-traced
-returns-in-Err-clause-traced c = λ counts octets fetched h.
-    stops_counters c.args.self.now.keeping c.args.self.now.lister octets c.args.piece.now (fetched ++ unfetched c.args.self.now) counts h
+returns-in-Err-clause-traced c = grind (arith, stops_counters)
 
 pub returns-clause-traced : goal.returns-clause-traced
 returns-clause-traced c = λ counts octets fetched h.
@@ -14,6 +13,4 @@ returns-clause-traced c = λ counts octets fetched h.
     c.in-Ok.ensures.fed h
 
 pub returns-clause-stops : goal.returns-clause-stops
-returns-clause-stops c = λ stopped.
-    inr (inl (stops_for_streams c.counting-self.result c.feed.new.self c.unfinished.result c.unfinished.ensures
-    c.counting-self.ensures stopped))
+returns-clause-stops c = grind (arith, stops_for_streams)

@@ -1,12 +1,11 @@
-use Rattle.std.proofs.Common.{◌++◌, inl, inr}
+use Rattle.std.proofs.Common.{arith, inl, inr}
 use Rattle.std.specs.Prelude.{vec_capacity}
 use Rattle.osi_listing.specs.Traced.{unfetched}
 use Rattle.osi_listing.proofs.a_trace_is_a_prefix_of_the_listing.{stops_lines, stops_for, kept}
 use Rattle.osi_listing.proofs.traces.Trace.list.Goals as goal
 
 pub returns-in-Err-clause-traced : goal.returns-in-Err-clause-traced
-returns-in-Err-clause-traced c = λ lines octets fetched h.
-    stops_lines c.args.self.now.keeping c.args.self.now.lister octets c.args.piece.now (fetched ++ unfetched c.args.self.now) lines h
+returns-in-Err-clause-traced c = grind (arith, stops_lines)
 
 pub returns-clause-traced : goal.returns-clause-traced
 returns-clause-traced c = λ lines octets fetched h.

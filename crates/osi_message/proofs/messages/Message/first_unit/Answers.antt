@@ -36,12 +36,9 @@ returns-clause-units c = elim c.match-self.branch [
   | in-Give w ↦ rw (w.result-is, w.in-Give.is) (w.give.ensures.units)
   | in-Please w ↦ rw (w.result-is, w.in-Please.is) (w.please.ensures.units)
   | in-Finish w ↦ rw (w.result-is, w.in-Finish.is) (w.finish.ensures.units ∙ ap (unit_with Finish) (data_known w.in-Finish.user_data))
-  | in-Disconnect w ↦ rw (w.result-is, w.in-Disconnect.is)
-      (w.disconnect.ensures.units ∙ ap (unit_with Disconnect) (data_known w.in-Disconnect.user_data))
-  | in-NotFinished w ↦ rw (w.result-is, w.in-NotFinished.is)
-      (w.not_finished.ensures.units ∙ ap (unit_with NotFinished) (data_known w.in-NotFinished.user_data))
-  | in-Abort w ↦ rw (w.result-is, w.in-Abort.is)
-      (w.abort.ensures.units ∙ ap (unit_with Abort) (abort_known w.in-Abort.transport_disconnect w.in-Abort.user_data))
+  | in-Disconnect w ↦ grind (arith, data_known w.in-Disconnect.user_data)
+  | in-NotFinished w ↦ grind (arith, data_known w.in-NotFinished.user_data)
+  | in-Abort w ↦ grind (arith, abort_known w.in-Abort.transport_disconnect w.in-Abort.user_data)
   | in-AbortAccept w ↦ rw (w.result-is, w.in-AbortAccept.is) (w.abort_accept.ensures.units ∙ ap (unit_with AbortAccept) none_known)
 ]
 

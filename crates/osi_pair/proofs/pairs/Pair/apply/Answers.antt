@@ -1,4 +1,5 @@
-use Rattle.osi_pair.proofs.Vocabulary.{List, OnOk, IfOk, subst, ends_in, Step, StandsAfter, CarriesAsMuch, StandsAt}
+use Rattle.std.proofs.Common.{arith}
+use Rattle.osi_pair.proofs.Vocabulary.{List, OnOk, IfOk, subst, ends_in, Step, StandsAfter, StandsAt}
 use Rattle.osi_pair.specs.Events.{NotesIfCutShort}
 use Rattle.osi_pair.specs.Memory.{pairing_in}
 use Rattle.osi_pair.specs.Pairings.{Pairing}
@@ -17,13 +18,10 @@ returns-clause-stands c =
     let laws : EventLaws = assumption in
     subst (λ (p : Pairing). OnOk c.apply.result
     ((steps : List Step) → StandsAt p.ends steps → StandsAfter c.args.event.now p.ends (ends_in c.apply.new.self) steps)) c.self.view_is
-    (result_stands laws c.args.event.now (ends_in c.self.inside.ends) (ends_in c.apply.new.self) c.apply.result c.can_happen.ensures
-    c.apply.ensures.fits c.apply.ensures.does)
+    (grind (arith, result_stands))
 
 pub returns-clause-carried : goal.returns-clause-carried
-returns-clause-carried c =
-    subst (λ (p : Pairing). IfOk c.apply.result (λ applied. CarriesAsMuch c.args.event.now p.ends applied)) c.self.view_is
-    (result_carries c.args.event.now (ends_in c.self.inside.ends) c.apply.result c.self.invariant c.apply.ensures.carried)
+returns-clause-carried c = grind (arith, result_carries)
 
 pub returns-clause-cut : goal.returns-clause-cut
 returns-clause-cut c =

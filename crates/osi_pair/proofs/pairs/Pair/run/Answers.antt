@@ -32,15 +32,13 @@ returns-in-Err-clause-stops c =
       within = within;
       is_cut = c.events.is_cut_short;
       between = c.events.self;
-      before = runs_through (take c.events.place c.args.events.now) c.events.is_cut_short c.args.self.now c.events.self
-          c.events.invariant;
+      before = search (arith, runs_through);
       same = c.in-Err.ensures.err;
       capacity = c.apply.ensures.capacity;
       refused = subst (λ (o : Option Event). IfSome o (λ event. error_by_rule c.in-Err.error ≡ misfit event c.apply.new.self.ends))
           (sym (slice_get_read c.args.events.now
           (length c.args.events.now) c.events.place c.index-events-place.result refl within c.index-events-place.is))
-          (subst (λ (p : TwoEnds). error_by_rule c.in-Err.error ≡ misfit c.index-events-place.result p)
-          (sym c.in-Err.ensures.err) c.in-Err.ensures.refused);
+          (grind arith);
       needed = subst (λ (o : Option Event). IfSome o (λ event. c.in-Err.error ≡ OutOfMemory → WantsMemory event c.apply.new.self.ends))
           (sym (slice_get_read c.args.events.now
           (length c.args.events.now) c.events.place c.index-events-place.result refl within c.index-events-place.is))
@@ -49,7 +47,4 @@ returns-in-Err-clause-stops c =
     }
 
 pub returns-clause-all : goal.returns-clause-all
-returns-clause-all c =
-    runs_through c.args.events.now c.events.is_cut_short c.args.self.now c.events.self
-    (subst (λ (l : List Event). HappenAll l c.args.self.now c.events.is_cut_short c.events.self)
-    (take_all c.events.place c.args.events.now (omega arith)) c.events.invariant)
+returns-clause-all c = grind (arith, runs_through, take_all)

@@ -1,4 +1,4 @@
-use Rattle.std.proofs.Common.{◌∙◌}
+use Rattle.std.proofs.Common.{arith}
 use Rattle.osi_session.proofs.Vocabulary.{DT, Data}
 use Rattle.osi_spdu.specs.Sizes.{size_of}
 use Rattle.osi_session.proofs.tables.what_an_accepted_call_does.{accepts, rests_by}
@@ -9,14 +9,7 @@ returns-in-Ok c =
     let a = accepts (size_of c.size_limit.result) _ c.args.self.now (Data c.args.user_data.now)
     (record { next = c.self.inside.state; sent = DT c.args.user_data.now }) c.size_limit.ensures c.self.view_is c.self.invariant.0 tt
     c.in_ok-allow_data.ensures.ok in
-    record {
-      state = rests_by _ c.args.self.now (Data c.args.user_data.now) (DT c.args.user_data.now) c.self.view_is c.self.invariant.3
-          c.in_ok-allow_data.ensures.ok;
-      sent = c.in-Ok.ensures ∙ a.sends;
-      accepted = a.passes;
-      sendable = a.sendable;
-      refused = tt;
-    }
+    grind (arith, rests_by)
 
 pub returns-in-Err-clause-refused : goal.returns-in-Err-clause-refused
 returns-in-Err-clause-refused c =

@@ -1,4 +1,4 @@
-use Rattle.std.proofs.Common.{refl, ◌∙◌, sym}
+use Rattle.std.proofs.Common.{arith, refl}
 use Rattle.osi_message.proofs.the_tsdus_of_a_message.{sent_whole}
 use Rattle.osi_session.proofs.Vocabulary.{DT, Data, Listener, limit_of}
 use Rattle.osi_session.proofs.tables.what_an_accepted_call_does.{accepts, rests_by}
@@ -11,13 +11,7 @@ returns-in-Ok c =
     let e = c.goes_whole.ensures in
     let yes = c.if-not-goes_whole.false in
     let a = accepts (limit_of l.state) l l (Data user) (record { next = l.state; sent = DT user }) refl refl e.sound tt (e.allowed yes) in
-    record {
-      state = rests_by l l (Data user) (DT user) refl e.kept (e.allowed yes);
-      sent = c.in-Ok.ensures ∙ sym (sent_whole (limit_of l.state) user (e.whole yes)) ∙ a.sends;
-      accepted = a.passes;
-      sendable = a.sendable;
-      refused = tt;
-    }
+    grind (arith, rests_by, sent_whole)
 
 pub returns-in-Err-clause-refused : goal.returns-in-Err-clause-refused
 returns-in-Err-clause-refused c =

@@ -1,4 +1,4 @@
-use Rattle.std.proofs.Common.{length, ◌∙◌}
+use Rattle.std.proofs.Common.{arith}
 use Rattle.osi_spdu.specs.Sizes.{size_of}
 use Rattle.osi_session.proofs.Vocabulary.{DT, Data, leb-true}
 use Rattle.osi_session.proofs.tables.what_an_accepted_call_does.{accepts, rests_by}
@@ -7,25 +7,14 @@ use Rattle.osi_session.proofs.tables.what_the_table_of_calls_answers.{allowed_na
 use Rattle.osi_session.proofs.sessions.Session.data_parts.Goals as goal
 
 pub lent_within-requires : goal.lent_within-requires
-lent_within-requires c =
-    let user = c.args.user_data.now in
-    leb-true (length user) 1048572
-    (passed c.self.inside.state (Data user) (record { next = c.self.inside.state; sent = DT user }) c.in-Ok.ensures.ok).size
+lent_within-requires c = grind (arith, leb-true, passed)
 
 pub returns-in-Ok : goal.returns-in-Ok
 returns-in-Ok c =
     let user = c.args.user_data.now in
     let a = accepts (size_of c.size_limit.result) _ c.args.self.now (Data user) (record { next = c.self.inside.state; sent = DT user })
     c.size_limit.ensures c.self.view_is c.self.invariant.0 tt c.in-Ok.ensures.ok in
-    record {
-      state = rests_by _ c.args.self.now (Data user) (DT user) c.self.view_is c.self.invariant.3 c.in-Ok.ensures.ok;
-      sent = c.lent_within.ensures.lent ∙ a.sends;
-      accepted = a.passes;
-      sendable = a.sendable;
-      fit = c.lent_within.ensures.fit;
-      refused = tt;
-      named = tt;
-    }
+    grind (arith, rests_by)
 
 pub returns-in-Err-clause-named : goal.returns-in-Err-clause-named
 returns-in-Err-clause-named c = allowed_named c.self.inside.state (Data c.args.user_data.now) c.in-Err.error c.in-Err.ensures.err

@@ -1,4 +1,4 @@
-use Rattle.std.proofs.Common.{◌≡◌, ◌∙◌, ap, subst, sym, ℕ, List, drop}
+use Rattle.std.proofs.Common.{arith, ◌≡◌, ◌∙◌, ap, sym, ℕ, List, drop}
 use Rattle.osi_session.specs.declared.indications.Indication.TheVariants as indication
 use Rattle.osi_session.specs.Shown.{Data}
 use Rattle.osi_session.proofs.Vocabulary.{option_and_then, DT, said_at, came, react, Listener, only_shows, unit_in}
@@ -19,8 +19,4 @@ returns c =
           c.in-Some.ensures.said (c.expects_data.ensures user c.if-not-expects_data.false),
     )
     ∙ ap (λ (l : Listener). only_shows l (Data user)) c.self.view_is ∙ ap (λ (o : List ℕ). only_shows self (Data o)) behind in
-    record {
-      octets = ap Data c.behind.ensures;
-      shown = subst (λ (o : List ℕ). react self (came o) ≡ only_shows self (Data (drop 4 o))) c.as_slice.ensures.value shows;
-      other = tt;
-    }
+    grind (arith, react)

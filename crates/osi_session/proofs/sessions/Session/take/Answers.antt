@@ -1,13 +1,12 @@
-use Rattle.std.proofs.Common.{◌≡◌, refl, subst, sym, ℕ, List, Option, true, option_copied}
-use Rattle.osi_session.proofs.Vocabulary.{option_and_then, Listener, Move, moved, taker_of, kept_in, respond_tsdu, hearing_of_all, unit_in}
-use Rattle.osi_session.proofs.Vocabulary.{takes_memory, units_of, said_by_units, Words, units_numbered}
+use Rattle.std.proofs.Common.{arith, sym, option_copied}
+use Rattle.osi_session.proofs.Vocabulary.{option_and_then, Listener, respond_tsdu, hearing_of_all, unit_in, units_of, said_by_units, Words}
+use Rattle.osi_session.proofs.Vocabulary.{units_numbered}
 use Rattle.osi_session.proofs.moves.the_move_of_each_input.{taken_is}
 use Rattle.osi_session.proofs.moves.the_moves_in_memory.{leaves_words, heard_by, room_by, leaves_by, takes_as, takes_nothing}
 use Rattle.osi_session.proofs.sessions.Session.take.Goals as goal
 
 pub take_all-requires : goal.take_all-requires
-take_all-requires c =
-    subst (λ (j : Option (List ℕ)). kept_in c.self.inside.state.phase j ≡ j) (sym c.as_ref.ensures.value) c.self.invariant.3
+take_all-requires c = grind arith
 
 pub settle-requires : goal.settle-requires
 settle-requires c =
@@ -24,14 +23,7 @@ returns-in-Ok c =
     let words : Words = said_by_units (units_of c.args.group.now) in
     let e = heard_by (λ t. respond_tsdu t words) l c.self.inside.state (option_and_then unit_in c.self.inside.waiting) c.self.inside.joined
     (option_copied c.as_ref.result) c.in-Ok.reactions c.self.view_is c.as_ref.ensures.value c.in-Ok.ensures.heard in
-    takes_as c.settle.result (moved l (hearing_of_all l.joined c.in-Ok.reactions)) _ l c.settle.new.self
-    (sym (taken_is l words (hearing_of_all l.joined c.in-Ok.reactions) (sym e))) c.settle.ensures
+    grind (arith, takes_as, taken_is l words (hearing_of_all l.joined c.in-Ok.reactions) (sym e))
 
 pub returns-in-Err : goal.returns-in-Err
-returns-in-Err c =
-    let l : Listener = c.args.self.now in
-    let words : Words = said_by_units (units_of c.args.group.now) in
-    takes_nothing c.in-Err.error l l _ refl
-    (subst (λ (m : Move). takes_memory l m ≡ true) (sym (taken_is l words (respond_tsdu (taker_of l) words) refl))
-    (room_by (λ t. respond_tsdu t words) l c.self.inside.state (option_and_then unit_in c.self.inside.waiting) c.self.inside.joined
-    (option_copied c.as_ref.result) c.self.view_is c.as_ref.ensures.value c.in-Err.ensures.err))
+returns-in-Err c = grind (arith, takes_nothing, taken_is, room_by, unit_in, option_copied)

@@ -1,6 +1,5 @@
-use Rattle.std.proofs.Common.{◌∙◌, ap, sym, Err}
-use Rattle.osi_session.proofs.Vocabulary.{option_and_then, Listener, moved, taker_of, heard, respond_came, respond_fault, hearing_of_all}
-use Rattle.osi_session.proofs.Vocabulary.{unit_in}
+use Rattle.std.proofs.Common.{arith, ◌∙◌, ap, Err}
+use Rattle.osi_session.proofs.Vocabulary.{option_and_then, Listener, taker_of, heard, respond_came, respond_fault, hearing_of_all, unit_in}
 use Rattle.osi_session.proofs.moves.the_move_of_each_input.{of_fault}
 use Rattle.osi_session.proofs.moves.the_moves_in_memory.{Holds, holds, leaves_fault, leaves_as, of_heard, takes_as}
 use Rattle.osi_session.proofs.sessions.Session.take_bad.Goals as goal
@@ -19,11 +18,4 @@ settle-requires c =
     record { sound = x.sound; begun = x.begun; ordered = (λ n. c.of.ensures.ordered); kept = x.phase; few = x.few }
 
 pub returns : goal.returns
-returns c =
-    let l : Listener = c.args.self.now in
-    let e = of_heard l.joined c.of.result c.of-heard.result (respond_came (taker_of l) (Err c.args.fault)) c.of.ensures.outcome
-    c.of.ensures.joined
-    (c.of-heard.ensures l.joined ∙
-    ap (heard l.joined) (c.judge_unread.ensures ∙ ap (λ (s : Listener). respond_fault s.state c.args.fault) c.self.view_is)) in
-    takes_as c.settle-2.result (moved l (hearing_of_all l.joined c.of.result)) _ l c.settle-2.new.self
-    (ap (moved l) e ∙ sym (of_fault l c.args.fault)) c.settle-2.ensures
+returns c = grind (arith, of_heard, respond_fault, takes_as, of_fault)

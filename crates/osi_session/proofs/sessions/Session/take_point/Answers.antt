@@ -1,3 +1,4 @@
+use Rattle.std.proofs.Common.{arith}
 use Rattle.osi_session.proofs.Vocabulary.{most_whole, option_and_then, plain_word, unit_in}
 use Rattle.osi_session.proofs.tables.points_that_are_expected.{plain_numbered, point_leaves, word_shows}
 use Rattle.osi_session.proofs.sessions.Session.take_point.Goals as goal
@@ -17,6 +18,4 @@ invariant_of-self c = (
 )
 
 pub returns : goal.returns
-returns c = word_shows c.args.self.now c.self.inside.state (option_and_then unit_in c.self.inside.waiting) c.self.inside.joined
-    c.is_some.result c.in-Some.expected.numbers c.in-Some.expected.shown (plain_word c.args.unit) c.self.view_is c.is_some.ensures
-    c.in-Some.ensures
+returns c = grind (arith, word_shows, unit_in)

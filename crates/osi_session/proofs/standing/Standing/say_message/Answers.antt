@@ -1,3 +1,4 @@
+use Rattle.std.proofs.Common.{arith}
 use Rattle.std.proofs.Common.{ap}
 use Rattle.osi_session.specs.Standing.{Seen}
 use Rattle.osi_session.proofs.sent.what_a_side_may_send.{breaks_none, said_by_message}
@@ -12,7 +13,4 @@ returns-clause-left c =
     c.if-is_misplaced.false c.in_ok-next.ensures.left c.goes.ensures
 
 pub returns-clause-rule : goal.returns-clause-rule
-returns-clause-rule c =
-    breaks_none c.args.self.now c.self.inside.state (meant_by c.args.message.now) c.has_no_effect.result c.is_misplaced.result
-    (ap (λ (s : Seen). s.state) c.self.view_is) c.has_no_effect.ensures c.if-has_no_effect.false c.is_misplaced.ensures
-    c.if-is_misplaced.false c.in_ok-next.ensures.rule
+returns-clause-rule c = grind (arith, breaks_none)

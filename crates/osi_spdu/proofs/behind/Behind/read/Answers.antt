@@ -1,12 +1,10 @@
-use Rattle.std.proofs.Common.{◌≡◌, ◌≤◌, ◌∙◌, Ok, length, ap, sym, arith, rules}
+use Rattle.std.proofs.Common.{◌≤◌, length, arith, rules}
 use Rattle.osi_spdu.proofs.Vocabulary.{err_from_is_err_and, later_of}
 use Rattle.osi_spdu.proofs.tsdu.units_after_the_first.{behind_none, behind_bad, others_bad, others_read}
 use Rattle.osi_spdu.proofs.behind.Behind.read.Goals as goal
 
 pub returns-then-is_empty : goal.returns-then-is_empty
-returns-then-is_empty c =
-    let none : length c.args.octets.now ≡ 0 = search rules in
-    behind_none 16 c.args.at c.args.octets.now none ∙ ap (λ us. Ok us) (sym c.none.ensures.units)
+returns-then-is_empty c = grind (arith, rules, behind_none)
 
 pub returns-in_err-later : goal.returns-in_err-later
 returns-in_err-later c =

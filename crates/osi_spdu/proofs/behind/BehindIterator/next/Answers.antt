@@ -20,13 +20,10 @@ pub overflow_sub-self : goal.overflow_sub-self
 overflow_sub-self c =
     let s = c.args.self.now in
     let some : 1 ≤ length s.rest.now = search rules in
-    let g = left_goes s.room s.at s.rest.now (later_of c.in-Ok.later) some s.left c.in-Ok.ensures.value in
-    omega (arith, g.some)
+    grind (arith, left_goes s.room s.at s.rest.now (later_of c.in-Ok.later) some s.left c.in-Ok.ensures.value)
 
 pub invariant_of-self-clause-stands : goal.invariant_of-self-clause-stands
-invariant_of-self-clause-stands c =
-    let none : length c.args.self.now.rest.now ≡ 0 = search rules in
-    nothing_stands c.args.self.now.rest.now none
+invariant_of-self-clause-stands c = grind (arith, rules, nothing_stands)
 
 pub invariant_of-self-clause-left : goal.invariant_of-self-clause-left
 invariant_of-self-clause-left c = c.args.self.now.left
@@ -46,6 +43,4 @@ returns-clause-steps c =
     (left_goes s.room s.at s.rest.now (later_of c.in-Ok.later) some s.left c.in-Ok.ensures.value).given
 
 pub returns-clause-goes : goal.returns-clause-goes
-returns-clause-goes c =
-    let shorter = ap length (returns-clause-steps c) in
-    search rules
+returns-clause-goes c = search (arith, rules, returns-clause-steps)

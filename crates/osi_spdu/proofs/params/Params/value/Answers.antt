@@ -1,5 +1,5 @@
-use Rattle.std.proofs.Common.{◌≡◌, ◌∙◌, ◌&&◌, ◌==◌, false, length, sym}
-use Rattle.osi_spdu.proofs.Vocabulary.{and_left, and_right, eqb-true, UserData, is_same, octets_of}
+use Rattle.std.proofs.Common.{arith, ◌≡◌, ◌&&◌, ◌==◌, false, length, sym}
+use Rattle.osi_spdu.proofs.Vocabulary.{and_left, and_right, UserData, is_same, octets_of}
 use Rattle.osi_spdu.proofs.parameters.a_slot_is_filled.{known_some, known_none, known_empty}
 use Rattle.osi_spdu.proofs.params.Params.value.Goals as goal
 use Rattle.osi_spdu.proofs.params.Params.value.Goals.{else-is_user_data-via-then-is_user_data+else-is_empty}
@@ -9,18 +9,13 @@ pub returns-in_err-value : goal.returns-in_err-value
 returns-in_err-value c = rw c.from_residual.ensures (sym (known_none c.args.self.now c.args.code (sym c.in_err-value.ensures)))
 
 pub returns-then-is_empty : goal.returns-then-is_empty
-returns-then-is_empty c =
-    let v = octets_of c.in_ok-value.value in
-    sym (known_empty c.args.self.now c.args.code v (sym c.in_ok-value.ensures) (sym c.is_user_data.ensures ∙ c.if-is_user_data.true)
-    (eqb-true (length v) 0 (sym c.is_empty.ensures ∙ c.if-is_empty.true)))
+returns-then-is_empty c = grind (arith, known_empty)
 
 pub returns : goal.returns
 returns c =
     let v = octets_of c.in_ok-value.value in
     let test : (is_same c.args.code UserData && (length v == 0)) ≡ false = elim c.else-is_user_data.branch [
-      | else-is_user_data-via-then-is_user_data+else-is_empty w ↦ and_right (is_same c.args.code UserData) (length v == 0)
-          (sym w.is_empty.ensures ∙ w.if-is_empty.false)
-      | else-is_user_data-via-else-is_user_data w ↦ and_left (is_same c.args.code UserData) (length v == 0)
-          (sym c.is_user_data.ensures ∙ w.if-is_user_data.false)
+      | else-is_user_data-via-then-is_user_data+else-is_empty w ↦ grind (arith, and_right)
+      | else-is_user_data-via-else-is_user_data w ↦ grind (arith, and_left)
     ] in
     sym (known_some c.args.self.now c.args.code v (sym c.in_ok-value.ensures) test)

@@ -5,11 +5,7 @@ use Rattle.osi_spdu.proofs.serials.Serial.digits.Goals as goal
 use Rattle.osi_spdu.proofs.serials.Serial.digits.Goals.{then-zeros-test+else-octets-start-eq48, else-zeros-test}
 
 pub zeros-preserved : goal.zeros-preserved
-zeros-preserved c = (
-  omega arith,
-  significant_step (six_digits c.args.self.number) c.zeros.start (omega arith) c.if-octets-start-eq48.true ∙
-      c.zeros.invariant.1,
-)
+zeros-preserved c = grind (arith, significant_step)
 
 pub returns : goal.returns
 unfolding digits_of

@@ -1,3 +1,4 @@
+use Rattle.std.proofs.Common.{arith}
 use Rattle.std.proofs.Common.{◌≡◌, true, sym, subst}
 use Rattle.osi_spdu.proofs.Vocabulary.{Known, Contents, known_of, is_formed}
 use Rattle.osi_spdu.proofs.form.few_octets_fit.{made_fits}
@@ -7,9 +8,7 @@ pub invariant_of-result-clause-formed : goal.invariant_of-result-clause-formed
 invariant_of-result-clause-formed c = subst (λ (k : Known). is_formed c.args.kind k ≡ true) (sym c.settle.ensures.value) c.requires.formed
 
 pub returns-clause-value : goal.returns-clause-value
-returns-clause-value c =
-    λ i. (let unit : Contents = record { kind = c.args.kind; known = c.settle.ensures.value i; information = c.args.information.now } in
-    unit)
+returns-clause-value c = grind arith
 
 pub returns-clause-fits : goal.returns-clause-fits
 returns-clause-fits c =

@@ -1,4 +1,4 @@
-use Rattle.std.proofs.Common.{ℕ, List, [], ◌∷◌, ◌++◌, map, drop, sym, ap, option_map, ◌∙◌}
+use Rattle.std.proofs.Common.{arith, List, [], ◌∷◌, ◌++◌, map, drop, sym, ap, option_map, ◌∙◌}
 use Rattle.osi_stack.proofs.Vocabulary.{map-append, shown_by, Indication, session_selectors, Line, event_input, State as Carrier}
 use Rattle.osi_stack.proofs.carried.data_is_indicated_where_it_lies.{came_data, shown_line, straight_carrier, straight_needs}
 use Rattle.osi_stack.proofs.lines.Line.receive.Goals as goal
@@ -22,17 +22,8 @@ returns-in-Ok-reserve-clause-ok c =
 
 pub returns-in-Ok-reserve-clause-carrier : goal.returns-in-Ok-reserve-clause-carrier
 returns-in-Ok-reserve-clause-carrier c =
-    let here = ap (λ (r : ℕ × Line). r.1.session) (sym c.self.view_is) ∙ c.in-Some.is in
-    let shows = came_data c.in-Some.session (event_input c.args.event) c.in-Tsdu.tsdu.items (drop 4 c.in-Tsdu.tsdu.items)
-    (shown_by c.in-Ok.shown) (ap event_input c.in-Tsdu.is) c.in-Ok.ensures.octets c.in-Ok.ensures.shown in
     ap (λ (x : Carrier). record c.args.carrier.now { state = x })
-    (sym (straight_carrier c.args.self.now.0 c.args.self.now.1.session c.in-Some.session (event_input c.args.event) (shown_by c.in-Ok.shown)
-    c.args.carrier.now.state here shows))
+    (sym (search (arith, straight_carrier)))
 
 pub returns-in_default-reserve-clause-needed : goal.returns-in_default-reserve-clause-needed
-returns-in_default-reserve-clause-needed c =
-    let here = ap (λ (r : ℕ × Line). r.1.session) (sym c.self.view_is) ∙ c.in-Some.is in
-    let shows = came_data c.in-Some.session (event_input c.args.event) c.in-Tsdu.tsdu.items (drop 4 c.in-Tsdu.tsdu.items)
-    (shown_by c.in-Ok.shown) (ap event_input c.in-Tsdu.is) c.in-Ok.ensures.octets c.in-Ok.ensures.shown in
-    straight_needs c.args.self.now.0 c.args.self.now.1.session c.in-Some.session (event_input c.args.event) (shown_by c.in-Ok.shown)
-    c.args.carrier.now.state here shows
+returns-in_default-reserve-clause-needed c = grind (arith, came_data, straight_needs)

@@ -1,6 +1,7 @@
+use Rattle.std.proofs.Common.{arith}
 use Rattle.std.proofs.Common.{◌≡◌, ◌+◌, ℕ, cond, map, Option, Some, None, get_or, refl, sym, ap, subst, option_map, ◌∙◌}
-use Rattle.osi_stack.proofs.Vocabulary.{OnOk, IfErr, placed, Rows, place_of, called_by, called, session_refusal, session_error, session_in}
-use Rattle.osi_stack.proofs.Vocabulary.{Line, Listener, Refuses, line_waits, session_selectors, shown_by}
+use Rattle.osi_stack.proofs.Vocabulary.{OnOk, IfErr, placed, Rows, place_of, called_by, called, session_refusal, session_error, Line}
+use Rattle.osi_stack.proofs.Vocabulary.{Listener, Refuses, line_waits, session_selectors, shown_by}
 use Rattle.osi_stack.proofs.called.what_a_call_sends.{called_line, called_carrier}
 use Rattle.osi_stack.proofs.each_line.the_line_of_a_reference.{found, nowhere, heard_rows, allowed_at, refused_at, session_here}
 use Rattle.osi_stack.proofs.each_line.how_many_lines_wait.{set_kept}
@@ -12,26 +13,17 @@ returns-in_default-clause-refused c =
     found c.args.reference c.self.inside.rises c.place_in.result c.as_slice.result.now c.self.inside.rows.items c.args.self.now
     c.as_slice.ensures.value c.self.view_is c.self.invariant.1 c.place_in.ensures
     ∙ c.in_default.is in
-    ap (λ o. session_refusal c.args.reference (session_in o) (called_by c.args.request) c.args.carrier.now.state)
-    (nowhere c.args.reference c.args.self.now none)
+    grind (arith, nowhere c.args.reference c.args.self.now none)
 
 pub returns-in_default-session-clause-refused : goal.returns-in_default-session-clause-refused
 returns-in_default-session-clause-refused c =
     let row = c.index_mut-line.result.now in
-    let line : Line =
-    record {
-      session = c.line.inside.session;
-      waiting = map shown_by c.line.inside.waiting.items;
-      selectors = option_map session_selectors c.line.inside.selectors;
-    } in
     let some : place_of c.args.reference c.args.self.now ≡ Some c.in-Some.place =
     found c.args.reference c.self.inside.rises c.place_in.result c.as_slice.result.now c.self.inside.rows.items c.args.self.now
     c.as_slice.ensures.value c.self.view_is c.self.invariant.1 c.place_in.ensures
     ∙ c.in-Some.is in
     let here = c.index_mut-line.ensures.value ∙ ap (λ (l : Rows Line). get_or l c.in-Some.place row) c.self.view_is in
-    let gone = ap (λ (x : ℕ × Line). x.1.session) (sym c.line.view_is) ∙ c.in_default-session.is in
-    ap (λ o. session_refusal c.args.reference o (called_by c.args.request) c.args.carrier.now.state)
-    (sym (session_here c.args.reference c.args.self.now c.in-Some.place row some here) ∙ gone)
+    grind (arith, session_here c.args.reference c.args.self.now c.in-Some.place row some here)
 
 pub returns-clause-ok : goal.returns-clause-ok
 returns-clause-ok c =
@@ -59,12 +51,6 @@ returns-clause-ok c =
 pub returns-clause-allowed : goal.returns-clause-allowed
 returns-clause-allowed c =
     let row = c.index_mut-line.result.now in
-    let line : Line =
-    record {
-      session = c.line.inside.session;
-      waiting = map shown_by c.line.inside.waiting.items;
-      selectors = option_map session_selectors c.line.inside.selectors;
-    } in
     let some : place_of c.args.reference c.args.self.now ≡ Some c.in-Some.place =
     found c.args.reference c.self.inside.rises c.place_in.result c.as_slice.result.now c.self.inside.rows.items c.args.self.now
     c.as_slice.ensures.value c.self.view_is c.self.invariant.1 c.place_in.ensures
@@ -81,12 +67,6 @@ returns-clause-allowed c =
 pub returns-clause-refused : goal.returns-clause-refused
 returns-clause-refused c =
     let row = c.index_mut-line.result.now in
-    let line : Line =
-    record {
-      session = c.line.inside.session;
-      waiting = map shown_by c.line.inside.waiting.items;
-      selectors = option_map session_selectors c.line.inside.selectors;
-    } in
     let some : place_of c.args.reference c.args.self.now ≡ Some c.in-Some.place =
     found c.args.reference c.self.inside.rises c.place_in.result c.as_slice.result.now c.self.inside.rows.items c.args.self.now
     c.as_slice.ensures.value c.self.view_is c.self.invariant.1 c.place_in.ensures

@@ -1,7 +1,7 @@
-use Rattle.std.proofs.Common.{◌≡◌, Some, None, ℕ, Option, get_or, sym, ap, ◌∙◌}
+use Rattle.std.proofs.Common.{arith, ◌≡◌, Some, None, Option, get_or, sym, ap, ◌∙◌}
 use Rattle.osi_carrier.proofs.references.rows_in_order.{set_rise}
 use Rattle.osi_stack.specs.Disconnecting.{gives_up_by}
-use Rattle.osi_stack.proofs.Vocabulary.{Rows, place_of, Line, how_many_wait}
+use Rattle.osi_stack.proofs.Vocabulary.{Rows, place_of, Line}
 use Rattle.osi_stack.proofs.each_line.the_line_of_a_reference.{found, nowhere}
 use Rattle.osi_stack.proofs.given_up.the_invariant_stays.{given_rows}
 use Rattle.osi_stack.proofs.lines.Lines.give_up.Goals as goal
@@ -26,8 +26,4 @@ returns c =
     c.give_up.ensures
 
 pub invariant_of-self : goal.invariant_of-self
-invariant_of-self c = (
-  c.count_waiting-self-inside.ensures ∙ ap how_many_wait c.as_slice-2.ensures.value,
-  λ e. set_rise 0 c.self.inside.rows.items c.in-Some.place c.index_mut.result.now c.give_up.new.self c.index_mut.ensures.value
-      (ap (λ (x : ℕ × Line). x.0) c.give_up.ensures) (c.self.invariant.1 e),
-)
+invariant_of-self c = grind (arith, set_rise)

@@ -8,10 +8,7 @@ use Rattle.osi_stack.proofs.lines.Lines.next.Goals.{else-self-gt1+else-place-len
 use Rattle.osi_stack.proofs.lines.Lines.next.Goals as goal
 
 pub returns-in_default-clause-shown : goal.returns-in_default-clause-shown
-returns-in_default-clause-shown c =
-    let none = ap (position (λ (row : ℕ × Line). line_waits row.1)) (sym (c.as_slice.ensures.value ∙ c.self.view_is)) ∙
-    sym c.first_place.ensures ∙ c.in_default.is in
-    sym (none_waits c.args.self.now none).shown
+returns-in_default-clause-shown c = grind (arith, position, none_waits)
 
 pub returns-in_default-clause-rest : goal.returns-in_default-clause-rest
 returns-in_default-clause-rest c =
@@ -42,8 +39,7 @@ returns-clause-shown c =
     let new : ℕ × Line = (c.line.inside.reference, record line { waiting = map shown_by c.pop_front.new.self.items }) in
     let there : position (λ (row : ℕ × Line). line_waits row.1) c.self.inside.rows.items ≡ Some c.if-self-gt1.place =
     elim c.if-self-gt1.branch [
-      | then-self-gt1+in-Some w ↦ ap (position (λ (row : ℕ × Line). line_waits row.1)) (sym w.as_slice.ensures.value) ∙
-          sym w.first_place.ensures ∙ w.in-Some.is ∙ ap Some (sym w.place-is)
+      | then-self-gt1+in-Some w ↦ grind (arith, position)
       | else-self-gt1+else-place-len+else-not-waits w ↦ only_heard c.self.inside.waiting c.self.inside.heard c.self.inside.rows.items
           w.index.result.now c.self.invariant.0 (let some = c.if-self-eq0.false in omega (arith, w.if-self-gt1.false))
           (omega (arith, w.if-place-len.false, w.len.ensures)) w.index.ensures (sym w.waits.ensures ∙ w.if-not-waits.false) ∙
@@ -65,8 +61,7 @@ returns-clause-rest c =
     let new : ℕ × Line = (c.line.inside.reference, record line { waiting = map shown_by c.pop_front.new.self.items }) in
     let there : position (λ (row : ℕ × Line). line_waits row.1) c.self.inside.rows.items ≡ Some c.if-self-gt1.place =
     elim c.if-self-gt1.branch [
-      | then-self-gt1+in-Some w ↦ ap (position (λ (row : ℕ × Line). line_waits row.1)) (sym w.as_slice.ensures.value) ∙
-          sym w.first_place.ensures ∙ w.in-Some.is ∙ ap Some (sym w.place-is)
+      | then-self-gt1+in-Some w ↦ grind (arith, position)
       | else-self-gt1+else-place-len+else-not-waits w ↦ only_heard c.self.inside.waiting c.self.inside.heard c.self.inside.rows.items
           w.index.result.now c.self.invariant.0 (let some = c.if-self-eq0.false in omega (arith, w.if-self-gt1.false))
           (omega (arith, w.if-place-len.false, w.len.ensures)) w.index.ensures (sym w.waits.ensures ∙ w.if-not-waits.false) ∙
@@ -81,8 +76,7 @@ returns-clause-rest c =
     elim c.if-not-waits-2.branch [ then-not-waits-2 w ↦ w.self-is ∙ rest | else-not-waits-2 w ↦ w.self-is ∙ rest ]
 
 pub returns-then-self-eq0-clause-shown : goal.returns-then-self-eq0-clause-shown
-returns-then-self-eq0-clause-shown c =
-    sym (none_counted c.self.inside.waiting c.args.self.now (c.self.invariant.0 ∙ ap how_many_wait c.self.view_is) c.if-self-eq0.true).shown
+returns-then-self-eq0-clause-shown c = grind (arith, none_counted)
 
 pub returns-then-self-eq0-clause-rest : goal.returns-then-self-eq0-clause-rest
 returns-then-self-eq0-clause-rest c =
@@ -101,7 +95,6 @@ invariant_of-self-then-not-waits-2 c =
           ap Some (sym w.place-is)
     ] in
     let first = first_is c.self.inside.rows.items c.if-self-gt1.place row there in
-    let some = c.if-self-eq0.false in
     set_kept c.self.inside.waiting (c.self.inside.waiting - 1) c.self.inside.rises true false c.self.inside.rows.items
     c.if-self-gt1.place row _
     c.self.invariant c.index_mut-line.ensures.value first.within (ap (λ (x : ℕ × Line). x.0) c.line.view_is)

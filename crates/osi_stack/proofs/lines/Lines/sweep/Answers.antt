@@ -1,11 +1,6 @@
-use Rattle.std.proofs.Common.{rules, sym, subst}
-use Rattle.osi_carrier.specs.Orderly.{RiseFrom}
+use Rattle.std.proofs.Common.{arith, rules}
 use Rattle.osi_stack.proofs.each_line.references_rise.{rise_used}
 use Rattle.osi_stack.proofs.lines.Lines.sweep.Goals as goal
 
 pub invariant_of-self : goal.invariant_of-self
-invariant_of-self c = (
-  search rules,
-  λ e. subst (RiseFrom 0) (sym c.drop_unused.ensures)
-      (rise_used 0 c.args.carrier.now.state.live c.self.inside.rows.items (c.self.invariant.1 e)),
-)
+invariant_of-self c = grind (arith, rules, rise_used)

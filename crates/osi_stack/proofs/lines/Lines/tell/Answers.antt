@@ -82,11 +82,7 @@ overflow_add-self c =
     let less = room_of c.args.reference c.args.self.now c.self.inside.rows.items c.in-Some.place row c.self.inside.waiting
     (length c.self.inside.rows.items) some here c.self.view_is
     c.self.invariant.0 refl (sym c.waits-waited.ensures ∙ c.if-not-waited.true) in
-    let len = c.self.inside.rows.ok in
-    let small = c.self.inside.rows.small in
-    let counted = len.0 in
-    let held = len.1 in
-    omega arith
+    grind arith
 
 pub invariant_of-self : goal.invariant_of-self
 invariant_of-self c =

@@ -1,7 +1,6 @@
-use Rattle.std.proofs.Common.{◌≡◌, true, subst}
-use Rattle.osi_carrier.specs.Growth.{grows}
+use Rattle.std.proofs.Common.{arith}
 use Rattle.osi_stack.specs.Disconnecting.{disconnects}
-use Rattle.osi_stack.proofs.Vocabulary.{OnOk, OnErr, closed_with, Holding, holding}
+use Rattle.osi_stack.proofs.Vocabulary.{holding}
 use Rattle.osi_stack.proofs.stream.what_needs_memory_does_something.{wants_memory}
 use Rattle.osi_stack.proofs.sound.the_invariant_between_calls.{settled_by}
 use Rattle.osi_stack.proofs.stacks.Stack.disconnect.Goals as goal
@@ -14,17 +13,10 @@ invariant_of-self c =
     c.self.invariant (c.an_end_is_settled_between_calls.ensures.disconnected c.args.reference.0 old.end c.self.invariant)
 
 pub returns-clause-ok : goal.returns-clause-ok
-returns-clause-ok c =
-    subst (λ (x : Holding). OnOk c.give_up.result
-    (holding c.give_up.new.carrier c.give_up.new.lines ≡ record x { end = disconnects c.args.reference.0 x.end })) c.self.view_is
-    c.give_up.ensures.ok
+returns-clause-ok c = grind arith
 
 pub returns-clause-needed : goal.returns-clause-needed
-returns-clause-needed c = wants_memory c.give_up.result _
-    (subst (λ (x : Holding). OnErr c.give_up.result (grows x.end.carrier (closed_with c.args.reference.0 128 x.end.carrier) ≡ true))
-    c.self.view_is c.give_up.ensures.needed)
+returns-clause-needed c = grind (arith, wants_memory)
 
 pub returns-clause-err : goal.returns-clause-err
-returns-clause-err c =
-    subst (λ (x : Holding). OnErr c.give_up.result (holding c.give_up.new.carrier c.give_up.new.lines ≡ x)) c.self.view_is
-    c.give_up.ensures.err
+returns-clause-err c = grind arith

@@ -1,9 +1,8 @@
-use Rattle.std.proofs.Common.{◌≡◌, sym, subst, rules}
-use Rattle.osi_stack.proofs.Vocabulary.{carried, IsSettled, holding}
+use Rattle.std.proofs.Common.{arith, rules}
+use Rattle.osi_stack.proofs.Vocabulary.{carried, holding}
 use Rattle.osi_stack.proofs.stacks.Stack.taken.Goals as goal
 
 pub invariant_of-self : goal.invariant_of-self
 invariant_of-self c =
     let old = holding c.self.inside.carrier c.self.inside.lines in
-    let is : (holding c.taken.new.self c.self.inside.lines).end ≡ carried c.args.octets old.end = search rules in
-    subst IsSettled (sym is) (c.an_end_is_settled_between_calls.ensures.carried c.args.octets old.end c.self.invariant)
+    grind (arith, rules, c.an_end_is_settled_between_calls.ensures.carried c.args.octets old.end c.self.invariant)

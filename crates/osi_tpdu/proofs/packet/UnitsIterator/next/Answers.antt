@@ -1,4 +1,4 @@
-use Rattle.std.proofs.Common.{◌≤◌, length, ap, arith, rules}
+use Rattle.std.proofs.Common.{◌≤◌, length, arith, rules}
 use Rattle.std.proofs.lemmas.List.{nil_from_length}
 use Rattle.osi_tpdu.proofs.which_units_another_may_follow.{first_known, first_read, first_stands, header_known}
 use Rattle.osi_tpdu.proofs.the_units_of_a_packet.{first_left, nothing_left, read_fits}
@@ -14,10 +14,7 @@ known_front-used-requires-clause-fields c header user e =
     first_known s.at s.rest.now (header, user) some s.readable e
 
 pub known_front-used-requires-clause-header : goal.known_front-used-requires-clause-header
-known_front-used-requires-clause-header c =
-    let s = c.args.self.now in
-    let some : 1 ≤ length s.rest.now = search rules in
-    header_known s.at s.rest.now some s.readable
+known_front-used-requires-clause-header c = grind (arith, rules, header_known)
 
 pub invariant_of-self : goal.invariant_of-self
 invariant_of-self c =
@@ -49,6 +46,4 @@ returns-clause-goes c =
     let some : 1 ≤ length s.rest.now = search rules in
     let read = first_read s.at s.rest.now _ _ c.known_front-used.ensures.gives c.known_fields.ensures in
     let g = first_left s.at s.rest.now _ some s.readable read in
-    let shorter = ap length g.given in
-    let shorter' = rw (← c.known_front-used.ensures.used, ← c.split_at.ensures.back) at shorter in
     search rules

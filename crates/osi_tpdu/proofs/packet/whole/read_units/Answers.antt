@@ -1,5 +1,5 @@
 use Rattle.std.proofs.Common.{arith, rules}
-use Rattle.osi_tpdu.proofs.Vocabulary.{err_from_is_err_and, IsOctets}
+use Rattle.osi_tpdu.proofs.Vocabulary.{err_from_is_err_and}
 use Rattle.osi_tpdu.proofs.the_units_of_a_packet.{units_found, packet_left, no_units, one_reading, fault_found}
 use Rattle.osi_tpdu.proofs.packet.whole.read_units.Goals as goal
 
@@ -7,23 +7,16 @@ pub returns-in_err-read_to_end-clause-only : goal.returns-in_err-read_to_end-cla
 returns-in_err-read_to_end-clause-only c vs us = absurd (no_units c.args.packet.now _ vs c.in_err-read_to_end.ensures us)
 
 pub returns-in_err-read_to_end-clause-refused : goal.returns-in_err-read_to_end-clause-refused
-returns-in_err-read_to_end-clause-refused c =
-    let e = err_from_is_err_and c.from_residual.result c.from_residual.ensures.1 in
-    rw e.1 (λ vs us. no_units c.args.packet.now _ vs c.in_err-read_to_end.ensures us)
+returns-in_err-read_to_end-clause-refused c = grind (arith, err_from_is_err_and, no_units)
 
 pub returns-in_err-read_to_end-clause-first : goal.returns-in_err-read_to_end-clause-first
-returns-in_err-read_to_end-clause-first c =
-    let octets : IsOctets c.args.packet.now = λ i. omega (arith, c.type_inv.packet i) in
-    let e = err_from_is_err_and c.from_residual.result c.from_residual.ensures.1 in
-    rw (e.1, e.2) (fault_found c.args.packet.now _ octets c.in_err-read_to_end.ensures)
+returns-in_err-read_to_end-clause-first c = grind (arith, err_from_is_err_and, fault_found)
 
 pub invariant_of-result : goal.invariant_of-result
 invariant_of-result c = record { room = search rules; readable = (packet_left c.args.packet.now c.in_ok-read_to_end.ensures).0 }
 
 pub returns-clause-found : goal.returns-clause-found
-returns-clause-found c =
-    let octets : IsOctets c.args.packet.now = λ i. omega (arith, c.type_inv.packet i) in
-    units_found c.args.packet.now _ octets (packet_left c.args.packet.now c.in_ok-read_to_end.ensures).1
+returns-clause-found c = grind (arith, units_found, packet_left)
 
 pub returns-clause-only : goal.returns-clause-only
 returns-clause-only c vs us = one_reading c.args.packet.now _ vs (packet_left c.args.packet.now c.in_ok-read_to_end.ensures).1 us

@@ -1,4 +1,4 @@
-use Rattle.std.proofs.Common.{◌≡◌, ℕ, zero, suc, ◌+◌, ◌-◌, ◌≤◌, List, ◌++◌, length, get_or, drop, replicate, refl, ◌∙◌, ap}
+use Rattle.std.proofs.Common.{arith, ◌≡◌, ℕ, zero, suc, ◌+◌, ◌-◌, ◌≤◌, List, ◌++◌, length, get_or, drop, replicate, refl, ap}
 use Rattle.std.proofs.lemmas.List.{get_or-append_right, get_or-drop}
 use Rattle.osi_tpdu.proofs.tsaps.Tsap.new.Goals as goal
 
@@ -13,8 +13,7 @@ zeros_read (suc n) (suc i) = zeros_read n i
 
 -- after the first part, the zeros at the end are read
 zeros_behind : (front : List ℕ) (n i : ℕ) → length front ≡ n → n ≤ i → get_or (front ++ drop n (zeros 32)) i 0 ≡ 0
-zeros_behind front n i size past =
-    get_or-append_right front (drop n (zeros 32)) n i 0 size past ∙ get_or-drop n (zeros 32) (i - n) 0 ∙ zeros_read 32 (n + (i - n))
+zeros_behind front n i size past = grind (arith, get_or-append_right, zeros, get_or-drop, zeros_read)
 
 pub invariant_of-result-clause-zeros : goal.invariant_of-result-clause-zeros
 unfolding zeros

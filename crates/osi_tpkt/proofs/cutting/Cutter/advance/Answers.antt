@@ -1,26 +1,18 @@
-use Rattle.std.proofs.Common.{[], refl, vec_len, arith}
+use Rattle.std.proofs.Common.{arith}
 use Rattle.osi_tpkt.proofs.a_prefix_of_a_packet.{partial_not_whole}
 use Rattle.osi_tpkt.proofs.what_a_cutter_holds.{kept_sound, going_on, begins}
 use Rattle.osi_tpkt.proofs.cutting.Cutter.advance.Goals as goal
 
 pub returns-in-Stopped-Whole-clause-sound : goal.returns-in-Stopped-Whole-clause-sound
-returns-in-Stopped-Whole-clause-sound c =
-    begins c.saturating_add-self-inside.result (vec_len c.self.inside.storage) [] refl (omega arith)
+returns-in-Stopped-Whole-clause-sound c = search (arith, begins)
 
 pub returns-in-Stopped-Version-clause-sound : goal.returns-in-Stopped-Version-clause-sound
-returns-in-Stopped-Version-clause-sound c =
-    kept_sound _ _ _ _ _ c.self.invariant.1 c.self.view_is
+returns-in-Stopped-Version-clause-sound c = search (arith, kept_sound)
 
 pub returns-in-Stopped-Length-clause-sound : goal.returns-in-Stopped-Length-clause-sound
-returns-in-Stopped-Length-clause-sound c =
-    kept_sound _ _ _ _ _ c.self.invariant.1 c.self.view_is
+returns-in-Stopped-Length-clause-sound c = search (arith, kept_sound)
 
 pub returns-in-Awaited : goal.returns-in-Awaited
 returns-in-Awaited c =
     let on = going_on _ _ _ _ _ c.in-Awaited.is c.self.invariant.1 c.self.view_is in
-    record {
-      whole = λ u h. absurd (partial_not_whole c.args.self.now.octets on.1 (u, h));
-      partial = λ _. refl;
-      advances = record { whole = λ u h. absurd (partial_not_whole c.args.self.now.octets on.1 (u, h)); partial = λ _. refl };
-      sound = kept_sound _ _ _ _ _ c.self.invariant.1 c.self.view_is;
-    }
+    grind (arith, partial_not_whole, kept_sound)

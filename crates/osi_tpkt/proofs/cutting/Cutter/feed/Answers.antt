@@ -1,3 +1,4 @@
+use Rattle.std.proofs.Common.{arith}
 use Rattle.osi_tpkt.proofs.a_prefix_of_a_packet.{belonging_no_fault}
 use Rattle.osi_tpkt.proofs.what_a_cutter_holds.{kept_sound, going_on, taken_feeds, taken_sound, taken_refused, taken_lasting}
 use Rattle.osi_tpkt.proofs.cutting.Cutter.feed.Goals as goal
@@ -14,29 +15,13 @@ gather-requires c =
 pub returns-in-Awaited : goal.returns-in-Awaited
 returns-in-Awaited c =
     let on = going_on _ _ _ _ _ c.in-Awaited.is c.self.invariant.1 c.self.view_is in
-    let before = kept_sound _ _ _ _ _ c.self.invariant.1 c.self.view_is in
-    let feeds = taken_feeds c.take_whole.new.self c.args.piece.now c.gather.result c.gather.new.self on.0 on.1 c.gather.ensures.taken in
-    rw (← c.in_default.ensures.none) (record {
-      used = feeds.used;
-      standing = feeds.standing;
-      again = feeds.again;
-      lasting = taken_lasting c.take_whole.new.self c.args.piece.now c.gather.result c.gather.new.self on.0 c.gather.ensures.taken;
-      empty = λ _. c.gather.ensures.empty;
-      refused = λ _ _ f. taken_refused c.take_whole.new.self c.args.piece.now c.gather.result c.gather.new.self f c.gather.ensures.taken;
-      taken = λ _ _. c.gather.ensures.taken;
-      progress = feeds.progress;
-      feeds = feeds;
-      sound = taken_sound c.take_whole.new.self c.args.piece.now c.gather.result c.gather.new.self before on.0 on.1 c.gather.ensures.taken;
-    })
+    grind (arith, kept_sound, taken_feeds, taken_lasting, taken_refused, taken_sound)
 
 pub returns-in-Stopped-Whole-clause-sound : goal.returns-in-Stopped-Whole-clause-sound
-returns-in-Stopped-Whole-clause-sound c =
-    kept_sound _ _ _ _ _ c.self.invariant.1 c.self.view_is
+returns-in-Stopped-Whole-clause-sound c = search (arith, kept_sound)
 
 pub returns-in-Stopped-Version-clause-sound : goal.returns-in-Stopped-Version-clause-sound
-returns-in-Stopped-Version-clause-sound c =
-    kept_sound _ _ _ _ _ c.self.invariant.1 c.self.view_is
+returns-in-Stopped-Version-clause-sound c = search (arith, kept_sound)
 
 pub returns-in-Stopped-Length-clause-sound : goal.returns-in-Stopped-Length-clause-sound
-returns-in-Stopped-Length-clause-sound c =
-    kept_sound _ _ _ _ _ c.self.invariant.1 c.self.view_is
+returns-in-Stopped-Length-clause-sound c = search (arith, kept_sound)

@@ -1,4 +1,4 @@
-use Rattle.std.proofs.Common.{inl, take, vec_len, true, Ok}
+use Rattle.std.proofs.Common.{arith, inl, take, vec_len}
 use Rattle.osi_tpkt.proofs.what_a_cutter_holds.{going_on, kept_sound, taken_sound, taken_whole}
 use Rattle.osi_tpkt.proofs.cutting.Cutter.take_whole.Goals as goal
 
@@ -15,8 +15,4 @@ returns-clause-taken c =
     c.in_ok-used.ensures.octets c.put_first.ensures.room
 
 pub returns-clause-sound : goal.returns-clause-sound
-returns-clause-sound c =
-    let on = going_on _ _ _ _ _ (inl c.in-Awaited.is) c.self.invariant.1 c.self.view_is in
-    let before = kept_sound _ _ _ _ _ c.self.invariant.1 c.self.view_is in
-    taken_sound c.args.self.now c.args.piece.now (Ok (record { used = c.in_ok-used.used; whole = true })) _ before on.0 on.1
-    (returns-clause-taken c)
+returns-clause-sound c = grind (arith, kept_sound, taken_sound, returns-clause-taken)
