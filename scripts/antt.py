@@ -353,7 +353,8 @@ def lemma_files(crate):
     """The files of a crate that may have lemmas, below its folder, and the paths of what its Vocabulary passes on."""
     source = f"{TOP}/crates/{crate}"
     paths = [os.path.relpath(it, source) for it in sorted(glob.glob(f"{source}/proofs/**/*.antt", recursive=True))]
-    return [it for it in paths if os.path.basename(it).removesuffix(".antt") not in NO_LEMMAS], imports_of(f"{source}/proofs/Vocabulary.antt")[0]
+    paths = [it for it in paths if os.path.basename(it).removesuffix(".antt") not in NO_LEMMAS]
+    return paths, imports_of(f"{source}/proofs/Vocabulary.antt")[0]
 
 
 def is_answers(path):
@@ -440,7 +441,8 @@ def round_of(crate, trials_in, chosen_from, with_calls, writes):
     place = f"{TOP}/crates/{crate}"
     tried = {path: trials for path in paths if (trials := trials_in(f"{place}/{path}", vocabulary))}
     faults = faults_of(crate, {path: with_copies(read_lines(f"{place}/{path}"), trials) for path, trials in tried.items()})
-    chosen = {path: chosen_from([it for it in trials if not any(fault.is_of(it) for fault in faults[path])]) for path, trials in tried.items()}
+    proved = {path: [it for it in trials if not any(fault.is_of(it) for fault in faults[path])] for path, trials in tried.items()}
+    chosen = {path: chosen_from(trials) for path, trials in proved.items()}
     while any(chosen.values()):
         texts = {path: with_calls(f"{place}/{path}", trials) for path, trials in chosen.items() if trials}
         faults = {path: of_file for path, of_file in faults_of(crate, texts).items() if of_file}
