@@ -1,5 +1,5 @@
-"""The lemmas in the files of proofs/, and calls of grind or search that may prove them. For scripts/one_call and
-scripts/fewer_lemmas.
+"""The lemmas and imports in the files of proofs/, and calls of grind or search that may prove a lemma. For scripts/one_call,
+scripts/shorter_parts, scripts/fewer_lemmas and scripts/vocabulary.
 """
 import argparse
 import collections
@@ -34,6 +34,7 @@ ARITHMETIC = "use Rattle.std.proofs.Common.{arith}"
 CALL = re.compile(r"(?<![^\s(])(grind|search|omega) (?=[^\s=])")
 PASSED_ON = re.compile(r"pub use ([^\s{]+)\.\{(.*)\}$")
 IMPORT = re.compile(r"use ([^\s{]+)\.\{(.*)\}$")
+HEADING = re.compile(r" *-- ---")
 
 
 def read_lines(path):
@@ -489,7 +490,7 @@ def drop_lemmas(path):
         if not unused:
             return
         first, end = unused[-1].first, unused[-1].end
-        while first > 1 and is_comment(lines[first - 1]) and not lines[first - 1].lstrip().startswith("-- ----"):
+        while first > 1 and is_comment(lines[first - 1]) and not HEADING.match(lines[first - 1]):
             first -= 1
         while end < len(lines) and not lines[end].strip():
             end += 1
@@ -500,7 +501,7 @@ def is_used(name, text):
     """Whether a text has this name, or a part of it if it is an operator."""
     if "◌" in name:
         return any(part and part in text for part in name.split("◌"))
-    return bool(re.search(rf"(?<!\w){re.escape(name)}(?!\w)", text))
+    return bool(re.search(rf"(?<![\w.]){re.escape(name)}(?!\w)", text))
 
 
 def packed(module, leaves, longest=LONGEST):
@@ -534,8 +535,26 @@ def drop_words(crate):
     write_lines(vocabulary, out)
 
 
+def is_over_nothing(heading, below):
+    """Whether no lemma is left under a heading. The lines below it come from the end, so the nearest is the last."""
+    nearest = next((it for it in reversed(below) if it.strip()), None)
+    return nearest is None or bool(HEADING.match(nearest)) or indent_of(nearest) < indent_of(heading)
+
+
+def without_empty_sections(lines):
+    """The lines of a file without the headings that stand over nothing."""
+    out = []
+    for line in reversed(lines):
+        if not HEADING.match(line) or not is_over_nothing(line, out):
+            out.append(line)
+            continue
+        while out and not out[-1].strip():
+            out.pop()
+    return [*"\n".join(reversed(out)).rstrip("\n").split("\n"), ""]
+
+
 def drop_imports(path):
-    """Drops names that a file imports and doesn't use."""
+    """Drops names that a file imports and doesn't use, and headings over nothing."""
     lines = read_lines(path)
     text = "\n".join(it for it in lines if not it.startswith("use ") and not is_comment(it))
     out = []
@@ -544,4 +563,4 @@ def drop_imports(path):
         leaves = [it.strip() for line in group for it in IMPORT.match(line)[2].split(",")] if module else []
         used = [it for it in leaves if is_used(it.split(" as ")[-1], text)]
         out += group if used == leaves else packed(module, used)
-    write_lines(path, out)
+    write_lines(path, without_empty_sections(out))
