@@ -1,7 +1,9 @@
 pub mod a_connection_is_the_one_named
 pub mod a_slot_holds_a_box
-pub mod a_watch_is_boxed
-pub mod a_tap_watch_is_boxed
+pub mod a_handle_is_a_box
+pub mod a_slot_lends_what_it_holds
+pub mod what_each_slot_holds
+pub mod what_is_lent_is_stored
 pub mod verdicts_are_fetched_in_turn
 pub mod octets_are_followed_by_zeros
 pub mod a_piece_passes_turn_by_turn

@@ -1,8 +1,6 @@
 pub mod Owned
-pub mod OwnedWatch
 pub mod Lent
 pub mod LentJudge
-pub mod OwnedTap
 pub mod LentTap
 pub mod Codes
 pub mod Arguments

@@ -1,19 +1,18 @@
 -- What a handle owns.
 use mir.Syntax.{Ty}
 use base.Fml.{Fml, ftrue}
+use denote.RattleType.{RattleType}
 use denote.RawPtr.{Ptr}
 use Rattle.std.specs.declared.option.Option.{Option}
 use Rattle.std.specs.declared.option.Option.TheVariants.{None, Some}
 use Rattle.std.specs.contracts.impls.GlobalAllocator.TheImpl.{ghosts}
 use Rattle.std.specs.Box.Ownership.{box_owns}
-use Rattle.osi_c.specs.contracts.handles.Contents.{the_row}
-use Rattle.osi_c.specs.declared.handles.Contents.{Contents}
 
 -- the right to free a block of the C library
 abbrev pub block : Ty → Ptr → Fml
 block = ghosts.dealloc_token (record { memory = record { seal = tt } })
 
 -- null, or the box at p with this value
-abbrev pub may_own : Ptr → Option Contents → Fml
-may_own p None = ftrue
-may_own p (Some x) = box_owns block the_row p x
+abbrev pub may_own : (T : RattleType) → Ptr → Option T.Denot → Fml
+may_own T p None = ftrue
+may_own T p (Some x) = box_owns block T p x

@@ -6,6 +6,7 @@ ghost use Rattle.osi_c.specs.Ends.{Makes, Connects, Asks};
 
 use crate::arguments::{OsiOpening, OsiTerms, opening, terms};
 use crate::codes::{BAD_ARGUMENT, CLOSED, IN_USE, NO_MEMORY, OK, connect_refusal};
+use crate::handles::loose::Loose;
 use crate::handles::{Contents, Handle};
 use crate::slots::OsiEnd;
 use crate::traces::Traces;
@@ -30,10 +31,10 @@ pub extern "C" fn osi_caller(alloc: Global, end: &mut OsiEnd, own: &OsiTerms) ->
         reference: 0,
         traces: Traces::none(alloc),
     };
-    let Ok(inner) = Handle::new(alloc, contents) else {
+    let Ok(loose) = Loose::new(alloc, contents) else {
         return NO_MEMORY;
     };
-    end.fill(inner);
+    end.fill(loose);
     OK
 }
 
@@ -54,10 +55,10 @@ pub extern "C" fn osi_called(alloc: Global, end: &mut OsiEnd, own: &OsiTerms) ->
         reference: 0,
         traces: Traces::none(alloc),
     };
-    let Ok(inner) = Handle::new(alloc, contents) else {
+    let Ok(loose) = Loose::new(alloc, contents) else {
         return NO_MEMORY;
     };
-    end.fill(inner);
+    end.fill(loose);
     OK
 }
 
@@ -74,7 +75,7 @@ pub extern "C" fn osi_free(alloc: Global, end: &mut OsiEnd)
         },
     );
     if full {
-        drop(inner.into_box(alloc));
+        drop(inner.into_loose(alloc).into_box());
     } else {
         inner.discard();
     }

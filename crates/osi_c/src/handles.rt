@@ -1,6 +1,6 @@
 //! A value on the heap as C keeps it.
 
-mod loose;
+pub(crate) mod loose;
 pub(crate) mod tap;
 pub(crate) mod watch;
 
@@ -14,7 +14,7 @@ use crate::traces::Traces;
 use loose::Loose;
 use osi_session::Indication;
 use osi_stack::Stack;
-use std::alloc::{AllocError, Global};
+use std::alloc::Global;
 use std::marker::Model;
 use std::ptr::null_mut;
 
@@ -37,12 +37,13 @@ pub struct Handle {
 
 impl Model for Handle {
     ghost use Rattle.osi_c.specs.Owned.{may_own};
+    ghost use Rattle.osi_c.specs.contracts.handles.Contents.{the_row};
 
-    ghost also_owns = { λ h. may_own h.at h.value };
+    ghost also_owns = { λ h. may_own the_row h.at h.value };
 }
 
 impl Handle {
-    ghost use Rattle.std.specs.Prelude.{◌≡◌, None, Some, IsSome, IsNone, IfOk};
+    ghost use Rattle.std.specs.Prelude.{◌≡◌, None, Some, IsSome, IsNone};
 
     /// Nothing.
     pub(crate) fn empty() -> Handle
@@ -51,22 +52,16 @@ impl Handle {
         Handle { at: null_mut() }
     }
 
-    /// A box.
-    pub(crate) fn new(alloc: Global, end: Contents) -> Result<Handle, AllocError>
-        ensures { IfOk result (λ h. h.value ≡ Some end) }
-    {
-        let end = Box::new(alloc, end)?;
-        Ok(Handle::of_loose(Loose::of(end)))
-    }
-
-    fn of_loose(loose: Loose<Contents, Global>) -> Handle
+    /// The box of these parts.
+    pub(crate) fn of_loose(loose: Loose<Contents, Global>) -> Handle
         ensures { result.value ≡ Some loose.value }
     {
         let Loose { at, alloc: _ } = loose;
         Handle { at: at.cast() }
     }
 
-    fn into_loose(self, alloc: Global) -> Loose<Contents, Global>
+    /// The parts of the box.
+    pub(crate) fn into_loose(self, alloc: Global) -> Loose<Contents, Global>
         requires { IsSome self.value }
         ensures { Some result.value ≡ self.value }
     {
@@ -75,14 +70,6 @@ impl Handle {
             at: at.cast(),
             alloc,
         }
-    }
-
-    /// The box.
-    pub(crate) fn into_box(self, alloc: Global) -> Box<Contents>
-        requires { IsSome self.value }
-        ensures { Some result.value ≡ self.value }
-    {
-        self.into_loose(alloc).into_box()
     }
 
     /// Discards a handle that is null.

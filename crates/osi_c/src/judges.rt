@@ -2,8 +2,10 @@
 
 ghost use Rattle.std.specs.Prelude.{◌≡◌, is_some};
 
+use crate::handles::loose::Loose;
 use crate::handles::watch::WatchHandle;
 use crate::watches::Watch;
+use std::alloc::Global;
 use std::mem::replace;
 
 /// The slot of a judge in C: it holds a judge, or none. It begins as zeros.
@@ -15,7 +17,7 @@ pub struct OsiJudge {
 }
 
 impl OsiJudge {
-    ghost use Rattle.std.specs.Prelude.{◌≡◌, IsNone, IsSome, option_map};
+    ghost use Rattle.std.specs.Prelude.{◌≡◌, IsNone, Some, option_map};
     ghost use types.Logic.{sem};
     ghost use Rattle.osi_c.specs.LentJudge.{KeepsSlot};
 
@@ -31,11 +33,11 @@ impl OsiJudge {
     }
 
     /// Puts a box into an empty slot.
-    pub(crate) fn fill(&mut self, inner: WatchHandle)
-        requires empty { IsNone self.old.inner.value }
-        requires full { IsSome inner.value }
-        ensures { self.new.inner.value ≡ inner.value }
+    pub(crate) fn fill(&mut self, loose: Loose<Watch, Global>)
+        requires { IsNone self.old.inner.value }
+        ensures { self.new.inner.value ≡ Some loose.value }
     {
+        let inner = WatchHandle::of_loose(loose);
         let OsiJudge {
             full: _,
             inner: old,

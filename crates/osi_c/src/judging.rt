@@ -4,6 +4,7 @@ ghost use Rattle.std.specs.Prelude.{◌≡◌, None};
 ghost use Rattle.osi_c.specs.Watched.{begins_of, Begins, feeding_of, Feeds};
 
 use crate::codes::{BAD_ARGUMENT, CLOSED, IN_USE, NO_MEMORY, OK};
+use crate::handles::loose::Loose;
 use crate::handles::watch::WatchHandle;
 use crate::judges::OsiJudge;
 use crate::verdicts::side_by;
@@ -31,10 +32,10 @@ pub extern "C" fn osi_judge_new(alloc: Global, judge: &mut OsiJudge) -> u32
         right_told: false,
         text: Vec::new(alloc),
     };
-    let Ok(inner) = WatchHandle::new(alloc, watch) else {
+    let Ok(loose) = Loose::new(alloc, watch) else {
         return NO_MEMORY;
     };
-    judge.fill(inner);
+    judge.fill(loose);
     OK
 }
 
@@ -51,7 +52,7 @@ pub extern "C" fn osi_judge_free(alloc: Global, judge: &mut OsiJudge)
         },
     );
     if full {
-        drop(inner.into_box(alloc));
+        drop(inner.into_loose(alloc).into_box());
     } else {
         inner.discard();
     }

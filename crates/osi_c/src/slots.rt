@@ -2,7 +2,9 @@
 
 ghost use Rattle.std.specs.Prelude.{◌≡◌, is_some};
 
+use crate::handles::loose::Loose;
 use crate::handles::{Contents, Handle};
+use std::alloc::Global;
 use std::mem::replace;
 
 /// The slot of an end in C: it holds an end, or none. It begins as zeros.
@@ -14,7 +16,7 @@ pub struct OsiEnd {
 }
 
 impl OsiEnd {
-    ghost use Rattle.std.specs.Prelude.{◌≡◌, IsNone, IsSome, option_map};
+    ghost use Rattle.std.specs.Prelude.{◌≡◌, IsNone, Some, option_map};
     ghost use types.Logic.{sem};
     ghost use Rattle.osi_c.specs.Lent.{KeepsSlot};
 
@@ -30,11 +32,11 @@ impl OsiEnd {
     }
 
     /// Puts a box into an empty slot.
-    pub(crate) fn fill(&mut self, inner: Handle)
-        requires empty { IsNone self.old.inner.value }
-        requires full { IsSome inner.value }
-        ensures { self.new.inner.value ≡ inner.value }
+    pub(crate) fn fill(&mut self, loose: Loose<Contents, Global>)
+        requires { IsNone self.old.inner.value }
+        ensures { self.new.inner.value ≡ Some loose.value }
     {
+        let inner = Handle::of_loose(loose);
         let OsiEnd {
             full: _,
             inner: old,

@@ -5,6 +5,7 @@ ghost use Rattle.osi_c.specs.Watched.{begins_of, feeding_of};
 ghost use Rattle.osi_c.specs.TapFed.{Begins, Feeds};
 
 use crate::codes::{BAD_ARGUMENT, CLOSED, IN_USE, NO_MEMORY, OK};
+use crate::handles::loose::Loose;
 use crate::handles::tap::TapHandle;
 use crate::tap_slots::OsiWatch;
 use crate::tap_watches::{fresh, take_piece};
@@ -20,10 +21,10 @@ pub extern "C" fn osi_watch_new(alloc: Global, watch: &mut OsiWatch) -> u32
     if watch.full {
         return IN_USE;
     }
-    let Ok(inner) = TapHandle::new(alloc, fresh(alloc)) else {
+    let Ok(loose) = Loose::new(alloc, fresh(alloc)) else {
         return NO_MEMORY;
     };
-    watch.fill(inner);
+    watch.fill(loose);
     OK
 }
 
@@ -40,7 +41,7 @@ pub extern "C" fn osi_watch_free(alloc: Global, watch: &mut OsiWatch)
         },
     );
     if full {
-        drop(inner.into_box(alloc));
+        drop(inner.into_loose(alloc).into_box());
     } else {
         inner.discard();
     }

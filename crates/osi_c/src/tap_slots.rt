@@ -2,7 +2,10 @@
 
 ghost use Rattle.std.specs.Prelude.{◌≡◌, is_some};
 
+use crate::handles::loose::Loose;
 use crate::handles::tap::TapHandle;
+use crate::tap_watches::TapWatch;
+use std::alloc::Global;
 use std::mem::replace;
 
 /// The slot of a watch in C: it holds a watch, or none. It begins as zeros.
@@ -14,14 +17,14 @@ pub struct OsiWatch {
 }
 
 impl OsiWatch {
-    ghost use Rattle.std.specs.Prelude.{◌≡◌, IsNone, IsSome};
+    ghost use Rattle.std.specs.Prelude.{◌≡◌, IsNone, Some};
 
     /// Puts a box into an empty slot.
-    pub(crate) fn fill(&mut self, inner: TapHandle)
-        requires empty { IsNone self.old.inner.value }
-        requires full { IsSome inner.value }
-        ensures { self.new.inner.value ≡ inner.value }
+    pub(crate) fn fill(&mut self, loose: Loose<TapWatch, Global>)
+        requires { IsNone self.old.inner.value }
+        ensures { self.new.inner.value ≡ Some loose.value }
     {
+        let inner = TapHandle::of_loose(loose);
         let OsiWatch {
             full: _,
             inner: old,

@@ -1,9 +1,9 @@
 //! A box in its parts.
 
-ghost use Rattle.std.specs.Prelude.{◌≡◌};
+ghost use Rattle.std.specs.Prelude.{◌≡◌, IfOk};
 ghost use Rattle.std.specs.Box.Ownership.{box_owns};
 
-use std::alloc::Allocator;
+use std::alloc::{AllocError, Allocator, Global};
 use std::marker::Model;
 
 /// The pointer of a box, and the allocator that frees it.
@@ -32,5 +32,15 @@ impl<T: Drop, A: Allocator> Loose<T, A> {
     {
         let Loose { at, alloc } = self;
         unsafe { Box::from_raw(alloc, at) }
+    }
+}
+
+impl<T: Drop> Loose<T, Global> {
+    /// A box with this value.
+    pub(crate) fn new(alloc: Global, value: T) -> Result<Loose<T, Global>, AllocError>
+        ensures { IfOk result (λ l. l.value ≡ value) }
+    {
+        let whole = Box::new(alloc, value)?;
+        Ok(Loose::of(whole))
     }
 }

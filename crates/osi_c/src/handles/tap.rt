@@ -8,7 +8,7 @@ ghost use Rattle.osi_c.specs.declared.tap_watches.TapWatch.{TapWatch};
 use crate::handles::loose::Loose;
 use crate::tap_slots::OsiWatch;
 use crate::tap_watches::TapWatch;
-use std::alloc::{AllocError, Global};
+use std::alloc::Global;
 use std::marker::Model;
 use std::ptr::null_mut;
 
@@ -20,13 +20,14 @@ pub struct TapHandle {
 }
 
 impl Model for TapHandle {
-    ghost use Rattle.osi_c.specs.OwnedTap.{may_own};
+    ghost use Rattle.osi_c.specs.Owned.{may_own};
+    ghost use Rattle.osi_c.specs.contracts.tap_watches.TapWatch.{the_row};
 
-    ghost also_owns = { λ h. may_own h.at h.value };
+    ghost also_owns = { λ h. may_own the_row h.at h.value };
 }
 
 impl TapHandle {
-    ghost use Rattle.std.specs.Prelude.{◌≡◌, None, Some, IsSome, IsNone, IfOk};
+    ghost use Rattle.std.specs.Prelude.{◌≡◌, None, Some, IsSome, IsNone};
 
     /// Nothing.
     pub(crate) fn empty() -> TapHandle
@@ -35,22 +36,16 @@ impl TapHandle {
         TapHandle { at: null_mut() }
     }
 
-    /// A box.
-    pub(crate) fn new(alloc: Global, watch: TapWatch) -> Result<TapHandle, AllocError>
-        ensures { IfOk result (λ h. h.value ≡ Some watch) }
-    {
-        let watch = Box::new(alloc, watch)?;
-        Ok(TapHandle::of_loose(Loose::of(watch)))
-    }
-
-    fn of_loose(loose: Loose<TapWatch, Global>) -> TapHandle
+    /// The box of these parts.
+    pub(crate) fn of_loose(loose: Loose<TapWatch, Global>) -> TapHandle
         ensures { result.value ≡ Some loose.value }
     {
         let Loose { at, alloc: _ } = loose;
         TapHandle { at: at.cast() }
     }
 
-    fn into_loose(self, alloc: Global) -> Loose<TapWatch, Global>
+    /// The parts of the box.
+    pub(crate) fn into_loose(self, alloc: Global) -> Loose<TapWatch, Global>
         requires { IsSome self.value }
         ensures { Some result.value ≡ self.value }
     {
@@ -59,14 +54,6 @@ impl TapHandle {
             at: at.cast(),
             alloc,
         }
-    }
-
-    /// The box.
-    pub(crate) fn into_box(self, alloc: Global) -> Box<TapWatch>
-        requires { IsSome self.value }
-        ensures { Some result.value ≡ self.value }
-    {
-        self.into_loose(alloc).into_box()
     }
 
     /// Discards a handle that is null.

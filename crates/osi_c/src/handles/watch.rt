@@ -8,7 +8,7 @@ ghost use Rattle.osi_c.specs.declared.watches.Watch.{Watch};
 use crate::handles::loose::Loose;
 use crate::judges::OsiJudge;
 use crate::watches::Watch;
-use std::alloc::{AllocError, Global};
+use std::alloc::Global;
 use std::marker::Model;
 use std::ptr::null_mut;
 
@@ -20,13 +20,14 @@ pub struct WatchHandle {
 }
 
 impl Model for WatchHandle {
-    ghost use Rattle.osi_c.specs.OwnedWatch.{may_own};
+    ghost use Rattle.osi_c.specs.Owned.{may_own};
+    ghost use Rattle.osi_c.specs.contracts.watches.Watch.{the_row};
 
-    ghost also_owns = { λ h. may_own h.at h.value };
+    ghost also_owns = { λ h. may_own the_row h.at h.value };
 }
 
 impl WatchHandle {
-    ghost use Rattle.std.specs.Prelude.{◌≡◌, None, Some, IsSome, IsNone, IfOk};
+    ghost use Rattle.std.specs.Prelude.{◌≡◌, None, Some, IsSome, IsNone};
 
     /// Nothing.
     pub(crate) fn empty() -> WatchHandle
@@ -35,22 +36,16 @@ impl WatchHandle {
         WatchHandle { at: null_mut() }
     }
 
-    /// A box.
-    pub(crate) fn new(alloc: Global, watch: Watch) -> Result<WatchHandle, AllocError>
-        ensures { IfOk result (λ h. h.value ≡ Some watch) }
-    {
-        let watch = Box::new(alloc, watch)?;
-        Ok(WatchHandle::of_loose(Loose::of(watch)))
-    }
-
-    fn of_loose(loose: Loose<Watch, Global>) -> WatchHandle
+    /// The box of these parts.
+    pub(crate) fn of_loose(loose: Loose<Watch, Global>) -> WatchHandle
         ensures { result.value ≡ Some loose.value }
     {
         let Loose { at, alloc: _ } = loose;
         WatchHandle { at: at.cast() }
     }
 
-    fn into_loose(self, alloc: Global) -> Loose<Watch, Global>
+    /// The parts of the box.
+    pub(crate) fn into_loose(self, alloc: Global) -> Loose<Watch, Global>
         requires { IsSome self.value }
         ensures { Some result.value ≡ self.value }
     {
@@ -59,14 +54,6 @@ impl WatchHandle {
             at: at.cast(),
             alloc,
         }
-    }
-
-    /// The box.
-    pub(crate) fn into_box(self, alloc: Global) -> Box<Watch>
-        requires { IsSome self.value }
-        ensures { Some result.value ≡ self.value }
-    {
-        self.into_loose(alloc).into_box()
     }
 
     /// Discards a handle that is null.
