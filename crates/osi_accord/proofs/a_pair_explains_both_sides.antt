@@ -108,8 +108,6 @@ turns_sent Right (turn Left t ∷ turns) = turns_sent Right turns
 pub both_explained : (left right : Seen) (turns : List Turn) → Accords (map sending_of turns) (pair_of left right) →
     IsExplained left (tsdus_by Right turns) (told_by Left turns) × IsExplained right (tsdus_by Left turns) (told_by Right turns)
 both_explained left right turns run = (
-  subst (λ (x : List Remark). Explains (tsdus_by Right turns) x 0 left) (turns_said Left turns)
-      (left_explained (tsdus_by Right turns) run [] (turns_sent Right turns) refl),
-  subst (λ (x : List Remark). Explains (tsdus_by Left turns) x 0 right) (turns_said Right turns)
-      (right_explained (tsdus_by Left turns) run [] (turns_sent Left turns) refl),
+  grind (arith, turns_said Left turns, left_explained (tsdus_by Right turns) run [] (turns_sent Right turns) refl, turns_sent Right turns),
+  grind (arith, turns_said Right turns, right_explained (tsdus_by Left turns) run [] (turns_sent Left turns) refl, turns_sent Left turns),
 )

@@ -1,36 +1,30 @@
 -- A run of two sessions that send what calls and answers send is one of the machine of whole connections, in class 0.
 -- For the law of that name.
-use Rattle.std.proofs.Common.{arith}
 use Rattle.osi_accord.proofs.Vocabulary.{[], ap, append-nil, false, inl, inr, length, List, map, None, Option, refl, Some, subst, sym, true}
 use Rattle.osi_accord.proofs.Vocabulary.{ℕ, ◌++◌, ◌∙◌, ◌∷◌, ◌≡◌, flat_map-append, append_assoc, AllByRecursion, GT, Meaning, IsSendable}
 use Rattle.osi_accord.proofs.Vocabulary.{no_token, says, Word, written, has_no_effect, awaiting, answers_word, CanSay, Count, listens, Seen}
-use Rattle.osi_accord.proofs.Vocabulary.{seen_called, seen_calling, Takes, CanBeOffered, Offer, offer_sent, offering, connects, Ending}
-use Rattle.osi_accord.proofs.Vocabulary.{Entry, HasNumber, said_in, units_in, refusal, run, Seat, step, Tables, linked, replied}
-use Rattle.osi_accord.proofs.Vocabulary.{unit, other, Direction, Left, Right, Accords, end_of, Sending, sending, AreWritten, connect_of}
-use Rattle.osi_accord.proofs.Vocabulary.{is_connect, IsByCall, IsMessage, side_at, TakesNoLiberty, Utterance, utters, channel_of, has_taken}
-use Rattle.osi_accord.proofs.Vocabulary.{Pair, pair_of, session_of, with_channel, with_session, CallsAndAnswers, IsAnyCall, IsByAnyCall}
-use Rattle.osi_accord.proofs.Vocabulary.{its_own, PlaysWhole, start_0, uttered_at, uttered_by, uttered_in}
+use Rattle.osi_accord.proofs.Vocabulary.{seen_called, seen_calling, Takes, CanBeOffered, Offer, offer_sent, offering, connects, Entry}
+use Rattle.osi_accord.proofs.Vocabulary.{HasNumber, said_in, units_in, refusal, run, step, Tables, linked, replied, unit, other, Direction}
+use Rattle.osi_accord.proofs.Vocabulary.{Left, Right, Accords, end_of, Sending, sending, AreWritten, connect_of, is_connect, IsByCall}
+use Rattle.osi_accord.proofs.Vocabulary.{IsMessage, side_at, TakesNoLiberty, Utterance, utters, channel_of, has_taken, Pair, pair_of}
+use Rattle.osi_accord.proofs.Vocabulary.{session_of, with_channel, with_session, CallsAndAnswers, IsAnyCall, IsByAnyCall, its_own}
+use Rattle.osi_accord.proofs.Vocabulary.{PlaysWhole, start_0, uttered_at, uttered_by, uttered_in, arith, Step}
 use Rattle.osi_session.specs.Moves.{react}
 use Rattle.osi_machine.specs.Core as machine
-use Rattle.osi_machine.specs.Machine.{Step}
 use Rattle.osi_machine.specs.Sayings.{said_at}
 use Rattle.osi_accord.specs.Accords as accord
 use Rattle.osi_accord.proofs.messages_of_a_run.{AsMessages, IsRest, message_first, same_said, says_nothing, IsDue, same_pair, first_word}
-use Rattle.osi_accord.proofs.messages_of_a_run.{effect_of, not_both}
+use Rattle.osi_accord.proofs.messages_of_a_run.{effect_of}
 use Rattle.osi_accord.proofs.how_a_run_begins.{asking, connected}
 use Rattle.osi_accord.proofs.a_step_of_one_connection.{facing, seat, tables, taking_at}
-use Rattle.osi_accord.proofs.a_side_that_calls_takes_and_answers.{IsSeat, MovesTo, Stands, answering_at, calls_on, quiet_at, turned_about}
+use Rattle.osi_accord.proofs.a_side_that_calls_takes_and_answers.{MovesTo, Stands, answering_at, calls_on, quiet_at, turned_about}
 
 -- ---- the TSDU is in flight
 
-seat_sends : (x : Seat) (e : Option Ending) (s : Seen) (channel : List (List ℕ)) (m : Meaning) → IsSeat x e s channel (m ∷ []) →
-    IsSeat x e s (channel ++ written m ∷ []) []
-seat_sends x e s channel m i = grind (arith, append-nil)
-
 sends_on : (t : Tables) (p : Pair) (d : Direction) (m : Meaning) → Stands t p d (m ∷ []) [] →
     Stands t (with_channel d (channel_of d p ++ written m ∷ []) p) d [] []
-sends_on t p Left m s = grind (arith, seat_sends)
-sends_on t p Right m s = grind (arith, seat_sends)
+sends_on t p Left m s = grind (arith, append-nil)
+sends_on t p Right m s = grind (arith, append-nil)
 
 -- ---- a run
 
@@ -54,10 +48,6 @@ units_back : (ms : List Meaning) → units_in (map unit ms) ≡ ms
 units_back [] = refl
 units_back (m ∷ ms) = ap (λ (x : List Meaning). m ∷ x) (units_back ms)
 
-in_flight : (x : Seat) (e : Option Ending) (s : Seen) (channel : List (List ℕ)) → IsSeat x e s channel [] →
-    map written (units_in x.channel) ≡ channel
-in_flight x e s channel i = grind (arith, units_back, append-nil)
-
 -- nothing is left to send
 left_done : (t : Tables) (p : Pair) → Stands t p Left [] [] → PlaysWhole t [] p
 left_done t p s = record {
@@ -68,18 +58,15 @@ left_done t p s = record {
   is = ap (λ (x : Tables). x.lines) s.is;
   left = s.here.state;
   right = s.there.state;
-  left_in_flight = in_flight s.own s.own_end p.left.session p.left.channel s.here;
-  right_in_flight = in_flight s.peer s.peer_end p.right.session p.right.channel s.there;
+  left_in_flight = grind (arith, units_back, append-nil);
+  right_in_flight = grind (arith, units_back, append-nil);
   left_end = ap (λ (x : Tables). x.left_end) s.is ∙ s.here.ends;
   right_end = ap (λ (x : Tables). x.right_end) s.is ∙ s.there.ends;
 }
 
-no_more : (t : Tables) (p : Pair) (d : Direction) → Stands t p d [] [] → PlaysWhole t [] p
-no_more t p d s = grind (arith, left_done, turned_about)
-
 nothing_due : (t : Tables) (p : Pair) (messages : List Utterance) (d : Direction) (ahead : List Meaning) → IsDue [] messages d ahead →
     Stands t p d ahead [] → PlaysWhole t messages p
-nothing_due t p [] d ahead (inl due) s = no_more t p d (subst (λ (a : List Meaning). Stands t p d a []) due.1 s)
+nothing_due t p [] d ahead (inl due) s = grind (arith, left_done, turned_about)
 nothing_due t p (utters e m ∷ messages) d ahead (inl due) s = absurd due.0
 nothing_due t p messages d ahead (inr due) s = absurd due.is
 
@@ -114,7 +101,7 @@ takes_step k t p Right Left c tsdu rest ahead messages q there hears taken quiet
 call_of : (s next : Seen) (w : Word) (m : Meaning) → IsByAnyCall s w next → w ≡ says m → has_no_effect m ≡ false → is_connect m ≡ false →
     IsAnyCall s m next
 call_of s next w m (inl is) e effect later = absurd (effect_of m effect (same_said m (GT no_token) (sym e ∙ is)))
-call_of s next w m (inr (n, is, inl first)) e effect later = grind (arith, not_both, same_said)
+call_of s next w m (inr (n, is, inl first)) e effect later = grind (arith, same_said)
 call_of s next w m (inr (n, is, inr call)) e effect later = grind (arith, same_said)
 
 calls_at : (t : Tables) (p : Pair) (d : Direction) (next : Seen) (m : Meaning) → IsAnyCall (session_of d p) m next → IsSendable m →
@@ -256,8 +243,7 @@ steps_on t [] messages q numbered s = s
 steps_on t (move ∷ steps) messages q numbered s =
     subst (λ (x : List Utterance). PlaysWhole t x q)
     (sym (append_assoc (uttered_at t move) (uttered_in (step t move) steps) messages))
-    (step_on t move (uttered_at t move) (uttered_in (step t move) steps ++ messages) q numbered.0 refl
-    (steps_on (step t move) steps messages q numbered.1 s))
+    (grind (arith, step_on, steps_on (step t move) steps messages q numbered.1 s))
 
 pub whole_run : AsMessages → (o : Offer) (before : ℕ) (sent : List Sending) (messages : List Utterance)
     (run : Accords (connect_of o before ∷ sent) (pair_of seen_calling seen_called)) → IsSendable (offer_sent o) → CanBeOffered o →

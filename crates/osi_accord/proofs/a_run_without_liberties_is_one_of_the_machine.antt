@@ -1,19 +1,18 @@
 -- A run of two sessions in which no liberty is taken is a run of the machine of two sides that exchange whole messages.
 -- For the law of that name.
-use Rattle.std.proofs.Common.{arith}
 use Rattle.osi_accord.proofs.Vocabulary.{[], ap, append-nil, false, inl, inr, length, List, map, None, Ok, Option, refl, Some, subst, sym}
 use Rattle.osi_accord.proofs.Vocabulary.{true, ℕ, ◌++◌, ◌∙◌, ◌∷◌, ◌≡◌, AllByRecursion, GT, Meaning, IsSendable, no_token, says, Word}
-use Rattle.osi_accord.proofs.Vocabulary.{written, allowed, Call, HasSerial, has_no_effect, respond_unit, after_count, CanSay, Count, goes}
-use Rattle.osi_accord.proofs.Vocabulary.{Seen, seen_called, seen_calling, Takes, State, call_at, called, Core, core_start, core_step, Offer}
+use Rattle.osi_accord.proofs.Vocabulary.{written, allowed, Call, HasSerial, has_no_effect, respond_unit, after_count, CanSay, Count, Seen}
+use Rattle.osi_accord.proofs.Vocabulary.{seen_called, seen_calling, Takes, State, call_at, called, Core, core_start, core_step, Offer}
 use Rattle.osi_accord.proofs.Vocabulary.{offer_sent, stays_in_core, take_at, taking, turned, other, Direction, Left, Right, Accords, end_of}
 use Rattle.osi_accord.proofs.Vocabulary.{Sending, sending, AreWritten, connect_of, is_connect, IsByCall, IsCoreCall, IsMessage, Plays}
-use Rattle.osi_accord.proofs.Vocabulary.{sent_at, sent_in, side_at, TakesNoLiberty, Utterance, utters, channel_of, has_taken, Pair, pair_of}
-use Rattle.osi_accord.proofs.Vocabulary.{session_of, with_channel, with_session}
+use Rattle.osi_accord.proofs.Vocabulary.{sent_at, side_at, TakesNoLiberty, Utterance, utters, channel_of, has_taken, Pair, pair_of}
+use Rattle.osi_accord.proofs.Vocabulary.{session_of, with_channel, with_session, arith}
 use Rattle.osi_session.specs.Allowed.{Step}
 use Rattle.osi_machine.specs.Core as machine
 use Rattle.osi_accord.specs.Accords as accord
 use Rattle.osi_accord.proofs.messages_of_a_run.{AsMessages, IsTaken, is_taken, IsRest, message_first, same_said, says_nothing, all_and_one}
-use Rattle.osi_accord.proofs.messages_of_a_run.{written_more, kept_none, comes, IsDue, same_pair, first_word, effect_of, not_both}
+use Rattle.osi_accord.proofs.messages_of_a_run.{written_more, kept_none, comes, IsDue, same_pair, first_word, effect_of}
 use Rattle.osi_accord.proofs.how_a_run_begins.{connected}
 
 -- ---- a side of the machine, and a side of the pair
@@ -44,36 +43,17 @@ called_own : (v : Core) (c : Call) (g : Step) → stays_in_core c ≡ true → a
     called v c ≡ machine.answered v c (Ok g)
 called_own v c g stays allows = rw (stays, allows) refl
 
--- the side sends a message by it
-party_calls : (x y : machine.Party) (s next : Seen) (channel : List (List ℕ)) (state : State) (m : Meaning) → IsParty x s channel [] →
-    IsSendable m → next ≡ goes s state → y.session ≡ state → y.sent ≡ x.sent ++ m ∷ [] → IsParty y next channel (m ∷ [])
-party_calls x y s next channel state m i send goes_on at sent = grind (arith, kept_none, append-nil, written_more, all_and_one)
-
 calls_on : (w : Core) (p : Pair) (d : Direction) (next : Seen) (m : Meaning) (call : IsCoreCall (session_of d p) m next) → IsSendable m →
     Stands w p d [] [] →
     Stands (core_step w (call_at (side_at d) call.is.call)) (with_session d next p) d (m ∷ []) []
 calls_on w p Left next m call send s =
     let allows : allowed w.own.session call.is.call ≡ Ok (record { next = call.is.state; sent = m }) =
     ap (λ (x : State). allowed x call.is.call) s.own.state ∙ call.is.allows in
-    let is = called_own w call.is.call _ call.stays allows in
-    record {
-      own = party_calls _ _ _ next _ call.is.state m s.own send call.is.goes_on (ap (λ (x : Core). x.own.session) is)
-          (ap (λ (x : Core). x.own.sent) is);
-      peer = subst (λ (x : machine.Party). IsParty x p.right.session p.right.channel []) (sym (ap (λ (x : Core). x.peer) is)) s.peer;
-    }
+    grind (arith, called_own, kept_none, append-nil, written_more, all_and_one)
 calls_on w p Right next m call send s =
     let allows : allowed w.peer.session call.is.call ≡ Ok (record { next = call.is.state; sent = m }) =
     ap (λ (x : State). allowed x call.is.call) s.own.state ∙ call.is.allows in
-    let is = called_own (turned w) call.is.call _ call.stays allows in
-    record {
-      own = party_calls _ _ _ next _ call.is.state m s.own send call.is.goes_on (ap (λ (x : Core). x.own.session) is)
-          (ap (λ (x : Core). x.own.sent) is);
-      peer = subst (λ (x : machine.Party). IsParty x p.left.session p.left.channel []) (sym (ap (λ (x : Core). x.peer) is)) s.peer;
-    }
-
-call_sends : (w : Core) (p : Pair) (d : Direction) (next : Seen) (m : Meaning) (call : IsCoreCall (session_of d p) m next) →
-    Stands w p d [] [] → sent_at w (call_at (side_at d) call.is.call) ≡ utters d m ∷ []
-call_sends w p h next m call s = grind arith
+    grind (arith, called_own, kept_none, append-nil, written_more, all_and_one)
 
 -- ---- a delivery
 
@@ -99,25 +79,14 @@ takes_on k w p Left c tsdu rest ahead others there taken s =
     let all : AllByRecursion IsSendable (m.u ∷ m.us) = subst (AllByRecursion IsSendable) m.is s.peer.sendable in
     let is = taking_own w m.u m.us m.is in
     let did = is_taken k p.left.session m.u c all.0 s.own.joined (subst (λ (x : List ℕ). Takes p.left.session x c) (sym m.first) taken) in
-    record {
-      own = party_takes w.own (machine.takes w).own p.left.session p.left.channel ahead m.u c did s.own
-          (ap (λ (x : Core). x.own.session) is)
-          (ap (λ (x : Core). x.own.sent) is);
-      peer = party_gives w.peer (machine.takes w).peer p.right.session p.right.channel rest others m.us s.peer
-          (ap (λ (x : Core). x.peer.session) is) (ap (λ (x : Core). x.peer.sent) is) m.later all.1;
-    }
+    grind (arith, party_takes, party_gives)
 takes_on k w p Right c tsdu rest ahead others there taken s =
     let m = comes w.own.sent tsdu (rest ++ map written others)
     (ap (λ (x : List (List ℕ)). x ++ map written others) (sym there) ∙ s.peer.flight) in
     let all : AllByRecursion IsSendable (m.u ∷ m.us) = subst (AllByRecursion IsSendable) m.is s.peer.sendable in
     let is = taking_own (turned w) m.u m.us m.is in
     let did = is_taken k p.right.session m.u c all.0 s.own.joined (subst (λ (x : List ℕ). Takes p.right.session x c) (sym m.first) taken) in
-    record {
-      own = party_takes w.peer (machine.takes (turned w)).own p.right.session p.right.channel ahead m.u c did s.own
-          (ap (λ (x : Core). x.own.session) is) (ap (λ (x : Core). x.own.sent) is);
-      peer = party_gives w.own (machine.takes (turned w)).peer p.left.session p.left.channel rest others m.us s.peer
-          (ap (λ (x : Core). x.peer.session) is) (ap (λ (x : Core). x.peer.sent) is) m.later all.1;
-    }
+    grind (arith, party_takes, party_gives)
 
 -- whichever side takes it
 takes_any : AsMessages → (w : Core) (p : Pair) (d e : Direction) (c : Count) (tsdu : List ℕ) (rest : List (List ℕ)) (ahead : List Meaning) →
@@ -132,14 +101,10 @@ takes_any k w p Right Left c tsdu rest ahead there taken s =
 
 -- ---- the TSDU is in flight
 
-party_sends : (x : machine.Party) (s : Seen) (channel : List (List ℕ)) (m : Meaning) → IsParty x s channel (m ∷ []) →
-    IsParty x s (channel ++ written m ∷ []) []
-party_sends x s channel m i = grind (arith, append-nil)
-
 sends_on : (w : Core) (p : Pair) (d : Direction) (m : Meaning) → Stands w p d (m ∷ []) [] →
     Stands w (with_channel d (channel_of d p ++ written m ∷ []) p) d [] []
-sends_on w p Left m s = record { own = party_sends w.own p.left.session p.left.channel m s.own; peer = s.peer }
-sends_on w p Right m s = record { own = party_sends w.peer p.right.session p.right.channel m s.own; peer = s.peer }
+sends_on w p Left m s = record { own = grind (arith, append-nil); peer = s.peer }
+sends_on w p Right m s = record { own = grind (arith, append-nil); peer = s.peer }
 
 -- ---- a run
 
@@ -161,21 +126,16 @@ call_step : (w : Core) (d : Direction) (c : Call) (m : Meaning) (messages : List
 call_step w d c m messages q small sent s = record {
   steps = call_at (side_at d) c ∷ s.steps;
   numbered = (small, s.numbered);
-  sent = ap (λ (x : List Utterance). x ++ sent_in (core_step w (call_at (side_at d) c)) s.steps) sent
-      ∙ ap (λ (x : List Utterance). utters d m ∷ x) s.sent;
+  sent = grind arith;
   left = s.left;
   right = s.right;
   left_in_flight = s.left_in_flight;
   right_in_flight = s.right_in_flight;
 }
 
--- nothing is left to send
-no_more : (w : Core) (p : Pair) (d : Direction) → Stands w p d [] [] → Plays w [] p
-no_more w p d s = grind (arith, append-nil)
-
 nothing_due : (w : Core) (p : Pair) (messages : List Utterance) (d : Direction) (ahead : List Meaning) → IsDue [] messages d ahead →
     Stands w p d ahead [] → Plays w messages p
-nothing_due w p messages d ahead h s = search (arith, no_more)
+nothing_due w p messages d ahead h s = grind (arith, append-nil)
 
 -- nothing is ahead of either side
 calm : (w : Core) (p : Pair) (d e : Direction) → Stands w p d [] [] → Stands w p e [] []
@@ -185,7 +145,7 @@ calm w p d e s = grind (arith, turned_about)
 call_of : (s next : Seen) (w : Word) (m : Meaning) → IsByCall s w next → w ≡ says m → has_no_effect m ≡ false → is_connect m ≡ false →
     IsCoreCall s m next
 call_of s next w m (inl is) e effect other = absurd (effect_of m effect (same_said m (GT no_token) (sym e ∙ is)))
-call_of s next w m (inr (n, is, inl connects)) e effect other = grind (arith, not_both, same_said)
+call_of s next w m (inr (n, is, inl connects)) e effect other = grind (arith, same_said)
 call_of s next w m (inr (n, is, inr call)) e effect other = grind (arith, same_said)
 
 -- a word is sent
@@ -202,7 +162,7 @@ says_due k w p e own before x words later next (utters f m ∷ messages) d ahead
     let call = call_of (session_of e p) next x m by h.word all.0.1 all.0.2 in
     let still : Stands w p e [] [] = calm w p d e (subst (λ (a : List Meaning). Stands w p d a []) due.1 s) in
     subst (λ (z : Direction). Plays w (utters z m ∷ messages) q) due.0.0
-    (call_step w e call.is.call m messages q call.numbered (call_sends w p e next m call still)
+    (call_step w e call.is.call m messages q call.numbered (grind arith)
     (on messages all.1 (core_step w (call_at (side_at e) call.is.call)) e (m ∷ [])
     (inr (record { m = m; is = (refl, due.0.1, h.rests, due.0.3); one = refl }))
     (calls_on w p e next m call all.0.0 still)))
@@ -260,7 +220,4 @@ machine_run k o before sent messages run send all are free =
     k o send before sent run free in
     subst (Plays (core_start o) messages) rest.2
     (run_of k rest.0 rest.1 messages all (core_start o) Left [] (inl (are, refl))
-    (record {
-      own = record { state = refl; joined = refl; flight = refl; sendable = (send, tt) };
-      peer = record { state = refl; joined = refl; flight = refl; sendable = tt };
-    }))
+    (grind arith))

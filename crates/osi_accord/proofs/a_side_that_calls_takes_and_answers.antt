@@ -1,15 +1,13 @@
 -- What the tables of whole connections and a pair of sessions have in common, and that a call and a delivery keep it.
 -- For the law that a run of calls and answers is one of the machine of whole connections.
-use Rattle.std.proofs.Common.{arith}
 use Rattle.osi_accord.proofs.Vocabulary.{[], ap, append-nil, Bool, false, if◌then◌else◌, length, List, map, None, not, Ok, Option, refl}
 use Rattle.osi_accord.proofs.Vocabulary.{Some, subst, sym, take, true, ℕ, ◌++◌, ◌||◌, ◌∙◌, ◌∷◌, ◌≡◌, take-append_seam, append_assoc}
 use Rattle.osi_accord.proofs.Vocabulary.{AllByRecursion, Meaning, IsSendable, said_of, written, unit_silent, enacts, allowed, drops_parts}
-use Rattle.osi_accord.proofs.Vocabulary.{in_state, is_wait_transport, enacted, good, in_aborting, in_ended, Outcome, respond, respond_unit}
-use Rattle.osi_accord.proofs.Vocabulary.{Verdict, verdict, after_count, Count, goes, listens, Seen, Takes, without_tokens, Ended, State}
-use Rattle.osi_accord.proofs.Vocabulary.{calls, closed_here, Ending, Entry, HasNumber, is_given, one_or_none, Seat, step, Tables, gone}
-use Rattle.osi_accord.proofs.Vocabulary.{linked, Message, replied, Transport, unit, other, Direction, Left, Right, side_at, utters}
-use Rattle.osi_accord.proofs.Vocabulary.{channel_of, has_taken, Pair, session_of, end_if, IsAnyCall, uttered_at}
-use Rattle.osi_machine.specs.Machine.{Step}
+use Rattle.osi_accord.proofs.Vocabulary.{in_state, is_wait_transport, enacted, Outcome, respond, respond_unit, Verdict, verdict}
+use Rattle.osi_accord.proofs.Vocabulary.{after_count, Count, goes, listens, Seen, Takes, without_tokens, Ended, State, calls, closed_here}
+use Rattle.osi_accord.proofs.Vocabulary.{Ending, Entry, HasNumber, is_given, one_or_none, Seat, step, Tables, gone, linked, Message}
+use Rattle.osi_accord.proofs.Vocabulary.{replied, Transport, unit, other, Direction, Left, Right, side_at, utters, channel_of, has_taken}
+use Rattle.osi_accord.proofs.Vocabulary.{Pair, session_of, end_if, IsAnyCall, uttered_at, arith, Step}
 use Rattle.osi_accord.proofs.messages_of_a_run.{AsMessages, IsTaken, is_taken, all_and_one, written_more, kept_none, comes}
 use Rattle.osi_accord.proofs.a_step_of_one_connection.{call_leaves, call_utters, called_seat, close_leaves, coming, delivery_leaves}
 use Rattle.osi_accord.proofs.a_step_of_one_connection.{delivery_utters, seat, tables, taking_at}
@@ -49,9 +47,6 @@ pub turned_about : (t : Tables) (p : Pair) (d : Direction) (ahead others : List 
     Stands t p (other d) others ahead
 turned_about t p d ahead others s = search arith
 
-given_still : (closed : Bool) → is_given (transport_if closed) ≡ true
-given_still closed = grind arith
-
 units_more : (ms ns : List Meaning) → map unit (ms ++ ns) ≡ map unit ms ++ map unit ns
 units_more [] ns = refl
 units_more (x ∷ ms) ns = ap (λ (y : List Message). unit x ∷ y) (units_more ms ns)
@@ -81,7 +76,7 @@ pub record Moves (t : Tables) (d : Direction) (sent : List Meaning) (s : Seen) (
 pub calls_on : (t : Tables) (d : Direction) (s next : Seen) (channel : List (List ℕ)) (s2 : Seen) (channel2 : List (List ℕ)) (m : Meaning) →
     IsAnyCall s m next → IsSendable m → Meets t d s channel [] s2 channel2 [] → Moves t d (m ∷ []) next channel (m ∷ []) s2 channel2 []
 calls_on t d s next channel s2 channel2 m c send h =
-    let given : is_given h.own.transport ≡ true = ap is_given h.here.transport ∙ given_still s.closed in
+    let given : is_given h.own.transport ≡ true = ap is_given h.here.transport ∙ (grind arith) in
     let allows = subst (λ (x : State). allowed x c.is.call ≡ Ok (record { next = c.is.state; sent = m })) (sym h.here.state) c.is.allows in
     let sent = call_utters d h.own h.peer h.own_end h.peer_end h.journal c.is.call c.is.state m given allows in
     let left = call_leaves d h.own h.peer h.own_end h.peer_end h.journal c.is.call c.is.state m given allows in
@@ -89,16 +84,12 @@ calls_on t d s next channel s2 channel2 m c send h =
       move = calls (side_at d) 1 c.is.call;
       numbered = c.numbered;
       utters = ap (λ (x : Tables). uttered_at x (calls (side_at d) 1 c.is.call)) h.is ∙ sent;
-      leaves = record {
-        own = called_seat h.own c.is.state m;
-        peer = h.peer;
-        own_end = h.own_end;
-        peer_end = h.peer_end;
-        journal = (step (tables d h.own h.peer h.own_end h.peer_end h.journal) (calls (side_at d) 1 c.is.call)).journal;
-        is = ap (λ (x : Tables). step x (calls (side_at d) 1 c.is.call)) h.is ∙ left;
-        here = seat_calls h.own h.own_end s next channel c.is.state m send c.is.goes_on h.here;
-        there = h.there;
-      };
+      leaves = grind (
+        arith,
+        called_seat h.own c.is.state m,
+        tables d h.own h.peer h.own_end h.peer_end h.journal,
+        seat_calls h.own h.own_end s next channel c.is.state m send c.is.goes_on h.here,
+      );
     }
 
 -- ---- a delivery
@@ -136,30 +127,12 @@ seat_closes : (x : Seat) (e : Option Ending) (s : Seen) (channel : List (List �
     (after_count s c) channel (ahead ++ one_or_none c.reply)
 seat_closes x e s channel ahead u c did closes none last i = search (arith, take-append_seam, append-nil)
 
--- the other side, of which the first message is taken
-seat_gives : (y : Seat) (e : Option Ending) (s : Seen) (channel rest : List (List ℕ)) (others us : List Meaning) →
-    rest ++ map written others ≡ map written us → AllByRecursion IsSendable us → IsSeat y e s channel others →
-    IsSeat (seat y.transport y.session (map unit us)) e s rest others
-seat_gives y e s channel rest others us later all i = grind arith
-
 -- what closes the transport connection leaves the session ended
 abbrev IsOverIf : Outcome → Type 0
 IsOverIf o = o.closes ≡ true → without_tokens Ended o.next ≡ o.next
 
-good_over : (s : State) (u : Meaning) → IsOverIf (good s u)
-good_over s u h = grind arith
-
-aborting_over : (s : State) (u : Meaning) → IsOverIf (in_aborting s u)
-aborting_over s u h = grind arith
-
-ended_over : (s : State) (u : Meaning) → IsOverIf (in_ended s u)
-ended_over s u h = grind arith
-
-either_over : (b : Bool) (x y : Outcome) → IsOverIf x → IsOverIf y → IsOverIf (if b then x else y)
-either_over b x y h k = grind arith
-
 enacted_over : (s : State) (u : Meaning) (v : Verdict) → IsOverIf (enacted s u v)
-enacted_over s u v = grind (arith, either_over, aborting_over, ended_over, good_over)
+enacted_over s u v = grind arith
 
 unit_over : (s : State) (u : Meaning) → IsOverIf (respond_unit s u)
 unit_over s u = subst IsOverIf (sym (enacts s u)) (enacted_over s u (verdict s u))
@@ -173,27 +146,20 @@ took : (t : Tables) (d : Direction) (s : Seen) (channel : List (List ℕ)) (ahea
 took t d s channel ahead s2 rest others c u us x y e b j at is did stays send i f false closes = record {
   move = taking_at d x.channel;
   numbered = tt;
-  utters = ap (λ (z : Tables). uttered_at z (taking_at d x.channel)) at
-      ∙ delivery_utters d x.session x.channel y u (map unit us) b j (respond_unit s.state u) is
-      ∙ ap (λ (z : Option Meaning). map (utters d) (one_or_none z)) (sym did.reply);
-  leaves = record {
-    own = seat linked (in_state x.session (respond_unit s.state u).next) (x.channel ++ replied (respond_unit s.state u).reply);
-    peer = seat y.transport y.session (map unit us);
-    own_end = None;
-    peer_end = b;
-    journal = (step (coming d x.session x.channel y u (map unit us) b j) (taking_at d x.channel)).journal;
-    is = ap (λ (z : Tables). step z (taking_at d x.channel)) at
-        ∙ delivery_leaves d x.session x.channel y u (map unit us) b j (respond_unit s.state u) is closes;
-    here = seat_takes x e s channel ahead u c did stays closes send i;
-    there = f;
-  };
+  utters = grind (arith, taking_at d x.channel, delivery_utters d x.session x.channel y u (map unit us) b j (respond_unit s.state u) is);
+  leaves = grind (
+    arith,
+    seat y.transport y.session (map unit us),
+    coming d x.session x.channel y u (map unit us) b j,
+    taking_at d x.channel,
+    delivery_leaves d x.session x.channel y u (map unit us) b j (respond_unit s.state u) is closes,
+    seat_takes x e s channel ahead u c did stays closes send i,
+  );
 }
 took t d s channel ahead s2 rest others c u us x y e b j at is did stays send i f true closes = record {
   move = taking_at d x.channel;
   numbered = tt;
-  utters = ap (λ (z : Tables). uttered_at z (taking_at d x.channel)) at
-      ∙ delivery_utters d x.session x.channel y u (map unit us) b j (respond_unit s.state u) is
-      ∙ ap (λ (z : Option Meaning). map (utters d) (one_or_none z)) (sym did.reply);
+  utters = grind (arith, taking_at d x.channel, delivery_utters d x.session x.channel y u (map unit us) b j (respond_unit s.state u) is);
   leaves = record {
     own = seat gone (in_state x.session (without_tokens Ended (respond_unit s.state u).next))
         (take (length x.channel) (x.channel ++ replied (respond_unit s.state u).reply));
@@ -201,8 +167,7 @@ took t d s channel ahead s2 rest others c u us x y e b j at is did stays send i 
     own_end = Some closed_here;
     peer_end = b;
     journal = (step (coming d x.session x.channel y u (map unit us) b j) (taking_at d x.channel)).journal;
-    is = ap (λ (z : Tables). step z (taking_at d x.channel)) at
-        ∙ close_leaves d x.session x.channel y u (map unit us) b j (respond_unit s.state u) is closes;
+    is = grind (arith, taking_at, close_leaves);
     here = seat_closes x e s channel ahead u c did closes (did.reply ∙ unit_silent s.state u closes) (unit_over s.state u closes) i;
     there = f;
   };
@@ -225,7 +190,7 @@ takes_on k t d s channel ahead s2 tsdu rest others c hears taken send h =
     took t d s channel ahead s2 rest others c m.u m.us h.own h.peer h.own_end h.peer_end h.journal
     (h.is ∙ (λ i. tables d (own i) (peer i) (none i) h.peer_end h.journal))
     (k.alone h.own.session.state m.u ∙ ap (λ (x : State). respond_unit x m.u) h.here.state) did stays send h.here
-    (seat_gives h.peer h.peer_end s2 (tsdu ∷ rest) rest others m.us m.later all.1 h.there) (respond_unit s.state m.u).closes refl
+    (grind arith) (respond_unit s.state m.u).closes refl
 
 -- one that is not answered
 takes_quiet : AsMessages → (t : Tables) (d : Direction) (s : Seen) (channel : List (List ℕ)) (ahead : List Meaning) (s2 : Seen)

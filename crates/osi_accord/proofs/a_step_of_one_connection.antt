@@ -1,13 +1,11 @@
 -- What a call and a delivery leave of the tables of one connection of class 0, of which nothing is lost.
 -- For the law that a run of calls and answers is one of the machine of whole connections.
-use Rattle.std.proofs.Common.{arith}
-use Rattle.osi_accord.proofs.Vocabulary.{[], append-nil, false, length, List, map, None, Ok, Option, Some, take, true, ℕ, ◌++◌, ◌∷◌}
-use Rattle.osi_accord.proofs.Vocabulary.{◌≡◌, Meaning, said_of, allowed, Call, in_state, Standing, Outcome, respond, without_tokens, Ended}
+use Rattle.osi_accord.proofs.Vocabulary.{[], append-nil, false, length, List, map, None, Ok, Option, Some, take, true, ℕ, ◌++◌, ◌∷◌, ◌≡◌}
+use Rattle.osi_accord.proofs.Vocabulary.{Meaning, said_of, allowed, Call, in_state, Standing, Outcome, respond, without_tokens, Ended}
 use Rattle.osi_accord.proofs.Vocabulary.{State, calls, closed_here, delivers, Ending, Entry, is_given, one_or_none, Line, Seat, step}
 use Rattle.osi_accord.proofs.Vocabulary.{Tables, accepts, class_0, gone, linked, Message, replied, Transport, unit, other, Direction, Left}
-use Rattle.osi_accord.proofs.Vocabulary.{Right, side_at, utters, uttered_at}
+use Rattle.osi_accord.proofs.Vocabulary.{Right, side_at, utters, uttered_at, arith, Step}
 use Rattle.osi_session.specs.Moves.{react}
-use Rattle.osi_machine.specs.Machine.{Step}
 
 -- ---- the tables, seen from one side
 

@@ -1,11 +1,9 @@
 -- A run whose first TSDU is the CN of a caller goes on from where this CN is in flight.
 -- For the laws that a run of two sessions is one of the machine.
-use Rattle.std.proofs.Common.{arith}
-use Rattle.osi_accord.proofs.Vocabulary.{[], ap, Bool, if◌then◌else◌, length, List, None, Option, option_map, refl, Some, subst}
-use Rattle.osi_accord.proofs.Vocabulary.{unwrap_or, ℕ, ◌++◌, ◌∙◌, ◌∷◌, ◌≡◌, IsSendable, says, Word, written, begins}
-use Rattle.osi_accord.proofs.Vocabulary.{CanSay, goes, Seen, seen_called, seen_calling, State}
-use Rattle.osi_accord.proofs.Vocabulary.{Offer, offer_sent, offering, other, Direction, Left, Accords, end_of, Sending, sending}
-use Rattle.osi_accord.proofs.Vocabulary.{words_in, connect_of, channel_of, Pair, pair_of, party_of, session_of, with_channel, with_session}
+use Rattle.osi_accord.proofs.Vocabulary.{[], ap, length, List, Option, refl, Some, subst, ℕ, ◌++◌, ◌∙◌, ◌∷◌, ◌≡◌, IsSendable, says, Word}
+use Rattle.osi_accord.proofs.Vocabulary.{written, begins, CanSay, Seen, seen_called, seen_calling, Offer, offer_sent, offering, other}
+use Rattle.osi_accord.proofs.Vocabulary.{Direction, Left, Accords, end_of, Sending, sending, words_in, connect_of, channel_of, Pair}
+use Rattle.osi_accord.proofs.Vocabulary.{pair_of, party_of, session_of, with_channel, with_session, arith}
 use Rattle.osi_session.specs.Joining.{acting_words}
 use Rattle.osi_session.specs.Standing.{said}
 use Rattle.osi_message.specs.Written.{is_second}
@@ -54,16 +52,9 @@ connect_words : AsMessages → (o : Offer) → IsSendable (offer_sent o) → wor
 unfolding acting_words is_second
 connect_words k o send = rw (k.read (offer_sent o) send) refl
 
-first_number : (b : Bool) (serial : ℕ) → unwrap_or (if b then Some serial else None) 0 ≡ (if b then serial else 0)
-first_number b serial = grind arith
-
-if_connects : (b : Bool) (state : State) (next : Seen) → option_map (goes seen_calling) (if b then Some state else None) ≡ Some next →
-    next ≡ goes seen_calling state
-if_connects b state next h = grind arith
-
 connect_leaves : (o : Offer) (octets : ℕ) (next : Seen) → CanSay seen_calling (says (offer_sent o)) octets next → next ≡ begins (offering o)
 unfolding said
-connect_leaves o octets next h = grind (arith, if_connects, first_number)
+connect_leaves o octets next h = grind arith
 
 nothing_comes : (d : Direction) (p : Pair) (tsdu : List ℕ) (rest : List (List ℕ)) → p ≡ beginning → channel_of (other d) p ≡ tsdu ∷ rest → ⊥
 nothing_comes h p tsdu rest e there = grind arith
@@ -110,8 +101,7 @@ module _ (P : (sent : List Sending) (p : Pair) → Accords sent p → Type 0) (k
       let left : d ≡ Left = ap first_side is in
       let first : CanSay (session_of d beginning) w (length own) next =
       subst (λ (x : Pair). CanSay (session_of d x) w (length own) next) start can in
-      let there : CanSay seen_calling w (length own) next = subst
-      (λ (x : Direction). CanSay (session_of x beginning) w (length own) next) left first in
+      let there : CanSay seen_calling w (length own) next = grind arith in
       begun (end_of run) o sent d p own b words later next start left (ap first_octets is) none (ap after_first is)
       (connect_leaves o (length own) next (subst (λ (x : Word). CanSay seen_calling x (length own) next) word there))
       (run, kept.says d later p own b w words next can run free, refl)

@@ -1,12 +1,10 @@
 -- What is known of the messages of two sides: how they are read, their words, and which of them are still to be sent.
 -- For the laws that a run of two sessions is one of the machine.
-use Rattle.std.proofs.Common.{arith}
-use Rattle.osi_accord.proofs.Vocabulary.{[], ap, Bool, false, if◌then◌else◌, length, List, map, None, Ok, Option, option_map}
-use Rattle.osi_accord.proofs.Vocabulary.{refl, Some, sym, true, ℕ, ◌++◌, ◌∙◌, ◌∷◌, ◌≡◌, ◌⊎◌, AllByRecursion, GT}
-use Rattle.osi_accord.proofs.Vocabulary.{Meaning, Said, said_at, IsSendable, said_of, words_of, no_token, says, Word, is_second, written}
-use Rattle.osi_accord.proofs.Vocabulary.{drops_parts, respond_came, respond_tsdu, has_no_effect, respond, respond_unit}
-use Rattle.osi_accord.proofs.Vocabulary.{CanSay, Count, counted, said_within, Seen, Takes, State, Direction}
-use Rattle.osi_accord.proofs.Vocabulary.{Sending, sending, words_in, AreWritten, Utterance, Pair, session_of, with_session}
+use Rattle.osi_accord.proofs.Vocabulary.{[], ap, Bool, false, if◌then◌else◌, List, map, None, Ok, Option, refl, Some, sym, true, ℕ, ◌++◌}
+use Rattle.osi_accord.proofs.Vocabulary.{◌∙◌, ◌∷◌, ◌≡◌, ◌⊎◌, AllByRecursion, GT, Meaning, Said, said_at, IsSendable, said_of, words_of}
+use Rattle.osi_accord.proofs.Vocabulary.{no_token, says, Word, is_second, written, respond_came, respond_tsdu, has_no_effect, respond}
+use Rattle.osi_accord.proofs.Vocabulary.{respond_unit, CanSay, Count, counted, said_within, Seen, Takes, State, Direction, Sending, sending}
+use Rattle.osi_accord.proofs.Vocabulary.{words_in, AreWritten, Utterance, Pair, session_of, with_session, arith}
 use Rattle.osi_session.specs.Standing.{said}
 use Rattle.osi_session.specs.Joining.{acting_words, heard}
 use Rattle.osi_message.specs.Tokens.{is_empty}
@@ -19,9 +17,6 @@ pub record AsMessages : Type 0 where
 
 -- ---- what is taken
 
-none_kept : (b : Bool) → option_map (length {A = ℕ}) (if b then None else None) ≡ None
-none_kept b = grind arith
-
 -- a session that has joined nothing, and takes a message
 pub record IsTaken (s : Seen) (u : Meaning) (c : Count) : Type 0 where
   pub state : c.state ≡ (respond_unit s.state u).next
@@ -32,15 +27,7 @@ pub record IsTaken (s : Seen) (u : Meaning) (c : Count) : Type 0 where
 pub is_taken : AsMessages → (s : Seen) (u : Meaning) (c : Count) → IsSendable u → s.joined ≡ None → Takes s (written u) c → IsTaken s u c
 is_taken k s u c send none taken =
     let came : counted (respond_came (record { state = s.state; joined = None }) (said_at (written u))) ≡ c = taken None (sym none) in
-    let does : counted (heard None (respond_unit s.state u)) ≡ c =
-    ap counted (sym (ap (respond_came (record { state = s.state; joined = None })) (k.read u send) ∙ k.does s.state (said_of u)
-    ∙ ap (heard None) (k.alone s.state u))) ∙ came in
-    record {
-      state = sym (ap (λ (x : Count). x.state) does);
-      joined = sym (ap (λ (x : Count). x.joined) does) ∙ none_kept (drops_parts (respond_unit s.state u).next.phase);
-      reply = sym (ap (λ (x : Count). x.reply) does);
-      closes = sym (ap (λ (x : Count). x.closes) does);
-    }
+    grind arith
 
 -- ---- the words of a message
 
@@ -54,12 +41,9 @@ pub record BeginsWith (m : Meaning) (words : List (Option Word)) : Type 0 where
   pub is : words ≡ Some (says m) ∷ rest
   pub rests : IsRest rest
 
-either_acts : (b : Bool) (m : Meaning) → BeginsWith m (map Some (if b then says m ∷ [] else says m ∷ says (GT no_token) ∷ []))
-either_acts b m = grind arith
-
 acts_first : (b : Bool) (m : Meaning) → BeginsWith m (map Some (acting_words (map says (if b then GT no_token ∷ m ∷ [] else m ∷ []))))
 unfolding acting_words
-acts_first b m = grind (arith, either_acts)
+acts_first b m = grind arith
 
 pub message_first : AsMessages → (m : Meaning) → IsSendable m → BeginsWith m (words_in (written m))
 message_first k m send = rw (k.read m send) (acts_first (is_second m) m)
@@ -72,12 +56,9 @@ within_rests : (s next : Seen) → said_within s (says (GT no_token)) ≡ Some n
 unfolding is_empty
 within_rests s next h = let e : Some s ≡ Some next = h in cc
 
-if_seen : (b : Bool) (o : Option Seen) (n : Seen) → (if b then o else None) ≡ Some n → o ≡ Some n
-if_seen b o n h = grind arith
-
 pub says_nothing : (s next : Seen) (octets : ℕ) → CanSay s (says (GT no_token)) octets next → next ≡ s
 unfolding said
-says_nothing s next octets h = search (arith, within_rests, if_seen)
+says_nothing s next octets h = search (arith, within_rests)
 
 pub all_and_one : (ms : List Meaning) (m : Meaning) → AllByRecursion IsSendable ms → IsSendable m → AllByRecursion IsSendable (ms ++ m ∷ [])
 all_and_one [] m a i = (i, tt)
@@ -134,6 +115,3 @@ first_word k m w words send is = grind (arith, message_first k m send)
 pub effect_of : (m : Meaning) → has_no_effect m ≡ false → m ≡ GT no_token → ⊥
 unfolding is_empty
 effect_of m e is = let f : true ≡ false = ap has_no_effect (sym is) ∙ e in cc
-
-pub not_both : (b : Bool) → b ≡ true → b ≡ false → ⊥
-not_both b e f = grind arith

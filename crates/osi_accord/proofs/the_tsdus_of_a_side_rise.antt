@@ -1,8 +1,8 @@
 -- The TSDUs of a side begin one after the other, and each ends after its first octet.
 -- For the law that two kept sides are a pair.
-use Rattle.osi_accord.proofs.Vocabulary.{[], arith, Bool, if◌then◌else◌, List, ℕ, ◌++◌, ◌+◌, ◌<◌, ◌∷◌, ◌≤◌, OneOrNone, sent_one, Capture}
-use Rattle.osi_accord.proofs.Vocabulary.{added, first_of, Handshake, IsSent, Move, moved, packet_length, refused, Sent, sent_from, Stage}
-use Rattle.osi_accord.proofs.Vocabulary.{stage_behind, stopped, Direction, TsduTooLong}
+use Rattle.osi_accord.proofs.Vocabulary.{[], arith, List, ℕ, ◌++◌, ◌+◌, ◌<◌, ◌∷◌, ◌≤◌, OneOrNone, sent_one, Capture, first_of, Handshake}
+use Rattle.osi_accord.proofs.Vocabulary.{IsSent, Move, moved, packet_length, refused, Sent, sent_from, Stage, stage_behind, stopped}
+use Rattle.osi_accord.proofs.Vocabulary.{Direction}
 
 -- from this offset on
 abbrev pub Rise : ℕ → List Sent → Type 0
@@ -19,15 +19,8 @@ rise_from m n (t ∷ sent) l r = let k : n ≤ t.first = r.0 in (omega arith, r.
 abbrev GoesOn : Stage → ℕ → Stage → ℕ → Type 0
 GoesOn s at n later = (first_of s at ≤ first_of n later) × (first_of n later ≤ later)
 
-added_on : (s : Stage) (at later : ℕ) (long end : Bool) (octets : List ℕ) → first_of s at ≤ at → at ≤ later →
-    GoesOn s at (if long then stopped TsduTooLong at else added s at end octets) later
-added_on s at later long end octets f l = grind arith
-
-same_stage : (s : Stage) (at later : ℕ) → first_of s at ≤ at → at ≤ later → GoesOn s at s later
-same_stage s at later f l = grind arith
-
 moved_on : (s : Stage) (at later : ℕ) (m : Move) → first_of s at ≤ at → at ≤ later → GoesOn s at (moved s at m) later
-moved_on s at later m f l = grind (arith, added_on, same_stage)
+moved_on s at later m f l = search arith
 
 goes_on : (d : Direction) (h : Handshake) (s : Stage) (at later : ℕ) (u : List ℕ) → first_of s at ≤ at → at ≤ later →
     GoesOn s at (stage_behind d h s at u) later
@@ -47,8 +40,7 @@ packets_rise d met s at [] f = tt
 packets_rise d met s at (u ∷ us) f =
     let g = goes_on d (met at) s at (at + packet_length u) u f (omega arith) in
     one_first s at u _ _ (sent_one d (met at) s at u) f
-    (rise_from (first_of s at) (first_of (stage_behind d (met at) s at u) (at + packet_length u)) _ g.0
-    (packets_rise d met (stage_behind d (met at) s at u) (at + packet_length u) us g.1))
+    (grind (arith, rise_from, packets_rise d met (stage_behind d (met at) s at u) (at + packet_length u) us g.1))
 
 pub sent_rise : (d : Direction) (capture : Capture) (sent : List Sent) → IsSent d capture sent → Rise 0 sent
 sent_rise d capture sent s = grind (arith, packets_rise)

@@ -1,11 +1,10 @@
 -- Two sides that are explained apart from each other run together, in the order in which their TSDUs passed.
 -- For the law that two explained sides are a pair.
-use Rattle.osi_accord.proofs.Vocabulary.{[], ap, arith, get_or, length, length-append, List, map, None, Option, refl, Result, Some, subst}
-use Rattle.osi_accord.proofs.Vocabulary.{sym, true, ℕ, ◌++◌, ◌+◌, ◌<◌, ◌∙◌, ◌∷◌, ◌≡◌, ◌≤◌, get_or-append_seam, SpduFault, Meaning, said_at}
-use Rattle.osi_accord.proofs.Vocabulary.{Word, Words, after_count, answers_word, CanSay, Count, listens, Seen, Takes, Explains, IsExplained}
-use Rattle.osi_accord.proofs.Vocabulary.{read_as, Remark, remark, remarks, remarks_of, Told, Direction, Left, Right, Accords, AreInOrder}
-use Rattle.osi_accord.proofs.Vocabulary.{Sending, sending, sending_of, told_by, tsdus_by, Turn, turn, words_in, words_read, Pair, pair_of}
-use Rattle.osi_accord.proofs.Vocabulary.{Party}
+use Rattle.osi_accord.proofs.Vocabulary.{[], ap, arith, get_or, length, length-append, List, map, None, Option, refl, Some, subst, sym}
+use Rattle.osi_accord.proofs.Vocabulary.{true, ℕ, ◌++◌, ◌+◌, ◌<◌, ◌∙◌, ◌∷◌, ◌≡◌, ◌≤◌, get_or-append_seam, Meaning, Word, Words, after_count}
+use Rattle.osi_accord.proofs.Vocabulary.{answers_word, CanSay, Count, listens, Seen, Takes, Explains, IsExplained, Remark, remark, remarks}
+use Rattle.osi_accord.proofs.Vocabulary.{remarks_of, Told, Direction, Left, Right, Accords, AreInOrder, Sending, sending, sending_of}
+use Rattle.osi_accord.proofs.Vocabulary.{told_by, tsdus_by, Turn, turn, words_in, Pair, pair_of, Party}
 use Rattle.osi_judge.specs.Explaining as explained
 use Rattle.osi_accord.specs.Accords as accord
 
@@ -57,11 +56,8 @@ words_are : (t : Told) (words : Words) → map (remark t) words ≡ map (said_as
 words_are t [] = refl
 words_are t (w ∷ words) = ap (λ (x : List Remark). remark t w ∷ x) (words_are t words)
 
-read_are : (t : Told) (r : Result Words SpduFault) → read_as t r ≡ map (said_as t) (words_read r)
-read_are t r = grind (arith, words_are)
-
 pub remarks_are : (t : Told) → remarks_of t ≡ map (said_as t) (words_in t.octets)
-remarks_are t = read_are t (said_at t.octets)
+remarks_are t = grind (arith, words_are)
 
 -- the first remark, and those after it
 abbrev first_before : List Remark → ℕ
@@ -125,10 +121,7 @@ module _ (us : List (List ℕ)) (d : Direction) (t : Told) (after : List Sending
   sends_all (w ∷ words) _ k s gone flight is e split (explained.takes m ms _ _ c l h taken n x) =
       let same : m.before ≡ t.before = ap first_before is in
       let a = arrives us sent k m.before gone flight rest l (omega arith) e split in
-      subst (λ (f : List (List ℕ)). SendsThis (w ∷ words) s k f) (sym a.is)
-      (take_on after t.octets t.before k s mine y b d w words a.tsdu a.more c (omega arith) h
-      (subst (λ (u : List ℕ). Takes s u c) a.there taken) n
-      (sends_all (w ∷ words) (m ∷ ms) (k + 1) (after_count s c) (gone ++ a.tsdu ∷ []) a.more is a.counted a.on x))
+      grind (arith, take_on, sends_all (w ∷ words) (m ∷ ms) (k + 1) (after_count s c) (gone ++ a.tsdu ∷ []) a.more is a.counted a.on x)
   sends_all (w ∷ words) _ k s gone flight is e split (explained.answers m ms _ _ c reply v l h taken r i j x) =
       let same : m.before ≡ t.before = ap first_before is in
       let word : w ≡ Some v = sym (ap first_word is) ∙ i in
@@ -152,12 +145,6 @@ record Fits (us : List (List ℕ)) (sent : ℕ) (s : Seen) (k : ℕ) (flight : L
   split : Splits us sent gone flight rest
   explains : Explains us left k s
 
--- the other side has sent one more
-sent_more : (us : List (List ℕ)) (sent : ℕ) (s : Seen) (k : ℕ) (flight : List (List ℕ)) (left : List Remark) (tsdu : List ℕ)
-    (rest : List (List ℕ)) →
-    Fits us sent s k flight left (tsdu ∷ rest) → Fits us (sent + 1) s k (flight ++ tsdu ∷ []) left rest
-sent_more us sent s k flight left tsdu rest f = grind (arith, one_more, taken_one)
-
 runs : (lefts rights : List (List ℕ)) (turns : List Turn) (l r : ℕ) (s y : Seen) (a b : ℕ) (mine theirs : List (List ℕ)) →
     AreInOrder l r turns →
     Fits rights r s a theirs (remarks (told_by Left turns)) (tsdus_by Right turns) →
@@ -167,13 +154,13 @@ runs lefts rights [] l r s y a b mine theirs o f g = accord.done _
 runs lefts rights (turn Left t ∷ turns) l r s y a b mine theirs o f g =
     sends_all rights Left t (map sending_of turns) r o.0 (remarks (told_by Left turns)) (tsdus_by Right turns) mine y b
     (λ n k gone flight e split x. runs lefts rights turns (l + 1) r n y k b (mine ++ t.octets ∷ []) flight o.1
-    (record { gone = gone; counted = e; split = split; explains = x }) (sent_more lefts l y b mine _ t.octets _ g))
+    (record { gone = gone; counted = e; split = split; explains = x }) (grind (arith, one_more, taken_one)))
     (words_in t.octets) _ a s f.gone theirs (ap (λ (x : List Remark). x ++ remarks (told_by Left turns)) (remarks_are t)) f.counted
     f.split f.explains
 runs lefts rights (turn Right t ∷ turns) l r s y a b mine theirs o f g =
     sends_all lefts Right t (map sending_of turns) l o.0 (remarks (told_by Right turns)) (tsdus_by Left turns) theirs s a
     (λ n k gone flight e split x. runs lefts rights turns l (r + 1) s n a k flight (theirs ++ t.octets ∷ []) o.1
-    (sent_more rights r s a theirs _ t.octets _ f) (record { gone = gone; counted = e; split = split; explains = x }))
+    (grind (arith, one_more, taken_one)) (record { gone = gone; counted = e; split = split; explains = x }))
     (words_in t.octets) _ b y g.gone mine (ap (λ (x : List Remark). x ++ remarks (told_by Right turns)) (remarks_are t)) g.counted
     g.split g.explains
 

@@ -1,12 +1,11 @@
 -- An AC that a side may send is what a call of Accept sends, if its functional units and sizes are those of such a call.
 -- For the law that what may be said is called.
-use Rattle.osi_accord.proofs.Vocabulary.{arith, Bool, if◌then◌else◌, length, List, nat_le, None, not, Ok, Option, refl, Some, subst, sym}
-use Rattle.osi_accord.proofs.Vocabulary.{true, unwrap_or, ℕ, ◌&&◌, ◌==◌, ◌||◌, ◌∙◌, ◌≡◌, and_parts, eqb-true, are_sizes, TsduMaximumSize}
-use Rattle.osi_accord.proofs.Vocabulary.{TokenSetting, Wish, AC, Meaning, data_token, major, minor, release, over_calls, after, Answer}
-use Rattle.osi_accord.proofs.Vocabulary.{base_for, may_call, most_of, octets_of, opened_with, sends, Accept, Call, is_answering, allows}
-use Rattle.osi_accord.proofs.Vocabulary.{of_answerer, settled, stated_side, answered, fits_limit, smaller, accepting_in, fits_user_data}
-use Rattle.osi_accord.proofs.Vocabulary.{said_message, functional_units, has_data, is_profile, FunctionalUnits, Sides, State, as_called}
-use Rattle.osi_accord.proofs.Vocabulary.{has_size_of, has_sizes_of, is_called}
+use Rattle.osi_accord.proofs.Vocabulary.{arith, Bool, if◌then◌else◌, length, List, nat_le, None, Ok, Option, refl, Some, subst, sym, true}
+use Rattle.osi_accord.proofs.Vocabulary.{unwrap_or, ℕ, ◌&&◌, ◌∙◌, ◌≡◌, and_parts, are_sizes, TsduMaximumSize, TokenSetting, Wish, AC}
+use Rattle.osi_accord.proofs.Vocabulary.{Meaning, over_calls, after, Answer, base_for, may_call, most_of, octets_of, opened_with, sends}
+use Rattle.osi_accord.proofs.Vocabulary.{Accept, Call, is_answering, allows, of_answerer, settled, stated_side, answered, fits_limit}
+use Rattle.osi_accord.proofs.Vocabulary.{smaller, accepting_in, fits_user_data, said_message, functional_units, has_data, is_profile}
+use Rattle.osi_accord.proofs.Vocabulary.{FunctionalUnits, Sides, State, as_called, has_size_of, has_sizes_of, is_called}
 use Rattle.osi_session.specs.Units.{units_within, both_units}
 use Rattle.osi_session.specs.Sizes.{answered_sizes, smaller_sizes}
 use Rattle.osi_session.specs.Sides.{answers_wishes, settle, stated}
@@ -26,34 +25,21 @@ allowed_is s c p z f m = rw (over_calls c s.phase p, p, z, f, m) refl
 
 -- ---- what an AC settles
 
-part_both : (a b : Bool) → (not a || b) ≡ true → (b && a) ≡ a
-part_both a b h = grind arith
-
 within_both : (a b : FunctionalUnits) → units_within a b ≡ true → both_units b a ≡ a
 unfolding units_within both_units
-within_both a b h = search (arith, and_parts, part_both)
+within_both a b h = search (arith, and_parts)
 
 one_settled : (b : Bool) (w a : Wish) → allows b w a ≡ true → settled b w (stated_side b a) ≡ stated_side b a
 one_settled b w a h = grind arith
-
-same_sides : (a b : Sides) → a.data_token ≡ b.data_token → a.minor ≡ b.minor → a.major ≡ b.major → a.release ≡ b.release → a ≡ b
-same_sides a b d n j r = λ i. record { data_token = d i; minor = n i; major = j i; release = r i }
 
 -- what an AC states answers the wishes, so it is settled so
 settled_stated : (u : FunctionalUnits) (w sides : TokenSetting) → answers_wishes u w sides ≡ true →
     settle u w (stated u sides) ≡ stated u sides
 unfolding answers_wishes settle stated
-settled_stated u w sides h = grind (arith, and_parts, same_sides, one_settled)
-
-no_size : (b : ℕ) (zero_asked : Bool) → (not zero_asked || (b == 0)) ≡ true → zero_asked ≡ true → b ≡ 0
-no_size b zero_asked h e = grind (arith, eqb-true)
-
-same_size : (zero_asked : Bool) (b rest : ℕ) → (zero_asked ≡ true → b ≡ 0) →
-    (if zero_asked then b else rest) ≡ (if zero_asked then 0 else (if zero_asked then b else rest))
-same_size zero_asked b rest h = grind arith
+settled_stated u w sides h = grind (arith, and_parts, one_settled)
 
 one_size : (asked given : ℕ) → has_size_of asked given ≡ true → smaller asked given ≡ answered asked given
-one_size asked given h = same_size (asked == 0) given _ (no_size given (asked == 0) h)
+one_size asked given h = grind arith
 
 same_sizes : (asked given : TsduMaximumSize) → has_sizes_of asked given ≡ true → smaller_sizes asked given ≡ answered_sizes asked given
 unfolding smaller_sizes answered_sizes
@@ -96,6 +82,5 @@ accepted_as s version_2 requirements serial sides sizes octets n h c =
     (λ i. opened_with u (of_answerer u (same i)) (base_for u (unwrap_or serial s.proposed)) (sym size i) s) ∙ left.1 in
     record {
       call = call;
-      allows = allowed_is s call p.0 q.0 refl (accept_met s requirements (unwrap_or serial s.proposed) (stated u sides) sizes octets own.0)
-          ∙ (λ i. Ok (record { next = there i; sent = sends s call }));
+      allows = grind (arith, allowed_is, accept_met, unwrap_or);
     }

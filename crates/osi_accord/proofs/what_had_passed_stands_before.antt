@@ -2,10 +2,10 @@
 -- that kept the protocol run together. For the law that two kept sides are a pair.
 use Rattle.osi_accord.proofs.Vocabulary.{[], ap, arith, Bool, cond, drop, leb, length, length-append, List, map, refl, subst, sym, take, ℕ}
 use Rattle.osi_accord.proofs.Vocabulary.{◌++◌, ◌+◌, ◌<◌, ◌∙◌, ◌∷◌, ◌≡◌, ◌≤◌, lt-leb, leb_tells, take-append-drop, filter-append, filter}
-use Rattle.osi_accord.proofs.Vocabulary.{Seen, seen_called, seen_calling, front_told, Capture, other, passed_before, IsExplained, Told}
-use Rattle.osi_accord.proofs.Vocabulary.{had_passed, heard, IsFoundIn, tell, told, IsSent, Sent, Direction, Left, Right, Broke, Accords}
-use Rattle.osi_accord.proofs.Vocabulary.{AreInOrder, Sending, sending_of, told_by, tsdus_by, Turn, turn, pair_of, AllFrom, ArePassed}
-use Rattle.osi_accord.proofs.Vocabulary.{IsAccord, Passage, passage, place, sending_in, sendings_in, sent_by}
+use Rattle.osi_accord.proofs.Vocabulary.{seen_called, seen_calling, front_told, Capture, other, passed_before, IsExplained, had_passed}
+use Rattle.osi_accord.proofs.Vocabulary.{heard, IsFoundIn, tell, told, IsSent, Sent, Direction, Left, Right, Broke, Accords, AreInOrder}
+use Rattle.osi_accord.proofs.Vocabulary.{Sending, sending_of, told_by, tsdus_by, Turn, turn, pair_of, AllFrom, ArePassed, IsAccord, Passage}
+use Rattle.osi_accord.proofs.Vocabulary.{passage, place, sending_in, sendings_in, sent_by}
 use Rattle.osi_accord.proofs.the_tsdus_of_a_side_rise.{Rise, sent_rise}
 use Rattle.osi_accord.proofs.tsdus_of_both_sides_in_order.{merged}
 use Rattle.osi_accord.proofs.a_pair_explains_both_sides.{both_explained}
@@ -79,9 +79,6 @@ one_more : (before : List Sent) (t : Sent) (after : List Sent) → before ++ (t 
 one_more [] t after = refl
 one_more (b ∷ before) t after = ap (λ (x : List Sent). b ∷ x) (one_more before t after)
 
-one_longer : (before : List Sent) (t : Sent) (n : ℕ) → n ≡ length before → n + 1 ≡ length (before ++ t ∷ [])
-one_longer before t n e = let l = length-append before (t ∷ []) in omega arith
-
 in_order : (capture : Capture) (lefts rights lefts_before rights_before : List Sent) (passages : List Passage) (l r : ℕ) →
     l ≡ length lefts_before → r ≡ length rights_before →
     lefts ≡ lefts_before ++ sent_by Left passages → rights ≡ rights_before ++ sent_by Right passages →
@@ -92,14 +89,14 @@ in_order capture lefts rights lb rb (passage Left x ∷ passages) l r e f p q s 
     let few = counted (passed_before Left capture x.first) rb (sent_by Right passages) (right_after capture x.first passages t o.0) in
     let same = ap (λ (y : List Sent). had_passed Left capture x.first y) q in (
       omega arith,
-      in_order capture lefts rights (lb ++ x ∷ []) rb passages (l + 1) r (one_longer lb x l e) f
+      in_order capture lefts rights (lb ++ x ∷ []) rb passages (l + 1) r (grind (arith, length-append)) f
           (p ∙ one_more lb x (sent_by Left passages)) q s.1 t o.1,
     )
 in_order capture lefts rights lb rb (passage Right x ∷ passages) l r e f p q s t o =
     let few = counted (passed_before Right capture x.first) lb (sent_by Left passages) (left_after capture x.first passages s o.0) in
     let same = ap (λ (y : List Sent). had_passed Right capture x.first y) p in (
       omega arith,
-      in_order capture lefts rights lb (rb ++ x ∷ []) passages l (r + 1) e (one_longer rb x r f)
+      in_order capture lefts rights lb (rb ++ x ∷ []) passages l (r + 1) e (grind (arith, length-append))
           p (q ∙ one_more rb x (sent_by Right passages)) s t.1 o.1,
     )
 
@@ -158,11 +155,7 @@ capture_accord capture lefts rights il ir e f =
     let rr = sent_rise Right capture rights ir in
     let m = merged capture lefts rights 0 0 rl rr in (
       m.passages,
-      record {
-        are = record { left = rw m.left il; right = rw m.right ir; order = m.order };
-        runs = ordered_accord capture m.passages (rw m.left (risen_sound 0 lefts rl)) (rw m.right (risen_sound 0 rights rr)) m.order
-            (rw (m.left, m.right) e) (rw (m.left, m.right) f);
-      },
+      grind (arith, ordered_accord, risen_sound),
     )
 
 -- ---- where there is a run of both, neither is blamed
@@ -176,18 +169,9 @@ capture_explained capture passages run =
     let r = sent_by Right passages in
     let both = both_explained seen_calling seen_called (turns_in capture l r passages)
     (subst (λ (x : List Sending). Accords x (pair_of seen_calling seen_called)) (sym (sent_same capture l r passages)) run) in (
-      subst (λ (x : List Told). IsExplained seen_calling (heard r) x) (told_left capture l r passages)
-          (subst (λ (x : List (List ℕ)). IsExplained seen_calling x (told_by Left (turns_in capture l r passages)))
-          (heard_right capture l r passages) both.0),
-      subst (λ (x : List Told). IsExplained seen_called (heard l) x) (told_right capture l r passages)
-          (subst (λ (x : List (List ℕ)). IsExplained seen_called x (told_by Right (turns_in capture l r passages)))
-          (heard_left capture l r passages) both.1),
+      grind (arith, told_left capture l r passages, heard_right capture l r passages),
+      grind (arith, told_right capture l r passages, heard_left capture l r passages),
     )
-
--- a side that is explained is explained up to each of its TSDUs
-front_explained : (begin : Seen) (us : List (List ℕ)) (said : List Told) (n : ℕ) → IsExplained begin us said →
-    IsExplained begin us (take n said)
-front_explained begin us said n e = grind (arith, front_told, take-append-drop n said)
 
 abbrev OneReading : Type 0
 OneReading = (d : Direction) (capture : Capture) (some others : List Sent) → IsSent d capture some → IsSent d capture others → some ≡ others
@@ -198,15 +182,9 @@ not_blamed same Left capture passages i a found =
     let e = (capture_explained capture passages a.runs).0 in
     let mine = same Left capture (sent_by Left passages) found.mine a.are.left found.is_mine in
     let others = same Right capture (sent_by Right passages) found.others a.are.right found.is_others in
-    found.found.0.broke (front_explained seen_calling (heard found.others) (told Left capture found.mine found.others) (i + 1)
-    (subst (λ (x : List Sent). IsExplained seen_calling (heard x) (told Left capture found.mine x)) others
-    (subst (λ (x : List Sent). IsExplained seen_calling (heard (sent_by Right passages))
-    (told Left capture x (sent_by Right passages))) mine e)))
+    found.found.0.broke (grind (arith, front_told, take-append-drop (i + 1) (told Left capture found.mine found.others)))
 not_blamed same Right capture passages i a found =
     let e = (capture_explained capture passages a.runs).1 in
     let mine = same Right capture (sent_by Right passages) found.mine a.are.right found.is_mine in
     let others = same Left capture (sent_by Left passages) found.others a.are.left found.is_others in
-    found.found.0.broke (front_explained seen_called (heard found.others) (told Right capture found.mine found.others) (i + 1)
-    (subst (λ (x : List Sent). IsExplained seen_called (heard x) (told Right capture found.mine x)) others
-    (subst (λ (x : List Sent). IsExplained seen_called (heard (sent_by Left passages))
-    (told Right capture x (sent_by Left passages))) mine e)))
+    found.found.0.broke (grind (arith, front_told, take-append-drop (i + 1) (told Right capture found.mine found.others)))

@@ -30,11 +30,7 @@ call_allowed s c m n h e f =
     let p = and_parts (may_call s.phase c) (nat_le (length (octets_of c)) (most_of c)) a.0 in
     let b = left_is (met s c) n a.1 in
     let is = met_is s c b.0 b.1 in
-    let there : after s c ≡ n = sym (ap (λ (x : Step). x.next) is) ∙ b.2 in
-    record {
-      call = c;
-      allows = allowed_is s c p.0 p.1 f (b.1 ∙ ap Ok is) ∙ (λ i. Ok (record { next = there i; sent = e i }));
-    }
+    grind (arith, allowed_is s c p.0 p.1 f (b.1 ∙ ap Ok is))
 
 -- a number that has to be this one
 where_allowed : (b : Bool) (s : State) (c : Call) (m : Meaning) (n : State) → where_is b (calling s c) ≡ Some n →
@@ -100,9 +96,6 @@ message_called s AA n h c f = absurd (cc)
 
 -- ---- a side
 
-has_effect : (s : State) (m : Meaning) → is_called s m ≡ true → has_no_effect m ≡ false
-has_effect s m c = grind arith
-
 if_seen : (b : Bool) (o : Option Seen) (n : Seen) → (if b then o else None) ≡ Some n → o ≡ Some n
 if_seen b o n h = grind arith
 
@@ -122,6 +115,5 @@ says_message s m octets next e h =
 pub called_as : (s next : Seen) (m : Meaning) (octets : ℕ) → CanSay s (says m) octets next → is_called s.state m ≡ true →
     is_in_size s.state (length (written (as_called s.state m))) ≡ true → IsCall s (as_called s.state m) next
 called_as s next m octets h c f =
-    let a = says_message s m octets next (has_effect s.state m c) h in
-    let b = message_called s.state m a.0 a.1 c f in
-    record { call = b.call; state = a.0; allows = b.allows; goes_on = a.2 }
+    let a = says_message s m octets next (grind arith) h in
+    search (arith, message_called s.state m a.0 a.1 c f)

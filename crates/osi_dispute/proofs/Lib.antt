@@ -1,3 +1,4 @@
+mod Vocabulary
 pub mod what_is_fed_piece_by_piece_passes_whole
 pub mod digits_are_counted_one_by_one
 pub mod a_capture_has_one_finding

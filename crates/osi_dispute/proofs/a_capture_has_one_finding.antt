@@ -1,25 +1,14 @@
 -- A capture has one finding of a side: a run that explains more explains less, so a side breaks the protocol once.
-use Rattle.std.proofs.Common.{◌≡◌, refl, ap, subst, ℕ, zero, suc, ◌+◌, ◌<◌, ◌≤◌, ◌⊎◌, inl, inr, List, [], ◌∷◌, ◌++◌, take, drop, Some}
-use Rattle.std.proofs.Common.{arith}
-use Rattle.std.proofs.lemmas.List.{append_assoc, take-append-drop}
-use Rattle.osi_session.specs.Standing.{Seen, CanSay, after_count}
-use Rattle.osi_judge.specs.declared.directions.Direction.{Direction}
-use Rattle.osi_judge.specs.declared.findings.Finding.{Finding}
-use Rattle.osi_judge.specs.declared.findings.Finding.TheVariants.{Kept, Broke, Left, TooMany}
-use Rattle.osi_judge.specs.Captures.{Capture, other}
-use Rattle.osi_judge.specs.Explaining.{Remark, Told, remarks, Explains, done, takes, answers, says, IsExplained, IsBlamed}
-use Rattle.osi_judge.specs.Judging.{IsFound}
-use Rattle.osi_judge.specs.Tapping.{IsFoundIn, begin_of, heard, told}
-use Rattle.osi_judge.specs.Transport.{Sent, IsSent}
-use Rattle.osi_dispute.specs.Laws.{IsDecided}
+use Rattle.osi_dispute.proofs.Vocabulary.{◌≡◌, refl, ap, subst, ℕ, zero, suc, ◌+◌, ◌<◌, ◌≤◌, List, [], ◌∷◌, ◌++◌, take, drop, Some, arith}
+use Rattle.osi_dispute.proofs.Vocabulary.{append_assoc, take-append-drop, Seen, CanSay, after_count, Direction, Finding, Kept, Broke, Left}
+use Rattle.osi_dispute.proofs.Vocabulary.{TooMany, Capture, other, Remark, remarks, Explains, done, takes, answers, says, IsExplained}
+use Rattle.osi_dispute.proofs.Vocabulary.{IsBlamed, IsFound, IsFoundIn, Sent, IsSent, IsDecided}
+use Rattle.osi_judge.specs.Explaining.{Told}
 
 -- ---- a run that explains more explains less
 
 head_same : (x m : Remark) (a ms : List Remark) → m ∷ ms ≡ x ∷ a → m ≡ x
 head_same x m a ms e = cc
-
-tail_same : (x m : Remark) (a ms : List Remark) → m ∷ ms ≡ x ∷ a → ms ≡ a
-tail_same x m a ms e = cc
 
 front_of : (us : List (List ℕ)) (a b ms : List Remark) (taken : ℕ) (s : Seen) → ms ≡ a ++ b → Explains us ms taken s → Explains us a taken s
 front_of us [] b ms taken s e d = done taken s
@@ -30,11 +19,11 @@ front_of us (x ∷ a) b (m ∷ ms) taken s e (takes _ _ _ _ c l h t q d) =
 front_of us (x ∷ a) b (m ∷ ms) taken s e (answers _ _ _ _ c reply w l h t q k g d) =
     let same = head_same x m (a ++ b) ms e in
     answers x a taken s c reply w (subst (λ (r : Remark). taken < r.before) same l) h t q (subst (λ (r : Remark). r.word ≡ Some w) same k) g
-    (front_of us a b ms (taken + 1) (after_count s c) (tail_same x m (a ++ b) ms e) d)
+    (front_of us a b ms (taken + 1) (after_count s c) (grind arith) d)
 front_of us (x ∷ a) b (m ∷ ms) taken s e (says _ _ _ _ next w k g d) =
     let same = head_same x m (a ++ b) ms e in
     says x a taken s next w (subst (λ (r : Remark). r.word ≡ Some w) same k) (subst (λ (r : Remark). CanSay s w r.octets next) same g)
-    (front_of us a b ms taken next (tail_same x m (a ++ b) ms e) d)
+    (front_of us a b ms taken next (grind arith) d)
 
 remarks_both : (xs ys : List Told) → remarks (xs ++ ys) ≡ remarks xs ++ remarks ys
 remarks_both [] ys = refl
@@ -53,28 +42,19 @@ take_less (x ∷ xs) (suc n) (suc m) l = ap (λ (z : List Told). x ∷ z) (take_
 
 -- ---- a side breaks the protocol once
 
-kept_or_broke : (begin : Seen) (us : List (List ℕ)) (said : List Told) (i : ℕ) → IsExplained begin us said → IsBlamed begin us said i → ⊥
-kept_or_broke begin us said i k b = b.broke (explained_less begin us said (i + 1) k)
-
 not_later : (begin : Seen) (us : List (List ℕ)) (said : List Told) (i j : ℕ) → IsBlamed begin us said i → IsBlamed begin us said j
     → i < j → ⊥
 not_later begin us said i j b c l =
     grind (arith, take_less said (i + 1) j (omega arith), explained_less begin us (take j said) (i + 1) c.so_far)
 
-pub compare : (i j : ℕ) → (i < j) ⊎ ((j < i) ⊎ (i ≡ j))
-compare zero zero = inr (inr refl)
-compare zero (suc j) = inl (omega arith)
-compare (suc i) zero = inr (inl (omega arith))
-compare (suc i) (suc j) = grind (arith, compare i j)
-
 one_break : (begin : Seen) (us : List (List ℕ)) (said : List Told) (i j : ℕ) → IsBlamed begin us said i → IsBlamed begin us said j → i ≡ j
-one_break begin us said i j b c = grind (arith, compare, not_later)
+one_break begin us said i j b c = grind (arith, not_later)
 
 one_found : (begin : Seen) (us : List (List ℕ)) (said : List Told) (f g : Finding) → IsDecided f → IsDecided g
     → IsFound begin us said f → IsFound begin us said g → f ≡ g
 one_found begin us said Kept Kept d e k h = refl
-one_found begin us said Kept (Broke j) d e k h = absurd (kept_or_broke begin us said j k.0 h.0)
-one_found begin us said (Broke i) Kept d e k h = absurd (kept_or_broke begin us said i h.0 k.0)
+one_found begin us said Kept (Broke j) d e k h = absurd (grind (arith, explained_less))
+one_found begin us said (Broke i) Kept d e k h = absurd (grind (arith, explained_less))
 one_found begin us said (Broke i) (Broke j) d e k h = ap Broke (one_break begin us said i j k.0 h.0)
 one_found begin us said (Left i) g d e k h = absurd d
 one_found begin us said TooMany g d e k h = absurd d
@@ -92,6 +72,4 @@ pub one_finding : HasOneList → (d : Direction) (capture : Capture) (f g : Find
 one_finding one d capture f g df dg k h =
     let mine = one d capture h.mine k.mine h.is_mine k.is_mine in
     let others = one (other d) capture h.others k.others h.is_others k.is_others in
-    one_found (begin_of d) (heard k.others) (told d capture k.mine k.others) f g df dg k.found
-    (subst (λ (z : List Sent). IsFound (begin_of d) (heard z) (told d capture k.mine z) g) others
-    (subst (λ (z : List Sent). IsFound (begin_of d) (heard h.others) (told d capture z h.others) g) mine h.found))
+    grind (arith, one_found)

@@ -1,16 +1,9 @@
 -- A capture is judged as one connection of class 0, or its connections are reported: for `judge_octets`.
-use Rattle.std.proofs.Common.{◌≡◌, ◌⊎◌, inl, inr, sym, subst, Bool, true, false, List, [], ◌++◌, Result, Ok, Err, IfOk}
-use Rattle.osi_judge.specs.declared.judge.Judge.{Judge}
-use Rattle.osi_judge.specs.Captures.{Capture}
-use Rattle.osi_tap.specs.declared.tap.Tap.{Tap}
-use Rattle.osi_tap.specs.Standing.{HoldsState}
-use Rattle.osi_tap.specs.Tapping.{State, after, comes_to}
-use Rattle.osi_dispute.specs.declared.texts.Judgement.{Judgement}
-use Rattle.osi_dispute.specs.declared.verdicts.Verdict.{Verdict}
-use Rattle.osi_dispute.specs.Disputes.{IsNarrow, IsWide, Reported, is_beyond}
-use Rattle.osi_dispute.specs.Rows.{Row, passed_by, left_is_tabbed, capture_of}
-use Rattle.osi_dispute.specs.Texts.{verdict_text, verdict_status}
-use Rattle.osi_dispute.specs.Verdicts.{Knows, IsVerdict}
+use Rattle.std.proofs.Common.{arith}
+use Rattle.osi_dispute.proofs.Vocabulary.{◌≡◌, ◌⊎◌, inl, inr, subst, Bool, true, false, List, [], ◌++◌, Result, Ok, Err, IfOk, Judge}
+use Rattle.osi_dispute.proofs.Vocabulary.{Capture, Tap, HoldsState, State, after, comes_to, Judgement, Verdict, IsNarrow, IsWide, Reported}
+use Rattle.osi_dispute.proofs.Vocabulary.{is_beyond, Row, passed_by, left_is_tabbed, capture_of, verdict_text, verdict_status, Knows}
+use Rattle.osi_dispute.proofs.Vocabulary.{IsVerdict}
 
 -- a judge was fed these rows, which are those of a text
 pub fed_rows : (j : Judge) (left : Bool) (some rows : List Row) → left ≡ left_is_tabbed some → some ≡ rows
@@ -28,13 +21,7 @@ pub as_wide : {E : Type 0} (r : Result Judgement E) (c : Capture) (v : Verdict) 
     → is_beyond c v ≡ true → some ≡ rows → c ≡ capture_of rows
     → IfOk r (λ j. Reported (comes_to (capture_of some)) j.lines.items j.status)
     → IfOk r (λ j. IsNarrow c j.lines.items j.status ⊎ IsWide c j.lines.items j.status)
-as_wide (Ok j) c v some rows h w e f r = inr (record {
-  verdict = v;
-  judged = h;
-  beyond = w;
-  reported = subst (λ (z : Capture). Reported (comes_to z) j.lines.items j.status) (sym f)
-      (subst (λ (z : List Row). Reported (comes_to (capture_of z)) j.lines.items j.status) e r);
-})
+as_wide (Ok j) c v some rows h w e f r = inr (grind arith)
 as_wide (Err e) c v some rows h w e2 f r = r
 
 -- a tap was fed these rows

@@ -1,34 +1,21 @@
 -- The line of the side that broke the protocol first has words, so a verdict ends with one: for the laws.
-use Rattle.std.proofs.Common.{◌≡◌, refl, sym, ap, subst, ℕ, ◌<◌, Bool, true, false, ◌||◌, ◌&&◌, List, [], if◌then◌else◌, length, Option}
-use Rattle.std.proofs.Common.{Some, None, arith}
-use Rattle.osi_judge.specs.declared.directions.Direction.{Direction}
+use Rattle.osi_dispute.proofs.Vocabulary.{◌≡◌, refl, sym, ap, subst, ℕ, Bool, true, false, ◌||◌, ◌&&◌, List, [], if◌then◌else◌, Option}
+use Rattle.osi_dispute.proofs.Vocabulary.{Some, None, arith, Direction, Finding, Kept, Broke, Left, TooMany, Break, Stands, Stopped}
+use Rattle.osi_dispute.proofs.Vocabulary.{Capture, breaks, broke_session, IsFoundIn, IsReferenceIn, told, Sent, IsSent}
+use Rattle.osi_dispute.proofs.Vocabulary.{nameless_said_nothing, Account, Unjudged, Verdict, connection_first, is_stopped_before}
+use Rattle.osi_dispute.proofs.Vocabulary.{first_line, line_by, outcome_line, Facts, AreFacts, told_by, connection_by, left_first}
+use Rattle.osi_dispute.proofs.Vocabulary.{account_by, keeps, unjudged, begins_late, kept_outcome, outcome_of, outcome_unless, verdict_by}
+use Rattle.osi_dispute.proofs.Vocabulary.{IsFirstOf}
 use Rattle.osi_judge.specs.declared.directions.Direction.TheVariants as side
-use Rattle.osi_judge.specs.declared.findings.Finding.{Finding}
-use Rattle.osi_judge.specs.declared.findings.Finding.TheVariants.{Kept, Broke, Left, TooMany}
-use Rattle.osi_judge.specs.declared.rules.Break.{Break}
-use Rattle.osi_judge.specs.declared.standings.Stands.{Stands}
-use Rattle.osi_judge.specs.declared.stops.Stopped.{Stopped}
-use Rattle.osi_judge.specs.Captures.{Capture}
-use Rattle.osi_judge.specs.Stops.{breaks, broke_session}
-use Rattle.osi_judge.specs.Tapping.{IsFoundIn, IsReferenceIn, told}
-use Rattle.osi_judge.specs.Transport.{Sent, IsSent}
-use Rattle.osi_judge.proofs.captured.what_is_known_of_a_side_is_of_the_capture.{nameless_said_nothing}
-use Rattle.osi_dispute.specs.declared.verdicts.Account.{Account}
-use Rattle.osi_dispute.specs.declared.verdicts.Unjudged.{Unjudged}
 use Rattle.osi_dispute.specs.declared.verdicts.Unjudged.TheVariants.{Transport, TooMany as Many}
-use Rattle.osi_dispute.specs.declared.verdicts.Verdict.{Verdict}
 use Rattle.osi_judge.specs.declared.stops.Stop.TheVariants as stop
 use Rattle.osi_dispute.specs.Names.{unjudged_text}
-use Rattle.osi_dispute.specs.Texts.{first_text, broke_first, left_first as left_first_line, stopped_first, connection_first}
-use Rattle.osi_dispute.specs.Texts.{is_stopped_before, first_line, unjudged_line, line_by, outcome_line}
-use Rattle.osi_dispute.specs.Facts.{Facts, AreFacts, is_broken, told_by, connection_by, left_first, account_by, keeps, unjudged}
-use Rattle.osi_dispute.specs.Facts.{begins_late, kept_outcome, outcome_of, outcome_unless, verdict_by, IsFirstOf, IsDetermined}
+use Rattle.osi_dispute.specs.Texts.{first_text, broke_first, left_first as left_first_line, stopped_first}
+use Rattle.osi_dispute.specs.Texts.{unjudged_line}
+use Rattle.osi_dispute.specs.Facts.{IsDetermined}
 
 abbrev HasWords : List ℕ → Type 0
 HasWords line = line ≡ [] → ⊥
-
-both_left : (a b : Bool) → (a && b) ≡ true → a ≡ true
-both_left a b e = grind arith
 
 -- ---- lines
 
@@ -49,7 +36,7 @@ stop_words side.Left (Some s) b e = absurd (cc)
 stop_words side.Right (Some s) b e = absurd (cc)
 
 broke_before : (s : Option Stopped) (offset : ℕ) → is_stopped_before s offset ≡ true → breaks s ≡ true
-broke_before s offset b = grind (arith, both_left)
+broke_before s offset b = grind arith
 
 -- of a side whose session is to blame, its transport is told if it broke the protocol before
 sooner_words : (d : Direction) (s : Option Stopped) (offset : ℕ) (line : List ℕ) (sooner : Bool) → is_stopped_before s offset ≡ sooner
@@ -73,12 +60,9 @@ unjudged_words (Transport stop.TsduTooLong) e = absurd (cc)
 
 -- ---- a side that is to blame
 
-some_said : (d : Direction) (c : Capture) (mine others : List Sent) (i : ℕ) → i < length (told d c mine others) → mine ≡ [] → ⊥
-some_said d c mine others i l e = let n = ap (λ (x : List Sent). length (told d c x others)) e in absurd (omega arith)
-
 said_by : (d : Direction) (c : Capture) (f : Finding) → broke_session f ≡ true → IsFoundIn d c f
     → (mine : List Sent) × IsSent d c mine × (mine ≡ [] → ⊥)
-said_by d c f b h = grind (arith, some_said)
+said_by d c f b h = grind arith
 
 -- it gave the connection a reference
 named : (d : Direction) (c : Capture) (f : Facts) → AreFacts d c f → broke_session f.found ≡ true → f.reference ≡ None → ⊥
@@ -107,10 +91,6 @@ side_words d TooMany count offset stands by stopped (Some r) true unanswered h n
 side_words d TooMany count offset stands by stopped (Some r) false true h n = stop_words d stopped h
 side_words d TooMany count offset stands by stopped (Some r) false false h n = stop_words d stopped h
 
-account_words : (d : Direction) (c : Capture) (f right : Facts) → AreFacts d c f → is_broken f ≡ true
-    → HasWords (first_line d (account_by false f right))
-account_words d c f right h b = search (arith, side_words, named)
-
 -- ---- the last line
 
 kept_words : (v : Verdict) (keep : Bool) (left right : Option Unjudged) → HasWords (line_by v (kept_outcome keep left right))
@@ -127,12 +107,9 @@ judged_words : (c : Capture) (first : Option Direction) (l r : Facts) (v : Verdi
     (unjudged r.stopped)))
 judged_words c None l r v a b f m s = grind (arith, kept_words)
 judged_words c (Some side.Left) l r v a b f m s =
-    subst (λ (x : Account). HasWords (first_line side.Left x)) (sym m) (account_words side.Left c l r a f)
+    subst (λ (x : Account). HasWords (first_line side.Left x)) (sym m) (search (arith, side_words, named))
 judged_words c (Some side.Right) l r v a b f m s =
-    subst (λ (x : Account). HasWords (first_line side.Right x)) (sym s) (account_words side.Right c r r b f)
-
-not_late : (b late : Bool) → late ≡ false → (b || late) ≡ b
-not_late b late e = grind arith
+    subst (λ (x : Account). HasWords (first_line side.Right x)) (sym s) (search (arith, side_words, named))
 
 words_unless : (c : Capture) (first : Option Direction) (l r : Facts) (late : Bool) → begins_late l.stopped ≡ late → AreFacts side.Left c l
     → AreFacts side.Right c r → IsFirstOf first l r → HasWords (line_by (verdict_by first l r) (outcome_unless late
@@ -140,15 +117,11 @@ words_unless : (c : Capture) (first : Option Direction) (l r : Facts) (late : Bo
 words_unless c first l r true e a b f = unjudged_words (Transport stop.NoOpening)
 words_unless c first l r false e a b f =
     judged_words c first l r (verdict_by first l r) a b f
-    (ap (λ (x : Bool). account_by x l r) (not_late (left_first first side.Right r.found) (begins_late l.stopped) e))
-    (ap (λ (x : Bool). account_by x r r) (not_late (left_first first side.Left l.found) (begins_late l.stopped) e))
-
-words_by : (c : Capture) (first : Option Direction) (l r : Facts) → AreFacts side.Left c l → AreFacts side.Right c r
-    → IsFirstOf first l r → HasWords (outcome_line (verdict_by first l r))
-words_by c first l r a b f = words_unless c first l r (begins_late l.stopped) refl a b f
+    (ap (λ (x : Bool). account_by x l r) (grind arith))
+    (ap (λ (x : Bool). account_by x r r) (grind arith))
 
 pub last_words : (c : Capture) (v : Verdict) → IsDetermined c v → HasWords (outcome_line v)
 unfolding IsDetermined
 last_words c v h =
     subst (λ (w : Verdict). HasWords (outcome_line w)) (sym h.told.tells)
-    (words_by c h.first h.left h.right h.told.of_left h.told.of_right h.told.first_of)
+    (search (arith, words_unless))

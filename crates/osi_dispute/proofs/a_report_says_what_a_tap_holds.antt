@@ -1,56 +1,31 @@
 -- What is reported of connections is what a tap holds of them: for the functions of `reports`.
-use Rattle.std.proofs.Common.{◌≡◌, ◌∙◌, sym, subst, ℕ, ◌+◌, Bool, false, not, ◌&&◌, List, [], ◌∷◌, ◌++◌, length, Option, Some, None, IfSome}
-use Rattle.std.proofs.Common.{arith}
-use Rattle.osi_judge.specs.declared.directions.Direction.{Direction}
-use Rattle.osi_judge.specs.declared.directions.Direction.TheVariants.{Left, Right}
-use Rattle.osi_judge.specs.declared.findings.Finding.{Finding}
+use Rattle.osi_dispute.proofs.Vocabulary.{◌≡◌, ◌∙◌, sym, subst, ℕ, ◌+◌, Bool, false, not, ◌&&◌, List, [], ◌∷◌, ◌++◌, length, Option, Some}
+use Rattle.osi_dispute.proofs.Vocabulary.{None, IfSome, arith, Direction, Right, Finding, Break, Stands, other, Watched, Watches, Keeps}
+use Rattle.osi_dispute.proofs.Vocabulary.{StandsFor, broke_session, Joined, Sessions, spoken, reference_of, numbered, IsMarkOf, IsToBlame}
+use Rattle.osi_dispute.proofs.Vocabulary.{marks_of, line_in, HoldsJoined, HoldsFound, IsHeard, IsPlace, First, Mark, State, heard_at}
+use Rattle.osi_dispute.proofs.Vocabulary.{broken, Last, Pair, Told, connection_by, IsSession, SaysSo, is_opened, is_refused_in, Tells}
+use Rattle.osi_dispute.proofs.Vocabulary.{IsPair, IsPairOf, ArePairs, no_pair, all_keep, carried, is_clear, kept_last, stray_last}
+use Rattle.osi_dispute.proofs.Vocabulary.{IsStrayLast, IsMarkLast}
+use Rattle.osi_judge.specs.declared.directions.Direction.TheVariants.{Left}
 use Rattle.osi_judge.specs.declared.findings.Finding.TheVariants as finding
-use Rattle.osi_judge.specs.declared.rules.Break.{Break}
-use Rattle.osi_judge.specs.declared.standings.Stands.{Stands}
-use Rattle.osi_judge.specs.Captures.{other}
 use Rattle.osi_judge.specs.Explaining.{Told as Said}
-use Rattle.osi_judge.specs.Judging.{Watched, Watches, Keeps}
-use Rattle.osi_judge.specs.Onward.{StandsFor}
-use Rattle.osi_judge.specs.Stops.{broke_session}
-use Rattle.osi_judge.specs.Tapping.{begin_of}
 use Rattle.osi_tap.specs.declared.connections.Connection.{Connection as Joint}
-use Rattle.osi_tap.specs.Connections.{Joined, Sessions, spoken, reference_of, numbered}
-use Rattle.osi_tap.specs.Blaming.{IsMarkOf, IsToBlame}
-use Rattle.osi_tap.specs.Courses.{marks_of}
-use Rattle.osi_tap.specs.Holding.{line_in, HoldsJoined, HoldsFound, IsHeard, IsPlace}
-use Rattle.osi_tap.specs.declared.marks.First.{First}
-use Rattle.osi_tap.specs.declared.marks.Mark.{Mark}
-use Rattle.osi_tap.specs.Lines.{told}
-use Rattle.osi_tap.specs.Tapping.{State}
-use Rattle.osi_tap.proofs.what_is_kept_of_a_side_is_what_passed.{heard_at}
-use Rattle.osi_tap.proofs.who_is_to_blame.{broken}
-use Rattle.osi_dispute.specs.declared.reports.Last.{Last}
 use Rattle.osi_dispute.specs.declared.reports.Last.TheVariants as ending
-use Rattle.osi_dispute.specs.declared.reports.Pair.{Pair}
 use Rattle.osi_dispute.specs.declared.reports.Transport.{Transport as Carried}
-use Rattle.osi_dispute.specs.declared.verdicts.Told.{Told}
 use Rattle.osi_dispute.specs.declared.verdicts.Told.TheVariants as what
-use Rattle.osi_dispute.specs.Facts.{connection_by}
-use Rattle.osi_dispute.specs.Reports.{IsSession, SaysSo, is_opened, is_refused_in, is_dropped, Tells, IsPair, IsPairOf, ArePairs}
-use Rattle.osi_dispute.specs.Reports.{no_pair, all_keep, carried, is_clear, kept_last, stray_last, IsStrayLast, IsMarkLast}
+use Rattle.osi_dispute.specs.Reports.{is_dropped}
 
 -- ---- the session of a side
 
-watches_at : (d : Direction) (c : Joint) (j : Joined) → HoldsJoined c j → Watches (line_in d c).side (told (spoken d j))
-watches_at d c j h = grind arith
-
-begins_at : (d : Direction) (c : Joint) (j : Joined) → HoldsJoined c j → (line_in d c).side.begin ≡ begin_of d
-begins_at d c j h = grind arith
-
 pub session_at : (d : Direction) (c : Joint) (j : Joined) → HoldsJoined c j → IsHeard c → IsSession d j (line_in d c).side
-session_at d c j h k = record { begins = begins_at d c j h; says = watches_at d c j h; hears = heard_at d c j h k }
+session_at d c j h k = record { begins = grind arith; says = grind arith; hears = heard_at d c j h k }
 
 pub kept_says : (d : Direction) (c : Joint) (j : Joined) (v : Watched) (n : ℕ) (s : Stands) → v ≡ (line_in d c).side
     → (line_in d c).side.finding ≡ finding.Kept
     → ((said : List Said) → Watches v said → v.finding ≡ finding.Kept → n ≡ length said)
     → ((said : List Said) → Keeps v said → StandsFor v said s)
     → HoldsJoined c j → SaysSo d j (line_in d c).side (what.Kept n s)
-kept_says d c j v n s e k counts stands h = search (arith, watches_at)
+kept_says d c j v n s e k counts stands h = grind arith
 
 pub broke_says : (d : Direction) (c : Joint) (j : Joined) (i o : ℕ) (b : Break) → (line_in d c).side.finding ≡ finding.Broke i
     → IsPlace (line_in d c).side.finding (spoken d j).said o → b ≡ (line_in d c).side.by
@@ -72,14 +47,11 @@ tells_as d j own other t r dropped blamed refused opened h e g b f o = grind ari
 
 -- ---- one connection after the other
 
-one_on : (ss : Sessions) (n m : ℕ) (p : Pair) → n ≡ m → IsPairOf (numbered n ss) p → IsPairOf (numbered m ss) p
-one_on ss n m p e h = subst (λ (z : ℕ). IsPairOf (numbered z ss) p) e h
-
 pub more_pairs : (ss : Sessions) (n : ℕ) (ps : List Pair) (p : Pair) → ArePairs ss n ps → IsPairOf (numbered (n + length ps) ss) p
     → ArePairs ss n (ps ++ p ∷ [])
-more_pairs ss n [] p h k = (one_on ss (n + 0) n p (omega arith) k, tt)
+more_pairs ss n [] p h k = (grind arith, tt)
 more_pairs ss n (q ∷ ps) p h k =
-    (h.0, more_pairs ss (n + 1) ps p h.1 (one_on ss (n + length (q ∷ ps)) (n + 1 + length ps) p (omega arith) k))
+    (h.0, more_pairs ss (n + 1) ps p h.1 (grind arith))
 
 -- ---- what is found of a number
 
@@ -96,13 +68,10 @@ pair_missing o p h k = grind arith
 
 -- ---- the last line
 
-same_mark : (m k : Mark) → Some m ≡ Some k → m ≡ k
-same_mark m k e = cc
-
 -- the break that is told as the first is of transport
 pub mark_told : (s : State) (d : Direction) (f : First) (m : Mark) → Some m ≡ (marks_of d s.course).broke → f.direction ≡ d
     → IsMarkOf d f s.course → IsMarkLast s f (ending.Transport d m)
-mark_told s d f m e w (k, b, is) = grind (arith, same_mark)
+mark_told s d f m e w (k, b, is) = grind arith
 
 pub no_mark : (o : Option Mark) (k : Mark) → None ≡ o → o ≡ Some k → ⊥
 no_mark o k e f = let n : None ≡ Some k = e ∙ f in cc
@@ -124,12 +93,9 @@ pub kept_or_blamed : (d : Direction) (c : Joint) (j : Joined) (f : Finding) → 
     → HoldsJoined c j → IsToBlame d j → ⊥
 kept_or_blamed d c j f e kept h b = grind (arith, broken)
 
-same_found : (o : Option Joined) (i j : Joined) → o ≡ Some i → o ≡ Some j → i ≡ j
-same_found o i j e f = let both : Some i ≡ Some j = sym e ∙ f in cc
-
 pub blamed_at : (d : Direction) (o : Option Joined) (j : Joined) → o ≡ Some j → (i : Joined) × (o ≡ Some i) × IsToBlame d i
     → IsToBlame d j
-blamed_at d o j e (i, f, b) = subst (IsToBlame d) (same_found o i j f e) b
+blamed_at d o j e (i, f, b) = subst (IsToBlame d) (grind arith) b
 
 pub blamed_nowhere : (d : Direction) (o : Option Joined) → HoldsFound None o → (i : Joined) × (o ≡ Some i) × IsToBlame d i → ⊥
 blamed_nowhere d o h (i, f, b) = absurd (subst (HoldsFound None) f h)

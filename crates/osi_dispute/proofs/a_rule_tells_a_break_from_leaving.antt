@@ -1,22 +1,11 @@
 -- The sessions before a break determine its rule, and whether it breaks the protocol or leaves the profile: for the law that a
 -- text has one judgement.
-use Rattle.std.proofs.Common.{◌≡◌, ◌∙◌, refl, sym, ap, subst, ℕ, zero, suc, ◌+◌, ◌<◌, ◌⊎◌, true, false, Bool, List, [], ◌∷◌, length, take}
-use Rattle.std.proofs.Common.{get_or, Some, arith}
-use Rattle.osi_judge.specs.declared.directions.Direction.{Direction}
-use Rattle.osi_judge.specs.declared.findings.Finding.{Finding}
-use Rattle.osi_judge.specs.declared.findings.Finding.TheVariants.{Kept, Broke, Left, TooMany}
-use Rattle.osi_judge.specs.declared.members.Member.{Member}
-use Rattle.osi_judge.specs.declared.rules.Break.{Break}
-use Rattle.osi_judge.specs.Breaking.{BreaksWith, selection_of}
-use Rattle.osi_judge.specs.Captures.{Capture, other}
-use Rattle.osi_judge.specs.Explaining.{Told, IsExplained}
-use Rattle.osi_judge.specs.KeptIn.{AreKeptIn, IsRuledIn}
-use Rattle.osi_judge.specs.Profiles.{leaves}
-use Rattle.osi_judge.specs.Stops.{broke_session, is_judged, place_of}
-use Rattle.osi_judge.specs.Tapping.{begin_of, IsFoundIn, IsBrokenBy, IsLeftBy, heard, told}
-use Rattle.osi_judge.specs.Transport.{Sent, IsSent}
-use Rattle.osi_judge.proofs.told.a_tsdu_is_broken_by_one_rule.{one_break}
-use Rattle.osi_judge.proofs.told.a_side_strays_at_one_place.{one_list}
+use Rattle.osi_dispute.proofs.Vocabulary.{◌≡◌, ◌∙◌, refl, sym, ap, subst, ℕ, zero, suc, ◌+◌, ◌<◌, ◌⊎◌, true, false, Bool, List, [], ◌∷◌}
+use Rattle.osi_dispute.proofs.Vocabulary.{length, take, get_or, Some, arith, Direction, Finding, Kept, Broke, Left, TooMany, Member, Break}
+use Rattle.osi_dispute.proofs.Vocabulary.{BreaksWith, selection_of, Capture, other, IsExplained, AreKeptIn, IsRuledIn, leaves}
+use Rattle.osi_dispute.proofs.Vocabulary.{broke_session, is_judged, place_of, begin_of, IsFoundIn, IsBrokenBy, IsLeftBy, heard, told, Sent}
+use Rattle.osi_dispute.proofs.Vocabulary.{IsSent, one_break, one_list}
+use Rattle.osi_judge.specs.Explaining.{Told}
 use Rattle.osi_dispute.proofs.a_capture_has_one_finding.{HasOneList}
 
 -- a side of a capture breaks the protocol or leaves the profile at one place
@@ -42,14 +31,6 @@ same_told : (d : Direction) (c : Capture) (mine others yours theirs : List Sent)
     → told d c mine others ≡ told d c yours theirs
 same_told d c mine others yours theirs m o = λ j. told d c (m j) (o j)
 
-same_tsdu : (said others : List Told) (i : ℕ) (x y : Told) → said ≡ others → i < length said → x ≡ get_or said i x → y ≡ get_or others i y
-    → x ≡ y
-same_tsdu said others i x y e l h k = grind (arith, one_element)
-
-pub break_same : (us vs : List (List ℕ)) (x y : Told) (m n at o : List Member) (b e : Break) → us ≡ vs → x ≡ y → m ≡ n
-    → BreaksWith us x.octets x.before m at b → BreaksWith vs y.octets y.before n o e → b ≡ e
-break_same us vs x y m n at o b e u t p h k = grind (arith, one_break)
-
 -- the lists of TSDUs of both sides, and the TSDU at which the side strays
 pub record Strays (d : Direction) (c : Capture) (i : ℕ) : Type 0 where
   pub mine : List Sent
@@ -65,8 +46,7 @@ one_strays : HasOneList → (d : Direction) (c : Capture) (i : ℕ) (h k : Stray
 one_strays one d c i h k =
     let mine = one d c h.mine k.mine h.is_mine k.is_mine in
     let others = one (other d) c h.others k.others h.is_others k.is_others in
-    let said = same_told d c h.mine h.others k.mine k.others mine others in
-    (said, ap heard others, same_tsdu (told d c h.mine h.others) (told d c k.mine k.others) i h.tsdu k.tsdu said h.there h.is k.is)
+    grind (arith, same_told, one_element)
 
 there_in : HasOneList → (d : Direction) (c : Capture) (i : ℕ) (mine others yours theirs : List Sent) → IsSent d c mine
     → IsSent (other d) c others
@@ -102,14 +82,10 @@ left_at one d c m at i b f h = record {
 
 -- ---- one rule
 
-explained_same : (d : Direction) (us vs : List (List ℕ)) (said others : List Told) (i : ℕ) → us ≡ vs → said ≡ others
-    → IsExplained (begin_of d) us (take (i + 1) said) → IsExplained (begin_of d) vs (take (i + 1) others)
-explained_same d us vs said others i u e h = grind arith
-
 one_broken : HasOneList → (d : Direction) (c : Capture) (m n at o : List Member) (i : ℕ) (b e : Break) → IsFoundIn d c (Broke i)
     → IsBrokenBy d c m at i b → IsBrokenBy d c n o i e → m ≡ n → b ≡ e
 one_broken one d c m n at o i b e f h k p =
-    grind (arith, break_same, one_strays one d c i (broke_at one d c m at i b f h) (broke_at one d c n o i e f k))
+    grind (arith, one_break, one_strays one d c i (broke_at one d c m at i b f h) (broke_at one d c n o i e f k))
 
 -- how a side left the profile
 abbrev pub Leaves : Direction → List (List ℕ) → List Told → (i : ℕ) → Told → (members at : List Member) → Break → Type 0
@@ -120,7 +96,7 @@ Leaves d us said i x m at b =
 pub left_same : (d : Direction) (us vs : List (List ℕ)) (said others : List Told) (i : ℕ) (x y : Told) (m n at o : List Member)
     (b e : Break)
     → said ≡ others → us ≡ vs → x ≡ y → m ≡ n → Leaves d us said i x m at b → Leaves d vs others i y n o e → b ≡ e
-left_same d us vs said others i x y m n at o b e s u t p h h2 = grind (arith, break_same, explained_same)
+left_same d us vs said others i x y m n at o b e s u t p h h2 = grind (arith, one_break)
 
 one_left : HasOneList → (d : Direction) (c : Capture) (m n at o : List Member) (i : ℕ) (b e : Break) → IsFoundIn d c (Left i)
     → IsLeftBy d c m at i b → IsLeftBy d c n o i e → m ≡ n → b ≡ e
@@ -141,7 +117,7 @@ pub left_broken : (d : Direction) (us vs : List (List ℕ)) (said others : List 
     (b e : Break)
     → said ≡ others → us ≡ vs → x ≡ y → m ≡ n → BreaksWith us x.octets x.before m at b → leaves x.octets b ≡ false
     → (IsExplained (begin_of d) us (take (i + 1) said) → ⊥) → Leaves d vs others i y n o e → ⊥
-left_broken d us vs said others i x y m n at o b e s u t p h l z h2 = grind (arith, break_same, not_both, explained_same)
+left_broken d us vs said others i x y m n at o b e s u t p h l z h2 = grind (arith, one_break, not_both)
 
 broke_or_left : HasOneList → (d : Direction) (c : Capture) (m n at o : List Member) (i : ℕ) (b e : Break) → IsFoundIn d c (Broke i)
     → IsFoundIn d c (Left i) → IsBrokenBy d c m at i b → IsLeftBy d c n o i e → m ≡ n → ⊥
@@ -150,12 +126,7 @@ broke_or_left one d c m n at o i b e f g h k p =
     let said = same_told d c h.mine h.others f.mine f.others (one d c h.mine f.mine h.stand.is_mine f.is_mine)
     (one (other d) c h.others f.others h.stand.is_others f.is_others) in
     let us = ap heard (one (other d) c h.others f.others h.stand.is_others f.is_others) in
-    left_broken d (heard h.others) (heard k.others) (told d c h.mine h.others) (told d c k.mine k.others) i h.tsdu k.tsdu m n at o b e s.0
-    s.1 s.2 p
-    h.near h.breaks
-    (λ x. f.found.0.broke (explained_same d (heard h.others) (heard f.others) (told d c h.mine h.others) (told d c f.mine f.others) i us
-    said x))
-    k.near
+    grind (arith, left_broken)
 
 -- what is found of a side, by the sessions that are kept of it
 pub same_found : HasOneList → HasOnePlace → (d : Direction) (c : Capture) (f g : Finding) (b e : Break)

@@ -1,22 +1,11 @@
 -- Of a session one thing is found, and by one rule, from what it said and heard: for the law on reports.
-use Rattle.std.proofs.Common.{◌≡◌, ◌∙◌, inl, inr, refl, sym, ap, subst, ℕ, ◌+◌, ◌<◌, ◌≤◌, true, false, List, length, take, get_or, arith}
-use Rattle.osi_session.specs.Standing.{Seen}
-use Rattle.osi_judge.specs.declared.directions.Direction.{Direction}
-use Rattle.osi_judge.specs.declared.findings.Finding.{Finding}
-use Rattle.osi_judge.specs.declared.findings.Finding.TheVariants.{Kept, Broke, Left, TooMany}
-use Rattle.osi_judge.specs.declared.members.Member.{Member}
-use Rattle.osi_judge.specs.declared.rules.Break.{Break}
-use Rattle.osi_judge.specs.Breaking.{BreaksAt}
-use Rattle.osi_judge.specs.Explaining.{Told, IsExplained}
-use Rattle.osi_judge.specs.Judging.{Watched, Watches, WatchesBy, IsKept, IsFew, HasRoom, IsFound}
-use Rattle.osi_judge.specs.Kept.{kept}
-use Rattle.osi_judge.specs.Profiles.{leaves}
-use Rattle.osi_judge.specs.Stops.{broke_session}
-use Rattle.osi_judge.specs.Tapping.{begin_of}
-use Rattle.osi_judge.proofs.told.a_side_strays_at_one_place.{Strays, never_strays, no_crowd}
-use Rattle.osi_judge.proofs.told.what_is_known_of_a_side.{room_as, found_as}
-use Rattle.osi_dispute.proofs.a_capture_has_one_finding.{take_less, compare}
-use Rattle.osi_dispute.proofs.a_rule_tells_a_break_from_leaving.{one_element, break_same, Leaves, left_same, left_broken}
+use Rattle.osi_dispute.proofs.Vocabulary.{◌≡◌, ◌∙◌, inl, inr, refl, sym, ap, subst, ℕ, ◌+◌, ◌<◌, true, false, List, length, take, get_or}
+use Rattle.osi_dispute.proofs.Vocabulary.{arith, Seen, Direction, Finding, Kept, Broke, Left, TooMany, Member, Break, BreaksAt, IsExplained}
+use Rattle.osi_dispute.proofs.Vocabulary.{Watched, Watches, WatchesBy, IsKept, IsFew, HasRoom, IsFound, kept, leaves, broke_session}
+use Rattle.osi_dispute.proofs.Vocabulary.{begin_of, Strays, never_strays, no_crowd, room_as, found_as, one_break}
+use Rattle.osi_judge.specs.Explaining.{Told}
+use Rattle.osi_dispute.proofs.a_capture_has_one_finding.{take_less}
+use Rattle.osi_dispute.proofs.a_rule_tells_a_break_from_leaving.{one_element, Leaves, left_same, left_broken}
 
 -- ---- what is known of a session
 
@@ -63,10 +52,7 @@ not_later begin us said i j b c l =
     grind (arith, never_strays, take_less said i j (omega (arith, l)), take_less said (i + 1) j (omega (arith, l)))
 
 one_place : (begin : Seen) (us : List (List ℕ)) (said : List Told) (i j : ℕ) → Strays begin us said i → Strays begin us said j → i ≡ j
-one_place begin us said i j b c = grind (arith, compare, not_later)
-
-too_many : (n : ℕ) → 4096 < n → n ≤ 4096 → ⊥
-too_many n h k = omega arith
+one_place begin us said i j b c = grind (arith, not_later)
 
 -- ---- one finding
 
@@ -77,19 +63,11 @@ pub record IsOne (f g : Finding) (m n : List Member) (b e : Break) : Type 0 wher
 
 both_broke : (d : Direction) (us : List (List ℕ)) (said : List Told) (i : ℕ) (m n : List Member) (b e : Break)
     → KnownBy (Broke i) d us said m b → KnownBy (Broke i) d us said n e → b ≡ e
-both_broke d us said i m n b e (x, s, (h, l, u)) (y, t, (k, m2, v)) = grind (arith, break_same, one_element)
+both_broke d us said i m n b e (x, s, (h, l, u)) (y, t, (k, m2, v)) = grind (arith, one_break, one_element)
 
 both_left : (d : Direction) (us : List (List ℕ)) (said : List Told) (i : ℕ) (m n : List Member) (b e : Break)
     → KnownBy (Left i) d us said m b → KnownBy (Left i) d us said n e → b ≡ e
 both_left d us said i m n b e (x, s, h) (y, t, k) = grind (arith, left_same, one_element)
-
-broke_or_left : (d : Direction) (us : List (List ℕ)) (said : List Told) (i : ℕ) (m n : List Member) (b e : Break)
-    → KnownBy (Broke i) d us said m b → KnownBy (Left i) d us said n e → ⊥
-broke_or_left d us said i m n b e (x, s, (h, l, u)) (y, t, k) = grind (arith, left_broken, one_element)
-
-broke_at : (d : Direction) (us : List (List ℕ)) (said : List Told) (i j : ℕ) (m : List Member) (b : Break) → j ≡ i
-    → KnownBy (Broke j) d us said m b → KnownBy (Broke i) d us said m b
-broke_at d us said i j m b e h = subst (λ (z : ℕ). KnownBy (Broke z) d us said m b) e h
 
 left_at : (d : Direction) (us : List (List ℕ)) (said : List Told) (i j : ℕ) (m : List Member) (b : Break) → j ≡ i
     → KnownBy (Left j) d us said m b → KnownBy (Left i) d us said m b
@@ -100,23 +78,23 @@ one_known : (d : Direction) (us : List (List ℕ)) (said : List Told) (f g : Fin
 one_known d us said Kept Kept m n b e h k = record { found = refl; rule = λ t. cc; sessions = λ t. h.2 ∙ sym k.2 }
 one_known d us said Kept (Broke j) m n b e h k = absurd (never_strays (begin_of d) us said j h.0 k.1.strays)
 one_known d us said Kept (Left j) m n b e h k = absurd (never_strays (begin_of d) us said j h.0 k.1.strays)
-one_known d us said Kept TooMany m n b e h (i, l, y, c) = grind (arith, too_many)
+one_known d us said Kept TooMany m n b e h (i, l, y, c) = grind arith
 one_known d us said (Broke i) Kept m n b e h k = absurd (never_strays (begin_of d) us said i k.0 h.1.strays)
 one_known d us said (Broke i) (Broke j) m n b e h k =
     let same = one_place (begin_of d) us said i j h.1.strays k.1.strays in
     record {
       found = ap Broke same;
-      rule = λ t. both_broke d us said i m n b e h (broke_at d us said i j n e (sym same) k);
+      rule = λ t. both_broke d us said i m n b e h (grind arith);
       sessions = λ t. cc;
     }
 one_known d us said (Broke i) (Left j) m n b e h k =
     let same = one_place (begin_of d) us said i j h.1.strays k.1.strays in
-    absurd (broke_or_left d us said i m n b e h (left_at d us said i j n e (sym same) k))
+    absurd (grind (arith, left_broken, one_element))
 one_known d us said (Broke i) TooMany m n b e h k = absurd (no_crowd (begin_of d) us said i h.1.strays h.1.few k)
 one_known d us said (Left i) Kept m n b e h k = absurd (never_strays (begin_of d) us said i k.0 h.1.strays)
 one_known d us said (Left i) (Broke j) m n b e h k =
     let same = one_place (begin_of d) us said i j h.1.strays k.1.strays in
-    absurd (broke_or_left d us said j n m e b k (left_at d us said j i m b same h))
+    absurd (grind (arith, left_broken, one_element))
 one_known d us said (Left i) (Left j) m n b e h k =
     let same = one_place (begin_of d) us said i j h.1.strays k.1.strays in
     record {
@@ -125,7 +103,7 @@ one_known d us said (Left i) (Left j) m n b e h k =
       sessions = λ t. cc;
     }
 one_known d us said (Left i) TooMany m n b e h k = absurd (no_crowd (begin_of d) us said i h.1.strays h.1.few k)
-one_known d us said TooMany Kept m n b e (i, l, y, c) k = grind (arith, too_many)
+one_known d us said TooMany Kept m n b e (i, l, y, c) k = grind arith
 one_known d us said TooMany (Broke j) m n b e h k = absurd (no_crowd (begin_of d) us said j k.1.strays k.1.few h)
 one_known d us said TooMany (Left j) m n b e h k = absurd (no_crowd (begin_of d) us said j k.1.strays k.1.few h)
 one_known d us said TooMany TooMany m n b e h k = record { found = refl; rule = λ t. cc; sessions = λ t. cc }

@@ -1,7 +1,5 @@
 -- A text is one capture: for `a_text_has_one_finding`.
-use Rattle.std.proofs.Common.{◌≡◌, ◌∙◌, sym, ap, List, [], ℕ, Result, Ok, Err}
-use Rattle.osi_judge.specs.Captures.{Capture}
-use Rattle.osi_dispute.specs.Rows.{IsCaptureOf, rows_of, capture_of}
+use Rattle.osi_dispute.proofs.Vocabulary.{◌≡◌, ◌∙◌, sym, ap, List, [], ℕ, Result, Ok, Err, Capture, IsCaptureOf, rows_of, capture_of}
 
 abbrev value_of : {E : Type 0} → List ℕ → Result (List ℕ) E → List ℕ
 value_of none (Ok octets) = octets

@@ -1,11 +1,7 @@
 -- A counter that takes one octet of a line after the other comes to the number of digits on it, blanks and a comment left out.
 -- For `digits_on` and `counted`.
-use Rattle.std.proofs.Common.{◌≡◌, ◌∙◌, refl, ap, ℕ, Bool, true, false, cond, not, List, [], ◌∷◌, length, arith, ◌+◌, ◌==◌, filter, inl}
-use Rattle.std.proofs.Common.{inr}
-use Rattle.std.specs.List.{before_first}
-use Rattle.std.proofs.lemmas.Bool.Decides.{eqb_tells}
-use Rattle.osi_listing.specs.Capture.{is_comment_sign, is_blank}
-use Rattle.osi_dispute.specs.Rows.{digits_on, digits_left}
+use Rattle.osi_dispute.proofs.Vocabulary.{◌≡◌, ◌∙◌, refl, ap, ℕ, Bool, true, false, cond, not, List, [], ◌∷◌, length, arith, ◌+◌, ◌==◌}
+use Rattle.osi_dispute.proofs.Vocabulary.{filter, inl, inr, before_first, eqb_tells, is_comment_sign, is_blank, digits_on, digits_left}
 
 kept : (c : ℕ) (line : List ℕ) → is_comment_sign c ≡ false → before_first is_comment_sign (c ∷ line) ≡ c ∷ before_first is_comment_sign line
 kept c line h = grind arith
@@ -22,22 +18,15 @@ same_as a b e = elim (eqb_tells a b) [ inl same ↦ same.0 | inr differ ↦ absu
 abbrev digits_in : List ℕ → List ℕ
 digits_in line = filter (λ c. not (is_blank c)) (before_first is_comment_sign line)
 
--- a comment ends the digits
-pub digits_end : (c : ℕ) (line : List ℕ) → c ≡ 35 → digits_on (c ∷ line) ≡ 0
-digits_end c line e = ap (λ (x : List ℕ). length (filter (λ c. not (is_blank c)) x)) (cut c line (same_as c 35 e))
-
 -- how many digits are on a line, by whether its first octet is one
 abbrev with_octet : (is_digit : Bool) → ℕ → List ℕ → ℕ
 with_octet is_digit c line = length (cond is_digit (c ∷ digits_in line) (digits_in line))
 
-by_blank : (c : ℕ) (line : List ℕ) → (c ≡ 35 → ⊥) → digits_on (c ∷ line) ≡ with_octet (not (is_blank c)) c line
-by_blank c line e = ap (λ (x : List ℕ). length (filter (λ c. not (is_blank c)) x)) (kept c line (other c 35 e))
-
 pub digits_blank : (c : ℕ) (line : List ℕ) → (c ≡ 35 → ⊥) → is_blank c ≡ true → digits_on (c ∷ line) ≡ digits_on line
-digits_blank c line e b = by_blank c line e ∙ ap (λ (x : Bool). with_octet (not x) c line) b
+digits_blank c line e b = (grind (arith, kept, other)) ∙ ap (λ (x : Bool). with_octet (not x) c line) b
 
 pub digits_more : (c : ℕ) (line : List ℕ) → (c ≡ 35 → ⊥) → is_blank c ≡ false → digits_on (c ∷ line) ≡ digits_on line + 1
-digits_more c line e b = grind (arith, by_blank)
+digits_more c line e b = grind arith
 
 -- ---- by a counter
 
@@ -45,7 +34,7 @@ pub in_comment : (b : Bool) (n c : ℕ) (rest : List ℕ) → b ≡ true → n +
 in_comment b n c rest e = grind arith
 
 pub begins_comment : (b : Bool) (n c : ℕ) (rest : List ℕ) → b ≡ false → c ≡ 35 → n + 0 ≡ n + digits_left b (c ∷ rest)
-begins_comment b n c rest e s = grind (arith, digits_end)
+begins_comment b n c rest e s = grind arith
 
 pub at_blank : (b : Bool) (n c : ℕ) (rest : List ℕ) → b ≡ false → (c ≡ 35 → ⊥) → is_blank c ≡ true
     → n + digits_left b rest ≡ n + digits_left b (c ∷ rest)

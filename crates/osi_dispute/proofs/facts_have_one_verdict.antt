@@ -1,35 +1,17 @@
 -- Two verdicts on one capture are one: for the laws.
-use Rattle.std.proofs.Common.{◌≡◌, ◌∙◌, ◌⊎◌, inl, inr, refl, sym, ap, subst, ℕ, ◌-◌, Bool, true, false, List, length, Option, Some}
-use Rattle.std.proofs.Common.{None, option_map, ◌||◌}
-use Rattle.osi_tpkt.specs.Stream.{Ending, offset_of}
-use Rattle.osi_tpkt.proofs.a_stream_is_cut_in_one_way.{one_cut}
-use Rattle.osi_judge.specs.declared.directions.Direction.{Direction}
+use Rattle.std.proofs.Common.{arith}
+use Rattle.osi_dispute.proofs.Vocabulary.{◌≡◌, ◌∙◌, ◌⊎◌, inl, inr, refl, sym, ap, subst, ℕ, Bool, true, false, List, length, Option, Some}
+use Rattle.osi_dispute.proofs.Vocabulary.{None, option_map, ◌||◌, Ending, offset_of, one_cut, Direction, Finding, Kept, Broke, Left}
+use Rattle.osi_dispute.proofs.Vocabulary.{TooMany, Reading, Break, Stands, Stopped, Capture, other, stream, broke_session, met_before}
+use Rattle.osi_dispute.proofs.Vocabulary.{opening, reference_in, Sent, last_packet, stage_from, hasty_from, IsReadIn, IsReferenceIn}
+use Rattle.osi_dispute.proofs.Vocabulary.{IsStoppedIn, IsPlaceIn, IsCountIn, IsFirstIn, stop_in, or_hasty, Verdict, Determined, Facts}
+use Rattle.osi_dispute.proofs.Vocabulary.{AreFacts, told_by, told_of, is_refused, is_unanswered, connection_by, left_first, begins_late}
+use Rattle.osi_dispute.proofs.Vocabulary.{verdict_by, StandsIn, IsRuledIn, IsKeptStanding, one_judged, one_list, one_stands, Session}
+use Rattle.osi_dispute.proofs.Vocabulary.{IsJudgement, IsNarrow, IsWide}
 use Rattle.osi_judge.specs.declared.directions.Direction.TheVariants as side
-use Rattle.osi_judge.specs.declared.findings.Finding.{Finding}
-use Rattle.osi_judge.specs.declared.findings.Finding.TheVariants.{Kept, Broke, Left, TooMany}
-use Rattle.osi_judge.specs.declared.judge.Reading.{Reading}
-use Rattle.osi_judge.specs.declared.members.Member.{Member}
-use Rattle.osi_judge.specs.declared.rules.Break.{Break}
-use Rattle.osi_judge.specs.declared.standings.Stands.{Stands}
-use Rattle.osi_judge.specs.declared.stops.Stopped.{Stopped}
-use Rattle.osi_judge.specs.Captures.{Capture, other, stream}
-use Rattle.osi_judge.specs.Stops.{broke_session}
-use Rattle.osi_judge.specs.Transport.{met_before, opening, reference_in, Sent, packets_length, last_packet, stage_from, hasty_from}
-use Rattle.osi_judge.specs.Tapping.{IsReadIn, IsReferenceIn, IsStoppedIn, IsPlaceIn, IsCountIn, IsFirstIn, stop_in, or_hasty, heard}
 use Rattle.osi_dispute.specs.declared.verdicts.Told.TheVariants as told
-use Rattle.osi_dispute.specs.declared.verdicts.Verdict.{Verdict}
-use Rattle.osi_dispute.specs.Facts.{Determined, IsDetermined, Facts, AreFacts, told_by, told_of, is_refused, is_unanswered}
-use Rattle.osi_dispute.specs.Facts.{connection_by, left_first, begins_late, outcome_by, verdict_by, StandsIn}
-use Rattle.osi_judge.specs.Foremost.{foremost}
-use Rattle.osi_judge.specs.KeptIn.{IsRuledIn, IsKeptStanding}
-use Rattle.osi_judge.proofs.told.a_side_strays_at_one_place.{one_judged, one_list}
-use Rattle.osi_judge.specs.Onward.{StandsBehind}
-use Rattle.osi_judge.proofs.told.a_session_stands_in_one_way.{one_stands}
-use Rattle.osi_dispute.specs.declared.verdicts.Connection.TheVariants.{Session}
-use Rattle.osi_tap.specs.Tapping.{comes_to}
-use Rattle.osi_dispute.specs.Disputes.{is_beyond, IsJudgement, IsNarrow, IsWide}
-use Rattle.osi_dispute.proofs.reports_are_alike.{one_reported}
-use Rattle.osi_dispute.specs.Texts.{verdict_text, verdict_status}
+use Rattle.osi_dispute.specs.Facts.{IsDetermined}
+use Rattle.osi_dispute.proofs.reports_are_alike.{one_report}
 use Rattle.osi_dispute.proofs.a_capture_has_one_finding.{HasOneList}
 use Rattle.osi_dispute.proofs.a_rule_tells_a_break_from_leaving.{HasOnePlace, one_rule, same_found}
 use Rattle.osi_dispute.proofs.a_text_is_one_capture.{one_text}
@@ -39,10 +21,7 @@ use Rattle.osi_dispute.proofs.a_text_is_one_capture.{one_text}
 one_reading : (d : Direction) (c : Capture) (r q : Reading) → IsReadIn d c r → IsReadIn d c q → r ≡ q
 one_reading d c r q h k =
     let same = (one_cut (stream d c) h.units k.units h.ending k.ending h.cut k.cut).0 in
-    let packets = h.packets ∙ ap (λ (us : List (List ℕ)). offset_of (length us)) same ∙ sym k.packets in
-    let octets = h.octets ∙ sym k.octets in
-    let rest = h.rest ∙ ap (λ (us : List (List ℕ)). offset_of (length (stream d c)) - offset_of (packets_length us)) same ∙ sym k.rest in
-    λ i. record { packets = packets i; octets = octets i; rest = rest i }
+    grind arith
 
 one_reference : (d : Direction) (c : Capture) (r q : Option ℕ) → IsReferenceIn d c r → IsReferenceIn d c q → r ≡ q
 one_reference d c r q h k =
@@ -58,19 +37,14 @@ one_stop : (d : Direction) (c : Capture) (r q : Option Stopped) → IsStoppedIn 
 one_stop d c r q h k =
     let same = one_cut (stream d c) h.units k.units h.ending k.ending h.cut k.cut in
     let beside = (one_cut (stream (other d) c) h.others k.others h.are_others.0 k.are_others.0 h.are_others.1 k.are_others.1).0 in
-    h.stops ∙ ap (λ (us : List (List ℕ)). stop_at d c us h.others h.ending) same.0
-    ∙ ap (λ (e : Ending). stop_at d c k.units h.others e) same.1
-    ∙ ap (λ (us : List (List ℕ)). stop_at d c k.units us k.ending) beside ∙ sym k.stops
+    grind arith
 
 one_count : HasOneList → (d : Direction) (c : Capture) (n m : ℕ) → IsCountIn d c n → IsCountIn d c m → n ≡ m
 one_count one d c n m h k = h.counted ∙ ap (λ (x : List Sent). length x) (one d c h.mine k.mine h.is_mine k.is_mine) ∙ sym k.counted
 
-some_same : (n m : ℕ) → Some n ≡ Some m → n ≡ m
-some_same n m e = cc
-
 one_packet : (n m i : ℕ) (x y : List Sent) → x ≡ y → Some n ≡ option_map offset_of (last_packet x i)
     → Some m ≡ option_map offset_of (last_packet y i) → n ≡ m
-one_packet n m i x y e h k = some_same n m (h ∙ ap (λ (z : List Sent). option_map offset_of (last_packet z i)) e ∙ sym k)
+one_packet n m i x y e h k = grind arith
 
 one_told : HasOneList → (d : Direction) (c : Capture) (f : Finding) (n m o p : ℕ) (s : Stands) (b e : Break)
     → (f ≡ Kept → IsCountIn d c n) → (f ≡ Kept → IsCountIn d c m) → IsPlaceIn d c f o → IsPlaceIn d c f p
@@ -115,9 +89,7 @@ alike one place d c f g h k =
 one_standing : HasOneList → (d : Direction) (c : Capture) (s t : Stands) → IsKeptStanding d c s → IsKeptStanding d c t → s ≡ t
 one_standing one d c s t (m, a, h) (n, b, k) =
     let others = one (other d) c k.others h.others k.stand.is_others h.stand.is_others in
-    let members = one_list one d c None n m b a in
-    one_stands (heard h.others) (foremost m) s t h.behind (subst (λ (z : List Member). StandsBehind (heard h.others) (foremost z) t) members
-    (subst (λ (z : List Sent). StandsBehind (heard z) (foremost n) t) others k.behind))
+    grind (arith, one_stands, one_list one d c None n m b a)
 
 one_session : HasOneList → (d : Direction) (c : Capture) (r : ℕ) (f : Finding) (n o : ℕ) (s t : Stands) (b : Break)
     → StandsIn d c (Session r (told_by f n o s b)) → StandsIn d c (Session r (told_by f n o t b))
@@ -147,35 +119,6 @@ one_connection one d c false (Some r) false false false f n o s t b h k = one_se
 abbrev standing_by : Facts → Stands → Facts
 standing_by f s = record f { stands = s }
 
-verdicts_same : (first : Option Direction) (l r m s : Facts) → Same l m → Same r s
-    → verdict_by first l r ≡ verdict_by first (standing_by m l.stands) (standing_by s r.stands)
-verdicts_same first l r m s a b =
-    let left_reading = a.reading in
-    let right_reading = b.reading in
-    let left_reference = a.reference in
-    let right_reference = b.reference in
-    let left_stop = a.stopped in
-    let right_stop = b.stopped in
-    let left_found = a.found in
-    let right_found = b.found in
-    let left_told = a.told in
-    let right_told = b.told in
-    λ i. record {
-      left = record {
-        reading = left_reading i;
-        connection = connection_by (left_first first side.Right (right_found i) || begins_late (left_stop i)) (left_reference i)
-            (broke_session (left_found i)) (is_refused (right_stop i)) (is_unanswered (right_reference i) (right_stop i)) (left_told i);
-        stopped = left_stop i;
-      };
-      right = record {
-        reading = right_reading i;
-        connection = connection_by (left_first first side.Left (left_found i) || begins_late (left_stop i)) (right_reference i)
-            (broke_session (right_found i)) (is_refused (right_stop i)) (is_unanswered (right_reference i) (right_stop i)) (right_told i);
-        stopped = right_stop i;
-      };
-      outcome = outcome_by first (left_found i) (right_found i) (left_stop i) (right_stop i);
-    }
-
 -- two sets of facts that differ in the session that stands for a side, and tell of it as the capture has it
 stands_same : HasOneList → (c : Capture) (first : Option Direction) (m s : Facts) (x y : Stands)
     → StandsIn side.Left c (verdict_by first (standing_by m x) (standing_by s y)).left.connection
@@ -190,11 +133,7 @@ stands_same one c first m s x y h k p q =
     let right = one_connection one side.Right c (left_first first side.Left m.found || begins_late m.stopped) s.reference
     (broke_session s.found) (is_refused s.stopped)
     (is_unanswered s.reference s.stopped) s.found s.count s.offset y s.stands s.by p q in
-    λ i. record {
-      left = record { reading = m.reading; connection = left i; stopped = m.stopped };
-      right = record { reading = s.reading; connection = right i; stopped = s.stopped };
-      outcome = outcome_by first m.found s.found m.stopped s.stopped;
-    }
+    grind arith
 
 -- a capture has one first break
 abbrev pub HasOneFirst : Type 0
@@ -207,7 +146,7 @@ one_determined one place only c v w a b =
     let l = alike one place side.Left c a.left b.left h.of_left k.of_left in
     let r = alike one place side.Right c a.right b.right h.of_right k.of_right in
     let first = only c a.first b.first h.is_first k.is_first in
-    let one_side = h.tells ∙ verdicts_same a.first a.left a.right b.left b.right l r
+    let one_side = h.tells ∙ (grind arith)
     ∙ ap (λ (x : Option Direction). verdict_by x (standing_by b.left a.left.stands) (standing_by b.right a.right.stands)) first in
     one_side ∙ stands_same one c b.first b.left b.right a.left.stands a.right.stands
     (subst (λ (x : Verdict). StandsIn side.Left c x.left.connection) one_side a.left_stands)
@@ -222,36 +161,20 @@ one_verdict one place only c v w a b = one_determined one place only c v w a b
 
 -- ---- of a text
 
-narrow_or_wide : (c : Capture) (o : Verdict) → is_beyond c o ≡ false → is_beyond c o ≡ true → ⊥
-narrow_or_wide c o n w = not_both (is_beyond c o) n w
-  where
-    not_both : (b : Bool) → b ≡ false → b ≡ true → ⊥
-    not_both true n w = cc
-    not_both false n w = cc
-
-both_narrow : HasOneList → HasOnePlace → HasOneFirst → (c : Capture) (lines others : List ℕ) (status other : ℕ)
-    → IsNarrow c lines status → IsNarrow c others other → (lines ≡ others) × (status ≡ other)
-both_narrow has place only c lines others status other one two =
-    let v = one.judged.verdict in
-    let w = two.judged.verdict in
-    let e = one_verdict has place only c v w one.judged.judged.determined two.judged.judged.determined in
-    let answered = ap (λ (x : Verdict). verdict_status x.outcome) e in
-    (one.judged.told ∙ ap verdict_text e ∙ sym two.judged.told, one.judged.answered ∙ answered ∙ sym two.judged.answered)
-
 one_narrow : HasOneList → HasOnePlace → HasOneFirst → (c : Capture) (lines others : List ℕ) (status other : ℕ)
     → IsNarrow c lines status → IsNarrow c others other ⊎ IsWide c others other → (lines ≡ others) × (status ≡ other)
-one_narrow has place only c lines others status other one (inl two) = both_narrow has place only c lines others status other one two
+one_narrow has place only c lines others status other one (inl two) = grind (arith, one_verdict)
 one_narrow has place only c lines others status other one (inr two) =
     let e = one_verdict has place only c one.judged.verdict two.verdict one.judged.judged.determined two.judged.determined in
-    absurd (narrow_or_wide c two.verdict (subst (λ (x : Verdict). is_beyond c x ≡ false) e one.within) two.beyond)
+    absurd (grind arith)
 
 one_wide : HasOneList → HasOnePlace → HasOneFirst → (c : Capture) (lines others : List ℕ) (status other : ℕ)
     → IsWide c lines status → IsNarrow c others other ⊎ IsWide c others other → (lines ≡ others) × (status ≡ other)
 one_wide has place only c lines others status other one (inl two) =
     let e = one_verdict has place only c one.verdict two.judged.verdict one.judged.determined two.judged.judged.determined in
-    absurd (narrow_or_wide c two.judged.verdict two.within (subst (λ (x : Verdict). is_beyond c x ≡ true) e one.beyond))
+    absurd (grind arith)
 one_wide has place only c lines others status other one (inr two) =
-    one_reported (comes_to c) lines others status other one.reported two.reported
+    grind (arith, one_report)
 
 one_of_both : HasOneList → HasOnePlace → HasOneFirst → (c : Capture) (lines others : List ℕ) (status other : ℕ)
     → IsNarrow c lines status ⊎ IsWide c lines status → IsNarrow c others other ⊎ IsWide c others other

@@ -1,5 +1,5 @@
 -- The rows of a text, one after the other: for `next_piece` and `is_left_tabbed`.
-use Rattle.std.proofs.Common.{◌≡◌, ◌∙◌, refl, ap, ℕ, Bool, List, [], ◌∷◌, take, drop}
+use Rattle.std.proofs.Common.{arith, ◌≡◌, ◌∙◌, ap, ℕ, Bool, List, [], ◌∷◌, take, drop}
 use Rattle.osi_dispute.specs.Rows.{Row, is_tabbed, digits_on, begun_on, ends_within, rows_from, left_by, left_is_tabbed}
 
 -- the row of the first line
@@ -16,9 +16,5 @@ next_row is_within lines later line octets e = ap (λ (z : List (List ℕ)). row
 pub empty_row : (rows later : List Row) (r : Row) → rows ≡ r ∷ later → r.octets ≡ [] → left_is_tabbed rows ≡ left_is_tabbed later
 empty_row rows later r e n = ap left_is_tabbed e ∙ ap (λ (z : List ℕ). left_by r.is_tabbed z (left_is_tabbed later)) n
 
-by_first : (here later : Bool) (octets : List ℕ) → (octets ≡ [] → ⊥) → left_by here octets later ≡ here
-by_first here later [] n = absurd (n refl)
-by_first here later (octet ∷ octets) n = refl
-
 pub first_row : (rows later : List Row) (r : Row) → rows ≡ r ∷ later → (r.octets ≡ [] → ⊥) → left_is_tabbed rows ≡ r.is_tabbed
-first_row rows later r e n = ap left_is_tabbed e ∙ by_first r.is_tabbed (left_is_tabbed later) r.octets n
+first_row rows later r e n = ap left_is_tabbed e ∙ (grind arith)

@@ -1,7 +1,6 @@
 -- Text that is added in two parts, one after the other, is added as a whole.
 -- For `push_leaves`.
-use Rattle.std.proofs.Common.{◌≡◌, ◌∙◌, sym, ap, List, ℕ, ◌++◌, Result, Ok, Err, OnOk}
-use Rattle.std.proofs.lemmas.List.{append_assoc}
+use Rattle.osi_dispute.proofs.Vocabulary.{◌≡◌, ◌∙◌, sym, ap, List, ℕ, ◌++◌, Result, Ok, Err, OnOk, append_assoc}
 
 pub on_ok_more : {A E : Type 0} (r : Result A E) (new mid old a b c : List ℕ) → mid ≡ old ++ a → c ≡ a ++ b → OnOk r (new ≡ mid ++ b)
     → OnOk r (new ≡ old ++ c)

@@ -1,26 +1,13 @@
 -- What is fed the octets of a piece one part after the other, and the rows of a text one row after the other, knows the capture of
 -- all of them: a judge, or a tap. For `feed_all`, `feed_pieces`, `tap_all` and `tap_pieces`.
-use Rattle.std.proofs.Common.{◌≡◌, ◌∙◌, refl, sym, ap, subst, ℕ, ◌==◌, Bool, true, false, not, arith, length, List, [], ◌∷◌, ◌++◌, take}
-use Rattle.std.proofs.Common.{drop}
-use Rattle.std.proofs.lemmas.List.{append-nil, append_assoc, map-append, take-append-drop}
-use Rattle.std.proofs.lemmas.Grind.{flat_map-append}
-use Rattle.osi_judge.specs.declared.directions.Direction.{Direction}
-use Rattle.osi_judge.specs.Captures.{Capture, piece, of}
-use Rattle.osi_judge.specs.Following.{judged, first_in, Taps, FirstIs}
-use Rattle.osi_judge.specs.declared.judge.Judge.{Judge}
-use Rattle.osi_tap.specs.declared.tap.Tap.{Tap}
-use Rattle.osi_tap.specs.Standing.{HoldsState}
-use Rattle.osi_tap.specs.Tapping.{State, after}
-use Rattle.osi_tap.proofs.a_piece_comes_to_what_its_octets_do.{after_more}
-use Rattle.osi_dispute.specs.Verdicts.{Knows}
-use Rattle.osi_dispute.specs.Rows.{Row, side_of, passed_by}
+use Rattle.osi_dispute.proofs.Vocabulary.{◌≡◌, ◌∙◌, refl, sym, ap, ℕ, ◌==◌, Bool, true, false, not, arith, length, List, [], ◌∷◌, ◌++◌}
+use Rattle.osi_dispute.proofs.Vocabulary.{take, drop, append-nil, append_assoc, map-append, take-append-drop, flat_map-append, Direction}
+use Rattle.osi_dispute.proofs.Vocabulary.{Capture, piece, of, judged, first_in, Taps, FirstIs, Judge, Tap, HoldsState, State, after}
+use Rattle.osi_dispute.proofs.Vocabulary.{after_more, Knows, Row, side_of, passed_by}
 
 -- whatever had passed, this passed after it, by what is known
 abbrev pub Passes : {T : Type 0} → (T → Capture → Type 0) → T → T → Capture → Type 0
 Passes k old new more = (capture : Capture) → k old capture → k new (capture ++ more)
-
-passes_none : {T : Type 0} (k : T → Capture → Type 0) (j : T) → Passes k j j []
-passes_none k j = λ capture t. subst (λ (c : Capture). k j c) (sym (append-nil capture)) t
 
 passes_more : {T : Type 0} (k : T → Capture → Type 0) (old now new : T) (a b c : Capture) → c ≡ a ++ b → Passes k old now a
     → Passes k now new b → Passes k old new c
@@ -46,7 +33,7 @@ abbrev pub IsFed : {T : Type 0} → (T → Capture → Type 0) → Direction →
 IsFed k d old now octets rest = (fed : List ℕ) × (octets ≡ fed ++ rest) × Passes k old now (piece d fed)
 
 pub fed_none : {T : Type 0} (k : T → Capture → Type 0) (d : Direction) (j : T) (octets : List ℕ) → IsFed k d j j octets octets
-fed_none k d j octets = ([], refl, passes_none k j)
+fed_none k d j octets = ([], refl, grind (arith, append-nil))
 
 pub fed_more : {T : Type 0} (k : T → Capture → Type 0) (d : Direction) (old now new : T) (octets rest : List ℕ) (n : ℕ)
     → IsFed k d old now octets rest
@@ -75,10 +62,7 @@ abbrev pub AreFed : {T : Type 0} → (T → Capture → Type 0) → Bool → T �
 AreFed k left old now rows rest = (fed : List Row) × (rows ≡ fed ++ rest) × Passes k old now (passed_by left fed)
 
 pub none_fed : {T : Type 0} (k : T → Capture → Type 0) (left : Bool) (j : T) (rows : List Row) → AreFed k left j j rows rows
-none_fed k left j rows = ([], refl, passes_none k j)
-
-one_row : (left : Bool) (r : Row) → passed_by left (r ∷ []) ≡ piece (side_of r.is_tabbed left) r.octets
-one_row left r = append-nil (piece (side_of r.is_tabbed left) r.octets)
+none_fed k left j rows = ([], refl, grind (arith, append-nil))
 
 pub more_fed : {T : Type 0} (k : T → Capture → Type 0) (left : Bool) (old now new : T) (rows rest later : List Row) (r : Row)
     → rest ≡ r ∷ later → AreFed k left old now rows rest
@@ -86,9 +70,7 @@ pub more_fed : {T : Type 0} (k : T → Capture → Type 0) (left : Bool) (old no
 more_fed k left old now new rows rest later r g (fed, e, p) q = (
   fed ++ r ∷ [],
   e ∙ ap (λ (z : List Row). fed ++ z) g ∙ sym (append_assoc fed (r ∷ []) later),
-  passes_more k old now new (passed_by left fed) (passed_by left (r ∷ [])) (passed_by left (fed ++ r ∷ []))
-      (flat_map-append (λ (x : Row). piece (side_of x.is_tabbed left) x.octets) fed (r ∷ [])) p
-      (subst (λ (z : Capture). Passes k now new z) (sym (one_row left r)) q),
+  search (arith, passes_more, flat_map-append, append-nil),
 )
 
 pub all_fed : {T : Type 0} (k : T → Capture → Type 0) (left : Bool) (old now : T) (rows rest : List Row) → rest ≡ []

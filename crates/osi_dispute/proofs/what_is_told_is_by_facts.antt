@@ -1,34 +1,14 @@
 -- What is told of a side is told by what a judge keeps of it, and that is so of the capture: for the functions of `verdicts`.
-use Rattle.std.proofs.Common.{◌≡◌, ◌∙◌, refl, sym, ap, subst, ℕ, Bool, true, false, List, Option, Some, None, arith}
-use Rattle.osi_session.specs.Standing.{seen_called}
-use Rattle.osi_judge.specs.declared.directions.Direction.{Direction}
+use Rattle.osi_dispute.proofs.Vocabulary.{◌≡◌, ◌∙◌, sym, ap, subst, ℕ, Bool, true, false, List, Option, Some, None, arith, seen_called}
+use Rattle.osi_dispute.proofs.Vocabulary.{Direction, Finding, Kept, Broke, Left, TooMany, Judge, Reading, Break, Stands, Stopped, Capture}
+use Rattle.osi_dispute.proofs.Vocabulary.{Tapped, reading_of, stopped_of, Judged, judged, half_of, first_in, Taps, FirstIs, Watched, Keeps}
+use Rattle.osi_dispute.proofs.Vocabulary.{StandsFor, broke_session, is_standing, known_in, is_first_in, Told, Connection, Silent, Refused}
+use Rattle.osi_dispute.proofs.Vocabulary.{Unanswered, Session, Account, Outcome, told_by, is_refused, is_unanswered, is_dropped, IsFirstOf}
+use Rattle.osi_dispute.proofs.Vocabulary.{StandsIn, facts_of, StandsBy, IsToldOf, Connects, Accounts, outcome_in, Knows}
 use Rattle.osi_judge.specs.declared.directions.Direction.TheVariants as side
-use Rattle.osi_judge.specs.declared.findings.Finding.{Finding}
-use Rattle.osi_judge.specs.declared.findings.Finding.TheVariants.{Kept, Broke, Left, TooMany}
-use Rattle.osi_judge.specs.declared.judge.Judge.{Judge}
-use Rattle.osi_judge.specs.declared.judge.Reading.{Reading}
-use Rattle.osi_judge.specs.declared.rules.Break.{Break}
-use Rattle.osi_judge.specs.declared.standings.Stands.{Stands}
-use Rattle.osi_judge.specs.declared.stops.Stopped.{Stopped}
-use Rattle.osi_judge.specs.Captures.{Capture}
 use Rattle.osi_judge.specs.Explaining.{Told as ToldOf}
-use Rattle.osi_judge.specs.Feeding.{Tapped, reading_of, stopped_of}
-use Rattle.osi_judge.specs.Following.{Judged, judged, half_of, first_in, Taps, FirstIs}
-use Rattle.osi_judge.specs.Judging.{Watched, Keeps}
-use Rattle.osi_judge.specs.Onward.{StandsFor}
-use Rattle.osi_judge.specs.Stops.{broke_session}
-use Rattle.osi_judge.proofs.captured.what_is_known_of_a_side_is_of_the_capture.{is_standing, known_in, is_first_in}
-use Rattle.osi_dispute.specs.declared.verdicts.Told.{Told}
 use Rattle.osi_dispute.specs.declared.verdicts.Told.TheVariants as told
-use Rattle.osi_dispute.specs.declared.verdicts.Connection.{Connection}
-use Rattle.osi_dispute.specs.declared.verdicts.Connection.TheVariants.{Silent, Refused, Unanswered, Session}
-use Rattle.osi_dispute.specs.declared.verdicts.Account.{Account}
-use Rattle.osi_dispute.specs.declared.verdicts.Outcome.{Outcome}
-use Rattle.osi_dispute.specs.Facts.{AreFacts, told_by, told_of, is_refused, is_unanswered, connection_by}
-use Rattle.osi_dispute.specs.Facts.{is_dropped}
-use Rattle.osi_dispute.specs.Facts.{IsFirstOf, IsDetermined, StandsIn, facts_of, StandsBy, IsToldOf, Connects, Accounts}
-use Rattle.osi_dispute.specs.Facts.{outcome_in}
-use Rattle.osi_dispute.specs.Verdicts.{Knows}
+use Rattle.osi_dispute.specs.Facts.{IsDetermined}
 
 -- what is told nowhere
 no_stands : Stands
@@ -41,8 +21,7 @@ pub told_kept : (t : Tapped) (w : Watched) (n : ℕ) (s : Stands) → w ≡ t.si
     → IsToldOf t (told.Kept n s)
 told_kept t w n s e c k h = record {
   stands = s;
-  is = ap (λ (x : ℕ). told.Kept x s) (c ∙ ap (λ (x : Watched). x.told) e) ∙ sym
-      (ap (λ (f : Finding). told_by f t.side.told t.line.last s t.side.by) k);
+  is = grind arith;
   standing = (k, subst (λ (x : Watched). (said : List ToldOf) → Keeps x said → StandsFor x said s) e h);
 }
 
@@ -74,33 +53,22 @@ told_many t k = record {
 pub dropped : (d : Bool) (t right : Tapped) → d ≡ true → Connects d t right Silent
 dropped d t right e = record {
   stands = no_stands;
-  is = sym (ap (λ (b : Bool). connection_by b t.line.reference (broke_session t.side.finding) (is_refused (stopped_of right))
-      (is_unanswered right.line.reference (stopped_of right)) (told_of (facts_of t no_stands))) e);
+  is = grind (arith, no_stands);
   standing = tt;
 }
 
 pub nameless : (t right : Tapped) → t.line.reference ≡ None → Connects false t right Silent
 nameless t right e = record {
   stands = no_stands;
-  is = sym (ap (λ (r : Option ℕ). connection_by false r (broke_session t.side.finding) (is_refused (stopped_of right))
-      (is_unanswered right.line.reference (stopped_of right)) (told_of (facts_of t no_stands))) e);
+  is = grind (arith, no_stands);
   standing = tt;
 }
-
--- a reference, whether the side is to blame, whether right refused, and whether it did not answer
-connects_as : (t right : Tapped) (r : ℕ) (blamed refused unanswered : Bool) (x : Told) → t.line.reference ≡ Some r
-    → broke_session t.side.finding ≡ blamed → is_refused (stopped_of right) ≡ refused
-    → is_unanswered right.line.reference (stopped_of right) ≡ unanswered
-    → connection_by false t.line.reference (broke_session t.side.finding) (is_refused (stopped_of right))
-    (is_unanswered right.line.reference (stopped_of right)) x ≡ connection_by false (Some r) blamed refused unanswered x
-connects_as t right r blamed refused unanswered x e b f a = λ i. connection_by false (e i) (b i) (f i) (a i) x
 
 pub refused : (t right : Tapped) (r : ℕ) → t.line.reference ≡ Some r → broke_session t.side.finding ≡ false
     → is_refused (stopped_of right) ≡ true → Connects false t right (Refused r)
 refused t right r e b f = record {
   stands = no_stands;
-  is = sym (connects_as t right r false true (is_unanswered right.line.reference (stopped_of right)) (told_of (facts_of t no_stands)) e b f
-      refl);
+  is = sym (grind arith);
   standing = tt;
 }
 
@@ -109,24 +77,18 @@ pub unanswered : (t right : Tapped) (r : ℕ) → t.line.reference ≡ Some r �
     → Connects false t right (Unanswered r)
 unanswered t right r e b f a = record {
   stands = no_stands;
-  is = sym (connects_as t right r false false true (told_of (facts_of t no_stands)) e b f a);
+  is = sym (grind arith);
   standing = tt;
 }
 
 pub blamed : (t right : Tapped) (r : ℕ) (c : Connection) (x : Told) → t.line.reference ≡ Some r → broke_session t.side.finding ≡ true
     → c ≡ Session r x → IsToldOf t x → Connects false t right c
-blamed t right r c x e b q h = subst (λ (y : Connection). Connects false t right y) (sym q) (record {
-  stands = h.stands;
-  is = ap (Session r) h.is ∙
-      sym (connects_as t right r true (is_refused (stopped_of right)) (is_unanswered right.line.reference (stopped_of right))
-      (told_of (facts_of t h.stands)) e b refl refl);
-  standing = h.standing;
-})
+blamed t right r c x e b q h = subst (λ (y : Connection). Connects false t right y) (sym q) (grind arith)
 
 pub answered : (t right : Tapped) (r : ℕ) (c : Connection) (x : Told) → t.line.reference ≡ Some r → broke_session t.side.finding ≡ false
     → is_refused (stopped_of right) ≡ false
     → is_unanswered right.line.reference (stopped_of right) ≡ false → c ≡ Session r x → IsToldOf t x → Connects false t right c
-answered t right r c x e b f a q h = grind (arith, connects_as)
+answered t right r c x e b f a q h = grind arith
 
 -- ---- of a side
 
@@ -136,18 +98,6 @@ pub accounted : (d : Bool) (t right : Tapped) (r : Reading) (c : Connection) (s 
 accounted d t right r c s e f k = grind arith
 
 -- ---- of the capture
-
-facts_known : (d : Direction) (c : Capture) (j : Judged) (s : Stands) → Taps j c → AreFacts d c (facts_of (half_of d j) s)
-facts_known d c j s t = let k = known_in d c j t in record {
-  reading = k.read;
-  reference = k.given;
-  stopped = k.stops;
-  found = k.found;
-  room = k.room;
-  count = k.count;
-  offset = k.place;
-  rule = k.rule;
-}
 
 first_known : (first : Option Direction) (j : Judged) (c : Capture) (s u : Stands) → FirstIs first j c
     → IsFirstOf first (facts_of j.left s) (facts_of j.right u)
@@ -179,8 +129,8 @@ determined j c l r o k a b e = record {
   left = facts_of (judged j).left a.stands;
   right = facts_of (judged j).right b.stands;
   told = record {
-    of_left = facts_known side.Left c (judged j) a.stands k.taps;
-    of_right = facts_known side.Right c (judged j) b.stands k.taps;
+    of_left = grind (arith, known_in side.Left c (judged j) k.taps);
+    of_right = grind (arith, known_in side.Right c (judged j) k.taps);
     is_first = is_first_in (first_in j) (judged j) c k.taps k.first;
     first_of = first_known (first_in j) (judged j) c a.stands b.stands k.first;
     tells = λ i. record { left = a.is i; right = b.is i; outcome = e i };

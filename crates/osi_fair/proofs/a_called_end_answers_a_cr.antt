@@ -1,11 +1,10 @@
 -- A called end takes a CR, and puts its answer: a DR that refuses it, or a CC with the next reference.
 -- For the law on a whole called end.
-use Rattle.osi_fair.proofs.Vocabulary.{[], ap, arith, Bool, false, if◌then◌else◌, is_some, List, None, Option, refl, Some, subst}
-use Rattle.osi_fair.proofs.Vocabulary.{sym, true, ℕ, ◌++◌, ◌+◌, ◌<◌, ◌∙◌, ◌∷◌, ◌≡◌, ◌≢◌, ◌≤◌, ◌⊎◌, eq-eqb, eqb-true, append-nil}
-use Rattle.osi_fair.proofs.Vocabulary.{AllByRecursion, slice_get, ◌&&◌, ◌==◌, acknowledge, confirm, Connect, data0, data2, destination_of}
-use Rattle.osi_fair.proofs.Vocabulary.{disconnect, disconnected, error, request, Value, Standing, accept, selected_by, Two, Local}
-use Rattle.osi_fair.proofs.Vocabulary.{acceptance, opened_link, Rows, value_at, Live, linked, Connection, Whole}
-use Rattle.osi_carrier.specs.State.{State}
+use Rattle.osi_fair.proofs.Vocabulary.{[], ap, arith, Bool, false, if◌then◌else◌, is_some, List, None, Option, refl, Some, subst, sym, true}
+use Rattle.osi_fair.proofs.Vocabulary.{ℕ, ◌++◌, ◌+◌, ◌<◌, ◌∙◌, ◌∷◌, ◌≡◌, ◌≢◌, ◌≤◌, ◌⊎◌, eq-eqb, eqb-true, append-nil, AllByRecursion}
+use Rattle.osi_fair.proofs.Vocabulary.{slice_get, ◌&&◌, ◌==◌, acknowledge, confirm, Connect, data0, data2, disconnect, disconnected, error}
+use Rattle.osi_fair.proofs.Vocabulary.{request, Value, Standing, accept, selected_by, Two, Local, acceptance, opened_link, Rows, value_at}
+use Rattle.osi_fair.proofs.Vocabulary.{Live, linked, Connection, Whole, State}
 use Rattle.osi_fair.proofs.small_facts_that_many_lemmas_use.{and_second, differ, no_number, number_is}
 use Rattle.osi_fair.proofs.each_connection_of_a_called_end.{stands_at, Among, AreAbove, Answering, Asked, Called, IsDc, IsFor, IsStray}
 use Rattle.osi_fair.proofs.each_connection_of_a_called_end.{IsUnlinked, Row, Stand, Untagged, answers, closes, first_some, over, refuses}
@@ -13,7 +12,7 @@ use Rattle.osi_fair.proofs.each_connection_of_a_called_end.{talks}
 use Rattle.osi_fair.proofs.units_by_their_place.{Placed, at_first, at_join, at_other, first_at, units_at, values, values_join}
 use Rattle.osi_fair.proofs.what_a_called_end_does_to_its_lines.{above_more, some_more, strays_keep}
 use Rattle.osi_fair.proofs.what_is_live_at_a_called_end.{IsKnown, Timely, timely_answers, timely_puts}
-use Rattle.osi_fair.proofs.which_units_are_for_a_connection.{keep, names_in, those}
+use Rattle.osi_fair.proofs.which_units_are_for_a_connection.{those}
 use Rattle.osi_fair.proofs.a_dt_of_class_zero_passes.{unlike}
 use Rattle.osi_fair.proofs.how_a_unit_of_right_passes.{no_list}
 use Rattle.osi_fair.proofs.what_comes_to_a_called_end.{no_item}
@@ -30,13 +29,9 @@ item_is c e o h k = cc
 place_not : (b : Bool) (c : Bool) → c ≡ b → (b ≡ true → ⊥) → b ≡ false
 place_not b c e h = grind arith
 
-not_own : (given r : ℕ) (v : Value) (vs : List Value) (o : Option ℕ) → destination_of v ≡ o → given < r → IsFor given v →
-    Among [] vs → Among [] (keep (names_in r o) v vs)
-not_own given r v vs o d above h a = grind arith
-
 dcs_alone : (given r : ℕ) (vs : List Value) → given < r → AllByRecursion (IsFor given) vs → Among [] (those r vs)
 dcs_alone given r [] above h = refl
-dcs_alone given r (v ∷ vs) above (one, more) = grind (arith, not_own, those, dcs_alone given r vs above more)
+dcs_alone given r (v ∷ vs) above (one, more) = grind (arith, those, dcs_alone given r vs above more)
 
 above_cc : (given n : ℕ) (vs : List Value) (m : ℕ) (x : Connect) → x.source ≡ given + 1 → AreAbove given n vs →
     AreAbove (given + 1) n (vs ++ confirm m x ∷ [])
@@ -171,8 +166,7 @@ module _ (local : Local) (w : Whole) (f : Called local w) (was : w.end.ended ≡
         Stand local f.shut t coming (units_at i (tagged dr)) (units_at i later) (w.begun && first_at i (tagged dr)) (f.refs i) c
     dr_by i c true e at =
         let same = eqb-true i p e in
-        let is : place.c ≡ c = item_is place.c c (slice_get w.tap.connections p) place.at
-        (ap (λ (j : ℕ). slice_get w.tap.connections j) (sym same) ∙ at) in
+        let is : place.c ≡ c = grind (arith, item_is, place) in
         subst (λ (j : ℕ). Stand local f.shut t coming (units_at j (tagged dr)) (units_at j later) (w.begun && first_at j (tagged dr))
         (f.refs j) c)
         (sym same) (stand_dr c (subst (λ (y : Connection). Asked x y) is place.asked))
@@ -197,13 +191,10 @@ module _ (local : Local) (w : Whole) (f : Called local w) (was : w.end.ended ≡
       positive = f.positive;
       linked_at = λ lasts r peer k there. f.linked_at was r peer k (ap (λ (l : Rows Live). value_at r l) (sym live) ∙ there);
       shut_given = λ r e. subst (λ (j : ℕ). r ≤ j) (sym given) (f.shut_given r e);
-      strays = strays_keep f.shut f.shut s t f.refs f.refs f.home f.home w.tap.course.strays f.tagged ((Some p, dr) ∷ []) stray_dr
-          (tt, tt) f.strays;
+      strays = search (arith, strays_keep, stray_dr);
       last = f.last;
       tops = f.tops;
-      above = subst (λ (j : ℕ). AreAbove j f.last (values (tagged dr))) (sym given)
-          (subst (AreAbove s.given f.last) (sym (values_are dr))
-          (above_more s.given f.last (values f.tagged) (dr ∷ []) (λ m y e. absurd (cc e), tt) f.above));
+      above = grind (arith, values, values_are, above_more);
       class = f.class;
       two = f.two;
       class_seen = f.class_seen;
@@ -247,11 +238,8 @@ module _ (local : Local) (w : Whole) (f : Called local w) (was : w.end.ended ≡
     same_true : (i : ℕ) → (i == i) ≡ true
     same_true i = eq-eqb i i refl
 
-    not_by : (m : ℕ) (b : Bool) → (m == r) ≡ b → m ≤ s.given → b ≡ false
-    not_by m b e up = grind (arith, eqb-true)
-
     home_old : (m : ℕ) → m ≤ s.given → home m ≡ f.home m
-    home_old m up = home_other m (grind (arith, not_by))
+    home_old m up = home_other m (grind arith)
 
     new_answer : (c : Connection) → Asked x c → Answering local f.shut t coming (units_at p (tagged cc_is))
         (w.begun && first_at p (tagged cc_is)) (Some r) c
@@ -311,10 +299,6 @@ module _ (local : Local) (w : Whole) (f : Called local w) (was : w.end.ended ≡
     linked_cc : (m peer : ℕ) (l : Standing) (b : Bool) → (m == r) ≡ b → value_at m t.live ≡ Some (linked peer l) → refs (home m) ≡ Some m
     linked_cc m peer l b e there = search (arith, refs_here, same_true, eqb-true, unlike, home_old, refs_other, old_place)
 
-    stray_place : (m : ℕ) → m ≤ s.given → refs (home m) ≡ Some m → (b : Bool) → (f.home m == p) ≡ b →
-        (f.refs (f.home m) ≡ Some m) × ((f.home m ≡ p) → ⊥)
-    stray_place m up h b e = search (arith, number_is, refs_here, home_old, refs_other, unlike)
-
     pub is_accepted : Called local (record w { end = t; put = w.put ++ cc_is ∷ []; coming = coming })
     is_accepted = record {
       tagged = tagged cc_is;
@@ -331,7 +315,7 @@ module _ (local : Local) (w : Whole) (f : Called local w) (was : w.end.ended ≡
       linked_at = λ lasts m peer l there. linked_cc m peer l (m == r) refl there;
       shut_given = λ m e. subst (λ (j : ℕ). m ≤ j) (sym given) (let up = f.shut_given m e in omega arith);
       strays = strays_keep f.shut f.shut s t f.refs (λ i. refs i) f.home (λ m. home m) w.tap.course.strays f.tagged ((Some p, cc_is) ∷ [])
-          (grind (arith, stray_place, units_at, home_old, at_join, at_other, append-nil)) (tt, tt) f.strays;
+          (grind (arith, units_at, home_old, at_join, at_other, append-nil)) (tt, tt) f.strays;
       last = f.last;
       tops = f.tops;
       above = subst (λ (j : ℕ). AreAbove j f.last (values (tagged cc_is))) (sym given)

@@ -12,7 +12,7 @@ use Rattle.osi_fair.proofs.a_unit_of_an_end_of_class_zero_passes.{selected_passe
 use Rattle.osi_fair.proofs.what_comes_to_an_end_of_class_zero.{selected_comes, selecting_comes}
 use Rattle.osi_fair.proofs.a_called_end_takes_a_unit.{SelectsZero, class_none, selects_zero, takes_so}
 use Rattle.osi_fair.proofs.one_request_waits.{one_waits}
-use Rattle.osi_fair.proofs.a_called_end_is_judged_as_the_other_side_is.{IsNotBlamed, other_judged, own_judged, rubbish_judged}
+use Rattle.osi_fair.proofs.a_called_end_is_judged_as_the_other_side_is.{IsNotBlamed, other_judged, own_judged}
 use Rattle.osi_fair.proofs.a_called_end_makes_a_call.{makes_so}
 use Rattle.osi_fair.proofs.what_becomes_of_a_called_end.{IsCalled}
 use Rattle.osi_fair.proofs.a_dc_for_what_is_gone_passes.{stray_passes}
@@ -216,8 +216,7 @@ next_joined local (passes_other v) w new (ranges, is) j = subst (Joined local) (
   two = still_two (passing Left v) w.tap j.two;
   stage = λ calm.
       let before = calm_was (passing Left v) w calm in comes_stage local w j v ranges before calm (j.stage before);
-  right = λ left.
-      let l = lasts_passing (passing Left v) w.tap in other_judged v w.tap (j.right (l.left left)) left;
+  right = grind (arith, lasts_passing, other_judged);
   fine = λ left.
       let l = lasts_passing (passing Left v) w.tap in other_fine Right v w.tap (j.fine (l.left left));
 })
@@ -228,10 +227,8 @@ next_joined local passes_rubbish w new is j = subst (Joined local) (sym is) (rec
   tap = tap_next local w (rubbish Left) j;
   two = still_two (rubbish Left) w.tap j.two;
   stage = λ calm. by_reach w.tap.course.class_seen w.tap.course calm;
-  right = λ left.
-      let l = lasts_passing (rubbish Left) w.tap in rubbish_judged w.tap (j.right (l.left left)) left;
-  fine = λ left.
-      let l = lasts_passing (rubbish Left) w.tap in rubbish_fine Right Left w.tap (j.fine (l.left left));
+  right = grind (arith, lasts_passing);
+  fine = grind (arith, lasts_passing, rubbish_fine);
 })
 
 pub all_joined : (local : Local) (events : List Event) (w new : Whole) → HappenAlong Right w events new → Joined local w →
@@ -276,15 +273,7 @@ first_joined local = record {
     few = tt;
     untagged = tt;
     timely = λ strays last. record { taps = λ i c at. no_item i c at; answers = tt; firsts = tt; known = tt };
-  }) (record {
-    caller = refl;
-    local_is = refl;
-    class = inl refl;
-    orderly = orderly_fresh false local;
-    none = λ m h. cc h;
-    two = λ m q l h. absurd (cc h);
-    none_given = λ h. refl;
-  })
+  }) (grind (arith, orderly_fresh))
       (record { lost = λ i c at. no_item i c at; used = λ n i k c e at. no_item i c at; known = λ n i k c e at. no_item i c at });
 }
 

@@ -5,13 +5,12 @@ use Rattle.osi_fair.proofs.Vocabulary.{arith, position, slice_get, data0, discon
 use Rattle.osi_fair.proofs.Vocabulary.{is_named, is_stopped, refused, refused_reach, route_in, routed, at_found, at_place}
 use Rattle.osi_fair.proofs.Vocabulary.{course_after_none, if◌then◌else◌, none_told, Outcome, takes, Traffic, Connection, Course, Left}
 use Rattle.osi_fair.proofs.Vocabulary.{Right, Finding, Broke, Kept, NotJudged, rubbish, unit as passing, arrives, begin, calls, Event}
-use Rattle.osi_fair.proofs.Vocabulary.{HappenAlong, Happens, passes_rubbish, Whole, has_broken}
-use Rattle.osi_rules.specs.Traffic.{route}
+use Rattle.osi_fair.proofs.Vocabulary.{HappenAlong, Happens, passes_rubbish, Whole, has_broken, route, begins_other, begins_own}
 use Rattle.osi_rules.specs.declared.findings.Rule.TheVariants as rule
-use Rattle.osi_fair.specs.Wholes.{begins_other, begins_own, passes_other, passes_own}
+use Rattle.osi_fair.specs.Wholes.{passes_other, passes_own}
 use Rattle.osi_fair.proofs.small_facts_that_many_lemmas_use.{differ}
 use Rattle.osi_fair.proofs.a_called_end_is_fair.{Joined, Stage, first_joined, mild, next_joined, passes_stage}
-use Rattle.osi_fair.proofs.a_called_end_is_judged_as_the_other_side_is.{alone_zero, other_kept, rubbish_zero}
+use Rattle.osi_fair.proofs.a_called_end_is_judged_as_the_other_side_is.{alone_zero, other_kept}
 use Rattle.osi_fair.proofs.a_called_end_selects_class_zero.{Selected, selected_begins, selected_calls, selected_takes}
 use Rattle.osi_fair.proofs.a_unit_of_an_end_of_class_zero_passes.{selected_passes}
 use Rattle.osi_fair.proofs.all_are_judged_unless_one_broke.{IsJudged}
@@ -117,8 +116,7 @@ module _ (local : Local) (w : Whole) (j : Joined local w) (a : Alone w) where
       (selected_passes local w j.apart (j.judged firm) right v rest begun put (a firm right was)).1
   own_so v rest put begun false was firm right left =
       let calm = calm_so firm right was in
-      let fine = (passes_stage local w j v rest put begun calm (j.stage calm)).0 in
-      differ w.tap.course.left_stopped (sym (other_kept v w.tap (mild w v fine)) ∙ left) was
+      grind (arith, differ, other_kept, mild, passes_stage local w j v rest put begun calm (j.stage calm))
 
   other_so : (v : Value) (b : Bool) → w.tap.course.left_stopped ≡ b → w.tap.course.loose ≡ false → w.tap.course.right_stopped ≡ false →
       (takes Left v w.tap).state.course.right_stopped ≡ false → (takes Left v w.tap).state.course.left_stopped ≡ true →
@@ -133,7 +131,7 @@ module _ (local : Local) (w : Whole) (j : Joined local w) (a : Alone w) where
       Selected (record w { tap = refused Left w.tap })
   rubbish_then true was firm right still left = rubbish_so w (a firm right was)
   rubbish_then false was firm right still left =
-      rubbish_so w (by_seen_class local w (rubbish_zero w.tap was left still) (j.stage (calm_so firm right was)))
+      rubbish_so w (by_seen_class local w (grind (arith, differ)) (j.stage (calm_so firm right was)))
 
   -- a unit of the end is right
   own_kept : (v : Value) (rest : List Value) → w.put ≡ v ∷ rest → w.begun ≡ true → (b : Bool) → w.tap.course.left_stopped ≡ b →

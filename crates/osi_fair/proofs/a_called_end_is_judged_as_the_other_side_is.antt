@@ -1,7 +1,7 @@
 -- As long as the other side is judged, a called end is: what is right stops nothing, and what stops the end stops both sides.
 -- For the law on a whole called end.
-use Rattle.osi_fair.proofs.Vocabulary.{arith, false, refl, Some, true, Zero, ◌≡◌, ◌⊎◌, Value, stops_are_said, refused, Traffic as State}
-use Rattle.osi_fair.proofs.Vocabulary.{takes, Left, Right, Finding, Kept, NotJudged, Reach}
+use Rattle.osi_fair.proofs.Vocabulary.{arith, false, refl, Some, true, Zero, ◌≡◌, ◌⊎◌, Value, stops_are_said, Traffic as State, takes, Left}
+use Rattle.osi_fair.proofs.Vocabulary.{Right, Finding, Kept, NotJudged, Reach}
 use Rattle.osi_rules.specs.declared.findings.Reach.TheVariants as reach
 use Rattle.osi_fair.proofs.small_facts_that_many_lemmas_use.{differ}
 use Rattle.osi_fair.proofs.the_end_is_judged_as_the_other_side_is.{side_zero}
@@ -33,10 +33,6 @@ pub alone_zero : (v : Value) (s : State) → s.course.left_stopped ≡ false →
     (takes Left v s).state.course.right_stopped ≡ false → s.course.class_seen ≡ Some Zero
 alone_zero v s was left right = alone_by (takes Left v s).told.reach v s refl was left right
 
-pub rubbish_zero : (s : State) → s.course.left_stopped ≡ false → (refused Left s).course.left_stopped ≡ true →
-    (refused Left s).course.right_stopped ≡ false → s.course.class_seen ≡ Some Zero
-rubbish_zero s was left right = grind (arith, differ)
-
 other_by : (r : Reach) (v : Value) (s : State) → (takes Left v s).told.reach ≡ r → s.course.right_stopped ≡ false →
     (takes Left v s).state.course.left_stopped ≡ false → (takes Left v s).state.course.right_stopped ≡ false
 other_by reach.Everything v s e right left = grind (arith, differ, stops_are_said)
@@ -45,7 +41,3 @@ other_by _ v s e right left = grind (arith, stops_are_said)
 pub other_judged : (v : Value) (s : State) → s.course.right_stopped ≡ false → (takes Left v s).state.course.left_stopped ≡ false →
     (takes Left v s).state.course.right_stopped ≡ false
 other_judged v s right left = other_by (takes Left v s).told.reach v s refl right left
-
-pub rubbish_judged : (s : State) → s.course.right_stopped ≡ false → (refused Left s).course.left_stopped ≡ false →
-    (refused Left s).course.right_stopped ≡ false
-rubbish_judged s right left = grind arith

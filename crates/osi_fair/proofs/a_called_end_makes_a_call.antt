@@ -3,12 +3,11 @@
 use Rattle.osi_fair.proofs.Vocabulary.{[], ap, arith, Bool, false, if◌then◌else◌, is_some, length, List, None, Option, refl, Some, subst}
 use Rattle.osi_fair.proofs.Vocabulary.{sym, true, ℕ, ◌++◌, ◌∙◌, ◌∷◌, ◌≡◌, ◌≤◌, eqb-true, append-nil, AllByRecursion, ◌==◌, Value, all_given}
 use Rattle.osi_fair.proofs.Vocabulary.{longest_tsdu, Standing, with_tsdu, Class, Two, Local, orderly_closed, orderly_ended, orderly_sent}
-use Rattle.osi_fair.proofs.Vocabulary.{orderly_sent_all, put_other, put_here, closed_on, closed_with, closes_in, ended_by, link_of}
-use Rattle.osi_fair.proofs.Vocabulary.{open_link, sent, sent_all, IsOrderly, pumped, value_at, breaks, closes_call, connects, sends}
-use Rattle.osi_fair.proofs.Vocabulary.{sends_all, user_does, UserCall, asked, closing, Live, ends as ends_as, linked, EndReason, Follows}
-use Rattle.osi_fair.proofs.Vocabulary.{link_now, put_by, put_closed, put_closing, put_sent, put_together, MayCall, Whole}
+use Rattle.osi_fair.proofs.Vocabulary.{orderly_sent_all, put_other, put_here, closed_with, closes_in, ended_by, open_link, sent, sent_all}
+use Rattle.osi_fair.proofs.Vocabulary.{IsOrderly, pumped, value_at, breaks, closes_call, connects, sends, sends_all, user_does, UserCall}
+use Rattle.osi_fair.proofs.Vocabulary.{asked, closing, Live, ends as ends_as, linked, EndReason, Follows, link_now, put_by, put_closed}
+use Rattle.osi_fair.proofs.Vocabulary.{put_closing, put_sent, put_together, MayCall, Whole, State}
 use Rattle.osi_carrier.specs.Calls.{sent_on}
-use Rattle.osi_carrier.specs.State.{State}
 use Rattle.osi_fair.proofs.small_facts_that_many_lemmas_use.{none_of}
 use Rattle.osi_fair.proofs.what_becomes_of_a_called_end.{IsCalled, Same, called_still, units_no_cc}
 use Rattle.osi_fair.proofs.a_carrier_follows_lines.{follows_closed, follows_sent}
@@ -38,9 +37,6 @@ same_peer q p l k e = cc
 pub open_of : (r peer : ℕ) (link : Standing) (s : State) → s.ended ≡ None → value_at r s.live ≡ Some (linked peer link) →
     open_link r s ≡ Some (peer, link)
 open_of r peer link s lasts h = grind arith
-
-pub row_of : (o : Option Live) (peer : ℕ) (link : Standing) → link_of o ≡ Some (peer, link) → o ≡ Some (linked peer link)
-row_of o peer link e = grind arith
 
 open_is : (r peer : ℕ) (link : Standing) (s : State) → open_link r s ≡ Some (peer, link) →
     (s.ended ≡ None) × (value_at r s.live ≡ Some (linked peer link))
@@ -104,10 +100,6 @@ module _ (local : Local) (w : Whole) (f : Called local w) (c : IsCalled local w.
   abbrev Made : State → List Value → Type 0
   Made t units = Called local (After t units) × IsCalled local t
 
-  none_asked : (t : State) (r peer : ℕ) (l : Standing) → ((m : ℕ) → (m ≡ r → ⊥) → value_at m t.live ≡ value_at m s.live) →
-      value_at r t.live ≡ Some (linked peer l) → (m : ℕ) (b : Bool) → (m == r) ≡ b → value_at m t.live ≡ Some asked → ⊥
-  none_asked t r peer l rows here m b e there = grind (arith, not_asked, eqb-true, unlike)
-
   row_lives : (t : State) (r : ℕ) → ((m : ℕ) → (m ≡ r → ⊥) → value_at m t.live ≡ value_at m s.live) → IsLive t r → (m : ℕ) (b : Bool) →
       (m == r) ≡ b → IsLive s m → IsLive t m
   row_lives t r rows live m b e k = grind (arith, eqb-true, unlike)
@@ -124,8 +116,7 @@ module _ (local : Local) (w : Whole) (f : Called local w) (c : IsCalled local w.
         (λ q k row. subst (λ (i : ℕ). Leaves r i t) (same_peer peer q link k (sym here ∙ row)) (still l there))
         f.come f.few f.untagged none (λ strays last. timely_calls s t w.coming w.tap.connections (values f.tagged) (given_same same.given)
         (λ m k. row_lives t r rows (ap is_some there) m (m == r) refl k) (f.timely strays was)),
-    called_still local s t same orderly (λ m h. none_asked t r peer l rows there m (m == r) refl h)
-        (λ m q k h. c.two r peer link here) c,
+    grind (arith, called_still),
   )
 
   sends_by : (r : ℕ) (tsdu : List ℕ) (o : Option (ℕ × Standing)) → open_link r s ≡ o → length tsdu ≤ longest_tsdu →
@@ -149,10 +140,6 @@ module _ (local : Local) (w : Whole) (f : Called local w) (c : IsCalled local w.
       (same_all r tsdus s) (orderly_sent_all r tsdus s c.orderly)
       (λ q k row. follows_together r q tsdus s k (open_of r q k s was row) short) there (together_no_cc r tsdus s)
 
-  closing_asked : (t : State) (r peer : ℕ) → ((m : ℕ) → (m ≡ r → ⊥) → value_at m t.live ≡ value_at m s.live) →
-      value_at r t.live ≡ Some (closing peer) → (m : ℕ) (b : Bool) → (m == r) ≡ b → value_at m t.live ≡ Some asked → ⊥
-  closing_asked t r peer rows here m b e there = grind (arith, not_closing, eqb-true, unlike)
-
   closes_by : (r reason : ℕ) (o : Option (ℕ × Standing)) → open_link r s ≡ o →
       Made (closed_with r reason s) (put_closing r reason (open_link r s) s.class)
   closes_by r reason None e = grind (arith, append-nil)
@@ -160,35 +147,18 @@ module _ (local : Local) (w : Whole) (f : Called local w) (c : IsCalled local w.
       let t = closed_with r reason s in
       let (was, here) = open_is r peer link s e in
       let two = c.two r peer link here in
-      let is : t ≡ closes_in r peer reason (Some Two) s = ap (λ (o : Option (ℕ × Standing)). closed_on r reason o s) e
-      ∙ ap (λ (k : Option Class). closes_in r peer reason k s) two in
-      let rows : (m : ℕ) → (m ≡ r → ⊥) → value_at m t.live ≡ value_at m s.live = λ m other.
-      ap (λ (x : State). value_at m x.live) is ∙ put_other m r (closing peer) s.live other in
-      let there : value_at r t.live ≡ Some (closing peer) = ap (λ (x : State). value_at r x.live) is
-      ∙ put_here r (closing peer) (linked peer link) s.live here in
-      let same : Same s t = subst (λ (x : State). Same s x) (sym is) (record {
-        caller = refl;
-        local_is = refl;
-        class = refl;
-        given =
-            refl;
-      }) in
+      let is : t ≡ closes_in r peer reason (Some Two) s = grind arith in
+      let rows : (m : ℕ) → (m ≡ r → ⊥) → value_at m t.live ≡ value_at m s.live = grind (arith, put_other) in
+      let there : value_at r t.live ≡ Some (closing peer) = grind (arith, put_here) in
+      let same : Same s t = grind arith in
       let units = put_closing r reason (open_link r s) s.class in (
         line_steps local w f t units w.coming f.came r peer link here was rows same.given (λ m other. refl) (λ p. refl)
-            (λ q k row come among. record {
-              taken = [];
-              later = come;
-              is = refl;
-              among = among;
-              follows = follows_closed r q reason s k (open_of r q k s was row) two;
-            })
+            (grind (arith, follows_closed, open_of))
             (λ q k row. shuts (ap link_now there)) f.come f.few f.untagged
-            (subst (AllByRecursion IsNoCc) (sym (ap (λ (o : Option (ℕ × Standing)). put_closing r reason o s.class) e))
-            (closed_no_cc r reason peer s.class two))
+            (grind (arith, closed_no_cc))
             (λ strays last. timely_calls s t w.coming w.tap.connections (values f.tagged) (given_same same.given)
             (λ m k. row_lives t r rows (ap is_some there) m (m == r) refl k) (f.timely strays was)),
-        called_still local s t same (orderly_closed r reason s c.orderly) (λ m h. closing_asked t r peer rows there m (m == r) refl h)
-            (λ m q k h. two) c,
+        grind (arith, called_still, orderly_closed r reason s c.orderly),
       )
 
   breaks_by : (reason : EndReason) (b : Bool) → is_some s.ended ≡ b → Made (ended_by reason s) []
@@ -199,9 +169,7 @@ module _ (local : Local) (w : Whole) (f : Called local w) (c : IsCalled local w.
         subst (λ (x : State). Called local (After x [])) (sym is)
             (subst (λ (l : List Value). Called local (record w { end = t; put = l })) (sym (append-nil w.put))
             (is_over local w f t w.coming f.came refl refl (λ p h. h) f.come f.few f.untagged)),
-        subst (λ (x : State). IsCalled local x) (sym is)
-            (called_still local s t (record { caller = refl; local_is = refl; class = refl; given = refl })
-            (subst IsOrderly is (orderly_ended reason s c.orderly)) (λ m h. absurd (cc h)) (λ m q l h. absurd (cc h)) c),
+        grind (arith, called_still, orderly_ended),
       )
 
   pub makes_so : (call : UserCall) → MayCall call s → Made (user_does call s) (put_by call s)

@@ -1,10 +1,9 @@
 -- A whole called end selects class 0: what holds until its CC has passed and after that, as the end goes on and packets begin.
 -- For the law on a whole called end.
-use Rattle.std.proofs.Common.{arith}
 use Rattle.osi_fair.proofs.Vocabulary.{[], ap, Bool, IfSome, List, map, None, Option, refl, Some, subst, suc, sym, true, zero, ℕ, ◌++◌, ◌+◌}
 use Rattle.osi_fair.proofs.Vocabulary.{◌-◌, ◌∙◌, ◌∷◌, ◌≡◌, ◌≤◌, ◌⊎◌, slice_get, confirm, Connect, Value, accept, selected_by, Zero, Local}
 use Rattle.osi_fair.proofs.Vocabulary.{acceptance, unit_octets, react, user_does, UserCall, begins, is_open, is_refused, packet_begins}
-use Rattle.osi_fair.proofs.Vocabulary.{Connection, Direction, Half, put_by, put_for, MayCall, Whole}
+use Rattle.osi_fair.proofs.Vocabulary.{Connection, Direction, Half, put_by, put_for, MayCall, Whole, arith}
 use Rattle.osi_fair.proofs.small_facts_that_many_lemmas_use.{begun_left, begun_right, course_class, item_is}
 use Rattle.osi_fair.proofs.each_connection_of_a_called_end.{Asked}
 use Rattle.osi_fair.proofs.what_an_end_does_in_class_zero.{IsInZero, zero_calls, zero_takes}
@@ -100,17 +99,11 @@ selected_calls w call may f = search (arith, zero_calls f.limit w.end f.c.right.
 
 -- ---- a packet begins
 
-begun_size : (d : Direction) (c : Connection) → (begins d c).size ≡ c.size
-begun_size d c = grind arith
-
 mapped : (d : Direction) (cs : List Connection) (p : ℕ) (c : Connection) → slice_get cs p ≡ Some c →
     slice_get (map (begins d) cs) p ≡ Some (begins d c)
 mapped d [] p c h = absurd (cc)
 mapped d (x ∷ cs) zero c h = ap (λ (e : Connection). Some (begins d e)) (item_is x c (Some x) refl h)
 mapped d (x ∷ cs) (suc p) c h = mapped d cs p c h
-
-asked_begins : (d : Direction) (x : Connect) (c : Connection) → Asked x c → Asked x (begins d c)
-asked_begins d x c a = grind arith
 
 pub selecting_begins : (local : Local) (d : Direction) (w : Whole) (b : Bool) →
     ((c : Connection) → (w.begun ≡ true → c.seen_by_right ≡ c.left) →
@@ -123,19 +116,15 @@ selecting_begins local d w b seen f = record {
   p = f.p;
   c = begins d f.c;
   at = mapped d w.tap.connections f.p f.c f.at;
-  asked = asked_begins d f.x f.c f.asked;
+  asked = grind arith;
   selected = f.selected;
   more = f.more;
   put = f.put;
   seen = seen f.c f.seen;
   class = course_class d w.tap ∙ f.class;
   class_seen = grind arith;
-  unused = λ i e at same.
-      let (x, was, is) = after_map (begins d) w.tap.connections i e at in
-      f.unused i x was (ap (λ (h : Half). h.reference) (sym (ap (λ (y : Connection). y.right) is ∙ begun_right d x)) ∙ same);
-  others = λ i e at other.
-      let (x, was, is) = after_map (begins d) w.tap.connections i e at in
-      ap (λ (h : Half). is_refused h.phase) (ap (λ (y : Connection). y.right) is ∙ begun_right d x) ∙ f.others i x was other;
+  unused = grind (arith, after_map, begun_right);
+  others = search (arith, after_map, begun_right);
   end = f.end;
 }
 
@@ -149,9 +138,7 @@ selected_begins d w b f = record {
   there = ap (λ (h : Half). is_there h.phase) (begun_left d f.c) ∙ f.there;
   class = course_class d w.tap ∙ f.class;
   class_seen = grind arith;
-  fits = subst (λ (o : Option ℕ). IfSome o (λ most. f.limit + 3 ≤ most)) (sym (begun_size d f.c)) f.fits;
-  others = λ i e at other.
-      let (x, was, is) = after_map (begins d) w.tap.connections i e at in
-      ap (λ (h : Half). is_refused h.phase) (ap (λ (y : Connection). y.right) is ∙ begun_right d x) ∙ f.others i x was other;
+  fits = subst (λ (o : Option ℕ). IfSome o (λ most. f.limit + 3 ≤ most)) (sym (grind arith)) f.fits;
+  others = grind (arith, after_map, begun_right);
   end = subst (λ (h : Half). IsInZero f.limit w.end h.begun w.put) (sym (begun_right d f.c)) f.end;
 }

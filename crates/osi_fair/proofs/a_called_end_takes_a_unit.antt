@@ -1,18 +1,16 @@
 -- A whole called end takes a unit: a CR, a unit for an open connection or for one that is not open, or one for which it ends.
 -- For the law on a whole called end.
-use Rattle.osi_fair.proofs.Vocabulary.{[], ap, arith, Bool, false, if◌then◌else◌, inl, inr, is_some, List, None, Option, refl, Some}
-use Rattle.osi_fair.proofs.Vocabulary.{subst, sym, true, ℕ, ◌++◌, ◌+◌, ◌-◌, ◌<◌, ◌∙◌, ◌∷◌, ◌≡◌, ◌≤◌, ◌⊎◌, eq-eqb, eqb-true, ltb-false}
-use Rattle.osi_fair.proofs.Vocabulary.{ltb-true, append-nil, AllByRecursion, IsSome, slice_get, ◌&&◌, ◌==◌, ◌||◌, acknowledge, confirm}
-use Rattle.osi_fair.proofs.Vocabulary.{Connect, data0, data2, destination_of, disconnect, disconnected, error, request, Value, Standing}
-use Rattle.osi_fair.proofs.Vocabulary.{accept, refuse, selected_by, Selection, Class, Two, Zero, Local, orderly_unit, push_other, beyond}
-use Rattle.osi_fair.proofs.Vocabulary.{push_here, without_here, acceptance, opened_link, unit_octets, AreUpTo, IsOrderly, RiseFrom, accepts}
+use Rattle.osi_fair.proofs.Vocabulary.{[], ap, arith, Bool, false, if◌then◌else◌, inl, inr, is_some, List, None, Option, refl, Some, subst}
+use Rattle.osi_fair.proofs.Vocabulary.{sym, true, ℕ, ◌++◌, ◌+◌, ◌-◌, ◌<◌, ◌∙◌, ◌∷◌, ◌≡◌, ◌≤◌, ◌⊎◌, eq-eqb, eqb-true, ltb-false, ltb-true}
+use Rattle.osi_fair.proofs.Vocabulary.{append-nil, AllByRecursion, IsSome, slice_get, ◌&&◌, ◌==◌, ◌||◌, acknowledge, confirm, Connect}
+use Rattle.osi_fair.proofs.Vocabulary.{data0, data2, destination_of, disconnect, disconnected, error, request, Value, Standing, accept}
+use Rattle.osi_fair.proofs.Vocabulary.{refuse, selected_by, Selection, Class, Two, Zero, Local, orderly_unit, push_other, beyond, push_here}
+use Rattle.osi_fair.proofs.Vocabulary.{without_here, acceptance, opened_link, unit_octets, AreUpTo, IsOrderly, RiseFrom, accepts}
 use Rattle.osi_fair.proofs.Vocabulary.{answers_by, answers_request, before_class, denies, has_peer, in_class, in_two, is_full, react_by}
 use Rattle.osi_fair.proofs.Vocabulary.{to_closing, to_connection, to_unknown, Rows, value_at, asked, closing, Live, fails, linked}
-use Rattle.osi_fair.proofs.Vocabulary.{UnexpectedUnit, EndReason, is_live, is_refused, Connection, Left}
-use Rattle.osi_fair.proofs.Vocabulary.{HoldsOfOne, put_at, put_before, put_for, put_for_request, put_for_selection, put_in}
-use Rattle.osi_fair.proofs.Vocabulary.{put_in_two, refusal, Whole}
+use Rattle.osi_fair.proofs.Vocabulary.{UnexpectedUnit, EndReason, is_live, is_refused, Connection, Left, HoldsOfOne, put_at, put_before}
+use Rattle.osi_fair.proofs.Vocabulary.{put_for, put_for_request, put_for_selection, put_in, refusal, Whole, State}
 unfoldable use Rattle.osi_carrier.specs.React.{react}
-use Rattle.osi_carrier.specs.State.{State}
 use Rattle.osi_fair.proofs.small_facts_that_many_lemmas_use.{and_false, differ, first_is, number_is, or_first, or_last}
 use Rattle.osi_fair.proofs.a_called_end_answers_a_cr.{Place, is_accepted, is_refused as refuses_it, place}
 use Rattle.osi_fair.proofs.a_called_end_selects_class_zero.{Selecting}
@@ -212,24 +210,14 @@ module _ (local : Local) (w : Whole) (f : Called local w) (c : IsCalled local w.
   request_so : (was : s.ended ≡ None) (x : Connect) (a b : Bool) → u ≡ request x → has_peer x.source s.live ≡ a → is_full s ≡ b →
       t ≡ answers_request x s → put_for u s ≡ put_for_request x s → Taken ⊎ SelectsZero
   request_so was x true b e has full is puts = inl (denies_so was x 131 e
-      (is ∙ ap (λ (h : Bool). if h then denies 131 x.source s else (if is_full s then denies 1 x.source s else answers_by x
-      (selected_by x s.local) s.class s)) has)
-      (puts ∙ ap (λ (h : Bool). if h then refusal 131 x.source else (if is_full s then refusal 1 x.source
-      else put_for_selection x (selected_by x s.local) s.class s)) has))
+      (grind arith)
+      (grind arith))
   request_so was x false true e has full is puts = inl (denies_so was x 1 e
-      (is ∙ ap (λ (h : Bool). if h then denies 131 x.source s else (if is_full s then denies 1 x.source s else answers_by x
-      (selected_by x s.local) s.class s)) has
-      ∙ ap (λ (h : Bool). if h then denies 1 x.source s else answers_by x (selected_by x s.local) s.class s) full)
-      (puts ∙ ap (λ (h : Bool). if h then refusal 131 x.source else (if is_full s then refusal 1 x.source
-      else put_for_selection x (selected_by x s.local) s.class s)) has
-      ∙ ap (λ (h : Bool). if h then refusal 1 x.source else put_for_selection x (selected_by x s.local) s.class s) full))
+      (grind arith)
+      (grind arith))
   request_so was x false false e has full is puts = selects_so was x (selected_by x s.local) e refl
-      (is ∙ ap (λ (h : Bool). if h then denies 131 x.source s else (if is_full s then denies 1 x.source s else answers_by x
-      (selected_by x s.local) s.class s)) has
-      ∙ ap (λ (h : Bool). if h then denies 1 x.source s else answers_by x (selected_by x s.local) s.class s) full)
-      (puts ∙ ap (λ (h : Bool). if h then refusal 131 x.source else (if is_full s then refusal 1 x.source
-      else put_for_selection x (selected_by x s.local) s.class s)) has
-      ∙ ap (λ (h : Bool). if h then refusal 1 x.source else put_for_selection x (selected_by x s.local) s.class s) full)
+      (grind arith)
+      (grind arith)
 
   -- ---- a unit for a connection
 
@@ -251,11 +239,8 @@ module _ (local : Local) (w : Whole) (f : Called local w) (c : IsCalled local w.
     asked_by_place q None e h = no_list u (units_at q head.later) (units_at q f.came) h (f.beyond q e).1
     asked_by_place q (Some x) e h = asked_one q x h (f.stands q x e)
 
-    asks_by : (p : ℕ) (o : Option ℕ) → f.came ≡ (o, u) ∷ head.later → units_at p head.later ≡ units_at p f.came
-    asks_by p o is = grind (arith, asked_by_place, at_first, head)
-
     asks_same : (p : ℕ) → units_at p head.later ≡ units_at p f.came
-    asks_same p = asks_by p head.o head.is
+    asks_same p = grind (arith, asked_by_place, at_first, head)
 
     to_n : t ≡ to_connection n (value_at n s.live) u s
     to_n = react_is u s n two was dest
@@ -392,16 +377,12 @@ module _ (local : Local) (w : Whole) (f : Called local w) (c : IsCalled local w.
   two_by : (was : s.ended ≡ None) → s.class ≡ Some Two → (v : Value) → u ≡ v → Taken ⊎ SelectsZero
   two_by was two (request x) e =
       request_so was x (has_peer x.source s.live) (is_full s) e refl refl
-      (on was ∙ ap (λ (k : Option Class). in_class k u s) two ∙ ap (λ (b : Bool). in_two b u s) c.caller ∙ ap (λ (x : Value). in_two false
-      x s) e)
-      (puts_on was ∙ ap (λ (k : Option Class). put_in k u s) two ∙ ap (λ (b : Bool). put_in_two b u s) c.caller
-      ∙ ap (λ (x : Value). put_in_two false x s) e)
+      (grind (arith, on))
+      (grind (arith, puts_on))
   two_by was two (data0 end user) e =
       inl (wrong_so was (data0 end user) e (in_two false (data0 end user) s)
-      (on was ∙ ap (λ (k : Option Class). in_class k u s) two ∙ ap (λ (b : Bool). in_two b u s) c.caller ∙ ap (λ (x : Value). in_two false
-      x s) e)
-      (puts_on was ∙ ap (λ (k : Option Class). put_in k u s) two ∙ ap (λ (b : Bool). put_in_two b u s) c.caller
-      ∙ ap (λ (x : Value). put_in_two false x s) e) refl)
+      (grind (arith, on))
+      (grind (arith, puts_on)) refl)
   two_by was two (confirm destination x) e = inl (by_row was two destination (ap destination_of e) (value_at destination s.live) refl)
   two_by was two (disconnect destination source reason user) e = inl (by_row was two destination (ap destination_of e)
       (value_at destination s.live) refl)
@@ -429,7 +410,6 @@ module _ (local : Local) (w : Whole) (f : Called local w) (c : IsCalled local w.
       (judged : HoldsOfEach IsJudged w.tap.connections) where
     no_ref : {A : Type 0} (i r : ℕ) → f.refs i ≡ Some r → A
     no_ref i r e =
-        let zero = c.none_given z.none in
         let low = f.positive i r e in
         let up = (f.homes i r e).1 in
         absurd (omega arith)
@@ -504,10 +484,7 @@ module _ (local : Local) (w : Whole) (f : Called local w) (c : IsCalled local w.
         seen = λ b. absurd (f.some b none_put);
         class = class_none z;
         class_seen = seen_none;
-        unused = λ i e at same.
-            let top = f.tops i e at in
-            let up = above_up s.given f.last (values f.tagged) f.above in
-            absurd (omega arith);
+        unused = grind (arith, above_up, values);
         others = λ i e at other. other_one i e at other (f.stands i e at);
         end = subst (λ (x : State). IsInZero (unit_octets z.size - 3) x 0 []) (sym z.end_is) zero_end;
       }

@@ -5,17 +5,16 @@ use Rattle.osi_fair.proofs.Vocabulary.{Some, subst, sym, true, ℕ, ◌++◌, �
 use Rattle.osi_fair.proofs.Vocabulary.{slice_get-map, min, not, position, slice_get, ◌&&◌, ◌==◌, ◌||◌, size_code, confirm, Connect, data0}
 use Rattle.osi_fair.proofs.Vocabulary.{disconnected, error, IsConnect, request, Value, longest_tsdu, Class, Two, Zero, Local, agreed_size}
 use Rattle.osi_fair.proofs.Vocabulary.{opened_link, unit_octets, opens, react, to_connection, put, Rows, value_at, user_does, UserCall}
-use Rattle.osi_fair.proofs.Vocabulary.{asked, Live, linked, is_applied, reach_of, reach_past, begins, is_closed, is_closing, is_live}
-use Rattle.osi_fair.proofs.Vocabulary.{is_named, is_open, is_over, is_refused, is_silent, at_found, at_place, class_for, connection_after}
-use Rattle.osi_fair.proofs.Vocabulary.{course_after, course_after_none, found_on, is_stopped, judged_on, none_told, one_told, Outcome}
-use Rattle.osi_fair.proofs.Vocabulary.{packet_begins, reached, refused, refused_reach, route_in, route_zero, routed, sent_on, Traffic}
-use Rattle.osi_fair.proofs.Vocabulary.{takes, Connection, Offer, Course, Left, Right, Finding, Broke, Kept, NotJudged, Reach, Half, Phase}
-use Rattle.osi_fair.proofs.Vocabulary.{rubbish, unit as passing, put_at, put_by, put_for, MayCall, has_broken}
-use Rattle.osi_carrier.specs.State.{State}
+use Rattle.osi_fair.proofs.Vocabulary.{asked, Live, linked, is_applied, reach_of, begins, is_closed, is_closing, is_live, is_named, is_open}
+use Rattle.osi_fair.proofs.Vocabulary.{is_over, is_refused, at_found, at_place, class_for, connection_after, course_after}
+use Rattle.osi_fair.proofs.Vocabulary.{course_after_none, found_on, is_stopped, none_told, one_told, Outcome, packet_begins, reached}
+use Rattle.osi_fair.proofs.Vocabulary.{refused, refused_reach, route_in, route_zero, routed, sent_on, Traffic, takes, Connection, Offer}
+use Rattle.osi_fair.proofs.Vocabulary.{Course, Left, Right, Finding, Broke, Kept, NotJudged, Reach, Half, Phase, rubbish, unit as passing}
+use Rattle.osi_fair.proofs.Vocabulary.{put_at, put_by, put_for, MayCall, has_broken, State}
 use Rattle.osi_rules.specs.declared.findings.Reach.TheVariants as reach
 use Rattle.osi_rules.specs.declared.findings.Rule.TheVariants as rule
-use Rattle.osi_fair.proofs.small_facts_that_many_lemmas_use.{differ, item_is, live_not_over, no_two}
-use Rattle.osi_fair.proofs.a_dt_of_class_zero_passes.{begun_so, dt_conns, dt_course, dt_kept, only_first, unlike}
+use Rattle.osi_fair.proofs.small_facts_that_many_lemmas_use.{differ, item_is, live_not_over, no_two, both, or_first}
+use Rattle.osi_fair.proofs.a_dt_of_class_zero_passes.{begun_so, dt_conns, dt_course, dt_kept, only_first}
 use Rattle.osi_fair.proofs.a_refused_request_waits_no_more.{refused_over}
 use Rattle.osi_fair.proofs.class_0_stays_selected.{zero_stays}
 use Rattle.osi_fair.proofs.how_a_calling_end_asks.{IsCalling, Puts, one, puts}
@@ -23,7 +22,7 @@ use Rattle.osi_fair.proofs.what_a_link_does.{begun_by}
 use Rattle.osi_fair.proofs.what_an_end_does_in_class_zero.{IsInZero, over, talks, zero_calls, zero_next, zero_puts, zero_takes}
 use Rattle.osi_fair.proofs.what_an_end_puts_in_class_zero.{PutsData}
 use Rattle.osi_fair.proofs.what_holds_of_one_item.{after_map, first_true}
-use Rattle.osi_fair.proofs.while_no_class_is_selected.{IsDone, Waits, after_change, confirmed_tap, over_done, set_there}
+use Rattle.osi_fair.proofs.while_no_class_is_selected.{IsDone, Waits, after_change, confirmed_tap, set_there}
 
 -- ---- what holds
 
@@ -89,8 +88,7 @@ fits_agreed (Some code) local h =
     let n = size_code local.size in
     let up : 7 ≤ min code n = grind arith in
     let low : 2 ^ 7 ≤ 2 ^ (min code n) = pow-le-pow_right {n = 2} (omega arith) up in
-    let high : 2 ^ (min code n) ≤ 2 ^ code = pow-le-pow_right {n = 2} (omega arith) (grind arith) in
-    omega arith
+    grind (arith, pow-le-pow_right)
 
 other_one : {A : Type 0} (cs : List Connection) (p i : ℕ) (new e : Connection) →
     ((i ≡ p) × (e ≡ new)) ⊎ ((i ≡ p → ⊥) × (slice_get cs i ≡ Some e)) → (i ≡ p → ⊥) → (slice_get cs i ≡ Some e → A) → A
@@ -151,8 +149,7 @@ module _ (end : State) (units : List Value) (begun : Bool) (s : Traffic) (f : Is
           let (y, was, is) = after_map (begins Left) s.connections i e at in subst IsDone (sym is) (f.tap.others i y was other);
       gone = λ h i e at other.
           let (y, was, is) = after_map (begins Left) s.connections i e at in
-          let (j, refused) = f.tap.others i y was other in
-          subst (λ (z : Connection). is_over Left z ≡ true) (sym is) (refused_over y j refused);
+          grind (arith, refused_over);
     };
     goes = f.goes;
   }
@@ -266,10 +263,6 @@ record Still (c n : Connection) : Type 0 where
   size : n.size ≡ c.size
   there : is_refused n.right.phase ≡ false
 
--- in class 0 no connection loses its judgement
-past_side : (b : Bool) (c : Connection) → judged_on (reach_past b reach.Side) c ≡ c
-past_side b c = grind arith
-
 still_after : (v : Value) → IsOnly v → (applied : Bool) (k : Option Class) (f : Finding) (c : Connection) → k ≡ Some Zero →
     is_refused c.right.phase ≡ false → Still c (connection_after Right v applied (reach_of k f) c)
 still_after v plain applied k f c e h = search arith
@@ -346,8 +339,7 @@ module _ (end : State) (units : List Value) (begun : Bool) (s : Traffic) (f : Is
         unseen = ap (λ (h : Half). is_refused h.phase) still.seen ∙ z.unseen;
         fits = subst (λ (o : Option ℕ). IfSome o (λ most. z.limit + 3 ≤ most)) (sym still.size) z.fits;
         class = class;
-        class_seen = λ h.
-            reached_seen far (course_after Right z.c v applied s.course) ∙ after_seen v only z.c applied s.course ∙ z.class_seen h;
+        class_seen = grind (arith, reached_seen, after_seen, only);
         others = λ i e at other. apart_of i e at other (λ there. z.others i e there other);
         gone = λ h i e at other. apart_of i e at other (λ there. z.gone h i e there other);
       };
@@ -362,23 +354,18 @@ module _ (end : State) (units : List Value) (begun : Bool) (s : Traffic) (f : Is
         let is : e ≡ z.c = item_is e z.c (slice_get s.connections q) at (ap (λ (i : ℕ). slice_get s.connections i) same ∙ z.at) in
         subst (λ (i : ℕ). After v (one_told Right i e v s)) (sym same)
         (subst (λ (y : Connection). After v (one_told Right z.p y v s)) (sym is) to_it)
-    to_one_by q e false h at lives = absurd (lives (over_done e (z.others q e at (unlike q z.p h))))
+    to_one_by q e false h at lives = absurd (lives (grind (arith, both, or_first)))
 
     at_item : (q : ℕ) (o : Option Connection) → slice_get s.connections q ≡ o →
         ((e : Connection) → slice_get s.connections q ≡ Some e → is_over Right e ≡ true → ⊥) → After v (at_found Right v s q o)
     at_item q None e lives = search (arith, same_conns, reached_seen, none_same, only)
     at_item q (Some y) e lives = to_one_by q y (q == z.p) refl e (lives y e)
 
-    named_live : (over rest : Bool) → (not over && rest) ≡ true → over ≡ true → ⊥
-    named_live true rest h k = cc
-    named_live false rest h k = cc
-
     at_name : (n : ℕ) (o : Option ℕ) → position (is_named Right n) s.connections ≡ o → After v (at_place Right v s o)
     at_name n None e = search (arith, same_conns, reached_seen, none_same, only)
     at_name n (Some q) e =
         at_item q (slice_get s.connections q) refl
-        (λ y at gone. named_live (is_over Right y) (not (is_silent y.seen_by_right.phase) && (y.seen_by_right.reference == n))
-        (first_true (is_named Right n) s.connections q y e at) gone)
+        (λ y at gone. grind (arith, first_true))
 
     at_live : (o : Option ℕ) → position (is_live Right) s.connections ≡ o → After v (at_place Right v s o)
     at_live None e = search (arith, same_conns, reached_seen, none_same, only)

@@ -1,14 +1,13 @@
 -- A whole calling end is fair as long as the other side is judged, whatever classes it offers: by its stages.
 -- For the law of that name.
-use Rattle.std.proofs.Common.{arith}
 use Rattle.osi_fair.proofs.Vocabulary.{[], Zero, false, inl, List, Some, subst, sym, true, ◌∙◌, ◌∷◌, ◌≡◌, ◌⊎◌, request, Value, Two, Local}
 use Rattle.osi_fair.proofs.Vocabulary.{is_stopped, takes, Course, Left, Right, Kept, NotJudged, TooMany, passes, rubbish, unit as passing}
-use Rattle.osi_fair.proofs.Vocabulary.{begin, Event, HappenAlong, Happens, Whole}
-use Rattle.osi_fair.proofs.a_calling_end_goes_on_in_class_zero.{IsZeroed, zeroed_passes}
+use Rattle.osi_fair.proofs.Vocabulary.{begin, Event, HappenAlong, Happens, Whole, arith}
+use Rattle.osi_fair.proofs.a_calling_end_goes_on_in_class_zero.{zeroed_passes}
 use Rattle.osi_fair.proofs.a_calling_end_is_fair_in_class_2.{IsFine, Joined, fine_request, first_joined, goes, mild_of, next_joined}
 use Rattle.osi_fair.proofs.how_requests_go_on.{Stage, asks, known, zero, answered, ended, quiet, refused, waits}
 use Rattle.osi_fair.proofs.no_request_is_blamed.{Holds as Staged, holds_first, holds_next, is_right}
-use Rattle.osi_fair.proofs.the_end_is_judged_as_the_other_side_is.{other_judged, own_judged, rubbish_judged}
+use Rattle.osi_fair.proofs.the_end_is_judged_as_the_other_side_is.{other_judged, own_judged}
 use Rattle.osi_fair.proofs.what_lasts_at_the_tap.{lasts_passing}
 use Rattle.osi_fair.proofs.what_the_other_side_closes.{IsOngoing}
 
@@ -42,14 +41,12 @@ module _ (local : Local) (w : Whole) (v : Value) (rest : List Value) (j : Stands
   by_stage (quiet is none not_begun cs strays tap done dcs) = none_put v rest w.put e none
   by_stage (asks x put is offers cs strays tap done dcs all) =
       let same = first_of v (request x) rest [] (sym e ∙ put) in
-      subst (λ (u : Value). IsFine w u) same (fine_request w (request x) (is_right local x [] w put begun left j.staged.newer
-      (j.staged.stage left)))
+      grind (arith, fine_request, left, is_right local x [] w put begun left j.staged.newer (j.staged.stage left))
   by_stage (waits r is none not_begun cs strays tap p o offers waiting dcs) = none_put v rest w.put e none
   by_stage (refused r is none not_begun cs strays tap done dcs u more coming are refusal too) = none_put v rest w.put e none
   by_stage (answered r is none not_begun dcs n x more coming are class has after so z) = none_put v rest w.put e none
   by_stage (zero has z) = inl (zeroed_passes w.end w.tap v rest left
-      (subst (λ (l : List Value). IsZeroed w.end l true w.tap) e
-      (subst (λ b. IsZeroed w.end w.put b w.tap) begun z))).0
+      (grind arith)).0
   by_stage (known two seen has) =
       (goes local w (j.two has) v rest e begun (going_two w.tap.course two left right)).fine
 
@@ -65,7 +62,7 @@ own_stays local w v rest j e begun right =
     own_judged v w.tap (mild_of w v (is_fine local w v rest j e begun (l.right right))) (j.judged (l.right right)) right
 
 rubbish_stays : (local : Local) (w : Whole) → Stands local w → IsJudged (passes (rubbish Right) w.tap).course
-rubbish_stays local w j right = grind (arith, lasts_passing, rubbish_judged)
+rubbish_stays local w j right = grind (arith, lasts_passing)
 
 next_judged : (local : Local) (event : Event) (w new : Whole) → Happens Left event w new → Stands local w → IsJudged new.tap.course
 next_judged local event w new is j = search (arith, own_stays, lasts_passing, other_judged, rubbish_stays)
@@ -97,8 +94,7 @@ module _ (local : Local) (w : Whole) (v : Value) (rest : List Value) (e : w.put 
   zero_by (refused r is none not_begun cs strays tap done dcs u more coming are refusal too) = none_put v rest w.put e none
   zero_by (answered r is none not_begun dcs n x more coming are class_of has after so z) = none_put v rest w.put e none
   zero_by (zero has z) = (zeroed_passes w.end w.tap v rest left
-      (subst (λ (l : List Value). IsZeroed w.end l true w.tap) e
-      (subst (λ b. IsZeroed w.end w.put b w.tap) begun z))).0
+      (grind arith)).0
   zero_by (known two seen has) = absurd (cc (sym two ∙ class))
 
 pub calling_fair_in_class_0 : (local : Local) (events : List Event) (w : Whole) (v : Value) (rest : List Value) →

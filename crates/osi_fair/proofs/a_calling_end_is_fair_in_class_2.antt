@@ -1,18 +1,16 @@
 -- A whole calling end is fair in class 2 as long as the other side is judged, also after a connection has lost its judgement: by induction
 -- over what happens. For the law of that name.
-use Rattle.std.proofs.Common.{arith}
-use Rattle.osi_fair.proofs.Vocabulary.{[], ap, Bool, false, inl, inr, List, None, Option, refl, Some, subst, sym, true, ℕ, ◌++◌, ◌∙◌, ◌∷◌}
-use Rattle.osi_fair.proofs.Vocabulary.{◌≡◌, ◌⊎◌, AllByRecursion, not, slice_get, ◌||◌, disconnect, disconnected, HasFieldsInRange, request}
-use Rattle.osi_fair.proofs.Vocabulary.{Value, Class, Two, Zero, Local, orderly_asks, orderly_closed, orderly_ended, orderly_fresh}
-use Rattle.osi_fair.proofs.Vocabulary.{orderly_sent, orderly_sent_all, orderly_unit, IsOrderly, react, value_at, breaks}
-use Rattle.osi_fair.proofs.Vocabulary.{closes_call as closes, connects, sends, sends_all, user_does, UserCall, is_stopped, packet_begins}
-use Rattle.osi_fair.proofs.Vocabulary.{takes, Connection, Course, Left, Right, Kept, NotJudged, TooMany, packet, passes, rubbish}
-use Rattle.osi_fair.proofs.Vocabulary.{unit as passing, put_by, put_for, arrives, begin, calls, Event, HappenAlong, Happens, MayCall}
-use Rattle.osi_fair.proofs.Vocabulary.{passes_rubbish, Whole}
-use Rattle.osi_carrier.specs.State.{State}
-use Rattle.osi_fair.specs.Wholes.{begins_other, begins_own, passes_other, passes_own}
+use Rattle.osi_fair.proofs.Vocabulary.{[], ap, Bool, false, inl, inr, List, None, refl, Some, subst, sym, true, ℕ, ◌++◌, ◌∙◌, ◌∷◌, ◌≡◌, ◌⊎◌}
+use Rattle.osi_fair.proofs.Vocabulary.{AllByRecursion, not, slice_get, ◌||◌, disconnect, disconnected, HasFieldsInRange, request, Value}
+use Rattle.osi_fair.proofs.Vocabulary.{Zero, Local, orderly_asks, orderly_closed, orderly_ended, orderly_fresh, orderly_sent}
+use Rattle.osi_fair.proofs.Vocabulary.{orderly_sent_all, orderly_unit, IsOrderly, react, value_at, breaks, closes_call as closes, connects}
+use Rattle.osi_fair.proofs.Vocabulary.{sends, sends_all, user_does, UserCall, is_stopped, packet_begins, takes, Connection, Course, Left}
+use Rattle.osi_fair.proofs.Vocabulary.{Right, Kept, NotJudged, TooMany, packet, passes, rubbish, unit as passing, put_by, put_for, arrives}
+use Rattle.osi_fair.proofs.Vocabulary.{begin, calls, Event, HappenAlong, Happens, MayCall, passes_rubbish, Whole, arith, State}
+use Rattle.osi_fair.proofs.Vocabulary.{begins_other, begins_own}
+use Rattle.osi_fair.specs.Wholes.{passes_other, passes_own}
 use Rattle.osi_fair.proofs.small_facts_that_many_lemmas_use.{differ, none_of}
-use Rattle.osi_fair.proofs.a_dr_for_what_is_gone.{Firsts, Holds as Kept_so, Known, before_going, gone_strays, next_holds}
+use Rattle.osi_fair.proofs.a_dr_for_what_is_gone.{Firsts, Holds as Kept_so, Known, before_going, next_holds}
 use Rattle.osi_fair.proofs.a_dc_for_a_stray_dr_passes.{dc_goes}
 use Rattle.osi_fair.proofs.a_stray_dc_of_the_other_side_passes.{idle_passes, idle_peers}
 use Rattle.osi_fair.proofs.a_reference_names_one_connection.{no_item}
@@ -28,7 +26,6 @@ use Rattle.osi_fair.proofs.the_end_is_judged_as_the_other_side_is.{IsMild}
 use Rattle.osi_fair.proofs.names_stay_apart_though_one_is_lost.{AreNamedApart, end_begins, side_begins}
 use Rattle.osi_fair.proofs.what_a_calling_end_still_has.{call_after, over_not, unit_after}
 use Rattle.osi_fair.proofs.what_becomes_of_a_connection.{IsIdle, Told, comes_for}
-use Rattle.osi_fair.proofs.what_lasts_at_the_tap.{IsCalm}
 use Rattle.osi_fair.proofs.which_units_are_for_a_connection.{IsOf, ours_so}
 use Rattle.osi_fair.proofs.what_the_other_side_closes.{IsOngoing, IsDr, IsPlain, closed_by}
 use Rattle.osi_fair.proofs.what_is_live_at_a_called_end.{IsLive}
@@ -102,9 +99,6 @@ module _ (local : Local) (w : Whole) (j : Joined local w) where
       let f = j.followed going in
       other_by v ranges after f going (comes_for w.tap (j.fine going) v going.sure.left going.sure.right f.zero after.sure)
 
-  not_zero : {A : Type 0} (k : Option Class) → (k ≡ None) ⊎ (k ≡ Some Two) → k ≡ Some Zero → A
-  not_zero k h h2 = grind arith
-
   rubbish_by : {A : Type 0} → IsOngoing (passes (rubbish Right) w.tap).course → A
   rubbish_by after = grind (arith, before_going)
 
@@ -160,8 +154,7 @@ module _ (local : Local) (w : Whole) (j : Joined local w) (v : Value) (rest : Li
       (own_goes local w f j.kept.sane (j.peers going) v rest p c e begun going.sure.left at tracked own judged)
   of_goes p c at tracked own false lost =
       let g = f.lines p c at tracked in
-      let mine = ours_so g.r g.peer v (subst (λ (i : ℕ). IsOf i g.peer v) g.left
-      (subst (λ (i : ℕ). IsOf c.left.reference i v) g.right own)) in
+      let mine = ours_so g.r g.peer v (grind arith) in
       lost_goes p c at lost g.peer g.r (lost_by local w f j.kept.sane (j.peers going) v rest e begun going.sure.left p c at tracked g mine
       lost g.line.put refl)
 
@@ -296,6 +289,4 @@ pub gone : (local : Local) (events : List Event) (w : Whole) (n source reason : 
     is_stopped Left w.tap.course ≡ false → is_stopped Right w.tap.course ≡ false → w.tap.course.strays ≡ true
 gone local events w n source reason user more no_zero two along coming lasts none left right =
     let j = all_joined local events (begin true local) w along (first_joined local two) in
-    let sure : IsCalm w.tap.course = record { left = left; right = right } in
-    gone_strays w n source reason user more j.kept coming lasts none
-    (record { sure = sure; two = λ zero. not_selected local w lasts no_zero two zero (j.staged.stage left) })
+    grind (arith, not_selected)

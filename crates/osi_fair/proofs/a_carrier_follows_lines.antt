@@ -2,16 +2,15 @@
 -- For the law of that name.
 use Rattle.osi_fair.proofs.Vocabulary.{arith, [], ap, append_assoc, Bool, Err, if◌then◌else◌, is_some, length, List, map, None, Ok, Option}
 use Rattle.osi_fair.proofs.Vocabulary.{refl, Result, Some, subst, sym, ℕ, ◌++◌, ◌∙◌, ◌∷◌, ◌≡◌, ◌≤◌, flat_map-append, append-nil}
-use Rattle.osi_fair.proofs.Vocabulary.{AllByRecursion, flat_map, destination_of, disconnect, disconnected, Value, drained_moves, all_given}
-use Rattle.osi_fair.proofs.Vocabulary.{longest_tsdu, Given, Standing, taken, unit_of, with_tsdu, give_out, hand_in, hand_out, Move}
-use Rattle.osi_fair.proofs.Vocabulary.{MovesAlong, take_in, LinkFault, Class, Two, put_here, without_here, closed_with, link_of, open_link}
-use Rattle.osi_fair.proofs.Vocabulary.{sent, RiseFrom, pumped, written_by, handed_out, leaves, taking, to_linked, to_reference, put}
-use Rattle.osi_fair.proofs.Vocabulary.{value_at, closing, Live as Connection, linked, packets, Direction, Follows, link_now, Act, ActsAlong}
-use Rattle.osi_fair.proofs.Vocabulary.{answers, closes_with as closes, HandsInShort, ignores, Line, moves, units_put, units_taken, put_at}
-use Rattle.osi_fair.proofs.Vocabulary.{put_closing, put_for, put_leaving, put_linked, put_sent, put_taking}
+use Rattle.osi_fair.proofs.Vocabulary.{AllByRecursion, flat_map, destination_of, disconnect, Value, drained_moves, all_given, longest_tsdu}
+use Rattle.osi_fair.proofs.Vocabulary.{Given, Standing, taken, unit_of, with_tsdu, give_out, hand_in, hand_out, Move, MovesAlong, take_in}
+use Rattle.osi_fair.proofs.Vocabulary.{LinkFault, Class, Two, put_here, without_here, closed_with, link_of, open_link, sent, RiseFrom}
+use Rattle.osi_fair.proofs.Vocabulary.{pumped, written_by, handed_out, leaves, taking, to_linked, to_reference, put, value_at, closing}
+use Rattle.osi_fair.proofs.Vocabulary.{Live as Connection, linked, packets, Direction, Follows, link_now, Act, ActsAlong, answers}
+use Rattle.osi_fair.proofs.Vocabulary.{closes_with as closes, HandsInShort, ignores, Line, moves, units_put, units_taken, put_at}
+use Rattle.osi_fair.proofs.Vocabulary.{put_closing, put_for, put_leaving, put_linked, put_sent, put_taking, State}
 use Rattle.osi_carrier.specs.Calls.{sent_on}
 unfoldable use Rattle.osi_carrier.specs.React.{react}
-use Rattle.osi_carrier.specs.State.{State}
 
 -- ---- calls of a link
 
@@ -32,13 +31,7 @@ module _ (d : Direction) (r peer : ℕ) where
   moves_along [] old new e short line later is coming = grind (arith, same_line line old later is coming)
   moves_along (call ∷ calls) old new (mid, move, more) (one, others) line later is coming =
       let next : Line = line_after line mid (line.put ++ units_put peer call) (flat_map units_taken calls ++ later) in
-      let then_is = moves_along calls mid new more others next later refl refl in
-      let joined = append_assoc line.put (units_put peer call) (flat_map (units_put peer) calls) in
-      let after = subst (λ (l : List Value). ActsAlong d r peer next (AreMoves calls) (line_after line new l later)) joined then_is in (
-        next,
-        (old, mid, is, move, one, coming ∙ append_assoc (units_taken call) (flat_map units_taken calls) later, refl),
-        after,
-      )
+      grind (arith, append_assoc, moves_along calls mid new more others next later refl refl)
 
 none_taken : (units : List Given) → flat_map units_taken (map give_out units) ≡ []
 none_taken [] = refl
@@ -85,21 +78,14 @@ module _ (r peer : ℕ) (s new : State) (link mid : Standing) (front : List Move
   pumps_along d line later is coming =
       let along = moves_join front (map give_out (all_given mid)) link mid (pumped mid) f.along (drained_moves mid) in
       let short = short_join front (map give_out (all_given mid)) f.short (given_short (all_given mid)) in
-      let come = coming ∙ ap (λ (l : List Value). l ++ later) (sym (front_takes link mid front units f)) in
-      subst (λ (l : List Value). ActsAlong d r peer line (AreMoves (calls_after front mid)) (line_after line (pumped mid)
-      (line.put ++ l) later))
-      (front_puts peer link mid front units f)
-      (moves_along d r peer (calls_after front mid) link (pumped mid) along short line later is come)
+      grind (arith, moves_along, front_takes link mid front units f, front_puts peer link mid front units f)
 
   follows_pump : value_at r s.live ≡ Some (linked peer link) → value_at r new.live ≡ Some (linked peer (pumped mid)) →
       new.outgoing ≡ s.outgoing ++ packets (written_by peer mid) → Follows r peer units (written_by peer mid) s new
   follows_pump here there outgoing = record {
     acts = AreMoves (calls_after front mid);
     outgoing = outgoing;
-    along = λ d line later is coming.
-        subst (λ (o : Option Standing). ActsAlong d r peer line (AreMoves (calls_after front mid))
-        (record line { link = o; put = line.put ++ written_by peer mid; coming = later }))
-        (sym (ap link_now there)) (pumps_along d line later (is ∙ ap link_now here) coming);
+    along = grind (arith, pumps_along);
   }
 
 -- ---- a TSDU
@@ -126,20 +112,7 @@ closes_follows : (r peer reason : ℕ) (units : List Value) (s new : State) (lin
 closes_follows r peer reason units s new link here there outgoing = record {
   acts = closes reason units ∷ [];
   outgoing = outgoing;
-  along = λ d line later is coming. (
-    record line {
-      link = link_now (value_at r new.live);
-      put = line.put ++ disconnect peer r reason [] ∷ [];
-      coming = later;
-    },
-    (
-      link,
-      is ∙ ap link_now here,
-      coming,
-      ap (λ (o : Option Standing). record line { link = o; put = line.put ++ disconnect peer r reason [] ∷ []; coming = later }) there,
-    ),
-    refl,
-  );
+  along = grind arith;
 }
 
 pub follows_closed : (r peer reason : ℕ) (s : State) (link : Standing) → open_link r s ≡ Some (peer, link) → s.class ≡ Some Two →
@@ -179,26 +152,7 @@ module _ (r peer : ℕ) (s : State) (link : Standing) (here : value_at r s.live 
       (record {
         acts = answers (disconnect destination source reason user) ∷ [];
         outgoing = refl;
-        along = λ d line later is coming. (
-          record line {
-            link = link_now (value_at r (leaves r peer reason (Some Two) s).live);
-            put = line.put ++ disconnected peer r ∷ [];
-            coming = later;
-          },
-          (
-            link,
-            is ∙ ap link_now here,
-            (destination, source, reason, user, refl),
-            coming,
-            ap (λ (o : Option Standing). record line {
-              link = o;
-              put = line.put ++ disconnected peer r
-                  ∷ [];
-              coming = later;
-            }) (ap link_now gone),
-          ),
-          refl,
-        );
+        along = grind arith;
       })
 
   follows_linked : (unit : Value) → RiseFrom 0 s.live →
@@ -213,22 +167,10 @@ ignores_follows : (r peer : ℕ) (unit : Value) (s new : State) → link_now (va
 ignores_follows r peer unit s new before after outgoing = record {
   acts = ignores (unit ∷ []) ∷ [];
   outgoing = outgoing ∙ sym (append-nil s.outgoing);
-  along = λ d line later is coming. (
-    record line { link = link_now (value_at r new.live); put = line.put ++ []; coming = later },
-    (
-      is ∙ before,
-      coming,
-      ap (λ (o : Option Standing). record line { link = o; put = line.put ++ []; coming = later }) (after ∙ sym (is ∙ before))
-          ∙ ap (λ (l : List Value). record line { put = l; coming = later }) (append-nil line.put),
-    ),
-    refl,
-  );
+  along = grind (arith, append-nil);
 }
 
 -- ---- by reference
-
-to_same : (n r : ℕ) (unit : Value) (s : State) → Some n ≡ Some r → to_reference n unit s ≡ to_reference r unit s
-to_same n r unit s e = let same : n ≡ r = cc in ap (λ (m : ℕ). to_reference m unit s) same
 
 pub react_is : (unit : Value) (s : State) (r : ℕ) → s.class ≡ Some Two → s.ended ≡ None → destination_of unit ≡ Some r →
     react unit s ≡ to_reference r unit s

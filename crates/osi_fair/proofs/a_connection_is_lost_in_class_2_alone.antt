@@ -1,6 +1,6 @@
 -- A connection loses its judgement only in class 2, and left knows the class only once right has selected it.
 -- For the law on a whole called end: in class 0, and while no class is selected, each connection is judged.
-use Rattle.osi_fair.proofs.Vocabulary.{arith, Bool, false, None, Option, Some, true, ℕ, ◌≡◌, ◌⊎◌, Value, Class, Two, is_applied, reach_of}
+use Rattle.osi_fair.proofs.Vocabulary.{arith, false, None, Option, Some, true, ℕ, ◌≡◌, ◌⊎◌, Value, Class, Two, is_applied, reach_of}
 use Rattle.osi_fair.proofs.Vocabulary.{asks_of, at_found, class_for, course_after, course_after_none, found_on, none_told, Outcome, reached}
 use Rattle.osi_fair.proofs.Vocabulary.{routed, Traffic as State, takes, unnamed_told, Connection, Course, Direction, Finding, Reach, Route}
 use Rattle.osi_fair.proofs.Vocabulary.{passes, Passing, noted}
@@ -35,9 +35,6 @@ none_loose v c = grind arith
 none_seen : (v : Value) (c : Course) → (course_after_none v c).class_seen ≡ c.class_seen
 none_seen v c = grind arith
 
-after_loose : (d : Direction) (c : Connection) (v : Value) (b : Bool) (course : Course) → (course_after d c v b course).loose ≡ course.loose
-after_loose d c v b course = grind arith
-
 -- ---- by the way that a unit takes
 
 abbrev Keeps : Direction → State → Outcome → Type 0
@@ -55,7 +52,7 @@ to_one d v s p (Some c) =
     let f = found_on d s c v in
     let mid = course_after d c v (is_applied f) s.course in
     changes_from (class_for d s.course) s.course mid (noted d f (reached d (reach_of (class_for d s.course) f) mid))
-    (after_loose d c v (is_applied f) s.course) (grind arith)
+    (grind arith) (grind arith)
     (told_changes d (class_for d s.course) f (reach_of (class_for d s.course) f) mid (connection_by (class_for d s.course) f))
 
 asks : (d : Direction) (v : Value) (s : State) → Keeps d s (asks_of d v s)

@@ -2,9 +2,8 @@
 -- For the law on a whole end.
 use Rattle.osi_fair.proofs.Vocabulary.{arith, [], Bool, false, if◌then◌else◌, inl, inr, List, None, Option, refl, Some, subst, sym, true, ℕ}
 use Rattle.osi_fair.proofs.Vocabulary.{◌∷◌, ◌≡◌, eqb-true, not, position, slice_get, ◌||◌, disconnected, Value, Class, Two, Zero, Local}
-use Rattle.osi_fair.proofs.Vocabulary.{first_failed, is_due, is_named, at_found, at_place, class_for, has_broken, none_told, one_told}
-use Rattle.osi_fair.proofs.Vocabulary.{Outcome, route, route_in, routed, set, Traffic, takes, Connection, Left, Right, found, in_doubt}
-use Rattle.osi_fair.proofs.Vocabulary.{Broke, NotJudged, Whole}
+use Rattle.osi_fair.proofs.Vocabulary.{first_failed, is_due, is_named, at_found, at_place, none_told, one_told, Outcome, route, route_in}
+use Rattle.osi_fair.proofs.Vocabulary.{routed, set, Traffic, takes, Connection, Left, Right, found, in_doubt, Broke, NotJudged, Whole}
 use Rattle.osi_rules.specs.declared.findings.Rule.TheVariants as rule
 use Rattle.osi_fair.proofs.small_facts_that_many_lemmas_use.{and_first, and_second, both, judged_same, or_last}
 use Rattle.osi_fair.proofs.a_right_unit_is_not_blamed.{first_there}
@@ -65,8 +64,7 @@ module _ (m source : ℕ) (s : Traffic) (strays : s.course.strays ≡ true) wher
   pub dc_passes : s.course.left_stopped ≡ false → Passes m source s (takes Left v s)
   dc_passes left =
       subst (λ (b : Bool). Passes m source s (if b then none_told Left NotJudged s else routed Left v s (route Left s.course v))) (sym left)
-      (by_class (class_for Left s.course) (has_broken Right s.course)
-      (at_passes (position (is_named Left m) s.connections) refl))
+      (search (arith, by_class, at_passes, position))
 
 -- ---- at the end
 

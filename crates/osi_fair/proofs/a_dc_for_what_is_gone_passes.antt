@@ -1,18 +1,16 @@
 -- A DC with which a whole called end answers a DR for what is gone passes: it answers nothing at the tap, and changes nothing.
 -- For the law on a whole called end.
-use Rattle.osi_fair.proofs.Vocabulary.{arith, [], ap, Bool, false, if◌then◌else◌, List, None, Option, Some, subst, sym, true, ℕ, ◌∙◌, ◌∷◌}
-use Rattle.osi_fair.proofs.Vocabulary.{◌≡◌, eqb-true, AllByRecursion, not, slice_get, ◌&&◌, ◌==◌, ◌||◌, disconnected, Value, Local}
-use Rattle.osi_fair.proofs.Vocabulary.{first_failed, is_due, is_closing, is_open, at_found, in_doubt, none_told, one_told, Outcome, Traffic}
-use Rattle.osi_fair.proofs.Vocabulary.{takes, unnamed, unnamed_by, Connection, Right, Finding, Broke, NotJudged, Whole, class_for}
-use Rattle.osi_fair.proofs.Vocabulary.{connection_after, course_after, is_applied, reach_of, reached, set, noted}
+use Rattle.osi_fair.proofs.Vocabulary.{arith, [], ap, Bool, false, if◌then◌else◌, List, None, Option, Some, subst, true, ℕ, ◌∙◌, ◌∷◌, ◌≡◌}
+use Rattle.osi_fair.proofs.Vocabulary.{eqb-true, not, slice_get, ◌&&◌, ◌==◌, ◌||◌, disconnected, Value, Local, first_failed, is_due}
+use Rattle.osi_fair.proofs.Vocabulary.{is_closing, is_open, at_found, in_doubt, one_told, Outcome, Traffic, takes, unnamed_by, Connection}
+use Rattle.osi_fair.proofs.Vocabulary.{Right, Finding, Broke, NotJudged, Whole, class_for, connection_after, course_after, is_applied}
+use Rattle.osi_fair.proofs.Vocabulary.{reach_of, reached, set, noted}
 use Rattle.osi_rules.specs.declared.findings.Rule.TheVariants as rule
 use Rattle.osi_fair.proofs.small_facts_that_many_lemmas_use.{and_false, differ, is_false}
 use Rattle.osi_fair.proofs.a_unit_of_a_called_end_passes.{IsFineAt}
-use Rattle.osi_fair.proofs.each_connection_of_a_called_end.{AreAbove, AreStrays, Called, IsStray, Stand, answers, comes, past, refuses}
-use Rattle.osi_fair.proofs.each_connection_of_a_called_end.{runs}
+use Rattle.osi_fair.proofs.each_connection_of_a_called_end.{AreStrays, Called, IsStray, Stand, answers, comes, past, refuses, runs}
 use Rattle.osi_fair.proofs.units_by_their_place.{Placed, first_at, units_at, values}
 use Rattle.osi_fair.proofs.what_a_called_end_closes_is_to_pass.{close_waits}
-use Rattle.osi_fair.proofs.what_is_live_at_a_called_end.{Answers, IsHeld}
 use Rattle.osi_fair.proofs.while_no_class_is_selected.{set_same}
 
 due_parts : (a b c : Bool) → (a && (b && c)) ≡ true → (a ≡ true) × (c ≡ true)
@@ -35,9 +33,6 @@ record Spared (u : Value) (s : Traffic) (o : Outcome) : Type 0 where
   state : o.state ≡ s
 
 module _ (m n : ℕ) (s : Traffic) (strays : s.course.strays ≡ true) where
-  none_spared : Spared (disconnected m n) s (none_told Right (unnamed Right s.course (disconnected m n)) s)
-  none_spared = grind (arith, unnamed_so)
-
   -- what the unit leaves, if this is found of it
   abbrev one_by : Finding → ℕ → Connection → Outcome
   one_by f q c = record {
@@ -53,12 +48,12 @@ module _ (m n : ℕ) (s : Traffic) (strays : s.course.strays ≡ true) where
   found_spared : (q : ℕ) (o : Option Connection) → slice_get s.connections q ≡ o →
       ((c : Connection) → slice_get s.connections q ≡ Some c → c.is_judged ≡ true → is_due Right c n ≡ false) →
       Spared (disconnected m n) s (at_found Right (disconnected m n) s q o)
-  found_spared q o e h = grind (arith, none_spared, judged_not, not_due, set_same)
+  found_spared q o e h = grind (arith, judged_not, not_due, set_same)
 
   spared : s.course.right_stopped ≡ false → ((q : ℕ) (c : Connection) → slice_get s.connections q ≡ Some c →
       c.is_judged ≡ true → is_due Right c n ≡ false) →
       Spared (disconnected m n) s (takes Right (disconnected m n) s)
-  spared right h = grind (arith, none_spared, found_spared)
+  spared right h = grind (arith, found_spared)
 
 module _ (local : Local) (w : Whole) (f : Called local w) (right : w.tap.course.right_stopped ≡ false) (u : Value) (rest : List Value)
     (later : List Placed) (tagged : f.tagged ≡ (None, u) ∷ later) (rest_are : rest ≡ values later) where
@@ -71,9 +66,6 @@ module _ (local : Local) (w : Whole) (f : Called local w) (right : w.tap.course.
   stray : IsStray f.shut w.end f.refs f.home w.tap.course.strays u later
   stray = strays_all.0
 
-  mine_is : (i : ℕ) → units_at i f.tagged ≡ units_at i later
-  mine_is i = ap (λ (l : List Placed). units_at i l) tagged
-
   begun_not : (i : ℕ) → (w.begun && first_at i f.tagged) ≡ false
   begun_not i = ap (λ (l : List Placed). w.begun && first_at i l) tagged ∙ and_false w.begun
 
@@ -84,7 +76,7 @@ module _ (local : Local) (w : Whole) (f : Called local w) (right : w.tap.course.
   due_not q c at judged up same (comes x a none ask i) = grind (arith, differ)
   due_not q c at judged up same (refuses x a reason is none i seen) = grind (arith, differ)
   due_not q c at judged up same (answers h none) = grind (arith, differ)
-  due_not q c at judged up same (runs g none) = grind (arith, stray, close_waits, mine_is)
+  due_not q c at judged up same (runs g none) = grind (arith, stray, close_waits)
   due_not q c at judged up same (past silent not_up none asks un off) = differ (is_open c.right.phase) up not_up
 
   no_due : (q : ℕ) (c : Connection) → slice_get w.tap.connections q ≡ Some c → c.is_judged ≡ true → is_due Right c stray.n ≡ false
@@ -104,9 +96,8 @@ module _ (local : Local) (w : Whole) (f : Called local w) (right : w.tap.course.
     stands = λ i x there.
         subst (λ (b : Bool). Stand local f.shut w.end w.coming (units_at i later) (units_at i f.came) b (f.refs i) x) (begun_not i)
         (subst (λ (l : List Value). Stand local f.shut w.end w.coming l (units_at i f.came) (w.begun && first_at i f.tagged) (f.refs i) x)
-        (mine_is i) (f.stands i x there));
-    beyond = λ i none.
-        let (a, b, d) = f.beyond i none in (sym (mine_is i) ∙ a, b, d);
+        (grind (arith, units_at)) (f.stands i x there));
+    beyond = grind (arith, units_at);
     homes = f.homes;
     positive = f.positive;
     linked_at = f.linked_at;
@@ -114,8 +105,7 @@ module _ (local : Local) (w : Whole) (f : Called local w) (right : w.tap.course.
     strays = strays_all.1;
     last = f.last;
     tops = f.tops;
-    above = subst (λ (v : Value). AreAbove w.end.given f.last (v ∷ values later)) stray.is
-        (subst (λ (l : List Placed). AreAbove w.end.given f.last (values l)) tagged f.above);
+    above = grind (arith, values, stray);
     class = f.class;
     two = f.two;
     class_seen = f.class_seen;
@@ -124,14 +114,7 @@ module _ (local : Local) (w : Whole) (f : Called local w) (right : w.tap.course.
     some = λ h. absurd (cc h);
     few = f.few;
     untagged = f.untagged;
-    timely = λ none last.
-        let h = f.timely none last in
-        record {
-          taps = h.taps;
-          answers = (subst (λ (l : List Placed). AllByRecursion (Answers (IsHeld w.end w.coming)) (values l)) tagged h.answers).1;
-          firsts = h.firsts;
-          known = h.known;
-        };
+    timely = grind (arith, answers, values);
   }
 
   pub stray_passes : IsFineAt u w.tap × Called local (after (takes Right u w.tap).state)

@@ -1,11 +1,11 @@
 -- A DR that a whole calling end takes for a reference that is gone closed nothing at the tap, whatever happens.
 -- For the law of that name.
-use Rattle.osi_fair.proofs.Vocabulary.{[], ap, arith, Bool, false, is_some, List, map, None, Option, refl, Some, subst, sym, true, ℕ, ◌++◌}
-use Rattle.osi_fair.proofs.Vocabulary.{◌+◌, ◌<◌, ◌∙◌, ◌∷◌, ◌≡◌, ◌≤◌, flat_map-append, append-nil, AllByRecursion, Connect, disconnect}
-use Rattle.osi_fair.proofs.Vocabulary.{request, Value, react, value_at, breaks, closes_call as closes, connects, sends, sends_all}
-use Rattle.osi_fair.proofs.Vocabulary.{user as by_user, user_does, UserCall, Live, begins, asked_by, packet_begins, Traffic, takes}
-use Rattle.osi_fair.proofs.Vocabulary.{Connection, Direction, Left, Right, asked_in, asks_with, packet, passes, Passing, rubbish}
-use Rattle.osi_fair.proofs.Vocabulary.{unit as passing, put_by, put_for, arrives, calls, Event, Happens, passes_rubbish, Whole}
+use Rattle.osi_fair.proofs.Vocabulary.{[], ap, arith, Bool, false, List, None, Option, refl, Some, subst, sym, true, ℕ, ◌++◌, ◌+◌, ◌<◌, ◌∙◌}
+use Rattle.osi_fair.proofs.Vocabulary.{◌∷◌, ◌≡◌, ◌≤◌, flat_map-append, append-nil, AllByRecursion, Connect, request, Value, react, breaks}
+use Rattle.osi_fair.proofs.Vocabulary.{closes_call as closes, connects, sends, sends_all, user as by_user, user_does, UserCall, begins}
+use Rattle.osi_fair.proofs.Vocabulary.{asked_by, packet_begins, Traffic, takes, Connection, Direction, Left, Right, asked_in, asks_with}
+use Rattle.osi_fair.proofs.Vocabulary.{packet, passes, Passing, rubbish, unit as passing, put_by, put_for, arrives, calls, Event, Happens}
+use Rattle.osi_fair.proofs.Vocabulary.{passes_rubbish, Whole}
 use Rattle.osi_carrier.specs.State.{State}
 use Rattle.osi_fair.specs.Wholes.{begins_other, begins_own, passes_other, passes_own}
 use Rattle.osi_fair.proofs.small_facts_that_many_lemmas_use.{none_of}
@@ -15,8 +15,7 @@ use Rattle.osi_fair.proofs.all_are_judged_unless_one_broke.{still_judged}
 use Rattle.osi_fair.proofs.how_a_calling_end_asks.{over_takes}
 use Rattle.osi_fair.proofs.references_of_requests_rise.{Rise, all_gives, closed_gives, ended_gives, not_less, sent_gives}
 use Rattle.osi_fair.proofs.class_0_stays_selected.{zero_stays}
-use Rattle.osi_fair.proofs.what_a_calling_end_still_has.{OffersTwo, SelectsTwo, all_last, call_after, closed_lasts, new_live, sent_lasts}
-use Rattle.osi_fair.proofs.what_a_calling_end_still_has.{unit_after}
+use Rattle.osi_fair.proofs.what_a_calling_end_still_has.{OffersTwo, SelectsTwo, all_last, call_after, new_live, sent_lasts, unit_after}
 use Rattle.osi_fair.proofs.what_holds_of_one_item.{HoldsOfEach, after_map, each_map}
 use Rattle.osi_fair.proofs.what_lasts_at_the_tap.{lasts_passing}
 use Rattle.osi_fair.proofs.what_stays_of_each_connection.{AreDistinct, IfAsked, IsLively, IsStarted, left_passes, lively_stays}
@@ -104,23 +103,18 @@ lively_more L K cs h a i c at judged there = h c.left.reference (a i c at judged
 
 -- ---- the end takes a unit, and its user makes a call
 
-no_more : (put more : List Value) → asked_among more ≡ [] → asked_among put ≡ asked_among (put ++ more)
-no_more put more none = grind (arith, append-nil, flat_map-append)
-
 taking : (w : Whole) (unit : Value) (later : List Value) → w.coming ≡ unit ∷ later → OffersTwo w.end → SelectsTwo w.end unit →
     (react unit w.end).ended ≡ None →
     Lively w → Lively (record w { end = react unit w.end; put = w.put ++ put_for unit w.end; coming = later })
 taking w unit later e o two lasts l =
     let t = react unit w.end in
     let a = unit_after unit w.end o two in
-    let keeps : (m : ℕ) → Held w.end w.coming m → Held t later m = λ m h.
-    (let (one, more) = subst (NoneFor m) e h.1 in (a.live lasts m h.0 one, more)) in
+    let keeps : (m : ℕ) → Held w.end w.coming m → Held t later m = grind arith in
     let (first, firsts) = subst (Firsts (IsLive w.end)) e l.firsts in
     let (known_one, known) = subst (AreKnown w.end.given) e l.known in
     record {
       tap = lively_more (Held w.end w.coming) (Held t later) w.tap.connections keeps l.tap;
-      requests = subst (AllSo (Held t later)) (no_more w.put (put_for unit w.end) (unit_asks unit w.end))
-          (all_more (Held w.end w.coming) (Held t later) (asked_among w.put) keeps l.requests);
+      requests = grind (arith, append-nil, flat_map-append, unit_asks, all_more, asked_among);
       firsts = firsts_more (λ m. IsLive w.end m × (closed_by unit ≡ Some m → ⊥)) (IsLive t) later (λ m h. a.live lasts m h.0 h.1) firsts;
       known = known_more w.end.given t.given later (unit_gives unit w.end) known;
     }
@@ -136,8 +130,7 @@ no_request w call none given live l =
     let keeps : (m : ℕ) → Held w.end w.coming m → Held t w.coming m = λ m h. (live m h.0, h.1) in
     record {
       tap = lively_more (Held w.end w.coming) (Held t w.coming) w.tap.connections keeps l.tap;
-      requests = subst (AllSo (Held t w.coming)) (no_more w.put (put_by call w.end) (call_asks call w.end ∙ none))
-          (all_more (Held w.end w.coming) (Held t w.coming) (asked_among w.put) keeps l.requests);
+      requests = grind (arith, append-nil, flat_map-append, call_asks, all_more, asked_among);
       firsts = firsts_more (IsLive w.end) (IsLive t) w.coming live l.firsts;
       known = known_more w.end.given t.given w.coming given l.known;
     }
@@ -155,8 +148,7 @@ asking w calling called live l =
     ap (λ (rs : List ℕ). asked_among w.put ++ rs) (sym (call_asks call w.end)) ∙ sym (flat_map-append asked_in w.put (put_by call w.end)) in
     record {
       tap = lively_more (Held w.end w.coming) (Held t w.coming) w.tap.connections keeps l.tap;
-      requests = subst (AllSo (Held t w.coming)) same (all_join (Held t w.coming) (asked_among w.put) ((w.end.given + 1) ∷ [])
-          (all_more (Held w.end w.coming) (Held t w.coming) (asked_among w.put) keeps l.requests) (new, tt));
+      requests = grind (arith, all_join, asked_among, all_more);
       firsts = firsts_more (IsLive w.end) (IsLive t) w.coming live l.firsts;
       known = known_more w.end.given t.given w.coming (omega arith) l.known;
     }
@@ -211,9 +203,6 @@ own w v put e n distinct l =
 none_number : {A : Type 0} (o : Option ℕ) (n : ℕ) → o ≡ None → o ≡ Some n → A
 none_number o n e h = absurd (cc (sym e ∙ h))
 
-same_number : (o : Option ℕ) (n m : ℕ) → o ≡ Some n → o ≡ Some m → m ≡ n
-same_number o n m e h = let both : Some m ≡ Some n = sym h ∙ e in cc
-
 all_less : (L : ℕ → Type 0) (n last : ℕ) (rs : List ℕ) → n ≤ last → Rise last rs → AllSo L rs → AllSo (Less L n) rs
 all_less L n last [] h r a = tt
 all_less L n last (x ∷ rs) h (up, rise) (one, more) = grind (arith, all_less L n x rs (omega arith) rise more)
@@ -239,15 +228,12 @@ came w v n l (closes_one q e p c at is dr tap) =
     let below = n.below p c at in
     let last = n.given in
     let up : q ≤ n.last = omega arith in
-    let keeps : (m : ℕ) → Less L q m → K m = λ m h.
-    (h.0.0, none_add m w.coming v h.0.1 (λ k. h.1 (same_number (closed_by v) q m e k))) in
+    let keeps : (m : ℕ) → Less L q m → K m = grind (arith, none_add, closed_by) in
     record {
       tap = lively_more (Less L q) K (takes Right v w.tap).state.connections keeps tap;
       requests = all_more (Less L q) K (asked_among w.put) keeps (all_less L q n.last (asked_among w.put) up n.rise l.requests);
-      firsts = firsts_add (IsLive w.end) w.coming v l.firsts
-          (λ is_dr m k. subst (λ (i : ℕ). IsLive w.end i × NoneFor i w.coming) (sym (same_number (closed_by v) q m e k)) (dr is_dr));
-      known = known_add w.end.given w.coming v l.known
-          (λ m k. let same = same_number (closed_by v) q m e k in omega arith);
+      firsts = grind (arith, firsts_add, closed_by);
+      known = grind (arith, known_add, closed_by);
     }
 
 -- ---- all that holds
@@ -268,36 +254,23 @@ pub record Known (w : Whole) : Type 0 where
 begun_started : (d : Direction) (c : Connection) → IsStarted c → IsStarted (begins d c)
 begun_started d c h = grind arith
 
-distinct_begins : (d : Direction) (cs : List Connection) → AreDistinct cs → AreDistinct (map (begins d) cs)
-distinct_begins d cs a i j c e at there same = grind (arith, after_map)
-
 sane_begins : (d : Direction) (s : Traffic) → IsSane s → IsSane (packet_begins d s)
 sane_begins d s h = record {
   apart = passes_apart (packet d) s h.apart;
   judged = still_judged (packet d) s h.judged;
   started = each_map IsStarted (begins d) s.connections h.started (λ c k. begun_started d c k);
-  distinct = distinct_begins d s.connections h.distinct;
+  distinct = grind (arith, after_map);
 }
 
 sane_right : (v : Value) (s : Traffic) → IsSane s → IsSane (takes Right v s).state
 sane_right v s h =
     let (started, distinct) = right_passes IsStarted v s (started_stays Right v s) h.started h.distinct in
-    record {
-      apart = passes_apart (passing Right v) s h.apart;
-      judged = still_judged (passing Right v) s h.judged;
-      started = started;
-      distinct = distinct;
-    }
+    grind (arith, passes_apart (passing Right v) s h.apart, still_judged (passing Right v) s h.judged)
 
 sane_left : (v : Value) (s : Traffic) → IfAsked IsStarted s.connections v → IsSane s → IsSane (takes Left v s).state
 sane_left v s new h =
     let (started, distinct) = left_passes IsStarted v s (started_stays Left v s) new h.started h.distinct in
-    record {
-      apart = passes_apart (passing Left v) s h.apart;
-      judged = still_judged (passing Left v) s h.judged;
-      started = started;
-      distinct = distinct;
-    }
+    grind (arith, passes_apart (passing Left v) s h.apart, still_judged (passing Left v) s h.judged)
 
 before_passing : (p : Passing) (s : Traffic) → IsPlain (passes p s).course → IsPlain s.course
 before_passing p s h = grind (arith, zero_stays, lasts_passing p s)
@@ -311,7 +284,7 @@ pub before_clear : (p : Passing) (s : Traffic) → IsClear (passes p s).course �
 before_clear p s h = grind (arith, zero_stays, lasts_passing p s)
 
 not_over : (call : UserCall) (s : State) → (user_does call s).ended ≡ None → s.ended ≡ None
-not_over call s h = grind (arith, sent_lasts, all_last, closed_lasts)
+not_over call s h = grind (arith, sent_lasts, all_last)
 
 abbrev pub after_arriving : Whole → Value → List Value → Whole
 after_arriving w unit later = record w { end = react unit w.end; put = w.put ++ put_for unit w.end; coming = later }
@@ -386,17 +359,5 @@ next_holds passes_rubbish w new is k h =
       newer = still_newer passes_rubbish w after refl h.newer;
       offers = λ going. h.offers (before_going (rubbish Right) w.tap going);
       sane = grind (arith, passes_apart, still_judged);
-      lively = λ plain lasts.
-          let l = h.lively (before_passing (rubbish Right) w.tap plain) lasts in
-          record { tap = l.tap; requests = l.requests; firsts = l.firsts; known = l.known };
+      lively = grind (arith, before_passing);
     })
-
--- ---- the DR
-
-gone_not : {A : Type 0} (o : Option Live) → is_some o ≡ true → o ≡ None → A
-gone_not o h e = grind arith
-
-pub gone_strays : (w : Whole) (n source reason : ℕ) (user : List ℕ) (more : List Value) → Holds w →
-    w.coming ≡ disconnect n source reason user ∷ more → w.end.ended ≡ None → value_at n w.end.live ≡ None → IsOngoing w.tap.course →
-    w.tap.course.strays ≡ true
-gone_strays w n source reason user more h coming lasts gone going = grind arith

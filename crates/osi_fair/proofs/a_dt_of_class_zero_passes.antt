@@ -1,11 +1,11 @@
 -- A DT of class 0 passes: it is for the one connection that is not over, it is right if it is not too long, and only what its sender
 -- has sent of a TSDU changes. For the laws on whole ends.
 use Rattle.osi_fair.proofs.Vocabulary.{ap, arith, Bool, false, IfSome, length, List, Option, refl, set, Some, true, ℕ, ◌+◌, ◌∙◌, ◌≡◌, ◌≤◌}
-use Rattle.osi_fair.proofs.Vocabulary.{eq-eqb, eqb-true, le-leb, position_or_len, position, slice_get, ◌==◌, data0, Value, longest_tsdu}
-use Rattle.osi_fair.proofs.Vocabulary.{Zero, data0_tests, first_failed, fits_size, is_live, is_over, own, begun_after, class_for, found}
+use Rattle.osi_fair.proofs.Vocabulary.{eq-eqb, le-leb, position_or_len, position, slice_get, ◌==◌, data0, Value, longest_tsdu, Zero}
+use Rattle.osi_fair.proofs.Vocabulary.{data0_tests, first_failed, fits_size, is_live, is_over, own, begun_after, class_for, found}
 use Rattle.osi_fair.proofs.Vocabulary.{is_stopped, one_told, Outcome, route_zero, sent_on, Traffic, takes, Connection, Course, Direction}
 use Rattle.osi_fair.proofs.Vocabulary.{Kept, Half, Only}
-use Rattle.osi_fair.proofs.small_facts_that_many_lemmas_use.{differ, judged_so, live_not_over}
+use Rattle.osi_fair.proofs.small_facts_that_many_lemmas_use.{differ, judged_so}
 use Rattle.osi_fair.proofs.a_right_unit_is_not_blamed.{first_there, is_first}
 use Rattle.osi_fair.proofs.what_a_link_does.{begun_by}
 use Rattle.osi_fair.proofs.what_holds_of_one_item.{first_true}
@@ -19,15 +19,11 @@ unlike q p h e = differ (q == p) (ap (λ (x : ℕ). x == p) e ∙ eq-eqb p p ref
 -- the only one that is not over for its sender
 module _ (d : Direction) (cs : List Connection) (p : ℕ) (c : Connection) (at : slice_get cs p ≡ Some c) (live : is_live d c ≡ true)
     (others : (i : ℕ) (e : Connection) → slice_get cs i ≡ Some e → (i ≡ p → ⊥) → is_over d e ≡ true) where
-  first_by : (q : ℕ) (e : Connection) (b : Bool) → (q == p) ≡ b → slice_get cs q ≡ Some e → is_live d e ≡ true → q ≡ p
-  first_by q e b h there lives = grind (arith, eqb-true, live_not_over, unlike)
-
   pub only_first : position (is_live d) cs ≡ Some p
   only_first =
       let q = position_or_len (is_live d) cs in
       let first = is_first (is_live d) cs p c at live in
-      let (e, there) = first_there (is_live d) cs p q c first in
-      first ∙ ap (λ (i : ℕ). Some i) (first_by q e (q == p) refl there (first_true (is_live d) cs q e first there))
+      grind (arith, first_true, first_there (is_live d) cs p q c first)
 
 -- ---- what is found of it
 

@@ -1,13 +1,13 @@
 -- A reference above those of all CRs that have passed is in use for no connection at the tap, and for none that is not judged.
 -- For the law of that name.
-use Rattle.osi_fair.proofs.Vocabulary.{[], arith, Bool, false, if◌then◌else◌, is_some, List, None, Option, refl, Some, subst, suc, sym}
-use Rattle.osi_fair.proofs.Vocabulary.{true, zero, ℕ, ◌++◌, ◌<◌, ◌∷◌, ◌≡◌, ◌⊎◌, eqb-true, AllByRecursion, list_all, list_any, not}
-use Rattle.osi_fair.proofs.Vocabulary.{slice_get, ◌&&◌, ◌==◌, ◌||◌, Connect, request, Value, Class, Two, Local, fresh_state, is_applied}
-use Rattle.osi_fair.proofs.Vocabulary.{reach_of, first_failed, begins, is_over, is_silent, uses, asked_by, asks_by, asks_kept, at_found}
-use Rattle.osi_fair.proofs.Vocabulary.{class_for, connection_after, found_on, fresh, has_place, is_not_judged, is_stopped, request_tests}
-use Rattle.osi_fair.proofs.Vocabulary.{route_in, routed, sent_on, Traffic as State, takes, Connection, Direction, Left, Right, Finding}
-use Rattle.osi_fair.proofs.Vocabulary.{Broke, Kept, NotJudged, TooMany, Reach, Route, all_asked, all_written, asked_as, asked_in}
-use Rattle.osi_fair.proofs.Vocabulary.{all_passed, packet, passes, Passing, rubbish, unit}
+use Rattle.osi_fair.proofs.Vocabulary.{[], arith, Bool, false, is_some, List, None, Option, refl, Some, subst, suc, sym, true, zero, ℕ}
+use Rattle.osi_fair.proofs.Vocabulary.{◌++◌, ◌<◌, ◌∷◌, ◌≡◌, ◌⊎◌, eqb-true, AllByRecursion, list_all, list_any, not, slice_get, ◌&&◌, ◌==◌}
+use Rattle.osi_fair.proofs.Vocabulary.{◌||◌, Connect, request, Value, Class, Two, Local, fresh_state, is_applied, reach_of, first_failed}
+use Rattle.osi_fair.proofs.Vocabulary.{begins, is_over, is_silent, uses, asked_by, asks_by, asks_kept, at_found, class_for}
+use Rattle.osi_fair.proofs.Vocabulary.{connection_after, found_on, fresh, has_place, is_not_judged, is_stopped, route_in, routed}
+use Rattle.osi_fair.proofs.Vocabulary.{Traffic as State, takes, Connection, Direction, Left, Right, Finding, Broke, Kept, TooMany, Reach}
+use Rattle.osi_fair.proofs.Vocabulary.{Route, all_asked, all_written, asked_as, asked_in, all_passed, packet, passes, Passing, rubbish}
+use Rattle.osi_fair.proofs.Vocabulary.{unit}
 use Rattle.osi_carrier.specs.Runs.{Act}
 use Rattle.osi_rules.specs.declared.findings.Rule.TheVariants as rule
 use Rattle.osi_fair.proofs.what_holds_of_one_item.{HoldsOfEach, each_add, each_map, each_set}
@@ -17,16 +17,9 @@ use Rattle.osi_fair.proofs.what_stays_of_each_connection.{left_judged}
 
 -- ---- the reference of left stays
 
-no_confirm : {A : Type 0} (judged : Bool) → is_applied (if judged then Broke rule.WrongForm else NotJudged) ≡ true → A
-no_confirm judged h = grind arith
-
-sent_same : (d : Direction) (s : State) (v : Value) (c : Connection) → is_applied (found_on d s c v) ≡ true →
-    (sent_on d v c).left.reference ≡ c.left.reference
-sent_same d s v c h = grind arith
-
 after_same : (applied : Bool) (d : Direction) (s : State) (v : Value) (r : Reach) (c : Connection) →
     is_applied (found_on d s c v) ≡ applied → (connection_after d v applied r c).left.reference ≡ c.left.reference
-after_same applied d s v r c h = grind (arith, left_judged, sent_same)
+after_same applied d s v r c h = grind (arith, left_judged)
 
 -- ---- all are below
 
@@ -49,8 +42,7 @@ module _ (m : ℕ) where
   by_item d v s p (Some c) at a =
       let applied = is_applied (found_on d s c v) in
       let how_far = reach_of (class_for d s.course) (found_on d s c v) in
-      let after = connection_after d v applied how_far c in
-      each_set IsBelow s.connections p after a (below_same c after (after_same applied d s v how_far c refl) (a p c at))
+      search (arith, each_set, below_same, after_same applied d s v how_far c refl)
 
   placed_below : (x : Connect) (s : State) (p : Option ℕ) → x.source < m → AreBelow s → AreBelow (asks_kept x s p).state
   placed_below x s (Some p) h a = each_set IsBelow s.connections p (asked_by x) a h
@@ -80,9 +72,6 @@ module _ (m : ℕ) where
 
   -- ---- so none has this reference
 
-  other_number : (n : ℕ) (b : Bool) → (n == m) ≡ b → n < m → b ≡ false
-  other_number n b e h = grind (arith, eqb-true)
-
   neither : (a b c : Bool) → c ≡ false → (a && (b && c)) ≡ false
   neither a b c h = grind arith
 
@@ -95,10 +84,10 @@ module _ (m : ℕ) where
 
   pub unused : (s : State) → AreBelow s → list_any (uses Left m) s.connections ≡ false
   unused s a = none_so (uses Left m) s.connections (λ i c at. neither (not (is_over Left c)) (not (is_silent c.left.phase))
-      (c.left.reference == m) (other_number c.left.reference (c.left.reference == m) refl (a i c at)))
+      (c.left.reference == m) (grind (arith, eqb-true)))
 
   pub all_unlike : (s : State) → AreBelow s → list_any (is_not_judged m) s.connections ≡ false
-  all_unlike s a = grind (arith, none_so, other_number)
+  all_unlike s a = grind (arith, none_so)
 
 -- ---- a CR of a carrier
 
@@ -119,16 +108,9 @@ abbrev tested : State → Bool → Bool → Finding
 tested s unlike used = first_failed ((is_some s.course.class_seen || list_all (is_over Left) s.connections, Broke rule.Negotiating)
     ∷ (not unlike, TooMany) ∷ (not used, Broke rule.ReferenceInUse) ∷ (has_place s.connections, TooMany) ∷ [])
 
-pub tests_pass : (s : State) (x : Connect) → s.course.class_seen ≡ Some Two → list_any (uses Left x.source) s.connections ≡ false →
-    list_any (is_not_judged x.source) s.connections ≡ false → Passed (first_failed (request_tests s x))
-tests_pass s x two unused judged = grind arith
-
-pub asked_finding : (f : Finding) (x : Connect) (s : State) → (asks_by Left f x s).told.finding ≡ f
-asked_finding f x s = grind arith
-
 pub next_is_right : (local : Local) (acts : List Act) (ps : List Passing) (x : Connect) (rest : List ℕ) →
     all_written acts (fresh_state true local) ≡ all_asked ps ++ x.source ∷ rest →
     is_stopped Left (all_passed ps fresh).course ≡ false → (all_passed ps fresh).course.class_seen ≡ Some Two →
     ((takes Left (request x) (all_passed ps fresh)).told.finding ≡ Kept)
     ⊎ ((takes Left (request x) (all_passed ps fresh)).told.finding ≡ TooMany)
-next_is_right local acts ps x rest e judged two = grind (arith, unused, next_is_new, tests_pass)
+next_is_right local acts ps x rest e judged two = grind (arith, unused, next_is_new)

@@ -4,9 +4,8 @@ use Rattle.osi_fair.proofs.Vocabulary.{arith, [], ap, append_assoc, Err, if◌th
 use Rattle.osi_fair.proofs.Vocabulary.{ℕ, ◌++◌, ◌∙◌, ◌∷◌, ◌≡◌, ◌⊎◌, flat_map-append, append-nil, packet_of, units_of, Value, written}
 use Rattle.osi_fair.proofs.Vocabulary.{TpduFault, acts_by, RunsOut, react, reacts, breaks, user_does, UserCall, ends, packets, Tpdu}
 use Rattle.osi_fair.proofs.Vocabulary.{EndReason, Fault, NoMemory, Direction, units_by, put_by, put_for, arrives, Becomes, calls, Event}
-use Rattle.osi_fair.proofs.Vocabulary.{HappenAlong, MayCall, Whole}
+use Rattle.osi_fair.proofs.Vocabulary.{HappenAlong, MayCall, Whole, State}
 use Rattle.osi_carrier.specs.Packets.{Acts}
-use Rattle.osi_carrier.specs.State.{State}
 use Rattle.osi_fair.proofs.what_a_carrier_puts.{call_writes, unit_writes}
 
 packets_join : (xs ys : List Value) → packets (xs ++ ys) ≡ packets xs ++ packets ys
@@ -25,13 +24,8 @@ module _ (d : Direction) where
     events = a.events ++ b.events;
     put = a.put ++ b.put;
     coming = b.coming;
-    along = subst (λ (l : List Value). HappenAlong d w (a.events ++ b.events) (record w { end = new; put = l; coming = b.coming }))
-        (append_assoc w.put a.put b.put)
-        (happen_join a.events b.events w (record w { end = mid; put = w.put ++ a.put; coming = a.coming })
-        (record w { end = new; put = (w.put ++ a.put) ++ b.put; coming = b.coming }) a.along b.along);
-    outgoing = b.outgoing ∙ ap (λ (l : List ℕ). l ++ packets b.put) a.outgoing
-        ∙ append_assoc w.end.outgoing (packets a.put) (packets b.put)
-        ∙ ap (λ (l : List ℕ). w.end.outgoing ++ l) (sym (packets_join a.put b.put));
+    along = grind (arith, append_assoc, happen_join);
+    outgoing = grind (arith, append_assoc, packets_join);
   }
 
   becomes_same : (w : Whole) → Becomes d w w.end
@@ -103,8 +97,7 @@ module _ (d : Direction) where
       let (first, rest) = all_units r.done ((r.next ∷ r.more) ++ later) w
       (e ∙ ap (λ (l : List Value). l ++ later) r.all ∙ append_assoc r.done (r.next ∷ r.more) later) in
       let mid : Whole = record w { end = reacts r.done w.end; put = w.put ++ first.put; coming = first.coming } in
-      subst (λ (s : State). Becomes d w s) (sym r.ended)
-      (becomes_then w (reacts r.done w.end) (ends NoMemory (reacts r.done w.end)) first (becomes_over NoMemory mid r.lasts))
+      grind (arith, becomes_then, becomes_over NoMemory mid r.lasts)
 
   by_memory : (units later : List Value) (w : Whole) (new : State) → w.coming ≡ units ++ later →
       (new ≡ reacts units w.end) ⊎ RunsOut w.end units new → Becomes d w new

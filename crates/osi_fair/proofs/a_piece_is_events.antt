@@ -2,10 +2,8 @@
 -- For the law on packets.
 use Rattle.osi_fair.proofs.Vocabulary.{[], ap, append_assoc, arith, Bool, false, if◌then◌else◌, inl, inr, is_some, length, List, None}
 use Rattle.osi_fair.proofs.Vocabulary.{Option, refl, subst, sym, take, true, ℕ, ◌++◌, ◌∙◌, ◌∷◌, ◌≡◌, ◌⊎◌, append-nil, take_all, ◌||◌}
-use Rattle.osi_fair.proofs.Vocabulary.{ArePackets, Fed, units_of, Value, Happening, Carrying, Feeds, FindsNoMemory, FindsNoRoom, Goes}
-use Rattle.osi_fair.proofs.Vocabulary.{is_spoilt, Refuses, RunsDry, Starves, StopsBehind, waits, reacts, put_back, ends, EndReason}
-use Rattle.osi_fair.proofs.Vocabulary.{NoMemory, Direction, IsFed, units_by, units_in, Becomes, Whole}
-use Rattle.osi_carrier.specs.State.{State}
+use Rattle.osi_fair.proofs.Vocabulary.{ArePackets, Fed, Value, Happening, Carrying, Feeds, FindsNoMemory, FindsNoRoom, Goes, RunsDry}
+use Rattle.osi_fair.proofs.Vocabulary.{Starves, StopsBehind, waits, put_back, EndReason, Direction, IsFed, units_in, Whole}
 use Rattle.osi_fair.proofs.a_packet_is_events.{becomes_then}
 use Rattle.osi_fair.proofs.what_is_in_front_of_a_whole_end.{Comes, after_all, all_come, none_come, runs_out_front, same_front, takes_front}
 use Rattle.osi_fair.proofs.what_is_in_front_of_a_whole_end.{units_in_range}
@@ -36,8 +34,7 @@ module _ (d : Direction) (old : Carrying) (piece : List ℕ) (new : Carrying) wh
     within = 0;
     rest = old.held.octets ++ take 0 piece;
     cut = refl;
-    becomes = λ e o w later is come.
-        subst (λ (c : Carrying). Comes d e o w c.state later) (sym same) (same_front d e o w old.state later is come);
+    becomes = grind (arith, same_front);
     keeps = λ lasts. (none lasts, ap (λ (c : Carrying). c.held.octets) same ∙ sym (append-nil old.held.octets));
   }
 
@@ -60,16 +57,8 @@ module _ (d : Direction) (old : Carrying) (piece : List ℕ) (new : Carrying) wh
     cut = h.packets;
     becomes = λ e o w later is come.
         all_come d e o w new.state later (takes_front d e o h.units later old.state new.state w is h.taken come);
-    keeps = λ lasts.
-        (h.uses ∙ ap (λ (o : Option EndReason). if is_spoilt o then length piece else h.within) lasts, h.held);
+    keeps = grind arith;
   }
-
-  refused_fed : (used : ℕ) → Refuses old piece used new → FeedsOn d old piece used new
-  refused_fed used h = grind (arith, take_all (length piece) piece (omega arith), none_come, after_all, none_of, or_left)
-
-  -- memory runs out for what is left of the piece
-  no_room_fed : (used : ℕ) (h : FindsNoMemory old piece used new) → new.state ≡ ends NoMemory h.before → FeedsOn d old piece used new
-  no_room_fed used h ended = grind (arith, none_come, after_all, none_of, or_left)
 
   -- or for a unit of the next packet
   starved_fed : (used : ℕ) (h : FindsNoMemory old piece used new) (packet : List ℕ) → ArePackets (packet ∷ []) h.rest [] →
@@ -80,29 +69,24 @@ module _ (d : Direction) (old : Carrying) (piece : List ℕ) (new : Carrying) wh
     rest = [];
     cut = packets_join h.units (packet ∷ []) (old.held.octets ++ take h.within piece) h.rest [] h.packets one;
     becomes = λ e o w later is come.
-        let first_come : w.coming ≡ units_in h.units ++ (units ++ later) =
-        come ∙ ap (λ (l : List Value). l ++ later) (units_join h.units (packet ∷ []))
-        ∙ append_assoc (units_in h.units) (units_in (packet ∷ [])) later
-        ∙ ap (λ (l : List Value). units_in h.units ++ (l ++ later)) (append-nil (units_by (units_of packet)) ∙ ap units_by read) in
+        let first_come : w.coming ≡ units_in h.units ++ (units ++ later) = grind (arith, units_join, append_assoc, append-nil) in
         let (first, rest) = takes_front d e o h.units (units ++ later) old.state h.before w is h.taken first_come in
         let mid : Whole = record w { end = put_back e o h.before; put = w.put ++ first.put; coming = first.coming } in
         let b = becomes_then d w (put_back e o h.before) (put_back e o new.state) first
         (runs_out_front d e o units later h.before new.state mid (units_in_range packet one.0 units one.2 read) refl rest out) in
-        subst (λ (s : State). Comes d e o w s later) (sym out.ended)
-        (none_come d e o w NoMemory (reacts out.done h.before) later
-        (subst (λ (s : State). Becomes d w (put_back e o s)) out.ended b));
+        grind (arith, none_come);
     keeps = λ lasts. absurd (grind arith);
   }
 
   memory_by : (used : ℕ) (h : FindsNoMemory old piece used new) → FindsNoRoom old piece h.within h.rest h.before new.state
       ⊎ ((packet : List ℕ) × ArePackets (packet ∷ []) h.rest [] × Starves h.before packet new.state) → FeedsOn d old piece used new
-  memory_by used h (inl room) = no_room_fed used h room.ended
+  memory_by used h (inl room) = grind (arith, none_come, after_all, none_of, or_left)
   memory_by used h (inr (packet, one, starved)) = starved_fed used h packet one starved
 
   goes_fed : (used : ℕ) → Goes old piece used new → FeedsOn d old piece used new
   goes_fed used (inl (inl h)) = dry_fed used h
   goes_fed used (inl (inr h)) = stopped_fed used h
-  goes_fed used (inr (inl h)) = refused_fed used h
+  goes_fed used (inr (inl h)) = grind (arith, take_all (length piece) piece (omega arith), none_come, after_all, none_of, or_left)
   goes_fed used (inr (inr h)) = memory_by used h h.how
 
   by_waits : (fed : Fed) → Feeds old piece fed new → old.state.ended ≡ None → (b : Bool) → waits old.state ≡ b →

@@ -1,15 +1,15 @@
 -- A reference names one connection at most of those that are judged, whatever passes.
 -- For the law of that name. By the way that a unit takes, as in a_unit_is_an_act_of_its_line.
 use Rattle.osi_fair.proofs.Vocabulary.{arith, [], Bool, false, if◌then◌else◌, List, None, Option, option_map, refl, Some, subst, sym, true}
-use Rattle.osi_fair.proofs.Vocabulary.{ℕ, ◌^◌, ◌∙◌, ◌∷◌, ◌≡◌, eqb-true, list_any, nat_le, not, position, slice_get, slice_set, ◌&&◌, ◌==◌}
-use Rattle.osi_fair.proofs.Vocabulary.{◌||◌, confirm, Connect, disconnect, disconnected, error, request, Value, Class, is_applied, reach_of}
+use Rattle.osi_fair.proofs.Vocabulary.{ℕ, ◌^◌, ◌∙◌, ◌∷◌, ◌≡◌, eqb-true, list_any, nat_le, not, position, slice_get, slice_set, ◌&&◌, ◌||◌}
+use Rattle.osi_fair.proofs.Vocabulary.{confirm, Connect, disconnect, disconnected, error, request, Value, Class, is_applied, reach_of}
 use Rattle.osi_fair.proofs.Vocabulary.{code_named, first_failed, given_again, is_inside, is_offered, is_closing, is_named, is_open, is_over}
 use Rattle.osi_fair.proofs.Vocabulary.{is_over_by, is_refused, is_silent, seen, uses, asked_by, asks_by, asks_kept, asks_of, at_found}
 use Rattle.osi_fair.proofs.Vocabulary.{at_place, class_for, closing_phase, connection_after, found, found_on, fresh, half_after, is_stopped}
 use Rattle.osi_fair.proofs.Vocabulary.{judged_on, none_told, Outcome, request_tests, route, routed, sent_on, Traffic as State, uses_source}
 use Rattle.osi_fair.proofs.Vocabulary.{Connection, Course, Direction, Left, Right, Finding, Broke, Kept, NotJudged, Outside, Reach, Half}
-use Rattle.osi_fair.proofs.Vocabulary.{Phase, Closed, Refused, Route, Asks, Named, Only, Unnamed, all_passed, HoldsOfOne, packet, passes}
-use Rattle.osi_fair.proofs.Vocabulary.{Passing, rubbish, unit, ap, is_live}
+use Rattle.osi_fair.proofs.Vocabulary.{Closed, Refused, Route, Asks, Named, Only, Unnamed, all_passed, HoldsOfOne, packet, passes, Passing}
+use Rattle.osi_fair.proofs.Vocabulary.{rubbish, unit, ap, is_live}
 use Rattle.osi_rules.specs.declared.findings.Reach.TheVariants as reach
 use Rattle.osi_rules.specs.declared.findings.Rule.TheVariants as rule
 use Rattle.osi_fair.proofs.small_facts_that_many_lemmas_use.{and_first, and_second, judged_same, or_first, or_last}
@@ -25,9 +25,6 @@ pub use Rattle.osi_fair.proofs.small_facts_that_many_lemmas_use.{differ}
 record Effect (mine seen after : Half) : Type 0 where
   moves : HalfMoves mine seen after
   silent : is_silent mine.phase ≡ true → (is_silent after.phase || is_refused after.phase) ≡ true
-
-silent_or_open : (p : Phase) → is_silent p ≡ true → is_open p ≡ true → ⊥
-silent_or_open p h k = grind arith
 
 -- the phase and the reference stay
 same_phase : (mine seen after : Half) → after.phase ≡ mine.phase → after.reference ≡ mine.reference → Effect mine seen after
@@ -198,8 +195,7 @@ not_first a b h = grind arith
 by_route : (d : Direction) (v : Value) (s : State) (r : Route) → AreApart s.connections → Apart (routed d v s r)
 by_route d v s Asks a = asks d v s a
 by_route d v s (Named n) a = at_any d v s (position (is_named d n) s.connections)
-    (λ i e first at. not_first (is_over d e) (not (is_silent (seen d e).phase) && ((seen d e).reference == n))
-    (first_true (is_named d n) s.connections i e first at)) a
+    (grind (arith, not_first, first_true)) a
 by_route d v s Only a = at_any d v s (position (is_live d) s.connections)
     (λ i e first at. not_true (is_over d e) (first_true (is_live d) s.connections i e first at)) a
 by_route d v s (Unnamed finding) a = a

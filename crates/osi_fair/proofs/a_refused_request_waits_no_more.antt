@@ -1,8 +1,8 @@
 -- Once the CR that waits has been refused, and a packet of left has begun since, no connection waits: each is over for left.
 -- For the law on CRs that wait.
-use Rattle.osi_fair.proofs.Vocabulary.{arith, [], ap, Bool, false, List, map, None, refl, Some, subst, suc, sym, true, zero, ℕ, ◌∙◌, ◌∷◌}
-use Rattle.osi_fair.proofs.Vocabulary.{◌≡◌, list_all, not, slice_get, begins, is_live, is_over, is_refused, fresh, packet_begins}
-use Rattle.osi_fair.proofs.Vocabulary.{Connection, Left, all_passed, Passing}
+use Rattle.osi_fair.proofs.Vocabulary.{arith, [], ap, Bool, false, List, map, None, refl, Some, subst, suc, sym, true, zero, ℕ, ◌∷◌, ◌≡◌}
+use Rattle.osi_fair.proofs.Vocabulary.{list_all, not, slice_get, begins, is_live, is_over, is_refused, fresh, packet_begins, Connection}
+use Rattle.osi_fair.proofs.Vocabulary.{Left, all_passed, Passing}
 use Rattle.osi_fair.proofs.small_facts_that_many_lemmas_use.{both}
 use Rattle.osi_fair.proofs.what_holds_of_one_item.{HoldsOfEach, after_map}
 use Rattle.osi_fair.proofs.all_are_judged_unless_one_broke.{IsJudged, all_judged}
@@ -31,8 +31,7 @@ module _ (ps : List Passing) (p : ℕ) (c : Connection) (none : (all_passed ps f
       let sound = (all_apart ps fresh fresh_apart).sound i e there j in
       let (was, so) = begun_live Left e sound.left_knows j (ap not h) in
       let same : i ≡ p = one_waits ps none i p e c there at was (judged p c at) so live in
-      let is : e ≡ c = same_item e c (sym there ∙ ap (λ (q : ℕ). slice_get (all_passed ps fresh).connections q) same ∙ at) in
-      subst (λ (x : Connection). is_over Left (begins Left x) ≡ true) (sym is) (refused_over c (judged p c at) refused)
+      grind (arith, same_item, refused_over, judged)
 
   all_over : list_all (is_over Left) (map (begins Left) (all_passed ps fresh).connections) ≡ true
   all_over = all_from (is_over Left) (map (begins Left) (all_passed ps fresh).connections) (λ i x there.

@@ -3,13 +3,12 @@
 use Rattle.osi_fair.proofs.Vocabulary.{[], ap, arith, false, List, subst, suc, sym, ℕ, ◌++◌, ◌+◌, ◌∙◌, ◌∷◌, ◌≡◌, ◌≤◌, flat_map-append}
 use Rattle.osi_fair.proofs.Vocabulary.{append-nil, AllByRecursion, list_any, Connect, request, Value, effect, connection_of, react}
 use Rattle.osi_fair.proofs.Vocabulary.{user_does, UserCall, uses, is_not_judged, Traffic, Left, asked_in, packet, passes, unit as passing}
-use Rattle.osi_fair.proofs.Vocabulary.{put_by, arrives, calls, Event, Happens, passes_rubbish, Whole}
-use Rattle.osi_carrier.specs.State.{State}
-use Rattle.osi_fair.specs.Wholes.{begins_other, begins_own, passes_other, passes_own}
+use Rattle.osi_fair.proofs.Vocabulary.{put_by, arrives, calls, Event, Happens, passes_rubbish, Whole, Right, State, begins_other}
+use Rattle.osi_fair.proofs.Vocabulary.{begins_own}
+use Rattle.osi_fair.specs.Wholes.{passes_other, passes_own}
 use Rattle.osi_fair.proofs.a_new_reference_is_not_in_use.{AreBelow, FewAsked, all_unlike, still_below, unused}
 use Rattle.osi_fair.proofs.references_of_requests_rise.{Rise, all_gives, closed_gives, ended_gives, not_less, rises_by, sent_gives}
 use Rattle.osi_fair.proofs.which_requests_are_put.{asked_among, call_asks, unit_asks}
-use Rattle.osi_fair.proofs.Vocabulary.{Right}
 
 -- ---- how many references were given
 

@@ -55,5 +55,4 @@ pub right_not_blamed : (ps : List Passing) (d : Direction) (v : Value) (n p : â„
 right_not_blamed ps d v n p c judged class named at is_judged right =
     let s = all_passed ps fresh in
     let is = named_of (destination_of v) n d c named right.named in
-    by_first d v s n p c (names_one ps d n) judged class named at is_judged right is (position_or_len (is_named d n) s.connections)
-    (is_first (is_named d n) s.connections p c at is)
+    search (arith, by_first, names_one ps d n, is_first (is_named d n) s.connections p c at is)

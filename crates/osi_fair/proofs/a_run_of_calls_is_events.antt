@@ -4,8 +4,7 @@ use Rattle.osi_fair.proofs.Vocabulary.{arith, [], ap, append_assoc, drop, is_som
 use Rattle.osi_fair.proofs.Vocabulary.{ℕ, ◌++◌, ◌∙◌, ◌∷◌, ◌≡◌, append-nil, take-append-drop, flat_map, packets_joined, ArePackets, Fed}
 use Rattle.osi_fair.proofs.Vocabulary.{Value, back_joined, Happening, Carrying, Feeds, Call, calling, Calls, carried_in, feeding, put_back}
 use Rattle.osi_fair.proofs.Vocabulary.{told_in, used_in, user_does, UserCall, EndReason, Direction, AreFedFrom, IsRun, MadeAlong, MayMake}
-use Rattle.osi_fair.proofs.Vocabulary.{units_in, Becomes, MayCall, Whole}
-use Rattle.osi_carrier.specs.State.{State}
+use Rattle.osi_fair.proofs.Vocabulary.{units_in, Becomes, MayCall, Whole, State}
 use Rattle.osi_fair.proofs.small_facts_that_many_lemmas_use.{differ}
 use Rattle.osi_fair.proofs.a_packet_is_events.{then_so}
 use Rattle.osi_fair.proofs.a_piece_is_events.{feeds_on, units_join}
@@ -27,9 +26,7 @@ all_stay : (old : Carrying) (calls : List Call) (new : Carrying) → is_some old
 all_stay old [] new h same = ap (λ (c : Carrying). c.state) same
 all_stay old (call ∷ calls) new h (mid, first, may, more) =
     let one = call_stays old call mid h first may in
-    let rest = all_stay mid calls new (grind arith) more in
-    back_joined (told_in call) (flat_map told_in calls) (carried_in call) (flat_map carried_in calls) new.state
-    ∙ ap (λ (s : State). put_back (told_in call) (carried_in call) s) rest ∙ one
+    grind (arith, back_joined, all_stay mid calls new (grind arith) more)
 
 over_after : (old : Carrying) (calls : List Call) (new : Carrying) → is_some old.state.ended ≡ true → MadeAlong old calls new →
     is_some new.state.ended ≡ true
@@ -62,10 +59,7 @@ back_step d old call mid behind held used from = record {
   fed = [];
   rest = old.held.octets;
   cut = grind (arith, append-nil);
-  becomes = λ e o w later is come.
-      same_front d (e ++ told_in call) (o ++ carried_in call) w mid.state later
-      (is ∙ ap (λ (s : State). put_back e o s) (sym behind)
-      ∙ sym (back_joined e (told_in call) o (carried_in call) mid.state)) come;
+  becomes = grind (arith, same_front, back_joined);
   keeps = λ lasts. (sym used, held);
   from = λ stream calls f. (stream, refl, λ lasts. from stream calls f);
 }
@@ -88,20 +82,7 @@ fed_step : (d : Direction) (old : Carrying) (piece : List ℕ) (fed : Fed) (mid 
     Step d old (feeding piece fed) mid
 fed_step d old piece fed mid h =
     let f = feeds_on d old piece mid fed h in
-    record {
-      packets = f.packets;
-      fed = take f.within piece;
-      rest = f.rest;
-      cut = f.cut;
-      becomes = λ e o w later is come. comes_nil d e o w mid.state later (f.becomes e o w later is come);
-      keeps = λ lasts. (ap (λ (n : ℕ). take n piece) (sym (f.keeps lasts).0), (f.keeps lasts).1);
-      from = λ stream calls g. (
-        drop f.within piece ++ g.0,
-        g.1 ∙ ap (λ (l : List ℕ). l ++ g.0) (sym (take-append-drop f.within piece))
-            ∙ append_assoc (take f.within piece) (drop f.within piece) g.0,
-        λ lasts. subst (λ (n : ℕ). AreFedFrom (drop n piece ++ g.0) calls) (f.keeps lasts).0 g.2,
-      );
-    }
+    grind (arith, comes_nil, append_assoc, take-append-drop f.within piece)
 
 step_so : (d : Direction) (old : Carrying) (call : Call) (mid : Carrying) → Calls old call mid → MayMake old call → Step d old call mid
 step_so d old call mid h may = search (arith, fed_step, back_step, user_step)
@@ -132,9 +113,7 @@ ended_run d old stream call calls mid new step more from gone =
       cut = step.cut;
       becomes = λ e o w later is come.
           let so : put_back (e ++ t) (o ++ c) mid.state ≡ put_back (e ++ (t ++ ts)) (o ++ (c ++ cs)) new.state =
-          ap (λ (s : State). put_back (e ++ t) (o ++ c) s) (sym behind) ∙ sym (back_joined (e ++ t) ts (o ++ c) cs new.state)
-          ∙ ap (λ (x : List Happening). put_back x ((o ++ c) ++ cs) new.state) (append_assoc e t ts)
-          ∙ ap (λ (x : List ℕ). put_back (e ++ (t ++ ts)) x new.state) (append_assoc o c cs) in
+          grind (arith, back_joined, append_assoc) in
           (subst (λ (s : State). Becomes d w s) so (step.becomes e o w later is come).0, λ lasts. no_end new.state.ended over_now lasts);
       keeps = λ lasts. no_end new.state.ended over_now lasts;
     }
@@ -154,14 +133,9 @@ more_run d old stream call calls mid new step lasts after parts ran =
       after = ran.after;
       rest = ran.rest;
       parts = parts ∙ ap (λ (l : List ℕ). step.fed ++ l) ran.parts ∙ sym (append_assoc step.fed ran.fed ran.after);
-      cut = subst (λ (l : List ℕ). ArePackets (step.packets ++ ran.packets) l ran.rest)
-          (append_assoc old.held.octets step.fed ran.fed)
-          (packets_joined step.packets ran.packets (old.held.octets ++ step.fed) step.rest ran.fed ran.rest step.cut
-          (subst (λ (l : List ℕ). ArePackets ran.packets (l ++ ran.fed) ran.rest) (step.keeps lasts).1 ran.cut));
+      cut = grind (arith, append_assoc, packets_joined);
       becomes = λ e o w later is come.
-          let first_come : w.coming ≡ units_in step.packets ++ (units_in ran.packets ++ later) =
-          come ∙ ap (λ (l : List Value). l ++ later) (units_join step.packets ran.packets)
-          ∙ append_assoc (units_in step.packets) (units_in ran.packets) later in
+          let first_come : w.coming ≡ units_in step.packets ++ (units_in ran.packets ++ later) = grind (arith, units_join, append_assoc) in
           let first = step.becomes e o w (units_in ran.packets ++ later) is first_come in
           let middle : Whole = record w {
             end = put_back (e ++ t) (o ++ c) mid.state;
@@ -173,10 +147,7 @@ more_run d old stream call calls mid new step lasts after parts ran =
           (subst (λ (x : List ℕ). Comes d ((e ++ t) ++ ts) x w new.state later) (append_assoc o c cs)
           (then_so d (new.state.ended ≡ None) later w (put_back (e ++ t) (o ++ c) mid.state)
           (put_back ((e ++ t) ++ ts) ((o ++ c) ++ cs) new.state) first.0 next.0 next.1));
-      keeps = λ still. (
-        ap (λ (l : List ℕ). l ++ ran.fed) (step.keeps lasts).0 ∙ ap (λ (l : List ℕ). used_in call ++ l) (ran.keeps still).0,
-        (ran.keeps still).1,
-      );
+      keeps = grind arith;
     }
 
 none_run : (d : Direction) (old : Carrying) (stream : List ℕ) (new : Carrying) → new ≡ old → IsRun d old stream [] new
@@ -187,9 +158,7 @@ none_run d old stream new same = record {
   rest = old.held.octets;
   parts = refl;
   cut = grind (arith, append-nil);
-  becomes = λ e o w later is come.
-      comes_nil d e o w new.state later (subst (λ (c : Carrying). Comes d e o w c.state later) (sym same)
-      (same_front d e o w old.state later is come));
+  becomes = grind (arith, comes_nil, same_front);
   keeps = λ lasts. (refl, ap (λ (c : Carrying). c.held.octets) same);
 }
 

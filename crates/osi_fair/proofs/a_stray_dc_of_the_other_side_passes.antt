@@ -1,10 +1,9 @@
 -- A DC of the other side passes that answers nothing: the lines of its connection may take it, and nothing else changes.
 -- For the law on a whole end.
 use Rattle.osi_fair.proofs.Vocabulary.{arith, [], ap, Bool, false, if◌then◌else◌, List, refl, Some, subst, sym, true, ◌++◌, ◌∙◌, ◌∷◌, ◌≡◌}
-use Rattle.osi_fair.proofs.Vocabulary.{◌≢◌, Connect, destination_of, HasFieldsInRange, request, Value, Two, Local, reach_of, Traffic, takes}
-use Rattle.osi_fair.proofs.Vocabulary.{Connection, Right, Finding, NotJudged, after_finding, finding_of, Line, Whole}
+use Rattle.osi_fair.proofs.Vocabulary.{◌≢◌, Connect, HasFieldsInRange, request, Value, Two, Local, reach_of, Traffic, takes, Connection}
+use Rattle.osi_fair.proofs.Vocabulary.{Right, Finding, NotJudged, after_finding, finding_of, Line, Whole, passes_other, eqb-true}
 use Rattle.osi_rules.specs.declared.findings.Reach.TheVariants as reach
-use Rattle.osi_fair.specs.Lines.{passes_other}
 use Rattle.osi_fair.proofs.small_facts_that_many_lemmas_use.{and_first, and_second, differ, is_false, judged_same, open_or_closing}
 use Rattle.osi_fair.proofs.a_dc_for_a_stray_dr_passes.{not_due}
 use Rattle.osi_fair.proofs.no_two_open_connections_have_one_peer.{left_open}
@@ -16,7 +15,7 @@ use Rattle.osi_fair.proofs.what_becomes_of_a_connection.{IsIdle}
 use Rattle.osi_fair.proofs.what_keeps_names_apart.{Sound}
 use Rattle.osi_fair.proofs.names_stay_apart_though_one_is_lost.{AreNamedApart, each_sound}
 use Rattle.osi_fair.proofs.what_the_other_side_closes.{IsSane}
-use Rattle.osi_fair.proofs.which_units_are_for_a_connection.{is_dc, named_is, names, picked_more}
+use Rattle.osi_fair.proofs.which_units_are_for_a_connection.{is_dc, names, picked_more}
 use Rattle.osi_fair.proofs.what_is_live_at_a_called_end.{all_add}
 
 module _ (local : Local) (w : Whole) (f : Followed local w) (sane : IsSane w.tap) (peers : AreNamedApart Right w.tap.connections)
@@ -49,7 +48,7 @@ module _ (local : Local) (w : Whole) (f : Followed local w) (sane : IsSane w.tap
           line,
           (
             ranges,
-            named_is (destination_of v) g.r named,
+            grind (arith, eqb-true),
             not_all (finding_of Right w.tap.course false g.line.tap v) is,
             ap (λ (x : Finding). record g.line { tap = after_finding Right x v g.line.tap; coming = g.line.coming ++ v ∷ [] }) (sym is),
           ),

@@ -5,12 +5,11 @@ use Rattle.osi_fair.proofs.Vocabulary.{true, ℕ, ◌++◌, ◌∙◌, ◌∷◌
 use Rattle.osi_fair.proofs.Vocabulary.{◌&&◌, ◌==◌, ◌||◌, acknowledge, confirm, Connect, data0, data2, destination_of, disconnect}
 use Rattle.osi_fair.proofs.Vocabulary.{disconnected, error, HasFieldsInRange, request, Value, Standing, Class, Two, Local, is_applied}
 use Rattle.osi_fair.proofs.Vocabulary.{reach_of, first_failed, is_closed, is_closing, is_named, is_open, is_over, is_refused, is_silent}
-use Rattle.osi_fair.proofs.Vocabulary.{connection_after, course_after, found, found_on, half_after, is_stray, one_told, Outcome, reached}
-use Rattle.osi_fair.proofs.Vocabulary.{Traffic, takes, uses_source, Connection, Course, Left, Right, Finding, Broke, NotJudged, Reach, Half}
-use Rattle.osi_fair.proofs.Vocabulary.{Phase, after_finding, finding_of, Line, unit as passing, Whole, noted}
+use Rattle.osi_fair.proofs.Vocabulary.{connection_after, course_after, found, found_on, is_stray, one_told, Outcome, reached, Traffic}
+use Rattle.osi_fair.proofs.Vocabulary.{takes, uses_source, Connection, Course, Left, Right, Finding, Broke, NotJudged, Reach, Half, Phase}
+use Rattle.osi_fair.proofs.Vocabulary.{after_finding, finding_of, Line, unit as passing, Whole, noted, passes_other}
 use Rattle.osi_rules.specs.declared.findings.Reach.TheVariants as reach
 use Rattle.osi_rules.specs.declared.findings.Rule.TheVariants as rule
-use Rattle.osi_fair.specs.Lines.{passes_other}
 use Rattle.osi_fair.proofs.small_facts_that_many_lemmas_use.{all_add, both as is_both, closing_shuts, differ, judged_same, not_not}
 use Rattle.osi_fair.proofs.small_facts_that_many_lemmas_use.{number_is, or_left, or_right, set_none}
 use Rattle.osi_fair.proofs.how_a_unit_of_right_passes.{strays_more}
@@ -63,13 +62,9 @@ reached_strays r c = grind arith
 lost_so : (v : Value) (applied : Bool) (c : Connection) → (connection_after Left v applied reach.Connection c).is_judged ≡ false
 lost_so v applied c = grind arith
 
-open_half : (s : Traffic) (c : Connection) (v : Value) → is_applied (found_on Left s c v) ≡ true →
-    is_open (half_after v c.left).phase ≡ true → is_open c.left.phase ≡ true
-open_half s c v e h = grind (arith, differ, closing_shuts)
-
 open_by : (s : Traffic) (c : Connection) (v : Value) (applied : Bool) (r : Reach) → is_applied (found_on Left s c v) ≡ applied →
     is_open (connection_after Left v applied r c).left.phase ≡ true → is_open c.left.phase ≡ true
-open_by s c v applied r e h = grind (arith, open_half, left_own, left_judged)
+open_by s c v applied r e h = grind (arith, left_own, left_judged)
 
 -- the CCs that are to pass give other references
 answers_above : (given last n : ℕ) (vs : List Value) → n ≤ last → AreAbove given last vs → AllByRecursion (Answers (λ m. m ≡ n → ⊥)) vs
@@ -166,8 +161,7 @@ module _ (local : Local) (w : Whole) (f : Called local w) (apart : AreApart w.ta
     stands = λ i c at. stand_on (f.refs i) (λ j. units_at j came_none)
         (λ r peer link line e row. skip_by r peer link line (names r v) refl dc row) i c (units_at i f.tagged) (units_at i f.came)
         (w.begun && first_at i f.tagged) (asks_none i) (f.stands i c at);
-    beyond = λ i none.
-        let (a, b, d) = f.beyond i none in (a, asks_none i ∙ b, d);
+    beyond = grind (arith, asks_none);
     homes = f.homes;
     positive = f.positive;
     linked_at = f.linked_at;

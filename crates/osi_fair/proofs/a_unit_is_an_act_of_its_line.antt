@@ -1,12 +1,8 @@
 -- Of a unit in class 2 that names a connection the rules of transport find what the line of that connection says.
 -- For the law of that name.
-use Rattle.osi_fair.proofs.Vocabulary.{arith}
-use Rattle.osi_fair.proofs.Vocabulary.{[], ap, List, map, option_map, refl, Some, suc, zero, ℕ, ◌∷◌, ◌≡◌}
-use Rattle.osi_fair.proofs.Vocabulary.{slice_get, slice_set, destination_of}
-use Rattle.osi_fair.proofs.Vocabulary.{Value, begins}
-use Rattle.osi_fair.proofs.Vocabulary.{one_told, Outcome, packet_begins, route_two, Traffic as State}
-use Rattle.osi_fair.proofs.Vocabulary.{takes, uses_source, Connection, Direction, Named, IsAtPlace}
-use Rattle.osi_fair.proofs.Vocabulary.{after_finding, finding_of}
+use Rattle.osi_fair.proofs.Vocabulary.{arith, [], ap, List, map, option_map, refl, Some, suc, zero, ℕ, ◌∷◌, ◌≡◌, slice_get, slice_set}
+use Rattle.osi_fair.proofs.Vocabulary.{destination_of, Value, begins, one_told, Outcome, packet_begins, route_two, Traffic as State, takes}
+use Rattle.osi_fair.proofs.Vocabulary.{uses_source, Connection, Direction, Named, IsAtPlace, after_finding, finding_of}
 
 route_is : (d : Direction) (v : Value) (n : ℕ) → destination_of v ≡ Some n → route_two d v ≡ Named n
 route_is d v n e = grind arith

@@ -2,15 +2,14 @@
 -- For the law on a whole called end.
 use Rattle.osi_fair.proofs.Vocabulary.{[], ap, arith, Bool, false, inl, inr, List, None, Option, refl, set, Some, subst, sym, true, ℕ, ◌++◌}
 use Rattle.osi_fair.proofs.Vocabulary.{◌<◌, ◌∙◌, ◌∷◌, ◌≡◌, ◌≤◌, ◌⊎◌, eq-eqb, AllByRecursion, list_any, position_or_len, position, slice_get}
-use Rattle.osi_fair.proofs.Vocabulary.{◌&&◌, ◌==◌, confirm, Connect, destination_of, disconnect, error, Value, Standing, Class, Two, Local}
-use Rattle.osi_fair.proofs.Vocabulary.{acceptance, opened_link, is_named, is_open, is_over, is_refused, is_silent, other, uses}
-use Rattle.osi_fair.proofs.Vocabulary.{course_after, found, found_on, half_after, route, sent_on, silent_half, takes, uses_source}
-use Rattle.osi_fair.proofs.Vocabulary.{Connection, Course, Left, Right, Kept, NotJudged, Half, Refused, Named, ActsAlong, after_finding}
-use Rattle.osi_fair.proofs.Vocabulary.{finding_of, IsRight, Line, opened_line, unit as passing, Whole, acknowledge, data0, data2}
-use Rattle.osi_fair.proofs.Vocabulary.{disconnected, if◌then◌else◌, not, one_told, Outcome, request, Traffic, has_broken}
+use Rattle.osi_fair.proofs.Vocabulary.{◌&&◌, ◌==◌, confirm, Connect, destination_of, disconnect, error, Value, Class, Two, Local}
+use Rattle.osi_fair.proofs.Vocabulary.{acceptance, opened_link, is_named, is_open, is_over, is_silent, other, uses, course_after, found}
+use Rattle.osi_fair.proofs.Vocabulary.{found_on, half_after, route, sent_on, silent_half, takes, uses_source, Connection, Course, Left}
+use Rattle.osi_fair.proofs.Vocabulary.{Right, Kept, NotJudged, Half, Refused, Named, ActsAlong, after_finding, finding_of, IsRight, Line}
+use Rattle.osi_fair.proofs.Vocabulary.{opened_line, unit as passing, Whole, acknowledge, data0, data2, disconnected, if◌then◌else◌, not}
+use Rattle.osi_fair.proofs.Vocabulary.{one_told, Outcome, request, Traffic, has_broken, passes_own}
 use Rattle.osi_rules.specs.declared.findings.Reach.TheVariants as reach
 use Rattle.osi_rules.specs.declared.findings.Rule.TheVariants as rule
-use Rattle.osi_fair.specs.Lines.{passes_own}
 use Rattle.osi_fair.proofs.small_facts_that_many_lemmas_use.{and_false, any_none, both as is_both, differ, first_is, judged_so, name_so}
 use Rattle.osi_fair.proofs.small_facts_that_many_lemmas_use.{number_is, rest_is, set_none, unequal}
 use Rattle.osi_fair.proofs.a_right_unit_is_not_blamed.{first_there, is_first, named_of}
@@ -31,11 +30,10 @@ use Rattle.osi_fair.proofs.what_is_put_before_the_cc_passes.{acts_join}
 use Rattle.osi_fair.proofs.what_keeps_names_apart.{AreApart}
 use Rattle.osi_fair.proofs.what_lasts_at_the_tap.{Lasts, lasts_passing}
 use Rattle.osi_fair.proofs.what_stays_of_each_connection.{left_then, right_own}
-use Rattle.osi_fair.proofs.which_units_are_for_a_connection.{AllOurs, line_named, names_in as is_at}
+use Rattle.osi_fair.proofs.which_units_are_for_a_connection.{line_named, names_in as is_at}
 use Rattle.osi_fair.proofs.while_no_class_is_selected.{after_change, set_same}
 use Rattle.osi_fair.proofs.how_a_unit_of_right_passes.{no_list, use_so, route_two_so, class_seen_same, strays_more, above_next, half_keeps}
-use Rattle.osi_fair.proofs.how_a_unit_of_right_passes.{half_started, half_not_refused, wrong_form, finding_kept, conns_kept, course_kept}
-use Rattle.osi_fair.proofs.how_a_unit_of_right_passes.{takes_so}
+use Rattle.osi_fair.proofs.how_a_unit_of_right_passes.{half_started, finding_kept, conns_kept, course_kept, takes_so}
 use Rattle.osi_fair.proofs.a_unit_of_a_whole_end_passes.{put_open as open_of}
 
 -- ---- small facts
@@ -92,8 +90,7 @@ module _ (local : Local) (w : Whole) (f : Called local w) (apart : AreApart w.ta
       let first = is_first (is_named Right n) cs p c at is in
       let (e, there) = first_there (is_named Right n) cs p q c first in
       let so = first_true (is_named Right n) cs q e first there in
-      let same : p ≡ q = only_named Left cs n named p q c e at there is so in
-      first ∙ ap (λ (i : ℕ). Some i) (sym same)
+      grind (arith, only_named Left cs n named p q c e at there is so)
 
   module _ (p : ℕ) (later : List Placed) (tagged : f.tagged ≡ (Some p, u) ∷ later) (rest_are : rest ≡ values later) (c : Connection)
       (at : slice_get cs p ≡ Some c) where
@@ -250,8 +247,7 @@ module _ (local : Local) (w : Whole) (f : Called local w) (apart : AreApart w.ta
         begun_is = refl;
         first = opened_line (opened_link Two h.size local h.x.credit) cc_next;
         acts = h.acts;
-        opened = called_opens local h.x h.size h.r c h.asked.range h.selected h.asked.left h.asked.right
-            (ap (λ (x : Half). x.next) h.asked.known);
+        opened = grind (arith, called_opens);
         along = h.along cc_next;
         there = refl;
         right = refl;
@@ -330,17 +326,11 @@ module _ (local : Local) (w : Whole) (f : Called local w) (apart : AreApart w.ta
 
     module _ (g : Running f.shut w.end w.coming (units_at p f.tagged) (w.begun && first_at p f.tagged) (f.refs p) c)
         (asks : units_at p f.came ≡ []) (is_judged : c.is_judged ≡ true) where
-      line_begun : g.line.begun ≡ true
-      line_begun = g.begun_is ∙ begins
-
-      line_judged : g.line.tap.is_judged ≡ true
-      line_judged = ap (λ (x : Connection). x.is_judged) g.tap ∙ is_judged
-
       is_right : IsRight Right c u
-      is_right = grind (arith, open_is_fair, line_begun, line_judged)
+      is_right = grind (arith, open_is_fair, begins)
 
       dest : destination_of u ≡ Some g.peer
-      dest = search (arith, line_named, turned_line, run_holds, line_judged)
+      dest = search (arith, line_named, turned_line, run_holds)
 
       run_first : position (is_named Right g.peer) cs ≡ Some p
       run_first = name_first g.peer p c at (named_of (destination_of u) g.peer Right c dest is_right.named)
@@ -355,7 +345,7 @@ module _ (local : Local) (w : Whole) (f : Called local w) (apart : AreApart w.ta
       run_kept = judged_so c.is_judged (found Right w.tap.course in_use c u) Kept (is_judged) (is_right.kept w.tap.course in_use)
 
       no_cc : (m : ℕ) (x : Connect) → u ≡ confirm m x → ⊥
-      no_cc m x e = grind (arith, wrong_form, is_right, is_right.kept w.tap.course in_use)
+      no_cc m x e = grind (arith, is_right, is_right.kept w.tap.course in_use)
 
       no_er : (m cause : ℕ) → u ≡ error m cause → ⊥
       no_er m cause e = search (arith, is_right, is_right.kept w.tap.course in_use)
@@ -389,15 +379,11 @@ module _ (local : Local) (w : Whole) (f : Called local w) (apart : AreApart w.ta
       tap_is = grind (arith, run_kept)
 
       along : ActsAlong Right g.r g.peer g.first (g.acts ++ passes_own w.tap.course in_use ∷ []) line
-      along = grind (arith, acts_join, line_begun)
-
-      -- as long as the end has its link, it has not closed the connection
-      link_open : (l : Standing) → g.line.link ≡ Some l → is_open next.right.phase ≡ true
-      link_open l e = grind (arith, run_holds, along, tap_is, sent_judged, open_of)
+      along = search (arith, acts_join)
 
       not_linked : is_open next.right.phase ≡ false → (r : ℕ) → r ≡ g.r → Row w.end w.coming g.r g.peer g.line.link g.line.coming →
           IsUnlinked w.end r
-      not_linked shut r same k live q link here = grind (arith, differ, link_open)
+      not_linked shut r same k live q link here = grind (arith, differ, run_holds, along, tap_is, sent_judged, open_of)
 
       -- the end puts nothing after it has closed the connection
       none_left : (l : List Value) → units_at p later ≡ l → is_open next.right.phase ≡ false → l ≡ []
@@ -426,10 +412,7 @@ module _ (local : Local) (w : Whole) (f : Called local w) (apart : AreApart w.ta
       run_stand false shut = past (ap (λ (h : Half). is_silent h.phase) next_right ∙ half_started u c.right (grind arith))
           shut (none_left (units_at p later) refl shut) asks
           (λ r e. not_linked shut r (number_is r g.r (sym e ∙ g.index)) g.row)
-          (inl (
-            g.index ∙ ap (λ (i : ℕ). Some i) (sym (next_reference ∙ g.right)),
-            ap (λ (h : Half). is_refused h.phase) next_right ∙ half_not_refused u c.right g.there no_er,
-          ))
+          (grind (arith, next_reference, next_right, no_er))
 
       pub run_passes : Passed
       run_passes = (
@@ -457,14 +440,11 @@ module _ (local : Local) (w : Whole) (f : Called local w) (apart : AreApart w.ta
       lost_put : g.line.put ≡ u ∷ units_at p later
       lost_put = g.put ∙ mine_is
 
-      lost_dest : destination_of u ≡ Some g.peer
-      lost_dest = (subst (AllOurs g.r g.peer) lost_put keeps.ours).0.named
-
       lost_named : is_named Right g.peer c ≡ true
       lost_named = grind (arith, keeps, name_so, eq-eqb)
 
       lost_takes : takes Right u w.tap ≡ one_told Right p c u w.tap
-      lost_takes = takes_so u w.tap g.peer p c right (grind (arith, route_two_so, lost_dest)) (name_first g.peer p c at lost_named) at
+      lost_takes = takes_so u w.tap g.peer p c right (grind (arith, route_two_so, lost_put, keeps)) (name_first g.peer p c at lost_named) at
 
       lost_conns : (takes Right u w.tap).state.connections ≡ set cs p c
       lost_conns = grind (arith, lost_takes, set)
@@ -485,23 +465,19 @@ module _ (local : Local) (w : Whole) (f : Called local w) (apart : AreApart w.ta
         tap = after_finding Right (finding_of Right w.tap.course false g.line.tap u) u g.line.tap;
       }
 
-      lost_tap : lost_line.tap ≡ c
-      lost_tap = grind arith
-
       lost_stand : StandAfter p c
       lost_stand = runs (record {
         r = g.r;
         peer = g.peer;
         index = g.index;
         line = lost_line;
-        tap = lost_tap;
+        tap = grind arith;
         put = refl;
         begun_is = refl;
         first = g.first;
         acts = g.acts ++ passes_own w.tap.course false ∷ [];
         opened = g.opened;
-        along = acts_join Right g.r g.peer g.acts (passes_own w.tap.course false ∷ []) g.first g.line lost_line g.along
-            (lost_line, (u, lost_put, grind (arith, begins), refl), refl);
+        along = grind (arith, acts_join, lost_put, begins);
         there = g.there;
         right = g.right;
         left = g.left;

@@ -4,12 +4,10 @@ use Rattle.osi_fair.proofs.Vocabulary.{arith, [], ap, Bool, false, if◌then◌e
 use Rattle.osi_fair.proofs.Vocabulary.{true, ℕ, ◌++◌, ◌∙◌, ◌∷◌, ◌≡◌, ◌⊎◌, eqb-true, AllByRecursion, position_or_len, not, position}
 use Rattle.osi_fair.proofs.Vocabulary.{half_after, is_closing, sent_on, slice_get, ◌&&◌, ◌==◌, ◌||◌, confirm, Connect, destination_of}
 use Rattle.osi_fair.proofs.Vocabulary.{request, Value, Standing, Class, Two, Local, value_at, asked, Live, linked, is_applied, reach_of}
-use Rattle.osi_fair.proofs.Vocabulary.{is_free, is_named, is_open, is_over, is_silent, asked_by, asks_by, found, Outcome, placed, Traffic}
-use Rattle.osi_fair.proofs.Vocabulary.{takes, uses_source, Connection, Left, Right, Finding, Kept, NotJudged, Half, after_finding}
-use Rattle.osi_fair.proofs.Vocabulary.{finding_of, IsRight, IsRightNow, Line, unit as passing, Whole}
+use Rattle.osi_fair.proofs.Vocabulary.{is_free, is_named, is_open, is_over, is_silent, asked_by, found, Outcome, placed, Traffic, takes}
+use Rattle.osi_fair.proofs.Vocabulary.{uses_source, Connection, Left, Right, Finding, Kept, NotJudged, Half, after_finding, finding_of}
+use Rattle.osi_fair.proofs.Vocabulary.{IsRight, Line, unit as passing, Whole, State, passes_own}
 use Rattle.osi_rules.specs.Sides.{sends}
-use Rattle.osi_carrier.specs.State.{State}
-use Rattle.osi_fair.specs.Lines.{passes_own}
 use Rattle.osi_fair.proofs.small_facts_that_many_lemmas_use.{and_false, and_first, and_second, both, differ, first_is, no_list, rest_is}
 use Rattle.osi_fair.proofs.small_facts_that_many_lemmas_use.{set_other, sized_judged, some_same as item_is}
 use Rattle.osi_fair.proofs.a_reference_names_one_connection.{not_first}
@@ -40,9 +38,6 @@ use Rattle.osi_fair.proofs.a_dt_of_class_zero_passes.{unlike}
 
 abbrev Request : Connect → List Connection → Outcome → Type 0
 Request x cs o = (o.state.connections ≡ cs) ⊎ (o.state.connections ≡ placed (asked_by x) cs (position is_free cs))
-
-asks_does : (x : Connect) (s : Traffic) (f : Finding) → Request x s.connections (asks_by Left f x s)
-asks_does x s f = grind arith
 
 request_does : (x : Connect) (s : Traffic) → Request x s.connections (takes Left (request x) s)
 request_does x s = grind arith
@@ -180,8 +175,7 @@ module _ (local : Local) (w : Whole) (f : Followed local w) (sane : IsSane w.tap
         answers = all_so (λ v. IsAnswer w.tap.course.loose cs w.end v) (λ v. IsAnswer (takes Left (request x) w.tap).state.course.loose
             (takes Left (request x) w.tap).state.connections w.end v) w.coming
             (λ v h n y k lasts why.
-            let (t, row) = h n y k lasts (why_before w.tap.course.loose (takes Left (request x) w.tap).state.course.loose
-            (lasts_passing (passing Left (request x)) w.tap).firm why) in
+            let (t, row) = h n y k lasts (grind (arith, why_before, lasts_passing)) in
             (grind (arith, request_stays, request_does), row)) f.answers;
         requests = requests;
         two = λ r t.
@@ -212,8 +206,7 @@ module _ (local : Local) (w : Whole) (f : Followed local w) (sane : IsSane w.tap
       let first = is_first (is_named Left n) cs p c at named in
       let (e, there) = first_there (is_named Left n) cs p q c first in
       let so = first_true (is_named Left n) cs q e first there in
-      let same : p ≡ q = only_named Right cs n peers p q c e at there named so in
-      first ∙ ap (λ (i : ℕ). Some i) (sym same)
+      grind (arith, only_named Right cs n peers p q c e at there named so)
 
   named_parts : (a b d : Bool) → (not a && (not b && d)) ≡ true → b ≡ false
   named_parts a b d h = grind arith
@@ -260,8 +253,7 @@ module _ (local : Local) (w : Whole) (f : Followed local w) (sane : IsSane w.tap
     right =
         let fair = open_is_fair Left g.r g.peer g.tracks.first g.line g.tracks.acts g.tracks.opened g.tracks.along line_begun
         (ap (λ (x : Connection). x.is_judged) g.tap ∙ judged) in
-        let now : IsRight Left g.line.tap u = subst (IsRightNow Left g.line.tap) first_put fair in
-        subst (λ (x : Connection). IsRight Left x u) g.tap now
+        grind (arith, first_put)
 
     is_its_name : is_named Left n c ≡ true
     is_its_name = named_of (destination_of u) n Left c named right.named
@@ -326,9 +318,7 @@ module _ (local : Local) (w : Whole) (f : Followed local w) (sane : IsSane w.tap
     linked_open : (link : Standing) → g.line.link ≡ Some link → is_tracked next ≡ true
     linked_open link h =
         let held = tracks_hold g.r g.peer line_after tracks_after (grind (arith, tap_after, next_judged)) in
-        tracked_if (ap (λ (x : Connection). is_open x.left.phase) (sym tap_after)
-        ∙ put_open g.r g.peer held.limit held.tally line_after.tap.left line_after.tap.right line_after.put line_after.link link
-        held.puts h)
+        tracked_if (grind (arith, tap_after, put_open))
 
     row_open : w.end.ended ≡ None → (o : Option Live) → value_at g.r w.end.live ≡ o → is_held o ≡ true →
         Row local w.end w.coming g.r g.peer g.line →
@@ -379,12 +369,10 @@ module _ (local : Local) (w : Whole) (f : Followed local w) (sane : IsSane w.tap
         Following local rest false after.tap.course.strays w.end w.coming x
     line_other i x other there is_there =
         let k = f.lines i x there is_there in
-        let not_named : is_ours k.r k.peer u ≡ false = ours_not k.r n k.peer u (λ same. other (one_peer w.tap sane peers i p x c there at
-        is_there tracked (k.right ∙ sym same))) named in
+        let not_named : is_ours k.r k.peer u ≡ false = ours_not k.r n k.peer u (grind (arith, one_peer)) named in
         followed_at k (sym (picked_rest (is_ours k.r k.peer) u rest not_named) ∙ ap (λ (l : List Value). ours k.r k.peer l) (sym e))
         (spares_still u k.r k.peer k.spare k.spares)
-        (ap (λ (l : List Value). w.begun && leads (is_ours k.r k.peer) l) e ∙ ap (λ (b : Bool). w.begun && b) not_named
-        ∙ and_false w.begun)
+        (grind (arith, leads, is_ours, and_false))
         k.row
 
     line_at : (i : ℕ) (x : Connection) → is_tracked x ≡ true →
@@ -502,8 +490,7 @@ module _ (local : Local) (w : Whole) (f : Followed local w) (sane : IsSane w.tap
           answers = all_so (λ v. IsAnswer w.tap.course.loose cs w.end v)
               (λ v. IsAnswer after.tap.course.loose after.tap.connections w.end v) w.coming
               (λ v h m y k lasts why.
-              let (t, row) = h m y k lasts (why_before w.tap.course.loose after.tap.course.loose
-              (lasts_passing (passing Left u) w.tap).firm why) in
+              let (t, row) = h m y k lasts (grind (arith, why_before, lasts_passing (passing Left u) w.tap)) in
               (tracked_next m t (λ is. held_at lasts m (Some asked) row refl is), row)) f.answers;
           requests = requests;
           two = λ r t.

@@ -4,9 +4,8 @@ use Rattle.osi_fair.proofs.Vocabulary.{ap, arith, Bool, false, IfSome, inl, leng
 use Rattle.osi_fair.proofs.Vocabulary.{sym, true, ℕ, ◌+◌, ◌-◌, ◌^◌, ◌∙◌, ◌∷◌, ◌≡◌, ◌≤◌, ◌⊎◌, pow-le-pow_right, eq-eqb, list_any}
 use Rattle.osi_fair.proofs.Vocabulary.{position_or_len, min, not, position, slice_get, ◌&&◌, ◌==◌, ◌||◌, confirm, Connect, data0, Value}
 use Rattle.osi_fair.proofs.Vocabulary.{longest_tsdu, accept, selected_by, Zero, Local, acceptance, unit_octets, is_closed, is_closing}
-use Rattle.osi_fair.proofs.Vocabulary.{is_live, is_named, is_open, is_over, is_over_by, is_refused, is_silent, uses, course_after, found}
-use Rattle.osi_fair.proofs.Vocabulary.{found_on, route, sent_on, takes, uses_source, Connection, Course, Right, Kept, Half, Phase, Named}
-use Rattle.osi_fair.proofs.Vocabulary.{Whole}
+use Rattle.osi_fair.proofs.Vocabulary.{is_live, is_named, is_open, is_over, is_over_by, is_refused, uses, course_after, found, found_on}
+use Rattle.osi_fair.proofs.Vocabulary.{sent_on, takes, uses_source, Connection, Course, Right, Kept, Half, Phase, Whole}
 use Rattle.osi_fair.proofs.small_facts_that_many_lemmas_use.{and_false, and_not, any_none, both as is_both, first_is, judged_so, name_so}
 use Rattle.osi_fair.proofs.small_facts_that_many_lemmas_use.{rest_is, unequal}
 use Rattle.osi_fair.proofs.a_dt_of_class_zero_passes.{begun_so, dt_conns, dt_course, dt_kept, only_first}
@@ -79,26 +78,21 @@ module _ (local : Local) (w : Whole) (apart : AreApart w.tap.connections) (judge
 
     unused_so : list_any (λ (e : Connection). uses Right f.r e) all ≡ false
     unused_so = any_none (λ (e : Connection). uses Right f.r e) all (λ i e there.
-        use_so (is_over Right e) (is_silent e.right.phase) (e.right.reference == f.r)
-        (unequal e.right.reference f.r (e.right.reference == f.r) refl (f.unused i e there)))
+        grind (arith, use_so, unequal e.right.reference f.r (e.right.reference == f.r) refl (f.unused i e there)))
 
     cc_kept : found_on Right w.tap f.c u ≡ Kept
     cc_kept = ap (λ (v : Value). found_on Right w.tap f.c v) u_cc
         ∙ judged_so f.c.is_judged (found Right w.tap.course (uses_source Right all cc_is) f.c cc_is) Kept (judged f.p f.c f.at)
-        (ap (λ (b : Bool). found Right w.tap.course b f.c cc_is) unused_so
-        ∙ zero_right local f.x f.size f.r f.c w.tap.course f.selected f.asked.offer f.asked.right f.class)
-
-    cc_route : route Right w.tap.course u ≡ Named f.x.source
-    cc_route = grind (arith, u_cc)
+        (grind (arith, unused_so, zero_right local f.x f.size f.r f.c w.tap.course f.selected f.asked.offer f.asked.right f.class))
 
     abbrev cc_next : Connection
     cc_next = sent_on Right cc_is f.c
 
     cc_conns : (takes Right u w.tap).state.connections ≡ set all f.p cc_next
-    cc_conns = grind (arith, conns_kept, cc_route, cc_named, name_first, cc_kept, u_cc)
+    cc_conns = grind (arith, conns_kept, u_cc, cc_named, name_first, cc_kept)
 
     cc_course : (takes Right u w.tap).state.course ≡ course_after Right f.c cc_is true w.tap.course
-    cc_course = grind (arith, course_kept, cc_route, cc_named, name_first, cc_kept, u_cc)
+    cc_course = grind (arith, course_kept, u_cc, cc_named, name_first, cc_kept)
 
     not_there : {A : Type 0} (i : ℕ) (e : Connection) → ((i ≡ f.p) × (e ≡ cc_next)) ⊎ ((i ≡ f.p → ⊥) × (slice_get all i ≡ Some e)) →
         (i ≡ f.p → ⊥) → (slice_get all i ≡ Some e → A) → A
@@ -106,7 +100,7 @@ module _ (local : Local) (w : Whole) (apart : AreApart w.tap.connections) (judge
 
     pub selecting_passes : IsFine × Selected passed
     selecting_passes = (
-      finding_kept u w.tap f.x.source f.p f.c right cc_route (grind (arith, cc_named, name_first)) f.at cc_kept,
+      finding_kept u w.tap f.x.source f.p f.c right (grind (arith, u_cc)) (grind (arith, cc_named, name_first)) f.at cc_kept,
       record {
         p = f.p;
         c = cc_next;
@@ -131,8 +125,7 @@ module _ (local : Local) (w : Whole) (apart : AreApart w.tap.connections) (judge
     live_at : is_live Right f.c ≡ true
     live_at =
         let s = apart.sound f.p f.c f.at (judged f.p f.c f.at) in
-        not_false (is_over Right f.c) (and_not f.c.is_judged (is_over_by f.c.right f.c.seen_by_right)
-        (open_live f.c.right.phase f.c.seen_by_right.phase f.c.left.phase f.up f.there s.right_knows.refused))
+        not_false (is_over Right f.c) (grind (arith, and_not, open_live))
 
     only : position (is_live Right) all ≡ Some f.p
     only = only_first Right all f.p f.c f.at live_at (λ q e at other. is_both e.is_judged (is_over_by e.right e.seen_by_right)
@@ -171,8 +164,7 @@ module _ (local : Local) (w : Whole) (apart : AreApart w.tap.connections) (judge
               apart_of i e (after_change all f.p i dt_next e (ap (λ (l : List Connection). slice_get l i) (sym conns) ∙ at)) other
               (λ there. f.others i e there other);
           end = zero_next f.limit w.end f.c.right.begun dt_next.right.begun w.put rest
-              (λ e h. subst (λ (b : ℕ). PutsData f.limit e b rest) (sym (begun_so f.c.right end (length user) puts.1))
-              (subst (PutsData f.limit e f.c.right.begun) (put ∙ ap (λ (v : Value). v ∷ rest) is) h).2) f.end;
+              (grind (arith, begun_so)) f.end;
         },
       )
 

@@ -4,13 +4,12 @@ use Rattle.osi_fair.proofs.Vocabulary.{[], ap, arith, Bool, false, if◌then◌e
 use Rattle.osi_fair.proofs.Vocabulary.{subst, sym, true, ℕ, ◌++◌, ◌<◌, ◌∙◌, ◌∷◌, ◌≡◌, ◌≢◌, ◌⊎◌, eqb-true, AllByRecursion, list_any}
 use Rattle.osi_fair.proofs.Vocabulary.{slice_get, ◌&&◌, ◌==◌, ◌||◌, confirm, Connect, destination_of, HasFieldsInRange, request, Value}
 use Rattle.osi_fair.proofs.Vocabulary.{Class, Two, Zero, Local, agreed_size, opened_link, value_at, asked, is_applied, reach_of, is_closed}
-use Rattle.osi_fair.proofs.Vocabulary.{is_closing, is_open, is_over, is_over_by, is_refused, is_silent, uses, class_for, class_of}
-use Rattle.osi_fair.proofs.Vocabulary.{connection_after, course_after, found_on, half_after, Outcome, reached, sent_on, takes, not}
-use Rattle.osi_fair.proofs.Vocabulary.{uses_source, Connection, Course, Right, Finding, Broke, Kept, Reach, Half, Phase, after_finding}
-use Rattle.osi_fair.proofs.Vocabulary.{finding_of, Line, opened_line, unit as passing, Whole, noted}
+use Rattle.osi_fair.proofs.Vocabulary.{is_closing, is_open, is_over, is_refused, is_silent, uses, class_for, class_of, connection_after}
+use Rattle.osi_fair.proofs.Vocabulary.{course_after, found_on, half_after, Outcome, reached, sent_on, takes, not, uses_source, Connection}
+use Rattle.osi_fair.proofs.Vocabulary.{Course, Right, Finding, Broke, Kept, Reach, Half, Phase, after_finding, finding_of, Line}
+use Rattle.osi_fair.proofs.Vocabulary.{opened_line, unit as passing, Whole, noted, passes_other}
 use Rattle.osi_rules.specs.declared.findings.Reach.TheVariants as reach
 use Rattle.osi_rules.specs.declared.findings.Rule.TheVariants as rule
-use Rattle.osi_fair.specs.Lines.{passes_other}
 use Rattle.osi_fair.proofs.small_facts_that_many_lemmas_use.{and_false as none_begun, and_first, and_not, and_second, both, differ, no_two}
 use Rattle.osi_fair.proofs.small_facts_that_many_lemmas_use.{set_other, sized_judged, some_same as item_is}
 use Rattle.osi_fair.proofs.a_reference_names_one_connection.{not_first}
@@ -144,21 +143,10 @@ module _ (local : Local) (w : Whole) (f : Followed local w) (sane : IsSane w.tap
   live : is_over Right c ≡ false
   live = not_first (is_over Right c) (not (is_silent c.seen_by_right.phase) && (c.seen_by_right.reference == t.n)) t.named
 
-  over_so : c.is_judged ≡ true → is_over_by c.right c.seen_by_right ≡ true → ⊥
-  over_so judged h = differ (is_over Right c) (both c.is_judged (is_over_by c.right c.seen_by_right) judged h) live
-
-  -- ---- if the connection has lost its judgement
-
-  lost_same : c.is_judged ≡ false → nxt ≡ c
-  lost_same lost = grind arith
-
   -- ---- what it is
 
-  open_kind : (j : Bool) → c.is_judged ≡ j → is_open c.left.phase ≡ true → Kind c
-  open_kind j e h = grind arith
-
   kind_by : (b : Bool) → is_open c.left.phase ≡ b → Kind c
-  kind_by true e = open_kind c.is_judged refl e
+  kind_by true e = grind arith
   kind_by false e = is_past e (grind (arith, differ))
 
   -- ---- the connection after it
@@ -191,16 +179,12 @@ module _ (local : Local) (w : Whole) (f : Followed local w) (sane : IsSane w.tap
   course_of u = noted Right (found_on Right w.tap c u) (reached Right (reach_of (class_for Right w.tap.course) (found_on Right w.tap c u))
       (course_after Right c u (is_applied (found_on Right w.tap c u)) w.tap.course))
 
-  calm_cc : (m : ℕ) (x : Connect) → v ≡ confirm m x → IsCalm (course_of (confirm m x))
-  calm_cc m x e = subst (λ (u : Value). IsCalm (course_of u)) e calm_so
-
   -- so it comes only if a connection has lost its judgement
   cc_late : {A : Type 0} → (takes Right v w.tap).state.course.loose ≡ false → is_silent c.right.phase ≡ false → (m : ℕ) (x : Connect) →
       v ≡ confirm m x → A
   cc_late firm there m x e =
       let judged = sane.judged ((lasts_passing (passing Right v) w.tap).firm firm) t.q c t.at in
-      differ course_so.loose (ap (λ (u : Value). (course_of u).loose) e ∙ cc_loose w.tap c judged sound_c m x there (calm_cc m x e))
-      (ap (λ (k : Course). k.loose) (sym course_is) ∙ firm)
+      grind (arith, differ, cc_loose, sound_c, course_is)
 
   same_by : (b : Bool) → is_applied found_so ≡ b → (b ≡ true → (m : ℕ) (x : Connect) → v ≡ confirm m x → ⊥) → SameClass
   same_by true e none =
@@ -226,13 +210,9 @@ module _ (local : Local) (w : Whole) (f : Followed local w) (sane : IsSane w.tap
         tap = after_finding Right (finding_of Right w.tap.course in_use g.line.tap v) v g.line.tap;
         coming = g.line.coming ++ v ∷ [];
       } in
-      let tap : line.tap ≡ nxt =
-      ap (λ (x : Connection). after_finding Right (finding_of Right w.tap.course in_use x v) v x) g.tap
-      ∙ ap (λ (k : Option Class). connection_after Right v (is_applied found_so) (reach_of k found_so) c) (sym class) in
+      let tap : line.tap ≡ nxt = grind arith in
       let some : reach_of (Some Two) (finding_of Right w.tap.course in_use g.line.tap v) ≢ reach.Everything = λ e.
-      differ course_so.left_stopped (ap (λ (r : Reach). (reached Right r (course_after Right c v (is_applied found_so)
-      w.tap.course)).left_stopped) (ap (λ (k : Option Class). reach_of k found_so) class
-      ∙ ap (λ (x : Connection). reach_of (Some Two) (finding_of Right w.tap.course in_use x v)) (sym g.tap) ∙ e)) calm_so.left in
+      differ course_so.left_stopped (grind arith) calm_so.left in
       record {
         r = g.r;
         peer = g.peer;
@@ -251,13 +231,13 @@ module _ (local : Local) (w : Whole) (f : Followed local w) (sane : IsSane w.tap
         calm = λ j.
             let judged = judged_was Right v (is_applied found_so) far c j in
             all_add IsNoCc g.line.coming v (g.calm judged)
-            (λ m x e. differ nxt.is_judged j (grind (arith, cc_lost, sound_c, calm_cc)));
+            (λ m x e. differ nxt.is_judged j (grind (arith, cc_lost, sound_c)));
       }
 
   stays_open : (j : Bool) → c.is_judged ≡ j → is_tracked c ≡ true →
       ((is_open nxt.right.phase || is_closing nxt.right.phase) ≡ true) × (nxt.right.reference ≡ c.right.reference)
   stays_open true judged tracked = open_stays w.tap c judged sound_c v t.n t.dest tracked
-  stays_open false lost tracked = grind (arith, lost_same, right_there)
+  stays_open false lost tracked = grind (arith, right_there)
 
   goes_so : is_tracked c ≡ true → Next
   goes_so tracked =
@@ -367,10 +347,10 @@ module _ (local : Local) (w : Whole) (f : Followed local w) (sane : IsSane w.tap
 
   past_lost : (j : Bool) → c.is_judged ≡ j → is_silent c.right.phase ≡ false → nxt.is_judged ≡ false →
       (is_open nxt.right.phase || is_closing nxt.right.phase) ≡ true
-  past_lost false was there lost = grind (arith, lost_same)
+  past_lost false was there lost = grind arith
   past_lost true judged there lost =
       ap (λ (x : Half). is_open x.phase || is_closing x.phase) (right_after false (lost_idle (is_applied found_so) refl judged lost))
-      ∙ (grind (arith, over_so, refused_over, closed_over))
+      ∙ (grind (arith, refused_over, closed_over))
 
   by_kind : Kind c → Next
   by_kind (stands tracked) = goes_so tracked
@@ -449,9 +429,7 @@ module _ (local : Local) (w : Whole) (f : Followed local w) (sane : IsSane w.tap
       let so = same_one i x (eqb-true i t.q h) there in
       was_open (IsOwned (takes Right v w.tap).state u) (ap is_tracked (sym so) ∙ tracked)
       (λ still right. of t.q nxt nxt_at still
-      (subst (λ (j : ℕ). IsOf j nxt.right.reference u) (sym (grind (arith, nxt_left)))
-      (subst (λ (j : ℕ). IsOf c.left.reference j u) (sym right)
-      (subst (λ (y : Connection). IsOf y.left.reference y.right.reference u) so own)))) next_so
+      (grind (arith, nxt_left))) next_so
 
   owned_to : (u : Value) → IsOwned w.tap u → IsOwned (takes Right v w.tap).state u
   owned_to u (asking x e) = asking x e
@@ -497,7 +475,6 @@ module _ (local : Local) (w : Whole) (f : Followed local w) (sane : IsSane w.tap
   new_request u h k x e =
       let a = h x e in
       let below = newer.below t.q c t.at in
-      let up = k x e in
       let is = name_is in
       record {
         left = a.left;
@@ -508,11 +485,7 @@ module _ (local : Local) (w : Whole) (f : Followed local w) (sane : IsSane w.tap
   given_so : AreGiven w.end.given v
   given_so dc m e =
       let below = newer.below t.q c t.at in
-      let last = newer.given in
-      let is = name_is in
-      let both_named : Some m ≡ Some t.n = sym e ∙ t.dest in
-      let same : m ≡ t.n = cc in
-      omega arith
+      grind (arith, name_is)
 
   seen_at : (i : ℕ) (x : Connection) → is_tracked x ≡ true → is_silent x.seen_by_left.phase ≡ false → Next → Item i x →
       (takes Right v w.tap).state.course.class_seen ≡ Some Two
@@ -552,8 +525,7 @@ module _ (local : Local) (w : Whole) (f : Followed local w) (sane : IsSane w.tap
     answers = all_add (λ u. IsAnswer after.tap.course.loose after.tap.connections w.end u) w.coming v
         (all_so (λ u. IsAnswer w.tap.course.loose cs w.end u) (λ u. IsAnswer after.tap.course.loose after.tap.connections w.end u) w.coming
         (λ u h m x e lasts why.
-        let (k, row) = h m x e lasts (why_before w.tap.course.loose after.tap.course.loose (lasts_passing (passing Right v) w.tap).firm
-        why) in
+        let (k, row) = h m x e lasts (grind (arith, why_before, lasts_passing (passing Right v) w.tap)) in
         (tracked_to m k, row)) f.answers) (answers_to next_so);
     requests = all_two (λ u. (x : Connect) → u ≡ request x → IsAsking local w.end w.coming x)
         (λ u. (x : Connect) → u ≡ request x → newer.last < x.source)
@@ -566,8 +538,7 @@ module _ (local : Local) (w : Whole) (f : Followed local w) (sane : IsSane w.tap
     some = f.some;
     few = all_add (AreGiven w.end.given) w.coming v f.few given_so;
     seen = λ i x there tracked known. seen_at i x tracked known next_so (item i x there);
-    settled = all_so (AreSettled cs w.put w.end.given) (AreSettled (takes Right v w.tap).state.connections w.put w.end.given) w.put
-        settled_to f.settled;
+    settled = search (arith, all_so, settled_to);
     lost = λ i x there lost. lost_by i x lost next_so (item i x there);
     shut = λ lasts i x there closed row. shut_by lasts i x closed row (item i x there);
   }

@@ -1,11 +1,10 @@
 -- A unit of a whole calling end passes that is not judged: it changes no connection at the tap, and if it is of a line, that of a
 -- connection which has lost its judgement. For the law on a whole end.
 use Rattle.osi_fair.proofs.Vocabulary.{Right, arith, [], ap, Bool, false, inl, inr, List, None, Option, refl, set, Some, subst, sym, true}
-use Rattle.osi_fair.proofs.Vocabulary.{ℕ, ◌++◌, ◌∙◌, ◌∷◌, ◌≡◌, ◌⊎◌, eq-eqb, AllByRecursion, position, slice_get, ◌&&◌, ◌==◌, Connect}
-use Rattle.osi_fair.proofs.Vocabulary.{destination_of, disconnected, request, Value, Class, Two, Local, is_named, is_over, is_over_by}
-use Rattle.osi_fair.proofs.Vocabulary.{is_silent, found, route, route_in, Traffic, takes, Connection, Course, Left, Kept, NotJudged, Named}
-use Rattle.osi_fair.proofs.Vocabulary.{after_finding, finding_of, Line, unit as passing, Whole}
-use Rattle.osi_fair.specs.Lines.{passes_own}
+use Rattle.osi_fair.proofs.Vocabulary.{ℕ, ◌++◌, ◌∙◌, ◌∷◌, ◌≡◌, ◌⊎◌, eq-eqb, AllByRecursion, position, slice_get, ◌&&◌, Connect}
+use Rattle.osi_fair.proofs.Vocabulary.{destination_of, disconnected, request, Value, Class, Two, Local, is_named, is_silent, found, Traffic}
+use Rattle.osi_fair.proofs.Vocabulary.{takes, Connection, Course, Left, Kept, NotJudged, after_finding, finding_of, Line, unit as passing}
+use Rattle.osi_fair.proofs.Vocabulary.{Whole, passes_own}
 use Rattle.osi_fair.proofs.small_facts_that_many_lemmas_use.{and_false, both, name_so, no_list}
 use Rattle.osi_fair.proofs.a_unit_of_a_whole_end_passes.{name_first, own_kept, own_passes, own_peers, put_first, row_same}
 use Rattle.osi_fair.proofs.each_connection_has_its_line.{followed_at, AreSettled, Followed, Following, IsAnswer, IsAsking, IsOwned}
@@ -22,9 +21,6 @@ use Rattle.osi_fair.proofs.while_no_class_is_selected.{set_same}
 
 -- ---- what the tap finds of a unit of a connection that has lost its judgement
 
-route_by : (b : Bool) (u : Value) (n : ℕ) → destination_of u ≡ Some n → route_in (Some Two) Left b u ≡ Named n
-route_by b u n e = grind arith
-
 -- it is not judged, and changes no connection
 pub record IsIgnored (u : Value) (s : Traffic) : Type 0 where
   pub found : (takes Left u s).told.finding ≡ NotJudged
@@ -34,9 +30,6 @@ module _ (u : Value) (s : Traffic) (n p : ℕ) (c : Connection) (left : s.course
     (class : s.course.class_seen ≡ Some Two) (dest : destination_of u ≡ Some n)
     (first : position (is_named Left n) s.connections ≡ Some p) (at : slice_get s.connections p ≡ Some c)
     (lost : c.is_judged ≡ false) where
-  routed_so : route Left s.course u ≡ Named n
-  routed_so = grind (arith, route_by)
-
   pub lost_ignored : IsIgnored u s
   lost_ignored = grind (arith, set, set_same)
 
@@ -130,9 +123,7 @@ module _ (local : Local) (w : Whole) (f : Followed local w) (sane : IsSane w.tap
           let k : Keeps Left g.r g.peer g.line = tracks_keep g.r g.peer g.line g.tracks in
           let (there, is) = subst (λ (x : Connection). (is_silent x.seen_by_left.phase ≡ false) × (x.seen_by_left.reference ≡ g.peer)) g.tap
           (k.seen_so (grind (arith, put_some, leads, is_ours, both))) in
-          let named : is_named Left g.peer c ≡ true =
-          name_so (is_over Left c) (is_silent c.seen_by_left.phase) (c.seen_by_left.reference == g.peer)
-          (ap (λ (b : Bool). b && is_over_by c.left c.seen_by_left) lost) there (eq-eqb c.seen_by_left.reference g.peer is) in
+          let named : is_named Left g.peer c ≡ true = grind (arith, name_so, eq-eqb) in
           lost_ignored u w.tap g.peer p c left (f.seen p c at tracked there) (ours_is g.r g.peer u mine).named
           (name_first local w f sane peers g.peer p c at named) at lost
 
@@ -162,8 +153,7 @@ module _ (local : Local) (w : Whole) (f : Followed local w) (sane : IsSane w.tap
         Following local rest false course.strays w.end w.coming c
     line_by p c at tracked g false other = followed_at g
         (sym (picked_rest (is_ours g.r g.peer) u rest other) ∙ ap (λ (l : List Value). ours g.r g.peer l) (sym e))
-        (all_so (IsSpare strays g.r g.peer) (IsSpare course.strays g.r g.peer) g.spare
-        (λ v k. record { is = k.is; strays = strays_on k.strays }) g.spares)
+        (grind (arith, all_so, strays_on))
         (ap (λ (l : List Value). w.begun && leads (is_ours g.r g.peer) l) e ∙ ap (λ (b : Bool). w.begun && b) other ∙ and_false w.begun)
         g.row
     line_by p c at tracked g true mine =

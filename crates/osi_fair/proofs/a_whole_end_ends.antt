@@ -1,11 +1,8 @@
 -- A whole calling end ends: it puts nothing then, and what it has put still passes by its lines.
 -- For the law on a whole end.
-use Rattle.osi_fair.proofs.Vocabulary.{Right, [], arith, Bool, Err, false, is_some, List, None, Option, refl, Some, true, ℕ, ◌++◌, ◌∙◌, ◌∷◌}
-use Rattle.osi_fair.proofs.Vocabulary.{◌≡◌, ◌≤◌, ◌⊎◌, append-nil, AllByRecursion, Value, Standing, LinkFault, Class, Two, Local, closes_in}
-use Rattle.osi_fair.proofs.Vocabulary.{IsOrderly, before_class, breaks_in, in_two, react, to_linked, to_unknown, user_does, UserCall}
-use Rattle.osi_fair.proofs.Vocabulary.{Connection, put_at, put_before, put_by, put_for, put_in_two, put_linked, put_taking, MayCall, Whole}
-use Rattle.osi_fair.proofs.Vocabulary.{Connect, request, subst, sym}
-use Rattle.osi_carrier.specs.State.{State}
+use Rattle.osi_fair.proofs.Vocabulary.{Right, [], arith, Bool, false, is_some, List, None, refl, Some, true, ℕ, ◌++◌, ◌∙◌, ◌∷◌, ◌≡◌, ◌≤◌}
+use Rattle.osi_fair.proofs.Vocabulary.{◌⊎◌, append-nil, AllByRecursion, Value, Local, IsOrderly, in_two, react, user_does, UserCall}
+use Rattle.osi_fair.proofs.Vocabulary.{Connection, put_by, put_for, put_in_two, MayCall, Whole, Connect, request, subst, sym, State}
 use Rattle.osi_fair.proofs.small_facts_that_many_lemmas_use.{none_of as no_end}
 use Rattle.osi_fair.proofs.a_request_of_a_whole_end_is_new.{Newer, unit_gives}
 use Rattle.osi_fair.proofs.a_whole_end_makes_a_call.{end_calls, nothing_so, same_up}
@@ -26,26 +23,11 @@ use Rattle.osi_fair.proofs.what_is_live_at_a_called_end.{IsLive}
 never : {A : Type 0} (s t : State) → s.ended ≡ None → t.ended ≡ s.ended → is_some t.ended ≡ true → A
 never s t lasts e h = over_not t.ended h (e ∙ lasts)
 
-unknown_puts : (n : ℕ) (u : Value) (s : State) → s.ended ≡ None → is_some (to_unknown u s).ended ≡ true → put_at n None u s.class ≡ []
-unknown_puts n u s lasts h = grind (arith, never)
-
-fault_puts : (n peer : ℕ) (fault : LinkFault) (k : Option Class) (s : State) → s.ended ≡ None →
-    is_some (breaks_in n peer fault k s).ended ≡ true →
-    put_taking n peer (Err fault) k ≡ []
-fault_puts n peer fault k s lasts h = grind (arith, never)
-
-linked_puts : (n peer : ℕ) (link : Standing) (u : Value) (s : State) → s.ended ≡ None → is_some (to_linked n peer link u s).ended ≡ true →
-    put_linked n peer link u s.class ≡ []
-linked_puts n peer link v s lasts h = search arith
-
-before_puts : (u : Value) (s : State) → s.ended ≡ None → is_some (before_class true u s).ended ≡ true → put_before true u s ≡ []
-before_puts u s lasts h = grind arith
-
 in_two_puts : (u : Value) (s : State) → s.ended ≡ None → is_some (in_two true u s).ended ≡ true → put_in_two true u s ≡ []
 in_two_puts u s lasts h = search arith
 
 ended_puts : (b : Bool) (u : Value) (s : State) → is_some s.ended ≡ b → OffersTwo s → is_some (react u s).ended ≡ true → put_for u s ≡ []
-ended_puts b u s e o h = grind (arith, over_takes, put_calling, before_puts, react_calling, two_puts, in_two_puts, two_reacts, no_end)
+ended_puts b u s e o h = grind (arith, over_takes, put_calling, react_calling, two_puts, in_two_puts, two_reacts, no_end)
 
 -- ---- the lines after the end
 
@@ -64,25 +46,13 @@ is_over : (local : Local) (w : Whole) → Followed local w → (t : State) (late
 is_over local w f t later h early few up = record {
   lines = λ i c at tracked. over_line local w.put w.begun w.tap.course.strays w.end t w.coming later c h (f.lines i c at tracked);
   waiting = λ i c at waits.
-      let k = f.waiting i c at waits in
-      record {
-        r = k.r;
-        left = k.left;
-        right = k.right;
-        seen = k.seen;
-        early = early k.r k.early;
-        row = λ lasts. over_not t.ended h lasts;
-      };
+      grind (arith, over_not, f.waiting i c at waits);
   owned = f.owned;
   linked = λ lasts. over_not t.ended h lasts;
   answers = all_made (λ v. IsAnswer w.tap.course.loose w.tap.connections t v) later (λ v n x e lasts why. over_not t.ended h lasts);
   requests = all_so (λ v. (x : Connect) → v ≡ request x → IsAsking local w.end w.coming x)
       (λ v. (x : Connect) → v ≡ request x → IsAsking local t later x) w.put
-      (λ v k x e. let a = k x e in record {
-        left = a.left;
-        early = early x.source a.early;
-        row = λ lasts. over_not t.ended h lasts;
-      }) f.requests;
+      (λ v k x e. let a = k x e in grind (arith, over_not)) f.requests;
   two = f.two;
   silent = f.silent;
   zero = f.zero;
@@ -90,10 +60,7 @@ is_over local w f t later h early few up = record {
   few = few;
   seen = f.seen;
   settled = all_so (AreSettled w.tap.connections w.put w.end.given) (AreSettled w.tap.connections w.put t.given) w.put
-      (λ v k m source e.
-      let a = k m source e in
-      let before = a.up in
-      record { up = omega arith; waits = a.waits; asks = a.asks }) f.settled;
+      (grind arith) f.settled;
   lost = f.lost;
   shut = λ lasts. over_not t.ended h lasts;
 }
@@ -138,9 +105,6 @@ module _ (local : Local) (w : Whole) (f : Followed local w) (sane : IsSane w.tap
       (is_over local w f (user_does call w.end) w.coming h (λ r e. e)
       (subst (λ (i : ℕ). AllByRecursion (AreGiven i) w.coming) (sym given) f.few)
       (subst (λ (i : ℕ). w.end.given ≤ i) (sym given) (same_up w.end.given)))
-
-  closes_last : (r peer reason : ℕ) (k : Option Class) → (k ≡ None) ⊎ (k ≡ Some Two) → (closes_in r peer reason k w.end).ended ≡ w.end.ended
-  closes_last r peer reason k e = grind arith
 
   -- the end had not ended, and ends
   ends_by : (call : UserCall) → w.end.ended ≡ None → is_some (user_does call w.end).ended ≡ true → Followed local (called call)

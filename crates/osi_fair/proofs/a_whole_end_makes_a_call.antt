@@ -7,14 +7,13 @@ use Rattle.osi_fair.proofs.Vocabulary.{Class, Two, Local, push_other, put_other,
 use Rattle.osi_fair.proofs.Vocabulary.{closed_with, closes_in, ended_by, link_of, open_link, sent, sent_all, proposal, proposal_by}
 use Rattle.osi_fair.proofs.Vocabulary.{IsOrderly, pumped, value_at, breaks, closes_call, connects, sends, sends_all, user_does, UserCall}
 use Rattle.osi_fair.proofs.Vocabulary.{asked, closing, Live, linked, EndReason, Connection, Left, Follows, link_now, Line, put_closing}
-use Rattle.osi_fair.proofs.Vocabulary.{put_sent, put_together, MayCall, Whole}
+use Rattle.osi_fair.proofs.Vocabulary.{put_sent, put_together, MayCall, Whole, State, ltb-false, ltb-true}
 use Rattle.osi_carrier.specs.Calls.{sent_on}
-use Rattle.osi_carrier.specs.State.{State}
 use Rattle.osi_fair.proofs.small_facts_that_many_lemmas_use.{differ}
 use Rattle.osi_fair.proofs.a_carrier_follows_lines.{follows_closed, follows_sent}
 use Rattle.osi_fair.proofs.a_request_of_a_whole_end_is_new.{Newer}
 use Rattle.osi_fair.proofs.no_two_open_connections_have_one_peer.{one_peer}
-use Rattle.osi_fair.proofs.what_a_unit_leaves_at_a_calling_end.{Linked, ends, given_by, spare_none, still}
+use Rattle.osi_fair.proofs.what_a_unit_leaves_at_a_calling_end.{Linked, ends, spare_none, still}
 use Rattle.osi_fair.proofs.calls_of_a_line_join.{follows_together, still_open}
 use Rattle.osi_fair.proofs.each_connection_has_its_line.{followed_at, AreGiven, AreSettled, Followed, Following, IsAnswer, IsAsking}
 use Rattle.osi_fair.proofs.each_connection_has_its_line.{IsOwned, Row, Tracked, all_so, asking, asks, closes, over, is_tracked, talks}
@@ -27,10 +26,10 @@ use Rattle.osi_fair.proofs.what_a_whole_end_takes.{units_owned, units_settled}
 use Rattle.osi_fair.proofs.names_stay_apart_though_one_is_lost.{AreNamedApart}
 use Rattle.osi_fair.proofs.a_unit_of_a_whole_end_passes.{all_two}
 use Rattle.osi_fair.proofs.what_the_other_side_closes.{IsSane}
-use Rattle.osi_fair.proofs.which_units_are_for_a_connection.{AllOurs, all_ours, each_picked, is_dc, is_ours, last_ours, named_is, names}
-use Rattle.osi_fair.proofs.which_units_are_for_a_connection.{none_ours, picked_other, ours, picked_join, those}
+use Rattle.osi_fair.proofs.which_units_are_for_a_connection.{AllOurs, all_ours, each_picked, is_dc, is_ours, last_ours, names, none_ours}
+use Rattle.osi_fair.proofs.which_units_are_for_a_connection.{picked_other, ours, picked_join, those}
 use Rattle.osi_fair.proofs.a_dr_for_what_is_gone.{after_calling}
-use Rattle.osi_fair.proofs.a_called_end_makes_a_call.{all_none, all_open, open_of, row_of, rows_all, rows_sent}
+use Rattle.osi_fair.proofs.a_called_end_makes_a_call.{all_none, all_open, open_of, rows_all, rows_sent}
 use Rattle.osi_fair.proofs.a_dt_of_class_zero_passes.{unlike}
 
 pub same_up : (n : ℕ) → n ≤ n
@@ -48,10 +47,6 @@ module _ (local : Local) (w : Whole) (f : Followed local w) (sane : IsSane w.tap
 
   abbrev after : Whole
   after = record w { end = t; put = w.put ++ units }
-
-  -- what awaits its CC now did so before
-  was_asked : (m : ℕ) (b : Bool) → (m == n) ≡ b → value_at m t.live ≡ Some asked → value_at m w.end.live ≡ Some asked
-  was_asked m b e row = grind (arith, eqb-true, unlike)
 
   asked_still : (m : ℕ) → value_at m w.end.live ≡ Some asked → value_at m t.live ≡ Some asked
   asked_still m row = rows m (grind arith) ∙ row
@@ -151,10 +146,10 @@ module _ (local : Local) (w : Whole) (f : Followed local w) (sane : IsSane w.tap
   linked_by m q l b e h = grind (arith, eqb-true, unlike)
 
   puts : Puts w.tap w.end n units
-  puts = of_line owner (grind (arith, given_by))
+  puts = of_line owner (grind (arith, beyond, ltb-true, ltb-false))
 
   answer_now : (v : Value) → IsAnswer w.tap.course.loose cs w.end v → IsAnswer w.tap.course.loose cs t v
-  answer_now v h m x e lasts (inl row) = ((h m x e was (inl (was_asked m (m == n) refl row))).0, row)
+  answer_now v h m x e lasts (inl row) = ((h m x e was (inl (grind (arith, eqb-true, unlike)))).0, row)
   answer_now v h m x e lasts (inr firm) = let (k, row) = h m x e was (inr firm) in (k, asked_still m row)
 
   called_so : Followed local after
@@ -193,7 +188,7 @@ module _ (local : Local) (w : Whole) (f : Followed local w) (sane : IsSane w.tap
         (subst (λ (i : ℕ). w.end.given ≤ i) (sym given) (same_up w.end.given))) f.settled)
         (units_settled w.tap w.end (w.put ++ units) t.given n units puts (grind (arith, asks, all_join, all_so, units_ask, puts)));
     lost = f.lost;
-    shut = λ lasts i c at closed row. f.shut was i c at closed (was_asked c.left.reference (c.left.reference == n) refl row);
+    shut = λ lasts i c at closed row. f.shut was i c at closed (grind (arith, eqb-true, unlike));
   }
 
 -- ---- a call for a connection
@@ -222,14 +217,11 @@ module _ (local : Local) (w : Whole) (f : Followed local w) (sane : IsSane w.tap
   abbrev after_connects : Whole
   after_connects = record w { end = t; put = w.put ++ request x ∷ [] }
 
-  none_there : value_at r s.live ≡ None
-  none_there = beyond r s.given s.live orderly.up_to (omega arith)
-
   rows_c : (m : ℕ) → (m ≡ r → ⊥) → value_at m t.live ≡ value_at m s.live
   rows_c m other = push_other m r asked s.live other
 
   asked_c : (m : ℕ) → value_at m s.live ≡ Some asked → value_at m t.live ≡ Some asked
-  asked_c m h = rows_c m (grind (arith, none_there)) ∙ h
+  asked_c m h = rows_c m (grind (arith, beyond)) ∙ h
 
   row_c : (m q : ℕ) (line : Line) → (m ≡ r → ⊥) → Row local s w.coming m q line → Row local t w.coming m q line
   row_c m q line other (asks there y source two early dcs first is) =
@@ -244,33 +236,22 @@ module _ (local : Local) (w : Whole) (f : Followed local w) (sane : IsSane w.tap
   line_c p c at g = followed_at g (picked_other (is_ours g.r g.peer) w.put (request x) refl) g.spares
       (leads_more w.begun (is_ours g.r g.peer) w.put (request x ∷ []) f.some) (row_c g.r g.peer g.line (grind arith) g.row)
 
-  -- only a DC may have come for a reference that was not given
-  dc_by : (v : Value) (b : Bool) → is_dc v ≡ b → AreGiven s.given v → destination_of v ≡ Some r → is_dc v ≡ true
-  dc_by v b e h named = grind arith
-
   too_low : (source : ℕ) (y : Connect) → y.source ≡ r → y.source ≡ source → source ≤ s.given → ⊥
   too_low source y new same low = absurd (omega arith)
 
-  -- no DC that is to pass has the new reference
-  settled_c : (v : Value) → AreSettled w.tap.connections w.put s.given v →
-      AreSettled w.tap.connections (w.put ++ request x ∷ []) t.given v
-  settled_c v h m source e = grind (arith, all_join, too_low, same_request)
-
   linked_c : (m q : ℕ) (l : Standing) (b : Bool) → (m == r) ≡ b → value_at m t.live ≡ Some (linked q l) →
       Tracked w.tap.connections m × (s.class ≡ Some Two)
-  linked_c m q l b e h = grind (arith, none_there, push_here, eqb-true, rows_c, unlike)
+  linked_c m q l b e h = grind (arith, beyond, push_here, eqb-true, rows_c, unlike)
 
   new_asking : (y : Connect) → request x ≡ request y → IsAsking local t w.coming y
-  new_asking y e =
-      grind (arith, asked_so, source_so, same_request, those, each_picked, names, all_so, dc_by, is_dc, named_is, none_there, push_here)
+  new_asking y e = grind (arith, asked_so, source_so, same_request, those, each_picked, names, all_so, is_dc, eqb-true, beyond, push_here)
 
   -- no CC has come for the new reference
   answer_new : (v : Value) → IsAnswer w.tap.course.loose w.tap.connections s v → AreGiven s.given v → (m : ℕ) (y : Connect) →
       v ≡ confirm m y → (b : Bool) → (m == r) ≡ b → value_at m t.live ≡ Some asked → Tracked w.tap.connections m
   answer_new v h given_so m y e true same row =
       let up = given_so (ap is_dc e) m (ap destination_of e) in
-      let is = eqb-true m r same in
-      absurd (omega arith)
+      grind (arith, eqb-true)
   answer_new v h given_so m y e false other row = (h m y e was (inl (sym (rows_c m (unlike m r other)) ∙ row))).0
 
   answer_c : (v : Value) → IsAnswer w.tap.course.loose w.tap.connections s v → AreGiven s.given v →
@@ -311,7 +292,7 @@ module _ (local : Local) (w : Whole) (f : Followed local w) (sane : IsSane w.tap
     seen = f.seen;
     settled = all_join (AreSettled w.tap.connections (w.put ++ request x ∷ []) t.given) w.put (request x ∷ [])
         (all_so (AreSettled w.tap.connections w.put s.given)
-        (AreSettled w.tap.connections (w.put ++ request x ∷ []) t.given) w.put settled_c
+        (AreSettled w.tap.connections (w.put ++ request x ∷ []) t.given) w.put (grind (arith, all_join, too_low, same_request))
         f.settled)
         (λ m source e. absurd (cc e), tt);
     lost = f.lost;
@@ -328,7 +309,7 @@ nothing_so local w t units same none f = grind (arith, append-nil)
 
 linked_of : (b : Bool) (o : Option Live) (peer : ℕ) (link : Standing) → (if b then None else link_of o) ≡ Some (peer, link) →
     o ≡ Some (linked peer link)
-linked_of b o peer link e = grind (arith, row_of)
+linked_of b o peer link e = grind arith
 
 class_sent : (r : ℕ) (tsdu : List ℕ) (o : Option (ℕ × Standing)) (s : State) → (sent_on r tsdu o s).class ≡ s.class
 class_sent r tsdu o s = grind arith

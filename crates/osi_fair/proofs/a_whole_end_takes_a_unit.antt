@@ -4,10 +4,9 @@ use Rattle.osi_fair.proofs.Vocabulary.{Right, arith, [], ap, Bool, false, inl, i
 use Rattle.osi_fair.proofs.Vocabulary.{true, ℕ, ◌++◌, ◌∙◌, ◌∷◌, ◌≡◌, ◌≤◌, ◌⊎◌, ◌==◌, append-nil, AllByRecursion, slice_get, confirm}
 use Rattle.osi_fair.proofs.Vocabulary.{Connect, disconnected, Value, Standing, Two, Local, changes_one, agreed_size, opened_link, IsOrderly}
 use Rattle.osi_fair.proofs.Vocabulary.{to_connection, value_at, asked, closing, Live, linked, Connection, Left, link_now, ignores, Line}
-use Rattle.osi_fair.proofs.Vocabulary.{put_at, put_for, Whole, without_here}
+use Rattle.osi_fair.proofs.Vocabulary.{put_at, put_for, Whole, without_here, State, beyond, ltb-false, ltb-true}
 use Rattle.std.proofs.lemmas.List.{append_assoc}
 unfoldable use Rattle.osi_carrier.specs.React.{react}
-use Rattle.osi_carrier.specs.State.{State}
 use Rattle.osi_fair.proofs.small_facts_that_many_lemmas_use.{differ, number_is as same_number, number_is}
 use Rattle.osi_fair.proofs.a_carrier_follows_lines.{follows_open}
 use Rattle.osi_fair.proofs.a_request_of_a_whole_end_is_new.{unit_gives}
@@ -20,8 +19,8 @@ use Rattle.osi_fair.proofs.what_the_other_side_closes.{IsDr, IsSane, closed_by}
 use Rattle.osi_fair.proofs.which_units_are_for_a_connection.{AllOurs, all_ours, picked_first, is_dc, is_ours, last_ours, named_so, names}
 use Rattle.osi_fair.proofs.which_units_are_for_a_connection.{picked_more, picked_other, ours, ours_is, picked_join, those}
 use Rattle.osi_fair.proofs.what_a_unit_leaves_at_a_calling_end.{Asks, Closes, Linked, Named, asked_so, dr_closes, drops, early_dc}
-use Rattle.osi_fair.proofs.what_a_unit_leaves_at_a_calling_end.{early_parts, ends, given_by, linked_so, named_by, no_answer, opened}
-use Rattle.osi_fair.proofs.what_a_unit_leaves_at_a_calling_end.{or_strays, spare_none, stays, still, unknown_so}
+use Rattle.osi_fair.proofs.what_a_unit_leaves_at_a_calling_end.{early_parts, ends, linked_so, named_by, no_answer, opened, or_strays}
+use Rattle.osi_fair.proofs.what_a_unit_leaves_at_a_calling_end.{spare_none, stays, still, unknown_so}
 use Rattle.osi_fair.proofs.what_is_live_at_a_called_end.{IsLive}
 
 none_first : (xs ys : List Value) → xs ++ ys ≡ [] → xs ≡ []
@@ -80,9 +79,6 @@ module _ (local : Local) (w : Whole) (f : Followed local w) (sane : IsSane w.tap
   not_asked : (o : Option Live) → value_at n t.live ≡ o → (o ≡ Some asked → ⊥) → AskedBefore
   not_asked o there none h = absurd (none (sym there ∙ h))
 
-  later_is : (r : ℕ) → r ≡ n → those r later ≡ those n later
-  later_is r same = ap (λ (i : ℕ). those i later) same
-
   no_units : units ≡ [] → (r peer : ℕ) → ours r peer (w.put ++ units) ≡ ours r peer w.put
   no_units e r peer = ap (λ (l : List Value). ours r peer l) (ap (λ (l : List Value). w.put ++ l) e ∙ append-nil w.put)
 
@@ -110,7 +106,7 @@ module _ (local : Local) (w : Whole) (f : Followed local w) (sane : IsSane w.tap
         gone = λ some. gone;
         begun_is = λ first. g.begun_is (λ h. none_first g.spare more (first h))
             ∙ leads_more w.begun (is_ours g.r g.peer) w.put units f.some;
-        row = closes new (ap (λ (i : ℕ). value_at i t.live) same ∙ there) q h gone (later_is g.r same);
+        row = closes new (ap (λ (i : ℕ). value_at i t.live) same ∙ there) q h gone (grind (arith, those));
         calm = λ j. (subst (AllByRecursion IsNoCc) coming (g.calm j)).1;
       }
 
@@ -209,7 +205,7 @@ module _ (local : Local) (w : Whole) (f : Followed local w) (sane : IsSane w.tap
       ∙ ap (λ (i : ℕ). linked i (opened_link Two (agreed_size y.parameters.size local) local y.credit)) source in
       followed_at g (no_units none g.r g.peer) g.spares (leads_more w.begun (is_ours g.r g.peer) w.put units f.some)
       (talks (opened_link Two (agreed_size y.parameters.size local) local y.credit) (ap (λ (i : ℕ). value_at i t.live) same ∙ there
-      ∙ ap (λ (a : Live). Some a) (link_is s.local local_is)) is (later_is g.r same ∙ coming))
+      ∙ ap (λ (a : Live). Some a) (link_is s.local local_is)) is ((grind (arith, those)) ∙ coming))
 
   -- what comes first for a connection that is asked for is its CC
   other_row : {A : Type 0} → is_dc u ≡ false → ((x : Connect) → u ≡ confirm n x → ⊥) → value_at n s.live ≡ Some asked → (r peer : ℕ)
@@ -228,7 +224,7 @@ module _ (local : Local) (w : Whole) (f : Followed local w) (sane : IsSane w.tap
       let (more, (more_dcs, rest)) = (early_parts early u (confirm g.r y) (those n later) g.line.coming dcs
       (sym (first_n g.r same) ∙ first)).0 dc refl in
       followed_at g (no_units none g.r g.peer) g.spares (leads_more w.begun (is_ours g.r g.peer) w.put units f.some)
-      (asks (ap (λ (i : ℕ). value_at i t.live) same ∙ there) y source two more more_dcs (later_is g.r same ∙ rest) is)
+      (asks (ap (λ (i : ℕ). value_at i t.live) same ∙ there) y source two more more_dcs ((grind (arith, those)) ∙ rest) is)
 
   head_answer : value_at n s.live ≡ Some asked → (x : Connect) → u ≡ confirm n x → Tracked cs n
   head_answer here x e =
@@ -303,7 +299,7 @@ module _ (local : Local) (w : Whole) (f : Followed local w) (sane : IsSane w.tap
           spares = tt;
           gone = λ h. absurd (h refl);
           begun_is = λ first. g.begun_is (λ h. none) ∙ leads_more w.begun (is_ours g.r g.peer) w.put units f.some;
-          row = new_row g.r g.peer line same refl (later_is g.r same) is_linked;
+          row = new_row g.r g.peer line same refl (grind (arith, those)) is_linked;
           calm = λ j. (subst (AllByRecursion IsNoCc) coming (g.calm j)).1;
         };
         own = subst (λ (i : ℕ). AllOurs n i units) (sym g.right) (subst (λ (i : ℕ). AllOurs i g.peer units) same own);
@@ -331,7 +327,7 @@ module _ (local : Local) (w : Whole) (f : Followed local w) (sane : IsSane w.tap
       (λ i x there is_there h same. (grown_by peer link here two i x there h same h.row).grown)
       (λ q l h. ((p, c, at, tracked, left), grind (arith, unit_after)))
       (of_line (record { p = p; c = c; at = at; tracked = tracked; left = left; own = mine.own })
-      (record { up = given_by n s.given s.live (linked peer link) orderly.up_to here; row = λ h. absurd (cc (sym here ∙ h)) }))
+      (record { up = grind (arith, beyond, ltb-true, ltb-false); row = λ h. absurd (cc (sym here ∙ h)) }))
 
   by_row : (o : Option Live) → value_at n s.live ≡ o → Followed local after
   by_row o here = grind (arith, at_gone, at_asked, at_linked, at_closing)

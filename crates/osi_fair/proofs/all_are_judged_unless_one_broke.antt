@@ -3,9 +3,9 @@
 use Rattle.osi_fair.proofs.Vocabulary.{arith, [], ap, Bool, false, if◌then◌else◌, List, None, Option, refl, Some, sym, true, ℕ, ◌∙◌, ◌∷◌}
 use Rattle.osi_fair.proofs.Vocabulary.{◌≡◌, position_or_len, position, slice_get, Connect, Value, is_applied, reach_of, begins, is_live}
 use Rattle.osi_fair.proofs.Vocabulary.{is_named, asked_by, asks_by, asks_kept, at_place, class_for, connection_after, course_after}
-use Rattle.osi_fair.proofs.Vocabulary.{found_on, fresh, is_stopped, none_told, one_told, Outcome, reached, route, routed, Traffic as State}
-use Rattle.osi_fair.proofs.Vocabulary.{unnamed_told, Connection, Course, Direction, Finding, NotJudged, Reach, Route, Asks, Named, Only}
-use Rattle.osi_fair.proofs.Vocabulary.{Unnamed, all_passed, packet, passes, Passing, rubbish, unit}
+use Rattle.osi_fair.proofs.Vocabulary.{found_on, fresh, is_stopped, none_told, one_told, Outcome, route, routed, Traffic as State}
+use Rattle.osi_fair.proofs.Vocabulary.{unnamed_told, Connection, Course, Direction, Finding, NotJudged, Route, Asks, Named, Only, Unnamed}
+use Rattle.osi_fair.proofs.Vocabulary.{all_passed, packet, passes, Passing, rubbish, unit}
 use Rattle.osi_fair.proofs.small_facts_that_many_lemmas_use.{begins_judged, sized_judged}
 use Rattle.osi_fair.proofs.what_holds_of_one_item.{HoldsOfEach, each_add, each_map, each_set, first_true}
 use Rattle.osi_fair.proofs.a_reference_names_one_connection.{names_one, no_item}
@@ -23,12 +23,6 @@ after_firm : (d : Direction) (c : Connection) (v : Value) (applied : Bool) (cour
     (course_after d c v applied course).loose ≡ course.loose
 after_firm d c v applied course = grind arith
 
--- ---- a connection that is judged still is
-
-after_judged : (d : Direction) (v : Value) (applied : Bool) (r : Reach) (course : Course) (c : Connection) →
-    (reached d r course).loose ≡ false → (connection_after d v applied r c).is_judged ≡ c.is_judged
-after_judged d v applied r course c h = grind (arith, sized_judged)
-
 -- ---- by the way that a unit takes
 
 to_none : (d : Direction) (f : Finding) (s : State) → AreJudged s → AreJudged (none_told d f s).state
@@ -45,7 +39,7 @@ to_one d p c v s at a h =
     let course = course_after d c v applied s.course in
     let was = a (sym (after_firm d c v applied s.course) ∙ (grind arith)) in
     each_set IsJudged s.connections p (connection_after d v applied how_far c) was
-    (after_judged d v applied how_far course c h ∙ was p c at)
+    ((grind (arith, sized_judged)) ∙ was p c at)
 
 by_place : (d : Direction) (v : Value) (s : State) (p : Option ℕ) → AreJudged s → AreJudged (at_place d v s p).state
 by_place d v s None a = to_unnamed d v s a

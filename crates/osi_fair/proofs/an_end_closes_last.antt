@@ -8,9 +8,6 @@ use Rattle.osi_fair.proofs.an_open_end_is_fair.{all_keep, all_turned, opened_hol
 open_if : (put : List Value) (phase : Phase) → OpenIfAny put phase → put ≢ [] → is_open phase ≡ true
 open_if put phase h some = grind arith
 
-holds_open : (r peer : ℕ) (line : Line) → Holds r peer line → line.put ≢ [] → is_open line.tap.left.phase ≡ true
-holds_open r peer line h some = grind (arith, open_if)
-
 pub left_holds : (r peer : ℕ) (begin line : Line) (acts : List Act) → IsOpened Left r peer begin → ActsAlong Left r peer begin acts line →
     line.tap.is_judged ≡ true → Holds r peer line
 left_holds r peer begin line acts o along judged = all_keep r peer acts begin line along (λ _. opened_holds r peer begin o) judged
@@ -23,7 +20,7 @@ right_holds r peer begin line acts o along judged =
 
 pub waits_open : (d : Direction) (r peer : ℕ) (begin line : Line) (acts : List Act) → IsOpened d r peer begin →
     ActsAlong d r peer begin acts line → line.tap.is_judged ≡ true → line.put ≢ [] → is_open (own d line.tap).phase ≡ true
-waits_open d r peer begin line acts o along judged some = grind (arith, holds_open, left_holds, right_holds)
+waits_open d r peer begin line acts o along judged some = grind (arith, left_holds, right_holds)
 
 pub peer_keeps : (d : Direction) (r peer : ℕ) (begin line : Line) (acts : List Act) → IsOpened d r peer begin →
     ActsAlong d r peer begin acts line → line.tap.is_judged ≡ true → (theirs d line.tap).reference ≡ peer

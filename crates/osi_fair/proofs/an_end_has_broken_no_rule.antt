@@ -1,8 +1,7 @@
 -- A side that has broken no rule has broken none after a unit of the other side, or after one of its own that breaks none; and what
 -- is noted of a unit. For the laws on whole ends.
-use Rattle.std.proofs.Common.{arith}
 use Rattle.osi_fair.proofs.Vocabulary.{Bool, false, ◌∙◌, ◌≡◌, ◌⊎◌, Value, breaks_are_noted, has_erred, is_break, is_report, noted, other}
-use Rattle.osi_fair.proofs.Vocabulary.{takes, Course, Direction, Finding, Kept, NotJudged, TooMany, Traffic as State, refused}
+use Rattle.osi_fair.proofs.Vocabulary.{takes, Course, Direction, Finding, Kept, NotJudged, TooMany, Traffic as State, refused, arith}
 use Rattle.osi_rules.specs.declared.findings.Reach.TheVariants as reach
 use Rattle.osi_rules.specs.declared.findings.Rule.TheVariants as rule
 

@@ -1,31 +1,26 @@
 -- An open end of class 2 is fair, over every list of what happens to it and to the tap: at left, and then at right, which is left
 -- with the sides of the tap exchanged.
 -- For the law of that name.
-use Rattle.osi_fair.proofs.Vocabulary.{[], ap, arith, Bool, inl, inr, List, Option, refl, Some, subst, sym, true, ℕ, ◌-◌, ◌∙◌, ◌∷◌, ◌≡◌}
-use Rattle.osi_fair.proofs.Vocabulary.{◌⊎◌, Value, fresh_two, Standing, two_standing, Two, is_applied, reach_of, is_open, other}
-use Rattle.osi_fair.proofs.Vocabulary.{connection_after, found, sent_on, Connection, Course, Direction, Left, Right, Finding, Broke, Kept}
-use Rattle.osi_fair.proofs.Vocabulary.{Reach, Half, Act, Acts, ActsAlong, after_finding, answers, begins_elsewhere, closes_with as closes}
-use Rattle.osi_fair.proofs.Vocabulary.{ignores, IsFair, IsOpened, IsRightNow, Line, moves}
+use Rattle.osi_fair.proofs.Vocabulary.{[], ap, arith, Bool, inl, inr, List, subst, sym, true, ℕ, ◌-◌, ◌∙◌, ◌∷◌, ◌≡◌, ◌⊎◌, Value, fresh_two}
+use Rattle.osi_fair.proofs.Vocabulary.{two_standing, is_open, other, found, sent_on, Connection, Course, Direction, Left, Right, Finding}
+use Rattle.osi_fair.proofs.Vocabulary.{Broke, Kept, Half, Act, Acts, ActsAlong, after_finding, answers, begins_elsewhere}
+use Rattle.osi_fair.proofs.Vocabulary.{closes_with as closes, ignores, IsFair, IsOpened, IsRightNow, Line, moves}
 use Rattle.osi_rules.specs.declared.findings.Rule.TheVariants as rule
 use Rattle.osi_fair.specs.Lines.{begins_own, passes_own, begins_other, passes_other}
-use Rattle.osi_fair.proofs.what_holds_of_a_line.{Holds, PutsAt, TakesAt, Tally, is_there}
+use Rattle.osi_fair.proofs.what_holds_of_a_line.{Holds, Tally, is_there}
 use Rattle.osi_fair.proofs.what_an_end_does_to_a_line.{moves_hold, closes_hold, answers_hold}
 use Rattle.osi_fair.proofs.what_passes_of_an_end.{begins_other_holds, first_is, is_kept, passes_own_holds}
 use Rattle.osi_fair.proofs.what_each_unit_of_the_other_side_does.{passes_other_holds}
 use Rattle.osi_fair.proofs.Vocabulary.{if◌then◌else◌, finding_of}
-use Rattle.osi_fair.proofs.what_begins_to_pass_is_right.{begins_right}
+use Rattle.osi_fair.proofs.what_begins_to_pass_is_right.{first_right}
 
 -- ---- a connection that is judged was judged before
 
 sent_judged : (d : Direction) (v : Value) (c : Connection) → (sent_on d v c).is_judged ≡ c.is_judged
 sent_judged d v c = grind arith
 
-judged_before : (d : Direction) (v : Value) (a : Bool) (r : Reach) (c : Connection) → (connection_after d v a r c).is_judged ≡ true →
-    c.is_judged ≡ true
-judged_before d v a r c h = grind (arith, sent_judged)
-
 was_judged : (d : Direction) (f : Finding) (v : Value) (c : Connection) → (after_finding d f v c).is_judged ≡ true → c.is_judged ≡ true
-was_judged d f v c h = judged_before d v (is_applied f) (reach_of (Some Two) f) c h
+was_judged d f v c h = grind (arith, sent_judged)
 
 -- ---- at left
 
@@ -41,7 +36,7 @@ act_keeps r peer (closes reason units) old new (link, is, coming, new_is) h judg
 act_keeps r peer (ignores units) old new (none, coming, new_is) h judged = grind arith
 act_keeps r peer (answers unit) old new (link, is, dr, coming, new_is) h judged =
     answers_hold r peer unit old new (link, is, dr, coming, new_is) (h (sym (ap (λ (l : Line). l.tap.is_judged) new_is) ∙ judged))
-act_keeps r peer begins_own old new (some, idle, new_is) h judged = grind (arith, begins_right)
+act_keeps r peer begins_own old new (some, idle, new_is) h judged = grind (arith, first_right)
 act_keeps r peer (passes_own course in_use) old new (unit, first, begun, new_is) h judged =
     let still = sym (ap (λ (l : Line). l.tap.is_judged) new_is) ∙ judged in
     let was = was_judged Left (finding_of Left course in_use old.tap unit) unit old.tap still in
@@ -71,39 +66,9 @@ opened_holds r peer line o =
       tally = x;
       noted = 0;
       ordered = omega arith;
-      taps = record {
-        next = ap (λ (h : Half). h.next) o.sent;
-        awaited = ap (λ (h : Half). h.awaited) o.sent;
-        credit = ap (λ (h : Half). h.credit) o.sent;
-        their_next = ap (λ (h : Half). h.next) o.came;
-        their_awaited = ap (λ (h : Half). h.awaited) o.came;
-        their_edge = omega arith;
-        known_next = o.noted;
-        own_reference = ap (λ (h : Half). h.reference) o.sent;
-        reference = ap (λ (h : Half). h.reference) o.came;
-        there = ap (λ (h : Half). is_there h.phase) o.came;
-        fits = grind arith;
-      };
-      puts = subst (λ (l : Option Standing). PutsAt r peer (o.size - 5) x line.tap.left line.tap.right line.put l) (sym o.link)
-          (subst (λ (l : List Value). PutsAt r peer (o.size - 5) x line.tap.left line.tap.right l (Some begun_link)) (sym o.put)
-          ((refl, ap (λ (h : Half). h.begun) o.sent), live));
-      takes = subst (λ (l : Option Standing). TakesAt (o.size - 5) x line.tap.right line.coming l) (sym o.link)
-          (subst (λ (l : List Value). TakesAt (o.size - 5) x line.tap.right l (Some begun_link)) (sym o.coming)
-          (record {
-            flow = two.flow;
-            taken = 0;
-            known = 0;
-            is = refl;
-            size = refl;
-            next = refl;
-            unacknowledged = refl;
-            few = omega arith;
-            edge = omega arith;
-            expected = refl;
-            waiting = refl;
-            credit = refl;
-            comes = (omega arith, omega arith, open_there);
-          }));
+      taps = grind (arith, is_there);
+      puts = grind arith;
+      takes = grind arith;
       under_way = λ b. absurd (cc (b, o.begun));
     }
 
@@ -120,13 +85,9 @@ turned c = record c { left = c.right; right = c.left; seen_by_left = c.seen_by_r
 abbrev pub turned_line : Line → Line
 turned_line line = record line { tap = turned line.tap }
 
-after_turned : (d : Direction) (v : Value) (a : Bool) (r : Reach) (c : Connection) →
-    turned (connection_after d v a r c) ≡ connection_after (other d) v a r (turned c)
-after_turned d v a r c = grind arith
-
 finding_turned : (d : Direction) (f : Finding) (v : Value) (c : Connection) →
     turned (after_finding d f v c) ≡ after_finding (other d) f v (turned c)
-finding_turned d f v c = after_turned d v (is_applied f) (reach_of (Some Two) f) c
+finding_turned d f v c = grind arith
 
 -- what is found of this side's units but a CC, of which nothing is claimed here
 kept_turned : (course : Course) (in_use : Bool) (c : Connection) (v : Value) → found Left course in_use (turned c) v ≡ Kept →
@@ -171,7 +132,6 @@ act_turned r peer begins_own old new (some, idle, new_is) h judged =
     act_keeps r peer begins_own (turned_line old) (turned_line new) (some, idle, ap turned_line new_is) h judged
 act_turned r peer (passes_own course in_use) old new (unit, first, begun, new_is) h judged =
     let still = sym (ap (λ (l : Line). l.tap.is_judged) new_is) ∙ judged in
-    let was = was_judged Right (finding_of Right course in_use old.tap unit) unit old.tap still in
     act_keeps r peer (passes_own course in_use) (turned_line old) (turned_line new)
     (grind (arith, first_is, kept_turned, is_kept, finding_turned)) h judged
 act_turned r peer begins_elsewhere old new (idle, new_is) h judged = grind (arith, act_keeps)

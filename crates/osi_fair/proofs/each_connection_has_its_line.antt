@@ -5,8 +5,7 @@ use Rattle.osi_fair.proofs.Vocabulary.{true, ℕ, ◌++◌, ◌∙◌, ◌∷◌
 use Rattle.osi_fair.proofs.Vocabulary.{◌||◌, window_units, confirm, Connect, destination_of, disconnected, request, Value, Standing, Class}
 use Rattle.osi_fair.proofs.Vocabulary.{Two, Local, agreed_size, opened_link, value_at, asked, closing, Live, linked, begins, is_closing}
 use Rattle.osi_fair.proofs.Vocabulary.{is_open, is_silent, asked_by, packet_begins, silent_half, Traffic, Connection, Direction, Left}
-use Rattle.osi_fair.proofs.Vocabulary.{Right, Half, Act, ActsAlong, begins_elsewhere, IsOpened, Line, opened_half, Whole}
-use Rattle.osi_carrier.specs.State.{State}
+use Rattle.osi_fair.proofs.Vocabulary.{Right, Act, ActsAlong, begins_elsewhere, IsOpened, Line, opened_half, Whole, State}
 use Rattle.osi_fair.specs.Lines.{begins_other, begins_own}
 use Rattle.osi_fair.proofs.small_facts_that_many_lemmas_use.{and_first, begins_judged, begun_left, begun_right, course_class, is_false}
 use Rattle.osi_fair.proofs.small_facts_that_many_lemmas_use.{no_list}
@@ -287,9 +286,6 @@ right_begins local put b strays end coming c f =
       calm = λ j. f.calm (sym (begins_judged Right c) ∙ j);
     }
 
-course_strays : (d : Direction) (s : Traffic) → (packet_begins d s).course.strays ≡ s.course.strays
-course_strays d s = grind arith
-
 -- if none has lost its judgement, none had
 pub why_before : {A : Type 0} (was is : Bool) → (is ≡ false → was ≡ false) → A ⊎ (is ≡ false) → A ⊎ (was ≡ false)
 why_before was is firm h = grind arith
@@ -314,9 +310,8 @@ owned_at : (d : Direction) (s : Traffic) (v : Value) → IsOwned s v → IsOwned
 owned_at d s v (asking x e) = asking x e
 owned_at d s v (of p c at tracked is) = of p (begins d c)
     (slice_get-map (begins d) s.connections p ∙ ap (λ (o : Option Connection). option_map (begins d) o) at) (tracked_begins d c ∙ tracked)
-    (subst (λ (x : Half). IsOf x.reference (begins d c).right.reference v) (sym (begun_left d c))
-    (subst (λ (x : Half). IsOf c.left.reference x.reference v) (sym (begun_right d c)) is))
-owned_at d s v (stray m source e strays) = stray m source e (course_strays d s ∙ strays)
+    (grind (arith, begun_left, begun_right))
+owned_at d s v (stray m source e strays) = stray m source e ((grind arith) ∙ strays)
 
 pub all_so : (P Q : Value → Type 0) (vs : List Value) → ((v : Value) → P v → Q v) → AllByRecursion P vs → AllByRecursion Q vs
 all_so P Q [] h a = tt
@@ -327,14 +322,7 @@ settled_at : (d : Direction) (cs : List Connection) (all : List Value) (given : 
     AreSettled (map (begins d) cs) all given v
 settled_at d cs all given v h m source e =
     let k = h m source e in
-    record {
-      up = k.up;
-      waits = λ i c at waits same.
-          let (x, was, is) = after_map (begins d) cs i c at in
-          k.waits i x was (sym (waiting_begins d x) ∙ ap is_waiting (sym is) ∙ waits)
-          (sym (ap (λ (h : Half). h.reference) (begun_left d x)) ∙ ap (λ (e : Connection). e.left.reference) (sym is) ∙ same);
-      asks = k.asks;
-    }
+    grind (arith, after_map, waiting_begins, begun_left)
 
 -- left knows the class that is selected
 seen_at : (local : Local) (d : Direction) (w : Whole) → Followed local w → (i : ℕ) (x : Connection) →
@@ -352,28 +340,20 @@ followed_begins local d w b some f k = record {
   lines = λ i c at tracked.
       let (x, was, is) = after_map (begins d) w.tap.connections i c at in
       let before = sym (tracked_begins d x) ∙ ap is_tracked (sym is) ∙ tracked in
-      subst (λ (s : Bool). Following local w.put b s w.end w.coming c) (sym (course_strays d w.tap))
+      subst (λ (s : Bool). Following local w.put b s w.end w.coming c) (sym (grind arith))
       (subst (λ (e : Connection). Following local w.put b w.tap.course.strays w.end w.coming e) (sym is)
       (k i x was before (f.lines i x was before)));
-  waiting = λ i c at waits.
-      let (x, was, is) = after_map (begins d) w.tap.connections i c at in
-      subst (λ (e : Connection). Waiting local w.end w.coming e) (sym is)
-      (waits_begun local d w.end w.coming x (f.waiting i x was (sym (waiting_begins d x) ∙ ap is_waiting (sym is) ∙ waits)));
+  waiting = grind (arith, after_map, waits_begun, waiting_begins);
   owned = all_so (λ v. IsOwned w.tap v) (λ v. IsOwned (packet_begins d w.tap) v) w.put (λ v. owned_at d w.tap v) f.owned;
   linked = λ lasts r peer link e. let (t, two) = f.linked lasts r peer link e in (tracked_at d w.tap.connections r t, two);
   answers = all_so (λ v. IsAnswer w.tap.course.loose w.tap.connections w.end v)
       (λ v. IsAnswer (packet_begins d w.tap).course.loose (map (begins d) w.tap.connections) w.end v) w.coming
       (λ v h n x e lasts why.
-      let (t, row) = h n x e lasts (why_before w.tap.course.loose (packet_begins d w.tap).course.loose (λ firm. sym (grind arith)
-      ∙ firm) why) in
+      let (t, row) = h n x e lasts (why_before w.tap.course.loose (packet_begins d w.tap).course.loose (grind arith) why) in
       (tracked_at d w.tap.connections n t, row)) f.answers;
   requests = f.requests;
   two = λ r t. course_class d w.tap ∙ f.two r (tracked_was d w.tap.connections r t);
-  silent = λ i c at none.
-      let (x, was, is) = after_map (begins d) w.tap.connections i c at in
-      let before = ap (λ (h : Half). is_silent h.phase) (sym (begun_right d x)) ∙ ap (λ (e : Connection). is_silent e.right.phase) (sym is)
-      ∙ none in
-      ap (λ (e : Connection). is_open e.left.phase) is ∙ ap (λ (h : Half). is_open h.phase) (begun_left d x) ∙ f.silent i x was before;
+  silent = grind (arith, after_map, begun_right, begun_left);
   zero = subst (λ (k : Option Class). (k ≡ None) ⊎ (k ≡ Some Two)) (sym (course_class d w.tap)) f.zero;
   some = some;
   few = f.few;
@@ -381,18 +361,9 @@ followed_begins local d w b some f k = record {
       let (x, was, is) = after_map (begins d) w.tap.connections i c at in
       seen_at local d w f i x was (sym (tracked_begins d x) ∙ ap is_tracked (sym is) ∙ tracked)
       (ap (λ (e : Connection). is_silent e.seen_by_left.phase) (sym is) ∙ known);
-  settled = all_so (AreSettled w.tap.connections w.put w.end.given) (AreSettled (map (begins d) w.tap.connections) w.put w.end.given) w.put
-      (λ v. settled_at d w.tap.connections w.put w.end.given v) f.settled;
-  lost = λ i c at lost.
-      let (x, was, is) = after_map (begins d) w.tap.connections i c at in
-      ap (λ (e : Connection). is_open e.right.phase || is_closing e.right.phase) is
-      ∙ ap (λ (h : Half). is_open h.phase || is_closing h.phase) (begun_right d x)
-      ∙ f.lost i x was (sym (begins_judged d x) ∙ ap (λ (e : Connection). e.is_judged) (sym is) ∙ lost);
-  shut = λ lasts i c at closed row.
-      let (x, was, is) = after_map (begins d) w.tap.connections i c at in
-      let left : c.left ≡ x.left = ap (λ (e : Connection). e.left) is ∙ begun_left d x in
-      f.shut lasts i x was (ap (λ (h : Half). is_open h.phase) (sym left) ∙ closed)
-      (ap (λ (h : Half). value_at h.reference w.end.live) (sym left) ∙ row);
+  settled = search (arith, all_so, settled_at);
+  lost = grind (arith, after_map, begun_right, begins_judged);
+  shut = grind (arith, after_map, begun_left);
 }
 
 -- what the line of a connection that is open at the tap has put comes before the spare DCs

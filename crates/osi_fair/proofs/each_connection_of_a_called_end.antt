@@ -1,14 +1,12 @@
 -- Each connection at the tap of a called end: its CR has not been answered, its answer is to pass, or its line goes on.
 -- For the law on a whole called end.
-use Rattle.osi_fair.proofs.Vocabulary.{arith}
-use Rattle.osi_fair.proofs.Vocabulary.{[], ap, Bool, false, inl, inr, is_some, List, None, Option, option_map, refl, Some, subst, sym, true}
-use Rattle.osi_fair.proofs.Vocabulary.{ℕ, ◌++◌, ◌<◌, ◌∙◌, ◌∷◌, ◌≡◌, ◌≢◌, ◌≤◌, ◌⊎◌, slice_get-map, AllByRecursion, slice_get, ◌&&◌, ◌||◌}
-use Rattle.osi_fair.proofs.Vocabulary.{acknowledge, confirm, Connect, data0, data2, destination_of, disconnect, disconnected, error}
-use Rattle.osi_fair.proofs.Vocabulary.{IsConnect, request, Value, Standing, accept, selected_by, Class, Two, Local, acceptance, opened_link}
-use Rattle.osi_fair.proofs.Vocabulary.{value_at, linked, begins, is_open, is_refused, is_silent, offer_of, packet_begins, silent_half}
-use Rattle.osi_fair.proofs.Vocabulary.{Traffic, Connection, Direction, Left, Right, Half, Act, ActsAlong, begins_elsewhere, IsOpened, Line}
-use Rattle.osi_fair.proofs.Vocabulary.{opened_half, opened_line, Whole}
-use Rattle.osi_carrier.specs.State.{State}
+use Rattle.osi_fair.proofs.Vocabulary.{arith, [], ap, Bool, false, inl, inr, is_some, List, None, Option, option_map, refl, Some, subst}
+use Rattle.osi_fair.proofs.Vocabulary.{sym, true, ℕ, ◌++◌, ◌<◌, ◌∙◌, ◌∷◌, ◌≡◌, ◌≢◌, ◌≤◌, ◌⊎◌, slice_get-map, AllByRecursion, slice_get}
+use Rattle.osi_fair.proofs.Vocabulary.{◌&&◌, ◌||◌, acknowledge, confirm, Connect, data0, data2, destination_of, disconnect, disconnected}
+use Rattle.osi_fair.proofs.Vocabulary.{error, IsConnect, request, Value, Standing, accept, selected_by, Class, Two, Local, acceptance}
+use Rattle.osi_fair.proofs.Vocabulary.{opened_link, value_at, linked, begins, is_open, is_refused, is_silent, offer_of, packet_begins}
+use Rattle.osi_fair.proofs.Vocabulary.{silent_half, Traffic, Connection, Direction, Left, Right, Half, Act, ActsAlong, begins_elsewhere}
+use Rattle.osi_fair.proofs.Vocabulary.{IsOpened, Line, opened_half, opened_line, Whole, State}
 use Rattle.osi_fair.specs.Lines.{begins_other, begins_own}
 use Rattle.osi_fair.proofs.small_facts_that_many_lemmas_use.{begins_judged, begun_left, begun_right, course_class, or_last}
 use Rattle.osi_fair.proofs.units_by_their_place.{Placed, first_at, units_at, values}

@@ -1,14 +1,14 @@
 -- What a calling end does while no class is selected: it asks for one connection, and for no other.
 -- For the law on requests.
 use Rattle.osi_fair.proofs.Vocabulary.{arith, [], ap, Bool, false, if◌then◌else◌, is_some, List, None, Option, refl, Some, subst, sym, true}
-use Rattle.osi_fair.proofs.Vocabulary.{ℕ, ◌++◌, ◌+◌, ◌∙◌, ◌∷◌, ◌≡◌, eq-eqb, not, ◌||◌, Connect, disconnect, disconnected, error, request}
-use Rattle.osi_fair.proofs.Vocabulary.{Value, Standing, lists, Local, class_error, link_of, may_connect, open_link, sent_all, alternatives}
-use Rattle.osi_fair.proofs.Vocabulary.{proposal, before_class, to_connection, Rows, value_at, breaks, closes_call as closes, connects}
-use Rattle.osi_fair.proofs.Vocabulary.{sends, sends_all, user as by_user, user_does, UserCall, asked, Live as Connection, ends, EndReason}
-use Rattle.osi_fair.proofs.Vocabulary.{OpenError, offer_of, Offer, asks_with, put_at, put_before, put_by, put_for, put_together, MayCall}
+use Rattle.osi_fair.proofs.Vocabulary.{ℕ, ◌+◌, ◌∙◌, ◌∷◌, ◌≡◌, eq-eqb, not, ◌||◌, Connect, disconnect, disconnected, error, request, Value}
+use Rattle.osi_fair.proofs.Vocabulary.{Standing, Local, class_error, link_of, may_connect, open_link, sent_all, proposal, before_class}
+use Rattle.osi_fair.proofs.Vocabulary.{to_connection, Rows, value_at, breaks, closes_call as closes, connects, sends, sends_all}
+use Rattle.osi_fair.proofs.Vocabulary.{user as by_user, user_does, UserCall, asked, Live as Connection, ends, EndReason, OpenError}
+use Rattle.osi_fair.proofs.Vocabulary.{offer_of, Offer, asks_with, put_at, put_before, put_by, put_for, put_together, MayCall}
 unfoldable use Rattle.osi_carrier.specs.React.{react}
 use Rattle.osi_carrier.specs.State.{State}
-use Rattle.osi_fair.proofs.small_facts_that_many_lemmas_use.{and_second, differ, or_last}
+use Rattle.osi_fair.proofs.small_facts_that_many_lemmas_use.{and_second, or_last}
 use Rattle.osi_fair.proofs.while_no_class_is_selected.{IsDc, IsRefusal}
 
 abbrev pub IsOver : State → Type 0
@@ -107,22 +107,18 @@ pub data Idle (call : UserCall) (s : State) : Type 0 where
 ended_over : (b : Bool) (reason : EndReason) (s : State) → is_some s.ended ≡ b → IsOver (if b then s else ends reason s)
 ended_over b reason s h = grind arith
 
--- a call for a connection is not accepted
-idle_call : (call : UserCall) (s : State) → NoneOpen s → (may_connect s ≡ None → ⊥) → MayCall call s → Idle call s
-idle_call call s none never may = grind (arith, all_none, ended_over)
-
 pub none_over : (s : State) → IsOver s → NoneOpen s
 none_over s h q = ap (λ (b : Bool). if◌then◌else◌ {A = Option (ℕ × Standing)} b None (link_of (value_at q s.live))) h
 
 pub over_calls : (call : UserCall) (s : State) → IsOver s → MayCall call s → Idle call s
-over_calls call s h may = idle_call call s (none_over s h) (λ k. differ (is_some s.ended) h (may_so s k).0) may
+over_calls call s h may = grind (arith, all_none, ended_over)
 
 none_by : (rows : Rows Connection) (s : State) → IsCalling rows s → ((q : ℕ) → link_of (value_at q rows) ≡ None) → NoneOpen s
 none_by rows s is h q = grind arith
 
 -- an end whose CR is not answered asks for no other connection
 pub one_calls : (r : ℕ) (call : UserCall) (s : State) → IsCalling (one r) s → MayCall call s → Idle call s
-one_calls r call s is may = grind (arith, idle_call, none_by, never, may_so)
+one_calls r call s is may = grind (arith, all_none, ended_over, none_by, never, may_so)
 
 -- a CR offers only classes that the end has, and class 0 if it has none
 pub record Offers (local : Local) (o : Offer) : Type 0 where
@@ -135,19 +131,10 @@ pub data Calls (call : UserCall) (s : State) : Type 0 where
   asks_one : (x : Connect) → put_by call s ≡ request x ∷ [] → IsCalling (one x.source) (user_does call s) →
       (user_does call s).local ≡ s.local → Offers s.local (offer_of x) → Calls call s
 
-listed : (zero : Bool) → (lists (alternatives zero) 0 || lists (alternatives zero) 1) ≡ true → zero ≡ true
-listed zero h = grind arith
-
 none_calls_by : (call : UserCall) (s : State) → IsCalling [] s → NoneOpen s → MayCall call s → Calls call s
 none_calls_by (connects calling called) s is none may =
     let x = proposal s.local s.class calling called (s.given + 1) in
-    asks_one x refl (record {
-      lasts = is.lasts;
-      caller = is.caller;
-      class = is.class;
-      live = ap (λ (rows : Rows Connection). rows ++ (s.given + 1, asked) ∷ []) is.live
-          ∙ ap (λ (r : ℕ). one r) (sym (grind arith));
-    }) refl (grind (arith, and_second, listed, or_last))
+    asks_one x refl (grind arith) refl (grind (arith, and_second, or_last))
 none_calls_by (sends r tsdu) s is none may = idles (grind arith)
 none_calls_by (sends_all r tsdus) s is none may = idles (grind (arith, all_none))
 none_calls_by (closes r reason) s is none may = idles (grind arith)

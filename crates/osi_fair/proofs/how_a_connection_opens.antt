@@ -1,11 +1,10 @@
 -- A CC of a called end is right, and after a CC of class 2 the connection is open as a line begins.
 -- For the law of that name.
 use Rattle.osi_fair.proofs.Vocabulary.{ap, arith, Bool, false, IfSome, List, None, Option, option_map, refl, Some, true, ℕ, ◌^◌, ◌≡◌, ◌≤◌}
-use Rattle.osi_fair.proofs.Vocabulary.{pow-le-pow_right, le-leb, min, nat_le, ◌&&◌, ◌||◌, size_code, window_units, confirm, Connect}
-use Rattle.osi_fair.proofs.Vocabulary.{IsConnect, accept, proposes, selected_by, selected_size, Class, Two, Zero, Local, acceptance}
-use Rattle.osi_fair.proofs.Vocabulary.{agreed_size, opened_link, proposal, proposal_by, unit_octets, code_named, asked_by, found, offer_of}
-use Rattle.osi_fair.proofs.Vocabulary.{sent_on, silent_half, Connection, Course, Left, Right, Kept, Half, Open, IsOpened, opened_half}
-use Rattle.osi_fair.proofs.Vocabulary.{opened_line}
+use Rattle.osi_fair.proofs.Vocabulary.{pow-le-pow_right, le-leb, min, nat_le, ◌&&◌, ◌||◌, window_units, confirm, Connect, IsConnect, accept}
+use Rattle.osi_fair.proofs.Vocabulary.{proposes, selected_by, selected_size, Class, Two, Zero, Local, acceptance, agreed_size, opened_link}
+use Rattle.osi_fair.proofs.Vocabulary.{proposal, proposal_by, unit_octets, code_named, asked_by, found, offer_of, sent_on, silent_half}
+use Rattle.osi_fair.proofs.Vocabulary.{Connection, Course, Left, Right, Kept, Half, Open, IsOpened, opened_half, opened_line}
 use Rattle.osi_fair.proofs.small_facts_that_many_lemmas_use.{and_first, and_second}
 use Rattle.osi_fair.proofs.what_is_right_passes_each_test.{is_right}
 
@@ -24,9 +23,6 @@ zero_selected c local size e = search (arith, and_second)
 pub or_left : (a b : Bool) → a ≡ true → (a || b) ≡ true
 or_left a b h = rw h refl
 
-both_with_true : (a b : Bool) → a ≡ true → (a && (b || true)) ≡ true
-both_with_true a b h = grind arith
-
 pub both : (a b : Bool) → a ≡ true → b ≡ true → (a && b) ≡ true
 both a b h k = rw (h, k) refl
 
@@ -36,7 +32,7 @@ no_larger o n = grind (arith, le-leb)
 pub two_right : (local : Local) (c : Connect) (size : Option ℕ) (r : ℕ) (t : Connection) (course : Course) →
     selected_by c local ≡ accept Two size →
     t.offer ≡ offer_of c → t.right ≡ silent_half → found Right course false t (confirm c.source (acceptance Two size c local r)) ≡ Kept
-two_right local c size r t course e offer silent = search (arith, or_left, is_right, both_with_true, two_selected c local size e)
+two_right local c size r t course e offer silent = search (arith, or_left, is_right, two_selected c local size e)
 
 pub zero_right : (local : Local) (c : Connect) (size : Option ℕ) (r : ℕ) (t : Connection) (course : Course) →
     selected_by c local ≡ accept Zero size → t.offer ≡ offer_of c → t.right ≡ silent_half → course.class ≡ None →
@@ -48,10 +44,6 @@ zero_right local c size r t course e offer silent none = grind (arith, or_left, 
 at_least_five : (o : Option ℕ) → IfSome o (λ code. 7 ≤ code) → 5 ≤ unit_octets o
 at_least_five None h = omega arith
 at_least_five (Some code) h = let p : 2 ^ 7 ≤ 2 ^ code = pow-le-pow_right {n = 2} (omega arith) h in omega arith
-
-within_size : (o : Option ℕ) (n : ℕ) →
-    IfSome (option_map (λ code. 2 ^ code) o) (λ most. unit_octets (option_map (λ code. min code n) o) ≤ most)
-within_size o n = grind (arith, pow-le-pow_right)
 
 at_size : (o : Option ℕ) → IfSome (option_map (λ code. 2 ^ code) o) (λ most. unit_octets o ≤ most)
 at_size o = grind arith
@@ -73,7 +65,7 @@ pub calling_opens : (local : Local) (c : Connect) (r : ℕ) (t : Connection) →
     t.right ≡ silent_half → t.seen_by_right.next ≡ 0 →
     IsOpened Left r c.source
     (opened_line (opened_link Two (agreed_size c.parameters.size local) local c.credit) (sent_on Right (confirm r c) t))
-calling_opens local c r t range left right noted = grind (arith, at_least_five, within_size c.parameters.size (size_code local.size))
+calling_opens local c r t range left right noted = grind (arith, at_least_five, pow-le-pow_right)
 
 -- the CR of this end, as the tap knows it
 pub asked_so : (local : Local) (held : Option Class) (calling called : Option (List ℕ)) (r : ℕ) → local.class2 ≡ true →

@@ -1,9 +1,9 @@
 -- A unit of the called side that is right on its connection passes: what the tap has then, by the kind of the unit.
 -- For the law on a whole called end.
 use Rattle.osi_fair.proofs.Vocabulary.{arith, [], ap, Bool, false, List, None, Option, set, Some, true, ℕ, ◌∙◌, ◌∷◌, ◌≡◌, not, position}
-use Rattle.osi_fair.proofs.Vocabulary.{slice_get, ◌&&◌, confirm, Connect, destination_of, error, Value, Class, Two, first_failed, Test}
-use Rattle.osi_fair.proofs.Vocabulary.{is_named, is_open, is_refused, is_silent, course_after, found_on, half_after, one_told, Outcome}
-use Rattle.osi_fair.proofs.Vocabulary.{route, route_in, sent_on, Traffic, takes, Connection, Course, Right, Broke, Kept, Half, Phase, Named}
+use Rattle.osi_fair.proofs.Vocabulary.{slice_get, ◌&&◌, confirm, Connect, destination_of, Value, Class, Two, is_named, is_open, is_refused}
+use Rattle.osi_fair.proofs.Vocabulary.{is_silent, course_after, found_on, half_after, one_told, Outcome, route, route_in, sent_on, Traffic}
+use Rattle.osi_fair.proofs.Vocabulary.{takes, Connection, Course, Right, Kept, Half, Phase, Named}
 use Rattle.osi_carrier.specs.State.{State}
 use Rattle.osi_rules.specs.declared.findings.Rule.TheVariants as rule
 use Rattle.osi_fair.proofs.small_facts_that_many_lemmas_use.{closing_same, first_is, rest_is}
@@ -36,12 +36,9 @@ module _ (u : Value) (s : Traffic) (n p : ℕ) (c : Connection) (right : s.cours
     pub course_kept : (takes Right u s).state.course ≡ course_after Right c u true s.course
     course_kept = grind (arith, takes_so)
 
-route_by : (b : Bool) (u : Value) (n : ℕ) → destination_of u ≡ Some n → route_in (Some Two) Right b u ≡ Named n
-route_by b u n e = grind arith
-
 pub route_two_so : (k : Option Class) (b : Bool) (u : Value) (n : ℕ) → k ≡ Some Two → destination_of u ≡ Some n → route_in k Right b
     u ≡ Named n
-route_two_so k b u n two e = ap (λ (j : Option Class). route_in j Right b u) two ∙ route_by b u n e
+route_two_so k b u n two e = ap (λ (j : Option Class). route_in j Right b u) two ∙ (grind arith)
 
 -- ---- the course after it
 
@@ -78,10 +75,3 @@ half_started u half h = grind arith
 
 open_not_refused : (p : Phase) → is_open p ≡ true → is_refused p ≡ false
 open_not_refused p h = grind arith
-
-pub half_not_refused : (u : Value) (half : Half) → is_open half.phase ≡ true → ((m cause : ℕ) → u ≡ error m cause → ⊥) →
-    is_refused (half_after u half).phase ≡ false
-half_not_refused u half h none = grind (arith, open_not_refused)
-
-pub wrong_form : (a : Bool) (ts : List Test) → a ≡ false → first_failed ((a, Broke rule.WrongForm) ∷ ts) ≡ Kept → ⊥
-wrong_form a ts h k = grind arith

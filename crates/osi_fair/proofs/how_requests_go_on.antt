@@ -1,15 +1,14 @@
 -- The stages of a whole calling end: no connection is asked for, a CR waits to pass, or for its answer, then class 0 or class 2.
 -- For the laws on requests and on whole calling ends.
-use Rattle.std.proofs.Common.{arith}
 use Rattle.osi_fair.proofs.Vocabulary.{[], ap, append_assoc, Bool, false, if◌then◌else◌, inl, inr, is_some, List, map, None, refl, Some}
 use Rattle.osi_fair.proofs.Vocabulary.{subst, sym, true, ℕ, ◌++◌, ◌∙◌, ◌∷◌, ◌≡◌, ◌≢◌, ◌⊎◌, AllByRecursion, not, ◌==◌, ◌||◌, confirm}
 use Rattle.osi_fair.proofs.Vocabulary.{Connect, HasFieldsInRange, IsConnect, request, Value, Two, Local, react, Rows, user_does, UserCall}
 use Rattle.osi_fair.proofs.Vocabulary.{Live, first_failed, is_inside, is_offered, begins, offer_of, packet_begins, refused as not_read}
 use Rattle.osi_fair.proofs.Vocabulary.{request_tests, Traffic, takes, Connection, Offer, Left, Right, packet, unit as passing, put_by}
-use Rattle.osi_fair.proofs.Vocabulary.{put_for, arrives, calls, Event, Happens, MayCall, passes_rubbish, Whole}
-use Rattle.osi_carrier.specs.State.{State}
+use Rattle.osi_fair.proofs.Vocabulary.{put_for, arrives, calls, Event, Happens, MayCall, passes_rubbish, Whole, arith, State, begins_other}
+use Rattle.osi_fair.proofs.Vocabulary.{begins_own}
 use Rattle.osi_rules.specs.declared.findings.Rule.TheVariants as rule
-use Rattle.osi_fair.specs.Wholes.{begins_other, begins_own, passes_other, passes_own}
+use Rattle.osi_fair.specs.Wholes.{passes_other, passes_own}
 use Rattle.osi_fair.proofs.small_facts_that_many_lemmas_use.{differ}
 use Rattle.osi_fair.proofs.a_new_reference_is_not_in_use.{Passed}
 use Rattle.osi_fair.proofs.a_refused_request_waits_no_more.{all_from}
@@ -286,9 +285,6 @@ taken_at w v cs strays tap goes done = grind (arith, done_takes)
 is_two : (o : Offer) (x : Connect) → (x.class == 2) ≡ true → is_offered o None x ≡ true → o.class2 ≡ true
 is_two o x h e = grind arith
 
-is_zero : (o : Offer) (x : Connect) → (x.class == 2) ≡ false → is_inside x ≡ true → is_offered o None x ≡ true → o.class0 ≡ true
-is_zero o x h inside e = grind arith
-
 confirm_answer : (local : Local) (w : Whole) (v : Value) (r p : ℕ) (o : Offer) (cs : List Connection) (strays erred : Bool) →
     Calling local (one r) w.end → w.put ≡ [] → w.begun ≡ false → Offers local o → (waiting : Waits r p o cs) → AreDcs w.coming →
     (n : ℕ) (x : Connect) → v ≡ confirm n x → IsConnect x → (takes Right v w.tap).state ≡ confirmed_tap p n x waiting.c cs strays erred →
@@ -297,9 +293,8 @@ confirm_answer local w v r p o cs strays erred is none not_begun offers waiting 
     grind (arith, differ, is_two)
 confirm_answer local w v r p o cs strays erred is none not_begun offers waiting dcs n x same_unit range so offered inside false class =
     answered r is none not_begun w.coming n x [] (ap (λ (u : Value). w.coming ++ u ∷ []) same_unit) dcs class
-    (offers.zero (is_zero o x class inside offered)) (react (confirm n x) w.end) refl
-    (subst (λ (s : Traffic). IsZeroed (react (confirm n x) w.end) [] false s) (sym so)
-    (confirmed_so n r p o x cs strays erred w.end waiting range is.0 class))
+    (offers.zero (grind arith)) (react (confirm n x) w.end) refl
+    (grind (arith, confirmed_so n r p o x cs strays erred w.end waiting range is.0 class))
 
 waits_answer : (local : Local) (w : Whole) (v : Value) (r p : ℕ) (o : Offer) (cs : List Connection) (strays : Bool) → HasFieldsInRange v →
     Calling local (one r) w.end → w.put ≡ [] → w.begun ≡ false → Offers local o → Waits r p o cs → AreDcs w.coming →

@@ -5,11 +5,11 @@ use Rattle.osi_fair.proofs.Vocabulary.{true, ℕ, ◌++◌, ◌∙◌, ◌∷◌
 use Rattle.osi_fair.proofs.Vocabulary.{Connect, Value, Class, is_applied, reach_of, begins, code_named, is_inside, is_named, is_offered}
 use Rattle.osi_fair.proofs.Vocabulary.{is_over, is_over_by, is_silent, other, own, seen, uses, asked_by, connection_after, found, found_on}
 use Rattle.osi_fair.proofs.Vocabulary.{judged_on, placed, sent_on, Traffic as State, uses_source, Connection, Direction, Left, Right}
-use Rattle.osi_fair.proofs.Vocabulary.{Finding, Reach, Half}
+use Rattle.osi_fair.proofs.Vocabulary.{Finding, Reach}
 use Rattle.osi_rules.specs.declared.findings.Reach.TheVariants as reach
 use Rattle.osi_fair.proofs.small_facts_that_many_lemmas_use.{differ}
 use Rattle.osi_fair.proofs.what_holds_of_one_item.{HoldsOfEach, after_add, after_map, after_set, none_true}
-use Rattle.osi_fair.proofs.when_a_connection_has_a_name.{IsEarlier, earlier_same}
+use Rattle.osi_fair.proofs.when_a_connection_has_a_name.{earlier_same}
 use Rattle.osi_fair.proofs.what_keeps_names_apart.{AreApart, Lessens, Sound}
 use Rattle.osi_fair.proofs.a_reference_names_one_connection.{applied_found, applied_judged, confirm_test, left_sent, not_true, right_goes}
 
@@ -87,10 +87,6 @@ only_named d cs n named i j c e x y fc fe = named.known n i j c e x y
 
 -- ---- a packet begins
 
-over_more : (j : Bool) (mine seen theirs : Half) → IsEarlier seen theirs → (j && is_over_by mine theirs) ≡ false →
-    (j && is_over_by mine seen) ≡ false
-over_more j mine seen theirs e h = grind arith
-
 sound_begins : (e : Direction) (c : Connection) → Sound c → Sound (begins e c)
 sound_begins Left c s = grind (arith, earlier_same)
 sound_begins Right c s = grind (arith, earlier_same)
@@ -100,8 +96,8 @@ own_used : (d : Direction) (n : ℕ) (c : Connection) → Sound c → uses d n (
 own_used d n c s h = search arith
 
 own_known : (d : Direction) (n : ℕ) (c : Connection) → Sound c → is_known d n (begins d c) ≡ true → is_known d n c ≡ true
-own_known Left n c s h = grind (arith, over_more)
-own_known Right n c s h = grind (arith, over_more)
+own_known Left n c s h = grind arith
+own_known Right n c s h = grind arith
 
 -- a packet of the other side
 other_used : (d : Direction) (n : ℕ) (c : Connection) → uses d n (begins (other d) c) ≡ true → uses d n c ≡ true
@@ -221,12 +217,7 @@ module _ (d : Direction) (s : State) (apart : AreApart s.connections) (named : A
   pub end_set : (new : Connection) → is_over (other d) c ≡ false → new.is_judged ≡ true → c.is_judged ≡ true → own d new ≡ own d c →
       seen d new ≡ seen d c → seen (other d) new ≡ seen (other d) c → AreNamedApart d (set cs p new)
   end_set new live judged was same knows known = named_set d cs p c new named at (λ j. differ new.is_judged judged j)
-      (λ n h. subst (λ (x : Half). (not (c.is_judged && is_over_by (own d c) x) && (not (is_silent (own d c).phase)
-      && ((own d c).reference == n))) ≡ true) knows
-      (subst (λ (x : Half). (not (c.is_judged && is_over_by x (seen d new)) && (not (is_silent x.phase) && (x.reference == n)))
-      ≡ true) same
-      (subst (λ (x : Bool). (not (x && is_over_by (own d new) (seen d new)) && (not (is_silent (own d new).phase)
-      && ((own d new).reference == n))) ≡ true) (judged ∙ sym was) h)))
+      (grind arith)
       (still_known new known (inr live))
 
 -- ---- a unit of left
@@ -259,9 +250,7 @@ module _ (s : State) (apart : AreApart s.connections) (named : AreNamedApart Rig
       list_any (λ (e : Connection). uses Right x.source e) s.connections ≡ false → (n i : ℕ) (e : Connection) →
       slice_get s.connections i ≡ Some e → uses Right n e ≡ true → uses Right n new ≡ true → ⊥
   given_free x new is none n i e there h k =
-      let same : new.right.reference ≡ n = eqb-true new.right.reference n
-      (last_of (not (is_silent new.right.phase)) (new.right.reference == n)
-      (last_of (not (is_over Right new)) (not (is_silent new.right.phase) && (new.right.reference == n)) k)) in
+      let same : new.right.reference ≡ n = grind (arith, eqb-true, last_of) in
       differ (uses Right n e) h (subst (λ (m : ℕ). uses Right m e ≡ false) (sym is ∙ same)
       (none_true (λ (e : Connection). uses Right x.source e) s.connections i e none there))
 

@@ -1,11 +1,10 @@
 -- No CR of a whole calling end is blamed, whatever happens.
 -- For the law of that name.
 use Rattle.osi_fair.proofs.Vocabulary.{[], arith, Bool, false, List, refl, subst, sym, true, ◌∙◌, ◌∷◌, ◌≡◌, ◌⊎◌, Connect, request, Value}
-use Rattle.osi_fair.proofs.Vocabulary.{Local, first_failed, is_stopped, request_tests, Traffic, takes, Connection, Left, Right, Finding}
-use Rattle.osi_fair.proofs.Vocabulary.{Kept, TooMany, packet, rubbish, unit as passing, arrives, begin, calls, Event, HappenAlong, Happens}
-use Rattle.osi_fair.proofs.Vocabulary.{passes_rubbish, Whole}
+use Rattle.osi_fair.proofs.Vocabulary.{Local, is_stopped, Traffic, takes, Connection, Left, Right, Kept, TooMany, packet, rubbish}
+use Rattle.osi_fair.proofs.Vocabulary.{unit as passing, arrives, begin, calls, Event, HappenAlong, Happens, passes_rubbish, Whole}
 use Rattle.osi_fair.specs.Wholes.{begins_other, begins_own, passes_other, passes_own}
-use Rattle.osi_fair.proofs.a_new_reference_is_not_in_use.{Passed, asked_finding, tests_pass}
+use Rattle.osi_fair.proofs.a_new_reference_is_not_in_use.{Passed}
 use Rattle.osi_fair.proofs.a_reference_names_one_connection.{no_item}
 use Rattle.osi_fair.proofs.a_request_of_a_whole_end_is_new.{IsUnused, Newer, next_unused, still_newer}
 use Rattle.osi_fair.proofs.how_requests_go_on.{Stage, asks, calm_passes, known, quiet, still_staged, zero, answered, ended, refused, waits}
@@ -59,9 +58,7 @@ while_calm : (x : Connect) (w : Whole) (cs : List Connection) (strays : Bool) (r
     w.tap ≡ calm_tap cs strays → AllOver cs → IsRightCr x w.tap
 while_calm x w cs strays rest e newer tap all =
     let unused = subst (λ (t : Traffic). IsUnused x.source t) tap (next_unused x rest w e newer) in
-    let tests = first_failed (request_tests (calm_tap cs strays) x) in
-    subst (λ (t : Traffic). IsRightCr x t) (sym tap)
-    (subst (λ (f : Finding). Passed f) (sym (asked_finding tests x (calm_tap cs strays))) (calm_passes x cs strays all unused))
+    grind (arith, calm_tap cs strays, calm_passes x cs strays all unused)
 
 pub is_right : (local : Local) (x : Connect) (rest : List Value) (w : Whole) → w.put ≡ request x ∷ rest → w.begun ≡ true →
     GoesOn w.tap → Newer w → Stage local w → IsRightCr x w.tap
@@ -74,7 +71,7 @@ is_right local x rest w e begun goes newer (refused r is none not_begun cs stray
 is_right local x rest w e begun goes newer (answered r is none not_begun dcs n y more coming are class has after so z) =
     some_cr w x rest e none
 is_right local x rest w e begun goes newer (zero has z) = grind (arith, anyhow, zero_puts)
-is_right local x rest w e begun goes newer (known two seen has) = grind (arith, tests_pass, next_unused x rest w e newer)
+is_right local x rest w e begun goes newer (known two seen has) = grind (arith, next_unused x rest w e newer)
 
 pub request_right : (local : Local) (events : List Event) (w : Whole) (x : Connect) (rest : List Value) →
     HappenAlong Left (begin true local) events w → w.begun ≡ true → w.put ≡ request x ∷ rest → is_stopped Left w.tap.course ≡ false →

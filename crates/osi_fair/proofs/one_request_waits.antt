@@ -1,12 +1,12 @@
 -- While no class is selected, one connection at most is not over for left: that of the CR which waits for its answer.
 -- For the law of that name.
 use Rattle.osi_fair.proofs.Vocabulary.{arith, [], ap, Bool, false, if◌then◌else◌, is_some, List, None, Option, refl, Some, suc, sym, true}
-use Rattle.osi_fair.proofs.Vocabulary.{zero, ℕ, ◌∙◌, ◌∷◌, ◌≡◌, list_all, not, position, slice_get, ◌&&◌, ◌==◌, ◌||◌, Connect, Value, Class}
-use Rattle.osi_fair.proofs.Vocabulary.{is_applied, reach_of, first_failed, begins, is_free, is_live, is_named, is_over, is_silent, seen}
-use Rattle.osi_fair.proofs.Vocabulary.{asks_by, asks_kept, at_place, class_for, connection_after, course_after, course_begins, found_on}
-use Rattle.osi_fair.proofs.Vocabulary.{fresh, none_told, one_told, reached, request_tests, routed, sized, Traffic as State, unnamed_told}
-use Rattle.osi_fair.proofs.Vocabulary.{Connection, Course, Direction, Left, Finding, Kept, Reach, Route, Asks, Named, Only, Unnamed}
-use Rattle.osi_fair.proofs.Vocabulary.{all_passed, HoldsOfOne, packet, passes, Passing, rubbish, unit}
+use Rattle.osi_fair.proofs.Vocabulary.{zero, ℕ, ◌∙◌, ◌∷◌, ◌≡◌, list_all, position, slice_get, ◌||◌, Connect, Value, Class, is_applied}
+use Rattle.osi_fair.proofs.Vocabulary.{reach_of, first_failed, begins, is_free, is_live, is_named, is_over, seen, asks_by, asks_kept}
+use Rattle.osi_fair.proofs.Vocabulary.{at_place, class_for, connection_after, course_after, course_begins, found_on, fresh, one_told}
+use Rattle.osi_fair.proofs.Vocabulary.{reached, request_tests, routed, Traffic as State, unnamed_told, Connection, Course, Direction, Left}
+use Rattle.osi_fair.proofs.Vocabulary.{Finding, Kept, Reach, Route, Asks, Named, Only, Unnamed, all_passed, HoldsOfOne, packet, passes}
+use Rattle.osi_fair.proofs.Vocabulary.{Passing, rubbish, unit}
 use Rattle.osi_fair.proofs.small_facts_that_many_lemmas_use.{and_first, and_second, differ}
 use Rattle.osi_fair.proofs.what_is_right_passes_each_test.{passes_each}
 use Rattle.osi_fair.proofs.what_holds_of_one_item.{first_true, one_added, one_changed, one_mapped, one_put}
@@ -39,9 +39,6 @@ pub begun_live : (b : Direction) (c : Connection) → IsEarlier c.seen_by_left c
     is_live Left (begins b c) ≡ true → (c.is_judged ≡ true) × (is_live Left c ≡ true)
 begun_live b c e j h = grind arith
 
-sized_same : (v : Value) (c : Connection) → is_over Left (sized v c) ≡ is_over Left c
-sized_same v c = grind arith
-
 abbrev WasLive : Connection → Connection → Type 0
 WasLive c e = e.is_judged ≡ true → is_live Left e ≡ true → (c.is_judged ≡ true) × (is_live Left c ≡ true)
 
@@ -50,9 +47,6 @@ after_live : (b : Direction) (v : Value) (applied : Bool) (r : Reach) (c : Conne
 after_live b v applied r c live = grind arith
 
 -- ---- by the way that a unit takes
-
-to_none : (d : Direction) (f : Finding) (s : State) → WaitsIf s → WaitsIf (none_told d f s).state
-to_none d f s a h = grind (arith, reached_class)
 
 to_unnamed : (d : Direction) (v : Value) (s : State) → WaitsIf s → WaitsIf (unnamed_told d v s).state
 to_unnamed d v s a h = search (arith, reached_class)
@@ -98,35 +92,29 @@ asking : (d : Direction) (f : Finding) (x : Connect) (s : State) → first_faile
     WaitsIf (asks_by d f x s).state
 asking d Kept x s e a h =
     let w = a h in
-    let t = passes_each (request_tests s x) refl e in
-    let all = unknown_all s.course.class_seen (list_all (is_over Left) s.connections) w.seen t.0 in
-    placed_waits x s (position is_free s.connections) all w
-asking d v x s e a h = to_none d v s a h
+    search (arith, unknown_all, placed_waits, passes_each (request_tests s x) refl e, position is_free s.connections)
+asking d v x s e a h = grind (arith, reached_class)
 
 by_route : (d : Direction) (v : Value) (s : State) (r : Route) → WaitsIf s → WaitsIf (routed d v s r).state
-by_route d v s Asks a = grind (arith, asking, to_none)
+by_route d v s Asks a = search (arith, asking)
 by_route d v s (Named n) a = by_place d v s (position (is_named d n) s.connections)
-    (λ i e first at. not_first (is_over d e) (not (is_silent (seen d e).phase) && ((seen d e).reference == n))
-    (first_true (is_named d n) s.connections i e first at)) a
+    (search (arith, not_first, first_true)) a
 by_route d v s Only a = by_place d v s (position (is_live d) s.connections)
     (λ i e first at. not_true (is_over d e) (first_true (is_live d) s.connections i e first at)) a
-by_route d v s (Unnamed finding) a = to_none d finding s a
+by_route d v s (Unnamed finding) a = grind (arith, reached_class)
 
 begun_class : (d : Direction) (c : Course) → NoClass (course_begins d c) → c.class_seen ≡ None →
     NoClass c × ((course_begins d c).class_seen ≡ None)
 begun_class d c h k = grind arith
 
-class_begins : (d : Direction) (c : Course) → NoClass (course_begins d c) → NoClass c
-class_begins d c h = grind arith
-
 still_waits : (passing : Passing) (s : State) → AreApart s.connections → WaitsIf s → WaitsIf (passes passing s)
 still_waits (packet d) s apart a h =
-    let w = a (class_begins d s.course h) in record {
+    let w = a (grind arith) in record {
       seen = (begun_class d s.course h w.seen).1;
       one = one_mapped (is_live Left) (is_live Left) (begins d) s.connections w.one
           (λ i c at j k. begun_live d c (apart.sound i c at (grind arith)).left_knows j k);
     }
-still_waits (unit d v) s apart a h = grind (arith, to_none, by_route)
+still_waits (unit d v) s apart a h = grind (arith, by_route)
 still_waits (rubbish d) s apart a h = grind (arith, reached_class)
 
 all_wait : (ps : List Passing) (s : State) → AreApart s.connections → WaitsIf s → WaitsIf (all_passed ps s)

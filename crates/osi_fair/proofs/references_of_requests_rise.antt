@@ -2,11 +2,10 @@
 -- For the law on new references.
 use Rattle.osi_fair.proofs.Vocabulary.{[], arith, Bool, if◌then◌else◌, List, Option, refl, ℕ, ◌++◌, ◌<◌, ◌∙◌, ◌∷◌, ◌≡◌, ◌≤◌, AllByRecursion}
 use Rattle.osi_fair.proofs.Vocabulary.{Value, Standing, effect, How, closed_on, open_link, sent, sent_all, react, reacts, RiseBy, does}
-use Rattle.osi_fair.proofs.Vocabulary.{ends, EndReason, all_written, asks_with}
+use Rattle.osi_fair.proofs.Vocabulary.{ends, EndReason, all_written, asks_with, State}
 use Rattle.osi_carrier.specs.Calls.{sent_on}
 unfoldable use Rattle.osi_carrier.specs.Packets.{after_packet}
 use Rattle.osi_carrier.specs.Runs.{Act}
-use Rattle.osi_carrier.specs.State.{State}
 
 -- ---- how many references were given
 

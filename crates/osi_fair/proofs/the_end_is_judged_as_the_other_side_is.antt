@@ -1,9 +1,9 @@
 -- As long as the other side is judged, an end is: what is right stops nothing, and what stops the end stops both sides.
 -- For the law on a whole end.
-use Rattle.osi_fair.proofs.Vocabulary.{arith, Zero, Bool, false, if◌then◌else◌, Option, refl, Some, ℕ, ◌≡◌, ◌⊎◌, Connect, Value, Class}
-use Rattle.osi_fair.proofs.Vocabulary.{stops_are_said, reach_by, reach_of, reach_past, asks_by, at_found, at_place, class_for}
-use Rattle.osi_fair.proofs.Vocabulary.{course_after_none, none_told, Outcome, refused, routed, Traffic as State, takes, Connection, Course}
-use Rattle.osi_fair.proofs.Vocabulary.{Direction, Left, Right, Finding, Kept, NotJudged, TooMany, Reach, Route}
+use Rattle.osi_fair.proofs.Vocabulary.{arith, Zero, false, if◌then◌else◌, Option, refl, Some, ℕ, ◌≡◌, ◌⊎◌, Connect, Value, Class}
+use Rattle.osi_fair.proofs.Vocabulary.{stops_are_said, reach_of, asks_by, at_place, class_for, course_after_none, none_told, Outcome}
+use Rattle.osi_fair.proofs.Vocabulary.{routed, Traffic as State, takes, Course, Direction, Left, Right, Finding, Kept, NotJudged, TooMany}
+use Rattle.osi_fair.proofs.Vocabulary.{Reach, Route}
 use Rattle.osi_rules.specs.declared.findings.Reach.TheVariants as reach
 use Rattle.osi_fair.proofs.small_facts_that_many_lemmas_use.{differ}
 
@@ -18,11 +18,8 @@ none_class d v c = grind arith
 to_none : (d : Direction) (f : Finding) (s : State) → IsBy d s (none_told d f s)
 to_none d f s = refl
 
-at_one : (d : Direction) (v : Value) (s : State) (p : ℕ) (c : Option Connection) → IsBy d s (at_found d v s p c)
-at_one d v s p c = grind arith
-
 at_any : (d : Direction) (v : Value) (s : State) (p : Option ℕ) → IsBy d s (at_place d v s p)
-at_any d v s p = grind (arith, at_one)
+at_any d v s p = grind arith
 
 asking : (d : Direction) (f : Finding) (c : Connect) (s : State) → IsBy d s (asks_by d f c s)
 asking d f c s = grind (arith, to_none)
@@ -30,15 +27,8 @@ asking d f c s = grind (arith, to_none)
 by_route : (d : Direction) (v : Value) (s : State) (r : Route) → IsBy d s (routed d v s r)
 by_route d v s r = grind (arith, asking, to_none, at_any)
 
-if_judged : (b : Bool) (d : Direction) (v : Value) (s : State) (r : Route) →
-    IsBy d s (if b then none_told d NotJudged s else routed d v s r)
-if_judged b d v s r = grind (arith, to_none, by_route)
-
-past_zero : (p : Bool) (k : Option Class) (b : Bool) → reach_past p (reach_by k b) ≡ reach.Side → k ≡ Some Zero
-past_zero p k b e = grind arith
-
 pub side_zero : (k : Option Class) (f : Finding) → reach_of k f ≡ reach.Side → k ≡ Some Zero
-side_zero k f e = grind (arith, past_zero)
+side_zero k f e = grind arith
 
 -- right, or not judged, or there are too many connections
 abbrev pub IsMild : Finding → Type 0
@@ -57,7 +47,7 @@ same_reach r q e k = grind arith
 
 pub own_judged : (v : Value) (s : State) → IsMild (takes Left v s).told.finding → s.course.left_stopped ≡ false →
     (takes Left v s).state.course.right_stopped ≡ false → (takes Left v s).state.course.left_stopped ≡ false
-own_judged v s mild left right = grind (arith, own_by, same_reach, all_or_none, if_judged)
+own_judged v s mild left right = grind (arith, own_by, same_reach, all_or_none, to_none, by_route)
 
 -- ---- what the other side sends
 
@@ -69,7 +59,3 @@ other_by _ v s e left right = grind (arith, stops_are_said Right v s Left)
 pub other_judged : (v : Value) (s : State) → s.course.left_stopped ≡ false → (takes Right v s).state.course.right_stopped ≡ false →
     (takes Right v s).state.course.left_stopped ≡ false
 other_judged v s left right = other_by (takes Right v s).told.reach v s refl left right
-
-pub rubbish_judged : (s : State) → s.course.left_stopped ≡ false → (refused Right s).course.right_stopped ≡ false →
-    (refused Right s).course.left_stopped ≡ false
-rubbish_judged s left right = grind arith

@@ -1,12 +1,10 @@
 -- What a called end does to its lines: it takes a unit or makes a call on an open connection, takes a unit for a connection that is
 -- not open, or ends. For the law on a whole called end.
-use Rattle.osi_fair.proofs.Vocabulary.{arith}
-use Rattle.osi_fair.proofs.Vocabulary.{[], ap, Bool, false, is_some, List, None, Option, refl, Some, subst, sym, true, ℕ, ◌++◌, ◌∙◌, ◌∷◌}
-use Rattle.osi_fair.proofs.Vocabulary.{◌≡◌, ◌≢◌, ◌≤◌, eqb-true, append-nil, AllByRecursion, slice_get, ◌&&◌, ◌==◌, acknowledge, confirm}
-use Rattle.osi_fair.proofs.Vocabulary.{Connect, data0, data2, disconnect, disconnected, error, request, Value, Standing, Two, Local}
-use Rattle.osi_fair.proofs.Vocabulary.{acceptance, opened_link, value_at, Live, linked, Connection, Right, Follows, link_now, ActsAlong}
-use Rattle.osi_fair.proofs.Vocabulary.{IsOpened, Line, opened_line, Whole}
-use Rattle.osi_carrier.specs.State.{State}
+use Rattle.osi_fair.proofs.Vocabulary.{arith, [], ap, Bool, false, is_some, List, None, Option, refl, Some, subst, sym, true, ℕ, ◌++◌, ◌∙◌}
+use Rattle.osi_fair.proofs.Vocabulary.{◌∷◌, ◌≡◌, ◌≢◌, ◌≤◌, eqb-true, append-nil, AllByRecursion, slice_get, ◌&&◌, ◌==◌, acknowledge}
+use Rattle.osi_fair.proofs.Vocabulary.{confirm, Connect, data0, data2, disconnect, disconnected, error, request, Value, Standing, Two}
+use Rattle.osi_fair.proofs.Vocabulary.{Local, acceptance, opened_link, value_at, Live, linked, Connection, Right, Follows, link_now}
+use Rattle.osi_fair.proofs.Vocabulary.{ActsAlong, IsOpened, Line, opened_line, Whole, State}
 use Rattle.osi_fair.proofs.small_facts_that_many_lemmas_use.{differ, no_number, number_is}
 use Rattle.osi_fair.proofs.each_connection_of_a_called_end.{stands_at, Among, AreAbove, AreStrays, Answering, Called, IsFor, IsStray}
 use Rattle.osi_fair.proofs.each_connection_of_a_called_end.{IsUnlinked, Row, Running, Stand, Untagged, answers, closes, comes, line_of}
@@ -111,9 +109,6 @@ module _ (local : Local) (w : Whole) (f : Called local w) (t : State) (units : L
   abbrev StandThen : List Value → Bool → ℕ → Connection → Type 0
   StandThen mine begun i c = Stand local f.shut t coming mine (units_at i came) begun (f.refs i) c
 
-  begun_same : (i : ℕ) → (w.begun && first_at i tagged) ≡ (w.begun && first_at i f.tagged)
-  begun_same i = grind arith
-
   mine_other : (i : ℕ) → (i ≡ p → ⊥) → units_at i tagged ≡ units_at i f.tagged
   mine_other i other = grind (arith, at_join, all_elsewhere, append-nil)
 
@@ -140,7 +135,7 @@ module _ (local : Local) (w : Whole) (f : Called local w) (t : State) (units : L
 
   stand_else : (i : ℕ) (c : Connection) → (i ≡ p → ⊥) → slice_get w.tap.connections i ≡ Some c → StandNow i c
   stand_else i c other at =
-      subst (λ (b : Bool). StandThen (units_at i tagged) b i c) (sym (begun_same i))
+      subst (λ (b : Bool). StandThen (units_at i tagged) b i c) (sym (grind arith))
       (subst (λ (vs : List Value). StandThen vs (w.begun && first_at i f.tagged) i c) (sym (mine_other i other))
       (stand_other i c (units_at i f.tagged) (w.begun && first_at i f.tagged) other (f.stands i c at)))
 
@@ -187,7 +182,7 @@ module _ (local : Local) (w : Whole) (f : Called local w) (t : State) (units : L
             (subst (λ (i : ℕ). ActsAlong Right i h.x.source (opened_line (opened_link Two h.size local h.x.credit) tap) h.acts
             (line_of h.link h.more h.come tap)) r_is (h.along tap))
             (o.follows.along Right (line_of h.link h.more h.come tap) o.later (g.is ∙ sym (ap link_now g.there)) o.is);
-        seen = λ b. h.seen (sym (begun_same p) ∙ b);
+        seen = λ b. h.seen (sym (grind arith) ∙ b);
         row = new_row h.x.source o.later o.among (left h.x.source g.k g.there);
         shut_is = grind (arith, no_link);
       }
@@ -206,7 +201,7 @@ module _ (local : Local) (w : Whole) (f : Called local w) (t : State) (units : L
         line = line;
         tap = h.tap;
         put = ap (λ (vs : List Value). vs ++ units) h.put ∙ sym mine_here;
-        begun_is = h.begun_is ∙ sym (begun_same p);
+        begun_is = h.begun_is ∙ sym (grind arith);
         first = h.first;
         acts = h.acts ++ o.follows.acts;
         opened = subst (λ (i : ℕ). IsOpened Right i h.peer h.first) r_is h.opened;

@@ -1,11 +1,9 @@
 -- A called end takes a unit for a connection that it does not have open, or it ends: what that is for its connections.
 -- For the law on a whole called end.
-use Rattle.osi_fair.proofs.Vocabulary.{arith}
-use Rattle.osi_fair.proofs.Vocabulary.{[], ap, Bool, false, inl, inr, is_some, List, None, Option, refl, Some, subst, sym, true, ℕ, ◌++◌}
-use Rattle.osi_fair.proofs.Vocabulary.{◌∙◌, ◌∷◌, ◌≡◌, ◌≢◌, ◌≤◌, ◌⊎◌, eqb-true, append-nil, AllByRecursion, slice_get, ◌&&◌, ◌==◌, confirm}
-use Rattle.osi_fair.proofs.Vocabulary.{Connect, Value, Standing, Two, Local, opened_link, value_at, linked, Connection, Right, Act}
-use Rattle.osi_fair.proofs.Vocabulary.{ActsAlong, ignores, Line, opened_line, Whole}
-use Rattle.osi_carrier.specs.State.{State}
+use Rattle.osi_fair.proofs.Vocabulary.{arith, [], ap, Bool, false, inl, inr, is_some, List, None, Option, refl, Some, subst, sym, true, ℕ}
+use Rattle.osi_fair.proofs.Vocabulary.{◌++◌, ◌∙◌, ◌∷◌, ◌≡◌, ◌≢◌, ◌≤◌, ◌⊎◌, eqb-true, append-nil, AllByRecursion, slice_get, ◌&&◌, ◌==◌}
+use Rattle.osi_fair.proofs.Vocabulary.{confirm, Connect, Value, Standing, Two, Local, opened_link, value_at, linked, Connection, Right, Act}
+use Rattle.osi_fair.proofs.Vocabulary.{ActsAlong, ignores, Line, opened_line, Whole, State}
 use Rattle.osi_fair.proofs.small_facts_that_many_lemmas_use.{differ}
 use Rattle.osi_fair.proofs.each_connection_of_a_called_end.{stands_at, Among, AreAbove, AreStrays, Called, IsFor, IsStray, IsUnlinked, Row}
 use Rattle.osi_fair.proofs.each_connection_of_a_called_end.{Stand, Untagged, answers, closes, comes, line_of, over, past, refuses, runs}
@@ -16,9 +14,6 @@ use Rattle.osi_fair.proofs.what_is_live_at_a_called_end.{Timely, timely_puts}
 use Rattle.osi_fair.proofs.what_is_put_before_the_cc_passes.{acts_join}
 use Rattle.osi_fair.proofs.which_units_are_for_a_connection.{those}
 use Rattle.osi_fair.proofs.a_dt_of_class_zero_passes.{unlike}
-
-either : (A B C : Type 0) → (A → C) → (B → C) → A ⊎ B → C
-either A B C f g h = grind arith
 
 -- ---- a unit for a connection that is not open
 
@@ -119,8 +114,7 @@ module _ (local : Local) (w : Whole) (f : Called local w) (t : State) (units : L
         first = h.first;
         acts = h.acts ++ g.acts;
         opened = h.opened;
-        along = acts_join Right h.r h.peer h.acts g.acts h.first h.line (record h.line { coming = g.later }) h.along
-            (g.along h.line refl refl);
+        along = grind (arith, acts_join);
         there = h.there;
         right = h.right;
         left = h.left;
@@ -133,22 +127,15 @@ module _ (local : Local) (w : Whole) (f : Called local w) (t : State) (units : L
   mine_same : (i : ℕ) → units_at i tagged ≡ units_at i f.tagged
   mine_same i = grind (arith, at_join, all_nowhere, append-nil)
 
-  begun_same : (i : ℕ) → (w.begun && first_at i tagged) ≡ (w.begun && first_at i f.tagged)
-  begun_same i = grind arith
-
   stand_now : (i : ℕ) (c : Connection) → slice_get w.tap.connections i ≡ Some c →
       StandThen (units_at i tagged) (w.begun && first_at i tagged) i c
   stand_now i c at =
-      subst (λ (b : Bool). StandThen (units_at i tagged) b i c) (sym (begun_same i))
+      subst (λ (b : Bool). StandThen (units_at i tagged) b i c) (sym (grind arith))
       (subst (λ (vs : List Value). StandThen vs (w.begun && first_at i f.tagged) i c) (sym (mine_same i))
       (stand_on i c (units_at i f.tagged) (w.begun && first_at i f.tagged) (f.stands i c at)))
 
   linked_by : (r peer : ℕ) (k : Standing) (b : Bool) → (r == n) ≡ b → value_at r t.live ≡ Some (linked peer k) → f.refs (f.home r) ≡ Some r
   linked_by r peer k b e there = grind (arith, eqb-true, unlike)
-
-  stray_still : (v : Value) (later : List Placed) → IsStray f.shut s f.refs f.home w.tap.course.strays v later →
-      IsStray shut t f.refs f.home w.tap.course.strays v (later ++ all_at None units)
-  stray_still v later a = grind (arith, at_join, all_at, units_at, all_nowhere, append-nil)
 
   values_are : values tagged ≡ values f.tagged ++ units
   values_are = values_join f.tagged (all_at None units) ∙ ap (λ (vs : List Value). values f.tagged ++ vs) (values_all None units)
@@ -163,18 +150,15 @@ module _ (local : Local) (w : Whole) (f : Called local w) (t : State) (units : L
     home = f.home;
     shut = shut;
     stands = λ i c at. stand_now i c at;
-    beyond = λ i none.
-        let (a, b, d) = f.beyond i none in (mine_same i ∙ a, asks i ∙ b, λ r e. unlinked_still r (d r e));
+    beyond = grind (arith, mine_same, unlinked_still);
     homes = λ i r e. ((f.homes i r e).0, subst (λ (j : ℕ). r ≤ j) (sym given) (f.homes i r e).1);
     positive = f.positive;
     linked_at = λ lasts r peer k there. linked_by r peer k (r == n) refl there;
     shut_given = shut_given;
-    strays = strays_keep f.shut shut s t f.refs f.refs f.home f.home w.tap.course.strays f.tagged (all_at None units) stray_still strays
-        f.strays;
+    strays = search (arith, strays_keep, all_at, at_join, units_at, all_nowhere, append-nil);
     last = f.last;
     tops = f.tops;
-    above = subst (λ (j : ℕ). AreAbove j f.last (values tagged)) (sym given)
-        (subst (AreAbove s.given f.last) (sym values_are) (above_more s.given f.last (values f.tagged) units no_cc f.above));
+    above = grind (arith, values, values_are, above_more);
     class = f.class;
     two = f.two;
     class_seen = f.class_seen;
@@ -216,8 +200,7 @@ module _ (local : Local) (w : Whole) (f : Called local w) (t : State) (coming : 
     home = f.home;
     shut = f.shut;
     stands = λ i c at. stand_over i c (units_at i f.tagged) (w.begun && first_at i f.tagged) (f.stands i c at);
-    beyond = λ i none.
-        let (a, b, d) = f.beyond i none in (a, asks i b, λ r e lasts. not_last lasts);
+    beyond = grind (arith, not_last);
     homes = λ i r e. ((f.homes i r e).0, subst (λ (j : ℕ). r ≤ j) (sym given) (f.homes i r e).1);
     positive = f.positive;
     linked_at = λ lasts. not_last lasts;

@@ -1,15 +1,13 @@
 -- Which connections a calling end of class 2 still has after a unit or a call: all but the one that a DR, DC or ER names.
 -- For the law on DRs.
 use Rattle.osi_fair.proofs.Vocabulary.{arith, [], ap, Bool, Err, false, if◌then◌else◌, is_some, List, None, Ok, Option, refl, Result, Some}
-use Rattle.osi_fair.proofs.Vocabulary.{sym, true, ℕ, ◌++◌, ◌+◌, ◌∙◌, ◌∷◌, ◌≡◌, ◌⊎◌, eq-eqb, eqb-true, ◌&&◌, ◌==◌, acknowledge, confirm}
-use Rattle.osi_fair.proofs.Vocabulary.{Connect, data2, disconnect, disconnected, error, Value, Standing, LinkFault, Class, Two, Zero}
-use Rattle.osi_fair.proofs.Vocabulary.{put_other, without_other, put_here, closed_on, closes_in, open_link, sent, sent_all, confirmed}
-use Rattle.osi_fair.proofs.Vocabulary.{before_class, breaks_in, in_two, leaves, opens, react_by, taking, to_asked, to_closing}
-use Rattle.osi_fair.proofs.Vocabulary.{to_connection, to_linked, to_unknown, put, Rows, value_at, without, connects, user_does, UserCall}
-use Rattle.osi_fair.proofs.Vocabulary.{asked, closing, Live as Connection, ends, linked, EndReason}
+use Rattle.osi_fair.proofs.Vocabulary.{true, ℕ, ◌++◌, ◌+◌, ◌∙◌, ◌∷◌, ◌≡◌, ◌⊎◌, eq-eqb, eqb-true, ◌&&◌, ◌==◌, acknowledge, confirm, Connect}
+use Rattle.osi_fair.proofs.Vocabulary.{data2, disconnect, disconnected, error, Value, Standing, LinkFault, Class, Two, Zero, put_other}
+use Rattle.osi_fair.proofs.Vocabulary.{without_other, put_here, closed_on, open_link, sent, sent_all, confirmed, before_class, in_two}
+use Rattle.osi_fair.proofs.Vocabulary.{leaves, opens, taking, to_asked, to_closing, to_connection, to_linked, put, Rows, value_at, without}
+use Rattle.osi_fair.proofs.Vocabulary.{connects, user_does, UserCall, asked, closing, Live as Connection, linked, EndReason, State}
 use Rattle.osi_carrier.specs.Calls.{sent_on}
 unfoldable use Rattle.osi_carrier.specs.React.{react}
-use Rattle.osi_carrier.specs.State.{State}
 use Rattle.osi_fair.proofs.small_facts_that_many_lemmas_use.{no_two, none_of}
 use Rattle.osi_fair.proofs.what_the_other_side_closes.{closed_by}
 use Rattle.osi_fair.proofs.what_is_live_at_a_called_end.{IsLive}
@@ -26,11 +24,8 @@ pub record OffersTwo (s : State) : Type 0 where
 abbrev Has : Rows Connection → ℕ → Type 0
 Has rows m = is_some (value_at m rows) ≡ true
 
-some_there : {X : Type 0} (o : Option X) → is_some o ≡ true → (x : X) × (o ≡ Some x)
-some_there o h = grind arith
-
 has_put : (m r : ℕ) (c : Connection) (rows : Rows Connection) → Has rows m → Has (put r c rows) m
-has_put m r c rows h = grind (arith, eqb-true, some_there, put_here, put_other, unlike)
+has_put m r c rows h = grind (arith, eqb-true, put_here, put_other, unlike)
 
 has_push : (m n : ℕ) (x : Connection) (rows : Rows Connection) → Has rows m → Has (rows ++ (n, x) ∷ []) m
 has_push m n x [] h = absurd (cc h)
@@ -65,14 +60,6 @@ after_drop : (unit : Value) (s t : State) (r : ℕ) → OffersTwo s → t.is_cal
     closed_by unit ≡ Some r → t.live ≡ without r s.live → After unit s t
 after_drop unit s t r o a b c closed e = grind (arith, stays, without_other)
 
-unknown_after : (unit : Value) (s : State) → OffersTwo s → After unit s (to_unknown unit s)
-unknown_after v s o = grind (arith, after_end)
-
-opens_by : (r : ℕ) (x : Connect) (a b z : Bool) (s : State) → OffersTwo s → (b && z) ≡ false →
-    After (confirm r x) s (opens r x (if a then Some Two else (if (b && z) then Some Zero else None)) s)
-opens_by r x true b z s o e = grind (arith, has_put)
-opens_by r x false b z s o e = grind (arith, after_end)
-
 -- a CC selects class 2
 abbrev pub Selects : Value → Type 0
 Selects unit = (m : ℕ) (x : Connect) → unit ≡ confirm m x → (x.class == 2) ≡ true
@@ -87,7 +74,7 @@ not_zero x b h = no_two (x.class == 0) b (grind (arith, eqb-true))
 
 opens_after : (r : ℕ) (x : Connect) (s : State) → OffersTwo s → (x.class == 2) ≡ true →
     After (confirm r x) s (opens r x (confirmed x s.local s.class) s)
-opens_after r x s o two = grind (arith, opens_by, not_zero)
+opens_after r x s o two = grind (arith, has_put, after_end, not_zero)
 
 -- a CC closes nothing, whatever it names
 widen : (r n : ℕ) (x : Connect) (s : State) → After (confirm r x) s (opens r x (confirmed x s.local s.class) s) →
@@ -106,16 +93,10 @@ asked_after r (error destination cause) s o two is =
     (ap (λ (n : ℕ). Some n) (is destination refl)) refl
 asked_after r v s o two is = grind (arith, after_end)
 
-breaks_by : (unit : Value) (r peer : ℕ) (fault : LinkFault) (k : Option Class) (s : State) → OffersTwo s →
-    (k ≡ None) ⊎ (k ≡ Some Two) → After unit s (breaks_in r peer fault k s)
-breaks_by unit r peer fault None s o e = after_end unit s (breaks_in r peer fault None s) o refl refl refl refl
-breaks_by unit r peer fault (Some Two) s o e = grind (arith, has_put)
-breaks_by unit r peer fault (Some Zero) s o e = after_end unit s (breaks_in r peer fault (Some Zero) s) o refl refl refl refl
-
 taking_after : (unit : Value) (r peer : ℕ) (result : Result Standing LinkFault) (s : State) → OffersTwo s →
     After unit s (taking r peer result s)
 taking_after unit r peer (Ok link) s o = grind (arith, has_put)
-taking_after unit r peer (Err fault) s o = breaks_by unit r peer fault s.class s o o.class
+taking_after unit r peer (Err fault) s o = grind (arith, after_end, has_put)
 
 leaves_by : (unit : Value) (r peer reason : ℕ) (k : Option Class) (s : State) → OffersTwo s → closed_by unit ≡ Some r →
     After unit s (leaves r peer reason k s)
@@ -140,7 +121,7 @@ closing_after r v s o is = grind (arith, stays)
 
 connection_after : (r : ℕ) (o : Option Connection) (unit : Value) (s : State) → OffersTwo s → (o ≡ Some asked → Selects unit) →
     ((n : ℕ) → closed_by unit ≡ Some n → n ≡ r) → After unit s (to_connection r o unit s)
-connection_after r None unit s h two is = unknown_after unit s h
+connection_after r None unit s h two is = grind (arith, after_end)
 connection_after r (Some asked) unit s h two is = asked_after r unit s h (two refl) is
 connection_after r (Some (linked peer link)) unit s h two is = linked_after r peer link unit s h is
 connection_after r (Some (closing peer)) unit s h two is = closing_after r unit s h is
@@ -148,9 +129,6 @@ connection_after r (Some (closing peer)) unit s h two is = closing_after r unit 
 -- as long as the end lasts
 abbrev SelectsNow : State → Value → Type 0
 SelectsNow s unit = (m : ℕ) (x : Connect) → unit ≡ confirm m x → value_at m s.live ≡ Some asked → (x.class == 2) ≡ true
-
-same_name : (a m : ℕ) (x y : Connect) → confirm a x ≡ confirm m y → m ≡ a
-same_name a m x y e = cc
 
 before_after : (unit : Value) (s : State) → OffersTwo s → SelectsNow s unit → After unit s (before_class true unit s)
 before_after unit s o two = grind (arith, connection_after, after_end)
@@ -164,13 +142,9 @@ two_after (acknowledge credit destination number) s o two = grind (arith, connec
 two_after (error destination cause) s o two = grind (arith, connection_after)
 two_after v s o two = after_end v s (in_two true v s) o refl refl refl refl
 
-by_end : (over : Bool) (unit : Value) (s : State) → is_some s.ended ≡ over → OffersTwo s → SelectsTwo s unit →
-    After unit s (react_by over unit s)
-by_end over unit s e o two = search (arith, stays, before_after, two_after, none_of)
-
 pub unit_after : (unit : Value) (s : State) → OffersTwo s → SelectsTwo s unit → After unit s (react unit s)
 unfolding react
-unit_after unit s o two = by_end (is_some s.ended) unit s refl o two
+unit_after unit s o two = grind (arith, stays, before_after, two_after, none_of)
 
 -- ---- a call
 
@@ -182,7 +156,6 @@ pub record AfterCall (s t : State) : Type 0 where
 sent_after : (r : ℕ) (tsdu : List ℕ) (o : Option (ℕ × Standing)) (s : State) → OffersTwo s → AfterCall s (sent_on r tsdu o s)
 sent_after r tsdu None s o = grind arith
 sent_after r tsdu (Some (peer, link)) s o =
-    let t = sent_on r tsdu (Some (peer, link)) s in
     grind (arith, has_put)
 
 pub sent_lasts : (r : ℕ) (tsdu : List ℕ) (o : Option (ℕ × Standing)) (s : State) → (sent_on r tsdu o s).ended ≡ s.ended
@@ -196,31 +169,13 @@ all_after : (r : ℕ) (tsdus : List (List ℕ)) (s : State) → OffersTwo s → 
 all_after r [] s o = grind arith
 all_after r (tsdu ∷ tsdus) s o =
     let a = sent_after r tsdu (open_link r s) s o in
-    let b = all_after r tsdus (sent r tsdu s) a.offers in
-    record {
-      offers = b.offers;
-      local = b.local ∙ a.local;
-      live = λ lasts m h. b.live lasts m (a.live (sym (all_last r tsdus (sent r tsdu s)) ∙ lasts) m h);
-    }
-
-closes_by : (r peer reason : ℕ) (k : Option Class) (s : State) → OffersTwo s → AfterCall s (closes_in r peer reason k s)
-closes_by r peer reason None s o =
-    let t = closes_in r peer reason None s in grind (arith, has_put)
-closes_by r peer reason (Some Zero) s o = grind (arith, stays)
-closes_by r peer reason (Some Two) s o =
-    let t = closes_in r peer reason (Some Two) s in grind (arith, has_put)
+    grind (arith, all_last, all_after r tsdus (sent r tsdu s) a.offers)
 
 closed_after : (r reason : ℕ) (o : Option (ℕ × Standing)) (s : State) → OffersTwo s → AfterCall s (closed_on r reason o s)
-closed_after r reason o s h = grind (arith, closes_by)
-
-ended_after : (over : Bool) (reason : EndReason) (s : State) → OffersTwo s → AfterCall s (if over then s else ends reason s)
-ended_after over reason s o = grind (arith, stays)
+closed_after r reason o s h = grind (arith, has_put, stays)
 
 pub call_after : (call : UserCall) (s : State) → OffersTwo s → AfterCall s (user_does call s)
-call_after call s o = grind (arith, stays, has_push, sent_after, all_after, closed_after, ended_after)
-
-pub closed_lasts : (r reason : ℕ) (o : Option (ℕ × Standing)) (s : State) → (closed_on r reason o s).ended ≡ None → s.ended ≡ None
-closed_lasts r reason o s h = grind arith
+call_after call s o = grind (arith, stays, has_push, sent_after, all_after, closed_after)
 
 -- a new connection
 pub new_live : (calling called : Option (List ℕ)) (s : State) → IsLive (user_does (connects calling called) s) (s.given + 1)

@@ -2,13 +2,12 @@
 -- For the law of that name.
 use Rattle.osi_fair.proofs.Vocabulary.{arith, [], ap, append_assoc, List, Option, refl, Result, Some, sym, ℕ, ◌++◌, ◌∙◌, ◌∷◌, ◌≡◌}
 use Rattle.osi_fair.proofs.Vocabulary.{flat_map-append, append-nil, packet_of, Connect, Value, written, Standing, Selection, LinkFault}
-use Rattle.osi_fair.proofs.Vocabulary.{Class, closed_on, open_link, sent, sent_all, answers_by as answers, answers_request, in_class}
-use Rattle.osi_fair.proofs.Vocabulary.{leaves, opens, taking, to_connection, to_only, to_reference, Rows, value_at, user_does, UserCall}
-use Rattle.osi_fair.proofs.Vocabulary.{Live as Connection, packets, put_at, put_by, put_closing, put_for, put_for_request}
-use Rattle.osi_fair.proofs.Vocabulary.{put_for_selection, put_in, put_leaving, put_only, put_sent, put_taking, put_to, put_together}
+use Rattle.osi_fair.proofs.Vocabulary.{Class, open_link, sent, sent_all, answers_by as answers, answers_request, leaves, opens, taking}
+use Rattle.osi_fair.proofs.Vocabulary.{to_only, to_reference, Rows, user_does, UserCall, Live as Connection, packets, put_by, put_for}
+use Rattle.osi_fair.proofs.Vocabulary.{put_for_request, put_for_selection, put_leaving, put_only, put_sent, put_taking, put_to}
+use Rattle.osi_fair.proofs.Vocabulary.{put_together, State}
 use Rattle.osi_carrier.specs.Calls.{sent_on}
 unfoldable use Rattle.osi_carrier.specs.React.{react}
-use Rattle.osi_carrier.specs.State.{State}
 
 abbrev Writes : State → List Value → State → Type 0
 Writes old units new = new.outgoing ≡ old.outgoing ++ packets units
@@ -37,24 +36,17 @@ for_taking r peer result s = grind (arith, none_written)
 for_leaving : (r peer reason : ℕ) (held : Option Class) (s : State) → Writes s (put_leaving r peer held) (leaves r peer reason held s)
 for_leaving r peer reason held s = grind (arith, none_written)
 
-for_connection : (r : ℕ) (o : Option Connection) (unit : Value) (s : State) →
-    Writes s (put_at r o unit s.class) (to_connection r o unit s)
-for_connection r o unit s = grind (arith, none_written, opening, for_leaving, for_taking)
-
 for_reference : (r : ℕ) (unit : Value) (s : State) → Writes s (put_to (Some r) unit s) (to_reference r unit s)
-for_reference r unit s = for_connection r (value_at r s.live) unit s
+for_reference r unit s = grind (arith, none_written, opening, for_leaving, for_taking)
 
 -- ---- by class
 
 only : (live : Rows Connection) (unit : Value) (s : State) → Writes s (put_only live unit s) (to_only live unit s)
-only live unit s = search (arith, none_written, for_connection)
-
-by_class : (held : Option Class) (unit : Value) (s : State) → Writes s (put_in held unit s) (in_class held unit s)
-by_class held unit s = grind (arith, for_reference, none_written, for_request, only)
+only live unit s = grind (arith, none_written, opening, for_leaving, for_taking)
 
 pub unit_writes : (unit : Value) (s : State) → (react unit s).outgoing ≡ s.outgoing ++ packets (put_for unit s)
 unfolding react
-unit_writes unit s = grind (arith, none_written, by_class)
+unit_writes unit s = grind (arith, none_written, for_reference, for_request, only)
 
 -- ---- a call
 
@@ -71,8 +63,5 @@ for_together r (tsdu ∷ tsdus) s =
     ∙ append_assoc s.outgoing (packets first) (packets others)
     ∙ ap (λ (l : List ℕ). s.outgoing ++ l) (sym (flat_map-append (λ (unit : Value). packet_of (written unit)) first others))
 
-by_link : (r reason : ℕ) (o : Option (ℕ × Standing)) (s : State) → Writes s (put_closing r reason o s.class) (closed_on r reason o s)
-by_link r reason o s = grind (arith, none_written)
-
 pub call_writes : (call : UserCall) (s : State) → (user_does call s).outgoing ≡ s.outgoing ++ packets (put_by call s)
-call_writes call s = grind (arith, for_sent, for_together, by_link, none_written)
+call_writes call s = grind (arith, for_sent, for_together, none_written)

@@ -2,11 +2,10 @@
 -- For the laws on whole ends.
 use Rattle.osi_fair.proofs.Vocabulary.{[], ap, arith, Bool, false, List, Option, refl, Some, subst, sym, true, ℕ, ◌++◌, ◌∙◌, ◌∷◌, ◌≡◌, ◌≢◌}
 use Rattle.osi_fair.proofs.Vocabulary.{eq-eqb, acknowledge, confirm, Connect, data2, disconnect, disconnected, Value, Two, is_applied}
-use Rattle.osi_fair.proofs.Vocabulary.{reach_of, is_silent, connection_after, Connection, Right, Broke, NotJudged, if◌then◌else◌, Reach}
-use Rattle.osi_fair.proofs.Vocabulary.{Half, Act, Acts, ActsAlong, answers, begins_elsewhere, closes_with as closes, finding_of, ignores}
-use Rattle.osi_fair.proofs.Vocabulary.{IsOpened, Line, moves, units_put, Course, Move, give_out, hand_in, hand_out, take_in, ack, part0}
-use Rattle.osi_fair.proofs.Vocabulary.{part2, Moves, Standing, Flow, data0, error, None, request, taken_flow, begins, Direction, other}
-use Rattle.osi_fair.proofs.Vocabulary.{seen, theirs}
+use Rattle.osi_fair.proofs.Vocabulary.{reach_of, is_silent, connection_after, Connection, Right, if◌then◌else◌, Reach, Half, Act, Acts}
+use Rattle.osi_fair.proofs.Vocabulary.{ActsAlong, answers, begins_elsewhere, closes_with as closes, finding_of, ignores, IsOpened, Line}
+use Rattle.osi_fair.proofs.Vocabulary.{moves, units_put, Course, Move, give_out, hand_in, hand_out, take_in, ack, part0, part2, Moves}
+use Rattle.osi_fair.proofs.Vocabulary.{Standing, Flow, data0, error, None, request, taken_flow, begins, Direction, other, seen, theirs}
 use Rattle.osi_fair.proofs.small_facts_that_many_lemmas_use.{no_list}
 use Rattle.osi_fair.proofs.what_a_link_does.{gives_so, takes_so}
 use Rattle.osi_rules.specs.declared.findings.Rule.TheVariants as rule
@@ -51,17 +50,10 @@ theirs_after : (d : Direction) (a : Bool) (v : Value) (r : Reach) (c : Connectio
     × ((theirs d (connection_after (other d) v a r c)).reference ≡ (theirs d c).reference)
 theirs_after d a v r c none h = grind (arith, left_own, half_started, half_keeps, left_judged, right_own, right_judged)
 
-idle_cc : {A : Type 0} (j : Bool) → is_applied (if j then Broke rule.WrongForm else NotJudged) ≡ true → A
-idle_cc j h = grind arith
-
 -- a CC has no effect on a connection that was answered
 no_cc : (d : Direction) (course : Course) (in_use : Bool) (c : Connection) (v : Value) → is_silent (theirs d c).phase ≡ false →
     is_applied (finding_of (other d) course in_use c v) ≡ true → (m : ℕ) (x : Connect) → v ≡ confirm m x → ⊥
-no_cc d course in_use c v there h m x e = grind (arith, idle_cc)
-
--- a packet begins
-begun_theirs : (d e : Direction) (c : Connection) → theirs d (begins e c) ≡ theirs d c
-begun_theirs d e c = grind arith
+no_cc d course in_use c v there h m x e = grind arith
 
 begun_own : (d : Direction) (c : Connection) → seen d (begins d c) ≡ theirs d c
 begun_own d c = grind arith
@@ -114,8 +106,7 @@ module _ (d : Direction) (r peer : ℕ) (old new : Line) (h : Keeps d r peer old
   act_keeps (moves move) (link, after, is, e, short, coming, new_is) =
       let (f, flow) = h.flow link is in
       does (units_put peer move) (Some after) new.coming (moves_ours r peer move link after f flow e)
-      (λ l same. subst (λ (x : Standing). (g : Flow) × (x.flow ≡ Some g)) (link_is l after (Some after) same refl)
-      (moves_flow move link after f flow e)) new_is
+      (grind (arith, link_is, moves_flow move link after f flow e)) new_is
   act_keeps (closes reason units) (link, is, coming, new_is) =
       does (disconnect peer r reason [] ∷ []) None new.coming (record { named = refl; from = refl }, tt)
       (λ l e. no_link l None e refl) new_is
@@ -130,15 +121,7 @@ module _ (d : Direction) (r peer : ℕ) (old new : Line) (h : Keeps d r peer old
   act_keeps (passes_other course in_use unit) (ranges, dest, some, new_is) =
       let f = finding_of (other d) course in_use old.tap unit in
       let after = theirs_after d (is_applied f) unit (reach_of (Some Two) f) old.tap (no_cc d course in_use old.tap unit h.there) h.there in
-      let same = seen_after d unit (is_applied f) (reach_of (Some Two) f) old.tap in
-      subst (Keeps d r peer) (sym new_is) (record {
-        flow = h.flow;
-        ours = h.ours;
-        there = after.0;
-        reference = after.1 ∙ h.reference;
-        seen_so = λ b. subst (Knows peer) (sym same) (h.seen_so b);
-        some = h.some;
-      })
+      grind (arith, seen_after)
 
 opened_keeps : (d : Direction) (r peer : ℕ) (line : Line) → IsOpened d r peer line → Keeps d r peer line
 opened_keeps d r peer line o = record {

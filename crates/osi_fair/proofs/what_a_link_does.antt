@@ -1,10 +1,10 @@
 -- What a call of a link of class 2 does to its numbers and to what it has still to send.
 -- For the laws on a line.
-use Rattle.osi_fair.proofs.Vocabulary.{[], arith, Bool, drop, false, IfOk, IfSome, length, length-drop, length-take, List, nat_lt, None, Ok}
+use Rattle.osi_fair.proofs.Vocabulary.{[], arith, Bool, drop, false, IfSome, length, length-drop, length-take, List, nat_lt, None, Ok}
 use Rattle.osi_fair.proofs.Vocabulary.{Option, refl, Some, take, true, ℕ, ◌++◌, ◌+◌, ◌-◌, ◌<◌, ◌∷◌, ◌≡◌, ◌≤◌, ltb-false, ltb-true}
-use Rattle.osi_fair.proofs.Vocabulary.{acknowledge, data2, Value, at_ok, at_some, choose_ok, choose_some, Ends, ack_number, after_acked}
-use Rattle.osi_fair.proofs.Vocabulary.{Flow, steps_before, longest_tsdu, ack, Given, given_part, next, next_by, part0, part2, sent_flow}
-use Rattle.osi_fair.proofs.Vocabulary.{Standing, taken, taken_by, taken_flow, give, Part}
+use Rattle.osi_fair.proofs.Vocabulary.{acknowledge, data2, Value, at_ok, at_some, choose_some, Ends, ack_number, after_acked, Flow}
+use Rattle.osi_fair.proofs.Vocabulary.{steps_before, longest_tsdu, ack, Given, given_part, next, next_by, part0, part2, sent_flow, Standing}
+use Rattle.osi_fair.proofs.Vocabulary.{taken, taken_flow, give, Part}
 
 -- ---- TSDUs that are not too long
 
@@ -100,8 +100,5 @@ DoesTake e f (acknowledge credit destination number) new =
     × (new.ends ≡ e)
 DoesTake e f unit new = ⊥
 
-takes_by : (e : Ends) (f : Flow) (unit : Value) → IfOk (taken_by e (Some f) unit) (DoesTake e f unit)
-takes_by e f unit = grind (arith, choose_ok)
-
 pub takes_so : (old new : Standing) (f : Flow) (unit : Value) → old.flow ≡ Some f → taken old unit ≡ Ok new → DoesTake old.ends f unit new
-takes_so old new f unit is e = grind (arith, at_ok, takes_by)
+takes_so old new f unit is e = grind (arith, at_ok)

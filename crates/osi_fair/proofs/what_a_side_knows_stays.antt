@@ -1,19 +1,18 @@
 -- A connection that is not over for a side keeps its place. What the side knows of the other stays known, and what it closed is closed.
 -- For the law on places.
-use Rattle.osi_fair.proofs.Vocabulary.{ap, arith, Bool, false, if◌then◌else◌, inl, inr, length, List, map, None, Option, refl, Some, subst}
-use Rattle.osi_fair.proofs.Vocabulary.{sym, true, ℕ, ◌∙◌, ◌≡◌, ◌⊎◌, eqb-true, slice_get_within, not, position, slice_get, slice_set, ◌&&◌}
-use Rattle.osi_fair.proofs.Vocabulary.{◌==◌, ◌||◌, confirm, Connect, request, Value, is_applied, reach_of, first_failed, begins, is_free}
-use Rattle.osi_fair.proofs.Vocabulary.{is_live, is_named, is_open, is_over, is_silent, other, own, seen, asked_by, asks_by, asks_of}
-use Rattle.osi_fair.proofs.Vocabulary.{at_found, at_place, class_for, connection_after, found, found_on, fresh, half_after, is_stopped}
-use Rattle.osi_fair.proofs.Vocabulary.{none_told, Outcome, placed, request_tests, route, routed, Traffic as State, uses_source, Connection}
-use Rattle.osi_fair.proofs.Vocabulary.{Direction, Finding, Kept, NotJudged, Reach, Half, Route, Asks, Named, Only, Unnamed, all_passed}
-use Rattle.osi_fair.proofs.Vocabulary.{packet, passes, Passing, rubbish, unit}
+use Rattle.osi_fair.proofs.Vocabulary.{ap, arith, Bool, false, if◌then◌else◌, inl, inr, length, List, map, None, Option, refl, Some, sym}
+use Rattle.osi_fair.proofs.Vocabulary.{true, ℕ, ◌∙◌, ◌≡◌, ◌⊎◌, eqb-true, slice_get_within, not, position, slice_get, slice_set, ◌&&◌, ◌==◌}
+use Rattle.osi_fair.proofs.Vocabulary.{◌||◌, Connect, request, Value, is_applied, reach_of, first_failed, begins, is_free, is_live}
+use Rattle.osi_fair.proofs.Vocabulary.{is_named, is_open, is_over, is_silent, other, own, seen, asked_by, asks_by, asks_of, at_found}
+use Rattle.osi_fair.proofs.Vocabulary.{at_place, class_for, connection_after, found_on, fresh, is_stopped, none_told, Outcome, placed}
+use Rattle.osi_fair.proofs.Vocabulary.{request_tests, route, routed, Traffic as State, Connection, Direction, Finding, Kept, NotJudged}
+use Rattle.osi_fair.proofs.Vocabulary.{Reach, Half, Route, Asks, Named, Only, Unnamed, all_passed, packet, passes, Passing, rubbish, unit}
 use Rattle.osi_rules.specs.declared.findings.Rule.TheVariants as rule
 use Rattle.osi_fair.proofs.small_facts_that_many_lemmas_use.{and_first, and_second, differ}
 use Rattle.osi_fair.proofs.what_holds_of_one_item.{HoldsOfEach, after_add, after_map, after_set, first_true}
 use Rattle.osi_fair.proofs.when_a_connection_has_a_name.{IsEarlier, earlier_same, three, three_make}
 use Rattle.osi_fair.proofs.what_keeps_names_apart.{Sound, SoundIf}
-use Rattle.osi_fair.proofs.a_reference_names_one_connection.{all_apart, applied_found, fresh_apart, not_first}
+use Rattle.osi_fair.proofs.a_reference_names_one_connection.{all_apart, fresh_apart, not_first}
 
 -- ---- a unit changes nothing that is known
 
@@ -25,18 +24,6 @@ seen_after d e v applied r c = search arith
 
 abbrev HasEnded : Half → Type 0
 HasEnded half = (is_silent half.phase || is_open half.phase) ≡ false
-
-silent_not : {A : Type 0} (silent live : Bool) → silent ≡ true → (silent || live) ≡ false → A
-silent_not silent live h k = grind arith
-
-confirm_not : {A : Type 0} (d : Direction) (s : State) (c : Connection) (destination : ℕ) (x : Connect) →
-    is_applied (found d s.course (uses_source d s.connections (confirm destination x)) c (confirm destination x)) ≡ true →
-    HasEnded (own d c) → A
-confirm_not d s c destination x h e = grind (arith, silent_not)
-
-half_ended : (d : Direction) (s : State) (v : Value) (c : Connection) → is_applied (found_on d s c v) ≡ true → HasEnded (own d c) →
-    HasEnded (half_after v (own d c))
-half_ended d s v c h e = grind (arith, confirm_not, applied_found)
 
 after_ended : (applied : Bool) (d b : Direction) (s : State) (v : Value) (r : Reach) (c : Connection) →
     is_applied (found_on b s c v) ≡ applied → HasEnded (own d c) → HasEnded (own d (connection_after b v applied r c))
@@ -55,11 +42,8 @@ abbrev Known : Direction → ℕ → List Connection → List Connection → Typ
 Known d p cs after = (c e : Connection) → slice_get cs p ≡ Some c → c.is_judged ≡ true → is_over d c ≡ false →
     slice_get after p ≡ Some e → KnowsStill d c e
 
-unchanged : (d : Direction) (c : Connection) → KnowsStill d c c
-unchanged d c = record { known = earlier_same (seen d c); ended = λ h. h }
-
 known_same : (d : Direction) (p : ℕ) (cs : List Connection) → Known d p cs cs
-known_same d p cs c e at j live there = grind (arith, unchanged)
+known_same d p cs c e at j live there = grind arith
 
 set_by : (d : Direction) (p q : ℕ) (cs : List Connection) (old new c e : Connection) → slice_get cs q ≡ Some old →
     KnowsStill d old new → slice_get cs p ≡ Some c → ((p ≡ q) × (e ≡ new)) ⊎ (slice_get cs p ≡ Some e) → KnowsStill d c e
@@ -111,10 +95,7 @@ module _ (d : Direction) (p : ℕ) (s : State) where
       let how_far = reach_of (class_for b s.course) (found_on b s c v) in
       let applied = is_applied (found_on b s c v) in
       let after = connection_after b v applied how_far c in
-      known_set d p q s.connections c after at (record {
-        known = subst (λ (x : Half). IsEarlier (seen d c) x) (sym (seen_after d b v applied how_far c)) (earlier_same (seen d c));
-        ended = λ h. after_ended applied d b s v how_far c refl h;
-      })
+      known_set d p q s.connections c after at (grind (arith, seen_after, earlier_same, after_ended))
 
   any_known : (b : Direction) (v : Value) (q : Option ℕ) → So (at_place b v s q)
   any_known b v None = known_same d p s.connections
@@ -172,5 +153,4 @@ pub name_is_own : (ps : List Passing) (d : Direction) (n p : ℕ) (c : Connectio
     (own d c).reference ≡ n
 name_is_own ps d n p c at j named =
     let sound = (all_apart ps fresh fresh_apart).sound p c at j in
-    eqb-true (own d c).reference n
-    (grind (arith, three))
+    grind (arith, eqb-true, three)

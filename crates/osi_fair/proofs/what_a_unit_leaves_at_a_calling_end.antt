@@ -1,13 +1,12 @@
 -- What a calling end has of a connection after it has taken a unit that names it.
 -- For the law on a whole end.
 use Rattle.osi_fair.proofs.Vocabulary.{arith, [], ap, Bool, Err, false, if◌then◌else◌, inl, inr, is_some, List, None, Ok, Option, refl}
-use Rattle.osi_fair.proofs.Vocabulary.{Result, Some, sym, true, ℕ, ◌++◌, ◌∙◌, ◌∷◌, ◌≡◌, ◌≢◌, ◌≤◌, ◌⊎◌, ltb-false, ltb-true, AllByRecursion}
-use Rattle.osi_fair.proofs.Vocabulary.{confirm, Connect, destination_of, disconnect, disconnected, error, Value, Standing, LinkFault, Class}
-use Rattle.osi_fair.proofs.Vocabulary.{Two, Zero, beyond, put_here, without_here, agreed_size, opened_link, proposes_zero, AreUpTo}
-use Rattle.osi_fair.proofs.Vocabulary.{RiseFrom, pumped, handed_out, in_two, opens, taking, to_asked, to_connection, to_linked, to_unknown}
-use Rattle.osi_fair.proofs.Vocabulary.{Rows, value_at, asked, closing, Live, linked, put_at, put_for, put_in_two, breaks_in, leaves}
+use Rattle.osi_fair.proofs.Vocabulary.{Result, Some, sym, true, ℕ, ◌++◌, ◌∙◌, ◌∷◌, ◌≡◌, ◌≢◌, ◌⊎◌, AllByRecursion, confirm, Connect}
+use Rattle.osi_fair.proofs.Vocabulary.{destination_of, disconnect, disconnected, error, Value, Standing, LinkFault, Two, Zero, put_here}
+use Rattle.osi_fair.proofs.Vocabulary.{without_here, agreed_size, opened_link, proposes_zero, RiseFrom, pumped, handed_out, in_two, opens}
+use Rattle.osi_fair.proofs.Vocabulary.{taking, to_asked, to_connection, to_linked, to_unknown, value_at, asked, closing, Live, linked}
+use Rattle.osi_fair.proofs.Vocabulary.{put_at, put_for, put_in_two, State}
 unfoldable use Rattle.osi_carrier.specs.React.{react}
-use Rattle.osi_carrier.specs.State.{State}
 use Rattle.osi_fair.proofs.small_facts_that_many_lemmas_use.{differ, first_is, no_list, number_is, rest_is}
 use Rattle.osi_fair.proofs.how_a_calling_end_asks.{IsCalling, put_is as put_calling, react_is as react_calling}
 use Rattle.osi_fair.proofs.what_a_calling_end_still_has.{OffersTwo, Selects, not_zero, over_not}
@@ -33,12 +32,9 @@ two_puts u s o lasts two = grind arith
 named_before : (u : Value) (s : State) → IsCalling s.live s → (react u s).ended ≡ None → Named u s
 named_before v s is lasts = grind (arith, react_calling, put_calling)
 
-named_two : (u : Value) (s : State) → react u s ≡ in_two true u s → put_for u s ≡ put_in_two true u s → (react u s).ended ≡ None → Named u s
-named_two v s e p lasts = search arith
-
 pub named_by : (u : Value) (s : State) → OffersTwo s → s.ended ≡ None → (s.class ≡ None) ⊎ (s.class ≡ Some Two) → (react u s).ended ≡ None →
     Named u s
-named_by u s o was h lasts = search (arith, named_before, named_two, two_reacts, two_puts)
+named_by u s o was h lasts = grind (arith, named_before, two_reacts, two_puts)
 
 -- ---- what the end has after it
 
@@ -59,17 +55,14 @@ pub data Linked (n peer : ℕ) (t : State) : Type 0 where
 linked_taking : (n peer : ℕ) (link : Standing) (result : Result Standing LinkFault) (s t : State) →
     value_at n s.live ≡ Some (linked peer link) → s.class ≡ Some Two → t ≡ taking n peer result s → Linked n peer t
 linked_taking n peer link (Ok after) s t here two e =
-    still (pumped (handed_out after)) (ap (λ (x : State). value_at n x.live) e
-    ∙ put_here n (linked peer (pumped (handed_out after))) (linked peer link) s.live here)
+    still (pumped (handed_out after)) (grind (arith, put_here))
 linked_taking n peer link (Err fault) s t here two e =
-    ends (Some (closing peer)) (ap (λ (x : State). value_at n x.live) (e ∙ ap (λ (k : Option Class). breaks_in n peer fault k s) two)
-    ∙ put_here n (closing peer) (linked peer link) s.live here) peer (inl refl)
+    ends (Some (closing peer)) (grind (arith, put_here)) peer (inl refl)
 
 pub linked_so : (n peer : ℕ) (link : Standing) (u : Value) (s t : State) → value_at n s.live ≡ Some (linked peer link) →
     s.class ≡ Some Two → RiseFrom 0 s.live → t ≡ to_linked n peer link u s → Linked n peer t
 linked_so n peer link (disconnect destination source reason user) s t here two rise e =
-    ends None (ap (λ (x : State). value_at n x.live) (e ∙ ap (λ (k : Option Class). leaves n peer reason k s) two)
-    ∙ without_here n s.live rise) peer (inr refl)
+    ends None (grind (arith, without_here)) peer (inr refl)
 linked_so n peer link v s t here two rise e = search (arith, linked_taking)
 
 -- a unit for a connection that awaits its CC
@@ -123,6 +116,3 @@ or_strays o e k = grind (arith, differ)
 pub spare_none : (spare : List Value) (link : Option Standing) (l : Standing) → (spare ≢ [] → link ≡ None) → link ≡ Some l → spare ≡ []
 spare_none [] link l gone is = refl
 spare_none (v ∷ vs) link l gone is = absurd (cc (sym is ∙ gone (no_list v vs)))
-
-pub given_by : (n given : ℕ) (live : Rows Live) (o : Live) → AreUpTo given live → value_at n live ≡ Some o → n ≤ given
-given_by n given live o up h = grind (arith, beyond, ltb-true, ltb-false)

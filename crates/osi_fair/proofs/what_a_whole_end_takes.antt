@@ -2,15 +2,14 @@
 -- For the law on a whole end.
 use Rattle.osi_fair.proofs.Vocabulary.{Right, inl, inr, confirm, [], ap, arith, Bool, false, is_some, List, None, refl, Some, subst, sym}
 use Rattle.osi_fair.proofs.Vocabulary.{true, ℕ, ◌++◌, ◌∙◌, ◌∷◌, ◌≡◌, ◌≢◌, ◌≤◌, eqb-true, append-nil, AllByRecursion, slice_get, ◌&&◌, ◌==◌}
-use Rattle.osi_fair.proofs.Vocabulary.{Connect, destination_of, disconnected, request, Value, Standing, Two, Local, value_at, asked}
-use Rattle.osi_fair.proofs.Vocabulary.{linked, Traffic, Connection, Half, Line, Whole}
-use Rattle.osi_carrier.specs.State.{State}
+use Rattle.osi_fair.proofs.Vocabulary.{Connect, destination_of, disconnected, request, Value, Standing, Two, Local, value_at, asked, linked}
+use Rattle.osi_fair.proofs.Vocabulary.{Traffic, Connection, Half, Line, Whole, State}
 use Rattle.osi_fair.proofs.small_facts_that_many_lemmas_use.{first_is, rest_is, differ, no_list}
 use Rattle.osi_fair.proofs.a_unit_of_a_whole_end_passes.{all_two}
 use Rattle.osi_fair.proofs.no_two_open_connections_have_one_peer.{one_peer}
-use Rattle.osi_fair.proofs.each_connection_has_its_line.{IsNoCc, followed_at, AreGiven, AreSettled, Followed, Following, IsAnswer}
-use Rattle.osi_fair.proofs.each_connection_has_its_line.{IsAsking, IsOwned, IsSettled, Row, Tracked, Waiting, all_so, asks, closes, over}
-use Rattle.osi_fair.proofs.each_connection_has_its_line.{is_tracked, of, stray, talks}
+use Rattle.osi_fair.proofs.each_connection_has_its_line.{IsNoCc, followed_at, AreSettled, Followed, Following, IsAnswer, IsAsking, IsOwned}
+use Rattle.osi_fair.proofs.each_connection_has_its_line.{IsSettled, Row, Tracked, Waiting, all_so, asks, closes, over, is_tracked, of}
+use Rattle.osi_fair.proofs.each_connection_has_its_line.{stray, talks}
 use Rattle.osi_fair.proofs.names_stay_apart_though_one_is_lost.{AreNamedApart}
 use Rattle.osi_fair.proofs.what_the_other_side_closes.{IsSane}
 use Rattle.osi_fair.proofs.which_units_are_for_a_connection.{picked_each, AllOurs, IsDc, IsOf, dc_not_ours, picked_rest, is_dc, is_ours}
@@ -102,12 +101,7 @@ pub settled_more : (cs : List Connection) (put units : List Value) (given later 
     AreSettled cs put given v → AreSettled cs (put ++ units) later v
 settled_more cs put units given later none up v h m source e =
     let k = h m source e in
-    let before = k.up in
-    record {
-      up = omega arith;
-      waits = k.waits;
-      asks = all_join (λ (v : Value). (x : Connect) → v ≡ request x → x.source ≡ source → ⊥) put units k.asks (none source);
-    }
+    grind (arith, asks, all_join)
 
 -- a unit that is no DC is not among the DCs that came first
 after_early : (early : List Value) (u v : Value) (us vs : List Value) → AllByRecursion IsDc early → is_dc u ≡ false →
@@ -132,9 +126,6 @@ module _ (local : Local) (w : Whole) (f : Followed local w) (sane : IsSane w.tap
     (owner : Puts w.tap w.end n units) where
   abbrev cs : List Connection
   cs = w.tap.connections
-
-  named_n : names n u ≡ true
-  named_n = named_so n u dest
 
   later_other : (r : ℕ) → (r ≡ n → ⊥) → those r w.coming ≡ those r later
   later_other r other = grind (arith, picked_rest, named_not)
@@ -163,10 +154,6 @@ module _ (local : Local) (w : Whole) (f : Followed local w) (sane : IsSane w.tap
   line_by p c at tracked g true e = mine p c at tracked g (eqb-true g.r n e)
   line_by p c at tracked g false e = line_other p c at tracked g (unlike g.r n e)
 
-  -- what has come for a reference that waits are DCs: so this is one, if it has come for it
-  early_here : (r : ℕ) → r ≡ n → AllByRecursion IsDc (those r w.coming) → (is_dc u ≡ true) × AllByRecursion IsDc (those r later)
-  early_here r same h = grind arith
-
   waits_new : (c : Connection) → Waiting local w.end w.coming c → Waiting local t later c
   waits_new c k = search arith
 
@@ -177,21 +164,13 @@ module _ (local : Local) (w : Whole) (f : Followed local w) (sane : IsSane w.tap
       Tracked cs m × (t.class ≡ Some Two)
   linked_by m peer link b e h = search (arith, eqb-true, unlike)
 
-  asked_before : (m : ℕ) → value_at m t.live ≡ Some asked → value_at m w.end.live ≡ Some asked
-  asked_before m row = grind (arith, eqb-true, unlike)
-
-  -- if none has lost its judgement: after the CC of a connection no other has come
-  calm_row : (r peer : ℕ) (line : Line) → r ≡ n → value_at n w.end.live ≡ Some asked → is_dc u ≡ false →
-      AllByRecursion IsNoCc line.coming → Row local w.end w.coming r peer line → AllByRecursion IsNoCc (those n later)
-  calm_row r peer line same there none calm l = grind (arith, after_early, differ)
-
   abbrev Answered : Type 0
   Answered = (w.tap.course.loose ≡ false) × (Tracked cs n × (value_at n w.end.live ≡ Some asked)) × (is_dc u ≡ false)
 
   calm_later : Answered → AllByRecursion (λ (v : Value). names n v ≡ true → IsNoCc v) later
   calm_later (firm, ((p, c, at, tracked, is), there), none) =
       let g = f.lines p c at tracked in
-      picked_each IsNoCc (names n) later (calm_row g.r g.peer g.line (sym g.left ∙ is) there none (g.calm (sane.judged firm p c at)) g.row)
+      picked_each IsNoCc (names n) later (grind (arith, after_early, differ))
 
   answer_by : (v : Value) (m : ℕ) (x : Connect) → w.tap.course.loose ≡ false → v ≡ confirm m x →
       Tracked cs m × (value_at m w.end.live ≡ Some asked) → (Answered → names n v ≡ true → IsNoCc v) → (b d : Bool) → (m == n) ≡ b →
@@ -200,7 +179,7 @@ module _ (local : Local) (w : Whole) (f : Followed local w) (sane : IsSane w.tap
 
   answer_now : (v : Value) → IsAnswer w.tap.course.loose cs w.end v → (Answered → names n v ≡ true → IsNoCc v) →
       IsAnswer w.tap.course.loose cs t v
-  answer_now v h k m x e lasts (inl row) = ((h m x e was (inl (asked_before m row))).0, row)
+  answer_now v h k m x e lasts (inl row) = ((h m x e was (inl (grind (arith, eqb-true, unlike)))).0, row)
   answer_now v h k m x e lasts (inr firm) = answer_by v m x firm e (h m x e was (inr firm)) k (m == n) (is_dc u) refl refl
 
   -- no CR waits for the reference of what the end puts, and none is to pass
@@ -213,9 +192,7 @@ module _ (local : Local) (w : Whole) (f : Followed local w) (sane : IsSane w.tap
             let k = f.waiting i c at waits in
             a.row (ap (λ (j : ℕ). value_at j w.end.live) (sym same ∙ ap (λ (h : Half). h.reference) k.left) ∙ k.row was);
         asks = all_join (λ (v : Value). (x : Connect) → v ≡ request x → x.source ≡ n → ⊥) w.put units
-            (all_so (λ v. (x : Connect) → v ≡ request x → IsAsking local w.end w.coming x)
-            (λ v. (x : Connect) → v ≡ request x → x.source ≡ n → ⊥) w.put
-            (λ v h x e same. a.row (ap (λ (j : ℕ). value_at j w.end.live) (sym same) ∙ (h x e).row was)) f.requests)
+            (grind (arith, all_so))
             (units_ask w.tap w.end n units (λ x. x.source ≡ n → ⊥) owner);
       }
 
@@ -230,15 +207,13 @@ module _ (local : Local) (w : Whole) (f : Followed local w) (sane : IsSane w.tap
         (λ v. IsAnswer w.tap.course.loose cs t v) later answer_now (grind arith)
         (all_under Answered (λ v. names n v ≡ true → IsNoCc v) later calm_later);
     requests = all_join (λ v. (x : Connect) → v ≡ request x → IsAsking local t later x) w.put units
-        (all_so (λ v. (x : Connect) → v ≡ request x → IsAsking local w.end w.coming x) (λ v. (x : Connect) → v ≡ request x →
-        IsAsking local t later x) w.put (λ v h x e. asking_new x (h x e)) f.requests)
+        (search (arith, all_so, asking_new))
         (units_ask w.tap w.end n units (λ x. IsAsking local t later x) owner);
     two = f.two;
     silent = f.silent;
     zero = f.zero;
     some = λ h. some_more w.put units (f.some h);
-    few = all_so (AreGiven w.end.given) (AreGiven t.given) later (λ v h none m e. let x = h none m e in omega arith)
-        (subst (AllByRecursion (AreGiven w.end.given)) come f.few).1;
+    few = grind (arith, all_so);
     seen = f.seen;
     settled = all_join (AreSettled cs (w.put ++ units) t.given) w.put units
         (all_so (AreSettled cs w.put w.end.given) (AreSettled cs (w.put ++ units) t.given) w.put
@@ -246,5 +221,5 @@ module _ (local : Local) (w : Whole) (f : Followed local w) (sane : IsSane w.tap
         f.settled)
         (units_settled w.tap w.end (w.put ++ units) t.given n units owner settled_here);
     lost = f.lost;
-    shut = λ lasts i c at closed row. f.shut was i c at closed (asked_before c.left.reference row);
+    shut = λ lasts i c at closed row. f.shut was i c at closed (grind (arith, eqb-true, unlike));
   }

@@ -1,17 +1,15 @@
 -- An end of class 0 takes a unit, or its user makes a call: it goes on with DTs alone, or ends.
 -- For the laws on whole ends.
-use Rattle.std.proofs.Common.{arith}
 use Rattle.osi_fair.proofs.Vocabulary.{[], ap, append_assoc, Bool, Err, false, if◌then◌else◌, is_some, length, List, None, Ok, Option, refl}
 use Rattle.osi_fair.proofs.Vocabulary.{Result, Some, subst, sym, true, ℕ, ◌++◌, ◌∙◌, ◌∷◌, ◌≡◌, ◌≤◌, eq-eqb, eqb-true, append-nil}
-use Rattle.osi_fair.proofs.Vocabulary.{AllByRecursion, ◌==◌, disconnect, request, Value, Joining, longest_tsdu, Standing, taken}
-use Rattle.osi_fair.proofs.Vocabulary.{with_joined, with_tsdu, LinkFault, Class, Zero, closed_on, link_of, may_connect, open_link, sent}
-use Rattle.osi_fair.proofs.Vocabulary.{sent_all, pumped, written_by, handed_out, in_class, in_zero, react_by, taking, to_linked, to_only}
-use Rattle.osi_fair.proofs.Vocabulary.{put, Rows, value_at, breaks, closes_call, connects, sends, sends_all, user_does, UserCall, Live}
-use Rattle.osi_fair.proofs.Vocabulary.{ends as ends_as, linked, EndReason, put_by, put_closing, put_for, put_in, put_in_zero, put_linked}
-use Rattle.osi_fair.proofs.Vocabulary.{put_only, put_sent, put_taking, put_together, MayCall}
+use Rattle.osi_fair.proofs.Vocabulary.{AllByRecursion, ◌==◌, disconnect, request, Value, longest_tsdu, Standing, taken, with_tsdu}
+use Rattle.osi_fair.proofs.Vocabulary.{LinkFault, Class, Zero, closed_on, link_of, may_connect, open_link, sent, sent_all, pumped}
+use Rattle.osi_fair.proofs.Vocabulary.{written_by, handed_out, in_class, in_zero, react_by, taking, to_linked, to_only, put, Rows, value_at}
+use Rattle.osi_fair.proofs.Vocabulary.{breaks, closes_call, connects, sends, sends_all, user_does, UserCall, Live, ends as ends_as, linked}
+use Rattle.osi_fair.proofs.Vocabulary.{EndReason, put_by, put_closing, put_for, put_in, put_in_zero, put_linked, put_only, put_sent}
+use Rattle.osi_fair.proofs.Vocabulary.{put_taking, put_together, MayCall, arith, State}
 use Rattle.osi_carrier.specs.Calls.{sent_on}
 unfoldable use Rattle.osi_carrier.specs.React.{react}
-use Rattle.osi_carrier.specs.State.{State}
 use Rattle.osi_fair.proofs.small_facts_that_many_lemmas_use.{differ}
 use Rattle.osi_fair.proofs.how_a_calling_end_asks.{may_so, never}
 use Rattle.osi_fair.proofs.what_a_link_does.{HaveRoom, room_more}
@@ -68,9 +66,6 @@ record Takes (link after : Standing) : Type 0 where
   limit : after.ends.limit ≡ link.ends.limit
   unsent : after.ends.unsent ≡ link.ends.unsent
 
-joined_so : (link after : Standing) (j : Result Joining LinkFault) → with_joined link.ends None j ≡ Ok after → Takes link after
-joined_so link after j e = grind arith
-
 takes_plain : (limit : ℕ) (link after : Standing) (u : Value) → IsPlain limit link → taken link u ≡ Ok after → Takes link after
 takes_plain limit link after u plain e = grind arith
 
@@ -115,8 +110,7 @@ module _ (limit : ℕ) (s : State) (begun : ℕ) (units : List Value) (z : IsInZ
         let a = takes_plain limit link after u plain e in
         pumps_so (taking r peer (Ok after) s) (put_taking r peer (Ok after) s.class) r peer link (handed_out after) class
         (record { flow = a.flow; size = a.limit ∙ plain.size }) (λ b h. subst (HaveRoom b) (sym a.unsent) h)
-        (ap (λ (l : Rows Live). put r (linked peer (pumped (handed_out after))) l) live
-        ∙ put_one r (linked peer (pumped (handed_out after))) (linked peer link)) puts refl
+        (grind (arith, put_one)) puts refl
     taking_goes u (Err fault) e = grind (arith, ends_so)
 
     linked_goes : (u : Value) → Goes (to_linked r peer link u s) (put_linked r peer link u s.class)
@@ -178,14 +172,9 @@ module _ (limit : ℕ) (s : State) (begun : ℕ) (units : List Value) (z : IsInZ
       (ap (λ (l : Rows Live). link_of (value_at r l)) (sym live) ∙ h) in
       let (peer_is, link_is) = pair_so peer p link k row in
       pumps_so (sent_on r tsdu (Some (p, k)) s) (put_sent tsdu (Some (p, k))) r p link (with_tsdu k tsdu) class
-      (record {
-        flow = ap (λ (x : Standing). x.flow) (sym link_is) ∙ plain.flow;
-        size = ap (λ (x : Standing). x.ends.limit) (sym link_is)
-            ∙ plain.size;
-      })
+      (grind arith)
       (λ b room. subst (λ (x : Standing). HaveRoom b (with_tsdu x tsdu).ends.unsent) link_is (room_more b link.ends.unsent tsdu room short))
-      (ap (λ (l : Rows Live). put r (linked p (pumped (with_tsdu k tsdu))) l) (live ∙ ap (λ (i : ℕ). (i, linked peer link) ∷ []) same)
-      ∙ put_one r (linked p (pumped (with_tsdu k tsdu))) (linked peer link)) puts refl
+      (grind (arith, put_one)) puts refl
 
 zero_all : (limit : ℕ) (s : State) (begun : ℕ) (units : List Value) (r : ℕ) (tsdus : List (List ℕ)) → IsInZero limit s begun units →
     AllByRecursion (λ (tsdu : List ℕ). length tsdu ≤ longest_tsdu) tsdus →

@@ -1,16 +1,13 @@
 -- What an end does keeps what holds of its line: a call of its link, and the close of the connection.
 -- For the laws on a line.
 use Rattle.osi_fair.proofs.Vocabulary.{[], ap, arith, Bool, false, length, List, None, Ok, Option, refl, Some, subst, sym, true, ℕ, ◌%◌}
-use Rattle.osi_fair.proofs.Vocabulary.{◌++◌, ◌+◌, ◌∙◌, ◌∷◌, ◌≡◌, ◌≤◌, acknowledge, data2, disconnect, Value, Ends, after_acked}
-use Rattle.osi_fair.proofs.Vocabulary.{longest_tsdu, ack, Hands, next, part0, part2, sent_flow, Standing, taken, with_tsdu, give_out}
-use Rattle.osi_fair.proofs.Vocabulary.{hand_in, hand_out, Move, Moves, take_in, is_closing, Connection, Left, Half, Acts, answers}
-use Rattle.osi_fair.proofs.Vocabulary.{closes_with as closes, HandsInShort, IsRightNow, Line, moves, units_put, units_taken}
+use Rattle.osi_fair.proofs.Vocabulary.{◌++◌, ◌+◌, ◌∙◌, ◌∷◌, ◌≡◌, ◌≤◌, acknowledge, data2, disconnect, Value, longest_tsdu, ack, Hands, next}
+use Rattle.osi_fair.proofs.Vocabulary.{part0, part2, Standing, taken, with_tsdu, give_out, hand_in, hand_out, Move, Moves, take_in}
+use Rattle.osi_fair.proofs.Vocabulary.{is_closing, Connection, Left, Half, Acts, answers, closes_with as closes, HandsInShort, Line, moves}
+use Rattle.osi_fair.proofs.Vocabulary.{units_put, units_taken}
 use Rattle.osi_fair.proofs.what_a_link_does.{HaveRoom, room_more, gives_so, takes_so}
 use Rattle.osi_fair.proofs.units_in_flight.{Puts, puts_more, comes_within}
 use Rattle.osi_fair.proofs.what_holds_of_a_line.{Tally, Ordered, linked, PutsAt, TakesAt, Holds, bounds_of, came_of, shut, ends_so, tapped}
-
-right_on : (tap : Connection) (put more : List Value) → IsRightNow Left tap put → IsRightNow Left tap (put ++ more)
-right_on tap put more h = grind arith
 
 -- a call of the link that makes what was put this
 pub record Moved (r peer limit : ℕ) (noted : ℕ) (tap : Connection) (put coming : List Value) (link : Standing) : Type 0 where
@@ -39,9 +36,7 @@ module _ (r peer limit : ℕ) (x : Tally) (noted : ℕ) (tap : Connection) (o : 
       refl
       (λ passed shown begun within now.
       let g = gives begun now.1 in
-      let short = g.short in
-      let fit = g.fits in
-      (refl, numbered ∙ ap (λ (n : ℕ). n % 128) (sym now.0), omega arith, omega arith, omega arith, (omega arith, g.room)))
+      grind arith)
       x.passed x.shown tap.left.begun o.shown_acked put p.0
 
   gives_data : (put coming : List Value) (link after : Standing) (number : ℕ) (end : Bool) (octets : List ℕ) →
@@ -56,21 +51,7 @@ module _ (r peer limit : ℕ) (x : Tally) (noted : ℕ) (tap : Connection) (o : 
         ordered = omega (arith, o);
         taps = t;
         puts = (puts_data put coming link after number end octets h p e, p.1);
-        takes = record {
-          flow = sent_flow h.flow;
-          taken = h.taken;
-          known = h.known;
-          is = flow;
-          size = size ∙ h.size;
-          next = omega arith;
-          unacknowledged = omega arith;
-          few = omega arith;
-          edge = omega arith;
-          expected = h.expected;
-          waiting = h.waiting;
-          credit = h.credit;
-          comes = h.comes;
-        };
+        takes = grind arith;
       }
 
   -- ---- an AK
@@ -87,21 +68,7 @@ module _ (r peer limit : ℕ) (x : Tally) (noted : ℕ) (tap : Connection) (o : 
         ordered = omega (arith, o);
         taps = t;
         puts = (grind (arith, puts_more, gives_so, comes_within, came_of, bounds_of, ends_so), p.1);
-        takes = record {
-          flow = record h.flow { receiver = after_acked h.flow.receiver };
-          taken = h.taken;
-          known = h.known;
-          is = flow;
-          size = ap (λ (e : Ends). e.limit) same ∙ h.size;
-          next = h.next;
-          unacknowledged = h.unacknowledged;
-          few = h.few;
-          edge = h.edge;
-          expected = h.expected;
-          waiting = omega arith;
-          credit = h.credit;
-          comes = h.comes;
-        };
+        takes = grind arith;
       }
 
   -- ---- calls that put nothing
@@ -204,22 +171,13 @@ moves_hold r peer move old new (link, after, is, e, short, coming, new_is) h =
     let came = subst (λ (l : List Value). linked h.limit h.tally old.tap.right l link) coming takes in
     let m = call_moves r peer h.limit h.tally h.noted old.tap h.ordered h.taps move old.put new.coming link after came puts e short in
     subst (λ (l : Line). Holds r peer l) (sym new_is)
-    (record {
-      limit = h.limit;
-      tally = m.tally;
-      noted = h.noted;
-      ordered = m.ordered;
-      taps = m.taps;
-      puts = m.puts;
-      takes = m.takes;
-      under_way = λ b. right_on old.tap old.put (units_put peer move) (h.under_way b);
-    })
+    (grind arith)
 
 pub closes_hold : (r peer reason : ℕ) (units : List Value) (old new : Line) → Acts Left r peer (closes reason units) old new →
     Holds r peer old →
     Holds r peer new
-closes_hold r peer reason units old new k h = search (arith, puts_with, closes_by, right_on)
+closes_hold r peer reason units old new k h = grind (arith, puts_with, closes_by)
 
 pub answers_hold : (r peer : ℕ) (unit : Value) (old new : Line) → Acts Left r peer (answers unit) old new → Holds r peer old →
     Holds r peer new
-answers_hold r peer unit old new k h = search (arith, puts_with, takes_with, was_closing, closes_by, right_on)
+answers_hold r peer unit old new k h = grind (arith, puts_with, takes_with, was_closing, closes_by)

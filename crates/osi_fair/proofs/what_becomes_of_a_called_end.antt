@@ -6,10 +6,9 @@ use Rattle.osi_fair.proofs.Vocabulary.{data0, data2, destination_of, disconnect,
 use Rattle.osi_fair.proofs.Vocabulary.{Given, Standing, taken_by, unit_of, LinkFault, WrongForm, Class, Two, Local, push_other, put_other}
 use Rattle.osi_fair.proofs.Vocabulary.{without_other, row_here, push_here, put_here, without_here, AreUpTo, IsOrderly, RiseFrom, pumped}
 use Rattle.osi_fair.proofs.Vocabulary.{breaks_in, handed_out, taking, to_closing, to_connection, to_linked, put, Rows, value_at, without}
-use Rattle.osi_fair.proofs.Vocabulary.{asked, closing, Live, linked, packets, Follows, link_now, closes_with, put_at, put_for, put_linked}
-use Rattle.osi_fair.proofs.Vocabulary.{put_taking}
+use Rattle.osi_fair.proofs.Vocabulary.{asked, closing, Live, linked, packets, Follows, link_now, closes_with, put_for, put_linked}
+use Rattle.osi_fair.proofs.Vocabulary.{put_taking, State}
 unfoldable use Rattle.osi_carrier.specs.React.{react}
-use Rattle.osi_carrier.specs.State.{State}
 use Rattle.osi_fair.proofs.each_connection_of_a_called_end.{AreAbove}
 use Rattle.osi_fair.proofs.a_carrier_follows_lines.{put_is, react_is}
 use Rattle.osi_fair.proofs.what_a_called_end_does_to_its_lines.{Leaves, still}
@@ -141,25 +140,12 @@ dc_follows n q m i k s here two was dest =
     let to = react_is u s n two was dest ∙ ap (λ (o : Option Live). to_connection n o u s) here
     ∙ ap (λ (r : Result Standing LinkFault). taking n q r s) (dc_refused k.ends k.flow m i)
     ∙ ap (λ (c : Option Class). breaks_in n q WrongForm c s) two in
-    let units : put_for u s ≡ disconnect q n 133 [] ∷ [] = put_is u s n two was dest
-    ∙ ap (λ (o : Option Live). put_at n o u s.class) here
-    ∙ ap (λ (r : Result Standing LinkFault). put_taking n q r s.class) (dc_refused k.ends k.flow m i)
-    ∙ ap (λ (c : Option Class). put_taking n q (Err WrongForm) c) two in
-    let there : link_now (value_at n (react u s).live) ≡ None = ap (λ (t : State). link_now (value_at n t.live)) to
-    ∙ ap link_now (put_here n (closing q) (linked q k) s.live here) in
+    let units : put_for u s ≡ disconnect q n 133 [] ∷ [] = grind (arith, put_is, dc_refused) in
+    let there : link_now (value_at n (react u s).live) ≡ None = grind (arith, put_here) in
     subst (λ (l : List Value). Follows n q [] l s (react u s)) (sym units) (record {
       acts = closes_with 133 [] ∷ [];
       outgoing = unit_writes u s ∙ ap (λ (l : List Value). s.outgoing ++ packets l) units;
-      along = λ d line later is coming. (
-        record line { link = link_now (value_at n (react u s).live); put = line.put ++ disconnect q n 133 [] ∷ []; coming = later },
-        (
-          k,
-          is ∙ ap link_now here,
-          coming,
-          ap (λ (o : Option Standing). record line { link = o; put = line.put ++ disconnect q n 133 [] ∷ []; coming = later }) there,
-        ),
-        refl,
-      );
+      along = grind arith;
     })
 
 -- ---- a connection that is closing, or gone

@@ -1,14 +1,13 @@
 -- What a unit of the other side does to its connection at the tap of a calling end: one that is open stays so, one that waits is
 -- opened or refused. For the law on a whole end.
 use Rattle.osi_fair.proofs.Vocabulary.{arith, [], ap, Bool, false, if◌then◌else◌, inr, List, None, Option, refl, Some, subst, sym, true, ℕ}
-use Rattle.osi_fair.proofs.Vocabulary.{◌∙◌, ◌∷◌, ◌≡◌, ◌⊎◌, nat_le, not, position, slice_get, ◌&&◌, ◌==◌, ◌||◌, acknowledge, confirm}
-use Rattle.osi_fair.proofs.Vocabulary.{Connect, data0, data2, destination_of, disconnect, disconnected, error, request, Value, Two, Zero}
-use Rattle.osi_fair.proofs.Vocabulary.{is_applied, is_of_connection, passes_over, reach_of, code_named, first_failed, given_again, is_due}
-use Rattle.osi_fair.proofs.Vocabulary.{is_inside, is_offered, Test, is_closing, is_named, is_open, is_refused, is_silent, at_place}
-use Rattle.osi_fair.proofs.Vocabulary.{class_for, closing_phase, connection_after, course_after, found, found_on, half_after, in_doubt}
-use Rattle.osi_fair.proofs.Vocabulary.{none_told, one_told, Outcome, reached, route, route_in, routed, Traffic, takes, unnamed_by}
-use Rattle.osi_fair.proofs.Vocabulary.{unnamed_told, uses_source, Connection, Course, Right, Finding, Broke, Kept, NotJudged, Outside}
-use Rattle.osi_fair.proofs.Vocabulary.{TooMany, Reach, Rule, Half, Phase, noted}
+use Rattle.osi_fair.proofs.Vocabulary.{◌∙◌, ◌∷◌, ◌≡◌, ◌⊎◌, nat_le, not, position, slice_get, ◌==◌, ◌||◌, acknowledge, confirm, Connect}
+use Rattle.osi_fair.proofs.Vocabulary.{data0, data2, destination_of, disconnect, disconnected, error, request, Value, Two, Zero, is_applied}
+use Rattle.osi_fair.proofs.Vocabulary.{is_of_connection, passes_over, reach_of, code_named, first_failed, given_again, is_due, is_inside}
+use Rattle.osi_fair.proofs.Vocabulary.{is_offered, Test, is_closing, is_named, is_open, is_refused, is_silent, at_place, class_for}
+use Rattle.osi_fair.proofs.Vocabulary.{connection_after, course_after, found, found_on, half_after, one_told, Outcome, reached, route_in}
+use Rattle.osi_fair.proofs.Vocabulary.{routed, Traffic, takes, unnamed_told, uses_source, Connection, Course, Right, Finding, Broke, Kept}
+use Rattle.osi_fair.proofs.Vocabulary.{NotJudged, Outside, TooMany, Reach, Rule, noted}
 use Rattle.osi_rules.specs.declared.findings.Reach.TheVariants as reach
 use Rattle.osi_rules.specs.declared.findings.Rule.TheVariants as rule
 use Rattle.osi_fair.proofs.small_facts_that_many_lemmas_use.{and_first, and_second, differ, judged_same, open_or_closing}
@@ -17,7 +16,7 @@ use Rattle.osi_fair.proofs.each_connection_has_its_line.{is_tracked}
 use Rattle.osi_fair.proofs.what_keeps_names_apart.{Sound}
 use Rattle.osi_fair.proofs.what_stays_of_each_connection.{right_judged, right_own}
 use Rattle.osi_fair.proofs.what_lasts_at_the_tap.{IsCalm, calm_noted}
-use Rattle.osi_fair.proofs.what_the_other_side_closes.{not_calm, unknown_not}
+use Rattle.osi_fair.proofs.what_the_other_side_closes.{not_calm}
 use Rattle.osi_fair.proofs.which_units_are_for_a_connection.{is_dc}
 use Rattle.osi_fair.proofs.while_no_class_is_selected.{named_where}
 
@@ -43,16 +42,9 @@ pub record IsIdle (v : Value) (s : Traffic) (o : Outcome) : Type 0 where
 
 -- ---- a unit for no connection
 
-not_judged : (loose : Bool) → (if loose then in_doubt NotJudged else NotJudged) ≡ NotJudged
-not_judged loose = grind arith
-
-by_bool : (v : Value) → unnamed_by true v ≡ Broke rule.UnknownReference → unnamed_by false v ≡ Broke rule.UnknownReference →
-    (b : Bool) → unnamed_by b v ≡ Broke rule.UnknownReference
-by_bool v h k b = grind arith
-
 none_idle : (v : Value) (s : Traffic) → s.course.left_erred ≡ false → IsCalm (unnamed_told Right v s).state.course →
     IsIdle v s (unnamed_told Right v s)
-none_idle v s fine h = grind (arith, unknown_not, by_bool)
+none_idle v s fine h = search arith
 
 -- the end has broken no rule
 module _ (s : Traffic) (fine : s.course.left_erred ≡ false) where
@@ -64,17 +56,11 @@ module _ (s : Traffic) (fine : s.course.left_erred ≡ false) where
   at_name v n None e d h = inr (none_idle v s fine h)
   at_name v n (Some q) e d h = search (arith, named_where s.connections n q e)
 
-  wrong : (v : Value) → Comes v (none_told Right (Broke rule.UnexpectedUnit) s)
-  wrong v h = grind (arith, not_calm, calm_noted)
-
   pub comes_for : (v : Value) → s.course.left_stopped ≡ false → s.course.right_stopped ≡ false →
       (s.course.class ≡ None) ⊎ (s.course.class ≡ Some Two) → Comes v (takes Right v s)
   comes_for v left right class =
-      let so : takes Right v s ≡ routed Right v s (route_in s.course.class Right false v) =
-      ap (λ (b : Bool). if b then none_told Right NotJudged s else routed Right v s (route Right s.course v)) right
-      ∙ ap (λ (b : Bool). routed Right v s (route_in s.course.class Right b v))
-      (grind arith) in
-      subst (Comes v) (sym so) (grind (arith, at_name, wrong))
+      let so : takes Right v s ≡ routed Right v s (route_in s.course.class Right false v) = grind arith in
+      subst (Comes v) (sym so) (grind (arith, at_name))
 
 -- ---- what it does to its connection
 
@@ -84,17 +70,6 @@ form_broke a ts h = grind arith
 open_broke : (a : Bool) (ts : List Test) → a ≡ true → first_failed ((not a, Broke rule.UnknownReference) ∷ ts) ≡ Broke rule.UnknownReference
 open_broke a ts h = grind arith
 
-closing_after : (was : Bool) (half : Half) → was ≡ false →
-    ((is_open (closing_phase was half).phase || is_closing (closing_phase was half).phase) ≡ true)
-    × ((closing_phase was half).reference ≡ half.reference)
-closing_after was half h = grind arith
-
-and_none : (a b : Bool) → a ≡ false → (a && b) ≡ false
-and_none a b h = grind arith
-
-silent_not_open : (p : Phase) → is_silent p ≡ true → is_open p ≡ false
-silent_not_open p h = grind arith
-
 -- a DC is due, or it is not judged, or it is wrong
 abbrev Fate : (due : Bool) → Finding → Type 0
 Fate due f = (due ≡ true) ⊎ ((f ≡ NotJudged) ⊎ ((f ≡ Broke rule.UnknownReference) ⊎ (f ≡ Broke rule.NothingToAnswer)))
@@ -102,14 +77,6 @@ Fate due f = (due ≡ true) ⊎ ((f ≡ NotJudged) ⊎ ((f ≡ Broke rule.Unknow
 dc_or : (due told strays : Bool) → Fate due (first_failed ((due || not strays, NotJudged) ∷ (told, Broke rule.UnknownReference)
     ∷ (due, Broke rule.NothingToAnswer) ∷ []))
 dc_or due told strays = grind arith
-
--- before the CR is answered
-dc_early : (due silent strays : Bool) → due ≡ false → silent ≡ true →
-    (first_failed ((due || not strays, NotJudged) ∷ (not silent, Broke rule.UnknownReference) ∷ (due, Broke rule.NothingToAnswer) ∷ [])
-    ≡ NotJudged)
-    ⊎ (first_failed ((due || not strays, NotJudged) ∷ (not silent, Broke rule.UnknownReference) ∷ (due, Broke rule.NothingToAnswer) ∷ [])
-    ≡ Broke rule.UnknownReference)
-dc_early due silent strays h k = grind arith
 
 er_kept : (a erred : Bool) → a ≡ true → first_failed ((a || not erred, NotJudged) ∷ (a, Broke rule.WrongForm) ∷ []) ≡ Kept
 er_kept a erred h = grind arith
@@ -169,11 +136,6 @@ module _ (s : Traffic) (c : Connection) (judged : c.is_judged ≡ true) (sound :
 
   dc_fate : (destination source : ℕ) → Fate (is_due Right c source) (finding (disconnected destination source))
   dc_fate destination source = grind (arith, is_found, dc_or)
-
-  -- one that is not judged changes nothing
-  idle_next : (destination source : ℕ) → finding (disconnected destination source) ≡ NotJudged →
-      next (disconnected destination source) ≡ c
-  idle_next destination source e = grind arith
 
   -- what has no effect
   idle_open : (v : Value) → is_applied (finding v) ≡ false → is_tracked c ≡ true → StaysOpen v
@@ -239,16 +201,11 @@ module _ (s : Traffic) (c : Connection) (judged : c.is_judged ≡ true) (sound :
   cc_by destination x selects p (doubtful e) = absurd (grind (arith, differ))
   cc_by destination x selects p (outside e) = absurd (grind (arith, differ))
 
-  -- a DR refuses the CR
-  dr_refuses : (destination source reason : ℕ) (user : List ℕ) → is_silent c.right.phase ≡ true →
-      Answered (disconnect destination source reason user)
-  dr_refuses destination source reason user h = grind (arith, is_found, right_by)
-
   pub answered : (v : Value) (n : ℕ) → destination_of v ≡ Some n → is_silent c.right.phase ≡ true → SelectsTwo v →
       IsCalm (course v) → Answered v
   answered (confirm destination x) n e h z p = cc_by destination x z p (grind (arith, is_found, ruled))
-  answered (disconnect destination source reason user) n e h z p = dr_refuses destination source reason user h
-  answered (disconnected destination source) n e h z p = grind (arith, idle_next, broke)
+  answered (disconnect destination source reason user) n e h z p = grind (arith, is_found, right_by)
+  answered (disconnected destination source) n e h z p = grind (arith, broke)
   answered (data2 destination number end user) n e h z p = grind (arith, broke, is_found, open_broke)
   answered (acknowledge credit destination number) n e h z p = grind (arith, broke, is_found, open_broke)
   answered (error destination cause) n e h z p = grind (arith, is_found, er_kept, right_by)

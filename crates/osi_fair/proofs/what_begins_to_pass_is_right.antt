@@ -1,12 +1,11 @@
 -- A unit of an end is right by all that has passed of the other side when its packet begins.
 -- For the laws on a line.
 use Rattle.osi_fair.proofs.Vocabulary.{[], arith, Bool, IfSome, List, Option, true, ℕ, ◌+◌, ◌≡◌, ◌≢◌, ◌≤◌, eq-eqb, le-leb, lt-ltb, not}
-use Rattle.osi_fair.proofs.Vocabulary.{Value, Standing, fits_size, begins, is_named, is_open, is_silent, Connection, Left, Phase}
-use Rattle.osi_fair.proofs.Vocabulary.{IsRightNow}
+use Rattle.osi_fair.proofs.Vocabulary.{Value, fits_size, begins, is_named, is_open, is_silent, Connection, Left, Phase, IsRightNow}
 use Rattle.osi_fair.proofs.small_facts_that_many_lemmas_use.{or_last}
 use Rattle.osi_fair.proofs.what_is_right_passes_each_test.{is_right}
 use Rattle.osi_fair.proofs.units_in_flight.{Puts}
-use Rattle.osi_fair.proofs.what_holds_of_a_line.{Tally, Ordered, PutsAt, bounds_of, is_there, tapped}
+use Rattle.osi_fair.proofs.what_holds_of_a_line.{Tally, Ordered, bounds_of, is_there, tapped}
 use Rattle.osi_fair.proofs.how_a_connection_opens.{both, or_left}
 
 -- ---- phases
@@ -33,8 +32,3 @@ module _ (r peer limit : ℕ) (x : Tally) (noted : ℕ) (tap : Connection) (o : 
       Puts (bounds_of r peer limit x closed tap.right) e x.passed x.shown tap.left.begun put → IsRightNow Left known put
   first_right closed e put some h =
       grind (arith, is_named_so, lt-ltb, is_right, not_silent, eq-eqb, le-leb, fits_so, or_last, both, or_left)
-
-pub begins_right : (r peer limit : ℕ) (x : Tally) (noted : ℕ) (tap : Connection) → Ordered x noted → tapped r peer limit x noted tap →
-    (put : List Value) (link : Option Standing) → put ≢ [] → PutsAt r peer limit x tap.left tap.right put link →
-    IsRightNow Left (begins Left tap) put
-begins_right r peer limit x noted tap o t put link some l = grind (arith, first_right)

@@ -1,10 +1,9 @@
 -- A DR that refuses a CR is right, and after a DR that closed nothing no DC is blamed.
 -- For the law of that name.
-use Rattle.osi_fair.proofs.Vocabulary.{arith, Bool, false, if◌then◌else◌, List, None, Option, Some, true, ℕ, ◌≡◌, position, disconnect}
-use Rattle.osi_fair.proofs.Vocabulary.{disconnected, Value, Two, reach_of, is_named, is_silent, other, asks_of, at_found, class_for, found}
-use Rattle.osi_fair.proofs.Vocabulary.{in_doubt, is_stopped, none_told, one_told, Outcome, reached, route_in, routed, Traffic as State}
-use Rattle.osi_fair.proofs.Vocabulary.{takes, unnamed_by, unnamed_told, Connection, Course, Direction, Right, Finding, Kept, NotJudged}
-use Rattle.osi_fair.proofs.Vocabulary.{Reach, Route, passes, Passing, has_broken}
+use Rattle.osi_fair.proofs.Vocabulary.{arith, Bool, false, List, None, Option, Some, true, ℕ, ◌≡◌, position, disconnect, disconnected}
+use Rattle.osi_fair.proofs.Vocabulary.{Value, Two, reach_of, is_named, is_silent, other, asks_of, at_found, class_for, found, is_stopped}
+use Rattle.osi_fair.proofs.Vocabulary.{none_told, Outcome, reached, route_in, routed, Traffic as State, takes, Connection, Course}
+use Rattle.osi_fair.proofs.Vocabulary.{Direction, Right, Finding, Kept, Reach, Route, passes, Passing, has_broken}
 use Rattle.osi_rules.specs.declared.findings.Rule.TheVariants as rule
 use Rattle.osi_fair.proofs.small_facts_that_many_lemmas_use.{or_first}
 use Rattle.osi_fair.proofs.what_is_right_passes_each_test.{is_right}
@@ -18,20 +17,12 @@ refusal_right c course in_use destination source reason user h = grind (arith, i
 
 -- ---- a DC
 
-found_so : (d : Direction) (s : State) (c : Connection) (n source : ℕ) (judged in_use : Bool) → s.course.strays ≡ true →
-    IsNotBlamed (if judged then found d s.course in_use c (disconnected n source) else NotJudged)
-found_so d s c n source judged in_use h = grind arith
-
-unnamed_so : (loose strays : Bool) (n source : ℕ) → strays ≡ true →
-    IsNotBlamed (if loose then in_doubt (unnamed_by strays (disconnected n source)) else unnamed_by strays (disconnected n source))
-unnamed_so loose strays n source h = grind arith
-
 abbrev Spared : Outcome → Type 0
 Spared o = IsNotBlamed o.told.finding
 
 at_one : (d : Direction) (s : State) (n source p : ℕ) (c : Option Connection) → s.course.strays ≡ true →
     Spared (at_found d (disconnected n source) s p c)
-at_one d s n source p c h = grind (arith, unnamed_so, found_so)
+at_one d s n source p c h = grind arith
 
 two_routes : (d : Direction) (s : State) (n source : ℕ) → s.course.strays ≡ true →
     Spared (routed d (disconnected n source) s (route_in (Some Two) d (has_broken (other d) s.course) (disconnected n source)))
@@ -52,15 +43,9 @@ Strays o = o.state.course.strays ≡ true
 to_none : (d : Direction) (f : Finding) (s : State) → s.course.strays ≡ true → Strays (none_told d f s)
 to_none d f s h = reached_strays d (reach_of (class_for d s.course) f) s.course h
 
-to_unnamed : (d : Direction) (v : Value) (s : State) → s.course.strays ≡ true → Strays (unnamed_told d v s)
-to_unnamed d v s h = grind (arith, reached_strays)
-
-to_one : (d : Direction) (p : ℕ) (c : Connection) (v : Value) (s : State) → s.course.strays ≡ true → Strays (one_told d p c v s)
-to_one d p c v s h = grind (arith, reached_strays)
-
 strays_one : (d : Direction) (v : Value) (s : State) (p : ℕ) (c : Option Connection) → s.course.strays ≡ true → Strays (at_found d v s p c)
-strays_one d v s p None h = to_unnamed d v s h
-strays_one d v s p (Some c) h = to_one d p c v s h
+strays_one d v s p None h = grind (arith, reached_strays)
+strays_one d v s p (Some c) h = grind (arith, reached_strays)
 
 asks : (d : Direction) (v : Value) (s : State) → s.course.strays ≡ true → Strays (asks_of d v s)
 asks d v s h = grind (arith, to_none)

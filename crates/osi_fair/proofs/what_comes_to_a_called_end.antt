@@ -106,11 +106,7 @@ module _ (local : Local) (w : Whole) (f : Called local w) (apart : AreApart w.ta
           conns = ap (λ (o : Outcome). o.state.connections) is ∙ ap (λ (o : Option ℕ). placed (asked_by x) cs o) e;
           new = set_there cs p (asked_by x) c at;
           item = λ i d h. after_change cs p i (asked_by x) d h;
-          none = λ i h. (
-            λ same. no_item (slice_get (set cs p (asked_by x)) p) (asked_by x) (set_there cs p (asked_by x) c at)
-                (ap (λ (j : ℕ). slice_get (set cs p (asked_by x)) j) (sym same) ∙ h),
-            set_none cs p i (asked_by x) h,
-          );
+          none = grind (arith, no_item, set, set_there, set_none);
           mine = mine;
           asks = asks;
           un = un;
@@ -127,11 +123,7 @@ module _ (local : Local) (w : Whole) (f : Called local w) (apart : AreApart w.ta
           conns = ap (λ (o : Outcome). o.state.connections) is ∙ ap (λ (o : Option ℕ). placed (asked_by x) cs o) e;
           new = added_there cs (asked_by x);
           item = λ i d h. added_item i d (after_add cs i (asked_by x) d h);
-          none = λ i h. (
-            λ same. no_item (slice_get (cs ++ asked_by x ∷ []) (length cs)) (asked_by x) (added_there cs (asked_by x))
-                (ap (λ (j : ℕ). slice_get (cs ++ asked_by x ∷ []) j) (sym same) ∙ h),
-            add_none cs i (asked_by x) h,
-          );
+          none = grind (arith, no_item, added_there, add_none);
           mine = mine;
           asks = asks;
           un = un;
@@ -164,8 +156,7 @@ module _ (local : Local) (w : Whole) (f : Called local w) (apart : AreApart w.ta
       stand_case i c false e (inl (same, so)) = absurd (unlike i p e same)
       stand_case i c false e (inr (other, there)) =
           subst (λ (o : Option ℕ). StandFree i o c) (sym (grind arith))
-          (stand_on local w f apart named v ranges calm_after (f.refs i) (λ j. units_at j came_at) (λ r peer link line k row. row_other
-          local w f apart named v ranges calm_after r peer link line (no_name r) row) i c
+          (stand_on local w f apart named v ranges calm_after (f.refs i) (λ j. units_at j came_at) (search (arith, row_other, no_name)) i c
           (units_at i f.tagged) (units_at i f.came) (w.begun && first_at i f.tagged) (asks_other i other) (f.stands i c there))
 
       old_ref : (i r : ℕ) (b : Bool) → (i == p) ≡ b → refs i ≡ Some r → f.refs i ≡ Some r
@@ -216,16 +207,13 @@ module _ (local : Local) (w : Whole) (f : Called local w) (apart : AreApart w.ta
         positive = λ i r h. f.positive i r (old_ref i r (i == p) refl h);
         linked_at = λ lasts r peer l there. linked_case r peer l lasts there (f.home r == p) refl;
         shut_given = f.shut_given;
-        strays = strays_more f.shut w.end (λ i. refs i) f.home w.tap.course.strays (takes Left v w.tap).state.course.strays f.tagged
-            (lasts local w f apart named v ranges calm_after).strays
-            (strays_case f.tagged f.strays);
+        strays = grind (arith, strays_more, strays_case);
         last = f.last;
         tops = λ i c at. top_case i c (free.item i c (ap (λ (l : List Connection). slice_get l i) (sym free.conns) ∙ at));
         above = f.above;
         class = subst (λ (k : Option Class). (k ≡ None) ⊎ (k ≡ Some Two)) (sym (ap (λ (k : Course). k.class) course_so)) f.class;
         two = λ i c at up. two_case i c (free.item i c (ap (λ (l : List Connection). slice_get l i) (sym free.conns) ∙ at)) up;
-        class_seen = subst (λ (k : Option Class). (k ≡ None) ⊎ (k ≡ Some Two)) (sym (ap (λ (k : Course). k.class_seen) course_so))
-            f.class_seen;
+        class_seen = grind (arith, course_so);
         past_two = λ h. f.past_two (sym (ap (λ (k : Course). k.class) course_so) ∙ h);
         seen_two = λ h. ap (λ (k : Course). k.class) course_so ∙ f.seen_two (sym (ap (λ (k : Course). k.class_seen) course_so) ∙ h);
         some = f.some;

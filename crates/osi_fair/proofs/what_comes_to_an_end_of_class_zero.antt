@@ -1,12 +1,11 @@
 -- A unit of the other side passes at the tap of a called end that has selected class 0: right has sent what it had.
 -- For the law on a whole called end.
-use Rattle.std.proofs.Common.{arith}
 use Rattle.osi_fair.proofs.Vocabulary.{[], ap, Bool, false, IfSome, if◌then◌else◌, inl, inr, List, None, Option, refl, set, Some, subst}
 use Rattle.osi_fair.proofs.Vocabulary.{suc, sym, true, zero, ℕ, ◌++◌, ◌+◌, ◌∙◌, ◌∷◌, ◌≡◌, ◌≤◌, ◌⊎◌, eqb-true, list_all, not, slice_get}
 use Rattle.osi_fair.proofs.Vocabulary.{◌&&◌, ◌==◌, ◌||◌, Connect, Value, Class, Zero, Local, is_applied, reach_of, first_failed, Test}
-use Rattle.osi_fair.proofs.Vocabulary.{is_open, is_over, is_over_by, is_refused, connection_after, found_on, half_after, one_told, Outcome}
-use Rattle.osi_fair.proofs.Vocabulary.{reached, request_tests, Traffic, takes, Connection, Course, Left, Finding, Broke, Kept, Reach, Half}
-use Rattle.osi_fair.proofs.Vocabulary.{unit as passing, Whole}
+use Rattle.osi_fair.proofs.Vocabulary.{is_open, is_over, is_over_by, is_refused, connection_after, found_on, one_told, Outcome, reached}
+use Rattle.osi_fair.proofs.Vocabulary.{request_tests, Traffic, takes, Connection, Course, Left, Finding, Broke, Kept, Reach, Half}
+use Rattle.osi_fair.proofs.Vocabulary.{unit as passing, Whole, arith}
 use Rattle.osi_rules.specs.declared.findings.Reach.TheVariants as reach
 use Rattle.osi_rules.specs.declared.findings.Rule.TheVariants as rule
 use Rattle.osi_fair.proofs.small_facts_that_many_lemmas_use.{and_first, and_second, differ, item_is, set_other}
@@ -35,10 +34,6 @@ all_there f [] p c h at = absurd (cc)
 all_there f (x ∷ xs) zero c h at = ap f (sym (item_is x c (Some x) refl at)) ∙ and_first (f x) (list_all f xs) h
 all_there f (x ∷ xs) (suc p) c h at = all_there f xs p c (and_second (f x) (list_all f xs) h) at
 
-there_half : (s : Traffic) (c : Connection) (v : Value) → is_applied (found_on Left s c v) ≡ true → is_there c.left.phase ≡ true →
-    is_there (half_after v c.left).phase ≡ true
-there_half s c v e h = grind arith
-
 size_after : (s : Traffic) (c : Connection) (v : Value) (applied : Bool) (r : Reach) → is_applied (found_on Left s c v) ≡ applied →
     (connection_after Left v applied r c).size ≡ c.size
 size_after s c v applied r e = grind arith
@@ -46,7 +41,7 @@ size_after s c v applied r e = grind arith
 -- left has not refused it, whatever it sends
 there_after : (s : Traffic) (c : Connection) (v : Value) (applied : Bool) (r : Reach) → is_applied (found_on Left s c v) ≡ applied →
     is_there c.left.phase ≡ true → is_there (connection_after Left v applied r c).left.phase ≡ true
-there_after s c v applied r e h = grind (arith, is_there, left_judged, there_half)
+there_after s c v applied r e h = grind (arith, is_there, left_judged)
 
 cr_by : (seen all : Bool) (ts : List Test) → seen ≡ false → first_failed ((seen || all, Broke rule.Negotiating) ∷ ts) ≡ Kept → all ≡ true
 cr_by seen all ts e h = grind arith
@@ -94,9 +89,6 @@ module _ (w : Whole) (apart : AreApart w.tap.connections) (judged : HoldsOfEach 
     conns : (takes Left v w.tap).state.connections ≡ set cs q next
     conns = ap (λ (o : Outcome). o.state.connections) is
 
-    seen_same : (takes Left v w.tap).state.course.class_seen ≡ w.tap.course.class_seen
-    seen_same = grind (arith, reached_seen)
-
     next_right : next.right ≡ e.right
     next_right = right_then v (is_applied found_so) far e
 
@@ -124,7 +116,7 @@ module _ (w : Whole) (apart : AreApart w.tap.connections) (judged : HoldsOfEach 
       put = f.put;
       seen = f.seen;
       class = left_class v w.tap ∙ f.class;
-      class_seen = seen_same ∙ f.class_seen;
+      class_seen = (grind (arith, reached_seen)) ∙ f.class_seen;
       unused = λ i y there same.
           let (z, was, right) = was_right i y (item i y there) in f.unused i z was (ap (λ (h : Half). h.reference) (sym right) ∙ same);
       others = λ i y there not_p.
@@ -144,8 +136,7 @@ module _ (w : Whole) (apart : AreApart w.tap.connections) (judged : HoldsOfEach 
           ap (λ (l : List Connection). slice_get l f.p) conns ∙ ap (λ (j : ℕ). slice_get (set cs q next) j) same ∙ set_there cs q next e at,
           next_right ∙ ap (λ (z : Connection). z.right) c_is,
           size_after w.tap e v (is_applied found_so) far refl ∙ ap (λ (z : Connection). z.size) c_is,
-          there_after w.tap e v (is_applied found_so) far refl (subst (λ (z : Connection). is_there z.left.phase ≡ true) (sym c_is)
-              f.there),
+          there_after w.tap e v (is_applied found_so) far refl (grind (arith, is_there)),
         )
     one_there f false h = search (arith, conns, set_other, unlike)
 
@@ -160,7 +151,7 @@ module _ (w : Whole) (apart : AreApart w.tap.connections) (judged : HoldsOfEach 
           up = ap (λ (h : Half). is_open h.phase) right ∙ f.up;
           there = left;
           class = left_class v w.tap ∙ f.class;
-          class_seen = subst (λ (k : Option Class). (k ≡ None) ⊎ (k ≡ Some Zero)) (sym seen_same) f.class_seen;
+          class_seen = subst (λ (k : Option Class). (k ≡ None) ⊎ (k ≡ Some Zero)) (sym (grind (arith, reached_seen))) f.class_seen;
           fits = subst (λ (o : Option ℕ). IfSome o (λ most. f.limit + 3 ≤ most)) (sym size) f.fits;
           others = λ i z here not_p.
               let (a, was, same) = was_right i z (item i z here) in
@@ -171,39 +162,10 @@ module _ (w : Whole) (apart : AreApart w.tap.connections) (judged : HoldsOfEach 
   -- a unit that changes nothing
   selecting_same : (local : Local) → (takes Left v w.tap).state ≡ w.tap → Selecting local w → Selecting local after
   selecting_same local same f = subst (λ (s : Traffic). Selecting local (record w { tap = s; coming = w.coming ++ v ∷ [] })) (sym same)
-      (record {
-        x = f.x;
-        size = f.size;
-        r = f.r;
-        p = f.p;
-        c = f.c;
-        at = f.at;
-        asked = f.asked;
-        selected = f.selected;
-        more = f.more;
-        put = f.put;
-        seen = f.seen;
-        class = f.class;
-        class_seen = f.class_seen;
-        unused = f.unused;
-        others = f.others;
-        end = f.end;
-      })
+      (search arith)
 
   selected_same : (takes Left v w.tap).state ≡ w.tap → Selected w → Selected after
-  selected_same same f = subst (λ (s : Traffic). Selected (record w { tap = s; coming = w.coming ++ v ∷ [] })) (sym same) (record {
-    p = f.p;
-    c = f.c;
-    limit = f.limit;
-    at = f.at;
-    up = f.up;
-    there = f.there;
-    class = f.class;
-    class_seen = f.class_seen;
-    fits = f.fits;
-    others = f.others;
-    end = f.end;
-  })
+  selected_same same f = subst (λ (s : Traffic). Selected (record w { tap = s; coming = w.coming ++ v ∷ [] })) (sym same) (search arith)
 
   selecting_by : (local : Local) (f : Selecting local w) → Came v w.tap (takes Left v w.tap) → Selecting local after
   selecting_by local f (asks_so x e class kept is) = cr_not x kept f.class_seen f.p f.c f.at (grind (arith, differ, and_second))

@@ -5,10 +5,9 @@ use Rattle.osi_fair.proofs.Vocabulary.{◌+◌, ◌<◌, ◌∙◌, ◌∷◌, �
 use Rattle.osi_fair.proofs.Vocabulary.{disconnect, disconnected, error, HasFieldsInRange, Value, Standing, Two, is_applied, reach_of}
 use Rattle.osi_fair.proofs.Vocabulary.{first_failed, has_passed, is_due, is_tellable, keeps_credit, Test, is_closing, is_open, is_silent}
 use Rattle.osi_fair.proofs.Vocabulary.{found, sent_on, Connection, Course, Left, Right, Finding, Broke, NotJudged, Phase, Acts}
-use Rattle.osi_fair.proofs.Vocabulary.{after_finding, finding_of, Line}
+use Rattle.osi_fair.proofs.Vocabulary.{after_finding, finding_of, Line, passes_other}
 use Rattle.osi_rules.specs.declared.findings.Reach.TheVariants as reach
 use Rattle.osi_rules.specs.declared.findings.Rule.TheVariants as rule
-use Rattle.osi_fair.specs.Lines.{passes_other}
 use Rattle.osi_fair.proofs.small_facts_that_many_lemmas_use.{and_first, and_second}
 use Rattle.osi_fair.proofs.what_holds_of_a_line.{Tally, Ordered, PutsAt, TakesAt, Holds, is_there, tapped}
 use Rattle.osi_fair.proofs.what_passes_of_the_other_side.{Went, goes_same, data_goes, ack_goes, ends_goes}
@@ -120,9 +119,7 @@ module _ (r peer limit : ℕ) (x : Tally) (noted : ℕ) (tap : Connection) (put 
   ack_by credit destination number f small little (inr (inr (inr (live, tells, applies)))) some judged =
       subst (λ (c : Connection). Goes (acknowledge credit destination number) c)
       (applied_after f (acknowledge credit destination number) tap applies)
-      (ack_goes r peer limit x noted tap put coming link o t p k credit destination number small little
-      (and_first (has_passed Right tap number) (keeps_credit Right tap number credit) tells)
-      (and_second (has_passed Right tap number) (keeps_credit Right tap number credit) tells))
+      (grind (arith, ack_goes, and_first, and_second))
 
   -- a DR
   disconnect_goes : (destination source reason : ℕ) (user : List ℕ) → is_open tap.right.phase ≡ true → is_silent tap.right.phase ≡ false →

@@ -1,9 +1,8 @@
 -- What has come for each connection of a calling end, with one unit more.
 -- For the law on a whole end.
 use Rattle.osi_fair.proofs.Vocabulary.{arith, [], ap, Bool, false, is_some, List, None, subst, sym, true, ℕ, ◌++◌, ◌∙◌, ◌∷◌, ◌≡◌}
-use Rattle.osi_fair.proofs.Vocabulary.{AllByRecursion, confirm, Value, Local, Connection, Line}
+use Rattle.osi_fair.proofs.Vocabulary.{AllByRecursion, Value, Local, Connection, Line, State}
 use Rattle.std.proofs.lemmas.List.{append_assoc}
-use Rattle.osi_carrier.specs.State.{State}
 use Rattle.osi_fair.proofs.small_facts_that_many_lemmas_use.{none_of as no_end}
 use Rattle.osi_fair.proofs.each_connection_has_its_line.{followed_at, Following, Row, IsSpare, Waiting, all_so, asks, closes, over, talks}
 use Rattle.osi_fair.proofs.which_units_are_for_a_connection.{IsDc, is_dc, names, picked_more, picked_other, those}
@@ -28,8 +27,7 @@ pub row_add : (local : Local) (end : State) (coming : List Value) (r peer : ℕ)
     after.link ≡ line.link → after.coming ≡ line.coming ++ v ∷ [] → Row local end coming r peer line →
     Row local end (coming ++ v ∷ []) r peer after
 row_add local end coming r peer line after v e link same (asks there x source two early dcs first is) =
-    asks there x source two early dcs (picked_more (names r) coming v e ∙ ap (λ (l : List Value). l ++ v ∷ []) first
-    ∙ append_assoc early (confirm r x ∷ line.coming) (v ∷ []) ∙ ap (λ (l : List Value). early ++ confirm r x ∷ l) (sym same))
+    asks there x source two early dcs (grind (arith, picked_more, names, append_assoc))
     (link ∙ is)
 row_add local end coming r peer line after v e link same (talks l there is all) =
     talks l there (link ∙ is) (picked_more (names r) coming v e ∙ ap (λ (l : List Value). l ++ v ∷ []) all ∙ sym same)

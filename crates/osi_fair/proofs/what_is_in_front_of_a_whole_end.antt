@@ -4,9 +4,8 @@ use Rattle.osi_fair.proofs.Vocabulary.{arith, [], ap, append_assoc, List, None, 
 use Rattle.osi_fair.proofs.Vocabulary.{AllByRecursion, IsOctets, IsPacket, units_fit, units_found, units_only, written_spells, units_of}
 use Rattle.osi_fair.proofs.Vocabulary.{Value, Fits, written, apart_all, Happening, acts_by, RunsOut, TakesPackets, react, reacts, arrived}
 use Rattle.osi_fair.proofs.Vocabulary.{put_back, user, user_does, UserCall, ends, EndReason, NoMemory, Direction, units_by, units_in}
-use Rattle.osi_fair.proofs.Vocabulary.{Becomes, MayCall, Whole}
+use Rattle.osi_fair.proofs.Vocabulary.{Becomes, MayCall, Whole, State}
 unfoldable use Rattle.osi_carrier.specs.Packets.{after_packet}
-use Rattle.osi_carrier.specs.State.{State}
 use Rattle.osi_fair.proofs.a_packet_is_events.{all_units, becomes_over, becomes_then, call_so, packet_so, same_so, then_so}
 use Rattle.osi_fair.proofs.small_facts_that_many_lemmas_use.{none_of, or_left}
 

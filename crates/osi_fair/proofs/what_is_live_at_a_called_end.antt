@@ -1,9 +1,7 @@
 -- As long as each DR has closed something: what the other side closes is live at a called end until the end takes that unit.
 -- For the law on a whole called end.
-use Rattle.osi_fair.proofs.Vocabulary.{[], arith, is_some, List, None, Option, Some, subst, sym, true, ℕ, ◌++◌, ◌<◌, ◌∙◌, ◌∷◌, ◌≡◌, ◌≤◌}
-use Rattle.osi_fair.proofs.Vocabulary.{AllByRecursion, slice_get, confirm, Connect, disconnect, disconnected, Value, value_at, is_open}
-use Rattle.osi_fair.proofs.Vocabulary.{Connection}
-use Rattle.osi_carrier.specs.State.{State}
+use Rattle.osi_fair.proofs.Vocabulary.{[], arith, is_some, List, None, Option, Some, true, ℕ, ◌++◌, ◌<◌, ◌∷◌, ◌≡◌, ◌≤◌, AllByRecursion}
+use Rattle.osi_fair.proofs.Vocabulary.{slice_get, confirm, Connect, disconnect, disconnected, Value, value_at, is_open, Connection, State}
 
 -- ---- what a unit of the other side closes
 
@@ -96,24 +94,14 @@ pub timely_takes : (s t : State) (u : Value) (later : List Value) (cs : List Con
     ((m : ℕ) → IsLive s m → (shuts_of u ≡ Some m → ⊥) → IsLive t m) → Timely s (u ∷ later) cs put → Timely t later cs put
 timely_takes s t u later cs put given lives h =
     let keeps : (m : ℕ) → IsHeld s (u ∷ later) m → IsHeld t later m = λ m k. (lives m k.0 k.1.0, k.1.1) in
-    record {
-      taps = λ p c at judged left right. keeps c.right.reference (h.taps p c at judged left right);
-      answers = answers_more (IsHeld s (u ∷ later)) (IsHeld t later) put keeps h.answers;
-      firsts = firsts_more (λ m. IsLive s m × (shuts_of u ≡ Some m → ⊥)) (IsLive t) later (λ m k. lives m k.0 k.1) h.firsts.1;
-      known = known_more s.given t.given later given h.known.1;
-    }
+    grind (arith, answers_more, firsts_more, known_more)
 
 -- its user makes a call
 pub timely_calls : (s t : State) (coming : List Value) (cs : List Connection) (put : List Value) → s.given ≤ t.given →
     ((m : ℕ) → IsLive s m → IsLive t m) → Timely s coming cs put → Timely t coming cs put
 timely_calls s t coming cs put given lives h =
     let keeps : (m : ℕ) → IsHeld s coming m → IsHeld t coming m = λ m k. (lives m k.0, k.1) in
-    record {
-      taps = λ p c at judged left right. keeps c.right.reference (h.taps p c at judged left right);
-      answers = answers_more (IsHeld s coming) (IsHeld t coming) put keeps h.answers;
-      firsts = firsts_more (IsLive s) (IsLive t) coming lives h.firsts;
-      known = known_more s.given t.given coming given h.known;
-    }
+    grind (arith, answers_more, firsts_more, known_more)
 
 -- units are put that are no CCs
 pub timely_puts : (end : State) (coming : List Value) (cs : List Connection) (put units : List Value) →
@@ -133,16 +121,8 @@ pub timely_comes : (end : State) (coming : List Value) (cs after : List Connecti
     ((p : ℕ) (c : Connection) → slice_get after p ≡ Some c → c.is_judged ≡ true → is_open c.left.phase ≡ true →
     is_open c.right.phase ≡ true → IsHeld end coming c.right.reference) → Timely end coming cs put → Timely end (coming ++ v ∷ []) after put
 timely_comes end coming cs after put v none no_dr taps h =
-    let keeps : (m : ℕ) → IsHeld end coming m → IsHeld end (coming ++ v ∷ []) m = λ m k. (
-      k.0,
-      none_add m coming v k.1 (λ e. cc (sym none ∙ e)),
-    ) in
-    record {
-      taps = λ p c at judged left right. keeps c.right.reference (taps p c at judged left right);
-      answers = answers_more (IsHeld end coming) (IsHeld end (coming ++ v ∷ [])) put keeps h.answers;
-      firsts = firsts_add (IsLive end) coming v h.firsts (λ n e. absurd (cc (sym no_dr ∙ e)));
-      known = all_add (IsKnown end.given) coming v h.known (λ m e. absurd (cc (sym none ∙ e)));
-    }
+    let keeps : (m : ℕ) → IsHeld end coming m → IsHeld end (coming ++ v ∷ []) m = grind (arith, none_add) in
+    grind (arith, answers_more, firsts_add, all_add)
 
 -- one that closes the connection with this reference
 pub timely_closes : (end : State) (coming : List Value) (cs after : List Connection) (put : List Value) (v : Value) (n : ℕ) →
@@ -153,15 +133,11 @@ pub timely_closes : (end : State) (coming : List Value) (cs after : List Connect
     AllByRecursion (Answers (λ m. m ≡ n → ⊥)) put →
     Timely end coming cs put → Timely end (coming ++ v ∷ []) after put
 timely_closes end coming cs after put v n shuts dr given taps others h =
-    let keeps : (m : ℕ) → IsHeld end coming m → (m ≡ n → ⊥) → IsHeld end (coming ++ v ∷ []) m = λ m k other. (
-      k.0,
-      none_add m coming v k.1 (λ e. other (grind arith)),
-    ) in
+    let keeps : (m : ℕ) → IsHeld end coming m → (m ≡ n → ⊥) → IsHeld end (coming ++ v ∷ []) m = grind (arith, none_add) in
     record {
       taps = λ p c at judged left right.
           let (held, other) = taps p c at judged left right in keeps c.right.reference held other;
       answers = answers_both (IsHeld end coming) (λ m. m ≡ n → ⊥) (IsHeld end (coming ++ v ∷ [])) put keeps h.answers others;
       firsts = firsts_add (IsLive end) coming v h.firsts (λ m e. dr m e);
-      known = all_add (IsKnown end.given) coming v h.known
-          (λ m e. subst (λ (i : ℕ). i ≤ end.given) (sym (grind arith)) given);
+      known = grind (arith, all_add);
     }

@@ -71,8 +71,7 @@ module _ (d : Direction) (r peer : ℕ) (cc_is : Value) (tap : Connection) where
         now = b.now;
         acts = a.acts ++ b.acts;
         put = b.put;
-        along = acts_join d r peer a.acts b.acts (without_cc tap more old) (without_cc tap a.now mid)
-            (without_cc tap b.now new) a.along b.along;
+        along = grind (arith, acts_join);
       }
 
 pub opened_later : (d : Direction) (r peer : ℕ) (link : Standing) (answer : Value) (tap : Connection) (acts : List Act) (course : Course)

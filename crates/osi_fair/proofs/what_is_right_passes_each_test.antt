@@ -1,7 +1,6 @@
 -- A unit is right exactly if it passes each test of its row.
 -- For all laws of this crate.
-use Rattle.osi_fair.proofs.Vocabulary.{arith}
-use Rattle.osi_fair.proofs.Vocabulary.{[], Bool, false, List, refl, true, ◌∷◌, ◌≡◌, not, ◌&&◌, first_failed, Test, Finding, Kept}
+use Rattle.osi_fair.proofs.Vocabulary.{arith, [], Bool, false, List, refl, true, ◌∷◌, ◌≡◌, not, ◌&&◌, first_failed, Test, Finding, Kept}
 
 abbrev pub AllPass : List Test → Type 0
 AllPass [] = Unit {0}

@@ -127,22 +127,13 @@ pub apart_opens : (cs : List Connection) (p : ℕ) (c : Connection) (after : Hal
     ((n i : ℕ) (e : Connection) → slice_get cs i ≡ Some e → (after.reference == n) ≡ true → uses Right n e ≡ false) →
     AreApart (set cs p (record c { right = after; size = size }))
 apart_opens cs p c after size a at s live m free = record {
-  sound = each_set SoundIf cs p (record c { right = after; size = size }) a.sound (λ j. record {
-    left_knows = earlier_moves c.seen_by_left c.right c.seen_by_right after s.left_knows m;
-    right_knows = s.right_knows;
-    left_closed = λ k. still_closing c.right c.seen_by_right after m (s.left_closed k);
-    right_closed = λ k. closed_by c.right c.seen_by_right c.left after m s.right_knows s.right_closed k;
-  });
+  sound = each_set SoundIf cs p (record c { right = after; size = size }) a.sound (grind (arith, earlier_moves, still_closing, closed_by));
   used_left = λ n. one_changed (uses Left n) cs p (record c { right = after; size = size }) c (a.used_left n) at (λ j h. (j, h));
   used_right = λ n. one_put (uses Right n) cs p (record c { right = after; size = size }) (a.used_right n)
       (λ i e there je fe j h. differ (uses Right n e) fe (free n i e there (grind arith)));
   named_left = λ n. one_changed (is_named Left n) cs p (record c { right = after; size = size }) c (a.named_left n) at (λ j h. (j, h));
   named_right = λ n. one_changed (is_named Right n) cs p (record c { right = after; size = size }) c (a.named_right n) at
-      (λ j h. (
-        j,
-        named_judged c.is_judged c.right c.seen_by_right n j
-            (named_still c.right c.seen_by_right after n live (judged_named c.is_judged after c.seen_by_right n j h)),
-      ));
+      (grind (arith, named_judged, named_still, judged_named));
 }
 
 -- ---- a new connection

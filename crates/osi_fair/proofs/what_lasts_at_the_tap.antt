@@ -1,10 +1,9 @@
 -- What is known at the tap stays known as more passes: that class 2 holds; and what is judged was judged before.
 -- For the law on requests.
-use Rattle.osi_fair.proofs.Vocabulary.{arith, Bool, false, if◌then◌else◌, Option, Some, true, ℕ, ◌≡◌, confirm, Connect, disconnect, request}
-use Rattle.osi_fair.proofs.Vocabulary.{Value, Two, is_applied, reach_of, asks_of, at_place, class_for, class_of, course_after}
-use Rattle.osi_fair.proofs.Vocabulary.{course_after_none, course_begins, found, found_on, none_told, Outcome, reached, routed}
-use Rattle.osi_fair.proofs.Vocabulary.{Traffic as State, unnamed_told, Connection, Course, Direction, Right, Finding, NotJudged, Reach}
-use Rattle.osi_fair.proofs.Vocabulary.{Route, passes, Passing, noted}
+use Rattle.osi_fair.proofs.Vocabulary.{arith, Bool, false, if◌then◌else◌, Some, true, ℕ, ◌≡◌, confirm, Connect, disconnect, request, Value}
+use Rattle.osi_fair.proofs.Vocabulary.{Two, is_applied, reach_of, asks_of, class_for, course_after, course_after_none, course_begins}
+use Rattle.osi_fair.proofs.Vocabulary.{found_on, none_told, Outcome, reached, routed, Traffic as State, unnamed_told, Connection, Course}
+use Rattle.osi_fair.proofs.Vocabulary.{Direction, Finding, NotJudged, Reach, Route, passes, Passing, noted}
 use Rattle.osi_rules.specs.declared.findings.Rule.TheVariants as rule
 use Rattle.osi_fair.proofs.small_facts_that_many_lemmas_use.{or_left}
 use Rattle.osi_fair.proofs.a_reference_names_one_connection.{applied_found}
@@ -36,14 +35,10 @@ lasts_none v o = search (arith, lasts_same)
 
 -- ---- a CC that is right selects class 2 again
 
-selects_two : (course : Course) (c : Connection) (in_use : Bool) (destination : ℕ) (x : Connect) → course.class ≡ Some Two →
-    is_applied (found Right course in_use c (confirm destination x)) ≡ true → class_of x ≡ Two
-selects_two course c in_use destination x two h = grind arith
-
 lasts_confirmed : (d : Direction) (s : State) (c : Connection) (destination : ℕ) (x : Connect) (applied : Bool) →
     is_applied (found_on d s c (confirm destination x)) ≡ applied →
     Lasts s.course (course_after d c (confirm destination x) applied s.course)
-lasts_confirmed d s c destination x applied h = search (arith, lasts_same, applied_found, selects_two)
+lasts_confirmed d s c destination x applied h = search (arith, lasts_same, applied_found)
 
 lasts_after : (d : Direction) (s : State) (c : Connection) (v : Value) →
     Lasts s.course (course_after d c v (is_applied (found_on d s c v)) s.course)
@@ -68,9 +63,6 @@ pub one_lasts : (d : Direction) (s : State) (c : Connection) (v : Value) →
     Lasts s.course (noted d f (reached d (reach_of (class_for d s.course) f) (course_after d c v (is_applied f) s.course))))
 one_lasts d s c v = search (arith, lasts_then, lasts_told, lasts_after d s c v)
 
-to_place : (d : Direction) (v : Value) (s : State) (p : Option ℕ) → After s (at_place d v s p)
-to_place d v s p = grind (arith, to_unnamed, one_lasts)
-
 asks : (d : Direction) (v : Value) (s : State) → After s (asks_of d v s)
 asks d (request x) s = grind (arith, lasts_same, to_none)
 asks d _ s = to_none d NotJudged s
@@ -78,7 +70,7 @@ asks d _ s = to_none d NotJudged s
 if_judged : (stopped : Bool) (d : Direction) (v : Value) (s : State) (r : Route) →
     After s (if stopped then none_told d NotJudged s else routed d v s r)
 if_judged true d v s r = to_none d NotJudged s
-if_judged false d v s r = grind (arith, asks, to_place, to_none)
+if_judged false d v s r = grind (arith, asks, to_unnamed, one_lasts, to_none)
 
 begun : (d : Direction) (c : Course) → Lasts c (course_begins d c)
 begun d c = grind (arith, lasts_same)

@@ -1,10 +1,9 @@
 -- A unit of the other side passes, whatever it is: either what holds of the line still holds, or its connection is not judged
 -- any more.
 -- For the laws on a line.
-use Rattle.osi_fair.proofs.Vocabulary.{[], arith, Bool, List, None, Option, refl, Some, true, ℕ, ◌%◌, ◌++◌, ◌+◌, ◌<◌, ◌∷◌, ◌≡◌, ◌≤◌}
-use Rattle.osi_fair.proofs.Vocabulary.{leb-true, ltb-true, acknowledge, data2, Value, Standing, has_passed, is_tellable, keeps_credit}
-use Rattle.osi_fair.proofs.Vocabulary.{steps_from, is_closing, is_open, half_after, sent_on, Connection, Left, Right, Half, Phase, IsLater}
-use Rattle.osi_fair.proofs.Vocabulary.{IsRightNow}
+use Rattle.osi_fair.proofs.Vocabulary.{[], arith, Bool, List, None, Option, Some, true, ℕ, ◌%◌, ◌++◌, ◌+◌, ◌<◌, ◌∷◌, ◌≡◌, ◌≤◌, leb-true}
+use Rattle.osi_fair.proofs.Vocabulary.{ltb-true, acknowledge, data2, Value, Standing, has_passed, is_tellable, keeps_credit, steps_from}
+use Rattle.osi_fair.proofs.Vocabulary.{is_closing, is_open, half_after, sent_on, Connection, Left, Right, Half, Phase, IsLater, IsRightNow}
 use Rattle.osi_fair.proofs.what_was_right_stays_right.{passed_stays}
 use Rattle.osi_fair.proofs.units_in_flight.{Came, Comes, HasMoreCome, comes_more, puts_still}
 use Rattle.osi_fair.proofs.what_holds_of_a_line.{Tally, Ordered, PutsAt, TakesAt, came_of, is_there, tapped}
@@ -57,8 +56,7 @@ module _ (r peer limit : ℕ) (x : Tally) (noted : ℕ) (tap : Connection) (put 
         expected = h.expected;
         waiting = h.waiting;
         credit = h.credit;
-        comes = comes_more (came_of x tap.right) (came_of (record x { came = came; heard = heard; edge = edge }) later) (unit ∷ [])
-            more base h.taken h.known coming h.comes;
+        comes = search (arith, comes_more, came_of);
       }
 
   goes_later : (came heard edge : ℕ) (later : Half) (unit : Value) → IsLater tap.left tap.right later →
@@ -84,19 +82,7 @@ module _ (r peer limit : ℕ) (x : Tally) (noted : ℕ) (tap : Connection) (put 
       goes_later (x.came + 1) x.heard x.edge (half_after (data2 destination number end user) tap.right) (data2 destination number end user)
       (record { next = omega arith; awaited = omega arith; credit = omega arith; closing = λ c. c })
       (omega (arith, o))
-      (record {
-        next = t.next;
-        awaited = t.awaited;
-        credit = t.credit;
-        their_next = omega arith;
-        their_awaited = t.their_awaited;
-        their_edge = t.their_edge;
-        known_next = t.known_next;
-        own_reference = t.own_reference;
-        reference = t.reference;
-        there = t.there;
-        fits = t.fits;
-      })
+      (grind arith)
       (record { came = omega arith; heard = omega arith; edge = omega arith; closing = λ c. c })
       (λ taken known c h live. (omega arith, h, live))
 
@@ -121,19 +107,7 @@ module _ (r peer limit : ℕ) (x : Tally) (noted : ℕ) (tap : Connection) (put 
       (acknowledge credit destination number)
       (record { next = omega arith; awaited = later; credit = room; closing = λ c. c })
       (omega (arith, o))
-      (record {
-        next = t.next;
-        awaited = t.awaited;
-        credit = t.credit;
-        their_next = t.their_next;
-        their_awaited = is;
-        their_edge = refl;
-        known_next = t.known_next;
-        own_reference = t.own_reference;
-        reference = t.reference;
-        there = t.there;
-        fits = t.fits;
-      })
+      (grind arith)
       (record { came = omega arith; heard = omega arith; edge = omega arith; closing = λ c. c })
       (λ taken known c h live. (heard, is, little, omega arith, omega arith, (c, omega arith, live)))
 
@@ -146,18 +120,6 @@ module _ (r peer limit : ℕ) (x : Tally) (noted : ℕ) (tap : Connection) (put 
       goes_later x.came x.heard x.edge (record tap.right { phase = phase }) unit
       (record { next = omega arith; awaited = omega arith; credit = omega arith; closing = closing })
       (omega (arith, o))
-      (record {
-        next = t.next;
-        awaited = t.awaited;
-        credit = t.credit;
-        their_next = t.their_next;
-        their_awaited = t.their_awaited;
-        their_edge = t.their_edge;
-        known_next = t.known_next;
-        own_reference = t.own_reference;
-        reference = t.reference;
-        there = there;
-        fits = t.fits;
-      })
+      (grind arith)
       (record { came = omega arith; heard = omega arith; edge = omega arith; closing = closing })
       base

@@ -1,11 +1,10 @@
 -- What stays of each connection at the tap of a calling end as units pass: its reference, and that no other has it.
 -- For the law on DRs.
 use Rattle.osi_fair.proofs.Vocabulary.{arith, Bool, false, if◌then◌else◌, List, None, Option, refl, set, Some, true, ℕ, ◌<◌, ◌∙◌, ◌≡◌, ◌⊎◌}
-use Rattle.osi_fair.proofs.Vocabulary.{position, slice_get, ◌&&◌, ◌||◌, confirm, Connect, request, Value, is_applied, reach_of}
-use Rattle.osi_fair.proofs.Vocabulary.{first_failed, is_live, is_named, is_open, is_refused, is_silent, asked_by, asks_by, asks_of}
-use Rattle.osi_fair.proofs.Vocabulary.{at_found, at_place, class_for, closing_phase, connection_after, found_on, half_after, judged_on}
-use Rattle.osi_fair.proofs.Vocabulary.{none_told, Outcome, request_tests, route, routed, sent_on, Traffic as State, takes, Connection}
-use Rattle.osi_fair.proofs.Vocabulary.{Direction, Left, Right, Finding, Kept, NotJudged, Reach, Half, Route, Asks, Named, Only, Unnamed}
+use Rattle.osi_fair.proofs.Vocabulary.{position, slice_get, ◌&&◌, ◌||◌, confirm, request, Value, is_applied, reach_of, is_live, is_named}
+use Rattle.osi_fair.proofs.Vocabulary.{is_open, is_refused, is_silent, asked_by, asks_of, at_found, at_place, class_for, connection_after}
+use Rattle.osi_fair.proofs.Vocabulary.{found_on, half_after, judged_on, none_told, Outcome, route, routed, sent_on, Traffic as State, takes}
+use Rattle.osi_fair.proofs.Vocabulary.{Connection, Direction, Left, Right, NotJudged, Reach, Half, Route, Asks, Named, Only, Unnamed}
 use Rattle.osi_rules.specs.declared.findings.Rule.TheVariants as rule
 use Rattle.osi_fair.proofs.small_facts_that_many_lemmas_use.{sized_judged}
 use Rattle.osi_fair.proofs.what_holds_of_one_item.{HoldsOfEach, after_add, after_set, each_add, each_set}
@@ -53,16 +52,9 @@ IsLively L c = c.is_judged ≡ true → is_there c.left c.right ≡ true → L c
 
 -- ---- a unit of left
 
-closing_started : (was : Bool) (half : Half) → was ≡ false →
-    (is_silent (closing_phase was half).phase || is_refused (closing_phase was half).phase) ≡ false
-closing_started was half h = grind arith
-
 -- of the half of left
 abbrev Started : Half → Type 0
 Started half = (is_silent half.phase || is_refused half.phase) ≡ false
-
-closing_there : (was : Bool) (half theirs : Half) → is_there (closing_phase was half) theirs ≡ true → is_there half theirs ≡ true
-closing_there was half theirs h = grind arith
 
 -- what stays of a connection after a unit
 pub record Stays (c e : Connection) : Type 0 where
@@ -120,24 +112,16 @@ module _ (P : Connection → Type 0) where
   to_one d v s p None at k h a = (h, a)
   to_one d v s p (Some c) at k h a =
       let how_far = reach_of (class_for d s.course) (found_on d s c v) in
-      let after = connection_after d v (is_applied (found_on d s c v)) how_far c in (
-        each_set P s.connections p after h (k c (h p c at) how_far),
-        distinct_set s.connections p c after a at (stays_by d s v how_far c).reference,
-      )
+      search (arith, each_set, distinct_set, stays_by d s v how_far c)
 
   to_place : (d : Direction) (v : Value) (s : State) (p : Option ℕ) → StaysAfter d v s →
       HoldsOfEach P s.connections → AreDistinct s.connections → AllSo (at_place d v s p)
   to_place d v s None k h a = (h, a)
   to_place d v s (Some p) k h a = to_one d v s p (slice_get s.connections p) refl k h a
 
-  asking : (f : Finding) (x : Connect) (s : State) → P (asked_by x) → IsAbove x.source s.connections →
-      HoldsOfEach P s.connections → AreDistinct s.connections → AllSo (asks_by Left f x s)
-  asking Kept x s new above h a = grind (arith, each_set, distinct_new, after_set, each_add, after_add)
-  asking _ x s new above h a = (h, a)
-
   asks : (v : Value) (s : State) → IfAsked P s.connections v → HoldsOfEach P s.connections → AreDistinct s.connections →
       AllSo (asks_of Left v s)
-  asks (request x) s (new, above) h a = asking (first_failed (request_tests s x)) x s new above h a
+  asks (request x) s (new, above) h a = grind (arith, each_set, distinct_new, after_set, each_add, after_add)
   asks (confirm destination x) s new h a = (h, a)
   asks _ s new h a = (h, a)
 

@@ -1,13 +1,13 @@
 -- What the other side closes at the tap of a calling end: if a DR closed something, the end had the connection open there.
 -- For the law on DRs.
-use Rattle.osi_fair.proofs.Vocabulary.{arith, [], ap, Bool, false, if◌then◌else◌, inl, inr, List, None, Option, refl, set, Some, subst, sym}
-use Rattle.osi_fair.proofs.Vocabulary.{true, ℕ, ◌∙◌, ◌∷◌, ◌≡◌, ◌⊎◌, eqb-true, not, position, slice_get, ◌&&◌, ◌==◌, ◌||◌, acknowledge}
-use Rattle.osi_fair.proofs.Vocabulary.{confirm, Connect, data2, disconnect, disconnected, error, Value, Class, Two, Zero, is_applied}
-use Rattle.osi_fair.proofs.Vocabulary.{is_of_connection, passes_over, reach_by, reach_of, first_failed, is_closed, is_closing, is_named}
-use Rattle.osi_fair.proofs.Vocabulary.{is_open, is_refused, is_silent, at_found, at_place, class_for, connection_after, course_after, found}
-use Rattle.osi_fair.proofs.Vocabulary.{found_on, half_after, is_stray, none_told, one_told, Outcome, reached, route, route_in, routed}
-use Rattle.osi_fair.proofs.Vocabulary.{Traffic as State, takes, unnamed_by, unnamed_told, uses_source, Connection, Course, Right, Finding}
-use Rattle.osi_fair.proofs.Vocabulary.{Broke, NotJudged, TooMany, Reach, Rule, Half, Phase, noted}
+use Rattle.osi_fair.proofs.Vocabulary.{arith, ap, Bool, false, if◌then◌else◌, inl, inr, List, None, Option, refl, set, Some, subst, sym}
+use Rattle.osi_fair.proofs.Vocabulary.{true, ℕ, ◌≡◌, ◌⊎◌, eqb-true, not, position, slice_get, ◌&&◌, ◌==◌, ◌||◌, acknowledge, confirm}
+use Rattle.osi_fair.proofs.Vocabulary.{Connect, data2, disconnect, disconnected, error, Value, Class, Two, Zero, is_applied}
+use Rattle.osi_fair.proofs.Vocabulary.{is_of_connection, passes_over, reach_of, is_closed, is_closing, is_named, is_open, is_refused}
+use Rattle.osi_fair.proofs.Vocabulary.{is_silent, at_found, at_place, class_for, connection_after, course_after, found, found_on}
+use Rattle.osi_fair.proofs.Vocabulary.{half_after, is_stray, one_told, Outcome, reached, route_in, routed, Traffic as State, takes}
+use Rattle.osi_fair.proofs.Vocabulary.{unnamed_told, uses_source, Connection, Course, Right, Finding, Broke, NotJudged, TooMany, Reach}
+use Rattle.osi_fair.proofs.Vocabulary.{Rule, Half, Phase, noted}
 use Rattle.osi_rules.specs.declared.findings.Reach.TheVariants as reach
 use Rattle.osi_rules.specs.declared.findings.Rule.TheVariants as rule
 use Rattle.osi_fair.proofs.small_facts_that_many_lemmas_use.{both, closing_shuts, differ, not_not, or_last, or_left, or_right}
@@ -74,14 +74,10 @@ pub data Came (L : ℕ → Type 0) (v : Value) (s t : State) : Type 0 where
 
 -- ---- what is wrong is not calm, or its connection is not judged any more
 
-soft_by : (k : Option Class) (one : Bool) (c : Course) → IsCalm (reached Right (reach_by k one) c) →
-    (reach_by k one ≡ reach.Connection) × (one ≡ true)
-soft_by k one c h = grind (arith, differ)
-
 -- a break that the taker looks at
 pub soft : (k : Option Class) (r : Rule) (c : Course) → passes_over r ≡ false → IsCalm (reached Right (reach_of k (Broke r)) c) →
     (reach_of k (Broke r) ≡ reach.Connection) × (is_of_connection r ≡ true)
-soft k r c e h = grind (arith, differ, soft_by)
+soft k r c e h = grind (arith, differ)
 
 pub not_calm : {A : Type 0} (k : Option Class) (r : Rule) (c : Course) → passes_over r ≡ false → is_of_connection r ≡ false →
     IsCalm (reached Right (reach_of k (Broke r)) c) → A
@@ -90,13 +86,9 @@ not_calm k r c e f h = differ (is_of_connection r) (soft k r c e h).1 f
 pub doubt_not_calm : {A : Type 0} (k : Option Class) (c : Course) → IsCalm (reached Right (reach_of k TooMany) c) → A
 doubt_not_calm k c h = differ true refl h.left
 
-pub unknown_not : {A : Type 0} (v : Value) (s : State) → unnamed_by s.course.strays v ≡ Broke rule.UnknownReference →
-    s.course.left_erred ≡ false → IsCalm (unnamed_told Right v s).state.course → A
-unknown_not v s is fine h = grind (arith, calm_noted)
-
 none_bad : {A : Type 0} (v : Value) (s : State) → s.course.strays ≡ false → s.course.left_erred ≡ false →
     IsPlain (unnamed_told Right v s).state.course → A
-none_bad v s plain fine h = search (arith, unknown_not, calm_of)
+none_bad v s plain fine h = search (arith, calm_of)
 
 reached_plain : (r : Reach) (c : Course) → (reached Right r c).strays ≡ false → c.strays ≡ false
 reached_plain r c h = grind arith
@@ -157,51 +149,36 @@ module _ (L : ℕ → Type 0) (s : State) (q : ℕ) (c : Connection) (at : slice
     lost_found : (v : Value) → finding v ≡ NotJudged
     lost_found v = ap (λ (b : Bool). if b then found Right s.course (uses_source Right s.connections v) c v else NotJudged) lost
 
-    lost_after : (v : Value) → after v ≡ c
-    lost_after v = ap (λ (f : Finding). connection_after Right v (is_applied f) (reach_of (class_for Right s.course) f) c) (lost_found v)
-
     lost_came : (v : Value) → ((n : ℕ) → closed_by v ≡ Some n → c.left.reference ≡ n) → Told v
     lost_came (disconnect destination source reason user) is h = grind (arith, reached_plain, differ, or_last, lost_found)
     lost_came (disconnected destination source) is h =
         lost_closed (disconnected destination source) destination refl (is destination refl) (λ dr. dr)
-        (grind (arith, lost_after))
+        (grind arith)
     lost_came (error destination cause) is h =
-        lost_closed (error destination cause) destination refl (is destination refl) (λ dr. dr) (grind (arith, lost_after))
-    lost_came v is h = stays refl (lost_lively v (grind (arith, lost_after)))
+        lost_closed (error destination cause) destination refl (is destination refl) (λ dr. dr) (grind arith)
+    lost_came v is h = stays refl (lost_lively v (grind arith))
 
   -- ---- one that is judged
 
   module _ (judged : c.is_judged ≡ true) where
-    -- the half of right after it
-    right_by : (v : Value) (b : Bool) → is_applied (finding v) ≡ b → (after v).right ≡ (if b then half_after v c.right else c.right)
-    right_by v b e = grind (arith, right_own, right_judged)
-
     -- if it closes nothing
     abbrev Before : Value → Type 0
     Before v = is_there (after v).left (after v).right ≡ true → is_there c.left c.right ≡ true
 
     all_lively : (v : Value) → Before v → HoldsOfEach (IsLively L) (set s.connections q (after v))
     all_lively v h = each_set (IsLively L) s.connections q (after v) lively
-        (λ j there. subst L (sym (ap (λ (x : Half). x.reference) (left_then v (is_applied (finding v)) (how_far v) c)))
-        (lively q c at judged (h there)))
-
-    before_more : (v : Value) (b : Bool) → is_applied (finding v) ≡ b →
-        (is_applied (finding v) ≡ true → is_there c.left (half_after v c.right) ≡ true → is_there c.left c.right ≡ true) →
-        is_there c.left (if b then half_after v c.right else c.right) ≡ true → is_there c.left c.right ≡ true
-    before_more v b e k there = grind arith
+        (grind (arith, left_then))
 
     same_phase : (v : Value) → (half_after v c.right).phase ≡ c.right.phase → Before v
     same_phase v e = search arith
 
     confirms : (destination : ℕ) (x : Connect) → Before (confirm destination x)
-    confirms destination x =
-        let v = confirm destination x in
-        grind (arith, before_more, right_by, left_then)
+    confirms destination x = grind (arith, left_then)
 
     -- if it closes the connection
     ended_there : (v : Value) → is_applied (finding v) ≡ true → is_silent (half_after v c.right).phase ≡ false →
         is_open (half_after v c.right).phase ≡ false → is_there (after v).left (after v).right ≡ true → ⊥
-    ended_there v e a b there = search (arith, there_not, right_by)
+    ended_there v e a b there = grind (arith, there_not, right_own, right_judged)
 
     closed_so : (v : Value) (n : ℕ) → closed_by v ≡ Some n → c.left.reference ≡ n → is_applied (finding v) ≡ true →
         is_silent (half_after v c.right).phase ≡ false → is_open (half_after v c.right).phase ≡ false → (IsDr v → L n) →
@@ -220,15 +197,12 @@ module _ (L : ℕ → Type 0) (s : State) (q : ℕ) (c : Connection) (at : slice
         let so = reached_plain (how_far v) (course_after Right c v (is_applied (finding v)) s.course) h.strays in
         let stray = or_right (not (is_applied (finding v))) (is_stray Right c source)
         (or_right s.course.strays (not (is_applied (finding v)) || is_stray Right c source) so) in
-        let opened = not_not (is_open c.right.phase) (or_left (not (is_open c.right.phase)) (not (source == c.right.reference)
-        || is_closing c.left.phase) stray) in
-        let first = or_right (not (source == c.right.reference)) (is_closing c.left.phase) (or_right (not (is_open c.right.phase))
-        (not (source == c.right.reference) || is_closing c.left.phase) stray) in
+        let opened = not_not (is_open c.right.phase) (grind (arith, or_left)) in
+        let first = or_right (not (source == c.right.reference)) (is_closing c.left.phase) (grind (arith, or_right)) in
         let mine = still_open c.left.phase c.right.phase started first sound.left_closed opened in
         closed_so v destination refl is e (grind arith)
         (closing_shuts (is_silent c.right.phase) c.right)
-        (λ dr. subst L is (lively q c at judged (both (is_open c.left.phase) (is_silent c.right.phase || is_open c.right.phase) mine
-        (or_last (is_silent c.right.phase) (is_open c.right.phase) opened))))
+        (grind (arith, both, or_last))
 
     -- what breaks a rule, and is not passed over: the connection is not judged any more
     wrong_lost : (v : Value) (r : Rule) → finding v ≡ Broke r → passes_over r ≡ false → IsPlain (course v) → (after v).is_judged ≡ false
@@ -240,13 +214,6 @@ module _ (L : ℕ → Type 0) (s : State) (q : ℕ) (c : Connection) (at : slice
     abbrev IsBad : Finding → Type 0
     IsBad f = (r : Rule) × (f ≡ Broke r) × (passes_over r ≡ false)
 
-    dc_by : (due told strays : Bool) → strays ≡ false →
-        (is_applied (first_failed ((due || not strays, NotJudged) ∷ (told, Broke rule.UnknownReference)
-        ∷ (due, Broke rule.NothingToAnswer) ∷ [])) ≡ true)
-        ⊎ (IsBad (first_failed ((due || not strays, NotJudged) ∷ (told, Broke rule.UnknownReference) ∷ (due, Broke rule.NothingToAnswer)
-        ∷ [])))
-    dc_by due told strays h = grind arith
-
     answers_by : (destination source : ℕ) → c.left.reference ≡ destination →
         (is_applied (finding (disconnected destination source)) ≡ true)
         ⊎ (IsBad (finding (disconnected destination source))) → IsPlain (course (disconnected destination source)) →
@@ -257,14 +224,9 @@ module _ (L : ℕ → Type 0) (s : State) (q : ℕ) (c : Connection) (at : slice
 
     dc_found : (destination source : ℕ) → (is_applied (finding (disconnected destination source)) ≡ true)
         ⊎ (IsBad (finding (disconnected destination source)))
-    dc_found destination source = grind (arith, dc_by)
+    dc_found destination source = grind arith
 
     -- ---- an ER
-
-    er_by : (silent erred : Bool) → erred ≡ false →
-        (is_applied (first_failed ((silent || not erred, NotJudged) ∷ (silent, Broke rule.WrongForm) ∷ [])) ≡ true)
-        ⊎ (first_failed ((silent || not erred, NotJudged) ∷ (silent, Broke rule.WrongForm) ∷ []) ≡ Broke rule.WrongForm)
-    er_by silent erred h = grind arith
 
     refuses_by : (destination cause : ℕ) → c.left.reference ≡ destination → (is_applied (finding (error destination cause)) ≡ true)
         ⊎ (finding (error destination cause) ≡ Broke rule.WrongForm) → IsPlain (course (error destination cause)) →
@@ -274,7 +236,7 @@ module _ (L : ℕ → Type 0) (s : State) (q : ℕ) (c : Connection) (at : slice
 
     er_found : (destination cause : ℕ) → (is_applied (finding (error destination cause)) ≡ true)
         ⊎ (finding (error destination cause) ≡ Broke rule.WrongForm)
-    er_found destination cause = grind (arith, er_by)
+    er_found destination cause = grind arith
 
     -- ---- any
 
@@ -368,8 +330,5 @@ module _ (L : ℕ → Type 0) (s : State) (sane : IsSane s) (peers : AreNamedApa
 
   pub what_came : (v : Value) → IsPlain (takes Right v s).state.course → Came L v s (takes Right v s).state
   what_came v =
-      let so : takes Right v s ≡ routed Right v s (route_in s.course.class Right false v) =
-      ap (λ (b : Bool). if b then none_told Right NotJudged s else routed Right v s (route Right s.course v)) before.right
-      ∙ ap (λ (b : Bool). routed Right v s (route_in s.course.class Right b v))
-      (grind arith) in
+      let so : takes Right v s ≡ routed Right v s (route_in s.course.class Right false v) = grind arith in
       subst (Comes v) (sym so) (by_class s.course.class refl v)

@@ -1,29 +1,20 @@
 -- What was right stays right if more of the other side has passed: row by row.
 -- For the law of that name.
-use Rattle.osi_fair.proofs.Vocabulary.{arith, Bool, length, nat_lt, true, ℕ, ◌+◌, ◌≡◌, ◌≤◌, le-leb, leb-true, lt-ltb, ltb-true, nat_le}
-use Rattle.osi_fair.proofs.Vocabulary.{◌&&◌, acknowledge, data2, disconnected, Value, data2_tests, first_failed, steps_from, other, own}
-use Rattle.osi_fair.proofs.Vocabulary.{seen, theirs, found, Connection, Course, Direction, Left, Right, Kept, Half, IsLater, knows}
+use Rattle.osi_fair.proofs.Vocabulary.{arith, Bool, length, nat_lt, true, ℕ, ◌≡◌, lt-ltb, ltb-true, ◌&&◌, acknowledge, data2, disconnected}
+use Rattle.osi_fair.proofs.Vocabulary.{Value, data2_tests, first_failed, steps_from, other, own, seen, theirs, found, Connection, Course}
+use Rattle.osi_fair.proofs.Vocabulary.{Direction, Left, Right, Kept, Half, IsLater, knows}
 use Rattle.osi_rules.specs.Sides.{sends}
 use Rattle.osi_fair.proofs.what_is_right_passes_each_test.{passes_each, is_right}
 
--- the steps to a number within a way are those of the first part and those of the rest
-pub way_parts : (x y z : ℕ) → steps_from x y ≤ steps_from x z → steps_from x z ≡ steps_from x y + steps_from y z
-way_parts x y z h = omega arith
-
 telling_stays : (mine e l : Half) → IsLater mine e l → nat_lt (steps_from e.awaited mine.next) 127 ≡ true →
     nat_lt (steps_from l.awaited mine.next) 127 ≡ true
-telling_stays mine e l h k = grind (arith, way_parts, ltb-true, lt-ltb)
-
-passing_stays : (mine e l : Half) (number : ℕ) → IsLater mine e l →
-    nat_le (steps_from mine.awaited number) (steps_from mine.awaited e.next) ≡ true →
-    nat_le (steps_from mine.awaited number) (steps_from mine.awaited l.next) ≡ true
-passing_stays mine e l number h k = grind (arith, leb-true, le-leb)
+telling_stays mine e l h k = grind (arith, ltb-true, lt-ltb)
 
 -- ---- what the side knows when its packet begins
 
 data_known : (d : Direction) (c : Connection) (later : Half) (number octets : ℕ) → IsLater (own d c) (seen d c) later →
     first_failed (data2_tests d c number octets) ≡ Kept → first_failed (data2_tests d (knows d later c) number octets) ≡ Kept
-data_known d c later number octets h e = grind (arith, passes_each, way_parts, ltb-true, lt-ltb, is_right)
+data_known d c later number octets h e = grind (arith, passes_each, ltb-true, lt-ltb, is_right)
 
 -- ---- a DC, which is due
 
@@ -31,19 +22,17 @@ due_stays : (live before after mine : Bool) → (before ≡ true → after ≡ t
     (live && (after && mine)) ≡ true
 due_stays live before after mine more h = grind arith
 
--- ---- what has passed of the other side since then
-
 -- ---- each kind of unit
 
 pub known_stays : (d : Direction) (course : Course) (in_use : Bool) (c : Connection) (later : Half) (v : Value) →
     IsLater (own d c) (seen d c) later → found d course in_use c v ≡ Kept → found d course in_use (knows d later c) v ≡ Kept
 known_stays Left course in_use c later (disconnected destination source) h e = grind arith
 known_stays Left course in_use c later (data2 destination number end user) h e = data_known Left c later number (length user) h e
-known_stays Left course in_use c later (acknowledge credit destination number) h e = grind (arith, passes_each, is_right, passing_stays)
+known_stays Left course in_use c later (acknowledge credit destination number) h e = grind (arith, passes_each, is_right)
 known_stays Left course in_use c later _ h e = e
 known_stays Right course in_use c later (disconnected destination source) h e = grind arith
 known_stays Right course in_use c later (data2 destination number end user) h e = data_known Right c later number (length user) h e
-known_stays Right course in_use c later (acknowledge credit destination number) h e = grind (arith, passes_each, is_right, passing_stays)
+known_stays Right course in_use c later (acknowledge credit destination number) h e = grind (arith, passes_each, is_right)
 known_stays Right course in_use c later _ h e = e
 
 pub passed_stays : (d : Direction) (course : Course) (in_use : Bool) (c : Connection) (later : Half) (v : Value) →

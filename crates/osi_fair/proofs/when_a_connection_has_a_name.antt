@@ -1,8 +1,7 @@
 -- When a reference names a connection, or is in use for it, after its sides have sent more: by the phases of the sides.
 -- For the law on references.
-use Rattle.osi_fair.proofs.Vocabulary.{arith}
-use Rattle.osi_fair.proofs.Vocabulary.{Bool, false, refl, true, ℕ, ◌≡◌, ◌⊎◌, not, ◌&&◌, ◌==◌, ◌||◌, is_closed}
-use Rattle.osi_fair.proofs.Vocabulary.{is_closing, is_open, is_over_by, is_refused, is_silent, Half, Phase}
+use Rattle.osi_fair.proofs.Vocabulary.{arith, Bool, false, refl, true, ℕ, ◌≡◌, ◌⊎◌, not, ◌&&◌, ◌==◌, ◌||◌, is_closed, is_closing, is_open}
+use Rattle.osi_fair.proofs.Vocabulary.{is_over_by, is_refused, is_silent, Half, Phase}
 use Rattle.osi_fair.proofs.small_facts_that_many_lemmas_use.{differ}
 
 -- what was known of a side, and what it has sent since
@@ -30,12 +29,6 @@ over_closed p q h = grind arith
 over_closing : (p q : Phase) → is_closing p ≡ true → (is_closing q || is_closed q) ≡ true → over_phase p q ≡ true
 over_closing p q h k = grind (arith, over_closed)
 
--- a connection that is not over for a side which knows all of the other is not over for the other
-pub over_other : (p q k : Phase) → over_phase p q ≡ false → (is_refused k ≡ true → is_refused p ≡ true) →
-    (is_closing k ≡ true → is_closing p ≡ true) → (is_closed k ≡ true → is_closed p ≡ true) →
-    (is_closed q ≡ true → is_closing p ≡ true) → over_phase q k ≡ false
-over_other p v k h a b c d = grind (arith, differ, over_known, over_closing, over_closed)
-
 -- ---- named, and in use
 
 -- a reference names a connection that is judged or not (`j`), for a side that has sent `mine` and knows `known`
@@ -55,7 +48,7 @@ three_make a b c h k m = rw (h, k, m) refl
 pub named_is_used : (mine theirs known : Half) (n : ℕ) → IsEarlier known mine → (is_closed theirs.phase ≡ true →
     is_closing mine.phase ≡ true) →
     named_by true mine theirs n ≡ true → used_by true theirs known n ≡ true
-named_is_used mine theirs known n e closed h = grind (arith, three, three_make, over_other)
+named_is_used mine theirs known n e closed h = grind (arith, three, three_make)
 
 -- what is in use as its packet begins was in use before
 pub used_before : (mine seen theirs : Half) (n : ℕ) → IsEarlier seen theirs → used_by true mine theirs n ≡ true →
@@ -82,12 +75,7 @@ pub named_still : (mine seen after : Half) (n : ℕ) → is_over_by mine seen �
     named_by true mine seen n ≡ true
 named_still mine seen after n live h = grind (arith, three, three_make)
 
-used_by_phase : (mine seen after : Half) (n : ℕ) (silent : Bool) → is_silent mine.phase ≡ silent → is_over_by mine seen ≡ false →
-    HalfMoves mine seen after → (is_silent mine.phase ≡ true → (is_silent after.phase || is_refused after.phase) ≡ true) →
-    used_by true after seen n ≡ true → used_by true mine seen n ≡ true
-used_by_phase mine seen after n silent is live m k h = grind (arith, three, differ, three_make)
-
 pub used_still : (mine seen after : Half) (n : ℕ) → is_over_by mine seen ≡ false → HalfMoves mine seen after →
     (is_silent mine.phase ≡ true → (is_silent after.phase || is_refused after.phase) ≡ true) →
     used_by true after seen n ≡ true → used_by true mine seen n ≡ true
-used_still mine seen after n live m silent h = used_by_phase mine seen after n (is_silent mine.phase) refl live m silent h
+used_still mine seen after n live m silent h = grind (arith, three, differ, three_make)

@@ -1,8 +1,8 @@
 -- After a DR no DC is blamed, unless the DR just closes an open connection that is judged.
 -- For the law on answers without an open connection.
 use Rattle.osi_fair.proofs.Vocabulary.{arith, Bool, false, List, Option, Some, true, ℕ, ◌≡◌, ◌⊎◌, eqb-true, not, position, slice_get, ◌||◌}
-use Rattle.osi_fair.proofs.Vocabulary.{disconnect, Two, is_applied, is_named, at_found, at_place, class_for, found_on, is_stopped, is_stray}
-use Rattle.osi_fair.proofs.Vocabulary.{Outcome, Traffic as State, takes, Connection, Direction, JustCloses}
+use Rattle.osi_fair.proofs.Vocabulary.{disconnect, Two, is_applied, is_named, at_found, class_for, found_on, is_stopped, is_stray, Outcome}
+use Rattle.osi_fair.proofs.Vocabulary.{Traffic as State, takes, Connection, Direction, JustCloses}
 use Rattle.osi_fair.proofs.a_reference_names_one_connection.{applied_judged}
 use Rattle.osi_fair.proofs.what_belongs_to_no_open_connection.{Strays, reached_strays}
 
@@ -27,11 +27,8 @@ module _ (d : Direction) (s : State) (n source reason : ℕ) (user : List ℕ) (
       Either (at_found d (disconnect n source reason user) s p c)
   by_item p c first at = search (arith, by_stray)
 
-  by_first : (p : Option ℕ) → position (is_named d n) s.connections ≡ p → Either (at_place d (disconnect n source reason user) s p)
-  by_first p first = grind (arith, by_item)
-
   pub strays_or_closes : Either (takes d (disconnect n source reason user) s)
-  strays_or_closes = grind (arith, by_first)
+  strays_or_closes = grind (arith, by_item)
 
 pub dr_closes : (d : Direction) (s : State) (n source reason : ℕ) (user : List ℕ) → is_stopped d s.course ≡ false →
     class_for d s.course ≡ Some Two →

@@ -1,13 +1,12 @@
 -- Which unit of the other side passes at the tap of a called end, if both sides are still judged after it: a CR that is right, a unit
 -- for a connection, or a DC that answers nothing. For the law on a whole called end.
-use Rattle.osi_fair.proofs.Vocabulary.{arith, [], ap, Bool, false, if◌then◌else◌, inl, inr, is_some, None, Option, refl, Some, subst, sym}
-use Rattle.osi_fair.proofs.Vocabulary.{true, ℕ, ◌∙◌, ◌∷◌, ◌≡◌, ◌⊎◌, list_all, list_any, not, position, slice_get, ◌||◌, acknowledge}
-use Rattle.osi_fair.proofs.Vocabulary.{confirm, Connect, data0, data2, destination_of, disconnect, disconnected, error, request, Value}
-use Rattle.osi_fair.proofs.Vocabulary.{Class, Two, Zero, is_of_connection, passes_over, reach_by, reach_of, reach_past, first_failed}
-use Rattle.osi_fair.proofs.Vocabulary.{is_free, is_live, is_named, is_over, uses, asks_by, asks_kept, asks_of, at_found, at_place}
-use Rattle.osi_fair.proofs.Vocabulary.{has_place, is_not_judged, none_told, one_told, Outcome, reached, request_tests, route, route_in}
-use Rattle.osi_fair.proofs.Vocabulary.{routed, Traffic, takes, unnamed_by, unnamed_told, Connection, Course, Left, Right, Finding, Broke}
-use Rattle.osi_fair.proofs.Vocabulary.{Kept, NotJudged, TooMany, Rule, has_broken, is_report}
+use Rattle.osi_fair.proofs.Vocabulary.{arith, [], ap, Bool, false, if◌then◌else◌, inl, inr, None, Option, refl, Some, subst, sym, true, ℕ}
+use Rattle.osi_fair.proofs.Vocabulary.{◌∙◌, ◌∷◌, ◌≡◌, ◌⊎◌, position, slice_get, acknowledge, confirm, Connect, data0, data2, destination_of}
+use Rattle.osi_fair.proofs.Vocabulary.{disconnect, disconnected, error, request, Value, Class, Two, Zero, is_of_connection, passes_over}
+use Rattle.osi_fair.proofs.Vocabulary.{reach_by, reach_of, reach_past, first_failed, is_free, is_live, is_named, asks_by, asks_kept}
+use Rattle.osi_fair.proofs.Vocabulary.{asks_of, at_found, at_place, none_told, one_told, Outcome, reached, request_tests, route, route_in}
+use Rattle.osi_fair.proofs.Vocabulary.{routed, Traffic, takes, unnamed_told, Connection, Course, Left, Right, Finding, Broke, Kept}
+use Rattle.osi_fair.proofs.Vocabulary.{NotJudged, TooMany, Rule, has_broken}
 use Rattle.osi_rules.specs.declared.findings.Reach.TheVariants as reach
 use Rattle.osi_rules.specs.declared.findings.Rule.TheVariants as rule
 use Rattle.osi_fair.proofs.small_facts_that_many_lemmas_use.{differ}
@@ -36,13 +35,8 @@ pub record IsNear (k : Option Class) (f : Finding) : Type 0 where
   pub two : reach_of k f ≡ reach_of (Some Two) f
   pub part : reach_of (Some Two) f ≡ reach.Everything → ⊥
 
-near_by : (k : Option Class) (past one : Bool) (c : Course) → IsCalm (reached Left (reach_past past (reach_by k one)) c) →
-    (reach_past past (reach_by k one) ≡ reach_past past (reach_by (Some Two) one))
-    × (reach_past past (reach_by (Some Two) one) ≡ reach.Everything → ⊥)
-near_by k past one c h = grind (arith, differ)
-
 pub calm_near : (k : Option Class) (f : Finding) (c : Course) → IsCalm (reached Left (reach_of k f) c) → IsNear k f
-calm_near k f c h = grind (arith, differ, near_by)
+calm_near k f c h = search (arith, differ)
 
 -- ---- which unit it is
 
@@ -79,20 +73,10 @@ module _ (v : Value) (s : Traffic) (left : s.course.left_stopped ≡ false) (rig
   asks_came : (x : Connect) → v ≡ request x → (s.course.class_seen ≡ Some Zero → ⊥) →
       Comes (asks_by Left (first_failed (request_tests s x)) x s)
   asks_came x e class h =
-      asks_by_case x e class (request_by (is_some s.course.class_seen || list_all (is_over Left) s.connections)
-      (not (list_any (is_not_judged x.source) s.connections)) (not (list_any (uses Left x.source) s.connections))
-      (has_place s.connections)
-      (first_failed (request_tests s x)) refl) h
-
-  unknown_bad : {A : Type 0} (w : Value) → unnamed_by s.course.strays w ≡ Broke rule.UnknownReference →
-      is_report s.course.right_erred w ≡ false → IsCalm (unnamed_told Left w s).state.course → A
-  unknown_bad w is none h = grind (arith, calm_noted)
-
-  unknown_by : (b : Bool) (w : Value) → ((m n : ℕ) → w ≡ disconnected m n → ⊥) → unnamed_by b w ≡ Broke rule.UnknownReference
-  unknown_by b w none = grind arith
+      asks_by_case x e class (grind (arith, request_by)) h
 
   unnamed_case : (w : Value) → v ≡ w → Comes (unnamed_told Left w s)
-  unnamed_case w e h = grind (arith, unknown_bad, unknown_by)
+  unnamed_case w e h = search arith
 
   at_item : (n q : ℕ) (o : Option Connection) → slice_get s.connections q ≡ o → position (is_named Left n) s.connections ≡ Some q →
       destination_of v ≡ Some n → Comes (at_found Left v s q o)
@@ -119,17 +103,13 @@ module _ (v : Value) (s : Traffic) (left : s.course.left_stopped ≡ false) (rig
   zero_wrong : (r : Rule) → passes_over r ≡ false → s.course.class_seen ≡ Some Zero → Comes (none_told Left (Broke r) s)
   zero_wrong r e zero h = grind (arith, side_bad, calm_noted)
 
-  error_wrong : (destination cause : ℕ) → v ≡ error destination cause → s.course.class_seen ≡ Some Zero →
-      Comes (routed Left v s (route_in (Some Zero) Left (has_broken Right s.course) (error destination cause)))
-  error_wrong destination cause e zero = grind (arith, zero_wrong)
-
   routes : (k : Option Class) → s.course.class_seen ≡ k → (w : Value) → v ≡ w →
       Comes (routed Left v s (route_in k Left (has_broken Right s.course) w))
   routes (Some Zero) h (request x) e = wrong rule.OneConnection (refl, refl)
   routes (Some Zero) h (disconnected destination source) e =
       at_name destination (position (is_named Left destination) s.connections) refl (ap destination_of e)
   routes (Some Zero) h (data0 end user) e = at_only (position (is_live Left) s.connections) h
-  routes (Some Zero) h (error destination cause) e = error_wrong destination cause e h
+  routes (Some Zero) h (error destination cause) e = grind (arith, zero_wrong)
   routes (Some Zero) h _ e = zero_wrong rule.WrongForm refl h
   routes None h (request x) e = subst (λ (u : Value). Comes (asks_of Left u s)) (sym e) (asks_came x e (λ zero. cc (sym h ∙ zero)))
   routes None h (disconnected destination source) e =

@@ -1,8 +1,8 @@
 -- Which units of a list are for a connection, by their references; and those that the line of a connection has put.
 -- For the law on a whole end.
 use Rattle.osi_fair.proofs.Vocabulary.{arith, [], ap, Bool, false, length, List, None, Option, refl, Some, true, ℕ, ◌++◌, ◌+◌, ◌∙◌, ◌∷◌}
-use Rattle.osi_fair.proofs.Vocabulary.{◌≡◌, eq-eqb, eqb-true, append-nil, AllByRecursion, ◌&&◌, ◌==◌, acknowledge, data2, destination_of}
-use Rattle.osi_fair.proofs.Vocabulary.{disconnect, disconnected, Value, is_open, Line, request, confirm, data0, error}
+use Rattle.osi_fair.proofs.Vocabulary.{◌≡◌, eq-eqb, append-nil, AllByRecursion, ◌&&◌, ◌==◌, acknowledge, data2, destination_of, disconnect}
+use Rattle.osi_fair.proofs.Vocabulary.{disconnected, Value, is_open, Line, request, confirm, data0, error}
 use Rattle.osi_fair.proofs.small_facts_that_many_lemmas_use.{and_not, both, no_two, unequal}
 use Rattle.osi_fair.proofs.units_in_flight.{Bounds, Puts}
 use Rattle.osi_fair.proofs.what_a_link_does.{begun_by}
@@ -127,14 +127,11 @@ named_so n v e = ap (λ (o : Option ℕ). names_in n o) e ∙ eq-eqb n n refl
 pub named_not : (m n : ℕ) (v : Value) → (m ≡ n → ⊥) → destination_of v ≡ Some m → names n v ≡ false
 named_not m n v other e = ap (λ (o : Option ℕ). names_in n o) e ∙ unequal m n (m == n) refl other
 
-pub named_is : (o : Option ℕ) (n : ℕ) → names_in n o ≡ true → o ≡ Some n
-named_is o n h = grind (arith, eqb-true)
-
 pub ours_so : (r peer : ℕ) (v : Value) → IsOf r peer v → is_ours r peer v ≡ true
 ours_so r peer v h = both (names peer v) (is_from r v) (named_so peer v h.named) h.from
 
 pub ours_is : (r peer : ℕ) (v : Value) → is_ours r peer v ≡ true → IsOf r peer v
-ours_is r peer v h = grind (arith, named_is)
+ours_is r peer v h = grind arith
 
 -- a unit for another reference of the other side
 pub ours_not : (r m peer : ℕ) (v : Value) → (m ≡ peer → ⊥) → destination_of v ≡ Some m → is_ours r peer v ≡ false
@@ -169,15 +166,12 @@ puts_ours s e passed shown begun (confirm destination x ∷ units) h = absurd h
 puts_ours s e passed shown begun (data0 end user ∷ units) h = absurd h
 puts_ours s e passed shown begun (error destination cause ∷ units) h = absurd h
 
-pub line_ours : (r peer : ℕ) (line : Line) → Holds r peer line → AllOurs r peer line.put
-line_ours r peer line h = grind (arith, puts_ours)
-
 all_named : (r peer : ℕ) (units : List Value) → AllOurs r peer units → AllNamed peer units
 all_named r peer [] h = tt
 all_named r peer (v ∷ vs) (one, more) = (one.named, all_named r peer vs more)
 
 pub line_named : (r peer : ℕ) (line : Line) → Holds r peer line → AllNamed peer line.put
-line_named r peer line h = all_named r peer line.put (line_ours r peer line h)
+line_named r peer line h = all_named r peer line.put (grind (arith, puts_ours))
 
 pub last_ours : (r peer : ℕ) (xs ys : List Value) → AllOurs r peer (xs ++ ys) → AllOurs r peer ys
 last_ours r peer [] ys h = h

@@ -1,17 +1,16 @@
 -- What the other side may send a calling end while no class is selected: it answers the CR that waits, and a DC changes nothing.
 -- For the law on requests.
 use Rattle.osi_fair.proofs.Vocabulary.{arith, [], ap, Bool, false, if◌then◌else◌, inl, inr, length, List, map, None, Option, refl, set}
-use Rattle.osi_fair.proofs.Vocabulary.{Some, subst, suc, sym, true, zero, ℕ, ◌++◌, ◌∙◌, ◌∷◌, ◌≡◌, ◌⊎◌, eqb-true, slice_get-map, nat_le, not}
-use Rattle.osi_fair.proofs.Vocabulary.{position, slice_get, ◌==◌, confirm, Connect, disconnect, disconnected, error, Value, is_applied}
-use Rattle.osi_fair.proofs.Vocabulary.{reach_of, code_named, first_failed, given_again, is_inside, is_offered, begins, is_free, is_named}
-use Rattle.osi_fair.proofs.Vocabulary.{is_over, is_refused, is_silent, asked_by, asks_by, at_found, at_place, class_of, closing_phase}
+use Rattle.osi_fair.proofs.Vocabulary.{Some, subst, suc, sym, true, zero, ℕ, ◌++◌, ◌∙◌, ◌∷◌, ◌≡◌, ◌⊎◌, slice_get-map, nat_le, not, position}
+use Rattle.osi_fair.proofs.Vocabulary.{slice_get, confirm, Connect, disconnect, disconnected, error, Value, is_applied, reach_of}
+use Rattle.osi_fair.proofs.Vocabulary.{code_named, first_failed, given_again, is_inside, is_offered, begins, is_free, is_named, is_over}
+use Rattle.osi_fair.proofs.Vocabulary.{is_refused, is_silent, asked_by, asks_by, at_found, at_place, class_of, closing_phase}
 use Rattle.osi_fair.proofs.Vocabulary.{connection_after, course_after, found, found_on, offer_of, Outcome, placed, reached, sent_on}
 use Rattle.osi_fair.proofs.Vocabulary.{Traffic as State, takes, unnamed_told, uses_source, Connection, Offer, Course, Direction, Left}
-use Rattle.osi_fair.proofs.Vocabulary.{Right, Finding, Broke, Kept, NotJudged, Outside, TooMany, Reach, Open, Silent, noted, is_break}
+use Rattle.osi_fair.proofs.Vocabulary.{Right, Finding, Broke, Kept, Outside, TooMany, Reach, Open, Silent, noted, is_break}
 use Rattle.osi_rules.specs.declared.findings.Reach.TheVariants as reach
 use Rattle.osi_rules.specs.declared.findings.Rule.TheVariants as rule
-use Rattle.osi_fair.proofs.small_facts_that_many_lemmas_use.{begins_judged, begun_left, begun_right, both, judged_same, judged_so, or_first}
-use Rattle.osi_fair.proofs.small_facts_that_many_lemmas_use.{some_same}
+use Rattle.osi_fair.proofs.small_facts_that_many_lemmas_use.{begins_judged, begun_left, begun_right, judged_same, judged_so, some_same}
 use Rattle.osi_fair.proofs.what_holds_of_one_item.{HoldsOfEach, after_add, after_map, after_set, first_true}
 use Rattle.osi_fair.proofs.a_right_unit_is_not_blamed.{first_there}
 use Rattle.osi_fair.proofs.a_refused_request_waits_no_more.{refused_over}
@@ -84,9 +83,6 @@ for_none cs strays v h = grind arith
 
 -- ---- none waits for an answer
 
-pub over_done : (c : Connection) → IsDone c → is_over Right c ≡ true
-over_done c k = grind (arith, both, or_first)
-
 pub named_where : (cs : List Connection) (n q : ℕ) → position (is_named Right n) cs ≡ Some q →
     (e : Connection) × (slice_get cs q ≡ Some e) × (is_named Right n e ≡ true)
 named_where cs n q h = grind (arith, first_there, first_true)
@@ -118,11 +114,6 @@ pub record Waits (r p : ℕ) (o : Offer) (cs : List Connection) : Type 0 where
   pub known : is_silent c.seen_by_right.phase ≡ false → c.seen_by_right.reference ≡ r
   pub others : (i : ℕ) (e : Connection) → slice_get cs i ≡ Some e → (i ≡ p → ⊥) → IsDone e
 
--- what a unit names is the one that waits
-waits_by : (r p : ℕ) (o : Offer) (cs : List Connection) (w : Waits r p o cs) (n q : ℕ) (e : Connection) (b : Bool) → (q == p) ≡ b →
-    slice_get cs q ≡ Some e → is_named Right n e ≡ true → (q ≡ p) × (n ≡ r) × (e ≡ w.c)
-waits_by r p o cs w n q e b h at named = grind (arith, eqb-true, some_same)
-
 begun_done : (d : Direction) (c : Connection) → IsDone c → IsDone (begins d c)
 begun_done d c h = grind arith
 
@@ -135,7 +126,7 @@ begins_unseen d c h k = grind arith
 
 waits_named : (r p : ℕ) (o : Offer) (cs : List Connection) (w : Waits r p o cs) (n q : ℕ) → position (is_named Right n) cs ≡ Some q →
     (q ≡ p) × (n ≡ r)
-waits_named r p o cs w n q h = search (arith, named_where, waits_by)
+waits_named r p o cs w n q h = search (arith, named_where)
 
 -- a DR or an ER that refuses the connection with this reference
 abbrev pub IsRefusal : ℕ → Value → Type 0
@@ -246,8 +237,7 @@ module _ (r p : ℕ) (o : Offer) (cs : List Connection) (strays : Bool) (w : Wai
   to_disconnect destination source reason user e =
       let v = disconnect destination source reason user in
       refusing v e (finding v)
-      (judged_so c.is_judged (found Right (calm strays) false c v) Kept w.judged
-      (grind arith))
+      (grind (arith, judged_so))
       (course_after Right c v true (calm strays)).strays refl
       (w.judged, ap (λ (b : Bool). is_refused (closing_phase b c.right).phase) silent_so)
 
@@ -257,8 +247,7 @@ module _ (r p : ℕ) (o : Offer) (cs : List Connection) (strays : Bool) (w : Wai
   to_error destination cause e =
       let v = error destination cause in
       refusing v e (finding v)
-      (judged_so c.is_judged (found Right (calm strays) false c v) Kept w.judged
-      (grind arith))
+      (grind (arith, judged_so))
       strays refl (w.judged, refl)
 
   to_dc : (destination source : ℕ) →
@@ -267,10 +256,7 @@ module _ (r p : ℕ) (o : Offer) (cs : List Connection) (strays : Bool) (w : Wai
       (by_finding p c cs strays (disconnected destination source) (finding (disconnected destination source)))
   to_dc destination source h =
       let v = disconnected destination source in
-      let is : finding v ≡ (if strays then NotJudged else Broke rule.UnknownReference) =
-      judged_same c.is_judged (found Right (calm strays) false c v) w.judged
-      ∙ (grind arith) in
-      says_nothing (tt, grind (arith, set_same, differ))
+      grind (arith, judged_same, set_same, differ)
 
   abbrev Answers : Value → State → Type 0
   Answers v after = GoesOn after → Answer r p o cs strays v after

@@ -1,4 +1,5 @@
 -- The proofs, in reading order.
+mod Vocabulary
 pub mod walked
 pub mod told
 pub mod outlined

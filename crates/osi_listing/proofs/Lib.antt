@@ -1,4 +1,5 @@
 -- The proofs, in reading order.
+mod Vocabulary
 pub mod the_counts_are_numbers_of_entries
 pub mod digits_from_octet_to_octet
 pub mod fields_one_after_the_other

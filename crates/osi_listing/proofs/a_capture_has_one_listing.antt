@@ -1,14 +1,8 @@
 -- A capture has one listing: its packets and its ending are determined, and with them the entries,
 -- the lines and the status.
-use Rattle.std.proofs.Common.{arith, ◌≡◌, ℕ, List, [], ◌∷◌, ◌++◌, sym, ap₂, subst}
-use Rattle.std.specs.List.{flat_map}
-use Rattle.osi_tpkt.specs.Stream.{Cuts, Ending}
-use Rattle.std.proofs.lemmas.List.{append_assoc, append-nil}
-use Rattle.osi_listing.specs.declared.counting.Counts.{Counts}
-use Rattle.osi_listing.specs.declared.pieces.Lister.{Lister}
-use Rattle.osi_listing.specs.SoFar.{IsListedSoFar}
-use Rattle.osi_listing.specs.Fed.{Feeds, FeedsAll}
-use Rattle.osi_listing.specs.Listing.{Entry, packet_entries, ending_entry, IsListing}
+use Rattle.osi_listing.proofs.Vocabulary.{arith, ◌≡◌, ℕ, List, [], ◌∷◌, ◌++◌, sym, ap₂, subst, flat_map, Cuts, Ending, append_assoc}
+use Rattle.osi_listing.proofs.Vocabulary.{append-nil, Counts, Lister, IsListedSoFar, Feeds, FeedsAll, Entry, packet_entries, ending_entry}
+use Rattle.osi_listing.proofs.Vocabulary.{IsListing}
 
 all_entries : List (List ℕ) → Ending → List Entry
 all_entries units ending = packet_entries 0 [] units ++ ending_entry ending ∷ []

@@ -1,14 +1,8 @@
 -- A lister keeps less than a packet, and of each stream at most a TSDU. For the law `a_lister_keeps_little`.
-use Rattle.std.proofs.Common.{◌≡◌, ℕ, ◌≤◌, false, List, [], ◌∷◌, length, Option, filter, arith}
-use Rattle.std.proofs.lemmas.Bool.{ltb-false}
-use Rattle.std.proofs.lemmas.List.{length-append}
-use Rattle.osi_tpkt.specs.Packet.{IsPartial}
-use Rattle.osi_listing.specs.declared.pieces.Lister.{Lister}
-use Rattle.osi_listing.specs.declared.pieces.Stage.TheVariants.{Going}
-use Rattle.osi_listing.specs.Fed.{IsFed}
-use Rattle.osi_listing.specs.Streams.{Part, Join, joined, after_parts, join_of, is_same_stream}
-use Rattle.osi_listing.specs.Streams.Join.{Begun}
-use Rattle.osi_listing.specs.Traced.{kept_of, KeepsLittle}
+use Rattle.osi_listing.proofs.Vocabulary.{◌≡◌, ℕ, ◌≤◌, false, List, [], ◌∷◌, length, Option, filter, arith, ltb-false, length-append}
+use Rattle.osi_listing.proofs.Vocabulary.{IsPartial, Lister, Going, IsFed, Part, Join, joined, after_parts, is_same_stream, Begun, kept_of}
+use Rattle.osi_listing.proofs.Vocabulary.{KeepsLittle}
+use Rattle.osi_listing.specs.Streams.{join_of}
 
 partial_short : (r : List ℕ) → IsPartial r → length r ≤ 65535
 partial_short r partial = grind (arith, length-append r partial.more)

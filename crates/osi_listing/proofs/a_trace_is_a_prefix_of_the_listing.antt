@@ -1,13 +1,7 @@
 -- A trace after one more piece, and after a fetch: what was given is still the listing, or a prefix of it. For `Trace`.
-use Rattle.std.proofs.Common.{arith, ◌≡◌, ◌<◌, ◌⊎◌, ℕ, true, List, [], ◌++◌, refl, subst}
-use Rattle.std.proofs.lemmas.Bool.{false≢true}
-use Rattle.std.proofs.lemmas.List.{append_assoc, append-nil}
-use Rattle.osi_listing.specs.declared.pieces.Lister.{Lister}
-use Rattle.osi_listing.specs.declared.traces.Keeping.{Keeping}
-use Rattle.osi_listing.specs.declared.traces.Keeping.TheVariants.{Lines, Counters, Nothing}
-use Rattle.osi_listing.specs.Fed.{Feeds}
-use Rattle.osi_listing.specs.SoFar.{IsListedSoFar}
-use Rattle.osi_listing.specs.Traced.{IsListedInPart, Stands, KeepsOn, CountsOn, FindsNoRoom, keeps_nothing, unfinished}
+use Rattle.osi_listing.proofs.Vocabulary.{arith, ◌≡◌, ◌<◌, ◌⊎◌, ℕ, true, List, [], ◌++◌, refl, subst, false≢true, append_assoc, append-nil}
+use Rattle.osi_listing.proofs.Vocabulary.{Lister, Keeping, Lines, Counters, Nothing, Feeds, IsListedSoFar, IsListedInPart, Stands, KeepsOn}
+use Rattle.osi_listing.proofs.Vocabulary.{CountsOn, FindsNoRoom, keeps_nothing, unfinished}
 use Rattle.osi_listing.proofs.what_is_written_is_the_listing.{stands_so_far}
 
 -- a trace that kept lines, or that counted, stops before a piece

@@ -1,9 +1,6 @@
 -- The digits of a text, from one octet to the next.
-use Rattle.std.proofs.Common.{◌≡◌, ℕ, Bool, true, false, cond, List, [], ◌∷◌, refl, ap, arith}
-use Rattle.std.specs.List.{before_first, slice_split, onto_first}
-use Rattle.std.proofs.lemmas.Bool.Decides.{eqb_tells}
-use Rattle.std.proofs.lemmas.List.Splits.{slice_split-cons_yes}
-use Rattle.osi_listing.specs.Capture.{is_comment_sign, is_line_feed, is_blank, digits_left}
+use Rattle.osi_listing.proofs.Vocabulary.{◌≡◌, ℕ, Bool, true, false, cond, List, [], ◌∷◌, refl, ap, arith, before_first, slice_split}
+use Rattle.osi_listing.proofs.Vocabulary.{onto_first, eqb_tells, slice_split-cons_yes, is_comment_sign, is_line_feed, is_blank, digits_left}
 
 more_lines : (b : Bool) (c : ℕ) (parts : List (List ℕ)) (line : List ℕ) (lines : List (List ℕ)) → parts ≡ line ∷ lines →
     (first : List ℕ) × (others : List (List ℕ)) × (cond b ([] ∷ parts) (onto_first c parts) ≡ first ∷ others)

@@ -1,16 +1,12 @@
 -- Digits that are read one after the other give the octets that hex.decode gives, and nothing where it gives an error: for the
 -- reading of a capture's text.
-use Rattle.std.proofs.Common.{◌≡◌, ◌≢◌, ◌∙◌, ℕ, ◌+◌, ◌-◌, ◌*◌, ◌%◌, ◌≤◌, Bool, true, false, List, [], ◌∷◌, ◌++◌, length, slice_index, take}
-use Rattle.std.proofs.Common.{drop, Option, Some, None, Result, Ok, Err, refl, inl, inr, sym, ap, arith}
-use Rattle.std.specs.Prelude.{IsErr}
-use Rattle.std.proofs.lemmas.List.{append_assoc, append-nil, nil_from_length, take_all}
-use Rattle.std.proofs.lemmas.Bool.Decides.{eqb_tells}
-use Rattle.hex.specs.Hex.{decode_of, decode_pairs, digit_or_error, hex_digit_value, ◌>>=◌}
-use Rattle.hex.specs.declared.error.FromHexError.{FromHexError}
-use Rattle.hex.specs.declared.error.FromHexError.TheVariants.{OddLength}
-use Rattle.hex.proofs.HexLemmas.{decode_of-even, decode_pairs-ok}
+use Rattle.osi_listing.proofs.Vocabulary.{◌≡◌, ◌≢◌, ◌∙◌, ℕ, ◌+◌, ◌-◌, ◌*◌, ◌%◌, ◌≤◌, Bool, true, false, List, [], ◌∷◌, ◌++◌, length}
+use Rattle.osi_listing.proofs.Vocabulary.{slice_index, take, drop, Option, Some, None, Result, Ok, Err, refl, inl, inr, sym, ap, arith}
+use Rattle.osi_listing.proofs.Vocabulary.{IsErr, append_assoc, append-nil, nil_from_length, take_all, eqb_tells, decode_of, digit_or_error}
+use Rattle.osi_listing.proofs.Vocabulary.{hex_digit_value, ◌>>=◌, FromHexError, OddLength, decode_of-even, decode_pairs-ok, after_octets}
+use Rattle.osi_listing.proofs.Vocabulary.{digits_of, digits_left, if_digit, is_blank, octets_from, with_digit}
+use Rattle.hex.specs.Hex.{decode_pairs}
 use Rattle.osi_listing.proofs.digits_from_octet_to_octet.{left_digit_of}
-use Rattle.osi_listing.specs.Capture.{after_octets, digits_of, digits_left, if_digit, is_blank, octets_from, with_digit}
 
 -- the octets of a result, if it has some
 abbrev octets_in : Result (List ℕ) FromHexError → Option (List ℕ)

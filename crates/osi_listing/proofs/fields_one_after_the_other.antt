@@ -1,15 +1,11 @@
 -- The fields of a session unit, from one to the next.
-use Rattle.std.proofs.Common.{◌≡◌, ℕ, Bool, ◌+◌, ◌/◌, ◌%◌, ◌<◌, ◌≤◌, true, false, drop, length, List, [], ◌∷◌, ◌++◌, refl, sym, ap, ◌∙◌}
-use Rattle.std.proofs.Common.{append_assoc, arith, codes}
-use Rattle.std.specs.Prelude.{slice_index, option_map, is_some, Option, None}
-use Rattle.std.specs.Fmt.{decimal}
-use Rattle.std.specs.List.{join_with_byte}
-use Rattle.std.proofs.lemmas.Fmt.{decimal_digit, decimal_step}
-use Rattle.std.proofs.lemmas.List.{append-nil, drop_all, drop_more}
-use Rattle.hex.specs.Hex.{encode_with, encode_lower}
-use Rattle.osi_tpdu.specs.Value.{data0}
-use Rattle.osi_listing.specs.Lines.{bit, unit_fields, unit_line}
-use Rattle.osi_listing.specs.SessionLines.{fields_left}
+use Rattle.osi_listing.proofs.Vocabulary.{◌≡◌, ℕ, Bool, ◌+◌, ◌/◌, ◌%◌, ◌<◌, ◌≤◌, true, false, drop, length, List, [], ◌∷◌, ◌++◌, refl, sym}
+use Rattle.osi_listing.proofs.Vocabulary.{ap, ◌∙◌, arith, codes, slice_index, option_map, is_some, Option, None, decimal, join_with_byte}
+use Rattle.osi_listing.proofs.Vocabulary.{decimal_digit, decimal_step, append-nil, drop_all, drop_more, encode_lower, data0, bit}
+use Rattle.osi_listing.proofs.Vocabulary.{fields_left}
+use Rattle.std.proofs.Common.{append_assoc}
+use Rattle.hex.specs.Hex.{encode_with}
+use Rattle.osi_listing.specs.Lines.{unit_fields, unit_line}
 
 -- a number of two digits
 pub two_digits : (n : ℕ) → 10 ≤ n → n < 100 → decimal n ≡ (48 + n / 10) ∷ (48 + n % 10) ∷ []

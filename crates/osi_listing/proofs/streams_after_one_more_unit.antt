@@ -1,10 +1,7 @@
 -- The joins of streams after one more data unit.
-use Rattle.std.proofs.Common.{arith, ◌≡◌, ℕ, Bool, cond, List, [], ◌∷◌, ◌++◌, Option, Some, None, refl, ◌==◌, filter, Result, IfOk, OnOk}
-use Rattle.std.specs.Prelude.{IfSome}
-use Rattle.std.proofs.lemmas.Bool.Decides.{eqb_tells}
-use Rattle.osi_listing.specs.Streams.{Part, Join, joined, after_parts, join_of, is_same_stream}
-use Rattle.osi_listing.specs.Streams.Join.{Begun}
-use Rattle.osi_listing.specs.Says.{AreJoins}
+use Rattle.osi_listing.proofs.Vocabulary.{arith, ◌≡◌, ℕ, Bool, cond, List, [], ◌∷◌, ◌++◌, Option, Some, None, refl, ◌==◌, filter, Result}
+use Rattle.osi_listing.proofs.Vocabulary.{IfOk, OnOk, IfSome, eqb_tells, Part, Join, joined, after_parts, is_same_stream, Begun, AreJoins}
+use Rattle.osi_listing.specs.Streams.{join_of}
 
 after_parts-push : (join : Join) (parts : List Part) (p : Part) →
     after_parts join (parts ++ p ∷ []) ≡ joined (after_parts join parts) p.end p.octets

@@ -1,13 +1,9 @@
 -- The counts, one entry after the other, are the numbers of entries of each kind.
-use Rattle.std.proofs.Common.{◌≡◌, ◌∙◌, ℕ, ◌+◌, ◌-◌, ◌^◌, ◌≤◌, ◌==◌, Bool, cond, if◌then◌else◌, List, [], ◌∷◌, ◌++◌, refl, ap, arith}
-use Rattle.std.proofs.lemmas.Bool.Decides.{eqb_tells}
-use Rattle.std.specs.List.{count_by, list_any}
-use Rattle.std.proofs.lemmas.List.Sums.{sum_by-cons}
-use Rattle.std.proofs.lemmas.List.Folds.{list_any-append}
-use Rattle.osi_listing.specs.declared.counting.Counts.{Counts}
-use Rattle.osi_listing.specs.Counting.{capped, is_packet, is_unit, is_tsdu, is_session_unit, counts_of, none, one_more, counted}
-use Rattle.osi_listing.specs.Listing.{Entry, is_refused}
-use Rattle.osi_listing.specs.Listing.Entry.{Left}
+use Rattle.osi_listing.proofs.Vocabulary.{◌≡◌, ◌∙◌, ℕ, ◌+◌, ◌-◌, ◌^◌, ◌≤◌, ◌==◌, Bool, cond, if◌then◌else◌, List, [], ◌∷◌, ◌++◌, refl, ap}
+use Rattle.osi_listing.proofs.Vocabulary.{arith, eqb_tells, count_by, list_any, sum_by-cons, list_any-append, Counts, capped, counts_of}
+use Rattle.osi_listing.proofs.Vocabulary.{none, counted, Entry, Left}
+use Rattle.osi_listing.specs.Counting.{is_packet, is_unit, is_tsdu, is_session_unit, one_more}
+use Rattle.osi_listing.specs.Listing.{is_refused}
 
 -- one field of the counts, and the kind of entries that it counts
 abbrev Counting : (Counts → ℕ) → (Entry → Bool) → Type 0

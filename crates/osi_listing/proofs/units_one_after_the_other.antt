@@ -1,25 +1,11 @@
 -- The listing of units, one after the other.
-use Rattle.std.proofs.Common.{◌≡◌, ℕ, List, [], ◌∷◌, ◌++◌, length, map, refl, sym, ◌∙◌, ap, subst, option_to_list, Result, Ok, Err, OnOk}
-use Rattle.std.proofs.Common.{arith}
-use Rattle.std.specs.List.{flat_map}
-use Rattle.std.proofs.lemmas.List.{append_assoc, append-nil}
-use Rattle.std.proofs.lemmas.List.Concat.{flat_map-append}
-use Rattle.osi_tpdu.specs.Packet.{units_of}
-use Rattle.osi_tpdu.specs.Value.{Value}
-use Rattle.osi_tpdu.specs.declared.faults.TpduFault.{TpduFault}
-use Rattle.osi_spdu.specs.Known.{Contents, Units}
+use Rattle.osi_listing.proofs.Vocabulary.{◌≡◌, ℕ, List, [], ◌∷◌, ◌++◌, length, map, refl, sym, ◌∙◌, ap, subst, option_to_list, Result, Ok}
+use Rattle.osi_listing.proofs.Vocabulary.{Err, OnOk, arith, flat_map, append_assoc, append-nil, flat_map-append, units_of, Value, TpduFault}
+use Rattle.osi_listing.proofs.Vocabulary.{Contents, Units, SpduFault, LengthPastEnd, Counts, Streams, one_more, counted, tsdu_line}
+use Rattle.osi_listing.proofs.Vocabulary.{session_line, Part, part_of, parts_of, Entry, session_entries, part_entries, unit_entries}
+use Rattle.osi_listing.proofs.Vocabulary.{read_entries, TransportUnit, UnitFault, Tsdu, SessionUnit, Says, Holds}
 use Rattle.osi_spdu.specs.Reading.{tsdu_at, unit_at}
-use Rattle.osi_spdu.specs.declared.faults.SpduFault.{SpduFault}
-use Rattle.osi_spdu.specs.declared.faults.SpduFault.TheVariants.{LengthPastEnd}
-use Rattle.osi_listing.specs.declared.counting.Counts.{Counts}
-use Rattle.osi_listing.specs.declared.streams.Streams.{Streams}
-use Rattle.osi_listing.specs.Counting.{one_more, counted}
-use Rattle.osi_listing.specs.Lines.{tsdu_line}
-use Rattle.osi_listing.specs.SessionLines.{session_line}
-use Rattle.osi_listing.specs.Streams.{Part, part_of, parts_of}
-use Rattle.osi_listing.specs.Listing.{Entry, line_of, session_entries, part_entries, unit_entries, read_entries}
-use Rattle.osi_listing.specs.Listing.Entry.{TransportUnit, UnitFault, Tsdu, SessionUnit}
-use Rattle.osi_listing.specs.Says.{Says, Holds}
+use Rattle.osi_listing.specs.Listing.{line_of}
 
 counted-append : (c : Counts) (xs ys : List Entry) → counted c (xs ++ ys) ≡ counted (counted c xs) ys
 counted-append c [] ys = refl

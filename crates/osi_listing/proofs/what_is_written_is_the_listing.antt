@@ -1,28 +1,14 @@
 -- What a lister has written is the listing so far of what it was fed.
-use Rattle.std.proofs.Common.{◌≡◌, ◌∙◌, ℕ, ◌+◌, ◌-◌, ◌<◌, ◌^◌, ◌==◌, if◌then◌else◌, List, [], ◌∷◌, ◌++◌, length, refl, sym, ap, subst}
-use Rattle.std.proofs.Common.{arith, Option, Some, None, Result, Ok, Err, OnOk}
-use Rattle.std.specs.List.{flat_map, list_any}
-use Rattle.std.proofs.lemmas.List.{append_assoc, append-nil, length-append}
-use Rattle.osi_tpkt.specs.Held.{fresh}
-use Rattle.osi_tpkt.specs.Packet.{IsPartial, IsFaultOf}
-use Rattle.osi_tpkt.specs.Stream.{EndsAt, offset_of}
-use Rattle.osi_tpkt.specs.Stream.Ending.{Faulty, Rest}
-use Rattle.osi_tpkt.specs.declared.faults.TpktFault.{TpktFault}
-use Rattle.osi_tpkt.specs.declared.faults.TpktFault.TheVariants.{BadVersion, BadLength, OutOfMemory}
-use Rattle.osi_tpkt.proofs.a_prefix_of_a_packet.{empty_partial}
-use Rattle.osi_listing.specs.declared.counting.Counts.{Counts}
-use Rattle.osi_listing.specs.declared.pieces.Lister.{Lister}
-use Rattle.osi_listing.specs.declared.pieces.Stage.{Stage}
+use Rattle.osi_listing.proofs.Vocabulary.{◌≡◌, ◌∙◌, ℕ, ◌+◌, ◌-◌, ◌<◌, ◌^◌, ◌==◌, if◌then◌else◌, List, [], ◌∷◌, ◌++◌, length, refl, sym, ap}
+use Rattle.osi_listing.proofs.Vocabulary.{subst, arith, Option, Some, None, Result, Ok, Err, OnOk, flat_map, list_any, append_assoc}
+use Rattle.osi_listing.proofs.Vocabulary.{append-nil, length-append, fresh, IsPartial, IsFaultOf, EndsAt, offset_of, Faulty, Rest}
+use Rattle.osi_listing.proofs.Vocabulary.{TpktFault, BadVersion, BadLength, OutOfMemory, empty_partial, Counts, Lister, Stage, Streams}
+use Rattle.osi_listing.proofs.Vocabulary.{Work, capped, none, counts_of, fault_line, rest_line, Entry, is_refused, packet_entries}
+use Rattle.osi_listing.proofs.Vocabulary.{ending_entry, IsListing, PacketFault, Left, Says, Holds, IsListedSoFar, entries_so_far, Listed}
+use Rattle.osi_listing.proofs.Vocabulary.{IsGoing, Leaves, Goes, StandsAt, Feeds}
 use Rattle.osi_listing.specs.declared.pieces.Stage.TheVariants as stage
-use Rattle.osi_listing.specs.declared.streams.Streams.{Streams}
-use Rattle.osi_listing.specs.declared.work.Work.{Work}
-use Rattle.osi_listing.specs.Counting.{capped, none, counts_of, one_more}
-use Rattle.osi_listing.specs.Lines.{fault_line, rest_line}
-use Rattle.osi_listing.specs.Listing.{Entry, line_of, is_refused, packet_entries, ending_entry, IsListing}
-use Rattle.osi_listing.specs.Listing.Entry.{PacketFault, Left}
-use Rattle.osi_listing.specs.Says.{Says, Holds}
-use Rattle.osi_listing.specs.SoFar.{IsListedSoFar, entries_so_far}
-use Rattle.osi_listing.specs.Fed.{Listed, IsGoing, Leaves, Goes, StandsAt, Feeds}
+use Rattle.osi_listing.specs.Counting.{one_more}
+use Rattle.osi_listing.specs.Listing.{line_of}
 use Rattle.osi_listing.proofs.the_counts_are_numbers_of_entries.{counted_is, status_of, refused_left}
 use Rattle.osi_listing.proofs.units_one_after_the_other.{says_none, says_both, says_one}
 use Rattle.osi_listing.proofs.what_one_more_packet_adds.{packets_longer}

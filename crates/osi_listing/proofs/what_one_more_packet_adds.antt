@@ -1,24 +1,11 @@
 -- The packets of a stream: what one more of them adds to the listing, and what is left after them.
-use Rattle.std.proofs.Common.{◌≡◌, ◌≢◌, ◌∙◌, ℕ, ◌+◌, ◌-◌, Bool, true, false, MatchBool, List, [], ◌∷◌, ◌++◌, length, take, drop, refl, sym}
-use Rattle.std.proofs.Common.{ap, subst, arith, Option, None, Result, Ok, Err, IfOk, OnOk}
-use Rattle.std.specs.List.{flat_map}
-use Rattle.std.proofs.lemmas.List.{append_assoc, append-nil, length-append, take-append-drop, nil_from_length, take_all}
-use Rattle.osi_tpkt.specs.Cutter.{Gains, TakesPiece}
-use Rattle.osi_tpkt.specs.Held.{Held}
-use Rattle.osi_tpkt.specs.Packet.{IsPacket, IsOnePacket, IsPartial, IsFaultOf}
-use Rattle.osi_tpkt.specs.Stream.{ArePackets, offset_of}
-use Rattle.osi_tpkt.specs.declared.faults.TpktFault.{TpktFault}
-use Rattle.osi_tpkt.specs.declared.faults.TpktFault.TheVariants.{BadVersion, BadLength, OutOfMemory}
-use Rattle.osi_tpkt.proofs.a_prefix_of_a_packet.{empty_partial}
-use Rattle.osi_tpdu.specs.Packet.{units_of}
-use Rattle.osi_listing.specs.declared.work.Work.{Work}
-use Rattle.osi_listing.specs.Counting.{none}
-use Rattle.osi_listing.specs.Lines.{packet_length}
-use Rattle.osi_listing.specs.Streams.{Part}
-use Rattle.osi_listing.specs.Listing.{Entry, line_of, read_entries, read_parts, all_parts, packet_entries}
-use Rattle.osi_listing.specs.Listing.Entry.{Packet}
-use Rattle.osi_listing.specs.Says.{Says, Holds}
-use Rattle.osi_listing.specs.Fed.{Moves, IsReady, IsGoing, IsWithoutPacket, Leaves, OnlyHolds, Goes}
+use Rattle.osi_listing.proofs.Vocabulary.{◌≡◌, ◌≢◌, ◌∙◌, ℕ, ◌+◌, ◌-◌, Bool, true, false, MatchBool, List, [], ◌∷◌, ◌++◌, length, take, drop}
+use Rattle.osi_listing.proofs.Vocabulary.{refl, sym, ap, subst, arith, Option, None, Result, Ok, Err, IfOk, OnOk, flat_map, append_assoc}
+use Rattle.osi_listing.proofs.Vocabulary.{append-nil, length-append, take-append-drop, nil_from_length, take_all, Gains, TakesPiece, Held}
+use Rattle.osi_listing.proofs.Vocabulary.{IsPacket, IsOnePacket, IsPartial, IsFaultOf, ArePackets, offset_of, TpktFault, BadVersion}
+use Rattle.osi_listing.proofs.Vocabulary.{BadLength, OutOfMemory, empty_partial, units_of, Work, none, packet_length, Part, Entry, line_of}
+use Rattle.osi_listing.proofs.Vocabulary.{read_entries, read_parts, all_parts, packet_entries, Packet, Says, Holds, Moves, IsReady, IsGoing}
+use Rattle.osi_listing.proofs.Vocabulary.{IsWithoutPacket, Leaves, OnlyHolds, Goes}
 use Rattle.osi_listing.proofs.units_one_after_the_other.{says_both}
 
 -- the octets of packets with these units

@@ -1,11 +1,17 @@
 -- What the proofs of this crate take from the library, from the crates below and from its own definitions.
+pub use Rattle.std.proofs.Common.{Bool, Err, List, None, Ok, Option, Some, [], ap, append_assoc, arith, false, if◌then◌else◌, inl, inr}
+pub use Rattle.std.proofs.Common.{is_some, length, map, nat_le, nat_lt, not, refl, subst, suc, sym, take, true, unwrap_or, zero, ℕ, ◌&&◌}
+pub use Rattle.std.proofs.Common.{◌++◌, ◌+◌, ◌-◌, ◌<◌, ◌==◌, ◌||◌, ◌∙◌, ◌∷◌, ◌≡◌, ◌≤◌, ◌⊎◌}
 pub use Rattle.std.proofs.Math.Bool.{or-false, or_assoc, or_comm}
 pub use Rattle.std.proofs.Math.Seq.{take-append_seam, take-nil}
 pub use Rattle.std.proofs.lemmas.Bool.{and_from, and_parts, and_right, both_ways, cases_Bool, cases_lt, eq-eqb, eqb-true}
 pub use Rattle.std.proofs.lemmas.Bool.{false_from_ne_true, le-leb, leb-true, lt-ltb, ltb-false, ltb-true, ne_eqb, not-false, not-true}
 pub use Rattle.std.proofs.lemmas.Bool.{not_from_false, or_left, or_parts, or_right}
 pub use Rattle.std.proofs.lemmas.List.{append-nil, length-append, map-append}
+pub use Rattle.std.proofs.lemmas.Nat.{and_assoc, and_le_r}
 pub use Rattle.std.specs.List.{AllByRecursion, list_any, slice_get}
+pub use Rattle.osi_spdu.specs.Fields.{wish_of}
+pub use Rattle.osi_spdu.specs.declared.settings.Wish.{Wish}
 pub use Rattle.osi_message.specs.Reading.{Said}
 pub use Rattle.osi_message.specs.Sendable.{is_sized, said_of}
 pub use Rattle.osi_session.specs.Allowed.{AllHold, Passed}
@@ -14,7 +20,9 @@ unfoldable pub use Rattle.osi_session.specs.Moves.{react}
 pub use Rattle.osi_session.specs.Phases.{may_abort}
 pub use Rattle.osi_session.specs.Respond.{acting, agreed_base, is_faulty, reply_for, verdict}
 unfoldable pub use Rattle.osi_session.specs.Respond.{respond_all}
+pub use Rattle.osi_session.specs.Sessions.{CanBeSent}
 pub use Rattle.osi_session.specs.Shown.{Lost, RefusedByTransport, Shown}
+pub use Rattle.osi_session.specs.Sides.{allows, settled, wish_for}
 pub use Rattle.osi_machine.specs.AsTables.{AreLines, AreOffered, AreSendable, AreSoundLines, AtEachSide, IsAsTables, IsNoFaultNext}
 pub use Rattle.osi_machine.specs.AsTables.{IsOverWhenLeft, IsSoundLine, IsTableRun, LosesAsItEnds, OfEachLine, TellsNoFault, cut_line}
 pub use Rattle.osi_machine.specs.AsTables.{is_leaving, offers_in}
@@ -23,6 +31,7 @@ pub use Rattle.osi_machine.specs.Channels.{view_next}
 pub use Rattle.osi_machine.specs.Core.{CanBeOffered, Core, CoreStep, Left, Offer, Party, Right, Side, answered, at_side, call_at, core_run}
 pub use Rattle.osi_machine.specs.Core.{core_start, core_step, offer_sent, offering, owners_called, party_called, party_taking, says, speaks}
 pub use Rattle.osi_machine.specs.Core.{stays_in_core, take_at, takes, taking, view_called}
+pub use Rattle.osi_machine.specs.Examples.{for_asker}
 pub use Rattle.osi_machine.specs.Floor.{AA, AB, AC, Aborting, Accept, AllMet, Answer, Answering, CN, Call, CallError, Condition, Connecting}
 pub use Rattle.osi_machine.specs.Floor.{DN, DT, Data, Ended, FN, FunctionalUnits, GT, Give, Good, Granted, HasNumbers, HasSerial}
 pub use Rattle.osi_machine.specs.Floor.{IsNumbered, IsSendable, IsSound, MAA, MAP, MIA, MIP, Major, MajorAsked, MajorConfirm, MajorDue}
@@ -38,10 +47,10 @@ pub use Rattle.osi_machine.specs.Floor.{may_ask, may_call, may_confirm_minor, ma
 pub use Rattle.osi_machine.specs.Floor.{no_token, nothing, opened_with, passes_restarting, release, respond, sends, serial_for, set_of}
 pub use Rattle.osi_machine.specs.Floor.{setting_of, shown_for, shows_loss, side_for, some, taken_input, takes_data, takes_minor_ack}
 pub use Rattle.osi_machine.specs.Floor.{takes_please, takes_restart, without_tokens}
-unfoldable pub use Rattle.osi_machine.specs.Floor.{allowed, answered_sizes, answers_wishes, available, both_units, has_data, has_points}
-unfoldable pub use Rattle.osi_machine.specs.Floor.{is_disjoint, is_empty, is_profile, is_within, major_confirmed, minor_confirmed}
-unfoldable pub use Rattle.osi_machine.specs.Floor.{of_answerer, of_asker, offered, point_sent, point_taken, respond_unit, restarted_at}
-unfoldable pub use Rattle.osi_machine.specs.Floor.{settle, stands, stated, take_expected, united, units_within, without}
+unfoldable pub use Rattle.osi_machine.specs.Floor.{allowed, answered_sizes, answers_wishes, available, both_units, has_data, is_disjoint}
+unfoldable pub use Rattle.osi_machine.specs.Floor.{is_empty, is_profile, is_within, major_confirmed, minor_confirmed, of_answerer, of_asker}
+unfoldable pub use Rattle.osi_machine.specs.Floor.{offered, point_sent, point_taken, respond_unit, restarted_at, settle, stands, stated}
+unfoldable pub use Rattle.osi_machine.specs.Floor.{take_expected, united, units_within, without}
 pub use Rattle.osi_machine.specs.Histories.{Agree, AreNumberedFrom, Begins, Item, Octets, Point, PointKind, cutat, major_point, minor_kind}
 pub use Rattle.osi_machine.specs.Histories.{points, upto}
 pub use Rattle.osi_machine.specs.Machine.{Ending, Entry, HasNumber, IsLegal, Machine, Refusal, Step, after_end, after_taking, asked_in}

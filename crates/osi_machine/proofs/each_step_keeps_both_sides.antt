@@ -1,13 +1,12 @@
 -- Every call and every unit that is taken keeps the invariant of both sides.
 -- For the promises, and for the connections that the core simulates.
-use Rattle.std.proofs.Common.{◌≡◌, refl, sym, subst, true, false, List, [], ◌∷◌, Ok, Err, arith}
-use Rattle.osi_machine.specs.Core.{turned, called}
 use Rattle.osi_machine.proofs.Vocabulary.{AllByRecursion, Granted, Answer, Call, Accept, Data, Give, Please, Minor, MinorConfirm, Major}
 use Rattle.osi_machine.proofs.Vocabulary.{MajorConfirm, Restart, RestartConfirm, Release, ReleaseRefuse, HasSerial, Meaning, CN, AC, RF, DT}
 use Rattle.osi_machine.proofs.Vocabulary.{GT, PT, MIP, MIA, MAP, MAA, RS, RA, FN, DN, NF, AB, AA, stands, drops, allowed, Owner, Owners}
 use Rattle.osi_machine.proofs.Vocabulary.{turned_owner, turned_owners, is_plain, AllFit, Core, CoreStep, call_at, take_at, Side, Left}
 use Rattle.osi_machine.proofs.Vocabulary.{Right, stays_in_core, answered, taking, takes, at_side, core_step, core_run, IsNumberedStep}
-use Rattle.osi_machine.proofs.Vocabulary.{not-true}
+use Rattle.osi_machine.proofs.Vocabulary.{not-true, ◌≡◌, refl, sym, subst, true, false, List, [], ◌∷◌, Ok, Err, arith}
+use Rattle.osi_machine.specs.Core.{turned, called}
 use Rattle.osi_machine.proofs.basics.what_holds_in_each_phase.{by_test}
 use Rattle.osi_machine.proofs.invariant.what_holds_of_both_sides.{Half, Pair, Stands}
 use Rattle.osi_machine.proofs.invariant.each_step_keeps_one_side.{SessionLaws, turned_kept, IsGranted, granted, is_granted}

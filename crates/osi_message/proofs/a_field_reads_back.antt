@@ -1,7 +1,6 @@
 -- What is written of a field reads back as it.
-use Rattle.std.proofs.Common.{◌≡◌, ℕ, ◌+◌, ◌*◌, ◌/◌, ◌%◌, ◌≤◌, Some, eqb, arith}
 use Rattle.osi_message.proofs.Vocabulary.{bit_and, and_assoc, TsduMaximumSize, Wish, TokenSetting, wish_number, size_octets, setting_octets}
-use Rattle.osi_message.proofs.Vocabulary.{named, sizes_in, setting_named, first_in}
+use Rattle.osi_message.proofs.Vocabulary.{named, sizes_in, setting_named, first_in, ◌≡◌, ℕ, ◌+◌, ◌*◌, ◌/◌, ◌%◌, ◌≤◌, Some, eqb, arith}
 
 -- the bits that name no token make no difference
 pub named_again : (t : ℕ) → named (bit_and t 85) ≡ named t

@@ -1,18 +1,12 @@
 -- The parameters that a unit is made with are those of its meaning.
-use Rattle.std.proofs.Common.{◌≡◌, ◌∙◌, ap, ℕ, true, List, [], ◌∷◌, Option, Some, option_map, arith}
-use Rattle.std.specs.Borrow.{Bor}
-use Rattle.osi_spdu.specs.declared.codes.Code.TheVariants as code
-use Rattle.osi_spdu.specs.declared.serials.Serial.{Serial}
-use Rattle.osi_spdu.specs.declared.selectors.Selector.{Selector}
-use Rattle.osi_spdu.specs.declared.tokens.TokenSet.{TokenSet}
-use Rattle.osi_spdu.specs.declared.requirements.Requirements.{Requirements}
-use Rattle.osi_spdu.specs.declared.fields.Reason.{Reason}
-use Rattle.osi_spdu.specs.declared.fields.SyncType.TheVariants.{Open}
-use Rattle.osi_spdu.specs.Params.{place_of}
 use Rattle.osi_message.proofs.Vocabulary.{bit_and, SyncType, TokenItem, TransportDisconnect, CallingSelector, CalledSelector, TokenSetting}
 use Rattle.osi_message.proofs.Vocabulary.{ResyncType, TsduMaximumSize, number_of, digits_of, setting_octets, resync_octet, bits_of}
 use Rattle.osi_message.proofs.Vocabulary.{unit_bits, written_sizes, nothing, put, cells_of, slots_of, known_of, no_params, Tokens}
-use Rattle.osi_message.proofs.Vocabulary.{token_octet, put_some, with_data, terms, numbered}
+use Rattle.osi_message.proofs.Vocabulary.{token_octet, put_some, with_data, terms, numbered, ◌≡◌, ◌∙◌, ap, ℕ, true, List, [], ◌∷◌, Option}
+use Rattle.osi_message.proofs.Vocabulary.{Some, option_map, arith, Bor, Serial, Selector, TokenSet, Requirements, Open}
+use Rattle.osi_spdu.specs.declared.codes.Code.TheVariants as code
+use Rattle.osi_spdu.specs.declared.fields.Reason.{Reason}
+use Rattle.osi_spdu.specs.Params.{place_of}
 use Rattle.osi_message.proofs.the_octet_of_a_set_of_tokens.{octet_kept}
 
 same_serial : (serial : Option Serial) →

@@ -1,10 +1,9 @@
 -- The octets of brief messages, and what they mean.
 -- For the messages that are written and read directly.
-use Rattle.std.proofs.Common.{◌≡◌, ◌∙◌, refl, sym, ap, ℕ, ◌==◌, Bool, true, false, not, List, [], ◌∷◌, length, Ok, arith}
-use Rattle.osi_message.specs.Brief.{is_brief}
 use Rattle.osi_message.proofs.Vocabulary.{number_of, is_group, codes_of, si_of, written_code, body_octets, unit_octets, tsdu_octets}
 use Rattle.osi_message.proofs.Vocabulary.{Meaning, GT, PT, FN, DN, NF, AB, AA, Tokens, token_octet, said_by_units, said_at, IsSendable}
-use Rattle.osi_message.proofs.Vocabulary.{tsdu_at, words_of, unit_of, is_second, spelled, written, user_data_of}
+use Rattle.osi_message.proofs.Vocabulary.{tsdu_at, words_of, unit_of, is_second, spelled, written, user_data_of, ◌≡◌, ◌∙◌, refl, sym, ap, ℕ}
+use Rattle.osi_message.proofs.Vocabulary.{◌==◌, Bool, true, false, not, List, [], ◌∷◌, length, Ok, arith, is_brief}
 use Rattle.osi_message.proofs.units_of_the_fast_path.{said_whole}
 
 -- ---- the written form

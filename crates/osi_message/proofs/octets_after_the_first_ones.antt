@@ -1,7 +1,6 @@
 -- Octets that begin after the first ones of their buffer.
 -- For `Octets`.
-use Rattle.std.proofs.Common.{◌≡◌, ℕ, ◌≤◌, List, ◌++◌, length, drop, min}
-use Rattle.std.proofs.lemmas.List.{drop-append-le, drop_min}
+use Rattle.osi_message.proofs.Vocabulary.{◌≡◌, ℕ, ◌≤◌, List, ◌++◌, length, drop, min, drop-append-le, drop_min}
 
 pub more_behind : (start : ℕ) (items more : List ℕ) → start ≤ length items → drop start (items ++ more) ≡ drop start items ++ more
 more_behind start items more h = drop-append-le start items more h

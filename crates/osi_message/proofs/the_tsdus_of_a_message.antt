@@ -1,13 +1,12 @@
 -- What is true of the TSDUs in which a message is sent.
-use Rattle.std.proofs.Common.{◌≡◌, refl, sym, ap, subst, ℕ, zero, suc, ◌+◌, ◌-◌, ◌<◌, ◌≤◌, Bool, true, false, not, List, [], ◌∷◌, ◌++◌}
-use Rattle.std.proofs.Common.{length, take, drop, map, Result, Ok, arith}
-use Rattle.osi_message.specs.declared.messages.Message.TheVariants as message
 use Rattle.osi_message.proofs.Vocabulary.{AllByRecursion, leb-true, leb-false, ne_eqb, append-nil, take-append-drop, length-drop}
 use Rattle.osi_message.proofs.Vocabulary.{length-take, IsOctets, octets_cons, octets_take, octets_drop, is_size, tsdu_at, SpduFault, Place}
 use Rattle.osi_message.proofs.Vocabulary.{First, Middle, Last, Message, Meaning, DT, GT, meant_by, no_token, IsInOctets, Word, says, part}
 use Rattle.osi_message.proofs.Vocabulary.{Words, part_octets, said_by_units, said_at, IsSendable, words_of, spelled, written, pieces}
 use Rattle.osi_message.proofs.Vocabulary.{later_parts, parts_of, is_whole, is_parted, words_sent, tsdus_of, in_one, AreLater, AreParts}
-use Rattle.osi_message.proofs.Vocabulary.{joined, behind_no_token, AreFull}
+use Rattle.osi_message.proofs.Vocabulary.{joined, behind_no_token, AreFull, ◌≡◌, refl, sym, ap, subst, ℕ, zero, suc, ◌+◌, ◌-◌, ◌<◌, ◌≤◌}
+use Rattle.osi_message.proofs.Vocabulary.{Bool, true, false, not, List, [], ◌∷◌, ◌++◌, length, take, drop, map, Result, Ok, arith}
+use Rattle.osi_message.specs.declared.messages.Message.TheVariants as message
 use Rattle.osi_message.proofs.units_of_the_fast_path.{data_written, said_data}
 use Rattle.osi_message.proofs.how_pieces_follow_one_another.{all_pieces, IsCons, some_piece, octets_of, parts_begin}
 

@@ -1,8 +1,4 @@
 -- Data, points and confirmations in the form of the fast path.
-use Rattle.std.proofs.Common.{◌≡◌, ◌∙◌, refl, sym, ap, take, drop, if◌then◌else◌, ℕ, ◌+◌, ◌/◌, ◌%◌, ◌≤◌, ◌<◌, Bool, true, false, List, []}
-use Rattle.std.proofs.Common.{◌∷◌, length, Some, Result, Ok, eqb, arith}
-use Rattle.osi_message.specs.declared.plain.PlainUnit.{PlainUnit}
-use Rattle.osi_message.specs.declared.plain.PlainUnit.TheVariants as plain
 use Rattle.osi_message.proofs.Vocabulary.{list_all, ne_eqb, and_parts, leb-true, ltb-true, take-append-drop, append-nil, Kind}
 use Rattle.osi_message.proofs.Vocabulary.{MinorSyncPoint, MinorSyncAck, Number, number_of, is_group, codes_of, si_of, nothing, put}
 use Rattle.osi_message.proofs.Vocabulary.{significant, six_digits, digits_of, is_digit, decimal_from, decimal, numeral, written_code}
@@ -10,7 +6,9 @@ use Rattle.osi_message.proofs.Vocabulary.{body_octets, unit_octets, tsdu_octets,
 use Rattle.osi_message.proofs.Vocabulary.{no_token, says, part, Words, part_head, part_octets, as_message, plain_octets, plain_said}
 use Rattle.osi_message.proofs.Vocabulary.{plain_word, data_octets, point_octets, has_zero_in_front, said_by_units, said_if_read, said_at}
 use Rattle.osi_message.proofs.Vocabulary.{IsSendable, words_of, with_data, unit_with, unit_of, is_second, behind_tokens, spelled, written}
-use Rattle.osi_message.proofs.Vocabulary.{user_data_of}
+use Rattle.osi_message.proofs.Vocabulary.{user_data_of, ◌≡◌, ◌∙◌, refl, sym, ap, take, drop, if◌then◌else◌, ℕ, ◌+◌, ◌/◌, ◌%◌, ◌≤◌, ◌<◌}
+use Rattle.osi_message.proofs.Vocabulary.{Bool, true, false, List, [], ◌∷◌, length, Some, Result, Ok, eqb, arith, PlainUnit}
+use Rattle.osi_message.specs.declared.plain.PlainUnit.TheVariants as plain
 use Rattle.osi_message.proofs.numbers_are_those_of_points.{six}
 
 -- ---- the digits of a number

@@ -1,10 +1,4 @@
 -- What can be sent has a written form.
-use Rattle.std.proofs.Common.{◌≡◌, ◌∙◌, refl, sym, ap, subst, ℕ, ◌+◌, ◌<◌, ◌≤◌, Bool, true, false, cond, List, [], ◌∷◌, length, Option}
-use Rattle.std.proofs.Common.{Some, option_map, if◌then◌else◌, arith}
-use Rattle.osi_spdu.specs.declared.codes.Code.TheVariants as code
-use Rattle.osi_spdu.specs.declared.kinds.Category.{Category}
-use Rattle.osi_spdu.specs.declared.kinds.Category.TheVariants.{Two}
-use Rattle.osi_spdu.proofs.basics.the_steps_of_reading.{same_true}
 use Rattle.osi_message.proofs.Vocabulary.{le-leb, Code, ConnectAcceptItem, SyncType, TokenItem, TransportDisconnect, ProtocolOptions}
 use Rattle.osi_message.proofs.Vocabulary.{Number, Reason, CallingSelector, CalledSelector, UserData, ExtendedUserData, ResyncType}
 use Rattle.osi_message.proofs.Vocabulary.{TsduMaximumSize, GiveTokens, TokenSetting, number_of, is_same, category_of, codes_of, members_of}
@@ -14,7 +8,9 @@ use Rattle.osi_message.proofs.Vocabulary.{MayFollow, StandTogether, IsCanonical,
 use Rattle.osi_message.proofs.Vocabulary.{is_formed, Tokens, token_octet, Meaning, CN, AC, RF, GT, PT, MIP, MIA, MAP, MAA, RS, RA, FN, DN}
 use Rattle.osi_message.proofs.Vocabulary.{NF, AB, IsSmall, IsNumbered, IsAddress, IsAddressed, put_some, with_data, terms, numbered}
 use Rattle.osi_message.proofs.Vocabulary.{sync_type, unit_with, unit_of, is_second, user_data_of, alone_units, behind_tokens, spelled}
-use Rattle.osi_message.proofs.Vocabulary.{connect_unit}
+use Rattle.osi_message.proofs.Vocabulary.{connect_unit, ◌≡◌, ◌∙◌, refl, sym, ap, subst, ℕ, ◌+◌, ◌<◌, ◌≤◌, Bool, true, false, cond, List, []}
+use Rattle.osi_message.proofs.Vocabulary.{◌∷◌, length, Option, Some, option_map, if◌then◌else◌, arith, Category, Two, same_true}
+use Rattle.osi_spdu.specs.declared.codes.Code.TheVariants as code
 use Rattle.osi_message.proofs.a_field_reads_back.{pairs_again, wish_small}
 use Rattle.osi_message.proofs.what_is_written_means_it.{HaveDigits}
 use Rattle.osi_message.proofs.the_octet_of_a_set_of_tokens.{octet_kept}

@@ -1,9 +1,8 @@
 -- What is written of a meaning means it.
-use Rattle.std.proofs.Common.{◌≡◌, ap, ℕ, ◌≤◌, Bool, true, map, Option, Some, option_map, unwrap_or, if◌then◌else◌, arith}
 use Rattle.osi_message.proofs.Vocabulary.{ResyncType, number_of, digits_of, numeral, two_octets, resync_octet, no_token, Meaning, GT}
 use Rattle.osi_message.proofs.Vocabulary.{IsSmall, IsNumbered, two_in, serial_in, number_in, resync_named, meaning, word, said_by_units}
 use Rattle.osi_message.proofs.Vocabulary.{alone, behind, unit_of, is_second, alone_units, behind_tokens, spelled, words_of, is_of_version_2}
-use Rattle.osi_message.proofs.Vocabulary.{says}
+use Rattle.osi_message.proofs.Vocabulary.{says, ◌≡◌, ap, ℕ, ◌≤◌, Bool, true, map, Option, Some, option_map, unwrap_or, if◌then◌else◌, arith}
 use Rattle.osi_message.proofs.a_field_reads_back.{setting_again}
 use Rattle.osi_message.proofs.the_octet_of_a_set_of_tokens.{named_octet}
 

@@ -1,3 +1,4 @@
+mod Vocabulary
 pub mod each_item_is_changed_in_turn
 pub mod a_unit_changes_one_connection
 pub mod a_stop_is_said

@@ -1,24 +1,14 @@
 -- A break of a side is kept, whatever passes after it, and what else a unit changes notes no break: for the law on what is
 -- kept of breaks.
-use Rattle.std.proofs.Common.{◌≡◌, ℕ, Bool, true, false, Option, Some, None, refl, ap, ◌∙◌, if◌then◌else◌}
-use Rattle.std.specs.Prelude.{slice_get, position, ◌||◌, ◌&&◌}
-use Rattle.osi_tpdu.specs.Value.{Value, Connect, request, confirm, disconnect, disconnected, data0, data2, acknowledge, error}
-use Rattle.osi_rules.specs.declared.connections.Connection.{Connection}
-use Rattle.osi_rules.specs.declared.courses.Course.{Course}
-use Rattle.osi_rules.specs.declared.directions.Direction.{Direction}
-use Rattle.osi_rules.specs.declared.directions.Direction.TheVariants.{Left, Right}
-use Rattle.osi_rules.specs.declared.findings.Finding.{Finding}
-use Rattle.osi_rules.specs.declared.findings.Finding.TheVariants.{Kept, Broke, Outside, TooMany, NotJudged}
-use Rattle.osi_rules.specs.declared.findings.Reach.{Reach}
+use Rattle.std.proofs.Common.{arith}
+use Rattle.osi_rules.proofs.Vocabulary.{◌≡◌, ℕ, Bool, true, false, Option, Some, None, refl, ap, ◌∙◌, if◌then◌else◌, slice_get, position}
+use Rattle.osi_rules.proofs.Vocabulary.{◌||◌, ◌&&◌, Value, Connect, request, confirm, disconnect, disconnected, data0, data2, acknowledge}
+use Rattle.osi_rules.proofs.Vocabulary.{error, Connection, Course, Direction, Left, Right, Finding, Kept, Broke, Outside, TooMany}
+use Rattle.osi_rules.proofs.Vocabulary.{NotJudged, Reach, Route, Asks, Named, Only, Unnamed, reach_of, is_break, first_failed, is_live}
+use Rattle.osi_rules.proofs.Vocabulary.{is_named, State, Outcome, class_for, course_after, course_after_none, found_on, has_erred, noted}
+use Rattle.osi_rules.proofs.Vocabulary.{of_side, one_told, unnamed_told, none_told, at_found, at_place, asks_by, asks_of, request_tests}
+use Rattle.osi_rules.proofs.Vocabulary.{reached, routed, route, is_stopped, takes}
 use Rattle.osi_rules.specs.declared.findings.Reach.TheVariants as reach
-use Rattle.osi_rules.specs.declared.routes.Route.{Route}
-use Rattle.osi_rules.specs.declared.routes.Route.TheVariants.{Asks, Named, Only, Unnamed}
-use Rattle.osi_rules.specs.Reaches.{reach_of, is_applied, is_break}
-use Rattle.osi_rules.specs.Rows.{first_failed}
-use Rattle.osi_rules.specs.Sides.{is_live, is_named}
-use Rattle.osi_rules.specs.Traffic.{State, Outcome, class_for, course_after, course_after_none, found_on, has_erred, noted, of_side}
-use Rattle.osi_rules.specs.Traffic.{one_told, unnamed, unnamed_told, none_told, at_found, at_place, asks_by, asks_of, request_tests}
-use Rattle.osi_rules.specs.Traffic.{reached, routed, route, is_stopped, takes}
 
 -- what has been found of neither side is different
 abbrev IsSame : Course → Course → Type 0
@@ -73,17 +63,12 @@ to_none d f s e =
 to_unnamed : (d : Direction) (v : Value) (s : State) → IsNoted d s (unnamed_told d v s)
 to_unnamed d v s e =
     let c = course_after_none v s.course in
-    let far = reach_of (class_for d c) (unnamed d s.course v) in
-    noted_so d e (unnamed d s.course v) (reached d far c) s.course
-    (joined (reached d far c) c s.course (reached_same d far c) (none_same v s.course))
+    grind (arith, noted_so, joined, reached_same, none_same)
 
 to_one : (d : Direction) (p : ℕ) (c : Connection) (v : Value) (s : State) → IsNoted d s (one_told d p c v s)
 to_one d p c v s e =
     let f = found_on d s c v in
-    let far = reach_of (class_for d s.course) f in
-    let mid = course_after d c v (is_applied f) s.course in
-    noted_so d e f (reached d far mid) s.course
-    (joined (reached d far mid) mid s.course (reached_same d far mid) (after_same d c v (is_applied f) s.course))
+    grind (arith, noted_so, joined, reached_same, after_same)
 
 at_one : (d : Direction) (v : Value) (s : State) (p : ℕ) (c : Option Connection) → IsNoted d s (at_found d v s p c)
 at_one d v s p None e = to_unnamed d v s e

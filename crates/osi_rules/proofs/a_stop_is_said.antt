@@ -1,24 +1,14 @@
 -- Nothing more of a side is judged after a unit exactly if that was so before it, or its reach says so: for the laws on
 -- stops. By the way that the unit takes, as in a_unit_changes_one_connection.
-use Rattle.std.proofs.Common.{◌≡◌, ℕ, Bool, true, false, Option, Some, None, refl, ap, ◌∙◌, if◌then◌else◌}
-use Rattle.std.specs.Prelude.{◌||◌, slice_get, position}
-use Rattle.osi_tpdu.specs.Value.{Value, Connect, request, confirm, disconnect, disconnected, data0, data2, acknowledge, error}
-use Rattle.osi_rules.specs.declared.connections.Connection.{Connection}
-use Rattle.osi_rules.specs.declared.courses.Course.{Course}
-use Rattle.osi_rules.specs.declared.directions.Direction.{Direction}
-use Rattle.osi_rules.specs.declared.directions.Direction.TheVariants.{Left, Right}
-use Rattle.osi_rules.specs.declared.findings.Finding.{Finding}
-use Rattle.osi_rules.specs.declared.findings.Finding.TheVariants.{Kept, Broke, Outside, TooMany, NotJudged}
-use Rattle.osi_rules.specs.declared.findings.Reach.{Reach}
+use Rattle.std.proofs.Common.{arith}
+use Rattle.osi_rules.proofs.Vocabulary.{◌≡◌, ℕ, Bool, true, false, Option, Some, None, refl, ap, ◌∙◌, if◌then◌else◌, ◌||◌, slice_get}
+use Rattle.osi_rules.proofs.Vocabulary.{position, Value, Connect, request, confirm, disconnect, disconnected, data0, data2, acknowledge}
+use Rattle.osi_rules.proofs.Vocabulary.{error, Connection, Course, Direction, Left, Right, Finding, Kept, Broke, Outside, TooMany}
+use Rattle.osi_rules.proofs.Vocabulary.{NotJudged, Reach, Route, Asks, Named, Only, Unnamed, reach_of, first_failed, is_live, is_named}
+use Rattle.osi_rules.proofs.Vocabulary.{State, Outcome, class_for, course_after, course_after_none, found_on, reached, unnamed, none_told}
+use Rattle.osi_rules.proofs.Vocabulary.{one_told, unnamed_told, at_found, at_place, asks_by, asks_of, request_tests, routed, route}
+use Rattle.osi_rules.proofs.Vocabulary.{is_stopped, stops_by, takes}
 use Rattle.osi_rules.specs.declared.findings.Reach.TheVariants as reach
-use Rattle.osi_rules.specs.declared.routes.Route.{Route}
-use Rattle.osi_rules.specs.declared.routes.Route.TheVariants.{Asks, Named, Only, Unnamed}
-use Rattle.osi_rules.specs.Reaches.{reach_of, is_applied}
-use Rattle.osi_rules.specs.Rows.{first_failed}
-use Rattle.osi_rules.specs.Sides.{is_live, is_named}
-use Rattle.osi_rules.specs.Traffic.{State, Outcome, class_for, course_after, course_after_none, found_on, reached, unnamed, none_told}
-use Rattle.osi_rules.specs.Traffic.{one_told, unnamed_told, at_found, at_place, asks_by, asks_of, request_tests, routed, route, is_stopped}
-use Rattle.osi_rules.specs.Traffic.{stops_by, takes}
 
 reached_says : (d : Direction) (r : Reach) (c : Course) (e : Direction) → is_stopped e (reached d r c) ≡ (stops_by d r e || is_stopped e c)
 reached_says d reach.Nothing c e = refl
@@ -78,8 +68,7 @@ to_unnamed d v s e =
 to_one : (d : Direction) (p : ℕ) (c : Connection) (v : Value) (s : State) → IsSaid d s (one_told d p c v s)
 to_one d p c v s e =
     let f = found_on d s c v in
-    then_says d (reach_of (class_for d s.course) f) (course_after d c v (is_applied f) s.course) s.course e
-    (keeps d c v (is_applied f) s.course e)
+    grind (arith, then_says, keeps)
 
 at_one : (d : Direction) (v : Value) (s : State) (p : ℕ) (c : Option Connection) → IsSaid d s (at_found d v s p c)
 at_one d v s p None e = to_unnamed d v s e

@@ -1,15 +1,9 @@
 -- A unit changes the connection at the place that is told of it, and no other: for the law of that name. By the way that
 -- the unit takes: to no connection, to one at a place, or to a new one.
-use Rattle.std.proofs.Common.{◌≡◌, ◌≢◌, ℕ, ◌<◌, zero, suc, Bool, List, [], ◌∷◌, ◌++◌, length, set, arith, Option, Some, refl, if◌then◌else◌}
-use Rattle.std.specs.Prelude.{slice_get}
-use Rattle.osi_tpdu.specs.Value.{Value, Connect}
-use Rattle.osi_rules.specs.declared.connections.Connection.{Connection}
-use Rattle.osi_rules.specs.declared.directions.Direction.{Direction}
-use Rattle.osi_rules.specs.declared.findings.Finding.{Finding}
-use Rattle.osi_rules.specs.declared.findings.Finding.TheVariants.{NotJudged}
-use Rattle.osi_rules.specs.declared.routes.Route.{Route}
-use Rattle.osi_rules.specs.Traffic.{State, Outcome, none_told, at_found, at_place, asks_kept, asks_by, asks_of, routed, route, is_stopped}
-use Rattle.osi_rules.specs.Traffic.{takes}
+use Rattle.osi_rules.proofs.Vocabulary.{◌≡◌, ◌≢◌, ℕ, ◌<◌, zero, suc, Bool, List, [], ◌∷◌, ◌++◌, length, set, arith, Option, Some, refl}
+use Rattle.osi_rules.proofs.Vocabulary.{if◌then◌else◌, slice_get, Value, Connect, Connection, Direction, Finding, NotJudged, Route, State}
+use Rattle.osi_rules.proofs.Vocabulary.{Outcome, none_told, at_found, at_place, asks_kept, asks_by, asks_of, routed, route, is_stopped}
+use Rattle.osi_rules.proofs.Vocabulary.{takes}
 
 get_other : {X : Type 0} (xs : List X) (i p : ℕ) (x : X) → Some p ≢ Some i → slice_get (set xs p x) i ≡ slice_get xs i
 get_other [] i p x h = refl

@@ -1,22 +1,12 @@
 -- An ER breaks no rule after a unit of the other side has broken one, once the class is known to its sender: for the law of
 -- that name. By the class, and by the connection that the ER names.
-use Rattle.std.proofs.Common.{◌≡◌, ◌≢◌, ℕ, Bool, true, false, [], ◌∷◌, Option, Some, None, refl, if◌then◌else◌}
-use Rattle.std.specs.Prelude.{slice_get, position, not, ◌||◌}
-use Rattle.osi_tpdu.specs.Value.{Value, error}
-use Rattle.osi_class.specs.declared.terms.Class.{Class}
-use Rattle.osi_class.specs.declared.terms.Class.TheVariants.{Zero, Two}
-use Rattle.osi_rules.specs.declared.connections.Connection.{Connection}
-use Rattle.osi_rules.specs.declared.directions.Direction.{Direction}
-use Rattle.osi_rules.specs.declared.directions.Direction.TheVariants.{Left, Right}
-use Rattle.osi_rules.specs.declared.findings.Finding.{Finding}
-use Rattle.osi_rules.specs.declared.findings.Finding.TheVariants.{Broke, NotJudged}
+use Rattle.std.proofs.Common.{arith}
+use Rattle.osi_rules.proofs.Vocabulary.{◌≡◌, ◌≢◌, ℕ, Bool, true, false, [], ◌∷◌, Option, Some, None, refl, if◌then◌else◌, slice_get}
+use Rattle.osi_rules.proofs.Vocabulary.{position, not, ◌||◌, Value, error, Class, Zero, Two, Connection, Direction, Left, Right, Finding}
+use Rattle.osi_rules.proofs.Vocabulary.{Broke, NotJudged, Route, is_break, first_failed, error_tests, is_named, is_silent, other, State}
+use Rattle.osi_rules.proofs.Vocabulary.{Outcome, at_found, at_place, class_for, has_erred, in_doubt, is_stopped, none_told, one_told, route}
+use Rattle.osi_rules.proofs.Vocabulary.{route_in, routed, takes, unnamed_by, unnamed_told}
 use Rattle.osi_rules.specs.declared.findings.Rule.TheVariants as rule
-use Rattle.osi_rules.specs.declared.routes.Route.{Route}
-use Rattle.osi_rules.specs.Reaches.{is_break}
-use Rattle.osi_rules.specs.Rows.{first_failed, error_tests}
-use Rattle.osi_rules.specs.Sides.{is_named, is_silent, other}
-use Rattle.osi_rules.specs.Traffic.{State, Outcome, at_found, at_place, class_for, has_broken, has_erred, in_doubt, is_stopped}
-use Rattle.osi_rules.specs.Traffic.{none_told, one_told, route, route_in, routed, takes, unnamed_by, unnamed_told}
 
 -- no rule is broken
 abbrev IsMild : Outcome → Type 0
@@ -80,5 +70,4 @@ pub is_no_break : (d : Direction) (n cause : ℕ) (s : State) → class_for d s.
     IsMild (takes d (error n cause) s)
 is_no_break d n cause s known erred =
     if_judged (is_stopped d s.course) d (error n cause) s (route d s.course (error n cause))
-    (by_class n cause s d (class_for d s.course) (has_broken (other d) s.course) known
-    (last (is_stopped (other d) s.course) (has_erred (other d) s.course) erred) erred)
+    (grind (arith, by_class, last))

@@ -82,8 +82,7 @@ minor_read text answer rest confirm first said =
     ∙ one_word rest (words_of rest) (data_of rest)
     (λ (words : List (List ℕ)). minor_of (answer ∷ words) (spelled (last_of (answer ∷ words))))
     (made (frequent.Minor confirm)) refl refl refl
-    (λ w. ap (λ (a : Option Bool). a >>= (λ (c : Bool). data_of w >>= (λ (octets : List ℕ). Some (call.Minor c octets)))) (sym said)
-    ∙ mapped (data_of w) (made (frequent.Minor confirm)))
+    (grind (arith, mapped))
     (λ w x more. refl)
 
 pub minor_confirm_read : (text number rest : List ℕ) (n : ℕ) → words_of text ≡ number ∷ words_of rest
@@ -96,8 +95,7 @@ minor_confirm_read text number rest n first said =
     ∙ one_word rest (words_of rest) (data_of rest)
     (λ (words : List (List ℕ)). minor_confirm_of (number ∷ words) (spelled (last_of (number ∷ words))))
     (made (frequent.MinorConfirm n)) refl refl refl
-    (λ w. ap (λ (a : Option ℕ). a >>= (λ (k : ℕ). data_of w >>= (λ (octets : List ℕ). Some (call.MinorConfirm k octets)))) (sym said)
-    ∙ mapped (data_of w) (made (frequent.MinorConfirm n)))
+    (grind (arith, mapped))
     (λ w x more. refl)
 
 -- a line that calls by a frequent verb

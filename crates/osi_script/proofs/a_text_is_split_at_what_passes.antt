@@ -1,6 +1,6 @@
 -- Splitting a list at the elements that pass a test.
 use Rattle.std.proofs.Common.{◌≡◌, ◌∙◌, ℕ, zero, suc, ◌+◌, ◌-◌, ◌<◌, ◌≤◌, Bool, true, false, List, [], ◌∷◌, ◌++◌, Option, None, Some}
-use Rattle.std.proofs.Common.{length, get_or, take, drop, refl, sym, ap, subst, arith}
+use Rattle.std.proofs.Common.{length, get_or, take, drop, refl, ap, arith}
 use Rattle.std.specs.List.{slice_split, onto_first, slice_get, All}
 use Rattle.std.proofs.lemmas.List.{get_or-take, get_or-drop, length-take, length-drop, length-append}
 use Rattle.std.proofs.lemmas.List.Elements.{All-from_get_or}
@@ -23,16 +23,14 @@ none_before : (p : ℕ → Bool) (text : List ℕ) (i : ℕ) → i < length text
     → All (λ x. p x ≡ false) (take i text)
 none_before p text i within h =
     All-from_get_or (λ x. p x ≡ false) (take i text) 0
-    (λ k below. let less : k < i = omega (arith, length-take i text) in
-    subst (λ (x : ℕ). p x ≡ false) (sym (get_or-take i text k 0 less)) (fails (p (get_or text k 0)) (h k less)))
+    (grind (arith, length-take, get_or-take, fails))
 
 none_behind : (p : ℕ → Bool) (text : List ℕ) (n : ℕ) → n ≤ length text
     → ((k : ℕ) → n ≤ k → k < length text → p (get_or text k 0) ≡ true → ⊥) →
     All (λ x. p x ≡ false) (drop n text)
 none_behind p text n within h =
     All-from_get_or (λ x. p x ≡ false) (drop n text) 0
-    (λ k below. let less : n + k < length text = omega (arith, length-drop n text) in
-    subst (λ (x : ℕ). p x ≡ false) (sym (get_or-drop n text k 0)) (fails (p (get_or text (n + k) 0)) (h (n + k) (omega arith) less)))
+    (grind (arith, length-drop, get_or-drop, fails))
 
 -- the first part ends at the first element that passes
 pub first_part : (p : ℕ → Bool) (text : List ℕ) (i : ℕ) → IsFirstByte p text (Some i)

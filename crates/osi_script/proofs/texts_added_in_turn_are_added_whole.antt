@@ -1,5 +1,5 @@
 -- Pieces of text one after the other.
-use Rattle.std.proofs.Common.{◌≡◌, ◌∙◌, ℕ, List, ◌++◌, sym, ap}
+use Rattle.std.proofs.Common.{arith, ◌≡◌, ◌∙◌, ℕ, List, ◌++◌, ap}
 use Rattle.std.proofs.lemmas.List.{append_assoc}
 
 -- the line of an indication: its head, its fields and its end
@@ -10,8 +10,4 @@ line_joined out t1 t2 t3 head name fields octets end h1 h2 h3 =
     h3 ∙ ap (λ (t : List ℕ). t ++ (octets ++ end)) (h2 ∙ ap (λ (t : List ℕ). t ++ fields) h1)
     ∙ ap (λ (t : List ℕ). t ++ (octets ++ end)) (append_assoc out (head ++ name) fields)
     ∙ append_assoc out (head ++ name ++ fields) (octets ++ end)
-    ∙ ap (λ (t : List ℕ). out ++ t) (
-    sym (append_assoc (head ++ name ++ fields) octets end)
-    ∙ ap (λ (t : List ℕ). t ++ octets ++ end) (append_assoc head name fields)
-    ∙ ap (λ (t : List ℕ). t ++ end) (append_assoc head (name ++ fields) octets)
-    )
+    ∙ ap (λ (t : List ℕ). out ++ t) (grind (arith, append_assoc))

@@ -1,3 +1,4 @@
+mod Vocabulary
 pub mod what_is_kept_of_a_side_is_what_passed
 pub mod each_connection_is_kept
 pub mod a_dt_is_judged_if_there_is_room

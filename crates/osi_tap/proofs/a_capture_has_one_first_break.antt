@@ -1,22 +1,10 @@
 -- A tap tells the first break of all, and a capture has one: for the law of the first break, and for the call that tells it.
-use Rattle.std.proofs.Common.{◌≡◌, ◌∙◌, ◌⊎◌, inl, inr, refl, sym, ap, subst, ℕ, zero, suc, true, false, List, [], ◌∷◌, ◌++◌}
-use Rattle.std.proofs.Common.{Option, Some, None}
-use Rattle.std.specs.Prelude.{slice_get}
-use Rattle.osi_judge.specs.declared.directions.Direction.{Direction}
-use Rattle.osi_judge.specs.declared.directions.Direction.TheVariants.{Left, Right}
-use Rattle.osi_tap.specs.declared.marks.First.{First}
-use Rattle.osi_tap.specs.declared.marks.Mark.{Mark}
-use Rattle.osi_tap.specs.declared.tap.Tap.{Tap}
-use Rattle.osi_tap.specs.declared.watch.Watch.{Watch}
-use Rattle.osi_tap.specs.Blaming.{IsToBlame, IsBlameless, AreBlameless, AreBlamelessBut, NobodyIs, IsToBlameAt, IsQuiet, IsSpotless}
-use Rattle.osi_tap.specs.Blaming.{AreSpotless, IsBreakOf, BreaksFirst, IsFirstOf, IsEarliest, IsStill}
-use Rattle.osi_tap.specs.Blaming.IsBreakOf.{of_transport, of_session}
-use Rattle.osi_tap.specs.Connections.{Joined, Sessions}
-use Rattle.osi_tap.specs.Courses.{Moment, is_break, first_of}
-use Rattle.osi_tap.specs.Holding.{streamed}
-use Rattle.osi_tap.specs.Standing.{HoldsBy, HoldsState, IsJudged, first_in}
-use Rattle.osi_tap.specs.Streams.{Streamed}
-use Rattle.osi_tap.specs.Tapping.{State}
+use Rattle.std.proofs.Common.{arith}
+use Rattle.osi_tap.proofs.Vocabulary.{◌≡◌, ◌∙◌, ◌⊎◌, inl, inr, refl, sym, ap, subst, ℕ, zero, suc, List, [], ◌∷◌, ◌++◌, Option, Some, None}
+use Rattle.osi_tap.proofs.Vocabulary.{slice_get, Direction, First, Tap, Watch, IsToBlame, IsBlameless, AreBlameless, AreBlamelessBut}
+use Rattle.osi_tap.proofs.Vocabulary.{NobodyIs, IsToBlameAt, IsSpotless, AreSpotless, IsBreakOf, BreaksFirst, IsFirstOf, IsEarliest}
+use Rattle.osi_tap.proofs.Vocabulary.{IsStill, of_transport, of_session, Joined, Sessions, Moment, HoldsBy, HoldsState, IsJudged, first_in}
+use Rattle.osi_tap.proofs.Vocabulary.{Streamed, State}
 use Rattle.osi_tap.proofs.who_is_to_blame.{not_both}
 
 -- ---- what a tap tells
@@ -26,33 +14,18 @@ held_by : (due : Option Direction) (w : Watch) (l r : Streamed) (s : State) → 
 held_by None w l r s e h = h.course.course.order
 held_by (Some d) w l r s e h = cc
 
-held : (t : Tap) (s : State) → HoldsState t s → IsJudged t → IsEarliest (first_in t) s.course.past s.course.sessions
-held t s h judged = held_by t.due t.watch (streamed t.left) (streamed t.right) s judged h
-
-earliest_first : (o : Option First) (past : List Moment) (s : Sessions) → IsEarliest o past s → IsFirstOf o past
-earliest_first None past s h = h.0
-earliest_first (Some f) past s h = h.0
-
 pub first_held : (t : Tap) (s : State) → HoldsState t s → IsJudged t → IsFirstOf (first_in t) s.course.past
-first_held t s h judged = earliest_first (first_in t) s.course.past s.course.sessions (held t s h judged)
+first_held t s h judged = grind arith
 
 pub nobody_held : (t : Tap) (s : State) → HoldsState t s → IsJudged t → first_in t ≡ None → NobodyIs s.course.sessions
 nobody_held t s h judged none =
-    let e = subst (λ (o : Option First). IsEarliest o s.course.past s.course.sessions) none (held t s h judged) in e.1
+    let e = subst (λ (o : Option First). IsEarliest o s.course.past s.course.sessions) none (grind (arith, held_by)) in e.1
 
 pub still_held : (t : Tap) (s : State) (f : First) → HoldsState t s → IsJudged t → first_in t ≡ Some f → IsStill f s.course.sessions
 still_held t s f h judged some =
-    let e = subst (λ (o : Option First). IsEarliest o s.course.past s.course.sessions) some (held t s h judged) in e.1
+    let e = subst (λ (o : Option First). IsEarliest o s.course.past s.course.sessions) some (grind (arith, held_by)) in e.1
 
 -- ---- a moment with a break is not spotless
-
-both_quiet : (o : Option Mark) (k : Mark) → o ≡ Some k → is_break k.cause ≡ true → IsQuiet o → ⊥
-both_quiet o k e b q =
-    let n : is_break k.cause ≡ false = subst IsQuiet e q in absurd (cc)
-
-one_of : (d : Direction) (j : Joined) → IsBlameless Left j × IsBlameless Right j → IsBlameless d j
-one_of Left j h = h.0
-one_of Right j h = h.1
 
 abbrev SomeBlameless : Direction → Option Joined → Type 0
 SomeBlameless d None = Unit {0}
@@ -60,7 +33,7 @@ SomeBlameless d (Some j) = IsBlameless d j
 
 at_place : (d : Direction) (i : ℕ) (js : List Joined) → AreBlameless js → SomeBlameless d (slice_get js i)
 at_place d i [] h = tt
-at_place d zero (j ∷ js) h = one_of d j h.0
+at_place d zero (j ∷ js) h = grind arith
 at_place d (suc i) (j ∷ js) h = at_place d i js h.1
 
 -- but for this side of the one at another place
@@ -68,14 +41,14 @@ elsewhere : (d : Direction) (i k : ℕ) (js : List Joined) → (i ≡ k → ⊥)
 elsewhere d i k [] f h = tt
 elsewhere d zero zero (j ∷ js) f h = absurd (f refl)
 elsewhere d zero (suc k) (j ∷ js) f h = at_place d k js h.1
-elsewhere d (suc i) zero (j ∷ js) f h = one_of d j h.0
+elsewhere d (suc i) zero (j ∷ js) f h = grind arith
 elsewhere d (suc i) (suc k) (j ∷ js) f h = elsewhere d i k js (λ x. f (ap suc x)) h.1
 
 blamed_or_not : (d : Direction) (o : Option Joined) (j : Joined) → o ≡ Some j → IsToBlame d j → SomeBlameless d o → ⊥
 blamed_or_not d o j e b h = not_both d j b (subst (SomeBlameless d) e h)
 
 never_spotless : (f : First) (m : Moment) → IsBreakOf f m → IsSpotless m → ⊥
-never_spotless f m (of_transport k e b is) h = both_quiet m.mark k e b h.transport
+never_spotless f m (of_transport k e b is) h = grind arith
 never_spotless f m (of_session i q l d b) h =
     blamed_or_not f.direction (slice_get m.sessions.live i) b.connection b.there b.broke
     (at_place f.direction i m.sessions.live h.sessions.live)
@@ -91,25 +64,18 @@ same_or_not zero (suc k) = inr (λ e. absurd (cc))
 same_or_not (suc i) zero = inr (λ e. absurd (cc))
 same_or_not (suc i) (suc k) = elim (same_or_not i k) [ inl e ↦ inl (ap suc e) | inr n ↦ inr (λ e. let f : i ≡ k = cc in n f) ]
 
-same_number : (i k : ℕ) (js : List Joined) (j l : Joined) → i ≡ k → slice_get js i ≡ Some j → slice_get js k ≡ Some l → j.number ≡ l.number
-same_number i k js j l e a b =
-    let both : Some j ≡ Some l = sym a ∙ ap (slice_get js) e ∙ b in
-    let same : j ≡ l = cc in
-    ap (λ (x : Joined). x.number) same
-
 one_number : (d : Direction) (i k : ℕ) (n o : Option ℕ) (s : Sessions) → IsToBlameAt d i n s → IsToBlameAt d k o s → n ≡ o
 one_number d i k n o s a b = elim (same_or_not i k) [
-  | inl e ↦ a.number_is ∙ ap Some (same_number i k s.live a.connection b.connection e a.there b.there) ∙ sym b.number_is
+  | inl e ↦ a.number_is ∙ ap Some (grind arith) ∙ sym b.number_is
   | inr f ↦ absurd (blamed_or_not d (slice_get s.live k) b.connection b.there b.broke (elsewhere d i k s.live f a.others.live))
 ]
 
 one_break : (f g : First) (m : Moment) → IsBreakOf f m → IsBreakOf g m → f ≡ g
 one_break f g m (of_transport k e b is) (of_transport l e2 b2 is2) =
     let both : Some k ≡ Some l = sym e ∙ e2 in
-    let same : k ≡ l = cc in
-    is ∙ ap first_of same ∙ sym is2
-one_break f g m (of_transport k e b is) (of_session i q l d h) = absurd (both_quiet m.mark k e b q)
-one_break f g m (of_session i q l d h) (of_transport k e b is) = absurd (both_quiet m.mark k e b q)
+    grind arith
+one_break f g m (of_transport k e b is) (of_session i q l d h) = absurd (grind arith)
+one_break f g m (of_session i q l d h) (of_transport k e b is) = absurd (grind arith)
 one_break f g m (of_session i q l d h) (of_session i2 q2 l2 d2 h2) =
     let sides : g.direction ≡ f.direction = d2 ∙ sym d in
     same_first f g (sym sides) (l ∙ sym l2)
@@ -122,22 +88,16 @@ spotless_at : (front : List Moment) (m : Moment) (back : List Moment) → AreSpo
 spotless_at [] m back h = h.0
 spotless_at (x ∷ front) m back h = spotless_at front m back h.1
 
-same_head : (x y : Moment) (a b : List Moment) → x ∷ a ≡ y ∷ b → x ≡ y
-same_head x y a b e = cc
-
-same_tail : (x y : Moment) (a b : List Moment) → x ∷ a ≡ y ∷ b → a ≡ b
-same_tail x y a b e = cc
-
 same_moment : (f g : First) (a b : List Moment) (m n : Moment) (p q : List Moment) → AreSpotless a → AreSpotless b
     → a ++ m ∷ p ≡ b ++ n ∷ q → IsBreakOf f m → IsBreakOf g n → f ≡ g
 same_moment f g [] [] m n p q h k e x y =
-    one_break f g n (subst (λ (z : Moment). IsBreakOf f z) (same_head m n p q e) x) y
+    one_break f g n (subst (λ (z : Moment). IsBreakOf f z) (grind arith) x) y
 same_moment f g [] (o ∷ b) m n p q h k e x y =
-    absurd (never_spotless f o (subst (λ (z : Moment). IsBreakOf f z) (same_head m o p (b ++ n ∷ q) e) x) k.0)
+    absurd (never_spotless f o (subst (λ (z : Moment). IsBreakOf f z) (grind arith) x) k.0)
 same_moment f g (o ∷ a) [] m n p q h k e x y =
-    absurd (never_spotless g o (subst (λ (z : Moment). IsBreakOf g z) (sym (same_head o n (a ++ m ∷ p) q e)) y) h.0)
+    absurd (never_spotless g o (subst (λ (z : Moment). IsBreakOf g z) (sym (grind arith)) y) h.0)
 same_moment f g (o ∷ a) (r ∷ b) m n p q h k e x y =
-    same_moment f g a b m n p q h.1 k.1 (same_tail o r (a ++ m ∷ p) (b ++ n ∷ q) e) x y
+    same_moment f g a b m n p q h.1 k.1 (grind arith) x y
 
 one_or_none : (f : First) (past : List Moment) → AreSpotless past → BreaksFirst f past → ⊥
 one_or_none f past h k =

@@ -1,10 +1,7 @@
 -- A piece of one direction comes to the same as its octets one after the other: for the law that pieces don't matter.
-use Rattle.std.proofs.Common.{◌≡◌, ◌∙◌, refl, sym, ap, subst, ℕ, suc, ◌+◌, false, if◌then◌else◌, List, [], ◌∷◌, ◌++◌, append_assoc, arith}
-use Rattle.osi_tpkt.specs.Stream.{offset_of}
-use Rattle.osi_judge.specs.Captures.{Capture, of, piece}
-use Rattle.osi_judge.specs.declared.directions.Direction.{Direction}
-use Rattle.osi_tap.specs.Streams.{Front, partial, front_of, Streamed, counted, gathered}
-use Rattle.osi_tap.specs.Tapping.{State, stream_of, with_stream, looked_at, begun, octets_pass, octet_passes, after, GoesOn}
+use Rattle.osi_tap.proofs.Vocabulary.{◌≡◌, ◌∙◌, refl, sym, ap, subst, ℕ, suc, ◌+◌, false, if◌then◌else◌, List, [], ◌∷◌, ◌++◌, append_assoc}
+use Rattle.osi_tap.proofs.Vocabulary.{arith, offset_of, Capture, of, piece, Direction, Front, partial, front_of, Streamed, counted}
+use Rattle.osi_tap.proofs.Vocabulary.{gathered, State, stream_of, with_stream, looked_at, begun, octets_pass, octet_passes, after, GoesOn}
 
 pub after_more : (a b : Capture) (s : State) → after (a ++ b) s ≡ after b (after a s)
 after_more [] b s = refl
@@ -44,14 +41,10 @@ pub going : (d : Direction) (os : List ℕ) (s : State) → (stream_of d s).spen
     → octets_pass d os s ≡ looks d (gathered os (stream_of d s)) (begun d (stream_of d s).held s)
 going d os s e = grind arith
 
-going_in : (d : Direction) (os : List ℕ) (t : Streamed) (s : State) → t.spent ≡ false
-    → octets_pass d os (with_stream d t s) ≡ looks d (gathered os t) (begun d t.held (with_stream d t s))
-going_in d os t s e = grind (arith, same_stream, going)
-
 -- an octet that completes no packet, and then others
 pub octet_first : (d : Direction) (o : ℕ) (os : List ℕ) (s : State) → (stream_of d s).spent ≡ false
     → front_of ((stream_of d s).held ++ o ∷ []) ≡ partial → octets_pass d os (octet_passes (of d o) s) ≡ octets_pass d (o ∷ os) s
-octet_first d o os s e part = grind (arith, going, going_in, begun_on, look_again, gathered_more)
+octet_first d o os s e part = grind (arith, going, begun_on, look_again, gathered_more)
 
 still : (d : Direction) (o : ℕ) (s : State) → (stream_of d s).spent ≡ false → front_of ((stream_of d s).held ++ o ∷ []) ≡ partial
     → stream_of d (octet_passes (of d o) s) ≡ gathered (o ∷ []) (stream_of d s)

@@ -1,15 +1,9 @@
 -- What a tap holds of both directions and of what has passed: for the calls of a tap.
-use Rattle.std.proofs.Common.{◌≡◌, ◌∙◌, refl, sym, subst, ℕ, Bool, true, false, if◌then◌else◌, List, [], ◌∷◌, length}
-use Rattle.osi_judge.specs.Captures.{Capture, of, other, piece}
-use Rattle.osi_judge.specs.declared.directions.Direction.{Direction}
-use Rattle.osi_judge.specs.declared.directions.Direction.TheVariants.{Left, Right}
-use Rattle.osi_tap.specs.declared.tap.Tap.{Tap}
-use Rattle.osi_tap.specs.declared.watch.Watch.{Watch}
-use Rattle.osi_tap.specs.Standing.{HoldsPart, HoldsOpen, HoldsStream, HoldsNow, HoldsBy, due_if}
-use Rattle.osi_tap.specs.Standing.{HoldsState, IsFed}
-use Rattle.osi_tap.specs.Standing.IsFed.{unfed, fed}
-use Rattle.osi_tap.specs.Streams.{Front, partial, faulty, whole, front_of, Streamed, counted, gathered}
-use Rattle.osi_tap.specs.Tapping.{State, stream_of, with_stream, looked_at, begun, octet_passes, begin, after, comes_to}
+use Rattle.std.proofs.Common.{arith}
+use Rattle.osi_tap.proofs.Vocabulary.{◌≡◌, ◌∙◌, refl, sym, subst, ℕ, Bool, true, false, if◌then◌else◌, List, [], ◌∷◌, length, Capture, of}
+use Rattle.osi_tap.proofs.Vocabulary.{other, piece, Direction, Left, Right, Tap, Watch, HoldsPart, HoldsOpen, HoldsStream, HoldsNow}
+use Rattle.osi_tap.proofs.Vocabulary.{HoldsBy, due_if, HoldsState, IsFed, unfed, fed, Streamed, counted, gathered, State, stream_of}
+use Rattle.osi_tap.proofs.Vocabulary.{with_stream, begun, octet_passes, begin, after, comes_to}
 use Rattle.osi_tap.proofs.a_piece_comes_to_what_its_octets_do.{looks, after_more}
 
 -- ---- the other direction
@@ -20,25 +14,12 @@ other_begun Left (o ∷ held) s = refl
 other_begun Right [] s = refl
 other_begun Right (o ∷ held) s = refl
 
-other_looked : (d : Direction) (t : Streamed) (f : Front) (s : State) → stream_of (other d) (looked_at d t f s) ≡ stream_of (other d) s
-other_looked Left t partial s = refl
-other_looked Left t (faulty fault) s = refl
-other_looked Left t (whole unit) s = refl
-other_looked Right t partial s = refl
-other_looked Right t (faulty fault) s = refl
-other_looked Right t (whole unit) s = refl
-
-other_with : (d : Direction) (t : Streamed) (s : State) → stream_of (other d) (with_stream d t s) ≡ stream_of (other d) s
-other_with Left t s = refl
-other_with Right t s = refl
-
 other_by : (b : Bool) (d : Direction) (os : List ℕ) (s : State)
     → stream_of (other d) (if b then with_stream d (counted (length os) (stream_of d s)) s
     else looks d (gathered os (stream_of d s)) (begun d (stream_of d s).held s)) ≡ stream_of (other d) s
-other_by true d os s = other_with d (counted (length os) (stream_of d s)) s
+other_by true d os s = grind arith
 other_by false d os s =
-    let t = gathered os (stream_of d s) in
-    other_looked d t (front_of t.held) (begun d (stream_of d s).held s) ∙ other_begun d (stream_of d s).held s
+    (grind arith) ∙ other_begun d (stream_of d s).held s
 
 other_stays : (d : Direction) (os : List ℕ) (s : State) → stream_of (other d) (after (piece d os) s) ≡ stream_of (other d) s
 other_stays d [] s = refl

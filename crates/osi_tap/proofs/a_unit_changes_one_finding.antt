@@ -1,10 +1,5 @@
 -- What is found of both sides stays where a unit changes neither: for the function that gives a unit to a connection.
-use Rattle.std.proofs.Common.{◌≡◌, ap}
-use Rattle.osi_judge.specs.declared.directions.Direction.{Direction}
-use Rattle.osi_judge.specs.declared.directions.Direction.TheVariants.{Left, Right}
-use Rattle.osi_tap.specs.declared.connections.Connection.{Connection}
-use Rattle.osi_tap.specs.declared.lines.Line.{Line}
-use Rattle.osi_tap.specs.Holding.{lined, line_in}
+use Rattle.osi_tap.proofs.Vocabulary.{◌≡◌, ap, Direction, Left, Right, Connection, Line, lined, line_in}
 
 pub lines_stay : (d : Direction) (c e : Connection) → e.left ≡ c.left → e.right ≡ c.right
     → (line_in d e).side.finding ≡ (line_in d c).side.finding

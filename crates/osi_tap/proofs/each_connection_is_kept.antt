@@ -1,16 +1,9 @@
 -- What is kept of the connections stays what passed of them, as one is changed, added or given up, and as all begin a packet:
 -- for the connections of a byte connection.
-use Rattle.std.proofs.Common.{◌≡◌, ℕ, zero, suc, ◌+◌, ◌<◌, ◌≤◌, List, [], ◌∷◌, ◌++◌, length, take, drop, map, get_or, set, arith, refl, ap}
-use Rattle.std.proofs.Common.{subst, sym, Option, Some, None, ◌∙◌, add-one, Bool, cond, ◌==◌}
-use Rattle.std.proofs.lemmas.List.Folds.{find-append}
-use Rattle.std.specs.List.{find}
-use Rattle.std.specs.Option.{option_map, option_or}
-use Rattle.osi_tap.specs.Courses.{number_of}
-use Rattle.std.specs.Prelude.{slice_get}
-use Rattle.osi_tap.specs.declared.connections.Connection.{Connection}
-use Rattle.osi_tap.specs.declared.rooms.Room.{Room}
-use Rattle.osi_tap.specs.Connections.{Joined, Sessions, asked, changed, placed, has_number, numbered}
-use Rattle.osi_tap.specs.Holding.{HoldsJoined, HoldsFound, HoldAll}
+use Rattle.osi_tap.proofs.Vocabulary.{◌≡◌, ℕ, zero, suc, ◌+◌, ◌<◌, ◌≤◌, List, [], ◌∷◌, ◌++◌, length, take, drop, map, get_or, set, arith}
+use Rattle.osi_tap.proofs.Vocabulary.{refl, ap, sym, Option, Some, None, ◌∙◌, add-one, cond, ◌==◌, find-append, find, option_map, number_of}
+use Rattle.osi_tap.proofs.Vocabulary.{slice_get, Connection, Room, Joined, Sessions, asked, changed, placed, has_number, numbered}
+use Rattle.osi_tap.proofs.Vocabulary.{HoldsJoined, HoldsFound, HoldAll}
 
 pub all_length : (cs : List Connection) (js : List Joined) → HoldAll cs js → length cs ≡ length js
 all_length [] [] h = refl
@@ -45,8 +38,7 @@ pub one_changed : (cs ds : List Connection) (s : Sessions) (i : ℕ) (c d : Conn
     → HoldAll (set cs i d) (changed i f s (slice_get s.live i)).live × HoldAll ds (changed i f s (slice_get s.live i)).done
 one_changed cs ds s i c d f lt step live done =
     let r = element cs s.live i c lt live in
-    subst (λ (o : Option Joined). HoldAll (set cs i d) (changed i f s o).live × HoldAll ds (changed i f s o).done) (sym r.there)
-    (r.next d (f r.joined) (step r.joined r.holds), done)
+    grind (arith, set)
 
 pub none_there : (js : List Joined) (i : ℕ) → length js ≤ i → slice_get js i ≡ None
 none_there [] i le = refl
@@ -72,9 +64,7 @@ pub one_replaced : (cs ds : List Connection) (s : Sessions) (i : ℕ) (c d : Con
     (slice_get s.live i)).done
 one_replaced cs ds s i c d j lt holds live done =
     let r = element cs s.live i c lt live in
-    subst (λ (o : Option Joined). HoldAll (set cs i d) (placed i j s o).live × HoldAll (ds ++ get_or cs i c ∷ [])
-    (placed i j s o).done) (sym r.there)
-    (r.next d j holds, all_more ds s.done (get_or cs i c) r.joined done r.holds)
+    grind (arith, set, all_more)
 
 -- how much is judged of each stays
 
@@ -106,8 +96,7 @@ pub begun_step : (f : Joined → Joined) (cs : List Connection) (js : List Joine
     → HoldAll (set cs i new) (map f (take (i + 1) js) ++ drop (i + 1) js)
 begun_step f cs js i d new lt h step =
     let next = step_at f cs js i d new lt h step in
-    let Holding : ℕ → Type 0 = λ (n : ℕ). HoldAll (set cs i new) (map f (take n js) ++ drop n js) in
-    subst Holding (sym (add-one i)) next
+    grind (arith, set, add-one)
 
 all_taken : (f : Joined → Joined) (js : List Joined) (n : ℕ) → n ≡ length js → map f (take n js) ++ drop n js ≡ map f js
 all_taken f [] zero e = refl
@@ -140,30 +129,18 @@ one_kept (b ∷ cs) (j ∷ js) (suc i) c d lt step h = (h.0, one_kept cs js i c 
 
 -- ---- the one with a number
 
-found_step : (b : Bool) (c : Connection) (j : Joined) (cs : Option Connection) (js : Option Joined) → HoldsJoined c j → HoldsFound cs js
-    → HoldsFound (cond b (Some c) cs) (cond b (Some j) js)
-found_step b c j cs js h k = grind arith
-
 pub found_held : (number : ℕ) (cs : List Connection) (js : List Joined) → HoldAll cs js
     → HoldsFound (find (λ c. c.number == number) cs) (find (has_number number) js)
 found_held number [] [] h = tt
 found_held number [] (j ∷ js) h = absurd h
 found_held number (c ∷ cs) [] h = absurd h
-found_held number (c ∷ cs) (j ∷ js) h = grind (arith, cond, found_step, found_held number cs js h.1)
-
-found_first : (cs : Option Connection) (c : Connection) (js ks : Option Joined) → cs ≡ Some c → HoldsFound cs js
-    → HoldsFound (Some c) (option_or js ks)
-found_first cs c js ks e h = grind arith
-
-found_next : (cs ds : Option Connection) (js ks : Option Joined) → cs ≡ None → HoldsFound cs js → HoldsFound ds ks
-    → HoldsFound ds (option_or js ks)
-found_next cs ds js ks e h k = grind arith
+found_held number (c ∷ cs) (j ∷ js) h = grind (arith, cond, found_held number cs js h.1)
 
 pub live_found : (number : ℕ) (cs : List Connection) (c : Connection) (s : Sessions) → find (λ c. c.number == number) cs ≡ Some c
     → HoldAll cs s.live → HoldsFound (Some c) (numbered number s)
-live_found number cs c s e h = grind (arith, find-append, found_first, found_held)
+live_found number cs c s e h = grind (arith, find-append, found_held)
 
 pub done_found : (number : ℕ) (cs ds : List Connection) (o : Option Connection) (s : Sessions)
     → find (λ c. c.number == number) cs ≡ None → o ≡ find (λ c. c.number == number) ds → HoldAll cs s.live → HoldAll ds s.done
     → HoldsFound o (numbered number s)
-done_found number cs ds o s e is h k = grind (arith, find-append, found_next, found_held)
+done_found number cs ds o s e is h k = grind (arith, find-append, found_held)

@@ -1,17 +1,8 @@
 -- The sessions of connections have heard all that the other side said: for the functions that hand it over, one connection after
 -- the other, and for those that find a connection.
-use Rattle.std.proofs.Common.{◌≡◌, ℕ, zero, suc, ◌+◌, ◌<◌, ◌≤◌, List, [], ◌∷◌, length, take, set, get_or, arith, subst, sym, add-one, Bool}
-use Rattle.std.proofs.Common.{cond, ◌==◌, Option, Some, None}
-use Rattle.std.specs.List.{find}
-use Rattle.osi_judge.specs.declared.directions.Direction.{Direction}
-use Rattle.osi_tap.specs.declared.connections.Connection.{Connection}
-use Rattle.osi_tap.specs.declared.watch.Watch.{Watch}
-use Rattle.osi_tap.specs.Courses.{Course}
-use Rattle.osi_tap.specs.Holding.{AreHeard, FoundHeard, IsHeard}
-use Rattle.osi_tap.specs.Owing.{HoldsAll}
-use Rattle.osi_tap.specs.Standing.{HoldsBy}
-use Rattle.osi_tap.specs.Streams.{Streamed}
-use Rattle.osi_tap.specs.Tapping.{State}
+use Rattle.osi_tap.proofs.Vocabulary.{◌≡◌, ℕ, zero, suc, ◌+◌, ◌<◌, ◌≤◌, List, [], ◌∷◌, length, take, set, get_or, arith, subst, sym}
+use Rattle.osi_tap.proofs.Vocabulary.{add-one, ◌==◌, Option, None, find, Direction, Connection, Watch, Course, AreHeard, FoundHeard}
+use Rattle.osi_tap.proofs.Vocabulary.{IsHeard, HoldsAll, HoldsBy, Streamed, State}
 
 front_at : (cs : List Connection) (i : ℕ) (d : Connection) → i < length cs → IsHeard d → AreHeard (take i cs)
     → AreHeard (take (suc i) (set cs i d))
@@ -40,12 +31,9 @@ still_heard (x ∷ cs) (suc i) c k h = (h.0, still_heard cs i c k h.1)
 
 -- ---- the one with a number
 
-one_found : (b : Bool) (c : Connection) (o : Option Connection) → IsHeard c → FoundHeard o → FoundHeard (cond b (Some c) o)
-one_found b c o h k = grind arith
-
 pub found_heard : (number : ℕ) (cs : List Connection) → AreHeard cs → FoundHeard (find (λ c. c.number == number) cs)
 found_heard number [] h = tt
-found_heard number (c ∷ cs) h = grind (arith, one_found, found_heard number cs h.1)
+found_heard number (c ∷ cs) h = grind (arith, found_heard number cs h.1)
 
 -- ---- what a tap holds
 

@@ -1,20 +1,11 @@
 -- What passes later comes after the moments that have passed: for the law of the first break.
-use Rattle.std.proofs.Common.{◌≡◌, ◌∙◌, refl, sym, ap, ℕ, Bool, true, false, if◌then◌else◌, is_some, List, [], ◌∷◌, ◌++◌}
-use Rattle.std.proofs.Common.{append_assoc, length, Result, Ok, Err}
-use Rattle.std.proofs.lemmas.List.{append-nil}
+use Rattle.std.proofs.Common.{arith}
+use Rattle.osi_tap.proofs.Vocabulary.{◌≡◌, ◌∙◌, refl, sym, ap, ℕ, Bool, true, false, if◌then◌else◌, List, [], ◌∷◌, ◌++◌, append_assoc}
+use Rattle.osi_tap.proofs.Vocabulary.{length, Result, Ok, Err, append-nil, units_of, Value, TpduFault, Capture, of, Direction, Left, Right}
+use Rattle.osi_tap.proofs.Vocabulary.{Cause, Course, Moment, way_of, cause_of, marked, moved, unit_passes, units_pass, unread_mark}
+use Rattle.osi_tap.proofs.Vocabulary.{unread_moment, packet_by, Front, partial, faulty, whole, front_of, Streamed, counted, gathered, State}
+use Rattle.osi_tap.proofs.Vocabulary.{stream_of, with_stream, looked_at, begun, octet_passes, begin, after, comes_to}
 use Rattle.osi_rules.specs.Traffic as traffic
-use Rattle.osi_tpdu.specs.Packet.{units_of}
-use Rattle.osi_tpdu.specs.Value.{Value}
-use Rattle.osi_tpdu.specs.declared.faults.TpduFault.{TpduFault}
-use Rattle.osi_judge.specs.Captures.{Capture, of}
-use Rattle.osi_judge.specs.declared.directions.Direction.{Direction}
-use Rattle.osi_judge.specs.declared.directions.Direction.TheVariants.{Left, Right}
-use Rattle.osi_tap.specs.declared.marks.Cause.{Cause}
-use Rattle.osi_tap.specs.declared.marks.Cause.TheVariants.{BadUnit, BadPacket}
-use Rattle.osi_tap.specs.Courses.{Course, Moment, way_of, cause_of, marks_of, marked, moved, unit_passes, units_pass, unread, unread_mark}
-use Rattle.osi_tap.specs.Courses.{unread_moment, packet_by}
-use Rattle.osi_tap.specs.Streams.{Front, partial, faulty, whole, front_of, Streamed, counted, gathered}
-use Rattle.osi_tap.specs.Tapping.{State, stream_of, with_stream, looked_at, begun, octet_passes, begin, after, comes_to}
 use Rattle.osi_tap.proofs.a_piece_comes_to_what_its_octets_do.{looks, after_more}
 use Rattle.osi_tap.proofs.no_break_was_before_the_first.{noted_past, marked_past}
 
@@ -45,23 +36,16 @@ unread_by : (b : Bool) (d : Direction) (at : ℕ) (cause : Cause) (c : Course)
 unread_by true d at cause c = none_more c.past c.past refl
 unread_by false d at cause c = (unread_moment d at cause c.sessions ∷ [], marked_past (unread_mark d at cause) _ _)
 
-unread_more : (d : Direction) (at : ℕ) (cause : Cause) (c : Course) → More c.past (unread d at cause c).past
-unread_more d at cause c = unread_by (is_some (marks_of d c).halted) d at cause c
-
 read_more : (d : Direction) (at : ℕ) (read : Result (List Value) TpduFault) (c : Course) → More c.past (packet_by d at read c).past
 read_more d at (Ok vs) c = units_more d at vs c
-read_more d at (Err fault) c = unread_more d at (BadUnit fault) c
+read_more d at (Err fault) c = grind (arith, unread_by)
 
 -- ---- octets
 
-with_more : (d : Direction) (t : Streamed) (s : State) → (with_stream d t s).course.past ≡ s.course.past
-with_more Left t s = refl
-with_more Right t s = refl
-
 looked_more : (d : Direction) (t : Streamed) (f : Front) (s : State) → More s.course.past (looked_at d t f s).course.past
-looked_more d t partial s = none_more _ _ (with_more d t s)
-looked_more Left t (faulty fault) s = unread_more Left t.at (BadPacket fault) s.course
-looked_more Right t (faulty fault) s = unread_more Right t.at (BadPacket fault) s.course
+looked_more d t partial s = none_more _ _ (grind arith)
+looked_more Left t (faulty fault) s = search (arith, unread_by)
+looked_more Right t (faulty fault) s = search (arith, unread_by)
 looked_more Left t (whole unit) s = read_more Left t.at (units_of unit) s.course
 looked_more Right t (whole unit) s = read_more Right t.at (units_of unit) s.course
 
@@ -73,19 +57,17 @@ begun_more d (o ∷ held) s = refl
 octet_by : (b : Bool) (d : Direction) (os : List ℕ) (s : State)
     → More s.course.past (if b then with_stream d (counted (length os) (stream_of d s)) s
     else looks d (gathered os (stream_of d s)) (begun d (stream_of d s).held s)).course.past
-octet_by true d os s = none_more _ _ (with_more d (counted (length os) (stream_of d s)) s)
+octet_by true d os s = none_more _ _ (grind arith)
 octet_by false d os s =
     let t = gathered os (stream_of d s) in
     let next = begun d (stream_of d s).held s in
-    then_more s.course.past next.course.past (looks d t next).course.past (none_more _ _ (begun_more d (stream_of d s).held s))
-    (looked_more d t (front_of t.held) next)
+    grind (arith, then_more, none_more, begun_more, looks d t next, looked_more d t (front_of t.held) next)
 
 after_grows : (capture : Capture) (s : State) → More s.course.past (after capture s).course.past
 after_grows [] s = none_more s.course.past s.course.past refl
 after_grows (of d o ∷ capture) s =
     let next = octet_passes (of d o) s in
-    then_more s.course.past next.course.past (after capture next).course.past (octet_by (stream_of d s).spent d (o ∷ []) s)
-    (after_grows capture next)
+    search (arith, then_more, octet_by, after_grows capture next)
 
 pub moments_of : (capture more : Capture) → More (comes_to capture).course.past (comes_to (capture ++ more)).course.past
 moments_of capture more =

@@ -1,26 +1,14 @@
 -- The break that is told as the first is the earliest: no moment before it had one, of transport or of a session.
 -- For the functions that let a unit pass, and for octets that can't be read.
-use Rattle.std.proofs.Common.{◌≡◌, ◌∙◌, refl, sym, ap, subst, ℕ, Bool, true, false, if◌then◌else◌, List, [], ◌∷◌, ◌++◌, append_assoc}
-use Rattle.std.proofs.Common.{Option, Some, None}
-use Rattle.std.specs.Option.{option_map}
-use Rattle.osi_tpdu.specs.Value.{Value}
-use Rattle.osi_judge.specs.declared.directions.Direction.{Direction}
-use Rattle.osi_judge.specs.declared.directions.Direction.TheVariants.{Left, Right}
-use Rattle.osi_rules.specs.declared.findings.Reach.{Reach}
+use Rattle.std.proofs.Common.{arith}
+use Rattle.osi_tap.proofs.Vocabulary.{◌≡◌, ◌∙◌, refl, sym, ap, subst, ℕ, Bool, true, false, if◌then◌else◌, List, [], ◌∷◌, ◌++◌}
+use Rattle.osi_tap.proofs.Vocabulary.{append_assoc, Option, Some, None, Value, Direction, Left, Right, Reach, Told, Cause, First, Session}
+use Rattle.osi_tap.proofs.Vocabulary.{Mark, Marks, Sessions, taken, all_begin, Course, Moment, is_break, first_of, first_by, first_after}
+use Rattle.osi_tap.proofs.Vocabulary.{first_marked, changes, breaks, marked, cause_of, noted_by, moved, moment_of, applied, number_at}
+use Rattle.osi_tap.proofs.Vocabulary.{unread_mark, unread_moment, NobodyIs, NobodyElse, IsToBlameAt, IsQuiet, AreSpotless, IsSpotless}
+use Rattle.osi_tap.proofs.Vocabulary.{BreaksFirst, IsEarliest, IsBreakOf, BlamesBy, IsSessionOf, IsToldOf, IsStill, SomeoneIs, of_transport}
+use Rattle.osi_tap.proofs.Vocabulary.{of_session}
 use Rattle.osi_rules.specs.declared.findings.Reach.TheVariants as reach
-use Rattle.osi_rules.specs.declared.findings.Told.{Told}
-use Rattle.osi_tap.specs.declared.marks.Cause.{Cause}
-use Rattle.osi_tap.specs.declared.marks.First.{First}
-use Rattle.osi_tap.specs.declared.marks.Layer.TheVariants.{Session, Transport}
-use Rattle.osi_tap.specs.declared.marks.Mark.{Mark}
-use Rattle.osi_tap.specs.declared.marks.Marks.{Marks}
-use Rattle.osi_tap.specs.Connections.{Sessions, taken, all_begin}
-use Rattle.osi_tap.specs.Courses.{Course, Moment, is_break, first_of, first_by, first_after, first_marked, changes, breaks, reached}
-use Rattle.osi_tap.specs.Courses.{marked}
-use Rattle.osi_tap.specs.Courses.{cause_of, noted_by, moved, moment_of, applied, number_of, number_at, unread_mark, unread_moment}
-use Rattle.osi_tap.specs.Blaming.{NobodyIs, NobodyElse, IsToBlameAt, IsQuiet, AreSpotless, IsSpotless, BreaksFirst, IsEarliest, IsBreakOf}
-use Rattle.osi_tap.specs.Blaming.{BlamesBy, IsSessionOf, IsToldOf, IsStill, SomeoneIs}
-use Rattle.osi_tap.specs.Blaming.IsBreakOf.{of_transport, of_session}
 use Rattle.osi_tap.proofs.who_is_to_blame.{nobody_begun}
 use Rattle.osi_tap.proofs.who_broke_first_stays_to_blame.{still_begun, told_some}
 
@@ -34,25 +22,13 @@ changes_sessions : (d : Direction) (f : Marks → Marks) (c : Course) → (chang
 changes_sessions Left f c = refl
 changes_sessions Right f c = refl
 
-reached_past : (m : Mark) (r : Reach) (c : Course) → (reached m r c).past ≡ c.past
-reached_past m reach.Nothing c = refl
-reached_past m reach.Connection c = refl
-reached_past m reach.Side c = changes_past m.direction _ c
-reached_past m reach.Everything c = refl
-
-reached_sessions : (m : Mark) (r : Reach) (c : Course) → (reached m r c).sessions ≡ c.sessions
-reached_sessions m reach.Nothing c = refl
-reached_sessions m reach.Connection c = refl
-reached_sessions m reach.Side c = changes_sessions m.direction _ c
-reached_sessions m reach.Everything c = refl
-
 pub marked_past : (m : Mark) (r : Reach) (c : Course) → (marked m r c).past ≡ c.past
 marked_past m r c =
-    reached_past m r (changes m.direction (breaks m) (first_marked m c)) ∙ changes_past m.direction (breaks m) (first_marked m c)
+    (grind (arith, changes_past)) ∙ changes_past m.direction (breaks m) (first_marked m c)
 
 marked_sessions : (m : Mark) (r : Reach) (c : Course) → (marked m r c).sessions ≡ c.sessions
 marked_sessions m r c =
-    reached_sessions m r (changes m.direction (breaks m) (first_marked m c))
+    (grind (arith, changes_sessions))
     ∙ changes_sessions m.direction (breaks m) (first_marked m c)
 
 pub noted_past : (d : Direction) (at : ℕ) (v : Value) (told : Told) (o : Option Cause) (c : Course)
@@ -60,19 +36,11 @@ pub noted_past : (d : Direction) (at : ℕ) (v : Value) (told : Told) (o : Optio
 noted_past d at v told None c = refl
 noted_past d at v told (Some cause) c = marked_past _ told.reach c
 
-noted_sessions : (d : Direction) (at : ℕ) (v : Value) (told : Told) (o : Option Cause) (c : Course)
-    → (noted_by d at v told o c).sessions ≡ c.sessions
-noted_sessions d at v told None c = refl
-noted_sessions d at v told (Some cause) c = marked_sessions _ told.reach c
-
 -- ---- one moment more
 
 spotless_more : (past : List Moment) (m : Moment) → AreSpotless past → IsSpotless m → AreSpotless (past ++ m ∷ [])
 spotless_more [] m h k = (k, tt)
 spotless_more (x ∷ past) m h k = (h.0, spotless_more past m h.1 k)
-
-not_session : Transport ≡ Session → ⊥
-not_session e = absurd (cc)
 
 still_first : (f : First) (past : List Moment) (m : Moment) → BreaksFirst f past → BreaksFirst f (past ++ m ∷ [])
 still_first f past m h = record {
@@ -85,7 +53,7 @@ still_first f past m h = record {
 }
 
 break_still : (f : First) (m : Moment) → IsBreakOf f m → IsStill f m.sessions
-break_still f m (of_transport k e b is) = λ l. absurd (not_session (ap (λ (x : First). x.layer) (sym is) ∙ l))
+break_still f m (of_transport k e b is) = λ l. absurd (grind arith)
 break_still f m (of_session i q l d b) =
     λ e. told_some f.direction f.connection i m.sessions b.connection b.there b.number_is b.broke
 
@@ -115,7 +83,7 @@ unit_earliest d at v told k o n h still others told_so kept =
     let m = moment_of d at v told (taken d at v told.meaning told.place k.sessions) in
     subst (λ (past : List Moment). IsEarliest n past (applied d at v told k).sessions)
     (sym (noted_past d at v told (cause_of told.finding) (moved m k)))
-    (subst (λ (s : Sessions). IsEarliest n (k.past ++ m ∷ []) s) (sym (noted_sessions d at v told (cause_of told.finding) (moved m k)))
+    (subst (λ (s : Sessions). IsEarliest n (k.past ++ m ∷ []) s) (sym (grind (arith, marked_sessions)))
     (earliest o n k.past k.sessions m h (λ f b l. still f.direction f.connection (b l)) (λ e b. told_so e (others b)) kept))
 
 pub first_stays : (mark : Option Mark) (f : First) → first_after mark (Some f) ≡ Some f
@@ -145,8 +113,7 @@ unread_earliest d at cause r k o n is h =
     subst (λ (past : List Moment). IsEarliest n past (marked mark r (moved m k)).sessions) (sym (marked_past mark r (moved m k)))
     (subst (λ (s : Sessions). IsEarliest n (k.past ++ m ∷ []) s) (sym (marked_sessions mark r (moved m k)))
     (earliest o n k.past k.sessions m h (λ f b. b)
-    (λ e b. subst (λ (x : Option First). IsToldOf x m) (sym (is ∙ ap (first_by mark) e))
-    (unread_told (is_break cause) d at cause k.sessions refl b))
+    (grind (arith, unread_told))
     (λ f e. is ∙ ap (first_by mark) e)))
 
 -- ---- a session of the side may be to blame
@@ -157,16 +124,7 @@ session_first true d None number s h e k = absurd h
 session_first true d (Some i) number s h e k = (
   refl,
   refl,
-  (
-    i,
-    record {
-      connection = h.0;
-      there = h.1;
-      number_is = e ∙ ap (option_map number_of) h.1;
-      broke = h.2;
-      others = k;
-    },
-  ),
+  grind arith,
 )
 session_first false d None number s h e k = k
 session_first false d (Some i) number s h e k = record { live = h k.live; done = k.done }

@@ -1,32 +1,14 @@
 -- What is kept of a connection, and of the packets of a direction, is no more than passed of it: for the law that says so.
-use Rattle.std.proofs.Common.{◌≡◌, ℕ, ◌+◌, ◌≤◌, Bool, if◌then◌else◌, List, [], ◌∷◌, length, arith, Option, None}
-use Rattle.osi_judge.specs.Captures.{other}
-use Rattle.osi_judge.specs.Keeping.{is_same, kept_in, once, once_behind}
-use Rattle.osi_judge.specs.Outlines.{outlines}
-use Rattle.osi_judge.specs.declared.directions.Direction.{Direction}
-use Rattle.osi_judge.specs.declared.directions.Direction.TheVariants.{Left, Right}
-use Rattle.osi_judge.specs.declared.findings.Finding.TheVariants.{Kept}
-use Rattle.osi_judge.proofs.outlined.an_outline_is_taken_alike.{outline_no_longer}
-use Rattle.osi_judge.proofs.told.what_is_known_of_a_side.{few_by}
-use Rattle.osi_tap.specs.declared.connections.Connection.{Connection}
-use Rattle.osi_tap.specs.declared.tap.Tap.{Tap}
-use Rattle.osi_tap.specs.declared.watch.Watch.{Watch}
-use Rattle.osi_tap.specs.Connections.{Joined, spoken}
-use Rattle.osi_tap.specs.Holding.{line_in, streamed, HoldsJoined, IsHeard}
-use Rattle.osi_tap.specs.Lines.{heard, begun_octets}
-use Rattle.osi_tap.specs.Standing.{pick, HoldsBy, HoldsState, IsJudged, IsPart}
-use Rattle.osi_tap.specs.Streams.{Streamed}
-use Rattle.osi_tap.specs.Tapping.{State}
-use Rattle.osi_tap.proofs.what_is_kept_of_a_side_is_what_passed.{begun_holds, heard_at}
+use Rattle.osi_tap.proofs.Vocabulary.{◌≡◌, ℕ, ◌+◌, ◌≤◌, Bool, if◌then◌else◌, List, [], ◌∷◌, length, arith, other, is_same, kept_in, once}
+use Rattle.osi_tap.proofs.Vocabulary.{once_behind, outlines, Direction, Left, Right, Kept, outline_no_longer, few_by, Connection, Tap}
+use Rattle.osi_tap.proofs.Vocabulary.{Joined, spoken, line_in, streamed, HoldsJoined, IsHeard, heard, begun_octets, pick, HoldsState}
+use Rattle.osi_tap.proofs.Vocabulary.{IsJudged, IsPart, State}
+use Rattle.osi_tap.proofs.what_is_kept_of_a_side_is_what_passed.{heard_at}
 
 -- ---- a direction
 
-part_by : (d : Direction) (due : Option Direction) (w : Watch) (l r : Streamed) (s : State) → due ≡ None → HoldsBy due w l r s
-    → IsPart (pick d l r)
-part_by d due w l r s e h = grind arith
-
 pub part_held : (d : Direction) (t : Tap) (s : State) → HoldsState t s → IsJudged t → IsPart (pick d (streamed t.left) (streamed t.right))
-part_held d t s h judged = part_by d t.due t.watch (streamed t.left) (streamed t.right) s judged h
+part_held d t s h judged = grind arith
 
 -- ---- the sessions that explain a side
 
@@ -53,10 +35,6 @@ outlines_less (x ∷ xs) = let l = outlines_less xs in let m = outline_no_longer
 heard_less : (xs ys : List (List ℕ)) → xs ≡ outlines ys → kept_in (once xs) ≤ kept_in ys
 heard_less xs ys e = grind (arith, once_less, outlines_less)
 
-unfinished : (d : Direction) (c : Connection) (j : Joined) → HoldsJoined c j → IsHeard c
-    → (line_in d c).begun ≡ begun_octets (spoken d j).begun
-unfinished d c j h k = grind (arith, begun_holds)
-
 other_heard : (d : Direction) (c : Connection) (j : Joined) → HoldsJoined c j → IsHeard c
     → (line_in (other d) c).side.heard ≡ outlines (heard (spoken d j))
 other_heard Left c j h k = heard_at Right c j h k
@@ -65,4 +43,4 @@ other_heard Right c j h k = heard_at Left c j h k
 pub no_more_kept : (d : Direction) (c : Connection) (j : Joined) → HoldsJoined c j → IsHeard c
     → kept_in (once (line_in (other d) c).side.heard) + length (line_in d c).begun
     ≤ kept_in (heard (spoken d j)) + length (begun_octets (spoken d j).begun)
-no_more_kept d c j h k = grind (arith, heard_less, other_heard, unfinished)
+no_more_kept d c j h k = grind (arith, heard_less, other_heard)

@@ -1,15 +1,7 @@
 -- Of a whole packet the units are still to pass that have not passed, each once: for the functions that let a packet pass.
-use Rattle.std.proofs.Common.{◌≡◌, ◌∙◌, sym, ap, subst, ℕ, zero, suc, ◌+◌, ◌-◌, ◌<◌, List, [], ◌∷◌, drop, arith, add-one, Option, None}
-use Rattle.std.proofs.Math.Seq.{drop-nil}
-use Rattle.osi_tpdu.specs.Units.{units_left, GivesUnit}
-use Rattle.osi_tpdu.specs.Value.{Value}
-use Rattle.osi_tpdu.specs.declared.packet.Units.{Units}
-use Rattle.osi_tpdu.specs.declared.unit.Tpdu.{Tpdu}
-use Rattle.osi_judge.specs.declared.directions.Direction.{Direction}
-use Rattle.osi_tap.specs.declared.watch.Watch.{Watch}
-use Rattle.osi_tap.specs.Courses.{Course, units_pass}
-use Rattle.osi_tap.specs.Holding.{HoldsCourse, IsDue, unit_due}
-use Rattle.osi_tap.specs.Owing.{Comes, OwesUnits, OwesLast}
+use Rattle.osi_tap.proofs.Vocabulary.{◌≡◌, ◌∙◌, sym, ap, subst, ℕ, zero, suc, ◌+◌, ◌-◌, ◌<◌, List, [], ◌∷◌, drop, arith, add-one, Option}
+use Rattle.osi_tap.proofs.Vocabulary.{None, drop-nil, units_left, GivesUnit, Value, Units, Tpdu, Direction, Watch, Course, units_pass}
+use Rattle.osi_tap.proofs.Vocabulary.{HoldsCourse, IsDue, unit_due, Comes, OwesUnits, OwesLast}
 
 -- ---- the first units are left out
 
@@ -22,12 +14,9 @@ drop_next (suc n) (x ∷ xs) v ys e = drop_next n xs v ys e
 drop_more : (n : ℕ) (xs : List Value) (v : Value) (ys : List Value) → drop n xs ≡ v ∷ ys → drop (n + 1) xs ≡ ys
 drop_more n xs v ys e = ap (λ (k : ℕ). drop k xs) (add-one n) ∙ drop_next n xs v ys e
 
-drop_first : (n : ℕ) (v : Value) (xs : List Value) → 0 < n → drop n (v ∷ xs) ≡ drop (n - 1) xs
-drop_first n v xs h = grind arith
-
 pub drop_given : (n : ℕ) (o : Option Tpdu) (old new : Units) → GivesUnit old o new → 0 < n
     → drop n (units_left old) ≡ drop (n - 1) (units_left new)
-drop_given n o old new h some = grind (arith, drop_first, drop-nil)
+drop_given n o old new h some = grind (arith, drop-nil)
 
 -- ---- the units that are left
 

@@ -1,32 +1,14 @@
 -- What is kept of both sides of a connection stays what passed of them, as DTs pass and TSDUs are handed over: for what is
 -- kept of a connection.
-use Rattle.std.proofs.Common.{◌≡◌, ◌∙◌, refl, sym, ap, subst, ℕ, zero, suc, ◌+◌, List, [], ◌∷◌, ◌++◌, length, Bool, true, false, Some}
-use Rattle.std.proofs.Common.{arith}
-use Rattle.std.proofs.lemmas.List.{append-nil, map-append, length-map, length-append}
-use Rattle.osi_tpkt.specs.Stream.{offset_of}
-use Rattle.osi_session.specs.Standing.{Seen}
+use Rattle.osi_tap.proofs.Vocabulary.{◌≡◌, ◌∙◌, refl, sym, ap, subst, ℕ, zero, suc, ◌+◌, List, [], ◌∷◌, ◌++◌, length, Bool, true, false}
+use Rattle.osi_tap.proofs.Vocabulary.{Some, arith, append-nil, map-append, length-map, length-append, offset_of, Seen, Tells, last_place}
+use Rattle.osi_tap.proofs.Vocabulary.{Finding, Kept, Watched, Watches, FoundNext, IsFound, HasRoom, outline, outlines, Stage, Between}
+use Rattle.osi_tap.proofs.Vocabulary.{Within, Unheard, seen_calling, seen_called, other, begin_of, Direction, Left, Right, Connection, Line}
+use Rattle.osi_tap.proofs.Vocabulary.{Joined, adds_all, spoken, lined, line_in, HoldsJoined, IsHeard, Spoken, told, told_of, heard}
+use Rattle.osi_tap.proofs.Vocabulary.{begun_octets, begun_before, before, added, begins, silent, Said, place_in, Lined, unheard, unheard_at}
+use Rattle.osi_tap.proofs.Vocabulary.{begun_in, is_unheard, IsPlace, Holds, HoldsBoth, hears, found_as, room_as, found_of_tsdus}
+use Rattle.osi_tap.proofs.Vocabulary.{room_of_tsdus}
 use Rattle.osi_judge.specs.Explaining.{Told}
-use Rattle.osi_judge.specs.Feeding.{Tells, last_place}
-use Rattle.osi_judge.specs.declared.findings.Finding.{Finding}
-use Rattle.osi_judge.specs.declared.findings.Finding.TheVariants.{Kept}
-use Rattle.osi_judge.specs.Judging.{Watched, Watches, FoundNext, IsFound, HasRoom}
-use Rattle.osi_judge.specs.Outlines.{outline, outlines}
-use Rattle.osi_tap.specs.declared.lines.Stage.{Stage}
-use Rattle.osi_tap.specs.declared.lines.Stage.TheVariants.{Between, Within, Unheard}
-use Rattle.osi_session.specs.Standing.{seen_calling, seen_called}
-use Rattle.osi_judge.specs.Captures.{other}
-use Rattle.osi_judge.specs.Tapping.{begin_of}
-use Rattle.osi_judge.specs.declared.directions.Direction.{Direction}
-use Rattle.osi_judge.specs.declared.directions.Direction.TheVariants.{Left, Right}
-use Rattle.osi_tap.specs.declared.connections.Connection.{Connection}
-use Rattle.osi_tap.specs.declared.lines.Line.{Line}
-use Rattle.osi_tap.specs.Connections.{Joined, adds_all, spoken}
-use Rattle.osi_tap.specs.Holding.{lined, line_in, HoldsJoined, IsHeard}
-use Rattle.osi_tap.specs.Lines.{Spoken, told, told_of, heard, begun_octets, begun_before, before, added, begins, silent, Said, place_in}
-use Rattle.osi_tap.specs.Holding.{Lined, unheard, unheard_at, begun_at, begun_in, is_unheard, IsClear, IsPlace, Holds, HoldsBoth}
-use Rattle.osi_judge.proofs.told.what_is_known_of_a_side.{hears, found_as, room_as}
-use Rattle.osi_judge.proofs.outlined.alike_tsdus_explain_the_same.{found_of_tsdus}
-use Rattle.osi_judge.proofs.outlined.a_rule_of_outlines_is_one_of_tsdus.{room_of_tsdus}
 
 abbrev line : Watched → List ℕ → Stage → (begun_since since last : ℕ) → Lined
 line w x stage n m last = record { side = w; begun = x; stage = stage; begun_since = n; since = m; last = last }
@@ -36,50 +18,29 @@ flipped h = record { this = h.that; that = h.this }
 
 -- ---- a TSDU is handed over
 
-unheard_stage : (stage : Stage) → is_unheard stage ≡ true → stage ≡ Unheard
-unheard_stage stage e = grind arith
-
-handed_unheard : (s t : Seen) (w v v2 : Watched) (x x2 y : List ℕ) (stage : Stage) (n m l n2 m2 l2 : ℕ) (a b : Spoken) → x2 ≡ []
-    → v2.begin ≡ v.begin → v2.finding ≡ v.finding → v2.heard ≡ v.heard ++ outline x ∷ []
-    → ((told : List Told) → Watches v told → Watches v2 told)
-    → HoldsBoth s t (line w x Unheard n m l) (line v y stage n2 m2 l2) a b
-    → HoldsBoth s t (line w x2 Between n m l) (line v2 y stage n2 m2 l2) a b
-handed_unheard s t w v v2 x x2 y stage n m l n2 m2 l2 a b none begin found heard watches h = grind (arith, append-nil)
-
 pub handed : (s t : Seen) (w v v2 : Watched) (x x2 y : List ℕ) (mine stage : Stage) (n m l n2 m2 l2 : ℕ) (a b : Spoken)
     → is_unheard mine ≡ true → x2 ≡ [] → v2.begin ≡ v.begin → v2.finding ≡ v.finding → v2.heard ≡ v.heard ++ outline x ∷ []
     → ((told : List Told) → Watches v told → Watches v2 told)
     → HoldsBoth s t (line w x mine n m l) (line v y stage n2 m2 l2) a b
     → HoldsBoth s t (line w x2 Between n m l) (line v2 y stage n2 m2 l2) a b
 handed s t w v v2 x x2 y mine stage n m l n2 m2 l2 a b is none begin found heard watches h =
-    handed_unheard s t w v v2 x x2 y stage n m l n2 m2 l2 a b none begin found heard watches
-    (subst (λ (z : Stage). HoldsBoth s t (line w x z n m l) (line v y stage n2 m2 l2) a b) (unheard_stage mine is) h)
+    grind (arith, append-nil)
 
 -- ---- a part of a TSDU
-
-begun_same : (stage : Stage) (x : List ℕ) (n : ℕ) → is_unheard stage ≡ false → IsClear stage x → x ≡ begun_octets (begun_at stage x n)
-begun_same stage x n e clear = grind arith
-
-none_unheard : (stage : Stage) (x : List ℕ) → is_unheard stage ≡ false → unheard_at stage x ≡ []
-none_unheard stage x e = grind arith
 
 -- what is kept of the unfinished TSDU of a side is what passed of it
 pub begun_holds : (s : Seen) (own other : Lined) (a b : Spoken) → is_unheard own.stage ≡ false → Holds s own other a b
     → own.begun ≡ begun_octets a.begun
-begun_holds s own other a b e h = grind (arith, begun_same)
-
-pub before_holds : (s : Seen) (own other : Lined) (a b : Spoken) → Holds s own other a b
-    → begun_before (begun_in own) own.since ≡ before a
-before_holds s own other a b h = grind arith
+begun_holds s own other a b e h = grind arith
 
 heard_by_other : (s t : Seen) (own other : Lined) (a b : Spoken) → is_unheard own.stage ≡ false → HoldsBoth s t own other a b
     → other.side.heard ≡ outlines (heard a)
-heard_by_other s t own other a b e h = grind (arith, append-nil, none_unheard)
+heard_by_other s t own other a b e h = grind (arith, append-nil)
 
 pub part_added : (s t : Seen) (own new other : Lined) (a b : Spoken) (at since : ℕ) (octets : List ℕ) → is_unheard own.stage ≡ false
     → since ≡ begun_before (begun_in own) own.since → new ≡ record own { begun = own.begun ++ octets; stage = Within; begun_since = since }
     → HoldsBoth s t own other a b → HoldsBoth s t new other (added at false octets a) b
-part_added s t own new other a b at since octets e since_is is h = grind (arith, begun_holds, before_holds, append-nil, heard_by_other)
+part_added s t own new other a b at since octets e since_is is h = grind (arith, begun_holds, append-nil, heard_by_other)
 
 -- ---- the packet of a break
 
@@ -120,11 +81,7 @@ end_added s t own new other a b at since w octets e since_is is tells h =
     subst (λ (z : Lined). HoldsBoth s t z other (added at true octets a) b) (sym is) (record {
       this = record {
         begins_so = tells.begin ∙ h.this.begins_so;
-        says = subst (λ (z : List Told). Watches w z) (sym (told_more a at octets))
-            (subst (λ (z : ℕ). Watches w (told a ++ record { octets = begun_octets a.begun ++ octets; before = z } ∷ []))
-            (since_is ∙ before_holds s own other a b h.this)
-            (subst (λ (z : List ℕ). Watches w (told a ++ record { octets = z ++ octets; before = since } ∷ [])) same
-            (tells.watches (told a) h.this.says)));
+        says = grind (arith, told_more);
         hears = ap (λ (z : List (List ℕ)). z ++ unheard other) tells.heard ∙ h.this.hears;
         unfinished = refl;
         clear = tt;
@@ -133,36 +90,20 @@ end_added s t own new other a b at since w octets e since_is is tells h =
             (record { octets = begun_octets a.begun ++ octets; before = before a; at = at }) tells.finding
             (λ kept. count_said own.side a kept h.this.says) h.this.place;
       };
-      that = record {
-        begins_so = h.that.begins_so;
-        says = h.that.says;
-        hears = ap (λ (z : List (List ℕ)). z ++ outline (own.begun ++ octets) ∷ []) (heard_by_other s t own other a b e h)
-            ∙ ap (λ (z : List ℕ). outlines (heard a) ++ outline (z ++ octets) ∷ []) same ∙ sym (heard_more a at octets);
-        unfinished = h.that.unfinished;
-        clear = h.that.clear;
-        known = h.that.known;
-        place = h.that.place;
-      };
+      that = grind (arith, hears, heard_by_other s t own other a b e h, heard_more a at octets);
     })
 
 -- ---- the beginning of a connection, and of a packet
 
-no_place : (f : Finding) → f ≡ Kept → IsPlace f [] 0
-no_place f e = subst (λ (x : Finding). IsPlace x [] 0) (sym e) tt
-
 pub fresh_both : (s t : Seen) (own other : Lined) (w v : Watched) → own ≡ line w [] Between 0 0 0 → other ≡ line v [] Between 0 0 0
     → w.begin ≡ s → v.begin ≡ t → w.heard ≡ [] → v.heard ≡ [] → w.finding ≡ Kept → v.finding ≡ Kept → Watches w [] → Watches v []
     → HoldsBoth s t own other silent silent
-fresh_both s t own other w v is other_is begin other_begin none other_none kept other_kept watches other_watches =
-    grind (arith, append-nil, no_place)
-
-said_count : (xs ys : List (List ℕ)) (b : Spoken) → xs ++ ys ≡ outlines (heard b) → length xs + length ys ≡ length b.said
-said_count xs ys b e = grind (arith, length-append, length-map)
+fresh_both s t own other w v is other_is begin other_begin none other_none kept other_kept watches other_watches = grind (arith, append-nil)
 
 pub begun_both : (s t : Seen) (own new other : Lined) (a b : Spoken)
     → new ≡ record own { since = offset_of (length own.side.heard + length (unheard other)) }
     → HoldsBoth s t own other a b → HoldsBoth s t new other (begins b a) b
-begun_both s t own new other a b is h = grind (arith, said_count)
+begun_both s t own new other a b is h = grind (arith, length-append, length-map)
 
 -- ---- what is found of a session is right
 

@@ -1,76 +1,44 @@
 -- Octets that are taken of a piece at once come to the same as one after the other: up to the end of the header or of the packet
 -- none but the last completes it; or no packet begins with the first, and the others are counted.
-use Rattle.std.proofs.Common.{◌≡◌, ◌∙◌, refl, sym, ap, ℕ, ◌+◌, ◌-◌, ◌*◌, ◌<◌, ◌≤◌, ◌==◌, max, ◌⊎◌, Bool, true, false, if◌then◌else◌, List}
-use Rattle.std.proofs.Common.{[], ◌∷◌, ◌++◌, length, take, arith}
-use Rattle.std.proofs.lemmas.Bool.{le-ltb, lt-ltb}
-use Rattle.std.proofs.lemmas.List.{length-append}
-use Rattle.osi_tpkt.specs.declared.faults.TpktFault.TheVariants.{BadVersion, BadLength}
-use Rattle.osi_judge.specs.Captures.{of, piece}
-use Rattle.osi_judge.specs.declared.directions.Direction.{Direction}
-use Rattle.osi_tap.specs.declared.marks.Cause.TheVariants.{BadPacket}
-use Rattle.osi_tap.specs.declared.watch.Watch.{Watch}
-use Rattle.osi_tap.specs.Courses.{Course, packet_begins, unread}
-use Rattle.osi_tap.specs.Owing.{HoldsAll}
-use Rattle.osi_tap.specs.Standing.{IsPart, HoldsOpen, HoldsStream}
-use Rattle.osi_tap.specs.Streams.{Front, partial, faulty, whole, sized, front_of, Streamed, counted, gathered, ended}
-use Rattle.osi_tap.specs.Streams.{are_none, begins_at, wanted, used_of}
-use Rattle.osi_tap.specs.Tapping.{State, stream_of, with_stream, looked_at, begun, octets_pass, octet_passes, after, GoesOn}
+use Rattle.osi_tap.proofs.Vocabulary.{◌≡◌, ◌∙◌, refl, sym, ap, ℕ, ◌+◌, ◌-◌, ◌<◌, ◌≤◌, ◌==◌, ◌⊎◌, Bool, true, false, if◌then◌else◌, List, []}
+use Rattle.osi_tap.proofs.Vocabulary.{◌∷◌, ◌++◌, length, take, arith, le-ltb, lt-ltb, length-append, BadVersion, BadLength, of, piece}
+use Rattle.osi_tap.proofs.Vocabulary.{Direction, BadPacket, Watch, Course, unread, HoldsAll, IsPart, HoldsOpen, HoldsStream, partial}
+use Rattle.osi_tap.proofs.Vocabulary.{faulty, whole, front_of, Streamed, counted, gathered, ended, are_none, begins_at, wanted, used_of}
+use Rattle.osi_tap.proofs.Vocabulary.{State, stream_of, with_stream, looked_at, begun, octets_pass, octet_passes, after, GoesOn}
+use Rattle.osi_tap.specs.Courses.{packet_begins}
 use Rattle.osi_tap.proofs.a_piece_comes_to_what_its_octets_do.{piece_passes, counted_more, offset_more, same_stream}
 use Rattle.osi_tap.proofs.a_piece_comes_to_what_its_octets_do.{stream_again, looks, going}
 
 -- ---- a part of a packet, and one octet more
 
-version_of : (b : Bool) (f : Front) → (if b then f else faulty (BadVersion 0)) ≡ partial → (b ≡ true) × (f ≡ partial)
-version_of b f h = grind arith
-
 lengths_of : (a b : Bool) (u : List ℕ) → (if a then faulty (BadLength 0) else (if b then partial else whole u)) ≡ partial
     → (a ≡ false) × (b ≡ true)
 lengths_of a b u h = grind arith
 
-sized_more : (stated o : ℕ) (t : List ℕ) → sized stated t ≡ partial → length t + 5 < stated → sized stated (t ++ o ∷ []) ≡ partial
-sized_more stated o t h long = grind (arith, lengths_of, length-append, lt-ltb)
-
-wanted_long : (v r h l : ℕ) (t : List ℕ) → wanted (v ∷ r ∷ h ∷ l ∷ t) ≡ max ((256 * h + l) - (length t + 4)) 1
-wanted_long v r h l t = grind (arith, le-ltb)
-
 one_more : (held : List ℕ) (o : ℕ) → 0 < length held → front_of held ≡ partial → 2 ≤ wanted held
     → (front_of (held ++ o ∷ []) ≡ partial) × (wanted held ≤ wanted (held ++ o ∷ []) + 1)
-one_more held o some e w = grind (arith, version_of, wanted_long, length-append, sized_more)
+one_more held o some e w = grind (arith, le-ltb, length-append, lengths_of, lt-ltb)
 
 goes_on : (held : List ℕ) (o : ℕ) (os : List ℕ) → 0 < length held → front_of held ≡ partial → length (o ∷ os) ≤ wanted held
     → GoesOn held (o ∷ os)
 goes_on held o [] some part h = tt
 goes_on held o (p ∷ os) some part h =
     let m = one_more held o some part (omega arith) in
-    let n = length-append held (o ∷ []) in
-    (m.0, goes_on (held ++ o ∷ []) p os (omega (arith, n)) m.0 (omega (arith, m.1)))
+    (m.0, goes_on (held ++ o ∷ []) p os (grind (arith, length-append)) m.0 (omega (arith, m.1)))
 
 -- ---- the first octets
 
-start_by : (b : Bool) (o p : ℕ) (os : List ℕ) → (o == 3) ≡ b → length (o ∷ p ∷ os) ≤ 4
-    → GoesOn [] (o ∷ p ∷ os) ⊎ (front_of (o ∷ []) ≡ faulty (BadVersion 0))
-start_by b o p os e h = grind (arith, goes_on)
-
 start : (o : ℕ) (os : List ℕ) → length (o ∷ os) ≤ 4 → GoesOn [] (o ∷ os) ⊎ (front_of (o ∷ []) ≡ faulty (BadVersion 0))
-start o os h = grind (arith, start_by)
-
-wrong_version : (b : Bool) (f : Front) → (if b then partial else faulty (BadVersion 0)) ≡ faulty (BadVersion 0)
-    → (if b then f else faulty (BadVersion 0)) ≡ faulty (BadVersion 0)
-wrong_version b f h = grind arith
+start o os h = grind arith
 
 bad_front : (o : ℕ) (os : List ℕ) → front_of (o ∷ []) ≡ faulty (BadVersion 0) → front_of (o ∷ os) ≡ faulty (BadVersion 0)
-bad_front o os h = grind (arith, wrong_version)
+bad_front o os h = grind arith
 
 -- ---- octets that are only counted
 
 spent_at : (d : Direction) (os : List ℕ) (s : State) → (stream_of d s).spent ≡ true
     → octets_pass d os s ≡ with_stream d (counted (length os) (stream_of d s)) s
 spent_at d os s e = grind (arith, looks)
-
--- in a state that has this stream
-spent_in : (d : Direction) (os : List ℕ) (x s : State) (u : Streamed) → x ≡ with_stream d u s → u.spent ≡ true
-    → octets_pass d os x ≡ with_stream d (counted (length os) u) s
-spent_in d os x s u e spent = grind (arith, same_stream, spent_at, stream_again)
 
 spent_still : (d : Direction) (x s : State) (u : Streamed) → x ≡ with_stream d u s → u.spent ≡ true → (stream_of d x).spent ≡ true
 spent_still d x s u e spent = ap (λ (z : State). (stream_of d z).spent) e ∙ ap (λ (z : Streamed). z.spent) (same_stream d u s) ∙ spent
@@ -83,7 +51,7 @@ spent_passes d o (p ∷ os) s e =
     let x = octet_passes (of d o) s in
     let first : x ≡ with_stream d (counted 1 t) s = spent_at d (o ∷ []) s e in
     spent_at d (o ∷ p ∷ os) s e ∙ ap (λ (u : Streamed). with_stream d u s) (sym (counted_more (length (p ∷ os)) t))
-    ∙ sym (spent_in d (p ∷ os) x s (counted 1 t) first e)
+    ∙ sym (grind (arith, same_stream, spent_at, stream_again))
     ∙ spent_passes d p os x (spent_still d x s (counted 1 t) first e)
 
 -- ---- octets with which no packet begins
@@ -110,7 +78,7 @@ bad_passes d o (p ∷ os) s e reads bad =
     let count : counted (length (p ∷ os)) u ≡ ended (gathered (o ∷ p ∷ os) t) =
     ap (λ (k : ℕ). record t { octets = k; held = []; spent = true }) (offset_more t.octets (length (p ∷ os))) in
     fails d o (p ∷ os) s e reads bad ∙ ap (λ (z : Streamed). with_stream d z b) (sym count)
-    ∙ sym (spent_in d (p ∷ os) x b u first refl) ∙ spent_passes d p os x (spent_still d x b u first refl)
+    ∙ sym (grind (arith, same_stream, spent_at, stream_again)) ∙ spent_passes d p os x (spent_still d x b u first refl)
 
 -- ---- octets up to the end of the header, or of the packet
 
@@ -157,16 +125,13 @@ came_at d [] t s some part h = absurd (omega arith)
 came_at d (o ∷ os) t s some part h =
     came_by (stream_of d s).spent d o os t s refl part h.spent h.reads ∙ taken_by (stream_of d s).spent d o os s refl part h.up_to
 
-none_by : (b : Bool) (os : List ℕ) (old new : Streamed) → old.spent ≡ b → IsPart old → Takes os old new → new.spent ≡ true → new.held ≡ []
-none_by b os old new e part h is = grind arith
-
 pub taken_looked : (b begins : Bool) (d : Direction) (os : List ℕ) (w v n : Watch) (old mid new : Streamed) (s : State)
     → HoldsOpen d w old s → 0 < length os → Takes os old mid → begins ≡ begins_at old
     → ((c : Course) → HoldsAll w c → HoldsAll v (if begins then packet_begins d c else c))
     → ((z : State) → HoldsAll v z.course → (mid.spent ≡ true → mid.held ≡ []) →
     HoldsStream b d n new (looked_at d mid (front_of mid.held) z))
     → HoldsStream b d n new (after (piece d os) s)
-taken_looked b begins d os w v n old mid new s h some takes begins_is begin look = grind (arith, came_at, none_by)
+taken_looked b begins d os w v n old mid new s h some takes begins_is begin look = grind (arith, came_at)
 
 -- how many are taken of a piece
 pub takes_of : (n : ℕ) (octets : List ℕ) (old new : Streamed) → n ≡ used_of old octets → n ≤ length octets

@@ -1,24 +1,12 @@
 -- The session that is told as the first to break is to blame from then on: for the functions that give a unit to a connection.
-use Rattle.std.proofs.Common.{◌≡◌, ◌∙◌, refl, sym, ap, subst, ℕ, zero, suc, ◌<◌, ◌≤◌, ◌⊎◌, inl, inr, Bool, List, [], ◌∷◌, ◌++◌, length, map}
-use Rattle.std.proofs.Common.{get_or, set, Option, Some, None, arith}
-use Rattle.std.proofs.lemmas.List.{append-nil}
-use Rattle.std.specs.Prelude.{slice_get}
-use Rattle.osi_tpdu.specs.Value.{Value}
-use Rattle.osi_judge.specs.Captures.{other}
+use Rattle.osi_tap.proofs.Vocabulary.{◌≡◌, ◌∙◌, refl, sym, ap, ℕ, zero, suc, ◌<◌, ◌≤◌, ◌⊎◌, inl, inr, Bool, List, [], ◌∷◌, ◌++◌, length}
+use Rattle.osi_tap.proofs.Vocabulary.{map, get_or, set, Option, Some, None, arith, append-nil, slice_get, Value, other, Direction, Left}
+use Rattle.osi_tap.proofs.Vocabulary.{Right, Meaning, Connection, IsToBlame, NobodyIs, NobodyElseIs, SomeIs, SomeoneIs, Joined, Sessions}
+use Rattle.osi_tap.proofs.Vocabulary.{asked_at, placed, changed, packet_begins, all_begin, adds_if, meant, spoken, taken_at, source_of}
+use Rattle.osi_tap.proofs.Vocabulary.{line_in, HoldsJoined, HoldAll, told, heard, Room}
 use Rattle.osi_judge.specs.Explaining.{Told}
-use Rattle.osi_judge.specs.declared.directions.Direction.{Direction}
-use Rattle.osi_judge.specs.declared.directions.Direction.TheVariants.{Left, Right}
-use Rattle.osi_rules.specs.declared.findings.Meaning.{Meaning}
 use Rattle.osi_rules.specs.declared.findings.Meaning.TheVariants as meaning
-use Rattle.osi_tap.specs.declared.connections.Connection.{Connection}
-use Rattle.osi_tap.specs.Blaming.{IsToBlame, NobodyIs, NobodyElseIs, SomeIs, SomeoneIs}
-use Rattle.osi_tap.specs.Connections.{Joined, Sessions, asked_at, placed, changed, packet_begins, all_begin, adds, adds_if, meant, spoken}
-use Rattle.osi_tap.specs.Connections.{taken_at, source_of}
-use Rattle.osi_tap.specs.Holding.{line_in, HoldsJoined, HoldAll}
 use Rattle.osi_tap.proofs.each_connection_is_kept.{all_length, none_there}
-use Rattle.osi_tap.specs.Lines.{told, heard}
-use Rattle.osi_tap.specs.Rooms.{fits, spent}
-use Rattle.osi_tap.specs.declared.rooms.Room.{Room}
 use Rattle.osi_tap.proofs.what_is_kept_of_a_side_is_what_passed.{told_more}
 use Rattle.osi_tap.proofs.who_is_to_blame.{found_of, broken, blame_stays, one_asked}
 
@@ -28,12 +16,6 @@ use Rattle.osi_tap.proofs.who_is_to_blame.{found_of, broken, blame_stays, one_as
 beside_blamed : (d : Direction) (c e : Connection) (j i : Joined) → HoldsJoined c j → HoldsJoined e i
     → (line_in d e).side.finding ≡ (line_in d c).side.finding → IsToBlame d j → IsToBlame d i
 beside_blamed d c e j i h k same b = grind (arith, found_of, broken)
-
--- as it says more itself
-own_blamed : (d : Direction) (e : Connection) (j i : Joined) (more : List Told) → HoldsJoined e i
-    → told (spoken d i) ≡ told (spoken d j) ++ more → heard (spoken (other d) i) ≡ heard (spoken (other d) j) → IsToBlame d j
-    → IsToBlame d i
-own_blamed d e j i more k says hears b = grind (arith, blame_stays, found_of d e i k)
 
 -- ---- what a unit adds to a connection
 
@@ -47,25 +29,19 @@ no_more : (d : Direction) (j i : Joined) → told (spoken d i) ≡ told (spoken 
     → i.number ≡ j.number → Adds d j i
 no_more d j i says hears number = grind (arith, append-nil)
 
-same_spoken : (d : Direction) (j i : Joined) → i.left ≡ j.left → i.right ≡ j.right → i.number ≡ j.number → Adds d j i
-same_spoken d j i l r n = grind (arith, no_more)
-
 added_if : (b : Bool) (room : Room) (d : Direction) (at : ℕ) (end : Bool) (octets : List ℕ) (j : Joined)
     → Adds d j (adds_if b room d at end octets j)
-added_if b room d at end octets j = grind (arith, told_more, no_more, same_spoken)
-
-added : (d : Direction) (at : ℕ) (end : Bool) (octets : List ℕ) (j : Joined) → Adds d j (adds d at end octets j)
-added d at end octets j = added_if (fits j.room (length octets)) (spent j.room (length octets)) d at end octets j
+added_if b room d at end octets j = grind (arith, told_more, no_more)
 
 adds_by : (d : Direction) (at : ℕ) (v : Value) (m : Meaning) (j : Joined) → Adds d j (meant d at v m j)
-adds_by d at v m j = grind (arith, same_spoken, added)
+adds_by d at v m j = grind (arith, no_more, added_if)
 
 either_blamed : (d x : Direction) (c e : Connection) (j i : Joined) → HoldsJoined c j → HoldsJoined e i → Adds d j i
     → (line_in (other d) e).side.finding ≡ (line_in (other d) c).side.finding → IsToBlame x j → IsToBlame x i
-either_blamed Left Left c e j i h k a same b = own_blamed Left e j i a.more k a.says a.hears b
+either_blamed Left Left c e j i h k a same b = grind (arith, blame_stays, found_of Left e i k)
 either_blamed Left Right c e j i h k a same b = beside_blamed Right c e j i h k same b
 either_blamed Right Left c e j i h k a same b = beside_blamed Left c e j i h k same b
-either_blamed Right Right c e j i h k a same b = own_blamed Right e j i a.more k a.says a.hears b
+either_blamed Right Right c e j i h k a same b = grind (arith, blame_stays, found_of Right e i k)
 
 -- ---- a unit for a connection
 
@@ -84,10 +60,6 @@ still_some d x number (y ∷ cs) (j ∷ js) zero c e f lt step same a h = search
 still_some d x number (y ∷ cs) (j ∷ js) (suc i) c e f lt step same a h =
     grind (arith, still_some d x number cs js i c e f (omega arith) step same a h.1)
 
-live_stays : (d : Direction) (number : Option ℕ) (s t : Sessions) → (SomeIs d number s.live → SomeIs d number t.live) → s.done ≡ t.done
-    → SomeoneIs d number s → SomeoneIs d number t
-live_stays d number s t live done h = elim h [ inl a ↦ inl (live a) | inr r ↦ inr (subst (SomeIs d number) done r) ]
-
 pub still_one : (d x : Direction) (number : Option ℕ) (cs : List Connection) (s : Sessions) (i : ℕ) (c e : Connection)
     (at : ℕ) (v : Value) (m : Meaning) → i < length cs
     → ((j : Joined) → HoldsJoined (get_or cs i c) j → HoldsJoined e (meant d at v m j))
@@ -95,9 +67,7 @@ pub still_one : (d x : Direction) (number : Option ℕ) (cs : List Connection) (
     → SomeoneIs x number (changed i (meant d at v m) s (slice_get s.live i))
 still_one d x number cs s i c e at v m lt step same h b =
     let f : Joined → Joined = meant d at v m in
-    let r = still_some d x number cs s.live i c e f lt step same (adds_by d at v m) h in
-    subst (λ (o : Option Joined). SomeoneIs x number (changed i f s o)) (sym r.there)
-    (live_stays x number s (changed i f s (Some r.joined)) r.some refl b)
+    grind (arith, still_some d x number cs s.live i c e f lt step same (adds_by d at v m) h, adds_by d at v m)
 
 pub still_none : (d : Direction) (number : Option ℕ) (cs : List Connection) (s : Sessions) (i : ℕ) (f : Joined → Joined) → length cs ≤ i
     → HoldAll cs s.live → SomeoneIs d number s → SomeoneIs d number (changed i f s (slice_get s.live i))
@@ -114,13 +84,10 @@ some_last : (d : Direction) (number : Option ℕ) (js : List Joined) (j : Joined
 some_last d number [] j e b = inl (e, b)
 some_last d number (i ∷ js) j e b = inr (some_last d number js j e b)
 
-same_over : (j over : Joined) → Some j ≡ Some over → j ≡ over
-same_over j over e = cc
-
 stays_or_goes : (d : Direction) (number : Option ℕ) (js : List Joined) (i : ℕ) (j over : Joined) → slice_get js i ≡ Some over
     → SomeIs d number js → SomeIs d number (set js i j) ⊎ ((number ≡ Some over.number) × IsToBlame d over)
 stays_or_goes d number [] i j over e h = absurd h
-stays_or_goes d number (x ∷ js) zero j over e h = grind (arith, same_over)
+stays_or_goes d number (x ∷ js) zero j over e h = grind arith
 stays_or_goes d number (x ∷ js) (suc i) j over e h = elim h [
   | inl a ↦ inl (inl a)
   | inr r ↦ elim (stays_or_goes d number js i j over e r) [ inl k ↦ inl (inr k) | inr g ↦ inr g ]
@@ -162,19 +129,10 @@ else_either d at v meaning.Nothing i s f h = f h
 
 -- ---- a packet begins
 
-begun_blame : (e d : Direction) (j : Joined) → IsToBlame d j → IsToBlame d (packet_begins e j)
-begun_blame Left Left j h = record { finding = h.finding; found = record { found = h.found.found; room = h.found.room }; broke = h.broke }
-begun_blame Left Right j h = record { finding = h.finding; found = record { found = h.found.found; room = h.found.room }; broke = h.broke }
-begun_blame Right Left j h = record { finding = h.finding; found = record { found = h.found.found; room = h.found.room }; broke = h.broke }
-begun_blame Right Right j h = record { finding = h.finding; found = record { found = h.found.found; room = h.found.room }; broke = h.broke }
-
-begun_number : (e : Direction) (j : Joined) → (packet_begins e j).number ≡ j.number
-begun_number e j = grind arith
-
 some_begun : (e d : Direction) (number : Option ℕ) (js : List Joined) → SomeIs d number js → SomeIs d number (map (packet_begins e) js)
 some_begun e d number [] h = absurd h
 some_begun e d number (j ∷ js) h = elim h [
-  | inl a ↦ inl (a.0 ∙ ap Some (sym (begun_number e j)), begun_blame e d j a.1)
+  | inl a ↦ inl (a.0 ∙ ap Some (sym (grind arith)), grind arith)
   | inr r ↦ inr (some_begun e d number js r)
 ]
 
@@ -186,7 +144,7 @@ still_begun e d number s h = elim h [ inl a ↦ inl (some_begun e d number s.liv
 some_at : (d : Direction) (number : Option ℕ) (i : ℕ) (js : List Joined) (j : Joined) → slice_get js i ≡ Some j → number ≡ Some j.number
     → IsToBlame d j → SomeIs d number js
 some_at d number i [] j e n b = absurd (cc)
-some_at d number zero (x ∷ js) j e n b = grind (arith, same_over)
+some_at d number zero (x ∷ js) j e n b = grind arith
 some_at d number (suc i) (x ∷ js) j e n b = inr (some_at d number i js j e n b)
 
 pub told_some : (d : Direction) (number : Option ℕ) (i : ℕ) (s : Sessions) (j : Joined) → slice_get s.live i ≡ Some j

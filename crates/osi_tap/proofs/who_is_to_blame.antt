@@ -1,27 +1,14 @@
 -- A side of a connection is to blame or it is not, and a unit changes that of its own side of its own connection alone.
 -- For the functions that give a unit to a connection, and for those that look whether a session broke the protocol.
-use Rattle.std.proofs.Common.{◌≡◌, refl, sym, subst, ℕ, zero, suc, ◌+◌, ◌<◌, ◌≤◌, inl, Bool, true, false, List, [], ◌∷◌, ◌++◌, length, map}
-use Rattle.std.proofs.Common.{take, get_or, set, Option, Some, None, arith}
-use Rattle.std.proofs.lemmas.List.{take-append-le}
-use Rattle.std.specs.Prelude.{slice_get}
-use Rattle.osi_session.specs.Standing.{Seen}
-use Rattle.osi_judge.specs.Captures.{other}
-use Rattle.osi_judge.specs.Explaining.{Told, done}
-use Rattle.osi_judge.specs.Judging.{IsFound, IsKept, IsAstray, IsFew, HasRoom}
+use Rattle.osi_tap.proofs.Vocabulary.{◌≡◌, refl, sym, subst, ℕ, zero, suc, ◌+◌, ◌<◌, ◌≤◌, inl, Bool, true, false, List, [], ◌∷◌, ◌++◌}
+use Rattle.osi_tap.proofs.Vocabulary.{length, map, take, get_or, set, Option, Some, None, arith, take-append-le, slice_get, Seen, other}
+use Rattle.osi_tap.proofs.Vocabulary.{done, IsFound, IsFew, HasRoom, broke_session, begin_of, Direction, Left, Right, Finding, Kept, Broke}
+use Rattle.osi_tap.proofs.Vocabulary.{TooMany, Strays, never_strays, no_crowd, Connection, IsFoundOf, IsBlameless, IsToBlame, AreBlameless}
+use Rattle.osi_tap.proofs.Vocabulary.{AreBlamelessBut, NobodyIs, NobodyElse, NobodyElseIs, Blames, Room, Joined, Sessions, asked, asked_at}
+use Rattle.osi_tap.proofs.Vocabulary.{placed, changed, packet_begins, all_begin, line_in, HoldsJoined, HoldAll}
+use Rattle.osi_judge.specs.Explaining.{Told}
 use Rattle.osi_judge.specs.Kept.{kept}
-use Rattle.osi_judge.specs.Stops.{broke_session}
-use Rattle.osi_judge.specs.Tapping.{begin_of}
-use Rattle.osi_judge.specs.declared.directions.Direction.{Direction}
-use Rattle.osi_judge.specs.declared.directions.Direction.TheVariants.{Left, Right}
-use Rattle.osi_judge.specs.declared.findings.Finding.{Finding}
-use Rattle.osi_judge.specs.declared.findings.Finding.TheVariants.{Kept, Broke, Left as Astray, TooMany}
-use Rattle.osi_judge.proofs.told.a_side_strays_at_one_place.{Strays, never_strays, no_crowd}
-use Rattle.osi_tap.specs.declared.connections.Connection.{Connection}
-use Rattle.osi_tap.specs.Blaming.{IsFoundOf, IsBlameless, IsToBlame, AreBlameless, AreBlamelessBut, NobodyIs, NobodyElse, NobodyElseIs}
-use Rattle.osi_tap.specs.Blaming.{Blames}
-use Rattle.osi_tap.specs.declared.rooms.Room.{Room}
-use Rattle.osi_tap.specs.Connections.{Joined, Sessions, asked, asked_at, placed, changed, packet_begins, all_begin}
-use Rattle.osi_tap.specs.Holding.{line_in, HoldsJoined, HoldAll}
+use Rattle.osi_judge.specs.declared.findings.Finding.TheVariants.{Left as Astray}
 use Rattle.osi_tap.proofs.each_connection_is_kept.{element, all_length, none_there}
 use Rattle.osi_tap.proofs.what_is_kept_of_a_side_is_what_passed.{found_at, room_at}
 
@@ -47,10 +34,7 @@ blame_stays begin us said more f g e h r k q = by f e h r
   where
     on : (i : ℕ) → i < length said → Strays begin us said i → IsFew begin us (take i said) → broke_session g ≡ true
     on i l s few =
-        strayed begin us (said ++ more) i g (record {
-          so_far = subst (λ (z : List Told). IsKept begin us z) (sym (take-append-le i said more (omega (arith, l)))) s.so_far;
-          astray = subst (λ (z : List Told). IsAstray begin us z) (sym (take-append-le (i + 1) said more (omega (arith, l)))) s.astray;
-        })
+        strayed begin us (said ++ more) i g (grind (arith, take-append-le))
         (subst (λ (z : List Told). IsFew begin us z) (sym (take-append-le i said more (omega (arith, l)))) few) k q
 
     by : (f : Finding) → broke_session f ≡ true → IsFound begin us said f → HasRoom begin us said f → broke_session g ≡ true
@@ -80,11 +64,6 @@ unbroken d c j h k =
     not_true (broke_session (line_in d c).side.finding) (λ e.
     not_both d j (record { finding = (line_in d c).side.finding; found = found_of d c j h; broke = e }) k)
 
--- what is found of it stays, so it stays blameless
-still_blameless : (d : Direction) (c e : Connection) (j i : Joined) → HoldsJoined c j → HoldsJoined e i
-    → (line_in d e).side.finding ≡ (line_in d c).side.finding → IsBlameless d j → IsBlameless d i
-still_blameless d c e j i h k same b = grind (arith, found_of, unbroken)
-
 -- ---- both sides of all connections
 
 one_of : (d : Direction) (j : Joined) → IsBlameless Left j × IsBlameless Right j → IsBlameless d j
@@ -98,11 +77,8 @@ all_but d i [] h = tt
 all_but d zero (j ∷ js) h = (one_of (other d) j h.0, h.1)
 all_but d (suc i) (j ∷ js) h = (h.0, all_but d i js h.1)
 
-else_is : (d : Direction) (i : ℕ) (s : Sessions) → NobodyIs s → NobodyElseIs d i s
-else_is d i s h = record { live = all_but d i s.live h.live; done = h.done }
-
 pub nobody_else : (d : Direction) (place : Option ℕ) (s : Sessions) → NobodyIs s → NobodyElse d place s
-nobody_else d place s h = grind (arith, else_is)
+nobody_else d place s h = grind (arith, all_but)
 
 -- ---- a unit for a connection
 
@@ -117,8 +93,7 @@ changes : (d : Direction) (cs : List Connection) (js : List Joined) (i : ℕ) (c
     → Changes d i js f
 changes d [] js i c e f lt step same h b = absurd (omega arith)
 changes d (x ∷ cs) [] i c e f lt step same h b = absurd h
-changes d (x ∷ cs) (j ∷ js) zero c e f lt step same h b =
-    grind (arith, still_blameless (other d) x e j (f j) h.0 (step j h.0) same (one_of (other d) j b.0), one_of (other d) j b.0)
+changes d (x ∷ cs) (j ∷ js) zero c e f lt step same h b = grind (arith, found_of, unbroken, one_of (other d) j b.0)
 changes d (x ∷ cs) (j ∷ js) (suc i) c e f lt step same h b = grind (arith, changes d cs js i c e f (omega arith) step same h.1 b.1)
 
 pub one_changes : (d : Direction) (cs : List Connection) (s : Sessions) (i : ℕ) (c e : Connection) (f : Joined → Joined) → i < length cs
@@ -129,7 +104,7 @@ one_changes d cs s i c e f lt step same h b = grind (arith, changes d cs s.live 
 
 pub none_changes : (d : Direction) (cs : List Connection) (s : Sessions) (i : ℕ) (f : Joined → Joined) → length cs ≤ i → HoldAll cs s.live
     → NobodyIs s → NobodyElseIs d i (changed i f s (slice_get s.live i))
-none_changes d cs s i f le h b = grind (arith, all_length, none_there, else_is)
+none_changes d cs s i f le h b = grind (arith, all_length, none_there, all_but)
 
 -- ---- a connection is requested
 
@@ -173,16 +148,13 @@ placed_at : (i : ℕ) (j : Joined) (s : Sessions) (o : Option Joined) → slice_
 placed_at i j s o e b h = grind (arith, one_more, one_over, at_place)
 
 pub one_asked : (d : Direction) (i calling : ℕ) (s : Sessions) → NobodyIs s → NobodyElseIs d i (asked_at i calling s)
-one_asked d i calling s h = grind (arith, else_is, placed_at, begin_blameless)
+one_asked d i calling s h = grind (arith, all_but, placed_at, begin_blameless)
 
 -- ---- a packet begins
 
-begun : (e d : Direction) (j : Joined) → IsBlameless d j → IsBlameless d (packet_begins e j)
-begun e d j h = search arith
-
 all_begun : (e : Direction) (js : List Joined) → AreBlameless js → AreBlameless (map (packet_begins e) js)
 all_begun e [] h = tt
-all_begun e (j ∷ js) h = ((begun e Left j h.0.0, begun e Right j h.0.1), all_begun e js h.1)
+all_begun e (j ∷ js) h = ((grind arith, grind arith), all_begun e js h.1)
 
 pub nobody_begun : (e : Direction) (s : Sessions) → NobodyIs s → NobodyIs (all_begin e s)
 nobody_begun e s h = record { live = all_begun e s.live h.live; done = h.done }

@@ -1,7 +1,4 @@
 -- One unit: reading is sound and complete.
-use Rattle.std.proofs.Common.{◌≡◌, ℕ, ◌+◌, ◌*◌, ◌/◌, ◌%◌, ◌<◌, ◌≤◌, Bool, true, false, cond, eqb, ltb, leb, List, [], ◌∷◌, ◌++◌}
-use Rattle.std.proofs.Common.{length, get_or, take, drop, Result, Ok, Err, refl, sym, ap, subst, ◌∙◌, arith, inl, inr}
-use Rattle.osi_tpkt.specs.Unit.{IsAtFront}
 use Rattle.osi_tpdu.proofs.Vocabulary.{flat_map, ltb-false, leb-true, leb-false, le-leb, lt-leb, le-ltb, eqb-true, eqb-false, ne_eqb}
 use Rattle.osi_tpdu.proofs.Vocabulary.{or_parts, cases_Bool, append-nil, take_at, drop_at, length-append, take-append-drop, length-take}
 use Rattle.osi_tpdu.proofs.Vocabulary.{length-take-le, take_all, drop_all, IsOctets, octets_take, octets_drop, octets_left, octets_right}
@@ -9,7 +6,9 @@ use Rattle.osi_tpdu.proofs.Vocabulary.{TpduFault, BadLi, UnknownCode, Parameters
 use Rattle.osi_tpdu.proofs.Vocabulary.{disconnected, data0, data2, acknowledge, error, user_data, may_be_followed, IsReference, IsConnect}
 use Rattle.osi_tpdu.proofs.Vocabulary.{HasFieldsInRange, Item, Means, item_octets, two, below_bit, connect_part, IsHeader, Spells}
 use Rattle.osi_tpdu.proofs.Vocabulary.{header_at, reference_at, known_at, all_skipped_at, connect_of, request_of, confirm_of, disconnect_of}
-use Rattle.osi_tpdu.proofs.Vocabulary.{disconnected_of, transfer_of, acknowledge_of, error_of, value_of, unit_at, Follows}
+use Rattle.osi_tpdu.proofs.Vocabulary.{disconnected_of, transfer_of, acknowledge_of, error_of, value_of, unit_at, Follows, ◌≡◌, ℕ, ◌+◌, ◌*◌}
+use Rattle.osi_tpdu.proofs.Vocabulary.{◌/◌, ◌%◌, ◌<◌, ◌≤◌, Bool, true, false, cond, eqb, ltb, leb, List, [], ◌∷◌, ◌++◌, length, get_or}
+use Rattle.osi_tpdu.proofs.Vocabulary.{take, drop, Result, Ok, Err, refl, sym, ap, subst, ◌∙◌, arith, inl, inr, IsAtFront}
 use Rattle.osi_tpdu.proofs.the_steps_of_reading.{bind_ok, unless_ok, when_ok, chosen, ok_is, IsOctets-rest}
 use Rattle.osi_tpdu.proofs.parameters_are_read_as_they_mean.{known_found, known_only, skipped_found, skipped_only}
 

@@ -1,8 +1,7 @@
 -- Packets of one DT or one AK.
-use Rattle.std.proofs.Common.{◌≡◌, ℕ, ◌+◌, ◌-◌, ◌*◌, ◌/◌, ◌%◌, ◌<◌, ◌≤◌, Bool, leb, List, [], ◌∷◌, length, get_or, take, drop, Ok, refl}
-use Rattle.std.proofs.Common.{arith}
 use Rattle.osi_tpdu.proofs.Vocabulary.{eq-eqb, length-drop, take_all, IsOctets, units_at, units_of, header_at, unit_at, value_of}
-use Rattle.osi_tpdu.proofs.Vocabulary.{transfer_of, acknowledge_of, Spells, Value, data0, data2, acknowledge, written}
+use Rattle.osi_tpdu.proofs.Vocabulary.{transfer_of, acknowledge_of, Spells, Value, data0, data2, acknowledge, written, ◌≡◌, ℕ, ◌+◌, ◌-◌}
+use Rattle.osi_tpdu.proofs.Vocabulary.{◌*◌, ◌/◌, ◌%◌, ◌<◌, ◌≤◌, Bool, leb, List, [], ◌∷◌, length, get_or, take, drop, Ok, refl, arith}
 use Rattle.osi_tpdu.proofs.one_unit_is_read.{header_again}
 use Rattle.osi_tpdu.proofs.the_written_form_spells_its_value.{written_spells}
 use Rattle.osi_tpdu.proofs.the_units_of_a_packet.{units_found, units_only}

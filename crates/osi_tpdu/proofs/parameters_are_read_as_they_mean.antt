@@ -1,14 +1,13 @@
 -- The parameters of a CR or CC: reading them gives what the items mean, and what the items mean is read.
-use Rattle.std.proofs.Common.{◌≡◌, ℕ, zero, suc, ◌+◌, ◌<◌, ◌≤◌, true, false, eqb, ltb, List, [], ◌∷◌, ◌++◌, length, get_or}
-use Rattle.std.proofs.Common.{take, drop, Option, Some, None, Result, Ok, refl, sym, ap, subst, ◌∙◌, append_assoc, arith, inl, inr, ◌⊎◌}
-use Rattle.std.proofs.lemmas.List.Elements.{filter-append}
 use Rattle.osi_tpdu.proofs.Vocabulary.{option_to_list, is_some, flat_map, ltb-false, leb-true, le-leb, le-ltb, eqb-true, eq-eqb, ne_eqb}
 use Rattle.osi_tpdu.proofs.Vocabulary.{and_parts, not-false, cases_eq, append-nil, take_at, drop_at, length-append, take-append-drop}
 use Rattle.osi_tpdu.proofs.Vocabulary.{length-take, length-drop, map-append, IsOctets, octets_take, octets_drop, TpduFault}
 use Rattle.osi_tpdu.proofs.Vocabulary.{BadParameterLength, Parameter, Size, Calling, Called, Additional, Alternative, code_of, Parameters}
 use Rattle.osi_tpdu.proofs.Vocabulary.{AreParameters, Item, item_octets, values_of, single, Means, parameter_at, no_parameters, with_size}
 use Rattle.osi_tpdu.proofs.Vocabulary.{with_calling, with_called, with_additional, with_alternative, with_parameter, parameters_at}
-use Rattle.osi_tpdu.proofs.Vocabulary.{known_at, skipped_at, all_skipped_at}
+use Rattle.osi_tpdu.proofs.Vocabulary.{known_at, skipped_at, all_skipped_at, ◌≡◌, ℕ, zero, suc, ◌+◌, ◌<◌, ◌≤◌, true, false, eqb, ltb, List}
+use Rattle.osi_tpdu.proofs.Vocabulary.{[], ◌∷◌, ◌++◌, length, get_or, take, drop, Option, Some, None, Result, Ok, refl, sym, ap, subst, ◌∙◌}
+use Rattle.osi_tpdu.proofs.Vocabulary.{append_assoc, arith, inl, inr, ◌⊎◌, filter-append}
 use Rattle.osi_tpdu.proofs.the_steps_of_reading.{bind_ok, unless_ok, when_ok, chosen, ok_is, one_long}
 
 -- ---- what items add to a slot

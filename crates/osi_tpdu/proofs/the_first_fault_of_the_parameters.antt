@@ -1,7 +1,4 @@
 -- The fault that the reader of parameters returns is their first one.
-use Rattle.std.proofs.Common.{◌≡◌, ℕ, zero, suc, ◌+◌, ◌≤◌, Bool, true, false, cond, eqb, ltb, leb, not, ◌&&◌, List, [], ◌∷◌, ◌++◌}
-use Rattle.std.proofs.Common.{length, get_or, Option, Some, None, Result, Ok, Err, refl, sym, ap, subst, ◌∙◌, append_assoc, arith, inl, inr}
-use Rattle.std.proofs.Common.{◌⊎◌, add-zero}
 use Rattle.osi_tpdu.proofs.Vocabulary.{option_to_list, is_some, flat_map, false≢true, ltb-true, ltb-false, leb-true, le-leb, eqb-true}
 use Rattle.osi_tpdu.proofs.Vocabulary.{eqb-false, eq-eqb, and_parts, not-false, append-nil, length-append, IsOctets, TpduFault}
 use Rattle.osi_tpdu.proofs.Vocabulary.{BadParameterLength, BadParameterValue, DuplicateParameter, Parameters, AreParameters, Item}
@@ -9,7 +6,9 @@ use Rattle.osi_tpdu.proofs.Vocabulary.{item_octets, values_of, single, ◌>>=◌
 use Rattle.osi_tpdu.proofs.Vocabulary.{with_called, with_additional, with_alternative, with_parameter, parameters_at, known_at, skipped_at}
 use Rattle.osi_tpdu.proofs.Vocabulary.{all_skipped_at, Kind, LooksAtParameters, Parameter, Size, Calling, Called, Additional, Alternative}
 use Rattle.osi_tpdu.proofs.Vocabulary.{code_of, MayBeLong, MayHold, BeginsWith, HasBadLength, HasBadValue, HasItemFault, HasParameterFault}
-use Rattle.osi_tpdu.proofs.Vocabulary.{place_of, IsFirst}
+use Rattle.osi_tpdu.proofs.Vocabulary.{place_of, IsFirst, ◌≡◌, ℕ, zero, suc, ◌+◌, ◌≤◌, Bool, true, false, cond, eqb, ltb, leb, not, ◌&&◌}
+use Rattle.osi_tpdu.proofs.Vocabulary.{List, [], ◌∷◌, ◌++◌, length, get_or, Option, Some, None, Result, Ok, Err, refl, sym, ap, subst, ◌∙◌}
+use Rattle.osi_tpdu.proofs.Vocabulary.{append_assoc, arith, inl, inr, ◌⊎◌, add-zero}
 use Rattle.osi_tpdu.proofs.the_steps_of_reading.{chosen, ok_is}
 use Rattle.osi_tpdu.proofs.parameters_are_read_as_they_mean.{Adds, other_code, Adds-then, Adds-none, with_found, parameter_found}
 use Rattle.osi_tpdu.proofs.parameters_are_read_as_they_mean.{parameter_again}

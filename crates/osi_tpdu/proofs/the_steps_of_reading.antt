@@ -1,8 +1,6 @@
 -- Steps of reading that did not fail, and lists of octets.
-use Rattle.std.proofs.Common.{◌≡◌, ℕ, suc, ◌+◌, ◌<◌, Bool, true, false, cond, List, [], ◌∷◌, length, get_or, take, drop, Result, Ok, Err}
-use Rattle.std.proofs.Common.{refl, sym, arith, ◌⊎◌}
-use Rattle.osi_tpdu.proofs.Vocabulary.{IsOctets, IsOk, TpduFault, ◌>>=◌}
-use Rattle.osi_tpdu.proofs.Vocabulary.{drop-drop, drop-take, false≢true}
+use Rattle.osi_tpdu.proofs.Vocabulary.{IsOctets, IsOk, TpduFault, ◌>>=◌, drop-drop, drop-take, false≢true, ◌≡◌, ℕ, suc, ◌+◌, ◌<◌, Bool}
+use Rattle.osi_tpdu.proofs.Vocabulary.{true, false, cond, List, [], ◌∷◌, length, get_or, take, drop, Result, Ok, Err, refl, sym, arith, ◌⊎◌}
 
 pub bind_ok : {A B : Type 0} (r : Result A TpduFault) (f : A → Result B TpduFault) (y : B) → (r >>= f) ≡ Ok y →
     (x : A) × (r ≡ Ok x) × (f x ≡ Ok y)

@@ -1,12 +1,11 @@
 -- The units of a packet: reading is sound and complete, and what is left after the first unit.
-use Rattle.std.proofs.Common.{◌≡◌, ℕ, zero, suc, ◌+◌, ◌<◌, ◌≤◌, Bool, true, false, cond, eqb, List, [], ◌∷◌, ◌++◌, length, take, drop}
-use Rattle.std.proofs.Common.{Result, Ok, Err, refl, sym, ap, subst, ◌∙◌, append_assoc, arith, inl, inr, add-zero, zero-add}
-use Rattle.std.specs.Result.{result_unwrap_or}
 use Rattle.osi_tpdu.proofs.Vocabulary.{is_ok, IsTrue, IsOk, AllByRecursion, false≢true, eqb-true, eqb-false, eq-eqb, ne_eqb, cases_Bool}
 use Rattle.osi_tpdu.proofs.Vocabulary.{append-nil, take_all, drop_all, drop_at, length-append, take-append-drop, length-drop}
 use Rattle.osi_tpdu.proofs.Vocabulary.{length-take-le, IsOctets, octets_right, octets_drop, TpduFault, Value, may_be_followed, Spells}
 use Rattle.osi_tpdu.proofs.Vocabulary.{◌>>=◌, header_at, value_of, unit_at, AreUnits, AreLeads, IsFirstFault, Follows, units_at, units_of}
-use Rattle.osi_tpdu.proofs.Vocabulary.{Fits, can_be_read, rest_at}
+use Rattle.osi_tpdu.proofs.Vocabulary.{Fits, can_be_read, rest_at, ◌≡◌, ℕ, zero, suc, ◌+◌, ◌<◌, ◌≤◌, Bool, true, false, cond, eqb, List, []}
+use Rattle.osi_tpdu.proofs.Vocabulary.{◌∷◌, ◌++◌, length, take, drop, Result, Ok, Err, refl, sym, ap, subst, ◌∙◌, append_assoc, arith, inl}
+use Rattle.osi_tpdu.proofs.Vocabulary.{inr, add-zero, zero-add, result_unwrap_or}
 use Rattle.osi_tpdu.proofs.the_written_form_spells_its_value.{spelled_fits}
 use Rattle.osi_tpdu.proofs.the_steps_of_reading.{bind_ok, chosen, ok_is}
 use Rattle.osi_tpdu.proofs.one_unit_is_read.{unit_takes, unit_found, unit_spelled, stands_alone}

@@ -1,12 +1,10 @@
 -- The written form: it spells its value, and is no longer than any other spelling.
-use Rattle.std.proofs.Common.{◌≡◌, ℕ, ◌+◌, ◌/◌, ◌%◌, ◌<◌, ◌≤◌, Bool, true, false, cond, eqb, List, [], ◌∷◌, length, Option, refl, arith}
-use Rattle.std.proofs.lemmas.List.Concat.{flat_map-append}
-use Rattle.osi_tpdu.specs.declared.connect.ConnectParameters.{ConnectParameters}
 use Rattle.osi_tpdu.proofs.Vocabulary.{option_to_list, IfSome, flat_map, append-nil, length-append, IsOctets, octets_nil, octets_append}
 use Rattle.osi_tpdu.proofs.Vocabulary.{Parameters, AreParameters, Value, request, confirm, disconnect, disconnected, data0, data2}
 use Rattle.osi_tpdu.proofs.Vocabulary.{acknowledge, error, IsReference, HasFieldsInRange, Item, Means, item_octets, single, values_of}
 use Rattle.osi_tpdu.proofs.Vocabulary.{IsHeader, Spells, items_of, written_items, written_header, written, HasRoom, HasFewClasses, Fits}
-use Rattle.osi_tpdu.proofs.Vocabulary.{Tpdu, parameter_values, value}
+use Rattle.osi_tpdu.proofs.Vocabulary.{Tpdu, parameter_values, value, ◌≡◌, ℕ, ◌+◌, ◌/◌, ◌%◌, ◌<◌, ◌≤◌, Bool, true, false, cond, eqb, List}
+use Rattle.osi_tpdu.proofs.Vocabulary.{[], ◌∷◌, length, Option, refl, arith, flat_map-append, ConnectParameters}
 use Rattle.osi_tpdu.proofs.the_steps_of_reading.{IsOctets-cons}
 
 -- ---- the written parameters have the meaning of the unit

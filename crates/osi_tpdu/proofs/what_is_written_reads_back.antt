@@ -1,6 +1,5 @@
 -- A unit that is in range and has room is written as a spelling of it, which reads back as the unit.
-use Rattle.std.proofs.Common.{arith, ◌≡◌, [], ◌∷◌, Ok}
-use Rattle.osi_tpdu.proofs.Vocabulary.{Tpdu, HasFieldsInRange, Spells, written, HasRoom, units_of, value}
+use Rattle.osi_tpdu.proofs.Vocabulary.{Tpdu, HasFieldsInRange, Spells, written, HasRoom, units_of, value, arith, ◌≡◌, [], ◌∷◌, Ok}
 use Rattle.osi_tpdu.proofs.the_written_form_spells_its_value.{written_spells}
 use Rattle.osi_tpdu.proofs.the_units_of_a_packet.{units_only}
 

@@ -1,8 +1,7 @@
 -- The code octet of a unit tells whether another unit may follow it.
-use Rattle.std.proofs.Common.{◌≡◌, ℕ, ◌≤◌, Bool, true, false, List, length, get_or, Result, Ok, Err, refl, arith}
 use Rattle.osi_tpdu.proofs.Vocabulary.{eqb-true, TpduFault, Value, IsOk, may_be_followed, header_at, request_of, confirm_of, disconnect_of}
 use Rattle.osi_tpdu.proofs.Vocabulary.{disconnected_of, transfer_of, acknowledge_of, error_of, value_of, is_lead_code, used_by, unit_at}
-use Rattle.osi_tpdu.proofs.Vocabulary.{can_be_read}
+use Rattle.osi_tpdu.proofs.Vocabulary.{can_be_read, ◌≡◌, ℕ, ◌≤◌, Bool, true, false, List, length, get_or, Result, Ok, Err, refl, arith}
 use Rattle.osi_tpdu.proofs.the_steps_of_reading.{bind_ok, unless_ok, when_ok, chosen, ok_is}
 use Rattle.osi_tpdu.proofs.the_units_of_a_packet.{none_bad}
 

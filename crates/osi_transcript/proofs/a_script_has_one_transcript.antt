@@ -1,22 +1,12 @@
 -- A script has one transcript: after each line, the two ends of one run and those of another have the same state.
 -- For the law of the same name.
-use Rattle.std.proofs.Common.{◌≡◌, ◌∙◌, ℕ, List, [], ◌∷◌, ◌++◌, length, drop, Option, Some, None, inl, inr, sym, ap, ap₂, subst, arith}
-use Rattle.osi_class.specs.declared.terms.Local.{Local}
-use Rattle.osi_pair.specs.Ends.{TwoEnds, fresh_ends}
-use Rattle.osi_pair.specs.Entries.{Entry}
-use Rattle.osi_pair.specs.Events.{misfit, Does}
-use Rattle.osi_pair.specs.Reached.{IsReached}
-use Rattle.osi_pair.specs.SameEnds.{AreSameEnds, FoundMemory}
-use Rattle.osi_pair.specs.Standing.{StandsAt}
-use Rattle.osi_pair.specs.declared.events.Event.{Event}
+use Rattle.osi_transcript.proofs.Vocabulary.{◌≡◌, ◌∙◌, ℕ, List, [], ◌∷◌, ◌++◌, length, drop, Option, Some, None, inl, inr, sym, ap, ap₂}
+use Rattle.osi_transcript.proofs.Vocabulary.{subst, arith, Local, TwoEnds, fresh_ends, Entry, misfit, Does, IsReached, AreSameEnds}
+use Rattle.osi_transcript.proofs.Vocabulary.{FoundMemory, StandsAt, Event, fresh_less, Command, Ends, Connect, OfUser, Carry, Break, Told}
+use Rattle.osi_transcript.proofs.Vocabulary.{command_of, Classes, IsEvent, entry_texts, Lines, Rest, IsApplied, FailsAt, RefusesLine}
+use Rattle.osi_transcript.proofs.Vocabulary.{Applies, PlaysLine, Plays, IsLocal, Starts, BeginsWith, Transcribes, carried_by, event_text}
+use Rattle.osi_transcript.proofs.Vocabulary.{new_texts}
 use Rattle.osi_pair.specs.declared.events.Event.TheVariants as event
-use Rattle.osi_pair.proofs.event.each_end_holds_less_than_a_packet.{fresh_less}
-use Rattle.osi_script.specs.Commands.{Command, Ends, Connect, OfUser, Carry, Break, Told, command_of}
-use Rattle.osi_script.specs.declared.commands.Classes.{Classes}
-use Rattle.osi_transcript.specs.Asking.{IsEvent}
-use Rattle.osi_transcript.specs.Entries.{entry_texts}
-use Rattle.osi_transcript.specs.Playing.{Lines, Rest, IsApplied, FailsAt, RefusesLine, Applies, PlaysLine, Plays, IsLocal, Starts}
-use Rattle.osi_transcript.specs.Playing.{BeginsWith, Transcribes, carried_by, event_text, new_texts}
 use Rattle.osi_transcript.proofs.one_line_has_one_effect.{AreOneEvent, one_event}
 use Rattle.osi_transcript.proofs.the_same_numbers_are_one_configuration.{one_local}
 

@@ -1,12 +1,10 @@
 -- A script is read line by line.
 -- For `Walk`: what is left of the octets after each line.
-use Rattle.std.proofs.Common.{◌≡◌, ◌∙◌, ℕ, ◌+◌, ◌<◌, ◌^◌, Bool, true, false, not, List, [], ◌∷◌, length, Option, option_map, refl, sym, ap}
-use Rattle.std.proofs.Common.{arith, if◌then◌else◌}
-use Rattle.std.specs.Option.{option_map_or}
-use Rattle.std.proofs.lemmas.List.Splits.{length-slice_split}
-use Rattle.std.proofs.lemmas.List.Sums.{count_by-le-length}
-use Rattle.osi_script.specs.Scripts.{lines_of, is_skipped}
-use Rattle.osi_transcript.specs.Numbered.{numbered, lines_left}
+use Rattle.osi_transcript.proofs.Vocabulary.{◌≡◌, ◌∙◌, ℕ, ◌+◌, ◌<◌, ◌^◌, Bool, true, false, not, List, [], ◌∷◌, length, Option, option_map}
+use Rattle.osi_transcript.proofs.Vocabulary.{refl, sym, ap, arith, if◌then◌else◌, option_map_or, length-slice_split, count_by-le-length}
+use Rattle.osi_transcript.proofs.Vocabulary.{is_skipped, lines_left}
+use Rattle.osi_script.specs.Scripts.{lines_of}
+use Rattle.osi_transcript.specs.Numbered.{numbered}
 
 -- a text has at most one line more than octets
 pub few_lines : (text : List ℕ) → length text < 2 ^ 32 → 1 + length (lines_of text) < 2 ^ 40

@@ -1,17 +1,10 @@
 -- Lines of a script, one after the other.
 -- For `play`, `play_line` and `play_event`.
-use Rattle.std.proofs.Common.{arith, ◌≡◌, ◌∙◌, ℕ, Bool, true, false, List, [], ◌∷◌, ◌++◌, Option, Some, None, inl, inr, refl, sym, subst}
-use Rattle.std.proofs.lemmas.List.{append_assoc, append-nil}
-use Rattle.osi_pair.specs.Ends.{TwoEnds}
-use Rattle.osi_pair.specs.declared.events.Event.{Event}
-use Rattle.osi_script.specs.Answers.{answer_line}
-use Rattle.osi_script.specs.Commands.{Command, Ends, Connect, OfUser, Carry, Break, Told, command_of}
-use Rattle.osi_script.specs.declared.answers.Answer.TheVariants.{LineRefused}
-use Rattle.osi_transcript.specs.Asking.{IsEvent, IsNoEvent}
-use Rattle.osi_transcript.specs.Playing.{Lines, Applies, Plays, BeginsWith, Transcribes, carried_by, event_text, new_texts}
-use Rattle.osi_transcript.specs.Standings.{all_standings}
-use Rattle.osi_transcript.specs.Starting.{IsStart}
-use Rattle.osi_transcript.specs.Steps.{DoesEvent, FailsEvent, PlaysEvent, StopsAtLine, GoesBehind, PlaysAll}
+use Rattle.osi_transcript.proofs.Vocabulary.{arith, ◌≡◌, ◌∙◌, ℕ, Bool, true, false, List, [], ◌∷◌, ◌++◌, Option, Some, None, inl, inr, refl}
+use Rattle.osi_transcript.proofs.Vocabulary.{sym, subst, append_assoc, append-nil, TwoEnds, Event, answer_line, Command, Ends, Connect}
+use Rattle.osi_transcript.proofs.Vocabulary.{OfUser, Carry, Break, Told, command_of, LineRefused, IsEvent, IsNoEvent, Lines, Applies, Plays}
+use Rattle.osi_transcript.proofs.Vocabulary.{BeginsWith, Transcribes, carried_by, event_text, new_texts, all_standings, IsStart, DoesEvent}
+use Rattle.osi_transcript.proofs.Vocabulary.{FailsEvent, PlaysEvent, StopsAtLine, GoesBehind, PlaysAll}
 
 -- the event of a line is applied, or does not fit
 plays_event : (number : ℕ) (line : List ℕ) (c : Command) (event : Event) (lines : Lines) (p : TwoEnds) (text : List ℕ) (status : ℕ) →

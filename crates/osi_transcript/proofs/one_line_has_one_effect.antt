@@ -1,36 +1,18 @@
 -- Two events in memory for the same line of a script have the same effect, carry as many octets and give the same text.
 -- For a_script_has_one_transcript.
-use Rattle.std.proofs.Common.{◌≡◌, ℕ, ◌+◌, ◌||◌, true, not, [], ◌∷◌, length, Option, Some, None, subst, if◌then◌else◌, arith}
-use Rattle.std.specs.Prelude.{nat_le}
-use Rattle.osi_carrier.specs.Calls.{may_connect, asks}
-use Rattle.osi_carrier.specs.declared.events.Ref.{Ref}
-use Rattle.osi_message.specs.Meanings.{CN}
-use Rattle.osi_message.specs.Tokens.{no_token}
-use Rattle.osi_session.specs.Allowed.{base_for, serial_for, most_user_data}
-use Rattle.osi_session.specs.Calls.{called_by}
+use Rattle.osi_transcript.proofs.Vocabulary.{◌≡◌, ℕ, ◌+◌, ◌||◌, true, not, [], ◌∷◌, length, Option, Some, None, subst, if◌then◌else◌, arith}
+use Rattle.osi_transcript.proofs.Vocabulary.{nat_le, may_connect, asks, Ref, CN, no_token, base_for, serial_for, most_user_data, called_by}
+use Rattle.osi_transcript.proofs.Vocabulary.{Listener, from_base, offered, functional_units, is_profile, WaitTransport, Request, after_open}
+use Rattle.osi_transcript.proofs.Vocabulary.{is_long_address, End, Holding, joins, ConnectError, NotSelected, TooLong, Asked, asked_of}
+use Rattle.osi_transcript.proofs.Vocabulary.{TwoEnds, answer_with, noted, connected_by, misfit, Does, Event, Command, Connect, Carry, Break}
+use Rattle.osi_transcript.proofs.Vocabulary.{Told, side_in, IsEvent, carried_by}
 use Rattle.osi_session.specs.Calls as session
-use Rattle.osi_session.specs.Listening.{Listener}
-use Rattle.osi_session.specs.Numbers.{from_base}
-use Rattle.osi_session.specs.Sides.{offered}
-use Rattle.osi_session.specs.Units.{functional_units, is_profile}
-use Rattle.osi_session.specs.declared.phases.Phase.TheVariants.{WaitTransport}
-use Rattle.osi_session.specs.declared.requests.Request.{Request}
-use Rattle.osi_stack.specs.Calls.{after_open, is_long_address}
-use Rattle.osi_stack.specs.State.{End, Holding, joins}
 use Rattle.osi_stack.specs.declared.connecting.Connect.{Connect as Wanted}
-use Rattle.osi_stack.specs.declared.connecting.ConnectError.{ConnectError}
-use Rattle.osi_stack.specs.declared.connecting.ConnectError.TheVariants.{NotSelected, TooLong}
-use Rattle.osi_pair.specs.Asked.{Asked, asked_of}
-use Rattle.osi_pair.specs.Ends.{TwoEnds, answer_with, noted, connected_by}
 use Rattle.osi_pair.specs.Entries.{asks as entry}
-use Rattle.osi_pair.specs.Events.{misfit, Does}
-use Rattle.osi_pair.specs.declared.events.Event.{Event}
 use Rattle.osi_pair.specs.declared.events.Event.TheVariants as event
 use Rattle.osi_pair.specs.declared.sides.Side as ends
-use Rattle.osi_script.specs.Commands.{Command, Connect, Carry, Break, Told}
 use Rattle.osi_script.specs.declared.sides.Side.{Side}
-use Rattle.osi_transcript.specs.Asking.{side_in, IsEvent}
-use Rattle.osi_transcript.specs.Playing.{carried_by, event_text}
+use Rattle.osi_transcript.specs.Playing.{event_text}
 
 -- they fit alike, and do the same
 pub record AreOneEvent (x y : Event) : Type 0 where

@@ -1,17 +1,9 @@
 -- The line of a connection's state in memory.
 -- For `push_side`, which writes the states of one end.
-use Rattle.std.proofs.Common.{◌≡◌, ◌∙◌, ◌+◌, ◌-◌, ◌<◌, ◌++◌, ◌&&◌, Bool, false, List, [], ℕ, zero, suc, refl, sym, ap, add-one, arith}
-use Rattle.std.specs.Prelude.{Some, None, nat_lt, nat_le, if◌then◌else◌}
-use Rattle.std.proofs.lemmas.Bool.Decides.{nat_tests}
-use Rattle.std.proofs.lemmas.List.{append-nil}
-use Rattle.osi_spdu.specs.Fields.{bits_of}
-use Rattle.osi_script.specs.Standing.{standing_line}
-use Rattle.osi_script.specs.declared.standing.Standing.{Standing}
-use Rattle.osi_session.specs.declared.phases.Phase.{Phase}
-use Rattle.osi_stack.specs.Calls.{phase_at, phase_of}
-use Rattle.osi_stack.specs.State.{End, session_at}
-use Rattle.osi_pair.specs.declared.sides.Side.{Side}
-use Rattle.osi_transcript.specs.Standings.{stand, phase_text, text_by, standing_text, standing_texts}
+use Rattle.osi_transcript.proofs.Vocabulary.{◌≡◌, ◌∙◌, ◌+◌, ◌-◌, ◌<◌, ◌++◌, ◌&&◌, Bool, false, List, [], ℕ, zero, suc, refl, sym, ap}
+use Rattle.osi_transcript.proofs.Vocabulary.{add-one, arith, Some, None, nat_lt, nat_le, if◌then◌else◌, nat_tests, append-nil, bits_of}
+use Rattle.osi_transcript.proofs.Vocabulary.{standing_line, Standing, Phase, phase_at, phase_of, End, session_at, Side, phase_text, text_by}
+use Rattle.osi_transcript.specs.Standings.{stand, standing_text, standing_texts}
 
 pub stand_of : (s : Standing) →
     standing_line s ≡ stand s.side s.reference s.phase (bits_of s.held) s.next_serial s.confirmed_below s.lowest_restart

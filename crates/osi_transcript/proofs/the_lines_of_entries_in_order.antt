@@ -1,19 +1,9 @@
 -- The lines of entries, one after the other.
 -- For `push_entries` and all that adds entries to a transcript.
-use Rattle.std.proofs.Common.{◌≡◌, ◌≢◌, ℕ, ◌+◌, false, List, ◌++◌, length, map, drop, Some, None, arith, ◌≤◌}
-use Rattle.std.proofs.lemmas.List.{length-append, drop-map, length-map}
-use Rattle.osi_carrier.specs.declared.ends.EndReason.TheVariants.{NoMemory}
-use Rattle.osi_pair.specs.Ends.{TwoEnds}
-use Rattle.osi_pair.specs.Entries.{entry_by}
-use Rattle.osi_pair.specs.Events.{Adds, Does, CarriesAsMuch, misfit}
-use Rattle.osi_pair.specs.Reached.{IsReached}
-use Rattle.osi_pair.specs.SameEnds.{FoundMemory}
+use Rattle.osi_transcript.proofs.Vocabulary.{◌≡◌, ◌≢◌, ℕ, ◌+◌, false, List, ◌++◌, length, map, drop, Some, None, arith, ◌≤◌, length-append}
+use Rattle.osi_transcript.proofs.Vocabulary.{drop-map, length-map, NoMemory, TwoEnds, entry_by, Adds, Does, CarriesAsMuch, misfit}
+use Rattle.osi_transcript.proofs.Vocabulary.{IsReached, FoundMemory, Applied, Event, entry_texts, event_text, DoesEvent}
 use Rattle.osi_pair.specs.declared.entries.Entry.{Entry}
-use Rattle.osi_pair.specs.declared.events.Applied.{Applied}
-use Rattle.osi_pair.specs.declared.events.Event.{Event}
-use Rattle.osi_transcript.specs.Entries.{entry_texts}
-use Rattle.osi_transcript.specs.Playing.{event_text}
-use Rattle.osi_transcript.specs.Steps.{DoesEvent}
 
 -- the journal keeps its entries, and may get more
 pub journal_grows : (old new : TwoEnds) (xs ys : List Entry) → map entry_by xs ≡ old.journal → map entry_by ys ≡ new.journal →

@@ -1,11 +1,7 @@
 -- Two configurations of an end with the same numbers are the same.
 -- For one_line_has_one_effect.
-use Rattle.std.proofs.Common.{arith, ◌≡◌, ℕ, ◌≤◌, Bool, ap₂, subst}
-use Rattle.std.specs.Coded.{le_prop}
-use Rattle.osi_class.specs.declared.terms.Local.{Local}
-use Rattle.osi_tpdu.specs.declared.limits.SizeCode.{SizeCode}
-use Rattle.osi_tpdu.specs.declared.limits.Window.{Window}
-use Rattle.osi_tpdu.specs.Limits.{size_code, window_units}
+use Rattle.osi_transcript.proofs.Vocabulary.{arith, ◌≡◌, ℕ, ◌≤◌, Bool, ap₂, subst, le_prop, Local, SizeCode, Window, size_code}
+use Rattle.osi_transcript.proofs.Vocabulary.{window_units}
 
 size_same : (s t : SizeCode) → size_code s ≡ size_code t → s ≡ t
 size_same s t e =

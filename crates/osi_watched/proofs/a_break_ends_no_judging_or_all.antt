@@ -1,40 +1,21 @@
 -- A unit that is no break leaves all that passes judged, or nothing any more; how far each other unit reaches, and what can't be read. And
 -- what a side sends is no break of the other one. For the laws that an end is blamed nowhere.
-use Rattle.std.proofs.Common.{arith}
-use Rattle.std.proofs.Common.{◌≡◌, ◌∙◌, ℕ, Bool, true, false, if◌then◌else◌, Option, Some, None, is_some, refl, sym, ap}
-use Rattle.std.proofs.Common.{inl, inr, ◌⊎◌}
-use Rattle.std.specs.Prelude.{◌||◌}
-use Rattle.osi_tpdu.specs.Value.{Value, Connect}
-use Rattle.osi_class.specs.declared.terms.Class.{Class}
-use Rattle.osi_class.specs.declared.terms.Class.TheVariants.{Zero}
-use Rattle.osi_judge.specs.Captures.{other}
+use Rattle.osi_watched.proofs.Vocabulary.{arith, ◌≡◌, ◌∙◌, ℕ, Bool, true, false, if◌then◌else◌, Option, Some, None, is_some, refl, sym, ap}
+use Rattle.osi_watched.proofs.Vocabulary.{inl, inr, ◌⊎◌, ◌||◌, Value, Connect, Class, Zero, other, Connection, Finding, Kept, Broke}
+use Rattle.osi_watched.proofs.Vocabulary.{Outside, TooMany, NotJudged, Reach, Route, reach_of, State, Outcome, class_for, none_told}
+use Rattle.osi_watched.proofs.Vocabulary.{unnamed_told, at_place, asks_by, routed, is_stopped, takes, stops_are_said, stops_last, rubbish}
+use Rattle.osi_watched.proofs.Vocabulary.{unit, zero_stays, side_zero, Cause, Mark, Marks, taken, Course, cause_of, changes, earlier}
+use Rattle.osi_watched.proofs.Vocabulary.{first_marked, is_break, kind_of, marked, marks_of, moment_of, moved, noted_by, number_at}
+use Rattle.osi_watched.proofs.Vocabulary.{packet_begins, reached, unit_passes, unread, unread_mark, unread_moment, way_of}
 use Rattle.osi_judge.specs.declared.directions.Direction.{Direction as Side}
 use Rattle.osi_judge.specs.declared.directions.Direction.TheVariants as side
-use Rattle.osi_rules.specs.declared.connections.Connection.{Connection}
 use Rattle.osi_rules.specs.declared.courses.Course.{Course as Judging}
 use Rattle.osi_rules.specs.declared.directions.Direction.{Direction}
 use Rattle.osi_rules.specs.declared.directions.Direction.TheVariants.{Left, Right}
-use Rattle.osi_rules.specs.declared.findings.Finding.{Finding}
-use Rattle.osi_rules.specs.declared.findings.Finding.TheVariants.{Kept, Broke, Outside, TooMany, NotJudged}
-use Rattle.osi_rules.specs.declared.findings.Reach.{Reach}
 use Rattle.osi_rules.specs.declared.findings.Reach.TheVariants as reach
-use Rattle.osi_rules.specs.declared.routes.Route.{Route}
-use Rattle.osi_rules.specs.Reaches.{reach_of}
-use Rattle.osi_rules.specs.Traffic.{State, Outcome, class_for, none_told, one_told, unnamed_told, at_place, asks_by, routed, is_stopped}
-use Rattle.osi_rules.specs.Traffic.{takes}
 use Rattle.osi_rules.specs.Traffic as traffic
-use Rattle.osi_rules.proofs.a_stop_is_said.{stops_are_said, stops_last}
-use Rattle.osi_fair.specs.Naming.{rubbish, unit}
-use Rattle.osi_fair.proofs.class_0_stays_selected.{zero_stays}
-use Rattle.osi_fair.proofs.the_end_is_judged_as_the_other_side_is.{side_zero}
-use Rattle.osi_tap.specs.declared.marks.Cause.{Cause}
 use Rattle.osi_tap.specs.declared.marks.Cause.TheVariants as cause
-use Rattle.osi_tap.specs.declared.marks.Mark.{Mark}
-use Rattle.osi_tap.specs.declared.marks.Marks.{Marks}
-use Rattle.osi_tap.specs.Connections.{taken}
-use Rattle.osi_tap.specs.Courses.{Course, breaks, cause_of, changes, earlier, first_marked, is_break, kind_of, marked, marks_of, moment_of}
-use Rattle.osi_tap.specs.Courses.{moved, noted_by, number_at, packet_begins, reached, unit_passes, unread, unread_mark, unread_moment}
-use Rattle.osi_tap.specs.Courses.{way_of}
+use Rattle.osi_tap.specs.Courses.{breaks}
 use Rattle.osi_watched.proofs.the_first_break_is_not_of_an_end.{IsNoBreak}
 use Rattle.osi_watched.proofs.what_a_unit_leaves_at_a_tap.{IsJudged, IsOver, unread_over}
 use Rattle.osi_watched.proofs.what_passes_keeps_a_claim.{IsClaim}
@@ -65,9 +46,6 @@ to_none d f s = grind (arith, reached_loose)
 
 to_unnamed : (d : Direction) (v : Value) (s : State) → IsReached d s (unnamed_told d v s)
 to_unnamed d v s = grind (arith, reached_loose)
-
-to_one : (d : Direction) (place : ℕ) (c : Connection) (v : Value) (s : State) → IsReached d s (one_told d place c v s)
-to_one d place c v s = grind (arith, reached_loose)
 
 at_any : (d : Direction) (v : Value) (s : State) (place : Option ℕ) → IsReached d s (at_place d v s place)
 at_any d v s place = search (arith, to_unnamed)
@@ -162,19 +140,13 @@ module _ (d : Side) (at : ℕ) (v : Value) (c : Course) where
   pub all_ends : o.told.reach ≡ reach.Everything → IsOver next
   all_ends is =
       let (x, caused) = all_caused (class_for (way_of d) c.traffic.course) o.told.finding (sym reach_so.far ∙ is) in
-      record {
-        left = stops_so reach.Everything is Left;
-        right = stops_so reach.Everything is Right;
-        left_halts = grind (arith, halts_by);
-        right_halts = grind (arith, halts_by);
-      }
+      search (arith, halts_by, stops_so reach.Everything is Left, stops_so reach.Everything is Right)
 
   pub side_so : o.told.reach ≡ reach.Side → IsKnownOnce c.traffic →
       (next.traffic.course.class ≡ Some Zero) × (is_stopped (way_of d) next.traffic.course ≡ true)
   side_so is once =
       let k = side_zero (class_for (way_of d) c.traffic.course) o.told.finding (sym reach_so.far ∙ is) in (
-        ap (λ (s : State). s.course.class) (unit_knows d at v c)
-            ∙ zero_stays (unit (way_of d) v) c.traffic (grind arith),
+        grind (arith, unit_knows d at v c, zero_stays (unit (way_of d) v) c.traffic (grind arith)),
         stops_so reach.Side is (way_of d) ∙ (grind arith),
       )
 
@@ -230,8 +202,7 @@ other_unbroken d at v c = by (cause_of (o (other d) at v c).told.finding)
     by None = ap (λ (m : Marks). m.broke) (mid_marks (other d) at v c d)
     by (Some k) =
         let m = mark (other d) at v c k in
-        reached_broke d m (o (other d) at v c).told.reach (changes (other d) (breaks m) (first_marked m (mid (other d) at v c)))
-        ∙ (grind arith) ∙ ap (λ (x : Marks). x.broke) (mid_marks (other d) at v c d)
+        grind (arith, reached_broke, mid_marks)
 
 -- ---- a packet begins
 
@@ -289,10 +260,6 @@ pub record IsLeft (d : Side) (c : Course) : Type 0 where
 
 pub still_over : (e : Side) (at : ℕ) (v : Value) (c : Course) → IsOver c → IsOver (unit_passes e at v c)
 still_over e at v c over = grind (arith, stops_last)
-
-still_unbroken : (d e : Side) (at : ℕ) (v : Value) (c : Course) → IsOver c →
-    (marks_of d (unit_passes e at v c)).broke ≡ (marks_of d c).broke
-still_unbroken d e at v c over = grind (arith, stops_last)
 
 pub left_claim : (d : Side) → IsClaim (IsLeft d)
 left_claim d = grind (arith, unread_over)

@@ -1,26 +1,21 @@
 -- A capture of an end is steps of the end and of the tap: octet by octet, with each turn of the end as late as can be.
 -- For the law that a capture of an end is steps.
-use Rattle.std.proofs.Common.{arith}
-use Rattle.osi_watched.proofs.Vocabulary.{[], ap, append_assoc, Bool, Err, false, inl, inr, List, Ok}
-use Rattle.osi_watched.proofs.Vocabulary.{refl, Result, subst, sym, true, ℕ, ◌++◌, ◌<◌, ◌∙◌, ◌∷◌, ◌≡◌, ◌≢◌, ◌⊎◌, append-nil}
-use Rattle.osi_watched.proofs.Vocabulary.{AllByRecursion}
-use Rattle.osi_watched.proofs.Vocabulary.{octets_nil, octets_right, IsOctets, packet_of, ArePackets, units_of}
-use Rattle.osi_watched.proofs.Vocabulary.{Value, written, TpduFault, Local, packets, Holding, Capture}
-use Rattle.osi_watched.proofs.Vocabulary.{of, other, Passed, Direction, packets_joined, fresh_turns}
-use Rattle.osi_watched.proofs.Vocabulary.{TurnOf, TurnsOf, Known, packets_on, packets_then, CanBeWritten, read_again, all_did}
-use Rattle.osi_watched.proofs.Vocabulary.{Deeds, no_deeds, all_units, IsFresh, IsSeen, Run, Takes, Turn, is_break, packet_by, packet_passes}
-use Rattle.osi_watched.proofs.Vocabulary.{units_pass, unread, advanced, faulty, Front, front_of, gathered, partial, Streamed, whole, after}
-use Rattle.osi_watched.proofs.Vocabulary.{octet_passes, stream_of, with_stream, Cause, BadPacket, BadUnit, Joint, Step, Steps, StepsAlong}
-use Rattle.osi_watched.proofs.Vocabulary.{TakesTurn, AreOctets, IsOctet, TurnsBad}
-use Rattle.osi_tap.specs.Courses.{Course}
+use Rattle.osi_watched.proofs.Vocabulary.{[], ap, append_assoc, Bool, Err, false, inl, inr, List, Ok, refl, Result, subst, sym, true, ℕ}
+use Rattle.osi_watched.proofs.Vocabulary.{◌++◌, ◌<◌, ◌∙◌, ◌∷◌, ◌≡◌, ◌≢◌, ◌⊎◌, append-nil, AllByRecursion, octets_nil, octets_right}
+use Rattle.osi_watched.proofs.Vocabulary.{IsOctets, packet_of, ArePackets, units_of, Value, written, TpduFault, Local, packets, Holding}
+use Rattle.osi_watched.proofs.Vocabulary.{Capture, of, other, Passed, Direction, packets_joined, fresh_turns, TurnOf, TurnsOf, Known}
+use Rattle.osi_watched.proofs.Vocabulary.{packets_on, packets_then, CanBeWritten, read_again, all_did, Deeds, no_deeds, all_units, IsFresh}
+use Rattle.osi_watched.proofs.Vocabulary.{IsSeen, Run, Takes, Turn, is_break, packet_passes, units_pass, unread, advanced, faulty, Front}
+use Rattle.osi_watched.proofs.Vocabulary.{front_of, gathered, partial, Streamed, whole, after, octet_passes, stream_of, with_stream, Cause}
+use Rattle.osi_watched.proofs.Vocabulary.{BadPacket, BadUnit, Joint, Step, Steps, StepsAlong, TakesTurn, AreOctets, IsOctet, TurnsBad}
+use Rattle.osi_watched.proofs.Vocabulary.{arith, Course, units_by, TpktFault, IsNoPacket, IsUnread, spoilt}
 use Rattle.osi_tap.specs.Streams.{ended}
 use Rattle.osi_tap.specs.Tapping.{State}
 use Rattle.osi_tap.specs.Tapping as tapping
 use Rattle.osi_watched.specs.Joint as joints
 use Rattle.osi_watched.specs.Joint.Step.{turns, begins_own, passes_own, begins_other, passes_other}
-use Rattle.osi_fair.specs.Pieces.{units_by, units_in}
-use Rattle.osi_tpkt.specs.declared.faults.TpktFault.{TpktFault}
-use Rattle.osi_watched.specs.Spoilt.{GoesOn, IsNoPacket, IsUnread, spoilt}
+use Rattle.osi_fair.specs.Pieces.{units_in}
+use Rattle.osi_watched.specs.Spoilt.{GoesOn}
 use Rattle.osi_watched.proofs.small_facts_that_many_lemmas_use.{can_more}
 use Rattle.osi_watched.proofs.how_an_end_stands_to_what_has_passed.{OtherStands, OwnStands, begun_now, first_put, has_begun, one_octet}
 use Rattle.osi_watched.proofs.how_an_end_stands_to_what_has_passed.{rest_of, some_octets, uses}
@@ -168,13 +163,7 @@ module _ (d : Direction) (is_caller : Bool) (deeds : ℕ → Deeds) (x : ℕ) (c
   own_goes_on : front_of (own_held ++ x ∷ []) ≡ partial → Comes d is_caller deeds (of d x ∷ capture) s own_joint
   own_goes_on part =
       let next : State = with_stream d own_now (record s { course = own_course }) in
-      let own : OwnStands (own_held ++ x ∷ []) still j.put true = record {
-        octets = one_octet own_held x st.own.octets small;
-        part = part;
-        all = append_assoc own_held (x ∷ []) still ∙ st.own.all;
-        begun_so = begun_now own_held x;
-        can = st.own.can;
-      } in
+      let own : OwnStands (own_held ++ x ∷ []) still j.put true = search (arith, one_octet, append_assoc, begun_now) in
       octet_first d is_caller deeds (of d x) capture s own_joint
       (subst (λ (t : State). Comes d is_caller deeds capture t own_joint) (sym (passes_so d x s partial st.own_reads part))
       (on next own_joint refl (own_moved d own_now s own_course own_joint still ahead (ap (begins d own_held) st.course) st.own_reads
@@ -192,8 +181,7 @@ module _ (d : Direction) (is_caller : Bool) (deeds : ℕ → Deeds) (x : ℕ) (c
       let at = own_now.at in
       let after_it : Course = packet_passes d at (written v) own_course in
       let last : Joint = record own_joint { put = vs; begun = false; course = units_pass d at (v ∷ []) own_joint.course } in
-      let course : after_it ≡ last.course = ap (λ (r : Result (List Value) TpduFault). packet_by d at r own_course) read
-      ∙ ap (λ (c : Course). units_pass d at (v ∷ []) (begins d own_held c)) st.course in
+      let course : after_it ≡ last.course = grind (arith, begins) in
       let own : OwnStands [] still vs false =
       record { octets = octets_nil; part = refl; all = rest; begun_so = refl; can = can.1 } in
       let next : State = with_stream d (advanced own_now) (record s { course = after_it }) in
@@ -248,13 +236,11 @@ module _ (d : Direction) (is_caller : Bool) (deeds : ℕ → Deeds) (x : ℕ) (c
       let others : OtherStands (other_held ++ x ∷ []) (ahead ++ x ∷ []) j.holding j.coming = record {
         octets = one_octet other_held x st.others.octets small;
         part = part;
-        cut = λ lasts. more_passed j.coming (other_held ++ x ∷ [])
-            (packets_on j.coming (j.holding.held.octets ++ ahead) other_held (x ∷ []) (st.others.cut lasts));
+        cut = grind (arith, more_passed, packets_on);
       } in
       octet_first d is_caller deeds (of (other d) x) capture s other_joint
       (subst (λ (t : State). Comes d is_caller deeds capture t other_joint) (sym (passes_so (other d) x s partial st.other_reads part))
-      (on next other_joint refl (other_moved d other_now s other_course other_joint still (ahead ++ x ∷ [])
-      (ap (begins (other d) other_held) st.course) st.own_reads st.other_reads st.own others)))
+      (on next other_joint refl (grind (arith, other_moved, begins))))
 
   stream_there : (e : Direction) (t : Streamed) (z : State) → stream_of e (with_stream e t z) ≡ t
   stream_there e t z = grind arith
@@ -271,8 +257,7 @@ module _ (d : Direction) (is_caller : Bool) (deeds : ℕ → Deeds) (x : ℕ) (c
       let next : State = with_stream (other d) t (record s { course = unread (other d) other_now.at cause other_course }) in
       let now : Joint = spoilt d other_now.at cause packets other_joint in
       let rest : LaterComes d capture (octet_passes (of (other d) x) s) now = subst (λ (z : State). LaterComes d capture z now) (sym is)
-      (then next now refl (other_moved_later d t s (unread (other d) other_now.at cause other_course) now still (ahead ++ x ∷ [])
-      course st.own_reads st.own (unread_halts (other d) other_now.at cause other_joint.course) reads)) in
+      (search (arith, other_moved_later, unread_halts)) in
       record {
         steps = [];
         last = other_joint;
@@ -285,8 +270,7 @@ module _ (d : Direction) (is_caller : Bool) (deeds : ℕ → Deeds) (x : ℕ) (c
           at = other_now.at;
           cause = cause;
           bad = bad;
-          unreadable = ap (λ (z : State). z.course) is
-              ∙ (grind arith) ∙ course;
+          unreadable = grind arith;
         });
         on = inr (record {
           at = other_now.at;
@@ -298,8 +282,7 @@ module _ (d : Direction) (is_caller : Bool) (deeds : ℕ → Deeds) (x : ℕ) (c
             | inl one ↦ inl one
             | inr (nothing, spent) ↦ inr (
               nothing,
-              rest.no_more (ap (λ (z : State). (stream_of (other d) z).spent) is
-                  ∙ ap (λ (y : Streamed). y.spent) (stream_there (other d) t _) ∙ spent),
+              rest.no_more (grind (arith, stream_there)),
             )
           ];
         });
@@ -309,13 +292,7 @@ module _ (d : Direction) (is_caller : Bool) (deeds : ℕ → Deeds) (x : ℕ) (c
       OtherStands [] (ahead ++ x ∷ []) j.holding (j.coming ++ u ∷ [])
   packet_used u front =
       let packet = whole_packet other_held u x (one_octet other_held x st.others.octets small) st.others.part front in
-      record {
-        octets = octets_nil;
-        part = refl;
-        cut = λ lasts. more_passed (j.coming ++ u ∷ []) []
-            (packets_then j.coming (u ∷ []) (j.holding.held.octets ++ ahead) other_held (x ∷ []) [] (st.others.cut lasts)
-            (other_held ++ x ∷ [], [], packet, sym (append-nil (other_held ++ x ∷ [])), refl));
-      }
+      grind (arith, octets_nil, more_passed, packets_then, append-nil)
 
   no_packet : (f : TpktFault) → front_of (other_held ++ x ∷ []) ≡ faulty f →
       OtherEnds (other_held ++ x ∷ []) (ahead ++ x ∷ []) j.holding (j.coming ++ [])
@@ -325,9 +302,7 @@ module _ (d : Direction) (is_caller : Bool) (deeds : ℕ → Deeds) (x : ℕ) (c
       Comes d is_caller deeds (of (other d) x ∷ capture) s other_joint
   other_ends u front (Err fault) is =
       other_stops (advanced other_now) (BadUnit fault) (u ∷ []) refl (append-nil (units_by (units_of u)) ∙ ap units_by is)
-      (passes_so (other d) x s (whole u) st.other_reads front
-      ∙ ap (λ (r : Result (List Value) TpduFault). with_stream (other d) (advanced other_now)
-      (record s { course = packet_by (other d) other_now.at r other_course })) is)
+      (grind (arith, passes_so))
       (inl (st.other_reads, packet_used u front)) (inl (u, refl, subst IsUnread (sym is) tt))
   other_ends u front (Ok units) is =
       let packet = whole_packet other_held u x (one_octet other_held x st.others.octets small) st.others.part front in
@@ -336,17 +311,14 @@ module _ (d : Direction) (is_caller : Bool) (deeds : ℕ → Deeds) (x : ℕ) (c
         course = units_pass (other d) other_now.at units other_joint.course;
         coming = j.coming ++ u ∷ [];
       } in
-      let course : after_it ≡ last.course = ap (λ (r : Result (List Value) TpduFault). packet_by (other d) other_now.at r other_course) is
-      ∙ ap (λ (c : Course). units_pass (other d) other_now.at units (begins (other d) other_held c)) st.course in
+      let course : after_it ≡ last.course = grind (arith, begins) in
       let octets : IsOctets u = octets_right (_ ∷ _ ∷ _ ∷ _ ∷ []) u (subst IsOctets packet.spelled packet.octets) in
       let others = packet_used u front in
       let next : State = with_stream (other d) (advanced other_now) (record s { course = after_it }) in
       step_first d is_caller deeds (of (other d) x ∷ capture) s (passes_other other_now.at u units) tt other_joint last (octets, is, refl)
       (octet_first d is_caller deeds (of (other d) x) capture s last
       (subst (λ (t : State). Comes d is_caller deeds capture t last) (sym (passes_so (other d) x s (whole u) st.other_reads front))
-      (on next last refl (other_moved d (advanced other_now) s after_it last still
-      (ahead ++ x ∷ []) course st.own_reads st.other_reads st.own
-      others))))
+      (search (arith, other_moved))))
 
   other_octet : Comes d is_caller deeds (of (other d) x ∷ capture) s j
   other_octet = other_begins d is_caller deeds (of (other d) x ∷ capture) s other_held j (by (front_of (other_held ++ x ∷ [])) refl)
@@ -384,35 +356,10 @@ turned d is_caller deeds s j turn new still ahead takes at st =
     let both : (mine ++ still) ++ turn.put ≡ packets j.put ++ packets units = (λ i. st.own.all i ++ on.written i) in
     record {
       later = record j { holding = new; put = j.put ++ units; coming = u.later };
-      takes = record {
-        takes = takes;
-        units = units;
-        written = on.written;
-        put = refl;
-        used = u.used;
-        coming = u.parts;
-        rest = u.rest;
-        cut = u.cut;
-        held = u.kept;
-        all = u.all;
-        begun = refl;
-        course = refl;
-      };
+      takes = grind arith;
       does = record { of = at; units = refl };
       goes_on = λ others end more. more;
-      stands = record {
-        course = st.course;
-        own_reads = st.own_reads;
-        other_reads = st.other_reads;
-        own = record {
-          octets = st.own.octets;
-          part = st.own.part;
-          all = sym (append_assoc mine still turn.put) ∙ both ∙ sym (packets_joined j.put units);
-          begun_so = st.own.begun_so;
-          can = can_more j.put units st.own.can on.can;
-        };
-        others = record { octets = st.others.octets; part = st.others.part; cut = u.left };
-      };
+      stands = grind (arith, append_assoc, packets_joined, can_more);
     }
 
 -- ---- all of the capture
@@ -434,8 +381,7 @@ along_steps d is_caller _ _ _ _ (other_passes x o still ahead capture left is mo
     (other_octet d is_caller deeds x capture s j still ahead small st
     (λ s2 j2 same st2. along_steps d is_caller still (ahead ++ x ∷ []) capture left more deeds s2 j2 end octets.1
     (subst (λ (h : Holding). TurnsOf is_caller deeds h left end) (sym same) does) st2)
-    (λ s2 j2 same st2. later_steps d is_caller still (ahead ++ x ∷ []) capture left more deeds s2 j2 end octets.1
-    (subst (λ (h : Holding). TurnsOf is_caller deeds h left end) (sym same) does) st2))
+    (grind (arith, later_steps)))
 along_steps d is_caller _ _ _ _ (turn_taken turn still all ahead capture left is more) deeds s j end octets does st =
     let k = turned d is_caller deeds s j turn does.0 still ahead does.1 does.2 (subst (λ (l : List ℕ). Stands d s j still l) is st) in
     turn_first d is_caller deeds capture s turn j k.later k.takes k.does
@@ -469,12 +415,4 @@ capture_steps known d is_caller local first end turns_all capture fresh run octe
     by : (c : Course) → ((after capture tapping.begin).course ≡ c) ⊎ Stops d capture tapping.begin c →
         ((after capture tapping.begin).course ≡ c) ⊎ TurnsBad d capture c
     by c (inl e) = inl e
-    by c (inr k) = inr (record {
-      front = k.front;
-      back = k.back;
-      parts = k.parts;
-      at = k.at;
-      cause = k.cause;
-      bad = k.bad;
-      unreadable = k.unreadable;
-    })
+    by c (inr k) = inr (grind arith)

@@ -1,40 +1,19 @@
 -- What packets, with or without enough memory, and TSDUs of a session do to the carrier of an end is events of a whole end that
 -- reports nothing and hands nothing over.
 -- For what a turn of an end does.
-use Rattle.std.proofs.Common.{arith}
-use Rattle.std.proofs.Common.{◌≡◌, ◌∙◌, ◌≤◌, not, ℕ, Bool, true, false, if◌then◌else◌, List, [], ◌∷◌, ◌++◌, length, refl, sym, ap, subst}
-use Rattle.std.proofs.Common.{Option, Some, None, option_map, is_some, Result, Ok, Err, append_assoc}
-use Rattle.std.specs.List.{AllByRecursion}
-use Rattle.std.proofs.lemmas.List.{append-nil}
-use Rattle.osi_tpkt.specs.Octets.{IsOctets}
-use Rattle.osi_tpdu.specs.Limits.{tsap_octets}
-use Rattle.osi_tpdu.specs.Packet.{units_of}
-use Rattle.osi_tpdu.specs.Value.{Value}
-use Rattle.osi_tpdu.specs.Writing.{Fits}
-use Rattle.osi_tpdu.specs.declared.faults.TpduFault.{TpduFault}
-use Rattle.osi_tpdu.specs.declared.tsaps.Tsap.{Tsap}
-use Rattle.osi_tpdu.proofs.the_units_of_a_packet.{units_fit, units_found}
-use Rattle.osi_class.specs.Link.{Standing}
-use Rattle.osi_carrier.specs.Calls.{asks, closed_on, closed_with, ended_by, link_of, may_connect, open_link, sent_all}
-use Rattle.osi_carrier.specs.Happenings.{Happening}
+use Rattle.osi_watched.proofs.Vocabulary.{arith, ◌≡◌, ◌∙◌, ◌≤◌, not, ℕ, Bool, true, false, if◌then◌else◌, List, [], ◌∷◌, ◌++◌, length, refl}
+use Rattle.osi_watched.proofs.Vocabulary.{sym, ap, subst, Option, Some, None, option_map, is_some, Result, Ok, Err, append_assoc}
+use Rattle.osi_watched.proofs.Vocabulary.{AllByRecursion, append-nil, IsOctets, tsap_octets, units_of, Value, Fits, TpduFault, Tsap}
+use Rattle.osi_watched.proofs.Vocabulary.{units_fit, units_found, Standing, asks, closed_on, closed_with, ended_by, link_of, may_connect}
+use Rattle.osi_watched.proofs.Vocabulary.{open_link, sent_all, Happening, react_by, reacts, value_at, UserCall, breaks, closes, connects}
+use Rattle.osi_watched.proofs.Vocabulary.{sends_all, user_does, ends, packets, EndReason, NoMemory, OpenError, Ended, NotCaller, units_by}
+use Rattle.osi_watched.proofs.Vocabulary.{put_by, put_for, Event, HappenAlong, Happens, MayCall, Whole, arrives, calls, call_writes}
+use Rattle.osi_watched.proofs.Vocabulary.{unit_writes, packets_joined, AreNumbered, CanBeWritten}
 use Rattle.osi_carrier.specs.Packets as carriers
-use Rattle.osi_carrier.specs.React.{react_by, reacts}
 unfoldable use Rattle.osi_carrier.specs.React.{react}
-use Rattle.osi_carrier.specs.Rows.{value_at}
-use Rattle.osi_carrier.specs.Runs.{UserCall, breaks, closes, connects, sends_all, user_does}
-use Rattle.osi_carrier.specs.State.{State, ends, packets}
-use Rattle.osi_carrier.specs.declared.ends.EndReason.{EndReason}
-use Rattle.osi_carrier.specs.declared.ends.EndReason.TheVariants.{NoMemory}
-use Rattle.osi_carrier.specs.declared.faults.OpenError.{OpenError}
-use Rattle.osi_carrier.specs.declared.faults.OpenError.TheVariants.{Ended, NotCaller}
+use Rattle.osi_carrier.specs.State.{State}
 use Rattle.osi_rules.specs.declared.directions.Direction.{Direction}
-use Rattle.osi_fair.specs.Pieces.{units_by, units_in}
-use Rattle.osi_fair.specs.Putting.{put_by, put_for}
-use Rattle.osi_fair.specs.Wholes.{Event, HappenAlong, Happens, MayCall, Whole, arrives, calls}
-use Rattle.osi_fair.proofs.what_a_carrier_puts.{call_writes, unit_writes}
-use Rattle.osi_honest.proofs.class_0.what_class_0_writes_of_a_tsdu.{packets_joined}
-use Rattle.osi_honest.proofs.reading.all_that_an_end_puts_can_be_read.{AreNumbered}
-use Rattle.osi_honest.proofs.reading.what_is_written_is_read_again.{CanBeWritten}
+use Rattle.osi_fair.specs.Pieces.{units_in}
 use Rattle.osi_watched.proofs.what_a_carrier_puts_can_be_written.{Fine, all_more, asks_fine, closed_fine, over_fine, together_fine}
 use Rattle.osi_watched.proofs.what_a_carrier_puts_can_be_written.{unit_fine}
 use Rattle.osi_watched.proofs.what_packets_and_short_tsdus_keep_a_turn_keeps.{AsksToo, IsTracked}
@@ -128,11 +107,7 @@ module _ (d : Direction) (w : Whole) (out : List ℕ) where
         events = h.events ++ event ∷ [];
         put = h.put ++ units;
         coming = coming;
-        along = subst (λ (l : List Value). HappenAlong d w (h.events ++ event ∷ []) (record w { end = f h.end; put = l; coming = coming }))
-            (append_assoc w.put h.put units)
-            (happen_join d h.events (event ∷ []) w (record w { end = h.end; put = w.put ++ h.put; coming = h.coming })
-            (record w { end = f h.end; put = (w.put ++ h.put) ++ units; coming = coming }) h.along
-            (record w { end = f h.end; put = (w.put ++ h.put) ++ units; coming = coming }, happens, refl));
+        along = search (arith, append_assoc, happen_join);
         written = written_alike f apart h.end c (packets units) (h.like.lasts lasts) writes
             ∙ ap (λ (l : List ℕ). l ++ packets units) h.written ∙ append_assoc out (packets h.put) (packets units)
             ∙ ap (λ (l : List ℕ). out ++ l) (sym (packets_joined h.put units));
@@ -228,9 +203,7 @@ module _ (d : Direction) (w : Whole) (out : List ℕ) where
   shortage_so us u c e octets p (units, read, run) = λ later next.
       let rest : List Value = run.next ∷ run.more in
       let all = subst (λ (l : List Value). AllByRecursion Fits l) run.all (units_fit units u (units_found u units octets read)) in
-      let order : units_by (units_of u) ++ later ≡ run.done ++ (rest ++ later) =
-      ap (λ (r : Result (List Value) TpduFault). units_by r ++ later) read ∙ ap (λ (l : List Value). l ++ later) run.all
-      ∙ append_assoc run.done rest later in
+      let order : units_by (units_of u) ++ later ≡ run.done ++ (rest ++ later) = grind (arith, append_assoc) in
       let first = all_come run.done (rest ++ later) c (front_fits run.done rest all)
       (subst (λ (l : List Value). HasCome d w out l c) order (grind (arith, one_more))) in
       subst (HasCome d w out later) (sym run.ended) (ends_come NoMemory (rest ++ later) later (reacts run.done c) first)

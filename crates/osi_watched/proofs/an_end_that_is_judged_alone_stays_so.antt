@@ -1,17 +1,10 @@
 -- Steps after what nobody can read keep a claim on what has passed; and a unit of an end that alone is judged, in class 0, is right.
 -- For the law that no session of an end is to blame after a break.
-use Rattle.std.proofs.Common.{◌≡◌, ◌∙◌, ℕ, Bool, List, [], ◌∷◌, sym, ap, subst}
-use Rattle.osi_tpdu.specs.Value.{Value}
-use Rattle.osi_class.specs.declared.terms.Local.{Local}
-use Rattle.osi_judge.specs.Captures.{other}
-use Rattle.osi_judge.specs.declared.directions.Direction.{Direction}
-use Rattle.osi_rules.specs.declared.findings.Finding.TheVariants.{Kept}
-use Rattle.osi_rules.specs.Traffic.{State as Traffic, is_stopped, takes}
+use Rattle.osi_watched.proofs.Vocabulary.{◌≡◌, ◌∙◌, ℕ, Bool, List, [], ◌∷◌, sym, ap, subst, Value, Local, other, Direction, Kept}
+use Rattle.osi_watched.proofs.Vocabulary.{is_stopped, takes, AllProper, Course, way_of, Joint, Step, Steps, begins_other, begins_own}
+use Rattle.osi_watched.proofs.Vocabulary.{passes_other, passes_own, turns, LaterAlong, LaterSteps}
+use Rattle.osi_rules.specs.Traffic.{State as Traffic}
 use Rattle.osi_fair.specs.Wholes as wholes
-use Rattle.osi_honest.proofs.class_0.what_a_packet_does_in_class_0.{AllProper}
-use Rattle.osi_tap.specs.Courses.{Course, way_of}
-use Rattle.osi_watched.specs.Joint.{Joint, Step, Steps, begins_other, begins_own, passes_other, passes_own, turns}
-use Rattle.osi_watched.specs.Spoilt.{LaterAlong, LaterSteps}
 use Rattle.osi_watched.proofs.in_class_0_one_side_alone_is_judged.{IsAlone}
 use Rattle.osi_watched.proofs.steps_are_events.{IsFollowed, own_first}
 use Rattle.osi_watched.proofs.the_first_break_is_not_of_an_end.{IsFairAlone}

@@ -4,8 +4,7 @@ use Rattle.osi_watched.proofs.Vocabulary.{[], ap, append_assoc, arith, Bool, fal
 use Rattle.osi_watched.proofs.Vocabulary.{ℕ, ◌++◌, ◌<◌, ◌∷◌, ◌≡◌, ◌≢◌, ◌≤◌, length-append, AllByRecursion, end_no_packet, some_cut}
 use Rattle.osi_watched.proofs.Vocabulary.{octets_append, octets_cons, octets_left, octets_nil, IsOctets, ArePackets, Ending, EndsAt, Value}
 use Rattle.osi_watched.proofs.Vocabulary.{written, packets, EndReason, Holding, over_acts, never_lasts, CanBeWritten, Continues, Deeds}
-use Rattle.osi_watched.proofs.Vocabulary.{Takes, Turn, front_of, partial}
-use Rattle.osi_carrier.specs.Fetching.{IsNoFront}
+use Rattle.osi_watched.proofs.Vocabulary.{Takes, Turn, front_of, partial, IsNoFront}
 use Rattle.osi_watched.proofs.what_the_first_octets_are.{packets_octets, part_begins_none, used_first}
 
 -- ---- what has passed of the end, and of the other side
@@ -101,14 +100,4 @@ module _ (held ahead : List ℕ) (coming : List (List ℕ)) (is_caller : Bool) (
   uses None (Some e) was now =
       let octets = octets_left octets_in ahead (packets_octets coming (octets_in ++ ahead) held (passed was) st.octets) in
       let k = some_cut octets_in octets in
-      let p = used_first k.0 coming octets_in ahead k.2.0 held (passed was) k.2.1 st.none in
-      record {
-        used = k.0;
-        later = p.0;
-        parts = p.1;
-        rest = k.2.0;
-        cut = λ lasts. k.2.1;
-        kept = λ lasts. absurd (grind arith);
-        all = λ lasts over more last h. none_more _ k.2.0 k.1 k.2.2 more last h;
-        left = λ lasts. absurd (grind arith);
-      }
+      grind (arith, none_more, used_first k.0 coming octets_in ahead k.2.0 held (passed was) k.2.1 st.none, passed was)

@@ -1,27 +1,12 @@
 -- In class 0 a break of the other side leaves an end judged alone, and whatever passes leaves that so, as long as each unit of the end is
 -- right. For the laws that an end is to blame nowhere.
-use Rattle.std.proofs.Common.{arith}
-use Rattle.std.proofs.Common.{◌≡◌, ◌∙◌, ℕ, Bool, true, false, Option, Some, refl, sym, ap, subst}
-use Rattle.std.specs.Prelude.{◌||◌, is_some}
-use Rattle.osi_tpdu.specs.Value.{Value}
-use Rattle.osi_class.specs.declared.terms.Class.{Class}
-use Rattle.osi_class.specs.declared.terms.Class.TheVariants.{Zero}
-use Rattle.osi_judge.specs.Captures.{other}
-use Rattle.osi_judge.specs.declared.directions.Direction.{Direction}
-use Rattle.osi_rules.specs.Reaches.{reach_of}
+use Rattle.osi_watched.proofs.Vocabulary.{arith, ◌≡◌, ◌∙◌, ℕ, Bool, true, false, Option, Some, refl, sym, ap, subst, ◌||◌, is_some, Value}
+use Rattle.osi_watched.proofs.Vocabulary.{Class, Zero, other, Direction, reach_of, State, Outcome, class_for, is_stopped, Finding, Kept}
+use Rattle.osi_watched.proofs.Vocabulary.{Broke, Outside, TooMany, NotJudged, unit, zero_stays, Cause, taken, Course, cause_of, marks_of}
+use Rattle.osi_watched.proofs.Vocabulary.{moment_of, moved, noted_by, packet_begins, unit_passes, unread, way_of}
 use Rattle.osi_rules.specs.Traffic as traffic
-use Rattle.osi_rules.specs.Traffic.{State, Outcome, class_for, is_stopped}
-use Rattle.osi_rules.specs.declared.findings.Finding.{Finding}
-use Rattle.osi_rules.specs.declared.findings.Finding.TheVariants.{Kept, Broke, Outside, TooMany, NotJudged}
-use Rattle.osi_rules.specs.declared.findings.Reach.{Reach}
 use Rattle.osi_rules.specs.declared.findings.Reach.TheVariants as reach
-use Rattle.osi_fair.specs.Naming.{unit}
-use Rattle.osi_fair.proofs.class_0_stays_selected.{zero_stays}
-use Rattle.osi_tap.specs.declared.marks.Cause.{Cause}
 use Rattle.osi_tap.specs.declared.marks.Cause.TheVariants as cause
-use Rattle.osi_tap.specs.Connections.{taken}
-use Rattle.osi_tap.specs.Courses.{Course, cause_of, marked, marks_of, moment_of, moved, noted_by, packet_begins, unit_passes}
-use Rattle.osi_tap.specs.Courses.{unread, way_of}
 use Rattle.osi_watched.proofs.a_break_ends_no_judging_or_all.{far_of, loose_by, loose_more, loose_so, mark, mid, o, reached_loose, reach_so}
 use Rattle.osi_watched.proofs.a_break_ends_no_judging_or_all.{refused_over, refused_traffic, refuses, side_so, stops_so, unread_if}
 use Rattle.osi_watched.proofs.a_break_ends_no_judging_or_all.{some_earlier}
@@ -90,9 +75,6 @@ goes_on d c j = grind arith
 other_apart : (d : Direction) (b : Bool) → (traffic.stops_by (way_of (other d)) reach.Side (way_of d) || b) ≡ b
 other_apart d b = grind arith
 
-side_stops : (d : Direction) (b : Bool) → (traffic.stops_by (way_of d) reach.Side (way_of d) || b) ≡ true
-side_stops d b = grind arith
-
 -- a unit of the other side
 pub unit_alone : (d : Direction) (at : ℕ) (v : Value) (c : Course) → IsJudged c → IsKnownOnce c.traffic →
     (traffic.takes (way_of (other d)) v c.traffic).told.reach ≡ reach.Side → IsAlone d (unit_passes (other d) at v c)
@@ -105,9 +87,7 @@ unit_alone d at v c j once is =
       firm = loose_so e at v c reach.Side is ∙ j.firm;
       own = stops_so e at v c reach.Side is (way_of d) ∙ other_apart d (is_stopped (way_of d) c.traffic.course) ∙ judged_own d c j;
       stopped = stopped;
-      halted = ap (λ (y : Option Cause). is_some (marks_of e (noted_by e at v (o e at v c).told y (mid e at v c))).halted) caused
-          ∙ ap (λ (r : Reach). is_some (marks_of e (marked (mark e at v c x) r (mid e at v c))).halted) is
-          ∙ (grind (arith, some_earlier));
+      halted = grind (arith, o, mid, mark, some_earlier);
     }
 
 -- and what can't be read of it

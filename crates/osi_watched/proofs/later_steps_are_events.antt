@@ -1,17 +1,13 @@
 -- What the other side sends and nobody can read is an event of a whole end, and so are the steps that follow.
 -- For the law that the transport of an end is blamed nowhere.
-use Rattle.std.proofs.Common.{arith}
-use Rattle.osi_watched.proofs.Vocabulary.{[], ap, Bool, Err, false, is_some, List, Ok, refl, Result, sym, true, ℕ, ◌++◌, ◌∙◌}
-use Rattle.osi_watched.proofs.Vocabulary.{◌∷◌, ◌≡◌}
+use Rattle.osi_watched.proofs.Vocabulary.{[], ap, Bool, Err, false, is_some, List, Ok, refl, Result, sym, true, ℕ, ◌++◌, ◌∙◌, ◌∷◌, ◌≡◌}
 use Rattle.osi_watched.proofs.Vocabulary.{append-nil, AllByRecursion, Fits, IsOctets, units_by, units_fit, units_found, units_of, Value}
-use Rattle.osi_watched.proofs.Vocabulary.{TpduFault, Way, other, Direction, AllProper, way_of, marks_of, unread, Cause}
-use Rattle.osi_watched.proofs.Vocabulary.{Whole, begins_other, begins_own, Joint, passes_other, passes_own, Step, turns}
+use Rattle.osi_watched.proofs.Vocabulary.{TpduFault, other, Direction, AllProper, way_of, marks_of, unread, Cause, Whole, begins_other}
+use Rattle.osi_watched.proofs.Vocabulary.{begins_own, Joint, passes_other, passes_own, Step, turns, arith, Course, LaterSteps, spoilt}
 use Rattle.osi_fair.specs.Pieces.{units_in}
 use Rattle.osi_fair.specs.Wholes as wholes
 use Rattle.osi_rules.specs.Sides as sides
 use Rattle.osi_rules.specs.Traffic as traffic
-use Rattle.osi_tap.specs.Courses.{Course}
-use Rattle.osi_watched.specs.Spoilt.{LaterSteps, spoilt}
 use Rattle.osi_watched.proofs.a_break_ends_no_judging_or_all.{refused_traffic, refuses, unread_if}
 use Rattle.osi_watched.proofs.a_carrier_does_events.{happen_join, units_join}
 use Rattle.osi_watched.proofs.steps_are_events.{IsFollowed, passes_other_so, step_followed, turned}
@@ -55,9 +51,7 @@ module _ (d : Direction) (first : Whole) where
           along = happen_join (way_of d) f.events (wholes.passes_rubbish ∷ []) first f.whole next f.along (next, refl, refl);
           put = f.put;
           begun = f.begun;
-          tap = ap (traffic.refused (sides.other (way_of d))) f.tap
-              ∙ ap (λ (w : Way). traffic.refused w j.course.traffic) (sym (turned d))
-              ∙ sym (ap (λ (c : Course). c.traffic) is ∙ refused_traffic (other d) at cause j.course);
+          tap = grind (arith, turned, refused_traffic);
           coming = λ lasts. f.coming lasts ∙ (grind (arith, units_join, append-nil));
           like = f.like;
           can = f.can;

@@ -1,10 +1,7 @@
 -- No unit of a whole end is a break as it passes, as long as the other side is judged: what osi_fair says of it.
 -- For the law on the first break.
-use Rattle.std.proofs.Common.{arith}
-use Rattle.osi_watched.proofs.Vocabulary.{false, true, ◌≡◌, ◌⊎◌, Local, Finding, Kept, NotJudged, TooMany}
-use Rattle.osi_watched.proofs.Vocabulary.{called_fair, calling_fair}
-use Rattle.osi_fair.proofs.a_called_end_is_fair_in_class_0.{called_fair_in_class_0}
-use Rattle.osi_fair.proofs.a_calling_end_is_fair.{calling_fair_in_class_0}
+use Rattle.osi_watched.proofs.Vocabulary.{false, true, ◌≡◌, ◌⊎◌, Local, Finding, Kept, NotJudged, TooMany, called_fair, calling_fair, arith}
+use Rattle.osi_watched.proofs.Vocabulary.{called_fair_in_class_0, calling_fair_in_class_0}
 use Rattle.osi_rules.specs.declared.directions.Direction.TheVariants.{Left, Right}
 use Rattle.osi_fair.specs.Wholes.{begin}
 use Rattle.osi_watched.proofs.the_first_break_is_not_of_an_end.{IsFairAlone, IsFairFrom, IsFairThroughout, IsNoBreak}

@@ -1,36 +1,22 @@
 -- A tap finds of no unit of an end that it breaks a rule of transport, whatever the other side sends.
 -- For the law that the transport of an end is blamed nowhere.
-use Rattle.std.proofs.Common.{◌≡◌, ◌∙◌, ℕ, Bool, false, List, [], ◌∷◌, None, Some, inl, inr, ◌⊎◌, arith}
-use Rattle.std.proofs.Common.{refl, sym, ap, subst}
-use Rattle.osi_tpdu.specs.Value.{Value}
-use Rattle.osi_class.specs.declared.terms.Local.{Local}
-use Rattle.osi_judge.specs.Captures.{Capture, other}
-use Rattle.osi_judge.specs.declared.directions.Direction.{Direction}
-use Rattle.osi_rules.specs.declared.findings.Reach.{Reach}
+use Rattle.osi_watched.proofs.Vocabulary.{◌≡◌, ◌∙◌, ℕ, Bool, false, List, [], ◌∷◌, None, Some, inl, inr, ◌⊎◌, arith, refl, sym, ap, subst}
+use Rattle.osi_watched.proofs.Vocabulary.{Value, Local, Capture, other, Direction, Reach, Option, Class, class_for, is_stopped, takes}
+use Rattle.osi_watched.proofs.Vocabulary.{IsOfTwo, firm_unless_two, still_two, Two, Zero, stops_last, Holding, IsFresh, AllProper, Cause}
+use Rattle.osi_watched.proofs.Vocabulary.{Course, marks_of, packet_begins, unit_passes, units_pass, unread, way_of, comes_to, Joint, Step}
+use Rattle.osi_watched.proofs.Vocabulary.{Steps, StepsAlong, begin, begins_other, begins_own, passes_other, passes_own, turns, ComesBySteps}
+use Rattle.osi_watched.proofs.Vocabulary.{LaterAlong, LaterSteps, spoilt}
 use Rattle.osi_rules.specs.declared.findings.Reach.TheVariants as reach
-use Rattle.std.specs.Prelude.{Option, is_some}
-use Rattle.osi_class.specs.declared.terms.Class.{Class}
 use Rattle.osi_rules.specs.Sides as sides
 use Rattle.osi_rules.specs.Traffic as traffic
-use Rattle.osi_rules.specs.Traffic.{class_for}
 use Rattle.osi_watched.proofs.what_a_unit_leaves_at_a_tap.{IsJudged}
-use Rattle.osi_rules.specs.Traffic.{State as Traffic, is_stopped, takes}
+use Rattle.osi_rules.specs.Traffic.{State as Traffic}
 use Rattle.osi_fair.specs.Pieces.{units_in}
 use Rattle.osi_fair.specs.Naming.{unit as unit_passing}
 use Rattle.osi_fair.specs.Wholes as wholes
-use Rattle.osi_fair.proofs.a_connection_is_lost_in_class_2_alone.{IsOfTwo, firm_unless_two, still_two}
-use Rattle.osi_class.specs.declared.terms.Class.TheVariants.{Two, Zero}
 use Rattle.osi_rules.specs.declared.directions.Direction.TheVariants as way
-use Rattle.osi_rules.proofs.a_stop_is_said.{stops_last}
-use Rattle.osi_stack.specs.State.{Holding}
-use Rattle.osi_honest.specs.Seeing.{IsFresh}
-use Rattle.osi_honest.proofs.class_0.what_a_packet_does_in_class_0.{AllProper}
-use Rattle.osi_tap.specs.declared.marks.Cause.{Cause}
-use Rattle.osi_tap.specs.Courses.{Course, fresh, marks_of, packet_begins, unit_passes, units_pass, unread, way_of}
-use Rattle.osi_tap.specs.Tapping.{comes_to}
-use Rattle.osi_watched.specs.Joint.{Joint, Step, Steps, StepsAlong, begin, begins_other, begins_own, passes_other, passes_own, turns}
-use Rattle.osi_watched.specs.Passing.{ComesBySteps}
-use Rattle.osi_watched.specs.Spoilt.{GoesOn, LaterAlong, LaterSteps, spoilt}
+use Rattle.osi_tap.specs.Courses.{fresh}
+use Rattle.osi_watched.specs.Spoilt.{GoesOn}
 use Rattle.osi_watched.proofs.a_break_ends_no_judging_or_all.{IsGoing, IsLeft, all_ends, begins_going, left_claim, known_too, mild_reach}
 use Rattle.osi_watched.proofs.a_break_ends_no_judging_or_all.{nothing_goes, part_goes, side_known, other_unbroken, own_unbroken}
 use Rattle.osi_watched.proofs.a_break_ends_no_judging_or_all.{unread_unbroken}
@@ -54,9 +40,6 @@ begins_two e c h = grind (arith, still_two)
 
 zero_not : Some Zero ≡ Some Two → ⊥
 zero_not e = cc e
-
-goes_on : (e : Direction) (c : Course) → IsGoing c → is_some (marks_of e c).halted ≡ false
-goes_on e c j = grind arith
 
 judged_of : (c : Course) → IsGoing c → c.traffic.course.loose ≡ false → IsJudged c
 judged_of c j firm = record { left = j.left; right = j.right; firm = firm; left_goes = j.left_goes; right_goes = j.right_goes }
@@ -215,11 +198,7 @@ module _ (d : Direction) where
       last : Stood proper is_caller local fair fair_alone comes.last
       last = along_so proper is_caller local fair fair_alone comes.steps (begin h) comes.last comes.along (record {
         followed = begin_followed d is_caller local h anew;
-        nowhere = is_whole (record {
-          going = record { left = refl; right = refl; left_goes = refl; right_goes = refl };
-          two = record { lost = λ e. absurd (cc e); seen = λ e. absurd (cc e) };
-          unbroken = nothing d;
-        });
+        nowhere = grind (arith, nothing);
       })
 
       by : ((comes_to capture).course ≡ comes.last.course) ⊎ GoesOn d capture comes.last → IsBlamedNowhere (comes_to capture).course

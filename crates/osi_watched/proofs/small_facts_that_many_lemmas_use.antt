@@ -1,10 +1,9 @@
 -- Small facts that lemmas of several files use: of truth values, lists and numbers, and of one step of a connection.
 -- For all proofs of this crate.
-use Rattle.std.proofs.Common.{arith}
 use Rattle.osi_watched.proofs.Vocabulary.{AllByRecursion, Bool, Broke, CanBeWritten, Carrier, Class, Connection, EndReason, Fits}
 use Rattle.osi_watched.proofs.Vocabulary.{HasFieldsInRange, Kept, List, None, Option, Rule, Some, Test, Time as Stage, Two, Value, Zero, []}
 use Rattle.osi_watched.proofs.Vocabulary.{amid, ap, early, false, first_failed, has_given, is_some, le-leb, lt-ltb, nat_le, not, past, refl}
-use Rattle.osi_watched.proofs.Vocabulary.{sym, true, ℕ, ◌&&◌, ◌++◌, ◌<◌, ◌||◌, ◌∙◌, ◌∷◌, ◌≡◌, ◌≤◌}
+use Rattle.osi_watched.proofs.Vocabulary.{sym, true, ℕ, ◌&&◌, ◌++◌, ◌<◌, ◌||◌, ◌∙◌, ◌∷◌, ◌≡◌, ◌≤◌, arith}
 
 pub all_front : {X : Type 0} (P : X → Type 0) (xs ys : List X) → AllByRecursion P (xs ++ ys) → AllByRecursion P xs
 all_front P [] ys h = tt

@@ -1,21 +1,18 @@
 -- Steps of an end and of a tap are events of a whole end.
 -- For the first break of transport.
-use Rattle.std.proofs.Common.{arith}
 use Rattle.osi_watched.proofs.Vocabulary.{[], ap, append_assoc, Bool, false, is_some, List, map, None, Ok, Option, refl, Some, subst, sym}
 use Rattle.osi_watched.proofs.Vocabulary.{true, ℕ, ◌++◌, ◌∙◌, ◌∷◌, ◌≡◌, ◌≢◌, append-nil, append_cancel_left, AllByRecursion, IsOctets}
 use Rattle.osi_watched.proofs.Vocabulary.{units_fit, units_found, units_of, Value, Fits, written, Local, packets, Carrier, EndReason, End}
-use Rattle.osi_watched.proofs.Vocabulary.{Holding, Traffic, takes, Way, Told, other, Direction, AllProper, AreNumbered, CanBeWritten}
-use Rattle.osi_watched.proofs.Vocabulary.{IsFresh, Turn, noted_by, unit_passes, units_pass, way_of, Cause, units_by, Event, HappenAlong}
-use Rattle.osi_watched.proofs.Vocabulary.{Whole, begins_other, begins_own, Joint, passes_other, passes_own, Step, Steps, TakesTurn, turns}
+use Rattle.osi_watched.proofs.Vocabulary.{Holding, Traffic, takes, Told, other, Direction, AllProper, AreNumbered, CanBeWritten, IsFresh}
+use Rattle.osi_watched.proofs.Vocabulary.{Turn, noted_by, unit_passes, units_pass, way_of, Cause, units_by, Event, HappenAlong, Whole}
+use Rattle.osi_watched.proofs.Vocabulary.{begins_other, begins_own, Joint, passes_other, passes_own, Step, Steps, TakesTurn, turns, arith}
+use Rattle.osi_watched.proofs.Vocabulary.{Course, packet_begins, begin, none_of}
 use Rattle.osi_rules.specs.Sides as sides
 use Rattle.osi_rules.specs.Traffic as traffic
 use Rattle.osi_rules.specs.declared.findings.Reach.TheVariants as reach
 use Rattle.osi_fair.specs.Pieces.{units_in}
 use Rattle.osi_fair.specs.Wholes as wholes
-use Rattle.osi_tap.specs.Courses.{Course, packet_begins}
-use Rattle.osi_watched.specs.Joint.{begin}
 use Rattle.osi_watched.proofs.small_facts_that_many_lemmas_use.{can_more as all_more, over_none}
-use Rattle.osi_fair.proofs.small_facts_that_many_lemmas_use.{none_of}
 use Rattle.osi_watched.proofs.a_carrier_does_events.{Came, IsLike, came_asking, came_tracked, happen_join, none_come, units_join}
 use Rattle.osi_watched.proofs.what_a_unit_leaves_at_a_tap.{changes_traffic}
 use Rattle.osi_watched.proofs.what_is_put_is_what_is_written.{AreFirst, StartsWith, are_first, none_written, same_written, starts_with}
@@ -79,15 +76,11 @@ module _ (d : Direction) (first : Whole) where
         record {
           whole = record f.whole { end = h.end; put = f.whole.put ++ h.put; coming = h.coming };
           events = f.events ++ h.events;
-          along = happen_join (way_of d) f.events h.events first f.whole
-              (record f.whole { end = h.end; put = f.whole.put ++ h.put; coming = h.coming }) f.along h.along;
-          put = written_join f.whole.put h.put ∙ (λ i. f.put i ++ alike i) ∙ sym (written_join old.put t.units)
-              ∙ sym (ap (λ (l : List Value). map written l) t.put);
+          along = grind (arith, happen_join);
+          put = grind (arith, written_join);
           begun = f.begun ∙ sym t.begun;
           tap = f.tap ∙ sym (ap (λ (c : Course). c.traffic) t.course);
-          coming = λ still.
-              h.still (none_of h.end.ended (sym h.like.over ∙ sym (ap (λ (c : Carrier). is_some c.ended) track.same) ∙ ap is_some still))
-              ∙ then_is still;
+          coming = grind (arith, none_of, track);
           like = subst (IsLike h.end) (sym track.same) (record { over = h.like.over; lasts = h.like.lasts });
           can = all_more f.whole.put h.put f.can h.can;
           links = h.links;
@@ -99,10 +92,7 @@ module _ (d : Direction) (first : Whole) where
         (old.holding.held.octets ++ turn.used) track.rest t.rest new.holding.end.carrier.ended track.cut (t.cut lasts)
         (λ still. track.held still ∙ sym (t.held still)) (t.all lasts) in
         done (units_in (a.more ++ new.coming))
-        (λ still.
-        f.coming lasts ∙ ap units_in (t.coming ∙ ap (λ (l : List (List ℕ)). l ++ new.coming) a.is
-        ∙ append_assoc track.units a.more new.coming)
-        ∙ units_join track.units (a.more ++ new.coming))
+        (grind (arith, append_assoc, track, units_join))
         (λ still. ap (λ (l : List (List ℕ)). units_in (l ++ new.coming)) (a.all still))
     turn_by (Some reason) over =
         done (units_in new.coming)
@@ -169,8 +159,7 @@ module _ (d : Direction) (first : Whole) where
         along = happen_join (way_of d) f.events (wholes.begins_other ∷ []) first f.whole next f.along (next, refl, refl);
         put = f.put;
         begun = f.begun;
-        tap = ap (traffic.packet_begins (sides.other (way_of d))) f.tap
-            ∙ ap (λ (w : Way). traffic.packet_begins w old.course.traffic) (sym (turned d));
+        tap = grind (arith, turned);
         coming = f.coming;
         like = f.like;
         can = f.can;
@@ -185,9 +174,7 @@ module _ (d : Direction) (first : Whole) where
   }
   units_so at (v ∷ units) w c fits same =
       let next : Whole = record w { tap = (takes (sides.other (way_of d)) v w.tap).state; coming = w.coming ++ v ∷ [] } in
-      let on : next.tap ≡ (unit_passes (other d) at v c).traffic =
-      ap (λ (t : Traffic). (takes (sides.other (way_of d)) v t).state) same
-      ∙ ap (λ (x : Way). (takes x v c.traffic).state) (sym (turned d)) ∙ sym (unit_traffic (other d) at v c) in
+      let on : next.tap ≡ (unit_passes (other d) at v c).traffic = grind (arith, turned, unit_traffic) in
       let more = units_so at units next (unit_passes (other d) at v c) fits.1 on in
       record {
         events = wholes.passes_other v ∷ more.events;
@@ -243,10 +230,7 @@ begin_followed d is_caller local h fresh =
       begun = refl;
       tap = refl;
       coming = λ lasts. refl;
-      like = record {
-        over = ap (λ (c : Carrier). is_some c.ended) same;
-        lasts = λ lasts. ap bare (sym same);
-      };
+      like = grind (arith, bare);
       can = tt;
       links = tt;
     }

@@ -1,19 +1,14 @@
 -- The first break of transport at a tap is never of the side of an end, if no unit of a whole end is a break as long as the other
 -- side is judged.
 -- For the law on the first break.
-use Rattle.std.proofs.Common.{arith}
 use Rattle.osi_watched.proofs.Vocabulary.{[], ap, Bool, false, inl, inr, List, None, refl, Some, subst, sym, true, ℕ, ◌∙◌, ◌∷◌, ◌≡◌, ◌⊎◌}
 use Rattle.osi_watched.proofs.Vocabulary.{Value, Local, Holding, is_stopped, Traffic, takes, Way, Finding, Broke, Outside, Capture, other}
 use Rattle.osi_watched.proofs.Vocabulary.{Direction, Left, Right, AllProper, IsFresh, unit_passes, units_pass, way_of, after, comes_to}
 use Rattle.osi_watched.proofs.Vocabulary.{First, Event, HappenAlong, Whole, begins_other, begins_own, Joint, passes_other, passes_own, Step}
-use Rattle.osi_watched.proofs.Vocabulary.{Steps, StepsAlong, turns, ComesBySteps, TurnsBad}
-use Rattle.osi_class.specs.declared.terms.Class.TheVariants.{Zero}
-use Rattle.osi_rules.specs.declared.findings.Finding.TheVariants.{Kept}
+use Rattle.osi_watched.proofs.Vocabulary.{Steps, StepsAlong, turns, ComesBySteps, TurnsBad, arith, Zero, Kept, Course, packet_begins, begin}
 use Rattle.osi_rules.specs.Sides as sides
 use Rattle.osi_fair.specs.Wholes as wholes
-use Rattle.osi_tap.specs.Courses.{Course, packet_begins}
 use Rattle.osi_tap.specs.Tapping as tapping
-use Rattle.osi_watched.specs.Joint.{begin}
 use Rattle.osi_watched.proofs.steps_are_events.{IsFollowed, begin_followed, own_first, step_followed}
 use Rattle.osi_watched.proofs.what_a_unit_leaves_at_a_tap.{IsCalm, IsJudged, IsOver, Leaves, begins_over, unit_first, unit_leaves}
 use Rattle.osi_watched.proofs.what_a_unit_leaves_at_a_tap.{unit_over, unread_first, unread_over}

@@ -90,11 +90,7 @@ turn_left x own theirs ahead before turn turns none s =
     let rest = front.0 in
     let size = length-append turn.used rest in
     let whole = ap length front.1 in
-    let left : (rest ++ theirs) ++ s.shown.0 ≡ used_along turns ++ later = append_cancel_left turn.used ((rest ++ theirs) ++ s.shown.0)
-    (used_along turns ++ later)
-    (sym (append_assoc turn.used (rest ++ theirs) s.shown.0)
-    ∙ ap (λ (l : List ℕ). l ++ s.shown.0) (sym (append_assoc turn.used rest theirs) ∙ ap (λ (l : List ℕ). l ++ theirs) front.1)
-    ∙ s.shown.1 ∙ sym by_turn) in (
+    let left : (rest ++ theirs) ++ s.shown.0 ≡ used_along turns ++ later = grind (arith, append_cancel_left, append_assoc) in (
       rest,
       sym front.1,
       record {
@@ -102,8 +98,7 @@ turn_left x own theirs ahead before turn turns none s =
         coming = used_along turns ++ later;
         shown = (s.shown.0, left);
         used = (later, refl);
-        late = late_as (length (x ∷ own)) before (length ahead) (0 + length turn.used) (0 + length turn.put) (length rest) 0
-            (length turn.put) turns (omega arith) (omega arith) s.late.1;
+        late = grind (arith, late_as);
       },
     )
 

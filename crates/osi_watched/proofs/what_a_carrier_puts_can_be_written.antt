@@ -1,36 +1,22 @@
 -- The units that a carrier puts as it takes a unit, and as its user makes a call, can be written, and its links stay numbered.
 -- For what a turn of an end does to its carrier.
-use Rattle.std.proofs.Common.{arith}
-use Rattle.std.proofs.Common.{◌≡◌, ℕ, ◌+◌, ◌≤◌, Bool, true, false, if◌then◌else◌, List, [], ◌∷◌, ◌++◌}
-use Rattle.std.proofs.Common.{Option, Some, None, option_map, is_some, Result, Ok, Err, refl, subst}
-use Rattle.std.specs.Prelude.{IfSome}
-use Rattle.std.specs.List.{AllByRecursion}
-use Rattle.osi_tpdu.specs.Limits.{tsap_octets}
-use Rattle.osi_tpdu.specs.Value.{Connect, HasFieldsInRange, IsConnect, Value, confirm, data0, disconnect}
-use Rattle.osi_tpdu.specs.Value.{error, request}
-use Rattle.osi_tpdu.specs.declared.tsaps.Tsap.{Tsap}
-use Rattle.osi_class.specs.Link.{Standing, taken, with_tsdu}
-use Rattle.osi_class.specs.Negotiation.{accept, refuse, selected_by}
-use Rattle.osi_class.specs.declared.faults.LinkFault.{LinkFault}
-use Rattle.osi_class.specs.declared.terms.Class.{Class}
-use Rattle.osi_class.specs.declared.terms.Class.TheVariants.{Two, Zero}
-use Rattle.osi_carrier.specs.Calls.{closed_on, closed_with, link_of, open_link, sent, sent_all, sent_on}
-use Rattle.osi_carrier.specs.Orderly.{connection_by}
-use Rattle.osi_carrier.specs.Pump.{written_by}
-use Rattle.osi_carrier.specs.React.{answers, before_class, denies, handed_out, has_peer, in_class, in_two, in_zero, is_full, opens, pumps}
-use Rattle.osi_carrier.specs.React.{react_by, taking, to_connection, to_linked, to_only, to_reference}
+use Rattle.osi_watched.proofs.Vocabulary.{arith, ◌≡◌, ℕ, ◌+◌, ◌≤◌, Bool, true, false, if◌then◌else◌, List, [], ◌∷◌, ◌++◌, Option, Some}
+use Rattle.osi_watched.proofs.Vocabulary.{None, option_map, is_some, Result, Ok, Err, refl, subst, IfSome, AllByRecursion, tsap_octets}
+use Rattle.osi_watched.proofs.Vocabulary.{Connect, HasFieldsInRange, IsConnect, Value, confirm, data0, disconnect, error, request, Tsap}
+use Rattle.osi_watched.proofs.Vocabulary.{Standing, with_tsdu, accept, refuse, selected_by, LinkFault, Class, Two, Zero, closed_on}
+use Rattle.osi_watched.proofs.Vocabulary.{closed_with, link_of, open_link, sent, sent_all, connection_by, written_by, answers, before_class}
+use Rattle.osi_watched.proofs.Vocabulary.{denies, handed_out, has_peer, in_class, in_two, in_zero, is_full, pumps, react_by, taking}
+use Rattle.osi_watched.proofs.Vocabulary.{to_connection, to_linked, to_only, to_reference, Rows, value_at, connects, user_does, closing}
+use Rattle.osi_watched.proofs.Vocabulary.{ends, linked, EndReason, put_at, put_before, put_by, put_closing, put_for, put_for_selection}
+use Rattle.osi_watched.proofs.Vocabulary.{put_in, put_in_two, put_in_zero, put_linked, put_only, put_sent, put_taking, put_to, put_together}
+use Rattle.osi_watched.proofs.Vocabulary.{refusal, row_at, row_more, row_put, row_without, cc_plain, cr_by, size_in_range, AreNumbered}
+use Rattle.osi_watched.proofs.Vocabulary.{IsNumbered, gives_written, link_opens, taken_numbered}
+use Rattle.osi_class.specs.Link.{taken}
+use Rattle.osi_carrier.specs.Calls.{sent_on}
+use Rattle.osi_carrier.specs.React.{opens}
 unfoldable use Rattle.osi_carrier.specs.React.{react}
-use Rattle.osi_carrier.specs.Rows.{Rows, value_at}
-use Rattle.osi_carrier.specs.Runs.{connects, user_does}
-use Rattle.osi_carrier.specs.State.{Connection, State, asked, closing, ends, linked}
-use Rattle.osi_carrier.specs.declared.ends.EndReason.{EndReason}
-use Rattle.osi_fair.specs.Putting.{put_at, put_before, put_by, put_closing, put_for, put_for_selection, put_in, put_in_two, put_in_zero}
-use Rattle.osi_fair.specs.Putting.{put_linked, put_only, put_sent, put_taking, put_to, put_together, refusal}
-use Rattle.osi_honest.proofs.keeping.what_holds_of_each_connection_stays.{row_at, row_more, row_put, row_without}
+use Rattle.osi_carrier.specs.State.{Connection, State, asked}
 use Rattle.osi_honest.specs.Writable.{CanBeWritten}
-use Rattle.osi_honest.proofs.reading.a_cr_and_a_cc_can_be_written.{cc_plain, cr_by, size_in_range}
-use Rattle.osi_honest.proofs.reading.all_that_an_end_puts_can_be_read.{AreNumbered}
-use Rattle.osi_honest.proofs.reading.what_a_link_gives_can_be_written.{IsNumbered, gives_written, link_opens, taken_numbered}
 
 -- these units can be written, and the links are numbered
 abbrev pub Fine : List Value → State → Type 0
@@ -178,5 +164,4 @@ pub together_fine : (r : ℕ) (tsdus : List (List ℕ)) (s : State) → AreNumbe
 together_fine r [] s p = (tt, p)
 together_fine r (tsdu ∷ tsdus) s p =
     let first = one_fine s p r tsdu in
-    let others = together_fine r tsdus (sent r tsdu s) first.1 in
-    (all_more (put_sent tsdu (open_link r s)) (put_together r tsdus (sent r tsdu s)) first.0 others.0, others.1)
+    grind (arith, all_more, together_fine r tsdus (sent r tsdu s) first.1)

@@ -1,14 +1,9 @@
 -- A unit that is no break, or a break that its taker passes over: it takes the unit all the same, or, if it is a DR, answers it.
 -- For the sessions of an end after such a break of the other side.
-use Rattle.std.proofs.Common.{arith, ◌≡◌, ◌⊎◌, true, false, Option}
-use Rattle.osi_tpdu.specs.Value.{Value, disconnect}
-use Rattle.osi_class.specs.declared.terms.Class.{Class}
-use Rattle.osi_rules.specs.declared.findings.Finding.{Finding}
-use Rattle.osi_rules.specs.declared.findings.Finding.TheVariants.{Broke, Kept, NotJudged, Outside, TooMany}
+use Rattle.osi_watched.proofs.Vocabulary.{arith, ◌≡◌, ◌⊎◌, true, false, Option, Value, disconnect, Class, Finding, Broke, Kept, NotJudged}
+use Rattle.osi_watched.proofs.Vocabulary.{Outside, TooMany, Rule, is_applied, reach_of}
 use Rattle.osi_rules.specs.declared.findings.Reach.TheVariants as reach
-use Rattle.osi_rules.specs.declared.findings.Rule.{Rule}
 use Rattle.osi_rules.specs.declared.findings.Rule.TheVariants as rule
-use Rattle.osi_rules.specs.Reaches.{is_applied, reach_of}
 use Rattle.osi_watched.proofs.the_first_break_is_not_of_an_end.{IsNoBreak}
 
 abbrev pub IsDr : Value → Type 0

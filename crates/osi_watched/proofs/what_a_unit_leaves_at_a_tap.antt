@@ -1,19 +1,17 @@
 -- As long as no break was told as the first, both sides are judged and every connection is, or nobody is judged any more; and a
 -- unit leaves that so, unless it is a break.
 -- For the first break of transport.
-use Rattle.std.proofs.Common.{arith}
 use Rattle.osi_watched.proofs.Vocabulary.{ap, Bool, false, if◌then◌else◌, is_some, None, Option, refl, Some, true, ℕ, ◌∙◌, ◌≡◌, ◌⊎◌, ◌||◌}
 use Rattle.osi_watched.proofs.Vocabulary.{Value, stops_are_said, stops_last, asks_of, at_found, course_after_none, is_stopped, none_told}
 use Rattle.osi_watched.proofs.Vocabulary.{one_told, Outcome, routed, Traffic as State, takes, unnamed_told, Connection, Rules as Judging}
 use Rattle.osi_watched.proofs.Vocabulary.{Way as Direction, Finding, Broke, Outside, TooMany, Reach, Told, Route, Direction as Side, taken}
 use Rattle.osi_watched.proofs.Vocabulary.{cause_of, changes, earlier, first_by, first_of, is_break, kind_of, marked, marks_of, moment_of}
 use Rattle.osi_watched.proofs.Vocabulary.{moved, noted_by, number_at, reached, unit_passes, unread, unread_mark, unread_moment, way_of}
-use Rattle.osi_watched.proofs.Vocabulary.{Cause, First, Mark, Marks}
+use Rattle.osi_watched.proofs.Vocabulary.{Cause, First, Mark, Marks, arith, Course, packet_begins}
 use Rattle.osi_judge.specs.declared.directions.Direction.TheVariants as side
 use Rattle.osi_rules.specs.declared.findings.Reach.TheVariants as reach
 use Rattle.osi_rules.specs.Traffic as traffic
 use Rattle.osi_tap.specs.declared.marks.Cause.TheVariants as cause
-use Rattle.osi_tap.specs.Courses.{Course, packet_begins}
 
 -- ---- what is found of a unit, and how far that reaches
 

@@ -1,9 +1,7 @@
 -- What an octet that passes does to the tap's state, while packets are read in its direction.
 -- For the law that a capture of an end is steps.
-use Rattle.std.proofs.Common.{arith}
 use Rattle.osi_watched.proofs.Vocabulary.{[], false, List, ℕ, ◌++◌, ◌∷◌, ◌≡◌, of, Direction, going, looks, Front, front_of, gathered}
-use Rattle.osi_watched.proofs.Vocabulary.{looked_at, octet_passes, stream_of}
-use Rattle.osi_tap.specs.Courses.{Course, packet_begins}
+use Rattle.osi_watched.proofs.Vocabulary.{looked_at, octet_passes, stream_of, arith, Course, packet_begins}
 use Rattle.osi_tap.specs.Tapping.{State}
 
 -- what the course comes to once an octet has passed after these of the same packet

@@ -1,22 +1,16 @@
 -- What follows what the other side sends and nobody can read is steps too: of the end and of the tap, which reads of that side what it can.
 -- For the law that a capture of an end is steps.
-use Rattle.std.proofs.Common.{arith}
-use Rattle.osi_watched.proofs.Vocabulary.{[], ap, append_assoc, Bool, false, if◌then◌else◌, inl, inr, List, None, refl, Result, subst, sym}
-use Rattle.osi_watched.proofs.Vocabulary.{true, ℕ, ◌++◌, ◌<◌, ◌∙◌, ◌∷◌, ◌≡◌, ◌≢◌, ◌⊎◌, append-nil, AllByRecursion, octets_nil, octets_right}
-use Rattle.osi_watched.proofs.Vocabulary.{IsOctets, packet_of, ArePackets, units_of, Value, written, TpduFault, packets, Holding, Capture}
-use Rattle.osi_watched.proofs.Vocabulary.{of, other, Passed, Direction, packets_joined, TurnOf, TurnsOf, packets_on, packets_then}
-use Rattle.osi_watched.proofs.Vocabulary.{CanBeWritten, read_again, all_did, Deeds, all_units, Takes, Turn, packet_by, packet_passes}
-use Rattle.osi_watched.proofs.Vocabulary.{units_pass, unread, advanced, counted, faulty, Front, front_of, gathered, looks, partial}
-use Rattle.osi_watched.proofs.Vocabulary.{Streamed, whole, after, begun, octet_passes, stream_of, with_stream, BadPacket, Joint, Step}
-use Rattle.osi_watched.proofs.Vocabulary.{TakesTurn, AreOctets, IsOctet}
-use Rattle.osi_carrier.specs.Fetching.{IsNoFront}
-use Rattle.osi_tpkt.specs.declared.faults.TpktFault.{TpktFault}
-use Rattle.osi_fair.specs.Pieces.{units_by}
-use Rattle.osi_tap.specs.Courses.{Course}
+use Rattle.osi_watched.proofs.Vocabulary.{[], ap, append_assoc, Bool, false, if◌then◌else◌, inl, inr, List, None, refl, subst, sym, true, ℕ}
+use Rattle.osi_watched.proofs.Vocabulary.{◌++◌, ◌<◌, ◌∙◌, ◌∷◌, ◌≡◌, ◌≢◌, ◌⊎◌, append-nil, AllByRecursion, octets_nil, octets_right}
+use Rattle.osi_watched.proofs.Vocabulary.{IsOctets, packet_of, ArePackets, units_of, Value, written, packets, Holding, Capture, of, other}
+use Rattle.osi_watched.proofs.Vocabulary.{Passed, Direction, packets_joined, TurnOf, TurnsOf, packets_on, packets_then, CanBeWritten}
+use Rattle.osi_watched.proofs.Vocabulary.{read_again, all_did, Deeds, all_units, Takes, Turn, packet_passes, units_pass, unread, advanced}
+use Rattle.osi_watched.proofs.Vocabulary.{counted, faulty, Front, front_of, gathered, looks, partial, Streamed, whole, after, begun}
+use Rattle.osi_watched.proofs.Vocabulary.{octet_passes, stream_of, with_stream, BadPacket, Joint, Step, TakesTurn, AreOctets, IsOctet}
+use Rattle.osi_watched.proofs.Vocabulary.{arith, IsNoFront, TpktFault, units_by, Course, IsNoPacket, LaterAlong, LaterSteps}
 use Rattle.osi_tap.specs.Streams.{ended}
 use Rattle.osi_tap.specs.Tapping.{State}
 use Rattle.osi_watched.specs.Joint.Step.{turns, begins_own, passes_own, begins_other, passes_other}
-use Rattle.osi_watched.specs.Spoilt.{IsNoPacket, LaterAlong, LaterSteps}
 use Rattle.osi_watched.proofs.small_facts_that_many_lemmas_use.{can_more}
 use Rattle.osi_watched.proofs.how_an_end_stands_to_what_has_passed.{OtherRest, OtherStands, OwnStands, begun_now, first_put, has_begun}
 use Rattle.osi_watched.proofs.how_an_end_stands_to_what_has_passed.{one_octet, rest_of, some_octets, uses}
@@ -126,13 +120,7 @@ module _ (d : Direction) (x : ℕ) (capture : Capture) (s : State) (j : Joint) (
   own_goes_on : front_of (own_held ++ x ∷ []) ≡ partial → LaterComes d (of d x ∷ capture) s own_joint
   own_goes_on part =
       let next : State = with_stream d own_now (record s { course = own_course }) in
-      let own : OwnStands (own_held ++ x ∷ []) still j.put true = record {
-        octets = one_octet own_held x st.own.octets small;
-        part = part;
-        all = append_assoc own_held (x ∷ []) still ∙ st.own.all;
-        begun_so = begun_now own_held x;
-        can = st.own.can;
-      } in
+      let own : OwnStands (own_held ++ x ∷ []) still j.put true = search (arith, one_octet, append_assoc, begun_now) in
       later_octet d (of d x) capture s own_joint
       (subst (λ (t : State). LaterComes d capture t own_joint) (sym (passes_so d x s partial st.own_reads part))
       (on next own_joint refl (own_moved d own_now s own_course own_joint still ahead (ap (begins d own_held) st.course) st.own_reads
@@ -150,8 +138,7 @@ module _ (d : Direction) (x : ℕ) (capture : Capture) (s : State) (j : Joint) (
       let at = own_now.at in
       let after_it : Course = packet_passes d at (written v) own_course in
       let last : Joint = record own_joint { put = vs; begun = false; course = units_pass d at (v ∷ []) own_joint.course } in
-      let course : after_it ≡ last.course = ap (λ (r : Result (List Value) TpduFault). packet_by d at r own_course) read
-      ∙ ap (λ (c : Course). units_pass d at (v ∷ []) (begins d own_held c)) st.course in
+      let course : after_it ≡ last.course = grind (arith, begins) in
       let own : OwnStands [] still vs false =
       record { octets = octets_nil; part = refl; all = rest; begun_so = refl; can = can.1 } in
       let next : State = with_stream d (advanced own_now) (record s { course = after_it }) in
@@ -192,8 +179,7 @@ module _ (d : Direction) (x : ℕ) (capture : Capture) (s : State) (j : Joint) (
     ends_now = record {
       octets = one_octet rest x e.octets small;
       never = λ more. subst IsNoFront (sym (append_assoc rest (x ∷ []) more)) (e.never (x ∷ more));
-      cut = λ lasts. more_passed j.coming (rest ++ x ∷ [])
-          (packets_on j.coming (j.holding.held.octets ++ ahead) rest (x ∷ []) (e.cut lasts));
+      cut = grind (arith, more_passed, packets_on);
     }
 
     spent_octet : LaterComes d (of (other d) x ∷ capture) s j
@@ -201,8 +187,7 @@ module _ (d : Direction) (x : ℕ) (capture : Capture) (s : State) (j : Joint) (
         let t = counted 1 (stream_of (other d) s) in
         later_octet d (of (other d) x) capture s j
         (subst (λ (z : State). LaterComes d capture z j) (sym (spent_passes (other d) x s spent))
-        (on (with_stream (other d) t s) j refl (other_moved d t s s.course j still (ahead ++ x ∷ []) st.course st.own_reads st.own st.halted
-        (inr (spent, rest ++ x ∷ [], ends_now)))))
+        (on (with_stream (other d) t s) j refl (grind (arith, other_moved, ends_now))))
 
   module _ (reads : (stream_of (other d) s).spent ≡ false) (os : OtherStands (stream_of (other d) s).held ahead j.holding j.coming) where
     abbrev other_held : List ℕ
@@ -232,30 +217,19 @@ module _ (d : Direction) (x : ℕ) (capture : Capture) (s : State) (j : Joint) (
         let next : State = with_stream (other d) other_now (record s { course = other_course }) in
         later_octet d (of (other d) x) capture s other_joint
         (subst (λ (t : State). LaterComes d capture t other_joint) (sym (passes_so (other d) x s partial reads part))
-        (on next other_joint refl (other_moved d other_now s other_course other_joint still (ahead ++ x ∷ []) same_course st.own_reads
-        st.own other_halted
-        (inl (reads, record { octets = one_octet other_held x os.octets small; part = part; cut = cut_now })))))
+        (on next other_joint refl (grind (arith, other_moved, same_course, other_halted, one_octet, cut_now))))
 
     -- no packet begins here
     other_faults : (f : TpktFault) → front_of (other_held ++ x ∷ []) ≡ faulty f → LaterComes d (of (other d) x ∷ capture) s other_joint
     other_faults f is =
         let after_it : Course = unread (other d) other_now.at (BadPacket f) other_course in
         let next : State = with_stream (other d) (ended other_now) (record s { course = after_it }) in
-        let course : after_it ≡ other_joint.course = ap (unread (other d) other_now.at (BadPacket f)) same_course
-        ∙ unread_same (other d) other_now.at (BadPacket f) other_joint.course other_halted in
+        let course : after_it ≡ other_joint.course = grind (arith, same_course, unread_same, other_halted) in
         later_octet d (of (other d) x) capture s other_joint
         (subst (λ (t : State). LaterComes d capture t other_joint) (sym (passes_so (other d) x s (faulty f) reads is))
         (on next other_joint refl (other_moved d (ended other_now) s after_it other_joint still (ahead ++ x ∷ []) course st.own_reads st.own
         other_halted
-        (inr (
-          refl,
-          other_held ++ x ∷ [],
-          record {
-            octets = one_octet other_held x os.octets small;
-            never = λ more. begins_none (other_held ++ x ∷ []) more f is;
-            cut = cut_now;
-          },
-        )))))
+        (grind (arith, begins_none, cut_now, one_octet other_held x os.octets small)))))
 
     other_ends : (u : List ℕ) → front_of (other_held ++ x ∷ []) ≡ whole u → LaterComes d (of (other d) x ∷ capture) s other_joint
     other_ends u front =
@@ -266,15 +240,12 @@ module _ (d : Direction) (x : ℕ) (capture : Capture) (s : State) (j : Joint) (
           course = units_pass (other d) other_now.at units other_joint.course;
           coming = j.coming ++ u ∷ [];
         } in
-        let course : after_it ≡ last.course = ap (packet_by (other d) other_now.at (units_of u)) same_course
-        ∙ (grind (arith, unread_same)) in
+        let course : after_it ≡ last.course = grind (arith, same_course, unread_same) in
         let octets : IsOctets u = octets_right (_ ∷ _ ∷ _ ∷ _ ∷ []) u (subst IsOctets packet.spelled packet.octets) in
         let others : OtherStands [] (ahead ++ x ∷ []) j.holding (j.coming ++ u ∷ []) = record {
           octets = octets_nil;
           part = refl;
-          cut = λ lasts. more_passed (j.coming ++ u ∷ []) []
-              (packets_then j.coming (u ∷ []) (j.holding.held.octets ++ ahead) other_held (x ∷ []) [] (os.cut lasts)
-              (other_held ++ x ∷ [], [], packet, sym (append-nil (other_held ++ x ∷ [])), refl));
+          cut = grind (arith, more_passed, packets_then, append-nil);
         } in
         let next : State = with_stream (other d) (advanced other_now) (record s { course = after_it }) in
         later_first d (of (other d) x ∷ capture) s (passes_other other_now.at u units) other_joint last (octets, refl, refl)
@@ -320,31 +291,12 @@ module _ (d : Direction) (is_caller : Bool) (deeds : ℕ → Deeds) (s : State) 
       let both : (mine ++ still) ++ turn.put ≡ packets j.put ++ packets units = (λ i. st.own.all i ++ on.written i) in
       record {
         later = record j { holding = new; put = j.put ++ units; coming = u.later };
-        takes = record {
-          takes = takes;
-          units = units;
-          written = on.written;
-          put = refl;
-          used = u.used;
-          coming = u.parts;
-          rest = u.rest;
-          cut = u.cut;
-          held = u.kept;
-          all = u.all;
-          begun = refl;
-          course = refl;
-        };
+        takes = grind arith;
         holding = refl;
         stands = record {
           course = st.course;
           own_reads = st.own_reads;
-          own = record {
-            octets = st.own.octets;
-            part = st.own.part;
-            all = sym (append_assoc mine still turn.put) ∙ both ∙ sym (packets_joined j.put units);
-            begun_so = st.own.begun_so;
-            can = can_more j.put units st.own.can on.can;
-          };
+          own = grind (arith, append_assoc, packets_joined, can_more);
           halted = st.halted;
           others = reads u.later u.left;
         };

@@ -1,16 +1,9 @@
 -- A side of which nothing more is judged stays so, whatever passes; and so it is after what can't be read.
 -- For what follows what can't be read.
-use Rattle.std.proofs.Common.{arith, ◌≡◌, ℕ, Bool, true, false, Option, is_some, List, ap}
-use Rattle.osi_tpdu.specs.Value.{Value}
-use Rattle.osi_class.specs.declared.terms.Class.{Class}
-use Rattle.osi_judge.specs.declared.directions.Direction.{Direction}
-use Rattle.osi_rules.specs.Reaches.{reach_by}
+use Rattle.osi_watched.proofs.Vocabulary.{arith, ◌≡◌, ℕ, Bool, true, false, Option, is_some, List, ap, Value, Class, Direction, reach_by}
+use Rattle.osi_watched.proofs.Vocabulary.{Reach, Cause, Mark, Course, marks_of, noted_by, reached, unread, unread_mark}
 use Rattle.osi_rules.specs.Traffic as traffic
-use Rattle.osi_rules.specs.declared.findings.Reach.{Reach}
 use Rattle.osi_rules.specs.declared.findings.Reach.TheVariants as reach
-use Rattle.osi_tap.specs.declared.marks.Cause.{Cause}
-use Rattle.osi_tap.specs.declared.marks.Mark.{Mark}
-use Rattle.osi_tap.specs.Courses.{Course, marks_of, noted_by, reached, unread, unread_mark}
 use Rattle.osi_watched.proofs.a_break_ends_no_judging_or_all.{halted_by, mark, mid, mid_marks, o, some_earlier, unread_if}
 use Rattle.osi_watched.proofs.what_an_octet_does.{begins}
 use Rattle.osi_watched.proofs.what_passes_keeps_a_claim.{IsClaim}

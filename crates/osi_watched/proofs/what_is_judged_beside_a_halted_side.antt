@@ -1,32 +1,19 @@
 -- In class 0 a break of the other side changes nothing that is judged of an end but that the other side is not judged any more. So a tap
 -- judges what the end sends after it as if the break had not come. For the sessions of an end after such a break.
-use Rattle.std.proofs.Common.{arith, ◌≡◌, ◌∙◌, ap, ℕ, Bool, false, if◌then◌else◌, Option, Some}
-use Rattle.std.specs.Prelude.{slice_get, slice_set}
-use Rattle.osi_tpdu.specs.Value.{Value, data0, disconnected, error}
-use Rattle.osi_class.specs.declared.terms.Class.{Class}
-use Rattle.osi_class.specs.declared.terms.Class.TheVariants.{Zero}
-use Rattle.osi_judge.specs.Captures.{other}
-use Rattle.osi_judge.specs.declared.directions.Direction.{Direction}
-use Rattle.osi_judge.specs.declared.directions.Direction.TheVariants.{Left, Right}
-use Rattle.osi_rules.specs.declared.connections.Connection.{Connection}
+use Rattle.osi_watched.proofs.Vocabulary.{arith, ◌≡◌, ◌∙◌, ap, ℕ, Bool, false, if◌then◌else◌, Option, Some, slice_get, slice_set, Value}
+use Rattle.osi_watched.proofs.Vocabulary.{data0, disconnected, error, Class, Zero, other, Direction, Left, Right, Connection, Finding}
+use Rattle.osi_watched.proofs.Vocabulary.{NotJudged, Reach, Route, is_applied, reach_of, Outcome, State, asks_of, at_found, at_place}
+use Rattle.osi_watched.proofs.Vocabulary.{class_for, connection_after, course_after, found_on, has_broken, in_doubt, is_stopped, none_told}
+use Rattle.osi_watched.proofs.Vocabulary.{noted, one_told, route_in, routed, stops, takes, unnamed_by, unnamed_told, set_same, Cause}
+use Rattle.osi_watched.proofs.Vocabulary.{Course, packet_begins, unit_passes, unread, way_of}
 use Rattle.osi_rules.specs.declared.courses.Course.{Course as Judging}
 use Rattle.osi_rules.specs.declared.directions.Direction.{Direction as Way}
 use Rattle.osi_rules.specs.declared.directions.Direction.TheVariants as way
-use Rattle.osi_rules.specs.declared.findings.Finding.{Finding}
-use Rattle.osi_rules.specs.declared.findings.Finding.TheVariants.{NotJudged}
-use Rattle.osi_rules.specs.declared.findings.Reach.{Reach}
 use Rattle.osi_rules.specs.declared.findings.Reach.TheVariants as reach
 use Rattle.osi_rules.specs.declared.findings.Rule.TheVariants as rule
-use Rattle.osi_rules.specs.declared.routes.Route.{Route}
-use Rattle.osi_rules.specs.Reaches.{is_applied, reach_by, reach_of}
 use Rattle.osi_rules.specs.Sides as sides
 use Rattle.osi_rules.specs.Traffic as traffic
-use Rattle.osi_rules.specs.Traffic.{Outcome, State, asks_of, at_found, at_place, class_for, connection_after, course_after, found_on}
-use Rattle.osi_rules.specs.Traffic.{has_broken, in_doubt, is_stopped, none_told, noted, one_told, reached, route_in, routed, stops, takes}
-use Rattle.osi_rules.specs.Traffic.{unnamed_by, unnamed_told}
-use Rattle.osi_fair.proofs.while_no_class_is_selected.{set_same}
-use Rattle.osi_tap.specs.declared.marks.Cause.{Cause}
-use Rattle.osi_tap.specs.Courses.{Course, packet_begins, unit_passes, unread, way_of}
+use Rattle.osi_rules.specs.Traffic.{reached}
 use Rattle.osi_watched.proofs.a_break_ends_no_judging_or_all.{refused_traffic, refuses, unread_sessions}
 use Rattle.osi_watched.proofs.sessions.connections_have_the_same_places.{unit_joins, unit_knows}
 use Rattle.osi_watched.proofs.sessions.what_has_no_effect_joins_nothing.{joins_none}
@@ -132,10 +119,6 @@ routed_same d erred v s r plain = grind (arith, asks_same, at_place_same, none_s
 
 -- ---- for which connection it is
 
-zero_route : (d : Direction) (v : Value) → (IsEr v → ⊥) → (a b : Bool) →
-    traffic.route_zero (way_of d) a v ≡ traffic.route_zero (way_of d) b v
-zero_route d v plain a b = grind arith
-
 module _ (d : Direction) (v : Value) (erred : Bool) (s : State) (goes : is_stopped (way_of d) s.course ≡ false) (plain : IsEr v → ⊥) where
   abbrev by_class : Option Class → Bool → Route
   by_class k b = route_in k (way_of d) b v
@@ -212,12 +195,7 @@ beside_break d at v c zero goes unapplied side =
     let e = other d in
     let f = (takes (way_of e) v c.traffic).told.finding in
     let stopped = stops (way_of e) c.traffic.course in
-    record {
-      erred = traffic.has_erred (way_of e) (noted (way_of e) f stopped);
-      sessions = joins_none e at v c unapplied;
-      traffic = unit_knows e at v c ∙ (grind (arith, zero_halts))
-          ∙ ap (λ (k : Judging). record c.traffic { course = k }) (noted_is e f stopped);
-    }
+    grind (arith, zero_halts, joins_none e at v c unapplied, unit_knows e at v c, noted_is e f stopped)
 
 -- or what nobody can read
 pub beside_unread : (d : Direction) (at : ℕ) (k : Cause) (c : Course) → class_for (way_of (other d)) c.traffic.course ≡ Some Zero →
@@ -225,7 +203,5 @@ pub beside_unread : (d : Direction) (at : ℕ) (k : Cause) (c : Course) → clas
 beside_unread d at k c zero is = record {
   erred = traffic.has_erred (way_of (other d)) (stops (way_of (other d)) c.traffic.course);
   sessions = unread_sessions (other d) at k c;
-  traffic = ap (λ (x : Course). x.traffic) is ∙ refused_traffic (other d) at k c
-      ∙ ap (λ (x : Option Class). record c.traffic { course = reached (way_of (other d)) (reach_by x false) c.traffic.course }) zero
-      ∙ ap (λ (j : Judging). record c.traffic { course = j }) (erring_same (other d) (stops (way_of (other d)) c.traffic.course));
+  traffic = grind (arith, refused_traffic, erring_same);
 }

@@ -37,8 +37,7 @@ same_written [] (v ∷ vs) e = absurd (cc)
 same_written (u ∷ us) [] e = absurd (cc)
 same_written (u ∷ us) (v ∷ vs) e =
     let one = one_packet (written u) (written v) (packets us) (packets vs) e in
-    let more = same_written us vs one.1 in
-    λ i. one.0 i ∷ more i
+    grind (arith, same_written us vs one.1)
 
 pub written_join : (us vs : List Value) → map written (us ++ vs) ≡ map written us ++ map written vs
 written_join [] vs = refl
@@ -106,8 +105,4 @@ are_first units used s r q ended h k same none = by ended refl (two_readings uni
     }
     by (Some reason) e (first more is p) =
         let empty = none (λ lasts. let no : Some reason ≡ None = sym e ∙ lasts in cc) more r p in
-        record {
-          more = [];
-          is = sym (is ∙ ap (λ (l : List (List ℕ)). used ++ l) empty ∙ append-nil used) ∙ sym (append-nil units);
-          all = λ lasts. refl;
-        }
+        grind (arith, append-nil)

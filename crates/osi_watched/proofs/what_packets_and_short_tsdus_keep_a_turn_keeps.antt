@@ -11,11 +11,10 @@ use Rattle.osi_watched.proofs.Vocabulary.{none_ended, found_how, after_open, Fee
 use Rattle.osi_watched.proofs.Vocabulary.{hears_times, RunsOut, Starves, with_carrier, with_events, IsAccepted, AreShort, carrier_by}
 use Rattle.osi_watched.proofs.Vocabulary.{to_session, calling, Call, Calls, carried_in, used_in, End, Holding, answers_by, ConnectError}
 use Rattle.osi_watched.proofs.Vocabulary.{AllProper, all_octets, more_used, stopped_within, never_lasts, packets_on, packets_then}
-use Rattle.osi_watched.proofs.Vocabulary.{carried_by, Takes, Turn, used_by, serving, using}
-use Rattle.osi_carrier.specs.Calls.{asks}
+use Rattle.osi_watched.proofs.Vocabulary.{carried_by, Takes, Turn, used_by, serving, using, asks, after_packet}
 use Rattle.osi_carrier.specs.Packets as carriers
 use Rattle.osi_carrier.specs.State as states
-use Rattle.osi_stack.specs.Hearing.{after_packet, ends}
+use Rattle.osi_stack.specs.Hearing.{ends}
 use Rattle.osi_stack.specs.Rounds.{UserCall, user_does}
 use Rattle.osi_stack.specs.State.{waits}
 use Rattle.osi_honest.specs.Talking as history
@@ -84,10 +83,7 @@ module _ (P : List (List ℕ) → Carrier → Type 0) (tracked : IsTracked P) wh
 
   heard : (us : List (List ℕ)) (n : ℕ) (e : End) → P us e.carrier → P us (hears_times n e).carrier
   heard us n e p =
-      events_heard (λ x. P us x.carrier) (λ events x q. tracked.untold us events x.carrier q) (record {
-        begins = λ r x none q. q;
-        moves = λ event x q. session_carried (P us) (tracked.carries us) _ _ x q;
-      }) n e p
+      events_heard (λ x. P us x.carrier) (λ events x q. tracked.untold us events x.carrier q) (grind (arith, session_carried)) n e p
 
   after : (us : List (List ℕ)) (u : List ℕ) (e : End) → IsOctets u → P us e.carrier → P (us ++ u ∷ []) (after_packet e u).carrier
   after us u e octets p =
@@ -201,10 +197,8 @@ module _ (P : List (List ℕ) → Carrier → Type 0) (tracked : IsTracked P) wh
         by (Some reason) over b e =
             let k = f.over (ap is_some over) in
             as_used us [] (take fed.used piece) put (old.held.octets ++ take fed.used piece) old new
-            (subst (λ (x : Holding). P (us ++ []) x.end.carrier) (sym k.1)
-            (subst (λ (x : List (List ℕ)). P x old.end.carrier) (sym (append-nil us)) p)) refl
-            (λ lasts. absurd (never_lasts new.end.carrier.ended
-            (ap (λ (x : Holding). is_some x.end.carrier.ended) k.1 ∙ ap is_some over) lasts))
+            (grind (arith, append-nil)) refl
+            (grind (arith, never_lasts))
             is
         by None lasts true e =
             let k = f.waiting lasts e in

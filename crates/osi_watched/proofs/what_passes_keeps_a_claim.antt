@@ -1,11 +1,10 @@
 -- What a packet that begins, a unit and what can't be read leave true of a tap, a capture leaves true, and so does each step of an end
 -- and of the tap.
 -- For the first break.
-use Rattle.std.proofs.Common.{arith}
 use Rattle.osi_watched.proofs.Vocabulary.{[], Bool, if◌then◌else◌, length, List, refl, ℕ, ◌++◌, ◌∷◌, ◌≡◌, Value, Capture, of, Direction}
 use Rattle.osi_watched.proofs.Vocabulary.{looks, unit_passes, units_pass, unread, counted, Front, gathered, Streamed, after, begun}
-use Rattle.osi_watched.proofs.Vocabulary.{looked_at, octet_passes, stream_of, with_stream, Cause, Joint, Step, Steps}
-use Rattle.osi_tap.specs.Courses.{Course, packet_begins}
+use Rattle.osi_watched.proofs.Vocabulary.{looked_at, octet_passes, stream_of, with_stream, Cause, Joint, Step, Steps, arith, Course}
+use Rattle.osi_watched.proofs.Vocabulary.{packet_begins}
 use Rattle.osi_tap.specs.Tapping.{State}
 
 pub record IsClaim (P : Course → Type 0) : Type 0 where

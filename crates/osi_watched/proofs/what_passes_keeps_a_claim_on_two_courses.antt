@@ -1,18 +1,10 @@
 -- What a packet that begins, a unit and what can't be read leave true of two courses, a capture leaves true, if both have read the same.
 -- For taps with a bound.
-use Rattle.std.proofs.Common.{arith}
-use Rattle.std.proofs.Common.{◌≡◌, refl, subst, ℕ, Bool, true, false, if◌then◌else◌, List, [], ◌∷◌, length, Result}
-use Rattle.osi_tpdu.specs.Value.{Value}
-use Rattle.osi_tpdu.specs.declared.faults.TpduFault.{TpduFault}
-use Rattle.osi_judge.specs.Captures.{Capture, of}
-use Rattle.osi_judge.specs.declared.directions.Direction.{Direction}
-use Rattle.osi_judge.specs.declared.directions.Direction.TheVariants.{Left, Right}
-use Rattle.osi_tap.specs.declared.marks.Cause.{Cause}
-use Rattle.osi_tap.specs.declared.marks.Cause.TheVariants.{BadPacket}
-use Rattle.osi_tap.specs.Courses.{Course, packet_begins, packet_by, unit_passes, units_pass, unread}
-use Rattle.osi_tap.specs.Streams.{Front, Streamed, counted, faulty, gathered, partial, whole}
-use Rattle.osi_tap.specs.Tapping.{State, after, begun, looked_at, octet_passes, with_stream}
-use Rattle.osi_tap.proofs.a_piece_comes_to_what_its_octets_do.{looks}
+use Rattle.osi_watched.proofs.Vocabulary.{arith, ◌≡◌, refl, subst, ℕ, Bool, true, false, if◌then◌else◌, List, [], ◌∷◌, length, Result}
+use Rattle.osi_watched.proofs.Vocabulary.{Value, TpduFault, Capture, of, Direction, Left, Right, Cause, BadPacket, Course, packet_begins}
+use Rattle.osi_watched.proofs.Vocabulary.{packet_by, unit_passes, units_pass, unread, Front, Streamed, counted, faulty, gathered, partial}
+use Rattle.osi_watched.proofs.Vocabulary.{whole, after, begun, looked_at, octet_passes, with_stream, looks}
+use Rattle.osi_tap.specs.Tapping.{State}
 
 pub record IsClaim (P : Course → Course → Type 0) : Type 0 where
   pub begins : (d : Direction) (c e : Course) → P c e → P (packet_begins d c) (packet_begins d e)

@@ -5,9 +5,7 @@ use Rattle.osi_watched.proofs.Vocabulary.{sym, take, true, ℕ, ◌*◌, ◌++�
 use Rattle.osi_watched.proofs.Vocabulary.{le-ltb, lt-ltb, ltb-false, ltb-true, leb_tells, append-nil, length-append, take_all, take_at}
 use Rattle.osi_watched.proofs.Vocabulary.{octets_append, IsOctets, IsPacket, packet_of, ArePackets, BadLength, first, GoesBeyond}
 use Rattle.osi_watched.proofs.Vocabulary.{packets_on, second, two_readings, part_of, packet_front, by_version, faulty, Front, front_of}
-use Rattle.osi_watched.proofs.Vocabulary.{partial, sized, whole}
-use Rattle.osi_carrier.specs.Fetching.{IsNoFront}
-use Rattle.osi_tpkt.specs.declared.faults.TpktFault.{TpktFault}
+use Rattle.osi_watched.proofs.Vocabulary.{partial, sized, whole, IsNoFront, TpktFault}
 
 -- ---- the version, and the length that the header states
 
@@ -66,8 +64,7 @@ own_front held w rest back x part e least = by (leb_tells (length (packet_of w))
     by (inl (is, more)) =
         let less = shorter held w rest (x ∷ back) part e least in
         let size = length-append held (x ∷ []) in
-        let one : length (x ∷ []) ≡ 1 = refl in
-        inr (same_parts (held ++ x ∷ []) (packet_of w) back rest (omega arith) joined)
+        grind (arith, same_parts (held ++ x ∷ []) (packet_of w) back rest (omega arith) joined)
 
 -- ---- of a packet that has just passed
 
@@ -101,16 +98,7 @@ whole_packet (a ∷ b ∷ c ∷ d ∷ t) u y octets part is =
     let most : (256 * c + d) ≤ length (t ++ y ∷ []) + 4 = now.1 in
     let high : c < 256 = octets 2 in
     let low : d < 256 = octets 3 in
-    subst (λ (x : List ℕ). IsPacket x (a ∷ b ∷ c ∷ d ∷ (t ++ y ∷ []))) unit (record {
-      reserved = b;
-      high = c;
-      low = d;
-      spelled = (λ i. v.0 i ∷ b ∷ c ∷ d ∷ (t ++ y ∷ []));
-      octets = octets;
-      counted = omega arith;
-      at_least = omega arith;
-      at_most = omega arith;
-    })
+    grind arith
 
 -- ---- packets that passed, and those that are used of them
 

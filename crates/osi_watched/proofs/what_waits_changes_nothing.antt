@@ -1,9 +1,8 @@
 -- What a carrier does doesn't depend on the events that it has still to report, and the octets that it has still to send.
 -- For what a turn of an end does to its carrier.
-use Rattle.std.proofs.Common.{arith}
-use Rattle.osi_watched.proofs.Vocabulary.{[], ap, List, sym, ℕ, ◌++◌, ◌∙◌, ◌∷◌, ◌≡◌, append-nil, append_cancel_left}
-use Rattle.osi_watched.proofs.Vocabulary.{units_only, written_spells, Value, Fits, written, apart_all, Happening, react}
-use Rattle.osi_watched.proofs.Vocabulary.{put_back, user, user_does, UserCall, Carrier as State}
+use Rattle.osi_watched.proofs.Vocabulary.{[], ap, List, sym, ℕ, ◌++◌, ◌∙◌, ◌∷◌, ◌≡◌, append-nil, append_cancel_left, units_only}
+use Rattle.osi_watched.proofs.Vocabulary.{written_spells, Value, Fits, written, apart_all, Happening, react, put_back, user, user_does}
+use Rattle.osi_watched.proofs.Vocabulary.{UserCall, Carrier as State, arith}
 use Rattle.osi_carrier.specs.Packets.{after_packet}
 use Rattle.osi_carrier.specs.Runs.{packet}
 

@@ -17,8 +17,6 @@ use Rattle.osi_between.proofs.unit.units_are_read_as_messages.{messages_front}
 use Rattle.osi_between.proofs.way.octets_are_written_and_handed_over.{way_over, bound_over, way_takes, way_unit, way_breaks}
 use Rattle.osi_between.proofs.joined.class_2_provides_what_is_asked.{Provides, closes_two}
 
--- ---- reach
-
 -- ---- messages
 
 abbrev sum_of : Option Connection → ℕ → List Value → Bool → Option Connection → List Message

@@ -135,15 +135,6 @@ sent_plain : (terms : Terms) (end : Bool) (n : ℕ) (old new : Both) (b c : Betw
 sent_plain terms end n old new b c taken put k w none =
     grind (arith, like_equal, tsdus_join, put_none, append-nil, stays_over_puts, stays_over)
 
-sent_handed_by : (terms : Terms) (end : Bool) (n : ℕ) (old new : Both) (b c : Between) (taken : List Value) (put : List Message)
-    (h : List (List ℕ)) (broken : Bool) → is_some old.reach ≡ broken → Carries terms end n old new b c taken put → Acts end old new →
-    tsdus_in put ≡ h → is_over (progress_of (place_at n (last_of end b))) ≡ false →
-    is_over (progress_of (place_at n (last_of end c))) ≡ false →
-    (is_over (progress_of (place_at n (last_of (not end) b))) ≡ false →
-    tsdus_under end n new c ≡ tsdus_under end n old b ++ (if broken then [] else h)) → Fact end (not end) n old new b c [] h
-sent_handed_by terms end n old new b c taken put h true reach k w is use_was still now = grind (arith, first_none, first_more, append-nil)
-sent_handed_by terms end n old new b c taken put h false reach k w is use_was still now = grind (arith, first_none, append-nil)
-
 -- of another connection
 not_same : (q n : ℕ) → (q == n) ≡ false → q ≢ n
 not_same q n e same = let yes = eq-eqb q n same in let no : true ≡ false = sym yes ∙ e in cc
@@ -174,7 +165,7 @@ fact_handed_by : (terms : Terms) (end : Bool) (q n : ℕ) (old new : Both) (b c 
     Fact end (not end) n old new b c [] (if t then octets ∷ [] else [])
 fact_handed_by terms end q n old new b c taken octets true e k w o =
     let same = eqb-true q n e in
-    grind (arith, sent_handed_by, tsdus_join, like_equal, append-nil)
+    grind (arith, tsdus_join, like_equal, append-nil)
 fact_handed_by terms end q n old new b c taken octets false e k w o =
     sent_other terms end q n old new b c taken (message octets ∷ []) (λ same. not_same q n e (sym same)) k w
 

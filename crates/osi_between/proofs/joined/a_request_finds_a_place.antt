@@ -9,7 +9,6 @@ use Rattle.osi_between.proofs.Vocabulary.{beyond, push_here, without_here, push_
 use Rattle.osi_between.proofs.Vocabulary.{without_up, reference_of, units_of, asked_by, requests, behind, live_behind, live_after, is_last}
 use Rattle.osi_between.proofs.Vocabulary.{AreJoined, found}
 use Rattle.osi_between.proofs.meeting.how_a_connection_changes_at_each_end.{given_place}
-use Rattle.osi_between.proofs.unit.the_units_of_one_connection.{units_of_by}
 
 -- ---- references as a table
 
@@ -121,7 +120,7 @@ record After (refs : List ℕ) (us : List Value) : Type 0 where
 each_by : (g : ℕ) (refs : List ℕ) (u : Value) (us : List Value) (q : ℕ) (b : Bool) → (reference_of u == q) ≡ b → Behind g refs u →
     value_at q (marked (live_after (live_behind refs u) us)) ≡ stays_after (value_at q (marked (live_behind refs u))) (units_of q us) →
     value_at q (marked (live_after (live_behind refs u) us)) ≡ stays_after (value_at q (marked refs)) (units_of q (u ∷ us))
-each_by g refs u us q b e h more = grind (arith, eqb-true, units_of_by, eq-eqb)
+each_by g refs u us q b e h more = grind (arith, eqb-true, eq-eqb)
 
 after_all : (us : List Value) (g k : ℕ) (refs : List ℕ) → RiseFrom 0 (marked refs) → AreUpTo g (marked refs) → requests us ≡ behind g k →
     After refs us

@@ -5,8 +5,6 @@ use Rattle.osi_between.proofs.Vocabulary.{append-nil, append_cancel_left, Value,
 use Rattle.osi_between.proofs.Vocabulary.{Acts, CourseMoves, StandsBetween, ActsFor, Message}
 use Rattle.osi_between.proofs.unit.the_units_of_one_connection.{units_join, units_same, units_other}
 
--- ---- what holds stays true if another connection acts
-
 -- ---- the connection that acts, and the others
 
 pub out_after : (end : Bool) (n asked : ℕ) (this other next : State) (going coming taken : List Value) (put : List Message)

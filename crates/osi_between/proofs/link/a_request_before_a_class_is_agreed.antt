@@ -24,8 +24,6 @@ source_is n caller c a = ap (λ (x : Connect). x.source) a.is ∙ (grind arith)
 pub size_is : (n : ℕ) (caller : Local) (c : Connect) → IsProposed n caller c → c.parameters.size ≡ Some (size_code caller.size)
 size_is n caller c a = ap (λ (x : Connect). x.parameters.size) a.is ∙ (grind arith)
 
--- ---- class 2
-
 -- ---- class 0
 
 -- what the two support if they agree on class 0

@@ -8,8 +8,8 @@ use Rattle.osi_between.proofs.Vocabulary.{all_given, Standing, Given, unit_of, w
 use Rattle.osi_between.proofs.Vocabulary.{handed_out, IsOrderly, value_at, linked, State, AreFor, is_last, Meeting, talking, left_here}
 use Rattle.osi_between.proofs.Vocabulary.{left_there, left_both, waiting_here, waiting_there, parted, mirror, here, addressed, leaving}
 use Rattle.osi_between.proofs.Vocabulary.{farewell, out, back, Stands, answers_of, Moves, AreOpen, after_take, after_send, Message, message}
-use Rattle.osi_between.proofs.Vocabulary.{bye, over}
-use Rattle.osi_between.proofs.unit.what_a_taken_unit_means.{brings_given, brings_sent, brings_ignored}
+use Rattle.osi_between.proofs.Vocabulary.{bye, over, drained_leaves}
+use Rattle.osi_between.proofs.unit.what_a_taken_unit_means.{brings_given, brings_ignored, brings_none}
 use Rattle.osi_between.proofs.meeting.what_is_in_flight_for_a_connection.{talking_takes, talking_sends, talking_closes, behind_takes}
 use Rattle.osi_between.proofs.meeting.what_is_in_flight_for_a_connection.{behind_sends, leaving_takes, behind_closes, ignores, kinds_first}
 use Rattle.osi_between.proofs.meeting.what_is_in_flight_for_a_connection.{both_takes, waiting_over, waiting_crossed}
@@ -214,7 +214,7 @@ send_here n s (talking p) link octets few quiet orderly at is h short are =
       goes = refl;
       stands = passes.stay_open;
       carries = talking_sends n p octets h passes.rightward passes.leftward passes.stay_open;
-      brings = brings_sent n p.left octets;
+      brings = grind (arith, brings_none, drained_leaves);
       keeps = λ e. refl;
     }
 send_here n s (left_there p hs reason) link octets few quiet orderly at is h short are =
@@ -233,7 +233,7 @@ send_here n s (left_there p hs reason) link octets few quiet orderly at is h sho
       goes = refl;
       stands = (passes.stay_open, class_join hs given h.1 (class_end p.rightward given passes.stay_open.agree.agree.class));
       carries = behind_sends n p hs reason octets;
-      brings = brings_sent n p.left octets;
+      brings = grind (arith, brings_none, drained_leaves);
       keeps = λ e. refl;
     }
 send_here n s m link octets few quiet orderly at is h short are = cc

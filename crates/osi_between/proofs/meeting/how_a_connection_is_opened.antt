@@ -10,8 +10,8 @@ use Rattle.osi_between.proofs.Vocabulary.{Connection, asked, linked, closing, St
 use Rattle.osi_between.proofs.Vocabulary.{put_other, react_quiet, unasked, asking, accepting, withdrawing, met, answer_of, IsTsap}
 use Rattle.osi_between.proofs.Vocabulary.{IsAskedBy, MayTakeTwo, IsAccepted, Acts, CourseMoves, talking, left_there, addressed, leaving}
 use Rattle.osi_between.proofs.Vocabulary.{Message, ask, agree, message, bye, messages_after, uncut_units, kind_of, after_send, not_yet}
-use Rattle.osi_between.proofs.Vocabulary.{awaiting, put_named, length, length-append}
-use Rattle.osi_between.proofs.unit.what_a_taken_unit_means.{brings_none, brings_sent}
+use Rattle.osi_between.proofs.Vocabulary.{awaiting, put_named, length, length-append, drained_leaves}
+use Rattle.osi_between.proofs.unit.what_a_taken_unit_means.{brings_none}
 use Rattle.osi_between.proofs.meeting.what_a_unit_or_call_changes.{send_changes, close_changes}
 use Rattle.osi_between.proofs.meeting.how_a_connection_changes_at_each_end.{given_place, acts_changed, none_more}
 use Rattle.osi_between.proofs.meeting.a_connection_after_each_unit_and_call.{open_mirror, class_end, addressed_join, addressed_for}
@@ -166,7 +166,7 @@ accepted_sends n c p s r octets h quiet orderly le at short are =
         before = sym (append-nil (agree ∷ stays));
         after = ap (λ (l : List Message). agree ∷ l) more;
       };
-      brings = brings_sent n p.right octets;
+      brings = grind (arith, brings_none, drained_leaves);
       keeps = λ e. refl;
       gives = refl;
       settles = changes.class;

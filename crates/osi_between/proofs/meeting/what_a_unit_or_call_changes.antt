@@ -8,8 +8,6 @@ use Rattle.osi_between.proofs.Vocabulary.{in_class, in_two, to_reference, to_con
 use Rattle.osi_between.proofs.Vocabulary.{value_at, Connection, linked, closing, State, put_here, without_here, put_other, without_other}
 use Rattle.osi_between.proofs.Vocabulary.{react_quiet, Changes, addressed, leaving}
 
--- ---- what changed
-
 -- ---- a unit goes to the connection that it names
 
 react_two : (unit : Value) (s : State) → s.ended ≡ None → s.class ≡ Some Two → react unit s ≡ in_two s.is_caller unit s

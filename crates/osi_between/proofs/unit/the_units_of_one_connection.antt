@@ -1,16 +1,12 @@
 -- The units for one connection among those of all, and the references that they ask for.
 -- For octets in flight, joined carriers, class 0 and the invariant.
-use Rattle.osi_between.proofs.Vocabulary.{◌≡◌, ◌≢◌, ℕ, zero, suc, ◌+◌, ◌==◌, Bool, true, List, [], ◌∷◌, ◌++◌, refl, sym, ap, ◌∙◌, arith}
-use Rattle.osi_between.proofs.Vocabulary.{if◌then◌else◌, eq-eqb, ne_eqb, Value, reference_of, units_of, AreFor, asked_by, requests, behind}
-use Rattle.osi_between.proofs.Vocabulary.{live_behind, live_after, HasPlaces}
-
-pub units_of_by : (n : ℕ) (u : Value) (us : List Value) (b : Bool) → (reference_of u == n) ≡ b →
-    units_of n (u ∷ us) ≡ (if b then u ∷ units_of n us else units_of n us)
-units_of_by n u us b e = ap (λ (c : Bool). if◌then◌else◌ {A = List Value} c (u ∷ units_of n us) (units_of n us)) e
+use Rattle.osi_between.proofs.Vocabulary.{◌≡◌, ◌≢◌, ℕ, zero, suc, ◌+◌, ◌==◌, Bool, List, [], ◌∷◌, ◌++◌, refl, sym, ap, ◌∙◌, arith, ne_eqb}
+use Rattle.osi_between.proofs.Vocabulary.{Value, reference_of, units_of, AreFor, asked_by, requests, behind, live_behind, live_after}
+use Rattle.osi_between.proofs.Vocabulary.{HasPlaces}
 
 units_join_by : (n : ℕ) (u : Value) (us vs : List Value) (b : Bool) → (reference_of u == n) ≡ b →
     units_of n (us ++ vs) ≡ units_of n us ++ units_of n vs → units_of n (u ∷ (us ++ vs)) ≡ units_of n (u ∷ us) ++ units_of n vs
-units_join_by n u us vs b e more = grind (arith, units_of_by)
+units_join_by n u us vs b e more = grind arith
 
 pub units_join : (n : ℕ) (us vs : List Value) → units_of n (us ++ vs) ≡ units_of n us ++ units_of n vs
 units_join n [] vs = refl
@@ -18,15 +14,15 @@ units_join n (u ∷ us) vs = units_join_by n u us vs (reference_of u == n) refl 
 
 pub units_same : (n : ℕ) (us : List Value) → AreFor n us → units_of n us ≡ us
 units_same n [] h = refl
-units_same n (u ∷ us) h = units_of_by n u us true (eq-eqb (reference_of u) n h.0) ∙ ap (λ (l : List Value). u ∷ l) (units_same n us h.1)
+units_same n (u ∷ us) h = (grind arith) ∙ ap (λ (l : List Value). u ∷ l) (units_same n us h.1)
 
 pub units_other : (q n : ℕ) (us : List Value) → q ≢ n → AreFor n us → units_of q us ≡ []
 units_other q n [] other h = refl
-units_other q n (u ∷ us) other h = grind (arith, units_of_by, ne_eqb, units_other q n us other h.1)
+units_other q n (u ∷ us) other h = grind (arith, ne_eqb, units_other q n us other h.1)
 
 -- the first unit of a connection
 pub first_of_all : (u : Value) (us : List Value) → units_of (reference_of u) (u ∷ us) ≡ u ∷ units_of (reference_of u) us
-first_of_all u us = units_of_by (reference_of u) u us true (eq-eqb (reference_of u) (reference_of u) refl)
+first_of_all u us = grind arith
 
 -- ---- references that are asked for
 

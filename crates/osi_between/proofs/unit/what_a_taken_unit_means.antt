@@ -1,8 +1,8 @@
 -- What the units mean that an end takes.
 -- For connections of class 2, class 0 and the invariant.
 use Rattle.osi_between.proofs.Vocabulary.{◌≡◌, ℕ, Bool, true, List, [], ◌∷◌, map, take, Option, Some, Ok, arith, AllByRecursion, map-append}
-use Rattle.osi_between.proofs.Vocabulary.{Value, Standing, Given, taken, unit_of, with_tsdu, drained_leaves, pumped, handed_out, Connection}
-use Rattle.osi_between.proofs.Vocabulary.{linked, closing, Message, message, messages_after, begun_at, AreLike, Progress, in_use, shutting}
+use Rattle.osi_between.proofs.Vocabulary.{Value, Standing, Given, taken, unit_of, drained_leaves, pumped, handed_out, Connection, linked}
+use Rattle.osi_between.proofs.Vocabulary.{closing, Message, message, messages_after, begun_at, AreLike, Progress, in_use, shutting}
 use Rattle.osi_between.proofs.Vocabulary.{may_arrive, behind_arrivals, behind_puts, Brings}
 use Rattle.osi_between.proofs.unit.units_are_read_as_messages.{begun_after, kinds_join}
 
@@ -14,11 +14,6 @@ same_like o some others e = grind (arith, map)
 pub brings_none : (accepts : Bool) (from to : Progress) (old new : Option Connection) (put : List Message) → begun_at new ≡ begun_at old →
     to ≡ behind_puts from put → Brings accepts from to old new [] [] put
 brings_none accepts from to old new put same is = grind (arith, same_like)
-
--- a TSDU is handed in
-pub brings_sent : (n : ℕ) (link : Standing) (octets : List ℕ) →
-    Brings true in_use in_use (Some (linked n link)) (Some (linked n (pumped (with_tsdu link octets)))) [] [] (message octets ∷ [])
-brings_sent n link octets = grind (arith, brings_none, drained_leaves)
 
 -- ---- a unit of a link is taken
 
@@ -43,5 +38,3 @@ ignored_stay n g = grind arith
 pub brings_ignored : (n : ℕ) (g : Given) →
     Brings true shutting shutting (Some (closing n)) (Some (closing n)) (unit_of n g ∷ []) (messages_after [] (unit_of n g ∷ [])) []
 brings_ignored n g = search (arith, kinds_join, map-append, ignored_may, ignored_stay)
-
--- ---- a DR or a DC is taken

@@ -1,19 +1,18 @@
 -- What the carriers of a caller and a called end do if the called end refuses each CR.
 -- For the invariant.
 use Rattle.osi_between.specs.Refusing.{unasked, asking, from_end}
-use Rattle.osi_between.proofs.Vocabulary.{◌≡◌, ℕ, ◌+◌, ◌<◌, Bool, true, false, List, [], ◌∷◌, ◌++◌, length, Option, Some, None, refl, sym}
-use Rattle.osi_between.proofs.Vocabulary.{ap, subst, ◌∙◌, arith, flat_map, eq-eqb, append-nil, Value, Connect, request, disconnect}
-use Rattle.osi_between.proofs.Vocabulary.{Standing, Class, may_connect, asks, Place, was_given, place_at, Happening, proposal, react}
-use Rattle.osi_between.proofs.Vocabulary.{to_asked, denies, Rows, value_at, Connection, asked, linked, State, packets, without_other}
-use Rattle.osi_between.proofs.Vocabulary.{free_of, react_quiet, has_room, AreFor, told_of, IsTsap, ask, deny, Refusal, denied, rows_in}
-use Rattle.osi_between.proofs.Vocabulary.{denying, AreRefusing, refusing, IsProposed}
-use Rattle.osi_between.proofs.between.an_acting_end_keeps_the_invariant.{JoinedAt, Does}
+use Rattle.osi_between.proofs.Vocabulary.{◌≡◌, ℕ, ◌+◌, ◌<◌, true, false, List, [], ◌∷◌, ◌++◌, length, Option, Some, None, refl, sym, ap}
+use Rattle.osi_between.proofs.Vocabulary.{subst, ◌∙◌, arith, flat_map, eq-eqb, append-nil, Value, Connect, request, disconnect, Standing}
+use Rattle.osi_between.proofs.Vocabulary.{Class, may_connect, asks, Place, was_given, place_at, proposal, react, to_asked, denies, Rows}
+use Rattle.osi_between.proofs.Vocabulary.{value_at, Connection, asked, linked, State, packets, without_other, free_of, react_quiet}
+use Rattle.osi_between.proofs.Vocabulary.{has_room, AreFor, told_of, IsTsap, ask, deny, Refusal, denied, rows_in, denying, AreRefusing}
+use Rattle.osi_between.proofs.Vocabulary.{refusing, IsProposed}
+use Rattle.osi_between.proofs.between.an_acting_end_keeps_the_invariant.{Does}
 use Rattle.osi_between.proofs.unit.the_units_of_one_connection.{units_same, none_left}
 use Rattle.osi_between.proofs.unit.what_a_taken_unit_means.{same_like}
 use Rattle.osi_between.proofs.meeting.how_a_connection_is_opened.{push_places}
 use Rattle.osi_between.proofs.meeting.how_a_connection_changes_at_each_end.{given_place, none_more}
 use Rattle.osi_between.proofs.joined.requests_beginnings_and_nothing_in_flight.{next_never}
-use Rattle.osi_between.proofs.joined.feeding_keeps_carriers_joined.{with_queues}
 use Rattle.osi_between.proofs.link.a_request_before_a_class_is_agreed.{proposal_sendable, source_is}
 use Rattle.osi_between.proofs.joined.class_2_provides_what_is_asked.{Provides}
 
@@ -180,14 +179,10 @@ pub none_open : (s : State) (g : Refusal) (n peer : ℕ) (link : Standing) → s
     value_at n s.live ≡ Some (linked peer link) → ⊥
 none_open s g n peer link live at = grind arith
 
-queued_none : (reason : ℕ) (end : Bool) (this other : State) (o : List ℕ) (e : List Happening) (going coming : List Value) →
-    JoinedAt end (refusing reason) this other going coming → JoinedAt end (refusing reason) (with_queues o e this) other going coming
-queued_none reason end this other o e going coming j = grind arith
-
 pub provides_none : (reason : ℕ) → Provides (refusing reason)
 provides_none reason = record {
   takes_one = grind (arith, last_place, is_refused, none_left, source_is, next_never, refuses);
   connects = λ this other going coming calling to j may fits fits_to. search (arith, asks_by);
   hands_in = grind (arith, none_open);
-  queued = queued_none reason;
+  queued = grind arith;
 }

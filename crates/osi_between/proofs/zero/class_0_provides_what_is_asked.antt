@@ -5,11 +5,11 @@ use Rattle.osi_between.proofs.Vocabulary.{◌≡◌, ℕ, Bool, true, false, Lis
 use Rattle.osi_between.proofs.Vocabulary.{arith, eqb-true, append-nil, append_cancel_left, map-append, IsOctets, Value, Connect, request}
 use Rattle.osi_between.proofs.Vocabulary.{confirm, LinkPair, swapped, under_way, IsShortTsdu, all_given, Standing, Given, unit_of}
 use Rattle.osi_between.proofs.Vocabulary.{with_tsdu, Local, sent, sent_on, Place, never, was_given, place_at, connection_in, Happening}
-use Rattle.osi_between.proofs.Vocabulary.{pumped, react, pumps, value_at, Connection, asked, linked, State, ends, reference_of, answers_in}
+use Rattle.osi_between.proofs.Vocabulary.{pumped, react, pumps, value_at, Connection, asked, linked, State, reference_of, answers_in}
 use Rattle.osi_between.proofs.Vocabulary.{answers_at, under_way_for, addressed, Message, agree, message, messages_after, uncut_units}
-use Rattle.osi_between.proofs.Vocabulary.{AreOpen, after_send, by_zero, terms_of, ZeroCourse, HasOne, AreJoinedZero}
+use Rattle.osi_between.proofs.Vocabulary.{AreOpen, after_send, by_zero, terms_of, ZeroCourse, HasOne, AreJoinedZero, drained_leaves}
 use Rattle.osi_between.proofs.between.an_acting_end_keeps_the_invariant.{JoinedAt, Does}
-use Rattle.osi_between.proofs.unit.what_a_taken_unit_means.{same_like, brings_sent}
+use Rattle.osi_between.proofs.unit.what_a_taken_unit_means.{same_like, brings_none}
 use Rattle.osi_between.proofs.meeting.what_a_unit_or_call_changes.{open_is_linked}
 use Rattle.osi_between.proofs.meeting.how_a_connection_changes_at_each_end.{none_more}
 use Rattle.osi_between.proofs.joined.feeding_keeps_carriers_joined.{with_queues}
@@ -179,7 +179,7 @@ accept_sends s r going coming c p octets j one other none is h short are =
         written_for = zero_for given;
         before = same_like (connection_in (place_at 1 s)) (under_way_for 1 r s coming) (stays ++ []) (was ∙ sym (append-nil stays));
         after = grind (arith, same_like, map-append);
-        brings = search (arith, brings_at, brings_sent);
+        brings = search (arith, brings_at, brings_none, drained_leaves);
         others_stay = λ m apart. put_places r next (linked 1 link) m refl refl apart;
         given = none_more r.given;
         class = refl;
@@ -240,5 +240,3 @@ queued_zero end this other o e going coming j = grind arith
 
 pub provides_zero : Provides by_zero
 provides_zero = search (arith, takes_zero, asks_zero, sends_zero, queued_zero)
-
--- ---- a close ends the carrier

@@ -9,10 +9,10 @@ use Rattle.osi_between.proofs.Vocabulary.{was_given, place_at, connection_in, pr
 use Rattle.osi_between.proofs.Vocabulary.{pumps, handed_out, accepts, opens, put, Connection, asked, linked, State, packets, put_other}
 use Rattle.osi_between.proofs.Vocabulary.{react_quiet, has_room, AreFor, IsTsap, BringsTo, under_way_for, addressed, Message, ask, agree}
 use Rattle.osi_between.proofs.Vocabulary.{message, messages_to, AreOpen, after_take, after_send, by_zero, terms_of, IsProposed, HasOne}
-use Rattle.osi_between.proofs.Vocabulary.{AreJoinedZero}
+use Rattle.osi_between.proofs.Vocabulary.{AreJoinedZero, drained_leaves}
 use Rattle.osi_between.proofs.between.an_acting_end_keeps_the_invariant.{Does, Steps}
 use Rattle.osi_between.proofs.unit.the_units_of_one_connection.{units_same}
-use Rattle.osi_between.proofs.unit.what_a_taken_unit_means.{same_like, brings_none, brings_sent, brings_given}
+use Rattle.osi_between.proofs.unit.what_a_taken_unit_means.{same_like, brings_none, brings_given}
 use Rattle.osi_between.proofs.meeting.what_a_unit_or_call_changes.{open_is_linked}
 use Rattle.osi_between.proofs.meeting.how_a_connection_is_opened.{push_places}
 use Rattle.osi_between.proofs.meeting.how_a_connection_changes_at_each_end.{none_more, idle_messages}
@@ -326,7 +326,7 @@ talk_sends this other going coming p octets h short are =
         written_for = zero_for given;
         before = grind (arith, same_like, append-nil);
         after = grind (arith, same_like, map-append);
-        brings = search (arith, brings_at, brings_sent);
+        brings = search (arith, brings_at, brings_none, drained_leaves);
         others_stay = λ q apart. put_places this next (linked 1 link) q refl refl apart;
         given = none_more this.given;
         class = refl;

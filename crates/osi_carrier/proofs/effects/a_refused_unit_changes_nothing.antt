@@ -1,9 +1,8 @@
 -- When a link refuses a unit, nothing has changed yet; when it takes one, its row, the octets to send and the events have.
-use Rattle.std.proofs.Common.{arith, ◌≡◌, ℕ, List, [], ◌∷◌, ◌++◌, length, map, take, Some, Result, Err, IsOk, refl, sym, ap, ◌∙◌}
-use Rattle.osi_carrier.specs.declared.events.Event.{Event}
 use Rattle.osi_carrier.proofs.Vocabulary.{append-nil, map-append, disconnect, Standing, LinkFault, Two, Happening, happening, faulted}
 use Rattle.osi_carrier.proofs.Vocabulary.{breaks, taking, Rows, value_at, put, peer_in, link_in, Connection, linked, closing, State}
-use Rattle.osi_carrier.proofs.Vocabulary.{packets, link_after, units_after, whole_after, tsdu}
+use Rattle.osi_carrier.proofs.Vocabulary.{packets, link_after, units_after, whole_after, tsdu, arith, ◌≡◌, ℕ, List, [], ◌∷◌, ◌++◌, length}
+use Rattle.osi_carrier.proofs.Vocabulary.{map, take, Some, Result, Err, IsOk, refl, sym, ap, ◌∙◌, Event}
 use Rattle.osi_carrier.proofs.references.what_is_open.{open_is}
 use Rattle.osi_carrier.proofs.references.the_row_at_a_place.{put_same}
 

@@ -1,9 +1,8 @@
 -- What a unit does to its link, from the answers of the link: it was refused and nothing has changed, or it was taken, a
 -- complete TSDU was handed out, and what the link then gave was written. For the call that hands a unit to its link.
-use Rattle.std.proofs.Common.{arith, ◌≡◌, ℕ, Bool, List, Option, Result, Ok, Err, IsOk, OnErr, option_to_list, sym, ap, ◌∙◌}
-use Rattle.osi_class.specs.Taking.{TakesUnit}
+use Rattle.osi_carrier.proofs.Vocabulary.{Standing, Hands, LinkFault, pumped, written_by, link_after, units_after, whole_after, arith, ◌≡◌}
+use Rattle.osi_carrier.proofs.Vocabulary.{ℕ, Bool, List, Option, Result, Ok, Err, IsOk, OnErr, option_to_list, sym, ap, ◌∙◌, TakesUnit}
 use Rattle.osi_class.specs.declared.faults.LinkFault.TheVariants.{OutOfMemory}
-use Rattle.osi_carrier.proofs.Vocabulary.{Standing, Hands, LinkFault, pumped, written_by, link_after, units_after, whole_after}
 
 pub refused_by : {A : Type 0} (r : Result A LinkFault) (f : LinkFault) (needs : Bool) (t : Result Standing LinkFault) (old new : Standing) →
     r ≡ Err f → (f ≡ OutOfMemory → ⊥) →

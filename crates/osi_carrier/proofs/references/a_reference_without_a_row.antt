@@ -1,6 +1,5 @@
 -- The rows of a reference that has no row.
-use Rattle.std.proofs.Common.{◌≡◌, ℕ, Bool, true, false, ◌==◌, [], ◌∷◌, Some, None, refl, ap}
-use Rattle.osi_carrier.specs.Rows.{Rows, value_at, place_of, without}
+use Rattle.osi_carrier.proofs.Vocabulary.{◌≡◌, ℕ, Bool, true, false, ◌==◌, [], ◌∷◌, Some, None, refl, ap, Rows, value_at, place_of, without}
 use Rattle.osi_carrier.proofs.references.the_row_at_a_place.{nowhere}
 
 absent_by : {X : Type 0} (r q : ℕ) (y : X) (rows : Rows X) (b : Bool) → (q == r) ≡ b → (value_at r rows ≡ None → without r rows ≡ rows) →

@@ -1,15 +1,11 @@
 -- Rows that rise by a key, such as a reference: each key has one place, and what preserves the order.
-use Rattle.std.proofs.Common.{◌≡◌, ℕ, Bool, zero, suc, ◌<◌, ◌≤◌, ◌==◌, true, List, [], ◌∷◌, ◌++◌, length, get_or, set, Some, Result, Ok}
-use Rattle.std.proofs.Common.{Err, refl, sym, arith, None}
-use Rattle.std.specs.List.Sorted.{IsSearchInRange, IsBinarySearchResult, IsNonDecreasingBy}
-use Rattle.std.specs.Ordering.{nat_cmp, ordering_index}
-use Rattle.std.specs.Result.{result_ok}
-use Rattle.std.proofs.lemmas.Cmp.{ranked}
 use Rattle.osi_carrier.proofs.Vocabulary.{remove, position_or_len, eqb-true, eq-eqb, cases_lt, nat_tests, IsNonDecreasingBy-from_default}
-use Rattle.osi_carrier.proofs.Vocabulary.{position_or_len_is, common_steps, length-set, RiseFrom, Rows, place_of}
+use Rattle.osi_carrier.proofs.Vocabulary.{position_or_len_is, common_steps, length-set, RiseFrom, Rows, place_of, ◌≡◌, ℕ, Bool, zero, suc}
+use Rattle.osi_carrier.proofs.Vocabulary.{◌<◌, ◌≤◌, ◌==◌, true, List, [], ◌∷◌, ◌++◌, length, get_or, set, Some, Result, Ok, Err, refl, sym}
+use Rattle.osi_carrier.proofs.Vocabulary.{arith, None, IsSearchInRange, IsBinarySearchResult, IsNonDecreasingBy, nat_cmp, ordering_index}
+use Rattle.osi_carrier.proofs.Vocabulary.{result_ok, ranked, RiseBy, place_by}
 use Rattle.osi_carrier.proofs.references.rows_after_a_change.{without_rise, without_length}
 use Rattle.osi_carrier.proofs.references.the_row_at_a_place.{placed}
-use Rattle.osi_carrier.specs.Rising.{RiseBy, place_by}
 
 -- ---- the place of a key
 

@@ -1,13 +1,9 @@
 -- The row of an open connection has its link, and a write to the link is a write to the row. For the calls that hand
 -- TSDUs in.
-use Rattle.std.proofs.Common.{◌≡◌, ℕ, Bool, true, false, List, length, nat_lt, get_or, Option, Some, None, Result, OnOk, is_some, refl, sym}
-use Rattle.std.proofs.Common.{arith, ◌∙◌}
-use Rattle.osi_class.specs.declared.either.AnyLink.{AnyLink}
-use Rattle.osi_carrier.specs.Calls.{length_error}
-use Rattle.osi_carrier.specs.declared.faults.SendError.TheVariants.{TooLong}
-use Rattle.osi_carrier.specs.declared.rows.Phase.TheVariants.{Linked}
 use Rattle.osi_carrier.proofs.Vocabulary.{any_standing, Standing, connection, Rows, value_at, place_of, peer_in, link_in, linked}
-use Rattle.osi_carrier.proofs.Vocabulary.{Connection, Phase, RiseFrom, link_of}
+use Rattle.osi_carrier.proofs.Vocabulary.{Connection, Phase, RiseFrom, link_of, ◌≡◌, ℕ, Bool, true, false, List, length, nat_lt, get_or}
+use Rattle.osi_carrier.proofs.Vocabulary.{Option, Some, None, Result, OnOk, is_some, refl, sym, arith, ◌∙◌, AnyLink, length_error, TooLong}
+use Rattle.osi_carrier.proofs.Vocabulary.{Linked}
 use Rattle.osi_carrier.proofs.references.rows_in_order.{AreKept}
 use Rattle.osi_carrier.proofs.references.the_row_at_a_place.{here_is}
 

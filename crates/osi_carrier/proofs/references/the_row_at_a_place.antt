@@ -1,9 +1,7 @@
 -- The row at the place of a reference, and the effect of a write there; no place, no value.
-use Rattle.std.proofs.Common.{◌≡◌, ℕ, Bool, zero, suc, ◌<◌, ◌≤◌, ◌==◌, true, false, [], ◌∷◌, length, get_or, set, Option, Some, None}
-use Rattle.std.proofs.Common.{is_some, Result, OnOk, refl, sym, ap, arith}
-use Rattle.std.proofs.lemmas.List.Quantifiers.{position-Some}
 use Rattle.osi_carrier.proofs.Vocabulary.{common_steps, position_or_len, remove, eqb-true, Connection, asked, Rows, value_at, place_of, put}
-use Rattle.osi_carrier.proofs.Vocabulary.{without}
+use Rattle.osi_carrier.proofs.Vocabulary.{without, ◌≡◌, ℕ, Bool, zero, suc, ◌<◌, ◌≤◌, ◌==◌, true, false, [], ◌∷◌, length, get_or, set}
+use Rattle.osi_carrier.proofs.Vocabulary.{Option, Some, None, is_some, Result, OnOk, refl, sym, ap, arith, position-Some}
 
 -- if the place `i` of a reference is, `d` being any row
 pub record IsPlace {X : Type 0} (r : ℕ) (rows : Rows X) (i : ℕ) (d : ℕ × X) : Type 0 where

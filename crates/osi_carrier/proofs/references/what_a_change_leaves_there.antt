@@ -1,7 +1,6 @@
 -- What a change at one reference leaves there.
-use Rattle.std.proofs.Common.{◌≡◌, ℕ, ◌<◌, ◌≤◌, Bool, ◌==◌, true, false, [], ◌∷◌, ◌++◌, Option, Some, None, refl, sym, ap, ◌∙◌, arith}
-use Rattle.std.proofs.Common.{if◌then◌else◌}
-use Rattle.osi_carrier.proofs.Vocabulary.{eqb-true, eq-eqb, RiseFrom, AreUpTo, Rows, value_at, put, without}
+use Rattle.osi_carrier.proofs.Vocabulary.{eqb-true, eq-eqb, RiseFrom, AreUpTo, Rows, value_at, put, without, ◌≡◌, ℕ, ◌<◌, ◌≤◌, Bool, ◌==◌}
+use Rattle.osi_carrier.proofs.Vocabulary.{true, false, [], ◌∷◌, ◌++◌, Option, Some, None, refl, sym, ap, ◌∙◌, arith, if◌then◌else◌}
 
 -- what is found after a row, by whether the row has the reference
 pub found : {X : Type 0} (m q : ℕ) (y : X) (rows : Rows X) (b : Bool) → (q == m) ≡ b →

@@ -1,7 +1,6 @@
 -- What is open, and what is not.
-use Rattle.std.proofs.Common.{arith, ◌≡◌, ℕ, List, Option, Some, None, ap}
 use Rattle.osi_carrier.proofs.Vocabulary.{value_at, open_link, link_of, WaitsAlone, WaitsOn, WaitTogether, AllWaitOn, peer_in, link_in}
-use Rattle.osi_carrier.proofs.Vocabulary.{State, Connection, linked}
+use Rattle.osi_carrier.proofs.Vocabulary.{State, Connection, linked, arith, ◌≡◌, ℕ, List, Option, Some, None, ap}
 
 pub open_is : (o : Option Connection) (peer : ℕ) → peer_in o ≡ Some peer → o ≡ Some (linked peer (link_in o))
 open_is o peer e = grind arith

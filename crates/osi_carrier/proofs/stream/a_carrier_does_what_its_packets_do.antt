@@ -1,12 +1,11 @@
 -- Over every run of calls, a carrier has done exactly what the packets of the octets used and its user's calls do.
-use Rattle.std.proofs.Common.{◌≡◌, ℕ, ◌+◌, ◌-◌, ◌<◌, ◌^◌, Bool, true, false, List, [], ◌∷◌, ◌++◌, length, take, map, Option, Some, None}
-use Rattle.std.proofs.Common.{is_some, refl, sym, ap, ◌∙◌, arith, append_assoc, length-append}
-use Rattle.std.proofs.lemmas.List.Concat.{flat_map-append}
-pub use Rattle.osi_tpkt.proofs.the_packets_are_those_of_the_stream.{packets_joined}
 use Rattle.osi_carrier.proofs.Vocabulary.{append-nil, take_all, flat_map, IsPartial, ArePackets, offset_of, Fed, Tells, Happening, Carrying}
 use Rattle.osi_carrier.proofs.Vocabulary.{Feeds, TakesPackets, after_packet, waits, Act, Call, does, all_done, packet_in, call_in, Calls}
 use Rattle.osi_carrier.proofs.Vocabulary.{CallsAlong, used_in, told_in, carried_in, called_in, put_back, Reads, AreAlike, packet, user}
-use Rattle.osi_carrier.proofs.Vocabulary.{feeding, telling, carrying, calling, State, sent_all, sent}
+use Rattle.osi_carrier.proofs.Vocabulary.{feeding, telling, carrying, calling, State, sent_all, sent, ◌≡◌, ℕ, ◌+◌, ◌-◌, ◌<◌, ◌^◌, Bool}
+use Rattle.osi_carrier.proofs.Vocabulary.{true, false, List, [], ◌∷◌, ◌++◌, length, take, map, Option, Some, None, is_some, refl, sym, ap}
+use Rattle.osi_carrier.proofs.Vocabulary.{◌∙◌, arith, append_assoc, length-append, flat_map-append}
+pub use Rattle.osi_tpkt.proofs.the_packets_are_those_of_the_stream.{packets_joined}
 use Rattle.osi_carrier.proofs.effects.what_is_in_front_changes_nothing.{apart_all}
 use Rattle.osi_carrier.proofs.effects.units_one_after_the_other.{none_of}
 use Rattle.osi_carrier.proofs.stream.a_piece_is_read_packet_by_packet.{packets_leave}

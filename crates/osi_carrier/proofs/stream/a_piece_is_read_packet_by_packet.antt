@@ -1,11 +1,10 @@
 -- Reading a piece of the stream, packet by packet.
-use Rattle.std.proofs.Common.{◌≡◌, ℕ, ◌+◌, ◌-◌, ◌<◌, ◌≤◌, ◌||◌, true, false, List, [], ◌∷◌, ◌++◌, length, take, drop, is_some, refl, sym}
-use Rattle.std.proofs.Common.{ap, subst, ◌∙◌, inl, inr, ◌⊎◌, arith, length-append, length-take, append_assoc, if◌then◌else◌}
-use Rattle.std.proofs.Math.Seq.{drop-append_seam}
 use Rattle.osi_carrier.proofs.Vocabulary.{append-nil, take-append-drop, take_at, IsPacket, IsFaultOf, ArePackets, offset_of, Fed, TpktFault}
 use Rattle.osi_carrier.proofs.Vocabulary.{PacketActs, PartHeld, Faults, LacksRoom, EndsOver, Carrying, IsReading, Acts, after_packet, stops}
 use Rattle.osi_carrier.proofs.Vocabulary.{waits, is_spoilt, TakesPackets, StopsBehind, Starves, HasToHold, FindsNoMemory, Goes, Feeds}
-use Rattle.osi_carrier.proofs.Vocabulary.{State}
+use Rattle.osi_carrier.proofs.Vocabulary.{State, ◌≡◌, ℕ, ◌+◌, ◌-◌, ◌<◌, ◌≤◌, ◌||◌, true, false, List, [], ◌∷◌, ◌++◌, length, take, drop}
+use Rattle.osi_carrier.proofs.Vocabulary.{is_some, refl, sym, ap, subst, ◌∙◌, inl, inr, ◌⊎◌, arith, length-append, length-take}
+use Rattle.osi_carrier.proofs.Vocabulary.{append_assoc, if◌then◌else◌, drop-append_seam}
 
 -- ---- packets
 

@@ -1,13 +1,9 @@
 -- A TSDU that is lent from the piece in which it lies, in place of its event.
 -- For the calls that feed a piece.
-use Rattle.std.proofs.Common.{◌≡◌, ℕ, ◌-◌, ◌||◌, ◌==◌, not, Bool, true, false, List, [], ◌∷◌, length, drop, Option, Some, None, IfSome}
-use Rattle.std.proofs.Common.{IsSome, is_some, refl, sym, ap, subst, ◌∙◌, arith, length-drop}
-use Rattle.osi_carrier.specs.Fetching.{PacketLent}
-use Rattle.osi_carrier.specs.Lending.{Lends, carrying_lent, lent_event, lent_if, with_lent}
-use Rattle.osi_carrier.specs.declared.lending.Lent.{Lent}
-use Rattle.osi_carrier.specs.declared.lending.FedLent.{FedLent}
-use Rattle.osi_carrier.proofs.Vocabulary.{Acts, Carrying, EndReason, Fed, Feeds, Happening, PacketActs, State, Tells}
-use Rattle.osi_carrier.proofs.Vocabulary.{is_spoilt, stops, waits}
+use Rattle.osi_carrier.proofs.Vocabulary.{Acts, Carrying, EndReason, Fed, Feeds, Happening, PacketActs, State, Tells, is_spoilt, stops}
+use Rattle.osi_carrier.proofs.Vocabulary.{waits, ◌≡◌, ℕ, ◌-◌, ◌||◌, ◌==◌, not, Bool, true, false, List, [], ◌∷◌, length, drop, Option, Some}
+use Rattle.osi_carrier.proofs.Vocabulary.{None, IfSome, IsSome, is_some, refl, sym, ap, subst, ◌∙◌, arith, length-drop, PacketLent, Lends}
+use Rattle.osi_carrier.proofs.Vocabulary.{carrying_lent, lent_event, lent_if, with_lent, Lent, FedLent}
 use Rattle.osi_carrier.proofs.stream.a_piece_is_read_packet_by_packet.{IsRead, read_stops, fed_goes}
 
 -- nothing is lent to a caller who doesn't want it

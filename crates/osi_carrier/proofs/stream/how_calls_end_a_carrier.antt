@@ -1,12 +1,11 @@
 -- How a list of calls ends a carrier: after a packet, or at a fault of the stream. Two lists with the same octets end
 -- it alike.
-use Rattle.std.proofs.Common.{◌≡◌, ℕ, ◌+◌, ◌-◌, ◌<◌, ◌≤◌, ◌^◌, Bool, true, false, List, [], ◌∷◌, ◌++◌, length, take, map, Some, None}
-use Rattle.std.proofs.Common.{is_some, refl, sym, ap, subst, ◌∙◌, ◌⊎◌, inl, inr, arith, append_assoc, length-append}
-use Rattle.osi_carrier.specs.declared.ends.CarrierFault.TheVariants.{Tpkt}
 use Rattle.osi_carrier.proofs.Vocabulary.{append-nil, take_all, flat_map, IsPartial, IsFaultOf, ArePackets, offset_of, Faulty, Fed}
 use Rattle.osi_carrier.proofs.Vocabulary.{TpktFault, one_fault, end_no_packet, Happening, Carrying, Goes, TakesPackets, after_packet}
 use Rattle.osi_carrier.proofs.Vocabulary.{is_spoilt, Call, all_done, packet_in, Calls, CallsAlong, used_in, told_in, carried_in, called_in}
-use Rattle.osi_carrier.proofs.Vocabulary.{put_back, EndAlike, packet, feeding, telling, carrying, calling, State, fails, NoMemory}
+use Rattle.osi_carrier.proofs.Vocabulary.{put_back, EndAlike, packet, feeding, telling, carrying, calling, State, fails, NoMemory, ◌≡◌, ℕ}
+use Rattle.osi_carrier.proofs.Vocabulary.{◌+◌, ◌-◌, ◌<◌, ◌≤◌, ◌^◌, Bool, true, false, List, [], ◌∷◌, ◌++◌, length, take, map, Some, None}
+use Rattle.osi_carrier.proofs.Vocabulary.{is_some, refl, sym, ap, subst, ◌∙◌, ◌⊎◌, inl, inr, arith, append_assoc, length-append, Tpkt}
 use Rattle.osi_carrier.proofs.effects.what_is_in_front_changes_nothing.{apart_all}
 use Rattle.osi_carrier.proofs.stream.all_pieces_last_alike.{PacketLaws, behind_same, packets_over, map_joined, none_first, over_calls}
 use Rattle.osi_carrier.proofs.stream.all_pieces_last_alike.{never, fault_behind, front_used, pieces_last}

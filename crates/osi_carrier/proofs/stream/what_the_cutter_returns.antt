@@ -1,10 +1,9 @@
 -- The result of the cutter, as the carrier's look at the stream.
-use Rattle.std.proofs.Common.{◌≡◌, ℕ, zero, suc, ◌+◌, ◌<◌, Bool, true, false, List, [], ◌++◌, length, take, drop, None, Result, Ok, Err}
-use Rattle.std.proofs.Common.{MatchBool, refl, sym, subst, arith}
-use Rattle.osi_tpkt.specs.Cutter.{TakesPiece, Belongs, Passes}
 use Rattle.osi_carrier.proofs.Vocabulary.{append-nil, take-append-drop, length-take-le, Held, IsHolding, IsPacket, IsOnePacket, IsPartial}
 use Rattle.osi_carrier.proofs.Vocabulary.{IsFaultOf, offset_of, Fed, TpktFault, BadVersion, BadLength, OutOfMemory, PacketActs, EndsOver}
-use Rattle.osi_carrier.proofs.Vocabulary.{IsNoFront, Carrying, HasToHold, Acts, after_refusal}
+use Rattle.osi_carrier.proofs.Vocabulary.{IsNoFront, Carrying, HasToHold, Acts, after_refusal, ◌≡◌, ℕ, zero, suc, ◌+◌, ◌<◌, Bool, true}
+use Rattle.osi_carrier.proofs.Vocabulary.{false, List, [], ◌++◌, length, take, drop, None, Result, Ok, Err, MatchBool, refl, sym, subst}
+use Rattle.osi_carrier.proofs.Vocabulary.{arith, TakesPiece, Belongs, Passes}
 
 -- a proper prefix of a packet is no packet
 abbrev pub Proper : Type 0

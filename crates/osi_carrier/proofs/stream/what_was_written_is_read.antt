@@ -1,12 +1,9 @@
 -- Octets that a carrier wrote read back as the units that it wrote.
-use Rattle.std.proofs.Common.{◌≡◌, ℕ, List, [], ◌∷◌, ◌++◌, length, map, take, drop, Result, Ok, sym, ap, ◌∙◌, arith, append_assoc}
-use Rattle.std.proofs.Common.{length-append}
-use Rattle.osi_tpdu.proofs.the_written_form_spells_its_value.{written_spells}
-use Rattle.osi_tpdu.proofs.the_units_of_a_packet.{units_only}
-use Rattle.osi_carrier.specs.Coming.{IsSendable, AreComing}
 use Rattle.osi_carrier.proofs.Vocabulary.{AllByRecursion, append_cancel_left, get_or_append_left, take-append-drop, IsPacket, IsFaultOf}
 use Rattle.osi_carrier.proofs.Vocabulary.{packet_of, one_packet, written_packet, ArePackets, TpktFault, OutOfMemory, units_of, Value}
 use Rattle.osi_carrier.proofs.Vocabulary.{written, TpduFault, acts_by, after_packet, Starves, react, reacts, State, packets, ends, NoMemory}
+use Rattle.osi_carrier.proofs.Vocabulary.{◌≡◌, ℕ, List, [], ◌∷◌, ◌++◌, length, map, take, drop, Result, Ok, sym, ap, ◌∙◌, arith}
+use Rattle.osi_carrier.proofs.Vocabulary.{append_assoc, length-append, written_spells, units_only, IsSendable, AreComing}
 use Rattle.osi_carrier.proofs.written.the_length_of_a_unit.{written_least}
 
 pub all_behind : (us vs : List Value) → AllByRecursion IsSendable us → AllByRecursion IsSendable vs → AllByRecursion IsSendable (us ++ vs)

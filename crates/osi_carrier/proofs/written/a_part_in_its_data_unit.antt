@@ -1,9 +1,8 @@
 -- A part of a TSDU in the data unit that a link lets a caller send, if the TSDU is given in two pieces.
 -- For `send_whole`, `write_parts` and `write_headed` of links.
-use Rattle.std.proofs.Common.{◌≡◌, ℕ, ◌+◌, ◌-◌, ◌≤◌, Bool, true, eqb, List, ◌++◌, length, take, drop, Option, arith, length-append}
-use Rattle.std.proofs.Common.{length-drop}
-use Rattle.std.proofs.Math.Seq.{take-append-add, drop-append-add}
-use Rattle.osi_carrier.proofs.Vocabulary.{le-leb, length-take-le, min, take_all, Slot, first_in, number_in, octets_of, part_under}
+use Rattle.osi_carrier.proofs.Vocabulary.{le-leb, length-take-le, min, take_all, Slot, first_in, number_in, octets_of, part_under, ◌≡◌, ℕ}
+use Rattle.osi_carrier.proofs.Vocabulary.{◌+◌, ◌-◌, ◌≤◌, Bool, true, eqb, List, ◌++◌, length, take, drop, Option, arith, length-append}
+use Rattle.osi_carrier.proofs.Vocabulary.{length-drop, take-append-add, drop-append-add}
 
 pub part_octets : (number : Option ℕ) (end : Bool) (octets : List ℕ) → octets_of (part_under number end octets) ≡ length octets
 part_octets number end octets = grind arith

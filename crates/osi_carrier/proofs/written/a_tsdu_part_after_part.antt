@@ -1,14 +1,10 @@
 -- Writing a TSDU straight from its octets, part after part, and keeping what may not be sent yet.
-use Rattle.std.proofs.Common.{◌≡◌, ℕ, ◌+◌, ◌<◌, ◌≤◌, Bool, List, [], ◌∷◌, ◌++◌, length, drop, None, refl, sym, ap, ◌∙◌, subst, append_assoc}
-use Rattle.std.proofs.Common.{length-append, arith}
-use Rattle.std.proofs.Math.Seq.{drop-append-add}
-use Rattle.std.proofs.lemmas.List.{drop-drop}
-use Rattle.osi_class.proofs.giving.a_part_that_is_given_at_once.{goes_at_once, some_rest}
 use Rattle.osi_carrier.proofs.Vocabulary.{Drained, drained, all_given, octets_of, octets_in, GoesAtOnce, GivesPart, with_rest, Standing}
 use Rattle.osi_carrier.proofs.Vocabulary.{Given, next, unit_of, with_tsdu, drained_none, drained_some, pumped, written_by, packets}
-use Rattle.osi_carrier.proofs.Vocabulary.{append-nil}
+use Rattle.osi_carrier.proofs.Vocabulary.{append-nil, ◌≡◌, ℕ, ◌+◌, ◌<◌, ◌≤◌, Bool, List, [], ◌∷◌, ◌++◌, length, drop, None, refl, sym, ap}
+use Rattle.osi_carrier.proofs.Vocabulary.{◌∙◌, subst, append_assoc, length-append, arith, drop-append-add, drop-drop, goes_at_once}
+use Rattle.osi_carrier.proofs.Vocabulary.{some_rest, left_of, LeavesRest}
 use Rattle.osi_carrier.proofs.written.all_that_a_link_gives.{IsPumping, pumping_next, pumping_room}
-use Rattle.osi_carrier.specs.Pump.{left_of, LeavesRest}
 
 -- what is left of a TSDU is sent now, except for what is kept
 pub record Goes (link : Standing) (rest kept : List ℕ) : Type 0 where

@@ -1,8 +1,7 @@
 -- Writing all that a link gives, one unit after the other.
-use Rattle.std.proofs.Common.{◌≡◌, ℕ, ◌+◌, ◌*◌, ◌<◌, ◌≤◌, List, [], ◌∷◌, ◌++◌, length, take, map, refl, sym, ap, ◌∙◌, append_assoc}
-use Rattle.std.proofs.Common.{length-append, arith}
 use Rattle.osi_carrier.proofs.Vocabulary.{cases_lt, take_at, Value, Drained, drained, octets_in, Standing, Given, unit_of, next, pumped}
-use Rattle.osi_carrier.proofs.Vocabulary.{written_by, packets}
+use Rattle.osi_carrier.proofs.Vocabulary.{written_by, packets, ◌≡◌, ℕ, ◌+◌, ◌*◌, ◌<◌, ◌≤◌, List, [], ◌∷◌, ◌++◌, length, take, map, refl}
+use Rattle.osi_carrier.proofs.Vocabulary.{sym, ap, ◌∙◌, append_assoc, length-append, arith}
 
 pub packets_join : (us vs : List Value) → packets (us ++ vs) ≡ packets us ++ packets vs
 packets_join [] vs = refl

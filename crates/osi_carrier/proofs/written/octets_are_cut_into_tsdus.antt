@@ -1,17 +1,11 @@
 -- Octets that are cut into pieces, each behind its head: the TSDUs one after the other.
 -- For `room` and `copies` of pieces, `write_some` of links, and `send_pieces_open` of the switch.
-use Rattle.std.proofs.Common.{◌≡◌, refl, ℕ, zero, suc, ◌+◌, ◌^◌, ◌<◌, ◌≤◌, Bool, true, false, nat_le, List, [], ◌∷◌, ◌++◌, length, take}
-use Rattle.std.proofs.Common.{drop, arith, length-append, length-drop, if◌then◌else◌, nat_lt, Option, Some, None, IfSome, IsSome}
-use Rattle.std.proofs.lemmas.Bool.{lt-leb, le-ltb}
+use Rattle.osi_carrier.proofs.Vocabulary.{le-leb, leb-true, leb-false, length-take-le, sum_by-cons, list_any, lengths_error, ◌≡◌, refl, ℕ}
+use Rattle.osi_carrier.proofs.Vocabulary.{zero, suc, ◌+◌, ◌^◌, ◌<◌, ◌≤◌, Bool, true, false, nat_le, List, [], ◌∷◌, ◌++◌, length, take, drop}
+use Rattle.osi_carrier.proofs.Vocabulary.{arith, length-append, length-drop, if◌then◌else◌, nat_lt, Option, Some, None, IfSome, IsSome}
+use Rattle.osi_carrier.proofs.Vocabulary.{lt-leb, le-ltb, more_units, parts_some, parts_needed, units_needed, octets_of_tsdus, Room, headed}
+use Rattle.osi_carrier.proofs.Vocabulary.{tsdus_from, tsdus_in, FitsTsdu, FitTsdus, Pieces}
 use Rattle.std.proofs.lemmas.List.{length-take}
-use Rattle.osi_class.proofs.giving.all_that_may_go_is_given.{more_units}
-use Rattle.osi_class.proofs.giving.the_units_of_one_tsdu.{parts_some}
-use Rattle.osi_class.specs.Giving.{parts_needed, units_needed}
-use Rattle.osi_class.specs.Tsdus.{octets_of_tsdus}
-use Rattle.osi_class.specs.declared.units.Room.{Room}
-use Rattle.osi_carrier.proofs.Vocabulary.{le-leb, leb-true, leb-false, length-take-le, sum_by-cons, list_any, lengths_error}
-use Rattle.osi_carrier.specs.Pieces.{headed, tsdus_from, tsdus_in, FitsTsdu, FitTsdus}
-use Rattle.osi_carrier.specs.declared.pieces.Pieces.{Pieces}
 
 -- ---- the next TSDU
 

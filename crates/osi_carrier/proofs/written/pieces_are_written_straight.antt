@@ -1,18 +1,11 @@
 -- TSDUs that are cut from octets are written straight from their heads and pieces, as far as their units may go now.
 -- For `write_some` and `write_pieces` of links.
-use Rattle.std.proofs.Common.{◌≡◌, ℕ, ◌+◌, ◌<◌, ◌≤◌, Bool, true, false, List, [], ◌∷◌, ◌++◌, length, take, drop, arith, append_assoc}
-use Rattle.std.proofs.Common.{length-append, Option, None}
-use Rattle.osi_class.proofs.giving.a_link_gives_finitely_many_units.{drained_ends}
-use Rattle.osi_class.proofs.giving.when_nothing_is_given.{class_0, class_2}
-use Rattle.osi_class.specs.Ends.{Ends}
-use Rattle.osi_class.specs.Flow.{Flow}
 use Rattle.osi_carrier.proofs.Vocabulary.{append-nil, drained_leaves, drained_none, given_one_by_one, one_by_one, Standing, next, with_tsdu}
-use Rattle.osi_carrier.proofs.Vocabulary.{with_tsdus, written_by, written_for, packets, map-append}
+use Rattle.osi_carrier.proofs.Vocabulary.{with_tsdus, written_by, written_for, packets, map-append, ◌≡◌, ℕ, ◌+◌, ◌<◌, ◌≤◌, Bool, true}
+use Rattle.osi_carrier.proofs.Vocabulary.{false, List, [], ◌∷◌, ◌++◌, length, take, drop, arith, append_assoc, length-append, Option, None}
+use Rattle.osi_carrier.proofs.Vocabulary.{drained_ends, class_0, class_2, Ends, Flow, tsdus_from, FitTsdus, LeavesRest, Pieces}
 use Rattle.osi_carrier.proofs.written.octets_are_cut_into_tsdus.{cut_next}
 use Rattle.osi_carrier.proofs.written.tsdus_are_written_straight.{first_room}
-use Rattle.osi_carrier.specs.Pieces.{tsdus_from, FitTsdus}
-use Rattle.osi_carrier.specs.Pump.{LeavesRest}
-use Rattle.osi_carrier.specs.declared.pieces.Pieces.{Pieces}
 use Rattle.osi_carrier.proofs.written.all_that_a_link_gives.{packets_join}
 
 -- Some TSDUs were written whole behind the octets `before`. This is the link after them, and `rest` are the others. The

@@ -1,22 +1,12 @@
 -- How many units of TSDUs may go now if not all may, by the units that a link gives for one TSDU that fills as many.
 -- For `some_at_once`, `send_parts`, `send_some` and `write_pieces` of links.
-use Rattle.std.proofs.Common.{◌≡◌, ℕ, ◌+◌, ◌*◌, ◌^◌, ◌<◌, ◌≤◌, List, [], ◌∷◌, length, arith, Option, Some, None}
-use Rattle.osi_class.proofs.giving.a_link_gives_finitely_many_units.{drained_ends}
-use Rattle.osi_class.proofs.giving.all_that_may_go_is_given.{goes_whole, more_units}
-use Rattle.osi_class.proofs.giving.the_units_of_one_tsdu.{room_of_class_0, room_of_class_2}
-use Rattle.osi_class.proofs.giving.tsdus_that_are_added_together.{many_at_once}
-use Rattle.osi_class.proofs.giving.units_have_at_most_so_many_octets.{all_take}
-use Rattle.osi_class.proofs.giving.when_nothing_is_given.{class_2}
-use Rattle.osi_class.specs.Ends.{Ends}
-use Rattle.osi_class.specs.Flow.{Flow}
-use Rattle.osi_class.specs.Giving.{most_given, units_needed}
-use Rattle.osi_class.specs.Tsdus.{octets_of_tsdus}
 use Rattle.osi_carrier.proofs.Vocabulary.{AllGoAtOnce, all_given, drained_leaves, octets_in, one_by_one, min, Standing, next, with_tsdu}
-use Rattle.osi_carrier.proofs.Vocabulary.{with_tsdus, packets, pumped, written_for}
+use Rattle.osi_carrier.proofs.Vocabulary.{with_tsdus, packets, pumped, written_for, ◌≡◌, ℕ, ◌+◌, ◌*◌, ◌^◌, ◌<◌, ◌≤◌, List, [], ◌∷◌, length}
+use Rattle.osi_carrier.proofs.Vocabulary.{arith, Option, Some, None, drained_ends, goes_whole, more_units, room_of_class_0, room_of_class_2}
+use Rattle.osi_carrier.proofs.Vocabulary.{many_at_once, all_take, class_2, Ends, Flow, most_given, units_needed, octets_of_tsdus, SomeGo}
 use Rattle.osi_carrier.proofs.written.all_that_a_link_gives.{packets_most}
 use Rattle.osi_carrier.proofs.written.what_is_left_after_some_units.{drained_left}
 use Rattle.osi_carrier.proofs.written.whether_all_tsdus_may_go_now.{fills, in_parts, none_waits}
-use Rattle.osi_carrier.specs.Pieces.{SomeGo}
 
 -- ---- one TSDU
 

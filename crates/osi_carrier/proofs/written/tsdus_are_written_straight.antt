@@ -1,10 +1,8 @@
 -- TSDUs whose units may all go now are written straight from their octets, one after the other.
 -- For `write_all` of links.
-use Rattle.std.proofs.Common.{◌≡◌, ℕ, ◌+◌, ◌<◌, ◌≤◌, List, [], ◌∷◌, ◌++◌, length, drop, get_or, map, None, append_assoc, length-append}
-use Rattle.std.proofs.Common.{arith}
-use Rattle.std.proofs.lemmas.List.{drop_more}
 use Rattle.osi_carrier.proofs.Vocabulary.{append-nil, map-append, drained_leaves, AllGoAtOnce, GoesWhole, one_by_one, Standing, next}
-use Rattle.osi_carrier.proofs.Vocabulary.{with_tsdu, pumped, written_by, written_for, packets}
+use Rattle.osi_carrier.proofs.Vocabulary.{with_tsdu, pumped, written_by, written_for, packets, ◌≡◌, ℕ, ◌+◌, ◌<◌, ◌≤◌, List, [], ◌∷◌, ◌++◌}
+use Rattle.osi_carrier.proofs.Vocabulary.{length, drop, get_or, map, None, append_assoc, length-append, arith, drop_more}
 use Rattle.osi_carrier.proofs.written.all_that_a_link_gives.{packets_join}
 
 -- Some TSDUs were written behind the octets `before`. This is the link after them, and `rest` are the others. The end is

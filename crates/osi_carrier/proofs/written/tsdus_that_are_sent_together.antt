@@ -1,11 +1,9 @@
 -- TSDUs that are sent together.
-use Rattle.std.proofs.Common.{◌≡◌, ℕ, ◌==◌, Bool, ◌||◌, List, [], ◌∷◌, ◌++◌, length, map, nat_lt, Option, Some, None, refl, sym, ap, ◌∙◌}
-use Rattle.std.proofs.Common.{append_assoc, arith, if◌then◌else◌}
-use Rattle.osi_carrier.specs.declared.faults.SendError.{SendError}
-use Rattle.osi_carrier.specs.declared.faults.SendError.TheVariants.{TooLong}
 use Rattle.osi_carrier.proofs.Vocabulary.{list_any, append-nil, map-append, one_by_one, Standing, with_tsdu, open_link, lengths_error}
 use Rattle.osi_carrier.proofs.Vocabulary.{sent_on, sent_all, pumps_all, pumped, written_by, written_for, pumps, Rows, value_at, put}
-use Rattle.osi_carrier.proofs.Vocabulary.{peer_in, link_in, linked, State, packets}
+use Rattle.osi_carrier.proofs.Vocabulary.{peer_in, link_in, linked, State, packets, ◌≡◌, ℕ, ◌==◌, Bool, ◌||◌, List, [], ◌∷◌, ◌++◌, length}
+use Rattle.osi_carrier.proofs.Vocabulary.{map, nat_lt, Option, Some, None, refl, sym, ap, ◌∙◌, append_assoc, arith, if◌then◌else◌}
+use Rattle.osi_carrier.proofs.Vocabulary.{SendError, TooLong}
 use Rattle.osi_carrier.proofs.references.what_a_change_leaves_there.{put_here}
 use Rattle.osi_carrier.proofs.references.what_is_open.{open_is}
 use Rattle.osi_carrier.proofs.references.the_row_at_a_place.{put_same}

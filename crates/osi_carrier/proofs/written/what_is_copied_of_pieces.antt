@@ -1,11 +1,9 @@
 -- Copies of what is left of the TSDUs that are cut from octets, one after the other.
 -- For `copies` of pieces.
-use Rattle.std.proofs.Common.{arith, ◌≡◌, refl, ℕ, ◌<◌, ◌≤◌, List, [], ◌∷◌, ◌++◌, length, take, drop}
-use Rattle.osi_carrier.proofs.Vocabulary.{append-nil}
+use Rattle.osi_carrier.proofs.Vocabulary.{append-nil, arith, ◌≡◌, refl, ℕ, ◌<◌, ◌≤◌, List, [], ◌∷◌, ◌++◌, length, take, drop, left_after}
+use Rattle.osi_carrier.proofs.Vocabulary.{tsdus_from, tsdus_in, FitsTsdu, FitTsdus, Pieces}
 use Rattle.osi_carrier.proofs.written.octets_are_cut_into_tsdus.{cut_next}
 use Rattle.osi_carrier.proofs.written.what_is_left_after_some_units.{left_of_none}
-use Rattle.osi_carrier.specs.Pieces.{left_after, tsdus_from, tsdus_in, FitsTsdu, FitTsdus}
-use Rattle.osi_carrier.specs.declared.pieces.Pieces.{Pieces}
 
 -- What is left of the TSDUs before this head is copied, and `left` units are those of the others.
 pub record IsCopied (p : Pieces) (limit units : ℕ) (done : List (List ℕ)) (left : ℕ) (head rest : List ℕ) : Type 0 where

@@ -1,22 +1,12 @@
 -- What is left of TSDUs after some of their units, TSDU by TSDU, and that a link keeps this.
 -- For `put_rest` and `copies` of pieces, and `some_at_once` and `send_some` of links.
-use Rattle.std.proofs.Common.{◌≡◌, ◌∙◌, refl, sym, ap, subst, ℕ, zero, suc, ◌+◌, ◌-◌, ◌*◌, ◌%◌, ◌<◌, ◌≤◌, Bool, true, false, nat_lt, List}
-use Rattle.std.proofs.Common.{[], ◌∷◌, ◌++◌, length, take, drop, arith, append_assoc, length-drop, if◌then◌else◌, Option, Some}
-use Rattle.std.proofs.lemmas.Bool.{ltb-false}
-use Rattle.std.proofs.lemmas.List.{drop-drop}
-use Rattle.std.proofs.lemmas.Nat.{mul-le}
-use Rattle.std.proofs.Math.Nat.{le-div_iff_mul-le, suc-mul}
-use Rattle.osi_class.proofs.giving.the_units_of_one_tsdu.{one_part, parts_cut, parts_some, two_flow, no_tsdus}
-use Rattle.osi_class.proofs.giving.when_nothing_is_given.{class_2}
-use Rattle.osi_class.specs.Ends.{Ends}
-use Rattle.osi_class.specs.Flow.{Flow}
-use Rattle.osi_class.specs.Giving.{parts_needed}
-use Rattle.osi_class.specs.Joining.{Joining}
-use Rattle.osi_class.specs.Link.{given_part, sent_flow, two_standing}
-use Rattle.osi_class.specs.Tsdus.{Part, octets_of_tsdus}
-use Rattle.osi_carrier.proofs.Vocabulary.{ltb-true, drained_none, drained_some, Drained, drained, Given, Standing, next, part_under}
+use Rattle.osi_carrier.proofs.Vocabulary.{ltb-true, drained_none, drained_some, Drained, drained, Given, Standing, next, part_under, ◌≡◌}
+use Rattle.osi_carrier.proofs.Vocabulary.{◌∙◌, refl, sym, ap, subst, ℕ, zero, suc, ◌+◌, ◌-◌, ◌*◌, ◌%◌, ◌<◌, ◌≤◌, Bool, true, false, nat_lt}
+use Rattle.osi_carrier.proofs.Vocabulary.{List, [], ◌∷◌, ◌++◌, length, take, drop, arith, append_assoc, length-drop, if◌then◌else◌, Option}
+use Rattle.osi_carrier.proofs.Vocabulary.{Some, ltb-false, drop-drop, mul-le, le-div_iff_mul-le, suc-mul, one_part, parts_cut, parts_some}
+use Rattle.osi_carrier.proofs.Vocabulary.{two_flow, no_tsdus, class_2, Ends, Flow, parts_needed, Joining, given_part, sent_flow}
+use Rattle.osi_carrier.proofs.Vocabulary.{two_standing, Part, octets_of_tsdus, left_by, left_after}
 use Rattle.osi_carrier.proofs.written.octets_are_cut_into_tsdus.{more_octets}
-use Rattle.osi_carrier.specs.Pieces.{left_by, left_after}
 
 -- ---- TSDU by TSDU
 

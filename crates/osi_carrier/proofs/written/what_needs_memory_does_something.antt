@@ -1,17 +1,14 @@
 -- What needs memory writes, reports or keeps something.
-use Rattle.std.proofs.Common.{◌≡◌, ℕ, ◌+◌, ◌<◌, ◌≤◌, ◌⊎◌, Bool, true, false, List, [], ◌∷◌, ◌++◌, length, Option, Some, Result, Ok, Err}
-use Rattle.std.proofs.Common.{IfOk, IsOk, OnErr, ◌==◌, map, refl, subst, nat_lt, length-append, arith}
-use Rattle.osi_class.specs.Flow.{Flow}
-use Rattle.osi_class.specs.Joining.{with_part}
-use Rattle.osi_class.specs.Taking.{TakesUnit}
-use Rattle.osi_class.specs.declared.faults.LinkFault.TheVariants.{OutOfMemory}
-use Rattle.osi_class.proofs.between.parts_stay_in_order.{choose_ok}
-pub use Rattle.std.proofs.lemmas.Bool.{or_cases}
 use Rattle.osi_carrier.proofs.Vocabulary.{or_left, or_right, lt-ltb, ltb-true, sum_by-cons, packet_of, Value, Connect, disconnect}
 use Rattle.osi_carrier.proofs.Vocabulary.{disconnected, written, Standing, Hands, taken, needs_memory, part_needs_memory, LinkFault, Class}
 use Rattle.osi_carrier.proofs.Vocabulary.{Two, drained_leaves, begun_by, kept_in, grows, Happening, tsdu, written_by, accepts, breaks}
 use Rattle.osi_carrier.proofs.Vocabulary.{denies, handed_out, leaves, opens, taking, to_unknown, Rows, value_at, put, peer_in, link_in}
-use Rattle.osi_carrier.proofs.Vocabulary.{Connection, State, packets, drops, tells, link_grows, units_after, whole_after, link_after}
+use Rattle.osi_carrier.proofs.Vocabulary.{Connection, State, packets, drops, tells, link_grows, units_after, whole_after, link_after, ◌≡◌}
+use Rattle.osi_carrier.proofs.Vocabulary.{ℕ, ◌+◌, ◌<◌, ◌≤◌, ◌⊎◌, Bool, true, false, List, [], ◌∷◌, ◌++◌, length, Option, Some, Result, Ok}
+use Rattle.osi_carrier.proofs.Vocabulary.{Err, IfOk, IsOk, OnErr, ◌==◌, map, refl, subst, nat_lt, length-append, arith, Flow, with_part}
+use Rattle.osi_carrier.proofs.Vocabulary.{TakesUnit, choose_ok}
+use Rattle.osi_class.specs.declared.faults.LinkFault.TheVariants.{OutOfMemory}
+pub use Rattle.std.proofs.lemmas.Bool.{or_cases}
 use Rattle.osi_carrier.proofs.references.what_is_open.{open_is}
 
 -- ---- at a link

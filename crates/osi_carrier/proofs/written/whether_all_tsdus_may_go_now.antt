@@ -1,20 +1,10 @@
 -- Whether all units of TSDUs may go now, by the units that a link gives for one TSDU that fills as many.
 -- For `may_send`, `room_at_once` and `some_at_once` of links.
-use Rattle.std.proofs.Common.{◌≡◌, ◌∙◌, ap, ℕ, zero, suc, ◌+◌, ◌-◌, ◌*◌, ◌^◌, ◌<◌, ◌≤◌, List, [], ◌∷◌, length, Option, Some, None, arith}
-use Rattle.std.proofs.Common.{subst, IfSome, IsSome, SomeIff}
-use Rattle.std.proofs.Math.Nat.{suc-mul}
-use Rattle.std.proofs.lemmas.Nat.{mul-le}
-use Rattle.osi_class.proofs.giving.all_that_may_go_is_given.{goes_whole, more_units}
-use Rattle.osi_class.proofs.giving.the_units_of_one_tsdu.{one_part, parts_cut, room_of_class_2}
-use Rattle.osi_class.proofs.giving.tsdus_that_are_added_together.{many_at_once}
-use Rattle.osi_class.proofs.giving.units_have_at_most_so_many_octets.{all_take}
-use Rattle.osi_class.proofs.giving.when_nothing_is_given.{class_0, class_2}
-use Rattle.osi_class.specs.Ends.{Ends}
-use Rattle.osi_class.specs.Flow.{Flow}
-use Rattle.osi_class.specs.Giving.{MayGoAll, octets_in_parts, parts_needed, units_needed}
-use Rattle.osi_class.specs.Tsdus.{octets_of_tsdus}
 use Rattle.osi_carrier.proofs.Vocabulary.{AllGoAtOnce, all_given, octets_in, cases_lt, min, Standing, next, with_tsdu, with_tsdus}
-use Rattle.osi_carrier.proofs.Vocabulary.{sum_by-cons, written_for, packets}
+use Rattle.osi_carrier.proofs.Vocabulary.{sum_by-cons, written_for, packets, ◌≡◌, ◌∙◌, ap, ℕ, zero, suc, ◌+◌, ◌-◌, ◌*◌, ◌^◌, ◌<◌, ◌≤◌, List}
+use Rattle.osi_carrier.proofs.Vocabulary.{[], ◌∷◌, length, Option, Some, None, arith, subst, IfSome, IsSome, SomeIff, suc-mul, mul-le}
+use Rattle.osi_carrier.proofs.Vocabulary.{goes_whole, more_units, one_part, parts_cut, room_of_class_2, many_at_once, all_take, class_0}
+use Rattle.osi_carrier.proofs.Vocabulary.{class_2, Ends, Flow, MayGoAll, octets_in_parts, parts_needed, units_needed, octets_of_tsdus}
 use Rattle.osi_carrier.proofs.written.all_that_a_link_gives.{packets_most}
 
 -- ---- one TSDU that fills the units

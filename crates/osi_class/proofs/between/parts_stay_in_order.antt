@@ -1,7 +1,6 @@
 -- Parts in order: cutting and joining preserve the TSDUs.
-use Rattle.std.proofs.Common.{arith, ◌≡◌, ℕ, ◌+◌, Bool, true, false, List, [], ◌∷◌, ◌++◌, Option, Some, Result, Ok, refl, ap, subst}
-use Rattle.std.proofs.Common.{if◌then◌else◌, IfSome, IfOk}
-use Rattle.osi_class.proofs.Vocabulary.{Joining, Part, tsdus, tsdus_after, uncut, MakeTheSame}
+use Rattle.osi_class.proofs.Vocabulary.{Joining, Part, tsdus, tsdus_after, uncut, MakeTheSame, arith, ◌≡◌, ℕ, ◌+◌, Bool, true, false, List}
+use Rattle.osi_class.proofs.Vocabulary.{[], ◌∷◌, ◌++◌, Option, Some, Result, Ok, refl, ap, subst, if◌then◌else◌, IfSome, IfOk}
 
 pub append_nil : {A : Type 0} (xs : List A) → xs ++ [] ≡ xs
 append_nil [] = refl

@@ -1,10 +1,9 @@
 -- Every link keeps its bounds, its limit and its class.
-use Rattle.std.proofs.Common.{◌≡◌, ℕ, ◌+◌, ◌-◌, ◌^◌, ◌<◌, ◌≤◌, length, Option, arith, is_some, IfSome, IfOk, length-append}
-use Rattle.osi_tpdu.specs.declared.limits.SizeCode.{SizeCode}
-use Rattle.osi_tpdu.specs.Value as values
 use Rattle.osi_class.proofs.Vocabulary.{pow-le-pow_right, ltb-false, Value, longest_tsdu, Ends, unit_size, fresh_ends, Flow, Sender}
 use Rattle.osi_class.proofs.Vocabulary.{Standing, next_by, next, taken_by, zero_standing, two_standing, fresh_two, Move, hand_in, give_out}
-use Rattle.osi_class.proofs.Vocabulary.{take_in, hand_out, Moves, IsSound, IsSoundFlow, TakesInRange}
+use Rattle.osi_class.proofs.Vocabulary.{take_in, hand_out, Moves, IsSound, IsSoundFlow, TakesInRange, ◌≡◌, ℕ, ◌+◌, ◌-◌, ◌^◌, ◌<◌, ◌≤◌}
+use Rattle.osi_class.proofs.Vocabulary.{length, Option, arith, is_some, IfSome, IfOk, length-append, SizeCode}
+use Rattle.osi_tpdu.specs.Value as values
 use Rattle.osi_class.proofs.giving.a_link_gives_finitely_many_units.{giving_leaves}
 use Rattle.osi_class.proofs.between.parts_stay_in_order.{choose_ok, at_some, at_ok}
 

@@ -1,6 +1,5 @@
 -- Numbers modulo 128 and the counts that they represent.
-use Rattle.std.proofs.Common.{◌≡◌, ℕ, zero, suc, ◌+◌, ◌%◌, ◌<◌, [], ◌∷◌, ◌++◌, ap, arith}
-use Rattle.osi_class.proofs.Vocabulary.{steps_before, numbers}
+use Rattle.osi_class.proofs.Vocabulary.{steps_before, numbers, ◌≡◌, ℕ, zero, suc, ◌+◌, ◌%◌, ◌<◌, [], ◌∷◌, ◌++◌, ap, arith}
 
 -- the number after the one of a count is that of the next count
 pub next_number : (count : ℕ) → (count % 128 + 1) % 128 ≡ (count + 1) % 128

@@ -1,9 +1,7 @@
 -- What was complete before a TSDU was handed out: that TSDU, if there was one, and what is complete afterwards. For the call
 -- of a link that takes a unit and then hands a TSDU out.
-use Rattle.std.proofs.Common.{arith, ◌≡◌, ℕ, List, [], ◌++◌, map, Option, IfNone, option_map, option_to_list}
-use Rattle.osi_class.specs.Link.{Hands, with_handed}
-use Rattle.osi_class.specs.Queues.{PopsFirst}
-use Rattle.osi_class.proofs.Vocabulary.{Standing}
+use Rattle.osi_class.proofs.Vocabulary.{Standing, arith, ◌≡◌, ℕ, List, [], ◌++◌, map, Option, IfNone, option_map, option_to_list, Hands}
+use Rattle.osi_class.proofs.Vocabulary.{with_handed, PopsFirst}
 
 -- ---- of a queue
 

@@ -1,6 +1,5 @@
 -- What is taken, over a list of calls.
-use Rattle.std.proofs.Common.{arith, ◌≡◌, List, [], ◌++◌}
-use Rattle.osi_class.proofs.Vocabulary.{Standing, Move, MovesAlong, parts_in, tsdus_out, tsdus}
+use Rattle.osi_class.proofs.Vocabulary.{Standing, Move, MovesAlong, parts_in, tsdus_out, tsdus, arith, ◌≡◌, List, [], ◌++◌}
 use Rattle.osi_class.proofs.between.parts_stay_in_order.{append_nil}
 use Rattle.osi_class.proofs.bounds.what_a_call_preserves.{takes_run}
 

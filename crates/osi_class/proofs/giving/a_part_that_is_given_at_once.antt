@@ -1,9 +1,8 @@
 -- A part of a TSDU that is given at once, of which the link keeps nothing.
-use Rattle.std.proofs.Common.{◌≡◌, ℕ, ◌<◌, Bool, true, false, List, [], ◌∷◌, length, take, drop, Option, Some, None, arith, nat_lt, leb}
-use Rattle.std.proofs.Common.{if◌then◌else◌, length-drop}
 use Rattle.osi_class.proofs.Vocabulary.{min, le-ltb, leb-true, length-take-le, take_all, Ends, Flow, GoesAtOnce, GivesPart, with_rest}
 use Rattle.osi_class.proofs.Vocabulary.{Standing, Given, part0, part2, part_under, next, sent_flow, with_tsdu, zero_standing, two_standing}
-use Rattle.osi_class.proofs.Vocabulary.{Part}
+use Rattle.osi_class.proofs.Vocabulary.{Part, ◌≡◌, ℕ, ◌<◌, Bool, true, false, List, [], ◌∷◌, length, take, drop, Option, Some, None, arith}
+use Rattle.osi_class.proofs.Vocabulary.{nat_lt, leb, if◌then◌else◌, length-drop}
 use Rattle.osi_class.proofs.giving.when_nothing_is_given.{class_0, class_2}
 
 pub some_rest : (s : Standing) (rest : List ℕ) → 0 < length rest → with_rest s rest ≡ with_tsdu s rest

@@ -1,11 +1,10 @@
 -- TSDUs whose units may all be given now are given whole, one after the other.
 -- For the law `all_go_at_once`, and for `are_few` of sizes, which counts the units.
-use Rattle.std.proofs.Common.{◌≡◌, ℕ, zero, suc, ◌+◌, ◌-◌, ◌%◌, ◌<◌, ◌≤◌, true, false, List, [], ◌∷◌, length, take, drop, map, get_or}
-use Rattle.std.proofs.Common.{Option, Some, None, refl, sym, ◌∙◌, ap, subst, arith, nat_lt, is_some, if◌then◌else◌, length-drop}
-use Rattle.std.proofs.lemmas.List.Sums.{sum_by-cons}
 use Rattle.osi_class.proofs.Vocabulary.{ltb-true, ltb-false, Ends, Flow, Drained, drained_by, drained_within, drained, octets_in}
 use Rattle.osi_class.proofs.Vocabulary.{parts_needed, units_needed, MayGoAll, AllGoAtOnce, GoesWhole, Joining, Standing, given_part, next}
-use Rattle.osi_class.proofs.Vocabulary.{sent_flow, with_tsdu, zero_standing, two_standing, give}
+use Rattle.osi_class.proofs.Vocabulary.{sent_flow, with_tsdu, zero_standing, two_standing, give, ◌≡◌, ℕ, zero, suc, ◌+◌, ◌-◌, ◌%◌, ◌<◌, ◌≤◌}
+use Rattle.osi_class.proofs.Vocabulary.{true, false, List, [], ◌∷◌, length, take, drop, map, get_or, Option, Some, None, refl, sym, ◌∙◌, ap}
+use Rattle.osi_class.proofs.Vocabulary.{subst, arith, nat_lt, is_some, if◌then◌else◌, length-drop, sum_by-cons}
 use Rattle.osi_class.proofs.giving.a_link_gives_finitely_many_units.{within_none, drained_ends, drained_leaves}
 use Rattle.osi_class.proofs.giving.when_nothing_is_given.{class_0}
 use Rattle.osi_class.proofs.giving.the_units_of_one_tsdu.{parts_cut, one_part, take_drop, two_flow, two_with, no_tsdus, alone}

@@ -1,8 +1,7 @@
 -- The first TSDUs of a list and one more have no more octets than all of them.
 -- For `octets_of` of sending, which adds them up.
-use Rattle.std.proofs.Common.{◌≡◌, ℕ, zero, suc, ◌+◌, ◌<◌, ◌≤◌, List, [], ◌∷◌, length, take, map, get_or, arith}
-use Rattle.std.proofs.lemmas.List.Sums.{sum_by-cons}
-use Rattle.osi_class.specs.Tsdus.{octets_of_tsdus}
+use Rattle.osi_class.proofs.Vocabulary.{◌≡◌, ℕ, zero, suc, ◌+◌, ◌<◌, ◌≤◌, List, [], ◌∷◌, length, take, map, get_or, arith, sum_by-cons}
+use Rattle.osi_class.proofs.Vocabulary.{octets_of_tsdus}
 
 more_octets : (t : List ℕ) (ts : List (List ℕ)) → octets_of_tsdus (t ∷ ts) ≡ length t + octets_of_tsdus ts
 more_octets t ts = sum_by-cons length t ts

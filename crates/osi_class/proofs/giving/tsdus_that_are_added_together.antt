@@ -1,8 +1,7 @@
 -- TSDUs that are added to those to be sent together.
-use Rattle.std.proofs.Common.{◌≡◌, ℕ, zero, suc, ◌<◌, ◌≤◌, List, [], ◌∷◌, ◌++◌, map, Option, Some, None, refl, sym, ◌∙◌, ap, arith}
-use Rattle.std.proofs.Common.{if◌then◌else◌}
 use Rattle.osi_class.proofs.Vocabulary.{append_assoc, Drained, drained, all_given, left_to_give, given_one_by_one, one_by_one, Standing}
-use Rattle.osi_class.proofs.Vocabulary.{Given, with_tsdu, with_tsdus, next, hand_in, MovesAlong, Part}
+use Rattle.osi_class.proofs.Vocabulary.{Given, with_tsdu, with_tsdus, next, hand_in, MovesAlong, Part, ◌≡◌, ℕ, zero, suc, ◌<◌, ◌≤◌, List}
+use Rattle.osi_class.proofs.Vocabulary.{[], ◌∷◌, ◌++◌, map, Option, Some, None, refl, sym, ◌∙◌, ap, arith, if◌then◌else◌}
 use Rattle.osi_class.proofs.giving.giving_ends.{giving_lowers}
 use Rattle.osi_class.proofs.giving.a_link_gives_finitely_many_units.{giving_leaves, drained_none, drained_some}
 use Rattle.osi_class.proofs.between.parts_stay_in_order.{append_nil}

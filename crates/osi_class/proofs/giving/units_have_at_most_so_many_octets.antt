@@ -1,10 +1,9 @@
 -- An upper bound on the octets of the units that a link gives.
-use Rattle.std.proofs.Common.{◌≡◌, ℕ, zero, suc, ◌+◌, ◌-◌, ◌*◌, ◌<◌, ◌≤◌, true, false, List, [], ◌∷◌, length, take, drop, map, get_or}
-use Rattle.std.proofs.Common.{Option, Some, None, refl, arith, IfSome, length-drop}
-use Rattle.std.proofs.lemmas.List.Sums.{sum_by-cons}
 use Rattle.osi_class.proofs.Vocabulary.{ltb-true, length-take-le, Ends, Flow, drained_by, drained_within, drained, all_given, left_to_give}
 use Rattle.osi_class.proofs.Vocabulary.{octets_of, octets_in, parts_needed, octets_in_parts, most_by, most_given, Standing, Given}
-use Rattle.osi_class.proofs.Vocabulary.{given_part, next_by, next, sent_flow, Part, give}
+use Rattle.osi_class.proofs.Vocabulary.{given_part, next_by, next, sent_flow, Part, give, ◌≡◌, ℕ, zero, suc, ◌+◌, ◌-◌, ◌*◌, ◌<◌, ◌≤◌, true}
+use Rattle.osi_class.proofs.Vocabulary.{false, List, [], ◌∷◌, length, take, drop, map, get_or, Option, Some, None, refl, arith, IfSome}
+use Rattle.osi_class.proofs.Vocabulary.{length-drop, sum_by-cons}
 use Rattle.osi_class.proofs.giving.a_link_gives_finitely_many_units.{giving_leaves}
 use Rattle.osi_class.proofs.between.parts_stay_in_order.{choose_some, at_some}
 use Rattle.osi_class.proofs.giving.the_units_of_one_tsdu.{more_credit, one_part, parts_cut}

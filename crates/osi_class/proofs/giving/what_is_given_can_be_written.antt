@@ -1,10 +1,7 @@
 -- What a link gives can be written.
-use Rattle.std.proofs.Common.{◌≡◌, ℕ, ◌+◌, ◌<◌, ◌≤◌, List, length, Option, Some, arith, IfSome, length-drop}
-use Rattle.osi_tpkt.specs.Octets.{IsOctets}
-use Rattle.osi_tpkt.proofs.lists_of_octets_stay_octets.{octets_take, octets_drop}
-use Rattle.osi_tpdu.specs.Writing.{written, Fits}
 use Rattle.osi_class.proofs.Vocabulary.{AllByRecursion, Ends, Flow, octets_of, header_octets, Standing, Given, next_by, next, unit_of}
-use Rattle.osi_class.proofs.Vocabulary.{IsSound, IsSoundFlow, HasGivenInRange, Part}
+use Rattle.osi_class.proofs.Vocabulary.{IsSound, IsSoundFlow, HasGivenInRange, Part, ◌≡◌, ℕ, ◌+◌, ◌<◌, ◌≤◌, List, length, Option, Some}
+use Rattle.osi_class.proofs.Vocabulary.{arith, IfSome, length-drop, IsOctets, octets_take, octets_drop, written, Fits}
 use Rattle.osi_class.proofs.between.parts_stay_in_order.{choose_some, at_some}
 use Rattle.osi_class.proofs.giving.the_units_of_one_tsdu.{take_drop}
 

@@ -1,13 +1,12 @@
 -- Whatever happens to a session of class 0, what it sends is put at once, and the connection stays open unless the session closes it.
 -- For the turns of an end.
-use Rattle.std.proofs.Common.{arith}
-use Rattle.osi_honest.proofs.Vocabulary.{[], ap, Bool, false, inl, inr, IsSome, List, Option, refl, Some, subst, sym, true}
-use Rattle.osi_honest.proofs.Vocabulary.{ℕ, ◌∙◌, ◌≡◌, Zero, put_here, closed_with, closes, sent_all, put, Rows, value_at}
-use Rattle.osi_honest.proofs.Vocabulary.{State as Carrier, tsdus_sent, input_begun, after_input, Input, Listener, session_react as react}
-use Rattle.osi_honest.proofs.Vocabulary.{is_wait_transport, handed, AreShort, kept_at, limit_for, line_by, to_session}
-use Rattle.osi_honest.proofs.Vocabulary.{End, Line, session_in, answers_by, hands, sends, IsOpenZero, IsWritten, Moves, Puts, Talks}
+use Rattle.osi_honest.proofs.Vocabulary.{[], ap, Bool, false, IsSome, List, refl, Some, subst, sym, true, ℕ, ◌≡◌, Zero, put_here}
+use Rattle.osi_honest.proofs.Vocabulary.{closed_with, closes, sent_all, put, Rows, value_at, State as Carrier, tsdus_sent, input_begun}
+use Rattle.osi_honest.proofs.Vocabulary.{after_input, Input, Listener, session_react as react, is_wait_transport, handed, AreShort, kept_at}
+use Rattle.osi_honest.proofs.Vocabulary.{limit_for, line_by, to_session, End, Line, session_in, sends, IsOpenZero, IsWritten, Moves, Puts}
+use Rattle.osi_honest.proofs.Vocabulary.{Talks, arith, append-nil}
 use Rattle.osi_stack.specs.Moving.{answers}
-use Rattle.osi_honest.proofs.class_0.what_class_0_writes_of_a_tsdu.{all_written, none_written, open_is, written_open}
+use Rattle.osi_honest.proofs.class_0.what_class_0_writes_of_a_tsdu.{all_written, open_is, written_open}
 
 -- ---- the line of a session
 
@@ -16,12 +15,8 @@ pub record HasLine (r : ℕ) (session : Listener) (lines : Rows Line) : Type 0 w
   pub here : value_at r lines ≡ Some line
   pub is : line.session ≡ Some session
 
-line_in : (r : ℕ) (session : Listener) (lines : Rows Line) (o : Option Line) → value_at r lines ≡ o → session_in o ≡ Some session →
-    HasLine r session lines
-line_in r session lines o e h = grind arith
-
 pub line_there : (r : ℕ) (session : Listener) (lines : Rows Line) → kept_at r lines ≡ Some session → HasLine r session lines
-line_there r session lines h = line_in r session lines (value_at r lines) refl h
+line_there r session lines h = grind arith
 
 pub moved_by : (r : ℕ) (session : Listener) (input : Input) (e : End) (h : HasLine r session e.lines) →
     to_session r input e ≡ record {
@@ -70,58 +65,24 @@ answered : (r : ℕ) (session : Listener) (begun : List ℕ) (input : Input) (e 
 answered r session begun input e t true closes proper h =
     let is = moved_by r session input e h in
     let none = proper.silent closes in
-    let carrier : (to_session r input e).carrier ≡ closed_with r 128 e.carrier =
-    ap (λ (x : End). x.carrier) is
-    ∙ ap (λ (x : Bool). answers_by x r (tsdus_sent (limit_for session input) (react session input).reply) e.carrier) closes in
+    let carrier : (to_session r input e).carrier ≡ closed_with r 128 e.carrier = grind arith in
     let over = closed_ends r t.peer t.limit begun e.carrier t.is_open t.class in
-    let nothing = written_puts [] e.carrier e.carrier tt (none_written e.carrier) in
-    record {
-      puts = subst (λ (x : List (List ℕ)). Puts x e.carrier (to_session r input e).carrier) (sym none)
-          (record {
-            parts = nothing.parts;
-            carry = nothing.carry;
-            short = tt;
-            outgoing = ap (λ (x : Carrier). x.outgoing) carrier
-                ∙ over.1 ∙ nothing.outgoing;
-          });
-      then_is = inr (closes, subst (λ (x : Carrier). IsSome x.ended) (sym carrier) over.0);
-    }
+    grind (arith, written_puts, append-nil)
 answered r session begun input e t false closes proper h =
     let is = moved_by r session input e h in
     let tsdus = sends session input in
-    let carrier : (to_session r input e).carrier ≡ sent_all r tsdus e.carrier =
-    ap (λ (x : End). x.carrier) is
-    ∙ ap (λ (x : Bool). answers_by x r (tsdus_sent (limit_for session input) (react session input).reply) e.carrier) closes
-    ∙ ap (λ (x : List (List ℕ)). hands r x e.carrier) proper.same ∙ handed r tsdus e.carrier proper.short in
+    let carrier : (to_session r input e).carrier ≡ sent_all r tsdus e.carrier = grind (arith, handed) in
     let w : IsWritten tsdus e.carrier (to_session r input e).carrier = subst (IsWritten tsdus e.carrier) (sym carrier)
     (all_written r t.peer t.limit begun tsdus e.carrier t.is_open) in
-    record {
-      puts = written_puts tsdus e.carrier (to_session r input e).carrier proper.short w;
-      then_is = inl (
-        closes,
-        record {
-          peer = t.peer;
-          limit = t.limit;
-          is_open = written_open r t.peer t.limit begun tsdus e.carrier (to_session r input e).carrier w t.is_open;
-          class = ap (λ (x : Carrier). x.class) w.is ∙ t.class;
-          told = ap (λ (x : Carrier). x.events) w.is ∙ t.told;
-          here = ap (λ (x : End). kept_at r x.lines) is ∙ kept_then r session input e.lines h;
-          begun_long_ago = t.begun_then;
-        },
-      );
-    }
+    grind (arith, written_puts, written_open, kept_then)
 
 pub session_moves : (r : ℕ) (session : Listener) (begun : List ℕ) (input : Input) (e : End) → Talks r session begun e →
     IsProper session input → Moves r session begun input e (to_session r input e)
 session_moves r session begun input e t proper =
-    answered r session begun input e (record {
-      peer = t.peer;
-      limit = t.limit;
-      is_open = t.is_open;
-      class = t.class;
-      told = t.told;
-      begun_then = still_begun session input t.begun_long_ago;
-    }) (react session input).closes refl proper (line_there r session e.lines t.here)
+    answered r session begun input e (grind (
+      arith,
+      still_begun,
+    )) (react session input).closes refl proper (line_there r session e.lines t.here)
 
 -- the same of a session that waited for its connection until now
 pub moves_from : (r : ℕ) (session : Listener) (begun : List ℕ) (input : Input) (e : End) (peer limit : ℕ) →
@@ -129,11 +90,4 @@ pub moves_from : (r : ℕ) (session : Listener) (begun : List ℕ) (input : Inpu
     is_wait_transport (after_input session input).state.phase ≡ false → IsProper session input →
     Moves r session begun input e (to_session r input e)
 moves_from r session begun input e peer limit is_open class told here then_begun proper =
-    answered r session begun input e (record {
-      peer = peer;
-      limit = limit;
-      is_open = is_open;
-      class = class;
-      told = told;
-      begun_then = then_begun;
-    }) (react session input).closes refl proper (line_there r session e.lines here)
+    answered r session begun input e (grind arith) (react session input).closes refl proper (line_there r session e.lines here)

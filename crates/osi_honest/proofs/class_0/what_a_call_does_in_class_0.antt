@@ -1,16 +1,14 @@
 -- A call of the user at an end with an open connection of class 0, and any turn of such an end, or of one that is over.
 -- For runs of an end.
-use Rattle.osi_honest.proofs.Vocabulary.{[], ap, arith, Bool, false, if◌then◌else◌, inl, inr, is_some, IsSome, length, List, map, None, not}
-use Rattle.osi_honest.proofs.Vocabulary.{Option, refl, Some, subst, sym, true, ℕ, ◌++◌, ◌==◌, ◌∙◌, ◌∷◌, ◌≡◌, ◌≢◌, eq-eqb, eqb-true}
-use Rattle.osi_honest.proofs.Vocabulary.{append-nil, append_cancel_left, closed_on, closed_with, link_of, open_link, or_else, value_at}
-use Rattle.osi_honest.proofs.Vocabulary.{Connection, packets, State as Carrier, EndReason, Broken, OpenError, Ended, NotCaller}
-use Rattle.osi_honest.proofs.Vocabulary.{OneConnection, SessionCall, HasSerial, after_input, called, Listener, session_react as react}
-use Rattle.osi_honest.proofs.Vocabulary.{says_is, closed_and_given, disconnect_carrier, disconnect_is, given_other, after_open, call_error}
-use Rattle.osi_honest.proofs.Vocabulary.{connect_error, disconnects, gives_up, ends, IsAccepted, AreShort, IsGranted, kept_at, to_session}
-use Rattle.osi_honest.proofs.Vocabulary.{user_does, UserCall, breaking, calling, connecting, disconnecting, Call, Calls, carried_in}
-use Rattle.osi_honest.proofs.Vocabulary.{carrying, feeding, telling, End, Holding, session_in, Request as Connect, ConnectError, sends}
-use Rattle.osi_honest.proofs.Vocabulary.{Carry, dt, put_along, Stands, gone, talking, History, Moves, Said, said_after, Talks, Act, Acts}
-use Rattle.osi_honest.proofs.Vocabulary.{carried_by, HasSerialIn, Run, Takes, Turn, used_by, serving, using}
+use Rattle.osi_honest.proofs.Vocabulary.{[], ap, arith, Bool, false, if◌then◌else◌, inl, inr, is_some, IsSome, length, List, map, None}
+use Rattle.osi_honest.proofs.Vocabulary.{refl, subst, sym, true, ℕ, ◌++◌, ◌==◌, ◌∙◌, ◌∷◌, ◌≡◌, ◌≢◌, eq-eqb, eqb-true, append-nil}
+use Rattle.osi_honest.proofs.Vocabulary.{append_cancel_left, closed_with, open_link, packets, State as Carrier, Broken, SessionCall}
+use Rattle.osi_honest.proofs.Vocabulary.{HasSerial, after_input, called, Listener, session_react as react, says_is, closed_and_given}
+use Rattle.osi_honest.proofs.Vocabulary.{disconnect_carrier, disconnect_is, given_other, call_error, connect_error, disconnects, gives_up}
+use Rattle.osi_honest.proofs.Vocabulary.{ends, IsAccepted, AreShort, IsGranted, to_session, user_does, UserCall, breaking, calling}
+use Rattle.osi_honest.proofs.Vocabulary.{connecting, disconnecting, Call, Calls, carried_in, carrying, feeding, telling, End, Holding}
+use Rattle.osi_honest.proofs.Vocabulary.{Request as Connect, sends, Carry, dt, put_along, Stands, gone, talking, History, Moves, Said}
+use Rattle.osi_honest.proofs.Vocabulary.{said_after, Talks, Act, Acts, carried_by, HasSerialIn, Run, Takes, Turn, used_by, serving, using}
 use Rattle.osi_stack.specs.Calls.{breaks}
 use Rattle.osi_honest.specs.Stretches.{Goes}
 use Rattle.osi_honest.specs.Talking as history
@@ -21,24 +19,13 @@ use Rattle.osi_honest.proofs.class_0.what_a_turn_does_in_class_0.{nothing_put, o
 
 -- ---- the one reference
 
--- no other reference has an open connection
-none_other : (q r : ℕ) (x : Connection) (b : Bool) → (r == q) ≡ b → r ≢ q → link_of (value_at q ((r, x) ∷ [])) ≡ None
-none_other q r x b e ne = grind (arith, eqb-true)
-
 other_link : (q r : ℕ) (session : Listener) (begun : List ℕ) (e : End) → Talks r session begun e → r ≢ q → open_link q e.carrier ≡ None
-other_link q r session begun e t ne = grind (arith, none_other)
-
-the_one : (q r : ℕ) (session : Listener) (begun : List ℕ) (e : End) → Talks r session begun e → IsSome (open_link q e.carrier) → r ≡ q
-the_one q r session begun e t some = grind (arith, eqb-true, never_lasts, other_link, eq-eqb)
+other_link q r session begun e t ne = grind arith
 
 -- ---- a request for a connection: class 0 has the one
 
-one_only : (b : Bool) (o : Option EndReason) (e : Option OpenError) → (error : Option ConnectError) → o ≡ None →
-    after_open (if not b then Some NotCaller else (if is_some o then Some Ended else or_else (Some OneConnection) e)) error ≡ None → ⊥
-one_only b o e error lasts h = grind arith
-
 no_request : (c : Connect) (r : ℕ) (session : Listener) (begun : List ℕ) (e : End) → Talks r session begun e → connect_error c e ≡ None → ⊥
-no_request c r session begun e t h = grind (arith, one_only)
+no_request c r session begun e t h = grind arith
 
 -- ---- a call of the session
 
@@ -51,14 +38,7 @@ granted_here : (q r : ℕ) (call : SessionCall) (session : Listener) (begun : Li
     call_error q call e ≡ None → (r ≡ q) × IsGranted r call session e.carrier
 granted_here q r call session begun e t allowed =
     let says = says_is q call e allowed in
-    let one = the_one q r session begun e t says.granted.opened in
-    let there : kept_at q e.lines ≡ Some says.acts.session = ap session_in says.acts.here ∙ says.acts.is in
-    let here : Some says.acts.session ≡ Some session = sym there ∙ ap (λ n. kept_at n e.lines) (sym one) ∙ t.here in
-    let same : says.acts.session ≡ session = cc in (
-      one,
-      subst (λ (s : Listener). IsGranted r call s e.carrier) same
-          (subst (λ n. IsGranted n call says.acts.session e.carrier) (sym one) says.granted),
-    )
+    grind arith
 
 module _ (begin : Listener) (r : ℕ) (took : List (List ℕ)) (said : List Said) (begun : List ℕ) (session : Listener)
     (h : History begin took said false session) where
@@ -99,8 +79,7 @@ module _ (begin : Listener) (r : ℕ) (took : List (List ℕ)) (said : List Said
   call_turn q call put old new t allowed serial is outgoing =
       let g = granted_here q r call session begun old.end t allowed in
       let m = session_moves r session begun (called call) old.end t (granted_proper r call session old.end.carrier g.1) in
-      let there : to_session r (called call) old.end ≡ new.end = ap (λ n. to_session n (called call) old.end) g.0
-      ∙ sym (ap (λ (x : Holding). x.end) is) in
+      let there : to_session r (called call) old.end ≡ new.end = grind arith in
       moved_turn call put old new serial (subst (Moves r session begun (called call) old.end) there m) g.1.closes
       (ap (λ (x : Holding). x.held.octets) is) outgoing
 
@@ -115,38 +94,25 @@ module _ (begin : Listener) (r : ℕ) (took : List (List ℕ)) (said : List Said
       ap (λ (x : Holding). x.end.carrier) is ∙ disconnect_carrier q old.end ∙ ap (λ n. closed_with n 128 old.end.carrier) (sym same) in
       let over = closed_ends r t.peer t.limit begun old.end.carrier t.is_open t.class in
       over_turn begin r took said begun [] put old new false session h (subst (λ (c : Carrier). IsSome c.ended) (sym carrier) over.0)
-      (nothing_put begin r took said begun old.end.carrier.outgoing new.end.carrier.outgoing put outgoing
-      (ap (λ (c : Carrier). c.outgoing) carrier ∙ over.1))
+      (grind (arith, nothing_put))
   given_turn q false put old new e t is outgoing =
       let ne : r ≢ q = (λ same. let both : true ≡ false = sym (eq-eqb r q same) ∙ e in cc) in
-      let rests : closed_with q 128 old.end.carrier ≡ old.end.carrier = ap (λ o. closed_on q 128 o old.end.carrier)
-      (other_link q r session begun old.end t ne) in
+      let rests : closed_with q 128 old.end.carrier ≡ old.end.carrier = grind (arith, other_link) in
       let carrier : (disconnects q old.end).carrier ≡ old.end.carrier = disconnect_carrier q old.end ∙ rests in
-      let end_is : disconnects q old.end ≡ closed_and_given q old.end = disconnect_is q old.end
-      (ap (λ (c : Carrier). c.ended) carrier ∙ t.is_open.lasts) in
+      let end_is : disconnects q old.end ≡ closed_and_given q old.end = grind (arith, disconnect_is) in
       let there : new.end ≡ record { carrier = old.end.carrier; lines = gives_up q old.end.lines } =
       ap (λ (x : Holding). x.end) is ∙ end_is ∙ (λ i. record { carrier = rests i; lines = gives_up q old.end.lines }) in
-      let talks : Talks r session begun (record { carrier = old.end.carrier; lines = gives_up q old.end.lines }) = record {
-        peer = t.peer;
-        limit = t.limit;
-        is_open = t.is_open;
-        class = t.class;
-        told = t.told;
-        here = ap session_in (given_other r q old.end.lines ne) ∙ t.here;
-        begun_long_ago = t.begun_long_ago;
-      } in
+      let talks : Talks r session begun (record { carrier = old.end.carrier; lines = gives_up q old.end.lines }) = grind (
+        arith,
+        given_other,
+      ) in
       still_turn begin r took said begun [] put old new (subst (Stands begin r took said begun) (sym there) (talking session h talks)) refl
-      (nothing_put begin r took said begun old.end.carrier.outgoing new.end.carrier.outgoing put outgoing
-      (ap (λ (x : End). x.carrier.outgoing) there)) (ap (λ (x : Holding). x.held.octets) is)
+      (grind (arith, nothing_put)) (ap (λ (x : Holding). x.held.octets) is)
 
   -- ---- the byte connection breaks
 
   broken_is : (e : End) → e.carrier.ended ≡ None → breaks e ≡ ends Broken e
   broken_is e lasts = ap (λ (b : Bool). if b then e else ends Broken e) (ap is_some lasts)
-
-  break_turn : (put : List ℕ) (old new : Holding) → Talks r session begun old.end → new ≡ record old { end = breaks old.end } →
-      new.end.carrier.outgoing ≡ old.end.carrier.outgoing ++ put → Goes begin r took said begun [] put old new
-  break_turn put old new t is outgoing = search (arith, broken_is, over_turn, nothing_put)
 
   using_turn : (call : UserCall) (put : List ℕ) (old new : Holding) → Talks r session begun old.end → IsAccepted call old.end →
       HasSerialIn call →
@@ -155,7 +121,7 @@ module _ (begin : Listener) (r : ℕ) (took : List (List ℕ)) (said : List Said
   using_turn (connecting c) put old new t allowed serial is outgoing = absurd (no_request c r session begun old.end t allowed)
   using_turn (calling q call) put old new t allowed serial is outgoing = call_turn q call put old new t allowed serial is outgoing
   using_turn (disconnecting q) put old new t allowed serial is outgoing = given_turn q (r == q) put old new refl t is outgoing
-  using_turn breaking put old new t allowed serial is outgoing = break_turn put old new t is outgoing
+  using_turn breaking put old new t allowed serial is outgoing = grind (arith, broken_is, over_turn, nothing_put)
 
   pub open_turn : AllProper → (turn : Turn) (old new : Holding) → Talks r session begun old.end → Takes old turn new →
       Goes begin r took said begun turn.used turn.put old new

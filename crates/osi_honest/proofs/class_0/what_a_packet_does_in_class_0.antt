@@ -1,19 +1,15 @@
 -- A packet at an open connection of class 0: a part of a TSDU, the last part, which the session takes, or the end is over.
 -- For the turns of an end.
-use Rattle.std.proofs.Common.{arith}
-use Rattle.osi_honest.proofs.Vocabulary.{[], ap, Bool, Err, false, if◌then◌else◌, inl, inr, is_some, IsSome, length, List, map}
-use Rattle.osi_honest.proofs.Vocabulary.{nat_lt, None, Ok, Option, refl, Result, Some, subst, sym, true, ℕ, ◌++◌, ◌+◌, ◌∙◌, ◌∷◌, ◌≡◌}
-use Rattle.osi_honest.proofs.Vocabulary.{append-nil, IsOctets, units_found, AreUnits, units_of, data0, disconnect, may_be_followed, request}
-use Rattle.osi_honest.proofs.Vocabulary.{Value, TpduFault, drained, joining, with_part, longest_tsdu, unit_of, with_joined}
-use Rattle.osi_honest.proofs.Vocabulary.{zero_standing, Class, Zero, react_quiet, reacts_over, link_of, open_link}
-use Rattle.osi_honest.proofs.Vocabulary.{Happening, tsdu, in_class, in_zero, reacts, taking, to_linked, to_only, put, Rows}
-use Rattle.osi_honest.proofs.Vocabulary.{value_at, Connection, linked, packets, State as Carrier, after_input, came, Listener, all_quiet}
-use Rattle.osi_honest.proofs.Vocabulary.{concluded_carrier, packet_is, one_heard, Carries, events_heard, session_carried, concludes_lasting}
-use Rattle.osi_honest.proofs.Vocabulary.{after_packet, attends, concludes, hears_all, with_carrier, to_session, End, IsOpenZero, one_open}
-use Rattle.osi_honest.proofs.Vocabulary.{resting, IsPart, Moves, Packet, Talks, last, part}
-use Rattle.osi_class.specs.declared.faults.LinkFault.TheVariants.{TsduTooLong, WrongForm}
+use Rattle.osi_honest.proofs.Vocabulary.{[], ap, Bool, Err, false, if◌then◌else◌, is_some, length, List, nat_lt, None, Ok, Option, refl}
+use Rattle.osi_honest.proofs.Vocabulary.{Result, Some, subst, sym, true, ℕ, ◌++◌, ◌+◌, ◌∙◌, ◌∷◌, ◌≡◌, append-nil, IsOctets, units_found}
+use Rattle.osi_honest.proofs.Vocabulary.{AreUnits, units_of, data0, disconnect, may_be_followed, request, Value, TpduFault, joining}
+use Rattle.osi_honest.proofs.Vocabulary.{with_part, longest_tsdu, with_joined, zero_standing, Class, Zero, react_quiet, reacts_over, tsdu}
+use Rattle.osi_honest.proofs.Vocabulary.{in_class, in_zero, reacts, taking, to_linked, to_only, Rows, Connection, State as Carrier, came}
+use Rattle.osi_honest.proofs.Vocabulary.{Listener, all_quiet, concluded_carrier, packet_is, one_heard, Carries, events_heard}
+use Rattle.osi_honest.proofs.Vocabulary.{session_carried, concludes_lasting, after_packet, attends, concludes, hears_all, with_carrier}
+use Rattle.osi_honest.proofs.Vocabulary.{to_session, End, IsOpenZero, one_open, resting, IsPart, Packet, Talks, last, part, arith}
+use Rattle.osi_honest.proofs.Vocabulary.{TsduTooLong, react}
 use Rattle.osi_carrier.specs.Packets as carriers
-use Rattle.osi_carrier.specs.React.{react}
 use Rattle.osi_honest.specs.Talking.Packet.{over}
 use Rattle.osi_honest.proofs.class_0.a_session_of_class_0_puts_what_it_sends.{IsProper, session_moves}
 use Rattle.osi_honest.proofs.class_0.what_class_0_writes_of_a_tsdu.{nothing_left, put_one}
@@ -23,11 +19,8 @@ use Rattle.osi_honest.proofs.class_0.what_class_0_writes_of_a_tsdu.{nothing_left
 abbrev pub Over : List ℕ → Carrier → Type 0
 Over octets c = (is_some c.ended ≡ true) × (c.outgoing ≡ octets)
 
-pub no_link : (r : ℕ) (c : Carrier) → is_some c.ended ≡ true → open_link r c ≡ None
-no_link r c gone = ap (λ (b : Bool). if b then None else link_of (value_at r c.live)) gone
-
 pub over_carries : (octets : List ℕ) → Carries (Over octets)
-over_carries octets = grind (arith, no_link)
+over_carries octets = grind arith
 
 pub attends_over : (octets : List ℕ) (e : End) → Over octets e.carrier → Over octets (attends e).carrier
 attends_over octets e p =
@@ -48,32 +41,19 @@ pub data AfterUnit (r peer limit : ℕ) (begun : List ℕ) (v : Value) (old new 
 
 module _ (r peer limit : ℕ) (begun : List ℕ) (c : Carrier) (h : IsOpenZero r peer limit begun c) (zero : c.class ≡ Some Zero)
     (quiet : c.events ≡ []) where
-  settled : (begun : List ℕ) (told : List Happening) →
-      record c {
-        live = put r (linked peer (drained (zero_standing (resting limit begun))).link) c.live;
-        outgoing = c.outgoing ++ packets
-            (map (unit_of peer) (drained (zero_standing (resting limit begun))).units);
-        events = c.events ++ told;
-      }
-      ≡ record c { live = one_open r peer limit begun; events = told }
-  settled begun told = grind (arith, nothing_left, put_one, append-nil)
-
   joined_by : (end : Bool) (octets : List ℕ) (b : Bool) → nat_lt longest_tsdu (length begun + length octets) ≡ b →
       AfterUnit r peer limit begun (data0 end octets) c
       (taking r peer (with_joined (resting limit begun) None
       (if b then Err TsduTooLong else Ok (with_part (joining begun []) end octets))) c)
   joined_by end octets true e = grind arith
-  joined_by false octets false e = adds_part octets refl e (settled (begun ++ octets) []
+  joined_by false octets false e = adds_part octets refl e ((grind (arith, nothing_left, put_one, append-nil))
       ∙ (λ i. record c { live = one_open r peer limit (begun ++ octets); events = sym quiet i }))
-  joined_by true octets false e = ends_tsdu octets refl e (settled [] (tsdu r (begun ++ octets) ∷ []))
-
-  wrong_form : (v : Value) → AfterUnit r peer limit begun v c (taking r peer (Err WrongForm) c)
-  wrong_form v = grind arith
+  joined_by true octets false e = ends_tsdu octets refl e (grind (arith, nothing_left, put_one, append-nil))
 
   in_link : (v : Value) → AfterUnit r peer limit begun v c (to_linked r peer (zero_standing (resting limit begun)) v c)
   in_link (data0 end octets) = search (arith, joined_by)
   in_link (disconnect destination source reason user) = grind arith
-  in_link v = wrong_form v
+  in_link v = grind arith
 
   in_only : (v : Value) → AfterUnit r peer limit begun v c (to_only c.live v c)
   in_only v = subst (λ (rows : Rows Connection). AfterUnit r peer limit begun v c (to_only rows v c)) (sym h.live) (in_link v)
@@ -144,34 +124,11 @@ module _ (r : ℕ) (session : Listener) (begun u : List ℕ) (e : End) (t : Talk
       Packet r session begun u e (attends (with_carrier c e))
   taken proper octets is c new =
       let mid : End = record { carrier = record e.carrier { live = one_open r t.peer t.limit []; events = [] }; lines = e.lines } in
-      let talks : Talks r session [] mid = record {
-        peer = t.peer;
-        limit = t.limit;
-        is_open = record { some = t.is_open.some; lasts = t.is_open.lasts; live = refl };
-        class = t.class;
-        told = refl;
-        here = t.here;
-        begun_long_ago = t.begun_long_ago;
-      } in
+      let talks : Talks r session [] mid = grind arith in
       let moved = session_moves r session [] (came (begun ++ octets)) mid talks (proper session (begun ++ octets)) in
-      let heard : attends (with_carrier c e) ≡ concludes (to_session r (came (begun ++ octets)) mid) =
-      ap (λ (x : Carrier). attends (with_carrier x e)) new
-      ∙ ap concludes (one_heard
-      (with_carrier (record e.carrier { live = one_open r t.peer t.limit []; events = tsdu r (begun ++ octets) ∷ [] }) e)
-      (tsdu r (begun ++ octets)) refl) in
+      let heard : attends (with_carrier c e) ≡ concludes (to_session r (came (begun ++ octets)) mid) = grind (arith, one_heard) in
       let there = to_session r (came (begun ++ octets)) mid in
-      last octets is (subst (Moves r session [] (came (begun ++ octets)) e) (sym heard) (record {
-        puts = record {
-          parts = moved.puts.parts;
-          carry = moved.puts.carry;
-          short = moved.puts.short;
-          outgoing = ap (λ (x : Carrier). x.outgoing) (concluded_carrier there) ∙ moved.puts.outgoing;
-        };
-        then_is = elim moved.then_is [
-          | inl m ↦ inl (m.0, subst (Talks r (after_input session (came (begun ++ octets))) []) (sym (lasting there m.1.is_open.lasts)) m.1)
-          | inr m ↦ inr (m.0, subst (λ (x : Carrier). IsSome x.ended) (sym (concluded_carrier there)) m.1)
-        ];
-      }))
+      last octets is (grind (arith, concluded_carrier, lasting))
 
   heard_by : AllProper → (c : Carrier) → AfterPacket r t.peer t.limit begun u e.carrier c →
       Packet r session begun u e (attends (with_carrier c e))
@@ -179,15 +136,7 @@ module _ (r : ℕ) (session : Listener) (begun u : List ℕ) (e : End) (t : Talk
       let there : End = with_carrier (record e.carrier { live = one_open r t.peer t.limit (begun ++ octets) }) e in
       let heard : attends (with_carrier c e) ≡ there =
       ap (λ (x : Carrier). attends (with_carrier x e)) new ∙ ap concludes (all_quiet there t.told) ∙ lasting there t.is_open.lasts in
-      part octets is (ap (λ (x : End). x.carrier.outgoing) heard) (subst (Talks r session (begun ++ octets)) (sym heard) (record {
-        peer = t.peer;
-        limit = t.limit;
-        is_open = record { some = t.is_open.some; lasts = t.is_open.lasts; live = refl };
-        class = t.class;
-        told = t.told;
-        here = t.here;
-        begun_long_ago = t.begun_long_ago;
-      }))
+      part octets is (ap (λ (x : End). x.carrier.outgoing) heard) (subst (Talks r session (begun ++ octets)) (sym heard) (grind arith))
   heard_by proper c (ends_tsdu octets is new) = taken proper octets is c new
   heard_by proper c (is_over p) = let q = attends_over e.carrier.outgoing (with_carrier c e) p in over q.0 q.1
 

@@ -1,15 +1,11 @@
 -- What a session answers a TSDU by is one short TSDU, and it answers nothing where it closes its connection.
 -- For the turns of an end.
-use Rattle.std.proofs.Common.{arith}
-use Rattle.osi_honest.proofs.Vocabulary.{[], ap, false, List, None, Option, true, ℕ, ◌≡◌, sent_alone}
-use Rattle.osi_honest.proofs.Vocabulary.{Meaning, is_parted, tsdus_sent, came, Listener, session_react as react}
-use Rattle.osi_honest.proofs.Vocabulary.{limit_of, sent_short, SpduLaws, AreShort, limit_for, came_moves, came_itself, SaysItself}
+use Rattle.osi_honest.proofs.Vocabulary.{[], ap, List, None, Option, true, ℕ, ◌≡◌, sent_alone, Meaning, tsdus_sent, came, Listener}
+use Rattle.osi_honest.proofs.Vocabulary.{session_react as react, limit_of, sent_short, SpduLaws, AreShort, limit_for, came_moves}
+use Rattle.osi_honest.proofs.Vocabulary.{came_itself, SaysItself, arith}
 unfoldable use Rattle.osi_message.specs.Written.{unit_of}
 use Rattle.osi_session.specs.Standing.{answers}
 use Rattle.osi_honest.proofs.class_0.what_a_packet_does_in_class_0.{AllProper}
-
-pub answer_alone : (m : Meaning) (limit : ℕ) → answers m m ≡ true → is_parted limit m ≡ false
-answer_alone m limit e = grind arith
 
 -- an answer has no user information
 answer_plain : (m : Meaning) → answers m m ≡ true → (unit_of m).information ≡ []
@@ -17,10 +13,10 @@ unfolding unit_of
 answer_plain m e = grind arith
 
 one_for_all : (some other : ℕ) (reply : Option Meaning) → SaysItself reply → tsdus_sent some reply ≡ tsdus_sent other reply
-one_for_all some other reply h = grind (arith, sent_alone, answer_alone)
+one_for_all some other reply h = grind (arith, sent_alone)
 
 answer_short : SpduLaws → (limit : ℕ) (reply : Option Meaning) → SaysItself reply → AreShort (tsdus_sent limit reply)
-answer_short law limit reply h = grind (arith, sent_alone, answer_alone, sent_short, answer_plain)
+answer_short law limit reply h = grind (arith, sent_alone, sent_short, answer_plain)
 
 replies_itself : (session : Listener) (octets : List ℕ) → SaysItself (react session (came octets)).reply
 replies_itself session octets = grind (arith, came_moves, came_itself)

@@ -1,13 +1,11 @@
 -- If memory runs out for a packet at an open connection of class 0, nothing was put for it.
 -- For the turns of an end.
-use Rattle.std.proofs.Common.{arith}
-use Rattle.osi_honest.proofs.Vocabulary.{[], ap, Bool, false, if◌then◌else◌, inl, inr, is_some, List, None, refl, subst, sym, true}
-use Rattle.osi_honest.proofs.Vocabulary.{ℕ, ◌++◌, ◌∙◌, ◌∷◌, ◌≡◌, IsOctets, units_found, AreUnits, may_be_followed, Value, reacts_over}
-use Rattle.osi_honest.proofs.Vocabulary.{acts_cases, Happening, tsdu, reacts, State as Carrier, NoMemory, Listener, never_starved}
-use Rattle.osi_honest.proofs.Vocabulary.{times_quiet, rest_is, events_heard, session_carried, hears_times, RunsOut, Starves}
-use Rattle.osi_honest.proofs.Vocabulary.{starves, with_carrier, with_events, End, Talks}
+use Rattle.osi_honest.proofs.Vocabulary.{[], ap, Bool, false, if◌then◌else◌, inl, inr, is_some, List, None, refl, subst, sym, ℕ, ◌++◌, ◌∙◌}
+use Rattle.osi_honest.proofs.Vocabulary.{◌∷◌, ◌≡◌, IsOctets, units_found, AreUnits, may_be_followed, Value, reacts_over, acts_cases}
+use Rattle.osi_honest.proofs.Vocabulary.{Happening, tsdu, reacts, State as Carrier, NoMemory, Listener, never_starved, times_quiet, rest_is}
+use Rattle.osi_honest.proofs.Vocabulary.{events_heard, session_carried, hears_times, RunsOut, Starves, starves, with_carrier, with_events}
+use Rattle.osi_honest.proofs.Vocabulary.{End, Talks, arith, react}
 use Rattle.osi_carrier.specs.Packets as carriers
-use Rattle.osi_carrier.specs.React.{react}
 use Rattle.osi_carrier.specs.State.{ends}
 use Rattle.osi_honest.proofs.class_0.what_a_packet_does_in_class_0.{AfterPacket, AfterUnit, Over, acted, alone, attends_over, over_carries}
 use Rattle.osi_honest.proofs.class_0.what_a_packet_does_in_class_0.{unit_acts}
@@ -36,9 +34,7 @@ module _ (r peer limit : ℕ) (begun u : List ℕ) (c : Carrier) (each : (v : Va
       by (unit_adds octets is fits new) = followed (ap may_be_followed is)
       by (unit_ends octets is fits new) = followed (ap may_be_followed is)
       by (unit_over p) = absurd
-          (let over : is_some (reacts done (react v c)).ended ≡ true = ap (λ (x : Carrier). is_some x.ended)
-          (reacts_over done (react v c) p.0) ∙ p.0 in
-          let none = ap is_some lasts in cc)
+          (grind (arith, reacts_over))
 
   starved_over : (d : Carrier) → IsOctets u → carriers.Starves c u d → Over c.outgoing d
   starved_over d octets (units, is, out) = grind (arith, none_before, units_found u units octets is)
@@ -59,10 +55,7 @@ one_out heard event e first more is waits = search (arith, rest_is, times_quiet)
 
 heard_over : (octets : List ℕ) (n : ℕ) (e : End) → Over octets e.carrier → Over octets (hears_times n e).carrier
 heard_over octets n e p =
-    events_heard (λ x. Over octets x.carrier) (λ events x q. q) (record {
-      begins = λ r x none q. q;
-      moves = λ event x q. session_carried (Over octets) (over_carries octets) _ _ x q;
-    }) n e p
+    events_heard (λ x. Over octets x.carrier) (λ events x q. q) (grind (arith, session_carried, over_carries)) n e p
 
 pub out_over : (octets : List ℕ) (e new : End) → Over octets e.carrier → RunsOut e new → new.carrier.outgoing ≡ octets
 out_over octets e new p out = grind (arith, starves_same, heard_over)

@@ -4,10 +4,10 @@ use Rattle.osi_honest.proofs.Vocabulary.{[], ap, append_assoc, arith, Bool, drop
 use Rattle.osi_honest.proofs.Vocabulary.{List, map, None, Option, refl, Some, subst, sym, take, true, ℕ, ◌++◌, ◌∙◌, ◌∷◌, ◌≡◌, ◌⊎◌}
 use Rattle.osi_honest.proofs.Vocabulary.{append-nil, append_cancel_left, take-append-drop, take_all, AllByRecursion, octets_right, IsOctets}
 use Rattle.osi_honest.proofs.Vocabulary.{IsPacket, ArePackets, Fed, packets_more, packets, EndReason, NoMemory, Listener, lasting_of}
-use Rattle.osi_honest.proofs.Vocabulary.{quiet_stops, kept_first, none_ended, found_how, uses_within, without_first, Feeds, FindsNoMemory}
+use Rattle.osi_honest.proofs.Vocabulary.{quiet_stops, kept_first, none_ended, found_how, uses_within, Feeds, FindsNoMemory}
 use Rattle.osi_honest.proofs.Vocabulary.{Goes as GoesThrough, RunsDry, StopsBehind, TakesPackets, uses_all, ends, Starves, Call, Calls}
-use Rattle.osi_honest.proofs.Vocabulary.{carried_in, put_back, used_in, carrying, feeding, telling, End, Holding, waits, dt, Extends}
-use Rattle.osi_honest.proofs.Vocabulary.{Stands, gone, talking, History, Said, Talks}
+use Rattle.osi_honest.proofs.Vocabulary.{carried_in, used_in, carrying, feeding, telling, End, Holding, waits, dt, Extends, Stands, gone}
+use Rattle.osi_honest.proofs.Vocabulary.{talking, History, Said, Talks}
 use Rattle.osi_honest.specs.Stretches.{Goes}
 use Rattle.osi_honest.proofs.class_0.what_a_packet_does_in_class_0.{AllProper}
 use Rattle.osi_honest.proofs.class_0.what_packets_do_in_class_0.{never_lasts, packets_act, stands_still}
@@ -91,8 +91,7 @@ module _ (begin : Listener) (r : ℕ) (took : List (List ℕ)) (said : List Said
         let whole : take used piece ≡ piece = let all = dry.all in take_all used piece (omega arith) in
         let cut = subst (λ (l : List ℕ). ArePackets dry.units (old.held.octets ++ l) new.held.octets) (sym whole) dry.packets in
         as_turn dry.units (take used piece) put new.held.octets old new
-        (packets_act begin r proper took said begun dry.units session old.end new.end h t
-        (all_octets dry.units _ _ dry.packets) dry.taken) cut (λ lasts. refl) outgoing
+        (grind (arith, packets_act, all_octets)) cut (λ lasts. refl) outgoing
 
     -- so much was used, and the packets stand in it
     pub record Within (units : List (List ℕ)) (old new : Holding) (piece : List ℕ) (used : ℕ) : Type 0 where
@@ -115,12 +114,7 @@ module _ (begin : Listener) (r : ℕ) (took : List (List ℕ)) (said : List Said
     stopped_within piece used old new stop (Some reason) true over all =
         let same : used ≡ length piece = stop.uses ∙ ap (λ (x : Bool). if x then length piece else stop.within) all in
         let whole : take used piece ≡ piece = take_all used piece (omega arith) in
-        record {
-          rest = [] ++ drop stop.within piece;
-          cut = subst (λ (l : List ℕ). ArePackets stop.units (old.held.octets ++ l) ([] ++ drop stop.within piece)) (sym whole)
-              (more_used stop.units old.held.octets piece [] stop.within stop.packets);
-          held = λ lasts. absurd (never_lasts new.end.carrier.ended (ap is_some over) lasts);
-        }
+        grind (arith, never_lasts, more_used stop.units old.held.octets piece [] stop.within stop.packets)
 
     stopped_turn : (piece put : List ℕ) (used : ℕ) (old new : Holding) → Talks r session begun old.end → StopsBehind old piece used new →
         new.end.carrier.outgoing ≡ old.end.carrier.outgoing ++ put →
@@ -128,8 +122,7 @@ module _ (begin : Listener) (r : ℕ) (took : List (List ℕ)) (said : List Said
     stopped_turn piece put used old new t stop outgoing =
         let w = stopped_within piece used old new stop new.end.carrier.ended (uses_all new.end) refl refl in
         as_turn stop.units (take used piece) put w.rest old new
-        (packets_act begin r proper took said begun stop.units session old.end new.end h t
-        (all_octets stop.units _ _ stop.packets) stop.taken) w.cut w.held outgoing
+        (grind (arith, packets_act, all_octets)) w.cut w.held outgoing
 
     -- packets that did not stop, and then the end
     ended_turn : (units : List (List ℕ)) (piece put rest : List ℕ) (used : ℕ) (old new : Holding) (before : End) →
@@ -231,24 +224,17 @@ module _ (begin : Listener) (r : ℕ) (took : List (List ℕ)) (said : List Said
     feed_turn piece put fed old new false e t f outgoing =
         goes_turn proper session h piece put fed.used old new t (f.goes (quiet_stops old.end (ap is_some t.is_open.lasts) e)) outgoing
 
-    told_still : (e : End) → Talks r session begun e → Talks r session begun (record e { lines = without_first e.lines })
-    told_still e t = grind (arith, kept_first)
-
-    carried_still : (octets : List ℕ) (e : End) → Talks r session begun (put_back octets e) → Talks r session begun e
-    carried_still octets e t = grind arith
-
     pub serving_turn : (call : Call) (put : List ℕ) (old new : Holding) → Talks r session begun old.end → Calls old call new →
         carried_in call ++ new.end.carrier.outgoing ≡ old.end.carrier.outgoing ++ put →
         Goes begin r took said begun (used_in call) put old new
     serving_turn (feeding piece fed) put old new t c outgoing = feed_turn piece put fed old new (waits old.end.lines) refl t c outgoing
     serving_turn (telling shown) put old new t c outgoing =
         still_turn [] put old new
-        (subst (λ (x : Holding). Stands begin r took said begun x.end) (sym c.1) (talking session h (told_still old.end t))) refl
+        (subst (λ (x : Holding). Stands begin r took said begun x.end) (sym c.1) (talking session h (grind (arith, kept_first)))) refl
         (nothing_put old.end.carrier.outgoing new.end.carrier.outgoing put outgoing (ap (λ (x : Holding). x.end.carrier.outgoing) c.1))
         (ap (λ (x : Holding). x.held.octets) c.1)
     serving_turn (carrying octets) put old new t c outgoing =
         still_turn [] put old new
-        (talking session h (carried_still octets new.end (subst (λ (x : Holding). Talks r session begun x.end) c t))) refl
-        (nothing_put old.end.carrier.outgoing (octets ++ new.end.carrier.outgoing) put outgoing
-        (sym (ap (λ (x : Holding). x.end.carrier.outgoing) c)))
+        (talking session h (grind arith)) refl
+        (grind (arith, nothing_put))
         (sym (ap (λ (x : Holding). x.held.octets) c))

@@ -1,16 +1,10 @@
 -- A packet that is no fitting DT ends an end whose connection is open in class 0, and nothing is put for it, whether memory is short or
 -- not. For what such an end does with the packets before a break of the other side.
-use Rattle.std.proofs.Common.{arith}
-use Rattle.osi_honest.proofs.Vocabulary.{[], ap, Bool, Err, inl, inr, is_some, length, List, nat_lt, None, Ok, Option, refl, Result, Some}
-use Rattle.osi_honest.proofs.Vocabulary.{subst, sym, true, ℕ, ◌++◌, ◌+◌, ◌∙◌, ◌∷◌, ◌≡◌, units_of, data0, Value, TpduFault, longest_tsdu}
-use Rattle.osi_honest.proofs.Vocabulary.{Standing, taken, taken_by, Zero, react_quiet, reacts_over, acts_cases, in_zero, reacts, to_linked}
-use Rattle.osi_honest.proofs.Vocabulary.{to_only, Rows, Connection, linked, State as Carrier, packet_is, starved_over, after_packet}
-use Rattle.osi_honest.proofs.Vocabulary.{hears_times, with_carrier, with_events, End, Starves}
-use Rattle.osi_class.specs.Flow.{Flow}
-use Rattle.osi_class.specs.declared.faults.LinkFault.{LinkFault}
-use Rattle.osi_class.specs.declared.faults.LinkFault.TheVariants.{TsduTooLong, WrongForm}
+use Rattle.osi_honest.proofs.Vocabulary.{[], Err, inl, inr, length, List, nat_lt, None, Ok, refl, Result, Some, subst, sym, true, ℕ, ◌++◌}
+use Rattle.osi_honest.proofs.Vocabulary.{◌+◌, ◌∷◌, ◌≡◌, units_of, data0, Value, TpduFault, longest_tsdu, Standing, Zero, react_quiet}
+use Rattle.osi_honest.proofs.Vocabulary.{reacts_over, acts_cases, reacts, to_linked, to_only, Rows, Connection, linked, State as Carrier}
+use Rattle.osi_honest.proofs.Vocabulary.{packet_is, starved_over, after_packet, with_carrier, End, Starves, arith, LinkFault, breaks, react}
 use Rattle.osi_carrier.specs.Packets as carriers
-use Rattle.osi_carrier.specs.React.{breaks, react, taking}
 use Rattle.osi_carrier.specs.State.{ends}
 use Rattle.osi_honest.proofs.class_0.what_a_packet_does_in_class_0.{Over, attends_over}
 use Rattle.osi_honest.proofs.class_0.what_a_shortage_of_memory_leaves.{out_over}
@@ -44,36 +38,20 @@ module _ (r peer : ℕ) (link : Standing) (c : Carrier) (z : IsZeroAt r peer lin
   breaks_over : (fault : LinkFault) → Over c.outgoing (breaks r peer fault c.class c)
   breaks_over fault = grind arith
 
-  refused : (fault : LinkFault) (t : Result Standing LinkFault) → t ≡ Err fault → Over c.outgoing (taking r peer t c)
-  refused fault t is = subst (λ (x : Result Standing LinkFault). Over c.outgoing (taking r peer x c)) (sym is) (breaks_over fault)
-
-  too_long : (end : Bool) (user : List ℕ) → IsHard link.ends.joining.begun (data0 end user) →
-      taken link (data0 end user) ≡ Err TsduTooLong
-  too_long end user long = grind arith
-
-  wrong : (v : Value) → taken_by link.ends None v ≡ Err WrongForm → taken link v ≡ Err WrongForm
-  wrong v is = ap (λ (f : Option Flow). taken_by link.ends f v) z.flow ∙ is
-
   in_link : (v : Value) → IsHard link.ends.joining.begun v → Over c.outgoing (to_linked r peer link v c)
-  in_link v long = grind (arith, refused, too_long, wrong)
+  in_link v long = grind arith
 
   in_only : (v : Value) → IsHard link.ends.joining.begun v → Over c.outgoing (to_only c.live v c)
   in_only v long = subst (λ (rows : Rows Connection). Over c.outgoing (to_only rows v c)) (sym z.live) (in_link v long)
 
-  by_side : (b : Bool) (v : Value) → IsHard link.ends.joining.begun v → Over c.outgoing (in_zero b v c)
-  by_side b v long = grind (arith, in_only)
-
   unit_over : (v : Value) → IsHard link.ends.joining.begun v → Over c.outgoing (react v c)
-  unit_over v long = grind (arith, react_quiet, by_side)
+  unit_over v long = grind (arith, react_quiet)
 
   -- ---- a packet
 
-  by_units : (units : Result (List Value) TpduFault) → AreHard link.ends.joining.begun units → Over c.outgoing (carriers.acts_by units c)
-  by_units h hard = grind (arith, unit_over, reacts_over)
-
   acts_over : (u : List ℕ) → IsHardPacket link.ends.joining.begun u → Over c.outgoing (carriers.after_packet c u)
   unfolding carriers.after_packet
-  acts_over u hard = by_units (units_of u) hard
+  acts_over u hard = grind (arith, unit_over, reacts_over)
 
   -- before memory ran out nothing had an effect
   none_before : (done : List Value) (next : Value) (more : List Value) → AreHard link.ends.joining.begun (Ok (done ++ (next ∷ more))) →
@@ -95,8 +73,7 @@ pub hard_ends : (r peer : ℕ) (link : Standing) (packet : List ℕ) (e : End) �
     IsHardPacket link.ends.joining.begun packet → IsLast packet e
 hard_ends r peer link packet e z hard = record {
   acts = subst (λ (x : End). Over e.carrier.outgoing x.carrier) (sym (packet_is e packet))
-      (attends_over e.carrier.outgoing (with_carrier (carriers.after_packet e.carrier packet) e)
-      (acts_over r peer link e.carrier z packet hard));
+      (search (arith, attends_over, acts_over));
   starves = λ new starved. by new starved;
 }
   where
@@ -109,7 +86,6 @@ hard_ends r peer link packet e z hard = record {
           | inl is ↦ subst (Over e.carrier.outgoing) (sym is) (acts_over r peer link e.carrier z packet hard)
           | inr starved ↦ starved_so r peer link e.carrier z packet c hard starved
         ] in (
-          ap (λ (x : End). is_some x.carrier.ended) out.starved
-              ∙ starved_over (with_events out.more (hears_times out.heard (with_carrier c e))),
+          grind (arith, starved_over),
           out_over e.carrier.outgoing (with_carrier c e) new p out,
         )

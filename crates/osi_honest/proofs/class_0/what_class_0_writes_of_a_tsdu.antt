@@ -3,12 +3,10 @@
 use Rattle.osi_honest.proofs.Vocabulary.{[], ap, append_assoc, arith, Bool, drop, false, length, length-drop, List, map, nat_lt, refl, Some}
 use Rattle.osi_honest.proofs.Vocabulary.{suc, sym, take, true, zero, ℕ, ◌++◌, ◌<◌, ◌∙◌, ◌∷◌, ◌≡◌, ◌≤◌, eq-eqb, ltb-true, append-nil}
 use Rattle.osi_honest.proofs.Vocabulary.{map-append, packet_of, Value, written, drained_none, drained_some, Drained, drained, joining}
-use Rattle.osi_honest.proofs.Vocabulary.{Given, next, part0, Standing, unit_of, zero_standing, Part, tsdus_after, open_link, sent, sent_all}
-use Rattle.osi_honest.proofs.Vocabulary.{sent_on, put, value_at, linked, packets, State, Carry, dt, ends_whole, IsOpenZero, IsWritten}
-use Rattle.osi_honest.proofs.Vocabulary.{resting}
+use Rattle.osi_honest.proofs.Vocabulary.{Given, part0, Standing, unit_of, zero_standing, Part, tsdus_after, open_link, sent, sent_all}
+use Rattle.osi_honest.proofs.Vocabulary.{sent_on, put, linked, packets, State, Carry, dt, ends_whole, IsOpenZero, IsWritten, resting}
 use Rattle.std.proofs.Common.{take-append-drop}
 use Rattle.std.proofs.lemmas.List.Concat.{flat_map-append}
-use Rattle.osi_honest.specs.Parts.{adds}
 
 -- ---- the parts of one TSDU
 
@@ -28,20 +26,12 @@ pub nothing_left : (limit : ℕ) (begun : List ℕ) →
     drained (zero_standing (resting limit begun)) ≡ record { units = []; link = zero_standing (resting limit begun) }
 nothing_left limit begun = drained_none (zero_standing (resting limit begun)) refl
 
-next_last : (limit : ℕ) (begun tsdu : List ℕ) → nat_lt limit (length tsdu) ≡ false →
-    next (holding_one limit begun tsdu) ≡ Some (part0 true tsdu, zero_standing (resting limit begun))
-next_last limit begun tsdu e = rw e refl
-
-next_part : (limit : ℕ) (begun tsdu : List ℕ) → nat_lt limit (length tsdu) ≡ true →
-    next (holding_one limit begun tsdu) ≡ Some (part0 false (take limit tsdu), holding_one limit begun (drop limit tsdu))
-next_part limit begun tsdu e = rw e refl
-
 last_whole : (limit : ℕ) (begun tsdu : List ℕ) → 0 < limit → nat_lt limit (length tsdu) ≡ false → Whole limit begun tsdu
 last_whole limit begun tsdu some e = record {
   parts = (true, tsdu) ∷ [];
   ends = λ before. refl;
   all = drained_some (holding_one limit begun tsdu) (zero_standing (resting limit begun)) (part0 true tsdu) some
-      (next_last limit begun tsdu e)
+      (grind arith)
       ∙ ap (λ (d : Drained). record { units = part0 true tsdu ∷ d.units; link = d.link }) (nothing_left limit begun);
   makes = λ b later. refl;
 }
@@ -52,11 +42,9 @@ more_whole limit begun tsdu some e rest = record {
   parts = (false, take limit tsdu) ∷ rest.parts;
   ends = λ before. rest.ends false;
   all = drained_some (holding_one limit begun tsdu) (holding_one limit begun (drop limit tsdu)) (part0 false (take limit tsdu)) some
-      (next_part limit begun tsdu e)
+      (grind arith)
       ∙ ap (λ (d : Drained). record { units = part0 false (take limit tsdu) ∷ d.units; link = d.link }) rest.all;
-  makes = λ b later. rest.makes (b ++ take limit tsdu) later
-      ∙ ap (λ (x : List ℕ). x ∷ tsdus_after [] later)
-      (append_assoc b (take limit tsdu) (drop limit tsdu) ∙ ap (λ (x : List ℕ). b ++ x) (take-append-drop limit tsdu));
+  makes = grind (arith, append_assoc, take-append-drop);
 }
 
 whole_by : (n limit : ℕ) (begun tsdu : List ℕ) (b : Bool) → 0 < limit → nat_lt limit (length tsdu) ≡ b → length tsdu ≤ n →
@@ -66,23 +54,19 @@ whole_by zero limit begun tsdu true some e few = let l : limit < length tsdu = l
 whole_by (suc n) limit begun tsdu true some e few =
     let l : limit < length tsdu = ltb-true limit (length tsdu) e in
     let k = length-drop limit tsdu in
-    more_whole limit begun tsdu some e
-    (whole_by n limit begun (drop limit tsdu) (nat_lt limit (length (drop limit tsdu))) some refl (omega arith))
+    grind (arith, more_whole, whole_by n limit begun (drop limit tsdu) (nat_lt limit (length (drop limit tsdu))) some refl (omega arith))
 
 whole : (limit : ℕ) (begun tsdu : List ℕ) → 0 < limit → Whole limit begun tsdu
 whole limit begun tsdu some = whole_by (length tsdu) limit begun tsdu (nat_lt limit (length tsdu)) some refl (omega arith)
 
 -- ---- the carrier
 
-one_at : {X : Type 0} (r : ℕ) (x : X) → value_at r ((r, x) ∷ []) ≡ Some x
-one_at r x = rw (eq-eqb r r refl) refl
-
 pub put_one : {X : Type 0} (r : ℕ) (x y : X) → put r x ((r, y) ∷ []) ≡ (r, x) ∷ []
 put_one r x y = rw (eq-eqb r r refl) refl
 
 pub open_is : (r peer limit : ℕ) (begun : List ℕ) (s : State) → IsOpenZero r peer limit begun s →
     open_link r s ≡ Some (peer, zero_standing (resting limit begun))
-open_is r peer limit begun s h = grind (arith, one_at)
+open_is r peer limit begun s h = grind arith
 
 as_units : (peer : ℕ) (parts : List Part) → map (unit_of peer) (map as_given parts) ≡ map dt parts
 as_units peer [] = refl
@@ -106,10 +90,6 @@ sent_one r peer limit begun tsdu s h =
           ∙ (λ i. record s { live = kept i; outgoing = s.outgoing ++ packets (as_units peer w.parts i) });
     }
 
-added_open : (r peer limit : ℕ) (begun octets : List ℕ) (s : State) → IsOpenZero r peer limit begun s →
-    IsOpenZero r peer limit begun (adds octets s)
-added_open r peer limit begun octets s h = record { some = h.some; lasts = h.lasts; live = h.live }
-
 pub packets_joined : (us vs : List Value) → packets (us ++ vs) ≡ packets us ++ packets vs
 packets_joined us vs = flat_map-append (λ unit. packet_of (written unit)) us vs
 
@@ -126,23 +106,17 @@ pub written_more : (tsdus others : List (List ℕ)) (old mid new : State) → Is
 written_more tsdus others old mid new w v = record {
   parts = w.parts ++ v.parts;
   carry = carry_more w.parts v.parts tsdus others w.carry v.carry;
-  is = v.is ∙ ap (adds (packets (map dt v.parts))) w.is
-      ∙ ap (λ (x : List ℕ). record old { outgoing = x }) (append_assoc old.outgoing (packets (map dt w.parts)) (packets (map dt v.parts))
-      ∙ ap (λ (x : List ℕ). old.outgoing ++ x)
-      (sym (packets_joined (map dt w.parts) (map dt v.parts)) ∙ ap packets (sym (map-append dt w.parts v.parts))));
+  is = grind (arith, append_assoc, packets_joined, map-append);
 }
-
-pub none_written : (s : State) → IsWritten [] s s
-none_written s = grind (arith, append-nil)
 
 pub written_open : (r peer limit : ℕ) (begun : List ℕ) (tsdus : List (List ℕ)) (old new : State) → IsWritten tsdus old new →
     IsOpenZero r peer limit begun old → IsOpenZero r peer limit begun new
-written_open r peer limit begun tsdus old new w h = grind (arith, added_open)
+written_open r peer limit begun tsdus old new w h = grind arith
 
 -- TSDUs that are sent together
 pub all_written : (r peer limit : ℕ) (begun : List ℕ) (tsdus : List (List ℕ)) (s : State) → IsOpenZero r peer limit begun s →
     IsWritten tsdus s (sent_all r tsdus s)
-all_written r peer limit begun [] s h = none_written s
+all_written r peer limit begun [] s h = grind (arith, append-nil)
 all_written r peer limit begun (tsdu ∷ tsdus) s h =
     let one = sent_one r peer limit begun tsdu s h in
     written_more (tsdu ∷ []) tsdus s (sent r tsdu s) (sent_all r tsdus (sent r tsdu s)) one

@@ -2,10 +2,9 @@
 -- For the turns of an end.
 use Rattle.osi_honest.proofs.Vocabulary.{[], ap, append_assoc, arith, Bool, false, inl, inr, IsSome, length, List, map, None, Option, refl}
 use Rattle.osi_honest.proofs.Vocabulary.{subst, sym, true, ℕ, ◌++◌, ◌+◌, ◌∙◌, ◌∷◌, ◌≡◌, ◌≤◌, append-nil, map-append, AllByRecursion}
-use Rattle.osi_honest.proofs.Vocabulary.{IsOctets, packets, State as Carrier, after_input, came, Listener, session_react as react}
-use Rattle.osi_honest.proofs.Vocabulary.{lasting_of, TakesPackets, after_packet, AreShort, End, waits, sends, dt, AllSaidBy, Extends}
-use Rattle.osi_honest.proofs.Vocabulary.{octets_said, Stands, gone, talking, History, IsPart, Packet, Puts, Said, said_after, Talks, last}
-use Rattle.osi_honest.proofs.Vocabulary.{part}
+use Rattle.osi_honest.proofs.Vocabulary.{IsOctets, State as Carrier, came, Listener, lasting_of, TakesPackets, after_packet, AreShort, End}
+use Rattle.osi_honest.proofs.Vocabulary.{waits, sends, AllSaidBy, Extends, octets_said, Stands, gone, talking, History, IsPart, Packet}
+use Rattle.osi_honest.proofs.Vocabulary.{Puts, Said, said_after, Talks, last, part}
 use Rattle.std.proofs.Common.{length-append}
 use Rattle.osi_honest.specs.Talking as history
 use Rattle.osi_honest.specs.Talking.Packet.{over}
@@ -27,10 +26,7 @@ put_more tsdus others old mid new a b = record {
   parts = a.parts ++ b.parts;
   carry = carry_more a.parts b.parts tsdus others a.carry b.carry;
   short = short_more tsdus others a.short b.short;
-  outgoing = b.outgoing ∙ ap (λ (x : List ℕ). x ++ packets (map dt b.parts)) a.outgoing
-      ∙ append_assoc old.outgoing (packets (map dt a.parts)) (packets (map dt b.parts))
-      ∙ ap (λ (x : List ℕ). old.outgoing ++ x)
-      (sym (packets_joined (map dt a.parts) (map dt b.parts)) ∙ ap packets (sym (map-append dt a.parts b.parts)));
+  outgoing = grind (arith, append_assoc, packets_joined, map-append);
 }
 
 pub put_from : (tsdus : List (List ℕ)) (old other new : Carrier) → other.outgoing ≡ old.outgoing → Puts tsdus other new → Puts tsdus old new
@@ -107,10 +103,6 @@ module _ (begin : Listener) (r : ℕ) where
     all = x.all;
   }
 
-  now_put : (took : List (List ℕ)) (session : Listener) (tsdu : List ℕ) (old mid : Carrier) → Puts (sends session (came tsdu)) old mid →
-      Puts (octets_said (said_after (length took + 1) (sends session (came tsdu)))) old mid
-  now_put took session tsdu old mid p = grind (arith, said_octets)
-
   taken_more : (took : List (List ℕ)) (said : List Said) (session : Listener) (begun octets u : List ℕ) (units : List (List ℕ))
       (old mid new : End) → IsPart u true octets begun →
       Puts (sends session (came (begun ++ octets))) old.carrier mid.carrier →
@@ -129,9 +121,7 @@ module _ (begin : Listener) (r : ℕ) where
         later = x.later;
         stands = subst (λ (t : List (List ℕ)). Stands begin r t (said ++ (now ++ x.told)) x.later new) all_took
             (subst (λ (s : List Said). Stands begin r ((took ++ tsdu ∷ []) ++ x.more) s x.later new) all_said x.stands);
-        puts = subst (λ (t : List (List ℕ)). Puts t old.carrier new.carrier) (sym (map-append (λ s. s.octets) now x.told))
-            (put_more (octets_said now) (octets_said x.told) old.carrier mid.carrier new.carrier
-            (now_put took session tsdu old.carrier mid.carrier p) x.puts);
+        puts = search (arith, map-append, put_more, said_octets);
         counted = said_more (length (took ++ tsdu ∷ x.more)) now x.told
             (said_by (length (took ++ tsdu ∷ x.more)) (length took + 1) (sends session (came tsdu)) (let b = l in omega arith))
             (subst (λ (n : ℕ). AllSaidBy n x.told) (ap length all_took) x.counted);
@@ -179,14 +169,8 @@ module _ (begin : Listener) (r : ℕ) where
       let tsdu = begun ++ o in
       let then_history = history.takes took said session tsdu h t.begun_long_ago in
       taken_more took said session begun o u units old mid new is m.puts (elim m.then_is [
-        | inl k ↦ rest (took ++ tsdu ∷ []) (said ++ said_after (length took + 1) (sends session (came tsdu))) []
-            (after_input session (came tsdu))
-            (subst (λ (b : Bool). History begin (took ++ tsdu ∷ []) (said ++ said_after (length took + 1) (sends session (came tsdu))) b
-            (after_input session (came tsdu))) k.0 then_history)
-            k.1
-        | inr k ↦ rests_over (took ++ tsdu ∷ []) (said ++ said_after (length took + 1) (sends session (came tsdu))) units
-            (react session (came tsdu)).closes (after_input session (came tsdu)) mid new
-            then_history k.1 takes
+        | inl k ↦ grind arith
+        | inr k ↦ grind (arith, rests_over)
       ])
   packet_then took said begun u units session old mid new h t rest takes (over is same) = grind (arith, still_over)
 

@@ -2,20 +2,20 @@
 -- or it stays as it is.
 -- For the course of a connection.
 use Rattle.osi_honest.proofs.Vocabulary.{[], ap, arith, Bool, false, if◌then◌else◌, inl, inr, is_some, List, map, None, Option, refl, Some}
-use Rattle.osi_honest.proofs.Vocabulary.{subst, sym, true, ℕ, ◌+◌, ◌<◌, ◌==◌, ◌∙◌, ◌∷◌, ◌≡◌, eq-eqb, eqb-true, map-append, all_given, Given}
+use Rattle.osi_honest.proofs.Vocabulary.{subst, sym, true, ℕ, ◌<◌, ◌==◌, ◌∙◌, ◌∷◌, ◌≡◌, eq-eqb, eqb-true, map-append, all_given, Given}
 use Rattle.osi_honest.proofs.Vocabulary.{Standing, unit_of, with_tsdu, Class, Zero, push_other, put_other, beyond, push_here, put_here}
-use Rattle.osi_honest.proofs.Vocabulary.{closed_on, closed_with, closes, open_link, send_all_error, sent, sent_all, sent_on, Happening}
-use Rattle.osi_honest.proofs.Vocabulary.{IsOrderly, pumped, put, Rows, value_at, closing, Connection, linked, State as Carrier, SendError}
-use Rattle.osi_honest.proofs.Vocabulary.{Input, Listener, connects, has_given, hears, opens_line as opens, by_line, carrier_by, to_session}
-use Rattle.osi_honest.proofs.Vocabulary.{End, Line, answers_by, sent_unless, Request as Connect, GivesTo, Marked}
+use Rattle.osi_honest.proofs.Vocabulary.{closed_with, closes, open_link, send_all_error, sent, sent_all, sent_on, Happening, IsOrderly}
+use Rattle.osi_honest.proofs.Vocabulary.{pumped, put, Rows, value_at, closing, Connection, linked, State as Carrier, SendError, Input}
+use Rattle.osi_honest.proofs.Vocabulary.{Listener, connects, has_given, hears, opens_line as opens, carrier_by, to_session, End, Line}
+use Rattle.osi_honest.proofs.Vocabulary.{answers_by, sent_unless, Request as Connect, GivesTo, Marked}
 use Rattle.osi_carrier.specs.Happenings as told
 use Rattle.osi_honest.proofs.courses.how_long_a_connection_is_open.{Life, Rests, Stage, life_open, life_rests, stage_at, stage_by}
 use Rattle.osi_honest.proofs.courses.how_long_a_connection_is_open.{stage_there}
 use Rattle.osi_honest.proofs.courses.how_long_a_connection_is_open.Stage.{amid, past}
 use Rattle.osi_honest.proofs.courses.the_connections_of_each_class.{linked_at}
 use Rattle.osi_honest.proofs.courses.units_of_each_connection.{all_of_both, marked, none_marked, other_marked, unequal}
-use Rattle.osi_honest.proofs.courses.what_a_session_puts.{all_put, answer_puts, event_puts, line_puts, move_puts, one_puts, opening_puts}
-use Rattle.osi_honest.proofs.courses.what_a_session_puts.{put_unless, session_puts, unlinked_unless}
+use Rattle.osi_honest.proofs.courses.what_a_session_puts.{all_put, answer_puts, event_puts, move_puts, one_puts, opening_puts, put_unless}
+use Rattle.osi_honest.proofs.courses.what_a_session_puts.{session_puts, unlinked_unless}
 
 -- ---- another state of a connection
 
@@ -62,11 +62,8 @@ module _ (q r : ℕ) where
       rests_put Rests (λ t. inl refl) q r (closing peer) (linked peer link) s.live
       (linked_at (is_some s.ended) (value_at q s.live) peer link e) (λ given. inr refl) (is_some s.ended) (has_given r s)
 
-  closed_rests : (o : Option (ℕ × Standing)) (s : Carrier) → open_link q s ≡ o → Rests (stage_at r s) (stage_at r (closed_on q 128 o s))
-  closed_rests o s e = search (arith, closes_rests)
-
   pub given_up_rests : (s : Carrier) → Rests (stage_at r s) (stage_at r (closed_with q 128 s))
-  given_up_rests s = closed_rests (open_link q s) s refl
+  given_up_rests s = grind (arith, closes_rests)
 
 -- ---- what the link of an open connection gives is for the peer
 
@@ -115,11 +112,8 @@ module _ (is_caller : Bool) (q r : ℕ) (some : 0 < r) where
   move_life : (o : Option Listener) (input : Input) (c : Carrier) → Still c (move_puts q o input c) (carrier_by q o input c)
   move_life o input c = grind (arith, nothing, answer_life)
 
-  line_life : (o : Option Line) (input : Input) (e : End) → Still e.carrier (line_puts q o input e) (by_line q o input e).carrier
-  line_life o input e = grind (arith, nothing, move_life)
-
   pub session_life : (input : Input) (e : End) → Still e.carrier (session_puts q input e) (to_session q input e).carrier
-  session_life input e = line_life (value_at q e.lines) input e
+  session_life input e = grind (arith, nothing, move_life)
 
   opening_life : (o : Option Line) (e : End) → Still e.carrier (opening_puts q o e) (opens q o e).carrier
   opening_life o e = grind (arith, nothing, session_life)
@@ -131,8 +125,5 @@ event_life is_caller r some x e = grind (arith, opening_life, session_life)
 -- ---- a request
 
 module _ (r : ℕ) (c : Connect) (e : End) (h : IsOrderly e.carrier) (lasts : e.carrier.ended ≡ None) where
-  connect_by : (b : Bool) → (r == e.carrier.given + 1) ≡ b → Rests (stage_at r e.carrier) (stage_at r (connects c e).carrier)
-  connect_by b is = search (arith, beyond, push_here, push_other)
-
   pub connect_rests : Rests (stage_at r e.carrier) (stage_at r (connects c e).carrier)
-  connect_rests = connect_by (r == e.carrier.given + 1) refl
+  connect_rests = grind (arith, beyond, push_here, push_other)

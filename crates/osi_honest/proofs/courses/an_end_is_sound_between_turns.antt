@@ -1,12 +1,9 @@
 -- Between two turns an end is sound and holds no more than a part of a packet; and where its packets lead, a turn leads that uses no more.
 -- For what an end does with the packets before a break of the other side.
-use Rattle.std.proofs.Common.{arith}
 use Rattle.osi_honest.proofs.Vocabulary.{[], ap, Bool, false, is_some, List, None, Option, refl, Some, subst, sym, true, ℕ, ◌++◌, ◌∷◌, ◌≡◌}
-use Rattle.osi_honest.proofs.Vocabulary.{ArePackets, packets, Local, EndReason, lasting_of, or_second, quiet_stops, Goes as GoesThrough}
-use Rattle.osi_honest.proofs.Vocabulary.{TakesPackets, Calls, Call, carrying, feeding, telling, End, Holding, waits, Deeds, all_units}
-use Rattle.osi_honest.proofs.Vocabulary.{IsFresh, Act, Acts, Takes, Turn}
-use Rattle.osi_tpkt.proofs.a_prefix_of_a_packet.{empty_partial}
-use Rattle.osi_tpkt.specs.Packet.{IsPartial}
+use Rattle.osi_honest.proofs.Vocabulary.{ArePackets, packets, Local, EndReason, lasting_of, or_second, TakesPackets, Calls, Call, carrying}
+use Rattle.osi_honest.proofs.Vocabulary.{feeding, telling, End, Holding, waits, Deeds, all_units, IsFresh, Act, Acts, Takes, Turn, arith}
+use Rattle.osi_honest.proofs.Vocabulary.{empty_partial, IsPartial}
 use Rattle.osi_stack.specs.Feeding.{stops}
 use Rattle.osi_honest.proofs.class_0.what_a_turn_does_in_class_0.{all_octets}
 use Rattle.osi_honest.proofs.courses.an_end_takes_packets_up_to_its_last.{dry_to}
@@ -20,9 +17,6 @@ use Rattle.osi_honest.proofs.courses.what_sessions_hear_of_it.{CourseAll, Known}
 part_empty : (octets : List ℕ) → octets ≡ [] → IsPartial octets
 part_empty octets none = subst IsPartial (sym none) empty_partial
 
-part_fed : (piece : List ℕ) (used : ℕ) (old new : Holding) → GoesThrough old piece used new → IsPartial new.held.octets
-part_fed piece used old new h = grind (arith, part_empty)
-
 part_as : (old new : Holding) → new ≡ old → IsPartial old.held.octets → IsPartial new.held.octets
 part_as old new same part = subst (λ (h : Holding). IsPartial h.held.octets) (sym same) part
 
@@ -32,7 +26,7 @@ part_call (feeding piece fed) old new f part = by old.end.carrier.ended refl (wa
     by : (o : Option EndReason) → old.end.carrier.ended ≡ o → (w : Bool) → waits old.end.lines ≡ w → IsPartial new.held.octets
     by (Some reason) over w e = part_as old new (f.over (ap is_some over)).1 part
     by None lasts true e = part_as old new (f.waiting lasts e).1 part
-    by None lasts false e = part_fed piece fed.used old new (f.goes (quiet_stops old.end (ap is_some lasts) e))
+    by None lasts false e = grind (arith, part_empty)
 part_call (telling shown) old new c part = subst (λ (h : Holding). IsPartial h.held.octets) (sym c.1) part
 part_call (carrying octets) old new c part = subst (λ (h : Holding). IsPartial h.held.octets) c part
 

@@ -6,10 +6,8 @@ use Rattle.osi_honest.proofs.Vocabulary.{append-nil, length-append, take_all, ta
 use Rattle.osi_honest.proofs.Vocabulary.{Ending, EndsAt, offset_of, Faulty, Rest, Fed, EndReason, NoMemory, quiet_stops, none_ended}
 use Rattle.osi_honest.proofs.Vocabulary.{found_how, Feeds, FindsNoMemory, Goes as GoesThrough, Refuses, RunsDry, StopsBehind, TakesPackets}
 use Rattle.osi_honest.proofs.Vocabulary.{uses_all, uses_within, ends, after_packet, Starves, carrying, feeding, telling, End, Holding}
-use Rattle.osi_honest.proofs.Vocabulary.{waits, lasting_of, Act, Acts, carried_by, Takes, Turn, used_by, serving, using}
-use Rattle.osi_tpkt.proofs.a_prefix_of_a_packet.{empty_partial}
-use Rattle.osi_tpkt.specs.Held.{Held}
-use Rattle.osi_tpkt.specs.Packet.{IsPartial}
+use Rattle.osi_honest.proofs.Vocabulary.{waits, lasting_of, Act, Acts, carried_by, Takes, Turn, used_by, serving, using, empty_partial}
+use Rattle.osi_honest.proofs.Vocabulary.{Held, IsPartial}
 use Rattle.osi_stack.specs.Feeding.{stops}
 use Rattle.osi_honest.proofs.class_0.what_packets_do_in_class_0.{never_lasts, over_takes}
 use Rattle.osi_honest.proofs.class_0.what_class_0_does_not_take_ends_the_end.{IsLast}
@@ -74,12 +72,6 @@ nothing_more old new put is same = none_longer old put (sym is ∙ same)
 
 module _ (old : Holding) (lasts : old.end.carrier.ended ≡ None) (quiet : waits old.end.lines ≡ false) (part : IsPartial old.held.octets)
     (front : List (List ℕ)) (put : List ℕ) where
-  no_end : {A : Type 0} → IsSome old.end.carrier.ended → A
-  no_end over = absurd (never_lasts old.end.carrier.ended over lasts)
-
-  no_wait : {A : Type 0} → waits old.end.lines ≡ true → A
-  no_wait w = absurd (let no : true ≡ false = sym w ∙ quiet in cc)
-
   -- a feed of a piece that was used whole
   record Feeding (piece : List ℕ) (new : Holding) : Type 0 where
     turn : Turn
@@ -95,14 +87,7 @@ module _ (old : Holding) (lasts : old.end.carrier.ended ≡ None) (quiet : waits
         turn = record { used = piece; put = put };
         takes = record {
           act = serving (feeding piece fed);
-          acts = record {
-            over = λ over. no_end over;
-            waiting = λ l w. no_wait w;
-            goes = λ q. goes;
-            whole = refl;
-            bound = omega arith;
-            progress = λ w some. some;
-          };
+          acts = grind arith;
           used = sym (take_all (length piece) piece (omega arith));
           put = outgoing;
         };
@@ -206,17 +191,7 @@ module _ (old : Holding) (lasts : old.end.carrier.ended ≡ None) (quiet : waits
   dry_first [] left more r mid parts cut taken still outgoing = grind (arith, nothing_more)
   dry_first (u ∷ us) left more r mid parts cut taken still outgoing =
       let g = dry_to u us more r mid cut taken still outgoing in
-      inr (record {
-        used = u ∷ us;
-        left = left;
-        parts = parts;
-        turn = g.turn;
-        new = g.new;
-        takes = g.takes;
-        put_is = g.put_is;
-        cut = g.cut;
-        held = g.held;
-      })
+      inr (search arith)
 
   module _ (b : List ℕ) (more : List (List ℕ)) (last : (x : End) → TakesPackets old.end front x → stops x ≡ false → IsLast b x) where
     -- the last packet was taken: then no other one
@@ -327,9 +302,7 @@ module _ (old : Holding) (lasts : old.end.carrier.ended ≡ None) (quiet : waits
             let now : List ℕ = take f.within piece in
             let whole : take (length now) now ≡ now = take_all (length now) now (omega arith) in
             let cut_now : ArePackets (f.units ++ packet ∷ []) (old.held.octets ++ now) [] =
-            subst (λ (l : List ℕ). ArePackets (f.units ++ packet ∷ []) l []) (append-nil (old.held.octets ++ now))
-            (packets_then f.units (packet ∷ []) (old.held.octets ++ now) f.rest [] [] f.packets
-            (subst (λ (l : List ℕ). ArePackets (packet ∷ []) l []) (sym (append-nil f.rest)) one)) in
+            grind (arith, packets_then, append-nil (old.held.octets ++ now), append-nil f.rest) in
             record {
               over = none_ended old piece used new f;
               how = inr (first_of now new (as_feed now new
@@ -345,9 +318,7 @@ module _ (old : Holding) (lasts : old.end.carrier.ended ≡ None) (quiet : waits
                     quiet = f.quiet;
                     how = inr (packet, one, starved);
                     held = f.held;
-                    faultless = λ at fault is.
-                        end_no_packet at (f.rest ++ drop (length now) now) (Faulty fault) is packet one.0 (one.1 ++ drop (length now) now)
-                        one.2 (ap (λ (l : List ℕ). l ++ drop (length now) now) one.3 ∙ append_assoc one.0 one.1 (drop (length now) now));
+                    faultless = grind (arith, end_no_packet, append_assoc);
                   }))) outgoing) (f.units ++ packet ∷ []) k
                   (parts ∙ ap (λ (u : List ℕ). f.units ++ (u ∷ k)) (sym it) ∙ sym (append_assoc f.units (packet ∷ []) k)) cut_now f.held);
             }
@@ -362,8 +333,7 @@ module _ (old : Holding) (lasts : old.end.carrier.ended ≡ None) (quiet : waits
             whole : ArePackets f.units (old.held.octets ++ piece) (f.rest ++ drop f.within piece)
             whole =
                 subst (λ (l : List ℕ). ArePackets f.units l (f.rest ++ drop f.within piece))
-                (append_assoc old.held.octets (take f.within piece) (drop f.within piece)
-                ∙ ap (λ (l : List ℕ). old.held.octets ++ l) (take-append-drop f.within piece))
+                (grind (arith, append_assoc, take-append-drop))
                 (packets_on f.units (old.held.octets ++ take f.within piece) f.rest (drop f.within piece) f.packets)
 
             within : (m : List (List ℕ)) → f.units ≡ front ++ b ∷ m → Stopped front put old new
@@ -468,9 +438,7 @@ module _ (old new : Holding) (turn : Turn) (lasts : old.end.carrier.ended ≡ No
   none_used : (octets : List ℕ) → octets ≡ [] → ArePackets (front ++ b ∷ more) (old.held.octets ++ octets) rest →
       Stopped front turn.put old new
   none_used octets none cut =
-      absurd (never_none front (none_held old.held.octets rest (front ++ b ∷ more) part
-      (subst (λ (l : List ℕ). ArePackets (front ++ b ∷ more) l rest)
-      (ap (λ (l : List ℕ). old.held.octets ++ l) none ∙ append-nil old.held.octets) cut)))
+      absurd (never_none front (grind (arith, none_held, append-nil)))
     where
       never_none : (k : List (List ℕ)) → k ++ b ∷ more ≡ [] → ⊥
       never_none [] e = cc

@@ -1,12 +1,11 @@
 -- The units that arrive and those that are put, one step after the other, for one connection: it is not open yet, then its link takes
 -- those that are for it and gives units for the peer, and then it takes and gives no more.
 -- For the course of a connection.
-use Rattle.std.proofs.Common.{arith}
 use Rattle.osi_honest.proofs.Vocabulary.{[], ap, append_assoc, Bool, false, if◌then◌else◌, inl, inr, is_some, IsSome, List, None, Option}
 use Rattle.osi_honest.proofs.Vocabulary.{refl, Some, subst, sym, true, ℕ, ◌++◌, ◌<◌, ◌==◌, ◌∙◌, ◌∷◌, ◌≡◌, ◌⊎◌, append-nil, Standing}
-use Rattle.osi_honest.proofs.Vocabulary.{AllByRecursion, disconnect, Value}
-use Rattle.osi_honest.proofs.Vocabulary.{link_of, open_link, value_at, asked, closing, Connection, linked, State as Carrier}
-use Rattle.osi_honest.proofs.Vocabulary.{has_given, Answers, AreApart, GivesTo, is_for, Lives, Opens, TakesAll, is_shut, Marked}
+use Rattle.osi_honest.proofs.Vocabulary.{AllByRecursion, disconnect, Value, open_link, value_at, asked, closing, Connection, linked}
+use Rattle.osi_honest.proofs.Vocabulary.{State as Carrier, has_given, Answers, AreApart, GivesTo, is_for, Lives, Opens, TakesAll, is_shut}
+use Rattle.osi_honest.proofs.Vocabulary.{Marked, arith}
 use Rattle.osi_honest.specs.Arriving.Begins.{is_open, opens}
 use Rattle.osi_honest.proofs.courses.units_of_each_connection.{all_of_both, none_mark}
 
@@ -154,9 +153,6 @@ module _ (is_caller : Bool) (r : ℕ) where
     past_then : (t : Stage) → WhenPast r xs ys t → L t more puts u → WhenPast r (xs ++ more) (ys ++ puts) u
     past_then t a h = grind (arith, both_apart)
 
-    whole : (units during after : List Marked) → units ≡ during ++ after → after ≡ [] → units ≡ during
-    whole units during after is none = is ∙ ap (λ (l : List Marked). during ++ l) none ∙ append-nil during
-
     joined : (units others during next after : List Marked) → units ≡ during → others ≡ next ++ after →
         units ++ others ≡ (during ++ next) ++ after
     joined units others during next after is then_is = grind (arith, append_assoc)
@@ -170,8 +166,8 @@ module _ (is_caller : Bool) (r : ℕ) where
           after = b.after;
           put_during = a.put_during ++ b.put_during;
           put_after = b.put_after;
-          took_is = joined xs more a.during b.during b.after (whole xs a.during a.after a.took_is none) b.took_is;
-          put_is = joined ys puts a.put_during b.put_during b.put_after (whole ys a.put_during a.put_after a.put_is none_put) b.put_is;
+          took_is = joined xs more a.during b.during b.after (grind (arith, append-nil)) b.took_is;
+          put_is = joined ys puts a.put_during b.put_during b.put_after (grind (arith, append-nil)) b.put_is;
           takes = all_of_both (λ (m : Marked). (m.0 == r) ≡ is_for r m.1) a.during b.during a.takes b.takes;
           no_dr = all_of_both (λ (m : Marked). is_dr r m.1 ≡ false) a.during b.during a.no_dr b.no_dr;
           gives = all_of_both (λ (m : Marked). (m.0 == r) ≡ true → is_for peer m.1 ≡ true) a.put_during b.put_during a.gives b.gives;
@@ -219,8 +215,7 @@ module _ (is_caller : Bool) (r : ℕ) where
       opens_by peer unit o some (later ++ more) none
       (ap (λ (l : List Marked). l ++ more) is ∙ append_assoc some ((0, unit) ∷ later) more) others answer (put_later ++ puts) apart
       none_answer ans
-      (ap (λ (l : List Marked). l ++ puts) put_is ∙ append_assoc others (answer ++ put_later) puts
-      ∙ ap (λ (l : List Marked). others ++ l) (append_assoc answer put_later puts))
+      (grind (arith, append_assoc))
       (open_then peer later put_later more puts t u w h)
 
   pub life_then : (s : Stage) (xs ys : List Marked) (t : Stage) (more puts : List Marked) (u : Stage) → L s xs ys t → L t more puts u →
@@ -239,11 +234,8 @@ abbrev IsOpenAt : Stage → Option (ℕ × Standing) → Type 0
 IsOpenAt (amid peer) o = (link : Standing) × (o ≡ Some (peer, link))
 IsOpenAt _ o = o ≡ None
 
-open_by_stage : (over given : Bool) (o : Option Connection) → IsOpenAt (stage_by over given o) (if over then None else link_of o)
-open_by_stage over given o = grind arith
-
 open_at : (r : ℕ) (c : Carrier) → IsOpenAt (stage_at r c) (open_link r c)
-open_at r c = open_by_stage (is_some c.ended) (has_given r c) (value_at r c.live)
+open_at r c = grind arith
 
 module _ (is_caller : Bool) (r : ℕ) (some : 0 < r) (old new : Carrier) (took put : List Marked) (t : Stage)
     (now : IsOpenAt t (open_link r new)) where

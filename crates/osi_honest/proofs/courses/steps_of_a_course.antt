@@ -1,16 +1,15 @@
 -- Steps of all connections of an end, one after the other, each with the calls of their links and with what was put and taken.
 -- For the course of a connection.
-use Rattle.std.proofs.Common.{arith}
 use Rattle.osi_honest.proofs.Vocabulary.{[], ap, append_assoc, Bool, inl, IsSome, List, map, refl, subst, sym, ℕ, ◌++◌, ◌<◌, ◌∙◌, ◌≡◌}
 use Rattle.osi_honest.proofs.Vocabulary.{append-nil, Value, unit_of, Move, packets, State as Carrier, End, all_did, Deeds, no_deeds}
-use Rattle.osi_honest.proofs.Vocabulary.{has_given, then_did, units_given, units_taken, all_units, Marked, units_at}
+use Rattle.osi_honest.proofs.Vocabulary.{has_given, then_did, units_given, units_taken, all_units, Marked, units_at, arith}
 use Rattle.osi_honest.proofs.class_0.what_class_0_writes_of_a_tsdu.{packets_joined}
 use Rattle.osi_honest.proofs.courses.how_long_a_connection_is_open.{Life, Rests, Stage, life_rests, life_then, life_then_rests}
-use Rattle.osi_honest.proofs.courses.how_long_a_connection_is_open.{life_to_past, rests_over, stage_at, stage_over}
+use Rattle.osi_honest.proofs.courses.how_long_a_connection_is_open.{life_to_past, stage_at, stage_over}
 use Rattle.osi_honest.proofs.courses.how_long_a_connection_is_open.Stage.{early, past}
 use Rattle.osi_honest.proofs.courses.the_first_cc_opens_a_connection.{FirstOf, StaysGiven, first_rests, first_then, first_then_rests}
-use Rattle.osi_honest.proofs.courses.units_of_each_connection.{AreAccounted, accounted_more, all_units_more, marked, marked_all}
-use Rattle.osi_honest.proofs.courses.units_of_each_connection.{none_marked, nowhere, units_more}
+use Rattle.osi_honest.proofs.courses.units_of_each_connection.{AreAccounted, all_units_more, marked, marked_all, none_marked, nowhere}
+use Rattle.osi_honest.proofs.courses.units_of_each_connection.{units_more, all_of_both}
 use Rattle.osi_honest.proofs.courses.what_calls_of_a_link_say.{taken_more, then_joined, then_none}
 
 -- ---- one connection
@@ -78,9 +77,6 @@ AllRest old new = (r : ℕ) → Rests (stage_at r old) (stage_at r new) × Stays
 pub same_rest : (c : Carrier) → AllRest c c
 same_rest c = λ r. (inl refl, λ now has. has)
 
-pub over_rest : (old new : Carrier) → IsSome new.ended → AllRest old new
-over_rest old new ended = grind (arith, rests_over, stage_at, past, early, stage_over)
-
 -- no unit arrives
 abbrev pub Steps : Bool → States → (ℕ → Deeds) → Carrier → End → Type 0
 Steps is_caller T deeds before e = StepsBy is_caller [] T deeds before e
@@ -124,21 +120,13 @@ step_then is_caller used others S T deeds before mid new a next =
       more = all_did a.more b.more;
       there = λ r. subst (λ (d : Deeds). T r d new) (then_joined (deeds r) (a.more r) (b.more r)) (b.there r);
       put = a.put ++ b.put;
-      written = b.written ∙ ap (λ (l : List ℕ). l ++ packets (all_units b.put)) a.written
-          ∙ append_assoc before.outgoing (packets (all_units a.put)) (packets (all_units b.put))
-          ∙ ap (λ (l : List ℕ). before.outgoing ++ l) (sym (packets_joined (all_units a.put) (all_units b.put)))
-          ∙ ap (λ (l : List Value). before.outgoing ++ packets l) (sym (all_units_more a.put b.put));
-      accounted = accounted_more a.put b.put a.accounted b.accounted;
-      own = λ r some. ap (λ (l : List Value). l ++ (b.more r).put) (a.own r some)
-          ∙ ap (λ (l : List Value). units_at r a.put ++ l) (b.own r some) ∙ sym (units_more r a.put b.put);
+      written = grind (arith, append_assoc, packets_joined, all_units_more);
+      accounted = grind (arith, all_of_both);
+      own = grind (arith, units_more);
       took = a.took ++ b.took;
-      all = all_units_more a.took b.took ∙ ap (λ (l : List Value). l ++ all_units b.took) a.all
-          ∙ ap (λ (l : List Value). used ++ l) b.all;
-      taken = λ r some. taken_more (a.more r).calls (b.more r).calls
-          ∙ ap (λ (l : List Value). l ++ units_taken (b.more r).calls) (a.taken r some)
-          ∙ ap (λ (l : List Value). units_at r a.took ++ l) (b.taken r some) ∙ sym (units_more r a.took b.took);
-      life = λ r some. life_then is_caller r (stage_at r before) a.took a.put (stage_at r mid.carrier) b.took b.put
-          (stage_at r new.carrier) (a.life r some) (b.life r some);
+      all = grind (arith, all_units_more);
+      taken = grind (arith, taken_more, units_more);
+      life = grind (arith, life_then, stage_at);
       first = λ r some. first_then is_caller r before mid.carrier new.carrier a.took a.put b.took b.put (a.first r some) (b.life r some)
           (b.first r some);
     }
@@ -161,10 +149,8 @@ step_more is_caller used others T deeds before e ended a = record {
   accounted = a.accounted;
   own = a.own;
   took = a.took ++ marked 0 others;
-  all = all_units_more a.took (marked 0 others) ∙ ap (λ (l : List Value). l ++ all_units (marked 0 others)) a.all
-      ∙ ap (λ (l : List Value). used ++ l) (marked_all 0 others);
-  taken = λ r some. a.taken r some ∙ sym (append-nil (units_at r a.took))
-      ∙ ap (λ (l : List Value). units_at r a.took ++ l) (sym (nowhere r others some)) ∙ sym (units_more r a.took (marked 0 others));
+  all = grind (arith, all_units_more, marked, marked_all);
+  taken = grind (arith, append-nil, nowhere, units_more, marked);
   life = λ r some. subst (λ (l : List Marked). Life is_caller r (stage_at r before) (a.took ++ marked 0 others) l (stage_at r e.carrier))
       (append-nil a.put)
       (life_then is_caller r (stage_at r before) a.took a.put (stage_at r e.carrier) (marked 0 others) [] (stage_at r e.carrier)
@@ -175,8 +161,7 @@ step_more is_caller used others T deeds before e ended a = record {
       subst (λ (l : List Marked). FirstOf is_caller r before (a.took ++ marked 0 others) l e.carrier) (append-nil a.put)
       (first_then is_caller r before e.carrier e.carrier a.took a.put (marked 0 others) [] (a.first r some)
       (subst (λ (s : Stage). Life is_caller r s (marked 0 others) [] (stage_at r e.carrier)) (sym (stage_over r e.carrier ended))
-      (subst (λ (s : Stage). Life is_caller r past (marked 0 others) [] s) (sym (stage_over r e.carrier ended))
-      (life_to_past is_caller r past (marked 0 others) [] (none_marked r others some) tt)))
+      (grind (arith, past, marked, stage_over, life_to_past, none_marked)))
       (λ has now. absurd (let both : past ≡ early = sym (stage_over r e.carrier ended) ∙ now in cc)));
 }
 
@@ -194,8 +179,7 @@ step_as is_caller used S T deeds before e new a same rest next = record {
   took = a.took;
   all = a.all;
   taken = a.taken;
-  life = λ r some. life_then_rests is_caller r (stage_at r before) a.took a.put (stage_at r e.carrier) (stage_at r new.carrier)
-      (a.life r some) (rest r).0;
+  life = grind (arith, life_then_rests, stage_at);
   first = λ r some. first_then_rests is_caller r before e.carrier new.carrier a.took a.put (a.first r some) (rest r).0 (rest r).1;
 }
 

@@ -1,20 +1,17 @@
 -- Which connections a carrier has: before a class is selected at most one, which was requested; in class 0 at most one, whose link is
 -- of class 0.
 -- For the units that arrive for a connection.
-use Rattle.std.proofs.Common.{arith}
 use Rattle.osi_honest.proofs.Vocabulary.{[], ap, Bool, Err, false, if◌then◌else◌, is_some, List, None, not, Ok, Option, refl, Result, Some}
-use Rattle.osi_honest.proofs.Vocabulary.{subst, sym, true, ℕ, ◌&&◌, ◌++◌, ◌+◌, ◌∙◌, ◌∷◌, ◌≡◌, eq-eqb, eqb-true, acknowledge}
-use Rattle.osi_honest.proofs.Vocabulary.{confirm, data0, data2, disconnect, disconnected, error, request, Value, Standing, taken, with_tsdu}
-use Rattle.osi_honest.proofs.Vocabulary.{accept, refuse, selected_by, Selection, LinkFault, Class, Two, Zero, orderly_same, orderly_unit}
-use Rattle.osi_honest.proofs.Vocabulary.{react_over, react_quiet, class_error, closed_on, closes, link_of, may_connect, open_link, or_else}
-use Rattle.osi_honest.proofs.Vocabulary.{room_error, sent_on, Happening, agreed_size, confirmed, opened_link}
-use Rattle.osi_honest.proofs.Vocabulary.{IsOrderly, pumped, answers, before_class, denies, handed_out, has_peer}
-use Rattle.osi_honest.proofs.Vocabulary.{in_class, in_two, in_zero, is_full, leaves, opens_by as opens, settles, taking, to_asked}
-use Rattle.osi_honest.proofs.Vocabulary.{to_closing, to_connection, to_linked, to_only, to_unknown, put, Rows, value_at, without, asked}
-use Rattle.osi_honest.proofs.Vocabulary.{Connection, linked, State as Carrier, EndReason, OpenError, Ended, NotCaller}
-use Rattle.osi_tpdu.specs.Value.{Connect}
+use Rattle.osi_honest.proofs.Vocabulary.{subst, sym, true, ℕ, ◌&&◌, ◌++◌, ◌+◌, ◌∙◌, ◌∷◌, ◌≡◌, eq-eqb, eqb-true, acknowledge, confirm, data0}
+use Rattle.osi_honest.proofs.Vocabulary.{data2, disconnect, disconnected, error, request, Value, Standing, taken, with_tsdu, accept, refuse}
+use Rattle.osi_honest.proofs.Vocabulary.{selected_by, Selection, LinkFault, Class, Two, Zero, orderly_same, orderly_unit, react_over}
+use Rattle.osi_honest.proofs.Vocabulary.{react_quiet, class_error, closed_on, link_of, may_connect, open_link, or_else, room_error, sent_on}
+use Rattle.osi_honest.proofs.Vocabulary.{Happening, agreed_size, confirmed, opened_link, IsOrderly, pumped, answers, before_class, denies}
+use Rattle.osi_honest.proofs.Vocabulary.{handed_out, has_peer, in_class, in_two, in_zero, is_full, leaves, opens_by as opens, settles}
+use Rattle.osi_honest.proofs.Vocabulary.{taking, to_asked, to_connection, to_linked, to_only, to_unknown, put, Rows, value_at, asked}
+use Rattle.osi_honest.proofs.Vocabulary.{Connection, linked, State as Carrier, EndReason, OpenError, Ended, NotCaller, arith, Connect}
+use Rattle.osi_honest.proofs.Vocabulary.{breaks, react}
 use Rattle.osi_carrier.specs.Calls.{asks as requests}
-use Rattle.osi_carrier.specs.React.{breaks, react}
 use Rattle.osi_honest.proofs.keeping.what_a_unit_keeps_a_turn_keeps.{IsKept}
 use Rattle.osi_honest.proofs.reading.what_a_link_gives_can_be_written.{gives_data, taken_zero}
 
@@ -46,43 +43,23 @@ module _ (s : Carrier) (is : s.class ≡ Some Two) where
   two_accepts : (c : Connect) (selection : Selection) (held : Option Class) → held ≡ Some Two → ByClass (answers c selection held s)
   two_accepts c selection held e = grind arith
 
-  two_answers : (c : Connect) (in_use full : Bool) →
-      ByClass (if in_use then denies 131 c.source s
-      else (if full then denies 1 c.source s else answers c (selected_by c s.local) s.class s))
-  two_answers c in_use full = search (arith, two_accepts)
-
-  two_unknown : (v : Value) → ByClass (to_unknown v s)
-  two_unknown v = grind arith
-
   confirmed_two : (c : Connect) → confirmed c s.local s.class ≡ Some Zero → confirmed c s.local s.class ≡ Some Two
   confirmed_two c h = grind (arith, never_zero)
 
   two_opens : (r : ℕ) (c : Connect) (class : Option Class) → (class ≡ Some Zero → class ≡ Some Two) → ByClass (opens r c class s)
   two_opens r c class h = grind arith
 
-  two_asked : (r : ℕ) (v : Value) → ByClass (to_asked r v s)
-  two_asked r v = grind (arith, two_opens, confirmed_two)
-
-  two_breaks : (r peer : ℕ) (fault : LinkFault) (held : Option Class) → ByClass (breaks r peer fault held s)
-  two_breaks r peer fault held = grind arith
-
   two_taking : (r peer : ℕ) (result : Result Standing LinkFault) → ByClass (taking r peer result s)
-  two_taking r peer result = grind (arith, two_breaks)
+  two_taking r peer result = grind arith
 
   two_leaves : (r peer reason : ℕ) (held : Option Class) → ByClass (leaves r peer reason held s)
   two_leaves r peer reason held = grind arith
 
-  two_linked : (r peer : ℕ) (link : Standing) (v : Value) → ByClass (to_linked r peer link v s)
-  two_linked r peer link v = grind (arith, two_leaves, two_taking)
-
-  two_closing : (r : ℕ) (v : Value) → ByClass (to_closing r v s)
-  two_closing r v = grind arith
-
   two_connection : (r : ℕ) (o : Option Connection) (v : Value) → ByClass (to_connection r o v s)
-  two_connection r o v = search (arith, two_unknown, two_asked, two_linked, two_closing)
+  two_connection r o v = grind arith
 
   two_in : (b : Bool) (v : Value) → ByClass (in_two b v s)
-  two_in false (request c) = two_answers c (has_peer c.source s.live) (is_full s)
+  two_in false (request c) = grind (arith, two_accepts)
   two_in false (data0 end user) = two is
   two_in true (confirm d c) = two_connection d (value_at d s.live) (confirm d c)
   two_in false (confirm d c) = two_connection d (value_at d s.live) (confirm d c)
@@ -168,13 +145,10 @@ module _ (s : Carrier) (is : s.class ≡ None) where
 
   -- one was requested
   module _ (r : ℕ) (caller : s.is_caller ≡ true) (live : s.live ≡ (r, asked) ∷ []) where
-    dropped : (t : Carrier) → t.live ≡ without r s.live → ByClass t
-    dropped t then_live = grind (arith, eq-eqb)
-
     first_asked : (v : Value) → ByClass (to_asked r v s)
     first_asked (confirm destination c) = first_opens r c (confirmed c s.local s.class) live
-    first_asked (disconnect destination source reason user) = dropped _ refl
-    first_asked (error destination cause) = dropped _ refl
+    first_asked (disconnect destination source reason user) = grind (arith, eq-eqb)
+    first_asked (error destination cause) = grind (arith, eq-eqb)
     first_asked (disconnected destination source) = asks r is caller live
     first_asked _ = none refl
 
@@ -194,13 +168,10 @@ module _ (s : Carrier) (is : s.class ≡ None) where
 
   -- there is none
   module _ (live : s.live ≡ []) where
-    none_at : (d : ℕ) (v : Value) → ByClass (to_connection d (value_at d s.live) v s)
-    none_at d v = grind (arith, first_unknown)
-
     none_before : (b : Bool) (v : Value) → ByClass (before_class b v s)
-    none_before true (confirm d c) = none_at d (confirm d c)
-    none_before true (disconnect d source reason user) = none_at d (disconnect d source reason user)
-    none_before true (error d cause) = none_at d (error d cause)
+    none_before true (confirm d c) = grind (arith, first_unknown)
+    none_before true (disconnect d source reason user) = grind (arith, first_unknown)
+    none_before true (error d cause) = grind (arith, first_unknown)
     none_before true _ = none refl
     none_before false (request c) = first_answers c (has_peer c.source s.live) (is_full s) live
     none_before false _ = none refl
@@ -249,16 +220,11 @@ module _ (q : ℕ) (s : Carrier) where
       let none_flow : link.flow ≡ None = ap (λ (l : Standing). l.flow) (sym links) ∙ flow in
       let then_link = linked peer (pumped (with_tsdu link tsdu)) in
       zero r peer (pumped (with_tsdu link tsdu)) class (gives_data (with_tsdu link tsdu) none_flow).1
-      (ap (put q then_link) live ∙ ap (λ (n : ℕ). put n then_link ((r, linked first old) ∷ [])) (sym same.0)
-      ∙ put_one r then_link (linked first old))
-
-  closes_class : (peer : ℕ) (link : Standing) (held : Option Class) → s.class ≡ held → open_link q s ≡ Some (peer, link) → ByClass s →
-      ByClass (closes q peer 128 held s)
-  closes_class peer link held is e p = grind (arith, two_classes, linked_at, one_here)
+      (grind (arith, put_one))
 
   closed_class : (o : Option (ℕ × Standing)) → open_link q s ≡ o → ByClass s → ByClass (closed_on q 128 o s)
   closed_class None e p = p
-  closed_class (Some (peer, link)) e p = closes_class peer link s.class refl e p
+  closed_class (Some (peer, link)) e p = grind (arith, two_classes, linked_at, one_here)
 
 untold_class : (events : List Happening) (c : Carrier) → ByClass c → ByClass (record c { events = events })
 untold_class events c (two is) = two is
@@ -275,10 +241,7 @@ same_class c outgoing (zero r peer link class flow live) = zero r peer link clas
 pub class_kept : IsKept ByClass
 class_kept = record {
   reacts_to = unit_class;
-  carries = record {
-    sends = λ q tsdu c p. sent_class q c tsdu (open_link q c) refl p;
-    closes = λ q c p. closed_class q c (open_link q c) refl p;
-  };
+  carries = search (arith, sent_class, closed_class);
   untold = untold_class;
   ends_so = λ reason c p. none refl;
 }

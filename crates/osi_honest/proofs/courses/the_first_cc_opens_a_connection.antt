@@ -1,21 +1,17 @@
 -- A connection that awaits its CC opens with the first CC that comes for it, or it is over with that: no CC comes before it opens.
 -- For the course of a connection.
-use Rattle.osi_honest.proofs.Vocabulary.{[], ap, append_assoc, arith, Bool, false, inl, inr, is_some, List, nat_le, nat_lt, None, Option}
-use Rattle.osi_honest.proofs.Vocabulary.{refl, Some, append-nil, nat_tests, subst, sym, true, ℕ, ◌&&◌, ◌++◌, ◌==◌, ◌∙◌, ◌∷◌, ◌≡◌, ◌≤◌}
-use Rattle.osi_honest.proofs.Vocabulary.{AllByRecursion, confirm, Value, Class, Two, Zero, react_quiet, put_here, confirmed, in_class}
-use Rattle.osi_honest.proofs.Vocabulary.{in_two, before_class, opens_by as opens, to_connection, value_at, asked, Connection}
-use Rattle.osi_honest.proofs.Vocabulary.{EndReason, Happening, State as Carrier, opens_line, hears, to_session, session_carried}
-use Rattle.osi_honest.proofs.Vocabulary.{End, Line, Input, has_given, Answers, AreApart, Opens, Marked}
-use Rattle.osi_tpdu.specs.Value.{Connect}
-use Rattle.osi_carrier.specs.React.{react}
+use Rattle.osi_honest.proofs.Vocabulary.{[], ap, append_assoc, arith, Bool, false, inl, inr, List, nat_le, nat_lt, None, Option, refl, Some}
+use Rattle.osi_honest.proofs.Vocabulary.{append-nil, nat_tests, subst, sym, true, ℕ, ◌&&◌, ◌++◌, ◌∙◌, ◌∷◌, ◌≡◌, ◌≤◌, AllByRecursion}
+use Rattle.osi_honest.proofs.Vocabulary.{confirm, Value, Class, Two, Zero, react_quiet, put_here, in_class, in_two, before_class}
+use Rattle.osi_honest.proofs.Vocabulary.{to_connection, value_at, asked, Connection, Happening, State as Carrier, hears, to_session}
+use Rattle.osi_honest.proofs.Vocabulary.{session_carried, End, Input, has_given, Answers, AreApart, Opens, Marked, Connect, react, Carries}
+use Rattle.osi_honest.proofs.Vocabulary.{closed_given, sent_given, units_rise}
 use Rattle.osi_carrier.specs.Happenings as told
-use Rattle.osi_stack.proofs.carried.what_each_step_preserves.{Carries}
-use Rattle.osi_stack.proofs.sound.the_invariant_is_kept.{closed_given, sent_given, units_rise}
 use Rattle.osi_honest.proofs.class_0.what_packets_do_in_class_0.{never_lasts}
 use Rattle.osi_honest.proofs.courses.the_connections_of_each_class.{IsSound, zero_asks_none}
 use Rattle.osi_honest.proofs.courses.units_of_each_connection.{all_of_both}
-use Rattle.osi_honest.proofs.courses.how_long_a_connection_is_open.{BeforeOpen, Life, Stage, WhileOpen, open_then, opens_by}
-use Rattle.osi_honest.proofs.courses.how_long_a_connection_is_open.{Rests, life_rests, stage_at, stage_by, stays}
+use Rattle.osi_honest.proofs.courses.how_long_a_connection_is_open.{BeforeOpen, Life, Stage, WhileOpen, open_then, opens_by, Rests}
+use Rattle.osi_honest.proofs.courses.how_long_a_connection_is_open.{life_rests, stage_at, stays}
 use Rattle.osi_honest.proofs.courses.how_long_a_connection_is_open.Stage.{early, past}
 
 -- none of these units is a CC for it
@@ -75,21 +71,15 @@ awaiting_of is_caller r took put given t short none (opens_by peer unit o some l
 -- ---- one after the other
 
 module _ (is_caller : Bool) (r : ℕ) where
-  both_apart : (xs ys : List Marked) → AreApart r xs → AreApart r ys → AreApart r (xs ++ ys)
-  both_apart xs ys a b = all_of_both (λ (m : Marked). (m.0 == r) ≡ false) xs ys a b
-
-  both_none : (xs ys : List Marked) → HasNoCc r xs → HasNoCc r ys → HasNoCc r (xs ++ ys)
-  both_none xs ys a b = all_of_both (λ (m : Marked). IsNotCc r m.1) xs ys a b
-
   more_first : (xs ys more puts : List Marked) (given : Bool) (u : Stage) → AreApart r xs → AreApart r ys → HasNoCc r xs →
       Awaiting is_caller r more puts given u → Awaiting is_caller r (xs ++ more) (ys ++ puts) given u
-  more_first xs ys more puts given u a b n (awaits none none_put no_cc has is) = grind (arith, both_apart, both_none)
-  more_first xs ys more puts given u a b n (goes none none_put is) = grind (arith, both_apart)
+  more_first xs ys more puts given u a b n (awaits none none_put no_cc has is) = grind (arith, all_of_both)
+  more_first xs ys more puts given u a b n (goes none none_put is) = grind (arith, all_of_both)
   more_first xs ys more puts given u a b n (opens_so peer unit o some later none no_cc is others answer put_later apart no_answer ans so
       w) =
-      opens_so peer unit o (xs ++ some) later (both_apart xs some a none) (both_none xs some n no_cc)
+      opens_so peer unit o (xs ++ some) later (grind (arith, all_of_both)) (grind (arith, all_of_both))
       (ap (λ (l : List Marked). xs ++ l) is ∙ sym (append_assoc xs some ((0, unit) ∷ later))) (ys ++ others) answer put_later
-      (both_apart ys others b apart) no_answer ans
+      (grind (arith, all_of_both)) no_answer ans
       (ap (λ (l : List Marked). ys ++ l) so ∙ sym (append_assoc ys others (answer ++ put_later))) w
 
   pub awaiting_then : (xs ys : List Marked) (given : Bool) (t : Stage) (more puts : List Marked) (then_given : Bool) (u : Stage) →
@@ -97,25 +87,20 @@ module _ (is_caller : Bool) (r : ℕ) where
       (given ≡ true → t ≡ early → Awaiting is_caller r more puts then_given u) →
       Awaiting is_caller r (xs ++ more) (ys ++ puts) then_given u
   awaiting_then xs ys given t more puts then_given u (awaits a b none has is) life next = search (arith, more_first)
-  awaiting_then xs ys given t more puts then_given u (goes a b is) life next = grind (arith, both_apart)
+  awaiting_then xs ys given t more puts then_given u (goes a b is) life next = grind (arith, all_of_both)
   awaiting_then xs ys given t more puts then_given u (opens_so peer unit o some later none no_cc is others answer put_later apart no_answer
       ans so w) life next =
       opens_so peer unit o some (later ++ more) none no_cc
       (ap (λ (l : List Marked). l ++ more) is ∙ append_assoc some ((0, unit) ∷ later) more) others answer (put_later ++ puts) apart
       no_answer ans
-      (ap (λ (l : List Marked). l ++ puts) so ∙ append_assoc others (answer ++ put_later) puts
-      ∙ ap (λ (l : List Marked). others ++ l) (append_assoc answer put_later puts))
+      (grind (arith, append_assoc))
       (open_then is_caller r peer later put_later more puts t u w life)
 
 -- ---- a CC for a connection that awaits one
 
-opens_live : {A : Type 0} (r : ℕ) (x : Connect) (k : Option Class) (s : Carrier) → value_at r s.live ≡ Some asked →
-    (opens r x k s).ended ≡ None → value_at r (opens r x k s).live ≡ Some asked → A
-opens_live r x k s was lasts now = grind (arith, never_lasts, put_here)
-
 cc_reference : {A : Type 0} (r : ℕ) (x : Connect) (s : Carrier) (o : Option Connection) → value_at r s.live ≡ Some asked → o ≡ Some asked →
     (to_connection r o (confirm r x) s).ended ≡ None → value_at r (to_connection r o (confirm r x) s).live ≡ Some asked → A
-cc_reference r x s (Some asked) was is lasts now = opens_live r x (confirmed x s.local s.class) s was lasts now
+cc_reference r x s (Some asked) was is lasts now = grind (arith, never_lasts, put_here)
 cc_reference r x s _ was is lasts now = absurd (cc)
 
 cc_before : {A : Type 0} (b : Bool) (r : ℕ) (x : Connect) (s : Carrier) → value_at r s.live ≡ Some asked →
@@ -144,14 +129,8 @@ cc_ends_it r x s h lasted was lasts now =
 
 -- ---- a connection that awaits its CC, by its stage
 
-asked_by : (over given : Bool) (o : Option Connection) → given ≡ true → stage_by over given o ≡ early → (over ≡ false) × (o ≡ Some asked)
-asked_by over given o has is = grind arith
-
-lasts_by : (o : Option EndReason) → is_some o ≡ false → o ≡ None
-lasts_by o e = grind arith
-
 pub asked_so : (r : ℕ) (c : Carrier) → has_given r c ≡ true → stage_at r c ≡ early → (c.ended ≡ None) × (value_at r c.live ≡ Some asked)
-asked_so r c has is = grind (arith, asked_by, lasts_by)
+asked_so r c has is = grind arith
 
 -- a reference that was given stays so
 pub given_more : (r m n : ℕ) → m ≤ n → (nat_lt 0 r && nat_le r m) ≡ true → (nat_lt 0 r && nat_le r n) ≡ true
@@ -164,11 +143,8 @@ carries_given g = grind (arith, sent_given, closed_given)
 pub session_given : (q : ℕ) (input : Input) (e : End) → (to_session q input e).carrier.given ≡ e.carrier.given
 session_given q input e = session_carried (λ (c : Carrier). c.given ≡ e.carrier.given) (carries_given e.carrier.given) q input e refl
 
-opening_given : (q : ℕ) (o : Option Line) (e : End) → (opens_line q o e).carrier.given ≡ e.carrier.given
-opening_given q o e = grind (arith, session_given)
-
 pub event_given : (x : Happening) (e : End) → (hears x e).carrier.given ≡ e.carrier.given
-event_given x e = grind (arith, opening_given, session_given)
+event_given x e = grind (arith, session_given)
 
 -- so a unit after which it still awaits its CC is none
 pub unit_not_cc : (r : ℕ) (v : Value) (s : Carrier) → IsSound s → has_given r s ≡ true → stage_at r s ≡ early →
@@ -215,5 +191,4 @@ pub first_then_rests : (is_caller : Bool) (r : ℕ) (old mid new : Carrier) (xs 
 first_then_rests is_caller r old mid new xs ys a rest stays_given =
     subst (λ (l : List Marked). FirstOf is_caller r old l ys new) (append-nil xs)
     (subst (λ (l : List Marked). FirstOf is_caller r old (xs ++ []) l new) (append-nil ys)
-    (first_then is_caller r old mid new xs ys [] [] a (life_rests is_caller r (stage_at r mid) (stage_at r new) [] tt rest)
-    (first_rests is_caller r mid new [] tt rest stays_given)))
+    (search (arith, first_then, life_rests, stage_at, first_rests)))

@@ -1,9 +1,8 @@
 -- Units in order, each with the connection that it is of: which are of one connection.
 -- For the course of a connection.
-use Rattle.osi_honest.proofs.Vocabulary.{[], ap, arith, Bool, false, if◌then◌else◌, List, map, nat_lt, refl, sym, true, ℕ, ◌++◌, ◌<◌, ◌==◌}
-use Rattle.osi_honest.proofs.Vocabulary.{◌∙◌, ◌∷◌, ◌≡◌, ◌≢◌, eq-eqb, eqb-true, nat_tests, map-append, AllByRecursion, Value, Given, unit_of}
-use Rattle.osi_honest.proofs.Vocabulary.{all_units, AreByLinks, if_of, is_of_link, Marked, units_at, CanBeWritten}
-use Rattle.std.proofs.lemmas.Grind.{flat_map-append}
+use Rattle.osi_honest.proofs.Vocabulary.{[], ap, arith, false, if◌then◌else◌, List, map, nat_lt, refl, sym, true, ℕ, ◌++◌, ◌<◌, ◌==◌, ◌∙◌}
+use Rattle.osi_honest.proofs.Vocabulary.{◌∷◌, ◌≡◌, ◌≢◌, eq-eqb, eqb-true, nat_tests, map-append, AllByRecursion, Value, Given, unit_of}
+use Rattle.osi_honest.proofs.Vocabulary.{all_units, AreByLinks, if_of, is_of_link, Marked, units_at, CanBeWritten, flat_map-append}
 
 -- ---- one list after another
 
@@ -24,9 +23,6 @@ IsAccounted m = (is_of_link m.1 ≡ nat_lt 0 m.0) × (is_of_link m.1 ≡ false �
 abbrev pub AreAccounted : List Marked → Type 0
 AreAccounted units = AllByRecursion IsAccounted units
 
-pub accounted_more : (xs ys : List Marked) → AreAccounted xs → AreAccounted ys → AreAccounted (xs ++ ys)
-accounted_more xs ys a b = all_of_both IsAccounted xs ys a b
-
 pub by_links : (units : List Marked) → AreAccounted units → AreByLinks units
 by_links [] all = tt
 by_links (m ∷ units) all = (all.0.0, by_links units all.1)
@@ -44,25 +40,16 @@ marked_all q (unit ∷ units) = ap (λ (l : List Value). unit ∷ l) (marked_all
 pub unequal : (q r : ℕ) → (r == q) ≡ false → r ≢ q
 unequal q r e same = let both : true ≡ false = sym (eq-eqb r q same) ∙ e in absurd (cc)
 
-pub other_mark : (q r : ℕ) → r ≢ q → (q == r) ≡ false
-other_mark q r ne = grind (arith, eqb-true)
-
-one_own : (r : ℕ) (b : Bool) (unit : Value) (units : List Value) → b ≡ true → (if b then unit ∷ [] else []) ++ units ≡ unit ∷ units
-one_own r b unit units e = grind arith
-
-one_other : (r : ℕ) (b : Bool) (unit : Value) (units : List Value) → b ≡ false → (if b then unit ∷ [] else []) ++ units ≡ units
-one_other r b unit units e = grind arith
-
 pub marked_own : (r : ℕ) (units : List Value) → units_at r (marked r units) ≡ units
 marked_own r [] = refl
-marked_own r (unit ∷ units) = grind (arith, one_own, eq-eqb, marked_own r units)
+marked_own r (unit ∷ units) = grind (arith, eq-eqb, marked_own r units)
 
 marked_other : (q r : ℕ) (units : List Value) → (q == r) ≡ false → units_at r (marked q units) ≡ []
 marked_other q r [] e = refl
-marked_other q r (unit ∷ units) e = one_other r (q == r) unit (units_at r (marked q units)) e ∙ marked_other q r units e
+marked_other q r (unit ∷ units) e = (grind arith) ∙ marked_other q r units e
 
 pub elsewhere : (q r : ℕ) (units : List Value) → r ≢ q → units_at r (marked q units) ≡ []
-elsewhere q r units ne = marked_other q r units (other_mark q r ne)
+elsewhere q r units ne = marked_other q r units (grind (arith, eqb-true))
 
 pub none_mark : (r : ℕ) → 0 < r → (0 == r) ≡ false
 none_mark r some = grind (arith, nat_tests)
@@ -76,7 +63,7 @@ none_marked r (unit ∷ units) some = (none_mark r some, none_marked r units som
 
 pub other_marked : (q r : ℕ) (units : List Value) → r ≢ q → AllByRecursion (λ (m : Marked). (m.0 == r) ≡ false) (marked q units)
 other_marked q r [] ne = tt
-other_marked q r (unit ∷ units) ne = (other_mark q r ne, other_marked q r units ne)
+other_marked q r (unit ∷ units) ne = (grind (arith, eqb-true), other_marked q r units ne)
 
 -- ---- DTs and AKs, and others
 
@@ -88,16 +75,6 @@ pub plain_accounted : (units : List Value) → ArePlain units → AreAccounted (
 plain_accounted [] all = tt
 plain_accounted (unit ∷ units) all = ((all.0.0, λ plain. all.0.1), plain_accounted units all.1)
 
-given_by_link : (peer : ℕ) (given : Given) → is_of_link (unit_of peer given) ≡ true
-given_by_link peer given = grind arith
-
-is_above : (q : ℕ) → 0 < q → nat_lt 0 q ≡ true
-is_above q some = grind (arith, nat_tests)
-
--- a unit of a link is no other
-of_link : {A : Type 0} (unit : Value) → is_of_link unit ≡ true → is_of_link unit ≡ false → A
-of_link unit is plain = absurd (let both : true ≡ false = sym is ∙ plain in cc)
-
 pub given_accounted : (q peer : ℕ) (units : List Given) → 0 < q → AreAccounted (marked q (map (unit_of peer) units))
 given_accounted q peer [] some = tt
-given_accounted q peer (given ∷ units) some = grind (arith, given_by_link, is_above, of_link, given_accounted q peer units some)
+given_accounted q peer (given ∷ units) some = grind (arith, given_accounted q peer units some)

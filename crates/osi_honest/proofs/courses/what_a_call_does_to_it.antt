@@ -1,17 +1,16 @@
 -- A call of the user: what becomes of the course of one connection, whichever connection the call is for.
 -- For the course of a connection.
-use Rattle.osi_honest.proofs.Vocabulary.{[], ap, arith, Bool, false, if◌then◌else◌, is_some, length, List, nat_le, nat_lt, None, not}
-use Rattle.osi_honest.proofs.Vocabulary.{Option, option_map, refl, Some, subst, sym, true, ℕ, ◌&&◌, ◌++◌, ◌+◌, ◌<◌, ◌==◌, ◌∙◌, ◌∷◌, ◌≡◌}
-use Rattle.osi_honest.proofs.Vocabulary.{◌≢◌, eqb-true, tsap_octets, request, Value, Standing, tsdus_out, push_other, push_here, closed_on}
-use Rattle.osi_honest.proofs.Vocabulary.{closed_with, link_of, may_connect, open_link, proposal, proposes_two, IsOrderly, value_at, asked}
-use Rattle.osi_honest.proofs.Vocabulary.{Connection, State as Carrier, EndReason, Broken, OpenError, Ended, NotCaller, SessionCall as Call}
-use Rattle.osi_honest.proofs.Vocabulary.{HasSerial, after_input, called, Listener, both, says_is, used_live, disconnect_carrier}
-use Rattle.osi_honest.proofs.Vocabulary.{disconnect_is, given_other, closed_given, open_none, after_open, call_error, calls_with}
-use Rattle.osi_honest.proofs.Vocabulary.{connect_error, connects, has_given, terms_error, awaits_transport, disconnect_error, disconnects}
-use Rattle.osi_honest.proofs.Vocabulary.{ends, IsAccepted, IsGranted, kept_at, to_session, user_does, UserCall, breaking, calling}
-use Rattle.osi_honest.proofs.Vocabulary.{connecting, disconnecting, End, fresh_line, session_in, Request as Connect, ConnectError, sends}
-use Rattle.osi_honest.proofs.Vocabulary.{Course, Deeds, Gone, IsOpen, IsShut, said_in, awaited, is_gone, is_open, unknown, closed, Marked}
-use Rattle.osi_honest.proofs.Vocabulary.{History, said_after, HasSerialIn, never}
+use Rattle.osi_honest.proofs.Vocabulary.{[], ap, arith, Bool, false, if◌then◌else◌, is_some, length, List, nat_le, nat_lt, None, Option}
+use Rattle.osi_honest.proofs.Vocabulary.{option_map, refl, Some, subst, sym, true, ℕ, ◌&&◌, ◌++◌, ◌+◌, ◌<◌, ◌==◌, ◌∙◌, ◌∷◌, ◌≡◌, ◌≢◌}
+use Rattle.osi_honest.proofs.Vocabulary.{eqb-true, tsap_octets, request, Value, Standing, tsdus_out, push_other, push_here, closed_on}
+use Rattle.osi_honest.proofs.Vocabulary.{may_connect, open_link, proposal, IsOrderly, value_at, asked, State as Carrier, EndReason, Broken}
+use Rattle.osi_honest.proofs.Vocabulary.{SessionCall as Call, HasSerial, after_input, called, Listener, both, says_is, used_live}
+use Rattle.osi_honest.proofs.Vocabulary.{disconnect_carrier, disconnect_is, given_other, closed_given, open_none, call_error, calls_with}
+use Rattle.osi_honest.proofs.Vocabulary.{connect_error, connects, has_given, terms_error, disconnect_error, disconnects, ends, IsAccepted}
+use Rattle.osi_honest.proofs.Vocabulary.{IsGranted, kept_at, to_session, user_does, UserCall, breaking, calling, connecting, disconnecting}
+use Rattle.osi_honest.proofs.Vocabulary.{End, fresh_line, session_in, Request as Connect, sends, Course, Deeds, Gone, IsOpen, IsShut}
+use Rattle.osi_honest.proofs.Vocabulary.{said_in, awaited, is_gone, is_open, unknown, closed, Marked, History, said_after, HasSerialIn}
+use Rattle.osi_honest.proofs.Vocabulary.{never, over}
 use Rattle.osi_stack.specs.Calls.{breaks}
 use Rattle.osi_honest.specs.Talking as history
 use Rattle.osi_honest.proofs.class_0.a_session_of_class_0_puts_what_it_sends.{still_begun}
@@ -25,13 +24,12 @@ use Rattle.osi_honest.proofs.courses.what_a_session_puts.{Puts, closing_accounte
 use Rattle.osi_honest.proofs.courses.what_a_session_puts.{session_others, session_puts, session_written}
 use Rattle.osi_honest.proofs.courses.what_sessions_hear_of_it.{CourseAll, course_given}
 use Rattle.osi_honest.proofs.courses.what_a_link_takes_and_is_handed.{closed_leaves, closed_shut, link_shut}
-use Rattle.osi_honest.proofs.courses.what_a_unit_does_to_a_connection.{given_before, given_next, next_ungiven}
+use Rattle.osi_honest.proofs.courses.what_a_unit_does_to_a_connection.{given_next, next_ungiven}
 use Rattle.osi_honest.proofs.courses.what_another_connection_leaves.{Beside, course_beside, course_over, gone_same, session_beside}
 use Rattle.osi_honest.proofs.courses.what_another_connection_leaves.{used_none}
 use Rattle.osi_honest.proofs.courses.how_long_a_connection_is_open.{Life, life_rests, rests_over, stage_at}
 use Rattle.osi_honest.proofs.courses.what_its_own_session_does.{CanSpeak, session_speaks}
 use Rattle.osi_honest.proofs.reading.a_cr_and_a_cc_can_be_written.{cr_by}
-use Rattle.osi_honest.specs.Courses.Gone.{over}
 
 -- the CR of a request
 abbrev request_put : Connect → End → List Value
@@ -60,13 +58,6 @@ module _ (is_caller : Bool) (r : ℕ) (moves : Deeds) (e : End) (lasts : e.carri
 
   -- ---- a request
 
-  caller_by : (b has_ended : Bool) (error : Option OpenError) →
-      (if not b then Some NotCaller else (if has_ended then Some Ended else error)) ≡ None → b ≡ true
-  caller_by b has_ended error h = grind arith
-
-  terms_by : (o : Option OpenError) (error : Option ConnectError) → after_open o error ≡ None → error ≡ None
-  terms_by o error h = grind arith
-
   -- a connection with the next reference is awaited
   connects_next : (c : Connect) → connect_error c e ≡ None → r ≡ e.carrier.given + 1 → Course is_caller r moves e →
       Course is_caller r moves (connects c e)
@@ -75,13 +66,11 @@ module _ (is_caller : Bool) (r : ℕ) (moves : Deeds) (e : End) (lasts : e.carri
       let here : value_at r (connects c e).carrier.live ≡ Some asked =
       ap (λ (n : ℕ). value_at r (e.carrier.live ++ (n, asked) ∷ [])) (sym next) ∙ push_here r asked e.carrier.live live in
       let line : value_at r (e.lines ++ (e.carrier.given + 1, fresh_line (calls_with c)) ∷ []) ≡ Some (fresh_line (calls_with c)) =
-      ap (λ (n : ℕ). value_at r (e.lines ++ (n, fresh_line (calls_with c)) ∷ [])) (sym next)
-      ∙ push_here r (fresh_line (calls_with c)) e.lines lines in
-      awaited none c (terms_by (may_connect e.carrier) (terms_error c) allowed)
-      (sym side ∙ caller_by e.carrier.is_caller (is_some e.carrier.ended) _ may) lasts
+      grind (arith, push_here) in
+      awaited none c (grind arith)
+      (sym side ∙ (grind arith)) lasts
       (ap (λ (n : ℕ). nat_lt 0 n && nat_le n (e.carrier.given + 1)) next ∙ given_next e.carrier.given) here
-      (ap session_in
-      (used_live r (connects c e).carrier.live (e.lines ++ (e.carrier.given + 1, fresh_line (calls_with c)) ∷ []) (ap is_some here) ∙ line))
+      (grind (arith, used_live))
   connects_next c allowed next (awaited none d terms side was given here kept) = grind (arith, both, next_ungiven)
   connects_next c allowed next (is_open given o) = grind (arith, both, next_ungiven)
   connects_next c allowed next (is_gone (closed at calls is session speaks given shut)) = grind (arith, both, next_ungiven)
@@ -89,7 +78,7 @@ module _ (is_caller : Bool) (r : ℕ) (moves : Deeds) (e : End) (lasts : e.carri
   connects_next c allowed next (is_gone (never none ended)) = absurd (never_lasts e.carrier.ended ended lasts)
 
   connects_other : (c : Connect) → r ≢ e.carrier.given + 1 → Beside r e (connects c e)
-  connects_other c ne = grind (arith, push_other, given_before, used_none, used_live)
+  connects_other c ne = grind (arith, push_other, used_none, used_live)
 
   connect_steps : (c : Connect) (b : Bool) → (r == e.carrier.given + 1) ≡ b → connect_error c e ≡ None → Course is_caller r moves e →
       Then (marked 0 (request_put c e)) (connects c e)
@@ -97,9 +86,6 @@ module _ (is_caller : Bool) (r : ℕ) (moves : Deeds) (e : End) (lasts : e.carri
   connect_steps c false is allowed course = search (arith, others, nowhere, connects_other, unequal)
 
   -- ---- a call of the session
-
-  unlinked : (x : Option Connection) → value_at r e.carrier.live ≡ x → link_of x ≡ None → open_link r e.carrier ≡ None
-  unlinked x here none = grind arith
 
   open_speaks : (call : Call) (o : IsOpen is_caller r moves e) → has_given r e.carrier ≡ true → HasSerial call →
       IsGranted r call o.session e.carrier → CanSpeak is_caller r moves o.session (called call) e
@@ -127,9 +113,9 @@ module _ (is_caller : Bool) (r : ℕ) (moves : Deeds) (e : End) (lasts : e.carri
 
   own_call : (call : Call) → call_error r call e ≡ None → HasSerial call → Course is_caller r moves e →
       Then (session_puts r (called call) e) (to_session r (called call) e)
-  own_call call allowed serial (unknown none side free live lines) = grind (arith, never_lasts, says_is, unlinked)
+  own_call call allowed serial (unknown none side free live lines) = grind (arith, never_lasts, says_is)
   own_call call allowed serial (awaited none c terms side was given here kept) =
-      absurd (never_lasts (open_link r e.carrier) (says_is r call e allowed).granted.opened (unlinked (Some asked) here refl))
+      absurd (never_lasts (open_link r e.carrier) (says_is r call e allowed).granted.opened (grind arith))
   own_call call allowed serial (is_gone (closed at calls is session speaks given shut)) =
       absurd (never_lasts (open_link r e.carrier) (says_is r call e allowed).granted.opened (link_shut r e.carrier shut))
   own_call call allowed serial (is_gone (over at calls heard unheard is session speaks parts none ended)) = grind (arith, never_lasts)
@@ -137,7 +123,6 @@ module _ (is_caller : Bool) (r : ℕ) (moves : Deeds) (e : End) (lasts : e.carri
   own_call call allowed serial (is_open given o) =
       let says = says_is r call e allowed in
       let there : kept_at r e.lines ≡ Some says.acts.session = ap session_in says.acts.here ∙ says.acts.is in
-      let one : Some says.acts.session ≡ Some o.session = sym there ∙ o.kept in
       let same : says.acts.session ≡ o.session = cc in
       session_speaks is_caller r moves o.session (called call) e
       (open_speaks call o given serial (subst (λ (s : Listener). IsGranted r call s e.carrier) same says.granted))
@@ -155,14 +140,6 @@ module _ (is_caller : Bool) (r : ℕ) (moves : Deeds) (e : End) (lasts : e.carri
   abbrev closed_puts : ℕ → List Value
   closed_puts q = put_closing q (open_link q e.carrier) e.carrier
 
-  waits_still : (b : Bool) (o : Option Listener) (c : Connect) → b ≡ true → o ≡ Some (calls_with c) →
-      awaits_transport (if b then o else None) ≡ true
-  waits_still b o c is here = grind arith
-
-  refused_by : {E : Type 0} (known waiting : Bool) (a b : E) →
-      (if not known then Some a else (if waiting then Some b else None)) ≡ None → (known ≡ true) × (waiting ≡ false)
-  refused_by known waiting a b h = grind arith
-
   gone_given : Gone is_caller r moves e → Course is_caller r moves (disconnects r e)
   gone_given (closed at calls is session speaks given shut) =
       is_gone (gone_same is_caller r moves e (disconnects r e)
@@ -174,8 +151,8 @@ module _ (is_caller : Bool) (r : ℕ) (moves : Deeds) (e : End) (lasts : e.carri
   own_given : (o : Option EndReason) → (disconnects r e).carrier.ended ≡ o → disconnect_error r e ≡ None → Course is_caller r moves e →
       Course is_caller r moves (disconnects r e)
   own_given (Some reason) ended allowed course = is_gone (course_over is_caller r moves e (disconnects r e) course (ap is_some ended))
-  own_given None still allowed (unknown none side free live lines) = grind (arith, both, refused_by)
-  own_given None still allowed (awaited none c terms side was given here kept) = grind (arith, both, waits_still, refused_by)
+  own_given None still allowed (unknown none side free live lines) = grind (arith, both)
+  own_given None still allowed (awaited none c terms side was given here kept) = grind (arith, both)
   own_given None still allowed (is_open given o) =
       let carrier = disconnect_carrier r e in
       let shut = closed_shut r o.peer o.calls.link e.carrier lasts o.here (sym (ap (λ (c : Carrier). c.ended) carrier) ∙ still) in
@@ -223,15 +200,10 @@ module _ (is_caller : Bool) (moves : ℕ → Deeds) (e : End) (lasts : e.carrier
   pub user_steps : (call : UserCall) → IsAccepted call e → HasSerialIn call → AllThen (user_does call e)
   user_steps (connecting c) allowed serial =
       each_then (connects c e) (marked 0 (request_put c e)) refl (
-        (
-          refl,
-          λ plain. cr_by (proposes_two e.carrier.local) e.carrier.local e.carrier.class c.calling_tsap c.called_tsap
-              (e.carrier.given + 1),
-        ),
+        grind (arith, cr_by),
         tt,
       )
-      (λ r some. life_rests is_caller r (stage_at r e.carrier) (stage_at r (connects c e).carrier) (marked 0 (request_put c e))
-      (none_marked r (request_put c e) some) (connect_rests r c e orderly lasts))
+      (search (arith, life_rests, stage_at, marked, none_marked, connect_rests))
       (λ r now has. given_more r e.carrier.given (e.carrier.given + 1) (omega arith) has)
       (λ r. connect_steps is_caller r (moves r) e lasts c (r == e.carrier.given + 1) refl allowed (course r))
   user_steps (calling q call) allowed serial =
@@ -245,16 +217,12 @@ module _ (is_caller : Bool) (moves : ℕ → Deeds) (e : End) (lasts : e.carrier
       each_then (disconnects q e) put
       (subst (Puts e.carrier put) (sym (disconnect_carrier q e)) (closing_puts q e.carrier)) (closing_accounted q e.carrier)
       (λ r some. subst (λ (c : Carrier). Life is_caller r (stage_at r e.carrier) [] put (stage_at r c)) (sym (disconnect_carrier q e))
-      (life_rests is_caller r (stage_at r e.carrier) (stage_at r (closed_with q 128 e.carrier)) put
-      (none_marked r (put_closing q (open_link q e.carrier) e.carrier) some) (given_up_rests q r e.carrier)))
-      (λ r now has. ap (has_given r) (disconnect_carrier q e)
-      ∙ ap (λ (n : ℕ). nat_lt 0 r && nat_le r n) (closed_given q 128 (open_link q e.carrier) e.carrier) ∙ has)
+      (search (arith, life_rests, stage_at, none_marked, put_closing, given_up_rests)))
+      (grind (arith, disconnect_carrier, closed_given))
       (λ r. given_steps is_caller r (moves r) e lasts q (r == q) refl allowed (course r))
   user_steps breaking allowed serial =
       each_then (breaks e) []
       (subst (λ (x : End). Puts e.carrier [] x.carrier) (sym (break_is is_caller 0 (moves 0) e lasts)) (puts_none e.carrier)) tt
-      (λ r some. life_rests is_caller r (stage_at r e.carrier) (stage_at r (breaks e).carrier) [] tt
-      (rests_over r (stage_at r e.carrier) (breaks e).carrier
-      (ap (λ (x : End). is_some x.carrier.ended) (break_is is_caller 0 (moves 0) e lasts))))
+      (grind (arith, life_rests, stage_at, rests_over, break_is))
       (λ r now has. ap (λ (x : End). has_given r x.carrier) (break_is is_caller 0 (moves 0) e lasts) ∙ has)
       (λ r. break_steps is_caller r (moves r) e lasts (course r))

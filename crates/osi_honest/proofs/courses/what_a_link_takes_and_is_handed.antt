@@ -1,19 +1,17 @@
 -- What the link of a connection does as it takes a unit, and as its session hands in TSDUs; and what a session of another
 -- connection leaves of it.
 -- For the course of a connection.
-use Rattle.std.proofs.Common.{arith}
-use Rattle.osi_honest.proofs.Vocabulary.{[], ap, Bool, drop, Err, false, if◌then◌else◌, inl, inr, is_some, IsSome, List, map, None, Ok}
-use Rattle.osi_honest.proofs.Vocabulary.{Option, refl, Result, Some, subst, sym, ℕ, ◌∙◌, ◌∷◌, ◌≡◌, ◌≢◌, ◌⊎◌, append-nil, map-append}
-use Rattle.osi_honest.proofs.Vocabulary.{may_be_followed, Value, drained_leaves, drained_moves, Ends, Flow, Sender, all_given, joined}
-use Rattle.osi_honest.proofs.Vocabulary.{Joining, with_part, Standing, taken, taken_by, taken_flow, unit_of, with_joined, with_sender}
-use Rattle.osi_honest.proofs.Vocabulary.{with_tsdu, hand_out, Move, MovesAlong, take_in, tsdus_in, tsdus_out, LinkFault, OutOfSequence}
-use Rattle.osi_honest.proofs.Vocabulary.{Class, put_other, put_here, closed_on, closed_with, closes, link_of, open_link, sent, sent_all}
-use Rattle.osi_honest.proofs.Vocabulary.{sent_on, pumped, written_by, handed_out, value_at, closing, Connection, linked, State as Carrier}
-use Rattle.osi_honest.proofs.Vocabulary.{SendError, answers_by, sent_unless, IsShut, units_given, units_taken}
-use Rattle.osi_class.specs.declared.faults.LinkFault.TheVariants.{TsduTooLong}
+use Rattle.osi_honest.proofs.Vocabulary.{[], ap, Bool, drop, Err, false, if◌then◌else◌, inl, inr, List, map, None, Ok, Option, refl, Result}
+use Rattle.osi_honest.proofs.Vocabulary.{Some, sym, ℕ, ◌∙◌, ◌∷◌, ◌≡◌, ◌≢◌, ◌⊎◌, append-nil, map-append, may_be_followed, Value}
+use Rattle.osi_honest.proofs.Vocabulary.{drained_leaves, drained_moves, Ends, Flow, Sender, all_given, Joining, with_part, Standing, taken}
+use Rattle.osi_honest.proofs.Vocabulary.{taken_by, unit_of, with_joined, with_sender, with_tsdu, hand_out, Move, MovesAlong, take_in}
+use Rattle.osi_honest.proofs.Vocabulary.{tsdus_in, tsdus_out, LinkFault, put_other, put_here, closed_on, closed_with, open_link, sent}
+use Rattle.osi_honest.proofs.Vocabulary.{sent_all, sent_on, pumped, written_by, handed_out, value_at, closing, linked, State as Carrier}
+use Rattle.osi_honest.proofs.Vocabulary.{SendError, answers_by, sent_unless, IsShut, units_given, units_taken, arith, TsduTooLong}
+use Rattle.osi_honest.proofs.Vocabulary.{flat_map-append}
 use Rattle.osi_honest.proofs.courses.what_a_session_puts.{all_put, one_puts}
-use Rattle.osi_honest.proofs.courses.what_calls_of_a_link_say.{HandsIn, given_more, gives, gives_none_in, gives_none_out, gives_units}
-use Rattle.osi_honest.proofs.courses.what_calls_of_a_link_say.{gives_untaken, hands_more, hands_none, hands_one, one_in}
+use Rattle.osi_honest.proofs.courses.what_calls_of_a_link_say.{HandsIn, gives, gives_none_in, gives_none_out, gives_units, gives_untaken}
+use Rattle.osi_honest.proofs.courses.what_calls_of_a_link_say.{hands_more, hands_one, one_in}
 
 -- ---- a link takes a unit
 
@@ -26,23 +24,13 @@ part_by : (v : Value) (e : Ends) (flow : Option Flow) (last : Bool) (octets : Li
     with_joined e flow (if b then Err TsduTooLong else Ok (with_part e.joining last octets)) ≡ Ok after → HasFew v after.ends.joining.whole
 part_by v e flow last octets after b alone none is = grind arith
 
-awaited_by : (v : Value) (e : Ends) (flow : Flow) (last : Bool) (octets : List ℕ) (after : Standing) (b : Bool) →
-    may_be_followed v ≡ false → e.joining.whole ≡ [] →
-    (if b then with_joined e (Some (taken_flow flow)) (joined e.joining last octets) else Err OutOfSequence) ≡ Ok after →
-    HasFew v after.ends.joining.whole
-awaited_by v e flow last octets after b alone none is = grind (arith, part_by)
-
 sender_by : (v : Value) (e : Ends) (flow : Flow) (after : Standing) (o : Result Sender LinkFault) → e.joining.whole ≡ [] →
     with_sender e flow o ≡ Ok after → HasFew v after.ends.joining.whole
 sender_by v e flow after o none is = grind arith
 
 few_by : (e : Ends) (o : Option Flow) (v : Value) (after : Standing) → e.joining.whole ≡ [] → taken_by e o v ≡ Ok after →
     HasFew v after.ends.joining.whole
-few_by e o v after none is = grind (arith, part_by, awaited_by, sender_by)
-
-pub has_few : (link after : Standing) (v : Value) → link.ends.joining.whole ≡ [] → taken link v ≡ Ok after →
-    HasFew v after.ends.joining.whole
-has_few link after v none is = few_by link.ends link.flow v after none is
+few_by e o v after none is = grind (arith, part_by, sender_by)
 
 abbrev with_whole : Standing → List (List ℕ) → Standing
 with_whole link whole = record link { ends = record link.ends { joining = record link.ends.joining { whole = whole } } }
@@ -66,11 +54,7 @@ takes_in link after v told is (inl none) took =
     ap (λ (l : List (List ℕ)). with_whole after (drop 1 l)) whole ∙ ap (with_whole after) (sym whole) in
     record {
       moves = take_in v ∷ gives units;
-      along = (
-        after,
-        took,
-        subst (λ (s : Standing). MovesAlong s (gives units) (pumped (handed_out after))) same (drained_moves (handed_out after)),
-      );
+      along = grind (arith, gives, drained_moves);
       into = gives_none_in units;
       out = gives_none_out units ∙ sym none;
       given = gives_units units;
@@ -95,24 +79,8 @@ takes_in link after v told is (inr (tsdu, one, alone)) took =
 
 -- ---- the link of an open connection
 
-pub link_open : (r peer : ℕ) (link : Standing) (c : Carrier) → c.ended ≡ None → value_at r c.live ≡ Some (linked peer link) →
-    open_link r c ≡ Some (peer, link)
-link_open r peer link c lasts here = grind arith
-
-unlinked_by : (b : Bool) (o : Option Connection) → IsShut o → (if b then None else link_of o) ≡ None
-unlinked_by b o shut = grind arith
-
--- nor is one of a carrier that has ended
-pub over_unlinked : (r : ℕ) (c : Carrier) → IsSome c.ended → open_link r c ≡ None
-over_unlinked r c ended = ap (λ (b : Bool). if b then None else link_of (value_at r c.live)) ended
-
 pub link_shut : (r : ℕ) (c : Carrier) → IsShut (value_at r c.live) → open_link r c ≡ None
-link_shut r c shut = unlinked_by (is_some c.ended) (value_at r c.live) shut
-
--- what a session of a connection that is shut does to the carrier: nothing
-pub shut_answers : (r : ℕ) (closing : Bool) (tsdus : List (List ℕ)) (c : Carrier) → open_link r c ≡ None →
-    answers_by closing r tsdus c ≡ c
-shut_answers r h tsdus c none = grind arith
+link_shut r c shut = grind arith
 
 -- ---- its session hands in TSDUs
 
@@ -132,7 +100,7 @@ pub record Sends (r peer : ℕ) (link : Standing) (tsdus : List (List ℕ)) (old
   pub same : IsSameBeside old new
 
 sends_none : (r peer : ℕ) (link : Standing) (c : Carrier) → value_at r c.live ≡ Some (linked peer link) → Sends r peer link [] c c
-sends_none r peer link c here = grind (arith, hands_none)
+sends_none r peer link c here = grind arith
 
 sends_one : (r peer : ℕ) (link : Standing) (tsdu : List ℕ) (c : Carrier) → c.ended ≡ None → value_at r c.live ≡ Some (linked peer link) →
     Sends r peer link (tsdu ∷ []) c (sent r tsdu c)
@@ -140,7 +108,6 @@ sends_one r peer link tsdu c lasts here =
     grind (
       arith,
       one_puts,
-      link_open r peer link c lasts here,
       one_in tsdu link,
       hands_one link tsdu,
       put_here r (linked peer (pumped (with_tsdu link tsdu))) (linked peer link) c.live here,
@@ -155,7 +122,7 @@ sends_more r peer link tsdu others old new a b =
     grind (
       arith,
       hands_more link a.after b.after (tsdu ∷ []) others a.moves b.moves a.hands b.hands,
-      given_more a.moves b.moves,
+      flat_map-append,
       map-append (unit_of peer) (units_given a.moves) (units_given b.moves),
       append-nil (one_puts tsdu (open_link r old)),
       one_puts tsdu (open_link r old),
@@ -166,15 +133,14 @@ pub sends_all : (r peer : ℕ) (link : Standing) (tsdus : List (List ℕ)) (c : 
 sends_all r peer link [] c lasts here = sends_none r peer link c here
 sends_all r peer link (tsdu ∷ tsdus) c lasts here =
     let one = sends_one r peer link tsdu c lasts here in
-    sends_more r peer link tsdu tsdus c (sent_all r tsdus (sent r tsdu c)) one
-    (sends_all r peer one.after tsdus (sent r tsdu c) (one.same.ended ∙ lasts) one.here)
+    grind (arith, sends_more, sends_all r peer one.after tsdus (sent r tsdu c) (one.same.ended ∙ lasts) one.here)
 
 -- ---- it closes its connection
 
 -- while the carrier lasts
 pub closed_shut : (r peer : ℕ) (link : Standing) (c : Carrier) → c.ended ≡ None → value_at r c.live ≡ Some (linked peer link) →
     (closed_with r 128 c).ended ≡ None → value_at r (closed_with r 128 c).live ≡ Some (closing peer)
-closed_shut r peer link c lasts here = grind (arith, link_open, put_here)
+closed_shut r peer link c lasts here = grind (arith, put_here)
 
 -- ---- a session of another connection
 
@@ -201,14 +167,8 @@ module _ (q r : ℕ) (ne : r ≢ q) where
   all_leave None [] c = leaves_all r c
   all_leave None (tsdu ∷ tsdus) c = grind (arith, leaves_then, sent_leaves, all_leave None tsdus (sent q tsdu c))
 
-  closes_leave : (peer : ℕ) (class : Option Class) (c : Carrier) → c.ended ≡ None → Leaves r c (closes q peer 128 class c)
-  closes_leave peer class c lasts = grind (arith, put_other)
-
-  linked_lasts : (b : Bool) (o : Option Connection) (link : ℕ × Standing) → (if b then None else link_of o) ≡ Some link → b ≡ false
-  linked_lasts b o link e = grind arith
-
   pub closed_leaves : (o : Option (ℕ × Standing)) (c : Carrier) → open_link q c ≡ o → Leaves r c (closed_on q 128 o c)
-  closed_leaves h c e = grind (arith, leaves_all, closes_leave, linked_lasts)
+  closed_leaves h c e = grind (arith, leaves_all, put_other)
 
   pub answers_leave : (closing : Bool) (tsdus : List (List ℕ)) (c : Carrier) → Leaves r c (answers_by closing q tsdus c)
   answers_leave h tsdus c = grind (arith, closed_leaves, all_leave)

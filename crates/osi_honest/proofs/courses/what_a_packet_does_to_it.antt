@@ -6,18 +6,16 @@ use Rattle.osi_honest.proofs.Vocabulary.{take-append-drop, take_all, AllByRecurs
 use Rattle.osi_honest.proofs.Vocabulary.{units_of, Value, TpduFault, orderly_closed, orderly_end, orderly_same, orderly_sent, orderly_unit}
 use Rattle.osi_honest.proofs.Vocabulary.{acts_cases, IsOrderly, reacts, State as Carrier, EndReason, NoMemory, awaits, starved_over}
 use Rattle.osi_honest.proofs.Vocabulary.{lasting_of, packet_is, quiet_stops, none_ended, found_how, packets_kept, attended_kept, Feeds}
-use Rattle.osi_honest.proofs.Vocabulary.{FindsNoMemory, Goes as GoesThrough, Refuses, RunsDry, StopsBehind, TakesPackets, uses_all}
-use Rattle.osi_honest.proofs.Vocabulary.{after_packet, attends, ends, hears_times, RunsOut, Starves, starves, with_carrier, with_events}
-use Rattle.osi_honest.proofs.Vocabulary.{End, Holding, IsAttended, waits, Deeds, units_in, units_read, is_gone}
-use Rattle.std.proofs.lemmas.Grind.{flat_map-append}
+use Rattle.osi_honest.proofs.Vocabulary.{FindsNoMemory, Goes as GoesThrough, StopsBehind, TakesPackets, uses_all, after_packet, attends}
+use Rattle.osi_honest.proofs.Vocabulary.{ends, hears_times, RunsOut, Starves, starves, with_carrier, with_events, End, Holding, IsAttended}
+use Rattle.osi_honest.proofs.Vocabulary.{waits, Deeds, units_in, units_read, is_gone, flat_map-append}
 use Rattle.osi_carrier.specs.Packets as carriers
 use Rattle.osi_carrier.specs.State as states
 use Rattle.osi_honest.specs.Talking as history
 use Rattle.osi_honest.proofs.class_0.what_a_shortage_of_memory_leaves.{starves_same}
 use Rattle.osi_honest.proofs.class_0.what_a_turn_does_in_class_0.{all_octets, more_used, stopped_within}
 use Rattle.osi_honest.proofs.class_0.what_packets_do_in_class_0.{never_lasts}
-use Rattle.osi_honest.proofs.courses.steps_of_a_course.{HoldEach, Steps, StepsBy, over_rest, same_rest, step_after, step_as, step_more}
-use Rattle.osi_honest.proofs.courses.steps_of_a_course.{step_none, step_then}
+use Rattle.osi_honest.proofs.courses.steps_of_a_course.{HoldEach, StepsBy, same_rest, step_after, step_as, step_more, step_none, step_then}
 use Rattle.osi_honest.proofs.courses.the_connections_of_each_class.{IsSound, class_kept, sound_unit}
 use Rattle.osi_honest.proofs.courses.what_another_connection_leaves.{course_over}
 use Rattle.osi_honest.proofs.courses.what_sessions_hear_of_it.{CourseAll, Known, attended, times_heard}
@@ -28,6 +26,8 @@ use Rattle.osi_honest.proofs.courses.what_waits_to_be_heard.{waits_over}
 use Rattle.osi_honest.proofs.courses.what_waits_to_be_heard.Waits.{away}
 use Rattle.osi_honest.proofs.reading.two_readings_of_a_stream_agree.{packets_on, packets_then}
 use Rattle.osi_honest.proofs.keeping.what_a_unit_keeps_a_turn_keeps.{IsKept, kept_takes}
+use Rattle.osi_honest.proofs.courses.how_long_a_connection_is_open.Stage.{early, past}
+use Rattle.osi_honest.proofs.courses.how_long_a_connection_is_open.{rests_over, stage_at, stage_over}
 
 -- ---- what holds of each carrier
 
@@ -74,7 +74,7 @@ module _ (known : Known) (is_caller : Bool) where
   acted u (Ok units) moves e octets is h calm = units_step is_caller units u (units_found u units octets is) moves e h calm
   acted u (Err fault) moves e octets is h calm =
       step_none is_caller (NowAll is_caller) moves e.carrier (with_carrier (carriers.acts_by (Err fault) e.carrier) e) refl
-      (over_rest e.carrier (carriers.acts_by (Err fault) e.carrier) refl)
+      (grind (arith, rests_over, stage_at, past, early, stage_over))
       (λ r. away (calm_over is_caller r (moves r) e (with_carrier (carriers.acts_by (Err fault) e.carrier) e) (calm r) refl))
 
   carried_out : (u : List ℕ) (moves : ℕ → Deeds) (e : End) → IsOctets u → IsSound e.carrier → HoldEach (CalmAll is_caller) moves e →
@@ -89,8 +89,7 @@ module _ (known : Known) (is_caller : Bool) where
       let mid = with_carrier (carriers.after_packet e.carrier u) e in
       step_after is_caller (units_read (units_of u)) (NowAll is_caller) (CourseAll is_caller) moves e.carrier mid (after_packet e u)
       (carried_out u moves e octets b.sound (calm_of moves e (b.attended lasts) course))
-      (λ after w. subst (Steps is_caller (CourseAll is_caller) after mid.carrier) (sym (packet_is e u))
-      (attended known is_caller after mid w))
+      (grind (arith, attended, packet_is e u))
 
   pub takes_steps : (packets : List (List ℕ)) (moves : ℕ → Deeds) (old new : End) → AllByRecursion IsOctets packets → Between old →
       Courses moves old → TakesPackets old packets new → CourseSteps (units_in packets) moves old new
@@ -118,7 +117,7 @@ module _ (known : Known) (is_caller : Bool) where
       (step_more is_caller out.done (out.next ∷ out.more) (NowAll is_caller) moves e.carrier over_now refl
       (step_as is_caller out.done (CalmAll is_caller) (NowAll is_caller) moves e.carrier before over_now
       (leads_step is_caller out.done out.next out.more u (subst (λ (l : List Value). AreUnits l u) out.all us) moves e h calm) refl
-      (over_rest before.carrier over_now.carrier refl)
+      (grind (arith, rests_over, stage_at, past, early, stage_over))
       (λ r after then_calm. away (calm_over is_caller r after before over_now then_calm refl)))))
 
   -- for an event
@@ -129,9 +128,8 @@ module _ (known : Known) (is_caller : Bool) where
       subst (CourseSteps [] moves e) (sym out.starved)
       (step_as is_caller [] (NowAll is_caller) (CourseAll is_caller) moves e.carrier mid over_now
       (times_heard known is_caller out.heard e.carrier.events moves e refl w) (starves_same out.more mid)
-      (over_rest mid.carrier over_now.carrier (starved_over (with_events out.more mid)))
-      (λ r after then_now. is_gone (waits_over is_caller r after mid over_now mid.carrier.events then_now
-      (starved_over (with_events out.more mid)))))
+      (grind (arith, rests_over, stage_at, past, early, stage_over))
+      (λ r after then_now. is_gone (search (arith, waits_over, starved_over))))
 
   starved_steps : (u : List ℕ) (moves : ℕ → Deeds) (e new : End) → IsOctets u → Between e → e.carrier.ended ≡ None →
       Courses moves e → Starves e u new → CourseSteps (units_read (units_of u)) moves e new
@@ -146,9 +144,7 @@ module _ (known : Known) (is_caller : Bool) where
       let mid = with_carrier c e in
       let calm = calm_of moves e (b.attended lasts) course in
       let now : StepsBy is_caller (units_read (units_of u)) (NowAll is_caller) moves e.carrier mid = elim (acts_cases e.carrier c u acts) [
-        | inl is ↦ subst
-            (λ (x : Carrier). StepsBy is_caller (units_read (units_of u)) (NowAll is_caller) moves e.carrier (with_carrier x e))
-            (sym is) (carried_out u moves e octets b.sound calm)
+        | inl is ↦ grind (arith, carried_out)
         | inr short ↦ subst (λ (l : List Value). StepsBy is_caller l (NowAll is_caller) moves e.carrier mid) (sym (ap units_read short.1))
             (unit_starved u short.0 moves e c (units_found u short.0 octets short.1) b.sound calm short.2)
       ] in
@@ -177,28 +173,16 @@ module _ (known : Known) (is_caller : Bool) where
       IsSome new.carrier.ended → CourseSteps (units_in packets) moves old new
   then_over packets moves old before new octets b course takes same ended =
       step_as is_caller (units_in packets) (CourseAll is_caller) (CourseAll is_caller) moves old.carrier before new
-      (takes_steps packets moves old before octets b course takes) same (over_rest before.carrier new.carrier ended)
+      (takes_steps packets moves old before octets b course takes) same (grind (arith, rests_over, stage_at, past, early, stage_over))
       (λ r after then_course. is_gone (course_over is_caller r after before new then_course ended))
 
   module _ (moves : ℕ → Deeds) (piece : List ℕ) (n : ℕ) (old new : Holding) (b : Between old.end)
       (course : Courses moves old.end) where
-    dry_steps : RunsDry old piece n new → FeedSteps moves (take n piece) old new
-    dry_steps dry = grind (arith, take_all, takes_steps, all_octets)
-
     stop_steps : StopsBehind old piece n new → FeedSteps moves (take n piece) old new
     stop_steps stop =
         let s = stopped_within awaits 0 [] [] [] known.proper awaits history.begins piece n old new stop new.end.carrier.ended
         (uses_all new.end) refl refl in
-        record {
-          used = stop.units;
-          rest = s.rest;
-          cut = s.cut;
-          held = s.held;
-          steps = takes_steps stop.units moves old.end new.end (all_octets stop.units _ _ stop.packets) b course stop.taken;
-        }
-
-    refused_steps : Refuses old piece n new → FeedSteps moves (take n piece) old new
-    refused_steps f = grind (arith, all_used, then_over, all_octets)
+        grind (arith, takes_steps, all_octets)
 
     one_more : (f : FindsNoMemory old piece n new) (packet : List ℕ) → ArePackets (packet ∷ []) f.rest [] →
         ArePackets (f.units ++ packet ∷ []) (old.held.octets ++ piece) ([] ++ drop f.within piece)
@@ -209,10 +193,6 @@ module _ (known : Known) (is_caller : Bool) where
         (packets_then f.units (packet ∷ []) (old.held.octets ++ take f.within piece) f.rest (drop f.within piece)
         ([] ++ drop f.within piece) f.packets (packets_on (packet ∷ []) f.rest [] (drop f.within piece) one))
 
-    units_one_more : (packets : List (List ℕ)) (packet : List ℕ) →
-        units_in packets ++ units_read (units_of packet) ≡ units_in (packets ++ packet ∷ [])
-    units_one_more packets packet = grind (arith, append-nil, flat_map-append)
-
     short_steps : (f : FindsNoMemory old piece n new) →
         (new.end ≡ ends NoMemory f.before) ⊎ ((packet : List ℕ) × ArePackets (packet ∷ []) f.rest [] × Starves f.before packet new.end) →
         FeedSteps moves (take n piece) old new
@@ -220,12 +200,11 @@ module _ (known : Known) (is_caller : Bool) where
         all_used moves f.units piece (f.rest ++ drop f.within piece) n old new f.all
         (more_used awaits 0 [] [] [] known.proper awaits history.begins f.units old.held.octets piece f.rest f.within f.packets)
         (none_ended old piece n new f)
-        (then_over f.units moves old.end f.before new.end (all_octets f.units _ _ f.packets) b course f.taken
-        (ap (λ (e : End). e.carrier.outgoing) is) (ap (λ (e : End). is_some e.carrier.ended) is))
+        (grind (arith, then_over, all_octets))
     short_steps f (inr (packet, one, starved)) =
         all_used moves (f.units ++ packet ∷ []) piece ([] ++ drop f.within piece) n old new f.all (one_more f packet one)
         (none_ended old piece n new f)
-        (subst (λ (l : List Value). CourseSteps l moves old.end new.end) (units_one_more f.units packet)
+        (subst (λ (l : List Value). CourseSteps l moves old.end new.end) (grind (arith, append-nil, flat_map-append))
         (step_then is_caller (units_in f.units) (units_read (units_of packet)) (CourseAll is_caller) (CourseAll is_caller) moves
         old.end.carrier f.before new.end
         (takes_steps f.units moves old.end f.before (all_octets f.units _ _ f.packets) b course f.taken)
@@ -234,9 +213,9 @@ module _ (known : Known) (is_caller : Bool) where
         then_course starved)))
 
     goes_steps : GoesThrough old piece n new → FeedSteps moves (take n piece) old new
-    goes_steps (inl (inl dry)) = dry_steps dry
+    goes_steps (inl (inl dry)) = grind (arith, take_all, takes_steps, all_octets)
     goes_steps (inl (inr stop)) = stop_steps stop
-    goes_steps (inr (inl f)) = refused_steps f
+    goes_steps (inr (inl f)) = grind (arith, all_used, then_over, all_octets)
     goes_steps (inr (inr f)) = short_steps f (found_how old piece n new f)
 
   -- nothing happens at the end
@@ -246,8 +225,7 @@ module _ (known : Known) (is_caller : Bool) where
     used = [];
     rest = old.held.octets ++ octets;
     cut = refl;
-    held = λ lasts. ap (λ (l : List ℕ). old.held.octets ++ l) (none lasts) ∙ append-nil old.held.octets
-        ∙ sym (ap (λ (x : Holding). x.held.octets) is);
+    held = grind (arith, append-nil);
     steps = subst (λ (x : Holding). CourseSteps [] moves old.end x.end) (sym is)
         (step_none is_caller (CourseAll is_caller) moves old.end.carrier old.end refl (same_rest old.end.carrier) course);
   }
@@ -261,8 +239,7 @@ module _ (known : Known) (is_caller : Bool) where
       by (Some reason) ended w e =
           let same = (f.over (ap is_some ended)).1 in
           same_steps moves (take fed.used piece) old new course same
-          (λ lasts. absurd (never_lasts new.end.carrier.ended
-          (ap (λ (x : Holding). is_some x.end.carrier.ended) same ∙ ap is_some ended) lasts))
+          (grind (arith, never_lasts))
       by None lasts true e =
           let w = f.waiting lasts e in
           same_steps moves (take fed.used piece) old new course w.1 (λ still. ap (λ (k : ℕ). take k piece) w.0)

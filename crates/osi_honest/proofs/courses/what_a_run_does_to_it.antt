@@ -1,22 +1,20 @@
 -- Each turn of an end, and a run: what becomes of the course of one connection.
 -- For the laws of an end and its captures.
-use Rattle.std.proofs.Common.{arith}
-use Rattle.osi_honest.proofs.Vocabulary.{[], ap, Bool, if◌then◌else◌, inl, List, None, refl, subst, sym, ℕ, ◌++◌, ◌<◌, ◌==◌, ◌∙◌, ◌∷◌, ◌≡◌}
+use Rattle.osi_honest.proofs.Vocabulary.{[], ap, Bool, if◌then◌else◌, List, None, refl, subst, sym, ℕ, ◌++◌, ◌<◌, ◌==◌, ◌∙◌, ◌∷◌, ◌≡◌}
 use Rattle.osi_honest.proofs.Vocabulary.{append-nil, append_cancel_left, ArePackets, Local, orderly_fresh, Rows, value_at, packets}
 use Rattle.osi_honest.proofs.Vocabulary.{State as Carrier, called, breaks_attended, connect_attended, feeds_attended, session_attended}
 use Rattle.osi_honest.proofs.Vocabulary.{first_keep, kept_first, session_carried, disconnect_attended, disconnect_carrier, connect_orderly}
-use Rattle.osi_honest.proofs.Vocabulary.{open_none, has_given, without_first, IsAccepted, user_does, UserCall, breaking, calling}
-use Rattle.osi_honest.proofs.Vocabulary.{connecting, disconnecting, Call, Calls, carried_in, put_back, used_in, carrying, feeding, telling}
-use Rattle.osi_honest.proofs.Vocabulary.{End, fresh_end, Holding, IsAttended, Line, all_did, Continues, ContinuesAlong, Course, Deeds}
-use Rattle.osi_honest.proofs.Vocabulary.{no_deeds, SoFar, units_taken, unknown, all_units, Marked, units_at, IsFresh, Act, Acts, carried_by}
-use Rattle.osi_honest.proofs.Vocabulary.{Run, Takes, Turn, used_by, serving, using}
+use Rattle.osi_honest.proofs.Vocabulary.{open_none, without_first, IsAccepted, user_does, UserCall, breaking, calling, connecting}
+use Rattle.osi_honest.proofs.Vocabulary.{disconnecting, Call, Calls, carried_in, put_back, used_in, carrying, feeding, telling, End}
+use Rattle.osi_honest.proofs.Vocabulary.{fresh_end, Holding, IsAttended, Line, all_did, Continues, ContinuesAlong, Course, Deeds, no_deeds}
+use Rattle.osi_honest.proofs.Vocabulary.{SoFar, units_taken, unknown, all_units, Marked, units_at, IsFresh, Act, Acts, carried_by, Run}
+use Rattle.osi_honest.proofs.Vocabulary.{Takes, Turn, used_by, serving, using, arith, nat_tests}
 use Rattle.osi_honest.proofs.courses.steps_of_a_course.{AllRest, HoldEach, Steps}
 use Rattle.osi_honest.proofs.courses.the_first_cc_opens_a_connection.{FirstOf, first_rests}
 use Rattle.osi_honest.proofs.courses.the_connections_of_each_class.{IsSound, request_class, sound_same}
 use Rattle.osi_honest.proofs.courses.the_connections_of_each_class.ByClass.{none as no_connection}
 use Rattle.osi_honest.proofs.courses.what_a_call_does_to_it.{user_steps}
 use Rattle.osi_honest.proofs.courses.what_a_packet_does_to_it.{Between, FeedSteps, feeds_steps, sound_kept}
-use Rattle.osi_honest.proofs.courses.what_a_unit_does_to_a_connection.{none_given}
 use Rattle.osi_honest.proofs.courses.what_another_connection_leaves.{Beside, course_beside, none_before, none_behind}
 use Rattle.osi_honest.proofs.courses.how_long_a_connection_is_open.{Life, life_rests, life_then, lives, stage_at}
 use Rattle.osi_honest.proofs.courses.units_of_each_connection.{by_links, units_more}
@@ -158,8 +156,7 @@ module _ (known : Known) (is_caller : Bool) (moves : ℕ → Deeds) where
       took = [];
       all = refl;
       taken = λ r some. refl;
-      lives = λ r some. lives is_caller r some old.end.carrier new.end.carrier [] []
-          (life_rests is_caller r (stage_at r old.end.carrier) (stage_at r new.end.carrier) [] tt (rest r).0);
+      lives = λ r some. search (arith, lives, life_rests, stage_at);
     };
     life = λ r some. life_rests is_caller r (stage_at r old.end.carrier) (stage_at r new.end.carrier) [] tt (rest r).0;
     first = λ r some. first_rests is_caller r old.end.carrier new.end.carrier [] tt (rest r).0 (rest r).1;
@@ -179,21 +176,14 @@ module _ (known : Known) (is_caller : Bool) (moves : ℕ → Deeds) where
       (subst (λ (x : Holding). Courses moves x.end) (sym c.1)
       (λ r. course_beside is_caller r (moves r) old.end (record old.end { lines = without_first old.end.lines }) (told_beside r old.end)
       (course r)))
-      (λ r. (
-        inl (ap (λ (x : Holding). stage_at r x.end.carrier) c.1),
-        λ now has. ap (λ (x : Holding). has_given r x.end.carrier) c.1 ∙ has,
-      ))
+      (grind (arith, stage_at))
   serving_turn turn (carrying octets) old new used b course c is =
       quiet_turn turn old new used
-      (nothing_put old.end.carrier.outgoing (octets ++ new.end.carrier.outgoing) turn.put is
-      (sym (ap (λ (x : Holding). x.end.carrier.outgoing) c)))
+      (grind (arith, nothing_put))
       (sym (ap (λ (x : Holding). x.held.octets) c))
       (λ r. course_beside is_caller r (moves r) (put_back octets new.end) new.end (carried_beside r octets new.end)
       (subst (λ (x : Holding). Course is_caller r (moves r) x.end) c (course r)))
-      (λ r. (
-        inl (sym (ap (λ (x : Holding). stage_at r x.end.carrier) c)),
-        λ now has. sym (ap (λ (x : Holding). has_given r x.end.carrier) c) ∙ has,
-      ))
+      (grind (arith, stage_at))
 
   act_turn : (turn : Turn) (act : Act) (old new : Holding) → turn.used ≡ used_by act → Between old.end → Courses moves old.end →
       Acts old act new → carried_by act ++ new.end.carrier.outgoing ≡ old.end.carrier.outgoing ++ turn.put →
@@ -233,15 +223,14 @@ run_turns : Known → (is_caller : Bool) (moves : ℕ → Deeds) (turns : List T
 run_turns known is_caller moves [] old new b course run = run
 run_turns known is_caller moves (turn ∷ turns) old new b course run =
     let mid = run.0 in
-    let at = turn_continues known is_caller moves turn old mid b course run.1 in (
-      mid,
-      run.1,
-      at,
+    let at = turn_continues known is_caller moves turn old mid b course run.1 in search (
+      arith,
+      act_between,
       run_turns known is_caller (all_did moves at.on.more) turns mid new (act_between run.1.act old mid b run.1.acts) at.on.course run.2,
     )
 
 pub fresh_course : (is_caller : Bool) (local : Local) (r : ℕ) → Course is_caller r no_deeds (fresh_end is_caller local)
-fresh_course is_caller local r = unknown refl refl (none_given r) refl refl
+fresh_course is_caller local r = unknown refl refl (grind (arith, nat_tests)) refl refl
 
 -- all turns of an end
 pub fresh_turns : Known → (is_caller : Bool) (local : Local) (begin end : Holding) (turns : List Turn) → IsFresh is_caller local begin →

@@ -1,20 +1,19 @@
 -- The units that are put as something happens to a session, each with the connection whose link gave it: a session that sends hands
 -- TSDUs to its link, and one that closes its connection causes a DR.
 -- For the course of a connection.
-use Rattle.osi_honest.proofs.Vocabulary.{[], ap, append_assoc, arith, Bool, false, List, nat_le, nat_lt, None, Option, refl, Some, sym}
-use Rattle.osi_honest.proofs.Vocabulary.{true, ℕ, ◌&&◌, ◌++◌, ◌<◌, ◌∙◌, ◌∷◌, ◌≡◌, ◌≢◌, ◌⊎◌, nat_tests, append-nil, map-append, disconnect}
-use Rattle.osi_honest.proofs.Vocabulary.{Value, all_given, Standing, with_tsdu, Class, Zero, closed_on, closes, open_link, send_all_error}
-use Rattle.osi_honest.proofs.Vocabulary.{sent, sent_all, sent_on, Happening, written_by, value_at, packets, State as Carrier, SendError}
-use Rattle.osi_honest.proofs.Vocabulary.{tsdus_sent, broken, came, Input, Listener, linked_up as opened, session_react as react, has_given}
-use Rattle.osi_honest.proofs.Vocabulary.{hears, opens_line as opens, by_line, carrier_by, limit_for, to_session, End, Line, answers_by}
-use Rattle.osi_honest.proofs.Vocabulary.{sent_unless, all_units, Marked}
+use Rattle.osi_honest.proofs.Vocabulary.{[], append_assoc, arith, Bool, false, List, None, Option, refl, Some, sym, true, ℕ, ◌++◌, ◌<◌, ◌∷◌}
+use Rattle.osi_honest.proofs.Vocabulary.{◌≡◌, ◌≢◌, ◌⊎◌, nat_tests, append-nil, map-append, disconnect, Value, all_given, Standing}
+use Rattle.osi_honest.proofs.Vocabulary.{with_tsdu, Class, Zero, closed_on, closes, open_link, send_all_error, sent, sent_all, Happening}
+use Rattle.osi_honest.proofs.Vocabulary.{written_by, value_at, packets, State as Carrier, SendError, tsdus_sent, broken, came, Input}
+use Rattle.osi_honest.proofs.Vocabulary.{Listener, linked_up as opened, session_react as react, has_given, hears, carrier_by, limit_for}
+use Rattle.osi_honest.proofs.Vocabulary.{to_session, End, Line, answers_by, sent_unless, all_units, Marked}
 use Rattle.osi_carrier.specs.Happenings as told
 use Rattle.osi_carrier.specs.Orderly.{told_of}
 use Rattle.osi_session.specs.Listening.{refused}
 use Rattle.osi_honest.proofs.class_0.what_class_0_writes_of_a_tsdu.{packets_joined}
 use Rattle.osi_honest.proofs.courses.steps_of_a_course.{HasNone}
-use Rattle.osi_honest.proofs.courses.units_of_each_connection.{AreAccounted, ArePlain, accounted_more, elsewhere, given_accounted, marked}
-use Rattle.osi_honest.proofs.courses.units_of_each_connection.{marked_all, nowhere, plain_accounted}
+use Rattle.osi_honest.proofs.courses.units_of_each_connection.{AreAccounted, ArePlain, elsewhere, given_accounted, marked, marked_all}
+use Rattle.osi_honest.proofs.courses.units_of_each_connection.{nowhere, plain_accounted, all_of_both}
 
 -- ---- the carrier
 
@@ -80,13 +79,9 @@ Puts old units new = new.outgoing ≡ old.outgoing ++ packets (all_units units)
 pub puts_none : (c : Carrier) → Puts c [] c
 puts_none c = sym (append-nil c.outgoing)
 
-one_written : (q : ℕ) (tsdu : List ℕ) (o : Option (ℕ × Standing)) (c : Carrier) →
-    (sent_on q tsdu o c).outgoing ≡ c.outgoing ++ packets (one_puts tsdu o)
-one_written q tsdu o c = grind (arith, append-nil)
-
 all_written : (q : ℕ) (tsdus : List (List ℕ)) (c : Carrier) → (sent_all q tsdus c).outgoing ≡ c.outgoing ++ packets (all_put q tsdus c)
 all_written q [] c = sym (append-nil c.outgoing)
-all_written q (tsdu ∷ tsdus) c = grind (arith, one_written, append_assoc, packets_joined, all_written q tsdus (sent q tsdu c))
+all_written q (tsdu ∷ tsdus) c = grind (arith, append_assoc, packets_joined, all_written q tsdus (sent q tsdu c))
 
 unless_written : (o : Option SendError) (q : ℕ) (tsdus : List (List ℕ)) (c : Carrier) →
     (sent_unless o q tsdus c).outgoing ≡ c.outgoing ++ packets (put_unless o q tsdus c)
@@ -96,54 +91,35 @@ class_written : (q peer : ℕ) (class : Option Class) (c : Carrier) →
     (closes q peer 128 class c).outgoing ≡ c.outgoing ++ packets (put_by_class q peer class)
 class_written q peer class c = grind (arith, append-nil)
 
-closing_written : (q : ℕ) (o : Option (ℕ × Standing)) (c : Carrier) →
-    (closed_on q 128 o c).outgoing ≡ c.outgoing ++ packets (put_closing q o c)
-closing_written q o c = grind (arith, append-nil, class_written)
-
-as_marked : (q : ℕ) (old new : Carrier) (units : List Value) → new.outgoing ≡ old.outgoing ++ packets units → Puts old (marked q units) new
-as_marked q old new units is = is ∙ ap (λ (l : List Value). old.outgoing ++ packets l) (sym (marked_all q units))
-
 pub closing_puts : (q : ℕ) (c : Carrier) → Puts c (marked 0 (put_closing q (open_link q c) c)) (closed_on q 128 (open_link q c) c)
-closing_puts q c = grind (arith, as_marked, closing_written)
+closing_puts q c = grind (arith, marked_all, append-nil, class_written)
 
 answer_written : (b : Bool) (q : ℕ) (tsdus : List (List ℕ)) (c : Carrier) → Puts c (answer_puts b q tsdus c) (answers_by b q tsdus c)
 answer_written true q tsdus c = closing_puts q c
-answer_written false q tsdus c = search (arith, as_marked, unless_written)
+answer_written false q tsdus c = grind (arith, marked_all, unless_written)
 
 move_written : (q : ℕ) (o : Option Listener) (input : Input) (c : Carrier) → Puts c (move_puts q o input c) (carrier_by q o input c)
 move_written q o input c = grind (arith, puts_none, answer_written)
 
-line_written : (q : ℕ) (o : Option Line) (input : Input) (e : End) → Puts e.carrier (line_puts q o input e) (by_line q o input e).carrier
-line_written q o input e = grind (arith, puts_none, move_written)
-
 pub session_written : (q : ℕ) (input : Input) (e : End) → Puts e.carrier (session_puts q input e) (to_session q input e).carrier
-session_written q input e = line_written q (value_at q e.lines) input e
-
-opening_written : (q : ℕ) (o : Option Line) (e : End) → Puts e.carrier (opening_puts q o e) (opens q o e).carrier
-opening_written q o e = grind (arith, puts_none, session_written)
+session_written q input e = grind (arith, puts_none, move_written)
 
 pub event_written : (x : Happening) (e : End) → Puts e.carrier (event_puts x e) (hears x e).carrier
-event_written x e = grind (arith, opening_written, session_written)
+event_written x e = grind (arith, puts_none, session_written)
 
 -- ---- another connection gave none of it
 
-none_in : (r : ℕ) → HasNone r []
-none_in r = λ some. refl
-
-answer_others : (q r : ℕ) → r ≢ q → (b : Bool) (tsdus : List (List ℕ)) (c : Carrier) → HasNone r (answer_puts b q tsdus c)
-answer_others q r ne b tsdus c = grind (arith, nowhere, elsewhere)
-
 move_others : (q r : ℕ) → r ≢ q → (o : Option Listener) (input : Input) (c : Carrier) → HasNone r (move_puts q o input c)
-move_others q r ne o input c = grind (arith, none_in, answer_others)
+move_others q r ne o input c = grind (arith, nowhere, elsewhere)
 
 line_others : (q r : ℕ) → r ≢ q → (o : Option Line) (input : Input) (e : End) → HasNone r (line_puts q o input e)
-line_others q r ne o input e = grind (arith, none_in, move_others)
+line_others q r ne o input e = grind (arith, move_others)
 
 pub session_others : (q r : ℕ) (input : Input) (e : End) → r ≢ q → HasNone r (session_puts q input e)
 session_others q r input e ne = line_others q r ne (value_at q e.lines) input e
 
 opening_others : (q r : ℕ) → r ≢ q → (o : Option Line) (e : End) → HasNone r (opening_puts q o e)
-opening_others q r ne o e = grind (arith, none_in, session_others)
+opening_others q r ne o e = grind (arith, session_others)
 
 pub event_others : (r : ℕ) (x : Happening) (e : End) → r ≢ told_of x → HasNone r (event_puts x e)
 event_others r x e ne = grind (arith, opening_others, session_others)
@@ -158,28 +134,19 @@ pub unlinked_unless : (o : Option SendError) (q : ℕ) (tsdus : List (List ℕ))
     put_unless o q tsdus c ≡ []
 unlinked_unless o q tsdus c none = grind (arith, unlinked_put)
 
-answer_unlinked : (b : Bool) (q : ℕ) (tsdus : List (List ℕ)) (c : Carrier) → open_link q c ≡ None → answer_puts b q tsdus c ≡ []
-answer_unlinked b q tsdus c none = grind (arith, marked, unlinked_unless)
-
 move_unlinked : (q : ℕ) (o : Option Listener) (input : Input) (c : Carrier) → open_link q c ≡ None → move_puts q o input c ≡ []
-move_unlinked q o input c none = grind (arith, answer_unlinked)
+move_unlinked q o input c none = grind arith
 
 line_unlinked : (q : ℕ) (o : Option Line) (input : Input) (e : End) → open_link q e.carrier ≡ None → line_puts q o input e ≡ []
 line_unlinked q o input e none = grind (arith, move_unlinked)
 
-pub session_unlinked : (q : ℕ) (input : Input) (e : End) → open_link q e.carrier ≡ None → session_puts q input e ≡ []
-session_unlinked q input e none = line_unlinked q (value_at q e.lines) input e none
-
 opening_unlinked : (q : ℕ) (o : Option Line) (e : End) → open_link q e.carrier ≡ None → opening_puts q o e ≡ []
-opening_unlinked q o e none = grind (arith, session_unlinked)
+opening_unlinked q o e none = grind arith
 
 pub event_unlinked : (x : Happening) (e : End) → open_link (told_of x) e.carrier ≡ None → event_puts x e ≡ []
-event_unlinked x e none = grind (arith, opening_unlinked, session_unlinked)
+event_unlinked x e none = grind (arith, opening_unlinked, line_unlinked)
 
 -- ---- a link gives DTs and AKs
-
-given_some : (q n : ℕ) → (nat_lt 0 q && nat_le q n) ≡ true → 0 < q
-given_some q n h = grind (arith, nat_tests)
 
 one_accounted : (q : ℕ) (tsdu : List ℕ) (o : Option (ℕ × Standing)) → 0 < q → AreAccounted (marked q (one_puts tsdu o))
 one_accounted q tsdu None some = tt
@@ -187,42 +154,32 @@ one_accounted q tsdu (Some (peer, link)) some = given_accounted q peer (all_give
 
 all_accounted : (q : ℕ) (tsdus : List (List ℕ)) (c : Carrier) → 0 < q → AreAccounted (marked q (all_put q tsdus c))
 all_accounted q [] c some = tt
-all_accounted q (tsdu ∷ tsdus) c some = grind (arith, map-append, accounted_more, one_accounted, all_accounted q tsdus (sent q tsdu c) some)
-
-unless_accounted : (o : Option SendError) (q : ℕ) (tsdus : List (List ℕ)) (c : Carrier) → 0 < q →
-    AreAccounted (marked q (put_unless o q tsdus c))
-unless_accounted o q tsdus c some = grind (arith, all_accounted)
-
-class_plain : (q peer : ℕ) (class : Option Class) → ArePlain (put_by_class q peer class)
-class_plain q peer class = grind arith
+all_accounted q (tsdu ∷ tsdus) c some = grind (arith, map-append, all_of_both, one_accounted, all_accounted q tsdus (sent q tsdu c) some)
 
 closing_plain : (q : ℕ) (o : Option (ℕ × Standing)) (c : Carrier) → ArePlain (put_closing q o c)
-closing_plain q o c = grind (arith, class_plain)
+closing_plain q o c = grind arith
 
 pub closing_accounted : (q : ℕ) (c : Carrier) → AreAccounted (marked 0 (put_closing q (open_link q c) c))
 closing_accounted q c = plain_accounted (put_closing q (open_link q c) c) (closing_plain q (open_link q c) c)
 
 answer_accounted : (b : Bool) (q : ℕ) (tsdus : List (List ℕ)) (c : Carrier) → 0 < q → AreAccounted (answer_puts b q tsdus c)
-answer_accounted b q tsdus c some = grind (arith, closing_accounted, unless_accounted)
+answer_accounted b q tsdus c some = grind (arith, closing_accounted, all_accounted)
 
 move_accounted : (q : ℕ) (o : Option Listener) (input : Input) (c : Carrier) → 0 < q → AreAccounted (move_puts q o input c)
 move_accounted q o input c some = grind (arith, answer_accounted)
 
-line_accounted : (q : ℕ) (o : Option Line) (input : Input) (e : End) → 0 < q → AreAccounted (line_puts q o input e)
-line_accounted q o input e some = grind (arith, move_accounted)
-
 opening_accounted : (q : ℕ) (o : Option Line) (e : End) → 0 < q → AreAccounted (opening_puts q o e)
-opening_accounted q o e some = grind (arith, line_accounted)
+opening_accounted q o e some = grind (arith, move_accounted)
 
 given_event : (x : Happening) (e : End) → 0 < told_of x → AreAccounted (event_puts x e)
-given_event x e some = grind (arith, opening_accounted, line_accounted)
+given_event x e some = grind (arith, opening_accounted, move_accounted)
 
 -- a reference that is not open, or was given
 abbrev pub IsGivenIfOpen : ℕ → Carrier → Type 0
 IsGivenIfOpen q c = (open_link q c ≡ None) ⊎ (has_given q c ≡ true)
 
 pub session_accounted : (q : ℕ) (input : Input) (e : End) → IsGivenIfOpen q e.carrier → AreAccounted (session_puts q input e)
-session_accounted q input e h = grind (arith, session_unlinked, line_accounted, given_some)
+session_accounted q input e h = grind (arith, line_unlinked, move_accounted, nat_tests)
 
 pub event_accounted : (x : Happening) (e : End) → IsGivenIfOpen (told_of x) e.carrier → AreAccounted (event_puts x e)
-event_accounted x e h = grind (arith, event_unlinked, given_event, given_some)
+event_accounted x e h = grind (arith, event_unlinked, given_event)

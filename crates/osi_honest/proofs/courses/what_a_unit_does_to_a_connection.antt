@@ -7,14 +7,12 @@ use Rattle.osi_honest.proofs.Vocabulary.{append-nil, AllByRecursion, acknowledge
 use Rattle.osi_honest.proofs.Vocabulary.{HasFieldsInRange, IsConnect, may_be_followed, request, Value, Standing, taken, accept, refuse}
 use Rattle.osi_honest.proofs.Vocabulary.{selected_by, Selection, LinkFault, Class, Two, Zero, Local, changes_one, effect, How, react_quiet}
 use Rattle.osi_honest.proofs.Vocabulary.{push_here, put_here, without_here, Happening, told_opened as opened, acceptance, agreed_size}
-use Rattle.osi_honest.proofs.Vocabulary.{confirmed, opened_link, connection_by, connection_of, only_of, RiseFrom, answers, answers_request}
-use Rattle.osi_honest.proofs.Vocabulary.{before_class, denies, has_peer, in_class, in_two, in_zero, is_full, leaves, opens_by as opens}
-use Rattle.osi_honest.proofs.Vocabulary.{settles, taking, to_asked, to_closing, to_connection, to_linked, to_only, to_reference, to_unknown}
-use Rattle.osi_honest.proofs.Vocabulary.{put, Rows, value_at, without, asked, closing, Connection, linked, packets, State as Carrier}
-use Rattle.osi_honest.proofs.Vocabulary.{has_given, Answers, is_for, Opens, IsFreshLink, IsShut, is_of_link, CanBeWritten}
-use Rattle.osi_tpdu.specs.Value.{Connect}
+use Rattle.osi_honest.proofs.Vocabulary.{confirmed, opened_link, connection_by, connection_of, only_of, RiseFrom, answers, before_class}
+use Rattle.osi_honest.proofs.Vocabulary.{denies, in_class, in_two, in_zero, leaves, opens_by as opens, settles, taking, to_asked}
+use Rattle.osi_honest.proofs.Vocabulary.{to_closing, to_connection, to_linked, to_only, to_reference, to_unknown, put, Rows, value_at}
+use Rattle.osi_honest.proofs.Vocabulary.{without, asked, closing, Connection, linked, packets, State as Carrier, has_given, Answers, is_for}
+use Rattle.osi_honest.proofs.Vocabulary.{Opens, IsFreshLink, IsShut, is_of_link, CanBeWritten, Connect, breaks, react}
 use Rattle.osi_carrier.specs.Orderly.{told_of}
-use Rattle.osi_carrier.specs.React.{breaks, react}
 use Rattle.osi_honest.proofs.courses.the_connections_of_each_class.{IsSound, zero_asks_none}
 use Rattle.osi_honest.proofs.courses.units_of_each_connection.{ArePlain, marked}
 use Rattle.osi_honest.proofs.reading.a_cr_and_a_cc_can_be_written.{HasSizeInRange, cc_plain, selected_in_range}
@@ -40,12 +38,6 @@ given_next n = grind (arith, nat_tests)
 
 pub next_ungiven : (n : ℕ) → (nat_lt 0 (n + 1) && nat_le (n + 1) n) ≡ false
 next_ungiven n = grind (arith, nat_tests)
-
-pub none_given : (r : ℕ) → (nat_lt 0 r && nat_le r 0) ≡ false
-none_given r = grind (arith, nat_tests)
-
-pub given_before : (r n : ℕ) → r ≢ n + 1 → nat_le r (n + 1) ≡ nat_le r n
-given_before r n ne = grind (arith, nat_tests)
 
 -- ---- a link as it is opened
 
@@ -86,7 +78,7 @@ pub data Does (r : ℕ) (v : Value) (old new : Carrier) : Type 0 where
 -- ---- a unit of another connection
 
 pub given_by_how : (q r : ℕ) (old new : Carrier) → r ≢ q → new.ended ≡ None → How q old new → has_given r new ≡ has_given r old
-given_by_how q r old new ne lasts h = grind (arith, given_before)
+given_by_how q r old new ne lasts h = grind arith
 
 pub acts_elsewhere : (r : ℕ) (v : Value) (units : List Value) (s : Carrier) → r ≢ connection_of v s → (react v s).ended ≡ None →
     IsDeaf r v s → Acts r v units s (react v s)
@@ -157,15 +149,11 @@ module _ (s : Carrier) (rise : RiseFrom 0 s.live) where
   request_by c false true called fits = acts_denies c 1
   request_by c false false called fits = search (arith, acts_selected, selected_in_range)
 
-  acts_request : (c : Connect) → s.is_caller ≡ false → IsConnect c → Does (s.given + 1) (request c) s (answers_request c s)
-  acts_request c called fits = request_by c (has_peer c.source s.live) (is_full s) called fits
-
   -- a reference that is not live
   acts_unknown : (r : ℕ) (v : Value) → Does r v s (to_unknown v s)
   acts_unknown r (disconnect destination source reason user) =
       puts r (disconnect destination source reason user) (disconnected source destination) _ refl refl tt
-      (acts_none r (disconnect destination source reason user) _ (to_unknown (disconnect destination source reason user) s) refl refl refl
-      (λ peer link here. refl))
+      (search (arith, acts_none))
   acts_unknown r (disconnected destination source) = search (arith, nothing, acts_none)
   acts_unknown r v = ends_it r v _ refl refl
 
@@ -252,7 +240,7 @@ module _ (s : Carrier) (rise : RiseFrom 0 s.live) where
   acts_before true (disconnect destination source reason user) is fits = search (arith, acts_reference)
   acts_before true (error destination cause) is fits = acts_reference destination (error destination cause) tt
   acts_before true v is fits = ends_it _ v _ refl refl
-  acts_before false (request c) is fits = acts_request c is fits
+  acts_before false (request c) is fits = search (arith, request_by)
   acts_before false v is fits = ends_it _ v _ refl refl
 
   first_here : (r : ℕ) (x : Connection) (rows : Rows Connection) → value_at r ((r, x) ∷ rows) ≡ Some x
@@ -273,7 +261,7 @@ module _ (s : Carrier) (rise : RiseFrom 0 s.live) where
     acts_zero false v = acts_only s.live v refl
 
   acts_two : (b : Bool) (v : Value) → s.is_caller ≡ b → HasFieldsInRange v → Does (connection_by (Some Two) v s) v s (in_two b v s)
-  acts_two false (request c) is fits = acts_request c is fits
+  acts_two false (request c) is fits = search (arith, request_by)
   acts_two false (data0 end user) is fits = ends_it _ (data0 end user) _ refl refl
   acts_two true (confirm destination c) is fits = acts_reference destination (confirm destination c) refl
   acts_two false (confirm destination c) is fits = acts_reference destination (confirm destination c) refl

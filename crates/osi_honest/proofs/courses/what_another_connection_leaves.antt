@@ -1,13 +1,11 @@
 -- What happens at another connection leaves the course of this one; and at the end of the carrier the course is over.
 -- For the course of a connection.
-use Rattle.std.proofs.Common.{arith}
 use Rattle.osi_honest.proofs.Vocabulary.{[], ap, Bool, false, if◌then◌else◌, is_some, IsSome, None, Option, refl, Some, subst, sym, ℕ, ◌==◌}
 use Rattle.osi_honest.proofs.Vocabulary.{◌∙◌, ◌∷◌, ◌≡◌, ◌≢◌, append-nil, push_other, put_other, Rows, value_at, Connection}
 use Rattle.osi_honest.proofs.Vocabulary.{State as Carrier, Input, Listener, used_keep, used_live, has_given, kept_at, by_line, carrier_by}
 use Rattle.osi_honest.proofs.Vocabulary.{to_session, End, joins, Line, used_lines, Course, Deeds, Gone, IsOpen, IsShut, awaited, is_gone}
-use Rattle.osi_honest.proofs.Vocabulary.{is_open, unknown, closed, never}
-use Rattle.osi_honest.specs.Courses.Gone.{over}
-use Rattle.osi_honest.proofs.courses.what_a_link_takes_and_is_handed.{Leaves, answers_leave, leaves_all, link_shut, shut_answers}
+use Rattle.osi_honest.proofs.Vocabulary.{is_open, unknown, closed, never, arith, over}
+use Rattle.osi_honest.proofs.courses.what_a_link_takes_and_is_handed.{Leaves, answers_leave, leaves_all, link_shut}
 
 -- ---- an end that leaves the connection as it is
 
@@ -91,9 +89,7 @@ pub used_none : (r : ℕ) (live : Rows Connection) (lines : Rows Line) → value
 used_none r live [] h = refl
 used_none r live ((p, y) ∷ lines) h =
     let k = none_behind r p y lines (p == r) refl h in
-    let more = used_none r live lines k.0 in
-    used_keep (λ (l : Rows Line). value_at r l ≡ None) live (p, y) lines more
-    (λ used. none_before r p y (used_lines live lines) k.1 more)
+    grind (arith, used_keep, none_before, used_none r live lines k.0)
 
 -- a new session of another connection
 pub joins_beside : (q r : ℕ) (session : Listener) (e : End) → r ≢ q → Beside r e (joins q session e)
@@ -109,23 +105,13 @@ module _ (q r : ℕ) (ne : r ≢ q) where
   line_leaves : (o : Option Line) (input : Input) (e : End) → Leaves r e.carrier (by_line q o input e).carrier
   line_leaves o input e = grind (arith, leaves_all, carrier_leaves)
 
-  line_other : (o : Option Line) (input : Input) (e : End) → value_at r (by_line q o input e).lines ≡ value_at r e.lines
-  line_other o input e = grind (arith, put_other)
-
-  pub session_leaves : (input : Input) (e : End) → Leaves r e.carrier (to_session q input e).carrier
-  session_leaves input e = line_leaves (value_at q e.lines) input e
-
   pub session_beside : (input : Input) (e : End) → (to_session q input e).carrier.ended ≡ None → Beside r e (to_session q input e)
-  session_beside input e lasts = grind (arith, session_leaves, line_other)
+  session_beside input e lasts = grind (arith, line_leaves, put_other)
 
 -- ---- the session of a connection that is shut
 
 shut_by : (r : ℕ) (o : Option Listener) (input : Input) (c : Carrier) → IsShut (value_at r c.live) → carrier_by r o input c ≡ c
-shut_by r o input c shut = grind (arith, shut_answers, link_shut)
-
-shut_line : (r : ℕ) (o : Option Line) (input : Input) (e : End) → IsShut (value_at r e.carrier.live) →
-    (by_line r o input e).carrier ≡ e.carrier
-shut_line r o input e shut = grind (arith, shut_by)
+shut_by r o input c shut = grind (arith, link_shut)
 
 pub shut_session : (r : ℕ) (input : Input) (e : End) → IsShut (value_at r e.carrier.live) → (to_session r input e).carrier ≡ e.carrier
-shut_session r input e shut = shut_line r (value_at r e.lines) input e shut
+shut_session r input e shut = grind (arith, shut_by)

@@ -1,11 +1,10 @@
 -- Calls of a link one after the other: what they hand in and out and give, and all that is given for TSDUs that are handed in.
 -- For the course of a connection.
-use Rattle.osi_honest.proofs.Vocabulary.{[], ap, append_assoc, arith, length, List, map, Option, refl, subst, sym, ℕ, ◌++◌, ◌+◌, ◌∷◌, ◌≡◌}
-use Rattle.osi_honest.proofs.Vocabulary.{append-nil, map-append, Value, drained_leaves, drained_moves, given_by, all_given, Given, Standing}
-use Rattle.osi_honest.proofs.Vocabulary.{unit_of, with_tsdu, give_out, hand_in, hand_out, Move, MovesAlong, take_in, tsdu_out, tsdus_in}
-use Rattle.osi_honest.proofs.Vocabulary.{tsdus_out, Class, Local, opened_link, pumped, Deeds, IsFreshLink, no_deeds, said_in, taken_in}
-use Rattle.osi_honest.proofs.Vocabulary.{then_did, units_given, units_taken, Said, said_after}
-use Rattle.std.proofs.lemmas.Grind.{flat_map-append}
+use Rattle.osi_honest.proofs.Vocabulary.{[], ap, append_assoc, arith, length, List, map, refl, subst, sym, ℕ, ◌++◌, ◌+◌, ◌∷◌, ◌≡◌}
+use Rattle.osi_honest.proofs.Vocabulary.{append-nil, map-append, Value, drained_leaves, drained_moves, all_given, Given, Standing, unit_of}
+use Rattle.osi_honest.proofs.Vocabulary.{with_tsdu, give_out, hand_in, hand_out, Move, MovesAlong, take_in, tsdu_out, tsdus_in, tsdus_out}
+use Rattle.osi_honest.proofs.Vocabulary.{pumped, Deeds, IsFreshLink, no_deeds, said_in, taken_in, then_did, units_given, units_taken, Said}
+use Rattle.osi_honest.proofs.Vocabulary.{said_after, flat_map-append}
 use Rattle.osi_class.specs.Between.{IsFresh}
 
 -- ---- one list after another
@@ -16,9 +15,6 @@ along_more (x ∷ xs) ys a b c first then_is = (first.0, first.1, along_more xs 
 
 pub out_more : (xs ys : List Move) → tsdus_out (xs ++ ys) ≡ tsdus_out xs ++ tsdus_out ys
 out_more xs ys = flat_map-append tsdu_out xs ys
-
-pub given_more : (xs ys : List Move) → units_given (xs ++ ys) ≡ units_given xs ++ units_given ys
-given_more xs ys = flat_map-append given_by xs ys
 
 pub taken_more : (xs ys : List Move) → units_taken (xs ++ ys) ≡ units_taken xs ++ units_taken ys
 taken_more xs ys = flat_map-append taken_in xs ys
@@ -66,7 +62,7 @@ none_said n (take_in unit ∷ moves) h = none_said n moves h
 -- what was put before, and what the link gave then
 pub put_more : (peer : ℕ) (xs ys : List Move) (put : List Value) → put ≡ map (unit_of peer) (units_given xs) →
     put ++ map (unit_of peer) (units_given ys) ≡ map (unit_of peer) (units_given (xs ++ ys))
-put_more peer xs ys put is = grind (arith, map-append, given_more)
+put_more peer xs ys put is = grind (arith, map-append, flat_map-append)
 
 -- ---- what was done
 
@@ -78,11 +74,8 @@ then_joined a b c = λ i. record { calls = append_assoc a.calls b.calls c.calls 
 
 -- ---- a link as it is opened
 
-opened_fresh : (class : Class) (size : Option ℕ) (local : Local) (credit : ℕ) → IsFresh (opened_link class size local credit)
-opened_fresh class size local credit = grind arith
-
 pub fresh_of : (link : Standing) → IsFreshLink link → IsFresh link
-fresh_of link f = subst IsFresh (sym f.is) (opened_fresh f.class f.size f.local f.credit)
+fresh_of link f = subst IsFresh (sym f.is) (grind arith)
 
 -- ---- TSDUs that are handed in one after the other, each once all was given for the one before
 
@@ -92,9 +85,6 @@ pub record HandsIn (link : Standing) (tsdus : List (List ℕ)) (after : Standing
   pub out : tsdus_out moves ≡ []
   pub taken : units_taken moves ≡ []
   pub joining : after.ends.joining ≡ link.ends.joining
-
-pub hands_none : (link : Standing) → HandsIn link [] link []
-hands_none link = record { along = refl; said = λ n. refl; out = refl; taken = refl; joining = refl }
 
 abbrev pub one_in : List ℕ → Standing → List Move
 one_in tsdu link = hand_in tsdu ∷ gives (all_given (with_tsdu link tsdu))

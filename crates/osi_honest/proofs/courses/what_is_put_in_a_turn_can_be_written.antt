@@ -1,11 +1,10 @@
 -- All units that an end puts in a turn can be written: those of a link since its numbers stay in range from the time when its connection
 -- opened, and the others, CRs, CCs, DRs and DCs, as they are.
 -- For the law of what a session hands to its link.
-use Rattle.osi_honest.proofs.Vocabulary.{[], arith, Bool, false, if◌then◌else◌, List, nat_lt, refl, subst, suc, sym, true, zero, ℕ, ◌++◌}
-use Rattle.osi_honest.proofs.Vocabulary.{◌<◌, ◌∷◌, ◌≡◌, eq-eqb, AllByRecursion, Value, Standing, End, AreCalls, Course, Deeds}
-use Rattle.osi_honest.proofs.Vocabulary.{IsFreshLink, no_deeds, then_did, is_gone, is_open, closed, all_units, if_of, is_of_link, Marked}
-use Rattle.osi_honest.proofs.Vocabulary.{units_at, CanBeWritten, awaited, unknown, never}
-use Rattle.osi_honest.specs.Courses.Gone.{over}
+use Rattle.osi_honest.proofs.Vocabulary.{[], arith, Bool, false, if◌then◌else◌, List, nat_lt, refl, suc, zero, ℕ, ◌++◌, ◌<◌, ◌∷◌, ◌≡◌}
+use Rattle.osi_honest.proofs.Vocabulary.{eq-eqb, AllByRecursion, Value, Standing, End, AreCalls, Course, Deeds, IsFreshLink, then_did}
+use Rattle.osi_honest.proofs.Vocabulary.{is_gone, is_open, closed, all_units, if_of, is_of_link, Marked, units_at, CanBeWritten, awaited}
+use Rattle.osi_honest.proofs.Vocabulary.{unknown, never, over}
 use Rattle.osi_honest.proofs.courses.units_of_each_connection.{AreAccounted}
 use Rattle.osi_honest.proofs.reading.what_a_link_gives_can_be_written.{IsNumbered, link_opens, moves_written}
 
@@ -17,17 +16,14 @@ fresh_numbered link fresh = grind (arith, link_opens)
 calls_written : (peer : ℕ) (deeds : Deeds) → AreCalls peer deeds → AllByRecursion CanBeWritten deeds.put
 calls_written peer deeds c = grind (arith, moves_written peer deeds.calls c.first c.link (fresh_numbered c.first c.fresh) c.along)
 
-none_put : (deeds : Deeds) → deeds ≡ no_deeds → AllByRecursion CanBeWritten deeds.put
-none_put deeds none = subst (λ (d : Deeds). AllByRecursion CanBeWritten d.put) (sym none) tt
-
 course_written : (is_caller : Bool) (r : ℕ) (deeds : Deeds) (e : End) → Course is_caller r deeds e → AllByRecursion CanBeWritten deeds.put
-course_written is_caller r deeds e (unknown none side given live lines) = none_put deeds none
-course_written is_caller r deeds e (awaited none c terms side lasts given here kept) = none_put deeds none
+course_written is_caller r deeds e (unknown none side given live lines) = grind arith
+course_written is_caller r deeds e (awaited none c terms side lasts given here kept) = grind arith
 course_written is_caller r deeds e (is_open given o) = calls_written o.peer deeds o.calls
 course_written is_caller r deeds e (is_gone (closed peer calls is session speaks given shut)) = calls_written peer deeds calls
 course_written is_caller r deeds e (is_gone (over peer calls heard unheard is session speaks parts none ended)) =
     calls_written peer deeds calls
-course_written is_caller r deeds e (is_gone (never none ended)) = none_put deeds none
+course_written is_caller r deeds e (is_gone (never none ended)) = grind arith
 
 later_part : (some others : List Value) → AllByRecursion CanBeWritten (some ++ others) → AllByRecursion CanBeWritten others
 later_part [] others all = all
@@ -42,14 +38,10 @@ CanEach units = (r : ℕ) → 0 < r → AllByRecursion CanBeWritten (units_at r 
 each_more : (m : Marked) (units : List Marked) → CanEach (m ∷ units) → CanEach units
 each_more m units each = λ r some. later_part (if_of r m) (units_at r units) (each r some)
 
-own_unit : (b : Bool) (unit : Value) (others : List Value) → b ≡ true →
-    AllByRecursion CanBeWritten ((if b then unit ∷ [] else []) ++ others) → CanBeWritten unit
-own_unit b unit others e all = grind arith
-
 one_written : (r : ℕ) (unit : Value) (units : List Marked) → is_of_link unit ≡ nat_lt 0 r → (is_of_link unit ≡ false → CanBeWritten unit) →
     CanEach ((r, unit) ∷ units) → CanBeWritten unit
 one_written zero unit units mark plain each = plain mark
-one_written (suc n) unit units mark plain each = grind (arith, own_unit, eq-eqb (suc n) (suc n) refl)
+one_written (suc n) unit units mark plain each = grind (arith, eq-eqb (suc n) (suc n) refl)
 
 all_written : (units : List Marked) → AreAccounted units → CanEach units → AllByRecursion CanBeWritten (all_units units)
 all_written [] all each = tt
@@ -60,5 +52,4 @@ pub turn_written : (is_caller : Bool) (deeds more : ℕ → Deeds) (e : End) (pu
     AreAccounted put → AllByRecursion CanBeWritten (all_units put)
 turn_written is_caller deeds more e put course own accounted =
     all_written put accounted (λ r some.
-    subst (AllByRecursion CanBeWritten) (own r some)
-    (later_part (deeds r).put (more r).put (course_written is_caller r (then_did (deeds r) (more r)) e (course r))))
+    grind (arith, later_part, course_written is_caller r (then_did (deeds r) (more r)) e (course r)))

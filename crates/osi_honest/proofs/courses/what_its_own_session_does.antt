@@ -1,17 +1,16 @@
 -- The session of an open connection makes a move: what it sends is handed in at its link, or the connection is closed.
 -- For the course of a connection.
 use Rattle.osi_honest.proofs.Vocabulary.{[], ap, arith, Bool, false, is_some, length, List, map, nat_le, nat_lt, None, Option, refl, Some}
-use Rattle.osi_honest.proofs.Vocabulary.{subst, sym, true, ℕ, ◌&&◌, ◌++◌, ◌+◌, ◌∙◌, ◌≡◌, append-nil, Joining, Standing, unit_of, Move}
-use Rattle.osi_honest.proofs.Vocabulary.{MovesAlong, tsdus_out, closed_with, open_link, sent_all, value_at, linked, State as Carrier}
-use Rattle.osi_honest.proofs.Vocabulary.{EndReason, tsdus_sent, after_input, Input, Listener, session_react as react, is_wait_transport}
-use Rattle.osi_honest.proofs.Vocabulary.{handed, lengths_fit, closed_given, has_given, kept_at, limit_for, to_session, End, hands, sends}
-use Rattle.osi_honest.proofs.Vocabulary.{AreCalls, Course, Deeds, Gone, IsFreshLink, IsNew, IsShut, said_in, Speaks, units_given, is_gone}
-use Rattle.osi_honest.proofs.Vocabulary.{is_open, closed, units_at, History, Said, said_after}
-use Rattle.osi_honest.specs.Courses.Gone.{over}
+use Rattle.osi_honest.proofs.Vocabulary.{subst, sym, true, ℕ, ◌&&◌, ◌++◌, ◌+◌, ◌∙◌, ◌≡◌, append-nil, Joining, Standing, unit_of, MovesAlong}
+use Rattle.osi_honest.proofs.Vocabulary.{tsdus_out, closed_with, open_link, sent_all, value_at, linked, State as Carrier, EndReason}
+use Rattle.osi_honest.proofs.Vocabulary.{tsdus_sent, after_input, Input, Listener, session_react as react, is_wait_transport, handed}
+use Rattle.osi_honest.proofs.Vocabulary.{lengths_fit, closed_given, has_given, kept_at, limit_for, to_session, End, hands, sends, AreCalls}
+use Rattle.osi_honest.proofs.Vocabulary.{Course, Deeds, Gone, IsFreshLink, IsNew, IsShut, said_in, units_given, is_gone, is_open, closed}
+use Rattle.osi_honest.proofs.Vocabulary.{units_at, History, said_after, over}
 use Rattle.osi_honest.proofs.class_0.a_session_of_class_0_puts_what_it_sends.{HasLine, IsProper, kept_then, line_there, moved_by}
 use Rattle.osi_honest.proofs.courses.steps_of_a_course.{HasNone, StepAt, done_by, step_idle}
 use Rattle.osi_honest.proofs.courses.units_of_each_connection.{marked, marked_own, nowhere}
-use Rattle.osi_honest.proofs.courses.what_a_session_puts.{all_put, answer_puts, line_puts, move_puts, put_closing, session_puts}
+use Rattle.osi_honest.proofs.courses.what_a_session_puts.{all_put, answer_puts, put_closing, session_puts}
 use Rattle.osi_honest.proofs.courses.what_a_link_takes_and_is_handed.{Sends, closed_shut, sends_all}
 use Rattle.osi_honest.proofs.courses.what_calls_of_a_link_say.{along_more, out_more, put_more, said_more}
 
@@ -41,11 +40,6 @@ module _ (is_caller : Bool) (r : ℕ) (moves : Deeds) (session : Listener) (inpu
   abbrev there : End
   there = to_session r input e
 
-  -- it closes its connection, and sends nothing
-  nothing_said : (react session input).closes ≡ true →
-      said_in 0 moves.calls ++ said_after (length (tsdus_out moves.calls)) (sends session input) ≡ said_in 0 moves.calls
-  nothing_said closes = grind (arith, append-nil)
-
   closed_is : (react session input).closes ≡ true → HasLine r session e.lines → there.carrier ≡ closed_with r 128 e.carrier
   closed_is closes h = grind (arith, moved_by)
 
@@ -56,29 +50,14 @@ module _ (is_caller : Bool) (r : ℕ) (moves : Deeds) (session : Listener) (inpu
       Gone is_caller r moves there
   closes_by (Some reason) ended closes h =
       over t.peer these_calls moves.calls [] (react session input).closes (after_input session input)
-      (record {
-        begin = t.begin;
-        new = t.new;
-        history = subst (λ (l : List Said). History t.begin (tsdus_out moves.calls) l (react session input).closes
-            (after_input session input)) (nothing_said closes) t.history;
-      }) (sym (append-nil moves.calls)) refl (ap is_some ended)
+      (grind (arith, append-nil)) (sym (append-nil moves.calls)) refl (ap is_some ended)
   closes_by None lasts closes h =
       let is = closed_is closes h in
       let shut = closed_shut r t.peer t.link e.carrier t.lasts t.here (sym (ap (λ (c : Carrier). c.ended) is) ∙ lasts) in
       closed t.peer these_calls (react session input).closes (after_input session input)
-      (record {
-        begin = t.begin;
-        new = t.new;
-        history = subst (λ (l : List Said). History t.begin (tsdus_out moves.calls) l (react session input).closes
-            (after_input session input)) (nothing_said closes) t.history;
-      })
+      (grind (arith, append-nil))
       (ap (has_given r) is ∙ ap (λ (n : ℕ). nat_lt 0 r && nat_le r n) (closed_given r 128 (open_link r e.carrier) e.carrier) ∙ t.given)
       (subst IsShut (sym (ap (λ (c : Carrier). value_at r c.live) is ∙ shut)) tt)
-
-  -- it sends these TSDUs
-  said_then : (more : List Move) → tsdus_out more ≡ [] → ((n : ℕ) → said_in n more ≡ said_after n (sends session input)) →
-      (react session input).closes ≡ false → Speaks is_caller (moves.calls ++ more) false (after_input session input)
-  said_then more none said closes = grind (arith, out_more, append-nil, said_more)
 
   sent_is : (react session input).closes ≡ false → HasLine r session e.lines → there.carrier ≡ sent_all r (sends session input) e.carrier
   sent_is closes h = grind (arith, moved_by, handed)
@@ -87,11 +66,8 @@ module _ (is_caller : Bool) (r : ℕ) (moves : Deeds) (session : Listener) (inpu
   abbrev TSDUS : List (List ℕ)
   TSDUS = tsdus_sent (limit_for session input) (react session input).reply
 
-  put_is : HasLine r session e.lines → session_puts r input e ≡ answer_puts (react session input).closes r TSDUS e.carrier
-  put_is h = grind (arith, line_puts, move_puts)
-
   none_put : (react session input).closes ≡ true → HasLine r session e.lines → HasNone r (session_puts r input e)
-  none_put closes h = grind (arith, put_is, answer_puts, nowhere, put_closing)
+  none_put closes h = grind (arith, answer_puts, nowhere, put_closing)
 
   all_sent : (react session input).closes ≡ false → HasLine r session e.lines →
       session_puts r input e ≡ marked r (all_put r (sends session input) e.carrier)
@@ -124,7 +100,7 @@ module _ (is_caller : Bool) (r : ℕ) (moves : Deeds) (session : Listener) (inpu
           lasts = ap (λ (c : Carrier). c.ended) is ∙ s.same.ended ∙ t.lasts;
           here = ap (λ (c : Carrier). value_at r c.live) is ∙ s.here;
           kept = ap (λ (x : End). kept_at r x.lines) (moved_by r session input e h) ∙ kept_then r session input e.lines h;
-          speaks = said_then s.moves s.hands.out s.hands.said closes;
+          speaks = grind (arith, out_more, append-nil, said_more);
           begun = t.begun;
         });
       }

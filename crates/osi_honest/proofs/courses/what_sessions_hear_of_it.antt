@@ -1,16 +1,14 @@
 -- The events of a packet are handled: what becomes of the course of one connection, and that what its session sends is handed in.
 -- For the course of a connection.
-use Rattle.std.proofs.Common.{arith}
-use Rattle.osi_honest.proofs.Vocabulary.{[], ap, Bool, false, inl, inr, is_some, length, List, map, nat_le, nat_lt, ◌&&◌, has_given, None}
+use Rattle.osi_honest.proofs.Vocabulary.{[], ap, Bool, false, inl, inr, is_some, length, List, nat_le, nat_lt, ◌&&◌, has_given, None}
 use Rattle.osi_honest.proofs.Vocabulary.{Option, refl, Some, subst, suc, sym, true, zero, ℕ, ◌++◌, ◌+◌, ◌==◌, ◌∙◌, ◌∷◌, ◌≡◌, ◌≢◌, eq-eqb}
-use Rattle.osi_honest.proofs.Vocabulary.{eqb-true, append-nil, unit_of, MovesAlong, tsdus_out, push_here, open_link, Happening}
+use Rattle.osi_honest.proofs.Vocabulary.{eqb-true, append-nil, MovesAlong, tsdus_out, push_here, open_link, Happening}
 use Rattle.osi_honest.proofs.Vocabulary.{told_opened as opened, tsdu, value_at, EndReason, after_input, broken, came, Input, Listener}
 use Rattle.osi_honest.proofs.Vocabulary.{linked_up, session_react as react, awaits, times_quiet, first_is, rest_is, used_live, hears_keep}
 use Rattle.osi_honest.proofs.Vocabulary.{calls_with, terms_error, hears, hears_next, hears_times, opens_line as opens, with_events, kept_at}
-use Rattle.osi_honest.proofs.Vocabulary.{to_session, End, fresh_line, joins, Line, session_in, Request as Connect, sends, Course, Deeds}
-use Rattle.osi_honest.proofs.Vocabulary.{Gone, IsNew, IsShut, no_deeds, said_in, units_given, is_gone, is_open, closed, History, Said}
-use Rattle.osi_honest.proofs.Vocabulary.{said_after, State as Carrier, attends, concludes, hears_all, concluded_carrier, concludes_lasting}
-use Rattle.osi_honest.proofs.Vocabulary.{never}
+use Rattle.osi_honest.proofs.Vocabulary.{to_session, End, joins, Line, session_in, Request as Connect, sends, Course, Deeds, Gone, IsNew}
+use Rattle.osi_honest.proofs.Vocabulary.{IsShut, said_in, is_gone, is_open, closed, History, Said, said_after, State as Carrier, attends}
+use Rattle.osi_honest.proofs.Vocabulary.{concludes, hears_all, concluded_carrier, concludes_lasting, never, arith, over}
 use Rattle.std.proofs.Common.{length-append}
 use Rattle.osi_carrier.specs.Happenings as told
 use Rattle.osi_carrier.specs.Orderly.{told_of}
@@ -24,7 +22,7 @@ use Rattle.osi_honest.proofs.courses.steps_of_a_course.{HasNone, HoldEach, StepA
 use Rattle.osi_honest.proofs.courses.steps_of_a_course.{step_none, step_on, step_since, step_then, step_as}
 use Rattle.osi_honest.proofs.courses.the_first_cc_opens_a_connection.{event_given, first_of}
 use Rattle.osi_honest.proofs.courses.units_of_each_connection.{unequal}
-use Rattle.osi_honest.proofs.courses.what_a_link_takes_and_is_handed.{link_shut, over_unlinked}
+use Rattle.osi_honest.proofs.courses.what_a_link_takes_and_is_handed.{link_shut}
 use Rattle.osi_honest.proofs.courses.what_a_session_puts.{IsGivenIfOpen, event_accounted, event_others, event_puts, event_unlinked}
 use Rattle.osi_honest.proofs.courses.what_a_session_puts.{event_written, opening_puts, session_puts}
 use Rattle.osi_honest.proofs.courses.what_a_unit_does_to_a_connection.{NoneOf}
@@ -36,7 +34,6 @@ use Rattle.osi_honest.proofs.courses.what_units_do_to_a_course.{NowAll, request_
 use Rattle.osi_honest.proofs.courses.what_waits_to_be_heard.{HasCome, JustOpened, Waits, waits_as, waits_beside, waits_over, waits_none}
 use Rattle.osi_honest.proofs.courses.what_waits_to_be_heard.Waits.{answered, away, called, came as has_come, still}
 use Rattle.osi_honest.proofs.opening.how_a_caller_opens.{CanBegin}
-use Rattle.osi_honest.specs.Courses.Gone.{over}
 use Rattle.osi_honest.proofs.courses.how_long_a_connection_is_open.{stage_at}
 
 -- ---- an event of another connection
@@ -60,11 +57,8 @@ hears_elsewhere r (told.faulted q fault) e ne = session_leaves_it q r broken e n
 
 -- ---- a connection that is gone hears nothing that matters
 
-opened_same : (r : ℕ) (o : Option Line) (e : End) → IsShut (value_at r e.carrier.live) → (opens r o e).carrier ≡ e.carrier
-opened_same r o e shut = grind (arith, shut_session)
-
 hears_same : (x : Happening) (e : End) → IsShut (value_at (told_of x) e.carrier.live) → (hears x e).carrier ≡ e.carrier
-hears_same x e shut = grind (arith, opened_same, shut_session)
+hears_same x e shut = grind (arith, shut_session)
 
 module _ (is_caller : Bool) (r : ℕ) (moves : Deeds) (x : Happening) (e : End) where
   shut_hears : (b : Bool) → (r == told_of x) ≡ b → (hears x e).carrier.ended ≡ None → (closed_so : Bool) (session : Listener) →
@@ -88,30 +82,17 @@ module _ (is_caller : Bool) (r : ℕ) (moves : Deeds) (x : Happening) (e : End) 
 
 -- ---- an event of this connection
 
--- nothing was put for it yet
-none_put : (peer : ℕ) (moves : Deeds) → moves ≡ no_deeds → moves.put ≡ map (unit_of peer) (units_given moves.calls)
-none_put peer moves none = subst (λ (d : Deeds). d.put ≡ map (unit_of peer) (units_given d.calls)) (sym none) refl
-
 -- it was opened at a called end: a session begins
 called_hears : (is_caller : Bool) (r : ℕ) (moves : Deeds) (e : End) → is_caller ≡ false → value_at r e.lines ≡ None →
     JustOpened r moves e → Course is_caller r moves (joins r awaits e)
 called_hears is_caller r moves e side none just =
     is_open just.given (record {
       peer = just.peer;
-      calls = record {
-        first = just.first;
-        link = just.first;
-        fresh = just.fresh;
-        along = subst (λ (d : Deeds). MovesAlong just.first d.calls just.first) (sym just.none) refl;
-        handed = (fresh_of just.first just.fresh).2;
-        put = none_put just.peer moves just.none;
-      };
+      calls = grind (arith, fresh_of);
       session = awaits;
       lasts = just.lasts;
       here = just.here;
-      kept = ap session_in
-          (used_live r e.carrier.live (e.lines ++ (r, fresh_line awaits) ∷ []) (ap is_some just.here)
-          ∙ push_here r (fresh_line awaits) e.lines none);
+      kept = grind (arith, used_live, push_here);
       speaks = unsaid is_caller moves awaits just.none (subst (λ (b : Bool). IsNew b awaits) (sym side) refl);
       begun = refl;
     })
@@ -130,7 +111,7 @@ answered_speaks is_caller r moves e c side terms can kept just = record {
   fresh = just.fresh;
   along = subst (λ (d : Deeds). MovesAlong just.first d.calls just.first) (sym just.none) refl;
   handed = (fresh_of just.first just.fresh).2;
-  put = none_put just.peer moves just.none;
+  put = grind arith;
   kept = kept;
   proper = can.proper;
   begun = can.then_begun;
@@ -151,16 +132,11 @@ come_speaks : AllProper → (is_caller : Bool) (r : ℕ) (octets : List ℕ) (mo
 come_speaks proper is_caller r octets moves e h =
     let outs : tsdus_out moves.calls ≡ tsdus_out h.before ++ octets ∷ [] =
     ap tsdus_out h.parts ∙ out_more h.before h.now ∙ ap (λ (l : List (List ℕ)). tsdus_out h.before ++ l) h.out in
-    let said : said_in 0 moves.calls ≡ said_in 0 h.before =
-    ap (said_in 0) h.parts ∙ said_more 0 h.before h.now
-    ∙ ap (λ (l : List Said). said_in 0 h.before ++ l) (none_said (0 + length (tsdus_out h.before)) h.now h.into)
-    ∙ append-nil (said_in 0 h.before) in
+    let said : said_in 0 moves.calls ≡ said_in 0 h.before = grind (arith, said_more, none_said, append-nil) in
     let count : length (tsdus_out moves.calls) ≡ length (tsdus_out h.before) + 1 =
     ap length outs ∙ length-append (tsdus_out h.before) (octets ∷ []) in
     let all : said_in 0 moves.calls ++ said_after (length (tsdus_out moves.calls)) (sends h.session (came octets))
-    ≡ said_in 0 h.before ++ said_after (length (tsdus_out h.before) + 1) (sends h.session (came octets)) =
-    ap (λ (l : List Said). l ++ said_after (length (tsdus_out moves.calls)) (sends h.session (came octets))) said
-    ∙ ap (λ (n : ℕ). said_in 0 h.before ++ said_after n (sends h.session (came octets))) count in
+    ≡ said_in 0 h.before ++ said_after (length (tsdus_out h.before) + 1) (sends h.session (came octets)) = grind arith in
     record {
       peer = h.peer;
       first = h.first;
@@ -201,7 +177,7 @@ opened_new r e none = ap (λ (o : Option Line). opens r o e) none
 
 -- a connection that is gone is not open
 gone_unlinked : (is_caller : Bool) (r : ℕ) (moves : Deeds) (e : End) → Gone is_caller r moves e → open_link r e.carrier ≡ None
-gone_unlinked is_caller r moves e h = grind (arith, link_shut, over_unlinked)
+gone_unlinked is_caller r moves e h = grind (arith, link_shut)
 
 module _ (known : Known) (is_caller : Bool) (r : ℕ) where
   abbrev HeardAt : Happening → List Happening → Deeds → End → Type 0
@@ -242,10 +218,6 @@ module _ (known : Known) (is_caller : Bool) (r : ℕ) where
       StepAt r (event_puts x e) [] (Course is_caller r) moves (hears x e)
   spoke x input moves e is puts s = grind (arith, session_puts)
 
-  opening_of : (o : Option Line) (session : Listener) (e : End) → session_in o ≡ Some session →
-      opening_puts r o e ≡ session_puts r linked_up e
-  opening_of o session e h = grind arith
-
   one_heard : (x : Happening) (rest : List Happening) (moves : Deeds) (e : End) → Waits is_caller r (x ∷ rest) moves e →
       HeardAt x rest moves e
   one_heard x rest moves e (still none course) = elsewhere x rest moves e none.0 (still none course)
@@ -260,7 +232,7 @@ module _ (known : Known) (is_caller : Bool) (r : ℕ) where
       own_heard x rest moves e
       (spoke x linked_up moves e
       (ap (λ (y : Happening). hears y e) due.0 ∙ opened_of r (value_at r e.lines) (calls_with c) e kept)
-      (ap (λ (y : Happening). event_puts y e) due.0 ∙ opening_of (value_at r e.lines) (calls_with c) e kept)
+      (ap (λ (y : Happening). event_puts y e) due.0 ∙ (grind arith))
       (session_speaks is_caller r moves (calls_with c) linked_up e
       (answered_speaks is_caller r moves e c side terms (known.can c terms) kept just))) due.1
   one_heard x rest moves e (has_come octets (inl due) h) = elsewhere x rest moves e due.0 (has_come octets (inl due) h)

@@ -8,9 +8,7 @@ use Rattle.osi_honest.proofs.Vocabulary.{opened_link, connection_of, RiseFrom, p
 use Rattle.osi_honest.proofs.Vocabulary.{value_at, asked, Connection, linked, packets, State as Carrier, EndReason, Listener, both}
 use Rattle.osi_honest.proofs.Vocabulary.{along_units, calls_with, has_given, terms_error, with_carrier, End, Request as Connect, AreCalls}
 use Rattle.osi_honest.proofs.Vocabulary.{Course, Deeds, Gone, IsFreshLink, IsNew, IsOpen, IsShut, no_deeds, Speaks, then_did, units_given}
-use Rattle.osi_honest.proofs.Vocabulary.{units_taken, awaited, is_gone, is_open, unknown, closed, never}
-use Rattle.osi_carrier.specs.React.{react}
-use Rattle.osi_honest.specs.Courses.Gone.{over}
+use Rattle.osi_honest.proofs.Vocabulary.{units_taken, awaited, is_gone, is_open, unknown, closed, never, react, over}
 use Rattle.osi_honest.specs.Talking as history
 use Rattle.osi_honest.proofs.class_0.what_packets_do_in_class_0.{never_lasts}
 use Rattle.osi_honest.proofs.courses.how_long_a_connection_is_open.{Life, stage_at}
@@ -20,7 +18,7 @@ use Rattle.osi_honest.proofs.courses.the_connections_of_each_class.{IsSound, sou
 use Rattle.osi_honest.proofs.courses.the_first_cc_opens_a_connection.{FirstOf, first_of, unit_not_cc}
 use Rattle.osi_honest.proofs.courses.units_of_each_connection.{elsewhere, given_accounted, marked, marked_all, marked_own, nowhere}
 use Rattle.osi_honest.proofs.courses.units_of_each_connection.{plain_accounted, unequal}
-use Rattle.osi_honest.proofs.courses.what_a_link_takes_and_is_handed.{HasFew, has_few, takes_in}
+use Rattle.osi_honest.proofs.courses.what_a_link_takes_and_is_handed.{HasFew, takes_in}
 use Rattle.osi_honest.proofs.courses.what_a_unit_does_to_a_connection.{Acts, Does, NoneOf, acts_elsewhere, none_more, unit_does}
 use Rattle.osi_honest.proofs.courses.what_a_unit_does_to_a_connection.Acts.{answers_it, joins, leaves_it, rests, over as carrier_over}
 use Rattle.osi_honest.proofs.courses.what_a_unit_does_to_a_connection.Does.{passes, takes}
@@ -126,25 +124,15 @@ module _ (is_caller : Bool) (r : ℕ) (moves : Deeds) (v : Value) (e : End) (h :
         HasFew v after.ends.joining.whole → Took o.peer after
     took given o after is then_is none (inl nothing) =
         let t = takes_in o.calls.link after v [] nothing (inl refl) is in
-        let events : new.carrier.events ≡ e.carrier.events =
-        ap (λ (c : Carrier). c.events) then_is ∙ ap (λ (l : List (List ℕ)). e.carrier.events ++ map (tsdu r) (take 1 l)) nothing
-        ∙ append-nil e.carrier.events in
+        let events : new.carrier.events ≡ e.carrier.events = grind (arith, append-nil) in
         own_step o.peer t.moves after t.took t.given
         (calm_after is_caller r v (then_did moves (done_by o.peer t.moves)) new (is_still (subst (NoneOf r) (sym events) none)
         (is_open (ap (has_given r) then_is ∙ given) (record {
           peer = o.peer;
-          calls = record {
-            first = o.calls.first;
-            link = pumped (handed_out after);
-            fresh = o.calls.fresh;
-            along = along_more moves.calls t.moves o.calls.first o.calls.link (pumped (handed_out after)) o.calls.along t.along;
-            handed = t.handed;
-            put = put_more o.peer moves.calls t.moves moves.put o.calls.put;
-          };
+          calls = search (arith, along_more, put_more);
           session = o.session;
           lasts = lasts;
-          here = ap (λ (c : Carrier). value_at r c.live) then_is
-              ∙ put_here r (linked o.peer (pumped (handed_out after))) (linked o.peer o.calls.link) e.carrier.live o.here;
+          here = grind (arith, put_here);
           kept = o.kept;
           speaks = more_said is_caller moves.calls t.moves false o.session t.out t.into o.speaks;
           begun = o.begun;
@@ -192,9 +180,7 @@ module _ (is_caller : Bool) (r : ℕ) (moves : Deeds) (v : Value) (e : End) (h :
         let peers : peer ≡ o.peer = cc in
         let links : link ≡ o.calls.link = cc in
         let took_it : taken o.calls.link v ≡ Ok after = ap (λ (l : Standing). taken l v) (sym links) ∙ is in
-        subst (λ (p : ℕ). Took p after) (sym peers)
-        (took given o after took_it (then_is ∙ ap (λ (p : ℕ). settles r p after e.carrier) peers) none
-        (has_few o.calls.link after v o.calls.handed took_it))
+        search (arith, took)
 
     opens_now : may_be_followed v ≡ false → has_given r new.carrier ≡ true → (peer : ℕ) (first : Standing) → IsFreshLink first →
         moves ≡ no_deeds →
@@ -341,13 +327,8 @@ module _ (is_caller : Bool) where
         e.carrier.is_caller ≡ is_caller
     gone_side r lasted h free = grind (arith, both, never_lasts)
 
-    -- if a reference was not given, its course says on which side the end is
-    side_by : (r : ℕ) → e.carrier.ended ≡ None → Calm is_caller r (moves r) e → has_given r e.carrier ≡ false →
-        e.carrier.is_caller ≡ is_caller
-    side_by r lasted h free = grind (arith, both, gone_side)
-
     side_of : (r : ℕ) → e.carrier.ended ≡ None → has_given r e.carrier ≡ false → e.carrier.is_caller ≡ is_caller
-    side_of r lasted free = side_by r lasted (calm r) free
+    side_of r lasted free = grind (arith, both, gone_side)
 
     -- the carrier had ended
     over_life : (r : ℕ) → 0 < r → IsSome e.carrier.ended → IsSome changed.carrier.ended →
@@ -371,8 +352,7 @@ module _ (is_caller : Bool) where
         (given_accounted q peer (all_given (handed_out after)) (above_zero q (linked peer link) e.carrier.live h.orderly.rise here))
         (marked_all q (v ∷ []))
         (λ r some. taken_life is_caller r some v e.carrier h lasted (side_of r lasted) q refl peer link after here is then_is)
-        (λ r some. unit_first r q units (taken_life is_caller r some v e.carrier h lasted (side_of r lasted) q refl peer link after here is
-        then_is))
+        (λ r some. unit_first r q units (grind (arith, taken_life, side_of)))
         (λ r. taken_at is_caller r (moves r) v e h q (r == q) refl refl lasted (calm r) peer link after here is then_is)
     does_steps lasted (passes units written plain act) =
         let q = connection_of v e.carrier in
@@ -390,8 +370,7 @@ module _ (is_caller : Bool) where
         step_each is_caller (v ∷ []) (AfterAll v) moves e.carrier changed [] (marked 0 (v ∷ []))
         (ap (λ (c : Carrier). c.outgoing) same ∙ sym (append-nil e.carrier.outgoing)) tt (marked_all 0 (v ∷ []))
         (λ r some. over_life r some (ap is_some ended) (ap (λ (c : Carrier). is_some c.ended) same ∙ ap is_some ended))
-        (λ r some. unit_first r 0 [] (over_life r some (ap is_some ended)
-        (ap (λ (c : Carrier). is_some c.ended) same ∙ ap is_some ended)))
+        (λ r some. unit_first r 0 [] (grind (arith, over_life)))
         (λ r. passed is_caller r (moves r) v e h []
         (ended_idle is_caller r (moves r) v e h (calm r) (ap (λ (c : Carrier). is_some c.ended) same ∙ ap is_some ended)))
 

@@ -1,13 +1,11 @@
 -- The course of a connection while events of its carrier wait to be handled: at most one of them is of this connection.
 -- For the course of a connection.
-use Rattle.std.proofs.Common.{arith}
-use Rattle.osi_honest.proofs.Vocabulary.{[], Bool, false, inl, inr, IsSome, List, map, None, refl, Some, true, ℕ, ◌++◌, ◌∙◌, ◌∷◌, ◌≡◌}
-use Rattle.osi_honest.proofs.Vocabulary.{◌≢◌, ◌⊎◌, Standing, unit_of, Move, MovesAlong, tsdus_in, tsdus_out, Happening}
-use Rattle.osi_honest.proofs.Vocabulary.{told_opened as opened, tsdu, value_at, linked, Listener, is_wait_transport, calls_with, has_given}
-use Rattle.osi_honest.proofs.Vocabulary.{terms_error, kept_at, End, Request as Connect, Course, Deeds, Gone, IsFreshLink, no_deeds, Speaks}
-use Rattle.osi_honest.proofs.Vocabulary.{units_given, never, is_gone}
+use Rattle.osi_honest.proofs.Vocabulary.{[], Bool, false, inl, inr, IsSome, List, map, None, refl, Some, true, ℕ, ◌++◌, ◌∙◌, ◌∷◌, ◌≡◌, ◌≢◌}
+use Rattle.osi_honest.proofs.Vocabulary.{◌⊎◌, Standing, unit_of, Move, MovesAlong, tsdus_in, tsdus_out, Happening, told_opened as opened}
+use Rattle.osi_honest.proofs.Vocabulary.{tsdu, value_at, linked, Listener, is_wait_transport, calls_with, has_given, terms_error, kept_at}
+use Rattle.osi_honest.proofs.Vocabulary.{End, Request as Connect, Course, Deeds, Gone, IsFreshLink, no_deeds, Speaks, units_given, never}
+use Rattle.osi_honest.proofs.Vocabulary.{is_gone, arith, over}
 use Rattle.osi_carrier.specs.Orderly.{told_of}
-use Rattle.osi_honest.specs.Courses.Gone.{over}
 use Rattle.osi_honest.proofs.courses.what_a_unit_does_to_a_connection.{NoneOf}
 use Rattle.osi_honest.proofs.courses.what_another_connection_leaves.{Beside, course_beside, course_over, gone_beside, gone_over, some_there}
 
@@ -80,9 +78,6 @@ module _ (is_caller : Bool) (r : ℕ) (moves : Deeds) (old new : End) where
   just_beside : Beside r old new → JustOpened r moves old → JustOpened r moves new
   just_beside b j = grind arith
 
-  come_beside : (octets : List ℕ) → Beside r old new → HasCome is_caller r octets moves old → HasCome is_caller r octets moves new
-  come_beside octets b h = grind (arith, some_there)
-
   -- the same events wait at another end that left the connection as it is
   pub waits_as : (events : List Happening) → Beside r old new → Waits is_caller r events moves old → Waits is_caller r events moves new
   waits_as events b (still none course) = still none (course_beside is_caller r moves old new b course)
@@ -90,21 +85,17 @@ module _ (is_caller : Bool) (r : ℕ) (moves : Deeds) (old new : End) where
   waits_as events b (called due side none just) = called due side (b.unlined none) (just_beside b just)
   waits_as events b (answered due side c terms kept just) =
       answered due side c terms (b.kept (some_there (value_at r old.carrier.live) _ just.here) ∙ kept) (just_beside b just)
-  waits_as events b (came octets due h) = came octets due (come_beside octets b h)
-
-  -- the first of the events is of another connection, and so is what it does
-  due_later : (event x : Happening) (rest : List Happening) → told_of x ≢ r → told_of event ≡ r → Due r event (x ∷ rest) → Due r event rest
-  due_later event x rest ne is h = grind arith
+  waits_as events b (came octets due h) = came octets due (grind (arith, some_there))
 
   pub waits_beside : (x : Happening) (rest : List Happening) → told_of x ≢ r → Beside r old new → Waits is_caller r (x ∷ rest) moves old →
       Waits is_caller r rest moves new
   waits_beside x rest ne b (still none course) = still none.1 (course_beside is_caller r moves old new b course)
   waits_beside x rest ne b (away g) = away (gone_beside is_caller r moves old new b g)
-  waits_beside x rest ne b (called due side none just) = grind (arith, due_later, just_beside)
+  waits_beside x rest ne b (called due side none just) = grind (arith, just_beside)
   waits_beside x rest ne b (answered due side c terms kept just) =
-      answered (due_later (opened r) x rest ne refl due) side c terms
+      answered (grind arith) side c terms
       (b.kept (some_there (value_at r old.carrier.live) _ just.here) ∙ kept) (just_beside b just)
-  waits_beside x rest ne b (came octets due h) = came octets (due_later (tsdu r octets) x rest ne refl due) (come_beside octets b h)
+  waits_beside x rest ne b (came octets due h) = came octets (grind arith) (grind (arith, some_there))
 
   -- the carrier ends
   pub waits_over : (events : List Happening) → Waits is_caller r events moves old → IsSome new.carrier.ended → Gone is_caller r moves new

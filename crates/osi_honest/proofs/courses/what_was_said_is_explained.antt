@@ -1,16 +1,14 @@
 -- What the session of a connection sent is explained by what it had taken by then, also if a capture shows less of it; and the units
 -- of its link carry these TSDUs.
 -- For the laws of an end and its captures.
-use Rattle.std.proofs.Common.{arith}
 use Rattle.osi_honest.proofs.Vocabulary.{[], ap, Bool, false, length, List, map, None, refl, subst, sym, true, ℕ, ◌++◌, ◌+◌, ◌∙◌, ◌∷◌, ◌≡◌}
 use Rattle.osi_honest.proofs.Vocabulary.{append-nil, all_taken, all_sent, unit_of, Move, parts_in, parts_out, tsdus_in, tsdus_out, tsdus}
 use Rattle.osi_honest.proofs.Vocabulary.{uncut, Listener, awaits, refusal_of, Seen, seen_called, seen_calling, Opening, End, IsExplained}
 use Rattle.osi_honest.proofs.Vocabulary.{Told, done, IsSentFrom, AreCalls, Course, Deeds, Gone, IsNew, no_deeds, said_in, Speaks}
-use Rattle.osi_honest.proofs.Vocabulary.{units_given, is_gone, is_open, closed, never, AreSame, Shows, Said, awaited, unknown}
+use Rattle.osi_honest.proofs.Vocabulary.{units_given, is_gone, is_open, closed, never, AreSame, Shows, Said, awaited, unknown, arith, over}
+use Rattle.osi_honest.proofs.Vocabulary.{told_of}
 use Rattle.osi_session.specs.Sessions.{opens}
 use Rattle.osi_judge.specs.Running as running
-use Rattle.osi_honest.specs.Courses.Gone.{over}
-use Rattle.osi_honest.specs.Talking.{told_of}
 use Rattle.osi_honest.proofs.courses.what_calls_of_a_link_say.{fresh_of, none_said, out_more, said_more}
 use Rattle.osi_honest.proofs.courses.what_units_do_to_a_course.{no_calls}
 use Rattle.osi_honest.proofs.opening.the_session_of_a_request_is_a_caller.{opens_so}

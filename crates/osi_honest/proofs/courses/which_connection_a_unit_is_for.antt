@@ -3,15 +3,14 @@
 use Rattle.osi_honest.proofs.Vocabulary.{[], ap, arith, Bool, false, is_some, IsSome, List, nat_le, nat_lt, None, Ok, Option, refl, Some}
 use Rattle.osi_honest.proofs.Vocabulary.{subst, sym, true, ℕ, ◌&&◌, ◌<◌, ◌==◌, ◌∙◌, ◌∷◌, ◌≡◌, ◌≢◌, eq-eqb, eqb-true, nat_tests, append-nil}
 use Rattle.osi_honest.proofs.Vocabulary.{acknowledge, data0, data2, disconnect, Value, Ends, Flow, all_given, Standing, taken, taken_by}
-use Rattle.osi_honest.proofs.Vocabulary.{Class, RiseFrom, leaves, Two, Zero, react_quiet, put_other, beyond, put_here, without_here}
-use Rattle.osi_honest.proofs.Vocabulary.{connection_by, connection_of, pumped, written_by, handed_out, in_class, in_two, settles, put}
-use Rattle.osi_honest.proofs.Vocabulary.{value_at, asked, Connection, linked, State as Carrier, EndReason, has_given, AreApart, GivesTo}
-use Rattle.osi_honest.proofs.Vocabulary.{is_for, Opens, IsShut, is_of_link, Marked}
-use Rattle.osi_carrier.specs.React.{react}
+use Rattle.osi_honest.proofs.Vocabulary.{RiseFrom, Two, react_quiet, put_other, beyond, put_here, without_here, connection_by}
+use Rattle.osi_honest.proofs.Vocabulary.{connection_of, pumped, written_by, handed_out, in_two, settles, put, value_at, asked, Connection}
+use Rattle.osi_honest.proofs.Vocabulary.{linked, State as Carrier, EndReason, has_given, AreApart, GivesTo, is_for, Opens, IsShut}
+use Rattle.osi_honest.proofs.Vocabulary.{is_of_link, Marked, react}
 use Rattle.osi_honest.proofs.class_0.what_packets_do_in_class_0.{never_lasts}
 use Rattle.osi_honest.proofs.courses.the_connections_of_each_class.{ByClass, IsSound, one_here}
 use Rattle.osi_honest.proofs.courses.the_connections_of_each_class.ByClass.{asks, none, two, zero}
-use Rattle.osi_honest.proofs.courses.units_of_each_connection.{marked, none_mark, none_marked, other_mark, other_marked, unequal}
+use Rattle.osi_honest.proofs.courses.units_of_each_connection.{marked, none_mark, none_marked, other_marked, unequal}
 use Rattle.osi_honest.proofs.courses.a_connection_without_a_unit.{given_to}
 use Rattle.osi_honest.proofs.courses.what_a_unit_does_to_a_connection.{Acts, IsDeaf, acts_elsewhere}
 use Rattle.osi_honest.proofs.courses.what_a_unit_does_to_a_connection.Acts.{answers_it, joins, leaves_it, over, rests}
@@ -26,7 +25,7 @@ data_ends s end user b = grind arith
 
 module _ (v : Value) (s : Carrier) (lasted : s.ended ≡ None) (lasts : (react v s).ended ≡ None) where
   two_deaf : (w : Value) → v ≡ w → s.class ≡ Some Two → (r : ℕ) → r ≢ connection_by (Some Two) w s → is_for r w ≡ false
-  two_deaf w is class r ne = grind (arith, react_quiet, data_ends, never_lasts, other_mark)
+  two_deaf w is class r ne = grind (arith, react_quiet, data_ends, never_lasts)
 
   pub elsewhere_deaf : (r : ℕ) → ByClass s → r ≢ connection_of v s → IsDeaf r v s
   elsewhere_deaf r h ne peer link here = grind (arith, two_deaf, one_here)
@@ -47,13 +46,8 @@ no_ack : (e : Ends) (credit destination number : ℕ) (after : Standing) (o : Op
 no_ack e credit destination number after o empty is = grind arith
 
 module _ (s : Carrier) (q peer : ℕ) (link after : Standing) (here : value_at q s.live ≡ Some (linked peer link)) where
-  -- by the class, a unit with a destination
-  named_for : (v : Value) (d : ℕ) → connection_by (Some Two) v s ≡ d → q ≡ connection_of v s → ByClass s → (link.flow ≡ None → ⊥) →
-      (d == q) ≡ true
-  named_for v d is own h numbered = grind (arith, eq-eqb, one_here)
-
   pub taken_for : (v : Value) → q ≡ connection_of v s → ByClass s → taken link v ≡ Ok after → is_for q v ≡ true
-  taken_for v own by_class is = grind (arith, named_for, no_data2, no_ack, plain_refused)
+  taken_for v own by_class is = grind (arith, no_data2, no_ack, plain_refused)
 
 -- ---- a DR ends the connection that it names
 
@@ -62,23 +56,16 @@ module _ (r source reason : ℕ) (user : List ℕ) (s : Carrier) (peer : ℕ) (l
   abbrev dr : Value
   dr = disconnect r source reason user
 
-  -- in class 2 its row is gone
-  gone_by : (k : Option Class) → k ≡ Some Two → RiseFrom 0 s.live → value_at r (leaves r peer reason k s).live ≡ None
-  gone_by k class rise = grind (arith, without_here)
-
   dr_two : (b : Bool) → s.class ≡ Some Two → RiseFrom 0 s.live → value_at r (in_two b dr s).live ≡ None
-  dr_two b class rise = grind (arith, gone_by)
+  dr_two b class rise = grind (arith, without_here)
 
   module _ (h : IsSound s) (lasted : s.ended ≡ None) (lasts : (react dr s).ended ≡ None)
       (still : value_at r (react dr s).live ≡ Some (linked peer link)) where
-    in_its_class : (k : Option Class) → s.class ≡ k → react dr s ≡ in_class k dr s
-    in_its_class k class = react_quiet dr s lasted ∙ ap (λ (x : Option Class). in_class x dr s) class
-
     not_open_by : ByClass s → ⊥
-    not_open_by (two class) = grind (arith, dr_two s.is_caller class h.orderly.rise, in_its_class (Some Two) class)
+    not_open_by (two class) = grind (arith, dr_two s.is_caller class h.orderly.rise, react_quiet)
     not_open_by (none live) = let both : None ≡ Some (linked peer link) = sym (ap (value_at r) live) ∙ here in cc
     not_open_by (asks q class caller live) = grind (arith, one_here)
-    not_open_by (zero q first old class flow live) = grind (arith, in_its_class (Some Zero) class)
+    not_open_by (zero q first old class flow live) = grind (arith, react_quiet)
 
     dr_not : ⊥
     dr_not = not_open_by h.by_class
@@ -115,9 +102,6 @@ module _ (is_caller : Bool) (r : ℕ) (some : 0 < r) (v : Value) (s : Carrier) (
       P (stage_at r s) q put (stage_at r t)
   life_between q put a b was then_is p = grind (arith, stage_at)
 
-  no_mark : (0 == r) ≡ false
-  no_mark = none_mark r some
-
   -- it is no DR for the connection
   abbrev IsNoDr : Type 0
   IsNoDr = (peer : ℕ) (link : Standing) → value_at r s.live ≡ Some (linked peer link) → is_dr r v ≡ false
@@ -127,17 +111,13 @@ module _ (is_caller : Bool) (r : ℕ) (some : 0 < r) (v : Value) (s : Carrier) (
   same_life q put other apart same deaf plain = search (arith, life_as)
 
   to_past : (units : List Value) → stage_at r t ≡ past → P (stage_at r s) 0 (marked 0 units) (stage_at r t)
-  to_past units is = grind (arith, life_to_past, no_mark, none_marked r units some)
-
-  live_given : (x : Connection) → value_at r s.live ≡ Some x → has_given r s ≡ true
-  live_given x here = grind (arith, given_is, beyond)
+  to_past units is = search (arith, life_to_past, none_marked r units some)
 
   acts_live : (units : List Value) → Acts r v units s t → t.ended ≡ None → P (stage_at r s) 0 (marked 0 units) (stage_at r t)
   acts_live units (over ended) lasts = to_past units (stage_over r t ended)
   acts_live units (rests live given told events others deaf) lasts =
-      same_life 0 (marked 0 units) no_mark (none_marked r units some)
-      (stage_is r t (value_at r s.live) (has_given r s) lasts given live
-      ∙ sym (stage_is r s (value_at r s.live) (has_given r s) lasted refl refl)) deaf
+      same_life 0 (marked 0 units) (grind (arith, none_mark)) (none_marked r units some)
+      (grind (arith, stage_is)) deaf
       (λ peer link here. no_dr r v s peer link h lasted lasts here live)
   acts_live units (joins called_end alone free given peer first fresh here events opener answer) lasts =
       let empty : value_at r s.live ≡ None = beyond r s.given s.live h.orderly.up_to (above_given r s.given some free) in
@@ -150,7 +130,7 @@ module _ (is_caller : Bool) (r : ℕ) (some : 0 < r) (v : Value) (s : Carrier) (
       (stage_is r t (Some (linked peer first)) (has_given r t) lasts refl here)
       (subst (λ (l : List Marked). P early 0 l (amid peer)) (append-nil (marked 0 units))
       (life_opens is_caller r peer v (marked 0 units) [] (opener is_caller) (none_marked r units some) tt answer))
-  acts_live units (leaves_it x here same shut) lasts = grind (arith, to_past, stage_is, live_given, past_shut)
+  acts_live units (leaves_it x here same shut) lasts = grind (arith, to_past, stage_is, given_is, beyond, past_shut)
 
   -- no link takes it
   passed_by : (units : List Value) (q : ℕ) (b : Bool) → (r == q) ≡ b → q ≡ connection_of v s → (o : Option EndReason) → t.ended ≡ o →
@@ -171,10 +151,9 @@ module _ (is_caller : Bool) (r : ℕ) (some : 0 < r) (v : Value) (s : Carrier) (
       let live : value_at r t.live ≡ value_at r s.live =
       ap (λ (c : Carrier). value_at r c.live) then_is ∙ put_other r q (linked peer (pumped (handed_out after))) s.live differ in
       let given : has_given r t ≡ has_given r s = ap (has_given r) then_is in
-      same_life q (marked q (written_by peer (handed_out after))) (other_mark q r differ)
+      same_life q (marked q (written_by peer (handed_out after))) (grind (arith, eqb-true))
       (other_marked q r (written_by peer (handed_out after)) differ)
-      (stage_is r t (value_at r s.live) (has_given r s) lasts given live
-      ∙ sym (stage_is r s (value_at r s.live) (has_given r s) lasted refl refl))
+      (grind (arith, stage_is))
       (elsewhere_deaf v s lasted lasts r h.by_class (λ same. differ (same ∙ sym own)))
       (λ p l there. link_no_dr q r v (taken_for s q peer link after here v own h.by_class took))
   taken_by_one q true is own peer link after here took then_is =
@@ -182,9 +161,7 @@ module _ (is_caller : Bool) (r : ℕ) (some : 0 < r) (v : Value) (s : Carrier) (
       let lasts : t.ended ≡ None = ap (λ (c : Carrier). c.ended) then_is ∙ lasted in
       let was : value_at r s.live ≡ Some (linked peer link) = ap (λ (n : ℕ). value_at n s.live) same ∙ here in
       let next = linked peer (pumped (handed_out after)) in
-      let now : value_at r t.live ≡ Some next =
-      ap (λ (c : Carrier). value_at r c.live) then_is ∙ ap (λ (n : ℕ). value_at n (put q next s.live)) same
-      ∙ put_here q next (linked peer link) s.live here in
+      let now : value_at r t.live ≡ Some next = grind (arith, put_here) in
       let units = written_by peer (handed_out after) in
       life_between q (marked q units) (amid peer) (amid peer) (stage_is r s (Some (linked peer link)) (has_given r s) lasted refl was)
       (stage_is r t (Some next) (has_given r t) lasts refl now)

@@ -1,15 +1,13 @@
 -- What each unit that arrives and each TSDU of a session leave true of a carrier, a turn of an end leaves true, whatever
 -- arrives and however much memory there is.
 -- For what an end puts that has no connection of class 0.
-use Rattle.std.proofs.Common.{arith}
-use Rattle.osi_honest.proofs.Vocabulary.{[], ap, Bool, false, if◌then◌else◌, inl, inr, is_some, length, List, None, Option, refl}
-use Rattle.osi_honest.proofs.Vocabulary.{Result, Some, subst, sym, true, ℕ, ◌∷◌, ◌≡◌, ◌⊎◌, ArePackets, Fed, units_of, Value, TpduFault}
-use Rattle.osi_honest.proofs.Vocabulary.{Happening, reacts, State as Carrier, EndReason, NoMemory, concluded_carrier, packet_is}
-use Rattle.osi_honest.proofs.Vocabulary.{quiet_stops, Carries, events_heard, session_carried, found_how, Feeds, Goes as GoesThrough}
-use Rattle.osi_honest.proofs.Vocabulary.{TakesPackets, after_packet, attends, ends, hears_all, hears_times, RunsOut, Starves, with_carrier}
-use Rattle.osi_honest.proofs.Vocabulary.{with_events, End, Holding, waits}
+use Rattle.osi_honest.proofs.Vocabulary.{[], ap, Bool, false, if◌then◌else◌, inl, inr, is_some, length, List, None, Option, refl, Some}
+use Rattle.osi_honest.proofs.Vocabulary.{subst, sym, true, ℕ, ◌∷◌, ◌≡◌, ◌⊎◌, ArePackets, Fed, Value, Happening, reacts, State as Carrier}
+use Rattle.osi_honest.proofs.Vocabulary.{EndReason, NoMemory, concluded_carrier, packet_is, quiet_stops, Carries, events_heard}
+use Rattle.osi_honest.proofs.Vocabulary.{session_carried, found_how, Feeds, Goes as GoesThrough, TakesPackets, after_packet, attends, ends}
+use Rattle.osi_honest.proofs.Vocabulary.{hears_all, hears_times, RunsOut, Starves, with_carrier, with_events, End, Holding, waits, arith}
+use Rattle.osi_honest.proofs.Vocabulary.{react}
 use Rattle.osi_carrier.specs.Packets as carriers
-use Rattle.osi_carrier.specs.React.{react}
 use Rattle.osi_carrier.specs.State as states
 
 -- what a carrier keeps as units arrive and sessions speak, whatever events are queued, and at its end
@@ -26,27 +24,18 @@ module _ (P : Carrier → Type 0) (kept : IsKept P) where
   kept_units [] c p = p
   kept_units (v ∷ units) c p = kept_units units (react v c) (kept.reacts_to v c p)
 
-  kept_acts : (units : Result (List Value) TpduFault) (c : Carrier) → P c → P (carriers.acts_by units c)
-  kept_acts h c p = grind (arith, kept_units)
-
   kept_packet : (u : List ℕ) (c : Carrier) → P c → P (carriers.after_packet c u)
   unfolding carriers.after_packet
-  kept_packet u c p = kept_acts (units_of u) c p
+  kept_packet u c p = grind (arith, kept_units)
 
   pub kept_out : (units : List Value) (old new : Carrier) → P old → carriers.RunsOut old units new → P new
   kept_out units old new p out = subst P (sym out.ended) (kept.ends_so NoMemory (reacts out.done old) (kept_units out.done old p))
-
-  kept_acts_or : (units : Result (List Value) TpduFault) (old new : Carrier) → P old → carriers.ActsBy units old new → P new
-  kept_acts_or h old new p is = grind (arith, kept_units, kept_out)
 
   -- ---- events and packets at the end
 
   kept_heard : (n : ℕ) (e : End) → P e.carrier → P (hears_times n e).carrier
   kept_heard n e p =
-      events_heard (λ x. P x.carrier) (λ events x q. kept.untold events x.carrier q) (record {
-        begins = λ r x none q. q;
-        moves = λ event x q. session_carried P kept.carries _ _ x q;
-      }) n e p
+      events_heard (λ x. P x.carrier) (λ events x q. kept.untold events x.carrier q) (grind (arith, session_carried)) n e p
 
   pub kept_attends : (e : End) → P e.carrier → P (attends e).carrier
   kept_attends e p = subst P (sym (concluded_carrier (hears_all e))) (kept_heard (length e.carrier.events) e p)
@@ -74,7 +63,7 @@ module _ (P : Carrier → Type 0) (kept : IsKept P) where
   kept_starves u old new p (inl (c, (units, is, out), there)) =
       subst (λ (x : End). P x.carrier) (sym there) (kept_attends (with_carrier c old) (kept_out units old.carrier c p out))
   kept_starves u old new p (inr (c, acts, out)) =
-      kept_runs_out c old new (kept_acts_or (units_of u) old.carrier c p acts) out
+      kept_runs_out c old new (grind (arith, kept_units, kept_out)) out
 
   -- ---- a piece
 

@@ -4,13 +4,12 @@
 use Rattle.osi_honest.proofs.Vocabulary.{[], ap, append_assoc, arith, Bool, drop, false, if◌then◌else◌, inl, inr, is_some, IsSome, length}
 use Rattle.osi_honest.proofs.Vocabulary.{List, None, Option, option_map, refl, Some, subst, sym, take, true, ℕ, ◌++◌, ◌∙◌, ◌∷◌, ◌≡◌, ◌⊎◌}
 use Rattle.osi_honest.proofs.Vocabulary.{append-nil, take-append-drop, take_all, AllByRecursion, IsOctets, ArePackets, Fed, tsap_octets}
-use Rattle.osi_honest.proofs.Vocabulary.{Tsap, acts_cases, may_connect, Happening, State as Carrier, EndReason, Broken, NoMemory, OpenError}
-use Rattle.osi_honest.proofs.Vocabulary.{called, awaits, concluded_carrier, packet_is, quiet_stops, Carries, events_heard, session_carried}
+use Rattle.osi_honest.proofs.Vocabulary.{Tsap, acts_cases, may_connect, Happening, State as Carrier, EndReason, NoMemory, OpenError, called}
+use Rattle.osi_honest.proofs.Vocabulary.{awaits, concluded_carrier, packet_is, quiet_stops, Carries, events_heard, session_carried}
 use Rattle.osi_honest.proofs.Vocabulary.{disconnect_carrier, none_ended, found_how, after_open, Feeds, Goes as GoesThrough, TakesPackets}
 use Rattle.osi_honest.proofs.Vocabulary.{uses_all, after_packet, attends, ends, hears_all, hears_times, RunsOut, Starves, with_carrier}
 use Rattle.osi_honest.proofs.Vocabulary.{with_events, IsAccepted, user_does, UserCall, calling, Call, Calls, carried_in, used_in, End}
-use Rattle.osi_honest.proofs.Vocabulary.{Holding, waits, ConnectError, Act, Acts, carried_by, Takes, Turn, used_by, serving, using}
-use Rattle.osi_carrier.specs.Calls.{asks}
+use Rattle.osi_honest.proofs.Vocabulary.{Holding, waits, ConnectError, Act, Acts, carried_by, Takes, Turn, used_by, serving, using, asks}
 use Rattle.osi_carrier.specs.Packets as carriers
 use Rattle.osi_carrier.specs.State as states
 use Rattle.osi_honest.specs.Talking as history
@@ -53,10 +52,7 @@ module _ (P : List (List ℕ) → Carrier → Type 0) (tracked : IsTracked P) wh
 
   heard : (us : List (List ℕ)) (n : ℕ) (e : End) → P us e.carrier → P us (hears_times n e).carrier
   heard us n e p =
-      events_heard (λ x. P us x.carrier) (λ events x q. tracked.untold us events x.carrier q) (record {
-        begins = λ r x none q. q;
-        moves = λ event x q. session_carried (P us) (tracked.carries us) _ _ x q;
-      }) n e p
+      events_heard (λ x. P us x.carrier) (λ events x q. tracked.untold us events x.carrier q) (grind (arith, session_carried)) n e p
 
   attended : (us : List (List ℕ)) (e : End) → P us e.carrier → P us (attends e).carrier
   attended us e p = subst (P us) (sym (concluded_carrier (hears_all e))) (heard us (length e.carrier.events) e p)
@@ -173,10 +169,8 @@ module _ (P : List (List ℕ) → Carrier → Type 0) (tracked : IsTracked P) wh
         by (Some reason) over b e =
             let k = f.over (ap is_some over) in
             as_used us [] (take fed.used piece) put (old.held.octets ++ take fed.used piece) old new
-            (subst (λ (x : Holding). P (us ++ []) x.end.carrier) (sym k.1)
-            (subst (λ (x : List (List ℕ)). P x old.end.carrier) (sym (append-nil us)) p)) refl
-            (λ lasts. absurd (never_lasts new.end.carrier.ended
-            (ap (λ (x : Holding). is_some x.end.carrier.ended) k.1 ∙ ap is_some over) lasts))
+            (grind (arith, append-nil)) refl
+            (grind (arith, never_lasts))
             is
         by None lasts true e =
             let k = f.waiting lasts e in
@@ -192,12 +186,9 @@ module _ (P : List (List ℕ) → Carrier → Type 0) (tracked : IsTracked P) wh
 
   -- ---- a call of the user
 
-  broken_end : (us : List (List ℕ)) (b : Bool) (e : End) → P us e.carrier → P us (if b then e else ends Broken e).carrier
-  broken_end us b e p = grind arith
-
   user_tracked : (us : List (List ℕ)) → AsksToo (P us) → (call : UserCall) (e : End) → IsAccepted call e → P us e.carrier →
       P us (user_does call e).carrier
-  user_tracked us too call e allowed p = grind (arith, may_of, session_carried, disconnect_carrier, broken_end)
+  user_tracked us too call e allowed p = grind (arith, may_of, session_carried, disconnect_carrier)
 
   pub turn_tracked : AllProper → (us : List (List ℕ)) → AsksToo (P us) → (turn : Turn) (old new : Holding) → P us old.end.carrier →
       Takes old turn new → Tracks P us turn.used turn.put old new

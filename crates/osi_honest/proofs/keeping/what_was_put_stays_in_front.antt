@@ -1,15 +1,12 @@
 -- What an end put stays in front of all that it puts later, whatever arrives and however much memory there is.
 -- For what an end puts first.
-use Rattle.std.proofs.Common.{arith}
-use Rattle.osi_honest.proofs.Vocabulary.{[], append_assoc, Bool, false, if◌then◌else◌, is_some, List, Option, Result, Some, true, ℕ, ◌++◌}
-use Rattle.osi_honest.proofs.Vocabulary.{◌+◌, ◌∷◌, confirm, data0, disconnect, disconnected, error, request, Value, Standing, accept}
-use Rattle.osi_honest.proofs.Vocabulary.{refuse, selected_by, Selection, LinkFault, Class, Two, Zero, closed_on, closes, sent_on}
-use Rattle.osi_honest.proofs.Vocabulary.{connection_by, answers, before_class, has_peer, in_class, in_two, in_zero, is_full, leaves}
-use Rattle.osi_honest.proofs.Vocabulary.{opens_by as opens, react_by, reacts, taking, to_asked, to_closing, to_connection, to_linked}
-use Rattle.osi_honest.proofs.Vocabulary.{to_only, to_reference, to_unknown, Rows, value_at, Connection, packets, State as Carrier, writes}
-use Rattle.osi_honest.proofs.Vocabulary.{Carries, TakesPackets, attends, RunsOut, Starves, with_carrier, End, IsPrefix}
-use Rattle.osi_tpdu.specs.Value.{Connect}
-use Rattle.osi_carrier.specs.React.{breaks, react}
+use Rattle.osi_honest.proofs.Vocabulary.{[], append_assoc, Bool, false, if◌then◌else◌, List, Option, Some, true, ℕ, ◌++◌, ◌+◌, ◌∷◌, confirm}
+use Rattle.osi_honest.proofs.Vocabulary.{data0, disconnect, disconnected, error, request, Value, Standing, accept, refuse, selected_by}
+use Rattle.osi_honest.proofs.Vocabulary.{Selection, LinkFault, Class, Two, Zero, closes, connection_by, answers, before_class, has_peer}
+use Rattle.osi_honest.proofs.Vocabulary.{in_class, in_two, is_full, leaves, reacts, to_asked, to_closing, to_linked, to_only, to_reference}
+use Rattle.osi_honest.proofs.Vocabulary.{to_unknown, Rows, Connection, packets, State as Carrier, writes, Carries, TakesPackets, attends}
+use Rattle.osi_honest.proofs.Vocabulary.{RunsOut, Starves, with_carrier, End, IsPrefix, arith, Connect, breaks}
+use Rattle.osi_carrier.specs.React.{react}
 use Rattle.osi_honest.proofs.keeping.what_a_unit_keeps_a_turn_keeps.{IsKept, kept_attends, kept_runs_out, kept_starves, kept_takes}
 use Rattle.osi_honest.proofs.keeping.what_a_unit_keeps_a_turn_keeps.{kept_units}
 
@@ -34,36 +31,26 @@ module _ (Q : List ℕ → Type 0) (on : (out : List ℕ) (units : List Value) �
   out_unknown (disconnect destination source reason user) s p = on s.outgoing (disconnected source destination ∷ []) p
   out_unknown unit s p = p
 
-  out_opens : (r : ℕ) (c : Connect) (class : Option Class) (s : Carrier) → Q s.outgoing → Q (opens r c class s).outgoing
-  out_opens r c class s p = grind arith
-
   out_asked : (r : ℕ) (unit : Value) (s : Carrier) → Q s.outgoing → Q (to_asked r unit s).outgoing
-  out_asked r unit s p = grind (arith, out_opens, out_unknown)
+  out_asked r unit s p = search (arith, out_unknown)
 
   out_breaks : (r peer : ℕ) (fault : LinkFault) (held : Option Class) (s : Carrier) → Q s.outgoing →
       Q (breaks r peer fault held s).outgoing
   out_breaks r peer fault (Some Two) s p = on s.outgoing (disconnect peer r 133 [] ∷ []) p
   out_breaks r peer fault held s p = p
 
-  out_taking : (r peer : ℕ) (result : Result Standing LinkFault) (s : Carrier) → Q s.outgoing → Q (taking r peer result s).outgoing
-  out_taking r peer result s p = grind (arith, out_breaks)
-
   out_leaves : (r peer reason : ℕ) (held : Option Class) (s : Carrier) → Q s.outgoing → Q (leaves r peer reason held s).outgoing
   out_leaves r peer reason (Some Two) s p = on s.outgoing (disconnected peer r ∷ []) p
   out_leaves r peer reason held s p = p
 
   out_linked : (r peer : ℕ) (link : Standing) (unit : Value) (s : Carrier) → Q s.outgoing → Q (to_linked r peer link unit s).outgoing
-  out_linked r peer link unit s p = grind (arith, out_leaves, out_taking)
+  out_linked r peer link unit s p = grind (arith, out_leaves, out_breaks)
 
   out_closing : (r : ℕ) (unit : Value) (s : Carrier) → Q s.outgoing → Q (to_closing r unit s).outgoing
   out_closing r unit s p = grind arith
 
-  out_connection : (r : ℕ) (at : Option Connection) (unit : Value) (s : Carrier) → Q s.outgoing →
-      Q (to_connection r at unit s).outgoing
-  out_connection r at unit s p = grind (arith, out_unknown, out_asked, out_linked, out_closing)
-
   out_reference : (r : ℕ) (unit : Value) (s : Carrier) → Q s.outgoing → Q (to_reference r unit s).outgoing
-  out_reference r unit s p = out_connection r (value_at r s.live) unit s p
+  out_reference r unit s p = grind (arith, out_unknown, out_asked, out_linked, out_closing)
 
   out_before : (is_caller : Bool) (unit : Value) (s : Carrier) → Q s.outgoing → Q (before_class is_caller unit s).outgoing
   out_before true (confirm destination c) s p = out_reference destination (confirm destination c) s p
@@ -74,10 +61,7 @@ module _ (Q : List ℕ → Type 0) (on : (out : List ℕ) (units : List Value) �
 
   out_only : (live : Rows Connection) (unit : Value) (s : Carrier) → Q s.outgoing → Q (to_only live unit s).outgoing
   out_only [] unit s p = p
-  out_only ((r, connection) ∷ rows) unit s p = out_connection r (Some connection) unit s p
-
-  out_zero : (is_caller : Bool) (unit : Value) (s : Carrier) → Q s.outgoing → Q (in_zero is_caller unit s).outgoing
-  out_zero is_caller unit s p = grind (arith, out_only)
+  out_only ((r, connection) ∷ rows) unit s p = grind (arith, out_unknown, out_asked, out_linked, out_closing)
 
   out_two : (is_caller : Bool) (unit : Value) (s : Carrier) → Q s.outgoing → Q (in_two is_caller unit s).outgoing
   out_two true (request c) s p = p
@@ -86,29 +70,20 @@ module _ (Q : List ℕ → Type 0) (on : (out : List ℕ) (units : List Value) �
   out_two is_caller unit s p = out_reference (connection_by (Some Two) unit s) unit s p
 
   out_class : (held : Option Class) (unit : Value) (s : Carrier) → Q s.outgoing → Q (in_class held unit s).outgoing
-  out_class held unit s p = grind (arith, out_before, out_zero, out_two)
-
-  out_by : (over : Bool) (unit : Value) (s : Carrier) → Q s.outgoing → Q (react_by over unit s).outgoing
-  out_by over unit s p = grind (arith, out_class)
+  out_class held unit s p = grind (arith, out_before, out_only, out_two)
 
   out_react : (unit : Value) (s : Carrier) → Q s.outgoing → Q (react unit s).outgoing
   unfolding react
-  out_react unit s p = out_by (is_some s.ended) unit s p
+  out_react unit s p = grind (arith, out_class)
 
   -- ---- what a session sends
-
-  out_sent : (r : ℕ) (tsdu : List ℕ) (link : Option (ℕ × Standing)) (s : Carrier) → Q s.outgoing → Q (sent_on r tsdu link s).outgoing
-  out_sent r tsdu h s p = grind arith
 
   out_closes : (r peer reason : ℕ) (held : Option Class) (s : Carrier) → Q s.outgoing → Q (closes r peer reason held s).outgoing
   out_closes r peer reason (Some Zero) s p = p
   out_closes r peer reason held s p = on s.outgoing (disconnect peer r reason [] ∷ []) p
 
-  out_closed : (r reason : ℕ) (link : Option (ℕ × Standing)) (s : Carrier) → Q s.outgoing → Q (closed_on r reason link s).outgoing
-  out_closed r reason h s p = grind (arith, out_closes)
-
   out_carries : Carries (λ c. Q c.outgoing)
-  out_carries = grind (arith, out_sent, out_closed)
+  out_carries = grind (arith, out_closes)
 
   -- ---- all of it
 

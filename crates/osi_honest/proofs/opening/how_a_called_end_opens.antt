@@ -1,17 +1,14 @@
 -- A packet at a called end that waits for the first CR, and packets one after the other.
 -- For the turns of a called end.
 use Rattle.osi_honest.proofs.Vocabulary.{[], ap, arith, Bool, Err, false, if◌then◌else◌, IsSome, List, min, None, Ok, Option, option_map}
-use Rattle.osi_honest.proofs.Vocabulary.{refl, Result, Some, subst, sym, true, ℕ, ◌&&◌, ◌++◌, ◌+◌, ◌-◌, ◌<◌, ◌^◌, ◌∙◌, ◌∷◌, ◌≡◌, ◌≤◌}
-use Rattle.osi_honest.proofs.Vocabulary.{pow_mono, eq-eqb, append-nil, AllByRecursion, IfSome, IsOctets, units_found, size_code, AreUnits}
-use Rattle.osi_honest.proofs.Vocabulary.{units_of, confirm, disconnect, may_be_followed, request, Value, TpduFault, accept, proposes}
-use Rattle.osi_honest.proofs.Vocabulary.{refuse, selected_by, Selection, Class, Two, Zero, Local, react_quiet, reacts_over}
-use Rattle.osi_honest.proofs.Vocabulary.{told_opened as opened, acceptance, unit_octets, accepts, answers, before_class, denies, has_peer}
-use Rattle.osi_honest.proofs.Vocabulary.{is_full, reacts, Connection, packets, State as Carrier, awaits, packet_is, one_heard, TakesPackets}
-use Rattle.osi_honest.proofs.Vocabulary.{after_packet, attends, with_carrier, with_events, kept_at, End, fresh_line, joins, used_lines}
-use Rattle.osi_honest.proofs.Vocabulary.{IsOtherAnswer, Waits, one_open, IsPrefix, Extends, Talks}
-use Rattle.osi_tpdu.specs.Value.{Connect}
+use Rattle.osi_honest.proofs.Vocabulary.{refl, Result, Some, subst, sym, true, ℕ, ◌&&◌, ◌++◌, ◌+◌, ◌-◌, ◌<◌, ◌∙◌, ◌∷◌, ◌≡◌, ◌≤◌, pow_mono}
+use Rattle.osi_honest.proofs.Vocabulary.{append-nil, AllByRecursion, IfSome, IsOctets, units_found, size_code, AreUnits, units_of, confirm}
+use Rattle.osi_honest.proofs.Vocabulary.{disconnect, may_be_followed, request, Value, TpduFault, accept, proposes, refuse, selected_by}
+use Rattle.osi_honest.proofs.Vocabulary.{Selection, Class, Two, Zero, Local, react_quiet, reacts_over, told_opened as opened, acceptance}
+use Rattle.osi_honest.proofs.Vocabulary.{unit_octets, accepts, answers, before_class, denies, has_peer, is_full, reacts, packets}
+use Rattle.osi_honest.proofs.Vocabulary.{State as Carrier, awaits, packet_is, one_heard, TakesPackets, after_packet, attends, with_carrier}
+use Rattle.osi_honest.proofs.Vocabulary.{with_events, End, joins, IsOtherAnswer, Waits, one_open, IsPrefix, Extends, Talks, Connect, react}
 use Rattle.osi_carrier.specs.Packets as carriers
-use Rattle.osi_carrier.specs.React.{react}
 use Rattle.osi_honest.specs.Talking as history
 use Rattle.osi_honest.proofs.class_0.what_a_packet_does_in_class_0.{AllProper, Over, alone, attends_over, lasting}
 use Rattle.osi_honest.proofs.class_0.what_packets_do_in_class_0.{over_takes, packets_act}
@@ -54,8 +51,7 @@ enough None local h = omega arith
 enough (Some code) local h =
     let least = local.size.at_least in
     let both : 7 ≤ min code (size_code local.size) = let k : 7 ≤ code = h.0 in omega arith in
-    let p : 2 ^ 7 ≤ 2 ^ min code (size_code local.size) = pow_mono both in
-    omega arith
+    grind (arith, pow_mono both)
 
 selection_proposes : (a b e d : Bool) (size some : Option ℕ) →
     (if a then accept Two some else (if b && e then accept Zero some else (if d then refuse 0 else refuse 130))) ≡ accept Zero size →
@@ -144,13 +140,10 @@ pub data FirstPacket (u : List ℕ) (old new : End) : Type 0 where
   otherwise : TurnsAway old.carrier.outgoing new.carrier.outgoing → FirstPacket u old new
   at_the_end : IsSome new.carrier.ended → new.carrier.outgoing ≡ old.carrier.outgoing → FirstPacket u old new
 
-kept_joined : (r : ℕ) (x : Connection) → kept_at r (used_lines ((r, x) ∷ []) ((r, fresh_line awaits) ∷ [])) ≡ Some awaits
-kept_joined r x = rw (eq-eqb r r refl) (rw (eq-eqb r r refl) refl)
-
 opened_talks : (cr : Connect) (size : Option ℕ) (e : End) (d : Carrier) → Waits e → IsAccepted cr size e.carrier d →
     (attends (with_carrier d e) ≡ joins (e.carrier.given + 1) awaits (with_events [] (with_carrier d e)))
     × Talks (e.carrier.given + 1) awaits [] (joins (e.carrier.given + 1) awaits (with_events [] (with_carrier d e)))
-opened_talks cr size e d w a = grind (arith, one_heard, lasting, kept_joined)
+opened_talks cr size e d w a = grind (arith, one_heard, lasting)
 
 first_heard : (u : List ℕ) (e : End) (d : Carrier) → Waits e → FirstActed u e.carrier d → FirstPacket u e (attends (with_carrier d e))
 first_heard u e d w (accepted_in cr size is proposed a) =
@@ -158,12 +151,8 @@ first_heard u e d w (accepted_in cr size is proposed a) =
     opens_now cr size is proposed (ap (λ (x : End). x.carrier.outgoing) t.0 ∙ a.outgoing)
     (subst (Talks (e.carrier.given + 1) awaits []) (sym t.0) t.1)
 first_heard u e d w (elsewhere_in t) =
-    otherwise (turned_on e.carrier.outgoing d.outgoing (attends (with_carrier d e)).carrier.outgoing t
-    (λ octets p. ahead_attends octets (with_carrier d e) p))
+    otherwise (search (arith, turned_on, ahead_attends))
 first_heard u e d w (over_in p) = let q = attends_over e.carrier.outgoing (with_carrier d e) p in at_the_end q.0 q.1
-
-pub first_packet : (u : List ℕ) (e : End) → Waits e → IsOctets u → FirstPacket u e (after_packet e u)
-first_packet u e w octets = search (arith, packet_is, first_heard, acted_first)
 
 -- ---- packets one after the other
 
@@ -191,4 +180,4 @@ then_packets proper u units old mid new octets takes (at_the_end ended same) = g
 pub first_packets : AllProper → (units : List (List ℕ)) (old new : End) → Waits old → AllByRecursion IsOctets units →
     TakesPackets old units new → FirstStretch units old new
 first_packets proper [] old new w octets takes = nothing_came refl takes
-first_packets proper (u ∷ units) old new w octets takes = search (arith, then_packets, first_packet)
+first_packets proper (u ∷ units) old new w octets takes = search (arith, then_packets, packet_is, first_heard, acted_first)

@@ -1,19 +1,15 @@
 -- A packet at a calling end whose CR is not answered yet, and packets one after the other.
 -- For the turns of a calling end.
-use Rattle.std.proofs.Common.{arith}
-use Rattle.osi_honest.proofs.Vocabulary.{[], ap, Bool, Err, false, if◌then◌else◌, inl, inr, IsSome, List, map, None, Ok, Option, refl}
-use Rattle.osi_honest.proofs.Vocabulary.{Result, Some, subst, sym, true, ℕ, ◌&&◌, ◌++◌, ◌-◌, ◌==◌, ◌∙◌, ◌∷◌, ◌≡◌, ◌≤◌, eqb-true}
-use Rattle.osi_honest.proofs.Vocabulary.{AllByRecursion, IfSome, IsOctets, units_found, AreUnits, units_of, confirm, disconnect}
-use Rattle.osi_honest.proofs.Vocabulary.{disconnected, error, may_be_followed, Value, TpduFault, Class, Two, Zero, react_quiet, reacts_over}
-use Rattle.osi_honest.proofs.Vocabulary.{Happening, told_opened, agreed_size, confirmed, opened_link, unit_octets, before_class, opens_by}
-use Rattle.osi_honest.proofs.Vocabulary.{reacts, to_asked, to_connection, to_reference, to_unknown, put, value_at, without, asked}
-use Rattle.osi_honest.proofs.Vocabulary.{Connection, linked, packets, State as Carrier, after_input, Listener, linked_up as opened}
-use Rattle.osi_honest.proofs.Vocabulary.{session_react, is_wait_transport, packet_is, one_heard, TakesPackets, after_packet, attends}
-use Rattle.osi_honest.proofs.Vocabulary.{concludes, hears, opens_line, with_carrier, with_events, to_session, End, Line, session_in, sends}
-use Rattle.osi_honest.proofs.Vocabulary.{Asks, has_none, dt, IsOpenZero, Extends, Moves, Puts, Said, said_after, Talks}
-use Rattle.osi_tpdu.specs.Value.{Connect}
+use Rattle.osi_honest.proofs.Vocabulary.{[], ap, Bool, Err, false, if◌then◌else◌, inr, IsSome, List, None, Ok, Option, refl, Result, Some}
+use Rattle.osi_honest.proofs.Vocabulary.{subst, sym, true, ℕ, ◌&&◌, ◌-◌, ◌==◌, ◌∙◌, ◌∷◌, ◌≡◌, ◌≤◌, eqb-true, AllByRecursion, IfSome}
+use Rattle.osi_honest.proofs.Vocabulary.{IsOctets, units_found, AreUnits, units_of, confirm, disconnect, disconnected, error}
+use Rattle.osi_honest.proofs.Vocabulary.{may_be_followed, Value, TpduFault, Class, Two, Zero, react_quiet, reacts_over, told_opened}
+use Rattle.osi_honest.proofs.Vocabulary.{agreed_size, confirmed, before_class, opens_by, reacts, to_asked, to_connection, to_reference}
+use Rattle.osi_honest.proofs.Vocabulary.{to_unknown, value_at, without, asked, Connection, State as Carrier, after_input, Listener}
+use Rattle.osi_honest.proofs.Vocabulary.{linked_up as opened, session_react, is_wait_transport, packet_is, one_heard, TakesPackets}
+use Rattle.osi_honest.proofs.Vocabulary.{after_packet, attends, concludes, hears, with_carrier, with_events, to_session, End, sends, Asks}
+use Rattle.osi_honest.proofs.Vocabulary.{has_none, IsOpenZero, Extends, Moves, Puts, Said, said_after, Talks, arith, Connect, react}
 use Rattle.osi_carrier.specs.Packets as carriers
-use Rattle.osi_carrier.specs.React.{react}
 use Rattle.osi_honest.specs.Talking as history
 use Rattle.osi_honest.proofs.class_0.a_session_of_class_0_puts_what_it_sends.{IsProper, moves_from}
 use Rattle.osi_honest.proofs.opening.how_a_called_end_opens.{enough}
@@ -55,18 +51,7 @@ module _ (r : ℕ) (c : Carrier) (lasts : c.ended ≡ None) (live : c.live ≡ (
   by_answer destination answer (Some Two) e range = grind (arith, put_one)
   by_answer destination answer (Some Zero) e range =
       let size = agreed_size answer.parameters.size c.local in
-      confirms destination answer refl (confirmed_zero _ _ _ e) (record {
-        peer = answer.source;
-        limit = unit_octets size - 3;
-        is_open = record {
-          some = enough answer.parameters.size c.local range;
-          lasts = lasts;
-          live = ap (put r (linked answer.source (opened_link Zero size c.local answer.credit))) live ∙ put_one r _ asked;
-        };
-        class = refl;
-        told = ap (λ (events : List Happening). events ++ told_opened r ∷ []) quiet;
-        outgoing = refl;
-      })
+      confirms destination answer refl (confirmed_zero _ _ _ e) (grind (arith, enough, put_one))
 
   by_reference : (destination : ℕ) (answer : Connect) (b : Bool) → (r == destination) ≡ b →
       IfSome answer.parameters.size (λ code. (7 ≤ code) × (code ≤ 13)) →
@@ -147,16 +132,12 @@ data FirstPacket (r : ℕ) (session : Listener) (u : List ℕ) (old new : End) :
   otherwise : Elsewhere old.carrier.outgoing new.carrier → FirstPacket r session u old new
   at_the_end : IsSome new.carrier.ended → new.carrier.outgoing ≡ old.carrier.outgoing → FirstPacket r session u old new
 
-line_opens : (r : ℕ) (session : Listener) (e : End) (o : Option Line) → session_in o ≡ Some session →
-    opens_line r o e ≡ to_session r opened e
-line_opens r session e o h = grind arith
-
 opened_moves : (r : ℕ) (session : Listener) (e : End) (d : Carrier) → Asks r session e → CanBegin session → IsConfirmed r e.carrier d →
     (attends (with_carrier d e) ≡ concludes (to_session r opened (with_events [] (with_carrier d e)))) ×
     Moves r session [] opened (with_events [] (with_carrier d e)) (to_session r opened (with_events [] (with_carrier d e)))
 opened_moves r session e d w k a =
     let mid = with_events [] (with_carrier d e) in
-    let heard : hears (told_opened r) mid ≡ to_session r opened mid = line_opens r session mid (value_at r e.lines) w.here in (
+    let heard : hears (told_opened r) mid ≡ to_session r opened mid = grind arith in (
       ap concludes (one_heard (with_carrier d e) (told_opened r) a.told ∙ heard),
       moves_from r session [] opened mid a.peer a.limit
           (record { some = a.is_open.some; lasts = a.is_open.lasts; live = a.is_open.live }) a.class refl w.here k.then_begun k.proper,
@@ -168,25 +149,12 @@ first_heard : (r : ℕ) (session : Listener) (u : List ℕ) (e : End) (d : Carri
 first_heard r session u e d w k (confirms_in destination answer is zero a) =
     let m = opened_moves r session e d w k a in
     let there = to_session r opened (with_events [] (with_carrier d e)) in
-    let talks : Talks r (after_input session opened) [] there = elim m.1.then_is [
-      | inl x ↦ x.1
-      | inr x ↦ absurd (let both : true ≡ false = sym x.0 ∙ k.stays in cc)
-    ] in
+    let talks : Talks r (after_input session opened) [] there = grind arith in
     let same : attends (with_carrier d e) ≡ there = m.0 ∙ lasting there talks.is_open.lasts in
-    opens_now destination answer is zero (record {
-      parts = m.1.puts.parts;
-      carry = m.1.puts.carry;
-      short = m.1.puts.short;
-      outgoing = ap (λ (x : End). x.carrier.outgoing) same ∙ m.1.puts.outgoing
-          ∙ ap (λ (l : List ℕ). l ++ packets (map dt m.1.puts.parts)) a.outgoing;
-    }) (subst (Talks r (after_input session opened) []) (sym same) talks)
+    opens_now destination answer is zero (grind arith) (subst (Talks r (after_input session opened) []) (sym same) talks)
 first_heard r session u e d w k (elsewhere_in p) =
     otherwise (kept_attends (Elsewhere e.carrier.outgoing) (elsewhere_kept e.carrier.outgoing) (with_carrier d e) p)
 first_heard r session u e d w k (over_in p) = let q = attends_over e.carrier.outgoing (with_carrier d e) p in at_the_end q.0 q.1
-
-first_packet : (r : ℕ) (session : Listener) (u : List ℕ) (e : End) → Asks r session e → CanBegin session → IsOctets u →
-    FirstPacket r session u e (after_packet e u)
-first_packet r session u e w k octets = search (arith, packet_is, first_heard, acted_first)
 
 -- ---- packets one after the other
 
@@ -217,4 +185,4 @@ pub caller_packets : AllProper → (r : ℕ) (session : Listener) (units : List 
     CanBegin session → AllByRecursion IsOctets units →
     TakesPackets old units new → FirstStretch r session units old new
 caller_packets proper r session [] old new w k octets takes = nothing_came refl takes
-caller_packets proper r session (u ∷ units) old new w k octets takes = search (arith, then_packets, first_packet)
+caller_packets proper r session (u ∷ units) old new w k octets takes = search (arith, then_packets, packet_is, first_heard, acted_first)

@@ -44,10 +44,6 @@ or_right a b e = grind arith
 not_so : (b : Bool) → not b ≡ false → b ≡ true
 not_so b e = grind arith
 
-accepted_by : {E : Type 0} (profile few : Bool) (a b : E) → profile ≡ true → few ≡ true →
-    (if not profile then Some a else (if not few then Some b else None)) ≡ None
-accepted_by h few a b p q = grind arith
-
 abbrev with_selectors : Connect → Option (List ℕ) → Option (List ℕ) → Listener
 with_selectors c calling called = record (calls_with c) {
   waiting = Some (CN true (unit_bits c.requirements) (serial_for (functional_units (unit_bits c.requirements)) c.serial.number)
@@ -70,7 +66,6 @@ opens_so c h =
     let o : Opening = record (opening_of c) { calling_selector = calling.selector; called_selector = called.selector } in
     record {
       opening = o;
-      accepted = accepted_by (is_profile (unit_bits c.requirements)) (nat_le (length c.user_data.now) most_user_data)
-          _ _ terms.is_profile few;
+      accepted = grind arith;
       begins = (λ i. with_selectors c (calling.is i) (called.is i));
     }

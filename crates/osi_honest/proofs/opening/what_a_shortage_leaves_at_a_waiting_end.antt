@@ -1,13 +1,11 @@
 -- If memory runs out for the first packet at a called end that waits: nothing was put, or one answer, or first another
 -- answer to a CR than a CC of class 0.
 -- For the turns of a called end.
-use Rattle.std.proofs.Common.{arith}
-use Rattle.osi_honest.proofs.Vocabulary.{[], ap, inl, inr, is_some, IsSome, List, None, subst, sym, true, ℕ, ◌++◌, ◌+◌, ◌∙◌, ◌∷◌, ◌≡◌, ◌⊎◌}
+use Rattle.osi_honest.proofs.Vocabulary.{[], ap, inl, inr, is_some, IsSome, List, None, subst, sym, ℕ, ◌++◌, ◌+◌, ◌∙◌, ◌∷◌, ◌≡◌, ◌⊎◌}
 use Rattle.osi_honest.proofs.Vocabulary.{IsOctets, units_found, AreUnits, may_be_followed, Value, reacts_over, acts_cases}
 use Rattle.osi_honest.proofs.Vocabulary.{told_opened as opened, reacts, State as Carrier, NoMemory, attends, hears_times, RunsOut, Starves}
-use Rattle.osi_honest.proofs.Vocabulary.{with_carrier, End, Waits}
+use Rattle.osi_honest.proofs.Vocabulary.{with_carrier, End, Waits, arith, react}
 use Rattle.osi_carrier.specs.Packets as carriers
-use Rattle.osi_carrier.specs.React.{react}
 use Rattle.osi_carrier.specs.State.{ends}
 use Rattle.osi_honest.proofs.opening.how_a_called_end_opens.{FirstActed, FirstStretch, FirstUnit, TurnsAway, acted_first, answer_to}
 use Rattle.osi_honest.proofs.opening.how_a_called_end_opens.{first_range, turned_on, unit_first}
@@ -38,9 +36,7 @@ units_out u e (v ∷ done) next more d w us lasts is =
         inr (turned_on e.carrier.outgoing (react v e.carrier).outgoing d.outgoing t
         (λ octets p. subst (Ahead octets) (sym is) (ahead_reacts octets done (react v e.carrier) p)))
     by (at_an_end p) = absurd
-        (let over : is_some (reacts done (react v e.carrier)).ended ≡ true = ap (λ (x : Carrier). is_some x.ended)
-        (reacts_over done (react v e.carrier) p.0) ∙ p.0 in
-        let none = ap is_some lasts in cc)
+        (grind (arith, reacts_over))
 
 starved_first : (u : List ℕ) (e : End) (d : Carrier) → Waits e → IsOctets u → carriers.Starves e.carrier u d →
     Over e.carrier.outgoing d ⊎ TurnsAway e.carrier.outgoing d.outgoing

@@ -1,13 +1,11 @@
 -- If memory runs out for the first packet at a calling end whose CR is not answered yet: nothing was put, or first what is no
 -- DT of class 0.
 -- For the turns of a calling end.
-use Rattle.std.proofs.Common.{arith}
-use Rattle.osi_honest.proofs.Vocabulary.{[], ap, inl, inr, is_some, IsSome, List, None, subst, sym, true, ℕ, ◌++◌, ◌∙◌, ◌∷◌, ◌≡◌, IsOctets}
-use Rattle.osi_honest.proofs.Vocabulary.{units_found, AreUnits, may_be_followed, Value, reacts_over, acts_cases, told_opened as opened}
-use Rattle.osi_honest.proofs.Vocabulary.{reacts, State as Carrier, NoMemory, Listener, hears_times, RunsOut, Starves, with_carrier, End}
-use Rattle.osi_honest.proofs.Vocabulary.{Asks}
+use Rattle.osi_honest.proofs.Vocabulary.{[], ap, inl, inr, IsSome, List, None, subst, sym, ℕ, ◌++◌, ◌∙◌, ◌∷◌, ◌≡◌, IsOctets, units_found}
+use Rattle.osi_honest.proofs.Vocabulary.{AreUnits, may_be_followed, Value, reacts_over, acts_cases, told_opened as opened, reacts}
+use Rattle.osi_honest.proofs.Vocabulary.{State as Carrier, NoMemory, Listener, hears_times, RunsOut, Starves, with_carrier, End, Asks}
+use Rattle.osi_honest.proofs.Vocabulary.{arith, react}
 use Rattle.osi_carrier.specs.Packets as carriers
-use Rattle.osi_carrier.specs.React.{react}
 use Rattle.osi_carrier.specs.State.{ends}
 use Rattle.osi_honest.specs.Openings.{over}
 use Rattle.osi_honest.proofs.opening.how_a_caller_opens.{FirstActed, FirstUnit, acted_first, first_range, unit_first}
@@ -37,9 +35,7 @@ module _ (r : ℕ) (session : Listener) (u : List ℕ) (e : End) (w : Asks r ses
           (ends_elsewhere e.carrier.outgoing (reacts done (react v e.carrier))
           (kept_units (Elsewhere e.carrier.outgoing) (elsewhere_kept e.carrier.outgoing) done (react v e.carrier) p))
       by (at_an_end p) = absurd
-          (let gone : is_some (reacts done (react v e.carrier)).ended ≡ true = ap (λ (x : Carrier). is_some x.ended)
-          (reacts_over done (react v e.carrier) p.0) ∙ p.0 in
-          let none = ap is_some lasts in cc)
+          (grind (arith, reacts_over))
 
   starved_first : (d : Carrier) → IsOctets u → carriers.Starves e.carrier u d → Elsewhere e.carrier.outgoing d
   starved_first d octets (units, is, out) =
@@ -54,11 +50,10 @@ module _ (r : ℕ) (session : Listener) (u : List ℕ) (e : End) (w : Asks r ses
         RunsOut (with_carrier c e) new → Elsewhere e.carrier.outgoing new.carrier
     acted_out c (confirms_in destination answer is zero a) same out =
         let queued = ap (λ (x : Carrier). x.events) same ∙ a.told in
-        inr (
-          over ended,
-          ap (λ (x : End). x.carrier.outgoing) out.starved ∙ starves_same out.more (hears_times out.heard (with_carrier c e))
-              ∙ one_out out.heard (opened r) (with_carrier c e) out.event out.more queued out.waits
-              ∙ ap (λ (x : Carrier). x.outgoing) same ∙ a.outgoing,
+        grind (
+          arith,
+          starves_same out.more (hears_times out.heard (with_carrier c e)),
+          one_out out.heard (opened r) (with_carrier c e) out.event out.more queued out.waits,
         )
     acted_out c (elsewhere_in p) same out = out_then c (subst (Elsewhere e.carrier.outgoing) (sym same) p) out
     acted_out c (over_in p) same out = grind (arith, out_then c (subst (Elsewhere e.carrier.outgoing) (sym same) (inr (over p.0, p.1))) out)
@@ -66,8 +61,7 @@ module _ (r : ℕ) (session : Listener) (u : List ℕ) (e : End) (w : Asks r ses
     pub starved_asking : Starves e u new → Elsewhere e.carrier.outgoing new.carrier
     starved_asking (inl (c, starved, is)) =
         subst (λ (x : End). Elsewhere e.carrier.outgoing x.carrier) (sym is)
-        (kept_attends (Elsewhere e.carrier.outgoing) (elsewhere_kept e.carrier.outgoing) (with_carrier c e)
-        (starved_first c octets starved))
+        (search (arith, kept_attends, elsewhere_kept e.carrier.outgoing, starved_first c octets starved))
     starved_asking (inr (c, acts, out)) = elim (acts_cases e.carrier c u acts) [
       | inl is ↦ acted_out c (acted_first r session u e w octets) is out
       | inr starved ↦ out_then c (starved_first c octets starved) out

@@ -2,19 +2,17 @@
 -- For the laws of an end and its captures.
 use Rattle.osi_honest.proofs.Vocabulary.{[], ap, arith, Bool, drop, false, if◌then◌else◌, inl, inr, is_some, IsSome, length, List, map}
 use Rattle.osi_honest.proofs.Vocabulary.{None, not, Option, refl, Some, subst, sym, take, true, ℕ, ◌++◌, ◌==◌, ◌∙◌, ◌∷◌, ◌≡◌, ◌≢◌, ◌≤◌, ◌⊎◌}
-use Rattle.osi_honest.proofs.Vocabulary.{eq-eqb, eqb-true, leb-true, ltb-false, not-false, append-nil, append_cancel_left, map-append}
-use Rattle.osi_honest.proofs.Vocabulary.{take_all, ArePackets, Fed, Standing, closed_on, closed_with, link_of, open_link, or_else, asked}
-use Rattle.osi_honest.proofs.Vocabulary.{packets, State as Carrier, EndReason, NoMemory, OpenError, Ended, Negotiating, NotCaller}
-use Rattle.osi_honest.proofs.Vocabulary.{sent_alone, IsAddress, IsSendable, asked_sendable, Listener, linked_up as opened}
-use Rattle.osi_honest.proofs.Vocabulary.{is_wait_transport, BadState, NoSuchConnection, sent_short, SpduLaws, lasting_of, or_first}
-use Rattle.osi_honest.proofs.Vocabulary.{or_second, quiet_stops, kept_first, says_is, disconnect_carrier, disconnect_is, given_other}
-use Rattle.osi_honest.proofs.Vocabulary.{none_ended, found_how, after_open, asked_for, calls_with, connect_error, is_long_address}
-use Rattle.osi_honest.proofs.Vocabulary.{terms_error, without_first, disconnect_error, disconnects, gives_up, Feeds, Goes as GoesThrough}
-use Rattle.osi_honest.proofs.Vocabulary.{uses_all, ends, Starves, IsAccepted, AreShort, user_does, UserCall, breaking, calling, connecting}
-use Rattle.osi_honest.proofs.Vocabulary.{disconnecting, Call, Calls, carried_in, used_in, carrying, feeding, telling, End, Holding}
-use Rattle.osi_honest.proofs.Vocabulary.{session_at, session_in, waits, Request as Connect, ConnectError, NotSelected, TooLong, sends}
-use Rattle.osi_honest.proofs.Vocabulary.{AskingTurn, Asks, goes_away, is_answered, turns_aside, Carry, dt, octets_said, Act, Acts}
-use Rattle.osi_honest.proofs.Vocabulary.{carried_by, Takes, Turn, used_by, serving, using}
+use Rattle.osi_honest.proofs.Vocabulary.{eq-eqb, eqb-true, leb-true, not-false, append-nil, append_cancel_left, map-append, take_all}
+use Rattle.osi_honest.proofs.Vocabulary.{ArePackets, Fed, Standing, closed_with, open_link, packets, NoMemory, sent_alone, IsSendable}
+use Rattle.osi_honest.proofs.Vocabulary.{asked_sendable, Listener, linked_up as opened, is_wait_transport, BadState, NoSuchConnection}
+use Rattle.osi_honest.proofs.Vocabulary.{sent_short, SpduLaws, lasting_of, or_first, or_second, quiet_stops, kept_first, says_is}
+use Rattle.osi_honest.proofs.Vocabulary.{disconnect_carrier, disconnect_is, given_other, none_ended, found_how, asked_for, calls_with}
+use Rattle.osi_honest.proofs.Vocabulary.{connect_error, terms_error, without_first, disconnect_error, disconnects, gives_up, Feeds}
+use Rattle.osi_honest.proofs.Vocabulary.{Goes as GoesThrough, uses_all, ends, Starves, IsAccepted, AreShort, user_does, UserCall, breaking}
+use Rattle.osi_honest.proofs.Vocabulary.{calling, connecting, disconnecting, Call, Calls, carried_in, used_in, carrying, feeding, telling}
+use Rattle.osi_honest.proofs.Vocabulary.{End, Holding, session_at, waits, Request as Connect, sends, AskingTurn, Asks, goes_away}
+use Rattle.osi_honest.proofs.Vocabulary.{is_answered, turns_aside, Carry, dt, octets_said, Act, Acts, carried_by, Takes, Turn, used_by}
+use Rattle.osi_honest.proofs.Vocabulary.{serving, using}
 unfoldable use Rattle.osi_message.specs.Written.{unit_of, user_data_of}
 use Rattle.osi_message.specs.Written.{written}
 unfoldable use Rattle.osi_session.specs.Listening.{react}
@@ -32,15 +30,9 @@ use Rattle.osi_honest.proofs.class_0.what_a_turn_does_in_class_0.{stopped_within
 
 -- ---- the CN of a request that was accepted
 
-address_fits : (o : Option (List ℕ)) → is_long_address o ≡ false → IsAddress o
-address_fits o h = grind (arith, ltb-false)
-
-terms_by : (b long : Bool) → (if not b then Some NotSelected else (if long then Some TooLong else None)) ≡ None → long ≡ false
-terms_by b long h = grind arith
-
 cn_sendable : (c : Connect) → terms_error c ≡ None → IsSendable (asked_for c)
 unfolding user_data_of
-cn_sendable c h = grind (arith, terms_by, or_second, leb-true, not-false, asked_sendable, address_fits, or_first)
+cn_sendable c h = search (arith, or_second, leb-true, not-false, asked_sendable, or_first)
 
 cn_short : SpduLaws → (c : Connect) → terms_error c ≡ None → length (written (asked_for c)) ≤ 1048576
 unfolding unit_of
@@ -81,8 +73,7 @@ module _ (r : ℕ) (session : Listener) where
       let tsdus = sends session opened in
       let both = put_more tsdus (octets_said x.told) old.end.carrier mid.carrier new.end.carrier puts x.puts in
       let octets : tsdus ++ octets_said x.told ≡ octets_said (cn_said session ++ x.told) =
-      ap (λ (l : List (List ℕ)). l ++ octets_said x.told) (sym (said_octets 0 tsdus))
-      ∙ sym (map-append (λ s. s.octets) (cn_said session) x.told) in
+      grind (arith, said_octets, map-append, cn_said) in
       is_answered (record {
         destination = destination;
         answer = answer;
@@ -159,8 +150,7 @@ module _ (r : ℕ) (session : Listener) where
         let s = stopped_within session r [] [] [] proper session history.begins piece used old new stop new.end.carrier.ended
         (uses_all new.end) refl refl in
         as_asking stop.units (take used piece) put s.rest old new w
-        (caller_packets proper r session stop.units old.end new.end w begins
-        (all_octets stop.units _ _ stop.packets) stop.taken) s.cut s.held is
+        (search (arith, caller_packets, all_octets)) s.cut s.held is
     goes_asking piece put used old new w (inr (inl f)) is =
         let ended = ap (λ (e : End). is_some e.carrier.ended) f.ended in
         let s = caller_packets proper r session f.units old.end f.before w begins (all_octets f.units _ _ f.cut.1) f.taken in
@@ -190,35 +180,21 @@ module _ (r : ℕ) (session : Listener) where
         AskingTurn r session (used_in call) put old new
     serving_asking (feeding piece fed) put old new w c is = feed_asking piece put fed old new (waits old.end.lines) refl w c is
     serving_asking (telling shown) put old new w c is =
-        let still : Asks r session (record old.end { lines = without_first old.end.lines }) = record {
-          lasts = w.lasts;
-          is_caller = w.is_caller;
-          class = w.class;
-          live = w.live;
-          told = w.told;
-          here = kept_first r old.end.lines ∙ w.here;
-        } in
+        let still : Asks r session (record old.end { lines = without_first old.end.lines }) = grind (arith, kept_first) in
         still_asks r session [] put old new (subst (λ (x : Holding). Asks r session x.end) (sym c.1) still) refl is
         (ap (λ (x : Holding). x.end.carrier.outgoing) c.1) (ap (λ (x : Holding). x.held.octets) c.1)
     serving_asking (carrying octets) put old new w c is = search (arith, none_put, append-nil)
 
   -- ---- a call of the user
 
-  no_link_in : (q : ℕ) (b : Bool) → link_of (if b then Some asked else None) ≡ None
-  no_link_in q b = grind arith
-
   no_links : (q : ℕ) (e : End) → Asks r session e → open_link q e.carrier ≡ None
-  no_links q e w = grind (arith, no_link_in)
+  no_links q e w = grind arith
 
   not_open : (o : Option (ℕ × Standing)) → IsSome o → o ≡ None → ⊥
   not_open o some none = grind arith
 
-  one_request : (b : Bool) (o : Option EndReason) (e : Option OpenError) (error : Option ConnectError) → b ≡ true → o ≡ None →
-      after_open (if not b then Some NotCaller else (if is_some o then Some Ended else or_else (Some Negotiating) e)) error ≡ None → ⊥
-  one_request b o e error side lasts h = grind arith
-
   no_request : (c : Connect) (e : End) → Asks r session e → connect_error c e ≡ None → ⊥
-  no_request c e w h = grind (arith, one_request)
+  no_request c e w h = grind arith
 
   not_given_up : (given waiting : Bool) → waiting ≡ true →
       (if not given then Some NoSuchConnection else (if waiting then Some BadState else None)) ≡ None → ⊥
@@ -234,20 +210,13 @@ module _ (r : ℕ) (session : Listener) where
   give_asking q true put old new e waiting w allowed is outgoing = search (arith, eqb-true, asked_at, not_given_up)
   give_asking q false put old new e waiting w allowed is outgoing =
       let ne : r ≢ q = (λ same. let both : true ≡ false = sym (eq-eqb r q same) ∙ e in cc) in
-      let rests : closed_with q 128 old.end.carrier ≡ old.end.carrier = ap (λ o. closed_on q 128 o old.end.carrier)
-      (no_links q old.end w) in
+      let rests : closed_with q 128 old.end.carrier ≡ old.end.carrier = grind (arith, no_links) in
       let carrier : (disconnects q old.end).carrier ≡ old.end.carrier = disconnect_carrier q old.end ∙ rests in
-      let there : new.end ≡ record { carrier = old.end.carrier; lines = gives_up q old.end.lines } =
-      ap (λ (x : Holding). x.end) is ∙ disconnect_is q old.end (ap (λ (c : Carrier). c.ended) carrier ∙ w.lasts)
-      ∙ (λ i. record { carrier = rests i; lines = gives_up q old.end.lines }) in
-      still_asks r session [] put old new (subst (Asks r session) (sym there) (record {
-        lasts = w.lasts;
-        is_caller = w.is_caller;
-        class = w.class;
-        live = w.live;
-        told = w.told;
-        here = ap session_in (given_other r q old.end.lines ne) ∙ w.here;
-      })) refl outgoing (ap (λ (x : End). x.carrier.outgoing) there) (ap (λ (x : Holding). x.held.octets) is)
+      let there : new.end ≡ record { carrier = old.end.carrier; lines = gives_up q old.end.lines } = grind (arith, disconnect_is) in
+      still_asks r session [] put old new (grind (
+        arith,
+        given_other,
+      )) refl outgoing (ap (λ (x : End). x.carrier.outgoing) there) (ap (λ (x : Holding). x.held.octets) is)
 
   using_asking : (call : UserCall) (put : List ℕ) (old new : Holding) → is_wait_transport session.state.phase ≡ true →
       Asks r session old.end → IsAccepted call old.end →

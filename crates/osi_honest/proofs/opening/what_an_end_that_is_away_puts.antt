@@ -1,11 +1,11 @@
 -- The turns of a calling end that has no connection of class 0: it puts nothing, or first what is no DT of class 0.
 -- For what a calling end did in all.
 use Rattle.std.proofs.Common.{arith}
-use Rattle.osi_honest.proofs.Vocabulary.{[], ap, append_assoc, Bool, if◌then◌else◌, inl, inr, is_some, List, option_map, refl, subst, sym}
-use Rattle.osi_honest.proofs.Vocabulary.{ℕ, ◌++◌, ◌+◌, ◌∙◌, ◌∷◌, ◌≡◌, ◌⊎◌, packet_of, tsap_octets, request, Value, written, proposal}
-use Rattle.osi_honest.proofs.Vocabulary.{Broken, session_carried, disconnect_carrier, connects, ends, user_does, UserCall, breaking}
-use Rattle.osi_honest.proofs.Vocabulary.{calling, connecting, disconnecting, Call, Calls, carried_in, put_back, carrying, feeding, telling}
-use Rattle.osi_honest.proofs.Vocabulary.{End, Holding, IsAway, IsNoData, put_along, Act, Acts, carried_by, Run, Takes, Turn, serving, using}
+use Rattle.osi_honest.proofs.Vocabulary.{[], ap, append_assoc, if◌then◌else◌, inl, inr, List, option_map, refl, subst, sym, ℕ, ◌++◌, ◌+◌}
+use Rattle.osi_honest.proofs.Vocabulary.{◌∙◌, ◌∷◌, ◌≡◌, ◌⊎◌, packet_of, tsap_octets, request, Value, written, proposal, session_carried}
+use Rattle.osi_honest.proofs.Vocabulary.{disconnect_carrier, connects, user_does, UserCall, breaking, calling, connecting, disconnecting}
+use Rattle.osi_honest.proofs.Vocabulary.{Call, Calls, carried_in, put_back, carrying, feeding, telling, End, Holding, IsAway, IsNoData}
+use Rattle.osi_honest.proofs.Vocabulary.{put_along, Act, Acts, carried_by, Run, Takes, Turn, serving, using}
 use Rattle.osi_honest.proofs.keeping.what_a_unit_keeps_a_turn_keeps.{kept_feeds}
 use Rattle.osi_honest.proofs.opening.what_an_asking_end_does.{none_put}
 use Rattle.osi_honest.proofs.opening.what_an_end_without_class_0_puts.{Elsewhere, elsewhere_kept, put_first, put_now}
@@ -37,9 +37,6 @@ away_call (feeding piece fed) put old new away c is =
 away_call (telling shown) put old new away c is = grind (arith, none_put)
 away_call (carrying octets) put old new away c is = grind (arith, not_handed, none_put)
 
-broken_end : (octets : List ℕ) (b : Bool) (e : End) → Elsewhere octets e.carrier → Elsewhere octets (if b then e else ends Broken e).carrier
-broken_end octets b e p = grind (arith, elsewhere_kept)
-
 away_user : (call : UserCall) (e : End) → IsAway e.carrier → Elsewhere e.carrier.outgoing (user_does call e).carrier
 away_user (connecting c) e away =
     put_now e.carrier.outgoing (request (proposal e.carrier.local e.carrier.class (option_map tsap_octets c.calling_tsap)
@@ -49,7 +46,7 @@ away_user (calling r call) e away = grind (arith, session_carried, elsewhere_kep
 away_user (disconnecting r) e away =
     subst (Elsewhere e.carrier.outgoing) (sym (disconnect_carrier r e))
     ((elsewhere_kept e.carrier.outgoing).carries.closes r e.carrier (inr (away, refl)))
-away_user breaking e away = broken_end e.carrier.outgoing (is_some e.carrier.ended) e (inr (away, refl))
+away_user breaking e away = grind (arith, elsewhere_kept)
 
 away_turn : (turn : Turn) (old new : Holding) → IsAway old.end.carrier → Takes old turn new → AwayTurn turn.put new
 away_turn turn old new away takes = by takes.act takes.acts takes.put

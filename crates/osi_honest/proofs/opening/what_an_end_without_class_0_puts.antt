@@ -1,22 +1,17 @@
 -- A calling end that has no connection of class 0, and asks for none, puts nothing, or first what is no DT of class 0.
 -- For what a calling end puts whose request was refused, or accepted in class 2.
-use Rattle.std.proofs.Common.{arith}
 use Rattle.osi_honest.proofs.Vocabulary.{[], ap, append_assoc, Bool, Err, false, if◌then◌else◌, inl, inr, is_some, IsSome, List, map, None}
 use Rattle.osi_honest.proofs.Vocabulary.{not, Ok, Option, refl, Some, subst, sym, true, ℕ, ◌&&◌, ◌++◌, ◌==◌, ◌||◌, ◌∙◌, ◌∷◌, ◌≡◌, ◌⊎◌}
-use Rattle.osi_honest.proofs.Vocabulary.{append-nil, append_cancel_left, packet_of, acknowledge, confirm, data0, data2, disconnect}
-use Rattle.osi_honest.proofs.Vocabulary.{disconnected, error, request, Value, written, move_same, drained_leaves, drained_moves}
-use Rattle.osi_honest.proofs.Vocabulary.{giving_leaves, all_given, Given, is_of_two, Standing, taken, unit_of, with_tsdu, give_out}
-use Rattle.osi_honest.proofs.Vocabulary.{MovesAlong, take_in, LinkFault, Class, Two, Zero, react_quiet, reacts_over, closed_on, closes}
-use Rattle.osi_honest.proofs.Vocabulary.{link_of, open_link, sent_on, Happening, confirmed, proposes_two}
-use Rattle.osi_honest.proofs.Vocabulary.{selects_expedited, pumped, written_by, before_class, handed_out, in_two, leaves}
-use Rattle.osi_honest.proofs.Vocabulary.{opens_by as opens, pumps, settles, taking, to_asked, to_closing, to_connection, to_linked}
-use Rattle.osi_honest.proofs.Vocabulary.{to_reference, to_unknown, put, Rows, value_at, without, asked, closing, Connection, linked}
-use Rattle.osi_honest.proofs.Vocabulary.{packets, State as Carrier, EndReason, AllHaveFlow, has_none, has_two, HasFlow, IsAway, IsNoData}
-use Rattle.osi_tpdu.specs.Value.{Connect}
-use Rattle.osi_carrier.specs.React.{breaks, react}
+use Rattle.osi_honest.proofs.Vocabulary.{append-nil, append_cancel_left, packet_of, acknowledge, confirm, data2, disconnect, disconnected}
+use Rattle.osi_honest.proofs.Vocabulary.{error, Value, written, move_same, drained_leaves, drained_moves, all_given, Given, Standing, taken}
+use Rattle.osi_honest.proofs.Vocabulary.{unit_of, with_tsdu, give_out, MovesAlong, take_in, LinkFault, Class, Two, Zero, react_quiet}
+use Rattle.osi_honest.proofs.Vocabulary.{reacts_over, closed_on, closes, link_of, open_link, sent_on, Happening, pumped, written_by}
+use Rattle.osi_honest.proofs.Vocabulary.{before_class, handed_out, in_two, leaves, opens_by as opens, pumps, settles, taking, to_connection}
+use Rattle.osi_honest.proofs.Vocabulary.{to_linked, to_reference, to_unknown, put, Rows, value_at, without, asked, closing, Connection}
+use Rattle.osi_honest.proofs.Vocabulary.{linked, packets, State as Carrier, EndReason, AllHaveFlow, has_none, has_two, HasFlow, IsAway}
+use Rattle.osi_honest.proofs.Vocabulary.{IsNoData, arith, Connect, breaks, react}
 use Rattle.osi_carrier.specs.State.{ends}
 use Rattle.osi_honest.specs.Openings.{over}
-use Rattle.osi_honest.proofs.class_0.what_a_packet_does_in_class_0.{no_link}
 use Rattle.osi_honest.proofs.keeping.what_a_unit_keeps_a_turn_keeps.{IsKept}
 use Rattle.osi_honest.proofs.class_0.what_class_0_writes_of_a_tsdu.{packets_joined}
 use Rattle.osi_honest.proofs.keeping.what_was_put_stays_in_front.{Ahead, ahead_kept}
@@ -58,13 +53,10 @@ abbrev NoneOfZero : List Value → Type 0
 NoneOfZero [] = Unit {0}
 NoneOfZero (v ∷ vs) = IsNoData v
 
-given_two : (peer : ℕ) (g : Given) → is_of_two g ≡ true → IsNoData (unit_of peer g)
-given_two peer g e = grind arith
-
 gives_two : (peer : ℕ) (units : List Given) (s t : Standing) → is_some s.flow ≡ true → MovesAlong s (map give_out units) t →
     NoneOfZero (map (unit_of peer) units)
 gives_two peer [] s t flow moves = tt
-gives_two peer (g ∷ units) s t flow moves = given_two peer g ((giving_leaves s moves.0 g moves.1).unit ∙ flow)
+gives_two peer (g ∷ units) s t flow moves = grind arith
 
 -- ---- what was put, and how the end stands
 
@@ -115,9 +107,6 @@ module _ (octets : List ℕ) where
     still : Elsewhere octets c
     still = inr (has_two lasts side class all, same)
 
-    two_fails : (d : Carrier) → IsSome d.ended → d.outgoing ≡ c.outgoing → Elsewhere octets d
-    two_fails d ended is = gone c d ended is same
-
     two_live : (d : Carrier) → d.ended ≡ c.ended → d.is_caller ≡ c.is_caller → d.class ≡ c.class → AllHaveFlow d.live →
         d.outgoing ≡ c.outgoing → Elsewhere octets d
     two_live d ended is_caller known flow is = inr (has_two (ended ∙ lasts) (is_caller ∙ side) (known ∙ class) flow, is ∙ same)
@@ -125,30 +114,14 @@ module _ (octets : List ℕ) where
     two_unknown : (v : Value) → Elsewhere octets (to_unknown v c)
     two_unknown (disconnect destination source reason user) = put_now (disconnected source destination) [] c _ tt same refl
     two_unknown (disconnected destination source) = still
-    two_unknown _ = two_fails _ refl refl
+    two_unknown _ = grind (arith, gone)
 
     two_opens : (r : ℕ) (cr : Connect) (o : Option Class) → (o ≡ Some Zero → ⊥) → Elsewhere octets (opens r cr o c)
-    two_opens r cr o never = grind (arith, two_fails, flow_put)
+    two_opens r cr o never = grind (arith, flow_put)
 
     two_drops : (r : ℕ) (d : Carrier) → d.ended ≡ c.ended → d.is_caller ≡ c.is_caller → d.class ≡ c.class → d.live ≡ without r c.live →
         d.outgoing ≡ c.outgoing → Elsewhere octets d
     two_drops r d ended is_caller known live is = grind (arith, two_live, flow_without)
-
-    two_asked : (r : ℕ) (v : Value) → Elsewhere octets (to_asked r v c)
-    two_asked r (confirm destination cr) = two_opens r cr (confirmed cr c.local c.class) (never_zero cr)
-      where
-        never_zero : (cr : Connect) → confirmed cr c.local c.class ≡ Some Zero → ⊥
-        never_zero cr e =
-            never_confirmed ((cr.class == 2) && (proposes_two c.local && not (selects_expedited cr.parameters.additional))) (cr.class == 0)
-            (c.local.class0) (c.local.class2)
-            (ap (λ (x : Option Class). confirmed cr c.local x) (sym class) ∙ e)
-    two_asked r (disconnect destination source reason user) = two_drops r _ refl refl refl refl refl
-    two_asked r (error destination cause) = two_drops r _ refl refl refl refl refl
-    two_asked r (request cr) = two_unknown (request cr)
-    two_asked r (disconnected destination source) = two_unknown (disconnected destination source)
-    two_asked r (data0 end user) = two_unknown (data0 end user)
-    two_asked r (data2 destination number end user) = two_unknown (data2 destination number end user)
-    two_asked r (acknowledge credit destination number) = two_unknown (acknowledge credit destination number)
 
     two_breaks : (r peer : ℕ) (fault : LinkFault) → Elsewhere octets (breaks r peer fault c.class c)
     two_breaks r peer fault =
@@ -187,16 +160,11 @@ module _ (octets : List ℕ) where
     two_linked r peer link (disconnect destination source reason user) flow = two_leaves r peer reason
     two_linked r peer link v flow = two_taking r peer link v flow _ refl
 
-    two_closing : (r : ℕ) (v : Value) → Elsewhere octets (to_closing r v c)
-    two_closing r (disconnected destination source) = two_drops r _ refl refl refl refl refl
-    two_closing r (disconnect destination source reason user) = two_drops r _ refl refl refl refl refl
-    two_closing r _ = still
-
     two_connection : (r : ℕ) (at : Option Connection) → value_at r c.live ≡ at → (v : Value) → Elsewhere octets (to_connection r at v c)
     two_connection r None e v = two_unknown v
-    two_connection r (Some asked) e v = two_asked r v
+    two_connection r (Some asked) e v = grind (arith, two_opens, never_confirmed, two_drops, two_unknown)
     two_connection r (Some (linked peer link)) e v = two_linked r peer link v (flow_at r (linked peer link) c.live all e)
-    two_connection r (Some (closing peer)) e v = two_closing r v
+    two_connection r (Some (closing peer)) e v = grind (arith, two_drops, still)
 
     two_reference : (r : ℕ) (v : Value) → Elsewhere octets (to_reference r v c)
     two_reference r v = two_connection r (value_at r c.live) refl v
@@ -208,7 +176,7 @@ module _ (octets : List ℕ) where
     by_two (data2 destination number end user) = two_reference destination (data2 destination number end user)
     by_two (acknowledge credit destination number) = two_reference destination (acknowledge credit destination number)
     by_two (error destination cause) = two_reference destination (error destination cause)
-    by_two _ = two_fails _ refl refl
+    by_two _ = grind (arith, gone)
 
     two_reacts : (v : Value) → Elsewhere octets (react v c)
     two_reacts v = grind (arith, react_quiet, by_two)
@@ -238,13 +206,13 @@ module _ (octets : List ℕ) where
 
   other_sends : (r : ℕ) (tsdu : List ℕ) (c : Carrier) → Elsewhere octets c → Elsewhere octets (sent_on r tsdu (open_link r c) c)
   other_sends r tsdu c (inl p) = grind (arith, ahead_kept (octets ++ packets (p.unit ∷ [])))
-  other_sends r tsdu c (inr (over ended, same)) = grind (arith, no_link)
+  other_sends r tsdu c (inr (over ended, same)) = grind arith
   other_sends r tsdu c (inr (has_none lasts side class live, same)) = grind (arith, none_open)
   other_sends r tsdu c (inr (has_two lasts side class all, same)) = grind (arith, open_by, two_sends)
 
   other_closes : (r : ℕ) (c : Carrier) → Elsewhere octets c → Elsewhere octets (closed_on r 128 (open_link r c) c)
   other_closes r c (inl p) = grind (arith, ahead_kept (octets ++ packets (p.unit ∷ [])))
-  other_closes r c (inr (over ended, same)) = grind (arith, no_link)
+  other_closes r c (inr (over ended, same)) = grind arith
   other_closes r c (inr (has_none lasts side class live, same)) = grind (arith, none_open)
   other_closes r c (inr (has_two lasts side class all, same)) = grind (arith, open_by, two_closes)
 

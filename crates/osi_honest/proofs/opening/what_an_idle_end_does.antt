@@ -1,19 +1,17 @@
 -- Each turn of a calling end that has requested nothing yet.
 -- For what a calling end did in all.
-use Rattle.osi_honest.proofs.Vocabulary.{[], ap, arith, Err, false, if◌then◌else◌, inl, inr, is_some, length, List, None, Ok, Option}
-use Rattle.osi_honest.proofs.Vocabulary.{option_map, refl, Result, Some, subst, sym, take, true, ℕ, ◌++◌, ◌+◌, ◌∙◌, ◌∷◌, ◌≡◌, ◌⊎◌, eq-eqb}
-use Rattle.osi_honest.proofs.Vocabulary.{append-nil, append_cancel_left, take_all, AllByRecursion, IsOctets, ArePackets, units_found}
-use Rattle.osi_honest.proofs.Vocabulary.{tsap_octets, units_of, confirm, disconnect, disconnected, error, Value, TpduFault, react_quiet}
-use Rattle.osi_honest.proofs.Vocabulary.{reacts_over, closed_with, may_connect, open_link, sent, Happening, proposal, before_class, reacts}
-use Rattle.osi_honest.proofs.Vocabulary.{to_reference, to_unknown, Connection, packets, State as Carrier, EndReason, NoMemory, OpenError}
-use Rattle.osi_honest.proofs.Vocabulary.{Listener, packet_is, quiet_stops, says_is, found_how, after_open, calls_with, connects}
-use Rattle.osi_honest.proofs.Vocabulary.{terms_error, Goes as GoesThrough, TakesPackets, after_packet, ends, Starves, with_carrier}
-use Rattle.osi_honest.proofs.Vocabulary.{IsAccepted, kept_at, user_does, UserCall, breaking, calling, connecting, disconnecting, Call}
-use Rattle.osi_honest.proofs.Vocabulary.{Calls, carried_in, used_in, carrying, feeding, telling, End, fresh_line, Holding, used_lines}
-use Rattle.osi_honest.proofs.Vocabulary.{waits, Request, ConnectError, Asks, Idles, IdleTurn, idle_over, puts_a_dc, requests, Act, Acts}
-use Rattle.osi_honest.proofs.Vocabulary.{carried_by, Takes, Turn, used_by, serving, using}
+use Rattle.osi_honest.proofs.Vocabulary.{[], ap, arith, Err, false, if◌then◌else◌, inl, inr, is_some, length, List, Ok, option_map, refl}
+use Rattle.osi_honest.proofs.Vocabulary.{Result, Some, subst, sym, take, true, ℕ, ◌++◌, ◌+◌, ◌∙◌, ◌∷◌, ◌≡◌, ◌⊎◌, eq-eqb, append-nil}
+use Rattle.osi_honest.proofs.Vocabulary.{append_cancel_left, take_all, AllByRecursion, IsOctets, ArePackets, units_found, tsap_octets}
+use Rattle.osi_honest.proofs.Vocabulary.{units_of, confirm, disconnect, disconnected, error, Value, TpduFault, react_quiet, reacts_over}
+use Rattle.osi_honest.proofs.Vocabulary.{closed_with, sent, Happening, proposal, before_class, reacts, to_reference, to_unknown, Connection}
+use Rattle.osi_honest.proofs.Vocabulary.{packets, State as Carrier, EndReason, NoMemory, Listener, packet_is, quiet_stops, says_is}
+use Rattle.osi_honest.proofs.Vocabulary.{found_how, calls_with, Goes as GoesThrough, TakesPackets, after_packet, ends, Starves}
+use Rattle.osi_honest.proofs.Vocabulary.{with_carrier, IsAccepted, kept_at, user_does, UserCall, breaking, calling, connecting}
+use Rattle.osi_honest.proofs.Vocabulary.{disconnecting, Call, Calls, carried_in, used_in, carrying, feeding, telling, End, fresh_line}
+use Rattle.osi_honest.proofs.Vocabulary.{Holding, used_lines, waits, Asks, Idles, IdleTurn, idle_over, puts_a_dc, requests, Act, Acts}
+use Rattle.osi_honest.proofs.Vocabulary.{carried_by, Takes, Turn, used_by, serving, using, react}
 use Rattle.osi_carrier.specs.Packets as carriers
-use Rattle.osi_carrier.specs.React.{react}
 use Rattle.osi_carrier.specs.State as states
 use Rattle.osi_stack.specs.Feeding.{stops}
 use Rattle.osi_honest.proofs.class_0.what_a_packet_does_in_class_0.{Over, over_carries}
@@ -83,9 +81,6 @@ module _ (e : End) (w : Idles e) where
   first_unit : (v : Value) → Settled e.carrier.outgoing (react v e.carrier)
   first_unit v = search (arith, react_quiet, by_side)
 
-  over_now : (reason : EndReason) → Settled e.carrier.outgoing (states.ends reason e.carrier)
-  over_now reason = inr (refl, refl)
-
   kept_here : IsKept (Settled e.carrier.outgoing)
   kept_here = settled_kept e.carrier.outgoing
 
@@ -107,7 +102,7 @@ module _ (e : End) (w : Idles e) where
   -- ---- memory runs out for it
 
   out_by : (done : List Value) (new : Carrier) → new ≡ states.ends NoMemory (reacts done e.carrier) → Settled e.carrier.outgoing new
-  out_by [] new is = subst (Settled e.carrier.outgoing) (sym is) (over_now NoMemory)
+  out_by [] new is = subst (Settled e.carrier.outgoing) (sym is) (grind arith)
   out_by (v ∷ done) new is =
       subst (Settled e.carrier.outgoing) (sym is)
       (kept_here.ends_so NoMemory (reacts done (react v e.carrier))
@@ -180,10 +175,7 @@ module _ (piece put : List ℕ) (used : ℕ) (old new : Holding) (w : Idles old.
       let same = ap (λ (x : End). x.carrier) f.ended in
       from_settled (take used piece) put old new is
       (settled_after old.end w f.units f.before new.end (takes old.end w f.units f.before (all_octets f.units _ _ f.cut.1) f.taken)
-      (λ here. inr (
-        ap (λ (c : Carrier). is_some c.ended) same,
-        ap (λ (c : Carrier). c.outgoing) same ∙ ap (λ (x : End). x.carrier.outgoing) here,
-      ))
+      (grind arith)
       (λ p. subst (Settled old.end.carrier.outgoing) (sym same) (settled_ends old.end.carrier.outgoing _ f.before.carrier p)))
   goes_idle quiet (inr (inr f)) =
       from_settled (take used piece) put old new is
@@ -223,18 +215,9 @@ serving_idle (carrying octets) put old new w c is = grind (arith, none_put, appe
 
 -- ---- a call of the user
 
-terms_of : (o : Option OpenError) (fault : Option ConnectError) → after_open o fault ≡ None → fault ≡ None
-terms_of o fault h = grind arith
-
 kept_joined : (r : ℕ) (x : Connection) (session : Listener) →
     kept_at r (used_lines ((r, x) ∷ []) ((r, fresh_line session) ∷ [])) ≡ Some session
 kept_joined r x session = rw (eq-eqb r r refl) (rw (eq-eqb r r refl) refl)
-
-now_asks : (c : Request) (e : End) → Idles e → Asks (e.carrier.given + 1) (calls_with c) (connects c e)
-now_asks c e w = grind (arith, kept_joined)
-
-no_links : (q : ℕ) (e : End) → Idles e → open_link q e.carrier ≡ None
-no_links q e w = grind arith
 
 using_idle : (call : UserCall) (put : List ℕ) (old new : Holding) → Idles old.end → IsAccepted call old.end →
     new ≡ record old { end = user_does call old.end } →
@@ -244,11 +227,11 @@ using_idle (connecting c) put old new w allowed is outgoing =
     requests c (old.end.carrier.given + 1)
     (proposal old.end.carrier.local old.end.carrier.class (option_map tsap_octets c.calling_tsap) (option_map tsap_octets c.called_tsap)
     (old.end.carrier.given + 1))
-    (terms_of (may_connect old.end.carrier) (terms_error c) allowed)
-    (subst (Asks (old.end.carrier.given + 1) (calls_with c)) (sym there) (now_asks c old.end w)) refl
+    (grind arith)
+    (subst (Asks (old.end.carrier.given + 1) (calls_with c)) (sym there) (grind (arith, kept_joined))) refl
     (append_cancel_left old.end.carrier.outgoing put _ (sym outgoing ∙ ap (λ (x : End). x.carrier.outgoing) there))
     (ap (λ (x : Holding). x.held.octets) is)
-using_idle (calling q call) put old new w allowed is outgoing = grind (arith, not_open, says_is, no_links)
+using_idle (calling q call) put old new w allowed is outgoing = grind (arith, not_open, says_is)
 using_idle (disconnecting q) put old new w allowed is outgoing = grind (arith, none_put, append-nil)
 using_idle breaking put old new w allowed is outgoing = grind (arith, none_put)
 

@@ -1,23 +1,20 @@
 -- Whatever arrives, whatever its user calls and however much memory there is, each unit that an end puts can be written, so that
 -- it is read again.
 -- For what the transport of an end puts.
-use Rattle.std.proofs.Common.{arith}
 use Rattle.osi_honest.proofs.Vocabulary.{[], ap, append_assoc, Bool, Err, false, if◌then◌else◌, is_some, List, map, None, Ok, Option}
 use Rattle.osi_honest.proofs.Vocabulary.{option_map, refl, Result, Some, subst, sym, true, ℕ, ◌++◌, ◌+◌, ◌∙◌, ◌∷◌, ◌≡◌, ◌≤◌, append-nil}
 use Rattle.osi_honest.proofs.Vocabulary.{append_cancel_left, AllByRecursion, IfSome, IsOctets, Cuts, Ending, units_fit, units_found}
 use Rattle.osi_honest.proofs.Vocabulary.{tsap_octets, units_of, confirm, data0, disconnect, disconnected, error, HasFieldsInRange}
 use Rattle.osi_honest.proofs.Vocabulary.{IsConnect, request, Value, Fits, written, TpduFault, Tsap, Standing, taken, with_tsdu, accept}
 use Rattle.osi_honest.proofs.Vocabulary.{refuse, selected_by, LinkFault, Class, Two, Zero, Local, closed_on, closes, link_of, sent_on}
-use Rattle.osi_honest.proofs.Vocabulary.{acceptance, opened_link, proposal, proposes_two, connection_by, pumped, written_by, accepts}
-use Rattle.osi_honest.proofs.Vocabulary.{answers, before_class, denies, has_peer, in_class, in_two, in_zero, is_full, leaves}
-use Rattle.osi_honest.proofs.Vocabulary.{opens_by as opens, pumps, react_by, reacts, taking, to_asked, to_closing, to_connection, to_linked}
-use Rattle.osi_honest.proofs.Vocabulary.{to_only, to_reference, to_unknown, put, Rows, value_at, asked, closing, Connection, linked}
-use Rattle.osi_honest.proofs.Vocabulary.{packets, State as Carrier, EndReason, Carries, Holding, Capture, stream, Direction, HasOneUnit}
-use Rattle.osi_honest.proofs.Vocabulary.{IsFresh, IsSeen, put_along, Run, Turn, CanBeWritten}
-use Rattle.osi_tpdu.specs.Value.{Connect}
-use Rattle.osi_carrier.specs.Calls.{asks}
+use Rattle.osi_honest.proofs.Vocabulary.{acceptance, proposal, proposes_two, connection_by, pumped, written_by, accepts, answers}
+use Rattle.osi_honest.proofs.Vocabulary.{before_class, denies, has_peer, in_two, in_zero, is_full, leaves, opens_by as opens, pumps}
+use Rattle.osi_honest.proofs.Vocabulary.{react_by, reacts, taking, to_connection, to_linked, to_only, to_reference, to_unknown, put, Rows}
+use Rattle.osi_honest.proofs.Vocabulary.{value_at, asked, closing, Connection, linked, packets, State as Carrier, EndReason, Holding}
+use Rattle.osi_honest.proofs.Vocabulary.{Capture, stream, Direction, HasOneUnit, IsFresh, IsSeen, put_along, Run, Turn, CanBeWritten, arith}
+use Rattle.osi_honest.proofs.Vocabulary.{Connect, asks, breaks}
 use Rattle.osi_carrier.specs.Packets as carriers
-use Rattle.osi_carrier.specs.React.{breaks, react}
+use Rattle.osi_carrier.specs.React.{react}
 use Rattle.osi_carrier.specs.State as states
 use Rattle.osi_honest.proofs.reading.a_cr_and_a_cc_can_be_written.{cc_plain, cr_by, size_in_range}
 use Rattle.osi_honest.proofs.reading.what_a_link_gives_can_be_written.{IsNumbered, gives_written, link_opens, taken_numbered}
@@ -68,8 +65,7 @@ module _ (octets : List ℕ) where
     accepted class size c h range =
         writes_more s _ (confirm c.source (acceptance class size c s.local (s.given + 1)) ∷ []) p
         (cc_plain class size c s.local (s.given + 1) h range, tt) refl
-        (row_more IsNumberedRow (s.given + 1) (linked c.source (opened_link class size s.local c.credit)) s.live p.links
-        (link_opens class size s.local c.credit))
+        (grind (arith, row_more, link_opens))
 
     denied : (reason peer : ℕ) → CanBeRead octets (denies reason peer s)
     denied reason peer = writes_more s _ (disconnect peer 0 reason [] ∷ []) p (tt, tt) refl p.links
@@ -100,9 +96,6 @@ module _ (octets : List ℕ) where
     by_opens : (r : ℕ) (c : Connect) (class : Option Class) → CanBeRead octets (opens r c class s)
     by_opens r c class = grind (arith, writes_none, row_put, link_opens)
 
-    by_asked : (r : ℕ) (unit : Value) → CanBeRead octets (to_asked r unit s)
-    by_asked r unit = search (arith, by_opens, writes_none, row_without, by_unknown)
-
     by_breaks : (r peer : ℕ) (fault : LinkFault) (held : Option Class) → CanBeRead octets (breaks r peer fault held s)
     by_breaks r peer fault (Some Two) =
         writes_more s _ (disconnect peer r 133 [] ∷ []) p (tt, tt) refl (row_put IsNumberedRow r (closing peer) s.live p.links tt)
@@ -124,15 +117,12 @@ module _ (octets : List ℕ) where
     by_linked : (r peer : ℕ) (link : Standing) (unit : Value) → IsNumbered link.flow → CanBeRead octets (to_linked r peer link unit s)
     by_linked r peer link unit numbered = search (arith, by_leaves, by_taking)
 
-    by_closing : (r : ℕ) (unit : Value) → CanBeRead octets (to_closing r unit s)
-    by_closing r unit = grind (arith, writes_none, row_without)
-
     by_connection : (r : ℕ) (at : Option Connection) (unit : Value) → ((x : Connection) → at ≡ Some x → IsNumberedRow x) →
         CanBeRead octets (to_connection r at unit s)
     by_connection r None unit here = by_unknown unit
-    by_connection r (Some asked) unit here = by_asked r unit
+    by_connection r (Some asked) unit here = grind (arith, by_opens, writes_none, row_without, by_unknown)
     by_connection r (Some (linked peer link)) unit here = by_linked r peer link unit (here (linked peer link) refl)
-    by_connection r (Some (closing peer)) unit here = by_closing r unit
+    by_connection r (Some (closing peer)) unit here = grind (arith, writes_none, row_without)
 
     by_reference : (r : ℕ) (unit : Value) → CanBeRead octets (to_reference r unit s)
     by_reference r unit = by_connection r (value_at r s.live) unit (λ x e. row_at IsNumberedRow r x s.live p.links e)
@@ -162,11 +152,8 @@ module _ (octets : List ℕ) where
     by_two is_caller (data0 end user) range = writes_none s _ p refl tt
     by_two is_caller unit range = by_reference (connection_by (Some Two) unit s) unit
 
-    by_class : (held : Option Class) (unit : Value) → HasFieldsInRange unit → CanBeRead octets (in_class held unit s)
-    by_class held unit range = search (arith, by_before, by_zero, by_two)
-
     by_end : (over : Bool) (unit : Value) → HasFieldsInRange unit → CanBeRead octets (react_by over unit s)
-    by_end over unit range = grind (arith, by_class)
+    by_end over unit range = search (arith, by_before, by_zero, by_two)
 
     unit_reacts : (unit : Value) → HasFieldsInRange unit → CanBeRead octets (react unit s)
     unfolding react
@@ -219,17 +206,11 @@ module _ (octets : List ℕ) where
   shortage_so u c d are p (units, e, out) =
       grind (arith, all_react, front_fits, ended, units_fit units u (units_found u units are e), units_found u units are e)
 
-  carries_so : Carries (CanBeRead octets)
-  carries_so = record {
-    sends = λ r tsdu c p. sent_by c p r tsdu (is_some c.ended) (value_at r c.live) (λ x e. row_at IsNumberedRow r x c.live p.links e);
-    closes = λ r c p. closed_by c p r (is_some c.ended) (value_at r c.live);
-  }
-
   read_tracked : IsTracked (λ us. CanBeRead octets)
   read_tracked = record {
     packet = λ us u c are p. packet_so u c are p;
     shortage = λ us u c d are p short. shortage_so u c d are p short;
-    carries = λ us. carries_so;
+    carries = λ us. (grind (arith, sent_by, row_at, closed_by));
     untold = λ us events c p. writes_none c _ p refl p.links;
     ends_so = λ us reason c p. ended c p reason;
   }
@@ -241,25 +222,18 @@ pub record ArePutToRead (put : List ℕ) : Type 0 where
   pub is : put ≡ packets units
   pub written : AllByRecursion CanBeWritten units
 
-none_yet : (c : Carrier) → AreNumbered c.live → CanBeRead c.outgoing c
-none_yet c links = record { units = []; is = sym (append-nil c.outgoing); written = tt; links = links }
-
 put_to_read : AllProper → (turns : List Turn) (old new : Holding) → AreNumbered old.end.carrier.live → Run old turns new →
     ArePutToRead (put_along turns)
 put_to_read proper [] old new links run = record { units = []; is = refl; written = tt }
 put_to_read proper (turn ∷ turns) old new links run =
     let t = turn_tracked (λ us. CanBeRead old.end.carrier.outgoing) (read_tracked old.end.carrier.outgoing) proper []
     (λ calling called c allowed p. asks_so old.end.carrier.outgoing c p calling called) turn old run.0
-    (none_yet old.end.carrier links) run.1 in
+    (grind (arith, append-nil)) run.1 in
     let there = subst AreNumbered (sym (ap (λ (c : Carrier). c.live) t.same)) t.holds.links in
     let more = put_to_read proper turns run.0 new there run.2 in
     let one : turn.put ≡ packets t.holds.units =
     append_cancel_left old.end.carrier.outgoing turn.put (packets t.holds.units) (sym t.outgoing ∙ t.holds.is) in
-    record {
-      units = t.holds.units ++ more.units;
-      is = (λ i. one i ++ more.is i) ∙ sym (packets_joined t.holds.units more.units);
-      written = all_more t.holds.units more.units t.holds.written more.written;
-    }
+    grind (arith, packets_joined t.holds.units more.units, all_more t.holds.units more.units t.holds.written more.written)
 
 pub run_to_read : AllProper → (is_caller : Bool) (local : Local) (begin end : Holding) (turns : List Turn) → IsFresh is_caller local begin →
     Run begin turns end → ArePutToRead (put_along turns)
@@ -282,5 +256,4 @@ pub shown_units : AllProper → (d : Direction) (is_caller : Bool) (local : Loca
     IsSeen d turns capture → Cuts (stream d capture) units ending → AllByRecursion HasOneUnit units
 shown_units proper d is_caller local begin end turns capture units ending fresh run seen cut =
     let all = run_to_read proper is_caller local begin end turns fresh run in
-    let shown = shown_packets units all.units (stream d capture) cut.0 seen.own.0 cut.1 (seen.own.1 ∙ all.is) in
-    all_one_unit all.units units shown.0 shown.1 all.written (all_octets units (stream d capture) cut.0 cut.1)
+    grind (arith, shown_packets, all_one_unit, all_octets)

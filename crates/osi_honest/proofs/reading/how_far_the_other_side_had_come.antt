@@ -1,13 +1,11 @@
 -- How far a side had come with opening the connection before an octet of the other: what the judge knows of it never goes back.
 -- For what a capture shows of an end.
-use Rattle.osi_honest.proofs.Vocabulary.{[], arith, Bool, cond, false, if◌then◌else◌, inl, inr, leb, List, refl, subst, suc, sym, true}
-use Rattle.osi_honest.proofs.Vocabulary.{zero, ℕ, ◌-◌, ◌<◌, ◌∷◌, ◌≡◌, ◌≤◌, ◌⊎◌, le-leb, leb_tells, units_of, Value, Capture, of}
-use Rattle.osi_honest.proofs.Vocabulary.{passed_before, agreed, answering_step, asked_again, complete_in, first_unit, Handshake}
-use Rattle.osi_honest.proofs.Vocabulary.{handshake_from, has_asked, met_before, opening, packet_length, shaken, shaken_first, silent}
-use Rattle.osi_honest.proofs.Vocabulary.{step_of, stops, Direction, Left, Right, NoOpening}
-use Rattle.osi_judge.specs.Transport.{asked, Move, opens}
+use Rattle.osi_honest.proofs.Vocabulary.{[], arith, Bool, cond, false, inl, inr, leb, List, refl, subst, suc, sym, true, zero, ℕ, ◌-◌, ◌<◌}
+use Rattle.osi_honest.proofs.Vocabulary.{◌∷◌, ◌≡◌, ◌≤◌, ◌⊎◌, le-leb, leb_tells, units_of, Capture, of, passed_before, agreed, complete_in}
+use Rattle.osi_honest.proofs.Vocabulary.{first_unit, Handshake, handshake_from, met_before, opening, packet_length, shaken, shaken_first}
+use Rattle.osi_honest.proofs.Vocabulary.{silent, step_of, Direction, Left, Right}
+use Rattle.osi_judge.specs.Transport.{Move, opens}
 use Rattle.osi_honest.proofs.reading.what_the_judge_reads_of_a_side.{Closes, FirstUnit, IsCalm, IsStrayed, StaysStrayed, Starts}
-use Rattle.osi_honest.proofs.reading.what_the_judge_reads_of_a_side.{no_cc_closes}
 
 -- ---- a CC of class 0 came first
 
@@ -22,20 +20,13 @@ calm_after n u us first = grind (arith, leb, cond, agreed_from)
 never_opens : (m : Move) (reference : ℕ) → Closes m → m ≡ opens reference → ⊥
 never_opens m reference h e = grind arith
 
-no_cc : (h : Handshake) (v : Value) (reference : ℕ) →
-    (if has_asked h then answering_step v else stops NoOpening) ≡ opens reference → ⊥
-no_cc h v reference is = never_opens _ reference (no_cc_closes h v) is
-
 pub agrees : (h : Handshake) (unit : FirstUnit) → Starts Right (step_of Right opening h unit) → shaken_first unit ≡ agreed
-agrees h unit h2 = grind (arith, no_cc)
+agrees h unit h2 = grind arith
 
 -- ---- what has strayed stays so
 
-strayed_again : (b : Bool) → IsStrayed (if b then asked_again else asked)
-strayed_again b = grind arith
-
 strayed_more : (h : Handshake) (unit : FirstUnit) → IsStrayed h → IsStrayed (shaken h unit)
-strayed_more h unit strayed = grind (arith, strayed_again)
+strayed_more h unit strayed = grind arith
 
 pub strayed_from : (h : Handshake) (us : List (List ℕ)) → IsStrayed h → IsStrayed (handshake_from h us)
 strayed_from h [] strayed = strayed

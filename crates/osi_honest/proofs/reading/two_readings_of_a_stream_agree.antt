@@ -64,13 +64,9 @@ record Heads (res high low w0 w1 w2 : ℕ) (u w x y : List ℕ) : Type 0 where
   low_is : low ≡ w2
   rest_is : u ++ x ≡ w ++ y
 
-heads : (res high low w0 w1 w2 : ℕ) (u w x y : List ℕ) →
-    (3 ∷ res ∷ high ∷ low ∷ (u ++ x)) ≡ (3 ∷ w0 ∷ w1 ∷ w2 ∷ (w ++ y)) → Heads res high low w0 w1 w2 u w x y
-heads res high low w0 w1 w2 u w x y e = record { high_is = cc; low_is = cc; rest_is = cc }
-
 -- a packet that is read where one was written is this one
 pub packet_again : (u w b x y : List ℕ) → IsPacket u b → b ++ x ≡ packet_of w ++ y → (u ≡ w) × (x ≡ y)
-packet_again u w b x y p e = grind (arith, heads, same_split, same_length)
+packet_again u w b x y p e = grind (arith, same_split, same_length)
 
 pub no_packet_in : (u b x : List ℕ) → IsPacket u b → b ++ x ≡ [] → ⊥
 no_packet_in u b x p e = grind arith
@@ -83,8 +79,7 @@ shown_packets (u ∷ us) [] s r later (b, t, p, is, h) e = grind (arith, no_pack
 shown_packets (u ∷ us) (v ∷ vs) s r later (b, t, p, is, h) e =
     let one = packet_again u (written v) b (t ++ later) (packets vs) p
     (sym (append_assoc b t later) ∙ ap (λ (x : List ℕ). x ++ later) (sym is) ∙ e) in
-    let more = shown_packets us vs t r later h one.1 in
-    (more.0, λ i. sym one.0 i ∷ more.1 i)
+    grind (arith, shown_packets us vs t r later h one.1)
 
 -- the first of them, whatever was put after it
 pub first_shown : (u : List ℕ) (us : List (List ℕ)) (w s r later back : List ℕ) → ArePackets (u ∷ us) s r →

@@ -1,11 +1,10 @@
 -- The numbers of the units that a link gives are in the range of their fields, whatever it takes.
 -- For what the transport of an end puts.
-use Rattle.osi_honest.proofs.Vocabulary.{[], arith, List, map, None, Ok, Option, Result, Some, subst, suc, sym, zero, ℕ, ◌%◌, ◌++◌, ◌+◌}
-use Rattle.osi_honest.proofs.Vocabulary.{◌-◌, ◌<◌, ◌∷◌, ◌≡◌, AllByRecursion, flat_map, IfOk, IfSome, data0, Value, at_ok, choose_ok}
-use Rattle.osi_honest.proofs.Vocabulary.{choose_some, given_by, Ends, acknowledged, Flow, Sender, Drained, drained_by, drained_within}
-use Rattle.osi_honest.proofs.Vocabulary.{left_to_give, Joining, ack, Given, given_part, next, next_by, part0, part2, Standing, taken}
-use Rattle.osi_honest.proofs.Vocabulary.{taken_by, unit_of, with_joined, with_sender, Move, MovesAlong, give, Part, LinkFault, Class, Local}
-use Rattle.osi_honest.proofs.Vocabulary.{opened_link, CanBeWritten}
+use Rattle.osi_honest.proofs.Vocabulary.{[], arith, List, map, None, Ok, Option, Some, suc, zero, ℕ, ◌<◌, ◌∷◌, ◌≡◌, AllByRecursion}
+use Rattle.osi_honest.proofs.Vocabulary.{flat_map, IfOk, IfSome, data0, Value, at_ok, choose_ok, choose_some, given_by, Ends, Flow, Drained}
+use Rattle.osi_honest.proofs.Vocabulary.{drained_by, drained_within, left_to_give, ack, Given, given_part, next, next_by, part0, part2}
+use Rattle.osi_honest.proofs.Vocabulary.{Standing, taken, taken_by, unit_of, Move, MovesAlong, Part, Class, Local, opened_link}
+use Rattle.osi_honest.proofs.Vocabulary.{CanBeWritten}
 unfoldable use Rattle.osi_class.specs.Giving.{drained}
 use Rattle.osi_class.specs.Runs.{Moves}
 
@@ -28,18 +27,8 @@ link_opens class size local credit = grind arith
 abbrev GivesSo : Given × Standing → Type 0
 GivesSo (g, s) = CanBeGiven g × IsNumbered s.flow
 
-part_gives : (e : Ends) (o : Option (Part × List (List ℕ))) → IfSome (given_part e None None o) GivesSo
-part_gives e o = grind arith
-
-two_gives : (e : Ends) (f : Flow) (number : ℕ) (o : Option (Part × List (List ℕ))) → number < 128 → IsNumbered (Some f) →
-    IfSome (given_part e (Some f) (Some number) o) GivesSo
-two_gives e f number o few numbered = grind arith
-
-below : (a b : ℕ) → (a + 128 - b) % 128 < 128
-below a b = omega arith
-
 next_gives : (e : Ends) (flow : Option Flow) → IsNumbered flow → IfSome (next_by e flow) GivesSo
-next_gives e flow numbered = grind (arith, part_gives, choose_some, below, two_gives)
+next_gives e flow numbered = grind (arith, choose_some)
 
 abbrev AllGivenSo : Drained → Type 0
 AllGivenSo d = AllByRecursion CanBeGiven d.units × IsNumbered d.link.flow
@@ -57,12 +46,9 @@ all_drain : (s : Standing) → IsNumbered s.flow → AllGivenSo (drained s)
 unfolding drained
 all_drain s numbered = drains (left_to_give s) s numbered
 
-given_written : (peer : ℕ) (g : Given) → CanBeGiven g → CanBeWritten (unit_of peer g)
-given_written peer g can = grind arith
-
 all_written : (peer : ℕ) (units : List Given) → AllByRecursion CanBeGiven units → AllByRecursion CanBeWritten (map (unit_of peer) units)
 all_written peer [] all = tt
-all_written peer (g ∷ units) all = (given_written peer g all.0, all_written peer units all.1)
+all_written peer (g ∷ units) all = (grind arith, all_written peer units all.1)
 
 -- all that a link gives now, and the link after it
 pub gives_written : (peer : ℕ) (s : Standing) → IsNumbered s.flow →
@@ -74,18 +60,8 @@ gives_written peer s numbered = let all = all_drain s numbered in (all_written p
 abbrev FlowOf : Standing → Type 0
 FlowOf s = IsNumbered s.flow
 
-joins_so : (e : Ends) (flow : Option Flow) (r : Result Joining LinkFault) → IsNumbered flow → IfOk (with_joined e flow r) FlowOf
-joins_so e flow r numbered = grind arith
-
-sender_so : (e : Ends) (f : Flow) (r : Result Sender LinkFault) → f.receiver.window < 16 → IfOk r (λ (s : Sender). s.next < 128) →
-    IfOk (with_sender e f r) FlowOf
-sender_so e f r few numbered = grind arith
-
-next_stays : (s : Sender) (number credit : ℕ) → s.next < 128 → IfOk (acknowledged s number credit) (λ (t : Sender). t.next < 128)
-next_stays s number credit few = grind arith
-
 takes_so : (e : Ends) (flow : Option Flow) (v : Value) → IsNumbered flow → IfOk (taken_by e flow v) FlowOf
-takes_so e flow v numbered = grind (arith, joins_so, choose_ok, sender_so, next_stays)
+takes_so e flow v numbered = grind (arith, choose_ok)
 
 pub taken_numbered : (s t : Standing) (v : Value) → IsNumbered s.flow → taken s v ≡ Ok t → IsNumbered t.flow
 taken_numbered s t v numbered e = at_ok FlowOf (taken s v) t (takes_so s.ends s.flow v numbered) e
@@ -101,12 +77,7 @@ moves_given : (moves : List Move) (s t : Standing) → IsNumbered s.flow → Mov
 moves_given [] s t numbered along = tt
 moves_given (move ∷ moves) s t numbered along =
     let one = move_numbered move s along.0 numbered along.1 in
-    both (given_by move) (flat_map given_by moves) one.0 (moves_given moves along.0 t one.1 along.2)
-  where
-    both : (some others : List Given) → AllByRecursion CanBeGiven some → AllByRecursion CanBeGiven others →
-        AllByRecursion CanBeGiven (some ++ others)
-    both [] others a b = b
-    both (unit ∷ some) others a b = (a.0, both some others a.1 b)
+    grind (arith, moves_given moves along.0 t one.1 along.2)
 
 -- all that a link gives since its numbers were in range
 pub moves_written : (peer : ℕ) (moves : List Move) (s t : Standing) → IsNumbered s.flow → MovesAlong s moves t →
@@ -126,15 +97,12 @@ GivesData (g, s) = ((peer : ℕ) → IsData (unit_of peer g)) × (s.flow ≡ Non
 part_of_zero : (e : Ends) (o : Option (Part × List (List ℕ))) → IfSome (given_part e None None o) GivesData
 part_of_zero e o = grind arith
 
-next_of_zero : (e : Ends) (flow : Option Flow) → flow ≡ None → IfSome (next_by e flow) GivesData
-next_of_zero e flow none = subst (λ (f : Option Flow). IfSome (next_by e f) GivesData) (sym none) (part_of_zero e (give e.limit e.unsent))
-
 abbrev AllData : Drained → Type 0
 AllData d = ((peer : ℕ) → AllByRecursion IsData (map (unit_of peer) d.units)) × (d.link.flow ≡ None)
 
 drains_data : (n : ℕ) (s : Standing) → s.flow ≡ None → AllData (drained_within n s)
 drains_data zero s none = (λ peer. tt, none)
-drains_data (suc n) s none = by (next s) (next_of_zero s.ends s.flow none) (λ t here. drains_data n t here)
+drains_data (suc n) s none = by (next s) (grind (arith, part_of_zero)) (λ t here. drains_data n t here)
   where
     by : (o : Option (Given × Standing)) → IfSome o GivesData → ((t : Standing) → t.flow ≡ None → AllData (drained_within n t)) →
         AllData (drained_by o s (drained_within n))
@@ -145,9 +113,5 @@ pub gives_data : (s : Standing) → s.flow ≡ None → AllData (drained s)
 unfolding drained
 gives_data s none = drains_data (left_to_give s) s none
 
--- a unit leaves it a link of class 0
-stays_zero : (e : Ends) (flow : Option Flow) (v : Value) → flow ≡ None → IfOk (taken_by e flow v) (λ (t : Standing). t.flow ≡ None)
-stays_zero e flow v none = grind arith
-
 pub taken_zero : (s t : Standing) (v : Value) → s.flow ≡ None → taken s v ≡ Ok t → t.flow ≡ None
-taken_zero s t v none e = at_ok (λ (x : Standing). x.flow ≡ None) (taken s v) t (stays_zero s.ends s.flow v none) e
+taken_zero s t v none e = at_ok (λ (x : Standing). x.flow ≡ None) (taken s v) t (grind arith) e

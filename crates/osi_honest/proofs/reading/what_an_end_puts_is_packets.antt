@@ -2,12 +2,12 @@
 -- judge reads of any prefix of them packets, and then perhaps the beginning of one.
 -- For the law that an end puts packets.
 use Rattle.osi_honest.proofs.Vocabulary.{[], ap, append_assoc, arith, Bool, if◌then◌else◌, is_some, length, List, option_map, refl, subst}
-use Rattle.osi_honest.proofs.Vocabulary.{sym, ℕ, ◌%◌, ◌*◌, ◌++◌, ◌+◌, ◌/◌, ◌<◌, ◌∙◌, ◌∷◌, ◌≡◌, ◌≤◌, append-nil, append_cancel_left}
-use Rattle.osi_honest.proofs.Vocabulary.{length-append, IsBadLength, IsBadVersion, IsFaultOf, ArePackets, Cuts, Ending, TpktFault}
-use Rattle.osi_honest.proofs.Vocabulary.{tsap_octets, request, Value, written, written_header, proposal, packets, Broken, session_carried}
-use Rattle.osi_honest.proofs.Vocabulary.{disconnect_carrier, ends, user_does, UserCall, breaking, calling, connecting, disconnecting, Call}
-use Rattle.osi_honest.proofs.Vocabulary.{Calls, carried_in, carrying, feeding, telling, End, Holding, Capture, stream, Direction}
-use Rattle.osi_honest.proofs.Vocabulary.{EndsWithin, IsSeen, put_along, Act, Acts, carried_by, Run, Takes, Turn, serving, using}
+use Rattle.osi_honest.proofs.Vocabulary.{sym, ℕ, ◌++◌, ◌+◌, ◌∙◌, ◌∷◌, ◌≡◌, ◌≤◌, append-nil, append_cancel_left, IsBadLength, IsBadVersion}
+use Rattle.osi_honest.proofs.Vocabulary.{IsFaultOf, ArePackets, Cuts, Ending, TpktFault, tsap_octets, request, Value, written}
+use Rattle.osi_honest.proofs.Vocabulary.{written_header, proposal, packets, Broken, session_carried, disconnect_carrier, ends, user_does}
+use Rattle.osi_honest.proofs.Vocabulary.{UserCall, breaking, calling, connecting, disconnecting, Call, Calls, carried_in, carrying, feeding}
+use Rattle.osi_honest.proofs.Vocabulary.{telling, End, Holding, Capture, stream, Direction, EndsWithin, IsSeen, put_along, Act, Acts}
+use Rattle.osi_honest.proofs.Vocabulary.{carried_by, Run, Takes, Turn, serving, using}
 use Rattle.osi_honest.proofs.reading.two_readings_of_a_stream_agree.{no_packet_in, packet_again}
 use Rattle.osi_honest.proofs.keeping.what_a_unit_keeps_a_turn_keeps.{IsKept, kept_feeds}
 use Rattle.osi_honest.proofs.class_0.what_class_0_writes_of_a_tsdu.{packets_joined}
@@ -91,19 +91,13 @@ left_packets (u ∷ us) (v ∷ vs) s r later (b, t, p, is, h) e =
 some_header : (v : Value) → 2 ≤ length (written_header v)
 some_header v = grind arith
 
-some_octets : (v : Value) → 3 ≤ length (written v)
-some_octets v = grind (arith, some_header, length-append)
-
-never_less : (n high low : ℕ) → 3 ≤ n → high ≡ (n + 4) / 256 → low ≡ (n + 4) % 256 → 256 * high + low < 7 → ⊥
-never_less n high low some h l few = omega arith
-
 version_right : (r later : List ℕ) (vs : List Value) → r ++ later ≡ packets vs → IsBadVersion r → ⊥
 version_right [] later vs e bad = let some = bad.0 in absurd (omega arith)
 version_right (a ∷ r) later [] e bad = cc
 version_right (a ∷ r) later (v ∷ vs) e bad = let three : a ≡ 3 = cc in bad.1 three
 
 length_right : (r later : List ℕ) (vs : List Value) → r ++ later ≡ packets vs → IsBadLength r → ⊥
-length_right (a ∷ b ∷ c ∷ d ∷ r) later (v ∷ vs) e bad = grind (arith, never_less, some_octets)
+length_right (a ∷ b ∷ c ∷ d ∷ r) later (v ∷ vs) e bad = grind arith
 length_right (a ∷ b ∷ c ∷ d ∷ r) later [] e bad = cc
 length_right [] later vs e bad = let long : 4 ≤ 0 = bad.0 in absurd (omega arith)
 length_right (a ∷ []) later vs e bad = let long : 4 ≤ 1 = bad.0 in absurd (omega arith)

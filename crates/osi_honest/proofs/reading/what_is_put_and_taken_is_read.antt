@@ -1,10 +1,10 @@
 -- The judge reads from packets of class 0 the TSDUs that they bring, and the parts of TSDUs that an end puts bring these TSDUs.
 -- For the laws of an end and its captures.
-use Rattle.osi_honest.proofs.Vocabulary.{[], ap, arith, Bool, false, inl, inr, leb, length, List, map, nat_lt, Ok, refl, subst, sym, true}
-use Rattle.osi_honest.proofs.Vocabulary.{ℕ, ◌++◌, ◌+◌, ◌∙◌, ◌∷◌, ◌≡◌, ◌≤◌, eq-eqb, ltb-true, append-nil, header_again, data0, Value}
-use Rattle.osi_honest.proofs.Vocabulary.{written, longest_tsdu, Part, tsdus_after, AreShort, octets_of, added, begun, between, ended}
-use Rattle.osi_honest.proofs.Vocabulary.{Handshake, packet_length, sent_by, sent_from, Stage, stage_behind, stage_from, Direction}
-use Rattle.osi_honest.proofs.Vocabulary.{Carry, ends_whole, units_put, between_two, in_one, IsReading, Brings, IsPart}
+use Rattle.osi_honest.proofs.Vocabulary.{[], ap, arith, Bool, false, inl, inr, leb, length, List, map, Ok, refl, subst, sym, true, ℕ, ◌++◌}
+use Rattle.osi_honest.proofs.Vocabulary.{◌+◌, ◌∙◌, ◌∷◌, ◌≡◌, ◌≤◌, eq-eqb, ltb-true, append-nil, header_again, data0, Value, written, Part}
+use Rattle.osi_honest.proofs.Vocabulary.{tsdus_after, AreShort, octets_of, added, begun, between, ended, Handshake, packet_length, sent_by}
+use Rattle.osi_honest.proofs.Vocabulary.{sent_from, Stage, stage_behind, stage_from, Direction, Carry, ends_whole, units_put, between_two}
+use Rattle.osi_honest.proofs.Vocabulary.{in_one, IsReading, Brings, IsPart}
 use Rattle.osi_tpdu.specs.Packet.{units_of}
 use Rattle.std.proofs.Common.{length-append}
 unfoldable use Rattle.osi_tpdu.specs.Packet.{units_at}
@@ -63,9 +63,6 @@ dt_by : (octet : ℕ) (octets : List ℕ) → units_of (2 ∷ 240 ∷ octet ∷ 
 unfolding unit_at value_of transfer_of
 dt_by octet octets = search (arith, only_unit, header_again 0 (240 ∷ octet ∷ []) octets (omega arith) (omega arith), leb 128 octet)
 
-pub dt_read : (last : Bool) (octets : List ℕ) → units_of (written (data0 last octets)) ≡ Ok (data0 last octets ∷ [])
-dt_read last octets = grind (arith, dt_by)
-
 -- ---- the parts of TSDUs that are put bring these TSDUs
 
 -- the octets that parts leave of a TSDU
@@ -79,9 +76,6 @@ parts_then : (b : List ℕ) (parts later : List Part) →
 parts_then b [] later = refl
 parts_then b ((true, octets) ∷ parts) later = ap (λ (x : List (List ℕ)). (b ++ octets) ∷ x) (parts_then [] parts later)
 parts_then b ((false, octets) ∷ parts) later = parts_then (b ++ octets) parts later
-
-not_long : (n : ℕ) (b : Bool) → nat_lt longest_tsdu n ≡ b → n ≤ 1048576 → nat_lt longest_tsdu n ≡ false
-not_long n b e few = grind (arith, ltb-true)
 
 -- what was begun is within a TSDU that comes, or is left
 abbrev IsWithinLimit : List ℕ → Type 0
@@ -98,17 +92,10 @@ parts_bring : (b : List ℕ) (parts : List Part) → AreShort (tsdus_after b par
 parts_bring b [] short few = (refl, refl)
 parts_bring b ((true, octets) ∷ parts) short few = (
   octets,
-  inr (
-    record {
-      is = dt_read true octets;
-      fits = not_long (length b + length octets) (nat_lt longest_tsdu (length b + length octets)) refl
-          (let l = length-append b octets in let s : length (b ++ octets) ≤ 1048576 = short.0 in omega arith);
-    },
-    (tsdus_after [] parts, refl, parts_bring [] parts short.1 few),
-  ),
+  grind (arith, ltb-true, dt_by, length-append b octets, parts_bring [] parts short.1 few),
 )
 parts_bring b ((false, octets) ∷ parts) short few =
-    grind (arith, dt_read false octets, first_longer b octets parts short few, parts_bring (b ++ octets) parts short few)
+    grind (arith, dt_by, first_longer b octets parts short few, parts_bring (b ++ octets) parts short few)
 
 last_one : (some others : List (List ℕ)) (x y : List ℕ) → some ≡ others → some ++ x ∷ [] ≡ others ++ y ∷ [] → x ≡ y
 last_one some others x y same e =
@@ -123,18 +110,12 @@ last_one some others x y same e =
 pub carried_bring : (parts : List Part) (tsdus : List (List ℕ)) → Carry parts tsdus → AreShort tsdus → Brings [] (units_put parts) tsdus []
 carried_bring parts tsdus carry short =
     let all : tsdus_after [] parts ≡ tsdus = ap (tsdus_after []) (sym (append-nil parts)) ∙ carry.1 [] ∙ append-nil tsdus in
-    let mark : tsdus_after [] parts ++ (left_of [] parts ++ []) ∷ [] ≡ tsdus ++ ([] ∷ []) = sym (parts_then [] parts ((true, []) ∷ []))
-    ∙ carry.1 ((true, []) ∷ []) in
-    let none : left_of [] parts ≡ [] = sym (append-nil (left_of [] parts))
-    ∙ last_one (tsdus_after [] parts) tsdus (left_of [] parts ++ []) [] all mark in
-    let brings = parts_bring [] parts (subst AreShort (sym all) short) (subst IsWithinLimit (sym none) (omega arith)) in
-    subst (λ (x : List (List ℕ)). Brings [] (units_put parts) x []) all
-    (subst (Brings [] (units_put parts) (tsdus_after [] parts)) none brings)
+    grind (arith, last_one, parts_bring, parts_then [] parts ((true, []) ∷ []), carry.1 ((true, []) ∷ []), append-nil (left_of [] parts))
 
 -- ---- after parts that are whole TSDUs the judge stands between two
 
 part_last : (last other : Bool) (octets more b : List ℕ) → IsPart (written (data0 last octets)) other more b → other ≡ last
-part_last last other octets more b p = grind (arith, dt_read)
+part_last last other octets more b p = grind (arith, dt_by)
 
 stage_then : (d : Direction) (met : ℕ → Handshake) (stage next : Stage) (at : ℕ) (u : List ℕ) (us : List (List ℕ)) →
     stage_behind d (met at) stage at u ≡ next →
@@ -156,8 +137,7 @@ ends_by d met stage b at before ((last, octets) ∷ parts) tsdus later r (more, 
 ends_by d met stage b at before ((last, octets) ∷ parts) tsdus later r (more, inr (p, (others, is, rest))) k whole =
     let u = written (data0 last octets) in
     let s = steps_part d (met at) stage b at u true more r p in
-    stage_then d met stage between at u (units_put parts) s.stage_is
-    (ends_by d met between [] (at + packet_length u) last parts others later between_two rest (λ yes. refl) whole)
+    grind (arith, stage_then, ends_by d met between [] (at + packet_length u) last parts others later between_two rest (λ yes. refl) whole)
 
 -- What is read of the parts of TSDUs that are put where the judge stands between two.
 pub record ReadsParts (d : Direction) (met : ℕ → Handshake) (at : ℕ) (parts : List Part) (tsdus : List (List ℕ)) : Type 0 where

@@ -1,23 +1,19 @@
 -- A unit in whose written form each number is an octet is read again as this unit, if the few numbers that share an octet are
 -- in range: credit, class and options, and the numbers of class 2.
 -- For what the transport of an end puts.
-use Rattle.osi_honest.proofs.Vocabulary.{[], arith, length, List, None, Ok, Option, Some, subst, sym, ℕ, ◌++◌, ◌+◌, ◌/◌, ◌<◌, ◌∷◌, ◌≡◌, ◌≤◌}
+use Rattle.osi_honest.proofs.Vocabulary.{[], arith, length, List, None, Ok, Option, Some, subst, ℕ, ◌++◌, ◌+◌, ◌/◌, ◌<◌, ◌∷◌, ◌≡◌, ◌≤◌}
 use Rattle.osi_honest.proofs.Vocabulary.{length-append, flat_map, IfSome, octets_left, octets_nil, octets_right, IsOctets, units_only}
 use Rattle.osi_honest.proofs.Vocabulary.{written_spells, units_of, connect_part, Item, item_octets, single, acknowledge, AreParameters}
 use Rattle.osi_honest.proofs.Vocabulary.{confirm, data0, data2, disconnect, disconnected, error, HasFieldsInRange, IsConnect, request}
-use Rattle.osi_honest.proofs.Vocabulary.{Value, HasRoom, items_of, written, written_items}
+use Rattle.osi_honest.proofs.Vocabulary.{Value, HasRoom, items_of, written, written_items, Connect}
 use Rattle.std.proofs.lemmas.List.Concat.{flat_map-append}
-use Rattle.osi_tpdu.specs.Value.{Connect}
 pub use Rattle.osi_honest.specs.Writable.{CanBeWritten, IsPlain}
 
 -- ---- the octets of parameters
 
 split : (a b : List Item) → IsOctets (flat_map item_octets (a ++ b)) → IsOctets (flat_map item_octets a) × IsOctets (flat_map item_octets b)
 split a b h =
-    let both = subst IsOctets (flat_map-append item_octets a b) h in (
-      octets_left (flat_map item_octets a) (flat_map item_octets b) both,
-      octets_right (flat_map item_octets a) (flat_map item_octets b) both,
-    )
+    let both = subst IsOctets (flat_map-append item_octets a b) h in search (arith, octets_left, octets_right)
 
 value_octets : (code : ℕ) (s : List ℕ) → IsOctets (flat_map item_octets (items_of code (Some s))) → IsOctets s
 value_octets code s h = octets_left s [] (octets_right (code ∷ length s ∷ []) (s ++ []) h)
@@ -41,13 +37,7 @@ parameters_are c plain h =
     let two = split (items_of 0xC1 p.calling) x one.1 in
     let three = split (items_of 0xC2 p.called) w two.1 in
     let four = split (items_of 0xC6 (single p.additional)) (items_of 0xC7 p.alternative) three.1 in
-    record {
-      size = plain.size;
-      calling = selector_is 0xC1 p.calling plain.calling two.0;
-      called = selector_is 0xC2 p.called plain.called three.0;
-      additional = plain.additional;
-      alternative = classes_are 0xC7 p.alternative four.1;
-    }
+    search (arith, selector_is, classes_are)
 
 -- ---- the length of parameters
 
@@ -58,9 +48,6 @@ slot_most code o n h = grind (arith, length-append)
 single_most : (code : ℕ) (o : Option ℕ) → length (flat_map item_octets (items_of code (single o))) ≤ 3
 single_most code o = grind arith
 
-items_join : (a b : List Item) → length (flat_map item_octets (a ++ b)) ≡ length (flat_map item_octets a) + length (flat_map item_octets b)
-items_join a b = grind (arith, flat_map-append, length-append)
-
 items_most : (c : Connect) → IsPlain c → length (flat_map item_octets (written_items c.parameters)) ≤ 77
 items_most c plain =
     let p = c.parameters in
@@ -69,14 +56,7 @@ items_most c plain =
     let d = slot_most 0xC2 p.called 32 plain.called in
     let e = single_most 0xC6 p.additional in
     let f = slot_most 0xC7 p.alternative 1 plain.alternative in
-    let w = items_of 0xC6 (single p.additional) ++ items_of 0xC7 p.alternative in
-    let x = items_of 0xC2 p.called ++ w in
-    let y = items_of 0xC1 p.calling ++ x in
-    let i = items_join (items_of 0xC0 (single p.size)) y in
-    let j = items_join (items_of 0xC1 p.calling) x in
-    let k = items_join (items_of 0xC2 p.called) w in
-    let l = items_join (items_of 0xC6 (single p.additional)) (items_of 0xC7 p.alternative) in
-    omega arith
+    grind (arith, flat_map-append, length-append)
 
 -- ---- CR and CC
 
@@ -88,14 +68,7 @@ connect_is code destination counted c plain octets =
     (octets_right (counted ∷ [])
     ((connect_part code destination c ++ flat_map item_octets (written_items c.parameters)) ++ c.user) octets) in
     let items = octets_right (connect_part code destination c) (flat_map item_octets (written_items c.parameters)) header in
-    record {
-      credit = plain.credit;
-      source = omega arith;
-      class = plain.class;
-      options = plain.options;
-      parameters = parameters_are c plain items;
-      user = subst IsOctets (sym plain.user) octets_nil;
-    }
+    grind (arith, parameters_are, octets_nil)
 
 -- ---- all units
 

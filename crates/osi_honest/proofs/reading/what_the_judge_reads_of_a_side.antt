@@ -3,13 +3,11 @@
 -- For what a capture shows of an end.
 use Rattle.osi_honest.proofs.Vocabulary.{[], ap, append_assoc, arith, Bool, cond, if◌then◌else◌, inl, inr, length, List, map, nat_le, Ok}
 use Rattle.osi_honest.proofs.Vocabulary.{Option, refl, Result, Some, ℕ, ◌++◌, ◌+◌, ◌<◌, ◌∙◌, ◌∷◌, ◌≡◌, ◌≤◌, ◌⊎◌, le-leb, length-append}
-use Rattle.osi_honest.proofs.Vocabulary.{filter, ArePackets, units_of, data0, Value, TpduFault, Part, packets, added, agreed}
-use Rattle.osi_honest.proofs.Vocabulary.{answering_step, asked_again, asking, astray, between, brought, closing_step, ended, first_of}
-use Rattle.osi_honest.proofs.Vocabulary.{first_step, first_unit, Handshake, has_asked, hasty_step, ignores, moved, next_step, opening}
-use Rattle.osi_honest.proofs.Vocabulary.{packet_length, packets_length, refuses, Sent, sent_by, sent_from, silent, Stage, stage_behind}
-use Rattle.osi_honest.proofs.Vocabulary.{stage_from, step_of, stopped, stops, within, Direction, Left, Right, Stop, NoOpening}
-use Rattle.osi_honest.proofs.Vocabulary.{NothingToAnswer, OtherClass, dt, units_put}
-use Rattle.osi_judge.specs.declared.stops.Stop.TheVariants.{TsduTooLong}
+use Rattle.osi_honest.proofs.Vocabulary.{filter, ArePackets, units_of, data0, Value, TpduFault, Part, packets, agreed, answering_step}
+use Rattle.osi_honest.proofs.Vocabulary.{asked_again, asking, astray, between, brought, first_of, first_step, first_unit, Handshake}
+use Rattle.osi_honest.proofs.Vocabulary.{has_asked, ignores, moved, opening, packet_length, packets_length, refuses, Sent, sent_by}
+use Rattle.osi_honest.proofs.Vocabulary.{sent_from, silent, Stage, stage_behind, stage_from, step_of, stopped, stops, within, Direction}
+use Rattle.osi_honest.proofs.Vocabulary.{Left, Right, Stop, NoOpening, NothingToAnswer, OtherClass, dt, units_put}
 use Rattle.osi_judge.specs.Transport.{asked, Move, asks, opens, refused}
 
 -- what the first unit of a packet is, or why it has none
@@ -45,15 +43,9 @@ record LiesIn (low high : ℕ) (s : Stage) (sent : List Sent) : Type 0 where
   stands : BegunIn low high s
   lie : LieIn low high sent
 
-added_in : (s : Stage) (at : ℕ) (u : List ℕ) (long end : Bool) (octets : List ℕ) (low : ℕ) → low ≤ first_of s at →
-    first_of s at < at + packet_length u →
-    LiesIn low (at + packet_length u) (if long then stopped TsduTooLong at else added s at end octets)
-    (if long then [] else ended s at u end octets)
-added_in s at u long end octets low a b = grind arith
-
 moved_in : (s : Stage) (at : ℕ) (u : List ℕ) (m : Move) (low : ℕ) → low ≤ first_of s at → first_of s at < at + packet_length u →
     BegunIn low (at + packet_length u) s → LiesIn low (at + packet_length u) (moved s at m) (brought s at u m)
-moved_in s at u m low a b h = search (arith, added_in)
+moved_in s at u m low a b h = search arith
 
 step_in : (d : Direction) (h : Handshake) (s : Stage) (at : ℕ) (u : List ℕ) (low : ℕ) → low ≤ at → BegunIn low at s →
     LiesIn low (at + packet_length u) (stage_behind d h s at u) (sent_by d h s at u)
@@ -65,10 +57,6 @@ pub lie_later : (low high later : ℕ) (sent : List Sent) → high ≤ later →
 lie_later low high later [] l h = tt
 lie_later low high later (t ∷ sent) l h = grind (arith, lie_later low high later sent l h.3)
 
-lie_more : (low high : ℕ) (some others : List Sent) → LieIn low high some → LieIn low high others → LieIn low high (some ++ others)
-lie_more low high [] others a b = b
-lie_more low high (t ∷ some) others a b = (a.0, a.1, a.2, lie_more low high some others a.3 b)
-
 pub all_lie : (d : Direction) (met : ℕ → Handshake) (s : Stage) (at : ℕ) (us : List (List ℕ)) (low : ℕ) → low ≤ at → BegunIn low at s →
     LieIn low (at + packets_length us) (sent_from d met s at us)
 all_lie d met s at [] low l h = tt
@@ -76,9 +64,7 @@ all_lie d met s at (u ∷ us) low l h =
     let one = step_in d (met at) s at u low l h in
     let next = stage_behind d (met at) s at u in
     let more = all_lie d met next (at + packet_length u) us low (omega arith) one.stands in
-    lie_more low (at + packets_length (u ∷ us)) (sent_by d (met at) s at u) (sent_from d met next (at + packet_length u) us)
-    (lie_later low (at + packet_length u) (at + packets_length (u ∷ us)) (sent_by d (met at) s at u) (omega arith) one.lie)
-    (lie_later low (at + packet_length u + packets_length us) (at + packets_length (u ∷ us)) _ (omega arith) more)
+    grind arith
 
 -- ---- how long packets are
 
@@ -116,24 +102,15 @@ Closes m = (m ≡ refuses) ⊎ ((stop : Stop) × (m ≡ stops stop))
 abbrev pub StartsOrCloses : Direction → Move → Type 0
 StartsOrCloses d m = Starts d m ⊎ Closes m
 
-asks_by : (b : Bool) (reference : ℕ) → StartsOrCloses Left (if b then asks reference else stops OtherClass)
-asks_by b reference = grind arith
-
 opens_by : (b : Bool) (reference : ℕ) → StartsOrCloses Right (if b then opens reference else stops OtherClass)
 opens_by b reference = grind arith
 
-answers_by : (b : Bool) (m : Move) → Closes m → Closes (if b then m else stops NoOpening)
-answers_by b m c = grind arith
-
-answer_closes : (v : Value) → Closes (answering_step v)
-answer_closes v = grind arith
-
 -- what right sends first, if it is no CC
 pub no_cc_closes : (h : Handshake) (v : Value) → Closes (if has_asked h then answering_step v else stops NoOpening)
-no_cc_closes h v = answers_by (has_asked h) (answering_step v) (answer_closes v)
+no_cc_closes h v = grind arith
 
 first_value : (d : Direction) (h : Handshake) (v : Value) → StartsOrCloses d (first_step d h v)
-first_value d h v = grind (arith, asks_by, opens_by, no_cc_closes)
+first_value d h v = grind (arith, opens_by, no_cc_closes)
 
 pub first_starts : (d : Direction) (h : Handshake) (unit : FirstUnit) → StartsOrCloses d (step_of d opening h unit)
 first_starts d h unit = grind (arith, first_value)
@@ -148,14 +125,10 @@ pub sent_refused : (d : Direction) (met : ℕ → Handshake) (place at : ℕ) (u
 sent_refused d met place at [] = refl
 sent_refused d met place at (u ∷ us) = grind (arith, sent_stopped, sent_refused d met place (at + packet_length u) us)
 
-closed_after : (d : Direction) (met : ℕ → Handshake) (s : Stage) (at : ℕ) (u : List ℕ) (us : List (List ℕ)) (m : Move) → Closes m →
-    after_move d met s at u us m ≡ []
-closed_after d met s at u us m h = grind (arith, sent_refused, sent_stopped)
-
 -- nor after a first packet that closes
 pub none_read : (d : Direction) (met : ℕ → Handshake) (u : List ℕ) (us : List (List ℕ)) →
     Closes (step_of d opening (met 0) (first_unit (units_of u))) → sent_from d met opening 0 (u ∷ us) ≡ []
-none_read d met u us c = closed_after d met opening 0 u us (step_of d opening (met 0) (first_unit (units_of u))) c
+none_read d met u us c = grind (arith, sent_refused, sent_stopped)
 
 -- ---- after a CR
 
@@ -181,15 +154,9 @@ pub record SameAfter (s t : Stage) (at : ℕ) (u : List ℕ) (m n : Move) : Type
   pub stage_is : moved s at m ≡ moved t at n
   pub sent_is : brought s at u m ≡ brought t at u n
 
-hasty_same : (at : ℕ) (u : List ℕ) (v : Value) → SameAfter asking between at u (hasty_step v) (next_step v)
-hasty_same at u v = grind arith
-
-pub next_same : (at : ℕ) (u : List ℕ) (v : Value) → SameAfter asking between at u (next_step v) (next_step v)
-next_same at u v = grind arith
-
 calm_same : (d : Direction) (h : Handshake) (at : ℕ) (u : List ℕ) (unit : FirstUnit) → IsCalm h →
     SameAfter asking between at u (step_of d asking h unit) (step_of d between h unit)
-calm_same d h at u unit calm = grind (arith, hasty_same, next_same)
+calm_same d h at u unit calm = grind arith
 
 asking_read : (d : Direction) (met : ℕ → Handshake) (at : ℕ) (us : List (List ℕ)) → ((k : ℕ) → IsCalm (met k)) →
     sent_from d met asking at us ≡ sent_from d met between at us
@@ -210,24 +177,15 @@ abbrev pub HasNoData : FirstUnit → Type 0
 HasNoData (Ok (Some (data0 end octets))) = ⊥
 HasNoData unit = Unit {0}
 
-next_closes : (v : Value) → HasNoData (Ok (Some v)) → Closes (next_step v)
-next_closes v none = grind arith
-
-hasty_closes : (v : Value) → HasNoData (Ok (Some v)) → Closes (hasty_step v)
-hasty_closes v none = grind arith
-
 by_references : (b : Bool) → Closes (if b then refuses else stops NothingToAnswer)
 by_references b = grind arith
 
-closing_closes : (destination source : ℕ) (v : Value) → Closes (closing_step destination source v)
-closing_closes destination source v = grind (arith, by_references)
-
 between_closes : (d : Direction) (h : Handshake) (unit : FirstUnit) → HasNoData unit → Closes (step_of d between h unit)
-between_closes d h unit none = grind (arith, next_closes)
+between_closes d h unit none = grind arith
 
 -- after a CR it closes too, or it is ignored since the other side has strayed
 asking_closes : (d : Direction) (h : Handshake) (unit : FirstUnit) → HasNoData unit → Closes (step_of d asking h unit) ⊎ IsStrayed h
-asking_closes d h unit none = grind (arith, hasty_closes, next_closes, closing_closes)
+asking_closes d h unit none = grind arith
 
 strayed_ignores : (d : Direction) (h : Handshake) (unit : FirstUnit) → IsStrayed h →
     Closes (step_of d asking h unit) ⊎ (step_of d asking h unit ≡ ignores)
@@ -241,15 +199,14 @@ none_strayed : (d : Direction) (met : ℕ → Handshake) → StaysStrayed met �
     sent_from d met asking at us ≡ []
 none_strayed d met stays at [] strayed = refl
 none_strayed d met stays at (u ∷ us) strayed = elim (strayed_ignores d (met at) (first_unit (units_of u)) strayed) [
-  | inl c ↦ closed_after d met asking at u us (step_of d asking (met at) (first_unit (units_of u))) c
-  | inr is ↦ ap (after_move d met asking at u us) is
-      ∙ none_strayed d met stays (at + packet_length u) us (stays at (at + packet_length u) (omega arith) strayed)
+  | inl c ↦ grind (arith, sent_refused, sent_stopped)
+  | inr is ↦ grind (arith, none_strayed d met stays (at + packet_length u) us (stays at (at + packet_length u) (omega arith) strayed))
 ]
 
 none_asking : (d : Direction) (met : ℕ → Handshake) → StaysStrayed met → (at : ℕ) (u : List ℕ) (us : List (List ℕ)) →
     HasNoData (first_unit (units_of u)) → sent_from d met asking at (u ∷ us) ≡ []
 none_asking d met stays at u us none = elim (asking_closes d (met at) (first_unit (units_of u)) none) [
-  | inl c ↦ closed_after d met asking at u us (step_of d asking (met at) (first_unit (units_of u))) c
+  | inl c ↦ grind (arith, sent_refused, sent_stopped)
   | inr strayed ↦ none_strayed d met stays at (u ∷ us) strayed
 ]
 
@@ -260,10 +217,4 @@ pub none_second : (d : Direction) (met : ℕ → Handshake) → StaysStrayed met
 none_second Left met stays u next us none (reference, is) = grind (arith, none_asking)
 none_second Right met stays u next us none (reference, is) =
     ap (after_move Right met opening 0 u (next ∷ us)) is
-    ∙ closed_after Right met between (0 + packet_length u) next us
-    (step_of Right between (met (0 + packet_length u)) (first_unit (units_of next)))
-    (between_closes Right (met (0 + packet_length u)) (first_unit (units_of next)) none)
-
--- nor of one that sent but one packet
-pub none_first : (d : Direction) (met : ℕ → Handshake) (u : List ℕ) → sent_from d met opening 0 (u ∷ []) ≡ []
-none_first d met u = grind (arith, first_starts, none_read)
+    ∙ (grind (arith, sent_refused, sent_stopped))

@@ -3,10 +3,9 @@
 use Rattle.osi_honest.proofs.Vocabulary.{[], ap, append_assoc, arith, Bool, false, get_or, length, List, map, refl, subst, sym, ℕ, ◌++◌}
 use Rattle.osi_honest.proofs.Vocabulary.{◌+◌, ◌∙◌, ◌∷◌, ◌≡◌, append-nil, map-append, after_input, called, came, Listener}
 use Rattle.osi_honest.proofs.Vocabulary.{linked_up as opened, session_react as react, Told, IsSentFrom, Pass, Runs, sends, History, Said}
-use Rattle.osi_honest.proofs.Vocabulary.{said_after}
+use Rattle.osi_honest.proofs.Vocabulary.{said_after, told_of}
 use Rattle.std.proofs.Common.{length-append}
 use Rattle.osi_judge.specs.Running as running
-use Rattle.osi_honest.specs.Talking.{told_of}
 use Rattle.osi_honest.specs.Talking as history
 
 at_place : (took rest : List (List ℕ)) (tsdu : List ℕ) → get_or (took ++ tsdu ∷ rest) (length took) [] ≡ tsdu
@@ -34,8 +33,7 @@ module _ (begin : Listener) (us : List (List ℕ)) where
       subst (λ (n : ℕ). Runs us (react l (came tsdu)).closes (after_input l (came tsdu)) n later) count run in
       let step : Runs us false l (length took) (map told_of now ++ later) =
       running.takes l (length took) (map told_of now) later w
-      (subst (λ (x : List ℕ). Pass (length took + 1) (sends l (came x)) (map told_of now)) (sym here)
-      (now_passes (length took + 1) (sends l (came tsdu))))
+      (grind (arith, now_passes))
       (subst (λ (x : List ℕ). Runs us (react l (came x)).closes (after_input l (came x)) (length took + 1) later) (sym here) next) in
       subst (Runs us false begin 0) (all_told said now later)
       (history_runs took said false l h (tsdu ∷ rest) all (map told_of now ++ later) step)

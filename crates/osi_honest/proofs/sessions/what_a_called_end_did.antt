@@ -1,16 +1,13 @@
 -- What a called end did in all, from its first turn on: for each run of its turns.
 -- For the law that a called end is not blamed.
-use Rattle.osi_honest.proofs.Vocabulary.{[], ap, append_assoc, arith, Bool, false, if◌then◌else◌, inl, inr, length, List, map, Ok, refl}
-use Rattle.osi_honest.proofs.Vocabulary.{Result, Some, subst, sym, true, ℕ, ◌++◌, ◌+◌, ◌∙◌, ◌∷◌, ◌≡◌, eqb-true, append-nil, length-append}
-use Rattle.osi_honest.proofs.Vocabulary.{IsOctets, packet_of, ArePackets, units_found, AreUnits, units_of, Spells, confirm, request, Value}
-use Rattle.osi_honest.proofs.Vocabulary.{written, TpduFault, proposes, Part, Zero, Local, acceptance, packets, Listener, awaits, Holding}
-use Rattle.osi_honest.proofs.Vocabulary.{Capture, other, passed_before, IsSentFrom, heard, told, agreed, between, first_unit, Handshake}
-use Rattle.osi_honest.proofs.Vocabulary.{met_before, opening, packet_length, packets_length, Sent, sent_from, shaken_first, stage_from}
-use Rattle.osi_honest.proofs.Vocabulary.{step_of, stops, Direction, Left, Right, OtherClass, IsOtherAnswer, WaitingTurn, Waits, dt}
-use Rattle.osi_honest.proofs.Vocabulary.{units_put, IsFresh, IsPrefix, IsSeen, PassAfter, put_along, used_along, octets_said, Said, Run}
-use Rattle.osi_honest.proofs.Vocabulary.{Turn}
-use Rattle.osi_tpdu.specs.Value.{Connect}
-use Rattle.osi_judge.specs.Transport.{asks}
+use Rattle.osi_honest.proofs.Vocabulary.{[], ap, append_assoc, arith, false, if◌then◌else◌, inl, inr, length, List, map, Ok, refl, Result}
+use Rattle.osi_honest.proofs.Vocabulary.{Some, subst, sym, true, ℕ, ◌++◌, ◌+◌, ◌∙◌, ◌∷◌, ◌≡◌, eqb-true, append-nil, length-append, IsOctets}
+use Rattle.osi_honest.proofs.Vocabulary.{packet_of, units_found, AreUnits, units_of, Spells, confirm, request, Value, written, TpduFault}
+use Rattle.osi_honest.proofs.Vocabulary.{proposes, Part, Zero, Local, acceptance, packets, Listener, awaits, Holding, Capture, other}
+use Rattle.osi_honest.proofs.Vocabulary.{IsSentFrom, heard, told, agreed, between, first_unit, Handshake, met_before, opening}
+use Rattle.osi_honest.proofs.Vocabulary.{packet_length, packets_length, Sent, sent_from, shaken_first, stage_from, step_of, Direction, Left}
+use Rattle.osi_honest.proofs.Vocabulary.{Right, IsOtherAnswer, WaitingTurn, Waits, dt, units_put, IsFresh, IsPrefix, IsSeen, PassAfter}
+use Rattle.osi_honest.proofs.Vocabulary.{put_along, used_along, octets_said, Said, Run, Turn, Connect}
 use Rattle.osi_honest.specs.Openings.{Opens}
 use Rattle.osi_honest.specs.Openings as turned
 use Rattle.osi_honest.proofs.class_0.what_a_packet_does_in_class_0.{AllProper}
@@ -22,8 +19,7 @@ use Rattle.osi_honest.proofs.class_0.what_a_call_does_in_class_0.{over_run}
 use Rattle.osi_honest.proofs.sessions.what_a_capture_shows_of_an_end.{AreRead, Did, alone, aside, beside, capture_counts, end_is_honest}
 use Rattle.osi_honest.proofs.sessions.what_a_capture_shows_of_an_end.{none_sent, nothing, spoke}
 use Rattle.osi_honest.proofs.reading.how_far_the_other_side_had_come.{agrees, calm_after}
-use Rattle.osi_honest.proofs.reading.what_the_judge_reads_of_a_side.{Begins, Closes, IsCalm, IsSteady, Starts, first_starts, none_read}
-use Rattle.osi_honest.proofs.reading.what_the_judge_reads_of_a_side.{size_put}
+use Rattle.osi_honest.proofs.reading.what_the_judge_reads_of_a_side.{Begins, Closes, IsSteady, Starts, first_starts, none_read, size_put}
 
 -- ---- a turn in which nothing was put, and then more turns
 
@@ -70,9 +66,7 @@ module _ (d : Direction) (capture : Capture) (coming : List ℕ) (others : List 
       let all = then_spoke d capture coming others met back counts begin [] at front turns told parts refl caused stage
       (subst (λ (n : ℕ). Spoke d capture coming others met back counts begin told n turns) place s) in
       spoke w all.parts all.took all.told all.closed all.session all.used
-      (ap (λ (x : List ℕ). x ++ put_along turns) is
-      ∙ append_assoc (packet_of (written w)) (packets (map dt parts)) (put_along turns)
-      ∙ ap (λ (x : List ℕ). packet_of (written w) ++ x) all.put)
+      (grind (arith, append_assoc))
       steady all.history all.caused all.reached all.front
 
 -- ---- a called end
@@ -81,8 +75,7 @@ called_opened : (wanted : Connect) (first : List ℕ) (h : Handshake) → units_
     proposes wanted 0 ≡ true → Starts Left (step_of Left opening h (first_unit (units_of first)))
 called_opened wanted first h is proposed = (
   wanted.source,
-  ap (λ (x : Result (List Value) TpduFault). step_of Left opening h (first_unit x)) is
-      ∙ ap (λ (b : Bool). if b then asks wanted.source else stops OtherClass) proposed,
+  grind arith,
 )
 
 -- ---- another answer to a CR than a CC of class 0
@@ -105,8 +98,7 @@ never_opened answer _ other octets e is = cc
 other_closes : (answer : Value) → IsOtherAnswer answer → IsOctets (written answer) → (h : Handshake) →
     Closes (step_of Right opening h (first_unit (units_of (written answer))))
 other_closes answer other octets h = elim (first_starts Right h (first_unit (units_of (written answer)))) [
-  | inl starts ↦ absurd (never_opened answer (units_of (written answer)) other octets refl
-      (agrees h (first_unit (units_of (written answer))) starts))
+  | inl starts ↦ search (arith, never_opened, agrees)
   | inr closes ↦ closes
 ]
 
@@ -120,17 +112,10 @@ module _ (capture : Capture) (coming : List ℕ) (others : List Sent) (met back 
       let w = confirm o.wanted.source (acceptance Zero o.size o.wanted old.end.carrier.local o.r) in
       let at = 0 + packet_length (written w) in
       let opened : Begins Left back o.first = (steady, called_opened o.wanted o.first (back 0) o.is_request o.proposed) in
-      let is : turn.put ≡ packets (w ∷ map dt o.parts) = o.written
-      ∙ ap (λ (x : List ℕ). x ++ packets (map dt o.parts)) (append-nil (packet_of (written w))) in
+      let is : turn.put ≡ packets (w ∷ map dt o.parts) = grind (arith, append-nil) in
       let size : length turn.put ≡ packet_length (written w) + packets_length (units_put o.parts) =
-      let e = ap (λ (x : List ℕ). length x) is in
-      let l = length-append (packet_of (written w)) (packets (map dt o.parts)) in
-      let n = size_put o.parts in omega arith in
-      let now : Came o.first o.more o.later (used ++ turn.used) o.rest = record {
-        units = o.units;
-        cut = subst (λ (x : List ℕ). ArePackets (o.first ∷ o.units) (x ++ turn.used) o.rest) (sym held) o.cut;
-        brings = o.brings;
-      } in
+      grind (arith, length-append, size_put) in
+      let now : Came o.first o.more o.later (used ++ turn.used) o.rest = grind arith in
       let on : IsPrefix ((used ++ turn.used) ++ used_along turns) coming =
       (front.0, ap (λ (x : List ℕ). x ++ front.0) (append_assoc used turn.used (used_along turns)) ∙ front.1) in
       let sum = length-append used turn.used in
@@ -170,16 +155,11 @@ module _ (capture : Capture) (coming : List ℕ) (others : List Sent) (met back 
           did_later Right capture coming others met back awaits turn turns none (more waits none same)
       by (turned.opens o) more = opens_did used turn turns old run.0 new o held front after run.2
       by (turned.is_over over none) more =
-          nothing (ap (λ (x : List ℕ). x ++ put_along turns) none
-          ∙ over_run turns run.0 new over run.2)
+          nothing (grind (arith, over_run))
       by (turned.answers_last over answer is) more =
-          last_answer answer (ap (λ (x : List ℕ). x ++ put_along turns) is
-          ∙ ap (λ (x : List ℕ). packets (answer ∷ []) ++ x)
-          (over_run turns run.0 new over run.2)
-          ∙ append-nil (packets (answer ∷ [])))
+          last_answer answer (grind (arith, over_run, append-nil))
       by (turned.turns_away answer later other is) more =
-          aside answer (later ++ put_along turns) (ap (λ (x : List ℕ). x ++ put_along turns) is
-          ∙ append_assoc (packet_of (written answer)) later (put_along turns)) (other_closes answer other)
+          aside answer (later ++ put_along turns) (grind (arith, append_assoc)) (other_closes answer other)
 
 -- ---- from the beginning
 
@@ -214,8 +194,7 @@ called_sent proper local begin end turns capture seen mine others read fresh run
       | inl starts ↦ end_is_honest Right capture awaits turns seen mine others read
           (called_did proper local begin end turns capture seen others met (met_before Left capture read.own)
           (capture_counts Right capture turns seen mine others read)
-          (λ k. subst (λ (x : List (List ℕ)). IsCalm (met_before Left capture x k)) (sym is)
-          (calm_after (passed_before Left capture k) u own (agrees (met 0) (first_unit (units_of u)) starts)))
+          (grind (arith, calm_after, agrees (met 0) (first_unit (units_of u)) starts))
           fresh run)
       | inr closes ↦ nothing_read (u ∷ own) is (none_read Right met u own closes)
     ]

@@ -1,17 +1,15 @@
 -- What a calling end did in all, from its request on: for each run of its turns.
 -- For the law that a calling end is not blamed.
 use Rattle.osi_honest.proofs.Vocabulary.{[], ap, append_assoc, arith, Bool, false, if◌then◌else◌, inl, inr, length, List, map, None, Ok}
-use Rattle.osi_honest.proofs.Vocabulary.{refl, Result, subst, sym, true, ℕ, ◌++◌, ◌+◌, ◌==◌, ◌∙◌, ◌∷◌, ◌≡◌, ◌≤◌, append-nil, length-append}
-use Rattle.osi_honest.proofs.Vocabulary.{IsOctets, packet_of, ArePackets, units_found, units_of, Spells, confirm, data0, disconnected}
-use Rattle.osi_honest.proofs.Vocabulary.{request, Value, written, written_header, TpduFault, Local, packets, Listener, is_wait_transport}
-use Rattle.osi_honest.proofs.Vocabulary.{calls_with, terms_error, Holding, Request, Capture, other, IsHonestIn, IsSentFrom, broke_session}
-use Rattle.osi_honest.proofs.Vocabulary.{heard, IsFoundIn, told, between, first_unit, Handshake, met_before, opening, packet_length}
-use Rattle.osi_honest.proofs.Vocabulary.{packets_length, Sent, sent_from, step_of, stops, Direction, Left, Right, Finding, OtherClass}
-use Rattle.osi_honest.proofs.Vocabulary.{AskingTurn, Asks, Idles, IdleTurn, IsAnswered, IsNoData, dt, units_put, IsFresh, IsPrefix, IsSeen}
-use Rattle.osi_honest.proofs.Vocabulary.{PassAfter, put_along, used_along, octets_said, Run, Turn}
-use Rattle.osi_tpdu.specs.Value.{Connect}
+use Rattle.osi_honest.proofs.Vocabulary.{refl, Result, subst, sym, true, ℕ, ◌++◌, ◌+◌, ◌==◌, ◌∙◌, ◌∷◌, ◌≡◌, append-nil, length-append}
+use Rattle.osi_honest.proofs.Vocabulary.{IsOctets, packet_of, units_found, units_of, Spells, confirm, data0, disconnected, request, Value}
+use Rattle.osi_honest.proofs.Vocabulary.{written, TpduFault, Local, packets, Listener, is_wait_transport, calls_with, terms_error, Holding}
+use Rattle.osi_honest.proofs.Vocabulary.{Request, Capture, other, IsHonestIn, IsSentFrom, broke_session, heard, IsFoundIn, told, between}
+use Rattle.osi_honest.proofs.Vocabulary.{first_unit, Handshake, met_before, opening, packet_length, packets_length, Sent, sent_from}
+use Rattle.osi_honest.proofs.Vocabulary.{step_of, Direction, Left, Right, Finding, AskingTurn, Asks, Idles, IdleTurn, IsAnswered, IsNoData}
+use Rattle.osi_honest.proofs.Vocabulary.{dt, units_put, IsFresh, IsPrefix, IsSeen, PassAfter, put_along, used_along, octets_said, Run, Turn}
+use Rattle.osi_honest.proofs.Vocabulary.{Connect}
 use Rattle.osi_judge.specs.declared.findings.Finding.TheVariants as outcome
-use Rattle.osi_judge.specs.Transport.{opens}
 use Rattle.osi_honest.specs.Openings as turned
 use Rattle.osi_honest.proofs.opening.how_a_caller_opens.{CanBegin}
 use Rattle.osi_honest.proofs.opening.the_session_of_a_request_is_a_caller.{opens_so}
@@ -31,16 +29,8 @@ use Rattle.osi_honest.proofs.reading.what_the_judge_reads_of_a_side.{Begins, Clo
 
 -- ---- what is no DT of class 0 is not read as one
 
--- its header has more than two octets
-pub long_header : (v : Value) → IsNoData v → 4 ≤ length (written_header v)
-long_header v h = grind arith
-
-first_octet : (v : Value) (header octets : List ℕ) → written v ≡ length header ∷ header ++ octets →
-    length (written_header v) ≡ length header
-first_octet v header octets e = cc
-
 spelled_data : (v : Value) (last : Bool) (octets : List ℕ) → IsNoData v → Spells (data0 last octets) (written v) → ⊥
-spelled_data v last octets other s = grind (arith, long_header, first_octet)
+spelled_data v last octets other s = grind arith
 
 read_other : (v : Value) (units : Result (List Value) TpduFault) → IsNoData v → IsOctets (written v) →
     units_of (written v) ≡ units → HasNoData (first_unit units)
@@ -59,8 +49,7 @@ answer_opened : (destination : ℕ) (answer : Connect) (first : List ℕ) (h : H
     Starts Right (step_of Right opening h (first_unit (units_of first)))
 answer_opened destination answer first h is zero = (
   answer.source,
-  ap (λ (x : Result (List Value) TpduFault). step_of Right opening h (first_unit x)) is
-      ∙ ap (λ (b : Bool). if b then opens answer.source else stops OtherClass) zero,
+  grind arith,
 )
 
 module _ (capture : Capture) (coming : List ℕ) (others : List Sent) (met back : ℕ → Handshake)
@@ -86,11 +75,7 @@ module _ (capture : Capture) (coming : List ℕ) (others : List Sent) (met back 
       let starts = answer_opened a.destination a.answer a.first (back 0) a.is_answer a.of_zero in
       let opened : Begins Right back a.first = (tt, starts) in
       let size : length turn.put ≡ packets_length (units_put a.parts) = ap (λ (x : List ℕ). length x) a.written ∙ size_put a.parts in
-      let now : Came a.first a.more a.later (used ++ turn.used) a.rest = record {
-        units = a.units;
-        cut = subst (λ (x : List ℕ). ArePackets (a.first ∷ a.units) (x ++ turn.used) a.rest) (sym held) a.cut;
-        brings = a.brings;
-      } in
+      let now : Came a.first a.more a.later (used ++ turn.used) a.rest = grind arith in
       let on : IsPrefix ((used ++ turn.used) ++ used_along turns) coming =
       (front.0, ap (λ (x : List ℕ). x ++ front.0) (append_assoc used turn.used (used_along turns)) ∙ front.1) in
       let sum = length-append used turn.used in
@@ -101,9 +86,7 @@ module _ (capture : Capture) (coming : List ℕ) (others : List Sent) (met back 
       (used ++ turn.used) a.rest at a.parts a.told now
       (prefix_front Left capture coming others met back counts (used ++ turn.used) (used_along turns) on) pass a.carry a.short a.counted in
       speech
-      (steadies a.first a.units (used ++ turn.used) a.rest now.cut
-      (prefix_front Left capture coming others met back counts (used ++ turn.used) (used_along turns) on)
-      (agrees (back 0) (first_unit (units_of a.first)) starts))
+      (search (arith, prefix_front, agrees))
       (then_spoke Left capture coming others met back counts session [] at turn turns a.told a.parts a.written caused reads.then_is
       (run_spoke Left capture coming others met back counts proper session r a.first opened turns mid new a.more a.told a.later
       (used ++ turn.used) a.rest (at + length turn.put) run a.stands now a.held on
@@ -199,8 +182,7 @@ module _ (capture : Capture) (coming : List ℕ) (others : List Sent) (met back 
       let now : used ++ turn.used ≡ mid.held.octets =
       ap (λ (x : List ℕ). used ++ x) none ∙ append-nil used ∙ held ∙ sym same in
       let passes : PassAfter Left capture (length (used ++ turn.used)) (packet_length (written (request cr))) turns =
-      subst (λ (n : ℕ). PassAfter Left capture n (packet_length (written (request cr))) turns) (sym (length-append used turn.used))
-      (subst (λ (n : ℕ). PassAfter Left capture (length used + length turn.used) n turns) size after.1) in
+      grind (arith, length-append) in
       asked c terms (asked_did capture coming others met back counts steadies proper (calls_with c) (begins c terms) refl (request cr) turn
       turns put
       (after_request capture coming others met back counts steadies proper (calls_with c) (begins c terms) refl turns r
@@ -222,14 +204,10 @@ module _ (capture : Capture) (coming : List ℕ) (others : List Sent) (met back 
       by (turned.requests c r cr terms asks none put same) more =
           requested c r cr used turn turns old run.0 new terms asks none put same held front after run.2
       by (turned.idle_over over none) more =
-          unasked (nothing_put (ap (λ (x : List ℕ). x ++ put_along turns) none
-          ∙ over_run turns run.0 new over run.2))
+          unasked (nothing_put (grind (arith, over_run)))
       by (turned.puts_a_dc destination source later is) more =
           unasked (first_aside (disconnected destination source) (later ++ put_along turns) (ap (λ (x : List ℕ). x ++ put_along turns) is
           ∙ append_assoc (packet_of (written (disconnected destination source))) later (put_along turns)) (dc_closes destination source))
-
-fresh_idles : (local : Local) (begin : Holding) → IsFresh true local begin → Idles begin.end
-fresh_idles local begin fresh = grind arith
 
 pub calling_did : (proper : AllProper) (begins : (c : Request) → terms_error c ≡ None → CanBegin (calls_with c)) (local : Local)
     (begin end : Holding) (turns : List Turn) (capture : Capture) (seen : IsSeen Left turns capture) (others : List Sent)
@@ -237,7 +215,7 @@ pub calling_did : (proper : AllProper) (begins : (c : Request) → terms_error c
     IsFresh true local begin → Run begin turns end →
     CallerDid capture seen.coming others met back counts steadies proper begins turns
 calling_did proper begins local begin end turns capture seen others met back counts steadies fresh run =
-    idle_did capture seen.coming others met back counts steadies proper begins turns [] begin end (fresh_idles local begin fresh)
+    idle_did capture seen.coming others met back counts steadies proper begins turns [] begin end (grind arith)
     (sym fresh.held) seen.used seen.after run
 
 -- ---- what is found of it

@@ -1,9 +1,8 @@
 -- A capture that shows what a session sent, up to some place, with at least as many TSDUs before each as the session had
 -- taken by then, shows a run of it as the judge has it.
 -- For the laws of an end and its captures.
-use Rattle.osi_honest.proofs.Vocabulary.{[], ap, arith, Bool, false, get_or, length, List, refl, subst, sym, ℕ, ◌++◌, ◌+◌, ◌<◌, ◌∷◌, ◌≡◌}
-use Rattle.osi_honest.proofs.Vocabulary.{◌≤◌, after_input, came, Listener, session_react as react, Told, IsSentFrom, Pass, Runs, sends}
-use Rattle.osi_honest.proofs.Vocabulary.{AreSame, Shows}
+use Rattle.osi_honest.proofs.Vocabulary.{[], ap, arith, Bool, false, get_or, length, List, refl, ℕ, ◌++◌, ◌+◌, ◌<◌, ◌∷◌, ◌≡◌, ◌≤◌, came}
+use Rattle.osi_honest.proofs.Vocabulary.{Listener, Told, IsSentFrom, Pass, Runs, sends, AreSame, Shows}
 use Rattle.osi_judge.specs.Running as running
 
 -- ---- how many had been taken
@@ -90,15 +89,12 @@ module _ (took us : List (List ℕ)) (same : AreSame us took) where
       let here : get_or us taken [] ≡ get_or took taken [] = same taken few in
       let rest = shown_run _ _ (taken + 1) (shown_after shown now) later (shows_after (length us) shown now later s) e in
       stepped us false l taken shown now rest.later (running.takes l taken (shown_in shown now) (shown_after shown now ++ rest.later) w
-      (subst (λ (x : List ℕ). Pass (taken + 1) (sends l (came x)) (shown_in shown now)) (sym here)
-      (passes_shown (length us) (taken + 1) (sends l (came (get_or took taken []))) shown now later s p))
-      (subst (λ (x : List ℕ). Runs us (react l (came x)).closes (after_input l (came x)) (taken + 1)
-      (shown_after shown now ++ rest.later)) (sym here) rest.runs))
+      (grind (arith, passes_shown (length us) (taken + 1) (sends l (came (get_or took taken []))) shown now later s p))
+      (grind arith))
     where
       first_few : (n : ℕ) (t : Told) (told all : List Told) → Shows (length us) (t ∷ told) all → AllFrom n all → n ≤ length us
       first_few n t told [] s a = absurd s
-      first_few n t told (b ∷ all) s a = let i : b.before ≤ t.before = s.1 in let j : t.before ≤ length us = s.2 in let k : n ≤ b.before =
-          a.0 in omega arith
+      first_few n t told (b ∷ all) s a = let i : b.before ≤ t.before = s.1 in grind arith
   shown_run closed l taken (t ∷ told) all s (running.calls _ _ _ c now later serial p e) =
       let shown = t ∷ told in
       let rest = shown_run _ _ taken (shown_after shown now) later (shows_after (length us) shown now later s) e in

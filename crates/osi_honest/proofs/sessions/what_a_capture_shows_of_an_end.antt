@@ -3,12 +3,11 @@
 use Rattle.osi_honest.proofs.Vocabulary.{[], ap, append_assoc, arith, Bool, false, inl, inr, length, List, map, refl, subst, sym, ℕ, ◌++◌}
 use Rattle.osi_honest.proofs.Vocabulary.{◌+◌, ◌∙◌, ◌∷◌, ◌≡◌, ◌≤◌, get_or_append_left, map-append, IsOctets, packet_of, ArePackets, units_of}
 use Rattle.osi_honest.proofs.Vocabulary.{Value, written, Part, packets, Listener, one_reading, packets_of, Capture, other, passed_before}
-use Rattle.osi_honest.proofs.Vocabulary.{stream, Told, IsSentFrom, had_passed, heard, octets_of, told, agreed, ArePacketsOf, between}
-use Rattle.osi_honest.proofs.Vocabulary.{first_unit, Handshake, IsSent, met_before, opening, packet_length, packets_length, Sent, sent_from}
+use Rattle.osi_honest.proofs.Vocabulary.{stream, Told, IsSentFrom, had_passed, heard, told, agreed, ArePacketsOf, between, first_unit}
+use Rattle.osi_honest.proofs.Vocabulary.{Handshake, IsSent, met_before, opening, packet_length, packets_length, Sent, sent_from}
 use Rattle.osi_honest.proofs.Vocabulary.{shaken_first, stage_from, step_of, Direction, Left, Right, dt, units_put, IsPrefix, IsSeen}
-use Rattle.osi_honest.proofs.Vocabulary.{put_along, AreSame, Shows, History, Said, Turn}
+use Rattle.osi_honest.proofs.Vocabulary.{put_along, Shows, History, Said, Turn, told_of}
 use Rattle.osi_judge.specs.Running as running
-use Rattle.osi_honest.specs.Talking.{told_of}
 use Rattle.osi_honest.proofs.sessions.a_history_is_a_run.{history_runs, is_sent}
 use Rattle.osi_honest.proofs.sessions.what_a_capture_shows_is_a_run.{shown_sent}
 use Rattle.osi_honest.proofs.reading.two_readings_of_a_stream_agree.{GoesBeyond, first, first_shown, packet_again, packets_on, second}
@@ -18,7 +17,7 @@ use Rattle.osi_honest.proofs.sessions.what_an_end_put_was_caused.{AreCaused, Cou
 use Rattle.osi_honest.proofs.reading.how_far_the_other_side_had_come.{calm_after, stays_strayed}
 use Rattle.osi_honest.proofs.reading.what_the_judge_reads_of_a_side.{Closes, HasNoData, IsCalm, IsSteady, LieIn, StartsOrCloses}
 use Rattle.osi_honest.proofs.reading.what_the_judge_reads_of_a_side.{StaysStrayed, all_lie, all_read, first_starts, lie_later, most_count}
-use Rattle.osi_honest.proofs.reading.what_the_judge_reads_of_a_side.{none_first, none_read, none_second, sent_then, size_read}
+use Rattle.osi_honest.proofs.reading.what_the_judge_reads_of_a_side.{none_read, none_second, sent_then, size_read}
 
 -- ---- what an end did in all
 
@@ -66,9 +65,6 @@ nothing_shown d capture others bound all mine none = grind arith
 
 -- ---- what was taken and what is heard are prefixes of one list
 
-same_front : (us more : List (List ℕ)) → AreSame us (us ++ more)
-same_front us more i l = sym (get_or_append_left us more [] i l)
-
 -- A session took the first TSDUs of what is heard, or more than that.
 pub data Follows (us took : List (List ℕ)) : Type 0 where
   heard_more : (more : List (List ℕ)) → us ≡ took ++ more → Follows us took
@@ -81,12 +77,7 @@ sent_by_session begin took us said closed session told h (heard_more more is) sh
       later = [];
       runs = history_runs begin us took said closed session h more is [] (running.rests closed session (length took));
     })
-sent_by_session begin took us said closed session told h (took_more more is) shows = grind (arith, shown_sent, same_front, is_sent)
-
-heard_all : (d : Direction) (met : ℕ → Handshake) (us more : List (List ℕ)) →
-    heard (sent_from d met opening 0 (us ++ more)) ≡ heard (sent_from d met opening 0 us)
-    ++ heard (sent_from d met (stage_from d met opening 0 us) (0 + packets_length us) more)
-heard_all d met us more = ap heard (sent_then d met opening 0 us more) ∙ map-append octets_of _ _
+sent_by_session begin took us said closed session told h (took_more more is) shows = grind (arith, shown_sent, get_or_append_left, is_sent)
 
 follows : (d : Direction) (met : ℕ → Handshake) (units : List (List ℕ)) (s r coming used : List ℕ) (took : List (List ℕ)) →
     ArePackets units s r → IsPrefix s coming → IsPrefix used coming → Reached d met used took →
@@ -94,19 +85,15 @@ follows : (d : Direction) (met : ℕ → Handshake) (units : List (List ℕ)) (s
 follows d met units s r coming used took cut shown front reached =
     by (two_readings units reached.units coming (r ++ shown.0) (reached.rest ++ front.0)
     (subst (λ (x : List ℕ). ArePackets units x (r ++ shown.0)) shown.1 (packets_on units s r shown.0 cut))
-    (subst (λ (x : List ℕ). ArePackets reached.units x (reached.rest ++ front.0)) front.1
-    (packets_on reached.units used reached.rest front.0 reached.cut)))
+    (grind (arith, packets_on)))
   where
     by : GoesBeyond units reached.units (r ++ shown.0) (reached.rest ++ front.0) → Follows (heard (sent_from d met opening 0 units)) took
     by (second more is p) =
         took_more (heard (sent_from d met (stage_from d met opening 0 units) (0 + packets_length units) more))
-        (sym reached.read ∙ ap (λ (x : List (List ℕ)). heard (sent_from d met opening 0 x)) is ∙ heard_all d met units more)
+        (sym reached.read ∙ ap (λ (x : List (List ℕ)). heard (sent_from d met opening 0 x)) is ∙ (grind (arith, map-append, sent_then)))
     by (first more is p) =
         heard_more (heard (sent_from d met (stage_from d met opening 0 reached.units) (0 + packets_length reached.units) more))
-        (ap (λ (x : List (List ℕ)). heard (sent_from d met opening 0 x)) is ∙ heard_all d met reached.units more
-        ∙ ap (λ (x : List (List ℕ)). x
-        ++ heard (sent_from d met (stage_from d met opening 0 reached.units) (0 + packets_length reached.units) more))
-        reached.read)
+        (grind (arith, map-append, sent_then))
 
 -- If a CC of class 0 came first, what left sends after its CR is read as between two TSDUs.
 abbrev pub Steadies : (coming : List ℕ) → (ℕ → Handshake) → Type 0
@@ -173,8 +160,7 @@ module _ (d : Direction) (capture : Capture) (others : List Sent) (met : ℕ →
           subst (λ (x : List Sent). Shows (length (heard others)) (told d capture x others) (map told_of said))
           (sym (all_read d met u units (steady, starts)))
           (shown_said d capture others mine more said 0 (subst (λ (x : List Sent). AreCaused d capture others x said) all c)
-          (lie_later 0 (at + packets_length units) (length (stream d capture)) mine within
-          (all_lie d met between at units 0 (omega arith) tt)))
+          (grind (arith, lie_later, all_lie d met between at units 0 (omega arith) tt)))
 
 -- ---- an end of which a capture was taken
 
@@ -201,7 +187,7 @@ none_sent d capture begin mine others none =
 alone_read : (d : Direction) (met : ℕ → Handshake) (units : List (List ℕ)) (s r later : List ℕ) (w : Value) → ArePackets units s r →
     s ++ later ≡ packets (w ∷ []) → sent_from d met opening 0 units ≡ []
 alone_read d met [] s r later w cut is = refl
-alone_read d met (u ∷ []) s r later w cut is = none_first d met u
+alone_read d met (u ∷ []) s r later w cut is = grind (arith, first_starts, none_read)
 alone_read d met (u ∷ next ∷ units) s r later w cut is = grind (arith, shown_packets (u ∷ next ∷ units) (w ∷ []) s r later cut is)
 
 aside_read : (d : Direction) (met : ℕ → Handshake) (units : List (List ℕ)) (s r later back w : List ℕ) → ArePackets units s r →
@@ -215,7 +201,7 @@ beside_read : (d : Direction) (met : ℕ → Handshake) → StaysStrayed met →
     ArePackets units s r → s ++ later ≡ packet_of w ++ (packet_of unit ++ back) →
     (IsOctets unit → HasNoData (first_unit (units_of unit))) → sent_from d met opening 0 units ≡ []
 beside_read d met stays [] s r later w unit back cut is none = refl
-beside_read d met stays (u ∷ []) s r later w unit back cut is none = none_first d met u
+beside_read d met stays (u ∷ []) s r later w unit back cut is none = grind (arith, first_starts, none_read)
 beside_read d met stays (u ∷ next ∷ units) s r later w unit back (b, t, p, parts, h) is none =
     let one = packet_again u w b (t ++ later) (packet_of unit ++ back) p
     (sym (append_assoc b t later) ∙ ap (λ (x : List ℕ). x ++ later) (sym parts) ∙ is) in
@@ -268,5 +254,4 @@ pub capture_counts : (d : Direction) (capture : Capture) (turns : List Turn) (se
     (read : AreRead d capture mine others) → Counts d capture seen.coming (met_before (other d) capture read.own) others
 capture_counts d capture turns seen mine others read used took k reached front l =
     subst (λ (x : List Sent). length took ≤ had_passed d capture k x) (sym read.others_is)
-    (had_passed_by d capture seen.coming (met_before (other d) capture read.own) read.theirs read.their_cut.0 read.their_cut.1 seen.shown
-    used took k reached front l)
+    (search (arith, had_passed_by))

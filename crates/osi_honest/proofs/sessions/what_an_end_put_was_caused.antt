@@ -56,7 +56,6 @@ pub front_of : (some others rest : List ℕ) (x y : List ℕ) → some ++ x ≡ 
 front_of [] others rest x y e f l = (others, refl)
 front_of (a ∷ some) [] rest x y e f l = absurd (omega arith)
 front_of (a ∷ some) (b ∷ others) rest x y e f l =
-    let both : a ∷ (some ++ x) ≡ b ∷ (others ++ y) = e ∙ sym f in
     let first : a ≡ b = cc in
     let tails : some ++ x ≡ others ++ y = cc in
     let more = front_of some others (others ++ y) x y tails refl (omega arith) in
@@ -83,8 +82,7 @@ had_passed_by d capture coming back units ending cut shown used took k r front l
     let size = size_read r.units used r.rest r.cut in
     let least = least_count (passed_before d capture k) 0 (0 + packets_length r.units) sent after (omega arith)
     (all_lie (other d) back opening 0 r.units 0 (omega arith) tt) in
-    let count : length took ≡ length sent = ap (λ (x : List (List ℕ)). length x) (sym r.read) ∙ sym (length_read sent) in
-    subst (λ (x : List Sent). length took ≤ had_passed d capture k x) (sym all) (omega arith)
+    grind (arith, length_read)
 
 -- ---- what was said
 
@@ -180,8 +178,7 @@ module _ (d : Direction) (capture : Capture) (coming : List ℕ) (others : List 
     parts = parts ++ s.parts;
     put = (λ i. is i ++ s.put i) ∙ sym (packets_joined (map dt parts) (map dt s.parts)) ∙ ap packets (sym (map-append dt parts s.parts));
     caused = subst (λ (x : List Sent). AreCaused d capture others x (told ++ s.told)) (sym all)
-        (caused_more d capture others (sent_from d met between at (units_put parts))
-        (sent_from d met between (at + length turn.put) (units_put s.parts)) told s.told caused s.caused);
+        (grind (arith, caused_more));
     used = s.used;
     reached = s.reached;
     front = s.front;

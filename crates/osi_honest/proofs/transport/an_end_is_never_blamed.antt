@@ -2,28 +2,22 @@
 -- protocol first.
 -- For the laws that an end is never blamed.
 use Rattle.osi_honest.proofs.Vocabulary.{[], ap, append_assoc, arith, Bool, false, length, List, None, Option, refl, Some, subst, suc, true}
-use Rattle.osi_honest.proofs.Vocabulary.{zero, ℕ, ◌++◌, ◌+◌, ◌<◌, ◌||◌, ◌∷◌, ◌≡◌, ◌≤◌, length-append, Ending, Local, Holding, Capture, of}
-use Rattle.osi_honest.proofs.Vocabulary.{own, passed_before, stream, broke_session, FirstBreak, IsFirstIn, IsFoundIn, IsStoppedIn, StandsIn}
-use Rattle.osi_honest.proofs.Vocabulary.{stop_in, met_before, opening, Stage, Direction, Left, Right, Finding, Stopped, EndsWithin, IsFresh}
-use Rattle.osi_honest.proofs.Vocabulary.{IsPrefix, IsSeen, PassAfter, Run, Turn}
+use Rattle.osi_honest.proofs.Vocabulary.{zero, ℕ, ◌++◌, ◌+◌, ◌<◌, ◌||◌, ◌∷◌, ◌≡◌, length-append, Local, Holding, Capture, of, passed_before}
+use Rattle.osi_honest.proofs.Vocabulary.{stream, broke_session, FirstBreak, IsFirstIn, IsFoundIn, IsStoppedIn, StandsIn, met_before}
+use Rattle.osi_honest.proofs.Vocabulary.{opening, Direction, Left, Right, Finding, Stopped, EndsWithin, IsFresh, IsPrefix, IsSeen}
+use Rattle.osi_honest.proofs.Vocabulary.{PassAfter, Run, Turn}
 use Rattle.std.proofs.lemmas.List.Concat.{flat_map-append}
 use Rattle.osi_judge.specs.Stops.{breaks}
-use Rattle.osi_honest.proofs.transport.when_the_judge_blames_no_transport.{IsClear, IsInnocent}
+use Rattle.osi_honest.proofs.transport.when_the_judge_blames_no_transport.{IsClear}
 
 -- ---- the transport
-
-stop_by : (stage : Stage) (ending : Ending) → IsInnocent stage → EndsWithin ending → breaks (stop_in stage ending) ≡ false
-stop_by stage ending innocent ends = grind arith
 
 -- no break is found in its packets, and it puts packets
 pub clear_stop : (d : Direction) (capture : Capture) (stop : Option Stopped) (s : IsStoppedIn d capture stop) →
     IsClear d (met_before d capture s.others) opening 0 s.units → EndsWithin s.ending → breaks stop ≡ false
-clear_stop d capture stop s clear ends = grind (arith, stop_by)
+clear_stop d capture stop s clear ends = grind arith
 
 -- ---- a front of a capture
-
-stream_parts : (d : Direction) (front back : Capture) → stream d (front ++ back) ≡ stream d front ++ stream d back
-stream_parts d front back = flat_map-append (own d) front back
 
 same_before : (d : Direction) (front back : Capture) (k : ℕ) → k < length (stream d front) →
     passed_before d (front ++ back) k ≡ passed_before d front k
@@ -39,16 +33,13 @@ front_after : (d : Direction) (front back : Capture) (used put : ℕ) (turns : L
     PassAfter d front used put turns
 front_after d front back used put [] after = tt
 front_after d front back used put (turn ∷ turns) after = (
-  λ k low high below.
-      let whole = ap (λ (x : List ℕ). length x) (stream_parts d front back) in
-      let sum = length-append (stream d front) (stream d back) in
-      subst (λ (n : ℕ). used + length turn.used ≤ n) (same_before d front back k below) (after.0 k low high (omega arith)),
+  grind (arith, flat_map-append, length-append, same_before),
   front_after d front back (used + length turn.used) (put + length turn.put) turns after.1,
 )
 
 front_prefix : (d : Direction) (front back : Capture) (all : List ℕ) → IsPrefix (stream d (front ++ back)) all →
     IsPrefix (stream d front) all
-front_prefix d front back all (later, is) = grind (arith, append_assoc, stream_parts)
+front_prefix d front back all (later, is) = grind (arith, append_assoc, flat_map-append)
 
 -- a front of a capture of an end is a capture of it
 pub front_seen : (d : Direction) (turns : List Turn) (front back : Capture) → IsSeen d turns (front ++ back) → IsSeen d turns front
@@ -88,8 +79,7 @@ pub never_first : (d : Direction) (turns : List Turn) → IsBlameless d turns �
     FirstBreak d capture → ⊥
 never_first d turns b capture seen first =
     let front = front_seen d turns first.front first.back (subst (IsSeen d turns) first.parts seen) in
-    let none : true ≡ false = side_stands d turns b first.front true front first.broke in
-    cc
+    grind (arith, side_stands d turns b first.front true front first.broke)
 
 -- if neither side did so first, the judge says that neither did
 pub neither_first : (capture : Capture) → (FirstBreak Left capture → ⊥) → (FirstBreak Right capture → ⊥) → (first : Option Direction) →

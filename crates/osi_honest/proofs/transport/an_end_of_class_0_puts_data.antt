@@ -1,14 +1,11 @@
 -- Once class 0 holds, a carrier puts nothing but DTs of class 0, whatever arrives.
 -- For what the transport of a calling end puts.
-use Rattle.std.proofs.Common.{arith}
 use Rattle.osi_honest.proofs.Vocabulary.{[], ap, append_assoc, Bool, false, if◌then◌else◌, inl, inr, is_some, IsSome, List, None, Option}
-use Rattle.osi_honest.proofs.Vocabulary.{refl, Result, Some, subst, sym, true, ℕ, ◌++◌, ◌∙◌, ◌∷◌, ◌≡◌, ◌⊎◌, AllByRecursion, units_of}
-use Rattle.osi_honest.proofs.Vocabulary.{request, Value, TpduFault, Standing, taken, with_tsdu, LinkFault, Zero, react_quiet, reacts_over}
-use Rattle.osi_honest.proofs.Vocabulary.{closed_on, closes, link_of, open_link, sent_on, Happening, pumped, written_by, in_zero, pumps}
-use Rattle.osi_honest.proofs.Vocabulary.{reacts, taking, to_linked, to_only, put, Rows, value_at, Connection, linked, packets}
-use Rattle.osi_honest.proofs.Vocabulary.{State as Carrier, EndReason, Carries}
+use Rattle.osi_honest.proofs.Vocabulary.{refl, Result, Some, subst, sym, true, ℕ, ◌++◌, ◌∙◌, ◌∷◌, ◌≡◌, ◌⊎◌, AllByRecursion, request, Value}
+use Rattle.osi_honest.proofs.Vocabulary.{Standing, taken, with_tsdu, LinkFault, Zero, react_quiet, reacts_over, closed_on, closes, link_of}
+use Rattle.osi_honest.proofs.Vocabulary.{sent_on, Happening, pumped, written_by, in_zero, pumps, reacts, taking, to_only, put, Rows}
+use Rattle.osi_honest.proofs.Vocabulary.{Connection, linked, packets, State as Carrier, EndReason, Carries, arith, react}
 use Rattle.osi_carrier.specs.Packets as carriers
-use Rattle.osi_carrier.specs.React.{breaks, react}
 use Rattle.osi_carrier.specs.State as states
 use Rattle.osi_honest.proofs.reading.what_a_link_gives_can_be_written.{IsData, gives_data, taken_zero}
 use Rattle.osi_honest.proofs.class_0.what_class_0_writes_of_a_tsdu.{packets_joined}
@@ -50,21 +47,14 @@ module _ (octets : List ℕ) where
         d.live ≡ put r (linked peer (pumped link)) c.live → PutsData octets d
     pumps_data r peer link d none outgoing same rows =
         let all = gives_data link none in
-        data_more c d (written_by peer link) p (all.0 peer) outgoing (same ∙ class)
-        (subst AreZero (sym rows) (row_put IsZeroRow r (linked peer (pumped link)) c.live live all.1))
-
-    breaks_over : (r peer : ℕ) (fault : LinkFault) → PutsData octets (breaks r peer fault c.class c)
-    breaks_over r peer fault = grind (arith, data_over)
+        grind (arith, data_more, all.0 peer, row_put IsZeroRow r (linked peer (pumped link)) c.live live all.1)
 
     taking_data : (r peer : ℕ) (link : Standing) (unit : Value) (result : Result Standing LinkFault) → link.flow ≡ None →
         taken link unit ≡ result → PutsData octets (taking r peer result c)
-    taking_data r peer link unit result none e = search (arith, pumps_data, taken_zero, breaks_over)
-
-    linked_data : (r peer : ℕ) (link : Standing) (unit : Value) → link.flow ≡ None → PutsData octets (to_linked r peer link unit c)
-    linked_data r peer link unit none = search (arith, data_over, taking_data)
+    taking_data r peer link unit result none e = search (arith, pumps_data, taken_zero)
 
     only_data : (rows : Rows Connection) (unit : Value) → AreZero rows → PutsData octets (to_only rows unit c)
-    only_data rows unit all = grind (arith, linked_data)
+    only_data rows unit all = search (arith, data_over, taking_data)
 
     zero_data : (is_caller : Bool) (unit : Value) → PutsData octets (in_zero is_caller unit c)
     zero_data true (request cr) = data_over c _ p refl refl
@@ -102,30 +92,15 @@ module _ (octets : List ℕ) where
   pub data_ends : (reason : EndReason) (c : Carrier) → PutsData octets c → PutsData octets (states.ends reason c)
   data_ends reason c p = data_over c _ p refl refl
 
-  data_acts : (units : Result (List Value) TpduFault) (c : Carrier) → PutsData octets c → PutsData octets (carriers.acts_by units c)
-  data_acts h c p = grind (arith, data_units, data_over)
-
   pub data_packet : (u : List ℕ) (c : Carrier) → PutsData octets c → PutsData octets (carriers.after_packet c u)
   unfolding carriers.after_packet
-  data_packet u c p = data_acts (units_of u) c p
+  data_packet u c p = grind (arith, data_units, data_over)
 
   pub data_shortage : (u : List ℕ) (c d : Carrier) → PutsData octets c → carriers.Starves c u d → PutsData octets d
   data_shortage u c d p (units, e, out) = grind (arith, data_ends, data_units)
 
-  data_sends : (r : ℕ) (tsdu : List ℕ) (c : Carrier) → PutsData octets c → PutsData octets (sent_on r tsdu (open_link r c) c)
-  data_sends r tsdu c p = by p.rest
-    where
-      by : IsSome c.ended ⊎ ((c.class ≡ Some Zero) × AreZero c.live) → PutsData octets (sent_on r tsdu (open_link r c) c)
-      by (inl over) =
-          subst (λ (b : Bool). PutsData octets (sent_on r tsdu (if b then None else link_of (value_at r c.live)) c)) (sym over) p
-      by (inr (class, live)) =
-          sent_data c p class live r tsdu (is_some c.ended) (value_at r c.live) (λ x e. row_at IsZeroRow r x c.live live e)
-
-  data_closes : (r : ℕ) (c : Carrier) → PutsData octets c → PutsData octets (closed_on r 128 (open_link r c) c)
-  data_closes r c p = grind (arith, closed_data)
-
   pub data_carries : Carries (PutsData octets)
-  data_carries = record { sends = data_sends; closes = data_closes }
+  data_carries = record { sends = grind (arith, sent_data, row_at); closes = (grind (arith, closed_data)) }
 
   pub data_untold : (events : List Happening) (c : Carrier) → PutsData octets c → PutsData octets (record c { events = events })
   data_untold events c p = record { units = p.units; is = p.is; are_data = p.are_data; rest = p.rest }

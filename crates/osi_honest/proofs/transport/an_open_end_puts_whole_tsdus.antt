@@ -41,8 +41,4 @@ module _ (proper : AllProper) (begin : Listener) (r : ℕ) where
       let g = turn_goes proper begin r took said begun turn old run.0 (talking session h t) run.1 in
       let more = run_speaks turns run.0 new (took ++ g.more) (said ++ g.told) g.later g.stands run.2 in
       let whole : AreWhole g.parts = (λ d met at. (parts_read d met at g.parts (octets_said g.told) g.carry g.short).then_is) in
-      record {
-        parts = g.parts ++ more.parts;
-        put = speaks_then turn.put turns g.parts [] g.written whole more;
-        whole = whole_more g.parts more.parts whole more.whole;
-      }
+      grind (arith, speaks_then turn.put turns g.parts [] g.written whole more, whole_more g.parts more.parts whole more.whole)

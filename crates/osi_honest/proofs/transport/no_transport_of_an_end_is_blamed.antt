@@ -1,8 +1,8 @@
 -- The judge blames the transport of no end, called or calling, in no capture of it.
 -- For the laws that an end is never blamed.
-use Rattle.osi_honest.proofs.Vocabulary.{[], arith, false, length, List, None, Option, sym, true, ◌+◌, ◌≡◌, ◌≤◌, length-append, Local}
-use Rattle.osi_honest.proofs.Vocabulary.{calls_with, terms_error, Holding, Request, Capture, stream, IsStoppedIn, Direction, Left, Right}
-use Rattle.osi_honest.proofs.Vocabulary.{Stopped, Idles, Waits, IsFresh, IsSeen, put_along, Run, Turn}
+use Rattle.osi_honest.proofs.Vocabulary.{[], arith, false, length, List, None, Option, sym, true, ◌≡◌, length-append, Local, calls_with}
+use Rattle.osi_honest.proofs.Vocabulary.{terms_error, Holding, Request, Capture, IsStoppedIn, Left, Right, Stopped, Idles, Waits, IsFresh}
+use Rattle.osi_honest.proofs.Vocabulary.{IsSeen, put_along, Run, Turn}
 use Rattle.osi_judge.specs.Stops.{breaks}
 use Rattle.osi_honest.proofs.reading.all_that_an_end_puts_can_be_read.{run_to_read}
 use Rattle.osi_honest.proofs.transport.an_end_is_never_blamed.{clear_stop}
@@ -11,11 +11,6 @@ use Rattle.osi_honest.proofs.transport.what_a_called_end_puts_in_all.{called_cle
 use Rattle.osi_honest.proofs.class_0.what_a_packet_does_in_class_0.{AllProper}
 use Rattle.osi_honest.proofs.reading.what_an_end_puts_is_packets.{shown_ends_within}
 use Rattle.osi_honest.proofs.transport.what_is_read_of_a_calling_end.{caller_is_clear, idle_run}
-
--- a capture shows no more than was put
-no_more : (d : Direction) (capture : Capture) (turns : List Turn) → IsSeen d turns capture →
-    length (stream d capture) ≤ 0 + length (put_along turns)
-no_more d capture turns seen = grind (arith, length-append)
 
 waits_first : (local : Local) (begin : Holding) → IsFresh false local begin → Waits begin.end
 waits_first local begin fresh = grind arith
@@ -30,7 +25,7 @@ called_transport proper local begin end turns fresh run capture stop seen s =
     clear_stop Right capture stop s
     (called_clear capture s.others (put_along turns)
     (waits_sent capture seen.coming s.others s.are_others.0 s.are_others.1 seen.shown proper turns [] begin end
-    (waits_first local begin fresh) (sym fresh.held) seen.used seen.after (no_more Right capture turns seen) run)
+    (waits_first local begin fresh) (sym fresh.held) seen.used seen.after (grind (arith, length-append)) run)
     (run_to_read proper false local begin end turns fresh run) s.units s.cut.0 seen.own.0 s.cut.1 seen.own.1)
     (shown_ends_within Right capture begin end turns s.units s.ending run seen s.cut)
 
@@ -42,5 +37,5 @@ calling_transport proper begins local begin end turns fresh run capture stop see
     (caller_is_clear capture s.others (put_along turns) s.units s.cut.0 seen.own.0 s.cut.1 seen.own.1
     (run_to_read proper true local begin end turns fresh run)
     (idle_run capture seen.coming s.others s.are_others.0 s.are_others.1 seen.shown proper begins turns [] begin end
-    (idles_first local begin fresh) (sym fresh.held) seen.used seen.after (no_more Left capture turns seen) run))
+    (idles_first local begin fresh) (sym fresh.held) seen.used seen.after (grind (arith, length-append)) run))
     (shown_ends_within Left capture begin end turns s.units s.ending run seen s.cut)

@@ -1,19 +1,15 @@
 -- What a called end puts in answer to CRs: a CC, alone, or of class 2 and then anything, or of class 0 and then TSDUs; or a DR, and
 -- after it nothing but what comes after a second CR.
 -- For the law that a called end is never blamed.
-use Rattle.osi_honest.proofs.Vocabulary.{[], ap, arith, Bool, Err, false, if◌then◌else◌, inl, inr, is_some, List, None, not, Ok, Option}
+use Rattle.osi_honest.proofs.Vocabulary.{[], ap, arith, Bool, Err, false, if◌then◌else◌, inl, inr, is_some, List, None, Ok, Option}
 use Rattle.osi_honest.proofs.Vocabulary.{option_map, refl, Result, Some, subst, sym, true, ℕ, ◌++◌, ◌+◌, ◌<◌, ◌∙◌, ◌∷◌, ◌≡◌, ◌⊎◌, IsOctets}
 use Rattle.osi_honest.proofs.Vocabulary.{units_found, tsap_octets, AreUnits, units_of, confirm, disconnect, may_be_followed, request, Value}
 use Rattle.osi_honest.proofs.Vocabulary.{TpduFault, Standing, accept, refuse, selected_by, Selection, Class, Two, Zero, react_quiet}
 use Rattle.osi_honest.proofs.Vocabulary.{reacts_over, closed_on, may_connect, open_link, sent_on, Happening, acceptance, proposal, answers}
-use Rattle.osi_honest.proofs.Vocabulary.{before_class, denies, has_peer, in_class, is_full, reacts, packets, State as Carrier, EndReason}
-use Rattle.osi_honest.proofs.Vocabulary.{NoMemory, OpenError, NotCaller, End, first_unit, handshake_from, is_request, silent, Waits}
-use Rattle.osi_tpdu.specs.Value.{Connect}
-use Rattle.osi_carrier.specs.Calls.{asks}
+use Rattle.osi_honest.proofs.Vocabulary.{before_class, denies, has_peer, is_full, reacts, packets, State as Carrier, EndReason, NoMemory}
+use Rattle.osi_honest.proofs.Vocabulary.{first_unit, handshake_from, is_request, silent, Connect, asks, react}
 use Rattle.osi_carrier.specs.Packets as carriers
-use Rattle.osi_carrier.specs.React.{react}
 use Rattle.osi_carrier.specs.State as states
-use Rattle.osi_judge.specs.Transport.{asked}
 use Rattle.osi_honest.proofs.class_0.what_a_packet_does_in_class_0.{Over, alone, over_carries}
 use Rattle.osi_honest.proofs.opening.what_a_shortage_leaves_at_a_waiting_end.{never_empty}
 use Rattle.osi_honest.proofs.keeping.what_each_packet_keeps_a_turn_keeps.{AsksToo, IsTracked}
@@ -72,27 +68,22 @@ module _ (c : Carrier) (idle : IsIdle c) where
   unit_answered : (v : Value) → AnsweredUnit v c (react v c)
   unit_answered v =
       subst (AnsweredUnit v c)
-      (sym (react_quiet v c idle.lasts ∙ ap (λ (x : Option Class). in_class x v c) idle.class
-      ∙ ap (λ (x : Bool). before_class x v c) idle.is_called))
+      (grind (arith, react_quiet))
       (called_first v)
 
   -- ---- one packet
-
-  asks_in : (u : List ℕ) (v : Value) (vs : List Value) (cr : Connect) → units_of u ≡ Ok (v ∷ vs) → v ≡ request cr →
-      is_request (first_unit (units_of u)) ≡ true
-  asks_in u v vs cr e is = grind arith
 
   units_answered : (u : List ℕ) (v : Value) (vs : List Value) → units_of u ≡ Ok (v ∷ vs) → AreUnits (v ∷ vs) u →
       AnsweredUnit v c (react v c) → Answered u c (reacts (v ∷ vs) c)
   units_answered u v vs e us (refuses_it cr is peer reason denied) =
       let none = alone v vs u (ap may_be_followed is) us in
       let there : reacts (v ∷ vs) c ≡ denies reason peer c = ap (λ (l : List Value). reacts l (react v c)) none ∙ denied in
-      refuses_in (asks_in u v vs cr e is) peer reason
+      refuses_in (grind arith) peer reason
       (subst IsIdle (sym there) (record { lasts = idle.lasts; is_called = idle.is_called; class = idle.class; live = idle.live }))
       (ap (λ (x : Carrier). x.outgoing) there)
   units_answered u v vs e us (confirms_it cr is destination answer few outgoing) =
       let none = alone v vs u (ap may_be_followed is) us in
-      confirms_in (asks_in u v vs cr e is) destination answer few
+      confirms_in (grind arith) destination answer few
       (ap (λ (l : List Value). (reacts l (react v c)).outgoing) none ∙ outgoing)
   units_answered u v vs e us (over_it o) = over_in (subst (Over c.outgoing) (sym (reacts_over vs (react v c) o.0)) o)
 
@@ -124,20 +115,14 @@ module _ (c : Carrier) (idle : IsIdle c) where
 pub idle_links : (c : Carrier) → IsIdle c → (r : ℕ) → open_link r c ≡ None
 idle_links c idle r = grind arith
 
-no_caller : (b : Bool) (rest : Option OpenError) → b ≡ false → (if not b then Some NotCaller else rest) ≡ None → ⊥
-no_caller b rest e h = grind arith
-
 idle_asks_nothing : (c : Carrier) → IsIdle c → may_connect c ≡ None → ⊥
-idle_asks_nothing c idle allowed = no_caller c.is_caller _ idle.is_called allowed
+idle_asks_nothing c idle allowed = grind arith
 
 -- ---- two CRs
 
-pub asked_first : (u : List ℕ) → is_request (first_unit (units_of u)) ≡ true → handshake_from silent (u ∷ []) ≡ asked
-asked_first u is = grind arith
-
 asked_twice : (u next : List ℕ) → is_request (first_unit (units_of u)) ≡ true → is_request (first_unit (units_of next)) ≡ true →
     IsLost (handshake_from silent (u ∷ next ∷ []))
-asked_twice u next first second = grind (arith, asked_first)
+asked_twice u next first second = grind arith
 
 -- after a refused CR
 pub idle_settles : (u : List ℕ) → is_request (first_unit (units_of u)) ≡ true → Settles IsIdle ⊥ u
@@ -259,16 +244,13 @@ module _ (octets : List ℕ) where
   called_closes us r c (refused_again peer reason l first more is asks p) =
       refused_again peer reason l first more is asks ((ahead_kept (octets ++ packets (refusal peer reason ∷ []))).carries.closes r c p)
 
-  idle_so : (c : Carrier) (events : List Happening) → IsIdle c → IsIdle (record c { events = events })
-  idle_so c events idle = record { lasts = idle.lasts; is_called = idle.is_called; class = idle.class; live = idle.live }
-
   called_untold : (us : List (List ℕ)) (events : List Happening) (c : Carrier) → CalledPut octets us c →
       CalledPut octets us (record c { events = events })
-  called_untold us events c (none_yet none idle same) = none_yet none (idle_so c events idle) same
+  called_untold us events c (none_yet none idle same) = none_yet none (grind arith) same
   called_untold us events c (gone o) = gone o
   called_untold us events c (confirms destination answer few p) = confirms destination answer few p
   called_untold us events c (refused first is asks idle peer reason same) =
-      refused first is asks (idle_so c events idle) peer reason same
+      refused first is asks (grind arith) peer reason same
   called_untold us events c (refused_last first more is asks peer reason o) = refused_last first more is asks peer reason o
   called_untold us events c (refused_again peer reason l first more is asks p) = refused_again peer reason l first more is asks p
 
@@ -296,6 +278,3 @@ module _ (octets : List ℕ) where
       refused_again peer reason l first more is first_asks (put_more (octets ++ packets (refusal peer reason ∷ []))
       (request (proposal c.local c.class (option_map tsap_octets calling) (option_map tsap_octets called) (c.given + 1))) c
       (asks (option_map tsap_octets calling) (option_map tsap_octets called) c) p refl)
-
-pub waits_idle : (e : End) → Waits e → IsIdle e.carrier
-waits_idle e w = record { lasts = w.lasts; is_called = w.is_called; class = w.class; live = w.live }

@@ -8,17 +8,15 @@ use Rattle.osi_honest.proofs.Vocabulary.{error, request, Value, written, Part, Z
 use Rattle.osi_honest.proofs.Vocabulary.{Capture, other, stream, agreed, asked_again, astray, between, denied, first_unit, Handshake}
 use Rattle.osi_honest.proofs.Vocabulary.{handshake_from, has_asked, is_request, met_before, opening, packet_length, silent, stage_from}
 use Rattle.osi_honest.proofs.Vocabulary.{Left, Right, IsOtherAnswer, WaitingTurn, Waits, dt, IsPrefix, PassAfter, put_along, used_along}
-use Rattle.osi_honest.proofs.Vocabulary.{octets_said, Run, Turn, CanBeWritten, IsPlain, data0, data2}
-use Rattle.osi_tpdu.specs.Value.{Connect}
+use Rattle.osi_honest.proofs.Vocabulary.{octets_said, Run, Turn, CanBeWritten, IsPlain, data0, data2, Connect}
 use Rattle.osi_judge.specs.Transport.{asked}
 use Rattle.osi_honest.specs.Openings as turned
 use Rattle.osi_honest.proofs.reading.all_that_an_end_puts_can_be_read.{ArePutToRead, all_one_unit}
-use Rattle.osi_honest.proofs.transport.when_the_judge_blames_no_transport.{are_read, IsClear, KnownBefore, denies_clear, none_clear}
-use Rattle.osi_honest.proofs.transport.when_the_judge_blames_no_transport.{other_clear, speaks_clear}
+use Rattle.osi_honest.proofs.transport.when_the_judge_blames_no_transport.{are_read, IsClear, denies_clear, none_clear, other_clear}
+use Rattle.osi_honest.proofs.transport.when_the_judge_blames_no_transport.{speaks_clear}
 use Rattle.osi_honest.proofs.transport.an_open_end_puts_whole_tsdus.{AreWhole, run_speaks, speaks_then, whole_more}
 use Rattle.osi_honest.proofs.reading.two_readings_of_a_stream_agree.{first_shown, shown_packets}
 use Rattle.osi_honest.proofs.transport.what_a_called_end_answers.{CalledPut, IsIdle, called_asks, called_tracked, idle_settles, refusal}
-use Rattle.osi_honest.proofs.transport.what_a_called_end_answers.{waits_idle}
 use Rattle.osi_honest.proofs.transport.what_a_called_end_answers as answers
 use Rattle.osi_honest.proofs.sessions.what_a_called_end_did.{after_none}
 use Rattle.osi_honest.proofs.class_0.what_a_packet_does_in_class_0.{AllProper}
@@ -115,15 +113,11 @@ module _ (capture : Capture) (coming : List ℕ) (theirs : List (List ℕ)) (end
     on : IsPrefix ((used ++ turn.used) ++ used_along turns) coming
     on = (front.0, ap (λ (x : List ℕ). x ++ front.0) (append_assoc used turn.used (used_along turns)) ∙ front.1)
 
-    on_now : IsPrefix (used ++ turn.used) coming
-    on_now = (used_along turns ++ on.0, sym (append_assoc (used ++ turn.used) (used_along turns) on.0) ∙ on.1)
-
     known_at : (k : ℕ) → k < length (stream Right capture) →
         IsBeyond (handshake_from silent t.units) (met_before Right capture theirs k)
     known_at k below =
-        met_after Right capture coming theirs ending cut shown t.units (used ++ turn.used) t.rest now on_now k
-        (let sum = length-append used turn.used in
-        let all = passed_by Right capture (length used) 0 turn turns after k (omega arith) (omega arith) below in omega arith)
+        met_after Right capture coming theirs ending cut shown t.units (used ++ turn.used) t.rest now (grind (arith, on, append_assoc)) k
+        (grind (arith, length-append, passed_by))
 
     asked_before : (u : List ℕ) (more : List (List ℕ)) → t.units ≡ u ∷ more → is_request (first_unit (units_of u)) ≡ true →
         0 < length (stream Right capture) → has_asked (met_before Right capture theirs 0) ≡ true
@@ -144,8 +138,7 @@ module _ (capture : Capture) (coming : List ℕ) (theirs : List (List ℕ)) (end
       where
         by : WaitingTurn turn.used turn.put old mid → Sent (put_along (turn ∷ turns))
         by (turned.waits_on waits is same) = later_sent turn.put (put_along turns) none (more none waits same)
-        by (turned.opens o) = absurd (never_first turn.put (packets (map dt o.parts))
-            (confirm o.wanted.source (acceptance Zero o.size o.wanted old.end.carrier.local o.r)) o.written none)
+        by (turned.opens o) = absurd (grind (arith, never_first))
         by (turned.is_over over is) = silent_then none over
         by (turned.answers_last over answer is) = absurd (never_none turn.put (written answer) [] is none)
         by (turned.turns_away answer later other is) = absurd (never_none turn.put (written answer) later is none)
@@ -155,8 +148,7 @@ module _ (capture : Capture) (coming : List ℕ) (theirs : List (List ℕ)) (end
         turn.put ≡ packet_of (written (confirm destination answer)) ++ later → Sent (put_along (turn ∷ turns))
     cc_then destination answer later few is =
         cc_first destination answer (later ++ put_along turns) few
-        (ap (λ (x : List ℕ). x ++ put_along turns) is
-        ∙ append_assoc (packet_of (written (confirm destination answer))) later (put_along turns))
+        (grind (arith, append_assoc))
         (by waiting)
       where
         other_then : (v : Value) (rest : List ℕ) → IsOtherAnswer v → turn.put ≡ packet_of (written v) ++ rest →
@@ -177,8 +169,7 @@ module _ (capture : Capture) (coming : List ℕ) (theirs : List (List ℕ)) (end
         by (turned.waits_on waits none same) = absurd (never_none turn.put (written (confirm destination answer)) later is none)
         by (turned.is_over over none) = absurd (never_none turn.put (written (confirm destination answer)) later is none)
         by (turned.answers_last over v put) =
-            alone v (ap (λ (x : List ℕ). x ++ put_along turns) put
-            ∙ ap (λ (x : List ℕ). packets (v ∷ []) ++ x) (over_run turns mid new over run) ∙ append-nil (packets (v ∷ [])))
+            alone v (grind (arith, over_run, append-nil))
         by (turned.turns_away v rest other put) = other_then v rest other put
         by (turned.opens o) =
             let cc0 = confirm o.wanted.source (acceptance Zero o.size o.wanted old.end.carrier.local o.r) in
@@ -186,8 +177,7 @@ module _ (capture : Capture) (coming : List ℕ) (theirs : List (List ℕ)) (end
             let some : AreWhole o.parts = (λ d m at. (parts_read d m at o.parts (octets_said o.told) o.carry o.short).then_is) in
             let more = run_speaks proper awaits o.r turns mid new o.more o.told o.later o.stands run in
             of_zero o.wanted.source (acceptance Zero o.size o.wanted old.end.carrier.local o.r) (o.parts ++ more.parts) (omega arith)
-            (speaks_then turn.put turns o.parts front o.written some more
-            ∙ append_assoc (packet_of (written cc0)) [] (packets (map dt (o.parts ++ more.parts))))
+            (grind (arith, speaks_then, append_assoc))
             (whole_more o.parts more.parts some more.whole)
 
     -- a DR was put first
@@ -201,8 +191,7 @@ module _ (capture : Capture) (coming : List ℕ) (theirs : List (List ℕ)) (end
         dr_first peer reason ([] ++ put_along turns) (dr_put peer reason [] put) (asked_before u [] is first)
         (by (one_run Right capture coming theirs ending cut shown u proper IsIdle ⊥ (idle_settles u first) turns (used ++ turn.used)
         (0 + length turn.put) mid new idle_mid
-        (subst (λ (x : List ℕ). ArePackets (u ∷ []) (used ++ turn.used) x) (t.held idle_mid.lasts)
-        (subst (λ (x : List (List ℕ)). ArePackets x (used ++ turn.used) t.rest) is now)) on
+        (grind (arith, now)) on
         (subst (λ (n : ℕ). PassAfter Right capture n (0 + length turn.put) turns) (sym (length-append used turn.used)) after.1)
         (let size = length-append turn.put (put_along turns) in omega arith) run))
       where
@@ -243,8 +232,7 @@ module _ (capture : Capture) (coming : List ℕ) (theirs : List (List ℕ)) (end
     by_put (answers.refused_again peer reason l u others is first p) more =
         let put = put_first out turn.put p.0 (refusal peer reason) (p.1 ∙ t.outgoing) in
         dr_first peer reason (p.0 ++ put_along turns) (dr_put peer reason p.0 put) (asked_before u others is first)
-        (inr (λ below. lost_beyond (handshake_from silent t.units)
-        (met_before Right capture theirs (packet_length (written (refusal peer reason)))) l (known_at _ below)))
+        (inr (λ below. search (arith, lost_beyond, refusal, known_at)))
 
   pub waits_sent : (turns : List Turn) (used : List ℕ) (old new : Holding) → Waits old.end → used ≡ old.held.octets →
       IsPrefix (used ++ used_along turns) coming → PassAfter Right capture (length used) 0 turns →
@@ -253,7 +241,7 @@ module _ (capture : Capture) (coming : List ℕ) (theirs : List (List ℕ)) (end
   waits_sent (turn ∷ turns) used old new w held front after whole run =
       let out = old.end.carrier.outgoing in
       let t = turn_tracked (CalledPut out) (called_tracked out) proper [] (called_asks out []) turn old run.0
-      (answers.none_yet refl (waits_idle old.end w) refl) run.1 in
+      (answers.none_yet refl (grind arith) refl) run.1 in
       let waiting = turn_waits proper turn old run.0 w run.1 in
       by_put turn turns used old run.0 new w held front after whole run.2 waiting t t.holds
       (λ none waits same.
@@ -302,7 +290,6 @@ module _ (met : ℕ → Handshake) (on : GoesOn met) (u : List ℕ) (us : List (
     cc_clear (alone v put_is) = cc_by (answer.class == 0) refl (none_more v put_is)
     cc_clear (of_two d c rest two put_is) =
         let octet = class_octet destination d answer c (same ∙ first_is (written (confirm d c)) rest put_is) in
-        let few : answer.options < 16 = plain.options in
         other_clear met on u us destination answer reads (not_zero answer.class (omega arith))
     cc_clear (of_zero d c parts zero put_is whole) =
         let shown = shown_packets (u ∷ us) (confirm d c ∷ map dt parts) s r later cut (is ∙ put_is) in
@@ -323,14 +310,6 @@ first_written [] u us back is can = absurd (cc)
 first_written (v ∷ units) u us back is can = (v, can.0, (let same : written v ≡ u = cc in same))
 
 module _ (capture : Capture) (theirs : List (List ℕ)) where
-  after_dr : (peer reason : ℕ) (rest : List ℕ) (u : List ℕ) (us : List (List ℕ)) (r later put : List ℕ) →
-      ArePackets (u ∷ us) (stream Right capture) r → stream Right capture ++ later ≡ put →
-      put ≡ packet_of (written (refusal peer reason)) ++ rest → u ≡ written (refusal peer reason) →
-      (rest ≡ []) ⊎ (packet_length (written (refusal peer reason)) < length (stream Right capture) →
-      IsLost (met_before Right capture theirs (packet_length (written (refusal peer reason))))) →
-      KnownBefore (met_before Right capture theirs) IsLost (0 + packet_length u) us
-  after_dr peer reason rest u us r later put cut is put_is same tail = grind (arith, shown_packets, refusal, size_read)
-
   pub called_clear : (put : List ℕ) → CalledSent capture theirs put → ArePutToRead put → (own : List (List ℕ)) (r later : List ℕ) →
       ArePackets own (stream Right capture) r → stream Right capture ++ later ≡ put →
       IsClear Right (met_before Right capture theirs) opening 0 own
@@ -352,4 +331,4 @@ module _ (capture : Capture) (theirs : List (List ℕ)) where
       denies_clear (met_before Right capture theirs) (met_goes_on Right capture theirs) u us peer 0 reason []
       (ap first_unit (ap units_of same ∙ read_again (refusal peer reason) tt (subst IsOctets same octets.0)))
       (asked_for (omega arith)) read.1
-      (after_dr peer reason rest u us r later put cut is put_is same tail)
+      (grind (arith, shown_packets, refusal, size_read))

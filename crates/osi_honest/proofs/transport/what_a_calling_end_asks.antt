@@ -1,25 +1,21 @@
 -- What a calling end puts after its CR: nothing, until a packet comes; DTs alone, if it was a CC of class 0; a DC, if it was a DR for
 -- another reference; or, if the other side has strayed, anything.
 -- For the law that a calling end is never blamed.
-use Rattle.std.proofs.Common.{arith}
-use Rattle.osi_honest.proofs.Vocabulary.{[], ap, Bool, Err, if◌then◌else◌, inl, inr, is_some, IsSome, List, None, not, Ok, Option, refl}
-use Rattle.osi_honest.proofs.Vocabulary.{Result, Some, subst, sym, true, ℕ, ◌&&◌, ◌++◌, ◌==◌, ◌∙◌, ◌∷◌, ◌≡◌, ◌⊎◌, eq-eqb, eqb-true}
-use Rattle.osi_honest.proofs.Vocabulary.{append-nil, IsOctets, units_found, AreUnits, units_of, acknowledge, confirm, data0, data2}
-use Rattle.osi_honest.proofs.Vocabulary.{disconnect, disconnected, error, request, Value, TpduFault, Standing, Class, Two, Zero}
-use Rattle.osi_honest.proofs.Vocabulary.{react_quiet, closed_on, link_of, may_connect, open_link, or_else, sent_on, Happening, confirmed}
-use Rattle.osi_honest.proofs.Vocabulary.{before_class, opens_by as opens, reacts, to_connection, to_reference, put, asked, Connection}
-use Rattle.osi_honest.proofs.Vocabulary.{packets, State as Carrier, EndReason, NoMemory, OpenError, Ended, Negotiating, NotCaller, End}
-use Rattle.osi_honest.proofs.Vocabulary.{agreed, astray, denied, first_unit, Handshake, handshake_from, shaken, shaken_first, silent, Asks}
-use Rattle.osi_tpdu.specs.Value.{Connect}
+use Rattle.osi_honest.proofs.Vocabulary.{[], ap, Bool, Err, if◌then◌else◌, inl, inr, IsSome, List, None, Ok, Option, refl, Result, Some}
+use Rattle.osi_honest.proofs.Vocabulary.{subst, sym, true, ℕ, ◌++◌, ◌==◌, ◌∙◌, ◌∷◌, ◌≡◌, ◌⊎◌, eq-eqb, eqb-true, append-nil, IsOctets}
+use Rattle.osi_honest.proofs.Vocabulary.{units_found, AreUnits, units_of, acknowledge, confirm, data0, data2, disconnect, disconnected}
+use Rattle.osi_honest.proofs.Vocabulary.{error, request, Value, TpduFault, Standing, Class, react_quiet, closed_on, may_connect, open_link}
+use Rattle.osi_honest.proofs.Vocabulary.{sent_on, Happening, confirmed, opens_by as opens, reacts, to_connection, to_reference, asked}
+use Rattle.osi_honest.proofs.Vocabulary.{packets, State as Carrier, EndReason, NoMemory, agreed, astray, denied, first_unit, Handshake}
+use Rattle.osi_honest.proofs.Vocabulary.{handshake_from, shaken, shaken_first, silent, arith, Connect, react}
 use Rattle.osi_carrier.specs.Packets as carriers
-use Rattle.osi_carrier.specs.React.{react}
 use Rattle.osi_carrier.specs.State as states
-use Rattle.osi_honest.proofs.transport.an_end_of_class_0_puts_data.{AreZero, PutsData, data_carries, data_ends, data_packet, data_shortage}
+use Rattle.osi_honest.proofs.transport.an_end_of_class_0_puts_data.{PutsData, data_carries, data_ends, data_packet, data_shortage}
 use Rattle.osi_honest.proofs.transport.an_end_of_class_0_puts_data.{data_untold}
 use Rattle.osi_honest.proofs.class_0.what_a_packet_does_in_class_0.{Over, alone, over_carries}
 use Rattle.osi_honest.proofs.opening.what_a_shortage_leaves_at_a_waiting_end.{never_empty}
 use Rattle.osi_honest.proofs.keeping.what_each_packet_keeps_a_turn_keeps.{AsksToo, IsTracked}
-use Rattle.osi_honest.proofs.transport.what_had_passed_goes_on.{IsLost, handshake_then, strayed_beyond}
+use Rattle.osi_honest.proofs.transport.what_had_passed_goes_on.{handshake_then, strayed_beyond}
 use Rattle.osi_honest.proofs.transport.what_is_put_after_one_packet.{Settles, over_asks_nothing, over_packet, over_shortage}
 use Rattle.osi_honest.proofs.reading.what_the_judge_reads_of_a_side.{IsStrayed}
 
@@ -37,66 +33,40 @@ pub record HasNone (c : Carrier) : Type 0 where
   pub class : c.class ≡ None
   pub live : c.live ≡ []
 
-none_linked : (r : ℕ) (b : Bool) → link_of (if b then Some asked else None) ≡ None
-none_linked r b = grind arith
-
 asking_links : (q : ℕ) (c : Carrier) → AsksIn q c → (r : ℕ) → open_link r c ≡ None
-asking_links q c a r = grind (arith, none_linked)
+asking_links q c a r = grind arith
 
 no_links : (c : Carrier) → HasNone c → (r : ℕ) → open_link r c ≡ None
 no_links c a r = grind arith
 
-one_request : (b : Bool) (o : Option EndReason) (e : Option OpenError) → b ≡ true → o ≡ None →
-    (if not b then Some NotCaller else (if is_some o then Some Ended else or_else (Some Negotiating) e)) ≡ None → ⊥
-one_request b o e side lasts h = grind arith
-
 asks_no_more : (r : ℕ) (c : Carrier) → AsksIn r c → may_connect c ≡ None → ⊥
-asks_no_more r c a allowed = grind (arith, one_request)
+asks_no_more r c a allowed = grind arith
 
 -- ---- one unit
 
 -- a CC of class 0 opens the connection, or ends the carrier
 module _ (r : ℕ) (c : Carrier) (a : AsksIn r c) where
-  never_two : (n : ℕ) (x y : Bool) → n ≡ 0 → (if (n == 2) && x then Some Two else (if y then Some Zero else None)) ≡ Some Two → ⊥
-  never_two n x y zero e = grind arith
-
-  data_now : (d : Carrier) → d.outgoing ≡ c.outgoing → d.class ≡ Some Zero → AreZero d.live → PutsData c.outgoing d
-  data_now d same class live = grind (arith, append-nil)
-
-  data_gone : (d : Carrier) → d.outgoing ≡ c.outgoing → IsSome d.ended → PutsData c.outgoing d
-  data_gone d same over = record { units = []; is = same ∙ sym (append-nil c.outgoing); are_data = tt; rest = inl over }
-
-  row_put : (q : ℕ) (x : Connection) → r ≡ q → put q x c.live ≡ (q, x) ∷ []
-  row_put q x same = grind (arith, eq-eqb)
-
   opens_data : (q : ℕ) (answer : Connect) (class : Option Class) → r ≡ q → answer.class ≡ 0 → confirmed answer c.local c.class ≡ class →
       PutsData c.outgoing (opens q answer class c)
-  opens_data q answer class same h e = grind (arith, data_gone, never_two, data_now, row_put)
+  opens_data q answer class same h e = grind (arith, append-nil, eq-eqb)
 
   confirm_by : (q : ℕ) (answer : Connect) (b : Bool) → (r == q) ≡ b → answer.class ≡ 0 →
       PutsData c.outgoing (to_connection q (if b then Some asked else None) (confirm q answer) c)
-  confirm_by q answer b e h = search (arith, opens_data, eqb-true, data_gone)
+  confirm_by q answer b e h = grind (arith, opens_data, eqb-true, append-nil)
 
   confirm_data : (q : ℕ) (answer : Connect) → answer.class ≡ 0 → PutsData c.outgoing (to_reference q (confirm q answer) c)
   confirm_data q answer zero = grind (arith, confirm_by)
 
-  reacts_by_side : (v : Value) → react v c ≡ before_class true v c
-  reacts_by_side v = grind (arith, react_quiet)
-
   unit_confirms : (q : ℕ) (answer : Connect) → answer.class ≡ 0 → PutsData c.outgoing (react (confirm q answer) c)
-  unit_confirms q answer zero = subst (PutsData c.outgoing) (sym (reacts_by_side (confirm q answer))) (confirm_data q answer zero)
+  unit_confirms q answer zero = subst (PutsData c.outgoing) (sym (grind (arith, react_quiet))) (confirm_data q answer zero)
 
   -- a DR refuses the connection, or is answered by a DC
   data Denied (q source : ℕ) (d : Carrier) : Type 0 where
     drops_it : HasNone d → d.outgoing ≡ c.outgoing → Denied q source d
     answers_it : AsksIn r d → d.outgoing ≡ c.outgoing ++ packets (disconnected source q ∷ []) → Denied q source d
 
-  denied_by : (q source reason : ℕ) (user : List ℕ) (b : Bool) → (r == q) ≡ b →
-      Denied q source (to_connection q (if b then Some asked else None) (disconnect q source reason user) c)
-  denied_by q source reason user b e = grind arith
-
   unit_denies : (q source reason : ℕ) (user : List ℕ) → Denied q source (react (disconnect q source reason user) c)
-  unit_denies q source reason user = grind (arith, reacts_by_side, denied_by)
+  unit_denies q source reason user = grind (arith, react_quiet)
 
 -- ---- what is put in a turn that begins before an answer
 
@@ -126,9 +96,6 @@ module _ (r : ℕ) (octets : List ℕ) where
   abbrev Put : List (List ℕ) → Carrier → Type 0
   Put us c = AskingPut r octets us c
 
-  on_octets : (c d : Carrier) → c.outgoing ≡ octets → PutsData c.outgoing d → PutsData octets d
-  on_octets c d same p = subst (λ (x : List ℕ). PutsData x d) same p
-
   -- the first packet, by its first unit
   abbrev KnownOf : List ℕ → Handshake
   KnownOf u = handshake_from silent (u ∷ [])
@@ -141,7 +108,7 @@ module _ (r : ℕ) (octets : List ℕ) where
 
   confirm_first : (us : List (List ℕ)) (u : List ℕ) (c d : Carrier) (q : ℕ) (answer : Connect) (vs : List Value) → us ≡ [] →
       c.outgoing ≡ octets → units_of u ≡ Ok (confirm q answer ∷ vs) → (answer.class ≡ 0 → PutsData c.outgoing d) → Put (us ++ u ∷ []) d
-  confirm_first us u c d q answer vs none same e data_then = grind (arith, known_by, on_octets, eqb-true, strays_first)
+  confirm_first us u c d q answer vs none same e data_then = grind (arith, known_by, eqb-true, strays_first)
 
   denied_first : (us : List (List ℕ)) (u : List ℕ) (c d : Carrier) (a : AsksIn r c) (q source reason : ℕ) (user : List ℕ)
       (vs : List Value) →
@@ -194,13 +161,10 @@ module _ (r : ℕ) (octets : List ℕ) where
 
   -- ---- whatever arrives
 
-  still_agreed : (us : List (List ℕ)) (u : List ℕ) → handshake_from silent us ≡ agreed → handshake_from silent (us ++ u ∷ []) ≡ agreed
-  still_agreed us u is = handshake_then silent us (u ∷ []) ∙ ap (λ (h : Handshake). handshake_from h (u ∷ [])) is
-
   asking_packet : (us : List (List ℕ)) (u : List ℕ) (c : Carrier) → IsOctets u → Put us c → Put (us ++ u ∷ []) (carriers.after_packet c u)
   asking_packet us u c are (still none a same) = first_packet us u c none a same are
   asking_packet us u c are (gone o) = gone (over_packet u octets c o)
-  asking_packet us u c are (opened is p) = opened (still_agreed us u is) (data_packet octets u c p)
+  asking_packet us u c are (opened is p) = opened (grind (arith, handshake_then)) (data_packet octets u c p)
   asking_packet us u c are (refused first is q source denies has same) = strays (strayed_now us first u q source is denies)
   asking_packet us u c are (closed first is q source denies has same) = strays (strayed_now us first u q source is denies)
   asking_packet us u c are (strays l) = strays (strayed_more us u l)
@@ -209,13 +173,10 @@ module _ (r : ℕ) (octets : List ℕ) where
       Put (us ++ u ∷ []) d
   asking_shortage us u c d are (still none a same) short = first_shortage us u c d none a same are short
   asking_shortage us u c d are (gone o) short = gone (over_shortage u octets c d o short)
-  asking_shortage us u c d are (opened is p) short = opened (still_agreed us u is) (data_shortage octets u c d p short)
+  asking_shortage us u c d are (opened is p) short = opened (grind (arith, handshake_then)) (data_shortage octets u c d p short)
   asking_shortage us u c d are (refused first is q source denies has same) short = strays (strayed_now us first u q source is denies)
   asking_shortage us u c d are (closed first is q source denies has same) short = strays (strayed_now us first u q source is denies)
   asking_shortage us u c d are (strays l) short = strays (strayed_more us u l)
-
-  closed_sends : (n : ℕ) (tsdu : List ℕ) (c : Carrier) → AsksIn r c ⊎ IsSome c.ended → sent_on n tsdu (open_link n c) c ≡ c
-  closed_sends n tsdu c h = grind (arith, asking_links)
 
   asking_sends : (us : List (List ℕ)) (n : ℕ) (tsdu : List ℕ) (c : Carrier) → Put us c → Put us (sent_on n tsdu (open_link n c) c)
   asking_sends us n tsdu c (still none a same) = grind (arith, asking_links)
@@ -225,11 +186,8 @@ module _ (r : ℕ) (octets : List ℕ) where
       subst (λ (x : Option (ℕ × Standing)). Put us (sent_on n tsdu x c)) (sym (no_links c has n))
       (refused first is q source denies has same)
   asking_sends us n tsdu c (closed first is q source denies has same) =
-      subst (Put us) (sym (closed_sends n tsdu c has)) (closed first is q source denies has same)
+      subst (Put us) (sym (grind (arith, asking_links))) (closed first is q source denies has same)
   asking_sends us n tsdu c (strays l) = strays l
-
-  closed_closes : (n : ℕ) (c : Carrier) → AsksIn r c ⊎ IsSome c.ended → closed_on n 128 (open_link n c) c ≡ c
-  closed_closes n c h = grind (arith, asking_links)
 
   asking_closes : (us : List (List ℕ)) (n : ℕ) (c : Carrier) → Put us c → Put us (closed_on n 128 (open_link n c) c)
   asking_closes us n c (still none a same) = grind (arith, asking_links)
@@ -239,25 +197,18 @@ module _ (r : ℕ) (octets : List ℕ) where
       subst (λ (x : Option (ℕ × Standing)). Put us (closed_on n 128 x c)) (sym (no_links c has n))
       (refused first is q source denies has same)
   asking_closes us n c (closed first is q source denies has same) =
-      subst (Put us) (sym (closed_closes n c has)) (closed first is q source denies has same)
+      subst (Put us) (sym (grind (arith, asking_links))) (closed first is q source denies has same)
   asking_closes us n c (strays l) = strays l
 
   asks_so : (c : Carrier) (events : List Happening) → AsksIn r c → AsksIn r (record c { events = events })
   asks_so c events a = record { lasts = a.lasts; is_caller = a.is_caller; class = a.class; live = a.live }
 
-  none_so : (c : Carrier) (events : List Happening) → HasNone c → HasNone (record c { events = events })
-  none_so c events a = record { lasts = a.lasts; is_caller = a.is_caller; class = a.class; live = a.live }
-
-  closed_so : (c : Carrier) (events : List Happening) → AsksIn r c ⊎ IsSome c.ended →
-      AsksIn r (record c { events = events }) ⊎ IsSome c.ended
-  closed_so c events h = grind (arith, asks_so)
-
   asking_untold : (us : List (List ℕ)) (events : List Happening) (c : Carrier) → Put us c → Put us (record c { events = events })
   asking_untold us events c (still none a same) = still none (asks_so c events a) same
   asking_untold us events c (gone o) = gone o
   asking_untold us events c (opened is p) = opened is (data_untold octets events c p)
-  asking_untold us events c (refused first is q source denies has same) = refused first is q source denies (none_so c events has) same
-  asking_untold us events c (closed first is q source denies has same) = closed first is q source denies (closed_so c events has) same
+  asking_untold us events c (refused first is q source denies has same) = refused first is q source denies (grind arith) same
+  asking_untold us events c (closed first is q source denies has same) = closed first is q source denies (grind (arith, asks_so)) same
   asking_untold us events c (strays l) = strays l
 
   asking_ends : (us : List (List ℕ)) (reason : EndReason) (c : Carrier) → Put us c → Put us (states.ends reason c)
@@ -277,16 +228,10 @@ module _ (r : ℕ) (octets : List ℕ) where
 -- ---- after one DR
 
 module _ (u : List ℕ) (q source : ℕ) (denies : handshake_from silent (u ∷ []) ≡ denied q source) where
-  lost_then : (next : List ℕ) → IsLost (handshake_from silent (u ∷ next ∷ []))
-  lost_then next = subst IsLost (sym (denied_lost u next q source denies)) tt
-
   -- that was answered by a DC
   pub asking_settles : (r : ℕ) → Settles (AsksIn r) ⊥ u
-  asking_settles r = grind (arith, asking_links, asks_no_more, lost_then)
+  asking_settles r = grind (arith, asking_links, asks_no_more)
 
   -- that refused the connection
   pub none_settles : Settles HasNone (Unit {0}) u
-  none_settles = grind (arith, no_links, lost_then)
-
-pub asks_in : (r : ℕ) (session : _) (e : End) → Asks r session e → AsksIn r e.carrier
-asks_in r session e w = record { lasts = w.lasts; is_caller = w.is_caller; class = w.class; live = w.live }
+  none_settles = grind (arith, no_links)

@@ -1,24 +1,20 @@
 -- What a calling end puts after its CR, turn by turn, and that the judge blames no transport for it.
 -- For the law that a calling end is never blamed.
-use Rattle.osi_honest.proofs.Vocabulary.{[], ap, append_assoc, arith, Bool, if◌then◌else◌, inl, inr, is_some, IsSome, length, List, map}
-use Rattle.osi_honest.proofs.Vocabulary.{refl, Result, Some, subst, sym, true, ℕ, ◌++◌, ◌+◌, ◌<◌, ◌∙◌, ◌∷◌, ◌≡◌, ◌≤◌, ◌⊎◌, append-nil}
-use Rattle.osi_honest.proofs.Vocabulary.{append_cancel_left, length-append, AllByRecursion, IsOctets, packet_of, ArePackets, Cuts, Ending}
-use Rattle.osi_honest.proofs.Vocabulary.{units_of, disconnected, request, Value, written, TpduFault, Part, Zero, packets, State as Carrier}
-use Rattle.osi_honest.proofs.Vocabulary.{Listener, is_wait_transport, Holding, Capture, other, stream, agreed, astray, denied, first_unit}
-use Rattle.osi_honest.proofs.Vocabulary.{Handshake, handshake_from, met_before, packet_length, packets_length, shaken_first, silent, Left}
-use Rattle.osi_honest.proofs.Vocabulary.{Right, AskingTurn, Asks, IsAnswered, IsAway, IsNoData, dt, IsPrefix, PassAfter, put_along}
-use Rattle.osi_honest.proofs.Vocabulary.{used_along, octets_said, Run, Turn, IsPlain}
-use Rattle.osi_tpdu.specs.Value.{Connect}
+use Rattle.osi_honest.proofs.Vocabulary.{[], ap, append_assoc, arith, if◌then◌else◌, inl, inr, IsSome, length, List, map, refl, subst, sym}
+use Rattle.osi_honest.proofs.Vocabulary.{true, ℕ, ◌++◌, ◌+◌, ◌<◌, ◌∙◌, ◌∷◌, ◌≡◌, ◌≤◌, ◌⊎◌, append-nil, append_cancel_left, length-append}
+use Rattle.osi_honest.proofs.Vocabulary.{AllByRecursion, IsOctets, packet_of, ArePackets, Cuts, Ending, units_of, disconnected, request}
+use Rattle.osi_honest.proofs.Vocabulary.{Value, written, Part, packets, State as Carrier, Listener, is_wait_transport, Holding, Capture}
+use Rattle.osi_honest.proofs.Vocabulary.{other, stream, agreed, astray, denied, first_unit, Handshake, handshake_from, met_before}
+use Rattle.osi_honest.proofs.Vocabulary.{packet_length, packets_length, silent, Left, Right, AskingTurn, Asks, IsAnswered, IsAway, IsNoData}
+use Rattle.osi_honest.proofs.Vocabulary.{dt, IsPrefix, PassAfter, put_along, used_along, octets_said, Run, Turn, IsPlain, Connect}
 use Rattle.osi_honest.specs.Openings as turned
-use Rattle.osi_honest.proofs.transport.an_end_of_class_0_puts_data.{AreZero}
 use Rattle.osi_honest.proofs.transport.an_open_end_puts_whole_tsdus.{AreWhole, run_speaks, speaks_then, whole_more}
 use Rattle.osi_honest.proofs.opening.how_a_caller_opens.{CanBegin}
 use Rattle.osi_honest.proofs.reading.how_far_the_other_side_had_come.{agreed_from}
 use Rattle.osi_honest.proofs.reading.two_readings_of_a_stream_agree.{first_shown, shown_packets}
 use Rattle.osi_honest.proofs.transport.what_a_calling_end_asks.{AskingPut, AsksIn, HasNone, asking_asks, asking_settles, asking_tracked}
-use Rattle.osi_honest.proofs.transport.what_a_calling_end_asks.{asks_in, none_settles}
+use Rattle.osi_honest.proofs.transport.what_a_calling_end_asks.{none_settles}
 use Rattle.osi_honest.proofs.transport.what_a_calling_end_asks as asks
-use Rattle.osi_honest.proofs.sessions.what_a_calling_end_did.{long_header}
 use Rattle.osi_honest.proofs.sessions.what_a_capture_shows_of_an_end.{units_are}
 use Rattle.osi_honest.proofs.reading.what_a_link_gives_can_be_written.{IsData}
 use Rattle.osi_honest.proofs.class_0.what_a_packet_does_in_class_0.{AllProper}
@@ -70,7 +66,7 @@ pub data AfterCr (met : ℕ → Handshake) (shown at : ℕ) (put : List ℕ) : T
 
 -- a DT of class 0 has a shorter header than any other unit
 no_data_first : (v w : Value) (x y : List ℕ) → IsNoData v → IsData w → packet_of (written v) ++ x ≡ packet_of (written w) ++ y → ⊥
-no_data_first v w x y h data_is is = grind (arith, long_header)
+no_data_first v w x y h data_is is = grind arith
 
 none_of_data : (units : List Value) (v : Value) (put later : List ℕ) → IsNoData v → AllByRecursion IsData units → put ≡ packets units →
     put ≡ packet_of (written v) ++ later → ⊥
@@ -99,32 +95,18 @@ module _ (capture : Capture) (coming : List ℕ) (theirs : List (List ℕ)) (end
     on : IsPrefix ((used ++ turn.used) ++ used_along turns) coming
     on = (front.0, ap (λ (x : List ℕ). x ++ front.0) (append_assoc used turn.used (used_along turns)) ∙ front.1)
 
-    on_now : IsPrefix (used ++ turn.used) coming
-    on_now = (used_along turns ++ on.0, sym (append_assoc (used ++ turn.used) (used_along turns) on.0) ∙ on.1)
-
     known_of : (us : List (List ℕ)) (rest : List ℕ) → ArePackets us (used ++ turn.used) rest → (k : ℕ) → at ≤ k →
         k < length (stream Left capture) → IsBeyond (handshake_from silent us) (met_before Left capture theirs k)
     known_of us rest packets_are k from below =
-        met_after Left capture coming theirs ending cut shown us (used ++ turn.used) rest packets_are on_now k
-        (let sum = length-append used turn.used in
-        let all = passed_by Left capture (length used) at turn turns after k from (omega arith) below in omega arith)
-
-    after_turn : PassAfter Left capture (length (used ++ turn.used)) (at + length turn.put) turns
-    after_turn = subst (λ (n : ℕ). PassAfter Left capture n (at + length turn.put) turns) (sym (length-append used turn.used)) after.1
+        met_after Left capture coming theirs ending cut shown us (used ++ turn.used) rest packets_are (grind (arith, on, append_assoc)) k
+        (grind (arith, length-append, passed_by))
 
     whole_turn : length (stream Left capture) ≤ at + length turn.put + length (put_along turns)
     whole_turn = let size = length-append turn.put (put_along turns) in omega arith
 
-    over_mid : IsSome t.there.ended → IsSome mid.end.carrier.ended
-    over_mid over = ap (λ (c : Carrier). is_some c.ended) t.same ∙ over
-
-    silent_then : turn.put ≡ [] → IsSome mid.end.carrier.ended → After at (put_along (turn ∷ turns))
-    silent_then none over = nothing_more (ap (λ (x : List ℕ). x ++ put_along turns) none ∙ over_run turns mid new over run)
-
     strays_then : IsStrayed (handshake_from silent t.units) → After at (put_along (turn ∷ turns))
     strays_then l =
-        strays_more (λ below. strayed_beyond (handshake_from silent t.units) (met_before Left capture theirs at) l
-        (known_of t.units t.rest now at (omega arith) below))
+        strays_more (λ below. search (arith, strayed_beyond, now, known_of t.units t.rest now at (omega arith) below))
 
     -- a CC of class 0 came first
     pub answered_then : IsAnswered r session turn.used turn.put old mid → After at (put_along (turn ∷ turns))
@@ -132,13 +114,10 @@ module _ (capture : Capture) (coming : List ℕ) (theirs : List (List ℕ)) (end
         let some : AreWhole a.parts = (λ d m n. (parts_read d m n a.parts (octets_said a.told) a.carry a.short).then_is) in
         let more = run_speaks proper session r turns mid new a.more a.told a.later a.stands run in
         let cut_now = subst (λ (x : List ℕ). ArePackets (a.first ∷ a.units) (x ++ turn.used) a.rest) (sym held) a.cut in
-        let opened : handshake_from silent (a.first ∷ a.units) ≡ agreed =
-        ap (λ (x : Result (List Value) TpduFault). handshake_from (shaken_first (first_unit x)) a.units) a.is_answer
-        ∙ ap (λ (b : Bool). handshake_from (if b then agreed else astray) a.units) a.of_zero ∙ agreed_from a.units in
+        let opened : handshake_from silent (a.first ∷ a.units) ≡ agreed = grind (arith, agreed_from) in
         speaks_more (a.parts ++ more.parts) (speaks_then turn.put turns a.parts [] a.written some more)
         (whole_more a.parts more.parts some more.whole)
-        (λ k from below. agreed_beyond (handshake_from silent (a.first ∷ a.units)) (met_before Left capture theirs k) opened
-        (known_of (a.first ∷ a.units) a.rest cut_now k from below))
+        (search (arith, agreed_beyond, known_of))
 
     -- a DR refused the connection
     refused_then : (u : List ℕ) → t.units ≡ u ∷ [] → (q source : ℕ) → handshake_from silent (u ∷ []) ≡ denied q source → HasNone t.there →
@@ -148,7 +127,7 @@ module _ (capture : Capture) (coming : List ℕ) (theirs : List (List ℕ)) (end
         (by (one_run Left capture coming theirs ending cut shown u proper HasNone (Unit {0}) (none_settles u q source denies) turns
         (used ++ turn.used) (at + length turn.put) mid new has_mid
         (subst (λ (x : List ℕ). ArePackets (u ∷ []) (used ++ turn.used) x) (t.held has_mid.lasts)
-        (subst (λ (x : List (List ℕ)). ArePackets x (used ++ turn.used) t.rest) is now)) on after_turn whole_turn run))
+        (subst (λ (x : List (List ℕ)). ArePackets x (used ++ turn.used) t.rest) is now)) on (grind (arith, length-append)) whole_turn run))
       where
         has_mid : HasNone mid.end.carrier
         has_mid = subst HasNone (sym t.same) (record { lasts = has.lasts; is_caller = has.is_caller; class = has.class; live = has.live })
@@ -159,13 +138,11 @@ module _ (capture : Capture) (coming : List ℕ) (theirs : List (List ℕ)) (end
         by : AfterOne Left capture coming theirs ending cut shown u (Unit {0}) (at + length turn.put) turns → After at (put_along turns)
         by (silence silent_is) = nothing_more silent_is
         by (lost_then l) =
-            strays_more (λ below. lost_strays (met_before Left capture theirs at)
-            (subst (λ (n : ℕ). n < length (stream Left capture) → IsLost (met_before Left capture theirs n)) place l below))
+            strays_more (grind (arith, lost_strays))
         by (requests a cr rest plain put_is beyond) =
             requests_more q source cr rest plain put_is (λ below. past_beyond q source (handshake_from silent (u ∷ []))
             (met_before Left capture theirs at) denies
-            (subst (λ (n : ℕ). n < length (stream Left capture) → IsBeyond (handshake_from silent (u ∷ []))
-            (met_before Left capture theirs n)) place beyond below))
+            (grind arith))
 
     -- a DR was answered by a DC
     dc_put : (q source : ℕ) → turn.put ≡ packet_of (written (disconnected source q)) ++ [] →
@@ -183,13 +160,12 @@ module _ (capture : Capture) (coming : List ℕ) (theirs : List (List ℕ)) (end
         After at (put_along (turn ∷ turns))
     closed_then u is q source denies (inr over) put =
         closes_more q source (put_along turns) (dc_put q source put) (past_now u is q source denies)
-        (inl (over_run turns mid new (over_mid over) run))
+        (inl (over_run turns mid new (grind arith) run))
     closed_then u is q source denies (inl a) put =
         closes_more q source (put_along turns) (dc_put q source put) (past_now u is q source denies)
         (by (one_run Left capture coming theirs ending cut shown u proper (AsksIn r) ⊥ (asking_settles u q source denies r) turns
         (used ++ turn.used) (at + length turn.put) mid new asks_mid
-        (subst (λ (x : List ℕ). ArePackets (u ∷ []) (used ++ turn.used) x) (t.held asks_mid.lasts)
-        (subst (λ (x : List (List ℕ)). ArePackets x (used ++ turn.used) t.rest) is now)) on after_turn whole_turn run))
+        (grind (arith, now)) on (grind (arith, length-append)) whole_turn run))
       where
         asks_mid : AsksIn r mid.end.carrier
         asks_mid = subst (AsksIn r) (sym t.same) (record { lasts = a.lasts; is_caller = a.is_caller; class = a.class; live = a.live })
@@ -213,17 +189,11 @@ module _ (capture : Capture) (coming : List ℕ) (theirs : List (List ℕ)) (end
     asks_away : (c : Carrier) → AsksIn r c → IsAway c → ⊥
     asks_away c a h = grind arith
 
-    zero_away : (c : Carrier) → IsSome c.ended ⊎ ((c.class ≡ Some Zero) × AreZero c.live) → IsAway c → IsSome c.ended
-    zero_away c h away = grind arith
-
-    away_there : (octets : List ℕ) (c : Carrier) → IsAway (record c { outgoing = octets }) → IsAway c
-    away_there octets c h = grind arith
-
     pub away_then : IsAway mid.end.carrier → turn.put ≡ [] → AskingPut r out t.units t.there → After at (put_along (turn ∷ turns))
-    away_then away none (asks.still nothing a same) = grind (arith, asks_away, away_there)
-    away_then away none (asks.gone o) = silent_then none (over_mid o.0)
+    away_then away none (asks.still nothing a same) = grind (arith, asks_away)
+    away_then away none (asks.gone o) = grind (arith, over_run)
     away_then away none (asks.opened is p) =
-        silent_then none (over_mid (zero_away t.there p.rest (away_there mid.end.carrier.outgoing t.there (subst IsAway t.same away))))
+        grind (arith, over_run)
     away_then away none (asks.refused u is q source denies has same) = refused_then u is q source denies has none
     away_then away none (asks.closed u is q source denies has same) = search (arith, never_none, one_put)
     away_then away none (asks.strays l) = strays_then l
@@ -249,8 +219,7 @@ module _ (capture : Capture) (coming : List ℕ) (theirs : List (List ℕ)) (end
       by (turn_asks r session proper begins waiting turn old run.0 w run.1) (λ none asks_still same.
       asks_run begins waiting turns r (used ++ turn.used) at run.0 new asks_still (ap (λ (x : List ℕ). x ++ turn.used) held ∙ sym same)
       (front.0, ap (λ (x : List ℕ). x ++ front.0) (append_assoc used turn.used (used_along turns)) ∙ front.1)
-      (subst (λ (n : ℕ). PassAfter Left capture n at turns) (sym (length-append used turn.used))
-      (subst (λ (n : ℕ). PassAfter Left capture (length used + length turn.used) n turns) (nothing_put none) after.1))
+      (grind (arith, length-append))
       (subst (λ (x : List ℕ). length (stream Left capture) ≤ at + length (x ++ put_along turns)) none whole) run.2)
     where
       nothing_put : turn.put ≡ [] → at + length turn.put ≡ at
@@ -258,7 +227,7 @@ module _ (capture : Capture) (coming : List ℕ) (theirs : List (List ℕ)) (end
 
       t : Tracks (AskingPut r old.end.carrier.outgoing) [] turn.used turn.put old run.0
       t = turn_tracked (AskingPut r old.end.carrier.outgoing) (asking_tracked r old.end.carrier.outgoing) proper []
-          (asking_asks r old.end.carrier.outgoing) turn old run.0 (asks.still refl (asks_in r session old.end w) refl) run.1
+          (asking_asks r old.end.carrier.outgoing) turn old run.0 (asks.still refl (grind arith) refl) run.1
 
       by : AskingTurn r session turn.used turn.put old run.0 →
           (turn.put ≡ [] → Asks r session run.0.end → run.0.held.octets ≡ old.held.octets ++ turn.used →
@@ -273,14 +242,9 @@ module _ (capture : Capture) (coming : List ℕ) (theirs : List (List ℕ)) (end
 -- ---- what is read of it
 
 module _ (met : ℕ → Handshake) (shown : ℕ) where
-  -- so many octets of packets are shown
-  before_first : (P : Handshake → Type 0) (at : ℕ) (us : List (List ℕ)) → at + packets_length us ≤ shown → (at < shown → P (met at)) →
-      KnownBefore met P at us
-  before_first P at us within known = grind arith
-
   before_later : (P : Handshake → Type 0) (at place : ℕ) (us : List (List ℕ)) → place ≡ at → at + packets_length us ≤ shown →
       (place < shown → P (met place)) → KnownBefore met P at us
-  before_later P at place us same within known = grind (arith, before_first)
+  before_later P at place us same within known = grind arith
 
   module _ (us : List (List ℕ)) (at : ℕ) (s r later put : List ℕ) (cut : ArePackets us s r) (is : s ++ later ≡ put)
       (read : AreAllRead us) (octets : AllByRecursion IsOctets us) (within : at + packets_length us ≤ shown) where
@@ -306,15 +270,6 @@ module _ (met : ℕ → Handshake) (shown : ℕ) where
   -- the first of its packets after the CR, and those after it
   module _ (u : List ℕ) (more : List (List ℕ)) (at : ℕ) (s r later put : List ℕ) (cut : ArePackets (u ∷ more) s r) (is : s ++ later ≡ put)
       (read : AreAllRead (u ∷ more)) (octets : AllByRecursion IsOctets (u ∷ more)) (within : at + packets_length (u ∷ more) ≤ shown) where
-    then_lost : (w rest : List ℕ) → u ≡ w → put ≡ packet_of w ++ rest → (v : Value) → w ≡ written v →
-        (rest ≡ []) ⊎ (at + packet_length w < shown → IsLost (met (at + packet_length w))) →
-        KnownBefore met IsLost (at + packet_length u) more
-    then_lost w rest same put_is v w_is (inl none) =
-        subst (KnownBefore met IsLost (at + packet_length u))
-        (sym (none_after (u ∷ more) at s r later put cut is read octets within u more refl v
-        (put_is ∙ ap (λ (x : List ℕ). packet_of w ++ x) none ∙ ap (λ (x : List ℕ). packet_of x ++ []) w_is))) tt
-    then_lost w rest same put_is v w_is (inr l) = grind (arith, before_later)
-
     closes_first : (q source : ℕ) (rest : List ℕ) → put ≡ packet_of (written (disconnected source q)) ++ rest → IsPast q source (met at) →
         (rest ≡ []) ⊎ (at + packet_length (written (disconnected source q)) < shown →
         IsLost (met (at + packet_length (written (disconnected source q))))) → FollowsCr met at (u ∷ more)
@@ -324,7 +279,7 @@ module _ (met : ℕ → Handshake) (shown : ℕ) where
         (written (disconnected source q)) rest put_is in
         closes q source u more refl
         (ap first_unit (ap units_of same ∙ read_again (disconnected source q) tt (subst IsOctets same octets.0))) now read.1
-        (then_lost (written (disconnected source q)) rest same put_is (disconnected source q) refl tail)
+        (grind (arith, none_after, before_later))
 
     requests_first : (q source : ℕ) (cr : Connect) (rest : List ℕ) → IsPlain cr → put ≡ packet_of (written (request cr)) ++ rest →
         IsPast q source (met at) → FollowsCr met at (u ∷ more)

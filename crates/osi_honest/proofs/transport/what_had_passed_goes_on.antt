@@ -37,8 +37,7 @@ complete_more (u ∷ us) n m l =
     by (inl (is, within)) rest =
         let then = rest (omega arith) in (
           then.0,
-          ap (upto m) (le-leb (packet_length u) m (omega arith)) ∙ ap (λ (x : List (List ℕ)). u ∷ x) then.1
-              ∙ ap (λ (x : List (List ℕ)). x ++ then.0) (sym (ap (upto n) is)),
+          grind (arith, le-leb),
         )
     by (inr (is, beyond)) rest = (complete_in m (u ∷ us), ap (λ (x : List (List ℕ)). x ++ complete_in m (u ∷ us)) (sym (ap (upto n) is)))
 
@@ -67,11 +66,7 @@ met_after d capture coming theirs ending cut shown us used rest packets front k 
     let part = front_of used (stream (other d) capture) coming front.0 shown.0 front.1 shown.1 (omega arith) in
     let more = read_within us theirs used part.0 rest ending packets (subst (λ (x : List ℕ). Cuts x theirs ending) (sym part.1) cut) in
     let size = size_read us used rest packets in
-    let complete = complete_front us more.0 (passed_before d capture k) (omega arith) in (
-      complete.0,
-      ap (λ (x : List (List ℕ)). handshake_from silent (complete_in (passed_before d capture k) x)) more.1
-          ∙ ap (handshake_from silent) complete.1 ∙ handshake_then silent us complete.0,
-    )
+    let complete = complete_front us more.0 (passed_before d capture k) (omega arith) in grind (arith, handshake_then)
 
 -- all that an end puts from some turn on passes after all that it had used by the end of this turn
 pub passed_by : (d : Direction) (capture : Capture) (used put : ℕ) (turn : Turn) (turns : List Turn) →

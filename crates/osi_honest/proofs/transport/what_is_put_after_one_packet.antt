@@ -1,15 +1,13 @@
 -- What an end puts that has used one packet and has no open connection: nothing, until a second packet comes, after which the judge
 -- ignores what it puts; or another request.
 -- For what the transport of an end puts.
-use Rattle.osi_honest.proofs.Vocabulary.{[], ap, append_assoc, arith, Bool, Err, if◌then◌else◌, is_some, length, List, None, not, Ok}
-use Rattle.osi_honest.proofs.Vocabulary.{Option, option_map, refl, Result, Some, subst, sym, true, ℕ, ◌++◌, ◌+◌, ◌<◌, ◌∙◌, ◌∷◌, ◌≡◌, ◌≤◌}
-use Rattle.osi_honest.proofs.Vocabulary.{◌⊎◌, append-nil, append_cancel_left, length-append, IsOctets, packet_of, ArePackets, Cuts, Ending}
-use Rattle.osi_honest.proofs.Vocabulary.{tsap_octets, units_of, request, Value, written, TpduFault, reacts_over, closed_on, may_connect}
-use Rattle.osi_honest.proofs.Vocabulary.{open_link, sent_on, Happening, proposal, proposes_two, packets, State as Carrier, OpenError, Ended}
-use Rattle.osi_honest.proofs.Vocabulary.{NotCaller, Holding, Capture, other, passed_before, stream, handshake_from, met_before, silent}
-use Rattle.osi_honest.proofs.Vocabulary.{Direction, IsPrefix, PassAfter, put_along, used_along, Run, Turn, IsPlain}
-use Rattle.osi_tpdu.specs.Value.{Connect}
-use Rattle.osi_carrier.specs.Calls.{asks}
+use Rattle.osi_honest.proofs.Vocabulary.{[], ap, append_assoc, arith, Err, if◌then◌else◌, is_some, length, List, None, Ok, option_map, refl}
+use Rattle.osi_honest.proofs.Vocabulary.{Result, subst, sym, true, ℕ, ◌++◌, ◌+◌, ◌<◌, ◌∙◌, ◌∷◌, ◌≡◌, ◌≤◌, ◌⊎◌, append-nil}
+use Rattle.osi_honest.proofs.Vocabulary.{append_cancel_left, length-append, IsOctets, packet_of, ArePackets, Cuts, Ending, tsap_octets}
+use Rattle.osi_honest.proofs.Vocabulary.{units_of, request, Value, written, TpduFault, reacts_over, closed_on, may_connect, open_link}
+use Rattle.osi_honest.proofs.Vocabulary.{sent_on, Happening, proposal, proposes_two, packets, State as Carrier, Holding, Capture, other}
+use Rattle.osi_honest.proofs.Vocabulary.{passed_before, stream, handshake_from, met_before, silent, Direction, IsPrefix, PassAfter}
+use Rattle.osi_honest.proofs.Vocabulary.{put_along, used_along, Run, Turn, IsPlain, Connect, asks}
 use Rattle.osi_carrier.specs.Packets as carriers
 use Rattle.osi_carrier.specs.State as states
 use Rattle.osi_honest.proofs.reading.a_cr_and_a_cc_can_be_written.{cr_by}
@@ -23,13 +21,9 @@ use Rattle.osi_honest.proofs.keeping.what_was_put_stays_in_front.{Ahead, ahead_k
 
 -- ---- what stays at a carrier
 
-over_acted : (units : Result (List Value) TpduFault) (octets : List ℕ) (c : Carrier) → Over octets c →
-    Over octets (carriers.acts_by units c)
-over_acted units octets c o = grind (arith, reacts_over)
-
 pub over_packet : (u octets : List ℕ) (c : Carrier) → Over octets c → Over octets (carriers.after_packet c u)
 unfolding carriers.after_packet
-over_packet u octets c o = over_acted (units_of u) octets c o
+over_packet u octets c o = grind (arith, reacts_over)
 
 pub over_shortage : (u octets : List ℕ) (c d : Carrier) → Over octets c → carriers.Starves c u d → Over octets d
 over_shortage u octets c d o (units, e, out) = grind (arith, reacts_over)
@@ -46,13 +40,9 @@ ahead_packet u front c p = ahead_acted (units_of u) front c p
 pub ahead_shortage : (u front : List ℕ) (c d : Carrier) → Ahead front c → carriers.Starves c u d → Ahead front d
 ahead_shortage u front c d p (units, e, out) = grind (arith, ahead_reacts front out.done c p)
 
-may_by : (b over : Bool) (e : Option OpenError) → over ≡ true →
-    (if not b then Some NotCaller else (if over then Some Ended else e)) ≡ None → ⊥
-may_by b over e ended h = grind arith
-
 -- after the end no connection is requested
 pub over_asks_nothing : (c : Carrier) → is_some c.ended ≡ true → may_connect c ≡ None → ⊥
-over_asks_nothing c ended allowed = may_by c.is_caller (is_some c.ended) _ ended allowed
+over_asks_nothing c ended allowed = grind arith
 
 -- ---- an end that waits for a second packet
 
@@ -92,20 +82,16 @@ module _ (K : Carrier → Type 0) (Asking : Type 0) (u : List ℕ) (s : Settles 
     abbrev Next : List (List ℕ) → Carrier → Type 0
     Next us c = NextPut K Asking u octets us c
 
-    second : (us : List (List ℕ)) (next : List ℕ) (c d : Carrier) → us ≡ u ∷ [] → c.outgoing ≡ octets →
-        IsLost (handshake_from silent (u ∷ next ∷ [])) ⊎ Over c.outgoing d → Next (us ++ next ∷ []) d
-    second us next c d is same h = grind arith
-
     next_packet : (us : List (List ℕ)) (next : List ℕ) (c : Carrier) → IsOctets next → Next us c →
         Next (us ++ next ∷ []) (carriers.after_packet c next)
-    next_packet us next c are (still is k same) = second us next c (carriers.after_packet c next) is same (s.packet next c are k)
+    next_packet us next c are (still is k same) = grind arith
     next_packet us next c are (gone o) = gone (over_packet next octets c o)
     next_packet us next c are (lost l) = lost (lost_more us next l)
     next_packet us next c are (again a cr plain p) = again a cr plain (ahead_packet next (octets ++ packets (request cr ∷ [])) c p)
 
     next_shortage : (us : List (List ℕ)) (next : List ℕ) (c d : Carrier) → IsOctets next → Next us c → carriers.Starves c next d →
         Next (us ++ next ∷ []) d
-    next_shortage us next c d are (still is k same) short = second us next c d is same (s.shortage next c d are k short)
+    next_shortage us next c d are (still is k same) short = grind arith
     next_shortage us next c d are (gone o) short = gone (over_shortage next octets c d o short)
     next_shortage us next c d are (lost l) short = lost (lost_more us next l)
     next_shortage us next c d are (again a cr plain p) short =
@@ -144,9 +130,7 @@ module _ (K : Carrier → Type 0) (Asking : Type 0) (u : List ℕ) (s : Settles 
         again (s.asks_for c k allowed)
         (proposal c.local c.class (option_map tsap_octets calling) (option_map tsap_octets called) (c.given + 1))
         (cr_by (proposes_two c.local) c.local c.class calling called (c.given + 1))
-        (put_now octets
-        (request (proposal c.local c.class (option_map tsap_octets calling) (option_map tsap_octets called) (c.given + 1))) c
-        (asks (option_map tsap_octets calling) (option_map tsap_octets called) c) same refl)
+        (search (arith, put_now))
     next_asks us calling called c allowed (gone o) = absurd (over_asks_nothing c o.0 allowed)
     next_asks us calling called c allowed (lost l) = lost l
     next_asks us calling called c allowed (again a cr plain p) =
@@ -224,8 +208,7 @@ module _ (d : Direction) (capture : Capture) (coming : List ℕ) (theirs : List 
         over_then : Over out t.there → AfterOne Asking at (turn ∷ turns)
         over_then o =
             let none = none_put_in out t.there.outgoing turn.put t.outgoing o.1 in
-            silence (ap (λ (x : List ℕ). x ++ put_along turns) none
-            ∙ over_run turns run.0 new (ap (λ (c : Carrier). is_some c.ended) t.same ∙ o.0) run.2)
+            silence (grind (arith, over_run))
 
         still_then : (u ∷ []) ++ t.units ≡ u ∷ [] → K t.there → t.there.outgoing ≡ out → More → AfterOne Asking at (turn ∷ turns)
         still_then is there same more =
@@ -238,8 +221,7 @@ module _ (d : Direction) (capture : Capture) (coming : List ℕ) (theirs : List 
             (more k_now
             (subst (λ (x : List ℕ). ArePackets (u ∷ []) (used ++ turn.used) x) held
             (subst (λ (x : List (List ℕ)). ArePackets x (used ++ turn.used) t.rest) is now))
-            (subst (λ (n : ℕ). PassAfter d capture n at turns) (sym (length-append used turn.used))
-            (subst (λ (n : ℕ). PassAfter d capture (length used + length turn.used) n turns) place after.1))
+            (grind (arith, length-append))
             (subst (λ (x : List ℕ). length (stream d capture) ≤ at + length (x ++ put_along turns)) none whole))
 
         by : NextPut K Asking u out ((u ∷ []) ++ t.units) t.there → More → AfterOne Asking at (turn ∷ turns)

@@ -5,8 +5,7 @@ use Rattle.osi_honest.proofs.Vocabulary.{[], ap, append_assoc, arith, length, Li
 use Rattle.osi_honest.proofs.Vocabulary.{◌≤◌, append-nil, length-append, IsOctets, packet_of, ArePackets, Cuts, Ending, units_of}
 use Rattle.osi_honest.proofs.Vocabulary.{disconnected, request, written, packets, calls_with, terms_error, Holding, Request, Capture}
 use Rattle.osi_honest.proofs.Vocabulary.{stream, first_unit, Handshake, met_before, opening, packet_length, Left, Right, Asks, Idles}
-use Rattle.osi_honest.proofs.Vocabulary.{IdleTurn, IsPrefix, PassAfter, put_along, used_along, Run, Turn}
-use Rattle.osi_tpdu.specs.Value.{Connect}
+use Rattle.osi_honest.proofs.Vocabulary.{IdleTurn, IsPrefix, PassAfter, put_along, used_along, Run, Turn, Connect}
 use Rattle.osi_honest.specs.Openings as turned
 use Rattle.osi_honest.proofs.reading.all_that_an_end_puts_can_be_read.{ArePutToRead, all_one_unit}
 use Rattle.osi_honest.proofs.transport.when_the_judge_blames_no_transport.{are_read, IsClear, caller_clear, none_clear}
@@ -53,8 +52,7 @@ module _ (capture : Capture) (coming : List ℕ) (theirs : List (List ℕ)) (end
       let now : used ++ turn.used ≡ mid.held.octets =
       ap (λ (x : List ℕ). used ++ x) none ∙ append-nil used ∙ held ∙ sym same in
       let passes : PassAfter Left capture (length (used ++ turn.used)) (packet_length (written (request cr))) turns =
-      subst (λ (n : ℕ). PassAfter Left capture n (packet_length (written (request cr))) turns) (sym (length-append used turn.used))
-      (subst (λ (n : ℕ). PassAfter Left capture (length used + length turn.used) n turns) size after.1) in
+      grind (arith, length-append) in
       let rest : length (stream Left capture) ≤ packet_length (written (request cr)) + length (put_along turns) =
       let sum = length-append turn.put (put_along turns) in omega arith in
       cr_first cr (put_along turns) (ap (λ (x : List ℕ). x ++ put_along turns) put_is)
@@ -83,8 +81,7 @@ module _ (capture : Capture) (coming : List ℕ) (theirs : List (List ℕ)) (end
       by (turned.idle_over over none) more =
           silent_side (ap (λ (x : List ℕ). x ++ put_along turns) none ∙ over_run turns run.0 new over run.2)
       by (turned.puts_a_dc destination source later is) more =
-          dc_first destination source (later ++ put_along turns) (ap (λ (x : List ℕ). x ++ put_along turns) is
-          ∙ append_assoc (packet_of (written (disconnected destination source))) later (put_along turns))
+          dc_first destination source (later ++ put_along turns) (grind (arith, append_assoc))
 
 -- ---- what is read of it
 

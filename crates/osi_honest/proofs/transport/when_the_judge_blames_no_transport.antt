@@ -1,15 +1,12 @@
 -- Which packets of a side the judge blames no transport for, by what it knows of the other side before each of them.
 -- For the laws that an end is never blamed.
-use Rattle.osi_honest.proofs.Vocabulary.{[], ap, arith, Bool, false, if◌then◌else◌, List, None, Ok, Option, refl, Some, true, ℕ, ◌&&◌, ◌++◌}
-use Rattle.osi_honest.proofs.Vocabulary.{◌+◌, ◌==◌, ◌∙◌, ◌∷◌, ◌≡◌, eq-eqb, AllByRecursion, units_of, confirm, disconnect, disconnected}
-use Rattle.osi_honest.proofs.Vocabulary.{request, Value, written, proposes, Part, is_break, added, agreed, asking, asking_step, between}
-use Rattle.osi_honest.proofs.Vocabulary.{denied, first_unit, Handshake, has_asked, hasty_behind, hasty_from, hurries, ignores, moved}
-use Rattle.osi_honest.proofs.Vocabulary.{next_step, noted, opening, packet_length, refuses, Stage, stage_behind, stage_from, step_of}
-use Rattle.osi_honest.proofs.Vocabulary.{stopped, stops, within, Direction, Left, Right, Stop, MoreConnections, NoOpening, NothingToAnswer}
-use Rattle.osi_honest.proofs.Vocabulary.{OtherClass, dt, units_put, HasOneUnit}
-use Rattle.osi_tpdu.specs.Value.{Connect}
-use Rattle.osi_judge.specs.declared.stops.Stop.TheVariants.{TsduTooLong}
-use Rattle.osi_judge.specs.Transport.{Move, asks, opens, refused}
+use Rattle.osi_honest.proofs.Vocabulary.{[], ap, arith, Bool, false, if◌then◌else◌, List, None, Ok, refl, Some, true, ℕ, ◌++◌, ◌+◌, ◌==◌}
+use Rattle.osi_honest.proofs.Vocabulary.{◌∙◌, ◌∷◌, ◌≡◌, eq-eqb, AllByRecursion, units_of, confirm, disconnect, disconnected, request, Value}
+use Rattle.osi_honest.proofs.Vocabulary.{written, proposes, Part, is_break, agreed, asking, asking_step, between, denied, first_unit}
+use Rattle.osi_honest.proofs.Vocabulary.{Handshake, has_asked, hasty_behind, hasty_from, hurries, ignores, moved, next_step, noted, opening}
+use Rattle.osi_honest.proofs.Vocabulary.{packet_length, Stage, stage_behind, stage_from, step_of, stopped, stops, within, Direction, Left}
+use Rattle.osi_honest.proofs.Vocabulary.{Right, Stop, MoreConnections, NoOpening, OtherClass, dt, units_put, HasOneUnit, Connect, refused}
+use Rattle.osi_judge.specs.Transport.{Move, asks}
 use Rattle.osi_honest.proofs.transport.what_had_passed_goes_on.{GoesOn, IsLost, lost_beyond, strayed_beyond}
 use Rattle.osi_honest.proofs.reading.what_the_judge_reads_of_a_side.{FirstUnit, IsStrayed}
 
@@ -116,16 +113,12 @@ IsOpened (within first octets) = Unit {0}
 IsOpened (stopped stop place) = Unit {0}
 IsOpened stage = ⊥
 
-added_opened : (s : Stage) (at : ℕ) (long end : Bool) (octets : List ℕ) →
-    IsOpened (if long then stopped TsduTooLong at else added s at end octets)
-added_opened s at long end octets = grind arith
-
 record Continues (s : Stage) (at : ℕ) (m : Move) : Type 0 where
   harmless : IsHarmless m
   opened : IsOpened (moved s at m)
 
 next_opened : (s : Stage) (at : ℕ) (v : Value) → Continues s at (next_step v)
-next_opened s at v = grind (arith, added_opened)
+next_opened s at v = grind arith
 
 between_opened : (d : Direction) (h : Handshake) (at : ℕ) (unit : FirstUnit) → Continues between at (step_of d between h unit)
 between_opened d h at unit = grind (arith, next_opened)
@@ -139,14 +132,10 @@ module _ (d : Direction) (met : ℕ → Handshake) where
   no_haste s at [] opened = refl
   no_haste between at (u ∷ us) opened =
       let k = between_opened d (met at) at (first_unit (units_of u)) in
-      ap (λ (x : Option ℕ). hasty_from d met (stage_behind d (met at) between at u) x (at + packet_length u) us)
-      (none_noted at (step_of d between (met at) (first_unit (units_of u))) k.harmless)
-      ∙ no_haste (stage_behind d (met at) between at u) (at + packet_length u) us k.opened
+      grind (arith, none_noted, no_haste (stage_behind d (met at) between at u) (at + packet_length u) us k.opened)
   no_haste (within first octets) at (u ∷ us) opened =
       let k = within_opened d (met at) first octets at (first_unit (units_of u)) in
-      ap (λ (x : Option ℕ). hasty_from d met (stage_behind d (met at) (within first octets) at u) x (at + packet_length u) us)
-      (none_noted at (step_of d (within first octets) (met at) (first_unit (units_of u))) k.harmless)
-      ∙ no_haste (stage_behind d (met at) (within first octets) at u) (at + packet_length u) us k.opened
+      grind (arith, none_noted, no_haste (stage_behind d (met at) (within first octets) at u) (at + packet_length u) us k.opened)
   no_haste (stopped stop place) at (u ∷ us) opened = no_haste (stopped stop place) (at + packet_length u) us tt
   no_haste _ at (u ∷ us) opened = absurd opened
 
@@ -154,12 +143,9 @@ module _ (d : Direction) (met : ℕ → Handshake) where
   stays_stopped stop place at [] = refl
   stays_stopped stop place at (u ∷ us) = stays_stopped stop place (at + packet_length u) us
 
-  innocent_front : (s : Stage) (at : ℕ) (back : List (List ℕ)) → stage_from d met s at back ≡ between → IsInnocent s
-  innocent_front s at back is = grind (arith, stays_stopped)
-
   front_innocent : (s : Stage) (at : ℕ) (us back : List (List ℕ)) → stage_from d met s at (us ++ back) ≡ between →
       IsInnocent (stage_from d met s at us)
-  front_innocent s at [] back is = innocent_front s at back is
+  front_innocent s at [] back is = grind (arith, stays_stopped)
   front_innocent s at (u ∷ us) back is = grind (arith, front_innocent (stage_behind d (met at) s at u) (at + packet_length u) us back is)
 
   -- the first of packets of which the last ends a TSDU
@@ -174,10 +160,6 @@ module _ (met : ℕ → Handshake) (on : GoesOn met) (u : List ℕ) (us : List (
   abbrev Reads : Value → Type 0
   Reads v = first_unit (units_of u) ≡ Ok (Some v)
 
-  by_class : (destination : ℕ) (c : Connect) (b : Bool) → (c.class == 0) ≡ b → Reads (confirm destination c) → (m : Move) →
-      (if b then opens c.source else stops OtherClass) ≡ m → step_of Right opening (met 0) (first_unit (units_of u)) ≡ m
-  by_class destination c b e reads m is = grind arith
-
   -- a CC of another class
   pub other_clear : (destination : ℕ) (c : Connect) → Reads (confirm destination c) → (c.class == 0) ≡ false →
       IsClear Right met opening 0 (u ∷ us)
@@ -186,7 +168,7 @@ module _ (met : ℕ → Handshake) (on : GoesOn met) (u : List ℕ) (us : List (
   -- a CC of class 0, and whole TSDUs of which these packets are the first
   pub speaks_clear : (destination : ℕ) (c : Connect) (back : List (List ℕ)) → Reads (confirm destination c) → (c.class == 0) ≡ true →
       stage_from Right met between (0 + packet_length u) (us ++ back) ≡ between → IsClear Right met opening 0 (u ∷ us)
-  speaks_clear destination c back reads e is = grind (arith, then_clear, by_class, opened_clear)
+  speaks_clear destination c back reads e is = grind (arith, then_clear, opened_clear)
 
   -- a DR after a CR, and nothing, or what comes after another CR
   pub denies_clear : (destination source reason : ℕ) (user : List ℕ) → Reads (disconnect destination source reason user) →
@@ -213,11 +195,6 @@ pub data FollowsCr (met : ℕ → Handshake) (at : ℕ) (us : List (List ℕ)) :
       first_unit (units_of u) ≡ Ok (Some (request c)) → met at ≡ denied destination source → FollowsCr met at us
 
 module _ (met : ℕ → Handshake) (on : GoesOn met) where
-  first_data : (at : ℕ) (part : Part) (parts : List Part) (u : List ℕ) (us back : List (List ℕ)) → written (dt part) ≡ u →
-      units_put parts ≡ us ++ back → stage_from Left met between at (written (dt part) ∷ units_put parts) ≡ between →
-      met at ≡ agreed → IsClear Left met asking at (u ∷ us)
-  first_data at part parts u us back same rest is now = grind (arith, opened_clear)
-
   speaks_on : (at : ℕ) (parts : List Part) (us back : List (List ℕ)) → units_put parts ≡ us ++ back →
       stage_from Left met between at (units_put parts) ≡ between → KnownBefore met (λ h. h ≡ agreed) at us → IsClear Left met asking at us
   speaks_on at parts [] back all is now = none_clear Left met asking at tt
@@ -225,16 +202,13 @@ module _ (met : ℕ → Handshake) (on : GoesOn met) where
   speaks_on at (part ∷ parts) (u ∷ us) back all is now =
       let same : written (dt part) ≡ u = cc in
       let rest : units_put parts ≡ us ++ back = cc in
-      first_data at part parts u us back same rest is now
-
-  by_references : (a b : ℕ) → (if (a == a) && (b == b) then refuses else stops NothingToAnswer) ≡ refuses
-  by_references a b = rw (eq-eqb a a refl) (rw (eq-eqb b b refl) refl)
+      grind (arith, opened_clear)
 
   follows_clear : (at : ℕ) (us : List (List ℕ)) → FollowsCr met at us → IsClear Left met asking at us
   follows_clear at us (strays read strayed) = strays_clear Left met on at us read strayed
   follows_clear at us (speaks parts back all is now) = speaks_on at parts us back all is now
   follows_clear at us (closes destination source u more is reads now read lost) =
-      grind (arith, by_references source destination, lost_clear Left met on at (at + packet_length u) more read lost)
+      grind (arith, eq-eqb, lost_clear Left met on at (at + packet_length u) more read lost)
   follows_clear at us (asks_more destination source c u more is reads now) =
       grind (arith, stopped_clear Left met MoreConnections at (at + packet_length u) more refl)
 

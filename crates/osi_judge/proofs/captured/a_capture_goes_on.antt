@@ -1,12 +1,6 @@
 -- Streams of a capture that goes on, and what had passed before an octet: for what is fed.
-use Rattle.std.proofs.Common.{◌≡◌, ◌∙◌, refl, ap, ℕ, suc, zero, ◌+◌, ◌<◌, ◌≤◌, List, [], ◌∷◌, ◌++◌, length, arith}
-use Rattle.std.proofs.lemmas.List.Concat.{flat_map-append}
-use Rattle.osi_judge.specs.declared.directions.Direction.{Direction}
-use Rattle.osi_judge.specs.declared.directions.Direction.TheVariants.{Left, Right}
-use Rattle.osi_judge.specs.Captures.{other, of, Capture, piece, own, stream, passed_before}
-
-pub stream_more : (d : Direction) (c e : Capture) → stream d (c ++ e) ≡ stream d c ++ stream d e
-stream_more d c e = flat_map-append (own d) c e
+use Rattle.osi_judge.proofs.Vocabulary.{◌≡◌, ◌∙◌, refl, ap, ℕ, suc, zero, ◌+◌, ◌<◌, ◌≤◌, List, [], ◌∷◌, ◌++◌, length, arith}
+use Rattle.osi_judge.proofs.Vocabulary.{flat_map-append, Direction, Left, Right, other, of, Capture, piece, stream, passed_before}
 
 stream_own : (d : Direction) (octets : List ℕ) → stream d (piece d octets) ≡ octets
 stream_own Left [] = refl
@@ -26,10 +20,10 @@ append_nil (x ∷ xs) = ap (λ (y : List ℕ). x ∷ y) (append_nil xs)
 
 -- a piece adds to the stream of its side, and to no other
 pub stream_fed : (d : Direction) (c : Capture) (octets : List ℕ) → stream d (c ++ piece d octets) ≡ stream d c ++ octets
-stream_fed d c octets = stream_more d c (piece d octets) ∙ ap (λ (x : List ℕ). stream d c ++ x) (stream_own d octets)
+stream_fed d c octets = (grind (arith, flat_map-append)) ∙ ap (λ (x : List ℕ). stream d c ++ x) (stream_own d octets)
 
 pub stream_beside : (d : Direction) (c : Capture) (octets : List ℕ) → stream (other d) (c ++ piece d octets) ≡ stream (other d) c
-stream_beside d c octets = grind (arith, stream_more, stream_other, append_nil)
+stream_beside d c octets = grind (arith, flat_map-append, stream_other, append_nil)
 
 -- ---- what had passed before an octet
 

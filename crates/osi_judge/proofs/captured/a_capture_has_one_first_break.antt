@@ -1,23 +1,14 @@
 -- A side that broke the protocol in a prefix of a capture broke it in the whole, so a capture has one first break.
 -- For the law that says so.
-use Rattle.std.proofs.Common.{◌≡◌, ◌∙◌, refl, sym, ap, ap₂, subst, ℕ, ◌+◌, ◌⊎◌, inl, inr, Bool, true, false, ◌||◌, List, [], ◌∷◌, ◌++◌}
-use Rattle.std.proofs.Common.{get_or, Option, Some, None, option_map}
-use Rattle.std.proofs.lemmas.List.{append-nil, append_cancel_left, get_or_append_left}
-use Rattle.osi_tpkt.specs.Stream.{Cuts, Ending, offset_of}
-use Rattle.osi_tpkt.specs.Stream.Ending.{Faulty, Rest}
-use Rattle.osi_tpkt.specs.declared.faults.TpktFault.{TpktFault}
-use Rattle.osi_judge.specs.declared.directions.Direction.{Direction}
-use Rattle.osi_judge.specs.declared.directions.Direction.TheVariants.{Left, Right}
-use Rattle.osi_judge.specs.declared.findings.Finding.{Finding}
-use Rattle.osi_judge.specs.declared.stops.Stop.{Stop}
-use Rattle.osi_judge.specs.declared.stops.Stopped.{Stopped}
-use Rattle.osi_judge.specs.Captures.{Passed, Capture, other, stream}
-use Rattle.osi_judge.specs.Judging.{IsFound, HasRoom}
-use Rattle.osi_judge.specs.Stops.{breaks, broke_session}
-use Rattle.osi_judge.specs.Transport.{Handshake, packet_length, met_before, Stage, opening, asking, between, within, refused, stopped}
-use Rattle.osi_judge.specs.Transport.{stage_behind, stage_from, hasty_behind, hasty_from}
-use Rattle.osi_judge.specs.Tapping.{begin_of, heard, told, stop_in, or_hasty, IsFoundIn, IsStoppedIn, HasRoomIn, StandsIn, FirstBreak}
-use Rattle.osi_judge.specs.Tapping.{IsFirstIn}
+use Rattle.std.proofs.Common.{arith}
+use Rattle.osi_judge.proofs.Vocabulary.{◌≡◌, ◌∙◌, refl, sym, ap, ap₂, subst, ℕ, ◌+◌, ◌⊎◌, inl, inr, Bool, true, false, ◌||◌, List, [], ◌∷◌}
+use Rattle.osi_judge.proofs.Vocabulary.{◌++◌, get_or, Option, Some, None, option_map, append-nil, append_cancel_left, get_or_append_left}
+use Rattle.osi_judge.proofs.Vocabulary.{Cuts, Ending, offset_of, Faulty, Rest, Direction, Left, Right, Finding, Stop, Stopped, Passed}
+use Rattle.osi_judge.proofs.Vocabulary.{Capture, other, stream, IsFound, HasRoom, breaks, broke_session, Handshake, packet_length}
+use Rattle.osi_judge.proofs.Vocabulary.{met_before, Stage, opening, asking, between, within, refused, stopped, stage_behind, stage_from}
+use Rattle.osi_judge.proofs.Vocabulary.{hasty_behind, hasty_from, begin_of, heard, told, stop_in, or_hasty, IsFoundIn, IsStoppedIn}
+use Rattle.osi_judge.proofs.Vocabulary.{StandsIn, FirstBreak, IsFirstIn}
+use Rattle.osi_judge.specs.Tapping.{HasRoomIn}
 use Rattle.osi_judge.proofs.captured.a_capture_that_goes_on_is_read_alike.{met_longer, stage_append, hasty_append, tells_on}
 use Rattle.osi_judge.proofs.captured.a_stream_that_goes_on_keeps_its_packets.{cut_on, fault_stays}
 use Rattle.osi_judge.proofs.captured.how_far_the_other_side_had_come.{stage_stays, hasty_stays}
@@ -74,11 +65,6 @@ module _ (d : Direction) (met : ℕ → Handshake) (at : ℕ) (us : List (List �
   abbrev broken_later : Option ℕ → Stage → Bool
   broken_later hasty s = broken_at (hasty_from d met s hasty at us) (stage_from d met s at us) last
 
-  closed : (s : Stage) (f : TpktFault) → broken_at None s (Faulty f) ≡ true → Closes (Faulty f) us last → broken_later None s ≡ true
-  closed s f h (none, e) =
-      ap (λ (x : List (List ℕ)). broken_at (hasty_from d met s None at x) (stage_from d met s at x) last) none
-      ∙ ap (broken_at None s) e ∙ h
-
   stays_broken : (hasty : Option ℕ) (s : Stage) (ending : Ending) → broken_at hasty s ending ≡ true → Closes ending us last
       → broken_later hasty s ≡ true
   stays_broken (Some p) s ending b h =
@@ -91,10 +77,10 @@ module _ (d : Direction) (met : ℕ → Handshake) (at : ℕ) (us : List (List �
   stays_broken None asking (Rest n) b h = absurd (cc)
   stays_broken None between (Rest n) b h = absurd (cc)
   stays_broken None (within first octets) (Rest n) b h = absurd (cc)
-  stays_broken None opening (Faulty f) b h = closed opening f b h
-  stays_broken None asking (Faulty f) b h = closed asking f b h
-  stays_broken None between (Faulty f) b h = closed between f b h
-  stays_broken None (within first octets) (Faulty f) b h = closed (within first octets) f b h
+  stays_broken None opening (Faulty f) b h = grind arith
+  stays_broken None asking (Faulty f) b h = grind arith
+  stays_broken None between (Faulty f) b h = grind arith
+  stays_broken None (within first octets) (Faulty f) b h = grind arith
 
 none_follow : (us vs more : List (List ℕ)) → us ≡ vs → vs ≡ us ++ more → more ≡ []
 none_follow us vs more e f = sym (append_cancel_left us [] more (append-nil us ∙ e ∙ f))
@@ -120,9 +106,7 @@ transport_stays d c e s t b h k =
     ∙ ap (λ (x : Stage). stage_from d met x at more) stage in
     let hasty = ap (hasty_from d met opening None 0) cut.on.is ∙ hasty_append d met opening None 0 h.units more
     ∙ ap₂ (λ (x : Stage) (y : Option ℕ). hasty_from d met x y at more) stage early in
-    ap breaks k.stops ∙ ap₂ (λ (x : Option ℕ) (y : Stage). broken_at x y k.ending) hasty later
-    ∙ stays_broken d met at more k.ending (hasty_from d was opening None 0 h.units) (stage_from d was opening 0 h.units) h.ending
-    (ap breaks (sym h.stops) ∙ b) (closes d c e h.units k.units more h.ending k.ending h.cut k.cut cut.on.is)
+    grind (arith, stays_broken, closes d c e h.units k.units more h.ending k.ending h.cut k.cut cut.on.is)
 
 -- ---- by either
 
@@ -148,18 +132,12 @@ never_mended d front back whole e h k =
 same_head : (p q : Passed) (a c : Capture) → p ∷ a ≡ q ∷ c → p ≡ q
 same_head p q a c e = cc
 
-same_tail : (p q : Passed) (a c : Capture) → p ∷ a ≡ q ∷ c → a ≡ c
-same_tail p q a c e = cc
-
 prefixes : (a b c e : Capture) → a ++ b ≡ c ++ e → ((x : Capture) × (c ≡ a ++ x)) ⊎ ((x : Capture) × (a ≡ c ++ x))
 prefixes [] b c e h = inl (c, refl)
 prefixes (p ∷ a) b [] e h = inr (p ∷ a, refl)
 prefixes (p ∷ a) b (q ∷ c) e h =
     let head = same_head p q (a ++ b) (c ++ e) h in
-    elim (prefixes a b c e (same_tail p q (a ++ b) (c ++ e) h)) [
-      | inl x ↦ inl (x.0, (λ i. sym head i ∷ x.1 i))
-      | inr x ↦ inr (x.0, (λ i. head i ∷ x.1 i))
-    ]
+    grind (arith, prefixes a b c e (grind arith))
 
 not_both : (capture : Capture) → FirstBreak Left capture → FirstBreak Right capture → ⊥
 not_both capture h k = elim (prefixes h.front h.back k.front k.back (sym h.parts ∙ k.parts)) [
@@ -167,16 +145,13 @@ not_both capture h k = elim (prefixes h.front h.back k.front k.back (sym h.parts
   | inr x ↦ never_mended Right k.front x.0 h.front x.1 k.broke h.kept
 ]
 
-not_neither : (d : Direction) (capture : Capture) → FirstBreak d capture → StandsIn d capture false → ⊥
-not_neither d capture h k = never_mended d h.front h.back capture h.parts h.broke k
-
 pub one_first : (capture : Capture) (first second : Option Direction) → IsFirstIn capture first → IsFirstIn capture second
     → first ≡ second
 one_first capture None None h k = refl
-one_first capture None (Some Left) h k = absurd (not_neither Left capture k h.0)
-one_first capture None (Some Right) h k = absurd (not_neither Right capture k h.1)
-one_first capture (Some Left) None h k = absurd (not_neither Left capture h k.0)
-one_first capture (Some Right) None h k = absurd (not_neither Right capture h k.1)
+one_first capture None (Some Left) h k = absurd (search (arith, never_mended))
+one_first capture None (Some Right) h k = absurd (search (arith, never_mended))
+one_first capture (Some Left) None h k = absurd (search (arith, never_mended))
+one_first capture (Some Right) None h k = absurd (search (arith, never_mended))
 one_first capture (Some Left) (Some Left) h k = refl
 one_first capture (Some Right) (Some Right) h k = refl
 one_first capture (Some Left) (Some Right) h k = absurd (not_both capture h k)

@@ -1,25 +1,16 @@
 -- The TSDUs of a side of a capture are the first of those of a capture that goes on, and as many had passed before each of them.
 -- For the law that a capture has one first break.
-use Rattle.std.proofs.Common.{◌≡◌, ◌∙◌, refl, sym, ap, subst, ℕ, ◌+◌, ◌-◌, ◌<◌, ◌≤◌, cond, leb, List, [], ◌∷◌, ◌++◌, length, arith, Option}
-use Rattle.std.specs.List.{filter}
-use Rattle.std.proofs.lemmas.Bool.{lt-leb}
-use Rattle.std.proofs.lemmas.Bool.Decides.{leb_tells}
-use Rattle.std.proofs.lemmas.List.{append-nil, append_assoc, map-append}
-use Rattle.std.proofs.lemmas.List.Elements.{filter-append}
-use Rattle.osi_judge.specs.declared.directions.Direction.{Direction}
-use Rattle.osi_judge.specs.Captures.{Capture, other, stream, passed_before}
-use Rattle.osi_judge.specs.Explaining.{Told}
-use Rattle.osi_judge.specs.Transport.{Handshake, silent, packet_length, complete_in, handshake_from, met_before, packets_length, Stage}
-use Rattle.osi_judge.specs.Transport.{opening, first_of, stage_behind, stage_from, Sent, sent_by, sent_from, hasty_behind, hasty_from}
-use Rattle.osi_judge.specs.Transport.{IsSent}
-use Rattle.osi_judge.specs.Tapping.{had_passed, heard, told}
-use Rattle.osi_judge.specs.Following.{BeginBefore, IsSince}
+use Rattle.osi_judge.proofs.Vocabulary.{◌≡◌, ◌∙◌, refl, sym, ap, subst, ℕ, ◌+◌, ◌-◌, ◌<◌, ◌≤◌, cond, leb, List, [], ◌∷◌, ◌++◌, length}
+use Rattle.osi_judge.proofs.Vocabulary.{arith, Option, filter, lt-leb, leb_tells, append-nil, append_assoc, map-append, filter-append}
+use Rattle.osi_judge.proofs.Vocabulary.{Direction, Capture, other, stream, passed_before, Told, Handshake, packet_length, complete_in}
+use Rattle.osi_judge.proofs.Vocabulary.{met_before, packets_length, Stage, opening, first_of, stage_behind, stage_from, Sent, sent_by}
+use Rattle.osi_judge.proofs.Vocabulary.{sent_from, hasty_behind, hasty_from, IsSent, had_passed, heard, told, BeginBefore, IsSince}
 use Rattle.osi_judge.proofs.captured.a_capture_goes_on.{passed_within}
 use Rattle.osi_judge.proofs.captured.a_stream_that_goes_on_keeps_its_packets.{AreLonger, CutOn, cut_on}
-use Rattle.osi_judge.proofs.captured.how_far_the_other_side_had_come.{complete_by, complete_none, met_stays, end_within, offset_more}
-use Rattle.osi_judge.proofs.captured.how_far_the_other_side_had_come.{MeetAlike, sent_stays}
+use Rattle.osi_judge.proofs.captured.how_far_the_other_side_had_come.{complete_by, met_stays, end_within, offset_more, MeetAlike}
+use Rattle.osi_judge.proofs.captured.how_far_the_other_side_had_come.{sent_stays}
 use Rattle.osi_judge.proofs.captured.how_many_tsdus_had_passed.{has_ended, told_stays}
-use Rattle.osi_judge.proofs.captured.one_more_packet_passes.{offset_from, offset_of_rest, OneOrNone, sent_one, since_behind}
+use Rattle.osi_judge.proofs.captured.one_more_packet_passes.{offset_from, offset_of_rest, since_behind}
 use Rattle.osi_judge.proofs.captured.what_is_known_stays_known_within_a_packet.{length_heard}
 use Rattle.osi_judge.proofs.captured.what_is_told_beside_is_of_the_capture.{offset_sum}
 
@@ -28,7 +19,7 @@ use Rattle.osi_judge.proofs.captured.what_is_told_beside_is_of_the_capture.{offs
 complete_longer : (n m : ℕ) (us more : List (List ℕ)) → n ≤ packets_length us + m → AreLonger m more
     → complete_in n (us ++ more) ≡ complete_in n us
 complete_longer n m [] [] l k = refl
-complete_longer n m [] (u ∷ more) l k = complete_none n u more (omega (arith, l, k))
+complete_longer n m [] (u ∷ more) l k = grind (arith, cond, lt-leb)
 complete_longer n m (v ∷ us) more l k =
     complete_by n v (us ++ more) us (λ a. complete_longer (n - packet_length v) m us more (omega (arith, l, a)) k)
     (leb_tells (packet_length v) n)
@@ -37,12 +28,7 @@ pub met_longer : (d : Direction) (c e : Capture) (others beside : List (List ℕ
     → MeetAlike (length (stream d c)) (met_before d (c ++ e) beside) (met_before d c others)
 met_longer d c e others beside h =
     let there = offset_of_rest 0 others (stream (other d) c) h.rest h.packets in
-    let sum = offset_sum 0 others in
-    let met : MeetAlike (length (stream d c)) (met_before d (c ++ e) (others ++ h.on.more)) (met_before d c others) = λ k b.
-    met_stays d c e (others ++ h.on.more) k b
-    ∙ (let w = passed_within d c k in ap (handshake_from silent)
-    (complete_longer (passed_before d c k) (length h.rest) others h.on.more (omega (arith, there, sum, w)) h.on.longer)) in
-    subst (λ (x : List (List ℕ)). MeetAlike (length (stream d c)) (met_before d (c ++ e) x) (met_before d c others)) (sym h.on.is) met
+    grind (arith, offset_sum, met_stays, passed_within, complete_longer)
 
 -- ---- packets one after the other
 
@@ -65,8 +51,7 @@ sent_append d met s at (u ∷ us) vs =
     let t = stage_behind d (met at) s at u in
     let on = at + packet_length u in
     ap (λ (x : List Sent). sent_by d (met at) s at u ++ x) (sent_append d met t on us vs)
-    ∙ sym (append_assoc (sent_by d (met at) s at u) (sent_from d met t on us)
-    (sent_from d met (stage_from d met t on us) (offset_from on us) vs))
+    ∙ sym (grind (arith, append_assoc, offset_from))
 
 -- ---- where TSDUs begin and end
 
@@ -78,18 +63,14 @@ first_there : (d : Direction) (c : Capture) (s : Stage) (at since : ℕ) → IsS
     → first_of s at < length (stream d c)
 first_there d c s at since h l = grind arith
 
-one_begins : (n : ℕ) (s : Stage) (at : ℕ) (u : List ℕ) (sent : List Sent) → first_of s at < n → OneOrNone s at u sent → BeginBefore n sent
-one_begins n s at u sent l h = grind arith
-
 begins : (d : Direction) (c : Capture) (met : ℕ → Handshake) (s : Stage) (at since : ℕ) (us : List (List ℕ)) → IsSince d c [] s since
     → offset_from at us ≤ length (stream d c) → BeginBefore (length (stream d c)) (sent_from d met s at us)
 begins d c met s at since [] h l = tt
 begins d c met s at since (u ∷ us) h l =
-    let far = offset_more (at + packet_length u) us in
-    let first = first_there d c s at since h (omega (arith, far, l)) in
+    let first = first_there d c s at since h (grind (arith, offset_more, l)) in
     begin_both (length (stream d c)) (sent_by d (met at) s at u)
     (sent_from d met (stage_behind d (met at) s at u) (at + packet_length u) us)
-    (one_begins (length (stream d c)) s at u (sent_by d (met at) s at u) first (sent_one d (met at) s at u))
+    (grind arith)
     (begins d c met (stage_behind d (met at) s at u) (at + packet_length u) (had_passed d c (first_of s at) []) us
     (since_behind d (met at) c [] s at (had_passed d c (first_of s at) []) u first refl) l)
 
@@ -102,10 +83,6 @@ end_both : (n : ℕ) (xs ys : List Sent) → EndBehind n xs → EndBehind n ys �
 end_both n [] ys h k = k
 end_both n (x ∷ xs) ys h k = (h.0, end_both n xs ys h.1 k)
 
-one_ends : (n : ℕ) (s : Stage) (at : ℕ) (u : List ℕ) (sent : List Sent) → n < at + packet_length u → OneOrNone s at u sent
-    → EndBehind n sent
-one_ends n s at u sent l h = grind arith
-
 longer_than_none : (us : List (List ℕ)) → AreLonger 0 us
 longer_than_none us = grind arith
 
@@ -115,7 +92,7 @@ ends_behind d met s at m n [] l k = tt
 ends_behind d met s at m n (u ∷ us) l k =
     let on = at + packet_length u in
     end_both n (sent_by d (met at) s at u) (sent_from d met (stage_behind d (met at) s at u) on us)
-    (one_ends n s at u (sent_by d (met at) s at u) (omega (arith, l, k)) (sent_one d (met at) s at u))
+    (grind arith)
     (ends_behind d met (stage_behind d (met at) s at u) on 0 n us (omega (arith, l, k)) (longer_than_none us))
 
 -- ---- the TSDUs of a side
@@ -137,12 +114,10 @@ sent_on d c e mine whole (us, bs, cut, beside, is) (vs, ws, cut_too, beside_too,
     let there = offset_of_rest 0 us (stream d c) a.rest a.packets in
     record {
       more = more;
-      is = is_too ∙ ap (sent_from d met opening 0) a.on.is ∙ sent_append d met opening 0 us a.on.more
-          ∙ ap (λ (x : List Sent). x ++ more) (sent_stays d c us a.rest a.packets met (met_before d c bs) meet ∙ sym is);
+      is = grind (arith, sent_append, sent_stays);
       begins = subst (BeginBefore (length (stream d c))) (sym is)
           (begins d c (met_before d c bs) opening 0 0 us tt (end_within d c us a.rest a.packets));
-      behind = ends_behind d met (stage_from d met opening 0 us) (offset_from 0 us) (length a.rest) (length (stream d c)) a.on.more
-          (omega (arith, there)) a.on.longer;
+      behind = grind (arith, ends_behind, offset_from);
     }
 
 -- ---- what had passed before them
@@ -156,8 +131,7 @@ none_more_passed : (d : Direction) (c : Capture) (k : ℕ) (others more : List S
 none_more_passed d c k others more h =
     let n = passed_before d c k in
     let none = filter_behind n (length (stream (other d) c)) more (passed_within d c k) h in
-    ap (λ (x : List Sent). length x) (filter-append (has_ended n) others more
-    ∙ ap (λ (x : List Sent). filter (has_ended n) others ++ x) none ∙ append-nil (filter (has_ended n) others))
+    grind (arith, filter-append, has_ended, append-nil)
 
 told_longer : (d : Direction) (c : Capture) (mine others more : List Sent) → EndBehind (length (stream (other d) c)) more
     → told d c mine (others ++ more) ≡ told d c mine others

@@ -1,21 +1,10 @@
 -- The packets of a stream are the first of those of a stream that goes on, and a fault stays.
 -- For the law that a capture has one first break.
-use Rattle.std.proofs.Common.{◌≡◌, ◌∙◌, refl, sym, ap, subst, ℕ, ◌+◌, ◌-◌, ◌<◌, inl, inr, List, [], ◌∷◌, ◌++◌, length, take, drop}
-use Rattle.std.proofs.Common.{arith}
-use Rattle.std.proofs.Math.Seq.{take-append_seam}
-use Rattle.std.proofs.lemmas.Bool.{cases_lt}
-use Rattle.std.proofs.lemmas.List.{append_assoc, append_cancel_left, length-append, take-append-drop, take-append-le}
-use Rattle.std.proofs.lemmas.List.{get_or_append_left}
-use Rattle.osi_tpkt.specs.Packet.{IsPacket, IsFaultOf}
-use Rattle.osi_tpkt.specs.Stream.{ArePackets, Cuts, Ending, offset_of}
-use Rattle.osi_tpkt.specs.Stream.Ending.{Faulty}
-use Rattle.osi_tpkt.specs.declared.faults.TpktFault.{TpktFault}
-use Rattle.osi_tpkt.proofs.a_stream_is_cut_in_one_way.{end_no_packet, one_cut}
-use Rattle.osi_tpkt.proofs.no_packet_is_a_prefix_of_another.{one_packet, stated_length-append}
-use Rattle.osi_judge.specs.declared.directions.Direction.{Direction}
-use Rattle.osi_judge.specs.Captures.{Capture, stream}
-use Rattle.osi_judge.specs.Transport.{packet_length, ArePacketsOf}
-use Rattle.osi_judge.proofs.captured.a_capture_goes_on.{stream_more}
+use Rattle.osi_judge.proofs.Vocabulary.{◌≡◌, ◌∙◌, refl, sym, ap, subst, ℕ, ◌+◌, ◌-◌, ◌<◌, inl, inr, List, [], ◌∷◌, ◌++◌, length, take, drop}
+use Rattle.osi_judge.proofs.Vocabulary.{arith, take-append_seam, cases_lt, append_assoc, append_cancel_left, length-append}
+use Rattle.osi_judge.proofs.Vocabulary.{take-append-drop, take-append-le, get_or_append_left, IsPacket, IsFaultOf, ArePackets, Cuts, Ending}
+use Rattle.osi_judge.proofs.Vocabulary.{offset_of, Faulty, TpktFault, end_no_packet, one_cut, one_packet, stated_length-append, Direction}
+use Rattle.osi_judge.proofs.Vocabulary.{Capture, stream, packet_length, ArePacketsOf, flat_map-append}
 use Rattle.osi_judge.proofs.captured.one_more_packet_passes.{packets_on, packet_octets}
 
 -- ---- no packet is at the front of the octets that are left
@@ -65,9 +54,7 @@ goes_on (u ∷ us) (v ∷ vs) s more r q n m (b, t, p, e, h) (c, w, o, f, k) =
     let one = one_packet u v b c (t ++ more) w p o same in
     let rest : t ++ more ≡ w = append_cancel_left c (t ++ more) w (ap (λ (x : List ℕ). x ++ (t ++ more)) (sym one.0) ∙ same) in
     let on = goes_on us vs t more r q n m h (subst (λ (x : List ℕ). ArePackets vs x q) (sym rest) k) in
-    let unit = sym one.1 in
-    let units = on.is in
-    record { more = on.more; is = λ i. unit i ∷ units i; longer = on.longer }
+    grind arith
 
 -- of a side of a capture that goes on
 pub record CutOn (d : Direction) (c : Capture) (us vs : List (List ℕ)) : Type 0 where
@@ -80,7 +67,7 @@ cut_on d c e us vs (ending, (r, h, end)) (last, (q, k, close)) = record {
   rest = r;
   packets = h;
   on = goes_on us vs (stream d c) (stream d e) r q (end_no_packet _ r ending end) (end_no_packet _ q last close) h
-      (subst (λ (x : List ℕ). ArePackets vs x q) (stream_more d c e) k);
+      (subst (λ (x : List ℕ). ArePackets vs x q) (grind (arith, flat_map-append)) k);
 }
 
 -- ---- a fault stays
@@ -95,9 +82,8 @@ pub fault_stays : (d : Direction) (c e : Capture) (us vs : List (List ℕ)) (f :
 fault_stays d c e us vs f last (r, h, end) k =
     let s = stream d c ++ stream d e in
     let rest = r ++ stream d e in
-    let n = length-append (stream d c) (stream d e) in
     let m = length-append r (stream d e) in
-    let place : 0 + (length (stream d c) - length r) ≡ 0 + (length s - length rest) = omega (arith, n, m) in
+    let place : 0 + (length (stream d c) - length r) ≡ 0 + (length s - length rest) = grind (arith, length-append, m) in
     let fault = subst (λ (x : ℕ). IsFaultOf (offset_of x) rest f) place (faulty_on _ r (stream d e) f end) in
     let cut : Cuts s us (Faulty f) = (rest, packets_on us (stream d c) r (stream d e) h, fault) in
-    one_cut s us vs (Faulty f) last cut (subst (λ (x : List ℕ). Cuts x vs last) (stream_more d c e) k)
+    one_cut s us vs (Faulty f) last cut (subst (λ (x : List ℕ). Cuts x vs last) (grind (arith, flat_map-append)) k)

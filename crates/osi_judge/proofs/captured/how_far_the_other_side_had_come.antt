@@ -1,41 +1,29 @@
 -- How far the other side had come before an octet stays so as octets pass, and so does what the packets of a side mean.
 -- For what a judge is fed.
-use Rattle.std.proofs.Common.{◌≡◌, ◌∙◌, refl, ap, ℕ, ◌+◌, ◌-◌, ◌<◌, ◌≤◌, ◌⊎◌, Bool, cond, true, false, leb, List, [], ◌∷◌, ◌++◌, length}
-use Rattle.std.proofs.Common.{Option, None, arith}
-use Rattle.std.proofs.lemmas.Bool.{le-leb, lt-leb}
-use Rattle.std.proofs.lemmas.Bool.Decides.{leb_tells}
-use Rattle.osi_tpkt.specs.Stream.{ArePackets}
+use Rattle.osi_judge.proofs.Vocabulary.{◌≡◌, refl, ap, ℕ, ◌+◌, ◌-◌, ◌<◌, ◌≤◌, ◌⊎◌, cond, true, false, leb, List, [], ◌∷◌, ◌++◌, length}
+use Rattle.osi_judge.proofs.Vocabulary.{Option, None, arith, lt-leb, leb_tells, ArePackets, Direction, Capture, other, piece, stream}
+use Rattle.osi_judge.proofs.Vocabulary.{Handshake, silent, first_unit, shaken, handshake_from, packet_length, complete_in, met_before}
+use Rattle.osi_judge.proofs.Vocabulary.{Stage, opening, stage_behind, stage_from, sent_from, hasty_behind, hasty_from, packets_length}
 use Rattle.osi_tpdu.specs.Packet.{units_of}
-use Rattle.osi_judge.specs.declared.directions.Direction.{Direction}
-use Rattle.osi_judge.specs.Captures.{Capture, other, piece, stream}
-use Rattle.osi_judge.specs.Transport.{Handshake, silent, first_unit, shaken, handshake_from, packet_length, complete_in, met_before, Stage}
-use Rattle.osi_judge.specs.Transport.{opening, stage_behind, stage_from, sent_from, hasty_behind, hasty_from, packets_length}
 use Rattle.osi_judge.proofs.captured.a_capture_goes_on.{passed_stays, passed_by_then, passed_within}
 use Rattle.osi_judge.proofs.captured.one_more_packet_passes.{offset_from, offset_of_rest}
 
 -- ---- the packets that are complete within so many octets
 
-complete_one : (n : ℕ) (u : List ℕ) (us : List (List ℕ)) → packet_length u ≤ n
-    → complete_in n (u ∷ us) ≡ u ∷ complete_in (n - packet_length u) us
-complete_one n u us l = ap (λ (b : Bool). cond b (u ∷ complete_in (n - packet_length u) us) []) (le-leb (packet_length u) n l)
-
-pub complete_none : (n : ℕ) (u : List ℕ) (us : List (List ℕ)) → n < packet_length u → complete_in n (u ∷ us) ≡ []
-complete_none n u us l = ap (λ (b : Bool). cond b (u ∷ complete_in (n - packet_length u) us) []) (lt-leb (packet_length u) n l)
-
 complete_all : (n : ℕ) (us : List (List ℕ)) → packets_length us ≤ n → complete_in n us ≡ us
 complete_all n [] l = refl
-complete_all n (u ∷ us) l = grind (arith, complete_one, complete_all (n - packet_length u) us (omega arith))
+complete_all n (u ∷ us) l = grind (arith, complete_all (n - packet_length u) us (omega arith))
 
 pub complete_by : (n : ℕ) (u : List ℕ) (xs ys : List (List ℕ))
     → (packet_length u ≤ n → complete_in (n - packet_length u) xs ≡ complete_in (n - packet_length u) ys)
     → ((leb (packet_length u) n ≡ true) × (packet_length u ≤ n)) ⊎ ((leb (packet_length u) n ≡ false) × (n < packet_length u))
     → complete_in n (u ∷ xs) ≡ complete_in n (u ∷ ys)
-complete_by n u xs ys more h = grind (arith, complete_one, complete_none)
+complete_by n u xs ys more h = grind arith
 
 -- one that ends later is not among them
 complete_front : (n : ℕ) (us : List (List ℕ)) (u : List ℕ) → n < packets_length us + packet_length u
     → complete_in n (us ++ u ∷ []) ≡ complete_in n us
-complete_front n [] u l = complete_none n u [] (omega arith)
+complete_front n [] u l = grind (arith, cond, lt-leb)
 complete_front n (v ∷ us) u l = grind (arith, complete_by, leb_tells, complete_front (n - packet_length v) us u (omega arith))
 
 -- ---- how far a side has come
@@ -88,9 +76,7 @@ hasty_same : (d : Direction) (m p : ℕ → Handshake) (n : ℕ) → ((k : ℕ) 
 hasty_same d m p n e s hasty at [] l = refl
 hasty_same d m p n e s hasty at (u ∷ us) l =
     let far = offset_more (at + packet_length u) us in
-    ap (λ (h : Handshake). hasty_from d m (stage_behind d h s at u) (hasty_behind d h s hasty at u) (at + packet_length u) us)
-    (e at (omega arith))
-    ∙ hasty_same d m p n e (stage_behind d (p at) s at u) (hasty_behind d (p at) s hasty at u) (at + packet_length u) us l
+    grind (arith, hasty_same d m p n e (stage_behind d (p at) s at u) (hasty_behind d (p at) s hasty at u) (at + packet_length u) us l)
 
 -- the packets of a stream mean the same if the other side had come as far before each of its octets
 abbrev pub MeetAlike : ℕ → (m p : ℕ → Handshake) → Type 0

@@ -1,14 +1,7 @@
 -- How many TSDUs had passed before an octet, as a capture goes on: for what a judge is fed.
-use Rattle.std.proofs.Common.{◌≡◌, refl, ap, ℕ, ◌+◌, ◌<◌, ◌≤◌, Bool, cond, leb, List, [], ◌∷◌, ◌++◌, length, arith}
-use Rattle.std.specs.List.{filter}
-use Rattle.std.proofs.lemmas.Bool.{le-leb, lt-leb}
-use Rattle.std.proofs.lemmas.List.{append-nil}
-use Rattle.std.proofs.lemmas.List.Elements.{filter-append}
-use Rattle.osi_judge.specs.declared.directions.Direction.{Direction}
-use Rattle.osi_judge.specs.Captures.{Capture, other, piece, stream, passed_before}
-use Rattle.osi_judge.specs.Transport.{Sent}
-use Rattle.osi_judge.specs.Tapping.{had_passed, told}
-use Rattle.osi_judge.specs.Following.{BeginBefore, EndBy}
+use Rattle.osi_judge.proofs.Vocabulary.{◌≡◌, refl, ap, ℕ, ◌+◌, ◌<◌, ◌≤◌, Bool, cond, leb, List, [], ◌∷◌, ◌++◌, length, arith, filter}
+use Rattle.osi_judge.proofs.Vocabulary.{le-leb, lt-leb, append-nil, filter-append, Direction, Capture, other, piece, stream, passed_before}
+use Rattle.osi_judge.proofs.Vocabulary.{Sent, had_passed, told, BeginBefore, EndBy}
 use Rattle.osi_judge.proofs.captured.a_capture_goes_on.{passed_stays, passed_by_then, passed_within}
 
 abbrev pub has_ended : ℕ → Sent → Bool
@@ -21,10 +14,6 @@ same_passed d c e k others h = ap (λ (n : ℕ). length (filter (has_ended n) ot
 
 filter_none : (n : ℕ) (t : Sent) → n < t.behind → filter (has_ended n) (t ∷ []) ≡ []
 filter_none n t l = ap (λ (b : Bool). cond b (t ∷ []) []) (lt-leb t.behind n l)
-
-filter_beyond : (n : ℕ) (others : List Sent) (t : Sent) → n < t.behind →
-    filter (has_ended n) (others ++ t ∷ []) ≡ filter (has_ended n) others
-filter_beyond n others t l = grind (arith, filter-append, filter_none, append-nil)
 
 filter_all : (n : ℕ) (others : List Sent) → EndBy n others → filter (has_ended n) others ≡ others
 filter_all n [] h = refl
@@ -39,7 +28,7 @@ stays_passed d c e k others l = same_passed d (c ++ e) c k others (passed_stays 
 pub not_yet_passed : (d : Direction) (c : Capture) (k : ℕ) (others : List Sent) (t : Sent) → length (stream (other d) c) < t.behind →
     had_passed d c k (others ++ t ∷ []) ≡ had_passed d c k others
 not_yet_passed d c k others t l = let w =
-    passed_within d c k in ap (λ (x : List Sent). length x) (filter_beyond (passed_before d c k) others t (omega arith))
+    passed_within d c k in ap (λ (x : List Sent). length x) (grind (arith, filter-append, filter_none, append-nil))
 
 -- before an octet that passes now, all had passed
 pub all_had_passed : (d : Direction) (c : Capture) (octets : List ℕ) (k : ℕ) (others : List Sent) → length (stream d c) ≤ k →

@@ -1,21 +1,10 @@
 -- One more packet of a side passes: the state of its transport, and the TSDU that the packet ends.
-use Rattle.std.proofs.Common.{◌≡◌, ◌∙◌, refl, sym, ap, ℕ, ◌+◌, ◌<◌, ◌⊎◌, Bool, if◌then◌else◌, List, [], ◌∷◌, ◌++◌, length, Option}
-use Rattle.std.proofs.Common.{option_map, Result, arith}
-use Rattle.std.proofs.lemmas.List.{append-nil, append_assoc, length-append}
-use Rattle.osi_tpkt.specs.Packet.{IsPacket}
-use Rattle.osi_tpkt.specs.Stream.{ArePackets, offset_of}
+use Rattle.osi_judge.proofs.Vocabulary.{◌≡◌, ◌∙◌, refl, sym, ap, ℕ, ◌+◌, ◌<◌, ◌⊎◌, Bool, List, [], ◌∷◌, ◌++◌, length, Option, option_map}
+use Rattle.osi_judge.proofs.Vocabulary.{arith, append-nil, append_assoc, length-append, IsPacket, ArePackets, offset_of, Direction, Capture}
+use Rattle.osi_judge.proofs.Vocabulary.{stream, Handshake, first_unit, packet_length, Move, adds, step_of, Stage, opening, asking, between}
+use Rattle.osi_judge.proofs.Vocabulary.{within, refused, stopped, first_of, moved, stage_behind, Sent, brought, sent_by, stage_from}
+use Rattle.osi_judge.proofs.Vocabulary.{sent_from, noted, hasty_behind, hasty_from, had_passed, heard, since_at, shown, IsSince}
 use Rattle.osi_tpdu.specs.Packet.{units_of}
-use Rattle.osi_tpdu.specs.Value.{Value}
-use Rattle.osi_tpdu.specs.declared.faults.TpduFault.{TpduFault}
-use Rattle.osi_judge.specs.declared.directions.Direction.{Direction}
-use Rattle.osi_judge.specs.declared.stops.Stop.TheVariants.{TsduTooLong}
-use Rattle.osi_judge.specs.Captures.{Capture, stream}
-use Rattle.osi_judge.specs.Transport.{Handshake, first_unit, packet_length, Move, adds, unit_step, step_of, Stage, opening, asking, between}
-use Rattle.osi_judge.specs.Transport.{within, refused, stopped, first_of, added, moved, stage_behind, Sent, ended, brought, sent_by}
-use Rattle.osi_judge.specs.Transport.{stage_from, sent_from, noted, hasty_behind, hasty_from}
-use Rattle.osi_judge.specs.Tapping.{had_passed, heard}
-use Rattle.osi_judge.specs.Feeding.{since_at}
-use Rattle.osi_judge.specs.Following.{shown, IsSince}
 
 -- ---- packets of a stream
 
@@ -55,8 +44,7 @@ sent_more d met s at (v ∷ us) u =
     let t = stage_behind d (met at) s at v in
     let on = at + packet_length v in
     ap (λ (x : List Sent). sent_by d (met at) s at v ++ x) (sent_more d met t on us u)
-    ∙ sym (append_assoc (sent_by d (met at) s at v) (sent_from d met t on us)
-    (sent_by d (met (offset_from on us)) (stage_from d met t on us) (offset_from on us) u))
+    ∙ sym (grind (arith, append_assoc))
 
 pub hasty_more : (d : Direction) (met : ℕ → Handshake) (s : Stage) (hasty : Option ℕ) (at : ℕ) (us : List (List ℕ)) (u : List ℕ)
     → hasty_from d met s hasty at (us ++ u ∷ [])
@@ -67,32 +55,17 @@ hasty_more d met s hasty at (v ∷ us) u =
 
 -- ---- offsets as they are kept
 
-shown_if : (long : Bool) (s t s2 t2 : Stage) → shown s ≡ s2 → shown t ≡ t2 → shown (if long then s else t) ≡ (if long then s2 else t2)
-shown_if long s t s2 t2 e f = grind arith
-
-shown_added : (s : Stage) (at : ℕ) (end : Bool) (octets : List ℕ) →
-    shown (added s at end octets) ≡ added (shown s) (offset_of at) end octets
-shown_added s at end octets = grind arith
-
 shown_adds : (s : Stage) (at : ℕ) (end : Bool) (octets : List ℕ)
     → shown (moved s at (adds end octets)) ≡ moved (shown s) (offset_of at) (adds end octets)
-shown_adds s at end octets = grind (arith, shown_if, shown_added)
+shown_adds s at end octets = grind arith
 
 shown_moved : (s : Stage) (at : ℕ) (m : Move) → shown (moved s at m) ≡ moved (shown s) (offset_of at) m
 shown_moved s at m = grind (arith, shown_adds)
 
--- what a packet means doesn't depend on offsets
-unit_shown : (d : Direction) (s : Stage) (h : Handshake) (v : Value) → unit_step d s h v ≡ unit_step d (shown s) h v
-unit_shown d s h v = grind arith
-
-pub step_shown : (d : Direction) (s : Stage) (h : Handshake) (r : Result (Option Value) TpduFault)
-    → step_of d s h r ≡ step_of d (shown s) h r
-step_shown d s h r = grind (arith, unit_shown)
-
 shown_by : (d : Direction) (h : Handshake) (s : Stage) (at : ℕ) (u : List ℕ)
     → shown (moved s at (step_of d s h (first_unit (units_of u)))) ≡ moved (shown s) (offset_of at)
     (step_of d (shown s) h (first_unit (units_of u)))
-shown_by d h s at u = grind (arith, shown_moved, step_shown)
+shown_by d h s at u = grind (arith, shown_moved)
 
 pub shown_behind : (d : Direction) (h : Handshake) (s : Stage) (at : ℕ) (u : List ℕ)
     → shown (stage_behind d h s at u) ≡ stage_behind d h (shown s) (offset_of at) u
@@ -103,30 +76,18 @@ shown_behind d h (within first octets) at u = shown_by d h (within first octets)
 shown_behind d h (refused packet) at u = shown_by d h (refused packet) at u
 shown_behind d h (stopped stop packet) at u = refl
 
-shown_noted : (hasty : Option ℕ) (at : ℕ) (m : Move)
-    → option_map offset_of (noted hasty at m) ≡ noted (option_map offset_of hasty) (offset_of at) m
-shown_noted hasty at m = grind arith
-
 hasty_by : (d : Direction) (h : Handshake) (s : Stage) (hasty : Option ℕ) (at : ℕ) (u : List ℕ)
     → option_map offset_of (noted hasty at (step_of d s h (first_unit (units_of u))))
     ≡ noted (option_map offset_of hasty) (offset_of at) (step_of d (shown s) h (first_unit (units_of u)))
-hasty_by d h s hasty at u = grind (arith, shown_noted, step_shown)
+hasty_by d h s hasty at u = grind arith
 
 pub hasty_shown : (d : Direction) (h : Handshake) (s : Stage) (hasty : Option ℕ) (at : ℕ) (u : List ℕ)
     → option_map offset_of (hasty_behind d h s hasty at u) ≡ hasty_behind d h (shown s) (option_map offset_of hasty) (offset_of at) u
 hasty_shown d h s hasty at u = grind (arith, hasty_by)
 
--- the octets of a TSDU are the same
-heard_if : (long : Bool) (x y : List Sent) → heard x ≡ heard y → heard (if long then [] else x) ≡ heard (if long then [] else y)
-heard_if long x y e = grind arith
-
-heard_ended : (s : Stage) (at : ℕ) (u : List ℕ) (end : Bool) (octets : List ℕ) →
-    heard (ended s at u end octets) ≡ heard (ended (shown s) (offset_of at) u end octets)
-heard_ended s at u end octets = grind arith
-
 heard_adds : (s : Stage) (at : ℕ) (u : List ℕ) (end : Bool) (octets : List ℕ)
     → heard (brought s at u (adds end octets)) ≡ heard (brought (shown s) (offset_of at) u (adds end octets))
-heard_adds s at u end octets = grind (arith, heard_if, heard_ended)
+heard_adds s at u end octets = grind arith
 
 heard_brought : (s : Stage) (at : ℕ) (u : List ℕ) (m : Move) → heard (brought s at u m) ≡ heard (brought (shown s) (offset_of at) u m)
 heard_brought s at u m = grind (arith, heard_adds)
@@ -134,7 +95,7 @@ heard_brought s at u m = grind (arith, heard_adds)
 heard_by : (d : Direction) (h : Handshake) (s : Stage) (at : ℕ) (u : List ℕ)
     → heard (brought s at u (step_of d s h (first_unit (units_of u)))) ≡ heard
     (brought (shown s) (offset_of at) u (step_of d (shown s) h (first_unit (units_of u))))
-heard_by d h s at u = grind (arith, heard_brought, step_shown)
+heard_by d h s at u = grind (arith, heard_brought)
 
 pub heard_shown : (d : Direction) (h : Handshake) (s : Stage) (at : ℕ) (u : List ℕ)
     → heard (sent_by d h s at u) ≡ heard (sent_by d h (shown s) (offset_of at) u)
@@ -154,32 +115,17 @@ pub record IsEnded (s : Stage) (at : ℕ) (u : List ℕ) (t : Sent) : Type 0 whe
 abbrev pub OneOrNone : Stage → ℕ → List ℕ → List Sent → Type 0
 OneOrNone s at u sent = (sent ≡ []) ⊎ ((t : Sent) × (sent ≡ t ∷ []) × IsEnded s at u t)
 
-ended_one : (s : Stage) (at : ℕ) (u : List ℕ) (long end : Bool) (octets : List ℕ) →
-    OneOrNone s at u (if long then [] else ended s at u end octets)
-ended_one s at u long end octets = grind arith
-
 brought_one : (s : Stage) (at : ℕ) (u : List ℕ) (m : Move) → OneOrNone s at u (brought s at u m)
-brought_one s at u m = grind (arith, ended_one)
+brought_one s at u m = grind arith
 
 pub sent_one : (d : Direction) (h : Handshake) (s : Stage) (at : ℕ) (u : List ℕ) → OneOrNone s at u (sent_by d h s at u)
 sent_one d h s at u = grind (arith, brought_one)
 
 -- ---- how many had passed before the unfinished TSDU
 
-since_added : (d : Direction) (c : Capture) (others : List Sent) (s : Stage) (at since : ℕ) (long end : Bool) (octets : List ℕ) →
-    first_of s at < length (stream d c)
-    → since ≡ had_passed d c (first_of s at) others →
-    IsSince d c others (if long then stopped TsduTooLong at else added s at end octets) since
-since_added d c others s at since long end octets l e = grind arith
-
--- a packet that is not judged leaves a TSDU as it is
-since_ignored : (d : Direction) (c : Capture) (others : List Sent) (s : Stage) (at since : ℕ) → first_of s at < length (stream d c)
-    → since ≡ had_passed d c (first_of s at) others → IsSince d c others s since
-since_ignored d c others s at since l e = grind arith
-
 since_moved : (d : Direction) (c : Capture) (others : List Sent) (s : Stage) (at since : ℕ) (m : Move) → first_of s at < length (stream d c)
     → since ≡ had_passed d c (first_of s at) others → IsSince d c others (moved s at m) since
-since_moved d c others s at since m l e = grind (arith, since_ignored, since_added)
+since_moved d c others s at since m l e = grind arith
 
 pub since_behind : (d : Direction) (h : Handshake) (c : Capture) (others : List Sent) (s : Stage) (at since : ℕ) (u : List ℕ)
     → first_of s at < length (stream d c)

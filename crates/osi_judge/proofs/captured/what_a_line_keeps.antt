@@ -1,21 +1,11 @@
 -- What a line of a capture keeps, as packets and TSDUs pass: for what a judge is fed.
-use Rattle.std.proofs.Common.{◌≡◌, ◌∙◌, refl, sym, ap, subst, ℕ, suc, zero, ◌+◌, ◌<◌, ◌≤◌, min, List, [], ◌∷◌, ◌++◌, length, take, Option}
-use Rattle.std.proofs.Common.{Some, None, Result, arith, ◌-◌}
-use Rattle.std.proofs.lemmas.List.{length-take-le, length-append}
-use Rattle.osi_tpkt.specs.Packet.{IsPacket, stated_length}
-use Rattle.osi_tpkt.specs.Stream.{offset_of}
-use Rattle.osi_tpkt.specs.declared.faults.TpktFault.{TpktFault}
+use Rattle.osi_judge.proofs.Vocabulary.{◌≡◌, refl, ap, ℕ, suc, zero, ◌+◌, ◌<◌, ◌≤◌, min, List, [], ◌∷◌, ◌++◌, length, take, Option, Some}
+use Rattle.osi_judge.proofs.Vocabulary.{None, Result, arith, ◌-◌, length-take-le, length-append, IsPacket, stated_length, offset_of}
+use Rattle.osi_judge.proofs.Vocabulary.{TpktFault, Value, TpduFault, Direction, Stop, Progress, Watched, Handshake, first_unit, shaken}
+use Rattle.osi_judge.proofs.Vocabulary.{Move, step_of, moved, brought, noted, stage_in, Lined, Tapped, since_at, named, last_behind, hears}
+use Rattle.osi_judge.proofs.Vocabulary.{Passes, TakesUnit, Settles, whole, since_of, met_of, IsWithin, Feeds, looked_at}
 use Rattle.osi_tpdu.specs.Packet.{units_of}
-use Rattle.osi_tpdu.specs.Value.{Value}
-use Rattle.osi_tpdu.specs.declared.faults.TpduFault.{TpduFault}
-use Rattle.osi_judge.specs.declared.directions.Direction.{Direction}
-use Rattle.osi_judge.specs.declared.stops.Stop.{Stop}
-use Rattle.osi_judge.specs.declared.progress.Progress.{Progress}
 use Rattle.osi_judge.specs.declared.progress.Progress.TheVariants.{Stopped}
-use Rattle.osi_judge.specs.Judging.{Watched}
-use Rattle.osi_judge.specs.Transport.{Handshake, first_unit, shaken, Move, unit_step, step_of, moved, brought, sent_by, noted}
-use Rattle.osi_judge.specs.Feeding.{stage_in, Lined, Tapped, since_at, named, last_behind, hears, Passes, TakesUnit, Settles, whole}
-use Rattle.osi_judge.specs.Feeding.{since_of, met_of, IsWithin, with_octets, Feeds, looked_at}
 
 -- ---- a TSDU that is taken back
 
@@ -34,14 +24,9 @@ some_heard w mid x e = grind (arith, length-append)
 
 -- ---- a unit
 
--- what a packet means doesn't depend on the octets of an unfinished TSDU
-unit_front : (d : Direction) (p : Progress) (octets : List ℕ) (h : Handshake) (v : Value)
-    → unit_step d (stage_in p []) h v ≡ unit_step d (stage_in p octets) h v
-unit_front d p octets h v = grind arith
-
 step_front : (d : Direction) (p : Progress) (octets : List ℕ) (h : Handshake) (r : Result (Option Value) TpduFault)
     → step_of d (stage_in p []) h r ≡ step_of d (stage_in p octets) h r
-step_front d p octets h r = grind (arith, unit_front)
+step_front d p octets h r = grind arith
 
 -- this is what a packet means for a side that stands so
 abbrev pub MeansHere : Direction → Handshake → List ℕ → Progress → List ℕ → Move → Type 0
@@ -102,24 +87,7 @@ pub settled_whole : (d : Direction) (unit : List ℕ) (since n : ℕ) (h : Hands
       };
     }
     → Settles d since h t new o new_o
-settled_whole d unit since n h t mid new o new_o l p x f k u e = whole unit n l p (record {
-  held = ap (λ (x : Tapped). x.held) e;
-  fault = ap (λ (x : Tapped). x.fault) e ∙ f;
-  at = ap (λ (x : Tapped). x.line.at) e ∙ ap (λ (x : ℕ). offset_of (x + length mid.held)) u.at
-      ∙ ap (λ (x : List ℕ). offset_of (t.line.at + length x)) x;
-  counted = ap (λ (x : Tapped). x.line.since) e;
-  met = ap (λ (x : Tapped). x.line.met) e;
-  handshake = ap (λ (x : Tapped). x.line.handshake) e ∙ u.handshake;
-  stage = ap (λ (x : Tapped). x.line.stage) e ∙ u.stage;
-  hasty = ap (λ (x : Tapped). x.line.hasty) e ∙ u.hasty;
-  begun_since = ap (λ (x : Tapped). x.line.begun_since) e ∙ u.begun_since;
-  octets = ap (λ (x : Tapped). x.octets) e ∙ k;
-  packets = ap (λ (x : Tapped). x.line.packets) e ∙ ap (λ (x : ℕ). offset_of (x + 1)) u.packets;
-  reference = ap (λ (x : Tapped). x.line.reference) e ∙ u.reference;
-  last = ap (λ (x : Tapped). x.line.last) e ∙ u.last;
-  passes = subst (λ (x : Watched). Passes (sent_by d h t.line.stage t.line.at unit) (since_at t.line.stage t.line.begun_since since) t.side
-      x o new_o) (sym (ap (λ (x : Tapped). x.side) e)) u.passes;
-})
+settled_whole d unit since n h t mid new o new_o l p x f k u e = whole unit n l p (grind arith)
 
 pub none_here : (o : Option TpktFault) → ((f : TpktFault) → o ≡ Some f → ⊥) → o ≡ None
 none_here o n = grind arith
@@ -136,7 +104,4 @@ pub looked : (d : Direction) (octets held : List ℕ) (since count : ℕ) (now m
     → IsWithin t.held (length octets) → count ≡ offset_of (t.octets + length octets)
     → Settles d since met (record t { held = held; octets = count }) new o new_o → Feeds d octets now t new o new_o
 looked d octets held since count now met t new o new_o n e s m w k h =
-    looked_at n w (subst (λ (x : Handshake). Settles d (since_of t) x (with_octets t octets) new o new_o) m
-    (subst (λ (x : ℕ). Settles d x met (with_octets t octets) new o new_o) s
-    (subst (λ (x : ℕ). Settles d since met (record t { held = t.held ++ octets; octets = x }) new o new_o) k
-    (subst (λ (x : List ℕ). Settles d since met (record t { held = x; octets = count }) new o new_o) e h))))
+    looked_at n w (grind arith)

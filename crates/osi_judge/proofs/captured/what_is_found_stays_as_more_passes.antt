@@ -1,20 +1,12 @@
 -- A side that strayed from the protocol has still strayed when both sides have said more.
 -- For the law that a capture has one first break.
-use Rattle.std.proofs.Common.{◌≡◌, refl, sym, subst, ℕ, suc, zero, ◌+◌, ◌<◌, ◌≤◌, true, List, [], ◌∷◌, ◌++◌, length, map, take, get_or}
-use Rattle.std.proofs.Common.{Result, arith}
-use Rattle.std.proofs.lemmas.List.{take-append-le}
-use Rattle.std.specs.List.{fold}
-use Rattle.osi_spdu.specs.declared.faults.SpduFault.{SpduFault}
-use Rattle.osi_message.specs.Words.{Words}
-use Rattle.osi_session.specs.Standing.{Seen, Takes, after_count}
-use Rattle.osi_judge.specs.declared.findings.Finding.{Finding}
-use Rattle.osi_judge.specs.declared.findings.Finding.TheVariants.{Kept, Broke, Left, TooMany}
-use Rattle.osi_judge.specs.declared.members.Member.{Member}
-use Rattle.osi_judge.specs.Explaining.{Remark, remark, Told, read_as, remarks, Explains, done, takes, answers, says}
-use Rattle.osi_judge.specs.Judging.{IsKept, IsAstray, IsFound, IsFew, HasRoom}
-use Rattle.osi_judge.specs.Kept.{after_tsdu, kept}
-use Rattle.osi_judge.specs.Profiles.{selects_outside}
-use Rattle.osi_judge.specs.Stops.{broke_session}
+use Rattle.osi_judge.proofs.Vocabulary.{◌≡◌, refl, subst, ℕ, suc, zero, ◌+◌, ◌<◌, ◌≤◌, true, List, [], ◌∷◌, ◌++◌, length, map, take, get_or}
+use Rattle.osi_judge.proofs.Vocabulary.{Result, arith, take-append-le, fold, SpduFault, Words, Seen, Takes, after_count, Finding, Kept}
+use Rattle.osi_judge.proofs.Vocabulary.{Broke, TooMany, Member, Remark, remark, Told, read_as, remarks, Explains, done, takes, answers}
+use Rattle.osi_judge.proofs.Vocabulary.{IsKept, IsAstray, IsFound, IsFew, HasRoom, after_tsdu, selects_outside, broke_session}
+use Rattle.osi_judge.specs.declared.findings.Finding.TheVariants.{Left}
+use Rattle.osi_judge.specs.Explaining.{says}
+use Rattle.osi_judge.specs.Kept.{kept}
 use Rattle.osi_judge.proofs.captured.a_capture_that_goes_on_is_read_alike.{AreBefore}
 use Rattle.osi_judge.proofs.kept.what_is_kept_is_of_what_had_passed.{tsdu_alike}
 use Rattle.osi_judge.proofs.told.a_side_strays_at_one_place.{Strays, never_strays, no_crowd}
@@ -50,19 +42,14 @@ before_front n (suc i) (t ∷ said) h = (h.0, before_front n i said h.1)
 abbrev Agree : ℕ → List (List ℕ) → List (List ℕ) → Type 0
 Agree n us vs = (i : ℕ) → i < n → get_or us i [] ≡ get_or vs i []
 
-back : (n : ℕ) (us vs : List (List ℕ)) → Agree n us vs → Agree n vs us
-back n us vs a = λ i l. sym (a i l)
-
 module _ (n : ℕ) (us vs : List (List ℕ)) (a : Agree n us vs) where
   explains_alike : (ms : List Remark) (taken : ℕ) (s : Seen) → AreWithin n ms → Explains us ms taken s → Explains vs ms taken s
   explains_alike [] taken s w d = done taken s
   explains_alike (m ∷ ms) taken s w (takes _ _ _ _ c l h t q d) =
-      let within = w.0 in
-      takes m ms taken s c l h (subst (λ (x : List ℕ). Takes s x c) (a taken (omega (arith, l, within))) t) q
+      takes m ms taken s c l h (subst (λ (x : List ℕ). Takes s x c) (a taken (omega (arith, l))) t) q
       (explains_alike (m ∷ ms) (taken + 1) (after_count s c) w d)
   explains_alike (m ∷ ms) taken s w (answers _ _ _ _ c reply word l h t q k g d) =
-      let within = w.0 in
-      answers m ms taken s c reply word l h (subst (λ (x : List ℕ). Takes s x c) (a taken (omega (arith, l, within))) t) q k g
+      answers m ms taken s c reply word l h (subst (λ (x : List ℕ). Takes s x c) (a taken (omega (arith, l))) t) q k g
       (explains_alike ms (taken + 1) (after_count s c) w.1 d)
   explains_alike (m ∷ ms) taken s w (says _ _ _ _ next word k g d) =
       says m ms taken s next word k g (explains_alike ms taken next w.1 d)
@@ -84,24 +71,21 @@ module _ (n : ℕ) (us vs : List (List ℕ)) (a : Agree n us vs) where
 
 is_astray : (n : ℕ) (us vs : List (List ℕ)) → Agree n us vs → (begin : Seen) (said : List Told) → AreBefore n said
     → IsAstray begin us said → IsAstray begin vs said
-is_astray n us vs a begin said h h2 = grind (arith, explains_alike, back, within_remarks, selects_alike)
+is_astray n us vs a begin said h h2 = grind (arith, explains_alike, within_remarks, selects_alike)
 
 -- ---- the side strayed at one of the first TSDUs
 
 module _ (begin : Seen) (us vs : List (List ℕ)) (said more : List Told) (a : Agree (length us) us vs) (b : AreBefore (length us) said) where
   strays_on : (i : ℕ) → i < length said → Strays begin us said i → Strays begin vs (said ++ more) i
   strays_on i l s = record {
-    so_far = subst (λ (z : List Told). IsKept begin vs z) (sym (take-append-le i said more (omega (arith, l))))
-        (is_kept (length us) us vs a begin (take i said) (before_front (length us) i said b) s.so_far);
-    astray = subst (λ (z : List Told). IsAstray begin vs z) (sym (take-append-le (i + 1) said more (omega (arith, l))))
-        (is_astray (length us) us vs a begin (take (i + 1) said) (before_front (length us) (i + 1) said b) s.astray);
+    so_far = search (arith, take-append-le, is_kept, before_front);
+    astray = search (arith, is_astray, take-append-le (i + 1) said more (omega (arith, l)), before_front (length us) (i + 1) said b);
   }
 
   few_on : (i : ℕ) → i < length said → IsFew begin us (take i said) → IsFew begin vs (take i (said ++ more))
   few_on i l f m =
       let front = before_front (length us) m (take i said) (before_front (length us) i said b) in
-      subst (λ (z : List Told). length (kept begin vs (take m z)) ≤ 4096) (sym (take-append-le i said more (omega (arith, l))))
-      (subst (λ (x : List Member). length x ≤ 4096) (kept_alike (length us) us vs a begin (take m (take i said)) front) (f m))
+      grind (arith, take-append-le, kept_alike)
 
   -- whatever is found of the side later, it is a break
   still : (i : ℕ) (g : Finding) → i < length said → Strays begin us said i → IsFew begin us (take i said)

@@ -1,39 +1,22 @@
 -- How many TSDUs a side told, and how its session stands, is so in the capture; and a side without a reference told none.
 -- For the crate that writes what a judge found.
-use Rattle.std.proofs.Common.{◌≡◌, ◌∙◌, refl, sym, ap, subst, ℕ, ◌+◌, ◌==◌, Bool, true, false, if◌then◌else◌, List, [], ◌∷◌, ◌++◌}
-use Rattle.std.proofs.Common.{◌↔◌, inl, inr, length, take, Option, Some, None, Result, Ok, Err}
-use Rattle.osi_tpkt.proofs.a_stream_is_cut_in_one_way.{one_cut}
-use Rattle.osi_tpdu.specs.Value.{Value, request, confirm, disconnect, disconnected, data0, data2, acknowledge, error}
+use Rattle.std.proofs.Common.{arith}
+use Rattle.osi_judge.proofs.Vocabulary.{◌≡◌, ◌∙◌, refl, subst, ℕ, ◌+◌, Bool, true, false, if◌then◌else◌, List, [], ◌∷◌, ◌++◌, ◌↔◌, inl, inr}
+use Rattle.osi_judge.proofs.Vocabulary.{length, take, Option, Some, None, Result, Ok, Err, one_cut, Value, request, confirm, disconnect}
+use Rattle.osi_judge.proofs.Vocabulary.{disconnected, data0, data2, acknowledge, error, TpduFault, Seen, Direction, Finding, Kept, Broke}
+use Rattle.osi_judge.proofs.Vocabulary.{TooMany, Stands, NoOpening, OtherClass, Capture, other, stream, Told, remarks, Explains}
+use Rattle.osi_judge.proofs.Vocabulary.{IsExplained, foremost, Watched, AreAll, Keeps, BrokeBy, LeftBy, WatchesBy, Watches, up_to, kept}
+use Rattle.osi_judge.proofs.Vocabulary.{AreKeptIn, HasRoomIn, IsRuledIn, IsKeptStanding, StandsFor, StandsBehind, Ever, Handshake, silent}
+use Rattle.osi_judge.proofs.Vocabulary.{asked, asked_again, agreed, denied, astray, first_unit, packet_length, Move, adds, hurries, refuses}
+use Rattle.osi_judge.proofs.Vocabulary.{ignores, stops, asking_step, answering_step, has_asked, refused_step, step_of, given_by}
+use Rattle.osi_judge.proofs.Vocabulary.{reference_in, Stage, opening, asking, between, within, refused, stopped, moved, stage_behind, Sent}
+use Rattle.osi_judge.proofs.Vocabulary.{brought, sent_by, sent_from, ArePacketsOf, IsSent, begin_of, heard, told, IsFoundIn, IsStoppedIn}
+use Rattle.osi_judge.proofs.Vocabulary.{IsReadIn, IsReferenceIn, IsPlaceIn, IsCountIn, StandIn, IsStandingIn, IsFirstIn, Tapped, reading_of}
+use Rattle.osi_judge.proofs.Vocabulary.{stopped_of, Follows, Judged, half_of, Taps, FirstIs}
 use Rattle.osi_tpdu.specs.Packet.{units_of}
-use Rattle.osi_tpdu.specs.declared.faults.TpduFault.{TpduFault}
-use Rattle.osi_class.specs.Negotiation.{proposes}
-use Rattle.osi_session.specs.Standing.{Seen}
-use Rattle.osi_judge.specs.declared.directions.Direction.{Direction}
 use Rattle.osi_judge.specs.declared.directions.Direction.TheVariants as side
-use Rattle.osi_judge.specs.declared.findings.Finding.{Finding}
-use Rattle.osi_judge.specs.declared.findings.Finding.TheVariants.{Kept, Broke, Left, TooMany}
-use Rattle.osi_judge.specs.declared.members.Member.{Member}
-use Rattle.osi_judge.specs.declared.standings.Stands.{Stands}
-use Rattle.osi_judge.specs.declared.stops.Stop.TheVariants.{NoOpening, OtherClass}
-use Rattle.osi_judge.specs.Captures.{Capture, other, stream}
-use Rattle.osi_judge.specs.Explaining.{Told, remarks, Explains, IsExplained}
-use Rattle.osi_judge.specs.Breaking.{BreaksWith}
-use Rattle.osi_judge.specs.Foremost.{foremost}
-use Rattle.osi_judge.specs.Judging.{Watched, AreAll, Keeps, BrokeBy, LeftBy, WatchesBy, Watches, up_to}
-use Rattle.osi_judge.specs.Kept.{kept}
-use Rattle.osi_judge.specs.KeptIn.{AreKeptIn, HasRoomIn, IsRuledIn, IsKeptStanding}
-use Rattle.osi_judge.specs.Onward.{StandsFor, StandsBehind}
-use Rattle.osi_judge.specs.Walking.{Ever}
-use Rattle.osi_judge.specs.Transport.{Handshake, silent, asked, asked_again, agreed, denied, astray, first_unit, packet_length, met_before}
-use Rattle.osi_judge.specs.Transport.{Move, asks, opens, adds, hurries, refuses, ignores, stops, misplaced}
-use Rattle.osi_judge.specs.Transport.{asking_step, answering_step, has_asked, first_step, refused_step, step_of}
-use Rattle.osi_judge.specs.Transport.{given_by, reference_in, Stage, opening, asking, between, within, refused}
-use Rattle.osi_judge.specs.Transport.{stopped, moved, stage_behind}
-use Rattle.osi_judge.specs.Transport.{Sent, brought, sent_by, sent_from, ArePacketsOf, IsSent}
-use Rattle.osi_judge.specs.Tapping.{begin_of, heard, told, IsFoundIn, IsStoppedIn, IsReadIn, IsReferenceIn, IsPlaceIn, IsCountIn}
-use Rattle.osi_judge.specs.Tapping.{StandIn, IsStandingIn, IsFirstIn}
-use Rattle.osi_judge.specs.Feeding.{Tapped, reading_of, stopped_of}
-use Rattle.osi_judge.specs.Following.{Follows, Judged, half_of, Taps, FirstIs}
+use Rattle.osi_judge.specs.declared.findings.Finding.TheVariants.{Left}
+use Rattle.osi_judge.specs.Transport.{asks, opens}
 use Rattle.osi_judge.proofs.captured.what_was_found_of_a_capture.{cut_as, packets_of, is_sent, is_read, is_given, is_stopped, is_found}
 use Rattle.osi_judge.proofs.captured.what_was_found_of_a_capture.{is_placed}
 use Rattle.osi_judge.proofs.captured.whether_the_sessions_became_too_many.{has_room}
@@ -62,8 +45,7 @@ counted_as : (d : Direction) (c : Capture) (t : Tapped) (us bs : List (List ℕ)
 counted_as d c t us bs mine others f b e n k = record {
   mine = mine;
   is_mine = is_sent d c t us bs mine others f b;
-  counted = k (told d c mine others) f.watches e ∙ sym (keeps_as t.side (told d c mine others) f.watches e).count ∙
-      count_told d c mine others t.side f.watches e;
+  counted = grind (arith, keeps_as, count_told);
 }
 
 pub is_counted : (d : Direction) (c : Capture) (j : Judged) → Taps j c → (half_of d j).side.finding ≡ Kept → (n : ℕ)
@@ -101,8 +83,7 @@ standing_as d c t u us bs mine others f g e s k =
       has_said = subst (λ (b : Seen). Ever (heard others) t.side.before
           (λ us later. Explains us later m.taken m.standing → Explains us (remarks said ++ later) 0 b)) f.begin
           (said_of_tsdus (heard others) t.side.before m.taken m.standing (remarks said) t.side.begin
-          (subst (λ (x : List (List ℕ)). Ever x t.side.before
-          (λ us later. Explains us later m.taken m.standing → Explains us (remarks said ++ later) 0 t.side.begin)) f.heard h.has_said));
+          (grind arith));
       behind = stands_of_outlines (heard others) m s (subst (λ (x : List (List ℕ)). StandsBehind x m s) f.heard h.behind);
     }
 
@@ -138,12 +119,6 @@ any_kept d c t u us bs mine others place f g = record {
   kept = refl;
 }
 
-rule_in : (d : Direction) (c : Capture) (t : Tapped) (us bs : List (List ℕ)) (mine others : List Sent) (x : Told) (at : List Member)
-    → Follows d c t us bs mine others → BreaksWith t.side.heard x.octets x.before t.side.members at t.side.by
-    → BreaksWith (heard others) x.octets x.before t.side.members at t.side.by
-rule_in d c t us bs mine others x at f h = rule_of_tsdus (heard others) x.octets x.before t.side.members at t.side.by
-    (subst (λ (h : List (List ℕ)). BreaksWith h x.octets x.before t.side.members at t.side.by) f.heard h)
-
 broken_as : (d : Direction) (c : Capture) (t u : Tapped) (us bs : List (List ℕ)) (mine others : List Sent) (i : ℕ) →
     Follows d c t us bs mine others
     → Follows (other d) c u bs us others mine → BrokeBy t.side (told d c mine others) i → HasRule d c t (Broke i)
@@ -157,7 +132,7 @@ broken_as d c t u us bs mine others i f g (x, s, b, l) = (
     stand = stand_as d c t u us bs mine others (take i (told d c mine others)) f g s.all;
     tsdu = x;
     is = s.is;
-    near = rule_in d c t us bs mine others x b.0 f b.1;
+    near = grind (arith, rule_of_tsdus);
     breaks = l;
   },
 )
@@ -167,11 +142,7 @@ explained_in : (d : Direction) (c : Capture) (t : Tapped) (us bs : List (List �
     → IsExplained t.side.begin t.side.heard said ↔ IsExplained (begin_of d) (heard others) said
 explained_in d c t us bs mine others said f =
     let a = f.begin in
-    let b = f.heard in
-    let e = explained_of_outlines (heard others) (remarks said) 0 (begin_of d) in (
-      λ k. e.0 (subst (λ (p : Seen × List (List ℕ)). IsExplained p.0 p.1 said) (λ i. (a i, b i)) k),
-      λ k. subst (λ (p : Seen × List (List ℕ)). IsExplained p.0 p.1 said) (sym (λ i. (a i, b i))) (e.1 k),
-    )
+    grind (arith, explained_of_outlines)
 
 left_as : (d : Direction) (c : Capture) (t u : Tapped) (us bs : List (List ℕ)) (mine others : List Sent) (i : ℕ) →
     Follows d c t us bs mine others
@@ -187,7 +158,7 @@ left_as d c t u us bs mine others i f g (x, s, inl (b, l, k)) = (
     tsdu = x;
     is = s.is;
     near = inl (
-      rule_in d c t us bs mine others x b.0 f b.1,
+      grind (arith, rule_of_tsdus),
       l,
       λ e. (k.1 t.side.heard (λ j p. refl)).1 ((explained_in d c t us bs mine others (take (i + 1) (told d c mine others)) f).1 e),
     );
@@ -283,32 +254,13 @@ Ends refuses = Unit {0}
 Ends (stops stop) = Unit {0}
 Ends m = ⊥
 
-asks_or_ends : (b : Bool) (source : ℕ) → given_by (if b then asks source else stops OtherClass) ≡ None
-    → Ends (if b then asks source else stops OtherClass)
-asks_or_ends true source h = absurd (cc)
-asks_or_ends false source h = tt
-
 opens_or_ends : (b : Bool) (source : ℕ) → given_by (if b then opens source else stops OtherClass) ≡ None
     → Ends (if b then opens source else stops OtherClass)
 opens_or_ends true source h = absurd (cc)
 opens_or_ends false source h = tt
 
-either_ends : (b : Bool) (m p : Move) → Ends m → Ends p → Ends (if b then m else p)
-either_ends true m p h k = h
-either_ends false m p h k = k
-
-answering_ends : (v : Value) → Ends (answering_step v)
-answering_ends (request c) = tt
-answering_ends (confirm destination c) = tt
-answering_ends (disconnect destination source reason user) = tt
-answering_ends (disconnected destination source) = tt
-answering_ends (data0 end user) = tt
-answering_ends (data2 destination number end user) = tt
-answering_ends (acknowledge credit destination number) = tt
-answering_ends (error destination cause) = tt
-
 asking_ends : (v : Value) → given_by (asking_step v) ≡ None → Ends (asking_step v)
-asking_ends (request c) h = asks_or_ends (proposes c 0) c.source h
+asking_ends (request c) h = grind arith
 asking_ends (confirm destination c) h = tt
 asking_ends (disconnect destination source reason user) h = tt
 asking_ends (disconnected destination source) h = tt
@@ -318,38 +270,17 @@ asking_ends (acknowledge credit destination number) h = tt
 asking_ends (error destination cause) h = tt
 
 answered_ends : (h : Handshake) (v : Value) → Ends (if has_asked h then answering_step v else stops NoOpening)
-answered_ends h v = either_ends (has_asked h) (answering_step v) (stops NoOpening) (answering_ends v) tt
-
-first_ends : (d : Direction) (h : Handshake) (v : Value) → given_by (first_step d h v) ≡ None → Ends (first_step d h v)
-first_ends side.Left h v n = asking_ends v n
-first_ends side.Right h (confirm destination c) n = opens_or_ends (c.class == 0) c.source n
-first_ends side.Right h (request c) n = answered_ends h (request c)
-first_ends side.Right h (disconnect destination source reason user) n = answered_ends h (disconnect destination source reason user)
-first_ends side.Right h (disconnected destination source) n = answered_ends h (disconnected destination source)
-first_ends side.Right h (data0 end user) n = answered_ends h (data0 end user)
-first_ends side.Right h (data2 destination number end user) n = answered_ends h (data2 destination number end user)
-first_ends side.Right h (acknowledge credit destination number) n = answered_ends h (acknowledge credit destination number)
-first_ends side.Right h (error destination cause) n = answered_ends h (error destination cause)
+answered_ends h v = grind arith
 
 nameless_ends : (d : Direction) (h : Handshake) (r : Result (Option Value) TpduFault) → given_by (step_of d opening h r) ≡ None
     → Ends (step_of d opening h r)
 nameless_ends d h (Err fault) n = tt
 nameless_ends d h (Ok None) n = tt
-nameless_ends d h (Ok (Some v)) n = first_ends d h v n
-
-misplaced_last : (v : Value) → IsLast (misplaced v)
-misplaced_last (request c) = tt
-misplaced_last (confirm destination c) = tt
-misplaced_last (disconnect destination source reason user) = tt
-misplaced_last (disconnected destination source) = tt
-misplaced_last (data0 end user) = tt
-misplaced_last (data2 destination number end user) = tt
-misplaced_last (acknowledge credit destination number) = tt
-misplaced_last (error destination cause) = tt
+nameless_ends d h (Ok (Some v)) n = grind (arith, asking_ends, opens_or_ends, answered_ends)
 
 refused_last : (h : Handshake) (v : Value) → IsLast (refused_step h v)
-refused_last asked v = misplaced_last v
-refused_last (denied destination source) v = misplaced_last v
+refused_last asked v = grind arith
+refused_last (denied destination source) v = grind arith
 refused_last silent v = tt
 refused_last asked_again v = tt
 refused_last agreed v = tt
@@ -369,20 +300,11 @@ brings_none s at u (opens reference) h = absurd h
 brings_none s at u (adds end octets) h = absurd h
 brings_none s at u (hurries end octets) h = absurd h
 
-over_moved : (place at : ℕ) (m : Move) → IsLast m → IsOver (moved (refused place) at m)
-over_moved place at refuses h = tt
-over_moved place at ignores h = tt
-over_moved place at (stops stop) h = tt
-over_moved place at (asks reference) h = absurd h
-over_moved place at (opens reference) h = absurd h
-over_moved place at (adds end octets) h = absurd h
-over_moved place at (hurries end octets) h = absurd h
-
 over_sends : (d : Direction) (h : Handshake) (s : Stage) (at : ℕ) (u : List ℕ) → IsOver s
     → (sent_by d h s at u ≡ []) × IsOver (stage_behind d h s at u)
 over_sends d h (refused place) at u o =
     let l = step_last d place h (first_unit (units_of u)) in
-    let m = step_of d (refused place) h (first_unit (units_of u)) in (brings_none (refused place) at u m l, over_moved place at m l)
+    let m = step_of d (refused place) h (first_unit (units_of u)) in (brings_none (refused place) at u m l, grind arith)
 over_sends d h (stopped stop place) at u o = (refl, tt)
 over_sends d h opening at u o = absurd o
 over_sends d h asking at u o = absurd o
@@ -393,17 +315,7 @@ over_is_silent : (d : Direction) (met : ℕ → Handshake) (s : Stage) (at : ℕ
 over_is_silent d met s at [] o = refl
 over_is_silent d met s at (u ∷ us) o =
     let h = over_sends d (met at) s at u o in
-    ap (λ (x : List Sent). x ++ sent_from d met (stage_behind d (met at) s at u) (at + packet_length u) us) h.0
-    ∙ over_is_silent d met (stage_behind d (met at) s at u) (at + packet_length u) us h.1
-
-ends_is_last : (m : Move) → Ends m → IsLast m
-ends_is_last refuses h = tt
-ends_is_last (stops stop) h = tt
-ends_is_last ignores h = absurd h
-ends_is_last (asks reference) h = absurd h
-ends_is_last (opens reference) h = absurd h
-ends_is_last (adds end octets) h = absurd h
-ends_is_last (hurries end octets) h = absurd h
+    grind (arith, over_is_silent d met (stage_behind d (met at) s at u) (at + packet_length u) us h.1)
 
 ends_is_over : (s : Stage) (at : ℕ) (m : Move) → Ends m → IsOver (moved s at m)
 ends_is_over s at refuses h = tt
@@ -418,17 +330,13 @@ nameless_sends : (d : Direction) (met : ℕ → Handshake) (us : List (List ℕ)
 nameless_sends d met [] h = refl
 nameless_sends d met (u ∷ us) h =
     let r = first_unit (units_of u) in
-    let m = step_of d opening (met 0) r in
-    let e = nameless_ends d (met 0) r (opening_given d (met 0) r ∙ h) in
-    ap (λ (x : List Sent). x ++ sent_from d met (moved opening 0 m) (0 + packet_length u) us) (brings_none opening 0 u m (ends_is_last m e))
-    ∙ over_is_silent d met (moved opening 0 m) (0 + packet_length u) us (ends_is_over opening 0 m e)
+    grind (arith, nameless_ends, opening_given, brings_none, over_is_silent, ends_is_over)
 
 -- it sent no TSDU
 pub nameless_said_nothing : (d : Direction) (c : Capture) (mine : List Sent) → IsSent d c mine → IsReferenceIn d c None → mine ≡ []
 nameless_said_nothing d c mine (units, others, (ending, cut), are_others, sent) g =
     let same = (one_cut (stream d c) units g.units ending g.ending cut g.cut).0 in
-    sent ∙ ap (λ (us : List (List ℕ)). sent_from d (met_before d c others) opening 0 us) same
-    ∙ nameless_sends d (met_before d c others) g.units (sym g.given)
+    grind (arith, nameless_sends)
 
 -- the side that broke the protocol first
 pub is_first_in : (first : Option Direction) (j : Judged) (c : Capture) → Taps j c → FirstIs first j c → IsFirstIn c first

@@ -1,19 +1,10 @@
 -- What is known of both sides of a capture stays known as octets of either pass: for what a judge is fed.
 -- Octets go on with a packet, begin none, or end one.
-use Rattle.std.proofs.Common.{◌≡◌, ◌∙◌, refl, sym, ap, subst, ℕ, ◌+◌, ◌-◌, ◌<◌, ◌≤◌}
-use Rattle.std.proofs.Common.{List, [], ◌∷◌, ◌++◌, length, take, Option, Some, None, arith}
-use Rattle.osi_tpkt.specs.Packet.{IsPacket, IsPartial, IsFaultOf}
-use Rattle.osi_tpkt.specs.declared.faults.TpktFault.{TpktFault}
-use Rattle.osi_judge.specs.declared.directions.Direction.{Direction}
-use Rattle.osi_judge.specs.declared.directions.Direction.TheVariants.{Left, Right}
-use Rattle.osi_judge.specs.Captures.{Capture, other, piece, stream}
-use Rattle.osi_judge.specs.Judging.{Watched}
-use Rattle.osi_judge.specs.Transport.{Handshake, packet_length, met_before, Sent, packets_length, sent_by}
-use Rattle.osi_judge.specs.Tapping.{had_passed}
-use Rattle.osi_judge.specs.Feeding.{Tapped, since_at, with_count}
-use Rattle.osi_judge.specs.Feeding.{Settles, goes_on, faulty, whole, since_of, met_of}
-use Rattle.osi_judge.specs.Feeding.{IsWithin, with_octets, Feeds, ignored, looked_at}
-use Rattle.osi_judge.specs.Following.{IsRest, EndBy, Follows, Judged, Taps}
+use Rattle.osi_judge.proofs.Vocabulary.{◌≡◌, ◌∙◌, refl, sym, ap, subst, ℕ, ◌+◌, ◌-◌, ◌<◌, ◌≤◌, List, [], ◌∷◌, ◌++◌, length, take, Option}
+use Rattle.osi_judge.proofs.Vocabulary.{Some, None, arith, IsPacket, IsPartial, IsFaultOf, TpktFault, Direction, Left, Right, Capture}
+use Rattle.osi_judge.proofs.Vocabulary.{other, piece, stream, Watched, Handshake, packet_length, met_before, Sent, packets_length, sent_by}
+use Rattle.osi_judge.proofs.Vocabulary.{had_passed, Tapped, since_at, Settles, goes_on, faulty, whole, since_of, met_of, IsWithin}
+use Rattle.osi_judge.proofs.Vocabulary.{with_octets, Feeds, ignored, looked_at, IsRest, EndBy, Follows, Judged, Taps}
 use Rattle.osi_judge.proofs.captured.a_stream_that_goes_on_keeps_its_packets.{faulty_on}
 use Rattle.osi_judge.proofs.captured.one_more_packet_passes.{offset_from, sent_one}
 use Rattle.osi_judge.proofs.captured.what_is_told_beside_is_of_the_capture.{offset_sum}
@@ -47,12 +38,6 @@ other_ends : (d e : Direction) → AreOthers d e → (c : Capture) (u : Tapped) 
     → Follows e c u bs us others mine → EndBy (length (stream (other d) c)) others
 other_ends d e o c u us bs mine others g = subst (λ (x : Direction). EndBy (length (stream x c)) others) (sym o.one) g.ends
 
--- the packets of the other side are within what it sent
-other_within : (d e : Direction) → AreOthers d e → (c : Capture) (u : Tapped) (us bs : List (List ℕ)) (mine others : List Sent)
-    → Follows e c u bs us others mine
-    → packets_length bs ≤ length (stream (other d) c)
-other_within d e o c u us bs mine others g = grind (arith, place, offset_sum)
-
 front_fed : (d e : Direction) → AreOthers d e →
     (c : Capture) (octets : List ℕ) (t u new : Tapped) (new_o : Watched) (us bs : List (List ℕ)) (mine others : List Sent)
     (f : Follows d c t us bs mine others)
@@ -80,7 +65,7 @@ settled d e o c octets t u new new_o us bs mine others f g n w (goes_on r i j) =
     (i ∙ ap (λ (x : Option TpktFault). with_front t (length octets) (t.held ++ octets) x (since_of t) (met_of now t)) n) j
     (same, subst (λ (x : List ℕ). IsPartial x) same r)
     (λ z l. since_known d c octets t us bs mine others f (other_ends d e o c u us bs mine others g) n l)
-    (λ z l. met_known d c octets t us bs mine others f now (other_within d e o c u us bs mine others g) g.handshake n l)
+    (λ z l. met_known d c octets t us bs mine others f now (grind (arith, place, offset_sum)) g.handshake n l)
 settled d e o c octets t u new new_o us bs mine others f g n w (faulty x r i j) =
     let held = held_rest t f.rest n f.is_rest in
     let same : t.held ++ octets ≡ f.rest ++ octets = ap (λ (y : List ℕ). y ++ octets) held.0 in
@@ -94,7 +79,7 @@ settled d e o c octets t u new new_o us bs mine others f g n w (whole unit k l p
     let p2 = subst (λ (y : List ℕ). IsPacket unit (take k y)) same p in
     let packet = whole_packet f.rest octets unit k held.1 w2 l2 p2 in
     let s = stood d c octets unit t new u.side new_o us bs mine others f u.line.handshake (other_ends d e o c u us bs mine others g)
-    (other_within d e o c u us bs mine others g) g.handshake n packet x in
+    (grind (arith, place, offset_sum)) g.handshake n packet x in
     let stage = stage_at d (c ++ piece d octets) us bs in
     let h = met_at d (c ++ piece d octets) us bs in
     let at = offset_from 0 us in
@@ -118,13 +103,8 @@ settled d e o c octets t u new new_o us bs mine others f g n w (whole unit k l p
       mine = mine ++ sent;
       others = others;
       of_mine = s.follows;
-      of_other = beside d e o c octets (record u { side = new_o }) (us ++ unit ∷ []) bs (mine ++ sent) others
-          (passing_follows e c (record u { side = new_o }) bs us others (mine ++ sent) unit heard_now far_unit);
+      of_other = search (arith, beside, passing_follows);
     }
-
-with_same : (t : Tapped) (n : ℕ) (x : TpktFault) → t.fault ≡ Some x
-    → with_count t n ≡ with_front t n t.held (Some x) t.line.since t.line.met
-with_same t n x e = ap (λ (y : Option TpktFault). with_front t n t.held y t.line.since t.line.met) e
 
 pub fed : (d e : Direction) → AreOthers d e
     → (c : Capture) (octets : List ℕ) (t u new : Tapped) (new_o : Watched) (us bs : List (List ℕ)) (mine others : List Sent)
@@ -134,7 +114,7 @@ pub fed : (d e : Direction) → AreOthers d e
 fed d e o c octets t u new new_o us bs mine others f g (ignored x n i j) =
     let r = subst (λ (y : Option TpktFault). IsRest y t.held f.rest) n f.is_rest in
     front_fed d e o c octets t u new new_o us bs mine others f g t.held (Some x) t.line.since t.line.met
-    (i ∙ with_same t (length octets) x n) j
+    (i ∙ (grind (arith, with_front))) j
     (faulty_on 0 f.rest octets x r) (λ z l. absurd (cc)) (λ z l. absurd (cc))
 fed d e o c octets t u new new_o us bs mine others f g (looked_at n w s) = settled d e o c octets t u new new_o us bs mine others f g n w s
 

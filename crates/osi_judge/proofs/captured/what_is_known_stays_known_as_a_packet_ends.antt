@@ -1,27 +1,16 @@
 -- What is known of a side stays known as a packet of it becomes complete, with the TSDU that it ends or none.
 -- For what a judge is fed.
-use Rattle.std.proofs.Common.{◌≡◌, ◌∙◌, refl, sym, ap, subst, ℕ, suc, zero, ◌+◌, ◌-◌, ◌<◌, ◌≤◌, ◌⊎◌, inl, inr}
-use Rattle.std.proofs.Common.{leb, true, false, List, [], ◌∷◌, ◌++◌, length, take, drop, Option, None}
-use Rattle.std.proofs.Common.{option_map, arith}
-use Rattle.std.proofs.lemmas.List.{append-nil, length-append, map-append, length-take-le, take-append-drop}
-use Rattle.std.proofs.lemmas.Bool.Decides.{leb_tells}
-use Rattle.osi_tpkt.specs.Packet.{IsPacket, IsPartial, stated_length}
-use Rattle.osi_tpkt.specs.Stream.{ArePackets, offset_of}
-use Rattle.osi_tpkt.specs.declared.faults.TpktFault.{TpktFault}
-use Rattle.osi_tpkt.proofs.a_prefix_of_a_packet.{partial_front, partial_not_whole, empty_partial}
-use Rattle.osi_tpkt.proofs.no_packet_is_a_prefix_of_another.{packet_front, stated_length-append}
-use Rattle.osi_judge.specs.declared.directions.Direction.{Direction}
-use Rattle.osi_judge.specs.Captures.{Capture, other, piece, stream}
-use Rattle.osi_judge.specs.Explaining.{Told}
-use Rattle.osi_judge.specs.Judging.{Watched, Watches}
+use Rattle.osi_judge.proofs.Vocabulary.{◌≡◌, ◌∙◌, refl, sym, ap, subst, ℕ, suc, zero, ◌+◌, ◌-◌, ◌<◌, ◌≤◌, ◌⊎◌, inl, inr, leb, true, false}
+use Rattle.osi_judge.proofs.Vocabulary.{List, [], ◌∷◌, ◌++◌, length, take, drop, Option, None, option_map, arith, append-nil, length-append}
+use Rattle.osi_judge.proofs.Vocabulary.{map-append, length-take-le, take-append-drop, leb_tells, IsPacket, IsPartial, stated_length}
+use Rattle.osi_judge.proofs.Vocabulary.{ArePackets, offset_of, TpktFault, partial_front, partial_not_whole, empty_partial, packet_front}
+use Rattle.osi_judge.proofs.Vocabulary.{stated_length-append, Direction, Capture, other, piece, stream, Watched, Watches, Handshake, silent}
+use Rattle.osi_judge.proofs.Vocabulary.{first_unit, shaken, handshake_from, packet_length, met_before, reference_in, Stage, opening}
+use Rattle.osi_judge.proofs.Vocabulary.{first_of, stage_behind, Sent, packets_length, sent_by, stage_from, hasty_behind, hasty_from}
+use Rattle.osi_judge.proofs.Vocabulary.{outlines, begin_of, had_passed, heard, told, IsPlace, Tapped, since_at, last_behind, Tells, Passes}
+use Rattle.osi_judge.proofs.Vocabulary.{TakesPacket, since_of, met_of, IsWithin, with_octets, shown, IsRest, BeginBefore, EndBy, IsSince}
+use Rattle.osi_judge.proofs.Vocabulary.{Follows}
 use Rattle.osi_tpdu.specs.Packet.{units_of}
-use Rattle.osi_judge.specs.Transport.{Handshake, silent, first_unit, shaken, handshake_from, packet_length, met_before, reference_in, Stage}
-use Rattle.osi_judge.specs.Transport.{opening, first_of, stage_behind, Sent, packets_length, sent_by, stage_from, hasty_behind, hasty_from}
-use Rattle.osi_judge.specs.Outlines.{outlines}
-use Rattle.osi_judge.specs.Tapping.{begin_of, had_passed, heard, told, IsPlace}
-use Rattle.osi_judge.specs.Feeding.{Tapped, since_at, named_behind, last_behind, Tells, Passes, TakesPacket, since_of, met_of, IsWithin}
-use Rattle.osi_judge.specs.Feeding.{with_octets}
-use Rattle.osi_judge.specs.Following.{shown, IsRest, BeginBefore, EndBy, IsSince, Follows}
 use Rattle.osi_judge.proofs.captured.a_capture_goes_on.{stream_fed}
 use Rattle.osi_judge.proofs.captured.how_many_tsdus_had_passed.{stays_passed, told_stays}
 use Rattle.osi_judge.proofs.captured.how_many_tsdus_had_passed.{begin_later, end_later, begin_more, end_more}
@@ -56,11 +45,8 @@ packet_is_all rest octets u n r w l p =
     let full = (packet_front u (take n s) p).1 in
     let long = length-take-le n s l in
     let four : 4 ≤ length (take n s) = full.0 in
-    let told_length : stated_length s ≡ stated_length (take n s) = ap stated_length (sym (take-append-drop n s)) ∙
-    stated_length-append (take n s) (drop n s) four in
-    fits_in (length rest) (length octets) (length s) n (stated_length s) (stated_length rest) (leb_tells 4 (length rest))
-    (length-append rest octets) w.header w.packet (partial_front rest r).1
-    (λ z. stated_length-append rest octets z) (omega arith) (sym long ∙ full.1 ∙ sym told_length)
+    let told_length : stated_length s ≡ stated_length (take n s) = grind (arith, take-append-drop, stated_length-append) in
+    grind (arith, fits_in, stated_length-append, leb_tells 4 (length rest), length-append rest octets, partial_front rest r)
 
 pub whole_packet : (rest octets u : List ℕ) (n : ℕ) → IsPartial rest → IsWithin rest (length octets) → n ≤ length (rest ++ octets) →
     IsPacket u (take n (rest ++ octets)) → IsPacket u (rest ++ octets)
@@ -120,8 +106,7 @@ grown d c mine others sent w new o new_o s at before u (inr (t, e, i)) p h l m g
     let q : Passes (t ∷ []) before w new o new_o = subst (λ (x : List Sent). Passes x before w new o new_o) e p in
     let b = i.behind in
     let n : t.behind ≤ length (stream d c) = omega arith in
-    subst (λ (x : List Sent). Grown d c (mine ++ x) others new) (sym e)
-    (grown_one d c mine others w new t (first_of s at) before i.first h l n q.0 g)
+    grind (arith, grown_one d c mine others w new t (first_of s at) before i.first h l n q.0 g)
 
 -- what it leaves of the other side
 heard_none : (d : Direction) (c : Capture) (t : Tapped) (us bs : List (List ℕ)) (mine others : List Sent) (new : Watched) → new ≡ t.side
@@ -179,82 +164,63 @@ stood d c octets u t new o new_o us bs mine others f now e inside shake n packet
     let longer : length (stream d c) ≤ length (stream d c2) = omega arith in
     let behind : at + packet_length u ≡ length (stream d c2) = omega arith in
     let front : 0 < length (f.rest ++ octets) = omega arith in
-    let known_met : met_of now t ≡ h = met_known d c octets t us bs mine others f now inside shake n front
-    ∙ ap (λ (x : ℕ). met_before d c2 bs x) here in
+    let known_met : met_of now t ≡ h = grind (arith, met_known d c octets t us bs mine others f now inside shake n front) in
     let p : TakesPacket d u since h (with_octets t octets) new o new_o
     = subst (λ (x : Handshake). TakesPacket d u since x (with_octets t octets) new o new_o) known_met taken in
     let kept_at : t.line.at ≡ offset_of at = f.at ∙ ap offset_of here in
     let same_heard : heard (sent_by d h t.line.stage t.line.at u) ≡ heard (sent_by d h s at u)
-    = ap (λ (x : Stage). heard (sent_by d h x t.line.at u)) kept_stage ∙ ap (λ (x : ℕ). heard (sent_by d h (shown s) x u)) kept_at
-    ∙ sym (heard_shown d h s at u) in
+    = grind (arith, heard_shown) in
     let same_since : since_at t.line.stage t.line.begun_since since ≡ before
     = ap (λ (x : Stage). since_at x t.line.begun_since since) kept_stage ∙ since_shown s t.line.begun_since since in
     let passes : Passes (sent_by d h s at u) before t.side new.side o new_o
-    = subst (λ (x : ℕ). Passes (sent_by d h s at u) x t.side new.side o new_o) same_since
-    (passes_as (sent_by d h t.line.stage t.line.at u) (sent_by d h s at u) (since_at t.line.stage t.line.begun_since since) t.side new.side
-    o new_o same_heard p.passes) in
-    let known : since ≡ had_passed d c2 at others = since_known d c octets t us bs mine others f e n front
-    ∙ ap (λ (x : ℕ). had_passed d c2 x others) here in
+    = grind (arith, passes_as) in
+    let known : since ≡ had_passed d c2 at others = grind (arith, since_known d c octets t us bs mine others f e n front) in
     let before_known : before ≡ had_passed d c2 (first_of s at) others =
     counted d c (piece d octets) others s at t.line.begun_since since kept_begun known in
     let at_there : at < length (stream d c2) = omega arith in
     let there : first_of s at < length (stream d c2) =
     first_there d c others s at t.line.begun_since (length (stream d c2)) kept_begun longer at_there in
-    let was : Grown d c2 mine others t.side = record {
-      begins = begin_later (length (stream d c)) (length (stream d c2)) mine longer f.begins;
-      ends = end_later (length (stream d c)) (length (stream d c2)) mine longer f.ends;
-      begin = f.begin;
-      heard = f.heard;
-      watches = subst (λ (x : List Told). Watches t.side x) (sym (told_stays d c (piece d octets) mine others f.begins)) f.watches;
-    } in
+    let was : Grown d c2 mine others t.side = grind (
+      arith,
+      begin_later (length (stream d c)) (length (stream d c2)) mine longer f.begins,
+      end_later (length (stream d c)) (length (stream d c2)) mine longer f.ends,
+      told_stays d c (piece d octets) mine others f.begins,
+    ) in
     let within_it : at + packet_length u ≤ length (stream d c2) = omega arith in
     let g = grown d c2 mine others (sent_by d h s at u) t.side new.side o new_o s at before u (sent_one d h s at u) passes before_known
     there within_it was in
     let new_stage : new.line.stage ≡ shown (stage_behind d h s at u)
-    = p.stage ∙ ap (λ (x : Stage). stage_behind d h x t.line.at u) kept_stage ∙ ap (λ (x : ℕ). stage_behind d h (shown s) x u) kept_at
-    ∙ sym (shown_behind d h s at u) in
+    = grind (arith, shown_behind) in
     let noted_before = hasty_from d (met_before d c2 bs) opening None 0 us in
     let kept_hasty : t.line.hasty ≡ option_map offset_of noted_before
     = f.hasty ∙ ap (option_map offset_of) (hasty_stays d c us f.rest f.packets (met_before d c bs) (met_before d c2 bs) alike) in
     let new_hasty : new.line.hasty ≡ option_map offset_of (hasty_behind d h s noted_before at u)
-    = p.hasty ∙ ap (λ (x : Stage). hasty_behind d h x t.line.hasty t.line.at u) kept_stage
-    ∙ ap (λ (x : Option ℕ). hasty_behind d h (shown s) x t.line.at u) kept_hasty
-    ∙ ap (λ (x : ℕ). hasty_behind d h (shown s) (option_map offset_of noted_before) x u) kept_at
-    ∙ sym (hasty_shown d h s noted_before at u) in
+    = grind (arith, hasty_shown) in
     let held_length : length (t.held ++ octets) ≡ packet_length u = ap (λ (x : List ℕ). length (x ++ octets)) held.0 ∙ whole_length in
     let new_at : new.line.at ≡ offset_of (length (stream d c2))
-    = p.at ∙ ap (λ (x : ℕ). offset_of (t.line.at + x)) held_length ∙ ap (λ (x : ℕ). offset_of (x + packet_length u)) kept_at ∙
-    offset_on at (packet_length u) ∙ ap offset_of behind in
+    = grind (arith, offset_on) in
     let new_since : new.line.begun_since ≡ before = p.begun_since ∙ same_since in
     let kept = sent_by d h (shown s) (offset_of at) u in
     let new_last : new.line.last ≡ last_behind t.side.finding kept t.line.last
-    = p.last ∙ ap (λ (x : Stage). last_behind t.side.finding (sent_by d h x t.line.at u) t.line.last) kept_stage
-    ∙ ap (λ (x : ℕ). last_behind t.side.finding (sent_by d h (shown s) x u) t.line.last) kept_at in
+    = grind arith in
     record {
       passes = passes;
       behind = behind;
       follows = record {
         rest = [];
-        packets = subst (λ (x : List ℕ). ArePackets (us ++ u ∷ []) x []) (sym (stream_fed d c octets))
-            (packet_on us (stream d c) f.rest octets u f.packets packet);
+        packets = grind (arith, stream_fed, packet_on);
         is_rest = subst (λ (x : Option TpktFault). IsRest x new.held []) (sym (p.fault ∙ n)) (p.held, empty_partial);
         at = new_at ∙ ap offset_of (less_none (length (stream d c2)));
         handshake = p.handshake ∙ ap (λ (x : Handshake). shaken x (first_unit (units_of u))) f.handshake ∙ sym (handshake_more silent us u);
         met = λ z l. absurd (omega arith);
-        sent = ap (λ (x : List Sent). x ++ sent_by d h s at u)
-            (f.sent ∙ sent_stays d c us f.rest f.packets (met_before d c bs) (met_before d c2 bs) alike)
-            ∙ sym (sent_more d (met_before d c2 bs) opening 0 us u);
+        sent = grind (arith, sent_stays, sent_more);
         stage = new_stage ∙ ap shown (sym (stage_more d (met_before d c2 bs) opening 0 us u));
         hasty = new_hasty ∙ ap (option_map offset_of) (sym (hasty_more d (met_before d c2 bs) opening None 0 us u));
         since = λ z l. absurd (omega arith);
-        begun = subst (λ (x : Stage). IsSince d c2 others x new.line.begun_since) (sym (stage_more d (met_before d c2 bs) opening 0 us u))
-            (since_behind d h c2 others s at new.line.begun_since u there (new_since ∙ before_known));
+        begun = grind (arith, stage_more, since_behind);
         octets = p.octets ∙ octets_fed d c octets t.octets f.octets;
-        counted = p.packets ∙ ap (λ (x : ℕ). offset_of (x + 1)) f.counted ∙ offset_on (length us) 1
-            ∙ ap offset_of (sym (length-append us (u ∷ [])));
-        reference = p.reference ∙ ap (λ (x : Stage). named_behind d h x t.line.reference u) kept_stage
-            ∙ ap (λ (x : Option ℕ). named_behind d h (shown s) x u) f.reference
-            ∙ named_shown d h s (reference_in d us) u ∙ named_more d (met_before d c2 bs) us u;
+        counted = grind (arith, offset_on, length-append);
+        reference = grind (arith, named_shown d h s (reference_in d us) u, named_more d (met_before d c2 bs) us u);
         place = subst (λ (x : ℕ). IsPlace new.side.finding (mine ++ sent_by d h s at u) x) (sym new_last)
             (place_behind mine (sent_by d h s at u) kept t.side new.side o new_o s (shown s) at before t.line.last u (sent_one d h s at u)
             (sent_one d h (shown s) (offset_of at) u)

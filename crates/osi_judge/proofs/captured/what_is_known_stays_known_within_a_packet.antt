@@ -1,23 +1,10 @@
 -- What is known of a side stays known as octets pass that end no packet of it, and as a TSDU of the other side reaches it.
 -- For what a judge is fed.
-use Rattle.std.proofs.Common.{◌≡◌, ◌∙◌, refl, sym, ap, subst, ℕ, suc, ◌+◌, ◌-◌, ◌<◌, ◌≤◌, min}
-use Rattle.std.proofs.Common.{List, [], ◌∷◌, ◌++◌, length, Option, None}
-use Rattle.std.proofs.Common.{option_map, arith}
-use Rattle.std.proofs.lemmas.List.{length-append, map-append}
-use Rattle.osi_tpkt.specs.Packet.{IsPartial}
-use Rattle.osi_tpkt.specs.Stream.{ArePackets, offset_of}
-use Rattle.osi_tpkt.specs.declared.faults.TpktFault.{TpktFault}
-use Rattle.osi_judge.specs.declared.directions.Direction.{Direction}
-use Rattle.osi_judge.specs.declared.directions.Direction.TheVariants.{Left, Right}
-use Rattle.osi_judge.specs.Captures.{Capture, other, piece, stream}
-use Rattle.osi_judge.specs.Explaining.{Told}
-use Rattle.osi_judge.specs.Judging.{Watches}
-use Rattle.osi_judge.specs.Transport.{Handshake, silent, handshake_from, packet_length, met_before, Stage, opening, Sent, packets_length}
-use Rattle.osi_judge.specs.Transport.{stage_from}
-use Rattle.osi_judge.specs.Outlines.{outline, outlines}
-use Rattle.osi_judge.specs.Tapping.{had_passed, octets_of, heard, told}
-use Rattle.osi_judge.specs.Feeding.{Tapped, hears, since_in, since_of, met_of}
-use Rattle.osi_judge.specs.Following.{shown, IsRest, EndBy, IsSince, Follows}
+use Rattle.osi_judge.proofs.Vocabulary.{◌≡◌, ◌∙◌, refl, sym, ap, subst, ℕ, suc, ◌+◌, ◌-◌, ◌<◌, ◌≤◌, List, [], ◌∷◌, ◌++◌, length, Option}
+use Rattle.osi_judge.proofs.Vocabulary.{None, arith, length-append, map-append, IsPartial, ArePackets, offset_of, TpktFault, Direction}
+use Rattle.osi_judge.proofs.Vocabulary.{Left, Right, Capture, other, piece, stream, Handshake, silent, handshake_from, packet_length}
+use Rattle.osi_judge.proofs.Vocabulary.{met_before, Stage, opening, Sent, packets_length, stage_from, had_passed, heard, Tapped, hears}
+use Rattle.osi_judge.proofs.Vocabulary.{since_of, met_of, IsRest, EndBy, IsSince, Follows}
 use Rattle.osi_judge.proofs.captured.a_capture_goes_on.{stream_fed, stream_beside}
 use Rattle.osi_judge.proofs.captured.how_many_tsdus_had_passed.{stays_passed, not_yet_passed, all_had_passed, told_stays, told_beside}
 use Rattle.osi_judge.proofs.captured.how_many_tsdus_had_passed.{begin_later, end_later}
@@ -29,11 +16,8 @@ use Rattle.osi_judge.proofs.outlined.alike_tsdus_explain_the_same.{length_outlin
 
 -- ---- positions
 
-min_twice : (m a n : ℕ) → min (min a m + n) m ≡ min (a + n) m
-min_twice m a n = omega arith
-
 pub offset_on : (a n : ℕ) → offset_of (offset_of a + n) ≡ offset_of (a + n)
-offset_on a n = min_twice _ a n
+offset_on a n = grind arith
 
 pub less_none : (n : ℕ) → n ≡ n - 0
 less_none n = omega arith
@@ -46,9 +30,6 @@ place d c us r h = let e = offset_of_rest 0 us (stream d c) r h in omega arith
 pub length_fed : (d : Direction) (c : Capture) (octets : List ℕ)
     → length (stream d (c ++ piece d octets)) ≡ length (stream d c) + length octets
 length_fed d c octets = ap (λ (x : List ℕ). length x) (stream_fed d c octets) ∙ length-append (stream d c) octets
-
-since_case : (rest : List ℕ) (n since x : ℕ) → (rest ≡ [] → n ≡ x) → (0 < length rest → since ≡ x) → since_in rest n since ≡ x
-since_case rest n since x a b = grind arith
 
 pub length_heard : (others : List Sent) → length (heard others) ≡ length others
 length_heard [] = refl
@@ -69,12 +50,8 @@ since_known d c octets t us bs mine others f e n l =
     let x = had_passed d (c ++ piece d octets) k others in
     let fresh : f.rest ≡ [] → length t.side.heard ≡ x
     = λ z. let y = ap (λ (w : List ℕ). length w) z in
-    ap (λ (w : List (List ℕ)). length w) f.heard ∙ length_outlines (heard others) ∙ length_heard others ∙
-    sym (all_had_passed d c octets k others (omega arith) (omega arith) e) in
-    let going : 0 < length f.rest → t.line.since ≡ x
-    = λ z. f.since n z ∙ sym (stays_passed d c (piece d octets) k others (omega arith)) in
-    ap (λ (w : List ℕ). since_in w (length t.side.heard) t.line.since) h.0 ∙ since_case f.rest (length t.side.heard) t.line.since x fresh
-    going
+    grind (arith, length_outlines (heard others), length_heard others, all_had_passed d c octets k others (omega arith) (omega arith) e) in
+    grind (arith, stays_passed)
 
 -- how far the other side had come before the current packet, or before the one that begins
 pub met_known : (d : Direction) (c : Capture) (octets : List ℕ) (t : Tapped) (us bs : List (List ℕ)) (mine others : List Sent)
@@ -97,9 +74,6 @@ pub octets_fed : (d : Direction) (c : Capture) (octets : List ℕ) (count : ℕ)
     offset_of (count + length octets) ≡ offset_of (length (stream d (c ++ piece d octets)))
 octets_fed d c octets count e = grind (arith, offset_on, length_fed)
 
-same_place : (a b o r : ℕ) → a ≡ b + o → b - r ≡ a - (r + o)
-same_place a b o r e = omega arith
-
 pub front_follows : (d : Direction) (c : Capture) (octets : List ℕ) (t : Tapped) (us bs : List (List ℕ)) (mine others : List Sent)
     (f : Follows d c t us bs mine others) (held : List ℕ) (fault : Option TpktFault) (since : ℕ)
     (h : Handshake) → IsRest fault held (f.rest ++ octets)
@@ -113,33 +87,22 @@ front_follows d c octets t us bs mine others f held fault since h r k j =
     let m = length-append f.rest octets in
     let longer : length (stream d c) ≤ length (stream d c2) = omega arith in
     let there : length (stream d c) - length f.rest ≡ length (stream d c2) - length (f.rest ++ octets)
-    = same_place _ _ _ (length f.rest) n ∙ ap (λ (x : ℕ). length (stream d c2) - x) (sym m) in
+    = (grind arith) ∙ ap (λ (x : ℕ). length (stream d c2) - x) (sym m) in
     let alike : MeetAlike (length (stream d c)) (met_before d c bs) (met_before d c2 bs) =
     λ k l. sym (met_stays d c (piece d octets) bs k l) in
-    let same = stage_stays d c us f.rest f.packets (met_before d c bs) (met_before d c2 bs) alike in record {
-      rest = f.rest ++ octets;
-      packets = subst (λ (x : List ℕ). ArePackets us x (f.rest ++ octets)) (sym (stream_fed d c octets))
-          (packets_on us (stream d c) f.rest octets f.packets);
-      is_rest = r;
-      at = f.at ∙ ap offset_of there;
-      handshake = f.handshake;
-      met = λ e l. j e l ∙ ap (λ (x : ℕ). met_before d c2 bs x) there;
-      sent = f.sent ∙ sent_stays d c us f.rest f.packets (met_before d c bs) (met_before d c2 bs) alike;
-      stage = f.stage ∙ ap shown same;
-      hasty = f.hasty ∙ ap (option_map offset_of) (hasty_stays d c us f.rest f.packets (met_before d c bs) (met_before d c2 bs) alike);
-      since = λ e l. k e l ∙ ap (λ (x : ℕ). had_passed d c2 x others) there;
-      begun = subst (λ (x : Stage). IsSince d c2 others x t.line.begun_since) same
-          (since_stays d c (piece d octets) others (stage_from d (met_before d c bs) opening 0 us) t.line.begun_since longer f.begun);
-      octets = octets_fed d c octets t.octets f.octets;
-      counted = f.counted;
-      reference = f.reference;
-      place = f.place;
-      begins = begin_later (length (stream d c)) (length (stream d c2)) mine longer f.begins;
-      ends = end_later (length (stream d c)) (length (stream d c2)) mine longer f.ends;
-      begin = f.begin;
-      heard = f.heard;
-      watches = subst (λ (x : List Told). Watches t.side x) (sym (told_stays d c (piece d octets) mine others f.begins)) f.watches;
-    }
+    let same = stage_stays d c us f.rest f.packets (met_before d c bs) (met_before d c2 bs) alike in grind (
+      arith,
+      since_stays,
+      place,
+      stream_fed d c octets,
+      packets_on us (stream d c) f.rest octets f.packets,
+      sent_stays d c us f.rest f.packets (met_before d c bs) (met_before d c2 bs) alike,
+      hasty_stays d c us f.rest f.packets (met_before d c bs) (met_before d c2 bs) alike,
+      octets_fed d c octets t.octets f.octets,
+      begin_later (length (stream d c)) (length (stream d c2)) mine longer f.begins,
+      end_later (length (stream d c)) (length (stream d c2)) mine longer f.ends,
+      told_stays d c (piece d octets) mine others f.begins,
+    )
 
 -- ---- the other side
 
@@ -187,8 +150,6 @@ hearing_follows d c t us bs mine others u f l = record {
   begins = f.begins;
   ends = f.ends;
   begin = f.begin;
-  heard = ap (λ (x : List (List ℕ)). x ++ outline u.octets ∷ []) f.heard ∙ sym (map-append outline (heard others) (u.octets ∷ []))
-      ∙ ap outlines (sym (map-append octets_of others (u ∷ [])));
-  watches = subst (λ (x : List Told). Watches (hears t.side u.octets) x) (sym (told_beside d c mine others u l))
-      (side.hears t.side (outline u.octets) (told d c mine others) f.watches);
+  heard = grind (arith, map-append);
+  watches = grind (arith, told_beside, side.hears);
 }

@@ -1,43 +1,23 @@
 -- A side that has broken the protocol has still broken it, whatever passes later: for what a judge is fed.
-use Rattle.std.proofs.Common.{◌≡◌, ◌∙◌, refl, sym, ap, ℕ, Bool, true, false, ◌||◌, ◌⊎◌, inl, inr, List, [], ◌∷◌, Option, Some, None}
-use Rattle.osi_tpkt.specs.declared.faults.TpktFault.{TpktFault}
-use Rattle.osi_judge.specs.declared.directions.Direction.{Direction}
-use Rattle.osi_judge.specs.declared.findings.Finding.{Finding}
-use Rattle.osi_judge.specs.declared.findings.Finding.TheVariants.{Kept, Broke, Left, TooMany}
-use Rattle.osi_judge.specs.Judging.{Watched, FoundNext}
-use Rattle.osi_judge.specs.Stops.{breaks, broke_session}
-use Rattle.osi_judge.specs.Tapping.{or_hasty}
+use Rattle.std.proofs.Common.{arith}
+use Rattle.osi_judge.proofs.Vocabulary.{◌≡◌, ◌∙◌, refl, sym, ap, ℕ, Bool, true, false, ◌||◌, ◌⊎◌, inl, inr, List, [], ◌∷◌, Option, Some}
+use Rattle.osi_judge.proofs.Vocabulary.{None, TpktFault, Direction, Watched, breaks, broke_session, or_hasty, Handshake, first_unit, Move}
+use Rattle.osi_judge.proofs.Vocabulary.{step_of, noted, hasty_behind, Stage, opening, asking, between, within, refused, stopped}
+use Rattle.osi_judge.proofs.Vocabulary.{stage_behind, Sent, Tapped, Passes, TakesPacket, Settles, goes_on, faulty, whole, with_octets}
+use Rattle.osi_judge.proofs.Vocabulary.{Feeds, ignored, looked_at, stopped_by, stopped_of, has_broken}
 use Rattle.osi_judge.specs.declared.stops.Stopped.{Stopped as StoppedAt}
 use Rattle.osi_tpdu.specs.Packet.{units_of}
-use Rattle.osi_judge.specs.Transport.{Handshake, first_unit, Move, step_of, noted, hasty_behind, Stage, opening}
-use Rattle.osi_judge.specs.Transport.{asking, between, within, refused, stopped, stage_behind, Sent}
-use Rattle.osi_judge.specs.Feeding.{Tapped, Passes, TakesPacket, Settles, goes_on, faulty, whole, with_octets, Feeds, ignored}
-use Rattle.osi_judge.specs.Feeding.{looked_at, stopped_by, stopped_of, has_broken}
-
-either : (a b : Bool) → (a || b) ≡ true → (a ≡ true) ⊎ (b ≡ true)
-either true b h = inl refl
-either false b h = inr h
 
 one : (a b : Bool) → a ≡ true → (a || b) ≡ true
 one true b h = refl
 one false b h = absurd (cc)
 
-two : (a b : Bool) → b ≡ true → (a || b) ≡ true
-two true b h = refl
-two false b h = h
-
 -- ---- by its session
-
-found_still : (f g : Finding) (count : ℕ) → FoundNext f count g → broke_session f ≡ true → broke_session g ≡ true
-found_still Kept g count n h = absurd (cc)
-found_still (Broke i) g count n h = ap broke_session n ∙ h
-found_still (Left i) g count n h = ap broke_session n ∙ h
-found_still TooMany g count n h = absurd (cc)
 
 passes_still : (sent : List Sent) (before : ℕ) (w new o o2 : Watched) → Passes sent before w new o o2 → broke_session w.finding ≡ true
     → broke_session new.finding ≡ true
 passes_still [] before w new o o2 p h = ap (λ (x : Watched). broke_session x.finding) p.0 ∙ h
-passes_still (t ∷ sent) before w new o o2 p h = found_still w.finding new.finding w.told p.0.finding h
+passes_still (t ∷ sent) before w new o o2 p h = grind arith
 
 -- ---- by its transport
 
@@ -83,23 +63,13 @@ no_fault : (t : Tapped) → t.fault ≡ None → breaks (stopped_by t.line.stage
     → breaks (stopped_by t.line.stage None t.line.at) ≡ true
 no_fault t n h = ap (λ (x : Option TpktFault). breaks (stopped_by t.line.stage x t.line.at)) (sym n) ∙ h
 
-packet_stop : (d : Direction) (unit : List ℕ) (since : ℕ) (come : Handshake) (t new : Tapped) (o o2 : Watched) → t.fault ≡ None
-    → TakesPacket d unit since come t new o o2 → breaks (stopped_of t) ≡ true
-    → breaks (stopped_of new) ≡ true
-packet_stop d unit since come t new o o2 n p h =
-    hasty_still t.line.hasty new.line.hasty (stopped_by t.line.stage t.fault t.line.at) (stopped_by new.line.stage new.fault new.line.at)
-    (λ a b k. ap (λ (x : Option TpktFault). breaks (stopped_by new.line.stage x new.line.at)) (p.fault ∙ n)
-    ∙ ap (λ (x : Stage). breaks (stopped_by x None new.line.at)) p.stage
-    ∙ stage_still d come t.line.stage t.line.at t.line.at new.line.at unit (no_fault t n k))
-    (λ q e. p.hasty ∙ hasty_stays d come t.line.stage t.line.hasty t.line.at unit q e) h
-
 packet_still : (d : Direction) (unit : List ℕ) (since : ℕ) (come : Handshake) (t new : Tapped) (o o2 : Watched) → t.fault ≡ None
     → TakesPacket d unit since come t new o o2
     → ((broke_session t.side.finding ≡ true) ⊎ (breaks (stopped_of t) ≡ true)) → has_broken new ≡ true
 packet_still d unit since come t new o o2 n p (inl h) =
     one (broke_session new.side.finding) (breaks (stopped_of new)) (passes_still _ _ t.side new.side o o2 p.passes h)
 packet_still d unit since come t new o o2 n p (inr h) =
-    two (broke_session new.side.finding) (breaks (stopped_of new)) (packet_stop d unit since come t new o o2 n p h)
+    grind arith
 
 faulty_stop : (t : Tapped) (f : TpktFault) → t.fault ≡ None → breaks (stopped_of t) ≡ true
     → breaks (or_hasty t.line.hasty (stopped_by t.line.stage (Some f) t.line.at)) ≡ true
@@ -112,16 +82,16 @@ faulty_still : (t : Tapped) (f : TpktFault) → t.fault ≡ None → ((broke_ses
 faulty_still t f n (inl h) =
     one (broke_session t.side.finding) (breaks (or_hasty t.line.hasty (stopped_by t.line.stage (Some f) t.line.at))) h
 faulty_still t f n (inr h) =
-    two (broke_session t.side.finding) (breaks (or_hasty t.line.hasty (stopped_by t.line.stage (Some f) t.line.at))) (faulty_stop t f n h)
+    grind arith
 
 settles_still : (d : Direction) (since : ℕ) (come : Handshake) (t new : Tapped) (o o2 : Watched) → t.fault ≡ None
     → Settles d since come t new o o2
     → has_broken t ≡ true → has_broken new ≡ true
 settles_still d since come t new o o2 n (goes_on r i j) h = ap has_broken i ∙ h
 settles_still d since come t new o o2 n (faulty f r i j) h = ap has_broken i
-    ∙ faulty_still t f n (either (broke_session t.side.finding) (breaks (stopped_of t)) h)
+    ∙ faulty_still t f n (grind arith)
 settles_still d since come t new o o2 n (whole unit k l p x) h =
-    packet_still d unit since come t new o o2 n x (either (broke_session t.side.finding) (breaks (stopped_of t)) h)
+    packet_still d unit since come t new o o2 n x (grind arith)
 
 pub broken_still : (d : Direction) (octets : List ℕ) (come : Handshake) (t new : Tapped) (o o2 : Watched) → Feeds d octets come t new o o2
     → has_broken t ≡ true

@@ -1,26 +1,12 @@
 -- What is known of a judge, and what was found of a capture.
-use Rattle.std.proofs.Common.{◌≡◌, ◌∙◌, refl, sym, ap, subst, ℕ, ◌-◌, ◌+◌, List, [], length, Option, Some, None, option_map, arith}
-use Rattle.osi_tpkt.specs.Packet.{IsFaultOf}
-use Rattle.osi_tpkt.specs.Stream.{Ending, EndsAt, offset_of}
-use Rattle.osi_tpkt.specs.Stream.Ending.{Faulty, Rest}
-use Rattle.osi_tpkt.specs.declared.faults.TpktFault.{TpktFault}
-use Rattle.osi_tpkt.specs.declared.faults.TpktFault.TheVariants.{BadVersion, BadLength, OutOfMemory}
-use Rattle.osi_tpkt.proofs.a_prefix_of_a_packet.{empty_partial}
-use Rattle.osi_tpkt.proofs.a_stream_is_cut_in_one_way.{one_cut}
-use Rattle.osi_judge.specs.declared.directions.Direction.{Direction}
-use Rattle.osi_judge.specs.declared.directions.Direction.TheVariants.{Left, Right}
-use Rattle.osi_session.specs.Standing.{Seen}
-use Rattle.osi_judge.specs.Captures.{Capture, other, stream}
-use Rattle.osi_judge.specs.Judging.{Watched, Watches, IsFound}
-use Rattle.osi_judge.specs.declared.findings.Finding.{Finding}
-use Rattle.osi_judge.specs.declared.findings.Finding.TheVariants.{Kept}
-use Rattle.osi_judge.specs.declared.judge.Reading.{Reading}
+use Rattle.osi_judge.proofs.Vocabulary.{◌≡◌, refl, sym, subst, ℕ, ◌-◌, ◌+◌, List, [], length, Option, Some, None, arith, IsFaultOf, Ending}
+use Rattle.osi_judge.proofs.Vocabulary.{offset_of, Faulty, Rest, TpktFault, BadVersion, BadLength, OutOfMemory, empty_partial, one_cut}
+use Rattle.osi_judge.proofs.Vocabulary.{Direction, Left, Right, Seen, Capture, other, stream, Watched, Watches, IsFound, Kept, Reading}
+use Rattle.osi_judge.proofs.Vocabulary.{silent, met_before, Stage, opening, Sent, stage_from, ArePacketsOf, IsSent, begin_of, heard, told}
+use Rattle.osi_judge.proofs.Vocabulary.{IsFoundIn, stop_in, IsStoppedIn, IsReadIn, IsReferenceIn, IsPlaceIn, Tapped, reading_of, stopped_by}
+use Rattle.osi_judge.proofs.Vocabulary.{stopped_of, shown, IsRest, Follows, Judged, half_of, Taps}
+use Rattle.osi_tpkt.specs.Stream.{EndsAt}
 use Rattle.osi_judge.specs.declared.stops.Stopped.{Stopped as StoppedAt}
-use Rattle.osi_judge.specs.Transport.{silent, met_before, Stage, opening, Sent, stage_from, hasty_from, ArePacketsOf, IsSent}
-use Rattle.osi_judge.specs.Tapping.{begin_of, heard, told, IsFoundIn, stop_in, or_hasty, IsStoppedIn, IsReadIn}
-use Rattle.osi_judge.specs.Tapping.{IsReferenceIn, IsPlace, IsPlaceIn}
-use Rattle.osi_judge.specs.Feeding.{Tapped, reading_of, stopped_by, stopped_of}
-use Rattle.osi_judge.specs.Following.{shown, IsRest, Follows, Judged, half_of, Taps}
 use Rattle.osi_judge.proofs.told.what_is_known_of_a_side.{found_as}
 use Rattle.osi_judge.proofs.outlined.alike_tsdus_explain_the_same.{found_of_tsdus}
 use Rattle.osi_judge.proofs.captured.one_more_packet_passes.{offset_of_rest}
@@ -48,12 +34,9 @@ fresh_half w = record {
   side = w;
 }
 
-place_kept : (f : Finding) (last : ℕ) → f ≡ Kept → IsPlace f [] last
-place_kept f last e = subst (λ (x : Finding). IsPlace x [] last) (sym e) tt
-
 pub nothing_follows : (d : Direction) (w : Watched) → w.begin ≡ begin_of d → w.heard ≡ [] → w.finding ≡ Kept → Watches w []
     → Follows d [] (fresh_half w) [] [] [] []
-nothing_follows d w b h y k = grind (arith, empty_partial, place_kept)
+nothing_follows d w b h y k = grind (arith, empty_partial)
 
 pub nothing_passed : (j : Judged) (l r : Watched) → j.left ≡ fresh_half l → j.right ≡ fresh_half r → l.begin ≡ begin_of Left →
     r.begin ≡ begin_of Right → l.heard ≡ [] → r.heard ≡ []
@@ -86,12 +69,9 @@ pub one_reading : (d : Direction) (c : Capture) (some others : List Sent) → Is
 one_reading d c some others (us, bs, (e, cut), (f, beside), s) (vs, cs, (g, cut_too), (h, beside_too), t) =
     grind (arith, one_cut (stream d c) us vs e g cut cut_too, one_cut (stream (other d) c) bs cs f h beside beside_too)
 
-other_twice : (d : Direction) → other (other d) ≡ d
-other_twice d = grind arith
-
 -- the packets of a side are those of the other side of the other one
 pub packets_of : (d : Direction) (c : Capture) (us : List (List ℕ)) → ArePacketsOf d c us → ArePacketsOf (other (other d)) c us
-packets_of d c us h = subst (λ (x : Direction). ArePacketsOf x c us) (sym (other_twice d)) h
+packets_of d c us h = subst (λ (x : Direction). ArePacketsOf x c us) (sym (grind arith)) h
 
 found_of : (d : Direction) (c : Capture) (t u : Tapped) (us bs : List (List ℕ)) (mine others : List Sent) → Follows d c t us bs mine others
     → Follows (other d) c u bs us others mine
@@ -118,9 +98,6 @@ stops_as : (s : Stage) (fault : Option TpktFault) (held rest : List ℕ) (at : �
 unfolding ending_of fault_at
 stops_as s fault held rest at r = grind arith
 
-zero_plus : (n : ℕ) → n ≡ 0 + n
-zero_plus n = omega arith
-
 abbrev stopped_of_stage : Tapped → Option StoppedAt
 stopped_of_stage t = stopped_by t.line.stage t.fault t.line.at
 
@@ -131,18 +108,7 @@ stopped_as d c t us bs mine others f b =
     let s = stage_from d (met_before d c bs) opening 0 us in
     let n = length (stream d c) - length f.rest in
     let at = offset_of (0 + n) in
-    let e = ending_of at t.fault t.held f.rest f.is_rest in
-    let same_at : t.line.at ≡ at = f.at ∙ ap offset_of (zero_plus n) in record {
-      units = us;
-      ending = e.0;
-      cut = (f.rest, f.packets, e.1);
-      others = bs;
-      are_others = b;
-      stops = ap (λ (x : Option ℕ). or_hasty x (stopped_of_stage t)) f.hasty
-          ∙ ap (or_hasty (option_map offset_of (hasty_from d (met_before d c bs) opening None 0 us)))
-          (ap (λ (x : Stage). stopped_by x t.fault t.line.at) f.stage ∙ ap (λ (x : ℕ). stopped_by (shown s) t.fault x) same_at ∙
-          stops_as s t.fault t.held f.rest at f.is_rest);
-    }
+    grind (arith, ending_of at t.fault t.held f.rest f.is_rest, stops_as s t.fault t.held f.rest at f.is_rest)
 
 pub is_stopped : (d : Direction) (c : Capture) (j : Judged) → Taps j c → IsStoppedIn d c (stopped_of (half_of d j))
 is_stopped Left c j h = search (arith, stopped_as, cut_as)
@@ -162,20 +128,10 @@ pub is_read : (d : Direction) (c : Capture) (j : Judged) → Taps j c → IsRead
 is_read Left c j h = read_as Left c j.left h.left_units h.right_units h.left h.right h.of_left
 is_read Right c j h = read_as Right c j.right h.right_units h.left_units h.right h.left h.of_right
 
-given_as : (d : Direction) (c : Capture) (t : Tapped) (us bs : List (List ℕ)) (mine others : List Sent) → Follows d c t us bs mine others
-    → IsReferenceIn d c t.line.reference
-given_as d c t us bs mine others f =
-    let e = cut_as d c t us bs mine others f in record { units = us; ending = e.0; cut = e.1; given = f.reference }
-
 pub is_given : (d : Direction) (c : Capture) (j : Judged) → Taps j c → IsReferenceIn d c (half_of d j).line.reference
-is_given Left c j h = given_as Left c j.left h.left_units h.right_units h.left h.right h.of_left
-is_given Right c j h = given_as Right c j.right h.right_units h.left_units h.right h.left h.of_right
-
-placed_as : (d : Direction) (c : Capture) (t : Tapped) (us bs : List (List ℕ)) (mine others : List Sent) → Follows d c t us bs mine others
-    → ArePacketsOf (other d) c bs
-    → IsPlaceIn d c t.side.finding t.line.last
-placed_as d c t us bs mine others f b = record { mine = mine; is_mine = is_sent d c t us bs mine others f b; place = f.place }
+is_given Left c j h = grind (arith, cut_as Left c j.left h.left_units h.right_units h.left h.right h.of_left)
+is_given Right c j h = grind (arith, cut_as Right c j.right h.right_units h.left_units h.right h.left h.of_right)
 
 pub is_placed : (d : Direction) (c : Capture) (j : Judged) → Taps j c → IsPlaceIn d c (half_of d j).side.finding (half_of d j).line.last
-is_placed Left c j h = search (arith, placed_as, cut_as)
-is_placed Right c j h = search (arith, placed_as, cut_as)
+is_placed Left c j h = search (arith, cut_as)
+is_placed Right c j h = search (arith, cut_as)

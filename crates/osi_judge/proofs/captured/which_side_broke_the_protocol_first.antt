@@ -1,17 +1,9 @@
 -- Which side broke the protocol first: for what a judge is fed.
-use Rattle.std.proofs.Common.{◌≡◌, ◌∙◌, refl, sym, ap, subst, ℕ, Bool, true, false, ◌||◌, List, [], ◌∷◌, ◌++◌, Option, Some, None}
-use Rattle.std.proofs.lemmas.List.{append-nil, append_assoc}
-use Rattle.osi_judge.specs.declared.directions.Direction.{Direction}
-use Rattle.osi_judge.specs.declared.directions.Direction.TheVariants.{Left, Right}
-use Rattle.osi_judge.specs.declared.findings.Finding.{Finding}
-use Rattle.osi_judge.specs.declared.findings.Finding.TheVariants.{Kept}
-use Rattle.osi_judge.specs.Captures.{Capture, other}
-use Rattle.osi_judge.specs.Judging.{Watched}
-use Rattle.osi_judge.specs.Stops.{breaks, broke_session}
-use Rattle.osi_judge.specs.Transport.{Handshake, Sent}
-use Rattle.osi_judge.specs.Tapping.{StandsIn, IsFirstIn}
-use Rattle.osi_judge.specs.Feeding.{Tapped, Passes, Settles, goes_on, faulty, whole, Feeds, ignored, looked_at, stopped_of, has_broken}
-use Rattle.osi_judge.specs.Following.{Judged, half_of, Taps, first_after, BrokeFirst, FirstIs}
+use Rattle.std.proofs.Common.{arith}
+use Rattle.osi_judge.proofs.Vocabulary.{◌≡◌, ◌∙◌, refl, sym, ap, subst, ℕ, Bool, true, false, ◌||◌, List, [], ◌∷◌, ◌++◌, Option, Some, None}
+use Rattle.osi_judge.proofs.Vocabulary.{append-nil, append_assoc, Direction, Left, Right, Finding, Kept, Capture, other, Watched, breaks}
+use Rattle.osi_judge.proofs.Vocabulary.{broke_session, Handshake, Sent, StandsIn, IsFirstIn, Tapped, Passes, Feeds, ignored, looked_at}
+use Rattle.osi_judge.proofs.Vocabulary.{stopped_of, has_broken, Judged, half_of, Taps, first_after, BrokeFirst, FirstIs}
 use Rattle.osi_judge.proofs.captured.what_was_found_of_a_capture.{fresh_half, is_found, is_stopped}
 use Rattle.osi_judge.proofs.captured.whether_the_sessions_became_too_many.{has_room}
 
@@ -21,16 +13,10 @@ passes_beside : (sent : List Sent) (before : ℕ) (w w2 o o2 : Watched) → Pass
 passes_beside [] before w w2 o o2 h = ap (λ (x : Watched). x.finding) h.1
 passes_beside (t ∷ sent) before w w2 o o2 h = ap (λ (x : Watched). x.finding) h.1
 
-settles_beside : (d : Direction) (since : ℕ) (h : Handshake) (t new : Tapped) (o o2 : Watched) → Settles d since h t new o o2
-    → o2.finding ≡ o.finding
-settles_beside d since h t new o o2 (goes_on r i j) = ap (λ (x : Watched). x.finding) j
-settles_beside d since h t new o o2 (faulty f r i j) = ap (λ (x : Watched). x.finding) j
-settles_beside d since h t new o o2 (whole unit n l p x) = passes_beside _ _ t.side new.side o o2 x.passes
-
 found_beside : (d : Direction) (octets : List ℕ) (now : Handshake) (t new : Tapped) (o o2 : Watched) → Feeds d octets now t new o o2
     → o2.finding ≡ o.finding
 found_beside d octets now t new o o2 (ignored f n i j) = ap (λ (x : Watched). x.finding) j
-found_beside d octets now t new o o2 (looked_at n w h) = settles_beside d _ _ _ new o o2 h
+found_beside d octets now t new o o2 (looked_at n w h) = grind (arith, passes_beside)
 
 pub broken_beside : (d : Direction) (octets : List ℕ) (now : Handshake) (t new u : Tapped) (o2 : Watched)
     → Feeds d octets now t new u.side o2 → has_broken (record u { side = o2 }) ≡ has_broken u
@@ -50,40 +36,21 @@ first_goes_on d c e h = record {
   kept = h.kept;
 }
 
-kept_still : (d : Direction) (old new : Judged) → (has_broken old.left ≡ false) × (has_broken old.right ≡ false) →
-    has_broken (half_of (other d) new) ≡ has_broken (half_of (other d) old) → has_broken (half_of (other d) new) ≡ false
-kept_still Left old new h e = e ∙ h.1
-kept_still Right old new h e = e ∙ h.0
-
-none_broken : (d : Direction) (new : Judged) → has_broken (half_of d new) ≡ false → has_broken (half_of (other d) new) ≡ false →
-    (has_broken new.left ≡ false) × (has_broken new.right ≡ false)
-none_broken Left new a b = (a, b)
-none_broken Right new a b = (b, a)
-
 first_now : (d : Direction) (b : Bool) (old new : Judged) (c : Capture) → b ≡ has_broken (half_of d new) →
     (has_broken old.left ≡ false) × (has_broken old.right ≡ false) → Taps new c
     → has_broken (half_of (other d) new) ≡ has_broken (half_of (other d) old) → FirstIs (first_after None d b) new c
 first_now d true old new c e h t o = (
-  record { by_then = new; front = c; back = []; parts = sym (append-nil c); taps = t; broke = sym e; kept = kept_still d old new h o },
+  record { by_then = new; front = c; back = []; parts = sym (append-nil c); taps = t; broke = sym e; kept = (grind arith) },
   sym e,
 )
-first_now d false old new c e h t o = none_broken d new (sym e) (kept_still d old new h o)
-
--- a side that has broken the protocol has still, be it the one of which octets passed or the other
-still_either : (x d : Direction) (old new : Judged) → (has_broken (half_of d old) ≡ true → has_broken (half_of d new) ≡ true) →
-    has_broken (half_of (other d) new) ≡ has_broken (half_of (other d) old)
-    → has_broken (half_of x old) ≡ true → has_broken (half_of x new) ≡ true
-still_either Left Left old new s o h = s h
-still_either Right Right old new s o h = s h
-still_either Left Right old new s o h = o ∙ h
-still_either Right Left old new s o h = o ∙ h
+first_now d false old new c e h t o = grind arith
 
 first_on : (first : Option Direction) (d : Direction) (old new : Judged) (c e : Capture) → FirstIs first old c → Taps new (c ++ e)
     → (has_broken (half_of d old) ≡ true → has_broken (half_of d new) ≡ true) →
     has_broken (half_of (other d) new) ≡ has_broken (half_of (other d) old)
     → FirstIs (first_after first d (has_broken (half_of d new))) new (c ++ e)
 first_on None d old new c e h t s o = first_now d (has_broken (half_of d new)) old new (c ++ e) refl h t o
-first_on (Some x) d old new c e h t s o = (first_goes_on x c e h.0, still_either x d old new s o h.1)
+first_on (Some x) d old new c e h t s o = (first_goes_on x c e h.0, grind arith)
 
 pub first_stays : (first next : Option Direction) (d : Direction) (old new : Judged) (c e : Capture) →
     next ≡ first_after first d (has_broken (half_of d new)) → FirstIs first old c → Taps new (c ++ e)
@@ -118,9 +85,6 @@ first_told (Some d) j c t (h, still) = record {
   kept = subst (λ (b : Bool). StandsIn (other d) h.front b) h.kept (stands_in (other d) h.front h.by_then h.taps);
 }
 
-nothing_broken : (t : Tapped) (w : Watched) → t ≡ fresh_half w → w.finding ≡ Kept → has_broken t ≡ false
-nothing_broken t w e k = ap has_broken e ∙ ap (λ (f : Finding). broke_session f || breaks (stopped_of (fresh_half w))) k
-
 pub first_begins : (j : Judged) (l r : Watched) → j.left ≡ fresh_half l → j.right ≡ fresh_half r → l.finding ≡ Kept → r.finding ≡ Kept →
     FirstIs None j []
-first_begins j l r e f k h = (nothing_broken j.left l e k, nothing_broken j.right r f h)
+first_begins j l r e f k h = (grind (arith, fresh_half), grind (arith, fresh_half))

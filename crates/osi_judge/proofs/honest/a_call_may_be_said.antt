@@ -1,34 +1,18 @@
 -- What an accepted call sends may be sent: an observer takes it for that call, and arrives at the state that the call
 -- leaves.
 -- For the law that an honest session is explained.
-use Rattle.std.proofs.Common.{◌≡◌, ◌∙◌, refl, sym, ap, subst, ℕ, ◌-◌, ◌==◌, Bool, true, not, ◌&&◌, ◌||◌, if◌then◌else◌, nat_le, List, []}
-use Rattle.std.proofs.Common.{◌∷◌, length, Some, None, unwrap_or, Ok, arith}
-use Rattle.std.proofs.lemmas.Bool.{and_from, and_parts, eq-eqb}
-use Rattle.osi_spdu.specs.declared.fields.TsduMaximumSize.{TsduMaximumSize}
-use Rattle.osi_spdu.specs.declared.settings.Side.{Side}
-use Rattle.osi_spdu.specs.declared.settings.TokenSetting.{TokenSetting}
-use Rattle.osi_spdu.specs.declared.settings.Wish.{Wish}
-use Rattle.osi_spdu.specs.Fields.{wish_of}
-use Rattle.osi_spdu.specs.Sizes.{are_sizes}
-use Rattle.osi_message.specs.Tokens.{data_token, major, minor, release}
-use Rattle.osi_session.specs.declared.phases.Phase.TheVariants.{Ready, Restarting}
-use Rattle.osi_session.specs.declared.selected.FunctionalUnits.{FunctionalUnits}
-use Rattle.osi_session.specs.declared.sides.Sides.{Sides}
-use Rattle.osi_session.specs.declared.state.State.{State}
-use Rattle.osi_session.specs.Allowed.{AllHold, Answer, Test, after, base_for, first_error, may_call, met, most_of, needs, octets_of}
-use Rattle.osi_session.specs.Allowed.{opened_with, sends, serial_for}
-use Rattle.osi_session.specs.Calls.{Accept, Call, HasSerial, Refusal, Refuse, Restart, RestartConfirm, refusal_octets, refusal_with}
-use Rattle.osi_session.specs.Numbers.{restarted_at}
-use Rattle.osi_session.specs.Phases.{is_answering}
-use Rattle.osi_session.specs.Sides.{allows, answers_wishes, of_answerer, offered, offered_wish, setting_of, settle, settled, stated}
-use Rattle.osi_session.specs.Sides.{stated_side}
-use Rattle.osi_session.specs.Sizes.{answered_sizes}
-use Rattle.osi_session.specs.Sound.{IsSound}
-use Rattle.osi_session.specs.State.{without_tokens}
-use Rattle.osi_session.specs.Standing.{accepting_in, calling, fits_user_data, said_message, where_is}
-use Rattle.osi_session.specs.Units.{both_units, functional_units, has_data, has_points, is_profile, units_within}
-use Rattle.osi_session.proofs.values.units_are_those_of_a_profile.{profile_of}
-use Rattle.osi_session.proofs.values.what_sizes_are_agreed.{answered_are, sizes_agreed}
+use Rattle.osi_judge.proofs.Vocabulary.{◌≡◌, ◌∙◌, refl, sym, ap, subst, ℕ, ◌-◌, ◌==◌, Bool, true, not, if◌then◌else◌, nat_le, List, [], ◌∷◌}
+use Rattle.osi_judge.proofs.Vocabulary.{length, Some, None, unwrap_or, Ok, arith, and_from, and_parts, eq-eqb, TsduMaximumSize, Side}
+use Rattle.osi_judge.proofs.Vocabulary.{TokenSetting, Wish, wish_of, are_sizes, Ready, Restarting, FunctionalUnits, Sides, State, AllHold}
+use Rattle.osi_judge.proofs.Vocabulary.{Answer, Test, after, base_for, first_error, may_call, most_of, needs, opened_with, serial_for, Call}
+use Rattle.osi_judge.proofs.Vocabulary.{HasSerial, Refusal, Refuse, Restart, RestartConfirm, refusal_octets, refusal_with, restarted_at}
+use Rattle.osi_judge.proofs.Vocabulary.{is_answering, allows, of_answerer, setting_of, settled, stated_side, answered_sizes, IsSound}
+use Rattle.osi_judge.proofs.Vocabulary.{without_tokens, accepting_in, calling, fits_user_data, said_message, where_is, profile_of}
+use Rattle.osi_judge.proofs.Vocabulary.{answered_are, sizes_agreed}
+use Rattle.osi_session.specs.Allowed.{met, octets_of}
+use Rattle.osi_session.specs.Allowed.{sends}
+use Rattle.osi_session.specs.Sides.{answers_wishes, offered, settle, stated}
+use Rattle.osi_session.specs.Units.{both_units, has_data, units_within}
 
 -- ---- the side that is settled for each token
 
@@ -36,32 +20,20 @@ use Rattle.osi_session.proofs.values.what_sizes_are_agreed.{answered_are, sizes_
 named_again : (b : Bool) (w : Wish) (s : Side) → stated_side b (wish_of (settled b w s)) ≡ settled b w s
 named_again b w s = grind arith
 
-settled_again : (b : Bool) (w : Wish) (s : Side) → settled b w (settled b w s) ≡ settled b w s
-settled_again b w s = grind arith
-
 one_allowed : (b : Bool) (w : Wish) (s : Side) → allows b w (wish_of (settled b w s)) ≡ true
 one_allowed b w s = grind arith
 
-offered_again : (b : Bool) (w : Wish) → offered_wish b (offered_wish b w) ≡ offered_wish b w
-offered_again b w = grind arith
-
-same_sides : (a b : Sides) → a.data_token ≡ b.data_token → a.minor ≡ b.minor → a.major ≡ b.major → a.release ≡ b.release → a ≡ b
-same_sides a b d n j r = λ i. record { data_token = d i; minor = n i; major = j i; release = r i }
-
-same_setting : (a b : TokenSetting) → a.data_token ≡ b.data_token → a.minor ≡ b.minor → a.major ≡ b.major → a.release ≡ b.release → a ≡ b
-same_setting a b d n j r = λ i. record { data_token = d i; minor = n i; major = j i; release = r i }
-
 stated_again : (u : FunctionalUnits) (w : TokenSetting) (a : Sides) → stated u (setting_of (settle u w a)) ≡ settle u w a
 unfolding stated settle
-stated_again u w a = grind (arith, same_sides, named_again)
+stated_again u w a = grind (arith, named_again)
 
 settle_again : (u : FunctionalUnits) (w : TokenSetting) (a : Sides) → settle u w (settle u w a) ≡ settle u w a
 unfolding settle
-settle_again u w a = grind (arith, same_sides, settled_again)
+settle_again u w a = search arith
 
 offer_again : (u : FunctionalUnits) (w : TokenSetting) → offered u (offered u w) ≡ offered u w
 unfolding offered
-offer_again u w = grind (arith, same_setting, offered_again)
+offer_again u w = grind arith
 
 settled_answers : (u : FunctionalUnits) (w : TokenSetting) (a : Sides) → answers_wishes u w (setting_of (settle u w a)) ≡ true
 unfolding answers_wishes settle
@@ -69,12 +41,9 @@ settled_answers u w a = grind (arith, one_allowed)
 
 -- ---- what an AC selects
 
-part_both : (a b : Bool) → (not a || b) ≡ true → (b && a) ≡ a
-part_both a b h = grind arith
-
 within_both : (a b : FunctionalUnits) → units_within a b ≡ true → both_units b a ≡ a
 unfolding units_within both_units
-within_both a b h = search (arith, and_parts, part_both)
+within_both a b h = search (arith, and_parts)
 
 profile_data : (u : FunctionalUnits) → u.duplex ≡ not u.half_duplex → has_data u ≡ true
 unfolding has_data
@@ -100,9 +69,6 @@ where_calling : (b : Bool) (s : State) (c : Call) → b ≡ true → may_call s.
     → where_is b (calling s c) ≡ Some (after s c)
 where_calling b s c e p z h = rw e (calling_is s c p z h)
 
-refused_octets : (r : Refusal) → refusal_octets (refusal_with (refusal_octets r)) ≡ refusal_octets r
-refused_octets r = grind arith
-
 -- ---- each message
 
 accepted_in : (u : FunctionalUnits) (s : State) (serial : ℕ) (sides : Sides) (sizes : TsduMaximumSize) (octets : List ℕ) →
@@ -112,24 +78,7 @@ accepted_in : (u : FunctionalUnits) (s : State) (serial : ℕ) (sides : Sides) (
     ≡ Some (opened_with u (of_answerer u (settle u s.wishes sides)) (base_for u serial) (answered_sizes s.sizes sizes) s)
 accepted_in u s serial sides sizes octets p z d k =
     let a = settled_answers u s.wishes sides in
-    let st = stated_again u s.wishes sides in
-    let first = same_first (has_points u) serial s.proposed in
-    let agreed = sizes_agreed s.sizes sizes in
-    rw (p, z, d, k, a) (λ i. Some (opened_with u (of_answerer u (st i)) (first i) (agreed i) s))
-
-accept_said : (s : State) (requirements serial : ℕ) (sides : Sides) (sizes : TsduMaximumSize) (octets : List ℕ) →
-    is_answering s.phase ≡ true → fits_user_data octets ≡ true
-    → (units_within (functional_units requirements) s.units && is_profile requirements) ≡ true →
-    are_sizes (answered_sizes s.sizes sizes) ≡ true
-    → said_message s (sends s (Accept requirements serial sides sizes octets)) ≡ Some
-    (after s (Accept requirements serial sides sizes octets))
-accept_said s requirements serial sides sizes octets p z h k =
-    let u = functional_units requirements in
-    let both = and_parts (units_within u s.units) (is_profile requirements) h in
-    subst (λ (v : FunctionalUnits). accepting_in v s true (serial_for u serial) (setting_of (settle u s.wishes sides))
-    (answered_sizes s.sizes sizes) octets ≡ Some (after s (Accept requirements serial sides sizes octets)))
-    (sym (within_both u s.units both.0))
-    (accepted_in u s serial sides sizes octets p z (profile_data u (profile_of requirements both.1).duplex) k)
+    grind (arith, stated_again, same_first, sizes_agreed)
 
 restart_said : (s : State) (n : ℕ) (wishes : TokenSetting) (octets : List ℕ) → may_call s.phase (Restart n wishes octets) ≡ true →
     fits_user_data octets ≡ true
@@ -154,7 +103,7 @@ confirm_said s sides octets p z =
 refuse_said : (s : State) (r : Refusal) → is_answering s.phase ≡ true → fits_user_data (refusal_octets r) ≡ true →
     said_message s (sends s (Refuse r)) ≡ Some (after s (Refuse r))
 refuse_said s r p z =
-    calling_is s (Refuse (refusal_with (refusal_octets r))) p (subst (λ (o : List ℕ). fits_user_data o ≡ true) (sym (refused_octets r)) z)
+    calling_is s (Refuse (refusal_with (refusal_octets r))) p (subst (λ (o : List ℕ). fits_user_data o ≡ true) (sym (grind arith)) z)
     tt
 
 -- a message that an accepted call sends
@@ -162,4 +111,17 @@ pub message_said : (s : State) (c : Call) → IsSound s → HasSerial c → may_
     nat_le (length (octets_of c)) (most_of c) ≡ true
     → said_message s (sends s c) ≡ Some (after s c)
 message_said s c sound small p h z =
-    grind (arith, accept_said, answered_are, refuse_said, where_calling, eq-eqb, restart_said, confirm_said)
+    grind (
+      arith,
+      and_parts,
+      within_both,
+      accepted_in,
+      profile_data,
+      profile_of,
+      answered_are,
+      refuse_said,
+      where_calling,
+      eq-eqb,
+      restart_said,
+      confirm_said,
+    )

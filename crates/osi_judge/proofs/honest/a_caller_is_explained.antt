@@ -1,46 +1,25 @@
 -- A caller, from before its transport connection is open, is explained; and so is a prefix of whatever is explained.
 -- For the law that an honest session is explained.
-use Rattle.std.proofs.Common.{◌≡◌, ◌∙◌, refl, sym, ap, subst, ℕ, ◌+◌, ◌<◌, Bool, true, false, if◌then◌else◌, nat_le, List, [], ◌∷◌, ◌++◌}
-use Rattle.std.proofs.Common.{length, Some, None, unwrap_or, Ok, Err, arith}
-use Rattle.std.proofs.lemmas.Bool.{leb-true}
-use Rattle.std.proofs.lemmas.List.{append_assoc}
-use Rattle.osi_message.specs.Parting.{tsdus_of}
-use Rattle.osi_message.specs.Sendable.{IsSendable, words_of}
-use Rattle.osi_message.specs.Words.{says}
-use Rattle.osi_message.specs.Written.{is_second, written}
-use Rattle.osi_session.specs.declared.faults.CallError.{CallError}
-use Rattle.osi_session.specs.declared.opening.Opening.{Opening}
-use Rattle.osi_session.specs.declared.phases.Phase.{Phase}
-use Rattle.osi_session.specs.Allowed.{Answer, allowed, most_user_data}
-use Rattle.osi_session.specs.Calls.{Call}
-use Rattle.osi_session.specs.Listening.{Listener, Move, after_input, begun, called, opened, react, refused}
-use Rattle.osi_session.specs.Openings.{asked_for}
-use Rattle.osi_session.specs.Phases.{is_ended, is_over, is_wait_transport}
-use Rattle.osi_session.specs.Sessions.{asking, awaits, opens, refusal_of}
-use Rattle.osi_session.specs.Sound.{IsSound}
-use Rattle.osi_session.specs.Standing.{Seen, CanSay, after_count, said, seen_called, seen_calling}
-use Rattle.osi_session.proofs.tsdu.the_answer_to_a_tsdu.{accepted_callable}
-use Rattle.osi_session.proofs.moves.the_move_of_each_input.{of_opened, of_refused}
-use Rattle.osi_session.proofs.tables.what_is_true_of_each_phase.{implied}
-use Rattle.osi_session.proofs.runs.what_every_run_preserves.{asking_fresh, awaiting_fresh, fresh_sound, lost_ended}
-use Rattle.osi_session.proofs.sent.what_is_sent_can_be_written.{asked_sendable}
-use Rattle.osi_session.proofs.values.what_sizes_are_agreed.{user_sizes}
-use Rattle.osi_judge.specs.Explaining.{Explains, Remark, Told, remarks}
+use Rattle.osi_judge.proofs.Vocabulary.{◌≡◌, ◌∙◌, refl, sym, ap, subst, ℕ, ◌+◌, ◌<◌, Bool, true, false, nat_le, List, [], ◌∷◌, ◌++◌, length}
+use Rattle.osi_judge.proofs.Vocabulary.{None, Ok, Err, arith, leb-true, append_assoc, tsdus_of, says, CallError, Opening, Phase, Answer}
+use Rattle.osi_judge.proofs.Vocabulary.{allowed, most_user_data, Call, Listener, opened, react, asked_for, is_ended, is_over, awaits, opens}
+use Rattle.osi_judge.proofs.Vocabulary.{refusal_of, IsSound, Seen, CanSay, after_count, seen_called, seen_calling, accepted_callable}
+use Rattle.osi_judge.proofs.Vocabulary.{of_opened, of_refused, implied, asking_fresh, awaiting_fresh, fresh_sound, lost_ended}
+use Rattle.osi_judge.proofs.Vocabulary.{asked_sendable, user_sizes, Explains, Remark, Told, remarks, IsSentFrom, Runs, call_is}
+use Rattle.osi_message.specs.Written.{is_second}
+use Rattle.osi_session.specs.Listening.{begun}
+use Rattle.osi_session.specs.Sessions.{asking}
+use Rattle.osi_session.specs.Standing.{said}
 use Rattle.osi_judge.specs.Explaining as explained
-use Rattle.osi_judge.specs.Running.{IsSentFrom, Runs, sends}
 use Rattle.osi_judge.specs.Running as running
 use Rattle.osi_judge.proofs.honest.a_call_is_explained.{AsSent}
-use Rattle.osi_judge.proofs.honest.a_run_is_explained.{err_sends, err_stays, none_explained, nothing_passes, run_explained, seen_of}
-use Rattle.osi_judge.proofs.honest.a_run_is_explained.{sends_no_more}
+use Rattle.osi_judge.proofs.honest.a_run_is_explained.{err_sends, none_explained, nothing_passes, run_explained, seen_of, sends_no_more}
 use Rattle.osi_judge.proofs.honest.what_is_said_is_explained.{SaysTsdus, says_message, tsdus_explained}
 
 -- ---- the CN
 
 pub fits : (o : Opening) → refusal_of o ≡ None → nat_le (length o.user_data.now) most_user_data ≡ true
 fits o e = grind arith
-
-first_number : (b : Bool) (n : ℕ) → unwrap_or (if b then Some n else None) 0 ≡ (if b then n else 0)
-first_number b n = grind arith
 
 -- the caller once its transport connection is open
 abbrev pub connecting : Opening → Listener
@@ -49,10 +28,7 @@ connecting o = (begun (opens o)).next
 asked_said : (o : Opening) (n : ℕ) → nat_le (length o.user_data.now) most_user_data ≡ true →
     CanSay seen_calling (says (asked_for o)) n (seen_of false (connecting o))
 unfolding said
-asked_said o n z = grind (arith, user_sizes, first_number, seen_of)
-
-pub sendable : (o : Opening) → nat_le (length o.user_data.now) most_user_data ≡ true → IsSendable (asked_for o)
-sendable o z = let few = leb-true (length o.user_data.now) most_user_data z in asked_sendable o (omega arith)
+asked_said o n z = grind (arith, user_sizes, seen_of)
 
 asked_alone : (o : Opening) → is_second (asked_for o) ≡ true → ⊥
 unfolding is_second
@@ -62,14 +38,7 @@ cn_said : AsSent → (o : Opening) (limit : ℕ) → nat_le (length o.user_data.
     SaysTsdus seen_calling (tsdus_of limit (asked_for o)) (seen_of false (connecting o))
 cn_said known o limit z =
     let m = asked_for o in
-    let n = length (written m) in
-    subst (λ (os : List (List ℕ)). SaysTsdus seen_calling os (seen_of false (connecting o))) (sym (known.whole limit m refl)) (
-      words_of m,
-      seen_of false (connecting o),
-      known.message m (sendable o z),
-      says_message seen_calling (seen_of false (connecting o)) m n (asked_said o n z) (λ e. absurd (asked_alone o e)),
-      refl,
-    )
+    grind (arith, seen_of, leb-true, asked_sendable, says_message, asked_said, asked_alone)
 
 -- ---- any run of a caller
 
@@ -87,10 +56,6 @@ as_opened l o e = ap (λ (x : Listener). react x opened) e ∙ of_opened (opens 
 pub over_by : (p : Phase) → is_ended p ≡ true → is_over p ≡ true
 over_by p h = implied is_ended is_over refl p h
 
-pub missed_ended : (l : Listener) (reason : ℕ) → is_wait_transport l.state.phase ≡ true →
-    is_over (after_input l (refused reason)).state.phase ≡ true
-missed_ended l reason w = subst (λ (m : Move). is_over m.next.state.phase ≡ true) (sym (of_refused l reason w)) refl
-
 caller_run : AsSent → (us : List (List ℕ)) (o : Opening) (closed : Bool) (l : Listener) (taken : ℕ) (told : List Told) →
     Runs us closed l taken told → nat_le (length o.user_data.now) most_user_data ≡ true
     → closed ≡ false → l ≡ opens o → Explains us (remarks told) taken seen_calling
@@ -98,14 +63,11 @@ caller_run known us o closed l taken told (running.rests _ _ _) z f e = explaine
 caller_run known us o closed l taken told (running.takes _ _ now later w p r) z f e = grind arith
 caller_run known us o closed l taken told (running.calls _ _ _ c now later small p r) z f e =
     let none = refuses_all o c (allowed (asking o) c) refl in
-    let err : allowed l.state c ≡ Err none.0 = ap (λ (x : Listener). allowed x.state c) e ∙ none.1 in
-    subst (λ (x : List Told). Explains us (remarks (x ++ later)) taken seen_calling)
-    (sym (nothing_passes taken (sends l (called c)) now (err_sends l c none.0 err) p))
-    (caller_run known us o _ _ taken later r z f (err_stays l c none.0 err ∙ e))
+    grind (arith, nothing_passes, err_sends, call_is, caller_run known us o _ _ taken later r z f ((grind (arith, call_is)) ∙ e))
 caller_run known us o closed l taken told (running.connects _ _ now later p r) z f e =
     grind (arith, as_opened, tsdus_explained, cn_said, run_explained)
 caller_run known us o closed l taken told (running.misses _ _ reason _ w r) z f e =
-    none_explained us told taken seen_calling (sends_no_more us _ _ taken told r refl (missed_ended l reason w))
+    none_explained us told taken seen_calling (sends_no_more us _ _ taken told r refl (grind (arith, of_refused)))
 caller_run known us o closed l taken told (running.loses _ _ _ r) z f e = grind (arith, none_explained, sends_no_more, over_by, lost_ended)
 
 -- ---- a prefix of what is explained
@@ -119,9 +81,6 @@ EachFront us all taken s = (front back : List Remark) → all ≡ front ++ back 
 
 cons_head : (m n : Remark) (ms ns : List Remark) → m ∷ ms ≡ n ∷ ns → n ≡ m
 cons_head m n ms ns e = cc
-
-cons_tail : (m n : Remark) (ms ns : List Remark) → m ∷ ms ≡ n ∷ ns → ms ≡ ns
-cons_tail m n ms ns e = cc
 
 front_explained : (us : List (List ℕ)) (all : List Remark) (taken : ℕ) (s : Seen) → Explains us all taken s → EachFront us all taken s
 front_explained us all taken s (explained.done _ _) = λ front back e. only front back e
@@ -146,7 +105,7 @@ front_explained us all taken s (explained.answers m ms _ _ c reply w b l t r d a
     by (k ∷ front) back e h =
         let same = sym (cons_head m k ms (front ++ back) e) in
         subst (λ (y : Remark). Explains us (y ∷ front) taken s) same
-        (explained.answers m front taken s c reply w b l t r d a (h front back (cons_tail m k ms (front ++ back) e)))
+        (explained.answers m front taken s c reply w b l t r d a (h front back (grind arith)))
 front_explained us all taken s (explained.says m ms _ _ next w d a x) = λ front back e. by front back e (front_explained us ms taken next x)
   where
     by : (front back : List Remark) → m ∷ ms ≡ front ++ back → EachFront us ms taken next → Explains us front taken s
@@ -154,7 +113,7 @@ front_explained us all taken s (explained.says m ms _ _ next w d a x) = λ front
     by (k ∷ front) back e h =
         let same = sym (cons_head m k ms (front ++ back) e) in
         subst (λ (y : Remark). Explains us (y ∷ front) taken s) same
-        (explained.says m front taken s next w d a (h front back (cons_tail m k ms (front ++ back) e)))
+        (explained.says m front taken s next w d a (h front back (grind arith)))
 
 pub front_told : (us : List (List ℕ)) (told later : List Told) (s : Seen) → Explains us (remarks (told ++ later)) 0 s →
     Explains us (remarks told) 0 s

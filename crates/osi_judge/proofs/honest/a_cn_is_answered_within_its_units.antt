@@ -1,43 +1,20 @@
 -- An honest side never selects what the profile leaves out: its AC names units of the CN, and units that may be selected together.
 -- For the law that an honest side is not blamed.
-use Rattle.std.proofs.Common.{◌≡◌, refl, sym, subst, ℕ, ◌+◌, ◌⊎◌, inl, inr, Bool, true, false, not, ◌&&◌, ◌||◌, if◌then◌else◌, is_none}
-use Rattle.std.proofs.Common.{List, [], ◌∷◌, get_or, Option, Some, None, unwrap_or, Result, Ok, Err, arith}
-use Rattle.std.specs.Int.RustNames.{bit_and}
-use Rattle.std.specs.List.{AllByRecursion, list_any}
-use Rattle.std.proofs.lemmas.Bool.{and_from, and_parts, cases_Bool, eq-eqb, eqb-true}
-use Rattle.std.proofs.lemmas.Nat.{and_assoc}
-use Rattle.osi_spdu.specs.declared.faults.SpduFault.{SpduFault}
-use Rattle.osi_spdu.specs.declared.fields.TsduMaximumSize.{TsduMaximumSize}
-use Rattle.osi_spdu.specs.declared.kinds.Category.TheVariants.{Zero, Two}
-use Rattle.osi_spdu.specs.declared.kinds.Kind.{Kind}
-use Rattle.osi_spdu.specs.declared.settings.TokenSetting.{TokenSetting}
+use Rattle.osi_judge.proofs.Vocabulary.{◌≡◌, refl, sym, subst, ℕ, ◌+◌, ◌⊎◌, inl, inr, Bool, true, false, not, ◌&&◌, ◌||◌, is_none, List, []}
+use Rattle.osi_judge.proofs.Vocabulary.{◌∷◌, get_or, Option, Some, None, unwrap_or, Result, Ok, Err, arith, bit_and, AllByRecursion}
+use Rattle.osi_judge.proofs.Vocabulary.{list_any, and_from, and_parts, cases_Bool, eq-eqb, eqb-true, and_assoc, SpduFault, TsduMaximumSize}
+use Rattle.osi_judge.proofs.Vocabulary.{Zero, Two, Kind, TokenSetting, Meaning, CN, meaning_by, said_at, Word, Words, says, Answering}
+use Rattle.osi_judge.proofs.Vocabulary.{RestartDue, FunctionalUnits, State, Call, unit_asks, Hearing, Taker, respond_word, Listener}
+use Rattle.osi_judge.proofs.Vocabulary.{after_input, called, came, came_as, taker_of, restarted_at, is_answering, is_over, is_restarting}
+use Rattle.osi_judge.proofs.Vocabulary.{is_wait_cn, fine, respond_unit, without_tokens, functional_units, StandsAlone, alone_in_octets}
+use Rattle.osi_judge.proofs.Vocabulary.{passes, stands_alone, passed, excluded, call_cases, fault_cases, taken_cases, unit_cases}
+use Rattle.osi_judge.proofs.Vocabulary.{any_tsdu_keeps, tsdu_keeps, word_keeps, word_alone, word_at, in_first, offered_in}
 use Rattle.osi_spdu.specs.Kinds.{category_of}
 use Rattle.osi_spdu.specs.Known.{Known}
-use Rattle.osi_message.specs.Meanings.{Meaning, CN}
-use Rattle.osi_message.specs.Reading.{meaning_by, names, said_at}
-use Rattle.osi_message.specs.Words.{Word, Words, says}
-use Rattle.osi_session.specs.declared.phases.Phase.{Phase}
-use Rattle.osi_session.specs.declared.phases.Phase.TheVariants.{Answering, Ended, RestartDue}
-use Rattle.osi_session.specs.declared.selected.FunctionalUnits.{FunctionalUnits}
-use Rattle.osi_session.specs.declared.state.State.{State}
-use Rattle.osi_session.specs.Allowed.{Step, after}
-use Rattle.osi_session.specs.Calls.{Call}
-use Rattle.osi_session.specs.Causes.{unit_asks}
-use Rattle.osi_session.specs.Joining.{Hearing, Taker, respond_word}
-use Rattle.osi_session.specs.Listening.{Listener, after_input, called, came, came_as, react, taker_of, unread}
+use Rattle.osi_session.specs.Listening.{react, unread}
 use Rattle.osi_session.specs.Listening as listening
-use Rattle.osi_session.specs.Numbers.{restarted_at}
-use Rattle.osi_session.specs.Phases.{is_answering, is_over, is_restarting, is_wait_cn}
-use Rattle.osi_session.specs.Respond.{becomes, fine, is_acceptable, is_expected, respond_unit}
-use Rattle.osi_session.specs.State.{without_tokens}
-use Rattle.osi_session.specs.Units.{functional_units, is_profile, units_within}
-use Rattle.osi_session.proofs.tables.units_that_are_alone.{StandsAlone, alone_in_octets, passes, stands_alone}
-use Rattle.osi_session.proofs.tables.what_an_accepted_call_has_passed.{passed}
-use Rattle.osi_session.proofs.tables.what_is_true_of_each_phase.{excluded}
-use Rattle.osi_session.proofs.tables.the_outcomes_of_each_input.{call_cases, fault_cases, taken_cases, unit_cases}
-use Rattle.osi_session.proofs.tables.a_word_acts_as_its_message.{ActsAs, any_tsdu_keeps, tsdu_keeps, word_keeps}
-use Rattle.osi_session.proofs.tables.messages_act_as_the_table_says.{word_alone, word_at}
-use Rattle.osi_judge.specs.Profiles.{in_first, offered_in}
+use Rattle.osi_session.specs.Respond.{becomes}
+use Rattle.osi_session.specs.Units.{is_profile, units_within}
 
 -- ---- units that may be selected together stay so when another side names them too
 
@@ -52,17 +29,10 @@ within_duplex : (a b : FunctionalUnits) → units_within a b ≡ true → a.dupl
 unfolding units_within
 within_duplex a b h e = half_named a.duplex b.duplex _ (and_parts (not a.half_duplex || b.half_duplex) _ h).1 e
 
-only_two : (offered : ℕ) → names offered 2 ≡ true → is_profile (bit_and offered 2) ≡ true
-unfolding is_profile
-only_two offered n = let e = eqb-true (bit_and offered 2) 2 n in rw e refl
-
-or_right : (a b : Bool) → b ≡ true → (a || b) ≡ true
-or_right a b e = grind arith
-
 both_half : (offered accepted : ℕ) → bit_and accepted 185 ≡ accepted → bit_and accepted 1 ≡ 1 → bit_and offered 1 ≡ 1 →
     is_profile (bit_and offered accepted) ≡ true
 unfolding is_profile
-both_half offered accepted h k n = grind (arith, and_assoc, or_right, and_from, eq-eqb)
+both_half offered accepted h k n = grind (arith, and_assoc, and_from, eq-eqb)
 
 profile_cases : (bits : ℕ) → is_profile bits ≡ true → (bits ≡ 2) ⊎ ((bit_and bits 185 ≡ bits) × (bit_and bits 1 ≡ 1))
 unfolding is_profile
@@ -71,12 +41,8 @@ profile_cases bits h = grind (arith, eqb-true, and_parts)
 pub selected_inside : (offered accepted : ℕ) → is_profile accepted ≡ true →
     units_within (functional_units accepted) (functional_units offered) ≡ true → is_profile (bit_and offered accepted) ≡ true
 selected_inside offered accepted p w = elim (profile_cases accepted p) [
-  | inl e ↦ (let two : names accepted 2 ≡ true = subst (λ (n : ℕ). names n 2 ≡ true) (sym e) refl in
-      subst (λ (n : ℕ). is_profile (bit_and offered n) ≡ true) (sym e)
-      (only_two offered (within_duplex (functional_units accepted) (functional_units offered) w two)))
-  | inr h ↦ (let one : names accepted 1 ≡ true = eq-eqb (bit_and accepted 1) 1 h.1 in
-      both_half offered accepted h.0 h.1
-      (eqb-true (bit_and offered 1) 1 (within_half (functional_units accepted) (functional_units offered) w one)))
+  | inl e ↦ grind (arith, eqb-true, within_duplex)
+  | inr h ↦ grind (arith, eq-eqb, both_half, eqb-true, within_half)
 ]
 
 -- ---- the units of the CN that is answered
@@ -118,29 +84,17 @@ word_waits W t w h = word_keeps (Waits W) t w (λ u a. unit_waits W t.state u h)
 unit_answers : (first : Option ℕ) (s : State) (u : Meaning) → unit_asks u ≡ false → Answers first s → Answers first (respond_unit s u).next
 unit_answers first s u n h =
     unit_cases (Answers first) s u
-    (record {
-      same = h;
-      ended = λ a. λ k. absurd (cc);
-      bad = λ a e. λ k. absurd (cc);
-      good = λ a e x met. becomes_answers first s u n h;
-    })
-
-same_test : (w : Word) (u : Meaning) → ActsAs w u → passes unit_asks w ≡ false → unit_asks u ≡ false
-same_test w u a n = grind arith
+    (grind (arith, becomes_answers))
 
 word_answers : (first : Option ℕ) (t : Taker) (w : Word) → passes unit_asks w ≡ false → Answers first t.state →
     Answers first (respond_word t w).next.state
-word_answers first t w n h = word_keeps (Answers first) t w (λ u a. unit_answers first t.state u (same_test w u a n) h)
+word_answers first t w n h = word_keeps (Answers first) t w (λ u a. unit_answers first t.state u (grind arith) h)
     (λ o. λ k. absurd (cc)) h
 
 -- ---- a CN, while one is awaited
 
 or_true : (b : Bool) → (b || true) ≡ true
 or_true b = grind arith
-
-either_left : (b : Bool) (x y : State) → is_wait_cn x.phase ≡ false → is_wait_cn y.phase ≡ false →
-    is_wait_cn (if b then x else y).phase ≡ false
-either_left b x y h k = grind arith
 
 cn_leaves : (t : Taker) (u : Meaning) → unit_asks u ≡ true → is_wait_cn t.state.phase ≡ true →
     is_wait_cn (respond_word t (says u)).next.state.phase ≡ false
@@ -150,32 +104,20 @@ cn_leaves t (CN version_2 requirements serial wishes from to sizes octets) a w =
     let e = or_true (is_none t.joined) in
     subst (λ (h : Hearing). is_wait_cn h.next.state.phase ≡ false)
     (sym (word_at t (says (CN version_2 requirements serial wishes from to sizes octets)) fine (rw (o, r, w, e) refl)))
-    (either_left (is_acceptable version_2 requirements sizes) (requested t.state requirements serial wishes sizes)
-    (without_tokens Ended t.state) refl refl)
+    (grind arith)
 cn_leaves t _ a w = absurd (cc)
 
 -- the first TSDU is no CN, or it is this one
 abbrev IsAsked : Option ℕ → Meaning → Type 0
 IsAsked first u = (first ≡ None) ⊎ (first ≡ offered_in u)
 
-asked_units : (first : Option ℕ) (offered : ℕ) → ((first ≡ None) ⊎ (first ≡ Some offered)) → IsUnits first (functional_units offered)
-asked_units first offered h = grind arith
-
 cn_becomes : (first : Option ℕ) (s : State) (u : Meaning) → unit_asks u ≡ true → IsAsked first u → Answers first (becomes s u)
-cn_becomes first s (CN version_2 requirements serial wishes from to sizes octets) a i = grind (arith, asked_units)
+cn_becomes first s (CN version_2 requirements serial wishes from to sizes octets) a i = grind arith
 cn_becomes first s _ a i = absurd (cc)
-
-cn_expected : (u : Meaning) (p : Phase) → unit_asks u ≡ true → is_expected p u ≡ true → is_wait_cn p ≡ true
-cn_expected u p a x = grind arith
 
 cn_unit : (first : Option ℕ) (s : State) (u : Meaning) → unit_asks u ≡ true → (is_wait_cn s.phase ≡ true → IsAsked first u) →
     Answers first s → Answers first (respond_unit s u).next
-cn_unit first s u n i h = unit_cases (Answers first) s u (record {
-  same = h;
-  ended = λ a. λ k. absurd (cc);
-  bad = λ a e. λ k. absurd (cc);
-  good = λ a e x met. cn_becomes first s u n (i (cn_expected u s.phase n x));
-})
+cn_unit first s u n i h = unit_cases (Answers first) s u (grind (arith, cn_becomes))
 
 cn_answers : (first : Option ℕ) (t : Taker) (u : Meaning) → unit_asks u ≡ true → (is_wait_cn t.state.phase ≡ true → IsAsked first u) →
     Answers first t.state
@@ -206,9 +148,6 @@ not_offered m n = grind arith
 left_false : (a b : Bool) → (a || b) ≡ false → (a ≡ false) × (b ≡ false)
 left_false a b e = grind arith
 
-none_offered : (words : Words) → list_any (passes unit_asks) words ≡ false → in_first offered_in (Ok words) ≡ None
-none_offered words n = grind (arith, not_offered, left_false, passes)
-
 all_none : (words : Words) → list_any (passes unit_asks) words ≡ false → AllByRecursion (λ w. passes unit_asks w ≡ false) words
 all_none [] n = tt
 all_none (w ∷ words) n = let p = left_false (passes unit_asks w) (list_any (passes unit_asks) words) n in (p.0, all_none words p.1)
@@ -238,7 +177,7 @@ no_cn_step us l taken words e n h = record {
   waits = taken_cases (Waits ((taken + 1 ≡ 0) ⊎ (first_asked us ≡ None))) l words
       (any_tsdu_keeps (Waits ((taken + 1 ≡ 0) ⊎ (first_asked us ≡ None))) (taker_of l) words
       (word_waits ((taken + 1 ≡ 0) ⊎ (first_asked us ≡ None)))
-      (λ k. still_none us taken (Ok words) e (none_offered words n) (h.waits k)));
+      (λ k. still_none us taken (Ok words) e (grind (arith, not_offered, left_false, passes)) (h.waits k)));
   answers = taken_cases (Answers (first_asked us)) l words
       (tsdu_keeps (Answers (first_asked us)) (λ w. passes unit_asks w ≡ false) (taker_of l) words
       (λ r w q k. word_answers (first_asked us) r w q k) (all_none words n) h.answers);
@@ -272,16 +211,9 @@ fault_step us l taken fault e h = record {
   answers = fault_cases (Answers (first_asked us)) l fault h.answers (λ o. λ k. absurd (cc));
 }
 
-words_step : (us : List (List ℕ)) (l : Listener) (taken : ℕ) (words : Words) (b : Bool) → list_any (passes unit_asks) words ≡ b →
-    Ok words ≡ said_at (get_or us taken []) → AsAsked us taken l.state
-    → AsAsked us (taken + 1) (after_input l (listening.taken words)).state
-words_step us l taken words false n e h = no_cn_step us l taken words e n h
-words_step us l taken words true n e h =
-    cn_step us l taken words e (one_cn words (alone_in_octets unit_asks asks_alone (get_or us taken []) words (sym e)) n) h
-
 read_step : (us : List (List ℕ)) (l : Listener) (taken : ℕ) (read : Result Words SpduFault) → read ≡ said_at (get_or us taken []) →
     AsAsked us taken l.state → AsAsked us (taken + 1) (after_input l (came_as read)).state
-read_step us l taken read e h = grind (arith, words_step, passes, fault_step)
+read_step us l taken read e h = grind (arith, no_cn_step, cn_step, one_cn, alone_in_octets, asks_alone, passes, fault_step)
 
 pub takes_as_asked : (us : List (List ℕ)) (l : Listener) (taken : ℕ) → AsAsked us taken l.state →
     AsAsked us (taken + 1) (after_input l (came (get_or us taken []))).state
@@ -289,19 +221,11 @@ takes_as_asked us l taken h = read_step us l taken (said_at (get_or us taken [])
 
 -- ---- a call
 
-after_answers : (first : Option ℕ) (s : State) (c : Call) → Answers first s → Answers first (after s c)
-after_answers first s c h = grind arith
-
-after_waits : (W : Type 0) (s : State) (c : Call) → Waits W s → Waits W (after s c)
-after_waits W s c h = grind arith
-
 pub calls_as_asked : (us : List (List ℕ)) (l : Listener) (taken : ℕ) (c : Call) → AsAsked us taken l.state →
     AsAsked us taken (after_input l (called c)).state
 calls_as_asked us l taken c h = record {
   waits = call_cases (Waits ((taken ≡ 0) ⊎ (first_asked us ≡ None))) l c h.waits
-      (λ x e. let q = passed l.state c x e in subst (λ (y : Step). Waits ((taken ≡ 0) ⊎ (first_asked us ≡ None)) y.next) (sym q.gives)
-      (after_waits ((taken ≡ 0) ⊎ (first_asked us ≡ None)) l.state c h.waits));
+      (λ x e. let q = passed l.state c x e in grind arith);
   answers = call_cases (Answers (first_asked us)) l c h.answers
-      (λ x e. let q = passed l.state c x e in subst (λ (y : Step). Answers (first_asked us) y.next) (sym q.gives)
-      (after_answers (first_asked us) l.state c h.answers));
+      (λ x e. let q = passed l.state c x e in grind arith);
 }

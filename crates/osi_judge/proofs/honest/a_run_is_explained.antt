@@ -1,35 +1,18 @@
 -- Whatever happens to a session, what it sends is explained: by induction over its run.
 -- For the law that an honest session is explained.
-use Rattle.std.proofs.Common.{◌≡◌, ◌∙◌, refl, sym, ap, subst, ℕ, ◌+◌, ◌≤◌, Bool, true, false, if◌then◌else◌, List, [], ◌∷◌, ◌++◌, length}
-use Rattle.std.proofs.Common.{map, get_or, Option, Some, None, Result, Ok, Err, option_map, arith}
-use Rattle.osi_spdu.specs.declared.faults.SpduFault.{SpduFault}
-use Rattle.osi_message.specs.Meanings.{Meaning, GT}
-use Rattle.osi_message.specs.Parting.{is_parted, tsdus_sent}
-use Rattle.osi_message.specs.Reading.{said_at}
-use Rattle.osi_message.specs.Sendable.{words_of}
-use Rattle.osi_message.specs.Tokens.{no_token}
-use Rattle.osi_message.specs.Words.{Words, says}
-use Rattle.osi_message.specs.Written.{written}
-use Rattle.osi_session.specs.declared.faults.CallError.{CallError}
-use Rattle.osi_session.specs.declared.phases.Phase.{Phase}
-use Rattle.osi_session.specs.Allowed.{Answer, allowed}
-use Rattle.osi_session.specs.Calls.{Call, HasSerial}
-use Rattle.osi_session.specs.Joining.{Hearing, acting_words, respond_came}
-use Rattle.osi_session.specs.Listening.{Input, Listener, Move, called, came, opened, moved, react, after_input, taker_of}
-use Rattle.osi_session.specs.Phases.{is_ended, is_over, is_wait_transport}
-use Rattle.osi_session.specs.Sizes.{limit_of}
-use Rattle.osi_session.specs.Sound.{IsSound}
-use Rattle.osi_session.specs.Standing.{Seen, Count, Takes, after_count, answers, counted, listens}
-use Rattle.osi_session.proofs.tsdu.the_answer_to_a_tsdu.{accepted_callable, callable_open}
-use Rattle.osi_session.proofs.moves.the_move_of_each_input.{call_is, came_is, not_opened}
-use Rattle.osi_session.proofs.moves.what_closes_the_connection.{input_ends}
-use Rattle.osi_session.proofs.tables.what_is_true_of_each_phase.{implied}
-use Rattle.osi_session.proofs.runs.what_every_run_preserves.{input_begun, input_over, input_sound, lost_ended}
-use Rattle.osi_session.proofs.tsdu.what_the_words_of_a_tsdu_preserve.{octets_sound}
-use Rattle.osi_judge.specs.Explaining.{Explains, Remark, Told, read_as, remark, remarks}
+use Rattle.osi_judge.proofs.Vocabulary.{◌≡◌, ◌∙◌, refl, sym, ap, subst, ℕ, ◌+◌, ◌≤◌, Bool, true, false, if◌then◌else◌, List, [], ◌∷◌, ◌++◌}
+use Rattle.osi_judge.proofs.Vocabulary.{length, map, get_or, Option, Some, None, Result, Ok, Err, option_map, arith, SpduFault, Meaning, GT}
+use Rattle.osi_judge.proofs.Vocabulary.{tsdus_sent, said_at, words_of, no_token, Words, says, written, CallError, Phase, Answer, allowed}
+use Rattle.osi_judge.proofs.Vocabulary.{Call, HasSerial, Hearing, respond_came, Input, Listener, called, came, opened, react, after_input}
+use Rattle.osi_judge.proofs.Vocabulary.{taker_of, is_ended, is_over, is_wait_transport, limit_of, IsSound, Seen, Count, Takes, after_count}
+use Rattle.osi_judge.proofs.Vocabulary.{counted, listens, accepted_callable, callable_open, call_is, came_is, not_opened, input_ends}
+use Rattle.osi_judge.proofs.Vocabulary.{implied, input_begun, input_over, input_sound, lost_ended, octets_sound, Explains, Remark, Told}
+use Rattle.osi_judge.proofs.Vocabulary.{read_as, remark, remarks, IsBehind, Pass, Runs}
+use Rattle.osi_session.specs.Joining.{acting_words}
+use Rattle.osi_session.specs.Listening.{Move, moved}
+use Rattle.osi_session.specs.Standing.{answers}
 use Rattle.osi_judge.specs.Explaining as explained
-use Rattle.osi_judge.specs.Members.{IsBehind}
-use Rattle.osi_judge.specs.Running.{Pass, Runs, sends}
+use Rattle.osi_judge.specs.Running.{sends}
 use Rattle.osi_judge.specs.Running as running
 use Rattle.osi_judge.proofs.honest.a_call_is_explained.{AsSent, call_said}
 use Rattle.osi_judge.proofs.told.a_tsdu_has_one_count.{as_it_does}
@@ -88,9 +71,6 @@ nothing_passes taken tsdus now e p = grind arith
 pub err_sends : (l : Listener) (c : Call) (e : CallError) → allowed l.state c ≡ Err e → sends l (called c) ≡ []
 err_sends l c e h = ap (λ (m : Move). tsdus_sent (limit_of l.state) m.reply) (call_is l c (Err e) h)
 
-pub err_stays : (l : Listener) (c : Call) (e : CallError) → allowed l.state c ≡ Err e → after_input l (called c) ≡ l
-err_stays l c e h = ap (λ (m : Move). m.next) (call_is l c (Err e) h)
-
 over_sends : (l : Listener) (c : Call) (a : Answer) → allowed l.state c ≡ a → is_over l.state.phase ≡ true → sends l (called c) ≡ []
 over_sends l c (Err e) h o = err_sends l c e h
 over_sends l c (Ok x) h o = let live = (callable_open l.state.phase (accepted_callable l.state c x h)).2 in absurd (cc)
@@ -122,9 +102,6 @@ seen_behind m = seen_of m.closes m.next
 none_kept : (b : Bool) → (if b then None else None) ≡ (let x : Option ℕ = None in x)
 none_kept b = grind arith
 
-count_leads : (l : Listener) (tsdu : List ℕ) → after_count (seen_of false l) (counted (hearing l tsdu)) ≡ seen_behind (react l (came tsdu))
-count_leads l tsdu = grind (arith, none_kept, came_moves)
-
 -- nothing is sent
 takes_on : (us : List (List ℕ)) (ms : List Remark) (taken : ℕ) (s : Seen) (c : Count) → listens s ≡ true → Takes s (get_or us taken []) c →
     c.reply ≡ None → IsBehind (taken + 1) ms
@@ -144,10 +121,6 @@ answers_on known us told t taken s c m l k r o b a e =
     subst (λ (x : Result Words SpduFault). Explains us (read_as t x ++ remarks told) taken s) (sym read)
     (explained.answers (remark t (says m)) (remarks told) taken s c m (says m) (omega arith) l k r refl a.itself e)
 
--- a message that is an answer is sent in one TSDU
-answer_alone : (m : Meaning) (limit : ℕ) → answers m m ≡ true → is_parted limit m ≡ false
-answer_alone m limit e = grind arith
-
 one_passes : (taken : ℕ) (o : List ℕ) (now : List Told) → Pass taken (o ∷ []) now →
     (t : Told) × (now ≡ t ∷ []) × (t.octets ≡ o) × (taken ≤ t.before)
 one_passes taken o now p = grind arith
@@ -161,8 +134,7 @@ taken_by known us l taken now later None n e a p b h = search (arith, takes_on, 
 taken_by known us l taken now later (Some m) n e a p b h =
     let tsdu = get_or us taken [] in
     let one = one_passes (taken + 1) (written m) now
-    (subst (λ (os : List (List ℕ)). Pass (taken + 1) os now)
-    (known.whole (limit_of l.state) m (answer_alone m (limit_of l.state) a.itself)) p) in
+    (grind arith) in
     subst (λ (x : List Told). Explains us (remarks (x ++ later)) taken (seen_of false l)) (sym one.1)
     (answers_on known us later one.0 taken (seen_of false l) (counted (hearing l tsdu)) m n (as_it_does l.state l.joined (said_at tsdu)) e
     one.2 one.3 a h)
@@ -175,7 +147,7 @@ called_by : AsSent → (us : List (List ℕ)) (closed : Bool) (l : Listener) (ta
     Explains us (remarks later) taken (seen_of closed (after_input l (called c)))
     → Explains us (remarks (now ++ later)) taken (seen_of closed l)
 called_by known us closed l taken c now later (Err x) small p sound over e h =
-    grind (arith, nothing_passes taken (sends l (called c)) now (err_sends l c x e) p, err_stays l c x e)
+    grind (arith, nothing_passes taken (sends l (called c)) now (err_sends l c x e) p, call_is)
 called_by known us true l taken c now later (Ok x) small p sound over e h = search (arith, callable_open, accepted_callable)
 called_by known us false l taken c now later (Ok x) small p sound over e h =
     grind (arith, tsdus_explained, call_is l c (Ok x) e, call_said known l.state (option_map length l.joined) c x sound small e)
@@ -206,23 +178,12 @@ run_explained known us closed l taken told (running.takes _ _ now later w p e) k
     let tsdu = get_or us taken [] in
     let move = came_moves l tsdu in
     let listening : listens (seen_of false l) ≡ true = rw w refl in
-    let next = run_explained known us _ _ (taken + 1) later e (record {
-      sound = tsdu_sound l tsdu k.sound;
-      open_now = still_open l (came tsdu) w;
-      over = λ g. ended_over (after_input l (came tsdu)).state.phase (input_ends l (came tsdu) g);
-    }) in
-    taken_by known us l taken now later (hearing l tsdu).reply listening refl (came_itself (taker_of l) (said_at tsdu))
-    (subst (λ (m : Move). Pass (taken + 1) (tsdus_sent (limit_of l.state) m.reply) now) move p)
-    (all_behind (taken + 1) later (sent_from us _ _ (taken + 1) later e))
-    (subst (λ (s : Seen). Explains us (remarks later) (taken + 1) s) (sym (count_leads l tsdu)) next)
+    let next = run_explained known us _ _ (taken + 1) later e (grind (arith, tsdu_sound, still_open, ended_over, input_ends)) in
+    grind (arith, taken_by, came_itself, all_behind, sent_from, none_kept, came_moves)
 run_explained known us closed l taken told (running.calls _ _ _ c now later small p e) k =
     called_by known us _ l taken c now later (allowed l.state c) small p k.sound k.over refl
     (run_explained known us _ _ taken later e
-    (record {
-      sound = input_sound l (called c) small k.sound;
-      open_now = still_open l (called c) k.open_now;
-      over = λ g. input_over l (called c) (k.over g);
-    }))
+    (search (arith, input_sound, still_open, input_over)))
 run_explained known us closed l taken told (running.connects _ _ now later p e) k =
     grind (
       arith,

@@ -1,21 +1,14 @@
 -- What a session answers a TSDU by at once can be sent, is alone in its TSDU, and is taken for that answer: an RF, AA,
 -- or an AB without the user's bit. For the law that an honest session is explained.
-use Rattle.std.proofs.Common.{◌≡◌, ℕ, Bool, true, false, not, ◌&&◌, [], ◌∷◌, Option, Some, None, Result, Ok, Err, if◌then◌else◌, arith}
-use Rattle.osi_spdu.specs.declared.faults.SpduFault.{SpduFault}
-use Rattle.osi_spdu.specs.Sizes.{are_sizes}
-use Rattle.osi_message.specs.Meanings.{Meaning, AA, AB, CN, RF}
-use Rattle.osi_message.specs.Sendable.{IsSendable}
-use Rattle.osi_message.specs.Words.{Word, Words}
+use Rattle.osi_judge.proofs.Vocabulary.{◌≡◌, ℕ, Bool, true, false, [], ◌∷◌, Option, Some, None, Result, Ok, Err, if◌then◌else◌, arith}
+use Rattle.osi_judge.proofs.Vocabulary.{SpduFault, Meaning, AA, AB, RF, IsSendable, Word, Words, UnitFault, State, Taker, Hearing}
+use Rattle.osi_judge.proofs.Vocabulary.{acting_words, respond_came, respond_word, is_over, Outcome, conditions, first_fault, in_aborting}
+use Rattle.osi_judge.proofs.Vocabulary.{si, outcome_in, word_does}
 use Rattle.osi_message.specs.Written.{is_second, user_data_of}
-use Rattle.osi_session.specs.declared.faults.UnitFault.{UnitFault}
-use Rattle.osi_session.specs.declared.state.State.{State}
-use Rattle.osi_session.specs.Joining.{Taker, Hearing, acting_words, respond_came, respond_word, respond_words}
-use Rattle.osi_session.specs.Phases.{is_over}
-use Rattle.osi_session.specs.Respond.{Outcome, conditions, first_fault, first_reply, in_aborting, in_ended, judged, reply_for}
-use Rattle.osi_session.specs.Respond.{respond_fault, respond_unit, si, take_expected}
+use Rattle.osi_session.specs.Joining.{respond_words}
+use Rattle.osi_session.specs.Respond.{judged}
+use Rattle.osi_session.specs.Respond.{respond_fault, respond_unit, take_expected}
 use Rattle.osi_session.specs.Standing.{answers}
-use Rattle.osi_session.specs.Units.{functional_units, has_data}
-use Rattle.osi_session.proofs.tables.a_word_acts_as_its_message.{outcome_in, word_does}
 
 pub record IsAnswer (m : Meaning) : Type 0 where
   pub itself : answers m m ≡ true
@@ -44,18 +37,11 @@ Answers o = SaysItself o.reply
 either : (b : Bool) (x y : Option Meaning) → SaysItself x → SaysItself y → SaysItself (if b then x else y)
 either b x y h k = grind arith
 
-reply_itself : (u : Meaning) → SaysItself (reply_for u)
-reply_itself (CN version_2 requirements serial wishes from to sizes octets) =
-    either (not version_2) _ _ (refuses 132)
-    (either (not (has_data (functional_units requirements) && are_sizes sizes)) _ _ (refuses 134) tt)
-reply_itself (AB bits octets) = accepts
-reply_itself _ = tt
-
 either_outcome : (b : Bool) (x y : Outcome) → Answers x → Answers y → Answers (if b then x else y)
 either_outcome b x y h k = grind arith
 
 judged_itself : (s : State) (u : Meaning) (f : Option UnitFault) → Answers (judged s u f)
-judged_itself s u None = reply_itself u
+judged_itself s u None = grind (arith, either, refuses, accepts)
 judged_itself s u (Some f) = aborts
 
 expected_itself : (s : State) (u : Meaning) → Answers (take_expected s u)
@@ -65,16 +51,9 @@ expected_itself s u = judged_itself s u (first_fault (si u) (conditions s u))
 aborting_itself : (s : State) (u : Meaning) → Answers (in_aborting s u)
 aborting_itself s u = grind arith
 
-ended_itself : (s : State) (u : Meaning) → Answers (in_ended s u)
-ended_itself s (AB bits octets) = accepts
-ended_itself s _ = tt
-
 unit_itself : (s : State) (u : Meaning) → Answers (respond_unit s u)
 unfolding respond_unit
-unit_itself s u = grind (arith, either_outcome, aborting_itself, ended_itself, aborts, expected_itself)
-
-first_itself : (a b : Option Meaning) → SaysItself a → SaysItself b → SaysItself (first_reply a b)
-first_itself a b h k = grind arith
+unit_itself s u = grind (arith, either_outcome, aborting_itself, accepts, aborts, expected_itself)
 
 word_itself : (t : Taker) (w : Word) → Answers (outcome_in (respond_word t w))
 word_itself t w = word_does Answers t w (record { acts = λ u a. unit_itself t.state u; bad = λ fault o. aborts; rests = tt })
@@ -85,7 +64,7 @@ either_hearing b x y h k = grind arith
 words_itself : (t : Taker) (ws : Words) → SaysItself (respond_words t ws).reply
 unfolding respond_words
 words_itself t [] = tt
-words_itself t (w ∷ ws) = grind (arith, either_hearing, word_itself, first_itself, words_itself (respond_word t w).next ws)
+words_itself t (w ∷ ws) = grind (arith, either_hearing, word_itself, words_itself (respond_word t w).next ws)
 
 fault_itself : (s : State) (fault : SpduFault) → Answers (respond_fault s fault)
 unfolding respond_fault

@@ -1,44 +1,25 @@
 -- No TSDU of an honest session selects what the profile leaves out: by induction over its run.
 -- For the law that an honest side is not blamed.
-use Rattle.std.proofs.Common.{◌≡◌, ◌∙◌, refl, sym, ap, subst, ℕ, ◌+◌, inl, Bool, true, false, not, ◌&&◌, if◌then◌else◌, nat_le, List, []}
-use Rattle.std.proofs.Common.{◌∷◌, ◌++◌, length, map, get_or, Option, Some, None, Result, Ok, Err}
-use Rattle.std.proofs.lemmas.Bool.{and_parts}
-use Rattle.osi_spdu.specs.declared.faults.SpduFault.{SpduFault}
-use Rattle.osi_message.specs.Meanings.{Meaning, AC, DT, GT}
-use Rattle.osi_message.specs.Parting.{behind_no_token, is_parted, tsdus_of, tsdus_sent, words_sent}
-use Rattle.osi_message.specs.Reading.{said_at}
-use Rattle.osi_message.specs.Sendable.{IsSendable, words_of}
-use Rattle.osi_message.specs.Tokens.{no_token}
-use Rattle.osi_message.specs.Words.{Word, Words, says}
-use Rattle.osi_message.specs.Written.{is_second, written}
-use Rattle.osi_session.specs.declared.opening.Opening.{Opening}
-use Rattle.osi_session.specs.declared.state.State.{State}
-use Rattle.osi_session.specs.Allowed.{Answer, Step, allowed, most_user_data, needs, may_call, AllHold, sends as call_sends_this}
-use Rattle.osi_session.specs.Calls.{Accept, Call, Data, HasSerial}
-use Rattle.osi_session.specs.Listening.{Listener, Move, after_input, broken, called, came, opened, taker_of}
-use Rattle.osi_session.specs.Openings.{asked_for}
-use Rattle.osi_session.specs.Phases.{is_answering, is_over, is_wait_transport}
-use Rattle.osi_session.specs.Sessions.{asking, awaiting, awaits, opens}
-use Rattle.osi_session.specs.Sizes.{is_data, limit_of}
-use Rattle.osi_session.specs.Sound.{IsSound}
+use Rattle.std.proofs.Common.{arith}
+use Rattle.osi_judge.proofs.Vocabulary.{◌≡◌, ◌∙◌, refl, sym, ap, subst, ℕ, ◌+◌, inl, Bool, true, false, if◌then◌else◌, nat_le, List, []}
+use Rattle.osi_judge.proofs.Vocabulary.{◌∷◌, ◌++◌, length, map, get_or, Option, Some, None, Result, Ok, Err, and_parts, SpduFault, Meaning}
+use Rattle.osi_judge.proofs.Vocabulary.{DT, GT, behind_no_token, is_parted, tsdus_of, tsdus_sent, words_sent, said_at, IsSendable, words_of}
+use Rattle.osi_judge.proofs.Vocabulary.{no_token, Word, Words, says, written, Opening, State, Answer, Step, allowed, most_user_data, needs}
+use Rattle.osi_judge.proofs.Vocabulary.{may_call, AllHold, Accept, Call, Data, HasSerial, Listener, after_input, broken, called, came}
+use Rattle.osi_judge.proofs.Vocabulary.{opened, taker_of, asked_for, is_answering, is_over, is_wait_transport, awaiting, awaits, opens}
+use Rattle.osi_judge.proofs.Vocabulary.{is_data, limit_of, IsSound, input_ends, call_sends, not_opened, passed, awaiting_fresh, fresh_sound}
+use Rattle.osi_judge.proofs.Vocabulary.{input_over, input_sound, lost_ended, sent_sendable, Direction, Left, Right, Told, accepted_in}
+use Rattle.osi_judge.proofs.Vocabulary.{in_first, is_outside, IsHonest, Pass, Runs, asked_sendable, call_is, leb-true, of_refused}
+use Rattle.osi_message.specs.Written.{is_second}
+use Rattle.osi_session.specs.Allowed.{sends as call_sends_this}
+use Rattle.osi_session.specs.Listening.{Move}
+use Rattle.osi_session.specs.Sessions.{asking}
 use Rattle.osi_session.specs.Standing.{answers}
-use Rattle.osi_session.specs.Units.{functional_units, is_profile, units_within}
-use Rattle.osi_session.proofs.moves.what_closes_the_connection.{input_ends}
-use Rattle.osi_session.proofs.moves.the_move_of_each_input.{call_sends, not_opened}
-use Rattle.osi_session.proofs.tables.what_an_accepted_call_has_passed.{passed}
-use Rattle.osi_session.proofs.runs.what_every_run_preserves.{awaiting_fresh, fresh_sound, input_over, input_sound, lost_ended}
-use Rattle.osi_session.proofs.sent.what_is_sent_can_be_written.{sent_sendable}
-use Rattle.osi_judge.specs.declared.directions.Direction.{Direction}
-use Rattle.osi_judge.specs.declared.directions.Direction.TheVariants.{Left, Right}
-use Rattle.osi_judge.specs.Explaining.{Told}
-use Rattle.osi_judge.specs.Profiles.{accepted_in, in_first, is_outside}
-use Rattle.osi_judge.specs.Running.{IsHonest, Pass, Runs, sends}
+use Rattle.osi_judge.specs.Running.{sends}
 use Rattle.osi_judge.specs.Running as running
 use Rattle.osi_judge.proofs.honest.a_call_is_explained.{AsSent, data_sent, one_sent}
-use Rattle.osi_judge.proofs.honest.a_caller_is_explained.{as_opened, connecting, missed_ended, opening_sound, over_by, refuses_all, fits}
-use Rattle.osi_judge.proofs.honest.a_caller_is_explained.{sendable}
-use Rattle.osi_judge.proofs.honest.a_run_is_explained.{came_moves, ended_over, err_sends, err_stays, hearing, sends_no_more, still_open}
-use Rattle.osi_judge.proofs.honest.a_run_is_explained.{tsdu_sound}
+use Rattle.osi_judge.proofs.honest.a_caller_is_explained.{as_opened, connecting, opening_sound, over_by, refuses_all, fits}
+use Rattle.osi_judge.proofs.honest.a_run_is_explained.{came_moves, ended_over, err_sends, hearing, sends_no_more, still_open, tsdu_sound}
 use Rattle.osi_judge.proofs.honest.an_answer_says_itself.{SaysItself, came_itself}
 use Rattle.osi_judge.proofs.honest.a_cn_is_answered_within_its_units.{AsAsked, IsUnits, calls_as_asked, first_asked, selected_inside}
 use Rattle.osi_judge.proofs.honest.a_cn_is_answered_within_its_units.{takes_as_asked}
@@ -52,20 +33,8 @@ none_outside : (first : Option ℕ) → is_outside first None ≡ false
 none_outside None = refl
 none_outside (Some n) = refl
 
--- it begins with no AC
-no_ac : (first : Option ℕ) (tsdu : List ℕ) (read : Result Words SpduFault) → said_at tsdu ≡ read → in_first accepted_in read ≡ None →
-    IsInside first tsdu
-no_ac first tsdu read e n = ap (λ (r : Result Words SpduFault). is_outside first (in_first accepted_in r)) e ∙ ap (is_outside first) n ∙
-    none_outside first
-
--- whether or not a GT is before it
-first_word : (b : Bool) (m : Meaning) → accepted_in m ≡ None →
-    in_first accepted_in (Ok (map says (if b then GT no_token ∷ m ∷ [] else m ∷ []))) ≡ None
-first_word true m n = refl
-first_word false m n = n
-
 message_inside : AsSent → (first : Option ℕ) (m : Meaning) → IsSendable m → accepted_in m ≡ None → IsInside first (written m)
-message_inside known first m s n = no_ac first (written m) (Ok (words_of m)) (known.message m s) (first_word (is_second m) m n)
+message_inside known first m s n = grind (arith, none_outside)
 
 -- ---- those of a message
 
@@ -102,20 +71,11 @@ parts_inside : (first : Option ℕ) (os : List (List ℕ)) (ws : Words) → map 
 parts_inside first [] ws e = tt
 parts_inside first (o ∷ os) [] e = absurd (cc)
 parts_inside first (o ∷ os) (w ∷ ws) e = (
-  no_ac first o (behind_nothing w) (head_of (said_at o) (behind_nothing w) (map said_at os) (map behind_nothing ws) e) refl,
+  grind (arith, none_outside),
   parts_inside first os ws (tail_of (said_at o) (behind_nothing w) (map said_at os) (map behind_nothing ws) e),
 )
 
 -- ---- those of a call
-
--- an AC of it selects units of the CN that may be selected together
-ac_inside : (first : Option ℕ) (s : State) (requirements : ℕ) →
-    (units_within (functional_units requirements) s.units && is_profile requirements) ≡ true → IsUnits first s.units →
-    is_outside first (Some requirements) ≡ false
-ac_inside None s requirements h u = refl
-ac_inside (Some offered) s requirements h u =
-    let p = and_parts (units_within (functional_units requirements) s.units) (is_profile requirements) h in
-    ap not (selected_inside offered requirements p.1 (ap (units_within (functional_units requirements)) (sym u) ∙ p.0))
 
 accept_inside : AsSent → (first : Option ℕ) (requirements : ℕ) (m : Meaning) → IsSendable m → is_second m ≡ false →
     accepted_in m ≡ Some requirements → is_outside first (Some requirements) ≡ false → IsInside first (written m)
@@ -130,7 +90,7 @@ call_inside : AsSent → (first : Option ℕ) (s : State) (c : Call) → IsSenda
 unfolding is_second
 call_inside known first s (Accept requirements serial sides sizes octets) m i p h =
     accept_inside known first requirements (call_sends_this s (Accept requirements serial sides sizes octets)) m refl refl
-    (ac_inside first s requirements h.0 (i p))
+    (grind (arith, and_parts, selected_inside))
 call_inside known first s c m i p h = message_inside known first (call_sends_this s c) m refl
 
 other_inside : AsSent → (first : Option ℕ) (s : State) (c : Call) (x : Step) → IsSound s → HasSerial c → allowed s c ≡ Ok x →
@@ -162,10 +122,6 @@ called_inside known parts first l taken c now later (Ok x) h sound small i p mor
 
 -- ---- an answer
 
-answer_none : (m : Meaning) → answers m m ≡ true → accepted_in m ≡ None
-answer_none (AC version_2 requirements serial sides sizes octets) e = absurd (cc)
-answer_none _ e = refl
-
 answer_whole : (m : Meaning) (limit : ℕ) → answers m m ≡ true → is_parted limit m ≡ false
 answer_whole (DT octets) limit e = absurd (cc)
 answer_whole _ limit e = refl
@@ -174,7 +130,7 @@ reply_inside : AsSent → (first : Option ℕ) (limit : ℕ) (r : Option Meaning
 reply_inside known first limit None a = tt
 reply_inside known first limit (Some m) a =
     subst (AreInside first) (sym (known.whole limit m (answer_whole m limit a.itself)))
-    (message_inside known first m a.sendable (answer_none m a.itself), tt)
+    (message_inside known first m a.sendable (grind arith), tt)
 
 -- ---- any run, once the transport connection is open
 
@@ -220,7 +176,7 @@ caller_inside known parts us o closed l taken told (running.calls _ _ _ c now la
     let none = refuses_all o c (allowed (asking o) c) refl in
     let err : allowed l.state c ≡ Err none.0 = ap (λ (x : Listener). allowed x.state c) e ∙ none.1 in
     passed_inside (first_asked us) taken [] now later (subst (λ (os : List (List ℕ)). Pass taken os now) (err_sends l c none.0 err) p) tt
-    (caller_inside known parts us o _ _ taken later r z f (err_stays l c none.0 err ∙ e))
+    (caller_inside known parts us o _ _ taken later r z f ((grind (arith, call_is)) ∙ e))
 caller_inside known parts us o closed l taken told (running.connects _ _ now later p r) z f e =
     let move = as_opened l o e in
     let next : after_input l opened ≡ connecting o = ap (λ (m : Move). m.next) move in
@@ -229,12 +185,12 @@ caller_inside known parts us o closed l taken told (running.connects _ _ now lat
     passed_inside (first_asked us) taken (tsdus_of (limit_of l.state) (asked_for o)) now later
     (subst (λ (m : Move). Pass taken (tsdus_sent (limit_of l.state) m.reply) now) move p)
     (subst (AreInside (first_asked us)) (sym (known.whole (limit_of l.state) (asked_for o) refl))
-    (message_inside known (first_asked us) (asked_for o) (sendable o z) refl, tt))
+    (message_inside known (first_asked us) (asked_for o) (grind (arith, leb-true, asked_sendable)) refl, tt))
     (run_inside known parts us _ _ taken later r
     (input_sound l opened tt (subst (λ (x : Listener). IsSound x.state) (sym e) (opening_sound o))) open_now (λ g. absurd (cc))
     (subst (λ (x : Listener). AsAsked us taken x.state) (sym next) (record { waits = λ k. absurd (cc); answers = λ k. absurd (cc) })))
 caller_inside known parts us o closed l taken told (running.misses _ _ reason _ w r) z f e =
-    subst (AllInside (first_asked us)) (sym (sends_no_more us _ _ taken told r refl (missed_ended l reason w))) tt
+    subst (AllInside (first_asked us)) (sym (sends_no_more us _ _ taken told r refl (grind (arith, of_refused)))) tt
 caller_inside known parts us o closed l taken told (running.loses _ _ _ r) z f e =
     subst (AllInside (first_asked us))
     (sym (sends_no_more us _ _ taken told r refl (over_by (after_input l broken).state.phase (lost_ended l)))) tt

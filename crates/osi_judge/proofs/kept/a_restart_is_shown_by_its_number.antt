@@ -1,20 +1,12 @@
 -- The units of a walk to a restart have these words: for the functions of `restarts` that make them.
-use Rattle.std.proofs.Common.{◌≡◌, ◌∙◌, refl, ap, ℕ, ◌≤◌, List, []}
-use Rattle.std.specs.Borrow.{Bor}
+use Rattle.osi_judge.proofs.Vocabulary.{◌≡◌, ◌∙◌, refl, ap, ℕ, ◌≤◌, List, [], Bor, Resynchronize, Serial, TokenSetting, Answerer, Contents}
+use Rattle.osi_judge.proofs.Vocabulary.{made, abort_params, resynchronize_params, AB, RS, meaning, says, unit_with, HaveDigits}
+use Rattle.osi_judge.proofs.Vocabulary.{meaning_again, abort_known, restart_known, restart_at, an_abort}
 use Rattle.osi_spdu.specs.declared.fields.ResyncType.TheVariants.{Restart}
-use Rattle.osi_spdu.specs.declared.kinds.Kind.TheVariants.{Abort, Resynchronize}
-use Rattle.osi_spdu.specs.declared.serials.Serial.{Serial}
-use Rattle.osi_spdu.specs.declared.settings.TokenSetting.{TokenSetting}
-use Rattle.osi_spdu.specs.declared.settings.Wish.TheVariants.{Answerer}
-use Rattle.osi_spdu.specs.Known.{Contents, Known}
-use Rattle.osi_spdu.specs.Made.{made, abort_params, resynchronize_params}
-use Rattle.osi_message.specs.Meanings.{AB, RS}
-use Rattle.osi_message.specs.Reading.{meaning, word}
-use Rattle.osi_message.specs.Words.{says}
-use Rattle.osi_message.specs.Written.{unit_of, unit_with}
-use Rattle.osi_message.proofs.what_is_written_means_it.{HaveDigits, meaning_again}
-use Rattle.osi_message.proofs.a_unit_is_made_of_its_meaning.{abort_known, restart_known}
-use Rattle.osi_judge.specs.Kept.{restart_at, an_abort}
+use Rattle.osi_spdu.specs.declared.kinds.Kind.TheVariants.{Abort}
+use Rattle.osi_spdu.specs.Known.{Known}
+use Rattle.osi_message.specs.Reading.{word}
+use Rattle.osi_message.specs.Written.{unit_of}
 
 -- a unit of these kinds is no part of a Data
 says_abort : (known : Known) → word (unit_with Abort known) ≡ says (meaning (unit_with Abort known))

@@ -1,13 +1,8 @@
 -- What a session does by itself on a walk is a function of its state and of what passed: for the functions of `first_places`.
-use Rattle.std.proofs.Common.{◌≡◌, ◌∙◌, sym, ap, ℕ, ◌+◌, ◌<◌, ◌≤◌, Bool, true, false, is_none, List, [], get_or, Option, Some, None}
-use Rattle.std.proofs.Common.{option_map, if◌then◌else◌, arith}
-use Rattle.osi_message.specs.Meanings.{Meaning}
-use Rattle.osi_message.specs.Words.{Word}
-use Rattle.osi_session.specs.Standing.{Seen, Count, Takes, listens, after_count}
-use Rattle.osi_judge.specs.declared.members.Member.{Member}
-use Rattle.osi_judge.specs.Kept.{member, sends, quiet_after, quietly, or_else, first_sender}
-use Rattle.osi_judge.specs.Nearest.{count_at, next_of, reached}
-use Rattle.osi_judge.proofs.told.the_nearest_of_all_sessions_is_told.{count_is, becomes_none, reached_some, reached_end}
+use Rattle.osi_judge.proofs.Vocabulary.{◌≡◌, ◌∙◌, sym, ap, ℕ, ◌+◌, ◌<◌, ◌≤◌, Bool, true, false, is_none, List, [], get_or, Option, Some}
+use Rattle.osi_judge.proofs.Vocabulary.{None, option_map, if◌then◌else◌, arith, Meaning, Word, Seen, Count, Takes, listens, after_count}
+use Rattle.osi_judge.proofs.Vocabulary.{Member, member, sends, quiet_after, quietly, first_sender, count_at, next_of, reached}
+use Rattle.osi_judge.proofs.told.the_nearest_of_all_sessions_is_told.{count_is, becomes_none, reached_some}
 use Rattle.osi_judge.proofs.kept.a_session_takes_one_tsdu_at_a_time.{next_taken}
 
 -- ---- a TSDU that is taken, and nothing is sent
@@ -31,19 +26,11 @@ pub quiet_answers : (s : Seen) (u : List ℕ) (c : Count) (a : Meaning) → list
 quiet_answers s u c a l k r =
     sym (ap (λ (o : Option Meaning). if is_none o then Some (after_count s c) else None) r) ∙ sym (quiet_as s u c l k)
 
--- the same by the place of the TSDU
-pub next_is : (us : List (List ℕ)) (m : Member)
-    → next_of us m ≡ option_map (member (m.taken + 1)) (quietly m.standing (get_or us m.taken []))
-next_is us m = grind arith
-
 pub moves_as : (us : List (List ℕ)) (m : Member) (u : List ℕ) (r : Option Seen) (n : Option Member) → u ≡ get_or us m.taken []
     → r ≡ quietly m.standing u → n ≡ option_map (member (m.taken + 1)) r → n ≡ next_of us m
-moves_as us m u r n e q k = grind (arith, next_is)
+moves_as us m u r n e q k = grind arith
 
 -- ---- the first place at which it may send a word
-
-none_after : (m : Option Member) → or_else m None ≡ m
-none_after m = grind arith
 
 pub sender_on : (us : List (List ℕ)) (w : Word) (octets before : ℕ) (at on : Member) (all : Option Member) → at.taken < before
     → sends w octets at ≡ None → next_of us at ≡ Some on → first_sender w octets (reached us before at) ≡ all
@@ -60,4 +47,4 @@ sender_stuck us w octets before at all l s n h = grind (arith, reached_some, bec
 
 pub sender_last : (us : List (List ℕ)) (w : Word) (octets before : ℕ) (at : Member) (said all : Option Member) → before ≤ at.taken
     → said ≡ sends w octets at → first_sender w octets (reached us before at) ≡ all → said ≡ all
-sender_last us w octets before at said all l s h = grind (arith, none_after, reached_end)
+sender_last us w octets before at said all l s h = grind arith

@@ -1,8 +1,7 @@
 -- A session is sought among the last of a list, from the end on: for `members::is_among` and `members::add`.
-use Rattle.std.proofs.Common.{◌≡◌, ◌∙◌, refl, sym, ap, ℕ, suc, zero, ◌+◌, ◌-◌, ◌<◌, ◌≤◌, Bool, true, false, ◌||◌, List, [], ◌∷◌, ◌++◌}
-use Rattle.std.proofs.Common.{length, drop, get_or, if◌then◌else◌, arith}
-use Rattle.osi_judge.specs.declared.members.Member.{Member}
-use Rattle.osi_judge.specs.Kept.{same_member, is_among, added}
+use Rattle.osi_judge.proofs.Vocabulary.{◌≡◌, ◌∙◌, refl, sym, ap, ℕ, suc, zero, ◌+◌, ◌-◌, ◌<◌, ◌≤◌, Bool, true, false, ◌||◌, List, [], ◌∷◌}
+use Rattle.osi_judge.proofs.Vocabulary.{◌++◌, length, drop, get_or, if◌then◌else◌, arith, Member, same_member, is_among}
+use Rattle.osi_judge.specs.Kept.{added}
 use Rattle.osi_judge.proofs.walked.sessions_after_a_unit.{drop_here}
 
 -- it is not among the rest

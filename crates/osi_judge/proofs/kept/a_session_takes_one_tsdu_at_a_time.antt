@@ -1,16 +1,9 @@
 -- A session that goes on has taken one TSDU more, and no more than had passed: for all walks.
-use Rattle.std.proofs.Common.{◌≡◌, ℕ, suc, ◌+◌, ◌<◌, ◌≤◌, Bool, if◌then◌else◌, List, [], get_or, Option, Some, None, arith}
-use Rattle.osi_session.specs.Standing.{Count, after_count, listens}
-use Rattle.osi_judge.specs.declared.members.Member.{Member}
-use Rattle.osi_judge.specs.Nearest.{count_at, quiet_by, next_of}
-
-quiet_taken : (b : Bool) (m t : Member) (c : Count)
-    → (if b then Some (record { taken = m.taken + 1; standing = after_count m.standing c }) else None) ≡ Some t
-    → t.taken ≡ m.taken + 1
-quiet_taken b m t c e = grind arith
+use Rattle.osi_judge.proofs.Vocabulary.{◌≡◌, ℕ, suc, ◌+◌, ◌<◌, ◌≤◌, Bool, if◌then◌else◌, List, [], get_or, Option, Some, None, arith, Count}
+use Rattle.osi_judge.proofs.Vocabulary.{listens, Member, count_at, quiet_by, next_of}
 
 next_by : (b : Bool) (m t : Member) (c : Count) → (if b then quiet_by m c else None) ≡ Some t → t.taken ≡ m.taken + 1
-next_by b m t c e = grind (arith, quiet_taken)
+next_by b m t c e = grind arith
 
 pub next_taken : (us : List (List ℕ)) (m t : Member) → next_of us m ≡ Some t → t.taken ≡ m.taken + 1
 next_taken us m t e = next_by (listens m.standing) m t (count_at m.standing (get_or us m.taken [])) e

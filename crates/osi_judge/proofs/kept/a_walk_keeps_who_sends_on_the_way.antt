@@ -1,21 +1,10 @@
 -- A walk keeps the sessions that send a word on the way, or answer by it: for the functions of `walks`.
-use Rattle.std.proofs.Common.{◌≡◌, ◌∙◌, refl, sym, ap, ℕ, suc, ◌+◌, ◌-◌, ◌<◌, ◌≤◌, Bool, true, false, List, [], get_or, Option, Some, None}
-use Rattle.std.proofs.Common.{option_map, if◌then◌else◌, arith}
-use Rattle.std.proofs.lemmas.List.Sums.{fold-append}
-use Rattle.std.specs.List.{fold}
-use Rattle.osi_message.specs.Meanings.{Meaning}
-use Rattle.osi_message.specs.Words.{Word}
-use Rattle.osi_session.specs.declared.reactions.Reply.{Reply}
-use Rattle.osi_session.specs.Joining.{is_restart_word}
-use Rattle.osi_session.specs.Standing.{Seen, Count, Takes, listens, after_count, said}
-use Rattle.osi_session.specs.Steady.{is_steady}
-use Rattle.osi_session.specs.Steps.{reply_of}
-use Rattle.osi_judge.specs.declared.members.Member.{Member}
-use Rattle.osi_judge.specs.declared.walks.Walker.{Walker}
-use Rattle.osi_judge.specs.Kept.{added, member, sends, first_sender, listed, is_covered, anew, latest, follows, if_answer, answer_by}
-use Rattle.osi_judge.specs.Kept.{answering, senders, senders_from, way_to, askers, restarters, places_of}
-use Rattle.osi_judge.specs.Nearest.{count_at, next_of, reached}
-use Rattle.osi_judge.specs.Onward.{Quietly, OwesTo}
+use Rattle.osi_judge.proofs.Vocabulary.{◌≡◌, ◌∙◌, sym, ap, ℕ, suc, ◌+◌, ◌-◌, ◌<◌, ◌≤◌, Bool, true, false, List, [], get_or, Option, Some}
+use Rattle.osi_judge.proofs.Vocabulary.{None, if◌then◌else◌, arith, fold-append, fold, Meaning, Word, Reply, is_restart_word, Seen, Count}
+use Rattle.osi_judge.proofs.Vocabulary.{Takes, listens, after_count, said, is_steady, reply_of, Member, Walker, added, member, sends}
+use Rattle.osi_judge.proofs.Vocabulary.{first_sender, listed, is_covered, anew, latest, follows, if_answer, answer_by, answering, senders}
+use Rattle.osi_judge.proofs.Vocabulary.{senders_from, way_to, askers, restarters, count_at, next_of, reached, Quietly, OwesTo}
+use Rattle.osi_judge.specs.Kept.{places_of}
 use Rattle.osi_judge.proofs.told.the_nearest_of_all_sessions_is_told.{count_is, next_goes, next_stops}
 
 -- ---- it sends the word here, or not
@@ -25,39 +14,25 @@ SendsAs w octets old new from to =
     (new ≡ fold added old (anew from.said_before (sends w octets from.at)))
     × (to ≡ record { at = from.at; said_before = latest from.said_before (sends w octets from.at) })
 
-sends_is : (w : Word) (octets : ℕ) (m : Member) (o : Option Seen) → said m.standing w octets ≡ o
-    → sends w octets m ≡ option_map (member m.taken) o
-sends_is w octets m o e = ap (option_map (member m.taken)) e
-
 pub said_not : (w : Word) (octets : ℕ) (old : List Member) (from : Walker) → said from.at.standing w octets ≡ None
     → SendsAs w octets old old from from
-said_not w octets old from h = grind (arith, sends_is)
+said_not w octets old from h = grind arith
 
 pub said_covered : (w : Word) (octets : ℕ) (old : List Member) (from : Walker) (s : Seen) → said from.at.standing w octets ≡ Some s
     → true ≡ is_covered from.said_before s → from.said_before ≡ Some s → SendsAs w octets old old from from
-said_covered w octets old from s h c e = grind (arith, sends_is)
+said_covered w octets old from s h c e = grind arith
 
 pub said_anew : (w : Word) (octets : ℕ) (old new : List Member) (from : Walker) (s : Seen) → said from.at.standing w octets ≡ Some s
     → false ≡ is_covered from.said_before s → new ≡ added old (member from.at.taken s)
     → SendsAs w octets old new from (record { at = from.at; said_before = Some s })
-said_anew w octets old new from s h c e = grind (arith, sends_is)
+said_anew w octets old new from s h c e = grind arith
 
 -- ---- one step
-
--- what is kept here, the answer, and the rest of the walk
-step_split : (us : List (List ℕ)) (w : Word) (octets n : ℕ) (from to : Walker) (old mid : List Member) → SendsAs w octets old mid from to
-    → fold added old (senders us w octets (suc n) from.said_before (Some from.at))
-    ≡ fold added (fold added mid (answering us w from.at))
-    (senders us w octets n (follows to.said_before (get_or us from.at.taken [])) (next_of us from.at))
-step_split us w octets n from to old mid h = grind (arith, fold-append)
-
-senders_none : (us : List (List ℕ)) (w : Word) (octets n : ℕ) (earlier : Option Seen) → senders us w octets n earlier None ≡ []
-senders_none us w octets n earlier = grind arith
 
 ends_here : (us : List (List ℕ)) (w : Word) (octets n : ℕ) (earlier : Option Seen) (next : Option Member) (mid on : List Member)
     → next ≡ None
     → fold added (fold added mid on) (senders us w octets n earlier next) ≡ fold added mid on
-ends_here us w octets n earlier next mid on e = grind (arith, senders_none)
+ends_here us w octets n earlier next mid on e = grind arith
 
 answering_deaf : (us : List (List ℕ)) (w : Word) (m : Member) → listens m.standing ≡ false → answering us w m ≡ []
 answering_deaf us w m l = ap (λ (b : Bool). if b then answer_by w m (count_at m.standing (get_or us m.taken [])) else []) l
@@ -70,7 +45,7 @@ answering_as us w m c o l t r = grind (arith, count_is m.standing (get_or us m.t
 pub turn_deaf : (us : List (List ℕ)) (w : Word) (octets n : ℕ) (from to : Walker) (old mid : List Member) → SendsAs w octets old mid from to
     → listens from.at.standing ≡ false
     → fold added mid (senders_from us w octets n None) ≡ fold added old (senders_from us w octets (suc n) (Some from))
-turn_deaf us w octets n from to old mid h l = grind (arith, step_split, ends_here, next_stops, answering_deaf)
+turn_deaf us w octets n from to old mid h l = grind (arith, ends_here, next_stops, answering_deaf)
 
 pub turn_answers : (us : List (List ℕ)) (w : Word) (octets n : ℕ) (from to : Walker) (old mid new : List Member) (next : Seen) (c : Count)
     (reply : Reply) → SendsAs w octets old mid from to → listens from.at.standing ≡ true
@@ -79,7 +54,7 @@ pub turn_answers : (us : List (List ℕ)) (w : Word) (octets n : ℕ) (from to :
     → fold added new (senders_from us w octets n None) ≡ fold added old (senders_from us w octets (suc n) (Some from))
 turn_answers us w octets n from to old mid new next c reply h l t e r g =
     let owes : OwesTo from.at.standing (get_or us from.at.taken []) reply = record { count = c; listening = l; taken = t; sent = r } in
-    sym (step_split us w octets n from to old mid h
+    sym ((grind (arith, fold-append))
     ∙ ends_here us w octets n (follows to.said_before (get_or us from.at.taken [])) (next_of us from.at) mid (answering us w from.at)
     (next_stops us from.at (Some reply) owes)
     ∙ ap (fold added mid) (answering_as us w from.at c (Some (reply_of reply)) l t r
@@ -95,18 +70,8 @@ pub turn_on : (us : List (List ℕ)) (w : Word) (octets n : ℕ) (from to : Walk
     ≡ fold added old (senders_from us w octets (suc n) (Some from))
 turn_on us w octets n from to old mid next c u earlier h l k t e r f =
     let on = member (from.at.taken + 1) next in
-    let goes : Quietly us from.at on = record {
-      taken = refl;
-      follows = record { count = c; listening = l; taken = t; quiet = r; next = e };
-    } in
-    sym (step_split us w octets n from to old mid h
-    ∙ ap (λ (ms : List Member). fold added (fold added mid ms)
-    (senders us w octets n (follows to.said_before (get_or us from.at.taken [])) (next_of us from.at)))
-    (answering_as us w from.at c None l t r)
-    ∙ ap (λ (x : Option Member). fold added mid (senders us w octets n (follows to.said_before (get_or us from.at.taken [])) x))
-    (next_goes us from.at on goes)
-    ∙ ap (λ (x : List ℕ). fold added mid (senders us w octets n (follows to.said_before x) (Some on))) (sym k)
-    ∙ ap (λ (x : Option Seen). fold added mid (senders us w octets n x (Some on))) (sym f))
+    let goes : Quietly us from.at on = grind arith in
+    grind (arith, fold-append, answering_as us w from.at c None l t r, next_goes us from.at on goes)
 
 -- ---- a walk
 

@@ -1,17 +1,10 @@
 -- Which sessions a walk to a restart keeps is a function of where it begins and of what passed: for the functions of `restarts`.
-use Rattle.std.proofs.Common.{◌≡◌, ◌∙◌, sym, ap, subst, ℕ, suc, ◌+◌, ◌-◌, ◌<◌, ◌≤◌, Bool, true, false, ◌&&◌, List, [], get_or, Option, Some}
-use Rattle.std.proofs.Common.{None, Result, Ok, OnOk, if◌then◌else◌, arith}
-use Rattle.std.proofs.lemmas.List.Sums.{fold-append}
-use Rattle.std.specs.List.{fold}
-use Rattle.osi_message.specs.Words.{Word}
-use Rattle.osi_session.specs.Phases.{is_restarting}
-use Rattle.osi_session.specs.Standing.{Seen, SaysAs, said}
-use Rattle.osi_judge.specs.declared.members.Member.{Member}
-use Rattle.osi_judge.specs.declared.restarts.Asked.{Asked}
-use Rattle.osi_judge.specs.declared.restarts.Asker.{Asker}
-use Rattle.osi_judge.specs.Kept.{added, member, sends, same_seen, quietly, is_still, remain, waits, Way, Halt, both_of, is_between, unless}
-use Rattle.osi_judge.specs.Kept.{joined, asks, waited, passed, askers, askers_from}
-use Rattle.osi_judge.specs.Nearest.{next_of}
+use Rattle.osi_judge.proofs.Vocabulary.{◌≡◌, ◌∙◌, sym, ap, ℕ, suc, ◌+◌, ◌-◌, ◌<◌, ◌≤◌, Bool, true, false, ◌&&◌, List, [], get_or, Option}
+use Rattle.osi_judge.proofs.Vocabulary.{Some, None, Result, Ok, OnOk, if◌then◌else◌, arith, fold-append, fold, Word, is_restarting, Seen}
+use Rattle.osi_judge.proofs.Vocabulary.{SaysAs, said, Member, Asked, Asker, added, member, sends, same_seen, quietly, is_still, remain, Way}
+use Rattle.osi_judge.proofs.Vocabulary.{Halt, both_of, is_between, unless, joined, asks, waited, askers, askers_from, next_of}
+use Rattle.osi_judge.specs.Kept.{waits}
+use Rattle.osi_judge.specs.Kept.{passed}
 
 -- ---- in memory
 
@@ -27,16 +20,13 @@ on_ok r old new xs ys e h = grind arith
 
 -- ---- one that waits
 
-and_false : (b : Bool) → (b && false) ≡ false
-and_false b = grind arith
-
 pub waits_not : (w : Word) (s : Seen) (u : List ℕ) → is_restarting s.state.phase ≡ false → false ≡ waits w s u
 unfolding waits
 waits_not w s u e = sym (ap (λ (b : Bool). b && remain s (said s w 0) u) e)
 
 remains_not : (w : Word) (s : Seen) (u : List ℕ) → false ≡ remain s (said s w 0) u → false ≡ waits w s u
 unfolding waits
-remains_not w s u e = sym (and_false (is_restarting s.state.phase)) ∙ ap (λ (b : Bool). is_restarting s.state.phase && b) e
+remains_not w s u e = sym (grind arith) ∙ ap (λ (b : Bool). is_restarting s.state.phase && b) e
 
 pub waits_unsaid : (w : Word) (s : Seen) (u : List ℕ) → said s w 0 ≡ None → false ≡ waits w s u
 waits_unsaid w s u e = remains_not w s u (sym (ap (λ (o : Option Seen). remain s o u) e))
@@ -47,8 +37,7 @@ waits_moved w s a u e h =
 
 pub waits_moved_after : (w : Word) (s a : Seen) (u : List ℕ) → said s w 0 ≡ Some a → false ≡ is_still a (quietly a u) → false ≡ waits w s u
 waits_moved_after w s a u e h =
-    remains_not w s u (sym (and_false (is_still s (quietly s u))) ∙ ap (λ (b : Bool). is_still s (quietly s u) && b) h
-    ∙ sym (ap (λ (o : Option Seen). remain s o u) e))
+    remains_not w s u (search arith)
 
 pub waits_so : (w : Word) (s a : Seen) (u : List ℕ) → is_restarting s.state.phase ≡ true → said s w 0 ≡ Some a
     → true ≡ is_still s (quietly s u) → true ≡ is_still a (quietly a u) → true ≡ waits w s u
@@ -60,10 +49,6 @@ waits_so w s a u p e h k = grind arith
 abbrev pub JoinsAs : ℕ → Option Asked → Seen → Seen → List Member → List Member → Option Asked → Type 0
 JoinsAs taken asked s shown old new r =
     (r ≡ (joined taken asked s shown).waiting) × (new ≡ fold added old (joined taken asked s shown).kept)
-
-joins_by : (taken : ℕ) (asked : Option Asked) (b : Asked) (s shown : Seen) (old new : List Member) (r : Option Asked) → asked ≡ Some b
-    → JoinsAs taken (Some b) s shown old new r → JoinsAs taken asked s shown old new r
-joins_by taken asked b s shown old new r e h = subst (λ (o : Option Asked). JoinsAs taken o s shown old new r) (sym e) h
 
 pub joined_first : (taken : ℕ) (asked : Option Asked) (s shown : Seen) (old : List Member) → ((a : Asked) → asked ≡ Some a → ⊥)
     → JoinsAs taken asked s shown old old (Some (record { first = s; last = s; shown = shown }))
@@ -82,7 +67,7 @@ joined_if same taken a s shown =
 pub joined_apart : (taken : ℕ) (asked : Option Asked) (b : Asked) (s shown : Seen) (old new : List Member) → asked ≡ Some b
     → false ≡ same_seen b.shown shown → new ≡ fold added old (both_of taken (Some b))
     → JoinsAs taken asked s shown old new (Some (record { first = s; last = s; shown = shown }))
-joined_apart taken asked b s shown old new e d h = grind (arith, joins_by)
+joined_apart taken asked b s shown old new e d h = grind arith
 
 abbrev joined_with : Bool → ℕ → Asked → Seen → Halt
 joined_with between taken a s = record {
@@ -90,19 +75,15 @@ joined_with between taken a s = record {
   waiting = Some (record { first = a.first; last = s; shown = a.shown });
 }
 
-joined_is : (taken : ℕ) (b : Asked) (s shown : Seen) (between : Bool) → true ≡ same_seen b.shown shown → between ≡ is_between b s
-    → joined_with between taken b s ≡ joined taken (Some b) s shown
-joined_is taken b s shown between d m = grind arith
-
 pub joined_between : (taken : ℕ) (asked : Option Asked) (b : Asked) (s shown : Seen) (old : List Member) → asked ≡ Some b
     → true ≡ same_seen b.shown shown → true ≡ is_between b s
     → JoinsAs taken asked s shown old old (Some (record { first = b.first; last = s; shown = b.shown }))
-joined_between taken asked b s shown old e d m = grind (arith, joined_is, joins_by)
+joined_between taken asked b s shown old e d m = grind arith
 
 pub joined_after : (taken : ℕ) (asked : Option Asked) (b : Asked) (s shown : Seen) (old new : List Member) → asked ≡ Some b
     → true ≡ same_seen b.shown shown → false ≡ is_between b s → new ≡ added old (member taken b.last)
     → JoinsAs taken asked s shown old new (Some (record { first = b.first; last = s; shown = b.shown }))
-joined_after taken asked b s shown old new e d m h = grind (arith, joined_is, joins_by)
+joined_after taken asked b s shown old new e d m h = grind arith
 
 -- ---- a session sends it here
 
@@ -135,26 +116,21 @@ abbrev waited_if : Bool → ℕ → Asked → Halt
 waited_if b taken a =
     if b then record { kept = []; waiting = Some a } else record { kept = both_of taken (Some a); waiting = None }
 
-waited_by : (abort : Word) (taken : ℕ) (asked : Option Asked) (a : Asked) (u : List ℕ) (old new : List Member) (r : Option Asked) (b : Bool)
-    → asked ≡ Some a → b ≡ (waits abort a.first u && waits abort a.last u) → HaltsAs old new r (waited_if b taken a)
-    → WaitsAs abort taken asked u old new r
-waited_by abort taken asked a u old new r b e d h = grind arith
-
 pub waited_none : (abort : Word) (taken : ℕ) (asked : Option Asked) (u : List ℕ) (old : List Member) → ((a : Asked) → asked ≡ Some a → ⊥)
     → WaitsAs abort taken asked u old old None
 waited_none abort taken asked u old n = grind arith
 
 pub waited_first : (abort : Word) (taken : ℕ) (asked : Option Asked) (a : Asked) (u : List ℕ) (old new : List Member) → asked ≡ Some a
     → false ≡ waits abort a.first u → new ≡ fold added old (both_of taken (Some a)) → WaitsAs abort taken asked u old new None
-waited_first abort taken asked a u old new e d h = grind (arith, waited_by)
+waited_first abort taken asked a u old new e d h = grind arith
 
 pub waited_last : (abort : Word) (taken : ℕ) (asked : Option Asked) (a : Asked) (u : List ℕ) (old new : List Member) → asked ≡ Some a
     → false ≡ waits abort a.last u → new ≡ fold added old (both_of taken (Some a)) → WaitsAs abort taken asked u old new None
-waited_last abort taken asked a u old new e d h = grind (arith, waited_by, and_false)
+waited_last abort taken asked a u old new e d h = grind arith
 
 pub waited_both : (abort : Word) (taken : ℕ) (asked : Option Asked) (a : Asked) (u : List ℕ) (old : List Member) → asked ≡ Some a
     → true ≡ waits abort a.first u → true ≡ waits abort a.last u → WaitsAs abort taken asked u old old (Some a)
-waited_both abort taken asked a u old e d k = grind (arith, waited_by)
+waited_both abort taken asked a u old e d k = grind arith
 
 -- ---- one step
 
@@ -163,23 +139,16 @@ rest_with us way n m next old asked =
     fold added (fold added old (passed us way.abort m.taken asked next).kept) (askers us way n
     (passed us way.abort m.taken asked next).waiting next)
 
-step_split : (us : List (List ℕ)) (way : Way) (n : ℕ) (asked r : Option Asked) (m : Member) (old mid : List Member)
-    → AsksAs way asked m old mid r → fold added old (askers us way (suc n) asked (Some m)) ≡ rest_with us way n m (next_of us m) mid r
-step_split us way n asked r m old mid h = grind (arith, fold-append)
-
-askers_none : (us : List (List ℕ)) (way : Way) (n : ℕ) (asked : Option Asked) → askers us way n asked None ≡ []
-askers_none us way n asked = grind arith
-
 pub step_stops : (us : List (List ℕ)) (way : Way) (n : ℕ) (from : Asker) (r : Option Asked) (old mid new : List Member)
     → AsksAs way from.asked from.at old mid r → next_of us from.at ≡ None → new ≡ fold added mid (both_of from.at.taken r)
     → fold added new (askers_from us way n None) ≡ fold added old (askers_from us way (suc n) (Some from))
-step_stops us way n from r old mid new h e k = grind (arith, step_split, askers_none)
+step_stops us way n from r old mid new h e k = grind arith
 
 pub step_on : (us : List (List ℕ)) (way : Way) (n : ℕ) (from : Asker) (on : Member) (u : List ℕ) (r s : Option Asked)
     (old mid new : List Member) → AsksAs way from.asked from.at old mid r → next_of us from.at ≡ Some on → u ≡ get_or us from.at.taken []
     → WaitsAs way.abort from.at.taken r u mid new s
     → fold added new (askers_from us way n (Some (record { at = on; asked = s }))) ≡ fold added old (askers_from us way (suc n) (Some from))
-step_on us way n from on u r s old mid new h e t k = grind (arith, step_split)
+step_on us way n from on u r s old mid new h e t k = grind (arith, fold-append)
 
 -- ---- a walk
 

@@ -1,13 +1,8 @@
 -- The sessions after a unit, after the units of a TSDU, and after a TSDU, are those of all walks: for the functions of `telling`.
-use Rattle.std.proofs.Common.{◌≡◌, ◌∙◌, sym, ap, ℕ, ◌+◌, ◌<◌, ◌≤◌, ◌||◌, Bool, true, false, List, [], ◌∷◌, length, drop, get_or, Result, Ok}
-use Rattle.std.proofs.Common.{Err, IfOk, arith}
-use Rattle.std.proofs.lemmas.List.Sums.{fold-append}
-use Rattle.std.specs.List.{fold, flat_map}
-use Rattle.osi_message.specs.Words.{Word, Words}
-use Rattle.osi_session.specs.Joining.{acting_words, is_restart_word}
-use Rattle.osi_session.proofs.tsdu.words_one_after_the_other.{acting_behind}
-use Rattle.osi_judge.specs.declared.members.Member.{Member}
-use Rattle.osi_judge.specs.Kept.{added, places_of, after_word, after_words}
+use Rattle.osi_judge.proofs.Vocabulary.{◌≡◌, ◌∙◌, sym, ap, ℕ, ◌+◌, ◌<◌, ◌≤◌, ◌||◌, Bool, true, false, List, [], ◌∷◌, length, drop, get_or}
+use Rattle.osi_judge.proofs.Vocabulary.{Result, Ok, Err, IfOk, arith, fold-append, fold, flat_map, Word, Words, is_restart_word}
+use Rattle.osi_judge.proofs.Vocabulary.{acting_behind, Member, added, places_of, after_word, after_words}
+use Rattle.osi_session.specs.Joining.{acting_words}
 use Rattle.osi_judge.proofs.walked.sessions_after_a_unit.{drop_here, drop_end}
 
 -- ---- a unit

@@ -1,22 +1,13 @@
 -- Two sessions are the same if the comparison says so, and only then: for the list of those that are kept, and for all that
 -- compares two of them.
-use Rattle.std.proofs.Common.{◌≡◌, ◌≢◌, ◌∙◌, ◌==◌, ◌&&◌, ℕ, refl, sym, ap, Bool, true, false, MatchBool, if◌then◌else◌, Option, arith}
-use Rattle.std.proofs.lemmas.Bool.{and_from, and_parts, eq-eqb, eqb-true}
-use Rattle.osi_spdu.specs.declared.settings.Wish.{Wish}
-use Rattle.osi_spdu.specs.declared.settings.TokenSetting.{TokenSetting}
-use Rattle.osi_spdu.specs.declared.fields.TsduMaximumSize.{TsduMaximumSize}
-use Rattle.osi_message.specs.declared.tokens.Tokens.{Tokens}
-use Rattle.osi_session.specs.declared.phases.Phase.{Phase}
-use Rattle.osi_session.specs.declared.phases.Phase.TheVariants.{WaitTransport, WaitCn, Connecting, Answering, Ready, MajorAsked}
-use Rattle.osi_session.specs.declared.phases.Phase.TheVariants.{MajorDue, Releasing, ReleaseDue, Restarting, RestartDue, Aborting, Ended}
-use Rattle.osi_session.specs.declared.numbers.Numbers.{Numbers}
-use Rattle.osi_session.specs.declared.selected.FunctionalUnits.{FunctionalUnits}
-use Rattle.osi_session.specs.declared.state.State.{State}
-use Rattle.osi_session.specs.Same.{same_bit, same_wish, place_of, same_setting, same_tokens, same_units, same_numbers, same_sizes}
+use Rattle.osi_judge.proofs.Vocabulary.{◌≡◌, ◌≢◌, ◌∙◌, ◌==◌, ◌&&◌, ℕ, refl, sym, ap, Bool, true, false, MatchBool, if◌then◌else◌, Option}
+use Rattle.osi_judge.proofs.Vocabulary.{arith, and_from, and_parts, eq-eqb, eqb-true, TokenSetting, TsduMaximumSize, Tokens, Phase}
+use Rattle.osi_judge.proofs.Vocabulary.{WaitTransport, WaitCn, Connecting, Answering, Ready, MajorAsked, MajorDue, Releasing, ReleaseDue}
+use Rattle.osi_judge.proofs.Vocabulary.{Restarting, RestartDue, Aborting, Ended, Numbers, FunctionalUnits, State, same_bit, Seen, Member}
+use Rattle.osi_judge.proofs.Vocabulary.{same_count, same_member}
+use Rattle.osi_session.specs.Same.{place_of, same_setting, same_tokens, same_units, same_numbers, same_sizes}
 use Rattle.osi_session.specs.Same.{same_state}
-use Rattle.osi_session.specs.Standing.{Seen}
-use Rattle.osi_judge.specs.declared.members.Member.{Member}
-use Rattle.osi_judge.specs.Kept.{same_count, same_seen, same_member}
+use Rattle.osi_judge.specs.Kept.{same_seen}
 
 both : (x y : Bool) → (x && y) ≡ true → (x ≡ true) × (y ≡ true)
 both x y e = and_parts x y e
@@ -32,17 +23,8 @@ bit_is a b h = grind arith
 bit_refl : (a : Bool) → same_bit a a ≡ true
 bit_refl a = grind arith
 
-wish_is : (a b : Wish) → same_wish a b ≡ true → a ≡ b
-wish_is a b h = grind arith
-
-wish_refl : (a : Wish) → same_wish a a ≡ true
-wish_refl a = grind arith
-
 count_is : (a b : Option ℕ) → same_count a b ≡ true → a ≡ b
 count_is a b e = grind (arith, eqb-true)
-
-count_refl : (a : Option ℕ) → same_count a a ≡ true
-count_refl a = grind (arith, eq-eqb)
 
 phase_at : ℕ → Phase
 phase_at n =
@@ -62,11 +44,11 @@ phase_is a b e = sym (there a) ∙ ap phase_at (eqb-true (place_of a) (place_of 
 
 same_setting_is : (a b : TokenSetting) → same_setting a b ≡ true → a ≡ b
 unfolding same_setting
-same_setting_is a b e = search (arith, both, wish_is)
+same_setting_is a b e = search (arith, both)
 
 same_setting_refl : (a : TokenSetting) → same_setting a a ≡ true
 unfolding same_setting
-same_setting_refl a = grind (arith, each, wish_refl)
+same_setting_refl a = grind (arith, each)
 
 same_tokens_is : (a b : Tokens) → same_tokens a b ≡ true → a ≡ b
 unfolding same_tokens
@@ -132,18 +114,11 @@ same_seen_is : (a b : Seen) → same_seen a b ≡ true → a ≡ b
 unfolding same_seen
 same_seen_is a b e =
     let p0 = both _ _ e in
-    let p1 = both _ _ p0.1 in
-    let p2 = both _ _ p1.1 in
-    λ i. record {
-      state = (same_state_is a.state b.state p0.0) i;
-      joined = (count_is a.joined b.joined p1.0) i;
-      sent = (count_is a.sent b.sent p2.0) i;
-      closed = (bit_is a.closed b.closed p2.1) i;
-    }
+    grind (arith, both, count_is, bit_is, same_state_is a.state b.state p0.0)
 
 same_seen_refl : (a : Seen) → same_seen a a ≡ true
 unfolding same_seen
-same_seen_refl a = grind (arith, each, same_state_refl, count_refl, bit_refl)
+same_seen_refl a = grind (arith, each, same_state_refl, bit_refl)
 
 -- ---- the comparison
 

@@ -1,13 +1,8 @@
 -- The sessions that are kept of a side follow what it tells, and how many they are: for what is known of a side.
-use Rattle.std.proofs.Common.{◌≡◌, ◌∙◌, refl, sym, ap, subst, ℕ, suc, zero, ◌+◌, ◌<◌, ◌≤◌, List, [], ◌∷◌, ◌++◌, length, take, arith}
-use Rattle.std.proofs.lemmas.List.{length-append}
-use Rattle.std.proofs.lemmas.List.Sums.{fold-append}
-use Rattle.osi_session.specs.Standing.{Seen}
-use Rattle.osi_judge.specs.declared.members.Member.{Member}
-use Rattle.osi_judge.specs.Explaining.{Told}
-use Rattle.osi_judge.specs.Judging.{AreKept, IsFew, IsCrowd}
-use Rattle.osi_judge.specs.Kept.{member, after_tsdu, kept}
-use Rattle.osi_judge.proofs.kept.what_is_kept_is_of_what_had_passed.{extends_alike, tsdu_alike}
+use Rattle.osi_judge.proofs.Vocabulary.{◌≡◌, ◌∙◌, refl, ap, ℕ, suc, zero, ◌+◌, ◌<◌, ◌≤◌, List, [], ◌∷◌, ◌++◌, length, take, arith}
+use Rattle.osi_judge.proofs.Vocabulary.{length-append, fold-append, Seen, Member, Told, AreKept, IsFew, IsCrowd, member, after_tsdu}
+use Rattle.osi_judge.specs.Kept.{kept}
+use Rattle.osi_judge.proofs.kept.what_is_kept_is_of_what_had_passed.{tsdu_alike}
 
 -- ---- the first of some TSDUs
 
@@ -33,8 +28,7 @@ pub kept_more : (begin : Seen) (heard : List (List ℕ)) (told : List Told) (x :
     → AreKept begin heard told members → x.before ≤ length heard → new ≡ after_tsdu heard members x
     → AreKept begin heard (told ++ x ∷ []) new
 kept_more begin heard told x members new k l e = λ us h.
-    e ∙ sym (tsdu_alike us heard members x (extends_alike us heard x.before h l))
-    ∙ ap (λ (ms : List Member). after_tsdu us ms x) (k us h) ∙ sym (kept_of_more begin us told x)
+    grind (arith, tsdu_alike, kept_of_more)
 
 pub kept_begins : (begin : Seen) (us : List (List ℕ)) (members : List Member) (m : Member) → members ≡ m ∷ [] → m.taken ≡ 0
     → m.standing ≡ begin → members ≡ kept begin us []
@@ -42,9 +36,6 @@ unfolding kept
 kept_begins begin us members m e t s = e ∙ (λ i. let one : Member = record { taken = t i; standing = s i } in one ∷ [])
 
 -- ---- how many they are
-
-few_at : (begin : Seen) (us : List (List ℕ)) (a b : List Told) → a ≡ b → length (kept begin us b) ≤ 4096 → length (kept begin us a) ≤ 4096
-few_at begin us a b e l = subst (λ (z : List Told). length (kept begin us z) ≤ 4096) (sym e) l
 
 pub few_begins : (begin : Seen) (us : List (List ℕ)) → IsFew begin us []
 unfolding kept
@@ -58,11 +49,7 @@ pub crowd_more : (begin : Seen) (us : List (List ℕ)) (told : List Told) (x : T
     → 4096 < length (kept begin us (told ++ x ∷ [])) → IsCrowd begin us (told ++ x ∷ []) i
 crowd_more begin us told x i e f l = grind (arith, length-append, take_front, take_whole)
 
-pub crowd_still : (begin : Seen) (us : List (List ℕ)) (a b : List Told) (i : ℕ) → take i a ≡ take i b → take (i + 1) a ≡ take (i + 1) b
-    → IsCrowd begin us b i → IsCrowd begin us a i
-crowd_still begin us a b i e f k = grind arith
-
 -- the kept list itself
 pub few_members : (begin : Seen) (us : List (List ℕ)) (told : List Told) (members : List Member) → members ≡ kept begin us told
     → IsFew begin us told → length members ≤ 4096
-few_members begin us told members e f = grind (arith, few_at, take_whole told (length told) (omega arith))
+few_members begin us told members e f = grind (arith, take_whole told (length told) (omega arith))

@@ -1,50 +1,29 @@
 -- Which sessions are kept depends on the TSDUs that had passed alone, and on what they do to sessions: for a side that hears more,
 -- and for the judge, which keeps outlines.
-use Rattle.std.proofs.Common.{◌≡◌, ◌∙◌, refl, ap, ap₂, ℕ, suc, zero, ◌+◌, ◌-◌, ◌<◌, ◌≤◌, Bool, ◌&&◌, List, [], ◌∷◌, ◌++◌, nat_lt, length}
-use Rattle.std.proofs.Common.{get_or, Option, Some, None, Result, if◌then◌else◌, arith}
-use Rattle.std.specs.List.{fold, flat_map}
-use Rattle.osi_spdu.specs.declared.faults.SpduFault.{SpduFault}
-use Rattle.osi_message.specs.Reading.{said_at}
-use Rattle.osi_message.specs.Words.{Word, Words}
-use Rattle.osi_session.specs.Joining.{is_restart_word}
-use Rattle.osi_session.specs.Phases.{is_restarting}
-use Rattle.osi_session.specs.Standing.{Seen, Count, listens, said}
-use Rattle.osi_session.specs.Steady.{is_steady}
-use Rattle.osi_judge.specs.declared.members.Member.{Member}
-use Rattle.osi_judge.specs.declared.restarts.Asked.{Asked}
-use Rattle.osi_judge.specs.Explaining.{Told}
-use Rattle.osi_judge.specs.Kept.{added, sends, quiet_after, quietly, first_sender, listed, anew, latest, follows, answer_by, answering}
-use Rattle.osi_judge.specs.Kept.{senders, Way, way_to, Halt, both_of, remain, waits, waited, passed, stepped, askers, restarters, places_of}
-use Rattle.osi_judge.specs.Kept.{after_word, after_words, after_read, after_tsdu, kept}
-use Rattle.osi_judge.specs.Members.{Extends}
-use Rattle.osi_judge.specs.Nearest.{count_at, quiet_by, next_of, becomes}
+use Rattle.osi_judge.proofs.Vocabulary.{◌≡◌, ◌∙◌, refl, ap, ap₂, ℕ, suc, zero, ◌+◌, ◌-◌, ◌<◌, ◌≤◌, Bool, ◌&&◌, List, [], ◌∷◌, ◌++◌, nat_lt}
+use Rattle.osi_judge.proofs.Vocabulary.{length, get_or, Option, Some, None, Result, if◌then◌else◌, arith, fold, flat_map, SpduFault}
+use Rattle.osi_judge.proofs.Vocabulary.{said_at, Word, Words, is_restart_word, is_restarting, Seen, Count, listens, said, is_steady, Member}
+use Rattle.osi_judge.proofs.Vocabulary.{Asked, Told, added, sends, first_sender, listed, anew, latest, follows, answer_by, answering}
+use Rattle.osi_judge.proofs.Vocabulary.{senders, Way, way_to, Halt, both_of, remain, waited, stepped, askers, restarters, after_word}
+use Rattle.osi_judge.proofs.Vocabulary.{after_words, after_read, after_tsdu, count_at, next_of, becomes}
+use Rattle.osi_judge.specs.Kept.{waits, places_of, kept}
 use Rattle.osi_judge.proofs.kept.a_session_takes_one_tsdu_at_a_time.{InBounds, within_by, next_taken}
 
 -- the TSDUs before this place do the same to every session
 abbrev pub ActAlike : List (List ℕ) → List (List ℕ) → ℕ → Type 0
 ActAlike us vs n = (i : ℕ) → i < n → (s : Seen) → count_at s (get_or us i []) ≡ count_at s (get_or vs i [])
 
--- those that passed do what they did
-pub extends_alike : (us heard : List (List ℕ)) (n : ℕ) → Extends us heard → n ≤ length heard → ActAlike us heard n
-extends_alike us heard n e l = λ i b s. ap (count_at s) (e i (omega arith))
-
 module _ (us vs : List (List ℕ)) (before : ℕ) (h : ActAlike us vs before) where
   -- ---- one TSDU
 
-  next_alike : (m : Member) → m.taken < before → next_of us m ≡ next_of vs m
-  next_alike m l = ap (λ (c : Count). if listens m.standing then quiet_by m c else None) (h m.taken l m.standing)
-
-  quietly_alike : (i : ℕ) (s : Seen) → i < before → quietly s (get_or us i []) ≡ quietly s (get_or vs i [])
-  quietly_alike i s l = ap (λ (c : Count). if listens s then quiet_after s c else None) (h i l s)
-
   follows_alike : (i : ℕ) (o : Option Seen) → i < before → follows o (get_or us i []) ≡ follows o (get_or vs i [])
-  follows_alike i o l = grind (arith, quietly_alike)
+  follows_alike i o l = grind arith
 
   answering_alike : (w : Word) (m : Member) → m.taken < before → answering us w m ≡ answering vs w m
   answering_alike w m l = ap (λ (c : Count). if listens m.standing then answer_by w m c else []) (h m.taken l m.standing)
 
   remain_alike : (i : ℕ) (s : Seen) (o : Option Seen) → i < before → remain s o (get_or us i []) ≡ remain s o (get_or vs i [])
-  remain_alike i s o l = grind (arith, quietly_alike)
+  remain_alike i s o l = grind arith
 
   waits_alike : (w : Word) (i : ℕ) (s : Seen) → i < before → waits w s (get_or us i []) ≡ waits w s (get_or vs i [])
   unfolding waits
@@ -57,12 +36,8 @@ module _ (us vs : List (List ℕ)) (before : ℕ) (h : ActAlike us vs before) wh
       ap₂ (λ (x y : Bool). let both : Halt = if x && y then record { kept = []; waiting = Some a }
       else record { kept = both_of taken (Some a); waiting = None } in both) (waits_alike w taken a.first l) (waits_alike w taken a.last l)
 
-  passed_alike : (w : Word) (taken : ℕ) (asked : Option Asked) (o : Option Member) → taken < before
-      → passed us w taken asked o ≡ passed vs w taken asked o
-  passed_alike w taken asked o l = grind (arith, waited_alike)
-
   stepped_alike : (way : Way) (asked : Option Asked) (m : Member) → m.taken < before → stepped us way asked m ≡ stepped vs way asked m
-  stepped_alike way asked m l = grind (arith, next_alike, passed_alike)
+  stepped_alike way asked m l = search (arith, waited_alike)
 
   -- ---- a walk
 
@@ -73,7 +48,7 @@ module _ (us vs : List (List ℕ)) (before : ℕ) (h : ActAlike us vs before) wh
   becomes_alike (suc n) (Some m) b =
       let l : m.taken + suc n ≤ before = b (omega arith) in
       let within = within_by (next_of us m) before n m.taken (next_taken us m) l in
-      ap (λ (ms : List Member). m ∷ ms) (becomes_alike n (next_of us m) within ∙ ap (becomes vs n) (next_alike m (omega arith)))
+      ap (λ (ms : List Member). m ∷ ms) (becomes_alike n (next_of us m) within ∙ ap (becomes vs n) (grind arith))
 
   senders_alike : (w : Word) (octets n : ℕ) (earlier : Option Seen) (o : Option Member) → InBounds before n o
       → senders us w octets n earlier o ≡ senders vs w octets n earlier o
@@ -86,7 +61,7 @@ module _ (us vs : List (List ℕ)) (before : ℕ) (h : ActAlike us vs before) wh
       let within = within_by (next_of us m) before n m.taken (next_taken us m) l in
       let last = latest earlier (sends w octets m) in
       let rest = senders_alike w octets n (follows last (get_or us m.taken [])) (next_of us m) within
-      ∙ ap₂ (λ (x : Option Seen) (y : Option Member). senders vs w octets n x y) (follows_alike m.taken last at) (next_alike m at) in
+      ∙ ap₂ (λ (x : Option Seen) (y : Option Member). senders vs w octets n x y) (follows_alike m.taken last at) (grind arith) in
       ap₂ (λ (x y : List Member). anew earlier (sends w octets m) ++ (x ++ y)) (answering_alike w m at) rest
 
   askers_alike : (way : Way) (n : ℕ) (asked : Option Asked) (o : Option Member) → InBounds before n o
@@ -100,7 +75,7 @@ module _ (us vs : List (List ℕ)) (before : ℕ) (h : ActAlike us vs before) wh
       let within = within_by (next_of us m) before n m.taken (next_taken us m) l in
       let s = stepped_alike way asked m at in
       let rest = askers_alike way n (stepped us way asked m).waiting (next_of us m) within
-      ∙ ap₂ (λ (x : Halt) (y : Option Member). askers vs way n x.waiting y) s (next_alike m at) in
+      ∙ ap₂ (λ (x : Halt) (y : Option Member). askers vs way n x.waiting y) s (grind arith) in
       ap₂ (λ (x : Halt) (y : List Member). x.kept ++ y) s rest
 
   -- ---- all sessions

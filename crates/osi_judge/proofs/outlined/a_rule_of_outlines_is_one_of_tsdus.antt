@@ -1,26 +1,12 @@
 -- Which sessions explain a side, and which of them came nearest to what it sent: the same where outlines were heard as where the
 -- TSDUs themselves were. For the judge, which keeps outlines, and tells the rule by which a side of a capture broke the protocol.
-use Rattle.std.proofs.Common.{◌≡◌, ◌∙◌, refl, ap, subst, ℕ, ◌+◌, ◌-◌, ◌≤◌, ◌↔◌, inl, inr, List, [], ◌∷◌, ◌++◌, replicate, length, take}
-use Rattle.std.proofs.Common.{Some, option_map, Result, Ok, Err, arith}
-use Rattle.std.specs.List.{fold, flat_map}
-use Rattle.osi_spdu.specs.declared.faults.SpduFault.{SpduFault}
-use Rattle.osi_spdu.specs.Known.{Contents, Units}
-use Rattle.osi_spdu.specs.Reading.{tsdu_at}
-use Rattle.osi_message.specs.Reading.{word}
-use Rattle.osi_session.specs.Standing.{Seen}
-use Rattle.osi_judge.specs.declared.members.Member.{Member}
-use Rattle.osi_judge.specs.declared.rules.Break.{Break}
-use Rattle.osi_judge.specs.Breaking.{Leads, BreaksIn, here, last, later, BreaksAs, BreaksWith, in_effect}
-use Rattle.osi_judge.specs.Explaining.{Told, Remark, remarks, Explains}
-use Rattle.osi_judge.specs.declared.findings.Finding.{Finding}
-use Rattle.osi_judge.specs.declared.findings.Finding.TheVariants.{Kept, Broke, Left, TooMany}
-use Rattle.osi_judge.specs.Judging.{AreAll, IsFew, HasRoom}
-use Rattle.osi_judge.specs.Kept.{kept}
-use Rattle.osi_judge.specs.Members.{SomeExplains}
-use Rattle.osi_judge.specs.Nearest.{Unsaid, a_unit, unread, count_at, becomes, reached, last_in, far, tried, nearest, break_by, break_of}
-use Rattle.osi_judge.specs.declared.standings.Stands.{Stands}
-use Rattle.osi_judge.specs.Onward.{StandsBehind}
-use Rattle.osi_judge.specs.Outlines.{outlines}
+use Rattle.osi_judge.proofs.Vocabulary.{◌≡◌, ◌∙◌, refl, ap, ℕ, ◌+◌, ◌-◌, ◌↔◌, inl, inr, List, [], ◌∷◌, ◌++◌, replicate, length, take, Some}
+use Rattle.osi_judge.proofs.Vocabulary.{option_map, Result, Ok, Err, arith, fold, flat_map, SpduFault, Units, tsdu_at, Seen, Member, Break}
+use Rattle.osi_judge.proofs.Vocabulary.{BreaksIn, here, last, later, BreaksAs, BreaksWith, in_effect, Told, Remark, remarks, Explains}
+use Rattle.osi_judge.proofs.Vocabulary.{Finding, Kept, Broke, TooMany, AreAll, HasRoom, kept, SomeExplains, Unsaid, a_unit, unread, becomes}
+use Rattle.osi_judge.proofs.Vocabulary.{reached, far, tried, break_of, Stands, StandsBehind, outlines}
+use Rattle.osi_judge.specs.declared.findings.Finding.TheVariants.{Left}
+use Rattle.osi_judge.specs.Nearest.{count_at, nearest}
 use Rattle.osi_judge.proofs.outlined.alike_tsdus_explain_the_same.{Alike, back, explains_as, outlines_alike, extends_as, length_outlines}
 use Rattle.osi_judge.proofs.outlined.alike_tsdus_explain_the_same.{stands_of_tsdus}
 use Rattle.osi_judge.proofs.outlined.alike_tsdus_explain_the_same.{kept_of_tsdus as protocol_of_tsdus}
@@ -47,15 +33,10 @@ nearest_as : (us vs : List (List ℕ)) → Alike us vs → (u : Unsaid) (before 
 unfolding nearest
 nearest_as us vs h u before members = ap (λ (ms : List Member). fold (tried u) (far members) ms) (reached_as us vs h before members)
 
-break_as : (us vs : List (List ℕ)) → Alike us vs → (u : Unsaid) (before : ℕ) (members : List Member)
-    → break_of u us before members ≡ break_of u vs before members
-break_as us vs h u before members = ap (break_by u before) (nearest_as us vs h u before members)
-
 pub stands_of_outlines : (us : List (List ℕ)) (m : Member) (s : Stands) → StandsBehind (outlines us) m s → StandsBehind us m s
 stands_of_outlines us m s h =
     let b = becomes_as (outlines us) us (outlines_alike us) (length (outlines us) - m.taken) m in
-    stands_of_tsdus us m s h (h.goes ∙ ap (last_in m) b
-    ∙ ap (λ (n : ℕ). last_in m (becomes us (n - m.taken) (Some m))) (length_outlines us))
+    stands_of_tsdus us m s h (grind (arith, length_outlines))
 
 -- ---- what the sessions explain
 
@@ -76,52 +57,34 @@ explained_of_outlines us ms taken s = grind (arith, explains_as, outlines_alike,
 pub all_of_tsdus : (begin : Seen) (heard : List (List ℕ)) (before : ℕ) (members : List Member) (told : List Told)
     → AreAll begin (outlines heard) before members told → AreAll begin heard before members told
 all_of_tsdus begin heard before members told h = λ us later x b.
-    let k = h (outlines us) later (extends_as us heard x) b in
-    let e = explained_of_outlines us (remarks told ++ later) 0 begin in
-    let s = of_outlines us members later in (
-      λ p. s.0 (k.0 (e.1 p)),
-      λ p. e.0 (k.1 (s.1 p)),
-    )
-
-leads_of_tsdus : (heard : List (List ℕ)) (octets before : ℕ) (members : List Member) (unit : Contents) (next : List Member)
-    → Leads (outlines heard) octets before members unit next → Leads heard octets before members unit next
-leads_of_tsdus heard octets before members unit next h =
-    h ∙ word_alike (outlines heard) heard before (all_alike (outlines heard) heard (outlines_alike heard) before) octets members (word unit)
+    grind (arith, extends_as us heard x, explained_of_outlines us (remarks told ++ later) 0 begin, of_outlines us members later)
 
 -- the sessions that are kept
 pub kept_of_tsdus : (heard : List (List ℕ)) (begin : Seen) (told : List Told) → kept begin (outlines heard) told ≡ kept begin heard told
 kept_of_tsdus heard begin told = kept_alike (outlines heard) heard begin told (all_alike (outlines heard) heard (outlines_alike heard))
 
-few_of_tsdus : (heard : List (List ℕ)) (begin : Seen) (told : List Told) → IsFew begin (outlines heard) told → IsFew begin heard told
-few_of_tsdus heard begin told h = λ n. subst (λ (ms : List Member). length ms ≤ 4096) (kept_of_tsdus heard begin (take n told)) (h n)
-
 pub room_of_tsdus : (heard : List (List ℕ)) (begin : Seen) (told : List Told) (f : Finding) → HasRoom begin (outlines heard) told f
     → HasRoom begin heard told f
-room_of_tsdus heard begin told Kept h = few_of_tsdus heard begin told h
-room_of_tsdus heard begin told (Broke i) h = few_of_tsdus heard begin (take i told) h
-room_of_tsdus heard begin told (Left i) h = few_of_tsdus heard begin (take i told) h
+room_of_tsdus heard begin told Kept h = grind (arith, kept_of_tsdus)
+room_of_tsdus heard begin told (Broke i) h = grind (arith, kept_of_tsdus)
+room_of_tsdus heard begin told (Left i) h = grind (arith, kept_of_tsdus)
 room_of_tsdus heard begin told TooMany (i, l, k, c) =
-    grind (
-      arith,
-      protocol_of_tsdus begin heard (take (i + 1) told) k,
-      few_of_tsdus heard begin (take i told) c.0,
-      kept_of_tsdus heard begin (take (i + 1) told),
-    )
+    grind (arith, protocol_of_tsdus begin heard (take (i + 1) told) k, kept_of_tsdus, kept_of_tsdus heard begin (take (i + 1) told))
 
 -- ---- the rule
 
 by_as : (heard : List (List ℕ)) (u : Unsaid) (before : ℕ) (members : List Member) (by : Break)
     → by ≡ break_of u (outlines heard) before members → by ≡ break_of u heard before members
-by_as heard u before members by e = e ∙ break_as (outlines heard) heard (outlines_alike heard) u before members
+by_as heard u before members by e = e ∙ (grind (arith, nearest_as (outlines heard) heard (outlines_alike heard) u before members))
 
 breaks_in : (heard : List (List ℕ)) (octets before : ℕ) (members : List Member) (units : Units) (at : List Member) (by : Break)
     → BreaksIn (outlines heard) octets before members units at by → BreaksIn heard octets before members units at by
 breaks_in heard octets before ms us at b (here members unit units by l e) =
-    here members unit units by (leads_of_tsdus heard octets before members unit [] l) (by_as heard (a_unit unit octets) before members by e)
+    here members unit units by (grind (arith, word_alike, all_alike, outlines_alike)) (by_as heard (a_unit unit octets) before members by e)
 breaks_in heard octets before ms us at b (last members unit by e) =
     last members unit by (by_as heard (a_unit unit octets) before members by e)
 breaks_in heard octets before ms us a b (later members next unit units at by l n h) =
-    later members next unit units at by (leads_of_tsdus heard octets before members unit next l) n
+    later members next unit units at by (grind (arith, word_alike, all_alike, outlines_alike)) n
     (breaks_in heard octets before next units at by h)
 
 breaks_as : (heard : List (List ℕ)) (octets before : ℕ) (members : List Member) (read : Result Units SpduFault) (at : List Member)

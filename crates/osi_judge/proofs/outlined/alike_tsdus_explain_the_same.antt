@@ -1,29 +1,18 @@
 -- What is explained, found and taken where outlines were heard is so where the TSDUs themselves were.
 -- For the judge, which keeps outlines, and says what holds of the TSDUs of a capture.
-use Rattle.std.proofs.Common.{◌≡◌, ◌∙◌, refl, sym, ap, subst, ℕ, zero, suc, ◌+◌, Bool, true, false, ◌&&◌, nat_lt, List, [], ◌∷◌, ◌++◌}
-use Rattle.std.proofs.Common.{length, take, get_or, Option, None, Result, Ok, IfSome, if◌then◌else◌, arith}
-use Rattle.osi_spdu.specs.declared.faults.SpduFault.{SpduFault}
+use Rattle.osi_judge.proofs.Vocabulary.{◌≡◌, ◌∙◌, refl, sym, ap, subst, ℕ, zero, suc, ◌+◌, Bool, true, false, ◌&&◌, nat_lt, List, [], ◌∷◌}
+use Rattle.osi_judge.proofs.Vocabulary.{◌++◌, length, take, get_or, Option, None, Result, Ok, IfSome, if◌then◌else◌, arith, SpduFault}
+use Rattle.osi_judge.proofs.Vocabulary.{Meaning, Word, Words, says, is_second, written, Reply, has_no_effect, Seen, Count, Takes, Finding}
+use Rattle.osi_judge.proofs.Vocabulary.{Kept, Broke, TooMany, Member, Stands, Explains, Remark, Told, done, takes, answers, IsAstray}
+use Rattle.osi_judge.proofs.Vocabulary.{IsFound, IsKept, Extends, Comes, StandsBehind, StopsBy, standing_of, stays, goes_to, AreAlike, bare}
+use Rattle.osi_judge.proofs.Vocabulary.{outline_as, outline_behind, outlines, in_first, is_outside, accepted_in, offered_in}
+use Rattle.osi_judge.proofs.Vocabulary.{selects_outside, Ever}
 use Rattle.osi_spdu.specs.Reading.{tsdu_at, unit_at}
-use Rattle.osi_message.specs.Meanings.{Meaning}
 use Rattle.osi_message.specs.Reading.{said_at}
-use Rattle.osi_message.specs.Words.{Word, Words, says}
-use Rattle.osi_message.specs.Written.{is_second, written}
-use Rattle.osi_session.specs.declared.reactions.Reply.{Reply}
-use Rattle.osi_session.specs.Respond.{has_no_effect}
-use Rattle.osi_session.specs.Standing.{Seen, Count, Takes}
-use Rattle.osi_session.specs.Steady.{Hears}
-use Rattle.osi_judge.specs.declared.findings.Finding.{Finding}
-use Rattle.osi_judge.specs.declared.findings.Finding.TheVariants.{Kept, Broke, Left, TooMany}
-use Rattle.osi_judge.specs.declared.members.Member.{Member}
-use Rattle.osi_judge.specs.declared.standings.Stands.{Stands}
-use Rattle.osi_judge.specs.Explaining.{Explains, Remark, Told, IsExplained, done, takes, answers, says as sends}
-use Rattle.osi_judge.specs.Judging.{IsAstray, IsFound, IsKept}
-use Rattle.osi_judge.specs.Members.{Extends}
-use Rattle.osi_judge.specs.Onward.{Comes, IsAtEnd, StandsBehind, StopsBy, goes, standing_of, stays}
-use Rattle.osi_judge.specs.Nearest.{goes_to}
-use Rattle.osi_judge.specs.Outlines.{AreAlike, bare, outline, outline_as, outline_behind, outline_by, outlines}
-use Rattle.osi_judge.specs.Profiles.{in_first, is_outside, accepted_in, offered_in, selects_outside}
-use Rattle.osi_judge.specs.Walking.{Ever}
+use Rattle.osi_judge.specs.declared.findings.Finding.TheVariants.{Left}
+use Rattle.osi_judge.specs.Explaining.{says as sends}
+use Rattle.osi_judge.specs.Onward.{goes}
+use Rattle.osi_judge.specs.Outlines.{outline}
 use Rattle.osi_judge.proofs.outlined.an_outline_is_taken_alike.{Bared, bared, numbered_at, part_again, read_again, taken_alike}
 
 -- ---- what is explained
@@ -80,10 +69,6 @@ Offer tsdu = in_first offered_in (said_at tsdu)
 either_offer : (b : Bool) (short tsdu : List ℕ) (o : Option ℕ) → Offer short ≡ o → Offer tsdu ≡ o → Offer (if b then short else tsdu) ≡ o
 either_offer b short tsdu o h k = grind arith
 
-outline_offer : (tsdu : List ℕ) (m : Option Meaning) (o : Option ℕ) → Offer tsdu ≡ o → IfSome m (λ n. Offer (written n) ≡ o)
-    → Offer (outline_as tsdu m) ≡ o
-outline_offer tsdu m o h k = grind (arith, either_offer)
-
 alone_offer : (m : Meaning) (o : Option Meaning) → Bared m o → IfSome o (λ n. offered_in n ≡ offered_in m) → is_second m ≡ false
     → IfSome o (λ n. Offer (written n) ≡ offered_in m)
 alone_offer m o b h e = grind (arith, read_again)
@@ -96,31 +81,22 @@ one_offer : (b : Bool) (tsdu : List ℕ) (m : Meaning) → is_second m ≡ b →
     → Offer (if b then tsdu else outline_as tsdu (bare m)) ≡ offered_in m
 one_offer true tsdu m e h = ap (λ (r : Result Words SpduFault). in_first offered_in r) h
 one_offer false tsdu m e h =
-    grind (arith, outline_offer, alone_offer m (bare m) (bared m (numbered_at tsdu (says m ∷ []) h).0) (bare_offer m) e)
+    grind (arith, either_offer, alone_offer m (bare m) (bared m (numbered_at tsdu (says m ∷ []) h).0) (bare_offer m) e)
 
 second_offer : (b : Bool) (tsdu : List ℕ) (item m : Meaning) → has_no_effect item ≡ true → is_second m ≡ b
     → said_at tsdu ≡ Ok (says item ∷ says m ∷ [])
     → Offer (if b then outline_as tsdu (bare m) else tsdu) ≡ offered_in item
 second_offer false tsdu item m i e h = ap (λ (r : Result Words SpduFault). in_first offered_in r) h
 second_offer true tsdu item m i e h =
-    grind (arith, outline_offer, pair_offer item m (bare m) (bared m (numbered_at tsdu (says item ∷ says m ∷ []) h).1.0) i e)
-
-behind_offer : (tsdu : List ℕ) (item : Meaning) (w : Word) → has_no_effect item ≡ true → said_at tsdu ≡ Ok (says item ∷ w ∷ [])
-    → Offer (outline_behind tsdu w) ≡ offered_in item
-behind_offer tsdu item w i h = grind (arith, second_offer, either_offer, part_again, idle_offer)
+    grind (arith, either_offer, pair_offer item m (bare m) (bared m (numbered_at tsdu (says item ∷ says m ∷ []) h).1.0) i e)
 
 two_offer : (b : Bool) (tsdu : List ℕ) (item : Meaning) (w : Word) → has_no_effect item ≡ b → said_at tsdu ≡ Ok (says item ∷ w ∷ [])
     → Offer (if b then outline_behind tsdu w else tsdu) ≡ offered_in item
-two_offer b tsdu item w i h = grind (arith, behind_offer)
-
-offer_by : (tsdu : List ℕ) (read : Result Words SpduFault) → said_at tsdu ≡ read → Offer (outline_by tsdu read) ≡ in_first offered_in read
-offer_by tsdu (Ok (says m ∷ [])) h = one_offer (is_second m) tsdu m refl h
-offer_by tsdu (Ok (says item ∷ w ∷ [])) h = two_offer (has_no_effect item) tsdu item w refl h
-offer_by tsdu _ h = ap (λ (r : Result Words SpduFault). in_first offered_in r) h
+two_offer b tsdu item w i h = grind (arith, second_offer, either_offer, part_again, idle_offer)
 
 same_offer : (tsdu : List ℕ) → Offer (outline tsdu) ≡ Offer tsdu
 unfolding outline
-same_offer tsdu = offer_by tsdu (said_at tsdu) refl
+same_offer tsdu = grind (arith, one_offer, two_offer)
 
 pub same_selection : (us : List (List ℕ)) (told : List Told) → selects_outside (outlines us) told ≡ selects_outside us told
 same_selection us [] = refl
@@ -133,17 +109,13 @@ same_selection us (t ∷ told) =
 pub kept_of_tsdus : (begin : Seen) (us : List (List ℕ)) (told : List Told) → IsKept begin (outlines us) told → IsKept begin us told
 kept_of_tsdus begin us told h = (explains_as (outlines us) us (outlines_alike us) _ _ _ h.0, sym (same_selection us told) ∙ h.1)
 
-not_explained : (begin : Seen) (us : List (List ℕ)) (told : List Told) → (IsExplained begin (outlines us) told → ⊥)
-    → IsExplained begin us told → ⊥
-not_explained begin us told h k = h (explains_as us (outlines us) (back (outlines us) us (outlines_alike us)) _ _ _ k)
-
 astray : (begin : Seen) (us : List (List ℕ)) (told : List Told) → IsAstray begin (outlines us) told → IsAstray begin us told
-astray begin us told h = grind (arith, not_explained, same_selection)
+astray begin us told h = grind (arith, explains_as, back, outlines_alike, same_selection)
 
 pub found_of_tsdus : (begin : Seen) (us : List (List ℕ)) (told : List Told) (f : Finding) → IsFound begin (outlines us) told f
     → IsFound begin us told f
 found_of_tsdus begin us told Kept h = kept_of_tsdus begin us told h
-found_of_tsdus begin us told (Broke i) h = grind (arith, explains_as, outlines_alike, not_explained, same_selection)
+found_of_tsdus begin us told (Broke i) h = grind (arith, explains_as, outlines_alike, same_selection)
 found_of_tsdus begin us told (Left i) h = (h.0, kept_of_tsdus begin us (take i told) h.1, astray begin us (take (i + 1) told) h.2)
 found_of_tsdus begin us told TooMany (i, l, h) = (i, l, kept_of_tsdus begin us (take (i + 1) told) h)
 
@@ -160,28 +132,17 @@ pub said_of_tsdus : (heard : List (List ℕ)) (before taken : ℕ) (s : Seen) (s
     → Ever (outlines heard) before (λ us later. Explains us later taken s → Explains us (said ++ later) 0 begin)
     → Ever heard before (λ us later. Explains us later taken s → Explains us (said ++ later) 0 begin)
 said_of_tsdus heard before taken s said begin h = λ us later x b k.
-    explains_as (outlines us) us (outlines_alike us) _ _ _
-    (h (outlines us) later (extends_as us heard x) b (explains_as us (outlines us) (back (outlines us) us (outlines_alike us)) _ _ _ k))
-
-hears_as : (s t : Seen) (a b : List ℕ) → AreAlike a b → Hears s a t → Hears s b t
-hears_as s t a b h k = grind (arith, takes_as)
+    search (arith, explains_as, outlines_alike us, extends_as us heard x, back (outlines us) us (outlines_alike us))
 
 comes_as : (us vs : List (List ℕ)) → Alike us vs → (m n : Member) → Comes us m n → Comes vs m n
 comes_as us vs h m n (stays x) = stays x
 comes_as us vs h m n (goes x y t q k) =
-    goes x y t (record {
-      taken = q.taken;
-      follows =
-          hears_as x.standing y.standing (get_or us x.taken []) (get_or vs x.taken []) (h x.taken) q.follows;
-    })
+    goes x y t (grind (arith, takes_as))
     (comes_as us vs h y t k)
 
 stops_as : (s : Seen) (a b : List ℕ) (owes : Option Reply) → AreAlike a b → StopsBy s a owes → StopsBy s b owes
 stops_as s a b owes h k = grind (arith, takes_as)
 
-ends_as : (us : List (List ℕ)) (m : Member) (owes : Option Reply) → IsAtEnd (outlines us) m owes → IsAtEnd us m owes
-ends_as us m owes h = grind (arith, length_outlines, stops_as, outlines_alike)
-
 pub stands_of_tsdus : (us : List (List ℕ)) (m : Member) (s : Stands) → StandsBehind (outlines us) m s → standing_of s ≡ goes_to us m
     → StandsBehind us m s
-stands_of_tsdus us m s h g = search (arith, comes_as, outlines_alike, ends_as)
+stands_of_tsdus us m s h g = grind (arith, comes_as, outlines_alike, length_outlines, stops_as)

@@ -1,17 +1,13 @@
 -- TSDUs of which equal ones in a row are kept once: how many there are, which one has a place, one more, and one fewer.
 -- For the value Heard.
-use Rattle.std.proofs.Common.{◌≡◌, ◌∙◌, refl, sym, ap, subst, ℕ, zero, suc, ◌+◌, ◌-◌, ◌<◌, ◌≤◌, ◌≢◌, List, [], ◌∷◌, ◌++◌, length, get_or}
-use Rattle.std.proofs.Common.{take, append_assoc, arith, Bool, true, false, ◌&&◌, ◌==◌, if◌then◌else◌, MatchBool, nat_eq, rules}
-use Rattle.std.specs.Prelude.{replicate}
-use Rattle.std.proofs.lemmas.List.{get_or_append_left, get_or-append_right, get_or-replicate, length-append, length-replicate, append-nil}
-use Rattle.std.proofs.lemmas.List.{replicate_more}
-use Rattle.std.proofs.Math.Seq.{take-append_seam}
-use Rattle.std.proofs.lemmas.Bool.{eq-eqb, eqb-true}
-use Rattle.std.specs.Prelude.{eqb}
-use lib.Pointwise.{pointwise}
-use Rattle.osi_judge.specs.declared.heard.Run.{Run}
-use Rattle.osi_judge.specs.Keeping.{is_same, once, once_behind}
-use Rattle.osi_judge.specs.Runs.{AreApart, AreFrom, HasPlace, IsOther, begin_at, begin_in, last_from, last_in, spread, tsdu_at}
+use Rattle.osi_judge.proofs.Vocabulary.{◌≡◌, ◌∙◌, refl, sym, ap, subst, ℕ, zero, suc, ◌+◌, ◌-◌, ◌<◌, ◌≤◌, ◌≢◌, List, [], ◌∷◌, ◌++◌, length}
+use Rattle.osi_judge.proofs.Vocabulary.{get_or, take, arith, Bool, true, false, ◌&&◌, ◌==◌, if◌then◌else◌, MatchBool, nat_eq, rules}
+use Rattle.osi_judge.proofs.Vocabulary.{replicate, get_or_append_left, get_or-append_right, get_or-replicate, length-append}
+use Rattle.osi_judge.proofs.Vocabulary.{length-replicate, append-nil, replicate_more, take-append_seam, eq-eqb, eqb-true, eqb, pointwise}
+use Rattle.osi_judge.proofs.Vocabulary.{Run, is_same, once, once_behind, AreApart, AreFrom, HasPlace, IsOther, begin_at, begin_in}
+use Rattle.osi_judge.proofs.Vocabulary.{last_from, last_in, spread}
+use Rattle.std.proofs.Common.{append_assoc}
+use Rattle.osi_judge.specs.Runs.{tsdu_at}
 
 -- ---- how many there are
 
@@ -19,21 +15,15 @@ spread_length : (at : ℕ) (runs : List Run) (count : ℕ) → AreFrom at runs c
 spread_length at [] count h = omega (arith, h)
 spread_length at (r ∷ runs) count h = grind (arith, length-append, length-replicate, spread_length (begin_in runs count) runs count h.2)
 
-pub all_counted : (runs : List Run) (count : ℕ) → AreFrom 0 runs count → count ≡ length (spread runs count)
-all_counted runs count h = let n = spread_length 0 runs count h in omega (arith, n)
-
 pub counted_in : (runs : List Run) (count : ℕ) (value : List (List ℕ)) → AreFrom 0 runs count → spread runs count ≡ value
     → count ≡ length value
-counted_in runs count value h v = all_counted runs count h ∙ ap (λ (x : List (List ℕ)). length x) v
+counted_in runs count value h v = (grind (arith, spread_length)) ∙ ap (λ (x : List (List ℕ)). length x) v
 
 some_runs : (runs : List Run) (count : ℕ) → AreFrom 0 runs count → 0 < count → 0 < length runs
 some_runs [] count h l = absurd (omega (arith, h, l))
 some_runs (r ∷ runs) count h l = omega arith
 
 -- ---- which one has a place
-
-begin_first : (runs : List Run) (count : ℕ) → begin_at runs count zero ≡ begin_in runs count
-begin_first runs count = grind arith
 
 begin_later : (at : ℕ) (runs : List Run) (count i : ℕ) → AreFrom at runs count → at ≤ begin_at runs count i
 begin_later at [] count i h = omega (arith, h)
@@ -57,19 +47,14 @@ tsdu_read (x ∷ runs) (suc i) r l e = tsdu_read runs i r (omega (arith, l)) e
 found_from : (at place : ℕ) (runs : List Run) (count i : ℕ) → AreFrom at runs count → i < length runs → begin_at runs count i ≤ at + place
     → at + place < begin_at runs count (suc i) → get_or (spread runs count) place [] ≡ tsdu_at runs i
 found_from at place [] count i h l b e = absurd (omega (arith, l))
-found_from at place (r ∷ runs) count zero h l b e = grind (arith, begin_first, length-replicate, get_or_append_left, get_or-replicate)
+found_from at place (r ∷ runs) count zero h l b e = grind (arith, length-replicate, get_or_append_left, get_or-replicate)
 found_from at place (r ∷ runs) count (suc i) h l b e =
     let n = begin_in runs count - r.from in
     let many = length-replicate n r.tsdu in
-    let later = begin_later (begin_in runs count) runs count i h.2 in
-    let behind : n ≤ place = omega (arith, later, b, h.0, h.1) in
+    let behind : n ≤ place = grind (arith, begin_later, b, h.0, h.1) in
     get_or-append_right (replicate n r.tsdu) (spread runs count) n place [] many behind
     ∙ found_from (begin_in runs count) (place - n) runs count i h.2 (omega (arith, l)) (omega (arith, behind, b, h.0, h.1))
     (omega (arith, behind, e, h.0, h.1))
-
-pub found : (runs : List Run) (count place i : ℕ) → AreFrom 0 runs count → HasPlace runs count place i
-    → get_or (spread runs count) place [] ≡ tsdu_at runs i
-found runs count place i h p = grind (arith, found_from)
 
 -- ---- one more
 
@@ -84,18 +69,15 @@ last_goes_on at [] count h l = absurd (omega (arith, l))
 last_goes_on at (r ∷ []) count h l = (h.0, omega (arith, h.1), refl)
 last_goes_on at (r ∷ s ∷ runs) count h l = (h.0, h.1, last_goes_on s.from (s ∷ runs) count h.2 (omega arith))
 
-begin_kept : (runs : List Run) (x : Run) (count : ℕ) → x.from ≡ count → begin_in (runs ++ x ∷ []) (count + 1) ≡ begin_in runs count
-begin_kept runs x count e = grind arith
-
 pub one_added : (runs : List Run) (x : Run) (count : ℕ) → x.from ≡ count
     → spread (runs ++ x ∷ []) (count + 1) ≡ spread runs count ++ x.tsdu ∷ []
 one_added [] x count e = grind arith
-one_added (r ∷ runs) x count e = grind (arith, begin_kept, append_assoc, one_added runs x count e)
+one_added (r ∷ runs) x count e = grind (arith, append_assoc, one_added runs x count e)
 
 pub a_run_begins : (at : ℕ) (runs : List Run) (x : Run) (count : ℕ) → AreFrom at runs count → x.from ≡ count
     → AreFrom at (runs ++ x ∷ []) (count + 1)
 a_run_begins at [] x count h e = (e ∙ sym h, omega (arith, h), refl)
-a_run_begins at (r ∷ runs) x count h e = grind (arith, begin_kept, a_run_begins (begin_in runs count) runs x count h.2 e)
+a_run_begins at (r ∷ runs) x count h e = grind (arith, a_run_begins (begin_in runs count) runs x count h.2 e)
 
 -- ---- one fewer
 
@@ -118,9 +100,7 @@ a_run_ends at (r ∷ s ∷ runs) x count h = (h.0, h.1, a_run_ends s.from (s ∷
 pub all_but_last : (old new : List (List ℕ)) (t : List ℕ) → old ≡ new ++ t ∷ [] → new ≡ take (length old - 1) old
 all_but_last old new t e =
     let n = ap (λ (x : List (List ℕ)). length x) e in
-    let m = length-append new (t ∷ []) in
-    let k : length old - 1 ≡ length new = omega (arith, n, m) in
-    sym (ap (λ (x : List (List ℕ)). take (length old - 1) x) e ∙ ap (λ (i : ℕ). take i (new ++ t ∷ [])) k ∙ take-append_seam new (t ∷ []))
+    grind (arith, length-append new (t ∷ []), take-append_seam new (t ∷ []))
 
 -- ---- equal ones in a row
 
@@ -174,9 +154,7 @@ pub kept_once : (runs : List Run) (count : ℕ) → AreFrom 0 runs count → Are
 kept_once [] count h a = refl
 kept_once (r ∷ runs) count h a =
     let n = begin_in runs count - r.from in
-    sym (ap (λ (x : List (List ℕ)). length (once (x ++ spread runs count))) (one_then n r.tsdu (omega (arith, h.0, h.1)))
-    ∙ ap (λ (x : List (List ℕ)). suc (length x)) (skipped (n - 1) r.tsdu (spread runs count))
-    ∙ ap (λ (k : ℕ). suc k) (kept_behind (begin_in runs count) r.tsdu runs count h.2 a.0 a.1))
+    grind (arith, one_then, skipped, kept_behind)
 
 -- ---- the steps of the value
 
@@ -247,7 +225,7 @@ popped runs new count value h a l f n v = grind (arith, split_last, some_runs, l
 pub place_in : (runs same : List Run) (count place i : ℕ) (r : Run) (value : List (List ℕ)) → AreFrom 0 runs count → same ≡ runs
     → HasPlace same count place i
     → r ≡ get_or same i r → spread runs count ≡ value → r.tsdu ≡ get_or value place []
-place_in runs same count place i r value h e p g v = grind (arith, tsdu_read, found)
+place_in runs same count place i r value h e p g v = grind (arith, tsdu_read, found_from)
 
 pub is_or_not : (a b n : ℕ) → a ≡ b → MatchBool (nat_eq a n) (b ≡ n) (b ≢ n)
 is_or_not a b n e = grind (arith, nat_eq, rules)

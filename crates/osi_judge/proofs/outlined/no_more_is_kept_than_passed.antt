@@ -1,28 +1,14 @@
 -- The octets of the TSDUs of a side, and of the unfinished one, are no more than those of its packets.
 -- For the law that no more is kept than passed.
-use Rattle.std.proofs.Common.{◌≡◌, ◌∙◌, ap, subst, ℕ, ◌+◌, ◌≤◌, Bool, if◌then◌else◌, List, [], ◌∷◌, ◌++◌, length, map, Result, Ok, Err}
-use Rattle.std.proofs.Common.{arith}
-use Rattle.std.proofs.lemmas.List.{length-append, map-append}
-use Rattle.osi_tpkt.specs.Octets.{IsOctets}
-use Rattle.osi_tpkt.specs.Packet.{IsPacket}
-use Rattle.osi_tpkt.specs.Stream.{ArePackets}
-use Rattle.osi_tpkt.proofs.lists_of_octets_stay_octets.{octets_right}
-use Rattle.osi_tpdu.specs.declared.faults.TpduFault.{TpduFault}
-use Rattle.osi_tpdu.specs.Packet.{AreUnits, units_of}
-use Rattle.osi_tpdu.specs.Spelling.{Spells}
-use Rattle.osi_tpdu.specs.Value.{Value, data0}
-use Rattle.osi_judge.specs.declared.directions.Direction.{Direction}
-use Rattle.osi_judge.specs.declared.directions.Direction.TheVariants.{Left, Right}
-use Rattle.osi_judge.specs.declared.findings.Finding.TheVariants.{Kept}
-use Rattle.osi_judge.specs.declared.stops.Stop.TheVariants.{NoOpening, TsduTooLong}
-use Rattle.osi_judge.specs.Captures.{Capture, other, stream}
-use Rattle.osi_judge.specs.Following.{shown, Follows, Judged, half_of, Taps, kept_of}
-use Rattle.osi_judge.specs.Keeping.{is_same, kept_in, once, once_behind}
-use Rattle.osi_judge.specs.Outlines.{outlines}
-use Rattle.osi_judge.specs.Tapping.{octets_of, heard}
-use Rattle.osi_judge.specs.Transport.{Handshake, first_unit, Move, adds, hurries, stops, misplaced, next_step, asking_step, answering_step}
-use Rattle.osi_judge.specs.Transport.{has_asked, first_step, hasty_step, closing_step, later_step, refused_step, unit_step, step_of, Stage}
-use Rattle.osi_judge.specs.Transport.{stopped, begun, added, moved, stage_behind, Sent, ended, brought, sent_by, stage_from, sent_from}
+use Rattle.osi_judge.proofs.Vocabulary.{◌≡◌, ap, subst, ℕ, ◌+◌, ◌≤◌, Bool, if◌then◌else◌, List, [], ◌∷◌, ◌++◌, length, map, Result, Ok, Err}
+use Rattle.osi_judge.proofs.Vocabulary.{arith, length-append, map-append, IsOctets, IsPacket, ArePackets, octets_right, TpduFault, AreUnits}
+use Rattle.osi_judge.proofs.Vocabulary.{Value, Direction, Left, Right, Kept, NoOpening, Capture, stream, shown, Judged, half_of, Taps}
+use Rattle.osi_judge.proofs.Vocabulary.{kept_of, is_same, kept_in, once, once_behind, outlines, octets_of, Handshake, first_unit, Move}
+use Rattle.osi_judge.proofs.Vocabulary.{adds, hurries, stops, next_step, asking_step, answering_step, has_asked, first_step, hasty_step}
+use Rattle.osi_judge.proofs.Vocabulary.{closing_step, later_step, refused_step, unit_step, step_of, Stage, begun, moved, stage_behind, Sent}
+use Rattle.osi_judge.proofs.Vocabulary.{ended, brought, sent_by, stage_from, sent_from}
+use Rattle.osi_tpdu.specs.Packet.{units_of}
+use Rattle.osi_judge.specs.Transport.{added}
 use Rattle.osi_judge.proofs.told.what_is_known_of_a_side.{few_by}
 use Rattle.osi_judge.proofs.outlined.an_outline_is_taken_alike.{outline_no_longer}
 use Rattle.osi_judge.proofs.captured.one_more_packet_passes.{packet_octets}
@@ -38,46 +24,30 @@ IsShort n m = Unit {0}
 abbrev FoundUnits : Type 0
 FoundUnits = (vs : List Value) (octets : List ℕ) → IsOctets octets → units_of octets ≡ Ok vs → AreUnits vs octets
 
-spelled_short : (end : Bool) (user octets : List ℕ) → Spells (data0 end user) octets → length user + 3 ≤ length octets
-spelled_short end user octets s = grind (arith, length-append)
-
-data_short : (end : Bool) (user : List ℕ) (vs : List Value) (octets : List ℕ) → AreUnits (data0 end user ∷ vs) octets
-    → length user + 3 ≤ length octets
-data_short end user vs octets h = grind (arith, spelled_short, length-append)
-
-either_short : (n : ℕ) (b : Bool) (m p : Move) → IsShort n m → IsShort n p → IsShort n (if b then m else p)
-either_short n b m p h k = grind arith
-
-misplaced_short : (n : ℕ) (v : Value) → IsShort n (misplaced v)
-misplaced_short n v = grind arith
-
 asking_short : (n : ℕ) (v : Value) → IsShort n (asking_step v)
-asking_short n v = grind (arith, either_short)
-
-answering_short : (n : ℕ) (v : Value) → IsShort n (answering_step v)
-answering_short n v = grind arith
+asking_short n v = grind arith
 
 answered_short : (n : ℕ) (h : Handshake) (v : Value) → IsShort n (if has_asked h then answering_step v else stops NoOpening)
-answered_short n h v = either_short n (has_asked h) (answering_step v) (stops NoOpening) (answering_short n v) tt
+answered_short n h v = grind arith
 
 first_short : (n : ℕ) (d : Direction) (h : Handshake) (v : Value) → IsShort n (first_step d h v)
-first_short n d h v = grind (arith, asking_short, either_short, answered_short)
+first_short n d h v = grind (arith, asking_short, answered_short)
 
 next_short : (octets : List ℕ) (v : Value) (vs : List Value) → AreUnits (v ∷ vs) octets → IsShort (length octets) (next_step v)
-next_short octets v vs h = grind (arith, data_short)
+next_short octets v vs h = grind arith
 
 hasty_short : (octets : List ℕ) (v : Value) (vs : List Value) → AreUnits (v ∷ vs) octets → IsShort (length octets) (hasty_step v)
-hasty_short octets v vs h = grind (arith, data_short)
+hasty_short octets v vs h = grind arith
 
 closing_short : (n destination source : ℕ) (v : Value) → IsShort n (closing_step destination source v)
-closing_short n destination source v = grind (arith, either_short)
+closing_short n destination source v = grind arith
 
 later_short : (octets : List ℕ) (h : Handshake) (v : Value) (vs : List Value) → AreUnits (v ∷ vs) octets
     → IsShort (length octets) (later_step h v)
 later_short octets h v vs u = grind (arith, hasty_short, next_short, closing_short)
 
 refused_short : (n : ℕ) (h : Handshake) (v : Value) → IsShort n (refused_step h v)
-refused_short n h v = grind (arith, misplaced_short)
+refused_short n h v = grind arith
 
 unit_short : (d : Direction) (s : Stage) (h : Handshake) (octets : List ℕ) (v : Value) (vs : List Value) → AreUnits (v ∷ vs) octets
     → IsShort (length octets) (unit_step d s h v)
@@ -96,24 +66,13 @@ ended_keeps : (s : Stage) (at : ℕ) (unit octets : List ℕ) (end : Bool) → l
     → kept_by (ended s at unit end octets) + length (begun (added s at end octets)) ≤ length (begun s) + (length unit + 4)
 ended_keeps s at unit octets end l = grind (arith, length-append)
 
-adds_keeps : (s : Stage) (at : ℕ) (unit octets : List ℕ) (end b : Bool) → length octets + 3 ≤ length unit
-    → kept_by (if b then [] else ended s at unit end octets) + length
-    (begun (if b then stopped TsduTooLong at else added s at end octets)) ≤ length (begun s) + (length unit + 4)
-adds_keeps s at unit octets end b l = grind (arith, ended_keeps)
-
 move_keeps : (s : Stage) (at : ℕ) (unit : List ℕ) (m : Move) → IsShort (length unit) m
     → kept_by (brought s at unit m) + length (begun (moved s at m)) ≤ length (begun s) + (length unit + 4)
-move_keeps s at unit m h = grind (arith, adds_keeps)
-
-keeps_by : FoundUnits → (d : Direction) (h : Handshake) (s : Stage) (at : ℕ) (unit : List ℕ) → IsOctets unit
-    → kept_by (brought s at unit (step_of d s h (first_unit (units_of unit)))) + length
-    (begun (moved s at (step_of d s h (first_unit (units_of unit)))))
-    ≤ length (begun s) + (length unit + 4)
-keeps_by found d h s at unit o = grind (arith, move_keeps, step_short)
+move_keeps s at unit m h = search (arith, ended_keeps)
 
 unit_keeps : FoundUnits → (d : Direction) (h : Handshake) (s : Stage) (at : ℕ) (unit : List ℕ) → IsOctets unit
     → kept_by (sent_by d h s at unit) + length (begun (stage_behind d h s at unit)) ≤ length (begun s) + (length unit + 4)
-unit_keeps found d h s at unit o = grind (arith, keeps_by)
+unit_keeps found d h s at unit o = grind (arith, move_keeps, step_short)
 
 -- ---- a stream
 
@@ -134,10 +93,7 @@ stream_keeps found d met s at (u ∷ us) octets rest (b, t, p, e, h) =
     let m = ap (λ (x : List ℕ). length x) e in
     let k = length-append b t in
     let one = unit_keeps found d (met at) s at u (packet_unit u b p) in
-    let more = stream_keeps found d met next (at + (length u + 4)) us t rest h in
-    let joined = ap kept_in (map-append octets_of (sent_by d (met at) s at u) (sent_from d met next (at + (length u + 4)) us))
-    ∙ kept_append (map octets_of (sent_by d (met at) s at u)) (map octets_of (sent_from d met next (at + (length u + 4)) us)) in
-    omega (arith, n, m, k, one, more, joined)
+    grind (arith, map-append, kept_append, stream_keeps found d met next (at + (length u + 4)) us t rest h)
 
 -- ---- a capture
 
@@ -158,14 +114,9 @@ outlines_less : (xs : List (List ℕ)) → kept_in (outlines xs) ≤ kept_in xs
 outlines_less [] = omega arith
 outlines_less (x ∷ xs) = let l = outlines_less xs in let m = outline_no_longer x in omega (arith, l, m)
 
-side_keeps : FoundUnits → (d : Direction) (c : Capture) (j : Judged) (us bs : List (List ℕ)) (mine others : List Sent)
-    → Follows d c (half_of d j) us bs mine others
-    → (half_of (other d) j).side.heard ≡ outlines (heard mine) → kept_of d j ≤ length (stream d c)
-side_keeps found d c j us bs mine others f h = grind (arith, stream_keeps, once_less, outlines_less, shown_begun)
-
 pub no_more_kept : FoundUnits → (d : Direction) (c : Capture) (j : Judged) → Taps j c → kept_of d j ≤ length (stream d c)
-no_more_kept found Left c j h = side_keeps found Left c j h.left_units h.right_units h.left h.right h.of_left h.of_right.heard
-no_more_kept found Right c j h = side_keeps found Right c j h.right_units h.left_units h.right h.left h.of_right h.of_left.heard
+no_more_kept found Left c j h = grind (arith, stream_keeps, once_less, outlines_less, shown_begun)
+no_more_kept found Right c j h = grind (arith, stream_keeps, once_less, outlines_less, shown_begun)
 
 pub few_sessions : (d : Direction) (c : Capture) (j : Judged) → Taps j c → (half_of d j).side.finding ≡ Kept
     → length (half_of d j).side.members ≤ 4096

@@ -1,17 +1,9 @@
 -- What passes later changes nothing in a break that was found: it speaks of the TSDUs that had passed. For what is known of a
 -- side.
-use Rattle.std.proofs.Common.{◌≡◌, ◌∙◌, refl, sym, ap, ℕ, zero, suc, ◌-◌, ◌<◌, ◌≤◌, List, [], ◌∷◌, ◌++◌, length, get_or, Some, Result}
-use Rattle.std.proofs.Common.{arith}
-use Rattle.std.proofs.lemmas.List.{length-append}
-use Rattle.std.specs.List.{fold, flat_map}
-use Rattle.osi_spdu.specs.declared.faults.SpduFault.{SpduFault}
-use Rattle.osi_spdu.specs.Known.{Contents, Units}
-use Rattle.osi_spdu.specs.Reading.{tsdu_at}
-use Rattle.osi_judge.specs.declared.members.Member.{Member}
-use Rattle.osi_judge.specs.declared.rules.Break.{Break}
-use Rattle.osi_judge.specs.Breaking.{Leads, BreaksIn, here, last, later, BreaksAs, BreaksAt}
-use Rattle.osi_judge.specs.Members.{Extends}
-use Rattle.osi_judge.specs.Nearest.{Unsaid, a_unit, tried, count_at, reached, far, nearest, break_by, break_of}
+use Rattle.osi_judge.proofs.Vocabulary.{◌≡◌, ◌∙◌, refl, sym, ap, ℕ, zero, suc, ◌-◌, ◌<◌, ◌≤◌, List, [], ◌∷◌, ◌++◌, length, get_or, Some}
+use Rattle.osi_judge.proofs.Vocabulary.{Result, arith, length-append, fold, flat_map, SpduFault, Units, tsdu_at, Member, Break, BreaksIn}
+use Rattle.osi_judge.proofs.Vocabulary.{here, last, later, BreaksAs, BreaksAt, Extends, Unsaid, tried, count_at, reached, far}
+use Rattle.osi_judge.specs.Nearest.{nearest}
 use Rattle.osi_judge.proofs.kept.what_is_kept_is_of_what_had_passed.{ActAlike, becomes_alike, word_alike}
 
 -- ---- the TSDUs of the other side become more
@@ -34,38 +26,29 @@ same_all : (heard : List (List ℕ)) (x : List ℕ) (before : ℕ) (members : Li
 same_all heard x before [] l = refl
 same_all heard x before (m ∷ members) l =
     let one = becomes_alike heard (heard ++ x ∷ []) before (front_alike heard x before l) (before - m.taken) (Some m) (λ p. omega arith) in
-    let rest = same_all heard x before members l in
-    λ i. one i ++ rest i
+    grind (arith, same_all heard x before members l)
 
 same_nearest : (u : Unsaid) (heard : List (List ℕ)) (x : List ℕ) (before : ℕ) (members : List Member) → before ≤ length heard
     → nearest u heard before members ≡ nearest u (heard ++ x ∷ []) before members
 unfolding nearest
 same_nearest u heard x before members l = ap (fold (tried u) (far members)) (same_all heard x before members l)
 
-same_break : (u : Unsaid) (heard : List (List ℕ)) (x : List ℕ) (before : ℕ) (members : List Member) → before ≤ length heard
-    → break_of u heard before members ≡ break_of u (heard ++ x ∷ []) before members
-same_break u heard x before members l = ap (break_by u before) (same_nearest u heard x before members l)
-
 -- ---- the break stays
-
-leads_heard : (heard : List (List ℕ)) (x : List ℕ) (octets before : ℕ) (members next : List Member) (unit : Contents)
-    → before ≤ length heard → Leads heard octets before members unit next → Leads (heard ++ x ∷ []) octets before members unit next
-leads_heard heard x octets before members next unit l h = grind (arith, word_alike, front_alike)
 
 in_heard : (heard : List (List ℕ)) (x : List ℕ) (octets before : ℕ) (members : List Member) (units : Units) (at : List Member) (by : Break)
     → before ≤ length heard → BreaksIn heard octets before members units at by
     → BreaksIn (heard ++ x ∷ []) octets before members units at by
 in_heard heard x octets before members units at by l (here m u us b h e) =
-    here m u us b (leads_heard heard x octets before m [] u l h) (e ∙ same_break (a_unit u octets) heard x before m l)
-in_heard heard x octets before members units at by l (last m u b e) = last m u b (e ∙ same_break (a_unit u octets) heard x before m l)
+    here m u us b (grind (arith, word_alike, front_alike)) (e ∙ (grind (arith, same_nearest)))
+in_heard heard x octets before members units at by l (last m u b e) = last m u b (e ∙ (grind (arith, same_nearest)))
 in_heard heard x octets before members units at by l (later m n u us o b h s k) =
-    later m n u us o b (leads_heard heard x octets before m n u l h) s (in_heard heard x octets before n us o b l k)
+    later m n u us o b (grind (arith, word_alike, front_alike)) s (in_heard heard x octets before n us o b l k)
 
 read_heard : (heard : List (List ℕ)) (x : List ℕ) (octets before : ℕ) (members : List Member) (read : Result Units SpduFault)
     (at : List Member)
     (by : Break) → before ≤ length heard → BreaksAs heard octets before members read at by → BreaksAs (heard ++ x ∷ []) octets before
     members read at by
-read_heard heard x octets before members read at by l h = grind (arith, in_heard, same_break)
+read_heard heard x octets before members read at by l h = grind (arith, in_heard, same_nearest)
 
 pub breaks_heard : (heard : List (List ℕ)) (x tsdu : List ℕ) (before : ℕ) (members : List Member) (by : Break) → before ≤ length heard
     → BreaksAt heard tsdu before members by → BreaksAt (heard ++ x ∷ []) tsdu before members by

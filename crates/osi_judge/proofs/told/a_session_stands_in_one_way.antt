@@ -1,13 +1,7 @@
 -- Of a session one state is found after all that passed, and one answer that it owes: for the law that a text has one
 -- judgement.
-use Rattle.std.proofs.Common.{◌≡◌, ◌∙◌, refl, sym, ap, subst, ℕ, List, Option, Some, None, arith}
-use Rattle.osi_message.specs.Meanings.{Meaning, RF, AB, AA}
-use Rattle.osi_session.specs.declared.reactions.Reply.{Reply}
-use Rattle.osi_session.specs.Steps.{reply_of}
-use Rattle.osi_session.specs.Standing.{Seen}
-use Rattle.osi_judge.specs.declared.members.Member.{Member}
-use Rattle.osi_judge.specs.declared.standings.Stands.{Stands}
-use Rattle.osi_judge.specs.Onward.{StopsBy, IsAtEnd, standing_of, StandsBehind}
+use Rattle.osi_judge.proofs.Vocabulary.{◌≡◌, ◌∙◌, refl, sym, ap, subst, ℕ, List, Option, Some, None, arith, Meaning, RF, AB, AA, Reply}
+use Rattle.osi_judge.proofs.Vocabulary.{Seen, Member, Stands, StopsBy, IsAtEnd, standing_of, StandsBehind}
 use Rattle.osi_judge.proofs.walked.a_walk_loses_no_explanation.{takes_one}
 
 -- answers that are sent alike are the same: they differ in what they are, or in their reason
@@ -20,17 +14,11 @@ mark _ = 0
 apart : (m n : Meaning) (a b : ℕ) → mark m ≡ a → mark n ≡ b → m ≡ n → a ≡ b
 apart m n a b h k e = sym h ∙ ap mark e ∙ k
 
-one_reply : (r q : Reply) → reply_of r ≡ reply_of q → r ≡ q
-one_reply r q e = grind (arith, apart)
-
-some_same : (m n : Meaning) → Some m ≡ Some n → m ≡ n
-some_same m n e = cc
-
 one_stop : (s : Seen) (tsdu : List ℕ) (o p : Option Reply) → StopsBy s tsdu o → StopsBy s tsdu p → o ≡ p
 one_stop s tsdu None None h k = refl
 one_stop s tsdu None (Some q) h k = let e = k.listening in absurd (cc)
 one_stop s tsdu (Some r) None h k = let e = h.listening in absurd (cc)
-one_stop s tsdu (Some r) (Some q) h k = grind (arith, one_reply, some_same, takes_one s tsdu h.count k.count h.taken k.taken)
+one_stop s tsdu (Some r) (Some q) h k = grind (arith, takes_one s tsdu h.count k.count h.taken k.taken)
 
 one_end : (us : List (List ℕ)) (m : Member) (o p : Option Reply) → IsAtEnd us m o → IsAtEnd us m p → o ≡ p
 one_end us m o p h h2 = grind (arith, one_stop)

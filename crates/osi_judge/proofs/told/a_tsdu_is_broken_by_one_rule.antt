@@ -1,14 +1,8 @@
 -- By the sessions that are kept of those that explain what was sent before it, a TSDU has one break, and it is found by the same
 -- sessions: for the law that a text has one judgement.
-use Rattle.std.proofs.Common.{arith, ◌≡◌, ◌∙◌, refl, sym, ap, subst, ℕ, ◌⊎◌, inl, inr, true, false, Bool, List, [], ◌∷◌, length, Result}
-use Rattle.osi_spdu.specs.declared.faults.SpduFault.{SpduFault}
-use Rattle.osi_spdu.specs.Known.{Contents, Units}
-use Rattle.osi_spdu.specs.Reading.{tsdu_at}
-use Rattle.osi_judge.specs.declared.members.Member.{Member}
-use Rattle.osi_judge.specs.declared.rules.Break.{Break}
-use Rattle.osi_judge.specs.Breaking.{Leads, BreaksIn, here, last, later, BreaksAs, BreaksWith}
+use Rattle.osi_judge.proofs.Vocabulary.{arith, ◌≡◌, ◌∙◌, refl, sym, ap, subst, ℕ, ◌⊎◌, inl, inr, false, List, [], ◌∷◌, Contents, Units}
+use Rattle.osi_judge.proofs.Vocabulary.{Member, Break, Leads, BreaksIn, here, last, later, BreaksWith, a_unit, break_of}
 use Rattle.osi_judge.specs.Members.{is_empty}
-use Rattle.osi_judge.specs.Nearest.{a_unit, break_of}
 
 -- the break is at the first of these units, or some sessions send it
 abbrev AtFirst : List (List ℕ) → (octets before : ℕ) → List Member → Contents → Units → List Member → Break → Type 0
@@ -31,14 +25,6 @@ broken heard octets before members units at by (here m u us b h e) = inl (refl, 
 broken heard octets before members units at by (last m u b e) = inl (refl, e, inr refl)
 broken heard octets before members units at by (later m n u us o b h s k) = inr (n, h, s, k)
 
--- no session sends this unit, and some do
-some_left : (next : List Member) → [] ≡ next → is_empty next ≡ false → ⊥
-some_left next e s = let n : is_empty next ≡ true = ap is_empty (sym e) in absurd (not_both (is_empty next) n s)
-  where
-    not_both : (b : Bool) → b ≡ true → b ≡ false → ⊥
-    not_both true h k = cc
-    not_both false h k = cc
-
 -- it is the last unit, and there is one more
 none_left : (heard : List (List ℕ)) (octets before : ℕ) (members : List Member) (units : Units) (at : List Member) (by : Break) → units ≡ []
     → BreaksIn heard octets before members units at by → ⊥
@@ -48,7 +34,7 @@ none_left heard octets before members units at by e h =
 first_later : (heard : List (List ℕ)) (octets before : ℕ) (m : List Member) (unit : Contents) (units : Units) (at others : List Member)
     (b e : Break)
     → AtFirst heard octets before m unit units at b → Later heard octets before m unit units others e → ⊥
-first_later heard octets before m unit units at others b e (_, _, inl h) (next, k, s, d) = some_left next (h ∙ sym k) s
+first_later heard octets before m unit units at others b e (_, _, inl h) (next, k, s, d) = grind arith
 first_later heard octets before m unit units at others b e (_, _, inr f)
     (next, k, s, d) = none_left heard octets before next units others e f d
 
@@ -62,8 +48,7 @@ one_in heard octets before m n [] at others b e a h k = absurd h
 one_in heard octets before m n (u ∷ us) at others b e a (inl (p, f, _)) (inl (q, g, _)) =
     (p ∙ a ∙ sym q, f ∙ ap (break_of (a_unit u octets) heard before) a ∙ sym g)
 one_in heard octets before m n (u ∷ us) at others b e a (inl h) (inr k) =
-    absurd (first_later heard octets before m u us at others b e h (subst (λ
-    (z : List Member). Later heard octets before z u us others e) (sym a) k))
+    absurd (first_later heard octets before m u us at others b e h (grind arith))
 one_in heard octets before m n (u ∷ us) at others b e a (inr h) (inl k) =
     absurd (first_later heard octets before n u us others at e b k (subst (λ (z : List Member). Later heard octets before z u us at b) a h))
 one_in heard octets before m n (u ∷ us) at others b e a (inr (next, h, s, x)) (inr (after, k, t, y)) =
@@ -72,11 +57,6 @@ one_in heard octets before m n (u ∷ us) at others b e a (inr (next, h, s, x)) 
     one_in heard octets before next after us at others b e same
     (broken heard octets before next us at b x) (broken heard octets before after us others e y)
 
-one_read : (heard : List (List ℕ)) (octets before : ℕ) (members : List Member) (read : Result Units SpduFault) (at others : List Member)
-    (b e : Break)
-    → BreaksAs heard octets before members read at b → BreaksAs heard octets before members read others e → AreOne at others b e
-one_read heard octets before members read at others b e h k = grind (arith, one_in, broken)
-
 pub one_break : (heard : List (List ℕ)) (tsdu : List ℕ) (before : ℕ) (members at others : List Member) (b e : Break)
     → BreaksWith heard tsdu before members at b → BreaksWith heard tsdu before members others e → AreOne at others b e
-one_break heard tsdu before members at others b e h k = one_read heard (length tsdu) before members (tsdu_at tsdu) at others b e h k
+one_break heard tsdu before members at others b e h k = grind (arith, one_in, broken)

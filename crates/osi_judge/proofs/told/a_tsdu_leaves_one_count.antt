@@ -1,25 +1,14 @@
 -- A session in any state leaves one count of a TSDU that it takes, whichever octets it has joined, if there are so many.
 -- For the sessions that differ in V(A) alone.
-use Rattle.std.proofs.Common.{◌≡◌, ◌∙◌, refl, sym, ap, subst, ℕ, ◌+◌, ◌<◌, ◌≤◌, Bool, true, false, if◌then◌else◌, nat_le, List, [], ◌∷◌}
-use Rattle.std.proofs.Common.{length, Option, Some, None, option_map, unwrap_or, Result, Ok, Err, arith}
-use Rattle.std.proofs.lemmas.Bool.{leb-true}
-use Rattle.osi_spdu.specs.declared.faults.SpduFault.{SpduFault}
-use Rattle.osi_message.specs.declared.places.Place.{Place}
-use Rattle.osi_message.specs.Reading.{said_at}
-use Rattle.osi_message.specs.Words.{Word, Words, says, part}
-use Rattle.osi_session.specs.declared.state.State.{State}
-use Rattle.osi_session.specs.Allowed.{most_data}
-use Rattle.osi_session.specs.Counting.{no_octets, count_by, taker_with, Counts, CountsCame}
-use Rattle.osi_session.specs.Joining.{Taker, Hearing, heard_then, is_last, word_verdict}
+use Rattle.osi_judge.proofs.Vocabulary.{◌≡◌, ◌∙◌, refl, sym, ap, subst, ℕ, ◌+◌, ◌<◌, ◌≤◌, Bool, true, false, if◌then◌else◌, nat_le, List}
+use Rattle.osi_judge.proofs.Vocabulary.{[], ◌∷◌, length, Option, Some, None, option_map, unwrap_or, Result, Ok, Err, arith, leb-true}
+use Rattle.osi_judge.proofs.Vocabulary.{SpduFault, Place, said_at, Word, Words, says, part, State, most_data, no_octets, count_by}
+use Rattle.osi_judge.proofs.Vocabulary.{taker_with, Counts, CountsCame, Taker, Hearing, heard_then, is_last, word_verdict, Verdict, over}
+use Rattle.osi_judge.proofs.Vocabulary.{dropped, fine, replies_abort, enacted, nothing, bad, respond_fault, si, Seen, Count, Takes, counted}
+use Rattle.osi_judge.proofs.Vocabulary.{told_of, DataTooLong, DT, message_counts, dropped_counts, bad_counts, long_counts, good_counts}
+use Rattle.osi_judge.proofs.Vocabulary.{fault_counts, count_then, word_told}
 unfoldable use Rattle.osi_session.specs.Joining.{acting_words, respond_word, respond_words}
-use Rattle.osi_session.specs.Respond.{Verdict, over, dropped, faulty, fine, replies_abort, enacted, nothing, bad, respond_fault, si}
-use Rattle.osi_session.specs.Standing.{Seen, Count, Takes, counted}
-use Rattle.osi_session.specs.Steps.{told_of}
-use Rattle.osi_session.specs.declared.faults.UnitFault.TheVariants.{DataTooLong}
-use Rattle.osi_message.specs.Meanings.{DT}
-use Rattle.osi_session.proofs.tsdu.octets_are_counted.{message_counts, dropped_counts, bad_counts, long_counts, good_counts, fault_counts}
-use Rattle.osi_session.proofs.tsdu.octets_are_counted.{count_then}
-use Rattle.osi_session.proofs.tsdu.the_effect_of_a_word.{word_told}
+use Rattle.osi_session.specs.Respond.{faulty}
 
 -- ---- one word
 
@@ -31,13 +20,11 @@ part_counted : (s : State) (n : Option ℕ) (place : Place) (o : List ℕ) (v : 
     → word_verdict (taker_with s (no_octets n)) (part place o) ≡ v → Counted s n (part place o)
 part_counted s n place o over e = record {
   count = count_by n (nothing s);
-  counts = dropped_counts s n (no_octets n) place o _ refl (sym
-      (ap told_of e)) refl;
+  counts = dropped_counts s n (no_octets n) place o _ refl (grind arith) refl;
 }
 part_counted s n place o dropped e = record {
   count = count_by n (nothing s);
-  counts = dropped_counts s n (no_octets n) place o _ refl (sym
-      (ap told_of e)) refl;
+  counts = dropped_counts s n (no_octets n) place o _ refl (grind arith) refl;
 }
 part_counted s n place o (faulty fault) e = record {
   count = count_by n (bad s fault);

@@ -1,23 +1,12 @@
 -- How a session comes on, one TSDU after the other: for `take_next` and `stands_behind`.
-use Rattle.std.proofs.Common.{◌≡◌, refl, sym, ◌+◌, ◌<◌, ◌⊎◌, Result, IfOk, ap, subst, true, false, zero, suc, inl, inr, List, [], ◌∷◌, ℕ}
-use Rattle.std.proofs.Common.{length, get_or, arith, Option, Some, None, option_map, is_some}
-use Rattle.std.specs.List.{slice_get}
-use Rattle.osi_session.specs.declared.reactions.Reply.{Reply}
-use Rattle.osi_session.specs.declared.standing.Taking.{Taking}
-use Rattle.osi_session.specs.Steps.{reply_of}
-use Rattle.osi_session.specs.Taking.{count_taken}
-use Rattle.osi_session.specs.Standing.{Seen, seen_called, Takes, listens, after_count}
-use Rattle.osi_judge.specs.declared.members.Member.{Member}
-use Rattle.osi_judge.specs.declared.standings.Turn.{Turn}
-use Rattle.osi_judge.specs.declared.standings.Turn.TheVariants.{Goes, Stops}
-use Rattle.osi_judge.specs.declared.standings.Stands.{Stands}
-use Rattle.osi_judge.specs.Explaining.{Told, Remark, Explains}
-use Rattle.osi_judge.specs.Foremost.{first_of, foremost}
-use Rattle.osi_judge.specs.Members.{SomeExplains}
-use Rattle.osi_judge.specs.Judging.{Watched, is_empty, Keeps}
-use Rattle.osi_judge.specs.Nearest.{goes_to}
+use Rattle.osi_judge.proofs.Vocabulary.{◌≡◌, refl, sym, ◌+◌, ◌<◌, ◌⊎◌, Result, IfOk, ap, subst, true, false, zero, suc, inl, inr, List, []}
+use Rattle.osi_judge.proofs.Vocabulary.{◌∷◌, ℕ, length, get_or, arith, Option, Some, None, option_map, is_some, slice_get, Reply, Taking}
+use Rattle.osi_judge.proofs.Vocabulary.{reply_of, count_taken, Seen, seen_called, Takes, listens, after_count, Member, Turn, Goes, Stops}
+use Rattle.osi_judge.proofs.Vocabulary.{Stands, Told, Remark, Explains, foremost, SomeExplains, Watched, is_empty, Keeps, goes_to, StopsBy}
+use Rattle.osi_judge.proofs.Vocabulary.{Quietly, GoesOn, Comes, stays, StandsBehind, IsAmong, StandsFor}
+use Rattle.osi_judge.specs.Foremost.{first_of}
 use Rattle.osi_judge.proofs.told.the_nearest_of_all_sessions_is_told.{goes_stop}
-use Rattle.osi_judge.specs.Onward.{StopsBy, Quietly, GoesOn, Comes, stays, goes, StandsBehind, IsAmong, StandsFor}
+use Rattle.osi_judge.specs.Onward.{goes}
 
 -- what a session does with a TSDU that it takes
 pub record Takings (s : Seen) (tsdu : List ℕ) (t : Taking) : Type 0 where
@@ -35,9 +24,6 @@ pub stops : (s : Seen) (tsdu other : List ℕ) (t : Taking) → tsdu ≡ other �
     StopsBy s other t.reply
 stops s tsdu other t e some k = subst (λ (u : List ℕ). StopsBy s u t.reply) e (owes_by s tsdu t t.reply refl some k)
 
-none_of : (reply : Option Reply) → is_some reply ≡ false → option_map reply_of reply ≡ None
-none_of reply e = grind arith
-
 pub goes_quietly : (us : List (List ℕ)) (m : Member) (tsdu : List ℕ) (t : Taking) → tsdu ≡ get_or us m.taken [] → is_some t.reply ≡ false →
     Takings m.standing tsdu t
     → Quietly us m (record { taken = m.taken + 1; standing = t.next })
@@ -47,7 +33,7 @@ goes_quietly us m tsdu t e none k = record {
     count = count_taken t;
     listening = k.listening;
     taken = subst (λ (u : List ℕ). Takes m.standing u (count_taken t)) e k.taken;
-    quiet = none_of t.reply none;
+    quiet = grind arith;
     next = k.next;
   };
 }
@@ -63,11 +49,10 @@ comes_next us m n t turn e c g = comes_on us m n t c (subst (λ (x : Turn). Goes
 pub stands_stop : (us : List (List ℕ)) (m at : Member) (s : Stands) (owes : Option Reply) (turn : Turn)
     → s ≡ record { taken = at.taken; standing = at.standing; owes = owes } → at.taken < length us → turn ≡ Stops owes → GoesOn us at turn
     → Comes us m at → goes_to us at ≡ goes_to us m → StandsBehind us m s
-stands_stop us m at s owes turn e l t g c h = subst (λ (x : Stands). StandsBehind us m x) (sym e) (record {
-  comes = c;
-  goes = goes_stop us at m turn owes l t g h;
-  ends = inr (l, subst (λ (x : Turn). GoesOn us at x) t g);
-})
+stands_stop us m at s owes turn e l t g c h = subst (λ (x : Stands). StandsBehind us m x) (sym e) (grind (
+  arith,
+  goes_stop us at m turn owes l t g h,
+))
 
 -- ---- a session that explains a side
 
@@ -82,15 +67,11 @@ some_explains us later [] m a h = absurd a
 some_explains us later (n ∷ members) m (inl e) h = inl (subst (λ (x : Member). Explains us later x.taken x.standing) e h)
 some_explains us later (n ∷ members) m (inr a) h = inr (some_explains us later members m a h)
 
-pub stands_for : (w : Watched) (told : List Told) (s : Stands) → (is_empty w.members ≡ false → IsAmong (foremost w.members) w.members)
-    → StandsBehind w.heard (foremost w.members) s → Keeps w told → StandsFor w told s
-stands_for w told s a b k = search (arith, some_explains)
-
 pub stands_ok : {E : Type 0} (r : Result Stands E) (w : Watched) (heard : List (List ℕ)) (m : Member) → heard ≡ w.heard
     → m ≡ foremost w.members
     → (is_empty w.members ≡ false → IsAmong m w.members)
     → IfOk r (λ s. StandsBehind heard m s) → IfOk r (λ s. (told : List Told) → Keeps w told → StandsFor w told s)
-stands_ok r w heard m e v a b = grind (arith, stands_for)
+stands_ok r w heard m e v a b = grind (arith, some_explains)
 
 pub first_among : (members : List Member) (m : Member) → Some m ≡ slice_get members 0 → is_empty members ≡ false → IsAmong m members
 first_among members m e s = grind arith

@@ -1,35 +1,22 @@
 -- No session of a list comes before the foremost, and none is nearer than the nearest: for the law that one session is told.
-use Rattle.std.proofs.Common.{◌≡◌, ◌∙◌, refl, sym, subst, ℕ, ◌==◌, ◌&&◌, ◌||◌, ◌⊎◌, inl, inr, Bool, true, false, not, if◌then◌else◌, nat_lt}
-use Rattle.std.proofs.Common.{List, [], ◌∷◌, ◌++◌, Option, Some, None, arith}
-use Rattle.std.proofs.lemmas.Bool.Decides.{nat_tests}
-use Rattle.std.proofs.lemmas.List.{append-nil, append_assoc}
-use Rattle.std.specs.List.{fold, flat_map}
-use Rattle.osi_judge.specs.declared.members.Member.{Member}
-use Rattle.osi_judge.specs.declared.rules.Near.{Near}
-use Rattle.osi_judge.specs.declared.rules.Rule.{Rule}
-use Rattle.osi_judge.specs.Foremost.{is_before, before_of, foremost, PrecedesAll, FollowsNone, IsForemost}
+use Rattle.osi_judge.proofs.Vocabulary.{◌≡◌, ◌∙◌, refl, sym, subst, ℕ, ◌==◌, ◌&&◌, ◌||◌, ◌⊎◌, inl, inr, Bool, true, false, not}
+use Rattle.osi_judge.proofs.Vocabulary.{if◌then◌else◌, nat_lt, List, [], ◌∷◌, ◌++◌, Option, Some, None, arith, nat_tests, append-nil}
+use Rattle.osi_judge.proofs.Vocabulary.{append_assoc, fold, flat_map, Member, Near, Rule, is_before, before_of, PrecedesAll, FollowsNone}
+use Rattle.osi_judge.proofs.Vocabulary.{IsForemost, is_nearer, Unsaid, rule_for, tried_by, tried, reached, far, IsAmong, IsNearest}
+use Rattle.osi_judge.specs.Foremost.{foremost}
 use Rattle.osi_judge.specs.Members.{is_empty}
-use Rattle.osi_judge.specs.Nearest.{is_nearer, Unsaid, rule_for, tried_by, tried, reached, far, nearest}
-use Rattle.osi_judge.specs.Onward.{IsAmong, IsNearest}
+use Rattle.osi_judge.specs.Nearest.{nearest}
 
 -- ---- the order of sessions
 
 abbrev higher : (t c : ℕ) → Bool → (u d : ℕ) → Bool → Bool
 higher t c p u d q = nat_lt u t || ((t == u) && (nat_lt d c || ((c == d) && (p && not q))))
 
-carries : (t c : ℕ) (p : Bool) (u d : ℕ) (q : Bool) (v e : ℕ) (r : Bool) → higher t c p u d q ≡ true → higher u d q v e r ≡ true
-    → higher t c p v e r ≡ true
-carries t c p u d q v e r h k = grind (arith, nat_tests)
-
-carries_past : (t c : ℕ) (p : Bool) (u d : ℕ) (q : Bool) (v e : ℕ) (r : Bool) → higher t c p u d q ≡ true → higher v e r u d q ≡ false
-    → higher t c p v e r ≡ true
-carries_past t c p u d q v e r h k = grind (arith, nat_tests)
-
 before_trans : (m n o : Member) → is_before m n ≡ true → is_before n o ≡ true → is_before m o ≡ true
-before_trans m n o h k = grind (arith, carries)
+before_trans m n o h k = search (arith, nat_tests)
 
 before_past : (m n o : Member) → is_before m n ≡ true → is_before o n ≡ false → is_before m o ≡ true
-before_past m n o h k = grind (arith, carries_past)
+before_past m n o h k = search (arith, nat_tests)
 
 -- ---- the foremost
 
@@ -75,17 +62,8 @@ nearer_by : (a b c : ℕ) (x y z : Bool) → (x ≡ true → y ≡ true → z �
     → (nat_lt c b || ((b == c) && y)) ≡ true → (nat_lt c a || ((a == c) && z)) ≡ true
 nearer_by a b c x y z f h k = grind (arith, nat_tests)
 
-nearer_trans : (m n o : Near) → is_nearer m n ≡ true → is_nearer n o ≡ true → is_nearer m o ≡ true
-nearer_trans m n o h k = search (arith, nearer_by, before_trans)
-
-not_higher : (t c : ℕ) (p : Bool) → higher t c p t c p ≡ false
-not_higher t c p = grind (arith, nat_tests)
-
-not_nearer : (a : ℕ) (x : Bool) → x ≡ false → (nat_lt a a || ((a == a) && x)) ≡ false
-not_nearer a x e = grind (arith, nat_tests)
-
 nearer_itself : (n : Near) → is_nearer n n ≡ false
-nearer_itself n = grind (arith, not_nearer, not_higher)
+nearer_itself n = grind (arith, nat_tests)
 
 not_so : (b : Bool) → (b ≡ true → ⊥) → b ≡ false
 not_so b h = grind arith
@@ -94,7 +72,7 @@ not_both : (b : Bool) → b ≡ true → b ≡ false → ⊥
 not_both b h k = cc
 
 nearer_still : (p n best : Near) → is_nearer p best ≡ false → is_nearer n best ≡ true → is_nearer p n ≡ false
-nearer_still p n best h k = not_so (is_nearer p n) (λ e. not_both (is_nearer p best) (nearer_trans p n best e k) h)
+nearer_still p n best h k = not_so (is_nearer p n) (λ e. not_both (is_nearer p best) (search (arith, nearer_by, before_trans)) h)
 
 -- ---- the nearest
 
@@ -134,10 +112,6 @@ some_rule r q e = cc
 same_near : (x m : Member) (rule q : Rule) (o : Option Rule) → m ≡ x → o ≡ Some q → o ≡ Some rule → near m rule ≡ near x q
 same_near x m rule q o e h k = let r = some_rule q rule (sym h ∙ k) in λ i. near (e i) (sym r i)
 
-one_more : (u : Unsaid) (x : Member) (seen : List Member) (first best : Near) → IsOne u seen first best
-    → IsOne u (seen ++ x ∷ []) first best
-one_more u x seen first best h = grind (arith, among_front)
-
 -- the new one is not nearer, or it is
 stays_nearest : (u : Unsaid) (x : Member) (q : Rule) (seen : List Member) (best : Near) → rule_for u x.standing ≡ Some q
     → is_nearer (near x q) best ≡ false → NoneNearer u seen best → NoneNearer u (seen ++ x ∷ []) best
@@ -147,9 +121,7 @@ becomes_nearest : (u : Unsaid) (x : Member) (q : Rule) (seen : List Member) (bes
     → is_nearer (near x q) best ≡ true → NoneNearer u seen best → NoneNearer u (seen ++ x ∷ []) (near x q)
 becomes_nearest u x q seen best r h n = λ m rule a k. elim (among_more m x seen a) [
   | inl b ↦ nearer_still (near m rule) (near x q) best (n m rule b k) h
-  | inr e ↦ subst (λ (z : Near). is_nearer z (near x q) ≡ false)
-      (sym (same_near x m rule q (rule_for u x.standing) e r (subst (λ (z : Member). rule_for u z.standing ≡ Some rule) e k)))
-      (nearer_itself (near x q))
+  | inr e ↦ grind (arith, same_near, nearer_itself (near x q))
 ]
 
 by_nearer : (b : Bool) (u : Unsaid) (x : Member) (q : Rule) (first best : Near) (seen xs : List Member) → rule_for u x.standing ≡ Some q
@@ -159,18 +131,13 @@ by_nearer : (b : Bool) (u : Unsaid) (x : Member) (q : Rule) (first best : Near) 
 by_nearer true u x q first best seen xs r h n o go =
     go (near x q) (seen ++ x ∷ []) (becomes_nearest u x q seen best r h n) (inr (among_last x seen, r))
 by_nearer false u x q first best seen xs r h n o go =
-    go best (seen ++ x ∷ []) (stays_nearest u x q seen best r h n) (one_more u x seen first best o)
-
--- it sends what is asked
-no_rule : (u : Unsaid) (x : Member) (seen : List Member) (best : Near) → rule_for u x.standing ≡ None → NoneNearer u seen best
-    → NoneNearer u (seen ++ x ∷ []) best
-no_rule u x seen best r n = grind (arith, among_more)
+    go best (seen ++ x ∷ []) (stays_nearest u x q seen best r h n) (grind (arith, among_front))
 
 by_rule : (o : Option Rule) (u : Unsaid) (x : Member) (first best : Near) (seen xs : List Member) → rule_for u x.standing ≡ o
     → NoneNearer u seen best → IsOne u seen first best → Tries u first xs
     → NoneNearer u ((seen ++ x ∷ []) ++ xs) (fold (tried u) (tried_by best x o) xs)
     × IsOne u ((seen ++ x ∷ []) ++ xs) first (fold (tried u) (tried_by best x o) xs)
-by_rule None u x first best seen xs r n o go = go best (seen ++ x ∷ []) (no_rule u x seen best r n) (one_more u x seen first best o)
+by_rule None u x first best seen xs r n o go = go best (seen ++ x ∷ []) (grind (arith, among_more)) (grind (arith, among_front))
 by_rule (Some q) u x first best seen xs r n o go = by_nearer (is_nearer (near x q) best) u x q first best seen xs r refl n o go
 
 tries : (u : Unsaid) (first : Near) (xs : List Member) → Tries u first xs

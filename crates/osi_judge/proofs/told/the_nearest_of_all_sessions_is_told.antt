@@ -1,34 +1,19 @@
 -- The sessions that a member becomes are tried one after the other, and the nearest is told: for the functions of `rules`.
-use Rattle.std.proofs.Common.{◌≡◌, ◌∙◌, refl, sym, ap, subst, ℕ, zero, suc, ◌+◌, ◌-◌, ◌<◌, ◌≤◌, Bool, false, if◌then◌else◌, List, [], ◌∷◌}
-use Rattle.std.proofs.Common.{◌++◌}
-use Rattle.std.proofs.Common.{length, get_or, drop, replicate, Option, Some, None, is_none, option_map, Result, Ok, Err, IfOk}
-use Rattle.std.proofs.Common.{arith}
-use Rattle.std.proofs.lemmas.List.{length-replicate}
-use Rattle.std.proofs.lemmas.List.Sums.{fold-append}
-use Rattle.std.specs.List.{fold, flat_map}
-use Rattle.osi_spdu.specs.declared.faults.SpduFault.{SpduFault}
-use Rattle.osi_spdu.specs.Known.{Contents, Units}
-use Rattle.osi_session.specs.declared.reactions.Reply.{Reply}
-use Rattle.osi_session.specs.Standing.{Seen, Count, Takes, after_count}
-use Rattle.osi_judge.specs.declared.members.Member.{Member}
-use Rattle.osi_judge.specs.declared.rules.Break.{Break}
-use Rattle.osi_judge.specs.declared.rules.Near.{Near}
-use Rattle.osi_judge.specs.declared.standings.Turn.{Turn}
-use Rattle.osi_judge.specs.declared.standings.Turn.TheVariants.{Goes, Stops}
-use Rattle.osi_judge.specs.Breaking.{Leads, BreaksIn, here, last, later, BreaksAs, in_effect}
+use Rattle.osi_judge.proofs.Vocabulary.{◌≡◌, ◌∙◌, refl, sym, ap, subst, ℕ, zero, suc, ◌+◌, ◌-◌, ◌<◌, ◌≤◌, false, List, [], ◌∷◌, ◌++◌}
+use Rattle.osi_judge.proofs.Vocabulary.{length, get_or, drop, replicate, Option, Some, None, option_map, Result, Ok, Err, IfOk, arith}
+use Rattle.osi_judge.proofs.Vocabulary.{length-replicate, fold-append, fold, flat_map, SpduFault, Contents, Units, Reply, Seen, Count}
+use Rattle.osi_judge.proofs.Vocabulary.{Takes, after_count, Member, Break, Near, Turn, Goes, Stops, Leads, BreaksIn, here, last, later}
+use Rattle.osi_judge.proofs.Vocabulary.{BreaksAs, in_effect, Unsaid, a_unit, unread, tried, next_of, becomes, reached, goes_to, far}
+use Rattle.osi_judge.proofs.Vocabulary.{break_of, Quietly, OwesTo, StopsBy, GoesOn}
 use Rattle.osi_judge.specs.Members.{is_empty}
-use Rattle.osi_judge.specs.Nearest.{Unsaid, a_unit, unread, tried, count_at, quiet_by, next_of, becomes, reached, last_in, goes_to, far}
-use Rattle.osi_judge.specs.Nearest.{nearest, break_of}
-use Rattle.osi_judge.specs.Onward.{Quietly, OwesTo, StopsBy, GoesOn}
+use Rattle.osi_judge.specs.Nearest.{count_at, last_in}
+use Rattle.osi_judge.specs.Nearest.{nearest}
 
 -- ---- the next TSDU
 
-so_many : (n : Option ℕ) → option_map (length {A = ℕ}) (option_map (λ (k : ℕ). replicate {A = ℕ} k 0) n) ≡ n
-so_many n = grind (arith, length-replicate)
-
 pub count_is : (s : Seen) (u : List ℕ) (c : Count) → Takes s u c → count_at s u ≡ c
 unfolding count_at
-count_is s u c h = h (option_map (λ (k : ℕ). replicate {A = ℕ} k 0) s.joined) (so_many s.joined)
+count_is s u c h = h (option_map (λ (k : ℕ). replicate {A = ℕ} k 0) s.joined) (grind (arith, length-replicate))
 
 abbrev taken_by : Member → Count → Member
 taken_by m c = record { taken = m.taken + 1; standing = after_count m.standing c }
@@ -37,18 +22,12 @@ pub next_goes : (us : List (List ℕ)) (m t : Member) → Quietly us m t → nex
 next_goes us m t q =
     let u = get_or us m.taken [] in
     let c = q.follows.count in
-    let listening = q.follows.listening in
-    let next : taken_by m c ≡ t = let a = q.taken in let b = q.follows.next in λ i. record { taken = sym a i; standing = sym b i } in
-    ap (λ (b : Bool). if b then quiet_by m (count_at m.standing u) else None) listening
-    ∙ ap (quiet_by m) (count_is m.standing u c q.follows.taken)
-    ∙ ap (λ (r : Option _). if is_none r then Some (taken_by m c) else None) q.follows.quiet ∙ ap Some next
+    grind (arith, count_is m.standing u c q.follows.taken)
 
 next_owes : (us : List (List ℕ)) (m : Member) (reply : Reply) → OwesTo m.standing (get_or us m.taken []) reply → next_of us m ≡ None
 next_owes us m reply o =
     let u = get_or us m.taken [] in
-    ap (λ (b : Bool). if b then quiet_by m (count_at m.standing u) else None) o.listening ∙ ap (quiet_by m)
-    (count_is m.standing u o.count o.taken)
-    ∙ ap (λ (r : Option _). if is_none r then Some (taken_by m o.count) else None) o.sent
+    grind (arith, count_is m.standing u o.count o.taken)
 
 pub next_stops : (us : List (List ℕ)) (m : Member) (owes : Option Reply) → StopsBy m.standing (get_or us m.taken []) owes
     → next_of us m ≡ None
@@ -59,9 +38,6 @@ next_stops us m owes h = grind (arith, next_owes)
 pub becomes_none : (us : List (List ℕ)) (n : ℕ) → becomes us n None ≡ []
 becomes_none us n = grind arith
 
-pub reached_end : (us : List (List ℕ)) (before : ℕ) (m : Member) → before ≤ m.taken → reached us before m ≡ m ∷ []
-reached_end us before m l = let e : before - m.taken ≡ 0 = omega arith in ap (λ (n : ℕ). becomes us n (Some m)) e
-
 pub reached_some : (us : List (List ℕ)) (before : ℕ) (m : Member) → m.taken < before
     → reached us before m ≡ m ∷ becomes us (before - (m.taken + 1)) (next_of us m)
 reached_some us before m l = grind arith
@@ -69,11 +45,6 @@ reached_some us before m l = grind arith
 reached_next : (us : List (List ℕ)) (before : ℕ) (m t : Member) → m.taken < before → Quietly us m t
     → reached us before m ≡ m ∷ reached us before t
 reached_next us before m t l q = grind (arith, reached_some us before m l, next_goes us m t q)
-
-reached_stops : (us : List (List ℕ)) (before : ℕ) (m : Member) (owes : Option Reply) → m.taken < before
-    → StopsBy m.standing (get_or us m.taken []) owes
-    → reached us before m ≡ m ∷ []
-reached_stops us before m owes l h = grind (arith, reached_some, next_stops, becomes_none)
 
 -- ---- what a session is after all that passed
 
@@ -87,7 +58,7 @@ goes_next us m t first turn l e g h = grind (arith, reached_next, last_any)
 pub goes_stop : (us : List (List ℕ)) (m first : Member) (turn : Turn) (owes : Option Reply) → m.taken < length us → turn ≡ Stops owes
     → GoesOn us m turn
     → goes_to us m ≡ goes_to us first → m ≡ goes_to us first
-goes_stop us m first turn owes l e g h = grind (arith, reached_stops)
+goes_stop us m first turn owes l e g h = grind (arith, reached_some, next_stops, becomes_none)
 
 -- ---- a walk of one member
 
@@ -102,7 +73,7 @@ tries_next u us before old new all m t turn l e g n h = grind (arith, reached_ne
 pub tries_stop : (u : Unsaid) (us : List (List ℕ)) (before : ℕ) (old new all : Near) (m : Member) (turn : Turn) (owes : Option Reply)
     → m.taken < before
     → turn ≡ Stops owes → GoesOn us m turn → new ≡ tried u old m → tries u us before old m ≡ all → new ≡ all
-tries_stop u us before old new all m turn owes l e g n h = grind (arith, reached_stops)
+tries_stop u us before old new all m turn owes l e g n h = grind (arith, reached_some, next_stops, becomes_none)
 
 -- ---- one element of a list after the other
 

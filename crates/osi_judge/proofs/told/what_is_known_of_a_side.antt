@@ -1,27 +1,16 @@
 -- What is known of a side, as it hears and tells.
-use Rattle.std.proofs.Common.{◌≡◌, ◌∙◌, refl, sym, ap, subst, ℕ, suc, zero, ◌+◌, ◌<◌, ◌≤◌, ◌↔◌, ◌==◌, ◌&&◌, Bool, nat_lt, true, false, inl}
-use Rattle.std.proofs.Common.{inr, List, [], ◌∷◌, ◌++◌, length, map, take, get_or, Result, Ok, Err, OnOk, arith}
-use Rattle.std.proofs.lemmas.List.{append-nil, append_assoc, length-append}
-use Rattle.osi_spdu.specs.declared.faults.SpduFault.{SpduFault}
-use Rattle.osi_message.specs.Reading.{said_at}
-use Rattle.osi_message.specs.Words.{Words}
-use Rattle.osi_session.specs.Standing.{Seen}
-use Rattle.osi_judge.specs.declared.members.Member.{Member}
-use Rattle.osi_judge.specs.declared.findings.Finding.{Finding}
-use Rattle.osi_judge.specs.declared.findings.Finding.TheVariants.{Kept, Broke, Left, TooMany}
-use Rattle.osi_judge.specs.Explaining.{Remark, remark, Told, read_as, remarks_of, remarks, Explains, done, IsExplained}
-use Rattle.osi_judge.specs.Members.{SomeExplains, Extends, IsBehind}
-use Rattle.osi_judge.specs.Walking.{Ever}
-use Rattle.osi_judge.specs.declared.rules.Break.{Break}
-use Rattle.osi_judge.specs.Breaking.{BreaksAt, selection_of}
-use Rattle.osi_judge.specs.Sides.{ended_at, EndsAt}
-use Rattle.osi_judge.specs.Profiles.{offered_in, accepted_in, in_first, is_outside, selects_outside, leaves}
-use Rattle.osi_judge.specs.Judging.{Watched, is_empty, StandsBefore, BrokeBy, LeftBy, IsKept, IsAstray, BrokeFor, LeftFor, CrowdedFor}
-use Rattle.osi_judge.specs.Judging.{AreAll, Keeps, WatchesBy, Watches, IsFound, HasRoom}
-use Rattle.osi_judge.specs.Kept.{after_tsdu, kept}
+use Rattle.osi_judge.proofs.Vocabulary.{◌≡◌, ◌∙◌, refl, sym, ap, subst, ℕ, suc, zero, ◌+◌, ◌<◌, ◌≤◌, ◌↔◌, ◌==◌, ◌&&◌, Bool, nat_lt, true}
+use Rattle.osi_judge.proofs.Vocabulary.{false, inl, inr, List, [], ◌∷◌, ◌++◌, length, map, take, get_or, Result, Ok, Err, OnOk, arith}
+use Rattle.osi_judge.proofs.Vocabulary.{append-nil, append_assoc, length-append, said_at, Words, Seen, Member, Finding, Kept, Broke}
+use Rattle.osi_judge.proofs.Vocabulary.{TooMany, Remark, remark, Told, remarks_of, remarks, Explains, done, IsExplained, SomeExplains}
+use Rattle.osi_judge.proofs.Vocabulary.{Extends, IsBehind, Ever, Break, BreaksAt, selection_of, ended_at, EndsAt, offered_in, accepted_in}
+use Rattle.osi_judge.proofs.Vocabulary.{in_first, is_outside, selects_outside, leaves, Watched, is_empty, StandsBefore, BrokeBy, LeftBy}
+use Rattle.osi_judge.proofs.Vocabulary.{IsKept, IsAstray, BrokeFor, LeftFor, CrowdedFor, AreAll, Keeps, WatchesBy, Watches, IsFound}
+use Rattle.osi_judge.proofs.Vocabulary.{HasRoom, after_tsdu, kept}
+use Rattle.osi_judge.specs.declared.findings.Finding.TheVariants.{Left}
 use Rattle.osi_judge.proofs.told.a_break_stays_the_break.{extends_front, breaks_heard}
 use Rattle.osi_judge.proofs.kept.what_is_kept_follows_what_is_told.{take_front, take_whole, kept_more, kept_begins, few_begins, few_more}
-use Rattle.osi_judge.proofs.kept.what_is_kept_follows_what_is_told.{crowd_more, crowd_still, few_members}
+use Rattle.osi_judge.proofs.kept.what_is_kept_follows_what_is_told.{crowd_more, few_members}
 
 -- ---- the TSDUs of the other side become more
 
@@ -37,10 +26,6 @@ stands_heard w x told i t k =
       some = k.some;
       few = λ us e. k.few us (extends_front us w.heard x e);
     }
-
-broke_heard : (w : Watched) (x : List ℕ) (told : List Told) (i : ℕ) → BrokeBy w told i
-    → BrokeBy (record w { heard = w.heard ++ x ∷ [] }) told i
-broke_heard w x told i k = search (arith, stands_heard, breaks_heard)
 
 left_heard : (w : Watched) (x : List ℕ) (told : List Told) (i : ℕ) → LeftBy w told i
     → LeftBy (record w { heard = w.heard ++ x ∷ [] }) told i
@@ -65,7 +50,7 @@ heard_by Kept w x told k = record {
   few = λ us e. k.few us (extends_front us w.heard x e);
   inside = λ us e. k.inside us (extends_front us w.heard x e);
 }
-heard_by (Broke i) w x told k = ((k.0.0, λ us e. k.0.1 us (extends_front us w.heard x e)), broke_heard w x told i k.1)
+heard_by (Broke i) w x told k = ((k.0.0, λ us e. k.0.1 us (extends_front us w.heard x e)), search (arith, stands_heard, breaks_heard))
 heard_by (Left i) w x told k = ((k.0.0, λ us e. k.0.1 us (extends_front us w.heard x e)), left_heard w x told i k.1)
 heard_by TooMany w x told k = (k.0, λ us e. k.1 us (extends_front us w.heard x e))
 
@@ -90,13 +75,9 @@ broke_stays : (begin : Seen) (heard : List (List ℕ)) (told : List Told) (x : T
     → BrokeFor begin heard (told ++ x ∷ []) i
 broke_stays begin heard told x i k = grind (arith, length-append, take_front, kept_still)
 
-left_stays : (begin : Seen) (heard : List (List ℕ)) (told : List Told) (x : Told) (i : ℕ) → LeftFor begin heard told i →
-    LeftFor begin heard (told ++ x ∷ []) i
-left_stays begin heard told x i k = grind (arith, length-append, take_front, kept_still, astray_still)
-
 crowded_stays : (begin : Seen) (heard : List (List ℕ)) (told : List Told) (x : Told) (i : ℕ) → CrowdedFor begin heard told i
     → CrowdedFor begin heard (told ++ x ∷ []) i
-crowded_stays begin heard told x i k = grind (arith, length-append, take_front, kept_still, crowd_still)
+crowded_stays begin heard told x i k = grind (arith, length-append, take_front, kept_still)
 
 told_front : (xs ys : List Told) (i : ℕ) (t : Told) → i < length xs → get_or (xs ++ ys) i t ≡ get_or xs i t
 told_front [] ys i t l = absurd (omega arith)
@@ -108,34 +89,26 @@ stood_stays : (w : Watched) (told : List Told) (x : Told) (i : ℕ) (t : Told) �
     → StandsBefore w (told ++ x ∷ []) i t
 stood_stays w told x i t l k = grind (arith, take_front, told_front)
 
-broke_by_stays : (w : Watched) (told : List Told) (x : Told) (i : ℕ) → i < length told → BrokeBy w told i → BrokeBy w (told ++ x ∷ []) i
-broke_by_stays w told x i l k = (k.0, stood_stays w told x i k.0 l k.1, k.2, k.3)
-
 left_by_stays : (w : Watched) (told : List Told) (x : Told) (i : ℕ) → i < length told → LeftBy w told i → LeftBy w (told ++ x ∷ []) i
 left_by_stays w told x i l (t, s, inl (b, e, k)) = (t, stood_stays w told x i t l s, inl (b, e, broke_stays w.begin w.heard told x i k))
 left_by_stays w told x i l (t, s, inr (e, k)) = grind (arith, take_front told (x ∷ []) (i + 1) (omega arith), stood_stays w told x i t l s)
 
 stays_by : (f : Finding) (w : Watched) (told : List Told) (x : Told) → (f ≡ Kept → ⊥) → WatchesBy f w told → WatchesBy f w (told ++ x ∷ [])
 stays_by Kept w told x n k = absurd (n refl)
-stays_by (Broke i) w told x n k = (broke_stays w.begin w.heard told x i k.0, broke_by_stays w told x i k.0.0 k.1)
-stays_by (Left i) w told x n k = (left_stays w.begin w.heard told x i k.0, left_by_stays w told x i k.0.0 k.1)
+stays_by (Broke i) w told x n k = (broke_stays w.begin w.heard told x i k.0, search (arith, stood_stays))
+stays_by (Left i) w told x n k = (grind (arith, length-append, take_front, kept_still, astray_still), left_by_stays w told x i k.0.0 k.1)
 stays_by TooMany w told x n k = crowded_stays w.begin w.heard told x w.told k
-
--- what was found of a side that is judged no further stays
-stays : (w n : Watched) (told : List Told) (x : Told) (f : Finding) → w.finding ≡ f → (f ≡ Kept → ⊥) → n ≡ w → Watches w told
-    → Watches n (told ++ x ∷ [])
-stays w n told x f z o e k = grind (arith, stays_by)
 
 pub broke_as : (w n : Watched) (told : List Told) (x : Told) (i : ℕ) → w.finding ≡ Broke i → n ≡ w → Watches w told
     → Watches n (told ++ x ∷ [])
-broke_as w n told x i f e k = stays w n told x (Broke i) f (λ z. cc) e k
+broke_as w n told x i f e k = grind (arith, stays_by)
 
 pub left_as : (w n : Watched) (told : List Told) (x : Told) (i : ℕ) → w.finding ≡ Left i → n ≡ w → Watches w told
     → Watches n (told ++ x ∷ [])
-left_as w n told x i f e k = stays w n told x (Left i) f (λ z. cc) e k
+left_as w n told x i f e k = grind (arith, stays_by)
 
 pub too_many_as : (w n : Watched) (told : List Told) (x : Told) → w.finding ≡ TooMany → n ≡ w → Watches w told → Watches n (told ++ x ∷ [])
-too_many_as w n told x f e k = stays w n told x TooMany f (λ z. cc) e k
+too_many_as w n told x f e k = grind (arith, stays_by)
 
 -- the remarks of one TSDU more
 remarks_more : (told : List Told) (x : Told) (later : List Remark) →
@@ -143,17 +116,10 @@ remarks_more : (told : List Told) (x : Told) (later : List Remark) →
 remarks_more [] x later = ap (λ (z : List Remark). z ++ later) (append-nil (remarks_of x))
 remarks_more (t ∷ told) x later = grind (arith, append_assoc, remarks_more told x later)
 
-behind_less : (a b : ℕ) (later : List Remark) → a ≤ b → IsBehind b later → IsBehind a later
-behind_less a b later l h = grind arith
-
 behind_words : (a : ℕ) (t : Told) (ws : Words) (later : List Remark) → a ≤ t.before → IsBehind t.before later →
     IsBehind a (map (remark t) ws ++ later)
-behind_words a t [] later l h = behind_less a t.before later l h
+behind_words a t [] later l h = grind arith
 behind_words a t (w ∷ ws) later l h = l
-
-behind_read : (a : ℕ) (t : Told) (came : Result Words SpduFault) (later : List Remark) → a ≤ t.before → IsBehind t.before later →
-    IsBehind a (read_as t came ++ later)
-behind_read a t came later l h = grind (arith, behind_words)
 
 -- what the members after a TSDU explain
 abbrev pub Gives : Watched → Told → List Member → Type 0
@@ -164,7 +130,7 @@ Gives w x new =
 all_more : (w : Watched) (told : List Told) (x : Told) (new : List Member) → w.before ≤ x.before →
     AreAll w.begin w.heard w.before w.members told → Gives w x new
     → AreAll w.begin w.heard x.before new (told ++ x ∷ [])
-all_more w told x new l a g = grind (arith, behind_read, remarks_more)
+all_more w told x new l a g = grind (arith, behind_words, remarks_more)
 
 -- ---- what the first TSDU selects
 
@@ -214,8 +180,7 @@ kept_as w n told x new b e f l g v s y p o z k =
       all = all_more w told x new l k.all g;
       kept = kept_more w.begin w.heard told x w.members new k.kept p v;
       some = s;
-      few = λ us h. few_more w.begin us told x (k.few us h)
-          (subst (λ (ms : List Member). length ms ≤ 4096) (kept_more w.begin w.heard told x w.members new k.kept p v us h) y);
+      few = λ us h. grind (arith, few_more, k.few us h, kept_more w.begin w.heard told x w.members new k.kept p v us h);
       inside = λ us h. opens_by w told x b us h p o k ∙ z;
     }))
 
@@ -230,21 +195,15 @@ crowds_as w n told x new b e l g v s y p o z k =
     subst (λ (y : Watched). Watches y (told ++ x ∷ [])) (sym e) (
       omega arith,
       λ us h. (
-        kept_still w.begin us (take (w.told + 1) (told ++ x ∷ [])) (told ++ x ∷ []) whole
-            (explained_more w told x new us l g s k h, opens_by w told x b us h p o k ∙ z),
-        crowd_more w.begin us told x w.told c (k.few us h)
-            (subst (λ (ms : List Member). 4096 < length ms) (kept_more w.begin w.heard told x w.members new k.kept p v us h) y),
+        grind (arith, kept_still, explained_more w told x new us l g s k h, opens_by w told x b us h p o k),
+        grind (arith, crowd_more, k.few us h, kept_more w.begin w.heard told x w.members new k.kept p v us h),
       ),
     )
 
 -- ---- a break
 
-explained_so_far : (w : Watched) (told : List Told) (us : List (List ℕ)) → Extends us w.heard → Keeps w told → IsExplained w.begin us told
-explained_so_far w told us e k =
-    subst (λ (z : List Remark). Explains us z 0 w.begin) (append-nil (remarks told)) ((k.all us [] e tt).1 (some_done us w.members k.some))
-
 kept_so_far : (w : Watched) (told : List Told) (us : List (List ℕ)) → Extends us w.heard → Keeps w told → IsKept w.begin us told
-kept_so_far w told us e k = (explained_so_far w told us e k, k.inside us e)
+kept_so_far w told us e k = (grind (arith, append-nil (remarks told), k.all us [] e tt, some_done us w.members k.some), k.inside us e)
 
 pub broke_here : (w : Watched) (told : List Told) (x : Told) (new : List Member) → w.before ≤ x.before → Gives w x new → new ≡ [] →
     Keeps w told → BrokeFor w.begin w.heard (told ++ x ∷ []) w.told
@@ -255,11 +214,7 @@ broke_here w told x new l g z k =
       omega arith,
       λ us e. (
         kept_still w.begin us (take w.told (told ++ x ∷ [])) told front (kept_so_far w told us e k),
-        λ h.
-            let p = subst (λ (y : List Told). IsExplained w.begin us y) whole h in
-            let q = (all_more w told x new l k.all g us [] e tt).0
-            (subst (λ (y : List Remark). Explains us y 0 w.begin) (sym (append-nil (remarks (told ++ x ∷ [])))) p) in
-            subst (λ (y : List Member). SomeExplains us y []) z q,
+        grind (arith, all_more w told x new l k.all g us [] e tt, append-nil (remarks (told ++ x ∷ []))),
       ),
     )
 
@@ -301,11 +256,7 @@ leaves_as w n told x new b l g s e p o z k =
     let whole = take_whole (told ++ x ∷ []) (w.told + 1) (omega arith) in
     subst (λ (y : Watched). Watches y (told ++ x ∷ [])) (sym e) (
       left_here w told x b p o z k,
-      (
-        x,
-        stands_here w (Left w.told) by told x p k,
-        inr (refl, λ us h. subst (λ (y : List Told). IsExplained w.begin us y) (sym whole) (explained_more w told x new us l g s k h)),
-      ),
+      grind (arith, explained_more, stands_here w (Left w.told) by told x p k),
     )
 
 -- it is outside of the profile, or breaks the protocol
@@ -334,13 +285,7 @@ pub begins : (w : Watched) (m : Member) → w.heard ≡ [] → w.members ≡ m �
     w.finding ≡ Kept → Watches w []
 begins w m h s t b o f = subst (λ (y : Finding). WatchesBy y w []) (sym f) (record {
   count = o;
-  all = λ us later e k.
-      let there : Explains us later 0 w.begin → SomeExplains us w.members later
-      = λ p. subst (λ (y : List Member). SomeExplains us y later) (sym s)
-      (inl (subst (λ (y : ℕ). Explains us later y m.standing) (sym t) (subst (λ (y : Seen). Explains us later 0 y) (sym b) p))) in
-      let back : SomeExplains us w.members later → Explains us later 0 w.begin
-      = λ p. begin_only us later m w.begin t b (subst (λ (y : List Member). SomeExplains us y later) s p) in
-      (there, back);
+  all = grind arith;
   kept = λ us e. kept_begins w.begin us w.members m s t b;
   some = ap is_empty s;
   few = λ us e. few_begins w.begin us;

@@ -1,31 +1,18 @@
 -- A session that waits for the answer to its restart explains the same before and after a TSDU that it discards. For `wait`.
-use Rattle.std.proofs.Common.{◌≡◌, ◌∙◌, refl, sym, ap, subst, ℕ, ◌+◌, ◌<◌, ◌⊎◌, ◌↔◌, inl, inr, Bool, true, false, not, ◌&&◌, ◌||◌, ◌==◌}
-use Rattle.std.proofs.Common.{is_none, unwrap_or, if◌then◌else◌, List, [], ◌∷◌, length, get_or, Some, None, option_map}
-use Rattle.std.proofs.lemmas.Bool.{and_parts}
-use Rattle.osi_message.specs.Meanings.{Meaning, CN, AC, RF, DT, GT, PT, MIP, MIA, MAP, MAA, RS, RA, FN, DN, NF, AB, AA}
-use Rattle.osi_message.specs.Reading.{names}
-use Rattle.osi_message.specs.Words.{Word, says, part}
-use Rattle.osi_session.specs.declared.phases.Phase.{Phase}
-use Rattle.osi_session.specs.declared.phases.Phase.TheVariants.{Aborting}
-use Rattle.osi_session.specs.declared.state.State.{State}
-use Rattle.osi_session.specs.Allowed.{may_call}
-use Rattle.osi_session.specs.Calls.{refusal_with, Call, Refuse, Data, Give, Please, Minor, MinorConfirm, Major, MajorConfirm, Restart}
-use Rattle.osi_session.specs.Calls.{RestartConfirm, ReleaseAccept, ReleaseRefuse, Abort}
-use Rattle.osi_session.specs.Joining.{begins_anew}
-use Rattle.osi_session.specs.Phases.{is_answering, is_major_due, is_ready, is_release_due, is_restart_due, is_restarting, is_wait_transport}
-use Rattle.osi_session.specs.Phases.{may_ask, may_confirm_minor, may_give, may_restart}
-use Rattle.osi_session.specs.Respond.{has_no_effect, is_restart}
-use Rattle.osi_session.specs.Sides.{answers_wishes, stated}
-use Rattle.osi_session.specs.Sizes.{limit_of}
-use Rattle.osi_session.specs.Standing.{Seen, Count, CanSay, Takes, after_count, calling, goes, may_send, said_message, said_within}
-use Rattle.osi_session.specs.Standing.{stands_in_place, where_is}
-use Rattle.osi_session.specs.State.{without_tokens}
-use Rattle.osi_session.specs.Steady.{Hears}
-use Rattle.osi_session.proofs.tables.what_is_true_of_each_phase.{excluded}
-use Rattle.osi_session.proofs.ahead.the_state_after_a_word.{within, call_leaves, if_seen, if_state, mapped}
-use Rattle.osi_judge.specs.Explaining.{Remark, Explains, done, takes, answers, says}
-use Rattle.osi_judge.specs.Members.{IsBehind}
-use Rattle.osi_judge.specs.Waiting.{Waits, aborted, is_abort_word}
+use Rattle.std.proofs.Common.{arith}
+use Rattle.osi_judge.proofs.Vocabulary.{◌≡◌, ◌∙◌, refl, sym, ap, subst, ℕ, ◌+◌, ◌<◌, ◌⊎◌, ◌↔◌, inl, inr, Bool, true, false, not, ◌&&◌, ◌||◌}
+use Rattle.osi_judge.proofs.Vocabulary.{◌==◌, is_none, unwrap_or, if◌then◌else◌, List, [], ◌∷◌, length, get_or, Some, None, option_map}
+use Rattle.osi_judge.proofs.Vocabulary.{and_parts, Meaning, CN, AC, RF, DT, GT, PT, MIP, MIA, MAP, MAA, RS, RA, FN, DN, NF, AB, AA, names}
+use Rattle.osi_judge.proofs.Vocabulary.{Word, part, Phase, Aborting, State, may_call, refusal_with, Call, Refuse, Data, Give, Please, Minor}
+use Rattle.osi_judge.proofs.Vocabulary.{MinorConfirm, Major, MajorConfirm, Restart, ReleaseAccept, ReleaseRefuse, Abort, begins_anew}
+use Rattle.osi_judge.proofs.Vocabulary.{is_answering, is_major_due, is_ready, is_release_due, is_restarting, is_wait_transport, may_ask}
+use Rattle.osi_judge.proofs.Vocabulary.{may_confirm_minor, may_give, may_restart, has_no_effect, is_restart, limit_of, Seen, Count, CanSay}
+use Rattle.osi_judge.proofs.Vocabulary.{Takes, after_count, calling, goes, may_send, said_message, said_within, stands_in_place, where_is}
+use Rattle.osi_judge.proofs.Vocabulary.{without_tokens, Hears, excluded, call_leaves, if_seen, if_state, mapped, Remark, Explains, done}
+use Rattle.osi_judge.proofs.Vocabulary.{takes, answers, IsBehind, Waits, aborted, is_abort_word}
+use Rattle.osi_message.specs.Words.{says}
+use Rattle.osi_session.proofs.ahead.the_state_after_a_word.{within}
+use Rattle.osi_judge.specs.Explaining.{says}
 use Rattle.osi_judge.proofs.walked.a_walk_loses_no_explanation.{takes_one, none_or_some, before_it}
 use Rattle.osi_judge.proofs.walked.what_ends_alike.{SameEnd, says_alike}
 
@@ -61,8 +48,7 @@ only_abort s (MAA k o) x e h = absurd (refused is_major_due s (MajorConfirm o) x
 only_abort s (RS t k w o) x e h = absurd (refused may_restart s (Restart k w o) x e (excluded is_restarting may_restart refl s.phase)
     (if_state (is_restart t) _ x h).1)
 only_abort s (RA k w o) x e h =
-    absurd (refused is_restart_due s (RestartConfirm (stated s.units w) o) x e (excluded is_restarting is_restart_due refl s.phase)
-    (if_state ((k == s.numbers.next) && answers_wishes s.units s.wishes w) _ x h).1)
+    absurd (grind (arith, refused, excluded, if_state))
 only_abort s (FN o) x e h = absurd (neither (is_ready s.phase) (and_parts (is_ready s.phase) _ (if_state _ _ x h).0).0 (excluded
     is_restarting is_ready refl s.phase e))
 only_abort s (DN o) x e h = absurd (refused is_release_due s (ReleaseAccept o) x e (excluded is_restarting is_release_due refl s.phase) h)
@@ -74,22 +60,16 @@ if_this : (b : Bool) (x y : Seen) → (if b then Some x else None) ≡ Some y �
 if_this true x y h = refl
 if_this false x y h = absurd (cc)
 
-some_seen : (y z : Seen) → Some y ≡ Some z → z ≡ y
-some_seen y z h = cc
-
 waiting_within : (s next : Seen) (w : Word) → is_restarting s.state.phase ≡ true → said_within s w ≡ Some next
     → (next ≡ s) ⊎ (next ≡ aborted s)
 waiting_within s next (part place octets) e h =
     let a = if_this (not (limit_of s.state == 0) && (stands_in_place s.sent place && may_send s.state (unwrap_or s.sent 0 + length
     octets))) _ next h in
-    let b = and_parts (not (limit_of s.state == 0)) _ a in
-    let c = and_parts (stands_in_place s.sent place) _ b.1 in
-    absurd (neither (is_ready s.state.phase) (and_parts (is_ready s.state.phase) _ c.1).0 (excluded is_restarting is_ready refl
-    s.state.phase e))
+    grind (arith, and_parts, neither, excluded)
 waiting_within s next (says m) e h = by (has_no_effect m) refl (is_none s.sent || not (begins_anew m)) refl
   where
     by : (b : Bool) → has_no_effect m ≡ b → (d : Bool) → (is_none s.sent || not (begins_anew m)) ≡ d → (next ≡ s) ⊎ (next ≡ aborted s)
-    by true p d q = let at : said_within s (says m) ≡ Some s = rw p refl in inl (some_seen _ _ (sym at ∙ h))
+    by true p d q = let at : said_within s (says m) ≡ Some s = rw p refl in inl (grind arith)
     by false p false q = let none : said_within s (says m) ≡ None = rw (p, q) refl in let z = sym none ∙ h in absurd (cc)
     by false p true q =
         let some : said_within s (says m) ≡ option_map (goes s) (said_message s.state m) = rw (p, q) refl in
@@ -144,15 +124,10 @@ is_the_abort s x b d o h =
     let m = mapped (goes s) (where_is (not (names b 4)) (calling s.state (Abort d))) x a.1 in
     m.2 ∙ ap (goes s) (call_leaves s.state (Abort d) m.0 (if_state (not (names b 4)) (calling s.state (Abort d)) m.0 m.1).1).next
 
-pub the_abort : (s x : Seen) (w : Word) (o : ℕ) → is_abort_word w ≡ true → CanSay s w o x → x ≡ aborted s
-the_abort s x (says (AB b d)) o e h = is_the_abort s x b d o h
-the_abort s x (says _) o e h = absurd (cc)
-the_abort s x (part place d) o e h = absurd (cc)
-
 pub it_waits : (s x : Seen) (tsdu : List ℕ) (w : Word) (o : ℕ) → is_abort_word w ≡ true → CanSay s w o x
     → is_restarting s.state.phase ≡ true → Hears s tsdu s → Hears x tsdu x → Waits s tsdu
 it_waits s x tsdu w o e h r p q = record {
   restarting = r;
   stays = p;
-  over = subst (λ (y : Seen). Hears y tsdu y) (the_abort s x w o e h) q;
+  over = subst (λ (y : Seen). Hears y tsdu y) (grind (arith, is_the_abort)) q;
 }

@@ -1,16 +1,10 @@
 -- A walk to the next remark loses no explanation, and finds none that is not one.
-use Rattle.std.proofs.Common.{◌≡◌, ◌∙◌, refl, sym, ap, subst, ℕ, ◌+◌, ◌<◌, ◌≤◌, ◌⊎◌, ◌↔◌, inl, inr, true, false, Bool, List, [], ◌∷◌}
-use Rattle.std.proofs.Common.{get_or, Option, Some, None, IfSome, IfNone, option_map, arith}
-use Rattle.osi_message.specs.Meanings.{Meaning}
-use Rattle.osi_message.specs.Words.{Word}
-use Rattle.osi_session.specs.Standing.{Seen, Count, CanSay, Takes, listens, after_count, answers_word}
-use Rattle.osi_session.specs.Steady.{Hears}
-use Rattle.osi_session.proofs.sent.what_a_side_may_send.{so_many, so_many_are}
-use Rattle.osi_judge.specs.declared.members.Member.{Member}
-use Rattle.osi_judge.specs.declared.walks.Walker.{Walker}
-use Rattle.osi_judge.specs.Explaining.{Remark, Explains, done, takes, answers, says}
-use Rattle.osi_judge.specs.Members.{SomeExplains, IsBehind}
-use Rattle.osi_judge.specs.Walking.{the_remark, SaidHere, Covers, WalkerCovers, Open, SaysIt, Answers, MayFollow, Turns, Walked}
+use Rattle.osi_judge.proofs.Vocabulary.{◌≡◌, ◌∙◌, refl, sym, subst, ℕ, ◌+◌, ◌<◌, ◌≤◌, ◌⊎◌, ◌↔◌, inl, inr, true, false, Bool, List, [], ◌∷◌}
+use Rattle.osi_judge.proofs.Vocabulary.{get_or, Option, Some, None, IfSome, IfNone, option_map, arith, Meaning, Word, Seen, Count, CanSay}
+use Rattle.osi_judge.proofs.Vocabulary.{Takes, listens, after_count, answers_word, Hears, so_many, so_many_are, Member, Walker, Remark}
+use Rattle.osi_judge.proofs.Vocabulary.{Explains, done, takes, answers, SomeExplains, IsBehind, the_remark, SaidHere, WalkerCovers, Open}
+use Rattle.osi_judge.proofs.Vocabulary.{SaysIt, Answers, MayFollow, Turns, Walked}
+use Rattle.osi_judge.specs.Explaining.{says}
 
 -- what is taken leaves one count
 pub takes_one : (s : Seen) (u : List ℕ) (c d : Count) → Takes s u c → Takes s u d → c ≡ d
@@ -27,9 +21,6 @@ pub record TakenOn (us : List (List ℕ)) (later : List Remark) (m : Remark) (w 
   pub on : ((count.reply ≡ None) × (Explains us (m ∷ later) (j + 1) (after_count s count)))
       ⊎ ((reply : Meaning) × (count.reply ≡ Some reply) × (answers_word reply w ≡ true) × (Explains us later (j + 1) (after_count s count)))
 
-same_word : (w v : Word) → Some w ≡ Some v → v ≡ w
-same_word w v e = cc
-
 split : (us : List (List ℕ)) (m : Remark) (later : List Remark) (j : ℕ) (s : Seen) (w : Word) → Some w ≡ m.word →
     Explains us (m ∷ later) j s
     → ((next : Seen) × (CanSay s w m.octets next) × (Explains us later j next)) ⊎ TakenOn us later m w j s
@@ -40,9 +31,9 @@ split us m later j s w k (answers _ _ _ _ c reply v b l t r d a e) =
       before = b;
       listening = l;
       taken = t;
-      on = inr (reply, r, subst (λ (x : Word). answers_word reply x ≡ true) (same_word w v (k ∙ d)) a, e);
+      on = inr (reply, r, subst (λ (x : Word). answers_word reply x ≡ true) (grind arith) a, e);
     })
-split us m later j s w k (says _ _ _ _ next v d a e) = grind (arith, same_word)
+split us m later j s w k (says _ _ _ _ next v d a e) = grind arith
 
 abbrev pub Ways : List (List ℕ) → List Remark → Word → ℕ → ℕ → Member → Type 0
 Ways us later w octets before at = SaidHere us later w octets at ⊎ TakenOn us later (the_remark w octets before) w at.taken at.standing
@@ -57,12 +48,6 @@ said_on us later w octets before at h = says (the_remark w octets before) later 
 
 -- ---- the end of a walk
 
--- what is known, and what is sent here, is what is known and what the session explains
-known : (us : List (List ℕ)) (later : List Remark) (w : Word) (octets before : ℕ) (old : List Member) (at : Member) →
-    (SomeExplains us old later ⊎ SaidHere us later w octets at)
-    → (SomeExplains us old later ⊎ Explains us (the_remark w octets before ∷ later) at.taken at.standing)
-known us later w octets before old at h = grind (arith, said_on)
-
 -- if no TSDU can be taken, the remark is sent here or not at all
 stuck_there : (us : List (List ℕ)) (later : List Remark) (w : Word) (octets before : ℕ) (old new : List Member) (at : Member)
     → ((SomeExplains us old later ⊎ SaidHere us later w octets at) → SomeExplains us new later) →
@@ -75,7 +60,7 @@ pub stuck : (us : List (List ℕ)) (later : List Remark) (w : Word) (octets befo
     → (TakenOn us later (the_remark w octets before) w from.at.taken from.at.standing → ⊥) →
     Open us later (the_remark w octets before) old (Some from) ↔ SomeExplains us new later
 stuck us later w octets before old new from to h c none =
-    grind (arith, known, stuck_there us later w octets before old new from.at (h.gives c).0 none)
+    grind (arith, said_on, stuck_there us later w octets before old new from.at (h.gives c).0 none)
 
 not_both : (b : Bool) → b ≡ true → b ≡ false → ⊥
 not_both b h k = grind arith
@@ -98,16 +83,6 @@ pub record Took (us : List (List ℕ)) (at next : Member) (count : Count) : Type
   pub place : next.taken ≡ at.taken + 1
   pub standing : next.standing ≡ after_count at.standing count
 
--- the state after it, by its count
-from_next : (us : List (List ℕ)) (ms : List Remark) (at next : Member) (c : Count) → Took us at next c →
-    Explains us ms next.taken next.standing → Explains us ms (at.taken + 1) (after_count at.standing c)
-from_next us ms at next c k e = grind arith
-
-to_next : (us : List (List ℕ)) (ms : List Remark) (at next : Member) (c d : Count) → Took us at next c →
-    Takes at.standing (get_or us at.taken []) d
-    → Explains us ms (at.taken + 1) (after_count at.standing d) → Explains us ms next.taken next.standing
-to_next us ms at next c d k t e = grind (arith, takes_one at.standing (get_or us at.taken []) d c t k.taken)
-
 pub none_or_some : (o : Option Meaning) (a : Meaning) → o ≡ None → o ≡ Some a → ⊥
 none_or_some o a h k = grind arith
 
@@ -119,11 +94,7 @@ answered_there : (us : List (List ℕ)) (later : List Remark) (w : Word) (octets
 answered_there us later w octets before old mid new at next c a k r g x (inl h) = x.0 (inl (g (inl h)))
 answered_there us later w octets before old mid new at next c a k r g x (inr e) = elim (ways us later w octets before at e) [
   | inl s ↦ x.0 (inl (g (inr s)))
-  | inr t ↦ (let same = takes_one at.standing (get_or us at.taken []) t.count c t.taken k.taken in elim t.on [
-    | inl n ↦ absurd (none_or_some c.reply a (sym (ap (λ (y : Count). y.reply) same) ∙ n.0) r)
-    | inr y ↦ (let other : y.0 ≡ a = some_same y.0 a (sym y.1 ∙ ap (λ (z : Count). z.reply) same ∙ r) in
-        x.0 (inr (subst (λ (z : Meaning). answers_word z w ≡ true) other y.2, to_next us later at next c t.count k t.taken y.3)))
-  ])
+  | inr t ↦ (let same = takes_one at.standing (get_or us at.taken []) t.count c t.taken k.taken in grind (arith, none_or_some, takes_one))
 ]
   where
     some_same : (b d : Meaning) → Some b ≡ Some d → b ≡ d
@@ -134,10 +105,10 @@ answered_back : (us : List (List ℕ)) (later : List Remark) (w : Word) (octets 
     → (SomeExplains us mid later → (SomeExplains us old later ⊎ SaidHere us later w octets at))
     → (SomeExplains us mid later ⊎ ((answers_word a w ≡ true) × Explains us later next.taken next.standing))
     → (SomeExplains us old later ⊎ Explains us (the_remark w octets before ∷ later) at.taken at.standing)
-answered_back us later w octets before old mid at next c a k r b g (inl h) = known us later w octets before old at (g h)
+answered_back us later w octets before old mid at next c a k r b g (inl h) = grind (arith, said_on)
 answered_back us later w octets before old mid at next c a k r b g (inr y) =
     inr (answers (the_remark w octets before) later at.taken at.standing c a w b k.listening k.taken r refl y.0
-    (from_next us later at next c k y.1))
+    (grind arith))
 
 pub answered : (us : List (List ℕ)) (later : List Remark) (w : Word) (octets before : ℕ) (old mid new : List Member) (from to : Walker)
     (next : Member) (c : Count) (a : Meaning)
@@ -161,10 +132,7 @@ on_there : (us : List (List ℕ)) (later : List Remark) (w : Word) (octets befor
 on_there us later w octets before old mid at next c k r g (inl h) = inl (g (inl h))
 on_there us later w octets before old mid at next c k r g (inr e) = elim (ways us later w octets before at e) [
   | inl s ↦ inl (g (inr s))
-  | inr t ↦ (let same = takes_one at.standing (get_or us at.taken []) t.count c t.taken k.taken in elim t.on [
-    | inl n ↦ inr (to_next us (the_remark w octets before ∷ later) at next c t.count k t.taken n.1)
-    | inr y ↦ absurd (none_or_some c.reply y.0 r (sym (ap (λ (z : Count). z.reply) same) ∙ y.1))
-  ])
+  | inr t ↦ (let same = takes_one at.standing (get_or us at.taken []) t.count c t.taken k.taken in grind (arith, takes_one, none_or_some))
 ]
 
 on_back : (us : List (List ℕ)) (later : List Remark) (w : Word) (octets before : ℕ) (old mid : List Member) (at next : Member) (c : Count) →
@@ -172,10 +140,10 @@ on_back : (us : List (List ℕ)) (later : List Remark) (w : Word) (octets before
     → (SomeExplains us mid later → (SomeExplains us old later ⊎ SaidHere us later w octets at))
     → (SomeExplains us mid later ⊎ Explains us (the_remark w octets before ∷ later) next.taken next.standing)
     → (SomeExplains us old later ⊎ Explains us (the_remark w octets before ∷ later) at.taken at.standing)
-on_back us later w octets before old mid at next c k r b g (inl h) = known us later w octets before old at (g h)
+on_back us later w octets before old mid at next c k r b g (inl h) = grind (arith, said_on)
 on_back us later w octets before old mid at next c k r b g (inr e) =
     inr (takes (the_remark w octets before) later at.taken at.standing c b k.listening k.taken r
-    (from_next us (the_remark w octets before ∷ later) at next c k e))
+    (grind arith))
 
 -- what a session explains after it took a TSDU, it explains before
 pub before_it : (us : List (List ℕ)) (later : List Remark) (before j : ℕ) (s t : Seen) → j < before → IsBehind before later →
@@ -184,24 +152,14 @@ before_it us [] before j s t b h f e = done j s
 before_it us (m ∷ ms) before j s t b h f e =
     takes m ms j s f.count (omega arith) f.listening f.taken f.quiet (subst (λ (x : Seen). Explains us (m ∷ ms) (j + 1) x) f.next e)
 
-still : (us : List (List ℕ)) (later : List Remark) (before : ℕ) (mid : List Member) (j : ℕ) (x y : Option Seen) → j < before →
-    IsBehind before later → MayFollow x (get_or us j []) y
-    → Covers us later mid j x → Covers us later mid (j + 1) y
-still us later before mid j x y b h f c = grind (arith, before_it)
-
 pub goes_on : (us : List (List ℕ)) (later : List Remark) (w : Word) (octets before : ℕ) (old mid : List Member) (from to now : Walker)
     (c : Count)
     → SaysIt us later w octets old mid from to → Took us from.at now.at c → c.reply ≡ None → from.at.taken < before → IsBehind before later
     → MayFollow to.said_before (get_or us from.at.taken []) now.said_before →
     Turns us later (the_remark w octets before) old mid from (Some now)
 goes_on us later w octets before old mid from to now c h k r b i f = record {
-  gives = λ v. (
-    on_there us later w octets before old mid from.at now.at c k r (h.gives v).0,
-    on_back us later w octets before old mid from.at now.at c k r b (h.gives v).1,
-  );
-  covers = λ v. subst (λ (x : ℕ). Covers us later mid x now.said_before) (sym k.place)
-      (still us later before mid from.at.taken to.said_before now.said_before b i f
-      (subst (λ (x : Member). Covers us later mid x.taken to.said_before) h.same (h.covers v)));
+  gives = λ v. search (arith, on_there, on_back, h.gives v);
+  covers = grind (arith, before_it);
 }
 
 -- ---- a walk

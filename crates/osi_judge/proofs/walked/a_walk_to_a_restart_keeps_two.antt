@@ -1,23 +1,12 @@
 -- A walk to a restart loses no explanation, though it keeps only the first and the last session of those that differ in V(A)
 -- alone. For the functions of `restarts`.
-use Rattle.std.proofs.Common.{◌≡◌, ◌∙◌, refl, sym, ap, subst, ℕ, ◌+◌, ◌<◌, ◌≤◌, ◌⊎◌, ◌↔◌, inl, inr, true, List, [], ◌∷◌, get_or, Option}
-use Rattle.std.proofs.Common.{Some, None, arith}
-use Rattle.osi_message.specs.Meanings.{Meaning}
-use Rattle.osi_message.specs.Words.{Word}
-use Rattle.osi_session.specs.Joining.{is_restart_word}
-use Rattle.osi_session.specs.Standing.{Seen, CanSay, after_count, answers_word}
-use Rattle.osi_session.specs.Steady.{Hears}
-use Rattle.osi_judge.specs.declared.members.Member.{Member}
-use Rattle.osi_judge.specs.declared.restarts.Asked.{Asked}
-use Rattle.osi_judge.specs.declared.restarts.Asker.{Asker}
-use Rattle.osi_judge.specs.Between.{seen_to}
-use Rattle.osi_judge.specs.Explaining.{Remark, Explains}
-use Rattle.osi_judge.specs.Members.{SomeExplains, IsBehind}
-use Rattle.osi_judge.specs.Waiting.{Waits, Restarted, AreAsked, MayBeAsked, Known, StillOpen}
-use Rattle.osi_judge.specs.Walking.{the_remark, SaidHere, SaysTo, MovesTo}
+use Rattle.osi_judge.proofs.Vocabulary.{◌≡◌, ◌∙◌, refl, sym, ap, subst, ℕ, ◌+◌, ◌<◌, ◌≤◌, ◌⊎◌, ◌↔◌, inl, inr, true, List, [], ◌∷◌, get_or}
+use Rattle.osi_judge.proofs.Vocabulary.{Option, Some, None, arith, Word, is_restart_word, Seen, after_count, Hears, Member, Asked, Asker}
+use Rattle.osi_judge.proofs.Vocabulary.{seen_to, Remark, Explains, SomeExplains, IsBehind, Waits, Restarted, AreAsked, MayBeAsked, Known}
+use Rattle.osi_judge.proofs.Vocabulary.{StillOpen, the_remark, SaidHere, SaysTo, MovesTo}
 use Rattle.osi_judge.proofs.walked.a_walk_loses_no_explanation.{takes_one, TakenOn, ways, said_on, before_it}
 use Rattle.osi_judge.proofs.walked.a_restart_waits.{waits_both}
-use Rattle.osi_judge.proofs.walked.restarts_are_alike.{IsRestart, a_restart, alike}
+use Rattle.osi_judge.proofs.walked.restarts_are_alike.{alike}
 use Rattle.osi_judge.proofs.walked.what_lies_between.{lies_between}
 
 pub both : {A B C : Type 0} → (A ↔ B) → (B ↔ C) → (A ↔ C)
@@ -33,13 +22,6 @@ pub begins_with : (us : List (List ℕ)) (later : List Remark) (taken : ℕ) (ol
     Seen) → asked ≡ None → one.first ≡ said → one.last ≡ said
     → Joins us later taken old old asked said (Some one)
 begins_with us later taken old asked one said e f l = grind arith
-
--- those that wait are kept, and it is the first of others
-pub begins_anew_with : (us : List (List ℕ)) (later : List Remark) (taken : ℕ) (old new : List Member) (asked : Option Asked) (one : Asked)
-    (said : Seen)
-    → (Known us later taken old asked ↔ SomeExplains us new later) → one.first ≡ said → one.last ≡ said
-    → Joins us later taken old new asked said (Some one)
-begins_anew_with us later taken old new asked one said g f l = grind arith
 
 -- the last before it lies between
 pub replaces : (us : List (List ℕ)) (later : List Remark) (taken : ℕ) (old : List Member) (r q : Word) (o : ℕ) (a : Asked) (said shown :
@@ -72,36 +54,11 @@ replaces us later taken old r q o a said shown p k h x e low high = (there, back
     back (inr (inl m)) = inl (inr (inl m))
     back (inr (inr m)) = inr m
 
--- the last before it is kept
-pub follows : (us : List (List ℕ)) (later : List Remark) (taken : ℕ) (old new : List Member) (a b : Asked) (said : Seen)
-    → b.first ≡ a.first → b.last ≡ said
-    → (SomeExplains us old later ⊎ Explains us later taken a.last) ↔ SomeExplains us new later
-    → Joins us later taken old new (Some a) said (Some b)
-follows us later taken old new a b said f l g = grind arith
-
-pub same_asked : (r q : Word) (o : ℕ) (a : Asked) (said shown : Seen) → AreAsked r q o a → Restarted r q o said shown → a.shown ≡ shown
-    → AreAsked r q o (record { first = a.first; last = said; shown = a.shown })
-same_asked r q o a said shown h x e = record { first = h.first; last = subst (λ (y : Seen). Restarted r q o said y) (sym e) x }
-
 -- ---- it sends it here, or does not
-
-one_said : (s x y : Seen) (w : Word) (o : ℕ) → CanSay s w o x → CanSay s w o y → x ≡ y
-one_said s x y w o h k = let e : Some x ≡ Some y = sym h ∙ k in cc
 
 pub said_is : (us : List (List ℕ)) (later : List Remark) (w : Word) (o : ℕ) (at said : Member) → SaysTo at w o (Some said)
     → SaidHere us later w o at ↔ Explains us later at.taken said.standing
-said_is us later w o at said h = grind (arith, one_said)
-
-pub with_said : (us : List (List ℕ)) (later : List Remark) (w : Word) (o : ℕ) (at said : Member) (K L : Type 0)
-    → SaysTo at w o (Some said) → ((K ⊎ Explains us later at.taken said.standing) ↔ L)
-    → (K ⊎ SaidHere us later w o at) ↔ L
-with_said us later w o at said K L h g = grind (arith, said_is)
-
--- it is kept by itself
-pub kept_alone : (us : List (List ℕ)) (later : List Remark) (taken : ℕ) (old new : List Member) (asked : Option Asked) (E : Type 0)
-    → ((SomeExplains us old later ⊎ E) ↔ SomeExplains us new later)
-    → (Known us later taken old asked ⊎ E) ↔ Known us later taken new asked
-kept_alone us later taken old new asked E g = grind arith
+said_is us later w o at said h = grind arith
 
 -- ---- those that wait
 
@@ -113,13 +70,10 @@ still_wait us later before taken old a b h v w = grind (arith, waits_both)
 
 -- ---- a TSDU that the session takes on its way
 
-no_answer : (reply : Meaning) (w : Word) → IsRestart w → answers_word reply w ≡ true → ⊥
-no_answer reply w r h = grind arith
-
 quiet_only : (us : List (List ℕ)) (later : List Remark) (m : Remark) (w : Word) (j : ℕ) (s : Seen) → is_restart_word w ≡ true
     → (t : TakenOn us later m w j s)
     → (t.count.reply ≡ None) × (Explains us (m ∷ later) (j + 1) (after_count s t.count))
-quiet_only us later m w j s r t = grind (arith, no_answer, a_restart)
+quiet_only us later m w j s r t = grind arith
 
 pub goes_on : (us heard : List (List ℕ)) (later : List Remark) (w : Word) (o before : ℕ) (at on : Member) → is_restart_word w ≡ true
     → at.taken < before → get_or us at.taken [] ≡ get_or heard at.taken []
@@ -160,8 +114,7 @@ stops_here us heard later w o before at r e h = (there, λ x. said_on us later w
       | inr t ↦ (let q = quiet_only us later (the_remark w o before) w at.taken at.standing r t in
           let t_hears : Hears at.standing (get_or us at.taken []) (after_count at.standing t.count)
           = record { count = t.count; listening = t.listening; taken = t.taken; quiet = q.0; next = refl } in
-          absurd (h (after_count at.standing t.count) (subst (λ (u : List ℕ). Hears at.standing u (after_count at.standing t.count)) e
-          t_hears)))
+          absurd (h (after_count at.standing t.count) (grind arith)))
     ]
 
 pub ends_here : (us : List (List ℕ)) (later : List Remark) (w : Word) (o before : ℕ) (at : Member) → before ≤ at.taken
@@ -190,7 +143,7 @@ asked_once said shown = record { first = said; last = said; shown = shown }
 pub joins_apart : (taken : ℕ) (old new : List Member) (asked : Option Asked) (said shown : Seen) (b : Asked) → asked ≡ Some b
     → ((us : List (List ℕ)) (later : List Remark) → Known us later taken old (Some b) ↔ SomeExplains us new later)
     → JoinsBy taken old new asked said shown (Some (asked_once said shown))
-joins_apart taken old new asked said shown b e g = grind (arith, begins_anew_with)
+joins_apart taken old new asked said shown b e g = grind arith
 
 pub joins_between : (taken : ℕ) (old : List Member) (asked : Option Asked) (said shown : Seen) (b : Asked) → asked ≡ Some b
     → b.shown ≡ shown
@@ -199,14 +152,14 @@ pub joins_between : (taken : ℕ) (old : List Member) (asked : Option Asked) (sa
 joins_between taken old asked said shown b e s l =
     subst (λ (a : Option Asked). JoinsBy taken old old a said shown (Some (record { first = b.first; last = said; shown = b.shown }))) (sym
     e)
-    (λ r q o p k m x. (same_asked r q o b said shown m x s, λ us later. replaces us later taken old r q o b said shown p k m x s l.0 l.1))
+    (λ r q o p k m x. (grind arith, λ us later. replaces us later taken old r q o b said shown p k m x s l.0 l.1))
 
 pub joins_after : (taken : ℕ) (old new : List Member) (asked : Option Asked) (said shown : Seen) (b : Asked) → asked ≡ Some b
     → b.shown ≡ shown
     → ((us : List (List ℕ)) (later : List Remark) → (SomeExplains us old later ⊎ Explains us later taken b.last) ↔ SomeExplains us new
     later)
     → JoinsBy taken old new asked said shown (Some (record { first = b.first; last = said; shown = b.shown }))
-joins_after taken old new asked said shown b e s g = grind (arith, same_asked, follows)
+joins_after taken old new asked said shown b e s g = grind arith
 
 -- ---- what `ask` ensures, by what `join` ensures
 
@@ -214,14 +167,14 @@ pub asks : (us : List (List ℕ)) (later : List Remark) (w : Word) (o : ℕ) (at
     Asked) → SaysTo at w o (Some said)
     → Joins us later at.taken old new asked said.standing r → (Known us later at.taken old asked ⊎ SaidHere us later w o at) ↔ Known us
     later at.taken new r
-asks us later w o at said old new asked r h g = grind (arith, with_said)
+asks us later w o at said old new asked r h g = grind arith
 
 -- it is kept by itself
 pub asks_alone : (us : List (List ℕ)) (later : List Remark) (w : Word) (o : ℕ) (at said : Member) (old new : List Member) (asked : Option
     Asked) → SaysTo at w o (Some said)
     → (SomeExplains us old later ⊎ Explains us later said.taken said.standing) ↔ SomeExplains us new later
     → (Known us later at.taken old asked ⊎ SaidHere us later w o at) ↔ Known us later at.taken new asked
-asks_alone us later w o at said old new asked h g = grind (arith, kept_alone, with_said)
+asks_alone us later w o at said old new asked h g = grind arith
 
 pub restarted_by : (r q : Word) (o : ℕ) (at said shown : Member) → SaysTo at r o (Some said) → SaysTo at q o (Some shown)
     → Restarted r q o said.standing shown.standing

@@ -1,8 +1,6 @@
 -- Lists of sessions that explain: one more, and one that is among them.
-use Rattle.std.proofs.Common.{◌≡◌, ℕ, suc, zero, ◌<◌, ◌⊎◌, ◌↔◌, inl, inr, List, [], ◌∷◌, ◌++◌, length, get_or, arith}
-use Rattle.osi_judge.specs.declared.members.Member.{Member}
-use Rattle.osi_judge.specs.Explaining.{Remark, Explains}
-use Rattle.osi_judge.specs.Members.{SomeExplains}
+use Rattle.osi_judge.proofs.Vocabulary.{◌≡◌, ℕ, suc, zero, ◌<◌, ◌⊎◌, ◌↔◌, inl, inr, List, [], ◌∷◌, ◌++◌, length, get_or, arith, Member}
+use Rattle.osi_judge.proofs.Vocabulary.{Remark, Explains, SomeExplains}
 
 -- one more at the end
 pub some_more : (us : List (List ℕ)) (members : List Member) (m : Member) (later : List Remark) →

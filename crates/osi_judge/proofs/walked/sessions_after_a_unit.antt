@@ -1,15 +1,10 @@
 -- Members after a unit, after the units of a TSDU, and after a TSDU that is not session units.
-use Rattle.std.proofs.Common.{◌≡◌, refl, sym, ap, ℕ, suc, zero, ◌+◌, ◌<◌, ◌≤◌, ◌⊎◌, ◌↔◌, ◌||◌, Bool, true, false, inl, inr, List, [], ◌∷◌}
-use Rattle.std.proofs.Common.{◌++◌, length, map, drop, get_or, Option, Some, None, Result, Err, arith}
-use Rattle.osi_spdu.specs.declared.faults.SpduFault.{SpduFault}
-use Rattle.osi_message.specs.Words.{Word, Words}
-use Rattle.osi_session.specs.Joining.{acting_words, is_restart_word}
-use Rattle.osi_session.specs.Standing.{Seen}
-use Rattle.osi_session.proofs.tsdu.words_one_after_the_other.{acting_behind}
-use Rattle.osi_judge.specs.declared.members.Member.{Member}
-use Rattle.osi_judge.specs.Explaining.{Remark, Told, read_as, Explains, takes, answers, says}
-use Rattle.osi_judge.specs.Members.{SomeExplains, IsBehind}
-use Rattle.osi_judge.specs.Walking.{the_remark, remarked, Ever}
+use Rattle.osi_judge.proofs.Vocabulary.{◌≡◌, refl, sym, ap, ℕ, suc, zero, ◌+◌, ◌<◌, ◌≤◌, ◌⊎◌, ◌↔◌, ◌||◌, Bool, true, false, inl, inr, List}
+use Rattle.osi_judge.proofs.Vocabulary.{[], ◌∷◌, ◌++◌, length, map, drop, get_or, None, Result, Err, arith, SpduFault, Word, Words}
+use Rattle.osi_judge.proofs.Vocabulary.{is_restart_word, Seen, acting_behind, Member, Remark, Told, read_as, Explains, takes, answers}
+use Rattle.osi_judge.proofs.Vocabulary.{SomeExplains, IsBehind, the_remark, remarked, Ever}
+use Rattle.osi_session.specs.Joining.{acting_words}
+use Rattle.osi_judge.specs.Explaining.{says}
 
 -- ---- a unit
 
@@ -68,9 +63,6 @@ UnitGives heard octets before old w new =
     Ever heard before (λ (us : List (List ℕ)) (later : List Remark). SomeExplains us old (the_remark w octets before ∷ later) ↔ SomeExplains
     us new later)
 
-both : {A B C : Type 0} → (A ↔ B) → (B ↔ C) → (A ↔ C)
-both f g = (λ a. g.0 (f.0 a), λ c. f.1 (g.1 c))
-
 pub units_begin : (heard : List (List ℕ)) (octets before : ℕ) (members now : List Member) (item first : Word) (ws units : Words) →
     now ≡ members → item ≡ first → ws ≡ units
     → UnitsSoFar heard octets before members (first ∷ units) now false item ws
@@ -99,17 +91,14 @@ pub units_item : (heard : List (List ℕ)) (octets before : ℕ) (members : List
     → Ever heard before
     (λ (us : List (List ℕ)) (later : List Remark). SomeExplains us members (further octets before (acting_words words) later) ↔
     SomeExplains us new later)
-units_item heard octets before members words now new restarts item first ws s e r i g = grind (arith, acting_behind, both)
+units_item heard octets before members words now new restarts item first ws s e r i g = grind (arith, acting_behind)
 
 -- ---- a TSDU that is not session units
 
-none_or_word : (o : Option Word) (w : Word) → o ≡ None → o ≡ Some w → ⊥
-none_or_word o w h k = grind arith
-
 pub unread_explains : (us : List (List ℕ)) (m : Remark) (ms : List Remark) (j : ℕ) (s : Seen) → m.word ≡ None → Explains us (m ∷ ms) j s → ⊥
 unread_explains us m ms j s n (takes _ _ _ _ c b l t r e) = unread_explains us m ms (j + 1) _ n e
-unread_explains us m ms j s n (answers _ _ _ _ c reply w b l t r k a e) = none_or_word m.word w n k
-unread_explains us m ms j s n (says _ _ _ _ next w k a e) = none_or_word m.word w n k
+unread_explains us m ms j s n (answers _ _ _ _ c reply w b l t r k a e) = grind arith
+unread_explains us m ms j s n (says _ _ _ _ next w k a e) = grind arith
 
 unread_some : (us : List (List ℕ)) (members : List Member) (m : Remark) (ms : List Remark) → m.word ≡ None →
     SomeExplains us members (m ∷ ms) → ⊥
@@ -117,11 +106,7 @@ unread_some us [] m ms n h = h
 unread_some us (x ∷ members) m ms n (inl h) = unread_explains us m ms x.taken x.standing n h
 unread_some us (x ∷ members) m ms n (inr h) = unread_some us members m ms n h
 
-pub unread_gives : (us : List (List ℕ)) (members next : List Member) (t : Told) (fault : SpduFault) (later : List Remark) → next ≡ []
-    → SomeExplains us members (read_as t (Err fault) ++ later) ↔ SomeExplains us next later
-unread_gives us members next t fault later e = grind (arith, unread_some)
-
 pub unread_came : (us : List (List ℕ)) (members next : List Member) (t : Told) (came : Result Words SpduFault) (fault : SpduFault)
     (later : List Remark) → came ≡ Err fault → next ≡ []
     → SomeExplains us members (read_as t came ++ later) ↔ SomeExplains us next later
-unread_came us members next t came fault later k e = grind (arith, unread_gives us members next t fault later e)
+unread_came us members next t came fault later k e = grind (arith, unread_some)

@@ -1,17 +1,10 @@
 -- A session that sends a steady remark at the first point at which it may explains all that it explains with it.
-use Rattle.std.proofs.Common.{◌≡◌, ◌∙◌, refl, sym, ap, subst, ℕ, ◌+◌, ◌<◌, ◌≤◌, ◌↔◌, inl, inr, true, false, List, [], ◌∷◌, get_or, Option}
-use Rattle.std.proofs.Common.{Some, None, arith}
-use Rattle.osi_message.specs.Meanings.{Meaning}
-use Rattle.osi_message.specs.Words.{Word}
-use Rattle.osi_session.specs.Standing.{Seen, Count, Takes, listens, after_count}
-use Rattle.osi_session.specs.Steady.{is_steady, Hears}
-use Rattle.osi_session.proofs.ahead.beside_one_that_has_not_sent_it.{IsAhead, is_gone, said_ahead, said_alike, both_hear, gone_stays}
-use Rattle.osi_session.proofs.ahead.beside_one_that_has_not_sent_it.{gone_said}
-use Rattle.osi_session.proofs.ahead.the_state_after_a_word.{no_answer}
-use Rattle.osi_judge.specs.declared.members.Member.{Member}
-use Rattle.osi_judge.specs.Explaining.{Remark, Explains, takes, answers, says}
-use Rattle.osi_judge.specs.Members.{IsBehind}
-use Rattle.osi_judge.specs.Walking.{the_remark, SaysTo, HearsTo, MovesTo, OneExplains}
+use Rattle.osi_judge.proofs.Vocabulary.{◌≡◌, ◌∙◌, refl, sym, ap, subst, ℕ, ◌+◌, ◌<◌, ◌≤◌, ◌↔◌, inl, inr, true, false, List, [], ◌∷◌, get_or}
+use Rattle.osi_judge.proofs.Vocabulary.{Option, Some, None, arith, Meaning, Word, Seen, Count, Takes, listens, after_count, is_steady}
+use Rattle.osi_judge.proofs.Vocabulary.{Hears, IsAhead, is_gone, said_ahead, said_alike, both_hear, gone_stays, gone_said, no_answer}
+use Rattle.osi_judge.proofs.Vocabulary.{Member, Remark, Explains, takes, answers, IsBehind, the_remark, SaysTo, HearsTo, MovesTo}
+use Rattle.osi_judge.proofs.Vocabulary.{OneExplains}
+use Rattle.osi_judge.specs.Explaining.{says}
 use Rattle.osi_judge.proofs.walked.a_walk_loses_no_explanation.{takes_one, none_or_some, ways, said_on, before_it}
 
 -- ---- what it takes
@@ -35,17 +28,14 @@ moves_nowhere s u v r e n h t k =
 
 -- ---- the point
 
-same_word : (w v : Word) → Some w ≡ Some v → v ≡ w
-same_word w v e = cc
-
 -- a side that can't send the remark any more can't be explained
 never : (us : List (List ℕ)) (m : Remark) (later : List Remark) (j : ℕ) (s : Seen) (w : Word) → Some w ≡ m.word → is_steady w ≡ true →
     is_gone w s.state.phase ≡ true → Explains us (m ∷ later) j s → ⊥
 never us m later j s w k d g (takes _ _ _ _ c l i t n e) =
     never us m later (j + 1) _ w k d
     (gone_stays s (after_count s c) w (get_or us j []) g (record { count = c; listening = i; taken = t; quiet = n; next = refl })) e
-never us m later j s w k d g (answers _ _ _ _ c reply v l i t r f a e) = grind (arith, no_answer, same_word)
-never us m later j s w k d g (says _ _ _ _ next v f a e) = grind (arith, gone_said, same_word)
+never us m later j s w k d g (answers _ _ _ _ c reply v l i t r f a e) = grind (arith, no_answer)
+never us m later j s w k d g (says _ _ _ _ next v f a e) = grind (arith, gone_said)
 
 -- a session that has sent it explains all that one that has not sent it explains with it
 ahead_explains : (us : List (List ℕ)) (m : Remark) (later : List Remark) (j : ℕ) (s y : Seen) (w : Word) → Some w ≡ m.word →
@@ -56,8 +46,8 @@ ahead_explains us m later j s y w k d b h (takes _ _ _ _ c l i t n e) =
       | inl g ↦ absurd (never us m later (j + 1) (after_count s c) w k d g e)
       | inr x ↦ before_it us later m.before j y x.0 l b x.1 (ahead_explains us m later (j + 1) (after_count s c) x.0 w k d b x.2 e)
     ]
-ahead_explains us m later j s y w k d b h (answers _ _ _ _ c reply v l i t r f a e) = grind (arith, no_answer, same_word)
-ahead_explains us m later j s y w k d b h (says _ _ _ _ next v f a e) = search (arith, said_alike, same_word)
+ahead_explains us m later j s y w k d b h (answers _ _ _ _ c reply v l i t r f a e) = grind (arith, no_answer)
+ahead_explains us m later j s y w k d b h (says _ _ _ _ next v f a e) = search (arith, said_alike)
 
 -- a session that sends it here explains what is sent later
 pub said_first : (us : List (List ℕ)) (later : List Remark) (w : Word) (octets before : ℕ) (at said : Member) → is_steady w ≡ true →
@@ -74,19 +64,8 @@ later_place : (us : List (List ℕ)) (later : List Remark) (w : Word) (octets be
     (Explains us (the_remark w octets before ∷ later) (at.taken + 1) t)
 later_place us later w octets before at d h e = elim (ways us later w octets before at e) [
   | inl s ↦ absurd (h s.0 s.1)
-  | inr t ↦ elim t.on [
-    | inl n ↦ (
-      after_count at.standing t.count,
-      record { count = t.count; listening = t.listening; taken = t.taken; quiet = n.0; next = refl },
-      t.before,
-      n.1,
-    )
-    | inr y ↦ absurd (no_answer y.0 w d y.2)
-  ]
+  | inr t ↦ search (arith, no_answer)
 ]
-
-heard_same : (s x y : Seen) (tsdu : List ℕ) → Hears s tsdu x → Hears s tsdu y → x ≡ y
-heard_same s x y tsdu h k = h.next ∙ ap (after_count s) (takes_one s tsdu h.count k.count h.taken k.taken) ∙ sym k.next
 
 -- and the walk continues
 pub moved_first : (us heard : List (List ℕ)) (later : List Remark) (w : Word) (octets before : ℕ) (at on : Member) → is_steady w ≡ true →
@@ -98,12 +77,9 @@ moved_first us heard later w octets before at on d l x h m =
     let k : Hears at.standing (get_or us at.taken []) on.standing = subst (λ (u : List ℕ). Hears at.standing u on.standing) (sym x) m.1 in (
       λ e.
           let p = later_place us later w octets before at d h e in
-          subst (λ (j : ℕ). Explains us (the_remark w octets before ∷ later) j on.standing) (sym m.0)
-          (subst (λ (y : Seen). Explains us (the_remark w octets before ∷ later) (at.taken + 1) y)
-          (heard_same at.standing p.0 on.standing (get_or us at.taken []) p.1 k) p.3),
+          grind (arith, takes_one at.standing (get_or us at.taken []) p.1.count k.count p.1.taken k.taken),
       λ e. takes (the_remark w octets before) later at.taken at.standing k.count l k.listening k.taken k.quiet
-          (subst (λ (y : Seen). Explains us (the_remark w octets before ∷ later) (at.taken + 1) y) k.next
-          (subst (λ (j : ℕ). Explains us (the_remark w octets before ∷ later) j on.standing) m.0 e)),
+          (grind arith),
     )
 
 -- or there is no such point

@@ -1,35 +1,24 @@
 -- Of three sessions that differ in V(A) alone, in the order of V(A), the first may send what the second may, and either is then in
 -- the same state or all three are as they were. For the law of what lies between.
-use Rattle.std.proofs.Common.{◌≡◌, ◌∙◌, refl, sym, ap, ℕ, ◌+◌, ◌≤◌, ◌⊎◌, inr, Bool, true, false, not, ◌&&◌, ◌||◌, ◌==◌, is_none, unwrap_or}
-use Rattle.std.proofs.Common.{if◌then◌else◌, nat_le, List, [], ◌∷◌, length, Option, Some, None, option_map, Ok, arith}
-use Rattle.std.proofs.lemmas.Bool.{and_parts, leb-true, le-leb}
-use Rattle.osi_spdu.specs.Sizes.{are_sizes}
-use Rattle.osi_message.specs.Meanings.{Meaning, CN, AC, RF, DT, GT, PT, MIP, MIA, MAP, MAA, RS, RA, FN, DN, NF, AB, AA}
-use Rattle.osi_message.specs.Reading.{names}
-use Rattle.osi_message.specs.Tokens.{each}
-use Rattle.osi_message.specs.Words.{Word, says, part}
-use Rattle.osi_session.specs.declared.phases.Phase.TheVariants.{Connecting, Releasing}
-use Rattle.osi_session.specs.declared.state.State.{State}
-use Rattle.osi_session.specs.Allowed.{AllHold, Answer, Test, after, base_for, first_error, has_right, may_call, most_of, needs, octets_of}
-use Rattle.osi_session.specs.Allowed.{opened_with, sends}
+use Rattle.osi_judge.proofs.Vocabulary.{◌≡◌, ◌∙◌, refl, sym, ap, ℕ, ◌+◌, ◌≤◌, ◌⊎◌, inr, Bool, true, false, not, ◌&&◌, ◌||◌, ◌==◌, is_none}
+use Rattle.osi_judge.proofs.Vocabulary.{unwrap_or, if◌then◌else◌, nat_le, List, [], ◌∷◌, length, Option, Some, None, option_map, Ok, arith}
+use Rattle.osi_judge.proofs.Vocabulary.{and_parts, leb-true, le-leb, are_sizes, Meaning, CN, AC, RF, DT, GT, PT, MIP, MIA, MAP, MAA, RS, RA}
+use Rattle.osi_judge.proofs.Vocabulary.{FN, DN, NF, AB, AA, names, each, Word, says, part, Connecting, Releasing, State, AllHold, Answer}
+use Rattle.osi_judge.proofs.Vocabulary.{Test, after, base_for, first_error, has_right, may_call, most_of, needs, opened_with, refusal_with}
+use Rattle.osi_judge.proofs.Vocabulary.{Call, Accept, Refuse, Data, Give, Please, Minor, MinorConfirm, Major, MajorConfirm, Restart}
+use Rattle.osi_judge.proofs.Vocabulary.{RestartConfirm, ReleaseAccept, ReleaseRefuse, Abort, begins_anew, is_last, lower, is_answering}
+use Rattle.osi_judge.proofs.Vocabulary.{is_ready, is_wait_transport, agreed_base, has_no_effect, is_restart, answers_wishes, of_answerer}
+use Rattle.osi_judge.proofs.Vocabulary.{stated, limit_of, Seen, CanSay, calling, fits_user_data, goes, is_in_size, left_by, may_send}
+use Rattle.osi_judge.proofs.Vocabulary.{said_message, said_within, stands_in_place, where_is, functional_units, call_leaves, mapped}
+use Rattle.osi_judge.proofs.Vocabulary.{confirmed_to, seen_to}
+use Rattle.osi_session.specs.Allowed.{octets_of}
+use Rattle.osi_session.specs.Allowed.{sends}
 unfoldable use Rattle.osi_session.specs.Allowed.{met}
-use Rattle.osi_session.specs.Calls.{refusal_with, Call, Accept, Refuse, Data, Give, Please, Minor, MinorConfirm, Major, MajorConfirm}
-use Rattle.osi_session.specs.Calls.{Restart, RestartConfirm, ReleaseAccept, ReleaseRefuse, Abort}
-use Rattle.osi_session.specs.Joining.{begins_anew, is_last}
-use Rattle.osi_session.specs.Numbers.{lower}
 unfoldable use Rattle.osi_session.specs.Numbers.{point_sent, minor_confirmed, major_confirmed, restarted_at}
-use Rattle.osi_session.specs.Phases.{is_answering, is_ready, is_wait_transport}
-use Rattle.osi_session.specs.Respond.{agreed_base, has_no_effect, is_restart}
-use Rattle.osi_session.specs.Sides.{answers_wishes, of_answerer, stated}
-use Rattle.osi_session.specs.Sizes.{limit_of}
 unfoldable use Rattle.osi_session.specs.Sizes.{smaller_sizes}
-use Rattle.osi_session.specs.Standing.{Seen, CanSay, calling, fits_user_data, goes, is_in_size, left_by, may_send, said_message}
-use Rattle.osi_session.specs.Standing.{said_within, stands_in_place, where_is}
 unfoldable use Rattle.osi_session.specs.Standing.{said}
-use Rattle.osi_session.specs.Units.{functional_units}
 unfoldable use Rattle.osi_session.specs.Units.{both_units, has_data}
-use Rattle.osi_session.proofs.ahead.the_state_after_a_word.{within, call_leaves, mapped}
-use Rattle.osi_judge.specs.Between.{confirmed_to, seen_to}
+use Rattle.osi_session.proofs.ahead.the_state_after_a_word.{within}
 use Rattle.osi_judge.proofs.walked.what_is_taken_between.{confirms, lower_rises}
 
 -- ---- calls
@@ -47,10 +36,6 @@ abbrev is_confirming : Call → Bool
 is_confirming (MinorConfirm n octets) = true
 is_confirming _ = false
 
-needs_at : (s : State) (c : Call) (n m : ℕ) → is_confirming c ≡ false → AllHold (needs (confirmed_to n s) c)
-    → AllHold (needs (confirmed_to m s) c)
-needs_at s c n m e h = grind arith
-
 -- V(A) after a call
 abbrev raise : State → Call → ℕ → ℕ
 raise s (Accept r i w z o) n = base_for (functional_units r) i
@@ -64,11 +49,8 @@ after_at : (s : State) (c : Call) (n : ℕ) → is_confirming c ≡ false → af
 unfolding point_sent major_confirmed restarted_at
 after_at s c n e = grind arith
 
-if_rises : (c : Bool) (k a b : ℕ) → a ≤ b → (if c then k else a) ≤ (if c then k else b)
-if_rises c k a b h = grind arith
-
 raise_rises : (s : State) (c : Call) (a b : ℕ) → a ≤ b → raise s c a ≤ raise s c b
-raise_rises s c a b h = grind (arith, if_rises, lower_rises)
+raise_rises s c a b h = grind (arith, lower_rises)
 
 -- ---- messages
 
@@ -92,7 +74,7 @@ call_gives s c v x e h =
       to = raise s c;
       rises = raise_rises s c;
       is = l.next ∙ after_at s c v e;
-      any = λ n. may_leave (confirmed_to n s) c l.phase l.short (needs_at s c v n e l.needed) ∙ ap Some (after_at s c n e);
+      any = λ n. may_leave (confirmed_to n s) c l.phase l.short (grind arith) ∙ ap Some (after_at s c n e);
     }
 
 where_gives : (b : Bool) (s : State) (c : Call) (v : ℕ) (x : State) → is_confirming c ≡ false
@@ -104,9 +86,6 @@ plain_gives : (b : Bool) (from : State) (to : ℕ → ℕ) (s : State) (v : ℕ)
     → (if b then Some (confirmed_to (to v) from) else None) ≡ Some x
     → AnyGives (λ y. if b then Some (confirmed_to (to y.numbers.confirmed) from) else None) s v x
 plain_gives b from to s v x r h = grind arith
-
-same_rises : (k n m : ℕ) → n ≤ m → k ≤ k
-same_rises k n m h = omega arith
 
 id_rises : (n m : ℕ) → n ≤ m → n ≤ m
 id_rises n m h = h
@@ -123,7 +102,7 @@ message_gives s (AC y r i w z o) v x e h =
     let base = agreed_base units i s.proposed in
     let g = plain_gives (is_answering s.phase && (fits_user_data o && ((y && (has_data units && are_sizes z)) && answers_wishes units
     s.wishes w)))
-    (opened_with units (of_answerer units (stated units w)) base (smaller_sizes s.sizes z) s) (λ n. base) s v x (same_rises base) h in
+    (opened_with units (of_answerer units (stated units w)) base (smaller_sizes s.sizes z) s) (λ n. base) s v x (grind arith) h in
     record { from = g.from; to = g.to; rises = g.rises; is = g.is; any = g.any }
 message_gives s (RF reason o) v x e h = call_gives s (Refuse (refusal_with o)) v x refl h
 message_gives s (DT o) v x e h = call_gives s (Data o) v x refl h
@@ -174,13 +153,10 @@ pub record AnySays (s : Seen) (w : Word) (v : ℕ) (next : Seen) : Type 0 where
   pub is : next ≡ seen_to (to v) from
   pub any : (n : ℕ) → said_within (seen_to n s) w ≡ Some (seen_to (to n) from)
 
-some_seen : (y z : Seen) → Some y ≡ Some z → z ≡ y
-some_seen y z h = cc
-
 part_says : (b : Bool) (from s : Seen) (w : Word) (v : ℕ) (next : Seen) → ((n : ℕ)
     → said_within (seen_to n s) w ≡ (if b then Some (seen_to n from) else None))
     → said_within (seen_to v s) w ≡ Some next → AnySays s w v next
-part_says true from s w v next k h = record { from = from; to = id; rises = id_rises; is = some_seen _ _ (sym (k v) ∙ h); any = k }
+part_says true from s w v next k h = record { from = from; to = id; rises = id_rises; is = grind arith; any = k }
 part_says false from s w v next k h = let e = sym (k v) ∙ h in absurd (cc)
 
 within_says : (e b : Bool) (s : Seen) (m : Meaning) (v : ℕ) (next : Seen) → confirms (says m) ≡ false → has_no_effect m ≡ e
@@ -190,7 +166,7 @@ within_says true b s m v next c p q h = record {
   from = s;
   to = id;
   rises = id_rises;
-  is = some_seen _ _ (sym (at v) ∙ h);
+  is = grind arith;
   any = at;
 }
   where

@@ -1,30 +1,18 @@
 -- Of three sessions that differ in V(A) alone, in the order of V(A), what the second does with a TSDU the first does, or the
 -- third. For the law of what lies between.
-use Rattle.std.proofs.Common.{◌≡◌, ◌∙◌, refl, sym, ap, subst, ℕ, ◌+◌, ◌≤◌, ◌⊎◌, inl, inr, Bool, true, false, not, ◌&&◌, ◌||◌, if◌then◌else◌}
-use Rattle.std.proofs.Common.{nat_le, nat_lt, List, [], ◌∷◌, Option, is_none, Result, Ok, Err, arith}
-use Rattle.std.proofs.lemmas.Bool.{leb-true, le-leb, ltb-true, lt-ltb}
-use Rattle.osi_spdu.specs.declared.faults.SpduFault.{SpduFault}
-use Rattle.osi_message.specs.declared.places.Place.TheVariants.{First, Middle, Last}
-use Rattle.osi_message.specs.Meanings.{Meaning, AC, MIP, MIA, MAP, MAA, RS}
-use Rattle.osi_message.specs.Reading.{said_at}
-use Rattle.osi_message.specs.Words.{Word, Words, says, part, as_message}
-use Rattle.osi_session.specs.declared.faults.UnitFault.{UnitFault}
-use Rattle.osi_session.specs.declared.faults.UnitFault.TheVariants.{Unexpected, NotSelected, BadNumber, BadEnclosure}
-use Rattle.osi_session.specs.declared.state.State.{State}
-use Rattle.osi_session.specs.Counting.{taker_with}
-use Rattle.osi_session.specs.Joining.{Taker, Hearing, begins_anew, enacted_word, heard, heard_then, idle, respond_came, word_verdict}
+use Rattle.osi_judge.proofs.Vocabulary.{◌≡◌, ◌∙◌, refl, sym, ap, subst, ℕ, ◌+◌, ◌≤◌, ◌⊎◌, inl, inr, Bool, true, false, not, ◌&&◌, ◌||◌}
+use Rattle.osi_judge.proofs.Vocabulary.{if◌then◌else◌, nat_le, nat_lt, List, [], ◌∷◌, Option, is_none, Result, Ok, Err, arith, leb-true}
+use Rattle.osi_judge.proofs.Vocabulary.{le-leb, ltb-true, lt-ltb, SpduFault, Meaning, AC, MIP, MIA, MAP, MAA, RS, said_at, Word, Words}
+use Rattle.osi_judge.proofs.Vocabulary.{says, part, as_message, UnitFault, Unexpected, NotSelected, BadNumber, BadEnclosure, State}
+use Rattle.osi_judge.proofs.Vocabulary.{taker_with, Taker, Hearing, begins_anew, enacted_word, heard_then, idle, respond_came, word_verdict}
+use Rattle.osi_judge.proofs.Vocabulary.{lower, is_over, is_major_asked, takes_minor_ack, Outcome, Verdict, over, dropped, fine, agreed_base}
+use Rattle.osi_judge.proofs.Vocabulary.{by_fault, drops, first_fault, in_aborting, in_ended, replies_abort, shown_for, si, Seen, Count}
+use Rattle.osi_judge.proofs.Vocabulary.{Takes, counted, both_units, functional_units, so_many, so_many_are, word_at, confirmed_to, seen_to}
+use Rattle.osi_session.specs.Joining.{heard}
 unfoldable use Rattle.osi_session.specs.Joining.{acting_words, respond_word, respond_words}
-use Rattle.osi_session.specs.Numbers.{lower}
 unfoldable use Rattle.osi_session.specs.Numbers.{point_taken, minor_confirmed, major_confirmed, restarted_at}
-use Rattle.osi_session.specs.Phases.{is_over, is_major_asked, takes_minor_ack}
-use Rattle.osi_session.specs.Respond.{Outcome, Verdict, over, dropped, faulty, fine, agreed_base, becomes, by_fault, drops, first_fault}
-use Rattle.osi_session.specs.Respond.{in_aborting, in_ended, replies_abort, reply_for, closes_for, shown_for, si}
+use Rattle.osi_session.specs.Respond.{faulty, becomes}
 unfoldable use Rattle.osi_session.specs.Respond.{stands, respond_fault}
-use Rattle.osi_session.specs.Standing.{Seen, Count, Takes, counted}
-use Rattle.osi_session.specs.Units.{both_units, functional_units}
-use Rattle.osi_session.proofs.sent.what_a_side_may_send.{so_many, so_many_are}
-use Rattle.osi_session.proofs.tables.messages_act_as_the_table_says.{word_at}
-use Rattle.osi_judge.specs.Between.{confirmed_to, seen_to}
 use Rattle.osi_judge.proofs.told.a_tsdu_leaves_one_count.{then_words, by_reply, one_count}
 
 -- the same with this V(A) afterwards
@@ -40,10 +28,6 @@ abbrev pub confirms : Word → Bool
 confirms (says (MIA n octets)) = true
 confirms _ = false
 
-verdict_alike : (s : State) (j : Option (List ℕ)) (w : Word) (n m : ℕ) → confirms w ≡ false
-    → word_verdict (taker_with (confirmed_to n s) j) w ≡ word_verdict (taker_with (confirmed_to m s) j) w
-verdict_alike s j w n m e = grind arith
-
 -- V(A) after a good message
 abbrev pub rise_by : State → Meaning → ℕ → ℕ
 rise_by s (AC v r i w z o) n = agreed_base (both_units s.units (functional_units r)) i s.proposed
@@ -57,31 +41,14 @@ abbrev pub rise : State → Word → Verdict → ℕ → ℕ
 rise s w fine n = rise_by s (as_message w) n
 rise s w _ n = n
 
-if_to : (b : Bool) (n : ℕ) (x y : State) → (if b then confirmed_to n x else confirmed_to n y) ≡ confirmed_to n (if b then x else y)
-if_to b n x y = grind arith
-
-if_low : (b : Bool) (n m : ℕ) (x y : State) → (if b then confirmed_to n x else confirmed_to m y) ≡ confirmed_to (if b then n else m) (if b
-    then x else y)
-if_low b n m x y = grind arith
-
 becomes_at : (s : State) (u : Meaning) (n : ℕ) → confirms (says u) ≡ false
     → becomes (confirmed_to n s) u ≡ confirmed_to (rise_by s u n) (becomes s u)
 unfolding point_taken major_confirmed restarted_at stands
-becomes_at s u n e = grind (arith, if_to, if_low)
+becomes_at s u n e = grind arith
 
 shown_at : (s : State) (u : Meaning) (n : ℕ) → shown_for (confirmed_to n s) u ≡ shown_for s u
 unfolding stands
 shown_at s u n = grind arith
-
-fine_at : (s : State) (j : Option (List ℕ)) (w : Word) (n : ℕ) → confirms w ≡ false
-    → enacted_word (taker_with (confirmed_to n s) j) w fine ≡ moved_to (rise_by s (as_message w) n) (enacted_word (taker_with s j) w fine)
-fine_at s j (says u) n e =
-    let p = becomes_at s u n e in
-    let q = shown_at s u n in
-    λ i. heard j (record { next = p i; shown = q i; reply = reply_for u; closes = closes_for u })
-fine_at s j (part First o) n e = refl
-fine_at s j (part Middle o) n e = refl
-fine_at s j (part Last o) n e = refl
 
 over_at : (s : State) (n : ℕ) (b : Bool) (u : Meaning) → (if b then in_aborting (confirmed_to n s) u else in_ended (confirmed_to n s) u) ≡
     outcome_to n (if b then in_aborting s u else in_ended s u)
@@ -98,19 +65,13 @@ rest_at s j w v n e = grind (arith, over_at)
 
 by_verdict : (s : State) (j : Option (List ℕ)) (w : Word) (v : Verdict) (n : ℕ) → confirms w ≡ false
     → enacted_word (taker_with (confirmed_to n s) j) w v ≡ moved_to (rise s w v n) (enacted_word (taker_with s j) w v)
-by_verdict s j w v n e = grind (arith, rest_at, fine_at)
-
-if_rises : (c : Bool) (k a b : ℕ) → a ≤ b → (if c then a else k) ≤ (if c then b else k)
-if_rises c k a b h = grind arith
+by_verdict s j w v n e = grind (arith, rest_at, becomes_at, shown_at)
 
 pub lower_rises : (k a b : ℕ) → a ≤ b → lower k a ≤ lower k b
 lower_rises k a b h = grind (arith, ltb-true, lt-ltb)
 
-either_rises : (c : Bool) (k a b : ℕ) → a ≤ b → (if c then lower k a else a) ≤ (if c then lower k b else b)
-either_rises c k a b h = grind (arith, lower_rises)
-
 by_rises : (s : State) (u : Meaning) (a b : ℕ) → a ≤ b → rise_by s u a ≤ rise_by s u b
-by_rises s u a b h = grind (arith, if_rises, either_rises)
+by_rises s u a b h = grind arith
 
 rises : (s : State) (w : Word) (v : Verdict) (a b : ℕ) → a ≤ b → rise s w v a ≤ rise s w v b
 rises s w v a b h = grind (arith, by_rises)
@@ -200,14 +161,7 @@ module _ (s : State) (j : Option (List ℕ)) (k : ℕ) (o : List ℕ) where
   mia_one x v over p q = inr (inl refl)
   mia_one x v dropped p q = inr (inr refl)
   mia_one x v (faulty fault) p q = inl (inr (
-    record {
-      from = enacted_word (taker_with s j) mia (faulty fault);
-      first = x;
-      second = v;
-      one = mia_rests (faulty fault) x refl p;
-      other = mia_rests (faulty fault) v refl q;
-      over = refl;
-    },
+    search (arith, mia_rests (faulty fault) x refl p, mia_rests (faulty fault) v refl q),
     refl,
   ))
   mia_one x v fine p q = inl (inl (word_at (at x) mia fine p ∙ mia_fine x v ∙ sym (word_at (at v) mia fine q)))
@@ -216,10 +170,6 @@ module _ (s : State) (j : Option (List ℕ)) (k : ℕ) (o : List ℕ) where
       → word_verdict (at c) mia ≡ d
       → Three (respond_word (at a) mia) (respond_word (at v) mia) (respond_word (at c) mia)
   mia_three a v c d l m e p q r = grind (arith, mia_rests)
-
-  mia_rest : (a v c : ℕ) (d : Verdict) → a ≤ v → v ≤ c → word_verdict (at v) mia ≡ d → ((d ≡ over) ⊎ (d ≡ dropped))
-      → Three (respond_word (at a) mia) (respond_word (at v) mia) (respond_word (at c) mia)
-  mia_rest a v c d l m q h = search (arith, mia_three, mia_over, mia_dropped)
 
   mia_between : (a v c : ℕ) → a ≤ v → v ≤ c → WordDoes (respond_word (at a) mia) (respond_word (at v) mia) (respond_word (at c) mia)
   mia_between a v c l m = by (nat_le v k) refl
@@ -234,11 +184,11 @@ module _ (s : State) (j : Option (List ℕ)) (k : ℕ) (o : List ℕ) where
       by : (b : Bool) → nat_le v k ≡ b → WordDoes (respond_word (at a) mia) (respond_word (at v) mia) (respond_word (at c) mia)
       by true h = elim (mia_one a v (word_verdict (at v) mia) (ap (mia_verdict s j k o) (low h ∙ sym h)) refl) [
         | inl x ↦ inr (inl x)
-        | inr x ↦ inl (mia_rest a v c (word_verdict (at v) mia) l m refl x)
+        | inr x ↦ inl (grind (arith, mia_three, mia_over, mia_dropped))
       ]
       by false h = elim (mia_one c v (word_verdict (at v) mia) (ap (mia_verdict s j k o) (high (nat_le c k) refl h ∙ sym h)) refl) [
         | inl x ↦ inr (inr x)
-        | inr x ↦ inl (mia_rest a v c (word_verdict (at v) mia) l m refl x)
+        | inr x ↦ inl (grind (arith, mia_three, mia_over, mia_dropped))
       ]
 
 -- ---- one word
@@ -255,9 +205,9 @@ word_three s j w a v c e l m =
       high = rise s w d c;
       to_mid = rises s w d a v l;
       to_high = rises s w d v c m;
-      one = word_at (taker_with (confirmed_to a s) j) w d (verdict_alike s j w a v e) ∙ by_verdict s j w d a e;
+      one = word_at (taker_with (confirmed_to a s) j) w d (grind arith) ∙ by_verdict s j w d a e;
       two = word_at (taker_with (confirmed_to v s) j) w d refl ∙ by_verdict s j w d v e;
-      three = word_at (taker_with (confirmed_to c s) j) w d (verdict_alike s j w c v e) ∙ by_verdict s j w d c e;
+      three = word_at (taker_with (confirmed_to c s) j) w d (grind arith) ∙ by_verdict s j w d c e;
     }
 
 word_between : (s : State) (j : Option (List ℕ)) (w : Word) (a v c : ℕ) → a ≤ v → v ≤ c
@@ -308,17 +258,13 @@ WordsDo ws = (s : State) (j : Option (List ℕ)) (a v c : ℕ) → a ≤ v → v
 stopped : (ws : Words) (h : Hearing) → replies_abort h.reply ≡ true → then_words ws h ≡ h
 stopped ws h e = ap (λ (b : Bool). if b then h else heard_then h (respond_words h.next ws)) e
 
-one_then : (ws : Words) (x y : Hearing) → Stops x y → OneDoes (then_words ws x) (then_words ws y)
-one_then ws x y h = grind (arith, then_words, stopped)
-
 then_three : (ws : Words) (x y z : Hearing) → WordsDo ws → Three x y z → AmongThree (then_words ws x) (then_words ws y) (then_words ws z)
 then_three ws x y z k t =
     among_at _ _ _ (then_words ws (moved_to t.low t.from)) (then_words ws (moved_to t.mid t.from)) (then_words ws (moved_to t.high t.from))
     (ap (then_words ws) t.one) (ap (then_words ws) t.two) (ap (then_words ws) t.three) (by (replies_abort t.from.reply))
   where
     after : ℕ → Bool → Hearing
-    after n b = if b then moved_to n t.from else heard_then (moved_to n t.from) (respond_words (taker_with (confirmed_to n
-        t.from.next.state) t.from.next.joined) ws)
+    after n b = if b then moved_to n t.from else heard_then (moved_to n t.from) (grind arith)
 
     by : (b : Bool) → AmongThree (if b then moved_to t.low t.from else heard_then (moved_to t.low t.from) (respond_words (taker_with
         (confirmed_to t.low t.from.next.state) t.from.next.joined) ws))
@@ -326,24 +272,13 @@ then_three ws x y z k t =
         t.from.next.state) t.from.next.joined) ws))
         (if b then moved_to t.high t.from else heard_then (moved_to t.high t.from) (respond_words (taker_with (confirmed_to t.high
         t.from.next.state) t.from.next.joined) ws))
-    by true = inl (record {
-      from = t.from;
-      low = t.low;
-      mid = t.mid;
-      high = t.high;
-      to_mid = t.to_mid;
-      to_high = t.to_high;
-      one = refl;
-      two
-          = refl;
-      three = refl;
-    })
+    by true = inl (grind arith)
     by false = lifts t.from t.low t.mid t.high _ _ _ (k t.from.next.state t.from.next.joined t.low t.mid t.high t.to_mid t.to_high)
 
 then_among : (ws : Words) (x y z : Hearing) → WordsDo ws → WordDoes x y z → AmongThree (then_words ws x) (then_words ws y) (then_words ws z)
 then_among ws x y z k (inl t) = then_three ws x y z k t
-then_among ws x y z k (inr (inl o)) = inr (inl (one_then ws x y o))
-then_among ws x y z k (inr (inr o)) = inr (inr (one_then ws z y o))
+then_among ws x y z k (inr (inl o)) = inr (inl (grind (arith, then_words, stopped)))
+then_among ws x y z k (inr (inr o)) = inr (inr (grind (arith, then_words, stopped)))
 
 words_between : (ws : Words) → WordsDo ws
 unfolding respond_words
@@ -372,17 +307,7 @@ came_between : (s : State) (j : Option (List ℕ)) (came : Result Words SpduFaul
     → AmongThree (respond_came (taker_with (confirmed_to a s) j) came) (respond_came (taker_with (confirmed_to v s) j) came) (respond_came
     (taker_with (confirmed_to c s) j) came)
 came_between s j (Ok words) a v c l m = words_between (acting_words words) s j a v c l m
-came_between s j (Err fault) a v c l m = inl (record {
-  from = heard j (respond_fault s fault);
-  low = a;
-  mid = v;
-  high = c;
-  to_mid = l;
-  to_high = m;
-  one = fault_at s j fault a;
-  two = fault_at s j fault v;
-  three = fault_at s j fault c;
-})
+came_between s j (Err fault) a v c l m = inl (search (arith, fault_at s j fault a, fault_at s j fault v, fault_at s j fault c))
 
 -- ---- by counts
 

@@ -1,32 +1,26 @@
 -- Of three sessions that differ in V(A) alone, what the one explains whose V(A) lies between those of the others, one of these
 -- explains. For the law.
-use Rattle.std.proofs.Common.{◌≡◌, ◌∙◌, refl, sym, ap, subst, ℕ, ◌+◌, ◌<◌, ◌≤◌, ◌⊎◌, inl, inr, true, not, ◌||◌, List, [], ◌∷◌, get_or}
-use Rattle.std.proofs.Common.{Option, Some, None}
-use Rattle.osi_message.specs.Meanings.{Meaning}
-use Rattle.osi_message.specs.Words.{Word}
-use Rattle.osi_session.specs.Phases.{is_wait_transport}
-use Rattle.osi_session.specs.Standing.{Seen, Count, CanSay, Takes, listens, after_count, answers_word}
-use Rattle.osi_judge.specs.Between.{confirmed_to, seen_to}
-use Rattle.osi_judge.specs.Explaining.{Remark, Explains, done, takes, answers, says}
+use Rattle.std.proofs.Common.{arith}
+use Rattle.osi_judge.proofs.Vocabulary.{◌≡◌, ◌∙◌, refl, sym, ap, subst, ℕ, ◌+◌, ◌<◌, ◌≤◌, ◌⊎◌, inl, inr, true, ◌||◌, List, [], ◌∷◌, get_or}
+use Rattle.osi_judge.proofs.Vocabulary.{Option, Some, None, Meaning, Word, Seen, Count, CanSay, Takes, listens, after_count, answers_word}
+use Rattle.osi_judge.proofs.Vocabulary.{confirmed_to, seen_to, Remark, Explains, done, takes, answers}
+use Rattle.osi_judge.specs.Explaining.{says}
 use Rattle.osi_judge.proofs.walked.what_ends_alike.{SameEnd, takes_alike, says_alike}
 use Rattle.osi_judge.proofs.walked.what_is_said_between.{says_between}
 use Rattle.osi_judge.proofs.walked.what_is_taken_between.{count_to, TakesThree, TakesOne, takes_between}
 
 -- ---- the connection is over
 
-listens_alike : (s t : Seen) → SameEnd s.state t.state → t.closed ≡ s.closed → listens s ≡ true → listens t ≡ true
-listens_alike s t h c l = let e : listens t ≡ listens s = (λ i. not (c i || is_wait_transport (h.phase i))) in e ∙ l
-
 pub over_explains : (us : List (List ℕ)) (ms : List Remark) (j : ℕ) (s t : Seen) → SameEnd s.state t.state → t.closed ≡ s.closed
     → Explains us ms j s → Explains us ms j t
 over_explains us ms j s t h c (done _ _) = done j t
 over_explains us ms j s t h c (takes m rest _ _ d b l k q e) =
     let a = takes_alike s t (get_or us j []) d h k in
-    takes m rest j t a.count b (listens_alike s t h c l) a.taken (a.reply ∙ q)
+    takes m rest j t a.count b (grind arith) a.taken (a.reply ∙ q)
     (over_explains us (m ∷ rest) (j + 1) (after_count s d) (after_count t a.count) a.ends (λ i. c i || a.closes i) e)
 over_explains us ms j s t h c (answers m rest _ _ d reply w b l k r f x e) =
     let a = takes_alike s t (get_or us j []) d h k in
-    answers m rest j t a.count reply w b (listens_alike s t h c l) a.taken (a.reply ∙ r) f x
+    answers m rest j t a.count reply w b (grind arith) a.taken (a.reply ∙ r) f x
     (over_explains us rest (j + 1) (after_count s d) (after_count t a.count) a.ends (λ i. c i || a.closes i) e)
 over_explains us ms j s t h c (says m rest _ _ next w f k e) =
     let a = says_alike s t w m.octets next h c k in

@@ -1,10 +1,9 @@
 -- The connection at a reference after one is replaced, one is added, a side ends, or a break.
 -- For the law of the same name, and for all that is said of each connection of a run.
-use Rattle.std.proofs.Common.{◌≡◌, refl, ap, subst, ℕ, zero, suc, ◌+◌, ◌<◌, ◌≤◌, true, List, [], ◌∷◌, ◌++◌, length, Some, None, is_some}
-use Rattle.std.proofs.Common.{arith}
-use Rattle.osi_machine.specs.Tables.{seen_from, cut_channels}
 use Rattle.osi_machine.proofs.Vocabulary.{AllByRecursion, slice_get, Side, connection_at, replaced, with_connection, Line, ends_there}
-use Rattle.osi_machine.proofs.Vocabulary.{ended_lines, cut_line}
+use Rattle.osi_machine.proofs.Vocabulary.{ended_lines, cut_line, ◌≡◌, refl, ap, subst, ℕ, zero, suc, ◌+◌, ◌<◌, ◌≤◌, true, List, [], ◌∷◌}
+use Rattle.osi_machine.proofs.Vocabulary.{◌++◌, length, Some, None, is_some, arith}
+use Rattle.osi_machine.specs.Tables.{seen_from, cut_channels}
 
 -- ---- one is another
 

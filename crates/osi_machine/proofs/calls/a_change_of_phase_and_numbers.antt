@@ -1,14 +1,13 @@
 -- A call that changes only the phase and the numbers of its side: the conditions under which it keeps the invariant.
 -- For points, their confirmations and releases.
-use Rattle.std.proofs.Common.{◌≡◌, refl, sym, ◌∙◌, ap, subst, ℕ, Bool, true, false, not, ◌&&◌, ◌||◌, if◌then◌else◌, List, [], ◌∷◌, ◌⊎◌, inl}
-use Rattle.std.proofs.Common.{inr, arith, ◌≤◌, ◌<◌, ◌++◌}
 use Rattle.osi_machine.proofs.Vocabulary.{list_any, State, TokenSetting, Meaning, RestartDue, may_hold, is_restarting, is_restart_due}
 use Rattle.osi_machine.proofs.Vocabulary.{has_no_effect, passes_restarting, restarted_at, without_tokens, becomes, stands, drops, next}
 use Rattle.osi_machine.proofs.Vocabulary.{Good, Item, seen, is_plain, Fits, AllFit, flush, stops, heard, view_next, heard_view, or_parts}
 use Rattle.osi_machine.proofs.Vocabulary.{append-nil, FunctionalUnits, Tokens, Token, has, available, data_token, lower, is_answering}
 use Rattle.osi_machine.proofs.Vocabulary.{is_connecting, is_release_due, is_releasing, cutat, AreNumberedFrom, turned_owners, is_own}
 use Rattle.osi_machine.proofs.Vocabulary.{is_to_own, hears, data_in, data_of, needs_token, Party, Core, AreConsistent, and_from, not-true}
-use Rattle.osi_machine.proofs.Vocabulary.{Phase}
+use Rattle.osi_machine.proofs.Vocabulary.{Phase, ◌≡◌, refl, sym, ◌∙◌, ap, subst, ℕ, Bool, true, false, not, ◌&&◌, ◌||◌, if◌then◌else◌, List}
+use Rattle.osi_machine.proofs.Vocabulary.{[], ◌∷◌, ◌⊎◌, inl, inr, arith, ◌≤◌, ◌<◌, ◌++◌}
 use Rattle.osi_machine.proofs.basics.what_holds_in_each_phase.{excluded, by_test, implied_both, implied_two, by_either}
 use Rattle.osi_machine.proofs.basics.what_a_restart_leaves_of_a_history.{cut_append}
 use Rattle.osi_machine.proofs.channels.a_unit_is_dropped_bad_or_acted_on.{next_acted, next_dropped, restart_acted, none_due, next_cases}

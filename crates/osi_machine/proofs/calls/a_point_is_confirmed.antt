@@ -1,16 +1,15 @@
 -- The calls of MinorConfirm and of MajorConfirm keep the invariant of both sides.
 -- For each_step_keeps_both_sides.
-use Rattle.std.proofs.Common.{◌≡◌, refl, sym, ◌∙◌, ap, subst, ℕ, ◌+◌, ◌-◌, ◌≤◌, ◌<◌, Bool, true, false, not, ◌&&◌, ◌||◌, nat_le, nat_lt}
-use Rattle.std.proofs.Common.{if◌then◌else◌, List, [], ◌⊎◌, inl, inr, Ok, arith}
 use Rattle.osi_machine.proofs.Vocabulary.{append-nil, and_parts, ltb-true, leb-true, lt-ltb, le-leb, eq-eqb, cases_lt, and_from, State}
 use Rattle.osi_machine.proofs.Vocabulary.{Phase, Numbers, Ready, MajorDue, Meaning, MIA, MAA, is_ready, is_major_asked, is_major_due}
 use Rattle.osi_machine.proofs.Vocabulary.{is_releasing, is_release_due, is_restarting, may_hold, may_confirm_minor, takes_minor_ack}
 use Rattle.osi_machine.proofs.Vocabulary.{point_taken, minor_confirmed, major_confirmed, becomes, drops, next, Good, MinorConfirm}
 use Rattle.osi_machine.proofs.Vocabulary.{MajorConfirm, Item, points, AreNumberedFrom, is_plain, AllFit, heard_view, stops, Core, answered}
-use Rattle.osi_machine.proofs.Vocabulary.{is_opening}
+use Rattle.osi_machine.proofs.Vocabulary.{is_opening, ◌≡◌, refl, sym, ◌∙◌, ap, subst, ℕ, ◌+◌, ◌-◌, ◌≤◌, ◌<◌, Bool, true, false, not, ◌&&◌}
+use Rattle.osi_machine.proofs.Vocabulary.{◌||◌, nat_le, nat_lt, if◌then◌else◌, List, [], ◌⊎◌, inl, inr, Ok, arith}
 use Rattle.osi_machine.proofs.basics.what_holds_in_each_phase.{implied_both, implied, excluded, implied_two, by_test}
 use Rattle.osi_machine.proofs.channels.a_unit_is_dropped_bad_or_acted_on.{next_cases, next_hears}
-use Rattle.osi_machine.proofs.channels.what_every_unit_in_flight_keeps.{kept_heard, heard_flush, lower_first, lower_second, heard_turned}
+use Rattle.osi_machine.proofs.channels.what_every_unit_in_flight_keeps.{kept_heard, heard_flush, lower_second, heard_turned}
 use Rattle.osi_machine.proofs.channels.a_deaf_side_acts_on_nothing.{not_both}
 use Rattle.osi_machine.proofs.channels.a_held_token_keeps_units_out.{flush_open, heard_open}
 use Rattle.osi_machine.proofs.channels.what_a_side_will_have_seen.{until_heard, view_cases, heard_counted, view_grows, major_came}
@@ -245,7 +244,7 @@ due_sending w octets k h = record {
   other_below = λ n from to. by_test (drops (flushed w.peer w.own) (MAA (w.own.session.numbers.next - 1) octets))
       (λ d. let e = rw d at to in was_below w n (grind arith) h from e)
       (grind (arith, own_count, owes_nothing, heeds, other_number, there_base, ends_same, by_test, flushed));
-  other_reach = grind (arith, lower_first, flushed);
+  other_reach = grind (arith, flushed);
   numbered = λ p. subst (AreNumberedFrom (flushed w.own w.peer).base) (sym (append-nil w.history)) p;
   one_way = grind (arith, list_any_append);
 }

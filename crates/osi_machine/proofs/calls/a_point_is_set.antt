@@ -1,7 +1,5 @@
 -- The calls of Minor and of Major keep the invariant of both sides.
 -- For each_step_keeps_both_sides.
-use Rattle.std.proofs.Common.{◌≡◌, refl, sym, ◌∙◌, ap, subst, ℕ, ◌+◌, ◌≤◌, ◌<◌, Bool, true, false, not, ◌&&◌, nat_le, nat_lt, if◌then◌else◌}
-use Rattle.std.proofs.Common.{List, [], ◌∷◌, ◌++◌, ◌⊎◌, inl, inr, Ok, arith}
 use Rattle.osi_machine.proofs.Vocabulary.{and_parts, ltb-true, lt-ltb, eq-eqb, or_left, and_from, not-true, not-false, and_right, list_any}
 use Rattle.osi_machine.proofs.Vocabulary.{State, Phase, Numbers, FunctionalUnits, Ready, MajorAsked, Meaning, DT, GT, PT, MIP, MIA, MAP, RS}
 use Rattle.osi_machine.proofs.Vocabulary.{FN, Token, data_token, minor, major, has, available, has_right, is_ready, is_major_asked}
@@ -9,7 +7,8 @@ use Rattle.osi_machine.proofs.Vocabulary.{is_restarting, is_restart_due, may_ask
 use Rattle.osi_machine.proofs.Vocabulary.{lower, point_sent, point_taken, minor_confirmed, becomes, drops, next, Good, has_no_effect}
 use Rattle.osi_machine.proofs.Vocabulary.{passes_restarting, Minor, Major, after, Item, PointKind, Point, points, minor_kind, major_point}
 use Rattle.osi_machine.proofs.Vocabulary.{is_plain, heard_view, stops, needs_token, Core, answered, is_opening, AreConsistent}
-use Rattle.osi_machine.proofs.Vocabulary.{is_release_due, is_releasing, seen}
+use Rattle.osi_machine.proofs.Vocabulary.{is_release_due, is_releasing, seen, ◌≡◌, refl, sym, ◌∙◌, ap, subst, ℕ, ◌+◌, ◌≤◌, ◌<◌, Bool, true}
+use Rattle.osi_machine.proofs.Vocabulary.{false, not, ◌&&◌, nat_le, nat_lt, if◌then◌else◌, List, [], ◌∷◌, ◌++◌, ◌⊎◌, inl, inr, Ok, arith}
 use Rattle.osi_machine.proofs.basics.what_holds_in_each_phase.{implied, excluded, by_test}
 use Rattle.osi_machine.proofs.channels.what_every_unit_in_flight_keeps.{heard_flush, heard_sends}
 use Rattle.osi_machine.proofs.channels.a_deaf_side_acts_on_nothing.{not_both}

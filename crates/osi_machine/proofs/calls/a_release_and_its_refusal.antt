@@ -1,14 +1,13 @@
 -- The calls of Release and of ReleaseRefuse keep the invariant of both sides.
 -- For each_step_keeps_both_sides.
-use Rattle.std.proofs.Common.{◌≡◌, refl, sym, ◌∙◌, ap, subst, ℕ, ◌≤◌, ◌<◌, Bool, true, false, not, ◌&&◌, ◌||◌, List, [], ◌∷◌, ◌++◌, Ok}
-use Rattle.std.proofs.Common.{arith}
 use Rattle.osi_machine.proofs.Vocabulary.{append-nil, and_parts, not-true, or_parts, and_right, list_any, State, Phase, Numbers}
 use Rattle.osi_machine.proofs.Vocabulary.{FunctionalUnits, Ready, Releasing, ReleaseDue, Tokens, Meaning, DT, GT, PT, MIP, MIA, MAP, RS, FN}
 use Rattle.osi_machine.proofs.Vocabulary.{NF, Token, data_token, minor, major, has, available, each, has_right, is_empty, is_within}
 use Rattle.osi_machine.proofs.Vocabulary.{is_disjoint, is_ready, is_releasing, is_release_due, is_restarting, is_restart_due}
 use Rattle.osi_machine.proofs.Vocabulary.{passes_restarting, has_no_effect, may_hold, becomes, next, Good, Release, ReleaseRefuse}
 use Rattle.osi_machine.proofs.Vocabulary.{AreNumberedFrom, turned_owners, is_plain, Fits, AllFit, flush, stops, heard_view, needs_token}
-use Rattle.osi_machine.proofs.Vocabulary.{Core, answered, is_opening}
+use Rattle.osi_machine.proofs.Vocabulary.{Core, answered, is_opening, ◌≡◌, refl, sym, ◌∙◌, ap, subst, ℕ, ◌≤◌, ◌<◌, Bool, true, false, not}
+use Rattle.osi_machine.proofs.Vocabulary.{◌&&◌, ◌||◌, List, [], ◌∷◌, ◌++◌, Ok, arith}
 use Rattle.osi_machine.proofs.basics.what_holds_in_each_phase.{implied, excluded, by_either, by_test, cut_or}
 use Rattle.osi_machine.proofs.channels.a_unit_is_dropped_bad_or_acted_on.{next_cases, fit_cases, next_acted, next_dropped, next_hears}
 use Rattle.osi_machine.proofs.channels.what_every_unit_in_flight_keeps.{kept_all, kept_heard, heard_flush}

@@ -1,20 +1,19 @@
 -- The call of Restart keeps the invariant: its side discards what is in flight to it, but for a restart that takes effect.
 -- For each_step_keeps_both_sides.
-use Rattle.std.proofs.Common.{◌≡◌, refl, ℕ, true, false, ◌||◌, List, [], ◌∷◌, ◌⊎◌, inl, arith, sym, ◌∙◌, ap, subst, ◌+◌, ◌==◌, ◌≤◌, not}
-use Rattle.std.proofs.Common.{◌&&◌, nat_le, nat_lt, inr, ◌-◌, ◌++◌, Ok}
 use Rattle.osi_machine.proofs.Vocabulary.{and_parts, TokenSetting, ResyncType, State, Meaning, RS, is_restarting, is_restart_due}
 use Rattle.osi_machine.proofs.Vocabulary.{passes_restarting, restarted_at, stands, next, Item, Fits, AllFit, flush, stops, heard}
 use Rattle.osi_machine.proofs.Vocabulary.{heard_view, le-leb, and_from, not-true, Restarting, may_restart, takes_restart, is_connecting}
 use Rattle.osi_machine.proofs.Vocabulary.{without_tokens, points, hears, Core, is_opening, append-nil, leb-true, available, is_restartable}
 use Rattle.osi_machine.proofs.Vocabulary.{Restart, IsSound, cutat, Begins, Owner, turned_owner, turned_owners, is_own, is_to_own, is_absent}
-use Rattle.osi_machine.proofs.Vocabulary.{own_to_pool, given_up, Party, answered}
+use Rattle.osi_machine.proofs.Vocabulary.{own_to_pool, given_up, Party, answered, ◌≡◌, refl, ℕ, true, false, ◌||◌, List, [], ◌∷◌, ◌⊎◌, inl}
+use Rattle.osi_machine.proofs.Vocabulary.{arith, sym, ◌∙◌, ap, subst, ◌+◌, ◌==◌, ◌≤◌, not, ◌&&◌, nat_le, nat_lt, inr, ◌-◌, ◌++◌, Ok}
+use Rattle.osi_machine.proofs.Vocabulary.{ltb-false, ltb-true}
 use Rattle.osi_machine.proofs.basics.what_holds_in_each_phase.{excluded, if_first, by_test, implied, implied_two}
 use Rattle.osi_machine.proofs.basics.what_a_restart_leaves_of_a_history.{upto_append}
 use Rattle.osi_machine.proofs.channels.a_unit_is_dropped_bad_or_acted_on.{fit_cases, next_dropped, none_due, restart_due, and_false}
 use Rattle.osi_machine.proofs.channels.a_unit_is_dropped_bad_or_acted_on.{next_hears}
 use Rattle.osi_machine.proofs.channels.what_every_unit_in_flight_keeps.{kept_heard, heard_flush, fit_append, flush_append, due_end}
 use Rattle.osi_machine.proofs.channels.what_every_unit_in_flight_keeps.{data_append, lower_second, lower_both, heard_turned, view_append}
-use Rattle.osi_machine.proofs.channels.what_every_unit_in_flight_keeps.{lower_first}
 use Rattle.osi_machine.proofs.channels.a_deaf_side_acts_on_nothing.{AllEmpty, all_empty, empty_laws, empty_view, crossed, restart_kept}
 use Rattle.osi_machine.proofs.channels.a_deaf_side_acts_on_nothing.{restart_next, yielded, stood, deaf_end, heard_restart, yielded_view}
 use Rattle.osi_machine.proofs.channels.a_held_token_keeps_units_out.{becomes_open, is_lively, Lively, becomes_lively, flush_open, none_held}
@@ -313,7 +312,7 @@ module _ (w : Core) (n : ℕ) (t : TokenSetting) (o : List ℕ) (q : Restarts w 
         reach = λ f.
             let up = lower_second n w.own.session.numbers.confirmed in
             let grew = grown.from in
-            grind (arith, lower_first, lower_second);
+            grind (arith, ltb-true, ltb-false, lower_second);
       }))
 
   peer_counts : Counts w.peer asks

@@ -1,13 +1,12 @@
 -- The calls of Data and of Please keep the invariant: their units change no state.
 -- For each_step_keeps_both_sides.
-use Rattle.std.proofs.Common.{◌≡◌, refl, sym, ◌∙◌, ap, subst, ℕ, Bool, true, false, not, ◌&&◌, ◌||◌, List, [], ◌∷◌, ◌++◌, ◌⊎◌, inl, inr}
-use Rattle.std.proofs.Common.{arith, ◌+◌, if◌then◌else◌, Ok, append_assoc}
 use Rattle.osi_machine.proofs.Vocabulary.{list_any, State, FunctionalUnits, Meaning, DT, PT, Tokens, Token, data_token, has, available}
 use Rattle.osi_machine.proofs.Vocabulary.{has_right, is_within, is_ready, may_ask, may_hold, takes_data, takes_please, is_restarting}
 use Rattle.osi_machine.proofs.Vocabulary.{is_restart_due, becomes, Item, Owners, turned_owners, seen, Fits, AllFit, flush, heard, hears}
 use Rattle.osi_machine.proofs.Vocabulary.{heard_view, Party, is_opening, not_from_false, append-nil, Data, Octets, Point, cutat}
 use Rattle.osi_machine.proofs.Vocabulary.{AreNumberedFrom, data_of, Core, answered, IsConsistent, AreConsistent, and_from, not-true}
-use Rattle.osi_machine.proofs.Vocabulary.{and_right, Please}
+use Rattle.osi_machine.proofs.Vocabulary.{and_right, Please, ◌≡◌, refl, sym, ◌∙◌, ap, subst, ℕ, Bool, true, false, not, ◌&&◌, ◌||◌, List}
+use Rattle.osi_machine.proofs.Vocabulary.{[], ◌∷◌, ◌++◌, ◌⊎◌, inl, inr, arith, ◌+◌, if◌then◌else◌, Ok, append_assoc}
 use Rattle.osi_machine.proofs.basics.what_holds_in_each_phase.{implied, excluded, if_first, by_either, implied_two}
 use Rattle.osi_machine.proofs.basics.what_a_restart_leaves_of_a_history.{cut_append}
 use Rattle.osi_machine.proofs.channels.a_unit_is_dropped_bad_or_acted_on.{next_cases, next_hears}

@@ -1,19 +1,16 @@
 -- The call of Accept keeps the invariant: the answerer settles who has which token.
 -- For each_step_keeps_both_sides.
-use Rattle.std.proofs.Common.{◌≡◌, refl, Bool, true, false, not, ◌&&◌, ◌||◌, if◌then◌else◌, arith, sym, ◌∙◌, ap, subst, ℕ, List, [], ◌∷◌}
-use Rattle.std.proofs.Common.{◌++◌, Ok}
-use Rattle.osi_spdu.specs.declared.settings.TokenSetting.{TokenSetting}
-use Rattle.osi_spdu.specs.declared.settings.Wish.{Wish}
-use Rattle.osi_spdu.specs.declared.settings.Side.{Side}
-use Rattle.osi_spdu.specs.Fields.{wish_of}
-use Rattle.osi_session.specs.Sides.{wish_for, settled, allows}
 use Rattle.osi_machine.proofs.Vocabulary.{FunctionalUnits, Sides, Token, data_token, minor, major, release, has, each, available, side_for}
 use Rattle.osi_machine.proofs.Vocabulary.{is_asker, settle, stated, setting_of, of_asker, of_answerer, answers_wishes, Owner, Own, ToThem}
 use Rattle.osi_machine.proofs.Vocabulary.{Absent, turned_owner, is_own, is_to_own, is_absent, append-nil, and_parts, and_from, agreed_base}
 use Rattle.osi_machine.proofs.Vocabulary.{TsduMaximumSize, State, Meaning, AC, Tokens, functional_units, both_units, units_within, base_for}
 use Rattle.osi_machine.proofs.Vocabulary.{serial_for, opened_with, is_answering, is_connecting, is_restarting, is_restart_due, may_hold}
 use Rattle.osi_machine.proofs.Vocabulary.{Accept, are_sizes, answered_sizes, becomes, next, turned_owners, settled_by, Fits, flush, heard}
-use Rattle.osi_machine.proofs.Vocabulary.{Party, Core, answered, is_opening, IsFresh, AreConsistent}
+use Rattle.osi_machine.proofs.Vocabulary.{Party, Core, answered, is_opening, IsFresh, AreConsistent, ◌≡◌, refl, Bool, true, false, not}
+use Rattle.osi_machine.proofs.Vocabulary.{◌&&◌, ◌||◌, if◌then◌else◌, arith, sym, ◌∙◌, ap, subst, ℕ, List, [], ◌∷◌, ◌++◌, Ok, Wish, wish_of}
+use Rattle.osi_machine.proofs.Vocabulary.{wish_for, settled, allows}
+use Rattle.osi_spdu.specs.declared.settings.TokenSetting.{TokenSetting}
+use Rattle.osi_spdu.specs.declared.settings.Side.{Side}
 use Rattle.osi_machine.proofs.basics.what_holds_in_each_phase.{implied, excluded, implied_two, if_first}
 use Rattle.osi_machine.proofs.channels.a_unit_is_dropped_bad_or_acted_on.{next_acted}
 use Rattle.osi_machine.proofs.channels.what_every_unit_in_flight_keeps.{fit_append, flush_append, heard_append, view_append, data_append}

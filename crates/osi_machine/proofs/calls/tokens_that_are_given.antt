@@ -1,13 +1,12 @@
 -- The call of Give keeps the invariant: a side that holds fewer tokens acts alike on what is in flight to it.
 -- For each_step_keeps_both_sides.
-use Rattle.std.proofs.Common.{◌≡◌, refl, sym, ◌∙◌, ap, subst, Bool, true, false, not, ◌&&◌, ◌||◌, List, ◌⊎◌, inl, inr, arith, if◌then◌else◌}
-use Rattle.std.proofs.Common.{[], ◌∷◌, ◌++◌, Ok}
 use Rattle.osi_machine.proofs.Vocabulary.{and_parts, or_left, and_from, not-true, State, Tokens, Meaning, DT, GT, MIP, MAP, FN, Token}
 use Rattle.osi_machine.proofs.Vocabulary.{data_token, minor, major, release, has, some, is_empty, is_within, is_disjoint, without, united}
 use Rattle.osi_machine.proofs.Vocabulary.{available, lacks, may_ask, is_restart_due, becomes, stands, Good, Item, Fits, stops, view_next}
 use Rattle.osi_machine.proofs.Vocabulary.{append-nil, FunctionalUnits, may_give, may_hold, is_restarting, Give, drops, next, Owner, ToThem}
 use Rattle.osi_machine.proofs.Vocabulary.{turned_owner, turned_owners, is_own, is_to_own, passed_to, flush, heard, heard_view, Party, Core}
-use Rattle.osi_machine.proofs.Vocabulary.{answered, is_opening, AreConsistent}
+use Rattle.osi_machine.proofs.Vocabulary.{answered, is_opening, AreConsistent, ◌≡◌, refl, sym, ◌∙◌, ap, subst, Bool, true, false, not, ◌&&◌}
+use Rattle.osi_machine.proofs.Vocabulary.{◌||◌, List, ◌⊎◌, inl, inr, arith, if◌then◌else◌, [], ◌∷◌, ◌++◌, Ok}
 use Rattle.osi_machine.proofs.basics.what_holds_in_each_phase.{excluded, cut_or, implied, by_either}
 use Rattle.osi_machine.proofs.channels.a_unit_is_dropped_bad_or_acted_on.{next_acted, restart_due, due_next, next_cases, next_dropped}
 use Rattle.osi_machine.proofs.channels.what_every_unit_in_flight_keeps.{Steps, fit_append, flush_append, heard_flush, heard_append}

@@ -1,11 +1,10 @@
 -- A side that has requested a restart, expects nothing or is being opened discards what is in flight to it.
 -- For restarts, and for connections that are being opened.
-use Rattle.std.proofs.Common.{◌≡◌, refl, ◌∙◌, ap, subst, ℕ, Bool, true, false, not, if◌then◌else◌, List, [], ◌∷◌, ◌++◌, ◌⊎◌, inl, inr}
-use Rattle.std.proofs.Common.{arith}
 use Rattle.osi_machine.proofs.Vocabulary.{TokenSetting, ResyncType, State, RestartDue, Meaning, RS, is_restarting, is_restart_due}
 use Rattle.osi_machine.proofs.Vocabulary.{is_expected, has_no_effect, without_tokens, restarted_at, stands, drops, next, Item, is_plain}
 use Rattle.osi_machine.proofs.Vocabulary.{Fits, AllFit, flush, stops, heard, hears, view_next, heard_view, or_left, is_connecting}
-use Rattle.osi_machine.proofs.Vocabulary.{both_ways}
+use Rattle.osi_machine.proofs.Vocabulary.{both_ways, ◌≡◌, refl, ◌∙◌, ap, subst, ℕ, Bool, true, false, not, if◌then◌else◌, List, [], ◌∷◌}
+use Rattle.osi_machine.proofs.Vocabulary.{◌++◌, ◌⊎◌, inl, inr, arith}
 use Rattle.osi_machine.proofs.basics.what_holds_in_each_phase.{excluded, if_first, by_test}
 use Rattle.osi_machine.proofs.channels.a_unit_is_dropped_bad_or_acted_on.{next_dropped, next_acted, and_false}
 use Rattle.osi_machine.proofs.channels.what_every_unit_in_flight_keeps.{hears_kept, heard_flush, heard_append}

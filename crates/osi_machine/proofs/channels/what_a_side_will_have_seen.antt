@@ -1,12 +1,11 @@
 -- What a side will have seen when it has taken all, or all before a restart that takes effect.
 -- For the clauses of the invariant on histories.
-use Rattle.std.proofs.Common.{◌≡◌, refl, sym, ◌∙◌, ap, subst, ℕ, ◌+◌, ◌≤◌, Bool, true, false, if◌then◌else◌, List, [], ◌∷◌, ◌++◌, arith}
-use Rattle.std.proofs.Common.{append_assoc}
 use Rattle.osi_machine.proofs.Vocabulary.{State, Meaning, CN, AC, DT, GT, PT, MIP, MIA, MAP, MAA, RS, RA, FN, NF, is_ready, takes_data}
 use Rattle.osi_machine.proofs.Vocabulary.{is_major_due, point_taken, minor_confirmed, major_confirmed, becomes, drops, next, Good, Item}
 use Rattle.osi_machine.proofs.Vocabulary.{Octets, Point, points, minor_kind, major_point, cutat, AreNumberedFrom, seen, is_plain, Fits}
 use Rattle.osi_machine.proofs.Vocabulary.{AllFit, stops, heard, view_next, heard_view, is_opening, append-nil, Begins, hears, Party}
-use Rattle.osi_machine.proofs.Vocabulary.{IsConsistent}
+use Rattle.osi_machine.proofs.Vocabulary.{IsConsistent, ◌≡◌, refl, sym, ◌∙◌, ap, subst, ℕ, ◌+◌, ◌≤◌, Bool, true, false, if◌then◌else◌, List}
+use Rattle.osi_machine.proofs.Vocabulary.{[], ◌∷◌, ◌++◌, arith, append_assoc}
 use Rattle.osi_machine.proofs.basics.what_holds_in_each_phase.{implied, excluded, by_test}
 use Rattle.osi_machine.proofs.basics.what_a_restart_leaves_of_a_history.{points_append}
 use Rattle.osi_machine.proofs.channels.a_unit_is_dropped_bad_or_acted_on.{next_acted, chosen, fit_cases}
@@ -138,27 +137,24 @@ numbered_point b (Point n kind o ∷ h) i e a =
 
 -- ---- what was seen stays
 
-same_begins : (v w : List Item) → w ≡ v → Begins v w
-same_begins v w e = ([], append-nil v ∙ sym e)
-
 seen_begins : (s : State) (u : Meaning) (v : List Item) → stops s u ≡ false → Begins v (seen s u v)
-seen_begins s (DT o) v st = by_test s.units.duplex (λ e. rw e (same_begins v v refl)) (λ e. rw e (Octets o ∷ [], refl))
+seen_begins s (DT o) v st = by_test s.units.duplex (λ e. rw e (grind (arith, append-nil))) (λ e. rw e (Octets o ∷ [], refl))
 seen_begins s (MIP c n o) v st = (Point n (minor_kind c) o ∷ [], refl)
 seen_begins s (MAP n o) v st = (Point n major_point o ∷ [], refl)
-seen_begins s (RS k n w o) v st = same_begins v _ (rw st refl)
-seen_begins s _ v st = same_begins v v refl
+seen_begins s (RS k n w o) v st = grind (arith, append-nil)
+seen_begins s _ v st = grind (arith, append-nil)
 
 pub begins_twice : (v w z : List Item) → Begins v w → Begins w z → Begins v z
 begins_twice v w z a b = (a.0 ++ b.0, sym (append_assoc v a.0 b.0) ∙ ap (λ (r : List Item). r ++ b.0) a.1 ∙ b.1)
 
 pub heard_more : (s : State) (us : List Meaning) (v : List Item) → Begins v (heard_view s us v)
-heard_more s [] v = same_begins v v refl
+heard_more s [] v = grind (arith, append-nil)
 heard_more s (u ∷ us) v = by_test (stops s u)
-    (λ e. rw e (same_begins v v refl))
+    (λ e. rw e (grind (arith, append-nil)))
     (λ e. rw e (let more : Begins (view_next s u v)
     (heard_view (next s u) us (view_next s u v)) = (heard_more (next s u) us (view_next s u v)) in
     begins_twice v (view_next s u v) (heard_view (next s u) us (view_next s u v)) (by_test (drops s u)
-    (λ q. rw q (same_begins v v refl))
+    (λ q. rw q (grind (arith, append-nil)))
     (λ q. rw q (let st : stops s u ≡ false = e in seen_begins s u v st))) more))
 
 pub begins_points : (v w : List Item) → Begins v w → points v ≤ points w

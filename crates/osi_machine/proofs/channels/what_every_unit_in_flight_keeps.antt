@@ -111,14 +111,11 @@ alike_view R step shows s r (u ∷ us) v h f =
 
 -- ---- the lower of two numbers
 
-pub lower_first : (n m : ℕ) → lower n m ≤ n
-lower_first n m = grind (arith, ltb-true, ltb-false)
-
 pub lower_second : (n m : ℕ) → lower n m ≤ m
 lower_second n m = grind (arith, ltb-true, ltb-false)
 
 pub lower_both : (n m a c : ℕ) → n ≤ m → lower m a ≤ c → lower n a ≤ lower n c
-lower_both n m a c le h = grind (arith, lower_first, lower_second)
+lower_both n m a c le h = grind (arith, lower_second)
 
 -- ---- the direction of points
 

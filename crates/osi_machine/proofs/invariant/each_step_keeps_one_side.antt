@@ -34,9 +34,6 @@ consistent x sound h = grind arith
 
 -- ---- moves of the count
 
-nothing_said : (n base : ℕ) (v : List Item) → n ≡ base + points v → n ≡ base + points (v ++ [])
-nothing_said n base v h = let e = points_append v [] in omega arith
-
 pub one_taken : (n base : ℕ) (b : Bool) (octets : List ℕ) (v : List Item) → n ≡ base + points v
     → n ≡ base + points (if b then v else v ++ Octets octets ∷ [])
 one_taken n base b octets v h = grind (arith, points_append)
@@ -66,25 +63,24 @@ pub call_lines : (s : State) (c : Call) (v : List Item) (said got : List (List �
     → Lines s v said got → Lines (after s c) (view_called s c v) (said ++ speaks s c) got
 unfolding quiet point_sent minor_confirmed major_confirmed restarted_at
 call_lines s (Accept requirements serial sides sizes octets) v said got p t sound h = grind (arith, implied, calm)
-call_lines s (Data octets) v said got p t sound h =
-    grind (arith, same_lines, nothing_said, points_append, excluded is_ready is_opening refl s.phase p)
-call_lines s (Give tokens) v said got p t sound h = search (arith, same_lines, nothing_said, excluded may_give is_opening refl s.phase p)
+call_lines s (Data octets) v said got p t sound h = grind (arith, same_lines, points_append, excluded is_ready is_opening refl s.phase p)
+call_lines s (Give tokens) v said got p t sound h = grind (arith, same_lines, points_append, excluded may_give is_opening refl s.phase p)
 call_lines s (Please tokens octets) v said got p t sound h =
-    same_lines s s v _ said _ got got refl refl refl refl (excluded may_ask is_opening refl s.phase p) (nothing_said _ _ v h.count) h
+    same_lines s s v _ said _ got got refl refl refl refl (excluded may_ask is_opening refl s.phase p) (grind (arith, points_append)) h
 call_lines s (Minor confirm octets) v said got p t sound h =
     grind (arith, calm, quiet, points_append, implied is_ready quiet refl s.phase p)
 call_lines s (MinorConfirm n octets) v said got p t sound h =
-    search (arith, same_lines, nothing_said, excluded may_confirm_minor is_opening refl s.phase p)
+    grind (arith, same_lines, points_append, excluded may_confirm_minor is_opening refl s.phase p)
 call_lines s (Major octets) v said got p t sound h = grind (arith, calm, points_append)
 call_lines s (Restart n wishes octets) v said got p t sound h = grind (arith, and_parts, leb-true, ltb-true, points_upto)
 call_lines s (Release octets) v said got p t sound h = record {
-  count = nothing_said _ _ v h.count;
+  count = grind (arith, points_append);
   major = λ k. absurd (cc);
   asked = λ k. absurd (cc);
   asker = λ k d. grind arith;
   fresh = λ k. absurd (cc);
 }
-call_lines s _ v said got p t sound h = calm _ _ _ _ refl (nothing_said _ _ v h.count)
+call_lines s _ v said got p t sound h = calm _ _ _ _ refl (grind (arith, points_append))
 
 -- ---- the units
 

@@ -1,7 +1,6 @@
 -- The invariant of both sides holds while the CN of a caller is in flight.
 -- For every run: it begins so.
-use Rattle.std.proofs.Common.{unwrap_or}
-use Rattle.osi_machine.proofs.Vocabulary.{State, Answering, functional_units, serial_for, offered, awaiting, Offer}
+use Rattle.osi_machine.proofs.Vocabulary.{State, Answering, functional_units, serial_for, offered, awaiting, Offer, unwrap_or}
 
 -- the called side, once it has taken the CN
 answering : Offer → State

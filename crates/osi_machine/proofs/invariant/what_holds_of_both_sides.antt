@@ -1,14 +1,12 @@
 -- The invariant of two sides and of what is in flight between them, stated for the side x that takes what y sends.
 -- For every step: each has to keep it (`Stands`).
-use Rattle.std.proofs.Common.{◌≡◌, ℕ, Bool, true, false, not, ◌&&◌, ◌||◌, ◌∙◌, ap, arith, refl}
-use Rattle.std.specs.Prelude.{◌≤◌, ◌<◌, List, [], ◌++◌}
-use Rattle.std.proofs.lemmas.Nat.{and_assoc, and_le_r}
 use Rattle.osi_machine.proofs.Vocabulary.{list_any, State, Phase, FunctionalUnits, Connecting, Answering, Ready, MajorAsked, MajorDue}
 use Rattle.osi_machine.proofs.Vocabulary.{Releasing, ReleaseDue, Restarting, RestartDue, Token, data_token, has, available, lower}
 use Rattle.osi_machine.proofs.Vocabulary.{is_restarting, is_restart_due, is_connecting, is_release_due, is_releasing, may_hold, Item, cutat}
 use Rattle.osi_machine.proofs.Vocabulary.{AreNumberedFrom, Owners, is_own, is_to_own, is_absent, turned_owners, AllFit, flush, heard, hears}
 use Rattle.osi_machine.proofs.Vocabulary.{heard_view, data_of, needs_token, Party, Core, AreConsistent, eqb-true, and_parts}
-use Rattle.osi_machine.proofs.Vocabulary.{functional_units, both_units, units_within, has_data, is_profile}
+use Rattle.osi_machine.proofs.Vocabulary.{functional_units, both_units, units_within, has_data, is_profile, ◌≡◌, ℕ, Bool, true, false, not}
+use Rattle.osi_machine.proofs.Vocabulary.{◌&&◌, ◌||◌, ◌∙◌, ap, arith, refl, ◌≤◌, ◌<◌, List, [], ◌++◌, and_assoc, and_le_r}
 use Rattle.osi_machine.proofs.basics.what_holds_in_each_phase.{cut_or, by_test, implied_both, every_two}
 
 -- the state of x when it has taken all that y has sent, and just before a restart that takes effect

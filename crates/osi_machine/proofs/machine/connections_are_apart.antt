@@ -1,8 +1,7 @@
 -- A step of one connection changes no other.
 -- For the law of the same name.
-use Rattle.std.proofs.Common.{◌≡◌, refl, ℕ, false, List, [], ◌∷◌, Option, is_some, arith}
 use Rattle.osi_machine.proofs.Vocabulary.{Side, Class, Message, World, Taking, Machine, connection_at, end_of, after_taking, taken_in}
-use Rattle.osi_machine.proofs.Vocabulary.{AreApart}
+use Rattle.osi_machine.proofs.Vocabulary.{AreApart, ◌≡◌, refl, ℕ, false, List, [], ◌∷◌, Option, is_some, arith}
 use Rattle.osi_machine.proofs.basics.what_stands_at_a_reference.{with_other, there_still}
 
 same_end : (side : Side) (m : Machine) (known : Option Class) → end_of side (record m { known = known }) ≡ end_of side m

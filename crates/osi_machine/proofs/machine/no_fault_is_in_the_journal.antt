@@ -1,11 +1,9 @@
 -- No entry of the journal indicates a fault, whatever its reference.
 -- For the clause `faultless` of `what_two_records_tell`.
-use Rattle.std.proofs.Common.{◌≡◌, refl, sym, ◌∙◌, ℕ, zero, suc, ◌<◌, Bool, false, ◌||◌, if◌then◌else◌, List, [], ◌∷◌, length, Option, Some}
-use Rattle.std.proofs.Common.{None, arith}
-use Rattle.osi_machine.specs.Examples.{for_asker}
 use Rattle.osi_machine.proofs.Vocabulary.{or_assoc, or-false, list_any, slice_get, no_sizes, Offer, Side, Left, Right, World, Machine}
 use Rattle.osi_machine.proofs.Vocabulary.{Entry, shown_at, connection_at, Told, told_entry, told_by, is_of, record_of, untold, told_of}
-use Rattle.osi_machine.proofs.Vocabulary.{IsRun, is_fault, HasNoFault, or_parts}
+use Rattle.osi_machine.proofs.Vocabulary.{IsRun, is_fault, HasNoFault, or_parts, ◌≡◌, refl, sym, ◌∙◌, ℕ, zero, suc, ◌<◌, Bool, false, ◌||◌}
+use Rattle.osi_machine.proofs.Vocabulary.{if◌then◌else◌, List, [], ◌∷◌, length, Option, Some, None, arith, for_asker}
 use Rattle.osi_machine.proofs.invariant.each_step_keeps_one_side.{SessionLaws}
 use Rattle.osi_machine.proofs.whole.every_stage_of_a_connection.{Whole}
 use Rattle.osi_machine.proofs.machine.every_connection_of_a_run.{own_entry, IsGood}

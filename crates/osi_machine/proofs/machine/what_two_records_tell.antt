@@ -1,12 +1,11 @@
 -- What the records of both sides tell after every list of steps.
 -- For the law of the same name.
-use Rattle.std.proofs.Common.{◌≡◌, refl, sym, ◌∙◌, ap, subst, ℕ, zero, suc, ◌+◌, ◌<◌, Bool, true, false, not, ◌||◌, List, [], ◌∷◌, ◌++◌}
-use Rattle.std.proofs.Common.{length, Option, Some, None, inl, inr, ◌⊎◌, arith}
-use Rattle.osi_machine.specs.Core.{turned as turned_core}
 use Rattle.osi_machine.proofs.Vocabulary.{or_comm, slice_get, is_over, FunctionalUnits, Item, Point, PointKind, points, Begins, Agree}
 use Rattle.osi_machine.proofs.Vocabulary.{Offer, Left, Right, Core, is_opening, World, Machine, Entry, connection_at, Told, told_of, IsRun}
 use Rattle.osi_machine.proofs.Vocabulary.{OfEach, HasOneHolder, ShowNoFault, RecordsAgree, ShownAsAsked, ConfirmedThere, ConfirmedInBoth}
-use Rattle.osi_machine.proofs.Vocabulary.{Side, seen_from, Terms}
+use Rattle.osi_machine.proofs.Vocabulary.{Side, seen_from, Terms, ◌≡◌, refl, sym, ◌∙◌, ap, subst, ℕ, zero, suc, ◌+◌, ◌<◌, Bool, true, false}
+use Rattle.osi_machine.proofs.Vocabulary.{not, ◌||◌, List, [], ◌∷◌, ◌++◌, length, Option, Some, None, inl, inr, ◌⊎◌, arith}
+use Rattle.osi_machine.specs.Core.{turned as turned_core}
 use Rattle.osi_machine.proofs.basics.what_holds_in_each_phase.{by_test, by_either}
 use Rattle.osi_machine.proofs.basics.what_a_restart_leaves_of_a_history.{points_append}
 use Rattle.osi_machine.proofs.channels.a_held_token_keeps_units_out.{flush_open}

@@ -1,7 +1,5 @@
 -- A connection of the machine as its two sides keep it: every move of it is the same in the tables.
 -- For the_tables_are_the_machine.
-use Rattle.std.proofs.Common.{◌≡◌, refl, sym, ◌∙◌, ap, Bool, true, false, List, ◌∷◌, take, Option, Some, Ok, Err, arith, ℕ, if◌then◌else◌}
-use Rattle.std.proofs.Common.{[], None}
 use Rattle.osi_machine.proofs.Vocabulary.{called, taken, react, said_of, State, WaitTransport, Ended, Meaning, Token, Call, HasSerial}
 use Rattle.osi_machine.proofs.Vocabulary.{Answer, Granted, CallError, without_tokens, allowed, respond, respond_unit, awaiting, is_own}
 use Rattle.osi_machine.proofs.Vocabulary.{given_up, left_by, offering, offer_sent, Message, unit, Transport, not_yet, waiting, linked}
@@ -9,7 +7,8 @@ use Rattle.osi_machine.proofs.Vocabulary.{kept_of, World, turned, session_of, af
 use Rattle.osi_machine.proofs.Vocabulary.{without_first, Seat, Line, Turn, Told, opened, refused, broken as broken_off, RefusedByTransport}
 use Rattle.osi_machine.proofs.Vocabulary.{is_wait_transport, lost, Offer, ask, agree, deny, bye, over, closing, gone, Kept, asked_with, put}
 use Rattle.osi_machine.proofs.Vocabulary.{unchanged, moves, moved, Terms, accepts, denies, asked_at, message_taken, shortened, closed}
-use Rattle.osi_machine.proofs.Vocabulary.{ended_at, shown_at_end}
+use Rattle.osi_machine.proofs.Vocabulary.{ended_at, shown_at_end, ◌≡◌, refl, sym, ◌∙◌, ap, Bool, true, false, List, ◌∷◌, take, Option, Some}
+use Rattle.osi_machine.proofs.Vocabulary.{Ok, Err, arith, ℕ, if◌then◌else◌, [], None}
 use Rattle.osi_machine.proofs.basics.what_holds_in_each_phase.{by_test}
 use Rattle.osi_machine.proofs.invariant.each_step_keeps_one_side.{SessionLaws}
 use Rattle.osi_machine.proofs.calls.a_restart_is_requested.{given_theirs}
@@ -153,8 +152,6 @@ module _ (broken : Bool) (w : World) (a b : Option Meaning) where
         unit_turn says ms m l (unit_followed laws broken w t u h m ms e s.own.disowned s.peer.disowned),
         unit_followed laws broken w t u h m ms e s.own.disowned s.peer.disowned,
       )
-
-  -- ---- what changes nothing but the transport and what is in flight
 
   -- ---- the other has asked
 

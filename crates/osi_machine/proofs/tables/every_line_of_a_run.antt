@@ -121,8 +121,6 @@ module _ (P : Claim) (Ok : Step → Type 0) (kept : IsKept P Ok) where
   now_holds t side r old l x y e h = same_holds side t.broken x y (Some (seen_from side l)) _ (with_same r t.lines old (seen_from side l) e)
       (grind arith)
 
-  -- ---- a new connection
-
   -- ---- a call
 
   call_same : (t : Tables) (side : Side) (r : ℕ) (c : Call) (x y : Words) (o : Option Line) → Ok (calls side r c)

@@ -1,15 +1,14 @@
 -- Over every list of steps the tables do what the machine does.
 -- For the law of the same name, and for all laws of the tables.
-use Rattle.std.proofs.Common.{◌≡◌, refl, sym, subst, ℕ, zero, suc, ◌+◌, Bool, if◌then◌else◌, List, [], ◌∷◌, ◌++◌, map, Option, Some, None}
-use Rattle.std.proofs.Common.{is_some, inl, inr, arith}
-use Rattle.osi_machine.specs.Machine.{ends_there}
 use Rattle.osi_machine.proofs.Vocabulary.{AllByRecursion, slice_get, taken, said_of, Call, HasSerial, Meaning, allowed, Offer, Side, Class}
 use Rattle.osi_machine.proofs.Vocabulary.{class_2, Message, unit, Transport, linked, World, turned, session_of, after_answer, Taking}
 use Rattle.osi_machine.proofs.Vocabulary.{unit_taken, Terms, message_taken, Ending, Refusal, Step, connects, calls, delivers, breaks, ends}
 use Rattle.osi_machine.proofs.Vocabulary.{Entry, connect_answered, shown_at, Machine, start, connection_at, replaced, seen_from, end_of}
 use Rattle.osi_machine.proofs.Vocabulary.{stays, noted, is_given, transport_of, asked_in, call_in, side_of, ended_worlds, shown_in_order}
 use Rattle.osi_machine.proofs.Vocabulary.{marked_ended, after_end, closes_by, after_taking, without_first, learns, taken_in, delivered_to}
-use Rattle.osi_machine.proofs.Vocabulary.{cut_channels, step, run, HasNumber, Line, Turn, Tables, Told}
+use Rattle.osi_machine.proofs.Vocabulary.{cut_channels, step, run, HasNumber, Line, Turn, Tables, Told, ◌≡◌, refl, sym, subst, ℕ, zero, suc}
+use Rattle.osi_machine.proofs.Vocabulary.{◌+◌, Bool, if◌then◌else◌, List, [], ◌∷◌, ◌++◌, map, Option, Some, None, is_some, inl, inr, arith}
+use Rattle.osi_machine.specs.Machine.{ends_there}
 use Rattle.osi_machine.proofs.basics.what_holds_in_each_phase.{by_test}
 use Rattle.osi_machine.proofs.invariant.each_step_keeps_one_side.{SessionLaws}
 use Rattle.osi_machine.proofs.whole.before_it_is_agreed_to.{caller_refuses, called_refuses}

@@ -1,18 +1,17 @@
 -- Every unit in flight can be written, and the numbers of each session are in order.
 -- For the law `what_is_under_way_can_be_sent`.
-use Rattle.std.proofs.Common.{◌≡◌, refl, sym, subst, ℕ, zero, suc, Bool, true, false, List, [], ◌∷◌, ◌++◌, take, Option, Some, None, Ok}
-use Rattle.std.proofs.Common.{Err, arith}
-use Rattle.osi_session.specs.Moves.{answered as answered_move, after_inputs}
-use Rattle.osi_session.specs.Runs.{HasNumbers}
-use Rattle.osi_session.specs.Sessions.{CanBeSent}
-use Rattle.osi_message.specs.Written.{user_data_of}
-use Rattle.osi_machine.specs.Tables.{asked_with, shortened, after_call, message_taken, closed, ended_at, without_first, turned}
 use Rattle.osi_machine.proofs.Vocabulary.{leb-true, or_parts, not-false, AllByRecursion, Input, called, taken, opened, refused}
 use Rattle.osi_machine.proofs.Vocabulary.{broken as broken_off, Standing, Move, react, Said, said_of, State, Meaning, Call, HasSerial}
 use Rattle.osi_machine.proofs.Vocabulary.{Granted, Answer, IsSound, IsSendable, allowed, respond, Offer, CanBeOffered, offer_sent, Message}
 use Rattle.osi_machine.proofs.Vocabulary.{unit, ask, agree, deny, bye, over, Transport, not_yet, waiting, linked, closing, gone, put}
 use Rattle.osi_machine.proofs.Vocabulary.{replied, Terms, accepts, denies, is_given, is_long, HasNumber, Line, Tables, in_transport, puts}
-use Rattle.osi_machine.proofs.Vocabulary.{made, ends_there, AreSendable, IsSoundLine, AreSoundLines, IsTableRun, cut_line}
+use Rattle.osi_machine.proofs.Vocabulary.{made, ends_there, AreSendable, IsSoundLine, AreSoundLines, IsTableRun, cut_line, ◌≡◌, refl, sym}
+use Rattle.osi_machine.proofs.Vocabulary.{subst, ℕ, zero, suc, Bool, true, false, List, [], ◌∷◌, ◌++◌, take, Option, Some, None, Ok, Err}
+use Rattle.osi_machine.proofs.Vocabulary.{arith, CanBeSent}
+use Rattle.osi_session.specs.Moves.{answered as answered_move, after_inputs}
+use Rattle.osi_session.specs.Runs.{HasNumbers}
+use Rattle.osi_message.specs.Written.{user_data_of}
+use Rattle.osi_machine.specs.Tables.{asked_with, shortened, after_call, message_taken, closed, ended_at, without_first, turned}
 use Rattle.osi_machine.proofs.basics.what_holds_in_each_phase.{by_test}
 use Rattle.osi_machine.proofs.tables.every_line_of_a_run.{all_know, Claim, IsKept}
 

@@ -259,12 +259,6 @@ asked_told b o = search arith
 
 -- ---- a message is taken
 
--- the first message that arrives at a side is no unit, or the side leaves and does not receive it
-popped : (b : Bool) (l : Line) (m : Message) (xs : List Message) (x y : Words) → l.peer.channel ≡ m ∷ xs
-    → (is_parting l.own.transport ≡ false → units_in xs ≡ units_in (m ∷ xs)) → Told b l x y
-    → Told b (without_first l xs) x y
-popped b l m xs x y e n h = grind (arith, same_units)
-
 -- the message is a unit, and is received
 heard_first : (b : Bool) (l : Line) (u : Meaning) (xs : List Message) (x y : Words) → l.peer.channel ≡ unit u ∷ xs
     → is_parting l.own.transport ≡ false → Told b l x y
@@ -310,7 +304,7 @@ message_told laws b terms keep waiting l (deny reason) xs x y t e h =
       channel = put b (replied (react l.own.session (refused reason)).reply) l.own.channel;
     }) x y refl refl d.0
     (nothing_replied b (react l.own.session (refused reason)).reply l.own.channel d.1)
-    (popped b l (deny reason) xs x y e (λ k. refl) h))
+    (grind (arith, same_units)))
 message_told laws b terms keep linked l (unit u) xs x y t e h =
     says_told b (without_first l xs) (react l.own.session (taken (said_of u))).next (react l.own.session (taken (said_of u))).reply
     (hears_more x (u ∷ [])) y (ap is_parting t)
@@ -321,16 +315,16 @@ message_told laws b terms keep linked l (bye reason) xs x y t e h =
     (cuts_told b (without_first l xs) (message_taken b terms keep linked (without_first l xs) (bye reason)).line.own keep x y refl refl
     (ended_over (react l.own.session broken_off).next.state.phase (laws.lost l.own.session))
     (grind (arith, put_no_units, react, nothing_replied, lost_none))
-    (popped b l (bye reason) xs x y e (λ k. refl) h))
+    (grind (arith, same_units)))
 message_told laws b terms keep closing l (bye reason) xs x y t e h =
-    no_words b _ x y (grind (arith, goes_told, popped))
+    no_words b _ x y (grind (arith, goes_told))
 message_told laws b terms keep closing l over xs x y t e h =
-    no_words b _ x y (grind (arith, goes_told, popped))
+    no_words b _ x y (grind (arith, goes_told))
 message_told laws b terms keep gone l (bye reason) xs x y t e h =
     no_words b _ x y
-    (grind (arith, goes_told, put_no_units, popped))
+    (grind (arith, goes_told, put_no_units))
 message_told laws b terms keep closing l (unit u) xs x y t e h =
-    no_words b _ x y (popped b l (unit u) xs x y e (λ k. absurd (let n = sym (ap is_parting t) ∙ k in cc)) h)
+    no_words b _ x y (grind (arith, same_units))
 message_told laws b terms keep gone l (unit u) xs x y t e h =
-    no_words b _ x y (popped b l (unit u) xs x y e (λ k. absurd (let n = sym (ap is_parting t) ∙ k in cc)) h)
-message_told laws b terms keep tr l m xs x y t e h = no_words b _ x y (popped b l m xs x y e (λ k. refl) h)
+    no_words b _ x y (grind (arith, same_units))
+message_told laws b terms keep tr l m xs x y t e h = no_words b _ x y (grind (arith, same_units))

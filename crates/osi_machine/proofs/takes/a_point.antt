@@ -1,10 +1,9 @@
 -- Taking a synchronization point keeps the invariant of both sides.
 -- For each_step_keeps_both_sides.
-use Rattle.std.proofs.Common.{◌≡◌, refl, sym, ◌∙◌, ap, subst, ℕ, ◌+◌, ◌≤◌, ◌<◌, Bool, true, false, not, nat_lt, if◌then◌else◌, List, ◌∷◌}
-use Rattle.std.proofs.Common.{◌⊎◌, arith}
 use Rattle.osi_machine.proofs.Vocabulary.{ltb-true, ltb-false, false_from_ne_true, list_any, State, Numbers, FunctionalUnits, Meaning, MIP}
 use Rattle.osi_machine.proofs.Vocabulary.{MAP, data_token, lower, MajorDue, is_ready, is_restarting, is_restart_due, point_taken, drops}
-use Rattle.osi_machine.proofs.Vocabulary.{next, flush, stops, heard, hears, needs_token, Core, is_opening}
+use Rattle.osi_machine.proofs.Vocabulary.{next, flush, stops, heard, hears, needs_token, Core, is_opening, ◌≡◌, refl, sym, ◌∙◌, ap, subst}
+use Rattle.osi_machine.proofs.Vocabulary.{ℕ, ◌+◌, ◌≤◌, ◌<◌, Bool, true, false, not, nat_lt, if◌then◌else◌, List, ◌∷◌, ◌⊎◌, arith}
 use Rattle.osi_machine.proofs.basics.what_holds_in_each_phase.{excluded}
 use Rattle.osi_machine.proofs.channels.a_unit_is_dropped_bad_or_acted_on.{next_hears}
 use Rattle.osi_machine.proofs.channels.what_every_unit_in_flight_keeps.{heard_flush, kept_heard, lower_second, heard_turned, heard_sends}

@@ -4,10 +4,11 @@ use Rattle.std.proofs.Common.{◌≡◌, refl, sym, ◌∙◌, ap, subst, ℕ, �
 use Rattle.osi_machine.proofs.Vocabulary.{and_parts, and_from, TokenSetting, ResyncType, State, RestartDue, Meaning, RS, is_restarting}
 use Rattle.osi_machine.proofs.Vocabulary.{without_tokens, restarted_at, stands, next, Item, upto, cutat, Owner, turned_owner, turned_owners}
 use Rattle.osi_machine.proofs.Vocabulary.{is_own, all_to_pool, pooled, Fits, flush, heard, view_next, Party, Core, taking, AreConsistent}
+use Rattle.osi_machine.proofs.Vocabulary.{ltb-false, ltb-true}
 use Rattle.osi_machine.proofs.basics.what_holds_in_each_phase.{excluded, implied_two, if_second}
 use Rattle.osi_machine.proofs.basics.what_a_restart_leaves_of_a_history.{upto_twice, numbered_cut}
 use Rattle.osi_machine.proofs.channels.a_unit_is_dropped_bad_or_acted_on.{none_due, restart_due}
-use Rattle.osi_machine.proofs.channels.what_every_unit_in_flight_keeps.{lower_second, lower_both, lower_first}
+use Rattle.osi_machine.proofs.channels.what_every_unit_in_flight_keeps.{lower_second, lower_both}
 use Rattle.osi_machine.proofs.channels.a_deaf_side_acts_on_nothing.{AllEmpty, all_empty, empty_fits, empty_end, empty_heard, empty_view}
 use Rattle.osi_machine.proofs.channels.a_deaf_side_acts_on_nothing.{restart_kept, restart_next, stood, deaf_end, deaf_heard, not_both}
 use Rattle.osi_machine.proofs.channels.a_deaf_side_acts_on_nothing.{yielded}
@@ -131,7 +132,7 @@ module _ (w : Core) (k : ResyncType) (n : ℕ) (t : TokenSetting) (o : List ℕ)
       (sym (empty_heard (answering w.own.session n t) us (none_behind w k n t o us c))) (record {
         flag = old.flag;
         below = λ l. absurd (not_both _ l (heard_asking w k n t o us c));
-        reach = λ f. search (arith, lower_first, lower_second, lower_second n w.own.session.numbers.confirmed, old.reach f);
+        reach = λ f. search (arith, ltb-true, ltb-false, lower_second, lower_second n w.own.session.numbers.confirmed, old.reach f);
       })
 
   giver_counts : Counts (rest_of w.peer us) (taker w n t)

@@ -1,11 +1,10 @@
 -- Taking data, a request for tokens, or what is discarded keeps the invariant of both sides.
 -- For each_step_keeps_both_sides.
-use Rattle.std.proofs.Common.{◌≡◌, refl, sym, ◌∙◌, ap, subst, ℕ, Bool, true, false, not, ◌&&◌, ◌||◌, if◌then◌else◌, List, [], ◌∷◌, ◌++◌}
-use Rattle.std.proofs.Common.{append_assoc, arith}
 use Rattle.osi_machine.proofs.Vocabulary.{append-nil, State, FunctionalUnits, Meaning, DT, PT, Tokens, is_empty, takes_data, is_restarting}
 use Rattle.osi_machine.proofs.Vocabulary.{is_restart_due, drops, next, Item, Owners, turned_owners, is_acted_on, cut_by, owners_after}
 use Rattle.osi_machine.proofs.Vocabulary.{AllFit, flush, stops, heard, hears, data_in, data_of, Party, Core, taking, is_opening}
-use Rattle.osi_machine.proofs.Vocabulary.{IsConsistent, AreConsistent}
+use Rattle.osi_machine.proofs.Vocabulary.{IsConsistent, AreConsistent, ◌≡◌, refl, sym, ◌∙◌, ap, subst, ℕ, Bool, true, false, not, ◌&&◌}
+use Rattle.osi_machine.proofs.Vocabulary.{◌||◌, if◌then◌else◌, List, [], ◌∷◌, ◌++◌, append_assoc, arith}
 use Rattle.osi_machine.proofs.basics.what_holds_in_each_phase.{excluded, if_first, by_test}
 use Rattle.osi_machine.proofs.channels.a_unit_is_dropped_bad_or_acted_on.{restart_acted, next_acted, next_dropped, next_hears}
 use Rattle.osi_machine.proofs.channels.what_every_unit_in_flight_keeps.{kept_heard, due_end}
@@ -24,8 +23,6 @@ rest_of y us = record { session = y.session; view = y.view; said = y.said; got =
 
 heard_rest : (s : State) (u : Meaning) (us : List Meaning) → stops s u ≡ false → heard s (u ∷ us) ≡ heard (next s u) us
 heard_rest s u us e = ap (λ (b : Bool). if b then s else heard (next s u) us) e
-
--- ---- both at once
 
 -- ---- a unit that is discarded
 

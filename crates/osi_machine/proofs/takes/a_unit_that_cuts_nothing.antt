@@ -1,12 +1,11 @@
 -- Taking a unit that cuts nothing off: the conditions, and releases and confirmations, which meet them.
 -- For the units that move their taker's state, and each_step_keeps_both_sides.
-use Rattle.std.proofs.Common.{◌≡◌, refl, sym, ◌∙◌, ap, subst, ℕ, ◌≤◌, ◌<◌, Bool, true, false, not, if◌then◌else◌, List, [], ◌∷◌, ◌++◌}
-use Rattle.std.proofs.Common.{arith, ◌&&◌, ◌⊎◌, inl, inr}
 use Rattle.osi_machine.proofs.Vocabulary.{append-nil, State, Meaning, lower, is_restarting, is_restart_due, is_release_due, is_releasing}
 use Rattle.osi_machine.proofs.Vocabulary.{drops, next, Item, cutat, AreNumberedFrom, Owners, turned_owners, is_acted_on, seen, got_in}
 use Rattle.osi_machine.proofs.Vocabulary.{cut_by, owners_after, AllFit, flush, stops, heard, hears, view_next, data_in, data_of, Party}
 use Rattle.osi_machine.proofs.Vocabulary.{Core, taking, AreConsistent, both_ways, and_from, FN, NF, MIA, MAA, minor_confirmed}
-use Rattle.osi_machine.proofs.Vocabulary.{major_confirmed, Ready, ReleaseDue, becomes}
+use Rattle.osi_machine.proofs.Vocabulary.{major_confirmed, Ready, ReleaseDue, becomes, ◌≡◌, refl, sym, ◌∙◌, ap, subst, ℕ, ◌≤◌, ◌<◌, Bool}
+use Rattle.osi_machine.proofs.Vocabulary.{true, false, not, if◌then◌else◌, List, [], ◌∷◌, ◌++◌, arith, ◌&&◌, ◌⊎◌, inl, inr}
 use Rattle.osi_machine.proofs.basics.what_holds_in_each_phase.{if_second, if_first, excluded, implied_two}
 use Rattle.osi_machine.proofs.channels.a_unit_is_dropped_bad_or_acted_on.{next_hears, next_acted}
 use Rattle.osi_machine.proofs.channels.what_every_unit_in_flight_keeps.{kept_heard, due_end, heard_flush}

@@ -1,13 +1,12 @@
 -- Taking tokens, a CN, an AC or the answer to a restart keeps the invariant of both sides.
 -- For each_step_keeps_both_sides.
-use Rattle.std.proofs.Common.{◌≡◌, ℕ, ◌≤◌, ◌<◌, true, false, List, [], ◌∷◌, arith, refl, sym, ◌∙◌, ap, Bool, not, if◌then◌else◌, Option}
-use Rattle.std.proofs.Common.{unwrap_or}
 use Rattle.osi_machine.proofs.Vocabulary.{and_parts, or_right, State, Meaning, GT, Tokens, Token, has, available, united, lower, may_hold}
 use Rattle.osi_machine.proofs.Vocabulary.{is_release_due, is_releasing, drops, next, Owner, Own, ToOwn, turned_owners, is_to_own, passed_to}
 use Rattle.osi_machine.proofs.Vocabulary.{seen, got_in, cut_by, owners_after, AllFit, flush, stops, heard, hears, data_in, Core, taking}
 use Rattle.osi_machine.proofs.Vocabulary.{TokenSetting, TsduMaximumSize, FunctionalUnits, Answering, Ended, CN, AC, RA, no_token}
 use Rattle.osi_machine.proofs.Vocabulary.{both_units, functional_units, stated, of_asker, is_connecting, is_over, is_acceptable}
-use Rattle.osi_machine.proofs.Vocabulary.{without_tokens, becomes}
+use Rattle.osi_machine.proofs.Vocabulary.{without_tokens, becomes, ◌≡◌, ℕ, ◌≤◌, ◌<◌, true, false, List, [], ◌∷◌, arith, refl, sym, ◌∙◌, ap}
+use Rattle.osi_machine.proofs.Vocabulary.{Bool, not, if◌then◌else◌, Option, unwrap_or}
 use Rattle.osi_machine.proofs.basics.what_holds_in_each_phase.{implied, excluded, if_second, implied_two, by_test}
 use Rattle.osi_machine.proofs.channels.a_unit_is_dropped_bad_or_acted_on.{next_acted, fit_acts}
 use Rattle.osi_machine.proofs.channels.a_deaf_side_acts_on_nothing.{not_both}

@@ -1,11 +1,10 @@
 -- A call on a whole connection, and on the core that simulates it.
 -- For every_step_is_simulated.
-use Rattle.std.proofs.Common.{◌≡◌, refl, sym, ap, ℕ, Bool, true, false, ◌||◌, if◌then◌else◌, List, [], ◌∷◌, ◌++◌, append_assoc, map, length}
-use Rattle.std.proofs.Common.{Ok, arith}
 use Rattle.osi_machine.proofs.Vocabulary.{append-nil, length-append, map-append, list_any, Passed, State, Meaning, Token, is_over, Call}
 use Rattle.osi_machine.proofs.Vocabulary.{Granted, allowed, after, sends, may_call, Item, Owner, Owners, is_own, turned_owner, given_up}
 use Rattle.osi_machine.proofs.Vocabulary.{own_to_pool, left_by, Core, stays_in_core, says, view_called, owners_called, answered, Message}
-use Rattle.osi_machine.proofs.Vocabulary.{unit, World, put, mark_called, after_call}
+use Rattle.osi_machine.proofs.Vocabulary.{unit, World, put, mark_called, after_call, ◌≡◌, refl, sym, ap, ℕ, Bool, true, false, ◌||◌}
+use Rattle.osi_machine.proofs.Vocabulary.{if◌then◌else◌, List, [], ◌∷◌, ◌++◌, append_assoc, map, length, Ok, arith}
 use Rattle.osi_machine.proofs.basics.what_holds_in_each_phase.{by_either, by_test}
 use Rattle.osi_machine.proofs.invariant.what_holds_of_both_sides.{Stands}
 use Rattle.osi_machine.proofs.invariant.each_step_keeps_one_side.{SessionLaws, granted}

@@ -1,13 +1,12 @@
 -- At every step of a connection that was agreed to, a core simulates it, and records tell what they told.
 -- For every_stage_of_a_connection.
-use Rattle.std.proofs.Common.{◌≡◌, refl, sym, ◌∙◌, ap, subst, Bool, true, false, if◌then◌else◌, List, [], ◌∷◌, inl, inr, Ok, Err, arith, ℕ}
-use Rattle.std.proofs.Common.{take}
-use Rattle.osi_session.specs.Respond.{shown_for}
 use Rattle.osi_machine.proofs.Vocabulary.{State, Meaning, Call, Answer, HasSerial, Outcome, allowed, is_over, respond_unit, drops, is_plain}
 use Rattle.osi_machine.proofs.Vocabulary.{Core, stays_in_core, Message, unit, World, session_of, after_call, after_answer, after_unit}
 use Rattle.osi_machine.proofs.Vocabulary.{Taking, unit_taken, without_first, Told, told_call, shows_loss, lost, ask, agree, deny, bye, over}
 use Rattle.osi_machine.proofs.Vocabulary.{Transport, not_yet, waiting, linked, closing, gone, moved, moves, put, shortened, unchanged}
-use Rattle.osi_machine.proofs.Vocabulary.{Terms, message_taken, closed, ended_at, shown_at_end}
+use Rattle.osi_machine.proofs.Vocabulary.{Terms, message_taken, closed, ended_at, shown_at_end, ◌≡◌, refl, sym, ◌∙◌, ap, subst, Bool, true}
+use Rattle.osi_machine.proofs.Vocabulary.{false, if◌then◌else◌, List, [], ◌∷◌, inl, inr, Ok, Err, arith, ℕ, take}
+use Rattle.osi_session.specs.Respond.{shown_for}
 use Rattle.osi_machine.proofs.basics.what_holds_in_each_phase.{by_test}
 use Rattle.osi_machine.proofs.channels.a_unit_is_dropped_bad_or_acted_on.{no_fault}
 use Rattle.osi_machine.proofs.invariant.what_holds_of_both_sides.{Stands}

@@ -1,12 +1,11 @@
 -- A call is answered as the machine answers it.
 -- For calls.
 use Rattle.osi_session.specs.declared.faults.CallError.TheVariants as error
-use Rattle.osi_pair.proofs.Vocabulary.{◌≡◌, refl, sym, ◌∙◌, ap, ℕ, zero, suc, ◌<◌, ◌≤◌, ◌&&◌, Bool, true, false, nat_le, if◌then◌else◌}
-use Rattle.osi_pair.proofs.Vocabulary.{length, Option, Some, None, arith, lt-ltb, le-leb, leb-true, leb-false, was_given, value_at}
-use Rattle.osi_pair.proofs.Vocabulary.{Connection, State as Carrier, Between, connection_at, is_given, Seat, Line, Tables, side_of, allowed}
-use Rattle.osi_pair.proofs.Vocabulary.{Call, HasSerial, Standing, called, react, is_ended, CallError, has_given, call_error, table_error}
-use Rattle.osi_pair.proofs.Vocabulary.{AllCameAbout, Soundness, End, Holding, session_at, TwoEnds, end_at, side_in, transport_in, IsSeated}
-use Rattle.osi_pair.proofs.Vocabulary.{Stands, Side}
+use Rattle.osi_pair.proofs.Vocabulary.{◌≡◌, refl, sym, ◌∙◌, ℕ, zero, suc, ◌<◌, Bool, true, false, nat_le, if◌then◌else◌, length, Option}
+use Rattle.osi_pair.proofs.Vocabulary.{Some, None, arith, lt-ltb, le-leb, leb-true, leb-false, was_given, value_at, Connection, Between}
+use Rattle.osi_pair.proofs.Vocabulary.{connection_at, is_given, Seat, Line, Tables, side_of, allowed, Call, HasSerial, Standing, called}
+use Rattle.osi_pair.proofs.Vocabulary.{react, is_ended, CallError, call_error, table_error, AllCameAbout, Soundness, End, Holding}
+use Rattle.osi_pair.proofs.Vocabulary.{session_at, TwoEnds, end_at, side_in, transport_in, IsSeated, Stands, Side}
 use Rattle.osi_pair.proofs.turn.what_an_acting_end_leaves_in_flight.{of_end, there, NoneBeyond, place_given}
 use Rattle.osi_pair.proofs.session.an_end_moves_as_the_tables_do.{calls_so}
 use Rattle.osi_pair.proofs.turn.a_turn_keeps_the_match.{seen}
@@ -27,12 +26,6 @@ ended_refuses s call e = grind arith
 
 -- ---- a reference
 
-was_there : (r : ℕ) (c : Carrier) → 0 < r → r ≤ c.given → has_given r c ≡ true
-was_there r c some h = ap (λ (b : Bool). b && nat_le r c.given) (lt-ltb 0 r some) ∙ le-leb r c.given h
-
-pub no_such : (r : ℕ) (call : Call) (e : End) → e.carrier.given < r → table_error r call e ≡ Some error.NoSuchConnection
-no_such r call e h = grind arith
-
 pub session_gone : (r : ℕ) (e : End) → value_at r e.carrier.live ≡ None → session_at r e ≡ None
 session_gone r e h = grind arith
 
@@ -41,8 +34,8 @@ live_given x = grind arith
 
 seat_at : (r : ℕ) (h : Holding) (seat : Seat) (call : Call) (given : Bool) → 0 < r → nat_le r h.end.carrier.given ≡ given →
     IsSeated r h seat → table_error r call h.end ≡ seat_error seat call
-seat_at r h seat call true some e s = grind (arith, place_given, was_there, session_gone, ended_refuses, react, live_given, calls_so)
-seat_at r h seat call false some e s = search (arith, leb-false, no_such)
+seat_at r h seat call true some e s = search (arith, place_given, lt-ltb, le-leb, session_gone, ended_refuses, react, live_given, calls_so)
+seat_at r h seat call false some e s = search (arith, leb-false)
 
 -- ---- at two ends that match the tables
 
@@ -54,7 +47,7 @@ none_there (suc k) side p b t call s at = by_fit (nat_le (suc k) (length t.lines
     by_fit : (fits : Bool) → nat_le (suc k) (length t.lines) ≡ fits →
         table_error (suc k) call (end_at side p).end ≡ Some error.NoSuchConnection
     by_fit true e = let h = s.lines (suc k) (omega arith) (leb-true (suc k) (length t.lines) e) in let no = sym at ∙ h.found in absurd cc
-    by_fit false e = let above = leb-false (suc k) (length t.lines) e in grind (arith, of_end, no_such)
+    by_fit false e = let above = leb-false (suc k) (length t.lines) e in grind (arith, of_end)
 
 table_at : NoneBeyond → (r : ℕ) (side : Side) (p : TwoEnds) (b : Between) (t : Tables) (call : Call) (o : Option Line) → Stands p b t →
     connection_at r t.lines ≡ o → table_error r call (end_at side p).end ≡ line_error (side_of (side_in side) o) call

@@ -13,15 +13,15 @@ use Rattle.osi_pair.proofs.Vocabulary.{◌≡◌, ◌≢◌, refl, sym, ◌∙�
 use Rattle.osi_pair.proofs.Vocabulary.{◌∷◌, ◌++◌, length, map, Option, Some, None, is_some, IsSome, Ok, arith, append-nil, AllByRecursion}
 use Rattle.osi_pair.proofs.Vocabulary.{slice_get, IsOctets, IsShortTsdu, open_link, sent, sent_all, was_given, place_at, RiseFrom, Rows}
 use Rattle.osi_pair.proofs.Vocabulary.{value_at, Connection, linked, State as Carrier, EndReason, put_here, put_other, Both, Between}
-use Rattle.osi_pair.proofs.Vocabulary.{AreBetween, Acted, Carries, becomes, last_of, progress_of, Progress, in_use, leaves_use, Terms}
-use Rattle.osi_pair.proofs.Vocabulary.{terms_of, IsTableRun, AreSoundLines, connection_at, with_connection, call_answered, replaced, Seat}
-use Rattle.osi_pair.proofs.Vocabulary.{Line, Tables, seen_from, side_of, stays, call_in, step, Message, unit, replied, IsInOctets, Meaning}
-use Rattle.osi_pair.proofs.Vocabulary.{IsSendable, words_sent, tsdus_of, allowed, octets_of, Passed, Call, HasSerial, Listener, called}
-use Rattle.osi_pair.proofs.Vocabulary.{react, Shown, limit_of, CallError, call_error, AllCameAbout, IsSound, Says, kept_at}
-use Rattle.osi_pair.proofs.Vocabulary.{line_by as line_then, to_session, End, Holding, session_in, session_at, IsAttended, puts_words}
-use Rattle.osi_pair.proofs.Vocabulary.{TwoEnds, end_at, with_end, noted, called_by_error, side_in, is_caller, carriers_of, transport_in}
-use Rattle.osi_pair.proofs.Vocabulary.{is_parting, IsSeated, IsInOrder, Stands, HasJoined, joining, word_in, waiting_in, Word, Side, Left}
-use Rattle.osi_pair.proofs.Vocabulary.{Right, called_calm, Link, put_row as put, SessionStep as Step, IsSoundState, SessionState as State}
+use Rattle.osi_pair.proofs.Vocabulary.{AreBetween, Acted, Carries, becomes, last_of, progress_of, in_use, Terms, terms_of, IsTableRun}
+use Rattle.osi_pair.proofs.Vocabulary.{AreSoundLines, connection_at, with_connection, call_answered, replaced, Seat, Line, Tables}
+use Rattle.osi_pair.proofs.Vocabulary.{seen_from, side_of, stays, call_in, step, Message, unit, replied, IsInOctets, Meaning, IsSendable}
+use Rattle.osi_pair.proofs.Vocabulary.{words_sent, tsdus_of, allowed, octets_of, Passed, Call, HasSerial, Listener, called, react, Shown}
+use Rattle.osi_pair.proofs.Vocabulary.{limit_of, CallError, call_error, AllCameAbout, IsSound, Says, kept_at, to_session, End, Holding}
+use Rattle.osi_pair.proofs.Vocabulary.{session_in, session_at, IsAttended, puts_words, TwoEnds, end_at, with_end, noted, called_by_error}
+use Rattle.osi_pair.proofs.Vocabulary.{side_in, is_caller, carriers_of, transport_in, is_parting, IsSeated, Stands, HasJoined, joining}
+use Rattle.osi_pair.proofs.Vocabulary.{word_in, waiting_in, Word, Side, Left, Right, called_calm, Link, put_row as put, SessionStep as Step}
+use Rattle.osi_pair.proofs.Vocabulary.{IsSoundState, SessionState as State}
 use Rattle.osi_pair.proofs.turn.what_an_acting_end_leaves_in_flight.{out_way, back_way, place_given, OfEnd, of_end, NoneBeyond, more_said}
 use Rattle.osi_pair.proofs.turn.what_an_acting_end_leaves_in_flight.{StandsOn}
 use Rattle.osi_pair.proofs.call.a_call_is_answered_as_by_the_machine.{line_error, Answered}
@@ -125,10 +125,6 @@ pub sent_is : (r : ℕ) (tsdu : List ℕ) (c : Carrier) (peer : ℕ) (link : Lin
     SentOn r c (sent r tsdu c)
 sent_is r tsdu c peer link is = grind arith
 
-pub open_is : (n : ℕ) (c : Carrier) (peer : ℕ) (link : Link) → c.ended ≡ None → value_at n c.live ≡ Some (linked peer link) →
-    open_link n c ≡ Some (peer, link)
-open_is n c peer link alive at = grind arith
-
 -- TSDUs that are sent together leave it so
 pub record StaysOpen (r : ℕ) (c new : Carrier) : Type 0 where
   pub is_caller : new.is_caller ≡ c.is_caller
@@ -145,7 +141,7 @@ all_sent : (r : ℕ) (tsdus : List (List ℕ)) (c : Carrier) (peer : ℕ) (link 
     value_at r c.live ≡ Some (linked peer link) → StaysOpen r c (sent_all r tsdus c)
 all_sent r [] c peer link lasts at = grind arith
 all_sent r (tsdu ∷ tsdus) c peer link lasts at =
-    let k = sent_is r tsdu c peer link (open_is r c peer link lasts at) in
+    let k = sent_is r tsdu c peer link (grind arith) in
     grind (
       arith,
       put_here,
@@ -191,7 +187,6 @@ called_is laws r call h none =
     let waits = ap (λ (x : Listener). x.waiting) g.next in
     let kept = subst (StaysOpen r h.end.carrier) (sym is)
     (all_sent r (tsdus_of limit g.step.sent) h.end.carrier open_now.peer open_now.link open_now.lasts open_now.at) in
-    let line_now = line_then s.acts.line (Some session) (words.called call) in
     let waiting_now = ap (λ (l : List Shown). s.acts.line.waiting ++ l) g.shown ∙ append-nil s.acts.line.waiting in
     search
 
@@ -300,9 +295,6 @@ progress_now : (side : Side) (r : ℕ) (call : Call) (p : TwoEnds) (b : Between)
     progress_of (place_at r (last_of (is_caller side) a.now)) ≡ in_use
 progress_now side r call p b c a within = search (arith, lasts_now r call (end_at side p) c, place_now r call (end_at side p) c within)
 
-none_gone : (g h : Progress) (gone : List carrier.Message) → g ≡ in_use → h ≡ in_use → (leaves_use g h ≡ false → gone ≡ []) → gone ≡ []
-none_gone g h gone a b keeps = keeps (ap (λ (x : Progress). leaves_use x h) a ∙ ap (λ (x : Progress). leaves_use in_use x) b)
-
 -- what has begun is joined after the call as it was before
 keeps_joined : (r : ℕ) (call : Call) (h : Holding) (c : Called r call h) (begun : Option (List ℕ)) → HasJoined r h begun →
     HasJoined r (now_of r call h) begun
@@ -323,7 +315,7 @@ line_acts side r call p b t x c a serial o broken within h =
       there = subst (λ (y : Holding). IsSeated r y x.peer) (sym (grind arith)) h.there;
       out = out_way (terms_now p) side r p (new_of side r call p) b a.now (sent_words r call (end_at side p) c)
           (unit c.granted.sent ∷ []) x.own.channel t.broken (after_call t.broken call x).own x.peer a.are a.carries broken
-          (none_gone _ _ a.carries.gone before after a.carries.keeps) (grind arith) c.opened.lasts
+          (grind arith) (grind arith) c.opened.lasts
           (grind arith) h.out
           (ap (λ (y : Option Meaning). worlds.put t.broken (replied y) x.own.channel) sends);
       back = back_way (terms_now p) side r p (new_of side r call p) b a.now (map word_in (sent_words r call (end_at side p) c)) x.peer x.own
@@ -348,7 +340,3 @@ quiet_put r x y ((q, z) ∷ lines) same at = grind (arith, quiet_put r x y lines
 pub quiet_now : (r : ℕ) (call : Call) (h : Holding) → Called r call h → waiting_in h.end.lines ≡ [] →
     waiting_in (now_of r call h).end.lines ≡ []
 quiet_now r call h c quiet = ap waiting_in c.lines ∙ quiet_put r c.line c.line_now h.end.lines c.waiting_now c.found ∙ quiet
-
-pub order_now : CallLaws → (r : ℕ) (call : Call) (h : Holding) → HasSerial call → IsInOrder h.end →
-    (now_of r call h).end.carrier.ended ≡ None → IsInOrder (now_of r call h).end
-order_now laws r call h serial o lasts = grind arith

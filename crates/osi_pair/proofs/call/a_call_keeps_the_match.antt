@@ -15,8 +15,7 @@ use Rattle.osi_pair.proofs.Vocabulary.{append-nil}
 use Rattle.osi_pair.proofs.turn.what_an_acting_end_leaves_in_flight.{There, there, more_said, StandsOn, begun_with, one_step, of_end}
 use Rattle.osi_pair.proofs.call.a_call_is_answered_as_by_the_machine.{line_error, answer_same}
 use Rattle.osi_pair.proofs.call.a_call_is_the_machines.{CallLaws, refused_stands, after_by, now_of, new_of, tables_now, Called, called_is}
-use Rattle.osi_pair.proofs.call.a_call_is_the_machines.{seat_session, sent_words, MayAct, acted_at, lasts_now, quiet_now, order_now}
-use Rattle.osi_pair.proofs.call.a_call_is_the_machines.{line_acts}
+use Rattle.osi_pair.proofs.call.a_call_is_the_machines.{seat_session, sent_words, MayAct, acted_at, lasts_now, quiet_now, line_acts}
 use Rattle.osi_pair.proofs.words.added_and_cut_words_are_messages.{AreWords}
 use Rattle.osi_pair.proofs.words.a_message_leaves_in_its_words.{IsBounded, words_of_message}
 use Rattle.osi_pair.proofs.turn.an_open_connection_acts.{turned_by}
@@ -41,7 +40,7 @@ stand_at laws side r call p b t l c a serial s at th within =
     (at ∙ ap Some (sym (seen_twice (side_in side) l)))
     (line_acts side r call p b t x c a serial o s.broken within (seen side r p b l th.is))
     (grind (arith, put_other, if◌then◌else◌, nat_lt, still_there))
-    (still_there side b a.now a.carries.there) (order_now laws r call h serial (o.order c.opened.lasts) lasts)
+    (still_there side b a.now a.carries.there) (grind arith)
     (quiet_now r call h c o.quiet)))
 
 -- ---- the step of the tables

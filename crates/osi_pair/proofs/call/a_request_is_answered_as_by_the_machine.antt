@@ -7,10 +7,10 @@ use Rattle.osi_pair.proofs.Vocabulary.{nat_lt, if◌then◌else◌, List, [], �
 use Rattle.osi_pair.proofs.Vocabulary.{eqb-true, nat_tests, length-map, list_any, slice_get, Class, Zero, Two, or_else, was_given, RiseFrom}
 use Rattle.osi_pair.proofs.Vocabulary.{AreUpTo, Rows, value_at, Connection, asked, State as Carrier, EndReason, OpenError, absent, Both}
 use Rattle.osi_pair.proofs.Vocabulary.{Between, AreBetween, Terms, terms_of, Refusal, has_ended, negotiating, one_connection, too_many}
-use Rattle.osi_pair.proofs.Vocabulary.{references_used_up, not_selected, too_long, is_waiting, is_live, is_known, is_class_0, live_count}
-use Rattle.osi_pair.proofs.Vocabulary.{Line, Tables, refusal, transport_of, Transport, unit_bits, is_profile, is_long, after_open}
-use Rattle.osi_pair.proofs.Vocabulary.{connect_error, ConnectError, NotSelected, TooLong, asked_of, TwoEnds, answer_with, transport_in}
-use Rattle.osi_pair.proofs.Vocabulary.{class_in, offer_in, answer_in, carriers_of, Stands, ConnectCall as Connect}
+use Rattle.osi_pair.proofs.Vocabulary.{references_used_up, not_selected, too_long, is_waiting, is_known, is_class_0, live_count, Line}
+use Rattle.osi_pair.proofs.Vocabulary.{Tables, refusal, transport_of, Transport, unit_bits, is_profile, is_long, after_open, connect_error}
+use Rattle.osi_pair.proofs.Vocabulary.{ConnectError, NotSelected, TooLong, asked_of, TwoEnds, answer_with, transport_in, class_in, offer_in}
+use Rattle.osi_pair.proofs.Vocabulary.{answer_in, carriers_of, Stands, ConnectCall as Connect}
 use Rattle.osi_pair.proofs.turn.what_an_acting_end_leaves_in_flight.{place_given}
 
 -- ---- the live connections are those of the lines
@@ -40,15 +40,12 @@ unfolding transports
 skip k zero q x live le = refl
 skip k (suc m) q x live le = grind (arith, nat_tests, transports, skip (k + 1) m q x live (omega arith))
 
-live_is : (x : Connection) → is_live (transport_in (was_given (Some x))) ≡ true
-live_is x = grind arith
-
 count_by : (k m q : ℕ) (x : Connection) (live : Rows Connection) (b : Bool) → (q == k + 1) ≡ b → RiseFrom k ((q, x) ∷ live) →
     AreUpTo (k + suc m) ((q, x) ∷ live) →
     ((rows : Rows Connection) → RiseFrom (k + 1) rows → AreUpTo (k + 1 + m) rows → live_count (transports (k + 1) m rows) ≡ length rows) →
     live_count (transports k (suc m) ((q, x) ∷ live)) ≡ length ((q, x) ∷ live)
 unfolding transports
-count_by k m q x live b e rise up more = grind (arith, eqb-true, transports, live_is, skip, nat_tests, absent)
+count_by k m q x live b e rise up more = grind (arith, eqb-true, transports, skip, nat_tests, absent)
 
 count_live : (k m : ℕ) (live : Rows Connection) → RiseFrom k live → AreUpTo (k + m) live → live_count (transports k m live) ≡ length live
 unfolding transports
@@ -109,8 +106,6 @@ error_by_tests class over waits many up profile long =
     (if many then Some opening.TooMany else (if up then Some opening.ReferencesUsedUp else None)))
     (if not profile then Some NotSelected else (if long then Some TooLong else None))
 
--- ---- what each makes of them
-
 -- ---- at two ends that match the tables
 
 -- before a class is agreed, each that is live awaits its answer
@@ -154,7 +149,6 @@ alive_by g c p b t class waits s is lasts any same count =
     let over : is_some t.left_end ≡ is_some e.ended = grind arith in
     let up : nat_le 65535 (length (map transport_of t.lines)) ≡ nat_le 65535 e.given =
     ap (nat_le 65535) (length-map t.lines transport_of ∙ s.given) in
-    let known : t.known ≡ option_map class_in class = s.known ∙ ap (option_map class_in) is in
     ap (λ (o : Option ConnectError). answer_in (answer_with g o)) (grind (arith, s.caller))
     ∙ tests g class (is_some e.ended) (nat_lt 0 (length e.live)) waits (nat_le 64 (length e.live)) (nat_le 65535 e.given)
     (is_profile (unit_bits c.requirements)) (is_long c) same

@@ -8,22 +8,21 @@ use Rattle.osi_stack.specs.State as stack
 use Rattle.osi_pair.proofs.Vocabulary.{◌≡◌, ◌≢◌, refl, sym, ◌∙◌, ap, subst, ℕ, suc, ◌+◌, ◌<◌, ◌≤◌, ◌==◌, Bool, true, false, if◌then◌else◌}
 use Rattle.osi_pair.proofs.Vocabulary.{List, [], ◌∷◌, ◌++◌, length, length-append, map, Option, Some, None, option_map, Ok, Err, arith}
 use Rattle.osi_pair.proofs.Vocabulary.{nat_le, eqb-true, eq-eqb, leb-true, leb-false, nat_tests, tsap_octets, may_connect, was_given}
-use Rattle.osi_pair.proofs.Vocabulary.{place_at, RiseFrom, Rows, value_at, Connection, asked, State as Carrier, EndReason, push_here}
-use Rattle.osi_pair.proofs.Vocabulary.{absent, beyond, push_other, free_of, Both, Between, AreBetween, Acted, becomes, under_way, is_cut}
-use Rattle.osi_pair.proofs.Vocabulary.{progress_of, IsTsap, Progress, awaiting, Terms, terms_of, Offer, Step, connects as connecting}
-use Rattle.osi_pair.proofs.Vocabulary.{connection_at, connect_answered, Refusal, Line, Tables, asked_with, refusal, asked_in, step, run}
-use Rattle.osi_pair.proofs.Vocabulary.{ask, Listener, Shown, is_profile, unit_bits, named_by, connect_error, calls_with, AllCameAbout}
-use Rattle.osi_pair.proofs.Vocabulary.{Soundness, IsSound, kept_at, End, Holding, session_in, is_used, used_lines, IsAttended, fresh_line}
-use Rattle.osi_pair.proofs.Vocabulary.{ConnectError, used_by, used_live, rise_push, asked_of, CanBeAsked, TwoEnds, noted, connected_by}
-use Rattle.osi_pair.proofs.Vocabulary.{answer_with, after_connect, asks as asked_entry, carriers_of, offer_in, answer_in, IsSeated, IsLine}
-use Rattle.osi_pair.proofs.Vocabulary.{HasLine, IsInOrder, Stands, StandsAt, HasJoined, whole, waiting_in, Left, none_of}
-use Rattle.osi_pair.proofs.Vocabulary.{ConnectCall as Connect}
+use Rattle.osi_pair.proofs.Vocabulary.{place_at, RiseFrom, Rows, value_at, Connection, asked, EndReason, push_here, absent, beyond}
+use Rattle.osi_pair.proofs.Vocabulary.{push_other, free_of, Both, Between, AreBetween, Acted, becomes, under_way, is_cut, progress_of}
+use Rattle.osi_pair.proofs.Vocabulary.{IsTsap, Progress, Terms, terms_of, Offer, Step, connects as connecting, connection_at}
+use Rattle.osi_pair.proofs.Vocabulary.{connect_answered, Refusal, Line, Tables, asked_with, refusal, asked_in, step, run, ask, Listener}
+use Rattle.osi_pair.proofs.Vocabulary.{Shown, is_profile, unit_bits, named_by, connect_error, calls_with, AllCameAbout, Soundness, IsSound}
+use Rattle.osi_pair.proofs.Vocabulary.{kept_at, End, Holding, session_in, is_used, used_lines, IsAttended, fresh_line, ConnectError}
+use Rattle.osi_pair.proofs.Vocabulary.{used_by, used_live, rise_push, asked_of, CanBeAsked, TwoEnds, noted, connected_by, answer_with}
+use Rattle.osi_pair.proofs.Vocabulary.{after_connect, asks as asked_entry, carriers_of, offer_in, answer_in, IsSeated, IsLine, HasLine}
+use Rattle.osi_pair.proofs.Vocabulary.{IsInOrder, Stands, StandsAt, HasJoined, whole, waiting_in, Left, none_of, ConnectCall as Connect}
 use Rattle.osi_pair.proofs.words.added_and_cut_words_are_messages.{wholes}
 use Rattle.osi_pair.proofs.turn.what_an_acting_end_leaves_in_flight.{out_way, place_given, more_said, StandsOn, begun_with, one_step}
 use Rattle.osi_pair.proofs.call.a_call_is_the_machines.{session_now_is}
 use Rattle.osi_pair.proofs.call.what_a_call_sends_can_be_written.{profile_small, asker_small}
 use Rattle.osi_pair.proofs.call.a_request_is_answered_as_by_the_machine.{Awaits, refusal_same}
-use Rattle.osi_pair.proofs.flight.what_is_in_flight_when_an_end_acts.{none_under_way, same_alike, alike_trans, like_alike}
+use Rattle.osi_pair.proofs.flight.what_is_in_flight_when_an_end_acts.{none_under_way, same_alike, like_alike}
 use Rattle.osi_pair.proofs.turn.a_turn_keeps_the_match.{seen, unseen, Others, other_seen}
 
 -- the laws of the crates below
@@ -175,8 +174,6 @@ line_asks laws c p b t a s may can =
     let few : b.caller.given < n = (let e = s.given_then in omega arith) in
     let above : p.right.end.carrier.given < n = (let e = s.given in let f = s.given_back in omega arith) in
     let none_back : under_way false n (carriers_of p) b ≡ [] = laws.ahead (terms_now p) (carriers_of p) b false n s.between few in
-    let now : progress_of (place_at n a.now.caller) ≡ awaiting =
-    ap (λ (x : Carrier). progress_of (place_at n x)) (sym (a.between.lives true a.lasts)) ∙ ap progress_of (place_new c p.left o.sound) in
     let g : Progress = progress_of (place_at n a.now.caller) in
     unseen Left n new a.now (asked_with t.broken (offer_in (asked_of c))) (record {
       here = own_new t.broken c p.left o.sound may can;
@@ -190,7 +187,7 @@ line_asks laws c p b t a s may can =
           (λ y at. (let none = (unaware n p b t p.right.end.carrier.ended refl s above).kept in grind arith))
           (λ e. same_alike (progress_of (place_at n b.called)) _ _ (sym (laws.ahead (terms_now p) (carriers_of p) b true n s.between few))))
           refl;
-      back = grind (arith, none_under_way, alike_trans, same_alike, like_alike, line_new c p.left o.sound);
+      back = grind (arith, none_under_way, same_alike, like_alike, line_new c p.left o.sound);
     })
 
 abbrev with_line : Tables → Connect → Tables
@@ -200,7 +197,6 @@ line_by : (here : Bool) → ConnectLaws → (m : ℕ) (c : Connect) (p : TwoEnds
     (m == next_of p.left) ≡ here → Stands p b t → MayAsk c p.left → CanBeAsked c → 0 < m → m ≤ length t.lines + 1 →
     HasLine m (new_two c p) a.now (with_line t c)
 line_by true laws m c p b t a e s may can some few =
-    let last : next_of p.left ≡ suc (length t.lines) = (let x = s.given in omega arith) in
     let new : HasLine (next_of p.left) (new_two c p) a.now (with_line t c) = record {
       line = asked_with t.broken (offer_in (asked_of c));
       found = grind (arith, laws.last t.lines (asked_with t.broken (offer_in (asked_of c))));
@@ -224,7 +220,6 @@ asks_stand laws c p b t a none s may can =
     let x : Line = asked_with t.broken (offer_in (asked_of c)) in
     let more : length (t.lines ++ x ∷ []) ≡ length t.lines + 1 = length-append t.lines (x ∷ []) in
     let o = s.order_left may.lasts in
-    let lives : (asked_end c p.left).end.carrier ≡ a.now.caller = a.between.lives true a.lasts in
     let lines : (m : ℕ) → 0 < m → m ≤ length (t.lines ++ x ∷ []) → HasLine m (new_two c p) a.now (with_line t c) =
     λ m some few. line_by (m == next_of p.left) laws m c p b t a refl s may can some (subst (λ (n : ℕ). m ≤ n) more few) in
     let heard = laws.attended c p.left.end (λ h. o.heard) in

@@ -8,8 +8,7 @@ use Rattle.osi_pair.proofs.Vocabulary.{TwoEnds, end_at, reachable, reach_after, 
 use Rattle.osi_pair.proofs.carry.few_indications_are_pending.{FewLaws, few_wait}
 use Rattle.osi_pair.proofs.carry.handed_octets_are_no_step.{CarriedLaw}
 use Rattle.osi_pair.proofs.carry.packets_are_taken_in_turn.{PacketStands, taken_laws, none_less, alive_deliveries, join_arrivals, no_more}
-use Rattle.osi_pair.proofs.carry.pieces_are_fed_in_turn.{PieceLaws, crossed, crossed_twice, within_less, reach_twice, piece_alive}
-use Rattle.osi_pair.proofs.carry.pieces_are_fed_in_turn.{piece_over}
+use Rattle.osi_pair.proofs.carry.pieces_are_fed_in_turn.{PieceLaws, crossed, within_less, reach_twice, piece_alive, piece_over}
 
 -- two ends after pieces of this many octets
 pub record SoFar (f : Side) (p : TwoEnds) (steps : List Step) (most octets : ℕ) (new : Crossing) : Type 0 where
@@ -43,7 +42,7 @@ pieces_stand laws f p steps most (used ∷ before) new at le c =
     let o = reach_after f (sum before) p.reach in
     let q = crossed f b o in
     let left = x.left in
-    let twice : crossing f q ≡ b = crossed_twice f b o in
+    let twice : crossing f q ≡ b = grind arith in
     let piece : CarriesPiece (other f) (most - sum before) (crossing f q) used new =
     subst (λ (d : Crossing). CarriesPiece (other f) (most - sum before) d used new) (sym twice) c.2 in
     let y = piece_then laws f q steps (most - sum before) used new (end_at (other f) q).end.carrier.ended refl x.stands left piece in

@@ -3,17 +3,17 @@
 -- For pairs in the same state.
 use Rattle.osi_stack.specs.Calls.{without_first}
 use Rattle.osi_stack.specs.Runs.{Call}
-use Rattle.osi_pair.proofs.Vocabulary.{◌≡◌, ◌≢◌, ℕ, ◌+◌, ◌-◌, ◌≤◌, List, [], ◌∷◌, ◌++◌, map, take, sum, Option, Some, None, is_some, refl}
-use Rattle.osi_pair.proofs.Vocabulary.{sym, ap, ap₂, subst, ◌∙◌, ◌⊎◌, inl, inr, arith, take-add, drop-drop, flat_map-append, stops_not}
-use Rattle.osi_pair.proofs.Vocabulary.{found_how, feeding, telling, CallsInRoom, used_in, told_in, carried_in, append-nil, append_assoc}
-use Rattle.osi_pair.proofs.Vocabulary.{length-take, map-append, sum_by-cons, flat_map, first_shown, Held, IsPacket, ArePackets, Rows}
-use Rattle.osi_pair.proofs.Vocabulary.{EndReason, NoMemory, Step, Shown, carried, FindsNoMemory, Starves, End, Holding, ends_end as ends}
-use Rattle.osi_pair.proofs.Vocabulary.{EndLine as Line, Crossing, CarriesPiece, CarriesPieces, crossing, TwoEnds, end_at, reachable, shows}
+use Rattle.osi_pair.proofs.Vocabulary.{◌≡◌, ◌≢◌, ℕ, ◌+◌, ◌-◌, ◌≤◌, List, [], ◌∷◌, ◌++◌, map, take, sum, Option, Some, refl, sym, ap, subst}
+use Rattle.osi_pair.proofs.Vocabulary.{◌∙◌, ◌⊎◌, inl, inr, arith, take-add, drop-drop, flat_map-append, stops_not, found_how, feeding}
+use Rattle.osi_pair.proofs.Vocabulary.{telling, CallsInRoom, used_in, told_in, carried_in, append-nil, append_assoc, length-take}
+use Rattle.osi_pair.proofs.Vocabulary.{map-append, sum_by-cons, flat_map, first_shown, Held, IsPacket, ArePackets, Rows, EndReason}
+use Rattle.osi_pair.proofs.Vocabulary.{NoMemory, Step, Shown, carried, FindsNoMemory, Starves, End, Holding, ends_end as ends}
+use Rattle.osi_pair.proofs.Vocabulary.{EndLine as Line, Crossing, CarriesPiece, CarriesPieces, crossing, TwoEnds, end_at, reachable}
 use Rattle.osi_pair.proofs.Vocabulary.{reach_after, other, StandsAt, ShowsFirst, told_entries, waiting_in, quieted, Side}
 use Rattle.osi_pair.proofs.carry.a_carry_is_deliveries.{CarryLaws, SoFar, piece_laws, pieces_stand}
 use Rattle.osi_pair.proofs.packet.a_packet_is_one_delivery_or_none.{quiet_of}
 use Rattle.osi_pair.proofs.carry.packets_are_taken_in_turn.{GoesOn, still_goes}
-use Rattle.osi_pair.proofs.carry.pieces_are_fed_in_turn.{crossed, crossed_twice, packed, more_held, piece_of, piece_long, take_less}
+use Rattle.osi_pair.proofs.carry.pieces_are_fed_in_turn.{crossed, packed, more_held, piece_of, piece_long, take_less}
 use Rattle.osi_pair.proofs.carry.handed_octets_are_no_step.{handed}
 use Rattle.osi_pair.proofs.promise.matching_ends_keep_the_promises.{tables_at}
 use Rattle.osi_pair.proofs.session.an_end_with_nothing_pending.{quiet_same}
@@ -47,8 +47,7 @@ memory_by laws f q steps k new before octets z (inr st) =
     let none : Held = record (more_held f k q) { octets = [] } in
     let r = with_holding (other f) before rest (handed f k (more_held f k q) q) in
     let packs = st.1 in
-    let cut : (end_at (other f) r).held.octets ≡ packs.0 ++ [] = ap (λ (b : Holding). b.held.octets) z.here ∙ packs.3
-    ∙ ap (λ (l : List ℕ). packs.0 ++ l) packs.4 in
+    let cut : (end_at (other f) r).held.octets ≡ packs.0 ++ [] = grind arith in
     starved_named laws (other f) r (steps ++ z.more) st.0 packs.0 none new z.stands z.lasts packs.2 cut
     (subst (λ (b : Holding). Starves b.end st.0 new) (sym z.here) st.2)
 
@@ -58,7 +57,6 @@ memory_named : CarryLaws → (f : Side) (q : TwoEnds) (steps : List Step) (most 
     new.end.carrier.ended ≡ Some NoMemory
 memory_named laws f q steps most used new at alive le d =
     let long = piece_long f most q le in
-    let bound = d.bound in
     let k = d.within in
     let g = more_held f k q in
     let rest : Held = record g { octets = d.rest } in
@@ -95,10 +93,6 @@ tell_all h (p ∷ rest) is =
           (tell_all mid rest f.others),
     )
 
-tells_all : (between new : Holding) (first : List (ℕ × Shown)) → ShowsFirst between first new → waiting_in new.end.lines ≡ [] →
-    CallsInRoom between (tellings first) new
-tells_all between new first h quiet = grind (arith, tellings, quiet_same, tell_all, append-nil)
-
 used_none : (shown : List (ℕ × Shown)) → flat_map used_in (tellings shown) ≡ []
 unfolding tellings
 used_none [] = refl
@@ -131,35 +125,24 @@ pub record IsCarried (s : Side) (old : Crossing) (octets : ℕ) (new : Crossing)
   pub says : new.journal ≡ old.journal ++ told_entries s old.to.end.carrier.ended new.to.end.carrier.ended (flat_map told_in calls)
   pub over : (reason : EndReason) → old.to.end.carrier.ended ≡ Some reason → (new.to ≡ old.to) × (flat_map told_in calls ≡ [])
 
-alive_by : (o m : Option EndReason) → ((reason : EndReason) → o ≡ Some reason → m ≡ o) → m ≡ None → o ≡ None
-alive_by o m f e = grind arith
-
 abbrev ended_of : Crossing → Option EndReason
 ended_of c = c.to.end.carrier.ended
 
 carried_then : (s : Side) (old mid new : Crossing) (n m : ℕ) → IsCarried s old n mid → IsCarried s mid m new → IsCarried s old (n + m) new
 carried_then s old mid new n m h k =
     let out = old.from.end.carrier.outgoing in
-    record {
-      calls = h.calls ++ k.calls;
-      room = room_then h.calls k.calls old.to mid.to new.to h.room k.room;
-      used = flat_map-append used_in h.calls k.calls
-          ∙ ap₂ (λ (a b : List ℕ). a ++ b) h.used (k.used ∙ ap (λ (x : Holding). take m x.end.carrier.outgoing) h.from)
-          ∙ sym (take-add n m out);
-      untaken = flat_map-append carried_in h.calls k.calls ∙ ap₂ (λ (a b : List ℕ). a ++ b) h.untaken k.untaken;
-      from = k.from ∙ ap (λ (x : Holding). record x { end = carried m x.end }) h.from
-          ∙ ap (λ (l : List ℕ). record old.from {
-            end = record old.from.end
-                { carrier = record old.from.end.carrier { outgoing = l } };
-          }) (drop-drop m n out);
-      says = (grind (arith, append-nil, append_assoc, map-append))
-          ∙ ap (λ (w : List (ℕ × Shown)). old.journal ++ told_entries s (ended_of old) (ended_of new) w)
-          (sym (flat_map-append told_in h.calls k.calls));
-      over = λ reason over.
-          let a = h.over reason over in
-          let b = k.over reason (ap (λ (x : Holding). x.end.carrier.ended) a.0 ∙ over) in
-          (b.0 ∙ a.0, flat_map-append told_in h.calls k.calls ∙ ap₂ (λ (x y : List (ℕ × Shown)). x ++ y) a.1 b.1);
-    }
+    grind (
+      arith,
+      append-nil,
+      append_assoc,
+      map-append,
+      room_then h.calls k.calls old.to mid.to new.to h.room k.room,
+      flat_map-append used_in h.calls k.calls,
+      take-add n m out,
+      flat_map-append carried_in h.calls k.calls,
+      drop-drop m n out,
+      flat_map-append told_in h.calls k.calls,
+    )
 
 -- ---- a piece
 
@@ -189,18 +172,13 @@ piece_carried laws f q steps most used new at le piece memory quiet =
         feeds,
         λ goes. has_room (λ none. memory (ended
             ∙ memory_named laws f q steps most fed.used piece.between at (stops_not (end_at s q).end goes) le none)) (feeds.goes goes),
-        tells_all piece.between new.to piece.first piece.shows quiet,
+        grind (arith, tellings, quiet_same, tell_all, append-nil),
       );
-      used = ap (λ (l : List ℕ). take fed.used (take most out) ++ l) (used_none piece.first) ∙ append-nil (take fed.used (take most out))
-          ∙ ap (λ (n : ℕ). take n (take most out)) piece.feeds.uses ∙ take_less used most out few;
+      used = grind (arith, used_none, append-nil, take_less);
       untaken = carried_none piece.first;
       from = piece.taken;
-      says = piece.says ∙ ap (λ (w : List (ℕ × Shown)). q.journal ++ told_entries s
-          (end_at s q).end.carrier.ended new.to.end.carrier.ended w) (sym (told_these piece.first));
-      over = λ reason over.
-          let none = feeds.over (ap is_some over) in
-          let same = over_told (end_at s q) piece.between new.to piece.first none.1 still piece.shows quiet in
-          (same.0, told_these piece.first ∙ same.1);
+      says = grind (arith, told_these);
+      over = grind (arith, over_told, told_these);
     }
 
 -- ---- pieces one after the other
@@ -208,7 +186,7 @@ piece_carried laws f q steps most used new at le piece memory quiet =
 -- nothing is pending after them
 quiet_behind : (f : Side) (p : TwoEnds) (steps : List Step) (most octets : ℕ) (new : Crossing) → SoFar f p steps most octets new →
     waiting_in new.to.end.lines ≡ []
-quiet_behind f p steps most octets new x = grind (arith, crossed, crossed_twice, quiet_of, tables_at)
+quiet_behind f p steps most octets new x = grind (arith, crossed, quiet_of, tables_at)
 
 pub pieces_carried : CarryLaws → (f : Side) (p : TwoEnds) (steps : List Step) (most : ℕ) (pieces : List ℕ) (new : Crossing) →
     StandsAt p steps → most ≤ reachable f p → CarriesPieces (other f) most pieces (crossing f p) new →
@@ -221,7 +199,7 @@ pieces_carried laws f p steps most (used ∷ before) new at le c memory =
     let y = pieces_stand (piece_laws laws) f p steps most (used ∷ before) new at le c in
     let o = reach_after f (sum before) p.reach in
     let q = crossed f b o in
-    let twice : crossing f q ≡ b = crossed_twice f b o in
+    let twice : crossing f q ≡ b = grind arith in
     let piece : CarriesPiece s (most - sum before) (crossing f q) used new = subst
     (λ (d : Crossing). CarriesPiece s (most - sum before) d used new) (sym twice) c.2 in
     let last : IsCarried s b used new =

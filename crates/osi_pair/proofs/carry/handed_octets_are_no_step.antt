@@ -1,6 +1,6 @@
 -- Handing over octets of a side to the other is no step of the machine.
 -- For carries.
-use Rattle.osi_pair.proofs.Vocabulary.{◌≡◌, ℕ, ◌≤◌, Bool, true, false, List, ◌++◌, length, take, Option, None, is_some, option_map, sym, ap}
+use Rattle.osi_pair.proofs.Vocabulary.{◌≡◌, ℕ, ◌≤◌, Bool, true, false, List, ◌++◌, length, take, Option, is_some, option_map, sym, ap}
 use Rattle.osi_pair.proofs.Vocabulary.{subst, ◌∙◌, arith, ◌<◌, length-take, Held, Between, Both, AreBetween, Same, side, with_side}
 use Rattle.osi_pair.proofs.Vocabulary.{arriving, under_way, handed_over, progress_of, Terms, Step, Seat, Tables, run, start, carried}
 use Rattle.osi_pair.proofs.Vocabulary.{Holding, TwoEnds, end_at, with_end, reachable, reach_after, other, is_caller, carriers_of, IsSeated}
@@ -16,12 +16,6 @@ with_held s h p = with_end s (record (end_at s p) { held = h }) p
 
 abbrev holding : Bool → List ℕ → Both → Both
 holding end octets both = with_side end (record (side end both) { held = octets }) both
-
--- what an end holds that has ended is of no account
-held_between : (terms : Terms) (end : Bool) (both : Both) (b : Between) (octets : List ℕ) → AreBetween terms both b →
-    ((side end both).state.ended ≡ None → octets ≡ (side end both).held) → AreBetween terms (holding end octets both) b
-held_between terms true both b octets a same = search arith
-held_between terms false both b octets a same = search arith
 
 -- ---- octets are handed over
 
@@ -86,7 +80,6 @@ handed_left law p b t k h old le more =
     let coming : (n : ℕ) → under_way false n (carriers_of p) b ≡ under_way false n (carriers_of new) same.now =
     λ n. same.under false n ∙ ap
     (λ (r : Option (ℕ × ℕ)). under_way false n (record (handed_over true k (carriers_of p)) { reach = r }) same.now) (grind arith) in
-    let between = held_between (terms_at p) false reached same.now h.octets there more in
     let broken = old.broken ∙ sym (still_reach Left k p.reach) in
     let given_then = same.given true ∙ old.given_then in
     let class_then = same.class true ∙ old.class_then in
@@ -122,7 +115,6 @@ handed_right law p b t k h old le more =
     let coming : (n : ℕ) → under_way false n (carriers_of p) b ≡ under_way false n (carriers_of new) same.now =
     λ n. same.under false n ∙ ap
     (λ (r : Option (ℕ × ℕ)). under_way false n (record (handed_over false k (carriers_of p)) { reach = r }) same.now) (grind arith) in
-    let between = held_between (terms_at p) true reached same.now h.octets there more in
     let broken = old.broken ∙ sym (still_reach Right k p.reach) in
     let given_then = same.given true ∙ old.given_then in
     let class_then = same.class true ∙ old.class_then in

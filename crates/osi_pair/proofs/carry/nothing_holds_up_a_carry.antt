@@ -1,14 +1,11 @@
 -- If two ends match a list of steps, no indication is pending, and so nothing holds up a carry.
 -- For events.
-use Rattle.std.proofs.Common.{arith}
 use Rattle.osi_pair.proofs.Vocabulary.{ℕ, ◌≡◌, false, min, sum, List, waits, TwoEnds, end_at, reachable, CarriesAsMuch, Step}
 use Rattle.osi_pair.proofs.Vocabulary.{CarriesWhereQuiet, IsReached, StandsAt, other, Applied, Event, Carry, Side, CarriesFrom, crossing}
-use Rattle.osi_pair.proofs.Vocabulary.{reach_after}
-use Rattle.osi_pair.specs.Carrying.{IsHeldUp}
-use Rattle.osi_pair.specs.Events.{NotesIfCutShort, NotesWhereQuiet, IsFullIfCutShort, IsFullWhereQuiet}
-use Rattle.osi_pair.specs.Pairings.{Pairing}
+use Rattle.osi_pair.proofs.Vocabulary.{reach_after, arith, IsHeldUp, NotesIfCutShort, NotesWhereQuiet, IsFullIfCutShort, IsFullWhereQuiet}
+use Rattle.osi_pair.proofs.Vocabulary.{Pairing}
 use Rattle.osi_pair.proofs.carry.packets_are_taken_in_turn.{still_waits}
-use Rattle.osi_pair.proofs.carry.pieces_are_fed_in_turn.{crossed, crossed_twice}
+use Rattle.osi_pair.proofs.carry.pieces_are_fed_in_turn.{crossed}
 use Rattle.osi_pair.proofs.event.what_an_event_does.{EventLaws}
 
 quiet_by : (side : Side) (p : TwoEnds) (steps : List Step) → StandsAt p steps → waits (end_at side p).end.lines ≡ false
@@ -25,7 +22,6 @@ held_up_not : EventLaws → (f : Side) (most : ℕ) (p : TwoEnds) → IsReached 
 held_up_not laws f most p is h =
     let o = reach_after f (sum h.pieces) p.reach in
     let q = crossed f h.between o in
-    let back : crossing f q ≡ h.between = crossed_twice f h.between o in
     let way : CarriesFrom f most p (sum h.pieces) q = grind arith in
     let x = laws.carries f most p q (sum h.pieces) is.steps is.stands way in
     let none = quiet_by (other f) q _ x.stands in

@@ -7,10 +7,10 @@ use Rattle.osi_pair.proofs.Vocabulary.{◌≡◌, ℕ, zero, suc, ◌+◌, ◌-�
 use Rattle.osi_pair.proofs.Vocabulary.{take, drop, Option, Some, None, is_some, refl, sym, ap, subst, ◌∙◌, arith, found_how, drop-nil}
 use Rattle.osi_pair.proofs.Vocabulary.{append-nil, length-append, length-take, length-drop, Held, IsPacket, IsFaultOf, ArePackets}
 use Rattle.osi_pair.proofs.Vocabulary.{TpktFault, State, EndReason, NoMemory, Both, Between, AreBetween, side, Terms, Step, run, start}
-use Rattle.osi_pair.proofs.Vocabulary.{Shown, carried, TakesPackets, stops, uses_all, RunsDry, StopsBehind, Refuses, FindsNoMemory, attends}
-use Rattle.osi_pair.proofs.Vocabulary.{with_carrier, Starves, End, Holding, starved_over, Crossing, CarriesPiece, crossing, TwoEnds, end_at}
-use Rattle.osi_pair.proofs.Vocabulary.{reachable, Entry, within, reach_after, other, terms_in, carriers_of, StandsAt, StandsAtArrivals}
-use Rattle.osi_pair.proofs.Vocabulary.{waiting_in, quieted, told_entries, ShowsFirst, Reach, Side, Left, Right, ends_end as ends}
+use Rattle.osi_pair.proofs.Vocabulary.{Shown, carried, TakesPackets, RunsDry, StopsBehind, Refuses, FindsNoMemory, attends, with_carrier}
+use Rattle.osi_pair.proofs.Vocabulary.{Starves, End, Holding, starved_over, Crossing, CarriesPiece, crossing, TwoEnds, end_at, reachable}
+use Rattle.osi_pair.proofs.Vocabulary.{Entry, within, reach_after, other, terms_in, carriers_of, StandsAt, StandsAtArrivals, waiting_in}
+use Rattle.osi_pair.proofs.Vocabulary.{quieted, told_entries, ShowsFirst, Reach, Side, Left, Right, ends_end as ends}
 use Rattle.osi_pair.proofs.turn.what_remains_when_a_unit_was_taken.{terms_at, order_of}
 use Rattle.osi_pair.proofs.carry.handed_octets_are_no_step.{CarriedLaw, handed, handed_at}
 use Rattle.osi_pair.proofs.packet.a_packet_is_one_delivery_or_none.{quiet_of}
@@ -145,20 +145,16 @@ dry_stands laws f p steps most used new at alive le d =
     finished laws f p steps most 0 used new.end new.held new.held (more_held f most p) (omega arith) (omega arith) (λ lasts. (refl, refl))
     (packed laws f p steps most (piece_of f most p) d.units new.end new.held at alive le refl d.taken d.packets)
 
-stopped_uses : (e : End) → stops e ≡ true → e.carrier.ended ≡ None → uses_all e ≡ false
-stopped_uses e stopped lasts = grind arith
-
 behind_stands : PieceLaws → (f : Side) (p : TwoEnds) (steps : List Step) (most used : ℕ) (new : Holding) → StandsAt p steps →
     Lasts (other f) p → most ≤ reachable f p → StopsBehind (end_at (other f) p) (piece_of f most p) used new →
     StandsFew (other f) (handed f used new.held p) steps new.end new.held
 behind_stands laws f p steps most used new at alive le d =
     let long = piece_long f most p le in
-    let bound = d.bound in
     let k = d.within in
     let at_least : k ≤ used = grind arith in
     let at_most : used ≤ length (piece_of f most p) = grind (arith, d.uses) in
     finished laws f p steps k (used - k) used new.end new.held new.held (more_held f k p) (omega arith) (omega arith)
-    (grind (arith, stopped_uses))
+    (grind arith)
     (packed laws f p steps k (take k (piece_of f most p)) d.units new.end new.held at alive (omega arith)
     (take_less k most (end_at f p).end.carrier.outgoing (omega arith)) d.taken
     (subst (λ (l : List ℕ). ArePackets d.units ((end_at (other f) p).held.octets ++ take k (piece_of f most p)) l) (sym d.held) d.packets))
@@ -170,7 +166,6 @@ refused_not laws f p steps most used new at alive le d =
     let g = more_held f most p in
     let rest : Held = record g { octets = d.cut.0 } in
     let y = packed laws f p steps most (piece_of f most p) d.units d.before rest at alive le refl d.taken d.cut.1 in
-    let z = still_goes (other f) (handed f most g p) steps d.before rest d.quiet y.stands in
     grind arith
 
 -- it ends because memory runs out
@@ -252,9 +247,6 @@ abbrev pub crossed : Side → Crossing → Option Reach → TwoEnds
 crossed Left c o = record { left = c.from; right = c.to; reach = o; journal = c.journal }
 crossed Right c o = record { left = c.to; right = c.from; reach = o; journal = c.journal }
 
-pub crossed_twice : (f : Side) (c : Crossing) (o : Option Reach) → crossing f (crossed f c o) ≡ c
-crossed_twice f c o = grind arith
-
 same_crossing : (c : Crossing) (from to : Holding) (journal : List Entry) → c.from ≡ from → c.to ≡ to → c.journal ≡ journal →
     c ≡ record { from = from; to = to; journal = journal }
 same_crossing c from to journal a b d = grind arith
@@ -272,7 +264,6 @@ piece_alive laws f p steps most used new at alive le c =
     let x = goes_stands laws f p steps most used c.between at alive le goes in
     let all = all_shown c.between c.first new.to c.shows x.few in
     let says : new.journal ≡ p.journal ++ told_entries s None c.between.end.carrier.ended (waiting_in c.between.end.lines) = grind arith in
-    let same = same_crossing new _ _ _ c.taken all.is says in
     subst (λ (q : TwoEnds). StandsAtArrivals s q steps)
     (grind arith) x.stands
 
@@ -286,7 +277,6 @@ piece_over laws f p steps most used new why at over le c =
     let fed = c.feeds in
     let none = fed.feeds.over (ap is_some over) in
     let all_used : used ≡ most = sym fed.uses ∙ none.0 ∙ (piece_long f most p le) in
-    let still : waiting_in c.between.end.lines ≡ [] = ap (λ (b : Holding). waiting_in b.end.lines) none.1 ∙ quiet in
     let all = all_shown c.between c.first new.to c.shows (grind arith) in
     let to : new.to ≡ end_at s p = grind (arith, quiet_same) in
     let says : new.journal ≡ p.journal = grind (arith, append-nil) in

@@ -2,14 +2,13 @@
 -- For breaks and ends, packets, carries and the laws of `standing`.
 use Rattle.osi_between.specs.Between.{Lost}
 use Rattle.osi_between.specs.Messages as carrier
-use Rattle.osi_pair.proofs.Vocabulary.{◌≡◌, refl, sym, ◌∙◌, ap, subst, ℕ, ◌≤◌, Bool, true, false, if◌then◌else◌, List, [], ◌∷◌, ◌++◌}
-use Rattle.osi_pair.proofs.Vocabulary.{length, take, min, Option, Some, None, option_map, arith, ◌<◌, inl, inr, AllByRecursion, Local}
-use Rattle.osi_pair.proofs.Vocabulary.{place_at, Between, Both, AreBetween, under_way, broken_at, fresh_both, fresh_between, is_cut}
-use Rattle.osi_pair.proofs.Vocabulary.{progress_of, Progress, Terms, terms_of, connection_at, Step, breaks, HasNumber, IsTableRun, Seat}
-use Rattle.osi_pair.proofs.Vocabulary.{Line, Tables, turned, cut_channels, step, run, start, Message, TwoEnds, sent_by, after_break}
-use Rattle.osi_pair.proofs.Vocabulary.{fresh_ends, terms_in, carriers_of, IsSeated, IsLine, Stands, StandsAt, StandsAtBreak, AreUnderWay}
-use Rattle.osi_pair.proofs.Vocabulary.{HasLine, HasJoined, IsSound, Holding, fresh_end, Left, Right, EndReason, cut_there, cut_count}
-use Rattle.osi_pair.proofs.Vocabulary.{SessionState as State}
+use Rattle.osi_pair.proofs.Vocabulary.{◌≡◌, refl, sym, ap, subst, ℕ, ◌≤◌, Bool, true, false, List, [], ◌∷◌, ◌++◌, length, take, min, Option}
+use Rattle.osi_pair.proofs.Vocabulary.{Some, None, option_map, arith, ◌<◌, inl, inr, AllByRecursion, Local, place_at, Between, Both}
+use Rattle.osi_pair.proofs.Vocabulary.{AreBetween, under_way, broken_at, fresh_both, fresh_between, is_cut, progress_of, Progress, Terms}
+use Rattle.osi_pair.proofs.Vocabulary.{terms_of, connection_at, Step, breaks, HasNumber, IsTableRun, Seat, Line, Tables, turned}
+use Rattle.osi_pair.proofs.Vocabulary.{cut_channels, step, run, start, Message, TwoEnds, sent_by, after_break, fresh_ends, terms_in}
+use Rattle.osi_pair.proofs.Vocabulary.{carriers_of, IsSeated, IsLine, Stands, StandsAt, StandsAtBreak, AreUnderWay, HasLine, HasJoined}
+use Rattle.osi_pair.proofs.Vocabulary.{IsSound, Holding, fresh_end, Left, Right, EndReason, cut_there, cut_count, SessionState as State}
 use Rattle.osi_pair.proofs.flight.who_receives_what_is_in_flight.{TakeLaws, TakesFrom, takes_from}
 use Rattle.osi_pair.proofs.flight.what_is_in_flight_when_an_end_acts.{Takes, Front, front_at, map_take, alike_take}
 use Rattle.osi_pair.proofs.flight.whether_something_is_cut_off.{IsWithin}
@@ -109,7 +108,6 @@ break_stands laws p b t k l s run none =
     HasLine n (after_break k l p) lost.now (record t { broken = true; lines = cut_channels left right 1 t.lines }) = λ n a c.
     let h = (at n).is a (subst (λ (m : ℕ). n ≤ m) count c) in
     record { line = cut_line (left n) (right n) h.line; found = cut_there left right n t.lines h.line h.found; is = h.is } in
-    let class = lost.class true ∙ s.class_then in
     let stands : Stands (after_break k l p) lost.now (record t { broken = true; lines = cut_channels left right 1 t.lines }) =
     grind arith in
     record {

@@ -3,14 +3,14 @@
 use Rattle.osi_between.specs.Messages as between
 use Rattle.osi_machine.specs.Core as machine
 use Rattle.osi_machine.specs.Worlds.{not_yet, gone}
-use Rattle.osi_pair.proofs.Vocabulary.{◌≡◌, refl, sym, ◌∙◌, ap, ℕ, zero, suc, ◌+◌, ◌≤◌, Bool, true, false, if◌then◌else◌, not, List, []}
-use Rattle.osi_pair.proofs.Vocabulary.{◌∷◌, ◌++◌, length, map, take, nat_lt, Option, Some, None, is_some, arith, messages_front, slice_get}
+use Rattle.osi_pair.proofs.Vocabulary.{◌≡◌, refl, ◌∙◌, ap, ℕ, zero, suc, ◌+◌, ◌≤◌, Bool, true, false, if◌then◌else◌, not, List, [], ◌∷◌}
+use Rattle.osi_pair.proofs.Vocabulary.{◌++◌, length, map, take, nat_lt, Option, Some, None, is_some, arith, messages_front, slice_get}
 use Rattle.osi_pair.proofs.Vocabulary.{IfSome, append-nil, Value, Place, never, was_given, place_at, connection_in, Rows, value_at}
 use Rattle.osi_pair.proofs.Vocabulary.{Connection, State, units_of, Between, Both, is_cut, to_come, under_way, side, last_of}
 use Rattle.osi_pair.proofs.Vocabulary.{messages_after, begun_at, Progress, connection_at, is_given, Seat, Line, awaits, seen_from}
-use Rattle.osi_pair.proofs.Vocabulary.{ends_there, ended_lines, Message, IsInOctets, Listener, Standing, broken as broken_off, react}
-use Rattle.osi_pair.proofs.Vocabulary.{kept_at, Holding, transport_in, IsSeated, AreUnderWay, EndReason, SessionState as Session}
-use Rattle.osi_pair.proofs.Vocabulary.{append_assoc, list_any-append}
+use Rattle.osi_pair.proofs.Vocabulary.{ends_there, ended_lines, Message, IsInOctets, Standing, broken as broken_off, react, kept_at}
+use Rattle.osi_pair.proofs.Vocabulary.{Holding, transport_in, IsSeated, AreUnderWay, EndReason, SessionState as Session, append_assoc}
+use Rattle.osi_pair.proofs.Vocabulary.{list_any-append}
 use Rattle.osi_pair.proofs.flight.what_is_in_flight_when_an_end_acts.{Takes, as_now, map_take, alike_take}
 use Rattle.osi_pair.proofs.flight.what_is_in_flight_when_an_end_acts as ways
 use Rattle.osi_pair.proofs.ending.all_sessions_are_lost_in_order.{is_over}
@@ -46,9 +46,6 @@ pub record HasEnded (c : State) (new : Holding) : Type 0 where
 not_live : (n : ℕ) (live : Rows Connection) → live ≡ [] → is_some (value_at n live) ≡ true → ⊥
 not_live n live none some = grind arith
 
-not_kept : (n : ℕ) (new : Holding) (s : Listener) → kept_at n new.end.lines ≡ None → kept_at n new.end.lines ≡ Some s → ⊥
-not_kept n new s none some = let no : None ≡ Some s = sym none ∙ some in cc
-
 pub still_waiting : (s : Standing) → (react s broken_off).next.waiting ≡ s.waiting
 unfolding react
 still_waiting s = refl
@@ -58,7 +55,7 @@ not_of b x e = grind arith
 
 pub seat_ends : (n : ℕ) (c : State) (new : Holding) (seat : Seat) (keep : ℕ) → HasEnded c new → IsPlaced n c seat →
     IsSeated n new (ended_seat (is_given seat.transport) keep seat)
-seat_ends n c new seat keep ended s = grind (arith, not_of, not_live, not_kept, is_over, still_waiting)
+seat_ends n c new seat keep ended s = grind (arith, not_of, not_live, is_over, still_waiting)
 
 -- ---- all lines
 

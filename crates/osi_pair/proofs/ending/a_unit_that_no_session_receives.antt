@@ -1,11 +1,10 @@
 -- An end may end when its carrier acted for a unit that no session received.
 -- For breaks and ends.
-use Rattle.std.proofs.Common.{arith}
-use Rattle.osi_machine.specs.Worlds as worlds
 use Rattle.osi_pair.proofs.Vocabulary.{◌≡◌, ◌≢◌, ℕ, ◌≤◌, ◌==◌, Bool, true, false, List, [], length, Some, None, IfSome, option_map, refl}
 use Rattle.osi_pair.proofs.Vocabulary.{sym, ap, subst, ◌∙◌, ◌<◌, eqb-true, eq-eqb, append-nil, Held, place_at, reference_of, Between}
 use Rattle.osi_pair.proofs.Vocabulary.{last_of, progress_of, is_given, Seat, Line, Tables, awaits, seen_from, IsInOctets, End, TwoEnds}
-use Rattle.osi_pair.proofs.Vocabulary.{end_at, side_in, is_caller, transport_in, class_in, HasLine, Stands, Side, other}
+use Rattle.osi_pair.proofs.Vocabulary.{end_at, side_in, is_caller, transport_in, class_in, HasLine, Stands, Side, other, arith}
+use Rattle.osi_machine.specs.Worlds as worlds
 use Rattle.osi_pair.proofs.flight.who_receives_what_is_in_flight.{TakesFrom}
 use Rattle.osi_pair.proofs.ending.an_end_of_an_end_is_the_machines.{EndingLine, MayEnd, whole_line}
 use Rattle.osi_pair.proofs.ending.a_connection_ends_with_its_end.{IsPlaced, given_place}
@@ -14,7 +13,7 @@ use Rattle.osi_pair.proofs.packet.a_packet_is_one_delivery_or_none.{PacketLaws, 
 use Rattle.osi_pair.proofs.packet.a_unit_at_rest_keeps_the_match.{acted_end}
 use Rattle.osi_pair.proofs.flight.what_may_arrive_row_by_row.{after}
 use Rattle.osi_pair.proofs.session.a_seat_is_its_progress_and_session.{transport_by, transport_at}
-use Rattle.osi_pair.proofs.flight.whether_something_is_cut_off.{end_out, Lasts}
+use Rattle.osi_pair.proofs.flight.whether_something_is_cut_off.{Lasts}
 use Rattle.osi_pair.proofs.turn.a_turn_keeps_the_match.{seen, seen_twice, with_holding, LinesAfter, out_there}
 use Rattle.osi_pair.proofs.flight.what_is_in_flight_when_an_end_acts.{way_same}
 
@@ -43,7 +42,7 @@ other_ending s p b t u e h n q line old alive d lasts apart a has =
       octets = i.here.octets;
     }) i.there
     (out_there s p d.now e h q (progress_of (place_at q (last_of (is_caller (other s)) d.now))) l.peer.session.state l.own.channel
-    (grind (arith, way_same, end_out, with_holding s e h p, d.there q, d.others q apart (is_caller s))))
+    (grind (arith, way_same, with_holding s e h p, d.there q, d.others q apart (is_caller s))))
 
 ending_by : (s : Side) (p : TwoEnds) (b : Between) (t u : Tables) (e : End) (h : Held) (n q : ℕ) (line : Line) (same : Bool) →
     (q == n) ≡ same → Stands p b t → Lasts s p → (d : DidAt s p b e h n) → e.carrier.ended ≡ None → LinesAfter s n line t u →

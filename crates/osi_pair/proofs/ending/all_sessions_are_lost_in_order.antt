@@ -270,7 +270,6 @@ all_live who h t rise up few all q s kept shown =
     within : (b : Bool) → nat_le q h.end.carrier.given ≡ b → q ≤ h.end.carrier.given
     within true e = grind (arith, nat_tests)
     within false e =
-        let above : h.end.carrier.given < q = grind (arith, nat_tests) in
         grind (arith, beyond)
 
 slice_within : (ls : List Line) (i : ℕ) (l : Line) → slice_get ls i ≡ Some l → i < length ls

@@ -7,11 +7,11 @@ use Rattle.osi_stack.specs.State as stack
 use Rattle.osi_pair.specs.Entries.{ends}
 use Rattle.osi_pair.proofs.Vocabulary.{◌≡◌, refl, sym, ◌∙◌, ap, subst, ℕ, ◌<◌, ◌≤◌, true, false, List, [], ◌∷◌, ◌++◌, length, map, Some}
 use Rattle.osi_pair.proofs.Vocabulary.{None, option_map, inl, arith, inr, append-nil, Held, place_at, Rows, State, Between, AreBetween}
-use Rattle.osi_pair.proofs.Vocabulary.{under_way, last_of, is_cut, progress_of, terms_of, Local, EndReason, Ending, connection_at, is_given}
-use Rattle.osi_pair.proofs.Vocabulary.{Line, Tables, turned, seen_from, shown_in_order, after_end, Message, Shown, all_lost, kept_at, End}
-use Rattle.osi_pair.proofs.Vocabulary.{Holding, TwoEnds, end_at, Entry, other, side_in, ending_in, terms_in, class_in, entry_in}
-use Rattle.osi_pair.proofs.Vocabulary.{carriers_of, IsSeated, IsUnderWay, IsLine, Stands, HasJoined, HasLine, waiting_in, quieted}
-use Rattle.osi_pair.proofs.Vocabulary.{shown_entries, Side, Left, Right}
+use Rattle.osi_pair.proofs.Vocabulary.{under_way, last_of, is_cut, progress_of, EndReason, Ending, connection_at, is_given, Line, Tables}
+use Rattle.osi_pair.proofs.Vocabulary.{turned, seen_from, shown_in_order, after_end, Message, Shown, all_lost, kept_at, End, Holding}
+use Rattle.osi_pair.proofs.Vocabulary.{TwoEnds, end_at, Entry, other, side_in, ending_in, class_in, entry_in, carriers_of, IsSeated}
+use Rattle.osi_pair.proofs.Vocabulary.{IsUnderWay, IsLine, Stands, HasJoined, HasLine, waiting_in, quieted, shown_entries, Side, Left}
+use Rattle.osi_pair.proofs.Vocabulary.{Right}
 use Rattle.osi_pair.proofs.ending.all_sessions_are_lost_in_order.{none_kept, IsTold, AllSeated, SaysAll, says_all, journal_on}
 use Rattle.osi_pair.proofs.session.an_end_with_nothing_pending.{quiet_waits}
 use Rattle.osi_pair.proofs.turn.what_remains_when_a_unit_was_taken.{terms_at}
@@ -166,7 +166,6 @@ ended_stands Left p b t u e h c reason ending lines held first journal s m is no
     (grind arith) in
     let keep : ℕ → ℕ = λ n. (at n).keep in
     let count = ended_count machine.Left keep 1 u.lines ∙ m.count in
-    let terms = m.terms ∙ s.terms ∙ ap (λ (l : Local). terms_in (terms_of l p.right.end.carrier.local)) (sym m.local) in
     let journal_now = journal_on u.journal (shown_in_order machine.Left 1 u.lines) (entries.ended machine.Left ending) p.journal
     (shown_entries Left first) (ends Left reason)
     (ap (map Some) m.journal ∙ s.journal) says.says (sym (ap (option_map (entries.ended machine.Left)) is))
@@ -185,7 +184,6 @@ ended_stands Right p b t u e h c reason ending lines held first journal s m is n
     (grind arith) in
     let keep : ℕ → ℕ = λ n. (at n).keep in
     let count = ended_count machine.Right keep 1 u.lines ∙ m.count in
-    let terms = m.terms ∙ s.terms ∙ ap (λ (l : Local). terms_in (terms_of p.left.end.carrier.local l)) (sym m.local) in
     let journal_now = journal_on u.journal (shown_in_order machine.Right 1 u.lines) (entries.ended machine.Right ending) p.journal
     (shown_entries Right first) (ends Right reason)
     (ap (map Some) m.journal ∙ s.journal) says.says (sym (ap (option_map (entries.ended machine.Right)) is))

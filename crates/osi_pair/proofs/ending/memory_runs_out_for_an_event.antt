@@ -17,7 +17,6 @@ use Rattle.osi_pair.proofs.turn.what_an_acting_end_leaves_in_flight.{run_one, nu
 use Rattle.osi_pair.proofs.packet.when_a_session_replies_or_closes.{opened_stays}
 use Rattle.osi_pair.proofs.flight.a_taken_packet_is_one_row.{packet_acts}
 use Rattle.osi_pair.proofs.ending.a_break_is_the_machines.{still_seated}
-use Rattle.osi_pair.proofs.call.a_call_is_the_machines.{put_nothing}
 use Rattle.osi_pair.proofs.flight.who_receives_what_is_in_flight.{TakeLaws, takes_from}
 use Rattle.osi_pair.proofs.ending.an_end_of_an_end_is_the_machines.{EndingLine, lost_end, all_shown_then, whole_line}
 use Rattle.osi_pair.proofs.ending.a_connection_ends_with_its_end.{still_waiting}
@@ -190,10 +189,6 @@ silent_loss : (x : Standing) → (react x broken_off).reply ≡ None
 unfolding react
 silent_loss x = refl
 
-channel_leaves : (broken : Bool) (r : Option Meaning) (channel : List Message) → r ≡ None →
-    put broken (over ∷ []) (put broken (replied r) channel) ≡ channel ++ unless_broken broken (over ∷ [])
-channel_leaves broken r channel e = grind (arith, put_nothing, put_unless)
-
 -- a side that has not ended has received no loss
 abbrev pub LosesLate : Type 0
 LosesLate = (t : Tables) → IsTableRun t → LosesAsItEnds t
@@ -249,7 +244,7 @@ leaves_shown laws takes late s p b t packet h held old run alive pa reason left 
       there = still_seated n (end_at (other s) p) l.peer sp.others at.is.there;
       kept = kept;
       more = [];
-      parts = grind (arith, channel_leaves, react, silent_loss, put_unless, append-nil);
+      parts = grind (arith, react, silent_loss, put_unless, append-nil);
       whole = λ y. refl;
       out = out.way;
     } in

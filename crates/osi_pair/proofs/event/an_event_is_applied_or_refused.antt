@@ -1,11 +1,8 @@
 -- The state after an event that is applied or refused.
 -- For the code of `Pair`.
-use Rattle.std.proofs.Common.{arith}
 use Rattle.osi_pair.proofs.Vocabulary.{◌≡◌, List, Result, Ok, Err, OnOk, OnErr, IfOk, None, sym, subst, PairError, Step, CanHappen}
 use Rattle.osi_pair.proofs.Vocabulary.{StandsAfter, TwoEnds, misfit, Does, CarriesAsMuch, CarriesWhereQuiet, IsReached, StandsAt, Applied}
-use Rattle.osi_pair.proofs.Vocabulary.{Event}
-use Rattle.osi_pair.specs.Events.{NotesIfCutShort, NotesWhereQuiet, IsFullIfCutShort, IsFullWhereQuiet}
-use Rattle.osi_pair.specs.Pairings.{Pairing}
+use Rattle.osi_pair.proofs.Vocabulary.{Event, arith, NotesIfCutShort, NotesWhereQuiet, IsFullIfCutShort, IsFullWhereQuiet, Pairing}
 use Rattle.osi_pair.proofs.carry.nothing_holds_up_a_carry.{carries_as_much, cut_by_notes, cut_when_full}
 use Rattle.osi_pair.proofs.event.two_ends_after_an_event.{reached_event}
 use Rattle.osi_pair.proofs.event.what_an_event_does.{EventLaws, event_stands}

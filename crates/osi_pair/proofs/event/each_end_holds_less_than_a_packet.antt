@@ -1,12 +1,11 @@
 -- Between two events each end holds less than a packet.
 -- For events and the code of `Pair`.
-use Rattle.std.proofs.Common.{arith}
-use Rattle.osi_pair.specs.declared.events.Event.TheVariants.{Call}
 use Rattle.osi_pair.proofs.Vocabulary.{◌≡◌, ℕ, Bool, true, false, List, [], ◌∷◌, take, Option, Some, None, refl, sym, subst, Fed, Local}
 use Rattle.osi_pair.proofs.Vocabulary.{EndReason, Call as Asked, CallError, connect_error, call_error, Feeds, Holding, waits, ConnectError}
 use Rattle.osi_pair.proofs.Vocabulary.{empty_partial, IsPartial, Crossing, CarriesPieces, TwoEnds, fresh_ends, connected_by}
 use Rattle.osi_pair.proofs.Vocabulary.{called_by_error, after_connect, after_call, after_break, Does, HoldLess, Event, Connect, Carry}
-use Rattle.osi_pair.proofs.Vocabulary.{Break, Told, Side, Left, Right, ConnectCall as Wanted}
+use Rattle.osi_pair.proofs.Vocabulary.{Break, Told, Side, Left, Right, ConnectCall as Wanted, arith}
+use Rattle.osi_pair.specs.declared.events.Event.TheVariants.{Call}
 
 -- an end holds less than a packet
 abbrev pub HoldsLess : Holding → Type 0

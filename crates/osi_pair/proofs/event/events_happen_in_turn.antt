@@ -1,12 +1,10 @@
 -- Events that happen one after the other, and their steps of the machine.
 -- For the code of `Pair`.
-use Rattle.std.proofs.Common.{arith}
-use Rattle.osi_pair.specs.declared.events.Event.TheVariants.{Call}
 use Rattle.osi_pair.proofs.Vocabulary.{◌∙◌, ◌||◌, Bool, false, List, [], ◌∷◌, ◌++◌, Option, Some, None, refl, ap, subst, Applied}
 use Rattle.osi_pair.proofs.Vocabulary.{append_assoc, append-nil, EndReason, Step, connects, breaks, ends, StandsAfter, asked_of, TwoEnds}
 use Rattle.osi_pair.proofs.Vocabulary.{end_at, Happens, HappenAll, AreStepsOf, StandsBehind, RunsThrough, offer_in, StandsAt, StandsAtTold}
-use Rattle.osi_pair.proofs.Vocabulary.{Event, Connect, Carry, Break, Told, Side}
-use Rattle.osi_pair.specs.Pairings.{Pairing}
+use Rattle.osi_pair.proofs.Vocabulary.{Event, Connect, Carry, Break, Told, Side, arith, Pairing}
+use Rattle.osi_pair.specs.declared.events.Event.TheVariants.{Call}
 
 -- one more event happens
 pub happen_more : (events : List Event) (event : Event) (applied : Applied) (is_cut : Bool) (old mid new : Pairing) →

@@ -1,8 +1,7 @@
 -- Two ends after an event.
 -- For events.
-use Rattle.std.proofs.Common.{arith}
 use Rattle.osi_pair.proofs.Vocabulary.{◌≡◌, ℕ, List, Option, None, EndReason, Step, CanHappen, StandsAfter, TwoEnds, end_at, misfit, Does}
-use Rattle.osi_pair.proofs.Vocabulary.{HoldLess, IsReached, StandsAtTold, Event, Carry, Break, Told, Side}
+use Rattle.osi_pair.proofs.Vocabulary.{HoldLess, IsReached, StandsAtTold, Event, Carry, Break, Told, Side, arith}
 use Rattle.osi_pair.proofs.event.each_end_holds_less_than_a_packet.{event_less}
 use Rattle.osi_pair.proofs.event.what_an_event_does.{EventLaws, event_stands}
 

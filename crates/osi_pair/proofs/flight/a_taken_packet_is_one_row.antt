@@ -90,7 +90,6 @@ packet_acts laws terms end both b packet octets behind a alive none is cut =
     (subst (λ (l : List Message). AllByRecursion (λ m. may_arrive (progress_of old) m ≡ true) l) y.brings.is y.brings.may) in
     let arrived : y.arrived ≡ arrived_in r.row = y.brings.is ∙ r.comes_as in
     let same = laws.told terms end mid d.now [] d.between in
-    let new = still_to_tell end [] mid in
     let was : last_of end b ≡ st = sym (a.lives end alive) in
     let reached : last_of end d.now ≡ react u st = sym (d.between.lives end d.lasts) ∙ side_same end (react u st) behind both in
     record {

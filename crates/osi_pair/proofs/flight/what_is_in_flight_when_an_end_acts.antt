@@ -31,13 +31,6 @@ alike_take g xs ys gone h = grind (arith, map_take, map-append, length-map, take
 
 -- ---- if one place is unchanged
 
-pub alike_back : (p : Place) (xs ys zs : Sent) → AreAlike (progress_of p) xs zs → AreLike (connection_in p) ys zs →
-    AreAlike (progress_of p) xs ys
-alike_back p xs ys zs h k = grind arith
-
-pub alike_trans : (g : Progress) (xs ys zs : Sent) → AreAlike g xs ys → AreAlike g ys zs → AreAlike g xs zs
-alike_trans g xs ys zs h k = grind arith
-
 -- messages that are like at a connection are alike there
 pub like_alike : (p : Place) (xs ys : Sent) → AreLike (connection_in p) xs ys → AreAlike (progress_of p) xs ys
 like_alike p xs ys h = grind arith
@@ -83,7 +76,7 @@ words_of_puts (m ∷ puts) = ap (λ (l : Sent). message_in m ∷ l) (words_of_pu
 -- words after words
 put_alike : (p : Place) (words more : List Word) (stays put new : Sent) → AreAlike (progress_of p) (map word_in words) stays →
     AreLike (connection_in p) new (stays ++ put) → map word_in more ≡ put → AreAlike (progress_of p) (map word_in (words ++ more)) new
-put_alike p words more stays put new first after same = grind (arith, map-append, alike_back)
+put_alike p words more stays put new first after same = grind (arith, map-append)
 
 -- nothing of it is lost, and something is put after it, unless what is in flight was cut
 pub out_puts : (o : Option EndReason) (p : Place) (c d : Bool) (H : About) (x : State) (ms puts : List Message) (more : List Word)
@@ -94,7 +87,7 @@ out_puts o p c d H x ms puts more old new stays gone put w are spare cut before 
     let first : o ≡ None → AreAlike (progress_of p) (map word_in w.words) stays = grind (arith, append-nil) in
     elim spare [
       | inl uncut ↦ grind (arith, put_alike, no_begun, put_words w.begun w.words more puts w.order (w.finished uncut) are, w.finished uncut)
-      | inr nothing ↦ (grind (arith, after, map, append-nil, as_now, alike_back))
+      | inr nothing ↦ (grind (arith, after, map, append-nil, as_now))
     ]
 
 -- messages that go by themselves
@@ -192,7 +185,7 @@ out_cuts o p c d H x ms puts old new stays gone put w takes which before after s
           let left : stays ++ put ≡ stays =
           ap (λ (l : Sent). stays ++ l) (sym (sym (ap (map message_in) nothing.1) ∙ same)) ∙ append-nil stays in
           let y = front_at o o (progress_of p) (progress_of p) c d H x ms k old new w takes nothing.0
-          (grind (arith, alike_back)) in
+          (grind arith) in
           grind (arith, append-nil (take y.keep ms))
     ]
 

@@ -119,8 +119,7 @@ two_to_caller caller called going coming u rest j e =
     let some : 0 < n = (subst (λ (us : List Value). AllByRecursion (λ unit. 0 < reference_of unit) us) e j.named_back).0 in
     let st = j.stands n some in
     let c = to_caller n caller called st.course u (units_of n rest) some st.holds (sym st.back ∙ ap (units_of n) e ∙ first_of_all u rest) in
-    let given = was n caller (λ x. c.given (sym st.place ∙ x)) in
-    grind arith
+    grind (arith, was)
 
 two_to_called : (caller called : State) (going coming : List Value) (u : Value) (rest : List Value) → AreJoined caller called going coming →
     going ≡ u ∷ rest → IsFirstFor by_two false caller (place_at (reference_of u) called) u
@@ -129,7 +128,6 @@ two_to_called caller called going coming u rest j e =
     let some : 0 < n = (subst (λ (us : List Value). AllByRecursion (λ unit. 0 < reference_of unit) us) e j.named).0 in
     let st = j.stands n some in
     let c = to_called n caller called st.course u (units_of n rest) some st.holds (sym st.out ∙ ap (units_of n) e ∙ first_of_all u rest) in
-    let given = was n caller (λ x. c.given (sym st.place ∙ x)) in
     grind arith
 
 -- ---- in class 0
@@ -160,8 +158,6 @@ zero_to_called caller called g u vs h e = none_first u vs e
 zero_first : (end : Bool) (caller taker : State) (there place : Place) (u : Value) → HasOne caller there → HasOne taker place →
     ZeroBy end there place u → IsFirstFor by_zero end caller (place_at (reference_of u) taker) u
 zero_first end caller taker there place u one other z = search (arith, one_place)
-
--- ---- if CRs are refused
 
 -- ---- at either end
 

@@ -1,9 +1,8 @@
 -- What the tables say of the sessions that will receive what is in flight from a side.
 -- For breaks and ends, packets and the laws of `standing`.
-use Rattle.std.proofs.Common.{arith}
-use Rattle.osi_machine.specs.Core as machine
 use Rattle.osi_pair.proofs.Vocabulary.{◌≡◌, ℕ, true, Some, eqb-true, eq-eqb, IsTableRun, AtEachSide, IsOverWhenLeft, IsNoFaultBehind}
-use Rattle.osi_pair.proofs.Vocabulary.{connection_at, Line, Tables, turned, seen_from, side_in, Side, Left, Right}
+use Rattle.osi_pair.proofs.Vocabulary.{connection_at, Line, Tables, turned, seen_from, side_in, Side, Left, Right, arith}
+use Rattle.osi_machine.specs.Core as machine
 use Rattle.osi_pair.proofs.turn.a_turn_keeps_the_match.{seen_twice, LinesAfter}
 use Rattle.osi_pair.proofs.flight.what_is_in_flight_when_an_end_acts.{Takes}
 

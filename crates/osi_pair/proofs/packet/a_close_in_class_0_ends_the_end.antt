@@ -6,11 +6,11 @@ use Rattle.osi_machine.specs.Worlds as worlds
 use Rattle.osi_pair.specs.Entries.{ends}
 use Rattle.osi_pair.proofs.Vocabulary.{◌≡◌, ℕ, ◌≤◌, Bool, true, List, [], ◌∷◌, ◌++◌, map, Some, None, refl, sym, ap, subst, ◌∙◌, arith}
 use Rattle.osi_pair.proofs.Vocabulary.{append-nil, append_assoc, map-append, Held, RiseFrom, AreUpTo, Rows, State, Closed, Between, by_zero}
-use Rattle.osi_pair.proofs.Vocabulary.{closed_here, delivers, Tables, after_end, step, tsdus_sent, Input, react, Shown, after_packet}
-use Rattle.osi_pair.proofs.Vocabulary.{concludes, all_lost, answers, End, answers_by, TwoEnds, end_at, Entry, side_in, Stands, waiting_in}
-use Rattle.osi_pair.proofs.Vocabulary.{quieted, shown_entries, Side, Left, Right, EndLine as Line}
-use Rattle.osi_pair.proofs.packet.when_a_session_replies_or_closes.{AnswerLaws, closes_alone, class_known}
-use Rattle.osi_pair.proofs.packet.a_reply_or_close_keeps_the_match.{answered_end, line_with, move_ends, linked_closes, moved_order}
+use Rattle.osi_pair.proofs.Vocabulary.{closed_here, delivers, Tables, tsdus_sent, Input, react, Shown, after_packet, concludes, all_lost}
+use Rattle.osi_pair.proofs.Vocabulary.{answers, End, answers_by, TwoEnds, end_at, Entry, side_in, Stands, waiting_in, quieted}
+use Rattle.osi_pair.proofs.Vocabulary.{shown_entries, Side, Left, Right, EndLine as Line}
+use Rattle.osi_pair.proofs.packet.when_a_session_replies_or_closes.{AnswerLaws, closes_alone}
+use Rattle.osi_pair.proofs.packet.a_reply_or_close_keeps_the_match.{answered_end, line_with, moved_order}
 use Rattle.osi_pair.proofs.flight.a_taken_packet_is_one_row.{CarrierLaws}
 use Rattle.osi_pair.proofs.call.a_call_is_the_machines.{put_nothing}
 use Rattle.osi_pair.proofs.flight.who_receives_what_is_in_flight.{TakesFrom}
@@ -69,16 +69,6 @@ zero_stands Right p a lines h n shown now t old takes lasts waits alone =
     (record { quiet = quiet_waits (all_lost lines); says = says.says })
     (says_so Right p.journal n shown lines (ends Right Closed ∷ []) waits alone)
 
--- ---- the carrier
-
--- ---- the tables
-
--- the delivery ends the side
-shut_step : (s : Side) (p : TwoEnds) (t : Tables) (packet : List ℕ) (h : Held) (v : HasMoved s p t packet h) (keep : ℕ → ℕ) →
-    known_by t v.m ≡ Some worlds.class_0 → (move_of v.m).closes ≡ true → (move_of v.m).reply ≡ None →
-    step t (delivers (side_in s) v.m.n keep) ≡ after_end (side_in s) closed_here keep (moved_tables s t v.m)
-shut_step s p t packet h v keep known closing reply = search (arith, known_by, move_of, turn_of, line_with, line_then, put_nothing)
-
 -- ---- the packet
 
 shut_shown : CarrierLaws → (s : Side) (p : TwoEnds) (t : Tables) (packet : List ℕ) (h : Held) (v : HasMoved s p t packet h) →
@@ -92,7 +82,6 @@ shut_shown laws s p t packet h v zero known closing reply =
     let p1 = turned_pair s e h n shown p in
     let order = moved_order s p t packet h v in
     let alone = alone_by e.carrier.given lines (grind (arith, v.lasts)) order.rising order.sound.known in
-    let open_now = linked_closes s p t packet h v closing (move_ends v.m.row v.row) in
     let acts : answers n 0 (as_made (move_of v.m)) e.carrier ≡ carriers.ends Closed e.carrier =
     ap (λ (b : Bool). answers_by b n (tsdus_sent 0 (move_of v.m).reply) e.carrier) closing
     ∙ (grind (arith, turned_pair)) in
@@ -107,7 +96,7 @@ shut_shown laws s p t packet h v zero known closing reply =
       now = v.now;
       local = v.local;
       stands = subst (λ (y : Tables). Stands (shown_pair s (lost_end Closed e.carrier lines) h p) v.now y)
-          (sym (shut_step s p t packet h v keep known closing reply))
+          (sym (grind (arith, known_by, move_of, turn_of, line_with, line_then, put_nothing)))
           done.stands;
     })
 
@@ -120,5 +109,5 @@ closes_zero laws moves s p b t packet h old alive pa v row input shut zero =
     let x = v.m.seen.own.session in
     let a = closes_alone moves v.m.row v.m.first x v.row (ap (λ (i : Input). (react x i).closes) (sym input) ∙ shut) in
     shut_shown laws.two s p t packet h v zero
-    (grind (arith, class_known)) shut
+    (grind arith) shut
     (ap (λ (i : Input). (react x i).reply) input ∙ a.reply)

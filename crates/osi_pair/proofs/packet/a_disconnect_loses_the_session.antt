@@ -5,10 +5,10 @@ use Rattle.osi_between.specs.Messages as carrier
 use Rattle.osi_machine.specs.Worlds as worlds
 use Rattle.osi_pair.proofs.Vocabulary.{◌≡◌, ℕ, Bool, true, false, List, [], ◌∷◌, map, take, Option, refl, sym, ap, subst, ◌∙◌, arith, Held}
 use Rattle.osi_pair.proofs.Vocabulary.{place_at, reference_of, Between, last_of, under_way, put_in, is_cut, progress_of, IsTableRun}
-use Rattle.osi_pair.proofs.Vocabulary.{delivers, learns, Seat, Line as TableLine, Turn, Tables, seen_from, step, without_first}
-use Rattle.osi_pair.proofs.Vocabulary.{message_taken, Message, over, put, replied, Meaning, broken as broken_off, Standing, Move, react}
-use Rattle.osi_pair.proofs.Vocabulary.{after_packet, answers, End, hands_none, TwoEnds, end_at, other, side_in, is_caller, carriers_of}
-use Rattle.osi_pair.proofs.Vocabulary.{message_in, Stands, Goes, HasJoined, quieted, Side, kind_of, put_other, quieted_at}
+use Rattle.osi_pair.proofs.Vocabulary.{delivers, learns, Seat, Line as TableLine, Turn, Tables, seen_from, step, Message, over, put}
+use Rattle.osi_pair.proofs.Vocabulary.{replied, Meaning, broken as broken_off, Standing, Move, react, after_packet, answers, End}
+use Rattle.osi_pair.proofs.Vocabulary.{hands_none, TwoEnds, end_at, other, side_in, is_caller, carriers_of, message_in, Stands, Goes}
+use Rattle.osi_pair.proofs.Vocabulary.{HasJoined, quieted, Side, kind_of, put_other, quieted_at}
 use Rattle.osi_pair.proofs.packet.a_reply_or_close_keeps_the_match.{answered_end, shown_is}
 use Rattle.osi_pair.proofs.call.a_call_is_the_machines.{put_nothing}
 use Rattle.osi_pair.proofs.turn.what_remains_when_a_unit_was_taken.{DidAt, TablesAfter, is_agree, line_then, finish, known_then, PacketAt}
@@ -29,7 +29,7 @@ use Rattle.osi_pair.proofs.session.a_seat_is_its_progress_and_session.{transport
 use Rattle.osi_pair.proofs.turn.all_is_shown.{StandsShown, shown_pair}
 use Rattle.osi_pair.proofs.turn.a_turn_keeps_the_match.{IsSeen, with_holding, turned_pair, Turned, turned_stands, out_there}
 use Rattle.osi_pair.proofs.flight.what_is_in_flight_when_an_end_acts.{out_cuts, Takes}
-use Rattle.osi_pair.proofs.flight.whether_something_is_cut_off.{cut_broken, Lasts}
+use Rattle.osi_pair.proofs.flight.whether_something_is_cut_off.{Lasts}
 use Rattle.osi_pair.proofs.flight.who_receives_what_is_in_flight.{takes_from}
 
 -- ---- the turn of the tables
@@ -80,7 +80,7 @@ out_leaves s p b t e h n reason l old d same i takes =
     (HasJoined n (end_at (other s) p)) l.peer.session.state l.own.channel (unless_broken t.broken (over ∷ []))
     (under_way (is_caller s) n (carriers_of p) b)
     (under_way (is_caller s) n (carriers_of two) d.now) d.stays d.gone (put_in (carriers_of p) (put_for d.row)) i.out takes
-    (leave_by t.broken cut over (λ begun. tt) (cut_broken s p two t.broken old.broken (grind arith)))
+    (leave_by t.broken cut over (λ begun. tt) (grind arith))
     d.out_before d.out_after
     (ap (map message_in) (sym puts) ∙ (grind arith)) in
     record {
@@ -111,7 +111,6 @@ left_unit laws s p b t packet h reason old alive pa heard is a d same f out back
     let n = reference_of pa.unit in
     let row = pa.did.row in
     let m = moving s p b t n row a in
-    let x = a.seen.own.session in
     let e = EndOf s p b t packet h pa a in
     let keep = out.keep in
     let move = move_of m in
@@ -141,11 +140,7 @@ left_step s p b t n keep reason row old alive is a =
     let tr : a.seen.own.transport ≡ worlds.linked = a.transport ∙ ap (λ (r : Row). transport_by (before r)) is in
     let same : kind_of (message_in a.first) ≡ carrier.bye reason =
     subst (λ (r : Row). kind_of (message_in a.first) ≡ kind_of (got_in r)) is a.kind in
-    let taken : message_taken t.broken t.terms keep a.seen.own.transport (without_first a.seen a.rest) a.first ≡ left_turn t.broken keep row
-    (react a.seen.own.session (heard_by row a.first)) a.rest a.seen =
-    (grind (arith, seat_now, silent_broken, put_nothing))
-    ∙ ap (λ (r : Row). left_turn t.broken keep r (react a.seen.own.session (heard_by r a.first)) a.rest a.seen) (sym is) in
-    grind (arith, step_opens, react, heard_by, lasting_in)
+    grind (arith, step_opens, react, heard_by, lasting_in, seat_now, silent_broken, put_nothing)
 
 -- a packet that closes an open connection
 pub leaving_packet : MovingLaws → (s : Side) (p : TwoEnds) (b : Between) (t : Tables) (packet : List ℕ) (h : Held) (reason : ℕ) →

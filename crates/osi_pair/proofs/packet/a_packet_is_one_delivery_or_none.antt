@@ -111,9 +111,6 @@ record IsRestRow (row : Row) (n : ℕ) : Type 0 where
   stays : leaves_use (before row) (after row) ≡ false
   told : told_for n row ≡ []
 
-refuses_row : (n reason : ℕ) → IsRestRow (refuses reason) n
-refuses_row n reason = grind arith
-
 -- ---- what the carrier did, at the end of a side
 
 pub record ActsAt (s : Side) (p : TwoEnds) (packet : List ℕ) (u : Value) (n : ℕ) (row : Row) : Type 0 where
@@ -257,10 +254,6 @@ calm_then : (s : Side) (p : TwoEnds) (b : Between) (t : Tables) (n : ℕ) (row :
     StaysCalm l.own.session.state ms
 calm_then s p b t n row l ms old alive stood i shuts = search (arith, was_at, over_stays, session_of_seat)
 
-pub stood_at : (s : Side) (p : TwoEnds) (b : Between) (packet : List ℕ) (h : Held) → (pa : PacketAt s p b packet h) →
-    progress_of (place_at (reference_of pa.unit) (last_of (is_caller s) b)) ≡ before pa.did.row
-stood_at s p b packet h pa = grind arith
-
 -- a session begins
 opens_new : (n : ℕ) (lines : Rows Line) (e : End) → value_at n lines ≡ None → opens n (value_at n lines) e ≡ joins n awaits e
 opens_new n lines e none = ap (λ (o : Option Line). opens n o e) none
@@ -334,7 +327,7 @@ resting_packet laws s p b t packet h old alive pa (inl is) =
     let lines = (end_at s p).end.lines in
     let e = acted_end pa.unit lines (end_at s p).end in
     let at = line_at s n p b t old pa.first.named pa.first.given in
-    let q : IsRestRow pa.did.row n = subst (λ (r : Row). IsRestRow r n) (sym is.1) (refuses_row n is.0) in
+    let q : IsRestRow pa.did.row n = subst (λ (r : Row). IsRestRow r n) (sym is.1) (grind arith) in
     let kind : q.got ≡ carrier.ask = got_is pa.did.row n q carrier.ask (ap arrived_in is.1) in
     let sp = came_alone s p b t packet h alive pa q at (ap is_tsdu kind) in
     rest_packet laws s p b t packet h old alive pa q at sp.first sp.others sp.parts sp.kind
@@ -355,8 +348,8 @@ resting_packet laws s p b t packet h old alive pa (inr (inl is)) =
     rest_packet laws s p b t packet h old alive pa q at sp.first sp.others sp.parts sp.kind
     (back_then s p (did_at s p b packet h lines pa).now e h n (after (did_at s p b packet h lines pa).row) None
     (after_message at.line.own.session.state sp.first) at.line.own.session.state sp.others sp.stays
-    (held_then s p b t n pa.did.row at.line None old alive (stood_at s p b packet h pa) at.is (ap before is.1))
-    (λ calm. calm_then s p b t n pa.did.row at.line sp.others old alive (stood_at s p b packet h pa) at.is (ap before is.1)))
+    (held_then s p b t n pa.did.row at.line None old alive (grind arith) at.is (ap before is.1))
+    (λ calm. calm_then s p b t n pa.did.row at.line sp.others old alive (grind arith) at.is (ap before is.1)))
 resting_packet laws s p b t packet h old alive pa (inr (inr is)) =
     let n = reference_of pa.unit in
     let lines = (end_at s p).end.lines in
@@ -364,7 +357,7 @@ resting_packet laws s p b t packet h old alive pa (inr (inr is)) =
     let d = did_at s p b packet h lines pa in
     let at = line_at s n p b t old pa.first.named pa.first.given in
     let held : (begun : Option (List ℕ)) → HasJoined n (end_at s p) begun =
-    λ begun. held_then s p b t n pa.did.row at.line begun old alive (stood_at s p b packet h pa) at.is (ap before is.1) in
+    λ begun. held_then s p b t n pa.did.row at.line begun old alive (grind arith) at.is (ap before is.1) in
     elim (back_one s p b e h n at.line (carrier.message is.0) d at.is alive (ap arrived_in (same_row s p b packet h lines pa ∙ is.1))) [
       | inl sp ↦
           let q : IsRestRow pa.did.row n = subst (λ (r : Row). IsRestRow r n) (sym is.1) (grind arith) in
@@ -372,7 +365,7 @@ resting_packet laws s p b t packet h old alive pa (inr (inr is)) =
           (sp.kind ∙ ap message_kind (sym (got_is pa.did.row n q (carrier.message is.0) (ap arrived_in is.1))))
           (back_then s p d.now e h n (after d.row) None
           (after_message at.line.own.session.state sp.first) at.line.own.session.state sp.others sp.stays (held None)
-          (λ calm. calm_then s p b t n pa.did.row at.line sp.others old alive (stood_at s p b packet h pa) at.is (ap before is.1)))
+          (λ calm. calm_then s p b t n pa.did.row at.line sp.others old alive (grind arith) at.is (ap before is.1)))
       | inr sp ↦ ignored_packet laws s p b t packet h old alive pa is.0 is.1 at
           (search (arith, back_then, after))
     ]

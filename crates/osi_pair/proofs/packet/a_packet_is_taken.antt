@@ -48,14 +48,9 @@ numbered_then s [] (ends_side q e keep ∷ ys) a d = grind arith
 numbered_then s (x ∷ xs) ys a d = (a.0, numbered_then s xs ys a.1 d)
 numbered_then s xs ys a d = search
 
-terms_shown : (s : Side) (p : TwoEnds) (e : End) (h : Held) → e.carrier.local ≡ (end_at s p).end.carrier.local →
-    terms_at (shown_pair s e h p) ≡ terms_at p
-terms_shown s p e h same = grind arith
-
 pub arrivals_at : (s : Side) (p : TwoEnds) (steps : List Step) (e : End) (h : Held) → StandsAt p steps →
     StandsShown s p (tables_at p steps) e h → StandsAtArrivals s (shown_pair s e h p) steps
 arrivals_at s p steps e h at x =
-    let terms = terms_shown s p e h x.local in
     record {
       more = x.more;
       are = x.are;

@@ -1,22 +1,21 @@
 -- A part of a Data arrives that is not the last: its session joins it to what has begun. The tables have the Data in
 -- flight until its last part arrives, so they stay as they are.
 -- For packets.
-use Rattle.osi_carrier.specs.React.{react as carrier_react}
-use Rattle.osi_machine.specs.Worlds as worlds
-use Rattle.osi_session.specs.Listening.{rests}
-use Rattle.osi_session.specs.Listening as words
-use Rattle.osi_stack.specs.Moving.{noted}
 use Rattle.osi_pair.proofs.Vocabulary.{◌≡◌, ℕ, ◌≤◌, false, true, List, [], Some, refl, sym, ap, subst, ◌∙◌, arith, Held, tsdu, IsOrderly}
 use Rattle.osi_pair.proofs.Vocabulary.{Rows, State as Carrier, put_here, put_other, orderly_unit, orderly_same, reference_of, Between}
 use Rattle.osi_pair.proofs.Vocabulary.{leaves_use, Line as TableLine, Tables, part_octets, Listener, came, came_as, part_comes}
 use Rattle.osi_pair.proofs.Vocabulary.{HasNumbersInWords, after_packet, concludes, told_all, kept_at, line_after, to_session, End}
 use Rattle.osi_pair.proofs.Vocabulary.{session_in, came_numbers, hands_none, packet_rises, TwoEnds, end_at, other, joining, HasJoined, Goes}
-use Rattle.osi_pair.proofs.Vocabulary.{IsInOrder, Stands, waiting_in, Side, put_row as put, EndLine as Line, append-nil}
+use Rattle.osi_pair.proofs.Vocabulary.{IsInOrder, Stands, waiting_in, Side, put_row as put, EndLine as Line, append-nil, rests}
+use Rattle.osi_carrier.specs.React.{react as carrier_react}
+use Rattle.osi_machine.specs.Worlds as worlds
+use Rattle.osi_session.specs.Listening as words
+use Rattle.osi_stack.specs.Moving.{noted}
 use Rattle.osi_pair.proofs.turn.what_remains_when_a_unit_was_taken.{TablesAfter, is_agree, order_of, finish, known_then, PacketAt}
 use Rattle.osi_pair.proofs.packet.an_end_handles_its_carriers_events.{one_told, lasting}
 use Rattle.osi_pair.proofs.packet.a_session_that_moved.{MovingLaws, PartArrives, opened_then, lives_then, open_at, seat_transport}
 use Rattle.osi_pair.proofs.session.a_moved_session_keeps_the_order.{session_moves, moves_order}
-use Rattle.osi_pair.proofs.packet.a_packet_is_one_delivery_or_none.{ActsAt, acts_at, same_role, quiet_of, stood_at}
+use Rattle.osi_pair.proofs.packet.a_packet_is_one_delivery_or_none.{ActsAt, acts_at, same_role, quiet_of}
 use Rattle.osi_pair.proofs.session.an_end_with_nothing_pending.{put_waits, quiet_same}
 use Rattle.osi_pair.proofs.packet.a_unit_with_which_no_session_acts.{sends_then}
 use Rattle.osi_pair.proofs.packet.a_unit_at_rest_keeps_the_match.{acted_end, did_at, same_row, out_row, back_then, other_lines, line_same}
@@ -133,7 +132,7 @@ part_unit laws s p b t packet h old alive pa v f =
     let waits : waiting_in lines ≡ [] = search (arith, put_waits, quiet_of) in
     let steady : leaves_use (before d.row) (after d.row) ≡ false = ap (λ (r : Row). leaves_use (before r) (after r)) row in
     let tr : l.own.transport ≡ transport_by (after d.row) =
-    seat_transport s p b t n pa.did.row l old alive (stood_at s p b packet h pa) v.stands ∙ ap (λ (r : Row). transport_by (before r)) v.is
+    seat_transport s p b t n pa.did.row l old alive (grind arith) v.stands ∙ ap (λ (r : Row). transport_by (before r)) v.is
     ∙ ap (λ (r : Row). transport_by (after r)) (sym row) in
     finish s p b t t e h n [] l x l.own.channel l.peer.channel old alive d f.lasts f.local
     (same_role laws.packet s p b t e h n old alive d f.lasts) pa.first.given (laws.packet.behind _ _ d.now d.between)

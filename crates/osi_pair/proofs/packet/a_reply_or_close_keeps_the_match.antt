@@ -6,15 +6,15 @@ use Rattle.osi_machine.specs.Machine as entries
 use Rattle.osi_machine.specs.Tables.{closed}
 use Rattle.osi_machine.specs.Worlds as worlds
 use Rattle.osi_pair.proofs.Vocabulary.{◌≡◌, ℕ, zero, suc, Bool, true, false, List, [], ◌∷◌, map, Option, Some, None, refl, sym, ap, subst}
-use Rattle.osi_pair.proofs.Vocabulary.{◌∙◌, ◌⊎◌, arith, noted_in, append-nil, Held, open_link, sent, sent_on, closed_with, Rows}
-use Rattle.osi_pair.proofs.Vocabulary.{State as Carrier, in_use, gone, by_two, delivers, shown_at, replaced, with_connection}
-use Rattle.osi_pair.proofs.Vocabulary.{Line as TableLine, Tables, stays, puts, closes_by, step, Message, unit, put, replied, Meaning}
-use Rattle.osi_pair.proofs.Vocabulary.{tsdus_sent, written, is_ended, Shown, after_packet, concludes, with_carrier, IsSound, answers, End}
-use Rattle.osi_pair.proofs.Vocabulary.{answers_by, hands_none, handed, sent_by_itself, TwoEnds, end_at, side_in, IsInOrder, Stands}
-use Rattle.osi_pair.proofs.Vocabulary.{waiting_in, quieted, Side, Link, EndLine as Line, quieted_at}
+use Rattle.osi_pair.proofs.Vocabulary.{◌∙◌, ◌⊎◌, arith, noted_in, append-nil, Held, sent, closed_with, Rows, State as Carrier, in_use, gone}
+use Rattle.osi_pair.proofs.Vocabulary.{by_two, delivers, shown_at, replaced, with_connection, Line as TableLine, Tables, stays, puts}
+use Rattle.osi_pair.proofs.Vocabulary.{closes_by, step, Message, unit, put, replied, Meaning, tsdus_sent, written, is_ended, Shown}
+use Rattle.osi_pair.proofs.Vocabulary.{after_packet, concludes, with_carrier, IsSound, answers, End, answers_by, hands_none, handed}
+use Rattle.osi_pair.proofs.Vocabulary.{sent_by_itself, TwoEnds, end_at, side_in, IsInOrder, Stands, waiting_in, quieted, Side}
+use Rattle.osi_pair.proofs.Vocabulary.{EndLine as Line, quieted_at}
 use Rattle.osi_pair.proofs.turn.what_an_acting_end_leaves_in_flight.{StandsOn}
 use Rattle.osi_pair.proofs.flight.a_taken_packet_is_one_row.{CarrierLaws}
-use Rattle.osi_pair.proofs.call.a_call_is_the_machines.{put_nothing, open_is}
+use Rattle.osi_pair.proofs.call.a_call_is_the_machines.{put_nothing}
 use Rattle.osi_pair.proofs.turn.a_closed_connection_leaves.{closes_from, close_is}
 use Rattle.osi_pair.proofs.turn.what_remains_when_a_unit_was_taken.{terms_at, line_then}
 use Rattle.osi_pair.proofs.packet.an_end_handles_its_carriers_events.{lasting}
@@ -43,10 +43,6 @@ pub shown_is : (s : Side) (p : TwoEnds) (e : End) (h : Held) (n : ℕ) (shown : 
     c.ended ≡ None → waiting_in lines ≡ map (λ x. (n, x)) shown →
     with_holding s (answered_end c (quieted lines)) h (turned_pair s e h n shown p) ≡ shown_pair s (answered_end c lines) h p
 shown_is s p e h n shown c lines lasts waits = grind (arith, with_holding, append-nil)
-
-sent_events : (n : ℕ) (tsdu : List ℕ) (c : Carrier) (peer : ℕ) (link : Link) → open_link n c ≡ Some (peer, link) →
-    (sent n tsdu c).events ≡ c.events
-sent_events n tsdu c peer link is = ap (λ (o : Option (ℕ × Link)). (sent_on n tsdu o c).events) is
 
 -- ---- the tables
 
@@ -106,7 +102,6 @@ finish_shown : (s : Side) (p : TwoEnds) (t : Tables) (packet : List ℕ) (h : He
     (turned_pair s (moved_end s p v.unit v.m) h v.m.n (move_of v.m).shown p)) u → StandsShown s p t (after_packet (end_at s p).end packet) h
 finish_shown s p t packet h v c keep u same lasts local is on =
     let n = v.m.n in
-    let lines = loud_lines s p v.m in
     subst (λ (x : End). StandsShown s p t x h) (sym same)
     (record {
       more = delivers (side_in s) n keep ∷ [];
@@ -135,8 +130,6 @@ answered_shown laws s p t packet h v x sound open_still reply =
     grind (arith, move_of v.m, sent_by_itself (Some x), handed n (written x ∷ []) e.carrier (go.short, tt)) in
     let same : after_packet (end_at s p).end packet ≡ answered_end c lines =
     v.does ∙ ap (λ (k : Carrier). concludes (answered_end k lines)) acts ∙ lasting (answered_end c lines) a.lasts in
-    let events = sent_events n (written x) e.carrier linked_now.peer linked_now.link
-    (open_is n e.carrier linked_now.peer linked_now.link v.lasts linked_now.at) in
     let order : IsInOrder (with_carrier c e) = grind (arith, quieted_at) in
     finish_shown s p t packet h v c (λ r. 0) (stays t1 (side_in s) n (puts t.broken (unit x ∷ []) (moved_line v.m))) same a.lasts a.local
     (grind (arith, known_by, move_of, open_by, turn_of, with_twice, moved_line))
@@ -183,7 +176,6 @@ silent_shown s p t packet h v open_still reply =
     let n = v.m.n in
     let e = moved_end s p v.unit v.m in
     let lines = loud_lines s p v.m in
-    let p1 = turned_pair s e h n (move_of v.m).shown p in
     let t1 = moved_tables s t v.m in
     let acts : answers n 0 (as_made (move_of v.m)) e.carrier ≡ e.carrier = grind (arith, move_of, hands_none) in
     let same : after_packet (end_at s p).end packet ≡ answered_end e.carrier lines =

@@ -4,12 +4,12 @@ use Rattle.osi_between.specs.Messages as carrier
 use Rattle.osi_machine.specs.Tables as tables
 use Rattle.osi_pair.proofs.Vocabulary.{◌≡◌, ◌≢◌, ℕ, ◌<◌, ◌≤◌, true, List, [], ◌∷◌, ◌++◌, Some, None, is_some, refl, sym, ap, subst, ◌∙◌}
 use Rattle.osi_pair.proofs.Vocabulary.{arith, Held, Value, place_at, Rows, value_at, Connection, State, push_here, beyond, push_other}
-use Rattle.osi_pair.proofs.Vocabulary.{reference_of, Between, progress_of, not_yet, in_use, leaves_use, delivers, learns, Tables, seen_from}
-use Rattle.osi_pair.proofs.Vocabulary.{end_of, step, unseen, Listener, AreApart, told_all, kept_at, session_in, used_lines, fresh_line}
-use Rattle.osi_pair.proofs.Vocabulary.{used_at, apart_push, used_live, TwoEnds, end_at, side_in, Stands, waiting_in, Side, after_message}
-use Rattle.osi_pair.proofs.Vocabulary.{StaysCalm, awaits_cn as awaits, EndLine as Line, SessionState}
-use Rattle.osi_pair.proofs.turn.what_remains_when_a_unit_was_taken.{terms_at, DidAt, line_then, is_agree, last_is, order_of, finish}
-use Rattle.osi_pair.proofs.turn.what_remains_when_a_unit_was_taken.{known_then, was_at, PacketAt}
+use Rattle.osi_pair.proofs.Vocabulary.{reference_of, Between, progress_of, not_yet, leaves_use, delivers, learns, Tables, seen_from, end_of}
+use Rattle.osi_pair.proofs.Vocabulary.{step, unseen, Listener, AreApart, told_all, kept_at, session_in, used_lines, fresh_line, used_at}
+use Rattle.osi_pair.proofs.Vocabulary.{apart_push, used_live, TwoEnds, end_at, side_in, Stands, waiting_in, Side, after_message, StaysCalm}
+use Rattle.osi_pair.proofs.Vocabulary.{awaits_cn as awaits, EndLine as Line, SessionState}
+use Rattle.osi_pair.proofs.turn.what_remains_when_a_unit_was_taken.{terms_at, DidAt, line_then, is_agree, order_of, finish, known_then}
+use Rattle.osi_pair.proofs.turn.what_remains_when_a_unit_was_taken.{was_at, PacketAt}
 use Rattle.osi_pair.proofs.packet.a_unit_with_which_no_session_acts.{step_opens, tables_delivered, is_awaited, learns_row, rests}
 use Rattle.osi_pair.proofs.packet.a_unit_with_which_no_session_acts.{turn_rests, sends_then}
 use Rattle.osi_pair.proofs.packet.a_unit_at_rest_keeps_the_match.{acted_end, line_at, EndThen, NextFor, transport_before, out_row}
@@ -41,11 +41,6 @@ pub begun_waits : (n : ℕ) (live : Rows Connection) (lines : Rows Line) → wai
     waiting_in (used_lines live (joined n lines)) ≡ []
 begun_waits n live lines e = used_waits live (joined n lines) (joined_waits n lines e)
 
--- the new one
-pub begun_here : (n : ℕ) (live : Rows Connection) (lines : Rows Line) → value_at n lines ≡ None → is_some (value_at n live) ≡ true →
-    kept_at n (used_lines live (joined n lines)) ≡ Some awaits
-begun_here n live lines none lives = ap session_in (used_live n live (joined n lines) lives ∙ push_here n new_line lines none)
-
 pub begun_kept : (n q : ℕ) (live : Rows Connection) (lines : Rows Line) (x : Listener) → q ≢ n → value_at n lines ≡ None → AreApart lines →
     kept_at q (used_lines live (joined n lines)) ≡ Some x → kept_at q lines ≡ Some x
 begun_kept n q live lines x apart none all h = grind (arith, push_other, used_at, apart_push)
@@ -76,8 +71,6 @@ begins_unit s p b t packet h old alive lasting pa d row behind new =
     let stood : progress_of (place_at n was.carrier) ≡ not_yet =
     ap (λ (c : State). progress_of (place_at n c)) (sym (was_at s p b t old alive)) ∙ d.stood ∙ ap before row in
     let none : value_at n was.lines ≡ None = beyond n was.carrier.given was.lines order.sound.known (new_at n was.carrier stood) in
-    let stands : progress_of (place_at n e.carrier) ≡ in_use =
-    ap (λ (c : State). progress_of (place_at n c)) (sym (last_is s p b e h n d new.lasts)) ∙ d.stands ∙ ap after row in
     let lives : is_some (value_at n e.carrier.live) ≡ true = grind arith in
     let at = line_at s n p b t old pa.first.named pa.first.given in
     let l = at.line in
@@ -97,12 +90,12 @@ begins_unit s p b t packet h old alive lasting pa d row behind new =
       sessions = λ q apart lives. (ap session_in (used_live q live (joined n was.lines) lives ∙ push_other q n new_line was.lines apart));
       kept = λ q apart x kept. begun_kept n q live was.lines x apart none order.sound.apart kept;
     })
-    (grind (arith, after, begun_here)) at.is
+    (grind (arith, after, used_live, push_here)) at.is
     (record {
       out = out_row s p b t e h n l old d at.is (ap (λ (r : Row). leaves_use (before r) (after r)) row) alive;
       back = back_then s p d.now e h n (after d.row) None
           (after_message l.own.session.state sp.first) l.own.session.state sp.others sp.stays
-          (λ y kept. (let two : Some awaits ≡ Some y = sym (begun_here n live was.lines none lives) ∙ kept in grind arith))
+          (λ y kept. (let two : Some awaits ≡ Some y = sym (grind (arith, used_live, push_here)) ∙ kept in grind arith))
           (λ calm. subst (λ (x : SessionState). StaysCalm x sp.others) (grind arith) calm);
     })
     (grind (arith, tables_delivered s n (seen_from (side_in s) l) t known (unseen line) at.found))

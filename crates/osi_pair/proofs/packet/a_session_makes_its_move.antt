@@ -52,8 +52,6 @@ pub step_moves : (t : Tables) (s : Side) (n : ℕ) (keep : ℕ → ℕ) (row : R
     (turn_then row (heard_by row m) t.broken (react l.own.session (heard_by row m)).reply l.own.session l.own.channel xs l)
 step_moves t s n keep row l m xs got lasting found first tr move one alike = grind arith
 
--- ---- the sessions of all others
-
 -- ---- two ends
 
 -- the line of the end, its session, and what is known of it when it has moved

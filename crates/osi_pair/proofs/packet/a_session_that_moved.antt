@@ -26,7 +26,6 @@ use Rattle.osi_pair.proofs.session.an_end_moves_as_the_tables_do.{last_moves}
 use Rattle.osi_pair.proofs.packet.a_session_makes_its_move.{is_move, heard_by, MovesBy, step_moves, move_unit}
 use Rattle.osi_pair.proofs.session.a_moved_session_keeps_the_order.{session_acts, acted_order}
 use Rattle.osi_pair.proofs.packet.a_packet_is_one_delivery_or_none.{PacketLaws, ActsAt, acts_at, same_role, is_heard, lasting_in, quiet_of}
-use Rattle.osi_pair.proofs.packet.a_packet_is_one_delivery_or_none.{stood_at}
 use Rattle.osi_pair.proofs.session.an_end_with_nothing_pending.{quiet_order, quiet_waits, put_waits}
 use Rattle.osi_pair.proofs.session.a_reply_can_be_sent.{CanGo}
 use Rattle.osi_pair.proofs.packet.a_unit_with_which_no_session_acts.{delivered, tables_delivered}
@@ -230,10 +229,6 @@ part_joins : (joined : Option (List ℕ)) (x : Standing) (place : PartPlace) (oc
     (Begins H place octets now ⊎ GoesOn H place octets now) → PartJoins joined x place octets (Some now)
 part_joins joined x place octets now H holds short kept f h = search (arith, first_joins, middle_joins)
 
-part_tells : (row : Row) (place : PartPlace) (octets : List ℕ) → is_heard row ≡ true →
-    AreAlike (before row) (carrier.message (part_octets place octets) ∷ []) (got_in row ∷ []) → row ≡ tells (part_octets place octets)
-part_tells row place octets heard is = grind arith
-
 -- a message arrives, that a session receives, and what is in flight after it
 pub record ArrivesAt (s : Side) (p : TwoEnds) (b : Between) (t : Tables) (packet : List ℕ) (h : Held)
     (pa : PacketAt s p b packet h) : Type 0 where
@@ -302,7 +297,7 @@ arriving_as laws s p b t packet h old run alive pa heard at was (inl sp) =
     let lines = (end_at s p).end.lines in
     let l = at.line in
     let x = l.own.session in
-    let tr = seat_transport s p b t n row l old alive (stood_at s p b packet h pa) at.is in
+    let tr = seat_transport s p b t n row l old alive (grind arith) at.is in
     let sound = seen_sound (side_in s) l (laws.sound_lines t run n (seen_from (side_in s) l) at.found) in
     let whole = first_whole sp.first sp.others (subst AreSendable sp.parts sound.peer.under_way) in
     let joined = was.joined in
@@ -334,7 +329,6 @@ arriving_as laws s p b t packet h old run alive pa heard at was (inl sp) =
     })
 arriving_as laws s p b t packet h old run alive pa heard at was (inr sp) =
     let n = reference_of pa.unit in
-    let row = pa.did.row in
     let lines = (end_at s p).end.lines in
     let l = at.line in
     let x = l.own.session in
@@ -351,7 +345,7 @@ arriving_as laws s p b t packet h old run alive pa heard at was (inr sp) =
       had = was;
       place = sp.place;
       octets = sp.octets;
-      is = part_tells row sp.place sp.octets heard sp.is;
+      is = grind arith;
       now = sp.now;
       joins = part_joins joined x sp.place sp.octets sp.now (HasJoined n (end_at s p))
           (λ begun held. held (joining joined x) live) sp.short keeps.phase fine sp.how;
@@ -450,14 +444,10 @@ moved_then laws s p b t packet h old alive pa a d same f =
 
 -- ---- two ends then
 
-tells_left : (x : Standing) (octets : List ℕ) (m : Message) → kind_of (message_in m) ≡ carrier.message [] →
-    after_message x.state m ≡ (react x (heard_by (tells octets) m)).next.state
-tells_left x octets m k = grind (arith, left_is)
-
 hears_calm : (row : Row) (x : Standing) (m : Message) (ms : List Message) → is_heard row ≡ true →
     kind_of (message_in m) ≡ kind_of (got_in row) → StaysCalm (after_message x.state m) ms →
     StaysCalm (react x (heard_by row m)).next.state ms
-hears_calm row x m ms e k calm = grind (arith, left_is, tells_left, over_stays, is_lost)
+hears_calm row x m ms e k calm = grind (arith, left_is, over_stays, is_lost)
 
 -- what is still in flight to it
 pub rest_then : (s : Side) (p : TwoEnds) (b : Between) (t : Tables) (packet : List ℕ) (h : Held) → (pa : PacketAt s p b packet h) →

@@ -8,8 +8,8 @@ use Rattle.osi_pair.proofs.Vocabulary.{learns, Line as TableLine, Tables, seen_f
 use Rattle.osi_pair.proofs.Vocabulary.{told_all, kept_at, End, TwoEnds, end_at, other, side_in, is_caller, carriers_of, IsInOrder, Stands}
 use Rattle.osi_pair.proofs.Vocabulary.{Goes, HasJoined, is_parting, message_in, waiting_in, Side, Left, Right, Listener, is_ended, is_over}
 use Rattle.osi_pair.proofs.Vocabulary.{implied, gone_is, StaysCalm, over_calm, EndLine as Line, SessionState}
-use Rattle.osi_pair.proofs.turn.what_remains_when_a_unit_was_taken.{terms_at, DidAt, TablesAfter, OtherSessions, is_agree, line_then}
-use Rattle.osi_pair.proofs.turn.what_remains_when_a_unit_was_taken.{finish, known_then, was_at, PacketAt}
+use Rattle.osi_pair.proofs.turn.what_remains_when_a_unit_was_taken.{terms_at, DidAt, TablesAfter, is_agree, line_then, finish, known_then}
+use Rattle.osi_pair.proofs.turn.what_remains_when_a_unit_was_taken.{was_at, PacketAt}
 use Rattle.osi_pair.proofs.packet.a_unit_with_which_no_session_acts.{step_opens, tables_delivered, is_awaited, learns_row, turn_rests}
 use Rattle.osi_pair.proofs.packet.a_unit_with_which_no_session_acts.{answer_for, unless_broken, put_unless, rests, sends_then, spare_by}
 use Rattle.osi_pair.proofs.flight.what_may_arrive_row_by_row.{Row, quiet, still, refuses, ignores, ends, before, after, arrived_in, put_for}
@@ -17,7 +17,7 @@ use Rattle.osi_pair.proofs.session.a_seat_is_its_progress_and_session.{transport
 use Rattle.osi_pair.proofs.turn.a_turn_keeps_the_match.{IsSeen, seen, seen_twice, with_holding, Turned, GoesTo, out_there, back_here}
 use Rattle.osi_pair.proofs.flight.what_is_in_flight_when_an_end_acts.{shuts, out_keeps, back_comes, back_waits, Comes, Alone, alone_of}
 use Rattle.osi_pair.proofs.flight.what_is_in_flight_when_an_end_acts.{is_tsdu, BehindFirst}
-use Rattle.osi_pair.proofs.flight.whether_something_is_cut_off.{cut_none, end_out, Lasts}
+use Rattle.osi_pair.proofs.flight.whether_something_is_cut_off.{cut_none, Lasts}
 use Rattle.osi_pair.proofs.session.an_end_moves_as_the_tables_do.{kept_of}
 
 -- ---- the end that took the unit
@@ -48,7 +48,6 @@ pub record FoundLine (s : Side) (n : ℕ) (p : TwoEnds) (b : Between) (t : Table
 pub line_at : (s : Side) (n : ℕ) (p : TwoEnds) (b : Between) (t : Tables) → Stands p b t → 0 < n → n ≤ b.caller.given → FoundLine s n p b t
 line_at s n p b t old some le =
     let count = old.given in
-    let kept = old.given_then in
     let has = old.lines n some (omega arith) in
     grind (arith, seen_twice (side_in s) has.line, seen s n p b has.line has.is)
 
@@ -91,7 +90,7 @@ out_row s p b t e h n l old d i stays alive =
     (HasJoined n (end_at (other s) p)) l.peer.session.state l.own.channel puts
     (under_way (is_caller s) n (carriers_of p) b) new d.stays d.gone
     (put_in (carriers_of p) (put_for d.row)) i.out (spare_by t.broken (is_cut (is_caller s) (carriers_of p)) (answer_for d.row) free)
-    (end_out s (record { end = e; held = h }) p alive)
+    (grind arith)
     d.out_before d.out_after (d.keeps stays) (grind arith) in
     out_there s p d.now e h n (progress_of (place_at n (last_of (is_caller (other s)) d.now))) l.peer.session.state
     (sends_then d.row t.broken l.own.channel)
@@ -185,9 +184,6 @@ pub record EndThen (s : Side) (p : TwoEnds) (e : End) : Type 0 where
   pub order : IsInOrder e
   pub waits : waiting_in e.lines ≡ []
 
-same_sessions : (s : Side) (p : TwoEnds) (u : Value) (n : ℕ) → OtherSessions s p (acted_end u (end_at s p).end.lines (end_at s p).end) n
-same_sessions s p u n = record { sessions = λ q apart is. refl; kept = λ q apart x is. is }
-
 pub transport_before : (s : Side) (p : TwoEnds) (b : Between) (t : Tables) (e : End) (h : Held) (n : ℕ) (l : TableLine) → Stands p b t →
     Lasts s p → (d : DidAt s p b e h n) → IsSeen s n p b l → l.own.transport ≡ transport_by (before d.row)
 transport_before s p b t e h n l old alive d i = grind (arith, transport_at, before, was_at)
@@ -216,7 +212,7 @@ quiet_unit s p b t packet h old alive pa d at back same rest agree stays sends b
     let l = at.line in
     let tr = transport_before s p b t e h n l old alive d at.is ∙ ap transport_by same in
     finish s p b t t e h n [] l l.own.session l.own.channel l.peer.channel old alive d new.lasts new.local new.role pa.first.given behind
-    new.order new.waits (same_sessions s p pa.unit n)
+    new.order new.waits (grind arith)
     (session_rests n (end_at s p).end.lines d.row l.own.session rest (grind (arith, session_of_seat, before, was_at))) at.is
     (assumption (
       subst (λ (ms : List Message). Goes s (other s) n (with_holding s e h p) d.now
@@ -250,7 +246,7 @@ rest_unit s p b t packet h got old alive lasting pa d at first others parts kind
     let is = step_opens t (side_in s) n (λ r. 0) l first others (unseen line) lasting at.found parts turn refl in
     finish s p b t (step t (delivers (side_in s) n (λ r. 0))) e h n [] l l.own.session
     (sends_then d.row t.broken l.own.channel) others old alive d new.lasts new.local new.role pa.first.given behind new.order new.waits
-    (same_sessions s p pa.unit n)
+    (grind arith)
     (session_rests n (end_at s p).end.lines d.row l.own.session rest (grind (arith, session_of_seat, before, was_at))) at.is
     (record { out = out_row s p b t e h n l old d at.is stays alive; back = back })
     (grind (arith, tables_delivered s n (seen_from (side_in s) l) t known (unseen line) at.found))

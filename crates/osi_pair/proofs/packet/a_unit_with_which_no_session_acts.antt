@@ -8,7 +8,7 @@ use Rattle.osi_pair.proofs.Vocabulary.{◌≡◌, ℕ, Bool, true, false, if◌t
 use Rattle.osi_pair.proofs.Vocabulary.{arith, append-nil, kind_of, Terms, delivers, shown_at, connection_at, learns, Seat, Line, Turn}
 use Rattle.osi_pair.proofs.Vocabulary.{Tables, seen_from, unseen, without_first, message_taken, after_turn, stays, end_of, step, Message}
 use Rattle.osi_pair.proofs.Vocabulary.{Transport, agree, deny, over, put, with_same, with_other, with_count, Standing, side_in, message_in}
-use Rattle.osi_pair.proofs.Vocabulary.{word_in, terms_in, Word, Side, noted_in as noted}
+use Rattle.osi_pair.proofs.Vocabulary.{terms_in, Word, Side, noted_in as noted}
 use Rattle.osi_pair.proofs.turn.what_remains_when_a_unit_was_taken.{TablesAfter, line_then}
 use Rattle.osi_pair.proofs.flight.what_may_arrive_row_by_row.{Row, begins, refuses, agrees, denies, leaves, ignores, ends, before}
 use Rattle.osi_pair.proofs.flight.what_may_arrive_row_by_row.{arrived_in, is_row}
@@ -69,10 +69,6 @@ spare_by broken cut ms free = grind arith
 -- the words of what is put
 abbrev pub words_put : Bool → List Word → List Word
 words_put broken words = if broken then [] else words
-
-pub put_same : (broken whole : Bool) (words : List Word) → broken ≡ whole →
-    map word_in (words_put broken words) ≡ (if whole then [] else map word_in words)
-put_same broken whole words e = grind arith
 
 pub put_spare : (broken cut : Bool) (words : List Word) → (broken ≡ false → cut ≡ false) → (cut ≡ false) ⊎ (words_put broken words ≡ [])
 put_spare broken cut words free = grind arith

@@ -98,8 +98,7 @@ hears_denies n reason m joined x kept none past octets = record {
   told = refl;
   heard = words.refused reason;
   hears = λ e line here. refl;
-  moves = moves_apart joined x (session.refused reason) kept refl
-      (grind (arith, react, kept_none));
+  moves = grind (arith, react, kept_none, moves_apart joined x (session.refused reason) kept refl (grind (arith, react, kept_none)));
   alone = λ l. refl;
   numbered = tt;
   goes = goes_refused x reason octets;

@@ -2,10 +2,10 @@
 -- closes its connection of class 2.
 -- For breaks and ends, packets and the laws of `standing`.
 use Rattle.osi_machine.specs.Worlds as worlds
-use Rattle.osi_pair.proofs.Vocabulary.{◌≡◌, ℕ, Bool, true, false, List, Option, Some, None, option_map, refl, sym, ap, subst, ◌∙◌, ◌⊎◌, inl}
-use Rattle.osi_pair.proofs.Vocabulary.{inr, arith, Held, Between, in_use, Terms, by_two, by_zero, class_of, Tables, Message, unit, Meaning}
-use Rattle.osi_pair.proofs.Vocabulary.{said_of, Input, opened, refused, taken, broken, Standing, react, after_input, is_ended, respond}
-use Rattle.osi_pair.proofs.Vocabulary.{respond_unit, after_packet, IsSound, TwoEnds, end_at, class_in, Stands, Side, SessionState as State}
+use Rattle.osi_pair.proofs.Vocabulary.{◌≡◌, ℕ, Bool, true, false, List, Option, Some, None, refl, sym, ap, subst, ◌∙◌, ◌⊎◌, inl, inr, arith}
+use Rattle.osi_pair.proofs.Vocabulary.{Held, Between, in_use, Terms, by_two, by_zero, Tables, Message, unit, Meaning, said_of, Input}
+use Rattle.osi_pair.proofs.Vocabulary.{opened, refused, taken, broken, Standing, react, after_input, is_ended, respond, respond_unit}
+use Rattle.osi_pair.proofs.Vocabulary.{after_packet, IsSound, TwoEnds, end_at, Stands, Side, SessionState as State}
 use Rattle.osi_pair.proofs.packet.a_reply_or_close_keeps_the_match.{answered_shown, closed_shown, silent_shown}
 use Rattle.osi_pair.proofs.turn.what_remains_when_a_unit_was_taken.{terms_at, order_of, PacketAt}
 use Rattle.osi_pair.proofs.packet.an_end_handles_its_carriers_events.{carried_out}
@@ -59,13 +59,6 @@ pub closes_alone : AnswerLaws → (row : Row) (m : Message) (x : Standing) → i
     ClosesAlone row m x
 closes_alone laws row m x is h = grind (arith, taken_alone, broken_stays, opened_stays, refused_stays)
 
--- ---- the class is known
-
--- if a unit arrives at an open connection, the caller has agreed the class
-pub class_known : (s : Side) (p : TwoEnds) (b : Between) (t : Tables) (packet : List ℕ) (h : Held) → Stands p b t →
-    (pa : PacketAt s p b packet h) → before pa.did.row ≡ in_use → t.known ≡ option_map class_in (class_of (terms_at p))
-class_known s p b t packet h old pa used = grind arith
-
 -- ---- the packet
 
 -- in class 2 it closes
@@ -77,7 +70,7 @@ closing_packet laws moves s p b t packet h old alive pa v row input two shut =
     let x = v.m.seen.own.session in
     let a = closes_alone moves v.m.row v.m.first x v.row (ap (λ (i : Input). (react x i).closes) (sym input) ∙ shut) in
     closed_shown laws.two s p t packet h v (sound_behind laws s p b t packet h old alive pa) two
-    (grind (arith, class_known)) shut
+    (grind arith) shut
     (ap (λ (i : Input). (react x i).reply) input ∙ a.reply) (moves.ended x v.m.input shut)
 
 -- ---- by what the move does

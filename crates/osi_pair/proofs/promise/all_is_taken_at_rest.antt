@@ -62,10 +62,6 @@ open_place : (side : Side) (r : ℕ) (p : TwoEnds) (steps : List Step) (h : Stan
     (o : IsOpenAt r (end_at side p).end) → place_at r (end_at side p).end.carrier ≡ was_given (Some (linked o.peer o.link))
 open_place side r p steps h lasts o = grind (arith, given_live, order_of, tables_at)
 
-last_now : (side : Side) (p : TwoEnds) (steps : List Step) (h : StandsAt p steps) → Lasts side p →
-    (end_at side p).end.carrier ≡ last_of (is_caller side) h.now
-last_now side p steps h lasts = grind arith
-
 -- while the taker has it open, what is in flight to it is the same by the tables
 open_alike : (side : Side) (r : ℕ) (p : TwoEnds) (steps : List Step) (h : StandsAt p steps) → Lasts side p →
     IsOpenAt r (end_at side p).end → (some others : List carrier.Message) →
@@ -197,7 +193,6 @@ all_there heard empties p steps r h rest left right =
     kept : (o : OpenAtBoth p steps h r) → (side : Side) → begun_of (value_at r (end_at side p).end.carrier.live) ≡ 0 →
         kept_of r (end_at side p).end ≡ 0
     kept o side none =
-        let lives = ap is_some (o.at side).live in
         grind (arith, none_of, seen side r p h.now o.here.line o.here.is, has_joined_none p steps r h rest o side)
 
 pub all_taken : Heard → Empties → (p : TwoEnds) (steps : List Step) (r : ℕ) → StandsAt p steps → HoldLess p → AreAtRest p →
@@ -212,9 +207,7 @@ joined_at_rest p steps h rest =
     let terms = terms_of p.left.end.carrier.local p.right.end.carrier.local in
     let going = ap (λ (l : List Value). h.now.going ++ l) (none_lost true p steps h rest) ∙ append-nil h.now.going
     ∙ (rests_at Right p steps h rest).0 in
-    let coming = ap (λ (l : List Value). h.now.coming ++ l) (none_lost false p steps h rest) ∙ append-nil h.now.coming
-    ∙ (rests_at Left p steps h rest).0 in
-    grind (arith, last_now Left p steps h (rest.lasts Left), rest.lasts Left, last_now Right p steps h (rest.lasts Right), rest.lasts Right)
+    grind (arith, none_lost false p steps h rest, append-nil h.now.coming, rests_at Left p steps h rest, rest.lasts Left, rest.lasts Right)
 
 there_open : (side : Side) (p : TwoEnds) (steps : List Step) (h : StandsAt p steps) → Resting p → (r : ℕ) → IsOpenAt r (end_at side p).end →
     IsOpenAt r (end_at (other side) p).end

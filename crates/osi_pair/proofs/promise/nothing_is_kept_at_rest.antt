@@ -2,11 +2,11 @@
 -- octet is kept.
 -- For the promises.
 use Rattle.osi_between.specs.Zero as zero
-use Rattle.osi_pair.proofs.Vocabulary.{◌≡◌, refl, sym, ◌∙◌, ap, subst, ℕ, Bool, true, false, if◌then◌else◌, List, [], ◌∷◌, ◌++◌, Option}
-use Rattle.osi_pair.proofs.Vocabulary.{Some, None, is_some, arith, none_open, at_one, first_here, eqb-true, sum_by-cons, Value, absent}
-use Rattle.osi_pair.proofs.Vocabulary.{begun_by, kept_in, Place, was_given, place_at, RiseFrom, Rows, value_at, Connection, State, linked}
-use Rattle.osi_pair.proofs.Vocabulary.{within_given, AreJoinedBy, at_end, from_end, Terms, by_two, by_zero, refusing, Listener, kept_at}
-use Rattle.osi_pair.proofs.Vocabulary.{joined_of, joined_live, joined_in, Link as Standing, EndLine as Line, kept_first}
+use Rattle.osi_pair.proofs.Vocabulary.{◌≡◌, refl, sym, ◌∙◌, ap, ℕ, Bool, true, false, if◌then◌else◌, List, [], ◌∷◌, ◌++◌, Option, Some}
+use Rattle.osi_pair.proofs.Vocabulary.{None, is_some, arith, none_open, at_one, first_here, eqb-true, sum_by-cons, Value, absent, begun_by}
+use Rattle.osi_pair.proofs.Vocabulary.{kept_in, Place, was_given, RiseFrom, Rows, value_at, Connection, State, linked, within_given}
+use Rattle.osi_pair.proofs.Vocabulary.{AreJoinedBy, at_end, from_end, Terms, by_two, by_zero, refusing, Listener, kept_at, joined_of}
+use Rattle.osi_pair.proofs.Vocabulary.{joined_live, joined_in, Link as Standing, EndLine as Line, kept_first}
 
 -- ---- a connection that is open at one end
 
@@ -25,9 +25,6 @@ last_there : (us : List Value) (u : Value) → us ++ u ∷ [] ≡ [] → ⊥
 last_there [] u e = cc
 last_there (v ∷ us) u e = cc
 
-at_place : (n : ℕ) (s : State) → IsLinked (place_at n s) → IsLinkedAt n s
-at_place n s l = grind arith
-
 -- class 0: there is one connection
 one_linked : (n : ℕ) (s : State) (x : Standing) → n ≡ 1 → s.live ≡ (1, linked 1 x) ∷ [] → IsLinkedAt n s
 one_linked n s x e live = record { peer = 1; link = x; live = ap (value_at n) live ∙ ap (λ (m : ℕ). value_at m ((1, linked 1 x) ∷ [])) e }
@@ -45,7 +42,7 @@ pub open_there : (terms : Terms) (s r : State) (n p : ℕ) (x : Standing) → Ar
     value_at n s.live ≡ Some (linked p x) → IsLinkedAt n r
 open_there by_two s r n p x j at =
     let st = j.stands n (within_given n s (linked p x) j.orderly at).0 in
-    grind (arith, last_there, at_place n r (subst IsLinked (sym st.place_there) (grind (arith, last_there))))
+    grind (arith, last_there)
 open_there by_zero s r n p x j at = zero_there s r n p x j.course j.one j.one_called at
 open_there (refusing reason) s r n p x j at = absurd (none_open s j.stage n p x j.live at)
 
@@ -53,7 +50,7 @@ pub open_here : (terms : Terms) (s r : State) (n p : ℕ) (x : Standing) → Are
     value_at n r.live ≡ Some (linked p x) → IsLinkedAt n s
 open_here by_two s r n p x j at =
     let st = j.stands n (within_given n r (linked p x) j.orderly_called at).0 in
-    grind (arith, last_there, at_place n s (subst IsLinked (sym st.place) (grind (arith, last_there))))
+    grind (arith, last_there)
 open_here by_zero s r n p x j at = zero_here s r n p x j.course j.one j.one_called j.coming at
 open_here (refusing reason) s r n p x j at = absurd (let no : None ≡ Some (linked p x) = sym (ap (value_at n) j.live_called) ∙ at in cc)
 

@@ -1,16 +1,14 @@
 -- The same event leads two pairs of ends in the same state to the same state, if memory suffices.
 -- For the laws of `standing`.
-use Rattle.std.proofs.Common.{arith}
+use Rattle.osi_pair.proofs.Vocabulary.{◌≡◌, ℕ, ◌+◌, List, [], ◌∷◌, ◌++◌, Option, Some, None, sym, ap, ap₂, subst, IsSameEnd, AreSameEnds}
+use Rattle.osi_pair.proofs.Vocabulary.{FoundMemory, EndReason, Call as Asked, CallError, call_error, to_session, End, Holding, ConnectError}
+use Rattle.osi_pair.proofs.Vocabulary.{TwoEnds, end_at, connected_by, called_by_error, after_connect, after_call, CarriesFrom, Entry, Does}
+use Rattle.osi_pair.proofs.Vocabulary.{IsToldOfBreak, TellsBreak, IsReached, waiting_in, quieted, Event, Connect, Carry, Break, Told, Side}
+use Rattle.osi_pair.proofs.Vocabulary.{Left, Right, ConnectCall as Wanted, append-nil, arith}
 use Rattle.osi_session.specs.Listening.{called}
 use Rattle.osi_session.specs.declared.faults.CallError.TheVariants as refused
 use Rattle.osi_pair.specs.declared.events.Event.TheVariants.{Call}
 use Rattle.osi_pair.specs.Entries.{calls}
-use Rattle.osi_pair.proofs.Vocabulary.{◌≡◌, ℕ, ◌+◌, Bool, true, false, not, List, [], ◌∷◌, ◌++◌, Option, Some, None, sym, ap, ap₂, subst}
-use Rattle.osi_pair.proofs.Vocabulary.{if◌then◌else◌, IsSameEnd, AreSameEnds, FoundMemory, EndReason, Call as Asked, CallError, call_error}
-use Rattle.osi_pair.proofs.Vocabulary.{session_refusal, session_at, to_session, has_given, End, Holding, ConnectError, TwoEnds, end_at}
-use Rattle.osi_pair.proofs.Vocabulary.{connected_by, called_by_error, after_connect, after_call, CarriesFrom, Entry, Does, IsToldOfBreak}
-use Rattle.osi_pair.proofs.Vocabulary.{TellsBreak, IsReached, waiting_in, quieted, Event, Connect, Carry, Break, Told, Side, Left, Right}
-use Rattle.osi_pair.proofs.Vocabulary.{ConnectCall as Wanted, append-nil}
 use Rattle.osi_stack.specs.Calls.{breaks, connects as asks_for}
 use Rattle.osi_pair.proofs.same.a_carry_in_any_pieces.{same_at, same_moved}
 use Rattle.osi_pair.proofs.packet.a_packet_is_one_delivery_or_none.{quiet_of}
@@ -52,33 +50,20 @@ record IsRefused (r : ℕ) (call : Asked) (e : End) : Type 0 where
   why : CallError
   is : call_error r call e ≡ Some why
 
-refused_by : (r : ℕ) (call : Asked) (e : End) (b : Bool) → has_given r e.carrier ≡ b → session_at r e ≡ None → IsRefused r call e
-refused_by r call e true given none = record {
-  why = refused.Ended;
-  is = grind arith;
-}
-refused_by r call e false given none = record {
-  why = refused.NoSuchConnection;
-  is = ap (λ (b : Bool). if not b then Some refused.NoSuchConnection else session_refusal r (session_at r e) call e.carrier) given;
-}
-
-over_refused : (r : ℕ) (call : Asked) (e : End) → e.carrier.live ≡ [] → IsRefused r call e
-over_refused r call e none = grind (arith, refused_by)
-
 unchanged : (r : ℕ) (call : Asked) (h : Holding) → IsRefused r call h.end → called_by_error (call_error r call h.end) r call h ≡ h
 unchanged r call h out = ap (λ (o : Option CallError). called_by_error o r call h) out.is
 
 same_call : (s : Side) (r : ℕ) (call : Asked) (p q : TwoEnds) → IsReached p → AreSameEnds p q →
     AreSameEnds (after_call s r call p) (after_call s r call q)
 same_call Left r call p q at h = record {
-  left = grind (arith, same_moved, call_does, called_is, over_refused, unchanged);
+  left = grind (arith, same_moved, call_does, called_is, unchanged);
   right = h.right;
   reach = h.reach;
   journal = ap₂ (λ (j : List Entry) (e : End). j ++ calls Left r call (call_error r call e) ∷ []) h.journal h.left.end;
 }
 same_call Right r call p q at h = record {
   left = h.left;
-  right = grind (arith, same_moved, call_does, called_is, over_refused, unchanged);
+  right = grind (arith, same_moved, call_does, called_is, unchanged);
   reach = h.reach;
   journal = ap₂ (λ (j : List Entry) (e : End). j ++ calls Right r call (call_error r call e) ∷ []) h.journal h.right.end;
 }
@@ -100,7 +85,6 @@ told_by : (s : Side) (p q a b : Holding) (before after earlier others : List Ent
 unfolding break_does
 told_by s p q a b before after earlier others (Some reason) e same journal quiet still h k = grind (arith, same_moved)
 told_by s p q a b before after earlier others None e same journal quiet still h k =
-    let x = h.hears e in
     grind (arith, same_moved, quiet_same, append-nil, break_does p.end, break_does q.end)
 
 same_told : (s : Side) (p q a b : TwoEnds) → AreSameEnds p q → waiting_in (end_at s a).end.lines ≡ [] →

@@ -1,16 +1,15 @@
 -- A session of an end that has joined nothing makes the same moves as the session of the tables.
 -- For sessions, calls, packets and the promises.
 use Rattle.osi_session.specs.Listening as words
+use Rattle.osi_pair.proofs.Vocabulary.{◌≡◌, Some, ℕ, List, Option, None, Ok, Err, true, refl, ◌++◌, ◌≤◌, length, subst, arith, taken_is}
+use Rattle.osi_pair.proofs.Vocabulary.{came_by, Input, Standing, Move, react, called, taken, listening, in_words, is_apart, kept_none}
+use Rattle.osi_pair.proofs.Vocabulary.{moves_as_whole, others, word_behind, words_of_message, Listener, Answer, allowed, Call, respond_word}
+use Rattle.osi_pair.proofs.Vocabulary.{IsKeptIn, IsJoinedAs, IsNoFault, IsJoined, IsKept, call_keeps, first_arrives, middle_arrives}
+use Rattle.osi_pair.proofs.Vocabulary.{last_arrives, joining, IsInOrder, part_comes, DT, said_of, says, First, Middle, Last, inputs_kept}
+use Rattle.osi_pair.proofs.Vocabulary.{kept_at, End, value_at, SessionState as State, PartPlace as Place}
 use Rattle.osi_session.specs.Allowed.{most_data}
 use Rattle.osi_session.specs.Joining.{kept_in}
-use Rattle.osi_message.specs.Tokens.{no_token}
 use Rattle.osi_message.specs.Words.{part}
-use Rattle.osi_pair.proofs.Vocabulary.{◌≡◌, Some, ◌∙◌, ℕ, List, Option, None, Ok, Err, true, refl, sym, ◌++◌, ◌≤◌, length, [], ◌∷◌, subst}
-use Rattle.osi_pair.proofs.Vocabulary.{arith, taken_is, came_by, Input, Standing, Move, react, called, taken, listening, in_words, is_apart}
-use Rattle.osi_pair.proofs.Vocabulary.{kept_none, moves_as_whole, others, word_behind, words_of_message, Listener, Answer, allowed, Call}
-use Rattle.osi_pair.proofs.Vocabulary.{respond_word, IsKeptIn, IsJoinedAs, IsNoFault, IsJoined, IsKept, call_keeps, first_arrives}
-use Rattle.osi_pair.proofs.Vocabulary.{middle_arrives, last_arrives, joining, IsInOrder, part_comes, DT, GT, said_of, says, First, Middle}
-use Rattle.osi_pair.proofs.Vocabulary.{Last, inputs_kept, kept_at, End, value_at, SessionState as State, PartPlace as Place}
 
 -- a move of the session of the tables, as that of the end makes it
 abbrev pub as_made : Move → words.Move
@@ -77,10 +76,7 @@ pub last_moves : (joined : Option (List ℕ)) (x : Standing) (front last : List 
     words.react (joining joined x) (part_comes Last last) ≡ as_made (react x (taken (said_of (DT (front ++ last)))))
 last_moves joined x front last short kept fine stands =
     let h = respond_word (record { state = x.state; joined = None }) (says (DT (front ++ last))) in
-    taken_is (joining joined x) (says (GT no_token) ∷ part Last last ∷ []) h
-    (grind (arith, word_behind, last_arrives))
-    ∙ sym (grind (arith, taken_is, words_of_message))
-    ∙ moves_so x (taken (said_of (DT (front ++ last))))
+    grind (arith, taken_is, word_behind, last_arrives, words_of_message, moves_so x (taken (said_of (DT (front ++ last)))))
 
 -- ---- the phase of a session of an end keeps what it has joined
 

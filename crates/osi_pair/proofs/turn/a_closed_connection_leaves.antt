@@ -17,7 +17,7 @@ use Rattle.osi_pair.proofs.packet.a_unit_with_which_no_session_acts.{unless_brok
 use Rattle.osi_pair.proofs.session.a_seat_is_its_progress_and_session.{HasSession}
 use Rattle.osi_pair.proofs.turn.a_turn_keeps_the_match.{IsSeen, with_holding, holding_here}
 use Rattle.osi_pair.proofs.flight.what_is_in_flight_when_an_end_acts.{Takes, out_cuts}
-use Rattle.osi_pair.proofs.flight.whether_something_is_cut_off.{cut_broken, Lasts}
+use Rattle.osi_pair.proofs.flight.whether_something_is_cut_off.{Lasts}
 use Rattle.osi_pair.proofs.packet.a_packet_is_one_delivery_or_none.{both_carrier}
 
 -- ---- the carrier
@@ -63,12 +63,11 @@ out_closes s p b t n l old a i takes =
     let new = under_way (is_caller s) n (carriers_of two) a.now in
     let left = carrier.bye 128 ∷ [] in
     let cut = is_cut (is_caller s) (carriers_of two) in
-    let h : Holding = record { end = end_with s (closed_with n 128 (end_at s p).end.carrier) p; held = (end_at s p).held } in
     let x = out_cuts lasts place (is_cut (is_caller s) (carriers_of p)) cut
     (HasJoined n (end_at (other s) p)) l.peer.session.state l.own.channel (unless_broken t.broken (bye 128 ∷ []))
     (under_way (is_caller s) n (carriers_of p) b) new a.ways.stays a.ways.gone
     (put_in (carriers_of p) left) i.out takes
-    (leave_by t.broken cut (bye 128) (λ begun. tt) (cut_broken s p two t.broken old.broken (grind arith))) a.ways.before
+    (leave_by t.broken cut (bye 128) (λ begun. tt) (grind arith)) a.ways.before
     a.ways.after
     (grind arith) in
     grind (arith, put_unless)

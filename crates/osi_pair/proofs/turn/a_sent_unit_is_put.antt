@@ -16,7 +16,7 @@ use Rattle.osi_pair.proofs.packet.a_unit_with_which_no_session_acts.{unless_brok
 use Rattle.osi_pair.proofs.session.a_seat_is_its_progress_and_session.{transport_at}
 use Rattle.osi_pair.proofs.turn.a_turn_keeps_the_match.{IsSeen, with_holding, GoesTo}
 use Rattle.osi_pair.proofs.flight.what_is_in_flight_when_an_end_acts.{out_keeps}
-use Rattle.osi_pair.proofs.flight.whether_something_is_cut_off.{cut_none, end_out, Lasts}
+use Rattle.osi_pair.proofs.flight.whether_something_is_cut_off.{cut_none, Lasts}
 use Rattle.osi_pair.proofs.packet.a_packet_is_one_delivery_or_none.{both_carrier}
 
 -- ---- the carrier
@@ -62,7 +62,7 @@ out_sends s p b t n m l old alive a order i =
     (under_way (is_caller s) n (carriers_of p) b) new
     a.ways.stays a.ways.gone (put_in (carriers_of p) sends) i.out
     (spare_by t.broken (is_cut (is_caller s) (carriers_of p)) (unit m ∷ []) (cut_none s p t.broken old.broken alive))
-    (end_out s (record { end = end_with s c p; held = (end_at s p).held }) p alive) a.ways.before a.ways.after none
+    (grind arith) a.ways.before a.ways.after none
     (grind arith))
 
 -- ---- two ends

@@ -9,7 +9,7 @@ use Rattle.osi_pair.proofs.Vocabulary.{connection_at, Seat, Line, Tables, seen_f
 use Rattle.osi_pair.proofs.Vocabulary.{end_at, with_end, noted, Entry, other, side_in, is_caller, ending_in, terms_in, class_in, entry_in}
 use Rattle.osi_pair.proofs.Vocabulary.{carriers_of, IsSeated, IsUnderWay, IsLine, HasLine, IsInOrder, Stands, HasJoined, AreUnderWay, Goes}
 use Rattle.osi_pair.proofs.Vocabulary.{waiting_in, shown_entries, Side, Left, Right, Progress, Message, SessionState}
-use Rattle.osi_pair.proofs.flight.whether_something_is_cut_off.{end_out, Lasts}
+use Rattle.osi_pair.proofs.flight.whether_something_is_cut_off.{Lasts}
 use Rattle.osi_pair.proofs.flight.what_is_in_flight_when_an_end_acts.{way_same}
 
 -- ---- a connection, seen from one of its sides
@@ -82,7 +82,7 @@ other_seen s p b e h c n q l apart alive o i =
       here = subst (λ (x : Holding). IsSeated q x l.own) (sym (holding_here s e h p)) (other_seated s p b e h c n q l.own apart o i.here);
       there = subst (λ (x : Holding). IsSeated q x l.peer) (sym (holding_there s e h p)) i.there;
       out = out_there s p c e h q (progress_of (place_at q (last_of (is_caller (other s)) c))) l.peer.session.state l.own.channel
-          (grind (arith, way_same, end_out));
+          (grind (arith, way_same));
       back = back_here s p c e h q (progress_of (place_at q (last_of (is_caller s) c))) l.own.session.state l.peer.channel
           (way_same (end_at s p).end.carrier.ended e.carrier.ended _ _ (is_cut (is_caller (other s)) (carriers_of p))
           (is_cut (is_caller (other s)) (carriers_of p2)) (HasJoined q (end_at s p))
@@ -158,8 +158,6 @@ turned_pair s e h n shown p = noted (shown_entries s (map (λ x. (n, x)) shown))
 pub turned_stands : (s : Side) (p : TwoEnds) (b : Between) (t : Tables) (e : End) (h : Held) (c : Between) (u : Tables) (n : ℕ)
     (shown : List Shown) → Stands p b t → Lasts s p → Turned s p b t e h c u n shown → Stands (turned_pair s e h n shown p) c u
 turned_stands Left p b t e h c u n shown old alive x =
-    let between = subst (λ (l : Local). AreBetween (terms_of l p.right.end.carrier.local) (carriers_of (with_holding Left e h p)) c)
-    (sym x.local) x.between in
     let terms = x.terms ∙ old.terms ∙ ap (λ (l : Local). terms_in (terms_of l p.right.end.carrier.local)) (sym x.local) in
     let left_end = ap (option_map Some) x.left_end ∙ old.left_end ∙ ap (option_map ending_in) (alive ∙ sym x.lasts) in
     let right_end = ap (option_map Some) x.right_end ∙ old.right_end in
@@ -169,8 +167,6 @@ turned_stands Left p b t e h c u n shown old alive x =
     grind (arith, lines_by Left p b e h c n q x.line t u (q == n) refl alive x.others x.is x.lines was)) in
     grind arith
 turned_stands Right p b t e h c u n shown old alive x =
-    let between = subst (λ (l : Local). AreBetween (terms_of p.left.end.carrier.local l) (carriers_of (with_holding Right e h p)) c)
-    (sym x.local) x.between in
     let terms = x.terms ∙ old.terms ∙ ap (λ (l : Local). terms_in (terms_of p.left.end.carrier.local l)) (sym x.local) in
     let left_end = ap (option_map Some) x.left_end ∙ old.left_end in
     let right_end = ap (option_map Some) x.right_end ∙ old.right_end ∙ ap (option_map ending_in) (alive ∙ sym x.lasts) in

@@ -2,16 +2,16 @@
 -- state of two ends then.
 -- For turns and calls.
 use Rattle.osi_between.specs.Messages as carrier
-use Rattle.osi_pair.proofs.Vocabulary.{◌≡◌, ◌≢◌, ℕ, Bool, true, false, List, [], ◌++◌, Some, None, option_map, sym, ap, subst, ◌∙◌, arith}
-use Rattle.osi_pair.proofs.Vocabulary.{append-nil, place_at, connection_in, value_at, Connection, State, put_here, put_other, Between}
-use Rattle.osi_pair.proofs.Vocabulary.{AreBetween, Carries, last_of, under_way, put_in, is_cut, Acted, becomes, side, progress_of, AreLike}
-use Rattle.osi_pair.proofs.Vocabulary.{Progress, in_use, progress_in, leaves_use, connection_at, Line, Tables, seen_from, stays, Message}
-use Rattle.osi_pair.proofs.Vocabulary.{with_same, with_other, with_count, none_there, with_carrier, End, Holding, TwoEnds, end_at, other}
-use Rattle.osi_pair.proofs.Vocabulary.{side_in, is_caller, class_in, carriers_of, IsSeated, IsInOrder, Stands, Goes, HasJoined, Side, Left}
-use Rattle.osi_pair.proofs.Vocabulary.{Right, given_live, Held, Terms, waiting_in, put_row as put, SessionState}
+use Rattle.osi_pair.proofs.Vocabulary.{◌≡◌, ◌≢◌, ℕ, Bool, true, false, List, [], ◌++◌, Some, None, sym, ap, subst, ◌∙◌, arith, append-nil}
+use Rattle.osi_pair.proofs.Vocabulary.{place_at, connection_in, value_at, Connection, State, put_here, put_other, Between, AreBetween}
+use Rattle.osi_pair.proofs.Vocabulary.{Carries, last_of, under_way, put_in, is_cut, Acted, becomes, side, progress_of, AreLike, Progress}
+use Rattle.osi_pair.proofs.Vocabulary.{in_use, progress_in, leaves_use, connection_at, Line, Tables, seen_from, stays, Message, with_same}
+use Rattle.osi_pair.proofs.Vocabulary.{with_other, with_count, none_there, with_carrier, End, Holding, TwoEnds, end_at, other, side_in}
+use Rattle.osi_pair.proofs.Vocabulary.{is_caller, carriers_of, IsSeated, IsInOrder, Stands, Goes, HasJoined, Side, Left, Right, given_live}
+use Rattle.osi_pair.proofs.Vocabulary.{Held, Terms, waiting_in, put_row as put, SessionState}
 use Rattle.osi_pair.proofs.turn.what_an_acting_end_leaves_in_flight.{StandsOn, there, of_end}
-use Rattle.osi_pair.proofs.turn.what_remains_when_a_unit_was_taken.{terms_at, order_of, was_at, GivenAfter}
-use Rattle.osi_pair.proofs.session.a_seat_is_its_progress_and_session.{transport_by, HasSession, place_by, seat_of_session}
+use Rattle.osi_pair.proofs.turn.what_remains_when_a_unit_was_taken.{terms_at, order_of, was_at}
+use Rattle.osi_pair.proofs.session.a_seat_is_its_progress_and_session.{transport_by, HasSession, seat_of_session}
 use Rattle.osi_pair.proofs.turn.a_turn_keeps_the_match.{IsSeen, seen, seen_twice, with_holding, holding_here, holding_there, Others}
 use Rattle.osi_pair.proofs.turn.a_turn_keeps_the_match.{LinesAfter, Turned, turned_stands, out_there, back_here, GoesTo}
 use Rattle.osi_pair.proofs.flight.what_is_in_flight_when_an_end_acts.{shuts, back_waits}
@@ -91,11 +91,6 @@ pub stands_now : (s : Side) (p : TwoEnds) (b : Between) (n : ℕ) (g : Progress)
     (a : CarrierActs s p b n g c put) → IsInOrder (end_with s c p) → progress_of (place_at n (last_of (is_caller s) a.now)) ≡ g
 stands_now s p b n g c put a order = search (arith, here_now s p b n g c put a order)
 
--- ---- all other connections
-
-other_place : (q n : ℕ) (g : Progress) (old new : State) → ActsOn n g old new → q ≢ n → place_at q new ≡ place_at q old
-other_place q n g old new a apart = grind (arith, place_by, put_other)
-
 -- ---- the connection
 
 -- it is this far, and this is in flight from it
@@ -149,23 +144,13 @@ pub record Keeps (old new : State) : Type 0 where
   pub given : new.given ≡ old.given
   pub lasts : new.ended ≡ None
 
-kept_given : (s : Side) (p : TwoEnds) (b : Between) (t : Tables) (e : End) (h : Held) (c : Between) → Stands p b t →
-    Keeps (end_at s p).end.carrier e.carrier → AreBetween (terms_at p) (carriers_of (with_holding s e h p)) c →
-    last_of (is_caller (other s)) c ≡ last_of (is_caller (other s)) b → GivenAfter s p t e h c
-kept_given s p b t e h c old k between h2 = search arith
-
-kept_known : (s : Side) (p : TwoEnds) (b : Between) (t : Tables) (e : End) (h : Held) → Stands p b t →
-    Keeps (end_at s p).end.carrier e.carrier → t.known ≡ option_map class_in (with_holding s e h p).left.end.carrier.class
-kept_known s p b t e h old k = grind arith
-
 pub turned_by : (s : Side) (p : TwoEnds) (b : Between) (t : Tables) (e : End) (h : Held) (c : Between) (n : ℕ) (l line : Line) →
     Stands p b t → Keeps (end_at s p).end.carrier e.carrier → AreBetween (terms_at p) (carriers_of (with_holding s e h p)) c →
     connection_at n t.lines ≡ Some (seen_from (side_in s) l) → IsSeen s n (with_holding s e h p) c line → Others s p b e h c n →
     last_of (is_caller (other s)) c ≡ last_of (is_caller (other s)) b → IsInOrder e → waiting_in e.lines ≡ [] →
     Turned s p b t e h c (stays t (side_in s) n line) n []
 turned_by s p b t e h c n l line old k between found i o there order quiet =
-    let g = kept_given s p b t e h c old k between there in
-    grind (arith, kept_known s p b t e h old k, append-nil t.journal, lines_stay s n l line t found)
+    grind (arith, append-nil t.journal, lines_stay s n l line t found)
 
 -- the line at a reference, seen from a side
 pub seen_at : (s : Side) (p : TwoEnds) (b : Between) (t : Tables) (n : ℕ) (l : Line) → Stands p b t →
@@ -194,5 +179,5 @@ acted_stands s p b t n g c put channel l old alive a order found x out =
           (turned_stands s p b t (end_with s c p) (end_at s p).held a.now (stays t (side_in s) n line) n [] old alive
           (turned_by s p b t (end_with s c p) (end_at s p).held a.now n l line old
           (record { is_caller = a.on.is_caller; local = a.on.local; class = a.on.class; given = a.on.given; lasts = a.on.lasts }) a.between
-          found i (grind (arith, other_place, put_other, there)) a.ways.there order (of_end s p b t old).quiet));
+          found i (grind (arith, put_other, there)) a.ways.there order (of_end s p b t old).quiet));
     }

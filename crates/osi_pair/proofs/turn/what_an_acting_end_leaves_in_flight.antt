@@ -5,13 +5,12 @@ use Rattle.osi_machine.specs.Machine as entries
 use Rattle.osi_pair.proofs.Vocabulary.{◌≡◌, refl, sym, ◌∙◌, subst, ℕ, zero, suc, ◌<◌, ◌≤◌, Bool, true, false, nat_le, List, [], ◌∷◌, ◌++◌}
 use Rattle.osi_pair.proofs.Vocabulary.{length, map, Option, Some, None, is_some, IsSome, arith, leb-true, leb-false, map-append}
 use Rattle.osi_pair.proofs.Vocabulary.{AllByRecursion, was_given, place_at, value_at, State as Carrier, Between, Carries, last_of}
-use Rattle.osi_pair.proofs.Vocabulary.{under_way, put_in, is_cut, progress_of, Progress, Terms, terms_of, connection_at, Step, HasNumber}
-use Rattle.osi_pair.proofs.Vocabulary.{Seat, Line, Tables, step, run, start, Message, put, Holding, TwoEnds, end_at, noted, Entry, other}
-use Rattle.osi_pair.proofs.Vocabulary.{is_caller, terms_in, carriers_of, entry_in, AreAlike, IsUnderWay, IsInOrder, IsLine, Stands}
-use Rattle.osi_pair.proofs.Vocabulary.{StandsAt, Goes, word_in, HasJoined, HasLine, waiting_in, Word, Side, Left, Right, StaysCalm}
-use Rattle.osi_pair.proofs.Vocabulary.{noted_in}
+use Rattle.osi_pair.proofs.Vocabulary.{under_way, put_in, is_cut, progress_of, Terms, terms_of, connection_at, Step, HasNumber, Seat, Line}
+use Rattle.osi_pair.proofs.Vocabulary.{Tables, step, run, start, Message, put, Holding, TwoEnds, end_at, noted, Entry, other, is_caller}
+use Rattle.osi_pair.proofs.Vocabulary.{terms_in, carriers_of, entry_in, IsUnderWay, IsInOrder, IsLine, Stands, StandsAt, Goes, word_in}
+use Rattle.osi_pair.proofs.Vocabulary.{HasJoined, HasLine, waiting_in, Word, Side, Left, Right, StaysCalm, noted_in}
 use Rattle.osi_pair.proofs.flight.whether_something_is_cut_off.{cut_none, Lasts}
-use Rattle.osi_pair.proofs.packet.a_unit_with_which_no_session_acts.{unless_broken, put_unless, words_put, put_same, put_spare}
+use Rattle.osi_pair.proofs.packet.a_unit_with_which_no_session_acts.{unless_broken, put_unless, words_put, put_spare}
 use Rattle.osi_pair.proofs.flight.what_is_in_flight_when_an_end_acts.{as_now, out_puts, like_alike}
 use Rattle.osi_pair.proofs.turn.a_turn_keeps_the_match.{GoesTo}
 use Rattle.osi_pair.proofs.words.added_and_cut_words_are_messages.{AreWords}
@@ -39,7 +38,7 @@ out_way terms Left r p new b c words more channel broken seat to are k reach non
     (under_way true r (carriers_of new) c) k.stays k.gone (put_in (carriers_of p) (map word_in words)) was (grind arith)
     (put_spare broken (is_cut true (carriers_of p)) words (cut_none Left p broken reach alive))
     (grind arith) k.before k.after none
-    (put_same broken (is_some (carriers_of p).reach) words (sym (reach_in p broken reach))))))
+    (grind arith))))
 out_way terms Right r p new b c words more channel broken seat to are k reach none there alive same was is =
     let lasts = p.left.end.carrier.ended in
     subst (λ (x : Holding). GoesTo Right x r new c (progress_of (place_at r c.caller)) to.session.state seat.channel) (sym there)
@@ -52,14 +51,9 @@ out_way terms Right r p new b c words more channel broken seat to are k reach no
     (under_way false r (carriers_of new) c) k.stays k.gone (put_in (carriers_of p) (map word_in words)) was (grind arith)
     (put_spare broken (is_cut false (carriers_of p)) words (cut_none Right p broken reach alive))
     (grind arith) k.before k.after none
-    (put_same broken (is_some (carriers_of p).reach) words (sym (reach_in p broken reach))))))
+    (grind arith))))
 
 -- ---- what is in flight to it
-
--- nothing arrived
-came_same : (g h : Progress) (ch old now arrived : List carrier.Message) → g ≡ h → arrived ≡ [] → AreAlike g ch old →
-    AreAlike h old (arrived ++ now) → AreAlike h ch now
-came_same g h ch old now arrived e none was came = grind arith
 
 pub back_way : (terms : Terms) (side : Side) (r : ℕ) (p new : TwoEnds) (b c : Between) (messages : List carrier.Message)
     (seat to now : Seat) → (k : Carries terms (is_caller side) r (carriers_of p) (carriers_of new) b c [] messages) →
@@ -73,13 +67,13 @@ back_way terms Left r p new b c messages seat to now k same there alive reach ho
     (is_cut false (carriers_of p)) (is_cut false (carriers_of new)) (HasJoined r p.left)
     (HasJoined r new.left) to.session.state now.session.state seat.channel
     (under_way false r (carriers_of p) b) (under_way false r (carriers_of new) c) was (grind arith) holds calms
-    (grind (arith, came_same, like_alike))
+    (grind (arith, like_alike))
 back_way terms Right r p new b c messages seat to now k same there alive reach holds calms was =
     as_now p.right.end.carrier.ended new.right.end.carrier.ended (progress_of (place_at r b.called)) (progress_of (place_at r c.called))
     (is_cut true (carriers_of p)) (is_cut true (carriers_of new)) (HasJoined r p.right)
     (HasJoined r new.right) to.session.state now.session.state seat.channel
     (under_way true r (carriers_of p) b) (under_way true r (carriers_of new) c) was (grind arith) holds calms
-    (grind (arith, came_same, like_alike))
+    (grind (arith, like_alike))
 
 -- ---- places
 

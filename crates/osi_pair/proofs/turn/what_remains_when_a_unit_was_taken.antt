@@ -2,21 +2,16 @@
 -- For turns, breaks and ends, packets, carries and the promises.
 use Rattle.osi_pair.proofs.Vocabulary.{◌≡◌, ◌≢◌, ℕ, ◌≤◌, Bool, true, false, nat_lt, List, [], ◌++◌, map, Some, None, is_some, option_map}
 use Rattle.osi_pair.proofs.Vocabulary.{refl, sym, ap, subst, ◌∙◌, arith, length, Held, place_at, value_at, State, Between, last_of}
-use Rattle.osi_pair.proofs.Vocabulary.{progress_of, Progress, not_yet, references_for, Terms, accepts_in, terms_of, shown_at, Line, Tables}
-use Rattle.osi_pair.proofs.Vocabulary.{Message, Listener, Standing, Shown, kept_at, End, Holding, TwoEnds, end_at, other, side_in}
-use Rattle.osi_pair.proofs.Vocabulary.{is_caller, class_in, carriers_of, Goes, IsSeated, IsInOrder, Stands, waiting_in, Side, Left, Right}
+use Rattle.osi_pair.proofs.Vocabulary.{progress_of, Progress, not_yet, Terms, terms_of, shown_at, Line, Tables, Message, Listener, Standing}
+use Rattle.osi_pair.proofs.Vocabulary.{Shown, kept_at, End, Holding, TwoEnds, end_at, other, side_in, is_caller, class_in, carriers_of}
+use Rattle.osi_pair.proofs.Vocabulary.{Goes, IsSeated, IsInOrder, Stands, waiting_in, Side, Left, Right}
 use Rattle.osi_pair.proofs.flight.a_taken_packet_is_one_row.{UnitActs, PacketActs}
-use Rattle.osi_pair.proofs.flight.what_may_arrive_row_by_row.{Row, agrees, before, after, arrived_in, put_for, is_row}
+use Rattle.osi_pair.proofs.flight.what_may_arrive_row_by_row.{Row, agrees, before, after}
 use Rattle.osi_pair.proofs.session.a_seat_is_its_progress_and_session.{transport_by, value_same, HasSession, seat_of_session}
 use Rattle.osi_pair.proofs.turn.a_turn_keeps_the_match.{IsSeen, with_holding, holding_here, holding_there, Others, LinesAfter, Turned}
 use Rattle.osi_pair.proofs.flight.whether_something_is_cut_off.{Lasts}
 
 -- ---- references and the class
-
--- a connection that ends gives no reference and no class
-pub refs_row : (terms : Terms) (row : Row) → is_row terms row → (before row ≡ not_yet → ⊥) →
-    references_for (accepts_in terms) (arrived_in row) (put_for row) ≡ 0
-refs_row terms row is f = grind arith
 
 abbrev pub is_agree : Row → Bool
 is_agree agrees = true
@@ -73,8 +68,6 @@ others_then : (s : Side) (p : TwoEnds) (b : Between) (t : Tables) (e : End) (h :
     (d : DidAt s p b e h n) → e.carrier.ended ≡ None → IsInOrder e → OtherSessions s p e n → Others s p b e h d.now n
 others_then s p b t e h n old alive d lasts order o =
     let last = last_is s p b e h n d lasts in
-    let places : (q : ℕ) → q ≢ n → place_at q e.carrier ≡ place_at q (end_at s p).end.carrier =
-    λ q apart. ap (place_at q) (sym last) ∙ d.other_places q apart ∙ ap (place_at q) (was_at s p b t old alive) in
     search (arith, value_same, order_of s p b t old alive)
 
 -- what is in flight then, each way
@@ -122,7 +115,7 @@ pub given_after : (s : Side) (p : TwoEnds) (b : Between) (t : Tables) (e : End) 
 given_after Left p b t e h n old alive d lasts named behind =
     let last = last_is Left p b e h n d lasts in
     let new : before d.row ≡ not_yet → ⊥ = λ f. given_not_new n b.caller (nat_lt b.caller.given n) refl named (d.stood ∙ f) in
-    grind (arith, refs_row)
+    grind arith
 given_after Right p b t e h n old alive d lasts named behind = search (arith, last_is)
 
 -- for an end that took a unit, everything that is stated of an end that acted
@@ -134,8 +127,7 @@ pub finish : (s : Side) (p : TwoEnds) (b : Between) (t u : Tables) (e : End) (h 
     TablesAfter s n t u shown (line_then d.row x channel back l) →
     u.known ≡ option_map class_in (with_holding s e h p).left.end.carrier.class → Turned s p b t e h d.now u n shown
 finish s p b t u e h n shown l x channel back old alive d lasts local role named behind order none o hs i w a known =
-    let g = given_after s p b t e h n old alive d lasts named behind in
-    search (arith, seen_then, others_then)
+    search (arith, seen_then, others_then, given_after s p b t e h n old alive d lasts named behind)
 
 -- ---- the class
 

@@ -1,12 +1,10 @@
 -- A side that has already sent a word takes TSDUs just as the side that has not, for the words that may be sent first.
-use Rattle.std.proofs.Common.{arith, ◌≡◌, ◌∙◌, refl, sym, ap, subst, ℕ, Bool, true, false, not, ◌||◌, ◌⊎◌, inl, inr, if◌then◌else◌, List}
-use Rattle.std.proofs.Common.{[], ◌∷◌, length, Option, None, option_map, Result, Ok, Err}
-use Rattle.osi_message.specs.Words.{Word, Words}
-use Rattle.osi_session.specs.Standing.{Seen, Count, counted, kept_count}
-use Rattle.osi_session.specs.Steady.{Hears}
 use Rattle.osi_session.proofs.Vocabulary.{cases_Bool, SpduFault, Phase, Aborting, State, is_over, is_wait_transport, may_hold, Meaning}
 use Rattle.osi_session.proofs.Vocabulary.{replies_abort, first_reply, is_faulty, respond_unit, respond_fault, Taker, Hearing, heard_then}
-use Rattle.osi_session.proofs.Vocabulary.{word_verdict, respond_word, respond_words, acting_words, respond_came, said_at}
+use Rattle.osi_session.proofs.Vocabulary.{word_verdict, respond_word, respond_words, acting_words, respond_came, said_at, arith, ◌≡◌, ◌∙◌}
+use Rattle.osi_session.proofs.Vocabulary.{refl, sym, ap, subst, ℕ, Bool, true, false, not, ◌||◌, ◌⊎◌, inl, inr, if◌then◌else◌, List, []}
+use Rattle.osi_session.proofs.Vocabulary.{◌∷◌, length, Option, None, option_map, Result, Ok, Err, Word, Words, Seen, Count, counted}
+use Rattle.osi_session.proofs.Vocabulary.{kept_count, Hears}
 use Rattle.osi_session.proofs.tsdu.words_one_after_the_other.{good_then}
 use Rattle.osi_session.proofs.tsdu.the_effect_of_a_word.{word_told}
 use Rattle.osi_session.proofs.tables.what_is_true_of_each_phase.{excluded}

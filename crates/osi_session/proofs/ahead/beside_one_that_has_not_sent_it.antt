@@ -1,12 +1,10 @@
 -- A side that has sent a word at the first point at which it may, beside one that has not sent it: what both take, and
 -- what the other sends.
-use Rattle.std.proofs.Common.{arith, ◌≡◌, ◌∙◌, refl, sym, subst, ℕ, ◌+◌, Bool, true, false, ◌||◌, ◌==◌, ◌⊎◌, inl, inr, is_none, unwrap_or}
-use Rattle.std.proofs.Common.{if◌then◌else◌, List, [], ◌∷◌, length, Option, Some, None, option_map}
-use Rattle.osi_message.specs.Words.{Word, says, part}
-use Rattle.osi_session.specs.Standing.{Seen, goes, where_is, calling, CanSay}
-use Rattle.osi_session.specs.Steady.{is_steady, Hears, HearsAll}
 use Rattle.osi_session.proofs.Vocabulary.{and_parts, Phase, State, Place, is_last, Call, Minor, MinorConfirm, DT, GT, MIA, MIP, PT}
-use Rattle.osi_session.proofs.Vocabulary.{available, minor_confirmed, point_sent}
+use Rattle.osi_session.proofs.Vocabulary.{available, minor_confirmed, point_sent, arith, ◌≡◌, ◌∙◌, refl, sym, subst, ℕ, ◌+◌, Bool, true}
+use Rattle.osi_session.proofs.Vocabulary.{false, ◌||◌, ◌==◌, ◌⊎◌, inl, inr, is_none, unwrap_or, if◌then◌else◌, List, [], ◌∷◌, length}
+use Rattle.osi_session.proofs.Vocabulary.{Option, Some, None, option_map, Word, says, part, Seen, goes, where_is, calling, CanSay}
+use Rattle.osi_session.proofs.Vocabulary.{is_steady, Hears, HearsAll}
 use Rattle.osi_session.proofs.ahead.a_side_that_has_sent_a_word.{leaves, IsAheadBy, hears_ahead, hears_gone}
 use Rattle.osi_session.proofs.ahead.words_that_may_be_sent_first.{past_ready, past_confirming, IsReady, same_state, part_ahead, renumbered}
 use Rattle.osi_session.proofs.ahead.words_that_may_be_sent_first.{MayPoint, point_ahead, MayConfirm, conf_ahead}

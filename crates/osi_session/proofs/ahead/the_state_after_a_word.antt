@@ -1,11 +1,10 @@
 -- The state of a side after it sent a word that it may send: for each word, and for those that leave it unchanged.
-use Rattle.std.proofs.Common.{arith, ◌≡◌, refl, ℕ, Bool, true, false, not, ◌&&◌, ◌||◌, is_none, if◌then◌else◌, nat_le, length, Option, Some}
-use Rattle.std.proofs.Common.{None, Ok, option_map}
-use Rattle.osi_message.specs.Words.{Word, says}
-use Rattle.osi_session.specs.Standing.{Seen, goes, said, said_within, left_by, calling, CanSay, is_in_size, answers_word}
-use Rattle.osi_session.specs.Steady.{is_steady}
 use Rattle.osi_session.proofs.Vocabulary.{is_ready, may_ask, may_hold, State, Call, Data, Please, AllHold, Answer, Step, needs, may_call}
-use Rattle.osi_session.proofs.Vocabulary.{met, after, most_of, octets_of, Meaning, DT, GT, PT, is_empty}
+use Rattle.osi_session.proofs.Vocabulary.{met, after, most_of, octets_of, Meaning, DT, GT, PT, is_empty, arith, ◌≡◌, refl, ℕ, Bool, true}
+use Rattle.osi_session.proofs.Vocabulary.{false, not, ◌&&◌, ◌||◌, is_none, if◌then◌else◌, nat_le, length, Option, Some, None, Ok}
+use Rattle.osi_session.proofs.Vocabulary.{option_map, Word, says, Seen, goes, said_within, left_by, calling, CanSay, is_in_size}
+use Rattle.osi_session.proofs.Vocabulary.{answers_word, is_steady}
+use Rattle.osi_session.specs.Standing.{said}
 use Rattle.osi_session.proofs.tables.what_is_true_of_each_phase.{implied}
 
 -- ---- the tests that a word passed which may be sent

@@ -1,15 +1,12 @@
 -- The words that may be sent first, by what they leave: a part of Data, a minor point, and its confirmation.
-use Rattle.std.proofs.Common.{◌≡◌, refl, sym, subst, ℕ, Bool, true, false, not, ◌&&◌, ◌⊎◌, inl, inr, if◌then◌else◌, List, Option, None}
-use Rattle.std.proofs.Common.{arith}
-use Rattle.osi_message.specs.Words.{Word, says, part}
-use Rattle.osi_session.specs.declared.numbers.Numbers.{Numbers}
 use Rattle.osi_session.proofs.Vocabulary.{cases_Bool, ltb-true, lt-ltb, Phase, Ready, MajorDue, ReleaseDue, RestartDue, Aborting, Ended}
 use Rattle.osi_session.proofs.Vocabulary.{State, UnitFault, Unexpected, is_over, is_ready, is_restarting, may_confirm_minor, Meaning, AB}
 use Rattle.osi_session.proofs.Vocabulary.{AC, AA, CN, DN, DT, FN, GT, MAA, MAP, MIA, MIP, NF, PT, RA, RF, RS, First, Middle, Last}
 use Rattle.osi_session.proofs.Vocabulary.{as_message, AllMet, si, first_fault, is_expected, drops, Tokens, Verdict, over, dropped, faulty}
 use Rattle.osi_session.proofs.Vocabulary.{fine, by_fault, is_faulty, becomes, stands, restarted_at, respond_unit, Taker, Hearing}
 use Rattle.osi_session.proofs.Vocabulary.{word_conditions, word_verdict, enacted_word, respond_word, minor_confirmed, point_sent}
-use Rattle.osi_session.proofs.Vocabulary.{point_taken, united}
+use Rattle.osi_session.proofs.Vocabulary.{point_taken, united, ◌≡◌, refl, sym, subst, ℕ, Bool, true, false, not, ◌&&◌, ◌⊎◌, inl, inr}
+use Rattle.osi_session.proofs.Vocabulary.{if◌then◌else◌, List, Option, None, arith, Word, says, part, Numbers}
 use Rattle.osi_session.proofs.ahead.a_side_that_has_sent_a_word.{shifted, Goes, IsAheadBy, quiet_good}
 use Rattle.osi_session.proofs.tables.what_is_true_of_each_phase.{implied, excluded}
 use Rattle.osi_session.proofs.tables.the_outcomes_of_each_input.{unit_cases}

@@ -1,12 +1,9 @@
 -- A TSDU that is read without its units has the effect of one word.
 -- For the fast path of sessions and for the count of a TSDU.
-use Rattle.std.proofs.Common.{arith}
-use Rattle.std.proofs.Common.{◌≡◌, ◌∙◌, sym, ap, ℕ, false, List, [], ◌∷◌, Option, Some, None, Result, Ok}
-use Rattle.osi_message.specs.declared.plain.PlainUnit.{PlainUnit}
 use Rattle.osi_session.proofs.Vocabulary.{SpduFault, Meaning, DT, GT, no_token, Word, Words, says, words_of, State, Taker, Outcome, enacted}
 use Rattle.osi_session.proofs.Vocabulary.{heard, respond_word, respond_came, word_verdict, plain_said, plain_word, Listener, in_state}
-use Rattle.osi_session.proofs.Vocabulary.{taker_of, moved, only_shows, outcome_of, Indication, shown_by}
-use Rattle.osi_session.specs.declared.reactions.Reaction.{Reaction}
+use Rattle.osi_session.proofs.Vocabulary.{taker_of, moved, only_shows, outcome_of, Indication, shown_by, arith, ◌≡◌, ◌∙◌, sym, ap, ℕ, false}
+use Rattle.osi_session.proofs.Vocabulary.{List, [], ◌∷◌, Option, Some, None, Result, Ok, PlainUnit, Reaction}
 use Rattle.osi_session.proofs.tables.messages_act_as_the_table_says.{word_behind, words_of_message}
 use Rattle.osi_session.proofs.tsdu.the_effect_of_a_word.{message_is}
 

@@ -1,16 +1,12 @@
 -- The moves of a session in memory.
-use Rattle.std.proofs.Common.{arith, ◌≡◌, ◌∙◌, refl, sym, subst, ℕ, ◌≤◌, ◌<◌, true, false, ◌&&◌, if◌then◌else◌, is_some, List, [], ◌∷◌}
-use Rattle.std.proofs.Common.{◌++◌, length, Option, Some, None, Result, Ok, Err}
-use Rattle.osi_message.specs.declared.plain.PlainUnit.{PlainUnit}
-use Rattle.osi_session.specs.declared.expected.Expected.{Expected}
-use Rattle.osi_session.specs.declared.taken.Taken.{Taken}
-use Rattle.osi_session.specs.Expecting.{Tries, met_by}
-use Rattle.osi_session.specs.Shown.{Data}
 use Rattle.osi_session.proofs.Vocabulary.{SpduFault, Meaning, IsNumberedWord, AreNumberedWords, said_at, Place, Word, Words, part}
 use Rattle.osi_session.proofs.Vocabulary.{Indication, Reactions, Heard, State, Taker, Hearing, kept_in, joined_octets, is_last}
 use Rattle.osi_session.proofs.Vocabulary.{word_verdict, heard, respond_word, respond_tsdu, respond_came, Listener, Move, moved, taker_of}
 use Rattle.osi_session.proofs.Vocabulary.{is_wait_transport, fine, Takes, takes_memory, IsSound, hearing_of, hearing_of_all, outcome_of}
-use Rattle.osi_session.proofs.Vocabulary.{outcome_of_all, shown_list, takes_room, plain_said, plain_word, came, react}
+use Rattle.osi_session.proofs.Vocabulary.{outcome_of_all, shown_list, takes_room, plain_said, plain_word, came, react, arith, ◌≡◌, ◌∙◌}
+use Rattle.osi_session.proofs.Vocabulary.{refl, sym, subst, ℕ, ◌≤◌, ◌<◌, true, false, ◌&&◌, if◌then◌else◌, is_some, List, [], ◌∷◌, ◌++◌}
+use Rattle.osi_session.proofs.Vocabulary.{length, Option, Some, None, Result, Ok, Err, PlainUnit, Expected, Taken, Tries, met_by}
+use Rattle.osi_session.specs.Shown.{Data}
 use Rattle.osi_session.proofs.tsdu.the_effect_of_a_word.{fine_holds, first_is, middle_is, last_is, early_takes}
 use Rattle.osi_session.proofs.tsdu.what_is_joined.{InPhase, Few, words_in_phase, words_few}
 use Rattle.osi_session.proofs.tsdu.what_the_words_of_a_tsdu_preserve.{words_sound, words_begun, octets_sound, fault_sound, fault_begun}

@@ -1,13 +1,11 @@
 -- What closes the transport connection, and that nothing is sent with it.
-use Rattle.std.proofs.Common.{◌≡◌, refl, sym, ◌∙◌, ap, subst, ℕ, Bool, true, false, ◌||◌, List, [], ◌∷◌, None, Result, Ok, if◌then◌else◌}
-use Rattle.std.proofs.Common.{arith}
-use Rattle.std.proofs.lemmas.List.Folds.{list_any-append}
-use Rattle.osi_session.specs.Moves as whole
 use Rattle.osi_session.proofs.Vocabulary.{list_any, SpduFault, Kind, Zero, Two, category_of, Known, Meaning, meaning_by, said_at, Word}
 use Rattle.osi_session.proofs.Vocabulary.{Words, State, is_ended, Call, may_close, may_close_word, closes_alone, Taker, Hearing}
 use Rattle.osi_session.proofs.Vocabulary.{word_verdict, respond_word, respond_words, heard_then, acting_words, respond_tsdu, Input, called}
 use Rattle.osi_session.proofs.Vocabulary.{came_as, came, Listener, Move, react, listening, in_words, Outcome, reply_for, closes_for}
-use Rattle.osi_session.proofs.Vocabulary.{respond_unit, is_faulty, respond_fault}
+use Rattle.osi_session.proofs.Vocabulary.{respond_unit, is_faulty, respond_fault, ◌≡◌, refl, sym, ◌∙◌, ap, subst, ℕ, Bool, true, false}
+use Rattle.osi_session.proofs.Vocabulary.{◌||◌, List, [], ◌∷◌, None, Result, Ok, if◌then◌else◌, arith, list_any-append}
+use Rattle.osi_session.specs.Moves as whole
 use Rattle.osi_session.proofs.tables.units_that_are_alone.{stands_alone, alone_in_octets}
 use Rattle.osi_session.proofs.runs.what_every_run_preserves.{word_ended}
 use Rattle.osi_session.proofs.tables.the_verdict_on_a_unit.{enacts}

@@ -1,11 +1,10 @@
 -- What gives a token to a side, and what takes it away.
-use Rattle.std.proofs.Common.{◌≡◌, sym, ◌∙◌, Bool, true, false, not, ◌&&◌, ◌||◌, unwrap_or, Ok, if◌then◌else◌, arith}
-use Rattle.osi_session.specs.declared.sides.Sides.{Sides}
-use Rattle.osi_session.specs.Sides.{side_for, is_asker, of_asker, of_answerer}
 use Rattle.osi_session.proofs.Vocabulary.{or_left, or_right, and_parts, State, Tokens, FunctionalUnits, Token, has, set_of, no_token}
 use Rattle.osi_session.proofs.Vocabulary.{is_within, without, united, both_units, available, Call, Give, Meaning, Step, after, allowed}
 use Rattle.osi_session.proofs.Vocabulary.{becomes, bad, respond_unit, UnitFault, to_asker, to_answerer, call_gives, unit_gives, call_holds}
-use Rattle.osi_session.proofs.Vocabulary.{unit_holds}
+use Rattle.osi_session.proofs.Vocabulary.{unit_holds, ◌≡◌, sym, ◌∙◌, Bool, true, false, not, ◌&&◌, ◌||◌, unwrap_or, Ok, if◌then◌else◌}
+use Rattle.osi_session.proofs.Vocabulary.{arith, Sides, side_for, is_asker}
+use Rattle.osi_session.specs.Sides.{of_asker, of_answerer}
 use Rattle.osi_session.proofs.tables.what_an_accepted_call_has_passed.{passed}
 use Rattle.osi_session.proofs.tables.the_outcomes_of_each_input.{unit_cases}
 

@@ -1,6 +1,4 @@
 -- What raises V(A), and that only a restart lowers it.
-use Rattle.std.proofs.Common.{◌≡◌, ◌∙◌, ℕ, ◌+◌, ◌≤◌, Bool, true, false, ◌||◌, List, [], ◌∷◌, Ok, Option, arith}
-use Rattle.osi_spdu.specs.declared.fields.ResyncType.{ResyncType}
 use Rattle.osi_session.proofs.Vocabulary.{AllByRecursion, list_any, leb-true, and_parts, UnitFault, TokenSetting, State, Numbers}
 use Rattle.osi_session.proofs.Vocabulary.{point_sent, point_taken, minor_confirmed, major_confirmed, IsSound, AreOrdered, Call, Accept}
 use Rattle.osi_session.proofs.Vocabulary.{Minor, MinorConfirm, Major, MajorConfirm, Restart, Meaning, CN, AC, MIP, MIA, MAP, MAA, RS}
@@ -8,7 +6,8 @@ use Rattle.osi_session.proofs.Vocabulary.{IsNumberedWord, Word, Words, as_messag
 use Rattle.osi_session.proofs.Vocabulary.{Outcome, si, conditions, first_fault, stands, becomes, judged, take_expected, respond_unit}
 use Rattle.osi_session.proofs.Vocabulary.{AllMet, Taker, respond_word, respond_words, acting_words, Input, called, taken, unread, opened}
 use Rattle.osi_session.proofs.Vocabulary.{refused, broken, Listener, taker_of, after_input, after_inputs, HasNumbersInWords, call_renews}
-use Rattle.osi_session.proofs.Vocabulary.{unit_renews, renews}
+use Rattle.osi_session.proofs.Vocabulary.{unit_renews, renews, ◌≡◌, ◌∙◌, ℕ, ◌+◌, ◌≤◌, Bool, true, false, ◌||◌, List, [], ◌∷◌, Ok, Option}
+use Rattle.osi_session.proofs.Vocabulary.{arith, ResyncType}
 use Rattle.osi_session.proofs.tables.what_an_accepted_call_has_passed.{passed}
 use Rattle.osi_session.proofs.tsdu.what_the_words_of_a_tsdu_preserve.{word_sound}
 use Rattle.osi_session.proofs.tables.a_word_acts_as_its_message.{word_keeps, all_acting}

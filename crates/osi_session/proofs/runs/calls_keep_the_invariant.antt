@@ -1,12 +1,11 @@
 -- Each accepted call keeps the invariant of a session.
-use Rattle.std.proofs.Common.{◌≡◌, refl, ℕ, ◌≤◌, ◌<◌, true, false, Ok, arith}
 use Rattle.osi_session.proofs.Vocabulary.{leb-true, ltb-true, and_parts, TokenSetting, TsduMaximumSize, are_sizes, Phase, Ready, MajorAsked}
 use Rattle.osi_session.proofs.Vocabulary.{Releasing, Restarting, Aborting, Ended, State, Numbers, FunctionalUnits, Tokens, point_sent}
 use Rattle.osi_session.proofs.Vocabulary.{minor_confirmed, restarted_at, in_major, is_restart_due, may_hold, is_ready, is_major_due}
 use Rattle.osi_session.proofs.Vocabulary.{may_confirm_minor, is_wait_transport, without_tokens, IsSound, AreOrdered, Call, Accept, Data}
 use Rattle.osi_session.proofs.Vocabulary.{Give, Please, Minor, MinorConfirm, Major, MajorConfirm, Restart, RestartConfirm, Release}
 use Rattle.osi_session.proofs.Vocabulary.{ReleaseRefuse, Abort, HasSerial, Step, opened_with, is_confirmable, is_restartable, last_number}
-use Rattle.osi_session.proofs.Vocabulary.{needs, may_call, after, allowed, AllHold}
+use Rattle.osi_session.proofs.Vocabulary.{needs, may_call, after, allowed, AllHold, ◌≡◌, refl, ℕ, ◌≤◌, ◌<◌, true, false, Ok, arith}
 use Rattle.osi_session.proofs.tables.what_an_accepted_call_has_passed.{passed}
 use Rattle.osi_session.proofs.tables.what_is_true_of_each_phase.{implied, excluded}
 use Rattle.osi_session.proofs.values.what_sizes_are_agreed.{answered_are}

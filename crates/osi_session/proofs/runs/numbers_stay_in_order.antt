@@ -1,6 +1,5 @@
 -- The numbers stay in order, however they change.
-use Rattle.std.proofs.Common.{ℕ, ◌≤◌, ◌<◌, arith}
-use Rattle.osi_session.proofs.Vocabulary.{Numbers, point_sent, point_taken, major_confirmed, restarted_at, AreOrdered}
+use Rattle.osi_session.proofs.Vocabulary.{Numbers, point_sent, point_taken, major_confirmed, restarted_at, AreOrdered, ℕ, ◌≤◌, ◌<◌, arith}
 
 pub sent_ordered : (base : ℕ) (v : Numbers) → AreOrdered base v → v.next < 1000000 → AreOrdered base (point_sent v)
 unfolding point_sent

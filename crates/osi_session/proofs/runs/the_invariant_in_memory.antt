@@ -1,10 +1,8 @@
 -- The invariant of a session in memory.
-use Rattle.std.proofs.Common.{◌≡◌, ◌∙◌, refl, ap, false, Some, Ok, arith}
-use Rattle.osi_session.specs.declared.requests.Request.{Request}
-use Rattle.osi_session.specs.declared.requests.Request.TheVariants as request
 use Rattle.osi_session.proofs.Vocabulary.{State, is_wait_transport, IsSound, HasSerial, called_by, Step, allowed, Opening, Meaning, tsdu_at}
 use Rattle.osi_session.proofs.Vocabulary.{said_by_units, in_one, words_of, is_second, spelled, written, asked_for, awaiting, asking, lone}
-use Rattle.osi_session.proofs.Vocabulary.{lone_of, unit_in}
+use Rattle.osi_session.proofs.Vocabulary.{lone_of, unit_in, ◌≡◌, ◌∙◌, refl, ap, false, Some, Ok, arith, Request}
+use Rattle.osi_session.specs.declared.requests.Request.TheVariants as request
 use Rattle.osi_session.proofs.runs.calls_keep_the_invariant.{call_sound, call_begun}
 use Rattle.osi_session.proofs.values.what_sizes_are_agreed.{user_sizes}
 

@@ -1,11 +1,10 @@
 -- What every run of a session preserves.
-use Rattle.std.proofs.Common.{◌≡◌, refl, true, List, [], ◌∷◌, map, Err, arith}
-use Rattle.osi_session.specs.declared.faults.CallError.TheVariants as error
 use Rattle.osi_session.proofs.Vocabulary.{AllByRecursion, Phase, Connecting, Aborting, Ended, State, is_wait_transport, is_ended, is_over}
 use Rattle.osi_session.proofs.Vocabulary.{IsSound, Call, Meaning, allowed, respond_unit, Opening, awaiting, asking, Input, called, taken}
 use Rattle.osi_session.proofs.Vocabulary.{unread, opened, refused, broken, Listener, taker_of, react, after_input, after_inputs, HasNumbers}
 use Rattle.osi_session.proofs.Vocabulary.{HasNumbersInWords, IsFresh, in_words, Taker, respond_word, respond_tsdu, Said, AreNumbered}
-use Rattle.osi_session.proofs.Vocabulary.{AreNumberedWords, Word, Words, says}
+use Rattle.osi_session.proofs.Vocabulary.{AreNumberedWords, Word, Words, says, ◌≡◌, refl, true, List, [], ◌∷◌, map, Err, arith}
+use Rattle.osi_session.specs.declared.faults.CallError.TheVariants as error
 use Rattle.osi_session.specs.Moves as whole
 use Rattle.osi_session.proofs.runs.no_unit_goes_back_to_awaiting.{Begins}
 use Rattle.osi_session.proofs.tables.a_word_acts_as_its_message.{word_keeps, any_tsdu_keeps}

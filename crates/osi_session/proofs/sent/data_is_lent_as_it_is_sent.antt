@@ -1,13 +1,9 @@
 -- Data that is lent in parts has the TSDUs in which it is sent.
 -- For `in_parts` and `in_one` of lending.
-use Rattle.std.proofs.Common.{◌≡◌, refl, ℕ, zero, suc, ◌-◌, ◌≤◌, true, false, List, [], ◌∷◌, ◌++◌, length, drop, arith}
-use Rattle.std.proofs.lemmas.Bool.{lt-leb}
-use Rattle.osi_message.specs.Parting.{pieces, later_parts}
-use Rattle.osi_message.specs.Words.{part_head}
-use Rattle.osi_message.proofs.how_pieces_follow_one_another.{octets_of, middle_of, some_piece}
-use Rattle.osi_message.proofs.the_tsdus_of_a_message.{sent_parted, more_octets}
-use Rattle.osi_session.proofs.Vocabulary.{le-leb, DT, First, Middle, Last, is_whole, tsdus_of, is_size}
-use Rattle.osi_session.specs.Lent.{headed}
+use Rattle.osi_session.proofs.Vocabulary.{le-leb, DT, First, Middle, Last, is_whole, tsdus_of, is_size, ◌≡◌, refl, ℕ, zero, suc, ◌-◌, ◌≤◌}
+use Rattle.osi_session.proofs.Vocabulary.{true, false, List, [], ◌∷◌, ◌++◌, length, drop, arith, lt-leb, pieces, later_parts, part_head}
+use Rattle.osi_session.proofs.Vocabulary.{middle_of, some_piece, sent_parted, more_octets, headed}
+use Rattle.osi_message.proofs.how_pieces_follow_one_another.{octets_of}
 
 -- ---- several parts
 

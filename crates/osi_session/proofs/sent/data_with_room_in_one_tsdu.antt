@@ -1,10 +1,9 @@
 -- Data for which one TSDU has room now is accepted, and sent in one TSDU.
 -- For `goes_whole` of sessions.
-use Rattle.std.proofs.Common.{◌≡◌, ◌<◌, ◌≤◌, ℕ, ◌+◌, ◌-◌, ◌==◌, Bool, true, ◌&&◌, ◌||◌, nat_le, List, length, if◌then◌else◌, Ok, arith}
-use Rattle.std.proofs.lemmas.Bool.{ltb-false}
-use Rattle.osi_message.specs.Tokens as token
 use Rattle.osi_session.proofs.Vocabulary.{le-leb, lt-ltb, ltb-true, or_left, or_right, DT, is_whole, State, is_ready, has_right, allowed}
-use Rattle.osi_session.proofs.Vocabulary.{Data, limit_of, most_data, most_whole, most_within}
+use Rattle.osi_session.proofs.Vocabulary.{Data, limit_of, most_data, most_whole, most_within, ◌≡◌, ◌<◌, ◌≤◌, ℕ, ◌+◌, ◌-◌, ◌==◌, Bool, true}
+use Rattle.osi_session.proofs.Vocabulary.{◌&&◌, ◌||◌, nat_le, List, length, if◌then◌else◌, Ok, arith, ltb-false}
+use Rattle.osi_message.specs.Tokens as token
 use Rattle.osi_session.proofs.tables.what_an_accepted_call_has_passed.{accepted}
 
 if_some : (b : Bool) (m n : ℕ) → 0 < n → n ≤ (if b then m else 0) → (b ≡ true) × (n ≤ m)

@@ -1,20 +1,14 @@
 -- What a side may send: calls that a phase refuses, and that its state keeps the invariant.
-use Rattle.std.proofs.Common.{◌≡◌, refl, subst, ℕ, ◌+◌, zero, suc, Bool, true, false, not, ◌&&◌, ◌||◌, ◌==◌, is_none, if◌then◌else◌, nat_le}
-use Rattle.std.proofs.Common.{List, [], ◌∷◌, length, Option, Some, None, Ok, option_map, arith}
-use Rattle.osi_session.specs.Counting.{taker_with, CountsCame}
-use Rattle.osi_session.specs.Breaches.{message_breach, word_breach}
-use Rattle.osi_session.specs.Calls.{refusal_with}
-use Rattle.osi_session.specs.Standing.{Seen, goes, said_within, Count, left_by, calling, fits_user_data, connecting, accepting_in, where_is}
-use Rattle.osi_session.specs.Standing.{said_message, seen_calling}
 use Rattle.osi_session.proofs.Vocabulary.{says, has_no_effect, begins_anew, and_parts, Phase, Releasing, is_over, is_wait_transport}
 use Rattle.osi_session.proofs.Vocabulary.{is_answering, State, FunctionalUnits, TokenSetting, TsduMaximumSize, are_sizes, has_data, IsSound}
 use Rattle.osi_session.proofs.Vocabulary.{Call, Refuse, Data, Give, Please, Minor, MinorConfirm, Major, MajorConfirm, Restart}
 use Rattle.osi_session.proofs.Vocabulary.{ReleaseAccept, ReleaseRefuse, Abort, HasSerial, Answer, Step, may_call, met, most_of, octets_of}
 use Rattle.osi_session.proofs.Vocabulary.{names, Meaning, CN, AC, RF, DT, GT, PT, MIP, MIA, MAP, MAA, RS, RA, FN, DN, NF, AB, AA}
-use Rattle.osi_session.proofs.Vocabulary.{IsNumbered, IsSmall, said_at, meant_by, meant_numbered}
-use Rattle.osi_message.specs.declared.messages.Message.{Message}
-use Rattle.osi_session.specs.Respond.{is_restart}
-use Rattle.osi_session.specs.Sides.{answers_wishes}
+use Rattle.osi_session.proofs.Vocabulary.{IsNumbered, IsSmall, said_at, meant_by, meant_numbered, ◌≡◌, refl, subst, ℕ, ◌+◌, zero, suc, Bool}
+use Rattle.osi_session.proofs.Vocabulary.{true, false, not, ◌&&◌, ◌||◌, ◌==◌, is_none, if◌then◌else◌, nat_le, List, [], ◌∷◌, length, Option}
+use Rattle.osi_session.proofs.Vocabulary.{Some, None, Ok, option_map, arith, taker_with, CountsCame, message_breach, word_breach}
+use Rattle.osi_session.proofs.Vocabulary.{refusal_with, Seen, goes, said_within, Count, left_by, calling, fits_user_data, connecting}
+use Rattle.osi_session.proofs.Vocabulary.{accepting_in, where_is, said_message, seen_calling, Message, is_restart, answers_wishes}
 use Rattle.osi_session.proofs.tables.what_an_accepted_call_has_passed.{first_error_ok}
 use Rattle.osi_session.proofs.tables.what_is_true_of_each_phase.{excluded}
 use Rattle.osi_session.proofs.values.what_sizes_are_agreed.{smaller_are}

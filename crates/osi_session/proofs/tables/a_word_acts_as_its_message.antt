@@ -1,11 +1,10 @@
 -- A word leaves a state, and is answered, as its message or data does, as a bad unit does, or as nothing does.
-use Rattle.std.proofs.Common.{arith, ◌≡◌, refl, sym, subst, ℕ, Bool, true, false, if◌then◌else◌, List, [], ◌∷◌, ◌++◌, Option, Some, None}
-use Rattle.std.proofs.Common.{inl, inr}
 use Rattle.osi_session.proofs.Vocabulary.{AllByRecursion, cases_Bool, Aborting, UnitFault, Unexpected, State, without_tokens, is_over}
 use Rattle.osi_session.proofs.Vocabulary.{Outcome, nothing, si, conditions, first_fault, is_expected, drops, bad, over, dropped, faulty}
 use Rattle.osi_session.proofs.Vocabulary.{fine, is_faulty, respond_unit, First, Middle, Last, Meaning, DT, Word, Words, says, part}
 use Rattle.osi_session.proofs.Vocabulary.{as_message, Taker, joined_octets, word_conditions, word_verdict, good_word, Hearing, respond_word}
-use Rattle.osi_session.proofs.Vocabulary.{respond_words, acting_words, respond_tsdu}
+use Rattle.osi_session.proofs.Vocabulary.{respond_words, acting_words, respond_tsdu, arith, ◌≡◌, refl, sym, subst, ℕ, Bool, true, false}
+use Rattle.osi_session.proofs.Vocabulary.{if◌then◌else◌, List, [], ◌∷◌, ◌++◌, Option, Some, None, inl, inr}
 use Rattle.osi_session.proofs.tables.the_verdict_on_a_unit.{enacts}
 use Rattle.osi_session.proofs.tables.messages_act_as_the_table_says.{word_at}
 

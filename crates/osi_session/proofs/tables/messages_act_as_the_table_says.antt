@@ -1,13 +1,12 @@
 -- If nothing is joined, messages have the effect that the table of units gives. Also the effect of a TSDU of one word.
-use Rattle.std.proofs.Common.{◌≡◌, refl, sym, ◌∙◌, ap, ℕ, Bool, true, false, ◌||◌, if◌then◌else◌, List, [], ◌∷◌, ◌++◌, map, Option, None}
-use Rattle.std.proofs.Common.{inl, inr, arith}
-use Rattle.osi_session.specs.Moves as whole
 use Rattle.osi_session.proofs.Vocabulary.{list_any, cases_Bool, append-nil, State, Phase, is_over, Outcome, nothing, is_resynchronize}
 use Rattle.osi_session.proofs.Vocabulary.{Verdict, over, dropped, verdict, is_faulty, enacted, respond_unit, respond_all, acting, respond}
 use Rattle.osi_session.proofs.Vocabulary.{and_then, Meaning, GT, no_token, Said, words_of, Word, says, Taker, drops_parts, kept_in}
 use Rattle.osi_session.proofs.Vocabulary.{word_verdict, Hearing, heard, enacted_word, respond_word, respond_words, heard_then, idle}
 use Rattle.osi_session.proofs.Vocabulary.{is_restart_word, acting_words, respond_tsdu, Listener, Move, react, after_input, after_inputs}
-use Rattle.osi_session.proofs.Vocabulary.{taken, listening, standing_of, in_words, is_apart, joins}
+use Rattle.osi_session.proofs.Vocabulary.{taken, listening, standing_of, in_words, is_apart, joins, ◌≡◌, refl, sym, ◌∙◌, ap, ℕ, Bool, true}
+use Rattle.osi_session.proofs.Vocabulary.{false, ◌||◌, if◌then◌else◌, List, [], ◌∷◌, ◌++◌, map, Option, None, inl, inr, arith}
+use Rattle.osi_session.specs.Moves as whole
 use Rattle.osi_session.proofs.tables.the_verdict_on_a_unit.{enacts, empty_item}
 
 -- ---- what is kept

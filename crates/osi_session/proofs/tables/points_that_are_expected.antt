@@ -1,18 +1,16 @@
 -- Data, minor points and confirmations: those that are expected, and points that are sent.
-use Rattle.std.proofs.Common.{◌≡◌, ◌∙◌, ap, ℕ, ◌≤◌, ◌==◌, nat_le, nat_lt, Bool, List, [], ◌∷◌, Option, Some, None, is_some, Result, Ok, Err}
-use Rattle.std.proofs.Common.{if◌then◌else◌, true, false, refl, sym, length, arith}
-use Rattle.osi_message.specs.declared.plain.PlainUnit.{PlainUnit}
-use Rattle.osi_message.specs.Plain.{plain_word as unit_word}
-use Rattle.osi_session.specs.declared.plans.PlannedPoint.{PlannedPoint}
-use Rattle.osi_session.specs.declared.plans.SentPoint.{SentPoint}
-use Rattle.osi_session.specs.declared.plans.SentPoint.TheVariants as point
-use Rattle.osi_session.specs.Shown.{Data, Minor}
 use Rattle.osi_session.proofs.Vocabulary.{and_from, and_parts, Answer, after, fits_limit, most_user_data, sends, advanced, after_input}
 use Rattle.osi_session.proofs.Vocabulary.{call_for, has_next, may_advance, may_call, SpduFault, Meaning, DT, MIP, MIA, GT, tsdus_of}
 use Rattle.osi_session.proofs.Vocabulary.{no_token, Words, says, Indication, Numbers, Phase, State, Step, allowed, Call, heard}
 use Rattle.osi_session.proofs.Vocabulary.{joined_octets, kept_in, respond_came, Listener, called, react, came_as, taker_of, point_taken}
 use Rattle.osi_session.proofs.Vocabulary.{minor_confirmed, is_ready, takes_data, respond_unit, shows, take_expected, only_shows, PlansPoint}
 use Rattle.osi_session.proofs.Vocabulary.{limit_of, Shown, MinorConfirmed, shown_by, IsSound, IsNumberedWord, Word, respond_word, moved}
+use Rattle.osi_session.proofs.Vocabulary.{◌≡◌, ◌∙◌, ap, ℕ, ◌≤◌, ◌==◌, nat_le, nat_lt, Bool, List, [], ◌∷◌, Option, Some, None, is_some}
+use Rattle.osi_session.proofs.Vocabulary.{Result, Ok, Err, if◌then◌else◌, true, false, refl, sym, length, arith, PlainUnit, PlannedPoint}
+use Rattle.osi_session.proofs.Vocabulary.{SentPoint}
+use Rattle.osi_message.specs.Plain.{plain_word as unit_word}
+use Rattle.osi_session.specs.declared.plans.SentPoint.TheVariants as point
+use Rattle.osi_session.specs.Shown.{Data, Minor}
 use Rattle.osi_session.proofs.moves.the_move_of_each_input.{came_is, call_errs, call_next, call_passes, call_sends}
 use Rattle.osi_session.proofs.tables.what_an_accepted_call_has_passed.{accepted, passed}
 use Rattle.osi_session.proofs.sent.what_is_sent_can_be_written.{call_sendable}

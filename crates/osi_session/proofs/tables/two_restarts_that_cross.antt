@@ -1,9 +1,8 @@
 -- Two restarts that cross: which of them takes effect.
-use Rattle.std.proofs.Common.{inl, inr, ◌⊎◌, ◌≡◌, refl, ℕ, ◌≤◌, ◌<◌, true, false, not, List, arith}
-use Rattle.osi_spdu.specs.declared.fields.ResyncType.TheVariants.{Restart}
-use Rattle.osi_session.specs.Restarts.{HasAsked, AreCrossed, after_restart}
 use Rattle.osi_session.proofs.Vocabulary.{lt-ltb, le-ltb, eq-eqb, ne_eqb, cases_order, TokenSetting, State, is_restarting, is_restart_due}
-use Rattle.osi_session.proofs.Vocabulary.{restarted_at, lower, RS, stands, becomes, good, take_expected, respond_unit}
+use Rattle.osi_session.proofs.Vocabulary.{restarted_at, lower, RS, stands, becomes, good, take_expected, respond_unit, inl, inr, ◌⊎◌, ◌≡◌}
+use Rattle.osi_session.proofs.Vocabulary.{refl, ℕ, ◌≤◌, ◌<◌, true, false, not, List, arith, HasAsked, AreCrossed, after_restart}
+use Rattle.osi_spdu.specs.declared.fields.ResyncType.TheVariants.{Restart}
 use Rattle.osi_session.proofs.tables.what_is_true_of_each_phase.{implied, excluded}
 use Rattle.osi_session.proofs.tables.the_verdict_on_a_unit.{in_front, empty_item}
 

@@ -1,10 +1,8 @@
 -- Units that are alone in a TSDU: those of category 1 (X.225 section 6.3.7).
-use Rattle.std.proofs.Common.{◌≡◌, refl, ℕ, Bool, true, false, not, ◌||◌, List, [], ◌∷◌, Result, Ok, arith}
-use Rattle.osi_spdu.specs.Spelling.{AreBehind}
-use Rattle.osi_spdu.proofs.basics.the_steps_of_reading.{bind_ok, ok_is}
-use Rattle.osi_spdu.proofs.tsdu.units_and_tsdus_are_read.{behind_stands}
 use Rattle.osi_session.proofs.Vocabulary.{list_any, SpduFault, Kind, Zero, Two, category_of, Known, Contents, Units, tsdu_at, Meaning, DT}
-use Rattle.osi_session.proofs.Vocabulary.{meaning_by, meaning, word, said_by_units, said_if_read, said_at, Word, Words, as_message}
+use Rattle.osi_session.proofs.Vocabulary.{meaning_by, meaning, word, said_by_units, said_if_read, said_at, Word, Words, as_message, ◌≡◌}
+use Rattle.osi_session.proofs.Vocabulary.{refl, ℕ, Bool, true, false, not, ◌||◌, List, [], ◌∷◌, Result, Ok, arith, AreBehind, bind_ok}
+use Rattle.osi_session.proofs.Vocabulary.{ok_is, behind_stands}
 
 -- a test that passes no token item and no unit of category 2
 pub record StandsAlone (p : Meaning → Bool) : Type 0 where

@@ -1,7 +1,6 @@
 -- The effect on a session of a call that its table accepts.
-use Rattle.std.proofs.Common.{arith, ◌≡◌, ℕ, None, Ok}
 use Rattle.osi_session.proofs.Vocabulary.{Meaning, tsdus_of, tsdus_sent, Step, allowed, Call, HasSerial, kept_in, called, Listener}
-use Rattle.osi_session.proofs.Vocabulary.{in_state, react, CanBeSent, limit_of, IsSound}
+use Rattle.osi_session.proofs.Vocabulary.{in_state, react, CanBeSent, limit_of, IsSound, arith, ◌≡◌, ℕ, None, Ok}
 use Rattle.osi_session.proofs.moves.the_move_of_each_input.{call_leaves, call_sends, call_passes}
 use Rattle.osi_session.proofs.sent.what_is_sent_can_be_written.{call_sendable}
 

@@ -1,6 +1,5 @@
 -- What is true of each phase.
-use Rattle.std.proofs.Common.{◌≡◌, Bool, true, false, not, ◌||◌, arith}
-use Rattle.osi_session.proofs.Vocabulary.{and_parts, Phase, every_phase}
+use Rattle.osi_session.proofs.Vocabulary.{and_parts, Phase, every_phase, ◌≡◌, Bool, true, false, not, ◌||◌, arith}
 
 -- a test that each phase passes is passed by this one
 pub every_is : (f : Phase → Bool) → every_phase f ≡ true → (p : Phase) → f p ≡ true

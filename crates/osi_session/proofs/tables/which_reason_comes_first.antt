@@ -1,11 +1,8 @@
 -- What is refused for which reason: a CN that cannot be accepted is answered by RF with the reason that comes
 -- first, and a part that is out of its place is a bad enclosure, however long it is.
-use Rattle.std.proofs.Common.{arith, ◌≡◌, ℕ, true, false, List, [], Option, Some}
-use Rattle.osi_spdu.specs.declared.fields.TsduMaximumSize.{TsduMaximumSize}
-use Rattle.osi_spdu.specs.declared.settings.TokenSetting.{TokenSetting}
-use Rattle.osi_session.proofs.Vocabulary.{Phase, BadEnclosure, State, Taker, Place}
-use Rattle.osi_session.proofs.Vocabulary.{CN, RF, DT, part, is_wait_cn, takes_data, has_data, functional_units, respond_unit}
-use Rattle.osi_session.proofs.Vocabulary.{take_expected, si, is_in_place, word_verdict, faulty}
+use Rattle.osi_session.proofs.Vocabulary.{Phase, BadEnclosure, State, Taker, Place, CN, RF, DT, part, is_wait_cn, takes_data, has_data}
+use Rattle.osi_session.proofs.Vocabulary.{functional_units, respond_unit, take_expected, si, is_in_place, word_verdict, faulty, arith, ◌≡◌}
+use Rattle.osi_session.proofs.Vocabulary.{ℕ, true, false, List, [], Option, Some, TsduMaximumSize, TokenSetting}
 use Rattle.osi_session.proofs.tsdu.the_verdict_while_joining.{part_verdict}
 
 version_at : (s : State) (requirements : ℕ) (serial : Option ℕ) (wishes : TokenSetting) (from to : Option (List ℕ))

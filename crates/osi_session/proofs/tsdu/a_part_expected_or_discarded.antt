@@ -1,7 +1,6 @@
 -- A part if data is expected, and if it is discarded.
-use Rattle.std.proofs.Common.{◌≡◌, refl, ◌∙◌, ap, ℕ, true, false, List, None, arith}
 use Rattle.osi_session.proofs.Vocabulary.{State, is_restarting, is_over, takes_data, nothing, over, dropped, Place, DT, says, part, heard}
-use Rattle.osi_session.proofs.Vocabulary.{respond_word, discards, IsNoFault}
+use Rattle.osi_session.proofs.Vocabulary.{respond_word, discards, IsNoFault, ◌≡◌, refl, ◌∙◌, ap, ℕ, true, false, List, None, arith}
 use Rattle.osi_session.proofs.tables.what_is_true_of_each_phase.{excluded}
 use Rattle.osi_session.proofs.tables.messages_act_as_the_table_says.{word_at}
 

@@ -1,13 +1,8 @@
 -- A TSDU of one unit, or of one after a GT that names no token, has the effect of that unit.
 -- For the units of a TSDU that are taken, and for those that are counted.
-use Rattle.std.proofs.Common.{arith, ◌≡◌, refl, Bool, true, [], ◌∷◌, Option, None, option_map}
-use Rattle.osi_spdu.specs.declared.codes.Code.TheVariants.{TokenItem}
-use Rattle.osi_spdu.specs.declared.kinds.Kind.{Kind}
-use Rattle.osi_spdu.specs.declared.kinds.Kind.TheVariants.{GiveTokens}
-use Rattle.osi_spdu.specs.declared.tokens.TokenSet.{TokenSet}
-use Rattle.osi_spdu.specs.Fields.{token_octets}
-use Rattle.osi_spdu.specs.Known.{Contents, Known}
-use Rattle.osi_session.proofs.Vocabulary.{GT, no_token, Units, says, word, meaning, said_by_units, Taker, respond_tsdu, respond_word}
+use Rattle.osi_session.proofs.Vocabulary.{GT, no_token, Units, says, word, meaning, said_by_units, Taker, respond_tsdu, respond_word, arith}
+use Rattle.osi_session.proofs.Vocabulary.{◌≡◌, refl, Bool, true, [], ◌∷◌, Option, None, option_map, TokenItem, Kind, GiveTokens, TokenSet}
+use Rattle.osi_session.proofs.Vocabulary.{token_octets, Contents, Known}
 use Rattle.osi_session.proofs.tables.messages_act_as_the_table_says.{word_alone, word_behind}
 
 empty_unit : (unit : Contents) → unit.kind ≡ GiveTokens → unit.known TokenItem ≡ None → word unit ≡ says (GT no_token)

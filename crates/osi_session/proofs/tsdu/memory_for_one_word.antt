@@ -1,10 +1,9 @@
 -- If memory is needed for one word, it is needed for all: a word that indicates and sends nothing joins no less.
-use Rattle.std.proofs.Common.{◌≡◌, refl, sym, ap, subst, ℕ, ◌≤◌, Bool, true, false, not, ◌&&◌, if◌then◌else◌, List, [], ◌∷◌, ◌++◌, length}
-use Rattle.std.proofs.Common.{Option, Some, arith}
 use Rattle.osi_session.proofs.Vocabulary.{is_none, cases_Bool, and_parts, length-append, UnitFault, State, is_over, may_hold, nothing}
 use Rattle.osi_session.proofs.Vocabulary.{is_nil, Verdict, over, dropped, faulty, fine, by_fault, Shown, First, Middle, Last, Word, Words}
 use Rattle.osi_session.proofs.Vocabulary.{says, part, Taker, Hearing, joined_octets, kept_in, word_verdict, heard, heard_then, respond_word}
-use Rattle.osi_session.proofs.Vocabulary.{respond_words, takes_room}
+use Rattle.osi_session.proofs.Vocabulary.{respond_words, takes_room, ◌≡◌, refl, sym, ap, subst, ℕ, ◌≤◌, Bool, true, false, not, ◌&&◌}
+use Rattle.osi_session.proofs.Vocabulary.{if◌then◌else◌, List, [], ◌∷◌, ◌++◌, length, Option, Some, arith}
 use Rattle.osi_session.proofs.tsdu.the_effect_of_a_word.{fine_holds, first_is, middle_is, last_is}
 use Rattle.osi_session.proofs.tsdu.what_is_joined.{InPhase}
 use Rattle.osi_session.proofs.tsdu.the_verdict_while_joining.{bad_loud}
@@ -33,8 +32,6 @@ takes_then j a b h g = grind (arith, quiet_both)
 pub takes_behind : (j : Option (List ℕ)) (a b : Hearing) → (quiet a ≡ true → size j ≤ size a.next.joined) →
     takes_room a.next.joined b ≡ true → takes_room j (heard_then a b) ≡ true
 takes_behind j a b g h = search (arith, quiet_both)
-
--- ---- a good unit that shows and sends nothing changes nothing
 
 -- ---- a quiet word joins no less
 

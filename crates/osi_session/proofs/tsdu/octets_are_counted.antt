@@ -1,15 +1,14 @@
 -- The effect of a word with the octets of an unfinished SSDU counted: it is the same whatever these octets are.
-use Rattle.std.proofs.Common.{◌≡◌, ◌∙◌, refl, sym, ap, subst, ℕ, ◌+◌, ◌<◌, ◌≤◌, Bool, true, false, not, ◌||◌, if◌then◌else◌, nat_le, List}
-use Rattle.std.proofs.Common.{[], ◌∷◌, ◌++◌, length, Option, Some, None, Result, Err, option_map, unwrap_or, arith}
-use Rattle.osi_session.specs.declared.joining.PartVerdict.TheVariants as is
-use Rattle.osi_session.specs.Counting.{no_octets, count_by, count_by_idle, taker_with, Counts, CountsAll, CountsCame}
-use Rattle.osi_session.specs.Standing.{Count, counted}
 use Rattle.osi_session.proofs.Vocabulary.{SpduFault, respond_fault, Words, first_reply, replies_abort, heard_then, idle, is_restart_word}
 use Rattle.osi_session.proofs.Vocabulary.{respond_tsdu, length-append, le-leb, leb-true, State, UnitFault, Unexpected, TokenHeld, Taker}
 use Rattle.osi_session.proofs.Vocabulary.{respond_came, BadEnclosure, DataTooLong, most_data, is_over, is_restarting, takes_data, nothing}
 use Rattle.osi_session.proofs.Vocabulary.{bad, Outcome, Verdict, over, dropped, faulty, fine, is_faulty, enacted, si, Hearing}
 use Rattle.osi_session.proofs.Vocabulary.{joined_octets, is_in_place, is_last, word_verdict, heard, respond_word, told_of, Meaning, DT}
-use Rattle.osi_session.proofs.Vocabulary.{Place, Word, says, part}
+use Rattle.osi_session.proofs.Vocabulary.{Place, Word, says, part, ◌≡◌, ◌∙◌, refl, sym, ap, subst, ℕ, ◌+◌, ◌<◌, ◌≤◌, Bool, true, false, not}
+use Rattle.osi_session.proofs.Vocabulary.{◌||◌, if◌then◌else◌, nat_le, List, [], ◌∷◌, ◌++◌, length, Option, Some, None, Result, Err}
+use Rattle.osi_session.proofs.Vocabulary.{option_map, unwrap_or, arith, no_octets, count_by, count_by_idle, taker_with, Counts, CountsAll}
+use Rattle.osi_session.proofs.Vocabulary.{CountsCame, Count, counted}
+use Rattle.osi_session.specs.declared.joining.PartVerdict.TheVariants as is
 use Rattle.osi_session.proofs.tsdu.the_verdict_while_joining.{part_verdict}
 use Rattle.osi_session.proofs.tsdu.words_one_after_the_other.{Leads, tsdu_begins, goes_on, stops, ends_restarted, ends_with_item}
 use Rattle.osi_session.proofs.tsdu.the_effect_of_a_word.{word_told, message_is, part_dropped, part_bad, first_is, middle_is, last_is}

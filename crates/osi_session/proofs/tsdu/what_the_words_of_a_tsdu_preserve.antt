@@ -1,8 +1,7 @@
 -- What the words of a TSDU preserve.
-use Rattle.std.proofs.Common.{arith, ◌≡◌, refl, subst, ℕ, List, true}
 use Rattle.osi_session.proofs.Vocabulary.{SpduFault, Aborting, State, is_wait_transport, IsSound, IsNumberedWord, AreNumberedWords, said_at}
 use Rattle.osi_session.proofs.Vocabulary.{Word, Words, units_numbered, Taker, Hearing, respond_word, respond_tsdu, respond_came}
-use Rattle.osi_session.proofs.Vocabulary.{respond_fault}
+use Rattle.osi_session.proofs.Vocabulary.{respond_fault, arith, ◌≡◌, refl, subst, ℕ, List, true}
 use Rattle.osi_session.proofs.runs.no_unit_goes_back_to_awaiting.{Begins, unit_begun}
 use Rattle.osi_session.proofs.runs.calls_keep_the_invariant.{bare}
 use Rattle.osi_session.proofs.runs.units_keep_the_invariant.{unit_sound}

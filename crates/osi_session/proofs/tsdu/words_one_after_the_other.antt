@@ -1,12 +1,10 @@
 -- The words of a TSDU take effect one after the other: what a loop over its units has done so far, and what is still to act.
 -- For `take_each` of grouping and `count_each` of counting.
-use Rattle.std.proofs.Common.{◌≡◌, refl, sym, ◌∙◌, ap, subst, ℕ, Bool, true, false, ◌||◌, List, [], ◌∷◌, ◌++◌, Option, Some, None, Result}
-use Rattle.std.proofs.Common.{if◌then◌else◌, arith}
-use Rattle.osi_spdu.specs.declared.behind.Behind.{Behind}
-use Rattle.osi_spdu.specs.declared.units.Spdu.{Spdu}
 use Rattle.osi_session.proofs.Vocabulary.{OnErr, list_any, append_assoc, append-nil, GivesBehind, units_behind, Reactions, hearing_of_all}
 use Rattle.osi_session.proofs.Vocabulary.{takes_room, Word, Words, is_faulty, Taker, Hearing, heard_then, idle, is_restart_word}
-use Rattle.osi_session.proofs.Vocabulary.{word_verdict, respond_word, respond_words, acting_words, respond_tsdu}
+use Rattle.osi_session.proofs.Vocabulary.{word_verdict, respond_word, respond_words, acting_words, respond_tsdu, ◌≡◌, refl, sym, ◌∙◌, ap}
+use Rattle.osi_session.proofs.Vocabulary.{subst, ℕ, Bool, true, false, ◌||◌, List, [], ◌∷◌, ◌++◌, Option, Some, None, Result, if◌then◌else◌}
+use Rattle.osi_session.proofs.Vocabulary.{arith, Behind, Spdu}
 use Rattle.osi_session.proofs.tsdu.what_is_joined.{InPhase}
 use Rattle.osi_session.proofs.tsdu.memory_for_one_word.{SoFar, word_so_far, word_takes, takes_behind}
 use Rattle.osi_session.proofs.tables.messages_act_as_the_table_says.{one_word}

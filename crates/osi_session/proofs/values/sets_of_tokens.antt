@@ -1,7 +1,6 @@
 -- Sets of tokens, and their octets.
-use Rattle.std.proofs.Common.{arith}
-use Rattle.std.proofs.Common.{◌≡◌, refl, ◌==◌, Bool, true, false, not, ◌&&◌, ◌||◌}
-use Rattle.osi_session.proofs.Vocabulary.{bit_and, and_parts, eqb-true, Tokens, is_disjoint, token_octet}
+use Rattle.osi_session.proofs.Vocabulary.{bit_and, and_parts, eqb-true, Tokens, is_disjoint, token_octet, arith, ◌≡◌, refl, ◌==◌, Bool}
+use Rattle.osi_session.proofs.Vocabulary.{true, false, not, ◌&&◌, ◌||◌}
 
 every_bool : (Bool → Bool) → Bool
 every_bool f = f true && f false

@@ -1,12 +1,11 @@
 -- The functional units of a session are those of a profile.
-use Rattle.std.proofs.Common.{◌≡◌, refl, ℕ, true, List, [], ◌∷◌, Ok, arith}
-use Rattle.std.proofs.lemmas.Nat.{and_assoc, and_le_r}
 use Rattle.osi_session.proofs.Vocabulary.{unit_bits, eqb-true, and_parts, Meaning, CN, AC, RF, MAP, MAA, RS, RA, FN, DN, NF, AB, Word}
 use Rattle.osi_session.proofs.Vocabulary.{Opening, FunctionalUnits, State, Step, may_call, needs, after, allowed, AllHold, Call, Taker}
 use Rattle.osi_session.proofs.Vocabulary.{respond_word, Input, called, taken, unread, opened, refused, broken, Listener, taker_of}
 use Rattle.osi_session.proofs.Vocabulary.{after_input, after_inputs, IsOfProfile, has_profile, HasProfile, is_wait_transport, is_ready}
 use Rattle.osi_session.proofs.Vocabulary.{is_major_asked, is_releasing, is_restarting, is_expected, conditions, becomes, respond_unit}
-use Rattle.osi_session.proofs.Vocabulary.{AllMet, awaiting, asking, functional_units, both_units, has_data, is_profile}
+use Rattle.osi_session.proofs.Vocabulary.{AllMet, awaiting, asking, functional_units, both_units, has_data, is_profile, ◌≡◌, refl, ℕ, true}
+use Rattle.osi_session.proofs.Vocabulary.{List, [], ◌∷◌, Ok, arith, and_assoc, and_le_r}
 use Rattle.osi_session.proofs.tables.what_an_accepted_call_has_passed.{passed}
 use Rattle.osi_session.proofs.tables.what_is_true_of_each_phase.{implied}
 use Rattle.osi_session.proofs.tables.the_outcomes_of_each_input.{call_cases, unit_cases, taken_cases, fault_cases, opened_cases}

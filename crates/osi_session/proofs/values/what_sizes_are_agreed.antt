@@ -1,9 +1,8 @@
 -- What a CN and an AC agree, and what it limits.
-use Rattle.std.proofs.Common.{◌≡◌, ℕ, ◌==◌, ◌<◌, ◌≤◌, true, ◌||◌, nat_le, length, Ok, arith}
-use Rattle.osi_spdu.specs.declared.sizes.TsduSizes.{TsduSizes}
-use Rattle.osi_session.specs.Sizes.{answered}
 use Rattle.osi_session.proofs.Vocabulary.{and_parts, and_from, TsduMaximumSize, named_by, are_sizes, is_size, written, State, Step, allowed}
-use Rattle.osi_session.proofs.Vocabulary.{Call, smaller, smaller_sizes, answered_sizes, limit_of, is_bounded}
+use Rattle.osi_session.proofs.Vocabulary.{Call, smaller, smaller_sizes, answered_sizes, limit_of, is_bounded, ◌≡◌, ℕ, ◌==◌, ◌<◌, ◌≤◌, true}
+use Rattle.osi_session.proofs.Vocabulary.{◌||◌, nat_le, length, Ok, arith, TsduSizes}
+use Rattle.osi_session.specs.Sizes.{answered}
 use Rattle.osi_session.proofs.tables.what_an_accepted_call_has_passed.{passed}
 
 -- the smaller of sizes are sizes

@@ -1,9 +1,8 @@
 -- Digits of numbers, written and read.
-use Rattle.std.proofs.Common.{◌≡◌, ℕ, suc, ◌+◌, ◌-◌, ◌*◌, ◌^◌, ◌<◌, ◌≤◌, Bool, true, ltb, leb, eqb, List, [], ◌∷◌, length, get_or, drop}
-use Rattle.std.proofs.Common.{Some, refl, arith}
 use Rattle.osi_spdu.proofs.Vocabulary.{list_all, cases_Bool, and_parts, and_from, eqb-true, eq-eqb, ne_eqb, le-leb, lt-ltb, drop_more}
 use Rattle.osi_spdu.proofs.Vocabulary.{drop_all, length-drop, common_steps, significant, six_digits, digits_of, decimal_from, decimal}
-use Rattle.osi_spdu.proofs.Vocabulary.{is_digit, numeral}
+use Rattle.osi_spdu.proofs.Vocabulary.{is_digit, numeral, ◌≡◌, ℕ, suc, ◌+◌, ◌-◌, ◌*◌, ◌^◌, ◌<◌, ◌≤◌, Bool, true, ltb, leb, eqb, List, []}
+use Rattle.osi_spdu.proofs.Vocabulary.{◌∷◌, length, get_or, drop, Some, refl, arith}
 
 -- a leading zero is dropped
 pub significant_step : (xs : List ℕ) (i : ℕ) → i + 1 < length xs → get_or xs i 0 ≡ 48 →

@@ -1,9 +1,8 @@
 -- Length indicators, read and written.
-use Rattle.std.proofs.Common.{◌⊎◌, inl, inr, ◌≡◌, ℕ, suc, ◌+◌, ◌*◌, ◌<◌, Bool, true, false, cond, ltb, eqb, List, [], ◌∷◌, ◌++◌, length}
-use Rattle.std.proofs.Common.{take, drop, Ok, arith}
 use Rattle.osi_spdu.proofs.Vocabulary.{cases_lt, le-ltb, eqb-true, eqb-false, ne_eqb, take_at, drop_at, take-append-drop, length-append}
 use Rattle.osi_spdu.proofs.Vocabulary.{length-take, length-drop, length-take-le, get_or-drop, get_or-take, get_or_past, IsOctets, Measured}
-use Rattle.osi_spdu.proofs.Vocabulary.{counted_at, long_at, measured_at, length_octets, HasLength}
+use Rattle.osi_spdu.proofs.Vocabulary.{counted_at, long_at, measured_at, length_octets, HasLength, ◌⊎◌, inl, inr, ◌≡◌, ℕ, suc, ◌+◌, ◌*◌}
+use Rattle.osi_spdu.proofs.Vocabulary.{◌<◌, Bool, true, false, cond, ltb, eqb, List, [], ◌∷◌, ◌++◌, length, take, drop, Ok, arith}
 
 pub octets-drop : (n : ℕ) (octets : List ℕ) → IsOctets octets → IsOctets (drop n octets)
 octets-drop n octets h i = rw get_or-drop (h (n + i))

@@ -1,6 +1,5 @@
 -- Adding an option to another, if at most one of them is Some; the same for a list of options.
-use Rattle.std.proofs.Common.{◌≡◌, ℕ, Bool, true, cond, List, [], ◌∷◌, Option, Some, None, arith}
-use Rattle.osi_spdu.specs.Spelling.{Sole}
+use Rattle.osi_spdu.proofs.Vocabulary.{◌≡◌, ℕ, Bool, true, cond, List, [], ◌∷◌, Option, Some, None, arith, Sole}
 
 -- `after` is `before` with this option; at most one of the two is Some
 abbrev pub Joins : Option (List ℕ) → Option (List ℕ) → Option (List ℕ) → Type 0

@@ -1,7 +1,6 @@
 -- The steps of a reading function.
-use Rattle.std.proofs.Common.{arith}
-use Rattle.std.proofs.Common.{◌≡◌, ℕ, Bool, true, false, cond, List, Option, Some, None, Result, Ok, Err, refl, sym, ap, ◌∙◌, eqb}
-use Rattle.osi_spdu.proofs.Vocabulary.{is_some, find, eqb-true, eq-eqb, SpduFault, Code, number_of, is_same, every_code, ◌>>=◌}
+use Rattle.osi_spdu.proofs.Vocabulary.{is_some, find, eqb-true, eq-eqb, SpduFault, Code, number_of, is_same, every_code, ◌>>=◌, arith, ◌≡◌}
+use Rattle.osi_spdu.proofs.Vocabulary.{ℕ, Bool, true, false, cond, List, Option, Some, None, Result, Ok, Err, refl, sym, ap, ◌∙◌, eqb}
 
 -- the value of a step that did not fail
 pub bind_ok : {A B : Type 0} (r : Result A SpduFault) (f : A → Result B SpduFault) (y : B) → (r >>= f) ≡ Ok y →

@@ -1,10 +1,9 @@
 -- The first fault of a TSDU is the one that reading returns.
-use Rattle.std.proofs.Common.{◌⊎◌, inl, inr, ◌≡◌, ℕ, zero, suc, ◌+◌, ◌≤◌, Bool, true, false, List, [], ◌∷◌, ◌++◌, length, Result, Ok, Err}
-use Rattle.std.proofs.Common.{refl, sym, ap, subst, ◌∙◌, append_assoc, add-zero, arith}
 use Rattle.osi_spdu.proofs.Vocabulary.{AllByRecursion, cases_Bool, length-append, drop_at, IsOctets, SpduFault, Category, Zero, One, Two}
 use Rattle.osi_spdu.proofs.Vocabulary.{category_of, may_stand, Units, ◌>>=◌, Placed, unit_at, contents_of, takes_rest, Next, next_if}
 use Rattle.osi_spdu.proofs.Vocabulary.{next_at, behind_at, continued, tsdu_at, AreBehind, AreUnits, IsUnitFault, IsCrowded, IsFaultBehind}
-use Rattle.osi_spdu.proofs.Vocabulary.{IsFaultAfter, IsFirstFault}
+use Rattle.osi_spdu.proofs.Vocabulary.{IsFaultAfter, IsFirstFault, ◌⊎◌, inl, inr, ◌≡◌, ℕ, zero, suc, ◌+◌, ◌≤◌, Bool, true, false, List, []}
+use Rattle.osi_spdu.proofs.Vocabulary.{◌∷◌, ◌++◌, length, Result, Ok, Err, refl, sym, ap, subst, ◌∙◌, append_assoc, add-zero, arith}
 use Rattle.osi_spdu.proofs.basics.the_steps_of_reading.{bind_of}
 use Rattle.osi_spdu.proofs.basics.length_indicators.{octets-drop}
 use Rattle.osi_spdu.proofs.tsdu.units_and_tsdus_are_read.{IsUnitAt, unit_found, unit_only, second_stands, two_second, informed_plain}

@@ -1,10 +1,9 @@
 -- The first fault of a unit is the one that reading returns.
-use Rattle.std.proofs.Common.{inl, inr, ◌≡◌, ℕ, ◌+◌, Bool, cond, List, [], ◌∷◌, length, Option, Some, None, Result, Ok, Err, refl, sym, ap}
-use Rattle.std.proofs.Common.{subst, ◌∙◌, arith}
 use Rattle.osi_spdu.proofs.Vocabulary.{flat_map, cases_Bool, length-append, IsOctets, SpduFault, LengthPastEnd, BadConcatenation, Kind}
 use Rattle.osi_spdu.proofs.Vocabulary.{required_of, kind_named, Known, nothing, settled, ◌>>=◌, Measured, measured_at, params_of, in_unit}
 use Rattle.osi_spdu.proofs.Vocabulary.{all_there, Placed, placed_kind, unit_at, part_octets, Spells, MeansInUnit, indicator_len}
-use Rattle.osi_spdu.proofs.Vocabulary.{IsBodyFault, IsNamedFault, IsUnitFault}
+use Rattle.osi_spdu.proofs.Vocabulary.{IsBodyFault, IsNamedFault, IsUnitFault, inl, inr, ◌≡◌, ℕ, ◌+◌, Bool, cond, List, [], ◌∷◌, length}
+use Rattle.osi_spdu.proofs.Vocabulary.{Option, Some, None, Result, Ok, Err, refl, sym, ap, subst, ◌∙◌, arith}
 use Rattle.osi_spdu.proofs.basics.the_steps_of_reading.{bind_ok, bind_of, ok_is}
 use Rattle.osi_spdu.proofs.basics.length_indicators.{octets-tail, measured_ok, measured_again}
 use Rattle.osi_spdu.proofs.basics.length_indicators as lengths

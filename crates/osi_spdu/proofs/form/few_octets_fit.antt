@@ -1,11 +1,10 @@
 -- Units whose values have few octets fit.
-use Rattle.std.proofs.Common.{◌≡◌, ℕ, ◌+◌, ◌%◌, ◌≤◌, Bool, List, length, Some, ltb, arith}
 use Rattle.osi_spdu.proofs.Vocabulary.{cases_Bool, Code, ConnectionIdentifier, ConnectAcceptItem, SyncType, TokenItem, TransportDisconnect}
 use Rattle.osi_spdu.proofs.Vocabulary.{ProtocolOptions, UserRequirements, TsduMaximumSize, Version, InitialNumber, Enclosure, TokenSetting}
 use Rattle.osi_spdu.proofs.Vocabulary.{ResyncType, Number, CallingSelector, CalledSelector, Kind, every_code, codes_of, members_of}
 use Rattle.osi_spdu.proofs.Vocabulary.{digits_of, octet_if, any_octet, as_it_is, token_bits, is_setting, canonical, Known, Contents}
 use Rattle.osi_spdu.proofs.Vocabulary.{IsCanonical, UnitFits, value_len, free_len, Params, number_of, place_of, cells_of, slots_of}
-use Rattle.osi_spdu.proofs.Vocabulary.{known_of, lent_len}
+use Rattle.osi_spdu.proofs.Vocabulary.{known_of, lent_len, ◌≡◌, ℕ, ◌+◌, ◌%◌, ◌≤◌, Bool, List, length, Some, ltb, arith}
 use Rattle.osi_spdu.proofs.form.values_in_memory_are_in_their_form.{params_canonical}
 use Rattle.osi_spdu.proofs.form.what_was_read_fits.{total, member_cost, unit_cost, part_cost, total_less, group_len, body_len}
 

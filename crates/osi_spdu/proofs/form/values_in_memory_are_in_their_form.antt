@@ -1,18 +1,15 @@
 -- The values in memory are in their written form.
-use Rattle.std.proofs.Common.{◌≡◌, ◌≤◌, ℕ, ◌<◌, true, false, cond, not, List, [], length, Option, Some, None, Ok, option_map, refl, ap}
-use Rattle.std.proofs.Common.{arith}
-use Rattle.osi_spdu.specs.declared.units.Spdu.{Spdu}
-use Rattle.osi_spdu.specs.declared.settings.Wish.{Wish}
-use Rattle.osi_spdu.specs.declared.settings.Wish.TheVariants as wishes
-use Rattle.osi_spdu.specs.declared.fields.SyncType as syncs
-use Rattle.osi_spdu.specs.declared.fields.Enclosure as enclosures
-use Rattle.osi_spdu.specs.declared.fields.ResyncType as resyncs
 use Rattle.osi_spdu.proofs.Vocabulary.{cases_Bool, and_parts, or_cases, not-true, eqb-true, ne_eqb, le-leb, lt-ltb, IsOctets, Code}
 use Rattle.osi_spdu.proofs.Vocabulary.{UserData, ExtendedUserData, Kind, Category, Two, Params, Behind, Group, AllByRecursion, number_of}
 use Rattle.osi_spdu.proofs.Vocabulary.{category_of, may_stand, canonical, wish_number, Units, behind_at, tsdu_at, HasInformation, EndsTsdu}
 use Rattle.osi_spdu.proofs.Vocabulary.{AreBehind, MayFollow, StandTogether, SpellsTsdu, place_of, cells_of, slots_of, known_of, said_by}
 use Rattle.osi_spdu.proofs.Vocabulary.{left_at, AreLeft, is_behind, units_from, units_behind, units_of, is_informed, is_joined, IsCanonical}
-use Rattle.osi_spdu.proofs.Vocabulary.{IsFormedUnit, IsFormedTsdu, TsduFits, tsdu_octets, nil_from_length}
+use Rattle.osi_spdu.proofs.Vocabulary.{IsFormedUnit, IsFormedTsdu, TsduFits, tsdu_octets, nil_from_length, ◌≡◌, ◌≤◌, ℕ, ◌<◌, true, false}
+use Rattle.osi_spdu.proofs.Vocabulary.{cond, not, List, [], length, Option, Some, None, Ok, option_map, refl, ap, arith, Spdu, Wish}
+use Rattle.osi_spdu.specs.declared.settings.Wish.TheVariants as wishes
+use Rattle.osi_spdu.specs.declared.fields.SyncType as syncs
+use Rattle.osi_spdu.specs.declared.fields.Enclosure as enclosures
+use Rattle.osi_spdu.specs.declared.fields.ResyncType as resyncs
 use Rattle.osi_spdu.proofs.tsdu.units_and_tsdus_are_read.{left_stands, tsdu_read}
 use Rattle.osi_spdu.proofs.form.the_form_spells_its_unit.{units_written, tsdu_written}
 use Rattle.osi_spdu.proofs.basics.digits_of_numbers.{numeral_digits}

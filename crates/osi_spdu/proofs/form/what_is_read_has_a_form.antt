@@ -1,12 +1,11 @@
 -- Units that are read have a written form: they hold only parameters that they know, and all mandatory ones.
-use Rattle.std.proofs.Common.{◌⊎◌, inl, inr, ◌≡◌, ℕ, Bool, true, false, cond, not, ◌&&◌, ◌||◌, List, [], ◌∷◌, map, Option, Some, None, Ok}
-use Rattle.std.proofs.Common.{refl, sym, ap, subst, ◌∙◌, arith}
 use Rattle.osi_spdu.proofs.Vocabulary.{is_some, is_none, IsSome, list_any, list_all, AllByRecursion, cases_Bool, and_parts, and_from}
 use Rattle.osi_spdu.proofs.Vocabulary.{or_left, or_right, not-true, IsOctets, Code, Enclosure, UserData, ExtendedUserData, Kind, number_of}
 use Rattle.osi_spdu.proofs.Vocabulary.{is_same, is_group, slot_of, every_code, codes_of, members_of, required_of, canonical, may_enclose}
 use Rattle.osi_spdu.proofs.Vocabulary.{canonical_in, Known, settled, Contents, code_among, Placed, contents_of, unit_at, Part, Sole, IsPart}
 use Rattle.osi_spdu.proofs.Vocabulary.{Spells, only, MemberOf, MeansInGroup, GroupOf, ParameterOf, KnownOf, MeansInUnit, SpellsUnit, among}
-use Rattle.osi_spdu.proofs.Vocabulary.{may_be_there, is_enclosed, is_formed}
+use Rattle.osi_spdu.proofs.Vocabulary.{may_be_there, is_enclosed, is_formed, ◌⊎◌, inl, inr, ◌≡◌, ℕ, Bool, true, false, cond, not, ◌&&◌}
+use Rattle.osi_spdu.proofs.Vocabulary.{◌||◌, List, [], ◌∷◌, map, Option, Some, None, Ok, refl, sym, ap, subst, ◌∙◌, arith}
 use Rattle.osi_spdu.proofs.basics.options_that_are_added.{Joins, first, sole_same, sole_split}
 use Rattle.osi_spdu.proofs.basics.the_steps_of_reading.{same_true, same_refl}
 use Rattle.osi_spdu.proofs.parameters.each_slot_has_one_code.{among_named, any_weaker}

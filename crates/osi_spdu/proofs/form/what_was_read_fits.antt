@@ -1,12 +1,11 @@
 -- What was read fits: its written form is no longer than the octets that were read.
-use Rattle.std.proofs.Common.{inl, inr, ◌≡◌, ℕ, ◌+◌, ◌<◌, ◌≤◌, Bool, true, false, cond, List, [], ◌∷◌, ◌++◌, length, map, Option, Some}
-use Rattle.std.proofs.Common.{None, refl, sym, ap, subst, ◌∙◌, ltb, arith}
 use Rattle.osi_spdu.proofs.Vocabulary.{flat_map, list_any, list_all, AllByRecursion, cases_Bool, or_cases, or_left, or_right, ltb-true}
 use Rattle.osi_spdu.proofs.Vocabulary.{le-ltb, lt-ltb, both_ways, length-append, Code, Kind, number_of, is_same, is_group, slot_of}
 use Rattle.osi_spdu.proofs.Vocabulary.{every_code, codes_of, members_of, Known, nothing, settled, Contents, Units, code_among}
 use Rattle.osi_spdu.proofs.Vocabulary.{length_octets, HasLength, Part, part_octets, Sole, IsPart, Spells, only, MemberOf, MeansInGroup}
 use Rattle.osi_spdu.proofs.Vocabulary.{GroupOf, ParameterOf, KnownOf, MeansInUnit, SpellsUnit, AreUnits, SpellsTsdu, among, group_octets}
-use Rattle.osi_spdu.proofs.Vocabulary.{value_octets, body_octets, UnitFits, TsduFits}
+use Rattle.osi_spdu.proofs.Vocabulary.{value_octets, body_octets, UnitFits, TsduFits, inl, inr, ◌≡◌, ℕ, ◌+◌, ◌<◌, ◌≤◌, Bool, true, false}
+use Rattle.osi_spdu.proofs.Vocabulary.{cond, List, [], ◌∷◌, ◌++◌, length, map, Option, Some, None, refl, sym, ap, subst, ◌∙◌, ltb, arith}
 use Rattle.osi_spdu.proofs.basics.options_that_are_added.{Joins, first, sole_one, sole_same, sole_split}
 use Rattle.osi_spdu.proofs.basics.the_steps_of_reading.{same_true, same_refl}
 use Rattle.osi_spdu.proofs.parameters.one_level_is_read.{JoinsAll}

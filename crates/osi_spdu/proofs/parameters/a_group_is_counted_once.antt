@@ -1,10 +1,9 @@
 -- The contents of a group of a unit, which are counted once.
-use Rattle.std.proofs.Common.{inl, inr, ◌≡◌, ℕ, zero, suc, ◌<◌, ◌≤◌, true, List, [], ◌∷◌, length, get_or, Option, ap, subst, arith}
-use Rattle.osi_spdu.specs.declared.writing.GroupLengths.{GroupLengths}
 use Rattle.osi_spdu.proofs.Vocabulary.{is_some, option_map, flat_map, or_cases, or_left, or_right, length-append, Code}
 use Rattle.osi_spdu.proofs.Vocabulary.{ConnectionIdentifier, ConnectAcceptItem, Kind, Two, is_same, is_group, number_of, codes_of}
 use Rattle.osi_spdu.proofs.Vocabulary.{category_of, Known, Contents, Units, AreBehind, held, AreHeld, among, group_octets, parameter_octets}
-use Rattle.osi_spdu.proofs.Vocabulary.{body_octets}
+use Rattle.osi_spdu.proofs.Vocabulary.{body_octets, inl, inr, ◌≡◌, ℕ, zero, suc, ◌<◌, ◌≤◌, true, List, [], ◌∷◌, length, get_or, Option, ap}
+use Rattle.osi_spdu.proofs.Vocabulary.{subst, arith, GroupLengths}
 use Rattle.osi_spdu.proofs.basics.the_steps_of_reading.{same_true, same_refl}
 
 -- a piece is no longer than all pieces

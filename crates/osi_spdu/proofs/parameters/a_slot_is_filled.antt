@@ -1,10 +1,9 @@
 -- Filling a slot, and the values of slots.
-use Rattle.std.proofs.Common.{inl, inr, ◌≡◌, ◌==◌, ◌&&◌, ℕ, ◌<◌, Bool, true, false, List, length, get_or, set, Option, Some, None}
-use Rattle.std.proofs.Common.{option_map, refl, sym, ap, ◌∙◌, get_or-set_other, get_or-set_same, eqb, ltb, arith}
-use Rattle.osi_spdu.specs.declared.tokens.TokenSet.{TokenSet}
 use Rattle.osi_spdu.proofs.Vocabulary.{slice_get, cases_Bool, ltb-true, lt-ltb, eq-eqb, Code, UserData, Params, number_of, is_same, slot_of}
 use Rattle.osi_spdu.proofs.Vocabulary.{every_code, nothing, put, some_octets, place_of, cells_of, filled, slots_of, known_of, no_params}
-use Rattle.osi_spdu.proofs.Vocabulary.{present, has_octets, token_octets, tokens_alone, token_bits, is_some}
+use Rattle.osi_spdu.proofs.Vocabulary.{present, has_octets, token_octets, tokens_alone, token_bits, is_some, inl, inr, ◌≡◌, ◌==◌, ◌&&◌, ℕ}
+use Rattle.osi_spdu.proofs.Vocabulary.{◌<◌, Bool, true, false, List, length, get_or, set, Option, Some, None, option_map, refl, sym, ap}
+use Rattle.osi_spdu.proofs.Vocabulary.{◌∙◌, get_or-set_other, get_or-set_same, eqb, ltb, arith, TokenSet}
 use Rattle.osi_spdu.proofs.basics.values_of_one_octet.{token_bits_again}
 use Rattle.osi_spdu.proofs.basics.the_steps_of_reading.{same_true, same_refl}
 

@@ -1,6 +1,5 @@
 -- An SI that names no unit.
-use Rattle.std.proofs.Common.{arith, ◌≡◌, ℕ, Bool, None}
-use Rattle.osi_spdu.proofs.Vocabulary.{ne_eqb, si_of, kind_named}
+use Rattle.osi_spdu.proofs.Vocabulary.{ne_eqb, si_of, kind_named, arith, ◌≡◌, ℕ, Bool, None}
 
 pub unnamed : (second : Bool) (si : ℕ) → (si ≡ 1 → ⊥) → (si ≡ 2 → ⊥) → (si ≡ 8 → ⊥) → (si ≡ 9 → ⊥) → (si ≡ 10 → ⊥) → (si ≡ 12 → ⊥) →
     (si ≡ 13 → ⊥) → (si ≡ 14 → ⊥) → (si ≡ 25 → ⊥) → (si ≡ 26 → ⊥) → (si ≡ 34 → ⊥) → (si ≡ 41 → ⊥) → (si ≡ 42 → ⊥) → (si ≡ 49 → ⊥) →

@@ -1,9 +1,8 @@
 -- Each slot belongs to one code of a unit: to itself, or to the group that knows it.
-use Rattle.std.proofs.Common.{inl, inr, ◌≡◌, ℕ, ◌<◌, Bool, true, false, cond, not, ◌||◌, List, [], ◌∷◌, Option, Some, refl, ap, eqb, ltb}
-use Rattle.std.proofs.Common.{arith}
 use Rattle.osi_spdu.proofs.Vocabulary.{list_any, list_all, or_cases, or_left, or_right, eqb-true, ltb-true, cases_Bool, Code}
 use Rattle.osi_spdu.proofs.Vocabulary.{ProtocolOptions, TsduMaximumSize, Version, InitialNumber, TokenSetting, Kind, number_of, is_same}
-use Rattle.osi_spdu.proofs.Vocabulary.{is_group, every_code, codes_of, members_of, references_of, code_among, among}
+use Rattle.osi_spdu.proofs.Vocabulary.{is_group, every_code, codes_of, members_of, references_of, code_among, among, inl, inr, ◌≡◌, ℕ, ◌<◌}
+use Rattle.osi_spdu.proofs.Vocabulary.{Bool, true, false, cond, not, ◌||◌, List, [], ◌∷◌, Option, Some, refl, ap, eqb, ltb, arith}
 use Rattle.osi_spdu.proofs.basics.the_steps_of_reading.{same_true, same_refl, number_one}
 use Rattle.osi_spdu.proofs.basics.length_indicators.{chosen}
 

@@ -1,8 +1,7 @@
 -- The lengths of units are stored one after the other, by a loop.
-use Rattle.std.proofs.Common.{inl, inr, ◌≡◌, ℕ, zero, suc, ◌+◌, ◌<◌, ◌≤◌, List, [], ◌∷◌, ◌++◌, length, take, drop, get_or, set, refl, ap}
-use Rattle.std.proofs.Common.{append_assoc, ltb, arith}
 use Rattle.osi_spdu.proofs.Vocabulary.{cases_Bool, ltb-true, ltb-false, append-nil, length-set, take_more_set, drop_more, drop_all}
-use Rattle.osi_spdu.proofs.Vocabulary.{Contents, Units, body_length, AreLengths}
+use Rattle.osi_spdu.proofs.Vocabulary.{Contents, Units, body_length, AreLengths, inl, inr, ◌≡◌, ℕ, zero, suc, ◌+◌, ◌<◌, ◌≤◌, List, [], ◌∷◌}
+use Rattle.osi_spdu.proofs.Vocabulary.{◌++◌, length, take, drop, get_or, set, refl, ap, append_assoc, ltb, arith}
 
 -- the lengths of all units are those stored, followed by those of the units that are left
 pub record IsKeeping (lens : List ℕ) (count : ℕ) (units all : Units) : Type 0 where

@@ -1,11 +1,10 @@
 -- Parameters of one level: reading is sound and complete.
-use Rattle.std.proofs.Common.{◌≡◌, ℕ, zero, suc, ◌+◌, ◌<◌, ◌≤◌, Bool, true, false, cond, List, [], ◌∷◌, ◌++◌, length, map, Option, Some}
-use Rattle.std.proofs.Common.{None, Ok, refl, sym, subst, ◌∙◌, arith}
 use Rattle.osi_spdu.proofs.Vocabulary.{flat_map, AllByRecursion, length-append, IsOctets, Code, Kind, number_of, is_same, is_group, slot_of}
 use Rattle.osi_spdu.proofs.Vocabulary.{members_of, canonical, may_enclose, canonical_in, Known, nothing, put, ◌>>=◌, measured_at, Taking}
 use Rattle.osi_spdu.proofs.Vocabulary.{params_at, params_of, judged, stored, member_taken, in_group, parameter_taken, in_unit}
 use Rattle.osi_spdu.proofs.Vocabulary.{length_octets, Part, part_octets, Sole, IsPart, Spells, only, MemberOf, MeansInGroup, GroupOf}
-use Rattle.osi_spdu.proofs.Vocabulary.{ParameterOf, KnownOf, MeansInUnit}
+use Rattle.osi_spdu.proofs.Vocabulary.{ParameterOf, KnownOf, MeansInUnit, ◌≡◌, ℕ, zero, suc, ◌+◌, ◌<◌, ◌≤◌, Bool, true, false, cond, List}
+use Rattle.osi_spdu.proofs.Vocabulary.{[], ◌∷◌, ◌++◌, length, map, Option, Some, None, Ok, refl, sym, subst, ◌∙◌, arith}
 use Rattle.osi_spdu.proofs.basics.options_that_are_added.{Joins, merged, first, sole_one, sole_same, sole_step, sole_back, sole_joins}
 use Rattle.osi_spdu.proofs.basics.options_that_are_added.{sole_split, sole_join, joins_both, joins_apart, put_joins, joins_merged}
 use Rattle.osi_spdu.proofs.basics.the_steps_of_reading.{bind_ok, bind_of, ok_is, guard_ok, is_none_of, none_is, same_true, same_refl}

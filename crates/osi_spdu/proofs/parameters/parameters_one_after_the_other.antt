@@ -1,9 +1,8 @@
 -- Reading parameters one after the other, by a loop.
-use Rattle.std.proofs.Common.{◌≡◌, ℕ, zero, suc, ◌+◌, ◌<◌, ◌≤◌, true, false, ltb, List, [], ◌∷◌, length, Result, Ok, Err, refl, arith}
-use Rattle.std.proofs.Common.{if◌then◌else◌}
 use Rattle.osi_spdu.proofs.Vocabulary.{is_some, length-drop, SpduFault, DuplicateParameter, BadValue, Code, Kind, Params, number_of}
 use Rattle.osi_spdu.proofs.Vocabulary.{slot_of, canonical_in, Known, ◌>>=◌, Measured, long_at, measured_at, parameter_at, Taking, params_at}
-use Rattle.osi_spdu.proofs.Vocabulary.{params_of, stored, place_of, cells_of, filled, slots_of}
+use Rattle.osi_spdu.proofs.Vocabulary.{params_of, stored, place_of, cells_of, filled, slots_of, ◌≡◌, ℕ, zero, suc, ◌+◌, ◌<◌, ◌≤◌, true}
+use Rattle.osi_spdu.proofs.Vocabulary.{false, ltb, List, [], ◌∷◌, length, Result, Ok, Err, refl, arith, if◌then◌else◌}
 use Rattle.osi_spdu.proofs.basics.the_steps_of_reading.{bind_ok, bind_of, ok_is, guard_ok}
 use Rattle.osi_spdu.proofs.basics.length_indicators.{chosen}
 use Rattle.osi_spdu.proofs.parameters.a_slot_is_filled.{slots_put}

@@ -1,7 +1,6 @@
 -- A TSDU as a unit of a grammar: it is all of its octets.
-use Rattle.std.proofs.Common.{◌≡◌, ℕ, List, length, ap, subst, arith}
-use Rattle.osi_tpkt.specs.Unit.{IsAtFront}
-use Rattle.osi_spdu.proofs.Vocabulary.{take_all, length-drop, IsOctets, Units, SpellsTsdu, IsAll, tsdu_octets, IsFormedTsdu, TsduFits}
+use Rattle.osi_spdu.proofs.Vocabulary.{take_all, length-drop, IsOctets, Units, SpellsTsdu, IsAll, tsdu_octets, IsFormedTsdu, TsduFits, ◌≡◌}
+use Rattle.osi_spdu.proofs.Vocabulary.{ℕ, List, length, ap, subst, arith, IsAtFront}
 use Rattle.osi_spdu.proofs.basics.the_steps_of_reading.{ok_is}
 use Rattle.osi_spdu.proofs.tsdu.units_and_tsdus_are_read.{tsdu_only}
 use Rattle.osi_spdu.proofs.form.the_form_spells_its_unit.{tsdu_written}

@@ -1,9 +1,8 @@
 -- How the reader of a TSDU continues after the first unit.
-use Rattle.std.proofs.Common.{◌≡◌, ℕ, Bool, true, false, List, [], ◌∷◌, length, Some, Result, Ok, Err, refl, arith}
-use Rattle.osi_spdu.specs.declared.reading.Found.{Found}
 use Rattle.osi_spdu.proofs.Vocabulary.{IfOk, IsOkAnd, IsOctets, SpduFault, TrailingOctets, Kind, category_of, may_stand, Category, Zero}
 use Rattle.osi_spdu.proofs.Vocabulary.{Group, Contents, Units, Params, known_of, is_formed, is_joined, IsFormedTsdu, TsduFits, Gives}
-use Rattle.osi_spdu.proofs.Vocabulary.{Placed, unit_at, contents_of, continued, tsdu_at, SpellsTsdu, placed_of, units_of, Known}
+use Rattle.osi_spdu.proofs.Vocabulary.{Placed, unit_at, contents_of, continued, tsdu_at, SpellsTsdu, placed_of, units_of, Known, ◌≡◌, ℕ}
+use Rattle.osi_spdu.proofs.Vocabulary.{Bool, true, false, List, [], ◌∷◌, length, Some, Result, Ok, Err, refl, arith, Found}
 use Rattle.osi_spdu.specs.Kept.{followed_at}
 use Rattle.osi_spdu.proofs.basics.the_steps_of_reading.{ok_is}
 use Rattle.osi_spdu.proofs.form.what_is_read_has_a_form.{placed_formed}

@@ -1,12 +1,9 @@
 -- Units after the first one, given one after the other.
-use Rattle.std.proofs.Common.{◌≡◌, ℕ, ◌-◌, ◌≤◌, ◌&&◌, not, true, false, List, [], ◌∷◌, length, drop, get_or, Option, Some, None, Result, Ok}
-use Rattle.std.proofs.Common.{Err, refl, sym, ap, subst, ◌∙◌, arith}
 use Rattle.osi_spdu.proofs.Vocabulary.{AllByRecursion, result_unwrap_or, and_parts, or_right, eq-eqb, SpduFault, Kind, Category, Zero, One}
 use Rattle.osi_spdu.proofs.Vocabulary.{Two, kind_named, category_of, may_stand, Units, ◌>>=◌, Next, next_at, behind_at, crowded, takes_rest}
 use Rattle.osi_spdu.proofs.Vocabulary.{is_zero, is_joined, IsFormedUnit, left_at, AreLeft, is_behind, Contents, Behind, units_from}
-use Rattle.osi_spdu.proofs.Vocabulary.{units_behind}
-use Rattle.osi_spdu.specs.declared.units.Spdu.{Spdu}
-use Rattle.osi_spdu.specs.Groups.{GivesBehind}
+use Rattle.osi_spdu.proofs.Vocabulary.{units_behind, ◌≡◌, ℕ, ◌-◌, ◌≤◌, ◌&&◌, not, true, false, List, [], ◌∷◌, length, drop, get_or, Option}
+use Rattle.osi_spdu.proofs.Vocabulary.{Some, None, Result, Ok, Err, refl, sym, ap, subst, ◌∙◌, arith, Spdu, GivesBehind}
 use Rattle.osi_spdu.proofs.tsdu.units_and_tsdus_are_read.{left_read}
 
 abbrev Read : Type 0

@@ -1,13 +1,12 @@
 -- Units and TSDUs: reading is sound and complete.
-use Rattle.std.proofs.Common.{inl, inr, ◌≡◌, ℕ, zero, suc, ◌+◌, ◌≤◌, Bool, true, false, List, [], ◌∷◌, ◌++◌, length, Option, Some, Result}
-use Rattle.std.proofs.Common.{Ok, Err, refl, sym, ap, subst, ◌∙◌, eqb, arith}
 use Rattle.osi_spdu.proofs.Vocabulary.{is_some, is_ok, IsSome, flat_map, AllByRecursion, eqb-true, append-nil, IsOctets, SpduFault}
 use Rattle.osi_spdu.proofs.Vocabulary.{MissingParameter, Code, Kind, Category, Two, number_of, si_of, category_of, required_of, kind_named}
 use Rattle.osi_spdu.proofs.Vocabulary.{may_stand, Known, nothing, settled, Contents, Units, ◌>>=◌, Measured, measured_at, params_of}
 use Rattle.osi_spdu.proofs.Vocabulary.{in_unit, all_there, Placed, placed_kind, unit_at, contents_of, takes_rest, Next, next_if, next_at}
 use Rattle.osi_spdu.proofs.Vocabulary.{behind_at, continued, tsdu_at, length_octets, part_octets, item_octets, Spells, MeansInUnit}
 use Rattle.osi_spdu.proofs.Vocabulary.{SpellsUnit, HasInformation, EndsTsdu, AreBehind, MayFollow, StandTogether, AreUnits, SpellsTsdu}
-use Rattle.osi_spdu.proofs.Vocabulary.{left_at}
+use Rattle.osi_spdu.proofs.Vocabulary.{left_at, inl, inr, ◌≡◌, ℕ, zero, suc, ◌+◌, ◌≤◌, Bool, true, false, List, [], ◌∷◌, ◌++◌, length}
+use Rattle.osi_spdu.proofs.Vocabulary.{Option, Some, Result, Ok, Err, refl, sym, ap, subst, ◌∙◌, eqb, arith}
 use Rattle.osi_spdu.proofs.basics.the_steps_of_reading.{bind_ok, bind_of, ok_is}
 use Rattle.osi_spdu.proofs.basics.length_indicators.{octets-tail, measured_ok, measured_again, indicator_len, chosen}
 use Rattle.osi_spdu.proofs.parameters.one_level_is_read.{params_found, params_only, unit_follows}

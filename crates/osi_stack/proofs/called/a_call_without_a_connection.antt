@@ -1,13 +1,11 @@
 -- A session whose connection is not live answers a call as if it were not there.
-use Rattle.std.proofs.Common.{◌≡◌, ℕ, Bool, true, false, Option, Some, None, Result, Err, is_some, IsSome, refl, sym, ap, ◌∙◌, arith}
-use Rattle.osi_carrier.proofs.references.what_is_open.{no_link}
-use Rattle.osi_session.specs.declared.faults.CallError.TheVariants as error
-use Rattle.osi_session.specs.declared.phases.Phase.TheVariants.{Ended}
 use Rattle.osi_stack.proofs.Vocabulary.{OnOk, OnErr, IfErr, Carrying, Rows, value_at, State as Carrier, is_open, EndReason, allowed, Call}
 use Rattle.osi_stack.proofs.Vocabulary.{Listener, called, answered, react, is_wait_transport, is_over, limit_of, CallError, Phase}
 use Rattle.osi_stack.proofs.Vocabulary.{has_given, move_refusal, session_refusal, session_error, call_error, table_error, Refuses, by_rule}
 use Rattle.osi_stack.proofs.Vocabulary.{needs_link, kept_at, IsSettled, Line, End, Holding, holding, session_in, session_at}
-use Rattle.osi_stack.proofs.Vocabulary.{SessionState as State}
+use Rattle.osi_stack.proofs.Vocabulary.{SessionState as State, ◌≡◌, ℕ, Bool, true, false, Option, Some, None, Result, Err, is_some, IsSome}
+use Rattle.osi_stack.proofs.Vocabulary.{refl, sym, ap, ◌∙◌, arith, no_link, Ended}
+use Rattle.osi_session.specs.declared.faults.CallError.TheVariants as error
 
 -- ---- a session that is over
 

@@ -1,7 +1,6 @@
 -- Data that a session lends in parts is what the carrier cuts.
 -- For `make_parted_call` of calls.
-use Rattle.std.proofs.Common.{◌≡◌, refl, ℕ, zero, suc, List, drop, arith}
-use Rattle.osi_carrier.specs.Pieces.{headed, FitsTsdu}
+use Rattle.osi_stack.proofs.Vocabulary.{◌≡◌, refl, ℕ, zero, suc, List, drop, arith, headed, FitsTsdu}
 use Rattle.osi_session.specs.Lent.{headed as lent, FitsTsdu as FitsPart}
 
 -- both have the same TSDUs

@@ -1,11 +1,10 @@
 -- TSDUs that are handed over together.
-use Rattle.std.proofs.Common.{◌≡◌, ◌∙◌, refl, ap, ℕ, Bool, false, List, [], ◌∷◌, length, map, nat_lt, Option, Some, None, option_map}
-use Rattle.std.proofs.Common.{unwrap_or, arith, if◌then◌else◌}
-use Rattle.osi_carrier.specs.declared.faults.SendError.TheVariants.{TooLong}
 use Rattle.osi_stack.proofs.Vocabulary.{list_any, nat_tests, or-false, send_error, send_all_error, lengths_error, open_link, sent, sent_on}
 use Rattle.osi_stack.proofs.Vocabulary.{sent_all, State as Carrier, SendError, Standing as Link, Meaning, tsdus_sent, in_one, Words}
 use Rattle.osi_stack.proofs.Vocabulary.{word_octets, sent_alone, Listener, Move, came, AreShort, message_of, does, puts, limit_for, answers}
-use Rattle.osi_stack.proofs.Vocabulary.{event_input, sent_unless, hands, answers_by, SessionEvent}
+use Rattle.osi_stack.proofs.Vocabulary.{event_input, sent_unless, hands, answers_by, SessionEvent, ◌≡◌, ◌∙◌, refl, ap, ℕ, Bool, false, List}
+use Rattle.osi_stack.proofs.Vocabulary.{[], ◌∷◌, length, map, nat_lt, Option, Some, None, option_map, unwrap_or, arith, if◌then◌else◌}
+use Rattle.osi_stack.proofs.Vocabulary.{TooLong}
 
 -- ---- one, and none
 

@@ -1,14 +1,12 @@
 -- What a session sends is no longer than a TSDU may be.
-use Rattle.std.proofs.Common.{◌≡◌, ◌+◌, ◌<◌, ◌≤◌, Bool, true, [], ◌∷◌, length, nat_le, Ok, refl, arith, length-append}
-use Rattle.osi_spdu.specs.Writing.{unit_octets, tsdu_octets, UnitFits, TsduFits}
-use Rattle.osi_message.proofs.what_can_be_sent_has_a_written_form.{HaveRoom, spelled_fits}
-use Rattle.osi_message.proofs.units_of_the_fast_path.{data_written}
-use Rattle.osi_message.proofs.what_is_written_means_it.{HaveDigits}
-use Rattle.osi_session.proofs.sent.what_an_accepted_call_sends.{sent_alone as call_alone, data_short as data_all_short}
-use Rattle.osi_session.specs.Allowed.{sends}
 use Rattle.osi_stack.proofs.Vocabulary.{nat_tests, Contents, Meaning, IsSendable, unit_of, is_second, spelled, written, tsdus_of}
 use Rattle.osi_stack.proofs.Vocabulary.{sent_alone, sent_short as parts_short, limit_of, AreShort, allowed, Step, octets_of, most_of}
-use Rattle.osi_stack.proofs.Vocabulary.{Passed, Call, IsSoundState as IsSound, SessionState as State}
+use Rattle.osi_stack.proofs.Vocabulary.{Passed, Call, IsSoundState as IsSound, SessionState as State, ◌≡◌, ◌+◌, ◌<◌, ◌≤◌, Bool, true, []}
+use Rattle.osi_stack.proofs.Vocabulary.{◌∷◌, length, nat_le, Ok, refl, arith, length-append, UnitFits, TsduFits, HaveRoom, spelled_fits}
+use Rattle.osi_stack.proofs.Vocabulary.{data_written, HaveDigits}
+use Rattle.osi_spdu.specs.Writing.{unit_octets, tsdu_octets}
+use Rattle.osi_session.proofs.sent.what_an_accepted_call_sends.{sent_alone as call_alone, data_short as data_all_short}
+use Rattle.osi_session.specs.Allowed.{sends}
 
 unit_short : (unit : Contents) → UnitFits unit → length (unit_octets unit) < 65540
 unfolding unit_octets

@@ -1,6 +1,5 @@
 -- An end that has not ended has handled all events of its carrier.
-use Rattle.std.proofs.Common.{arith, ℕ, List}
-use Rattle.osi_stack.proofs.Vocabulary.{Fed, Input, connects, breaks, Feeds, to_session, End, Holding, IsAttended, Connect}
+use Rattle.osi_stack.proofs.Vocabulary.{Fed, Input, connects, breaks, Feeds, to_session, End, Holding, IsAttended, Connect, arith, ℕ, List}
 use Rattle.osi_stack.proofs.carried.what_sessions_leave_of_the_carrier.{session_keeps}
 use Rattle.osi_stack.proofs.stream.what_feeding_keeps.{feeds_kept, breaks_kept}
 use Rattle.osi_stack.proofs.stream.what_was_written_is_read.{attended_kept}

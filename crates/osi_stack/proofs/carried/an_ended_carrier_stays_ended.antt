@@ -10,8 +10,6 @@ use Rattle.osi_stack.proofs.carried.packets_without_events.{packet_is}
 use Rattle.osi_stack.proofs.carried.open_connections_stay_open.{rest_is, times_last}
 use Rattle.osi_stack.proofs.carried.what_each_step_preserves.{event_heard}
 
--- ---- what sessions do
-
 -- ---- all events
 
 first_over : (events : List Happening) (e : End) → is_some e.carrier.ended ≡ true → (hears_first events e).carrier.ended ≡ e.carrier.ended

@@ -1,12 +1,9 @@
 -- Data that a session indicates from the buffer in which it arrived.
 -- For `receive` of a line.
-use Rattle.std.proofs.Common.{arith, ◌≡◌, ℕ, true, List, [], ◌∷◌, ◌++◌, Option, Some, ap, ◌∙◌, if◌then◌else◌}
-use Rattle.osi_session.specs.Points.{only_shows}
-use Rattle.osi_session.specs.Shown.{Data}
-use Rattle.osi_stack.specs.Moving.{line_after}
-use Rattle.osi_stack.specs.Selectors.{selectors_told, shows_connect}
 use Rattle.osi_stack.proofs.Vocabulary.{came, State as Carrier, Input, Listener, Move, react, Shown, line_by, carrier_by, session_needs}
-use Rattle.osi_stack.proofs.Vocabulary.{Line}
+use Rattle.osi_stack.proofs.Vocabulary.{Line, arith, ◌≡◌, ℕ, true, List, [], ◌∷◌, ◌++◌, Option, Some, ap, ◌∙◌, if◌then◌else◌, only_shows}
+use Rattle.osi_stack.proofs.Vocabulary.{line_after, selectors_told, shows_connect}
+use Rattle.osi_session.specs.Shown.{Data}
 use Rattle.osi_stack.proofs.called.tsdus_that_are_handed_together.{hands_none}
 
 -- data is indicated, and nothing else happens

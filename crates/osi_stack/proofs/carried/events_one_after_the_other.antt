@@ -1,14 +1,13 @@
 -- Pending events are handled one after the other.
-use Rattle.std.proofs.Common.{◌≡◌, ℕ, ◌+◌, ◌<◌, ◌==◌, zero, suc, Bool, true, false, not, List, ◌∷◌, length, Option, Some, None, IsSome}
-use Rattle.std.proofs.Common.{is_some, refl, sym, ap, subst, ◌∙◌, inl, arith, if◌then◌else◌, [], Result, Ok, Err}
-use Rattle.osi_carrier.specs.Happenings as events
-use Rattle.osi_carrier.specs.Lending.{carrying_lent, lent_event}
-use Rattle.osi_carrier.specs.Packets as carriers
-use Rattle.osi_carrier.specs.declared.lending.Lent.{Lent}
 use Rattle.osi_stack.proofs.Vocabulary.{eqb-true, not-false, Fed, Happening, Carrying, is_spoilt, Rows, State as Carrier, Interrupted}
 use Rattle.osi_stack.proofs.Vocabulary.{LeftOff, FeedsToEvent, hears, hears_first, hears_next, hears_times, hears_all, with_events, OnErr}
 use Rattle.osi_stack.proofs.Vocabulary.{OnOk, came, session_in, session_needs, to_session, value_at, with_carrier, all_lost, concludes}
-use Rattle.osi_stack.proofs.Vocabulary.{starves, RunsOut, needs_memory, Line, End, Holding, IsAttended, holding}
+use Rattle.osi_stack.proofs.Vocabulary.{starves, RunsOut, needs_memory, Line, End, Holding, IsAttended, holding, ◌≡◌, ℕ, ◌+◌, ◌<◌, ◌==◌}
+use Rattle.osi_stack.proofs.Vocabulary.{zero, suc, Bool, true, false, not, List, ◌∷◌, length, Option, Some, None, IsSome, is_some, refl}
+use Rattle.osi_stack.proofs.Vocabulary.{sym, ap, subst, ◌∙◌, inl, arith, if◌then◌else◌, [], Result, Ok, Err, carrying_lent, lent_event}
+use Rattle.osi_stack.proofs.Vocabulary.{Lent}
+use Rattle.osi_carrier.specs.Happenings as events
+use Rattle.osi_carrier.specs.Packets as carriers
 use Rattle.osi_stack.proofs.carried.what_sessions_leave_of_the_carrier.{hears_keep}
 
 -- ---- one more
@@ -147,8 +146,6 @@ pub none_attended : {A E : Type 0} (result other : Result A E) (o : Option Lent)
     result ≡ other → now ≡ after → rows ≡ left →
     IsAttendedTo result (carrying_lent o carrier) lines (holding now rows)
 none_attended result other o carrier after now lines left rows is h a b d = grind arith
-
--- ---- an allocation failure
 
 -- ---- no event is queued
 

@@ -1,11 +1,4 @@
 -- What a session that makes a move leaves, and a message that arrives.
-use Rattle.std.proofs.Common.{◌≡◌, ℕ, ◌==◌, Bool, true, false, not, ◌||◌, List, [], ◌∷◌, ◌++◌, length, nat_lt, Option, Some, None, is_some}
-use Rattle.std.proofs.Common.{IsSome, option_map, Ok, refl, sym, ap, subst, ◌∙◌, arith, if◌then◌else◌}
-use Rattle.osi_carrier.specs.Place.{Place, never, was_given}
-use Rattle.osi_carrier.specs.Happenings as told
-use Rattle.osi_carrier.specs.React as carriers
-use Rattle.osi_message.specs.Words as words
-use Rattle.osi_stack.specs.Messages.{part}
 use Rattle.osi_stack.proofs.Vocabulary.{nat_tests, list_any, Value, Happening, Rows, value_at, Connection, asked, linked, State as Carrier}
 use Rattle.osi_stack.proofs.Vocabulary.{put_here, put_other, Standing as Link, Meaning, said_by_units, said_at, words_of, IsSendable}
 use Rattle.osi_stack.proofs.Vocabulary.{words_sent, tsdus_of, tsdus_sent, behind_no_token, part_octets, written, spelled}
@@ -16,7 +9,13 @@ use Rattle.osi_stack.proofs.Vocabulary.{concludes, loses, all_lost, Message, uni
 use Rattle.osi_stack.proofs.Vocabulary.{Effect, begins, happens, rests, effect_at, told_at, AreShort, IsShort, CanHear, Hears, told_all}
 use Rattle.osi_stack.proofs.Vocabulary.{Arrives, kept_at, waiting_of, Becomes, IsGranted, Says, AreLost, shown_of, all_waiting, IsFirstOf}
 use Rattle.osi_stack.proofs.Vocabulary.{limit_for, line_by, to_session, Line, End, session_in, session_at, line_waits, waits, is_used}
-use Rattle.osi_stack.proofs.Vocabulary.{used_lines, joins, answers_by, Answer, allowed, Call, CallError}
+use Rattle.osi_stack.proofs.Vocabulary.{used_lines, joins, answers_by, Answer, allowed, Call, CallError, ◌≡◌, ℕ, ◌==◌, Bool, true, false}
+use Rattle.osi_stack.proofs.Vocabulary.{not, ◌||◌, List, [], ◌∷◌, ◌++◌, length, nat_lt, Option, Some, None, is_some, IsSome, option_map, Ok}
+use Rattle.osi_stack.proofs.Vocabulary.{refl, sym, ap, subst, ◌∙◌, arith, if◌then◌else◌, never, was_given, part}
+use Rattle.osi_carrier.specs.Place.{Place}
+use Rattle.osi_carrier.specs.Happenings as told
+use Rattle.osi_carrier.specs.React as carriers
+use Rattle.osi_message.specs.Words as words
 use Rattle.osi_stack.proofs.called.tsdus_that_are_handed_together.{hands_none, handed, puts_words}
 use Rattle.osi_stack.proofs.carried.events_one_after_the_other.{all_quiet}
 use Rattle.osi_stack.proofs.each_line.the_first_that_indicates.{quiet_line}

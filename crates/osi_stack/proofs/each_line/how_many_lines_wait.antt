@@ -1,10 +1,9 @@
 -- How many lines have pending indications.
-use Rattle.std.proofs.Common.{◌≡◌, ℕ, ◌+◌, ◌<◌, ◌==◌, ◌||◌, Bool, zero, suc, true, false, not, cond, List, [], ◌∷◌, ◌++◌, length, get_or}
-use Rattle.std.proofs.Common.{set, nat_lt, Some, None, Result, OnOk, OnErr, refl, sym, ap, ◌∙◌, arith}
-use Rattle.osi_carrier.proofs.references.rows_in_order.{set_rise}
 use Rattle.osi_stack.proofs.Vocabulary.{position, position_or_len, lt-ltb, eqb-true, common_steps, length-set, sum_by-cons, sum_by-set}
 use Rattle.osi_stack.proofs.Vocabulary.{count_by-le-length, position_or_len_is, placed, RiseFrom, Rows, place_of, Input, Shown, Lost, loses}
-use Rattle.osi_stack.proofs.Vocabulary.{line_by, Line, line_waits, waits, how_many_wait}
+use Rattle.osi_stack.proofs.Vocabulary.{line_by, Line, line_waits, waits, how_many_wait, ◌≡◌, ℕ, ◌+◌, ◌<◌, ◌==◌, ◌||◌, Bool, zero, suc}
+use Rattle.osi_stack.proofs.Vocabulary.{true, false, not, cond, List, [], ◌∷◌, ◌++◌, length, get_or, set, nat_lt, Some, None, Result, OnOk}
+use Rattle.osi_stack.proofs.Vocabulary.{OnErr, refl, sym, ap, ◌∙◌, arith, set_rise}
 use Rattle.osi_stack.proofs.each_line.the_first_that_indicates.{IsNone, quiet_none}
 
 -- ---- one has, or none

@@ -1,9 +1,8 @@
 -- The first connection for which an indication is pending.
-use Rattle.std.proofs.Common.{◌≡◌, ℕ, ◌<◌, ◌≤◌, ◌==◌, Bool, zero, suc, true, false, not, List, [], ◌∷◌, length, map, get_or, set, Some}
-use Rattle.std.proofs.Common.{None, refl, sym, ap, ◌∙◌, arith}
-use Rattle.std.proofs.lemmas.List.Quantifiers.{position-Some}
 use Rattle.osi_stack.proofs.Vocabulary.{position, position_or_len, common_steps, Rows, Shown, shown_by, Indication, first_by, first_shown}
-use Rattle.osi_stack.proofs.Vocabulary.{rest_by, without_first, TellsOf, Line, line_waits, waits}
+use Rattle.osi_stack.proofs.Vocabulary.{rest_by, without_first, TellsOf, Line, line_waits, waits, ◌≡◌, ℕ, ◌<◌, ◌≤◌, ◌==◌, Bool, zero, suc}
+use Rattle.osi_stack.proofs.Vocabulary.{true, false, not, List, [], ◌∷◌, length, map, get_or, set, Some, None, refl, sym, ap, ◌∙◌, arith}
+use Rattle.osi_stack.proofs.Vocabulary.{position-Some}
 use Rattle.osi_stack.proofs.carried.events_one_after_the_other.{no_events}
 use Rattle.osi_stack.proofs.carried.packets_without_events.{or_first, or_second}
 

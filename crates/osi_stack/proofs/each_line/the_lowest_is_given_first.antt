@@ -1,11 +1,6 @@
 -- The indication that is given first, if the lines are in the order of their references.
-use Rattle.std.proofs.Common.{◌≡◌, ℕ, List, [], ◌∷◌, refl, arith}
 use Rattle.osi_stack.proofs.Vocabulary.{eqb-true, eq-eqb, absent, RiseFrom, Rows, Shown, first_by, first_shown, rest_by, without_first}
-use Rattle.osi_stack.proofs.Vocabulary.{waiting_of, waiting_at, TellsLowest, Line}
-
--- ---- one line before others
-
--- ---- the first line has none
+use Rattle.osi_stack.proofs.Vocabulary.{waiting_of, waiting_at, TellsLowest, Line, ◌≡◌, ℕ, List, [], ◌∷◌, refl, arith}
 
 -- ---- the first line has one
 

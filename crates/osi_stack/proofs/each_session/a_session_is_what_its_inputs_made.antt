@@ -1,10 +1,4 @@
 -- Each session of an end is what its own inputs made of what it began as.
-use Rattle.std.proofs.Common.{◌≡◌, ◌≢◌, ℕ, ◌+◌, ◌<◌, ◌≤◌, ◌==◌, Bool, true, List, ◌∷◌, ◌++◌, length, take, Option, Some, None, is_some}
-use Rattle.std.proofs.Common.{IsSome, refl, sym, ap, subst, ◌∙◌, inl, inr, ◌⊎◌, arith, append_assoc, option_map, if◌then◌else◌, []}
-use Rattle.osi_carrier.specs.Packets as carriers
-use Rattle.osi_session.specs.Listening.{broken as linked_down}
-use Rattle.osi_stack.specs.Disconnecting.{gives_up_by}
-use Rattle.osi_stack.specs.Inputs.{Step}
 use Rattle.osi_stack.proofs.Vocabulary.{eqb-true, eq-eqb, append-nil, AllByRecursion, fresh, IsPartial, ArePackets, Fed, tsap_octets, Local}
 use Rattle.osi_stack.proofs.Vocabulary.{beyond, push_here, push_other, OneCut, asks, Happening, told_of, RiseFrom, Rows, value_at}
 use Rattle.osi_stack.proofs.Vocabulary.{Connection, State as Carrier, Broken, Call as SessionCall, Input, Listener, called}
@@ -15,7 +9,12 @@ use Rattle.osi_stack.proofs.Vocabulary.{past_called, IsAccepted, serving, using,
 use Rattle.osi_stack.proofs.Vocabulary.{to_session, IsOrdered, UserCall, user_does, connecting, calling, disconnecting, breaking}
 use Rattle.osi_stack.proofs.Vocabulary.{disconnect_error, disconnects, put_here, put_other, by_line, Calls, used_in, feeding, telling}
 use Rattle.osi_stack.proofs.Vocabulary.{carrying, Line, End, Holding, IsAttended, fresh_end, used_lines, joins, waits, fresh_line, Connect}
-use Rattle.osi_stack.proofs.Vocabulary.{told_opened as opened, EndCall as Call}
+use Rattle.osi_stack.proofs.Vocabulary.{told_opened as opened, EndCall as Call, ◌≡◌, ◌≢◌, ℕ, ◌+◌, ◌<◌, ◌≤◌, ◌==◌, Bool, true, List, ◌∷◌}
+use Rattle.osi_stack.proofs.Vocabulary.{◌++◌, length, take, Option, Some, None, is_some, IsSome, refl, sym, ap, subst, ◌∙◌, inl, inr, ◌⊎◌}
+use Rattle.osi_stack.proofs.Vocabulary.{arith, append_assoc, option_map, if◌then◌else◌, [], gives_up_by}
+use Rattle.osi_carrier.specs.Packets as carriers
+use Rattle.osi_session.specs.Listening.{broken as linked_down}
+use Rattle.osi_stack.specs.Inputs.{Step}
 use Rattle.osi_stack.proofs.carried.all_events_are_handled.{session_attended, connect_attended, feeds_attended}
 use Rattle.osi_stack.proofs.stream.what_was_written_is_read.{attended_then}
 use Rattle.osi_stack.proofs.given_up.the_invariant_stays.{disconnect_attended, disconnect_is, disconnect_ordered, disconnect_sound}

@@ -1,12 +1,10 @@
 -- A session that has ended indicates nothing, whatever happens to it: a received unit, a call, or its transport
 -- connection being opened, refused or lost.
-use Rattle.std.proofs.Common.{◌≡◌, ℕ, true, [], ◌∷◌, Some, refl, arith}
-use Rattle.osi_session.proofs.tables.what_is_true_of_each_phase.{excluded}
-use Rattle.osi_session.proofs.runs.what_every_run_preserves.{word_ended}
-use Rattle.osi_session.specs.Joining.{Taker, respond_word, respond_words}
-use Rattle.osi_session.specs.Respond.{in_ended, respond_fault}
 use Rattle.osi_stack.proofs.Vocabulary.{append-nil, put_here, Meaning, SpduFault, Word, Words, SessionState as State, Input, Listener}
-use Rattle.osi_stack.proofs.Vocabulary.{react, is_ended, is_over, Phase, implied, kept_at, waiting_at, to_session, End}
+use Rattle.osi_stack.proofs.Vocabulary.{react, is_ended, is_over, Phase, implied, kept_at, waiting_at, to_session, End, ◌≡◌, ℕ, true, []}
+use Rattle.osi_stack.proofs.Vocabulary.{◌∷◌, Some, refl, arith, excluded, word_ended, Taker, in_ended}
+use Rattle.osi_session.specs.Joining.{respond_word, respond_words}
+use Rattle.osi_session.specs.Respond.{respond_fault}
 
 ended_over : (p : Phase) → is_ended p ≡ true → is_over p ≡ true
 ended_over p h = implied is_ended is_over refl p h

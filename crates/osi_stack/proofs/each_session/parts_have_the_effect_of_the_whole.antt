@@ -1,10 +1,9 @@
 -- The parts of one Data have on an end the effect of the whole, whatever calls come between.
-use Rattle.std.proofs.Common.{◌≡◌, ℕ, ◌==◌, Bool, List, [], ◌∷◌, ◌++◌, map, Option, Some, None, refl, sym, ap, ◌∙◌, if◌then◌else◌, arith}
-use Rattle.osi_stack.specs.Parted.{to_session_along}
 use Rattle.osi_stack.proofs.Vocabulary.{append-nil, Rows, value_at, put, State as Carrier, put_here, put_same, part_octets, Input, Listener}
 use Rattle.osi_stack.proofs.Vocabulary.{Move, called, came, react, after_inputs, Act, comes, calls, act_in_octets, calls_in, IsSilent}
 use Rattle.osi_stack.proofs.Vocabulary.{AreSilent, Shown, limit_of, kept_at, limit_for, answers, line_by, by_line, to_session, Selectors}
-use Rattle.osi_stack.proofs.Vocabulary.{selectors_told, shows_connect, Line, End, session_in}
+use Rattle.osi_stack.proofs.Vocabulary.{selectors_told, shows_connect, Line, End, session_in, ◌≡◌, ℕ, ◌==◌, Bool, List, [], ◌∷◌, ◌++◌, map}
+use Rattle.osi_stack.proofs.Vocabulary.{Option, Some, None, refl, sym, ap, ◌∙◌, if◌then◌else◌, arith, to_session_along}
 
 -- ---- the end with a session at a reference
 

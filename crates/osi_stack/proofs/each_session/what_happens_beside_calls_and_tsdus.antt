@@ -1,8 +1,6 @@
 -- What happens to a session beside calls and TSDUs.
-use Rattle.std.proofs.Common.{◌≡◌, ℕ, false, [], Option, None, option_map, Result, Ok, refl, sym, subst, if◌then◌else◌, arith}
-use Rattle.osi_session.specs.Steps.{shown_list}
-use Rattle.osi_session.specs.declared.taken.Taken.{Taken}
-use Rattle.osi_stack.proofs.Vocabulary.{in_one, Input, Listener, Move, opened, refused, broken, react, Takes, Indication}
+use Rattle.osi_stack.proofs.Vocabulary.{in_one, Input, Listener, Move, opened, refused, broken, react, Takes, Indication, ◌≡◌, ℕ, false, []}
+use Rattle.osi_stack.proofs.Vocabulary.{Option, None, option_map, Result, Ok, refl, sym, subst, if◌then◌else◌, arith, shown_list, Taken}
 
 -- nothing is sent, and nothing closed
 pub record IsQuiet (move : Move) : Type 0 where

@@ -1,8 +1,7 @@
 -- A session that has joined something has an open connection.
-use Rattle.std.proofs.Common.{◌≡◌, ℕ, ◌≤◌, true, List, length, Option, Some, None, is_some, refl, subst, arith}
-use Rattle.osi_session.specs.Kept.{IsKept}
 use Rattle.osi_stack.proofs.Vocabulary.{IfSome, Rows, value_at, is_open, most_data, joined_octets, Input, Listener, after_inputs, may_hold}
-use Rattle.osi_stack.proofs.Vocabulary.{implied, CameAbout, AllCameAbout, needs_link, kept_at, IsSettled, Line, End, session_in}
+use Rattle.osi_stack.proofs.Vocabulary.{implied, CameAbout, AllCameAbout, needs_link, kept_at, IsSettled, Line, End, session_in, ◌≡◌, ℕ}
+use Rattle.osi_stack.proofs.Vocabulary.{◌≤◌, true, List, length, Option, Some, None, is_some, refl, subst, arith, IsKept}
 use Rattle.osi_stack.proofs.each_line.what_stays_true_of_each_line.{line_at}
 
 pub record JoinedLaws : Type 0 where

@@ -1,7 +1,6 @@
 -- What the tables of sessions say, in the form in which it is used here.
-use Rattle.std.proofs.Common.{arith, ◌≡◌, Bool, true, false, ◌||◌, List, [], ◌∷◌, refl}
 use Rattle.osi_stack.proofs.Vocabulary.{Input, Listener, opened, is_opened, react, after_inputs, is_wait_transport, is_over, is_ended}
-use Rattle.osi_stack.proofs.Vocabulary.{excluded, needs_link}
+use Rattle.osi_stack.proofs.Vocabulary.{excluded, needs_link, arith, ◌≡◌, Bool, true, false, ◌||◌, List, [], ◌∷◌, refl}
 use Rattle.osi_stack.proofs.carried.packets_without_events.{both}
 use Rattle.osi_stack.proofs.carried.open_connections_stay_open.{SessionLaws}
 

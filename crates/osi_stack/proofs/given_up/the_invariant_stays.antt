@@ -1,11 +1,10 @@
 -- One connection is given up: the invariant of every end's carrier, of its sessions and of each of its lines stays so.
-use Rattle.std.proofs.Common.{arith, ◌≡◌, ◌≢◌, ℕ, ◌==◌, Bool, true, false, [], Option, Some, None, get_or, set, option_map, sym, ap, ◌∙◌}
-use Rattle.osi_stack.specs.Disconnecting.{given_up, gives_up, disconnects}
 use Rattle.osi_stack.proofs.Vocabulary.{IfSome, eqb-true, eq-eqb, and-true, open_link, closed_with, RiseFrom, Rows, value_at}
 use Rattle.osi_stack.proofs.Vocabulary.{State as Carrier, is_open, here_is, placed, place_of, put_here, put_other, put_rise, put_up}
 use Rattle.osi_stack.proofs.Vocabulary.{orderly_closed, closed_opens, Listener, after_input, broken, react, IsNamed, CameAbout}
 use Rattle.osi_stack.proofs.Vocabulary.{AllCameAbout, OfLines, OfSession, OfSessions, loses, needs_link, Soundness, IsSound, kept_at}
-use Rattle.osi_stack.proofs.Vocabulary.{IsOrdered, Line, End, IsAttended, session_in, ne_eqb}
+use Rattle.osi_stack.proofs.Vocabulary.{IsOrdered, Line, End, IsAttended, session_in, ne_eqb, arith, ◌≡◌, ◌≢◌, ℕ, ◌==◌, Bool, true, false}
+use Rattle.osi_stack.proofs.Vocabulary.{[], Option, Some, None, get_or, set, option_map, sym, ap, ◌∙◌, given_up, gives_up, disconnects}
 use Rattle.osi_stack.proofs.carried.events_one_after_the_other.{concluded_carrier}
 use Rattle.osi_stack.proofs.each_line.what_stays_true_of_each_session.{came_moves}
 use Rattle.osi_stack.proofs.carried.what_sessions_leave_of_the_carrier.{close_keeps}
@@ -34,8 +33,6 @@ given_rows r rows items i row new e here same is = search (arith, placed, set, h
 -- its session
 pub session_given : (o : Option Line) → session_in (option_map given_up o) ≡ option_map (λ s. after_input s broken) (session_in o)
 session_given o = grind arith
-
--- ---- all lines
 
 -- ---- the carrier has closed the connection, and the session is given up
 

@@ -1,13 +1,10 @@
 -- One connection is given up: the others keep all that is theirs, a DR is written in class 2 and the end ends in class
 -- 0, and nothing is pending for the user of that connection.
-use Rattle.std.proofs.Common.{arith, ◌≡◌, ◌≢◌, ℕ, Bool, true, false, [], ◌∷◌, ◌++◌, Option, Some, None, is_some, option_map, refl, sym, ap}
-use Rattle.std.proofs.Common.{◌∙◌, if◌then◌else◌}
-use Rattle.osi_carrier.specs.State.{writes, moves}
-use Rattle.osi_carrier.specs.declared.ends.EndReason.TheVariants.{Closed}
-use Rattle.osi_stack.specs.Disconnecting.{gives_up, disconnects, LeavesOthers}
 use Rattle.osi_stack.proofs.Vocabulary.{Standing as Link, Zero, open_link, closed_on, closed_with, disconnect, value_at, put_other, closing}
 use Rattle.osi_stack.proofs.Vocabulary.{carrier_ends, State as Carrier, Rows, Listener, after_input, broken, react, is_ended, shown_at_loss}
-use Rattle.osi_stack.proofs.Vocabulary.{all_lost, kept_at, waiting_of, waiting_at, Line, End, session_in}
+use Rattle.osi_stack.proofs.Vocabulary.{all_lost, kept_at, waiting_of, waiting_at, Line, End, session_in, arith, ◌≡◌, ◌≢◌, ℕ, Bool, true}
+use Rattle.osi_stack.proofs.Vocabulary.{false, [], ◌∷◌, ◌++◌, Option, Some, None, is_some, option_map, refl, sym, ap, ◌∙◌, if◌then◌else◌}
+use Rattle.osi_stack.proofs.Vocabulary.{writes, moves, Closed, gives_up, disconnects, LeavesOthers}
 use Rattle.osi_stack.proofs.given_up.the_invariant_stays.{closed_and_given, disconnect_carrier, disconnect_lasts, disconnect_is, given_here}
 use Rattle.osi_stack.proofs.given_up.the_invariant_stays.{given_other, session_given}
 use Rattle.osi_stack.proofs.carried.what_a_move_leaves.{are_lost}

@@ -1,10 +1,9 @@
 -- A connection is given up in two runs that are in step: they reach the same state, whatever the pieces; also if they
 -- differ in lines of connections that are gone.
-use Rattle.std.proofs.Common.{arith, ◌≡◌, ℕ, ◌==◌, Bool, true, false, List, [], ◌∷◌, Option, None, option_map, refl, sym, ap, subst, ◌∙◌}
-use Rattle.osi_carrier.specs.Runs.UserCall.{closes}
-use Rattle.osi_stack.specs.Disconnecting.{gives_up, disconnects}
 use Rattle.osi_stack.proofs.Vocabulary.{eqb-true, apart_all, user, closed_gone, AreUpTo, Rows, value_at, put, Listener, after_input, broken}
-use Rattle.osi_stack.proofs.Vocabulary.{react, shown_at_loss, pruned, put_back, Line, End}
+use Rattle.osi_stack.proofs.Vocabulary.{react, shown_at_loss, pruned, put_back, Line, End, arith, ◌≡◌, ℕ, ◌==◌, Bool, true, false, List, []}
+use Rattle.osi_stack.proofs.Vocabulary.{◌∷◌, Option, None, option_map, refl, sym, ap, subst, ◌∙◌, gives_up, disconnects}
+use Rattle.osi_carrier.specs.Runs.UserCall.{closes}
 use Rattle.osi_stack.proofs.given_up.the_invariant_stays.{closed_and_given, disconnect_carrier}
 use Rattle.osi_stack.proofs.carried.packets_without_events.{both}
 use Rattle.osi_stack.proofs.in_step.the_other_lines_may_be_dropped.{only, only_end, only_row, only_at, only_put, only_concludes, put_row}

@@ -1,10 +1,9 @@
 -- One connection is given up: each session that waits for its transport connection still has one that was requested,
 -- and the invariant of every end between any two calls is kept.
-use Rattle.std.proofs.Common.{arith, ◌≡◌, ℕ, ◌==◌, Bool, true, false, Some, None, option_map, refl, sym, ap, ◌∙◌}
-use Rattle.osi_stack.specs.Disconnecting.{gives_up, disconnects}
 use Rattle.osi_stack.proofs.Vocabulary.{eqb-true, eq-eqb, closed_with, value_at, asked, Listener, after_input, broken, react}
 use Rattle.osi_stack.proofs.Vocabulary.{is_wait_transport, HasProfile, IsProfiled, IsNamed, HasAsked, kept_at, IsSettled, End}
-use Rattle.osi_stack.proofs.Vocabulary.{orderly_closed}
+use Rattle.osi_stack.proofs.Vocabulary.{orderly_closed, arith, ◌≡◌, ℕ, ◌==◌, Bool, true, false, Some, None, option_map, refl, sym, ap, ◌∙◌}
+use Rattle.osi_stack.proofs.Vocabulary.{gives_up, disconnects}
 use Rattle.osi_stack.proofs.opening.who_waits_was_requested.{asked_closed}
 use Rattle.osi_stack.proofs.given_up.the_invariant_stays.{given_other, closed_and_given, disconnect_lasts, disconnect_is}
 use Rattle.osi_stack.proofs.given_up.the_invariant_stays.{disconnect_attended, disconnect_lines, disconnect_sessions, disconnect_came}

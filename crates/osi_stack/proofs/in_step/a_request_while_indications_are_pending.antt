@@ -1,8 +1,7 @@
 -- A connection is requested while indications are pending, but only for live connections: the same as if all had been
 -- given.
-use Rattle.std.proofs.Common.{◌≡◌, ℕ, ◌==◌, Bool, true, [], ◌∷◌, ◌++◌, is_some, refl, arith}
 use Rattle.osi_stack.proofs.Vocabulary.{Rows, value_at, Connection, Listener, all_waiting, WaitForLive, quieted, Line, used_lines}
-use Rattle.osi_stack.proofs.Vocabulary.{fresh_line}
+use Rattle.osi_stack.proofs.Vocabulary.{fresh_line, ◌≡◌, ℕ, ◌==◌, Bool, true, [], ◌∷◌, ◌++◌, is_some, refl, arith}
 use Rattle.osi_stack.proofs.in_step.what_is_seen_is_the_same.{hush}
 use Rattle.osi_stack.proofs.each_line.the_first_that_indicates.{quiet_line}
 use Rattle.osi_stack.proofs.carried.open_connections_stay_open.{used_by, joined_lines}

@@ -1,11 +1,10 @@
 -- Two accounts that are the same but for lines of connections that are gone stay so, whatever comes.
-use Rattle.std.proofs.Common.{◌≡◌, ℕ, ◌==◌, Bool, true, false, List, [], ◌∷◌, Option, Some, None, is_some, refl, sym, ap, ◌∙◌}
-use Rattle.std.proofs.Common.{if◌then◌else◌, arith}
-use Rattle.osi_carrier.specs.Packets as carriers
 use Rattle.osi_stack.proofs.Vocabulary.{eq-eqb, or_right, orderly_same, AreUpTo, Rows, value_at, Connection, is_open, none_of, Listener}
 use Rattle.osi_stack.proofs.Vocabulary.{broken, react, is_wait_transport, may_abort, shows_loss, Shown, shown_at_loss, after_packet}
 use Rattle.osi_stack.proofs.Vocabulary.{with_carrier, AreApart, HasAsked, IsSound, kept_at, quieted, hushed, put_back, live_lines, pruned}
-use Rattle.osi_stack.proofs.Vocabulary.{Account, account_of, Line, End, IsAttended, line_waits, waits}
+use Rattle.osi_stack.proofs.Vocabulary.{Account, account_of, Line, End, IsAttended, line_waits, waits, ◌≡◌, ℕ, ◌==◌, Bool, true, false}
+use Rattle.osi_stack.proofs.Vocabulary.{List, [], ◌∷◌, Option, Some, None, is_some, refl, sym, ap, ◌∙◌, if◌then◌else◌, arith}
+use Rattle.osi_carrier.specs.Packets as carriers
 use Rattle.osi_stack.proofs.in_step.the_account_packet_by_packet.{made}
 use Rattle.osi_stack.proofs.in_step.what_is_seen_is_the_same.{quieted_at}
 use Rattle.osi_stack.proofs.opening.who_waits_was_requested.{StillWaits, packet_asked}

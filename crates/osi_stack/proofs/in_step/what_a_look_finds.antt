@@ -1,12 +1,11 @@
 -- What is seen of two ends that are the same except for lines of connections that are gone; and if a break is found.
-use Rattle.std.proofs.Common.{◌≡◌, ℕ, Bool, true, false, List, [], ◌∷◌, ◌++◌, None, is_some, IsSome, refl, sym, ap, ◌∙◌, arith}
-use Rattle.std.proofs.Common.{if◌then◌else◌}
-use Rattle.osi_stack.specs.Runs.{Call, told_of}
 use Rattle.osi_stack.proofs.Vocabulary.{flat_map-append, sum_by-cons, flat_map, Rows, value_at, Connection, Broken, none_of}
 use Rattle.osi_stack.proofs.Vocabulary.{Call as SessionCall, disconnect_error, connect_error, call_error, phase_at, breaks, ends}
 use Rattle.osi_stack.proofs.Vocabulary.{shown_at_loss, all_lost, kept_at, all_waiting, hushed, put_back, live_lines, pruned, account_of}
 use Rattle.osi_stack.proofs.Vocabulary.{CallsAlong, told_in, carried_in, AreAlikeInLive, LookAlike, IsSettled, Line, End, Holding}
-use Rattle.osi_stack.proofs.Vocabulary.{session_in, session_at, joined_live, joined_in}
+use Rattle.osi_stack.proofs.Vocabulary.{session_in, session_at, joined_live, joined_in, ◌≡◌, ℕ, Bool, true, false, List, [], ◌∷◌, ◌++◌}
+use Rattle.osi_stack.proofs.Vocabulary.{None, is_some, IsSome, refl, sym, ap, ◌∙◌, arith, if◌then◌else◌}
+use Rattle.osi_stack.specs.Runs.{Call, told_of}
 use Rattle.osi_stack.proofs.in_step.the_account_packet_by_packet.{after_more, account_joined}
 use Rattle.osi_stack.proofs.in_step.what_is_seen_is_the_same.{quieted_at, call_apart, call_hushed, look_alike}
 use Rattle.osi_stack.proofs.in_step.a_break_while_indications_are_pending.{lost_told}

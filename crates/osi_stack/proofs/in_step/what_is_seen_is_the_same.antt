@@ -1,9 +1,8 @@
 -- What is seen of two ends with the same account.
-use Rattle.std.proofs.Common.{option_map, ◌≡◌, ℕ, ◌==◌, Bool, List, [], ◌∷◌, refl, sym, ap, ◌∙◌, arith}
-use Rattle.osi_stack.specs.Runs.{Call, told_of}
 use Rattle.osi_stack.proofs.Vocabulary.{Rows, value_at, Call as SessionCall, disconnect_error, connect_error, call_error, phase_at, quieted}
 use Rattle.osi_stack.proofs.Vocabulary.{hushed, put_back, AreAlike, AreAlikeByReference, LookAlike, Line, End, Holding, session_in}
-use Rattle.osi_stack.proofs.Vocabulary.{session_at}
+use Rattle.osi_stack.proofs.Vocabulary.{session_at, option_map, ◌≡◌, ℕ, ◌==◌, Bool, List, [], ◌∷◌, refl, sym, ap, ◌∙◌, arith}
+use Rattle.osi_stack.specs.Runs.{Call, told_of}
 use Rattle.osi_stack.proofs.in_step.what_is_joined_is_the_same.{joined_quiet}
 
 -- a line for which nothing is pending

@@ -1,7 +1,6 @@
 -- The state of an end after a connection was requested, from the effect of each step of the request.
-use Rattle.std.proofs.Common.{◌≡◌, ℕ, ◌+◌, [], ◌∷◌, ◌++◌, option_map}
 use Rattle.osi_stack.proofs.Vocabulary.{tsap_octets, Held, asks, Rows, State as Carrier, Listener, connects, calls_with, Line, Holding}
-use Rattle.osi_stack.proofs.Vocabulary.{used_lines, fresh_line, Connect}
+use Rattle.osi_stack.proofs.Vocabulary.{used_lines, fresh_line, Connect, ◌≡◌, ℕ, ◌+◌, [], ◌∷◌, ◌++◌, option_map}
 
 abbrev begins_with : ℕ → Listener → ℕ × Line
 begins_with r session = (r, fresh_line session)

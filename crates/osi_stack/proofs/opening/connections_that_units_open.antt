@@ -1,18 +1,15 @@
 -- The connections that units open: those that were requested, and new ones at a called end. A connection stays requested
 -- until its user is told that it is accepted or refused.
-use Rattle.std.proofs.Common.{◌≡◌, ◌≢◌, ℕ, ◌+◌, ◌<◌, ◌≤◌, ◌==◌, Bool, true, false, List, [], ◌∷◌, ◌++◌, Option, Some, None, Result, Ok, Err}
-use Rattle.std.proofs.Common.{is_some, IsSome, refl, sym, ap, subst, ◌∙◌, inl, ◌⊎◌, arith, append_assoc}
-use Rattle.osi_tpdu.specs.Value.{Connect}
-use Rattle.osi_class.specs.Negotiation.{Selection, accept, refuse}
-use Rattle.osi_class.specs.declared.faults.LinkFault.{LinkFault}
-use Rattle.osi_carrier.specs.Negotiation.{confirmed}
-use Rattle.osi_carrier.specs.React.{answers, opens, react}
 use Rattle.osi_stack.proofs.Vocabulary.{eqb-true, eq-eqb, or_left, append-nil, AllByRecursion, Value, request, confirm, disconnect, error}
 use Rattle.osi_stack.proofs.Vocabulary.{Standing, Class, Zero, Two, Happening, closed, faulted, RiseFrom, told_of, IsOrderly}
 use Rattle.osi_stack.proofs.Vocabulary.{answers_request, to_unknown, to_asked, taking, leaves, to_closing, to_connection, to_only, reacts}
 use Rattle.osi_stack.proofs.Vocabulary.{Rows, value_at, put, without, Connection, asked, closing, State, EndReason, put_here, without_here}
 use Rattle.osi_stack.proofs.Vocabulary.{beyond, put_other, without_other, put_none, push_other, stays_gone, orderly_unit, react_over}
-use Rattle.osi_stack.proofs.Vocabulary.{told_opened as opened, carrier_ends as ends, nat_tests}
+use Rattle.osi_stack.proofs.Vocabulary.{told_opened as opened, carrier_ends as ends, nat_tests, ◌≡◌, ◌≢◌, ℕ, ◌+◌, ◌<◌, ◌≤◌, ◌==◌, Bool}
+use Rattle.osi_stack.proofs.Vocabulary.{true, false, List, [], ◌∷◌, ◌++◌, Option, Some, None, Result, Ok, Err, is_some, IsSome, refl, sym}
+use Rattle.osi_stack.proofs.Vocabulary.{ap, subst, ◌∙◌, inl, ◌⊎◌, arith, append_assoc, Selection, accept, refuse, LinkFault, confirmed}
+use Rattle.osi_tpdu.specs.Value.{Connect}
+use Rattle.osi_carrier.specs.React.{answers, opens, react}
 use Rattle.osi_stack.proofs.opening.which_requests_are_answered.{answered, answered_front, answered_behind}
 use Rattle.osi_stack.proofs.sound.the_invariant_is_kept.{units_rise}
 use Rattle.osi_stack.proofs.carried.packets_without_events.{both}

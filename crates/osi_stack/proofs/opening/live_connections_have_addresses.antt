@@ -1,10 +1,9 @@
 -- A live connection that may receive indications has addresses.
-use Rattle.std.proofs.Common.{◌≡◌, ℕ, Bool, true, false, List, Option, IsSome, refl, if◌then◌else◌, arith}
-use Rattle.osi_session.specs.Causes.{asks_for_connection, is_taken}
-use Rattle.osi_session.specs.Shown.{shows_connect}
 use Rattle.osi_stack.proofs.Vocabulary.{IfSome, known_is, Call, Input, Listener, called, taken, opened, refused, broken, came, react}
 use Rattle.osi_stack.proofs.Vocabulary.{after_input, shows_loss, addresses_at, phase_of, phase_at, IsNamed, line_by, selectors_told}
-use Rattle.osi_stack.proofs.Vocabulary.{IsSettled, Line, End}
+use Rattle.osi_stack.proofs.Vocabulary.{IsSettled, Line, End, ◌≡◌, ℕ, Bool, true, false, List, Option, IsSome, refl, if◌then◌else◌, arith}
+use Rattle.osi_stack.proofs.Vocabulary.{asks_for_connection, is_taken}
+use Rattle.osi_session.specs.Shown.{shows_connect}
 use Rattle.osi_stack.proofs.each_line.what_stays_true_of_each_line.{LinesStay, line_at}
 
 -- the first indication of a user

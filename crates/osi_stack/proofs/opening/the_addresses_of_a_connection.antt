@@ -1,9 +1,8 @@
 -- The addresses of a connection: those requested, those received, and what keeps them.
-use Rattle.std.proofs.Common.{◌≡◌, ◌≢◌, ℕ, ◌+◌, true, false, Option, Some, None, is_some, ap, ◌∙◌, arith, if◌then◌else◌}
-use Rattle.osi_carrier.specs.Named.{AreNamed}
 use Rattle.osi_stack.proofs.Vocabulary.{value_at, push_here, put_here, beyond, put_other, known_is, none_of, Input, Listener, react}
 use Rattle.osi_stack.proofs.Vocabulary.{selectors_in, addresses_at, asked_addresses, connects, Soundness, kept_at, line_by, by_line}
-use Rattle.osi_stack.proofs.Vocabulary.{to_session, selectors_told, shows_connect, Line, End, Connect}
+use Rattle.osi_stack.proofs.Vocabulary.{to_session, selectors_told, shows_connect, Line, End, Connect, ◌≡◌, ◌≢◌, ℕ, ◌+◌, true, false}
+use Rattle.osi_stack.proofs.Vocabulary.{Option, Some, None, is_some, ap, ◌∙◌, arith, if◌then◌else◌, AreNamed}
 use Rattle.osi_stack.proofs.carried.what_a_move_leaves.{used_live}
 
 -- ---- what is requested

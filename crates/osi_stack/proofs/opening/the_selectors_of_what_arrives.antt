@@ -1,10 +1,8 @@
 -- The session selectors of what arrives.
-use Rattle.std.proofs.Common.{arith, ◌≡◌, ℕ, List, ◌∷◌, Some, None, Result, Ok, Err, ap}
-use Rattle.osi_session.proofs.tsdu.parts_with_calls_between.{data_sendable}
-use Rattle.osi_spdu.specs.declared.kinds.Kind.{Kind}
-use Rattle.osi_spdu.specs.declared.kinds.Kind.TheVariants as kind
 use Rattle.osi_stack.proofs.Vocabulary.{DT, meaning, word, place_by, said_at, said_if_read, part_octets, as_message, written, is_second}
-use Rattle.osi_stack.proofs.Vocabulary.{Place, came, came_as, Contents, Units, tsdu_at, SpduFault, selectors_of, selectors_told}
+use Rattle.osi_stack.proofs.Vocabulary.{Place, came, came_as, Contents, Units, tsdu_at, SpduFault, selectors_of, selectors_told, arith, ◌≡◌}
+use Rattle.osi_stack.proofs.Vocabulary.{ℕ, List, ◌∷◌, Some, None, Result, Ok, Err, ap, data_sendable, Kind}
+use Rattle.osi_spdu.specs.declared.kinds.Kind.TheVariants as kind
 use Rattle.osi_stack.proofs.carried.what_a_move_leaves.{Readings, came_is}
 
 -- ---- the first unit that is read

@@ -1,14 +1,13 @@
 -- Each session that waits for its transport connection has one that was requested.
-use Rattle.std.proofs.Common.{◌≡◌, ℕ, ◌==◌, Bool, true, false, List, ◌∷◌, length, Option, Some, None, refl, sym, ap, subst, ◌∙◌, inl, inr}
-use Rattle.std.proofs.Common.{arith, []}
-use Rattle.osi_carrier.specs.Happenings as told
-use Rattle.osi_carrier.specs.Packets as carriers
 use Rattle.osi_stack.proofs.Vocabulary.{eqb-true, eq-eqb, Fed, Standing as Link, beyond, push_here, put_other, push_other, open_link}
 use Rattle.osi_stack.proofs.Vocabulary.{sent_on, closes, closed_on, Happening, IsOrderly, told_of, value_at, asked, State as Carrier, Call}
 use Rattle.osi_stack.proofs.Vocabulary.{Input, Listener, called, opened, refused, react, is_wait_transport, awaits, connects, without_first}
 use Rattle.osi_stack.proofs.Vocabulary.{Feeds, opens, hears, hears_next, hears_times, with_events, with_carrier, after_packet, AreApart}
 use Rattle.osi_stack.proofs.Vocabulary.{HasAsked, Soundness, IsSound, kept_at, to_session, Line, End, Holding, IsAttended, Connect}
-use Rattle.osi_stack.proofs.Vocabulary.{input_of}
+use Rattle.osi_stack.proofs.Vocabulary.{input_of, ◌≡◌, ℕ, ◌==◌, Bool, true, false, List, ◌∷◌, length, Option, Some, None, refl, sym, ap}
+use Rattle.osi_stack.proofs.Vocabulary.{subst, ◌∙◌, inl, inr, arith, []}
+use Rattle.osi_carrier.specs.Happenings as told
+use Rattle.osi_carrier.specs.Packets as carriers
 use Rattle.osi_stack.proofs.opening.which_requests_are_answered.{answered, answered_behind}
 use Rattle.osi_stack.proofs.carried.events_one_after_the_other.{concluded_carrier}
 use Rattle.osi_stack.proofs.carried.what_sessions_leave_of_the_carrier.{session_keeps}

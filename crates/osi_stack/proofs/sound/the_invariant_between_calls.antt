@@ -1,9 +1,4 @@
 -- The invariant of every end between any two calls is kept.
-use Rattle.std.proofs.Common.{◌≡◌, ℕ, ◌≤◌, ◌<◌, Bool, true, false, not, List, ◌∷◌, length, drop, Option, Some, None, Result, Ok, Err, arith}
-use Rattle.std.proofs.Common.{is_some, IsSome, refl, sym, subst, inl, inr, []}
-use Rattle.osi_carrier.specs.Packets as carriers
-use Rattle.osi_session.specs.Units.{is_profile}
-use Rattle.osi_session.specs.declared.faults.CallError.TheVariants as error
 use Rattle.osi_stack.proofs.Vocabulary.{OnOk, OnErr, units_of, Value, TpduFault, Local, Units, said_by_units, Fed, IsOrderly, reacts, Rows}
 use Rattle.osi_stack.proofs.Vocabulary.{value_at, State as Carrier, NoMemory, orderly_fresh, orderly_units, orderly_packet, orderly_asks}
 use Rattle.osi_stack.proofs.Vocabulary.{orderly_end, orderly_ended, orderly_same, Call, HasSerial, Input, Listener, called, taken, react}
@@ -11,7 +6,11 @@ use Rattle.osi_stack.proofs.Vocabulary.{after_inputs, HasProfile, Opening, unit_
 use Rattle.osi_stack.proofs.Vocabulary.{connect_error, opening_of, breaks, carried, without_first, has_given, call_error, table_error}
 use Rattle.osi_stack.proofs.Vocabulary.{session_refusal, session_error, stops, Goes, Feeds, hears_all, with_carrier, attends, after_packet}
 use Rattle.osi_stack.proofs.Vocabulary.{Starves, to_session, Line, End, Holding, fresh_end, session_in, session_at, waits, CameAbout}
-use Rattle.osi_stack.proofs.Vocabulary.{IsProfiled, IsNamed, OfSessions, IsSettled, Connect, free_of, none_of}
+use Rattle.osi_stack.proofs.Vocabulary.{IsProfiled, IsNamed, OfSessions, IsSettled, Connect, free_of, none_of, ◌≡◌, ℕ, ◌≤◌, ◌<◌, Bool, true}
+use Rattle.osi_stack.proofs.Vocabulary.{false, not, List, ◌∷◌, length, drop, Option, Some, None, Result, Ok, Err, arith, is_some, IsSome}
+use Rattle.osi_stack.proofs.Vocabulary.{refl, sym, subst, inl, inr, [], is_profile}
+use Rattle.osi_carrier.specs.Packets as carriers
+use Rattle.osi_session.specs.declared.faults.CallError.TheVariants as error
 use Rattle.osi_stack.proofs.called.the_result_is_that_of_the_table.{Below, answered_is}
 use Rattle.osi_stack.proofs.opening.who_waits_was_requested.{StillWaits, connect_asked, call_asked, feeds_asked, first_asked}
 use Rattle.osi_stack.proofs.carried.all_events_are_handled.{session_attended, connect_attended, breaks_attended, feeds_attended}

@@ -1,16 +1,14 @@
 -- A piece of the stream, read by looks that each take packets up to one that causes an event.
-use Rattle.std.proofs.Common.{◌≡◌, ℕ, ◌+◌, ◌-◌, ◌<◌, ◌≤◌, ◌==◌, true, false, Bool, List, [], ◌∷◌, ◌++◌, length, take, drop, Option, Result}
-use Rattle.std.proofs.Common.{is_some, refl, sym, ap, subst, ◌∙◌, inl, inr, ◌⊎◌, arith, length-append, length-drop, append_assoc}
-use Rattle.std.proofs.Common.{if◌then◌else◌}
-use Rattle.std.proofs.Math.Seq.{drop-append_seam}
-use Rattle.osi_carrier.specs.Packets as carriers
-use Rattle.osi_carrier.specs.State as states
-use Rattle.osi_stack.specs.Feeding.{Refuses}
 use Rattle.osi_stack.proofs.Vocabulary.{append-nil, take-append-drop, take_at, or_right, or_left, IsPartial, IsFaultOf, ArePackets}
 use Rattle.osi_stack.proofs.Vocabulary.{offset_of, TpktFault, Value, TpduFault, packets_more, packets_leave, Carrying, HasToHold, is_spoilt}
 use Rattle.osi_stack.proofs.Vocabulary.{ActsBy, Rows, State as Carrier, Tpkt, EndReason, Fault, NoMemory, stops, TakesPackets, RunsDry}
 use Rattle.osi_stack.proofs.Vocabulary.{StopsBehind, FindsNoRoom, FindsNoMemory, Goes, FeedsToEvent, attends, with_carrier, ends, RunsOut}
-use Rattle.osi_stack.proofs.Vocabulary.{Starves, Line, End, Holding, IsAttended, waits}
+use Rattle.osi_stack.proofs.Vocabulary.{Starves, Line, End, Holding, IsAttended, waits, ◌≡◌, ℕ, ◌+◌, ◌-◌, ◌<◌, ◌≤◌, ◌==◌, true, false, Bool}
+use Rattle.osi_stack.proofs.Vocabulary.{List, [], ◌∷◌, ◌++◌, length, take, drop, Option, Result, is_some, refl, sym, ap, subst, ◌∙◌, inl}
+use Rattle.osi_stack.proofs.Vocabulary.{inr, ◌⊎◌, arith, length-append, length-drop, append_assoc, if◌then◌else◌, drop-append_seam}
+use Rattle.osi_carrier.specs.Packets as carriers
+use Rattle.osi_carrier.specs.State as states
+use Rattle.osi_stack.specs.Feeding.{Refuses}
 use Rattle.osi_stack.proofs.carried.events_one_after_the_other.{never_starved, concluded_carrier, all_keep_by}
 use Rattle.osi_stack.proofs.stream.the_room_for_a_packet.{room_stays, less_room, packet_faultless, first_part}
 use Rattle.osi_stack.proofs.carried.packets_without_events.{both, or_second, IsQuiet, quiet_is, quiet_attends, quiet_stops, lift_dry}

@@ -1,12 +1,11 @@
 -- If one list of pieces does not end an end, no other with the same octets does.
-use Rattle.std.proofs.Common.{◌≡◌, ℕ, ◌||◌, Bool, true, false, List, ◌∷◌, ◌++◌, take, Option, Some, None, is_some, refl, sym, ap, subst}
-use Rattle.std.proofs.Common.{◌∙◌, ◌⊎◌, inl, inr, arith, append_assoc, []}
-use Rattle.osi_stack.specs.Feeding.{Refuses}
 use Rattle.osi_stack.proofs.Vocabulary.{append-nil, take_all, flat_map, IsPartial, IsFaultOf, ArePackets, Fed, TpktFault, PacketLaws, Parts}
 use Rattle.osi_stack.proofs.Vocabulary.{parts, no_fault, fault_behind, front_used, packets_over, packets_more, EndReason, NoMemory}
 use Rattle.osi_stack.proofs.Vocabulary.{uses_all, StopsBehind, FindsNoMemory, Goes, Feeds, after_packet, Account, account_of, with_packet}
 use Rattle.osi_stack.proofs.Vocabulary.{with_packets, Calls, CallsAlong, used_in, told_in, carried_in, feeding, telling, carrying, End}
-use Rattle.osi_stack.proofs.Vocabulary.{Holding, waits, none_of, EndCall as Call}
+use Rattle.osi_stack.proofs.Vocabulary.{Holding, waits, none_of, EndCall as Call, ◌≡◌, ℕ, ◌||◌, Bool, true, false, List, ◌∷◌, ◌++◌, take}
+use Rattle.osi_stack.proofs.Vocabulary.{Option, Some, None, is_some, refl, sym, ap, subst, ◌∙◌, ◌⊎◌, inl, inr, arith, append_assoc, []}
+use Rattle.osi_stack.specs.Feeding.{Refuses}
 use Rattle.osi_stack.proofs.in_step.the_account_packet_by_packet.{packets_apart, packets_done, with_joined, account_quiet}
 use Rattle.osi_stack.proofs.carried.packets_without_events.{or_first, packets_append, never, or_second}
 use Rattle.osi_stack.proofs.carried.an_ended_carrier_stays_ended.{packet_over, starved_full}

@@ -1,15 +1,14 @@
 -- How a list of calls ends an end for which there is memory: after a packet, or at a fault of the stream. Two lists
 -- with the same octets end it alike.
-use Rattle.std.proofs.Common.{◌≡◌, ℕ, ◌+◌, ◌-◌, ◌<◌, ◌^◌, Bool, true, false, List, ◌∷◌, ◌++◌, length, take, None, is_some, refl, sym, ap}
-use Rattle.std.proofs.Common.{subst, ◌∙◌, ◌⊎◌, inl, inr, arith, append_assoc, length-append, []}
-use Rattle.osi_tpkt.proofs.a_prefix_of_a_packet.{one_fault}
-use Rattle.osi_carrier.proofs.stream.how_calls_end_a_carrier.{Compared, compare, init_front, no_further, at_same}
-use Rattle.osi_stack.specs.Feeding.{Refuses}
 use Rattle.osi_stack.proofs.Vocabulary.{append-nil, take_all, flat_map, IsPartial, IsFaultOf, ArePackets, offset_of, Fed, TpktFault}
 use Rattle.osi_stack.proofs.Vocabulary.{PacketLaws, fault_behind, front_used, packets_joined, packets_leave, Tpkt, Fault, Shown, stops}
 use Rattle.osi_stack.proofs.Vocabulary.{uses_all, TakesPackets, RunsDry, StopsBehind, after_packet, ends, Account, account_of, with_packets}
 use Rattle.osi_stack.proofs.Vocabulary.{Calls, HasRoom, CallsAlong, CallsInRoom, used_in, told_in, carried_in, account_along, AreAlike}
-use Rattle.osi_stack.proofs.Vocabulary.{feeding, telling, carrying, End, Holding, waits, none_of, EndCall as Call}
+use Rattle.osi_stack.proofs.Vocabulary.{feeding, telling, carrying, End, Holding, waits, none_of, EndCall as Call, ◌≡◌, ℕ, ◌+◌, ◌-◌, ◌<◌}
+use Rattle.osi_stack.proofs.Vocabulary.{◌^◌, Bool, true, false, List, ◌∷◌, ◌++◌, length, take, None, is_some, refl, sym, ap, subst, ◌∙◌}
+use Rattle.osi_stack.proofs.Vocabulary.{◌⊎◌, inl, inr, arith, append_assoc, length-append, [], one_fault, Compared, compare, init_front}
+use Rattle.osi_stack.proofs.Vocabulary.{no_further, at_same}
+use Rattle.osi_stack.specs.Feeding.{Refuses}
 use Rattle.osi_stack.proofs.in_step.the_account_packet_by_packet.{made, after_more, account_quiet, account_told, account_joined}
 use Rattle.osi_stack.proofs.in_step.the_account_packet_by_packet.{packets_apart, packets_done, with_joined}
 use Rattle.osi_stack.proofs.stream.all_pieces_last_alike.{Lasts, account_over, in_front, packets_within, no_packets_end, no_fault_ends}

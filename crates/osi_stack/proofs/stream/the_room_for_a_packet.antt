@@ -1,9 +1,7 @@
 -- The room for the octets of a packet, and what happens if it is too small.
-use Rattle.std.proofs.Common.{◌≡◌, ℕ, ◌≤◌, List, [], ◌∷◌, ◌++◌, length, take, sym, subst, inl, inr, ◌⊎◌, arith, length-append, append_assoc}
-use Rattle.osi_tpkt.proofs.a_stream_is_cut_in_one_way.{fault_no_packet}
-use Rattle.osi_carrier.proofs.written.a_tsdu_part_after_part.{empty_list}
 use Rattle.osi_stack.proofs.Vocabulary.{Held, IsFaultOf, ArePackets, TpktFault, packets_leave, HasToHold, NoMemory, FindsNoMemory, ends}
-use Rattle.osi_stack.proofs.Vocabulary.{Starves, Holding}
+use Rattle.osi_stack.proofs.Vocabulary.{Starves, Holding, ◌≡◌, ℕ, ◌≤◌, List, [], ◌∷◌, ◌++◌, length, take, sym, subst, inl, inr, ◌⊎◌, arith}
+use Rattle.osi_stack.proofs.Vocabulary.{length-append, append_assoc, fault_no_packet, empty_list}
 
 -- the room stays over one more look
 pub room_stays : (old now : ℕ) (told new : Held) → old ≤ now → now ≤ told.room → new ≡ told → old ≤ new.room

@@ -1,11 +1,8 @@
 -- What needs memory indicates, sends or keeps something.
-use Rattle.std.proofs.Common.{◌≡◌, ℕ, Bool, true, [], ◌∷◌, get_or, Option, Some, None, Result, Err, OnErr, refl, arith}
-use Rattle.osi_carrier.proofs.written.what_needs_memory_does_something.{written_grows}
-use Rattle.osi_carrier.specs.Growth.{grows}
-use Rattle.osi_session.specs.declared.faults.CallError.{CallError}
-use Rattle.osi_session.specs.declared.faults.CallError.TheVariants.{OutOfMemory}
 use Rattle.osi_stack.proofs.Vocabulary.{disconnect, Class, Zero, placed, closes, closed_with, close_error, open_link, Rows, value_at}
-use Rattle.osi_stack.proofs.Vocabulary.{place_of, State as Carrier, Input, session_needs, Line, session_in}
+use Rattle.osi_stack.proofs.Vocabulary.{place_of, State as Carrier, Input, session_needs, Line, session_in, ◌≡◌, ℕ, Bool, true, [], ◌∷◌}
+use Rattle.osi_stack.proofs.Vocabulary.{get_or, Option, Some, None, Result, Err, OnErr, refl, arith, written_grows, grows, CallError}
+use Rattle.osi_stack.proofs.Vocabulary.{OutOfMemory}
 use Rattle.osi_stack.proofs.each_line.the_line_of_a_reference.{session_here}
 
 -- ---- a DR

@@ -1,19 +1,18 @@
 -- Octets that the other end wrote are read as the units that it wrote.
-use Rattle.std.proofs.Common.{◌≡◌, ℕ, ◌+◌, ◌-◌, ◌≤◌, Bool, true, false, ◌||◌, is_some, List, ◌∷◌, ◌++◌, length, map, take, drop, Option}
-use Rattle.std.proofs.Common.{None, Result, Ok, refl, sym, ap, subst, ◌∙◌, inl, inr, ◌⊎◌, arith, if◌then◌else◌, []}
-use Rattle.osi_tpdu.specs.Writing.{written}
-use Rattle.osi_carrier.specs.Coming.{IsSendable, AreComing}
-use Rattle.osi_carrier.specs.Packets as carriers
-use Rattle.osi_carrier.specs.React.{react}
-use Rattle.osi_carrier.specs.State as states
-use Rattle.osi_carrier.proofs.stream.what_was_written_is_read.{unit_read, packet_reacts, Fronts, units_front, fault_free, alone_starved}
-use Rattle.osi_carrier.proofs.stream.what_was_written_is_read.{starved_unit, reads_part}
-use Rattle.osi_stack.specs.Feeding.{Refuses}
 use Rattle.osi_stack.proofs.Vocabulary.{AllByRecursion, length-take-le, take-take, ArePackets, Fed, Value, TpduFault, Happening}
 use Rattle.osi_stack.proofs.Vocabulary.{State as Carrier, EndReason, NoMemory, after_unit, carries_out, TakesUnits, IsUnheard, TakesSome}
 use Rattle.osi_stack.proofs.Vocabulary.{stops, uses_all, TakesPackets, RunsDry, StopsBehind, FindsNoMemory, Goes, Feeds, attends}
 use Rattle.osi_stack.proofs.Vocabulary.{after_packet, with_carrier, hears_all, hears_times, hears_next, ends, Starves, End, Holding}
-use Rattle.osi_stack.proofs.Vocabulary.{IsAttended, waits}
+use Rattle.osi_stack.proofs.Vocabulary.{IsAttended, waits, ◌≡◌, ℕ, ◌+◌, ◌-◌, ◌≤◌, Bool, true, false, ◌||◌, is_some, List, ◌∷◌, ◌++◌, length}
+use Rattle.osi_stack.proofs.Vocabulary.{map, take, drop, Option, None, Result, Ok, refl, sym, ap, subst, ◌∙◌, inl, inr, ◌⊎◌, arith}
+use Rattle.osi_stack.proofs.Vocabulary.{if◌then◌else◌, [], AreComing, unit_read, packet_reacts, Fronts, units_front, fault_free}
+use Rattle.osi_stack.proofs.Vocabulary.{alone_starved, starved_unit, reads_part}
+use Rattle.osi_tpdu.specs.Writing.{written}
+use Rattle.osi_carrier.specs.Coming.{IsSendable}
+use Rattle.osi_carrier.specs.Packets as carriers
+use Rattle.osi_carrier.specs.React.{react}
+use Rattle.osi_carrier.specs.State as states
+use Rattle.osi_stack.specs.Feeding.{Refuses}
 use Rattle.osi_stack.proofs.carried.events_one_after_the_other.{never_starved, concluded_attended}
 use Rattle.osi_stack.proofs.carried.what_sessions_leave_of_the_carrier.{hears_keep}
 use Rattle.osi_stack.proofs.carried.packets_without_events.{packet_is, lasting_of, never}

@@ -1,27 +1,16 @@
 -- What a capture comes to at a tap with a bound, beside what it comes to at one without: of the transport the same is found, and in no
 -- moment is a session of a side to blame at the one if none is at the other before a break of the other side's transport.
 -- For the law on a tap with a bound.
-use Rattle.std.proofs.Common.{arith}
-use Rattle.std.proofs.Common.{◌≡◌, ◌∙◌, ◌⊎◌, inl, inr, refl, sym, ap, subst, ℕ, Bool, if◌then◌else◌, is_some}
-use Rattle.std.proofs.Common.{List, [], ◌∷◌, ◌++◌, Option}
-use Rattle.osi_tpdu.specs.Value.{Value}
-use Rattle.osi_judge.specs.Captures.{Capture, other}
-use Rattle.osi_judge.specs.declared.directions.Direction.{Direction}
-use Rattle.osi_judge.specs.declared.directions.Direction.TheVariants.{Left}
-use Rattle.osi_rules.specs.declared.findings.Reach.{Reach}
+use Rattle.osi_watched.proofs.Vocabulary.{arith, ◌≡◌, ◌∙◌, ◌⊎◌, inl, inr, refl, sym, ap, subst, ℕ, Bool, if◌then◌else◌, is_some, List, []}
+use Rattle.osi_watched.proofs.Vocabulary.{◌∷◌, ◌++◌, Option, Value, Capture, other, Direction, Left, Reach, Told, Outcome, takes, Cause}
+use Rattle.osi_watched.proofs.Vocabulary.{Mark, Octets, Sessions, taken, Course, Moment, fresh_within, marked, marks_of, moved, noted_by}
+use Rattle.osi_watched.proofs.Vocabulary.{number_at, packet_begins, reached, unit_passes, unread, unread_mark, unread_moment, way_of}
+use Rattle.osi_watched.proofs.Vocabulary.{begin_within, comes_to, marked_past, AreMomentsOf, IsCourseOf, IsMomentOf, comes_within}
 use Rattle.osi_rules.specs.declared.findings.Reach.TheVariants as reach
-use Rattle.osi_rules.specs.declared.findings.Told.{Told}
-use Rattle.osi_rules.specs.Traffic.{Outcome, State as Traffic, takes}
+use Rattle.osi_rules.specs.Traffic.{State as Traffic}
 use Rattle.osi_rules.specs.Traffic as traffic
-use Rattle.osi_tap.specs.declared.marks.Cause.{Cause}
-use Rattle.osi_tap.specs.declared.marks.Mark.{Mark}
-use Rattle.osi_tap.specs.declared.rooms.Room.TheVariants.{Octets}
-use Rattle.osi_tap.specs.Connections.{Sessions, taken}
-use Rattle.osi_tap.specs.Courses.{Course, Moment, fresh, fresh_within, marked, marks_of, moved, noted_by, number_at, packet_begins, reached}
-use Rattle.osi_tap.specs.Courses.{unit_passes, unread, unread_mark, unread_moment, way_of}
-use Rattle.osi_tap.specs.Tapping.{begin, begin_within, comes_to}
-use Rattle.osi_tap.proofs.no_break_was_before_the_first.{marked_past}
-use Rattle.osi_watched.specs.Bounded.{AreMomentsOf, IsCourseOf, IsMomentOf, comes_within}
+use Rattle.osi_tap.specs.Courses.{fresh}
+use Rattle.osi_tap.specs.Tapping.{begin}
 use Rattle.osi_watched.proofs.what_passes_keeps_a_claim_on_two_courses.{IsClaim, after_kept}
 use Rattle.osi_watched.proofs.sessions.after_too_many_nobody_is_to_blame.{NoneIsToBlame, none_begins}
 use Rattle.osi_watched.proofs.sessions.connections_have_the_same_places.{marked_leaves, marked_traffic, unit_joins, unit_knows}
@@ -85,8 +74,7 @@ module _ (d : Direction) (past : List Moment) (s : Sessions) (wholes : List Mome
     clean = λ all.
         let (front, last) = clean_parts d wholes n all in
         let before = h.clean front in
-        let now = moment_clean before.1 last in
-        (clean_then d past m before.0 now, now.sessions);
+        grind (arith, moment_clean, clean_then);
     broken = λ all. by (broken_parts d wholes n all);
   }
     where
@@ -153,8 +141,7 @@ module _ (most : ℕ) (d : Direction) where
     passes_within = record {
       traffic = unit_knows e at v c ∙ ap (λ (x : Outcome). x.state) told_same ∙ sym (unit_knows e at v w);
       marks = marks_so;
-      sessions = subst (λ (s : Sessions). AreBounded most s (unit_passes e at v w).sessions) (sym (unit_joins e at v c))
-          (subst (λ (s : Sessions). AreBounded most (then_joined e at v c) s) (sym (unit_joins e at v w)) joined_so);
+      sessions = grind (arith, unit_joins, then_joined, joined_so);
       past = past_so;
       no_worse = worse_so;
     }

@@ -1,35 +1,17 @@
 -- With a break of the other side in class 0, an end and a tap begin to go on as if it had not come, for the end takes no packet of it; and
 -- so they go on, step by step.
 -- For the law that no session of an end is to blame after such a break.
-use Rattle.std.proofs.Common.{◌≡◌, ◌∙◌, inl, inr, refl, sym, ap, subst, ℕ, ◌^◌, ◌<◌, ◌≤◌, Bool, true, false, List, [], ◌∷◌, ◌++◌, map}
-use Rattle.std.proofs.Common.{length, Some, arith, append_assoc, Result, Ok}
-use Rattle.std.specs.List.{AllByRecursion}
-use Rattle.std.proofs.lemmas.List.{append-nil}
-use Rattle.osi_tpkt.specs.Octets.{IsOctets}
-use Rattle.osi_tpdu.specs.Packet.{units_of}
-use Rattle.osi_tpdu.specs.Value.{Value, data0}
-use Rattle.osi_tpdu.specs.Writing.{written}
-use Rattle.osi_tpdu.specs.declared.faults.TpduFault.{TpduFault}
-use Rattle.osi_class.specs.declared.terms.Class.{Class}
-use Rattle.osi_class.specs.declared.terms.Class.TheVariants.{Zero}
-use Rattle.osi_class.specs.declared.terms.Local.{Local}
-use Rattle.osi_judge.specs.Captures.{other}
-use Rattle.osi_judge.specs.declared.directions.Direction.{Direction}
+use Rattle.osi_watched.proofs.Vocabulary.{◌≡◌, ◌∙◌, inl, inr, refl, sym, ap, subst, ℕ, ◌^◌, ◌<◌, ◌≤◌, Bool, true, false, List, [], ◌∷◌}
+use Rattle.osi_watched.proofs.Vocabulary.{◌++◌, map, length, Some, arith, append_assoc, Result, Ok, AllByRecursion, append-nil, IsOctets}
+use Rattle.osi_watched.proofs.Vocabulary.{units_of, Value, data0, written, TpduFault, Class, Zero, Local, other, Direction, is_applied}
+use Rattle.osi_watched.proofs.Vocabulary.{class_for, takes, side_zero, Deeds, AreHard, IsHard, Known, Cause, unit_passes, units_pass}
+use Rattle.osi_watched.proofs.Vocabulary.{unread, way_of, Joint, Step, Steps, begins_other, begins_own, passes_other, passes_own, turns}
+use Rattle.osi_watched.proofs.Vocabulary.{calls_from, IsNoPacket, IsUnread, LaterAlong, LaterSteps, spoilt}
 use Rattle.osi_rules.specs.declared.courses.Course.{Course as Judging}
 use Rattle.osi_rules.specs.declared.findings.Reach.TheVariants as reach
-use Rattle.osi_rules.specs.Reaches.{is_applied}
-use Rattle.osi_rules.specs.Traffic.{class_for, takes}
-use Rattle.osi_fair.specs.Pieces.{units_by, units_in}
+use Rattle.osi_fair.specs.Pieces.{units_in}
 use Rattle.osi_fair.specs.Wholes as wholes
-use Rattle.osi_fair.proofs.the_end_is_judged_as_the_other_side_is.{side_zero}
-use Rattle.osi_honest.specs.Courses.{Deeds}
-use Rattle.osi_honest.proofs.class_0.what_class_0_does_not_take_ends_the_end.{AreHard, IsHard}
-use Rattle.osi_honest.proofs.courses.what_sessions_hear_of_it.{Known}
-use Rattle.osi_tap.specs.declared.marks.Cause.{Cause}
-use Rattle.osi_tap.specs.Courses.{Course as Passed, unit_passes, units_pass, unread, way_of}
-use Rattle.osi_watched.specs.Joint.{Joint, Step, Steps, begins_other, begins_own, passes_other, passes_own, turns}
-use Rattle.osi_watched.specs.Shown.{calls_from}
-use Rattle.osi_watched.specs.Spoilt.{IsNoPacket, IsUnread, LaterAlong, LaterSteps, spoilt}
+use Rattle.osi_tap.specs.Courses.{Course as Passed}
 use Rattle.osi_watched.proofs.a_break_ends_no_judging_or_all.{reach_so, refuses}
 use Rattle.osi_watched.proofs.an_end_that_is_judged_alone_stays_so.{later_kept}
 use Rattle.osi_watched.proofs.in_class_0_one_side_alone_is_judged.{IsAlone}
@@ -119,17 +101,10 @@ module _ (known : Known) (barred : Class) (d : Direction) (local : Local)
       where
         by : (f : List Value) → front ≡ f → Kind v → IsHardFor d c octets
         by (u ∷ f) is any =
-            inl (λ begun. subst (AreHard begun) (sym (read_as (u ∷ f) is))
-            (followed_hard u (leads_off u f v back octets all (read_as (u ∷ f) is)).followed.0 begun))
+            inl (grind (arith, followed_hard, read_as (u ∷ f) is, leads_off u f v back octets all (read_as (u ∷ f) is)))
         by [] is (is_hard hard) = inl (λ begun. subst (AreHard begun) (sym (read_as [] is)) (hard begun))
         by [] is (is_data end user it) =
-            inr (record {
-              end = end;
-              user = user;
-              rest = back;
-              read = read_as [] is ∙ ap (λ (x : Value). Ok (x ∷ back)) it;
-              long = long_so end user it;
-            })
+            inr (grind (arith, read_as [] is, long_so end user it))
 
     -- what there is without it: what passed before, and of its packet the units before it
     record Before (w : Joint) : Type 0 where
@@ -147,8 +122,7 @@ module _ (known : Known) (barred : Class) (d : Direction) (local : Local)
         let s = still_units known barred d local fair fair_alone Inv k has_begun at back (unit_passes (other d) at v c) c (record {
           beside = beside_break d at v c zero (goes_so (other d) c judged) unapplied side;
           alone = alone;
-          few = (few_claim (other d)).passes (other d) at v c (units_kept (AreFew (other d)) (few_claim (other d)) (other d) at front
-              old.course g.few);
+          few = (few_claim (other d)).passes (other d) at v c (grind (arith, units_kept, few_claim));
         }) in
         let all_join : units_pass (other d) at back (unit_passes (other d) at v c) ≡ after_it =
         sym (units_join (other d) at front (v ∷ back) old.course) in
@@ -172,16 +146,7 @@ module _ (known : Known) (barred : Class) (d : Direction) (local : Local)
     unit_begins f = by front refl
       where
         by : (xs : List Value) → front ≡ xs → AsWithout false new
-        by [] none = begins_alone f old (record {
-          goes = g;
-          holding = refl;
-          put = refl;
-          begun = refl;
-          course = ap (λ (l : List Value). units_pass (other d) at l old.course) (sym none);
-          extra = [];
-          coming = sym (append-nil old.coming);
-          followed = tt;
-        })
+        by [] none = begins_alone f old (grind (arith, append-nil))
         by (u ∷ xs) some =
             let l = leads_off u xs v back octets all (read ∙ ap (λ (f : List Value). Ok (f ++ v ∷ back)) some) in
             let front_read : units_of l.packet ≡ Ok front = leads_read (u ∷ xs) l ∙ ap (λ (f : List Value). Ok f) (sym some) in
@@ -194,8 +159,7 @@ module _ (known : Known) (barred : Class) (d : Direction) (local : Local)
               course = refl;
               extra = l.packet ∷ [];
               coming = refl;
-              followed = subst (AllByRecursion MayBeFollowed)
-                  (sym (append-nil (units_by (units_of l.packet)) ∙ ap units_by front_read ∙ some)) l.followed;
+              followed = grind (arith, append-nil);
             })
 
   -- ---- what can't be read

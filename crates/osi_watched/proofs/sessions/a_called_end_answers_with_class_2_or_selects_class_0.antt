@@ -1,15 +1,12 @@
 -- As long as both sides are judged and class 0 is not selected at the tap, each CC that a called end has put and that has not passed
 -- selects class 2; or the end has selected class 0, and the CC that says so is the first unit that waits.
 -- For all connections of a called end and a tap.
-use Rattle.std.proofs.Common.{arith}
 use Rattle.osi_watched.proofs.Vocabulary.{false, inr, subst, sym, ◌⊎◌, AllByRecursion, Local, Traffic, CanBeWritten, lines, selected}
-use Rattle.osi_watched.proofs.Vocabulary.{selecting, Selecting, Joint, HaveSamePlaces}
+use Rattle.osi_watched.proofs.Vocabulary.{selecting, Selecting, Joint, HaveSamePlaces, arith, Stage, IsOngoing}
 use Rattle.osi_judge.specs.declared.directions.Direction.TheVariants as side
 use Rattle.osi_fair.specs.Wholes.{begin}
-use Rattle.osi_fair.proofs.a_called_end_is_fair.{Stage}
 use Rattle.osi_watched.proofs.steps_are_events.{IsFollowed}
 use Rattle.osi_watched.proofs.sessions.a_called_end_has_its_lines.{called_joined}
-use Rattle.osi_fair.proofs.what_the_other_side_closes.{IsOngoing}
 use Rattle.osi_watched.proofs.sessions.each_cc_of_a_called_end_opens_another_connection.{put_answers_two}
 use Rattle.osi_watched.proofs.sessions.units_written_alike_have_the_same_ccs.{AnswersTwo, two_alike}
 

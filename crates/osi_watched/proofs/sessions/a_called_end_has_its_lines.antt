@@ -1,15 +1,11 @@
 -- A called end that has not selected class 0, and that runs along with an end and a tap, has its lines as long as both sides are judged.
 -- For the units that a called end puts.
-use Rattle.std.proofs.Common.{arith}
 use Rattle.osi_watched.proofs.Vocabulary.{ap, false, is_some, None, Some, subst, sym, ◌∙◌, ◌≡◌, Zero, Local, Carrier, Traffic, Called}
-use Rattle.osi_watched.proofs.Vocabulary.{IsCalm, Whole, Joint}
+use Rattle.osi_watched.proofs.Vocabulary.{IsCalm, Whole, Joint, arith, Stage, all_joined, AreNamedApart, over, none_of}
 use Rattle.osi_judge.specs.declared.directions.Direction.TheVariants as side
 use Rattle.osi_rules.specs.declared.directions.Direction.TheVariants as way
 use Rattle.osi_fair.specs.Wholes.{begin}
-use Rattle.osi_fair.proofs.a_called_end_is_fair.{Joined, Stage, all_joined, first_joined}
-use Rattle.osi_fair.proofs.names_stay_apart_though_one_is_lost.{AreNamedApart}
-use Rattle.osi_fair.proofs.what_an_end_does_in_class_zero.{over}
-use Rattle.osi_fair.proofs.small_facts_that_many_lemmas_use.{none_of}
+use Rattle.osi_fair.proofs.a_called_end_is_fair.{Joined, first_joined}
 use Rattle.osi_watched.proofs.steps_are_events.{IsFollowed}
 
 -- ---- the lines

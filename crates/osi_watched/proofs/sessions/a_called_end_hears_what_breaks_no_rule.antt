@@ -2,17 +2,15 @@
 -- and after any other unit what is left over at a connection that is judged stays. So all its connections stand after a packet of the
 -- other side; and nobody of the end is to blame at those that have lost their judgement.
 -- For all connections of an end and a tap.
-use Rattle.std.proofs.Common.{arith}
-use Rattle.osi_watched.proofs.Vocabulary.{[], append_assoc, Bool, false, List, None, Option, refl, Some, subst, sym, true, ℕ, ◌++◌, ◌∷◌}
-use Rattle.osi_watched.proofs.Vocabulary.{◌≡◌, append-nil, AllByRecursion, slice_get, acknowledge, confirm, data0, data2, destination_of}
-use Rattle.osi_watched.proofs.Vocabulary.{disconnect, disconnected, error, request, Value, Class, Zero, is_applied, reach_of, is_refused}
-use Rattle.osi_watched.proofs.Vocabulary.{class_for, found_on, is_stopped, takes, Traffic as State, Connection, Broke, Rule, Left, Right}
-use Rattle.osi_watched.proofs.Vocabulary.{Deeds, Joined, Sessions, unit_passes, units_pass, judged_same}
+use Rattle.osi_watched.proofs.Vocabulary.{[], append_assoc, Bool, false, List, None, refl, Some, subst, sym, true, ℕ, ◌++◌, ◌∷◌, ◌≡◌}
+use Rattle.osi_watched.proofs.Vocabulary.{append-nil, AllByRecursion, slice_get, acknowledge, confirm, data0, data2, destination_of}
+use Rattle.osi_watched.proofs.Vocabulary.{disconnect, disconnected, error, request, Value, Zero, is_applied, is_refused, class_for}
+use Rattle.osi_watched.proofs.Vocabulary.{found_on, is_stopped, takes, Traffic as State, Connection, Broke, Left, Right, Deeds, Joined}
+use Rattle.osi_watched.proofs.Vocabulary.{Sessions, unit_passes, units_pass, judged_same, arith, Course}
 use Rattle.osi_rules.specs.declared.directions.Direction.{Direction as Way}
 use Rattle.osi_rules.specs.declared.directions.Direction.TheVariants as way
 use Rattle.osi_rules.specs.declared.findings.Reach.TheVariants as reach
 use Rattle.osi_rules.specs.declared.findings.Rule.TheVariants as rule
-use Rattle.osi_tap.specs.Courses.{Course}
 use Rattle.osi_watched.proofs.a_break_ends_no_judging_or_all.{takes_reach}
 use Rattle.osi_watched.proofs.sessions.a_dt_that_is_no_break_is_right.{found_two}
 use Rattle.osi_watched.proofs.sessions.a_unit_after_a_dr_leaves_all_standing.{after_keeps}
@@ -48,10 +46,6 @@ AreFine at [] c = Unit {0}
 AreFine at (v ∷ vs) c = IsHeardOn v c × AreFine at vs (unit_passes Left at v c)
 
 -- ---- a DT without an effect, after which its connection is judged, comes after a DR
-
-only_closed : (k : Option Class) (r : Rule) → (k ≡ Some Zero → ⊥) → is_applied (Broke r) ≡ false →
-    (reach_of k (Broke r) ≡ reach.Everything → ⊥) → (reach_of k (Broke r) ≡ reach.Connection → ⊥) → r ≡ rule.Closed
-only_closed k r two none all part = search arith
 
 pub dt_closed : (d : Way) (n number : ℕ) (end : Bool) (user : List ℕ) (s : State) (e : Connection) → e.is_judged ≡ true →
     (takes d (data2 n number end user) s).told.finding ≡ found_on d s e (data2 n number end user) →
@@ -191,7 +185,4 @@ module _ (deeds : ℕ → Deeds) (is_live : ℕ → Bool) (put : List Value) (be
   units_heard [] coming c fine h = grind (arith, append-nil)
   units_heard (v ∷ vs) coming c (one, more) h =
       let next = units_heard vs (coming ++ v ∷ []) (unit_passes Left at v c) more (one_heard coming v c one h) in
-      record {
-        all = subst (λ (l : List Value). AreHeard l (units_pass Left at (v ∷ vs) c)) (append_assoc coming (v ∷ []) vs) next.all;
-        below = (heard_below coming v c one h, next.below);
-      }
+      grind (arith, append_assoc, heard_below)

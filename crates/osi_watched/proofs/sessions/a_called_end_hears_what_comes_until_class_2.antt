@@ -1,25 +1,13 @@
 -- Until class 2 is selected all connections of a called end stand at a tap as units of the other side pass: CRs and DCs, and in class 0
 -- DTs for its one connection. For the session of the connection of a called end in class 0.
-use Rattle.std.proofs.Common.{arith, ◌≡◌, ◌∙◌, refl, sym, ap, subst, ℕ, ◌<◌, Bool, true, false, if◌then◌else◌, List, [], ◌∷◌, ◌++◌, Option}
-use Rattle.std.proofs.Common.{Some, None, append_assoc}
-use Rattle.std.specs.Prelude.{not}
-use Rattle.std.specs.List.{AllByRecursion, list_all}
-use Rattle.std.proofs.lemmas.List.{append-nil}
-use Rattle.osi_tpdu.specs.Value.{Connect, Value, acknowledge, confirm, data0, data2, disconnect, disconnected, error, request}
-use Rattle.osi_class.specs.Runs.{unit_parts}
-use Rattle.osi_class.specs.Tsdus.{Part}
-use Rattle.osi_class.specs.declared.terms.Class.{Class}
-use Rattle.osi_class.specs.declared.terms.Class.TheVariants.{Zero}
+use Rattle.osi_watched.proofs.Vocabulary.{arith, ◌≡◌, ◌∙◌, refl, sym, ap, subst, ℕ, ◌<◌, Bool, true, false, if◌then◌else◌, List, [], ◌∷◌}
+use Rattle.osi_watched.proofs.Vocabulary.{◌++◌, Option, Some, None, append_assoc, not, AllByRecursion, list_all, append-nil, Connect, Value}
+use Rattle.osi_watched.proofs.Vocabulary.{acknowledge, confirm, data0, data2, disconnect, disconnected, error, request, unit_parts, Part}
+use Rattle.osi_watched.proofs.Vocabulary.{Class, Zero, Left, Right, is_over, State, is_stopped, takes, left_class, Deeds, taken, Course}
+use Rattle.osi_watched.proofs.Vocabulary.{unit_passes, units_pass}
 use Rattle.osi_carrier.specs.State.{State as Carrier}
-use Rattle.osi_judge.specs.declared.directions.Direction.TheVariants.{Left, Right}
 use Rattle.osi_rules.specs.declared.directions.Direction.TheVariants as way
 use Rattle.osi_rules.specs.declared.findings.Rule.TheVariants as rule
-use Rattle.osi_rules.specs.Sides.{is_over, is_refused}
-use Rattle.osi_rules.specs.Traffic.{State, is_stopped, takes}
-use Rattle.osi_fair.proofs.left_selects_no_class.{left_class}
-use Rattle.osi_honest.specs.Courses.{Deeds}
-use Rattle.osi_tap.specs.Connections.{taken}
-use Rattle.osi_tap.specs.Courses.{Course, unit_passes, units_pass}
 use Rattle.osi_watched.proofs.what_a_taker_passes_over.{IsMild}
 use Rattle.osi_watched.proofs.sessions.a_calling_end_hears_what_comes_until_class_2.{IsNotTwo}
 use Rattle.osi_watched.proofs.sessions.a_dt_of_class_0_has_one_place.{is_live_there}
@@ -166,12 +154,7 @@ module _ (deeds : ℕ → Deeds) (r : ℕ) (end : Carrier) (put : List Value) (b
       still_so (disconnected n source) e a class = tt
       still_so (request x) e a class =
           let z = is_zero Right c.traffic h.sure k.right.firm k.firm class in
-          let over = all_so (is_over way.Left) c.traffic.connections z.only.place z.only.connection
-          (all_over c.traffic k.right.goes seen x
-          (subst (λ (w : Value). IsMild w (takes way.Left w c.traffic).told.finding) (sym e) k.right.mild)) z.only.there in
-          differ (is_over way.Left z.only.connection) over
-          (not_true (is_over way.Left z.only.connection)
-          (is_live_there c.traffic h.all.judged k.right.firm h.all.apart z.only way.Left))
+          grind (arith, all_so, all_over, differ, not_true, is_live_there c.traffic h.all.judged k.right.firm h.all.apart z.only way.Left)
       still_so (confirm n x) e a class = absurd a
       still_so (disconnect n source reason user) e a class = absurd a
       still_so (data0 last user) e a class = absurd a
@@ -187,8 +170,7 @@ module _ (deeds : ℕ → Deeds) (r : ℕ) (end : Carrier) (put : List Value) (b
         uncalled = uncalled_claim.passes Left at v c h.uncalled;
         asking = λ none. all_of_both IsAsking coming (v ∷ []) (h.asking (sym (class_was v c) ∙ none)) (grind (arith, only_asking), tt);
         plain = all_of_both IsNoCc coming (v ∷ []) h.plain (asking_plain v (grind (arith, only_asking)), tt);
-        zero = λ e.
-            let class = sym (class_was v c) ∙ e in still_one (still_so v refl (grind (arith, only_asking)) class) (h.zero class);
+        zero = grind (arith, still_one, still_so, only_asking, class_was v c);
       }
 
     -- ---- left knows class 0
@@ -212,8 +194,7 @@ module _ (deeds : ℕ → Deeds) (r : ℕ) (end : Carrier) (put : List Value) (b
       place_is p i last user told apart same =
           let here : Some is_z.only.place ≡ Some p =
           sym (told_there Right Left deeds (known coming) put begun last user c.traffic c.sessions h.all is_z) ∙ told in
-          differ (is_refused one.connection.right.phase)
-          (is_z.only.others one.place one.connection one.there (λ e. apart (same ∙ e ∙ same_place is_z.only.place p here))) one.up
+          grind (arith, differ, one, is_z, same_place)
 
       grows : (last : Bool) (user : List ℕ) →
           GrowsThere Right (known coming) (known (coming ++ data0 last user ∷ [])) last user c.traffic c.sessions

@@ -1,54 +1,22 @@
 -- A called end of class 2 is ready for each CC that passes: what waits after it is all that was put at its connection, nothing was taken
 -- there, nothing in flight is for it, and its reference is new. Each step keeps it so, also if a connection has lost its judgement.
 -- For all connections of an end and a tap.
-use Rattle.std.proofs.Common.{◌≡◌, ◌∙◌, ◌⊎◌, inl, inr, refl, sym, ap, subst, ℕ, ◌<◌, ◌≤◌, Bool, true, false, List, [], ◌∷◌, ◌++◌, Some}
-use Rattle.std.proofs.Common.{None, Option, IsSome, arith, if◌then◌else◌, is_some}
-use Rattle.std.specs.Prelude.{slice_get}
-use Rattle.std.proofs.lemmas.Bool.{leb-false, leb-true}
-use Rattle.std.specs.List.{AllByRecursion}
-use Rattle.std.proofs.lemmas.List.{append-nil}
-use Rattle.osi_tpdu.specs.Packet.{units_of}
-use Rattle.osi_tpdu.specs.Value.{Value, acknowledge, confirm, data0, data2, disconnect, disconnected, error, request}
-use Rattle.osi_class.specs.declared.terms.Class.{Class}
-use Rattle.osi_class.specs.declared.terms.Class.TheVariants.{Two, Zero}
-use Rattle.osi_class.specs.declared.terms.Local.{Local}
-use Rattle.osi_class.specs.Link.{Standing}
-use Rattle.osi_carrier.specs.Calls.{link_of}
-use Rattle.osi_carrier.specs.Rows.{value_at}
+use Rattle.osi_watched.proofs.Vocabulary.{◌≡◌, ◌∙◌, ◌⊎◌, inl, inr, refl, sym, ap, subst, ℕ, ◌<◌, ◌≤◌, Bool, true, false, List, [], ◌∷◌}
+use Rattle.osi_watched.proofs.Vocabulary.{◌++◌, Some, None, Option, IsSome, arith, if◌then◌else◌, is_some, slice_get, leb-false, leb-true}
+use Rattle.osi_watched.proofs.Vocabulary.{AllByRecursion, append-nil, units_of, Value, acknowledge, confirm, data0, data2, disconnect}
+use Rattle.osi_watched.proofs.Vocabulary.{disconnected, error, request, Class, Two, Zero, Local, Standing, link_of, value_at, EndReason}
+use Rattle.osi_watched.proofs.Vocabulary.{Right, Connection, is_refused, has_given, Holding, Whole, picked_join, picked_rest, AreApart}
+use Rattle.osi_watched.proofs.Vocabulary.{Continues, Deeds, no_deeds, then_did, units_in, units_read, units_taken, Marked, all_units}
+use Rattle.osi_watched.proofs.Vocabulary.{units_at, IsFresh, Turn, over_acts, AllProper, Life, WhenPast, amid, early, past, stage_at}
+use Rattle.osi_watched.proofs.Vocabulary.{stage_by, stage_is, stage_over, all_units_more, taken_more, CanBeWritten, Sessions, Course, Joint}
+use Rattle.osi_watched.proofs.Vocabulary.{Steps, TakesTurn, begin, begins_other, begins_own, passes_other, passes_own, parts_of}
+use Rattle.osi_watched.proofs.Vocabulary.{HaveSamePlaces, differ, above_up, IsOngoing}
 use Rattle.osi_carrier.specs.State.{Connection as Live, State as Carrier, asked}
-use Rattle.osi_carrier.specs.declared.ends.EndReason.{EndReason}
-use Rattle.osi_judge.specs.declared.directions.Direction.TheVariants.{Right}
-use Rattle.osi_rules.specs.Traffic.{State}
-use Rattle.osi_rules.specs.declared.connections.Connection.{Connection}
-use Rattle.osi_rules.specs.Sides.{is_refused}
-use Rattle.osi_stack.specs.Calls.{has_given}
-use Rattle.osi_stack.specs.State.{Holding}
-use Rattle.osi_fair.specs.Wholes.{Whole}
 use Rattle.osi_fair.specs.Wholes as wholes
-use Rattle.osi_fair.proofs.which_units_are_for_a_connection.{picked_join, picked_rest}
-use Rattle.osi_honest.specs.Arriving.{AreApart}
-use Rattle.osi_honest.specs.Courses.{Continues, Deeds, no_deeds, then_did, units_in, units_read, units_taken}
-use Rattle.osi_honest.specs.Marked.{Marked, all_units, units_at}
-use Rattle.osi_honest.specs.Seeing.{IsFresh}
-use Rattle.osi_honest.specs.Turns.{Turn}
-use Rattle.osi_honest.proofs.class_0.what_a_call_does_in_class_0.{over_acts}
-use Rattle.osi_honest.proofs.class_0.what_a_packet_does_in_class_0.{AllProper}
-use Rattle.osi_honest.proofs.courses.how_long_a_connection_is_open.{Life, Stage, WhenPast, amid, early, past, stage_at, stage_by}
-use Rattle.osi_honest.proofs.courses.how_long_a_connection_is_open.{stage_is, stage_over}
-use Rattle.osi_honest.proofs.courses.units_of_each_connection.{all_units_more}
-use Rattle.osi_honest.proofs.courses.what_calls_of_a_link_say.{taken_more}
-use Rattle.osi_honest.proofs.reading.what_is_written_is_read_again.{CanBeWritten}
-use Rattle.osi_tap.specs.Connections.{Sessions}
-use Rattle.osi_tap.specs.Courses.{Course}
-use Rattle.osi_watched.specs.Joint.{Joint, Steps, TakesTurn, begin, begins_other, begins_own, passes_other, passes_own}
-use Rattle.osi_watched.specs.Shown.{parts_of}
-use Rattle.osi_watched.specs.ShownPlaces.{HaveSamePlaces}
-use Rattle.osi_fair.proofs.small_facts_that_many_lemmas_use.{differ}
-use Rattle.osi_fair.proofs.what_becomes_of_a_called_end.{above_up}
+use Rattle.osi_honest.proofs.courses.how_long_a_connection_is_open.{Stage}
 use Rattle.osi_watched.proofs.a_carrier_does_events.{none_of}
 use Rattle.osi_watched.proofs.small_facts_that_many_lemmas_use.{amid_not, given_so, past_not}
 use Rattle.osi_watched.proofs.steps_are_events.{IsFollowed, begin_followed}
-use Rattle.osi_fair.proofs.what_the_other_side_closes.{IsOngoing}
 use Rattle.osi_watched.proofs.sessions.a_called_end_of_class_2_has_its_lines.{HasLines, has_lines}
 use Rattle.osi_watched.proofs.sessions.a_called_end_of_class_2_puts_no_dt_of_class_0.{called_turn_two}
 use Rattle.osi_watched.proofs.sessions.a_calling_end_takes_what_is_in_flight.{early_lasts}
@@ -171,9 +139,7 @@ module _ (local : Local) where
       let lasts = none_of f.whole.end.ended (sym f.like.over ∙ ap is_some (early_lasts r j.holding.end.carrier may)) in
       let there : stage_at r f.whole.end ≡ early = ap (stage_at r) (f.like.lasts lasts) ∙ may in
       let given = early_not_given r f.whole.end lasts (has_lines local j f can h.two clear).end.none there in
-      let over = above_given r f.whole.end some given in
-      let most = above_up f.whole.end.given h.ahead.bound f.whole.put h.ahead.above in
-      omega (arith, over, most)
+      grind (arith, above_given, above_up)
 
   -- ---- a unit that passes
 
@@ -189,13 +155,9 @@ module _ (local : Local) where
       let none = h.unheard x.source less in (
         λ p j place here.
             let (c, there) = there_too old.course.traffic.connections old.course.sessions.live p j places here in
-            let named_so = joined_any Right (confirm m x) old.course m p c j places refl place there (known p c there) here in
-            all ∙ ap (λ (o : Option ℕ). waiting_for o new.put) (sym named_so),
+            grind (arith, waiting_for, joined_any Right (confirm m x) old.course m p c j places refl place there (known p c there) here),
         parts_taken (deeds x.source).calls ∙ ap parts_of none,
-        (
-          omega (arith, less),
-          λ live. left_empty x.source (units_in old.coming) (none_waits h.ahead.bound x.source (units_in old.coming) less h.below),
-        ),
+        search (arith, left_empty, none_waits),
       )
   is_ready deeds at (request x) old new step places known h = tt
   is_ready deeds at (disconnect n source reason user) old new step places known h = tt
@@ -211,16 +173,15 @@ module _ (local : Local) where
   still : (deeds : ℕ → Deeds) (old new : Joint) (h : IsCalled deeds old) (g : GoesOn first h.ahead.bound new) → new.put ≡ old.put →
       AllByRecursion (IsBelow h.ahead.bound) (units_in new.coming) → IsCalled deeds new
   still deeds old new h g same below =
-      let rises = g.rises in
       record {
         ahead = g.ahead;
         below = below_higher h.ahead.bound g.ahead.bound (units_in new.coming) g.rises below;
-        unheard = λ r less. h.unheard r (omega (arith, less, rises));
+        unheard = λ r less. h.unheard r (omega (arith, less));
         waits = λ n r has.
             h.waits n r (subst (HasCc n r) same has) ∙ ap (waiting_for (Some n)) (sym same);
         spent = λ r less.
             subst (λ (l : List Value). ((deeds r).put ≡ []) ⊎ ((n : ℕ) × HasCc n r l)) (sym same)
-            (h.spent r (omega (arith, less, rises)));
+            (h.spent r (omega (arith, less)));
         ordered = subst AreOrdered (sym same) h.ordered;
         two = subst (AllByRecursion AnswersTwo) (sym same) h.two;
       }
@@ -246,10 +207,7 @@ module _ (local : Local) where
       let one : units_in (packet ∷ []) ≡ units = append-nil (units_read (units_of packet)) ∙ ap units_read step.1 in
       still deeds old new h (passes_other_ahead first proper at packet units old new step h.ahead up)
       (ap (λ (j : Joint). j.put) step.2)
-      (subst (λ (j : Joint). AllByRecursion (IsBelow h.ahead.bound) (units_in j.coming)) (sym step.2)
-      (subst (AllByRecursion (IsBelow h.ahead.bound))
-      (sym (units_join old.coming (packet ∷ []) ∙ ap (λ (l : List Value). units_in old.coming ++ l) one))
-      (all_of_both (IsBelow h.ahead.bound) (units_in old.coming) units h.below below)))
+      (grind (arith, units_join, all_of_both))
 
   spent_next : (deeds : Deeds) (b r : ℕ) (unit : Value) (rest : List Value) → IsUpTo Right b unit → b < r →
       (deeds.put ≡ []) ⊎ ((n : ℕ) × HasCc n r (unit ∷ rest)) → (deeds.put ≡ []) ⊎ ((n : ℕ) × HasCc n r rest)
@@ -260,21 +218,20 @@ module _ (local : Local) where
       IsCalled deeds old → IsCalled deeds new
   passes_own_called proper deeds at unit old new step places h =
       let g = passes_own_ahead first proper at unit old new step places h.ahead in
-      let rises = g.rises in
       let put = step.2 in
       let ordered : AreOrdered (unit ∷ new.put) = subst AreOrdered put h.ordered in
       record {
         ahead = g.ahead;
         below = below_higher h.ahead.bound g.ahead.bound (units_in new.coming) g.rises
             (subst (λ (j : Joint). AllByRecursion (IsBelow h.ahead.bound) (units_in j.coming)) (sym step.4) h.below);
-        unheard = λ r less. h.unheard r (omega (arith, less, rises));
+        unheard = λ r less. h.unheard r (omega (arith, less));
         waits = λ n r has.
             h.waits n r (subst (HasCc n r) (sym put) (inr has)) ∙ ap (waiting_for (Some n)) put
             ∙ picked_rest (is_for (Some n)) unit new.put (not_so (is_for (Some n) unit) (λ e. ordered.0 n r e has));
         spent = λ r less.
             spent_next (deeds r) g.ahead.bound r unit new.put g.gives less
             (subst (λ (l : List Value). ((deeds r).put ≡ []) ⊎ ((n : ℕ) × HasCc n r l)) put
-            (h.spent r (omega (arith, less, rises))));
+            (h.spent r (omega (arith, less))));
         ordered = ordered.1;
         two = (subst (AllByRecursion AnswersTwo) put h.two).1;
       }
@@ -338,8 +295,7 @@ module _ (local : Local) where
     turn_ordered =
         ordered_alike g.ahead.followed.whole.put new.put alike_new
         (put_ordered local g.ahead.followed.whole new.course.sessions after.called after.apart after.named
-        (subst (λ (s : State). HaveSamePlaces s.connections new.course.sessions.live) (sym g.ahead.followed.tap)
-        (subst (λ (c : Course). HaveSamePlaces c.traffic.connections c.sessions.live) (sym t.course) places)))
+        (grind (arith, g)))
 
     put_more : (n r : ℕ) → HasCc n r new.put → (on.more r).put ≡ waiting_for (Some n) (all_units on.put)
     put_more n r has = search (arith, puts_for, g, before, after, no_cc, alike_old, alike_new, home_low, above_old)
@@ -380,21 +336,7 @@ module _ (local : Local) where
           let l = on.lives r some in
           let none : waiting_for (Some r) (all_units on.took ++ (s.left ++ units_in new.coming)) ≡ [] =
           ap (waiting_for (Some r)) (sym s.coming) ∙ none_waits h.ahead.bound r (units_in old.coming) less h.below in
-          let took : waiting_for (Some r) (all_units on.took) ≡ [] =
-          (none_both (waiting_for (Some r) (all_units on.took)) (waiting_for (Some r) (s.left ++ units_in new.coming))
-          (sym (picked_join (is_for (Some r)) (all_units on.took) (s.left ++ units_in new.coming)) ∙ none)).0 in
-          let later = l.arrived.during ++ l.arrived.after in
-          let parts : all_units on.took ≡ all_units l.arrived.before ++ (all_units l.arrived.during ++ all_units l.arrived.after) =
-          ap all_units l.arrived.is ∙ all_units_more l.arrived.before later
-          ∙ ap (λ (x : List Value). all_units l.arrived.before ++ x) (all_units_more l.arrived.during l.arrived.after) in
-          let back = (none_both (waiting_for (Some r) (all_units l.arrived.before))
-          (waiting_for (Some r) (all_units l.arrived.during ++ all_units l.arrived.after))
-          (sym (picked_join (is_for (Some r)) (all_units l.arrived.before) (all_units l.arrived.during ++ all_units l.arrived.after))
-          ∙ ap (waiting_for (Some r)) (sym parts) ∙ took)).1 in
-          during_taken r on.took l.arrived.before l.arrived.during l.arrived.after l.arrived.is l.arrived.none_before l.takes
-          l.arrived.none_after
-          ∙ (none_both (waiting_for (Some r) (all_units l.arrived.during)) (waiting_for (Some r) (all_units l.arrived.after))
-          (sym (picked_join (is_for (Some r)) (all_units l.arrived.during) (all_units l.arrived.after)) ∙ back)).0
+          grind (arith, waiting_for, none_both, picked_join, is_for, all_units_more, during_taken)
       taken_by (Some reason) over = grind (arith, past_none, stage_at, stage_over, some)
 
       turn_unheard : units_taken (then_did (deeds r) (on.more r)).calls ≡ []
@@ -414,8 +356,7 @@ module _ (local : Local) where
       turn_spent : ((then_did (deeds r) (on.more r)).put ≡ []) ⊎ ((n : ℕ) × HasCc n r new.put)
       turn_spent =
           spent_by (h.spent r less)
-          (named local deeds turn old new t on f g.ahead.followed before after no_cc places units alike_old alike_new r some
-          (on.lives r some))
+          (search (arith, named, g, before, after, no_cc, alike_old, alike_new, some))
 
     -- ---- each unit of the turn has a home
 
@@ -439,8 +380,7 @@ module _ (local : Local) where
             (called_turn_two local deeds turn old new t on g.ahead.followed after.called) no_cc
         by (Some reason) gone =
             let done = over_acts turn old.holding new.holding (subst IsSome (sym gone) refl) t.takes in
-            subst (AllByRecursion (IsMarked Right old.course.traffic old.course.sessions)) (sym (none_put on.put (sym on.written ∙ done.1)))
-            tt
+            grind (arith, none_put)
 
     -- ---- all of it
 
@@ -450,8 +390,7 @@ module _ (local : Local) where
         record {
           ahead = g.ahead;
           below = below_higher h.ahead.bound g.ahead.bound (units_in new.coming) g.rises
-              (all_back (IsBelow h.ahead.bound) (units_in t.used) (units_in new.coming)
-              (subst (AllByRecursion (IsBelow h.ahead.bound)) (turn_leaves turn old new t) h.below));
+              (grind (arith, all_back, turn_leaves turn old new t));
           unheard = λ r less. turn_unheard r (omega (arith, less, rises));
           waits = turn_waits;
           spent = λ r less. turn_spent r (omega (arith, less, rises));

@@ -1,14 +1,11 @@
 -- A called end of which no CC that waits selects class 0 has its lines as long as both sides are judged, also when it is over.
 -- For the units that a called end puts.
-use Rattle.std.proofs.Common.{arith}
-use Rattle.osi_watched.proofs.Vocabulary.{false, refl, subst, sym, AllByRecursion, Zero, Local, acceptance, Traffic}
-use Rattle.osi_watched.proofs.Vocabulary.{CanBeWritten, lines, selected, selecting, Called, IsCalled, NamesApart as AreApart}
-use Rattle.osi_watched.proofs.Vocabulary.{IsOngoing, Whole, Joint}
+use Rattle.osi_watched.proofs.Vocabulary.{false, refl, subst, sym, AllByRecursion, Zero, Local, acceptance, Traffic, CanBeWritten, lines}
+use Rattle.osi_watched.proofs.Vocabulary.{selected, selecting, Called, IsCalled, NamesApart as AreApart, IsOngoing, Whole, Joint, arith}
+use Rattle.osi_watched.proofs.Vocabulary.{Stage, AreNamedApart}
 use Rattle.osi_judge.specs.declared.directions.Direction.TheVariants as side
 use Rattle.osi_rules.specs.declared.directions.Direction.TheVariants as way
 use Rattle.osi_fair.specs.Wholes.{begin}
-use Rattle.osi_fair.proofs.a_called_end_is_fair.{Stage}
-use Rattle.osi_fair.proofs.names_stay_apart_though_one_is_lost.{AreNamedApart}
 use Rattle.osi_watched.proofs.steps_are_events.{IsFollowed}
 use Rattle.osi_watched.proofs.sessions.a_called_end_has_its_lines.{called_joined}
 use Rattle.osi_watched.proofs.sessions.units_written_alike_have_the_same_ccs.{AnswersTwo, AreAlike, first_not_zero}

@@ -1,13 +1,12 @@
 -- What a called end of class 2 has put and what has not passed has no DT of class 0.
 -- For the units that a called end puts.
-use Rattle.std.proofs.Common.{arith}
 use Rattle.osi_watched.proofs.Vocabulary.{[], ap, append_assoc, false, List, map, None, Ok, Option, refl, Some, subst, sym, ℕ, ◌&&◌, ◌++◌}
-use Rattle.osi_watched.proofs.Vocabulary.{◌∙◌, ◌∷◌, ◌≡◌, AllByRecursion, slice_get, acknowledge, data0, data2, disconnected}
-use Rattle.osi_watched.proofs.Vocabulary.{Value, written, Flow, ack, part0, part2, Standing, give_out, hand_in, hand_out, Move, Moves}
-use Rattle.osi_watched.proofs.Vocabulary.{take_in, Local, Connection, Way as Direction, Continues, Deeds, all_units, Turn, answering}
-use Rattle.osi_watched.proofs.Vocabulary.{AreStrays, Called, refuses, runs, Stand, StrayIf, at_first, at_join, first_at, Placed, values}
-use Rattle.osi_watched.proofs.Vocabulary.{gives_so, takes_so, Act, Acts, ActsAlong, begins_elsewhere, ignores, Line, moves, units_put}
-use Rattle.osi_watched.proofs.Vocabulary.{Whole, Joint, TakesTurn, comes}
+use Rattle.osi_watched.proofs.Vocabulary.{◌∙◌, ◌∷◌, ◌≡◌, AllByRecursion, slice_get, acknowledge, data0, data2, disconnected, Value, written}
+use Rattle.osi_watched.proofs.Vocabulary.{Flow, ack, part0, part2, Standing, give_out, hand_in, hand_out, Move, Moves, take_in, Local}
+use Rattle.osi_watched.proofs.Vocabulary.{Connection, Way as Direction, Continues, Deeds, all_units, Turn, answering, AreStrays, Called}
+use Rattle.osi_watched.proofs.Vocabulary.{refuses, runs, Stand, StrayIf, at_first, at_join, first_at, Placed, values, gives_so, takes_so}
+use Rattle.osi_watched.proofs.Vocabulary.{Act, Acts, ActsAlong, begins_elsewhere, ignores, Line, moves, units_put, Whole, Joint, TakesTurn}
+use Rattle.osi_watched.proofs.Vocabulary.{comes, arith}
 use Rattle.osi_class.specs.Link.{taken}
 use Rattle.osi_rules.specs.declared.directions.Direction.TheVariants.{Right}
 use Rattle.osi_fair.specs.Lines.{answers, begins_other, begins_own, closes, passes_other, passes_own}
@@ -52,11 +51,7 @@ same_link a b e = cc
 act_two : (d : Direction) (r peer : ℕ) (act : Act) (old new : Line) → Acts d r peer act old new → IsOfTwo old → IsOfTwo new
 act_two d r peer (moves move) old new (link, after, is, e, short, coming, new_is) h =
     let (f, flow) = h.flows link is in
-    let m = move_two peer move link after f flow e in
-    subst IsOfTwo (sym new_is) (record {
-      flows = λ l same. (m.flow, ap (λ (k : Standing). k.flow) (sym (same_link after l same)) ∙ m.is);
-      put = all_of_both IsNotZero old.put (units_put peer move) h.put m.put;
-    })
+    grind (arith, same_link, all_of_both, move_two peer move link after f flow e)
 act_two d r peer (closes reason units) old new (link, is, coming, new_is) h = grind (arith, all_of_both)
 act_two d r peer (ignores units) old new (gone, coming, new_is) h = grind arith
 act_two d r peer (answers unit) old new (link, is, dr, coming, new_is) h = grind (arith, all_of_both)
@@ -130,9 +125,6 @@ pub called_turn_two : (local : Local) (deeds : ℕ → Deeds) (turn : Turn) (old
 called_turn_two local deeds turn old new step on g lines =
     let same : map written step.units ≡ map written (all_units on.put) =
     same_written step.units (all_units on.put) (sym step.written ∙ on.written) in
-    let alike : map written g.whole.put ≡ map written (old.put ++ all_units on.put) =
-    g.put ∙ ap (λ (l : List Value). map written l) step.put ∙ written_join old.put step.units
-    ∙ ap (λ (l : List (List ℕ)). map written old.put ++ l) same ∙ sym (written_join old.put (all_units on.put)) in
+    let alike : map written g.whole.put ≡ map written (old.put ++ all_units on.put) = grind (arith, written_join) in
     all_so (IsWrittenAs IsNotZero) IsNotZero (λ v x. written_two x.u v x.so x.same) (all_units on.put)
-    (all_back (IsWrittenAs IsNotZero) old.put (all_units on.put)
-    (written_as IsNotZero g.whole.put (old.put ++ all_units on.put) alike (called_put_two local g.whole lines)))
+    (grind (arith, all_back, written_as, called_put_two local g.whole lines))

@@ -1,38 +1,19 @@
 -- The turn in which a called end selects class 0: it puts its CC first, and opens one connection with it. Before that nothing waits, and no
 -- connection is open. For the session of the connection of a called end in class 0.
-use Rattle.std.proofs.Common.{◌≡◌, ◌∙◌, refl, sym, ap, subst, ℕ, ◌<◌, ◌≤◌, Bool, true, false, if◌then◌else◌, List, [], ◌∷◌, ◌++◌, map}
-use Rattle.std.proofs.Common.{Option, Some, None, arith, is_some, ◌-◌}
-use Rattle.std.specs.List.{AllByRecursion}
-use Rattle.osi_tpdu.specs.Value.{Connect, Value, acknowledge, confirm, data0, data2, disconnect, disconnected, error, request}
-use Rattle.osi_tpdu.specs.Writing.{written}
-use Rattle.osi_class.specs.declared.terms.Class.TheVariants.{Zero}
-use Rattle.osi_class.specs.declared.terms.Local.{Local}
-use Rattle.osi_carrier.specs.Negotiation.{acceptance, unit_octets}
+use Rattle.osi_watched.proofs.Vocabulary.{◌≡◌, ◌∙◌, refl, sym, ap, subst, ℕ, ◌<◌, ◌≤◌, Bool, true, false, if◌then◌else◌, List, [], ◌∷◌}
+use Rattle.osi_watched.proofs.Vocabulary.{◌++◌, map, Some, None, arith, is_some, ◌-◌, AllByRecursion, Connect, Value, acknowledge, confirm}
+use Rattle.osi_watched.proofs.Vocabulary.{data0, data2, disconnect, disconnected, error, request, written, Zero, Local, acceptance}
+use Rattle.osi_watched.proofs.Vocabulary.{unit_octets, Right, State, Selecting, AreAbove, IsInZero, over, zero_puts, IsClear, IsFirm}
+use Rattle.osi_watched.proofs.Vocabulary.{Continues, Deeds, then_did, units_in, all_units, Turn, AllProper, Life, amid, early, stage_at}
+use Rattle.osi_watched.proofs.Vocabulary.{stage_is, stage_there, all_units_more, CanBeWritten, Sessions, Joint, TakesTurn, parts_of}
+use Rattle.osi_watched.proofs.Vocabulary.{going_on}
 use Rattle.osi_carrier.specs.State.{State as Carrier}
-use Rattle.osi_judge.specs.declared.directions.Direction.TheVariants.{Right}
-use Rattle.osi_rules.specs.Traffic.{State}
-use Rattle.osi_fair.proofs.a_called_end_selects_class_zero.{Selecting}
-use Rattle.osi_fair.proofs.each_connection_of_a_called_end.{AreAbove}
-use Rattle.osi_fair.proofs.what_an_end_does_in_class_zero.{IsInZero, over, zero_puts}
-use Rattle.osi_fair.proofs.what_the_other_side_closes.{IsClear, IsFirm}
-use Rattle.osi_honest.specs.Courses.{Continues, Deeds, then_did, units_in}
-use Rattle.osi_honest.specs.Marked.{Marked, all_units}
-use Rattle.osi_honest.specs.Turns.{Turn}
-use Rattle.osi_honest.proofs.class_0.what_a_packet_does_in_class_0.{AllProper}
-use Rattle.osi_honest.proofs.courses.how_long_a_connection_is_open.{Life, amid, early, stage_at, stage_is}
-use Rattle.osi_honest.proofs.courses.how_long_a_connection_is_open.{stage_there}
-use Rattle.osi_honest.proofs.courses.units_of_each_connection.{all_units_more}
-use Rattle.osi_honest.proofs.reading.what_is_written_is_read_again.{CanBeWritten}
-use Rattle.osi_tap.specs.Connections.{Sessions}
-use Rattle.osi_watched.specs.Joint.{Joint, TakesTurn}
-use Rattle.osi_watched.specs.Shown.{parts_of}
 use Rattle.osi_watched.proofs.a_carrier_does_events.{none_of}
 use Rattle.osi_watched.proofs.steps_are_events.{IsFollowed}
 use Rattle.osi_watched.proofs.what_a_carrier_puts_can_be_written.{all_more}
 use Rattle.osi_watched.proofs.what_is_put_is_what_is_written.{none_written}
 use Rattle.osi_watched.proofs.sessions.a_called_end_hears_what_comes_until_class_2.{IsAsking, IsNoCc, StandsCalledEarly, known_one}
 use Rattle.osi_watched.proofs.sessions.a_called_end_hears_what_comes_until_class_2.{none_some}
-use Rattle.osi_fair.proofs.what_the_other_side_closes.{going_on}
 use Rattle.osi_watched.proofs.sessions.a_called_end_of_class_2_has_its_lines.{has_lines}
 use Rattle.osi_watched.proofs.sessions.a_called_end_stands_as_units_pass.{StandsCalled}
 use Rattle.osi_watched.proofs.sessions.a_called_end_stands_in_class_0.{WasOpen, answers_now, cc_not_dt, first, open_before, opens_now}
@@ -53,9 +34,6 @@ use Rattle.osi_watched.proofs.sessions.what_stands_of_a_connection as standing
 use Rattle.osi_watched.proofs.sessions.what_the_stage_of_a_calling_end_says.{IsDt0, all_data}
 
 -- ---- connections without a reference of the end
-
-named_not : {A : Type 0} (o : Option ℕ) (r : ℕ) → o ≡ Some r → o ≡ None → A
-named_not o r is not = absurd (cc)
 
 module _ (deeds : ℕ → Deeds) (known then_known : Known) (put : List Value) (b : Bool) where
   -- they stand whatever is known of what is in flight
@@ -182,8 +160,7 @@ module _ (local : Local) (proper : AllProper) (turn : Turn) (old new : Joint) (t
     is_x q more (answers_now m y front later source is) =
         sym source
         ∙ one_of (IsFor x.source) (all_units front) (all_units later) (confirm m y)
-        (subst (AllByRecursion (IsFor x.source))
-        (ap (λ (l : List Marked). all_units l) is ∙ all_units_more front ((0, confirm m y) ∷ later)) all_for) m y refl
+        (grind (arith, all_units_more, all_for)) m y refl
     is_x q more (opens_now may m y front later is) =
         no_cc_taken local proper turn old new t deeds on life units q m y front later (grind (arith, asking_plain, all_so)) may is
 

@@ -1,28 +1,25 @@
 -- A called end of class 2 and a tap: what passes leaves all connections of the end standing, and so does a turn; and nobody of the end is
 -- to blame at those that have lost their judgement.
 -- For the session of each connection of an end.
-use Rattle.std.proofs.Common.{arith}
 use Rattle.osi_watched.proofs.Vocabulary.{[], ap, false, length, List, refl, Some, subst, sym, true, ℕ, ◌++◌, ◌<◌, ◌^◌, ◌∙◌, ◌∷◌, ◌≡◌}
 use Rattle.osi_watched.proofs.Vocabulary.{append-nil, AllByRecursion, slice_get, units_of, Value, Local, Left, Right, AllProper, Life}
 use Rattle.osi_watched.proofs.Vocabulary.{stage_at, CanBeWritten, Continues, Deeds, then_did, units_in, units_read, all_units, Turn, Joined}
 use Rattle.osi_watched.proofs.Vocabulary.{reference_of, spoken, units_pass, heard, Traffic as State, begins_other, begins_own, Joint}
-use Rattle.osi_watched.proofs.Vocabulary.{passes_other}
-use Rattle.osi_watched.proofs.Vocabulary.{passes_own, Steps, TakesTurn}
+use Rattle.osi_watched.proofs.Vocabulary.{passes_other, passes_own, Steps, TakesTurn, arith, packet_begins, IsOngoing}
 use Rattle.osi_honest.specs.Courses.{Course}
-use Rattle.osi_tap.specs.Courses.{Course as Passed, packet_begins}
+use Rattle.osi_tap.specs.Courses.{Course as Passed}
 use Rattle.osi_watched.proofs.small_facts_that_many_lemmas_use.{can_more as all_more}
 use Rattle.osi_watched.proofs.what_is_put_is_what_is_written.{none_written}
 use Rattle.osi_watched.proofs.sessions.a_called_end_hears_what_breaks_no_rule.{AreFine, units_heard}
 use Rattle.osi_watched.proofs.sessions.a_called_end_is_ready.{AreKnown, IsCalled, begins_other_called, begins_own_called, first, is_ready}
 use Rattle.osi_watched.proofs.sessions.a_called_end_is_ready.{passes_other_called, passes_own_called, turn_homed, turns_called}
-use Rattle.osi_fair.proofs.what_the_other_side_closes.{IsOngoing}
 use Rattle.osi_watched.proofs.sessions.a_called_end_of_class_2_has_its_lines.{has_lines}
 use Rattle.osi_watched.proofs.sessions.a_called_end_takes_what_is_in_flight.{called_dr, called_takes}
 use Rattle.osi_watched.proofs.sessions.a_calling_end_stands_as_units_pass.{AreShutAtJoint, known_at, own_passes_shut}
 use Rattle.osi_watched.proofs.sessions.a_right_dt_has_one_place.{AreUsedApart, named_apart}
 use Rattle.osi_watched.proofs.sessions.a_turn_does_what_its_deeds_say.{units_join}
 use Rattle.osi_watched.proofs.sessions.a_turn_leaves_all_standing.{Turns}
-use Rattle.osi_watched.proofs.sessions.all_connections_stand.{AllStand, all_room}
+use Rattle.osi_watched.proofs.sessions.all_connections_stand.{all_room}
 use Rattle.osi_watched.proofs.sessions.connections_have_the_same_places.{at_same, unit_joins}
 use Rattle.osi_watched.proofs.sessions.each_cc_that_passes_gives_a_new_reference.{gives_new}
 use Rattle.osi_watched.proofs.sessions.each_unit_of_a_turn_has_one_connection.{puts_wait}
@@ -53,8 +50,7 @@ module _ (local : Local) (proper : AllProper) where
         called = begins_own_called local proper deeds old mid (some, none, refl) h.called;
         standing = step_begins_own Right deeds (known_at old) old mid (some, none, refl) courses few h.standing;
         distinct = begins_distinct Right Right old.course.sessions h.distinct;
-        shut = begins_shut Right Right (may_take old.holding.end.carrier) (units_in old.coming) old.course.traffic old.course.sessions
-            h.shut;
+        shut = search (arith, begins_shut, may_take);
         can = h.can;
       })
 
@@ -66,8 +62,7 @@ module _ (local : Local) (proper : AllProper) where
         called = begins_other_called local proper deeds old mid refl h.called;
         standing = step_begins_other Right deeds (known_at old) old mid refl h.standing;
         distinct = begins_distinct Right Left old.course.sessions h.distinct;
-        shut = begins_shut Right Left (may_take old.holding.end.carrier) (units_in old.coming) old.course.traffic old.course.sessions
-            h.shut;
+        shut = search (arith, begins_shut, may_take);
         can = h.can;
       })
 
@@ -114,13 +109,9 @@ module _ (local : Local) (proper : AllProper) where
       old.course fine (grind arith) in
       subst (StandsCalled deeds) (sym is) (record {
         called = passes_other_called local proper deeds at packet units old mid (octets, read, refl) h.called k.below k.all.up;
-        standing = record {
-          all = subst (λ (l : List Value). AllStand Right deeds (known_from (may_take old.holding.end.carrier) l) old.put old.begun
-              (units_pass Left at units old.course).traffic (units_pass Left at units old.course).sessions) all k.all.stand;
-        };
+        standing = grind (arith, known_from, may_take);
         distinct = k.all.distinct;
-        shut = subst (λ (l : List Value). AreShut Right (may_take old.holding.end.carrier) l (units_pass Left at units old.course).traffic
-            (units_pass Left at units old.course).sessions) all k.all.shut;
+        shut = grind (arith, may_take);
         can = h.can;
       })
 
@@ -134,9 +125,7 @@ module _ (local : Local) (proper : AllProper) where
       let a = h.standing.all in
       let f = h.called.ahead.followed in
       let lines = has_lines local old f h.can h.called.two clear in
-      let then_can : AllByRecursion CanBeWritten new.put =
-      subst (AllByRecursion CanBeWritten) (sym (t.put ∙ ap (λ (l : List Value). old.put ++ l) units))
-      (all_more old.put (all_units on.put) h.can can) in
+      let then_can : AllByRecursion CanBeWritten new.put = grind (arith, all_more) in
       let marked = turn_homed local proper turn old new t deeds on life units h.can then_can a.places clear h.called two in
       let turns : Turns Right on.more (known_at old) (known_at new) t.units old.course.traffic old.course.sessions = record {
         puts = λ i c j r there here mine live.
@@ -151,8 +140,7 @@ module _ (local : Local) (proper : AllProper) where
       record {
         called = turns_called local proper turn old new t deeds on life units h.can then_can a.places clear h.called two;
         standing = step_turns Right deeds (known_at old) turn on.more (known_at new) old new t
-            (λ begun. none_written old.put f.whole.put (sym f.put)
-            (λ none. lines.called.some (f.begun ∙ begun) (sym lines.called.put ∙ none))) turns h.standing;
+            (grind (arith, none_written)) turns h.standing;
         distinct = subst (λ (c : Passed). AreDistinct Right c.sessions) (sym t.course) h.distinct;
         shut = subst (λ (c : Passed). AreShut Right (may_take new.holding.end.carrier) (units_in new.coming) c.traffic c.sessions)
             (sym t.course)

@@ -1,18 +1,16 @@
 -- Once the CC has passed that selects class 0, all connections of a called end stand at a tap: after what passes and is no break or is
 -- passed over, and after turns. For the session of the connection of a called end in class 0.
-use Rattle.std.proofs.Common.{arith}
 use Rattle.osi_watched.proofs.Vocabulary.{[], ap, Bool, false, inl, inr, length, List, refl, Some, subst, sym, true, ℕ, ◌++◌, ◌<◌, ◌^◌, ◌∙◌}
 use Rattle.osi_watched.proofs.Vocabulary.{◌∷◌, ◌≡◌, ◌≢◌, ◌⊎◌, append-nil, AllByRecursion, slice_get, units_of, confirm, Connect, request}
 use Rattle.osi_watched.proofs.Vocabulary.{Value, Zero, Local, Traffic as State, takes, Left, Right, AllProper, amid, early, Life, opens_by}
 use Rattle.osi_watched.proofs.Vocabulary.{past, Time, stage_at, stays, Answers, Opens, Deeds, units_in, units_read, Marked, Joined}
 use Rattle.osi_watched.proofs.Vocabulary.{Sessions, spoken, units_pass, heard, lines, selected, selecting, zero_stays, zero_puts, IsFirm}
-use Rattle.osi_watched.proofs.Vocabulary.{unit as passing, Whole, begins_other, begins_own, Joint, passes_other, passes_own, Steps}
+use Rattle.osi_watched.proofs.Vocabulary.{unit as passing, Whole, begins_other, begins_own, Joint, passes_other, passes_own, Steps, arith}
+use Rattle.osi_watched.proofs.Vocabulary.{Stage, AreApart, packet_begins}
 use Rattle.osi_rules.specs.declared.directions.Direction.TheVariants as way
 use Rattle.osi_fair.specs.Wholes as wholes
-use Rattle.osi_fair.proofs.a_called_end_is_fair.{Stage}
-use Rattle.osi_honest.specs.Arriving.{AreApart}
 use Rattle.osi_honest.specs.Courses.{Course}
-use Rattle.osi_tap.specs.Courses.{Course as Passed, packet_begins}
+use Rattle.osi_tap.specs.Courses.{Course as Passed}
 use Rattle.osi_watched.proofs.small_facts_that_many_lemmas_use.{none_some, zero_two}
 use Rattle.osi_watched.proofs.steps_are_events.{IsFollowed, own_first, step_followed}
 use Rattle.osi_watched.proofs.sessions.a_called_end_has_its_lines.{called_joined}
@@ -98,10 +96,7 @@ module _ (local : Local) where
 
   pub stage_of : (j : Joint) (f : IsFollowed Right first j) → IsFirm j.course.traffic.course → Stage local f.whole
   stage_of j f sure =
-      (called_joined local j f).stage (record {
-        left = ap (λ (s : State). s.course.left_stopped) f.tap ∙ sure.left;
-        right = ap (λ (s : State). s.course.right_stopped) f.tap ∙ sure.right;
-      })
+      (called_joined local j f).stage (grind arith)
 
   -- ---- a packet begins
 
@@ -197,9 +192,7 @@ module _ (local : Local) where
       let dt : IsDt0 unit = (subst (AllByRecursion IsDt0) s.is dts).0 in
       let e = h.early_is in
       let known = known_one h.r old.holding.end.carrier (units_in old.coming) in
-      let zero_is : mid.course.traffic.course.class ≡ Some Zero =
-      ap (λ (t : State). t.course.class) (unit_knows Right at unit old.course)
-      ∙ zero_stays (passing way.Right unit) old.course.traffic h.class in
+      let zero_is : mid.course.traffic.course.class ≡ Some Zero = grind (arith, unit_knows, zero_stays) in
       subst (StandsInZero deeds) (sym is) (record {
         followed = step_followed Right first proper (passes_own at unit) old mid step f;
         r = h.r;

@@ -1,39 +1,16 @@
 -- Until class 2 is selected all connections of a called end stand at a tap: while it has selected no class, while its CC of class 0 waits,
 -- and after that CC. So nobody of the end is to blame.
 -- For the laws that no session of an end is blamed first, nor after a break of the other side.
-use Rattle.std.proofs.Common.{arith}
-use Rattle.std.proofs.Common.{◌≡◌, ◌∙◌, ◌⊎◌, inl, inr, refl, sym, ap, subst, ℕ, ◌^◌, ◌<◌, Bool, true, false, if◌then◌else◌, List, [], ◌∷◌}
-use Rattle.std.proofs.Common.{◌++◌, length, Some, None}
-use Rattle.std.specs.Prelude.{◌==◌, slice_get}
-use Rattle.std.specs.List.{AllByRecursion}
-use Rattle.std.proofs.lemmas.List.{append-nil}
-use Rattle.osi_tpdu.specs.Packet.{units_of}
-use Rattle.osi_tpdu.specs.Value.{Connect, Value, confirm}
-use Rattle.osi_class.specs.declared.terms.Class.{Class}
-use Rattle.osi_class.specs.declared.terms.Class.TheVariants.{Two, Zero}
-use Rattle.osi_class.specs.declared.terms.Local.{Local}
-use Rattle.osi_judge.specs.declared.directions.Direction.TheVariants.{Left, Right}
-use Rattle.osi_judge.proofs.honest.a_call_is_explained.{AsSent}
-use Rattle.osi_judge.proofs.honest.an_honest_run_stays_in_the_profile.{AsParts}
-use Rattle.osi_judge.proofs.honest.an_honest_side_is_kept.{CalledLaw, CallerLaw}
+use Rattle.osi_watched.proofs.Vocabulary.{arith, ◌≡◌, ◌∙◌, ◌⊎◌, inl, inr, refl, sym, ap, subst, ℕ, ◌^◌, ◌<◌, Bool, true, false}
+use Rattle.osi_watched.proofs.Vocabulary.{if◌then◌else◌, List, [], ◌∷◌, ◌++◌, length, Some, None, ◌==◌, slice_get, AllByRecursion}
+use Rattle.osi_watched.proofs.Vocabulary.{append-nil, units_of, Connect, Value, confirm, Class, Two, Zero, Local, Left, Right, AsSent}
+use Rattle.osi_watched.proofs.Vocabulary.{AsParts, CalledLaw, CallerLaw, State, class_for, class_of, Holding, Selecting, left_class}
+use Rattle.osi_watched.proofs.Vocabulary.{IsClear, IsFirm, Deeds, no_deeds, then_did, units_in, units_read, Marked, all_units, IsFresh}
+use Rattle.osi_watched.proofs.Vocabulary.{Turn, AllProper, amid, stage_at, stage_is, stage_there, all_units_more, CanBeWritten, Joined}
+use Rattle.osi_watched.proofs.Vocabulary.{spoken, packet_begins, unit_passes, units_pass, heard, Joint, Steps, TakesTurn, begin}
+use Rattle.osi_watched.proofs.Vocabulary.{begins_other, begins_own, passes_other, passes_own, turns, going_on, IsOngoing}
 use Rattle.osi_rules.specs.declared.directions.Direction.TheVariants as way
-use Rattle.osi_rules.specs.Traffic.{State, class_for, class_of}
-use Rattle.osi_stack.specs.State.{Holding}
-use Rattle.osi_fair.proofs.a_called_end_selects_class_zero.{Selecting}
-use Rattle.osi_fair.proofs.left_selects_no_class.{left_class}
-use Rattle.osi_fair.proofs.what_the_other_side_closes.{IsClear, IsFirm}
-use Rattle.osi_honest.specs.Courses.{Deeds, no_deeds, then_did, units_in, units_read}
-use Rattle.osi_honest.specs.Marked.{Marked, all_units}
-use Rattle.osi_honest.specs.Seeing.{IsFresh}
-use Rattle.osi_honest.specs.Turns.{Turn}
-use Rattle.osi_honest.proofs.class_0.what_a_packet_does_in_class_0.{AllProper}
-use Rattle.osi_honest.proofs.courses.how_long_a_connection_is_open.{amid, stage_at, stage_is, stage_there}
-use Rattle.osi_honest.proofs.courses.units_of_each_connection.{all_units_more}
-use Rattle.osi_honest.proofs.reading.what_is_written_is_read_again.{CanBeWritten}
-use Rattle.osi_tap.specs.Connections.{Joined, spoken}
-use Rattle.osi_tap.specs.Courses.{Course as Passed, packet_begins, unit_passes, units_pass}
-use Rattle.osi_tap.specs.Lines.{heard}
-use Rattle.osi_watched.specs.Joint.{Joint, Steps, TakesTurn, begin, begins_other, begins_own, passes_other, passes_own, turns}
+use Rattle.osi_tap.specs.Courses.{Course as Passed}
 use Rattle.osi_watched.proofs.what_a_taker_passes_over.{mild_of}
 use Rattle.osi_watched.proofs.what_passes_keeps_a_claim.{step_kept}
 use Rattle.osi_watched.proofs.what_the_turns_among_steps_do.{TurnDoes}
@@ -41,7 +18,6 @@ use Rattle.osi_watched.proofs.sessions.a_called_end_answers_with_class_2_or_sele
 use Rattle.osi_watched.proofs.sessions.a_called_end_hears_what_breaks_no_rule.{AreFine}
 use Rattle.osi_watched.proofs.sessions.a_called_end_hears_what_comes_until_class_2.{AreTaken, IsAsking, IsNoCc, StandsCalledEarly}
 use Rattle.osi_watched.proofs.sessions.a_called_end_hears_what_comes_until_class_2.{known_one, none_some, units_early}
-use Rattle.osi_fair.proofs.what_the_other_side_closes.{going_on, IsOngoing}
 use Rattle.osi_watched.proofs.sessions.a_called_end_puts_its_cc_of_class_0.{all_unnamed, asking_plain, turns_selecting}
 use Rattle.osi_watched.proofs.sessions.a_called_end_stands_as_units_pass.{StandsCalled, begins_other_stands, begins_own_stands}
 use Rattle.osi_watched.proofs.sessions.a_called_end_stands_as_units_pass.{passes_other_stands, passes_own_stands, turns_stand}
@@ -101,8 +77,7 @@ fine_of at (v ∷ vs) c none h =
       record {
         goes = one.goes;
         two = two;
-        on = firm_goes Right (λ r later. Unit {0}) (λ r later. Unit {0}) [] c.traffic c.sessions one.firm h.0.sure.judged one.goes two v
-            one.mild;
+        on = grind (arith, firm_goes);
         loses = λ far. absurd (mild_stays Left v c.traffic one.mild far);
       },
       fine_of at vs (unit_passes Left at v c)
@@ -139,24 +114,14 @@ module _ (local : Local) (proper : AllProper) where
   own_phase deeds old new step courses few (inr (inr h)) = inr (inr (begins_own_zero local proper deeds old new step courses few h))
   own_phase deeds old new (some, none, is) courses few (inl h) =
       let mid : Joint = record old { begun = true; course = packet_begins Right old.course } in
-      inl (subst (StandsInNone deeds) (sym is) (record {
-        stands = begins_own_stands local proper deeds old mid (some, none, refl) courses few h.stands;
-        class = h.class;
-        asking = h.asking;
-        shut = h.shut;
-      }))
+      inl (subst (StandsInNone deeds) (sym is) (search (arith, begins_own_stands)))
 
   other_phase : (deeds : ℕ → Deeds) (old new : Joint) → Steps Right begins_other old new → Phase deeds old → Phase deeds new
   other_phase deeds old new step (inr (inl h)) = inr (inl (begins_other_answering local proper deeds old new step h))
   other_phase deeds old new step (inr (inr h)) = inr (inr (begins_other_zero local proper deeds old new step h))
   other_phase deeds old new is (inl h) =
       let mid : Joint = record old { course = packet_begins Left old.course } in
-      inl (subst (StandsInNone deeds) (sym is) (record {
-        stands = begins_other_stands local proper deeds old mid refl h.stands;
-        class = h.class;
-        asking = h.asking;
-        shut = h.shut;
-      }))
+      inl (subst (StandsInNone deeds) (sym is) (search (arith, begins_other_stands)))
 
   -- ---- a unit of the end passes
 
@@ -182,8 +147,7 @@ module _ (local : Local) (proper : AllProper) where
         stands = passes_own_stands local proper deeds at v old mid (read, octets, put, begun, refl) fine
             (going_on old.course.traffic.course
             (record { sure = firm; two = λ zero_is. none_some old.course.traffic.course.class Zero h.class zero_is })) h.stands;
-        class = ap (λ (s : State). s.course.class) (unit_knows Right at v old.course) ∙ selects_none way.Right v old.course.traffic plain
-            ∙ h.class;
+        class = grind (arith, unit_knows, selects_none);
         asking = h.asking;
         shut = λ q peer some stage.
             let (n, has) = h.shut q peer some stage in (n, has_later n q v new.put plain (subst (HasCc n q) put has));
@@ -254,8 +218,7 @@ module _ (local : Local) (proper : AllProper) where
         m,
         subst (HasCc m q) (sym turn_put)
             (has_back m q old.put (all_units put)
-            (subst (HasCc m q) (sym (ap (λ (l : List Marked). all_units l) is ∙ all_units_more front ((0, confirm m x) ∷ later)))
-            (has_back m q (all_units front) (confirm m x ∷ all_units later) (inl (refl, source))))),
+            (grind (arith, all_units_more, has_back))),
       )
       has_cc q peer some (opens_now may m x front later is) =
           no_cc_taken local proper turn old new t deeds does.of.on does.of.life does.units q m x front later
@@ -266,8 +229,7 @@ module _ (local : Local) (proper : AllProper) where
         stands = turns_stand local proper turn old new t deeds does.of.on does.of.life does.units does.of.on.can two
             (going_on old.course.traffic.course clear) h.stands;
         class = ap (λ (c : Passed). c.traffic.course.class) t.course ∙ h.class;
-        asking = all_back IsAsking (units_in t.used) (units_in new.coming)
-            (subst (AllByRecursion IsAsking) (turn_leaves turn old new t) h.asking);
+        asking = grind (arith, all_back, turn_leaves turn old new t);
         shut = λ q peer some is.
             has_cc q peer some (open_so q peer (stage_at q old.holding.end.carrier) (stage_at q new.holding.end.carrier)
             does.of.on.took put (does.of.life q some) is);

@@ -1,16 +1,14 @@
 -- From the turn in which a called end puts its CC of class 0 until this CC passes, all its connections stand at a tap; and after that, as
 -- in class 0. For the session of the connection of a called end in class 0.
-use Rattle.std.proofs.Common.{arith}
-use Rattle.osi_watched.proofs.Vocabulary.{[], ap, Bool, false, length, List, None, Option, refl, Some, subst, sym, true, ℕ}
-use Rattle.osi_watched.proofs.Vocabulary.{◌++◌, ◌<◌, ◌^◌, ◌∙◌, ◌∷◌, ◌≡◌, eqb-true, append-nil, AllByRecursion, slice_get, units_of}
-use Rattle.osi_watched.proofs.Vocabulary.{confirm, Connect, disconnected, request, Value, parts_in, Zero, Local, class_of}
-use Rattle.osi_watched.proofs.Vocabulary.{Traffic as State, takes, Left, Right, AllProper, amid, early, stage_at, CanBeWritten, Deeds}
-use Rattle.osi_watched.proofs.Vocabulary.{units_in, units_read, Joined, Sessions, spoken, unit_passes, units_pass, heard, left_class}
-use Rattle.osi_watched.proofs.Vocabulary.{begins_other, begins_own, Joint, passes_other, passes_own, Steps, parts_of}
+use Rattle.osi_watched.proofs.Vocabulary.{[], ap, Bool, false, length, List, None, Option, refl, Some, subst, sym, true, ℕ, ◌++◌, ◌<◌, ◌^◌}
+use Rattle.osi_watched.proofs.Vocabulary.{◌∙◌, ◌∷◌, ◌≡◌, eqb-true, append-nil, AllByRecursion, slice_get, units_of, confirm, Connect}
+use Rattle.osi_watched.proofs.Vocabulary.{disconnected, request, Value, parts_in, Zero, Local, class_of, Traffic as State, takes, Left}
+use Rattle.osi_watched.proofs.Vocabulary.{Right, AllProper, amid, early, stage_at, CanBeWritten, Deeds, units_in, units_read, Joined}
+use Rattle.osi_watched.proofs.Vocabulary.{Sessions, spoken, unit_passes, units_pass, heard, left_class, begins_other, begins_own, Joint}
+use Rattle.osi_watched.proofs.Vocabulary.{passes_other, passes_own, Steps, parts_of, arith, packet_begins, first_is}
 use Rattle.osi_rules.specs.declared.directions.Direction.TheVariants as way
 use Rattle.osi_honest.specs.Courses.{Course}
-use Rattle.osi_tap.specs.Courses.{Course as Passed, packet_begins}
-use Rattle.osi_fair.proofs.small_facts_that_many_lemmas_use.{first_is}
+use Rattle.osi_tap.specs.Courses.{Course as Passed}
 use Rattle.osi_watched.proofs.small_facts_that_many_lemmas_use.{none_some}
 use Rattle.osi_watched.proofs.steps_are_events.{IsFollowed, step_followed}
 use Rattle.osi_watched.proofs.what_a_taker_passes_over.{mild_of}
@@ -109,29 +107,17 @@ module _ (local : Local) where
       let mid : Joint = record old { course = packet_begins Left old.course } in
       let known = known_one h.x.source old.holding.end.carrier (units_in old.coming) in
       let e = h.early_is in
-      subst (StandsAnswering deeds) (sym is) (record {
-        followed = step_followed Right (first local) proper begins_other old mid refl h.followed;
-        n = h.n;
-        x = h.x;
-        rest = h.rest;
-        put = h.put;
-        not_two = h.not_two;
-        can = h.can;
-        positive = h.positive;
-        class = h.class;
-        early_is = record {
-          sure = sure_claim.begins Left old.course e.sure;
-          all = all_begin_other Right deeds known old.put old.begun old.course.traffic old.course.sessions e.all;
-          uncalled = uncalled_claim.begins Left old.course e.uncalled;
-          asking = e.asking;
-          plain = e.plain;
-          zero = λ class. none_some old.course.traffic.course.class Zero h.class class;
-        };
-        waits = h.waits;
-        unheard = h.unheard;
-        amid_is = h.amid_is;
-        opened = h.opened;
-      })
+      subst (StandsAnswering deeds) (sym is) (grind (
+        arith,
+        sure_claim,
+        uncalled_claim,
+        none_some,
+        step_followed Right (first local) proper begins_other old mid refl h.followed,
+        first local,
+        sure_claim.begins Left old.course e.sure,
+        all_begin_other Right deeds known old.put old.begun old.course.traffic old.course.sessions e.all,
+        uncalled_claim.begins Left old.course e.uncalled,
+      ))
 
   -- ---- a packet of the other side passes
 

@@ -1,14 +1,10 @@
 -- What a called end of class 2 takes in a turn at a connection is the first of what is left over for it: nothing is for a connection that
 -- the end has not answered. And a DR in flight to a connection that the tap knows stays there as long as the end has it open.
 -- For all connections of an end and a tap.
-use Rattle.osi_watched.proofs.Vocabulary.{arith, false, List, refl, true, ℕ, ◌<◌}
-use Rattle.osi_watched.proofs.Vocabulary.{◌≡◌, AllByRecursion, Part, Local}
-use Rattle.osi_watched.proofs.Vocabulary.{amid, early, Life, past, stage_at, Time, CanBeWritten, Continues, Deeds}
-use Rattle.osi_watched.proofs.Vocabulary.{units_in, Turn, ◌≤◌}
-use Rattle.osi_watched.proofs.Vocabulary.{Joint, TakesTurn}
+use Rattle.osi_watched.proofs.Vocabulary.{arith, false, List, refl, true, ℕ, ◌<◌, ◌≡◌, AllByRecursion, Part, Local, amid, early, Life, past}
+use Rattle.osi_watched.proofs.Vocabulary.{stage_at, Time, CanBeWritten, Continues, Deeds, units_in, Turn, ◌≤◌, Joint, TakesTurn, IsOngoing}
 use Rattle.osi_watched.proofs.small_facts_that_many_lemmas_use.{amid_not, past_not}
 use Rattle.osi_watched.proofs.sessions.a_called_end_is_ready.{IsCalled, early_above}
-use Rattle.osi_fair.proofs.what_the_other_side_closes.{IsOngoing}
 use Rattle.osi_watched.proofs.sessions.a_calling_end_takes_what_is_in_flight.{early_lasts}
 use Rattle.osi_watched.proofs.sessions.an_end_takes_what_is_left_for_it.{dr_stays, left_takes, none_takes, was_live}
 use Rattle.osi_watched.proofs.sessions.nothing_comes_before_a_cc_passes.{none_waits}

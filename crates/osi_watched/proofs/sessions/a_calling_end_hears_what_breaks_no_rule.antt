@@ -2,34 +2,16 @@
 -- and after any other unit what is left over at a connection that is judged stays; a CC gives a reference for which nothing waits. So all
 -- its connections stand after a packet of the other side; and nobody of the end is to blame at those that have lost their judgement.
 -- For all connections of an end and a tap.
-use Rattle.std.proofs.Common.{arith}
-use Rattle.std.proofs.Common.{◌≡◌, ◌∙◌, refl, sym, ap, subst, ℕ, Bool, true, false, List, [], ◌∷◌, ◌++◌, map, Some, None, append_assoc}
-use Rattle.std.specs.Prelude.{slice_get}
-use Rattle.std.specs.List.{AllByRecursion}
-use Rattle.std.proofs.lemmas.List.{append-nil}
-use Rattle.osi_tpdu.specs.Value.{HasFieldsInRange, Value, acknowledge, confirm, data0, data2, destination_of, disconnect, disconnected}
-use Rattle.osi_tpdu.specs.Value.{error}
-use Rattle.osi_tpdu.specs.Value.{Connect, request}
-use Rattle.osi_tpdu.specs.Writing.{written}
-use Rattle.osi_class.specs.declared.terms.Class.TheVariants.{Zero}
-use Rattle.osi_class.specs.declared.terms.Local.{Local}
-use Rattle.osi_judge.specs.declared.directions.Direction.TheVariants.{Left, Right}
-use Rattle.osi_rules.specs.declared.connections.Connection.{Connection}
+use Rattle.osi_watched.proofs.Vocabulary.{arith, ◌≡◌, ◌∙◌, refl, sym, ap, subst, ℕ, Bool, true, false, List, [], ◌∷◌, ◌++◌, map, Some, None}
+use Rattle.osi_watched.proofs.Vocabulary.{append_assoc, slice_get, AllByRecursion, append-nil, HasFieldsInRange, Value, acknowledge}
+use Rattle.osi_watched.proofs.Vocabulary.{confirm, data0, data2, destination_of, disconnect, disconnected, error, Connect, request, written}
+use Rattle.osi_watched.proofs.Vocabulary.{Zero, Local, Left, Right, Connection, is_applied, is_refused, State, class_for, is_stopped, takes}
+use Rattle.osi_watched.proofs.Vocabulary.{Whole, next_joined, IsOwned, IsOngoing, Deeds, CanBeWritten, Joined, Sessions, Course}
+use Rattle.osi_watched.proofs.Vocabulary.{unit_passes, units_pass, HaveSamePlaces}
 use Rattle.osi_rules.specs.declared.directions.Direction.TheVariants as way
 use Rattle.osi_rules.specs.declared.findings.Reach.TheVariants as reach
-use Rattle.osi_rules.specs.Reaches.{is_applied}
-use Rattle.osi_rules.specs.Sides.{is_refused}
-use Rattle.osi_rules.specs.Traffic.{State, class_for, is_stopped, takes}
-use Rattle.osi_fair.specs.Wholes.{Whole}
 use Rattle.osi_fair.specs.Wholes as wholes
-use Rattle.osi_fair.proofs.a_calling_end_is_fair_in_class_2.{Joined as Follows, next_joined}
-use Rattle.osi_fair.proofs.each_connection_has_its_line.{IsOwned}
-use Rattle.osi_fair.proofs.what_the_other_side_closes.{IsOngoing}
-use Rattle.osi_honest.specs.Courses.{Deeds}
-use Rattle.osi_honest.proofs.reading.what_is_written_is_read_again.{CanBeWritten}
-use Rattle.osi_tap.specs.Connections.{Joined, Sessions}
-use Rattle.osi_tap.specs.Courses.{Course, unit_passes, units_pass}
-use Rattle.osi_watched.specs.ShownPlaces.{HaveSamePlaces}
+use Rattle.osi_fair.proofs.a_calling_end_is_fair_in_class_2.{Joined as Follows}
 use Rattle.osi_watched.proofs.sessions.a_called_end_hears_what_breaks_no_rule.{dt_closed}
 use Rattle.osi_watched.proofs.sessions.a_calling_end_is_ready.{IsPlain}
 use Rattle.osi_watched.proofs.sessions.a_cc_comes_before_what_is_put_for_it.{nothing_waits}

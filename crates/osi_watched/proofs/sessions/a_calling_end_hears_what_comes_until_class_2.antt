@@ -1,43 +1,17 @@
 -- Until class 2 is selected all connections of a calling end stand at a tap as units of the other side pass: answers to its CRs, and in
 -- class 0 DTs for its one connection. For the session of the connection of an end in class 0.
-use Rattle.std.proofs.Common.{◌≡◌, ◌∙◌, refl, sym, ap, subst, ℕ, ◌<◌, ◌≤◌, Bool, true, false, if◌then◌else◌, List, [], ◌∷◌, ◌++◌}
-use Rattle.std.proofs.Common.{map, Option, Some, None, is_some, arith, append_assoc}
-use Rattle.std.specs.Prelude.{◌&&◌, ◌||◌, nat_le}
-use Rattle.std.specs.List.{AllByRecursion}
-use Rattle.std.proofs.lemmas.Bool.{le-leb, lt-ltb}
-use Rattle.std.proofs.lemmas.List.{append-nil}
-use Rattle.osi_tpdu.specs.Value.{Connect, HasFieldsInRange, Value, acknowledge, confirm, data0, data2, disconnect, disconnected}
-use Rattle.osi_tpdu.specs.Value.{error, request}
-use Rattle.osi_tpdu.specs.Writing.{written}
-use Rattle.osi_class.specs.Runs.{unit_parts}
-use Rattle.osi_class.specs.Tsdus.{Part}
-use Rattle.osi_class.specs.declared.terms.Class.{Class}
-use Rattle.osi_class.specs.declared.terms.Class.TheVariants.{Two, Zero}
-use Rattle.osi_class.specs.declared.terms.Local.{Local}
+use Rattle.osi_watched.proofs.Vocabulary.{◌≡◌, ◌∙◌, refl, sym, ap, subst, ℕ, ◌<◌, ◌≤◌, Bool, true, false, if◌then◌else◌, List, [], ◌∷◌}
+use Rattle.osi_watched.proofs.Vocabulary.{◌++◌, map, Option, Some, None, is_some, arith, append_assoc, ◌&&◌, ◌||◌, nat_le, AllByRecursion}
+use Rattle.osi_watched.proofs.Vocabulary.{le-leb, lt-ltb, append-nil, Connect, HasFieldsInRange, Value, acknowledge, confirm, data0, data2}
+use Rattle.osi_watched.proofs.Vocabulary.{disconnect, disconnected, error, request, written, unit_parts, Part, Class, Two, Zero, Local}
+use Rattle.osi_watched.proofs.Vocabulary.{EndReason, Direction, Left, Right, Connection, Finding, TooMany, Reach, is_applied, is_refused}
+use Rattle.osi_watched.proofs.Vocabulary.{State, class_for, class_of, is_stopped, stops_by, takes, stops_are_said, has_given, Whole}
+use Rattle.osi_watched.proofs.Vocabulary.{zero_stays, Holds, holds_next, lasts_passing, Deeds, amid, past, stage_at, stage_over, Sessions}
+use Rattle.osi_watched.proofs.Vocabulary.{taken, Course, unit_passes, units_pass, way_of}
 use Rattle.osi_carrier.specs.State.{State as Carrier}
-use Rattle.osi_carrier.specs.declared.ends.EndReason.{EndReason}
-use Rattle.osi_judge.specs.declared.directions.Direction.{Direction}
-use Rattle.osi_judge.specs.declared.directions.Direction.TheVariants.{Left, Right}
-use Rattle.osi_rules.specs.declared.connections.Connection.{Connection}
 use Rattle.osi_rules.specs.declared.directions.Direction.TheVariants as way
-use Rattle.osi_rules.specs.declared.findings.Finding.{Finding}
-use Rattle.osi_rules.specs.declared.findings.Finding.TheVariants.{TooMany}
-use Rattle.osi_rules.specs.declared.findings.Reach.{Reach}
-use Rattle.osi_rules.specs.Reaches.{is_applied}
-use Rattle.osi_rules.specs.Sides.{is_refused}
-use Rattle.osi_rules.specs.Traffic.{State, at_found, at_place, class_for, class_of, is_stopped, stops_by, takes}
-use Rattle.osi_rules.proofs.a_stop_is_said.{stops_are_said}
-use Rattle.osi_stack.specs.Calls.{has_given}
 use Rattle.osi_fair.specs.Naming.{unit as passing}
-use Rattle.osi_fair.specs.Wholes.{Whole}
 use Rattle.osi_fair.specs.Wholes as wholes
-use Rattle.osi_fair.proofs.class_0_stays_selected.{reached_class, zero_stays}
-use Rattle.osi_fair.proofs.no_request_is_blamed.{Holds, holds_next}
-use Rattle.osi_fair.proofs.what_lasts_at_the_tap.{lasts_passing}
-use Rattle.osi_honest.specs.Courses.{Deeds}
-use Rattle.osi_honest.proofs.courses.how_long_a_connection_is_open.{amid, past, stage_at, stage_over}
-use Rattle.osi_tap.specs.Connections.{Sessions, taken}
-use Rattle.osi_tap.specs.Courses.{Course, unit_passes, units_pass, way_of}
 use Rattle.osi_watched.proofs.a_carrier_does_events.{IsLike, none_of}
 use Rattle.osi_watched.proofs.a_break_ends_no_judging_or_all.{reach_so}
 use Rattle.osi_watched.proofs.what_a_taker_passes_over.{IsMild, mild_reach}
@@ -193,12 +167,6 @@ module _ (s : State) (goes : is_stopped way.Right s.course ≡ false) (class : s
   early_break : {A : Type 0} (v : Value) → IsEarlyBreak v → IsMild v (takes way.Right v s).told.finding → A
   early_break v h mild = grind arith
 
-  nowhere_class : (v : Value) → (at_place way.Right v s None).state.course.class ≡ s.course.class
-  nowhere_class v = grind (arith, reached_class)
-
-  found_class : (v : Value) → IsQuiet v → (p : ℕ) (o : Option Connection) → (at_found way.Right v s p o).state.course.class ≡ s.course.class
-  found_class v h p o = grind (arith, nowhere_class, reached_class)
-
   quiet_class : (v : Value) → IsQuiet v → (takes way.Right v s).state.course.class ≡ s.course.class
   quiet_class v h = grind arith
 
@@ -250,9 +218,7 @@ module _ (local : Local) (deeds : ℕ → Deeds) (b : ℕ) (end : Carrier) (put 
     place_is p i last user told apart same =
         let here : Some is_z.only.place ≡ Some p =
         sym (told_there Left Right deeds (known_below b end coming) put begun last user c.traffic c.sessions h.all is_z) ∙ told in
-        refused_not z.one.connection
-        (is_z.only.others z.one.place z.one.connection z.one.there (λ e. apart (same ∙ e ∙ same_place is_z.only.place p here)))
-        z.one.up
+        search (arith, refused_not, is_z, same_place)
 
     gone_here : (q : ℕ) → stage_at q end ≡ past → may_take end q ≡ false
     gone_here q e = past_not q end e
@@ -295,18 +261,16 @@ module _ (local : Local) (deeds : ℕ → Deeds) (b : ℕ) (end : Carrier) (put 
               right.mild (heard_zero v still) h.all;
           distinct = distinct_after coming v c h new;
           below = unit_up Left Right b at v c h.all.places up h.below;
-          quiet = λ none. none_zero (after v c).traffic.course.class none
-              (class_was v c ∙ zero_stays (passing way.Right v) c.traffic class);
-          zero = λ e. record {
-            r = z.r;
-            one = subst (λ (s : State). HasOne Left z.r (IsGone end) s (after v c).sessions) (sym (unit_knows Right at v c))
-                (subst (λ (t : Sessions). HasOne Left z.r (IsGone end) (takes way.Right v c.traffic).state t)
-                (sym (unit_joins Right at v c))
-                (one_passes Left Right z.r (IsGone end) at v c.traffic c.sessions z.one h.all.places still));
-            amid_is = z.amid_is;
-            ccs = all_of_both (IsCcFor z.r) coming (v ∷ []) z.ccs (cc_for, tt);
-            order = order_more coming v z.order later;
-          };
+          quiet = grind (arith, none_zero, class_was v c, zero_stays (passing way.Right v) c.traffic class);
+          zero = grind (
+            arith,
+            still,
+            unit_knows Right at v c,
+            unit_joins Right at v c,
+            one_passes Left Right z.r (IsGone end) at v c.traffic c.sessions z.one h.all.places still,
+            all_of_both (IsCcFor z.r) coming (v ∷ []) z.ccs (cc_for, tt),
+            order_more coming v z.order later,
+          );
         }
 
   -- ---- before it
@@ -342,8 +306,7 @@ module _ (local : Local) (deeds : ℕ → Deeds) (b : ℕ) (end : Carrier) (put 
           distinct = distinct_after coming v c h new;
           below = unit_up Left Right b at v c h.all.places up h.below;
           quiet = λ e. all_of_both IsQuiet coming (v ∷ []) (h.quiet class) (q, tt);
-          zero = λ e. none_zero (after v c).traffic.course.class
-              (class_was v c ∙ quiet_class c.traffic right.goes class v q ∙ class) e;
+          zero = grind (arith, none_zero, class_was, quiet_class);
         }
 
   -- the CC
@@ -380,9 +343,7 @@ module _ (local : Local) (deeds : ℕ → Deeds) (b : ℕ) (end : Carrier) (put 
         let same = w.like.lasts whole_lasts in
         let mine : n ≡ r =
         awaits_this n x at c h.all.places right.goes class right.firm h.all.judged right.mild r p o cs strays (sym w.tap ∙ tap) waits in
-        let given_here : has_given q w.whole.end ≡ true =
-        ap (has_given q) same
-        ∙ given_so q end within.0 (let low = within.1 in let most = given lasts in omega (arith, low, most)) in
+        let given_here : has_given q w.whole.end ≡ true = grind (arith, given_so) in
         sym (ap (stage_at q) same) ∙ one_early local w.whole q r is given_here (λ e. apart (e ∙ sym mine))
 
     others_past : (q : ℕ) → IsWithin b q → (q ≡ n → ⊥) → stage_at q end ≡ past

@@ -1,31 +1,16 @@
 -- A calling end of class 2 is ready for each CR that passes: nothing is done at its connection, nothing in flight is for it, and its
 -- reference is new. Each step keeps it so, as long as both sides are judged.
 -- For all connections of an end and a tap.
-use Rattle.std.proofs.Common.{◌≡◌, ◌∙◌, refl, sym, ap, subst, ℕ, ◌<◌, ◌≤◌, Bool, true, if◌then◌else◌, List, [], ◌∷◌, ◌++◌, None, arith}
-use Rattle.std.specs.List.{AllByRecursion}
-use Rattle.std.proofs.lemmas.List.{append-nil}
-use Rattle.osi_tpdu.specs.Packet.{units_of}
-use Rattle.osi_tpdu.specs.Value.{Value, acknowledge, confirm, data0, data2, disconnect, disconnected, error, request}
-use Rattle.osi_class.specs.declared.terms.Local.{Local}
+use Rattle.osi_watched.proofs.Vocabulary.{◌≡◌, ◌∙◌, refl, sym, ap, subst, ℕ, ◌<◌, ◌≤◌, Bool, true, if◌then◌else◌, List, [], ◌∷◌, ◌++◌, None}
+use Rattle.osi_watched.proofs.Vocabulary.{arith, AllByRecursion, append-nil, units_of, Value, acknowledge, confirm, data0, data2}
+use Rattle.osi_watched.proofs.Vocabulary.{disconnect, disconnected, error, request, Local, Left, State, Holding, Event, HappenAlong, Whole}
+use Rattle.osi_watched.proofs.Vocabulary.{first_joined, next_joined, Followed, IsOngoing, Continues, Deeds, no_deeds, then_did, units_in}
+use Rattle.osi_watched.proofs.Vocabulary.{units_read, IsFresh, Turn, AllProper, Life, amid, stage_at, stage_is, stage_there, Joint, Steps}
+use Rattle.osi_watched.proofs.Vocabulary.{TakesTurn, begin, begins_other, begins_own, passes_other, passes_own, HaveSamePlaces}
 use Rattle.osi_carrier.specs.State.{State as Carrier}
-use Rattle.osi_judge.specs.declared.directions.Direction.TheVariants.{Left}
 use Rattle.osi_rules.specs.declared.directions.Direction.TheVariants as way
-use Rattle.osi_rules.specs.Traffic.{State}
-use Rattle.osi_carrier.specs.Rows.{value_at}
-use Rattle.osi_stack.specs.Calls.{has_given}
-use Rattle.osi_stack.specs.State.{End, Holding}
-use Rattle.osi_fair.specs.Wholes.{Event, HappenAlong, Whole}
 use Rattle.osi_fair.specs.Wholes as wholes
-use Rattle.osi_fair.proofs.a_calling_end_is_fair_in_class_2.{Joined, first_joined, next_joined}
-use Rattle.osi_fair.proofs.each_connection_has_its_line.{Followed}
-use Rattle.osi_fair.proofs.what_the_other_side_closes.{IsOngoing}
-use Rattle.osi_honest.specs.Courses.{Continues, Deeds, no_deeds, then_did, units_in, units_read}
-use Rattle.osi_honest.specs.Seeing.{IsFresh}
-use Rattle.osi_honest.specs.Turns.{Turn}
-use Rattle.osi_honest.proofs.class_0.what_a_packet_does_in_class_0.{AllProper}
-use Rattle.osi_honest.proofs.courses.how_long_a_connection_is_open.{Life, amid, stage_at, stage_is, stage_there}
-use Rattle.osi_watched.specs.Joint.{Joint, Steps, TakesTurn, begin, begins_other, begins_own, passes_other, passes_own}
-use Rattle.osi_watched.specs.ShownPlaces.{HaveSamePlaces}
+use Rattle.osi_fair.proofs.a_calling_end_is_fair_in_class_2.{Joined}
 use Rattle.osi_watched.proofs.steps_are_events.{IsFollowed, begin_followed, own_first}
 use Rattle.osi_watched.proofs.sessions.a_right_dt_has_one_place.{AreUsedApart, named_apart}
 use Rattle.osi_watched.proofs.sessions.a_turn_does_what_its_deeds_say.{turn_leaves, units_join}
@@ -107,13 +92,7 @@ module _ (local : Local) (two : local.class2 ≡ true) where
           above = above_along 0 f.events first f.whole f.along above;
           below = record { live = λ i j r here named. absurd (cc here); done = λ i j r here named. absurd (cc here) };
         };
-        undone = λ r less. record {
-          put = refl;
-          taken = refl;
-          shut = λ peer is. none_open peer (has_given r holding.end.carrier)
-              (sym (stage_is r holding.end.carrier None (has_given r holding.end.carrier)
-              (ap (λ (e : End). e.carrier.ended) fresh.end) refl (ap (λ (e : End). value_at r e.carrier.live) fresh.end)) ∙ is);
-        };
+        undone = grind (arith, none_open, stage_is);
         zero = tt;
       }
 
@@ -148,8 +127,7 @@ module _ (local : Local) (two : local.class2 ≡ true) where
       new.holding ≡ old.holding → AllByRecursion IsNoZero (units_in new.coming) → IsCalling deeds new
   still deeds old new h g same zero = record {
     ahead = g.ahead;
-    undone = higher h.ahead.bound g.ahead.bound deeds new.holding.end.carrier g.rises
-        (subst (λ (x : Holding). AreUndone h.ahead.bound deeds x.end.carrier) (sym same) h.undone);
+    undone = grind (arith, higher);
     zero = zero;
   }
 
@@ -180,9 +158,7 @@ module _ (local : Local) (two : local.class2 ≡ true) where
       still deeds old new h
       (passes_other_ahead first proper at packet units old new step places h.ahead (ups h.ahead.bound units plain))
       (ap (λ (j : Joint). j.holding) step.2)
-      (subst (λ (j : Joint). AllByRecursion IsNoZero (units_in j.coming)) (sym step.2)
-      (subst (AllByRecursion IsNoZero) (sym (units_join old.coming (packet ∷ []) ∙ ap (λ (l : List Value). units_in old.coming ++ l) one))
-      (all_join IsNoZero (units_in old.coming) units h.zero (zeros h.ahead.bound units plain))))
+      (grind (arith, units_join, all_join, zeros))
 
   -- a turn, with what was done at each connection
   pub turns_calling : AllProper → (turn : Turn) (old new : Joint) (t : TakesTurn turn old new) (deeds : ℕ → Deeds)
@@ -198,6 +174,5 @@ module _ (local : Local) (two : local.class2 ≡ true) where
             (turn_undone h.ahead.bound turn old new t deeds on life
             (none_come h.ahead.bound local first old h.ahead.followed (whole_followed old h.ahead.followed clear) places h.ahead.below)
             h.undone);
-        zero = all_right IsNoZero (units_in t.used) (units_in new.coming)
-            (subst (AllByRecursion IsNoZero) (turn_leaves turn old new t) h.zero);
+        zero = grind (arith, all_right, turn_leaves turn old new t);
       }

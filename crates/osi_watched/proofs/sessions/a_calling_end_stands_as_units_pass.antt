@@ -1,17 +1,14 @@
 -- A calling end of class 2 and a tap: what passes leaves all connections of the end standing, and so does a turn; and nobody of the end is
 -- to blame at those that have lost their judgement.
 -- For the session of each connection of an end.
-use Rattle.std.proofs.Common.{arith}
 use Rattle.osi_watched.proofs.Vocabulary.{[], ap, false, inl, inr, length, List, refl, Some, subst, sym, true, ℕ, ◌++◌, ◌<◌, ◌^◌, ◌∙◌, ◌∷◌}
-use Rattle.osi_watched.proofs.Vocabulary.{◌≡◌, ◌⊎◌}
-use Rattle.osi_watched.proofs.Vocabulary.{append-nil, AllByRecursion, slice_get, units_fit, units_found, units_of, Value, Part, Local, Left}
-use Rattle.osi_watched.proofs.Vocabulary.{Right, AllProper, early, Life, stage_at, CanBeWritten, Continues, Deeds, then_did, units_in}
-use Rattle.osi_watched.proofs.Vocabulary.{units_read, all_units, Turn, Joined, reference_of, spoken, units_pass, heard, Tracked, IsOngoing}
-use Rattle.osi_watched.proofs.Vocabulary.{begins_other, begins_own, Joint, passes_other, passes_own, Steps, TakesTurn, Direction}
-use Rattle.osi_watched.proofs.Vocabulary.{takes, unit_passes, Connection, is_closing, HaveSamePlaces}
-use Rattle.osi_fair.proofs.small_facts_that_many_lemmas_use.{number_is}
+use Rattle.osi_watched.proofs.Vocabulary.{◌≡◌, ◌⊎◌, append-nil, AllByRecursion, slice_get, units_fit, units_found, units_of, Value, Part}
+use Rattle.osi_watched.proofs.Vocabulary.{Local, Left, Right, AllProper, early, Life, stage_at, CanBeWritten, Continues, Deeds, then_did}
+use Rattle.osi_watched.proofs.Vocabulary.{units_in, units_read, all_units, Turn, Joined, reference_of, spoken, units_pass, heard, Tracked}
+use Rattle.osi_watched.proofs.Vocabulary.{IsOngoing, begins_other, begins_own, Joint, passes_other, passes_own, Steps, TakesTurn, Direction}
+use Rattle.osi_watched.proofs.Vocabulary.{takes, unit_passes, Connection, is_closing, HaveSamePlaces, arith, number_is, packet_begins}
 use Rattle.osi_honest.specs.Courses.{Course}
-use Rattle.osi_tap.specs.Courses.{Course as Passed, packet_begins}
+use Rattle.osi_tap.specs.Courses.{Course as Passed}
 use Rattle.osi_watched.proofs.small_facts_that_many_lemmas_use.{can_more as all_more, ranges_of}
 use Rattle.osi_watched.proofs.what_is_put_is_what_is_written.{none_written}
 use Rattle.osi_watched.proofs.sessions.a_calling_end_hears_what_breaks_no_rule.{AreFine, IsBehind, fine_plain, units_heard}
@@ -22,7 +19,7 @@ use Rattle.osi_watched.proofs.sessions.a_calling_end_takes_nothing_before_its_cc
 use Rattle.osi_watched.proofs.sessions.a_calling_end_takes_what_is_in_flight.{calling_dr, calling_takes}
 use Rattle.osi_watched.proofs.sessions.a_turn_leaves_all_standing.{IsOfOne, Turns, of_done, of_live}
 use Rattle.osi_watched.proofs.sessions.a_turn_does_what_its_deeds_say.{units_join}
-use Rattle.osi_watched.proofs.sessions.all_connections_stand.{AllStand, all_room, one_at}
+use Rattle.osi_watched.proofs.sessions.all_connections_stand.{all_room, one_at}
 use Rattle.osi_watched.proofs.sessions.connections_have_the_same_places.{at_same, unit_joins, unit_knows}
 use Rattle.osi_watched.proofs.sessions.each_unit_of_a_turn_has_one_connection.{IsMarked, puts_wait}
 use Rattle.osi_watched.proofs.sessions.each_cr_that_passes_gives_a_new_reference.{gives_new}
@@ -62,27 +59,13 @@ module _ (local : Local) (two : local.class2 ≡ true) (proper : AllProper) wher
       StandsCalling deeds old → StandsCalling deeds new
   begins_own_stands deeds old new (some, none, is) courses few h =
       let mid : Joint = record old { begun = true; course = packet_begins Left old.course } in
-      subst (StandsCalling deeds) (sym is) (record {
-        calling = begins_own_calling local two proper deeds old mid (some, none, refl) h.calling;
-        standing = step_begins_own Left deeds (known_at old) old mid (some, none, refl) courses few h.standing;
-        distinct = begins_distinct Left Left old.course.sessions h.distinct;
-        shut = begins_shut Left Left (may_take old.holding.end.carrier) (units_in old.coming) old.course.traffic old.course.sessions
-            h.shut;
-        can = h.can;
-      })
+      subst (StandsCalling deeds) (sym is) (search (arith, begins_own_calling, step_begins_own, begins_distinct, begins_shut, may_take))
 
   pub begins_other_stands : (deeds : ℕ → Deeds) (old new : Joint) → Steps Left begins_other old new → StandsCalling deeds old →
       StandsCalling deeds new
   begins_other_stands deeds old new is h =
       let mid : Joint = record old { course = packet_begins Right old.course } in
-      subst (StandsCalling deeds) (sym is) (record {
-        calling = begins_other_calling local two proper deeds old mid refl h.calling;
-        standing = step_begins_other Left deeds (known_at old) old mid refl h.standing;
-        distinct = begins_distinct Left Right old.course.sessions h.distinct;
-        shut = begins_shut Left Right (may_take old.holding.end.carrier) (units_in old.coming) old.course.traffic old.course.sessions
-            h.shut;
-        can = h.can;
-      })
+      subst (StandsCalling deeds) (sym is) (search (arith, begins_other_calling, step_begins_other, begins_distinct, begins_shut, may_take))
 
   rooms : (deeds : ℕ → Deeds) (j : Joint) → StandsCalling deeds j → HaveRoom j.course.sessions
   rooms deeds j h i k here = search (arith, all_room)
@@ -110,13 +93,7 @@ module _ (local : Local) (two : local.class2 ≡ true) (proper : AllProper) wher
   passes_other_stands deeds at packet units old new (octets, read, is) fine h =
       let mid : Joint = record old { course = units_pass Right at units old.course; coming = old.coming ++ packet ∷ [] } in
       let f = h.calling.ahead.followed in
-      let behind : IsBehind local old.put old.course = record {
-        whole = f.whole;
-        follows = whole_joined local two old f;
-        tap = f.tap;
-        same = f.put;
-        can = f.can;
-      } in
+      let behind : IsBehind local old.put old.course = search (arith, whole_joined) in
       let one : units_in (packet ∷ []) ≡ units = append-nil (units_read (units_of packet)) ∙ ap units_read read in
       let all : units_in old.coming ++ units ≡ units_in (old.coming ++ packet ∷ []) =
       sym (units_join old.coming (packet ∷ []) ∙ ap (λ (l : List Value). units_in old.coming ++ l) one) in
@@ -127,12 +104,10 @@ module _ (local : Local) (two : local.class2 ≡ true) (proper : AllProper) wher
         calling = passes_other_plain local two proper deeds at packet units old mid (octets, read, refl) h.standing.all.places h.calling
             (fine_plain h.calling.ahead.bound at units old.course fine);
         standing = record {
-          all = subst (λ (l : List Value). AllStand Left deeds (known_from (may_take old.holding.end.carrier) l) old.put old.begun
-              (units_pass Right at units old.course).traffic (units_pass Right at units old.course).sessions) all k.stand;
+          all = grind (arith, known_from, may_take);
         };
         distinct = k.distinct;
-        shut = subst (λ (l : List Value). AreShut Left (may_take old.holding.end.carrier) l (units_pass Right at units old.course).traffic
-            (units_pass Right at units old.course).sessions) all k.shut;
+        shut = grind (arith, may_take);
         can = h.can;
       })
 
@@ -144,8 +119,7 @@ module _ (local : Local) (two : local.class2 ≡ true) (proper : AllProper) wher
       let cs = j.course.traffic.connections in
       let (l, here_too, one) = at_same cs j.course.sessions.live p e h.standing.all.places at in
       let place : i ≡ p = h.distinct.live i p k l r here here_too named (ap (λ (m : ℕ). Some m) (one.calling ∙ same)) in
-      let is : c ≡ e = grind arith in
-      (p, e, at, tracked, same, subst (λ (x : Connection). x.is_judged ≡ true) is judged)
+      grind arith
 
   judged_or : (deeds : ℕ → Deeds) (j : Joint) → StandsCalling deeds j → (r : ℕ) → IsOfOne Left r j.course.traffic j.course.sessions →
       Tracked j.course.traffic.connections r ⊎ (waiting_for (Some r) (units_in j.coming) ≡ []) →
@@ -187,10 +161,8 @@ module _ (local : Local) (two : local.class2 ≡ true) (proper : AllProper) wher
             (λ begun. none_written old.put f.whole.put (sym f.put) ((whole_followed local two old f clear).some (f.begun ∙ begun))) turns
             h.standing;
         distinct = subst (λ (c : Passed). AreDistinct Left c.sessions) (sym t.course) h.distinct;
-        shut = subst (λ (c : Passed). AreShut Left (may_take new.holding.end.carrier) (units_in new.coming) c.traffic c.sessions)
-            (sym t.course) shut;
-        can = subst (AllByRecursion CanBeWritten) (sym (t.put ∙ ap (λ (l : List Value). old.put ++ l) units))
-            (all_more old.put (all_units on.put) h.can can);
+        shut = grind (arith, may_take);
+        can = grind (arith, all_more);
       }
 
   -- So it is if at each connection that may open the CC has passed the tap, or nothing of what has come is for it; and if it has passed at
@@ -210,8 +182,7 @@ module _ (local : Local) (two : local.class2 ≡ true) (proper : AllProper) wher
       let places = h.standing.all.places in
       let then_calling = turns_calling local two proper turn old new t deeds on life places clear h.calling in
       turns_stand turn old new t deeds on life units can marked
-      (λ r some one later sure. calling_takes local two turn old new t deeds on h.calling then_calling clear places r some
-      (life r some) (λ may. judged_or deeds old h r one (quiet r some may)) later sure)
+      (λ r some one later sure. search (arith, calling_takes, judged_or))
       (turn_shut Left (may_take old.holding.end.carrier) (may_take new.holding.end.carrier) (units_in old.coming)
       (units_in new.coming) old.course.traffic old.course.sessions
       (λ i c j r there here judged closing named live.

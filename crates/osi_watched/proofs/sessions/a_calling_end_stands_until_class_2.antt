@@ -1,39 +1,18 @@
 -- Until class 2 is selected all connections of a calling end stand at a tap, whatever classes it offers: at the beginning, and after what
 -- passes and is no break, or is passed over. For the session of the connection of an end in class 0.
-use Rattle.std.proofs.Common.{◌≡◌, ◌≢◌, ◌∙◌, refl, sym, ap, subst, ℕ, ◌^◌, ◌<◌, ◌≤◌, Bool, true, false, List, [], ◌∷◌, ◌++◌, length, Some}
-use Rattle.std.proofs.Common.{None, arith}
-use Rattle.std.specs.Prelude.{slice_get}
-use Rattle.std.specs.List.{AllByRecursion}
-use Rattle.std.proofs.lemmas.List.{append-nil}
-use Rattle.osi_tpdu.specs.Packet.{units_of}
-use Rattle.osi_tpdu.specs.Value.{Connect, HasFieldsInRange, Value, acknowledge, confirm, data0, data2, disconnect, disconnected}
-use Rattle.osi_tpdu.specs.Value.{error, request}
-use Rattle.osi_tpdu.specs.Writing.{Fits}
-use Rattle.osi_tpdu.proofs.the_units_of_a_packet.{units_fit, units_found}
-use Rattle.osi_class.specs.Tsdus.{Part}
-use Rattle.osi_class.specs.declared.terms.Class.TheVariants.{Zero}
-use Rattle.osi_class.specs.declared.terms.Local.{Local}
+use Rattle.osi_watched.proofs.Vocabulary.{◌≡◌, ◌≢◌, ◌∙◌, refl, sym, ap, subst, ℕ, ◌^◌, ◌<◌, ◌≤◌, Bool, true, false, List, [], ◌∷◌, ◌++◌}
+use Rattle.osi_watched.proofs.Vocabulary.{length, Some, None, arith, slice_get, AllByRecursion, append-nil, units_of, Connect}
+use Rattle.osi_watched.proofs.Vocabulary.{HasFieldsInRange, Value, acknowledge, confirm, data0, data2, disconnect, disconnected, error}
+use Rattle.osi_watched.proofs.Vocabulary.{request, Fits, units_fit, units_found, Part, Zero, Local, Direction, Left, Right, State, takes}
+use Rattle.osi_watched.proofs.Vocabulary.{Holding, Event, HappenAlong, Whole, fresh_apart, no_item, left_class, Holds, holds_first}
+use Rattle.osi_watched.proofs.Vocabulary.{holds_next, Deeds, no_deeds, units_in, units_read, IsFresh, AllProper, amid, stage_at, Joined}
+use Rattle.osi_watched.proofs.Vocabulary.{Sessions, spoken, taken, packet_begins, units_pass, heard, parts_of, HaveSamePlaces, Joint, Steps}
+use Rattle.osi_watched.proofs.Vocabulary.{begin, begins_other, begins_own, passes_other, passes_own}
 use Rattle.osi_carrier.specs.State.{State as Carrier}
-use Rattle.osi_judge.specs.declared.directions.Direction.{Direction}
-use Rattle.osi_judge.specs.declared.directions.Direction.TheVariants.{Left, Right}
 use Rattle.osi_rules.specs.declared.directions.Direction.TheVariants as way
-use Rattle.osi_rules.specs.Traffic.{State, takes}
-use Rattle.osi_stack.specs.State.{Holding}
-use Rattle.osi_fair.specs.Wholes.{Event, HappenAlong, Whole}
 use Rattle.osi_fair.specs.Wholes as wholes
-use Rattle.osi_fair.proofs.a_reference_names_one_connection.{fresh_apart, no_item}
-use Rattle.osi_fair.proofs.left_selects_no_class.{left_class}
-use Rattle.osi_fair.proofs.no_request_is_blamed.{Holds, holds_first, holds_next}
-use Rattle.osi_honest.specs.Courses.{Course, Deeds, no_deeds, units_in, units_read}
-use Rattle.osi_honest.specs.Seeing.{IsFresh}
-use Rattle.osi_honest.proofs.class_0.what_a_packet_does_in_class_0.{AllProper}
-use Rattle.osi_honest.proofs.courses.how_long_a_connection_is_open.{amid, stage_at}
-use Rattle.osi_tap.specs.Connections.{Joined, Sessions, spoken, taken}
-use Rattle.osi_tap.specs.Courses.{Course as Passed, packet_begins, units_pass}
-use Rattle.osi_tap.specs.Lines.{heard}
-use Rattle.osi_watched.specs.Shown.{parts_of}
-use Rattle.osi_watched.specs.ShownPlaces.{HaveSamePlaces}
-use Rattle.osi_watched.specs.Joint.{Joint, Steps, begin, begins_other, begins_own, passes_other, passes_own}
+use Rattle.osi_honest.specs.Courses.{Course}
+use Rattle.osi_tap.specs.Courses.{Course as Passed}
 use Rattle.osi_watched.proofs.a_carrier_does_events.{happen_join, none_of}
 use Rattle.osi_watched.proofs.steps_are_events.{IsFollowed, begin_followed, own_first}
 use Rattle.osi_watched.proofs.sessions.a_calling_end_hears_what_comes_until_class_2.{AreTaken, IsGone, IsNotTwo, IsWith, IsZeroAt}
@@ -67,8 +46,7 @@ all_known deeds some more put b s t f a = record {
   judged = a.judged;
   room = a.room;
   live = λ i c j there here judged.
-      stands_other_none Left deeds some more put b c c j j (like_same Left j) refl refl (λ r later named sure. f r later sure)
-      (a.live i c j there here judged);
+      search (arith, stands_other_none, like_same Left j, a.live i c j there here judged);
   lost = a.lost;
   done = λ i j here. rests_on Left deeds some more j (λ r later named sure. f r later sure) (a.done i j here);
 }
@@ -150,25 +128,7 @@ module _ (local : Local) where
       above = above_along 0 f.events first f.whole f.along above;
       below = none_below;
     };
-    early = record {
-      sure = fresh_sure;
-      all = record {
-        places = tt;
-        apart = fresh_apart;
-        judged = λ firm i c there. no_item i c there;
-        room = refl;
-        live = λ i c j there here judged. no_item i c there;
-        lost = λ i c j there here lost. no_item i c there;
-        done = λ i j here. absurd (cc here);
-      };
-      distinct = record {
-        live = λ i k j l r here there a b. absurd (cc here);
-        done = λ i k j l r here there a b. cc here;
-      };
-      below = none_below;
-      quiet = λ class. tt;
-      zero = λ class. absurd (cc class);
-    };
+    early = grind (arith, fresh_sure, fresh_apart, no_item);
     undone = λ class r less. record { put = refl; taken = refl; shut = λ peer is. shut_at r peer is };
     shut = λ class q peer some is. shut_at q peer is;
     some = λ begun. absurd (cc begun);
@@ -206,8 +166,7 @@ module _ (local : Local) where
         sure = sure_claim.begins Left old.course h.early.sure;
         all = all_begin_own Left deeds (known_below b end coming) old.put old.holding.end old.course.traffic old.course.sessions courses
             few
-            (subst (λ (x : Bool). AllStand Left deeds (known_below b end coming) old.put x old.course.traffic old.course.sessions) none
-            h.early.all);
+            (grind (arith, known_below));
         distinct = begins_distinct Left Left old.course.sessions h.early.distinct;
         below = begins_up Left Left b old.course.sessions h.early.below;
         quiet = h.early.quiet;
@@ -257,13 +216,7 @@ module _ (local : Local) where
       let f = h.ahead.followed in
       let g = passes_other_ahead first proper at packet units old mid (octets, read, refl) h.early.all.places h.ahead
       (no_crs b at units old.course taken) in
-      let beside : IsWith local end old.put old.course = record {
-        whole = f.whole;
-        holds = runs_staged local old f;
-        tap = f.tap;
-        like = f.like;
-        same = f.put;
-      } in
+      let beside : IsWith local end old.put old.course = search (arith, runs_staged) in
       let one : units_in (packet ∷ []) ≡ units = append-nil (units_read (units_of packet)) ∙ ap units_read read in
       let all : units_in old.coming ++ units ≡ units_in mid.coming =
       sym (units_join old.coming (packet ∷ []) ∙ ap (λ (l : List Value). units_in old.coming ++ l) one) in
@@ -274,8 +227,7 @@ module _ (local : Local) where
       subst (StandsUntilTwo deeds) (sym is) (record {
         ahead = g.ahead;
         early = early_higher deeds b g.ahead.bound end old.put old.begun (units_in mid.coming) mid.course g.rises g.ahead.below now;
-        undone = λ class.
-            undone_higher b g.ahead.bound deeds end g.rises (h.undone (units_none_before at units old.course class));
+        undone = grind (arith, undone_higher, units_none_before);
         shut = λ class. h.shut (units_none_before at units old.course class);
         some = h.some;
       })
@@ -398,8 +350,7 @@ module _ (local : Local) where
         record {
           ahead = k.ahead;
           early = subst (λ (m : ℕ). StandsEarly deeds m end put false coming (own_passed at (request x) old put).course) (sym k.bound) now;
-          undone = λ none.
-              undone_higher b k.ahead.bound deeds end (let same = k.bound in omega (arith, up, same)) (h.undone class);
+          undone = grind (arith, undone_higher);
           shut = λ none. h.shut class;
           some = λ begun. absurd (cc begun);
         }
@@ -461,5 +412,4 @@ module _ (local : Local) where
       let staged = runs_staged local old f in
       let kind = own_unit local f.whole unit s.rest (staged.stage (ap (λ (t : State). t.course.left_stopped) f.tap ∙ right.goes)) s.is
       (f.begun ∙ begun) (λ two. not_two (ap (λ (t : State). t.course.class) (sym f.tap) ∙ two)) in
-      subst (StandsUntilTwo deeds) (sym is)
-      (own_by proper deeds at old new.put h f.whole f.tap unit (read, octets, put, begun, refl) right kind)
+      grind (arith, own_by proper deeds at old new.put h f.whole f.tap unit (read, octets, put, begun, refl) right kind)

@@ -1,15 +1,12 @@
 -- A calling end takes no unit of a connection before its CC: of what comes for the connection, only DCs come before the CC, and after it no
 -- other CC if the connection is judged. So the end is calm in a turn before the connection opens.
 -- For all connections of an end and a tap.
-use Rattle.std.proofs.Common.{arith}
 use Rattle.osi_watched.proofs.Vocabulary.{[], ap, append_assoc, Bool, List, None, refl, Some, subst, sym, true, ℕ, ◌++◌, ◌∙◌, ◌∷◌, ◌≡◌}
 use Rattle.osi_watched.proofs.Vocabulary.{eq-eqb, append-nil, AllByRecursion, confirm, Connect, request, Value, Local, Carrier, has_given}
 use Rattle.osi_watched.proofs.Vocabulary.{early, Time as Stage, stage_at, stage_is, all_units_more, Opens, all_units, Marked, Follows}
 use Rattle.osi_watched.proofs.Vocabulary.{IsNoCc, Row, Tracked, first_kept, IsDc, first_left, names, picked_join, those, those_join, Line}
 use Rattle.osi_watched.proofs.Vocabulary.{Whole, acknowledge, data0, data2, disconnect, disconnected, error, false, ◌||◌, slice_get}
-use Rattle.osi_watched.proofs.Vocabulary.{Connection, is_tracked}
-use Rattle.osi_honest.proofs.courses.how_long_a_connection_is_open.{is_dr}
-use Rattle.osi_fair.proofs.what_the_other_side_closes.{IsOngoing}
+use Rattle.osi_watched.proofs.Vocabulary.{Connection, is_tracked, arith, is_dr, IsOngoing}
 use Rattle.osi_watched.proofs.small_facts_that_many_lemmas_use.{amid_not, over_not}
 use Rattle.osi_watched.proofs.sessions.nothing_is_done_before_a_cr_passes.{IsNoZero, dcs_none}
 use Rattle.osi_watched.proofs.sessions.what_an_end_takes_at_each_stage.{AreCalm, AreReady, EndsEarly, dcs_before, dcs_first, opens_next}
@@ -99,9 +96,7 @@ dcs_turn r t took others a then_awaits front back parts ends = by back parts end
         a.only a.calm b.is
     by _ is (opens_next peer unit rest o) =
         let units : all_units took ++ others ≡ all_units front ++ unit ∷ (all_units rest ++ others) =
-        ap (λ (l : List Marked). all_units l ++ others) is
-        ∙ ap (λ (l : List Value). l ++ others) (all_units_more front ((0, unit) ∷ rest))
-        ∙ append_assoc (all_units front) (unit ∷ all_units rest) others in
+        grind (arith, all_units_more, append_assoc) in
         before_opening r peer unit (all_units front) (all_units rest ++ others) o (subst (AwaitsCc r) units a)
 
 -- of units of which only DCs come for it, none is a DR for it
@@ -157,10 +152,7 @@ pub quiet_turn : (is_caller : Bool) (r : ℕ) (t : Stage) (took : List Marked) (
     waiting_for (Some r) (all_units took ++ others) ≡ [] → AreCalm is_caller r t took
 quiet_turn is_caller r t took others none front back parts ends =
     none_first (waiting_for (Some r) (all_units front)) (waiting_for (Some r) (all_units back ++ others))
-    (sym (picked_join (is_for (Some r)) (all_units front) (all_units back ++ others))
-    ∙ ap (waiting_for (Some r)) (sym (append_assoc (all_units front) (all_units back) others)
-    ∙ ap (λ (l : List Value). l ++ others) (sym (all_units_more front back)) ∙ ap (λ (l : List Marked). all_units l ++ others) (sym parts))
-    ∙ none)
+    (grind (arith, picked_join, is_for, waiting_for, append_assoc, all_units_more))
   where
     none_first : (xs ys : List Value) → xs ++ ys ≡ [] → xs ≡ []
     none_first [] ys e = refl

@@ -1,21 +1,12 @@
 -- What a calling end takes in a turn at a connection is the first of what is left over for it, if its CC has passed the tap, or nothing of
 -- what has come is for it, or it can open no more. And a DR in flight to it stays there as long as the end has it open.
 -- For all connections of an end and a tap.
-use Rattle.std.proofs.Common.{◌≡◌, ◌∙◌, ◌⊎◌, inl, inr, refl, sym, ap, subst, ℕ, ◌<◌, ◌≤◌, true, List, [], ◌++◌, Some, None, arith, is_some}
-use Rattle.std.specs.List.{AllByRecursion}
-use Rattle.std.proofs.lemmas.Bool.{le-leb, lt-ltb}
-use Rattle.osi_tpdu.specs.Value.{Value}
-use Rattle.osi_class.specs.Tsdus.{Part}
-use Rattle.osi_class.specs.declared.terms.Local.{Local}
+use Rattle.osi_watched.proofs.Vocabulary.{◌≡◌, ◌∙◌, ◌⊎◌, inl, inr, refl, sym, ap, subst, ℕ, ◌<◌, ◌≤◌, true, List, [], ◌++◌, Some, None}
+use Rattle.osi_watched.proofs.Vocabulary.{arith, is_some, AllByRecursion, le-leb, lt-ltb, Value, Part, Local, IsOngoing, Continues, Deeds}
+use Rattle.osi_watched.proofs.Vocabulary.{then_did, units_in, Turn, Life, amid, early, past, stage_at, stage_over, Course, Joint, TakesTurn}
+use Rattle.osi_watched.proofs.Vocabulary.{HaveSamePlaces}
 use Rattle.osi_carrier.specs.State.{State as Carrier}
-use Rattle.osi_rules.specs.Traffic.{State}
-use Rattle.osi_fair.proofs.what_the_other_side_closes.{IsOngoing}
-use Rattle.osi_honest.specs.Courses.{Continues, Deeds, then_did, units_in}
-use Rattle.osi_honest.specs.Turns.{Turn}
-use Rattle.osi_honest.proofs.courses.how_long_a_connection_is_open.{Life, Stage, amid, early, past, stage_at, stage_over}
-use Rattle.osi_tap.specs.Courses.{Course}
-use Rattle.osi_watched.specs.Joint.{Joint, TakesTurn}
-use Rattle.osi_watched.specs.ShownPlaces.{HaveSamePlaces}
+use Rattle.osi_honest.proofs.courses.how_long_a_connection_is_open.{Stage}
 use Rattle.osi_watched.proofs.a_carrier_does_events.{none_of}
 use Rattle.osi_watched.proofs.small_facts_that_many_lemmas_use.{amid_not, past_not}
 use Rattle.osi_watched.proofs.sessions.a_calling_end_is_ready.{IsCalling, whole_joined}
@@ -45,11 +36,7 @@ module _ (local : Local) (two : local.class2 ≡ true) where
       let (p, c, at, is, same, judged) = tracked in
       let (k, here, one) = at_same j.course.traffic.connections j.course.sessions.live p c places at in
       let low : r ≤ h.ahead.bound = (h.ahead.below.live p k r here (ap (λ (m : ℕ). Some m) (one.calling ∙ same))).1 in
-      let most : h.ahead.bound ≤ f.whole.end.given = h.ahead.above.given in
-      subst (AwaitsCc r) (f.coming lasts ∙ same_units j.coming)
-      (awaits_cc local f.whole r (whole_joined local two j f) (subst (λ (s : State). IsOngoing s.course) (sym f.tap) clear)
-      (subst (λ (s : State). TrackedJudged s.connections r) (sym f.tap) tracked)
-      (grind (arith, lt-ltb, le-leb)) (alike ∙ may) whole_lasts)
+      grind (arith, awaits_cc, lt-ltb, le-leb, f.coming lasts, same_units j.coming, whole_joined local two j f)
 
   module _ (turn : Turn) (old new : Joint) (t : TakesTurn turn old new) (deeds : ℕ → Deeds)
       (on : Continues true deeds old.holding turn new.holding) (h : IsCalling local two deeds old)

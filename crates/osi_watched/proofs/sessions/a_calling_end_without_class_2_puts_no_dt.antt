@@ -1,12 +1,10 @@
 -- As long as both sides are judged, a calling end that doesn't offer class 2 puts no DT unless class 0 is selected.
 -- For the law that no session of an end is blamed first.
-use Rattle.std.proofs.Common.{arith}
-use Rattle.osi_watched.proofs.Vocabulary.{[], ap, false, List, Some, subst, sym, true, ◌∙◌, ◌∷◌, ◌≡◌, Value, Zero, Local}
-use Rattle.osi_watched.proofs.Vocabulary.{Traffic as State, Left, Holds, holds_first, holds_next, Event, HappenAlong, Whole}
+use Rattle.osi_watched.proofs.Vocabulary.{[], false, List, Some, subst, sym, true, ◌∷◌, ◌≡◌, Value, Zero, Local, Left, Holds, holds_first}
+use Rattle.osi_watched.proofs.Vocabulary.{holds_next, Event, HappenAlong, Whole, arith, differ}
 use Rattle.osi_rules.specs.declared.directions.Direction.TheVariants as way
 use Rattle.osi_fair.specs.Wholes.{begin}
 use Rattle.osi_fair.proofs.how_requests_go_on.{Stage}
-use Rattle.osi_fair.proofs.small_facts_that_many_lemmas_use.{differ}
 use Rattle.osi_watched.proofs.steps_are_events.{own_first}
 use Rattle.osi_watched.proofs.sessions.an_end_that_has_said_nothing_is_not_to_blame.{PutsNoDt}
 use Rattle.osi_watched.proofs.sessions.what_stands_of_a_connection.{is_part}
@@ -24,7 +22,4 @@ by_stage local without w v rest e begun two h = grind (arith, is_part, differ)
 pub calling_puts_none : (local : Local) → local.class2 ≡ false → PutsNoDt Left local
 calling_puts_none local without at v old new (read, octets, put, begun, is) f clear =
     let s = own_first Left (begin true local) old new v (read, octets, put) f in
-    let holds = holds_along local f.events (begin true local) f.whole f.along (holds_first local) in
-    by_stage local without f.whole v s.rest s.is (f.begun ∙ begun)
-    (λ zero_is. clear.two (ap (λ (t : State). t.course.class) (sym f.tap) ∙ zero_is))
-    (holds.stage (ap (λ (t : State). t.course.left_stopped) f.tap ∙ clear.sure.left))
+    grind (arith, by_stage, holds_along local f.events (begin true local) f.whole f.along (holds_first local), holds_first local)

@@ -1,27 +1,16 @@
 -- A CC that has its effect gives a reference that no connection has which the calling end has not closed. So none of the units that wait
 -- to pass are for this reference: each of them is for a connection whose CC has passed.
 -- For all connections of an end and a tap.
-use Rattle.std.proofs.Common.{◌≡◌, ◌∙◌, refl, ap, ℕ, Bool, true, false, if◌then◌else◌, List, [], ◌∷◌, Option, Some, arith}
-use Rattle.std.specs.Prelude.{◌||◌, ◌&&◌, not, slice_get}
-use Rattle.std.specs.List.{AllByRecursion}
-use Rattle.osi_tpdu.specs.Value.{Connect, Value, confirm, destination_of}
-use Rattle.osi_class.specs.declared.terms.Class.{Class}
-use Rattle.osi_judge.specs.declared.directions.Direction.TheVariants.{Left}
-use Rattle.osi_rules.specs.declared.connections.Connection.{Connection}
+use Rattle.osi_watched.proofs.Vocabulary.{◌≡◌, ◌∙◌, refl, ap, ℕ, Bool, true, false, if◌then◌else◌, List, [], ◌∷◌, Option, Some, arith, ◌||◌}
+use Rattle.osi_watched.proofs.Vocabulary.{◌&&◌, not, slice_get, AllByRecursion, Connect, Value, confirm, destination_of, Class, Left}
+use Rattle.osi_watched.proofs.Vocabulary.{Connection, Broke, Outside, Phase, is_applied, first_failed, given_again, is_closing, is_open}
+use Rattle.osi_watched.proofs.Vocabulary.{uses, State, at_found, at_place, found_on, route_in, in_doubt, routed, takes, unnamed_by}
+use Rattle.osi_watched.proofs.Vocabulary.{uses_source, IsOwned, asking, is_tracked, stray, none_true, picked_rest, Sessions, HaveSamePlaces}
+use Rattle.osi_watched.proofs.Vocabulary.{named_by}
 use Rattle.osi_rules.specs.declared.directions.Direction.TheVariants as way
-use Rattle.osi_rules.specs.declared.findings.Finding.TheVariants.{Broke, Outside}
 use Rattle.osi_rules.specs.declared.findings.Rule.TheVariants as rule
-use Rattle.osi_rules.specs.declared.halves.Phase.{Phase}
 use Rattle.osi_rules.specs.declared.halves.Phase.TheVariants as phase
-use Rattle.osi_rules.specs.Reaches.{is_applied}
-use Rattle.osi_rules.specs.Rows.{first_failed, given_again}
-use Rattle.osi_rules.specs.Sides.{is_closing, is_open, uses}
-use Rattle.osi_rules.specs.Traffic.{State, at_found, at_place, found_on, route_in, in_doubt, routed, takes, unnamed_by, uses_source}
-use Rattle.osi_fair.proofs.each_connection_has_its_line.{IsOwned, asking, is_tracked, of, stray}
-use Rattle.osi_fair.proofs.what_holds_of_one_item.{none_true}
-use Rattle.osi_fair.proofs.which_units_are_for_a_connection.{picked_rest}
-use Rattle.osi_tap.specs.Connections.{Sessions}
-use Rattle.osi_watched.specs.ShownPlaces.{HaveSamePlaces, named_by}
+use Rattle.osi_fair.proofs.each_connection_has_its_line.{of}
 use Rattle.osi_watched.proofs.sessions.a_right_dt_has_one_place.{AreUsedApart, still_used}
 use Rattle.osi_watched.proofs.sessions.connections_have_the_same_places.{at_same}
 use Rattle.osi_watched.proofs.sessions.what_stands_of_a_connection.{is_for, waiting_for}

@@ -1,37 +1,19 @@
 -- A CC of class 0 opens the connection that the end has asked for, or answers; at the tap no other one has a reference that the end still
 -- uses. For the session of the connection of an end in class 0.
-use Rattle.std.proofs.Common.{arith}
-use Rattle.std.proofs.Common.{◌≡◌, ◌∙◌, ◌⊎◌, inl, inr, refl, sym, ap, subst, ℕ, Bool, true, false, if◌then◌else◌, List, [], ◌∷◌}
-use Rattle.std.proofs.Common.{Option, Some, None}
-use Rattle.std.specs.Prelude.{◌==◌, slice_get}
-use Rattle.std.proofs.lemmas.Bool.{eqb-true}
-use Rattle.osi_tpdu.specs.Value.{Connect, Value, confirm}
-use Rattle.osi_class.specs.declared.terms.Class.{Class}
+use Rattle.osi_watched.proofs.Vocabulary.{arith, ◌≡◌, ◌∙◌, ◌⊎◌, inl, inr, refl, sym, ap, subst, ℕ, Bool, true, false, if◌then◌else◌, List}
+use Rattle.osi_watched.proofs.Vocabulary.{[], ◌∷◌, Option, Some, None, ◌==◌, slice_get, eqb-true, Connect, Value, confirm, Class}
+use Rattle.osi_watched.proofs.Vocabulary.{Connection, Offer, Finding, Broke, NotJudged, Outside, Reach, Half, Phase, is_applied}
+use Rattle.osi_watched.proofs.Vocabulary.{first_failed, given_again, is_refused, is_silent, Outcome, State, at_found, class_of}
+use Rattle.osi_watched.proofs.Vocabulary.{connection_after, found_on, is_stopped, in_doubt, judged_on, sent_on, takes, unnamed_by, unlike}
+use Rattle.osi_watched.proofs.Vocabulary.{AreJudged, Waits, after_change, calm_tap, set_there, Joined, Sessions, reference_of, taken}
+use Rattle.osi_watched.proofs.Vocabulary.{Course, HaveSamePlaces}
 use Rattle.osi_judge.specs.declared.directions.Direction.TheVariants as side
-use Rattle.osi_rules.specs.declared.connections.Connection.{Connection}
-use Rattle.osi_rules.specs.declared.connections.Offer.{Offer}
 use Rattle.osi_rules.specs.declared.directions.Direction.TheVariants.{Left, Right}
-use Rattle.osi_rules.specs.declared.findings.Finding.{Finding}
-use Rattle.osi_rules.specs.declared.findings.Finding.TheVariants.{Broke, NotJudged, Outside}
-use Rattle.osi_rules.specs.declared.findings.Reach.{Reach}
 use Rattle.osi_rules.specs.declared.findings.Reach.TheVariants as reach
 use Rattle.osi_rules.specs.declared.findings.Rule.TheVariants as rule
-use Rattle.osi_rules.specs.declared.halves.Half.{Half}
-use Rattle.osi_rules.specs.declared.halves.Phase.{Phase}
 use Rattle.osi_rules.specs.declared.halves.Phase.TheVariants as phase
-use Rattle.osi_rules.specs.Reaches.{is_applied}
-use Rattle.osi_rules.specs.Rows.{first_failed, given_again}
-use Rattle.osi_rules.specs.Sides.{is_refused, is_silent}
-use Rattle.osi_rules.specs.Traffic.{Outcome, State, at_found, class_of, connection_after, found_on, is_stopped, in_doubt, judged_on}
-use Rattle.osi_rules.specs.Traffic.{sent_on, takes, unnamed_by}
-use Rattle.osi_fair.proofs.a_dt_of_class_zero_passes.{unlike}
-use Rattle.osi_fair.proofs.all_are_judged_unless_one_broke.{AreJudged}
 use Rattle.osi_fair.proofs.class_0_stays_selected.{reached_class}
-use Rattle.osi_fair.proofs.while_no_class_is_selected.{Waits, after_change, calm_tap, set_there}
-use Rattle.osi_tap.specs.Connections.{Joined, Sessions, reference_of, taken}
 use Rattle.osi_tap.specs.Connections as joined
-use Rattle.osi_tap.specs.Courses.{Course}
-use Rattle.osi_watched.specs.ShownPlaces.{HaveSamePlaces}
 use Rattle.osi_watched.proofs.what_a_taker_passes_over.{IsMild}
 use Rattle.osi_watched.proofs.sessions.a_unit_is_joined_where_it_is_named.{joined_named}
 use Rattle.osi_watched.proofs.sessions.class_0_keeps_its_one_place.{HasOne}

@@ -1,15 +1,13 @@
 -- In class 0 one connection was opened, and each other one was refused: there is one place for a DT of either side.
 -- For the session of the connection of an end in class 0.
-use Rattle.std.proofs.Common.{arith}
 use Rattle.osi_watched.proofs.Vocabulary.{ap, Bool, false, is_some, List, not, Some, true, ℕ, ◌&&◌, ◌∙◌, ◌≡◌, position, slice_get, ◌||◌}
 use Rattle.osi_watched.proofs.Vocabulary.{data0, Zero, is_closed, is_closing, is_live, is_open, is_over, is_refused, own, at_found}
 use Rattle.osi_watched.proofs.Vocabulary.{at_place, class_for, is_stopped, one_told, route_zero, routed, Traffic as State, takes}
 use Rattle.osi_watched.proofs.Vocabulary.{Connection, Way, Phase, other, Direction, Joined, reference_of, way_of, only_first, AreJudged}
-use Rattle.osi_watched.proofs.Vocabulary.{NamesApart as AreApart, Sound, IsOneOf, named_by, has_broken}
+use Rattle.osi_watched.proofs.Vocabulary.{NamesApart as AreApart, Sound, IsOneOf, named_by, has_broken, arith, is_false}
 use Rattle.osi_rules.specs.declared.directions.Direction.TheVariants as way
 use Rattle.osi_rules.specs.declared.halves.Phase.TheVariants as phase
 use Rattle.osi_rules.specs.Sides as sides
-use Rattle.osi_fair.proofs.small_facts_that_many_lemmas_use.{is_false}
 
 -- The connection at this place is open for both sides. All others are refused, and left knows that as soon as it knows the class.
 pub record IsOnly (s : State) : Type 0 where

@@ -1,9 +1,6 @@
 -- A DT of class 0 of the other side is in flight to the connection that the end has asked for, or has open, and to no other one.
 -- For the session of the connection of an end in class 0.
-use Rattle.std.proofs.Common.{arith}
-use Rattle.std.proofs.Common.{◌≡◌, ℕ, Bool, false, List, [], ◌∷◌, ◌++◌}
-use Rattle.osi_tpdu.specs.Value.{Value, data0}
-use Rattle.osi_class.specs.Tsdus.{Part}
+use Rattle.osi_watched.proofs.Vocabulary.{arith, ◌≡◌, ℕ, Bool, false, List, [], ◌∷◌, ◌++◌, Value, data0, Part}
 use Rattle.osi_watched.proofs.sessions.what_is_in_flight_to_an_end.{in_flight_more, known_of}
 
 -- a DT of class 0 is for the connection that the end has asked for, or has open

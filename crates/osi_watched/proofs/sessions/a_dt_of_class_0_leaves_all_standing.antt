@@ -1,29 +1,14 @@
 -- What passes of class 0 leaves all connections of an end standing at a tap: a unit of the end that is no break, and one of the other
 -- side that is none or is passed over. For the session of the connection of an end in class 0.
-use Rattle.std.proofs.Common.{◌≡◌, ◌∙◌, arith, Option, refl, sym, ap, ℕ, Bool, true, false, List, [], ◌∷◌, ◌++◌, Some, None}
-use Rattle.std.specs.Prelude.{is_some, slice_get}
-use Rattle.osi_tpdu.specs.Value.{Value, acknowledge, confirm, data0, data2, disconnect, disconnected, error, request}
-use Rattle.osi_class.specs.Tsdus.{Part}
-use Rattle.osi_class.specs.declared.terms.Class.{Class}
-use Rattle.osi_class.specs.declared.terms.Class.TheVariants.{Zero}
-use Rattle.osi_judge.specs.Captures.{other}
-use Rattle.osi_judge.specs.declared.directions.Direction.{Direction}
-use Rattle.osi_rules.specs.declared.connections.Connection.{Connection}
+use Rattle.osi_watched.proofs.Vocabulary.{◌≡◌, ◌∙◌, arith, Option, refl, sym, ap, ℕ, Bool, true, false, List, [], ◌∷◌, ◌++◌, Some, None}
+use Rattle.osi_watched.proofs.Vocabulary.{is_some, slice_get, Value, acknowledge, confirm, data0, data2, disconnect, disconnected, error}
+use Rattle.osi_watched.proofs.Vocabulary.{request, Part, Class, Zero, other, Direction, Connection, Finding, Kept, Reach, Half, is_applied}
+use Rattle.osi_watched.proofs.Vocabulary.{reach_of, is_open, own, State, class_for, connection_after, is_stopped, meaning_if, meant, takes}
+use Rattle.osi_watched.proofs.Vocabulary.{Deeds, Joined, Sessions, reference_of, Course, unit_passes, way_of, IsOneOf}
 use Rattle.osi_rules.specs.declared.directions.Direction.TheVariants as way
-use Rattle.osi_rules.specs.declared.findings.Finding.{Finding}
-use Rattle.osi_rules.specs.declared.findings.Finding.TheVariants.{Kept}
-use Rattle.osi_rules.specs.declared.findings.Reach.{Reach}
 use Rattle.osi_rules.specs.declared.findings.Reach.TheVariants as reach
-use Rattle.osi_rules.specs.declared.halves.Half.{Half}
-use Rattle.osi_rules.specs.Reaches.{is_applied, reach_of}
-use Rattle.osi_rules.specs.Sides.{is_open, own}
 use Rattle.osi_rules.specs.Sides as sides
-use Rattle.osi_rules.specs.Traffic.{State, class_for, connection_after, is_stopped, meaning_if, meant, takes}
-use Rattle.osi_honest.specs.Courses.{Deeds}
-use Rattle.osi_tap.specs.Connections.{Joined, Sessions, reference_of}
 use Rattle.osi_tap.specs.Connections as joined
-use Rattle.osi_tap.specs.Courses.{Course, unit_passes, way_of}
-use Rattle.osi_watched.specs.ShownPlaces.{IsOneOf}
 use Rattle.osi_watched.proofs.a_break_ends_no_judging_or_all.{takes_reach}
 use Rattle.osi_watched.proofs.the_first_break_is_not_of_an_end.{IsNoBreak}
 use Rattle.osi_watched.proofs.what_a_taker_passes_over.{IsMild, applied_of, mild_of}
@@ -81,9 +66,7 @@ own_dt : (d : Direction) (deeds : ℕ → Deeds) (known : Known) (at : ℕ) (end
     Leaves d deeds known known (data0 end user ∷ rest) rest true false d at (data0 end user) s t
 own_dt d deeds known at end user rest s t a z kept = record {
   all = λ e c j h. no_place _ (sym (zero_placed (way_of d) end user s kept).told ∙ e);
-  elsewhere = λ p i first c k j apart place there one at_k finding at_c at_j another judged h.
-      stands_elsewhere d deeds known (data0 end user) rest true c j
-      (elsewhere_none d d deeds known (data0 end user ∷ rest) true end user s t a z p i c j apart place at_c another) h;
+  elsewhere = search (arith, stands_elsewhere, elsewhere_none);
   here = λ p c j x r place there at_j one finding is far on judged h.
       by x (sym (ap is_applied (sym finding ∙ kept)) ∙ is) p c j r one
       (here_open d d deeds known (data0 end user ∷ rest) true end user s t a z p c place there) h;

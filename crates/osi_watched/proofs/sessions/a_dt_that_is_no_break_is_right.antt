@@ -1,17 +1,16 @@
 -- A DT that breaks no rule is right, as long as its side and its connection are judged.
 -- For the law on places.
-use Rattle.std.proofs.Common.{arith}
 use Rattle.osi_watched.proofs.Vocabulary.{[], Bool, false, if◌then◌else◌, inl, inr, is_some, List, None, Option, refl, Some, subst, sym}
 use Rattle.osi_watched.proofs.Vocabulary.{true, ℕ, ◌∷◌, ◌≡◌, ◌⊎◌, AllByRecursion, slice_get, data0, data2, Value, unit_parts, Class, Two}
 use Rattle.osi_watched.proofs.Vocabulary.{Zero, data0_tests, first_failed, Test, at_found, at_place, found, is_stopped, route_in, routed}
 use Rattle.osi_watched.proofs.Vocabulary.{Traffic as State, in_doubt, takes, unnamed_by, uses_source, Connection, Rules, Way, Finding}
 use Rattle.osi_watched.proofs.Vocabulary.{Broke, Kept, NotJudged, Rule, Capture, Direction, user_of, marked, marks_of, moved, unread_mark}
 use Rattle.osi_watched.proofs.Vocabulary.{unread_moment, way_of, comes_to, Cause, no_item, AreJudged, still_judged, packet, unit, is_report}
+use Rattle.osi_watched.proofs.Vocabulary.{arith, Course}
 use Rattle.osi_rules.specs.declared.directions.Direction.TheVariants as way
 use Rattle.osi_rules.specs.declared.findings.Rule.TheVariants as rule
 use Rattle.osi_rules.specs.Sides as sides
 use Rattle.osi_rules.specs.Traffic as traffic
-use Rattle.osi_tap.specs.Courses.{Course}
 use Rattle.osi_tap.specs.Tapping.{begin}
 use Rattle.osi_watched.proofs.what_passes_keeps_a_claim.{IsClaim, after_kept}
 use Rattle.osi_watched.proofs.sessions.connections_have_the_same_places.{marked_traffic, unit_knows}

@@ -1,36 +1,14 @@
 -- In class 0 a DT with which the TSDU of its side is too long breaks that rule; and so it would later, whatever the other side has sent.
 -- For a TSDU of the other side that becomes too long.
-use Rattle.std.proofs.Common.{arith}
-use Rattle.std.proofs.Common.{◌≡◌, ◌∙◌, refl, sym, ap, subst, ℕ, zero, suc, ◌+◌, ◌<◌, Bool, true, false, if◌then◌else◌}
-use Rattle.std.proofs.Common.{List, [], ◌∷◌, map, length, nat_le, Option, Some, None}
-use Rattle.std.proofs.lemmas.Bool.{eqb-true, leb-false}
-use Rattle.std.specs.Prelude.{slice_get}
-use Rattle.osi_tpdu.specs.Value.{Value, data0}
-use Rattle.osi_class.specs.Limits.{longest_tsdu}
-use Rattle.osi_class.specs.declared.terms.Class.{Class}
-use Rattle.osi_class.specs.declared.terms.Class.TheVariants.{Zero}
-use Rattle.osi_class.specs.declared.terms.Local.{Local}
-use Rattle.osi_judge.specs.Captures.{other}
-use Rattle.osi_judge.specs.declared.directions.Direction.{Direction}
-use Rattle.osi_judge.specs.declared.directions.Direction.TheVariants.{Left, Right}
-use Rattle.osi_rules.specs.declared.connections.Connection.{Connection}
-use Rattle.osi_rules.specs.declared.findings.Finding.TheVariants.{Broke, Kept, NotJudged}
-use Rattle.osi_rules.specs.declared.findings.Reach.{Reach}
+use Rattle.osi_watched.proofs.Vocabulary.{arith, ◌≡◌, ◌∙◌, refl, sym, ap, subst, ℕ, zero, suc, ◌+◌, ◌<◌, Bool, true, false, List, [], ◌∷◌}
+use Rattle.osi_watched.proofs.Vocabulary.{map, length, nat_le, Some, None, eqb-true, leb-false, slice_get, Value, data0, longest_tsdu, Zero}
+use Rattle.osi_watched.proofs.Vocabulary.{Local, other, Direction, Left, Right, Connection, Broke, Kept, Reach, is_applied, first_failed}
+use Rattle.osi_watched.proofs.Vocabulary.{begins, own, State, class_for, connection_after, is_stopped, takes, unlike, IsFirm, after_change}
+use Rattle.osi_watched.proofs.Vocabulary.{Course, unit_passes, way_of, Joint, Steps, passes_own, calls_from}
 use Rattle.osi_rules.specs.declared.findings.Rule.TheVariants as rule
-use Rattle.osi_rules.specs.Reaches.{is_applied}
-use Rattle.osi_rules.specs.Rows.{first_failed, fits_size, fits_tsdu}
 use Rattle.osi_rules.specs.Sides as sides
-use Rattle.osi_rules.specs.Sides.{begins, own}
 use Rattle.osi_rules.specs.Traffic as traffic
-use Rattle.osi_rules.specs.Traffic.{Outcome, State, class_for, connection_after, found_on, is_stopped, route_in}
-use Rattle.osi_rules.specs.Traffic.{routed, takes}
 use Rattle.osi_fair.specs.Wholes as wholes
-use Rattle.osi_fair.proofs.a_dt_of_class_zero_passes.{unlike}
-use Rattle.osi_fair.proofs.what_the_other_side_closes.{IsFirm}
-use Rattle.osi_fair.proofs.while_no_class_is_selected.{after_change}
-use Rattle.osi_tap.specs.Courses.{Course, unit_passes, way_of}
-use Rattle.osi_watched.specs.Joint.{Joint, Steps, passes_own}
-use Rattle.osi_watched.specs.Shown.{calls_from}
 use Rattle.osi_watched.proofs.small_facts_that_many_lemmas_use.{same_item, same_one, zero_two}
 use Rattle.osi_watched.proofs.steps_are_events.{IsFollowed, own_first}
 use Rattle.osi_watched.proofs.sessions.a_called_end_stands_in_class_0.{dts_of, stage_of}
@@ -72,25 +50,7 @@ breaks_too_long d end user s sure firm class goes seen unapplied q =
     let o = only_of s sure firm class in
     let e = way_of (other d) in
     let told = dt_takes e end user s sure.judged firm.firm sure.apart o goes seen in
-    let found : is_applied (found_on e s o.connection (data0 end user)) ≡ false =
-    ap (λ (x : Outcome). is_applied x.told.finding) (sym told) ∙ unapplied in
-    let tests : is_applied (first_failed ((fits_tsdu e o.connection (length user), Broke rule.TsduTooLong)
-    ∷ (fits_size o.connection.size (length user + 3), Broke rule.SizeExceeded) ∷ [])) ≡ false =
-    sym (found_is (other d) o.connection (sure.judged firm.firm o.place o.connection o.there)) ∙ found in
-    subst (λ (c : Connection). longest_tsdu < (own e c).begun + length user) (sym (same_only s o q))
-    (long_so (own e o.connection).begun (length user)
-    (not_fits (fits_tsdu e o.connection (length user)) (fits_size o.connection.size (length user + 3)) tests))
-  where
-    found_is : (e : Direction) (c : Connection) → c.is_judged ≡ true →
-        is_applied (found_on (way_of e) s c (data0 end user))
-        ≡ is_applied (first_failed ((fits_tsdu (way_of e) c (length user), Broke rule.TsduTooLong)
-        ∷ (fits_size c.size (length user + 3), Broke rule.SizeExceeded) ∷ []))
-    found_is Left c judged =
-        ap (λ (b : Bool). is_applied (if b then first_failed ((fits_tsdu (way_of Left) c (length user), Broke rule.TsduTooLong)
-        ∷ (fits_size c.size (length user + 3), Broke rule.SizeExceeded) ∷ []) else NotJudged)) judged
-    found_is Right c judged =
-        ap (λ (b : Bool). is_applied (if b then first_failed ((fits_tsdu (way_of Right) c (length user), Broke rule.TsduTooLong)
-        ∷ (fits_size c.size (length user + 3), Broke rule.SizeExceeded) ∷ []) else NotJudged)) judged
+    grind (arith, long_so, not_fits, sure.judged firm.firm o.place o.connection o.there, same_only s o q)
 
 -- ---- a packet begins
 
@@ -108,10 +68,6 @@ pub begins_too_long : (d e : Direction) (user : List ℕ) (s : State) → IsOnly
 begins_too_long d e user s o long q = grind (arith, connection_of, same_item, eqb-true, begun_own, open_not_refused, unlike)
 
 -- ---- a DT of the end passes
-
-none_kept : (d : Direction) (k : Option Class) (b end : Bool) (user : List ℕ) (s : State) →
-    (routed (way_of d) (data0 end user) s (route_in k (way_of d) b (data0 end user))).told.finding ≡ Kept → k ≡ Some Zero
-none_kept d k b end user s h = grind arith
 
 other_begun : (d : Direction) (v : Value) (b : Bool) (r : Reach) (c : Connection) →
     own (way_of (other d)) (connection_after (way_of d) v b r c) ≡ own (way_of (other d)) c

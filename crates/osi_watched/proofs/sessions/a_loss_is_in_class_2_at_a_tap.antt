@@ -1,12 +1,9 @@
 -- At a tap a connection loses its judgement in class 2 alone: in class 0 none has lost it.
 -- For the law that no session of an end is blamed after a break of the other side.
-use Rattle.std.proofs.Common.{arith}
-use Rattle.osi_watched.proofs.Vocabulary.{Bool, false, if◌then◌else◌, is_some, Some, subst, sym, ℕ, ◌∙◌, ◌≡◌, Two, Zero}
-use Rattle.osi_watched.proofs.Vocabulary.{Traffic as State, Capture, Direction, way_of, marked, marks_of, moved, unread_mark, unread_moment}
-use Rattle.osi_watched.proofs.Vocabulary.{comes_to, Cause, packet, unit}
+use Rattle.osi_watched.proofs.Vocabulary.{Bool, false, if◌then◌else◌, is_some, Some, subst, sym, ℕ, ◌∙◌, ◌≡◌, Two, Zero, Traffic as State}
+use Rattle.osi_watched.proofs.Vocabulary.{Capture, Direction, way_of, marked, marks_of, moved, unread_mark, unread_moment, comes_to, Cause}
+use Rattle.osi_watched.proofs.Vocabulary.{packet, unit, arith, IsOfTwo, firm_unless_two, still_two, Course}
 use Rattle.osi_rules.specs.Traffic as traffic
-use Rattle.osi_fair.proofs.a_connection_is_lost_in_class_2_alone.{IsOfTwo, firm_unless_two, still_two}
-use Rattle.osi_tap.specs.Courses.{Course}
 use Rattle.osi_tap.specs.Tapping.{begin}
 use Rattle.osi_watched.proofs.what_passes_keeps_a_claim.{IsClaim, after_kept}
 use Rattle.osi_watched.proofs.sessions.connections_have_the_same_places.{marked_traffic, unit_knows}

@@ -1,43 +1,25 @@
 -- A DT that is right has a place, at which it adds to what is joined; and each side uses a reference at one open place at most.
 -- For the law on places.
-use Rattle.std.proofs.Common.{arith}
-use Rattle.std.proofs.Common.{◌≡◌, ap, subst, ℕ, ◌+◌, Bool, true, false, if◌then◌else◌}
-use Rattle.std.proofs.Common.{List, [], ◌∷◌, Option, Some}
-use Rattle.std.specs.Prelude.{◌&&◌, ◌||◌, ◌==◌, not, slice_get}
-use Rattle.std.proofs.lemmas.Bool.{eq-eqb}
-use Rattle.osi_tpdu.specs.Value.{Value, acknowledge, confirm, data0, data2, destination_of, disconnect, disconnected, error, request}
-use Rattle.osi_class.specs.Runs.{unit_parts}
-use Rattle.osi_judge.specs.Captures.{Capture, other}
-use Rattle.osi_judge.specs.declared.directions.Direction.{Direction}
-use Rattle.osi_judge.specs.declared.directions.Direction.TheVariants.{Left, Right}
-use Rattle.osi_rules.specs.declared.connections.Connection.{Connection}
+use Rattle.osi_watched.proofs.Vocabulary.{arith, ◌≡◌, ap, subst, ℕ, ◌+◌, Bool, true, false, if◌then◌else◌, List, [], ◌∷◌, Option, Some}
+use Rattle.osi_watched.proofs.Vocabulary.{◌&&◌, ◌||◌, ◌==◌, not, slice_get, eq-eqb, Value, acknowledge, confirm, data0, data2}
+use Rattle.osi_watched.proofs.Vocabulary.{destination_of, disconnect, disconnected, error, request, unit_parts, Capture, other, Direction}
+use Rattle.osi_watched.proofs.Vocabulary.{Left, Right, Connection, Broke, Kept, NotJudged, Adds, Phase, Route, is_applied, Test, fits_size}
+use Rattle.osi_watched.proofs.Vocabulary.{fits_tsdu, has_credit, is_tellable, is_closed, is_closing, is_open, is_refused, is_silent, own}
+use Rattle.osi_watched.proofs.Vocabulary.{uses, Outcome, State, at_place, found, meant, none_told, in_doubt, routed, takes, unnamed_by}
+use Rattle.osi_watched.proofs.Vocabulary.{uses_source, packet, unit, fresh_apart, passes_apart, AreNamedApart, OnlyOne, each_sound}
+use Rattle.osi_watched.proofs.Vocabulary.{HoldsOfEach, Sound, Cause, Joined, reference_of, user_of, Course, marked, moved, packet_begins}
+use Rattle.osi_watched.proofs.Vocabulary.{unit_passes, unread_mark, unread_moment, way_of, comes_to, HaveSamePlaces, IsJoinedAt, IsOneOf}
+use Rattle.osi_watched.proofs.Vocabulary.{named_by}
 use Rattle.osi_rules.specs.declared.courses.Course.{Course as Rules}
 use Rattle.osi_rules.specs.declared.directions.Direction.{Direction as Way}
 use Rattle.osi_rules.specs.declared.directions.Direction.TheVariants as way
-use Rattle.osi_rules.specs.declared.findings.Finding.{Finding}
-use Rattle.osi_rules.specs.declared.findings.Finding.TheVariants.{Broke, Kept, NotJudged}
-use Rattle.osi_rules.specs.declared.findings.Meaning.TheVariants.{Adds}
 use Rattle.osi_rules.specs.declared.findings.Rule.TheVariants as rule
-use Rattle.osi_rules.specs.declared.halves.Phase.{Phase}
 use Rattle.osi_rules.specs.declared.halves.Phase.TheVariants as phase
-use Rattle.osi_rules.specs.declared.routes.Route.{Route}
-use Rattle.osi_rules.specs.Reaches.{is_applied}
-use Rattle.osi_rules.specs.Rows.{Test, fits_size, fits_tsdu, has_credit, is_tellable}
-use Rattle.osi_rules.specs.Sides.{is_closed, is_closing, is_open, is_refused, is_silent, own, uses}
 use Rattle.osi_rules.specs.Sides as sides
-use Rattle.osi_rules.specs.Traffic.{Outcome, State, at_place, found, meant, none_told, in_doubt, routed, takes, unnamed_by, uses_source}
 use Rattle.osi_rules.specs.Traffic as traffic
-use Rattle.osi_fair.specs.Naming.{packet, unit}
-use Rattle.osi_fair.proofs.a_reference_names_one_connection.{fresh_apart, passes_apart}
 use Rattle.osi_fair.proofs.all_are_judged_unless_one_broke.{IsJudged}
-use Rattle.osi_fair.proofs.names_stay_apart_though_one_is_lost.{AreNamedApart, OnlyOne, each_sound}
-use Rattle.osi_fair.proofs.what_holds_of_one_item.{HoldsOfEach}
-use Rattle.osi_fair.proofs.what_keeps_names_apart.{AreApart, Sound}
-use Rattle.osi_tap.specs.declared.marks.Cause.{Cause}
-use Rattle.osi_tap.specs.Connections.{Joined, reference_of, user_of}
-use Rattle.osi_tap.specs.Courses.{Course, marked, moved, packet_begins, unit_passes, unread_mark, unread_moment, way_of}
-use Rattle.osi_tap.specs.Tapping.{begin, comes_to}
-use Rattle.osi_watched.specs.ShownPlaces.{HaveSamePlaces, IsJoinedAt, IsOneOf, named_by}
+use Rattle.osi_fair.proofs.what_keeps_names_apart.{AreApart}
+use Rattle.osi_tap.specs.Tapping.{begin}
 use Rattle.osi_watched.proofs.what_passes_keeps_a_claim.{after_kept}
 use Rattle.osi_watched.proofs.sessions.a_unit_is_joined_where_it_is_named.{joined_named}
 use Rattle.osi_watched.proofs.sessions.connections_have_the_same_places.{at_same, joined_there, marked_traffic, unit_knows}
@@ -53,9 +35,6 @@ pub record IsPlaced (d : Way) (v : Value) (end : Bool) (s : State) (o : Outcome)
   pub there : slice_get s.connections place ≡ Some connection
   pub judged : connection.is_judged ≡ true
   pub applied : is_applied (found d s.course (uses_source d s.connections v) connection v) ≡ true
-
-judged_applied : (b : Bool) (f : Finding) → is_applied (if b then f else NotJudged) ≡ true → (b ≡ true) × (is_applied f ≡ true)
-judged_applied b f h = grind arith
 
 -- a unit that adds to a TSDU
 abbrev AddsTo : Value → Bool → Type 0
@@ -110,8 +89,7 @@ dt_joined d at (data2 m number e user) end c h parts kept =
     let v = data2 m number e user in
     let p = two_placed (way_of d) m number e user c.traffic (ap is_applied kept) in
     subst (λ (b : Bool). IsJoinedAt d at v b c) (grind arith)
-    (joined_at d at v e c h p (λ n k. two_open (way_of d) m number e user c.traffic.course
-    (uses_source (way_of d) c.traffic.connections v) p.connection p.applied))
+    (joined_at d at v e c h p (grind (arith, two_open)))
 dt_joined d at (request x) end c h parts kept = absurd (cc)
 dt_joined d at (confirm m x) end c h parts kept = absurd (cc)
 dt_joined d at (disconnect m source reason user) end c h parts kept = absurd (cc)

@@ -1,23 +1,21 @@
 -- A session of an end is not to blame for what a tap has joined of its connection.
 -- For the law on a connection of an end and a tap.
-use Rattle.std.proofs.Common.{arith}
-use Rattle.osi_watched.proofs.Vocabulary.{[], ap, append_assoc, Bool, drop, false, length, List, map, refl, subst, sym}
-use Rattle.osi_watched.proofs.Vocabulary.{take, true, ℕ, ◌++◌, ◌+◌, ◌∙◌, ◌∷◌, ◌≡◌, ◌≤◌, flat_map-append, append-nil, take-append-drop}
-use Rattle.osi_watched.proofs.Vocabulary.{AllByRecursion, Given, unit_of, give_out, given_parts, hand_in, hand_out, Move, parts_in}
-use Rattle.osi_watched.proofs.Vocabulary.{parts_out, tsdus_in, tsdus_out, unit_parts, Part, tsdus, tsdus_after, uncut, Listener, Seen, End}
-use Rattle.osi_watched.proofs.Vocabulary.{AsSent, front_told, first_asked, AllInside, AsParts, front_inside, honest_inside, CalledLaw}
-use Rattle.osi_watched.proofs.Vocabulary.{CallerLaw, other, IsExplained, IsFound, selects_outside, IsHonest, IsSentFrom}
-use Rattle.osi_watched.proofs.Vocabulary.{broke_session, begin_of, Direction, Left as left, Right as right, none_said, out_more, said_more}
-use Rattle.osi_watched.proofs.Vocabulary.{IsSaid, nothing, shown_said, something, units_came, opens_so, history_runs, Deeds, Gone, no_deeds}
-use Rattle.osi_watched.proofs.Vocabulary.{said_in, Speaks, units_given, is_gone, closed, never, Shows, octets_said, IsToBlame, Joined}
-use Rattle.osi_watched.proofs.Vocabulary.{spoken, heard, told, AreAfter, before_of, calls_from, IsShownOf, left_over, parts_of, take_in}
+use Rattle.osi_watched.proofs.Vocabulary.{[], ap, append_assoc, Bool, drop, false, length, List, map, refl, subst, sym, take, true, ℕ, ◌++◌}
+use Rattle.osi_watched.proofs.Vocabulary.{◌+◌, ◌∙◌, ◌∷◌, ◌≡◌, ◌≤◌, flat_map-append, append-nil, take-append-drop, AllByRecursion, Given}
+use Rattle.osi_watched.proofs.Vocabulary.{unit_of, give_out, given_parts, hand_in, hand_out, Move, parts_in, parts_out, tsdus_in, tsdus_out}
+use Rattle.osi_watched.proofs.Vocabulary.{unit_parts, Part, tsdus_after, Listener, Seen, End, AsSent, front_told, first_asked, AllInside}
+use Rattle.osi_watched.proofs.Vocabulary.{AsParts, front_inside, honest_inside, CalledLaw, CallerLaw, other, IsExplained, IsFound}
+use Rattle.osi_watched.proofs.Vocabulary.{selects_outside, IsHonest, IsSentFrom, broke_session, begin_of, Direction, Left as left}
+use Rattle.osi_watched.proofs.Vocabulary.{Right as right, none_said, out_more, said_more, IsSaid, nothing, shown_said, something}
+use Rattle.osi_watched.proofs.Vocabulary.{units_came, opens_so, history_runs, Deeds, Gone, no_deeds, said_in, Speaks, units_given, is_gone}
+use Rattle.osi_watched.proofs.Vocabulary.{closed, never, Shows, octets_said, IsToBlame, Joined, spoken, heard, told, AreAfter, before_of}
+use Rattle.osi_watched.proofs.Vocabulary.{calls_from, IsShownOf, left_over, parts_of, take_in, arith, awaited, unknown, Said, told_of}
 use Rattle.osi_judge.specs.Explaining.{Told}
 use Rattle.osi_judge.specs.Running as running
 use Rattle.osi_judge.specs.declared.findings.Finding.{Finding}
 use Rattle.osi_honest.specs.Courses.{Course}
-use Rattle.osi_honest.specs.Courses.Course.{is_open, awaited, unknown}
+use Rattle.osi_honest.specs.Courses.Course.{is_open}
 use Rattle.osi_honest.specs.Courses.Gone.{over}
-use Rattle.osi_honest.specs.Talking.{Said, told_of}
 use Rattle.osi_honest.proofs.courses.what_was_said_is_explained.{units_put}
 use Rattle.osi_tap.specs.Lines as lines
 
@@ -104,25 +102,15 @@ module _ (d : Direction) (r : ℕ) (deeds : Deeds) (e : End) (j : Joined) (cours
       let put = units_put (calls_from d) r deeds e course in
       let unsent = put.0 in
       let parts : parts_out deeds.calls ≡ parts_of shown.passed ++ parts_of shown.waiting =
-      sym (parts_put put.1 deeds.calls) ∙ ap parts_of (sym put.2) ∙ ap parts_of shown.put
-      ∙ flat_map-append unit_parts shown.passed shown.waiting in
-      let all : tsdus_in deeds.calls ≡ tsdus (parts_of shown.passed ++ (parts_of shown.waiting ++ uncut unsent)) =
-      sym put.3 ∙ ap (λ (l : List Part). tsdus (l ++ uncut unsent)) parts
-      ∙ ap tsdus (append_assoc (parts_of shown.passed) (parts_of shown.waiting) (uncut unsent)) in
-      let more = tsdus_after (left_over [] (parts_of shown.passed)) (parts_of shown.waiting ++ uncut unsent) in (
-        more,
-        ap (λ (l : List (List ℕ)). l ++ more) shown.said.whole
-            ∙ sym (tsdus_more [] (parts_of shown.passed) (parts_of shown.waiting ++ uncut unsent))
-            ∙ sym all ∙ sym (octets_in 0 deeds.calls),
-      )
+      grind (arith, parts_put put.1 deeds.calls, flat_map-append unit_parts shown.passed shown.waiting) in
+      grind (arith, append_assoc, tsdus_more, octets_in)
 
   -- what was taken comes first of what is heard
   other_more : (more : List (List ℕ)) × (heard (spoken (other d) j) ≡ tsdus_out deeds.calls ++ more)
   other_more =
       let more = tsdus_after (left_over [] (parts_in deeds.calls)) shown.later in (
         more,
-        shown.came.whole ∙ tsdus_more [] (parts_in deeds.calls) shown.later
-            ∙ ap (λ (l : List (List ℕ)). l ++ more) (units_came (calls_from d) r deeds e course),
+        grind (arith, tsdus_more [] (parts_in deeds.calls) shown.later, units_came (calls_from d) r deeds e course),
       )
 
   pub joined_said : IsSaid (calls_from d) (heard (spoken (other d) j)) (told (spoken d j))
@@ -130,9 +118,7 @@ module _ (d : Direction) (r : ℕ) (deeds : Deeds) (e : End) (j : Joined) (cours
       let us = heard (spoken (other d) j) in
       let own = own_more in
       let rest = other_more in
-      shown_said (calls_from d) us us (told (spoken d j)) (map told_of (said_in 0 deeds.calls)) (λ i l. refl)
-      (joined_shows (length us) (spoken d j).said _ (said_in 0 deeds.calls) own.0 own.1 shown.after shown.so_far)
-      (heard_said (calls_from d) r deeds e us rest.0 rest.1 course)
+      search (arith, shown_said, joined_shows, heard_said (calls_from d) r deeds e us rest.0 rest.1 course)
 
 -- ---- what was said by a session of an end is not blamed
 
@@ -146,8 +132,7 @@ front_outside us told i a s = grind (arith, not_both, front_inside, first_asked,
 not_broken : (begin : Seen) (us : List (List ℕ)) (told : List Told) (i : ℕ) → IsExplained begin us told →
     (IsExplained begin us (take (i + 1) told) → ⊥) → ⊥
 not_broken begin us told i e n =
-    n (front_told us (take (i + 1) told) (drop (i + 1) told) begin
-    (subst (λ (x : List Told). IsExplained begin us x) (sym (take-append-drop (i + 1) told)) e))
+    n (grind (arith, front_told, take-append-drop (i + 1) told))
 
 no_break : (begin : Seen) (us : List (List ℕ)) (told : List Told) (finding : Finding) → IsExplained begin us told →
     AllInside (first_asked us) told → IsFound begin us told finding → broke_session finding ≡ false
@@ -180,5 +165,4 @@ module _ (known : AsSent) (parts : AsParts) (caller : CallerLaw) (called : Calle
       IsShownOf d r deeds j → IsToBlame d j → ⊥
   not_to_blame d r deeds e j course shown blame =
       not_both (broke_session blame.finding) blame.broke
-      (said_kept d (heard (spoken (other d) j)) (told (spoken d j)) blame.finding (joined_said d r deeds e j course shown)
-      blame.found.found)
+      (search (arith, said_kept, joined_said))

@@ -1,40 +1,19 @@
 -- The rules of transport count as many octets of the unfinished TSDU of each side as a tap has joined of it, at each place, whatever
 -- passes.
 -- For a TSDU of the other side that becomes too long.
-use Rattle.std.proofs.Common.{◌≡◌, ◌∙◌, ◌⊎◌, inl, inr, refl, sym, ap, subst, ℕ, zero, suc, ◌+◌, ◌≤◌, Bool, true, false, if◌then◌else◌, List}
-use Rattle.std.proofs.Common.{[], ◌∷◌, ◌++◌, map, length, nat_le, Some, is_some, arith}
-use Rattle.std.proofs.lemmas.Bool.{leb-true}
-use Rattle.std.proofs.lemmas.List.{length-append}
-use Rattle.std.proofs.lemmas.Option.{slice_get_within}
-use Rattle.std.specs.Prelude.{set, slice_get}
-use Rattle.osi_tpdu.specs.Value.{Value, acknowledge, confirm, data0, data2, disconnect, disconnected, error, request}
-use Rattle.osi_class.specs.Limits.{longest_tsdu}
-use Rattle.osi_judge.specs.Captures.{other}
-use Rattle.osi_judge.specs.declared.directions.Direction.{Direction}
-use Rattle.osi_judge.specs.declared.directions.Direction.TheVariants.{Left}
-use Rattle.osi_rules.specs.declared.connections.Connection.{Connection}
-use Rattle.osi_rules.specs.declared.findings.Finding.{Finding}
-use Rattle.osi_rules.specs.declared.findings.Finding.TheVariants.{Broke, NotJudged}
-use Rattle.osi_rules.specs.declared.findings.Reach.{Reach}
+use Rattle.osi_watched.proofs.Vocabulary.{◌≡◌, ◌∙◌, ◌⊎◌, inl, inr, refl, sym, ap, subst, ℕ, zero, suc, ◌+◌, ◌≤◌, Bool, true, false}
+use Rattle.osi_watched.proofs.Vocabulary.{if◌then◌else◌, List, [], ◌∷◌, ◌++◌, map, length, nat_le, Some, is_some, arith, leb-true}
+use Rattle.osi_watched.proofs.Vocabulary.{length-append, slice_get_within, set, slice_get, Value, acknowledge, confirm, data0, data2}
+use Rattle.osi_watched.proofs.Vocabulary.{disconnect, disconnected, error, request, longest_tsdu, other, Direction, Left, Connection}
+use Rattle.osi_watched.proofs.Vocabulary.{Finding, Broke, NotJudged, Reach, Half, is_applied, Test, first_failed, begins, own, State}
+use Rattle.osi_watched.proofs.Vocabulary.{asked_by, begun_after, closing_phase, connection_after, found_on, half_after, meaning_if, meant}
+use Rattle.osi_watched.proofs.Vocabulary.{takes, after_add, after_change, All, Joined, Sessions, adds, asked, spoken, taken, user_of, Cause}
+use Rattle.osi_watched.proofs.Vocabulary.{Course, marks_of, way_of, Spoken, added, begun_octets, fits, HaveSamePlaces}
 use Rattle.osi_rules.specs.declared.findings.Reach.TheVariants as reach
 use Rattle.osi_rules.specs.declared.findings.Rule.TheVariants as rule
-use Rattle.osi_rules.specs.declared.halves.Half.{Half}
-use Rattle.osi_rules.specs.Reaches.{is_applied}
-use Rattle.osi_rules.specs.Rows.{Test, first_failed}
-use Rattle.osi_rules.specs.Sides.{begins, own}
 use Rattle.osi_rules.specs.Traffic as traffic
-use Rattle.osi_rules.specs.Traffic.{State, asked_by, begun_after, closing_phase, connection_after, found_on, half_after, meaning_if, meant}
-use Rattle.osi_rules.specs.Traffic.{takes}
-use Rattle.osi_fair.proofs.what_holds_of_one_item.{after_add}
-use Rattle.osi_fair.proofs.while_no_class_is_selected.{after_change}
-use Rattle.osi_tap.specs.declared.rooms.Room.TheVariants.{All}
-use Rattle.osi_tap.specs.Connections.{Joined, Sessions, adds, asked, packet_begins, spoken, taken, user_of}
 use Rattle.osi_tap.specs.Connections as joined
-use Rattle.osi_tap.specs.declared.marks.Cause.{Cause}
-use Rattle.osi_tap.specs.Courses.{Course, fresh, marks_of, unit_passes, way_of}
-use Rattle.osi_tap.specs.Lines.{Spoken, added, begun_octets}
-use Rattle.osi_tap.specs.Rooms.{fits}
-use Rattle.osi_watched.specs.ShownPlaces.{HaveSamePlaces}
+use Rattle.osi_tap.specs.Courses.{fresh}
 use Rattle.osi_watched.proofs.a_break_ends_no_judging_or_all.{refused_traffic, refuses, unread_if}
 use Rattle.osi_watched.proofs.small_facts_that_many_lemmas_use.{same_one}
 use Rattle.osi_watched.proofs.what_passes_keeps_a_claim.{IsClaim}
@@ -221,15 +200,11 @@ counted_claim = record {
     places = packet_agrees d c h.places;
     each = λ i x y there here.
         let (z, z_at, z_is) = connection_of d c.traffic.connections i x there in
-        let (k, k_at, k_is) = map_of (packet_begins d) c.sessions.live i y here in
-        subst (λ (w : Connection). IsCounted w y) (sym z_is)
-        (subst (IsCounted (begins (way_of d) z)) (sym k_is) (grind arith));
+        grind (arith, map_of);
     room = h.room;
   };
   passes = λ d at v c h.
-      subst (λ (s : State). AreCounted s (unit_passes d at v c).sessions) (sym (unit_knows d at v c))
-      (subst (AreCounted (takes (way_of d) v c.traffic).state) (sym (unit_joins d at v c))
-      (unit_counts d at v c.traffic c.sessions h (unit_does d at v c.traffic c.sessions h.places)));
+      search (arith, unit_knows, unit_joins, unit_counts, unit_does);
   bad = λ d at k c h. unread_counts (is_some (marks_of d c).halted) d at k c h;
 }
   where

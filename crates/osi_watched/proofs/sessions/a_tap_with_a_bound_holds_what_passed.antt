@@ -1,16 +1,7 @@
 -- A tap with a bound that was fed a capture holds what the capture comes to within the bound, and tells the first break of that.
 -- For the laws on such a tap.
-use Rattle.std.proofs.Common.{arith}
-use Rattle.std.proofs.Common.{ℕ, ◌≡◌, Some}
-use Rattle.osi_judge.specs.Captures.{Capture}
-use Rattle.osi_tap.specs.declared.marks.First.{First}
-use Rattle.osi_tap.specs.declared.tap.Tap.{Tap}
-use Rattle.osi_tap.specs.Blaming.{IsFirstOf}
-use Rattle.osi_tap.specs.Standing.{HoldsState, IsJudged, first_in}
-use Rattle.osi_tap.proofs.a_capture_has_one_first_break.{first_held}
-use Rattle.osi_tap.proofs.a_piece_comes_to_what_its_octets_do.{after_more}
-use Rattle.osi_watched.specs.Bounded.{IsFedWithin, comes_within}
-use Rattle.osi_watched.specs.Bounded.IsFedWithin.{fed, unfed}
+use Rattle.osi_watched.proofs.Vocabulary.{arith, ℕ, ◌≡◌, Some, Capture, First, Tap, IsFirstOf, HoldsState, IsJudged, first_in, first_held}
+use Rattle.osi_watched.proofs.Vocabulary.{after_more, IsFedWithin, comes_within, fed, unfed}
 
 pub holds_within : (most : ℕ) (capture : Capture) (t : Tap) → IsFedWithin most capture t → HoldsState t (comes_within most capture)
 holds_within most _ _ (unfed t h) = h

@@ -1,38 +1,15 @@
 -- A turn of a called end after which its CC of class 0 waits: the one in which the end puts this CC, and each one until it passes. What the
 -- end puts after the CC is for this connection, and it takes nothing there yet.
 -- For the session of the connection of a called end in class 0.
-use Rattle.std.proofs.Common.{◌≡◌, ◌∙◌, refl, sym, ap, subst, ℕ, zero, suc, ◌-◌, ◌<◌, Bool, true, false, List, [], ◌∷◌, ◌++◌}
-use Rattle.std.proofs.Common.{map, Option, Some, None, arith, inl, inr, ◌⊎◌}
-use Rattle.std.specs.Prelude.{◌==◌, ◌≢◌, nat_lt}
-use Rattle.std.specs.List.{AllByRecursion}
-use Rattle.std.proofs.lemmas.Bool.{eq-eqb, lt-ltb}
+use Rattle.osi_watched.proofs.Vocabulary.{◌≡◌, ◌∙◌, refl, sym, ap, subst, ℕ, zero, suc, ◌-◌, ◌<◌, Bool, true, false, List, [], ◌∷◌, ◌++◌}
+use Rattle.osi_watched.proofs.Vocabulary.{map, Option, Some, None, arith, inl, inr, ◌⊎◌, ◌==◌, ◌≢◌, nat_lt, AllByRecursion, eq-eqb, lt-ltb}
+use Rattle.osi_watched.proofs.Vocabulary.{Connect, Value, confirm, written, parts_in, Part, Zero, Local, unit_octets, Right, State}
+use Rattle.osi_watched.proofs.Vocabulary.{Selecting, zero_puts, IsFirm, picked_join, AreApart, Continues, Deeds, then_did, units_in, Marked}
+use Rattle.osi_watched.proofs.Vocabulary.{all_units, is_of_link, Turn, AllProper, Life, early, stage_at, all_units_more, none_mark}
+use Rattle.osi_watched.proofs.Vocabulary.{taken_more, CanBeWritten, Joint, TakesTurn, turns, parts_of}
 use Rattle.std.proofs.lemmas.List.Concat.{flat_map-append}
-use Rattle.osi_tpdu.specs.Value.{Connect, Value, confirm}
-use Rattle.osi_tpdu.specs.Writing.{written}
-use Rattle.osi_class.specs.Runs.{parts_in}
-use Rattle.osi_class.specs.Tsdus.{Part}
-use Rattle.osi_class.specs.declared.terms.Class.TheVariants.{Zero}
-use Rattle.osi_class.specs.declared.terms.Local.{Local}
-use Rattle.osi_carrier.specs.Negotiation.{acceptance, unit_octets}
 use Rattle.osi_carrier.specs.State.{State as Carrier}
-use Rattle.osi_judge.specs.declared.directions.Direction.TheVariants.{Right}
-use Rattle.osi_rules.specs.Traffic.{State}
-use Rattle.osi_fair.proofs.a_called_end_selects_class_zero.{Selecting}
-use Rattle.osi_fair.proofs.what_an_end_does_in_class_zero.{zero_puts}
-use Rattle.osi_fair.proofs.what_the_other_side_closes.{IsFirm}
-use Rattle.osi_fair.proofs.which_units_are_for_a_connection.{picked_join}
-use Rattle.osi_honest.specs.Arriving.{AreApart}
-use Rattle.osi_honest.specs.Courses.{Continues, Deeds, then_did, units_in}
-use Rattle.osi_honest.specs.Marked.{Marked, all_units, is_of_link}
-use Rattle.osi_honest.specs.Turns.{Turn}
-use Rattle.osi_honest.proofs.class_0.what_a_packet_does_in_class_0.{AllProper}
-use Rattle.osi_honest.proofs.courses.how_long_a_connection_is_open.{Life, early, stage_at}
-use Rattle.osi_honest.proofs.courses.units_of_each_connection.{all_units_more, none_mark}
-use Rattle.osi_honest.proofs.courses.what_calls_of_a_link_say.{taken_more}
-use Rattle.osi_honest.proofs.reading.what_is_written_is_read_again.{CanBeWritten}
 use Rattle.osi_tap.specs.Courses.{Course as Passed}
-use Rattle.osi_watched.specs.Joint.{Joint, TakesTurn, turns}
-use Rattle.osi_watched.specs.Shown.{parts_of}
 use Rattle.osi_watched.proofs.steps_are_events.{IsFollowed, step_followed}
 use Rattle.osi_watched.proofs.what_a_carrier_puts_can_be_written.{all_more}
 use Rattle.osi_watched.proofs.sessions.a_called_end_answers_with_class_2_or_selects_class_0.{answers_or_selects}
@@ -92,8 +69,7 @@ module _ (local : Local) (j : Joint) (f : IsFollowed Right (first local) j) (n :
   dts_after z =
       let limit = unit_octets z.size - 3 in
       written_as IsDt0 z.more rest
-      (same_later (confirm z.x.source (acceptance Zero z.size z.x local z.r)) (confirm n x) z.more rest
-      (ap (λ (l : List Value). map written l) (sym z.put) ∙ f.put ∙ ap (λ (l : List Value). map written l) put))
+      (grind (arith, same_later, f))
       (all_data limit 0 z.more (zero_puts limit f.whole.end 0 z.more z.end))
 
   pub selects : AllByRecursion CanBeWritten j.put → IsFirm j.course.traffic.course → j.course.traffic.course.class ≡ None →
@@ -101,10 +77,7 @@ module _ (local : Local) (j : Joint) (f : IsFollowed Right (first local) j) (n :
       StandsCalledEarly deeds r end units begun coming j.course → (x.class ≡ 2 → ⊥) → Selecting local f.whole
   selects can sure class deeds r end units begun coming e not =
       by (answers_or_selects local j f can
-      (record {
-        sure = record { left = sure.left; right = sure.right };
-        two = λ zero_is. none_some j.course.traffic.course.class Zero class zero_is;
-      }) e.all.places)
+      (grind (arith, none_some)) e.all.places)
     where
       by : AllByRecursion AnswersTwo j.put ⊎ Selecting local f.whole → Selecting local f.whole
       by (inl two) = absurd (not (subst (AllByRecursion AnswersTwo) put two).0)
@@ -158,9 +131,7 @@ module _ (local : Local) (proper : AllProper) (turn : Turn) (old new : Joint) (t
       stage_at q end ≡ early → on.took ≡ some ++ (0, confirm n x) ∷ later → A
   no_cc_taken q n x some later plain may is =
       let u = turn_uses turn old new t false deeds on (early_lasts q end may) in
-      absurd (one_of IsNoCc (all_units some) (all_units later) (confirm n x)
-      (subst (AllByRecursion IsNoCc) (ap (λ (l : List Marked). all_units l) is ∙ all_units_more some ((0, confirm n x) ∷ later))
-      (all_front IsNoCc (all_units on.took) (u.left ++ then_coming) (subst (AllByRecursion IsNoCc) u.coming plain))))
+      grind (arith, one_of, all_units_more, all_front)
 
   -- ---- with the CC that waits then
 
@@ -199,9 +170,7 @@ module _ (local : Local) (proper : AllProper) (turn : Turn) (old new : Joint) (t
     calm q may front back is ends =
         let u = turn_uses turn old new t false deeds on (early_lasts q end may) in
         asking_none q (all_units front)
-        (all_front IsAsking (all_units front) (all_units back)
-        (subst (AllByRecursion IsAsking) (ap (λ (l : List Marked). all_units l) is ∙ all_units_more front back)
-        (all_front IsAsking (all_units on.took) (u.left ++ then_coming) (subst (AllByRecursion IsAsking) u.coming asking))))
+        (grind (arith, all_front, all_units_more))
 
     then_unheard : parts_in (then_deeds x.source).calls ≡ []
     then_unheard =
@@ -228,15 +197,13 @@ module _ (local : Local) (proper : AllProper) (turn : Turn) (old new : Joint) (t
         all = (step_turns Right deeds (known_one x.source end coming) turn on.more (known_one x.source then_end then_coming) old new t some
             (grind (arith, none_named, turn_takes, calm, first)) (record { all = e.all })).all;
         uncalled = subst UncalledUntil (sym t.course) e.uncalled;
-        asking = λ none. all_back IsAsking (units_in t.used) then_coming
-            (subst (AllByRecursion IsAsking) (turn_leaves turn old new t) asking);
+        asking = grind (arith, all_back, turn_leaves turn old new t);
         plain = all_back IsNoCc (units_in t.used) then_coming (subst (AllByRecursion IsNoCc) (turn_leaves turn old new t) e.plain);
         zero = λ zero_is. none_some new.course.traffic.course.class Zero then_class zero_is;
       };
       waits = then_waits;
       unheard = then_unheard;
-      amid_is = λ q peer more is.
-          is_x q more (open_so q peer (stage_at q end) (stage_at q then_end) on.took on.put (life q more) is);
+      amid_is = search (arith, is_x, open_so, stage_at);
       opened = opened;
     }
 
@@ -269,9 +236,7 @@ module _ (local : Local) (proper : AllProper) (turn : Turn) (old new : Joint) (t
     is_x q more (open_before peer is) = h.amid_is q peer more is
     is_x q more (answers_now n x front later source is) =
         cc_not_dt n x (one_of (IsWrittenAs IsDt0) (all_units front) (all_units later) (confirm n x)
-        (subst (AllByRecursion (IsWrittenAs IsDt0))
-        (ap (λ (l : List Marked). all_units l) is ∙ all_units_more front ((0, confirm n x) ∷ later))
-        (all_back (IsWrittenAs IsDt0) h.rest (all_units on.put) dts)))
+        (grind (arith, all_units_more, all_back, dts)))
     is_x q more (opens_now may n x front later is) = no_cc_taken q n x front later e.plain may is
 
     pub turns_answering : StandsAnswering local then_deeds new

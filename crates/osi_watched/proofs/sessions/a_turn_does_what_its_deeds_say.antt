@@ -1,6 +1,7 @@
 -- A turn of an end beside a tap used the packets that its connections took in this turn, and put the units that they put: these are written
 -- alike. So they can stand in the place of the others, in each step.
 -- For all connections of an end and a tap.
+use Rattle.std.proofs.Common.{arith}
 use Rattle.osi_watched.proofs.Vocabulary.{[], ap, append_assoc, Bool, List, map, None, sym, ℕ, ◌++◌, ◌∙◌, ◌≡◌, flat_map-append}
 use Rattle.osi_watched.proofs.Vocabulary.{AllByRecursion, units_of, Value, written, Direction, CanBeWritten, Continues, Deeds, units_in}
 use Rattle.osi_watched.proofs.Vocabulary.{units_read, all_units, Turn, Joint, Step, Steps, TakesTurn}
@@ -26,9 +27,7 @@ turn_uses turn old new t is_caller deeds on lasts =
     (λ still. on.held still ∙ sym (t.held still)) (t.all lasts) in
     record {
       left = units_in a.more;
-      coming = ap units_in (t.coming ∙ ap (λ (l : List (List ℕ)). l ++ new.coming) a.is ∙ append_assoc on.used a.more new.coming)
-          ∙ units_join on.used (a.more ++ new.coming)
-          ∙ (λ i. sym on.all i ++ units_join a.more new.coming i);
+      coming = grind (arith, append_assoc, units_join);
       all = λ still. ap units_in (a.all still);
     }
 

@@ -1,9 +1,8 @@
 -- A turn of an end leaves all its connections standing at a tap; and while they stand, no session of the end is to blame.
 -- For the session of each connection of an end.
-use Rattle.std.proofs.Common.{arith}
 use Rattle.osi_watched.proofs.Vocabulary.{[], Bool, false, List, refl, Some, true, ℕ, ◌++◌, ◌≡◌, slice_get, Value, Part, End, is_open, own}
 use Rattle.osi_watched.proofs.Vocabulary.{Traffic as State, Connection, AsSent, AsParts, CalledLaw, CallerLaw, other, Direction, Deeds}
-use Rattle.osi_watched.proofs.Vocabulary.{then_did, IsToBlame, Joined, reference_of, Sessions, way_of, calls_from, IsShownNow}
+use Rattle.osi_watched.proofs.Vocabulary.{then_did, IsToBlame, Joined, reference_of, Sessions, way_of, calls_from, IsShownNow, arith}
 use Rattle.osi_honest.specs.Courses.{Course}
 use Rattle.osi_watched.proofs.sessions.a_session_that_is_shown_is_not_to_blame.{none_broken, not_both, not_to_blame}
 use Rattle.osi_watched.proofs.sessions.all_connections_stand.{AllStand, Rests, quiet, rests, there_too}

@@ -1,17 +1,14 @@
 -- Once the CC of class 0 has passed, a turn of a called end leaves all its connections standing at a tap: what it puts is for its one
 -- connection, and what it takes there is the first of what is in flight. And no session of it is to blame then. For the session of the
 -- connection of a called end in class 0.
-use Rattle.osi_watched.proofs.Vocabulary.{[], ap, arith, Bool, false, inl, inr, is_some, List, map, nat_lt, Option, refl, Some, subst, suc}
-use Rattle.osi_watched.proofs.Vocabulary.{sym, true, zero, ℕ, ◌++◌, ◌<◌, ◌==◌, ◌∙◌, ◌∷◌, ◌≡◌, ◌⊎◌, eq-eqb, eqb-true, lt-ltb, AllByRecursion}
-use Rattle.osi_watched.proofs.Vocabulary.{slice_get, confirm, Connect, Value, written, Zero, Local, Carrier, is_open, Traffic as State}
-use Rattle.osi_watched.proofs.Vocabulary.{Connection, AsSent, AsParts, CalledLaw, CallerLaw, Left, Right, AllProper, early, Life, stage_at}
-use Rattle.osi_watched.proofs.Vocabulary.{all_units_more, none_mark, Continues, Deeds, then_did, units_in, all_units, is_of_link, Marked}
-use Rattle.osi_watched.proofs.Vocabulary.{Turn, Joined, reference_of, unlike, IsFirm, Joint, TakesTurn, turns, IsOneOf}
-use Rattle.osi_fair.proofs.a_called_end_is_fair.{Stage}
-use Rattle.osi_honest.specs.Arriving.{AreApart}
+use Rattle.osi_watched.proofs.Vocabulary.{[], ap, arith, Bool, false, inl, inr, is_some, List, nat_lt, Option, refl, Some, subst, suc, sym}
+use Rattle.osi_watched.proofs.Vocabulary.{true, zero, ℕ, ◌++◌, ◌<◌, ◌==◌, ◌∙◌, ◌∷◌, ◌≡◌, ◌⊎◌, eq-eqb, eqb-true, lt-ltb, AllByRecursion}
+use Rattle.osi_watched.proofs.Vocabulary.{slice_get, confirm, Connect, Value, Local, Carrier, Traffic as State, Connection, AsSent, AsParts}
+use Rattle.osi_watched.proofs.Vocabulary.{CalledLaw, CallerLaw, Left, Right, AllProper, early, Life, stage_at, all_units_more, none_mark}
+use Rattle.osi_watched.proofs.Vocabulary.{Continues, Deeds, then_did, units_in, all_units, is_of_link, Marked, Turn, Joined, reference_of}
+use Rattle.osi_watched.proofs.Vocabulary.{unlike, IsFirm, Joint, TakesTurn, turns, IsOneOf, Stage, AreApart, differ, number_is}
 use Rattle.osi_honest.specs.Courses.{Course}
 use Rattle.osi_tap.specs.Courses.{Course as Passed}
-use Rattle.osi_fair.proofs.small_facts_that_many_lemmas_use.{differ, number_is}
 use Rattle.osi_watched.proofs.small_facts_that_many_lemmas_use.{all_front, none_first, none_some, same_item}
 use Rattle.osi_watched.proofs.steps_are_events.{IsFollowed, step_followed}
 use Rattle.osi_watched.proofs.what_is_put_is_what_is_written.{written_join}
@@ -75,12 +72,7 @@ module _ (local : Local) (proper : AllProper) (turn : Turn) (old new : Joint) (t
   dts : AllByRecursion (IsWrittenAs IsDt0) (all_units on.put)
   dts =
       let all = dts_of local f.whole then_stage (ap (λ (x : State). x.course.class) tap_is ∙ h.class) in
-      let same : map written t.units ≡ map written (all_units on.put) = ap (λ (l : List Value). map written l) units in
-      let alike : map written f.whole.put ≡ map written (old.put ++ all_units on.put) =
-      f.put ∙ ap (λ (l : List Value). map written l) t.put ∙ written_join old.put t.units
-      ∙ ap (λ (l : List (List ℕ)). map written old.put ++ l) same ∙ sym (written_join old.put (all_units on.put)) in
-      all_back (IsWrittenAs IsDt0) old.put (all_units on.put)
-      (written_as IsDt0 f.whole.put (old.put ++ all_units on.put) alike all)
+      grind (arith, f, written_join, all_back, written_as)
 
   -- no CC is put
   no_answer : {A : Type 0} (n : ℕ) (x : Connect) (front later : List Marked) → on.put ≡ front ++ (0, confirm n x) ∷ later → A
@@ -92,8 +84,7 @@ module _ (local : Local) (proper : AllProper) (turn : Turn) (old new : Joint) (t
   no_cc q n x some later may is =
       let u = turn_uses turn old new t false deeds on (early_lasts q end may) in
       absurd (one_of IsNoCc (all_units some) (all_units later) (confirm n x)
-      (subst (AllByRecursion IsNoCc) (ap (λ (l : List Marked). all_units l) is ∙ all_units_more some ((0, confirm n x) ∷ later))
-      (all_front IsNoCc (all_units on.took) (u.left ++ then_coming) (subst (AllByRecursion IsNoCc) u.coming e.plain))))
+      (grind (arith, all_units_more, all_front)))
 
   is_r : (q : ℕ) → 0 < q → WasOpen q (stage_at q end) on.took on.put → q ≡ h.r
   is_r q some (open_before peer is) = h.amid_is q peer some is
@@ -160,8 +151,7 @@ module _ (local : Local) (proper : AllProper) (turn : Turn) (old new : Joint) (t
           let some : 0 < r = subst (λ (n : ℕ). 0 < n) (sym is_r_too) h.positive in
           on.own r some
           ∙ marks_wait r (reference_of Left j) on.put
-          (agree r (reference_of Left j) some is_r_too
-          (both_named Left c j is_one (ap (λ (y : Connection). is_open y.right.phase) is ∙ only.right)) on.put marked_r on.by_links dts)
+          (grind (arith, agree, both_named, only, marked_r, dts))
           ∙ ap (waiting_for (reference_of Left j)) (sym units)
       by false at =
           absurd (one.others i j r (λ k. unlike i only.place at (k ∙ sym only_is)) here mine)
@@ -189,13 +179,11 @@ module _ (local : Local) (proper : AllProper) (turn : Turn) (old new : Joint) (t
       all = (step_turns Right deeds (known_one h.r end coming) turn on.more (known_one h.r then_end then_coming) old new t h.some turns_so
           (record { all = e.all })).all;
       uncalled = subst UncalledUntil (sym t.course) e.uncalled;
-      asking = λ none. none_some new.course.traffic.course.class Zero none
-          (ap (λ (c : Passed). c.traffic.course.class) t.course ∙ h.class);
+      asking = grind (arith, none_some);
       plain = all_back IsNoCc (units_in t.used) then_coming (subst (AllByRecursion IsNoCc) (turn_leaves turn old new t) e.plain);
       zero = λ class. subst (λ (c : Passed). HasOne Right h.r IsNone c.traffic c.sessions) (sym t.course) one;
     };
-    amid_is = λ q peer some is.
-        is_r q some (open_so q peer (stage_at q end) (stage_at q then_end) on.took on.put (life q some) is);
+    amid_is = search (arith, is_r, open_so, stage_at);
     opened = not_early h.r (stage_at h.r end) (stage_at h.r then_end) on.took on.put h.opened (life h.r h.positive);
     some = λ begun none. h.some (sym t.begun ∙ begun) (none_first old.put t.units (sym t.put ∙ none));
   }

@@ -1,36 +1,16 @@
 -- Until class 2 is selected, a turn of a calling end leaves all its connections standing at a tap: what it puts is for its one connection
 -- in class 0, and what it takes there is the first of what is in flight. For the session of the connection of an end in class 0.
-use Rattle.std.proofs.Common.{◌≡◌, ◌∙◌, refl, sym, ap, subst, ℕ, zero, suc, ◌<◌, ◌≤◌, Bool, true, false, List, [], ◌∷◌, ◌++◌, Option, Some}
-use Rattle.std.proofs.Common.{None, arith, is_some, append_assoc, inl, inr, ◌⊎◌}
-use Rattle.std.specs.Prelude.{◌&&◌, ◌==◌, nat_le, nat_lt, slice_get}
-use Rattle.std.specs.List.{AllByRecursion}
-use Rattle.std.proofs.lemmas.Bool.{eq-eqb, eqb-true, le-leb, lt-ltb}
-use Rattle.osi_tpdu.specs.Value.{Connect, Value, confirm}
-use Rattle.osi_class.specs.declared.terms.Class.{Class}
-use Rattle.osi_class.specs.declared.terms.Class.TheVariants.{Two, Zero}
-use Rattle.osi_class.specs.declared.terms.Local.{Local}
+use Rattle.osi_watched.proofs.Vocabulary.{◌≡◌, ◌∙◌, refl, sym, ap, subst, ℕ, zero, suc, ◌<◌, ◌≤◌, Bool, true, false, List, [], ◌∷◌, ◌++◌}
+use Rattle.osi_watched.proofs.Vocabulary.{Option, Some, None, arith, is_some, append_assoc, inl, inr, ◌⊎◌, ◌&&◌, ◌==◌, nat_le, nat_lt}
+use Rattle.osi_watched.proofs.Vocabulary.{slice_get, AllByRecursion, eq-eqb, eqb-true, le-leb, lt-ltb, Connect, Value, confirm, Class, Two}
+use Rattle.osi_watched.proofs.Vocabulary.{Zero, Local, Left, Right, Connection, is_open, State, has_given, Whole, unlike, IsFirm, AreApart}
+use Rattle.osi_watched.proofs.Vocabulary.{Opens, Continues, Deeds, then_did, units_in, Marked, all_units, is_of_link, Turn, AllProper, Life}
+use Rattle.osi_watched.proofs.Vocabulary.{amid, early, opens_by, past, stage_at, stage_over, stays, all_units_more, none_mark, Joined}
+use Rattle.osi_watched.proofs.Vocabulary.{reference_of, Joint, TakesTurn, IsOneOf}
 use Rattle.osi_carrier.specs.State.{State as Carrier}
-use Rattle.osi_judge.specs.declared.directions.Direction.TheVariants.{Left, Right}
-use Rattle.osi_rules.specs.declared.connections.Connection.{Connection}
-use Rattle.osi_rules.specs.Sides.{is_open}
-use Rattle.osi_rules.specs.Traffic.{State}
-use Rattle.osi_stack.specs.Calls.{has_given}
-use Rattle.osi_fair.specs.Wholes.{Whole}
-use Rattle.osi_fair.proofs.a_dt_of_class_zero_passes.{unlike}
 use Rattle.osi_fair.proofs.how_requests_go_on.{Stage}
-use Rattle.osi_fair.proofs.what_the_other_side_closes.{IsFirm}
-use Rattle.osi_honest.specs.Arriving.{AreApart, Opens}
-use Rattle.osi_honest.specs.Courses.{Continues, Deeds, then_did, units_in}
-use Rattle.osi_honest.specs.Marked.{Marked, all_units, is_of_link}
-use Rattle.osi_honest.specs.Turns.{Turn}
-use Rattle.osi_honest.proofs.class_0.what_a_packet_does_in_class_0.{AllProper}
-use Rattle.osi_honest.proofs.courses.how_long_a_connection_is_open.{Life, Stage as Time, amid, early, opens_by, past, stage_at, stage_over}
-use Rattle.osi_honest.proofs.courses.how_long_a_connection_is_open.{stays}
-use Rattle.osi_honest.proofs.courses.units_of_each_connection.{all_units_more, none_mark}
-use Rattle.osi_tap.specs.Connections.{Joined, reference_of}
+use Rattle.osi_honest.proofs.courses.how_long_a_connection_is_open.{Stage as Time}
 use Rattle.osi_tap.specs.Courses.{Course as Passed}
-use Rattle.osi_watched.specs.Joint.{Joint, TakesTurn}
-use Rattle.osi_watched.specs.ShownPlaces.{IsOneOf}
 use Rattle.osi_watched.proofs.a_carrier_does_events.{none_of}
 use Rattle.osi_watched.proofs.what_is_put_is_what_is_written.{written_join}
 use Rattle.osi_watched.proofs.sessions.a_calling_end_hears_what_comes_until_class_2.{IsGone, IsNotTwo, IsZeroAt, StandsEarly, known_below}
@@ -183,9 +163,7 @@ module _ (local : Local) (proper : AllProper) (turn : Turn) (old new : Joint) (t
       on.took ≡ some ++ (0, confirm q x) ∷ later → AllByRecursion P coming → P (confirm q x)
   cc_came P q x some later may is all =
       let u = turn_uses turn old new t true deeds on (early_lasts q end may) in
-      one_of P (all_units some) (all_units later) (confirm q x)
-      (subst (AllByRecursion P) (ap (λ (l : List Marked). all_units l) is ∙ all_units_more some ((0, confirm q x) ∷ later))
-      (all_front P (all_units on.took) (u.left ++ then_coming) (subst (AllByRecursion P) u.coming all)))
+      grind (arith, one_of, all_units_more, all_front)
 
   -- a unit of no link is for no connection
   unmarked : (m : Marked) (r : ℕ) (o : Option ℕ) → 0 < r → m.0 ≡ 0 → is_of_link m.1 ≡ nat_lt 0 m.0 → (m.0 == r) ≡ is_for o m.1
@@ -236,8 +214,7 @@ module _ (local : Local) (proper : AllProper) (turn : Turn) (old new : Joint) (t
     calm_none : (r : ℕ) → stage_at r end ≡ early → AreCalm true r (stage_at r then_end) on.took
     calm_none r may =
         let u = turn_uses turn old new t true deeds on (early_lasts r end may) in
-        quiet_turn true r (stage_at r then_end) on.took (u.left ++ then_coming)
-        (ap (waiting_for (Some r)) (sym u.coming) ∙ quiet_none r coming (h.early.quiet class))
+        grind (arith, quiet_turn, stage_at r then_end, waiting_for (Some r), quiet_none r coming (h.early.quiet class))
 
   -- ---- in class 0
 
@@ -321,8 +298,7 @@ module _ (local : Local) (proper : AllProper) (turn : Turn) (old new : Joint) (t
     calm_zero r within may =
         let u = turn_uses turn old new t true deeds on (early_lasts r end may) in
         order_calm r (stage_at r then_end) on.took (u.left ++ then_coming) (subst InOrder u.coming z.order)
-        (λ still.
-        subst (λ (l : List Value). HasCc (l ++ then_coming)) (sym (u.all (early_lasts r then_end still))) (then_cc r within still))
+        (grind (arith, early_lasts, then_cc))
 
     then_zero : IsZeroAt then_end then_coming new.course
     then_zero = record {
@@ -367,8 +343,7 @@ module _ (local : Local) (proper : AllProper) (turn : Turn) (old new : Joint) (t
         (record { all = h.early.all })).all;
     distinct = subst (λ (c : Passed). AreDistinct Left c.sessions) (sym t.course) h.early.distinct;
     below = subst (λ (c : Passed). AreUpTo Left b c.sessions) (sym t.course) h.early.below;
-    quiet = λ class. all_back IsQuiet (units_in t.used) then_coming
-        (subst (AllByRecursion IsQuiet) (turn_leaves turn old new t) (h.early.quiet (sym (grind arith) ∙ class)));
+    quiet = grind (arith, all_back, turn_leaves turn old new t);
     zero = λ class. then_zero (sym (grind arith) ∙ class);
   }
 

@@ -1,22 +1,18 @@
 -- A DT or an AK that is found to come after a DR of its sender is for a connection that this side is closing, in class 2. No other
 -- unit but a second DR is found so.
 -- For the sessions of an end after such a unit of the other side.
-use Rattle.std.proofs.Common.{arith}
 use Rattle.osi_watched.proofs.Vocabulary.{[], Bool, false, if◌then◌else◌, List, None, not, Option, refl, Some, sym, true, ℕ, ◌∙◌, ◌∷◌, ◌≡◌}
 use Rattle.osi_watched.proofs.Vocabulary.{AllByRecursion, slice_get, acknowledge, confirm, Connect, data0, data2, disconnect, disconnected}
 use Rattle.osi_watched.proofs.Vocabulary.{error, request, Value, Class, Two, first_failed, Test, is_closed, is_closing, is_named, is_open}
 use Rattle.osi_watched.proofs.Vocabulary.{is_refused, is_silent, own, asks_of, at_found, class_for, found, found_on, Outcome, route_in}
 use Rattle.osi_watched.proofs.Vocabulary.{routed, takes, uses_source, unnamed_by, Traffic as State, Connection, Rules, Way, Finding, Broke}
 use Rattle.osi_watched.proofs.Vocabulary.{NotJudged, Phase, Closed, Route, Asks, Named, Only, Unnamed, other, Direction, Joined}
-use Rattle.osi_watched.proofs.Vocabulary.{reference_of, way_of, HaveSamePlaces, IsOneOf, is_report}
-use Rattle.osi_rules.specs.Rows.{confirm_tests}
-use Rattle.osi_rules.specs.Traffic.{in_doubt}
+use Rattle.osi_watched.proofs.Vocabulary.{reference_of, way_of, HaveSamePlaces, IsOneOf, is_report, arith, confirm_tests, in_doubt}
+use Rattle.osi_watched.proofs.Vocabulary.{Sessions, Course}
 use Rattle.osi_rules.specs.Sides as sides
 use Rattle.osi_rules.specs.Traffic as traffic
 use Rattle.osi_rules.specs.declared.directions.Direction.TheVariants as way
 use Rattle.osi_rules.specs.declared.findings.Rule.TheVariants as rule
-use Rattle.osi_tap.specs.Connections.{Sessions}
-use Rattle.osi_tap.specs.Courses.{Course}
 use Rattle.osi_watched.proofs.what_a_taker_passes_over.{IsDr}
 use Rattle.osi_watched.proofs.sessions.a_unit_is_joined_where_it_is_named.{named_there, names_there}
 use Rattle.osi_watched.proofs.sessions.right_units_leave_all_standing.{IsLink, ak, dt, link_names}
@@ -177,17 +173,7 @@ module _ (e : Direction) (at : ℕ) (v : Value) (c : Course) (a : IsAfterDr e v 
       let (refused, closed) = not_over (way_of e) a.n k sure named in
       let (silent, opened) = phase_of (way_of e) c.traffic.course (uses_source (way_of e) c.traffic.connections v) k v a.n a.link
       (judged_found k.is_judged _ sure (sym finding ∙ a.closed)) in
-      record {
-        place = i;
-        connection = k;
-        joined = j;
-        there = there;
-        here = here;
-        one = one;
-        judged = sure;
-        closing = closing_of (own (way_of e) k).phase silent opened refused closed;
-        named = named_there e a.n k j one sure named;
-      }
+      grind (arith, closing_of, named_there)
   there_by (asks_more x is number cs ts) = no_cr v a.n x a.link is
   there_by (asks_again x is number i j here free cs ts) = no_cr v a.n x a.link is
 

@@ -1,12 +1,8 @@
 -- A DT or an AK that the other side sends on a connection that it has closed leaves what is left over for the end: the unit comes after the
 -- DR of that side, which is in flight.
 -- For the sessions of an end after such a unit of the other side.
-use Rattle.std.proofs.Common.{arith}
-use Rattle.osi_watched.proofs.Vocabulary.{[], Bool, false, List, refl, subst, sym, true, ℕ, ◌++◌, ◌==◌, ◌∙◌, ◌∷◌, ◌≡◌, eqb-true}
-use Rattle.osi_watched.proofs.Vocabulary.{Value, Part, other, Direction, HaveSamePlaces}
-use Rattle.osi_watched.proofs.Vocabulary.{picked_rest}
-use Rattle.osi_tap.specs.Courses.{Course}
-use Rattle.osi_fair.proofs.small_facts_that_many_lemmas_use.{number_is}
+use Rattle.osi_watched.proofs.Vocabulary.{[], Bool, false, List, refl, subst, true, ℕ, ◌++◌, ◌==◌, ◌∷◌, ◌≡◌, eqb-true, Value, Part, other}
+use Rattle.osi_watched.proofs.Vocabulary.{Direction, HaveSamePlaces, picked_rest, arith, Course, number_is}
 use Rattle.osi_watched.proofs.sessions.a_unit_after_a_dr_is_for_a_closing_connection.{IsAfterDr, is_there}
 use Rattle.osi_watched.proofs.sessions.right_units_leave_all_standing.{IsLink}
 use Rattle.osi_watched.proofs.sessions.the_dr_of_the_other_side_is_in_flight.{AreShut}
@@ -36,8 +32,7 @@ module _ (d : Direction) (is_live : ℕ → Bool) (coming : List Value) (at : �
   came_after places =
       let p = is_there (other d) at v c a places in
       let k = h.each p.place p.connection p.joined p.there p.here p.judged p.closing in
-      subst (λ (m : ℕ). is_live m ≡ true → has_dr m coming ≡ true)
-      (number_is k.r a.n (sym k.named ∙ sym (grind arith) ∙ p.named)) k.dr
+      grind (arith, has_dr, number_is)
 
   -- so what is known of the parts that are left over stays
   pub after_keeps : HaveSamePlaces c.traffic.connections c.sessions.live → (r : ℕ) (later : List Part) →

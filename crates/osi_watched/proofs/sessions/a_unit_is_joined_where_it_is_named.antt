@@ -1,16 +1,13 @@
 -- A unit that names a connection is joined at the place of the connection to which the other side gave this reference.
 -- For the law on places.
-use Rattle.std.proofs.Common.{arith}
-use Rattle.osi_watched.proofs.Vocabulary.{ap, Bool, false, None, not, Option, refl, Some, subst, true, ℕ, ◌&&◌, ◌≡◌, eqb-true, slice_get}
+use Rattle.osi_watched.proofs.Vocabulary.{ap, Bool, false, None, not, Option, refl, Some, true, ℕ, ◌&&◌, ◌≡◌, eqb-true, slice_get}
 use Rattle.osi_watched.proofs.Vocabulary.{acknowledge, confirm, data0, data2, destination_of, disconnect, disconnected, error, request}
 use Rattle.osi_watched.proofs.Vocabulary.{Value, Class, Two, Zero, is_named, is_refused, at_found, route_in, routed, Traffic as State}
 use Rattle.osi_watched.proofs.Vocabulary.{takes, Connection, Way, Finding, Route, Named, Unnamed, other, Direction, Left, Right, Joined}
-use Rattle.osi_watched.proofs.Vocabulary.{reference_of, way_of, first_true, HaveSamePlaces, IsOneOf}
+use Rattle.osi_watched.proofs.Vocabulary.{reference_of, way_of, first_true, HaveSamePlaces, IsOneOf, arith, Course, number_is}
 use Rattle.osi_rules.specs.declared.directions.Direction.TheVariants as way
 use Rattle.osi_rules.specs.declared.halves.Phase.TheVariants as phase
 use Rattle.osi_rules.specs.Sides as sides
-use Rattle.osi_tap.specs.Courses.{Course}
-use Rattle.osi_fair.proofs.small_facts_that_many_lemmas_use.{number_is}
 use Rattle.osi_watched.proofs.small_facts_that_many_lemmas_use.{or_first}
 use Rattle.osi_watched.proofs.sessions.connections_have_the_same_places.{at_same}
 
@@ -70,9 +67,6 @@ module _ (d : Way) (v : Value) (s : State) (n i : ℕ) (c : Connection) (there :
 
 -- ---- the reference that the other side gave
 
-three : (a b c : Bool) → (not (true && a) && (not b && c)) ≡ true → (a ≡ false) × (b ≡ false) × (c ≡ true)
-three a b c h = grind arith
-
 -- what a unit of a side names has this reference of the other side
 pub named_there : (d : Direction) (n : ℕ) (c : Connection) (j : Joined) → IsOneOf c j → c.is_judged ≡ true →
     is_named (way_of d) n c ≡ true → reference_of (other d) j ≡ Some n
@@ -98,8 +92,7 @@ pub joined_named : (d : Direction) (v : Value) (c : Course) (n i : ℕ) (connect
     connection.is_judged ≡ true → slice_get c.sessions.live i ≡ Some j → reference_of (other d) j ≡ Some n
 joined_named d v c n i connection j h e place there judged here =
     let (k, at, one) = at_same c.traffic.connections c.sessions.live i connection h there in
-    subst (λ (x : Joined). reference_of (other d) x ≡ Some n) (grind arith)
-    (named_there d n connection k one judged (names_there (way_of d) v c.traffic n i connection there e place))
+    grind (arith, named_there, names_there (way_of d) v c.traffic n i connection there e place)
 
 pub joined_any : (d : Direction) (v : Value) (c : Course) (n i : ℕ) (connection : Connection) (j : Joined) →
     HaveSamePlaces c.traffic.connections c.sessions.live → destination_of v ≡ Some n →
@@ -108,5 +101,4 @@ pub joined_any : (d : Direction) (v : Value) (c : Course) (n i : ℕ) (connectio
     reference_of (other d) j ≡ Some n
 joined_any d v c n i connection j h e place there known here =
     let (k, at, one) = at_same c.traffic.connections c.sessions.live i connection h there in
-    subst (λ (x : Joined). reference_of (other d) x ≡ Some n) (grind arith)
-    (named_any d n connection k one known (names_there (way_of d) v c.traffic n i connection there e place))
+    grind (arith, named_any, names_there (way_of d) v c.traffic n i connection there e place)

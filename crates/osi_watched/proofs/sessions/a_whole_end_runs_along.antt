@@ -1,8 +1,7 @@
 -- At every step of an end and of a tap a whole end runs along; and of a calling end that offers class 2, the end that runs along has
 -- its lines.
 -- For the units that an end puts.
-use Rattle.std.proofs.Common.{arith}
-use Rattle.osi_watched.proofs.Vocabulary.{true, ◌≡◌, Local, Left, first_joined, Followed, IsOngoing, Joint}
+use Rattle.osi_watched.proofs.Vocabulary.{true, ◌≡◌, Local, Left, first_joined, Followed, IsOngoing, Joint, arith}
 use Rattle.osi_fair.specs.Wholes as wholes
 use Rattle.osi_fair.proofs.a_calling_end_is_fair_in_class_2.{all_joined}
 use Rattle.osi_watched.proofs.steps_are_events.{IsFollowed}

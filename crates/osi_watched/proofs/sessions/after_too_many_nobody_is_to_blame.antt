@@ -1,19 +1,11 @@
 -- After one connection too many nothing more is judged or joined: if no session of an end is to blame then, none is ever after.
 -- For the session of each connection of an end.
-use Rattle.std.proofs.Common.{arith, ◌≡◌, sym, ap, subst, ℕ, List, [], ◌∷◌, Some, None}
-use Rattle.std.specs.Prelude.{slice_get}
-use Rattle.osi_tpdu.specs.Value.{Value}
-use Rattle.osi_judge.specs.declared.directions.Direction.{Direction}
-use Rattle.osi_rules.specs.declared.findings.Finding.TheVariants.{TooMany}
+use Rattle.osi_watched.proofs.Vocabulary.{arith, ◌≡◌, sym, ap, subst, ℕ, List, [], ◌∷◌, Some, None, slice_get, Value, Direction, TooMany}
+use Rattle.osi_watched.proofs.Vocabulary.{is_applied, takes, stops_are_said, stops_last, IsToBlame, Joined, Sessions, all_begin, Course}
+use Rattle.osi_watched.proofs.Vocabulary.{unit_passes, units_pass, way_of, Joint, Step, Steps, StepsAlong}
 use Rattle.osi_rules.specs.declared.findings.Reach.TheVariants as reach
-use Rattle.osi_rules.specs.Reaches.{is_applied}
-use Rattle.osi_rules.specs.Traffic.{takes}
-use Rattle.osi_rules.proofs.a_stop_is_said.{stops_are_said, stops_last}
-use Rattle.osi_tap.specs.Blaming.{IsToBlame}
-use Rattle.osi_tap.specs.Connections.{Joined, Sessions, all_begin, packet_begins}
-use Rattle.osi_tap.specs.Courses.{Course, unit_passes, units_pass, way_of}
+use Rattle.osi_tap.specs.Connections.{packet_begins}
 use Rattle.osi_tap.specs.Courses as courses
-use Rattle.osi_watched.specs.Joint.{Joint, Step, Steps, StepsAlong}
 use Rattle.osi_watched.proofs.what_a_unit_leaves_at_a_tap.{IsCalm, IsOver, begins_over, unit_leaves, unit_over}
 use Rattle.osi_watched.proofs.sessions.all_connections_stand.{map_of}
 use Rattle.osi_watched.proofs.sessions.connections_have_the_same_places.{unit_knows}

@@ -7,14 +7,13 @@ use Rattle.osi_watched.proofs.Vocabulary.{is_open, own, asked_by, connection_aft
 use Rattle.osi_watched.proofs.Vocabulary.{Traffic as State, takes, Connection, Reach, Half, other, Direction, Deeds, adds, all_begin, asked}
 use Rattle.osi_watched.proofs.Vocabulary.{Joined, reference_of, Sessions, shut, spoken, taken, way_of, heard, Room, All, passes_apart}
 use Rattle.osi_watched.proofs.Vocabulary.{AreJudged, still_judged, after_add, after_map, NamesApart as AreApart, after_change, packet, unit}
-use Rattle.osi_watched.proofs.Vocabulary.{calls_from, IsShownNow, HaveSamePlaces, IsOneOf}
+use Rattle.osi_watched.proofs.Vocabulary.{calls_from, IsShownNow, HaveSamePlaces, IsOneOf, begins_judged, some_same}
 use Rattle.osi_rules.specs.declared.directions.Direction.TheVariants as way
 use Rattle.osi_rules.specs.declared.findings.Reach.TheVariants as reach
 use Rattle.osi_rules.specs.Traffic as traffic
 use Rattle.osi_honest.specs.Courses.{Course}
 use Rattle.osi_tap.specs.Connections.{packet_begins}
 use Rattle.osi_tap.specs.Connections as joined
-use Rattle.osi_fair.proofs.small_facts_that_many_lemmas_use.{begins_judged, some_same}
 use Rattle.osi_watched.proofs.a_break_ends_no_judging_or_all.{takes_reach}
 use Rattle.osi_watched.proofs.sessions.connections_have_the_same_places.{as_long, at_same, begun_same, unit_places}
 use Rattle.osi_watched.proofs.sessions.what_a_tap_shows_goes_on.{named_added}
@@ -120,8 +119,7 @@ other_part d deeds known then_known at n number end user put x r c j named grows
     stands_other_part d deeds known then_known put x at end user c (connection_after (way_of (other d)) v true r c) j
     (grind arith) (ap (λ (y : Half). y.phase) (other_after d v true r c))
     (named_added at end user (other d) (other d) j (stands_room d deeds known put x c j h))
-    (λ m later is sure. subst (λ (i : ℕ). then_known i (later ++ (end, user) ∷ [])) (same_number n m (sym named ∙ is))
-    (grows later (subst (λ (i : ℕ). known i later) (sym (same_number n m (sym named ∙ is))) sure))) h
+    (grind arith) h
   where
     same_number : (n m : ℕ) → Some n ≡ Some m → n ≡ m
     same_number n m e = cc

@@ -1,25 +1,9 @@
 -- What holds of an end and a tap as long as all is judged: each step keeps it. For the sessions of an end after breaks of the other side.
-use Rattle.std.proofs.Common.{arith}
-use Rattle.std.proofs.Common.{◌≡◌, ◌∙◌, sym, ap, subst, ℕ, ◌^◌, ◌<◌, List, ◌++◌, length, Some}
-use Rattle.std.specs.Prelude.{slice_get}
-use Rattle.std.specs.List.{AllByRecursion}
-use Rattle.osi_tpdu.specs.Value.{Value}
-use Rattle.osi_class.specs.declared.terms.Class.{Class}
-use Rattle.osi_class.specs.declared.terms.Local.{Local}
-use Rattle.osi_judge.specs.Captures.{other}
-use Rattle.osi_judge.specs.declared.directions.Direction.{Direction}
+use Rattle.osi_watched.proofs.Vocabulary.{arith, ◌≡◌, sym, subst, ℕ, ◌^◌, ◌<◌, List, length, Some, slice_get, AllByRecursion, Value, Class}
+use Rattle.osi_watched.proofs.Vocabulary.{Local, other, Direction, Deeds, all_did, Turn, AllProper, IsSane, turn_sane, CanBeWritten, Joined}
+use Rattle.osi_watched.proofs.Vocabulary.{spoken, units_pass, heard, Joint, Step, Steps, TakesTurn, begins_other, begins_own, passes_other}
+use Rattle.osi_watched.proofs.Vocabulary.{passes_own, turns, calls_from}
 use Rattle.osi_fair.specs.Wholes as wholes
-use Rattle.osi_honest.specs.Courses.{Deeds, all_did}
-use Rattle.osi_honest.specs.Marked.{all_units}
-use Rattle.osi_honest.specs.Turns.{Turn}
-use Rattle.osi_honest.proofs.class_0.what_a_packet_does_in_class_0.{AllProper}
-use Rattle.osi_honest.proofs.courses.an_end_is_sound_between_turns.{IsSane, turn_sane}
-use Rattle.osi_honest.proofs.reading.what_is_written_is_read_again.{CanBeWritten}
-use Rattle.osi_tap.specs.Connections.{Joined, spoken}
-use Rattle.osi_tap.specs.Courses.{units_pass}
-use Rattle.osi_tap.specs.Lines.{heard}
-use Rattle.osi_watched.specs.Joint.{Joint, Step, Steps, TakesTurn, begins_other, begins_own, passes_other, passes_own, turns}
-use Rattle.osi_watched.specs.Shown.{calls_from}
 use Rattle.osi_watched.proofs.small_facts_that_many_lemmas_use.{can_more}
 use Rattle.osi_watched.proofs.steps_are_events.{IsFollowed, step_followed}
 use Rattle.osi_watched.proofs.what_a_unit_leaves_at_a_tap.{IsJudged}
@@ -69,8 +53,7 @@ module _ (proper : AllProper) (barred : Class) (d : Direction) (local : Local) (
       (step_followed d (wholes.begin (calls_from d) local) proper (turns turn) old new t g.followed)
       (firm_so old.course g.judged) not g.holds)
       does.of.on.course (turn_sane turn old.holding new.holding t.takes g.sane)
-      (subst (AllByRecursion CanBeWritten) (sym (t.put ∙ ap (λ (l : List Value). old.put ++ l) does.units))
-      (can_more old.put (all_units does.of.on.put) g.can does.of.on.can))
+      (grind (arith, can_more))
 
   pub own_begins_goes : (old new : Joint) → Steps d begins_own old new →
       ((i : ℕ) (j : Joined) → slice_get old.course.sessions.live i ≡ Some j → length (heard (spoken (other d) j)) < 2 ^ 64) →

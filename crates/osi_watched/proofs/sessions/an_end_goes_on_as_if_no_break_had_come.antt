@@ -1,48 +1,18 @@
 -- After a break of the other side in class 0 an end and a tap go on as if the break had not come: the end takes what came before it, and is
 -- over with the break; and the tap joins nothing more of the other side.
 -- For the law that no session of an end is to blame after such a break.
-use Rattle.std.proofs.Common.{◌≡◌, ◌∙◌, ◌⊎◌, inl, inr, refl, sym, ap, subst, ℕ, ◌+◌, ◌^◌, ◌<◌, Bool, true, false, List, [], ◌∷◌, ◌++◌, map}
-use Rattle.std.proofs.Common.{length, Option, Ok, Some, None, IsSome, arith, append_assoc}
-use Rattle.std.specs.Prelude.{slice_get}
-use Rattle.std.specs.List.{AllByRecursion}
-use Rattle.std.proofs.lemmas.Bool.{lt-ltb}
-use Rattle.std.proofs.lemmas.List.{append-nil}
-use Rattle.osi_tpkt.proofs.a_prefix_of_a_packet.{empty_partial}
-use Rattle.osi_tpkt.specs.Stream.{ArePackets}
-use Rattle.osi_tpdu.specs.Packet.{units_of}
-use Rattle.osi_tpdu.specs.Value.{Value, data0}
-use Rattle.osi_tpdu.specs.Writing.{written}
-use Rattle.osi_class.specs.Limits.{longest_tsdu}
-use Rattle.osi_class.specs.Link.{Standing}
-use Rattle.osi_class.specs.declared.terms.Class.{Class}
-use Rattle.osi_class.specs.declared.terms.Class.TheVariants.{Zero}
-use Rattle.osi_class.specs.declared.terms.Local.{Local}
-use Rattle.osi_carrier.specs.State.{packets}
-use Rattle.osi_carrier.specs.declared.ends.EndReason.{EndReason}
-use Rattle.osi_judge.specs.Captures.{other}
-use Rattle.osi_judge.specs.declared.directions.Direction.{Direction}
-use Rattle.osi_rules.specs.declared.findings.Finding.TheVariants.{Kept}
-use Rattle.osi_rules.specs.Traffic.{is_stopped, takes}
-use Rattle.osi_rules.proofs.a_stop_is_said.{stops_last}
+use Rattle.osi_watched.proofs.Vocabulary.{◌≡◌, ◌∙◌, ◌⊎◌, inl, inr, refl, sym, ap, subst, ℕ, ◌+◌, ◌^◌, ◌<◌, Bool, true, false, List, [], ◌∷◌}
+use Rattle.osi_watched.proofs.Vocabulary.{◌++◌, map, length, Option, Ok, Some, None, IsSome, arith, append_assoc, AllByRecursion, lt-ltb}
+use Rattle.osi_watched.proofs.Vocabulary.{append-nil, empty_partial, ArePackets, units_of, Value, data0, written, Standing, Class, Zero}
+use Rattle.osi_watched.proofs.Vocabulary.{Local, packets, EndReason, other, Direction, Kept, is_stopped, takes, stops_last, lasting_of}
+use Rattle.osi_watched.proofs.Vocabulary.{TakesPackets, End, Holding, Deeds, all_units, Takes, Turn, over_acts, IsHardPacket, IsLast}
+use Rattle.osi_watched.proofs.Vocabulary.{IsZeroAt, hard_ends, leads_to, Stopped, TakesFirst, none_held, prefix_or, stopped_there, TurnOf}
+use Rattle.osi_watched.proofs.Vocabulary.{turn_continues, Known, packet_begins, unit_passes, units_pass, way_of, Joint, Steps, TakesTurn}
+use Rattle.osi_watched.proofs.Vocabulary.{begins_other, begins_own, passes_own, turns, calls_from}
 use Rattle.osi_fair.specs.Pieces.{units_in}
 use Rattle.osi_fair.specs.Wholes as wholes
-use Rattle.osi_stack.proofs.carried.packets_without_events.{lasting_of}
-use Rattle.osi_stack.specs.Feeding.{TakesPackets, stops}
-use Rattle.osi_stack.specs.State.{End, Holding, waits}
-use Rattle.osi_honest.specs.Courses.{Deeds, all_did}
-use Rattle.osi_honest.specs.Marked.{all_units}
-use Rattle.osi_honest.specs.Turns.{Takes, Turn}
-use Rattle.osi_honest.proofs.class_0.what_a_call_does_in_class_0.{over_acts}
-use Rattle.osi_honest.proofs.class_0.what_class_0_does_not_take_ends_the_end.{AreHard, IsHardPacket, IsLast, IsZeroAt}
-use Rattle.osi_honest.proofs.class_0.what_class_0_does_not_take_ends_the_end.{hard_ends}
-use Rattle.osi_honest.proofs.courses.an_end_is_sound_between_turns.{leads_to}
-use Rattle.osi_honest.proofs.courses.an_end_takes_packets_up_to_its_last.{Stopped, TakesFirst, none_held, prefix_or, stopped_there}
-use Rattle.osi_honest.proofs.courses.what_a_run_does_to_it.{TurnOf, turn_continues}
-use Rattle.osi_honest.proofs.courses.what_sessions_hear_of_it.{Known}
-use Rattle.osi_tap.specs.Connections.{Sessions}
-use Rattle.osi_tap.specs.Courses.{Course as Passed, packet_begins, unit_passes, units_pass, way_of}
-use Rattle.osi_watched.specs.Joint.{Joint, Steps, TakesTurn, begins_other, begins_own, passes_own, turns}
-use Rattle.osi_watched.specs.Shown.{calls_from}
+use Rattle.osi_stack.specs.Feeding.{stops}
+use Rattle.osi_tap.specs.Courses.{Course as Passed}
 use Rattle.osi_watched.proofs.a_break_ends_no_judging_or_all.{far_of, nothing_ends}
 use Rattle.osi_watched.proofs.an_end_that_is_judged_alone_stays_so.{own_alone}
 use Rattle.osi_watched.proofs.in_class_0_one_side_alone_is_judged.{IsAlone, alone_begins, alone_own}
@@ -151,13 +121,7 @@ module _ (known : Known) (barred : Class) (d : Direction) (local : Local)
         (p : List ℕ) → IsHardFor d v.course p → IsHardFor d (packet_begins e v.course) p
     begins_hard e deeds v g zero p (inl all) = inl all
     begins_hard e deeds v g zero p (inr l) =
-        inr (record {
-          end = l.end;
-          user = l.user;
-          rest = l.rest;
-          read = l.read;
-          long = begins_too_long d e l.user v.course.traffic (only_of v.course.traffic g.sure (firm_so v.course g.judged) zero) l.long;
-        })
+        inr (search (arith, begins_too_long, only_of, firm_so))
 
     pub own_begins_alone : (ends : Bool) (old new : Joint) → Steps d begins_own old new → length old.course.past < 2 ^ 64 →
         IsAsWithout ends old → IsAsWithout ends new
@@ -172,8 +136,7 @@ module _ (known : Known) (barred : Class) (d : Direction) (local : Local)
           is = record {
             goes = own_begins_goes known.proper barred d local Inv k v w
                 (none_written v.put old.put h.put some, h.begun ∙ none, refl)
-                (λ i x here. let most = h.few i x (ap (λ (s : Sessions). slice_get s.live i) h.beside.sessions ∙ here) in
-                omega (arith, most, short)) a.deeds h.goes;
+                (grind arith) a.deeds h.goes;
             put = h.put;
             begun = refl;
             beside = beside_begins d d old.course v.course h.beside;
@@ -216,14 +179,7 @@ module _ (known : Known) (barred : Class) (d : Direction) (local : Local)
     own_hard at unit v w step deeds g zero goes kept p (inl all) = inl all
     own_hard at unit v w step deeds g zero goes kept p (inr l) =
         let firm = firm_so v.course g.judged in
-        inr (record {
-          end = l.end;
-          user = l.user;
-          rest = l.rest;
-          read = l.read;
-          long = passes_too_long d at unit l.user v.course (own_is_dt local d at unit v w step g.followed firm zero) g.sure firm zero goes
-              kept l.long;
-        })
+        inr (search (arith, passes_too_long, own_is_dt))
 
     pub own_alone_so : (ends : Bool) (at : ℕ) (unit : Value) (old new : Joint) → Steps d (passes_own at unit) old new →
         IsAsWithout ends old → IsAsWithout ends new
@@ -322,32 +278,8 @@ module _ (known : Known) (barred : Class) (d : Direction) (local : Local)
         turn_continues known (calls_from d) deeds turn v.holding new g.sane.between g.courses takes in
         let units = all_units at.on.put in
         let w : Joint = record v { holding = new; put = v.put ++ units; coming = left } in
-        let t : TakesTurn turn v w = record {
-          takes = takes;
-          units = units;
-          written = at.on.written;
-          put = refl;
-          used = used;
-          coming = parts;
-          rest = rest;
-          cut = cut;
-          held = held;
-          all = all;
-          begun = refl;
-          course = refl;
-        } in
-        record {
-          then_deeds = all_did deeds at.on.more;
-          w = w;
-          goes = turn_goes known.proper barred d local Inv k turn v w t deeds (record { of = at; units = refl }) g not;
-          holding = refl;
-          coming = refl;
-          units = units;
-          put = refl;
-          written_is = at.on.written;
-          begun = refl;
-          course = refl;
-        }
+        let t : TakesTurn turn v w = grind arith in
+        search (arith, turn_goes known.proper barred d local Inv k turn v w t deeds (record { of = at; units = refl }) g not)
 
     none_more_in : (more : List (List ℕ)) (last : List ℕ) → ArePackets more [] last → more ≡ []
     none_more_in more last h = none_held [] last more empty_partial h
@@ -374,16 +306,7 @@ module _ (known : Known) (barred : Class) (d : Direction) (local : Local)
       idle none over = record {
         deeds = deeds;
         without = v;
-        is = record {
-          goes = h.goes;
-          put = put_then v [] (sym (append-nil v.put)) (sym none);
-          begun = h.begun ∙ sym t.begun;
-          beside = grind arith;
-          alone = subst (IsAlone d) (sym t.course) h.alone;
-          followed = then_followed;
-          few = then_few;
-          how = is_over over;
-        };
+        is = grind (arith, then_followed, then_few, put_then v [] (sym (append-nil v.put)) (sym none), append-nil v.put);
       }
 
       -- with one
@@ -415,8 +338,7 @@ module _ (known : Known) (barred : Class) (d : Direction) (local : Local)
           left t.rest parts
           (subst (λ (x : Holding). x.end.carrier.ended ≡ None → ArePackets t.used (x.held.octets ++ turn.used) t.rest) same t.cut)
           t.held
-          (subst (λ (x : Holding). x.end.carrier.ended ≡ None → (new.holding.end.carrier.ended ≡ None → ⊥) →
-          (more : List (List ℕ)) (last : List ℕ) → ArePackets more t.rest last → more ≡ []) same t.all) in
+          (grind arith) in
           goes_with turn new.holding left n refl (how n.w n.holding n.coming n.course)
 
       -- the end takes the packet with which it is over
@@ -440,8 +362,7 @@ module _ (known : Known) (barred : Class) (d : Direction) (local : Local)
         hard_there w deeds_too g course coming r peer link at (inl all) = all link.ends.joining.begun
         hard_there w deeds_too g course coming r peer link at (inr l) =
             let firm = firm_so w.course g.judged in
-            let zero : w.course.traffic.course.class ≡ Some Zero = ap (λ (c : Passed). c.traffic.course.class) course
-            ∙ zero_without old.course v.course h.beside h.alone in
+            let zero : w.course.traffic.course.class ≡ Some Zero = grind (arith, zero_without) in
             let o = only_of w.course.traffic g.sure firm zero in
             let (x, here, one) = at_same w.course.traffic.connections w.course.sessions.live o.place o.connection g.counted.places
             o.there in
@@ -449,11 +370,7 @@ module _ (known : Known) (barred : Class) (d : Direction) (local : Local)
             (λ barred_is. not_barred (ap (λ (c : Passed). c.traffic.course.class) (sym course) ∙ barred_is))
             (subst (λ (l : List (List ℕ)). AllByRecursion MayBeFollowed (units_in l)) (sym coming) followed) r peer link at o x here in
             let long : IsTooLong d l.user w.course.traffic = subst (λ (c : Passed). IsTooLong d l.user c.traffic) (sym course) l.long in
-            subst (AreHard link.ends.joining.begun) (sym l.read)
-            (lt-ltb longest_tsdu (length link.ends.joining.begun + length l.user)
-            (subst (λ (n : ℕ). longest_tsdu < n + length l.user)
-            ((g.counted.each o.place o.connection x o.there here).of (other d) ∙ ap (λ (octets : List ℕ). length octets) is)
-            (long o)))
+            grind (arith, lt-ltb, g.counted.each o.place o.connection x o.there here)
 
         last_by : (w : Joint) (deeds_too : ℕ → Deeds) → Judged deeds_too w → w.course ≡ v.course → w.coming ≡ extra → (x : End) →
             w.holding.end ≡ x → IsOpenIn w.holding.end.carrier → IsLast packet x
@@ -474,8 +391,7 @@ module _ (known : Known) (barred : Class) (d : Direction) (local : Local)
             (parts ∙ ap (λ (l : List (List ℕ)). l ++ extra) is) (λ l. to.cut) (λ l. sym to.held) (λ l over m last. none_more_in m last) in
             let end_is : n.w.holding.end ≡ x = ap (λ (y : Holding). y.end) n.holding ∙ to.there in
             last_by n.w n.then_deeds n.goes n.course n.coming x end_is
-            (opened n.w n.then_deeds n.goes n.course n.coming
-            (ap (λ (y : End). y.carrier.ended) end_is ∙ lasting_of x.carrier.ended (waits x.lines) still))
+            (grind (arith, opened, lasting_of))
 
         stopped : Stopped front turn.put v.holding new.holding
         stopped =

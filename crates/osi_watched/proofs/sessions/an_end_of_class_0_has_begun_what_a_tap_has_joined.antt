@@ -1,32 +1,12 @@
 -- An end of class 0 to which no DT is in flight has begun of a TSDU what a tap has joined of it: a calling end and a called one.
 -- For a TSDU of the other side that becomes too long.
-use Rattle.std.proofs.Common.{arith, ◌≡◌, ◌∙◌, ◌⊎◌, inl, inr, refl, sym, ap, subst, ℕ, ◌<◌, true, List, [], Some}
-use Rattle.std.proofs.lemmas.Bool.{eq-eqb, eqb-true}
-use Rattle.std.specs.Prelude.{slice_get}
-use Rattle.std.specs.List.{AllByRecursion}
-use Rattle.osi_class.specs.Link.{Standing}
-use Rattle.osi_class.specs.Tsdus.{Part}
-use Rattle.osi_class.specs.declared.terms.Class.{Class}
-use Rattle.osi_class.specs.declared.terms.Class.TheVariants.{Two, Zero}
-use Rattle.osi_class.specs.declared.terms.Local.{Local}
-use Rattle.osi_carrier.specs.Orderly.{RiseFrom}
-use Rattle.osi_carrier.specs.State.{State as Carrier, linked}
-use Rattle.osi_judge.specs.Captures.{other}
-use Rattle.osi_judge.specs.declared.directions.Direction.{Direction}
-use Rattle.osi_judge.specs.declared.directions.Direction.TheVariants.{Left, Right}
-use Rattle.osi_stack.specs.Calls.{has_given}
+use Rattle.osi_watched.proofs.Vocabulary.{arith, ◌≡◌, ◌∙◌, ◌⊎◌, inl, inr, refl, ap, subst, ℕ, ◌<◌, true, List, [], Some, eq-eqb, eqb-true}
+use Rattle.osi_watched.proofs.Vocabulary.{slice_get, AllByRecursion, Standing, Part, Class, Two, Zero, Local, RiseFrom, linked, other}
+use Rattle.osi_watched.proofs.Vocabulary.{Direction, Left, Right, has_given, unlike, IsFirm, Deeds, AllProper, IsZeroAt, IsSane, amid}
+use Rattle.osi_watched.proofs.Vocabulary.{stage_at, stage_is, Joined, spoken, begun_octets, Joint}
+use Rattle.osi_carrier.specs.State.{State as Carrier}
 use Rattle.osi_fair.specs.Pieces.{units_in}
-use Rattle.osi_fair.proofs.a_dt_of_class_zero_passes.{unlike}
-use Rattle.osi_fair.proofs.what_the_other_side_closes.{IsFirm}
-use Rattle.osi_honest.specs.Courses.{Deeds}
 use Rattle.osi_honest.specs.Courses as honest
-use Rattle.osi_honest.proofs.class_0.what_a_packet_does_in_class_0.{AllProper}
-use Rattle.osi_honest.proofs.class_0.what_class_0_does_not_take_ends_the_end.{IsZeroAt}
-use Rattle.osi_honest.proofs.courses.an_end_is_sound_between_turns.{IsSane}
-use Rattle.osi_honest.proofs.courses.how_long_a_connection_is_open.{amid, stage_at, stage_is}
-use Rattle.osi_tap.specs.Connections.{Joined, spoken}
-use Rattle.osi_tap.specs.Lines.{begun_octets}
-use Rattle.osi_watched.specs.Joint.{Joint}
 use Rattle.osi_watched.proofs.small_facts_that_many_lemmas_use.{none_some}
 use Rattle.osi_watched.proofs.sessions.a_called_end_hears_what_comes_until_class_2.{IsNone, known_one}
 use Rattle.osi_watched.proofs.sessions.a_called_end_stands_in_class_0.{StandsInZero}
@@ -76,8 +56,7 @@ calling_begun local deeds j h courses sane firm class not all r peer link at o x
     joined_is_begun Left deeds (known_below h.ahead.bound end (honest.units_in j.coming)) j.put j.begun j.course.traffic j.course.sessions
     j.holding.end h.early.all courses r peer link at o.place o.connection x o.there here
     (h.early.all.judged firm.firm o.place o.connection o.there) (open_there Left j.course.traffic o)
-    (z.one.mine x (ap (slice_get j.course.sessions.live) (sym (grind (arith, eqb-true, unlike))) ∙ here)
-    ∙ ap (λ (n : ℕ). Some n) (sym same))
+    (grind (arith, eqb-true, unlike))
     (λ q later is sure. none_later r peer link end at j.coming all q later is sure.1)
 
 -- ---- a called end
@@ -94,8 +73,7 @@ zero_called local deeds j h courses sane firm all r peer link at o x here =
     joined_is_begun Right deeds (known_one h.r end (honest.units_in j.coming)) j.put j.begun j.course.traffic j.course.sessions
     j.holding.end h.early_is.all courses r peer link at o.place o.connection x o.there here
     (h.early_is.all.judged firm.firm o.place o.connection o.there) (open_there Right j.course.traffic o)
-    (one.mine x (ap (slice_get j.course.sessions.live) (sym (grind (arith, eqb-true, unlike))) ∙ here)
-    ∙ ap (λ (n : ℕ). Some n) (sym same))
+    (grind (arith, eqb-true, unlike))
     (λ q later is sure. none_later r peer link end at j.coming all q later is sure.2)
 
 pub called_begun : (local : Local) (proper : AllProper) → HasBegun Two Right (StandsCalledUntilTwo local proper)

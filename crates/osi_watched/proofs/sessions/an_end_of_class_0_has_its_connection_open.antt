@@ -1,18 +1,13 @@
 -- Once class 0 is selected and an end has taken the CC, it has its one connection open in class 0, or is over.
 -- For the sessions of an end after a break of the other side in class 0.
-use Rattle.std.proofs.Common.{arith}
-use Rattle.osi_watched.proofs.Vocabulary.{ap, Bool, is_some, List, None, Some, subst, sym, true, ℕ, ◌++◌, ◌∙◌, ◌∷◌}
-use Rattle.osi_watched.proofs.Vocabulary.{◌≡◌, AllByRecursion, confirm, Connect, Value, Standing, Zero, Local}
-use Rattle.osi_watched.proofs.Vocabulary.{Carrier, Traffic as State, Connection, Left, Right, Direction, answered, known, quiet}
-use Rattle.osi_watched.proofs.Vocabulary.{refused, IsInZero, calm_tap, Whole, Joint, IsFirm}
-use Rattle.osi_tpdu.specs.Value.{may_be_followed}
+use Rattle.osi_watched.proofs.Vocabulary.{ap, Bool, is_some, List, None, Some, subst, sym, true, ℕ, ◌++◌, ◌∙◌, ◌∷◌, ◌≡◌, AllByRecursion}
+use Rattle.osi_watched.proofs.Vocabulary.{confirm, Connect, Value, Standing, Zero, Local, Carrier, Traffic as State, Connection, Left}
+use Rattle.osi_watched.proofs.Vocabulary.{Right, Direction, answered, known, quiet, refused, IsInZero, calm_tap, Whole, Joint, IsFirm}
+use Rattle.osi_watched.proofs.Vocabulary.{arith, may_be_followed, ended, waits, over, IsZeroAt, calls_from}
 use Rattle.osi_fair.specs.Pieces.{units_in}
 use Rattle.osi_fair.specs.Wholes as wholes
 use Rattle.osi_fair.proofs.a_called_end_is_fair.{Stage as CalledStage}
-use Rattle.osi_fair.proofs.how_requests_go_on.{Stage, asks, ended, waits, zero}
-use Rattle.osi_fair.proofs.what_an_end_does_in_class_zero.{over}
-use Rattle.osi_honest.proofs.class_0.what_class_0_does_not_take_ends_the_end.{IsZeroAt}
-use Rattle.osi_watched.specs.Shown.{calls_from}
+use Rattle.osi_fair.proofs.how_requests_go_on.{Stage, asks, zero}
 use Rattle.osi_watched.proofs.a_carrier_does_events.{none_of}
 use Rattle.osi_watched.proofs.small_facts_that_many_lemmas_use.{none_some, over_none, zero_two}
 use Rattle.osi_watched.proofs.steps_are_events.{IsFollowed}

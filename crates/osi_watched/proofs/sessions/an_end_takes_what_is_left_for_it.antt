@@ -1,11 +1,9 @@
 -- What an end takes in a turn at a connection is the first of what is left over for it; and if nothing of what has come is for it, it takes
 -- nothing there.
 -- For all connections of an end and a tap, after breaks of the other side too.
-use Rattle.std.proofs.Common.{arith}
 use Rattle.osi_watched.proofs.Vocabulary.{[], ap, Bool, false, List, None, refl, Some, subst, sym, true, ℕ, ◌++◌, ◌<◌, ◌∙◌, ◌∷◌, ◌≡◌, ◌||◌}
 use Rattle.osi_watched.proofs.Vocabulary.{Value, Part, early, Life, stage_at, stage_over, Time, Continues, Deeds, units_in, all_units}
-use Rattle.osi_watched.proofs.Vocabulary.{Marked, Turn, parts_of, picked_join, Joint, TakesTurn, Carrier}
-use Rattle.osi_honest.proofs.courses.how_long_a_connection_is_open.{HasNoDr}
+use Rattle.osi_watched.proofs.Vocabulary.{Marked, Turn, parts_of, picked_join, Joint, TakesTurn, Carrier, arith, HasNoDr}
 use Rattle.osi_watched.proofs.sessions.a_calling_end_takes_nothing_before_its_cc.{quiet_turn}
 use Rattle.osi_watched.proofs.sessions.a_turn_does_what_its_deeds_say.{turn_leaves, turn_uses}
 use Rattle.osi_watched.proofs.sessions.nothing_is_done_before_a_cr_passes.{is_under_way, may_take}
@@ -87,12 +85,6 @@ module _ (is_caller : Bool) (turn : Turn) (old new : Joint) (t : TakesTurn turn 
         let x = turn_takes is_caller turn old new t deeds on r some life
         (λ may.
         let s = turn_uses turn old new t is_caller deeds on (lasts may) in
-        quiet_turn is_caller r (stage_at r new.holding.end.carrier) on.took (s.left ++ units_in new.coming)
-        (ap (waiting_for (Some r)) (sym s.coming) ∙ none)) later
+        grind (arith, quiet_turn, stage_at, waiting_for)) later
         (λ live. left_none r (units_in old.coming) later none (sure live) ∙ sym (ap parts_of none)) in
-        record {
-          rest = x.rest;
-          first = x.first;
-          sure = λ live. subst (AreLeft r (units_in new.coming)) (sym (x.sure live ∙ ap parts_of then_none))
-              (left_empty r (units_in new.coming) then_none);
-        }
+        grind (arith, then_none, left_empty)

@@ -1,16 +1,14 @@
 -- No session of an end is to blame that has sent no DT; and what passes keeps that so, unless it is a DT of the end.
 -- For the law that no session of an end is blamed first, if the end doesn't offer class 2 and class 0 is not selected.
-use Rattle.std.proofs.Common.{arith}
 use Rattle.osi_watched.proofs.Vocabulary.{[], Bool, false, inl, inr, List, Some, subst, sym, ℕ, ◌∙◌, ◌∷◌, ◌≡◌, ◌⊎◌, slice_get, Value, Local}
-use Rattle.osi_watched.proofs.Vocabulary.{meaning_if, meant, Traffic as State, takes, other, Direction, AllProper, Deeds, adds_if}
-use Rattle.osi_watched.proofs.Vocabulary.{all_begin, asked, Joined, Sessions, spoken, taken, unit_passes, units_pass, way_of, told, Room}
-use Rattle.osi_watched.proofs.Vocabulary.{after_add, after_set, IsOngoing, begins_other, begins_own, Joint, passes_other, passes_own, Step}
-use Rattle.osi_watched.proofs.Vocabulary.{Steps, calls_from}
+use Rattle.osi_watched.proofs.Vocabulary.{meaning_if, meant, Traffic as State, takes, other, Direction, AllProper, Deeds, all_begin, asked}
+use Rattle.osi_watched.proofs.Vocabulary.{Joined, Sessions, spoken, taken, unit_passes, units_pass, way_of, told, Room, after_add}
+use Rattle.osi_watched.proofs.Vocabulary.{after_set, IsOngoing, begins_other, begins_own, Joint, passes_other, passes_own, Step, Steps}
+use Rattle.osi_watched.proofs.Vocabulary.{calls_from, arith, Course}
 use Rattle.osi_rules.specs.declared.findings.Meaning.TheVariants as meaning
 use Rattle.osi_fair.specs.Wholes as wholes
 use Rattle.osi_tap.specs.Connections.{packet_begins}
 use Rattle.osi_tap.specs.Connections as joined
-use Rattle.osi_tap.specs.Courses.{Course}
 use Rattle.osi_watched.proofs.steps_are_events.{IsFollowed, begin_followed, step_followed}
 use Rattle.osi_watched.proofs.sessions.after_too_many_nobody_is_to_blame.{NoneIsToBlame}
 use Rattle.osi_watched.proofs.sessions.all_connections_stand.{map_of}
@@ -36,11 +34,6 @@ mute_none d t h = grind arith
 
 said_begun : (d e : Direction) (j : Joined) → (spoken d (packet_begins e j)).said ≡ (spoken d j).said
 said_begun d e j = grind arith
-
--- a DT of the other side
-said_added : (b : Bool) (room : Room) (d : Direction) (at : ℕ) (end : Bool) (octets : List ℕ) (j : Joined) →
-    (spoken d (adds_if b room (other d) at end octets j)).said ≡ (spoken d j).said
-said_added b room d at end octets j = grind arith
 
 -- what a unit means for its connection
 said_meant : (d e : Direction) (at : ℕ) (v : Value) (b : Bool) (j : Joined) → (e ≡ d → is_part v ≡ false) →
@@ -106,11 +99,7 @@ module _ (proper : AllProper) (d : Direction) (local : Local) where
 
   pub mute_keeps : PutsNoDt d local → KeepsThroughout d local (HasSaidNothing d local)
   mute_keeps none_put = record {
-    begins = λ h fresh. record {
-      followed = begin_followed d (calls_from d) local h fresh;
-      places = tt;
-      mute = record { live = λ i j here. absurd (cc here); done = λ i j here. absurd (cc here) };
-    };
+    begins = grind (arith, begin_followed);
     own_begins = λ deeds old new step courses few h.
         stays_mute deeds deeds begins_own old new step
         (subst (λ (j : Joint). Agree j.course) (sym step.2) (packet_agrees d old.course h.places))
@@ -128,12 +117,7 @@ module _ (proper : AllProper) (d : Direction) (local : Local) where
         stays_mute deeds deeds (passes_other at octets units) old new step
         (subst (λ (j : Joint). Agree j.course) (sym step.2) (units_agree (other d) at units old.course h.places))
         (subst (λ (j : Joint). IsMute d j.course.sessions) (sym step.2) (mute_units d at units old.course h.places h.mute)) h;
-    turn = λ turn old new t deeds does f g clear h. record {
-      followed = g;
-      places = subst Agree (sym t.course) h.places;
-      mute = subst (λ (c : Course). IsMute d c.sessions) (sym t.course) h.mute;
-    };
+    turn = grind arith;
     none = λ deeds j courses h. mute_none d j.course.sessions h.mute;
-    none_amid = λ deeds at octets front back old new step courses taken h.
-        mute_none d (units_pass (other d) at front old.course).sessions (mute_units d at front old.course h.places h.mute);
+    none_amid = grind (arith, mute_none, mute_units);
   }

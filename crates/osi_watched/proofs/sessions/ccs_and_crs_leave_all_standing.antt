@@ -1,11 +1,11 @@
 -- A CR and a CC leave all connections of an end standing at a tap: those of the end, and those of the other side.
 -- For the session of each connection of an end.
-use Rattle.osi_watched.proofs.Vocabulary.{[], ap, arith, Bool, false, length, List, map, None, Option, refl, Some, subst, sym, true, ℕ}
-use Rattle.osi_watched.proofs.Vocabulary.{◌++◌, ◌∙◌, ◌∷◌, ◌≡◌, ◌≤◌, AllByRecursion, slice_get, confirm, Connect, request, Value, parts_in}
-use Rattle.osi_watched.proofs.Vocabulary.{Part, Class, is_applied, is_open, asked_by, connection_after, found_on, meaning_if, meant}
-use Rattle.osi_watched.proofs.Vocabulary.{Traffic as State, takes, Connection, Reach, Half, other, Direction, Left, Right, Deeds, said_in}
-use Rattle.osi_watched.proofs.Vocabulary.{asked, Joined, opened, reference_of, Sessions, spoken, heard, Spoken, All, applied_found}
-use Rattle.osi_watched.proofs.Vocabulary.{picked_first, picked_rest, all_before, AreAfter, before_begun, before_of, IsShownNow, IsOneOf}
+use Rattle.osi_watched.proofs.Vocabulary.{[], ap, arith, Bool, false, List, map, None, Option, refl, Some, subst, sym, true, ℕ, ◌++◌, ◌∙◌}
+use Rattle.osi_watched.proofs.Vocabulary.{◌∷◌, ◌≡◌, slice_get, confirm, Connect, request, Value, parts_in, Part, Class, is_applied, is_open}
+use Rattle.osi_watched.proofs.Vocabulary.{asked_by, connection_after, found_on, meaning_if, meant, Traffic as State, takes, Connection}
+use Rattle.osi_watched.proofs.Vocabulary.{Reach, Half, other, Direction, Left, Right, Deeds, said_in, asked, Joined, opened, reference_of}
+use Rattle.osi_watched.proofs.Vocabulary.{Sessions, spoken, Spoken, All, applied_found, picked_first, picked_rest, all_before, AreAfter}
+use Rattle.osi_watched.proofs.Vocabulary.{before_begun, before_of, IsShownNow, IsOneOf}
 use Rattle.osi_rules.specs.declared.directions.Direction.TheVariants as way
 use Rattle.osi_tap.specs.Connections.{class_of}
 use Rattle.osi_tap.specs.Connections as joined
@@ -35,8 +35,7 @@ starts_shown d r deeds waiting j named mine theirs room put none = record {
     put = put;
     said = grind arith;
     after = subst (λ (l : List ℕ). AreAfter l (said_in 0 deeds.calls)) (sym (none_before (spoken d j) mine)) tt;
-    so_far = subst (λ (l : List ℕ). AllByRecursion (λ n. n ≤ length (heard (spoken (other d) j))) l) (sym (none_before
-        (spoken d j) mine)) tt;
+    so_far = grind (arith, none_before);
     later = [];
     came = grind arith;
   };
@@ -59,8 +58,7 @@ pub own_cr : (deeds : ℕ → Deeds) (known : Known) (at : ℕ) (x : Connect) (r
     Leaves Left deeds known known (request x ∷ rest) rest true false Left at (request x) s t
 own_cr deeds known at x rest s t put none sure = record {
   all = λ e c j h. stands_elsewhere Left deeds known (request x) rest true c j (λ live. refl) h;
-  elsewhere = λ p i first c k j apart place there one at_k finding at_c at_j another judged h.
-      stands_elsewhere Left deeds known (request x) rest true c j (λ live. refl) h;
+  elsewhere = search (arith, stands_elsewhere);
   here = λ p c j b r place there at_j one finding is far on judged h. own_plain Left deeds known at (request x) rest b true r c j tt h;
   asked_so = λ y number is. asked_one y number (request_is x y is);
   others = λ y is c j h. stands_elsewhere Left deeds known (request x) rest true c j (λ live. refl) h;
@@ -75,9 +73,7 @@ own_cr deeds known at x rest s t put none sure = record {
     asked_one y number same =
         subst (λ (z : Connect). Stands Left deeds known rest false (asked_by z) (asked number z.source All)) same
         (lives x.source None refl refl [] sure
-        (subst (λ (l : List Value). IsShownNow Left x.source (deeds x.source) l [] false (asked number x.source All)) (sym (none_for rest))
-        (starts_shown Left x.source (deeds x.source) [] (asked number x.source All) refl (grind arith)
-        (record { said = refl; begun = refl; since = refl }) refl put none)))
+        (search (arith, none_for, starts_shown)))
 
 -- ---- a CC
 
@@ -89,8 +85,7 @@ pub own_cc : (deeds : ℕ → Deeds) (known : Known) (at n : ℕ) (x : Connect) 
     Leaves Right deeds known known (confirm n x ∷ rest) rest true false Right at (confirm n x) s t
 own_cc deeds known at n x rest s t put none sure a = record {
   all = λ e c j h. stands_elsewhere Right deeds known (confirm n x) rest true c j (λ live. refl) h;
-  elsewhere = λ p i first c k j apart place there one at_k finding at_c at_j another judged h.
-      stands_elsewhere Right deeds known (confirm n x) rest true c j (λ live. refl) h;
+  elsewhere = search (arith, stands_elsewhere);
   here = λ p c j b r place there at_j one finding is far on judged h. by b p c j r is place at_j one h;
   asked_so = λ y number is. absurd (cc);
   others = λ y is c j h. absurd (cc);
@@ -103,10 +98,7 @@ own_cc deeds known at n x rest s t put none sure a = record {
         Stands Right deeds known rest false (connection_after way.Right (confirm n x) true r c) (opened x.source (class_of (confirm n x)) j)
     opens p c j r place at_j un (unnamed is mine theirs room) =
         lives x.source (Some j.calling) refl (ap (λ (y : Half). is_open y.phase) (own_after Right (confirm n x) r c)) [] sure
-        (subst (λ (b : Bool). IsShownNow Right x.source (deeds x.source) (waiting_for (Some j.calling) rest) [] b
-        (opened x.source (class_of (confirm n x)) j)) refl
-        (starts_shown Right x.source (deeds x.source) (waiting_for (Some j.calling) rest) (opened x.source (class_of (confirm n x)) j)
-        refl mine theirs room (put p j place at_j) none))
+        (search (arith, waiting_for, starts_shown))
     opens p c j r place at_j un (lives q o is live later know h) = not_some j.called q h.shown.named un
     opens p c j r place at_j un (past q closed waiting later know h) = not_some j.called q h.shown.named un
 
@@ -132,8 +124,7 @@ pub other_cc : (deeds : ℕ → Deeds) (known then_known : Known) (at n : ℕ) (
     Leaves Left deeds known then_known put put b b Right at (confirm n x) s t
 other_cc deeds known then_known at n x put b s t unheard stays = record {
   all = λ e c j h. stands_other_none Left deeds known then_known put b c c j j (like_same Left j) refl refl (λ r later is. stays r later) h;
-  elsewhere = λ p i first c k j apart place there one at_k finding at_c at_j another judged h.
-      stands_other_none Left deeds known then_known put b c c j j (like_same Left j) refl refl (λ r later is. stays r later) h;
+  elsewhere = search (arith, stands_other_none, like_same);
   here = λ p c j y r place there at_j one finding is far on judged h.
       by y c j r is one (λ applied. ap is_applied finding ∙ applied) h;
   asked_so = λ y number is. absurd (cc);
@@ -156,12 +147,10 @@ other_cc deeds known then_known at n x put b s t unheard stays = record {
         (no_next Left q (deeds q) (waiting_for o put) later (is_next o b put) j h)) in
         lives q (Some x.source) refl (ap (λ (y : Half). is_open y.phase) (other_after Left (confirm n x) true r c) ∙ live) later
         (stays q later sure)
-        (subst (λ (y : Bool). IsShownNow Left q (deeds q) (waiting_for (Some x.source) put) later y k)
-        (sym (next_none (Some x.source) b put none_waits)) goes)
+        (search (arith, waiting_for, next_none))
     opens c j r un none_waits (past q closed waiting later sure h) =
         past q (ap (λ (y : Half). is_open y.phase) (other_after Left (confirm n x) true r c) ∙ closed) waiting later (stays q later sure)
-        (like_shown Left q (deeds q) waiting later false j (opened x.source (class_of (confirm n x)) j)
-        (like_opened x.source (class_of (confirm n x)) j) h)
+        (search (arith, like_shown, like_opened))
 
     by : (y : Bool) (c : Connection) (j : Joined) (r : Reach) → is_applied (found_on way.Right s c (confirm n x)) ≡ y → IsOneOf c j →
         (is_applied (found_on way.Right s c (confirm n x)) ≡ true → is_applied (takes way.Right (confirm n x) s).told.finding ≡ true) →

@@ -9,12 +9,10 @@ use Rattle.osi_watched.proofs.Vocabulary.{handed_out, in_class, in_two, react_by
 use Rattle.osi_watched.proofs.Vocabulary.{AreAbove, all_gives, closed_gives, ended_gives, not_less, sent_gives, above_more, units_no_cc}
 use Rattle.osi_watched.proofs.Vocabulary.{put_at, put_before, put_by, put_closing, put_for, put_for_selection, put_in, put_in_two}
 use Rattle.osi_watched.proofs.Vocabulary.{put_leaving, put_only, put_sent, put_taking, put_together, refusal, Event, HappenAlong, Happens}
-use Rattle.osi_watched.proofs.Vocabulary.{Whole}
-use Rattle.osi_carrier.specs.React.{answers}
+use Rattle.osi_watched.proofs.Vocabulary.{Whole, answers, IsNoCc}
 unfoldable use Rattle.osi_carrier.specs.React.{react}
 use Rattle.osi_rules.specs.declared.directions.Direction.TheVariants as way
 use Rattle.osi_fair.specs.Wholes as wholes
-use Rattle.osi_fair.proofs.each_connection_has_its_line.{IsNoCc}
 
 -- ---- which CCs are put
 

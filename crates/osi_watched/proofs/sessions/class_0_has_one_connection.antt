@@ -1,25 +1,23 @@
 -- Until class 2 is selected, one connection at most is not over for left; so in class 0 one was opened, and each other one was refused.
 -- For the session of the connection of an end in class 0.
-use Rattle.std.proofs.Common.{arith}
-use Rattle.osi_watched.proofs.Vocabulary.{[], ap, Bool, false, if◌then◌else◌, inl, inr, is_some, List, None, not, Option, option_map, refl}
-use Rattle.osi_watched.proofs.Vocabulary.{set, Some, subst, suc, sym, true, zero, ℕ, ◌&&◌, ◌==◌, ◌∙◌, ◌∷◌, ◌≡◌, ◌⊎◌, eqb-true}
-use Rattle.osi_watched.proofs.Vocabulary.{slice_get-map, list_all, position, slice_get, ◌||◌, confirm, Connect, data0, disconnect}
-use Rattle.osi_watched.proofs.Vocabulary.{disconnected, error, request, Value, Class, Two, Zero, is_applied, first_failed, begins}
-use Rattle.osi_watched.proofs.Vocabulary.{is_closed, is_closing, is_live, is_named, is_open, is_over, is_over_by, is_refused, is_silent}
-use Rattle.osi_watched.proofs.Vocabulary.{seen, asked_by, asks_by, asks_kept, at_found, at_place, connection_after, course_after, found}
-use Rattle.osi_watched.proofs.Vocabulary.{found_on, judged_on, none_told, request_tests, route_in, routed, sent_on, Traffic as State, takes}
-use Rattle.osi_watched.proofs.Vocabulary.{unnamed_told, uses_source, Connection, Rules, Way as Direction, Finding, Broke, Kept, NotJudged}
-use Rattle.osi_watched.proofs.Vocabulary.{Reach, Half, Phase, unlike, applied_found, applied_judged, no_item, not_first, not_true}
-use Rattle.osi_watched.proofs.Vocabulary.{AreJudged, reached_class, begun_live, each_add, each_map, each_set, first_true, HoldsOfEach}
-use Rattle.osi_watched.proofs.Vocabulary.{one_added, one_changed, one_mapped, one_put, passes_each, NamesApart as AreApart, Sound}
-use Rattle.osi_watched.proofs.Vocabulary.{lasts_passing, set_there, HoldsOfOne, packet, passes, Passing, rubbish, unit, noted}
+use Rattle.osi_watched.proofs.Vocabulary.{[], ap, Bool, false, if◌then◌else◌, inl, inr, is_some, List, None, not, Option, refl, set, Some}
+use Rattle.osi_watched.proofs.Vocabulary.{suc, sym, true, zero, ℕ, ◌&&◌, ◌==◌, ◌∙◌, ◌∷◌, ◌≡◌, ◌⊎◌, eqb-true, slice_get-map, list_all}
+use Rattle.osi_watched.proofs.Vocabulary.{position, slice_get, ◌||◌, confirm, Connect, data0, disconnect, disconnected, error, request}
+use Rattle.osi_watched.proofs.Vocabulary.{Value, Class, Two, Zero, is_applied, first_failed, begins, is_closed, is_closing, is_live}
+use Rattle.osi_watched.proofs.Vocabulary.{is_named, is_open, is_over, is_over_by, is_refused, is_silent, seen, asked_by, asks_by, asks_kept}
+use Rattle.osi_watched.proofs.Vocabulary.{at_found, at_place, connection_after, course_after, found, found_on, judged_on, none_told}
+use Rattle.osi_watched.proofs.Vocabulary.{request_tests, route_in, routed, sent_on, Traffic as State, takes, unnamed_told, uses_source}
+use Rattle.osi_watched.proofs.Vocabulary.{Connection, Rules, Way as Direction, Finding, Broke, Kept, NotJudged, Reach, Half, Phase, unlike}
+use Rattle.osi_watched.proofs.Vocabulary.{applied_found, applied_judged, no_item, not_first, not_true, AreJudged, reached_class, begun_live}
+use Rattle.osi_watched.proofs.Vocabulary.{each_add, each_map, each_set, first_true, HoldsOfEach, one_added, one_changed, one_mapped}
+use Rattle.osi_watched.proofs.Vocabulary.{one_put, passes_each, NamesApart as AreApart, Sound, lasts_passing, set_there, HoldsOfOne, packet}
+use Rattle.osi_watched.proofs.Vocabulary.{passes, Passing, rubbish, unit, noted, arith, begun_left, begun_right, differ}
 use Rattle.osi_rules.specs.declared.directions.Direction.TheVariants.{Left, Right}
 use Rattle.osi_rules.specs.declared.findings.Reach.TheVariants as reach
 use Rattle.osi_rules.specs.declared.findings.Rule.TheVariants as rule
 use Rattle.osi_rules.specs.declared.halves.Phase.TheVariants as phase
 use Rattle.osi_rules.specs.Traffic.{reached}
 use Rattle.osi_watched.proofs.small_facts_that_many_lemmas_use.{same_item}
-use Rattle.osi_fair.proofs.small_facts_that_many_lemmas_use.{begun_left, begun_right, differ}
 use Rattle.osi_watched.proofs.sessions.a_dt_of_class_0_has_one_place.{IsOnly, open_not_refused}
 
 -- ---- what holds until class 2 is selected
@@ -276,8 +274,7 @@ module _ (d : Direction) (v : Value) (s : State) (apart : AreApart s.connections
   named_narrow : (number : ℕ) → Narrow (at_place d v s (position (is_named d number) s.connections)).state
   named_narrow number =
       place_narrow (position (is_named d number) s.connections)
-      (λ i e first at. not_first (is_over d e) (not (is_silent (seen d e).phase) && ((seen d e).reference == number))
-      (first_true (is_named d number) s.connections i e first at))
+      (search (arith, not_first, first_true))
 
   only_narrow : Narrow (at_place d v s (position (is_live d) s.connections)).state
   only_narrow =
@@ -316,8 +313,7 @@ module _ (x : Connect) (s : State) (apart : AreApart s.connections) (n : Narrow 
   kept_narrow (Some p) = record {
     known = n.known;
     asked = each_set (λ (c : Connection). is_open c.left.phase ≡ true) s.connections p (asked_by x) n.asked refl;
-    answered = each_set (λ (c : Connection). IsAnswer c.right.phase) s.connections p (asked_by x) n.answered
-        (record { closing = refl; closed = refl });
+    answered = search (arith, each_set);
     one = one_put (is_live Left) s.connections p (asked_by x) n.one (λ i e at j f k h. none_waits s.connections i e all at f);
     none = λ h. each_set (λ (c : Connection). is_open c.right.phase ≡ false) s.connections p (asked_by x) (n.none h) refl;
     opened = λ h. not_opened h;
@@ -325,8 +321,7 @@ module _ (x : Connect) (s : State) (apart : AreApart s.connections) (n : Narrow 
   kept_narrow None = record {
     known = n.known;
     asked = each_add (λ (c : Connection). is_open c.left.phase ≡ true) s.connections (asked_by x) n.asked refl;
-    answered = each_add (λ (c : Connection). IsAnswer c.right.phase) s.connections (asked_by x) n.answered
-        (record { closing = refl; closed = refl });
+    answered = search (arith, each_add);
     one = one_added (is_live Left) s.connections (asked_by x) n.one (λ i e at j f k h. none_waits s.connections i e all at f);
     none = λ h. each_add (λ (c : Connection). is_open c.right.phase ≡ false) s.connections (asked_by x) (n.none h) refl;
     opened = λ h. not_opened h;
@@ -377,21 +372,18 @@ begins_narrow : (d : Direction) (s : State) → AreApart s.connections → (s.co
     Narrow (passes (packet d) s)
 begins_narrow d s apart not_two n = record {
   known = grind arith;
-  asked = each_map (λ (c : Connection). is_open c.left.phase ≡ true) (begins d) s.connections n.asked
-      (λ c h. ap (λ (x : Half). is_open x.phase) (begun_left d c) ∙ h);
-  answered = each_map (λ (c : Connection). IsAnswer c.right.phase) (begins d) s.connections n.answered
-      (λ c h. subst (λ (x : Half). IsAnswer x.phase) (sym (begun_right d c)) h);
+  asked = search (arith, each_map, begun_left);
+  answered = search (arith, each_map, begun_right);
   one = one_mapped (is_live Left) (is_live Left) (begins d) s.connections n.one
       (λ i c at j k. begun_live d c (apart.sound i c at (grind arith)).left_knows j k);
   none = λ h. each_map (λ (c : Connection). is_open c.right.phase ≡ false) (begins d) s.connections
       (n.none (sym (grind arith) ∙ h))
       (λ c k. ap (λ (x : Half). is_open x.phase) (begun_right d c) ∙ k);
-  opened = λ h. let o = n.opened (sym (grind arith) ∙ h) in record {
-    place = o.place;
-    connection = begins d o.connection;
-    there = slice_get-map (begins d) s.connections o.place ∙ ap (λ (x : Option Connection). option_map (begins d) x) o.there;
-    live = ap (λ (x : Half). is_open x.phase) (begun_right d o.connection) ∙ o.live;
-  };
+  opened = λ h. let o = n.opened (sym (grind arith) ∙ h) in grind (
+    arith,
+    slice_get-map (begins d) s.connections o.place,
+    begun_right d o.connection,
+  );
 }
 
 -- ---- whatever passes

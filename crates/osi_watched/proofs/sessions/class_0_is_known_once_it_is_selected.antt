@@ -1,15 +1,13 @@
 -- The calling side knows of class 0 only once it is selected, whatever passes.
 -- For the units of both sides that are no breaks.
-use Rattle.std.proofs.Common.{arith}
 use Rattle.osi_watched.proofs.Vocabulary.{◌≡◌, sym, subst, ℕ, Bool, List, [], ◌∷◌, Option, Some, Value, Zero, Local, Direction, Connection}
 use Rattle.osi_watched.proofs.Vocabulary.{Rules, Way, Finding, Reach, Route, reach_of, Outcome, Traffic, at_found, at_place, class_for}
 use Rattle.osi_watched.proofs.Vocabulary.{none_told, routed, takes, unnamed_told, Passing, passes, unit, Event, HappenAlong, Happens, Whole}
-use Rattle.osi_watched.proofs.Vocabulary.{arrives, calls, passes_rubbish, zero_stays}
+use Rattle.osi_watched.proofs.Vocabulary.{arrives, calls, passes_rubbish, zero_stays, arith, Joint}
 use Rattle.osi_rules.specs.declared.findings.Reach.TheVariants as reach
 use Rattle.osi_rules.specs.Sides as sides
 use Rattle.osi_rules.specs.Traffic.{reached}
 use Rattle.osi_fair.specs.Wholes.{begin, begins_other, begins_own, passes_other, passes_own}
-use Rattle.osi_watched.specs.Joint.{Joint}
 use Rattle.osi_watched.proofs.steps_are_events.{IsFollowed}
 
 -- ---- a unit leaves what the calling side knows

@@ -1,27 +1,18 @@
 -- At a tap one connection has class 0, with a reference of the end, and of all others the references are gone: so it stays as packets begin
 -- and as units pass in class 0. For the session of the connection of an end in class 0.
-use Rattle.std.proofs.Common.{arith, ◌≡◌, ◌∙◌, ◌⊎◌, inl, inr, refl, sym, ap, subst, ℕ, Bool, true, false, set, Some, None}
-use Rattle.std.specs.Prelude.{◌==◌, slice_get}
-use Rattle.std.proofs.lemmas.Bool.{eqb-true}
-use Rattle.std.proofs.lemmas.Option.{slice_get-map}
-use Rattle.osi_tpdu.specs.Value.{Connect, Value, acknowledge, confirm, data0, data2, disconnect, disconnected, error, request}
-use Rattle.osi_class.specs.declared.terms.Class.TheVariants.{Zero}
-use Rattle.osi_judge.specs.declared.directions.Direction.{Direction}
+use Rattle.osi_watched.proofs.Vocabulary.{arith, ◌≡◌, ◌∙◌, ◌⊎◌, inl, inr, refl, sym, ap, subst, ℕ, Bool, true, false, set, Some, None, ◌==◌}
+use Rattle.osi_watched.proofs.Vocabulary.{slice_get, eqb-true, slice_get-map, Connect, Value, acknowledge, confirm, data0, data2}
+use Rattle.osi_watched.proofs.Vocabulary.{disconnect, disconnected, error, request, Zero, Direction, Connection, Reach, begins, is_refused}
+use Rattle.osi_watched.proofs.Vocabulary.{State, class_for, connection_after, is_stopped, meaning_if, meant, route_zero, routed, takes}
+use Rattle.osi_watched.proofs.Vocabulary.{unlike, after_change, set_there, Joined, Sessions, all_begin, reference_of, taken, way_of}
+use Rattle.osi_watched.proofs.Vocabulary.{HaveSamePlaces}
 use Rattle.osi_judge.specs.declared.directions.Direction.TheVariants as side
-use Rattle.osi_rules.specs.declared.connections.Connection.{Connection}
 use Rattle.osi_rules.specs.declared.directions.Direction.{Direction as Way}
-use Rattle.osi_rules.specs.declared.findings.Reach.{Reach}
 use Rattle.osi_rules.specs.declared.findings.Reach.TheVariants as reach
-use Rattle.osi_rules.specs.Sides.{begins, is_refused}
 use Rattle.osi_rules.specs.Sides as sides
-use Rattle.osi_rules.specs.Traffic.{State, class_for, connection_after, is_stopped, meaning_if, meant, route_zero, routed, takes}
 use Rattle.osi_rules.specs.Traffic as traffic
-use Rattle.osi_fair.proofs.a_dt_of_class_zero_passes.{unlike}
-use Rattle.osi_fair.proofs.while_no_class_is_selected.{after_change, set_there}
-use Rattle.osi_tap.specs.Connections.{Joined, Sessions, all_begin, packet_begins, reference_of, taken}
+use Rattle.osi_tap.specs.Connections.{packet_begins}
 use Rattle.osi_tap.specs.Connections as joined
-use Rattle.osi_tap.specs.Courses.{way_of}
-use Rattle.osi_watched.specs.ShownPlaces.{HaveSamePlaces}
 use Rattle.osi_watched.proofs.what_a_taker_passes_over.{IsMild}
 use Rattle.osi_watched.proofs.sessions.a_dt_of_class_0_leaves_all_standing.{Breaks}
 use Rattle.osi_watched.proofs.sessions.all_connections_stand.{map_of}

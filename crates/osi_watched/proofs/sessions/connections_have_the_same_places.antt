@@ -8,7 +8,8 @@ use Rattle.osi_watched.proofs.Vocabulary.{asks_kept, at_place, closing_phase, co
 use Rattle.osi_watched.proofs.Vocabulary.{meant, Outcome, routed, sent_on, Traffic as State, takes, Connection, Rules, Finding, Reach, Told}
 use Rattle.osi_watched.proofs.Vocabulary.{Half, Phase, Route, Capture, Direction, Left, adds, changed, Joined, Sessions, taken, taken_at}
 use Rattle.osi_watched.proofs.Vocabulary.{user_of, marked, noted_by, reached, unit_passes, units_pass, unread, way_of, comes_to, Cause}
-use Rattle.osi_watched.proofs.Vocabulary.{Mark, applied_found, first_there, HasAsked, HaveSamePlaces, IsOneOf, named_by}
+use Rattle.osi_watched.proofs.Vocabulary.{Mark, applied_found, first_there, HasAsked, HaveSamePlaces, IsOneOf, named_by, Course}
+use Rattle.osi_watched.proofs.Vocabulary.{packet_begins, closing_same, differ}
 use Rattle.osi_rules.specs.declared.directions.Direction.TheVariants as way
 use Rattle.osi_rules.specs.declared.findings.Finding.TheVariants as finding
 use Rattle.osi_rules.specs.declared.findings.Meaning.TheVariants as meaning
@@ -17,10 +18,8 @@ use Rattle.osi_rules.specs.declared.findings.Rule.TheVariants as rule
 use Rattle.osi_rules.specs.declared.halves.Phase.TheVariants as phase
 use Rattle.osi_rules.specs.Traffic as traffic
 use Rattle.osi_tap.specs.Connections as joined
-use Rattle.osi_tap.specs.Courses.{Course, packet_begins}
 use Rattle.osi_tap.specs.Tapping.{begin}
 use Rattle.osi_watched.proofs.small_facts_that_many_lemmas_use.{or_first, same_one}
-use Rattle.osi_fair.proofs.small_facts_that_many_lemmas_use.{closing_same, differ}
 use Rattle.osi_watched.proofs.what_passes_keeps_a_claim.{after_kept}
 
 -- ---- lists of the same length

@@ -2,9 +2,9 @@
 -- CR that passes gives a new one.
 -- For all connections of an end and a tap.
 use Rattle.osi_watched.proofs.Vocabulary.{[], arith, List, subst, sym, ℕ, ◌++◌, ◌+◌, ◌<◌, ◌∷◌, ◌≡◌, ◌≤◌, flat_map-append, append-nil}
-use Rattle.osi_watched.proofs.Vocabulary.{AllByRecursion, Connect, request, Value, react, connects, sends, sends_all, user_does, UserCall}
-use Rattle.osi_watched.proofs.Vocabulary.{Carrier, unit_gives, all_gives, closed_gives, ended_gives, not_less, Rise, rise_from, sent_gives}
-use Rattle.osi_watched.proofs.Vocabulary.{asked_among, call_asks, unit_asks, asked_in, put_by, put_for, Event, HappenAlong, Happens, Whole}
+use Rattle.osi_watched.proofs.Vocabulary.{AllByRecursion, Connect, request, Value, connects, sends, sends_all, user_does, UserCall, Carrier}
+use Rattle.osi_watched.proofs.Vocabulary.{unit_gives, all_gives, closed_gives, ended_gives, not_less, Rise, rise_from, sent_gives}
+use Rattle.osi_watched.proofs.Vocabulary.{asked_among, call_asks, unit_asks, asked_in, put_by, Event, HappenAlong, Happens, Whole}
 use Rattle.osi_carrier.specs.Runs.{breaks, closes}
 use Rattle.osi_rules.specs.declared.directions.Direction.TheVariants as way
 use Rattle.osi_fair.specs.Wholes as wholes
@@ -62,8 +62,7 @@ passes_asked b x put w new e p same a = grind (arith, asked_among)
 
 above_happens : (b : ℕ) (event : Event) (old new : Whole) → Happens way.Left event old new → AreAbove b old → AreAbove b new
 above_happens b wholes.arrives old new (unit, coming, is) a =
-    subst (AreAbove b) (sym is) (grows b old (react unit old.end) (put_for unit old.end) new.coming (unit_asks unit old.end)
-    (unit_gives unit old.end) a)
+    subst (AreAbove b) (sym is) (search (arith, grows, unit_asks, unit_gives))
 above_happens b (wholes.calls call) old new (may, is) a = subst (AreAbove b) (sym is) (by_call b call old a)
 above_happens b wholes.begins_own old new (some, none, is) a = grind arith
 above_happens b wholes.passes_own old new (v, put, begun, is) a = grind (arith, passes_asked, rise_from, asked_among, passes_another)

@@ -1,21 +1,18 @@
 -- Of the CCs that a called end of class 2 has put and that have not passed a tap, no two are for one reference of either side. Each comes
 -- before all that is put for it, and no other connection that the end has open at the tap has its reference of the other side.
 -- For all connections of a called end and a tap.
-use Rattle.std.proofs.Common.{arith}
 use Rattle.osi_watched.proofs.Vocabulary.{[], ap, append_assoc, Bool, false, inl, inr, List, None, Option, refl, Some, subst, sym, true, ℕ}
 use Rattle.osi_watched.proofs.Vocabulary.{◌&&◌, ◌++◌, ◌∙◌, ◌∷◌, ◌≡◌, ◌⊎◌, eqb-true, AllByRecursion, slice_get, acknowledge, confirm}
 use Rattle.osi_watched.proofs.Vocabulary.{Connect, data2, disconnect, Value, Standing, Move, Two, Local, acceptance, opened_link, value_at}
-use Rattle.osi_watched.proofs.Vocabulary.{linked, is_open, uses, Connection, Way as Direction, Half, Sessions, Answering, answering}
-use Rattle.osi_watched.proofs.Vocabulary.{AreStrays, Asked, Called, comes, line_of, refuses, runs, Stand, StrayIf, at_first, at_join}
-use Rattle.osi_watched.proofs.Vocabulary.{first_at, is_at, Placed, values, NamesApart as AreApart, keep, Act, ActsAlong, Line, opened_line}
-use Rattle.osi_watched.proofs.Vocabulary.{units_put, Whole, HaveSamePlaces}
+use Rattle.osi_watched.proofs.Vocabulary.{linked, is_open, uses, Connection, Way as Direction, Sessions, Answering, answering, AreStrays}
+use Rattle.osi_watched.proofs.Vocabulary.{Asked, Called, comes, line_of, refuses, runs, Stand, StrayIf, at_first, at_join, first_at, is_at}
+use Rattle.osi_watched.proofs.Vocabulary.{Placed, values, NamesApart as AreApart, keep, Act, ActsAlong, Line, opened_line, units_put, Whole}
+use Rattle.osi_watched.proofs.Vocabulary.{HaveSamePlaces, arith, AreNamedApart, each_sound, differ}
 use Rattle.osi_judge.specs.declared.directions.Direction.TheVariants as side
 use Rattle.osi_rules.specs.declared.directions.Direction.TheVariants.{Left, Right}
 use Rattle.osi_fair.proofs.each_connection_of_a_called_end.{past}
-use Rattle.osi_fair.proofs.names_stay_apart_though_one_is_lost.{AreNamedApart, each_sound}
 use Rattle.osi_fair.proofs.units_by_their_place.{units_at}
 use Rattle.osi_watched.proofs.small_facts_that_many_lemmas_use.{all_join as all_of_both}
-use Rattle.osi_fair.proofs.small_facts_that_many_lemmas_use.{differ}
 use Rattle.osi_watched.proofs.sessions.a_called_end_of_class_2_puts_no_dt_of_class_0.{called_put_two}
 use Rattle.osi_watched.proofs.sessions.a_right_dt_has_one_place.{still_used}
 use Rattle.osi_watched.proofs.sessions.connections_have_the_same_places.{at_same}
@@ -201,10 +198,7 @@ module _ (local : Local) (w : Whole) (t : Sessions) (f : Called local w) (apart 
       let k = cc_at m r h in
       let l = cc_at n r i in
       let same : k.place ≡ l.place = sym (f.homes k.place r k.index).0 ∙ (f.homes l.place r l.index).0 in
-      let both : k.c ≡ l.c =
-      item k.c l.c (slice_get w.tap.connections k.place) k.at (ap (slice_get w.tap.connections) same ∙ l.at) in
-      sym k.source ∙ sym (ap (λ (s : Half). s.reference) k.asked.left) ∙ ap (λ (c : Connection). c.left.reference) both
-      ∙ ap (λ (s : Half). s.reference) l.asked.left ∙ l.source
+      grind (arith, item)
 
   -- nor for that of a connection which the end has open at the tap
   open_not : {A : Type 0} (n r : ℕ) (ts : List Placed) (k : CcAt n r ts) (i : ℕ) (e : Connection) → slice_get w.tap.connections i ≡ Some e →
@@ -215,9 +209,7 @@ module _ (local : Local) (w : Whole) (t : Sessions) (f : Called local w) (apart 
       (ap (λ (m : ℕ). Some m) (one.calling ∙ is)) in
       let same : k.place ≡ i =
       named.used n k.place i k.c e k.at at (grind (arith, used_asked)) used in
-      let both : k.c ≡ e = item k.c e (slice_get w.tap.connections i) (ap (slice_get w.tap.connections) (sym same) ∙ k.at) at in
-      differ (is_open e.right.phase) lives
-      (ap (λ (c : Connection). is_open c.right.phase) (sym both) ∙ ap (λ (h : Half). is_open h.phase) k.asked.right)
+      grind (arith, item, differ)
 
   pub none_open_for : (n r : ℕ) → HasCc n r w.put → (i : ℕ) (e : Connection) → slice_get w.tap.connections i ≡ Some e →
       is_open e.right.phase ≡ true → e.left.reference ≡ n → ⊥
@@ -236,8 +228,7 @@ module _ (local : Local) (w : Whole) (t : Sessions) (f : Called local w) (apart 
       by (inl (first, one)) = differ (is_for (Some n) v) mine (ap (is_for (Some n)) one)
       by (inr (zs, first, others)) =
           has_not_to n r k.x.source k.more
-          (subst (HasCc n r) others
-          (has_back n r zs (v ∷ units_at p rest) (inr (subst (λ (i : ℕ). HasCc n r (units_at i rest)) (sym same) k.has)))) k.to
+          (grind (arith, has_back, units_at)) k.to
 
   ordered_by : (n r p : ℕ) (c : Connection) (front rest : List Placed) (v : Value) → slice_get w.tap.connections p ≡ Some c →
       f.tagged ≡ front ++ (Some p, v) ∷ rest → IsNotZero v → is_for (Some n) v ≡ true → CcAt n r rest → StandsAt p c → ⊥
@@ -314,27 +305,13 @@ module _ (local : Local) (w : Whole) (t : Sessions) (f : Called local w) (apart 
       by_stand c at (refuses x a reason put none ref seen) = none_given ref
       by_stand c at (answering h none) =
           let name : h.r ≡ q = same_number (f.refs (f.home q)) h.r q h.index index in
-          let same : peer ≡ h.x.source =
-          row_peer local w t f apart named places lasts h.r h.x.source h.link h.come peer link h.row
-          (ap (λ (n : ℕ). value_at n w.end.live) name ∙ is) in
-          inl (subst (HasCc peer q) (sym f.put)
-          (has_at peer q (f.home q) f.tagged (subst (HasCc peer q) (sym h.mine_is) (inl (sym same, name)))))
+          let same : peer ≡ h.x.source = grind (arith, row_peer) in
+          inl (grind (arith, has_at peer q (f.home q) f.tagged (subst (HasCc peer q) (sym h.mine_is) (inl (sym same, name)))))
       by_stand c at (runs h none) =
           let name : h.r ≡ q = same_number (f.refs (f.home q)) h.r q h.index index in
-          let same : peer ≡ h.peer =
-          row_peer local w t f apart named places lasts h.r h.peer h.line.link h.line.coming peer link h.row
-          (ap (λ (n : ℕ). value_at n w.end.live) name ∙ is) in
+          let same : peer ≡ h.peer = grind (arith, row_peer) in
           let (j, here, one) = at_same w.tap.connections t.live (f.home q) c places at in
-          inr (record {
-            place = f.home q;
-            connection = c;
-            joined = j;
-            there = at;
-            here = here;
-            lives = h.there;
-            mine = one.called ∙ named_open c.right.phase c.right.reference h.there ∙ ap (λ (n : ℕ). Some n) (h.right ∙ name);
-            theirs = ap (λ (n : ℕ). Some n) (one.calling ∙ h.left ∙ sym same);
-          })
+          inr (grind (arith, named_open))
       by_stand c at (past silent up none asks un off) = absurd (un q index lasts peer link is)
 
       by : (o : Option Connection) → slice_get w.tap.connections (f.home q) ≡ o → HasCc peer q w.put ⊎ HasHome side.Right q peer w.tap t
@@ -349,9 +326,7 @@ module _ (local : Local) (w : Whole) (t : Sessions) (f : Called local w) (apart 
   two_at p c (answering h none) =
       subst (AllByRecursion AnswersTwo) (sym h.mine_is) (
         refl,
-        all_so (IsTo h.x.source) AnswersTwo (to_two h.x.source) h.more
-            (acts_to Right h.r h.x.source h.acts (opened_line (opened_link Two h.size local h.x.credit) c)
-            (line_of h.link h.more h.come c) (h.along c) tt),
+        grind (arith, all_so, acts_to, to_two h.x.source, line_of h.link h.more h.come c, h.along c),
       )
   two_at p c (runs h none) = all_so (IsTo h.peer) AnswersTwo (to_two h.peer) (units_at p f.tagged) (grind (arith, acts_to))
   two_at p c (past silent up none asks un off) = subst (AllByRecursion AnswersTwo) (sym none) tt

@@ -1,19 +1,10 @@
 -- At a tap each CC of a called end that passes gives a new reference; and this stays so with each step.
 -- For all connections of a called end and a tap.
-use Rattle.std.proofs.Common.{◌∙◌, refl, sym, ap, subst, ℕ, ◌<◌, ◌≤◌, false, List, [], ◌∷◌, ◌++◌, arith}
-use Rattle.std.specs.List.{AllByRecursion}
-use Rattle.osi_tpdu.specs.Value.{Connect, Value, acknowledge, confirm, data0, data2, disconnect, disconnected, error, request}
-use Rattle.osi_judge.specs.declared.directions.Direction.TheVariants.{Left, Right}
-use Rattle.osi_rules.specs.Traffic.{State, takes}
-use Rattle.osi_fair.specs.Wholes.{Whole}
+use Rattle.osi_watched.proofs.Vocabulary.{◌∙◌, refl, sym, subst, ℕ, ◌<◌, ◌≤◌, false, List, [], ◌∷◌, ◌++◌, arith, AllByRecursion, Connect}
+use Rattle.osi_watched.proofs.Vocabulary.{Value, acknowledge, confirm, data0, data2, disconnect, disconnected, error, request, Right, takes}
+use Rattle.osi_watched.proofs.Vocabulary.{Whole, Turn, AllProper, CanBeWritten, Sessions, Course, units_pass, way_of, Joint, Step, Steps}
+use Rattle.osi_watched.proofs.Vocabulary.{TakesTurn, begins_other, begins_own, passes_other, passes_own, turns, HaveSamePlaces}
 use Rattle.osi_fair.specs.Wholes as wholes
-use Rattle.osi_honest.specs.Turns.{Turn}
-use Rattle.osi_honest.proofs.class_0.what_a_packet_does_in_class_0.{AllProper}
-use Rattle.osi_honest.proofs.reading.what_is_written_is_read_again.{CanBeWritten}
-use Rattle.osi_tap.specs.Connections.{Sessions}
-use Rattle.osi_tap.specs.Courses.{Course, units_pass, way_of}
-use Rattle.osi_watched.specs.Joint.{Joint, Step, Steps, TakesTurn, begins_other, begins_own, passes_other, passes_own, turns}
-use Rattle.osi_watched.specs.ShownPlaces.{HaveSamePlaces}
 use Rattle.osi_watched.proofs.a_carrier_does_events.{happen_join}
 use Rattle.osi_watched.proofs.steps_are_events.{IsFollowed, own_first, step_followed}
 use Rattle.osi_watched.proofs.sessions.ccs_that_wait_are_above_those_that_passed.{AreAboveAt, above_along, passes_confirmed}
@@ -120,15 +111,13 @@ module _ (first : Whole) where
       GoesOn first h.bound new
   begins_own_ahead proper old new step h =
       goes_on proper begins_own old new step h
-      (subst (λ (j : Joint). AreUpTo Right h.bound j.course.sessions) (sym step.2)
-      (begins_up Right Right h.bound old.course.sessions h.below))
+      (grind (arith, begins_up))
 
   pub begins_other_ahead : AllProper → (old new : Joint) → Steps Right begins_other old new → (h : IsAhead first old) →
       GoesOn first h.bound new
   begins_other_ahead proper old new step h =
       goes_on proper begins_other old new step h
-      (subst (λ (j : Joint). AreUpTo Right h.bound j.course.sessions) (sym step)
-      (begins_up Right Left h.bound old.course.sessions h.below))
+      (grind (arith, begins_up))
 
   -- the units of the other side give no reference
   pub passes_other_ahead : AllProper → (at : ℕ) (packet : List ℕ) (units : List Value) (old new : Joint) →
@@ -141,8 +130,7 @@ module _ (first : Whole) where
       PassesOn first h.bound unit new
   passes_another proper at unit old new step places h none =
       let g = goes_on proper (passes_own at unit) old new step h
-      (subst (λ (j : Joint). AreUpTo Right h.bound j.course.sessions) (sym step.4)
-      (unit_up Right Right h.bound at unit old.course places none h.below)) in
+      (grind (arith, unit_up Right Right h.bound at unit old.course places none h.below)) in
       record { ahead = g.ahead; rises = g.rises; gives = up_to unit h.bound g.ahead.bound g.rises none }
 
   passes_cc : (at m : ℕ) (x : Connect) (old new : Joint) → Steps Right (passes_own at (confirm m x)) old new →
@@ -162,8 +150,7 @@ module _ (first : Whole) where
               (next, (confirm m x, s.is, f.begun ∙ begun, refl), refl);
           put = s.same;
           begun = refl;
-          tap = ap (λ (t : State). (takes (way_of Right) (confirm m x) t).state) f.tap
-              ∙ sym (unit_knows Right at (confirm m x) old.course);
+          tap = grind (arith, unit_knows Right at (confirm m x) old.course);
           coming = f.coming;
           like = f.like;
           can = s.can;

@@ -1,24 +1,14 @@
 -- At a tap each CR of a calling end that passes gives a new reference; and this stays so with each step.
 -- For all connections of an end and a tap.
-use Rattle.std.proofs.Common.{◌≡◌, ◌∙◌, ◌⊎◌, inl, inr, refl, sym, ap, subst, ℕ, ◌<◌, ◌≤◌, Bool, false, List, [], ◌∷◌, ◌++◌, length, Some}
-use Rattle.std.proofs.Common.{arith}
-use Rattle.std.specs.Prelude.{slice_get}
-use Rattle.std.specs.List.{AllByRecursion}
-use Rattle.osi_tpdu.specs.Value.{Connect, Value, acknowledge, confirm, data0, data2, disconnect, disconnected, error, request}
-use Rattle.osi_judge.specs.declared.directions.Direction.{Direction}
-use Rattle.osi_judge.specs.declared.directions.Direction.TheVariants.{Left, Right}
-use Rattle.osi_rules.specs.Traffic.{State, meaning_if, meant, takes}
-use Rattle.osi_fair.specs.Wholes.{Whole}
+use Rattle.osi_watched.proofs.Vocabulary.{◌≡◌, ◌∙◌, ◌⊎◌, inl, inr, refl, sym, ap, subst, ℕ, ◌<◌, ◌≤◌, Bool, false, List, [], ◌∷◌, ◌++◌}
+use Rattle.osi_watched.proofs.Vocabulary.{length, Some, arith, slice_get, AllByRecursion, Connect, Value, acknowledge, confirm, data0}
+use Rattle.osi_watched.proofs.Vocabulary.{data2, disconnect, disconnected, error, request, Direction, Left, Right, State, meaning_if, meant}
+use Rattle.osi_watched.proofs.Vocabulary.{takes, Whole, after_add, after_set, Turn, AllProper, Room, Joined, Sessions, all_begin, asked}
+use Rattle.osi_watched.proofs.Vocabulary.{reference_of, taken, Course, unit_passes, units_pass, way_of, Joint, Step, Steps, TakesTurn}
+use Rattle.osi_watched.proofs.Vocabulary.{begins_other, begins_own, passes_other, passes_own, turns, HaveSamePlaces}
 use Rattle.osi_fair.specs.Wholes as wholes
-use Rattle.osi_fair.proofs.what_holds_of_one_item.{after_add, after_set}
-use Rattle.osi_honest.specs.Turns.{Turn}
-use Rattle.osi_honest.proofs.class_0.what_a_packet_does_in_class_0.{AllProper}
-use Rattle.osi_tap.specs.declared.rooms.Room.{Room}
-use Rattle.osi_tap.specs.Connections.{Joined, Sessions, adds_if, all_begin, asked, packet_begins, reference_of, taken}
+use Rattle.osi_tap.specs.Connections.{packet_begins}
 use Rattle.osi_tap.specs.Connections as joined
-use Rattle.osi_tap.specs.Courses.{Course, unit_passes, units_pass, way_of}
-use Rattle.osi_watched.specs.Joint.{Joint, Step, Steps, TakesTurn, begins_other, begins_own, passes_other, passes_own, turns}
-use Rattle.osi_watched.specs.ShownPlaces.{HaveSamePlaces}
 use Rattle.osi_watched.proofs.a_carrier_does_events.{happen_join}
 use Rattle.osi_watched.proofs.steps_are_events.{IsFollowed, own_first, step_followed}
 use Rattle.osi_watched.proofs.sessions.all_connections_stand.{map_of}
@@ -46,10 +36,6 @@ IsUpTo d b v = Unit {0}
 
 pub up_higher : (d : Direction) (b n : ℕ) (t : Sessions) → b ≤ n → AreUpTo d b t → AreUpTo d n t
 up_higher d b n t h u = grind arith
-
-named_if : (x : Bool) (room : Room) (d e : Direction) (at : ℕ) (end : Bool) (octets : List ℕ) (j : Joined) →
-    reference_of d (adds_if x room e at end octets j) ≡ reference_of d j
-named_if x room d e at end octets j = grind arith
 
 named_begun : (d e : Direction) (j : Joined) → reference_of d (packet_begins e j) ≡ reference_of d j
 named_begun d e j = grind arith
@@ -132,10 +118,7 @@ begins_ahead first j f above none none_done = record {
   followed = f;
   bound = 0;
   above = above;
-  below = record {
-    live = λ i k r here named. nowhere_in j.course.sessions.live i k none here;
-    done = λ i k r here named. nowhere_in j.course.sessions.done i k none_done here;
-  };
+  below = grind arith;
 }
   where
     nowhere_in : {A : Type 0} (js : List Joined) (i : ℕ) (k : Joined) → js ≡ [] → slice_get js i ≡ Some k → A
@@ -150,10 +133,9 @@ module _ (first : Whole) where
       let f = h.followed in
       let s = own_first Left first old new (request x) (read, octets, put) f in
       let k = passes_asked h.bound x s.rest f.whole (record f.whole { put = s.rest }) s.is refl refl h.above in
-      let less : h.bound < x.source = k.new_is in
       record {
-        live = λ i j here named. (let (some, low) = h.below.live i j x.source here named in absurd (omega (arith, low, less)));
-        done = λ i j here named. (let (some, low) = h.below.done i j x.source here named in absurd (omega (arith, low, less)));
+        live = λ i j here named. (let (some, low) = h.below.live i j x.source here named in absurd (omega (arith, low)));
+        done = λ i j here named. (let (some, low) = h.below.done i j x.source here named in absurd (omega (arith, low)));
       }
   gives_new at (confirm n x) old new step h = tt
   gives_new at (disconnect n source reason user) old new step h = tt
@@ -225,16 +207,14 @@ module _ (first : Whole) where
       (h : AreAhead first old) → AllByRecursion (IsUpTo Left h.bound) units → GoesOn first h.bound new
   passes_other_ahead proper at packet units old new step places h none =
       goes_on proper (passes_other at packet units) old new step h
-      (subst (λ (j : Joint). AreUpTo Left h.bound j.course.sessions) (sym step.2)
-      (units_up Left Right h.bound at units old.course places none h.below))
+      (grind (arith, units_up))
 
   passes_another : AllProper → (at : ℕ) (unit : Value) (old new : Joint) → Steps Left (passes_own at unit) old new →
       HaveSamePlaces old.course.traffic.connections old.course.sessions.live → (h : AreAhead first old) → IsUpTo Left h.bound unit →
       GoesOn first h.bound new
   passes_another proper at unit old new step places h none =
       goes_on proper (passes_own at unit) old new step h
-      (subst (λ (j : Joint). AreUpTo Left h.bound j.course.sessions) (sym step.4)
-      (unit_up Left Left h.bound at unit old.course places none h.below))
+      (grind (arith, unit_up Left Left h.bound at unit old.course places none h.below))
 
   passes_cr : (at : ℕ) (x : Connect) (old new : Joint) → Steps Left (passes_own at (request x)) old new →
       HaveSamePlaces old.course.traffic.connections old.course.sessions.live → (h : AreAhead first old) → GoesOn first h.bound new

@@ -1,16 +1,14 @@
 -- At each step of an end and of a tap it holds that in class 0 one connection was opened, and each other one was refused; and that left
 -- knows a class only if it is selected.
 -- For the session of the connection of an end in class 0.
-use Rattle.std.proofs.Common.{arith}
 use Rattle.osi_watched.proofs.Vocabulary.{Bool, false, if◌then◌else◌, is_some, Option, Some, subst, sym, true, ℕ, ◌∙◌, ◌≡◌, Value, Class}
 use Rattle.osi_watched.proofs.Vocabulary.{Two, Zero, reach_of, asks_of, at_place, class_for, fresh, is_stopped, none_told, Outcome}
 use Rattle.osi_watched.proofs.Vocabulary.{refused_reach, routed, Traffic as State, takes, unnamed_told, Way, Finding, Route, Direction}
 use Rattle.osi_watched.proofs.Vocabulary.{marked, marks_of, moved, unread_mark, unread_moment, way_of, Cause, fresh_apart, no_item}
 use Rattle.osi_watched.proofs.Vocabulary.{passes_apart, AreJudged, still_judged, reached_class, zero_stays, NamesApart as AreApart, packet}
-use Rattle.osi_watched.proofs.Vocabulary.{passes, Passing, rubbish, unit, lasts_passing}
+use Rattle.osi_watched.proofs.Vocabulary.{passes, Passing, rubbish, unit, lasts_passing, arith, Course}
 use Rattle.osi_rules.specs.declared.directions.Direction.TheVariants.{Left, Right}
 use Rattle.osi_rules.specs.Traffic as traffic
-use Rattle.osi_tap.specs.Courses.{Course}
 use Rattle.osi_watched.proofs.what_passes_keeps_a_claim.{IsClaim}
 use Rattle.osi_watched.proofs.sessions.a_dt_of_class_0_leaves_all_standing.{IsZero}
 use Rattle.osi_watched.proofs.sessions.class_0_has_one_connection.{NarrowIf, after_seen, narrow_only, reached_seen, still_narrow}

@@ -1,22 +1,20 @@
 -- Each DT and each AK that a called end of class 2 puts in a turn is for a connection that the tap knows by its references and that this
 -- end has not closed there, or for one whose CC has not passed; each other unit is for none.
 -- For all connections of an end and a tap.
-use Rattle.std.proofs.Common.{arith}
 use Rattle.osi_watched.proofs.Vocabulary.{[], ap, append_assoc, false, List, None, Option, refl, Some, subst, sym, true, ℕ, ◌&&◌, ◌++◌, ◌∙◌}
 use Rattle.osi_watched.proofs.Vocabulary.{◌∷◌, ◌≡◌, AllByRecursion, slice_get, confirm, Connect, disconnect, request, Value, Standing, Zero}
 use Rattle.osi_watched.proofs.Vocabulary.{Local, value_at, linked, Carrier, is_open, is_refused, uses, silent_half, Traffic as State}
-use Rattle.osi_watched.proofs.Vocabulary.{Connection, Half, Phase, Left, Right, Answers, Begins, is_shut, Opens, opens, Continues, Deeds}
+use Rattle.osi_watched.proofs.Vocabulary.{Connection, Phase, Left, Right, Answers, Begins, is_shut, Opens, opens, Continues, Deeds}
 use Rattle.osi_watched.proofs.Vocabulary.{all_units, Marked, Turn, Joined, reference_of, Sessions, answering as answers, Asked, Called}
 use Rattle.osi_watched.proofs.Vocabulary.{comes, refuses, runs, Stand, Untagged, at_first, at_join, first_at, Placed, values, NamesApart}
-use Rattle.osi_watched.proofs.Vocabulary.{IsCalm, open_link, ◌<◌, Whole, Joint, TakesTurn, HaveSamePlaces, named_by}
+use Rattle.osi_watched.proofs.Vocabulary.{IsCalm, open_link, ◌<◌, Whole, Joint, TakesTurn, HaveSamePlaces, named_by, arith, AreNamedApart}
+use Rattle.osi_watched.proofs.Vocabulary.{each_sound, AreApart, differ}
 use Rattle.osi_rules.specs.declared.directions.Direction.TheVariants as way
 use Rattle.osi_fair.specs.Wholes.{begin}
 use Rattle.osi_fair.proofs.each_connection_of_a_called_end.{Row, past}
-use Rattle.osi_fair.proofs.names_stay_apart_though_one_is_lost.{AreNamedApart, each_sound}
 use Rattle.osi_fair.proofs.units_by_their_place.{units_at}
-use Rattle.osi_honest.specs.Arriving.{AreApart, is_open as opened}
+use Rattle.osi_honest.specs.Arriving.{is_open as opened}
 use Rattle.osi_watched.proofs.small_facts_that_many_lemmas_use.{all_front, over_not}
-use Rattle.osi_fair.proofs.small_facts_that_many_lemmas_use.{differ}
 use Rattle.osi_watched.proofs.steps_are_events.{IsFollowed}
 use Rattle.osi_watched.proofs.sessions.a_called_end_has_its_lines.{HasCalled, called_joined, called_lines}
 use Rattle.osi_watched.proofs.sessions.a_right_dt_has_one_place.{still_used}
@@ -81,12 +79,7 @@ module _ (local : Local) (w : Whole) (t : Sessions) (f : Called local w) (apart 
       let used = still_used Right x.source e j (one_at w.tap.connections t.live i e j places there here)
       (each_sound way.Left w.tap.connections apart named i e there) lives is in
       let same : p ≡ i = named.used x.source p i c e at there (used_asked x c a) used in
-      let one : c ≡ e = item (sym at ∙ ap (λ (n : ℕ). slice_get w.tap.connections n) same ∙ there) in
-      differ (is_open e.right.phase) lives
-      (ap (λ (k : Connection). is_open k.right.phase) (sym one) ∙ ap (λ (h : Half). is_open h.phase) a.right)
-    where
-      item : {c e : Connection} → Some c ≡ Some e → c ≡ e
-      item h = cc
+      grind (arith, differ)
 
   -- a connection that right has answered has the reference that the end gave it
   given_by : (q i : ℕ) (c : Connection) → named_by c.right.phase c.right.reference ≡ Some q → StandsAt i c → f.refs i ≡ Some q
@@ -100,11 +93,7 @@ module _ (local : Local) (w : Whole) (t : Sessions) (f : Called local w) (apart 
       let one = one_at w.tap.connections t.live i e j places there here in
       let named = sym one.called ∙ is in
       let same : i ≡ p = sym (f.homes i q (given_by q i e named (f.stands i e there))).0 ∙ (f.homes p q index).0 in
-      let both : c ≡ e = item (sym at ∙ ap (λ (n : ℕ). slice_get w.tap.connections n) (sym same) ∙ there) in
-      silent_none e q (ap (λ (k : Connection). k.right) (sym both) ∙ silent) named
-    where
-      item : {c e : Connection} → Some c ≡ Some e → c ≡ e
-      item h = cc
+      grind (arith, silent_none)
 
   -- ---- the end has the connection open
 
@@ -250,8 +239,7 @@ module _ (local : Local) (deeds : ℕ → Deeds) (turn : Turn) (old new : Joint)
       by : (u : Value) → Opens false q l.peer u → Answers q l.peer u answer → l.arrived.before ≡ front ++ (0, u) ∷ [] →
           IsHomed Right q l.peer f.whole.tap t
       by (confirm n x) opening gives come =
-          absurd (some (no_cc lasts q positive shut n x opening.0
-          (came Right false (begin false local) deeds turn old new step on f lasts (confirm n x) front q l come)))
+          absurd (search (arith, came Right false (begin false local) deeds turn old new step on f lasts (confirm n x) front q l come))
       by (request x) (called, theirs) (cc_is, source, one) come =
           subst (λ (k : ℕ). IsHomed Right q k f.whole.tap t) theirs
           (asked_homed local f.whole t (lines lasts).called apart (lines lasts).named (grind arith)

@@ -7,13 +7,13 @@ use Rattle.osi_watched.proofs.Vocabulary.{confirm, Connect, data0, disconnect, r
 use Rattle.osi_watched.proofs.Vocabulary.{Live, linked, Carrier, has_given, Traffic as State, Connection, Left, amid, early, Life, opens_by}
 use Rattle.osi_watched.proofs.Vocabulary.{past, Time as Stage, stage_at, stays, all_units_more, Opens, Continues, Deeds, all_units, Marked}
 use Rattle.osi_watched.proofs.Vocabulary.{Turn, Sessions, Followed, is_tracked, IsOwned, Row, Tracked, each_picked, first_kept, is_dc, IsDc}
-use Rattle.osi_watched.proofs.Vocabulary.{IsOngoing, names, those, those_join, Line, Whole, Joint, TakesTurn, HaveSamePlaces}
+use Rattle.osi_watched.proofs.Vocabulary.{IsOngoing, names, those, those_join, Line, Whole, Joint, TakesTurn, HaveSamePlaces, AreGiven}
+use Rattle.osi_watched.proofs.Vocabulary.{AreApart, BeforeOpen, WhileOpen, stage_by, Awaiting, FirstOf, HasNoCc, asked_so, goes, le-leb}
+use Rattle.osi_watched.proofs.Vocabulary.{lt-ltb}
 use Rattle.osi_carrier.specs.State.{asked}
 use Rattle.osi_fair.specs.Wholes.{begin}
-use Rattle.osi_fair.proofs.each_connection_has_its_line.{AreGiven, over}
-use Rattle.osi_honest.specs.Arriving.{AreApart}
-use Rattle.osi_honest.proofs.courses.how_long_a_connection_is_open.{BeforeOpen, WhileOpen, stage_by}
-use Rattle.osi_honest.proofs.courses.the_first_cc_opens_a_connection.{Awaiting, FirstOf, HasNoCc, asked_so, awaits, goes, opens_so}
+use Rattle.osi_fair.proofs.each_connection_has_its_line.{over}
+use Rattle.osi_honest.proofs.courses.the_first_cc_opens_a_connection.{awaits, opens_so}
 use Rattle.osi_tap.specs.Courses.{Course as Passed}
 use Rattle.osi_watched.proofs.small_facts_that_many_lemmas_use.{and_both, over_not}
 use Rattle.osi_watched.proofs.steps_are_events.{IsFollowed}
@@ -21,12 +21,11 @@ use Rattle.osi_watched.proofs.what_is_put_is_what_is_written.{same_written, writ
 use Rattle.osi_watched.proofs.sessions.a_turn_does_what_its_deeds_say.{turn_uses}
 use Rattle.osi_watched.proofs.sessions.a_whole_end_runs_along.{calling_followed}
 use Rattle.osi_watched.proofs.sessions.connections_have_the_same_places.{at_same}
-use Rattle.osi_watched.proofs.sessions.each_unit_of_a_turn_has_one_connection.{HasHome, IsHomed, IsMarked, known}
+use Rattle.osi_watched.proofs.sessions.each_unit_of_a_turn_has_one_connection.{HasHome, IsMarked, known}
 use Rattle.osi_watched.proofs.sessions.nothing_is_done_before_a_cr_passes.{IsNotCc, same_units}
 use Rattle.osi_watched.proofs.sessions.what_a_turn_puts_goes_to_its_peer.{GoesTo, IsPutFor, all_back, all_of_both, all_so, goes_to, one_of}
 use Rattle.osi_watched.proofs.sessions.what_a_turn_puts_goes_to_its_peer.{turn_marked, whole_lasts}
 use Rattle.osi_watched.proofs.sessions.each_unit_of_a_called_end_has_a_home.{same_peer}
-use Rattle.std.proofs.lemmas.Bool.{le-leb, lt-ltb}
 
 -- ---- a connection that is open at the tap has a home there
 
@@ -50,11 +49,8 @@ linked_home : (local : Local) (w : Whole) (t : Sessions) (f : Followed local w) 
 linked_home local w t f places lasts q peer link is =
     let (p, c, at, so, mine) = (f.linked lasts q peer link is).0 in
     let g = f.lines p c at so in
-    let same : peer ≡ g.peer =
-    row_peer local w.end w.coming g.r g.peer g.line peer link g.row lasts
-    (ap (λ (n : ℕ). value_at n w.end.live) (sym g.left ∙ mine) ∙ is) in
-    subst (λ (n : ℕ). HasHome Left n peer w.tap t) mine
-    (subst (λ (n : ℕ). HasHome Left c.left.reference n w.tap t) (g.right ∙ sym same) (home_of w.tap t places p c at so))
+    let same : peer ≡ g.peer = grind (arith, row_peer) in
+    grind (arith, home_of w.tap t places p c at so)
 
 -- ---- its CC has come
 
@@ -103,11 +99,8 @@ module _ (local : Local) (w : Whole) (t : Sessions) (f : Followed local w) (plac
       row_first local w.end w.coming q g.peer g.line (subst (λ (n : ℕ). Row local w.end w.coming n g.peer g.line) name g.row) lasts waits in
       let both : those q front ++ confirm q x ∷ those q rest ≡ h.firsts ++ confirm q h.x ∷ h.later =
       ◌∙◌ {c = h.firsts ++ confirm q h.x ∷ h.later} (sym (grind (arith, those, those_join, first_kept, eq-eqb))) h.is in
-      let same : x ≡ h.x = first_cc q x h.x (those q front) (those q rest) h.firsts h.later both those_first
-      (all_so IsDc (IsNotCc q) (dc_not_cc q) h.firsts h.dcs) in
-      subst (λ (n : ℕ). HasHome Left n x.source w.tap t) mine
-      (subst (λ (n : ℕ). HasHome Left c.left.reference n w.tap t) (g.right ∙ sym (ap (λ (k : Connect). k.source) same ∙ h.source))
-      (home_of w.tap t places p c at so))
+      let same : x ≡ h.x = grind (arith, first_cc, those, those_first, all_so, dc_not_cc) in
+      grind (arith, home_of w.tap t places p c at so)
 
 -- ---- no DT of class 0 is put
 
@@ -187,11 +180,8 @@ module _ (local : Local) (two : local.class2 ≡ true) (deeds : ℕ → Deeds) (
       let all = (calling_followed local two new g (subst (λ (c : Passed). IsOngoing c.traffic.course) (sym step.course) clear)).owned in
       let same : map written step.units ≡ map written (all_units on.put) =
       same_written step.units (all_units on.put) (sym step.written ∙ on.written) in
-      let alike : map written g.whole.put ≡ map written (old.put ++ all_units on.put) =
-      g.put ∙ ap (λ (l : List Value). map written l) step.put ∙ written_join old.put step.units
-      ∙ ap (λ (l : List (List ℕ)). map written old.put ++ l) same ∙ sym (written_join old.put (all_units on.put)) in
-      all_back IsOwnedSo old.put (all_units on.put)
-      (written_as (IsOwned g.whole.tap) g.whole.put (old.put ++ all_units on.put) alike all)
+      let alike : map written g.whole.put ≡ map written (old.put ++ all_units on.put) = grind (arith, written_join) in
+      grind (arith, all_back, written_as (IsOwned g.whole.tap) g.whole.put (old.put ++ all_units on.put) alike all)
 
   -- ---- the connection that a unit is put for
 
@@ -203,14 +193,7 @@ module _ (local : Local) (two : local.class2 ≡ true) (deeds : ℕ → Deeds) (
     gives_so : (peer : ℕ) (before put_later later : List Marked) (t : Stage) (w : WhileOpen q peer later put_later t) → AreApart q before →
         on.put ≡ before ++ put_later → AllByRecursion (GoesTo q peer) on.put
     gives_so peer before put_later later t w apart is =
-        goes_to q on.put peer (record {
-          before = before;
-          during = w.put_during;
-          after = w.put_after;
-          is = is ∙ ap (λ (l : List Marked). before ++ l) w.put_is;
-          none_before = apart;
-          none_after = w.none_put;
-        }) w.gives
+        goes_to q on.put peer (grind arith) w.gives
 
     -- all that the end took, and what is left
     comes_so : (front : List Marked) (unit : Value) (later : List Marked) → on.took ≡ front ++ (0, unit) ∷ later →
@@ -260,9 +243,7 @@ module _ (local : Local) (two : local.class2 ≡ true) (deeds : ℕ → Deeds) (
         let few = one_of (AreGiven f.whole.end.given) (all_units front) rest (confirm n x)
         (subst (AllByRecursion (AreGiven f.whole.end.given)) come followed.few) in
         let up = few refl n refl in
-        absurd (let both : true ≡ false =
-        sym (grind (arith, lt-ltb, le-leb))
-        ∙ ap (has_given q) (f.like.lasts wholes) ∙ free in cc)
+        grind (arith, lt-ltb, le-leb, wholes)
     not_given peer (request x) (caller, theirs) front later is free = absurd (cc)
     not_given peer (disconnect n source reason user) o front later is free = absurd o
     not_given peer _ o front later is free = absurd o
@@ -295,6 +276,4 @@ module _ (local : Local) (two : local.class2 ≡ true) (deeds : ℕ → Deeds) (
   pub calling_marked : AllByRecursion (IsMarked Left s t) on.put
   calling_marked =
       turn_marked Left true (begin true local) deeds turn old new step on f s t (grind (arith, all_so, not_data0, owned_units))
-      (λ lasts q positive some.
-      let h = is_put lasts q positive some in
-      record { peer = h.peer; goes = h.goes; homed = subst (λ (x : State). IsHomed Left q h.peer x t) f.tap h.homed })
+      (grind (arith, is_put, goes))

@@ -1,20 +1,10 @@
 -- A unit that an end of class 2 puts is for one of its connections alone: each that it has open has a place at the tap, and there no two
 -- have one reference of the other side.
 -- For all connections of an end and a tap.
-use Rattle.std.proofs.Common.{◌≡◌, ◌∙◌, refl, sym, ap, ℕ, ◌<◌, Bool, true, false, List, [], ◌∷◌, Option, Some, arith}
-use Rattle.std.specs.Prelude.{◌==◌, slice_get}
-use Rattle.std.specs.List.{AllByRecursion}
-use Rattle.std.proofs.lemmas.Bool.{eq-eqb, eqb-true}
-use Rattle.osi_tpdu.specs.Value.{Value, acknowledge, confirm, data0, data2, disconnect, disconnected, error, request}
-use Rattle.osi_judge.specs.Captures.{other}
-use Rattle.osi_judge.specs.declared.directions.Direction.{Direction}
-use Rattle.osi_rules.specs.declared.connections.Connection.{Connection}
-use Rattle.osi_rules.specs.Sides.{is_open, own}
-use Rattle.osi_rules.specs.Traffic.{State}
-use Rattle.osi_honest.specs.Courses.{Deeds}
-use Rattle.osi_honest.specs.Marked.{Marked, all_units, units_at}
-use Rattle.osi_tap.specs.Connections.{Joined, Sessions, reference_of}
-use Rattle.osi_tap.specs.Courses.{way_of}
+use Rattle.osi_watched.proofs.Vocabulary.{◌≡◌, ◌∙◌, refl, ap, ℕ, ◌<◌, Bool, true, false, List, [], ◌∷◌, Option, Some, arith, ◌==◌}
+use Rattle.osi_watched.proofs.Vocabulary.{slice_get, AllByRecursion, eq-eqb, eqb-true, Value, acknowledge, confirm, data0, data2}
+use Rattle.osi_watched.proofs.Vocabulary.{disconnect, disconnected, error, request, other, Direction, Connection, is_open, own, State}
+use Rattle.osi_watched.proofs.Vocabulary.{Deeds, Marked, all_units, units_at, Joined, Sessions, reference_of, way_of}
 use Rattle.osi_watched.proofs.sessions.a_right_dt_has_one_place.{AreUsedApart, one_use}
 use Rattle.osi_watched.proofs.sessions.all_connections_stand.{AllStand, one_at}
 use Rattle.osi_watched.proofs.sessions.references_of_an_end_are_distinct.{AreDistinct}
@@ -40,12 +30,8 @@ module _ (d : Direction) (deeds : ℕ → Deeds) (known : Known) (put : List Val
   -- the reference of the other side tells which it is
   pub one_home : (q r peer : ℕ) → HasHome d q peer s t → HasHome d r peer s t → q ≡ r
   one_home q r peer h k =
-      let same : h.place ≡ k.place = one_use d peer h.place k.place h.connection k.connection h.joined k.joined s.connections apart
-      h.there k.there (one_at s.connections t.live h.place h.connection h.joined a.places h.there h.here)
-      (one_at s.connections t.live k.place k.connection k.joined a.places k.there k.here) h.theirs k.theirs k.lives h.lives in
-      let joined : h.joined ≡ k.joined =
-      some_same h.joined k.joined (sym h.here ∙ ap (λ (i : ℕ). slice_get t.live i) same ∙ k.here) in
-      some_same q r (sym h.mine ∙ ap (reference_of d) joined ∙ k.mine)
+      let same : h.place ≡ k.place = search (arith, one_use, one_at) in
+      grind (arith, some_same)
 
 -- Of a unit that is put: the tap knows its connection by these references, and this end has not closed it there. Or its CC has not
 -- passed: then no connection has its reference, and none that is open is for the same reference of the other side.
@@ -95,23 +81,9 @@ module _ (d : Direction) (deeds : ℕ → Deeds) (known_so : Known) (put : List 
   marked_one m n is (unknown no_open no_name) = grind (arith, same_bool, is_for, eqb-true, names_so, for_is)
   marked_one m n is (known h) =
       same_bool (m.0 == r) (is_for (reference_of (other d) j) m.1)
+      (grind (arith, eqb-true, some_same, for_is, names_back))
       (λ e.
-      let place : h.place ≡ i =
-      distinct.live h.place i h.joined j r h.here here (h.mine ∙ ap (λ (x : ℕ). Some x) (eqb-true m.0 r e)) mine in
-      let joined : h.joined ≡ j = some_same h.joined j (sym h.here ∙ ap (λ (x : ℕ). slice_get t.live x) place ∙ here) in
-      for_is n m.1 (reference_of (other d) j) is
-      ∙ names_back (reference_of (other d) j) n (ap (reference_of (other d)) (sym joined) ∙ h.theirs))
-      (λ e.
-      let home : HasHome d r n s t = record {
-        place = i;
-        connection = c;
-        joined = j;
-        there = there;
-        here = here;
-        lives = live;
-        mine = mine;
-        theirs = names_so (reference_of (other d) j) n (sym (for_is n m.1 (reference_of (other d) j) is) ∙ e);
-      } in
+      let home : HasHome d r n s t = grind (arith, names_so, for_is) in
       eq-eqb m.0 r (one_home d deeds known_so put b s t a apart m.0 r n h home))
 
   marked_agree : (units : List Marked) → AllByRecursion (IsMarked d s t) units → Agree r (reference_of (other d) j) units

@@ -1,11 +1,11 @@
 -- A session has said each TSDU of which a unit was put, and by then it had taken no more than its link has handed out.
 -- For what a tap shows of a session.
-use Rattle.osi_watched.proofs.Vocabulary.{[], ap, arith, Bool, false, IfSome, if◌then◌else◌, length, List, Option, refl, subst, suc, sym}
-use Rattle.osi_watched.proofs.Vocabulary.{true, ℕ, ◌++◌, ◌+◌, ◌∙◌, ◌∷◌, ◌≡◌, ◌≤◌, flat_map-append, length-append, length-map}
-use Rattle.osi_watched.proofs.Vocabulary.{AllByRecursion, Value, at_some, move_keeps, all as all_sent, Ends, Flow, Given, given_part}
-use Rattle.osi_watched.proofs.Vocabulary.{Standing, give_out, given_parts, hand_in, hand_out, Move, Moves, MovesAlong, part_out, parts_out}
-use Rattle.osi_watched.proofs.Vocabulary.{take_in, tsdus_in, tsdus_out, unit_parts, give, Part, tsdus, tsdus_after, uncut, End, fresh_of}
-use Rattle.osi_watched.proofs.Vocabulary.{no_calls, AreCalls, Deeds, said_in, is_gone, closed, ends_whole, left_over, parts_of, never}
+use Rattle.osi_watched.proofs.Vocabulary.{[], ap, arith, Bool, false, if◌then◌else◌, length, List, refl, subst, suc, sym, true, ℕ, ◌++◌}
+use Rattle.osi_watched.proofs.Vocabulary.{◌+◌, ◌∙◌, ◌∷◌, ◌≡◌, ◌≤◌, flat_map-append, length-append, length-map, AllByRecursion, Value}
+use Rattle.osi_watched.proofs.Vocabulary.{at_some, move_keeps, all as all_sent, Ends, Given, Standing, give_out, given_parts, hand_in}
+use Rattle.osi_watched.proofs.Vocabulary.{hand_out, Move, Moves, MovesAlong, part_out, parts_out, take_in, tsdus_in, tsdus_out, unit_parts}
+use Rattle.osi_watched.proofs.Vocabulary.{Part, tsdus, tsdus_after, uncut, End, fresh_of, no_calls, AreCalls, Deeds, said_in, is_gone}
+use Rattle.osi_watched.proofs.Vocabulary.{closed, ends_whole, left_over, parts_of, never}
 use Rattle.osi_honest.specs.Courses.{Course}
 use Rattle.osi_honest.specs.Courses.Course.{is_open, awaited, unknown}
 use Rattle.osi_honest.specs.Courses.Gone.{over}
@@ -65,10 +65,6 @@ Owes ended e = ended ≡ false → 1 ≤ length e.unsent
 abbrev OwesNext : (ended : Bool) → Given × Standing → Type 0
 OwesNext ended (g, new) = Owes (ends_whole ended (given_parts g)) new.ends
 
-given_owes : (ended : Bool) (e : Ends) (flow : Option Flow) (number : Option ℕ) (tsdus : List (List ℕ)) →
-    IfSome (given_part e flow number (give e.limit tsdus)) (OwesNext ended)
-given_owes ended e flow number tsdus = grind arith
-
 move_owes : (ended : Bool) (move : Move) (old new : Standing) → Moves move old new → Owes ended old.ends →
     Owes (ends_whole ended (part_out move)) new.ends
 move_owes ended move old new e h = search (arith, length-append, at_some, move_keeps)
@@ -91,12 +87,7 @@ pub begun_of : (moves : List Move) (first link : Standing) → MovesAlong first 
 begun_of moves first link run nothing =
     let parts = parts_out moves in
     let owes = one_less (ends_whole true parts) link.ends (run_owes true moves first link run (λ h. absurd (cc))) in
-    let count = started_are true [] parts in
-    let all : length (tsdus parts) + length (tsdus_after (left_over [] parts) (uncut link.ends.unsent)) ≡ length (tsdus_in moves) =
-    sym (length-append (tsdus parts) (tsdus_after (left_over [] parts) (uncut link.ends.unsent)))
-    ∙ ap length (sym (tsdus_more [] parts (uncut link.ends.unsent))) ∙ ap length (all_sent first link moves run nothing) in
-    let unsent = uncut_count (left_over [] parts) link.ends.unsent in
-    omega (arith, owes, count, all, unsent)
+    grind (arith, started_are, length-append, tsdus_more, all_sent, uncut_count)
 
 course_calls : (is_caller : Bool) (r : ℕ) (deeds : Deeds) (e : End) → Course is_caller r deeds e → (peer : ℕ) × AreCalls peer deeds
 course_calls is_caller r deeds e (unknown none side free live lines) = (0, no_calls 0 e.carrier.local deeds none)
@@ -117,12 +108,7 @@ begun_within is_caller r deeds e course passed waiting put =
     let (peer, calls) = course_calls is_caller r deeds e course in
     let parts : parts_out deeds.calls ≡ parts_of passed ++ parts_of waiting =
     sym (parts_put peer deeds.calls) ∙ ap parts_of (sym calls.put) ∙ ap parts_of put ∙ flat_map-append unit_parts passed waiting in
-    let most = begun_of deeds.calls calls.first calls.link calls.along (fresh_of calls.first calls.fresh).0 in
-    let same = ap (started true) parts in
-    let less = started_more true (parts_of passed) (parts_of waiting) in
-    let count = started_are true [] (parts_of passed) in
-    let said = said_count 0 deeds.calls in
-    omega (arith, most, same, less, count, said)
+    grind (arith, begun_of, fresh_of, started_more, started_are, said_count)
 
 -- ---- how many had been taken
 

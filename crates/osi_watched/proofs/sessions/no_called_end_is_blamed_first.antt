@@ -1,10 +1,8 @@
 -- The first break of all at a tap is never of a called end, whatever classes it offers and whichever is selected.
 -- For the law that no session of an end is blamed first.
-use Rattle.std.proofs.Common.{arith}
-use Rattle.osi_watched.proofs.Vocabulary.{false, inl, inr, length, List, Option, refl, Some, ℕ, ◌<◌, ◌^◌, ◌≡◌, ◌⊎◌}
-use Rattle.osi_watched.proofs.Vocabulary.{slice_get, Class, Two, Zero, Local, Holding, AsSent, AsParts, CalledLaw, CallerLaw, Capture, Left}
-use Rattle.osi_watched.proofs.Vocabulary.{Right, Known, IsFresh, IsSeen, Run, Turn, BreaksFirst, IsToBlame, Joined, comes_to, First}
-use Rattle.osi_watched.proofs.Vocabulary.{AreOctets}
+use Rattle.osi_watched.proofs.Vocabulary.{false, inl, inr, length, List, Option, refl, Some, ℕ, ◌<◌, ◌^◌, ◌≡◌, ◌⊎◌, slice_get, Class, Two}
+use Rattle.osi_watched.proofs.Vocabulary.{Zero, Local, Holding, AsSent, AsParts, CalledLaw, CallerLaw, Capture, Left, Right, Known, IsFresh}
+use Rattle.osi_watched.proofs.Vocabulary.{IsSeen, Run, Turn, BreaksFirst, IsToBlame, Joined, comes_to, First, AreOctets, arith}
 use Rattle.osi_watched.proofs.small_facts_that_many_lemmas_use.{zero_two}
 use Rattle.osi_watched.proofs.a_capture_is_steps.{capture_steps}
 use Rattle.osi_watched.proofs.no_unit_of_a_whole_end_is_a_break.{called_is_fair}
@@ -26,8 +24,7 @@ module _ (known : Known) (known_of : AsSent) (parts : AsParts) (caller : CallerL
     without_zero : (selected ≡ Some Zero → ⊥) → Ends Right (comes_to capture).course
     without_zero not =
         ends_without known.proper Zero Right local (called_is_fair local) (StandsOrSelected local known.proper)
-        (throughout_unless Right local (StandsOrSelected local known.proper)
-        (called_keeps local known.proper known_of parts caller called)) begin capture fresh comes
+        (search (arith, throughout_unless, called_keeps)) begin capture fresh comes
         (record { not = not; few = few })
 
     in_zero : selected ≡ Some Zero → Ends Right (comes_to capture).course

@@ -1,10 +1,9 @@
 -- The first break of all at a tap is never of a calling end, whatever classes it offers and whichever is selected.
 -- For the law that no session of an end is blamed first.
-use Rattle.std.proofs.Common.{arith}
-use Rattle.osi_watched.proofs.Vocabulary.{Bool, false, inl, inr, length, List, Option, refl, Some, true, ℕ, ◌<◌, ◌^◌, ◌≡◌}
-use Rattle.osi_watched.proofs.Vocabulary.{◌⊎◌, slice_get, Class, Two, Zero, Local, Holding, AsSent, AsParts, CalledLaw, CallerLaw, Capture}
-use Rattle.osi_watched.proofs.Vocabulary.{Left, Right, Known, IsFresh, IsSeen, Run, Turn, BreaksFirst, IsToBlame, Joined, comes_to, First}
-use Rattle.osi_watched.proofs.Vocabulary.{AreOctets}
+use Rattle.osi_watched.proofs.Vocabulary.{Bool, false, inl, inr, length, List, Option, refl, Some, true, ℕ, ◌<◌, ◌^◌, ◌≡◌, ◌⊎◌, slice_get}
+use Rattle.osi_watched.proofs.Vocabulary.{Class, Two, Zero, Local, Holding, AsSent, AsParts, CalledLaw, CallerLaw, Capture, Left, Right}
+use Rattle.osi_watched.proofs.Vocabulary.{Known, IsFresh, IsSeen, Run, Turn, BreaksFirst, IsToBlame, Joined, comes_to, First, AreOctets}
+use Rattle.osi_watched.proofs.Vocabulary.{arith}
 use Rattle.osi_watched.proofs.small_facts_that_many_lemmas_use.{zero_two}
 use Rattle.osi_watched.proofs.a_capture_is_steps.{capture_steps}
 use Rattle.osi_watched.proofs.no_unit_of_a_whole_end_is_a_break.{calling_is_fair}
@@ -29,13 +28,11 @@ module _ (known : Known) (known_of : AsSent) (parts : AsParts) (caller : CallerL
     by_offer : (selected ≡ Some Zero → ⊥) → (b : Bool) → local.class2 ≡ b → Ends Left (comes_to capture).course
     by_offer not true two =
         ends_without known.proper Zero Left local (calling_is_fair local) (StandsQuiet local two known.proper)
-        (throughout_unless Left local (StandsQuiet local two known.proper)
-        (calling_keeps local two known.proper known_of parts caller called)) begin capture fresh comes
+        (search (arith, throughout_unless, calling_keeps)) begin capture fresh comes
         (record { not = not; few = few })
     by_offer not false without =
         ends_without known.proper Zero Left local (calling_is_fair local) (HasSaidNothing Left local)
-        (throughout_unless Left local (HasSaidNothing Left local)
-        (mute_keeps known.proper Left local (calling_puts_none local without))) begin capture fresh comes
+        (search (arith, throughout_unless, mute_keeps, calling_puts_none)) begin capture fresh comes
         (record { not = not; few = few })
 
     -- it is

@@ -1,9 +1,7 @@
 -- What holds of a calling end until class 2 is selected is as it is asked for: nobody of the end is to blame, as long as all is judged.
 -- For the laws that no session of an end is blamed first, nor after a break of the other side.
-use Rattle.std.proofs.Common.{arith}
 use Rattle.osi_watched.proofs.Vocabulary.{[], List, ℕ, ◌∷◌, Value, Two, Local, AsSent, AsParts, CalledLaw, CallerLaw, Left, Right}
-use Rattle.osi_watched.proofs.Vocabulary.{AllProper, unit_passes}
-use Rattle.osi_tap.specs.Courses.{Course}
+use Rattle.osi_watched.proofs.Vocabulary.{AllProper, unit_passes, arith, Course}
 use Rattle.osi_watched.proofs.sessions.a_calling_end_hears_what_comes_until_class_2.{AreTaken}
 use Rattle.osi_watched.proofs.sessions.a_calling_end_stands_until_class_2.{StandsUntilTwo, begin_early, begins_other_early}
 use Rattle.osi_watched.proofs.sessions.a_calling_end_stands_until_class_2.{begins_own_early, passes_other_early, passes_own_early}
@@ -20,14 +18,10 @@ early_keeps local proper known_of parts caller called = record {
   begins = begin_early local;
   own_begins = λ deeds old new step courses few h. begins_own_early local proper deeds old new step courses few h;
   other_begins = λ deeds old new step h. begins_other_early local proper deeds old new step h;
-  own_passes = λ deeds at v old new step right firm sure was_not not h.
-      passes_own_early local proper deeds at v old new step right was_not h;
-  other_passes = λ deeds at octets units old new step passed h.
-      passes_other_early local proper deeds at octets units old new step (taken_so at units old.course passed) h;
+  own_passes = search (arith, passes_own_early);
+  other_passes = search (arith, passes_other_early, taken_so);
   turn = λ turn old new t deeds does f g firm not h.
       turns_early local proper turn old new t deeds does.of.on does.of.life does.units firm not h;
   none = λ deeds j courses h. none_early local known_of parts caller called deeds j courses h;
-  none_amid = λ deeds at octets front back old new step courses passed h.
-      none_amid_early local known_of parts caller called deeds at octets front back old new step courses
-      (taken_so at front old.course passed) h;
+  none_amid = search (arith, none_amid_early, taken_so);
 }

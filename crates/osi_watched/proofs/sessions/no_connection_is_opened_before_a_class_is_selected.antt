@@ -1,14 +1,12 @@
 -- As long as no class is selected on a byte connection, right has given no connection a reference, whatever passes.
 -- For a called end that has selected class 0, and whose CC has not passed.
-use Rattle.std.proofs.Common.{arith}
 use Rattle.osi_watched.proofs.Vocabulary.{ap, None, Option, refl, Some, subst, sym, ℕ, ◌∙◌, ◌≡◌, slice_get, Value, Class, Two, Zero}
 use Rattle.osi_watched.proofs.Vocabulary.{at_found, at_place, meant, none_told, Outcome, routed, Traffic as State, takes, Connection, Way}
 use Rattle.osi_watched.proofs.Vocabulary.{Finding, Meaning, Route, Asks, Direction, changed, Joined, placed, Sessions, taken, unit_passes}
-use Rattle.osi_watched.proofs.Vocabulary.{way_of, reached_class, zero_stays, after_add, after_set, lasts_passing, unit}
+use Rattle.osi_watched.proofs.Vocabulary.{way_of, reached_class, zero_stays, after_add, after_set, lasts_passing, unit, arith, Course}
 use Rattle.osi_rules.specs.declared.findings.Meaning.TheVariants as meaning
 use Rattle.osi_rules.specs.Traffic as traffic
 use Rattle.osi_tap.specs.Connections as joined
-use Rattle.osi_tap.specs.Courses.{Course}
 use Rattle.osi_watched.proofs.what_passes_keeps_a_claim.{IsClaim}
 use Rattle.osi_watched.proofs.sessions.all_connections_stand.{map_of}
 use Rattle.osi_watched.proofs.sessions.connections_have_the_same_places.{unit_joins, unit_knows}
@@ -89,8 +87,7 @@ unit_uncalled d at v c h none =
     (zero_stays (unit (way_of d) v) c.traffic) (lasts_passing (unit (way_of d) v) c.traffic).two after in
     let told = (takes (way_of d) v c.traffic).told in
     subst AreUncalled (sym (unit_joins d at v c))
-    (taken_uncalled c.sessions (h before) d at v told.meaning told.place
-    (λ opens. takes_selects (way_of d) v c.traffic opens after))
+    (search (arith, taken_uncalled, takes_selects))
 
 pub uncalled_claim : IsClaim UncalledUntil
 uncalled_claim = grind (arith, map_of, called_begun, begins_class, unit_uncalled)

@@ -1,32 +1,14 @@
 -- No session of an end is to blame, whatever the other side breaks, whichever class is selected.
 -- For the law that no session of an end is to blame after a break.
-use Rattle.std.proofs.Common.{arith}
-use Rattle.std.specs.Prelude.{slice_get}
-use Rattle.std.proofs.Common.{◌⊎◌, ℕ, inl, inr, ◌≡◌, refl, ◌^◌, ◌<◌, Bool, false, true, List, length, Option, Some}
-use Rattle.osi_class.specs.declared.terms.Class.{Class}
-use Rattle.osi_class.specs.declared.terms.Class.TheVariants.{Two, Zero}
-use Rattle.osi_class.specs.declared.terms.Local.{Local}
-use Rattle.osi_judge.specs.Captures.{Capture}
-use Rattle.osi_judge.specs.declared.directions.Direction.{Direction}
-use Rattle.osi_judge.specs.declared.directions.Direction.TheVariants.{Left, Right}
-use Rattle.osi_judge.proofs.honest.a_call_is_explained.{AsSent}
-use Rattle.osi_judge.proofs.honest.an_honest_run_stays_in_the_profile.{AsParts}
-use Rattle.osi_judge.proofs.honest.an_honest_side_is_kept.{CalledLaw, CallerLaw}
-use Rattle.osi_stack.specs.State.{Holding}
-use Rattle.osi_honest.specs.Seeing.{IsFresh, IsSeen}
-use Rattle.osi_honest.specs.Turns.{Run, Turn}
-use Rattle.osi_honest.proofs.courses.what_sessions_hear_of_it.{Known}
-use Rattle.osi_tap.specs.Blaming.{IsToBlame}
-use Rattle.osi_tap.specs.Connections.{Joined}
-use Rattle.osi_tap.specs.Courses.{Course}
-use Rattle.osi_tap.specs.Tapping.{comes_to}
-use Rattle.osi_watched.specs.Passing.{AreOctets}
+use Rattle.osi_watched.proofs.Vocabulary.{arith, slice_get, ◌⊎◌, ℕ, inl, inr, ◌≡◌, refl, ◌^◌, ◌<◌, Bool, false, true, List, length, Option}
+use Rattle.osi_watched.proofs.Vocabulary.{Some, Class, Two, Zero, Local, Capture, Direction, Left, Right, AsSent, AsParts, CalledLaw}
+use Rattle.osi_watched.proofs.Vocabulary.{CallerLaw, Holding, IsFresh, IsSeen, Run, Turn, Known, IsToBlame, Joined, Course, comes_to}
+use Rattle.osi_watched.proofs.Vocabulary.{AreOctets, differ}
 use Rattle.osi_watched.proofs.a_capture_is_steps.{capture_steps}
 use Rattle.osi_watched.proofs.in_class_0_one_side_alone_is_judged.{IsLoose}
 use Rattle.osi_watched.proofs.no_unit_of_a_whole_end_is_a_break.{called_is_fair, called_is_fair_in_class_0}
 use Rattle.osi_watched.proofs.no_unit_of_a_whole_end_is_a_break.{called_is_fair_throughout, calling_is_fair, calling_is_fair_in_class_0}
 use Rattle.osi_watched.proofs.no_unit_of_a_whole_end_is_a_break.{calling_is_fair_throughout}
-use Rattle.osi_fair.proofs.small_facts_that_many_lemmas_use.{differ}
 use Rattle.osi_watched.proofs.small_facts_that_many_lemmas_use.{zero_two}
 use Rattle.osi_watched.proofs.what_the_turns_among_steps_do.{ComesByDoing}
 use Rattle.osi_watched.proofs.sessions.a_called_end_stands_until_class_2.{StandsCalledUntilTwo}

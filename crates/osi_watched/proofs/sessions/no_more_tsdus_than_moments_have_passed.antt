@@ -1,13 +1,12 @@
 -- On a connection no more TSDUs of a side have passed than moments in all.
 -- For the law that no session of an end is blamed first: a tap counts TSDUs up to 2^64.
-use Rattle.osi_watched.proofs.Vocabulary.{[], ap, arith, Bool, length, List, map, None, Option, refl, Some, subst, suc, sym, ℕ, ◌++◌, ◌∷◌}
-use Rattle.osi_watched.proofs.Vocabulary.{◌≡◌, ◌≤◌, ◌⊎◌, length-append, slice_get, Value, takes, Meaning, Direction, marked_past, asked}
-use Rattle.osi_watched.proofs.Vocabulary.{changed, Joined, Sessions, spoken, taken, unit_passes, way_of, added, heard, octets_of, Spoken}
-use Rattle.osi_watched.proofs.Vocabulary.{Room, after_add, after_set}
+use Rattle.osi_watched.proofs.Vocabulary.{[], ap, arith, Bool, length, List, map, None, Option, refl, Some, suc, ℕ, ◌++◌, ◌∷◌, ◌≡◌, ◌≤◌}
+use Rattle.osi_watched.proofs.Vocabulary.{◌⊎◌, length-append, slice_get, Value, takes, Meaning, Direction, marked_past, asked, changed}
+use Rattle.osi_watched.proofs.Vocabulary.{Joined, Sessions, spoken, taken, unit_passes, way_of, added, heard, octets_of, Spoken, Room}
+use Rattle.osi_watched.proofs.Vocabulary.{after_add, after_set, Course}
 use Rattle.osi_rules.specs.declared.findings.Meaning.TheVariants as meaning
 use Rattle.osi_rules.specs.Traffic as traffic
 use Rattle.osi_tap.specs.Connections.{meant, packet_begins}
-use Rattle.osi_tap.specs.Courses.{Course}
 use Rattle.osi_tap.specs.Lines.{Said}
 use Rattle.osi_watched.proofs.what_passes_keeps_a_claim.{IsClaim}
 use Rattle.osi_watched.proofs.sessions.all_connections_stand.{map_of}
@@ -76,9 +75,7 @@ unit_few e d at v c h =
     let told = (takes (way_of d) v c.traffic).told in
     let long : length (unit_passes d at v c).past ≡ suc (length c.past) =
     (let one = length-append c.past (moment d at v c ∷ []) in let same = ap length (unit_past d at v c) in omega (arith, one, same)) in
-    subst (λ (n : ℕ). HaveFew e n (unit_passes d at v c).sessions) (sym long)
-    (subst (HaveFew e (suc (length c.past))) (sym (unit_joins d at v c))
-    (few_taken e (length c.past) c.sessions h d at v told.meaning told.place))
+    grind (arith, unit_joins d at v c, few_taken e (length c.past) c.sessions h d at v told.meaning told.place)
 
 pub few_claim : (e : Direction) → IsClaim (AreFew e)
 few_claim e = grind (arith, map_of, few_begun, unit_few, marked_leaves, length-append, marked_past)

@@ -1,17 +1,15 @@
 -- What holds of a called end at each step is as it is asked for: all its connections stand, or it has selected class 0, and the CC that
 -- says so has not passed. Then nobody of the end is to blame, also after a connection has lost its judgement.
 -- For the laws that no session of an end is to blame.
-use Rattle.std.proofs.Common.{arith}
 use Rattle.osi_watched.proofs.Vocabulary.{[], ap, Bool, false, inl, inr, List, map, None, refl, Some, subst, sym, ℕ, ◌++◌, ◌∙◌, ◌∷◌, ◌≡◌}
-use Rattle.osi_watched.proofs.Vocabulary.{◌⊎◌, AllByRecursion, Value, written, Zero, Local, acceptance, Holding, Traffic as State, takes}
-use Rattle.osi_watched.proofs.Vocabulary.{AsSent, AsParts, CalledLaw, CallerLaw, Left, Right, AllProper, CanBeWritten, Deeds, no_deeds}
-use Rattle.osi_watched.proofs.Vocabulary.{then_did, units_in, IsFresh, Turn, none, Sessions, unit_passes, units_pass, Selecting}
-use Rattle.osi_watched.proofs.Vocabulary.{fresh_apart, no_item, selecting_passes, begins_other, begins_own, Class, Option, Two, Joint}
-use Rattle.osi_watched.proofs.Vocabulary.{passes_other, passes_own, Step, Steps, TakesTurn, turns}
+use Rattle.osi_watched.proofs.Vocabulary.{◌⊎◌, AllByRecursion, Value, written, Zero, Local, acceptance, Holding, Traffic as State, AsSent}
+use Rattle.osi_watched.proofs.Vocabulary.{AsParts, CalledLaw, CallerLaw, Left, Right, AllProper, CanBeWritten, Deeds, no_deeds, then_did}
+use Rattle.osi_watched.proofs.Vocabulary.{units_in, IsFresh, Turn, none, Sessions, unit_passes, units_pass, Selecting, fresh_apart, no_item}
+use Rattle.osi_watched.proofs.Vocabulary.{selecting_passes, begins_other, begins_own, Class, Option, Two, Joint, passes_other, passes_own}
+use Rattle.osi_watched.proofs.Vocabulary.{Step, Steps, TakesTurn, turns, arith, begin, IsOngoing, firm_unless_two}
 use Rattle.osi_rules.specs.declared.directions.Direction.TheVariants as way
 use Rattle.osi_fair.specs.Wholes as wholes
 use Rattle.osi_tap.specs.Courses.{Course as Passed}
-use Rattle.osi_watched.specs.Joint.{begin}
 use Rattle.osi_watched.proofs.small_facts_that_many_lemmas_use.{all_front, can_more as all_more}
 use Rattle.osi_watched.proofs.steps_are_events.{IsFollowed, own_first, step_followed}
 use Rattle.osi_watched.proofs.what_passes_keeps_a_claim.{step_kept}
@@ -20,7 +18,6 @@ use Rattle.osi_watched.proofs.sessions.a_called_end_answers_with_class_2_or_sele
 use Rattle.osi_watched.proofs.sessions.a_called_end_has_its_lines.{called_joined}
 use Rattle.osi_watched.proofs.sessions.a_called_end_hears_what_breaks_no_rule.{AreFine, AreHeard, units_heard}
 use Rattle.osi_watched.proofs.sessions.a_called_end_is_ready.{begin_called}
-use Rattle.osi_fair.proofs.what_the_other_side_closes.{IsOngoing}
 use Rattle.osi_watched.proofs.sessions.a_called_end_stands_as_units_pass.{StandsCalled, begins_other_stands, begins_own_stands}
 use Rattle.osi_watched.proofs.sessions.a_called_end_stands_as_units_pass.{passes_other_stands, passes_own_stands, turns_stand}
 use Rattle.osi_watched.proofs.sessions.a_calling_end_stands_as_units_pass.{known_at}
@@ -38,7 +35,6 @@ use Rattle.osi_watched.proofs.sessions.the_dr_of_the_other_side_is_in_flight.{fi
 use Rattle.osi_watched.proofs.sessions.units_written_alike_have_the_same_ccs.{AnswersTwo, first_not_zero}
 use Rattle.osi_watched.proofs.sessions.what_stands_of_a_connection.{Known}
 use Rattle.osi_watched.proofs.sessions.what_stands_after_a_loss_stands_before_one.{AreTakenOn, KeepsThroughout}
-use Rattle.osi_fair.proofs.a_connection_is_lost_in_class_2_alone.{firm_unless_two}
 
 none_two : (k : Option Class) → k ≡ None → k ≡ Some Two → ⊥
 none_two k none two = let no : None ≡ Some Two = sym none ∙ two in cc
@@ -120,9 +116,7 @@ module _ (local : Local) (proper : AllProper) where
           let firm = firm_unless_two w.tap.course j.two (λ two. none_two w.tap.course.class z.class two) in
           let right = ap (λ (t : State). t.course.right_stopped) f.tap ∙ clear.sure.right in
           let p = selecting_passes local w j.apart (j.judged firm) right v s.rest (f.begun ∙ begun) s.is z in
-          then_two (ap (λ (x : Joint). x.course.traffic.course.class) is
-          ∙ ap (λ (t : State). t.course.class) (unit_knows Right at v old.course)
-          ∙ ap (λ (t : State). (takes way.Right v t).state.course.class) (sym f.tap) ∙ p.1.class)
+          grind (arith, unit_knows)
 
   own_passes : (deeds : ℕ → Deeds) (at : ℕ) (v : Value) (old new : Joint) → Steps Right (passes_own at v) old new →
       IsProper Right v old.course → IsOngoing old.course.traffic.course → (new.course.traffic.course.class ≡ Some Zero → ⊥) →
@@ -203,12 +197,7 @@ module _ (local : Local) (proper : AllProper) where
     nobody_amid deeds at front old courses taken (inr h) = grind (arith, mute_none, mute_units)
     nobody_amid deeds at front old courses taken (inl h) =
         let live = may_take old.holding.end.carrier in
-        let now : AreHeard deeds live old.put old.begun h.called.ahead.bound at (units_in old.coming) old.course = record {
-          stand = h.standing.all;
-          distinct = h.distinct;
-          up = h.called.ahead.below;
-          shut = h.shut;
-        } in
+        let now : AreHeard deeds live old.put old.begun h.called.ahead.bound at (units_in old.coming) old.course = grind arith in
         let k = units_heard deeds live old.put old.begun h.called.ahead.bound at front (units_in old.coming) old.course
         (fine_of at front old.course taken) now in
         let after = units_pass Left at front old.course in

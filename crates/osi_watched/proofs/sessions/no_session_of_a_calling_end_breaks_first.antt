@@ -1,14 +1,12 @@
 -- What holds of a calling end of class 2 at each step is as it is asked for: nobody of the end is to blame as long as both sides are
 -- judged, also after a connection has lost its judgement.
 -- For the law that no session of an end is blamed first.
-use Rattle.std.proofs.Common.{arith}
-use Rattle.osi_watched.proofs.Vocabulary.{[], List, Some, true, ℕ, ◌++◌, ◌∷◌, ◌≡◌, units_fit, units_found, HasFieldsInRange, Value}
-use Rattle.osi_watched.proofs.Vocabulary.{Zero, Local, Holding, AsSent, AsParts, CalledLaw, CallerLaw, Left, Right, AllProper, Deeds}
-use Rattle.osi_watched.proofs.Vocabulary.{no_deeds, then_did, units_in, IsFresh, Turn, none, unit_passes, units_pass, fresh_apart, no_item}
-use Rattle.osi_watched.proofs.Vocabulary.{IsOngoing, Joint, passes_other, passes_own, Steps, TakesTurn}
+use Rattle.osi_watched.proofs.Vocabulary.{[], List, Some, true, ℕ, ◌++◌, ◌∷◌, ◌≡◌, units_fit, units_found, HasFieldsInRange, Value, Zero}
+use Rattle.osi_watched.proofs.Vocabulary.{Local, Holding, AsSent, AsParts, CalledLaw, CallerLaw, Left, Right, AllProper, Deeds, no_deeds}
+use Rattle.osi_watched.proofs.Vocabulary.{then_did, units_in, IsFresh, Turn, none, unit_passes, units_pass, fresh_apart, no_item, IsOngoing}
+use Rattle.osi_watched.proofs.Vocabulary.{Joint, passes_other, passes_own, Steps, TakesTurn, arith, begin}
 use Rattle.osi_fair.specs.Wholes as wholes
 use Rattle.osi_tap.specs.Courses.{Course as Passed}
-use Rattle.osi_watched.specs.Joint.{begin}
 use Rattle.osi_watched.proofs.small_facts_that_many_lemmas_use.{all_front, ranges_of}
 use Rattle.osi_watched.proofs.steps_are_events.{IsFollowed}
 use Rattle.osi_watched.proofs.what_the_turns_among_steps_do.{TurnDoes}
@@ -72,8 +70,7 @@ module _ (local : Local) (two : local.class2 ≡ true) (proper : AllProper) wher
         stands = turns_stand_early local two proper turn old new t deeds on does.of.life does.units on.can
             (calling_marked local two deeds turn old new t on does.of.life does.of.first f g clear h.stands.standing.all.places)
             (λ r some may. (h.quiet clear).before r (some, may))
-            (λ i c there closing some may.
-            closing_tracked old.holding.end.carrier (units_in old.coming) old.course.traffic (h.quiet clear) i c there closing (some, may))
+            (grind (arith, closing_tracked))
             clear h.stands;
         quiet = turns_quiet turn old new t deeds on does.of.life h.quiet;
       }
@@ -91,13 +88,7 @@ module _ (local : Local) (two : local.class2 ≡ true) (proper : AllProper) wher
     nobody_amid deeds at octets front back old new (all_octets, read, is) courses taken all =
         let h = all.stands in
         let f = h.calling.ahead.followed in
-        let behind : IsBehind local old.put old.course = record {
-          whole = f.whole;
-          follows = whole_joined local two old f;
-          tap = f.tap;
-          same = f.put;
-          can = f.can;
-        } in
+        let behind : IsBehind local old.put old.course = search (arith, whole_joined) in
         let ranges = ranges_of (front ++ back) (units_fit (front ++ back) octets (units_found octets (front ++ back) all_octets read)) in
         let after = units_pass Right at front old.course in
         let live = may_take old.holding.end.carrier in
@@ -110,14 +101,8 @@ module _ (local : Local) (two : local.class2 ≡ true) (proper : AllProper) wher
     pub calling_keeps : KeepsThroughout Left local StandsQuiet
     calling_keeps = record {
       begins = stands_first;
-      own_begins = λ deeds old new step courses few h. record {
-        stands = begins_own_stands local two proper deeds old new step courses few h.stands;
-        quiet = begins_own_quiet old new step h.quiet;
-      };
-      other_begins = λ deeds old new step h. record {
-        stands = begins_other_stands local two proper deeds old new step h.stands;
-        quiet = begins_other_quiet old new step h.quiet;
-      };
+      own_begins = λ deeds old new step courses few h. search (arith, begins_own_stands, begins_own_quiet);
+      other_begins = λ deeds old new step h. search (arith, begins_other_stands, begins_other_quiet);
       own_passes = own_passes;
       other_passes = other_passes;
       turn = takes_turn;

@@ -1,41 +1,21 @@
 -- The first break of all at a tap, of transport and of sessions, is never of the side of an end, if something holds at each step by
 -- which nobody of the end is to blame, as long as nobody has broken a rule and one class is not selected.
 -- For the law that no session of an end is blamed first.
-use Rattle.std.proofs.Common.{◌≡◌, ◌≢◌, ◌∙◌, ◌⊎◌, inl, inr, refl, sym, ap, subst, ℕ, ◌^◌, ◌<◌, ◌≤◌, Bool, false, if◌then◌else◌, List, []}
-use Rattle.std.proofs.Common.{◌∷◌, ◌++◌, length, Some, None, is_some, append_assoc, arith}
-use Rattle.std.specs.Prelude.{slice_get}
-use Rattle.std.proofs.lemmas.List.{append-nil, length-append}
-use Rattle.osi_tpdu.specs.Value.{Value}
-use Rattle.osi_class.specs.declared.terms.Class.{Class}
-use Rattle.osi_class.specs.declared.terms.Class.TheVariants.{Two}
-use Rattle.osi_class.specs.declared.terms.Local.{Local}
-use Rattle.osi_judge.specs.Captures.{Capture, other}
-use Rattle.osi_judge.specs.declared.directions.Direction.{Direction}
-use Rattle.osi_rules.specs.declared.findings.Finding.{Finding}
-use Rattle.osi_rules.specs.declared.findings.Finding.TheVariants.{Broke, Kept, NotJudged, Outside, TooMany}
+use Rattle.osi_watched.proofs.Vocabulary.{◌≡◌, ◌≢◌, ◌∙◌, ◌⊎◌, inl, inr, refl, sym, ap, subst, ℕ, ◌^◌, ◌<◌, ◌≤◌, Bool, false, if◌then◌else◌}
+use Rattle.osi_watched.proofs.Vocabulary.{List, [], ◌∷◌, ◌++◌, length, Some, None, is_some, append_assoc, arith, slice_get, append-nil}
+use Rattle.osi_watched.proofs.Vocabulary.{length-append, Value, Class, Two, Local, Capture, other, Direction, Finding, Broke, Kept}
+use Rattle.osi_watched.proofs.Vocabulary.{NotJudged, Outside, TooMany, is_stopped, takes, packet, unit, IsFirm, Holding, Deeds, all_did}
+use Rattle.osi_watched.proofs.Vocabulary.{no_deeds, then_did, IsFresh, Turn, AllProper, fresh_course, Cause, Joined, spoken, marked}
+use Rattle.osi_watched.proofs.Vocabulary.{marks_of, moved, packet_begins, unit_passes, units_pass, unread, unread_mark, unread_moment}
+use Rattle.osi_watched.proofs.Vocabulary.{way_of, heard, after, comes_to, Joint, Step, Steps, StepsAlong, TakesTurn, begin, begins_other}
+use Rattle.osi_watched.proofs.Vocabulary.{begins_own, passes_other, passes_own, turns, TurnsBad, calls_from}
 use Rattle.osi_rules.specs.Sides as sides
-use Rattle.osi_rules.specs.Traffic.{State as Traffic, is_stopped, takes}
+use Rattle.osi_rules.specs.Traffic.{State as Traffic}
 use Rattle.osi_rules.specs.Traffic as traffic
-use Rattle.osi_fair.specs.Naming.{packet, unit}
 use Rattle.osi_fair.specs.Wholes as wholes
-use Rattle.osi_fair.proofs.what_the_other_side_closes.{IsFirm}
-use Rattle.osi_stack.specs.State.{Holding}
-use Rattle.osi_honest.specs.Courses.{Course, Deeds, all_did, no_deeds, then_did}
-use Rattle.osi_honest.specs.Seeing.{IsFresh}
-use Rattle.osi_honest.specs.Turns.{Turn}
-use Rattle.osi_honest.proofs.class_0.what_a_packet_does_in_class_0.{AllProper}
-use Rattle.osi_honest.proofs.courses.what_a_run_does_to_it.{fresh_course}
-use Rattle.osi_tap.specs.declared.marks.Cause.{Cause}
-use Rattle.osi_tap.specs.Connections.{Joined, spoken}
-use Rattle.osi_tap.specs.Courses.{Course as Passed, marked, marks_of, moved, packet_begins, unit_passes, units_pass, unread, unread_mark}
-use Rattle.osi_tap.specs.Courses.{unread_moment, way_of}
-use Rattle.osi_tap.specs.Lines.{heard}
+use Rattle.osi_honest.specs.Courses.{Course}
+use Rattle.osi_tap.specs.Courses.{Course as Passed}
 use Rattle.osi_tap.specs.Tapping as tapping
-use Rattle.osi_tap.specs.Tapping.{after, comes_to}
-use Rattle.osi_watched.specs.Joint.{Joint, Step, Steps, StepsAlong, TakesTurn, begin, begins_other, begins_own, passes_other, passes_own}
-use Rattle.osi_watched.specs.Joint.{turns}
-use Rattle.osi_watched.specs.Passing.{TurnsBad}
-use Rattle.osi_watched.specs.Shown.{calls_from}
 use Rattle.osi_watched.proofs.steps_are_events.{IsFollowed, begin_followed, own_first, step_followed}
 use Rattle.osi_watched.proofs.the_first_break_is_not_of_an_end.{IsFairFrom, IsNoBreak}
 use Rattle.osi_watched.proofs.what_a_taker_passes_over.{mild_of}
@@ -192,11 +172,7 @@ own_right d local fair at v old new (read, octets, put, begun, is) f j =
     let found = fair f.events f.whole v s.rest f.along (f.begun ∙ begun) s.is
     (ap (λ (t : Traffic). is_stopped (sides.other (way_of d)) t.course) f.tap ∙ (grind arith))
     (ap (λ (t : Traffic). t.course.loose) f.tap ∙ j.firm) in
-    record {
-      firm = j.firm;
-      goes = goes_so d old.course j;
-      none = subst (λ (t : Traffic). IsNoBreak (takes (way_of d) v t).told.finding) f.tap found;
-    }
+    grind (arith, goes_so)
 
 -- ---- the steps
 
@@ -261,8 +237,7 @@ module _ (proper : AllProper) (barred : Class) (d : Direction) (local : Local)
       not_yet : c.traffic.course.class ≡ Some barred → ⊥
       not_yet =
           units_not barred (other d) at (v ∷ back) c
-          (λ is_so. not (subst (λ (l : List Value). (After l).traffic.course.class ≡ Some barred) (sym is)
-          (ap (λ (x : Passed). x.traffic.course.class) (units_join (other d) at front (v ∷ back) old.course) ∙ is_so)))
+          (grind (arith, units_join))
 
       is_sure : Sure c
       is_sure = units_kept Sure sure_claim (other d) at front old.course g.sure
@@ -501,8 +476,7 @@ module _ (proper : AllProper) (barred : Class) (d : Direction) (local : Local)
       subst (λ (s : tapping.State). Ends d s.course) (sym join) (by stays)
     where
       broken_so : HasBroken d (unread (other d) t.at t.cause j.course).past → Ends d (after t.back (comes_to t.front)).course
-      broken_so b = inr (after_kept (λ x. HasBroken d x.past) (broken_claim d) t.back (comes_to t.front)
-          (subst (λ (x : Passed). HasBroken d x.past) (sym t.unreadable) b))
+      broken_so b = inr (grind (arith, after_kept, broken_claim d))
 
       by : Stood j → Ends d (after t.back (comes_to t.front)).course
       by (deeds, goes g) = broken_so (unread_breaks_so d t.at t.cause j.course t.bad g.judged g.clean)

@@ -1,44 +1,21 @@
 -- No session of an end is to blame after breaks of the other side, or a connection has lost its judgement, if something holds at each step
 -- by which nobody of the end is to blame, as long as one class is not selected.
 -- For the law that no session of an end is to blame after a break.
-use Rattle.std.proofs.Common.{◌≡◌, ◌∙◌, ◌⊎◌, inl, inr, refl, sym, ap, subst, ℕ, Bool, true, false, Ok, List, [], ◌∷◌, ◌++◌, Option, Some}
-use Rattle.std.proofs.Common.{None, append_assoc, arith}
-use Rattle.std.specs.List.{AllByRecursion}
-use Rattle.std.proofs.lemmas.List.{append-nil}
-use Rattle.osi_tpdu.specs.Packet.{units_of}
-use Rattle.osi_tpdu.specs.Value.{Value}
-use Rattle.osi_class.specs.declared.terms.Class.{Class}
-use Rattle.osi_class.specs.declared.terms.Class.TheVariants.{Two, Zero}
-use Rattle.osi_class.specs.declared.terms.Local.{Local}
-use Rattle.osi_judge.specs.Captures.{Capture, other}
-use Rattle.osi_judge.specs.declared.directions.Direction.{Direction}
-use Rattle.osi_rules.specs.declared.findings.Finding.{Finding}
-use Rattle.osi_rules.specs.declared.findings.Finding.TheVariants.{Broke, TooMany}
-use Rattle.osi_rules.specs.declared.findings.Reach.{Reach}
+use Rattle.osi_watched.proofs.Vocabulary.{◌≡◌, ◌∙◌, ◌⊎◌, inl, inr, refl, sym, ap, subst, ℕ, Bool, true, false, Ok, List, [], ◌∷◌, ◌++◌}
+use Rattle.osi_watched.proofs.Vocabulary.{Option, Some, None, append_assoc, arith, AllByRecursion, append-nil, units_of, Value, Class, Two}
+use Rattle.osi_watched.proofs.Vocabulary.{Zero, Local, Capture, other, Direction, Finding, Broke, TooMany, Reach, is_applied, reach_of}
+use Rattle.osi_watched.proofs.Vocabulary.{class_for, is_stopped, takes, End, Holding, Deeds, all_did, no_deeds, IsFresh, Turn, AllProper}
+use Rattle.osi_watched.proofs.Vocabulary.{fresh_sane, fresh_course, Known, Cause, unit_passes, units_pass, way_of, after, comes_to, Joint}
+use Rattle.osi_watched.proofs.Vocabulary.{Step, Steps, StepsAlong, TakesTurn, begin, begins_other, begins_own, passes_other, passes_own}
+use Rattle.osi_watched.proofs.Vocabulary.{turns, TurnsBad, calls_from, IsNoPacket, IsUnread, LaterAlong, spoilt}
 use Rattle.osi_rules.specs.declared.findings.Reach.TheVariants as reach
 use Rattle.osi_rules.specs.declared.findings.Rule.TheVariants as rule
-use Rattle.osi_rules.specs.Reaches.{is_applied, reach_of}
-use Rattle.osi_rules.specs.Traffic.{class_for, is_stopped, takes}
 use Rattle.osi_fair.specs.Pieces.{units_in}
 use Rattle.osi_fair.specs.Wholes as wholes
-use Rattle.osi_stack.specs.State.{End, Holding}
-use Rattle.osi_honest.specs.Courses.{Course, Deeds, all_did, no_deeds}
-use Rattle.osi_honest.specs.Seeing.{IsFresh}
-use Rattle.osi_honest.specs.Turns.{Turn}
-use Rattle.osi_honest.proofs.class_0.what_a_packet_does_in_class_0.{AllProper}
-use Rattle.osi_honest.proofs.courses.an_end_is_sound_between_turns.{fresh_sane}
-use Rattle.osi_honest.proofs.courses.what_a_run_does_to_it.{fresh_course}
-use Rattle.osi_honest.proofs.courses.what_sessions_hear_of_it.{Known}
-use Rattle.osi_tap.specs.declared.marks.Cause.{Cause}
+use Rattle.osi_honest.specs.Courses.{Course}
 use Rattle.osi_tap.specs.Courses.{Course as Passed}
-use Rattle.osi_tap.specs.Courses.{unit_passes, units_pass, way_of}
 use Rattle.osi_tap.specs.Tapping as tapping
-use Rattle.osi_tap.specs.Tapping.{after, comes_to}
-use Rattle.osi_watched.specs.Joint.{Joint, Step, Steps, StepsAlong, TakesTurn, begin, begins_other, begins_own, passes_other, passes_own}
-use Rattle.osi_watched.specs.Joint.{turns}
-use Rattle.osi_watched.specs.Passing.{TurnsBad}
-use Rattle.osi_watched.specs.Shown.{calls_from}
-use Rattle.osi_watched.specs.Spoilt.{GoesOn, IsNoPacket, IsUnread, LaterAlong, spoilt}
+use Rattle.osi_watched.specs.Spoilt.{GoesOn}
 use Rattle.osi_watched.proofs.a_break_ends_no_judging_or_all.{all_ends, loose_so, none_ends, nothing_ends, reach_so, still_over}
 use Rattle.osi_watched.proofs.a_break_ends_no_judging_or_all.{unread_sessions}
 use Rattle.osi_watched.proofs.an_end_that_is_judged_alone_stays_so.{later_kept}
@@ -79,10 +56,7 @@ pub record IsDone (d : Direction) (c : Passed) : Type 0 where
 pub done_claim : (d : Direction) → IsClaim (IsDone d)
 done_claim d = record {
   begins = λ e c h. record { over = begins_over e c h.over; none = none_begins d e c.sessions h.none };
-  passes = λ e at v c h. record {
-    over = still_over e at v c h.over;
-    none = subst (NoneIsToBlame d) (sym (over_joins e at v c h.over)) h.none;
-  };
+  passes = search (arith, still_over, over_joins);
   bad = λ e at k c h. subst (IsDone d) (sym (unread_over e at k c h.over)) h;
 }
 
@@ -167,8 +141,7 @@ module _ (known : Known) (barred : Class) (d : Direction) (local : Local)
       not_yet : c.traffic.course.class ≡ Some barred → ⊥
       not_yet =
           units_not barred (other d) at (v ∷ back) c
-          (λ is_so. not (subst (λ (l : List Value). (After l).traffic.course.class ≡ Some barred) (sym is)
-          (ap (λ (x : Passed). x.traffic.course.class) (units_join (other d) at front (v ∷ back) old.course) ∙ is_so)))
+          (grind (arith, units_join))
 
       is_sure : Sure c
       is_sure = units_kept Sure sure_claim (other d) at front old.course g.sure
@@ -259,10 +232,7 @@ module _ (known : Known) (barred : Class) (d : Direction) (local : Local)
         let new_is : new ≡ record old {
           course = units_pass (other d) at (front ++ v ∷ back) old.course;
           coming = old.coming ++ octets ∷ [];
-        } = step.2 ∙ ap (λ (l : List Value). record old {
-          course = units_pass (other d) at l old.course;
-          coming = old.coming ++ octets ∷ [];
-        }) is in
+        } = grind arith in
         let f = step_followed d (wholes.begin (calls_from d) local) proper (passes_other at octets units) old new step g.followed in
         alone (subst (GoesWithout false) (sym new_is)
         (unit_begins known barred d local fair fair_alone Inv k has_begun deeds at octets front back v old g step.0 read taken judged
@@ -302,8 +272,7 @@ module _ (known : Known) (barred : Class) (d : Direction) (local : Local)
       Judging deeds old → Stays deeds new
   tap_so (turns turn) tap old new t within deeds g = absurd tap
   tap_so begins_own tap old new step within deeds g =
-      goes (own_begins_goes proper barred d local Inv k old new step
-      (grind arith) deeds g)
+      goes (grind (arith, own_begins_goes proper barred d local Inv k old new step (grind arith) deeds g))
   tap_so begins_other tap old new step within deeds g = goes (other_begins_goes proper barred d local Inv k old new step deeds g)
   tap_so (passes_own at v) tap old new step within deeds g =
       own_so deeds at v old new step g (step_without barred d (passes_own at v) old new step within).not within.not
@@ -403,20 +372,15 @@ module _ (known : Known) (barred : Class) (d : Direction) (local : Local)
     unread_by : (deeds : ℕ → Deeds) → Judging deeds j → AfterUnread d bad.course →
         (x : Option Class) → class_for (way_of (other d)) j.course.traffic.course ≡ x → EndsWell end.course
     unread_by deeds g (all_over o) x is =
-        done_so (record {
-          over = o;
-          none = subst (NoneIsToBlame d) (sym (unread_sessions (other d) at cause_is j.course)) (k.none deeds j g.courses g.holds);
-        })
+        done_so (grind (arith, unread_sessions))
     unread_by deeds g (is_alone_then a) (Some Zero) is =
         let refuses_so = unread_is d at cause_is j.course g.judged (g.sure.agrees Zero) in
         let apart = zero_apart bad.course a bad_not in
         elim how [
           | inl (packet, one, unreadable) ↦ later_too false (λ no. absurd (let n : false ≡ true = no in cc)) apart
-              (packet_begins_alone known barred d local fair fair_alone Inv k has_begun deeds at cause_is packets none_in j g is refuses_so
-              a packet one unreadable)
+              (search (arith, packet_begins_alone))
           | inr (nothing, none) ↦ later_too true (λ yes. none) apart
-              (octets_begin_alone known barred d local fair fair_alone Inv k has_begun deeds at cause_is packets none_in j g is refuses_so a
-              nothing)
+              (search (arith, octets_begin_alone))
         ]
     unread_by deeds g (is_alone_then a) None is = grind (arith, not_both, own_stopped, unread_ends)
     unread_by deeds g (is_alone_then a) (Some Two) is = grind (arith, not_both, own_stopped, unread_ends)

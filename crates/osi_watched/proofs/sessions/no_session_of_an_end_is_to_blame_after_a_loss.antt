@@ -1,13 +1,13 @@
 -- No session of an end is to blame, whatever the other side breaks, if what stands of it at each step stands also after a connection of
 -- class 2 has lost its judgement, and if class 0 is not selected.
 -- For the law that no session of an end is blamed after a break of the other side.
-use Rattle.osi_watched.proofs.Vocabulary.{[], ap, append-nil, append_assoc, arith, false, inl, inr, is_some, length, List, Option, refl}
-use Rattle.osi_watched.proofs.Vocabulary.{Some, subst, sym, ℕ, ◌++◌, ◌<◌, ◌^◌, ◌∙◌, ◌∷◌, ◌≡◌, ◌⊎◌, slice_get, Value, Class, Zero, Local}
-use Rattle.osi_watched.proofs.Vocabulary.{Holding, is_applied, reach_of, class_for, is_stopped, takes, Finding, Reach, Traffic as State}
-use Rattle.osi_watched.proofs.Vocabulary.{other, Direction, AllProper, Deeds, no_deeds, all_did, fresh_course, IsFresh, Turn, Joined}
-use Rattle.osi_watched.proofs.Vocabulary.{spoken, unit_passes, units_pass, unread, way_of, heard, Capture, comes_to, Cause, begins_other}
+use Rattle.osi_watched.proofs.Vocabulary.{[], ap, append-nil, append_assoc, arith, false, inl, inr, length, List, Option, refl, Some, subst}
+use Rattle.osi_watched.proofs.Vocabulary.{sym, ℕ, ◌++◌, ◌<◌, ◌^◌, ◌∙◌, ◌∷◌, ◌≡◌, ◌⊎◌, slice_get, Value, Class, Zero, Local, Holding}
+use Rattle.osi_watched.proofs.Vocabulary.{is_applied, reach_of, class_for, is_stopped, takes, Finding, Reach, Traffic as State, other}
+use Rattle.osi_watched.proofs.Vocabulary.{Direction, AllProper, Deeds, no_deeds, all_did, fresh_course, IsFresh, Turn, Joined, spoken}
+use Rattle.osi_watched.proofs.Vocabulary.{unit_passes, units_pass, unread, way_of, heard, Capture, comes_to, Cause, begins_other}
 use Rattle.osi_watched.proofs.Vocabulary.{begins_own, Joint, passes_other, passes_own, Step, Steps, StepsAlong, TakesTurn, turns, TurnsBad}
-use Rattle.osi_watched.proofs.Vocabulary.{calls_from, marks_of}
+use Rattle.osi_watched.proofs.Vocabulary.{calls_from, begin, LaterAlong, spoilt, IsOngoing}
 use Rattle.osi_rules.specs.Sides as sides
 use Rattle.osi_rules.specs.Traffic as traffic
 use Rattle.osi_rules.specs.declared.findings.Reach.TheVariants as reach
@@ -15,8 +15,7 @@ use Rattle.osi_fair.specs.Pieces.{units_in}
 use Rattle.osi_fair.specs.Wholes as wholes
 use Rattle.osi_tap.specs.Courses.{Course as Passed}
 use Rattle.osi_tap.specs.Tapping as tapping
-use Rattle.osi_watched.specs.Joint.{begin}
-use Rattle.osi_watched.specs.Spoilt.{GoesOn, LaterAlong, spoilt}
+use Rattle.osi_watched.specs.Spoilt.{GoesOn}
 use Rattle.osi_watched.proofs.a_break_ends_no_judging_or_all.{IsGoing, all_ends, begins_going, mild_reach, nothing_goes, part_goes}
 use Rattle.osi_watched.proofs.a_break_ends_no_judging_or_all.{reach_so, side_known, unread_sessions}
 use Rattle.osi_watched.proofs.an_end_that_is_judged_alone_stays_so.{later_kept}
@@ -25,7 +24,6 @@ use Rattle.osi_watched.proofs.the_first_break_is_not_of_an_end.{IsFairThroughout
 use Rattle.osi_watched.proofs.what_a_unit_leaves_at_a_tap.{IsOver}
 use Rattle.osi_watched.proofs.what_passes_keeps_a_claim.{after_join, step_kept, units_kept}
 use Rattle.osi_watched.proofs.what_the_turns_among_steps_do.{ComesByDoing, IsOfTap, StepsDo, TurnDoes}
-use Rattle.osi_fair.proofs.what_the_other_side_closes.{IsOngoing}
 use Rattle.osi_watched.proofs.sessions.after_too_many_nobody_is_to_blame.{NoneIsToBlame}
 use Rattle.osi_watched.proofs.sessions.each_step_leaves_class_0_one_connection.{Sure, fresh_sure, sure_claim}
 use Rattle.osi_watched.proofs.sessions.no_more_tsdus_than_moments_have_passed.{AreFew, few_claim}
@@ -47,9 +45,6 @@ goes_so e c j = grind arith
 
 other_so : (e : Direction) (c : Passed) → IsGoing c → is_stopped (sides.other (way_of e)) c.traffic.course ≡ false
 other_so e c j = grind arith
-
-halted_so : (e : Direction) (c : Passed) → IsGoing c → is_some (marks_of e c).halted ≡ false
-halted_so e c j = grind arith
 
 knows_zero : (e : Direction) (c : Passed) → Sure c → class_for (way_of e) c.traffic.course ≡ Some Zero → c.traffic.course.class ≡ Some Zero
 knows_zero e c sure is = grind arith
@@ -117,8 +112,7 @@ module _ (proper : AllProper) (d : Direction) (local : Local)
       not_yet : c.traffic.course.class ≡ Some Zero → ⊥
       not_yet =
           units_not Zero (other d) at (v ∷ back) c
-          (λ is_so. not (subst (λ (l : List Value). (After l).traffic.course.class ≡ Some Zero) (sym is)
-          (ap (λ (x : Passed). x.traffic.course.class) (units_join (other d) at front (v ∷ back) old.course) ∙ is_so)))
+          (grind (arith, units_join))
 
       is_sure : Sure c
       is_sure = units_kept Sure sure_claim (other d) at front old.course g.sure
@@ -216,9 +210,7 @@ module _ (proper : AllProper) (d : Direction) (local : Local)
       })
       by (inr far) = ended (subst (IsDone d) (sym now) (record {
         over = all_ends d at v old.course far;
-        none = subst (NoneIsToBlame d) (sym (joins_none d at v old.course
-            (all_applied (class_for (way_of d) old.course.traffic.course) (takes (way_of d) v old.course.traffic).told.finding
-            (sym (reach_so d at v old.course).far ∙ far)))) (k.none deeds old g.courses g.holds);
+        none = subst (NoneIsToBlame d) (grind (arith, joins_none, all_applied, reach_so)) (k.none deeds old g.courses g.holds);
       }))
 
   -- ---- each step

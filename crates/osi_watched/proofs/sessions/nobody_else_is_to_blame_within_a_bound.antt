@@ -1,19 +1,12 @@
 -- A unit makes nobody to blame for what a tap with a bound judges whom it doesn't make to blame for what a tap without one judges.
 -- For the law on such a tap.
-use Rattle.std.proofs.Common.{arith}
-use Rattle.std.specs.Prelude.{slice_get}
-use Rattle.std.proofs.Common.{◌≡◌, ◌∙◌, refl, sym, ap, subst, ℕ, zero, suc, Bool, true, false, if◌then◌else◌}
-use Rattle.std.proofs.Common.{List, [], ◌∷◌, ◌++◌, length, set, Option, Some, None}
-use Rattle.osi_rules.specs.declared.findings.Meaning.{Meaning}
+use Rattle.osi_watched.proofs.Vocabulary.{arith, slice_get, ◌≡◌, ◌∙◌, refl, sym, ap, subst, ℕ, zero, suc, Bool, true, false, if◌then◌else◌}
+use Rattle.osi_watched.proofs.Vocabulary.{List, [], ◌∷◌, ◌++◌, length, set, Option, Some, None, Meaning, Value, Direction, Room, Octets}
+use Rattle.osi_watched.proofs.Vocabulary.{Over, IsToBlame, Joined, Sessions, adds_if, changed, placed, taken, taken_at, user_of, fits}
+use Rattle.osi_watched.proofs.Vocabulary.{spent, IsJudgedOf}
 use Rattle.osi_rules.specs.declared.findings.Meaning.TheVariants as meaning
-use Rattle.osi_tpdu.specs.Value.{Value}
-use Rattle.osi_judge.specs.declared.directions.Direction.{Direction}
-use Rattle.osi_tap.specs.declared.rooms.Room.{Room}
-use Rattle.osi_tap.specs.declared.rooms.Room.TheVariants.{Octets, Over}
-use Rattle.osi_tap.specs.Blaming.{IsToBlame}
-use Rattle.osi_tap.specs.Connections.{Joined, Sessions, adds_if, changed, meant, placed, taken, taken_at, user_of}
-use Rattle.osi_tap.specs.Rooms.{fits, is_over, spent}
-use Rattle.osi_watched.specs.Bounded.{IsJudgedOf}
+use Rattle.osi_tap.specs.Connections.{meant}
+use Rattle.osi_tap.specs.Rooms.{is_over}
 use Rattle.osi_watched.proofs.sessions.after_too_many_nobody_is_to_blame.{NoneIsToBlame}
 use Rattle.osi_watched.proofs.sessions.what_is_judged_within_a_bound.{AreBounded, BothAt, asked_so, at_place, meant_so}
 
@@ -129,7 +122,4 @@ pub taken_none : (most : ℕ) (d e : Direction) (at : ℕ) (v : Value) (s t : Se
     (place : Option ℕ) → NoneIsToBlame d s → NoneIsToBlame d (taken e at v m place t) → NoneIsToBlame d (taken e at v m place s)
 taken_none most d e at v s t h m place before after =
     let none = taken_so most d e at v s t h (none_listed d s before) m place (none_listed d (taken e at v m place t) after) in
-    record {
-      live = of_one d (taken e at v m place s).live none.live;
-      done = of_one d (taken e at v m place s).done none.done;
-    }
+    search (arith, of_one)

@@ -1,5 +1,6 @@
 -- Until class 2 is selected no session of a calling end is to blame at a tap, as long as all is judged: at each step, and after each unit
 -- of a packet of the other side. For the laws that no session of an end is blamed first, nor after a break, in class 0.
+use Rattle.std.proofs.Common.{arith}
 use Rattle.osi_watched.proofs.Vocabulary.{List, true, ℕ, ◌++◌, units_fit, units_found, HasFieldsInRange, Value, Local, AsSent, AsParts}
 use Rattle.osi_watched.proofs.Vocabulary.{CalledLaw, CallerLaw, Left, Right, Deeds, units_in, units_pass, Joint, passes_other, Steps}
 use Rattle.osi_honest.specs.Courses.{Course}
@@ -22,13 +23,7 @@ module _ (local : Local) (known_of : AsSent) (parts : AsParts) (caller : CallerL
       AreTaken at front old.course → StandsUntilTwo local deeds old → NoneIsToBlame Left (units_pass Right at front old.course).sessions
   none_amid_early at octets front back old new (all_octets, read, is) courses taken h =
       let f = h.ahead.followed in
-      let beside : IsWith local old.holding.end.carrier old.put old.course = record {
-        whole = f.whole;
-        holds = runs_staged local old f;
-        tap = f.tap;
-        like = f.like;
-        same = f.put;
-      } in
+      let beside : IsWith local old.holding.end.carrier old.put old.course = search (arith, runs_staged) in
       let ranges = ranges_of (front ++ back) (units_fit (front ++ back) octets (units_found octets (front ++ back) all_octets read)) in
       let after = units_early local deeds h.ahead.bound old.holding.end.carrier old.put old.begun at (given_so local old h.ahead) front
       (units_in old.coming) old.course (all_front HasFieldsInRange front back ranges) taken beside h.shut h.early in

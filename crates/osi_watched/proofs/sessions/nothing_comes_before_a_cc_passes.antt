@@ -4,9 +4,8 @@
 use Rattle.osi_watched.proofs.Vocabulary.{[], ap, arith, Bool, false, List, None, refl, Some, sym, ℕ, ◌<◌, ◌==◌, ◌∙◌, ◌∷◌, ◌≡◌, ◌≤◌}
 use Rattle.osi_watched.proofs.Vocabulary.{eqb-true, AllByRecursion, slice_get, acknowledge, confirm, data0, data2, destination_of}
 use Rattle.osi_watched.proofs.Vocabulary.{disconnect, disconnected, error, request, Value, Zero, is_refused, class_for, is_stopped, takes}
-use Rattle.osi_watched.proofs.Vocabulary.{Connection, Left, Right, HaveSamePlaces, picked_rest}
+use Rattle.osi_watched.proofs.Vocabulary.{Connection, Left, Right, HaveSamePlaces, picked_rest, Course}
 use Rattle.osi_rules.specs.declared.directions.Direction.TheVariants as way
-use Rattle.osi_tap.specs.Courses.{Course}
 use Rattle.osi_watched.proofs.sessions.a_unit_is_joined_where_it_is_named.{joined_any}
 use Rattle.osi_watched.proofs.sessions.each_cr_that_passes_gives_a_new_reference.{AreUpTo}
 use Rattle.osi_watched.proofs.sessions.right_units_leave_all_standing.{ak, cc_placed, dt, link_placed}

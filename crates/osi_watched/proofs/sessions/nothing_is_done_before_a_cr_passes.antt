@@ -1,34 +1,16 @@
 -- Nothing is done at a connection of a calling end before its CR has passed; and then the CR may pass.
 -- For all connections of an end and a tap.
-use Rattle.std.proofs.Common.{◌≡◌, ◌∙◌, refl, sym, ap, subst, ℕ, ◌<◌, ◌≤◌, Bool, true, false, if◌then◌else◌, List, [], ◌∷◌, ◌++◌}
-use Rattle.std.proofs.Common.{Option, Some}
-use Rattle.std.proofs.Common.{None, arith, inl, inr, is_some}
-use Rattle.std.specs.Prelude.{◌⊎◌}
-use Rattle.std.proofs.lemmas.Bool.{le-leb, lt-ltb}
-use Rattle.std.specs.List.{AllByRecursion}
-use Rattle.osi_tpdu.specs.Packet.{units_of}
-use Rattle.osi_tpdu.specs.Value.{Connect, Value, acknowledge, confirm, data0, data2, destination_of, disconnect, disconnected, error}
-use Rattle.osi_tpdu.specs.Value.{request}
-use Rattle.osi_class.specs.declared.terms.Local.{Local}
+use Rattle.osi_watched.proofs.Vocabulary.{◌≡◌, ◌∙◌, refl, sym, ap, subst, ℕ, ◌<◌, ◌≤◌, Bool, true, false, if◌then◌else◌, List, [], ◌∷◌}
+use Rattle.osi_watched.proofs.Vocabulary.{◌++◌, Option, Some, None, arith, inl, inr, is_some, ◌⊎◌, le-leb, lt-ltb, AllByRecursion, units_of}
+use Rattle.osi_watched.proofs.Vocabulary.{Connect, Value, acknowledge, confirm, data0, data2, destination_of, disconnect, disconnected}
+use Rattle.osi_watched.proofs.Vocabulary.{error, request, Local, EndReason, Left, State, Whole, AreGiven, Followed, IsAnswer, IsAsking}
+use Rattle.osi_watched.proofs.Vocabulary.{Tracked, IsDc, is_dc, first_kept, first_left, names, picked_rest, those, AreApart, Opens}
+use Rattle.osi_watched.proofs.Vocabulary.{Continues, Deeds, then_did, units_in, units_taken, Marked, all_units, units_at, Turn, Life, amid}
+use Rattle.osi_watched.proofs.Vocabulary.{early, opens_by, past, stage_at, stage_over, stays, asked_so, taken_more, has_given, Sessions}
+use Rattle.osi_watched.proofs.Vocabulary.{Joint, TakesTurn, HaveSamePlaces}
 use Rattle.osi_carrier.specs.State.{State as Carrier}
-use Rattle.osi_carrier.specs.declared.ends.EndReason.{EndReason}
-use Rattle.osi_judge.specs.declared.directions.Direction.TheVariants.{Left}
-use Rattle.osi_rules.specs.Traffic.{State}
 use Rattle.osi_fair.specs.Pieces as pieces
-use Rattle.osi_fair.specs.Wholes.{Whole}
-use Rattle.osi_fair.proofs.each_connection_has_its_line.{AreGiven, Followed, IsAnswer, IsAsking, Tracked}
-use Rattle.osi_fair.proofs.which_units_are_for_a_connection.{IsDc, is_dc, first_kept, first_left, names, picked_rest, those}
-use Rattle.osi_honest.specs.Arriving.{AreApart, Opens}
-use Rattle.osi_honest.specs.Courses.{Continues, Deeds, then_did, units_in, units_taken}
-use Rattle.osi_honest.specs.Marked.{Marked, all_units, units_at}
-use Rattle.osi_honest.specs.Turns.{Turn}
-use Rattle.osi_honest.proofs.courses.how_long_a_connection_is_open.{Life, Stage, amid, early, opens_by, past, stage_at, stage_over, stays}
-use Rattle.osi_honest.proofs.courses.the_first_cc_opens_a_connection.{asked_so}
-use Rattle.osi_honest.proofs.courses.what_calls_of_a_link_say.{taken_more}
-use Rattle.osi_stack.specs.Calls.{has_given}
-use Rattle.osi_tap.specs.Connections.{Sessions}
-use Rattle.osi_watched.specs.Joint.{Joint, TakesTurn}
-use Rattle.osi_watched.specs.ShownPlaces.{HaveSamePlaces}
+use Rattle.osi_honest.proofs.courses.how_long_a_connection_is_open.{Stage}
 use Rattle.osi_watched.proofs.a_carrier_does_events.{none_of}
 use Rattle.osi_watched.proofs.steps_are_events.{IsFollowed}
 use Rattle.osi_watched.proofs.sessions.a_turn_does_what_its_deeds_say.{turn_uses}
@@ -54,12 +36,6 @@ IsNotCc r v = (x : Connect) → v ≡ confirm r x → ⊥
 apart_none : (r : ℕ) (units : List Marked) → AreApart r units → units_at r units ≡ []
 apart_none r [] h = refl
 apart_none r (m ∷ units) h = grind (arith, apart_none r units h.1)
-
-not_amid : {A : Type 0} (s : Stage) (peer : ℕ) → s ≡ early → s ≡ amid peer → A
-not_amid s peer e h = absurd (cc (sym e ∙ h))
-
-past_not_amid : {A : Type 0} (s : Stage) (peer : ℕ) → s ≡ past → s ≡ amid peer → A
-past_not_amid s peer e h = absurd (cc (sym e ∙ h))
 
 -- a CC for it among the units
 cc_among : {A : Type 0} (r : ℕ) (some later : List Marked) (unit : Value) (x : Connect) → unit ≡ confirm r x →
@@ -226,5 +202,4 @@ cr_calm local first j f h x rest put zero lasts =
     let asking =
     (subst (AllByRecursion (λ (v : Value). (y : Connect) → v ≡ request y → IsAsking local f.whole.end f.whole.coming y)) put h.requests).0
     x refl in
-    dcs_none x.source (units_in j.coming) zero
-    (subst (λ (l : List Value). AllByRecursion IsDc (those x.source l)) (f.coming lasts ∙ same_units j.coming) asking.early)
+    grind (arith, dcs_none, those, same_units)

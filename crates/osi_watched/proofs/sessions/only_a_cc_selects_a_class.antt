@@ -1,8 +1,7 @@
 -- A unit that is no CC leaves the class that is selected on a byte connection, or that none is.
 -- For a called end that has selected no class yet.
-use Rattle.std.proofs.Common.{arith}
 use Rattle.osi_watched.proofs.Vocabulary.{Option, ℕ, ◌≡◌, Value, reach_of, at_found, at_place, class_for, none_told, Outcome, routed}
-use Rattle.osi_watched.proofs.Vocabulary.{Traffic as State, takes, Connection, Way as Direction, Finding, Route, reached_class}
+use Rattle.osi_watched.proofs.Vocabulary.{Traffic as State, takes, Connection, Way as Direction, Finding, Route, reached_class, arith}
 use Rattle.osi_watched.proofs.sessions.a_called_end_hears_what_comes_until_class_2.{IsNoCc}
 
 abbrev Keeps : State → Outcome → Type 0

@@ -1,13 +1,11 @@
 -- No two connections of an end have one reference of it at a tap, also after a place was given to another, if each CR and CC of the end
 -- gives a new one.
 -- For all connections of an end and a tap.
-use Rattle.std.proofs.Common.{arith}
 use Rattle.osi_watched.proofs.Vocabulary.{[], ap, Bool, inl, inr, length, List, set, Some, subst, sym, ℕ, ◌++◌, ◌∙◌, ◌∷◌, ◌≡◌, ◌⊎◌}
 use Rattle.osi_watched.proofs.Vocabulary.{slice_get, confirm, data2, request, Value, meaning_if, meant, Traffic as State, takes, other}
 use Rattle.osi_watched.proofs.Vocabulary.{Direction, Left, Right, all_begin, Joined, reference_of, Sessions, taken, way_of, All, after_add}
-use Rattle.osi_watched.proofs.Vocabulary.{after_change, HaveSamePlaces}
+use Rattle.osi_watched.proofs.Vocabulary.{after_change, HaveSamePlaces, arith, number_is}
 use Rattle.osi_tap.specs.Connections as joined
-use Rattle.osi_fair.proofs.small_facts_that_many_lemmas_use.{number_is}
 use Rattle.osi_watched.proofs.sessions.all_connections_stand.{map_of}
 use Rattle.osi_watched.proofs.sessions.right_units_leave_all_standing.{StaysElsewhere}
 use Rattle.osi_watched.proofs.sessions.what_a_tap_shows_goes_on.{named_added}

@@ -1,37 +1,18 @@
 -- Units of class 2 leave all connections of an end standing at a tap: units of the end that are no break, and of the other side.
 -- For the session of each connection of an end.
-use Rattle.std.proofs.Common.{arith}
-use Rattle.std.proofs.Common.{◌≡◌, ◌∙◌, refl, sym, ap, ℕ, Bool, true, false, if◌then◌else◌, List, [], ◌∷◌}
-use Rattle.std.proofs.Common.{◌++◌, Option, Some, None}
-use Rattle.std.specs.Prelude.{slice_get}
-use Rattle.std.proofs.lemmas.Bool.{eqb-true}
-use Rattle.osi_tpdu.specs.Value.{Connect, Value, acknowledge, confirm, data2, destination_of, request}
-use Rattle.osi_class.specs.Tsdus.{Part}
-use Rattle.osi_class.specs.declared.terms.Class.{Class}
-use Rattle.osi_class.specs.declared.terms.Class.TheVariants.{Two, Zero}
-use Rattle.osi_judge.specs.Captures.{other}
-use Rattle.osi_judge.specs.declared.directions.Direction.{Direction}
-use Rattle.osi_judge.specs.declared.directions.Direction.TheVariants.{Left}
-use Rattle.osi_rules.specs.declared.connections.Connection.{Connection}
+use Rattle.osi_watched.proofs.Vocabulary.{arith, ◌≡◌, ◌∙◌, refl, sym, ap, ℕ, Bool, true, false, if◌then◌else◌, List, [], ◌∷◌, ◌++◌, Option}
+use Rattle.osi_watched.proofs.Vocabulary.{Some, None, slice_get, eqb-true, Connect, Value, acknowledge, confirm, data2, destination_of}
+use Rattle.osi_watched.proofs.Vocabulary.{request, Part, Class, Two, Zero, other, Direction, Left, Connection, Finding, Broke, NotJudged}
+use Rattle.osi_watched.proofs.Vocabulary.{Reach, Half, is_applied, reach_of, Test, has_passed, keeps_credit, is_open, own, State, at_place}
+use Rattle.osi_watched.proofs.Vocabulary.{class_for, connection_after, found_on, is_stopped, meaning_if, course_after_none, unnamed}
+use Rattle.osi_watched.proofs.Vocabulary.{unnamed_told, meant, none_told, route_in, routed, takes, Deeds, Joined, Sessions, reference_of}
+use Rattle.osi_watched.proofs.Vocabulary.{way_of, IsOneOf}
 use Rattle.osi_rules.specs.declared.directions.Direction.{Direction as Way}
 use Rattle.osi_rules.specs.declared.directions.Direction.TheVariants as way
-use Rattle.osi_rules.specs.declared.findings.Finding.{Finding}
-use Rattle.osi_rules.specs.declared.findings.Finding.TheVariants.{Broke, NotJudged}
-use Rattle.osi_rules.specs.declared.findings.Reach.{Reach}
 use Rattle.osi_rules.specs.declared.findings.Reach.TheVariants as reach
-use Rattle.osi_rules.specs.declared.halves.Half.{Half}
 use Rattle.osi_rules.specs.declared.findings.Rule.TheVariants as rule
-use Rattle.osi_rules.specs.Reaches.{is_applied, reach_of}
-use Rattle.osi_rules.specs.Rows.{Test, first_failed, has_passed, keeps_credit}
-use Rattle.osi_rules.specs.Sides.{is_open, own}
 use Rattle.osi_rules.specs.Sides as sides
-use Rattle.osi_rules.specs.Traffic.{State, at_place, class_for, connection_after, found_on, is_stopped, meaning_if, course_after_none}
-use Rattle.osi_rules.specs.Traffic.{unnamed, unnamed_told, in_doubt, meant, none_told, route_in, routed, takes, unnamed_by}
-use Rattle.osi_honest.specs.Courses.{Deeds}
-use Rattle.osi_tap.specs.Connections.{Joined, Sessions, reference_of}
 use Rattle.osi_tap.specs.Connections as joined
-use Rattle.osi_tap.specs.Courses.{way_of}
-use Rattle.osi_watched.specs.ShownPlaces.{IsOneOf}
 use Rattle.osi_watched.proofs.sessions.a_right_dt_has_one_place.{AreUsedApart, lost_use, one_use, two_open}
 use Rattle.osi_watched.proofs.sessions.a_unit_is_joined_where_it_is_named.{named_any, named_there, names_there}
 use Rattle.osi_watched.proofs.sessions.all_connections_stand.{AllStand, IsPlain, Leaves, Rests, like_same, other_after, other_part}
@@ -55,9 +36,6 @@ link_for v n o h = grind (arith, is_for)
 
 -- ---- its place
 
-no_place : {A : Type 0} (i : ℕ) → Some i ≡ None → A
-no_place i e = absurd (cc)
-
 -- in class 2 all judging ends with one for no connection
 module _ (d : Way) (v : Value) (s : State) (two : class_for d (course_after_none v s.course) ≡ Some Two)
     (ends : reach_of (Some Two) (unnamed d s.course v) ≡ reach.Everything) where
@@ -67,16 +45,6 @@ module _ (d : Way) (v : Value) (s : State) (two : class_for d (course_after_none
   any_placed : {A : Type 0} (o : Option ℕ) → ((at_place d v s o).told.reach ≡ reach.Everything → ⊥) →
       (at_place d v s o).told.place ≡ None → A
   any_placed h on none = grind (arith, none_goes)
-
-dt_ends : (loose strays : Bool) (n number : ℕ) (end : Bool) (user : List ℕ) →
-    reach_of (Some Two) (if loose then in_doubt (unnamed_by strays (data2 n number end user)) else unnamed_by strays
-    (data2 n number end user)) ≡ reach.Everything
-dt_ends loose strays n number end user = grind arith
-
-ak_ends : (loose strays : Bool) (credit n number : ℕ) →
-    reach_of (Some Two) (if loose then in_doubt (unnamed_by strays (acknowledge credit n number)) else unnamed_by strays
-    (acknowledge credit n number)) ≡ reach.Everything
-ak_ends loose strays credit n number = grind arith
 
 -- before a class is known it breaks a rule
 early_ends : {A : Type 0} (d : Way) (s : State) → class_for d s.course ≡ None →
@@ -100,10 +68,6 @@ pub cc_placed : {A : Type 0} (n : ℕ) (x : Connect) (s : State) → is_stopped 
 cc_placed n x s goes two on none = grind (arith, cc_routed)
 
 -- ---- its sender has not closed the connection, if it is right
-
-second_test : (a b : Bool) (more : List Test) →
-    is_applied (first_failed ((a, Broke rule.UnknownReference) ∷ (b, Broke rule.Closed) ∷ more)) ≡ true → b ≡ true
-second_test a b more h = grind arith
 
 abbrev tests_of_acks : Way → Connection → (number credit : ℕ) → List Test
 tests_of_acks d c number credit =
@@ -148,8 +112,7 @@ module _ (d : Direction) (deeds : ℕ → Deeds) (known : Known) (at : ℕ) (v :
         sym (one_use d n p i first c k j s.connections apart there here one another (named_so n link p first k place there at_k one) mine
         live (link_open (way_of d) v n s first link (kept first finding judged)))
     same_by false lost mine =
-        sym (lost_use d n p i first c k j s.connections apart there here one another (named_so n link p first k place there at_k one) mine
-        live lost)
+        sym (search (arith, lost_use, named_so))
 
     link_elsewhere : (i ≡ p → ⊥) → is_for (reference_of (other d) j) v ≡ false
     link_elsewhere from = search (arith, not_so, is_for, same_by, names_so, link_for)
@@ -166,10 +129,8 @@ module _ (d : Direction) (deeds : ℕ → Deeds) (known : Known) (at : ℕ) (v :
   link_leaves n link kept goes two on here no_cr = record {
     all = λ e c j h. link_placed (way_of d) v n s link goes two on e;
     elsewhere = λ p i first c k j from place there one at_k finding at_c at_j another judged h.
-        stands_elsewhere d deeds known v rest true c j
-        (λ live. link_elsewhere n link kept p i first c k j place there at_k one finding at_c another live from) h;
-    here = λ p c j x r place there at_j one finding is far on judged h.
-        here p c j x r place there at_j one (kept c finding judged) is h;
+        search (arith, stands_elsewhere, link_elsewhere);
+    here = search arith;
     asked_so = λ x number is. absurd (no_cr x is);
     others = λ x is c j h. absurd (no_cr x is);
     moves = λ x is j h. h;
@@ -222,10 +183,8 @@ pub own_close_if : (d : Direction) (deeds : ℕ → Deeds) (known : Known) (at :
     ((x : Connect) → v ≡ request x → ⊥) → Leaves d deeds known known (v ∷ rest) rest true false d at v s t
 own_close_if d deeds known at v rest s t a plain not_for no_cr = record {
   all = λ e c j h. stands_elsewhere d deeds known v rest true c j (λ live. not_for (reference_of (other d) j)) h;
-  elsewhere = λ p i first c k j apart place there one at_k finding at_c at_j another judged h.
-      stands_elsewhere d deeds known v rest true c j (λ live. not_for (reference_of (other d) j)) h;
-  here = λ p c j x r place there at_j one finding is far on judged h.
-      own_plain d deeds known at v rest x true r c j (plain c x is) h;
+  elsewhere = search (arith, stands_elsewhere);
+  here = search (arith, own_plain);
   asked_so = λ x number is. absurd (no_cr x is);
   others = λ x is c j h. absurd (no_cr x is);
   moves = λ x is j h. h;
@@ -309,8 +268,7 @@ other_close_if d deeds known then_known at v put b s t a plain no_cr stays = rec
   all = λ e c j h. stands_other_none d deeds known then_known put b c c j j (like_same d j) refl refl (λ r later is. stays r later) h;
   elsewhere = λ p i first c k j apart place there one at_k finding at_c at_j another judged h.
       stands_other_none d deeds known then_known put b c c j j (like_same d j) refl refl (λ r later is. stays r later) h;
-  here = λ p c j x r place there at_j one finding is far on judged h.
-      other_plain d deeds known then_known at v put x b r c j (plain c x is) (λ n later is. stays n later) h;
+  here = search (arith, other_plain);
   asked_so = λ x number is. absurd (no_cr x is);
   others = λ x is c j h. absurd (no_cr x is);
   moves = λ x is j h. absurd (no_cr x is);

@@ -1,19 +1,10 @@
 -- Steps of an end of class 2 and of a tap leave all its connections standing, as long as nobody breaks a rule.
 -- For the session of each connection of an end.
-use Rattle.std.proofs.Common.{arith, ◌≡◌, ◌≢◌, sym, subst, ℕ, ◌^◌, ◌<◌, Bool, true, false, List, [], ◌++◌, length, Some}
-use Rattle.std.specs.Prelude.{slice_get}
-use Rattle.osi_tpdu.specs.Value.{Value}
-use Rattle.osi_class.specs.declared.terms.Class.TheVariants.{Zero}
-use Rattle.osi_judge.specs.Captures.{other}
-use Rattle.osi_judge.specs.declared.directions.Direction.{Direction}
-use Rattle.osi_rules.specs.Traffic.{class_for, is_stopped, takes}
-use Rattle.osi_honest.specs.Courses.{Course, Deeds, then_did}
-use Rattle.osi_honest.specs.Turns.{Turn}
-use Rattle.osi_tap.specs.Connections.{Joined, spoken}
-use Rattle.osi_tap.specs.Courses.{Course as Passed, way_of}
-use Rattle.osi_tap.specs.Lines.{heard}
-use Rattle.osi_watched.specs.Joint.{Joint, Steps, TakesTurn, begins_other, begins_own, passes_own}
-use Rattle.osi_watched.specs.Shown.{calls_from}
+use Rattle.osi_watched.proofs.Vocabulary.{arith, ◌≡◌, ◌≢◌, sym, subst, ℕ, ◌^◌, ◌<◌, Bool, true, false, [], ◌++◌, length, Some, slice_get}
+use Rattle.osi_watched.proofs.Vocabulary.{Value, Zero, other, Direction, class_for, is_stopped, takes, Deeds, then_did, Turn, Joined}
+use Rattle.osi_watched.proofs.Vocabulary.{spoken, way_of, heard, Joint, Steps, TakesTurn, begins_other, begins_own, passes_own, calls_from}
+use Rattle.osi_honest.specs.Courses.{Course}
+use Rattle.osi_tap.specs.Courses.{Course as Passed}
 use Rattle.osi_watched.proofs.the_first_break_is_not_of_an_end.{IsNoBreak}
 use Rattle.osi_watched.proofs.sessions.a_right_dt_has_one_place.{AreUsedApart}
 use Rattle.osi_watched.proofs.sessions.a_turn_leaves_all_standing.{Turns, all_turn}
@@ -65,10 +56,4 @@ module _ (d : Direction) (deeds : ℕ → Deeds) (known : Known) where
       let after : ℕ → Deeds = λ r. then_did (deeds r) (more r) in
       let all : AllStand d after then_known (old.put ++ step.units) old.begun old.course.traffic old.course.sessions =
       all_turn d deeds more known then_known old.put step.units old.begun old.course.traffic old.course.sessions some turns h.all in
-      record {
-        all = subst (λ (l : List Value). AllStand d after then_known l new.begun new.course.traffic new.course.sessions) (sym step.put)
-            (subst (λ (b : Bool). AllStand d after then_known (old.put ++ step.units) b new.course.traffic new.course.sessions)
-            (sym step.begun)
-            (subst (λ (c : Passed). AllStand d after then_known (old.put ++ step.units) old.begun c.traffic c.sessions)
-            (sym step.course) all));
-      }
+      grind arith

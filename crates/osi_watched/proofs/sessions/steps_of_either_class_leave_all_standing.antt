@@ -1,21 +1,10 @@
 -- A unit of an end, of either class, leaves all its connections standing at a tap, if it is no break; and nobody of the end is to blame
 -- while they stand. For the session of each connection of an end.
-use Rattle.std.proofs.Common.{arith}
-use Rattle.std.proofs.Common.{◌≡◌, sym, subst, ℕ, Bool, true, false, List, ◌∷◌, Option, Some}
-use Rattle.osi_tpdu.specs.Value.{Value}
-use Rattle.osi_class.specs.declared.terms.Class.{Class}
-use Rattle.osi_class.specs.declared.terms.Class.TheVariants.{Zero}
-use Rattle.osi_judge.specs.declared.directions.Direction.{Direction}
-use Rattle.osi_judge.proofs.honest.a_call_is_explained.{AsSent}
-use Rattle.osi_judge.proofs.honest.an_honest_run_stays_in_the_profile.{AsParts}
-use Rattle.osi_judge.proofs.honest.an_honest_side_is_kept.{CalledLaw, CallerLaw}
-use Rattle.osi_rules.specs.Traffic.{State, class_for, is_stopped, takes}
-use Rattle.osi_stack.specs.State.{End}
-use Rattle.osi_honest.specs.Courses.{Course, Deeds}
-use Rattle.osi_tap.specs.Connections.{Sessions}
-use Rattle.osi_tap.specs.Courses.{Course as Passed, unit_passes, way_of}
-use Rattle.osi_watched.specs.Joint.{Joint, Steps, passes_own}
-use Rattle.osi_watched.specs.Shown.{calls_from}
+use Rattle.osi_watched.proofs.Vocabulary.{arith, ◌≡◌, sym, subst, ℕ, Bool, true, false, List, ◌∷◌, Option, Some, Value, Class, Zero}
+use Rattle.osi_watched.proofs.Vocabulary.{Direction, AsSent, AsParts, CalledLaw, CallerLaw, State, class_for, is_stopped, takes, End, Deeds}
+use Rattle.osi_watched.proofs.Vocabulary.{Sessions, unit_passes, way_of, Joint, Steps, passes_own, calls_from}
+use Rattle.osi_honest.specs.Courses.{Course}
+use Rattle.osi_tap.specs.Courses.{Course as Passed}
 use Rattle.osi_watched.proofs.the_first_break_is_not_of_an_end.{IsNoBreak}
 use Rattle.osi_watched.proofs.what_a_taker_passes_over.{IsMild}
 use Rattle.osi_watched.proofs.sessions.a_dt_of_class_0_leaves_all_standing as zero
@@ -65,8 +54,7 @@ pub any_passes_own : (d : Direction) (deeds : ℕ → Deeds) (known : Known) (at
 any_passes_own d deeds known at v old new step sure right ready h =
     subst (Standing d deeds known) (sym step.4) (record {
       all = own_stands d deeds known at v new.put old.course sure right ready
-          (subst (λ (l : List Value). AllStand d deeds known l true old.course.traffic old.course.sessions) step.2
-          (subst (λ (b : Bool). AllStand d deeds known old.put b old.course.traffic old.course.sessions) step.3 h.all));
+          (grind arith);
     })
 
 -- ---- nobody is to blame

@@ -48,8 +48,7 @@ begins_shut d e is_live coming s t h = record {
       let (y, so, same) = map_of (packet_begins e) t.live i j here in
       let was = ap is_closing (sym (open_begun (other d) e x))
       ∙ ap (λ (z : Connection). is_closing (own (way_of (other d)) z).phase) (sym is) ∙ closing in
-      let k = h.each i x y at so (begun_judged e x c true is judged) was in
-      record { r = k.r; named = ap (reference_of d) same ∙ named_begun d e y ∙ k.named; dr = k.dr };
+      grind (arith, h.each i x y at so (begun_judged e x c true is judged) was, begun_judged e x c true is judged, named_begun d e y);
 }
 
 -- ---- a unit passes
@@ -58,12 +57,6 @@ begins_shut d e is_live coming s t h = record {
 grown : (d : Direction) (is_live : ℕ → Bool) (coming more : List Value) (j k : Joined) → reference_of d k ≡ reference_of d j →
     IsShutAt d is_live coming j → IsShutAt d is_live (coming ++ more) k
 grown d is_live coming more j k same h = grind (arith, dr_more)
-
-asked_open : (d : Direction) (x : Connect) → is_closing (own (way_of (other d)) (asked_by x)).phase ≡ false
-asked_open d x = grind arith
-
-differ : {A : Type 0} (b : Bool) → b ≡ true → b ≡ false → A
-differ b h k = absurd (cc)
 
 -- the half of the other side, after a unit of the end
 theirs_after : (d : Direction) (v : Value) (b : Bool) (r : Reach) (c : Connection) →
@@ -232,10 +225,5 @@ pub turn_shut : (d : Direction) (is_live then_live : ℕ → Bool) (coming then_
     AreShut d then_live then_coming s t
 turn_shut d is_live then_live coming then_coming s t on h = record {
   each = λ i c j there here judged closing.
-      let k = h.each i c j there here judged closing in
-      record {
-        r = k.r;
-        named = k.named;
-        dr = λ live. let (was, stays) = on i c j k.r there here judged closing k.named live in stays (k.dr was);
-      };
+      grind (arith, h.each i c j there here judged closing);
 }

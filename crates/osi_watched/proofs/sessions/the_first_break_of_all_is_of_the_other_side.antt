@@ -1,17 +1,14 @@
 -- If in each moment before a break of the other side's transport nobody of this side is to blame, the first break of all, of transport
 -- and of sessions, is of the other side.
 -- For the law that no session of an end is blamed first.
-use Rattle.std.proofs.Common.{arith}
 use Rattle.osi_watched.proofs.Vocabulary.{[], Bool, if◌then◌else◌, inl, inr, List, None, Option, refl, Some, subst, sym, true, ℕ, ◌++◌, ◌∷◌}
 use Rattle.osi_watched.proofs.Vocabulary.{◌≡◌, ◌⊎◌, AllByRecursion, Value, stops_last, Outcome, takes, Finding, Told, other, Direction}
 use Rattle.osi_watched.proofs.Vocabulary.{Left, Right, marked_past, noted_past, AreSpotless, BreaksFirst, IsBreakOf, IsFirstOf, IsQuiet}
 use Rattle.osi_watched.proofs.Vocabulary.{IsToBlame, of_session, of_transport, Sessions, taken, cause_of, is_break, kind_of, mark_by}
 use Rattle.osi_watched.proofs.Vocabulary.{marked, Moment, moment_of, moved, number_at, unit_passes, unread, unread_mark, unread_moment}
-use Rattle.osi_watched.proofs.Vocabulary.{way_of, Cause, First, Mark}
+use Rattle.osi_watched.proofs.Vocabulary.{way_of, Cause, First, Mark, arith, Course, differ}
 use Rattle.osi_rules.specs.Traffic as traffic
 use Rattle.osi_tap.specs.declared.marks.Cause.TheVariants as cause
-use Rattle.osi_tap.specs.Courses.{Course}
-use Rattle.osi_fair.proofs.small_facts_that_many_lemmas_use.{differ}
 use Rattle.osi_watched.proofs.the_first_break_is_not_of_an_end.{IsNoBreak}
 use Rattle.osi_watched.proofs.what_a_unit_leaves_at_a_tap.{IsJudged, unread_over}
 use Rattle.osi_watched.proofs.what_passes_keeps_a_claim.{IsClaim}
@@ -198,9 +195,7 @@ silent_claim d = record {
   begins = λ e c h. record { silenced = begins_silenced d e c h.silenced; clean = h.clean };
   passes = λ e at v c h. record {
     silenced = unit_silenced d e at v c h.silenced;
-    clean = unit_clean e at v c d
-        (subst (λ (x : Outcome). IsNoBreak x.told.finding) (sym (stops_last (way_of e) v c.traffic (grind arith))) tt)
-        (unit_silenced d e at v c h.silenced).none h.clean;
+    clean = grind (arith, unit_clean, stops_last (way_of e) v c.traffic (grind arith), unit_silenced d e at v c h.silenced);
   };
   bad = λ e at k c h. subst (IsSilent d) (sym (unread_over e at k c h.silenced.over)) h;
 }

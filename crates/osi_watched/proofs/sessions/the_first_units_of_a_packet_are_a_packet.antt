@@ -1,9 +1,6 @@
 -- The units of a packet before one of them are units of another packet. For what passes before a break amid a packet.
-use Rattle.std.proofs.Common.{arith}
-use Rattle.osi_watched.proofs.Vocabulary.{[], List, Ok, refl, subst, ℕ, ◌++◌, ◌∷◌, ◌≡◌, AllByRecursion, octets_append, octets_left}
-use Rattle.osi_watched.proofs.Vocabulary.{octets_right, IsOctets, units_found, units_of, Value}
-use Rattle.osi_tpdu.proofs.the_units_of_a_packet.{units_only}
-use Rattle.osi_tpdu.specs.Packet.{AreUnits}
+use Rattle.osi_watched.proofs.Vocabulary.{[], List, Ok, subst, ℕ, ◌++◌, ◌∷◌, ◌≡◌, AllByRecursion, octets_append, octets_left, octets_right}
+use Rattle.osi_watched.proofs.Vocabulary.{IsOctets, units_found, units_of, Value, arith, units_only, AreUnits}
 use Rattle.osi_watched.proofs.sessions.an_end_of_class_0_has_its_connection_open.{MayBeFollowed}
 
 pub record LeadsOff (units : List Value) : Type 0 where
@@ -17,12 +14,11 @@ leads_by : (v : Value) (front : List Value) (x : Value) (back : List Value) (pac
 leads_by v [] x back packet (may, a, b, is, spells, more) octets = search (arith, octets_left)
 leads_by v (w ∷ front) x back packet (may, a, b, is, spells, more) octets =
     let rest = leads_by w front x back b more (octets_right a b (subst IsOctets is octets)) in
-    record {
-      packet = a ++ rest.packet;
-      octets = octets_append a rest.packet (octets_left a b (subst IsOctets is octets)) rest.octets;
-      are = (may, a, rest.packet, refl, spells, rest.are);
-      followed = (may, rest.followed);
-    }
+    search (
+      arith,
+      octets_append a rest.packet (octets_left a b (subst IsOctets is octets)) rest.octets,
+      octets_left a b (subst IsOctets is octets),
+    )
 
 pub leads_off : (v : Value) (front : List Value) (x : Value) (back : List Value) (packet : List ℕ) → IsOctets packet →
     units_of packet ≡ Ok ((v ∷ front) ++ x ∷ back) → LeadsOff (v ∷ front)

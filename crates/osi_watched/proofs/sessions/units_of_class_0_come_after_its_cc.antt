@@ -1,10 +1,9 @@
 -- What comes to a calling end that gets class 0 is in order: before the CC nothing for a connection, and no CC after it. So the end takes
 -- no DT before its connection opens. For the session of the connection of an end in class 0.
-use Rattle.std.proofs.Common.{arith}
-use Rattle.osi_watched.proofs.Vocabulary.{[], ap, append_assoc, List, refl, Some, subst, sym, true, ℕ, ◌++◌, ◌∙◌, ◌∷◌, ◌≡◌, append-nil}
+use Rattle.osi_watched.proofs.Vocabulary.{[], append_assoc, List, refl, Some, subst, sym, true, ℕ, ◌++◌, ◌∙◌, ◌∷◌, ◌≡◌, append-nil}
 use Rattle.osi_watched.proofs.Vocabulary.{AllByRecursion, acknowledge, confirm, Connect, data0, data2, disconnect, disconnected, error}
 use Rattle.osi_watched.proofs.Vocabulary.{request, Value, early, Time as Stage, all_units_more, Opens, all_units, Marked, picked_join}
-use Rattle.osi_watched.proofs.Vocabulary.{picked_rest}
+use Rattle.osi_watched.proofs.Vocabulary.{picked_rest, arith}
 use Rattle.osi_watched.proofs.small_facts_that_many_lemmas_use.{all_join as all_of_both, none_first}
 use Rattle.osi_watched.proofs.sessions.what_a_turn_puts_goes_to_its_peer.{all_back, one_of}
 use Rattle.osi_watched.proofs.sessions.what_an_end_takes_at_each_stage.{AreCalm, EndsEarly, opens_next, opens_not}
@@ -132,7 +131,5 @@ order_calm r t took others h awaits front back parts ends = by back parts ends
         ∙ before_cc r (all_units front ++ a.front) a.rest a.n a.x (subst InOrder all h))
     by _ is (opens_next peer unit rest o) =
         let units : all_units took ++ others ≡ all_units front ++ unit ∷ (all_units rest ++ others) =
-        ap (λ (l : List Marked). all_units l ++ others) is
-        ∙ ap (λ (l : List Value). l ++ others) (all_units_more front ((0, unit) ∷ rest))
-        ∙ append_assoc (all_units front) (unit ∷ all_units rest) others in
+        grind (arith, all_units_more, append_assoc) in
         before_opening r peer unit (all_units front) (all_units rest ++ others) o (subst InOrder units h)

@@ -1,11 +1,10 @@
 -- Among units that are written alike, and can be written, are the same CCs: for the same references of both sides, and of the same class.
 -- So what is known of the CCs that a whole end has put holds of those of its joint.
 -- For all connections of a called end and a tap.
-use Rattle.osi_watched.proofs.Vocabulary.{[], ap, arith, if◌then◌else◌, inl, inr, List, map, None, Option, refl, Some, subst, sym, true, ℕ}
-use Rattle.osi_watched.proofs.Vocabulary.{◌*◌, ◌++◌, ◌+◌, ◌/◌, ◌<◌, ◌==◌, ◌∙◌, ◌∷◌, ◌≡◌, ◌⊎◌, AllByRecursion, acknowledge, confirm, Connect}
+use Rattle.osi_watched.proofs.Vocabulary.{[], arith, if◌then◌else◌, inl, inr, List, map, None, Option, refl, Some, subst, sym, true, ℕ, ◌*◌}
+use Rattle.osi_watched.proofs.Vocabulary.{◌++◌, ◌+◌, ◌/◌, ◌<◌, ◌==◌, ◌∙◌, ◌∷◌, ◌≡◌, ◌⊎◌, AllByRecursion, acknowledge, confirm, Connect}
 use Rattle.osi_watched.proofs.Vocabulary.{data0, data2, disconnect, disconnected, error, request, Value, written, CanBeWritten, AreAbove}
-use Rattle.osi_watched.proofs.Vocabulary.{picked_rest}
-use Rattle.osi_fair.proofs.small_facts_that_many_lemmas_use.{is_false}
+use Rattle.osi_watched.proofs.Vocabulary.{picked_rest, is_false}
 use Rattle.osi_watched.proofs.sessions.units_written_alike_are_for_the_same.{for_octets, for_written}
 use Rattle.osi_watched.proofs.sessions.what_stands_of_a_connection.{is_for, waiting_for}
 
@@ -132,7 +131,6 @@ two_by [] [] e a b h = tt
 two_by [] (v ∷ vs) e a b h = absurd (cc)
 two_by (u ∷ us) [] e a b h = absurd (cc)
 two_by (u ∷ us) (v ∷ vs) e a b h =
-    let one : written u ≡ written v = cc in
     let more : map written us ≡ map written vs = cc in
     (two_fields u v (grind (arith, fields_written)) h.0, two_by us vs more a.1 b.1 h.1)
 
@@ -148,9 +146,7 @@ ordered_by (u ∷ us) [] e a b h = absurd (cc)
 ordered_by (u ∷ us) (v ∷ vs) e a b h =
     let one : written u ≡ written v = cc in
     let more : map written us ≡ map written vs = cc in (
-      λ n r mine has.
-          h.0 n r (for_written (Some n) u a.0 ∙ ap (for_octets (Some n)) one ∙ sym (for_written (Some n) v b.0) ∙ mine)
-          (has_by n r vs us (sym more) b.1 a.1 has),
+      grind (arith, for_written, for_octets, has_by),
       ordered_by us vs more a.1 b.1 h.1,
     )
 
@@ -177,11 +173,7 @@ split_by (u ∷ us) (x ∷ xs) ys e a b =
       front = u ∷ s.front;
       back = s.back;
       is = λ i. u ∷ s.is i;
-      like_front = record {
-        same = λ i. one i ∷ s.like_front.same i;
-        can = (a.0, s.like_front.can);
-        can_too = (b.0, s.like_front.can_too);
-      };
+      like_front = grind arith;
       like_back = s.like_back;
     }
 

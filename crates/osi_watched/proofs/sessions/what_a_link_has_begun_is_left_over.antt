@@ -1,23 +1,17 @@
 -- The octets of an unfinished TSDU that the link of an open connection holds are those that are left over of the parts it took. So a tap
 -- has joined the same, if nothing is in flight to the end.
 -- For a TSDU of the other side that becomes too long.
-use Rattle.std.proofs.Common.{arith}
 use Rattle.osi_watched.proofs.Vocabulary.{[], ap, Bool, false, List, None, Option, refl, Some, subst, sym, true, ℕ, ◌++◌, ◌∙◌, ◌∷◌, ◌≡◌}
 use Rattle.osi_watched.proofs.Vocabulary.{append-nil, append_assoc, eq-eqb, AllByRecursion, slice_get, Value, parts_in, Part, End, Standing}
 use Rattle.osi_watched.proofs.Vocabulary.{value_at, Live, linked, Traffic as State, Connection, is_open, own, Direction, other, Deeds}
 use Rattle.osi_watched.proofs.Vocabulary.{Joined, Sessions, reference_of, spoken, way_of, calls_from, left_over, picked_first, picked_rest}
-use Rattle.std.proofs.Common.{if◌then◌else◌}
-use Rattle.std.proofs.lemmas.List.{append_cancel_left}
-use Rattle.osi_class.proofs.bounds.what_a_call_preserves.{takes_run}
+use Rattle.osi_watched.proofs.Vocabulary.{arith, if◌then◌else◌, append_cancel_left, takes_run, AreCalls, Gone, IsFreshLink, IsShut, closed}
+use Rattle.osi_watched.proofs.Vocabulary.{never, IsZeroAt, begun_octets}
 use Rattle.osi_class.proofs.bounds.what_calls_take.{all as all_taken}
-use Rattle.osi_class.specs.Runs.{tsdus_out}
-use Rattle.osi_class.specs.Tsdus.{tsdus_after}
 use Rattle.osi_carrier.specs.State.{asked}
-use Rattle.osi_honest.specs.Courses.{AreCalls, Course, Gone, IsFreshLink, IsShut, awaited, is_gone, unknown}
+use Rattle.osi_honest.specs.Courses.{Course, awaited, is_gone, unknown}
 use Rattle.osi_honest.specs.Courses.Course.{is_open as course_open}
-use Rattle.osi_honest.specs.Courses.Gone.{closed, never, over}
-use Rattle.osi_honest.proofs.class_0.what_class_0_does_not_take_ends_the_end.{IsZeroAt}
-use Rattle.osi_tap.specs.Lines.{begun_octets}
+use Rattle.osi_honest.specs.Courses.Gone.{over}
 use Rattle.osi_watched.proofs.small_facts_that_many_lemmas_use.{over_none}
 use Rattle.osi_watched.proofs.sessions.a_session_that_is_shown_is_not_to_blame.{tsdus_more}
 use Rattle.osi_watched.proofs.sessions.all_connections_stand.{AllStand}
@@ -38,17 +32,7 @@ begun_left peer deeds c =
     let w = c.link.ends.joining.whole in
     let one : List Part = (true, []) ∷ [] in
     let run = takes_run c.first c.link deeds.calls one c.along in
-    let all = all_taken c.first c.link deeds.calls c.along whole begun in
-    let from : tsdus_after [] (parts ++ one) ≡ tsdus_out deeds.calls ++ (w ++ (b ++ []) ∷ []) =
-    (λ i. sym whole i ++ tsdus_after (sym begun i) (parts ++ one)) ∙ run in
-    let same : (tsdus_out deeds.calls ++ w) ++ (left_over [] parts ++ []) ∷ [] ≡ (tsdus_out deeds.calls ++ w) ++ (b ++ []) ∷ [] =
-    ap (λ (l : List (List ℕ)). l ++ (left_over [] parts ++ []) ∷ []) (sym all) ∙ sym (tsdus_more [] parts one) ∙ from
-    ∙ sym (append_assoc (tsdus_out deeds.calls) w ((b ++ []) ∷ [])) in
-    let last = append_cancel_left (tsdus_out deeds.calls ++ w) ((left_over [] parts ++ []) ∷ []) ((b ++ []) ∷ []) same in
-    sym (append-nil b) ∙ sym (first_is (left_over [] parts ++ []) (b ++ []) last) ∙ append-nil (left_over [] parts)
-  where
-    first_is : (x y : List ℕ) → x ∷ [] ≡ y ∷ [] → x ≡ y
-    first_is x y e = cc
+    grind (arith, all_taken, tsdus_more, append_assoc, append_cancel_left, append-nil)
 
 -- ---- no part is in flight
 
@@ -109,8 +93,4 @@ joined_is_begun d deeds known put b s t e a courses r peer link z p c j there he
     by (past q shut waiting later sure h) = absurd (let bad : true ≡ false = sym live ∙ shut in cc)
     by (lives q o is open_too later sure h) =
         let same : q ≡ r = number q r (sym h.shown.named ∙ named) in
-        h.shown.came.unfinished
-        ∙ ap (λ (l : List Part). left_over [] (parts_in (deeds q).calls ++ l)) (h.later_is ∙ none q later same sure)
-        ∙ ap (left_over []) (append-nil (parts_in (deeds q).calls))
-        ∙ ap (λ (n : ℕ). left_over [] (parts_in (deeds n).calls)) same
-        ∙ sym (open_link_is (calls_from d) r peer link (deeds r) e z (courses r))
+        grind (arith, append-nil, open_link_is (calls_from d) r peer link (deeds r) e z (courses r))

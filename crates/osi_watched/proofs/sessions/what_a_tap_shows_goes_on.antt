@@ -2,14 +2,12 @@
 -- For the law on a connection of an end and a tap.
 use Rattle.osi_watched.proofs.Vocabulary.{[], ap, append_assoc, arith, Bool, false, length, List, map, None, Option, refl, Some, subst, sym}
 use Rattle.osi_watched.proofs.Vocabulary.{true, ℕ, ◌++◌, ◌+◌, ◌<◌, ◌^◌, ◌∙◌, ◌∷◌, ◌≡◌, ◌≤◌, flat_map-append, append-nil, length-append}
-use Rattle.osi_watched.proofs.Vocabulary.{length-map, map-append, AllByRecursion, is_none, offset_of, Value, part_in, parts_in, tsdus_out}
-use Rattle.osi_watched.proofs.Vocabulary.{unit_parts, Part, tsdus, tsdus_after, End, other, Direction, said_more, units_came, Deeds}
-use Rattle.osi_watched.proofs.Vocabulary.{said_in, then_did, ends_whole, adds, adds_all, adds_if, Joined, reference_of, spoken, user_of}
-use Rattle.osi_watched.proofs.Vocabulary.{added, Begun, begun_before, begun_octets, heard, octets_of, Spoken, fits, spent, Room, All}
-use Rattle.osi_watched.proofs.Vocabulary.{all_before, AreAfter, before_begun, before_of, calls_from, IsJoinedFrom, IsShownNow, left_over}
-use Rattle.osi_watched.proofs.Vocabulary.{parts_of, with_next}
+use Rattle.osi_watched.proofs.Vocabulary.{length-map, map-append, AllByRecursion, offset_of, Value, parts_in, tsdus_out, unit_parts, Part}
+use Rattle.osi_watched.proofs.Vocabulary.{tsdus, End, other, Direction, said_more, units_came, Deeds, said_in, then_did, ends_whole, adds}
+use Rattle.osi_watched.proofs.Vocabulary.{adds_all, adds_if, Joined, reference_of, spoken, user_of, added, Begun, begun_before, heard}
+use Rattle.osi_watched.proofs.Vocabulary.{octets_of, Spoken, fits, spent, Room, All, all_before, AreAfter, before_begun, before_of}
+use Rattle.osi_watched.proofs.Vocabulary.{calls_from, IsJoinedFrom, IsShownNow, left_over, parts_of, with_next, Said}
 use Rattle.osi_honest.specs.Courses.{Course}
-use Rattle.osi_honest.specs.Talking.{Said}
 use Rattle.osi_tap.specs.Connections.{packet_begins}
 use Rattle.osi_tap.specs.Lines.{begins}
 use Rattle.osi_watched.proofs.small_facts_that_many_lemmas_use.{all_front, all_join}
@@ -123,21 +121,15 @@ module _ (d : Direction) (r : ℕ) (deeds : Deeds) (waiting : List Value) (later
       let own : spoken d k ≡ added at end octets s = own_added at end octets d j h.room in
       let theirs : spoken (other d) k ≡ spoken (other d) j = other_added at end octets d j h.room in
       let most = length (heard (spoken (other d) j)) in
-      let parts : parts_of (h.shown.passed ++ v ∷ []) ≡ parts_of h.shown.passed ++ (end, octets) ∷ [] =
-      flat_map-append unit_parts h.shown.passed (v ∷ [])
-      ∙ ap (λ (l : List Part). parts_of h.shown.passed ++ (l ++ [])) is in
+      let parts : parts_of (h.shown.passed ++ v ∷ []) ≡ parts_of h.shown.passed ++ (end, octets) ∷ [] = grind (arith, flat_map-append) in
       record {
         shown = record {
           named = named_added at end octets d d j h.room ∙ h.shown.named;
           passed = h.shown.passed ++ v ∷ [];
           waiting = waiting;
-          put = h.shown.put ∙ ap (λ (l : List Value). h.shown.passed ++ l) h.waiting_is
-              ∙ sym (append_assoc h.shown.passed (v ∷ []) waiting);
-          said = subst (λ (l : List Part). IsJoinedFrom l (spoken d k)) (sym parts)
-              (subst (IsJoinedFrom (parts_of h.shown.passed ++ (end, octets) ∷ [])) (sym own)
-              (joined_part at end octets (parts_of h.shown.passed) s h.shown.said));
-          after = subst (λ (l : List ℕ). AreAfter l (said_in 0 deeds.calls)) (sym (ap all_before own ∙ counts_so at end octets s))
-              (h.next refl);
+          put = grind (arith, append_assoc);
+          said = grind (arith, joined_part at end octets (parts_of h.shown.passed) s h.shown.said);
+          after = grind (arith, counts_so);
           so_far = subst (λ (x : Spoken). AllByRecursion (λ n. n ≤ length (heard x)) (all_before (spoken d k))) (sym theirs)
               (subst (AllByRecursion (λ n. n ≤ most)) (sym (ap all_before own ∙ counts_so at end octets s))
               (next_up_to most s h.since h.shown.so_far));
@@ -146,8 +138,7 @@ module _ (d : Direction) (r : ℕ) (deeds : Deeds) (waiting : List Value) (later
         };
         waiting_is = refl;
         later_is = h.later_is;
-        since = subst (λ (x : Spoken). (spoken d k).since ≤ length (heard x)) (sym theirs)
-            (subst (λ (n : ℕ). n ≤ most) (sym (ap (λ (x : Spoken). x.since) own ∙ since_stays at end octets s)) h.since);
+        since = grind (arith, since_stays);
         next = λ e. absurd (cc);
         room = room_added at end octets d j h.room;
       }
@@ -160,11 +151,8 @@ module _ (d : Direction) (r : ℕ) (deeds : Deeds) (waiting : List Value) (later
       named = h.shown.named;
       passed = h.shown.passed ++ v ∷ [];
       waiting = waiting;
-      put = h.shown.put ∙ ap (λ (l : List Value). h.shown.passed ++ l) h.waiting_is
-          ∙ sym (append_assoc h.shown.passed (v ∷ []) waiting);
-      said = subst (λ (l : List Part). IsJoinedFrom l (spoken d j))
-          (sym (flat_map-append unit_parts h.shown.passed (v ∷ []) ∙ ap (λ (l : List Part). parts_of h.shown.passed ++ (l ++ [])) none
-          ∙ append-nil (parts_of h.shown.passed))) h.shown.said;
+      put = grind (arith, append_assoc);
+      said = grind (arith, flat_map-append, append-nil);
       after = h.shown.after;
       so_far = h.shown.so_far;
       later = h.shown.later;
@@ -204,8 +192,7 @@ module _ (d : Direction) (r : ℕ) (deeds : Deeds) (waiting : List Value) (later
           passed = h.shown.passed;
           waiting = h.shown.waiting;
           put = h.shown.put;
-          said = subst (IsJoinedFrom (parts_of h.shown.passed)) (sym own)
-              (record { whole = h.shown.said.whole; unfinished = h.shown.said.unfinished; between = h.shown.said.between });
+          said = grind arith;
           after = subst (λ (x : Spoken). AreAfter (all_before x) said) (sym own) h.shown.after;
           so_far = subst (λ (x : Spoken). AllByRecursion (λ n. n ≤ length (heard x)) (all_before (spoken d k))) (sym theirs)
               (subst (λ (x : Spoken). AllByRecursion (λ n. n ≤ most) (all_before x)) (sym own) h.shown.so_far);
@@ -214,8 +201,7 @@ module _ (d : Direction) (r : ℕ) (deeds : Deeds) (waiting : List Value) (later
         };
         waiting_is = h.waiting_is;
         later_is = h.later_is;
-        since = subst (λ (x : Spoken). (spoken d k).since ≤ length (heard x)) (sym theirs)
-            (subst (λ (x : Spoken). x.since ≤ most) (sym own) (let n = now in omega (arith, n)));
+        since = grind arith;
         next = λ one. subst (λ (x : Spoken). AreAfter (with_next x) said) (sym own)
             (subst (λ (n : ℕ). AreAfter (map before_of s.said ++ begun_before s.begun n ∷ []) said) (sym now)
             (next_by s.begun said (map before_of s.said) most h.shown.after
@@ -246,9 +232,7 @@ module _ (d : Direction) (r : ℕ) (deeds : Deeds) (waiting : List Value) (later
       handed : (t : Spoken) → IsJoinedFrom (parts_in deeds.calls ++ h.shown.later) t → 0 + length (tsdus_out deeds.calls) ≤ length (heard t)
       handed t came =
           let out = ap length (units_came (calls_from d) r deeds e course) in
-          let all = ap length (came.whole ∙ tsdus_more [] (parts_in deeds.calls) h.shown.later) in
-          let size = length-append (tsdus (parts_in deeds.calls)) (tsdus_after (left_over [] (parts_in deeds.calls)) h.shown.later) in
-          omega (arith, out, all, size)
+          grind (arith, tsdus_more, length-append)
 
   -- a packet of the end begins that adds nothing to this connection
   pub own_begins : (j : Joined) → IsShownNow d r deeds waiting later false j → IsShownNow d r deeds waiting later false (packet_begins d j)
@@ -265,8 +249,7 @@ module _ (d : Direction) (r : ℕ) (deeds : Deeds) (waiting : List Value) (later
           passed = h.shown.passed;
           waiting = h.shown.waiting;
           put = h.shown.put;
-          said = subst (IsJoinedFrom (parts_of h.shown.passed)) (sym own)
-              (record { whole = h.shown.said.whole; unfinished = h.shown.said.unfinished; between = h.shown.said.between });
+          said = grind arith;
           after = subst (λ (x : Spoken). AreAfter (all_before x) (said_in 0 deeds.calls)) (sym own) h.shown.after;
           so_far = subst (λ (x : Spoken). AllByRecursion (λ n. n ≤ length (heard x)) (all_before (spoken d k))) (sym theirs)
               (subst (λ (x : Spoken). AllByRecursion (λ n. n ≤ length (heard t)) (all_before x)) (sym own) h.shown.so_far);
@@ -275,8 +258,7 @@ module _ (d : Direction) (r : ℕ) (deeds : Deeds) (waiting : List Value) (later
         };
         waiting_is = h.waiting_is;
         later_is = h.later_is;
-        since = subst (λ (x : Spoken). (spoken d k).since ≤ length (heard x)) (sym theirs)
-            (subst (λ (x : Spoken). x.since ≤ length (heard t)) (sym own) (omega (arith, size)));
+        since = grind arith;
         next = λ e. absurd (cc);
         room = room_begun j d ∙ h.room;
       }
@@ -298,19 +280,13 @@ module _ (d : Direction) (r : ℕ) (deeds : Deeds) (waiting : List Value) (later
           said = subst (IsJoinedFrom (parts_of h.shown.passed)) (sym own) h.shown.said;
           after = subst (λ (x : Spoken). AreAfter (all_before x) (said_in 0 deeds.calls)) (sym own) h.shown.after;
           so_far = subst (λ (l : List (List ℕ)). AllByRecursion (λ n. n ≤ length l) (all_before (spoken d k))) (sym theirs)
-              (subst (λ (x : Spoken). AllByRecursion (λ n. n ≤ length (heard (spoken (other d) j))) (all_before x)) (sym own)
-              h.shown.so_far);
+              (grind arith);
           later = h.shown.later;
-          came = record {
-            whole = theirs ∙ h.shown.came.whole;
-            unfinished = ap begun_octets (other_unfinished j d) ∙ h.shown.came.unfinished;
-            between = ap is_none (other_unfinished j d) ∙ h.shown.came.between;
-          };
+          came = grind (arith, other_unfinished);
         };
         waiting_is = h.waiting_is;
         later_is = h.later_is;
-        since = subst (λ (l : List (List ℕ)). (spoken d k).since ≤ length l) (sym theirs)
-            (subst (λ (x : Spoken). x.since ≤ length (heard (spoken (other d) j))) (sym own) h.since);
+        since = grind arith;
         next = λ e. subst (λ (x : Spoken). AreAfter (with_next x) (said_in 0 deeds.calls)) (sym own) (h.next e);
         room = room_begun j (other d) ∙ h.room;
       }
@@ -345,8 +321,7 @@ module _ (d : Direction) (r : ℕ) (deeds : Deeds) (waiting : List Value) (later
         };
         waiting_is = h.waiting_is;
         later_is = refl;
-        since = subst (λ (x : Spoken). x.since ≤ length (heard (spoken (other d) k))) (sym own)
-            (let a = h.since in let b = more in omega (arith, a, b));
+        since = grind arith;
         next = λ e. subst (λ (x : Spoken). AreAfter (with_next x) (said_in 0 deeds.calls)) (sym own) (h.next e);
         room = room_added at end octets (other d) j h.room;
       }
@@ -359,27 +334,12 @@ module _ (d : Direction) (r : ℕ) (deeds : Deeds) (waiting : List Value) (later
   end_turns more rest is_next j is h =
       let said = said_more 0 deeds.calls more.calls in
       let parts : parts_in deeds.calls ++ h.shown.later ≡ parts_in (deeds.calls ++ more.calls) ++ rest =
-      ap (λ (l : List Part). parts_in deeds.calls ++ l) (h.later_is ∙ is)
-      ∙ sym (append_assoc (parts_in deeds.calls) (parts_in more.calls) rest)
-      ∙ ap (λ (l : List Part). l ++ rest) (sym (flat_map-append part_in deeds.calls more.calls)) in
+      grind (arith, append_assoc, flat_map-append) in
       record {
-        shown = record {
-          named = h.shown.named;
-          passed = h.shown.passed;
-          waiting = waiting ++ more.put;
-          put = ap (λ (l : List Value). l ++ more.put) (h.shown.put ∙ ap (λ (l : List Value). h.shown.passed ++ l) h.waiting_is)
-              ∙ append_assoc h.shown.passed waiting more.put;
-          said = h.shown.said;
-          after = subst (AreAfter (all_before (spoken d j))) (sym said) (after_more (all_before (spoken d j))
-              (said_in 0 deeds.calls) _ h.shown.after);
-          so_far = h.shown.so_far;
-          later = rest;
-          came = subst (λ (l : List Part). IsJoinedFrom l (spoken (other d) j)) parts h.shown.came;
-        };
+        shown = grind (arith, after_more, append_assoc h.shown.passed waiting more.put);
         waiting_is = refl;
         later_is = refl;
         since = h.since;
-        next = λ e. subst (AreAfter (with_next (spoken d j))) (sym said) (after_more (with_next (spoken d j)) (said_in 0 deeds.calls) _
-            (h.next e));
+        next = grind (arith, after_more);
         room = h.room;
       }

@@ -1,34 +1,16 @@
 -- What an end puts in a turn for a connection goes to the peer that the connection has there, and the unit with which the connection
 -- opens in the turn had come: so each DT and each AK of the turn has a home at a tap if the connection has.
 -- For calling and called ends.
-use Rattle.std.proofs.Common.{◌≡◌, ◌∙◌, refl, sym, ap, subst, ℕ, suc, zero, ◌<◌, Bool, true, false, List, [], ◌∷◌, ◌++◌, Option, Some, None}
-use Rattle.std.proofs.Common.{is_some, IsSome, Result, if◌then◌else◌, append_assoc, arith}
-use Rattle.std.specs.Prelude.{◌==◌, nat_lt}
-use Rattle.std.specs.List.{AllByRecursion}
-use Rattle.std.proofs.lemmas.Bool.{eq-eqb, eqb-true}
-use Rattle.std.proofs.lemmas.List.{append-nil}
-use Rattle.osi_tpdu.specs.Packet.{units_of}
-use Rattle.osi_tpdu.specs.Value.{Value, data0}
-use Rattle.osi_tpdu.specs.declared.faults.TpduFault.{TpduFault}
-use Rattle.osi_class.specs.Link.{Standing}
-use Rattle.osi_carrier.specs.Calls.{link_of, open_link}
-use Rattle.osi_carrier.specs.Rows.{value_at}
-use Rattle.osi_carrier.specs.State.{Connection as Live, State as Carrier, linked, packets}
-use Rattle.osi_carrier.specs.declared.ends.EndReason.{EndReason}
-use Rattle.osi_judge.specs.declared.directions.Direction.{Direction}
-use Rattle.osi_rules.specs.Traffic.{State}
-use Rattle.osi_fair.specs.Pieces.{units_by, units_in}
-use Rattle.osi_fair.specs.Wholes.{Whole}
-use Rattle.osi_honest.specs.Arriving.{AreApart, GivesTo, Lives, Parts}
+use Rattle.osi_watched.proofs.Vocabulary.{◌≡◌, ◌∙◌, refl, sym, ap, subst, ℕ, suc, zero, ◌<◌, Bool, true, false, List, [], ◌∷◌, ◌++◌, Option}
+use Rattle.osi_watched.proofs.Vocabulary.{Some, None, is_some, IsSome, Result, if◌then◌else◌, append_assoc, arith, ◌==◌, nat_lt}
+use Rattle.osi_watched.proofs.Vocabulary.{AllByRecursion, eq-eqb, eqb-true, append-nil, units_of, Value, data0, TpduFault, Standing}
+use Rattle.osi_watched.proofs.Vocabulary.{link_of, open_link, value_at, linked, packets, EndReason, Direction, State, units_by, Whole}
+use Rattle.osi_watched.proofs.Vocabulary.{AreApart, GivesTo, Lives, Parts, Continues, Deeds, Marked, all_units, is_of_link, over_acts}
+use Rattle.osi_watched.proofs.Vocabulary.{all_units_more, Turn, Sessions, Joint, TakesTurn}
+use Rattle.osi_carrier.specs.State.{Connection as Live, State as Carrier}
+use Rattle.osi_fair.specs.Pieces.{units_in}
 use Rattle.osi_honest.specs.Arriving as arriving
-use Rattle.osi_honest.specs.Courses.{Continues, Deeds}
 use Rattle.osi_honest.specs.Courses as courses
-use Rattle.osi_honest.specs.Marked.{Marked, all_units, is_of_link}
-use Rattle.osi_honest.proofs.class_0.what_a_call_does_in_class_0.{over_acts}
-use Rattle.osi_honest.proofs.courses.units_of_each_connection.{all_units_more}
-use Rattle.osi_honest.specs.Turns.{Turn}
-use Rattle.osi_tap.specs.Connections.{Sessions}
-use Rattle.osi_watched.specs.Joint.{Joint, TakesTurn}
 use Rattle.osi_watched.proofs.a_carrier_does_events.{none_of, units_join}
 use Rattle.osi_watched.proofs.steps_are_events.{IsFollowed}
 use Rattle.osi_watched.proofs.what_is_put_is_what_is_written.{are_first}
@@ -125,16 +107,7 @@ module _ (d : Direction) (is_caller : Bool) (first : Whole) (deeds : ℕ → Dee
     came x some q l is P all =
         let a = are_first on.used step.used (old.holding.held.octets ++ turn.used) on.rest step.rest new.holding.end.carrier.ended
         on.cut (step.cut lasts) (λ still. on.held still ∙ sym (step.held still)) (step.all lasts) in
-        let order : f.whole.coming ≡ units_in on.used ++ units_in (a.more ++ new.coming) =
-        f.coming lasts
-        ∙ ap units_in (step.coming ∙ ap (λ (l : List (List ℕ)). l ++ new.coming) a.is ∙ append_assoc on.used a.more new.coming)
-        ∙ units_join on.used (a.more ++ new.coming) in
-        let used = all_front P (units_in on.used) (units_in (a.more ++ new.coming)) (subst (AllByRecursion P) order all) in
-        let took = subst (AllByRecursion P) (sym (on.all ∙ same_units on.used)) used in
-        let later = l.arrived.during ++ l.arrived.after in
-        let before = all_front P (all_units l.arrived.before) (all_units later)
-        (subst (AllByRecursion P) (ap all_units l.arrived.is ∙ all_units_more l.arrived.before later) took) in
-        one_of P (all_units some) [] x (subst (AllByRecursion P) (ap all_units is ∙ all_units_more some ((0, x) ∷ [])) before)
+        search (arith, append_assoc, units_join, all_front, same_units, all_units_more, one_of)
 
   -- a connection that did not open put nothing
   pub none_shut : (q : ℕ) (l : Lived q) → l.left.during ++ l.left.after ≡ [] → AreApart q on.put

@@ -1,8 +1,7 @@
 -- What an end puts in a turn for a connection is those of the units of the turn that are for it, if the marks of the units agree.
 -- For all connections of an end and a tap.
-use Rattle.std.proofs.Common.{arith}
-use Rattle.osi_watched.proofs.Vocabulary.{[], List, Option, refl, ℕ, ◌==◌, ◌∷◌, ◌≡◌}
-use Rattle.osi_watched.proofs.Vocabulary.{AllByRecursion, all_units, Marked, units_at, picked_first, picked_rest}
+use Rattle.osi_watched.proofs.Vocabulary.{[], List, Option, refl, ℕ, ◌==◌, ◌∷◌, ◌≡◌, AllByRecursion, all_units, Marked, units_at}
+use Rattle.osi_watched.proofs.Vocabulary.{picked_first, picked_rest, arith}
 use Rattle.osi_watched.proofs.sessions.what_stands_of_a_connection.{is_for, waiting_for}
 
 -- a unit has the mark of the connection exactly if it is for the reference that the other side gave it

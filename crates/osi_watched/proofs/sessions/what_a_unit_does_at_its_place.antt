@@ -2,12 +2,12 @@
 -- transport and for what is joined alike.
 -- For all connections of an end and a tap.
 use Rattle.osi_watched.proofs.Vocabulary.{[], ap, arith, Bool, false, if◌then◌else◌, length, None, Option, refl, set, Some, true, ℕ, ◌++◌}
-use Rattle.osi_watched.proofs.Vocabulary.{◌∙◌, ◌∷◌, ◌≡◌, slice_get_past, position, slice_get, offset_of, Connect, request, Value}
-use Rattle.osi_watched.proofs.Vocabulary.{first_true, is_applied, reach_of, first_failed, is_free, is_live, is_named, asked_by, asks_by}
-use Rattle.osi_watched.proofs.Vocabulary.{asks_kept, asks_of, at_found, at_place, class_for, connection_after, found_on, is_stopped}
-use Rattle.osi_watched.proofs.Vocabulary.{meaning_if, meant, none_told, Outcome, request_tests, route, routed, Traffic as State, takes}
-use Rattle.osi_watched.proofs.Vocabulary.{Connection, Finding, Kept, NotJudged, Reach, Route, Asks, Named, Only, Unnamed, Direction, asked}
-use Rattle.osi_watched.proofs.Vocabulary.{changed, count, Joined, placed, Sessions, taken, way_of, first_there, HaveSamePlaces, IsOneOf}
+use Rattle.osi_watched.proofs.Vocabulary.{◌∷◌, ◌≡◌, slice_get_past, position, slice_get, offset_of, Connect, request, Value, first_true}
+use Rattle.osi_watched.proofs.Vocabulary.{is_applied, reach_of, first_failed, is_free, is_live, is_named, asked_by, asks_by, asks_kept}
+use Rattle.osi_watched.proofs.Vocabulary.{asks_of, at_found, at_place, class_for, connection_after, found_on, is_stopped, meaning_if, meant}
+use Rattle.osi_watched.proofs.Vocabulary.{none_told, Outcome, request_tests, route, routed, Traffic as State, takes, Connection, Finding}
+use Rattle.osi_watched.proofs.Vocabulary.{Kept, NotJudged, Reach, Route, Asks, Named, Only, Unnamed, Direction, asked, count, Joined}
+use Rattle.osi_watched.proofs.Vocabulary.{placed, Sessions, taken, way_of, first_there, HaveSamePlaces, IsOneOf}
 use Rattle.osi_tap.specs.Connections as joined
 use Rattle.osi_watched.proofs.sessions.connections_have_the_same_places.{as_long, at_same, not_asked}
 
@@ -44,8 +44,7 @@ module _ (d : Direction) (at : ℕ) (v : Value) (s : State) (t : Sessions) (h : 
       let (j, there, one) = at_same s.connections t.live i c h e in
       let b = is_applied (found_on (way_of d) s c v) in
       somewhere i c j b (reach_of (class_for (way_of d) s.course) (found_on (way_of d) s c v)) refl e there one refl refl refl refl
-      (not_asked d at v b i t
-      ∙ ap (λ (o : Option Joined). changed i (joined.meant d at v (meaning_if b (meant v))) t o) there)
+      (grind (arith, not_asked))
 
   does_any : (i : Option ℕ) → Does d at v s t (at_place (way_of d) v s i)
   does_any None = nowhere refl refl refl

@@ -1,9 +1,7 @@
 -- What an end takes in a turn at a connection is the first of what is in flight to it: all that is for it from the time at which it opens.
 -- For all connections of an end and a tap.
-use Rattle.std.proofs.Common.{arith}
 use Rattle.osi_watched.proofs.Vocabulary.{[], List, refl, Some, ℕ, ◌++◌, ◌∙◌, ◌∷◌, ◌≡◌, append-nil, units_more, TakesAll, all_units, Marked}
-use Rattle.osi_watched.proofs.Vocabulary.{units_at}
-use Rattle.osi_honest.specs.Arriving.{AreApart}
+use Rattle.osi_watched.proofs.Vocabulary.{units_at, arith, AreApart}
 use Rattle.osi_honest.specs.Arriving as arriving
 use Rattle.osi_watched.proofs.sessions.what_a_turn_puts_waits.{Agree, marks_wait}
 use Rattle.osi_watched.proofs.sessions.what_stands_of_a_connection.{waiting_for}

@@ -1,63 +1,30 @@
 -- What has come for a connection of a calling end that has not opened: its CC has passed the tap, or no DT and no AK for it has. So it is
 -- at the beginning, and each step keeps it so, as long as both sides are judged.
 -- For the session of each connection of a calling end.
-use Rattle.std.proofs.Common.{◌≡◌, ◌∙◌, ◌⊎◌, inl, inr, refl, sym, ap, subst, ℕ, ◌<◌, Bool, true, false, List, [], ◌∷◌, ◌++◌, Option, Some}
-use Rattle.std.proofs.Common.{None, length, map, append_assoc, arith}
-use Rattle.std.specs.Prelude.{◌||◌, slice_get}
-use Rattle.std.specs.List.{AllByRecursion}
-use Rattle.std.proofs.lemmas.Bool.{eqb-true, le-leb, lt-ltb}
-use Rattle.std.proofs.lemmas.List.{append-nil}
-use Rattle.std.proofs.lemmas.Option.{slice_get-map}
-use Rattle.osi_tpdu.specs.Packet.{units_of}
-use Rattle.osi_tpdu.specs.Value.{Connect, HasFieldsInRange, Value, acknowledge, confirm, data0, data2, destination_of, disconnect}
-use Rattle.osi_tpdu.specs.Value.{disconnected, error, request}
-use Rattle.osi_tpdu.specs.Writing.{Fits}
-use Rattle.osi_tpdu.proofs.the_units_of_a_packet.{units_fit, units_found}
-use Rattle.osi_class.specs.declared.terms.Class.{Class}
-use Rattle.osi_class.specs.declared.terms.Class.TheVariants.{Zero}
-use Rattle.osi_class.specs.declared.terms.Local.{Local}
-use Rattle.osi_carrier.specs.Rows.{value_at}
+use Rattle.osi_watched.proofs.Vocabulary.{◌≡◌, ◌∙◌, ◌⊎◌, inl, inr, refl, sym, ap, subst, ℕ, ◌<◌, Bool, true, false, List, [], ◌∷◌, ◌++◌}
+use Rattle.osi_watched.proofs.Vocabulary.{Option, Some, None, length, map, append_assoc, arith, ◌||◌, slice_get, AllByRecursion, eqb-true}
+use Rattle.osi_watched.proofs.Vocabulary.{le-leb, lt-ltb, append-nil, slice_get-map, units_of, Connect, HasFieldsInRange, Value}
+use Rattle.osi_watched.proofs.Vocabulary.{acknowledge, confirm, data0, data2, destination_of, disconnect, disconnected, error, request}
+use Rattle.osi_watched.proofs.Vocabulary.{Fits, units_fit, units_found, Local, value_at, Left, Right, Connection, Reach, Half, Phase}
+use Rattle.osi_watched.proofs.Vocabulary.{is_applied, begins, is_closed, is_closing, is_open, is_refused, is_silent, State, asked_by}
+use Rattle.osi_watched.proofs.Vocabulary.{connection_after, found, found_on, judged_on, takes, uses_source, Whole, next_joined}
+use Rattle.osi_watched.proofs.Vocabulary.{before_going, applied_judged, each_sound, Followed, IsAnswer, Tracked, all_so, is_tracked, both}
+use Rattle.osi_watched.proofs.Vocabulary.{left_open, IsIdle, comes_for, HoldsOfEach, after_add, after_map, after_set, Sound, left_then}
+use Rattle.osi_watched.proofs.Vocabulary.{own_stays, right_passes, IsOngoing, is_name, each_picked, names, picked_join, picked_other, those}
+use Rattle.osi_watched.proofs.Vocabulary.{those_join, Continues, Deeds, units_in, units_read, Turn, Life, early, past, stage_at, asked_so}
+use Rattle.osi_watched.proofs.Vocabulary.{has_given, Holding, Joined, Sessions, Course, unit_passes, units_pass, Joint, Steps, TakesTurn}
+use Rattle.osi_watched.proofs.Vocabulary.{begin, begins_other, begins_own, passes_other, passes_own, HaveSamePlaces, IsOneOf, named_by}
 use Rattle.osi_carrier.specs.State.{State as Carrier, asked}
-use Rattle.osi_judge.specs.declared.directions.Direction.TheVariants.{Left, Right}
-use Rattle.osi_rules.specs.declared.connections.Connection.{Connection}
 use Rattle.osi_rules.specs.declared.directions.Direction.{Direction as Way}
 use Rattle.osi_rules.specs.declared.directions.Direction.TheVariants as way
-use Rattle.osi_rules.specs.declared.findings.Finding.TheVariants.{Broke}
-use Rattle.osi_rules.specs.declared.findings.Reach.{Reach}
 use Rattle.osi_rules.specs.declared.findings.Reach.TheVariants as reach
 use Rattle.osi_rules.specs.declared.findings.Rule.TheVariants as rule
-use Rattle.osi_rules.specs.declared.halves.Half.{Half}
-use Rattle.osi_rules.specs.declared.halves.Phase.{Phase}
-use Rattle.osi_rules.specs.Reaches.{is_applied, reach_of}
-use Rattle.osi_rules.specs.Sides.{begins, is_closed, is_closing, is_open, is_refused, is_silent}
-use Rattle.osi_rules.specs.Traffic.{State, asked_by, connection_after, found, found_on, judged_on, takes, uses_source}
 use Rattle.osi_rules.specs.Traffic as traffic
-use Rattle.osi_fair.specs.Naming.{packet}
 use Rattle.osi_fair.specs.Naming.{unit as passing}
-use Rattle.osi_fair.specs.Wholes.{Whole}
 use Rattle.osi_fair.specs.Wholes as wholes
-use Rattle.osi_fair.proofs.a_calling_end_is_fair_in_class_2.{Joined as Follows, next_joined}
-use Rattle.osi_fair.proofs.a_dr_for_what_is_gone.{before_going}
-use Rattle.osi_fair.proofs.a_reference_names_one_connection.{applied_judged}
-use Rattle.osi_fair.proofs.names_stay_apart_though_one_is_lost.{each_sound}
-use Rattle.osi_fair.proofs.each_connection_has_its_line.{Followed, IsAnswer, Tracked, all_so, is_tracked}
-use Rattle.osi_fair.proofs.no_two_open_connections_have_one_peer.{both, differ, left_open}
-use Rattle.osi_fair.proofs.what_becomes_of_a_connection.{IsIdle, Told, comes_for}
-use Rattle.osi_fair.proofs.what_holds_of_one_item.{HoldsOfEach, after_add, after_map, after_set}
-use Rattle.osi_fair.proofs.what_keeps_names_apart.{Sound}
-use Rattle.osi_fair.proofs.what_stays_of_each_connection.{left_then, own_stays, right_passes}
-use Rattle.osi_fair.proofs.what_the_other_side_closes.{IsOngoing, is_name, judged_same}
-use Rattle.osi_fair.proofs.which_units_are_for_a_connection.{each_picked, names, picked_join, picked_other, those, those_join}
-use Rattle.osi_honest.specs.Courses.{Continues, Deeds, units_in, units_read}
-use Rattle.osi_honest.specs.Turns.{Turn}
-use Rattle.osi_honest.proofs.courses.how_long_a_connection_is_open.{Life, early, past, stage_at}
-use Rattle.osi_honest.proofs.courses.the_first_cc_opens_a_connection.{asked_so}
-use Rattle.osi_stack.specs.Calls.{has_given}
-use Rattle.osi_stack.specs.State.{Holding}
-use Rattle.osi_tap.specs.Connections.{Joined, Sessions}
-use Rattle.osi_tap.specs.Courses.{Course, unit_passes, units_pass}
-use Rattle.osi_watched.specs.Joint.{Joint, Steps, TakesTurn, begin, begins_other, begins_own, passes_other, passes_own}
-use Rattle.osi_watched.specs.ShownPlaces.{HaveSamePlaces, IsOneOf, named_by}
+use Rattle.osi_fair.proofs.a_calling_end_is_fair_in_class_2.{Joined as Follows}
+use Rattle.osi_fair.proofs.no_two_open_connections_have_one_peer.{differ}
+use Rattle.osi_fair.proofs.what_becomes_of_a_connection.{Told}
 use Rattle.osi_watched.proofs.a_carrier_does_events.{none_of}
 use Rattle.osi_watched.proofs.steps_are_events.{IsFollowed, own_first}
 use Rattle.osi_watched.proofs.sessions.a_calling_end_hears_what_breaks_no_rule.{AreFine, IsHeardOn, one_plain}
@@ -102,15 +69,8 @@ is_answered w v = IsAnswer w.tap.course.loose w.tap.connections w.end v
 answer_of : (local : Local) (w next : Whole) (more : List Value) → Followed local next → next.coming ≡ w.coming ++ more → (r : ℕ) →
     next.end.ended ≡ None → value_at r next.end.live ≡ Some asked → HasCc r w.coming → Tracked next.tap.connections r
 answer_of local w next more f is r lasts waits a =
-    let all : AllByRecursion (is_answered next) (those r (w.coming ++ more)) =
-    each_picked (is_answered next) (names r) (w.coming ++ more)
-    (all_so (is_answered next) (λ v. names r v ≡ true → is_answered next v) (w.coming ++ more) (λ v h named. h)
-    (subst (AllByRecursion (is_answered next)) is f.answers)) in
-    let some = all_front (is_answered next) (those r w.coming) (those r more)
-    (subst (AllByRecursion (is_answered next)) (those_join r w.coming more) all) in
-    let one = one_of (is_answered next) a.before a.after (confirm r a.confirmed)
-    (subst (AllByRecursion (is_answered next)) a.is some) in
-    (one r a.confirmed refl lasts (inl waits)).0
+    let all : AllByRecursion (is_answered next) (those r (w.coming ++ more)) = grind (arith, each_picked, names, all_so) in
+    grind (arith, all_front, those, those_join, one_of)
 
 given_there : (local : Local) (w : Whole) (r : ℕ) → Follows local w → 0 < r → Tracked w.tap.connections r → has_given r w.end ≡ true
 given_there local w r j some (p, c, at, tracked, same) = search (arith, lt-ltb, le-leb)
@@ -185,9 +145,7 @@ module _ (local : Local) (v : Value) (w : Whole) (rest : List Value) (put : w.pu
   own_shut i c e at there same tracked shut may =
       let (p, x, here, then_tracked, is) = own_still c.left.reference may (i, c, at, tracked, refl) in
       let one : i ≡ p = own_joined.kept.sane.distinct i p e x there here (same ∙ sym is) in
-      let both_there : Some e ≡ Some x = sym there ∙ ap (slice_get own_after.tap.connections) one ∙ here in
-      differ (is_open e.left.phase)
-      (ap (λ (y : Connection). is_open y.left.phase) (some_one e x both_there) ∙ left_open x then_tracked) shut
+      grind (arith, differ, some_one, left_open)
 
   own_by : (i : ℕ) (c : Connection) (k : Joined) (b opened : Bool) (r : Reach) → is_open c.left.phase ≡ opened →
       slice_get w.tap.connections i ≡ Some c → IsOneOf c k → (takes way.Left v w.tap).told.place ≡ Some i →
@@ -257,17 +215,6 @@ for_one r (confirm n x) zero h = absurd (cc h)
 for_one r (disconnect n source reason user) zero h = absurd (cc h)
 for_one r (disconnected n source) zero h = absurd (cc h)
 for_one r (error n cause) zero h = absurd (cc h)
-
--- all judging ends with one whose sender has sent no CC
-unknown_ends : (k : Option Class) → (k ≡ Some Zero → ⊥) → reach_of k (Broke rule.UnknownReference) ≡ reach.Everything
-unknown_ends k two = grind arith
-
-silent_found : (s : State) (c : Connection) → c.is_judged ≡ true → (r : ℕ) (v : Value) → IsForOne r v → is_silent c.right.phase ≡ true →
-    found_on way.Right s c v ≡ Broke rule.UnknownReference
-silent_found s c judged r v h silent = grind (arith, judged_same)
-
-link_goes : (r : ℕ) (v : Value) (s : State) → IsForOne r v → AllGoesOn v Left s → (takes way.Right v s).told.reach ≡ reach.Everything → ⊥
-link_goes r v s h = grind arith
 
 -- right has answered the CR by a CC, and left's DR not
 answered_so : (p : Phase) → is_silent p ≡ false → is_refused p ≡ false → is_closed p ≡ false → (is_open p || is_closing p) ≡ true
@@ -413,14 +360,11 @@ begun_before end coming d s q = grind (arith, after_map, begun_left, waiting_for
 pub begins_own_quiet : (old new : Joint) → Steps Left begins_own old new → AreQuiet old → AreQuiet new
 begins_own_quiet old new (some, none, is) q =
     subst AreQuiet (sym is) (λ clear.
-    begun_before old.holding.end.carrier (units_in old.coming) way.Left old.course.traffic
-    (q (before_going (packet way.Left) old.course.traffic clear)))
+    search (arith, begun_before, before_going))
 
 pub begins_other_quiet : (old new : Joint) → Steps Left begins_other old new → AreQuiet old → AreQuiet new
 begins_other_quiet old new is q =
-    subst AreQuiet (sym is) (λ clear.
-    begun_before old.holding.end.carrier (units_in old.coming) way.Right old.course.traffic
-    (q (before_going (packet way.Right) old.course.traffic clear)))
+    subst AreQuiet (sym is) (search (arith, begun_before, before_going))
 
 module _ (local : Local) (two : local.class2 ≡ true) where
   joint_alike : (j : Joint) (f : IsFollowed Left (first local two) j) (r : ℕ) → MayOpen j.holding.end.carrier r →

@@ -1,13 +1,11 @@
 -- A unit that has no effect joins nothing: it broke a rule, or nothing more is judged, or it is one connection too many.
 -- For the session of each connection of an end, once nothing more is judged.
-use Rattle.std.proofs.Common.{arith}
 use Rattle.osi_watched.proofs.Vocabulary.{ap, false, Option, ℕ, ◌≡◌, slice_get, Connect, Value, is_applied, reach_of, asks_by, at_place}
 use Rattle.osi_watched.proofs.Vocabulary.{class_for, meant, none_told, Outcome, routed, Traffic as State, takes, Finding, TooMany, Route}
-use Rattle.osi_watched.proofs.Vocabulary.{Direction, changed, Joined, Sessions, taken, unit_passes, way_of, set_same}
+use Rattle.osi_watched.proofs.Vocabulary.{Direction, changed, Joined, Sessions, taken, unit_passes, way_of, set_same, arith, Course}
 use Rattle.osi_rules.specs.declared.findings.Meaning.TheVariants as meaning
 use Rattle.osi_rules.specs.declared.findings.Reach.TheVariants as reach
 use Rattle.osi_tap.specs.Connections as joined
-use Rattle.osi_tap.specs.Courses.{Course}
 use Rattle.osi_watched.proofs.sessions.connections_have_the_same_places.{unit_joins}
 
 -- ---- nothing is joined

@@ -5,12 +5,11 @@ use Rattle.osi_watched.proofs.Vocabulary.{confirm, data0, data2, destination_of,
 use Rattle.osi_watched.proofs.Vocabulary.{Two, Zero, is_applied, reach_of, begins, is_named, is_refused, class_for, connection_after, found}
 use Rattle.osi_watched.proofs.Vocabulary.{found_on, is_stopped, judged_on, none_told, has_broken, route, route_in, routed, takes}
 use Rattle.osi_watched.proofs.Vocabulary.{Traffic as State, Connection, Way, Finding, NotJudged, Reach, other, Direction, Left, Right}
-use Rattle.osi_watched.proofs.Vocabulary.{IsToBlame, Joined, way_of, All, IsOneOf}
+use Rattle.osi_watched.proofs.Vocabulary.{IsToBlame, Joined, way_of, All, IsOneOf, Sound}
 use Rattle.osi_rules.specs.declared.directions.Direction.TheVariants as way
 use Rattle.osi_rules.specs.declared.findings.Reach.TheVariants as reach
 use Rattle.osi_rules.specs.Sides as sides
 use Rattle.osi_tap.specs.Connections.{packet_begins}
-use Rattle.osi_fair.proofs.what_keeps_names_apart.{Sound}
 use Rattle.osi_watched.proofs.small_facts_that_many_lemmas_use.{or_first}
 use Rattle.osi_watched.proofs.sessions.a_unit_is_joined_where_it_is_named.{named_there, names_there}
 

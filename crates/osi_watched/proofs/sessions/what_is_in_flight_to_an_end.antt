@@ -1,10 +1,8 @@
 -- The parts of TSDUs that are in flight to an end at one of its connections: as units of the other side pass, and as the end takes some.
 -- For all connections of an end and a tap.
-use Rattle.std.proofs.Common.{arith}
-use Rattle.osi_watched.proofs.Vocabulary.{[], ap, Bool, false, List, refl, Some, sym, true, ℕ, ◌++◌, ◌∙◌, ◌∷◌, ◌≡◌}
-use Rattle.osi_watched.proofs.Vocabulary.{flat_map-append, append-nil, Value, Move, parts_in, take_in, unit_parts, Part, Deeds}
-use Rattle.osi_watched.proofs.Vocabulary.{units_taken, picked_first, picked_join, picked_rest, parts_of}
-use Rattle.osi_watched.proofs.Vocabulary.{give_out, hand_in, hand_out}
+use Rattle.osi_watched.proofs.Vocabulary.{[], ap, Bool, false, List, refl, Some, sym, true, ℕ, ◌++◌, ◌∙◌, ◌∷◌, ◌≡◌, flat_map-append}
+use Rattle.osi_watched.proofs.Vocabulary.{append-nil, Value, Move, parts_in, take_in, unit_parts, Part, Deeds, units_taken, picked_first}
+use Rattle.osi_watched.proofs.Vocabulary.{picked_join, picked_rest, parts_of, give_out, hand_in, hand_out, arith}
 use Rattle.osi_watched.proofs.sessions.what_stands_of_a_connection.{Known, Takes, is_for, waiting_for}
 
 -- for the connection to which the end gave this reference, among the units that have passed and that the end has not used
@@ -37,8 +35,7 @@ takes_none more known later none sure = grind (arith, parts_taken)
 pub flight_same : (is_live : ℕ → Bool) (coming : List Value) (v : Value) (r : ℕ) (later : List Part) → unit_parts v ≡ [] →
     known_of is_live coming r later → known_of is_live (coming ++ v ∷ []) r later
 flight_same is_live coming v r later none sure live =
-    sure live ∙ sym (in_flight_more r coming (v ∷ []) ∙ ap (λ (l : List Part). in_flight r coming ++ l) (by (is_for (Some r) v) refl)
-    ∙ append-nil (in_flight r coming))
+    sure live ∙ sym (grind (arith, in_flight_more r coming (v ∷ []), is_for (Some r) v, append-nil (in_flight r coming)))
   where
     by : (b : Bool) → is_for (Some r) v ≡ b → in_flight r (v ∷ []) ≡ []
     by true e = ap parts_of (picked_first (is_for (Some r)) v [] e) ∙ ap (λ (l : List Part). l ++ []) none

@@ -1,22 +1,14 @@
 -- What a tap with a bound judges of each connection is what a tap without one does, until more has passed than it judges.
 -- For the law on such a tap.
-use Rattle.std.proofs.Common.{arith}
+use Rattle.osi_watched.proofs.Vocabulary.{arith, slice_get, ◌≡◌, refl, ap, ℕ, zero, suc, ◌+◌, Bool, false, if◌then◌else◌, List, [], ◌∷◌}
+use Rattle.osi_watched.proofs.Vocabulary.{◌++◌, length, map, set, Option, Some, None, Meaning, Value, offset_of, Direction, Room, All}
+use Rattle.osi_watched.proofs.Vocabulary.{Octets, Over, Joined, Sessions, adds, adds_all, adds_if, all_begin, asked, changed, count, placed}
+use Rattle.osi_watched.proofs.Vocabulary.{taken, taken_at, number_at, number_of, AreJudgedOf, IsJudgedOf, SessionsOf}
 use Rattle.std.specs.Option.{option_map}
-use Rattle.std.specs.Prelude.{slice_get}
-use Rattle.std.proofs.Common.{◌≡◌, refl, ap, ℕ, zero, suc, ◌+◌, Bool, false, if◌then◌else◌}
-use Rattle.std.proofs.Common.{List, [], ◌∷◌, ◌++◌, length, map, set, Option, Some, None}
-use Rattle.osi_rules.specs.declared.findings.Meaning.{Meaning}
 use Rattle.osi_rules.specs.declared.findings.Meaning.TheVariants as meaning
-use Rattle.osi_tpdu.specs.Value.{Value}
-use Rattle.osi_tpkt.specs.Stream.{offset_of}
-use Rattle.osi_judge.specs.declared.directions.Direction.{Direction}
-use Rattle.osi_tap.specs.declared.rooms.Room.{Room}
-use Rattle.osi_tap.specs.declared.rooms.Room.TheVariants.{All, Octets, Over}
-use Rattle.osi_tap.specs.Connections.{Joined, Sessions, adds, adds_all, adds_if, all_begin, asked, changed, count, meant}
-use Rattle.osi_tap.specs.Connections.{packet_begins, placed, taken, taken_at}
-use Rattle.osi_tap.specs.Courses.{number_at, number_of}
+use Rattle.osi_tap.specs.Connections.{meant}
+use Rattle.osi_tap.specs.Connections.{packet_begins}
 use Rattle.osi_tap.specs.Rooms.{is_over}
-use Rattle.osi_watched.specs.Bounded.{AreJudgedOf, IsJudgedOf, SessionsOf}
 
 -- ---- lists of connections
 

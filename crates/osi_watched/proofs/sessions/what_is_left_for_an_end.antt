@@ -1,12 +1,9 @@
 -- The parts of TSDUs that are left over for an end at one of its connections: all that are in flight, up to the first DR for the
 -- connection, and some of those after it. For a tap joins no DT that its sender sends after its DR.
 -- For all connections of an end and a tap, after breaks of the other side too.
-use Rattle.std.proofs.Common.{arith}
-use Rattle.osi_watched.proofs.Vocabulary.{[], ap, append_assoc, Bool, false, inl, inr, List, refl, Some, sym, true, ℕ, ◌++◌, ◌==◌}
-use Rattle.osi_watched.proofs.Vocabulary.{◌∙◌, ◌∷◌, ◌≡◌, ◌||◌, ◌⊎◌, eq-eqb, append-nil, data2, Value, unit_parts, Part, parts_of}
-use Rattle.osi_watched.proofs.Vocabulary.{picked_first, picked_join, picked_rest}
-use Rattle.osi_honest.proofs.courses.how_long_a_connection_is_open.{is_dr}
-use Rattle.osi_fair.proofs.small_facts_that_many_lemmas_use.{unequal}
+use Rattle.osi_watched.proofs.Vocabulary.{[], ap, append_assoc, Bool, false, inl, inr, List, refl, Some, sym, true, ℕ, ◌++◌, ◌==◌, ◌∙◌, ◌∷◌}
+use Rattle.osi_watched.proofs.Vocabulary.{◌≡◌, ◌||◌, ◌⊎◌, eq-eqb, append-nil, data2, Value, unit_parts, Part, parts_of, picked_first}
+use Rattle.osi_watched.proofs.Vocabulary.{picked_join, picked_rest, arith, is_dr, unequal}
 use Rattle.osi_watched.proofs.sessions.what_is_in_flight_to_an_end.{in_flight, in_flight_more}
 use Rattle.osi_watched.proofs.sessions.what_stands_of_a_connection.{Known, is_for, waiting_for}
 
@@ -127,12 +124,7 @@ pub left_front : (r : ℕ) (xs ys : List Value) (later : List Part) → has_dr r
 left_front r [] ys later none h = (later, refl, h)
 left_front r (x ∷ xs) ys later none (rest, is, more) =
     let (last, same, left) = left_front r xs ys rest (or_second (is_dr r x) (has_dr r xs) none)
-    (grind arith) in (
-      last,
-      is ∙ ap (λ (l : List Part). in_flight r (x ∷ []) ++ l) same ∙ sym (append_assoc (in_flight r (x ∷ [])) (in_flight r xs) last)
-          ∙ ap (λ (l : List Part). l ++ last) (sym (in_flight_more r (x ∷ []) xs)),
-      left,
-    )
+    (grind arith) in grind (arith, in_flight, append_assoc, in_flight_more)
 
 -- ---- nothing is for it
 
@@ -161,11 +153,7 @@ some_empty r (x ∷ xs) = inr (some_empty r xs)
 pub left_empty : (r : ℕ) (xs : List Value) → waiting_for (Some r) xs ≡ [] → AreLeft r xs []
 left_empty r [] none = refl
 left_empty r (x ∷ xs) none =
-    let both = first_none r x xs none in (
-      [],
-      sym (λ i. parts_of (both.0 i) ++ []),
-      either_both (is_dr r x) (AreSome r xs []) (AreLeft r xs []) (some_empty r xs) (left_empty r xs both.1),
-    )
+    let both = first_none r x xs none in grind (arith, either_both, is_dr, some_empty, left_empty r xs both.1)
 
 -- ---- a unit of the other side passes
 

@@ -1,35 +1,18 @@
 -- What passes of class 2 leaves all connections of an end standing at a tap: a unit of the end that is no break, and one of the other side
 -- after which a connection may have lost its judgement.
 -- For the session of each connection of an end.
-use Rattle.std.proofs.Common.{◌≡◌, ◌∙◌, arith, refl, sym, subst, ℕ, Bool, true, false, if◌then◌else◌, List, [], ◌∷◌, ◌++◌, Option, Some}
-use Rattle.std.proofs.Common.{None, inr}
-use Rattle.std.specs.Prelude.{slice_get}
-use Rattle.osi_tpdu.specs.Value.{Connect, Value, acknowledge, confirm, data0, data2, disconnect, disconnected, error, request}
-use Rattle.osi_class.specs.Runs.{parts_in}
-use Rattle.osi_class.specs.Tsdus.{Part}
-use Rattle.osi_class.specs.declared.terms.Class.{Class}
-use Rattle.osi_class.specs.declared.terms.Class.TheVariants.{Two, Zero}
-use Rattle.osi_judge.specs.Captures.{other}
-use Rattle.osi_judge.specs.declared.directions.Direction.{Direction}
-use Rattle.osi_judge.specs.declared.directions.Direction.TheVariants.{Left, Right}
-use Rattle.osi_rules.specs.declared.connections.Connection.{Connection}
+use Rattle.osi_watched.proofs.Vocabulary.{◌≡◌, ◌∙◌, arith, refl, sym, subst, ℕ, Bool, true, false, if◌then◌else◌, List, [], ◌∷◌, ◌++◌}
+use Rattle.osi_watched.proofs.Vocabulary.{Option, Some, None, inr, slice_get, Connect, Value, acknowledge, confirm, data0, data2}
+use Rattle.osi_watched.proofs.Vocabulary.{disconnect, disconnected, error, request, parts_in, Part, Class, Two, Zero, other, Direction}
+use Rattle.osi_watched.proofs.Vocabulary.{Left, Right, Connection, Finding, Broke, Kept, NotJudged, Reach, is_applied, reach_of}
+use Rattle.osi_watched.proofs.Vocabulary.{acknowledge_tests, first_failed, Outcome, State, at_place, class_for, found_on, is_stopped}
+use Rattle.osi_watched.proofs.Vocabulary.{none_told, route, route_in, routed, takes, unnamed_by, AreJudged, Deeds, Joined, Sessions, Course}
+use Rattle.osi_watched.proofs.Vocabulary.{unit_passes, way_of, differ}
 use Rattle.osi_rules.specs.declared.directions.Direction.{Direction as Way}
 use Rattle.osi_rules.specs.declared.directions.Direction.TheVariants as way
-use Rattle.osi_rules.specs.declared.findings.Finding.{Finding}
-use Rattle.osi_rules.specs.declared.findings.Finding.TheVariants.{Broke, Kept, NotJudged}
-use Rattle.osi_rules.specs.declared.findings.Reach.{Reach}
 use Rattle.osi_rules.specs.declared.findings.Reach.TheVariants as reach
 use Rattle.osi_rules.specs.declared.findings.Rule.TheVariants as rule
-use Rattle.osi_rules.specs.Reaches.{is_applied, reach_of}
-use Rattle.osi_rules.specs.Rows.{acknowledge_tests, first_failed}
 use Rattle.osi_rules.specs.Sides as sides
-use Rattle.osi_rules.specs.Traffic.{Outcome, State, at_place, class_for, found_on, is_stopped, none_told, route, route_in, routed, takes}
-use Rattle.osi_rules.specs.Traffic.{unnamed_by}
-use Rattle.osi_fair.proofs.all_are_judged_unless_one_broke.{AreJudged}
-use Rattle.osi_honest.specs.Courses.{Deeds}
-use Rattle.osi_tap.specs.Connections.{Joined, Sessions}
-use Rattle.osi_tap.specs.Courses.{Course, unit_passes, way_of}
-use Rattle.osi_fair.proofs.small_facts_that_many_lemmas_use.{differ}
 use Rattle.osi_watched.proofs.a_break_ends_no_judging_or_all.{takes_reach}
 use Rattle.osi_watched.proofs.the_first_break_is_not_of_an_end.{IsNoBreak}
 use Rattle.osi_watched.proofs.what_a_taker_passes_over.{IsMild, applied_of, mild_of, mild_reach}

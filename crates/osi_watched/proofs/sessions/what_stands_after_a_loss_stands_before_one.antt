@@ -1,20 +1,17 @@
 -- What stands of an end at each step, also after a connection of class 2 has lost its judgement, stands while each connection is judged.
 -- For the laws that no session of an end is to blame.
-use Rattle.std.proofs.Common.{arith}
-use Rattle.osi_watched.proofs.Vocabulary.{[], false, length, List, Some, ℕ, ◌++◌, ◌<◌, ◌^◌, ◌∷◌, ◌≡◌}
-use Rattle.osi_watched.proofs.Vocabulary.{slice_get, Value, Zero, Local, Holding, class_for, is_stopped, takes}
-use Rattle.osi_watched.proofs.Vocabulary.{other, Direction, Left, Right, Deeds, no_deeds, then_did, IsFresh, Turn, Joined, spoken}
-use Rattle.osi_watched.proofs.Vocabulary.{unit_passes, units_pass, way_of, heard, IsFirm, begins_other, begins_own, Joint, passes_other}
-use Rattle.osi_watched.proofs.Vocabulary.{passes_own, Steps, TakesTurn, calls_from}
+use Rattle.osi_watched.proofs.Vocabulary.{[], false, length, List, Some, ℕ, ◌++◌, ◌<◌, ◌^◌, ◌∷◌, ◌≡◌, slice_get, Value, Zero, Local}
+use Rattle.osi_watched.proofs.Vocabulary.{Holding, class_for, is_stopped, takes, other, Direction, Left, Right, Deeds, no_deeds, then_did}
+use Rattle.osi_watched.proofs.Vocabulary.{IsFresh, Turn, Joined, spoken, unit_passes, units_pass, way_of, heard, IsFirm, begins_other}
+use Rattle.osi_watched.proofs.Vocabulary.{begins_own, Joint, passes_other, passes_own, Steps, TakesTurn, calls_from, arith, begin}
+use Rattle.osi_watched.proofs.Vocabulary.{IsOngoing}
 use Rattle.osi_rules.specs.declared.findings.Reach.TheVariants as reach
 use Rattle.osi_fair.specs.Wholes as wholes
 use Rattle.osi_tap.specs.Courses.{Course as Passed}
-use Rattle.osi_watched.specs.Joint.{begin}
 use Rattle.osi_watched.proofs.a_break_ends_no_judging_or_all.{takes_reach}
 use Rattle.osi_watched.proofs.steps_are_events.{IsFollowed}
 use Rattle.osi_watched.proofs.what_a_taker_passes_over.{mild_reach}
 use Rattle.osi_watched.proofs.what_the_turns_among_steps_do.{TurnDoes}
-use Rattle.osi_fair.proofs.what_the_other_side_closes.{IsOngoing}
 use Rattle.osi_watched.proofs.sessions.after_too_many_nobody_is_to_blame.{NoneIsToBlame}
 use Rattle.osi_watched.proofs.sessions.no_session_of_an_end_breaks_first.{ArePassed, HaveCourses, IsPassed, KeepsUnless}
 use Rattle.osi_watched.proofs.sessions.steps_leave_all_standing.{IsProper}
@@ -84,8 +81,7 @@ module _ (d : Direction) (local : Local) (Inv : (ℕ → Deeds) → Joint → Ty
           none = right.none;
           links = firm_links d v old.course.traffic right.firm sure.judged right.goes right.none;
         }) (firm_lasts old.course firm was_not) not h;
-    other_passes = λ deeds at octets units old new step passed h.
-        k.other_passes deeds at octets units old new step (taken_all d at units old.course passed) h;
+    other_passes = grind (arith, taken_all);
     turn = λ turn old new t deeds does f g firm not h.
         k.turn turn old new t deeds does f g (firm_lasts old.course firm not) h;
     none = k.none;

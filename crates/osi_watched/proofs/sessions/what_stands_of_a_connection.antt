@@ -1,18 +1,16 @@
 -- How a connection stands that a tap has joined beside what is done at it: open for its end, or closed, or without a CC yet; and that
 -- it stands so as packets begin and units pass, at its place or at another.
 -- For all connections of an end and a tap.
-use Rattle.std.proofs.Common.{arith}
 use Rattle.osi_watched.proofs.Vocabulary.{[], ap, Bool, false, is_some, length, List, None, Option, refl, Some, subst, sym, true, ℕ, ◌&&◌}
-use Rattle.osi_watched.proofs.Vocabulary.{◌++◌, ◌<◌, ◌==◌, ◌^◌, ◌∙◌, ◌∷◌, ◌≡◌, ◌≤◌, AllByRecursion, acknowledge, data0, data2}
-use Rattle.osi_watched.proofs.Vocabulary.{Value, parts_in, unit_parts, Part, End, begins, is_open, own, Connection, other, Direction}
-use Rattle.osi_watched.proofs.Vocabulary.{Deeds, said_in, then_did, adds, Joined, reference_of, spoken, user_of, way_of, heard}
-use Rattle.osi_watched.proofs.Vocabulary.{Spoken, All, leads, picked, picked_first, picked_join, picked_rest, all_before, AreAfter}
-use Rattle.osi_watched.proofs.Vocabulary.{calls_from, IsJoinedFrom, IsShownNow, parts_of, with_next}
+use Rattle.osi_watched.proofs.Vocabulary.{◌++◌, ◌<◌, ◌==◌, ◌^◌, ◌∙◌, ◌∷◌, ◌≡◌, ◌≤◌, AllByRecursion, acknowledge, data0, data2, Value}
+use Rattle.osi_watched.proofs.Vocabulary.{parts_in, unit_parts, Part, End, begins, is_open, own, Connection, other, Direction, Deeds}
+use Rattle.osi_watched.proofs.Vocabulary.{said_in, then_did, adds, Joined, reference_of, spoken, user_of, way_of, heard, Spoken, All, leads}
+use Rattle.osi_watched.proofs.Vocabulary.{picked, picked_first, picked_join, picked_rest, all_before, AreAfter, calls_from, IsJoinedFrom}
+use Rattle.osi_watched.proofs.Vocabulary.{IsShownNow, parts_of, with_next, arith, differ}
 use Rattle.osi_honest.specs.Courses.{Course}
 use Rattle.osi_tap.specs.Connections.{packet_begins}
 use Rattle.osi_tap.specs.Lines as lines
 use Rattle.osi_watched.proofs.small_facts_that_many_lemmas_use.{and_both}
-use Rattle.osi_fair.proofs.small_facts_that_many_lemmas_use.{differ}
 use Rattle.osi_watched.proofs.sessions.what_a_tap_shows_goes_on.{end_turns, none_passes, other_begins, other_passes, own_begins}
 use Rattle.osi_watched.proofs.sessions.what_a_tap_shows_goes_on.{part_begins, part_passes}
 
@@ -88,15 +86,13 @@ like_shown d r deeds waiting later b j k l h = record {
     said = subst (IsJoinedFrom (parts_of h.shown.passed)) (sym l.own_is) h.shown.said;
     after = subst (λ (x : Spoken). AreAfter (all_before x) (said_in 0 deeds.calls)) (sym l.own_is) h.shown.after;
     so_far = subst (λ (x : Spoken). AllByRecursion (λ n. n ≤ length (heard x)) (all_before (spoken d k))) (sym l.theirs)
-        (subst (λ (x : Spoken). AllByRecursion (λ n. n ≤ length (heard (spoken (other d) j))) (all_before x)) (sym l.own_is)
-        h.shown.so_far);
+        (grind arith);
     later = h.shown.later;
     came = subst (IsJoinedFrom (parts_in deeds.calls ++ h.shown.later)) (sym l.theirs) h.shown.came;
   };
   waiting_is = h.waiting_is;
   later_is = h.later_is;
-  since = subst (λ (x : Spoken). (spoken d k).since ≤ length (heard x)) (sym l.theirs)
-      (subst (λ (x : Spoken). x.since ≤ length (heard (spoken (other d) j))) (sym l.own_is) h.since);
+  since = grind arith;
   next = λ e. subst (λ (x : Spoken). AreAfter (with_next x) (said_in 0 deeds.calls)) (sym l.own_is) (h.next e);
   room = l.room ∙ h.room;
 }
@@ -150,11 +146,7 @@ module _ (d : Direction) (r : ℕ) (deeds : Deeds) (later : List Part) (o : Opti
   begins_by false v rest is h = own_begins d r deeds (waiting_for o (v ∷ rest)) later j h
   begins_by true v rest is h =
       let (mine, part) = and_both (is_for o v) (is_part v) is in
-      let (end, parts) = part_so v part in
-      let first : waiting_for o (v ∷ rest) ≡ v ∷ waiting_for o rest = picked_first (is_for o) v rest mine in
-      with_waiting d r deeds (v ∷ waiting_for o rest) (waiting_for o (v ∷ rest)) later true (packet_begins d j) (sym first)
-      (part_begins d r deeds (waiting_for o rest) later e end v j course parts few
-      (with_waiting d r deeds (waiting_for o (v ∷ rest)) (v ∷ waiting_for o rest) later false j first h))
+      search (arith, with_waiting, part_begins, part_so v part, picked_first (is_for o) v rest mine)
 
   begins_now : (put : List Value) → IsShownNow d r deeds (waiting_for o put) later (is_next o false put) j →
       IsShownNow d r deeds (waiting_for o put) later (is_next o true put) (packet_begins d j)
@@ -193,9 +185,7 @@ pub stands_elsewhere : (d : Direction) (deeds : ℕ → Deeds) (known : Known) (
 stands_elsewhere d deeds known v rest b c j not_for (unnamed none mine theirs room) = unnamed none mine theirs room
 stands_elsewhere d deeds known v rest b c j not_for (lives r o is live later sure h) =
     let none = ap (λ (x : Option ℕ). is_for x v) (sym is) ∙ not_for live in
-    lives r o is live later sure (no_next d r (deeds r) (waiting_for o rest) later (is_next o b (v ∷ rest)) j
-    (with_waiting d r (deeds r) (waiting_for o (v ∷ rest)) (waiting_for o rest) later (is_next o b (v ∷ rest)) j
-    (picked_rest (is_for o) v rest none) h))
+    lives r o is live later sure (search (arith, no_next, with_waiting, picked_rest))
 stands_elsewhere d deeds known v rest b c j not_for (past r closed waiting later sure h) = past r closed waiting later sure h
 
 -- here: a DT
@@ -214,9 +204,7 @@ stands_part d deeds known v rest at end c after j parts part mine some live last
     let one : is_next o true (v ∷ rest) ≡ true = (λ i. yours i && part i) in
     lives r o (same ∙ is) lasts later sure
     (part_passes d r (deeds r) (waiting_for o rest) later at end v j parts
-    (with_waiting d r (deeds r) (waiting_for o (v ∷ rest)) (v ∷ waiting_for o rest) later true j
-    (picked_first (is_for o) v rest yours)
-    (subst (λ (x : Bool). IsShownNow d r (deeds r) (waiting_for o (v ∷ rest)) later x j) one h)))
+    (grind (arith, with_waiting, picked_first)))
 
 -- here: a unit that adds to no TSDU, after which the end may have closed the connection
 module _ (d : Direction) (deeds : ℕ → Deeds) (known : Known) (v : Value) (rest : List Value) (c after : Connection) (j k : Joined)
@@ -296,9 +284,7 @@ pub stands_turns : (d : Direction) (deeds more : ℕ → Deeds) (known then_know
 stands_turns d deeds more known then_known put units b c j some puts takes (unnamed none mine theirs room) = unnamed none mine theirs room
 stands_turns d deeds more known then_known put units b c j some puts takes (lives r o is live later sure h) =
     let t = takes r later h.shown.named sure in
-    let added : waiting_for o put ++ (more r).put ≡ waiting_for o (put ++ units) =
-    ap (λ (l : List Value). waiting_for o put ++ l) (puts r h.shown.named live ∙ ap (λ (x : Option ℕ). waiting_for x units) is)
-    ∙ sym (picked_join (is_for o) put units) in
+    let added : waiting_for o put ++ (more r).put ≡ waiting_for o (put ++ units) = grind (arith, picked_join) in
     lives r o is live t.rest t.sure
     (subst (λ (x : Bool). IsShownNow d r (then_did (deeds r) (more r)) (waiting_for o (put ++ units)) t.rest x j)
     (sym (grind arith))

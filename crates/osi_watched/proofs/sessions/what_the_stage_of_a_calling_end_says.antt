@@ -1,14 +1,13 @@
 -- What the stage of a whole calling end says until class 2 is selected: which unit of it passes, how it is when a CC comes, what it has put
 -- in class 0, and what has come for a connection that may still open.
 -- For the session of the connection of an end in class 0.
-use Rattle.std.proofs.Common.{arith}
 use Rattle.osi_watched.proofs.Vocabulary.{[], ap, Bool, length, List, None, Option, refl, Some, subst, sym, true, ℕ, ◌∙◌, ◌∷◌, ◌≡◌}
 use Rattle.osi_watched.proofs.Vocabulary.{eqb-true, AllByRecursion, confirm, Connect, data0, request, Value, Class, Two, Zero, Local}
 use Rattle.osi_watched.proofs.Vocabulary.{has_given, Traffic as State, takes, Connection, Offer, early, past, stage_at, stage_is, IsOver}
 use Rattle.osi_watched.proofs.Vocabulary.{one, answered, Calling, known, quiet, refused, begun_by, anyhow, IsInZero, zero_puts, PutsData}
-use Rattle.osi_watched.proofs.Vocabulary.{calm_tap, done_takes, GoesOn, Waits, Whole}
+use Rattle.osi_watched.proofs.Vocabulary.{calm_tap, done_takes, GoesOn, Waits, Whole, arith, ended, waits}
 use Rattle.osi_rules.specs.declared.directions.Direction.TheVariants.{Right}
-use Rattle.osi_fair.proofs.how_requests_go_on.{Stage, asks, ended, waits, zero}
+use Rattle.osi_fair.proofs.how_requests_go_on.{Stage, asks, zero}
 use Rattle.osi_watched.proofs.small_facts_that_many_lemmas_use.{none_some}
 use Rattle.osi_watched.proofs.sessions.units_of_class_0_come_after_its_cc.{HasCc}
 

@@ -5,11 +5,10 @@ use Rattle.osi_watched.proofs.Vocabulary.{[], ap, append_assoc, arith, false, in
 use Rattle.osi_watched.proofs.Vocabulary.{subst, suc, sym, true, zero, ℕ, ◌++◌, ◌<◌, ◌==◌, ◌∙◌, ◌∷◌, ◌≡◌, ◌≤◌, ◌⊎◌, eq-eqb, eqb-true}
 use Rattle.osi_watched.proofs.Vocabulary.{AllByRecursion, slice_get, confirm, Connect, disconnect, request, Value, Local, packets, Carrier}
 use Rattle.osi_watched.proofs.Vocabulary.{EndReason, Traffic as State, Right, over_acts, Answers, Begins, is_shut, Opens, opens, Continues}
-use Rattle.osi_watched.proofs.Vocabulary.{Deeds, all_units, is_of_link, Marked, Turn, Sessions, Joint, TakesTurn, HaveSamePlaces}
+use Rattle.osi_watched.proofs.Vocabulary.{Deeds, all_units, is_of_link, Marked, Turn, Sessions, Joint, TakesTurn, HaveSamePlaces, AreApart}
+use Rattle.osi_watched.proofs.Vocabulary.{Course, differ, number_is}
 use Rattle.osi_fair.specs.Wholes.{begin}
-use Rattle.osi_honest.specs.Arriving.{AreApart, is_open as opened}
-use Rattle.osi_tap.specs.Courses.{Course}
-use Rattle.osi_fair.proofs.small_facts_that_many_lemmas_use.{differ, number_is}
+use Rattle.osi_honest.specs.Arriving.{is_open as opened}
 use Rattle.osi_watched.proofs.small_facts_that_many_lemmas_use.{same_bool}
 use Rattle.osi_watched.proofs.steps_are_events.{IsFollowed}
 use Rattle.osi_watched.proofs.sessions.a_called_end_of_class_2_has_its_lines.{HasLines}
@@ -95,14 +94,10 @@ module _ (local : Local) (deeds : ℕ → Deeds) (turn : Turn) (old new : Joint)
       by : (u : Value) → Opens false q l.peer u → Answers q l.peer u answer → l.arrived.before ≡ front ++ (0, u) ∷ [] →
           AreApart q on.put ⊎ IsNamed q l.peer
       by (confirm n x) opening gives come =
-          inl (no_cc lasts q positive shut n x opening.0
-          (came Right false (begin false local) deeds turn old new step on f lasts (confirm n x) front q l come))
+          inl (search (arith, came Right false (begin false local) deeds turn old new step on f lasts (confirm n x) front q l come))
       by (request x) opening (cc_is, source, one) come =
-          let parts : on.put ≡ others ++ (0, confirm l.peer cc_is) ∷ (l.left.during ++ l.left.after) =
-          l.left.is ∙ ap (λ (k : List Marked). k ++ (l.left.during ++ l.left.after)) (put ∙ ap (λ (k : List Marked). others ++ k) one)
-          ∙ append_assoc others ((0, confirm l.peer cc_is) ∷ []) (l.left.during ++ l.left.after) in
-          inr (inl (has_turn l.peer q (subst (λ (k : List Marked). HasCc l.peer q (all_units k)) (sym parts)
-          (marked_has l.peer q others (l.left.during ++ l.left.after) cc_is source))))
+          let parts : on.put ≡ others ++ (0, confirm l.peer cc_is) ∷ (l.left.during ++ l.left.after) = grind (arith, append_assoc) in
+          inr (inl (has_turn l.peer q (grind (arith, marked_has))))
       by (disconnect n source reason user) h gives come = absurd h
       by _ h gives come = absurd h
   open_named lasts q positive l (is_shut shut then_shut none none_left) =

@@ -1,6 +1,5 @@
-use Rattle.std.proofs.Common.{◌≡◌, ◌∙◌, ◌*◌, ◌<◌, ℕ, length, replicate, sym, ap, arith}
-use Rattle.std.proofs.lemmas.List.{length-replicate}
-use Rattle.osi_carrier.proofs.Vocabulary.{any_standing, eq-eqb, eqb-true}
+use Rattle.osi_carrier.proofs.Vocabulary.{any_standing, eq-eqb, eqb-true, ◌≡◌, ◌∙◌, ◌*◌, ◌<◌, ℕ, length, replicate, sym, ap, arith}
+use Rattle.osi_carrier.proofs.Vocabulary.{length-replicate}
 use Rattle.osi_carrier.proofs.written.whether_all_tsdus_may_go_now.{all_may_go, given_whole}
 use Rattle.osi_carrier.proofs.links.may_send.Goals as goal
 

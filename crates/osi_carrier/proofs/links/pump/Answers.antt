@@ -1,5 +1,4 @@
-use Rattle.std.proofs.Common.{ℕ, ◌<◌, take, ap, subst, ◌∙◌, arith}
-use Rattle.osi_carrier.proofs.Vocabulary.{any_standing, next, given, Gives, written_by}
+use Rattle.osi_carrier.proofs.Vocabulary.{any_standing, next, given, Gives, written_by, ℕ, ◌<◌, take, ap, subst, ◌∙◌, arith}
 use Rattle.osi_carrier.proofs.written.all_that_a_link_gives.{pumping_next, pumping_full, pumping_room, pumping_short}
 use Rattle.osi_carrier.proofs.written.what_needs_memory_does_something.{some_written}
 use Rattle.osi_carrier.proofs.links.pump.Goals as goal

@@ -1,5 +1,4 @@
-use Rattle.std.proofs.Common.{◌≤◌, length}
-use Rattle.osi_carrier.proofs.Vocabulary.{any_standing, left_to_give, written_by, packets}
+use Rattle.osi_carrier.proofs.Vocabulary.{any_standing, left_to_give, written_by, packets, ◌≤◌, length}
 use Rattle.osi_carrier.proofs.written.all_that_a_link_gives.{IsPumping}
 use Rattle.osi_carrier.proofs.links.pump.Given as goal
 

@@ -1,8 +1,5 @@
-use Rattle.std.proofs.Common.{◌∙◌, ◌<◌, ℕ, ap, arith}
-use Rattle.osi_class.specs.Giving.{units_needed}
-use Rattle.osi_carrier.proofs.Vocabulary.{any_standing}
+use Rattle.osi_carrier.proofs.Vocabulary.{any_standing, ◌∙◌, ◌<◌, ℕ, ap, arith, units_needed, tsdus_in}
 use Rattle.osi_carrier.proofs.written.whether_all_tsdus_may_go_now.{counts_fit, exact_room, go_of_all, room_of_all, some_room}
-use Rattle.osi_carrier.specs.Pieces.{tsdus_in}
 use Rattle.osi_carrier.proofs.links.room_at_once.Goals as goal
 
 pub returns : goal.returns

@@ -1,5 +1,4 @@
-use Rattle.std.proofs.Common.{◌++◌, arith, length, length-append}
-use Rattle.osi_carrier.proofs.Vocabulary.{any_standing, all_given, with_tsdu}
+use Rattle.osi_carrier.proofs.Vocabulary.{any_standing, all_given, with_tsdu, ◌++◌, arith, length, length-append}
 use Rattle.osi_carrier.proofs.written.a_tsdu_part_after_part.{part_goes}
 use Rattle.osi_carrier.proofs.written.all_that_a_link_gives.{packets_most}
 use Rattle.osi_carrier.proofs.links.send_headed_parts.Goals as goal

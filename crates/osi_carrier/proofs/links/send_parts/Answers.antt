@@ -1,6 +1,5 @@
-use Rattle.std.proofs.Common.{◌≡◌, ◌<◌, ◌≤◌, ◌∙◌, ℕ, List, length, ap, sym, subst, arith}
-use Rattle.osi_carrier.proofs.Vocabulary.{any_standing, all_given, octets_in, pumped, Standing, with_tsdu, written_by}
-use Rattle.osi_carrier.proofs.Vocabulary.{packets}
+use Rattle.osi_carrier.proofs.Vocabulary.{any_standing, all_given, octets_in, pumped, Standing, with_tsdu, written_by, packets, ◌≡◌, ◌<◌}
+use Rattle.osi_carrier.proofs.Vocabulary.{◌≤◌, ◌∙◌, ℕ, List, length, ap, sym, subst, arith}
 use Rattle.osi_carrier.proofs.written.a_tsdu_part_after_part.{leaves_nothing, part_goes}
 use Rattle.osi_carrier.proofs.written.all_that_a_link_gives.{packets_most}
 use Rattle.osi_carrier.proofs.written.some_units_may_go_now.{whole_goes}

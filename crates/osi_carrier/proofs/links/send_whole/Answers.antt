@@ -1,6 +1,5 @@
-use Rattle.std.proofs.Common.{◌≡◌, ◌≤◌, true, Some, ◌++◌, length, subst, arith, length-append}
 use Rattle.osi_carrier.proofs.Vocabulary.{drop_all, any_standing, octets_of, number_in, part_under, with_rest, GivesPart, Given, next}
-use Rattle.osi_carrier.proofs.Vocabulary.{with_tsdu}
+use Rattle.osi_carrier.proofs.Vocabulary.{with_tsdu, ◌≡◌, ◌≤◌, true, Some, ◌++◌, length, subst, arith, length-append}
 use Rattle.osi_carrier.proofs.written.all_that_a_link_gives.{whole_link, whole_written}
 use Rattle.osi_carrier.proofs.written.a_part_in_its_data_unit.{part_octets, whole_part}
 use Rattle.osi_carrier.proofs.written.the_length_of_a_unit.{given_size, header_most}

@@ -1,10 +1,6 @@
-use Rattle.std.proofs.Common.{◌≡◌, ◌∙◌, ◌+◌, ◌*◌, ◌<◌, ℕ, List, length, replicate, ap, arith}
-use Rattle.std.proofs.lemmas.List.{length-replicate}
-use Rattle.osi_class.specs.Giving.{units_needed}
-use Rattle.osi_class.specs.Tsdus.{octets_of_tsdus}
-use Rattle.osi_carrier.proofs.Vocabulary.{any_standing}
+use Rattle.osi_carrier.proofs.Vocabulary.{any_standing, ◌≡◌, ◌∙◌, ◌+◌, ◌*◌, ◌<◌, ℕ, List, length, replicate, ap, arith, length-replicate}
+use Rattle.osi_carrier.proofs.Vocabulary.{units_needed, octets_of_tsdus, tsdus_in}
 use Rattle.osi_carrier.proofs.written.some_units_may_go_now.{enough_for_some, go_in_part}
-use Rattle.osi_carrier.specs.Pieces.{tsdus_in}
 use Rattle.osi_carrier.proofs.links.some_at_once.Goals as goal
 
 pub returns : goal.returns

@@ -1,5 +1,4 @@
-use Rattle.std.proofs.Common.{drop, map}
-use Rattle.osi_carrier.proofs.Vocabulary.{any_standing, one_by_one, packets, written_for}
+use Rattle.osi_carrier.proofs.Vocabulary.{any_standing, one_by_one, packets, written_for, drop, map}
 use Rattle.osi_carrier.proofs.written.tsdus_are_written_straight.{IsWriting}
 use Rattle.osi_carrier.proofs.links.write_all.Given as goal
 

@@ -1,10 +1,9 @@
-use Rattle.std.proofs.Common.{◌≡◌, ◌≤◌, ◌+◌, [], ◌∷◌, ◌++◌, length, drop, refl, sym, ap, subst, ◌∙◌, arith}
 use Rattle.osi_carrier.proofs.Vocabulary.{eqb-true, eqb-false, any_standing, first_in, number_in, octets_of, part_under, Given, unit_of}
-use Rattle.osi_carrier.proofs.Vocabulary.{packets, with_tsdu, pumped, GoesAtOnce}
+use Rattle.osi_carrier.proofs.Vocabulary.{packets, with_tsdu, pumped, GoesAtOnce, ◌≡◌, ◌≤◌, ◌+◌, [], ◌∷◌, ◌++◌, length, drop, refl, sym, ap}
+use Rattle.osi_carrier.proofs.Vocabulary.{subst, ◌∙◌, arith, left_of}
 use Rattle.osi_carrier.proofs.written.a_tsdu_part_after_part.{Goes, parting_first, parting_then, parting_last, parting_kept, parting_all}
 use Rattle.osi_carrier.proofs.written.a_tsdu_part_after_part.{leaves_behind, part_room, empty_list, put_length}
 use Rattle.osi_carrier.proofs.written.a_part_in_its_data_unit.{first_cut}
-use Rattle.osi_carrier.specs.Pump.{left_of}
 use Rattle.osi_carrier.proofs.links.write_headed.Goals as goal
 
 pub returns-in_default : goal.returns-in_default

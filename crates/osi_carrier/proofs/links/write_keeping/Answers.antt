@@ -1,5 +1,4 @@
-use Rattle.std.proofs.Common.{arith}
-use Rattle.osi_class.proofs.giving.a_link_gives_finitely_many_units.{drained_ends}
+use Rattle.osi_carrier.proofs.Vocabulary.{arith, drained_ends}
 use Rattle.osi_carrier.proofs.links.write_keeping.Goals as goal
 
 pub returns : goal.returns

@@ -1,10 +1,9 @@
-use Rattle.std.proofs.Common.{◌≡◌, ◌<◌, ◌≤◌, ◌+◌, ℕ, List, [], ◌∷◌, ◌++◌, length, drop, refl, sym, ap, subst, ◌∙◌, arith}
 use Rattle.osi_carrier.proofs.Vocabulary.{eqb-true, eqb-false, any_standing, first_in, number_in, octets_of, Given, GoesAtOnce, part_under}
-use Rattle.osi_carrier.proofs.Vocabulary.{unit_of, packets, with_tsdu}
+use Rattle.osi_carrier.proofs.Vocabulary.{unit_of, packets, with_tsdu, ◌≡◌, ◌<◌, ◌≤◌, ◌+◌, ℕ, List, [], ◌∷◌, ◌++◌, length, drop, refl, sym}
+use Rattle.osi_carrier.proofs.Vocabulary.{ap, subst, ◌∙◌, arith, left_of}
 use Rattle.osi_carrier.proofs.written.a_tsdu_part_after_part.{IsParting, parting_first, parting_kept, part_room, empty_list, put_length}
 use Rattle.osi_carrier.proofs.written.a_tsdu_part_after_part.{parting_next, parting_last}
 use Rattle.osi_carrier.proofs.written.a_part_in_its_data_unit.{first_cut}
-use Rattle.osi_carrier.specs.Pump.{left_of}
 use Rattle.osi_carrier.proofs.links.write_parts.Goals as goal
 
 pub parts-init : goal.parts-init

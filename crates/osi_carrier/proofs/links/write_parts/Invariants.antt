@@ -1,7 +1,5 @@
-use Rattle.std.proofs.Common.{◌+◌, ◌≤◌, length}
-use Rattle.osi_carrier.proofs.Vocabulary.{any_standing, with_tsdu}
+use Rattle.osi_carrier.proofs.Vocabulary.{any_standing, with_tsdu, ◌+◌, ◌≤◌, length, left_of}
 use Rattle.osi_carrier.proofs.written.a_tsdu_part_after_part.{IsParting}
-use Rattle.osi_carrier.specs.Pump.{left_of}
 use Rattle.osi_carrier.proofs.links.write_parts.Given as goal
 
 abbrev pub invariant-parts : goal.invariant-parts

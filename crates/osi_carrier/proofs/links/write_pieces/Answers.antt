@@ -1,8 +1,6 @@
-use Rattle.std.proofs.Common.{arith}
-use Rattle.osi_carrier.proofs.Vocabulary.{any_standing, one_by_one}
+use Rattle.osi_carrier.proofs.Vocabulary.{any_standing, one_by_one, arith, tsdus_in}
 use Rattle.osi_carrier.proofs.written.pieces_are_written_straight.{none_kept}
 use Rattle.osi_carrier.proofs.written.some_units_may_go_now.{gives_no_more, none_left}
-use Rattle.osi_carrier.specs.Pieces.{tsdus_in}
 use Rattle.osi_carrier.proofs.links.write_pieces.Goals as goal
 
 pub returns : goal.returns

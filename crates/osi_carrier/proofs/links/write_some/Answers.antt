@@ -1,10 +1,7 @@
-use Rattle.std.proofs.Common.{arith}
-use Rattle.std.proofs.Common.{[], ◌++◌, subst}
-use Rattle.osi_carrier.proofs.Vocabulary.{any_standing, one_by_one, packets, written_for}
+use Rattle.osi_carrier.proofs.Vocabulary.{any_standing, one_by_one, packets, written_for, arith, [], ◌++◌, subst, tsdus_from, tsdus_in}
+use Rattle.osi_carrier.proofs.Vocabulary.{LeavesRest}
 use Rattle.osi_carrier.proofs.written.pieces_are_written_straight.{next_of_several, last_of_all, next_room}
 use Rattle.osi_carrier.proofs.written.pieces_are_written_straight.{sending_first, sending_next, sending_stops, sending_last}
-use Rattle.osi_carrier.specs.Pieces.{tsdus_from, tsdus_in}
-use Rattle.osi_carrier.specs.Pump.{LeavesRest}
 use Rattle.osi_carrier.proofs.links.write_some.Goals as goal
 
 pub pieces-init : goal.pieces-init

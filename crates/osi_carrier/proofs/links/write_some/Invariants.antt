@@ -1,7 +1,5 @@
-use Rattle.std.proofs.Common.{length}
-use Rattle.osi_carrier.proofs.Vocabulary.{any_standing, one_by_one, packets, written_for}
+use Rattle.osi_carrier.proofs.Vocabulary.{any_standing, one_by_one, packets, written_for, length, tsdus_from, tsdus_in, FitsTsdu}
 use Rattle.osi_carrier.proofs.written.pieces_are_written_straight.{IsSending}
-use Rattle.osi_carrier.specs.Pieces.{tsdus_from, tsdus_in, FitsTsdu}
 use Rattle.osi_carrier.proofs.links.write_some.Given as goal
 
 abbrev pub invariant-pieces : goal.invariant-pieces

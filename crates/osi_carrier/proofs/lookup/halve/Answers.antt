@@ -1,5 +1,4 @@
-use Rattle.std.proofs.Common.{rules, ◌∙◌}
-use Rattle.std.proofs.lemmas.List.Sorted.{answers_always}
+use Rattle.osi_carrier.proofs.Vocabulary.{rules, ◌∙◌, answers_always}
 use Rattle.osi_carrier.proofs.references.rows_in_order.{sought}
 use Rattle.osi_carrier.proofs.lookup.halve.Goals as goal
 

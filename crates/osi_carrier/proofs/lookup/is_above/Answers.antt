@@ -1,5 +1,4 @@
-use Rattle.std.proofs.Common.{arith}
-use Rattle.std.proofs.lemmas.Bool.Decides.{nat_tests}
+use Rattle.osi_carrier.proofs.Vocabulary.{arith, nat_tests}
 use Rattle.osi_carrier.proofs.references.rows_in_order.{rise_last}
 use Rattle.osi_carrier.proofs.lookup.is_above.Goals as goal
 

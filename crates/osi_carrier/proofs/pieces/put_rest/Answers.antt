@@ -1,8 +1,6 @@
-use Rattle.std.proofs.Common.{◌∙◌, ◌-◌, ◌*◌, ◌++◌, ◌∷◌, ℕ, length, map, sym, ap, arith, length-append}
-use Rattle.osi_class.specs.Giving.{parts_needed}
+use Rattle.osi_carrier.proofs.Vocabulary.{◌∙◌, ◌-◌, ◌*◌, ◌++◌, ◌∷◌, ℕ, length, map, sym, ap, arith, length-append, parts_needed, left_after}
 use Rattle.osi_carrier.proofs.written.a_tsdu_part_after_part.{left_behind}
 use Rattle.osi_carrier.proofs.written.what_is_left_after_some_units.{copied_none, copied_part, copied_whole, one_full}
-use Rattle.osi_carrier.specs.Pieces.{left_after}
 use Rattle.osi_carrier.proofs.pieces.put_rest.Goals as goal
 
 pub returns-then-units-eq0 : goal.returns-then-units-eq0

@@ -1,5 +1,4 @@
-use Rattle.std.proofs.Common.{◌≡◌, ◌^◌, ◌-◌, min, take}
-use Rattle.osi_carrier.specs.Calls.{backlog_of}
+use Rattle.osi_carrier.proofs.Vocabulary.{◌≡◌, ◌^◌, ◌-◌, min, take, backlog_of}
 use Rattle.osi_carrier.proofs.rows.backlog_of.Given as goal
 
 abbrev pub invariant-loop-row : goal.invariant-loop-row

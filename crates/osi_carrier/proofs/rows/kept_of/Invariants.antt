@@ -1,5 +1,4 @@
-use Rattle.std.proofs.Common.{◌≡◌, ◌*◌, ◌≤◌, take}
-use Rattle.osi_carrier.specs.Calls.{kept_in}
+use Rattle.osi_carrier.proofs.Vocabulary.{◌≡◌, ◌*◌, ◌≤◌, take, kept_in}
 use Rattle.osi_carrier.proofs.rows.kept_of.Given as goal
 
 abbrev pub invariant-loop-row : goal.invariant-loop-row

@@ -1,5 +1,4 @@
-use Rattle.std.proofs.Common.{arith}
-use Rattle.osi_tpdu.specs.declared.unit.Tpdu.TheVariants.{Cr}
+use Rattle.osi_carrier.proofs.Vocabulary.{arith, Cr}
 use Rattle.osi_carrier.proofs.writing.put_request.Goals as goal
 
 pub put-requires-clause-fits : goal.put-requires-clause-fits

@@ -1,5 +1,4 @@
-use Rattle.std.proofs.Common.{◌≡◌, map, take}
-use Rattle.osi_class.specs.Tsdus.{octets_of_tsdus}
+use Rattle.osi_class.proofs.Vocabulary.{◌≡◌, map, take, octets_of_tsdus}
 use Rattle.osi_class.proofs.sending.octets_of.Given as goal
 
 abbrev pub invariant-tsdus : goal.invariant-tsdus

@@ -1,5 +1,4 @@
-use Rattle.std.proofs.Common.{arith}
-use Rattle.std.proofs.lemmas.Bool.{lt-leb}
+use Rattle.osi_class.proofs.Vocabulary.{arith, lt-leb}
 use Rattle.osi_class.proofs.giving.all_that_may_go_is_given.{some_of_all}
 use Rattle.osi_class.proofs.sizes.are_few.Goals as goal
 

@@ -1,5 +1,4 @@
-use Rattle.std.proofs.Common.{◌≡◌, ◌+◌, map, take}
-use Rattle.osi_class.specs.Giving.{units_needed}
+use Rattle.osi_class.proofs.Vocabulary.{◌≡◌, ◌+◌, map, take, units_needed}
 use Rattle.osi_class.proofs.sizes.are_few.Given as goal
 
 abbrev pub invariant-tsdus : goal.invariant-tsdus

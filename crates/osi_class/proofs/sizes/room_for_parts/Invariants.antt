@@ -1,5 +1,4 @@
-use Rattle.std.proofs.Common.{◌≡◌, map, take}
-use Rattle.osi_class.specs.Giving.{octets_in_parts}
+use Rattle.osi_class.proofs.Vocabulary.{◌≡◌, map, take, octets_in_parts}
 use Rattle.osi_class.proofs.sizes.room_for_parts.Given as goal
 
 abbrev pub invariant-tsdus : goal.invariant-tsdus

@@ -1,6 +1,4 @@
-use Rattle.std.proofs.Common.{List, ℕ, sym, subst, take, ◌≡◌, []}
-use Rattle.osi_judge.specs.Captures.{piece}
-use Rattle.osi_dispute.specs.Verdicts.{Knows}
+use Rattle.osi_dispute.proofs.Vocabulary.{List, ℕ, sym, subst, take, ◌≡◌, [], piece, Knows}
 use Rattle.osi_dispute.proofs.what_is_fed_piece_by_piece_passes_whole.{Passes, IsFed, passes_as, fed_none, fed_more, fed_all, empty_yes}
 use Rattle.osi_dispute.proofs.what_is_fed_piece_by_piece_passes_whole.{empty_not}
 use Rattle.osi_dispute.proofs.disputes.feed_all.Goals as goal

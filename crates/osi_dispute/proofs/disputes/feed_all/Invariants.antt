@@ -1,5 +1,4 @@
-use Rattle.std.proofs.Common.{length}
-use Rattle.osi_dispute.specs.Verdicts.{Knows}
+use Rattle.osi_dispute.proofs.Vocabulary.{length, Knows}
 use Rattle.osi_dispute.proofs.what_is_fed_piece_by_piece_passes_whole.{IsFed}
 use Rattle.osi_dispute.proofs.disputes.feed_all.Given as goal
 

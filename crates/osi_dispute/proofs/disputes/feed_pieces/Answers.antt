@@ -1,8 +1,4 @@
-use Rattle.std.proofs.Common.{subst}
-use Rattle.osi_judge.specs.declared.directions.Direction.{Direction}
-use Rattle.osi_judge.specs.Captures.{piece}
-use Rattle.osi_dispute.specs.Reading.{row, rows_left}
-use Rattle.osi_dispute.specs.Verdicts.{Knows}
+use Rattle.osi_dispute.proofs.Vocabulary.{subst, Direction, piece, row, rows_left, Knows}
 use Rattle.osi_dispute.proofs.what_is_fed_piece_by_piece_passes_whole.{Comes, Passes, all_fed, none_fed, more_fed}
 use Rattle.osi_dispute.proofs.disputes.feed_pieces.Goals as goal
 

@@ -1,7 +1,4 @@
-use Rattle.std.proofs.Common.{length}
-use Rattle.osi_tap.specs.Tapping.{State}
-use Rattle.osi_dispute.specs.Reading.{rows_left}
-use Rattle.osi_dispute.specs.Verdicts.{Knows}
+use Rattle.osi_dispute.proofs.Vocabulary.{length, State, rows_left, Knows}
 use Rattle.osi_dispute.proofs.what_is_fed_piece_by_piece_passes_whole.{AreFed, Comes}
 use Rattle.osi_dispute.proofs.disputes.feed_pieces.Given as goal
 

@@ -1,10 +1,4 @@
-use Rattle.std.proofs.Common.{◌∙◌, sym, refl, []}
-use Rattle.osi_tap.specs.declared.rooms.Room.TheVariants.{Octets}
-use Rattle.osi_tap.specs.Tapping.{begin_within}
-use Rattle.osi_dispute.specs.Disputes.{transport_of}
-use Rattle.osi_dispute.specs.Rows.{capture_of, rows_of}
-use Rattle.osi_dispute.specs.Reading.{rows_left}
-use Rattle.osi_dispute.specs.Verdicts.{Knows}
+use Rattle.osi_dispute.proofs.Vocabulary.{◌∙◌, sym, refl, [], Octets, begin_within, transport_of, capture_of, rows_of, rows_left, Knows}
 use Rattle.osi_dispute.proofs.a_capture_is_judged_in_one_of_two_ways.{fed_rows, carried_rows, as_narrow, as_wide}
 use Rattle.osi_dispute.proofs.disputes.judge_octets.Goals as goal
 

@@ -1,6 +1,4 @@
-use Rattle.std.proofs.Common.{◌∙◌, ap, List, ℕ, ◌++◌}
-use Rattle.osi_tap.specs.Tapping.{comes_to}
-use Rattle.osi_dispute.specs.ReportTexts.{report_text}
+use Rattle.osi_dispute.proofs.Vocabulary.{◌∙◌, ap, List, ℕ, ◌++◌, comes_to, report_text}
 use Rattle.osi_dispute.proofs.disputes.judgement_by_tap.Goals as goal
 
 pub returns-clause-reported : goal.returns-clause-reported

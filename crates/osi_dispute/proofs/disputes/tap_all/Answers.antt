@@ -1,5 +1,5 @@
-use Rattle.std.proofs.Common.{List, ℕ, sym, subst, take, ◌≡◌, []}
-use Rattle.osi_judge.specs.Captures.{piece}
+use Rattle.std.proofs.Common.{arith}
+use Rattle.osi_dispute.proofs.Vocabulary.{List, ℕ, sym, subst, take, ◌≡◌, [], piece}
 use Rattle.osi_dispute.proofs.what_is_fed_piece_by_piece_passes_whole.{Comes, Passes, IsFed, comes_as, fed_none, fed_more}
 use Rattle.osi_dispute.proofs.what_is_fed_piece_by_piece_passes_whole.{fed_all, empty_yes, empty_not}
 use Rattle.osi_dispute.proofs.disputes.tap_all.Goals as goal
@@ -10,8 +10,7 @@ rest-preserved c = λ begin.
     let rest = c.rest.rest.now in
     let n = c.in_ok-used.used in
     let more : Passes (Comes begin) c.rest.tap c.feed.new.self (piece d (take n rest)) =
-    comes_as begin c.rest.tap c.feed.new.self (piece d (take n rest))
-    c.in_ok-used.ensures.ok in
+    grind (arith, comes_as begin c.rest.tap c.feed.new.self (piece d (take n rest)) c.in_ok-used.ensures.ok) in
     subst (λ (z : List ℕ). IsFed (Comes begin) d c.args.tap.now c.feed.new.self c.args.octets.now z) (sym c.split_at.ensures.back)
     (fed_more (Comes begin) d c.args.tap.now c.rest.tap c.feed.new.self c.args.octets.now rest n (c.rest.invariant begin) more)
 

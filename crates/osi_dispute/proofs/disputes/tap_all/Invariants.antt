@@ -1,5 +1,4 @@
-use Rattle.std.proofs.Common.{length}
-use Rattle.osi_tap.specs.Tapping.{State}
+use Rattle.osi_dispute.proofs.Vocabulary.{length, State}
 use Rattle.osi_dispute.proofs.what_is_fed_piece_by_piece_passes_whole.{Comes, IsFed}
 use Rattle.osi_dispute.proofs.disputes.tap_all.Given as goal
 

@@ -1,6 +1,4 @@
-use Rattle.std.proofs.Common.{[]}
-use Rattle.osi_tap.specs.Tapping.{begin}
-use Rattle.osi_dispute.specs.Reading.{rows_left}
+use Rattle.osi_dispute.proofs.Vocabulary.{[], begin, rows_left}
 use Rattle.osi_dispute.proofs.a_capture_is_judged_in_one_of_two_ways.{tapped_rows}
 use Rattle.osi_dispute.proofs.disputes.tapped.Goals as goal
 

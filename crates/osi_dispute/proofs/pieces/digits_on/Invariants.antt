@@ -1,5 +1,4 @@
-use Rattle.std.proofs.Common.{◌≡◌, ◌≤◌, ◌+◌, drop}
-use Rattle.osi_dispute.specs.Rows.{digits_on, digits_left}
+use Rattle.osi_dispute.proofs.Vocabulary.{◌≡◌, ◌≤◌, ◌+◌, drop, digits_on, digits_left}
 use Rattle.osi_dispute.proofs.pieces.digits_on.Given as goal
 
 abbrev pub invariant-octets : goal.invariant-octets

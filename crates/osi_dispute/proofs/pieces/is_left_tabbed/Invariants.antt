@@ -1,6 +1,4 @@
-use Rattle.std.proofs.Common.{◌≡◌, length}
-use Rattle.osi_dispute.specs.Rows.{left_is_tabbed}
-use Rattle.osi_dispute.specs.Reading.{rows_left}
+use Rattle.osi_dispute.proofs.Vocabulary.{◌≡◌, length, left_is_tabbed, rows_left}
 use Rattle.osi_dispute.proofs.pieces.is_left_tabbed.Given as goal
 
 abbrev pub invariant-pieces : goal.invariant-pieces

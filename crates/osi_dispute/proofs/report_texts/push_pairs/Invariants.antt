@@ -1,7 +1,4 @@
-use Rattle.std.proofs.Common.{◌≤◌, ◌-◌}
-use Rattle.osi_tap.specs.Standing.{HoldsState, IsSettled}
-use Rattle.osi_tap.specs.Tapping.{State}
-use Rattle.osi_dispute.specs.Adding.{AddsPairs}
+use Rattle.osi_dispute.proofs.Vocabulary.{◌≤◌, ◌-◌, HoldsState, IsSettled, State, AddsPairs}
 use Rattle.osi_dispute.proofs.report_texts.push_pairs.Given as goal
 
 abbrev pub invariant-connections : goal.invariant-connections

@@ -1,6 +1,4 @@
-use Rattle.std.proofs.Common.{ℕ, Option, subst}
-use Rattle.osi_tap.specs.Blaming.{SomeoneIs}
-use Rattle.osi_tap.specs.Tapping.{comes_to}
+use Rattle.osi_dispute.proofs.Vocabulary.{ℕ, Option, subst, SomeoneIs, comes_to}
 use Rattle.osi_dispute.proofs.each_connection_has_a_number_of_its_own.{nobody_blamed}
 use Rattle.osi_dispute.proofs.reports.session_first.Goals as goal
 

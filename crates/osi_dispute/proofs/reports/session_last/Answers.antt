@@ -1,5 +1,5 @@
-use Rattle.osi_tap.specs.Connections.{numbered}
-use Rattle.osi_tap.specs.Tapping.{comes_to}
+use Rattle.std.proofs.Common.{arith}
+use Rattle.osi_dispute.proofs.Vocabulary.{numbered, comes_to}
 use Rattle.osi_dispute.proofs.a_report_says_what_a_tap_holds.{if_some, joined_at, blamed_at, blamed_nowhere}
 use Rattle.osi_dispute.proofs.each_connection_has_a_number_of_its_own.{found_blamed}
 use Rattle.osi_dispute.proofs.reports.session_last.Goals as goal
@@ -22,6 +22,4 @@ returns-in-Some-clause-none c = λ capture k b n.
 
 pub returns-in-None-clause-none : goal.returns-in-None-clause-none
 returns-in-None-clause-none c = λ capture k b n.
-    let s = comes_to capture in
-    blamed_nowhere c.args.direction (numbered c.args.number s.course.sessions) (c.in-None.ensures.held s k.holds k.settled.judged)
-    (found_blamed capture c.args.direction c.args.number k.few b)
+    grind (arith, blamed_nowhere, found_blamed capture c.args.direction c.args.number k.few b)

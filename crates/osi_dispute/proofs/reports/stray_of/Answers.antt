@@ -1,5 +1,5 @@
-use Rattle.std.proofs.Common.{◌∙◌, refl, sym, ap}
-use Rattle.osi_judge.specs.Judging.{Watched}
+use Rattle.std.proofs.Common.{arith}
+use Rattle.osi_dispute.proofs.Vocabulary.{refl}
 use Rattle.osi_judge.specs.declared.findings.Finding.TheVariants as finding
 use Rattle.osi_dispute.specs.declared.reports.Last.TheVariants as ending
 use Rattle.osi_dispute.specs.declared.verdicts.Told.TheVariants as what
@@ -10,16 +10,13 @@ pub returns-in-Broke-clause-some : goal.returns-in-Broke-clause-some
 returns-in-Broke-clause-some c = λ s f number j e w n h k.
     stray_held s c.args.direction c.args.joint.now (what.Broke c.offset.result c.by.result)
     (ending.Broke c.args.direction c.offset.result c.by.result) f number j e w n h k
-    (broke_says c.args.direction c.args.joint.now j c.in-Broke.field-0 c.offset.result c.by.result (sym c.in-Broke.ensures.value)
-    (c.offset.ensures j h) (c.by.ensures.value ∙ ap (λ (w : Watched). w.by) c.side-side.ensures.value)) refl
+    (grind (arith, broke_says)) refl
 
 pub returns-in-Left-clause-some : goal.returns-in-Left-clause-some
 returns-in-Left-clause-some c = λ s f number j e w n h k.
     stray_held s c.args.direction c.args.joint.now (what.Left c.offset-in-Left.result c.by-in-Left.result)
     (ending.Left c.args.direction c.offset-in-Left.result c.by-in-Left.result) f number j e w n h k
-    (left_says c.args.direction c.args.joint.now j c.in-Left.field-0 c.offset-in-Left.result c.by-in-Left.result
-    (sym c.in-Left.ensures.value)
-    (c.offset-in-Left.ensures j h) (c.by-in-Left.ensures.value ∙ ap (λ (w : Watched). w.by) c.side-side.ensures.value)) refl
+    (grind (arith, left_says)) refl
 
 pub returns-in-Kept-clause-none : goal.returns-in-Kept-clause-none
 returns-in-Kept-clause-none c = λ j h b n.

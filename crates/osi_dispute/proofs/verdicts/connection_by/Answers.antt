@@ -1,8 +1,4 @@
-use Rattle.std.proofs.Common.{◌∙◌, sym, ap}
-use Rattle.osi_judge.specs.Following.{judged, half_of}
-use Rattle.osi_judge.specs.Stops.{broke_session}
-use Rattle.osi_judge.specs.declared.directions.Direction.TheVariants.{Right}
-use Rattle.osi_dispute.specs.Facts.{is_refused}
+use Rattle.osi_dispute.proofs.Vocabulary.{◌∙◌, sym, ap, judged, half_of, broke_session, Right, is_refused}
 use Rattle.osi_dispute.proofs.what_is_told_is_by_facts.{refused, unanswered}
 use Rattle.osi_dispute.proofs.verdicts.connection_by.Goals as goal
 

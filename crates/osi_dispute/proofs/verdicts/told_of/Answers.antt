@@ -1,8 +1,4 @@
-use Rattle.std.proofs.Common.{◌∙◌, sym, ap, refl}
-use Rattle.osi_judge.specs.declared.findings.Finding.TheVariants.{Broke, Left}
-use Rattle.osi_judge.specs.Judging.{Watched}
-use Rattle.osi_judge.specs.Following.{judged, half_of}
-use Rattle.osi_judge.specs.Sides.{watched}
+use Rattle.osi_dispute.proofs.Vocabulary.{◌∙◌, sym, ap, refl, Broke, Left, Watched, judged, half_of, watched}
 use Rattle.osi_dispute.proofs.what_is_told_is_by_facts.{told_kept, told_broke, told_left, told_many}
 use Rattle.osi_dispute.proofs.verdicts.told_of.Goals as goal
 

@@ -1,4 +1,5 @@
-use Rattle.osi_honest.proofs.Vocabulary.{SpduLaws, met_before, Left, Right}
+use Rattle.std.proofs.Common.{arith}
+use Rattle.osi_honest.proofs.Vocabulary.{SpduLaws, Left}
 use Rattle.osi_honest.proofs.class_0.what_a_session_answers_fits.{all_proper}
 use Rattle.osi_honest.proofs.opening.what_an_asking_end_does.{can_begin}
 use Rattle.osi_honest.proofs.sessions.what_a_calling_end_did.{caller_found, calling_did}
@@ -13,5 +14,4 @@ returns c = λ local begin end turns capture finding fresh run seen found.
     let counts = capture_counts Left capture turns seen found.mine found.others read in
     let steadies = capture_steadies capture seen.coming read.theirs read.their_cut.1.0 read.their_cut.1.1 seen.shown in
     caller_found c.an_honest_side_is_not_blamed.ensures capture turns seen finding found read counts steadies proper (can_begin law)
-    (calling_did proper (can_begin law) local begin end turns capture seen found.others (met_before Left capture read.theirs)
-    (met_before Right capture read.own) counts steadies fresh run)
+    (search (arith, calling_did, can_begin))

@@ -1,4 +1,4 @@
-use Rattle.osi_honest.proofs.Vocabulary.{SpduLaws}
+use Rattle.std.proofs.Common.{arith}
 use Rattle.osi_honest.proofs.class_0.what_a_session_answers_fits.{all_proper}
 use Rattle.osi_honest.proofs.opening.what_an_asking_end_does.{can_begin}
 use Rattle.osi_honest.proofs.transport.no_transport_of_an_end_is_blamed.{called_transport, calling_transport}
@@ -6,11 +6,8 @@ use Rattle.osi_honest.proofs.laws.the_transport_of_an_end_is_not_blamed.Goals as
 
 pub returns-clause-called : goal.returns-clause-called
 returns-clause-called c = λ local begin end turns capture stop fresh run seen stopped.
-    let law : SpduLaws = record { room = c.few_octets_fit.ensures; digits = c.serial_digits.ensures } in
-    called_transport (all_proper law c.what_closes_sends_nothing.ensures.octets) local begin end turns fresh run capture stop seen stopped
+    search (arith, called_transport, all_proper)
 
 pub returns-clause-calling : goal.returns-clause-calling
 returns-clause-calling c = λ local begin end turns capture stop fresh run seen stopped.
-    let law : SpduLaws = record { room = c.few_octets_fit.ensures; digits = c.serial_digits.ensures } in
-    calling_transport (all_proper law c.what_closes_sends_nothing.ensures.octets) (can_begin law) local begin end turns fresh run capture
-    stop seen stopped
+    search (arith, calling_transport, all_proper, can_begin)

@@ -1,5 +1,4 @@
-use Rattle.osi_honest.proofs.Vocabulary.{map}
-use Rattle.osi_honest.specs.Talking.{told_of}
+use Rattle.osi_honest.proofs.Vocabulary.{map, told_of}
 use Rattle.osi_honest.proofs.sessions.a_history_is_a_run.{is_sent}
 use Rattle.osi_honest.proofs.sessions.what_a_capture_shows_is_a_run.{shown_sent}
 use Rattle.osi_honest.proofs.laws.what_a_capture_shows_is_a_run.Goals as goal

@@ -1,7 +1,6 @@
-use Rattle.osi_honest.proofs.Vocabulary.{map, awaits}
-use Rattle.osi_session.specs.Sessions.{opens}
+use Rattle.std.proofs.Common.{arith}
+use Rattle.osi_honest.proofs.Vocabulary.{map, awaits, told_of}
 use Rattle.osi_honest.proofs.sessions.a_history_is_a_run.{is_sent}
-use Rattle.osi_honest.specs.Talking.{told_of}
 use Rattle.osi_honest.proofs.laws.what_a_session_said_is_explained.Goals as goal
 
 pub returns-clause-called : goal.returns-clause-called
@@ -10,5 +9,4 @@ returns-clause-called c = λ took said closed l h.
 
 pub returns-clause-caller : goal.returns-clause-caller
 returns-clause-caller c = λ o took said closed l fits h.
-    c.an_honest_session_is_explained.ensures.caller o took (map told_of said) fits
-    (is_sent (opens o) took said closed l h)
+    grind (arith, is_sent)

@@ -1,3 +1,4 @@
+use Rattle.std.proofs.Common.{arith}
 use Rattle.osi_honest.proofs.Vocabulary.{refl}
 use Rattle.osi_honest.proofs.class_0.what_a_session_answers_fits.{all_proper}
 use Rattle.osi_honest.proofs.opening.what_a_waiting_end_does.{turn_waits}
@@ -8,5 +9,4 @@ returns-clause-begins c = λ local. record { lasts = refl; is_called = refl; cla
 
 pub returns-clause-turn : goal.returns-clause-turn
 returns-clause-turn c =
-    turn_waits (all_proper (record { room = c.few_octets_fit.ensures; digits = c.serial_digits.ensures })
-    c.what_closes_sends_nothing.ensures.octets)
+    turn_waits (search (arith, all_proper))

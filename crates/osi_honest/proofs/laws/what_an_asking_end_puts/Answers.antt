@@ -1,4 +1,5 @@
-use Rattle.osi_honest.proofs.Vocabulary.{refl, SpduLaws, calls_with}
+use Rattle.std.proofs.Common.{arith}
+use Rattle.osi_honest.proofs.Vocabulary.{refl, SpduLaws}
 use Rattle.osi_honest.proofs.class_0.what_a_session_answers_fits.{all_proper}
 use Rattle.osi_honest.proofs.opening.what_an_asking_end_does.{can_begin, turn_asks}
 use Rattle.osi_honest.proofs.opening.what_an_idle_end_does.{idle_turn}
@@ -16,6 +17,4 @@ returns-clause-begins c = λ asks local. record { lasts = refl; is_caller = refl
 pub returns-clause-turn : goal.returns-clause-turn
 returns-clause-turn c =
     let law : SpduLaws = record { room = c.few_octets_fit.ensures; digits = c.serial_digits.ensures } in
-    λ r asks turn old new terms w takes.
-    turn_asks r (calls_with asks) (all_proper law c.what_closes_sends_nothing.ensures.octets) (can_begin law asks terms) refl turn old new w
-    takes
+    search (arith, turn_asks, all_proper, can_begin)

@@ -1,8 +1,8 @@
+use Rattle.std.proofs.Common.{arith}
 use Rattle.osi_honest.proofs.class_0.what_a_run_does_in_class_0.{run_goes}
 use Rattle.osi_honest.proofs.class_0.what_a_session_answers_fits.{all_proper}
 use Rattle.osi_honest.proofs.laws.what_an_open_end_puts.Goals as goal
 
 pub returns : goal.returns
 returns c =
-    run_goes (all_proper (record { room = c.few_octets_fit.ensures; digits = c.serial_digits.ensures })
-    c.what_closes_sends_nothing.ensures.octets)
+    run_goes (search (arith, all_proper))

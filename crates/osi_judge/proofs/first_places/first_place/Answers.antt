@@ -1,9 +1,5 @@
-use Rattle.std.proofs.Common.{◌<◌, length, refl, subst, arith}
-use Rattle.osi_message.specs.Reading.{word}
-use Rattle.osi_spdu.specs.Units.{said_by}
+use Rattle.osi_judge.proofs.Vocabulary.{◌<◌, length, refl, subst, arith, word, said_by, StepsAs, StepsTo}
 use Rattle.osi_judge.specs.declared.first_places.Step.{Step}
-use Rattle.osi_judge.specs.Kept.{StepsAs}
-use Rattle.osi_judge.specs.Walking.{StepsTo}
 use Rattle.osi_judge.proofs.kept.a_session_goes_on_by_one_function.{sender_on, sender_here, sender_stuck, sender_last}
 use Rattle.osi_judge.proofs.walked.the_first_place_is_enough.{said_first, moved_first, nowhere, at_last, chain, none_explains}
 use Rattle.osi_judge.proofs.first_places.first_place.Goals as goal
@@ -30,18 +26,11 @@ returns-in-Said-clause-explains c = λ us later x h.
 
 pub returns-in-Stuck-clause-explains : goal.returns-in-Stuck-clause-explains
 returns-in-Stuck-clause-explains c = λ us later x h.
-    let w = word (said_by c.args.unit.now) in
-    let within : c.takes.at.taken < length c.args.heard.now = omega (arith, c.takes-test.true, c.requires.passed) in
-    let does = subst (λ (s : Step). StepsTo c.args.heard.now w c.args.octets c.takes.at s) c.in-Stuck.is c.in_ok-next.ensures.does in
-    none_explains (c.takes.invariant.explains us later x h)
-    (nowhere us c.args.heard.now later w c.args.octets c.args.before c.takes.at c.requires.steady (x c.takes.at.taken within) does.0 does.1)
+    grind (arith, none_explains, nowhere)
 
 pub returns-clause-explains : goal.returns-clause-explains
 returns-clause-explains c = λ us later x h.
-    let w = word (said_by c.args.unit.now) in
-    chain (c.takes.invariant.explains us later x h)
-    (at_last us later w c.args.octets c.args.before c.takes.at c.says-last.result c.requires.steady h c.takes-test.false
-    c.says-last.ensures.says)
+    grind (arith, chain, at_last)
 
 pub takes-init : goal.takes-init
 takes-init c = record { explains = λ us later x h. (λ e. e, λ e. e); value = refl }

@@ -1,10 +1,5 @@
-use Rattle.std.proofs.Common.{◌≡◌, ◌-◌, ◌↔◌, ℕ, List, ◌∷◌}
-use Rattle.osi_message.specs.Reading.{word}
-use Rattle.osi_spdu.specs.Units.{said_by}
-use Rattle.osi_judge.specs.Explaining.{Remark, Explains}
-use Rattle.osi_judge.specs.Kept.{first_sender}
-use Rattle.osi_judge.specs.Nearest.{reached}
-use Rattle.osi_judge.specs.Walking.{the_remark, Ever}
+use Rattle.osi_judge.proofs.Vocabulary.{◌≡◌, ◌-◌, ◌↔◌, ℕ, List, ◌∷◌, word, said_by, Remark, Explains, first_sender, reached, the_remark}
+use Rattle.osi_judge.proofs.Vocabulary.{Ever}
 use Rattle.osi_judge.proofs.first_places.first_place.Given as goal
 
 abbrev pub invariant-takes : goal.invariant-takes

@@ -1,8 +1,4 @@
-use Rattle.std.proofs.Common.{◌≡◌, true, false, ap, option_map}
-use Rattle.osi_session.specs.declared.standing.Taking.{Taking}
-use Rattle.osi_session.specs.Standing.{listens, Takes, after_count}
-use Rattle.osi_session.specs.Steps.{reply_of}
-use Rattle.osi_session.specs.Taking.{count_taken}
+use Rattle.osi_judge.proofs.Vocabulary.{◌≡◌, true, false, ap, option_map, Taking, listens, Takes, after_count, reply_of, count_taken}
 use Rattle.osi_judge.proofs.walked.a_walk_loses_no_explanation.{at_some, at_none}
 use Rattle.osi_judge.proofs.kept.a_session_goes_on_by_one_function.{quiet_deaf, quiet_takes, quiet_answers}
 use Rattle.osi_judge.proofs.walked.the_first_place_is_enough.{heard_one, not_heard, answers_it}

@@ -1,6 +1,5 @@
-use Rattle.std.proofs.Common.{[], get_or, ◌∙◌, ◌+◌, sym, ap, option_map}
+use Rattle.osi_judge.proofs.Vocabulary.{[], get_or, ◌∙◌, ◌+◌, sym, ap, option_map, member}
 use Rattle.osi_judge.proofs.walked.the_first_place_is_enough.{moves_nowhere}
-use Rattle.osi_judge.specs.Kept.{member}
 use Rattle.osi_judge.proofs.kept.a_session_goes_on_by_one_function.{moves_as}
 use Rattle.osi_judge.proofs.first_places.moves.Goals as goal
 

@@ -1,5 +1,4 @@
-use Rattle.std.proofs.Common.{◌<◌, ◌≤◌, ◌-◌, length}
-use Rattle.osi_judge.specs.Runs.{begin_at}
+use Rattle.osi_judge.proofs.Vocabulary.{◌<◌, ◌≤◌, ◌-◌, length, begin_at}
 use Rattle.osi_judge.proofs.heard.run_at.Given as goal
 
 -- the place lies behind the beginning of one run and before that of the other

@@ -1,8 +1,4 @@
-use Rattle.std.proofs.Common.{take}
-use Rattle.osi_judge.specs.Sides.{watched}
-use Rattle.osi_judge.specs.Feeding.{lined, tapped}
-use Rattle.osi_judge.specs.Following.{both}
-use Rattle.osi_judge.specs.declared.directions.Direction.TheVariants.{Right}
+use Rattle.osi_judge.proofs.Vocabulary.{take, watched, lined, tapped, both, Right}
 use Rattle.osi_judge.proofs.captured.which_side_broke_the_protocol_first.{broken_beside}
 use Rattle.osi_judge.proofs.captured.what_is_known_of_both_sides_stays_known.{fed_right}
 use Rattle.osi_judge.proofs.captured.what_was_broken_stays_broken.{broken_still}

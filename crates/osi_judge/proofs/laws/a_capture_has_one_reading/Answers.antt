@@ -1,5 +1,4 @@
-use Rattle.std.proofs.lemmas.List.{map-append}
-use Rattle.osi_judge.specs.Captures.{of}
+use Rattle.osi_judge.proofs.Vocabulary.{map-append, of}
 use Rattle.osi_judge.proofs.captured.what_was_found_of_a_capture.{one_reading}
 use Rattle.osi_judge.proofs.laws.a_capture_has_one_reading.Goals as goal
 

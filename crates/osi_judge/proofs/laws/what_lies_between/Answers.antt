@@ -1,5 +1,4 @@
-use Rattle.std.proofs.Common.{refl}
-use Rattle.osi_judge.specs.Between.{seen_to}
+use Rattle.osi_judge.proofs.Vocabulary.{refl, seen_to}
 use Rattle.osi_judge.proofs.walked.what_lies_between.{lies_between}
 use Rattle.osi_judge.proofs.laws.what_lies_between.Goals as goal
 

@@ -1,9 +1,5 @@
-use Rattle.std.proofs.Common.{◌∙◌, ◌+◌, ◌<◌, ◌≤◌, refl, sym, ap, subst, List, ℕ, take, length, arith}
-use Rattle.std.proofs.lemmas.List.{length-take-le}
-use Rattle.osi_tpkt.specs.Stream.{offset_of}
-use Rattle.osi_tpkt.specs.Packet.{stated_length}
-use Rattle.osi_judge.specs.Sides.{watched}
-use Rattle.osi_judge.specs.Feeding.{handshake_in, tapped, ignored, since_in, met_in}
+use Rattle.osi_judge.proofs.Vocabulary.{◌∙◌, ◌+◌, ◌<◌, ◌≤◌, refl, sym, ap, subst, List, ℕ, take, length, arith, length-take-le, offset_of}
+use Rattle.osi_judge.proofs.Vocabulary.{stated_length, watched, handshake_in, tapped, ignored, since_in, met_in}
 use Rattle.osi_judge.proofs.captured.what_a_line_keeps.{none_here, within_wanted, looked}
 use Rattle.osi_judge.proofs.lines.feed.Goals as goal
 

@@ -1,7 +1,5 @@
-use Rattle.std.proofs.Common.{refl, sym, ap, subst, List, ℕ, ◌≤◌, length, take, Some, Ok}
-use Rattle.osi_tpkt.specs.Packet.{IsPacket, IsPartial, IsFaultOf}
-use Rattle.osi_judge.specs.Sides.{watched}
-use Rattle.osi_judge.specs.Feeding.{Lined, handshake_in, lined, tapped, goes_on, faulty}
+use Rattle.osi_judge.proofs.Vocabulary.{refl, sym, ap, subst, List, ℕ, ◌≤◌, length, take, Some, Ok, IsPacket, IsPartial, IsFaultOf, watched}
+use Rattle.osi_judge.proofs.Vocabulary.{Lined, handshake_in, lined, tapped, goes_on, faulty}
 use Rattle.osi_judge.proofs.captured.what_a_line_keeps.{settled_whole}
 use Rattle.osi_judge.proofs.lines.settle.Goals as goal
 

@@ -1,6 +1,4 @@
-use Rattle.osi_judge.specs.Sides.{watched}
-use Rattle.osi_judge.specs.Feeding.{handshake_in, front, lined}
-use Rattle.osi_judge.specs.Transport.{step}
+use Rattle.osi_judge.proofs.Vocabulary.{watched, handshake_in, front, lined, step}
 use Rattle.osi_judge.proofs.captured.what_a_line_keeps.{unit_taken}
 use Rattle.osi_judge.proofs.lines.take_unit.Goals as goal
 

@@ -1,5 +1,4 @@
-use Rattle.std.proofs.Common.{◌≡◌, ◌≤◌, false, length, drop}
-use Rattle.osi_judge.specs.Kept.{is_among}
+use Rattle.osi_judge.proofs.Vocabulary.{◌≡◌, ◌≤◌, false, length, drop, is_among}
 use Rattle.osi_judge.proofs.members.is_among.Given as goal
 
 abbrev pub invariant-members : goal.invariant-members

@@ -1,7 +1,5 @@
-use Rattle.std.proofs.Common.{◌∙◌, sym, Ok}
-use Rattle.osi_message.specs.Reading.{said_by_units}
-use Rattle.osi_spdu.specs.Groups.{behind_of, first_of, units_of}
-use Rattle.osi_judge.specs.Outlines.{outline_by}
+use Rattle.osi_judge.proofs.Vocabulary.{◌∙◌, sym, Ok, said_by_units, behind_of, units_of, outline_by}
+use Rattle.osi_spdu.specs.Groups.{first_of}
 use Rattle.osi_judge.proofs.outlined.an_outline_is_taken_alike.{as_well, more_stay}
 use Rattle.osi_judge.proofs.outlines.outline_of.Goals as goal
 

@@ -1,7 +1,5 @@
-use Rattle.osi_message.specs.Reading.{word}
-use Rattle.osi_spdu.specs.Units.{said_by}
+use Rattle.osi_judge.proofs.Vocabulary.{word, said_by, way_of}
 use Rattle.osi_judge.proofs.walked.a_walk_to_a_restart_keeps_two.{asks, restarted_by}
-use Rattle.osi_judge.specs.Kept.{way_of}
 use Rattle.osi_judge.proofs.kept.a_walk_to_a_restart_is_one_function.{none_is, asks_not, asks_alone, asks_joined}
 use Rattle.osi_judge.proofs.restarts.ask.Goals as goal
 

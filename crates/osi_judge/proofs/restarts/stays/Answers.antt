@@ -1,5 +1,4 @@
-use Rattle.std.proofs.Common.{◌∙◌, sym, ap}
-use Rattle.osi_judge.specs.Kept.{is_still}
+use Rattle.osi_judge.proofs.Vocabulary.{◌∙◌, sym, ap, is_still}
 use Rattle.osi_judge.proofs.kept.two_sessions_are_compared.{seen_told}
 use Rattle.osi_judge.proofs.restarts.stays.Goals as goal
 

@@ -1,11 +1,5 @@
-use Rattle.std.proofs.Common.{◌∙◌, sym, subst, Option}
-use Rattle.osi_message.specs.Reading.{word}
-use Rattle.osi_spdu.specs.Units.{said_by}
-use Rattle.osi_judge.specs.declared.members.Member.{Member}
-use Rattle.osi_judge.specs.declared.restarts.Asker.{Asker}
-use Rattle.osi_judge.specs.Walking.{MovesTo}
+use Rattle.osi_judge.proofs.Vocabulary.{◌∙◌, sym, subst, Option, word, said_by, Member, Asker, MovesTo, way_of}
 use Rattle.osi_judge.proofs.walked.a_walk_to_a_restart_keeps_two.{moves_none, steps_on, steps_out}
-use Rattle.osi_judge.specs.Kept.{way_of}
 use Rattle.osi_judge.proofs.kept.a_walk_to_a_restart_is_one_function.{none_is, step_stops, step_on}
 use Rattle.osi_judge.proofs.restarts.step.Goals as goal
 

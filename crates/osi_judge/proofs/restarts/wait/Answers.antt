@@ -1,8 +1,4 @@
-use Rattle.std.proofs.Common.{◌↔◌, ◌+◌, List, ℕ, Option, Some, subst, sym, ◌∙◌}
-use Rattle.osi_message.specs.Reading.{word}
-use Rattle.osi_spdu.specs.Units.{said_by}
-use Rattle.osi_judge.specs.declared.restarts.Asked.{Asked}
-use Rattle.osi_judge.specs.Waiting.{Waits, Known}
+use Rattle.osi_judge.proofs.Vocabulary.{◌↔◌, ◌+◌, List, ℕ, Option, Some, subst, sym, ◌∙◌, word, said_by, Asked, Waits, Known}
 use Rattle.osi_judge.proofs.walked.a_walk_to_a_restart_keeps_two.{still_wait}
 use Rattle.osi_judge.proofs.kept.a_walk_to_a_restart_is_one_function.{waited_none, waited_first, waited_last, waited_both}
 use Rattle.osi_judge.proofs.restarts.wait.Goals as goal

@@ -1,7 +1,5 @@
-use Rattle.std.proofs.Common.{◌≡◌, ◌∙◌, sym, ap, true, false}
-use Rattle.osi_message.specs.Reading.{word}
-use Rattle.osi_session.specs.Phases.{is_restarting}
-use Rattle.osi_spdu.specs.Units.{said_by}
+use Rattle.std.proofs.Common.{arith}
+use Rattle.osi_judge.proofs.Vocabulary.{◌≡◌, ◌∙◌, sym, ap, true, false, word, is_restarting, said_by}
 use Rattle.osi_judge.proofs.walked.a_restart_waits.{it_waits}
 use Rattle.osi_judge.proofs.kept.a_walk_to_a_restart_is_one_function.{unsaid, waits_not, waits_unsaid, waits_moved}
 use Rattle.osi_judge.proofs.kept.a_walk_to_a_restart_is_one_function.{waits_moved_after, waits_so}
@@ -16,8 +14,7 @@ returns-clause-holds c = λ t.
 
 pub returns-then-not-is_restarting-clause-value : goal.returns-then-not-is_restarting-clause-value
 returns-then-not-is_restarting-clause-value c =
-    let not : is_restarting c.args.standing.state.phase ≡ false = ap is_restarting (sym c.phase.ensures) ∙ sym
-    c.is_restarting.ensures ∙ c.if-not-is_restarting.true in
+    let not : is_restarting c.args.standing.state.phase ≡ false = grind arith in
     waits_not (word (said_by c.args.abort.now)) c.args.standing c.args.tsdu.now not
 
 pub returns-in_default-clause-value : goal.returns-in_default-clause-value

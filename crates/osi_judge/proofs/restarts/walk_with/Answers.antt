@@ -1,10 +1,5 @@
-use Rattle.std.proofs.Common.{◌≡◌, ◌+◌, ◌↔◌, Option, Some, subst}
-use Rattle.osi_message.specs.Reading.{word}
-use Rattle.osi_spdu.specs.Units.{said_by}
-use Rattle.osi_judge.specs.declared.restarts.Asker.{Asker}
-use Rattle.osi_judge.specs.Kept.{way_of}
-use Rattle.osi_judge.specs.Waiting.{AskerIsAsked, StillOpen}
-use Rattle.osi_judge.specs.Walking.{the_remark}
+use Rattle.osi_judge.proofs.Vocabulary.{◌≡◌, ◌+◌, ◌↔◌, Option, Some, subst, word, said_by, Asker, way_of, AskerIsAsked, StillOpen}
+use Rattle.osi_judge.proofs.Vocabulary.{the_remark}
 use Rattle.osi_judge.proofs.walked.a_walk_loses_no_explanation.{at_some}
 use Rattle.osi_judge.proofs.walked.a_walk_to_a_restart_keeps_two.{both, steps_last}
 use Rattle.osi_judge.proofs.kept.a_walk_to_a_restart_is_one_function.{StepsAs, walk_on, walk_stops, walk_ends}

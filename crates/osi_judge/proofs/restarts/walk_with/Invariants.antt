@@ -1,11 +1,5 @@
-use Rattle.std.proofs.Common.{◌≡◌, ◌-◌, ◌∷◌, ◌⊎◌, ◌↔◌, ℕ, List, Some, None}
-use Rattle.osi_message.specs.Reading.{word}
-use Rattle.osi_spdu.specs.Units.{said_by}
-use Rattle.osi_judge.specs.Explaining.{Remark, Explains}
-use Rattle.osi_judge.specs.Kept.{way_of}
-use Rattle.osi_judge.specs.Members.{SomeExplains}
-use Rattle.osi_judge.specs.Waiting.{MayBeAsked, StillOpen}
-use Rattle.osi_judge.specs.Walking.{the_remark, Ever}
+use Rattle.osi_judge.proofs.Vocabulary.{◌≡◌, ◌-◌, ◌∷◌, ◌⊎◌, ◌↔◌, ℕ, List, Some, None, word, said_by, Remark, Explains, way_of, SomeExplains}
+use Rattle.osi_judge.proofs.Vocabulary.{MayBeAsked, StillOpen, the_remark, Ever}
 use Rattle.osi_judge.proofs.kept.a_walk_to_a_restart_is_one_function.{rest_of}
 use Rattle.osi_judge.proofs.restarts.walk_with.Given as goal
 

@@ -1,6 +1,4 @@
-use Rattle.std.proofs.Common.{length, subst}
-use Rattle.osi_spdu.specs.Groups.{units_of}
-use Rattle.osi_spdu.specs.Reading.{Gives, tsdu_at}
+use Rattle.osi_judge.proofs.Vocabulary.{length, subst, units_of, Gives, tsdu_at}
 use Rattle.osi_judge.proofs.told.the_nearest_of_all_sessions_is_told.{breaks_as, breaks_unread}
 use Rattle.osi_judge.proofs.rules.break_at.Goals as goal
 

@@ -1,10 +1,5 @@
-use Rattle.std.proofs.Common.{subst, List}
-use Rattle.osi_spdu.specs.Groups.{units_behind, units_of}
-use Rattle.osi_spdu.specs.Units.{said_by}
-use Rattle.osi_judge.specs.declared.members.Member.{Member}
-use Rattle.osi_judge.specs.declared.rules.Behind.{Behind}
+use Rattle.osi_judge.proofs.Vocabulary.{subst, List, units_behind, units_of, said_by, Member, Behind, LeavesBehind, in_effect}
 use Rattle.osi_judge.specs.declared.rules.Behind.TheVariants as behind
-use Rattle.osi_judge.specs.Breaking.{LeavesBehind, in_effect}
 use Rattle.osi_judge.proofs.told.the_nearest_of_all_sessions_is_told.{breaks_later, breaks_here, breaks_last_ok}
 use Rattle.osi_judge.proofs.rules.break_in.Goals as goal
 

@@ -1,7 +1,4 @@
-use Rattle.std.proofs.Common.{◌∷◌, [], ◌++◌, length}
-use Rattle.osi_spdu.specs.Groups.{units_behind, units_of}
-use Rattle.osi_spdu.specs.Units.{said_by}
-use Rattle.osi_judge.specs.Breaking.{in_effect}
+use Rattle.osi_judge.proofs.Vocabulary.{◌∷◌, [], ◌++◌, length, units_behind, units_of, said_by, in_effect}
 use Rattle.osi_judge.proofs.told.the_nearest_of_all_sessions_is_told.{Continues}
 use Rattle.osi_judge.proofs.rules.break_in.Given as goal
 

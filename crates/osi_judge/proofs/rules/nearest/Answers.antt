@@ -1,5 +1,4 @@
-use Rattle.std.proofs.Common.{refl}
-use Rattle.osi_judge.specs.Nearest.{unsaid, far}
+use Rattle.osi_judge.proofs.Vocabulary.{refl, unsaid, far}
 use Rattle.osi_judge.proofs.told.the_nearest_of_all_sessions_is_told.{all_tried}
 use Rattle.osi_judge.proofs.rules.nearest.Goals as goal
 

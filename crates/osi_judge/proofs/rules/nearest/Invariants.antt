@@ -1,6 +1,4 @@
-use Rattle.std.proofs.Common.{◌≡◌, drop}
-use Rattle.std.specs.List.{fold}
-use Rattle.osi_judge.specs.Nearest.{unsaid, far}
+use Rattle.osi_judge.proofs.Vocabulary.{◌≡◌, drop, fold, unsaid, far}
 use Rattle.osi_judge.proofs.told.the_nearest_of_all_sessions_is_told.{tries}
 use Rattle.osi_judge.proofs.rules.nearest.Given as goal
 

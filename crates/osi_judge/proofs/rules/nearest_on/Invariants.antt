@@ -1,5 +1,4 @@
-use Rattle.std.proofs.Common.{◌≡◌, ◌-◌}
-use Rattle.osi_judge.specs.Nearest.{unsaid}
+use Rattle.osi_judge.proofs.Vocabulary.{◌≡◌, ◌-◌, unsaid}
 use Rattle.osi_judge.proofs.told.the_nearest_of_all_sessions_is_told.{tries}
 use Rattle.osi_judge.proofs.rules.nearest_on.Given as goal
 

@@ -1,5 +1,4 @@
-use Rattle.std.proofs.Common.{◌∙◌, sym, ap}
-use Rattle.std.specs.Option.{option_copied}
+use Rattle.osi_judge.proofs.Vocabulary.{◌∙◌, sym, ap, option_copied}
 use Rattle.osi_judge.proofs.told.how_a_session_comes_on.{first_among, first_is, first_none}
 use Rattle.osi_judge.proofs.standings.first_of.Goals as goal
 

@@ -1,8 +1,5 @@
-use Rattle.std.proofs.Common.{◌≡◌, drop, false}
-use Rattle.std.specs.List.{fold}
-use Rattle.osi_judge.specs.Foremost.{before_of, first_of}
-use Rattle.osi_judge.specs.Judging.{is_empty}
-use Rattle.osi_judge.specs.Onward.{IsAmong}
+use Rattle.osi_judge.proofs.Vocabulary.{◌≡◌, drop, false, fold, before_of, is_empty, IsAmong}
+use Rattle.osi_judge.specs.Foremost.{first_of}
 use Rattle.osi_judge.proofs.standings.foremost.Given as goal
 
 abbrev pub invariant-members : goal.invariant-members

@@ -1,5 +1,4 @@
-use Rattle.std.proofs.Common.{refl, subst, ℕ, ◌<◌}
-use Rattle.osi_judge.specs.Onward.{stays}
+use Rattle.osi_judge.proofs.Vocabulary.{refl, subst, ℕ, ◌<◌, stays}
 use Rattle.osi_judge.proofs.told.how_a_session_comes_on.{comes_next, stands_stop}
 use Rattle.osi_judge.proofs.told.the_nearest_of_all_sessions_is_told.{goes_next}
 use Rattle.osi_judge.proofs.standings.stands_behind.Goals as goal

@@ -1,6 +1,4 @@
-use Rattle.std.proofs.Common.{◌≡◌, ◌-◌, length}
-use Rattle.osi_judge.specs.Nearest.{goes_to}
-use Rattle.osi_judge.specs.Onward.{Comes}
+use Rattle.osi_judge.proofs.Vocabulary.{◌≡◌, ◌-◌, length, goes_to, Comes}
 use Rattle.osi_judge.proofs.standings.stands_behind.Given as goal
 
 abbrev pub invariant-takes : goal.invariant-takes

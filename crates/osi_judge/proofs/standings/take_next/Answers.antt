@@ -1,7 +1,4 @@
-use Rattle.std.proofs.Common.{◌≡◌, ◌∙◌, sym, true}
-use Rattle.osi_session.specs.declared.standing.Taking.{Taking}
-use Rattle.osi_session.specs.Standing.{listens, Takes, after_count}
-use Rattle.osi_session.specs.Taking.{count_taken}
+use Rattle.osi_judge.proofs.Vocabulary.{◌≡◌, ◌∙◌, sym, true, Taking, listens, Takes, after_count, count_taken}
 use Rattle.osi_judge.proofs.walked.a_walk_loses_no_explanation.{at_some}
 use Rattle.osi_judge.proofs.told.how_a_session_comes_on.{Takings, stops, goes_quietly}
 use Rattle.osi_judge.proofs.standings.take_next.Goals as goal

@@ -1,11 +1,6 @@
-use Rattle.std.proofs.Common.{◌∙◌, sym, ap, length, subst, Result}
-use Rattle.osi_spdu.specs.Groups.{units_of}
-use Rattle.osi_spdu.specs.Reading.{Gives, tsdu_at}
-use Rattle.osi_spdu.specs.declared.faults.SpduFault.{SpduFault}
-use Rattle.osi_message.specs.Reading.{said_at, said_if_read}
-use Rattle.osi_message.specs.Words.{Words}
-use Rattle.osi_judge.specs.Explaining.{Told}
-use Rattle.osi_judge.specs.Kept.{after_read}
+use Rattle.std.proofs.Common.{arith}
+use Rattle.osi_judge.proofs.Vocabulary.{ap, subst, units_of, Gives, tsdu_at, said_if_read, Told}
+use Rattle.osi_message.specs.Reading.{said_at}
 use Rattle.osi_judge.proofs.walked.sessions_after_a_unit.{unread_came}
 use Rattle.osi_judge.proofs.kept.all_sessions_are_walked_from.{if_ok_as}
 use Rattle.osi_judge.proofs.telling.behind_tsdu.Goals as goal
@@ -22,14 +17,11 @@ pub returns-in-Err-clause-value : goal.returns-in-Err-clause-value
 unfolding said_at
 returns-in-Err-clause-value c =
     let read = subst (λ r. Gives units_of r (tsdu_at c.args.tsdu.now)) c.in-Err.is c.read_group-read.ensures.exact in
-    c.new.ensures.items
-    ∙ sym (ap (λ (r : Result Words SpduFault). after_read c.args.heard.now (length c.args.tsdu.now) c.args.before c.args.members.now r)
-    (ap said_if_read read))
+    grind arith
 
 pub returns-in-Ok-clause-value : goal.returns-in-Ok-clause-value
 unfolding said_at
 returns-in-Ok-clause-value c =
     let read = subst (λ r. Gives units_of r (tsdu_at c.args.tsdu.now)) c.in-Ok.is c.read_group-read.ensures.exact in
     if_ok_as (λ v. v.items) c.behind_units.result _ _
-    (ap (λ (r : Result Words SpduFault). after_read c.args.heard.now (length c.args.tsdu.now) c.args.before c.args.members.now r)
-    (sym (ap said_if_read read))) c.behind_units.ensures.value
+    (grind arith) c.behind_units.ensures.value

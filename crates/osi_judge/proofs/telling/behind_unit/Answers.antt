@@ -1,17 +1,13 @@
-use Rattle.osi_message.specs.Reading.{word}
-use Rattle.osi_spdu.specs.Units.{said_by}
-use Rattle.osi_judge.specs.Walking.{the_remark}
+use Rattle.std.proofs.Common.{arith}
+use Rattle.osi_judge.proofs.Vocabulary.{word, said_by, the_remark}
 use Rattle.osi_judge.proofs.walked.sessions_after_a_unit.{first_so_far, next_so_far, last_so_far}
 use Rattle.osi_judge.proofs.kept.all_sessions_are_walked_from.{walked_first, walked_next, walked_last}
 use Rattle.osi_judge.proofs.telling.behind_unit.Goals as goal
 
 pub members-init : goal.members-init
 members-init c = record {
-  explains = λ us later x h. first_so_far us later (the_remark (word
-      (said_by c.args.unit.now)) c.args.octets c.args.before) c.args.members.now
-      c.new-next.result.items c.new-next.ensures.items;
-  value = walked_first c.args.heard.now (word (said_by c.args.unit.now)) c.args.octets c.args.before c.args.members.now
-      c.new-next.result.items c.new-next.ensures.items;
+  explains = grind (arith, first_so_far);
+  value = grind (arith, walked_first);
 }
 
 pub members-preserved : goal.members-preserved
@@ -29,8 +25,7 @@ members-preserved c = record {
 
 pub returns-clause-explains : goal.returns-clause-explains
 returns-clause-explains c = λ us later x h.
-    last_so_far us later (the_remark (word (said_by c.args.unit.now)) c.args.octets c.args.before) c.args.members.now c.members.next.items
-    c.members.member-index c.members-test.false (c.members.invariant.explains us later x h)
+    search (arith, last_so_far, c.members.invariant.explains us later x h)
 
 pub returns-clause-value : goal.returns-clause-value
 returns-clause-value c =

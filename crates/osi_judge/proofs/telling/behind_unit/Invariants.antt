@@ -1,9 +1,4 @@
-use Rattle.std.proofs.Common.{◌≡◌, ℕ, List, drop}
-use Rattle.osi_message.specs.Reading.{word}
-use Rattle.osi_spdu.specs.Units.{said_by}
-use Rattle.osi_judge.specs.Explaining.{Remark}
-use Rattle.osi_judge.specs.Kept.{after_word}
-use Rattle.osi_judge.specs.Walking.{the_remark, Ever}
+use Rattle.osi_judge.proofs.Vocabulary.{◌≡◌, ℕ, List, drop, word, said_by, Remark, after_word, the_remark, Ever}
 use Rattle.osi_judge.proofs.walked.sessions_after_a_unit.{SoFar}
 use Rattle.osi_judge.proofs.kept.all_sessions_are_walked_from.{rest_of}
 use Rattle.osi_judge.proofs.telling.behind_unit.Given as goal

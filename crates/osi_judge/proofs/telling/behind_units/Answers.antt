@@ -1,10 +1,7 @@
-use Rattle.std.proofs.Common.{◌≡◌, ◌∙◌, refl, ap, subst, Bool, ◌||◌, List, map}
-use Rattle.osi_message.specs.Reading.{word, said_by_units}
-use Rattle.osi_spdu.specs.Groups.{units_behind, behind_of, first_of, units_of}
-use Rattle.osi_spdu.specs.Units.{said_by}
+use Rattle.osi_judge.proofs.Vocabulary.{◌≡◌, ◌∙◌, refl, ap, subst, Bool, ◌||◌, List, map, word, said_by_units, units_behind, behind_of}
+use Rattle.osi_judge.proofs.Vocabulary.{units_of, said_by, Member, after_word}
+use Rattle.osi_spdu.specs.Groups.{first_of}
 use Rattle.osi_judge.proofs.walked.sessions_after_a_unit.{UnitGives, units_begin, units_turn, units_restarted, units_item}
-use Rattle.osi_judge.specs.declared.members.Member.{Member}
-use Rattle.osi_judge.specs.Kept.{after_word}
 use Rattle.osi_judge.proofs.kept.all_sessions_are_walked_from.{leads_first, leads_next, leads_restarted, leads_item}
 use Rattle.osi_judge.proofs.telling.behind_units.Goals as goal
 

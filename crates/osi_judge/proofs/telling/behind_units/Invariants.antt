@@ -1,7 +1,4 @@
-use Rattle.std.proofs.Common.{length, map}
-use Rattle.osi_message.specs.Reading.{word, said_by_units}
-use Rattle.osi_spdu.specs.Groups.{units_behind, units_of}
-use Rattle.osi_spdu.specs.Units.{said_by}
+use Rattle.osi_judge.proofs.Vocabulary.{length, map, word, said_by_units, units_behind, units_of, said_by}
 use Rattle.osi_judge.proofs.walked.sessions_after_a_unit.{UnitsSoFar}
 use Rattle.osi_judge.proofs.kept.all_sessions_are_walked_from.{LeadsOn}
 use Rattle.osi_judge.proofs.telling.behind_units.Given as goal

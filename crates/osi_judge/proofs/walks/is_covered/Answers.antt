@@ -1,6 +1,4 @@
-use Rattle.std.proofs.Common.{◌∙◌, sym, ap, Option}
-use Rattle.osi_session.specs.Standing.{Seen}
-use Rattle.osi_judge.specs.Kept.{is_covered}
+use Rattle.osi_judge.proofs.Vocabulary.{◌∙◌, sym, ap, Option, Seen, is_covered}
 use Rattle.osi_judge.proofs.kept.two_sessions_are_compared.{seen_told}
 use Rattle.osi_judge.proofs.walks.is_covered.Goals as goal
 

@@ -1,6 +1,4 @@
-use Rattle.std.proofs.Common.{◌∙◌, sym}
-use Rattle.osi_message.specs.Reading.{word}
-use Rattle.osi_spdu.specs.Units.{said_by}
+use Rattle.osi_judge.proofs.Vocabulary.{◌∙◌, sym, word, said_by}
 use Rattle.osi_judge.proofs.kept.a_walk_keeps_who_sends_on_the_way.{said_not, said_covered, said_anew}
 use Rattle.osi_judge.proofs.kept.a_walk_to_a_restart_is_one_function.{unsaid}
 use Rattle.osi_judge.proofs.walks.say_it.Goals as goal

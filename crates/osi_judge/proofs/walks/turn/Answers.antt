@@ -1,13 +1,5 @@
-use Rattle.std.proofs.Common.{◌∙◌, ◌≡◌, refl, sym, ap, subst, ℕ, List, [], get_or, true, false, ◌+◌, option_map}
-use Rattle.osi_message.specs.Reading.{word}
-use Rattle.osi_session.specs.declared.standing.Taking.{Taking}
-use Rattle.osi_session.specs.Standing.{listens, Takes, after_count}
-use Rattle.osi_session.specs.Steps.{reply_of}
-use Rattle.osi_session.specs.Taking.{count_taken}
-use Rattle.osi_spdu.specs.Units.{said_by}
-use Rattle.osi_judge.specs.declared.members.Member.{Member}
-use Rattle.osi_judge.specs.declared.walks.Walker.{Walker}
-use Rattle.osi_judge.specs.Walking.{MayFollow}
+use Rattle.osi_judge.proofs.Vocabulary.{◌∙◌, ◌≡◌, refl, sym, ap, subst, ℕ, List, [], get_or, true, false, ◌+◌, option_map, word, Taking}
+use Rattle.osi_judge.proofs.Vocabulary.{listens, Takes, after_count, reply_of, count_taken, said_by, Member, Walker, MayFollow}
 use Rattle.osi_judge.proofs.walked.a_walk_loses_no_explanation.{deaf, answered, goes_on, none_of, Took, at_some, at_none}
 use Rattle.osi_judge.proofs.kept.a_walk_keeps_who_sends_on_the_way.{turn_deaf, turn_answers, turn_on}
 use Rattle.osi_judge.proofs.walks.turn.Goals as goal

@@ -1,8 +1,5 @@
-use Rattle.std.proofs.Common.{◌∙◌, sym, ap, Some}
-use Rattle.std.specs.List.{fold}
-use Rattle.osi_message.specs.Reading.{word}
-use Rattle.osi_spdu.specs.Units.{said_by}
-use Rattle.osi_judge.specs.Kept.{added, listed}
+use Rattle.std.proofs.Common.{arith}
+use Rattle.osi_judge.proofs.Vocabulary.{◌∙◌, sym, ap, Some, fold, word, said_by, added, listed}
 use Rattle.osi_judge.proofs.kept.a_walk_keeps_who_sends_on_the_way.{place_restart, place_other, place_steady}
 use Rattle.osi_judge.proofs.kept.a_walk_to_a_restart_is_one_function.{on_ok}
 use Rattle.osi_judge.proofs.walks.walk.Goals as goal
@@ -17,8 +14,7 @@ pub returns-then-not-is_steady-clause-value : goal.returns-then-not-is_steady-cl
 returns-then-not-is_steady-clause-value c =
     on_ok c.walk_through.result c.args.next.now.items c.walk_through.new.next.items _ _
     (place_other c.args.heard.now (word (said_by c.args.unit.now)) c.args.octets c.args.before c.args.member
-    (sym c.is_restart_unit.ensures ∙ c.if-is_restart_unit.false) (sym c.is_steady.ensures
-    ∙ c.if-not-is_steady.true)) c.walk_through.ensures.value
+    (sym c.is_restart_unit.ensures ∙ c.if-is_restart_unit.false) (grind arith)) c.walk_through.ensures.value
 
 pub returns-in-Some-clause-value : goal.returns-in-Some-clause-value
 returns-in-Some-clause-value c =

@@ -1,8 +1,4 @@
-use Rattle.std.proofs.Common.{◌≡◌, ◌+◌, Option, None, subst}
-use Rattle.osi_message.specs.Reading.{word}
-use Rattle.osi_spdu.specs.Units.{said_by}
-use Rattle.osi_judge.specs.declared.walks.Walker.{Walker}
-use Rattle.osi_judge.specs.Walking.{the_remark, Turns}
+use Rattle.osi_judge.proofs.Vocabulary.{◌≡◌, ◌+◌, Option, None, subst, word, said_by, Walker, the_remark, Turns}
 use Rattle.osi_judge.proofs.walked.a_walk_loses_no_explanation.{at_some, walked_turn, walked_stop, walked_last}
 use Rattle.osi_judge.proofs.kept.a_walk_keeps_who_sends_on_the_way.{Steps, walk_on, walk_stops, walk_ends}
 use Rattle.osi_judge.proofs.walks.walk_through.Goals as goal

@@ -1,8 +1,4 @@
-use Rattle.std.proofs.Common.{◌≡◌, ◌-◌, ℕ, List, None}
-use Rattle.osi_message.specs.Reading.{word}
-use Rattle.osi_spdu.specs.Units.{said_by}
-use Rattle.osi_judge.specs.Explaining.{Remark}
-use Rattle.osi_judge.specs.Walking.{the_remark, Ever, Walked}
+use Rattle.osi_judge.proofs.Vocabulary.{◌≡◌, ◌-◌, ℕ, List, None, word, said_by, Remark, the_remark, Ever, Walked}
 use Rattle.osi_judge.proofs.kept.a_walk_keeps_who_sends_on_the_way.{rest_of}
 use Rattle.osi_judge.proofs.walks.walk_through.Given as goal
 

@@ -1,7 +1,4 @@
-use Rattle.std.proofs.Common.{◌∙◌, ◌-◌, ap, Some, None}
-use Rattle.osi_message.specs.Reading.{word}
-use Rattle.osi_spdu.specs.Units.{said_by}
-use Rattle.osi_judge.specs.Kept.{Way, askers}
+use Rattle.osi_judge.proofs.Vocabulary.{◌∙◌, ◌-◌, ap, Some, None, word, said_by, Way, askers}
 use Rattle.osi_judge.proofs.kept.a_walk_keeps_who_sends_on_the_way.{restarts_with}
 use Rattle.osi_judge.proofs.kept.a_walk_to_a_restart_is_one_function.{on_ok}
 use Rattle.osi_judge.proofs.walks.walk_to_restart.Goals as goal

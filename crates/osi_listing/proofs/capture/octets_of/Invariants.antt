@@ -1,6 +1,4 @@
-use Rattle.std.proofs.Common.{◌≡◌, ◌<◌, length, None}
-use Rattle.std.specs.Prelude.{IfSome}
-use Rattle.osi_listing.specs.Capture.{after_octets, digits_of, digits_left, octets_from}
+use Rattle.osi_listing.proofs.Vocabulary.{◌≡◌, ◌<◌, length, None, IfSome, after_octets, digits_of, digits_left, octets_from}
 use Rattle.osi_listing.proofs.capture.octets_of.Given as goal
 
 -- the octets read, and after them those of the rest of the text, are those of the text

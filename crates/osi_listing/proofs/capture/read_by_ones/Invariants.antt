@@ -1,5 +1,4 @@
-use Rattle.std.proofs.Common.{◌≡◌, ◌≤◌, length, None}
-use Rattle.osi_listing.specs.Capture.{after_octets, digits_of, octets_from}
+use Rattle.osi_listing.proofs.Vocabulary.{◌≡◌, ◌≤◌, length, None, after_octets, digits_of, octets_from}
 use Rattle.osi_listing.proofs.capture.read_by_ones.Given as goal
 
 -- the octets read, and after them those of the rest of the text, are those of before

@@ -1,5 +1,4 @@
-use Rattle.std.proofs.Common.{◌++◌}
-use Rattle.osi_listing.specs.Traced.{unfetched}
+use Rattle.osi_listing.proofs.Vocabulary.{◌++◌, unfetched}
 use Rattle.osi_listing.proofs.a_trace_is_a_prefix_of_the_listing.{whole_listing, fetched_begins}
 use Rattle.osi_listing.proofs.laws.what_is_fetched_is_the_listing.Goals as goal
 

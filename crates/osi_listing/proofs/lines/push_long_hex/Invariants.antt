@@ -1,5 +1,4 @@
-use Rattle.std.proofs.Common.{◌≡◌, ◌++◌, drop}
-use Rattle.hex.specs.Hex.{encode_lower}
+use Rattle.osi_listing.proofs.Vocabulary.{◌≡◌, ◌++◌, drop, encode_lower}
 use Rattle.osi_listing.proofs.lines.push_long_hex.Given as goal
 
 -- what is still to be added follows what was added

@@ -1,5 +1,4 @@
-use Rattle.osi_tpdu.specs.Units.{units_left}
-use Rattle.osi_tpdu.specs.View.{value}
+use Rattle.osi_listing.proofs.Vocabulary.{units_left, value}
 use Rattle.osi_listing.proofs.units_one_after_the_other.{advanced_none, advanced_step}
 use Rattle.osi_listing.proofs.listing.list_each.Goals as goal
 

@@ -1,7 +1,4 @@
-use Rattle.std.proofs.Common.{List, length}
-use Rattle.osi_tpdu.specs.Units.{units_left}
-use Rattle.osi_listing.specs.Streams.{Part}
-use Rattle.osi_listing.specs.Says.{Holds}
+use Rattle.osi_listing.proofs.Vocabulary.{List, length, units_left, Part, Holds}
 use Rattle.osi_listing.proofs.units_one_after_the_other.{Advanced}
 use Rattle.osi_listing.proofs.listing.list_each.Given as goal
 

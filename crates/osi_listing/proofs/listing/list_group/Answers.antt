@@ -1,12 +1,6 @@
-use Rattle.std.proofs.Common.{◌≡◌, ◌∷◌, ◌++◌, ◌∙◌, map, drop, sym, ap, subst}
-use Rattle.std.proofs.lemmas.Result.{on_ok_weaker}
-use Rattle.osi_spdu.specs.Known.{Units}
-use Rattle.osi_spdu.specs.Units.{said_by}
-use Rattle.osi_spdu.specs.Groups.{first_of, behind_of}
+use Rattle.osi_listing.proofs.Vocabulary.{◌≡◌, ◌∷◌, ◌++◌, ◌∙◌, map, drop, sym, ap, subst, on_ok_weaker, Units, said_by, first_of, behind_of}
+use Rattle.osi_listing.proofs.Vocabulary.{SessionUnit, Says, session_line}
 use Rattle.osi_listing.specs.Counting.{one_more}
-use Rattle.osi_listing.specs.Listing.Entry.{SessionUnit}
-use Rattle.osi_listing.specs.Says.{Says}
-use Rattle.osi_listing.specs.SessionLines.{session_line}
 use Rattle.osi_listing.proofs.units_one_after_the_other.{says_last, says_unit}
 use Rattle.osi_listing.proofs.listing.list_group.Goals as goal
 

@@ -1,5 +1,4 @@
-use Rattle.osi_spdu.specs.Units.{said_by}
-use Rattle.osi_spdu.specs.Groups.{units_behind}
+use Rattle.osi_listing.proofs.Vocabulary.{said_by, units_behind}
 use Rattle.osi_listing.specs.Counting.{one_more}
 use Rattle.osi_listing.proofs.units_one_after_the_other.{lists_none, lists_next}
 use Rattle.osi_listing.proofs.listing.list_more.Goals as goal

@@ -1,5 +1,4 @@
-use Rattle.std.proofs.Common.{length}
-use Rattle.osi_spdu.specs.Groups.{units_behind}
+use Rattle.osi_listing.proofs.Vocabulary.{length, units_behind}
 use Rattle.osi_listing.proofs.units_one_after_the_other.{ListsUnits}
 use Rattle.osi_listing.proofs.listing.list_more.Given as goal
 

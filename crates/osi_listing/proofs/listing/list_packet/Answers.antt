@@ -1,7 +1,6 @@
-use Rattle.osi_tpdu.specs.Packet.{units_of}
+use Rattle.osi_listing.proofs.Vocabulary.{units_of, read_entries, Packet}
 use Rattle.osi_listing.specs.Counting.{one_more}
-use Rattle.osi_listing.specs.Listing.{line_of, read_entries}
-use Rattle.osi_listing.specs.Listing.Entry.{Packet}
+use Rattle.osi_listing.specs.Listing.{line_of}
 use Rattle.osi_listing.proofs.units_one_after_the_other.{then_more}
 use Rattle.osi_listing.proofs.listing.list_packet.Goals as goal
 

@@ -1,8 +1,6 @@
-use Rattle.osi_tpdu.specs.View.{value}
+use Rattle.osi_listing.proofs.Vocabulary.{value, part_entries, TransportUnit, part_of}
 use Rattle.osi_listing.specs.Counting.{one_more}
-use Rattle.osi_listing.specs.Listing.{line_of, part_entries}
-use Rattle.osi_listing.specs.Listing.Entry.{TransportUnit}
-use Rattle.osi_listing.specs.Streams.{part_of}
+use Rattle.osi_listing.specs.Listing.{line_of}
 use Rattle.osi_listing.proofs.units_one_after_the_other.{then_more}
 use Rattle.osi_listing.proofs.listing.list_unit.Goals as goal
 

@@ -1,8 +1,4 @@
-use Rattle.std.proofs.Common.{◌≡◌, ◌++◌, drop}
-use Rattle.std.specs.List.{flat_map}
-use Rattle.osi_spdu.specs.declared.codes.Code.{Code}
-use Rattle.osi_spdu.specs.Units.{said_by}
-use Rattle.osi_listing.specs.SessionLines.{parameter_field}
+use Rattle.osi_listing.proofs.Vocabulary.{◌≡◌, ◌++◌, drop, flat_map, Code, said_by, parameter_field}
 use Rattle.osi_listing.proofs.session_lines.push_each.Given as goal
 
 abbrev pub invariant-codes : goal.invariant-codes

@@ -1,7 +1,4 @@
-use Rattle.std.proofs.Common.{◌≡◌, ◌++◌, drop}
-use Rattle.std.specs.List.{flat_map}
-use Rattle.osi_spdu.specs.Units.{said_by}
-use Rattle.osi_listing.specs.SessionLines.{member_fields, members_text, fields_left}
+use Rattle.osi_listing.proofs.Vocabulary.{◌≡◌, ◌++◌, drop, flat_map, said_by, member_fields, members_text, fields_left}
 use Rattle.osi_listing.proofs.session_lines.push_members.Given as goal
 
 abbrev pub invariant-members : goal.invariant-members

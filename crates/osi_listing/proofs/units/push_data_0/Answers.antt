@@ -1,5 +1,4 @@
-use Rattle.std.proofs.Common.{arith}
-use Rattle.std.proofs.lemmas.Result.{on_ok_weaker}
+use Rattle.osi_listing.proofs.Vocabulary.{arith, on_ok_weaker}
 use Rattle.osi_listing.proofs.fields_one_after_the_other.{data_0_added}
 use Rattle.osi_listing.proofs.units.push_data_0.Goals as goal
 

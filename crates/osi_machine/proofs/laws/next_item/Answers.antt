@@ -1,5 +1,4 @@
-use Rattle.std.proofs.Common.{arith}
-use Rattle.osi_machine.proofs.Vocabulary.{Core, IsReached, OfBoth, TakesTheNextItem}
+use Rattle.osi_machine.proofs.Vocabulary.{Core, IsReached, OfBoth, TakesTheNextItem, arith}
 use Rattle.osi_machine.proofs.invariant.each_step_keeps_one_side.{SessionLaws}
 use Rattle.osi_machine.proofs.each_step_keeps_both_sides.{turned_stands}
 use Rattle.osi_machine.proofs.promises.what_two_users_may_rely_on.{reached_stands, takes_the_next_item}

@@ -1,6 +1,4 @@
-use Rattle.std.proofs.Common.{arith}
-use Rattle.std.proofs.Common.{◌∙◌, ◌++◌, [], ◌∷◌, ap, map}
-use Rattle.osi_message.proofs.Vocabulary.{First, part_octets}
+use Rattle.osi_message.proofs.Vocabulary.{First, part_octets, arith, ◌∙◌, ◌++◌, [], ◌∷◌, ap, map}
 use Rattle.osi_message.proofs.how_pieces_follow_one_another.{parting_begins, parting_goes_on, some_put}
 use Rattle.osi_message.proofs.parts.parts.Goals as goal
 

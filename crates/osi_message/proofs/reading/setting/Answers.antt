@@ -1,6 +1,5 @@
-use Rattle.std.proofs.Common.{arith, Some}
+use Rattle.osi_message.proofs.Vocabulary.{known_of, arith, Some}
 use Rattle.osi_spdu.specs.declared.codes.Code.TheVariants as code
-use Rattle.osi_message.proofs.Vocabulary.{known_of}
 use Rattle.osi_message.proofs.a_field_reads_back.{setting_again}
 use Rattle.osi_message.proofs.reading.setting.Goals as goal
 

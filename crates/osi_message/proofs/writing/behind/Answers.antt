@@ -1,6 +1,4 @@
-use Rattle.std.proofs.Common.{◌∙◌, [], ◌∷◌, arith}
-use Rattle.osi_spdu.specs.Units.{said_by}
-use Rattle.osi_message.proofs.Vocabulary.{GiveTokens, nothing, codes_of, body_octets, UnitFits, unit_with}
+use Rattle.osi_message.proofs.Vocabulary.{GiveTokens, nothing, codes_of, body_octets, UnitFits, unit_with, ◌∙◌, [], ◌∷◌, arith, said_by}
 use Rattle.osi_message.proofs.a_unit_is_made_of_its_meaning.{none_known}
 use Rattle.osi_message.proofs.writing.behind.Goals as goal
 

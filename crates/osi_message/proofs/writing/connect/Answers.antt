@@ -1,5 +1,4 @@
-use Rattle.std.proofs.Common.{◌∙◌, ap, arith}
-use Rattle.osi_message.proofs.Vocabulary.{Connect, unit_with, unit_of}
+use Rattle.osi_message.proofs.Vocabulary.{Connect, unit_with, unit_of, ◌∙◌, ap, arith}
 use Rattle.osi_message.proofs.a_unit_is_made_of_its_meaning.{connect_known}
 use Rattle.osi_message.proofs.writing.connect.Goals as goal
 

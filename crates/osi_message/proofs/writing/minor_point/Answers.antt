@@ -1,5 +1,4 @@
-use Rattle.std.proofs.Common.{arith}
-use Rattle.osi_message.proofs.Vocabulary.{unit_of}
+use Rattle.osi_message.proofs.Vocabulary.{unit_of, arith}
 use Rattle.osi_message.proofs.a_unit_is_made_of_its_meaning.{number_known, open_known}
 use Rattle.osi_message.proofs.writing.minor_point.Goals as goal
 

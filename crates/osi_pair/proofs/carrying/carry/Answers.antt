@@ -53,13 +53,11 @@ returns-then-used-eq0-clause-full c is =
           }))
       | then-used-eq0-via-else-used-eq0+then-carried-octets w ↦ absurd (omega (arith, less, w.if-carried-octets.true))
       | then-used-eq0-via-else-used-eq0+else-carried-octets+then-is_err w ↦
-          (let full = was_refused _ w.reserve-else-carried-octets.result w.is_err.result w.is_err.ensures.value w.if-is_err.true
-          w.reserve-else-carried-octets.ensures.full in
-          let len = w.reserve-else-carried-octets.ensures.len in
+          (let len = w.reserve-else-carried-octets.ensures.len in
           let capacity_now = ap vec_capacity w.journal-is in
           let len_now = ap vec_len w.journal-is in
           let counted = entries_of (vec_len c.then-used-eq0.journal) c.then-used-eq0.journal.items c.then-used-eq0.journal.ok.0 in
-          inl (grind (arith, full, was_refused, len, capacity_now, len_now, counted)))
+          inl (grind (arith, was_refused, len, capacity_now, len_now, counted)))
     ]
 
 pub returns-then-used-eq0-clause-cut : goal.returns-then-used-eq0-clause-cut

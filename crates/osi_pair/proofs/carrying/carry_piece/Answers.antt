@@ -1,5 +1,4 @@
-use Rattle.std.proofs.Common.{arith}
-use Rattle.osi_pair.proofs.Vocabulary.{map, entry_by}
+use Rattle.osi_pair.proofs.Vocabulary.{map, entry_by, arith}
 use Rattle.osi_pair.proofs.carry.users_receive_one_after_the_other.{says_all, notes_then}
 use Rattle.osi_pair.proofs.carrying.carry_piece.Goals as goal
 

@@ -1,5 +1,4 @@
-use Rattle.std.proofs.Common.{◌≡◌, ◌++◌, map, take, drop}
-use Rattle.osi_rules.specs.Sides.{begins}
+use Rattle.osi_rules.proofs.Vocabulary.{◌≡◌, ◌++◌, map, take, drop, begins}
 use Rattle.osi_rules.proofs.traffic.begin_each.Given as goal
 
 abbrev pub invariant-loop-connection : goal.invariant-loop-connection

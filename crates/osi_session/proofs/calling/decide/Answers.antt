@@ -1,5 +1,4 @@
-use Rattle.std.proofs.Common.{◌∙◌, sym}
-use Rattle.osi_session.proofs.Vocabulary.{called_by, step_of}
+use Rattle.osi_session.proofs.Vocabulary.{called_by, step_of, ◌∙◌, sym}
 use Rattle.osi_session.proofs.tables.what_the_table_of_calls_answers.{met_short, limit_passed, limit_refused}
 use Rattle.osi_session.proofs.calling.decide.Goals as goal
 

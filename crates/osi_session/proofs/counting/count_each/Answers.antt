@@ -1,8 +1,5 @@
-use Rattle.std.proofs.Common.{arith}
-use Rattle.std.proofs.Common.{◌∙◌, ap, Bool, ◌||◌, map}
-use Rattle.osi_spdu.specs.Units.{said_by}
-use Rattle.osi_session.specs.Counting.{count_of}
-use Rattle.osi_session.proofs.Vocabulary.{units_behind, units_of, word, said_by_units, word_by}
+use Rattle.osi_session.proofs.Vocabulary.{units_behind, units_of, word, said_by_units, word_by, arith, ◌∙◌, ap, Bool, ◌||◌, map, said_by}
+use Rattle.osi_session.proofs.Vocabulary.{count_of}
 use Rattle.osi_session.proofs.tsdu.octets_are_counted.{walks_begin, walks_turn, walks_on, walks_stop, walks_restarted, walks_item}
 use Rattle.osi_session.proofs.tsdu.words_one_after_the_other.{behind_none}
 use Rattle.osi_session.proofs.counting.count_each.Goals as goal

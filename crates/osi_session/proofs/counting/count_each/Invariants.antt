@@ -1,6 +1,4 @@
-use Rattle.std.proofs.Common.{length, map}
-use Rattle.osi_session.specs.Counting.{count_of}
-use Rattle.osi_session.proofs.Vocabulary.{units_behind, units_of, word, said_by_units, word_by}
+use Rattle.osi_session.proofs.Vocabulary.{units_behind, units_of, word, said_by_units, word_by, length, map, count_of}
 use Rattle.osi_session.proofs.tsdu.octets_are_counted.{WalksAll}
 use Rattle.osi_session.proofs.counting.count_each.Given as goal
 

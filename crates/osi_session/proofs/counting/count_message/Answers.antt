@@ -1,7 +1,5 @@
-use Rattle.std.proofs.Common.{◌∙◌, option_copied}
-use Rattle.osi_session.specs.Counting.{count_of}
+use Rattle.osi_session.proofs.Vocabulary.{meant_by, outcome_of, ◌∙◌, option_copied, count_of}
 use Rattle.osi_session.proofs.tsdu.octets_are_counted.{message_counts}
-use Rattle.osi_session.proofs.Vocabulary.{meant_by, outcome_of}
 use Rattle.osi_session.proofs.counting.count_message.Goals as goal
 
 pub returns : goal.returns

@@ -1,5 +1,4 @@
-use Rattle.std.proofs.Common.{arith, ◌∙◌, ap, Some, None, option_copied}
-use Rattle.osi_session.specs.Counting.{count_of, count_by}
+use Rattle.osi_session.proofs.Vocabulary.{arith, ◌∙◌, ap, Some, None, option_copied, count_of, count_by}
 use Rattle.osi_session.proofs.tsdu.octets_are_counted.{dropped_counts, bad_counts, long_counts, good_counts}
 use Rattle.osi_session.proofs.counting.count_part.Goals as goal
 

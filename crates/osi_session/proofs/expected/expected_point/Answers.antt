@@ -1,7 +1,6 @@
-use Rattle.std.proofs.Common.{◌∙◌, ap, sym, [], ℕ, List, None, true}
-use Rattle.osi_message.specs.declared.plain.PlainUnit.{PlainUnit}
+use Rattle.osi_session.proofs.Vocabulary.{MIP, MIA, plain_word, heard, respond_word, shows, MinorConfirmed, ◌∙◌, ap, sym, [], ℕ, List, None}
+use Rattle.osi_session.proofs.Vocabulary.{true, PlainUnit}
 use Rattle.osi_session.specs.Shown.{Minor}
-use Rattle.osi_session.proofs.Vocabulary.{MIP, MIA, plain_word, heard, respond_word, shows, MinorConfirmed}
 use Rattle.osi_session.proofs.tables.points_that_are_expected.{word_comes}
 use Rattle.osi_session.proofs.expected.expected_point.Goals as goal
 

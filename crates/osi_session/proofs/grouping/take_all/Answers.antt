@@ -1,5 +1,4 @@
-use Rattle.std.proofs.Common.{arith, ◌∙◌, ap, sym, option_copied}
-use Rattle.osi_session.proofs.Vocabulary.{units_of, said_by_units, Taker, respond_tsdu, respond_word}
+use Rattle.osi_session.proofs.Vocabulary.{units_of, said_by_units, Taker, respond_tsdu, respond_word, arith, ◌∙◌, ap, sym, option_copied}
 use Rattle.osi_session.proofs.moves.the_moves_in_memory.{of_heard}
 use Rattle.osi_session.proofs.grouping.take_all.Goals as goal
 

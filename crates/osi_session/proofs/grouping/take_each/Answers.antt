@@ -1,7 +1,5 @@
-use Rattle.std.proofs.Common.{◌∙◌, sym, ap, Bool, true, false, ◌||◌, map, option_copied}
-use Rattle.osi_spdu.specs.Units.{said_by}
 use Rattle.osi_session.proofs.Vocabulary.{units_behind, behind_of, first_of, units_of, word, said_by_units, Taker, Hearing, respond_tsdu}
-use Rattle.osi_session.proofs.Vocabulary.{hearing_of_all, word_by}
+use Rattle.osi_session.proofs.Vocabulary.{hearing_of_all, word_by, ◌∙◌, sym, ap, Bool, true, false, ◌||◌, map, option_copied, said_by}
 use Rattle.osi_session.proofs.tsdu.words_one_after_the_other.{walks_begin, walks_turn, walks_on, walks_end, takes, stops, ends_restarted}
 use Rattle.osi_session.proofs.tsdu.words_one_after_the_other.{ends_with_item, item_takes, on_err, behind_none}
 use Rattle.osi_session.proofs.grouping.take_each.Goals as goal

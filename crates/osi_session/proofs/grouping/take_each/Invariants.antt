@@ -1,5 +1,4 @@
-use Rattle.std.proofs.Common.{length, map, option_copied}
-use Rattle.osi_session.proofs.Vocabulary.{units_behind, units_of, word, said_by_units, respond_tsdu, word_by}
+use Rattle.osi_session.proofs.Vocabulary.{units_behind, units_of, word, said_by_units, respond_tsdu, word_by, length, map, option_copied}
 use Rattle.osi_session.proofs.tsdu.words_one_after_the_other.{Walks}
 use Rattle.osi_session.proofs.grouping.take_each.Given as goal
 

@@ -1,5 +1,4 @@
-use Rattle.std.proofs.Common.{arith, option_copied}
-use Rattle.osi_session.proofs.Vocabulary.{respond_word}
+use Rattle.osi_session.proofs.Vocabulary.{respond_word, arith, option_copied}
 use Rattle.osi_session.proofs.tsdu.the_effect_of_a_word.{first_is, middle_is, last_is}
 use Rattle.osi_session.proofs.hearing.take_good_part.Goals as goal
 

@@ -1,5 +1,4 @@
-use Rattle.std.proofs.Common.{option_copied}
-use Rattle.osi_session.proofs.Vocabulary.{meant_by, Taker}
+use Rattle.osi_session.proofs.Vocabulary.{meant_by, Taker, option_copied}
 use Rattle.osi_session.proofs.tsdu.the_verdict_while_joining.{reacts_plain, reacts_misplaced}
 use Rattle.osi_session.proofs.hearing.take_message.Goals as goal
 

@@ -1,6 +1,4 @@
-use Rattle.std.proofs.Common.{arith}
-use Rattle.std.proofs.Common.{◌∙◌, ap, sym, option_copied}
-use Rattle.osi_session.specs.Joining.{Taker, heard}
+use Rattle.osi_session.proofs.Vocabulary.{arith, ◌∙◌, ap, sym, option_copied, Taker, heard}
 use Rattle.osi_session.proofs.tsdu.the_effect_of_a_word.{part_dropped, part_bad}
 use Rattle.osi_session.proofs.hearing.take_part.Goals as goal
 

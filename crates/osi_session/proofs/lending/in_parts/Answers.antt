@@ -1,5 +1,4 @@
-use Rattle.std.proofs.Common.{arith}
-use Rattle.osi_message.proofs.the_tsdus_of_a_message.{size_of_parts}
+use Rattle.osi_session.proofs.Vocabulary.{arith, size_of_parts}
 use Rattle.osi_session.proofs.sent.data_is_lent_as_it_is_sent.{parted}
 use Rattle.osi_session.proofs.lending.in_parts.Goals as goal
 

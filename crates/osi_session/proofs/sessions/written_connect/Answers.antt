@@ -1,5 +1,4 @@
-use Rattle.std.proofs.Common.{arith, ◌<◌, ◌∙◌, ℕ, List, length, ap, sym, subst}
-use Rattle.osi_session.proofs.Vocabulary.{in_one, unit_in}
+use Rattle.osi_session.proofs.Vocabulary.{in_one, unit_in, arith, ◌<◌, ◌∙◌, ℕ, List, length, ap, sym, subst}
 use Rattle.osi_session.proofs.sent.what_is_sent_can_be_written.{asked_sendable}
 use Rattle.osi_session.proofs.runs.the_invariant_in_memory.{read_again, asked_alone}
 use Rattle.osi_session.proofs.sessions.written_connect.Goals as goal

@@ -1,5 +1,4 @@
-use Rattle.std.proofs.Common.{◌≤◌, length, arith, rules}
-use Rattle.osi_spdu.proofs.Vocabulary.{err_from_is_err_and, later_of}
+use Rattle.osi_spdu.proofs.Vocabulary.{err_from_is_err_and, later_of, ◌≤◌, length, arith, rules}
 use Rattle.osi_spdu.proofs.tsdu.units_after_the_first.{behind_full, behind_bad, left_none, leads_start, leads_next}
 use Rattle.osi_spdu.proofs.form.values_in_memory_are_in_their_form.{unit_formed}
 use Rattle.osi_spdu.proofs.behind.read_others.Goals as goal

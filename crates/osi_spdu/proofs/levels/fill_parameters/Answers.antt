@@ -1,5 +1,4 @@
-use Rattle.std.proofs.Common.{arith}
-use Rattle.osi_spdu.proofs.Vocabulary.{in_unit}
+use Rattle.osi_spdu.proofs.Vocabulary.{in_unit, arith}
 use Rattle.osi_spdu.proofs.parameters.parameters_one_after_the_other.{taking_start, taking_end}
 use Rattle.osi_spdu.proofs.levels.fill_parameters.Goals as goal
 

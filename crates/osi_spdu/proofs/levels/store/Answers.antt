@@ -1,5 +1,4 @@
-use Rattle.std.proofs.Common.{arith, true, false, sym}
-use Rattle.osi_spdu.proofs.Vocabulary.{slots_of}
+use Rattle.osi_spdu.proofs.Vocabulary.{slots_of, arith, true, false, sym}
 use Rattle.osi_spdu.proofs.parameters.parameters_one_after_the_other.{stored_twice, stored_refused, stored_done}
 use Rattle.osi_spdu.proofs.levels.store.Goals as goal
 

@@ -1,6 +1,4 @@
-use Rattle.std.proofs.Common.{◌≡◌, ◌∙◌, length, sym, arith}
-use Rattle.osi_spdu.specs.Counted.{measured_of}
-use Rattle.osi_spdu.proofs.Vocabulary.{eqb-true, eqb-false, err_from_is_err_and, slots_of}
+use Rattle.osi_spdu.proofs.Vocabulary.{eqb-true, eqb-false, err_from_is_err_and, slots_of, ◌≡◌, ◌∙◌, length, sym, arith, measured_of}
 use Rattle.osi_spdu.proofs.parameters.parameters_one_after_the_other.{taking_next, taking_fault, taking_refused, taking_end}
 use Rattle.osi_spdu.proofs.levels.take_all.Goals as goal
 

@@ -1,5 +1,4 @@
-use Rattle.std.proofs.Common.{length}
-use Rattle.osi_spdu.specs.Params.{slots_of}
+use Rattle.osi_spdu.proofs.Vocabulary.{length, slots_of}
 use Rattle.osi_spdu.proofs.parameters.parameters_one_after_the_other.{IsTaking}
 use Rattle.osi_spdu.proofs.levels.take_all.Given as goal
 

@@ -1,5 +1,4 @@
-use Rattle.std.proofs.Common.{◌≡◌, ◌∙◌, true, length, sym, subst, rules, option_map}
-use Rattle.osi_spdu.proofs.Vocabulary.{Zero, Kind, category_of, is_joined, placed_of}
+use Rattle.osi_spdu.proofs.Vocabulary.{Zero, Kind, category_of, is_joined, placed_of, ◌≡◌, ◌∙◌, true, length, sym, subst, rules, option_map}
 use Rattle.osi_spdu.proofs.tsdu.units_after_the_first.{joined_behind}
 use Rattle.osi_spdu.proofs.tsdu.how_reading_goes_on.{tsdu_goes, continued_trailing}
 use Rattle.osi_spdu.proofs.reading.read_all.Goals as goal

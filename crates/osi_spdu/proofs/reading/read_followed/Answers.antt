@@ -1,8 +1,7 @@
-use Rattle.std.proofs.Common.{◌≡◌, ◌≤◌, ◌∙◌, true, [], ◌∷◌, length, Ok, ap, sym, subst, refl, arith, rules, option_map}
-use Rattle.osi_spdu.specs.declared.units.Spdu.{Spdu}
-use Rattle.osi_spdu.proofs.Vocabulary.{eqb-false, err_from_is_err_and, Kind, Contents, Units}
-use Rattle.osi_spdu.proofs.Vocabulary.{is_joined, said_by, left_at, units_of, known_of}
-use Rattle.osi_spdu.specs.Kept.{kept_of, followed_at}
+use Rattle.osi_spdu.proofs.Vocabulary.{eqb-false, err_from_is_err_and, Kind, Contents, Units, is_joined, said_by, left_at, units_of}
+use Rattle.osi_spdu.proofs.Vocabulary.{known_of, ◌≡◌, ◌≤◌, ◌∙◌, true, [], ◌∷◌, length, Ok, ap, sym, subst, refl, arith, rules, option_map}
+use Rattle.osi_spdu.proofs.Vocabulary.{Spdu, kept_of}
+use Rattle.osi_spdu.specs.Kept.{followed_at}
 use Rattle.osi_spdu.proofs.tsdu.units_after_the_first.{behind_none, behind_bad, others_bad, others_read, joined_behind}
 use Rattle.osi_spdu.proofs.reading.read_followed.Goals as goal
 

@@ -1,6 +1,5 @@
-use Rattle.std.proofs.Common.{arith}
-use Rattle.std.proofs.Common.{◌≡◌, ◌∙◌, true, length, Result, sym, subst, rules}
-use Rattle.osi_spdu.proofs.Vocabulary.{Zero, Known, Units, SpduFault, Gives, category_of, is_formed, known_of, placed_of, units_of}
+use Rattle.osi_spdu.proofs.Vocabulary.{Zero, Known, Units, SpduFault, Gives, category_of, is_formed, known_of, placed_of, units_of, arith}
+use Rattle.osi_spdu.proofs.Vocabulary.{◌≡◌, ◌∙◌, true, length, Result, sym, subst, rules}
 use Rattle.osi_spdu.proofs.tsdu.how_reading_goes_on.{tsdu_goes, tsdu_followed, continued_trailing}
 use Rattle.osi_spdu.proofs.reading.read_kept.Goals as goal
 

@@ -1,5 +1,4 @@
-use Rattle.std.proofs.Common.{arith}
-use Rattle.osi_spdu.proofs.Vocabulary.{units_behind, said_by}
+use Rattle.osi_spdu.proofs.Vocabulary.{units_behind, said_by, arith}
 use Rattle.osi_spdu.proofs.form.units_are_written_in_order.{one_len, one_fits}
 use Rattle.osi_spdu.proofs.parameters.lengths_are_stored_in_order.{one_kept}
 use Rattle.osi_spdu.proofs.writing.count_behind.Goals as goal

@@ -1,5 +1,4 @@
-use Rattle.std.proofs.Common.{◌≡◌, ◌+◌, ℕ, length, ap, sym, subst, arith}
-use Rattle.osi_spdu.proofs.Vocabulary.{units_behind, said_by, unit_octets}
+use Rattle.osi_spdu.proofs.Vocabulary.{units_behind, said_by, unit_octets, ◌≡◌, ◌+◌, ℕ, length, ap, sym, subst, arith}
 use Rattle.osi_spdu.proofs.form.values_in_memory_are_in_their_form.{behind_formed}
 use Rattle.osi_spdu.proofs.form.units_are_written_in_order.{IsCountingUnits, counting_start, counts_next, counting_end}
 use Rattle.osi_spdu.proofs.parameters.lengths_are_stored_in_order.{keeping_start, keeping_within, keeping_next, keeping_end}

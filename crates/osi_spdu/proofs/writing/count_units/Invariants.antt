@@ -1,5 +1,4 @@
-use Rattle.std.proofs.Common.{◌≤◌, ◌+◌, ◌*◌, ◌^◌, length}
-use Rattle.osi_spdu.specs.Groups.{units_behind}
+use Rattle.osi_spdu.proofs.Vocabulary.{◌≤◌, ◌+◌, ◌*◌, ◌^◌, length, units_behind}
 use Rattle.osi_spdu.proofs.form.units_are_written_in_order.{IsCountingUnits}
 use Rattle.osi_spdu.proofs.parameters.lengths_are_stored_in_order.{IsKeeping}
 use Rattle.osi_spdu.proofs.writing.count_units.Given as goal

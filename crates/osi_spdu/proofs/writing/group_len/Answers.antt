@@ -1,5 +1,4 @@
-use Rattle.std.proofs.Common.{arith}
-use Rattle.osi_spdu.proofs.Vocabulary.{known_of, group_octets}
+use Rattle.osi_spdu.proofs.Vocabulary.{known_of, group_octets, arith}
 use Rattle.osi_spdu.proofs.parameters.a_group_is_counted_once.{group_within}
 use Rattle.osi_spdu.proofs.writing.group_len.Goals as goal
 

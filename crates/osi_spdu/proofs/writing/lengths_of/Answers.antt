@@ -1,5 +1,4 @@
-use Rattle.std.proofs.Common.{◌∙◌, ap, arith}
-use Rattle.osi_spdu.proofs.Vocabulary.{said_by, units_behind, unit_octets, tsdu_octets}
+use Rattle.osi_spdu.proofs.Vocabulary.{said_by, units_behind, unit_octets, tsdu_octets, ◌∙◌, ap, arith}
 use Rattle.osi_spdu.proofs.form.units_are_written_in_order.{first_len}
 use Rattle.osi_spdu.proofs.form.values_in_memory_are_in_their_form.{group_plain}
 use Rattle.osi_spdu.proofs.writing.lengths_of.Goals as goal

@@ -1,5 +1,4 @@
-use Rattle.std.proofs.Common.{◌++◌, ℕ, List, ap, sym, ◌∙◌, append_assoc, arith}
-use Rattle.osi_spdu.proofs.Vocabulary.{units_behind, category_of, said_by, unit_octets}
+use Rattle.osi_spdu.proofs.Vocabulary.{units_behind, category_of, said_by, unit_octets, ◌++◌, ℕ, List, ap, sym, ◌∙◌, append_assoc, arith}
 use Rattle.osi_spdu.proofs.form.values_in_memory_are_in_their_form.{behind_formed}
 use Rattle.osi_spdu.proofs.parameters.a_group_is_counted_once.{next_two}
 use Rattle.osi_spdu.proofs.parameters.lengths_are_stored_in_order.{next_length}

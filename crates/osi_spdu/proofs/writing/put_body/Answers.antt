@@ -1,5 +1,4 @@
-use Rattle.std.proofs.Common.{true, arith}
-use Rattle.osi_spdu.proofs.Vocabulary.{Code, ConnectionIdentifier, known_of, parameter_octets, body_octets}
+use Rattle.osi_spdu.proofs.Vocabulary.{Code, ConnectionIdentifier, known_of, parameter_octets, body_octets, true, arith}
 use Rattle.osi_spdu.proofs.parameters.a_group_is_counted_once.{among_at}
 use Rattle.osi_spdu.proofs.form.parameters_are_written_in_order.{piece_len, tail_less}
 use Rattle.osi_spdu.proofs.writing.put_body.Goals as goal

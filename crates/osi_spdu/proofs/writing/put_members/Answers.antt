@@ -1,5 +1,4 @@
-use Rattle.std.proofs.Common.{arith}
-use Rattle.osi_spdu.proofs.Vocabulary.{ConnectionIdentifier, known_of, member_octets}
+use Rattle.osi_spdu.proofs.Vocabulary.{ConnectionIdentifier, known_of, member_octets, arith}
 use Rattle.osi_spdu.proofs.form.parameters_are_written_in_order.{piece_len, tail_less}
 use Rattle.osi_spdu.proofs.writing.put_members.Goals as goal
 

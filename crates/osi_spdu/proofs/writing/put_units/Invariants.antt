@@ -1,5 +1,4 @@
-use Rattle.std.proofs.Common.{length, drop}
-use Rattle.osi_spdu.proofs.Vocabulary.{units_behind, AreLengths}
+use Rattle.osi_spdu.proofs.Vocabulary.{units_behind, AreLengths, length, drop}
 use Rattle.osi_spdu.proofs.form.units_are_written_in_order.{IsPuttingUnits}
 use Rattle.osi_spdu.proofs.writing.put_units.Given as goal
 

@@ -1,5 +1,4 @@
-use Rattle.std.proofs.Common.{◌∙◌, subst}
-use Rattle.osi_spdu.proofs.Vocabulary.{IsOctets, units_of, tsdu_octets}
+use Rattle.osi_spdu.proofs.Vocabulary.{IsOctets, units_of, tsdu_octets, ◌∙◌, subst}
 use Rattle.osi_spdu.proofs.form.values_in_memory_are_in_their_form.{group_spelled, group_read}
 use Rattle.osi_spdu.proofs.form.units_are_written_in_order.{octets_behind}
 use Rattle.osi_spdu.proofs.writing.write_tsdu.Goals as goal

@@ -1,6 +1,4 @@
-use Rattle.std.proofs.Common.{arith}
-use Rattle.std.proofs.Common.{refl}
-use Rattle.osi_stack.proofs.Vocabulary.{MinorConfirm, limit_of}
+use Rattle.osi_stack.proofs.Vocabulary.{MinorConfirm, limit_of, arith, refl}
 use Rattle.osi_stack.proofs.called.what_a_call_sends.{call_handed, call_refused}
 use Rattle.osi_stack.proofs.calls.make_minor_confirm_call.Goals as goal
 

@@ -1,8 +1,4 @@
-use Rattle.std.proofs.Common.{arith}
-use Rattle.std.proofs.Common.{length}
-use Rattle.osi_stack.proofs.Vocabulary.{Data, limit_of}
-use Rattle.osi_carrier.specs.Pieces.{headed}
-use Rattle.osi_session.specs.Lent.{tsdus_lent}
+use Rattle.osi_stack.proofs.Vocabulary.{Data, limit_of, arith, length, headed, tsdus_lent}
 use Rattle.osi_stack.proofs.called.parts_that_are_lent.{cut_as_lent, short_head}
 use Rattle.osi_stack.proofs.called.what_a_call_sends.{call_handed, call_allowed, call_refused}
 use Rattle.osi_stack.proofs.calls.make_parted_call.Goals as goal

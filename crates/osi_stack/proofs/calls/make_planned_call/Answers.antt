@@ -1,5 +1,4 @@
-use Rattle.std.proofs.Common.{Ok, Err}
-use Rattle.osi_stack.proofs.Vocabulary.{called_by, limit_of, CallError}
+use Rattle.osi_stack.proofs.Vocabulary.{called_by, limit_of, CallError, Ok, Err}
 use Rattle.osi_stack.proofs.called.what_a_call_sends.{call_handed, call_allowed, call_refused}
 use Rattle.osi_stack.proofs.calls.make_planned_call.Goals as goal
 

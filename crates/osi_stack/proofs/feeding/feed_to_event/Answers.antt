@@ -1,7 +1,4 @@
-use Rattle.std.proofs.Common.{arith}
-use Rattle.std.proofs.Common.{true, false, is_some, refl, sym, ap, ◌∙◌}
-use Rattle.osi_carrier.specs.Lending.{carrying_lent, lent_event}
-use Rattle.osi_stack.proofs.Vocabulary.{holding}
+use Rattle.osi_stack.proofs.Vocabulary.{holding, arith, true, false, is_some, refl, sym, ap, ◌∙◌, carrying_lent, lent_event}
 use Rattle.osi_stack.proofs.carried.events_one_after_the_other.{IsAttendedTo, some_attended, none_attended, heard_tsdu, on_ok, not_ok}
 use Rattle.osi_stack.proofs.carried.events_one_after_the_other.{fetched, fetched_not}
 use Rattle.osi_stack.proofs.feeding.feed_to_event.Goals.{in-None, in-Some}

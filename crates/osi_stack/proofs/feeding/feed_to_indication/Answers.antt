@@ -1,7 +1,5 @@
-use Rattle.std.proofs.Common.{arith}
-use Rattle.std.proofs.Common.{ℕ, ◌-◌, ◌<◌, List, length, is_some, sym, ap, subst, ◌∙◌}
+use Rattle.osi_stack.proofs.Vocabulary.{eqb-true, Goes, holding, arith, ℕ, ◌-◌, ◌<◌, List, length, is_some, sym, ap, subst, ◌∙◌}
 use Rattle.osi_carrier.specs.Packets as carriers
-use Rattle.osi_stack.proofs.Vocabulary.{eqb-true, Goes, holding}
 use Rattle.osi_stack.proofs.stream.a_piece_look_by_look.{IsRead, read_first, read_waits, read_ended, read_dry, read_on, nonzero}
 use Rattle.osi_stack.proofs.stream.an_empty_piece_changes_nothing.{idle_goes, nothing_of}
 use Rattle.osi_stack.proofs.feeding.feed_to_indication.Goals as goal

@@ -1,5 +1,4 @@
-use Rattle.std.proofs.Common.{length}
-use Rattle.osi_stack.specs.State.{holding}
+use Rattle.osi_stack.proofs.Vocabulary.{length, holding}
 use Rattle.osi_stack.proofs.stream.a_piece_look_by_look.{IsRead}
 use Rattle.osi_stack.proofs.feeding.feed_to_indication.Given as goal
 

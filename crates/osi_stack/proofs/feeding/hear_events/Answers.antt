@@ -1,5 +1,4 @@
-use Rattle.std.proofs.Common.{◌∙◌}
-use Rattle.osi_stack.proofs.Vocabulary.{happening, holding}
+use Rattle.osi_stack.proofs.Vocabulary.{happening, holding, ◌∙◌}
 use Rattle.osi_stack.proofs.carried.events_one_after_the_other.{heard_next, heard_left, heard_left_over, not_done}
 use Rattle.osi_stack.proofs.feeding.hear_events.Goals as goal
 

@@ -1,5 +1,4 @@
-use Rattle.std.proofs.Common.{length}
-use Rattle.osi_stack.specs.State.{holding}
+use Rattle.osi_stack.proofs.Vocabulary.{length, holding}
 use Rattle.osi_stack.proofs.carried.events_one_after_the_other.{HasHeard}
 use Rattle.osi_stack.proofs.feeding.hear_events.Given as goal
 

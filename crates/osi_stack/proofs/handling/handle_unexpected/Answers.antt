@@ -1,5 +1,4 @@
-use Rattle.std.proofs.Common.{◌≡◌, ◌∙◌, ap, option_map, rules}
-use Rattle.osi_stack.proofs.Vocabulary.{State as Carrier, in_one, react, event_input}
+use Rattle.osi_stack.proofs.Vocabulary.{State as Carrier, in_one, react, event_input, ◌≡◌, ◌∙◌, ap, option_map, rules}
 use Rattle.osi_stack.proofs.called.tsdus_that_are_handed_together.{answer_heard}
 use Rattle.osi_stack.proofs.handling.handle_unexpected.Goals as goal
 

@@ -1,5 +1,4 @@
-use Rattle.std.proofs.Common.{arith}
-use Rattle.osi_stack.proofs.Vocabulary.{react}
+use Rattle.osi_stack.proofs.Vocabulary.{react, arith}
 use Rattle.osi_stack.proofs.each_session.what_happens_beside_calls_and_tsdus.{opened_is_unseen, refused_is_quiet, broken_is_quiet}
 use Rattle.osi_stack.proofs.each_session.what_happens_beside_calls_and_tsdus.{quiet_takes, takes_if}
 use Rattle.osi_stack.proofs.handling.take_event.Goals as goal

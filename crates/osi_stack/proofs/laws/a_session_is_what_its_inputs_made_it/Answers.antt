@@ -1,5 +1,4 @@
-use Rattle.std.proofs.Common.{subst}
-use Rattle.osi_stack.proofs.Vocabulary.{CameAbout, AllCameAbout, End}
+use Rattle.osi_stack.proofs.Vocabulary.{CameAbout, AllCameAbout, End, subst}
 use Rattle.osi_stack.proofs.stream.what_was_written_is_read.{packet_is_unit}
 use Rattle.osi_stack.proofs.given_up.the_invariant_stays.{disconnect_came}
 use Rattle.osi_stack.proofs.each_line.what_stays_true_of_each_session.{packet_all, connect_all, call_came, feeds_all, told_all, breaks_all}

@@ -1,6 +1,4 @@
-use Rattle.std.proofs.Common.{arith}
-use Rattle.std.proofs.Common.{subst}
-use Rattle.osi_stack.specs.Links.{IsSound}
+use Rattle.osi_stack.proofs.Vocabulary.{arith, subst, IsSound}
 use Rattle.osi_stack.proofs.stream.what_was_written_is_read.{packet_is_unit}
 use Rattle.osi_stack.proofs.given_up.the_invariant_stays.{disconnect_sound}
 use Rattle.osi_stack.proofs.sound.the_invariant_is_kept.{packet_sound, fresh_sound, connect_sound, call_sound, feeds_sound, first_sound}

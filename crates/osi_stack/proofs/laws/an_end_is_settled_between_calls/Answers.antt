@@ -1,7 +1,4 @@
-use Rattle.std.proofs.Common.{arith}
-use Rattle.std.proofs.Common.{◌∷◌, [], refl}
-use Rattle.osi_carrier.specs.Rows.{value_at}
-use Rattle.osi_session.specs.Listening.{broken}
+use Rattle.osi_stack.proofs.Vocabulary.{arith, ◌∷◌, [], refl, value_at, broken}
 use Rattle.osi_stack.proofs.given_up.who_waits_was_still_requested.{disconnect_settled}
 use Rattle.osi_stack.proofs.opening.live_connections_have_addresses.{ShownFirst, known_at}
 use Rattle.osi_stack.proofs.carried.open_connections_stay_open.{SessionLaws}

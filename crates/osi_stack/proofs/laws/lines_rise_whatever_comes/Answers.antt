@@ -1,5 +1,4 @@
-use Rattle.std.proofs.Common.{arith}
-use Rattle.osi_session.specs.Listening.{called}
+use Rattle.osi_stack.proofs.Vocabulary.{arith, called}
 use Rattle.osi_stack.proofs.given_up.the_invariant_stays.{disconnect_ordered}
 use Rattle.osi_stack.proofs.carried.open_connections_stay_open.{SessionLaws}
 use Rattle.osi_stack.proofs.each_line.lines_stay_in_order.{fresh_ordered, connect_ordered, call_ordered, feeds_ordered, first_ordered}

@@ -1,6 +1,4 @@
-use Rattle.std.proofs.Common.{arith, ◌++◌}
-use Rattle.osi_message.specs.declared.places.Place.TheVariants.{Last}
-use Rattle.osi_stack.proofs.Vocabulary.{DT, part_octets, written, came}
+use Rattle.osi_stack.proofs.Vocabulary.{DT, part_octets, written, came, arith, ◌++◌, Last}
 use Rattle.osi_stack.proofs.called.tsdus_that_are_handed_together.{came_unbounded}
 use Rattle.osi_stack.proofs.each_session.parts_have_the_effect_of_the_whole.{parts_as_whole}
 use Rattle.osi_stack.proofs.opening.the_selectors_of_what_arrives.{data_selectors}

@@ -1,5 +1,4 @@
-use Rattle.std.proofs.Common.{arith}
-use Rattle.osi_carrier.proofs.stream.all_pieces_last_alike.{PacketLaws}
+use Rattle.osi_stack.proofs.Vocabulary.{arith, PacketLaws}
 use Rattle.osi_stack.proofs.in_step.what_is_seen_is_the_same.{look_apart}
 use Rattle.osi_stack.proofs.in_step.a_request_whatever_is_pending.{asked_alike}
 use Rattle.osi_stack.proofs.in_step.a_break_while_indications_are_pending.{breaks_alike}

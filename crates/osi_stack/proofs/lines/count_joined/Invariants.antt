@@ -1,5 +1,4 @@
-use Rattle.std.proofs.Common.{◌≡◌, ◌*◌, ◌≤◌, take}
-use Rattle.osi_stack.specs.State.{joined_in}
+use Rattle.osi_stack.proofs.Vocabulary.{◌≡◌, ◌*◌, ◌≤◌, take, joined_in}
 use Rattle.osi_stack.proofs.in_step.what_is_joined_is_the_same.{live_in}
 use Rattle.osi_stack.proofs.lines.count_joined.Given as goal
 

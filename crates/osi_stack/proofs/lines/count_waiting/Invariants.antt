@@ -1,5 +1,4 @@
-use Rattle.std.proofs.Common.{◌≡◌, ◌≤◌, take}
-use Rattle.osi_stack.specs.State.{how_many_wait}
+use Rattle.osi_stack.proofs.Vocabulary.{◌≡◌, ◌≤◌, take, how_many_wait}
 use Rattle.osi_stack.proofs.lines.count_waiting.Given as goal
 
 abbrev pub invariant-lines : goal.invariant-lines

@@ -1,5 +1,4 @@
-use Rattle.std.proofs.Common.{rules}
-use Rattle.std.proofs.lemmas.Fn.{filter_same}
+use Rattle.osi_stack.proofs.Vocabulary.{rules, filter_same}
 use Rattle.osi_stack.proofs.lines.drop_unused.Goals as goal
 
 pub returns : goal.returns

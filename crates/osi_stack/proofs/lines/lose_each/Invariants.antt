@@ -1,5 +1,4 @@
-use Rattle.std.proofs.Common.{◌≡◌, ◌++◌, take, drop}
-use Rattle.osi_stack.specs.Hearing.{all_lost}
+use Rattle.osi_stack.proofs.Vocabulary.{◌≡◌, ◌++◌, take, drop, all_lost}
 use Rattle.osi_stack.proofs.lines.lose_each.Given as goal
 
 abbrev pub invariant-loop-line : goal.invariant-loop-line

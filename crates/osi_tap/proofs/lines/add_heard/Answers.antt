@@ -1,5 +1,5 @@
-use Rattle.osi_judge.specs.Sides.{watched}
-use Rattle.osi_tap.specs.Holding.{lined}
+use Rattle.std.proofs.Common.{arith}
+use Rattle.osi_tap.proofs.Vocabulary.{watched, lined}
 use Rattle.osi_tap.proofs.what_holds_of_a_result.{on_ok, on_ok_both}
 use Rattle.osi_tap.proofs.what_is_kept_of_a_side_is_what_passed.{part_added, end_added}
 use Rattle.osi_tap.proofs.lines.add_heard.Goals as goal
@@ -13,7 +13,4 @@ returns-then-end-clause-ok c =
 
 pub returns-clause-ok : goal.returns-clause-ok
 returns-clause-ok c =
-    on_ok c.add_part.result c.add_part.ensures.ok (λ e s t other a b h. rw c.if-end.false
-    (part_added s t (lined c.args.own.now)
-    (lined c.add_part.new.self) other a b c.args.at c.since_first-since.result c.args.octets.now c.requires
-    c.since_first-since.ensures e h))
+    on_ok c.add_part.result c.add_part.ensures.ok (grind (arith, part_added))

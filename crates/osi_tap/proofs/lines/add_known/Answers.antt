@@ -1,5 +1,4 @@
-use Rattle.std.proofs.Common.{◌∙◌, ap}
-use Rattle.osi_tap.specs.Holding.{is_unheard}
+use Rattle.osi_tap.proofs.Vocabulary.{◌∙◌, ap, is_unheard}
 use Rattle.osi_tap.proofs.what_holds_of_a_result.{on_ok, on_err}
 use Rattle.osi_tap.proofs.what_is_kept_of_a_side_is_what_passed.{flipped}
 use Rattle.osi_tap.proofs.lines.add_known.Goals as goal

@@ -1,5 +1,4 @@
-use Rattle.std.proofs.Common.{subst, sym}
-use Rattle.osi_tap.specs.Holding.{Lined, lined, HoldsBoth}
+use Rattle.osi_tap.proofs.Vocabulary.{subst, sym, Lined, lined, HoldsBoth}
 use Rattle.osi_tap.proofs.lines.add_last.Goals as goal
 
 pub returns-in-Ok-clause-ok : goal.returns-in-Ok-clause-ok

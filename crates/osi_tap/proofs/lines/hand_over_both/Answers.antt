@@ -1,5 +1,5 @@
-use Rattle.std.proofs.Common.{◌∙◌, ap}
-use Rattle.osi_tap.specs.Holding.{is_unheard}
+use Rattle.std.proofs.Common.{arith}
+use Rattle.osi_tap.proofs.Vocabulary.{◌∙◌, ap, is_unheard}
 use Rattle.osi_tap.proofs.what_is_kept_of_a_side_is_what_passed.{flipped}
 use Rattle.osi_tap.proofs.what_holds_of_a_result.{on_ok}
 use Rattle.osi_tap.proofs.lines.hand_over_both.Goals as goal
@@ -10,8 +10,7 @@ returns-in-Ok-clause-holds c s t a b h =
 
 pub returns-in-Ok-clause-own : goal.returns-in-Ok-clause-own
 returns-in-Ok-clause-own c =
-    on_ok c.hand_over-in-Ok.result c.hand_over-in-Ok.ensures.heard (λ e.
-    ap is_unheard c.hand_over-in-Ok.ensures.stage ∙ c.in-Ok.ensures.heard)
+    on_ok c.hand_over-in-Ok.result c.hand_over-in-Ok.ensures.heard (grind arith)
 
 pub returns-in-Ok-clause-free : goal.returns-in-Ok-clause-free
 returns-in-Ok-clause-free c own beside = c.hand_over-in-Ok.ensures.free (ap is_unheard c.hand_over.ensures.stage ∙ beside)

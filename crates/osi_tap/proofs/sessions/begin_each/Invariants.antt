@@ -1,6 +1,4 @@
-use Rattle.std.proofs.Common.{◌++◌, List, map, take, drop}
-use Rattle.osi_tap.specs.Connections.{Joined, packet_begins}
-use Rattle.osi_tap.specs.Holding.{HoldAll}
+use Rattle.osi_tap.proofs.Vocabulary.{◌++◌, List, map, take, drop, Joined, packet_begins, HoldAll}
 use Rattle.osi_tap.proofs.sessions.begin_each.Given as goal
 
 abbrev pub invariant-loop-connection : goal.invariant-loop-connection

@@ -1,7 +1,4 @@
-use Rattle.std.proofs.Common.{◌∙◌, ap, sym, Bool, arith}
-use Rattle.osi_judge.specs.Stops.{broke_session}
-use Rattle.osi_tap.specs.declared.connections.Connection.{Connection}
-use Rattle.osi_tap.specs.Holding.{line_in}
+use Rattle.osi_tap.proofs.Vocabulary.{Bool, arith, broke_session, Connection, line_in}
 use Rattle.osi_tap.proofs.who_is_to_blame.{none_blamed, one_blamed}
 use Rattle.osi_tap.proofs.sessions.broke_in.Goals as goal
 
@@ -11,5 +8,4 @@ returns-then-place-live c js h = none_blamed c.args.direction c.args.live.now js
 pub returns : goal.returns
 returns c js h =
     let broke : Connection → Bool = λ (x : Connection). broke_session (line_in c.args.direction x).side.finding in
-    one_blamed c.has_broken.result c.args.direction c.args.live.now js c.args.place c.index-live-place.result (omega arith) h
-    (sym (c.has_broken.ensures ∙ ap broke c.index-live-place.is))
+    grind (arith, one_blamed)

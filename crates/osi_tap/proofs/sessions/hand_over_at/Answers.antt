@@ -1,7 +1,5 @@
-use Rattle.std.proofs.Common.{subst, sym}
-use Rattle.std.proofs.lemmas.List.{length-set}
-use Rattle.osi_tap.specs.declared.connections.Connection.{Connection}
-use Rattle.osi_tap.specs.Holding.{HoldsJoined, IsHeard}
+use Rattle.std.proofs.Common.{arith}
+use Rattle.osi_tap.proofs.Vocabulary.{subst, sym, length-set, Connection, HoldsJoined, IsHeard}
 use Rattle.osi_tap.proofs.what_holds_of_a_result.{on_ok, now_so}
 use Rattle.osi_tap.proofs.each_connection_is_kept.{one_kept}
 use Rattle.osi_tap.proofs.each_session_has_heard_all.{front_heard, heard_at, still_heard}
@@ -17,12 +15,10 @@ returns-clause-count c = length-set c.args.live.now.items c.args.place c.hand_ov
 
 pub returns-clause-heard : goal.returns-clause-heard
 returns-clause-heard c =
-    on_ok c.hand_over.result c.hand_over.ensures.heard (λ e k.
-    front_heard c.args.live.now.items c.args.place c.hand_over.new.self c.requires e k)
+    on_ok c.hand_over.result c.hand_over.ensures.heard (grind (arith, front_heard))
 
 pub returns-clause-free : goal.returns-clause-free
 returns-clause-free c h =
     let one = subst IsHeard (sym c.index_mut.ensures.value)
     (heard_at c.args.live.now.items c.args.place c.index_mut.result.now c.requires h) in
-    let free = c.hand_over.ensures.free one in
-    (free, still_heard c.args.live.now.items c.args.place c.hand_over.new.self (now_so c.hand_over.result free c.hand_over.ensures.heard) h)
+    grind (arith, still_heard, now_so)

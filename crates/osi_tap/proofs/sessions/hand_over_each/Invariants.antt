@@ -1,6 +1,4 @@
-use Rattle.std.proofs.Common.{List, length, take, ◌-◌}
-use Rattle.osi_tap.specs.Connections.{Joined}
-use Rattle.osi_tap.specs.Holding.{AreHeard, HoldAll}
+use Rattle.osi_tap.proofs.Vocabulary.{List, length, take, ◌-◌, Joined, AreHeard, HoldAll}
 use Rattle.osi_tap.proofs.sessions.hand_over_each.Given as goal
 
 abbrev pub invariant-connections : goal.invariant-connections

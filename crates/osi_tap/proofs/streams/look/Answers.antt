@@ -1,5 +1,4 @@
-use Rattle.std.proofs.Common.{ap, refl, sym, subst, List, ℕ, take, Ok}
-use Rattle.osi_tpkt.specs.Packet.{IsPacket}
+use Rattle.osi_tap.proofs.Vocabulary.{ap, refl, sym, subst, List, ℕ, take, Ok, IsPacket}
 use Rattle.osi_tap.proofs.octets_are_looked_at.{packet_front, partial_front, fault_front}
 use Rattle.osi_tap.proofs.streams.look.Goals as goal
 

@@ -1,6 +1,4 @@
-use Rattle.std.proofs.Common.{◌∙◌, sym, take}
-use Rattle.std.proofs.lemmas.List.{length-take-le}
-use Rattle.osi_tap.specs.Holding.{streamed}
+use Rattle.osi_tap.proofs.Vocabulary.{◌∙◌, sym, take, length-take-le, streamed}
 use Rattle.osi_tap.proofs.what_is_taken_of_a_piece_passes.{taken_looked, takes_of, some_of}
 use Rattle.osi_tap.proofs.tap.take_octets.Goals as goal
 

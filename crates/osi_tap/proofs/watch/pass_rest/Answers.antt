@@ -1,5 +1,4 @@
-use Rattle.std.proofs.Common.{refl}
-use Rattle.osi_tpdu.specs.Units.{units_left}
+use Rattle.osi_tap.proofs.Vocabulary.{refl, units_left}
 use Rattle.osi_tap.proofs.what_a_packet_still_owes.{rest_owed}
 use Rattle.osi_tap.proofs.watch.pass_rest.Goals as goal
 

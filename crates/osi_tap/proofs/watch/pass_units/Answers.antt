@@ -1,5 +1,4 @@
-use Rattle.osi_tpdu.specs.Units.{units_left}
-use Rattle.osi_tpdu.specs.View.{value}
+use Rattle.osi_tap.proofs.Vocabulary.{units_left, value}
 use Rattle.osi_tap.proofs.what_holds_of_a_result.{any_err}
 use Rattle.osi_tap.proofs.what_a_packet_still_owes.{next_owed, still_owed, none_owed}
 use Rattle.osi_tap.proofs.watch.pass_units.Goals as goal

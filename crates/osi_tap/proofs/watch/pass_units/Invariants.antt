@@ -1,8 +1,4 @@
-use Rattle.std.proofs.Common.{List, length}
-use Rattle.osi_tpdu.specs.Units.{units_left}
-use Rattle.osi_tpdu.specs.Value.{Value}
-use Rattle.osi_tap.specs.Courses.{Course}
-use Rattle.osi_tap.specs.Owing.{OwesLast}
+use Rattle.osi_tap.proofs.Vocabulary.{List, length, units_left, Value, Course, OwesLast}
 use Rattle.osi_tap.proofs.watch.pass_units.Given as goal
 
 abbrev pub invariant-units : goal.invariant-units

@@ -1,5 +1,4 @@
-use Rattle.std.proofs.Common.{◌≡◌, ◌∙◌, ◌<◌, ap, sym, ℕ, drop, arith}
-use Rattle.osi_tpdu.specs.Units.{units_left}
+use Rattle.osi_tap.proofs.Vocabulary.{◌≡◌, ◌∙◌, ◌<◌, ap, sym, ℕ, drop, arith, units_left}
 use Rattle.osi_tap.proofs.what_a_packet_still_owes.{drop_given}
 use Rattle.osi_tap.proofs.watch.units_after.Goals as goal
 

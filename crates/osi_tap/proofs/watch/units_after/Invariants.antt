@@ -1,5 +1,4 @@
-use Rattle.std.proofs.Common.{◌≡◌, drop}
-use Rattle.osi_tpdu.specs.Units.{units_left}
+use Rattle.osi_tap.proofs.Vocabulary.{◌≡◌, drop, units_left}
 use Rattle.osi_tap.proofs.watch.units_after.Given as goal
 
 abbrev pub invariant-skipped : goal.invariant-skipped

@@ -1,5 +1,4 @@
-use Rattle.std.proofs.Common.{◌≤◌, length, arith, rules}
-use Rattle.std.proofs.lemmas.Result.{err_from_is_err_and}
+use Rattle.osi_tpdu.proofs.Vocabulary.{◌≤◌, length, arith, rules, err_from_is_err_and}
 use Rattle.osi_tpdu.proofs.what_is_left_gives_the_rest.{Reads-more, Reads-cut, Reads-refused, Reads-all}
 use Rattle.osi_tpdu.proofs.parameters.read_parameters.Goals as goal
 

@@ -1,5 +1,4 @@
-use Rattle.std.proofs.Common.{◌+◌, ◌<◌, ◌^◌, length}
-use Rattle.osi_tpdu.proofs.Vocabulary.{known_at, parameter_values}
+use Rattle.osi_tpdu.proofs.Vocabulary.{known_at, parameter_values, ◌+◌, ◌<◌, ◌^◌, length}
 use Rattle.osi_tpdu.proofs.what_is_left_gives_the_rest.{Reads}
 use Rattle.osi_tpdu.proofs.parameters.read_parameters.Given as goal
 

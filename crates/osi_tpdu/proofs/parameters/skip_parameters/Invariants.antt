@@ -1,5 +1,4 @@
-use Rattle.std.proofs.Common.{◌+◌, ◌<◌, ◌^◌, length}
-use Rattle.osi_tpdu.specs.Reading.{all_skipped_at}
+use Rattle.osi_tpdu.proofs.Vocabulary.{◌+◌, ◌<◌, ◌^◌, length, all_skipped_at}
 use Rattle.osi_tpdu.proofs.what_is_left_gives_the_rest.{Skips}
 use Rattle.osi_tpdu.proofs.parameters.skip_parameters.Given as goal
 

@@ -1,5 +1,4 @@
-use Rattle.std.proofs.Common.{arith}
-use Rattle.osi_tpkt.specs.Octets.{IsOctets}
+use Rattle.osi_tpdu.proofs.Vocabulary.{arith, IsOctets}
 use Rattle.osi_tpdu.proofs.the_units_of_a_packet.{read_fits}
 use Rattle.osi_tpdu.proofs.reading.read_unit.Goals as goal
 

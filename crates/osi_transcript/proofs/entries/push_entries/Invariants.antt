@@ -1,6 +1,4 @@
-use Rattle.std.proofs.Common.{◌≡◌, ◌++◌, map, take}
-use Rattle.osi_pair.specs.Entries.{entry_by}
-use Rattle.osi_transcript.specs.Entries.{entry_texts}
+use Rattle.osi_transcript.proofs.Vocabulary.{◌≡◌, ◌++◌, map, take, entry_by, entry_texts}
 use Rattle.osi_transcript.proofs.entries.push_entries.Given as goal
 
 abbrev pub invariant-entries : goal.invariant-entries

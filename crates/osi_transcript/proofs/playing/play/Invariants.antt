@@ -1,5 +1,4 @@
-use Rattle.std.proofs.Common.{length}
-use Rattle.osi_transcript.specs.Walks.{lines_in, IsSmall}
+use Rattle.osi_transcript.proofs.Vocabulary.{length, lines_in, IsSmall}
 use Rattle.osi_transcript.proofs.each_line_is_played_in_order.{HasPlayed}
 use Rattle.osi_transcript.proofs.playing.play.Given as goal
 

@@ -1,5 +1,4 @@
-use Rattle.std.proofs.Common.{◌≡◌, ◌∙◌, Some, sym}
-use Rattle.osi_script.specs.Commands.{command_by, command_of}
+use Rattle.osi_transcript.proofs.Vocabulary.{◌≡◌, ◌∙◌, Some, sym, command_by, command_of}
 use Rattle.osi_transcript.proofs.each_line_is_played_in_order.{done, failed, event_goes, event_stops}
 use Rattle.osi_transcript.proofs.playing.play_line.Goals as goal
 

@@ -1,5 +1,4 @@
-use Rattle.std.proofs.Common.{arith, ◌∙◌, sym}
-use Rattle.std.proofs.lemmas.List.{append_assoc, append-nil}
+use Rattle.osi_transcript.proofs.Vocabulary.{arith, ◌∙◌, sym, append_assoc, append-nil}
 use Rattle.osi_transcript.proofs.the_line_of_a_state.{no_standings, standings_more, standing_here, standings_end}
 use Rattle.osi_transcript.proofs.standings.push_side.Goals as goal
 

@@ -1,5 +1,4 @@
-use Rattle.std.proofs.Common.{◌≡◌, ◌++◌}
-use Rattle.osi_transcript.specs.Standings.{standing_texts}
+use Rattle.osi_transcript.proofs.Vocabulary.{◌≡◌, ◌++◌, standing_texts}
 use Rattle.osi_transcript.proofs.standings.push_side.Given as goal
 
 abbrev pub invariant-references : goal.invariant-references

@@ -1,9 +1,6 @@
-use Rattle.std.proofs.Common.{◌≡◌, ◌∙◌, Option, Some, option_map, refl, sym, ap, subst}
-use Rattle.osi_tpdu.specs.Limits.{size_code, window_units}
-use Rattle.osi_pair.specs.Ends.{fresh_ends}
-use Rattle.osi_script.specs.Commands.{Command, command_by}
+use Rattle.osi_transcript.proofs.Vocabulary.{◌≡◌, ◌∙◌, Option, Some, option_map, refl, sym, ap, subst, size_code, window_units, fresh_ends}
+use Rattle.osi_transcript.proofs.Vocabulary.{Command, command_by, IsStart}
 use Rattle.osi_script.specs.declared.commands.Command.TheVariants.{Ends}
-use Rattle.osi_transcript.specs.Starting.{IsStart}
 use Rattle.osi_transcript.proofs.transcripts.ends_of.Goals as goal
 
 pub returns-in-Some-Ends : goal.returns-in-Some-Ends

@@ -1,11 +1,5 @@
-use Rattle.std.proofs.Common.{◌∙◌, Option, option_map, sym, subst}
-use Rattle.osi_class.specs.declared.terms.Local.{Local}
-use Rattle.osi_pair.specs.Ends.{fresh_ends}
-use Rattle.osi_script.specs.Commands.{command_of}
-use Rattle.osi_script.specs.Scripts.{lines_of}
-use Rattle.osi_transcript.specs.Numbered.{numbered}
-use Rattle.osi_transcript.specs.Starting.{StartsWith}
-use Rattle.osi_transcript.specs.Walks.{lines_in}
+use Rattle.osi_transcript.proofs.Vocabulary.{◌∙◌, Option, option_map, sym, subst, Local, fresh_ends, command_of, lines_of, numbered}
+use Rattle.osi_transcript.proofs.Vocabulary.{StartsWith, lines_in}
 use Rattle.osi_transcript.proofs.each_line_is_played_in_order.{transcribed}
 use Rattle.osi_transcript.proofs.transcripts.transcribe.Goals as goal
 

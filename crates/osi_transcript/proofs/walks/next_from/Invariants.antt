@@ -1,6 +1,4 @@
-use Rattle.std.proofs.Common.{◌≡◌, ◌+◌, ◌<◌, ◌^◌, length}
-use Rattle.osi_script.specs.Scripts.{lines_of}
-use Rattle.osi_transcript.specs.Numbered.{numbered}
+use Rattle.osi_transcript.proofs.Vocabulary.{◌≡◌, ◌+◌, ◌<◌, ◌^◌, length, lines_of, numbered}
 use Rattle.osi_transcript.proofs.walks.next_from.Given as goal
 
 abbrev pub invariant-lines : goal.invariant-lines

@@ -1,6 +1,6 @@
+use Rattle.std.proofs.Common.{arith}
 use Rattle.osi_watched.proofs.Vocabulary.{Option, Some, subst, ◌≡◌, said_again, SpduLaws, AsSent, Capture, all_proper, Known, can_begin}
-use Rattle.osi_watched.proofs.Vocabulary.{BreaksFirst, IsFirstOf, first_in, IsFed, comes_to, First, Tap}
-use Rattle.osi_tap.specs.Standing.{IsJudged}
+use Rattle.osi_watched.proofs.Vocabulary.{BreaksFirst, IsFirstOf, first_in, IsFed, comes_to, First, Tap, IsJudged}
 use Rattle.osi_watched.proofs.sessions.no_called_end_is_blamed_first.{called_blameless, called_never_first}
 use Rattle.osi_watched.proofs.sessions.no_calling_end_is_blamed_first.{calling_blameless, calling_never_first}
 use Rattle.osi_watched.proofs.sessions.the_first_break_of_all_is_of_the_other_side.{neither_first}
@@ -31,49 +31,33 @@ told_first c capture t f was_fed judged told =
 
 pub returns-clause-called : goal.returns-clause-called
 returns-clause-called c = λ local begin end turns capture f fresh run octets seen few first.
-    called_never_first (known c) (as_sent c) c.what_leaves_in_parts.ensures.read c.an_honest_session_is_explained.ensures.caller
-    c.an_honest_session_is_explained.ensures.called local capture few f first begin end turns fresh run
-    octets seen
+    search (arith, called_never_first, known, as_sent)
 
 pub returns-clause-calling : goal.returns-clause-calling
 returns-clause-calling c = λ local begin end turns capture f fresh run octets seen few first.
-    calling_never_first (known c) (as_sent c) c.what_leaves_in_parts.ensures.read c.an_honest_session_is_explained.ensures.caller
-    c.an_honest_session_is_explained.ensures.called local capture few f first begin end turns fresh run
-    octets seen
+    search (arith, calling_never_first, known, as_sent)
 
 pub returns-clause-both : goal.returns-clause-both
 returns-clause-both c = λ mine theirs begin end called_begin called_end turns called_turns capture first octets fresh run seen called_fresh
     called_run called_seen few is.
     neither_first first (comes_to capture).course.past
-    (λ f earliest. calling_never_first (known c) (as_sent c) c.what_leaves_in_parts.ensures.read
-    c.an_honest_session_is_explained.ensures.caller c.an_honest_session_is_explained.ensures.called mine capture
-    few f earliest begin end turns fresh run octets seen)
-    (λ f earliest. called_never_first (known c) (as_sent c) c.what_leaves_in_parts.ensures.read
-    c.an_honest_session_is_explained.ensures.caller c.an_honest_session_is_explained.ensures.called theirs capture
-    few f earliest called_begin called_end called_turns called_fresh called_run octets called_seen) is
+    (λ f earliest. search (arith, calling_never_first, known, as_sent))
+    (λ f earliest. search (arith, called_never_first, known, as_sent)) is
 
 pub returns-clause-called_at_a_tap : goal.returns-clause-called_at_a_tap
 returns-clause-called_at_a_tap c = λ local begin end turns capture t f fresh run octets seen few was_fed judged told.
-    called_never_first (known c) (as_sent c) c.what_leaves_in_parts.ensures.read c.an_honest_session_is_explained.ensures.caller
-    c.an_honest_session_is_explained.ensures.called local capture few f
-    (told_first c capture t f was_fed judged told) begin end turns fresh run octets seen
+    search (arith, called_never_first, known c, as_sent c, told_first c capture t f was_fed judged told)
 
 pub returns-clause-calling_at_a_tap : goal.returns-clause-calling_at_a_tap
 returns-clause-calling_at_a_tap c = λ local begin end turns capture t f fresh run octets seen few was_fed judged told.
-    calling_never_first (known c) (as_sent c) c.what_leaves_in_parts.ensures.read c.an_honest_session_is_explained.ensures.caller
-    c.an_honest_session_is_explained.ensures.called local capture few f
-    (told_first c capture t f was_fed judged told) begin end turns fresh run octets seen
+    search (arith, calling_never_first, known c, as_sent c, told_first c capture t f was_fed judged told)
 
 pub returns-clause-both_at_a_tap : goal.returns-clause-both_at_a_tap
 returns-clause-both_at_a_tap c = λ mine theirs begin end called_begin called_end turns called_turns capture t octets fresh run seen
     called_fresh called_run called_seen few was_fed judged.
     neither_first (first_in t) (comes_to capture).course.past
-    (λ f earliest. calling_never_first (known c) (as_sent c) c.what_leaves_in_parts.ensures.read
-    c.an_honest_session_is_explained.ensures.caller c.an_honest_session_is_explained.ensures.called mine capture
-    few f earliest begin end turns fresh run octets seen)
-    (λ f earliest. called_never_first (known c) (as_sent c) c.what_leaves_in_parts.ensures.read
-    c.an_honest_session_is_explained.ensures.caller c.an_honest_session_is_explained.ensures.called theirs capture
-    few f earliest called_begin called_end called_turns called_fresh called_run octets called_seen)
+    (λ f earliest. search (arith, calling_never_first, known, as_sent))
+    (λ f earliest. search (arith, called_never_first, known, as_sent))
     (c.the_first_break_is_the_earliest.ensures.first capture t was_fed judged)
 
 pub returns-clause-called_nowhere : goal.returns-clause-called_nowhere
@@ -83,5 +67,4 @@ returns-clause-called_nowhere c = λ local begin end turns capture i j fresh run
 
 pub returns-clause-calling_nowhere : goal.returns-clause-calling_nowhere
 returns-clause-calling_nowhere c = λ local begin end turns capture i j fresh run octets seen few quiet there.
-    calling_blameless (known c) (as_sent c) c.what_leaves_in_parts.ensures.read c.an_honest_session_is_explained.ensures.caller
-    c.an_honest_session_is_explained.ensures.called local capture few i j quiet begin end turns fresh run octets seen there
+    search (arith, calling_blameless, known c, as_sent c)

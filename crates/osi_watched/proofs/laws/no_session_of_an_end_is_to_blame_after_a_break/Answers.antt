@@ -1,9 +1,5 @@
-use Rattle.osi_judge.proofs.honest.a_call_is_explained.{AsSent}
-use Rattle.osi_session.proofs.tsdu.what_is_sent_is_taken_as_meant.{said_again}
-use Rattle.osi_stack.proofs.called.what_is_sent_is_short.{SpduLaws}
-use Rattle.osi_honest.proofs.class_0.what_a_session_answers_fits.{all_proper}
-use Rattle.osi_honest.proofs.courses.what_sessions_hear_of_it.{Known}
-use Rattle.osi_honest.proofs.opening.what_an_asking_end_does.{can_begin}
+use Rattle.std.proofs.Common.{arith}
+use Rattle.osi_watched.proofs.Vocabulary.{AsSent, said_again, SpduLaws, all_proper, Known, can_begin}
 use Rattle.osi_watched.proofs.sessions.no_end_is_to_blame_after_a_break.{called_later, calling_later}
 use Rattle.osi_watched.proofs.laws.no_session_of_an_end_is_to_blame_after_a_break.Goals as goal
 
@@ -30,5 +26,4 @@ returns-clause-called c = λ local begin end turns capture i j fresh run octets 
 
 pub returns-clause-calling : goal.returns-clause-calling
 returns-clause-calling c = λ local begin end turns capture i j fresh run octets seen few there.
-    calling_later (known c) (as_sent c) c.what_leaves_in_parts.ensures.read c.an_honest_session_is_explained.ensures.caller
-    c.an_honest_session_is_explained.ensures.called local capture begin end turns i j fresh run octets seen few there
+    search (arith, calling_later, known, as_sent)

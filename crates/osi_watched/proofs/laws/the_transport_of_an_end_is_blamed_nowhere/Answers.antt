@@ -1,7 +1,4 @@
-use Rattle.std.proofs.Common.{false, true}
-use Rattle.osi_judge.specs.declared.directions.Direction.TheVariants.{Left, Right}
-use Rattle.osi_stack.proofs.called.what_is_sent_is_short.{SpduLaws}
-use Rattle.osi_honest.proofs.class_0.what_a_session_answers_fits.{all_proper}
+use Rattle.osi_watched.proofs.Vocabulary.{false, true, Left, Right, SpduLaws, all_proper}
 use Rattle.osi_watched.proofs.no_unit_of_a_whole_end_is_a_break.{called_is_fair_in_class_0, called_is_fair_throughout}
 use Rattle.osi_watched.proofs.no_unit_of_a_whole_end_is_a_break.{calling_is_fair_in_class_0, calling_is_fair_throughout}
 use Rattle.osi_watched.proofs.no_unit_of_an_end_breaks_a_rule.{always_unbroken}

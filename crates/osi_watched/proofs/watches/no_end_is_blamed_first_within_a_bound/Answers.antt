@@ -1,24 +1,8 @@
-use Rattle.std.specs.Prelude.{slice_get}
-use Rattle.std.proofs.Common.{◌≡◌, ◌⊎◌, inl, inr, ℕ, ◌<◌, ◌^◌, true, false, List, length, Some}
-use Rattle.osi_class.specs.declared.terms.Local.{Local}
-use Rattle.osi_judge.specs.Captures.{Capture}
-use Rattle.osi_judge.specs.declared.directions.Direction.{Direction}
-use Rattle.osi_judge.specs.declared.directions.Direction.TheVariants.{Left, Right}
-use Rattle.osi_judge.proofs.honest.a_call_is_explained.{AsSent}
-use Rattle.osi_session.proofs.tsdu.what_is_sent_is_taken_as_meant.{said_again}
-use Rattle.osi_stack.specs.State.{Holding}
-use Rattle.osi_stack.proofs.called.what_is_sent_is_short.{SpduLaws}
-use Rattle.osi_honest.specs.Seeing.{IsFresh, IsSeen}
-use Rattle.osi_honest.specs.Turns.{Run, Turn}
-use Rattle.osi_honest.proofs.class_0.what_a_session_answers_fits.{all_proper}
-use Rattle.osi_honest.proofs.courses.what_sessions_hear_of_it.{Known}
-use Rattle.osi_honest.proofs.opening.what_an_asking_end_does.{can_begin}
-use Rattle.osi_tap.specs.Blaming.{IsToBlame}
-use Rattle.osi_tap.specs.Connections.{Joined, Sessions}
-use Rattle.osi_tap.specs.Standing.{first_in}
-use Rattle.osi_tap.specs.Tapping.{comes_to}
-use Rattle.osi_watched.specs.Bounded.{comes_within}
-use Rattle.osi_watched.specs.Passing.{AreOctets}
+use Rattle.std.proofs.Common.{arith}
+use Rattle.osi_watched.proofs.Vocabulary.{slice_get, ◌≡◌, ◌⊎◌, inl, inr, ℕ, ◌<◌, ◌^◌, true, false, List, length, Some, Local, Capture}
+use Rattle.osi_watched.proofs.Vocabulary.{Direction, Left, Right, AsSent, said_again, Holding, SpduLaws, IsFresh, IsSeen, Run, Turn}
+use Rattle.osi_watched.proofs.Vocabulary.{all_proper, Known, can_begin, IsToBlame, Joined, Sessions, first_in, comes_to, comes_within}
+use Rattle.osi_watched.proofs.Vocabulary.{AreOctets}
 use Rattle.osi_watched.proofs.sessions.a_bound_changes_no_first_break.{ends_so_within}
 use Rattle.osi_watched.proofs.sessions.a_tap_with_a_bound_holds_what_passed.{first_told, some_told}
 use Rattle.osi_watched.proofs.sessions.after_too_many_nobody_is_to_blame.{NoneIsToBlame}
@@ -49,16 +33,14 @@ called_so : (c : goal.After-an_honest_session_is_explained) (local : Local) (beg
     length (comes_to capture).course.past < 2 ^ 64 → Ends Right (comes_within most capture).course
 called_so c local begin end turns capture most fresh run octets seen few =
     ends_so_within most Right capture
-    (called_ends (known c) (as_sent c) c.what_leaves_in_parts.ensures.read c.an_honest_session_is_explained.ensures.caller
-    c.an_honest_session_is_explained.ensures.called local capture few begin end turns fresh run octets seen)
+    (search (arith, called_ends, known, as_sent))
 
 calling_so : (c : goal.After-an_honest_session_is_explained) (local : Local) (begin end : Holding) (turns : List Turn) (capture : Capture)
     (most : ℕ) → IsFresh true local begin → Run begin turns end → AreOctets capture → IsSeen Left turns capture →
     length (comes_to capture).course.past < 2 ^ 64 → Ends Left (comes_within most capture).course
 calling_so c local begin end turns capture most fresh run octets seen few =
     ends_so_within most Left capture
-    (calling_ends (known c) (as_sent c) c.what_leaves_in_parts.ensures.read c.an_honest_session_is_explained.ensures.caller
-    c.an_honest_session_is_explained.ensures.called local capture few begin end turns fresh run octets seen)
+    (search (arith, calling_ends, known, as_sent))
 
 -- of no connection, live or done
 of_none : (d : Direction) (s : Sessions) (i : ℕ) (j : Joined) → NoneIsToBlame d s →
@@ -107,12 +89,8 @@ returns-clause-both_at_a_tap c = λ mine theirs begin end called_begin called_en
 
 pub returns-clause-called_nowhere : goal.returns-clause-called_nowhere
 returns-clause-called_nowhere c = λ local begin end turns capture most i j fresh run octets seen few quiet there.
-    of_none Right (comes_within most capture).course.sessions i j
-    (none_of_ends Right (comes_within most capture).course
-    (called_so c local begin end turns capture most fresh run octets seen few) quiet) there
+    search (arith, of_none, none_of_ends, called_so c local begin end turns capture most fresh run octets seen few)
 
 pub returns-clause-calling_nowhere : goal.returns-clause-calling_nowhere
 returns-clause-calling_nowhere c = λ local begin end turns capture most i j fresh run octets seen few quiet there.
-    of_none Left (comes_within most capture).course.sessions i j
-    (none_of_ends Left (comes_within most capture).course
-    (calling_so c local begin end turns capture most fresh run octets seen few) quiet) there
+    search (arith, of_none, none_of_ends, calling_so c local begin end turns capture most fresh run octets seen few)

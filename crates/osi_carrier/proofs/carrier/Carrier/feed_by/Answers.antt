@@ -1,6 +1,5 @@
-use Rattle.std.proofs.Common.{ℕ, ◌-◌, List, length, refl, ap, sym, subst, ◌∙◌, inl, inr, arith}
-use Rattle.osi_carrier.specs.declared.carrier.feeding.Fetched.{Fetched}
-use Rattle.osi_carrier.proofs.Vocabulary.{eqb-false, Fetches, Carrying, Goes, stops, is_spoilt}
+use Rattle.osi_carrier.proofs.Vocabulary.{eqb-false, Fetches, Carrying, Goes, stops, is_spoilt, ℕ, ◌-◌, List, length, refl, ap, sym, subst}
+use Rattle.osi_carrier.proofs.Vocabulary.{◌∙◌, inl, inr, arith, Fetched}
 use Rattle.osi_carrier.proofs.stream.a_piece_is_read_packet_by_packet.{read_first, read_next, read_stops, read_spoilt, read_part, read_over}
 use Rattle.osi_carrier.proofs.stream.a_piece_is_read_packet_by_packet.{fed_goes}
 use Rattle.osi_carrier.proofs.stream.a_tsdu_is_lent_from_its_piece.{lent_feeds, nothing_lent}

@@ -1,7 +1,5 @@
-use Rattle.std.proofs.Common.{arith}
-use Rattle.std.proofs.Common.{◌≡◌, [], subst, sym, ap}
+use Rattle.osi_carrier.proofs.Vocabulary.{Held, EndsOver, IsNoFront, Carrying, arith, ◌≡◌, [], subst, sym, ap}
 use Rattle.osi_carrier.specs.contracts.carrier.Carrier.{the_view}
-use Rattle.osi_carrier.proofs.Vocabulary.{Held, EndsOver, IsNoFront, Carrying}
 use Rattle.osi_carrier.proofs.stream.what_the_cutter_returns.{ended_over, fetched_packet, same_fault}
 use Rattle.osi_carrier.proofs.carrier.Carrier.gather.Goals as goal
 

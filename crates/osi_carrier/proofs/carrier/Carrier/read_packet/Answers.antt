@@ -1,8 +1,6 @@
-use Rattle.std.proofs.Common.{arith}
-use Rattle.std.proofs.Common.{◌+◌, length, Some, sym, ap, ◌∙◌, subst}
-use Rattle.osi_carrier.specs.Lending.{Lends, carrying_lent, lent_if, with_lent}
+use Rattle.osi_carrier.proofs.Vocabulary.{Acts, Held, PacketActs, Carrying, arith, ◌+◌, length, Some, sym, ap, ◌∙◌, subst, Lends}
+use Rattle.osi_carrier.proofs.Vocabulary.{carrying_lent, lent_if, with_lent}
 use Rattle.osi_carrier.specs.contracts.carrier.Carrier.{the_view}
-use Rattle.osi_carrier.proofs.Vocabulary.{Acts, Held, PacketActs, Carrying}
 use Rattle.osi_carrier.proofs.stream.what_the_cutter_returns.{passed_packet}
 use Rattle.osi_carrier.proofs.stream.a_tsdu_is_lent_from_its_piece.{lent_packet}
 use Rattle.osi_carrier.proofs.carrier.Carrier.read_packet.Goals as goal

@@ -1,7 +1,5 @@
-use Rattle.std.proofs.Common.{arith}
-use Rattle.std.proofs.Common.{ℕ, List, ◌++◌, Some, refl, ap, sym, ◌∙◌}
 use Rattle.osi_carrier.proofs.Vocabulary.{any_standing, Standing, with_tsdu, link_of, send_error, pumped, written_by, value_at, peer_in}
-use Rattle.osi_carrier.proofs.Vocabulary.{connection, link_in, Connection, linked, packets}
+use Rattle.osi_carrier.proofs.Vocabulary.{connection, link_in, Connection, linked, packets, arith, ℕ, List, ◌++◌, Some, refl, ap, sym, ◌∙◌}
 use Rattle.osi_carrier.proofs.references.rows_in_order.{set_kept}
 use Rattle.osi_carrier.proofs.references.the_link_in_a_row.{not_linked, open_row, row_linked, sought_place, too_long, short}
 use Rattle.osi_carrier.proofs.references.the_row_at_a_place.{here_is, nowhere, put_row, put_same}

@@ -1,5 +1,4 @@
-use Rattle.std.proofs.Common.{arith, ◌≡◌, None, ap}
-use Rattle.osi_carrier.proofs.Vocabulary.{link_of, place_of}
+use Rattle.osi_carrier.proofs.Vocabulary.{link_of, place_of, arith, ◌≡◌, None, ap}
 use Rattle.osi_carrier.proofs.references.the_row_at_a_place.{nowhere}
 use Rattle.osi_carrier.proofs.rows.Connections.open_at.Goals as goal
 

@@ -1,5 +1,4 @@
-use Rattle.std.proofs.Common.{ap, sym, ◌∙◌}
-use Rattle.osi_carrier.proofs.Vocabulary.{remove, asked, place_of}
+use Rattle.osi_carrier.proofs.Vocabulary.{remove, asked, place_of, ap, sym, ◌∙◌}
 use Rattle.osi_carrier.proofs.references.the_row_at_a_place.{placed}
 use Rattle.osi_carrier.proofs.references.rows_in_order.{without_kept}
 use Rattle.osi_carrier.proofs.rows.Connections.remove.Goals as goal

@@ -1,6 +1,5 @@
-use Rattle.std.proofs.Common.{arith, ◌≡◌, ℕ, ◌++◌, ap, sym, subst, ◌∙◌}
 use Rattle.osi_carrier.proofs.Vocabulary.{cow_slice_items, any_standing, Standing, with_tsdu, WaitsAlone, pumped, written_by, value_at}
-use Rattle.osi_carrier.proofs.Vocabulary.{link_in, Connection, linked, packets}
+use Rattle.osi_carrier.proofs.Vocabulary.{link_in, Connection, linked, packets, arith, ◌≡◌, ℕ, ◌++◌, ap, sym, subst, ◌∙◌}
 use Rattle.osi_carrier.proofs.references.rows_in_order.{set_kept}
 use Rattle.osi_carrier.proofs.references.the_link_in_a_row.{linked_phase, found_at, row_linked, ok_then}
 use Rattle.osi_carrier.proofs.references.the_row_at_a_place.{here_is, put_row}

@@ -1,6 +1,4 @@
-use Rattle.std.proofs.Common.{arith}
-use Rattle.std.proofs.Common.{ℕ, ap}
-use Rattle.osi_carrier.proofs.Vocabulary.{Connection}
+use Rattle.osi_carrier.proofs.Vocabulary.{Connection, arith, ℕ, ap}
 use Rattle.osi_carrier.proofs.references.the_row_at_a_place.{put_row}
 use Rattle.osi_carrier.proofs.references.rows_in_order.{set_kept}
 use Rattle.osi_carrier.proofs.rows.Connections.set.Goals as goal

@@ -1,13 +1,8 @@
-use Rattle.std.proofs.Common.{arith}
-use Rattle.std.proofs.Common.{◌≡◌, ℕ, ◌++◌, true, Option, Some, Result, Err, IsOk, is_some, refl, option_to_list}
-use Rattle.std.proofs.Common.{ap, sym, subst, ◌∙◌, rules}
-use Rattle.osi_class.specs.Handing.{tsdu_handed, user_of}
-use Rattle.osi_class.specs.Link.{with_handed}
+use Rattle.osi_carrier.proofs.Vocabulary.{append-nil, any_standing, value, Standing, LinkFault, needs_memory, taken, connection, value_at}
+use Rattle.osi_carrier.proofs.Vocabulary.{peer_in, link_in, Connection, linked, packets, link_after, units_after, whole_after, link_grows}
+use Rattle.osi_carrier.proofs.Vocabulary.{arith, ◌≡◌, ℕ, ◌++◌, true, Option, Some, Result, Err, IsOk, is_some, refl, option_to_list, ap}
+use Rattle.osi_carrier.proofs.Vocabulary.{sym, subst, ◌∙◌, rules, tsdu_handed, user_of, with_handed, handing}
 use Rattle.osi_class.specs.declared.faults.LinkFault.TheVariants.{OutOfMemory}
-use Rattle.osi_class.proofs.bounds.what_a_queue_hands_out.{handing}
-use Rattle.osi_carrier.proofs.Vocabulary.{append-nil, any_standing, value, Standing, LinkFault, needs_memory, taken, connection}
-use Rattle.osi_carrier.proofs.Vocabulary.{value_at, peer_in, link_in, Connection, linked, packets, link_after, units_after, whole_after}
-use Rattle.osi_carrier.proofs.Vocabulary.{link_grows}
 use Rattle.osi_carrier.proofs.effects.what_a_link_answers.{refused_by, took_whole, took_link, on_err}
 use Rattle.osi_carrier.proofs.references.rows_in_order.{set_kept}
 use Rattle.osi_carrier.proofs.references.the_link_in_a_row.{none_known, not_known, open_row, row_linked, sought_place, same_peer}

@@ -1,5 +1,4 @@
-use Rattle.std.proofs.Common.{subst}
-use Rattle.osi_carrier.proofs.Vocabulary.{connection, IsPumped, Phase}
+use Rattle.osi_carrier.proofs.Vocabulary.{connection, IsPumped, Phase, subst}
 use Rattle.osi_carrier.proofs.rows.Row.send_all.Goals as goal
 
 pub send_all_on-requires : goal.send_all_on-requires

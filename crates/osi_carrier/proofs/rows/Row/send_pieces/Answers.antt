@@ -1,5 +1,4 @@
-use Rattle.std.proofs.Common.{subst}
-use Rattle.osi_carrier.proofs.Vocabulary.{connection, IsPumped, Phase}
+use Rattle.osi_carrier.proofs.Vocabulary.{connection, IsPumped, Phase, subst}
 use Rattle.osi_carrier.proofs.rows.Row.send_pieces.Goals as goal
 
 pub send_pieces_on-requires-clause-quiet : goal.send_pieces_on-requires-clause-quiet

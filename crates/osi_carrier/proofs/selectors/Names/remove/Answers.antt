@@ -1,5 +1,4 @@
-use Rattle.std.proofs.Common.{None, ap, sym, ◌∙◌}
-use Rattle.osi_carrier.proofs.Vocabulary.{place_of, without, TsapIds}
+use Rattle.osi_carrier.proofs.Vocabulary.{place_of, without, TsapIds, None, ap, sym, ◌∙◌}
 use Rattle.osi_carrier.proofs.references.the_row_at_a_place.{placed}
 use Rattle.osi_carrier.proofs.selectors.Names.remove.Goals as goal
 

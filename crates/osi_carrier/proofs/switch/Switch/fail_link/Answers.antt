@@ -1,6 +1,5 @@
-use Rattle.std.proofs.Common.{arith, ◌≡◌, ◌++◌, ◌∷◌, [], Some, map, subst, rules}
-use Rattle.osi_carrier.specs.declared.events.Event.TheVariants.{Faulted}
-use Rattle.osi_carrier.proofs.Vocabulary.{Two, disconnect, grows, happening, faulted, breaks, put, State, closing, packets, the_view}
+use Rattle.osi_carrier.proofs.Vocabulary.{Two, disconnect, grows, happening, faulted, breaks, put, State, closing, packets, the_view, arith}
+use Rattle.osi_carrier.proofs.Vocabulary.{◌≡◌, ◌++◌, ◌∷◌, [], Some, map, subst, rules, Faulted}
 use Rattle.osi_carrier.proofs.effects.a_refused_unit_changes_nothing.{changed, told, breaks_two}
 use Rattle.osi_carrier.proofs.written.what_needs_memory_does_something.{breaks_grows, on_want}
 use Rattle.osi_carrier.proofs.switch.Switch.fail_link.Goals as goal

@@ -1,8 +1,6 @@
-use Rattle.std.proofs.Common.{arith, ◌≡◌, ℕ, List, true, take, refl, ap, subst, ◌∙◌, option_to_list}
-use Rattle.osi_carrier.specs.declared.links.Step.{Step}
-use Rattle.osi_carrier.specs.declared.links.Step.TheVariants.{Took}
 use Rattle.osi_carrier.proofs.Vocabulary.{value, taken, grows, taking, value_at, place_of, link_in, peer_in, State, StepsTo, the_view, ends}
-use Rattle.osi_carrier.proofs.Vocabulary.{NoMemory, units_after, packets}
+use Rattle.osi_carrier.proofs.Vocabulary.{NoMemory, units_after, packets, arith, ◌≡◌, ℕ, List, true, take, refl, ap, subst, ◌∙◌}
+use Rattle.osi_carrier.proofs.Vocabulary.{option_to_list, Step, Took}
 use Rattle.osi_carrier.proofs.effects.a_refused_unit_changes_nothing.{broke_rows, broke_octets, broke_taking, took_taking, undone, changed}
 use Rattle.osi_carrier.proofs.references.the_link_in_a_row.{same_peer, with_peer}
 use Rattle.osi_carrier.proofs.written.what_needs_memory_does_something.{taking_grows, took_grows, broke_grows, on_want}

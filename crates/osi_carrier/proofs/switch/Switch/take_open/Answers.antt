@@ -1,5 +1,4 @@
-use Rattle.std.proofs.Common.{◌≡◌, true, sym, subst, ◌∙◌}
-use Rattle.osi_carrier.proofs.Vocabulary.{value, grows, value_at, peer_in, State}
+use Rattle.osi_carrier.proofs.Vocabulary.{value, grows, value_at, peer_in, State, ◌≡◌, true, sym, subst, ◌∙◌}
 use Rattle.osi_carrier.proofs.effects.units_one_after_the_other.{one_starved, one_taken}
 use Rattle.osi_carrier.proofs.references.the_link_in_a_row.{with_peer}
 use Rattle.osi_carrier.proofs.switch.Switch.take_open.Goals as goal

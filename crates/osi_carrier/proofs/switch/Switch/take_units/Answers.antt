@@ -1,6 +1,4 @@
-use Rattle.std.proofs.Common.{arith}
-use Rattle.std.proofs.Common.{ap, sym, ◌∙◌, is_some}
-use Rattle.osi_carrier.proofs.Vocabulary.{units_left, value, State}
+use Rattle.osi_carrier.proofs.Vocabulary.{units_left, value, State, arith, ap, sym, ◌∙◌, is_some}
 use Rattle.osi_carrier.proofs.effects.units_one_after_the_other.{along_over, along_next, along_starved, none_of}
 use Rattle.osi_carrier.proofs.switch.Switch.take_units.Goals as goal
 

@@ -1,5 +1,4 @@
-use Rattle.std.proofs.Common.{length}
-use Rattle.osi_tpdu.specs.Units.{units_left}
+use Rattle.osi_carrier.proofs.Vocabulary.{length, units_left}
 use Rattle.osi_carrier.proofs.effects.units_one_after_the_other.{IsAlong}
 use Rattle.osi_carrier.proofs.switch.Switch.take_units.Given as goal
 

@@ -1,5 +1,4 @@
-use Rattle.std.proofs.Common.{arith}
-use Rattle.osi_carrier.proofs.Vocabulary.{grows}
+use Rattle.osi_carrier.proofs.Vocabulary.{grows, arith}
 use Rattle.osi_carrier.proofs.references.the_row_at_a_place.{nowhere}
 use Rattle.osi_carrier.proofs.switch.Switch.to_reference.Goals as goal
 

@@ -1,5 +1,4 @@
-use Rattle.std.proofs.Common.{arith}
-use Rattle.osi_carrier.proofs.Vocabulary.{grows}
+use Rattle.osi_carrier.proofs.Vocabulary.{grows, arith}
 use Rattle.osi_carrier.proofs.written.what_needs_memory_does_something.{unknown_grows, on_want}
 use Rattle.osi_carrier.proofs.switch.Switch.to_unknown.Goals as goal
 

@@ -1,6 +1,5 @@
-use Rattle.std.proofs.Common.{arith, ℕ, length, map, sym, ◌∙◌, refl}
-use Rattle.osi_class.specs.declared.units.Slot.TheVariants.{Data2}
-use Rattle.osi_class.proofs.Vocabulary.{min, Ends, Flow, Sender, after_sent, GivesSlot, joining, Two, two_standing}
+use Rattle.osi_class.proofs.Vocabulary.{min, Ends, Flow, Sender, after_sent, GivesSlot, joining, Two, two_standing, arith, ℕ, length, map}
+use Rattle.osi_class.proofs.Vocabulary.{sym, ◌∙◌, refl, Data2}
 use Rattle.osi_class.proofs.giving.a_part_that_is_given_at_once.{part_of_class_2}
 use Rattle.osi_class.proofs.class_two.Class2Link.give_slot.Goals as goal
 

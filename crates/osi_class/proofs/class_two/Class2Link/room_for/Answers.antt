@@ -1,5 +1,4 @@
-use Rattle.std.proofs.Common.{◌≡◌, ◌∙◌, ap, arith, ◌<◌}
-use Rattle.osi_class.proofs.Vocabulary.{Two}
+use Rattle.osi_class.proofs.Vocabulary.{Two, ◌≡◌, ◌∙◌, ap, arith, ◌<◌}
 use Rattle.osi_class.proofs.giving.the_units_of_one_tsdu.{room_of_class_2}
 use Rattle.osi_class.proofs.class_two.Class2Link.room_for.Goals as goal
 

@@ -1,6 +1,4 @@
-use Rattle.std.proofs.Common.{length, map, refl, subst}
-use Rattle.osi_class.specs.declared.units.Slot.TheVariants.{Data0}
-use Rattle.osi_class.proofs.Vocabulary.{min, Ends, GivesSlot, joining, zero_standing}
+use Rattle.osi_class.proofs.Vocabulary.{min, Ends, GivesSlot, joining, zero_standing, length, map, refl, subst, Data0}
 use Rattle.osi_class.proofs.giving.a_part_that_is_given_at_once.{part_of_class_0}
 use Rattle.osi_class.proofs.class_zero.Class0Link.give_slot.Goals as goal
 

@@ -1,5 +1,4 @@
-use Rattle.std.proofs.Common.{◌≡◌, ap, arith}
-use Rattle.osi_class.proofs.Vocabulary.{Ends}
+use Rattle.osi_class.proofs.Vocabulary.{Ends, ◌≡◌, ap, arith}
 use Rattle.osi_class.proofs.giving.the_units_of_one_tsdu.{room_of_class_0}
 use Rattle.osi_class.proofs.class_zero.Class0Link.room_for.Goals as goal
 

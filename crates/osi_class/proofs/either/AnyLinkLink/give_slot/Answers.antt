@@ -1,7 +1,4 @@
-use Rattle.std.proofs.Common.{sym, subst, IfSome}
-use Rattle.osi_class.specs.declared.either.AnyLink.{AnyLink}
-use Rattle.osi_class.specs.AnyLink.{any_standing}
-use Rattle.osi_class.proofs.Vocabulary.{GivesSlot, two_standing}
+use Rattle.osi_class.proofs.Vocabulary.{GivesSlot, two_standing, sym, subst, IfSome, AnyLink, any_standing}
 use Rattle.osi_class.proofs.either.AnyLinkLink.give_slot.Goals as goal
 
 pub returns-in-Two-clause-given : goal.returns-in-Two-clause-given

@@ -1,12 +1,10 @@
-use Rattle.std.proofs.Common.{◌∙◌, sym, ap, arith}
-use Rattle.osi_judge.specs.declared.heard.Run.{Run}
+use Rattle.osi_judge.proofs.Vocabulary.{◌∙◌, sym, ap, arith, Run}
 use Rattle.osi_judge.proofs.outlined.equal_tsdus_in_a_row_are_kept_once.{counted_in, place_in}
 use Rattle.osi_judge.proofs.heard.Heard.at.Goals as goal
 
 pub run_at-at-requires-clause-there : goal.run_at-at-requires-clause-there
 run_at-at-requires-clause-there c =
-    let n = counted_in c.self.inside.runs.items c.self.inside.count c.args.self.now c.self.invariant.0 c.self.view_is in
-    omega (arith, n, c.requires)
+    grind (arith, counted_in, c.requires)
 
 pub returns : goal.returns
 returns c =

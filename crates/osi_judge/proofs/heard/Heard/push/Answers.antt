@@ -1,7 +1,5 @@
-use Rattle.std.proofs.Common.{◌∙◌, refl, sym, subst, ◌≡◌, ◌<◌, ℕ, true, false, List, length}
-use Rattle.osi_judge.specs.declared.heard.Run.{Run}
-use Rattle.osi_judge.specs.Keeping.{is_same}
-use Rattle.osi_judge.specs.Runs.{last_in}
+use Rattle.std.proofs.Common.{arith}
+use Rattle.osi_judge.proofs.Vocabulary.{◌∙◌, refl, sym, subst, ◌≡◌, ◌<◌, ℕ, true, false, List, length, Run, is_same, last_in}
 use Rattle.osi_judge.proofs.outlined.equal_tsdus_in_a_row_are_kept_once.{a_run_more, added_in, last_goes_on, once_more}
 use Rattle.osi_judge.proofs.heard.Heard.push.Goals as goal
 
@@ -18,8 +16,7 @@ returns-then-ends_with-clause-ok c =
     let same = sym (c.ends_with.ensures.same some) ∙ c.if-ends_with.true in
     once_more runs c.self.inside.count c.args.self.now c.args.tsdu c.self.invariant.0
     (subst (λ (r : List Run). 0 < length r) c.deref.ensures.value some)
-    (subst (λ (t : List ℕ). is_same (last_in runs) t ≡ true) c.as_slice.ensures
-    (subst (λ (r : List Run). is_same (last_in r) c.as_slice.result.now ≡ true) c.deref.ensures.value same)) c.self.view_is
+    (grind arith) c.self.view_is
 
 pub invariant_of-self-2 : goal.invariant_of-self-2
 invariant_of-self-2 c =

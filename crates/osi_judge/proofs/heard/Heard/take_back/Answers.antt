@@ -1,29 +1,20 @@
-use Rattle.std.proofs.Common.{◌∙◌, ap, subst, ℕ, ◌≡◌, ◌≢◌, ◌-◌, List, length, take, arith}
-use Rattle.osi_judge.specs.declared.heard.Run.{Run}
-use Rattle.osi_judge.specs.Runs.{last_from}
+use Rattle.osi_judge.proofs.Vocabulary.{◌∙◌, ap, ℕ, ◌≡◌, ◌-◌, length, take, arith}
 use Rattle.osi_judge.proofs.outlined.equal_tsdus_in_a_row_are_kept_once.{counted_in, one_fewer, popped, stays_shorter}
 use Rattle.osi_judge.proofs.heard.Heard.take_back.Goals as goal
 
 pub overflow_sub-count : goal.overflow_sub-count
 overflow_sub-count c =
-    let n = counted_in c.self.inside.runs.items c.self.inside.count c.args.self.now c.self.invariant.0 c.self.view_is in
-    omega (arith, n, c.requires)
+    grind (arith, counted_in, c.requires)
 
 pub invariant_of-self : goal.invariant_of-self
 invariant_of-self c =
     let runs = c.self.inside.runs.items in
-    let n = counted_in runs c.self.inside.count c.args.self.now c.self.invariant.0 c.self.view_is in (
-      stays_shorter runs c.self.inside.count c.self.invariant.0 (omega (arith, n, c.requires))
-          (subst (λ (r : List Run). last_from r ≢ c.self.inside.count - 1) c.deref.ensures.value c.if-not-last_begins_at.ensures),
-      c.self.invariant.1,
-    )
+    let n = counted_in runs c.self.inside.count c.args.self.now c.self.invariant.0 c.self.view_is in grind (arith, stays_shorter)
 
 pub returns-then-not-last_begins_at : goal.returns-then-not-last_begins_at
 returns-then-not-last_begins_at c =
     let runs = c.self.inside.runs.items in
-    let n = counted_in runs c.self.inside.count c.args.self.now c.self.invariant.0 c.self.view_is in
-    one_fewer runs c.self.inside.count c.args.self.now c.self.invariant.0 (omega (arith, n, c.requires))
-    (subst (λ (r : List Run). last_from r ≢ c.self.inside.count - 1) c.deref.ensures.value c.if-not-last_begins_at.ensures) c.self.view_is
+    grind (arith, counted_in, one_fewer)
 
 pub invariant_of-self-2 : goal.invariant_of-self-2
 invariant_of-self-2 c =
@@ -33,8 +24,7 @@ invariant_of-self-2 c =
     c.pop.ensures.rest ∙ ap (λ (k : ℕ). take (k - 1) runs.items) runs.ok.0 in
     let p = popped runs.items c.pop.new.self.items c.self.inside.count c.args.self.now c.self.invariant.0 c.self.invariant.1
     (omega (arith, n, c.requires))
-    (subst (λ (r : List Run). last_from r
-    ≡ c.self.inside.count - 1) c.deref.ensures.value c.if-not-last_begins_at.ensures) rest c.self.view_is in
+    (grind arith) rest c.self.view_is in
     (p.from, p.apart)
 
 pub returns : goal.returns
@@ -45,6 +35,5 @@ returns c =
     c.pop.ensures.rest ∙ ap (λ (k : ℕ). take (k - 1) runs.items) runs.ok.0 in
     let p = popped runs.items c.pop.new.self.items c.self.inside.count c.args.self.now c.self.invariant.0 c.self.invariant.1
     (omega (arith, n, c.requires))
-    (subst (λ (r : List Run). last_from r
-    ≡ c.self.inside.count - 1) c.deref.ensures.value c.if-not-last_begins_at.ensures) rest c.self.view_is in
+    (grind arith) rest c.self.view_is in
     p.rest

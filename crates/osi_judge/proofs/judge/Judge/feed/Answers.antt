@@ -1,8 +1,4 @@
-use Rattle.std.proofs.Common.{◌∙◌, ap, take, Option, Bool}
-use Rattle.osi_judge.specs.declared.directions.Direction.{Direction}
-use Rattle.osi_judge.specs.Captures.{piece}
-use Rattle.osi_judge.specs.Feeding.{has_broken}
-use Rattle.osi_judge.specs.Following.{judged, first_in, first_after}
+use Rattle.osi_judge.proofs.Vocabulary.{◌∙◌, ap, take, Option, Bool, Direction, piece, has_broken, judged, first_in, first_after}
 use Rattle.osi_judge.proofs.captured.which_side_broke_the_protocol_first.{first_stays}
 use Rattle.osi_judge.proofs.judge.Judge.feed.Goals as goal
 

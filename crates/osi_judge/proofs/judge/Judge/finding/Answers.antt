@@ -1,8 +1,4 @@
-use Rattle.std.proofs.Common.{◌∙◌, sym, ap, subst}
-use Rattle.osi_judge.specs.declared.findings.Finding.{Finding}
-use Rattle.osi_judge.specs.Judging.{Watched}
-use Rattle.osi_judge.specs.Following.{judged}
-use Rattle.osi_judge.specs.Tapping.{IsFoundIn}
+use Rattle.osi_judge.proofs.Vocabulary.{◌∙◌, sym, ap, subst, Finding, Watched, judged, IsFoundIn}
 use Rattle.osi_judge.proofs.captured.what_was_found_of_a_capture.{is_found}
 use Rattle.osi_judge.proofs.judge.Judge.finding.Goals as goal
 

@@ -1,5 +1,4 @@
-use Rattle.osi_judge.specs.Sides.{watched}
-use Rattle.osi_judge.specs.Following.{both}
+use Rattle.osi_judge.proofs.Vocabulary.{watched, both}
 use Rattle.osi_judge.proofs.captured.which_side_broke_the_protocol_first.{first_begins}
 use Rattle.osi_judge.proofs.captured.what_was_found_of_a_capture.{nothing_passed}
 use Rattle.osi_judge.proofs.judge.Judge.new.Goals as goal

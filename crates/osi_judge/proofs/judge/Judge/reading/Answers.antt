@@ -1,8 +1,5 @@
-use Rattle.std.proofs.Common.{◌∙◌, sym, ap, subst}
-use Rattle.osi_judge.specs.declared.judge.Reading.{Reading}
-use Rattle.osi_judge.specs.Feeding.{reading_of}
-use Rattle.osi_judge.specs.Following.{judged}
-use Rattle.osi_judge.specs.Tapping.{IsReadIn}
+use Rattle.std.proofs.Common.{arith}
+use Rattle.osi_judge.proofs.Vocabulary.{◌∙◌, ap, reading_of, judged}
 use Rattle.osi_judge.proofs.captured.what_was_found_of_a_capture.{is_read, with_rest}
 use Rattle.osi_judge.proofs.judge.Judge.reading.Goals as goal
 
@@ -13,6 +10,4 @@ returns-clause-value c =
 
 pub returns-clause-read : goal.returns-clause-read
 returns-clause-read c = λ capture t.
-    let half = c.half-half.result.now in
-    let same = ap (with_rest half.line.packets half.octets) c.saturating_sub.ensures ∙ ap reading_of c.half-half.ensures in
-    subst (λ (r : Reading). IsReadIn c.args.direction capture r) (sym same) (is_read c.args.direction capture (judged c.args.self.now) t)
+    grind (arith, with_rest, is_read c.args.direction capture (judged c.args.self.now) t)

@@ -1,7 +1,4 @@
-use Rattle.std.proofs.Common.{◌≡◌, sym, subst, true, OnOk}
-use Rattle.osi_judge.specs.declared.directions.Direction.{Direction}
-use Rattle.osi_judge.specs.Feeding.{has_broken}
-use Rattle.osi_judge.specs.Following.{both, judged, half_of}
+use Rattle.osi_judge.proofs.Vocabulary.{◌≡◌, sym, subst, true, OnOk, Direction, has_broken, both, judged, half_of}
 use Rattle.osi_judge.proofs.judge.Judge.take.Goals as goal
 
 pub returns-in-Left-clause-still : goal.returns-in-Left-clause-still

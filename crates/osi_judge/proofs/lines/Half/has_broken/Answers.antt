@@ -1,7 +1,4 @@
-use Rattle.std.proofs.Common.{◌∙◌, ◌||◌, ap}
-use Rattle.osi_judge.specs.declared.findings.Finding.{Finding}
-use Rattle.osi_judge.specs.Stops.{breaks, broke_session}
-use Rattle.osi_judge.specs.Feeding.{tapped, stopped_of}
+use Rattle.osi_judge.proofs.Vocabulary.{◌∙◌, ◌||◌, ap, Finding, breaks, broke_session, tapped, stopped_of}
 use Rattle.osi_judge.proofs.lines.Half.has_broken.Goals as goal
 
 pub returns-in-Broke : goal.returns-in-Broke

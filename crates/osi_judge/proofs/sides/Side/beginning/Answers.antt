@@ -1,7 +1,4 @@
-use Rattle.std.proofs.Common.{◌∙◌, ap, refl, List, [], ◌∷◌, ◌++◌}
-use Rattle.osi_judge.specs.declared.findings.Finding.TheVariants.{Kept}
-use Rattle.osi_judge.specs.declared.members.Member.{Member}
-use Rattle.osi_judge.specs.Judging.{Watched}
+use Rattle.osi_judge.proofs.Vocabulary.{◌∙◌, ap, refl, List, [], ◌∷◌, ◌++◌, Kept, Member, Watched}
 use Rattle.osi_judge.proofs.told.what_is_known_of_a_side.{begins}
 use Rattle.osi_judge.proofs.sides.Side.beginning.Goals as goal
 

@@ -1,6 +1,4 @@
-use Rattle.std.proofs.Common.{subst, ℕ, List}
-use Rattle.osi_judge.specs.Judging.{IsFound}
-use Rattle.osi_judge.specs.Sides.{watched}
+use Rattle.osi_judge.proofs.Vocabulary.{subst, ℕ, List, IsFound, watched}
 use Rattle.osi_judge.proofs.told.what_is_known_of_a_side.{found_as, room_as}
 use Rattle.osi_judge.proofs.outlined.alike_tsdus_explain_the_same.{found_of_tsdus}
 use Rattle.osi_judge.proofs.sides.Side.finding.Goals as goal

@@ -1,9 +1,4 @@
-use Rattle.std.proofs.Common.{◌≡◌, ◌∙◌, ap, false, subst, List, ℕ, refl}
-use Rattle.osi_judge.specs.declared.members.Member.{Member}
-use Rattle.osi_judge.specs.Foremost.{foremost}
-use Rattle.osi_judge.specs.Judging.{is_empty}
-use Rattle.osi_judge.specs.Onward.{IsAmong}
-use Rattle.osi_judge.specs.Sides.{watched}
+use Rattle.osi_judge.proofs.Vocabulary.{◌≡◌, ◌∙◌, ap, false, subst, List, ℕ, refl, Member, foremost, is_empty, IsAmong, watched}
 use Rattle.osi_judge.proofs.told.how_a_session_comes_on.{stands_ok}
 use Rattle.osi_judge.proofs.sides.Side.stands.Goals as goal
 

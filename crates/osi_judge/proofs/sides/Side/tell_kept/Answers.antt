@@ -1,9 +1,5 @@
-use Rattle.std.proofs.Common.{◌∙◌, ◌≡◌, ◌+◌, List, refl, sym, ap, [], false, ◌<◌, ◌≤◌, subst, length}
-use Rattle.osi_judge.specs.declared.members.Member.{Member}
-use Rattle.osi_judge.specs.declared.findings.Finding.TheVariants.{TooMany}
-use Rattle.osi_judge.specs.Explaining.{Told}
-use Rattle.osi_judge.specs.Judging.{is_empty}
-use Rattle.osi_judge.specs.Sides.{watched}
+use Rattle.osi_judge.proofs.Vocabulary.{◌∙◌, ◌≡◌, ◌+◌, List, refl, sym, ap, [], false, ◌<◌, ◌≤◌, subst, length, Member, TooMany, Told}
+use Rattle.osi_judge.proofs.Vocabulary.{is_empty, watched}
 use Rattle.osi_judge.proofs.told.what_is_known_of_a_side.{ends_ok, leaves_as, crowds_as, kept_as, gives_as, after_as, nil_of}
 use Rattle.osi_judge.proofs.sides.Side.tell_kept.Goals as goal
 

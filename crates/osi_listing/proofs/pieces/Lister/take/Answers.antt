@@ -1,5 +1,4 @@
-use Rattle.std.proofs.Common.{◌+◌, length, refl, arith}
-use Rattle.osi_listing.specs.declared.pieces.Lister.{Lister}
+use Rattle.osi_listing.proofs.Vocabulary.{◌+◌, length, refl, arith, Lister}
 use Rattle.osi_listing.proofs.what_is_written_is_the_listing.{feeds_by, feeds_on, on_behind}
 use Rattle.osi_listing.proofs.pieces.Lister.take.Goals as goal
 

@@ -1,7 +1,4 @@
-use Rattle.std.proofs.Common.{◌≡◌, ◌++◌, List, [], ◌∷◌, Some, None}
-use Rattle.osi_listing.specs.Joins.{join_value, join_at}
-use Rattle.osi_listing.specs.Says.{AreJoins}
-use Rattle.osi_listing.specs.Streams.{Part, joined}
+use Rattle.osi_listing.proofs.Vocabulary.{◌≡◌, ◌++◌, List, [], ◌∷◌, Some, None, join_value, join_at, AreJoins, Part, joined}
 use Rattle.osi_listing.proofs.streams_after_one_more_unit.{left_as_it_was, then_some, took_zero, took_two}
 use Rattle.osi_listing.proofs.streams.Streams.lone_tsdu.Goals as goal
 

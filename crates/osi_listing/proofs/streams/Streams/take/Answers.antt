@@ -1,7 +1,4 @@
-use Rattle.std.proofs.Common.{◌≡◌, ◌++◌, ◌==◌, ℕ, List, [], ◌∷◌, Some, None, cond}
-use Rattle.osi_listing.specs.Joins.{join_value, join_at}
-use Rattle.osi_listing.specs.Says.{AreJoins}
-use Rattle.osi_listing.specs.Streams.{Part, joined}
+use Rattle.osi_listing.proofs.Vocabulary.{◌≡◌, ◌++◌, ◌==◌, ℕ, List, [], ◌∷◌, Some, None, cond, join_value, join_at, AreJoins, Part, joined}
 use Rattle.osi_listing.proofs.streams_after_one_more_unit.{then_ok, took_zero, took_two}
 use Rattle.osi_listing.proofs.streams.Streams.take.Goals as goal
 

@@ -1,5 +1,4 @@
-use Rattle.std.proofs.Common.{arith, ◌++◌}
-use Rattle.osi_listing.specs.Traced.{unfetched}
+use Rattle.osi_listing.proofs.Vocabulary.{arith, ◌++◌, unfetched}
 use Rattle.osi_listing.proofs.a_trace_is_a_prefix_of_the_listing.{stops_counters, stops_for_streams, counted_on}
 use Rattle.osi_listing.proofs.traces.Trace.count.Goals as goal
 

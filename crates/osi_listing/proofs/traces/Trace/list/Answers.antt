@@ -1,6 +1,4 @@
-use Rattle.std.proofs.Common.{arith, inl, inr}
-use Rattle.std.specs.Prelude.{vec_capacity}
-use Rattle.osi_listing.specs.Traced.{unfetched}
+use Rattle.osi_listing.proofs.Vocabulary.{arith, inl, inr, vec_capacity, unfetched}
 use Rattle.osi_listing.proofs.a_trace_is_a_prefix_of_the_listing.{stops_lines, stops_for, kept}
 use Rattle.osi_listing.proofs.traces.Trace.list.Goals as goal
 

@@ -1,7 +1,4 @@
-use Rattle.std.proofs.Common.{◌≡◌, ◌++◌, List, ℕ, take, drop, refl, sym, ap, subst}
-use Rattle.osi_tpkt.specs.Packet.{IsOnePacket}
-use Rattle.osi_listing.specs.Fed.{Moves}
-use Rattle.osi_listing.specs.declared.work.Work.{Work}
+use Rattle.osi_listing.proofs.Vocabulary.{◌≡◌, ◌++◌, List, ℕ, take, drop, refl, sym, ap, subst, IsOnePacket, Moves, Work}
 use Rattle.osi_listing.proofs.what_one_more_packet_adds.{held_whole, joined_again, fault_left, moves_none, moves_both}
 use Rattle.osi_listing.proofs.work.Work.complete.Goals as goal
 

@@ -1,6 +1,4 @@
-use Rattle.std.proofs.Common.{◌++◌, ℕ, List, sym, subst}
-use Rattle.osi_tpkt.specs.Packet.{IsPartial, IsFaultOf}
-use Rattle.osi_tpkt.proofs.a_prefix_of_a_packet.{empty_partial}
+use Rattle.osi_listing.proofs.Vocabulary.{◌++◌, ℕ, List, sym, subst, IsPartial, IsFaultOf, empty_partial}
 use Rattle.osi_listing.proofs.what_one_more_packet_adds.{held_rest, fault_left}
 use Rattle.osi_listing.proofs.work.Work.hold.Goals as goal
 

@@ -1,5 +1,4 @@
-use Rattle.std.proofs.Common.{◌++◌, List, ℕ, sym, subst}
-use Rattle.osi_listing.specs.Fed.{Moves}
+use Rattle.osi_listing.proofs.Vocabulary.{◌++◌, List, ℕ, sym, subst, Moves}
 use Rattle.osi_listing.proofs.what_one_more_packet_adds.{only_held, then_holds}
 use Rattle.osi_listing.proofs.work.Work.list_piece.Goals as goal
 

@@ -1,5 +1,4 @@
-use Rattle.std.proofs.Common.{arith, ap, ◌∙◌}
-use Rattle.osi_listing.specs.declared.work.Work.{Work}
+use Rattle.osi_listing.proofs.Vocabulary.{arith, ap, ◌∙◌, Work}
 use Rattle.osi_listing.proofs.what_one_more_packet_adds.{moves_both, moves_packet}
 use Rattle.osi_listing.proofs.work.Work.list_whole.Goals as goal
 

@@ -1,5 +1,4 @@
-use Rattle.std.proofs.Common.{length}
-use Rattle.osi_listing.specs.Fed.{IsReady, Moves}
+use Rattle.osi_listing.proofs.Vocabulary.{length, IsReady, Moves}
 use Rattle.osi_listing.proofs.work.Work.list_whole.Given as goal
 
 abbrev pub invariant-packets : goal.invariant-packets

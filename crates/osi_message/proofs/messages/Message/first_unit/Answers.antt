@@ -1,6 +1,5 @@
-use Rattle.std.proofs.Common.{◌≡◌, ◌∙◌, ap, false, subst, refl, arith}
 use Rattle.osi_message.proofs.Vocabulary.{NotFinished, Finish, Disconnect, Abort, AbortAccept, unit_with, unit_of, user_data_of, is_second}
-use Rattle.osi_message.proofs.Vocabulary.{Message, meant_by}
+use Rattle.osi_message.proofs.Vocabulary.{Message, meant_by, ◌≡◌, ◌∙◌, ap, false, subst, refl, arith}
 use Rattle.osi_message.proofs.a_unit_is_made_of_its_meaning.{none_known, data_known, abort_known}
 use Rattle.osi_message.specs.declared.messages.Message.TheVariants as message
 use Rattle.osi_message.proofs.messages.Message.first_unit.Goals as goal

@@ -1,6 +1,5 @@
-use Rattle.std.proofs.Common.{◌∙◌, ap, arith}
+use Rattle.osi_message.proofs.Vocabulary.{Resynchronize, unit_with, unit_of, is_second, user_data_of, ◌∙◌, ap, arith}
 use Rattle.osi_message.specs.declared.messages.Message.TheVariants as message
-use Rattle.osi_message.proofs.Vocabulary.{Resynchronize, unit_with, unit_of, is_second, user_data_of}
 use Rattle.osi_message.proofs.a_unit_is_made_of_its_meaning.{none_known, number_known, open_known, restart_known, restart_ack_known}
 use Rattle.osi_message.proofs.messages.Message.second_unit.Goals as goal
 

@@ -1,6 +1,4 @@
-use Rattle.std.proofs.Common.{◌≡◌, arith}
-use Rattle.std.proofs.lemmas.Grind.{common_steps}
-use Rattle.osi_message.specs.Plain.{data_octets}
+use Rattle.osi_message.proofs.Vocabulary.{◌≡◌, arith, common_steps, data_octets}
 use Rattle.osi_message.proofs.units_of_the_fast_path.{data_parts, data_said}
 use Rattle.osi_message.proofs.plain.PlainUnit.data.Goals as goal
 

@@ -1,8 +1,5 @@
-use Rattle.std.proofs.Common.{arith}
-use Rattle.osi_pair.proofs.Vocabulary.{List, OnOk, IfOk, subst, ends_in, Step, StandsAfter, StandsAt}
-use Rattle.osi_pair.specs.Events.{NotesIfCutShort}
-use Rattle.osi_pair.specs.Memory.{pairing_in}
-use Rattle.osi_pair.specs.Pairings.{Pairing}
+use Rattle.osi_pair.proofs.Vocabulary.{List, OnOk, IfOk, subst, ends_in, Step, StandsAfter, StandsAt, arith, NotesIfCutShort, pairing_in}
+use Rattle.osi_pair.proofs.Vocabulary.{Pairing}
 use Rattle.osi_pair.proofs.event.an_event_is_applied_or_refused.{result_reached, result_stands, result_carries, result_cut, result_full}
 use Rattle.osi_pair.proofs.event.what_an_event_does.{EventLaws}
 use Rattle.osi_pair.proofs.pairs.Pair.apply.Goals as goal
@@ -15,7 +12,6 @@ invariant_of-self c =
 
 pub returns-clause-stands : goal.returns-clause-stands
 returns-clause-stands c =
-    let laws : EventLaws = assumption in
     subst (λ (p : Pairing). OnOk c.apply.result
     ((steps : List Step) → StandsAt p.ends steps → StandsAfter c.args.event.now p.ends (ends_in c.apply.new.self) steps)) c.self.view_is
     (grind (arith, result_stands))

@@ -1,6 +1,5 @@
-use Rattle.osi_session.specs.Counting.{count_of}
+use Rattle.osi_session.proofs.Vocabulary.{word_by, count_of}
 use Rattle.osi_session.proofs.tsdu.octets_are_counted.{then_bad}
-use Rattle.osi_session.proofs.Vocabulary.{word_by}
 use Rattle.osi_session.proofs.counting.Counting.then.Goals as goal
 
 pub returns-then-is_none-clause-bad : goal.returns-then-is_none-clause-bad

@@ -1,5 +1,4 @@
-use Rattle.std.proofs.Common.{option_copied}
-use Rattle.osi_session.specs.Steps.{joined_after, word_by}
+use Rattle.osi_session.proofs.Vocabulary.{option_copied, joined_after, word_by}
 use Rattle.osi_session.proofs.tsdu.the_effect_of_a_word.{told_as}
 use Rattle.osi_session.proofs.grouping.Reactions.then.Goals as goal
 

@@ -1,5 +1,4 @@
-use Rattle.std.proofs.Common.{◌∙◌, sym}
-use Rattle.osi_session.proofs.Vocabulary.{most_whole, option_and_then, unit_in}
+use Rattle.osi_session.proofs.Vocabulary.{most_whole, option_and_then, unit_in, ◌∙◌, sym}
 use Rattle.osi_session.proofs.tables.points_that_are_expected.{advance_leaves, advance_sound}
 use Rattle.osi_session.proofs.sessions.Session.advance.Goals as goal
 

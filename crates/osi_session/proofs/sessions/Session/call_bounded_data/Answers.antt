@@ -1,6 +1,4 @@
-use Rattle.std.proofs.Common.{arith}
-use Rattle.osi_session.proofs.Vocabulary.{DT, Data}
-use Rattle.osi_spdu.specs.Sizes.{size_of}
+use Rattle.osi_session.proofs.Vocabulary.{DT, Data, arith, size_of}
 use Rattle.osi_session.proofs.tables.what_an_accepted_call_does.{accepts, rests_by}
 use Rattle.osi_session.proofs.sessions.Session.call_bounded_data.Goals as goal
 

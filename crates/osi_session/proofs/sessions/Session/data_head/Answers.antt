@@ -1,6 +1,4 @@
-use Rattle.std.proofs.Common.{arith, refl}
-use Rattle.osi_message.proofs.the_tsdus_of_a_message.{sent_whole}
-use Rattle.osi_session.proofs.Vocabulary.{DT, Data, Listener, limit_of}
+use Rattle.osi_session.proofs.Vocabulary.{DT, Data, Listener, limit_of, arith, refl, sent_whole}
 use Rattle.osi_session.proofs.tables.what_an_accepted_call_does.{accepts, rests_by}
 use Rattle.osi_session.proofs.sessions.Session.data_head.Goals as goal
 

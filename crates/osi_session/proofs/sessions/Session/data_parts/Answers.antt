@@ -1,6 +1,4 @@
-use Rattle.std.proofs.Common.{arith}
-use Rattle.osi_spdu.specs.Sizes.{size_of}
-use Rattle.osi_session.proofs.Vocabulary.{DT, Data, leb-true}
+use Rattle.osi_session.proofs.Vocabulary.{DT, Data, leb-true, arith, size_of}
 use Rattle.osi_session.proofs.tables.what_an_accepted_call_does.{accepts, rests_by}
 use Rattle.osi_session.proofs.tables.what_an_accepted_call_has_passed.{passed}
 use Rattle.osi_session.proofs.tables.what_the_table_of_calls_answers.{allowed_named}

@@ -1,5 +1,4 @@
-use Rattle.std.proofs.Common.{subst, ◌<◌, ◌≤◌, ℕ, true, length, arith}
-use Rattle.osi_session.proofs.Vocabulary.{leb-true, allowed, most_whole}
+use Rattle.osi_session.proofs.Vocabulary.{leb-true, allowed, most_whole, subst, ◌<◌, ◌≤◌, ℕ, true, length, arith}
 use Rattle.osi_session.proofs.sent.data_with_room_in_one_tsdu.{goes}
 use Rattle.osi_session.proofs.sessions.Session.goes_whole.Goals as goal
 

@@ -1,6 +1,4 @@
-use Rattle.std.proofs.Common.{◌∙◌, ℕ, ap, sym, refl}
-use Rattle.osi_session.proofs.Vocabulary.{Listener, tsdus_of, called_by, step_of}
-use Rattle.osi_spdu.specs.Sizes.{size_of}
+use Rattle.osi_session.proofs.Vocabulary.{Listener, tsdus_of, called_by, step_of, ◌∙◌, ℕ, ap, sym, refl, size_of}
 use Rattle.osi_session.proofs.tables.what_the_table_of_calls_answers.{sent_short}
 use Rattle.osi_session.proofs.moves.the_move_of_each_input.{plan_of}
 use Rattle.osi_session.proofs.runs.the_invariant_in_memory.{request_small, request_sound, request_begun}

@@ -1,8 +1,6 @@
-use Rattle.std.proofs.Common.{◌≡◌, refl, subst, sym, true, ℕ, Ok}
-use Rattle.osi_session.specs.declared.plans.PlannedPoint.{PlannedPoint}
-use Rattle.osi_session.specs.declared.plans.SentPoint.TheVariants as point
 use Rattle.osi_session.proofs.Vocabulary.{PlansPoint, allowed, minor_confirmed, option_and_then, MIA, words_sent, user_data_of, Step, Call}
-use Rattle.osi_session.proofs.Vocabulary.{MinorConfirm, unit_in}
+use Rattle.osi_session.proofs.Vocabulary.{MinorConfirm, unit_in, ◌≡◌, refl, subst, sym, true, ℕ, Ok, PlannedPoint}
+use Rattle.osi_session.specs.declared.plans.SentPoint.TheVariants as point
 use Rattle.osi_session.proofs.tables.what_the_table_of_calls_answers.{sent_short}
 use Rattle.osi_session.proofs.tables.points_that_are_expected.{point_passes, point_planned}
 use Rattle.osi_session.proofs.sessions.Session.plan_minor_confirm.Goals as goal

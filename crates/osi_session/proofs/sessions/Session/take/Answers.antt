@@ -1,6 +1,5 @@
-use Rattle.std.proofs.Common.{arith, sym, option_copied}
 use Rattle.osi_session.proofs.Vocabulary.{option_and_then, Listener, respond_tsdu, hearing_of_all, unit_in, units_of, said_by_units, Words}
-use Rattle.osi_session.proofs.Vocabulary.{units_numbered}
+use Rattle.osi_session.proofs.Vocabulary.{units_numbered, arith, sym, option_copied}
 use Rattle.osi_session.proofs.moves.the_move_of_each_input.{taken_is}
 use Rattle.osi_session.proofs.moves.the_moves_in_memory.{leaves_words, heard_by, room_by, leaves_by, takes_as, takes_nothing}
 use Rattle.osi_session.proofs.sessions.Session.take.Goals as goal

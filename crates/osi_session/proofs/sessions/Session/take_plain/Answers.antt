@@ -1,5 +1,4 @@
-use Rattle.std.proofs.Common.{arith}
-use Rattle.osi_session.proofs.Vocabulary.{respond_word, react}
+use Rattle.osi_session.proofs.Vocabulary.{respond_word, react, arith}
 use Rattle.osi_session.proofs.moves.the_moves_in_memory.{came_plain, tries_as}
 use Rattle.osi_session.proofs.sessions.Session.take_plain.Goals as goal
 

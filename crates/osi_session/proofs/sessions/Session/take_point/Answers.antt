@@ -1,5 +1,4 @@
-use Rattle.std.proofs.Common.{arith}
-use Rattle.osi_session.proofs.Vocabulary.{most_whole, option_and_then, plain_word, unit_in}
+use Rattle.osi_session.proofs.Vocabulary.{most_whole, option_and_then, plain_word, unit_in, arith}
 use Rattle.osi_session.proofs.tables.points_that_are_expected.{plain_numbered, point_leaves, word_shows}
 use Rattle.osi_session.proofs.sessions.Session.take_point.Goals as goal
 

@@ -1,6 +1,4 @@
-use Rattle.std.proofs.Common.{ap, subst}
-use Rattle.osi_spdu.specs.Reading.{Gives, tsdu_at}
-use Rattle.osi_session.proofs.Vocabulary.{Listener, came, react, said_by_units, taken, units_of, unread}
+use Rattle.osi_session.proofs.Vocabulary.{Listener, came, react, said_by_units, taken, units_of, unread, ap, subst, Gives, tsdu_at}
 use Rattle.osi_session.proofs.moves.the_move_of_each_input.{came_fault, came_words}
 use Rattle.osi_session.proofs.moves.the_moves_in_memory.{takes_as}
 use Rattle.osi_session.proofs.sessions.Session.take_unexpected.Goals as goal

@@ -1,8 +1,5 @@
-use Rattle.std.proofs.Common.{arith}
-use Rattle.std.proofs.Common.{ap}
-use Rattle.osi_session.specs.Standing.{Seen}
+use Rattle.osi_session.proofs.Vocabulary.{meant_by, arith, ap, Seen}
 use Rattle.osi_session.proofs.sent.what_a_side_may_send.{breaks_none, said_by_message}
-use Rattle.osi_session.proofs.Vocabulary.{meant_by}
 use Rattle.osi_session.proofs.standing.Standing.say_message.Goals as goal
 
 pub returns-clause-left : goal.returns-clause-left

@@ -1,5 +1,4 @@
-use Rattle.std.proofs.Common.{arith, rules}
-use Rattle.osi_spdu.proofs.Vocabulary.{left_at}
+use Rattle.osi_spdu.proofs.Vocabulary.{left_at, arith, rules}
 use Rattle.osi_spdu.proofs.tsdu.units_after_the_first.{left_empty, none_after_one, others_given}
 use Rattle.osi_spdu.proofs.behind.Behind.after_first.Goals as goal
 

@@ -1,5 +1,4 @@
-use Rattle.std.proofs.Common.{arith}
-use Rattle.osi_spdu.proofs.Vocabulary.{left_at}
+use Rattle.osi_spdu.proofs.Vocabulary.{left_at, arith}
 use Rattle.osi_spdu.proofs.tsdu.units_after_the_first.{first_apart}
 use Rattle.osi_spdu.proofs.behind.Behind.first.Goals as goal
 

@@ -1,5 +1,4 @@
-use Rattle.std.proofs.Common.{◌∷◌, ap, refl}
-use Rattle.osi_spdu.specs.Units.{said_by}
+use Rattle.osi_spdu.proofs.Vocabulary.{◌∷◌, ap, refl, said_by}
 use Rattle.osi_spdu.proofs.tsdu.units_after_the_first.{left_none, left_empty, one_stands}
 use Rattle.osi_spdu.proofs.behind.Behind.one.Goals as goal
 

@@ -1,5 +1,4 @@
-use Rattle.std.proofs.Common.{◌≤◌, length, arith, rules}
-use Rattle.osi_spdu.proofs.Vocabulary.{err_from_is_err_and, later_of}
+use Rattle.osi_spdu.proofs.Vocabulary.{err_from_is_err_and, later_of, ◌≤◌, length, arith, rules}
 use Rattle.osi_spdu.proofs.tsdu.units_after_the_first.{behind_none, behind_bad, others_bad, others_read}
 use Rattle.osi_spdu.proofs.behind.Behind.read.Goals as goal
 

@@ -1,5 +1,4 @@
-use Rattle.std.proofs.Common.{◌≡◌, ◌≤◌, ◌∙◌, ◌∷◌, length, ap, arith, rules}
-use Rattle.osi_spdu.proofs.Vocabulary.{later_of, said_by, left_at, units_from}
+use Rattle.osi_spdu.proofs.Vocabulary.{later_of, said_by, left_at, units_from, ◌≡◌, ◌≤◌, ◌∙◌, ◌∷◌, length, ap, arith, rules}
 use Rattle.osi_spdu.proofs.tsdu.units_after_the_first.{left_empty, left_goes, left_never_bad, nothing_stands}
 use Rattle.osi_spdu.proofs.behind.BehindIterator.next.Goals as goal
 

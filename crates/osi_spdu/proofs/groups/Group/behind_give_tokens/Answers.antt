@@ -1,5 +1,4 @@
-use Rattle.std.proofs.Common.{arith}
-use Rattle.osi_spdu.proofs.Vocabulary.{category_of, may_stand, is_joined}
+use Rattle.osi_spdu.proofs.Vocabulary.{category_of, may_stand, is_joined, arith}
 use Rattle.osi_spdu.proofs.tsdu.how_reading_goes_on.{joined_ok}
 use Rattle.osi_spdu.proofs.groups.Group.behind_give_tokens.Goals as goal
 

@@ -1,5 +1,4 @@
-use Rattle.std.proofs.Common.{arith, refl}
-use Rattle.osi_spdu.proofs.Vocabulary.{and_from, is_settled}
+use Rattle.osi_spdu.proofs.Vocabulary.{and_from, is_settled, arith, refl}
 use Rattle.osi_spdu.proofs.parameters.a_slot_is_filled.{settled_known, some_there}
 use Rattle.osi_spdu.proofs.params.Params.settle.Goals as goal
 

@@ -1,5 +1,4 @@
-use Rattle.std.proofs.Common.{arith, ◌≡◌, ◌&&◌, ◌==◌, false, length, sym}
-use Rattle.osi_spdu.proofs.Vocabulary.{and_left, and_right, UserData, is_same, octets_of}
+use Rattle.osi_spdu.proofs.Vocabulary.{and_left, and_right, UserData, is_same, octets_of, arith, ◌≡◌, ◌&&◌, ◌==◌, false, length, sym}
 use Rattle.osi_spdu.proofs.parameters.a_slot_is_filled.{known_some, known_none, known_empty}
 use Rattle.osi_spdu.proofs.params.Params.value.Goals as goal
 use Rattle.osi_spdu.proofs.params.Params.value.Goals.{else-is_user_data-via-then-is_user_data+else-is_empty}

@@ -1,5 +1,4 @@
-use Rattle.std.proofs.Common.{◌-◌, ◌≡◌, ◌≤◌, drop}
-use Rattle.osi_spdu.specs.Values.{significant}
+use Rattle.osi_spdu.proofs.Vocabulary.{◌-◌, ◌≡◌, ◌≤◌, drop, significant}
 use Rattle.osi_spdu.proofs.serials.Serial.digits.Given as goal
 
 abbrev pub invariant-zeros : goal.invariant-zeros

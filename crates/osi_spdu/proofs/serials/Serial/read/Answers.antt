@@ -1,6 +1,4 @@
-use Rattle.std.proofs.Common.{◌≡◌, ◌<◌, ◌≤◌, ℕ, length, Option, Some, MatchOption, option_map, arith}
-use Rattle.std.proofs.lemmas.Bool.{eqb-false}
-use Rattle.osi_spdu.specs.declared.serials.Serial.{Serial}
+use Rattle.osi_spdu.proofs.Vocabulary.{◌≡◌, ◌<◌, ◌≤◌, ℕ, length, Option, Some, MatchOption, option_map, arith, eqb-false, Serial}
 use Rattle.osi_spdu.proofs.basics.digits_of_numbers.{pow_small, reading_step, reading_end}
 use Rattle.osi_spdu.proofs.serials.Serial.read.Goals as goal
 

@@ -1,5 +1,4 @@
-use Rattle.std.proofs.Common.{arith}
-use Rattle.osi_spdu.proofs.Vocabulary.{eq-eqb, canonical}
+use Rattle.osi_spdu.proofs.Vocabulary.{eq-eqb, canonical, arith}
 use Rattle.osi_spdu.proofs.basics.values_of_one_octet.{octet_if_one, token_bits_again}
 use Rattle.osi_spdu.proofs.tokens.TokenSet.read.Goals as goal
 

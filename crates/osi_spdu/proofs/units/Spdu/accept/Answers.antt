@@ -1,6 +1,5 @@
-use Rattle.std.proofs.Common.{◌∙◌, ap, Option}
+use Rattle.osi_spdu.proofs.Vocabulary.{Accept, made, accept_params, ◌∙◌, ap, Option}
 use Rattle.osi_spdu.specs.declared.fields.TsduMaximumSize.{TsduMaximumSize}
-use Rattle.osi_spdu.proofs.Vocabulary.{Accept, made, accept_params}
 use Rattle.osi_spdu.proofs.units.Spdu.accept.Goals as goal
 
 pub returns-clause-units : goal.returns-clause-units

@@ -1,6 +1,5 @@
-use Rattle.std.proofs.Common.{◌∙◌, ap, Option}
+use Rattle.osi_spdu.proofs.Vocabulary.{Connect, made, connect_params, ◌∙◌, ap, Option}
 use Rattle.osi_spdu.specs.declared.fields.TsduMaximumSize.{TsduMaximumSize}
-use Rattle.osi_spdu.proofs.Vocabulary.{Connect, made, connect_params}
 use Rattle.osi_spdu.proofs.units.Spdu.connect.Goals as goal
 
 pub returns-clause-units : goal.returns-clause-units

@@ -1,6 +1,4 @@
-use Rattle.std.proofs.Common.{arith}
-use Rattle.std.proofs.Common.{◌≡◌, true, sym, subst, []}
-use Rattle.osi_spdu.proofs.Vocabulary.{Known, Contents, known_of, is_formed}
+use Rattle.osi_spdu.proofs.Vocabulary.{Known, Contents, known_of, is_formed, arith, ◌≡◌, true, sym, subst, []}
 use Rattle.osi_spdu.proofs.form.few_octets_fit.{made_fits}
 use Rattle.osi_spdu.proofs.units.Spdu.new.Goals as goal
 

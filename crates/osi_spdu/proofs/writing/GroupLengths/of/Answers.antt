@@ -1,5 +1,4 @@
-use Rattle.std.proofs.Common.{refl}
-use Rattle.osi_spdu.proofs.Vocabulary.{is_group, known_of}
+use Rattle.osi_spdu.proofs.Vocabulary.{is_group, known_of, refl}
 use Rattle.osi_spdu.proofs.parameters.a_group_is_counted_once.{both_held}
 use Rattle.osi_spdu.proofs.writing.GroupLengths.of.Goals as goal
 

@@ -1,7 +1,6 @@
-use Rattle.std.proofs.Common.{arith}
-use Rattle.std.proofs.Common.{◌≡◌, ◌+◌, ℕ, cond, map, Option, Some, None, get_or, refl, sym, ap, subst, option_map, ◌∙◌}
 use Rattle.osi_stack.proofs.Vocabulary.{OnOk, IfErr, placed, Rows, place_of, called_by, called, session_refusal, session_error, Line}
-use Rattle.osi_stack.proofs.Vocabulary.{Listener, Refuses, line_waits, session_selectors, shown_by}
+use Rattle.osi_stack.proofs.Vocabulary.{Listener, Refuses, line_waits, session_selectors, shown_by, arith, ◌≡◌, ◌+◌, ℕ, cond, map, Option}
+use Rattle.osi_stack.proofs.Vocabulary.{Some, None, get_or, refl, sym, ap, subst, option_map, ◌∙◌}
 use Rattle.osi_stack.proofs.called.what_a_call_sends.{called_line, called_carrier}
 use Rattle.osi_stack.proofs.each_line.the_line_of_a_reference.{found, nowhere, heard_rows, allowed_at, refused_at, session_here}
 use Rattle.osi_stack.proofs.each_line.how_many_lines_wait.{set_kept}

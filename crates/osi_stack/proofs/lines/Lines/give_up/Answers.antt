@@ -1,7 +1,4 @@
-use Rattle.std.proofs.Common.{arith, ◌≡◌, Some, None, Option, get_or, sym, ap, ◌∙◌}
-use Rattle.osi_carrier.proofs.references.rows_in_order.{set_rise}
-use Rattle.osi_stack.specs.Disconnecting.{gives_up_by}
-use Rattle.osi_stack.proofs.Vocabulary.{Rows, place_of, Line}
+use Rattle.osi_stack.proofs.Vocabulary.{Rows, place_of, Line, arith, ◌≡◌, Some, None, Option, get_or, sym, ap, ◌∙◌, set_rise, gives_up_by}
 use Rattle.osi_stack.proofs.each_line.the_line_of_a_reference.{found, nowhere}
 use Rattle.osi_stack.proofs.given_up.the_invariant_stays.{given_rows}
 use Rattle.osi_stack.proofs.lines.Lines.give_up.Goals as goal

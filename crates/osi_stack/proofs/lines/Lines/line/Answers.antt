@@ -1,5 +1,4 @@
-use Rattle.std.proofs.Common.{arith, ◌≡◌, Some, None, sym, ◌∙◌}
-use Rattle.osi_stack.proofs.Vocabulary.{here_is, place_of}
+use Rattle.osi_stack.proofs.Vocabulary.{here_is, place_of, arith, ◌≡◌, Some, None, sym, ◌∙◌}
 use Rattle.osi_stack.proofs.each_line.the_line_of_a_reference.{found, nowhere}
 use Rattle.osi_stack.proofs.lines.Lines.line.Goals as goal
 

@@ -1,6 +1,5 @@
-use Rattle.std.proofs.Common.{length, ◌≡◌, ◌+◌, true, false, Some, None, get_or, set, refl, sym, ap, subst, arith, ◌∙◌}
-use Rattle.osi_stack.specs.declared.lines.Lines.TheInside.{Inside}
-use Rattle.osi_stack.proofs.Vocabulary.{OnOk, OnErr, placed, Rows, place_of, all_lost, to_session, Line, event_input}
+use Rattle.osi_stack.proofs.Vocabulary.{OnOk, OnErr, placed, Rows, place_of, all_lost, to_session, Line, event_input, length, ◌≡◌, ◌+◌}
+use Rattle.osi_stack.proofs.Vocabulary.{true, false, Some, None, get_or, set, refl, sym, ap, subst, arith, ◌∙◌, Inside}
 use Rattle.osi_stack.proofs.each_line.the_line_of_a_reference.{found, unheard, heard_rows}
 use Rattle.osi_stack.proofs.carried.sessions_that_are_lost.{stopped_rows}
 use Rattle.osi_stack.proofs.stream.what_needs_memory_does_something.{needs_at}

@@ -1,5 +1,4 @@
-use Rattle.std.proofs.Common.{sym, ap, nat_lt, ◌∙◌}
-use Rattle.osi_stack.specs.State.{waits}
+use Rattle.osi_stack.proofs.Vocabulary.{sym, ap, nat_lt, ◌∙◌, waits}
 use Rattle.osi_stack.proofs.each_line.how_many_lines_wait.{waits_counted}
 use Rattle.osi_stack.proofs.lines.Lines.wait.Goals as goal
 

@@ -1,6 +1,4 @@
-use Rattle.std.proofs.Common.{ap, sym, ◌∙◌}
-use Rattle.osi_spdu.specs.Groups.{first_of, behind_of}
-use Rattle.osi_stack.proofs.Vocabulary.{meaning, selectors_of}
+use Rattle.osi_stack.proofs.Vocabulary.{meaning, selectors_of, ap, sym, ◌∙◌, first_of, behind_of}
 use Rattle.osi_stack.proofs.opening.the_selectors_of_what_arrives.{read_selectors, bad_selectors}
 use Rattle.osi_stack.proofs.selectors.SessionSelectors.of_tsdu.Goals as goal
 

@@ -1,6 +1,5 @@
-use Rattle.std.proofs.Common.{◌≡◌, sym, ap, subst, ◌∙◌}
-use Rattle.osi_session.proofs.runs.the_invariant_in_memory.{request_small}
-use Rattle.osi_stack.proofs.Vocabulary.{OnOk, OnErr, called_by, called, has_given, to_session, Holding, holding}
+use Rattle.osi_stack.proofs.Vocabulary.{OnOk, OnErr, called_by, called, has_given, to_session, Holding, holding, ◌≡◌, sym, ap, subst, ◌∙◌}
+use Rattle.osi_stack.proofs.Vocabulary.{request_small}
 use Rattle.osi_stack.proofs.called.a_call_without_a_connection.{IsAnswered, answered_there, called_ok, called_err}
 use Rattle.osi_stack.proofs.sound.the_invariant_between_calls.{settled_by}
 use Rattle.osi_stack.proofs.stacks.Stack.call.Goals as goal

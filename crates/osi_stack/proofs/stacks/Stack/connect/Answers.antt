@@ -1,5 +1,4 @@
-use Rattle.std.proofs.Common.{◌≡◌, subst}
-use Rattle.osi_stack.proofs.Vocabulary.{OnOk, connects, Holding, holding}
+use Rattle.osi_stack.proofs.Vocabulary.{OnOk, connects, Holding, holding, ◌≡◌, subst}
 use Rattle.osi_stack.proofs.sound.the_invariant_between_calls.{settled_connect}
 use Rattle.osi_stack.proofs.stacks.Stack.connect.Goals as goal
 

@@ -1,6 +1,4 @@
-use Rattle.std.proofs.Common.{arith}
-use Rattle.osi_stack.specs.Disconnecting.{disconnects}
-use Rattle.osi_stack.proofs.Vocabulary.{holding}
+use Rattle.osi_stack.proofs.Vocabulary.{holding, arith, disconnects}
 use Rattle.osi_stack.proofs.stream.what_needs_memory_does_something.{wants_memory}
 use Rattle.osi_stack.proofs.sound.the_invariant_between_calls.{settled_by}
 use Rattle.osi_stack.proofs.stacks.Stack.disconnect.Goals as goal

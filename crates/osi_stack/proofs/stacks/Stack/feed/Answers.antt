@@ -1,5 +1,4 @@
-use Rattle.std.proofs.Common.{◌≡◌, false, is_some, sym, ap, ◌∙◌}
-use Rattle.osi_stack.proofs.Vocabulary.{stops, holding, waits}
+use Rattle.osi_stack.proofs.Vocabulary.{stops, holding, waits, ◌≡◌, false, is_some, sym, ap, ◌∙◌}
 use Rattle.osi_stack.proofs.carried.packets_without_events.{quiet_stops}
 use Rattle.osi_stack.proofs.sound.the_invariant_between_calls.{feeds_of}
 use Rattle.osi_stack.proofs.stacks.Stack.feed.Goals as goal

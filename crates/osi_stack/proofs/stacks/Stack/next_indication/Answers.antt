@@ -1,5 +1,4 @@
-use Rattle.std.proofs.Common.{sym, subst}
-use Rattle.osi_stack.proofs.Vocabulary.{Rows, IsSettled, Line, holding}
+use Rattle.osi_stack.proofs.Vocabulary.{Rows, IsSettled, Line, holding, sym, subst}
 use Rattle.osi_stack.proofs.stacks.Stack.next_indication.Goals as goal
 
 pub invariant_of-self : goal.invariant_of-self

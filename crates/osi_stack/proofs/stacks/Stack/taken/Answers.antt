@@ -1,5 +1,4 @@
-use Rattle.std.proofs.Common.{arith, rules}
-use Rattle.osi_stack.proofs.Vocabulary.{carried, holding}
+use Rattle.osi_stack.proofs.Vocabulary.{carried, holding, arith, rules}
 use Rattle.osi_stack.proofs.stacks.Stack.taken.Goals as goal
 
 pub invariant_of-self : goal.invariant_of-self

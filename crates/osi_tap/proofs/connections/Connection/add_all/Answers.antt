@@ -1,3 +1,4 @@
+use Rattle.std.proofs.Common.{arith}
 use Rattle.osi_session.specs.Standing.{seen_calling, seen_called}
 use Rattle.osi_tap.proofs.what_holds_of_a_result.{on_ok, on_err}
 use Rattle.osi_tap.proofs.what_is_kept_of_a_side_is_what_passed.{flipped, left_added, right_added}
@@ -27,12 +28,8 @@ returns-in-Right-clause-ok c =
     c.in-Right.is h (k seen_called seen_calling j.right j.left (flipped h.sides)))
 
 pub returns-in-Right-clause-err : goal.returns-in-Right-clause-err
-returns-in-Right-clause-err c = on_err c.add-in-Right.result c.add-in-Right.ensures.err (λ k j h. record {
-  number = h.number;
-  calling = h.calling;
-  called = h.called;
-  class = h.class;
-  closed = h.closed;
-  room = h.room;
-  sides = flipped (k seen_called seen_calling j.right j.left (flipped h.sides));
-})
+returns-in-Right-clause-err c = on_err c.add-in-Right.result c.add-in-Right.ensures.err (λ k j h. grind (
+  arith,
+  flipped (k seen_called seen_calling j.right j.left (flipped h.sides)),
+  flipped h.sides,
+))

@@ -1,5 +1,4 @@
-use Rattle.std.proofs.Common.{◌∙◌, ap}
-use Rattle.osi_tap.specs.Holding.{Lined}
+use Rattle.osi_tap.proofs.Vocabulary.{◌∙◌, ap, Lined}
 use Rattle.osi_tap.proofs.what_is_kept_of_a_side_is_what_passed.{heard_at}
 use Rattle.osi_tap.proofs.connections.Connection.side.Goals as goal
 

@@ -6,7 +6,6 @@ use Rattle.osi_tap.proofs.sessions.Sessions.ask.Goals as goal
 pub returns-then-place-count_of-clause-ok : goal.returns-then-place-count_of-clause-ok
 returns-then-place-count_of-clause-ok c =
     on_ok c.ask_new.result c.ask_new.ensures.ok (λ k s h.
-    let same = ap length c.deref.ensures.value in
     let le : length c.args.self.now.live.items ≤ c.args.place = omega arith in
     k s _ c.args.place h (asked_so c.in_ok-connection.connection _ _ c.args.calling c.args.self.now.room s.room
     (c.count-number.ensures s h) h.room c.in_ok-connection.ensures) le)

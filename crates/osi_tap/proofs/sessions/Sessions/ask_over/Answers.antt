@@ -1,8 +1,4 @@
-use Rattle.std.proofs.Common.{◌∙◌, List, [], ◌∷◌, ◌++◌, ap, subst, sym, set}
-use Rattle.std.specs.Prelude.{slice_get}
-use Rattle.osi_tap.specs.declared.connections.Connection.{Connection}
-use Rattle.osi_tap.specs.Connections.{placed}
-use Rattle.osi_tap.specs.Holding.{HoldAll}
+use Rattle.osi_tap.proofs.Vocabulary.{◌∙◌, List, [], ◌∷◌, ◌++◌, ap, subst, sym, set, slice_get, Connection, placed, HoldAll}
 use Rattle.osi_tap.proofs.each_connection_is_kept.{one_replaced, room_placed}
 use Rattle.osi_tap.proofs.sessions.Sessions.ask_over.Goals as goal
 

@@ -1,6 +1,4 @@
-use Rattle.std.proofs.Common.{List, subst, sym}
-use Rattle.osi_tap.specs.declared.connections.Connection.{Connection}
-use Rattle.osi_tap.specs.Holding.{HoldAll}
+use Rattle.osi_tap.proofs.Vocabulary.{List, subst, sym, Connection, HoldAll}
 use Rattle.osi_tap.proofs.sessions.Sessions.has_broken.Goals as goal
 
 pub returns : goal.returns

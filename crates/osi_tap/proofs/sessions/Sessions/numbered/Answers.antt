@@ -1,8 +1,4 @@
-use Rattle.std.proofs.Common.{◌∙◌, ap, subst, sym, List, Option, ◌==◌}
-use Rattle.std.specs.List.{find}
-use Rattle.std.specs.Option.{option_copied}
-use Rattle.osi_tap.specs.declared.connections.Connection.{Connection}
-use Rattle.osi_tap.specs.Holding.{FoundHeard}
+use Rattle.osi_tap.proofs.Vocabulary.{◌∙◌, ap, subst, sym, List, Option, ◌==◌, find, option_copied, Connection, FoundHeard}
 use Rattle.osi_tap.proofs.each_connection_is_kept.{live_found, done_found}
 use Rattle.osi_tap.proofs.each_session_has_heard_all.{found_heard}
 use Rattle.osi_tap.proofs.sessions.Sessions.numbered.Goals as goal

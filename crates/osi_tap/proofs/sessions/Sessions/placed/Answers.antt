@@ -1,6 +1,4 @@
-use Rattle.std.proofs.Common.{List, subst, sym}
-use Rattle.osi_tap.specs.declared.connections.Connection.{Connection}
-use Rattle.osi_tap.specs.Holding.{AreHeard, HoldAll}
+use Rattle.osi_tap.proofs.Vocabulary.{List, subst, sym, Connection, AreHeard, HoldAll}
 use Rattle.osi_tap.proofs.sessions.Sessions.placed.Goals as goal
 
 pub returns-clause-held : goal.returns-clause-held

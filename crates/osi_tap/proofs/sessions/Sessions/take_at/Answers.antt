@@ -1,10 +1,4 @@
-use Rattle.std.proofs.Common.{◌<◌, ◌≤◌, ◌∙◌, length, ap, subst, sym, arith}
-use Rattle.osi_judge.specs.Captures.{other}
-use Rattle.osi_tpdu.specs.View.{value}
-use Rattle.std.specs.Prelude.{slice_get}
-use Rattle.osi_tap.specs.declared.connections.Connection.{Connection}
-use Rattle.osi_tap.specs.Connections.{meant}
-use Rattle.osi_tap.specs.Holding.{line_in, HoldsJoined}
+use Rattle.osi_tap.proofs.Vocabulary.{◌<◌, ◌≤◌, ◌∙◌, length, ap, subst, sym, arith, other, value, Connection, meant, line_in, HoldsJoined}
 use Rattle.osi_tap.proofs.what_holds_of_a_result.{on_ok, on_ok_both, on_err, any_ok}
 use Rattle.osi_tap.proofs.each_connection_is_kept.{none_changed, one_changed, one_kept, room_changed}
 use Rattle.osi_tap.proofs.who_is_to_blame.{none_changes, one_changes}
@@ -17,12 +11,7 @@ returns-then-place-count_of-clause-ok c s h =
     let le : length c.args.self.now.live.items ≤ c.args.place = omega arith in
     let r = none_changed c.args.self.now.live.items c.args.self.now.done.items s c.args.place
     (meant c.args.direction c.args.at (value c.args.unit.now) c.args.meaning) le h.live h.done in
-    record {
-      live = r.0;
-      done = r.1;
-      room = room_changed c.args.place (meant c.args.direction c.args.at (value c.args.unit.now) c.args.meaning) s
-          (slice_get s.live c.args.place) c.args.self.now.room h.room;
-    }
+    grind (arith, room_changed)
 
 pub returns-clause-ok : goal.returns-clause-ok
 returns-clause-ok c =
@@ -35,14 +24,12 @@ returns-clause-ok c =
     record {
       live = r.0;
       done = r.1;
-      room = room_changed c.args.place (meant c.args.direction c.args.at (value c.args.unit.now) c.args.meaning) s
-          (slice_get s.live c.args.place) c.args.self.now.room h.room;
+      room = search (arith, room_changed);
     })
 
 pub returns-clause-err : goal.returns-clause-err
 returns-clause-err c =
     on_err c.mean.result c.mean.ensures.err (λ k s h.
-    let same = ap length c.deref.ensures.value in
     let lt : c.args.place < length c.args.self.now.live.items = omega arith in
     record {
       live = one_kept c.args.self.now.live.items s.live c.args.place c.index_mut.result.now c.mean.new.connection lt
@@ -55,14 +42,12 @@ pub returns-then-place-count_of-clause-still : goal.returns-then-place-count_of-
 returns-then-place-count_of-clause-still c s d number h b =
     let same = ap length c.deref.ensures.value in
     let le : length c.args.self.now.live.items ≤ c.args.place = omega arith in
-    still_none d number c.args.self.now.live.items s c.args.place
-    (meant c.args.direction c.args.at (value c.args.unit.now) c.args.meaning) le h.live b
+    search (arith, still_none)
 
 pub returns-clause-still : goal.returns-clause-still
 returns-clause-still c =
     let d = c.args.direction in
     on_ok_both c.mean.result c.mean.ensures.ok (any_ok c.mean.result c.mean.ensures.other) (λ k e s x number h b.
-    let same = ap length c.deref.ensures.value in
     let lt : c.args.place < length c.args.self.now.live.items = omega arith in
     still_one d x number c.args.self.now.live.items s c.args.place c.index_mut.result.now c.mean.new.connection c.args.at
     (value c.args.unit.now) c.args.meaning lt
@@ -72,15 +57,12 @@ returns-clause-still c =
 pub returns-then-place-count_of-clause-others : goal.returns-then-place-count_of-clause-others
 returns-then-place-count_of-clause-others c s h b =
     let same = ap length c.deref.ensures.value in
-    let le : length c.args.self.now.live.items ≤ c.args.place = omega arith in
-    none_changes c.args.direction c.args.self.now.live.items s c.args.place
-    (meant c.args.direction c.args.at (value c.args.unit.now) c.args.meaning) le h.live b
+    grind (arith, none_changes)
 
 pub returns-clause-others : goal.returns-clause-others
 returns-clause-others c =
     let d = c.args.direction in
     on_ok_both c.mean.result c.mean.ensures.ok (any_ok c.mean.result c.mean.ensures.other) (λ k e s h b.
-    let same = ap length c.deref.ensures.value in
     let lt : c.args.place < length c.args.self.now.live.items = omega arith in
     one_changes d c.args.self.now.live.items s c.args.place c.index_mut.result.now c.mean.new.connection
     (meant d c.args.at (value c.args.unit.now) c.args.meaning) lt

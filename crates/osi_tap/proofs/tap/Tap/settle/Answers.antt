@@ -1,6 +1,5 @@
-use Rattle.std.proofs.Common.{sym, subst}
-use Rattle.osi_tap.specs.declared.tap.Tap.{Tap}
-use Rattle.osi_tap.specs.Holding.{AllHeard}
+use Rattle.std.proofs.Common.{arith}
+use Rattle.osi_tap.proofs.Vocabulary.{sym, subst, Tap, AllHeard}
 use Rattle.osi_tap.proofs.what_holds_of_a_result.{on_ok}
 use Rattle.osi_tap.proofs.tap.Tap.settle.Goals as goal
 
@@ -13,10 +12,7 @@ returns-clause-judged c =
 
 pub returns-clause-settled : goal.returns-clause-settled
 returns-clause-settled c =
-    on_ok c.hand_over.result c.hand_over.ensures.heard (λ e. record {
-      judged = c.hand_over.ensures.judged c.in_ok-pass_due.ensures.judged;
-      heard = e;
-    })
+    on_ok c.hand_over.result c.hand_over.ensures.heard (grind arith)
 
 pub returns-clause-free : goal.returns-clause-free
 returns-clause-free c h =

@@ -1,9 +1,6 @@
-use Rattle.std.proofs.Common.{◌∙◌, ap, subst, Option, Some, ℕ}
-use Rattle.osi_tpdu.specs.View.{value}
-use Rattle.osi_tap.specs.declared.marks.Cause.{Cause}
-use Rattle.osi_tap.specs.declared.marks.UnitKind.{UnitKind}
-use Rattle.osi_tap.specs.Courses.{kind_of, noted_by, marked, mark_by, number_at, first_by, first_after}
-use Rattle.osi_tap.specs.Holding.{HoldsPassed}
+use Rattle.std.proofs.Common.{arith}
+use Rattle.osi_tap.proofs.Vocabulary.{ap, subst, Option, Some, ℕ, value, Cause, UnitKind, kind_of, noted_by, marked, mark_by, number_at}
+use Rattle.osi_tap.proofs.Vocabulary.{first_after, HoldsPassed}
 use Rattle.osi_tap.proofs.watch.Watch.note_transport.Goals as goal
 
 pub returns-in-None-clause-holds : goal.returns-in-None-clause-holds
@@ -38,15 +35,4 @@ returns-in-Some-clause-holds c k h e =
 pub returns-in-Some-clause-first : goal.returns-in-Some-clause-first
 returns-in-Some-clause-first c s e =
     let f = c.args.self.now.first in
-    let d = c.args.direction in
-    c.mark.ensures.first
-    ∙ ap (λ (u : UnitKind). first_by (record {
-      direction = d;
-      offset = c.args.at;
-      unit = Some u;
-      connection = c.args.connection;
-      cause = c.in-Some.cause;
-    }) f) c.of-kind.ensures
-    ∙ ap (λ (n : Option ℕ). first_after (mark_by d c.args.at (value c.args.unit.now) n (Some c.in-Some.cause)) f) e
-    ∙ ap (λ (o : Option Cause). first_after (mark_by d c.args.at (value c.args.unit.now) (number_at c.args.told.now.place s) o) f)
-    c.in-Some.ensures
+    grind arith

@@ -1,41 +1,19 @@
-use Rattle.std.proofs.Common.{◌∙◌, ◌+◌, ap, subst, Option, None}
-use Rattle.osi_rules.specs.declared.findings.Told.{Told}
-use Rattle.osi_tpdu.specs.View.{value}
-use Rattle.osi_tap.specs.Courses.{Course, moved, moment_of}
-use Rattle.osi_tap.specs.Connections.{taken}
-use Rattle.osi_tap.specs.Holding.{HoldsCourse, HoldsPassed, unit_due}
+use Rattle.std.proofs.Common.{arith}
+use Rattle.osi_tap.proofs.Vocabulary.{◌+◌, subst, None, value, Course, moved, moment_of, taken, HoldsCourse, HoldsPassed}
 use Rattle.osi_tap.proofs.no_break_was_before_the_first.{unit_earliest}
 use Rattle.osi_tap.proofs.what_holds_of_a_result.{any_err}
 use Rattle.osi_tap.proofs.watch.Watch.pass.Goals as goal
 
 pub returns-in_err-told-clause-err : goal.returns-in_err-told-clause-err
 returns-in_err-told-clause-err c =
-    any_err c.from_residual.result (λ k h. record {
-      by_now = k;
-      holds = c.in_err-told.ensures.err k h;
-      comes = ap (λ (o : Option Told). unit_due o c.args.direction c.args.at (value c.args.unit.now) k) c.in_err-told.ensures.untold;
-    })
+    any_err c.from_residual.result (grind arith)
 
 pub returns-in_err-told-clause-as_many : goal.returns-in_err-told-clause-as_many
 returns-in_err-told-clause-as_many c = any_err c.from_residual.result c.in_err-told.ensures.passed
 
 pub returns-in_err-take-clause-err : goal.returns-in_err-take-clause-err
 returns-in_err-take-clause-err c =
-    any_err c.from_residual-in_err-take.result (λ k h.
-    let t = c.in_ok-told.ensures.ok c.args.at k h in
-    record {
-      by_now = t.by_now;
-      holds = record {
-        traffic = t.holds.traffic;
-        sessions = c.in_err-take.ensures.err _ t.holds.sessions;
-        left = t.holds.left;
-        right = t.holds.right;
-        first = t.holds.first;
-        order = t.holds.order;
-      };
-      comes = ap (λ (o : Option Told). unit_due o c.args.direction c.args.at (value c.args.unit.now) t.by_now) c.in_ok-told.ensures.told
-          ∙ t.comes;
-    })
+    any_err c.from_residual-in_err-take.result (grind arith)
 
 pub returns-in_err-take-clause-as_many : goal.returns-in_err-take-clause-as_many
 returns-in_err-take-clause-as_many c = any_err c.from_residual-in_err-take.result c.in_ok-told.ensures.passed

@@ -1,10 +1,6 @@
-use Rattle.std.proofs.Common.{◌≡◌, ◌∙◌, ap, sym, subst, Bool, false, if◌then◌else◌, is_some}
-use Rattle.osi_rules.specs.declared.directions.Direction.{Direction as Way}
-use Rattle.osi_rules.specs.declared.findings.Reach.{Reach}
-use Rattle.osi_rules.specs.Traffic.{State, refused, refused_reach}
-use Rattle.osi_tap.specs.declared.marks.Marks.{Marks}
-use Rattle.osi_tap.specs.Courses.{Course, way_of, marked, marks_of, moved, unread_mark, unread_moment}
-use Rattle.osi_tap.specs.Holding.{HoldsCourse}
+use Rattle.std.proofs.Common.{arith}
+use Rattle.osi_tap.proofs.Vocabulary.{◌≡◌, ◌∙◌, ap, sym, subst, Bool, false, if◌then◌else◌, is_some, Reach, refused, refused_reach, Marks}
+use Rattle.osi_tap.proofs.Vocabulary.{Course, way_of, marked, marks_of, moved, unread_mark, unread_moment, HoldsCourse}
 use Rattle.osi_tap.proofs.no_break_was_before_the_first.{unread_earliest}
 use Rattle.osi_tap.proofs.watch.Watch.refuse.Goals as goal
 
@@ -15,19 +11,10 @@ returns-clause-holds c k h =
     let m = unread_mark d c.args.at c.args.cause in
     let now : Course = record k { traffic = refused (way_of d) k.traffic } in
     let next : Course = moved (unread_moment d c.args.at c.args.cause k.sessions) now in
-    let reach : c.refuse-reach.result ≡ refused_reach (way_of d) k.traffic =
-    c.refuse-reach.ensures.reach ∙ ap (λ (w : Way). refused_reach w t) c.way.ensures
-    ∙ ap (λ (s : State). refused_reach (way_of d) s) h.traffic in
+    let reach : c.refuse-reach.result ≡ refused_reach (way_of d) k.traffic = grind arith in
     let none : is_some (marks_of d k).halted ≡ false =
     ap (λ (z : Marks). is_some z.halted) (sym (c.marks.ensures k h)) ∙ sym c.is_some.ensures ∙ c.if-is_some.false in
-    let p = c.mark.ensures.holds next (record {
-      traffic = c.refuse-reach.ensures.state ∙ ap (λ (w : Way). refused w t) c.way.ensures
-          ∙ ap (λ (s : State). refused (way_of d) s) h.traffic;
-      sessions = h.sessions;
-      left = h.left;
-      right = h.right;
-      first = h.first;
-    }) in
+    let p = c.mark.ensures.holds next (grind arith) in
     subst (λ (b : Bool). HoldsCourse c.mark.new.self (if b then k else marked m (refused_reach (way_of d) k.traffic) next)) (sym none)
     (subst (λ (r : Reach). HoldsCourse c.mark.new.self (marked m r next)) reach
     (record {

@@ -1,7 +1,4 @@
-use Rattle.std.proofs.Common.{ap, sym, subst, Option}
-use Rattle.osi_rules.specs.declared.findings.Told.{Told}
-use Rattle.osi_tpdu.specs.View.{value}
-use Rattle.osi_tap.specs.Holding.{IsTold, unit_due}
+use Rattle.osi_tap.proofs.Vocabulary.{ap, sym, subst, Option, Told, value, IsTold, unit_due}
 use Rattle.osi_tap.proofs.what_holds_of_a_result.{if_ok}
 use Rattle.osi_tap.proofs.watch.Watch.tell.Goals as goal
 

@@ -1,5 +1,4 @@
-use Rattle.std.proofs.Common.{arith}
-use Rattle.osi_tpkt.specs.Octets.{IsOctets}
+use Rattle.osi_tpdu.proofs.Vocabulary.{arith, IsOctets}
 use Rattle.osi_tpdu.proofs.one_unit_is_read.{unit_found, not_bad, same_front}
 use Rattle.osi_tpdu.proofs.grammar.TpduUnit.read.Goals as goal
 

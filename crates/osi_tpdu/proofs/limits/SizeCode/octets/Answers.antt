@@ -1,5 +1,4 @@
-use Rattle.std.proofs.Common.{arith}
-use Rattle.std.proofs.Math.Pow.{pow_mono}
+use Rattle.osi_tpdu.proofs.Vocabulary.{arith, pow_mono}
 use Rattle.osi_tpdu.proofs.limits.SizeCode.octets.Goals as goal
 
 pub returns-clause-at_least : goal.returns-clause-at_least

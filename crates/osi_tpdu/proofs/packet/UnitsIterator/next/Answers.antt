@@ -1,5 +1,4 @@
-use Rattle.std.proofs.Common.{◌≤◌, length, arith, rules}
-use Rattle.std.proofs.lemmas.List.{nil_from_length}
+use Rattle.osi_tpdu.proofs.Vocabulary.{◌≤◌, length, arith, rules, nil_from_length}
 use Rattle.osi_tpdu.proofs.which_units_another_may_follow.{first_known, first_read, first_stands, header_known}
 use Rattle.osi_tpdu.proofs.the_units_of_a_packet.{first_left, nothing_left, read_fits}
 use Rattle.osi_tpdu.proofs.packet.UnitsIterator.next.Goals as goal

@@ -1,5 +1,4 @@
-use Rattle.std.proofs.Common.{◌≤◌, length, arith, rules}
-use Rattle.std.proofs.lemmas.Result.{err_from_is_err_and}
+use Rattle.osi_tpdu.proofs.Vocabulary.{◌≤◌, length, arith, rules, err_from_is_err_and}
 use Rattle.osi_tpdu.proofs.the_units_of_a_packet.{Ends-first, Ends-more, Ends-bad, Ends-last}
 use Rattle.osi_tpdu.proofs.packet.whole.read_each.Goals as goal
 

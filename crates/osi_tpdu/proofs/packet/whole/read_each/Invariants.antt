@@ -1,5 +1,4 @@
-use Rattle.std.proofs.Common.{◌+◌, ◌<◌, ◌^◌, length}
-use Rattle.osi_tpdu.specs.Packet.{units_of}
+use Rattle.osi_tpdu.proofs.Vocabulary.{◌+◌, ◌<◌, ◌^◌, length, units_of}
 use Rattle.osi_tpdu.proofs.the_units_of_a_packet.{Ends}
 use Rattle.osi_tpdu.proofs.packet.whole.read_each.Given as goal
 

@@ -1,5 +1,4 @@
-use Rattle.std.proofs.Common.{arith, rules}
-use Rattle.osi_tpdu.proofs.Vocabulary.{err_from_is_err_and}
+use Rattle.osi_tpdu.proofs.Vocabulary.{err_from_is_err_and, arith, rules}
 use Rattle.osi_tpdu.proofs.the_units_of_a_packet.{units_found, packet_left, no_units, one_reading, fault_found}
 use Rattle.osi_tpdu.proofs.packet.whole.read_units.Goals as goal
 

@@ -1,0 +1,85 @@
+-- What the proofs of this crate take from the library, from the crates below and from its own definitions.
+pub use Rattle.std.proofs.Common.{Bool, Err, List, None, Ok, Option, Result, Some, [], add-one, ap, append_assoc, arith, cond, drop, false}
+pub use Rattle.std.proofs.Common.{get_or, if◌then◌else◌, inl, inr, is_some, length, map, refl, set, slice_get, subst, suc, sym, take, true}
+pub use Rattle.std.proofs.Common.{zero, ℕ, ◌++◌, ◌+◌, ◌-◌, ◌<◌, ◌==◌, ◌∙◌, ◌∷◌, ◌≡◌, ◌≤◌, ◌⊎◌}
+pub use Rattle.std.proofs.Math.Seq.{drop-nil, take-append_seam}
+pub use Rattle.std.proofs.lemmas.Bool.{le-ltb, leb-true, lt-ltb}
+pub use Rattle.std.proofs.lemmas.List.{append-nil, length-append, length-map, length-set, length-take-le, map-append, take-append-drop}
+pub use Rattle.std.proofs.lemmas.List.{take-append-le}
+pub use Rattle.std.proofs.lemmas.List.Folds.{find-append}
+pub use Rattle.std.specs.List.{find}
+pub use Rattle.std.specs.Option.{option_copied, option_map, option_or}
+pub use Rattle.osi_tpkt.specs.Packet.{IsFaultOf, IsPacket, IsPartial}
+pub use Rattle.osi_tpkt.specs.Stream.{offset_of}
+pub use Rattle.osi_tpkt.specs.declared.faults.TpktFault.{TpktFault}
+pub use Rattle.osi_tpkt.specs.declared.faults.TpktFault.TheVariants.{BadLength, BadVersion}
+pub use Rattle.osi_tpdu.specs.Packet.{units_of}
+pub use Rattle.osi_tpdu.specs.Units.{GivesUnit, units_left}
+pub use Rattle.osi_tpdu.specs.Value.{Value}
+pub use Rattle.osi_tpdu.specs.View.{value}
+pub use Rattle.osi_tpdu.specs.declared.faults.TpduFault.{TpduFault}
+pub use Rattle.osi_tpdu.specs.declared.packet.Units.{Units}
+pub use Rattle.osi_tpdu.specs.declared.unit.Tpdu.{Tpdu}
+pub use Rattle.osi_session.specs.Standing.{Seen, seen_called, seen_calling}
+pub use Rattle.osi_rules.specs.Traffic.{Outcome, outcome, refused, refused_reach, takes}
+pub use Rattle.osi_rules.specs.declared.findings.Meaning.{Meaning}
+pub use Rattle.osi_rules.specs.declared.findings.Meaning.TheVariants.{Asks}
+pub use Rattle.osi_rules.specs.declared.findings.Reach.{Reach}
+pub use Rattle.osi_rules.specs.declared.findings.Told.{Told}
+pub use Rattle.osi_judge.proofs.outlined.a_rule_of_outlines_is_one_of_tsdus.{room_of_tsdus}
+pub use Rattle.osi_judge.proofs.outlined.alike_tsdus_explain_the_same.{found_of_tsdus}
+pub use Rattle.osi_judge.proofs.outlined.an_outline_is_taken_alike.{outline_no_longer}
+pub use Rattle.osi_judge.proofs.told.a_side_strays_at_one_place.{Strays, never_strays, no_crowd}
+pub use Rattle.osi_judge.proofs.told.what_is_known_of_a_side.{few_by, found_as, hears, room_as}
+pub use Rattle.osi_judge.specs.Captures.{Capture, of, other, piece}
+pub use Rattle.osi_judge.specs.Explaining.{done}
+pub use Rattle.osi_judge.specs.Feeding.{Tells, last_place}
+pub use Rattle.osi_judge.specs.Judging.{FoundNext, HasRoom, IsFew, IsFound, Watched, Watches}
+pub use Rattle.osi_judge.specs.Keeping.{is_same, kept_in, once, once_behind}
+pub use Rattle.osi_judge.specs.Outlines.{outline, outlines}
+pub use Rattle.osi_judge.specs.Sides.{watched}
+pub use Rattle.osi_judge.specs.Stops.{broke_session}
+pub use Rattle.osi_judge.specs.Tapping.{begin_of}
+pub use Rattle.osi_judge.specs.declared.directions.Direction.{Direction}
+pub use Rattle.osi_judge.specs.declared.directions.Direction.TheVariants.{Left, Right}
+pub use Rattle.osi_judge.specs.declared.findings.Finding.{Finding}
+pub use Rattle.osi_judge.specs.declared.findings.Finding.TheVariants.{Broke, Kept, TooMany}
+pub use Rattle.osi_tap.specs.Blaming.{AreBlameless, AreBlamelessBut, AreSpotless, Blames, BlamesBy, BreaksFirst, IsBlameless, IsBreakOf}
+pub use Rattle.osi_tap.specs.Blaming.{IsEarliest, IsFirstOf, IsFoundOf, IsMarkOf, IsQuiet, IsSessionOf, IsSpotless, IsStill, IsToBlame}
+pub use Rattle.osi_tap.specs.Blaming.{IsToBlameAt, IsToldOf, NobodyElse, NobodyElseIs, NobodyIs, SomeIs, SomeoneIs}
+pub use Rattle.osi_tap.specs.Blaming.IsBreakOf.{of_session, of_transport}
+pub use Rattle.osi_tap.specs.Bounds.{IsWithin, kept_of}
+pub use Rattle.osi_tap.specs.Connections.{Joined, Sessions, adds, adds_all, adds_if, all_begin, asked, asked_at, changed, has_number, meant}
+pub use Rattle.osi_tap.specs.Connections.{numbered, packet_begins, placed, source_of, spoken, taken, taken_at}
+pub use Rattle.osi_tap.specs.Courses.{Course, Moment, applied, breaks, cause_of, changes, earlier, first_after, first_by, first_marked}
+pub use Rattle.osi_tap.specs.Courses.{first_of, halts, is_break, kind_of, mark_by, mark_of, marked, marks_of, moment_of, moved, noted_by}
+pub use Rattle.osi_tap.specs.Courses.{number_at, number_of, packet_by, reached, unit_passes, units_pass, unread, unread_mark, unread_moment}
+pub use Rattle.osi_tap.specs.Courses.{way_of}
+pub use Rattle.osi_tap.specs.Holding.{AllHeard, AreHeard, FoundHeard, HoldAll, Holds, HoldsBoth, HoldsCourse, HoldsFound, HoldsJoined}
+pub use Rattle.osi_tap.specs.Holding.{HoldsPassed, IsDue, IsFirst, IsHeard, IsPlace, IsTold, Lined, begun_in, is_unheard, line_in, lined}
+pub use Rattle.osi_tap.specs.Holding.{streamed, unheard, unheard_at, unit_due}
+pub use Rattle.osi_tap.specs.Lines.{Said, Spoken, added, before, begins, begun_before, begun_octets, heard, place_in, silent, told, told_of}
+pub use Rattle.osi_tap.specs.Owing.{Comes, HoldsAll, OwesLast, OwesUnits}
+pub use Rattle.osi_tap.specs.Rooms.{fits, spent}
+pub use Rattle.osi_tap.specs.Standing.{HoldsBy, HoldsNow, HoldsOpen, HoldsPart, HoldsState, HoldsStream, IsFed, IsJudged, IsPart, due_if}
+pub use Rattle.osi_tap.specs.Standing.{first_in, pick}
+pub use Rattle.osi_tap.specs.Standing.IsFed.{fed, unfed}
+pub use Rattle.osi_tap.specs.Streams.{Front, Streamed, are_none, begins_at, counted, ended, faulty, front_of, gathered, partial, sized}
+pub use Rattle.osi_tap.specs.Streams.{used_of, wanted, whole}
+pub use Rattle.osi_tap.specs.Tapping.{GoesOn, State, after, begin, begin_within, begun, comes_to, looked_at, octet_passes, octets_pass}
+pub use Rattle.osi_tap.specs.Tapping.{stream_of, with_stream}
+pub use Rattle.osi_tap.specs.declared.connections.Connection.{Connection}
+pub use Rattle.osi_tap.specs.declared.lines.Line.{Line}
+pub use Rattle.osi_tap.specs.declared.lines.Stage.{Stage}
+pub use Rattle.osi_tap.specs.declared.lines.Stage.TheVariants.{Between, Unheard, Within}
+pub use Rattle.osi_tap.specs.declared.marks.Cause.{Cause}
+pub use Rattle.osi_tap.specs.declared.marks.Cause.TheVariants.{BadPacket, BadUnit}
+pub use Rattle.osi_tap.specs.declared.marks.First.{First}
+pub use Rattle.osi_tap.specs.declared.marks.Layer.TheVariants.{Session, Transport}
+pub use Rattle.osi_tap.specs.declared.marks.Mark.{Mark}
+pub use Rattle.osi_tap.specs.declared.marks.Marks.{Marks}
+pub use Rattle.osi_tap.specs.declared.marks.UnitKind.{UnitKind}
+pub use Rattle.osi_tap.specs.declared.rooms.Room.{Room}
+pub use Rattle.osi_tap.specs.declared.rooms.Room.TheVariants.{All, Octets, Over}
+pub use Rattle.osi_tap.specs.declared.tap.Tap.{Tap}
+pub use Rattle.osi_tap.specs.declared.watch.Watch.{Watch}
