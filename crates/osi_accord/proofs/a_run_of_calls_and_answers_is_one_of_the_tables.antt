@@ -66,9 +66,7 @@ left_done t p s = record {
 
 nothing_due : (t : Tables) (p : Pair) (messages : List Utterance) (d : Direction) (ahead : List Meaning) → IsDue [] messages d ahead →
     Stands t p d ahead [] → PlaysWhole t messages p
-nothing_due t p [] d ahead (inl due) s = grind (arith, left_done, turned_about)
-nothing_due t p (utters e m ∷ messages) d ahead (inl due) s = absurd due.0
-nothing_due t p messages d ahead (inr due) s = absurd due.is
+nothing_due t p messages d ahead h s = search (arith, left_done, turned_about)
 
 -- nothing is ahead of either side
 calm : (t : Tables) (p : Pair) (d e : Direction) → Stands t p d [] [] → Stands t p e [] []

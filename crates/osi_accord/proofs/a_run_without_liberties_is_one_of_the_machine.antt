@@ -3,11 +3,11 @@
 use Rattle.osi_accord.proofs.Vocabulary.{[], ap, append-nil, false, inl, inr, length, List, map, None, Ok, Option, refl, Some, subst, sym}
 use Rattle.osi_accord.proofs.Vocabulary.{true, ℕ, ◌++◌, ◌∙◌, ◌∷◌, ◌≡◌, AllByRecursion, GT, Meaning, IsSendable, no_token, says, Word}
 use Rattle.osi_accord.proofs.Vocabulary.{written, allowed, Call, HasSerial, has_no_effect, respond_unit, after_count, CanSay, Count, Seen}
-use Rattle.osi_accord.proofs.Vocabulary.{seen_called, seen_calling, Takes, State, call_at, called, Core, core_start, core_step, Offer}
-use Rattle.osi_accord.proofs.Vocabulary.{offer_sent, stays_in_core, take_at, taking, turned, other, Direction, Left, Right, Accords, end_of}
-use Rattle.osi_accord.proofs.Vocabulary.{Sending, sending, AreWritten, connect_of, is_connect, IsByCall, IsCoreCall, IsMessage, Plays}
-use Rattle.osi_accord.proofs.Vocabulary.{sent_at, side_at, TakesNoLiberty, Utterance, utters, channel_of, has_taken, Pair, pair_of}
-use Rattle.osi_accord.proofs.Vocabulary.{session_of, with_channel, with_session, arith}
+use Rattle.osi_accord.proofs.Vocabulary.{seen_called, seen_calling, Takes, call_at, called, Core, core_start, core_step, Offer, offer_sent}
+use Rattle.osi_accord.proofs.Vocabulary.{stays_in_core, take_at, taking, turned, other, Direction, Left, Right, Accords, end_of, Sending}
+use Rattle.osi_accord.proofs.Vocabulary.{sending, AreWritten, connect_of, is_connect, IsByCall, IsCoreCall, IsMessage, Plays, sent_at}
+use Rattle.osi_accord.proofs.Vocabulary.{side_at, TakesNoLiberty, Utterance, utters, channel_of, has_taken, Pair, pair_of, session_of}
+use Rattle.osi_accord.proofs.Vocabulary.{with_channel, with_session, arith}
 use Rattle.osi_session.specs.Allowed.{Step}
 use Rattle.osi_machine.specs.Core as machine
 use Rattle.osi_accord.specs.Accords as accord
@@ -46,14 +46,7 @@ called_own v c g stays allows = rw (stays, allows) refl
 calls_on : (w : Core) (p : Pair) (d : Direction) (next : Seen) (m : Meaning) (call : IsCoreCall (session_of d p) m next) → IsSendable m →
     Stands w p d [] [] →
     Stands (core_step w (call_at (side_at d) call.is.call)) (with_session d next p) d (m ∷ []) []
-calls_on w p Left next m call send s =
-    let allows : allowed w.own.session call.is.call ≡ Ok (record { next = call.is.state; sent = m }) =
-    ap (λ (x : State). allowed x call.is.call) s.own.state ∙ call.is.allows in
-    grind (arith, called_own, kept_none, append-nil, written_more, all_and_one)
-calls_on w p Right next m call send s =
-    let allows : allowed w.peer.session call.is.call ≡ Ok (record { next = call.is.state; sent = m }) =
-    ap (λ (x : State). allowed x call.is.call) s.own.state ∙ call.is.allows in
-    grind (arith, called_own, kept_none, append-nil, written_more, all_and_one)
+calls_on w p h next m call send s = grind (arith, called_own, kept_none, append-nil, written_more, all_and_one)
 
 -- ---- a delivery
 
@@ -103,8 +96,7 @@ takes_any k w p Right Left c tsdu rest ahead there taken s =
 
 sends_on : (w : Core) (p : Pair) (d : Direction) (m : Meaning) → Stands w p d (m ∷ []) [] →
     Stands w (with_channel d (channel_of d p ++ written m ∷ []) p) d [] []
-sends_on w p Left m s = record { own = grind (arith, append-nil); peer = s.peer }
-sends_on w p Right m s = record { own = grind (arith, append-nil); peer = s.peer }
+sends_on w p d m s = grind (arith, append-nil)
 
 -- ---- a run
 

@@ -64,10 +64,6 @@ abbrev first_before : List Remark → ℕ
 first_before [] = 0
 first_before (m ∷ ms) = m.before
 
-abbrev first_octets : List Remark → ℕ
-first_octets [] = 0
-first_octets (m ∷ ms) = m.octets
-
 abbrev first_word : List Remark → Option Word
 first_word [] = None
 first_word (m ∷ ms) = m.word

@@ -42,10 +42,6 @@ pub none_at_all : {X : Type 0} (r : Option X) (t : Tap) (told : List Subject) �
     → IfNone r (HasNoneOfTransport t told × HasNoneOfSessions t told) → IfNone r (HasNothing t told)
 none_at_all h t told a b = grind arith
 
--- what holds of what is due holds with its turn
-pub with_turn : {X : Type 0} (r : Option X) (A : Type 0) (P : X → Type 0) → A → IfSome r P → IfSome r (λ x. A × P x)
-with_turn h h2 h3 a h4 = grind arith
-
 pub both_some : {X : Type 0} (r : Option X) (P Q : X → Type 0) → IfSome r P → IfSome r Q → IfSome r (λ x. P x × Q x)
 both_some h h2 h3 h4 k = grind arith
 

@@ -4,7 +4,7 @@ pub use Rattle.std.proofs.Common.{SomeIff, [], ap, append_assoc, arith, drop, eq
 pub use Rattle.std.proofs.Common.{length-append, length-drop, length-take, map, min, nat_le, nat_lt, not, option_to_list, refl, replicate}
 pub use Rattle.std.proofs.Common.{rules, set, subst, suc, sym, take, true, zero, ℕ, ◌%◌, ◌*◌, ◌++◌, ◌+◌, ◌-◌, ◌<◌, ◌==◌, ◌^◌, ◌||◌, ◌∙◌}
 pub use Rattle.std.proofs.Common.{◌∷◌, ◌≡◌, ◌≤◌, ◌⊎◌}
-pub use Rattle.std.proofs.Math.Nat.{le-div_iff_mul-le, suc-mul}
+pub use Rattle.std.proofs.Math.Nat.{suc-mul}
 pub use Rattle.std.proofs.Math.Seq.{drop-append-add, drop-append_seam, take-append-add}
 pub use Rattle.std.proofs.lemmas.Bool.{cases_lt, eq-eqb, eqb-false, eqb-true, le-leb, le-ltb, leb-false, leb-true, lt-leb, lt-ltb}
 pub use Rattle.std.proofs.lemmas.Bool.{ltb-false, ltb-true, or_left, or_right}
@@ -23,14 +23,14 @@ pub use Rattle.std.specs.List.{AllByRecursion, flat_map, list_any, position_or_l
 pub use Rattle.std.specs.List.Sorted.{IsBinarySearchResult, IsNonDecreasingBy, IsSearchInRange}
 pub use Rattle.std.specs.Ordering.{nat_cmp, ordering_index}
 pub use Rattle.std.specs.Result.{result_ok}
-pub use Rattle.osi_tpkt.proofs.a_prefix_of_a_packet.{one_fault}
-pub use Rattle.osi_tpkt.proofs.a_stream_is_cut_in_one_way.{end_no_packet, partial_no_fault}
+pub use Rattle.osi_tpkt.proofs.a_prefix_of_a_packet.{empty_partial, one_fault}
+pub use Rattle.osi_tpkt.proofs.a_stream_is_cut_in_one_way.{fault_no_packet, partial_no_fault, partial_no_packet}
 pub use Rattle.osi_tpkt.proofs.no_packet_is_a_prefix_of_another.{one_packet, stated_length-append, written_packet}
+pub use Rattle.osi_tpkt.proofs.the_packets_are_those_of_the_stream.{packets_joined}
 pub use Rattle.osi_tpkt.specs.Cutter.{Belongs, Passes, TakesPiece}
 pub use Rattle.osi_tpkt.specs.Held.{Held, IsHolding}
 pub use Rattle.osi_tpkt.specs.Packet.{IsFaultOf, IsOnePacket, IsPacket, IsPartial, packet_of}
 pub use Rattle.osi_tpkt.specs.Stream.{ArePackets, offset_of}
-pub use Rattle.osi_tpkt.specs.Stream.Ending.{Faulty}
 pub use Rattle.osi_tpkt.specs.declared.cutting.Fed.{Fed}
 pub use Rattle.osi_tpkt.specs.declared.faults.TpktFault.{TpktFault}
 pub use Rattle.osi_tpkt.specs.declared.faults.TpktFault.TheVariants.{BadLength, BadVersion, OutOfMemory}
@@ -56,7 +56,7 @@ pub use Rattle.osi_class.proofs.giving.when_nothing_is_given.{class_0, class_2}
 pub use Rattle.osi_class.specs.AnyLink.{any_standing}
 pub use Rattle.osi_class.specs.Ends.{Ends}
 pub use Rattle.osi_class.specs.Flow.{Flow}
-pub use Rattle.osi_class.specs.Giving.{AllGoAtOnce, Drained, GivesPart, GoesAtOnce, GoesWhole, MayGoAll, all_given, drained, first_in}
+pub use Rattle.osi_class.specs.Giving.{AllGoAtOnce, Drained, GivesPart, GoesAtOnce, MayGoAll, all_given, drained, first_in}
 pub use Rattle.osi_class.specs.Giving.{given_one_by_one, header_octets, left_to_give, most_given, number_in, octets_in, octets_in_parts}
 pub use Rattle.osi_class.specs.Giving.{octets_of, one_by_one, parts_needed, units_needed, with_rest}
 pub use Rattle.osi_class.specs.Handing.{tsdu_handed, user_of}
@@ -93,7 +93,7 @@ unfoldable pub use Rattle.osi_carrier.specs.Packets.{after_packet}
 pub use Rattle.osi_carrier.specs.Pieces.{FitTsdus, FitsTsdu, SomeGo, headed, left_after, left_by, tsdus_from, tsdus_in}
 pub use Rattle.osi_carrier.specs.Pump.{LeavesRest, left_of, pumped, written_by, written_for}
 pub use Rattle.osi_carrier.specs.React.{accepts, answers, answers_request, before_class, breaks, denies, handed_out, has_peer, in_class}
-pub use Rattle.osi_carrier.specs.React.{in_two, in_zero, is_full, leaves, opens, pumps, react_by, reacts, taking, to_asked, to_closing}
+pub use Rattle.osi_carrier.specs.React.{in_two, is_full, leaves, opens, pumps, react_by, reacts, taking, to_asked, to_closing}
 pub use Rattle.osi_carrier.specs.React.{to_connection, to_linked, to_only, to_reference, to_unknown}
 unfoldable pub use Rattle.osi_carrier.specs.React.{react}
 pub use Rattle.osi_carrier.specs.Rising.{RiseBy, place_by}
@@ -119,7 +119,6 @@ pub use Rattle.osi_carrier.specs.declared.faults.SendError.TheVariants.{TooLong}
 pub use Rattle.osi_carrier.specs.declared.lending.FedLent.{FedLent}
 pub use Rattle.osi_carrier.specs.declared.lending.Lent.{Lent}
 pub use Rattle.osi_carrier.specs.declared.links.Step.{Step}
-pub use Rattle.osi_carrier.specs.declared.links.Step.TheVariants.{Took}
 pub use Rattle.osi_carrier.specs.declared.pieces.Pieces.{Pieces}
 pub use Rattle.osi_carrier.specs.declared.rows.Phase.{Phase}
 pub use Rattle.osi_carrier.specs.declared.rows.Phase.TheVariants.{Linked}

@@ -5,7 +5,6 @@ pub mod all_that_a_link_gives
 pub mod nothing_takes_no_room
 pub mod a_tsdu_part_after_part
 pub mod tsdus_that_are_sent_together
-pub mod tsdus_are_written_straight
 pub mod octets_are_cut_into_tsdus
 pub mod whether_all_tsdus_may_go_now
 pub mod what_is_left_after_some_units

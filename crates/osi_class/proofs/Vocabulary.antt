@@ -23,14 +23,14 @@ pub use Rattle.osi_class.specs.Ends.{Ends, fresh_ends, unit_size}
 pub use Rattle.osi_class.specs.Flow.{Flow, Receiver, Sender, ack_number, acknowledged, after_acked, after_sent, fresh_receiver}
 pub use Rattle.osi_class.specs.Flow.{fresh_sender, is_awaited, steps_before}
 pub use Rattle.osi_class.specs.Giving.{AllGoAtOnce, Drained, GivesPart, GivesSlot, GoesAtOnce, GoesWhole, MayGoAll, all_given, drained_by}
-pub use Rattle.osi_class.specs.Giving.{drained_within, given_one_by_one, header_octets, left_of_tsdus, left_to_give, most_by, most_given}
-pub use Rattle.osi_class.specs.Giving.{octets_in, octets_in_parts, octets_of, one_by_one, parts_needed, units_needed, with_rest}
+pub use Rattle.osi_class.specs.Giving.{drained_within, given_one_by_one, header_octets, left_to_give, most_by, most_given, octets_in}
+pub use Rattle.osi_class.specs.Giving.{octets_in_parts, octets_of, one_by_one, parts_needed, units_needed, with_rest}
 unfoldable pub use Rattle.osi_class.specs.Giving.{drained}
 pub use Rattle.osi_class.specs.Joining.{Joining, joined, joining, with_part}
 pub use Rattle.osi_class.specs.Limits.{longest_tsdu}
 pub use Rattle.osi_class.specs.Link.{Given, Hands, Standing, Two, ack, fresh_two, given_in, given_part, is_of_two, next, next_by, part0}
-pub use Rattle.osi_class.specs.Link.{part2, part_under, sent_flow, taken, taken_by, taken_flow, two_standing, unit_of, with_handed}
-pub use Rattle.osi_class.specs.Link.{with_joined, with_sender, with_tsdu, with_tsdus, zero_standing}
+pub use Rattle.osi_class.specs.Link.{part2, sent_flow, taken, taken_by, taken_flow, two_standing, unit_of, with_handed, with_joined}
+pub use Rattle.osi_class.specs.Link.{with_sender, with_tsdu, with_tsdus, zero_standing}
 pub use Rattle.osi_class.specs.Owed.{CreditStep, CreditSteps, Direction, InStep, StepsAlong, known_after, numbers, opened, owed, restored}
 pub use Rattle.osi_class.specs.Owed.{take_ack, take_unit, write_ack, write_unit}
 pub use Rattle.osi_class.specs.Queues.{PopsFirst}

@@ -8,7 +8,7 @@ pub use Rattle.std.proofs.lemmas.Grind.{flat_map-append}
 pub use Rattle.std.proofs.lemmas.List.{append-nil, append_assoc, length-append, length-map, length-set, map-append, take-append-drop}
 pub use Rattle.std.specs.List.{before_first, find, flat_map}
 pub use Rattle.osi_tpkt.proofs.a_stream_is_cut_in_one_way.{one_cut}
-pub use Rattle.osi_tpkt.specs.Stream.{Ending, offset_of}
+pub use Rattle.osi_tpkt.specs.Stream.{offset_of}
 pub use Rattle.osi_tpdu.specs.Packet.{units_of}
 pub use Rattle.osi_tpdu.specs.Value.{Value}
 pub use Rattle.osi_tpdu.specs.declared.faults.TpduFault.{TpduFault}
@@ -24,7 +24,7 @@ pub use Rattle.osi_judge.proofs.told.what_is_known_of_a_side.{found_as, room_as}
 pub use Rattle.osi_judge.specs.Breaking.{BreaksAt, BreaksWith, selection_of}
 pub use Rattle.osi_judge.specs.Captures.{Capture, of, other, piece, stream}
 pub use Rattle.osi_judge.specs.Explaining.{Explains, IsBlamed, IsExplained, Remark, answers, done, remarks, says, takes}
-pub use Rattle.osi_judge.specs.Feeding.{Tapped, reading_of, stopped_of}
+pub use Rattle.osi_judge.specs.Feeding.{Tapped, stopped_of}
 pub use Rattle.osi_judge.specs.Following.{FirstIs, Judged, Taps, first_in, half_of, judged}
 pub use Rattle.osi_judge.specs.Foremost.{foremost}
 pub use Rattle.osi_judge.specs.Judging.{HasRoom, IsFew, IsFound, IsKept, Keeps, Watched, Watches, WatchesBy}
@@ -35,8 +35,8 @@ pub use Rattle.osi_judge.specs.Profiles.{leaves}
 pub use Rattle.osi_judge.specs.Sides.{watched}
 pub use Rattle.osi_judge.specs.Stops.{breaks, broke_session, is_judged, place_of}
 pub use Rattle.osi_judge.specs.Tapping.{IsBrokenBy, IsCountIn, IsFirstIn, IsFoundIn, IsLeftBy, IsPlaceIn, IsReadIn, IsReferenceIn}
-pub use Rattle.osi_judge.specs.Tapping.{IsStoppedIn, begin_of, heard, or_hasty, stop_in, told}
-pub use Rattle.osi_judge.specs.Transport.{IsSent, Sent, hasty_from, last_packet, met_before, opening, reference_in, stage_from}
+pub use Rattle.osi_judge.specs.Tapping.{IsStoppedIn, begin_of, heard, told}
+pub use Rattle.osi_judge.specs.Transport.{IsSent, Sent, last_packet}
 pub use Rattle.osi_judge.specs.declared.directions.Direction.{Direction}
 pub use Rattle.osi_judge.specs.declared.directions.Direction.TheVariants.{Right}
 pub use Rattle.osi_judge.specs.declared.findings.Finding.{Finding}
@@ -79,7 +79,7 @@ pub use Rattle.osi_dispute.specs.Facts.{kept_outcome, left_first, outcome_in, ou
 pub use Rattle.osi_dispute.specs.Facts.{verdict_by}
 pub use Rattle.osi_dispute.specs.Laws.{IsDecided}
 pub use Rattle.osi_dispute.specs.Reading.{row, rows_left}
-pub use Rattle.osi_dispute.specs.ReportTexts.{last_line, last_status, pair_lines, read_lines, report_text, transport_lines}
+pub use Rattle.osi_dispute.specs.ReportTexts.{last_line, last_status, pair_lines, read_lines, transport_lines}
 pub use Rattle.osi_dispute.specs.Reports.{ArePairs, IsFirstLast, IsLast, IsMarkLast, IsPair, IsPairOf, IsReport, IsSession, IsStrayLast}
 pub use Rattle.osi_dispute.specs.Reports.{Report, SaysSo, Strayed, Tells, all_keep, carried, is_clear, is_opened, is_refused_in, kept_last}
 pub use Rattle.osi_dispute.specs.Reports.{no_pair, stray_last}

@@ -1,13 +1,12 @@
 -- The line of the side that broke the protocol first has words, so a verdict ends with one: for the laws.
-use Rattle.osi_dispute.proofs.Vocabulary.{◌≡◌, refl, sym, ap, subst, ℕ, Bool, true, false, ◌||◌, ◌&&◌, List, [], if◌then◌else◌, Option}
-use Rattle.osi_dispute.proofs.Vocabulary.{Some, None, arith, Direction, Finding, Kept, Broke, Left, TooMany, Break, Stands, Stopped}
-use Rattle.osi_dispute.proofs.Vocabulary.{Capture, breaks, broke_session, IsFoundIn, IsReferenceIn, told, Sent, IsSent}
-use Rattle.osi_dispute.proofs.Vocabulary.{nameless_said_nothing, Account, Unjudged, Verdict, connection_first, is_stopped_before}
-use Rattle.osi_dispute.proofs.Vocabulary.{first_line, line_by, outcome_line, Facts, AreFacts, told_by, connection_by, left_first}
-use Rattle.osi_dispute.proofs.Vocabulary.{account_by, keeps, unjudged, begins_late, kept_outcome, outcome_of, outcome_unless, verdict_by}
-use Rattle.osi_dispute.proofs.Vocabulary.{IsFirstOf}
+use Rattle.osi_dispute.proofs.Vocabulary.{◌≡◌, sym, ap, subst, ℕ, Bool, true, false, ◌||◌, ◌&&◌, List, [], if◌then◌else◌, Option, Some}
+use Rattle.osi_dispute.proofs.Vocabulary.{None, arith, Direction, Finding, Break, Stands, Stopped, Capture, breaks, broke_session}
+use Rattle.osi_dispute.proofs.Vocabulary.{IsFoundIn, IsReferenceIn, Sent, IsSent, nameless_said_nothing, Account, Unjudged, Verdict}
+use Rattle.osi_dispute.proofs.Vocabulary.{connection_first, is_stopped_before, first_line, line_by, outcome_line, Facts, AreFacts, told_by}
+use Rattle.osi_dispute.proofs.Vocabulary.{connection_by, left_first, account_by, keeps, unjudged, begins_late, kept_outcome, outcome_of}
+use Rattle.osi_dispute.proofs.Vocabulary.{outcome_unless, verdict_by, IsFirstOf}
 use Rattle.osi_judge.specs.declared.directions.Direction.TheVariants as side
-use Rattle.osi_dispute.specs.declared.verdicts.Unjudged.TheVariants.{Transport, TooMany as Many}
+use Rattle.osi_dispute.specs.declared.verdicts.Unjudged.TheVariants.{Transport}
 use Rattle.osi_judge.specs.declared.stops.Stop.TheVariants as stop
 use Rattle.osi_dispute.specs.Names.{unjudged_text}
 use Rattle.osi_dispute.specs.Texts.{first_text, broke_first, left_first as left_first_line, stopped_first}
@@ -21,19 +20,15 @@ HasWords line = line ≡ [] → ⊥
 
 broke_words : (d : Direction) (offset : ℕ) (by : Break) → HasWords (broke_first d offset by)
 unfolding broke_first first_text
-broke_words side.Left offset by e = absurd (cc)
-broke_words side.Right offset by e = absurd (cc)
+broke_words d offset by e = grind arith
 
 left_words : (d : Direction) (offset : ℕ) (by : Break) → HasWords (left_first_line d offset by)
 unfolding left_first_line first_text
-left_words side.Left offset by e = absurd (cc)
-left_words side.Right offset by e = absurd (cc)
+left_words d offset by e = grind arith
 
 stop_words : (d : Direction) (s : Option Stopped) → breaks s ≡ true → HasWords (stopped_first d s)
 unfolding stopped_first first_text
-stop_words d None b e = absurd (cc)
-stop_words side.Left (Some s) b e = absurd (cc)
-stop_words side.Right (Some s) b e = absurd (cc)
+stop_words d s b e = grind arith
 
 broke_before : (s : Option Stopped) (offset : ℕ) → is_stopped_before s offset ≡ true → breaks s ≡ true
 broke_before s offset b = grind arith
@@ -41,22 +36,11 @@ broke_before s offset b = grind arith
 -- of a side whose session is to blame, its transport is told if it broke the protocol before
 sooner_words : (d : Direction) (s : Option Stopped) (offset : ℕ) (line : List ℕ) (sooner : Bool) → is_stopped_before s offset ≡ sooner
     → HasWords line → HasWords (if sooner then stopped_first d s else line)
-sooner_words d s offset line true e w = stop_words d s (broke_before s offset e)
-sooner_words d s offset line false e w = w
+sooner_words d s offset line sooner e w = grind (arith, stop_words, broke_before)
 
 unjudged_words : (why : Unjudged) → HasWords (unjudged_line why)
 unfolding unjudged_line unjudged_text
-unjudged_words Many e = absurd (cc)
-unjudged_words (Transport stop.NoOpening) e = absurd (cc)
-unjudged_words (Transport stop.OtherClass) e = absurd (cc)
-unjudged_words (Transport stop.MoreConnections) e = absurd (cc)
-unjudged_words (Transport stop.Refused) e = absurd (cc)
-unjudged_words (Transport (stop.BadPacket fault)) e = absurd (cc)
-unjudged_words (Transport (stop.BadUnit fault)) e = absurd (cc)
-unjudged_words (Transport stop.UnexpectedUnit) e = absurd (cc)
-unjudged_words (Transport stop.WrongForm) e = absurd (cc)
-unjudged_words (Transport stop.NothingToAnswer) e = absurd (cc)
-unjudged_words (Transport stop.TsduTooLong) e = absurd (cc)
+unjudged_words why e = grind arith
 
 -- ---- a side that is to blame
 
@@ -76,28 +60,13 @@ side_words : (d : Direction) (f : Finding) (count offset : ℕ) (stands : Stands
     → (broke_session f || breaks stopped) ≡ true → (broke_session f ≡ true → reference ≡ None → ⊥)
     → HasWords (connection_first d stopped
     (connection_by false reference (broke_session f) refused unanswered (told_by f count offset stands by)))
-side_words d (Broke i) count offset stands by stopped None refused unanswered h n = absurd (n refl refl)
-side_words d (Broke i) count offset stands by stopped (Some r) refused unanswered h n =
-    sooner_words d stopped offset (broke_first d offset by) (is_stopped_before stopped offset) refl (broke_words d offset by)
-side_words d (Left i) count offset stands by stopped None refused unanswered h n = absurd (n refl refl)
-side_words d (Left i) count offset stands by stopped (Some r) refused unanswered h n =
-    sooner_words d stopped offset (left_first_line d offset by) (is_stopped_before stopped offset) refl (left_words d offset by)
-side_words d Kept count offset stands by stopped None refused unanswered h n = stop_words d stopped h
-side_words d Kept count offset stands by stopped (Some r) true unanswered h n = stop_words d stopped h
-side_words d Kept count offset stands by stopped (Some r) false true h n = stop_words d stopped h
-side_words d Kept count offset stands by stopped (Some r) false false h n = stop_words d stopped h
-side_words d TooMany count offset stands by stopped None refused unanswered h n = stop_words d stopped h
-side_words d TooMany count offset stands by stopped (Some r) true unanswered h n = stop_words d stopped h
-side_words d TooMany count offset stands by stopped (Some r) false true h n = stop_words d stopped h
-side_words d TooMany count offset stands by stopped (Some r) false false h n = stop_words d stopped h
+side_words d f count offset stands by stopped reference refused unanswered h n =
+    grind (arith, sooner_words, broke_words, left_words, stop_words)
 
 -- ---- the last line
 
 kept_words : (v : Verdict) (keep : Bool) (left right : Option Unjudged) → HasWords (line_by v (kept_outcome keep left right))
-kept_words v false left right = unjudged_words Many
-kept_words v true (Some why) right = unjudged_words why
-kept_words v true None (Some why) = unjudged_words why
-kept_words v true None None = λ e. absurd (cc)
+kept_words v keep left right = grind (arith, unjudged_words)
 
 -- the outcome of a capture that does not begin in the middle
 judged_words : (c : Capture) (first : Option Direction) (l r : Facts) (v : Verdict) → AreFacts side.Left c l → AreFacts side.Right c r

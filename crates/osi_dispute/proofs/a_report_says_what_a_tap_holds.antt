@@ -50,8 +50,7 @@ tells_as d j own other t r dropped blamed refused opened h e g b f o = grind ari
 pub more_pairs : (ss : Sessions) (n : ℕ) (ps : List Pair) (p : Pair) → ArePairs ss n ps → IsPairOf (numbered (n + length ps) ss) p
     → ArePairs ss n (ps ++ p ∷ [])
 more_pairs ss n [] p h k = (grind arith, tt)
-more_pairs ss n (q ∷ ps) p h k =
-    (h.0, more_pairs ss (n + 1) ps p h.1 (grind arith))
+more_pairs ss n (q ∷ ps) p h k = grind (arith, more_pairs ss (n + 1) ps p h.1 (grind arith))
 
 -- ---- what is found of a number
 

@@ -87,14 +87,10 @@ one_known d us said (Broke i) (Broke j) m n b e h k =
       rule = λ t. both_broke d us said i m n b e h (grind arith);
       sessions = λ t. cc;
     }
-one_known d us said (Broke i) (Left j) m n b e h k =
-    let same = one_place (begin_of d) us said i j h.1.strays k.1.strays in
-    absurd (grind (arith, left_broken, one_element))
+one_known d us said (Broke i) (Left j) m n b e h k = search (arith, one_place, left_broken, one_element)
 one_known d us said (Broke i) TooMany m n b e h k = absurd (no_crowd (begin_of d) us said i h.1.strays h.1.few k)
 one_known d us said (Left i) Kept m n b e h k = absurd (never_strays (begin_of d) us said i k.0 h.1.strays)
-one_known d us said (Left i) (Broke j) m n b e h k =
-    let same = one_place (begin_of d) us said i j h.1.strays k.1.strays in
-    absurd (grind (arith, left_broken, one_element))
+one_known d us said (Left i) (Broke j) m n b e h k = search (arith, one_place, left_broken, one_element)
 one_known d us said (Left i) (Left j) m n b e h k =
     let same = one_place (begin_of d) us said i j h.1.strays k.1.strays in
     record {

@@ -1,19 +1,13 @@
 -- A counter that takes one octet of a line after the other comes to the number of digits on it, blanks and a comment left out.
 -- For `digits_on` and `counted`.
-use Rattle.osi_dispute.proofs.Vocabulary.{◌≡◌, ◌∙◌, refl, ap, ℕ, Bool, true, false, cond, not, List, [], ◌∷◌, length, arith, ◌+◌, ◌==◌}
-use Rattle.osi_dispute.proofs.Vocabulary.{filter, inl, inr, before_first, eqb_tells, is_comment_sign, is_blank, digits_on, digits_left}
+use Rattle.osi_dispute.proofs.Vocabulary.{◌≡◌, ◌∙◌, ap, ℕ, Bool, true, false, cond, not, List, ◌∷◌, length, arith, ◌+◌, ◌==◌, filter, inl}
+use Rattle.osi_dispute.proofs.Vocabulary.{inr, before_first, eqb_tells, is_comment_sign, is_blank, digits_on, digits_left}
 
 kept : (c : ℕ) (line : List ℕ) → is_comment_sign c ≡ false → before_first is_comment_sign (c ∷ line) ≡ c ∷ before_first is_comment_sign line
 kept c line h = grind arith
 
-cut : (c : ℕ) (line : List ℕ) → is_comment_sign c ≡ true → before_first is_comment_sign (c ∷ line) ≡ []
-cut c line h = rw h refl
-
 other : (a b : ℕ) → (a ≡ b → ⊥) → (a == b) ≡ false
 other a b h = elim (eqb_tells a b) [ inl same ↦ absurd (h same.1) | inr differ ↦ differ.0 ]
-
-same_as : (a b : ℕ) → a ≡ b → (a == b) ≡ true
-same_as a b e = elim (eqb_tells a b) [ inl same ↦ same.0 | inr differ ↦ absurd (differ.1 e) ]
 
 abbrev digits_in : List ℕ → List ℕ
 digits_in line = filter (λ c. not (is_blank c)) (before_first is_comment_sign line)

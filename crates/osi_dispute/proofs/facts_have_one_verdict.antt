@@ -1,10 +1,9 @@
 -- Two verdicts on one capture are one: for the laws.
 use Rattle.std.proofs.Common.{arith}
 use Rattle.osi_dispute.proofs.Vocabulary.{◌≡◌, ◌∙◌, ◌⊎◌, inl, inr, refl, sym, ap, subst, ℕ, Bool, true, false, List, length, Option, Some}
-use Rattle.osi_dispute.proofs.Vocabulary.{None, option_map, ◌||◌, Ending, offset_of, one_cut, Direction, Finding, Kept, Broke, Left}
-use Rattle.osi_dispute.proofs.Vocabulary.{TooMany, Reading, Break, Stands, Stopped, Capture, other, stream, broke_session, met_before}
-use Rattle.osi_dispute.proofs.Vocabulary.{opening, reference_in, Sent, last_packet, stage_from, hasty_from, IsReadIn, IsReferenceIn}
-use Rattle.osi_dispute.proofs.Vocabulary.{IsStoppedIn, IsPlaceIn, IsCountIn, IsFirstIn, stop_in, or_hasty, Verdict, Determined, Facts}
+use Rattle.osi_dispute.proofs.Vocabulary.{None, option_map, ◌||◌, offset_of, one_cut, Direction, Finding, Kept, Broke, Left, TooMany}
+use Rattle.osi_dispute.proofs.Vocabulary.{Reading, Break, Stands, Stopped, Capture, other, stream, broke_session, Sent, last_packet}
+use Rattle.osi_dispute.proofs.Vocabulary.{IsReadIn, IsReferenceIn, IsStoppedIn, IsPlaceIn, IsCountIn, IsFirstIn, Verdict, Determined, Facts}
 use Rattle.osi_dispute.proofs.Vocabulary.{AreFacts, told_by, told_of, is_refused, is_unanswered, connection_by, left_first, begins_late}
 use Rattle.osi_dispute.proofs.Vocabulary.{verdict_by, StandsIn, IsRuledIn, IsKeptStanding, one_judged, one_list, one_stands, Session}
 use Rattle.osi_dispute.proofs.Vocabulary.{IsJudgement, IsNarrow, IsWide}
@@ -19,19 +18,10 @@ use Rattle.osi_dispute.proofs.a_text_is_one_capture.{one_text}
 -- ---- of one side
 
 one_reading : (d : Direction) (c : Capture) (r q : Reading) → IsReadIn d c r → IsReadIn d c q → r ≡ q
-one_reading d c r q h k =
-    let same = (one_cut (stream d c) h.units k.units h.ending k.ending h.cut k.cut).0 in
-    grind arith
+one_reading d c r q h k = grind (arith, one_cut (stream d c) h.units k.units h.ending k.ending h.cut k.cut)
 
 one_reference : (d : Direction) (c : Capture) (r q : Option ℕ) → IsReferenceIn d c r → IsReferenceIn d c q → r ≡ q
-one_reference d c r q h k =
-    let same = (one_cut (stream d c) h.units k.units h.ending k.ending h.cut k.cut).0 in
-    h.given ∙ ap (reference_in d) same ∙ sym k.given
-
-abbrev stop_at : Direction → Capture → (units others : List (List ℕ)) → Ending → Option Stopped
-stop_at d c units others ending =
-    or_hasty (option_map offset_of (hasty_from d (met_before d c others) opening None 0 units))
-    (stop_in (stage_from d (met_before d c others) opening 0 units) ending)
+one_reference d c r q h k = grind (arith, one_cut (stream d c) h.units k.units h.ending k.ending h.cut k.cut)
 
 one_stop : (d : Direction) (c : Capture) (r q : Option Stopped) → IsStoppedIn d c r → IsStoppedIn d c q → r ≡ q
 one_stop d c r q h k =
@@ -49,14 +39,9 @@ one_packet n m i x y e h k = grind arith
 one_told : HasOneList → (d : Direction) (c : Capture) (f : Finding) (n m o p : ℕ) (s : Stands) (b e : Break)
     → (f ≡ Kept → IsCountIn d c n) → (f ≡ Kept → IsCountIn d c m) → IsPlaceIn d c f o → IsPlaceIn d c f p
     → (broke_session f ≡ true → b ≡ e) → told_by f n o s b ≡ told_by f m p s e
-one_told one d c Kept n m o p s b e h k x y r =
-    let count = one_count one d c n m (h refl) (k refl) in λ i. told.Kept (count i) s
-one_told one d c (Broke j) n m o p s b e h k x y r =
-    let place = one_packet o p j x.mine y.mine (one d c x.mine y.mine x.is_mine y.is_mine) x.place y.place in
-    let same = r refl in λ i. told.Broke (place i) (same i)
-one_told one d c (Left j) n m o p s b e h k x y r =
-    let place = one_packet o p j x.mine y.mine (one d c x.mine y.mine x.is_mine y.is_mine) x.place y.place in
-    let same = r refl in λ i. told.Left (place i) (same i)
+one_told one d c Kept n m o p s b e h k x y r = grind (arith, one_count)
+one_told one d c (Broke j) n m o p s b e h k x y r = search (arith, one_packet)
+one_told one d c (Left j) n m o p s b e h k x y r = search (arith, one_packet)
 one_told one d c TooMany n m o p s b e h k x y r = refl
 
 -- so of two facts of a side all is the same that is told, but for the state of a session that kept the protocol
@@ -163,18 +148,11 @@ one_verdict one place only c v w a b = one_determined one place only c v w a b
 
 one_narrow : HasOneList → HasOnePlace → HasOneFirst → (c : Capture) (lines others : List ℕ) (status other : ℕ)
     → IsNarrow c lines status → IsNarrow c others other ⊎ IsWide c others other → (lines ≡ others) × (status ≡ other)
-one_narrow has place only c lines others status other one (inl two) = grind (arith, one_verdict)
-one_narrow has place only c lines others status other one (inr two) =
-    let e = one_verdict has place only c one.judged.verdict two.verdict one.judged.judged.determined two.judged.determined in
-    absurd (grind arith)
+one_narrow has place only c lines others status other one h = grind (arith, one_verdict)
 
 one_wide : HasOneList → HasOnePlace → HasOneFirst → (c : Capture) (lines others : List ℕ) (status other : ℕ)
     → IsWide c lines status → IsNarrow c others other ⊎ IsWide c others other → (lines ≡ others) × (status ≡ other)
-one_wide has place only c lines others status other one (inl two) =
-    let e = one_verdict has place only c one.verdict two.judged.verdict one.judged.determined two.judged.judged.determined in
-    absurd (grind arith)
-one_wide has place only c lines others status other one (inr two) =
-    grind (arith, one_report)
+one_wide has place only c lines others status other one h = grind (arith, one_verdict, one_report)
 
 one_of_both : HasOneList → HasOnePlace → HasOneFirst → (c : Capture) (lines others : List ℕ) (status other : ℕ)
     → IsNarrow c lines status ⊎ IsWide c lines status → IsNarrow c others other ⊎ IsWide c others other

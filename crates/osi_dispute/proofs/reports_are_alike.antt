@@ -1,9 +1,9 @@
 -- What a capture comes to has one report: for the law that a text has one judgement.
 use Rattle.std.proofs.Common.{arith}
-use Rattle.osi_dispute.proofs.Vocabulary.{◌≡◌, ◌∙◌, refl, sym, ap, subst, ℕ, ◌+◌, List, [], ◌∷◌, length, Option, Some, None, Direction}
-use Rattle.osi_dispute.proofs.Vocabulary.{Break, Stands, foremost, Watched, StandsBehind, one_stands, First, Layer, Mark, Joined, Sessions}
-use Rattle.osi_dispute.proofs.Vocabulary.{spoken, numbered, place_in, State, one_first, Last, Pair, Told, Connection, IsSession, Strayed}
-use Rattle.osi_dispute.proofs.Vocabulary.{SaysSo, Tells, IsPair, IsPairOf, ArePairs, IsFirstLast, IsLast, Report, IsReport}
+use Rattle.osi_dispute.proofs.Vocabulary.{◌≡◌, ◌∙◌, refl, sym, ap, subst, ℕ, ◌+◌, List, [], ◌∷◌, length, Option, Some, Direction, Break}
+use Rattle.osi_dispute.proofs.Vocabulary.{Stands, foremost, Watched, StandsBehind, one_stands, First, Layer, Mark, Joined, Sessions, spoken}
+use Rattle.osi_dispute.proofs.Vocabulary.{place_in, State, one_first, Last, Pair, Told, Connection, IsSession, Strayed, SaysSo, Tells}
+use Rattle.osi_dispute.proofs.Vocabulary.{IsPair, IsPairOf, ArePairs, IsFirstLast, IsLast, Report, IsReport}
 use Rattle.osi_judge.specs.declared.directions.Direction.TheVariants as side
 use Rattle.osi_judge.specs.declared.findings.Finding.TheVariants as finding
 use Rattle.osi_tap.specs.declared.marks.Layer.TheVariants as layer
@@ -23,9 +23,7 @@ same_session d j w v h k = one_session d w v (told (spoken d j)) h.begins k.begi
 
 kept_alike : (w v : Watched) (s t : Stands) → w.heard ≡ v.heard → w.members ≡ v.members → StandsBehind w.heard (foremost w.members) s
     → StandsBehind v.heard (foremost v.members) t → s ≡ t
-kept_alike w v s t u m h k =
-    one_stands v.heard (foremost v.members) s t
-    (grind arith) k
+kept_alike w v s t u m h k = grind (arith, one_stands)
 
 place_alike : (d : Direction) (j : Joined) (w v : Watched) (i l o p : ℕ) (b e : Break) → i ≡ l → Strayed d j w i o b → Strayed d j v l p e
     → o ≡ p
@@ -33,48 +31,28 @@ place_alike d j w v i l o p b e same h k = some_same o p (sym h.place ∙ ap (pl
 
 one_told : (d : Direction) (j : Joined) (w v : Watched) (t u : Told) → IsSession d j w → IsSession d j v → SaysSo d j w t → SaysSo d j v u
     → t ≡ u
-one_told d j w v (what.Kept n s) (what.Kept m r) h k (f, a, x) (g, b, y) =
-    let count = a ∙ sym b in
-    grind (arith, kept_alike, same_session d j w v h k)
-one_told d j w v (what.Broke o b) (what.Broke p e) h k (i, f, x) (l, g, y) =
-    let one = same_session d j w v h k in
-    grind (arith, place_alike)
-one_told d j w v (what.Left o b) (what.Left p e) h k (i, f, x) (l, g, y) =
-    let one = same_session d j w v h k in
-    grind (arith, place_alike)
+one_told d j w v (what.Kept n s) (what.Kept m r) h k (f, a, x) (g, b, y) = grind (arith, kept_alike, same_session d j w v h k)
+one_told d j w v (what.Broke o b) (what.Broke p e) h k (i, f, x) (l, g, y) = grind (arith, place_alike, same_session d j w v h k)
+one_told d j w v (what.Left o b) (what.Left p e) h k (i, f, x) (l, g, y) = grind (arith, place_alike, same_session d j w v h k)
 one_told d j w v what.TooMany what.TooMany h k f g = refl
-one_told d j w v (what.Kept n s) (what.Broke p e) h k (f, a, x) (l, g, y) =
-    let same = sym f ∙ (same_session d j w v h k).found ∙ g in absurd (cc)
-one_told d j w v (what.Kept n s) (what.Left p e) h k (f, a, x) (l, g, y) =
-    let same = sym f ∙ (same_session d j w v h k).found ∙ g in absurd (cc)
-one_told d j w v (what.Kept n s) what.TooMany h k (f, a, x) g =
-    let same = sym f ∙ (same_session d j w v h k).found ∙ g in absurd (cc)
-one_told d j w v (what.Broke o b) (what.Kept m r) h k (i, f, x) (g, c, y) =
-    let same = sym f ∙ (same_session d j w v h k).found ∙ g in absurd (cc)
-one_told d j w v (what.Broke o b) (what.Left p e) h k (i, f, x) (l, g, y) =
-    let same = sym f ∙ (same_session d j w v h k).found ∙ g in absurd (cc)
-one_told d j w v (what.Broke o b) what.TooMany h k (i, f, x) g =
-    let same = sym f ∙ (same_session d j w v h k).found ∙ g in absurd (cc)
-one_told d j w v (what.Left o b) (what.Kept m r) h k (i, f, x) (g, c, y) =
-    let same = sym f ∙ (same_session d j w v h k).found ∙ g in absurd (cc)
-one_told d j w v (what.Left o b) (what.Broke p e) h k (i, f, x) (l, g, y) =
-    let same = sym f ∙ (same_session d j w v h k).found ∙ g in absurd (cc)
-one_told d j w v (what.Left o b) what.TooMany h k (i, f, x) g =
-    let same = sym f ∙ (same_session d j w v h k).found ∙ g in absurd (cc)
-one_told d j w v what.TooMany (what.Kept m r) h k f (g, c, y) =
-    let same = sym f ∙ (same_session d j w v h k).found ∙ g in absurd (cc)
-one_told d j w v what.TooMany (what.Broke p e) h k f (l, g, y) =
-    let same = sym f ∙ (same_session d j w v h k).found ∙ g in absurd (cc)
-one_told d j w v what.TooMany (what.Left p e) h k f (l, g, y) =
-    let same = sym f ∙ (same_session d j w v h k).found ∙ g in absurd (cc)
+one_told d j w v (what.Kept n s) (what.Broke p e) h k (f, a, x) (l, g, y) = grind (arith, same_session d j w v h k)
+one_told d j w v (what.Kept n s) (what.Left p e) h k (f, a, x) (l, g, y) = grind (arith, same_session d j w v h k)
+one_told d j w v (what.Kept n s) what.TooMany h k (f, a, x) g = grind (arith, same_session d j w v h k)
+one_told d j w v (what.Broke o b) (what.Kept m r) h k (i, f, x) (g, c, y) = grind (arith, same_session d j w v h k)
+one_told d j w v (what.Broke o b) (what.Left p e) h k (i, f, x) (l, g, y) = grind (arith, same_session d j w v h k)
+one_told d j w v (what.Broke o b) what.TooMany h k (i, f, x) g = grind (arith, same_session d j w v h k)
+one_told d j w v (what.Left o b) (what.Kept m r) h k (i, f, x) (g, c, y) = grind (arith, same_session d j w v h k)
+one_told d j w v (what.Left o b) (what.Broke p e) h k (i, f, x) (l, g, y) = grind (arith, same_session d j w v h k)
+one_told d j w v (what.Left o b) what.TooMany h k (i, f, x) g = grind (arith, same_session d j w v h k)
+one_told d j w v what.TooMany (what.Kept m r) h k f (g, c, y) = grind (arith, same_session d j w v h k)
+one_told d j w v what.TooMany (what.Broke p e) h k f (l, g, y) = grind (arith, same_session d j w v h k)
+one_told d j w v what.TooMany (what.Left p e) h k f (l, g, y) = grind (arith, same_session d j w v h k)
 
 -- ---- of a connection
 
 one_connection : (d : Direction) (j : Joined) (w x v y : Watched) (c e : Connection) → IsSession d j w → IsSession d j v
     → x.finding ≡ y.finding → Tells d j w x c → Tells d j v y e → c ≡ e
-one_connection d j w x v y c e h k beside a b =
-    let own = (same_session d j w v h k).found in
-    grind (arith, one_told)
+one_connection d j w x v y c e h k beside a b = grind (arith, same_session, one_told)
 
 one_pair : (j : Joined) (p q : Pair) → IsPair j p → IsPair j q → p ≡ q
 one_pair j p q h k =
@@ -87,14 +65,11 @@ one_pair j p q h k =
     grind arith
 
 one_pair_of : (o : Option Joined) (p q : Pair) → IsPairOf o p → IsPairOf o q → p ≡ q
-one_pair_of None p q h k = h ∙ sym k
-one_pair_of (Some j) p q h k = one_pair j p q h k
+one_pair_of o p q h k = grind (arith, one_pair)
 
 all_pairs : (ss : Sessions) (n : ℕ) (ps qs : List Pair) → length ps ≡ length qs → ArePairs ss n ps → ArePairs ss n qs → ps ≡ qs
 all_pairs ss n [] [] e h k = refl
-all_pairs ss n (p ∷ ps) (q ∷ qs) e h k =
-    let first = one_pair_of (numbered n ss) p q h.0 k.0 in
-    grind (arith, all_pairs ss (n + 1) ps qs (grind arith) h.1 k.1)
+all_pairs ss n (p ∷ ps) (q ∷ qs) e h k = grind (arith, one_pair_of, all_pairs ss (n + 1) ps qs (grind arith) h.1 k.1)
 all_pairs ss n [] (q ∷ qs) e h k = absurd (cc)
 all_pairs ss n (p ∷ ps) [] e h k = absurd (cc)
 
@@ -110,12 +85,10 @@ same_mark : (o : Option Mark) (m k : Mark) → o ≡ Some m → o ≡ Some k →
 same_mark o m k e f = let both : Some m ≡ Some k = sym e ∙ f in cc
 
 one_of_first : (l : Layer) (s : State) (f : First) (a b : Last) → IsFirstLast l s f a → IsFirstLast l s f b → a ≡ b
-one_of_first layer.Session s f a b h k = grind (arith, same_joined, one_told, same_last, some_same)
-one_of_first layer.Transport s f a b h k = grind (arith, same_mark)
+one_of_first l s f a b h k = search (arith, same_joined, one_told, same_last, some_same, same_mark)
 
 one_last : (s : State) (ps : List Pair) (a b : Last) → IsLast s ps a → IsLast s ps b → a ≡ b
-one_last s ps a b h k =
-    grind (arith, one_of_first, one_first)
+one_last s ps a b h k = grind (arith, one_of_first, one_first)
 
 -- ---- of a report
 

@@ -1,10 +1,10 @@
 -- What is told of a side is told by what a judge keeps of it, and that is so of the capture: for the functions of `verdicts`.
 use Rattle.osi_dispute.proofs.Vocabulary.{◌≡◌, ◌∙◌, sym, ap, subst, ℕ, Bool, true, false, List, Option, Some, None, arith, seen_called}
-use Rattle.osi_dispute.proofs.Vocabulary.{Direction, Finding, Kept, Broke, Left, TooMany, Judge, Reading, Break, Stands, Stopped, Capture}
-use Rattle.osi_dispute.proofs.Vocabulary.{Tapped, reading_of, stopped_of, Judged, judged, half_of, first_in, Taps, FirstIs, Watched, Keeps}
-use Rattle.osi_dispute.proofs.Vocabulary.{StandsFor, broke_session, is_standing, known_in, is_first_in, Told, Connection, Silent, Refused}
-use Rattle.osi_dispute.proofs.Vocabulary.{Unanswered, Session, Account, Outcome, told_by, is_refused, is_unanswered, is_dropped, IsFirstOf}
-use Rattle.osi_dispute.proofs.Vocabulary.{StandsIn, facts_of, StandsBy, IsToldOf, Connects, Accounts, outcome_in, Knows}
+use Rattle.osi_dispute.proofs.Vocabulary.{Direction, Finding, Kept, Broke, Left, TooMany, Judge, Break, Stands, Capture, Tapped, stopped_of}
+use Rattle.osi_dispute.proofs.Vocabulary.{Judged, judged, half_of, first_in, Taps, FirstIs, Watched, Keeps, StandsFor, broke_session}
+use Rattle.osi_dispute.proofs.Vocabulary.{is_standing, known_in, is_first_in, Told, Connection, Silent, Refused, Unanswered, Session}
+use Rattle.osi_dispute.proofs.Vocabulary.{Account, Outcome, told_by, is_refused, is_unanswered, is_dropped, IsFirstOf, StandsIn, facts_of}
+use Rattle.osi_dispute.proofs.Vocabulary.{StandsBy, IsToldOf, Connects, Accounts, outcome_in, Knows}
 use Rattle.osi_judge.specs.declared.directions.Direction.TheVariants as side
 use Rattle.osi_judge.specs.Explaining.{Told as ToldOf}
 use Rattle.osi_dispute.specs.declared.verdicts.Told.TheVariants as told
@@ -81,29 +81,11 @@ unanswered t right r e b f a = record {
   standing = tt;
 }
 
-pub blamed : (t right : Tapped) (r : ℕ) (c : Connection) (x : Told) → t.line.reference ≡ Some r → broke_session t.side.finding ≡ true
-    → c ≡ Session r x → IsToldOf t x → Connects false t right c
-blamed t right r c x e b q h = subst (λ (y : Connection). Connects false t right y) (sym q) (grind arith)
-
-pub answered : (t right : Tapped) (r : ℕ) (c : Connection) (x : Told) → t.line.reference ≡ Some r → broke_session t.side.finding ≡ false
-    → is_refused (stopped_of right) ≡ false
-    → is_unanswered right.line.reference (stopped_of right) ≡ false → c ≡ Session r x → IsToldOf t x → Connects false t right c
-answered t right r c x e b f a q h = grind arith
-
--- ---- of a side
-
-pub accounted : (d : Bool) (t right : Tapped) (r : Reading) (c : Connection) (s : Option Stopped) → r ≡ reading_of t → s ≡ stopped_of t
-    → Connects d t right c
-    → Accounts d t right (record { reading = r; connection = c; stopped = s })
-accounted d t right r c s e f k = grind arith
-
 -- ---- of the capture
 
 first_known : (first : Option Direction) (j : Judged) (c : Capture) (s u : Stands) → FirstIs first j c
     → IsFirstOf first (facts_of j.left s) (facts_of j.right u)
-first_known None j c s u h = h
-first_known (Some side.Left) j c s u h = h.1
-first_known (Some side.Right) j c s u h = h.1
+first_known first j c s u h = grind arith
 
 stands_session : (d : Direction) (c : Capture) (j : Judged) (r : ℕ) (x : Told) → Taps j c → StandsBy (half_of d j) (Session r x)
     → StandsIn d c (Session r x)

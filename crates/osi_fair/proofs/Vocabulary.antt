@@ -1,6 +1,6 @@
 -- What the proofs of this crate take from the library, from the crates below and from its own definitions.
-pub use Rattle.std.proofs.Common.{Bool, Err, IfOk, IfSome, IsSome, List, None, Ok, Option, Result, Some, [], ap, append_assoc, arith, drop}
-pub use Rattle.std.proofs.Common.{false, if◌then◌else◌, inl, inr, is_some, length, length-drop, length-take, map, min, nat_le, nat_lt, not}
+pub use Rattle.std.proofs.Common.{Bool, Err, IfSome, IsSome, List, None, Ok, Option, Result, Some, [], ap, append_assoc, arith, drop, false}
+pub use Rattle.std.proofs.Common.{if◌then◌else◌, inl, inr, is_some, length, length-drop, length-take, map, min, nat_le, nat_lt, not}
 pub use Rattle.std.proofs.Common.{option_map, position, refl, set, slice_get, slice_set, subst, suc, sym, take, true, zero, ℕ, ◌%◌, ◌&&◌}
 pub use Rattle.std.proofs.Common.{◌++◌, ◌+◌, ◌-◌, ◌<◌, ◌==◌, ◌^◌, ◌||◌, ◌∙◌, ◌∷◌, ◌≡◌, ◌≢◌, ◌≤◌, ◌⊎◌}
 pub use Rattle.std.proofs.Math.Nat.{pow-le-pow_right}
@@ -24,7 +24,7 @@ pub use Rattle.osi_tpdu.specs.Value.{Connect, HasFieldsInRange, IsConnect, Value
 pub use Rattle.osi_tpdu.specs.Value.{disconnect, disconnected, error, request}
 pub use Rattle.osi_tpdu.specs.Writing.{Fits, written}
 pub use Rattle.osi_tpdu.specs.declared.faults.TpduFault.{TpduFault}
-pub use Rattle.osi_class.proofs.between.parts_stay_in_order.{at_ok, at_some, choose_ok, choose_some}
+pub use Rattle.osi_class.proofs.between.parts_stay_in_order.{at_ok, at_some, choose_some}
 pub use Rattle.osi_class.proofs.giving.a_link_gives_finitely_many_units.{drained_moves}
 pub use Rattle.osi_class.specs.Ends.{Ends}
 pub use Rattle.osi_class.specs.Flow.{Flow, ack_number, after_acked, steps_before}
@@ -32,7 +32,7 @@ pub use Rattle.osi_class.specs.Giving.{Drained, all_given, drained_by, drained_w
 pub use Rattle.osi_class.specs.Limits.{longest_tsdu}
 pub use Rattle.osi_class.specs.Link.{Given, Hands, Standing, ack, fresh_two, given_part, next, next_by, part0, part2, sent_flow, taken}
 pub use Rattle.osi_class.specs.Link.{taken_by, taken_flow, two_standing, unit_of, with_tsdu}
-pub use Rattle.osi_class.specs.Negotiation.{Selection, accept, lists, proposes, refuse, selected_by, selected_size}
+pub use Rattle.osi_class.specs.Negotiation.{Selection, accept, proposes, refuse, selected_by, selected_size}
 pub use Rattle.osi_class.specs.Runs.{Move, Moves, MovesAlong, give_out, hand_in, hand_out, take_in}
 pub use Rattle.osi_class.specs.Tsdus.{Part, give}
 pub use Rattle.osi_class.specs.declared.faults.LinkFault.{LinkFault}
@@ -50,11 +50,11 @@ pub use Rattle.osi_carrier.proofs.stream.a_carrier_does_what_its_packets_do.{bac
 pub use Rattle.osi_carrier.specs.Calls.{asks, class_error, closed_on, closed_with, closes as closes_in, ended_by, fresh_state, link_of}
 pub use Rattle.osi_carrier.specs.Calls.{may_connect, open_link, sent, sent_all}
 pub use Rattle.osi_carrier.specs.Happenings.{Happening}
-pub use Rattle.osi_carrier.specs.Negotiation.{acceptance, agreed_size, alternatives, confirmed, opened_link, proposal, proposal_by}
-pub use Rattle.osi_carrier.specs.Negotiation.{proposes_zero, unit_octets}
+pub use Rattle.osi_carrier.specs.Negotiation.{acceptance, agreed_size, confirmed, opened_link, proposal, proposal_by, proposes_zero}
+pub use Rattle.osi_carrier.specs.Negotiation.{unit_octets}
 pub use Rattle.osi_carrier.specs.Orderly.{AreUpTo, IsOrderly, RiseFrom, connection_of}
-pub use Rattle.osi_carrier.specs.Packets.{Carrying, Feeds, FindsNoMemory, FindsNoRoom, Goes, Refuses, RunsDry, RunsOut, Starves}
-pub use Rattle.osi_carrier.specs.Packets.{StopsBehind, TakesPackets, acts_by, waits}
+pub use Rattle.osi_carrier.specs.Packets.{Carrying, Feeds, FindsNoMemory, FindsNoRoom, Goes, RunsDry, RunsOut, Starves, StopsBehind}
+pub use Rattle.osi_carrier.specs.Packets.{TakesPackets, acts_by, waits}
 pub use Rattle.osi_carrier.specs.Pump.{pumped, written_by}
 pub use Rattle.osi_carrier.specs.React.{accepts, answers as answers_by, answers_request, before_class, breaks as breaks_in, denies}
 pub use Rattle.osi_carrier.specs.React.{handed_out, has_peer, in_class, in_two, in_zero, is_full, leaves, opens, react, react_by, reacts}
@@ -77,11 +77,10 @@ pub use Rattle.osi_rules.specs.Sides.{begins, is_closed, is_closing, is_free, is
 pub use Rattle.osi_rules.specs.Sides.{is_silent, other, own, seen, theirs, uses}
 pub use Rattle.osi_rules.specs.Traffic.{Outcome, State as Traffic, asked_by, asks_by, asks_kept, asks_of, at_found, at_place, begun_after}
 pub use Rattle.osi_rules.specs.Traffic.{class_for, class_of, closing_phase, connection_after, course_after, course_after_none}
-pub use Rattle.osi_rules.specs.Traffic.{course_begins, found, found_on, fresh, half_after, has_broken, has_erred, has_place, in_doubt}
-pub use Rattle.osi_rules.specs.Traffic.{is_not_judged, is_report, is_stopped, is_stray, judged_on, none_told, noted, offer_of, one_told}
-pub use Rattle.osi_rules.specs.Traffic.{packet_begins, placed, reached, refused, refused_reach, request_tests, route, route_in, route_two}
-pub use Rattle.osi_rules.specs.Traffic.{route_zero, routed, sent_on, silent_half, sized, takes, unnamed, unnamed_by, unnamed_told}
-pub use Rattle.osi_rules.specs.Traffic.{uses_source}
+pub use Rattle.osi_rules.specs.Traffic.{course_begins, found, found_on, fresh, half_after, has_broken, has_erred, in_doubt, is_not_judged}
+pub use Rattle.osi_rules.specs.Traffic.{is_stopped, is_stray, judged_on, none_told, noted, offer_of, one_told, packet_begins, placed}
+pub use Rattle.osi_rules.specs.Traffic.{reached, refused, refused_reach, request_tests, route, route_in, route_two, route_zero, routed}
+pub use Rattle.osi_rules.specs.Traffic.{sent_on, silent_half, sized, takes, unnamed_told, uses_source}
 pub use Rattle.osi_rules.specs.declared.connections.Connection.{Connection}
 pub use Rattle.osi_rules.specs.declared.connections.Offer.{Offer}
 pub use Rattle.osi_rules.specs.declared.courses.Course.{Course}

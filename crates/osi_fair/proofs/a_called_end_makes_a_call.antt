@@ -5,8 +5,8 @@ use Rattle.osi_fair.proofs.Vocabulary.{sym, true, ℕ, ◌++◌, ◌∙◌, ◌�
 use Rattle.osi_fair.proofs.Vocabulary.{longest_tsdu, Standing, with_tsdu, Class, Two, Local, orderly_closed, orderly_ended, orderly_sent}
 use Rattle.osi_fair.proofs.Vocabulary.{orderly_sent_all, put_other, put_here, closed_with, closes_in, ended_by, open_link, sent, sent_all}
 use Rattle.osi_fair.proofs.Vocabulary.{IsOrderly, pumped, value_at, breaks, closes_call, connects, sends, sends_all, user_does, UserCall}
-use Rattle.osi_fair.proofs.Vocabulary.{asked, closing, Live, ends as ends_as, linked, EndReason, Follows, link_now, put_by, put_closed}
-use Rattle.osi_fair.proofs.Vocabulary.{put_closing, put_sent, put_together, MayCall, Whole, State}
+use Rattle.osi_fair.proofs.Vocabulary.{closing, ends as ends_as, linked, EndReason, Follows, link_now, put_by, put_closed, put_closing}
+use Rattle.osi_fair.proofs.Vocabulary.{put_sent, put_together, MayCall, Whole, State}
 use Rattle.osi_carrier.specs.Calls.{sent_on}
 use Rattle.osi_fair.proofs.small_facts_that_many_lemmas_use.{none_of}
 use Rattle.osi_fair.proofs.what_becomes_of_a_called_end.{IsCalled, Same, called_still, units_no_cc}
@@ -21,12 +21,6 @@ use Rattle.osi_fair.proofs.a_dt_of_class_zero_passes.{unlike}
 use Rattle.osi_fair.proofs.each_connection_has_its_line.{IsNoCc}
 
 -- ---- the end
-
-not_asked : (o : Option Live) (q : ℕ) (l : Standing) → o ≡ Some (linked q l) → o ≡ Some asked → ⊥
-not_asked o q l h e = cc
-
-not_closing : (o : Option Live) (q : ℕ) → o ≡ Some (closing q) → o ≡ Some asked → ⊥
-not_closing o q h e = cc
 
 pub given_same : {m n : ℕ} → n ≡ m → m ≤ n
 given_same e = omega arith

@@ -209,15 +209,10 @@ module _ (local : Local) (w : Whole) (f : Called local w) (c : IsCalled local w.
 
   request_so : (was : s.ended ≡ None) (x : Connect) (a b : Bool) → u ≡ request x → has_peer x.source s.live ≡ a → is_full s ≡ b →
       t ≡ answers_request x s → put_for u s ≡ put_for_request x s → Taken ⊎ SelectsZero
-  request_so was x true b e has full is puts = inl (denies_so was x 131 e
-      (grind arith)
-      (grind arith))
-  request_so was x false true e has full is puts = inl (denies_so was x 1 e
-      (grind arith)
-      (grind arith))
-  request_so was x false false e has full is puts = selects_so was x (selected_by x s.local) e refl
-      (grind arith)
-      (grind arith)
+  request_so was x true b e has full is puts = grind (arith, denies_so was x 131 e (grind arith) (grind arith))
+  request_so was x false true e has full is puts = grind (arith, denies_so was x 1 e (grind arith) (grind arith))
+  request_so was x false false e has full is puts =
+      grind (arith, selects_so was x (selected_by x s.local) e refl (grind arith) (grind arith))
 
   -- ---- a unit for a connection
 

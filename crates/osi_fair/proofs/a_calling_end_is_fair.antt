@@ -1,6 +1,6 @@
 -- A whole calling end is fair as long as the other side is judged, whatever classes it offers: by its stages.
 -- For the law of that name.
-use Rattle.osi_fair.proofs.Vocabulary.{[], Zero, false, inl, List, Some, subst, sym, true, ◌∙◌, ◌∷◌, ◌≡◌, ◌⊎◌, request, Value, Two, Local}
+use Rattle.osi_fair.proofs.Vocabulary.{[], Zero, false, List, Some, subst, sym, true, ◌∙◌, ◌∷◌, ◌≡◌, ◌⊎◌, request, Value, Two, Local}
 use Rattle.osi_fair.proofs.Vocabulary.{is_stopped, takes, Course, Left, Right, Kept, NotJudged, TooMany, passes, rubbish, unit as passing}
 use Rattle.osi_fair.proofs.Vocabulary.{begin, Event, HappenAlong, Happens, Whole, arith}
 use Rattle.osi_fair.proofs.a_calling_end_goes_on_in_class_zero.{zeroed_passes}
@@ -45,8 +45,7 @@ module _ (local : Local) (w : Whole) (v : Value) (rest : List Value) (j : Stands
   by_stage (waits r is none not_begun cs strays tap p o offers waiting dcs) = none_put v rest w.put e none
   by_stage (refused r is none not_begun cs strays tap done dcs u more coming are refusal too) = none_put v rest w.put e none
   by_stage (answered r is none not_begun dcs n x more coming are class has after so z) = none_put v rest w.put e none
-  by_stage (zero has z) = inl (zeroed_passes w.end w.tap v rest left
-      (grind arith)).0
+  by_stage (zero has z) = grind (arith, left, zeroed_passes w.end w.tap v rest left (grind arith))
   by_stage (known two seen has) =
       (goes local w (j.two has) v rest e begun (going_two w.tap.course two left right)).fine
 
@@ -93,8 +92,7 @@ module _ (local : Local) (w : Whole) (v : Value) (rest : List Value) (e : w.put 
   zero_by (waits r is none not_begun cs strays tap p o offers waiting dcs) = none_put v rest w.put e none
   zero_by (refused r is none not_begun cs strays tap done dcs u more coming are refusal too) = none_put v rest w.put e none
   zero_by (answered r is none not_begun dcs n x more coming are class_of has after so z) = none_put v rest w.put e none
-  zero_by (zero has z) = (zeroed_passes w.end w.tap v rest left
-      (grind arith)).0
+  zero_by (zero has z) = grind (arith, left, zeroed_passes w.end w.tap v rest left (grind arith))
   zero_by (known two seen has) = absurd (cc (sym two ∙ class))
 
 pub calling_fair_in_class_0 : (local : Local) (events : List Event) (w : Whole) (v : Value) (rest : List Value) →

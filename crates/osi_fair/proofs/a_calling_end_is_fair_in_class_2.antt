@@ -20,7 +20,7 @@ use Rattle.osi_fair.proofs.a_unit_that_is_not_judged_passes.{IsIgnored, Passed, 
 use Rattle.osi_fair.proofs.a_whole_end_takes_a_unit.{next_selects}
 use Rattle.osi_fair.proofs.a_whole_end_ends.{whole_calls, whole_takes}
 use Rattle.osi_fair.proofs.each_connection_has_its_line.{Followed, IsOwned, asking, is_tracked, of, other_begins, own_begins, stray}
-use Rattle.osi_fair.proofs.how_requests_go_on.{Stage, ended, known, zero}
+use Rattle.osi_fair.proofs.how_requests_go_on.{Stage, known}
 use Rattle.osi_fair.proofs.no_request_is_blamed.{Holds as Staged, holds_first, holds_next, is_right}
 use Rattle.osi_fair.proofs.the_end_is_judged_as_the_other_side_is.{IsMild}
 use Rattle.osi_fair.proofs.names_stay_apart_though_one_is_lost.{AreNamedApart, end_begins, side_begins}
@@ -288,5 +288,4 @@ pub gone : (local : Local) (events : List Event) (w : Whole) (n source reason : 
     w.coming ≡ disconnect n source reason user ∷ more → w.end.ended ≡ None → value_at n w.end.live ≡ None →
     is_stopped Left w.tap.course ≡ false → is_stopped Right w.tap.course ≡ false → w.tap.course.strays ≡ true
 gone local events w n source reason user more no_zero two along coming lasts none left right =
-    let j = all_joined local events (begin true local) w along (first_joined local two) in
-    grind (arith, not_selected)
+    grind (arith, not_selected, all_joined local events (begin true local) w along (first_joined local two), first_joined local two)

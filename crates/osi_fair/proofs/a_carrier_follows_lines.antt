@@ -126,9 +126,6 @@ abbrev hands_of : List (List ℕ) → List Move
 hands_of [] = []
 hands_of (tsdu ∷ tsdus) = hand_out tsdu ∷ []
 
-abbrev with_whole : Standing → List (List ℕ) → Standing
-with_whole link whole = record link { ends = record link.ends { joining = record link.ends.joining { whole = whole } } }
-
 hands_front : (old link : Standing) (unit : Value) (whole : List (List ℕ)) → link.ends.joining.whole ≡ whole → taken old unit ≡ Ok link →
     Front old (handed_out link) (take_in unit ∷ hands_of whole) (unit ∷ [])
 hands_front old link unit whole e h = grind arith

@@ -2,13 +2,12 @@
 -- For the law on a whole called end.
 use Rattle.osi_fair.proofs.Vocabulary.{arith, [], ap, Bool, false, if◌then◌else◌, List, None, Option, Some, subst, true, ℕ, ◌∙◌, ◌∷◌, ◌≡◌}
 use Rattle.osi_fair.proofs.Vocabulary.{eqb-true, not, slice_get, ◌&&◌, ◌==◌, ◌||◌, disconnected, Value, Local, first_failed, is_due}
-use Rattle.osi_fair.proofs.Vocabulary.{is_closing, is_open, at_found, in_doubt, one_told, Outcome, Traffic, takes, unnamed_by, Connection}
-use Rattle.osi_fair.proofs.Vocabulary.{Right, Finding, Broke, NotJudged, Whole, class_for, connection_after, course_after, is_applied}
-use Rattle.osi_fair.proofs.Vocabulary.{reach_of, reached, set, noted}
+use Rattle.osi_fair.proofs.Vocabulary.{is_closing, is_open, at_found, Outcome, Traffic, takes, Connection, Right, Finding, Broke, NotJudged}
+use Rattle.osi_fair.proofs.Vocabulary.{Whole}
 use Rattle.osi_rules.specs.declared.findings.Rule.TheVariants as rule
 use Rattle.osi_fair.proofs.small_facts_that_many_lemmas_use.{and_false, differ, is_false}
 use Rattle.osi_fair.proofs.a_unit_of_a_called_end_passes.{IsFineAt}
-use Rattle.osi_fair.proofs.each_connection_of_a_called_end.{AreStrays, Called, IsStray, Stand, answers, comes, past, refuses, runs}
+use Rattle.osi_fair.proofs.each_connection_of_a_called_end.{AreStrays, Called, IsStray, Stand, answers}
 use Rattle.osi_fair.proofs.units_by_their_place.{Placed, first_at, units_at, values}
 use Rattle.osi_fair.proofs.what_a_called_end_closes_is_to_pass.{close_waits}
 use Rattle.osi_fair.proofs.while_no_class_is_selected.{set_same}
@@ -20,10 +19,6 @@ not_due : (due told strays : Bool) → due ≡ false → strays ≡ true →
     first_failed ((due || not strays, NotJudged) ∷ (told, Broke rule.UnknownReference) ∷ (due, Broke rule.NothingToAnswer) ∷ []) ≡ NotJudged
 not_due due told strays h k = grind arith
 
-unnamed_so : (loose strays : Bool) (m n : ℕ) → strays ≡ true →
-    (if loose then in_doubt (unnamed_by strays (disconnected m n)) else unnamed_by strays (disconnected m n)) ≡ NotJudged
-unnamed_so loose strays m n h = grind arith
-
 judged_not : (j : Bool) (g : Finding) → (j ≡ true → g ≡ NotJudged) → (if j then g else NotJudged) ≡ NotJudged
 judged_not j g h = grind arith
 
@@ -33,18 +28,6 @@ record Spared (u : Value) (s : Traffic) (o : Outcome) : Type 0 where
   state : o.state ≡ s
 
 module _ (m n : ℕ) (s : Traffic) (strays : s.course.strays ≡ true) where
-  -- what the unit leaves, if this is found of it
-  abbrev one_by : Finding → ℕ → Connection → Outcome
-  one_by f q c = record {
-    told = (one_told Right q c (disconnected m n) s).told;
-    state = record {
-      connections = set s.connections q (connection_after Right (disconnected m n) (is_applied f)
-          (reach_of (class_for Right s.course) f) c);
-      course = noted Right f (reached Right (reach_of (class_for Right s.course) f)
-          (course_after Right c (disconnected m n) (is_applied f) s.course));
-    };
-  }
-
   found_spared : (q : ℕ) (o : Option Connection) → slice_get s.connections q ≡ o →
       ((c : Connection) → slice_get s.connections q ≡ Some c → c.is_judged ≡ true → is_due Right c n ≡ false) →
       Spared (disconnected m n) s (at_found Right (disconnected m n) s q o)
@@ -73,11 +56,7 @@ module _ (local : Local) (w : Whole) (f : Called local w) (right : w.tap.course.
       is_open c.right.phase ≡ true →
       stray.n ≡ c.right.reference →
       Stand local f.shut w.end w.coming (units_at q f.tagged) (units_at q f.came) (w.begun && first_at q f.tagged) (f.refs q) c → A
-  due_not q c at judged up same (comes x a none ask i) = grind (arith, differ)
-  due_not q c at judged up same (refuses x a reason is none i seen) = grind (arith, differ)
-  due_not q c at judged up same (answers h none) = grind (arith, differ)
-  due_not q c at judged up same (runs g none) = grind (arith, stray, close_waits)
-  due_not q c at judged up same (past silent not_up none asks un off) = differ (is_open c.right.phase) up not_up
+  due_not q c h judged up same h2 = grind (arith, differ, stray, close_waits)
 
   no_due : (q : ℕ) (c : Connection) → slice_get w.tap.connections q ≡ Some c → c.is_judged ≡ true → is_due Right c stray.n ≡ false
   no_due q c at judged = is_false (is_due Right c stray.n) (λ h.

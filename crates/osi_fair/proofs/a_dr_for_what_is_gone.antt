@@ -21,7 +21,7 @@ use Rattle.osi_fair.proofs.what_lasts_at_the_tap.{lasts_passing}
 use Rattle.osi_fair.proofs.what_stays_of_each_connection.{AreDistinct, IfAsked, IsLively, IsStarted, left_passes, lively_stays}
 use Rattle.osi_fair.proofs.what_stays_of_each_connection.{right_passes, started_stays}
 use Rattle.osi_fair.proofs.names_stay_apart_though_one_is_lost.{AreNamedApart}
-use Rattle.osi_fair.proofs.what_the_other_side_closes.{Came, IsClear, IsOngoing, IsDr, IsPlain, IsSane, Less, going_of, closed_by}
+use Rattle.osi_fair.proofs.what_the_other_side_closes.{Came, IsOngoing, IsDr, IsPlain, IsSane, Less, going_of, closed_by}
 use Rattle.osi_fair.proofs.what_the_other_side_closes.{closes as closes_one, stays, what_came}
 use Rattle.osi_fair.proofs.which_requests_are_put.{asked_among, call_asks, unit_asks}
 use Rattle.osi_fair.proofs.what_is_live_at_a_called_end.{IsLive}
@@ -255,12 +255,8 @@ begun_started : (d : Direction) (c : Connection) → IsStarted c → IsStarted (
 begun_started d c h = grind arith
 
 sane_begins : (d : Direction) (s : Traffic) → IsSane s → IsSane (packet_begins d s)
-sane_begins d s h = record {
-  apart = passes_apart (packet d) s h.apart;
-  judged = still_judged (packet d) s h.judged;
-  started = each_map IsStarted (begins d) s.connections h.started (λ c k. begun_started d c k);
-  distinct = grind (arith, after_map);
-}
+sane_begins d s h =
+    search (arith, each_map, begun_started, after_map, passes_apart (packet d) s h.apart, still_judged (packet d) s h.judged)
 
 sane_right : (v : Value) (s : Traffic) → IsSane s → IsSane (takes Right v s).state
 sane_right v s h =
@@ -278,10 +274,6 @@ before_passing p s h = grind (arith, zero_stays, lasts_passing p s)
 -- both sides were judged, and class 0 was not selected
 pub before_going : (p : Passing) (s : Traffic) → IsOngoing (passes p s).course → IsOngoing s.course
 before_going p s h = grind (arith, zero_stays, lasts_passing p s)
-
--- and no connection had lost its judgement
-pub before_clear : (p : Passing) (s : Traffic) → IsClear (passes p s).course → IsClear s.course
-before_clear p s h = grind (arith, zero_stays, lasts_passing p s)
 
 not_over : (call : UserCall) (s : State) → (user_does call s).ended ≡ None → s.ended ≡ None
 not_over call s h = grind (arith, sent_lasts, all_last)

@@ -1,13 +1,12 @@
 -- A reference above those of all CRs that have passed is in use for no connection at the tap, and for none that is not judged.
 -- For the law of that name.
-use Rattle.osi_fair.proofs.Vocabulary.{[], arith, Bool, false, is_some, List, None, Option, refl, Some, subst, suc, sym, true, zero, ℕ}
-use Rattle.osi_fair.proofs.Vocabulary.{◌++◌, ◌<◌, ◌∷◌, ◌≡◌, ◌⊎◌, eqb-true, AllByRecursion, list_all, list_any, not, slice_get, ◌&&◌, ◌==◌}
-use Rattle.osi_fair.proofs.Vocabulary.{◌||◌, Connect, request, Value, Class, Two, Local, fresh_state, is_applied, reach_of, first_failed}
-use Rattle.osi_fair.proofs.Vocabulary.{begins, is_over, is_silent, uses, asked_by, asks_by, asks_kept, at_found, class_for}
-use Rattle.osi_fair.proofs.Vocabulary.{connection_after, found_on, fresh, has_place, is_not_judged, is_stopped, route_in, routed}
-use Rattle.osi_fair.proofs.Vocabulary.{Traffic as State, takes, Connection, Direction, Left, Right, Finding, Broke, Kept, TooMany, Reach}
-use Rattle.osi_fair.proofs.Vocabulary.{Route, all_asked, all_written, asked_as, asked_in, all_passed, packet, passes, Passing, rubbish}
-use Rattle.osi_fair.proofs.Vocabulary.{unit}
+use Rattle.osi_fair.proofs.Vocabulary.{[], arith, Bool, false, List, None, Option, refl, Some, subst, suc, sym, true, zero, ℕ, ◌++◌, ◌<◌}
+use Rattle.osi_fair.proofs.Vocabulary.{◌∷◌, ◌≡◌, ◌⊎◌, eqb-true, AllByRecursion, list_any, not, slice_get, ◌&&◌, ◌==◌, ◌||◌, Connect}
+use Rattle.osi_fair.proofs.Vocabulary.{request, Value, Class, Two, Local, fresh_state, is_applied, reach_of, begins, is_over, is_silent}
+use Rattle.osi_fair.proofs.Vocabulary.{uses, asked_by, asks_by, asks_kept, at_found, class_for, connection_after, found_on, fresh}
+use Rattle.osi_fair.proofs.Vocabulary.{is_not_judged, is_stopped, route_in, routed, Traffic as State, takes, Connection, Direction, Left}
+use Rattle.osi_fair.proofs.Vocabulary.{Right, Finding, Kept, TooMany, Reach, Route, all_asked, all_written, asked_as, asked_in, all_passed}
+use Rattle.osi_fair.proofs.Vocabulary.{packet, passes, Passing, rubbish, unit}
 use Rattle.osi_carrier.specs.Runs.{Act}
 use Rattle.osi_rules.specs.declared.findings.Rule.TheVariants as rule
 use Rattle.osi_fair.proofs.what_holds_of_one_item.{HoldsOfEach, each_add, each_map, each_set}
@@ -67,8 +66,7 @@ module _ (m : ℕ) where
 
   all_below : (ps : List Passing) (s : State) → FewAsked (all_asked ps) → AreBelow s → AreBelow (all_passed ps s)
   all_below [] s h a = a
-  all_below (p ∷ ps) s h a =
-      all_below ps (passes p s) (grind arith) (still_below p s (grind arith) a)
+  all_below (p ∷ ps) s h a = grind (arith, still_below, all_below ps (passes p s) (grind arith) (still_below p s (grind arith) a))
 
   -- ---- so none has this reference
 
@@ -102,11 +100,6 @@ next_is_new local acts ps r rest e =
 
 abbrev pub Passed : Finding → Type 0
 Passed f = (f ≡ Kept) ⊎ (f ≡ TooMany)
-
--- the tests of a CR, by what is known of its reference
-abbrev tested : State → Bool → Bool → Finding
-tested s unlike used = first_failed ((is_some s.course.class_seen || list_all (is_over Left) s.connections, Broke rule.Negotiating)
-    ∷ (not unlike, TooMany) ∷ (not used, Broke rule.ReferenceInUse) ∷ (has_place s.connections, TooMany) ∷ [])
 
 pub next_is_right : (local : Local) (acts : List Act) (ps : List Passing) (x : Connect) (rest : List ℕ) →
     all_written acts (fresh_state true local) ≡ all_asked ps ++ x.source ∷ rest →

@@ -174,11 +174,6 @@ module _ (local : Local) (w : Whole) (f : Followed local w) (sane : IsSane w.tap
       is_applied found_so ≡ false
   cc_none j judged there m x e = grind (arith, cc_idle, sound_c)
 
-  -- it ends the judging of that
-  abbrev course_of : Value → Course
-  course_of u = noted Right (found_on Right w.tap c u) (reached Right (reach_of (class_for Right w.tap.course) (found_on Right w.tap c u))
-      (course_after Right c u (is_applied (found_on Right w.tap c u)) w.tap.course))
-
   -- so it comes only if a connection has lost its judgement
   cc_late : {A : Type 0} → (takes Right v w.tap).state.course.loose ≡ false → is_silent c.right.phase ≡ false → (m : ℕ) (x : Connect) →
       v ≡ confirm m x → A
@@ -438,9 +433,6 @@ module _ (local : Local) (w : Whole) (f : Followed local w) (sane : IsSane w.tap
 
   same_left : (m : ℕ) (x : Connect) → v ≡ confirm m x → nxt.left.reference ≡ m
   same_left m x e = (grind (arith, nxt_left)) ∙ name_is ∙ sym (same_name m x e)
-
-  abbrev Now : ℕ → Type 0
-  Now m = value_at m w.end.live ≡ Some asked
 
   answers_to : Next → IsAnswer (takes Right v w.tap).state.course.loose (takes Right v w.tap).state.connections w.end v
   answers_to (goes_on a b right class line) m x e lasts (inl row) = ((t.q, nxt, nxt_at, b, same_left m x e), row)

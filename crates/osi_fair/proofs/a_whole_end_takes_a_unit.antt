@@ -180,9 +180,7 @@ module _ (local : Local) (w : Whole) (f : Followed local w) (sane : IsSane w.tap
       (λ peer link h. absurd (cc (sym there ∙ h))) (nothing none)
 
   at_closing : (q : ℕ) → value_at n s.live ≡ Some (closing q) → Followed local after
-  at_closing q here =
-      by_closing q here (k.puts ∙ ap (λ (o : Option Live). put_at n o u s.class) here)
-      (grind (arith, without_here))
+  at_closing q here = grind (arith, by_closing, without_here)
 
   -- ---- its CC
 

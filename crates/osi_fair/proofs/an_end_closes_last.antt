@@ -1,12 +1,9 @@
 -- An end puts nothing on a connection after the unit that closes it, and the other side keeps its reference.
 -- For the law of that name.
-use Rattle.osi_fair.proofs.Vocabulary.{arith, [], List, true, ℕ, ◌≡◌, ◌≢◌, Value, is_open, own, theirs, Direction, Left, Right, Phase, Act}
-use Rattle.osi_fair.proofs.Vocabulary.{ActsAlong, IsOpened, Line}
-use Rattle.osi_fair.proofs.what_holds_of_a_line.{Holds, OpenIfAny}
+use Rattle.osi_fair.proofs.Vocabulary.{arith, [], List, true, ℕ, ◌≡◌, ◌≢◌, is_open, own, theirs, Direction, Left, Right, Act, ActsAlong}
+use Rattle.osi_fair.proofs.Vocabulary.{IsOpened, Line}
+use Rattle.osi_fair.proofs.what_holds_of_a_line.{Holds}
 use Rattle.osi_fair.proofs.an_open_end_is_fair.{all_keep, all_turned, opened_holds, turned_line}
-
-open_if : (put : List Value) (phase : Phase) → OpenIfAny put phase → put ≢ [] → is_open phase ≡ true
-open_if put phase h some = grind arith
 
 pub left_holds : (r peer : ℕ) (begin line : Line) (acts : List Act) → IsOpened Left r peer begin → ActsAlong Left r peer begin acts line →
     line.tap.is_judged ≡ true → Holds r peer line

@@ -1,7 +1,7 @@
 -- A side that has broken no rule has broken none after a unit of the other side, or after one of its own that breaks none; and what
 -- is noted of a unit. For the laws on whole ends.
-use Rattle.osi_fair.proofs.Vocabulary.{Bool, false, ◌∙◌, ◌≡◌, ◌⊎◌, Value, breaks_are_noted, has_erred, is_break, is_report, noted, other}
-use Rattle.osi_fair.proofs.Vocabulary.{takes, Course, Direction, Finding, Kept, NotJudged, TooMany, Traffic as State, refused, arith}
+use Rattle.osi_fair.proofs.Vocabulary.{false, ◌∙◌, ◌≡◌, ◌⊎◌, Value, breaks_are_noted, has_erred, is_break, noted, other, takes, Course}
+use Rattle.osi_fair.proofs.Vocabulary.{Direction, Finding, Kept, NotJudged, TooMany, Traffic as State, refused, arith}
 use Rattle.osi_rules.specs.declared.findings.Reach.TheVariants as reach
 use Rattle.osi_rules.specs.declared.findings.Rule.TheVariants as rule
 
@@ -33,8 +33,3 @@ mild_not f h = grind arith
 
 pub right_not : (f : Finding) → (f ≡ Kept) ⊎ (f ≡ NotJudged) → is_break f ≡ false
 right_not f h = grind arith
-
--- ---- an ER of the other side reports no break of an end that has broken no rule
-
-pub no_report : (erred : Bool) (v : Value) → erred ≡ false → is_report erred v ≡ false
-no_report erred v h = grind arith

@@ -259,8 +259,7 @@ module _ (local : Local) (put : List Value) (strays : Bool) (end : State) (comin
       Following local put true strays end coming (begins Left c)
   left_by false e l is = elsewhere (not_begun local put strays end coming c f l is) (λ first. e)
   left_by true e (v ∷ vs) is = begins_line v vs is e
-  left_by true e [] is = elsewhere (not_begun local put strays end coming c f [] is) (λ first.
-      absurd (grind (arith, no_list, picked_first)))
+  left_by true e [] is = grind (arith, elsewhere, no_list, picked_first, not_begun local put strays end coming c f [] is)
 
   left_begins : Following local put true strays end coming (begins Left c)
   left_begins = left_by (leads (is_ours f.r f.peer) put) refl f.line.put refl

@@ -1,10 +1,10 @@
 -- A CC of a called end is right, and after a CC of class 2 the connection is open as a line begins.
 -- For the law of that name.
 use Rattle.osi_fair.proofs.Vocabulary.{ap, arith, Bool, false, IfSome, List, None, Option, option_map, refl, Some, true, ℕ, ◌^◌, ◌≡◌, ◌≤◌}
-use Rattle.osi_fair.proofs.Vocabulary.{pow-le-pow_right, le-leb, min, nat_le, ◌&&◌, ◌||◌, window_units, confirm, Connect, IsConnect, accept}
-use Rattle.osi_fair.proofs.Vocabulary.{proposes, selected_by, selected_size, Class, Two, Zero, Local, acceptance, agreed_size, opened_link}
-use Rattle.osi_fair.proofs.Vocabulary.{proposal, proposal_by, unit_octets, code_named, asked_by, found, offer_of, sent_on, silent_half}
-use Rattle.osi_fair.proofs.Vocabulary.{Connection, Course, Left, Right, Kept, Half, Open, IsOpened, opened_half, opened_line}
+use Rattle.osi_fair.proofs.Vocabulary.{pow-le-pow_right, ◌&&◌, ◌||◌, window_units, confirm, Connect, IsConnect, accept, proposes}
+use Rattle.osi_fair.proofs.Vocabulary.{selected_by, selected_size, Class, Two, Zero, Local, acceptance, agreed_size, opened_link, proposal}
+use Rattle.osi_fair.proofs.Vocabulary.{proposal_by, unit_octets, asked_by, found, offer_of, sent_on, silent_half, Connection, Course, Left}
+use Rattle.osi_fair.proofs.Vocabulary.{Right, Kept, IsOpened, opened_half, opened_line}
 use Rattle.osi_fair.proofs.small_facts_that_many_lemmas_use.{and_first, and_second}
 use Rattle.osi_fair.proofs.what_is_right_passes_each_test.{is_right}
 
@@ -26,9 +26,6 @@ or_left a b h = rw h refl
 pub both : (a b : Bool) → a ≡ true → b ≡ true → (a && b) ≡ true
 both a b h k = rw (h, k) refl
 
-no_larger : (o : Option ℕ) (n : ℕ) → nat_le (code_named (option_map (λ code. min code n) o)) (code_named o) ≡ true
-no_larger o n = grind (arith, le-leb)
-
 pub two_right : (local : Local) (c : Connect) (size : Option ℕ) (r : ℕ) (t : Connection) (course : Course) →
     selected_by c local ≡ accept Two size →
     t.offer ≡ offer_of c → t.right ≡ silent_half → found Right course false t (confirm c.source (acceptance Two size c local r)) ≡ Kept
@@ -49,9 +46,6 @@ at_size : (o : Option ℕ) → IfSome (option_map (λ code. 2 ^ code) o) (λ mos
 at_size o = grind arith
 
 -- ---- the line
-
-abbrev answered : (r credit : ℕ) → Half → Half
-answered r credit half = record half { phase = Open; reference = r; credit = credit }
 
 pub called_opens : (local : Local) (c : Connect) (size : Option ℕ) (r : ℕ) (t : Connection) → IsConnect c →
     selected_by c local ≡ accept Two size →

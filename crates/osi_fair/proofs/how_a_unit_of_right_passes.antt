@@ -1,9 +1,9 @@
 -- A unit of the called side that is right on its connection passes: what the tap has then, by the kind of the unit.
 -- For the law on a whole called end.
 use Rattle.osi_fair.proofs.Vocabulary.{arith, [], ap, Bool, false, List, None, Option, set, Some, true, ℕ, ◌∙◌, ◌∷◌, ◌≡◌, not, position}
-use Rattle.osi_fair.proofs.Vocabulary.{slice_get, ◌&&◌, confirm, Connect, destination_of, Value, Class, Two, is_named, is_open, is_refused}
-use Rattle.osi_fair.proofs.Vocabulary.{is_silent, course_after, found_on, half_after, one_told, Outcome, route, route_in, sent_on, Traffic}
-use Rattle.osi_fair.proofs.Vocabulary.{takes, Connection, Course, Right, Kept, Half, Phase, Named}
+use Rattle.osi_fair.proofs.Vocabulary.{slice_get, ◌&&◌, confirm, Connect, destination_of, Value, Class, Two, is_named, is_silent}
+use Rattle.osi_fair.proofs.Vocabulary.{course_after, found_on, half_after, one_told, Outcome, route, route_in, sent_on, Traffic, takes}
+use Rattle.osi_fair.proofs.Vocabulary.{Connection, Course, Right, Kept, Half, Named}
 use Rattle.osi_carrier.specs.State.{State}
 use Rattle.osi_rules.specs.declared.findings.Rule.TheVariants as rule
 use Rattle.osi_fair.proofs.small_facts_that_many_lemmas_use.{closing_same, first_is, rest_is}
@@ -72,6 +72,3 @@ half_keeps u half none = grind (arith, closing_same)
 
 pub half_started : (u : Value) (half : Half) → is_silent half.phase ≡ false → is_silent (half_after u half).phase ≡ false
 half_started u half h = grind arith
-
-open_not_refused : (p : Phase) → is_open p ≡ true → is_refused p ≡ false
-open_not_refused p h = grind arith

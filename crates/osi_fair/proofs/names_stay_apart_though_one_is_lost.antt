@@ -88,8 +88,7 @@ only_named d cs n named i j c e x y fc fe = named.known n i j c e x y
 -- ---- a packet begins
 
 sound_begins : (e : Direction) (c : Connection) → Sound c → Sound (begins e c)
-sound_begins Left c s = grind (arith, earlier_same)
-sound_begins Right c s = grind (arith, earlier_same)
+sound_begins e c s = grind (arith, earlier_same)
 
 -- a packet of this side
 own_used : (d : Direction) (n : ℕ) (c : Connection) → Sound c → uses d n (begins d c) ≡ true → uses d n c ≡ true

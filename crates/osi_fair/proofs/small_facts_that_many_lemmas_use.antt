@@ -84,9 +84,6 @@ no_two b two h = grind arith
 pub none_of : (o : Option EndReason) → is_some o ≡ false → o ≡ None
 none_of o e = grind arith
 
-pub not_both : (past rest : Bool) → past ≡ true → (not past && rest) ≡ true → ⊥
-not_both past rest h k = grind arith
-
 pub not_not : (b : Bool) → not b ≡ false → b ≡ true
 not_not b h = grind arith
 

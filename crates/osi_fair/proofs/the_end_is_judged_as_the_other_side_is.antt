@@ -1,9 +1,8 @@
 -- As long as the other side is judged, an end is: what is right stops nothing, and what stops the end stops both sides.
 -- For the law on a whole end.
 use Rattle.osi_fair.proofs.Vocabulary.{arith, Zero, false, if◌then◌else◌, Option, refl, Some, ℕ, ◌≡◌, ◌⊎◌, Connect, Value, Class}
-use Rattle.osi_fair.proofs.Vocabulary.{stops_are_said, reach_of, asks_by, at_place, class_for, course_after_none, none_told, Outcome}
-use Rattle.osi_fair.proofs.Vocabulary.{routed, Traffic as State, takes, Course, Direction, Left, Right, Finding, Kept, NotJudged, TooMany}
-use Rattle.osi_fair.proofs.Vocabulary.{Reach, Route}
+use Rattle.osi_fair.proofs.Vocabulary.{stops_are_said, reach_of, asks_by, at_place, class_for, none_told, Outcome, routed, Traffic as State}
+use Rattle.osi_fair.proofs.Vocabulary.{takes, Direction, Left, Right, Finding, Kept, NotJudged, TooMany, Reach, Route}
 use Rattle.osi_rules.specs.declared.findings.Reach.TheVariants as reach
 use Rattle.osi_fair.proofs.small_facts_that_many_lemmas_use.{differ}
 
@@ -11,9 +10,6 @@ use Rattle.osi_fair.proofs.small_facts_that_many_lemmas_use.{differ}
 
 abbrev pub IsBy : Direction → State → Outcome → Type 0
 IsBy d s o = o.told.reach ≡ reach_of (class_for d s.course) o.told.finding
-
-none_class : (d : Direction) (v : Value) (c : Course) → class_for d (course_after_none v c) ≡ class_for d c
-none_class d v c = grind arith
 
 to_none : (d : Direction) (f : Finding) (s : State) → IsBy d s (none_told d f s)
 to_none d f s = refl

@@ -1,8 +1,8 @@
 -- Which connections a calling end of class 2 still has after a unit or a call: all but the one that a DR, DC or ER names.
 -- For the law on DRs.
-use Rattle.osi_fair.proofs.Vocabulary.{arith, [], ap, Bool, Err, false, if◌then◌else◌, is_some, List, None, Ok, Option, refl, Result, Some}
-use Rattle.osi_fair.proofs.Vocabulary.{true, ℕ, ◌++◌, ◌+◌, ◌∙◌, ◌∷◌, ◌≡◌, ◌⊎◌, eq-eqb, eqb-true, ◌&&◌, ◌==◌, acknowledge, confirm, Connect}
-use Rattle.osi_fair.proofs.Vocabulary.{data2, disconnect, disconnected, error, Value, Standing, LinkFault, Class, Two, Zero, put_other}
+use Rattle.osi_fair.proofs.Vocabulary.{arith, [], ap, Bool, false, if◌then◌else◌, is_some, List, None, Option, refl, Result, Some, true, ℕ}
+use Rattle.osi_fair.proofs.Vocabulary.{◌++◌, ◌+◌, ◌∙◌, ◌∷◌, ◌≡◌, ◌⊎◌, eq-eqb, eqb-true, ◌&&◌, ◌==◌, acknowledge, confirm, Connect, data2}
+use Rattle.osi_fair.proofs.Vocabulary.{disconnect, disconnected, error, Value, Standing, LinkFault, Class, Two, Zero, put_other}
 use Rattle.osi_fair.proofs.Vocabulary.{without_other, put_here, closed_on, open_link, sent, sent_all, confirmed, before_class, in_two}
 use Rattle.osi_fair.proofs.Vocabulary.{leaves, opens, taking, to_asked, to_closing, to_connection, to_linked, put, Rows, value_at, without}
 use Rattle.osi_fair.proofs.Vocabulary.{connects, user_does, UserCall, asked, closing, Live as Connection, linked, EndReason, State}
@@ -95,8 +95,7 @@ asked_after r v s o two is = grind (arith, after_end)
 
 taking_after : (unit : Value) (r peer : ℕ) (result : Result Standing LinkFault) (s : State) → OffersTwo s →
     After unit s (taking r peer result s)
-taking_after unit r peer (Ok link) s o = grind (arith, has_put)
-taking_after unit r peer (Err fault) s o = grind (arith, after_end, has_put)
+taking_after unit r peer result s o = grind (arith, has_put, after_end)
 
 leaves_by : (unit : Value) (r peer reason : ℕ) (k : Option Class) (s : State) → OffersTwo s → closed_by unit ≡ Some r →
     After unit s (leaves r peer reason k s)
@@ -154,9 +153,7 @@ pub record AfterCall (s t : State) : Type 0 where
   pub live : t.ended ≡ None → (m : ℕ) → IsLive s m → IsLive t m
 
 sent_after : (r : ℕ) (tsdu : List ℕ) (o : Option (ℕ × Standing)) (s : State) → OffersTwo s → AfterCall s (sent_on r tsdu o s)
-sent_after r tsdu None s o = grind arith
-sent_after r tsdu (Some (peer, link)) s o =
-    grind (arith, has_put)
+sent_after r tsdu h s o = grind (arith, has_put)
 
 pub sent_lasts : (r : ℕ) (tsdu : List ℕ) (o : Option (ℕ × Standing)) (s : State) → (sent_on r tsdu o s).ended ≡ s.ended
 sent_lasts r tsdu o s = grind arith

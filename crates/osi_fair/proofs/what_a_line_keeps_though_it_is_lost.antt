@@ -92,9 +92,6 @@ no_link l o h k = absurd (cc)
 link_is : (l m : Standing) (o : Option Standing) → o ≡ Some l → o ≡ Some m → m ≡ l
 link_is l m o h k = cc
 
-abbrev Knows : ℕ → Half → Type 0
-Knows peer half = (is_silent half.phase ≡ false) × (half.reference ≡ peer)
-
 module _ (d : Direction) (r peer : ℕ) (old new : Line) (h : Keeps d r peer old) where
   -- the end does something
   does : (units : List Value) (link : Option Standing) (coming : List Value) → AllOurs r peer units →

@@ -91,10 +91,6 @@ asked_so n (disconnected destination source) s t o two rise here d e lasts = gri
 asked_so n (error destination cause) s t o two rise here d e lasts = grind (arith, without_here)
 asked_so n _ s t o two rise here d e lasts = grind (arith, over_not)
 
-abbrev is_open_row : Live → Bool
-is_open_row (closing q) = false
-is_open_row _ = true
-
 -- what comes first is a DC, or the unit that comes after the DCs
 pub early_parts : (early : List Value) (u v : Value) (us vs : List Value) → AllByRecursion IsDc early → u ∷ us ≡ early ++ v ∷ vs →
     (is_dc u ≡ true → is_dc v ≡ false → (more : List Value) × (AllByRecursion IsDc more × (us ≡ more ++ v ∷ vs)))

@@ -1,9 +1,9 @@
 -- A DR that refuses a CR is right, and after a DR that closed nothing no DC is blamed.
 -- For the law of that name.
-use Rattle.osi_fair.proofs.Vocabulary.{arith, Bool, false, List, None, Option, Some, true, ℕ, ◌≡◌, position, disconnect, disconnected}
-use Rattle.osi_fair.proofs.Vocabulary.{Value, Two, reach_of, is_named, is_silent, other, asks_of, at_found, class_for, found, is_stopped}
-use Rattle.osi_fair.proofs.Vocabulary.{none_told, Outcome, reached, route_in, routed, Traffic as State, takes, Connection, Course}
-use Rattle.osi_fair.proofs.Vocabulary.{Direction, Right, Finding, Kept, Reach, Route, passes, Passing, has_broken}
+use Rattle.osi_fair.proofs.Vocabulary.{arith, Bool, false, List, None, Some, true, ℕ, ◌≡◌, position, disconnect, disconnected, Value, Two}
+use Rattle.osi_fair.proofs.Vocabulary.{reach_of, is_named, is_silent, asks_of, class_for, found, is_stopped, none_told, Outcome, reached}
+use Rattle.osi_fair.proofs.Vocabulary.{routed, Traffic as State, takes, Connection, Course, Direction, Right, Finding, Kept, Reach, Route}
+use Rattle.osi_fair.proofs.Vocabulary.{passes, Passing}
 use Rattle.osi_rules.specs.declared.findings.Rule.TheVariants as rule
 use Rattle.osi_fair.proofs.small_facts_that_many_lemmas_use.{or_first}
 use Rattle.osi_fair.proofs.what_is_right_passes_each_test.{is_right}
@@ -16,17 +16,6 @@ pub refusal_right : (c : Connection) (course : Course) (in_use : Bool) (destinat
 refusal_right c course in_use destination source reason user h = grind (arith, is_right, or_first)
 
 -- ---- a DC
-
-abbrev Spared : Outcome → Type 0
-Spared o = IsNotBlamed o.told.finding
-
-at_one : (d : Direction) (s : State) (n source p : ℕ) (c : Option Connection) → s.course.strays ≡ true →
-    Spared (at_found d (disconnected n source) s p c)
-at_one d s n source p c h = grind arith
-
-two_routes : (d : Direction) (s : State) (n source : ℕ) → s.course.strays ≡ true →
-    Spared (routed d (disconnected n source) s (route_in (Some Two) d (has_broken (other d) s.course) (disconnected n source)))
-two_routes d s n source h = grind arith
 
 pub dc_spared : (d : Direction) (s : State) (n source : ℕ) → class_for d s.course ≡ Some Two → s.course.strays ≡ true →
     IsNotBlamed (takes d (disconnected n source) s).told.finding
@@ -42,10 +31,6 @@ Strays o = o.state.course.strays ≡ true
 
 to_none : (d : Direction) (f : Finding) (s : State) → s.course.strays ≡ true → Strays (none_told d f s)
 to_none d f s h = reached_strays d (reach_of (class_for d s.course) f) s.course h
-
-strays_one : (d : Direction) (v : Value) (s : State) (p : ℕ) (c : Option Connection) → s.course.strays ≡ true → Strays (at_found d v s p c)
-strays_one d v s p None h = grind (arith, reached_strays)
-strays_one d v s p (Some c) h = grind (arith, reached_strays)
 
 asks : (d : Direction) (v : Value) (s : State) → s.course.strays ≡ true → Strays (asks_of d v s)
 asks d v s h = grind (arith, to_none)

@@ -1,7 +1,7 @@
 -- A unit of an end begins to pass and passes, and a packet of the other side begins: each keeps what holds of the line.
 -- For the laws on a line.
-use Rattle.osi_fair.proofs.Vocabulary.{[], ap, arith, Bool, false, if◌then◌else◌, List, None, Option, subst, sym, true, ℕ, ◌%◌, ◌+◌, ◌<◌}
-use Rattle.osi_fair.proofs.Vocabulary.{◌∙◌, ◌∷◌, ◌≡◌, ◌≤◌, acknowledge, data2, Value, longest_tsdu, Standing, begins, is_open, begun_after}
+use Rattle.osi_fair.proofs.Vocabulary.{[], ap, arith, Bool, false, if◌then◌else◌, List, None, Option, subst, sym, true, ℕ, ◌+◌, ◌<◌, ◌∙◌}
+use Rattle.osi_fair.proofs.Vocabulary.{◌∷◌, ◌≡◌, ◌≤◌, acknowledge, data2, Value, longest_tsdu, Standing, begins, is_open, begun_after}
 use Rattle.osi_fair.proofs.Vocabulary.{half_after, sent_on, Connection, Course, Left, Right, Finding, Kept, Half, Phase, Acts}
 use Rattle.osi_fair.proofs.Vocabulary.{after_finding, finding_of, IsRight, IsRightNow, Line}
 use Rattle.osi_fair.specs.Lines.{passes_own, begins_other}
@@ -68,15 +68,6 @@ module _ (r peer limit : ℕ) (x : Tally) (noted : ℕ) (tap : Connection) (o : 
         };
         puts = puts;
       }
-
-  -- an AK
-  record AckPasses (number credit : ℕ) (mine : Half) (units : List Value) (link : Option Standing) : Type 0 where
-    count : ℕ
-    is : number ≡ count % 128
-    window : credit ≡ x.window
-    low : x.shown ≤ count
-    high : count ≤ x.acked
-    puts : PutsAt r peer limit (record x { shown = count }) mine tap.right units link
 
   ack_passes : (link : Option Standing) (credit destination number : ℕ) (units : List Value) →
       PutsAt r peer limit x tap.left tap.right (acknowledge credit destination number ∷ units) link →

@@ -52,10 +52,6 @@ IsLively L c = c.is_judged ≡ true → is_there c.left c.right ≡ true → L c
 
 -- ---- a unit of left
 
--- of the half of left
-abbrev Started : Half → Type 0
-Started half = (is_silent half.phase || is_refused half.phase) ≡ false
-
 -- what stays of a connection after a unit
 pub record Stays (c e : Connection) : Type 0 where
   pub reference : e.left.reference ≡ c.left.reference

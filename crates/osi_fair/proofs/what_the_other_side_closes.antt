@@ -6,8 +6,8 @@ use Rattle.osi_fair.proofs.Vocabulary.{Connect, data2, disconnect, disconnected,
 use Rattle.osi_fair.proofs.Vocabulary.{is_of_connection, passes_over, reach_of, is_closed, is_closing, is_named, is_open, is_refused}
 use Rattle.osi_fair.proofs.Vocabulary.{is_silent, at_found, at_place, class_for, connection_after, course_after, found, found_on}
 use Rattle.osi_fair.proofs.Vocabulary.{half_after, is_stray, one_told, Outcome, reached, route_in, routed, Traffic as State, takes}
-use Rattle.osi_fair.proofs.Vocabulary.{unnamed_told, uses_source, Connection, Course, Right, Finding, Broke, NotJudged, TooMany, Reach}
-use Rattle.osi_fair.proofs.Vocabulary.{Rule, Half, Phase, noted}
+use Rattle.osi_fair.proofs.Vocabulary.{unnamed_told, uses_source, Connection, Course, Right, Finding, Broke, NotJudged, Reach, Rule, Half}
+use Rattle.osi_fair.proofs.Vocabulary.{Phase, noted}
 use Rattle.osi_rules.specs.declared.findings.Reach.TheVariants as reach
 use Rattle.osi_rules.specs.declared.findings.Rule.TheVariants as rule
 use Rattle.osi_fair.proofs.small_facts_that_many_lemmas_use.{both, closing_shuts, differ, not_not, or_last, or_left, or_right}
@@ -82,9 +82,6 @@ soft k r c e h = grind (arith, differ)
 pub not_calm : {A : Type 0} (k : Option Class) (r : Rule) (c : Course) → passes_over r ≡ false → is_of_connection r ≡ false →
     IsCalm (reached Right (reach_of k (Broke r)) c) → A
 not_calm k r c e f h = differ (is_of_connection r) (soft k r c e h).1 f
-
-pub doubt_not_calm : {A : Type 0} (k : Option Class) (c : Course) → IsCalm (reached Right (reach_of k TooMany) c) → A
-doubt_not_calm k c h = differ true refl h.left
 
 none_bad : {A : Type 0} (v : Value) (s : State) → s.course.strays ≡ false → s.course.left_erred ≡ false →
     IsPlain (unnamed_told Right v s).state.course → A
@@ -166,8 +163,7 @@ module _ (L : ℕ → Type 0) (s : State) (q : ℕ) (c : Connection) (at : slice
     Before v = is_there (after v).left (after v).right ≡ true → is_there c.left c.right ≡ true
 
     all_lively : (v : Value) → Before v → HoldsOfEach (IsLively L) (set s.connections q (after v))
-    all_lively v h = each_set (IsLively L) s.connections q (after v) lively
-        (grind (arith, left_then))
+    all_lively v h = grind (arith, left_then, each_set (IsLively L) s.connections q (after v) lively (grind (arith, left_then)))
 
     same_phase : (v : Value) → (half_after v c.right).phase ≡ c.right.phase → Before v
     same_phase v e = search arith

@@ -1,26 +1,16 @@
 -- What was right stays right if more of the other side has passed: row by row.
 -- For the law of that name.
-use Rattle.osi_fair.proofs.Vocabulary.{arith, Bool, length, nat_lt, true, ℕ, ◌≡◌, lt-ltb, ltb-true, ◌&&◌, acknowledge, data2, disconnected}
-use Rattle.osi_fair.proofs.Vocabulary.{Value, data2_tests, first_failed, steps_from, other, own, seen, theirs, found, Connection, Course}
-use Rattle.osi_fair.proofs.Vocabulary.{Direction, Left, Right, Kept, Half, IsLater, knows}
+use Rattle.osi_fair.proofs.Vocabulary.{arith, Bool, length, true, ℕ, ◌≡◌, lt-ltb, ltb-true, acknowledge, data2, disconnected, Value}
+use Rattle.osi_fair.proofs.Vocabulary.{data2_tests, first_failed, other, own, seen, theirs, found, Connection, Course, Direction, Left}
+use Rattle.osi_fair.proofs.Vocabulary.{Right, Kept, Half, IsLater, knows}
 use Rattle.osi_rules.specs.Sides.{sends}
 use Rattle.osi_fair.proofs.what_is_right_passes_each_test.{passes_each, is_right}
-
-telling_stays : (mine e l : Half) → IsLater mine e l → nat_lt (steps_from e.awaited mine.next) 127 ≡ true →
-    nat_lt (steps_from l.awaited mine.next) 127 ≡ true
-telling_stays mine e l h k = grind (arith, ltb-true, lt-ltb)
 
 -- ---- what the side knows when its packet begins
 
 data_known : (d : Direction) (c : Connection) (later : Half) (number octets : ℕ) → IsLater (own d c) (seen d c) later →
     first_failed (data2_tests d c number octets) ≡ Kept → first_failed (data2_tests d (knows d later c) number octets) ≡ Kept
 data_known d c later number octets h e = grind (arith, passes_each, ltb-true, lt-ltb, is_right)
-
--- ---- a DC, which is due
-
-due_stays : (live before after mine : Bool) → (before ≡ true → after ≡ true) → (live && (before && mine)) ≡ true →
-    (live && (after && mine)) ≡ true
-due_stays live before after mine more h = grind arith
 
 -- ---- each kind of unit
 

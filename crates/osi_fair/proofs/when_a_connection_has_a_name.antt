@@ -1,7 +1,7 @@
 -- When a reference names a connection, or is in use for it, after its sides have sent more: by the phases of the sides.
 -- For the law on references.
 use Rattle.osi_fair.proofs.Vocabulary.{arith, Bool, false, refl, true, ℕ, ◌≡◌, ◌⊎◌, not, ◌&&◌, ◌==◌, ◌||◌, is_closed, is_closing, is_open}
-use Rattle.osi_fair.proofs.Vocabulary.{is_over_by, is_refused, is_silent, Half, Phase}
+use Rattle.osi_fair.proofs.Vocabulary.{is_over_by, is_refused, is_silent, Half}
 use Rattle.osi_fair.proofs.small_facts_that_many_lemmas_use.{differ}
 
 -- what was known of a side, and what it has sent since
@@ -14,20 +14,6 @@ pub record IsEarlier (known now : Half) : Type 0 where
 
 pub earlier_same : (h : Half) → IsEarlier h h
 earlier_same h = record { reference = λ _. refl; there = λ e. e; refused = λ e. e; closing = λ e. e; closed = λ e. e }
-
--- ---- over
-
-abbrev over_phase : Phase → Phase → Bool
-over_phase p q = is_refused p || (is_refused q || (is_closed p || (is_closing p && (is_closing q || is_closed q))))
-
-over_known : (p q : Phase) → is_refused q ≡ true → over_phase p q ≡ true
-over_known p q h = grind arith
-
-over_closed : (p q : Phase) → is_closed p ≡ true → over_phase p q ≡ true
-over_closed p q h = grind arith
-
-over_closing : (p q : Phase) → is_closing p ≡ true → (is_closing q || is_closed q) ≡ true → over_phase p q ≡ true
-over_closing p q h k = grind (arith, over_closed)
 
 -- ---- named, and in use
 

@@ -72,8 +72,7 @@ module _ (v : Value) (s : Traffic) (left : s.course.left_stopped ≡ false) (rig
 
   asks_came : (x : Connect) → v ≡ request x → (s.course.class_seen ≡ Some Zero → ⊥) →
       Comes (asks_by Left (first_failed (request_tests s x)) x s)
-  asks_came x e class h =
-      asks_by_case x e class (grind (arith, request_by)) h
+  asks_came x e class h = grind (arith, request_by, asks_by_case x e class (grind (arith, request_by)) h)
 
   unnamed_case : (w : Value) → v ≡ w → Comes (unnamed_told Left w s)
   unnamed_case w e h = search arith

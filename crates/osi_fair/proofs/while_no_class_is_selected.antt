@@ -7,7 +7,7 @@ use Rattle.osi_fair.proofs.Vocabulary.{code_named, first_failed, given_again, is
 use Rattle.osi_fair.proofs.Vocabulary.{is_refused, is_silent, asked_by, asks_by, at_found, at_place, class_of, closing_phase}
 use Rattle.osi_fair.proofs.Vocabulary.{connection_after, course_after, found, found_on, offer_of, Outcome, placed, reached, sent_on}
 use Rattle.osi_fair.proofs.Vocabulary.{Traffic as State, takes, unnamed_told, uses_source, Connection, Offer, Course, Direction, Left}
-use Rattle.osi_fair.proofs.Vocabulary.{Right, Finding, Broke, Kept, Outside, TooMany, Reach, Open, Silent, noted, is_break}
+use Rattle.osi_fair.proofs.Vocabulary.{Right, Finding, Broke, Kept, Outside, TooMany, Open, Silent, noted, is_break}
 use Rattle.osi_rules.specs.declared.findings.Reach.TheVariants as reach
 use Rattle.osi_rules.specs.declared.findings.Rule.TheVariants as rule
 use Rattle.osi_fair.proofs.small_facts_that_many_lemmas_use.{begins_judged, begun_left, begun_right, judged_same, judged_so, some_same}
@@ -175,13 +175,6 @@ confirm_or : (a b i u loose l : Bool) →
     ∷ (l, Broke rule.LargerSize) ∷ []))
 confirm_or a b i u loose l = grind arith
 
--- by whether it is taken, and how far it reaches
-abbrev by_reach : (p destination : ℕ) → Connect → Connection → List Connection → (strays applied : Bool) → Reach → State
-by_reach p destination x c cs strays applied far = record {
-  connections = set cs p (connection_after Right (confirm destination x) applied far c);
-  course = reached Right far (course_after Right c (confirm destination x) applied (calm strays));
-}
-
 confirmed_by : (p destination : ℕ) (x : Connect) (c : Connection) (cs : List Connection) (strays offered inside : Bool) (f : Finding) →
     Confirms offered inside f → GoesOn (by_finding p c cs strays (confirm destination x) f) →
     (by_finding p c cs strays (confirm destination x) f ≡ confirmed_tap p destination x c cs strays (is_break f))
@@ -254,9 +247,7 @@ module _ (r p : ℕ) (o : Offer) (cs : List Connection) (strays : Bool) (w : Wai
       GoesOn (by_finding p c cs strays (disconnected destination source) (finding (disconnected destination source))) →
       Answer r p o cs strays (disconnected destination source)
       (by_finding p c cs strays (disconnected destination source) (finding (disconnected destination source)))
-  to_dc destination source h =
-      let v = disconnected destination source in
-      grind (arith, judged_same, set_same, differ)
+  to_dc destination source h = grind (arith, judged_same, set_same, differ)
 
   abbrev Answers : Value → State → Type 0
   Answers v after = GoesOn after → Answer r p o cs strays v after

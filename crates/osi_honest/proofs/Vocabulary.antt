@@ -29,29 +29,28 @@ pub use Rattle.osi_tpdu.specs.Packet.{AreUnits, units_of}
 pub use Rattle.osi_tpdu.specs.Spelling.{Item, Spells, connect_part, item_octets, single}
 pub use Rattle.osi_tpdu.specs.Value.{AreParameters, Connect, HasFieldsInRange, IsConnect, Value, acknowledge, confirm, data0, data2}
 pub use Rattle.osi_tpdu.specs.Value.{disconnect, disconnected, error, may_be_followed, request}
-pub use Rattle.osi_tpdu.specs.Writing.{Fits, HasRoom, items_of, written, written_header, written_items}
+pub use Rattle.osi_tpdu.specs.Writing.{Fits, HasRoom, items_of, written, written_items}
 pub use Rattle.osi_tpdu.specs.declared.faults.TpduFault.{TpduFault}
 pub use Rattle.osi_tpdu.specs.declared.tsaps.Tsap.{Tsap}
 pub use Rattle.osi_class.proofs.between.parts_stay_in_order.{at_ok, choose_ok, choose_some}
 pub use Rattle.osi_class.proofs.bounds.every_link_keeps_its_bounds.{move_same}
 pub use Rattle.osi_class.proofs.bounds.what_calls_take.{all as all_taken}
 pub use Rattle.osi_class.proofs.giving.a_link_gives_finitely_many_units.{drained_leaves, drained_moves, drained_none, drained_some}
-pub use Rattle.osi_class.proofs.giving.a_link_gives_finitely_many_units.{giving_leaves}
 pub use Rattle.osi_class.proofs.giving.what_calls_send.{all as all_sent}
 pub use Rattle.osi_class.specs.Between.{given_by}
 pub use Rattle.osi_class.specs.Ends.{Ends}
-pub use Rattle.osi_class.specs.Flow.{Flow, Sender, acknowledged}
+pub use Rattle.osi_class.specs.Flow.{Flow}
 pub use Rattle.osi_class.specs.Giving.{Drained, all_given, drained, drained_by, drained_within, left_to_give}
-pub use Rattle.osi_class.specs.Joining.{Joining, joined, joining, with_part}
+pub use Rattle.osi_class.specs.Joining.{Joining, joining, with_part}
 pub use Rattle.osi_class.specs.Limits.{longest_tsdu}
-pub use Rattle.osi_class.specs.Link.{Given, Standing, ack, given_part, is_of_two, next, next_by, part0, part2, taken, taken_by, taken_flow}
-pub use Rattle.osi_class.specs.Link.{unit_of, with_joined, with_sender, with_tsdu, zero_standing}
+pub use Rattle.osi_class.specs.Link.{Given, Standing, ack, given_part, next, next_by, part0, part2, taken, taken_by, unit_of, with_joined}
+pub use Rattle.osi_class.specs.Link.{with_tsdu, zero_standing}
 pub use Rattle.osi_class.specs.Negotiation.{Selection, accept, proposes, refuse, selected_by}
 pub use Rattle.osi_class.specs.Runs.{Move, MovesAlong, give_out, hand_in, hand_out, parts_in, parts_out, take_in, tsdu_out, tsdus_in}
 pub use Rattle.osi_class.specs.Runs.{tsdus_out}
-pub use Rattle.osi_class.specs.Tsdus.{Part, give, tsdus, tsdus_after, uncut}
+pub use Rattle.osi_class.specs.Tsdus.{Part, tsdus, tsdus_after, uncut}
 pub use Rattle.osi_class.specs.declared.faults.LinkFault.{LinkFault}
-pub use Rattle.osi_class.specs.declared.faults.LinkFault.TheVariants.{OutOfSequence, TsduTooLong, WrongForm}
+pub use Rattle.osi_class.specs.declared.faults.LinkFault.TheVariants.{TsduTooLong}
 pub use Rattle.osi_class.specs.declared.terms.Class.{Class}
 pub use Rattle.osi_class.specs.declared.terms.Class.TheVariants.{Two, Zero}
 pub use Rattle.osi_class.specs.declared.terms.Local.{Local}
@@ -65,26 +64,26 @@ pub use Rattle.osi_carrier.specs.Calls.{asks, class_error, closed_on, closed_wit
 pub use Rattle.osi_carrier.specs.Calls.{room_error, send_all_error, sent, sent_all, sent_on}
 pub use Rattle.osi_carrier.specs.Happenings.{Happening, opened as told_opened, tsdu}
 pub use Rattle.osi_carrier.specs.Negotiation.{acceptance, agreed_size, confirmed, opened_link, proposal, proposal_by, proposes_two}
-pub use Rattle.osi_carrier.specs.Negotiation.{selects_expedited, unit_octets}
+pub use Rattle.osi_carrier.specs.Negotiation.{unit_octets}
 pub use Rattle.osi_carrier.specs.Orderly.{IsOrderly, RiseFrom, connection_by, connection_of, only_of}
 pub use Rattle.osi_carrier.specs.Pump.{pumped, written_by}
-pub use Rattle.osi_carrier.specs.React.{accepts, answers, answers_request, before_class, breaks, denies, handed_out, has_peer, in_class}
-pub use Rattle.osi_carrier.specs.React.{in_two, in_zero, is_full, leaves, opens as opens_by, pumps, react, react_by, reacts, settles}
-pub use Rattle.osi_carrier.specs.React.{taking, to_asked, to_closing, to_connection, to_linked, to_only, to_reference, to_unknown}
+pub use Rattle.osi_carrier.specs.React.{accepts, answers, before_class, breaks, denies, handed_out, has_peer, in_class, in_two, in_zero}
+pub use Rattle.osi_carrier.specs.React.{is_full, leaves, opens as opens_by, pumps, react, react_by, reacts, settles, taking, to_asked}
+pub use Rattle.osi_carrier.specs.React.{to_closing, to_connection, to_linked, to_only, to_reference, to_unknown}
 pub use Rattle.osi_carrier.specs.Rows.{Rows, put, value_at, without}
 pub use Rattle.osi_carrier.specs.State.{Connection, State, asked, closing, linked, packets, writes}
 pub use Rattle.osi_carrier.specs.declared.ends.EndReason.{EndReason}
 pub use Rattle.osi_carrier.specs.declared.ends.EndReason.TheVariants.{Broken, NoMemory}
 pub use Rattle.osi_carrier.specs.declared.faults.OpenError.{OpenError}
-pub use Rattle.osi_carrier.specs.declared.faults.OpenError.TheVariants.{Ended, Negotiating, NotCaller, OneConnection}
+pub use Rattle.osi_carrier.specs.declared.faults.OpenError.TheVariants.{Ended, NotCaller}
 pub use Rattle.osi_carrier.specs.declared.faults.SendError.{SendError}
 pub use Rattle.osi_spdu.specs.Fields.{unit_bits}
 pub use Rattle.osi_spdu.specs.Sizes.{named_by}
 pub use Rattle.osi_spdu.specs.declared.selectors.Selector.{Selector}
 pub use Rattle.osi_message.proofs.the_tsdus_of_a_message.{sent_alone}
 pub use Rattle.osi_message.specs.Meanings.{CN, Meaning, selector_octets}
-pub use Rattle.osi_message.specs.Parting.{is_parted, tsdus_sent}
-pub use Rattle.osi_message.specs.Sendable.{IsAddress, IsSendable}
+pub use Rattle.osi_message.specs.Parting.{tsdus_sent}
+pub use Rattle.osi_message.specs.Sendable.{IsSendable}
 pub use Rattle.osi_session.proofs.runs.what_every_run_preserves.{input_begun}
 pub use Rattle.osi_session.proofs.sent.what_is_sent_can_be_written.{asked_sendable}
 pub use Rattle.osi_session.specs.Allowed.{most_user_data, serial_for}
@@ -118,7 +117,7 @@ pub use Rattle.osi_stack.proofs.stream.what_feeding_keeps.{packets_kept}
 pub use Rattle.osi_stack.proofs.stream.what_was_written_is_read.{attended_kept, uses_within}
 pub use Rattle.osi_stack.specs.Calls.{after_open, asked_for, call_error, called_octets, calling_octets, calls_with, connect_error, connects}
 pub use Rattle.osi_stack.specs.Calls.{has_given, is_long, is_long_address, opening_of, terms_error, without_first}
-pub use Rattle.osi_stack.specs.Disconnecting.{awaits_transport, disconnect_error, disconnects, gives_up, gives_up_by}
+pub use Rattle.osi_stack.specs.Disconnecting.{disconnect_error, disconnects, gives_up, gives_up_by}
 pub use Rattle.osi_stack.specs.Feeding.{Feeds, FindsNoMemory, Goes, Refuses, RunsDry, StopsBehind, TakesPackets, uses_all}
 pub use Rattle.osi_stack.specs.Hearing.{RunsOut, Starves, after_packet, attends, concludes, ends, hears, hears_all, hears_next, hears_times}
 pub use Rattle.osi_stack.specs.Hearing.{opens as opens_line, starves, with_carrier, with_events}
@@ -131,32 +130,30 @@ pub use Rattle.osi_stack.specs.Runs.{Call, Calls, carried_in, put_back, used_in}
 pub use Rattle.osi_stack.specs.Runs.Call.{carrying, feeding, telling}
 pub use Rattle.osi_stack.specs.State.{End, Holding, IsAttended, Line, fresh_end, fresh_line, joins, session_at, session_in, used_lines}
 pub use Rattle.osi_stack.specs.State.{waits}
-pub use Rattle.osi_stack.specs.Transport.{answers_by, hands, sent_unless}
+pub use Rattle.osi_stack.specs.Transport.{answers_by, sent_unless}
 pub use Rattle.osi_stack.specs.declared.connecting.Connect.{Connect as Request}
 pub use Rattle.osi_stack.specs.declared.connecting.ConnectError.{ConnectError}
-pub use Rattle.osi_stack.specs.declared.connecting.ConnectError.TheVariants.{NotSelected, TooLong}
 pub use Rattle.osi_judge.proofs.captured.a_capture_goes_on.{passed_within}
 pub use Rattle.osi_judge.proofs.captured.what_was_found_of_a_capture.{one_reading, packets_of}
 pub use Rattle.osi_judge.proofs.honest.a_run_is_explained.{came_moves}
 pub use Rattle.osi_judge.proofs.honest.an_answer_says_itself.{SaysItself, came_itself}
-pub use Rattle.osi_judge.specs.Captures.{Capture, of, other, own, passed_before, stream}
+pub use Rattle.osi_judge.specs.Captures.{Capture, of, other, passed_before, stream}
 pub use Rattle.osi_judge.specs.Explaining.{IsExplained, Told}
 pub use Rattle.osi_judge.specs.Explaining.Explains.{done}
 pub use Rattle.osi_judge.specs.Running.{IsHonestIn, IsSentFrom, Pass, Runs, sends}
 pub use Rattle.osi_judge.specs.Stops.{broke_session, is_break}
-pub use Rattle.osi_judge.specs.Tapping.{FirstBreak, IsFirstIn, IsFoundIn, IsStoppedIn, StandsIn, had_passed, heard, octets_of, stop_in}
-pub use Rattle.osi_judge.specs.Tapping.{told}
+pub use Rattle.osi_judge.specs.Tapping.{FirstBreak, IsFirstIn, IsFoundIn, IsStoppedIn, StandsIn, had_passed, heard, octets_of, told}
 pub use Rattle.osi_judge.specs.Transport.{ArePacketsOf, Handshake, IsSent, Sent, Stage, added, agreed, answering_step, asked_again, asking}
-pub use Rattle.osi_judge.specs.Transport.{asking_step, astray, begun, between, brought, closing_step, complete_in, denied, ended, first_of}
-pub use Rattle.osi_judge.specs.Transport.{first_step, first_unit, handshake_from, has_asked, hasty_behind, hasty_from, hasty_step, hurries}
-pub use Rattle.osi_judge.specs.Transport.{ignores, is_request, met_before, moved, next_step, noted, opening, opens, packet_length}
-pub use Rattle.osi_judge.specs.Transport.{packets_length, refused, refuses, sent_by, sent_from, shaken, shaken_first, silent, stage_behind}
-pub use Rattle.osi_judge.specs.Transport.{stage_from, step_of, stopped, stops, within}
+pub use Rattle.osi_judge.specs.Transport.{asking_step, astray, begun, between, brought, complete_in, denied, ended, first_of, first_step}
+pub use Rattle.osi_judge.specs.Transport.{first_unit, handshake_from, has_asked, hasty_behind, hasty_from, hurries, ignores, is_request}
+pub use Rattle.osi_judge.specs.Transport.{met_before, moved, next_step, noted, opening, packet_length, packets_length, refused, refuses}
+pub use Rattle.osi_judge.specs.Transport.{sent_by, sent_from, shaken, shaken_first, silent, stage_behind, stage_from, step_of, stopped}
+pub use Rattle.osi_judge.specs.Transport.{stops, within}
 pub use Rattle.osi_judge.specs.declared.directions.Direction.{Direction}
 pub use Rattle.osi_judge.specs.declared.directions.Direction.TheVariants.{Left, Right}
 pub use Rattle.osi_judge.specs.declared.findings.Finding.{Finding}
 pub use Rattle.osi_judge.specs.declared.stops.Stop.{Stop}
-pub use Rattle.osi_judge.specs.declared.stops.Stop.TheVariants.{MoreConnections, NoOpening, NothingToAnswer, OtherClass}
+pub use Rattle.osi_judge.specs.declared.stops.Stop.TheVariants.{MoreConnections, NoOpening, OtherClass}
 pub use Rattle.osi_judge.specs.declared.stops.Stopped.{Stopped}
 pub use Rattle.osi_honest.specs.Arriving.{Answers, AreApart, GivesTo, Lives, Opens, TakesAll, is_for}
 pub use Rattle.osi_honest.specs.Arriving.Begins.{is_shut}
@@ -171,7 +168,7 @@ pub use Rattle.osi_honest.specs.Openings.{IsOtherAnswer, WaitingTurn, Waits, has
 pub use Rattle.osi_honest.specs.Openings.AskingTurn.{goes_away, is_answered, turns_aside}
 pub use Rattle.osi_honest.specs.Openings.IdleTurn.{idle_over, puts_a_dc, requests}
 pub use Rattle.osi_honest.specs.Openings.WaitingTurn.{answers_last, is_over, turns_away}
-pub use Rattle.osi_honest.specs.Parts.{Carry, IsOpenZero, IsWritten, adds, dt, ends_whole, one_open, resting, units_put}
+pub use Rattle.osi_honest.specs.Parts.{Carry, IsOpenZero, IsWritten, dt, ends_whole, one_open, resting, units_put}
 pub use Rattle.osi_honest.specs.Reading.{IsReading, between_two, in_one}
 pub use Rattle.osi_honest.specs.Seeing.{EndsWithin, HasOneUnit, IsFresh, IsPrefix, IsSeen, PassAfter, put_along, used_along}
 pub use Rattle.osi_honest.specs.Showing.{AreSame, Shows}

@@ -2,7 +2,7 @@
 pub use Rattle.std.proofs.Common.{Bool, Err, IfNone, IfOk, IfSome, List, MatchBool, None, Ok, OnOk, Option, Result, Some, [], ap, ap₂}
 pub use Rattle.std.proofs.Common.{arith, cond, drop, eqb, false, get_or, if◌then◌else◌, inl, inr, is_none, is_some, leb, length, map, min}
 pub use Rattle.std.proofs.Common.{nat_eq, nat_le, nat_lt, not, option_map, refl, replicate, rules, subst, suc, sym, take, true, unwrap_or}
-pub use Rattle.std.proofs.Common.{zero, ℕ, ◌&&◌, ◌++◌, ◌+◌, ◌-◌, ◌/◌, ◌<◌, ◌==◌, ◌||◌, ◌↔◌, ◌∙◌, ◌∷◌, ◌≡◌, ◌≢◌, ◌≤◌, ◌⊎◌}
+pub use Rattle.std.proofs.Common.{zero, ℕ, ◌&&◌, ◌++◌, ◌+◌, ◌-◌, ◌<◌, ◌==◌, ◌||◌, ◌↔◌, ◌∙◌, ◌∷◌, ◌≡◌, ◌≢◌, ◌≤◌, ◌⊎◌}
 pub use Rattle.std.proofs.Math.Seq.{take-append_seam}
 pub use Rattle.std.proofs.lemmas.Bool.{and_from, and_parts, cases_Bool, cases_lt, eq-eqb, eqb-true, le-leb, leb-true, lt-leb, lt-ltb}
 pub use Rattle.std.proofs.lemmas.Bool.{ltb-true}
@@ -17,7 +17,6 @@ pub use Rattle.std.proofs.lemmas.Nat.{and_assoc}
 pub use Rattle.std.specs.Borrow.{Bor}
 pub use Rattle.std.specs.Int.RustNames.{bit_and}
 pub use Rattle.std.specs.List.{AllByRecursion, filter, flat_map, fold, list_any, slice_get}
-pub use Rattle.std.specs.Option.{option_copied}
 pub use Rattle.osi_tpkt.proofs.a_prefix_of_a_packet.{empty_partial, partial_front, partial_not_whole}
 pub use Rattle.osi_tpkt.proofs.a_stream_is_cut_in_one_way.{end_no_packet, one_cut}
 pub use Rattle.osi_tpkt.proofs.lists_of_octets_stay_octets.{octets_right}
@@ -29,7 +28,7 @@ pub use Rattle.osi_tpkt.specs.Stream.Ending.{Faulty, Rest}
 pub use Rattle.osi_tpkt.specs.declared.faults.TpktFault.{TpktFault}
 pub use Rattle.osi_tpkt.specs.declared.faults.TpktFault.TheVariants.{BadLength, BadVersion, OutOfMemory}
 pub use Rattle.osi_tpdu.specs.Packet.{AreUnits}
-pub use Rattle.osi_tpdu.specs.Value.{Value, acknowledge, confirm, data0, data2, disconnect, disconnected, error, request}
+pub use Rattle.osi_tpdu.specs.Value.{Value}
 pub use Rattle.osi_tpdu.specs.declared.faults.TpduFault.{TpduFault}
 pub use Rattle.osi_spdu.proofs.basics.digits_of_numbers.{numeral_digits}
 pub use Rattle.osi_spdu.proofs.form.few_octets_fit.{few_fit}
@@ -65,7 +64,7 @@ pub use Rattle.osi_message.specs.Numbered.{AreNumberedWords, IsNumbered}
 pub use Rattle.osi_message.specs.Parting.{AreFull, AreLater, AreParts, behind_no_token, in_one, is_parted, is_whole, tsdus_of, tsdus_sent}
 pub use Rattle.osi_message.specs.Parting.{words_sent}
 pub use Rattle.osi_message.specs.Plain.{data_octets}
-pub use Rattle.osi_message.specs.Reading.{alone, behind, meaning, meaning_by, names, said_at, said_by_units, said_if_read, word}
+pub use Rattle.osi_message.specs.Reading.{behind, meaning, meaning_by, names, said_at, said_by_units, word}
 pub use Rattle.osi_message.specs.Sendable.{IsSendable, words_of}
 pub use Rattle.osi_message.specs.Tokens.{data_token, each, no_token}
 pub use Rattle.osi_message.specs.Words.{Word, Words, as_message, part, part_octets, says, word_octets}
@@ -104,19 +103,18 @@ pub use Rattle.osi_session.specs.Calls.{Refusal, Refuse, ReleaseAccept, ReleaseR
 pub use Rattle.osi_session.specs.Calls.{refusal_with}
 pub use Rattle.osi_session.specs.Causes.{unit_asks}
 pub use Rattle.osi_session.specs.Counting.{Counts, CountsCame, count_by, no_octets, taker_with}
-pub use Rattle.osi_session.specs.Joining.{Hearing, Taker, acting_words, begins_anew, enacted_word, heard_then, idle, is_in_place, is_last}
+pub use Rattle.osi_session.specs.Joining.{Hearing, Taker, begins_anew, enacted_word, heard_then, idle, is_in_place, is_last}
 pub use Rattle.osi_session.specs.Joining.{is_restart_word, joined_octets, respond_came, respond_word, word_verdict}
-pub use Rattle.osi_session.specs.Listening.{Input, Listener, after_input, broken, called, came, came_as, opened, react, taker_of}
-pub use Rattle.osi_session.specs.Numbers.{lower, restarted_at}
+pub use Rattle.osi_session.specs.Listening.{Input, Listener, after_input, called, came, came_as, opened, react, taker_of}
+pub use Rattle.osi_session.specs.Numbers.{lower}
 pub use Rattle.osi_session.specs.Openings.{asked_for}
-pub use Rattle.osi_session.specs.Phases.{is_answering, is_ended, is_major_asked, is_major_due, is_over, is_ready, is_release_due}
-pub use Rattle.osi_session.specs.Phases.{is_restarting, is_settled, is_wait_cn, is_wait_transport, may_ask, may_confirm_minor, may_give}
-pub use Rattle.osi_session.specs.Phases.{may_restart, takes_minor_ack}
+pub use Rattle.osi_session.specs.Phases.{is_answering, is_ended, is_major_asked, is_over, is_ready, is_release_due, is_restarting}
+pub use Rattle.osi_session.specs.Phases.{is_settled, is_wait_cn, is_wait_transport, may_ask, may_give, takes_minor_ack}
 pub use Rattle.osi_session.specs.Respond.{Outcome, Verdict, agreed_base, bad, by_fault, conditions, dropped, drops, enacted, fine}
 pub use Rattle.osi_session.specs.Respond.{first_fault, first_reply, has_no_effect, in_aborting, in_ended, is_faulty, is_restart, nothing}
 pub use Rattle.osi_session.specs.Respond.{over, replies_abort, respond_fault, respond_unit, shown_for, si}
 pub use Rattle.osi_session.specs.Same.{same_bit}
-pub use Rattle.osi_session.specs.Sessions.{awaiting, awaits, opens, refusal_of}
+pub use Rattle.osi_session.specs.Sessions.{awaits, opens, refusal_of}
 pub use Rattle.osi_session.specs.Sides.{allows, answers_wishes, of_answerer, offered, setting_of, settled, stated, stated_side}
 pub use Rattle.osi_session.specs.Sizes.{answered_sizes, is_data, limit_of}
 pub use Rattle.osi_session.specs.Sound.{IsSound}
@@ -160,7 +158,7 @@ pub use Rattle.osi_judge.specs.Kept.{Halt, StepsAs, Way, added, after_read, afte
 pub use Rattle.osi_judge.specs.Kept.{answering, askers, askers_from, asks, both_of, first_sender, follows, if_answer, is_among, is_between}
 pub use Rattle.osi_judge.specs.Kept.{is_covered, is_still, joined, kept, latest, listed, member, places_of, quiet_after, quietly, remain}
 pub use Rattle.osi_judge.specs.Kept.{restart_at, restarters, same_count, same_member, same_seen, senders, senders_from, sends, stepped}
-pub use Rattle.osi_judge.specs.Kept.{unless, waited, way_of, way_to}
+pub use Rattle.osi_judge.specs.Kept.{waited, way_of, way_to}
 pub use Rattle.osi_judge.specs.KeptIn.{AreKeptIn, HasRoomIn, IsKeptStanding, IsRuledIn}
 pub use Rattle.osi_judge.specs.Members.{Extends, IsBehind, SomeExplains}
 pub use Rattle.osi_judge.specs.Nearest.{Unsaid, a_unit, becomes, break_of, count_at, far, goes_to, is_nearer, next_of, quiet_by, reached}
@@ -176,13 +174,12 @@ pub use Rattle.osi_judge.specs.Stops.{breaks, broke_session, is_judged, place_of
 pub use Rattle.osi_judge.specs.Tapping.{FirstBreak, IsCountIn, IsFirstIn, IsFoundIn, IsPlace, IsPlaceIn, IsReadIn, IsReferenceIn}
 pub use Rattle.osi_judge.specs.Tapping.{IsStandingIn, IsStoppedIn, StandIn, StandsIn, begin_of, had_passed, heard, octets_of, or_hasty}
 pub use Rattle.osi_judge.specs.Tapping.{stop_in, told}
-pub use Rattle.osi_judge.specs.Transport.{ArePacketsOf, Handshake, IsSent, Move, Sent, Stage, adds, agreed, answering_step, asked}
-pub use Rattle.osi_judge.specs.Transport.{asked_again, asking, asking_step, astray, begun, between, brought, closing_step, complete_in}
-pub use Rattle.osi_judge.specs.Transport.{denied, ended, first_of, first_step, first_unit, given_by, handshake_from, has_asked}
-pub use Rattle.osi_judge.specs.Transport.{hasty_behind, hasty_from, hasty_step, hurries, ignores, last_packet, later_step, met_before}
-pub use Rattle.osi_judge.specs.Transport.{moved, next_step, noted, opening, packet_length, packets_length, reference_in, refused}
-pub use Rattle.osi_judge.specs.Transport.{refused_step, refuses, sent_by, sent_from, shaken, silent, stage_behind, stage_from, step}
-pub use Rattle.osi_judge.specs.Transport.{step_of, stopped, stops, unit_step, within}
+pub use Rattle.osi_judge.specs.Transport.{ArePacketsOf, Handshake, IsSent, Move, Sent, Stage, adds, answering_step, asking, asking_step}
+pub use Rattle.osi_judge.specs.Transport.{begun, between, brought, closing_step, complete_in, ended, first_of, first_step, first_unit}
+pub use Rattle.osi_judge.specs.Transport.{given_by, handshake_from, has_asked, hasty_behind, hasty_from, hasty_step, hurries, ignores}
+pub use Rattle.osi_judge.specs.Transport.{last_packet, later_step, met_before, moved, next_step, noted, opening, packet_length}
+pub use Rattle.osi_judge.specs.Transport.{packets_length, reference_in, refused, refused_step, refuses, sent_by, sent_from, shaken, silent}
+pub use Rattle.osi_judge.specs.Transport.{stage_behind, stage_from, step, step_of, stopped, stops, unit_step, within}
 pub use Rattle.osi_judge.specs.Waiting.{AreAsked, AskerIsAsked, Known, MayBeAsked, Restarted, StillOpen, Waits, aborted, is_abort_word}
 pub use Rattle.osi_judge.specs.Walking.{Answers, Ever, HearsTo, MayFollow, MovesTo, OneExplains, Open, SaidHere, SaysIt, SaysTo, StepsTo}
 pub use Rattle.osi_judge.specs.Walking.{Turns, Walked, WalkerCovers, remarked, the_remark}

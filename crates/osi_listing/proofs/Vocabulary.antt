@@ -10,11 +10,10 @@ pub use Rattle.std.proofs.lemmas.List.{append-nil, append_assoc, drop_all, drop_
 pub use Rattle.std.proofs.lemmas.List.{take_all}
 pub use Rattle.std.proofs.lemmas.List.Concat.{flat_map-append}
 pub use Rattle.std.proofs.lemmas.List.Folds.{list_any-append}
-pub use Rattle.std.proofs.lemmas.List.Splits.{slice_split-cons_yes}
 pub use Rattle.std.proofs.lemmas.List.Sums.{sum_by-cons}
 pub use Rattle.std.proofs.lemmas.Result.{on_ok_weaker}
 pub use Rattle.std.specs.Fmt.{decimal}
-pub use Rattle.std.specs.List.{before_first, count_by, flat_map, join_with_byte, list_any, onto_first, slice_split}
+pub use Rattle.std.specs.List.{before_first, count_by, flat_map, join_with_byte, list_any}
 pub use Rattle.osi_tpkt.proofs.a_prefix_of_a_packet.{empty_partial}
 pub use Rattle.osi_tpkt.specs.Cutter.{Gains, TakesPiece}
 pub use Rattle.osi_tpkt.specs.Held.{Held, fresh}
@@ -34,8 +33,8 @@ pub use Rattle.osi_spdu.specs.Units.{said_by}
 pub use Rattle.osi_spdu.specs.declared.codes.Code.{Code}
 pub use Rattle.osi_spdu.specs.declared.faults.SpduFault.{SpduFault}
 pub use Rattle.osi_spdu.specs.declared.faults.SpduFault.TheVariants.{LengthPastEnd}
-pub use Rattle.osi_listing.specs.Capture.{after_octets, digits_left, digits_of, if_digit, is_blank, is_comment_sign, is_line_feed}
-pub use Rattle.osi_listing.specs.Capture.{octets_from, with_digit}
+pub use Rattle.osi_listing.specs.Capture.{after_octets, digits_left, digits_of, if_digit, is_blank, is_comment_sign, octets_from}
+pub use Rattle.osi_listing.specs.Capture.{with_digit}
 pub use Rattle.osi_listing.specs.Counting.{capped, counted, counts_of, none, one_more}
 pub use Rattle.osi_listing.specs.Fed.{Feeds, FeedsAll, Goes, IsFed, IsGoing, IsReady, IsWithoutPacket, Leaves, Listed, Moves, OnlyHolds}
 pub use Rattle.osi_listing.specs.Fed.{StandsAt}

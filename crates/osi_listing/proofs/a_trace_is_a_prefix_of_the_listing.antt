@@ -13,11 +13,6 @@ pub stops_counters : (k : Keeping) (lister : Lister) (octets piece given : List 
     IsListedInPart (octets ++ piece) given
 stops_counters k lister octets piece given e h = search (arith, stands_so_far)
 
--- a trace that has stopped takes nothing
-pub stays_stopped : (k : Keeping) (lister : Lister) (octets piece given : List ℕ) → k ≡ Nothing → Stands k lister octets given →
-    Stands k lister (octets ++ piece) given
-stays_stopped k lister octets piece given e h = search (arith, append_assoc)
-
 -- a trace that kept lines, after the lines of a piece
 pub kept : (k last : Keeping) (old new : Lister) (octets piece fetched text before lines slice after : List ℕ) (room streams : ℕ) →
     k ≡ Lines → before ≡ [] →
@@ -30,11 +25,6 @@ kept k last old new octets piece fetched text before lines slice after room stre
 pub counted_on : (k last : Keeping) (old new : Lister) (octets piece given before lines : List ℕ) (streams : ℕ) → k ≡ Counters →
     CountsOn streams last → Feeds old piece before lines new → Stands k old octets given → Stands last new (octets ++ piece) given
 counted_on k last old new octets piece given before lines streams e keeps feeds h = search (arith, stops_counters)
-
--- the lines that nobody had fetched are fetched
-pub fetches : (k : Keeping) (lister : Lister) (octets fetched text lines after : List ℕ) → lines ≡ text → after ≡ [] →
-    Stands k lister octets (fetched ++ text) → Stands k lister octets ((fetched ++ lines) ++ after)
-fetches k lister octets fetched text lines after e none h = grind (arith, append-nil)
 
 -- if some lines are a prefix of the listing, so are the first of them
 given_less : (octets fetched more : List ℕ) → IsListedInPart octets (fetched ++ more) → IsListedInPart octets fetched

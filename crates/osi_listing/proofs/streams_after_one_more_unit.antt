@@ -1,6 +1,6 @@
 -- The joins of streams after one more data unit.
 use Rattle.osi_listing.proofs.Vocabulary.{arith, ◌≡◌, ℕ, Bool, cond, List, [], ◌∷◌, ◌++◌, Option, Some, None, refl, ◌==◌, filter, Result}
-use Rattle.osi_listing.proofs.Vocabulary.{IfOk, OnOk, IfSome, eqb_tells, Part, Join, joined, after_parts, is_same_stream, Begun, AreJoins}
+use Rattle.osi_listing.proofs.Vocabulary.{IfOk, OnOk, IfSome, eqb_tells, Part, Join, joined, after_parts, is_same_stream, AreJoins}
 use Rattle.osi_listing.specs.Streams.{join_of}
 
 after_parts-push : (join : Join) (parts : List Part) (p : Part) →
@@ -19,10 +19,6 @@ pub join_of-push : (stream : Option ℕ) (parts : List Part) (p : Part) →
     (join_of stream parts)
 unfolding join_of
 join_of-push stream parts p = grind (arith, filter-push, cond, after_parts-push)
-
-pub no_joins : (others : ℕ → Join) → ((d : ℕ) → others d ≡ Begun []) → AreJoins (Begun []) others []
-unfolding join_of
-no_joins others none = record { zero = refl; two = none }
 
 pub took_zero : (first last : Join) (others : ℕ → Join) (earlier : List Part) (end : Bool) (octets : List ℕ) →
     last ≡ joined first end octets →

@@ -152,13 +152,3 @@ advanced_step old mid new was then now before after v left rest earlier all is s
       entries = grind (arith, append_assoc, option_to_list);
       brought = append_assoc a.parts (option_to_list (part_of v)) (parts_of left) ∙ ap (λ vs. a.parts ++ parts_of vs) (sym is) ∙ a.brought;
     }
-
-pub advanced_says : (old new : List ℕ) (was now : Counts) (streams : Streams) (left : List Value) (earlier : List Part) (all : List Value) →
-    left ≡ [] →
-    Advanced old new was now streams left earlier all → Says old new was now (unit_entries earlier all)
-advanced_says old new was now streams left earlier all none a = grind (arith, append-nil)
-
-pub advanced_holds : (old new : List ℕ) (was now : Counts) (streams : Streams) (left : List Value) (earlier : List Part)
-    (all : List Value) → left ≡ [] →
-    Advanced old new was now streams left earlier all → Holds streams (earlier ++ parts_of all)
-advanced_holds old new was now streams left earlier all none a = grind (arith, append-nil)

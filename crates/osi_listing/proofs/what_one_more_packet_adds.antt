@@ -1,10 +1,10 @@
 -- The packets of a stream: what one more of them adds to the listing, and what is left after them.
 use Rattle.osi_listing.proofs.Vocabulary.{◌≡◌, ◌≢◌, ◌∙◌, ℕ, ◌+◌, ◌-◌, Bool, true, false, MatchBool, List, [], ◌∷◌, ◌++◌, length, take, drop}
 use Rattle.osi_listing.proofs.Vocabulary.{refl, sym, ap, subst, arith, Option, None, Result, Ok, Err, IfOk, OnOk, flat_map, append_assoc}
-use Rattle.osi_listing.proofs.Vocabulary.{append-nil, length-append, take-append-drop, nil_from_length, take_all, Gains, TakesPiece, Held}
-use Rattle.osi_listing.proofs.Vocabulary.{IsPacket, IsOnePacket, IsPartial, IsFaultOf, ArePackets, offset_of, TpktFault, BadVersion}
-use Rattle.osi_listing.proofs.Vocabulary.{BadLength, OutOfMemory, empty_partial, units_of, Work, none, packet_length, Part, Entry, line_of}
-use Rattle.osi_listing.proofs.Vocabulary.{read_entries, read_parts, all_parts, packet_entries, Packet, Says, Holds, Moves, IsReady, IsGoing}
+use Rattle.osi_listing.proofs.Vocabulary.{append-nil, length-append, take-append-drop, take_all, Gains, TakesPiece, Held, IsPacket}
+use Rattle.osi_listing.proofs.Vocabulary.{IsOnePacket, IsPartial, IsFaultOf, ArePackets, offset_of, TpktFault, BadVersion, BadLength}
+use Rattle.osi_listing.proofs.Vocabulary.{OutOfMemory, empty_partial, units_of, Work, none, packet_length, Part, Entry, line_of}
+use Rattle.osi_listing.proofs.Vocabulary.{read_entries, read_parts, all_parts, packet_entries, Packet, Says, Holds, Moves, IsReady}
 use Rattle.osi_listing.proofs.Vocabulary.{IsWithoutPacket, Leaves, OnlyHolds, Goes}
 use Rattle.osi_listing.proofs.units_one_after_the_other.{says_both}
 
@@ -81,15 +81,6 @@ moves_packet old new before after rest left u b p parted says holds place = reco
 
 -- ---- what is held
 
-pub nothing_held : (octets piece : List ℕ) → length octets ≡ 0 → octets ++ piece ≡ piece
-nothing_held octets piece e = ap (λ o. o ++ piece) (nil_from_length octets e)
-
-pub held_partial : (whole : Bool) (used : ℕ) (old new : Held) (piece : List ℕ) → whole ≡ false →
-    MatchBool whole (IsOnePacket (old.octets ++ take used piece)) (IsPartial (old.octets ++ take used piece) × (used ≡ length piece)) →
-    Gains old (take used piece) new → IsGoing old → Leaves new (old.octets ++ piece) None
-held_partial true used old new piece e part gains going = cc
-held_partial false used old new piece e part gains going = grind (arith, take_all)
-
 pub held_whole : (whole : Bool) (used : ℕ) (octets piece : List ℕ) → whole ≡ true →
     MatchBool whole (IsOnePacket (octets ++ take used piece)) (IsPartial (octets ++ take used piece) × (used ≡ length piece)) →
     IsOnePacket (octets ++ take used piece)
@@ -118,9 +109,6 @@ fault_left old new piece f g same known h = grind (arith, fault_told)
 -- what was taken of a piece, and the rest of it
 pub joined_again : (new held piece : List ℕ) (used : ℕ) → new ≡ held ++ take used piece → new ++ drop used piece ≡ held ++ piece
 joined_again new held piece used e = grind (arith, append_assoc, take-append-drop)
-
-pub parted_at : (n used : ℕ) (rest left : List ℕ) → used ≡ n + 4 → left ≡ drop used rest → rest ≡ take (4 + n) rest ++ left
-parted_at n used rest left e back = grind (arith, take-append-drop (4 + n) rest)
 
 pub only_held : (old new : Work) (before after rest : List ℕ) → OnlyHolds old new → after ≡ before → Moves old before rest new after rest
 only_held old new before after rest same text = grind (arith, moves_none)

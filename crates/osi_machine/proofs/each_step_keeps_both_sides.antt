@@ -1,46 +1,48 @@
 -- Every call and every unit that is taken keeps the invariant of both sides.
 -- For the promises, and for the connections that the core simulates.
 use Rattle.osi_machine.proofs.Vocabulary.{AllByRecursion, Granted, Answer, Call, Accept, Data, Give, Please, Minor, MinorConfirm, Major}
-use Rattle.osi_machine.proofs.Vocabulary.{MajorConfirm, Restart, RestartConfirm, Release, ReleaseRefuse, HasSerial, Meaning, CN, AC, RF, DT}
-use Rattle.osi_machine.proofs.Vocabulary.{GT, PT, MIP, MIA, MAP, MAA, RS, RA, FN, DN, NF, AB, AA, stands, drops, allowed, Owner, Owners}
-use Rattle.osi_machine.proofs.Vocabulary.{turned_owner, turned_owners, is_plain, AllFit, Core, CoreStep, call_at, take_at, Side, Left}
-use Rattle.osi_machine.proofs.Vocabulary.{Right, stays_in_core, answered, taking, takes, at_side, core_step, core_run, IsNumberedStep}
-use Rattle.osi_machine.proofs.Vocabulary.{not-true, ◌≡◌, refl, sym, subst, true, false, List, [], ◌∷◌, Ok, Err, arith}
+use Rattle.osi_machine.proofs.Vocabulary.{MajorConfirm, Restart, RestartConfirm, Release, ReleaseRefuse, HasSerial, Meaning, CN, AC, DT, GT}
+use Rattle.osi_machine.proofs.Vocabulary.{PT, MIP, MIA, MAP, MAA, RS, RA, FN, NF, drops, allowed, Owner, Owners, turned_owner}
+use Rattle.osi_machine.proofs.Vocabulary.{turned_owners, is_plain, AllFit, Core, CoreStep, call_at, take_at, Side, Left, Right}
+use Rattle.osi_machine.proofs.Vocabulary.{stays_in_core, answered, taking, takes, at_side, core_step, core_run, IsNumberedStep, ◌≡◌, refl}
+use Rattle.osi_machine.proofs.Vocabulary.{sym, subst, true, false, List, [], ◌∷◌, Ok, Err, arith, MajorDue, Ready, ReleaseDue}
+use Rattle.osi_machine.proofs.Vocabulary.{major_confirmed, point_taken}
 use Rattle.osi_machine.specs.Core.{turned, called}
 use Rattle.osi_machine.proofs.basics.what_holds_in_each_phase.{by_test}
 use Rattle.osi_machine.proofs.invariant.what_holds_of_both_sides.{Half, Pair, Stands}
 use Rattle.osi_machine.proofs.invariant.each_step_keeps_one_side.{SessionLaws, turned_kept, IsGranted, granted, is_granted}
+use Rattle.osi_machine.proofs.calls.a_call_and_its_unit.{confirmed_at, in_phase, moved_to}
 use Rattle.osi_machine.proofs.calls.a_unit_that_changes_no_state.{data_stands, please_stands}
-use Rattle.osi_machine.proofs.calls.tokens_that_are_given.{give_stands}
 use Rattle.osi_machine.proofs.calls.an_answer_settles_the_tokens.{accept_stands}
+use Rattle.osi_machine.proofs.calls.tokens_that_are_given.{give_stands}
 use Rattle.osi_machine.proofs.calls.a_restart_is_answered.{restart_confirm_stands}
 use Rattle.osi_machine.proofs.calls.a_release_and_its_refusal.{release_stands, refuse_stands}
 use Rattle.osi_machine.proofs.calls.a_point_is_set.{minor_stands, major_stands}
 use Rattle.osi_machine.proofs.calls.a_point_is_confirmed.{minor_confirm_stands, major_confirm_stands}
 use Rattle.osi_machine.proofs.calls.a_restart_is_requested.{restart_stands}
-use Rattle.osi_machine.proofs.takes.a_unit_that_changes_no_state.{data_taken, please_taken, dropped_taken}
-use Rattle.osi_machine.proofs.takes.a_unit_that_cuts_nothing.{stands_at, calm_stands, finish_calm, not_finished_calm, point_confirmed_calm}
-use Rattle.osi_machine.proofs.takes.a_unit_that_cuts_nothing.{major_confirmed_calm}
-use Rattle.osi_machine.proofs.takes.a_point.{minor_calm, major_calm}
+use Rattle.osi_machine.proofs.takes.a_unit_that_cuts_nothing.{dropped_taken, stands_at, finish_calm, not_finished_calm}
+use Rattle.osi_machine.proofs.takes.a_unit_that_cuts_nothing.{point_confirmed_calm, major_confirmed_calm, data_calm, please_calm}
+use Rattle.osi_machine.proofs.takes.a_unit_that_cuts_nothing.{calm_taken}
+use Rattle.osi_machine.proofs.takes.a_point.{minor_calm, major_calm, taken_minor}
 use Rattle.osi_machine.proofs.takes.tokens_and_answers.{give_taken, restarted_taken, accept_taken, connect_taken}
-use Rattle.osi_machine.proofs.takes.a_restart.{restart_taken, restart_yielded}
+use Rattle.osi_machine.proofs.takes.a_restart.{restart_taken}
 
 -- ---- a call
 
 call_stands : (w : Core) (c : Call) → stays_in_core c ≡ true → IsGranted w c → Stands w
     → Stands (answered w c (Ok (granted w.own.session c)))
-call_stands w (Accept requirements serial sides sizes octets) k q s = accept_stands w requirements serial sides sizes octets q s
-call_stands w (Data octets) k q s = data_stands w octets q.phase q.needed.0 s q.kept
-call_stands w (Give tokens) k q s = grind (arith, give_stands, not-true)
-call_stands w (Please tokens octets) k q s = please_stands w tokens octets q.phase q.needed.0 s q.kept
-call_stands w (Minor confirm octets) k q s = minor_stands w confirm octets q s
-call_stands w (MinorConfirm n octets) k q s = minor_confirm_stands w n octets q s
-call_stands w (Major octets) k q s = major_stands w octets q s
-call_stands w (MajorConfirm octets) k q s = major_confirm_stands w octets q s
-call_stands w (Restart n wishes octets) k q s = restart_stands w n wishes octets q s
-call_stands w (RestartConfirm sides octets) k q s = restart_confirm_stands w sides octets q.phase s q.kept
-call_stands w (Release octets) k q s = release_stands w octets q s
-call_stands w (ReleaseRefuse octets) k q s = refuse_stands w octets q s
+call_stands w (Accept requirements serial sides sizes octets) k q s = accept_stands requirements serial sides sizes octets w q s
+call_stands w (Data octets) k q s = data_stands octets w q s
+call_stands w (Give tokens) k q s = give_stands tokens w q s
+call_stands w (Please tokens octets) k q s = please_stands tokens octets w q s
+call_stands w (Minor confirm octets) k q s = minor_stands confirm octets w q s
+call_stands w (MinorConfirm n octets) k q s = minor_confirm_stands n octets w q s
+call_stands w (Major octets) k q s = major_stands octets w q s
+call_stands w (MajorConfirm octets) k q s = major_confirm_stands octets w q s
+call_stands w (Restart n wishes octets) k q s = restart_stands n wishes octets w q s
+call_stands w (RestartConfirm sides octets) k q s = restart_confirm_stands sides octets w q s
+call_stands w (Release octets) k q s = release_stands octets w q s
+call_stands w (ReleaseRefuse octets) k q s = refuse_stands octets w q s
 call_stands w _ k q s = absurd (cc)
 
 answer_stands : SessionLaws → (w : Core) (c : Call) (a : Answer) → HasSerial c → stays_in_core c ≡ true → allowed w.own.session c ≡ a
@@ -60,25 +62,20 @@ not_plain w u us e s = let f : AllFit w.own.session (u ∷ us) = (stands_at w (u
 
 unit_stands : SessionLaws → (w : Core) (u : Meaning) (us : List Meaning) → w.peer.sent ≡ u ∷ us → drops w.own.session u ≡ false → Stands w
     → Stands (taking w (u ∷ us))
-unit_stands laws w (CN v u n x from to z o) us e d s = connect_taken laws w v u n x from to z o us e d s
-unit_stands laws w (AC v u n sides z o) us e d s = accept_taken laws w v u n sides z o us e d s
-unit_stands laws w (RF r o) us e d s = absurd (let p = not_plain w (RF r o) us e s in cc)
-unit_stands laws w (DT o) us e d s = data_taken laws w o us e d s
-unit_stands laws w (GT k) us e d s = give_taken laws w k us e d s
-unit_stands laws w (PT k o) us e d s = please_taken laws w k o us e d s
-unit_stands laws w (MIP c n o) us e d s = calm_stands laws w (MIP c n o) us _ e s (minor_calm w c n o us d)
-unit_stands laws w (MIA n o) us e d s = calm_stands laws w (MIA n o) us _ e s (point_confirmed_calm w n o us d)
-unit_stands laws w (MAP n o) us e d s = calm_stands laws w (MAP n o) us _ e s (major_calm w n o us d)
-unit_stands laws w (MAA n o) us e d s = calm_stands laws w (MAA n o) us _ e s (major_confirmed_calm w n o us d)
-unit_stands laws w (RS k n t o) us e d s = by_test (stands w.own.session n)
-    (λ st. restart_taken laws w k n t o us e st s)
-    (λ st. restart_yielded laws w k n t o us e st s)
-unit_stands laws w (RA n sides o) us e d s = restarted_taken laws w n sides o us e d s
-unit_stands laws w (FN o) us e d s = calm_stands laws w (FN o) us _ e s (finish_calm w o us d)
-unit_stands laws w (DN o) us e d s = absurd (let p = not_plain w (DN o) us e s in cc)
-unit_stands laws w (NF o) us e d s = calm_stands laws w (NF o) us _ e s (not_finished_calm w o us d)
-unit_stands laws w (AB b o) us e d s = absurd (let p = not_plain w (AB b o) us e s in cc)
-unit_stands laws w AA us e d s = absurd (let p = not_plain w AA us e s in cc)
+unit_stands laws w (CN v u n x from to z o) us e d s = connect_taken laws v u n x from to z o w us e d s
+unit_stands laws w (AC v u n sides z o) us e d s = accept_taken laws v u n sides z o w us e d s
+unit_stands laws w (DT o) us e d s = calm_taken laws (DT o) (λ s. s) (data_calm o) w us e d s
+unit_stands laws w (GT k) us e d s = give_taken laws k w us e d s
+unit_stands laws w (PT k o) us e d s = calm_taken laws (PT k o) (λ s. s) (please_calm k o) w us e d s
+unit_stands laws w (MIP c n o) us e d s = calm_taken laws (MIP c n o) taken_minor (minor_calm c n o) w us e d s
+unit_stands laws w (MIA n o) us e d s = calm_taken laws (MIA n o) (confirmed_at n) (point_confirmed_calm n o) w us e d s
+unit_stands laws w (MAP n o) us e d s = calm_taken laws (MAP n o) (moved_to MajorDue point_taken) (major_calm n o) w us e d s
+unit_stands laws w (MAA n o) us e d s = calm_taken laws (MAA n o) (moved_to Ready major_confirmed) (major_confirmed_calm n o) w us e d s
+unit_stands laws w (RS k n t o) us e d s = restart_taken laws k n t o w us e d s
+unit_stands laws w (RA n sides o) us e d s = restarted_taken laws n sides o w us e d s
+unit_stands laws w (FN o) us e d s = calm_taken laws (FN o) (in_phase ReleaseDue) (finish_calm o) w us e d s
+unit_stands laws w (NF o) us e d s = calm_taken laws (NF o) (in_phase Ready) (not_finished_calm o) w us e d s
+unit_stands laws w u us e d s = absurd (let p = not_plain w u us e s in cc)
 
 pub taking_stands : SessionLaws → (w : Core) (us : List Meaning) → w.peer.sent ≡ us → Stands w → Stands (taking w us)
 taking_stands laws w [] e s = s

@@ -1,5 +1,4 @@
 -- What holds after every list of steps of the tables.
-pub mod each_side_has_the_same_session
 pub mod a_line_is_a_connection
 pub mod the_tables_are_the_machine
 pub mod what_two_tables_tell
@@ -7,4 +6,3 @@ pub mod data_behind_is_no_fault
 pub mod every_line_of_a_run
 pub mod what_is_in_flight_can_be_sent
 pub mod what_one_side_received_the_other_sent
-pub mod what_is_heard_was_said

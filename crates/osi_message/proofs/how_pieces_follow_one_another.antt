@@ -1,8 +1,8 @@
 -- Data in parts: how its pieces follow one another, and what is true of them.
 use Rattle.std.proofs.Common.{◌≡◌, refl, sym, ap, subst, ℕ, zero, suc, ◌<◌, ◌≤◌, Bool, true, false, if◌then◌else◌, nat_le, List, [], ◌∷◌}
 use Rattle.std.proofs.Common.{◌++◌, length, take, drop, map, arith, append_assoc}
-use Rattle.osi_message.proofs.Vocabulary.{le-leb, leb-false, lt-leb, length-append, length-drop, First, Middle, Last, part, Words}
-use Rattle.osi_message.proofs.Vocabulary.{part_octets, word_octets, pieces, later_parts, parts_of}
+use Rattle.osi_message.proofs.Vocabulary.{le-leb, leb-false, lt-leb, length-append, length-drop, First, Middle, part, Words, part_octets}
+use Rattle.osi_message.proofs.Vocabulary.{word_octets, pieces, later_parts, parts_of}
 
 -- ---- pieces
 
@@ -27,9 +27,6 @@ all_pieces size o = pieces (length o) size o
 step : (size : ℕ) (o : List ℕ) → 0 < size → size < length o → all_pieces size o ≡ take size o ∷ all_pieces size (drop size o)
 step size o some long = grind (arith, lt-leb, length-drop, same_pieces)
 
-end_of : (n size : ℕ) (o : List ℕ) → length o ≤ size → pieces n size o ≡ o ∷ []
-end_of n size o short = grind (arith, le-leb)
-
 -- there is one piece at least
 pub record IsCons (os : List (List ℕ)) : Type 0 where
   pub head : List ℕ
@@ -47,9 +44,6 @@ rest_parts size o = later_parts (all_pieces size o)
 
 pub middle_of : (x : List ℕ) (os : List (List ℕ)) → IsCons os → later_parts (x ∷ os) ≡ part Middle x ∷ later_parts os
 middle_of x os c = subst (λ (l : List (List ℕ)). later_parts (x ∷ l) ≡ part Middle x ∷ later_parts l) (sym c.is) refl
-
-pub rest_end : (size : ℕ) (o : List ℕ) → length o ≤ size → rest_parts size o ≡ part Last o ∷ []
-rest_end size o short = ap later_parts (end_of (length o) size o short)
 
 pub parts_begin : (size : ℕ) (o : List ℕ) → 0 < size → size < length o → parts_of (all_pieces size o) ≡ part First (take size o) ∷
     rest_parts size (drop size o)

@@ -4,16 +4,16 @@ pub use Rattle.std.proofs.Common.{drop, false, if◌then◌else◌, inl, inr, is
 pub use Rattle.std.proofs.Common.{refl, subst, suc, sum, sym, take, true, vec_capacity, vec_items, vec_len, zero, ℕ, ◌&&◌, ◌++◌, ◌+◌, ◌-◌}
 pub use Rattle.std.proofs.Common.{◌<◌, ◌==◌, ◌^◌, ◌||◌, ◌∙◌, ◌∷◌, ◌≡◌, ◌≢◌, ◌≤◌, ◌⊎◌}
 pub use Rattle.std.proofs.Math.Nat.{add_comm}
-pub use Rattle.std.proofs.Math.Seq.{drop-nil, take-add, take-append_seam}
+pub use Rattle.std.proofs.Math.Seq.{take-add, take-append_seam}
 pub use Rattle.std.proofs.lemmas.Bool.{eq-eqb, eqb-true, le-leb, leb-false, leb-true, lt-ltb, ltb-true, or_parts}
 pub use Rattle.std.proofs.lemmas.Bool.Decides.{nat_tests}
 pub use Rattle.std.proofs.lemmas.List.{append-nil, append_assoc, drop-drop, length-append, length-drop, length-map, length-take, map-append}
-pub use Rattle.std.proofs.lemmas.List.{take-append-drop, take_all, take_more}
+pub use Rattle.std.proofs.lemmas.List.{nil_from_length, take-append-drop, take-append-le, take-map, take-take, take_all, take_more}
 pub use Rattle.std.proofs.lemmas.List.Concat.{flat_map-append}
 pub use Rattle.std.proofs.lemmas.List.Folds.{list_any-append}
 pub use Rattle.std.proofs.lemmas.List.Sums.{sum_by-cons}
 pub use Rattle.std.proofs.lemmas.Nat.{and_le_r}
-pub use Rattle.std.proofs.lemmas.Option.{slice_get_read}
+pub use Rattle.std.proofs.lemmas.Option.{slice_get_read, slice_get_within}
 pub use Rattle.std.specs.List.{AllByRecursion, flat_map, list_any, slice_get}
 pub use Rattle.osi_tpkt.proofs.a_prefix_of_a_packet.{completed_partial, empty_partial, partial_not_whole}
 pub use Rattle.osi_tpkt.proofs.a_stream_is_cut_in_one_way.{one_list}
@@ -34,9 +34,11 @@ pub use Rattle.osi_class.specs.declared.terms.Class.TheVariants.{Two, Zero}
 pub use Rattle.osi_class.specs.declared.terms.Local.{Local}
 pub use Rattle.osi_carrier.proofs.effects.a_unit_touches_one_connection.{free_of, orderly_same, orderly_unit}
 pub use Rattle.osi_carrier.proofs.effects.units_one_after_the_other.{none_of}
-pub use Rattle.osi_carrier.proofs.references.rows_after_a_change.{push_other, put_other, put_rise, put_up, without_other}
+pub use Rattle.osi_carrier.proofs.references.rows_after_a_change.{push_other, put_other, put_rise, put_up, rise_lower, without_other}
+pub use Rattle.osi_carrier.proofs.references.rows_after_a_change.{without_length, without_rise, without_up}
+pub use Rattle.osi_carrier.proofs.references.the_row_at_a_place.{put_same}
 pub use Rattle.osi_carrier.proofs.references.what_a_change_leaves_there.{absent, beyond, push_here, put_here}
-pub use Rattle.osi_carrier.proofs.stream.all_pieces_last_alike.{PacketLaws}
+pub use Rattle.osi_carrier.proofs.stream.packets_at_the_front_of_octets.{PacketLaws}
 pub use Rattle.osi_carrier.proofs.stream.what_was_written_is_read.{unit_packet}
 pub use Rattle.osi_carrier.specs.Calls.{begun_by, closed_with, ended_by, kept_in, may_connect, open_link, or_else, sent, sent_all}
 pub use Rattle.osi_carrier.specs.Happenings.{Happening, closed, opened as told_opened, refused as told_refused, tsdu}
@@ -101,12 +103,12 @@ pub use Rattle.osi_session.specs.declared.requests.Request.{Request}
 pub use Rattle.osi_session.specs.declared.state.State.{State as SessionState}
 pub use Rattle.osi_stack.proofs.called.tsdus_that_are_handed_together.{handed, hands_none, puts_words, sent_by_itself}
 pub use Rattle.osi_stack.proofs.called.what_is_sent_is_short.{SpduLaws, sent_short}
-pub use Rattle.osi_stack.proofs.carried.events_one_after_the_other.{never_starved, starved_over}
-pub use Rattle.osi_stack.proofs.carried.open_connections_stay_open.{apart_push, apart_put, used_at, used_by}
+pub use Rattle.osi_stack.proofs.carried.events_one_after_the_other.{never_starved}
+pub use Rattle.osi_stack.proofs.carried.open_connections_stay_open.{apart_push, apart_put, used_at}
 pub use Rattle.osi_stack.proofs.carried.packets_without_events.{or_second, packet_is, quiet_attends}
 pub use Rattle.osi_stack.proofs.carried.what_a_move_leaves.{Readings, are_lost, came_is, one_heard, used_live}
 pub use Rattle.osi_stack.proofs.carried.what_sessions_leave_of_the_carrier.{hears_keep}
-pub use Rattle.osi_stack.proofs.each_line.references_rise.{rise_joins, rise_push}
+pub use Rattle.osi_stack.proofs.each_line.references_rise.{rise_joins}
 pub use Rattle.osi_stack.proofs.each_line.the_first_that_indicates.{quiet_none}
 pub use Rattle.osi_stack.proofs.each_line.what_stays_true_of_each_session.{came_moves, came_numbers, session_all}
 pub use Rattle.osi_stack.proofs.each_session.what_has_joined_is_open.{came_by}
@@ -129,7 +131,7 @@ pub use Rattle.osi_stack.specs.Messages.{Says, kept_at, told_all}
 pub use Rattle.osi_stack.specs.Moving.{answers, by_line, limit_for, line_after, line_by, to_session}
 pub use Rattle.osi_stack.specs.Needs.{needs_memory}
 pub use Rattle.osi_stack.specs.Runs.{Calls, CallsInRoom, HasRoom, carried_in, carrying, feeding, telling, told_in, used_in}
-pub use Rattle.osi_stack.specs.State.{End, Line as EndLine, Holding, IsAttended, fresh_end, fresh_line, is_used, joined_in, joined_live}
+pub use Rattle.osi_stack.specs.State.{End, Line as EndLine, Holding, IsAttended, fresh_end, fresh_line, joined_in, joined_live}
 pub use Rattle.osi_stack.specs.State.{joined_of, session_at, session_in, used_lines, waits}
 pub use Rattle.osi_stack.specs.Transport.{answers_by}
 pub use Rattle.osi_stack.specs.declared.connecting.Connect.{Connect as ConnectCall}
@@ -137,7 +139,8 @@ pub use Rattle.osi_stack.specs.declared.connecting.ConnectError.{ConnectError}
 pub use Rattle.osi_stack.specs.declared.connecting.ConnectError.TheVariants.{NotSelected, TooLong}
 pub use Rattle.osi_between.proofs.joined.joined_carriers_stay_joined.{given_live, within_given}
 pub use Rattle.osi_between.proofs.link.a_request_before_a_class_is_agreed.{source_is}
-pub use Rattle.osi_between.proofs.unit.the_units_of_one_connection.{first_of_all}
+pub use Rattle.osi_between.proofs.meeting.a_connection_after_each_unit_and_call.{mirror_twice}
+pub use Rattle.osi_between.proofs.unit.the_units_of_one_connection.{first_of_all, front_none}
 pub use Rattle.osi_between.proofs.unit.units_are_read_as_messages.{messages_front}
 pub use Rattle.osi_between.proofs.zero.a_called_end_that_refuses_all.{none_open}
 pub use Rattle.osi_between.proofs.zero.class_0_provides_what_is_asked.{at_one}
@@ -146,17 +149,16 @@ pub use Rattle.osi_between.specs.Addresses.{reference_of, units_of}
 pub use Rattle.osi_between.specs.Between.{Acted, AreBetween, AreJoinedBy, Between, Both, Carries, IsAllThere, IsOnTheWay, IsStill, Same}
 pub use Rattle.osi_between.specs.Between.{Took, answers_in, arriving, becomes, broken_at, fresh_between, fresh_both, handed_over, is_cut}
 pub use Rattle.osi_between.specs.Between.{last_of, lost_from, put_in, side, still_to_tell, to_come, told_of, under_way, units_from}
-pub use Rattle.osi_between.specs.Between.{with_side}
 pub use Rattle.osi_between.specs.Course.{Course, Holds, IsTsap, accepting, asking, at_end, from_end, met, progress_of, withdrawing}
-pub use Rattle.osi_between.specs.Joined.{AreJoined}
-pub use Rattle.osi_between.specs.Meeting.{Meeting, addressed, here, leaving, left_here, left_there, mirror, out, parted, talking}
-pub use Rattle.osi_between.specs.Meeting.{waiting_here, waiting_there}
+pub use Rattle.osi_between.specs.Meeting.{Meeting, addressed, here, leaving, left_there, mirror, out, parted, talking}
+pub use Rattle.osi_between.specs.Meeting.{waiting_there}
 pub use Rattle.osi_between.specs.Messages.{AreLike, begun_at, kind_of, message, messages_after}
 pub use Rattle.osi_between.specs.Progress.{Progress, awaiting, behind_arrivals, behind_puts, class_behind_all, gone, in_use, leaves_use}
 pub use Rattle.osi_between.specs.Progress.{may_arrive, not_yet, progress_in, references_for, shutting}
 pub use Rattle.osi_between.specs.Terms.{Terms, accepts_in, by_two, by_zero, class_of, refusing, terms_of}
 pub use Rattle.osi_between.specs.Zero.{HasOne, ZeroCourse, given_in}
-pub use Rattle.osi_machine.proofs.basics.what_stands_at_a_reference.{cut_count, cut_there, none_there, with_count, with_other, with_same}
+pub use Rattle.osi_machine.proofs.basics.what_stands_at_a_reference.{cut_count, cut_there, ended_count, ended_there, none_there}
+pub use Rattle.osi_machine.proofs.basics.what_stands_at_a_reference.{with_count, with_other, with_same}
 pub use Rattle.osi_machine.proofs.channels.a_held_token_keeps_units_out.{none_held}
 pub use Rattle.osi_machine.proofs.invariant.each_step_keeps_one_side.{SessionLaws}
 pub use Rattle.osi_machine.proofs.tables.a_line_is_a_connection.{SaysItsUnit}
@@ -164,7 +166,7 @@ pub use Rattle.osi_machine.proofs.tables.data_behind_is_no_fault.{called_calm, l
 pub use Rattle.osi_machine.proofs.tables.the_tables_are_the_machine.{At, all_follow, line_there}
 pub use Rattle.osi_machine.specs.AsTables.{AreAgreed, AreOffered, AreSendable, AreSoundLines, AtEachSide, HoldNoneTwice, IsOverWhenLeft}
 pub use Rattle.osi_machine.specs.AsTables.{IsSeenInBoth, IsSoundLine, IsSoundSeat, IsTableRun, LosesAsItEnds, OfEachLine, TellsNoFault}
-pub use Rattle.osi_machine.specs.AsTables.{is_leaving, offers_in}
+pub use Rattle.osi_machine.specs.AsTables.{cut_line, is_leaving, offers_in}
 pub use Rattle.osi_machine.specs.Calm.{IsCalm, IsNoFaultBehind, StaysCalm, after_message}
 pub use Rattle.osi_machine.specs.Core.{Offer, offer_sent}
 pub use Rattle.osi_machine.specs.Floor.{Token, has}
@@ -175,7 +177,7 @@ pub use Rattle.osi_machine.specs.Machine.{references_used_up, replaced, shown_at
 pub use Rattle.osi_machine.specs.Runs.{is_loss, loses}
 pub use Rattle.osi_machine.specs.Sayings.{IsHeardAsSaid, units_in}
 pub use Rattle.osi_machine.specs.Tables.{Line, Seat, Tables, Turn, after_end, after_turn, asked_in, asked_with, awaits, call_in, closes_by}
-pub use Rattle.osi_machine.specs.Tables.{cut_channels, end_of, ended_lines, ends_there, message_taken, noted as noted_in, puts, refusal}
+pub use Rattle.osi_machine.specs.Tables.{cut_channels, end_of, ended_lines, message_taken, noted as noted_in, puts, refusal}
 pub use Rattle.osi_machine.specs.Tables.{run, seen_from, shortened, shown_in_order, side_of, start, stays, step, transport_of, turned}
 pub use Rattle.osi_machine.specs.Tables.{unseen, without_first}
 pub use Rattle.osi_machine.specs.Worlds.{Message, Transport, agree, ask, bye, deny, over, put, replied, unit, waiting}

@@ -4,5 +4,3 @@ pub mod what_remains_when_a_unit_was_taken
 pub mod all_is_shown
 pub mod what_an_acting_end_leaves_in_flight
 pub mod an_open_connection_acts
-pub mod a_sent_unit_is_put
-pub mod a_closed_connection_leaves

@@ -1,27 +1,26 @@
 -- What the proofs of this crate take from the library, from the crates below and from its own definitions.
-pub use Rattle.std.proofs.Common.{Bool, Err, List, None, Ok, OnErr, Option, Result, Some, [], ap, arith, drop, false, if◌then◌else◌, inl}
-pub use Rattle.std.proofs.Common.{inr, is_none, is_some, length, map, nat_le, nat_lt, not, option_copied, option_map, refl, subst, suc, sym}
-pub use Rattle.std.proofs.Common.{true, unwrap_or, zero, ℕ, ◌&&◌, ◌++◌, ◌+◌, ◌-◌, ◌<◌, ◌==◌, ◌||◌, ◌∙◌, ◌∷◌, ◌≡◌, ◌≤◌, ◌⊎◌}
+pub use Rattle.std.proofs.Common.{Bool, Err, List, MatchBool, None, Ok, OnErr, Option, Result, Some, [], ap, arith, drop, false}
+pub use Rattle.std.proofs.Common.{if◌then◌else◌, inl, inr, is_none, is_some, length, map, nat_le, nat_lt, not, option_copied, option_map}
+pub use Rattle.std.proofs.Common.{refl, subst, suc, sym, true, unwrap_or, zero, ℕ, ◌&&◌, ◌++◌, ◌+◌, ◌-◌, ◌<◌, ◌==◌, ◌||◌, ◌∙◌, ◌∷◌, ◌≡◌}
+pub use Rattle.std.proofs.Common.{◌≢◌, ◌≤◌, ◌⊎◌}
 pub use Rattle.std.proofs.lemmas.Bool.{and_from, and_parts, cases_Bool, cases_order, eq-eqb, eqb-true, le-leb, le-ltb, leb-true, lt-leb}
-pub use Rattle.std.proofs.lemmas.Bool.{lt-ltb, ltb-false, ltb-true, ne_eqb, or_left, or_right}
+pub use Rattle.std.proofs.lemmas.Bool.{lt-ltb, ltb-false, ltb-true, ne_eqb, or_cases, or_left, or_parts, or_right}
 pub use Rattle.std.proofs.lemmas.List.{append-nil, append_assoc, length-append}
 pub use Rattle.std.proofs.lemmas.List.Folds.{list_any-append}
 pub use Rattle.std.proofs.lemmas.Nat.{and_assoc, and_le_r}
 pub use Rattle.std.specs.Int.RustNames.{bit_and}
 pub use Rattle.std.specs.List.{AllByRecursion, list_any}
-pub use Rattle.std.specs.Option.{option_and_then}
 pub use Rattle.osi_spdu.proofs.basics.the_steps_of_reading.{bind_ok, ok_is}
 pub use Rattle.osi_spdu.proofs.tsdu.units_and_tsdus_are_read.{behind_stands}
 pub use Rattle.osi_spdu.specs.Fields.{token_octets, unit_bits}
-pub use Rattle.osi_spdu.specs.Groups.{GivesBehind, behind_of, first_of, units_behind, units_of}
+pub use Rattle.osi_spdu.specs.Groups.{GivesBehind, units_behind, units_of}
 pub use Rattle.osi_spdu.specs.Kinds.{si_of}
 unfoldable pub use Rattle.osi_spdu.specs.Kinds.{category_of}
 pub use Rattle.osi_spdu.specs.Known.{Contents, Known, Units}
 pub use Rattle.osi_spdu.specs.Reading.{Gives}
 unfoldable pub use Rattle.osi_spdu.specs.Reading.{tsdu_at}
-pub use Rattle.osi_spdu.specs.Sizes.{are_sizes, named_by, size_of}
+pub use Rattle.osi_spdu.specs.Sizes.{are_sizes, named_by}
 pub use Rattle.osi_spdu.specs.Spelling.{AreBehind}
-pub use Rattle.osi_spdu.specs.Units.{said_by}
 pub use Rattle.osi_spdu.specs.Values.{is_size}
 pub use Rattle.osi_spdu.specs.declared.behind.Behind.{Behind}
 pub use Rattle.osi_spdu.specs.declared.codes.Code.TheVariants.{TokenItem}
@@ -38,12 +37,12 @@ pub use Rattle.osi_spdu.specs.declared.units.Spdu.{Spdu}
 pub use Rattle.osi_message.proofs.how_pieces_follow_one_another.{middle_of, some_piece}
 pub use Rattle.osi_message.proofs.numbers_are_those_of_points.{meant_numbered, units_numbered}
 pub use Rattle.osi_message.proofs.the_tsdus_of_a_message.{more_octets, sent_parted, sent_whole, size_of_parts}
-pub use Rattle.osi_message.specs.Meanings.{AA, AB, AC, CN, DN, DT, FN, GT, MAA, MAP, MIA, MIP, Meaning, NF, PT, RA, RF, RS, meant_by}
+pub use Rattle.osi_message.specs.Meanings.{AA, AB, AC, CN, DT, FN, GT, MAA, MAP, MIA, MIP, Meaning, PT, RF, RS, meant_by}
 pub use Rattle.osi_message.specs.Numbered.{AreNumbered, AreNumberedWords, IsNumbered, IsNumberedWord, IsSmall}
 pub use Rattle.osi_message.specs.Parting.{AreFull, in_one, is_parted, is_whole, later_parts, pieces, tsdus_of, tsdus_sent}
 unfoldable pub use Rattle.osi_message.specs.Parting.{words_sent}
 pub use Rattle.osi_message.specs.Plain.{plain_said, plain_word}
-pub use Rattle.osi_message.specs.Reading.{Said, alone, behind, meaning_by, names, said_by_units, said_if_read}
+pub use Rattle.osi_message.specs.Reading.{Said, alone, behind, meaning_by, said_by_units, said_if_read}
 unfoldable pub use Rattle.osi_message.specs.Reading.{meaning, said_at, word}
 pub use Rattle.osi_message.specs.Sendable.{IsSendable, said_of, words_of}
 pub use Rattle.osi_message.specs.Tokens.{Token, has, no_token, set_of}
@@ -56,22 +55,20 @@ pub use Rattle.osi_message.specs.declared.places.Place.{Place}
 pub use Rattle.osi_message.specs.declared.places.Place.TheVariants.{First, Last, Middle}
 pub use Rattle.osi_message.specs.declared.plain.PlainUnit.{PlainUnit}
 pub use Rattle.osi_message.specs.declared.tokens.Tokens.{Tokens}
-pub use Rattle.osi_session.specs.Allowed.{AllHold, Answer, Passed, Step, Test, after, first_error, has_right, is_confirmable}
-pub use Rattle.osi_session.specs.Allowed.{is_restartable, last_number, may_call, most_data, most_of, most_user_data, needs, octets_of}
-pub use Rattle.osi_session.specs.Allowed.{opened_with, sends, sized}
+pub use Rattle.osi_session.specs.Allowed.{AllHold, Answer, Passed, Step, Test, after, first_error, has_right, is_restartable, last_number}
+pub use Rattle.osi_session.specs.Allowed.{may_call, most_data, most_of, most_user_data, needs, octets_of, opened_with, sends, sized}
 unfoldable pub use Rattle.osi_session.specs.Allowed.{allowed, met}
 pub use Rattle.osi_session.specs.Breaches.{message_breach, word_breach}
-pub use Rattle.osi_session.specs.Calls.{Abort, Accept, Call, Data, Give, HasSerial, Major, MajorConfirm, Minor, MinorConfirm, Please}
-pub use Rattle.osi_session.specs.Calls.{Refuse, Release, ReleaseAccept, ReleaseRefuse, Restart, RestartConfirm, called_by, refusal_with}
+pub use Rattle.osi_session.specs.Calls.{Accept, Call, Data, Give, HasSerial, Major, MajorConfirm, Minor, MinorConfirm, Please, Restart}
+pub use Rattle.osi_session.specs.Calls.{called_by}
 pub use Rattle.osi_session.specs.Causes.{asks_for_connection, call_gives, call_holds, call_opens, call_renews, is_taken, opens_connection}
-pub use Rattle.osi_session.specs.Causes.{renews, some_word, to_answerer, to_asker, unit_asks, unit_gives, unit_holds, unit_opens}
-pub use Rattle.osi_session.specs.Causes.{unit_renews}
+pub use Rattle.osi_session.specs.Causes.{renews, to_answerer, to_asker, unit_asks, unit_gives, unit_holds, unit_opens, unit_renews}
 pub use Rattle.osi_session.specs.Closing.{awaits_close, closes_alone, is_answer, may_close, may_close_word}
 pub use Rattle.osi_session.specs.Counting.{Counts, CountsAll, CountsCame, count_by, count_by_idle, count_of, no_octets, taker_with}
 pub use Rattle.osi_session.specs.Expecting.{Tries, met_by}
-pub use Rattle.osi_session.specs.Joining.{Hearing, Taker, begins_anew, drops_parts, enacted_word, good_word, heard, heard_then, idle}
-pub use Rattle.osi_session.specs.Joining.{is_in_place, is_last, is_restart_word, joined_by, joined_octets, kept_in, respond_came}
-pub use Rattle.osi_session.specs.Joining.{respond_tsdu, word_conditions, word_verdict}
+pub use Rattle.osi_session.specs.Joining.{Hearing, Taker, begins_anew, enacted_word, good_word, heard, heard_then, idle, is_in_place}
+pub use Rattle.osi_session.specs.Joining.{is_last, is_restart_word, joined_by, joined_octets, kept_in, respond_came, respond_tsdu}
+pub use Rattle.osi_session.specs.Joining.{word_conditions, word_verdict}
 unfoldable pub use Rattle.osi_session.specs.Joining.{acting_words, respond_word, respond_words}
 pub use Rattle.osi_session.specs.Kept.{IsJoined, IsJoinedAs, IsKept, IsKeptIn, IsNoFault, discards}
 pub use Rattle.osi_session.specs.Lent.{headed}
@@ -84,18 +81,18 @@ pub use Rattle.osi_session.specs.Openings.{asked_for}
 pub use Rattle.osi_session.specs.Parts.{Act, AreAlike, AreParts, AreSilent, HasProfile, IsOfProfile, act_in_octets, act_in_words, calls}
 pub use Rattle.osi_session.specs.Parts.{calls_in, comes, has_profile, part_comes}
 pub use Rattle.osi_session.specs.Phases.{every_phase, in_major, is_aborting, is_answering, is_ended, is_major_asked, is_major_due, is_over}
-pub use Rattle.osi_session.specs.Phases.{is_ready, is_releasing, is_restart_due, is_restarting, is_wait_cn, is_wait_transport, may_abort}
-pub use Rattle.osi_session.specs.Phases.{may_ask, may_confirm_minor, may_hold, shows_loss, takes_data, takes_minor_ack}
+pub use Rattle.osi_session.specs.Phases.{is_ready, is_restart_due, is_restarting, is_wait_cn, is_wait_transport, may_abort, may_ask}
+pub use Rattle.osi_session.specs.Phases.{may_confirm_minor, may_hold, shows_loss, takes_data, takes_minor_ack}
 pub use Rattle.osi_session.specs.Points.{PlansPoint, advanced, call_for, has_next, may_advance, only_shows}
-pub use Rattle.osi_session.specs.Respond.{AllMet, Condition, IsGood, Outcome, Verdict, and_then, bad, becomes, by_fault, closes_for}
-pub use Rattle.osi_session.specs.Respond.{conditions, dropped, drops, enacted, faulty, fine, first_fault, first_reply, good, has_no_effect}
-pub use Rattle.osi_session.specs.Respond.{in_aborting, in_ended, is_acknowledgeable, is_expected, is_faulty, is_nil, is_restart}
-pub use Rattle.osi_session.specs.Respond.{is_resynchronize, is_silent, is_token_item, judged, kind_of, lost, nothing, over, replies_abort}
-pub use Rattle.osi_session.specs.Respond.{reply_for, respond, shows, si, verdict}
+pub use Rattle.osi_session.specs.Respond.{AllMet, Condition, IsGood, Outcome, Verdict, and_then, bad, becomes, by_fault, conditions}
+pub use Rattle.osi_session.specs.Respond.{dropped, drops, enacted, faulty, fine, first_fault, first_reply, good, has_no_effect, in_aborting}
+pub use Rattle.osi_session.specs.Respond.{in_ended, is_expected, is_faulty, is_nil, is_resynchronize, is_silent, is_token_item, kind_of}
+pub use Rattle.osi_session.specs.Respond.{lost, nothing, over, replies_abort, respond, shows, si, verdict}
 unfoldable pub use Rattle.osi_session.specs.Respond.{acting, respond_all, respond_fault, respond_unit, stands, take_expected}
 pub use Rattle.osi_session.specs.Restarts.{AreCrossed, HasAsked, after_restart}
 unfoldable pub use Rattle.osi_session.specs.Room.{most_whole, most_within}
 pub use Rattle.osi_session.specs.Runs.{HasNumbers, HasNumbersInWords, IsFresh}
+pub use Rattle.osi_session.specs.Same.{place_of, same_bit}
 pub use Rattle.osi_session.specs.Sessions.{CanBeSent, IsPlanOf, Planned, Refused, RefusedBy, Takes, asking, awaiting, is_memory, lone}
 pub use Rattle.osi_session.specs.Sessions.{lone_of, takes_memory}
 unfoldable pub use Rattle.osi_session.specs.Sessions.{unit_in}
@@ -116,15 +113,15 @@ pub use Rattle.osi_session.specs.Whole.{in_words, is_apart, joins, listening, st
 pub use Rattle.osi_session.specs.declared.expected.Expected.{Expected}
 pub use Rattle.osi_session.specs.declared.faults.CallError.{CallError}
 pub use Rattle.osi_session.specs.declared.faults.UnitFault.{UnitFault}
-pub use Rattle.osi_session.specs.declared.faults.UnitFault.TheVariants.{BadEnclosure, DataTooLong, Spelling, TokenHeld, Unexpected}
+pub use Rattle.osi_session.specs.declared.faults.UnitFault.TheVariants.{BadEnclosure, DataTooLong, TokenHeld, Unexpected}
 pub use Rattle.osi_session.specs.declared.grouping.Reactions.{Reactions}
 pub use Rattle.osi_session.specs.declared.hearing.Heard.{Heard}
 pub use Rattle.osi_session.specs.declared.indications.Indication.{Indication}
 pub use Rattle.osi_session.specs.declared.numbers.Numbers.{Numbers}
 pub use Rattle.osi_session.specs.declared.opening.Opening.{Opening}
 pub use Rattle.osi_session.specs.declared.phases.Phase.{Phase}
-pub use Rattle.osi_session.specs.declared.phases.Phase.TheVariants.{Aborting, Answering, Connecting, Ended, MajorAsked, MajorDue, Ready}
-pub use Rattle.osi_session.specs.declared.phases.Phase.TheVariants.{ReleaseDue, Releasing, RestartDue, Restarting, WaitCn, WaitTransport}
+pub use Rattle.osi_session.specs.declared.phases.Phase.TheVariants.{Aborting, Connecting, Ended, MajorDue, ReleaseDue, Releasing}
+pub use Rattle.osi_session.specs.declared.phases.Phase.TheVariants.{RestartDue, Restarting, WaitCn}
 pub use Rattle.osi_session.specs.declared.plans.PlannedPoint.{PlannedPoint}
 pub use Rattle.osi_session.specs.declared.plans.SentPoint.{SentPoint}
 pub use Rattle.osi_session.specs.declared.reactions.Reaction.{Reaction}

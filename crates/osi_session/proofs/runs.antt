@@ -1,5 +1,4 @@
 -- What every run of a session keeps.
-pub mod no_unit_goes_back_to_awaiting
 pub mod numbers_stay_in_order
 pub mod calls_keep_the_invariant
 pub mod units_keep_the_invariant

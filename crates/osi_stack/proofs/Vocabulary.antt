@@ -15,7 +15,7 @@ pub use Rattle.std.proofs.lemmas.List.Elements.{filter-append}
 pub use Rattle.std.proofs.lemmas.List.Quantifiers.{position-Some}
 pub use Rattle.std.proofs.lemmas.List.Sums.{count_by-le-length, position_or_len_is, sum_by-cons, sum_by-set}
 pub use Rattle.std.specs.List.{AllByRecursion, filter, flat_map, list_any, position, position_or_len, sum_by}
-pub use Rattle.osi_tpkt.proofs.a_prefix_of_a_packet.{one_fault}
+pub use Rattle.osi_tpkt.proofs.a_prefix_of_a_packet.{empty_partial}
 pub use Rattle.osi_tpkt.proofs.a_stream_is_cut_in_one_way.{fault_no_packet}
 pub use Rattle.osi_tpkt.specs.Held.{Held, fresh}
 pub use Rattle.osi_tpkt.specs.Packet.{IsFaultOf, IsPartial}
@@ -46,10 +46,11 @@ pub use Rattle.osi_carrier.proofs.references.the_row_at_a_place.{here_is, placed
 pub use Rattle.osi_carrier.proofs.references.what_a_change_leaves_there.{absent, beyond, push_here, put_here, without_here}
 pub use Rattle.osi_carrier.proofs.references.what_is_open.{no_link}
 pub use Rattle.osi_carrier.proofs.references.which_connections_have_selectors.{known_is}
-pub use Rattle.osi_carrier.proofs.stream.a_carrier_does_what_its_packets_do.{OneCut, packets_joined}
+pub use Rattle.osi_carrier.proofs.stream.a_carrier_does_what_its_packets_do.{OneCut, packets_over}
 pub use Rattle.osi_carrier.proofs.stream.a_piece_is_read_packet_by_packet.{acts_cases, packets_leave, packets_more}
-pub use Rattle.osi_carrier.proofs.stream.all_pieces_last_alike.{PacketLaws, Parts, fault_behind, front_used, no_fault, packets_over, parts}
-pub use Rattle.osi_carrier.proofs.stream.how_calls_end_a_carrier.{Compared, at_same, compare, init_front, no_further}
+pub use Rattle.osi_carrier.proofs.stream.packets_at_the_front_of_octets.{PacketLaws, at_same, fault_behind, front_used, packets_within}
+pub use Rattle.osi_carrier.proofs.stream.what_takes_packets_ends_alike.{Reads as ReadsOctets, Runner, Taker as PacketTaker}
+pub use Rattle.osi_carrier.proofs.stream.what_takes_packets_ends_alike.{calls_read as reads_along, reads_still}
 pub use Rattle.osi_carrier.proofs.stream.what_was_written_is_read.{Fronts, alone_starved, fault_free, packet_reacts, reads_part}
 pub use Rattle.osi_carrier.proofs.stream.what_was_written_is_read.{starved_unit, unit_read, units_front}
 pub use Rattle.osi_carrier.proofs.written.a_tsdu_part_after_part.{empty_list}
@@ -61,20 +62,19 @@ pub use Rattle.osi_carrier.specs.Growth.{grows}
 pub use Rattle.osi_carrier.specs.Happenings.{Happening, closed, faulted, happening, opened as told_opened, refused as told_refused}
 pub use Rattle.osi_carrier.specs.Lending.{carrying_lent, lent_event}
 pub use Rattle.osi_carrier.specs.Named.{AreNamed}
-pub use Rattle.osi_carrier.specs.Negotiation.{confirmed}
 pub use Rattle.osi_carrier.specs.Orderly.{AreUpTo, IsOrderly, RiseFrom, told_of}
 pub use Rattle.osi_carrier.specs.Packets.{ActsBy, Carrying, HasToHold, is_spoilt}
 pub use Rattle.osi_carrier.specs.Pieces.{FitsTsdu, headed}
 pub use Rattle.osi_carrier.specs.Place.{never, was_given}
-pub use Rattle.osi_carrier.specs.React.{answers_request, leaves, reacts, taking, to_asked, to_closing, to_connection, to_only, to_unknown}
+pub use Rattle.osi_carrier.specs.React.{answers_request, leaves, reacts, taking, to_asked, to_closing, to_connection, to_only}
 pub use Rattle.osi_carrier.specs.Rows.{Rows, place_of, put, value_at, without}
 pub use Rattle.osi_carrier.specs.Runs.Act.{packet, user}
 pub use Rattle.osi_carrier.specs.Runs.UserCall.{connects as connects_call, sends}
-pub use Rattle.osi_carrier.specs.State.{Connection, State, asked, ends as carrier_ends, closing, linked, moves, writes}
+pub use Rattle.osi_carrier.specs.State.{Connection, State, asked, ends as carrier_ends, closing, linked}
 pub use Rattle.osi_carrier.specs.Told.{is_open, open_after}
 pub use Rattle.osi_carrier.specs.declared.ends.CarrierFault.TheVariants.{Tpkt}
 pub use Rattle.osi_carrier.specs.declared.ends.EndReason.{EndReason}
-pub use Rattle.osi_carrier.specs.declared.ends.EndReason.TheVariants.{Broken, Closed, Fault, NoMemory}
+pub use Rattle.osi_carrier.specs.declared.ends.EndReason.TheVariants.{Broken, Fault, NoMemory}
 pub use Rattle.osi_carrier.specs.declared.faults.OpenError.{OpenError}
 pub use Rattle.osi_carrier.specs.declared.faults.SendError.{SendError}
 pub use Rattle.osi_carrier.specs.declared.faults.SendError.TheVariants.{TooLong}
@@ -117,7 +117,6 @@ unfoldable pub use Rattle.osi_session.specs.Listening.{react}
 pub use Rattle.osi_session.specs.Parts.{Act, AreSilent, HasProfile, IsSilent, act_in_octets, calls, calls_in, comes}
 pub use Rattle.osi_session.specs.Phases.{is_ended, is_over, is_wait_cn, is_wait_transport, may_abort, may_hold, shows_loss}
 pub use Rattle.osi_session.specs.Points.{only_shows}
-pub use Rattle.osi_session.specs.Respond.{in_ended}
 pub use Rattle.osi_session.specs.Runs.{HasNumbersInWords, IsFresh}
 pub use Rattle.osi_session.specs.Sessions.{Takes, asking, awaiting, awaits}
 pub use Rattle.osi_session.specs.Shown.{Lost, Shown, shown_by}
@@ -133,11 +132,11 @@ pub use Rattle.osi_session.specs.declared.phases.Phase.{Phase}
 pub use Rattle.osi_session.specs.declared.phases.Phase.TheVariants.{Ended}
 pub use Rattle.osi_session.specs.declared.state.State.{State as SessionState}
 pub use Rattle.osi_session.specs.declared.taken.Taken.{Taken}
-pub use Rattle.osi_stack.specs.Addresses.{addresses_at, asked_addresses, selectors_in}
+pub use Rattle.osi_stack.specs.Addresses.{addresses_at, asked_addresses}
 pub use Rattle.osi_stack.specs.Attending.{FeedsToEvent, Interrupted, LeftOff}
 pub use Rattle.osi_stack.specs.Calls.{Refuses, TellsOf, after_open, breaks, by_rule, call_error, calls_with, carried, connect_error}
-pub use Rattle.osi_stack.specs.Calls.{connects, first_by, first_shown, has_given, move_refusal, opening_of, phase_at, phase_of, rest_by}
-pub use Rattle.osi_stack.specs.Calls.{send_refusal, session_error, session_refusal, table_error, terms_error, without_first}
+pub use Rattle.osi_stack.specs.Calls.{connects, first_by, first_shown, has_given, move_refusal, opening_of, phase_at, rest_by, send_refusal}
+pub use Rattle.osi_stack.specs.Calls.{session_error, session_refusal, table_error, terms_error, without_first}
 pub use Rattle.osi_stack.specs.Coming.{IsUnheard, TakesSome, TakesUnits, after_unit, carries_out}
 pub use Rattle.osi_stack.specs.Disconnecting.{LeavesOthers, disconnect_error, disconnects, given_up, gives_up, gives_up_by}
 pub use Rattle.osi_stack.specs.Events.{event_input}
@@ -153,7 +152,7 @@ pub use Rattle.osi_stack.specs.Messages.{Acts, AreLost, AreShort, Arrives, Becom
 pub use Rattle.osi_stack.specs.Messages.{IsWhole, Message, Says, agree, all_waiting, ask, begins, bye, deny, does, effect_at, happens}
 pub use Rattle.osi_stack.specs.Messages.{kept_at, message_of, part, put_by, puts, rests, shown_of, told_all, told_at, unit, waiting_at}
 pub use Rattle.osi_stack.specs.Messages.{waiting_of}
-pub use Rattle.osi_stack.specs.Moving.{answers, by_line, carrier_by, limit_for, line_after, line_by, to_session}
+pub use Rattle.osi_stack.specs.Moving.{answers, by_line, carrier_by, limit_for, line_by, to_session}
 pub use Rattle.osi_stack.specs.Needs.{needs_memory, session_needs}
 pub use Rattle.osi_stack.specs.Ordered.{IsOrdered, TellsLowest}
 pub use Rattle.osi_stack.specs.Parted.{to_session_along}

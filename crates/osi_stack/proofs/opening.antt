@@ -1,5 +1,4 @@
 -- How connections are requested, answered and addressed.
-pub mod a_connection_is_requested
 pub mod which_requests_are_answered
 pub mod connections_that_units_open
 pub mod who_waits_was_requested

@@ -6,5 +6,4 @@ pub mod an_empty_piece_changes_nothing
 pub mod a_piece_look_by_look
 pub mod what_feeding_keeps
 pub mod an_end_is_what_its_packets_make
-pub mod all_pieces_last_alike
 pub mod how_calls_end_an_end

@@ -49,16 +49,15 @@ pub use Rattle.osi_tap.specs.Blaming.{IsEarliest, IsFirstOf, IsFoundOf, IsMarkOf
 pub use Rattle.osi_tap.specs.Blaming.{IsToBlameAt, IsToldOf, NobodyElse, NobodyElseIs, NobodyIs, SomeIs, SomeoneIs}
 pub use Rattle.osi_tap.specs.Blaming.IsBreakOf.{of_session, of_transport}
 pub use Rattle.osi_tap.specs.Bounds.{IsWithin, kept_of}
-pub use Rattle.osi_tap.specs.Connections.{Joined, Sessions, adds, adds_all, adds_if, all_begin, asked, asked_at, changed, has_number, meant}
+pub use Rattle.osi_tap.specs.Connections.{Joined, Sessions, adds_all, adds_if, all_begin, asked, asked_at, changed, has_number, meant}
 pub use Rattle.osi_tap.specs.Connections.{numbered, packet_begins, placed, source_of, spoken, taken, taken_at}
-pub use Rattle.osi_tap.specs.Courses.{Course, Moment, applied, breaks, cause_of, changes, earlier, first_after, first_by, first_marked}
-pub use Rattle.osi_tap.specs.Courses.{first_of, halts, is_break, kind_of, mark_by, mark_of, marked, marks_of, moment_of, moved, noted_by}
-pub use Rattle.osi_tap.specs.Courses.{number_at, number_of, packet_by, reached, unit_passes, units_pass, unread, unread_mark, unread_moment}
-pub use Rattle.osi_tap.specs.Courses.{way_of}
-pub use Rattle.osi_tap.specs.Holding.{AllHeard, AreHeard, FoundHeard, HoldAll, Holds, HoldsBoth, HoldsCourse, HoldsFound, HoldsJoined}
-pub use Rattle.osi_tap.specs.Holding.{HoldsPassed, IsDue, IsFirst, IsHeard, IsPlace, IsTold, Lined, begun_in, is_unheard, line_in, lined}
-pub use Rattle.osi_tap.specs.Holding.{streamed, unheard, unheard_at, unit_due}
-pub use Rattle.osi_tap.specs.Lines.{Said, Spoken, added, before, begins, begun_before, begun_octets, heard, place_in, silent, told, told_of}
+pub use Rattle.osi_tap.specs.Courses.{Course, Moment, applied, breaks, cause_of, changes, earlier, first_after, first_by, first_of, halts}
+pub use Rattle.osi_tap.specs.Courses.{is_break, marked, marks_of, moment_of, moved, noted_by, number_at, number_of, packet_by, reached}
+pub use Rattle.osi_tap.specs.Courses.{unit_passes, units_pass, unread, unread_mark, unread_moment, way_of}
+pub use Rattle.osi_tap.specs.Holding.{AreHeard, FoundHeard, HoldAll, Holds, HoldsBoth, HoldsCourse, HoldsFound, HoldsJoined, HoldsPassed}
+pub use Rattle.osi_tap.specs.Holding.{IsDue, IsFirst, IsHeard, IsPlace, Lined, begun_in, is_unheard, line_in, lined, streamed, unheard}
+pub use Rattle.osi_tap.specs.Holding.{unheard_at, unit_due}
+pub use Rattle.osi_tap.specs.Lines.{Said, Spoken, added, before, begun_before, begun_octets, heard, place_in, told, told_of}
 pub use Rattle.osi_tap.specs.Owing.{Comes, HoldsAll, OwesLast, OwesUnits}
 pub use Rattle.osi_tap.specs.Rooms.{fits, spent}
 pub use Rattle.osi_tap.specs.Standing.{HoldsBy, HoldsNow, HoldsOpen, HoldsPart, HoldsState, HoldsStream, IsFed, IsJudged, IsPart, due_if}
@@ -73,12 +72,11 @@ pub use Rattle.osi_tap.specs.declared.lines.Line.{Line}
 pub use Rattle.osi_tap.specs.declared.lines.Stage.{Stage}
 pub use Rattle.osi_tap.specs.declared.lines.Stage.TheVariants.{Between, Unheard, Within}
 pub use Rattle.osi_tap.specs.declared.marks.Cause.{Cause}
-pub use Rattle.osi_tap.specs.declared.marks.Cause.TheVariants.{BadPacket, BadUnit}
+pub use Rattle.osi_tap.specs.declared.marks.Cause.TheVariants.{BadPacket}
 pub use Rattle.osi_tap.specs.declared.marks.First.{First}
 pub use Rattle.osi_tap.specs.declared.marks.Layer.TheVariants.{Session, Transport}
 pub use Rattle.osi_tap.specs.declared.marks.Mark.{Mark}
 pub use Rattle.osi_tap.specs.declared.marks.Marks.{Marks}
-pub use Rattle.osi_tap.specs.declared.marks.UnitKind.{UnitKind}
 pub use Rattle.osi_tap.specs.declared.rooms.Room.{Room}
 pub use Rattle.osi_tap.specs.declared.rooms.Room.TheVariants.{All, Octets, Over}
 pub use Rattle.osi_tap.specs.declared.tap.Tap.{Tap}

@@ -11,19 +11,16 @@ use Rattle.osi_tap.proofs.who_is_to_blame.{not_both}
 
 held_by : (due : Option Direction) (w : Watch) (l r : Streamed) (s : State) → due ≡ None → HoldsBy due w l r s
     → IsEarliest w.first s.course.past s.course.sessions
-held_by None w l r s e h = h.course.course.order
-held_by (Some d) w l r s e h = cc
+held_by due w l r s e h = grind arith
 
 pub first_held : (t : Tap) (s : State) → HoldsState t s → IsJudged t → IsFirstOf (first_in t) s.course.past
 first_held t s h judged = grind arith
 
 pub nobody_held : (t : Tap) (s : State) → HoldsState t s → IsJudged t → first_in t ≡ None → NobodyIs s.course.sessions
-nobody_held t s h judged none =
-    let e = subst (λ (o : Option First). IsEarliest o s.course.past s.course.sessions) none (grind (arith, held_by)) in e.1
+nobody_held t s h judged none = grind (arith, held_by)
 
 pub still_held : (t : Tap) (s : State) (f : First) → HoldsState t s → IsJudged t → first_in t ≡ Some f → IsStill f s.course.sessions
-still_held t s f h judged some =
-    let e = subst (λ (o : Option First). IsEarliest o s.course.past s.course.sessions) some (grind (arith, held_by)) in e.1
+still_held t s f h judged some = grind (arith, held_by)
 
 -- ---- a moment with a break is not spotless
 
@@ -49,9 +46,7 @@ blamed_or_not d o j e b h = not_both d j b (subst (SomeBlameless d) e h)
 
 never_spotless : (f : First) (m : Moment) → IsBreakOf f m → IsSpotless m → ⊥
 never_spotless f m (of_transport k e b is) h = grind arith
-never_spotless f m (of_session i q l d b) h =
-    blamed_or_not f.direction (slice_get m.sessions.live i) b.connection b.there b.broke
-    (at_place f.direction i m.sessions.live h.sessions.live)
+never_spotless f m (of_session i q l d b) h = search (arith, blamed_or_not, at_place)
 
 -- ---- a moment has one break
 
@@ -71,9 +66,7 @@ one_number d i k n o s a b = elim (same_or_not i k) [
 ]
 
 one_break : (f g : First) (m : Moment) → IsBreakOf f m → IsBreakOf g m → f ≡ g
-one_break f g m (of_transport k e b is) (of_transport l e2 b2 is2) =
-    let both : Some k ≡ Some l = sym e ∙ e2 in
-    grind arith
+one_break f g m (of_transport k e b is) (of_transport l e2 b2 is2) = grind arith
 one_break f g m (of_transport k e b is) (of_session i q l d h) = absurd (grind arith)
 one_break f g m (of_session i q l d h) (of_transport k e b is) = absurd (grind arith)
 one_break f g m (of_session i q l d h) (of_session i2 q2 l2 d2 h2) =
@@ -100,8 +93,7 @@ same_moment f g (o ∷ a) (r ∷ b) m n p q h k e x y =
     same_moment f g a b m n p q h.1 k.1 (grind arith) x y
 
 one_or_none : (f : First) (past : List Moment) → AreSpotless past → BreaksFirst f past → ⊥
-one_or_none f past h k =
-    never_spotless f k.moment k.breaks (spotless_at k.front k.moment k.back (subst AreSpotless k.parts h))
+one_or_none f past h k = search (arith, never_spotless, spotless_at k.front k.moment k.back (subst AreSpotless k.parts h))
 
 pub one_first : (past : List Moment) (f g : Option First) → IsFirstOf f past → IsFirstOf g past → f ≡ g
 one_first past None None h k = refl

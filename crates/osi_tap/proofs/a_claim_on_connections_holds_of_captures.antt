@@ -1,11 +1,10 @@
 -- A claim on the connections of a byte connection holds of every capture, if it holds before, and stays as a packet begins and as a unit
 -- is for one of them: for laws on what is kept of a connection.
 use Rattle.std.proofs.Common.{arith}
-use Rattle.osi_tap.proofs.Vocabulary.{ℕ, Bool, true, false, if◌then◌else◌, List, [], ◌∷◌, length, Option, Some, None, Meaning, Reach, Told}
-use Rattle.osi_tap.proofs.Vocabulary.{Value, Capture, of, Direction, Left, Right, Cause, BadPacket, Mark, Marks, Sessions, all_begin, taken}
-use Rattle.osi_tap.proofs.Vocabulary.{Course, marked, changes, noted_by, unit_passes, units_pass, unread, Front, partial, faulty, whole}
-use Rattle.osi_tap.proofs.Vocabulary.{front_of, Streamed, counted, gathered, State, stream_of, with_stream, looked_at, begun, octet_passes}
-use Rattle.osi_tap.proofs.Vocabulary.{after}
+use Rattle.osi_tap.proofs.Vocabulary.{ℕ, Bool, if◌then◌else◌, List, [], ◌∷◌, length, Option, Meaning, Reach, Told, Value, Capture, of}
+use Rattle.osi_tap.proofs.Vocabulary.{Direction, Cause, Mark, Marks, Sessions, all_begin, taken, Course, marked, changes, noted_by}
+use Rattle.osi_tap.proofs.Vocabulary.{unit_passes, units_pass, unread, Front, Streamed, counted, gathered, State, stream_of, with_stream}
+use Rattle.osi_tap.proofs.Vocabulary.{looked_at, begun, octet_passes, after}
 use Rattle.osi_rules.specs.Traffic as traffic
 use Rattle.osi_rules.specs.declared.findings.Reach.TheVariants as reach
 use Rattle.osi_tap.proofs.a_piece_comes_to_what_its_octets_do.{looks}
@@ -16,17 +15,14 @@ pub record IsClaim (P : Sessions → Type 0) : Type 0 where
 
 module _ (P : Sessions → Type 0) (k : IsClaim P) where
   changes_kept : (d : Direction) (f : Marks → Marks) (c : Course) → P c.sessions → P (changes d f c).sessions
-  changes_kept Left f c h = h
-  changes_kept Right f c h = h
+  changes_kept d f c h = grind arith
 
   marked_kept : (m : Mark) (r : Reach) (c : Course) → P c.sessions → P (marked m r c).sessions
-  marked_kept m r c h =
-      grind (arith, changes_kept)
+  marked_kept m r c h = grind (arith, changes_kept)
 
   noted_kept : (d : Direction) (at : ℕ) (v : Value) (told : Told) (o : Option Cause) (c : Course) → P c.sessions
       → P (noted_by d at v told o c).sessions
-  noted_kept d at v told None c h = h
-  noted_kept d at v told (Some cause) c h = marked_kept _ told.reach c h
+  noted_kept d at v told o c h = grind (arith, marked_kept)
 
   units_kept : (d : Direction) (at : ℕ) (vs : List Value) (c : Course) → P c.sessions → P (units_pass d at vs c).sessions
   units_kept d at [] c h = h
@@ -38,11 +34,7 @@ module _ (P : Sessions → Type 0) (k : IsClaim P) where
   -- ---- octets
 
   looked_kept : (d : Direction) (t : Streamed) (f : Front) (s : State) → P s.course.sessions → P (looked_at d t f s).course.sessions
-  looked_kept d t partial s h = grind arith
-  looked_kept Left t (faulty fault) s h = unread_kept Left t.at (BadPacket fault) s.course h
-  looked_kept Right t (faulty fault) s h = unread_kept Right t.at (BadPacket fault) s.course h
-  looked_kept Left t (whole unit) s h = grind (arith, units_kept, unread_kept)
-  looked_kept Right t (whole unit) s h = grind (arith, units_kept, unread_kept)
+  looked_kept d t f s h = grind (arith, unread_kept, units_kept)
 
   begun_kept : (d : Direction) (held : List ℕ) (s : State) → P s.course.sessions → P (begun d held s).course.sessions
   begun_kept d [] s h = k.begins d s.course.sessions h
@@ -51,10 +43,7 @@ module _ (P : Sessions → Type 0) (k : IsClaim P) where
   octet_by : (b : Bool) (d : Direction) (os : List ℕ) (s : State) → P s.course.sessions
       → P (if b then with_stream d (counted (length os) (stream_of d s)) s
       else looks d (gathered os (stream_of d s)) (begun d (stream_of d s).held s)).course.sessions
-  octet_by true d os s h = grind arith
-  octet_by false d os s h =
-      let t = gathered os (stream_of d s) in
-      looked_kept d t (front_of t.held) (begun d (stream_of d s).held s) (begun_kept d (stream_of d s).held s h)
+  octet_by b d os s h = grind (arith, looked_kept, begun_kept)
 
   pub after_kept : (capture : Capture) (s : State) → P s.course.sessions → P (after capture s).course.sessions
   after_kept [] s h = h

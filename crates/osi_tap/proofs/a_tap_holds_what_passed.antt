@@ -1,30 +1,24 @@
 -- What a tap holds of both directions and of what has passed: for the calls of a tap.
 use Rattle.std.proofs.Common.{arith}
-use Rattle.osi_tap.proofs.Vocabulary.{◌≡◌, ◌∙◌, refl, sym, subst, ℕ, Bool, true, false, if◌then◌else◌, List, [], ◌∷◌, length, Capture, of}
-use Rattle.osi_tap.proofs.Vocabulary.{other, piece, Direction, Left, Right, Tap, Watch, HoldsPart, HoldsOpen, HoldsStream, HoldsNow}
-use Rattle.osi_tap.proofs.Vocabulary.{HoldsBy, due_if, HoldsState, IsFed, unfed, fed, Streamed, counted, gathered, State, stream_of}
-use Rattle.osi_tap.proofs.Vocabulary.{with_stream, begun, octet_passes, begin, after, comes_to}
+use Rattle.osi_tap.proofs.Vocabulary.{◌≡◌, ◌∙◌, refl, sym, ℕ, Bool, true, false, if◌then◌else◌, List, [], ◌∷◌, length, Capture, of, other}
+use Rattle.osi_tap.proofs.Vocabulary.{piece, Direction, Left, Right, Tap, Watch, HoldsPart, HoldsOpen, HoldsStream, HoldsNow, HoldsBy}
+use Rattle.osi_tap.proofs.Vocabulary.{due_if, HoldsState, IsFed, unfed, fed, Streamed, counted, gathered, State, stream_of, with_stream}
+use Rattle.osi_tap.proofs.Vocabulary.{begun, octet_passes, after, comes_to}
 use Rattle.osi_tap.proofs.a_piece_comes_to_what_its_octets_do.{looks, after_more}
 
 -- ---- the other direction
 
 other_begun : (d : Direction) (held : List ℕ) (s : State) → stream_of (other d) (begun d held s) ≡ stream_of (other d) s
-other_begun Left [] s = refl
-other_begun Left (o ∷ held) s = refl
-other_begun Right [] s = refl
-other_begun Right (o ∷ held) s = refl
+other_begun d held s = grind arith
 
 other_by : (b : Bool) (d : Direction) (os : List ℕ) (s : State)
     → stream_of (other d) (if b then with_stream d (counted (length os) (stream_of d s)) s
     else looks d (gathered os (stream_of d s)) (begun d (stream_of d s).held s)) ≡ stream_of (other d) s
-other_by true d os s = grind arith
-other_by false d os s =
-    (grind arith) ∙ other_begun d (stream_of d s).held s
+other_by b d os s = search (arith, other_begun)
 
 other_stays : (d : Direction) (os : List ℕ) (s : State) → stream_of (other d) (after (piece d os) s) ≡ stream_of (other d) s
 other_stays d [] s = refl
-other_stays d (o ∷ os) s =
-    other_stays d os (octet_passes (of d o) s) ∙ other_by (stream_of d s).spent d (o ∷ []) s
+other_stays d (o ∷ os) s = grind (arith, other_by, other_stays d os (octet_passes (of d o) s))
 
 pub beside : (d : Direction) (os : List ℕ) (t : Streamed) (s : State) → HoldsPart (other d) t s
     → HoldsPart (other d) t (after (piece d os) s)
@@ -45,23 +39,15 @@ right_taken true os v l m s h k = record { own = k; beside = beside Right os l s
 pub taken_left : (b : Bool) (d : Direction) (os : List ℕ) (w v : Watch) (l m r : Streamed) (s : State) → d ≡ Left
     → (HoldsOpen d w l s → HoldsStream b d v m (after (piece d os) s)) → HoldsNow w l r s
     → HoldsBy (due_if b d) v m r (after (piece d os) s)
-taken_left b d os w v l m r s e takes h =
-    subst (λ (z : Direction). (HoldsOpen z w l s → HoldsStream b z v m (after (piece z os) s))
-    → HoldsBy (due_if b z) v m r (after (piece z os) s)) (sym e)
-    (λ k. left_taken b os v m r s h.right (k (record { stream = h.left; course = h.course }))) takes
+taken_left b d os w v l m r s e takes h = grind (arith, left_taken)
 
 pub taken_right : (b : Bool) (d : Direction) (os : List ℕ) (w v : Watch) (l r m : Streamed) (s : State) → d ≡ Right
     → (HoldsOpen d w r s → HoldsStream b d v m (after (piece d os) s)) → HoldsNow w l r s
     → HoldsBy (due_if b d) v l m (after (piece d os) s)
-taken_right b d os w v l r m s e takes h =
-    subst (λ (z : Direction). (HoldsOpen z w r s → HoldsStream b z v m (after (piece z os) s))
-    → HoldsBy (due_if b z) v l m (after (piece z os) s)) (sym e)
-    (λ k. right_taken b os v l m s h.left (k (record { stream = h.right; course = h.course }))) takes
+taken_right b d os w v l r m s e takes h = grind (arith, right_taken)
 
 -- ---- a capture is fed
 
 pub fed_holds : (capture : Capture) (t : Tap) → IsFed capture t → HoldsState t (comes_to capture)
 fed_holds _ _ (unfed t h) = h
-fed_holds _ _ (fed capture d octets old new r f) =
-    subst (λ (s : State). HoldsState new s) (sym (after_more capture (piece d octets) begin))
-    (f.passes (comes_to capture) (fed_holds capture old r))
+fed_holds _ _ (fed capture d octets old new r f) = grind (arith, after_more, fed_holds capture old r)

@@ -1,7 +1,7 @@
 -- What is kept of the connections stays what passed of them, as one is changed, added or given up, and as all begin a packet:
 -- for the connections of a byte connection.
 use Rattle.osi_tap.proofs.Vocabulary.{◌≡◌, ℕ, zero, suc, ◌+◌, ◌<◌, ◌≤◌, List, [], ◌∷◌, ◌++◌, length, take, drop, map, get_or, set, arith}
-use Rattle.osi_tap.proofs.Vocabulary.{refl, ap, sym, Option, Some, None, ◌∙◌, add-one, cond, ◌==◌, find-append, find, option_map, number_of}
+use Rattle.osi_tap.proofs.Vocabulary.{refl, ap, sym, Option, Some, None, add-one, cond, ◌==◌, find-append, find, option_map, number_of}
 use Rattle.osi_tap.proofs.Vocabulary.{slice_get, Connection, Room, Joined, Sessions, asked, changed, placed, has_number, numbered}
 use Rattle.osi_tap.proofs.Vocabulary.{HoldsJoined, HoldsFound, HoldAll}
 
@@ -36,9 +36,7 @@ element (c ∷ cs) (j ∷ js) (suc i) d lt h = grind (arith, element cs js i d (
 pub one_changed : (cs ds : List Connection) (s : Sessions) (i : ℕ) (c d : Connection) (f : Joined → Joined) → i < length cs
     → ((j : Joined) → HoldsJoined (get_or cs i c) j → HoldsJoined d (f j)) → HoldAll cs s.live → HoldAll ds s.done
     → HoldAll (set cs i d) (changed i f s (slice_get s.live i)).live × HoldAll ds (changed i f s (slice_get s.live i)).done
-one_changed cs ds s i c d f lt step live done =
-    let r = element cs s.live i c lt live in
-    grind (arith, set)
+one_changed cs ds s i c d f lt step live done = grind (arith, set, element cs s.live i c lt live)
 
 pub none_there : (js : List Joined) (i : ℕ) → length js ≤ i → slice_get js i ≡ None
 none_there [] i le = refl
@@ -62,9 +60,7 @@ pub one_replaced : (cs ds : List Connection) (s : Sessions) (i : ℕ) (c d : Con
     → HoldAll cs s.live → HoldAll ds s.done
     → HoldAll (set cs i d) (placed i j s (slice_get s.live i)).live × HoldAll (ds ++ get_or cs i c ∷ []) (placed i j s
     (slice_get s.live i)).done
-one_replaced cs ds s i c d j lt holds live done =
-    let r = element cs s.live i c lt live in
-    grind (arith, set, all_more)
+one_replaced cs ds s i c d j lt holds live done = grind (arith, set, all_more, element cs s.live i c lt live)
 
 -- how much is judged of each stays
 
@@ -94,9 +90,7 @@ step_at f (c ∷ cs) (j ∷ js) (suc i) d new lt h step = (h.0, step_at f cs js 
 pub begun_step : (f : Joined → Joined) (cs : List Connection) (js : List Joined) (i : ℕ) (d new : Connection) → i < length cs
     → HoldAll cs (map f (take i js) ++ drop i js) → ((j : Joined) → HoldsJoined (get_or cs i d) j → HoldsJoined new (f j))
     → HoldAll (set cs i new) (map f (take (i + 1) js) ++ drop (i + 1) js)
-begun_step f cs js i d new lt h step =
-    let next = step_at f cs js i d new lt h step in
-    grind (arith, set, add-one)
+begun_step f cs js i d new lt h step = grind (arith, set, add-one, step_at f cs js i d new lt h step)
 
 all_taken : (f : Joined → Joined) (js : List Joined) (n : ℕ) → n ≡ length js → map f (take n js) ++ drop n js ≡ map f js
 all_taken f [] zero e = refl
@@ -112,8 +106,7 @@ begun_all f cs ds js n e before h = grind (arith, all_length, all_taken)
 
 pub number_there : (cs : List Connection) (js : List Joined) (i : ℕ) (c : Connection) → i < length cs → HoldAll cs js
     → Some (get_or cs i c).number ≡ option_map number_of (slice_get js i)
-number_there cs js i c lt h =
-    let r = element cs js i c lt h in ap Some r.holds.number ∙ ap (option_map number_of) (sym r.there)
+number_there cs js i c lt h = grind (arith, element cs js i c lt h)
 
 pub number_nowhere : (cs : List Connection) (js : List Joined) (i : ℕ) → length cs ≤ i → HoldAll cs js
     → None ≡ option_map number_of (slice_get js i)

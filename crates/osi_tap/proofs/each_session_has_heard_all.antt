@@ -1,8 +1,8 @@
 -- The sessions of connections have heard all that the other side said: for the functions that hand it over, one connection after
 -- the other, and for those that find a connection.
-use Rattle.osi_tap.proofs.Vocabulary.{◌≡◌, ℕ, zero, suc, ◌+◌, ◌<◌, ◌≤◌, List, [], ◌∷◌, length, take, set, get_or, arith, subst, sym}
-use Rattle.osi_tap.proofs.Vocabulary.{add-one, ◌==◌, Option, None, find, Direction, Connection, Watch, Course, AreHeard, FoundHeard}
-use Rattle.osi_tap.proofs.Vocabulary.{IsHeard, HoldsAll, HoldsBy, Streamed, State}
+use Rattle.osi_tap.proofs.Vocabulary.{◌≡◌, ℕ, zero, suc, ◌+◌, ◌<◌, List, [], ◌∷◌, length, take, set, get_or, arith, subst, sym, add-one}
+use Rattle.osi_tap.proofs.Vocabulary.{◌==◌, Option, None, find, Direction, Connection, Watch, Course, AreHeard, FoundHeard, IsHeard}
+use Rattle.osi_tap.proofs.Vocabulary.{HoldsAll, HoldsBy, Streamed, State}
 
 front_at : (cs : List Connection) (i : ℕ) (d : Connection) → i < length cs → IsHeard d → AreHeard (take i cs)
     → AreHeard (take (suc i) (set cs i d))
@@ -13,11 +13,6 @@ front_at (c ∷ cs) (suc i) d lt h k = (k.0, front_at cs i d (omega arith) h k.1
 pub front_heard : (cs : List Connection) (i : ℕ) (d : Connection) → i < length cs → IsHeard d → AreHeard (take i cs)
     → AreHeard (take (i + 1) (set cs i d))
 front_heard cs i d lt h k = subst (λ (n : ℕ). AreHeard (take n (set cs i d))) (sym (add-one i)) (front_at cs i d lt h k)
-
-pub whole_heard : (cs : List Connection) (n : ℕ) → length cs ≤ n → AreHeard (take n cs) → AreHeard cs
-whole_heard [] n le h = tt
-whole_heard (c ∷ cs) zero le h = absurd (omega arith)
-whole_heard (c ∷ cs) (suc n) le h = (h.0, whole_heard cs n (omega arith) h.1)
 
 pub heard_at : (cs : List Connection) (i : ℕ) (c : Connection) → i < length cs → AreHeard cs → IsHeard (get_or cs i c)
 heard_at [] i c lt h = absurd (omega arith)

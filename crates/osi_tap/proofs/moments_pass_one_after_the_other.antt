@@ -50,9 +50,7 @@ looked_more Left t (whole unit) s = read_more Left t.at (units_of unit) s.course
 looked_more Right t (whole unit) s = read_more Right t.at (units_of unit) s.course
 
 begun_more : (d : Direction) (held : List ℕ) (s : State) → (begun d held s).course.past ≡ s.course.past
-begun_more Left [] s = refl
-begun_more Right [] s = refl
-begun_more d (o ∷ held) s = refl
+begun_more d held s = grind arith
 
 octet_by : (b : Bool) (d : Direction) (os : List ℕ) (s : State)
     → More s.course.past (if b then with_stream d (counted (length os) (stream_of d s)) s
@@ -70,6 +68,4 @@ after_grows (of d o ∷ capture) s =
     search (arith, then_more, octet_by, after_grows capture next)
 
 pub moments_of : (capture more : Capture) → More (comes_to capture).course.past (comes_to (capture ++ more)).course.past
-moments_of capture more =
-    let k = after_grows more (comes_to capture) in
-    (k.0, ap (λ (s : State). s.course.past) (after_more capture more begin) ∙ k.1)
+moments_of capture more = grind (arith, after_grows more (comes_to capture), after_more capture more begin)

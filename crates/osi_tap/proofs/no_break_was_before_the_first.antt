@@ -2,12 +2,11 @@
 -- For the functions that let a unit pass, and for octets that can't be read.
 use Rattle.std.proofs.Common.{arith}
 use Rattle.osi_tap.proofs.Vocabulary.{◌≡◌, ◌∙◌, refl, sym, ap, subst, ℕ, Bool, true, false, if◌then◌else◌, List, [], ◌∷◌, ◌++◌}
-use Rattle.osi_tap.proofs.Vocabulary.{append_assoc, Option, Some, None, Value, Direction, Left, Right, Reach, Told, Cause, First, Session}
-use Rattle.osi_tap.proofs.Vocabulary.{Mark, Marks, Sessions, taken, all_begin, Course, Moment, is_break, first_of, first_by, first_after}
-use Rattle.osi_tap.proofs.Vocabulary.{first_marked, changes, breaks, marked, cause_of, noted_by, moved, moment_of, applied, number_at}
-use Rattle.osi_tap.proofs.Vocabulary.{unread_mark, unread_moment, NobodyIs, NobodyElse, IsToBlameAt, IsQuiet, AreSpotless, IsSpotless}
-use Rattle.osi_tap.proofs.Vocabulary.{BreaksFirst, IsEarliest, IsBreakOf, BlamesBy, IsSessionOf, IsToldOf, IsStill, SomeoneIs, of_transport}
-use Rattle.osi_tap.proofs.Vocabulary.{of_session}
+use Rattle.osi_tap.proofs.Vocabulary.{append_assoc, Option, Some, None, Value, Direction, Reach, Told, Cause, First, Session, Mark, Marks}
+use Rattle.osi_tap.proofs.Vocabulary.{Sessions, taken, all_begin, Course, Moment, is_break, first_of, first_by, first_after, changes}
+use Rattle.osi_tap.proofs.Vocabulary.{breaks, marked, cause_of, noted_by, moved, moment_of, applied, number_at, unread_mark, unread_moment}
+use Rattle.osi_tap.proofs.Vocabulary.{NobodyIs, NobodyElse, IsToBlameAt, IsQuiet, AreSpotless, IsSpotless, BreaksFirst, IsEarliest}
+use Rattle.osi_tap.proofs.Vocabulary.{IsBreakOf, BlamesBy, IsSessionOf, IsToldOf, IsStill, SomeoneIs, of_transport, of_session}
 use Rattle.osi_rules.specs.declared.findings.Reach.TheVariants as reach
 use Rattle.osi_tap.proofs.who_is_to_blame.{nobody_begun}
 use Rattle.osi_tap.proofs.who_broke_first_stays_to_blame.{still_begun, told_some}
@@ -15,26 +14,20 @@ use Rattle.osi_tap.proofs.who_broke_first_stays_to_blame.{still_begun, told_some
 -- ---- what is found of the transport changes neither the moments nor the connections
 
 changes_past : (d : Direction) (f : Marks → Marks) (c : Course) → (changes d f c).past ≡ c.past
-changes_past Left f c = refl
-changes_past Right f c = refl
+changes_past d f c = grind arith
 
 changes_sessions : (d : Direction) (f : Marks → Marks) (c : Course) → (changes d f c).sessions ≡ c.sessions
-changes_sessions Left f c = refl
-changes_sessions Right f c = refl
+changes_sessions d f c = grind arith
 
 pub marked_past : (m : Mark) (r : Reach) (c : Course) → (marked m r c).past ≡ c.past
-marked_past m r c =
-    (grind (arith, changes_past)) ∙ changes_past m.direction (breaks m) (first_marked m c)
+marked_past m r c = grind (arith, changes_past)
 
 marked_sessions : (m : Mark) (r : Reach) (c : Course) → (marked m r c).sessions ≡ c.sessions
-marked_sessions m r c =
-    (grind (arith, changes_sessions))
-    ∙ changes_sessions m.direction (breaks m) (first_marked m c)
+marked_sessions m r c = grind (arith, changes_sessions)
 
 pub noted_past : (d : Direction) (at : ℕ) (v : Value) (told : Told) (o : Option Cause) (c : Course)
     → (noted_by d at v told o c).past ≡ c.past
-noted_past d at v told None c = refl
-noted_past d at v told (Some cause) c = marked_past _ told.reach c
+noted_past d at v told o c = grind (arith, marked_past)
 
 -- ---- one moment more
 
@@ -54,8 +47,7 @@ still_first f past m h = record {
 
 break_still : (f : First) (m : Moment) → IsBreakOf f m → IsStill f m.sessions
 break_still f m (of_transport k e b is) = λ l. absurd (grind arith)
-break_still f m (of_session i q l d b) =
-    λ e. told_some f.direction f.connection i m.sessions b.connection b.there b.number_is b.broke
+break_still f m (of_session i q l d b) = search (arith, told_some)
 
 now_first : (n : Option First) (past : List Moment) (m : Moment) → AreSpotless past → IsToldOf n m
     → IsEarliest n (past ++ m ∷ []) m.sessions
@@ -87,8 +79,7 @@ unit_earliest d at v told k o n h still others told_so kept =
     (earliest o n k.past k.sessions m h (λ f b l. still f.direction f.connection (b l)) (λ e b. told_so e (others b)) kept))
 
 pub first_stays : (mark : Option Mark) (f : First) → first_after mark (Some f) ≡ Some f
-first_stays None f = refl
-first_stays (Some m) f = refl
+first_stays mark f = grind arith
 
 -- a packet begins
 pub begun_earliest : (d : Direction) (o : Option First) (past : List Moment) (s : Sessions) → IsEarliest o past s
@@ -120,14 +111,7 @@ unread_earliest d at cause r k o n is h =
 
 pub session_first : (b : Bool) (d : Direction) (place number : Option ℕ) (s : Sessions) → BlamesBy b d place s → number ≡ number_at place s
     → NobodyElse d place s → IsSessionOf (if b then Some (record { direction = d; layer = Session; connection = number }) else None) d s
-session_first true d None number s h e k = absurd h
-session_first true d (Some i) number s h e k = (
-  refl,
-  refl,
-  grind arith,
-)
-session_first false d None number s h e k = k
-session_first false d (Some i) number s h e k = record { live = h k.live; done = k.done }
+session_first b d place number s h e k = grind arith
 
 -- ---- a unit is told of
 
@@ -148,5 +132,4 @@ by_mark false n p d at k s e is kept session = by_session p d at (Some k) s e (s
 pub either_told : (mark : Option Mark) (n p : Option First) (d : Direction) (at : ℕ) (s : Sessions) → n ≡ first_after mark None
     → ((f : First) → n ≡ Some f → p ≡ Some f) → (n ≡ None → IsSessionOf p d s)
     → IsToldOf p (record { direction = d; at = at; mark = mark; sessions = s })
-either_told None n p d at s is kept session = by_session p d at None s tt (session is)
-either_told (Some k) n p d at s is kept session = by_mark (is_break k.cause) n p d at k s refl is kept session
+either_told mark n p d at s is kept session = grind (arith, by_session, by_mark)

@@ -1,7 +1,7 @@
 -- What the reader of packets says of octets is what their front is: for the packets of one direction.
-use Rattle.osi_tap.proofs.Vocabulary.{◌≡◌, subst, ℕ, ◌+◌, ◌-◌, ◌<◌, ◌≤◌, List, ◌++◌, length, take, drop, arith, le-ltb, lt-ltb}
-use Rattle.osi_tap.proofs.Vocabulary.{take-append-drop, length-append, take-append_seam, IsPacket, IsPartial, IsFaultOf, TpktFault, partial}
-use Rattle.osi_tap.proofs.Vocabulary.{faulty, whole, sized, front_of}
+use Rattle.osi_tap.proofs.Vocabulary.{◌≡◌, ℕ, ◌+◌, ◌-◌, ◌<◌, ◌≤◌, List, ◌++◌, length, take, drop, arith, le-ltb, lt-ltb, take-append-drop}
+use Rattle.osi_tap.proofs.Vocabulary.{length-append, take-append_seam, IsPacket, IsPartial, IsFaultOf, TpktFault, partial, faulty, whole}
+use Rattle.osi_tap.proofs.Vocabulary.{sized, front_of}
 
 -- ---- by the length that the header states
 
@@ -15,8 +15,7 @@ sized_partial stated t more e least some = grind (arith, length-append, le-ltb, 
 -- ---- a packet
 
 pub packet_front : (u s : List ℕ) (n : ℕ) → IsPacket u (take n s) → front_of s ≡ whole u
-packet_front u s n p =
-    subst (λ (z : List ℕ). front_of z ≡ whole u) (take-append-drop n s) (grind (arith, sized_whole))
+packet_front u s n p = grind (arith, sized_whole, take-append-drop n s)
 
 -- ---- a part of a packet
 

@@ -73,11 +73,7 @@ one_set most (x ∷ js) (suc i) j h k = (h.0, one_set most js i j h.1 k)
 
 place_fit : (most : ℕ) (d : Direction) (at : ℕ) (v : Value) (m : Meaning) (i : ℕ) (s : Sessions) → AllFit most s
     → AllFit most (taken_at d at v m i s)
-place_fit most d at v meaning.Asks i s h = grind (arith, one_more, one_set, one_at)
-place_fit most d at v meaning.Opens i s h = grind (arith, one_set, one_at, fit_added)
-place_fit most d at v meaning.Closes i s h = grind (arith, one_set, one_at, fit_added)
-place_fit most d at v (meaning.Adds end) i s h = grind (arith, one_set, one_at, fit_added)
-place_fit most d at v meaning.Nothing i s h = grind (arith, one_set, one_at, fit_added)
+place_fit most d at v m i s h = search (arith, one_more, one_set, one_at, fit_added)
 
 taken_fit : (most : ℕ) (d : Direction) (at : ℕ) (v : Value) (m : Meaning) (place : Option ℕ) (s : Sessions) → AllFit most s
     → AllFit most (taken d at v m place s)

@@ -1,30 +1,16 @@
 -- What is kept of both sides of a connection stays what passed of them, as DTs pass and TSDUs are handed over: for what is
 -- kept of a connection.
 use Rattle.osi_tap.proofs.Vocabulary.{◌≡◌, ◌∙◌, refl, sym, ap, subst, ℕ, zero, suc, ◌+◌, List, [], ◌∷◌, ◌++◌, length, Bool, true, false}
-use Rattle.osi_tap.proofs.Vocabulary.{Some, arith, append-nil, map-append, length-map, length-append, offset_of, Seen, Tells, last_place}
-use Rattle.osi_tap.proofs.Vocabulary.{Finding, Kept, Watched, Watches, FoundNext, IsFound, HasRoom, outline, outlines, Stage, Between}
-use Rattle.osi_tap.proofs.Vocabulary.{Within, Unheard, seen_calling, seen_called, other, begin_of, Direction, Left, Right, Connection, Line}
-use Rattle.osi_tap.proofs.Vocabulary.{Joined, adds_all, spoken, lined, line_in, HoldsJoined, IsHeard, Spoken, told, told_of, heard}
-use Rattle.osi_tap.proofs.Vocabulary.{begun_octets, begun_before, before, added, begins, silent, Said, place_in, Lined, unheard, unheard_at}
-use Rattle.osi_tap.proofs.Vocabulary.{begun_in, is_unheard, IsPlace, Holds, HoldsBoth, hears, found_as, room_as, found_of_tsdus}
-use Rattle.osi_tap.proofs.Vocabulary.{room_of_tsdus}
+use Rattle.osi_tap.proofs.Vocabulary.{Some, arith, append-nil, map-append, length-map, Seen, Tells, last_place, Finding, Kept, Watched}
+use Rattle.osi_tap.proofs.Vocabulary.{Watches, FoundNext, IsFound, HasRoom, outline, outlines, Stage, Between, Within, Unheard}
+use Rattle.osi_tap.proofs.Vocabulary.{seen_calling, seen_called, other, begin_of, Direction, Left, Right, Connection, Line, Joined}
+use Rattle.osi_tap.proofs.Vocabulary.{adds_all, spoken, lined, line_in, HoldsJoined, IsHeard, Spoken, told, told_of, heard, begun_octets}
+use Rattle.osi_tap.proofs.Vocabulary.{begun_before, before, added, Said, place_in, Lined, unheard, unheard_at, begun_in, is_unheard}
+use Rattle.osi_tap.proofs.Vocabulary.{IsPlace, Holds, HoldsBoth, hears, found_as, room_as, found_of_tsdus, room_of_tsdus}
 use Rattle.osi_judge.specs.Explaining.{Told}
-
-abbrev line : Watched → List ℕ → Stage → (begun_since since last : ℕ) → Lined
-line w x stage n m last = record { side = w; begun = x; stage = stage; begun_since = n; since = m; last = last }
 
 pub flipped : {s t : Seen} {own other : Lined} {a b : Spoken} → HoldsBoth s t own other a b → HoldsBoth t s other own b a
 flipped h = record { this = h.that; that = h.this }
-
--- ---- a TSDU is handed over
-
-pub handed : (s t : Seen) (w v v2 : Watched) (x x2 y : List ℕ) (mine stage : Stage) (n m l n2 m2 l2 : ℕ) (a b : Spoken)
-    → is_unheard mine ≡ true → x2 ≡ [] → v2.begin ≡ v.begin → v2.finding ≡ v.finding → v2.heard ≡ v.heard ++ outline x ∷ []
-    → ((told : List Told) → Watches v told → Watches v2 told)
-    → HoldsBoth s t (line w x mine n m l) (line v y stage n2 m2 l2) a b
-    → HoldsBoth s t (line w x2 Between n m l) (line v2 y stage n2 m2 l2) a b
-handed s t w v v2 x x2 y mine stage n m l n2 m2 l2 a b is none begin found heard watches h =
-    grind (arith, append-nil)
 
 -- ---- a part of a TSDU
 
@@ -93,18 +79,6 @@ end_added s t own new other a b at since w octets e since_is is tells h =
       that = grind (arith, hears, heard_by_other s t own other a b e h, heard_more a at octets);
     })
 
--- ---- the beginning of a connection, and of a packet
-
-pub fresh_both : (s t : Seen) (own other : Lined) (w v : Watched) → own ≡ line w [] Between 0 0 0 → other ≡ line v [] Between 0 0 0
-    → w.begin ≡ s → v.begin ≡ t → w.heard ≡ [] → v.heard ≡ [] → w.finding ≡ Kept → v.finding ≡ Kept → Watches w [] → Watches v []
-    → HoldsBoth s t own other silent silent
-fresh_both s t own other w v is other_is begin other_begin none other_none kept other_kept watches other_watches = grind (arith, append-nil)
-
-pub begun_both : (s t : Seen) (own new other : Lined) (a b : Spoken)
-    → new ≡ record own { since = offset_of (length own.side.heard + length (unheard other)) }
-    → HoldsBoth s t own other a b → HoldsBoth s t new other (begins b a) b
-begun_both s t own new other a b is h = grind (arith, length-append, length-map)
-
 -- ---- what is found of a session is right
 
 -- a session to which the last TSDU of the other side has not been handed over is found so all the same
@@ -147,10 +121,6 @@ heard_at Left c j h k = heard_by_other seen_called seen_calling (lined c.right) 
 heard_at Right c j h k = heard_by_other seen_calling seen_called (lined c.left) (lined c.right) j.left j.right k.left h.sides
 
 -- ---- a DT on a connection
-
-pub place_at : (d : Direction) (c : Connection) (j : Joined) → HoldsJoined c j
-    → IsPlace (line_in d c).side.finding (spoken d j).said (line_in d c).last
-place_at d c j h = grind arith
 
 pub left_added : (d : Direction) (c : Connection) (own other : Line) (j : Joined) (at : ℕ) (end : Bool) (octets : List ℕ) → d ≡ Left
     → HoldsJoined c j → HoldsBoth seen_calling seen_called (lined own) (lined other) (added at end octets j.left) j.right

@@ -4,8 +4,8 @@ use Rattle.osi_tap.proofs.Vocabulary.{◌≡◌, refl, sym, subst, ℕ, zero, su
 use Rattle.osi_tap.proofs.Vocabulary.{length, map, take, get_or, set, Option, Some, None, arith, take-append-le, slice_get, Seen, other}
 use Rattle.osi_tap.proofs.Vocabulary.{done, IsFound, IsFew, HasRoom, broke_session, begin_of, Direction, Left, Right, Finding, Kept, Broke}
 use Rattle.osi_tap.proofs.Vocabulary.{TooMany, Strays, never_strays, no_crowd, Connection, IsFoundOf, IsBlameless, IsToBlame, AreBlameless}
-use Rattle.osi_tap.proofs.Vocabulary.{AreBlamelessBut, NobodyIs, NobodyElse, NobodyElseIs, Blames, Room, Joined, Sessions, asked, asked_at}
-use Rattle.osi_tap.proofs.Vocabulary.{placed, changed, packet_begins, all_begin, line_in, HoldsJoined, HoldAll}
+use Rattle.osi_tap.proofs.Vocabulary.{AreBlamelessBut, NobodyIs, NobodyElseIs, Blames, Room, Joined, Sessions, asked, asked_at, placed}
+use Rattle.osi_tap.proofs.Vocabulary.{changed, packet_begins, all_begin, line_in, HoldsJoined, HoldAll}
 use Rattle.osi_judge.specs.Explaining.{Told}
 use Rattle.osi_judge.specs.Kept.{kept}
 use Rattle.osi_judge.specs.declared.findings.Finding.TheVariants.{Left as Astray}
@@ -77,9 +77,6 @@ all_but d i [] h = tt
 all_but d zero (j ∷ js) h = (one_of (other d) j h.0, h.1)
 all_but d (suc i) (j ∷ js) h = (h.0, all_but d i js h.1)
 
-pub nobody_else : (d : Direction) (place : Option ℕ) (s : Sessions) → NobodyIs s → NobodyElse d place s
-nobody_else d place s h = grind (arith, all_but)
-
 -- ---- a unit for a connection
 
 record Changes (d : Direction) (i : ℕ) (js : List Joined) (f : Joined → Joined) : Type 0 where
@@ -110,8 +107,7 @@ none_changes d cs s i f le h b = grind (arith, all_length, none_there, all_but)
 
 one_session : (begin : Seen) (n : ℕ) → length (kept begin [] (take n [])) ≤ 4096
 unfolding kept
-one_session begin zero = omega arith
-one_session begin (suc n) = omega arith
+one_session begin n = grind arith
 
 begin_blameless : (d : Direction) (number calling : ℕ) (room : Room) → IsBlameless d (asked number calling room)
 begin_blameless Left number calling room = record {
@@ -174,8 +170,7 @@ with_one : (d : Direction) (cs : List Connection) (js : List Joined) (i : ℕ) (
     → broke_session (line_in d (get_or cs i c)).side.finding ≡ false → AreBlamelessBut d i js → AreBlameless js
 with_one d [] js i c lt h e b = absurd (omega arith)
 with_one d (x ∷ cs) [] i c lt h e b = absurd h
-with_one d (x ∷ cs) (j ∷ js) zero c lt h e b =
-    (both_of d j (record { finding = (line_in d x).side.finding; found = found_of d x j h.0; none = e }) b.0, b.1)
+with_one d (x ∷ cs) (j ∷ js) zero c lt h e b = grind (arith, both_of, found_of d x j h.0)
 with_one d (x ∷ cs) (j ∷ js) (suc i) c lt h e b = (b.0, with_one d cs js i c (omega arith) h.1 e b.1)
 
 pub one_blamed : (b : Bool) (d : Direction) (cs : List Connection) (js : List Joined) (i : ℕ) (c : Connection) → i < length cs

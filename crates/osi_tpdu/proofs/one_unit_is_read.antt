@@ -8,7 +8,8 @@ use Rattle.osi_tpdu.proofs.Vocabulary.{HasFieldsInRange, Item, Means, item_octet
 use Rattle.osi_tpdu.proofs.Vocabulary.{header_at, reference_at, known_at, all_skipped_at, connect_of, request_of, confirm_of, disconnect_of}
 use Rattle.osi_tpdu.proofs.Vocabulary.{disconnected_of, transfer_of, acknowledge_of, error_of, value_of, unit_at, Follows, ◌≡◌, ℕ, ◌+◌, ◌*◌}
 use Rattle.osi_tpdu.proofs.Vocabulary.{◌/◌, ◌%◌, ◌<◌, ◌≤◌, Bool, true, false, cond, eqb, ltb, leb, List, [], ◌∷◌, ◌++◌, length, get_or}
-use Rattle.osi_tpdu.proofs.Vocabulary.{take, drop, Result, Ok, Err, refl, sym, ap, subst, ◌∙◌, arith, inl, inr, IsAtFront}
+use Rattle.osi_tpdu.proofs.Vocabulary.{Kind, Request, Confirm, Disconnect, Disconnected, Transfer, Acknowledge, Report, HasCode, take, drop}
+use Rattle.osi_tpdu.proofs.Vocabulary.{Result, Ok, Err, refl, sym, ap, subst, ◌∙◌, arith, IsAtFront}
 use Rattle.osi_tpdu.proofs.the_steps_of_reading.{bind_ok, unless_ok, when_ok, chosen, ok_is, IsOctets-rest}
 use Rattle.osi_tpdu.proofs.parameters_are_read_as_they_mean.{known_found, known_only, skipped_found, skipped_only}
 
@@ -56,7 +57,7 @@ pub record IsRead (v : Value) (header behind : List ℕ) : Type 0 where
   pub in_range : HasFieldsInRange v
   pub user : user_data v ≡ cond (may_be_followed v) [] behind
 
-abbrev content : List ℕ → Parameters → List ℕ → Connect
+abbrev pub content : List ℕ → Parameters → List ℕ → Connect
 content header p user = record {
   credit = get_or header 0 0 % 16;
   source = reference_at 3 header;
@@ -97,34 +98,44 @@ connect_found at half header user c code octets behind e =
       user_is = refl;
     })
 
-abbrev Reading : (List ℕ → List ℕ → Result Value TpduFault) → List ℕ → List ℕ → Type 0
-Reading of header behind = (v : Value) → IsOctets header → IsOctets behind → of header behind ≡ Ok v → IsRead v header behind
+-- ---- the kind of a unit, by its code
 
-request_found : (at : ℕ) (header behind : List ℕ) → get_or header 0 0 / 16 ≡ 14 → Reading (request_of at) header behind
-unfolding request_of
-request_found at header behind code v octets back e =
-    let b = bind_ok (connect_of at header behind) (λ c. Ok (request c)) v e in
-    grind (arith, connect_found at 14 header behind b.0 code octets back b.1, ok_is (request b.0) v b.2)
+-- what is read of a unit of this kind
+abbrev pub read_as : Kind → ℕ → List ℕ → List ℕ → Result Value TpduFault
+read_as Request at header behind = request_of at header behind
+read_as Confirm at header behind = confirm_of at header behind
+read_as Disconnect at header behind = disconnect_of at header behind
+read_as Disconnected at header behind = disconnected_of at header
+read_as Transfer at header behind = transfer_of at header behind
+read_as Acknowledge at header behind = acknowledge_of at header
+read_as Report at header behind = error_of at header
 
-confirm_found : (at : ℕ) (header behind : List ℕ) → get_or header 0 0 / 16 ≡ 13 → Reading (confirm_of at) header behind
-unfolding confirm_of
-confirm_found at header behind code v octets back e =
-    let b = bind_ok (connect_of at header behind) (λ c. Ok (confirm (reference_at 1 header) c)) v e in
-    let r = connect_found at 13 header behind b.0 code octets back b.1 in
-    subst (λ (w : Value). IsRead w header behind) (ok_is (confirm (reference_at 1 header) b.0) v b.2) (grind (arith, first_reference))
+abbrev pub code_in : List ℕ → ℕ
+code_in header = get_or header 0 0
 
-disconnect_found : (at : ℕ) (header behind : List ℕ) → get_or header 0 0 ≡ 0x80 → Reading (disconnect_of at) header behind
-unfolding disconnect_of
-disconnect_found at header behind code v octets back e =
-    let made = disconnect (reference_at 1 header) (reference_at 3 header) (get_or header 5 0) behind in
-    let a = unless_ok (ltb (length header) 6) (BadLi at) _ v e in
-    let b = bind_ok (all_skipped_at (at + 7) (drop 6 header)) (λ skipped. Ok made) v a.1 in
-    let f = skipped_found (at + 7) (drop 6 header) (octets_drop 6 header octets) b.1 in
-    grind (arith, ok_is, two_is, first_reference)
+by_test : {A : Type 0} (P : A → Type 0) (b : Bool) (x y : A) → (b ≡ true → P x) → (b ≡ false → P y) → P (cond b x y)
+by_test P b x y held failed = grind arith
 
-disconnected_found : (at : ℕ) (header behind : List ℕ) → get_or header 0 0 ≡ 0xC0 → Reading (λ h b. disconnected_of at h) header behind
-unfolding disconnected_of
-disconnected_found at header behind code v octets back e = search (arith, when_ok, ok_is, front_five, eqb-true, first_reference)
+unnamed : (kind : Kind) (code : ℕ) → eqb (code / 16) 0xE ≡ false → eqb (code / 16) 0xD ≡ false → eqb (code / 16) 0x6 ≡ false →
+    eqb code 0x80 ≡ false → eqb code 0xC0 ≡ false → eqb code 0xF0 ≡ false → eqb code 0x70 ≡ false
+    → HasCode kind code → ⊥
+unnamed kind code a b c d e f g h = grind (arith, eqb-false)
+
+-- what holds of each kind, and of a code that belongs to none, holds of what is read
+pub by_kind : (P : Result Value TpduFault → Type 0) (at : ℕ) (header behind : List ℕ) →
+    ((kind : Kind) → HasCode kind (code_in header) → P (read_as kind at header behind)) →
+    (((kind : Kind) → HasCode kind (code_in header) → ⊥) → P (Err (UnknownCode (at + 1)))) → P (value_of at header behind)
+unfolding value_of
+by_kind P at header behind known other =
+    let code = code_in header in
+    by_test P (eqb (code / 16) 0xE) _ _ (λ e. known Request (code % 16, grind arith, grind arith)) (λ nE.
+    by_test P (eqb (code / 16) 0xD) _ _ (λ e. known Confirm (code % 16, grind arith, grind arith)) (λ nD.
+    by_test P (eqb (code / 16) 0x6) _ _ (λ e. known Acknowledge (code % 16, grind arith, grind arith)) (λ n6.
+    by_test P (eqb code 0x80) _ _ (λ e. known Disconnect (eqb-true code 0x80 e)) (λ n80.
+    by_test P (eqb code 0xC0) _ _ (λ e. known Disconnected (eqb-true code 0xC0 e)) (λ nC0.
+    by_test P (eqb code 0xF0) _ _ (λ e. known Transfer (eqb-true code 0xF0 e)) (λ nF0.
+    by_test P (eqb code 0x70) _ _ (λ e. known Report (eqb-true code 0x70 e)) (λ n70.
+    other (λ kind. unnamed kind code nE nD n6 n80 nC0 nF0 n70))))))))
 
 data0_found : (header behind : List ℕ) → get_or header 0 0 ≡ 0xF0 → length header ≡ 2 → IsOctets header → IsOctets behind →
     IsRead (data0 (leb 128 (get_or header 1 0)) behind) header behind
@@ -136,13 +147,26 @@ data2_found : (header behind : List ℕ) → get_or header 0 0 ≡ 0xF0 → leng
     → IsRead (data2 (reference_at 1 header) (get_or header 3 0 % 128) (leb 128 (get_or header 3 0)) behind) header behind
 data2_found header behind code len octets back = grind (arith, drop_all 4 header (omega arith))
 
-transfer_found : (at : ℕ) (header behind : List ℕ) → get_or header 0 0 ≡ 0xF0 → Reading (transfer_of at) header behind
-unfolding transfer_of
-transfer_found at header behind code v octets back e = search (arith, chosen, eqb, leb, ok_is, data0_found, eqb-true, when_ok, data2_found)
-
-acknowledge_found : (at : ℕ) (header behind : List ℕ) → get_or header 0 0 / 16 ≡ 6 → Reading (λ h b. acknowledge_of at h) header behind
-unfolding acknowledge_of
-acknowledge_found at header behind code v octets back e =
+kind_found : (kind : Kind) (at : ℕ) (header behind : List ℕ) (v : Value) → IsOctets header → IsOctets behind →
+    HasCode kind (code_in header) → read_as kind at header behind ≡ Ok v → IsRead v header behind
+unfolding request_of confirm_of disconnect_of disconnected_of transfer_of acknowledge_of error_of
+kind_found Request at header behind v octets back code e =
+    let b = bind_ok (connect_of at header behind) (λ c. Ok (request c)) v e in
+    grind (arith, connect_found at 14 header behind b.0 (grind arith) octets back b.1, ok_is (request b.0) v b.2)
+kind_found Confirm at header behind v octets back code e =
+    let b = bind_ok (connect_of at header behind) (λ c. Ok (confirm (reference_at 1 header) c)) v e in
+    let r = connect_found at 13 header behind b.0 (grind arith) octets back b.1 in
+    subst (λ (w : Value). IsRead w header behind) (ok_is (confirm (reference_at 1 header) b.0) v b.2) (grind (arith, first_reference))
+kind_found Disconnect at header behind v octets back code e =
+    let made = disconnect (reference_at 1 header) (reference_at 3 header) (get_or header 5 0) behind in
+    let a = unless_ok (ltb (length header) 6) (BadLi at) _ v e in
+    let b = bind_ok (all_skipped_at (at + 7) (drop 6 header)) (λ skipped. Ok made) v a.1 in
+    let f = skipped_found (at + 7) (drop 6 header) (octets_drop 6 header octets) b.1 in
+    grind (arith, ok_is, two_is, first_reference)
+kind_found Disconnected at header behind v octets back code e = search (arith, when_ok, ok_is, front_five, eqb-true, first_reference)
+kind_found Transfer at header behind v octets back code e =
+    search (arith, chosen, eqb, leb, ok_is, data0_found, eqb-true, when_ok, data2_found)
+kind_found Acknowledge at header behind v octets back code e =
     let o0 = get_or header 0 0 in
     let o3 = get_or header 3 0 in
     let made = acknowledge (o0 % 16) (reference_at 1 header) (o3 % 128) in
@@ -150,37 +174,14 @@ acknowledge_found at header behind code v octets back e =
     let len : length header ≡ 4 = eqb-true _ _ a.0 in
     let e3 = bit_above o3 (octets 3) in
     grind (arith, two_is, drop_all 4 header (omega arith), leb 128 o3, ok_is made v a.1, first_reference header octets)
-
-error_found : (at : ℕ) (header behind : List ℕ) → get_or header 0 0 ≡ 0x70 → Reading (λ h b. error_of at h) header behind
-unfolding error_of
-error_found at header behind code v octets back e =
+kind_found Report at header behind v octets back code e =
     search (arith, unless_ok, bind_ok, skipped_found, ok_is, two_is, first_reference, ltb (length header) 4, octets_drop 4 header octets)
 
-value_found : (at : ℕ) (header behind : List ℕ) → Reading (value_of at) header behind
-unfolding value_of
-value_found at header behind v octets back e =
-    let code = get_or header 0 0 in
-    elim (chosen (eqb (code / 16) 0xE) (request_of at header behind) _ (Ok v) e) [
-      | inl s ↦ request_found at header behind (eqb-true _ _ s.0) v octets back s.1
-      | inr s ↦ elim (chosen (eqb (code / 16) 0xD) (confirm_of at header behind) _ (Ok v) s.1) [
-        | inl t ↦ confirm_found at header behind (eqb-true _ _ t.0) v octets back t.1
-        | inr t ↦ elim (chosen (eqb (code / 16) 0x6) (acknowledge_of at header) _ (Ok v) t.1) [
-          | inl u ↦ acknowledge_found at header behind (eqb-true _ _ u.0) v octets back u.1
-          | inr u ↦ elim (chosen (eqb code 0x80) (disconnect_of at header behind) _ (Ok v) u.1) [
-            | inl w ↦ disconnect_found at header behind (eqb-true _ _ w.0) v octets back w.1
-            | inr w ↦ elim (chosen (eqb code 0xC0) (disconnected_of at header) _ (Ok v) w.1) [
-              | inl x ↦ disconnected_found at header behind (eqb-true _ _ x.0) v octets back x.1
-              | inr x ↦ elim (chosen (eqb code 0xF0) (transfer_of at header behind) _ (Ok v) x.1) [
-                | inl y ↦ transfer_found at header behind (eqb-true _ _ y.0) v octets back y.1
-                | inr y ↦ error_found at header behind
-                    (eqb-true _ _ (when_ok (eqb code 0x70) (UnknownCode (at + 1)) (error_of at header) v y.1).0) v octets back
-                    (when_ok (eqb code 0x70) (UnknownCode (at + 1)) (error_of at header) v y.1).1
-              ]
-            ]
-          ]
-        ]
-      ]
-    ]
+value_found : (at : ℕ) (header behind : List ℕ) (v : Value) → IsOctets header → IsOctets behind → value_of at header behind ≡ Ok v →
+    IsRead v header behind
+value_found at header behind v octets back =
+    by_kind (λ r. r ≡ Ok v → IsRead v header behind) at header behind (λ kind. kind_found kind at header behind v octets back)
+    (λ none e. grind arith)
 
 -- ---- only: the fields of a unit are read
 
@@ -240,9 +241,6 @@ error_only at destination cause items behind = grind (arith, le-ltb, two_again, 
 
 abbrev Measured : Type 0
 Measured = Value × ℕ
-
-abbrev ok_measured : Measured → Result Measured TpduFault
-ok_measured x = Ok x
 
 abbrev measured : Value → List ℕ → List ℕ → Measured
 measured v header b = (v, cond (may_be_followed v) (1 + length header) (length b))

@@ -55,59 +55,50 @@ additional_adds : (n : ℕ) (value : List ℕ) (p : Parameters) → value ≡ n 
     Adds p (item 0xC6 value ∷ []) (record p { additional = Some n })
 additional_adds n value p one none k = grind arith
 
--- this holds in either order of the last two tests
-size_found : (at : ℕ) (value : List ℕ) (p m : Parameters) → AreParameters p → IsOctets value → with_size at value p ≡ Ok m →
-    Adding 0xC0 value p m
-unfolding with_size
-size_found at value p m fits octets e =
+-- what the reader makes of the value of each
+known_adds : (k : Parameter) (at : ℕ) (value : List ℕ) (p m : Parameters) → AreParameters p → IsOctets value →
+    with_parameter at (code_of k) value p ≡ Ok m → Adding (code_of k) value p m
+unfolding with_parameter with_size with_calling with_called with_additional with_alternative
+known_adds Size at value p m fits octets e =
     grind (arith, get_or, unless_ok, when_ok, and_parts, ok_is, size_adds, one_long, eqb-true, not-false, is_none, leb-true)
-
-calling_found : (at : ℕ) (value : List ℕ) (p m : Parameters) → AreParameters p → IsOctets value → with_calling at value p ≡ Ok m →
-    Adding 0xC1 value p m
-unfolding with_calling
-calling_found at value p m fits octets e = search (arith, unless_ok, ok_is, is_none, ltb-false)
-
-called_found : (at : ℕ) (value : List ℕ) (p m : Parameters) → AreParameters p → IsOctets value → with_called at value p ≡ Ok m →
-    Adding 0xC2 value p m
-unfolding with_called
-called_found at value p m fits octets e = search (arith, unless_ok, ok_is, is_none, ltb-false)
-
-additional_found : (at : ℕ) (value : List ℕ) (p m : Parameters) → AreParameters p → IsOctets value → with_additional at value p ≡ Ok m →
-    Adding 0xC6 value p m
-unfolding with_additional
-additional_found at value p m fits octets e =
+known_adds Calling at value p m fits octets e = search (arith, unless_ok, ok_is, is_none, ltb-false)
+known_adds Called at value p m fits octets e = search (arith, unless_ok, ok_is, is_none, ltb-false)
+known_adds Additional at value p m fits octets e =
     grind (arith, get_or, unless_ok, ok_is, additional_adds, one_long, eqb-true, not-false, is_none)
-
-alternative_found : (at : ℕ) (value : List ℕ) (p m : Parameters) → AreParameters p → IsOctets value → with_alternative at value p ≡ Ok m →
-    Adding 0xC7 value p m
-unfolding with_alternative
-alternative_found at value p m fits octets e = grind (arith, unless_ok, ok_is, is_none)
+known_adds Alternative at value p m fits octets e = grind (arith, unless_ok, ok_is, is_none)
 
 -- a code that is not in the table is none of these
 pub other_code : (code : ℕ) → eqb code 0xC0 ≡ false → eqb code 0xC1 ≡ false → eqb code 0xC2 ≡ false → eqb code 0xC6 ≡ false →
     eqb code 0xC7 ≡ false → (k : Parameter) → eqb code (code_of k) ≡ false
 other_code code a b c d e k = grind arith
 
+pub unless_equal : (P : ℕ → Type 0) (a b : ℕ) → P b → (eqb a b ≡ false → P a) → P a
+unless_equal P a b known other = elim (cases_eq a b) [
+  | inl same ↦ subst P (sym same) known
+  | inr differs ↦ other (ne_eqb a b differs)
+]
+
+-- a code is that of a parameter, or of none
+pub by_code : (P : ℕ → Type 0) (code : ℕ) → ((k : Parameter) → P (code_of k)) →
+    (((k : Parameter) → eqb code (code_of k) ≡ false) → P code) → P code
+by_code P code known other =
+    unless_equal P code 0xC0 (known Size) (λ s.
+    unless_equal P code 0xC1 (known Calling) (λ t.
+    unless_equal P code 0xC2 (known Called) (λ u.
+    unless_equal P code 0xC6 (known Additional) (λ v.
+    unless_equal P code 0xC7 (known Alternative) (λ w. other (other_code code s t u v w))))))
+
+-- a parameter of another code adds nothing
+pub passed_over : (at code : ℕ) (value : List ℕ) (p : Parameters) → ((k : Parameter) → eqb code (code_of k) ≡ false) →
+    with_parameter at code value p ≡ Ok p
+unfolding with_parameter
+passed_over at code value p other = rw (other Size, other Calling, other Called, other Additional, other Alternative) refl
+
 pub with_found : (at code : ℕ) (value : List ℕ) (p m : Parameters) → AreParameters p → IsOctets value →
     with_parameter at code value p ≡ Ok m → Adding code value p m
-unfolding with_parameter
-with_found at code value p m fits octets e =
-    elim (chosen (eqb code 0xC0) (with_size at value p) _ (Ok m) e) [
-      | inl s ↦ subst (λ (k : ℕ). Adding k value p m) (sym (eqb-true code 0xC0 s.0)) (size_found at value p m fits octets s.1)
-      | inr s ↦ elim (chosen (eqb code 0xC1) (with_calling at value p) _ (Ok m) s.1) [
-        | inl t ↦ subst (λ (k : ℕ). Adding k value p m) (sym (eqb-true code 0xC1 t.0)) (calling_found at value p m fits octets t.1)
-        | inr t ↦ elim (chosen (eqb code 0xC2) (with_called at value p) _ (Ok m) t.1) [
-          | inl u ↦ subst (λ (k : ℕ). Adding k value p m) (sym (eqb-true code 0xC2 u.0)) (called_found at value p m fits octets u.1)
-          | inr u ↦ elim (chosen (eqb code 0xC6) (with_additional at value p) _ (Ok m) u.1) [
-            | inl v ↦ subst (λ (k : ℕ). Adding k value p m) (sym (eqb-true code 0xC6 v.0)) (additional_found at value p m fits octets v.1)
-            | inr v ↦ elim (chosen (eqb code 0xC7) (with_alternative at value p) (Ok p) (Ok m) v.1) [
-              | inl w ↦ grind (arith, eqb-true code 0xC7 w.0, alternative_found at value p m fits octets w.1)
-              | inr w ↦ grind (arith, ok_is, other_code)
-            ]
-          ]
-        ]
-      ]
-    ]
+with_found at code value p m fits octets =
+    by_code (λ c. with_parameter at c value p ≡ Ok m → Adding c value p m) code (λ k. known_adds k at value p m fits octets)
+    (λ other e. grind (arith, ok_is p m (sym (passed_over at code value p other) ∙ e), other))
 
 -- ---- all parameters that were read
 
@@ -286,32 +277,14 @@ known_taken Alternative at value items p m fits a =
 abbrev Taken : ℕ → ℕ → List ℕ → List Item → Parameters → Parameters → Type 0
 Taken at code value items p m = Adds p (item code value ∷ items) m → TakesItem at (item code value) items p m
 
-pub test_eq : (a b : ℕ) → ((a ≡ b) × (eqb a b ≡ true)) ⊎ (eqb a b ≡ false)
-test_eq a b = grind (arith, cases_eq, eq-eqb, ne_eqb)
-
 taken : (at code : ℕ) (value : List ℕ) (items : List Item) (p m : Parameters) → AreParameters m → Taken at code value items p m
-unfolding with_parameter
 taken at code value items p m fits =
-    elim (test_eq code 0xC0) [
-      | inl s ↦ subst (λ (k : ℕ). Taken at k value items p m) (sym s.0) (known_taken Size at value items p m fits)
-      | inr s ↦ elim (test_eq code 0xC1) [
-        | inl t ↦ subst (λ (k : ℕ). Taken at k value items p m) (sym t.0) (known_taken Calling at value items p m fits)
-        | inr t ↦ elim (test_eq code 0xC2) [
-          | inl u ↦ subst (λ (k : ℕ). Taken at k value items p m) (sym u.0) (known_taken Called at value items p m fits)
-          | inr u ↦ elim (test_eq code 0xC6) [
-            | inl v ↦ subst (λ (k : ℕ). Taken at k value items p m) (sym v.0) (known_taken Additional at value items p m fits)
-            | inr v ↦ elim (test_eq code 0xC7) [
-              | inl w ↦ subst (λ (k : ℕ). Taken at k value items p m) (sym w.0) (known_taken Alternative at value items p m fits)
-              | inr w ↦ λ a. record {
-                more = p;
-                read = rw (s, t, u, v, w) refl;
-                adds = λ k. Gains-past (code_of k) (item code value) items (slot k p) (slot k m) (other_code code s t u v w k) (a k);
-              }
-            ]
-          ]
-        ]
-      ]
-    ]
+    by_code (λ c. Taken at c value items p m) code (λ k. known_taken k at value items p m fits)
+    (λ other a. record {
+      more = p;
+      read = passed_over at code value p other;
+      adds = λ k. Gains-past (code_of k) (item code value) items (slot k p) (slot k m) (other k) (a k);
+    })
 
 parameters_only : (n at : ℕ) (p : Parameters) (items : List Item) (m : Parameters) → length (flat_map item_octets items) ≤ n →
     AreParameters m → Adds p items m → parameters_at n at p (flat_map item_octets items) ≡ Ok m

@@ -10,23 +10,14 @@ use Rattle.osi_tpdu.proofs.Vocabulary.{Disconnect, Disconnected, Transfer, Ackno
 use Rattle.osi_tpdu.proofs.Vocabulary.{LooksAtParameters, HasParameterFault, HasHeader, HasNoHeader, BeginsUnit, HasBadIndicator, HasFault}
 use Rattle.osi_tpdu.proofs.Vocabulary.{IsFirst, IsUnitFault}
 use Rattle.osi_tpdu.proofs.the_steps_of_reading.{chosen, ok_is, IsOctets-rest}
-use Rattle.osi_tpdu.proofs.one_unit_is_read.{header_found, header_again}
+use Rattle.osi_tpdu.proofs.one_unit_is_read.{header_found, header_again, content, read_as, by_kind}
 use Rattle.osi_tpdu.proofs.the_first_fault_of_the_parameters.{Judges, judges_same, judges_bind, judges_map, judges_cond, parameters_judged}
 use Rattle.osi_tpdu.proofs.the_first_fault_of_the_parameters.{skips_judged, parameter_place}
-
-abbrev Parts : Type 0
-Parts = List ℕ × List ℕ
 
 -- ---- one header, one kind
 
 same_header : (b h t g u : List ℕ) → HasHeader b h t → HasHeader b g u → h ≡ g
 same_header b h t g u x y = grind (arith, ok_is, header_again 0 h t x.at_least x.at_most, header_again 0 g u y.at_least y.at_most)
-
-abbrev kind_named : ℕ → Option Kind
-kind_named code =
-    cond (eqb (code / 16) 0xE) (Some Request) (cond (eqb (code / 16) 0xD) (Some Confirm) (cond (eqb (code / 16) 0x6) (Some Acknowledge)
-    (cond (eqb code 0x80) (Some Disconnect)
-    (cond (eqb code 0xC0) (Some Disconnected) (cond (eqb code 0xF0) (Some Transfer) (cond (eqb code 0x70) (Some Report) None))))))
 
 -- ---- a bad length indicator
 
@@ -91,16 +82,6 @@ behind_judged at n b header kind r long u counts behind j =
 too_short : (n least : ℕ) → ltb n least ≡ true → least ≤ n → ⊥
 too_short n least e le = omega (arith, ltb-true)
 
-abbrev made : List ℕ → List ℕ → Parameters → Connect
-made header user p = record {
-  credit = get_or header 0 0 % 16;
-  source = reference_at 3 header;
-  class = get_or header 5 0 / 16;
-  options = get_or header 5 0 % 16;
-  parameters = p;
-  user = user;
-}
-
 connect_judged : (at : ℕ) (b header user : List ℕ) (kind : Kind) → IsOctets header → BeginsUnit kind b header → LooksAtParameters kind →
     (6 ≤ length header → MayCount kind (length header)) → (MayCount kind (length header) → 6 ≤ length header)
     → HasParametersBehind kind 6 → Judges (HasFault at b) (connect_of at header user)
@@ -111,27 +92,19 @@ connect_judged at b header user kind octets u looks counts long behind =
     (λ e.
     let le : 6 ≤ length header = ltb-false (length header) 6 e in
     let j = parameters_judged kind (at + 7) (drop 6 header) looks (octets_drop 6 header octets) in
-    judges_map (HasFault at b) (known_at (at + 7) (drop 6 header)) (made header user)
+    judges_map (HasFault at b) (known_at (at + 7) (drop 6 header)) (λ p. content header p user)
     (search (arith, behind_judged)))
 
-request_judged : (at : ℕ) (b header user : List ℕ) → IsOctets header → BeginsUnit Request b header →
-    Judges (HasFault at b) (request_of at header user)
-unfolding request_of
-request_judged at b header user octets u =
+kind_judged : (kind : Kind) (at : ℕ) (b header user : List ℕ) → IsOctets header → BeginsUnit kind b header →
+    Judges (HasFault at b) (read_as kind at header user)
+unfolding request_of confirm_of disconnect_of disconnected_of transfer_of acknowledge_of error_of
+kind_judged Request at b header user octets u =
     judges_map (HasFault at b) (connect_of at header user) request
     (connect_judged at b header user Request octets u tt (λ le. le) (λ le. le) refl)
-
-confirm_judged : (at : ℕ) (b header user : List ℕ) → IsOctets header → BeginsUnit Confirm b header →
-    Judges (HasFault at b) (confirm_of at header user)
-unfolding confirm_of
-confirm_judged at b header user octets u =
+kind_judged Confirm at b header user octets u =
     judges_map (HasFault at b) (connect_of at header user) (confirm (reference_at 1 header))
     (connect_judged at b header user Confirm octets u tt (λ le. le) (λ le. le) refl)
-
-disconnect_judged : (at : ℕ) (b header user : List ℕ) → IsOctets header → BeginsUnit Disconnect b header →
-    Judges (HasFault at b) (disconnect_of at header user)
-unfolding disconnect_of
-disconnect_judged at b header user octets u =
+kind_judged Disconnect at b header user octets u =
     judges_cond (HasFault at b) (ltb (length header) 6) (Err (BadLi at)) _
     (λ e. li_first at b (inr (Disconnect, header, u, too_short (length header) 6 e)))
     (λ e.
@@ -140,10 +113,23 @@ disconnect_judged at b header user octets u =
     judges_map (HasFault at b) (all_skipped_at (at + 7) (drop 6 header))
     (λ skipped. disconnect (reference_at 1 header) (reference_at 3 header) (get_or header 5 0) user)
     (search (arith, behind_judged)))
-
-error_judged : (at : ℕ) (b header : List ℕ) → IsOctets header → BeginsUnit Report b header → Judges (HasFault at b) (error_of at header)
-unfolding error_of
-error_judged at b header octets u =
+kind_judged Disconnected at b header user octets u =
+    judges_cond (HasFault at b) (eqb (length header) 5) (Ok (disconnected (reference_at 1 header) (reference_at 3 header))) (Err (BadLi at))
+    (λ e. plain_fine at b header Disconnected u (eqb-true (length header) 5 e) (λ n no. no))
+    (λ e. li_first at b (inr (Disconnected, header, u, eqb-false (length header) 5 e)))
+kind_judged Transfer at b header user octets u =
+    judges_cond (HasFault at b) (eqb (length header) 2) (Ok (data0 (leb 128 (get_or header 1 0)) user)) _
+    (λ e. plain_fine at b header Transfer u (inl (eqb-true (length header) 2 e)) (λ n no. no))
+    (λ e. judges_cond (HasFault at b) (eqb (length header) 4)
+    (Ok (data2 (reference_at 1 header) (get_or header 3 0 % 128) (leb 128 (get_or header 3 0)) user)) (Err (BadLi at))
+    (λ d. plain_fine at b header Transfer u (inr (eqb-true (length header) 4 d)) (λ n no. no))
+    (λ d. li_first at b (inr (Transfer, header, u, grind (arith, eqb-false)))))
+kind_judged Acknowledge at b header user octets u =
+    judges_cond (HasFault at b) (eqb (length header) 4)
+    (Ok (acknowledge (get_or header 0 0 % 16) (reference_at 1 header) (get_or header 3 0 % 128))) (Err (BadLi at))
+    (λ e. plain_fine at b header Acknowledge u (eqb-true (length header) 4 e) (λ n no. no))
+    (λ e. li_first at b (inr (Acknowledge, header, u, eqb-false (length header) 4 e)))
+kind_judged Report at b header user octets u =
     judges_cond (HasFault at b) (ltb (length header) 4) (Err (BadLi at)) _
     (λ e. li_first at b (inr (Report, header, u, too_short (length header) 4 e)))
     (λ e.
@@ -152,37 +138,7 @@ error_judged at b header octets u =
     judges_map (HasFault at b) (all_skipped_at (at + 5) (drop 4 header)) (λ skipped. error (reference_at 1 header) (get_or header 3 0))
     (search (arith, behind_judged)))
 
-disconnected_judged : (at : ℕ) (b header : List ℕ) → BeginsUnit Disconnected b header → Judges (HasFault at b) (disconnected_of at header)
-unfolding disconnected_of
-disconnected_judged at b header u =
-    judges_cond (HasFault at b) (eqb (length header) 5) (Ok (disconnected (reference_at 1 header) (reference_at 3 header))) (Err (BadLi at))
-    (λ e. plain_fine at b header Disconnected u (eqb-true (length header) 5 e) (λ n no. no))
-    (λ e. li_first at b (inr (Disconnected, header, u, eqb-false (length header) 5 e)))
-
-acknowledge_judged : (at : ℕ) (b header : List ℕ) → BeginsUnit Acknowledge b header → Judges (HasFault at b) (acknowledge_of at header)
-unfolding acknowledge_of
-acknowledge_judged at b header u =
-    judges_cond (HasFault at b) (eqb (length header) 4)
-    (Ok (acknowledge (get_or header 0 0 % 16) (reference_at 1 header) (get_or header 3 0 % 128))) (Err (BadLi at))
-    (λ e. plain_fine at b header Acknowledge u (eqb-true (length header) 4 e) (λ n no. no))
-    (λ e. li_first at b (inr (Acknowledge, header, u, eqb-false (length header) 4 e)))
-
-transfer_judged : (at : ℕ) (b header user : List ℕ) → BeginsUnit Transfer b header → Judges (HasFault at b) (transfer_of at header user)
-unfolding transfer_of
-transfer_judged at b header user u =
-    judges_cond (HasFault at b) (eqb (length header) 2) (Ok (data0 (leb 128 (get_or header 1 0)) user)) _
-    (λ e. plain_fine at b header Transfer u (inl (eqb-true (length header) 2 e)) (λ n no. no))
-    (λ e. judges_cond (HasFault at b) (eqb (length header) 4)
-    (Ok (data2 (reference_at 1 header) (get_or header 3 0 % 128) (leb 128 (get_or header 3 0)) user)) (Err (BadLi at))
-    (λ d. plain_fine at b header Transfer u (inr (eqb-true (length header) 4 d)) (λ n no. no))
-    (λ d. li_first at b (inr (Transfer, header, u, grind (arith, eqb-false)))))
-
 -- ---- any code
-
-unnamed : (kind : Kind) (code : ℕ) → eqb (code / 16) 0xE ≡ false → eqb (code / 16) 0xD ≡ false → eqb (code / 16) 0x6 ≡ false →
-    eqb code 0x80 ≡ false → eqb code 0xC0 ≡ false → eqb code 0xF0 ≡ false → eqb code 0x70 ≡ false
-    → HasCode kind code → ⊥
-unnamed kind code a b c d e f g h = grind (arith, eqb-false)
 
 code_first : (at : ℕ) (b header behind : List ℕ) → HasHeader b header behind → ((kind : Kind) → HasCode kind (get_or header 0 0) → ⊥) →
     IsFirst (HasFault at b) (UnknownCode (at + 1))
@@ -202,27 +158,10 @@ code_first at b header behind there unknown =
 
 value_judged : (at : ℕ) (b header behind : List ℕ) → IsOctets header → HasHeader b header behind →
     Judges (HasFault at b) (value_of at header behind)
-unfolding value_of
 value_judged at b header behind octets there =
-    let P : TpduFault → Type 0 = HasFault at b in
-    let code = get_or header 0 0 in
-    let begins = λ (kind : Kind) (h : HasCode kind code).
-    (let u : BeginsUnit kind b header = record { behind = behind; there = there; code = h } in u) in
-    judges_cond P (eqb (code / 16) 0xE) (request_of at header behind) _
-    (λ e. grind (arith, request_judged at b header behind octets (begins Request (code % 16, grind arith, grind arith))))
-    (λ nE. judges_cond P (eqb (code / 16) 0xD) (confirm_of at header behind) _
-    (λ e. grind (arith, confirm_judged at b header behind octets (begins Confirm (code % 16, grind arith, grind arith))))
-    (λ nD. judges_cond P (eqb (code / 16) 0x6) (acknowledge_of at header) _
-    (λ e. acknowledge_judged at b header (begins Acknowledge (code % 16, grind arith, grind arith)))
-    (λ n6. judges_cond P (eqb code 0x80) (disconnect_of at header behind) _
-    (λ e. disconnect_judged at b header behind octets (begins Disconnect (eqb-true code 0x80 e)))
-    (λ n80. judges_cond P (eqb code 0xC0) (disconnected_of at header) _
-    (λ e. disconnected_judged at b header (begins Disconnected (eqb-true code 0xC0 e)))
-    (λ nC0. judges_cond P (eqb code 0xF0) (transfer_of at header behind) _
-    (λ e. transfer_judged at b header behind (begins Transfer (eqb-true code 0xF0 e)))
-    (λ nF0. judges_cond P (eqb code 0x70) (error_of at header) (Err (UnknownCode (at + 1)))
-    (λ e. error_judged at b header octets (begins Report (eqb-true code 0x70 e)))
-    (λ n70. code_first at b header behind there (λ kind. unnamed kind code nE nD n6 n80 nC0 nF0 n70))))))))
+    by_kind (Judges (HasFault at b)) at header behind
+    (λ kind code. kind_judged kind at b header behind octets (record { behind = behind; there = there; code = code }))
+    (code_first at b header behind there)
 
 -- ---- whole units
 

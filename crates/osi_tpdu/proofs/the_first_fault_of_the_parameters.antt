@@ -10,8 +10,8 @@ use Rattle.osi_tpdu.proofs.Vocabulary.{place_of, IsFirst, ◌≡◌, ℕ, zero, 
 use Rattle.osi_tpdu.proofs.Vocabulary.{List, [], ◌∷◌, ◌++◌, length, get_or, Option, Some, None, Result, Ok, Err, refl, sym, ap, subst, ◌∙◌}
 use Rattle.osi_tpdu.proofs.Vocabulary.{append_assoc, arith, inl, inr, ◌⊎◌, add-zero}
 use Rattle.osi_tpdu.proofs.the_steps_of_reading.{chosen, ok_is}
-use Rattle.osi_tpdu.proofs.parameters_are_read_as_they_mean.{Adds, other_code, Adds-then, Adds-none, with_found, parameter_found}
-use Rattle.osi_tpdu.proofs.parameters_are_read_as_they_mean.{parameter_again}
+use Rattle.osi_tpdu.proofs.parameters_are_read_as_they_mean.{Adds, by_code, passed_over, Adds-then, Adds-none, with_found}
+use Rattle.osi_tpdu.proofs.parameters_are_read_as_they_mean.{parameter_found, parameter_again}
 
 -- ---- a result is the first fault, or there is none
 
@@ -39,9 +39,6 @@ judges_cond P b x y t f = grind arith
 abbrev pub item : ℕ → List ℕ → Item
 item code value = record { code = code; value = value }
 
-abbrev Taken : Type 0
-Taken = ℕ × List ℕ × List ℕ
-
 pub record SameItem (i j : Item) (x y : List ℕ) : Type 0 where
   pub code : i.code ≡ j.code
   pub value : i.value ≡ j.value
@@ -49,12 +46,6 @@ pub record SameItem (i j : Item) (x y : List ℕ) : Type 0 where
 
 pub same_item : (i j : Item) (x y : List ℕ) → item_octets i ++ x ≡ item_octets j ++ y → SameItem i j x y
 same_item i j x y e = grind (arith, ok_is, parameter_again 0 i x, parameter_again 0 j y)
-
-abbrev named : ℕ → Option Parameter
-named code =
-    cond (eqb code 0xC0) (Some Size)
-    (cond (eqb code 0xC1) (Some Calling)
-    (cond (eqb code 0xC2) (Some Called) (cond (eqb code 0xC6) (Some Additional) (cond (eqb code 0xC7) (Some Alternative) None))))
 
 -- a statement about the parameter at the front, for two names of the same parameter
 same_front : (P : Parameter → List ℕ → Type 0) (kind : Kind) (k j : Parameter) (v w s : List ℕ) → BeginsWith kind k v s →
@@ -127,69 +118,42 @@ empty o xs e h = grind arith
 single_there : (o : Option ℕ) → is_some (single o) ≡ is_some o
 single_there o = grind arith
 
-size_judged : (kind : Kind) (at : ℕ) (before : List Item) (value s : List ℕ) (p : Parameters) → BeginsWith kind Size value s →
-    Adds no_parameters before p → Judges (HasItemFault kind at before s) (with_size at value p)
-unfolding with_size
-size_judged kind at before value s p b adds =
+-- its tests in their order: its length, whether it was there before, and what else is tested
+tests_judged : (kind : Kind) (at : ℕ) (before : List Item) (k : Parameter) (value s : List ℕ) (o : Option (List ℕ)) (bad there : Bool)
+    (r : Result Parameters TpduFault) → BeginsWith kind k value s → values_of (code_of k) before ≡ option_to_list o → is_some o ≡ there →
+    (bad ≡ true → MayBeLong k (length value) → ⊥) → (bad ≡ false → MayBeLong k (length value)) →
+    (MayBeLong k (length value) → length (values_of (code_of k) before) ≡ 0 → Judges (HasItemFault kind at before s) r) →
+    Judges (HasItemFault kind at before s) (cond bad (Err (BadParameterLength at)) (cond there (Err (DuplicateParameter at)) r))
+tests_judged kind at before k value s o bad there r b was is long short rest =
     let P : TpduFault → Type 0 = HasItemFault kind at before s in
+    judges_cond P bad (Err (BadParameterLength at)) _ (λ e. too_long kind at before k value s b (long e))
+    (λ e. judges_cond P there (Err (DuplicateParameter at)) r
+    (λ d. twice kind at before k value s b (short e) (full o (values_of (code_of k) before) was (is ∙ d)))
+    (λ d. rest (short e) (empty o (values_of (code_of k) before) was (is ∙ d))))
+
+known_tested : (k : Parameter) (kind : Kind) (at : ℕ) (before : List Item) (value s : List ℕ) (p : Parameters) → BeginsWith kind k value s →
+    Adds no_parameters before p → Judges (HasItemFault kind at before s) (with_parameter at (code_of k) value p)
+unfolding with_parameter with_size with_calling with_called with_additional with_alternative
+known_tested Size kind at before value s p b adds =
     let n = get_or value 0 0 in
-    judges_cond P (not (eqb (length value) 1)) (Err (BadParameterLength at)) _
-    (λ e. too_long kind at before Size value s b (grind (arith, eq-eqb, false≢true)))
-    (λ e. judges_cond P (is_some p.size) (Err (DuplicateParameter at)) _
-    (λ d. twice kind at before Size value s b (grind (arith, eqb-true, not-false))
-    (full (single p.size) (values_of 0xC0 before) (adds Size) (single_there p.size ∙ d)))
-    (λ d. judges_cond P (leb 7 n && leb n 13) (Ok (record p { size = Some n })) (Err (BadParameterValue at))
-    (λ h. fine kind at before Size value s b (grind (arith, eqb-true, not-false))
-    (empty (single p.size) (values_of 0xC0 before) (adds Size) (single_there p.size ∙ d)) (grind (arith, and_parts, leb-true)))
-    (λ h. bad_value kind at before Size value s b (grind (arith, eqb-true, not-false))
-    (empty (single p.size) (values_of 0xC0 before) (adds Size) (single_there p.size ∙ d)) (grind (arith, le-leb, false≢true)))))
-
-calling_judged : (kind : Kind) (at : ℕ) (before : List Item) (value s : List ℕ) (p : Parameters) → BeginsWith kind Calling value s →
-    Adds no_parameters before p → Judges (HasItemFault kind at before s) (with_calling at value p)
-unfolding with_calling
-calling_judged kind at before value s p b adds =
-    let P : TpduFault → Type 0 = HasItemFault kind at before s in
-    judges_cond P (ltb 32 (length value)) (Err (BadParameterLength at)) _
-    (λ e. too_long kind at before Calling value s b (grind (arith, ltb-true)))
-    (λ e. judges_cond P (is_some p.calling) (Err (DuplicateParameter at)) (Ok (record p { calling = Some value }))
-    (λ d. twice kind at before Calling value s b (ltb-false 32 (length value) e) (full p.calling (values_of 0xC1 before) (adds Calling) d))
-    (λ d. fine kind at before Calling value s b (ltb-false 32 (length value) e) (empty p.calling (values_of 0xC1 before) (adds Calling) d)
-    tt))
-
-called_judged : (kind : Kind) (at : ℕ) (before : List Item) (value s : List ℕ) (p : Parameters) → BeginsWith kind Called value s →
-    Adds no_parameters before p → Judges (HasItemFault kind at before s) (with_called at value p)
-unfolding with_called
-called_judged kind at before value s p b adds =
-    let P : TpduFault → Type 0 = HasItemFault kind at before s in
-    judges_cond P (ltb 32 (length value)) (Err (BadParameterLength at)) _
-    (λ e. too_long kind at before Called value s b (grind (arith, ltb-true)))
-    (λ e. judges_cond P (is_some p.called) (Err (DuplicateParameter at)) (Ok (record p { called = Some value }))
-    (λ d. twice kind at before Called value s b (ltb-false 32 (length value) e) (full p.called (values_of 0xC2 before) (adds Called) d))
-    (λ d. fine kind at before Called value s b (ltb-false 32 (length value) e) (empty p.called (values_of 0xC2 before) (adds Called) d) tt))
-
-additional_judged : (kind : Kind) (at : ℕ) (before : List Item) (value s : List ℕ) (p : Parameters) → BeginsWith kind Additional value s →
-    Adds no_parameters before p
-    → Judges (HasItemFault kind at before s) (with_additional at value p)
-unfolding with_additional
-additional_judged kind at before value s p b adds =
-    let P : TpduFault → Type 0 = HasItemFault kind at before s in
-    judges_cond P (not (eqb (length value) 1)) (Err (BadParameterLength at)) _
-    (λ e. too_long kind at before Additional value s b (grind (arith, eq-eqb, false≢true)))
-    (λ e. judges_cond P (is_some p.additional) (Err (DuplicateParameter at)) (Ok (record p { additional = Some (get_or value 0 0) }))
-    (λ d. twice kind at before Additional value s b (grind (arith, eqb-true, not-false))
-    (full (single p.additional) (values_of 0xC6 before) (adds Additional) (single_there p.additional ∙ d)))
-    (λ d. fine kind at before Additional value s b (grind (arith, eqb-true, not-false))
-    (empty (single p.additional) (values_of 0xC6 before) (adds Additional) (single_there p.additional ∙ d)) tt))
-
-alternative_judged : (kind : Kind) (at : ℕ) (before : List Item) (value s : List ℕ) (p : Parameters) → BeginsWith kind Alternative value s →
-    Adds no_parameters before p
-    → Judges (HasItemFault kind at before s) (with_alternative at value p)
-unfolding with_alternative
-alternative_judged kind at before value s p b adds =
-    let P : TpduFault → Type 0 = HasItemFault kind at before s in
-    judges_cond P (is_some p.alternative) (Err (DuplicateParameter at)) (Ok (record p { alternative = Some value }))
-    (λ d. twice kind at before Alternative value s b tt (full p.alternative (values_of 0xC7 before) (adds Alternative) d))
-    (λ d. fine kind at before Alternative value s b tt (empty p.alternative (values_of 0xC7 before) (adds Alternative) d) tt)
+    tests_judged kind at before Size value s (single p.size) (not (eqb (length value) 1)) (is_some p.size) _ b (adds Size)
+    (single_there p.size) (λ e. grind (arith, eq-eqb, false≢true)) (λ e. grind (arith, eqb-true, not-false))
+    (λ long once. judges_cond (HasItemFault kind at before s) (leb 7 n && leb n 13) (Ok (record p { size = Some n })) _
+    (λ h. fine kind at before Size value s b long once (grind (arith, and_parts, leb-true)))
+    (λ h. bad_value kind at before Size value s b long once (grind (arith, le-leb, false≢true))))
+known_tested Calling kind at before value s p b adds =
+    tests_judged kind at before Calling value s p.calling (ltb 32 (length value)) (is_some p.calling) _ b (adds Calling) refl
+    (λ e. grind (arith, ltb-true)) (ltb-false 32 (length value)) (λ long once. fine kind at before Calling value s b long once tt)
+known_tested Called kind at before value s p b adds =
+    tests_judged kind at before Called value s p.called (ltb 32 (length value)) (is_some p.called) _ b (adds Called) refl
+    (λ e. grind (arith, ltb-true)) (ltb-false 32 (length value)) (λ long once. fine kind at before Called value s b long once tt)
+known_tested Additional kind at before value s p b adds =
+    tests_judged kind at before Additional value s (single p.additional) (not (eqb (length value) 1)) (is_some p.additional) _ b
+    (adds Additional) (single_there p.additional) (λ e. grind (arith, eq-eqb, false≢true)) (λ e. grind (arith, eqb-true, not-false))
+    (λ long once. fine kind at before Additional value s b long once tt)
+known_tested Alternative kind at before value s p b adds =
+    tests_judged kind at before Alternative value s p.alternative false (is_some p.alternative) _ b (adds Alternative) refl
+    (λ e. absurd (false≢true e)) (λ e. tt) (λ long once. fine kind at before Alternative value s b long once tt)
 
 -- an item that is not looked at has no fault
 ignored : (kind : Kind) (at code : ℕ) (before : List Item) (value rest s : List ℕ) → s ≡ item_octets (item code value) ++ rest →
@@ -210,24 +174,12 @@ ignored kind at code before value rest s whole none f h =
 with_judged : (kind : Kind) (at code : ℕ) (before : List Item) (value rest s : List ℕ) (p : Parameters) → LooksAtParameters kind →
     s ≡ item_octets (item code value) ++ rest → Adds no_parameters before p
     → Judges (HasItemFault kind at before s) (with_parameter at code value p)
-unfolding with_parameter
 with_judged kind at code before value rest s p looks whole adds =
     let P : TpduFault → Type 0 = HasItemFault kind at before s in
-    let begins = λ (k : Parameter) (e : code ≡ code_of k).
-    (let b : BeginsWith kind k value
-    s = record { looks = looks; rest = rest; whole = whole ∙ ap (λ (c : ℕ). item_octets (item c value) ++ rest) e } in b) in
-    judges_cond P (eqb code 0xC0) (with_size at value p) _
-    (λ e. size_judged kind at before value s p (begins Size (eqb-true code 0xC0 e)) adds)
-    (λ n0. judges_cond P (eqb code 0xC1) (with_calling at value p) _
-    (λ e. calling_judged kind at before value s p (begins Calling (eqb-true code 0xC1 e)) adds)
-    (λ n1. judges_cond P (eqb code 0xC2) (with_called at value p) _
-    (λ e. called_judged kind at before value s p (begins Called (eqb-true code 0xC2 e)) adds)
-    (λ n2. judges_cond P (eqb code 0xC6) (with_additional at value p) _
-    (λ e. additional_judged kind at before value s p (begins Additional (eqb-true code 0xC6 e)) adds)
-    (λ n6. judges_cond P (eqb code 0xC7) (with_alternative at value p) (Ok p)
-    (λ e. alternative_judged kind at before value s p (begins Alternative (eqb-true code 0xC7 e)) adds)
-    (λ n7. ignored kind at code before value rest s whole
-    (grind (arith, eqb-false, other_code, same_item)))))))
+    by_code (λ c. s ≡ item_octets (item c value) ++ rest → Judges P (with_parameter at c value p)) code
+    (λ k whole. known_tested k kind at before value s p (record { looks = looks; rest = rest; whole = whole }) adds)
+    (λ other whole. subst (Judges P) (sym (passed_over at code value p other))
+    (ignored kind at code before value rest s whole (grind (arith, other, same_item)))) whole
 
 -- ---- items after others
 

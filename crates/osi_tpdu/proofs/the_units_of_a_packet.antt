@@ -17,12 +17,6 @@ Read = Result (List Value) TpduFault
 abbrev ok : List Value → Read
 ok vs = Ok vs
 
-abbrev units_bad : TpduFault → Read
-units_bad f = Err f
-
-abbrev bad_one : TpduFault → Result (Value × ℕ) TpduFault
-bad_one f = Err f
-
 abbrev with_first : Value → Read → Read
 with_first v others = others >>= λ vs. Ok (v ∷ vs)
 
@@ -177,12 +171,6 @@ some_left at rest some = grind arith
 others_left : (v : Value) (others : Read) → is_ok (with_first v others) ≡ true →
     (is_ok others ≡ true) × (result_unwrap_or (with_first v others) [] ≡ v ∷ result_unwrap_or others [])
 others_left v others e = grind arith
-
-abbrev is_ok_read : Read → Bool
-is_ok_read r = is_ok r
-
-abbrev left_of : Read → List Value
-left_of r = result_unwrap_or r []
 
 pub first_left : (at : ℕ) (rest : List ℕ) (x : Value × ℕ) → 1 ≤ length rest → can_be_read at rest ≡ true → unit_at at rest ≡ Ok x →
     Gives-one at rest x

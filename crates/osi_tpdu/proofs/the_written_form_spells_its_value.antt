@@ -3,14 +3,11 @@ use Rattle.osi_tpdu.proofs.Vocabulary.{option_to_list, IfSome, flat_map, append-
 use Rattle.osi_tpdu.proofs.Vocabulary.{Parameters, AreParameters, Value, request, confirm, disconnect, disconnected, data0, data2}
 use Rattle.osi_tpdu.proofs.Vocabulary.{acknowledge, error, IsReference, HasFieldsInRange, Item, Means, item_octets, single, values_of}
 use Rattle.osi_tpdu.proofs.Vocabulary.{IsHeader, Spells, items_of, written_items, written_header, written, HasRoom, HasFewClasses, Fits}
-use Rattle.osi_tpdu.proofs.Vocabulary.{Tpdu, parameter_values, value, ◌≡◌, ℕ, ◌+◌, ◌/◌, ◌%◌, ◌<◌, ◌≤◌, Bool, true, false, cond, eqb, List}
-use Rattle.osi_tpdu.proofs.Vocabulary.{[], ◌∷◌, length, Option, refl, arith, flat_map-append, ConnectParameters}
+use Rattle.osi_tpdu.proofs.Vocabulary.{Tpdu, parameter_values, value, ◌≡◌, ℕ, ◌+◌, ◌/◌, ◌%◌, ◌<◌, ◌≤◌, false, List, [], ◌∷◌, length, Option}
+use Rattle.osi_tpdu.proofs.Vocabulary.{refl, arith, flat_map-append, ConnectParameters}
 use Rattle.osi_tpdu.proofs.the_steps_of_reading.{IsOctets-cons}
 
 -- ---- the written parameters have the meaning of the unit
-
-abbrev kept : ℕ → ℕ → Option (List ℕ) → List (List ℕ)
-kept code other o = cond (eqb other code) (option_to_list o) []
 
 written_is_header : (v : Value) → IsHeader v (written_header v)
 written_is_header (request c) = (0, written_items c.parameters, grind (arith, append-nil), refl)
@@ -72,10 +69,6 @@ written_spells v f = grind (arith, written_is_header, octets_append, header_is)
 abbrev weight : List (List ℕ) → ℕ
 weight [] = 0
 weight (v ∷ vs) = 2 + length v + weight vs
-
-abbrev weigh : Bool → List ℕ → ℕ
-weigh true v = 2 + length v
-weigh false v = 0
 
 weights : (items : List Item) →
     weight (values_of 0xC0 items) +

@@ -1,6 +1,6 @@
 -- Prefixes of packets: a full one is a packet, a short one a proper prefix, and the converse.
-use Rattle.std.proofs.Common.{Result, IfOk, OnOk, not, Option, IfNone, Bool, true, false, MatchBool, ◌≡◌, ℕ, ◌+◌, ◌-◌, ◌*◌, ◌<◌, ◌≤◌, ◌⊎◌}
-use Rattle.std.proofs.Common.{inl, inr, List, [], ◌∷◌, ◌++◌, length, get_or, take, drop, replicate, sym, ◌∙◌, ap, subst, arith}
+use Rattle.std.proofs.Common.{Result, IfOk, OnOk, not, Option, Bool, true, false, MatchBool, ◌≡◌, ℕ, ◌+◌, ◌-◌, ◌*◌, ◌<◌, ◌≤◌, ◌⊎◌, inl, inr}
+use Rattle.std.proofs.Common.{List, [], ◌∷◌, ◌++◌, length, get_or, take, drop, replicate, sym, ◌∙◌, ap, subst, arith}
 use Rattle.osi_tpkt.proofs.Vocabulary.{cases_lt, append_assoc, get_or_append_left, length-append, length-replicate, length-take-le}
 use Rattle.osi_tpkt.proofs.Vocabulary.{take-append-drop, append-nil, drop_all, take_all, drop-take, IsOctets, IsPacket, IsOnePacket}
 use Rattle.osi_tpkt.proofs.Vocabulary.{IsPartial, IsBadVersion, IsBadLength, IsFaultOf, packet_of, stated_length, TpktFault, IsFront}
@@ -12,10 +12,6 @@ use Rattle.osi_tpkt.proofs.lists_of_octets_stay_octets.{octets_nil, octets_cons,
 pub front_part : (r more : List ℕ) → IsOctets (r ++ more) → get_or (r ++ more) 0 0 ≡ 3 → 7 ≤ stated_length (r ++ more) →
     length r ≤ stated_length (r ++ more) → IsFront r
 front_part r more octets version least within = grind (arith, get_or_append_left, stated_length-append, octets_left r more octets)
-
--- no more octets are held than the header states, whether it arrived as a whole or in pieces
-pub front_within : (held piece : List ℕ) → IsFront held → 7 ≤ stated_length (held ++ piece) → length held ≤ stated_length (held ++ piece)
-front_within held piece front least = grind (arith, cases_lt, stated_length-append)
 
 -- a header in the part that was taken states what the header states
 stated_taken : (held piece : List ℕ) (n : ℕ) → 4 ≤ length (held ++ take n piece) →
@@ -100,10 +96,6 @@ one_fault at s f g h k = grind arith
 pub stood : (whole : Bool) (x : List ℕ) (P : Type 0) → IsFront x → MatchBool whole (IsFull x) (IsUnfinished x × P) →
     MatchBool whole (IsOnePacket x) (IsPartial x × P)
 stood whole x P f g = grind (arith, full_packet, short_partial)
-
--- the same if no complete packet was found
-pub none_partial : {A : Type 0} (o : Option A) (s : List ℕ) → IsFront s → IfNone o (IsUnfinished s) → IfNone o (IsPartial s)
-none_partial o s f h = grind (arith, short_partial)
 
 -- the packet at the front of octets, its unit as it is sliced from them
 pub front_packet : (octets : List ℕ) (used : ℕ) → used ≤ length octets → IsFront (take used octets) → IsFull (take used octets) →

@@ -1,13 +1,12 @@
 -- A stream is cut into packets in one way.
 use Rattle.std.proofs.Common.{◌≡◌, ℕ, zero, suc, ◌+◌, ◌-◌, ◌≤◌, ◌⊎◌, inl, inr, List, [], ◌∷◌, ◌++◌, length, get_or, take, drop, refl, sym}
-use Rattle.std.proofs.Common.{◌∙◌, ap, subst, arith, Result, Err}
+use Rattle.std.proofs.Common.{◌∙◌, ap, subst, arith}
 use Rattle.osi_tpkt.proofs.Vocabulary.{cases_lt, cases_eq, append_cancel_left, length-append, length-take-le, take-append-drop, append-nil}
 use Rattle.osi_tpkt.proofs.Vocabulary.{IsOctets, IsPacket, IsPartial, IsBadVersion, IsBadLength, IsFaultOf, stated_length, ArePackets}
-use Rattle.osi_tpkt.proofs.Vocabulary.{EndsAt, Cuts, offset_of, Ending, Fed, HeaderFault, TpktFault, BadVersion, BadLength}
+use Rattle.osi_tpkt.proofs.Vocabulary.{EndsAt, Cuts, offset_of, Ending, TpktFault, BadVersion, BadLength}
 use Rattle.osi_tpkt.proofs.lists_of_octets_stay_octets.{octets_right}
 use Rattle.osi_tpkt.proofs.no_packet_is_a_prefix_of_another.{packet_front, one_packet, stated_length-append}
 use Rattle.osi_tpkt.specs.Stream.Ending.{Faulty, Rest}
-use Rattle.osi_tpkt.specs.declared.headers.HeaderFault.TheVariants.{Version, Length}
 use Rattle.osi_tpkt.proofs.a_prefix_of_a_packet.{full_packet, short_partial, partial_front, front_version, front_length, front_part}
 use Rattle.osi_tpkt.proofs.a_prefix_of_a_packet.{one_fault, fault_behind}
 
@@ -89,9 +88,3 @@ pub some_cut : (s : List ℕ) → IsOctets s → (us : List (List ℕ)) × (e : 
 some_cut s octets =
     let packets = some_packets (length s) s (omega arith) octets in
     grind (arith, some_end (offset_of (0 + (length s - length packets.1))) packets.1 packets.3)
-
--- octets that a survey refuses begin with no packet
-pub refused_no_packet : (s : List ℕ) (r : Result Fed HeaderFault) (e : HeaderFault) → r ≡ Err e → (r ≡ Err Version → IsBadVersion s) →
-    (r ≡ Err Length → IsBadLength s) →
-    (u b t : List ℕ) → IsPacket u b → s ≡ b ++ t → ⊥
-refused_no_packet s r e is version h u b t p same = grind (arith, fault_no_packet)

@@ -1,13 +1,13 @@
 -- What every cutter holds, and what its calls do to it.
-use Rattle.std.proofs.Common.{◌≡◌, ℕ, ◌+◌, ◌-◌, ◌<◌, ◌≤◌, ◌^◌, ◌∷◌, ◌⊎◌, inl, inr, List, [], ◌++◌, length, take, drop, refl, sym, ap, subst}
+use Rattle.std.proofs.Common.{◌≡◌, ℕ, ◌+◌, ◌-◌, ◌<◌, ◌≤◌, ◌^◌, ◌∷◌, ◌⊎◌, inl, inr, List, [], ◌++◌, length, take, refl, sym, ap, subst}
 use Rattle.std.proofs.Common.{arith, Bool, true, false, Option, Some, None, Result, Ok, Err, IfOk, MatchBool}
 use Rattle.osi_tpkt.specs.declared.cutting.Progress.{Progress}
 use Rattle.osi_tpkt.specs.declared.cutting.Progress.TheVariants.{Awaited, Partial}
-use Rattle.osi_tpkt.proofs.Vocabulary.{length-take-le, none-some, IsOnePacket, IsPartial, IsFaultOf, offset_of, IsFront, IsFull}
-use Rattle.osi_tpkt.proofs.Vocabulary.{IsUnfinished, Held, IsHolding, Gains, TakesPiece, Feeds, Passes, Advances, CutterRun, Feed, Advance}
-use Rattle.osi_tpkt.proofs.Vocabulary.{fault_of, FitsProgress, IsKept, TpktFault, BadVersion, BadLength, OutOfMemory, Fed}
-use Rattle.osi_tpkt.proofs.a_prefix_of_a_packet.{short_partial, full_packet, front_packet, partial_not_whole, belonging_some}
-use Rattle.osi_tpkt.proofs.a_prefix_of_a_packet.{belonging_no_fault, surveyed, one_fault, holding, empty_partial}
+use Rattle.osi_tpkt.proofs.Vocabulary.{none-some, IsOnePacket, IsPartial, IsFaultOf, IsFront, IsFull, IsUnfinished, Held, IsHolding, Gains}
+use Rattle.osi_tpkt.proofs.Vocabulary.{TakesPiece, Feeds, Passes, Advances, CutterRun, Feed, Advance, fault_of, FitsProgress, IsKept}
+use Rattle.osi_tpkt.proofs.Vocabulary.{TpktFault, BadVersion, BadLength, OutOfMemory, Fed}
+use Rattle.osi_tpkt.proofs.a_prefix_of_a_packet.{short_partial, full_packet, partial_not_whole, belonging_some, belonging_no_fault}
+use Rattle.osi_tpkt.proofs.a_prefix_of_a_packet.{surveyed, one_fault, holding, empty_partial}
 
 -- the same of its value
 pub kept_sound : (offset : ℕ) (octets : List ℕ) (progress : Progress) (room : ℕ) (now : Held) → IsKept offset octets progress →
@@ -69,12 +69,6 @@ feeds_sound old piece result new h k = elim (none_or_some old.fault) [
   ]
 ]
 
-pub advances_sound : (old new : Held) → IsHolding old → Advances old new → IsHolding new
-advances_sound old new h k = elim h.octets [
-  | inl partial ↦ subst IsHolding (sym (k.partial partial)) h
-  | inr whole ↦ subst IsHolding (sym (k.whole whole.0.0 whole.0.1)) (record { offset = omega arith; octets = inl empty_partial })
-]
-
 -- a cutter that begins at an offset
 pub begins : (at room : ℕ) (octets : List ℕ) → octets ≡ [] → at < 2 ^ 64 → IsHolding (holding at None octets room)
 begins at room octets none fits = grind (arith, holding, empty_partial)
@@ -114,14 +108,6 @@ taken_whole offset used before after octets piece items progress now is kept sam
 
 -- ---- a packet that is taken without a copy
 
-pub passed : (offset sum room used : ℕ) (octets piece : List ℕ) (progress : Progress) (now : Held) → progress ≡ Awaited →
-    IsKept offset octets progress → used ≤ length piece →
-    IsFront (take used piece) → IsFull (take used piece) → sum ≡ offset_of (offset + used) →
-    holding offset (fault_of offset progress) octets room ≡ now →
-    Passes now (take (used - 4) (drop 4 piece)) piece (holding sum (fault_of sum progress) octets room)
-passed offset sum room used octets piece progress now is fits within front full end same =
-    grind (arith, front_packet, length-take-le, holding, awaiting)
-
 pub passed_sound : (offset sum room : ℕ) (octets : List ℕ) (progress : Progress) → progress ≡ Awaited → IsKept offset octets progress →
     sum < 2 ^ 64 →
     IsHolding (holding sum (fault_of sum progress) octets room)
@@ -147,9 +133,3 @@ passing_runs old new unit piece p = (
   (new, unit ∷ [], [], (passing_advances old new unit piece p, inl (unit, p.packet, refl)), (refl, refl), refl),
   refl,
 )
-
--- a cutter that holds nothing and answered no fault awaits a packet
-pub awaits : (offset : ℕ) (octets : List ℕ) (progress : Progress) (room : ℕ) (now : Held) → (progress ≡ Awaited → ⊥) →
-    IsKept offset octets progress →
-    holding offset (fault_of offset progress) octets room ≡ now → now.octets ≡ [] → now.fault ≡ None → ⊥
-awaits offset octets progress room now other fits same none unfaulted = grind (arith, none-some)

@@ -42,14 +42,12 @@ pub use Rattle.osi_pair.specs.Standing.{StandsAt}
 pub use Rattle.osi_pair.specs.declared.events.Applied.{Applied}
 pub use Rattle.osi_pair.specs.declared.events.Event.{Event}
 pub use Rattle.osi_pair.specs.declared.sides.Side.{Side}
-pub use Rattle.osi_script.specs.Answers.{answer_line}
 pub use Rattle.osi_script.specs.Commands.{Break, Carry, Command, Connect, Ends, OfUser, Told, command_by, command_of}
 pub use Rattle.osi_script.specs.Scripts.{is_skipped, lines_of}
 pub use Rattle.osi_script.specs.Standing.{standing_line}
-pub use Rattle.osi_script.specs.declared.answers.Answer.TheVariants.{LineRefused}
 pub use Rattle.osi_script.specs.declared.commands.Classes.{Classes}
 pub use Rattle.osi_script.specs.declared.standing.Standing.{Standing}
-pub use Rattle.osi_transcript.specs.Asking.{IsEvent, IsNoEvent, side_in}
+pub use Rattle.osi_transcript.specs.Asking.{IsEvent, side_in}
 pub use Rattle.osi_transcript.specs.Entries.{entry_texts}
 pub use Rattle.osi_transcript.specs.Numbered.{lines_left, numbered}
 pub use Rattle.osi_transcript.specs.Playing.{Applies, BeginsWith, FailsAt, IsApplied, IsLocal, Lines, Plays, PlaysLine, RefusesLine, Rest}

@@ -1,10 +1,10 @@
 -- Lines of a script, one after the other.
 -- For `play`, `play_line` and `play_event`.
 use Rattle.osi_transcript.proofs.Vocabulary.{arith, ◌≡◌, ◌∙◌, ℕ, Bool, true, false, List, [], ◌∷◌, ◌++◌, Option, Some, None, inl, inr, refl}
-use Rattle.osi_transcript.proofs.Vocabulary.{sym, subst, append_assoc, append-nil, TwoEnds, Event, answer_line, Command, Ends, Connect}
-use Rattle.osi_transcript.proofs.Vocabulary.{OfUser, Carry, Break, Told, command_of, LineRefused, IsEvent, IsNoEvent, Lines, Applies, Plays}
-use Rattle.osi_transcript.proofs.Vocabulary.{BeginsWith, Transcribes, carried_by, event_text, new_texts, all_standings, IsStart, DoesEvent}
-use Rattle.osi_transcript.proofs.Vocabulary.{FailsEvent, PlaysEvent, StopsAtLine, GoesBehind, PlaysAll}
+use Rattle.osi_transcript.proofs.Vocabulary.{sym, subst, append_assoc, append-nil, TwoEnds, Event, Command, Ends, Connect, OfUser, Carry}
+use Rattle.osi_transcript.proofs.Vocabulary.{Break, Told, command_of, IsEvent, Lines, Applies, Plays, BeginsWith, Transcribes, carried_by}
+use Rattle.osi_transcript.proofs.Vocabulary.{event_text, new_texts, all_standings, IsStart, DoesEvent, FailsEvent, PlaysEvent, StopsAtLine}
+use Rattle.osi_transcript.proofs.Vocabulary.{GoesBehind, PlaysAll}
 
 -- the event of a line is applied, or does not fit
 plays_event : (number : ℕ) (line : List ℕ) (c : Command) (event : Event) (lines : Lines) (p : TwoEnds) (text : List ℕ) (status : ℕ) →
@@ -29,17 +29,6 @@ failed number line c event old before after read is h = record {
   says = h.says;
   plays = λ lines. plays_event number line c event lines old h.text 1 read is (inr h.fails);
 }
-
--- a line that spells nothing
-pub unread : (number : ℕ) (line : List ℕ) (old : TwoEnds) (before after : List ℕ) → command_of line ≡ None →
-    after ≡ before ++ answer_line (LineRefused number) → StopsAtLine number line old before after
-unread number line old before after read says = grind arith
-
--- a line that declares two ends after the first
-pub misplaced : (number : ℕ) (line : List ℕ) (c : Command) (old : TwoEnds) (before after : List ℕ) → command_of line ≡ Some c →
-    IsNoEvent c →
-    after ≡ before ++ answer_line (LineRefused number) → StopsAtLine number line old before after
-misplaced number line c old before after read is says = grind arith
 
 -- ---- lines one after the other
 

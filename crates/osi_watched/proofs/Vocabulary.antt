@@ -1,8 +1,8 @@
 -- What the proofs of this crate take from the library, from the crates below and from its own definitions.
 pub use Rattle.std.proofs.Common.{Bool, Err, IfSome, IsSome, List, None, Ok, Option, Result, Some, [], ap, append_assoc, arith, drop, false}
 pub use Rattle.std.proofs.Common.{if◌then◌else◌, inl, inr, is_some, leb, length, map, nat_le, nat_lt, not, option_map, position, refl, set}
-pub use Rattle.std.proofs.Common.{slice_get, slice_set, subst, suc, sym, take, true, zero, ℕ, ◌%◌, ◌&&◌, ◌*◌, ◌++◌, ◌+◌, ◌-◌, ◌/◌, ◌<◌}
-pub use Rattle.std.proofs.Common.{◌==◌, ◌^◌, ◌||◌, ◌∙◌, ◌∷◌, ◌≡◌, ◌≢◌, ◌≤◌, ◌⊎◌}
+pub use Rattle.std.proofs.Common.{slice_get, slice_set, subst, suc, sym, take, true, zero, ℕ, ◌&&◌, ◌*◌, ◌++◌, ◌+◌, ◌-◌, ◌/◌, ◌<◌, ◌==◌}
+pub use Rattle.std.proofs.Common.{◌^◌, ◌||◌, ◌∙◌, ◌∷◌, ◌≡◌, ◌≢◌, ◌≤◌, ◌⊎◌}
 pub use Rattle.std.proofs.Math.Seq.{take-append_seam}
 pub use Rattle.std.proofs.lemmas.Bool.{eq-eqb, eqb-true, le-leb, le-ltb, leb-false, leb-true, lt-ltb, ltb-false, ltb-true}
 pub use Rattle.std.proofs.lemmas.Bool.Decides.{leb_tells, nat_tests}
@@ -19,7 +19,6 @@ pub use Rattle.osi_tpkt.specs.Packet.{IsPacket, packet_of}
 pub use Rattle.osi_tpkt.specs.Stream.{ArePackets, Ending, EndsAt, offset_of}
 pub use Rattle.osi_tpkt.specs.declared.cutting.Fed.{Fed}
 pub use Rattle.osi_tpkt.specs.declared.faults.TpktFault.{TpktFault}
-pub use Rattle.osi_tpkt.specs.declared.faults.TpktFault.TheVariants.{BadLength}
 pub use Rattle.osi_tpdu.proofs.the_units_of_a_packet.{units_fit, units_found, units_only}
 pub use Rattle.osi_tpdu.proofs.the_written_form_spells_its_value.{written_spells}
 pub use Rattle.osi_tpdu.specs.Limits.{tsap_octets}
@@ -77,26 +76,22 @@ pub use Rattle.osi_stack.proofs.stream.the_room_for_a_packet.{found_how}
 pub use Rattle.osi_stack.specs.Calls.{after_open, has_given}
 pub use Rattle.osi_stack.specs.Feeding.{Feeds, Goes, TakesPackets, uses_all}
 pub use Rattle.osi_stack.specs.Hearing.{RunsOut, Starves, after_packet, hears_times, with_carrier, with_events}
-pub use Rattle.osi_stack.specs.Inputs.{IsAccepted}
 pub use Rattle.osi_stack.specs.Messages.{AreShort}
 pub use Rattle.osi_stack.specs.Moving.{carrier_by, to_session}
 pub use Rattle.osi_stack.specs.Rounds.UserCall.{calling}
 pub use Rattle.osi_stack.specs.Runs.{Call, Calls, carried_in, used_in}
 pub use Rattle.osi_stack.specs.State.{End, Holding}
-pub use Rattle.osi_stack.specs.Transport.{answers_by}
 pub use Rattle.osi_stack.specs.declared.connecting.ConnectError.{ConnectError}
 pub use Rattle.osi_rules.proofs.a_stop_is_said.{stops_are_said, stops_last}
-pub use Rattle.osi_rules.specs.Reaches.{is_applied, reach_by, reach_of}
-pub use Rattle.osi_rules.specs.Rows.{Test, acknowledge_tests, confirm_tests, data0_tests, first_failed, fits_size, fits_tsdu, given_again}
-pub use Rattle.osi_rules.specs.Rows.{has_credit, has_passed, is_tellable, keeps_credit}
+pub use Rattle.osi_rules.specs.Reaches.{is_applied, reach_of}
+pub use Rattle.osi_rules.specs.Rows.{Test, acknowledge_tests, confirm_tests, data0_tests, first_failed, given_again}
 pub use Rattle.osi_rules.specs.Sides.{begins, is_closed, is_closing, is_free, is_live, is_named, is_open, is_over, is_over_by, is_refused}
 pub use Rattle.osi_rules.specs.Sides.{is_silent, own, seen, uses}
 pub use Rattle.osi_rules.specs.Traffic.{Outcome, State, State as Traffic, asked_by, asks_by, asks_kept, asks_of, at_found, at_place}
 pub use Rattle.osi_rules.specs.Traffic.{begun_after, class_for, class_of, closing_phase, connection_after, course_after, course_after_none}
 pub use Rattle.osi_rules.specs.Traffic.{found, found_on, fresh, half_after, has_broken, in_doubt, is_report, is_stopped, judged_on}
-pub use Rattle.osi_rules.specs.Traffic.{meaning_if, meant, none_told, noted, one_told, refused_reach, request_tests, route, route_in}
-pub use Rattle.osi_rules.specs.Traffic.{route_zero, routed, sent_on, silent_half, stops, stops_by, takes, unnamed, unnamed_by, unnamed_told}
-pub use Rattle.osi_rules.specs.Traffic.{uses_source}
+pub use Rattle.osi_rules.specs.Traffic.{meaning_if, meant, none_told, noted, one_told, request_tests, route, route_in, route_zero, routed}
+pub use Rattle.osi_rules.specs.Traffic.{sent_on, silent_half, stops, stops_by, takes, unnamed, unnamed_by, unnamed_told, uses_source}
 pub use Rattle.osi_rules.specs.declared.connections.Connection.{Connection}
 pub use Rattle.osi_rules.specs.declared.connections.Offer.{Offer}
 pub use Rattle.osi_rules.specs.declared.courses.Course.{Course as Rules}
@@ -110,7 +105,6 @@ pub use Rattle.osi_rules.specs.declared.findings.Rule.{Rule}
 pub use Rattle.osi_rules.specs.declared.findings.Told.{Told}
 pub use Rattle.osi_rules.specs.declared.halves.Half.{Half}
 pub use Rattle.osi_rules.specs.declared.halves.Phase.{Phase}
-pub use Rattle.osi_rules.specs.declared.halves.Phase.TheVariants.{Closed}
 pub use Rattle.osi_rules.specs.declared.routes.Route.{Route}
 pub use Rattle.osi_rules.specs.declared.routes.Route.TheVariants.{Asks, Named, Only, Unnamed}
 pub use Rattle.osi_judge.proofs.honest.a_call_is_explained.{AsSent}
@@ -250,7 +244,7 @@ pub use Rattle.osi_fair.specs.Lines.{Act, Acts, ActsAlong, Line, begins_elsewher
 pub use Rattle.osi_fair.specs.Naming.{HoldsOfOne, Passing, packet, passes, rubbish, unit}
 pub use Rattle.osi_fair.specs.Pieces.{units_by}
 pub use Rattle.osi_fair.specs.Putting.{put_at, put_before, put_by, put_closing, put_for, put_for_selection, put_in, put_in_two, put_in_zero}
-pub use Rattle.osi_fair.specs.Putting.{put_leaving, put_linked, put_only, put_sent, put_taking, put_to, put_together, refusal}
+pub use Rattle.osi_fair.specs.Putting.{put_linked, put_only, put_sent, put_taking, put_to, put_together, refusal}
 pub use Rattle.osi_fair.specs.Wholes.{Event, HappenAlong, Happens, MayCall, Whole, arrives, calls, passes_rubbish}
 pub use Rattle.osi_watched.specs.Bounded.{AreJudgedOf, AreMomentsOf, IsCourseOf, IsFedWithin, IsJudgedOf, IsMomentOf, SessionsOf}
 pub use Rattle.osi_watched.specs.Bounded.{comes_within}

@@ -1,12 +1,12 @@
 -- A unit that is no break leaves all that passes judged, or nothing any more; how far each other unit reaches, and what can't be read. And
 -- what a side sends is no break of the other one. For the laws that an end is blamed nowhere.
 use Rattle.osi_watched.proofs.Vocabulary.{arith, ◌≡◌, ◌∙◌, ℕ, Bool, true, false, if◌then◌else◌, Option, Some, None, is_some, refl, sym, ap}
-use Rattle.osi_watched.proofs.Vocabulary.{inl, inr, ◌⊎◌, ◌||◌, Value, Connect, Class, Zero, other, Connection, Finding, Kept, Broke}
-use Rattle.osi_watched.proofs.Vocabulary.{Outside, TooMany, NotJudged, Reach, Route, reach_of, State, Outcome, class_for, none_told}
-use Rattle.osi_watched.proofs.Vocabulary.{unnamed_told, at_place, asks_by, routed, is_stopped, takes, stops_are_said, stops_last, rubbish}
-use Rattle.osi_watched.proofs.Vocabulary.{unit, zero_stays, side_zero, Cause, Mark, Marks, taken, Course, cause_of, changes, earlier}
-use Rattle.osi_watched.proofs.Vocabulary.{first_marked, is_break, kind_of, marked, marks_of, moment_of, moved, noted_by, number_at}
-use Rattle.osi_watched.proofs.Vocabulary.{packet_begins, reached, unit_passes, unread, unread_mark, unread_moment, way_of}
+use Rattle.osi_watched.proofs.Vocabulary.{inl, inr, ◌⊎◌, ◌||◌, Value, Connect, Class, Zero, other, Finding, Kept, Broke, Outside, TooMany}
+use Rattle.osi_watched.proofs.Vocabulary.{NotJudged, Reach, Route, reach_of, State, Outcome, class_for, unnamed_told, at_place, asks_by}
+use Rattle.osi_watched.proofs.Vocabulary.{routed, is_stopped, takes, stops_are_said, unit, zero_stays, side_zero, Cause, Mark, Marks, taken}
+use Rattle.osi_watched.proofs.Vocabulary.{Course, cause_of, changes, earlier, first_marked, is_break, kind_of, marked, marks_of, moment_of}
+use Rattle.osi_watched.proofs.Vocabulary.{moved, noted_by, number_at, packet_begins, reached, unit_passes, unread, unread_mark}
+use Rattle.osi_watched.proofs.Vocabulary.{unread_moment, way_of}
 use Rattle.osi_judge.specs.declared.directions.Direction.{Direction as Side}
 use Rattle.osi_judge.specs.declared.directions.Direction.TheVariants as side
 use Rattle.osi_rules.specs.declared.courses.Course.{Course as Judging}
@@ -41,9 +41,6 @@ IsReached d s o = Reaches (class_for d s.course) s.course.loose o
 pub reached_loose : (d : Direction) (r : Reach) (c : Judging) (old : Bool) → c.loose ≡ old → (traffic.reached d r c).loose ≡ loose_by r old
 reached_loose d r c old e = grind arith
 
-to_none : (d : Direction) (f : Finding) (s : State) → IsReached d s (none_told d f s)
-to_none d f s = grind (arith, reached_loose)
-
 to_unnamed : (d : Direction) (v : Value) (s : State) → IsReached d s (unnamed_told d v s)
 to_unnamed d v s = grind (arith, reached_loose)
 
@@ -51,13 +48,13 @@ at_any : (d : Direction) (v : Value) (s : State) (place : Option ℕ) → IsReac
 at_any d v s place = search (arith, to_unnamed)
 
 asking : (d : Direction) (f : Finding) (c : Connect) (s : State) → IsReached d s (asks_by d f c s)
-asking d f c s = search (arith, to_none)
+asking d f c s = search arith
 
 by_route : (d : Direction) (v : Value) (s : State) (r : Route) → IsReached d s (routed d v s r)
-by_route d v s r = grind (arith, asking, to_none, at_any)
+by_route d v s r = grind (arith, asking, at_any)
 
 pub takes_reach : (d : Direction) (v : Value) (s : State) → IsReached d s (takes d v s)
-takes_reach d v s = grind (arith, to_none, by_route)
+takes_reach d v s = grind (arith, by_route)
 
 -- what ends all judging is told
 all_caused : (k : Option Class) (f : Finding) → reach_of k f ≡ reach.Everything → (x : Cause) × (cause_of f ≡ Some x)
@@ -112,9 +109,6 @@ module _ (d : Side) (at : ℕ) (v : Value) (c : Course) where
       (marks_of e (noted_by d at v o.told k mid)).halted ≡ (marks_of e c).halted
   halts_part e k is = grind (arith, mid_marks, halted_by)
 
-  halts_by : (e : Side) (k : Cause) → is_some (marks_of e (marked (mark k) reach.Everything mid)).halted ≡ true
-  halts_by e k = grind (arith, some_earlier)
-
   abbrev next : Course
   next = unit_passes d at v c
 
@@ -140,7 +134,7 @@ module _ (d : Side) (at : ℕ) (v : Value) (c : Course) where
   pub all_ends : o.told.reach ≡ reach.Everything → IsOver next
   all_ends is =
       let (x, caused) = all_caused (class_for (way_of d) c.traffic.course) o.told.finding (sym reach_so.far ∙ is) in
-      search (arith, halts_by, stops_so reach.Everything is Left, stops_so reach.Everything is Right)
+      search (arith, stops_so reach.Everything is Left, stops_so reach.Everything is Right)
 
   pub side_so : o.told.reach ≡ reach.Side → IsKnownOnce c.traffic →
       (next.traffic.course.class ≡ Some Zero) × (is_stopped (way_of d) next.traffic.course ≡ true)
@@ -211,10 +205,6 @@ begins_going e c j = grind arith
 
 -- ---- what can't be read
 
-reached_stops : (d : Direction) (r : Reach) (c : Judging) (e : Direction) →
-    is_stopped e (traffic.reached d r c) ≡ (traffic.stops_by d r e || is_stopped e c)
-reached_stops d r c e = grind arith
-
 abbrev pub refuses : Side → (at : ℕ) → Cause → Course → Course
 refuses d at k c = marked (unread_mark d at k) (traffic.refused_reach (way_of d) c.traffic)
     (moved (unread_moment d at k c.sessions) (record c { traffic = traffic.refused (way_of d) c.traffic }))
@@ -226,19 +216,8 @@ module _ (d : Side) (at : ℕ) (k : Cause) (c : Course) where
   pub refused_traffic : (refuses d at k c).traffic ≡ traffic.refused (way_of d) c.traffic
   refused_traffic = marked_traffic (unread_mark d at k) (traffic.refused_reach (way_of d) c.traffic) _
 
-  pub refused_stops : (r : Reach) → traffic.refused_reach (way_of d) c.traffic ≡ r → (e : Direction) →
-      is_stopped e (refuses d at k c).traffic.course ≡ (traffic.stops_by (way_of d) r e || is_stopped e c.traffic.course)
-  refused_stops r is e = grind (arith, refused_traffic, reached_stops)
-
-  abbrev before_halts : Course
-  before_halts = changes d (breaks (unread_mark d at k)) (first_marked (unread_mark d at k)
-      (moved (unread_moment d at k c.sessions) (record c { traffic = traffic.refused (way_of d) c.traffic })))
-
   pub refused_over : traffic.refused_reach (way_of d) c.traffic ≡ reach.Everything → IsOver (refuses d at k c)
-  refused_over is = grind (arith, refused_stops, some_earlier)
-
-  pub class_kept : c.traffic.course.class ≡ Some Zero → (refuses d at k c).traffic.course.class ≡ Some Zero
-  class_kept h = ap (λ (s : State). s.course.class) refused_traffic ∙ zero_stays (rubbish (way_of d)) c.traffic h
+  refused_over is = grind (arith, some_earlier)
 
   pub known_too : (e : Side) → IsKnownOnce c.traffic → class_for (way_of e) c.traffic.course ≡ Some Zero →
       c.traffic.course.class ≡ Some Zero
@@ -257,9 +236,6 @@ unread_sessions d at k c = grind (arith, marked_leaves)
 pub record IsLeft (d : Side) (c : Course) : Type 0 where
   pub over : IsOver c
   pub unbroken : (marks_of d c).broke ≡ None
-
-pub still_over : (e : Side) (at : ℕ) (v : Value) (c : Course) → IsOver c → IsOver (unit_passes e at v c)
-still_over e at v c over = grind (arith, stops_last)
 
 pub left_claim : (d : Side) → IsClaim (IsLeft d)
 left_claim d = grind (arith, unread_over)

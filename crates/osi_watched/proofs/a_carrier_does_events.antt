@@ -181,10 +181,6 @@ module _ (d : Direction) (w : Whole) (out : List ℕ) where
   abbrev pub Came : List (List ℕ) → State → Type 0
   Came us c = (later : List Value) → (w.end.ended ≡ None → w.coming ≡ units_in us ++ later) → HasCome d w out later c
 
-  one_more : (us : List (List ℕ)) (u : List ℕ) (later : List Value) →
-      units_in (us ++ u ∷ []) ++ later ≡ units_in us ++ (units_by (units_of u) ++ later)
-  one_more us u later = grind (arith, units_join, append_assoc, append-nil)
-
   acts_so : (r : Result (List Value) TpduFault) (u : List ℕ) (later : List Value) (c : State) → IsOctets u → units_of u ≡ r →
       HasCome d w out (units_by r ++ later) c → HasCome d w out later (carriers.acts_by r c)
   acts_so (Ok units) u later c octets e h = all_come units later c (units_fit units u (units_found u units octets e)) h
@@ -192,7 +188,7 @@ module _ (d : Direction) (w : Whole) (out : List ℕ) where
 
   packet_so : (us : List (List ℕ)) (u : List ℕ) (c : State) → IsOctets u → Came us c → Came (us ++ u ∷ []) (carriers.after_packet c u)
   unfolding carriers.after_packet
-  packet_so us u c octets p = λ later next. acts_so (units_of u) u later c octets refl (grind (arith, one_more))
+  packet_so us u c octets p = λ later next. acts_so (units_of u) u later c octets refl (grind (arith, units_join, append_assoc, append-nil))
 
   front_fits : (some others : List Value) → AllByRecursion Fits (some ++ others) → AllByRecursion Fits some
   front_fits [] others all = tt
@@ -205,7 +201,7 @@ module _ (d : Direction) (w : Whole) (out : List ℕ) where
       let all = subst (λ (l : List Value). AllByRecursion Fits l) run.all (units_fit units u (units_found u units octets read)) in
       let order : units_by (units_of u) ++ later ≡ run.done ++ (rest ++ later) = grind (arith, append_assoc) in
       let first = all_come run.done (rest ++ later) c (front_fits run.done rest all)
-      (subst (λ (l : List Value). HasCome d w out l c) order (grind (arith, one_more))) in
+      (subst (λ (l : List Value). HasCome d w out l c) order (grind (arith, units_join, append_assoc, append-nil))) in
       subst (HasCome d w out later) (sym run.ended) (ends_come NoMemory (rest ++ later) later (reacts run.done c) first)
 
   untold_so : (us : List (List ℕ)) (events : List Happening) (c : State) → Came us c → Came us (record c { events = events })

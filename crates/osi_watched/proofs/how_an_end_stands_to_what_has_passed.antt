@@ -82,9 +82,6 @@ module _ (held ahead : List ℕ) (coming : List (List ℕ)) (is_caller : Bool) (
   abbrev octets_in : List ℕ
   octets_in = old.held.octets ++ turn.used
 
-  passed : old.end.carrier.ended ≡ None → ArePackets coming (octets_in ++ ahead) held
-  passed lasts = grind (arith, append_assoc)
-
   pub uses : (was is : Option EndReason) → old.end.carrier.ended ≡ was → new.end.carrier.ended ≡ is → Uses held ahead coming old turn new
   uses (Some e) is was now = record {
     used = [];
@@ -96,8 +93,8 @@ module _ (held ahead : List ℕ) (coming : List (List ℕ)) (is_caller : Bool) (
     all = λ lasts over more last h. absurd (grind arith);
     left = λ lasts. absurd (never_lasts new.end.carrier.ended (over_acts turn old new (ap is_some was) takes).0 lasts);
   }
-  uses None None was now = grind (arith, used_first, passed)
+  uses None None was now = grind (arith, used_first, append_assoc)
   uses None (Some e) was now =
-      let octets = octets_left octets_in ahead (packets_octets coming (octets_in ++ ahead) held (passed was) st.octets) in
+      let octets = octets_left octets_in ahead (packets_octets coming (octets_in ++ ahead) held (grind (arith, append_assoc)) st.octets) in
       let k = some_cut octets_in octets in
-      grind (arith, none_more, used_first k.0 coming octets_in ahead k.2.0 held (passed was) k.2.1 st.none, passed was)
+      grind (arith, none_more, used_first, append_assoc)

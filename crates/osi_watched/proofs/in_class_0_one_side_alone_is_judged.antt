@@ -1,15 +1,14 @@
 -- In class 0 a break of the other side leaves an end judged alone, and whatever passes leaves that so, as long as each unit of the end is
 -- right. For the laws that an end is to blame nowhere.
 use Rattle.osi_watched.proofs.Vocabulary.{arith, ◌≡◌, ◌∙◌, ℕ, Bool, true, false, Option, Some, refl, sym, ap, subst, ◌||◌, is_some, Value}
-use Rattle.osi_watched.proofs.Vocabulary.{Class, Zero, other, Direction, reach_of, State, Outcome, class_for, is_stopped, Finding, Kept}
-use Rattle.osi_watched.proofs.Vocabulary.{Broke, Outside, TooMany, NotJudged, unit, zero_stays, Cause, taken, Course, cause_of, marks_of}
-use Rattle.osi_watched.proofs.Vocabulary.{moment_of, moved, noted_by, packet_begins, unit_passes, unread, way_of}
+use Rattle.osi_watched.proofs.Vocabulary.{Class, Zero, other, Direction, reach_of, State, class_for, is_stopped, Finding, Kept, Broke}
+use Rattle.osi_watched.proofs.Vocabulary.{Outside, TooMany, NotJudged, unit, zero_stays, Cause, Course, cause_of, marks_of, packet_begins}
+use Rattle.osi_watched.proofs.Vocabulary.{unit_passes, unread, way_of}
 use Rattle.osi_rules.specs.Traffic as traffic
 use Rattle.osi_rules.specs.declared.findings.Reach.TheVariants as reach
 use Rattle.osi_tap.specs.declared.marks.Cause.TheVariants as cause
-use Rattle.osi_watched.proofs.a_break_ends_no_judging_or_all.{far_of, loose_by, loose_more, loose_so, mark, mid, o, reached_loose, reach_so}
-use Rattle.osi_watched.proofs.a_break_ends_no_judging_or_all.{refused_over, refused_traffic, refuses, side_so, stops_so, unread_if}
-use Rattle.osi_watched.proofs.a_break_ends_no_judging_or_all.{some_earlier}
+use Rattle.osi_watched.proofs.a_break_ends_no_judging_or_all.{far_of, loose_by, loose_more, loose_so, mark, mid, o, reach_so, refused_over}
+use Rattle.osi_watched.proofs.a_break_ends_no_judging_or_all.{refuses, side_so, stops_so, unread_if, some_earlier}
 use Rattle.osi_watched.proofs.what_a_unit_leaves_at_a_tap.{IsJudged, IsOver}
 use Rattle.osi_watched.proofs.what_is_halted_stays_halted.{IsHalted, halted_claim}
 use Rattle.osi_watched.proofs.what_passes_keeps_a_claim.{IsClaim}
@@ -21,11 +20,8 @@ use Rattle.osi_watched.proofs.sessions.connections_have_the_same_places.{unit_kn
 abbrev pub IsLoose : Course → Type 0
 IsLoose c = c.traffic.course.loose ≡ true
 
-loose_unread : (b : Bool) (e : Direction) (at : ℕ) (k : Cause) (c : Course) → IsLoose c → IsLoose (unread_if b e at k c)
-loose_unread b e at k c h = grind (arith, refused_traffic, reached_loose, loose_more)
-
 pub loose_claim : IsClaim IsLoose
-loose_claim = grind (arith, loose_so, loose_by, loose_more, loose_unread)
+loose_claim = grind (arith, loose_so, loose_by, loose_more)
 
 -- ---- the end alone is judged
 
@@ -39,11 +35,6 @@ pub record IsAlone (d : Direction) (c : Course) : Type 0 where
 
 pub alone_begins : (d e : Direction) (c : Course) → IsAlone d c → IsAlone d (packet_begins e c)
 alone_begins d e c a = grind arith
-
--- what is told of a unit of the other side changes nothing
-abbrev passed : Direction → (at : ℕ) → Value → Outcome → Course → Course
-passed e at v x c = noted_by e at v x.told (cause_of x.told.finding)
-    (moved (moment_of e at v x.told (taken e at v x.told.meaning x.told.place c.sessions)) (record c { traffic = x.state }))
 
 pub alone_own : (d : Direction) (at : ℕ) (v : Value) (c : Course) → (traffic.takes (way_of d) v c.traffic).told.finding ≡ Kept →
     IsAlone d c → IsAlone d (unit_passes d at v c)
@@ -66,9 +57,6 @@ side_caused k Outside e = absurd (cc)
 side_caused k TooMany e = absurd (cc)
 side_caused k (Broke rule) e = (cause.Broke rule, refl)
 
-judged_own : (d : Direction) (c : Course) → IsJudged c → is_stopped (way_of d) c.traffic.course ≡ false
-judged_own d c j = grind arith
-
 goes_on : (d : Direction) (c : Course) → IsJudged c → is_some (marks_of d c).halted ≡ false
 goes_on d c j = grind arith
 
@@ -85,7 +73,7 @@ unit_alone d at v c j once is =
     record {
       zero = zero;
       firm = loose_so e at v c reach.Side is ∙ j.firm;
-      own = stops_so e at v c reach.Side is (way_of d) ∙ other_apart d (is_stopped (way_of d) c.traffic.course) ∙ judged_own d c j;
+      own = stops_so e at v c reach.Side is (way_of d) ∙ other_apart d (is_stopped (way_of d) c.traffic.course) ∙ (grind arith);
       stopped = stopped;
       halted = grind (arith, o, mid, mark, some_earlier);
     }
@@ -105,8 +93,5 @@ module _ (d : Direction) (at : ℕ) (k : Cause) (c : Course) (j : IsJudged c) (o
   pub refused_over_so : traffic.refused_reach (way_of e) c.traffic ≡ reach.Everything → IsOver (unread e at k c)
   refused_over_so is = subst IsOver (sym unread_is) (refused_over e at k c is)
 
-  by_class : (x : Option Class) → class_for (way_of e) c.traffic.course ≡ x → AfterUnread d (unread e at k c)
-  by_class x is = search (arith, refused_over_so)
-
   pub unread_alone : AfterUnread d (unread e at k c)
-  unread_alone = by_class (class_for (way_of e) c.traffic.course) refl
+  unread_alone = grind (arith, refused_over_so)

@@ -175,11 +175,8 @@ module _ (d : Direction) where
       unread_whole : IsWhole c → (k : Option Class) → class_for (way_of (other d)) c.traffic.course ≡ k → AfterUnread d bad
       unread_whole w k is = grind (arith, all_over, unread_alone, judged_of, firm_in_zero, known_too)
 
-      unread_by : (marks_of d c).broke ≡ None → AfterUnread d bad → IsBlamedNowhere bad
-      unread_by none h = grind (arith, unread_unbroken)
-
       unread_so : IsBlamedNowhere c → IsBlamedNowhere bad
-      unread_so h = grind (arith, unread_by, unread_whole, left_claim, unread_unbroken)
+      unread_so h = grind (arith, unread_unbroken, unread_whole, left_claim)
 
     spoilt_so : (at : ℕ) (cause : Cause) (packets : List (List ℕ)) → units_in packets ≡ [] → (j : Joint) → Stood j →
         Stood (spoilt d at cause packets j)

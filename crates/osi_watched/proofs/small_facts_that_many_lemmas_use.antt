@@ -1,9 +1,9 @@
 -- Small facts that lemmas of several files use: of truth values, lists and numbers, and of one step of a connection.
 -- For all proofs of this crate.
-use Rattle.osi_watched.proofs.Vocabulary.{AllByRecursion, Bool, Broke, CanBeWritten, Carrier, Class, Connection, EndReason, Fits}
-use Rattle.osi_watched.proofs.Vocabulary.{HasFieldsInRange, Kept, List, None, Option, Rule, Some, Test, Time as Stage, Two, Value, Zero, []}
-use Rattle.osi_watched.proofs.Vocabulary.{amid, ap, early, false, first_failed, has_given, is_some, le-leb, lt-ltb, nat_le, not, past, refl}
-use Rattle.osi_watched.proofs.Vocabulary.{sym, true, ℕ, ◌&&◌, ◌++◌, ◌<◌, ◌||◌, ◌∙◌, ◌∷◌, ◌≡◌, ◌≤◌, arith}
+use Rattle.osi_watched.proofs.Vocabulary.{AllByRecursion, Bool, CanBeWritten, Carrier, Class, Connection, EndReason, Fits, HasFieldsInRange}
+use Rattle.osi_watched.proofs.Vocabulary.{List, None, Option, Some, Time as Stage, Two, Value, Zero, [], amid, ap, early, false, has_given}
+use Rattle.osi_watched.proofs.Vocabulary.{is_some, le-leb, lt-ltb, nat_le, past, refl, sym, true, ℕ, ◌&&◌, ◌++◌, ◌<◌, ◌||◌, ◌∙◌, ◌∷◌, ◌≡◌}
+use Rattle.osi_watched.proofs.Vocabulary.{◌≤◌, arith}
 
 pub all_front : {X : Type 0} (P : X → Type 0) (xs ys : List X) → AllByRecursion P (xs ++ ys) → AllByRecursion P xs
 all_front P [] ys h = tt
@@ -41,9 +41,6 @@ none_some k a h e = absurd (cc)
 pub not_some : {A : Type 0} (o : Option ℕ) (n : ℕ) → o ≡ Some n → o ≡ None → A
 not_some o n h e = absurd (cc)
 
-pub not_true : (b : Bool) → not b ≡ true → b ≡ false
-not_true b h = grind arith
-
 pub or_first : (a b : Bool) → (a || b) ≡ false → a ≡ false
 or_first a b h = grind arith
 
@@ -68,9 +65,6 @@ same_item x y e = cc
 
 pub same_one : {X : Type 0} (x y : X) → Some x ≡ Some y → x ≡ y
 same_one x y e = cc
-
-pub second_test : (a b : Bool) (x y : Rule) (more : List Test) → first_failed ((a, Broke x) ∷ (b, Broke y) ∷ more) ≡ Kept → b ≡ true
-second_test a b x y more h = grind arith
 
 pub zero_two : {A : Type 0} (k : Option Class) → k ≡ Some Zero → k ≡ Some Two → A
 zero_two k h e = absurd (let no : Some Zero ≡ Some Two = sym h ∙ e in cc)

@@ -10,8 +10,8 @@ use Rattle.osi_rules.specs.Sides as sides
 use Rattle.osi_fair.specs.Wholes as wholes
 use Rattle.osi_tap.specs.Tapping as tapping
 use Rattle.osi_watched.proofs.steps_are_events.{IsFollowed, begin_followed, own_first, step_followed}
-use Rattle.osi_watched.proofs.what_a_unit_leaves_at_a_tap.{IsCalm, IsJudged, IsOver, Leaves, begins_over, unit_first, unit_leaves}
-use Rattle.osi_watched.proofs.what_a_unit_leaves_at_a_tap.{unit_over, unread_first, unread_over}
+use Rattle.osi_watched.proofs.what_a_unit_leaves_at_a_tap.{IsCalm, IsJudged, IsOver, Leaves, unit_first, unit_leaves, unit_over}
+use Rattle.osi_watched.proofs.what_a_unit_leaves_at_a_tap.{unread_first, unread_over}
 use Rattle.osi_watched.proofs.what_passes_keeps_a_claim.{IsClaim, after_join, after_kept}
 
 -- this is no break
@@ -114,7 +114,7 @@ module _ (d : Direction) where
   }
 
   over_claim : IsClaim (λ c. (c.first ≡ None) × IsOver c)
-  over_claim = grind (arith, begins_over, unit_over, unread_over)
+  over_claim = grind (arith, unit_over, unread_over)
 
   -- the first break of all, if there is one, is of the other side
   abbrev pub IsOfOther : Course → Type 0

@@ -3,12 +3,12 @@
 use Rattle.osi_watched.proofs.Vocabulary.{arith, ◌≡◌, ℕ, ◌+◌, ◌≤◌, Bool, true, false, if◌then◌else◌, List, [], ◌∷◌, ◌++◌, Option, Some}
 use Rattle.osi_watched.proofs.Vocabulary.{None, option_map, is_some, Result, Ok, Err, refl, subst, IfSome, AllByRecursion, tsap_octets}
 use Rattle.osi_watched.proofs.Vocabulary.{Connect, HasFieldsInRange, IsConnect, Value, confirm, data0, disconnect, error, request, Tsap}
-use Rattle.osi_watched.proofs.Vocabulary.{Standing, with_tsdu, accept, refuse, selected_by, LinkFault, Class, Two, Zero, closed_on}
-use Rattle.osi_watched.proofs.Vocabulary.{closed_with, link_of, open_link, sent, sent_all, connection_by, written_by, answers, before_class}
-use Rattle.osi_watched.proofs.Vocabulary.{denies, handed_out, has_peer, in_class, in_two, in_zero, is_full, pumps, react_by, taking}
-use Rattle.osi_watched.proofs.Vocabulary.{to_connection, to_linked, to_only, to_reference, Rows, value_at, connects, user_does, closing}
-use Rattle.osi_watched.proofs.Vocabulary.{ends, linked, EndReason, put_at, put_before, put_by, put_closing, put_for, put_for_selection}
-use Rattle.osi_watched.proofs.Vocabulary.{put_in, put_in_two, put_in_zero, put_linked, put_only, put_sent, put_taking, put_to, put_together}
+use Rattle.osi_watched.proofs.Vocabulary.{Standing, with_tsdu, accept, refuse, selected_by, LinkFault, Class, Two, Zero, closed_with}
+use Rattle.osi_watched.proofs.Vocabulary.{link_of, open_link, sent, sent_all, connection_by, written_by, answers, before_class, denies}
+use Rattle.osi_watched.proofs.Vocabulary.{handed_out, has_peer, in_class, in_two, in_zero, is_full, pumps, react_by, taking, to_connection}
+use Rattle.osi_watched.proofs.Vocabulary.{to_linked, to_only, to_reference, Rows, value_at, connects, user_does, closing, ends, linked}
+use Rattle.osi_watched.proofs.Vocabulary.{EndReason, put_at, put_before, put_by, put_closing, put_for, put_for_selection, put_in}
+use Rattle.osi_watched.proofs.Vocabulary.{put_in_two, put_in_zero, put_linked, put_only, put_sent, put_taking, put_to, put_together}
 use Rattle.osi_watched.proofs.Vocabulary.{refusal, row_at, row_more, row_put, row_without, cc_plain, cr_by, size_in_range, AreNumbered}
 use Rattle.osi_watched.proofs.Vocabulary.{IsNumbered, gives_written, link_opens, taken_numbered}
 use Rattle.osi_class.specs.Link.{taken}
@@ -134,12 +134,8 @@ module _ (s : State) (p : AreNumbered s.live) where
   sent_fine r tsdu false (Some (linked peer link)) here = pumps_so r peer (with_tsdu link tsdu) (here (linked peer link) refl)
   sent_fine r tsdu false (Some (closing peer)) here = (tt, p)
 
-  closed_by : (r reason : ℕ) (o : Option (ℕ × Standing)) → Fine (put_closing r reason o s.class) (closed_on r reason o s)
-  closed_by r reason None = (tt, p)
-  closed_by r reason (Some (peer, link)) = grind (arith, row_put)
-
   pub closed_fine : (r reason : ℕ) → Fine (put_closing r reason (open_link r s) s.class) (closed_with r reason s)
-  closed_fine r reason = closed_by r reason (open_link r s)
+  closed_fine r reason = grind (arith, row_put)
 
   pub one_fine : (r : ℕ) (tsdu : List ℕ) → Fine (put_sent tsdu (open_link r s)) (sent r tsdu s)
   one_fine r tsdu =

@@ -2,12 +2,11 @@
 -- unit leaves that so, unless it is a break.
 -- For the first break of transport.
 use Rattle.osi_watched.proofs.Vocabulary.{ap, Bool, false, if◌then◌else◌, is_some, None, Option, refl, Some, true, ℕ, ◌∙◌, ◌≡◌, ◌⊎◌, ◌||◌}
-use Rattle.osi_watched.proofs.Vocabulary.{Value, stops_are_said, stops_last, asks_of, at_found, course_after_none, is_stopped, none_told}
-use Rattle.osi_watched.proofs.Vocabulary.{one_told, Outcome, routed, Traffic as State, takes, unnamed_told, Connection, Rules as Judging}
-use Rattle.osi_watched.proofs.Vocabulary.{Way as Direction, Finding, Broke, Outside, TooMany, Reach, Told, Route, Direction as Side, taken}
-use Rattle.osi_watched.proofs.Vocabulary.{cause_of, changes, earlier, first_by, first_of, is_break, kind_of, marked, marks_of, moment_of}
-use Rattle.osi_watched.proofs.Vocabulary.{moved, noted_by, number_at, reached, unit_passes, unread, unread_mark, unread_moment, way_of}
-use Rattle.osi_watched.proofs.Vocabulary.{Cause, First, Mark, Marks, arith, Course, packet_begins}
+use Rattle.osi_watched.proofs.Vocabulary.{Value, stops_are_said, stops_last, asks_of, is_stopped, none_told, Outcome, routed}
+use Rattle.osi_watched.proofs.Vocabulary.{Traffic as State, takes, Way as Direction, Finding, Broke, Outside, TooMany, Reach, Told, Route}
+use Rattle.osi_watched.proofs.Vocabulary.{Direction as Side, taken, cause_of, changes, earlier, first_by, first_of, is_break, kind_of}
+use Rattle.osi_watched.proofs.Vocabulary.{marked, marks_of, moment_of, moved, noted_by, number_at, unit_passes, unread, unread_mark}
+use Rattle.osi_watched.proofs.Vocabulary.{unread_moment, way_of, Cause, First, Mark, Marks, arith, Course}
 use Rattle.osi_judge.specs.declared.directions.Direction.TheVariants as side
 use Rattle.osi_rules.specs.declared.findings.Reach.TheVariants as reach
 use Rattle.osi_rules.specs.Traffic as traffic
@@ -25,20 +24,8 @@ Means _ how_far loose old = (how_far ≡ reach.Nothing) × (loose ≡ old)
 abbrev IsMeant : State → Outcome → Type 0
 IsMeant s o = Means o.told.finding o.told.reach o.state.course.loose s.course.loose
 
-none_loose : (v : Value) (course : Judging) → (course_after_none v course).loose ≡ course.loose
-none_loose v course = grind arith
-
 to_none : (d : Direction) (f : Finding) (s : State) → IsMeant s (none_told d f s)
 to_none d f s = grind arith
-
-to_unnamed : (d : Direction) (v : Value) (s : State) → IsMeant s (unnamed_told d v s)
-to_unnamed d v s = grind (arith, none_loose)
-
-to_one : (d : Direction) (place : ℕ) (c : Connection) (v : Value) (s : State) → IsMeant s (one_told d place c v s)
-to_one d place c v s = search arith
-
-at_one : (d : Direction) (v : Value) (s : State) (place : ℕ) (c : Option Connection) → IsMeant s (at_found d v s place c)
-at_one d v s place c = search (arith, to_unnamed, to_one)
 
 asks : (d : Direction) (v : Value) (s : State) → IsMeant s (asks_of d v s)
 asks d v s = search (arith, to_none)
@@ -71,11 +58,8 @@ pub record IsCalm (c : Course) : Type 0 where
   pub none : c.first ≡ None
   pub how : IsJudged c ⊎ IsOver c
 
-reached_first : (m : Mark) (r : Reach) (c : Course) → (reached m r c).first ≡ c.first
-reached_first m r c = grind arith
-
 pub marked_first : (m : Mark) (r : Reach) (c : Course) → (marked m r c).first ≡ first_by m c.first
-marked_first m r c = grind (arith, reached_first)
+marked_first m r c = grind arith
 
 -- a break is the first, if none was before it
 pub breaks_first : (m : Mark) (r : Reach) (c : Course) → is_break m.cause ≡ true → c.first ≡ None → (marked m r c).first ≡ Some (first_of m)
@@ -137,18 +121,12 @@ unit_first d at v c f is = search (arith, noted_first)
 
 -- ---- a packet begins, and what can't be read
 
-pub begins_over : (d : Side) (c : Course) → IsOver c → IsOver (packet_begins d c)
-begins_over d c w = grind arith
-
 abbrev unread_if : Bool → Side → (at : ℕ) → Cause → Course → Course
 unread_if b d at k c = if b then c else marked (unread_mark d at k) (traffic.refused_reach (way_of d) c.traffic)
     (moved (unread_moment d at k c.sessions) (record c { traffic = traffic.refused (way_of d) c.traffic }))
 
-first_if : (b : Bool) (d : Side) (at : ℕ) (k : Cause) (c : Course) (f : First) → c.first ≡ Some f → (unread_if b d at k c).first ≡ Some f
-first_if b d at k c f is = grind arith
-
 pub unread_first : (d : Side) (at : ℕ) (k : Cause) (c : Course) (f : First) → c.first ≡ Some f → (unread d at k c).first ≡ Some f
-unread_first d at k c f is = first_if (is_some (marks_of d c).halted) d at k c f is
+unread_first d at k c f is = grind arith
 
 halted_so : (d : Side) (c : Course) → IsOver c → is_some (marks_of d c).halted ≡ true
 halted_so d c over = grind arith
@@ -156,6 +134,3 @@ halted_so d c over = grind arith
 -- after the end of all judging it changes nothing
 pub unread_over : (d : Side) (at : ℕ) (k : Cause) (c : Course) → IsOver c → unread d at k c ≡ c
 unread_over d at k c over = ap (λ (b : Bool). unread_if b d at k c) (halted_so d c over)
-
-goes_so : (d : Side) (c : Course) → IsJudged c → is_some (marks_of d c).halted ≡ false
-goes_so d c j = grind arith

@@ -16,7 +16,7 @@ use Rattle.osi_watched.proofs.how_an_end_stands_to_what_has_passed.{OtherRest, O
 use Rattle.osi_watched.proofs.how_an_end_stands_to_what_has_passed.{one_octet, rest_of, some_octets, uses}
 use Rattle.osi_watched.proofs.turns_are_taken_late.{Follows, all_passed, other_passes, own_passes, turn_taken}
 use Rattle.osi_watched.proofs.what_an_octet_does.{begins, passes_so}
-use Rattle.osi_watched.proofs.what_is_halted_stays_halted.{IsHalted, begins_halted, halted_claim, unread_same}
+use Rattle.osi_watched.proofs.what_is_halted_stays_halted.{IsHalted, halted_claim, unread_same}
 use Rattle.osi_watched.proofs.what_passes_keeps_a_claim.{units_kept}
 use Rattle.osi_watched.proofs.what_the_first_octets_are.{begins_none, own_front, whole_front, whole_packet}
 
@@ -115,7 +115,7 @@ module _ (d : Direction) (x : ℕ) (capture : Capture) (s : State) (j : Joint) (
   own_course = begins d own_held s.course
 
   own_halted : IsHalted (other d) own_joint.course
-  own_halted = begins_halted (other d) d own_held j.course st.halted
+  own_halted = grind arith
 
   own_goes_on : front_of (own_held ++ x ∷ []) ≡ partial → LaterComes d (of d x ∷ capture) s own_joint
   own_goes_on part =
@@ -203,7 +203,7 @@ module _ (d : Direction) (x : ℕ) (capture : Capture) (s : State) (j : Joint) (
     other_course = begins (other d) other_held s.course
 
     other_halted : IsHalted (other d) other_joint.course
-    other_halted = begins_halted (other d) (other d) other_held j.course st.halted
+    other_halted = grind arith
 
     same_course : other_course ≡ other_joint.course
     same_course = ap (begins (other d) other_held) st.course

@@ -1,7 +1,7 @@
 -- A side of which nothing more is judged stays so, whatever passes; and so it is after what can't be read.
 -- For what follows what can't be read.
-use Rattle.osi_watched.proofs.Vocabulary.{arith, ◌≡◌, ℕ, Bool, true, false, Option, is_some, List, ap, Value, Class, Direction, reach_by}
-use Rattle.osi_watched.proofs.Vocabulary.{Reach, Cause, Mark, Course, marks_of, noted_by, reached, unread, unread_mark}
+use Rattle.osi_watched.proofs.Vocabulary.{arith, ◌≡◌, ℕ, Bool, true, Option, is_some, ap, Value, Direction, Reach, Cause, Mark, Course}
+use Rattle.osi_watched.proofs.Vocabulary.{marks_of, noted_by, reached, unread}
 use Rattle.osi_rules.specs.Traffic as traffic
 use Rattle.osi_rules.specs.declared.findings.Reach.TheVariants as reach
 use Rattle.osi_watched.proofs.a_break_ends_no_judging_or_all.{halted_by, mark, mid, mid_marks, o, some_earlier, unread_if}
@@ -14,9 +14,6 @@ IsHalted e c = is_some (marks_of e c).halted ≡ true
 reached_halted : (e : Direction) (m : Mark) (r : Reach) (c : Course) → IsHalted e c → IsHalted e (reached m r c)
 reached_halted e m r c h = grind (arith, some_earlier)
 
-pub begins_halted : (e d : Direction) (held : List ℕ) (c : Course) → IsHalted e c → IsHalted e (begins d held c)
-begins_halted e d held c h = grind arith
-
 noted_halted : (e d : Direction) (at : ℕ) (v : Value) (c : Course) (k : Option Cause) → IsHalted e c →
     IsHalted e (noted_by d at v (o d at v c).told k (mid d at v c))
 noted_halted e d at v c k h = grind (arith, mid_marks, mark, mid, reached_halted, o, halted_by)
@@ -25,17 +22,10 @@ noted_halted e d at v c k h = grind (arith, mid_marks, mark, mid, reached_halted
 pub unread_same : (d : Direction) (at : ℕ) (k : Cause) (c : Course) → IsHalted d c → unread d at k c ≡ c
 unread_same d at k c h = ap (λ (b : Bool). unread_if b d at k c) h
 
-unread_halted : (b : Bool) (e d : Direction) (at : ℕ) (k : Cause) (c : Course) → IsHalted e c → IsHalted e (unread_if b d at k c)
-unread_halted b e d at k c h = search arith
-
 pub halted_claim : (e : Direction) → IsClaim (IsHalted e)
-halted_claim e = grind (arith, begins, noted_halted, o, unread_halted)
+halted_claim e = grind (arith, begins, noted_halted, o)
 
 -- ---- after what can't be read
 
-class_halts : (k : Option Class) (d : Direction) (at : ℕ) (cause : Cause) (c : Course) →
-    IsHalted d (reached (unread_mark d at cause) (reach_by k false) c)
-class_halts k d at cause c = grind arith
-
 pub unread_halts : (d : Direction) (at : ℕ) (k : Cause) (c : Course) → IsHalted d (unread d at k c)
-unread_halts d at k c = grind (arith, class_halts)
+unread_halts d at k c = search arith

@@ -1,11 +1,10 @@
 -- In class 0 a break of the other side changes nothing that is judged of an end but that the other side is not judged any more. So a tap
 -- judges what the end sends after it as if the break had not come. For the sessions of an end after such a break.
-use Rattle.osi_watched.proofs.Vocabulary.{arith, ◌≡◌, ◌∙◌, ap, ℕ, Bool, false, if◌then◌else◌, Option, Some, slice_get, slice_set, Value}
-use Rattle.osi_watched.proofs.Vocabulary.{data0, disconnected, error, Class, Zero, other, Direction, Left, Right, Connection, Finding}
-use Rattle.osi_watched.proofs.Vocabulary.{NotJudged, Reach, Route, is_applied, reach_of, Outcome, State, asks_of, at_found, at_place}
-use Rattle.osi_watched.proofs.Vocabulary.{class_for, connection_after, course_after, found_on, has_broken, in_doubt, is_stopped, none_told}
-use Rattle.osi_watched.proofs.Vocabulary.{noted, one_told, route_in, routed, stops, takes, unnamed_by, unnamed_told, set_same, Cause}
-use Rattle.osi_watched.proofs.Vocabulary.{Course, packet_begins, unit_passes, unread, way_of}
+use Rattle.osi_watched.proofs.Vocabulary.{arith, ◌≡◌, ◌∙◌, ap, ℕ, Bool, false, if◌then◌else◌, Option, Some, slice_set, Value, data0}
+use Rattle.osi_watched.proofs.Vocabulary.{disconnected, error, Zero, other, Direction, Left, Right, Connection, Finding, Reach, Route}
+use Rattle.osi_watched.proofs.Vocabulary.{is_applied, reach_of, Outcome, State, asks_of, at_place, class_for, connection_after}
+use Rattle.osi_watched.proofs.Vocabulary.{course_after, found_on, is_stopped, none_told, noted, one_told, routed, stops, takes}
+use Rattle.osi_watched.proofs.Vocabulary.{unnamed_told, set_same, Cause, Course, unit_passes, unread, way_of}
 use Rattle.osi_rules.specs.declared.courses.Course.{Course as Judging}
 use Rattle.osi_rules.specs.declared.directions.Direction.{Direction as Way}
 use Rattle.osi_rules.specs.declared.directions.Direction.TheVariants as way
@@ -56,10 +55,6 @@ abbrev IsEr : Value → Type 0
 IsEr (error n cause) = Unit {0}
 IsEr v = ⊥
 
-found_same : (d : Direction) (erred : Bool) (s : State) (c : Connection) (v : Value) → (IsEr v → ⊥) →
-    found_on (way_of d) (halts d erred s) c v ≡ found_on (way_of d) s c v
-found_same d erred s c v plain = grind arith
-
 -- what is told of a unit for a connection, by what is found of it and how far that reaches
 abbrev by_finding : Direction → (place : ℕ) → Connection → Value → State → Finding → Reach → Judging → Outcome
 by_finding d place c v s f r k = record {
@@ -90,16 +85,12 @@ one_same d erred place c v s plain = by d
     by : (d : Direction) → one_told (way_of d) place c v (halts d erred s) ≡ halts_after d erred (one_told (way_of d) place c v s)
     by Left =
         ap (λ (f : Finding). by_finding Left place c v s f (reach_of (class_for (way_of Left) s.course) f)
-        (course_after (way_of Left) c v (is_applied f) (halts Left erred s).course)) (found_same Left erred s c v plain)
+        (course_after (way_of Left) c v (is_applied f) (halts Left erred s).course)) (grind arith)
         ∙ last Left (found_on (way_of Left) s c v) (reach_of (class_for (way_of Left) s.course) (found_on (way_of Left) s c v))
     by Right =
         ap (λ (f : Finding). by_finding Right place c v s f (reach_of (class_for (way_of Right) s.course) f)
-        (course_after (way_of Right) c v (is_applied f) (halts Right erred s).course)) (found_same Right erred s c v plain)
+        (course_after (way_of Right) c v (is_applied f) (halts Right erred s).course)) (grind arith)
         ∙ last Right (found_on (way_of Right) s c v) (reach_of (class_for (way_of Right) s.course) (found_on (way_of Right) s c v))
-
--- what is found of it, if it reports a break or not
-abbrev found_if : Judging → Value → (reports : Bool) → Finding
-found_if c v reports = if reports then NotJudged else (if c.loose then in_doubt (unnamed_by c.strays v) else unnamed_by c.strays v)
 
 unnamed_same : (d : Direction) (erred : Bool) (v : Value) (s : State) → (IsEr v → ⊥) →
     unnamed_told (way_of d) v (halts d erred s) ≡ halts_after d erred (unnamed_told (way_of d) v s)
@@ -120,12 +111,6 @@ routed_same d erred v s r plain = grind (arith, asks_same, at_place_same, none_s
 -- ---- for which connection it is
 
 module _ (d : Direction) (v : Value) (erred : Bool) (s : State) (goes : is_stopped (way_of d) s.course ≡ false) (plain : IsEr v → ⊥) where
-  abbrev by_class : Option Class → Bool → Route
-  by_class k b = route_in k (way_of d) b v
-
-  abbrev theirs : Bool
-  theirs = has_broken (sides.other (way_of d)) s.course
-
   -- it is found to be the same, and leaves the same
   pub own_same : takes (way_of d) v (halts d erred s) ≡ halts_after d erred (takes (way_of d) v s)
   own_same = grind (arith, routed_same)
@@ -149,22 +134,10 @@ IsThere v = ⊥
 after_there : (e : Direction) (c : Connection) (v : Value) (b : Bool) (k : Judging) → IsThere v → course_after (way_of e) c v b k ≡ k
 after_there e c v b k h = grind arith
 
-found_halts : (e : Direction) (p : ℕ) (o : Option Connection) (v : Value) (s : State) → slice_get s.connections p ≡ o → IsThere v →
-    Halts e s (at_found (way_of e) v s p o)
-found_halts e p o v s there h = grind (arith, none_halts, set_same, after_there)
-
 place_halts : (e : Direction) (o : Option ℕ) (v : Value) (s : State) → IsThere v → Halts e s (at_place (way_of e) v s o)
-place_halts e o v s h = grind (arith, found_halts)
-
-zero_halts : (e : Direction) (b : Bool) (v : Value) (s : State) → Halts e s (routed (way_of e) v s (traffic.route_zero (way_of e) b v))
-zero_halts e b v s = grind (arith, none_halts, place_halts)
+place_halts e o v s h = grind (arith, none_halts, set_same, after_there)
 
 -- ---- at a tap
-
--- what is noted of a side, and nothing of the other
-noted_is : (e : Direction) (f : Finding) (c : Judging) →
-    noted (way_of e) f c ≡ erring (way_of e) (traffic.has_erred (way_of e) (noted (way_of e) f c)) c
-noted_is e f c = grind arith
 
 -- nothing is noted
 erring_same : (e : Direction) (c : Judging) → c ≡ erring (way_of e) (traffic.has_erred (way_of e) c) c
@@ -176,9 +149,6 @@ pub record IsBeside (d : Direction) (c without : Course) : Type 0 where
   pub erred : Bool
   pub sessions : c.sessions ≡ without.sessions
   pub traffic : c.traffic ≡ halts d erred without.traffic
-
-pub beside_begins : (d e : Direction) (c without : Course) → IsBeside d c without → IsBeside d (packet_begins e c) (packet_begins e without)
-beside_begins d e c without b = grind arith
 
 -- a unit of the end
 pub beside_own : (d : Direction) (at : ℕ) (v : Value) (c without : Course) → is_stopped (way_of d) without.traffic.course ≡ false →
@@ -195,7 +165,7 @@ beside_break d at v c zero goes unapplied side =
     let e = other d in
     let f = (takes (way_of e) v c.traffic).told.finding in
     let stopped = stops (way_of e) c.traffic.course in
-    grind (arith, zero_halts, joins_none e at v c unapplied, unit_knows e at v c, noted_is e f stopped)
+    grind (arith, none_halts, place_halts, joins_none e at v c unapplied, unit_knows e at v c)
 
 -- or what nobody can read
 pub beside_unread : (d : Direction) (at : ℕ) (k : Cause) (c : Course) → class_for (way_of (other d)) c.traffic.course ≡ Some Zero →

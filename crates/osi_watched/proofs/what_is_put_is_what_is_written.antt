@@ -1,10 +1,10 @@
 -- Packets with the same octets have the same written units, and a unit that can be written is the one that is read there. And two
 -- readings of what an end holds and uses as packets agree as far as they matter.
 -- For the units between an end and a tap.
-use Rattle.osi_watched.proofs.Vocabulary.{[], ap, arith, length, List, map, None, Ok, Option, refl, Some, sym, ℕ, ◌%◌, ◌++◌, ◌+◌, ◌/◌, ◌∙◌}
-use Rattle.osi_watched.proofs.Vocabulary.{◌∷◌, ◌≡◌, ◌≢◌, ◌≤◌, append-nil, length-append, AllByRecursion, IsOctets, packet_of, ArePackets}
-use Rattle.osi_watched.proofs.Vocabulary.{units_of, Value, written, packets, EndReason, first, GoesBeyond, second, two_readings}
-use Rattle.osi_watched.proofs.Vocabulary.{CanBeWritten, read_again}
+use Rattle.osi_watched.proofs.Vocabulary.{[], ap, arith, length, List, map, None, Ok, Option, refl, Some, sym, ℕ, ◌++◌, ◌+◌, ◌∙◌, ◌∷◌, ◌≡◌}
+use Rattle.osi_watched.proofs.Vocabulary.{◌≢◌, ◌≤◌, append-nil, length-append, AllByRecursion, IsOctets, packet_of, ArePackets, units_of}
+use Rattle.osi_watched.proofs.Vocabulary.{Value, written, packets, EndReason, first, GoesBeyond, second, two_readings, CanBeWritten}
+use Rattle.osi_watched.proofs.Vocabulary.{read_again}
 
 -- ---- octets of packets
 
@@ -19,16 +19,8 @@ same_split (a ∷ some) (b ∷ others) x y l e =
     let more = same_split some others x y long rest in
     (λ i. one i ∷ more.0 i, more.1)
 
-same_length : (n m : ℕ) → (n + 4) / 256 ≡ (m + 4) / 256 → (n + 4) % 256 ≡ (m + 4) % 256 → n ≡ m
-same_length n m high low = omega arith
-
-record Heads (n m : ℕ) (a b : List ℕ) : Type 0 where
-  high : (n + 4) / 256 ≡ (m + 4) / 256
-  low : (n + 4) % 256 ≡ (m + 4) % 256
-  rest : a ≡ b
-
 one_packet : (u w x y : List ℕ) → packet_of u ++ x ≡ packet_of w ++ y → (u ≡ w) × (x ≡ y)
-one_packet u w x y e = grind (arith, same_split, same_length)
+one_packet u w x y e = grind (arith, same_split)
 
 -- the same octets are of the same written units
 pub same_written : (us vs : List Value) → packets us ≡ packets vs → map written us ≡ map written vs

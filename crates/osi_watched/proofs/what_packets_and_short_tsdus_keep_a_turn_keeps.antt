@@ -3,19 +3,18 @@
 -- For what a turn of an end does to its carrier. `osi_honest` has the like for TSDUs of any length.
 use Rattle.osi_watched.proofs.Vocabulary.{[], ap, append_assoc, arith, Bool, drop, false, if◌then◌else◌, inl, inr, is_some, IsSome, length}
 use Rattle.osi_watched.proofs.Vocabulary.{List, nat_lt, None, Option, option_map, refl, Some, subst, sym, take, true, ℕ, ◌++◌, ◌∙◌, ◌∷◌}
-use Rattle.osi_watched.proofs.Vocabulary.{◌≡◌, ◌⊎◌, nat_tests, append-nil, take-append-drop, take_all, AllByRecursion, list_any, ◌||◌}
-use Rattle.osi_watched.proofs.Vocabulary.{IsOctets, ArePackets, Fed, tsap_octets, Tsap, Standing, acts_cases, closed_with, may_connect}
+use Rattle.osi_watched.proofs.Vocabulary.{◌≡◌, ◌⊎◌, nat_tests, append-nil, take-append-drop, take_all, AllByRecursion, list_any, IsOctets}
+use Rattle.osi_watched.proofs.Vocabulary.{ArePackets, Fed, tsap_octets, Tsap, Standing, acts_cases, closed_with, may_connect}
 use Rattle.osi_watched.proofs.Vocabulary.{send_all_error, sent_all, Happening, Carrier, EndReason, NoMemory, OpenError, called, Input}
 use Rattle.osi_watched.proofs.Vocabulary.{Listener, awaits, concluded_carrier, packet_is, quiet_stops, events_heard, disconnect_carrier}
 use Rattle.osi_watched.proofs.Vocabulary.{none_ended, found_how, after_open, Feeds, Goes as GoesThrough, TakesPackets, uses_all}
-use Rattle.osi_watched.proofs.Vocabulary.{hears_times, RunsOut, Starves, with_carrier, with_events, IsAccepted, AreShort, carrier_by}
-use Rattle.osi_watched.proofs.Vocabulary.{to_session, calling, Call, Calls, carried_in, used_in, End, Holding, answers_by, ConnectError}
-use Rattle.osi_watched.proofs.Vocabulary.{AllProper, all_octets, more_used, stopped_within, never_lasts, packets_on, packets_then}
-use Rattle.osi_watched.proofs.Vocabulary.{carried_by, Takes, Turn, used_by, serving, using, asks, after_packet}
+use Rattle.osi_watched.proofs.Vocabulary.{hears_times, RunsOut, Starves, with_carrier, with_events, AreShort, carrier_by, to_session}
+use Rattle.osi_watched.proofs.Vocabulary.{calling, Call, Calls, carried_in, used_in, End, Holding, ConnectError, AllProper, all_octets}
+use Rattle.osi_watched.proofs.Vocabulary.{more_used, stopped_within, never_lasts, packets_on, packets_then, carried_by, Takes, Turn}
+use Rattle.osi_watched.proofs.Vocabulary.{used_by, serving, using, asks, after_packet}
 use Rattle.osi_carrier.specs.Packets as carriers
 use Rattle.osi_carrier.specs.State as states
 use Rattle.osi_stack.specs.Hearing.{ends}
-use Rattle.osi_stack.specs.Rounds.{UserCall, user_does}
 use Rattle.osi_stack.specs.State.{waits}
 use Rattle.osi_honest.specs.Talking as history
 use Rattle.osi_honest.specs.Turns.{Act, Acts}
@@ -27,24 +26,16 @@ pub record Carries (P : Carrier → Type 0) : Type 0 where
   pub sends : (r : ℕ) (tsdus : List (List ℕ)) (c : Carrier) → AreShort tsdus → P c → P (sent_all r tsdus c)
   pub closes : (r : ℕ) (c : Carrier) → P c → P (closed_with r 128 c)
 
-short_if : (b : Bool) (tsdu : List ℕ) (tsdus : List (List ℕ)) → nat_lt 1048576 (length tsdu) ≡ b →
-    (list_any (λ (t : List ℕ). nat_lt 1048576 (length t)) tsdus ≡ false → AreShort tsdus) →
-    (b || list_any (λ (t : List ℕ). nat_lt 1048576 (length t)) tsdus) ≡ false → AreShort (tsdu ∷ tsdus)
-short_if b tsdu tsdus e more h = grind (arith, nat_tests)
-
 all_short : (tsdus : List (List ℕ)) → list_any (λ (t : List ℕ). nat_lt 1048576 (length t)) tsdus ≡ false → AreShort tsdus
 all_short [] h = tt
-all_short (tsdu ∷ tsdus) h = short_if (nat_lt 1048576 (length tsdu)) tsdu tsdus refl (all_short tsdus) h
+all_short (tsdu ∷ tsdus) h = grind (arith, nat_tests, nat_lt 1048576 (length tsdu), all_short tsdus)
 
 are_short : (tsdus : List (List ℕ)) (o : Option (ℕ × Standing)) → send_all_error tsdus o ≡ None → AreShort tsdus
 are_short tsdus o h = grind (arith, all_short)
 
 module _ (P : Carrier → Type 0) (law : Carries P) where
-  answer_carried : (closing : Bool) (r : ℕ) (tsdus : List (List ℕ)) (c : Carrier) → P c → P (answers_by closing r tsdus c)
-  answer_carried closing r tsdus c p = grind (arith, are_short)
-
   move_carried : (r : ℕ) (o : Option Listener) (input : Input) (c : Carrier) → P c → P (carrier_by r o input c)
-  move_carried r o input c p = grind (arith, answer_carried)
+  move_carried r o input c p = grind (arith, are_short)
 
   session_carried : (r : ℕ) (input : Input) (e : End) → P e.carrier → P (to_session r input e).carrier
   session_carried r input e p = grind (arith, move_carried)
@@ -214,10 +205,6 @@ module _ (P : List (List ℕ) → Carrier → Type 0) (tracked : IsTracked P) wh
 
   -- ---- a call of the user
 
-  user_tracked : (us : List (List ℕ)) → AsksToo (P us) → (call : UserCall) (e : End) → IsAccepted call e → P us e.carrier →
-      P us (user_does call e).carrier
-  user_tracked us too call e allowed p = grind (arith, may_of, session_carried, disconnect_carrier)
-
   pub turn_tracked : AllProper → (us : List (List ℕ)) → AsksToo (P us) → (turn : Turn) (old new : Holding) → P us old.end.carrier →
       Takes old turn new → Tracks P us turn.used turn.put old new
   turn_tracked proper us too turn old new p takes =
@@ -228,5 +215,5 @@ module _ (P : List (List ℕ) → Carrier → Type 0) (tracked : IsTracked P) wh
       by (serving call) acts put = serves proper us call turn.put old new p acts put
       by (using call) acts put =
           nothing_used us [] turn.put old new new.end.carrier refl
-          (subst (λ (x : Holding). P us x.end.carrier) (sym acts.3) (user_tracked us too call old.end acts.1 p)) put refl
+          (subst (λ (x : Holding). P us x.end.carrier) (sym acts.3) (grind (arith, may_of, session_carried, disconnect_carrier))) put refl
           (ap (λ (x : Holding). x.held.octets) acts.3)

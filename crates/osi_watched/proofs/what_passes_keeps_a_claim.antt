@@ -20,13 +20,10 @@ module _ (P : Course → Type 0) (k : IsClaim P) where
   looked_kept : (d : Direction) (t : Streamed) (f : Front) (s : State) → P s.course → P (looked_at d t f s).course
   looked_kept d t f s h = grind (arith, units_kept)
 
-  begun_kept : (d : Direction) (held : List ℕ) (s : State) → P s.course → P (begun d held s).course
-  begun_kept d held s h = grind arith
-
   octet_by : (b : Bool) (d : Direction) (os : List ℕ) (s : State) → P s.course
       → P (if b then with_stream d (counted (length os) (stream_of d s)) s
       else looks d (gathered os (stream_of d s)) (begun d (stream_of d s).held s)).course
-  octet_by b d os s h = grind (arith, looked_kept, begun_kept)
+  octet_by b d os s h = grind (arith, looked_kept)
 
   pub after_kept : (capture : Capture) (s : State) → P s.course → P (after capture s).course
   after_kept [] s h = h

@@ -1,16 +1,13 @@
 -- What the first octets of a packet are to the reader of a tap: of a packet that an end writes, and of one that has just passed.
 -- For what an octet does to an end and a tap.
-use Rattle.osi_watched.proofs.Vocabulary.{[], ap, append_assoc, arith, Bool, false, if◌then◌else◌, inl, inr, leb, length, List, refl, subst}
-use Rattle.osi_watched.proofs.Vocabulary.{sym, take, true, ℕ, ◌*◌, ◌++◌, ◌+◌, ◌-◌, ◌<◌, ◌∙◌, ◌∷◌, ◌≡◌, ◌≤◌, ◌⊎◌, take-append_seam, eqb-true}
-use Rattle.osi_watched.proofs.Vocabulary.{le-ltb, lt-ltb, ltb-false, ltb-true, leb_tells, append-nil, length-append, take_all, take_at}
-use Rattle.osi_watched.proofs.Vocabulary.{octets_append, IsOctets, IsPacket, packet_of, ArePackets, BadLength, first, GoesBeyond}
-use Rattle.osi_watched.proofs.Vocabulary.{packets_on, second, two_readings, part_of, packet_front, by_version, faulty, Front, front_of}
-use Rattle.osi_watched.proofs.Vocabulary.{partial, sized, whole, IsNoFront, TpktFault}
+use Rattle.osi_watched.proofs.Vocabulary.{[], ap, append_assoc, arith, false, inl, inr, leb, length, List, refl, subst, sym, take, true, ℕ}
+use Rattle.osi_watched.proofs.Vocabulary.{◌*◌, ◌++◌, ◌+◌, ◌-◌, ◌<◌, ◌∙◌, ◌∷◌, ◌≡◌, ◌≤◌, ◌⊎◌, take-append_seam, eqb-true, le-ltb, lt-ltb}
+use Rattle.osi_watched.proofs.Vocabulary.{ltb-false, ltb-true, leb_tells, append-nil, length-append, take_all, take_at, octets_append}
+use Rattle.osi_watched.proofs.Vocabulary.{IsOctets, IsPacket, packet_of, ArePackets, first, GoesBeyond, packets_on, second, two_readings}
+use Rattle.osi_watched.proofs.Vocabulary.{part_of, packet_front, by_version, faulty, Front, front_of, partial, sized, whole, IsNoFront}
+use Rattle.osi_watched.proofs.Vocabulary.{TpktFault}
 
 -- ---- the version, and the length that the header states
-
-abbrev by_tests : (short long : Bool) → Front → Front
-by_tests short long unit = if short then faulty (BadLength 0) else (if long then partial else unit)
 
 sized_whole : (stated : ℕ) (u rest : List ℕ) → stated ≡ length u + 4 → 3 ≤ length u → sized stated (u ++ rest) ≡ whole u
 sized_whole stated u rest e least = grind (arith, length-append u rest, le-ltb stated 7 (omega arith), take-append_seam u rest)
@@ -19,9 +16,6 @@ sized_whole stated u rest e least = grind (arith, length-append u rest, le-ltb s
 
 pub whole_front : (w rest : List ℕ) → 3 ≤ length w → front_of (packet_of w ++ rest) ≡ whole w
 whole_front w rest least = grind (arith, sized_whole)
-
-part_front : (s more w : List ℕ) → s ++ more ≡ packet_of w → 0 < length more → 3 ≤ length w → front_of s ≡ partial
-part_front s more w e some least = grind (arith, length-append, le-ltb, lt-ltb)
 
 pub same_parts : (a b x y : List ℕ) → length a ≡ length b → a ++ x ≡ b ++ y → (a ≡ b) × (x ≡ y)
 same_parts [] [] x y l e = (refl, e)
@@ -60,7 +54,7 @@ own_front held w rest back x part e least = by (leb_tells (length (packet_of w))
         let front = part_of (held ++ x ∷ []) (packet_of w) (packet_of w ++ rest) back rest joined refl (omega arith) in
         let size = length-append (held ++ x ∷ []) front.0 in
         let both = ap length front.1 in
-        inl (part_front (held ++ x ∷ []) front.0 w front.1 (omega arith) least)
+        inl (grind (arith, length-append, le-ltb, lt-ltb))
     by (inl (is, more)) =
         let less = shorter held w rest (x ∷ back) part e least in
         let size = length-append held (x ∷ []) in
@@ -128,12 +122,6 @@ used_first us passed s a r held cut read none = by (two_readings us passed (s ++
 
 -- ---- octets that begin no packet
 
-sized_faulty : (stated : ℕ) (t : List ℕ) (f : TpktFault) → sized stated t ≡ faulty f → 7 ≤ stated → ⊥
-sized_faulty stated t f e least = grind (arith, le-ltb)
-
-not_partial : (v : ℕ) (f : TpktFault) → v ≡ 3 → by_version v partial ≡ faulty f → ⊥
-not_partial v f three e = let no : partial ≡ faulty f = sym (grind arith) ∙ e in cc no
-
 -- whatever follows them
 pub begins_none : (held more : List ℕ) (f : TpktFault) → front_of held ≡ faulty f → IsNoFront (held ++ more)
-begins_none held more f e = grind (arith, not_partial, sized_faulty)
+begins_none held more f e = grind arith

@@ -2,13 +2,12 @@
 -- For joined carriers, class 0 and the invariant.
 use Rattle.osi_between.specs.Between.{under_way}
 use Rattle.osi_between.proofs.Vocabulary.{◌≡◌, ◌≢◌, ℕ, ◌+◌, ◌||◌, Bool, true, false, not, List, [], ◌++◌, Option, Some, None, is_some, refl}
-use Rattle.osi_between.proofs.Vocabulary.{sym, ap, subst, ◌∙◌, append_assoc, arith, ◌⊎◌, inl, inr, flat_map, AllByRecursion, append-nil}
-use Rattle.osi_between.proofs.Vocabulary.{append_cancel_right, Value, IsSendable, place_at, connection_in, Connection, State, packets}
-use Rattle.osi_between.proofs.Vocabulary.{EndReason, units_of, AreFor, Both, side, reach_of, within_reach, arriving, Between, last_of}
-use Rattle.osi_between.proofs.Vocabulary.{units_from, lost_from, IsOnTheWay, AreJoinedBy, AreBetween, to_come, told_of, Carries, Acted}
-use Rattle.osi_between.proofs.Vocabulary.{becomes, progress_of, BringsTo, under_way_for, ActsFor, Message, messages_to, messages_after}
-use Rattle.osi_between.proofs.Vocabulary.{begun_at, AreLike, references_for, class_behind_all, leaves_use, Terms, by_two, accepts_in}
-use Rattle.osi_between.proofs.Vocabulary.{class_of, length-append}
+use Rattle.osi_between.proofs.Vocabulary.{sym, ap, subst, ◌∙◌, append_assoc, arith, ◌⊎◌, inl, flat_map, AllByRecursion, append-nil, Value}
+use Rattle.osi_between.proofs.Vocabulary.{IsSendable, place_at, connection_in, Connection, State, packets, EndReason, units_of, AreFor}
+use Rattle.osi_between.proofs.Vocabulary.{Both, side, reach_of, arriving, Between, last_of, units_from, lost_from, IsOnTheWay, AreJoinedBy}
+use Rattle.osi_between.proofs.Vocabulary.{AreBetween, to_come, told_of, Acted, becomes, progress_of, BringsTo, under_way_for, Message}
+use Rattle.osi_between.proofs.Vocabulary.{messages_to, messages_after, begun_at, AreLike, references_for, class_behind_all, leaves_use}
+use Rattle.osi_between.proofs.Vocabulary.{Terms, accepts_in, class_of, length-append}
 use Rattle.osi_between.proofs.unit.the_units_of_one_connection.{units_join, units_same, units_other}
 use Rattle.osi_between.proofs.unit.what_a_taken_unit_means.{same_like}
 use Rattle.osi_between.proofs.way.octets_are_written_and_handed_over.{going_then, lost_then, way_out}
@@ -49,36 +48,6 @@ pub record Does (terms : Terms) (end : Bool) (n : ℕ) (this other next : State)
   pub steps : Steps terms n this other next going coming rest taken put
   pub joined : JoinedAt end terms next other (going ++ steps.units) rest
 
--- in class 2
-abbrev pub steps_two : (n : ℕ) (this other next : State) (going coming behind rest taken : List Value) (put : List Message) →
-    coming ≡ taken ++ rest → next.ended ≡ None → (a : ActsFor n this other next going coming behind rest put) →
-    Steps by_two n this other next going coming rest taken put
-steps_two n this other next going coming behind rest taken put cut lasts a =
-    let w = a.writes in
-    let same : a.takes.units ≡ taken = append_cancel_right a.takes.units taken rest (sym a.takes.cut ∙ cut) in
-    record {
-      units = w.units;
-      arrived = a.takes.arrived;
-      stays = w.stays;
-      lost = w.lost;
-      sendable = w.sendable;
-      outgoing = w.outgoing;
-      told = a.takes.told;
-      cut = cut;
-      all_for = subst (λ (l : List Value). AreFor n l) same a.takes.all_for;
-      written_for = w.all_for;
-      before = w.before;
-      after = subst (λ (l : List Value). AreLike (connection_in (place_at n other)) (under_way_for n next other l) (w.stays ++ put))
-          w.written w.after;
-      brings = subst (λ (l : List Value). BringsTo true (place_at n this) (place_at n next) l a.takes.arrived put) same a.takes.brings;
-      others_stay = a.others.places;
-      given = a.given;
-      class = a.class;
-      local = a.local;
-      keeps = w.keeps;
-      lasts = lasts;
-    }
-
 -- ---- both ways
 
 pub by_end : (end : Bool) (P : Bool → Type 0) → P end → P (not end) → (e : Bool) → P e
@@ -96,7 +65,7 @@ record OutPart (o : Option Connection) (old new lost put : List Message) : Type 
   after : AreLike o new (stays ++ put)
 
 -- messages of units and of what is still to be sent after them
-abbrev sum_of : Option Connection → ℕ → List Value → Bool → Option Connection → List Message
+abbrev pub sum_of : Option Connection → ℕ → List Value → Bool → Option Connection → List Message
 sum_of o n units cut c = messages_after (begun_at o) (units_of n units ++ to_come cut c)
 
 abbrev if_whole : Option (ℕ × ℕ) → List Message → List Message
@@ -121,8 +90,8 @@ out_part end reach o c d n going lost units stays gone put none before after = g
 
 -- ---- an end acts
 
--- A lemma with one proof for both ends takes this argument, which is always available. Its first clause never applies
--- and only splits on the end, so that the second clause is a proof for each end.
+-- A lemma with one proof for several cases, as for both ends, takes this argument, which is always available. Its first
+-- clause never applies and only splits into the cases, so that the second clause is a proof for each.
 abbrev pub Each : Type 0
 Each = ⊥ ⊎ Unit {0}
 
@@ -144,84 +113,63 @@ now_of false both b next units left = record b {
   going = left;
 }
 
-stands_at : (terms : Terms) (end : Bool) → Each →
+pub acted : (terms : Terms) (end : Bool) → Each →
     (n : ℕ) (both : Both) (b : Between) (next : State) (behind : List ℕ) (left taken : List Value) (put : List Message) →
     AreBetween terms both b → (side end both).state.ended ≡ None →
-    IsOnTheWay behind (arriving (not end) both) left (lost_from (not end) b) →
-    (d : Does terms end n (last_of end b) (last_of (not end) b) next (all_from end b) (all_from (not end) b)
-    (left ++ lost_from (not end) b) taken put) → AreBetween terms (becomes end next behind both) (now_of end both b next d.steps.units left)
-stands_at terms true (inl none) n both b next behind left taken put a alive way d = absurd none
-stands_at terms end each n both b next behind left taken put a alive way d =
-    let units = d.steps.units in
-    let reach = reach_of end both.reach in
-    let none : reach ≡ None → lost_from end b ≡ [] = λ e. a.unbroken (grind arith) end in
-    let new = becomes end next behind both in
-    let now = now_of end both b next units left in
-    let same = a.lives end alive in
-    let out : next.outgoing ≡ (side end both).state.outgoing ++ packets units =
-    d.steps.outgoing ∙ ap (λ (s : State). s.outgoing ++ packets units) (sym same) in
-    record {
-      lives = by_end end (λ e. (side e new).state.ended ≡ None → (side e new).state ≡ last_of e now) (λ _. refl) (λ h. a.lives (not end) h);
-      joined = subst (λ (l : List Value). JoinedAt end terms next (last_of (not end) b) l (left ++ lost_from (not end) b))
-          (grind (arith, append-nil, append_assoc)) d.joined;
-      comes = by_end end (λ e. (side (not e) new).state.ended ≡ None →
-          IsOnTheWay (side (not e) new).held (arriving e new) (units_from e now) (lost_from e now))
-          (λ h. subst (λ (l : List ℕ). IsOnTheWay (side (not end) both).held (within_reach reach l) (units_from end now)
-          (lost_from end now)) (sym out)
-          (way_out reach (side (not end) both).held (side end both).state.outgoing (units_from end b) (lost_from end b) units none
-          (a.bound end) (a.comes end h) d.steps.sendable))
-          (λ h. way);
-      unbroken = λ e. by_end end (λ x. lost_from x now ≡ [])
-          (ap (λ (r : Option (ℕ × ℕ)). lost_then (reach_of end r) (lost_from end b) units) e ∙ a.unbroken e end) (a.unbroken e (not end));
-      bound = grind (arith, by_end, length-append);
-    }
-
-carries_at : (terms : Terms) (end : Bool) → Each →
-    (n : ℕ) (both : Both) (b : Between) (next : State) (behind : List ℕ) (left taken : List Value) (put : List Message) →
-    AreBetween terms both b → (side end both).state.ended ≡ None → units_from (not end) b ≡ taken ++ left →
-    (d : Does terms end n (last_of end b) (last_of (not end) b) next (all_from end b) (all_from (not end) b)
-    (left ++ lost_from (not end) b) taken put) →
-    Carries terms end n both (becomes end next behind both) b (now_of end both b next d.steps.units left) taken put
-carries_at terms true (inl none) n both b next behind left taken put a alive cut d = absurd none
-carries_at terms end each n both b next behind left taken put a alive cut d =
-    let st = d.steps in
-    let c = connection_in (place_at n (last_of end b)) in
-    let e = connection_in (place_at n next) in
-    let o = connection_in (place_at n (last_of (not end) b)) in
-    let was = cut_alive (is_some both.reach) (side end both).state.ended alive in
-    let p = out_part end both.reach o c e n (units_from end b) (lost_from end b) st.units st.stays st.lost put
-    (λ none. a.unbroken none end) st.before st.after in
-    record {
-      arrived = st.arrived;
-      stays = p.stays;
-      gone = p.gone;
-      told = st.told;
-      came = grind (arith, units_join, units_same, append_assoc);
-      before = subst (λ (t : Bool). AreLike o (sum_of o n (units_from end b) t c) (p.stays ++ p.gone)) (sym was) p.before;
-      after = grind arith;
-      brings = st.brings;
-      others = λ q apart. by_end end
-          (λ x. under_way x q both b ≡ under_way x q (becomes end next behind both) (now_of end both b next st.units left))
-          (search (arith, units_join, units_other, append-nil))
-          (grind (arith, units_join, units_other));
-      other_places = st.others_stay;
-      given = st.given;
-      class = st.class;
-      local = st.local;
-      keeps = λ e. p.none (st.keeps e);
-      there = refl;
-      cut = cut;
-      lost_still = refl;
-    }
-
-pub acted : (terms : Terms) (end : Bool) (n : ℕ) (both : Both) (b : Between) (next : State) (behind : List ℕ) (left taken : List Value)
-    (put : List Message) → AreBetween terms both b → (side end both).state.ended ≡ None →
     IsOnTheWay behind (arriving (not end) both) left (lost_from (not end) b) → units_from (not end) b ≡ taken ++ left →
     Does terms end n (last_of end b) (last_of (not end) b) next (all_from end b) (all_from (not end) b)
     (left ++ lost_from (not end) b) taken put → Acted terms end n both (becomes end next behind both) b taken put
-acted terms end n both b next behind left taken put a alive way cut d = record {
-  now = now_of end both b next d.steps.units left;
-  between = stands_at terms end (inr tt) n both b next behind left taken put a alive way d;
-  carries = carries_at terms end (inr tt) n both b next behind left taken put a alive cut d;
-  lasts = elim end as (λ e. (side e (becomes e next behind both)).state.ended ≡ None) [ true ↦ d.steps.lasts | false ↦ d.steps.lasts ];
-}
+acted terms true (inl none) n both b next behind left taken put a alive way cut d = absurd none
+acted terms end each n both b next behind left taken put a alive way cut d =
+    let st = d.steps in
+    let reach = reach_of end both.reach in
+    let none : reach ≡ None → lost_from end b ≡ [] = λ e. a.unbroken (grind arith) end in
+    let new = becomes end next behind both in
+    let now = now_of end both b next st.units left in
+    let out : next.outgoing ≡ (side end both).state.outgoing ++ packets st.units =
+    st.outgoing ∙ ap (λ (s : State). s.outgoing ++ packets st.units) (sym (a.lives end alive)) in
+    let c = connection_in (place_at n (last_of end b)) in
+    let o = connection_in (place_at n (last_of (not end) b)) in
+    let was = cut_alive (is_some both.reach) (side end both).state.ended alive in
+    let p = out_part end both.reach o c (connection_in (place_at n next)) n (units_from end b) (lost_from end b) st.units st.stays st.lost
+    put (λ none. a.unbroken none end) st.before st.after in
+    record {
+      now = now;
+      between = record {
+        lives = by_end end (λ e. (side e new).state.ended ≡ None → (side e new).state ≡ last_of e now) (λ _. refl)
+            (λ h. a.lives (not end) h);
+        joined = subst (λ (l : List Value). JoinedAt end terms next (last_of (not end) b) l (left ++ lost_from (not end) b))
+            (grind (arith, append-nil, append_assoc)) d.joined;
+        comes = by_end end (λ e. (side (not e) new).state.ended ≡ None →
+            IsOnTheWay (side (not e) new).held (arriving e new) (units_from e now) (lost_from e now))
+            (λ h. rw out (way_out reach (side (not end) both).held (side end both).state.outgoing (units_from end b) (lost_from end b)
+            st.units none (a.bound end) (a.comes end h) st.sendable))
+            (λ h. way);
+        unbroken = λ e. by_end end (λ x. lost_from x now ≡ [])
+            (ap (λ (r : Option (ℕ × ℕ)). lost_then (reach_of end r) (lost_from end b) st.units) e ∙ a.unbroken e end)
+            (a.unbroken e (not end));
+        bound = grind (arith, by_end, length-append);
+      };
+      carries = record {
+        arrived = st.arrived;
+        stays = p.stays;
+        gone = p.gone;
+        told = st.told;
+        came = grind (arith, units_join, units_same, append_assoc);
+        before = subst (λ (t : Bool). AreLike o (sum_of o n (units_from end b) t c) (p.stays ++ p.gone)) (sym was) p.before;
+        after = grind arith;
+        brings = st.brings;
+        others = λ q apart. by_end end (λ x. under_way x q both b ≡ under_way x q new now)
+            (search (arith, units_join, units_other, append-nil))
+            (grind (arith, units_join, units_other));
+        other_places = st.others_stay;
+        given = st.given;
+        class = st.class;
+        local = st.local;
+        keeps = λ e. p.none (st.keeps e);
+        there = refl;
+        cut = cut;
+        lost_still = refl;
+      };
+      lasts = st.lasts;
+    }

@@ -1,15 +1,15 @@
 -- If no unit is in flight, nothing is in flight for a connection that is open at both ends.
 -- For the laws.
-use Rattle.osi_between.specs.Zero.{unasked, talking, at_end, from_end, Holds}
-use Rattle.osi_between.proofs.Vocabulary.{◌≡◌, ℕ, true, false, List, [], ◌∷◌, ◌++◌, Some, refl, sym, subst, arith, Value, LinkPair}
-use Rattle.osi_between.proofs.Vocabulary.{Standing, nothing_begun, was_given, value_at, linked, State, packets, Both, Between, AreJoinedBy}
+use Rattle.osi_between.specs.Zero.{talking, at_end, from_end, Holds}
+use Rattle.osi_between.proofs.Vocabulary.{◌≡◌, ℕ, true, false, List, [], ◌∷◌, ◌++◌, Some, refl, sym, arith, Value, LinkPair, Standing}
+use Rattle.osi_between.proofs.Vocabulary.{nothing_begun, was_given, value_at, linked, State, packets, Both, Between, AreJoinedBy}
 use Rattle.osi_between.proofs.Vocabulary.{AreBetween, IsStill, IsAllThere, IsEmpty, under_way_for, AreOpen, Terms, by_two, by_zero}
 use Rattle.osi_between.proofs.Vocabulary.{refusing, ZeroCourse, HasOne}
 use Rattle.osi_between.proofs.joined.requests_beginnings_and_nothing_in_flight.{still, none_addressed}
 use Rattle.osi_between.proofs.meeting.a_connection_after_each_unit_and_call.{open_mirror}
 use Rattle.osi_between.proofs.joined.class_2_provides_what_is_asked.{linked_own}
 use Rattle.osi_between.proofs.zero.a_called_end_that_refuses_all.{none_open}
-use Rattle.osi_between.proofs.zero.class_0_provides_what_is_asked.{at_one}
+use Rattle.osi_between.proofs.zero.class_0_provides_what_is_asked.{open_at}
 use Rattle.osi_between.proofs.zero.the_one_connection_of_class_0.{one_place, under_is}
 
 -- what is left of a connection that is open at both: nothing
@@ -24,19 +24,12 @@ done_links : (s r : State) (p : LinkPair) → HasOne s (was_given (Some (linked 
     AreOpen false p → p.rightward ≡ [] → p.leftward ≡ [] → IsDone 1 s r p.left p.right
 done_links s r p one other a rightward leftward = grind (arith, open_mirror, nothing_begun, one_place, under_is)
 
-done_by : (s r : State) (n p q : ℕ) (x y : Standing) (g : ZeroCourse) → HasOne s (at_end true g) → HasOne r (at_end false g) →
-    [] ≡ from_end true r.local g → [] ≡ from_end false r.local g → Holds s.local r.local g → value_at n s.live ≡ Some (linked p x) →
-    value_at n r.live ≡ Some (linked q y) → IsDone n s r x y
-done_by s r n p q x y unasked one other is back h at at_there = absurd (grind arith)
-done_by s r n p q x y (talking l) one other is back h at at_there =
-    let here = at_one s n (linked 1 l.left) (linked p x) one at in
-    let there = at_one r n (linked 1 l.right) (linked q y) other at_there in
-    let left : l.left ≡ x = (let e = here.is in cc) in
-    let right : l.right ≡ y = (let e = there.is in cc) in
-    subst (λ (m : ℕ). IsDone m s r x y) (sym here.reference)
-    (subst (λ (z : Standing). IsDone 1 s r z y) left (subst (λ (z : Standing). IsDone 1 s r l.left z) right
-    (done_links s r l one other h (none_addressed 1 l.rightward (sym is)) (none_addressed 1 l.leftward (sym back)))))
-done_by s r n p q x y g one other is back h at at_there = absurd (grind (arith, at_one))
+done_by : (s r : State) (p q : ℕ) (x y : Standing) (g : ZeroCourse) → at_end true g ≡ was_given (Some (linked p x)) →
+    at_end false g ≡ was_given (Some (linked q y)) → HasOne s (at_end true g) → HasOne r (at_end false g) →
+    [] ≡ from_end true r.local g → [] ≡ from_end false r.local g → Holds s.local r.local g → IsDone 1 s r x y
+done_by s r p q x y (talking l) here there one other is back h =
+    grind (arith, done_links s r l one other h (none_addressed 1 l.rightward (sym is)) (none_addressed 1 l.leftward (sym back)))
+done_by s r p q x y g here there one other is back h = cc
 
 -- ---- whatever the two agree on
 
@@ -44,7 +37,10 @@ done_at : (terms : Terms) (s r : State) (n p q : ℕ) (x y : Standing) → AreJo
     value_at n r.live ≡ Some (linked q y) → IsDone n s r x y
 done_at by_two s r n p q x y j at at_there =
     grind (arith, still, linked_own true s r [] [] n p x j at, linked_own false r s [] [] n q y j at_there)
-done_at by_zero s r n p q x y j at at_there = done_by s r n p q x y j.course j.one j.one_called j.going j.coming j.holds at at_there
+done_at by_zero s r n p q x y j at at_there =
+    let here = open_at s (at_end true j.course) n p x j.one at in
+    let there = open_at r (at_end false j.course) n q y j.one_called at_there in
+    rw here.reference (done_by s r p q x y j.course here.is there.is j.one j.one_called j.going j.coming j.holds)
 done_at (refusing reason) s r n p q x y j at at_there = absurd (none_open s j.stage n p x j.live at)
 
 packets_none : (us : List Value) (front : List ℕ) → [] ≡ packets us ++ front → us ≡ []

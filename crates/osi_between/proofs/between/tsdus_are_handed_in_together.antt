@@ -1,12 +1,13 @@
 -- TSDUs that are handed in together, between two carriers.
 -- For the laws.
+use Rattle.osi_between.proofs.Vocabulary.{◌≡◌, refl, sym, ◌∙◌, ap, subst, ℕ, ◌+◌, Bool, not, List, [], ◌∷◌, ◌++◌, map, Option, Some, None}
+use Rattle.osi_between.proofs.Vocabulary.{arith, append_assoc, append-nil, map-append, AllByRecursion, IsOctets, IsShortTsdu, Standing}
+use Rattle.osi_between.proofs.Vocabulary.{sent, sent_all, Place, was_given, place_at, connection_in, Connection, linked, State, Both}
+use Rattle.osi_between.proofs.Vocabulary.{Between, AreBetween, Acted, Carries, side, becomes, last_of, put_in, progress_of, Message}
+use Rattle.osi_between.proofs.Vocabulary.{message, AreLike, Progress, in_use, behind_puts, leaves_use, Terms, add-zero, IsOpenAt}
 use Rattle.osi_between.specs.Between.{under_way}
-use Rattle.osi_between.proofs.Vocabulary.{◌≡◌, refl, sym, ◌∙◌, ap, subst, ℕ, ◌+◌, Bool, not, if◌then◌else◌, List, [], ◌∷◌, ◌++◌, map}
-use Rattle.osi_between.proofs.Vocabulary.{Option, Some, None, arith, append_assoc, append-nil, map-append, AllByRecursion, IsOctets}
-use Rattle.osi_between.proofs.Vocabulary.{IsShortTsdu, Standing, sent, sent_all, Place, was_given, place_at, connection_in, value_at}
-use Rattle.osi_between.proofs.Vocabulary.{Connection, linked, State, Both, Between, AreBetween, Acted, Carries, side, becomes, last_of}
-use Rattle.osi_between.proofs.Vocabulary.{put_in, progress_of, Message, message, AreLike, Progress, in_use, behind_puts, leaves_use, Terms}
 use Rattle.osi_between.proofs.unit.what_a_taken_unit_means.{brings_none, same_like}
+use Rattle.osi_between.proofs.between.every_move_keeps_the_invariant.{sends}
 
 -- ---- likeness
 
@@ -24,22 +25,13 @@ linked_in : (p : Place) → progress_of p ≡ in_use → IsLinked p
 linked_in (was_given (Some (linked peer link))) e = record { peer = peer; link = link; is = refl }
 linked_in p e = absurd (cc)
 
--- the connection at this reference
-record IsAt (n : ℕ) (s : State) : Type 0 where
-  pub peer : ℕ
-  pub link : Standing
-  pub at : value_at n s.live ≡ Some (linked peer link)
-
-open_at : (n : ℕ) (s : State) → progress_of (place_at n s) ≡ in_use → IsAt n s
-open_at n s e = grind (arith, linked_in)
+open_at : (n : ℕ) (s : State) → s.ended ≡ None → progress_of (place_at n s) ≡ in_use → IsOpenAt n s
+open_at n s alive e = grind (arith, linked_in)
 
 -- TSDUs that are put change neither how far the connection is nor which references were given
 puts_nothing : (p : Progress) (ts : List (List ℕ)) → behind_puts p (map message ts) ≡ p
 puts_nothing p [] = refl
 puts_nothing p (t ∷ ts) = ap (λ (q : Progress). behind_puts q (map message ts)) (grind arith) ∙ puts_nothing p ts
-
-add_none : (k : ℕ) → k + 0 ≡ k
-add_none k = omega arith
 
 -- ---- none is handed in
 
@@ -57,7 +49,7 @@ none_carried terms end n both b =
       brings = grind (arith, brings_none);
       others = λ q apart from. refl;
       other_places = λ q apart. refl;
-      given = sym (ap (λ (k : ℕ). (last_of end b).given + k) (grind arith) ∙ add_none (last_of end b).given);
+      given = sym (ap (λ (k : ℕ). (last_of end b).given + k) (grind arith) ∙ add-zero (last_of end b).given);
       class = refl;
       local = refl;
       keeps = λ h. refl;
@@ -100,7 +92,7 @@ carries_both terms end n old mid new b c d t ts same open1 x y =
       brings = grind (arith, map);
       others = λ q apart from. x.others q apart from ∙ y.others q apart from;
       other_places = λ q apart. y.other_places q apart ∙ x.other_places q apart;
-      given = grind (arith, add_none);
+      given = grind (arith, add-zero);
       class = grind arith;
       local = y.local ∙ x.local;
       keeps = λ h. x.keeps (ap (λ (p : Progress). leaves_use (progress_of (place_at n (last_of end b))) p) (open2 ∙ sym open3) ∙ h);
@@ -117,23 +109,17 @@ after_all end n ts both = becomes end (sent_all n ts (side end both).state) (sid
 abbrev after_one : Bool → ℕ → List ℕ → Both → Both
 after_one end n t both = becomes end (sent n t (side end both).state) (side end both).held both
 
--- what is proved of one
-abbrev pub HandsIn : Terms → Type 0
-HandsIn terms = (end : Bool) (both : Both) (b : Between) (n peer : ℕ) (link : Standing) (tsdu : List ℕ) →
-    AreBetween terms both b → (side end both).state.ended ≡ None → value_at n (side end both).state.live ≡ Some (linked peer link) →
-    IsShortTsdu tsdu → IsOctets tsdu → Acted terms end n both (after_one end n tsdu both) b [] (message tsdu ∷ [])
-
-pub all_handed_in : (terms : Terms) → HandsIn terms → (end : Bool) (both : Both) (b : Between) (n : ℕ) (ts : List (List ℕ)) →
+pub all_handed_in : (terms : Terms) (end : Bool) (both : Both) (b : Between) (n : ℕ) (ts : List (List ℕ)) →
     AreBetween terms both b → (side end both).state.ended ≡ None → progress_of (place_at n (last_of end b)) ≡ in_use →
     AllByRecursion IsShortTsdu ts → AllByRecursion IsOctets ts → Acted terms end n both (after_all end n ts both) b [] (map message ts)
-all_handed_in terms hands end both b n [] between alive used short octets =
+all_handed_in terms end both b n [] between alive used short octets =
     subst (λ (x : Both). Acted terms end n both x b [] []) (grind arith)
     (record { now = b; between = between; carries = none_carried terms end n both b; lasts = alive })
-all_handed_in terms hands end both b n (t ∷ ts) between alive used short octets =
-    let at = open_at n (side end both).state
+all_handed_in terms end both b n (t ∷ ts) between alive used short octets =
+    let at = open_at n (side end both).state alive
     (subst (λ (s : State). progress_of (place_at n s) ≡ in_use) (sym (between.lives end alive)) used) in
-    let a = hands end both b n at.peer at.link t between alive at.at short.0 octets.0 in
-    let more = all_handed_in terms hands end (after_one end n t both) a.now n ts a.between a.lasts
+    let a = sends terms end both b n at.peer at.link t between alive at.is short.0 octets.0 in
+    let more = all_handed_in terms end (after_one end n t both) a.now n ts a.between a.lasts
     (open_behind terms end n both (after_one end n t both) b a.now (t ∷ []) a.carries used) short.1 octets.1 in
     subst (λ (x : Both). Acted terms end n both x b [] (map message (t ∷ ts))) (grind arith)
     (record {

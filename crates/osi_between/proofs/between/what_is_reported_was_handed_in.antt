@@ -7,7 +7,8 @@ use Rattle.osi_between.proofs.Vocabulary.{eqb-true, append-nil, Value, Standing,
 use Rattle.osi_between.proofs.Vocabulary.{linked, State, AreFor, units_of, Both, side, Between, last_of, units_from, told_of, answers_in}
 use Rattle.osi_between.proofs.Vocabulary.{put_in, is_cut, to_come, Carries, tsdus_told, tsdus_in, AreFirstOf, progress_of, Message, message}
 use Rattle.osi_between.proofs.Vocabulary.{begun_at, AreLike, Progress, not_yet, awaiting, in_use, shutting, gone, may_arrive}
-use Rattle.osi_between.proofs.Vocabulary.{behind_arrival, behind_arrivals, behind_put, behind_puts, Terms, by_two, by_zero, refusing}
+use Rattle.osi_between.proofs.Vocabulary.{behind_arrival, behind_arrivals, behind_put, behind_puts, Terms, by_two, by_zero, refusing, inl}
+use Rattle.osi_between.proofs.Vocabulary.{inr, ◌⊎◌}
 use Rattle.osi_between.proofs.unit.the_units_of_one_connection.{units_join, units_same}
 use Rattle.osi_between.proofs.unit.units_are_read_as_messages.{messages_front}
 
@@ -76,28 +77,28 @@ answers_none terms p u = grind arith
 
 -- ---- one step, for a connection and from one end to the other
 
+-- an end takes nothing more for the connection
+abbrev pub is_done : Bool → ℕ → Between → Bool
+is_done end n b = is_over (progress_of (place_at n (last_of end b)))
+
 -- nothing that is put arrives any more
 abbrev pub is_sealed : Bool → ℕ → Both → Between → Bool
-is_sealed from n both b = is_cut from both || is_over (progress_of (place_at n (last_of from b)))
+is_sealed from n both b = is_cut from both || is_done from n b
 
 -- the TSDUs that are in flight
 abbrev pub tsdus_under : Bool → ℕ → Both → Between → List (List ℕ)
 tsdus_under from n both b = tsdus_in (under_way from n both b)
 
 -- A step from one end to the other (`x`), in which these TSDUs were reported and those put. Afterwards, what was
--- reported, followed by what is in flight, is what was in flight, followed by what was put; a prefix of it, if
--- something was lost; and without what was put, if nothing arrives any more.
+-- reported, followed by what is in flight, is what was in flight, followed by what was put; or, if nothing that is put
+-- arrives any more, a prefix of what was in flight.
 pub record Fact (from x : Bool) (n : ℕ) (old new : Both) (b c : Between) (told put : List (List ℕ)) : Type 0 where
-  pub shut : is_over (progress_of (place_at n (last_of x b))) ≡ true →
-      (told ≡ []) × (is_over (progress_of (place_at n (last_of x c))) ≡ true)
-  pub last : is_over (progress_of (place_at n (last_of x b))) ≡ false → AreFirstOf told (tsdus_under from n old b)
-  pub first : is_over (progress_of (place_at n (last_of x b))) ≡ false → is_over (progress_of (place_at n (last_of x c))) ≡ false →
-      AreFirstOf (told ++ tsdus_under from n new c) (tsdus_under from n old b ++ put)
-  pub whole : is_over (progress_of (place_at n (last_of x b))) ≡ false → is_over (progress_of (place_at n (last_of x c))) ≡ false →
-      is_sealed from n new c ≡ false → told ++ tsdus_under from n new c ≡ tsdus_under from n old b ++ put
-  pub sealed : is_over (progress_of (place_at n (last_of x b))) ≡ false → is_over (progress_of (place_at n (last_of x c))) ≡ false →
-      is_sealed from n old b ≡ true →
-      (is_sealed from n new c ≡ true) × AreFirstOf (told ++ tsdus_under from n new c) (tsdus_under from n old b)
+  pub shut : is_done x n b ≡ true → (told ≡ []) × (is_done x n c ≡ true)
+  pub last : is_done x n b ≡ false → AreFirstOf told (tsdus_under from n old b)
+  pub whole : is_done x n b ≡ false → is_done x n c ≡ false → is_sealed from n new c ≡ false →
+      (is_sealed from n old b ≡ false) × (told ++ tsdus_under from n new c ≡ tsdus_under from n old b ++ put)
+  pub sealed : is_done x n b ≡ false → is_done x n c ≡ false → is_sealed from n new c ≡ true →
+      AreFirstOf (told ++ tsdus_under from n new c) (tsdus_under from n old b)
 
 pub sealed_same : (from : Bool) (n : ℕ) (old new : Both) (b c : Between) → is_cut from old ≡ is_cut from new →
     place_at n (last_of from c) ≡ place_at n (last_of from b) → is_sealed from n old b ≡ is_sealed from n new c
@@ -129,112 +130,79 @@ pub record Acts (end : Bool) (old new : Both) : Type 0 where
   pub is : is_cut end new ≡ is_some old.reach
   pub there : is_cut (not end) old ≡ is_cut (not end) new
 
--- what is put has no TSDU
-sent_plain : (terms : Terms) (end : Bool) (n : ℕ) (old new : Both) (b c : Between) (taken : List Value) (put : List Message) →
-    Carries terms end n old new b c taken put → Acts end old new → tsdus_in put ≡ [] → Fact end (not end) n old new b c [] []
-sent_plain terms end n old new b c taken put k w none =
-    grind (arith, like_equal, tsdus_join, put_none, append-nil, stays_over_puts, stays_over)
+-- the connection is open at the end, and stays so
+pub record StaysOpen (end : Bool) (n : ℕ) (b c : Between) : Type 0 where
+  pub was : is_done end n b ≡ false
+  pub is : is_done end n c ≡ false
 
--- of another connection
+-- what is put has no TSDU, or the connection stays open
+abbrev pub MayPut : Bool → ℕ → Between → Between → List Message → Type 0
+MayPut end n b c put = (tsdus_in put ≡ []) ⊎ StaysOpen end n b c
+
 not_same : (q n : ℕ) → (q == n) ≡ false → q ≢ n
 not_same q n e same = let yes = eq-eqb q n same in let no : true ≡ false = sym yes ∙ e in cc
 
-sent_other : (terms : Terms) (end : Bool) (q n : ℕ) (old new : Both) (b c : Between) (taken : List Value) (put : List Message) → n ≢ q →
-    Carries terms end q old new b c taken put → Acts end old new → Fact end (not end) n old new b c [] []
-sent_other terms end q n old new b c taken put apart k w = grind (arith, fact_still, not, sealed_same)
+module _ (terms : Terms) (end : Bool) (q : ℕ) (old new : Both) (b c : Between) (taken : List Value) (put : List Message)
+    (k : Carries terms end q old new b c taken put) (w : Acts end old new) where
+  -- from the end that acts: of that connection, and of another
+  sent_here : MayPut end q b c put → Fact end (not end) q old new b c [] (tsdus_in put)
+  sent_here (inl none) = grind (arith, like_equal, tsdus_join, put_none, append-nil, stays_over_puts, stays_over)
+  sent_here (inr o) = grind (arith, tsdus_join, like_equal, append-nil)
 
-fact_plain_by : (terms : Terms) (end : Bool) (q n : ℕ) (old new : Both) (b c : Between) (taken : List Value) (put : List Message)
-    (t : Bool) → (q == n) ≡ t → Carries terms end q old new b c taken put → Acts end old new → tsdus_in put ≡ [] →
-    Fact end (not end) n old new b c [] []
-fact_plain_by terms end q n old new b c taken put true e k w none =
-    sent_plain terms end n old new b c taken put (subst (λ (m : ℕ). Carries terms end m old new b c taken put) (eqb-true q n e) k) w none
-fact_plain_by terms end q n old new b c taken put false e k w none =
-    sent_other terms end q n old new b c taken put (λ same. not_same q n e (sym same)) k w
+  sent_other : (n : ℕ) → n ≢ q → Fact end (not end) n old new b c [] []
+  sent_other n apart = grind (arith, fact_still, not, sealed_same)
 
-pub fact_plain : (terms : Terms) (end : Bool) (q n : ℕ) (old new : Both) (b c : Between) (taken : List Value) (put : List Message) →
-    Carries terms end q old new b c taken put → Acts end old new → tsdus_in put ≡ [] → Fact end (not end) n old new b c [] []
-fact_plain terms end q n old new b c taken put k w none = fact_plain_by terms end q n old new b c taken put (q == n) refl k w none
+  sent_by : (n : ℕ) (t : Bool) → (q == n) ≡ t → MayPut end q b c put → Fact end (not end) n old new b c [] (if t then tsdus_in put else [])
+  sent_by n true e may = subst (λ (m : ℕ). Fact end (not end) m old new b c [] (tsdus_in put)) (eqb-true q n e) (sent_here may)
+  sent_by n false e may = sent_other n (λ same. not_same q n e (sym same))
 
--- the connection is open at the end, and stays so
-pub record StaysOpen (end : Bool) (n : ℕ) (b c : Between) : Type 0 where
-  pub was : is_over (progress_of (place_at n (last_of end b))) ≡ false
-  pub is : is_over (progress_of (place_at n (last_of end c))) ≡ false
+  pub fact_put : (n : ℕ) → MayPut end q b c put → Fact end (not end) n old new b c [] (if q == n then tsdus_in put else [])
+  fact_put n may = sent_by n (q == n) refl may
 
-fact_handed_by : (terms : Terms) (end : Bool) (q n : ℕ) (old new : Both) (b c : Between) (taken : List Value) (octets : List ℕ) (t : Bool) →
-    (q == n) ≡ t → Carries terms end q old new b c taken (message octets ∷ []) → Acts end old new → StaysOpen end q b c →
-    Fact end (not end) n old new b c [] (if t then octets ∷ [] else [])
-fact_handed_by terms end q n old new b c taken octets true e k w o =
-    let same = eqb-true q n e in
-    grind (arith, tsdus_join, like_equal, append-nil)
-fact_handed_by terms end q n old new b c taken octets false e k w o =
-    sent_other terms end q n old new b c taken (message octets ∷ []) (λ same. not_same q n e (sym same)) k w
+  -- to the end that acts
+  arrived_first : AreFor q taken → (more : List Message) × (under_way (not end) q old b ≡ k.arrived ++ more)
+  arrived_first all =
+      let o = connection_in (place_at q (last_of end b)) in
+      let tail = to_come (is_cut (not end) old) (connection_in (place_at q (last_of (not end) b))) in
+      let rest = units_of q (units_from (not end) c) ++ tail in
+      grind (arith, units_join, units_same, append_assoc, messages_front taken (begun_at o) rest)
 
-pub fact_handed : (terms : Terms) (end : Bool) (q n : ℕ) (old new : Both) (b c : Between) (taken : List Value) (octets : List ℕ) →
-    Carries terms end q old new b c taken (message octets ∷ []) → Acts end old new → StaysOpen end q b c →
-    Fact end (not end) n old new b c [] (if q == n then octets ∷ [] else [])
-fact_handed terms end q n old new b c taken octets k w o = fact_handed_by terms end q n old new b c taken octets (q == n) refl k w o
+  -- this was reported
+  abbrev pub IsTold : ℕ → List (List ℕ) → Type 0
+  IsTold n told = told ≡ tsdus_told n (flat_map (told_of terms q (place_at q (last_of end b))) k.arrived)
 
-arrived_first : (terms : Terms) (end : Bool) (n : ℕ) (old new : Both) (b c : Between) (taken : List Value) (put : List Message) →
-    (k : Carries terms end n old new b c taken put) → AreFor n taken →
-    (more : List Message) × (under_way (not end) n old b ≡ k.arrived ++ more)
-arrived_first terms end n old new b c taken put k all =
-    let o = connection_in (place_at n (last_of end b)) in
-    let tail = to_come (is_cut (not end) old) (connection_in (place_at n (last_of (not end) b))) in
-    let rest = units_of n (units_from (not end) c) ++ tail in
-    grind (arith, units_join, units_same, append_assoc, messages_front taken (begun_at o) rest)
+  taken_here : (told : List (List ℕ)) → AreFor q taken → MayBeOpen terms (place_at q (last_of end b)) → IsTold q told →
+      Fact (not end) end q old new b c told []
+  taken_here told all may is =
+      let p = place_at q (last_of end b) in
+      let t = told_all terms q q p k.arrived in
+      let each : is_done end q b ≡ false → told ≡ tsdus_in k.arrived = λ d. is ∙ tells_all terms q p k.arrived may d k.brings.may in
+      let same : is_done end q b ≡ false → is_done end q c ≡ false →
+      told ++ tsdus_under (not end) q new c ≡ tsdus_under (not end) q old b = grind (arith, tsdus_join, like_equal) in
+      let sealed = sealed_same (not end) q old new b c w.there (ap (λ (s : State). place_at q s) k.there) in
+      record {
+        shut = grind (arith, stays_over_puts, stays_over);
+        last = grind (arith, tsdus_join, arrived_first all);
+        whole = λ d e s. (sealed ∙ s, same d e ∙ sym (append-nil (tsdus_under (not end) q old b)));
+        sealed = grind (arith, append-nil);
+      }
 
-taken_same : (terms : Terms) (end : Bool) (n : ℕ) (old new : Both) (b c : Between) (taken : List Value) (put : List Message)
-    (told : List (List ℕ)) → (k : Carries terms end n old new b c taken put) → AreFor n taken → Acts end old new →
-    MayBeOpen terms (place_at n (last_of end b)) → told ≡ tsdus_told n (flat_map (told_of terms n (place_at n (last_of end b))) k.arrived) →
-    Fact (not end) end n old new b c told []
-taken_same terms end n old new b c taken put told k all w closed_off is =
-    let p = place_at n (last_of end b) in
-    let t = told_all terms n n p k.arrived in
-    let each : is_over (progress_of p) ≡ false → told ≡ tsdus_in k.arrived =
-    λ d. is ∙ tells_all terms n p k.arrived closed_off d k.brings.may in
-    let same : is_over (progress_of p) ≡ false → is_over (progress_of (place_at n (last_of end c))) ≡ false →
-    told ++ tsdus_under (not end) n new c ≡ tsdus_under (not end) n old b = grind (arith, tsdus_join, like_equal) in
-    let sealed = sealed_same (not end) n old new b c w.there (ap (λ (s : State). place_at n s) k.there) in
-    record {
-      shut = grind (arith, stays_over_puts, stays_over);
-      last = grind (arith, tsdus_join, arrived_first terms end n old new b c taken put k all);
-      first = grind (arith, first_more, append-nil);
-      whole = λ d e s. same d e ∙ sym (append-nil (tsdus_under (not end) n old b));
-      sealed = λ d e s. (sym sealed ∙ s, grind (arith, append-nil));
-    }
+  taken_by : (n : ℕ) (told : List (List ℕ)) (t : Bool) → (q == n) ≡ t → AreFor q taken → MayBeOpen terms (place_at q (last_of end b)) →
+      IsTold n told → Fact (not end) end n old new b c told []
+  taken_by n told true e all may is =
+      subst (λ (m : ℕ). IsTold m told → Fact (not end) end m old new b c told []) (eqb-true q n e) (taken_here told all may) is
+  taken_by n told false e all may is =
+      grind (arith, fact_still, not_same q n e, told_all terms n q (place_at q (last_of end b)) k.arrived)
 
-fact_taken_by : (terms : Terms) (end : Bool) (q n : ℕ) (old new : Both) (b c : Between) (taken : List Value) (put : List Message)
-    (told : List (List ℕ)) (t : Bool) → (q == n) ≡ t → (k : Carries terms end q old new b c taken put) → AreFor q taken → Acts end old new →
-    MayBeOpen terms (place_at q (last_of end b)) → told ≡ tsdus_told n (flat_map (told_of terms q (place_at q (last_of end b))) k.arrived) →
-    Fact (not end) end n old new b c told []
-fact_taken_by terms end q n old new b c taken put told true e k all w closed_off is =
-    subst (λ (m : ℕ). (k : Carries terms end m old new b c taken put) → AreFor m taken → MayBeOpen terms (place_at m (last_of end b)) →
-    told ≡ tsdus_told n (flat_map (told_of terms m (place_at m (last_of end b))) k.arrived) → Fact (not end) end n old new b c told [])
-    (sym (eqb-true q n e))
-    (λ k2 all2 no2 is2. taken_same terms end n old new b c taken put told k2 all2 w no2 is2) k all closed_off is
-fact_taken_by terms end q n old new b c taken put told false e k all w closed_off is =
-    grind (arith, fact_still, not_same q n e, told_all terms n q (place_at q (last_of end b)) k.arrived)
-
-pub fact_taken : (terms : Terms) (end : Bool) (q n : ℕ) (old new : Both) (b c : Between) (taken : List Value) (put : List Message)
-    (told : List (List ℕ)) → (k : Carries terms end q old new b c taken put) → AreFor q taken → Acts end old new →
-    MayBeOpen terms (place_at q (last_of end b)) → told ≡ tsdus_told n (flat_map (told_of terms q (place_at q (last_of end b))) k.arrived) →
-    Fact (not end) end n old new b c told []
-fact_taken terms end q n old new b c taken put told k all w closed_off is =
-    fact_taken_by terms end q n old new b c taken put told (q == n) refl k all w closed_off is
-
--- a call at the taker
-pub fact_called : (terms : Terms) (end : Bool) (q n : ℕ) (old new : Both) (b c : Between) (put : List Message) →
-    Carries terms end q old new b c [] put → Acts end old new → MayBeOpen terms (place_at q (last_of end b)) →
-    Fact (not end) end n old new b c [] []
-fact_called terms end q n old new b c put k w closed_off =
-    fact_taken terms end q n old new b c [] put [] k tt w closed_off
-    (sym (ap (λ (ms : List Message). tsdus_told n (flat_map (told_of terms q (place_at q (last_of end b))) ms)) k.brings.is))
+  pub fact_taken : (n : ℕ) (told : List (List ℕ)) → AreFor q taken → MayBeOpen terms (place_at q (last_of end b)) → IsTold n told →
+      Fact (not end) end n old new b c told []
+  fact_taken n told all may is = taken_by n told (q == n) refl all may is
 
 -- ---- the end that acts
 
 -- an end that lasts, before and after
 pub acts_at : (end : Bool) (old new : Both) → (side end old).state.ended ≡ None → (side end new).state.ended ≡ None →
-    is_some old.reach ≡ is_some new.reach → is_cut (not end) old ≡ is_cut (not end) new → Acts end old new
+    new.reach ≡ old.reach → (side (not end) new).state.ended ≡ (side (not end) old).state.ended → Acts end old new
 acts_at end old new was is reach there = grind (arith, is_some)
 
 pub stays_open : (terms : Terms) (end : Bool) (q : ℕ) (old new : Both) (b c : Between) (octets : List ℕ) (peer : ℕ) (link : Standing) →

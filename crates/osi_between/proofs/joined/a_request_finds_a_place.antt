@@ -7,8 +7,9 @@ use Rattle.osi_between.proofs.Vocabulary.{ltb-false, map-append, Value, request,
 use Rattle.osi_between.proofs.Vocabulary.{place_at, RiseFrom, AreUpTo, IsOrderly, Rows, value_at, without, Connection, State, absent}
 use Rattle.osi_between.proofs.Vocabulary.{beyond, push_here, without_here, push_other, without_other, push_rise, push_up, without_rise}
 use Rattle.osi_between.proofs.Vocabulary.{without_up, reference_of, units_of, asked_by, requests, behind, live_behind, live_after, is_last}
-use Rattle.osi_between.proofs.Vocabulary.{AreJoined, found}
+use Rattle.osi_between.proofs.Vocabulary.{AreJoined, found, length-map}
 use Rattle.osi_between.proofs.meeting.how_a_connection_changes_at_each_end.{given_place}
+use Rattle.osi_between.proofs.unit.the_units_of_one_connection.{first_asked}
 
 -- ---- references as a table
 
@@ -64,17 +65,6 @@ record Behind (g : ℕ) (refs : List ℕ) (u : Value) : Type 0 where
   other : (q : ℕ) → q ≢ reference_of u → value_at q (marked (live_behind refs u)) ≡ value_at q (marked refs)
   numbers : (k : ℕ) (more : List ℕ) → asked_by u ++ more ≡ behind g k → (j : ℕ) × (more ≡ behind next j)
 
-same_behind : (g : ℕ) (refs : List ℕ) (u : Value) → RiseFrom 0 (marked refs) → AreUpTo g (marked refs) → live_behind refs u ≡ refs →
-    asked_by u ≡ [] → stays_behind (value_at (reference_of u) (marked refs)) u ≡ value_at (reference_of u) (marked refs) → Behind g refs u
-same_behind g refs u rise up same none stays = record {
-  next = g;
-  rise = subst (λ (l : List ℕ). RiseFrom 0 (marked l)) (sym same) rise;
-  up = subst (λ (l : List ℕ). AreUpTo g (marked l)) (sym same) up;
-  own = ap (λ (l : List ℕ). value_at (reference_of u) (marked l)) same ∙ sym stays;
-  other = λ q apart. ap (λ (l : List ℕ). value_at q (marked l)) same;
-  numbers = λ k more e. (k, ap (λ (l : List ℕ). l ++ more) (sym none) ∙ e);
-}
-
 dropped_behind : (g d : ℕ) (refs : List ℕ) (u : Value) → RiseFrom 0 (marked refs) → AreUpTo g (marked refs) →
     live_behind refs u ≡ dropped d refs → asked_by u ≡ [] → reference_of u ≡ d →
     stays_behind (value_at (reference_of u) (marked refs)) u ≡ None → Behind g refs u
@@ -89,27 +79,25 @@ dropped_behind g d refs u rise up same none is stays =
       numbers = λ k more e. (k, ap (λ (l : List ℕ). l ++ more) (sym none) ∙ e);
     }
 
-behind_numbers : (g k n : ℕ) (more : List ℕ) → n ∷ more ≡ behind g k → n ≡ g + 1 → (j : ℕ) × (more ≡ behind (g + 1) j)
-behind_numbers g k n more e is = grind arith
-
-asked_behind : (g n : ℕ) (refs : List ℕ) (u : Value) → RiseFrom 0 (marked refs) → AreUpTo g (marked refs) →
-    live_behind refs u ≡ refs ++ n ∷ [] → asked_by u ≡ n ∷ [] → reference_of u ≡ n → n ≡ g + 1 →
-    stays_behind (value_at (reference_of u) (marked refs)) u ≡ Some tt → Behind g refs u
-asked_behind g n refs u rise up same asks is next stays =
-    let rows : marked (live_behind refs u) ≡ marked refs ++ (g + 1, tt) ∷ [] =
-    ap marked same ∙ map-append (λ (r : ℕ). (r, tt)) refs (n ∷ []) ∙ ap (λ (m : ℕ). marked refs ++ (m, tt) ∷ []) next in
+one_behind : (g k : ℕ) (refs : List ℕ) (u : Value) (more : List ℕ) → RiseFrom 0 (marked refs) → AreUpTo g (marked refs) →
+    asked_by u ++ more ≡ behind g k → Behind g refs u
+one_behind g k refs (request c) more rise up e =
+    let next : c.source ≡ g + 1 = (first_asked g k c.source more e).0 in
+    let rows : marked (refs ++ c.source ∷ []) ≡ marked refs ++ (g + 1, tt) ∷ [] =
+    map-append (λ (r : ℕ). (r, tt)) refs (c.source ∷ []) ∙ ap (λ (m : ℕ). marked refs ++ (m, tt) ∷ []) next in
     record {
       next = g + 1;
       rise = subst (λ (l : Marks). RiseFrom 0 l) (sym rows) (push_rise 0 g tt (marked refs) (omega arith) rise up);
       up = subst (λ (l : Marks). AreUpTo (g + 1) l) (sym rows) (push_up g tt (marked refs) up);
       own = grind (arith, push_here, beyond);
-      other = λ q apart. ap (λ (l : Marks). value_at q l) rows ∙ push_other q (g + 1) tt (marked refs) (λ e. apart (e ∙ sym next ∙ sym is));
-      numbers = λ k more e. behind_numbers g k n more (ap (λ (l : List ℕ). l ++ more) (sym asks) ∙ e) next;
+      other = λ q apart. ap (λ (l : Marks). value_at q l) rows ∙ push_other q (g + 1) tt (marked refs) (λ is. apart (is ∙ sym next));
+      numbers = λ j later is. (let n = first_asked g j c.source later is in (n.1, n.3));
     }
-
-one_behind : (g k : ℕ) (refs : List ℕ) (u : Value) (more : List ℕ) → RiseFrom 0 (marked refs) → AreUpTo g (marked refs) →
-    asked_by u ++ more ≡ behind g k → Behind g refs u
-one_behind g k refs u more rise up e = grind (arith, asked_behind, dropped_behind, same_behind)
+one_behind g k refs (disconnect d source reason user) more rise up e =
+    dropped_behind g d refs (disconnect d source reason user) rise up refl refl refl refl
+one_behind g k refs (disconnected d source) more rise up e = dropped_behind g d refs (disconnected d source) rise up refl refl refl refl
+one_behind g k refs u more rise up e =
+    record { next = g; rise = rise; up = up; own = refl; other = λ q apart. refl; numbers = λ j later is. (j, is) }
 
 -- ---- units one after the other
 
@@ -167,15 +155,13 @@ live_behind_one q false s r going coming e j a there = grind (arith, absent, ltb
 live_behind_one q true s r going coming e j a there =
     search (arith, is_some, last_after, marked_none, never_live_by, j.stands q (ltb-true 0 q e))
 
-marked_length : (refs : List ℕ) → length (marked refs) ≡ length refs
-marked_length [] = refl
-marked_length (r ∷ refs) = let more = marked_length refs in omega arith
-
 pub no_more_live : (s r : State) (going coming : List Value) → AreJoined s r going coming →
     length (live_after (references r.live) going) ≤ length s.live
 no_more_live s r going coming j =
+    let refs = live_after (references r.live) going in
     let a = after_all going r.given j.ahead (references r.live) (marked_rise 0 r.live j.orderly_called.rise)
     (marked_up r.given r.live j.orderly_called.up_to) j.numbers in
-    let few = sub_length s.live 0 (marked (live_after (references r.live) going)) a.rise j.orderly.rise
+    let few = sub_length s.live 0 (marked refs) a.rise j.orderly.rise
     (λ q there. live_behind_one q (nat_lt 0 q) s r going coming refl j a there) in
-    grind (arith, marked_length)
+    let size : length (marked refs) ≡ length refs = length-map refs (λ q. (q, tt)) in
+    omega arith

@@ -3,8 +3,8 @@
 use Rattle.osi_between.proofs.Vocabulary.{◌≡◌, ℕ, ◌+◌, ◌<◌, Bool, true, List, [], ◌∷◌, ◌++◌, Option, Some, None, ap, ◌∙◌, arith, IsOctets}
 use Rattle.osi_between.proofs.Vocabulary.{Value, IsShortTsdu, Standing, may_connect, asks, sent, closed_with, place_at, Happening, react}
 use Rattle.osi_between.proofs.Vocabulary.{value_at, linked, State, reference_of, answers_in, IsTsap, JoinedFrom, Did, Message, ask, message}
-use Rattle.osi_between.proofs.Vocabulary.{bye, Terms, by_two}
-use Rattle.osi_between.proofs.between.an_acting_end_keeps_the_invariant.{steps_two, JoinedAt, Does}
+use Rattle.osi_between.proofs.Vocabulary.{bye, Terms, by_two, append_cancel_right, sym, subst, AreFor, BringsTo}
+use Rattle.osi_between.proofs.between.an_acting_end_keeps_the_invariant.{JoinedAt, Does}
 use Rattle.osi_between.proofs.joined.requests_beginnings_and_nothing_in_flight.{caller_asks}
 use Rattle.osi_between.proofs.joined.joined_carriers_stay_joined.{seen, takes_one, sends, closes, within_given}
 use Rattle.osi_between.proofs.joined.feeding_keeps_carriers_joined.{with_queues, queued}
@@ -36,10 +36,34 @@ to_at end this other going coming j = grind arith
 
 does_two : (end : Bool) (n : ℕ) (this other next : State) (going coming rest taken : List Value) (put : List Message) →
     coming ≡ taken ++ rest → Did end n this other next going coming rest put → Does by_two end n this other next going coming rest taken put
-does_two end n this other next going coming rest taken put cut d = record {
-  steps = steps_two n this other next going coming d.behind rest taken put cut (seen end next other d.behind rest d.joined).lasts d.acts;
-  joined = grind (arith, to_at);
-}
+does_two end n this other next going coming rest taken put cut d =
+    let a = d.acts in
+    let w = a.writes in
+    let same : a.takes.units ≡ taken = append_cancel_right a.takes.units taken rest (sym a.takes.cut ∙ cut) in
+    record {
+      steps = record {
+        units = w.units;
+        arrived = a.takes.arrived;
+        stays = w.stays;
+        lost = w.lost;
+        sendable = w.sendable;
+        outgoing = w.outgoing;
+        told = a.takes.told;
+        cut = cut;
+        all_for = subst (λ (l : List Value). AreFor n l) same a.takes.all_for;
+        written_for = w.all_for;
+        before = w.before;
+        after = rw w.written at w.after;
+        brings = subst (λ (l : List Value). BringsTo true (place_at n this) (place_at n next) l a.takes.arrived put) same a.takes.brings;
+        others_stay = a.others.places;
+        given = a.given;
+        class = a.class;
+        local = a.local;
+        keeps = w.keeps;
+        lasts = (seen end next other d.behind rest d.joined).lasts;
+      };
+      joined = grind (arith, to_at);
+    }
 
 -- so its state is that of a connection whose peer's number is its own
 pub linked_own : (end : Bool) (this other : State) (going coming : List Value) (n peer : ℕ) (link : Standing) →
@@ -65,4 +89,4 @@ closes_two end this other going coming n peer link reason j at small =
     search (arith, does_two, closes, linked_own end this other going coming n peer link k at)
 
 pub provides_two : Provides by_two
-provides_two = search (arith, does_two, takes_one, to_from, caller_asks, sends_two, to_at, with_queues, queued)
+provides_two = search (arith, does_two, takes_one, to_from, caller_asks, sends_two, to_at, queued)

@@ -2,8 +2,8 @@
 -- For joined carriers, class 0, the invariant and the laws.
 use Rattle.osi_between.proofs.Vocabulary.{◌≡◌, ℕ, Bool, true, false, not, ◌≤◌, List, [], ◌∷◌, ◌++◌, length, take, refl, arith, AreLinked}
 use Rattle.osi_between.proofs.Vocabulary.{with_state, with_events, TakesFor, WasFed, Fed, Value, Local, fresh_state, AreComing, place_at}
-use Rattle.osi_between.proofs.Vocabulary.{Happening, Carrying, Feeds, react, State, orderly_same, reference_of, TakesUnits, TakesSome}
-use Rattle.osi_between.proofs.Vocabulary.{answers_at, StandsBetween, AreJoined, JoinedFrom, ActsFor, Did, Message}
+use Rattle.osi_between.proofs.Vocabulary.{Happening, Carrying, Feeds, react, State, orderly_same, reference_of, TakesUnits, answers_at}
+use Rattle.osi_between.proofs.Vocabulary.{StandsBetween, AreJoined, JoinedFrom, ActsFor, Did, Message}
 use Rattle.osi_between.proofs.way.units_are_taken_in_turn.{feeds_some, more_coming}
 use Rattle.osi_between.proofs.joined.requests_beginnings_and_nothing_in_flight.{fresh_joined}
 use Rattle.osi_between.proofs.joined.joined_carriers_stay_joined.{seen, takes_one}
@@ -64,27 +64,22 @@ took end (u ∷ us) this other next going coming left held j c cut takes =
 
 -- ---- feeding
 
-fed_ends : (end : Bool) (this other next : Carrying) (going coming : List Value) (used : ℕ)
-    (t : TakesSome this other.state.outgoing coming used next) →
-    (h : Took end this.state other.state t.reached going coming t.done t.left other.held.octets) →
-    WasFed end this other next going coming used
-fed_ends end this other next going coming used t h = record {
-  done = t.done;
-  left = t.left;
-  behind = h.behind;
-  reached = t.reached;
-  takes = h.takes;
-  linked = grind (arith, joined_back, queued, joined_turned, seen);
-}
-
 pub was_fed : (end : Bool) (this other next : Carrying) (going coming : List Value) (k : ℕ) (fed : Fed) →
     AreLinked end this other going coming → k ≤ length other.state.outgoing → Feeds this (take k other.state.outgoing) fed next →
     WasFed end this other next going coming fed.used
 was_fed end this other next going coming k fed l few h =
     let t = feeds_some this next other.state.outgoing coming k fed few l.coming_octets
     (seen end this.state other.state going coming l.joined).lasts h in
-    fed_ends end this other next going coming fed.used t
-    (took end t.done this.state other.state t.reached going coming t.left other.held.octets l.joined l.going_octets t.parts t.taken)
+    let units = took end t.done this.state other.state t.reached going coming t.left other.held.octets l.joined l.going_octets t.parts
+    t.taken in
+    record {
+      done = t.done;
+      left = t.left;
+      behind = units.behind;
+      reached = t.reached;
+      takes = units.takes;
+      linked = grind (arith, joined_back, queued, joined_turned, seen);
+    }
 
 -- ---- calls, and events that are reported
 

@@ -1,52 +1,41 @@
 -- The caller requests a connection; two new carriers are joined; and if no unit is in flight, no message is.
 -- For joined carriers, class 0, the invariant and the laws.
-use Rattle.osi_between.proofs.Vocabulary.{◌≡◌, ℕ, ◌+◌, ◌<◌, Bool, true, false, List, [], ◌∷◌, ◌++◌, length, Option, Some, None, refl, sym}
-use Rattle.osi_between.proofs.Vocabulary.{ap, ◌∙◌, inr, arith, if◌then◌else◌, lt-ltb, Value, LinkPair, swapped, Standing, Given, Local}
+use Rattle.osi_between.proofs.Vocabulary.{◌≡◌, ℕ, ◌+◌, ◌<◌, Bool, true, false, List, [], ◌∷◌, length, Option, Some, None, refl, sym, ap}
+use Rattle.osi_between.proofs.Vocabulary.{◌∙◌, inr, arith, if◌then◌else◌, lt-ltb, Value, LinkPair, swapped, Standing, Given, Local}
 use Rattle.osi_between.proofs.Vocabulary.{quiet_unsent, nothing_begun, references, fresh_state, may_connect, asks, Place, never, was_given}
 use Rattle.osi_between.proofs.Vocabulary.{place_at, value_at, linked, State, free_of, orderly_asks, orderly_fresh, live_after, Course}
-use Rattle.osi_between.proofs.Vocabulary.{unasked, met, at_end, from_end, IsTsap, Holds, StandsBetween, AreJoined, Did, under_way_for}
-use Rattle.osi_between.proofs.Vocabulary.{IsEmpty, talking, addressed, ask, AreOpen}
+use Rattle.osi_between.proofs.Vocabulary.{unasked, met, at_end, from_end, IsTsap, Holds, AreJoined, Did, under_way_for, IsEmpty, talking}
+use Rattle.osi_between.proofs.Vocabulary.{addressed, ask, AreOpen, CourseMoves, IsOrderly}
 use Rattle.osi_between.proofs.meeting.how_a_connection_is_opened.{asks_moves}
 use Rattle.osi_between.proofs.joined.a_request_finds_a_place.{no_more_live}
-use Rattle.osi_between.proofs.joined.joined_carriers_stay_joined.{joined_caller, within_given, given_live}
+use Rattle.osi_between.proofs.joined.joined_carriers_stay_joined.{within_given, given_live, did}
 use Rattle.osi_between.proofs.meeting.a_connection_after_each_unit_and_call.{open_mirror}
-use Rattle.osi_between.proofs.joined.each_connection_is_in_a_shared_state.{acts_for}
 
 -- ---- a connection is requested
 
 pub next_never : (s : State) (n : ℕ) → s.given < n → place_at n s ≡ never
 next_never s n above = ap (λ (b : Bool). if◌then◌else◌ {A = Place} b never (was_given (value_at n s.live))) (lt-ltb s.given n above)
 
-abbrev fresh_course : (n : ℕ) (s r : State) (going coming : List Value) → place_at n s ≡ never →
-    (h : StandsBetween true n s r going coming) → h.course ≡ unasked → StandsBetween true n s r going coming
-fresh_course n s r going coming at h e = record {
-  course = unasked;
-  place = at;
-  place_there = h.place_there ∙ ap (at_end false n) e;
-  out = h.out ∙ ap (from_end true n r.local) e;
-  back = h.back ∙ ap (from_end false n r.local) e;
-  holds = tt;
-}
+asks_by : (s r : State) (g : Course) (calling called : Option (List ℕ)) → IsOrderly s → s.given < 65535 →
+    s.local.class2 ≡ true → IsTsap calling → IsTsap called → never ≡ at_end true (s.given + 1) g →
+    CourseMoves true (s.given + 1) g s r (asks calling called s) [] 1 (ask ∷ [])
+asks_by s r unasked calling called orderly left supports fits fits_called at =
+    asks_moves s r calling called orderly left supports fits fits_called
+asks_by s r g calling called orderly left supports fits fits_called at = cc
 
 pub caller_asks : (s r : State) (going coming : List Value) (calling called : Option (List ℕ)) → AreJoined s r going coming →
     may_connect s ≡ None → IsTsap calling → IsTsap called →
     Did true (s.given + 1) s r (asks calling called s) going coming coming (ask ∷ [])
 caller_asks s r going coming calling called j may fits fits_called =
-    let n = s.given + 1 in
-    let some : 0 < n = omega arith in
-    let at : place_at n s ≡ never = next_never s n (omega arith) in
-    let old = j.stands n some in
-    let st = fresh_course n s r going coming at old (grind arith) in
+    let some : 0 < s.given + 1 = omega arith in
+    let st = j.stands (s.given + 1) some in
     let free = free_of s may in
-    let mv = asks_moves s r calling called j.orderly free.left j.supports fits fits_called in
+    let mv = asks_by s r st.course calling called j.orderly free.left j.supports fits fits_called
+    (sym (next_never s (s.given + 1) (omega arith)) ∙ st.place) in
     let less = no_more_live s r going coming j in
     let room : length (live_after (references r.live) going) < 64 = omega arith in
-    record {
-      behind = going ++ mv.units;
-      acts = acts_for true n 1 s r (asks calling called s) going coming coming [] (ask ∷ []) st refl tt mv;
-      joined = joined_caller s r (asks calling called s) going coming coming [] (ask ∷ []) n 1 some j st refl tt
-          (orderly_asks calling called s may j.orderly) mv (room, tt);
-    }
+    did true s r (asks calling called s) going coming coming [] (ask ∷ []) (s.given + 1) 1 some j st refl tt
+    (orderly_asks calling called s may j.orderly) mv (grind arith)
 
 -- ---- the beginning
 

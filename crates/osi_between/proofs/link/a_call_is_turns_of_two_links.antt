@@ -4,11 +4,13 @@ use Rattle.osi_between.proofs.Vocabulary.{◌≡◌, ℕ, ◌<◌, Bool, true, f
 use Rattle.osi_between.proofs.Vocabulary.{subst, arith, append_assoc, hand_in, give_out, take_in, hand_out, MovesAlong, zero_turns, said}
 use Rattle.osi_between.proofs.Vocabulary.{oldest_in_class_0, oldest_in_class_2, stays_short, move_sound, flat_map, AllByRecursion}
 use Rattle.osi_between.proofs.Vocabulary.{append-nil, map-append, flat_map-append, IsOctets, LeftMoves, LinkPair, swapped, Turn, at_left}
-use Rattle.osi_between.proofs.Vocabulary.{TurnsAlong, opposite, left_in, right_out, under_way_before, under_way, HasWholeTsdus, IsShortTsdu}
-use Rattle.osi_between.proofs.Vocabulary.{TakesOldest, all_given, Standing, Given, taken, unit_of, with_tsdu, HasGivenInRange, in_range}
-use Rattle.osi_between.proofs.Vocabulary.{stays_octets, unit_fits, agree_turns, drained_moves, drained_ends, drained_leaves, choose_ok}
-use Rattle.osi_between.proofs.Vocabulary.{at_ok, turns_keep, whole_kept, stays_whole, other_way, pumped, handed_out, IsWell, IsSettled}
-use Rattle.osi_between.proofs.Vocabulary.{AgreeIn, AreOpen, links, Passes, after_send, after_take, LeftTakes}
+use Rattle.osi_between.proofs.Vocabulary.{TurnsAlong, opposite, left_in, right_out, under_way_before, under_way, IsShortTsdu, TakesOldest}
+use Rattle.osi_between.proofs.Vocabulary.{all_given, Standing, Given, taken, unit_of, with_tsdu, HasGivenInRange, in_range, stays_octets}
+use Rattle.osi_between.proofs.Vocabulary.{unit_fits, agree_turns, drained_moves, drained_ends, drained_leaves, choose_ok, at_ok, turns_keep}
+use Rattle.osi_between.proofs.Vocabulary.{stays_whole, other_way, pumped, handed_out, IsWell, IsSettled, AgreeIn, AreOpen, links, Passes}
+use Rattle.osi_between.proofs.Vocabulary.{after_send, after_take, LeftTakes, tsdu_in, tsdu_out, Comes, given_by}
+use Rattle.osi_class.specs.Runs.{Move, Moves}
+use Rattle.osi_between.proofs.unit.the_units_of_one_connection.{all_join}
 
 -- ---- turns one after the other
 
@@ -28,53 +30,43 @@ along_join a b c (t ∷ ts) us (mid, first, rest) more = (mid, first, along_join
 pub turned_join : (a b c : LinkPair) (i j o p : List (List ℕ)) → Turned a b i o → Turned b c j p → Turned a c (i ++ j) (o ++ p)
 turned_join a b c i j o p first second = grind (arith, along_join, flat_map-append, map-append)
 
+-- one call at the left link
+turned_one : (move : Move) (old new : LinkPair) → LeftMoves move old new → Turned old new (tsdu_in move) (tsdu_out move)
+turned_one move old new h = record {
+  turns = at_left move ∷ [];
+  along = (new, h, refl);
+  sent = append-nil (tsdu_in move);
+  none = refl;
+  sent_back = refl;
+  got = append-nil (tsdu_out move);
+}
+
+-- a call that gives no unit and takes none
+turned_alone : (move : Move) (l t r : Standing) (out back : List Given) → Moves move l t → given_by move ≡ [] →
+    Comes move back back → Turned (links l out r back) (links t out r back) (tsdu_in move) (tsdu_out move)
+turned_alone move l t r out back moves none comes =
+    turned_one move (links l out r back) (links t out r back)
+    (record { moves = moves; given = sym (append-nil out) ∙ ap (λ (us : List Given). out ++ us) (sym none); comes = comes; right = refl })
+
 -- ---- giving
 
-gives_along : (l r : Standing) (out back gs : List Given) (t : Standing) → MovesAlong l (map give_out gs) t →
-    TurnsAlong (links l out r back) (map at_left (map give_out gs)) (links t (out ++ gs) r back)
-gives_along l r out back [] t e = grind (arith, append-nil)
-gives_along l r out back (g ∷ gs) t (mid, first, rest) = grind (arith, map, append_assoc, gives_along mid r (out ++ g ∷ []) back gs t rest)
-
-gives_in : (gs : List Given) → flat_map left_in (map at_left (map give_out gs)) ≡ []
-gives_in [] = refl
-gives_in (g ∷ gs) = gives_in gs
-
-gives_out : (gs : List Given) → flat_map right_out (map at_left (map give_out gs)) ≡ []
-gives_out [] = refl
-gives_out (g ∷ gs) = gives_out gs
-
-gives_in_back : (gs : List Given) → flat_map left_in (map opposite (map at_left (map give_out gs))) ≡ []
-gives_in_back [] = refl
-gives_in_back (g ∷ gs) = gives_in_back gs
-
-gives_out_back : (gs : List Given) → flat_map right_out (map opposite (map at_left (map give_out gs))) ≡ []
-gives_out_back [] = refl
-gives_out_back (g ∷ gs) = gives_out_back gs
+-- these units
+turned_given : (l r : Standing) (out back gs : List Given) (t : Standing) → MovesAlong l (map give_out gs) t →
+    Turned (links l out r back) (links t (out ++ gs) r back) [] []
+turned_given l r out back [] t e = grind (arith, append-nil)
+turned_given l r out back (g ∷ gs) t (mid, first, rest) =
+    let one = turned_one (give_out g) (links l out r back) (links mid (out ++ g ∷ []) r back)
+    (record { moves = first; given = refl; comes = refl; right = refl }) in
+    turned_join (links l out r back) (links mid (out ++ g ∷ []) r back) (links t (out ++ g ∷ gs) r back) [] [] [] [] one
+    (subst (λ (us : List Given). Turned (links mid (out ++ g ∷ []) r back) (links t us r back) [] []) (append_assoc out (g ∷ []) gs)
+    (turned_given mid r (out ++ g ∷ []) back gs t rest))
 
 -- all that a link gives
 pub turned_pumped : (l r : Standing) (out back : List Given) →
     Turned (links l out r back) (links (pumped l) (out ++ all_given l) r back) [] []
-turned_pumped l r out back = record {
-  turns = map at_left (map give_out (all_given l));
-  along = gives_along l r out back (all_given l) (pumped l) (drained_moves l);
-  sent = gives_in (all_given l);
-  none = gives_out (all_given l);
-  sent_back = gives_in_back (all_given l);
-  got = gives_out_back (all_given l);
-}
+turned_pumped l r out back = turned_given l r out back (all_given l) (pumped l) (drained_moves l)
 
 -- ---- handing in and out
-
-pub turned_in : (l r : Standing) (out back : List Given) (tsdu : List ℕ) →
-    Turned (links l out r back) (links (with_tsdu l tsdu) out r back) (tsdu ∷ []) []
-turned_in l r out back tsdu = record {
-  turns = at_left (hand_in tsdu) ∷ [];
-  along = (links (with_tsdu l tsdu) out r back, record { moves = refl; given = sym (append-nil out); comes = refl; right = refl }, refl);
-  sent = refl;
-  none = refl;
-  sent_back = refl;
-  got = refl;
-}
 
 abbrev with_whole : Standing → List (List ℕ) → Standing
 with_whole s whole = record s { ends = record s.ends { joining = record s.ends.joining { whole = whole } } }
@@ -83,16 +75,8 @@ turned_out_by : (l r : Standing) (out back : List Given) (whole : List (List ℕ
     Turned (links l out r back) (links (handed_out l) out r back) [] (take 1 whole)
 turned_out_by l r out back [] e = grind (arith, drop)
 turned_out_by l r out back (t ∷ ts) e =
-    let hands : l ≡ with_whole l (t ∷ drop 1 l.ends.joining.whole) =
-    ap (λ (w : List (List ℕ)). with_whole l w) (e ∙ ap (λ (w : List (List ℕ)). t ∷ drop 1 w) (sym e)) in
-    record {
-      turns = at_left (hand_out t) ∷ [];
-      along = (links (handed_out l) out r back, record { moves = hands; given = sym (append-nil out); comes = refl; right = refl }, refl);
-      sent = refl;
-      none = refl;
-      sent_back = refl;
-      got = refl;
-    }
+    turned_alone (hand_out t) l (handed_out l) r out back
+    (ap (λ (w : List (List ℕ)). with_whole l w) (e ∙ ap (λ (w : List (List ℕ)). t ∷ drop 1 w) (sym e))) refl refl
 
 -- ---- what turns keep
 
@@ -117,29 +101,20 @@ pub turned_any_back : (old new : LinkPair) (i o : List (List ℕ)) → Turned ol
 turned_any_back old new i o t =
     grind (arith, turns_keep (swapped old) (swapped new) (map opposite t.turns) [] (other_way old new t.turns t.along))
 
--- what is in flight, to the right and to the left
-pub turned_right : (old new : LinkPair) (i o : List (List ℕ)) → Turned old new i o → HasWholeTsdus old → under_way old ++ i ≡ under_way new
-turned_right old new i o t whole = grind (arith, whole_kept)
-
-pub turned_left : (old new : LinkPair) (i o : List (List ℕ)) → Turned old new i o → HasWholeTsdus (swapped old) →
-    under_way (swapped old) ≡ o ++ under_way (swapped new)
-turned_left old new i o t whole = grind (arith, append-nil, whole_kept, map, other_way)
-
 -- open links stay open if the one that turned is settled again
 pub turned_passes : (two : Bool) (old new : LinkPair) (i o : List (List ℕ)) → Turned old new i o → AllByRecursion IsShortTsdu i →
-    AgreeIn two old → HasWholeTsdus old → HasWholeTsdus (swapped old) → AllByRecursion IsShortTsdu (under_way old) →
-    AllByRecursion IsShortTsdu (under_way (swapped old)) → AllByRecursion HasGivenInRange new.rightward →
-    AllByRecursion HasGivenInRange new.leftward → IsSettled new.left → IsSettled new.right → Passes two old new i o
-turned_passes two old new i o t short agree whole whole_back s s_back range range_back left right =
+    AreOpen two old → AllByRecursion HasGivenInRange new.rightward → AllByRecursion HasGivenInRange new.leftward →
+    IsSettled new.left → IsSettled new.right → Passes two old new i o
+turned_passes two old new i o t short a range range_back left right =
     let back = other_way old new t.turns t.along in
     grind (
       arith,
       stays_short,
-      turned_right old new i o t whole,
-      turned_left old new i o t whole_back,
-      agree_turned two old new i o t agree,
-      stays_whole old new t.turns whole t.along,
-      stays_whole (swapped old) (swapped new) (map opposite t.turns) whole_back back,
+      sym (a.whole i) ∙ turned_any old new i o t,
+      turned_any_back old new i o t,
+      agree_turned two old new i o t a.agree,
+      stays_whole old new t.turns a.whole t.along,
+      stays_whole (swapped old) (swapped new) (map opposite t.turns) a.whole_back back,
     )
 
 -- ---- a link between calls
@@ -153,25 +128,6 @@ gives_well (g ∷ gs) s t h (mid, first, rest) =
 
 pub pumped_well : (s : Standing) → IsWell s → IsWell (pumped s) × AllByRecursion HasGivenInRange (all_given s)
 pumped_well s h = gives_well (all_given s) s (pumped s) h (drained_moves s)
-
-octets_behind : (ts : List (List ℕ)) (t : List ℕ) → AllByRecursion IsOctets ts → IsOctets t → AllByRecursion IsOctets (ts ++ t ∷ [])
-octets_behind [] t h is = (is, tt)
-octets_behind (u ∷ ts) t h is = (h.0, octets_behind ts t h.1 is)
-
-pub range_behind : (us vs : List Given) → AllByRecursion HasGivenInRange us → AllByRecursion HasGivenInRange vs →
-    AllByRecursion HasGivenInRange (us ++ vs)
-range_behind [] vs a b = b
-range_behind (u ∷ us) vs a b = (a.0, range_behind us vs a.1 b)
-
-with_well : (s : Standing) (tsdu : List ℕ) → IsWell s → IsOctets tsdu → IsWell (with_tsdu s tsdu)
-with_well s tsdu h is = grind (arith, move_sound, octets_behind)
-
-out_well : (s : Standing) → IsWell s → IsWell (handed_out s)
-out_well s h = grind arith
-
--- at most one TSDU becomes whole with a unit
-abbrev HasOne : Standing → Type 0
-HasOne s = drop 1 s.ends.joining.whole ≡ []
 
 -- what is to be sent does not change with a unit
 abbrev Unsent : List (List ℕ) → Standing → Type 0
@@ -200,17 +156,8 @@ turned_take l t r out g rest destination is =
     let after = links (handed_out t) out r rest in
     let new = links (pumped (handed_out t)) (out ++ all_given (handed_out t)) r rest in
     let got = take 1 t.ends.joining.whole in
-    let turn : LeftMoves (take_in (unit_of destination g)) old mid =
-    record { moves = is; given = sym (append-nil out); comes = (g, said destination g, refl); right = refl } in
-    let first : Turned old mid [] [] =
-    record {
-      turns = at_left (take_in (unit_of destination g)) ∷ [];
-      along = (mid, turn, refl);
-      sent = refl;
-      none = refl;
-      sent_back = refl;
-      got = refl;
-    } in
+    let first = turned_one (take_in (unit_of destination g)) old mid
+    (record { moves = is; given = sym (append-nil out); comes = (g, said destination g, refl); right = refl }) in
     let all : Turned old new [] (got ++ []) =
     turned_join old after new [] [] got [] (turned_join old mid after [] [] [] got first (grind (arith, turned_out_by)))
     (turned_pumped (handed_out t) r out rest) in
@@ -219,7 +166,9 @@ turned_take l t r out g rest destination is =
 -- a TSDU that is handed in at the left, whatever its peer
 pub turned_send : (l r : Standing) (out back : List Given) (tsdu : List ℕ) →
     Turned (links l out r back) (links (pumped (with_tsdu l tsdu)) (out ++ all_given (with_tsdu l tsdu)) r back) (tsdu ∷ []) []
-turned_send l r out back tsdu = search (arith, turned_join, turned_in l r out back tsdu, turned_pumped (with_tsdu l tsdu) r out back)
+turned_send l r out back tsdu =
+    let one = turned_alone (hand_in tsdu) l (with_tsdu l tsdu) r out back refl refl refl in
+    search (arith, turned_join, one, turned_pumped (with_tsdu l tsdu) r out back)
 
 -- ---- the two calls at the left of open links
 
@@ -227,10 +176,12 @@ turned_send l r out back tsdu = search (arith, turned_join, turned_in l r out ba
 pub sends_passes : (two : Bool) (p : LinkPair) (tsdu : List ℕ) → AreOpen two p → IsShortTsdu tsdu → IsOctets tsdu →
     Passes two p (after_send p tsdu) (tsdu ∷ []) []
 sends_passes two p tsdu a short octets =
-    let well = with_well p.left tsdu a.left.well octets in
+    let well : IsWell (with_tsdu p.left tsdu) =
+    grind (arith, move_sound, all_join IsOctets p.left.ends.unsent (tsdu ∷ []) a.left.well.octets (octets, tt)) in
     turned_passes two p (after_send p tsdu) (tsdu ∷ []) [] (turned_send p.left p.right p.rightward p.leftward tsdu)
-    (short, tt) a.agree a.whole a.whole_back a.short a.short_back
-    (range_behind p.rightward (all_given (with_tsdu p.left tsdu)) a.range (pumped_well (with_tsdu p.left tsdu) well).1) a.range_back
+    (short, tt) a
+    (all_join HasGivenInRange p.rightward (all_given (with_tsdu p.left tsdu)) a.range (pumped_well (with_tsdu p.left tsdu) well).1)
+    a.range_back
     (grind (arith, drained_leaves, drained_ends, pumped_well)) a.right
 
 oldest_taken : (two : Bool) (p : LinkPair) (unit : Given) (rest : List Given) (destination : ℕ) → AreOpen two p → AgreeIn two p →
@@ -238,22 +189,19 @@ oldest_taken : (two : Bool) (p : LinkPair) (unit : Given) (rest : List Given) (d
 oldest_taken false p unit rest destination a z e = grind (arith, oldest_in_class_0)
 oldest_taken true p unit rest destination a t e = search (arith, oldest_in_class_2)
 
-left_takes_by : (two : Bool) (p : LinkPair) (g : Given) (rest : List Given) (destination : ℕ) → destination < 65536 → AreOpen two p →
-    p.leftward ≡ g ∷ rest → TakesOldest (swapped p) (unit_of destination g) rest → LeftTakes two p (unit_of destination g) rest
-left_takes_by two p g rest destination few a e t =
+pub left_takes : (two : Bool) (p : LinkPair) (g : Given) (rest : List Given) (destination : ℕ) → destination < 65536 → AreOpen two p →
+    p.leftward ≡ g ∷ rest → LeftTakes two p (unit_of destination g) rest
+left_takes two p g rest destination few a e =
+    let t = oldest_taken two p g rest destination a a.agree e in
     let range = subst (λ (us : List Given). AllByRecursion HasGivenInRange us) e a.range_back in
-    let well = out_well t.new (taken_well p.left t.new destination g few range.0 a.left.well t.taken) in
+    let same = taken_well p.left t.new destination g few range.0 a.left.well t.taken in
+    let well : IsWell (handed_out t.new) = grind arith in
     let got = take 1 t.new.ends.joining.whole in
     record {
       link = t.new;
       taken = t.taken;
       passes = turned_passes two p (after_take p t.new rest) [] got
           (grind (arith, turned_take p.left t.new p.right p.rightward g rest destination t.taken))
-          tt a.agree a.whole a.whole_back a.short a.short_back
-          (range_behind p.rightward (all_given (handed_out t.new)) a.range (pumped_well (handed_out t.new) well).1) range.1
+          tt a (all_join HasGivenInRange p.rightward (all_given (handed_out t.new)) a.range (pumped_well (handed_out t.new) well).1) range.1
           (grind (arith, drained_leaves, drained_ends, pumped_well)) a.right;
     }
-
-pub left_takes : (two : Bool) (p : LinkPair) (unit : Given) (rest : List Given) (destination : ℕ) → destination < 65536 → AreOpen two p →
-    p.leftward ≡ unit ∷ rest → LeftTakes two p (unit_of destination unit) rest
-left_takes two p unit rest destination few a e = grind (arith, left_takes_by, oldest_taken)

@@ -1,7 +1,6 @@
 -- Two links of class 2 as a CR and its CC open them.
 -- For links, connections of class 2 and joined carriers.
-use Rattle.osi_class.proofs.giving.when_nothing_is_given as nothing
-use Rattle.osi_between.proofs.Vocabulary.{ℕ, ◌<◌, ◌^◌, ◌≤◌, true, List, [], length, min, Option, refl, arith, pow-le-pow_right, IsOctets}
+use Rattle.osi_between.proofs.Vocabulary.{ℕ, ◌<◌, ◌^◌, ◌≤◌, true, List, [], min, Option, refl, arith, pow-le-pow_right, IsOctets}
 use Rattle.osi_between.proofs.Vocabulary.{size_code, window_units, Connect, request, opened_pair, Standing, two_standing, fresh_two}
 use Rattle.osi_between.proofs.Vocabulary.{selected_size, Class, Two, Local, agree_begins, begins, IsSendable, proposal_by, agreed_size}
 use Rattle.osi_between.proofs.Vocabulary.{opened_link, answer_of, IsTsap, AreOpen, length-append}

@@ -1,26 +1,21 @@
 -- How a connection of class 2 is opened: the CR, the CC, and what the called end sends before the
 -- caller has it open.
 -- For joined carriers and class 0.
-use Rattle.osi_between.proofs.Vocabulary.{◌≡◌, ◌≢◌, ℕ, ◌+◌, ◌<◌, ◌≤◌, Bool, true, false, List, [], ◌∷◌, ◌++◌, map, Option, Some, None, refl}
-use Rattle.osi_between.proofs.Vocabulary.{sym, ap, subst, ◌∙◌, inr, arith, nat_lt, append-nil, map-append, IsOctets, Value, Connect}
-use Rattle.osi_between.proofs.Vocabulary.{request, confirm, LinkPair, swapped, opened_pair, under_way, IsShortTsdu, all_given, Standing}
-use Rattle.osi_between.proofs.Vocabulary.{with_tsdu, selected_size, Class, Two, Local, references, asks, sent, closed_with, was_given}
+use Rattle.osi_between.proofs.Vocabulary.{◌≡◌, ◌≢◌, ℕ, ◌+◌, ◌<◌, ◌≤◌, Bool, true, false, List, [], ◌∷◌, ◌++◌, Option, Some, None, refl, sym}
+use Rattle.osi_between.proofs.Vocabulary.{ap, subst, ◌∙◌, inr, arith, nat_lt, append-nil, map-append, Value, Connect, request, confirm}
+use Rattle.osi_between.proofs.Vocabulary.{LinkPair, swapped, opened_pair, Standing, selected_size, Two, references, asks, was_given}
 use Rattle.osi_between.proofs.Vocabulary.{place_at, opened, proposal_by, IsOrderly, react, accepts, has_peer, is_full, opens, value_at}
-use Rattle.osi_between.proofs.Vocabulary.{Connection, asked, linked, closing, State, packets, push_here, beyond, put_here, push_other}
-use Rattle.osi_between.proofs.Vocabulary.{put_other, react_quiet, unasked, asking, accepting, withdrawing, met, answer_of, IsTsap}
-use Rattle.osi_between.proofs.Vocabulary.{IsAskedBy, MayTakeTwo, IsAccepted, Acts, CourseMoves, talking, left_there, addressed, leaving}
-use Rattle.osi_between.proofs.Vocabulary.{Message, ask, agree, message, bye, messages_after, uncut_units, kind_of, after_send, not_yet}
-use Rattle.osi_between.proofs.Vocabulary.{awaiting, put_named, length, length-append, drained_leaves}
-use Rattle.osi_between.proofs.unit.what_a_taken_unit_means.{brings_none}
-use Rattle.osi_between.proofs.meeting.what_a_unit_or_call_changes.{send_changes, close_changes}
-use Rattle.osi_between.proofs.meeting.how_a_connection_changes_at_each_end.{given_place, acts_changed, none_more}
-use Rattle.osi_between.proofs.meeting.a_connection_after_each_unit_and_call.{open_mirror, class_end, addressed_join, addressed_for}
-use Rattle.osi_between.proofs.meeting.what_is_in_flight_for_a_connection.{pair_messages, behind_leaving}
-use Rattle.osi_between.proofs.unit.units_are_read_as_messages.{messages_front, kinds_begun}
+use Rattle.osi_between.proofs.Vocabulary.{Connection, asked, linked, State, packets, push_here, beyond, put_here, push_other, put_other}
+use Rattle.osi_between.proofs.Vocabulary.{react_quiet, unasked, asking, accepting, withdrawing, met, answer_of, IsTsap, IsAskedBy}
+use Rattle.osi_between.proofs.Vocabulary.{MayTakeTwo, IsAccepted, CourseMoves, talking, left_there, Message, ask, agree, messages_after}
+use Rattle.osi_between.proofs.Vocabulary.{uncut_units, not_yet, awaiting, put_named, length, length-append, inl, Course, Meeting, mirror}
+use Rattle.osi_between.proofs.Vocabulary.{Moves, here, there, out, back, messages_out, asks_in, IsAt, unsent_at}
+use Rattle.osi_between.proofs.unit.what_a_taken_unit_means.{brings_none, same_like}
+use Rattle.osi_between.proofs.meeting.how_a_connection_changes_at_each_end.{given_place, acts_changed}
+use Rattle.osi_between.proofs.meeting.a_connection_after_each_unit_and_call.{open_mirror}
 use Rattle.osi_between.proofs.link.a_request_and_its_answer_open_two_links.{request_of, caller_link, called_link, opens_links}
 use Rattle.osi_between.proofs.link.a_request_and_its_answer_open_two_links.{asked_sendable, no_octets}
-use Rattle.osi_between.proofs.unit.a_unit_fits_a_packet.{all_sendable, range_end}
-use Rattle.osi_between.proofs.link.a_call_is_turns_of_two_links.{sends_passes}
+use Rattle.osi_between.proofs.between.an_acting_end_keeps_the_invariant.{Each}
 
 -- ---- a new reference
 
@@ -34,27 +29,19 @@ push_place s t x orderly given live = grind (arith, given_place, push_here, beyo
 
 -- ---- the CR
 
-abbrev pub asks_moves : (s r : State) (calling called : Option (List ℕ)) → IsOrderly s → s.given < 65535 → s.local.class2 ≡ true →
+pub asks_moves : (s r : State) (calling called : Option (List ℕ)) → IsOrderly s → s.given < 65535 → s.local.class2 ≡ true →
     IsTsap calling → IsTsap called → CourseMoves true (s.given + 1) unasked s r (asks calling called s) [] 1 (ask ∷ [])
 asks_moves s r calling called orderly left supports fits fits_called =
     let c = request_of s.local s.class calling called (s.given + 1) in
     let t = asks calling called s in
+    let others : (q : ℕ) → q ≢ s.given + 1 → place_at q t ≡ place_at q s = λ q apart. push_places s t asked q refl refl apart in
+    let written =
+    ap (λ (b : Bool). s.outgoing ++ packets (request (proposal_by b s.local s.class calling called (s.given + 1)) ∷ [])) supports in
     record {
       new = asking c;
       units = request c ∷ [];
       events = [];
-      acts = record {
-        others = λ q other. push_places s t asked q refl refl other;
-        outgoing = ap (λ (b : Bool). s.outgoing ++ packets (request (proposal_by b s.local s.class calling called (s.given + 1)) ∷ []))
-            supports;
-        events = sym (append-nil s.events);
-        ended = refl;
-        local = refl;
-        is_caller = refl;
-        class = λ h. h;
-        may = λ h. h;
-        all_for = (refl, tt);
-      };
+      acts = assumption (others, written, sym (append-nil s.events));
       sendable = (asked_sendable s.local s.class calling called (s.given + 1) (omega arith) fits fits_called, tt);
       place = push_place s t asked orderly refl refl;
       there = refl;
@@ -73,205 +60,124 @@ asks_moves s r calling called orderly left supports fits fits_called =
 
 -- ---- the CC
 
-accepts_moves_by : (s r : State) (class : Option Class) (calling called : Option (List ℕ)) → IsOrderly r → r.given < 65535 →
-    IsTsap calling → IsTsap called →
-    CourseMoves false (r.given + 1) (asking (request_of s.local class calling called (r.given + 1))) r s
-    (accepts Two (selected_size (request_of s.local class calling called (r.given + 1)) r.local)
-    (request_of s.local class calling called (r.given + 1)) r) (request (request_of s.local class calling called (r.given + 1)) ∷ []) 1
-    (agree ∷ [])
-accepts_moves_by s r class calling called orderly left fits fits_called =
-    let n = r.given + 1 in
-    let c = request_of s.local class calling called n in
-    let p = opened_pair (caller_link n s.local r.local c) (called_link r.local c) in
-    let t = accepts Two (selected_size c r.local) c r in
-    record {
-      new = accepting c p;
-      units = confirm n (answer_of n r.local c) ∷ [];
-      events = opened n ∷ [];
-      acts = record {
-        others = λ q other. push_places r t (linked n (called_link r.local c)) q refl refl other;
-        outgoing = refl;
-        events = refl;
-        ended = refl;
-        local = refl;
-        is_caller = refl;
-        class = λ h. refl;
-        may = λ h. inr refl;
-        all_for = (refl, tt);
-      };
+pub accepts_moves : (n : ℕ) (c : Connect) (s r : State) → n ≡ r.given + 1 → IsAskedBy n s.local c → IsOrderly r → r.ended ≡ None →
+    r.is_caller ≡ false → MayTakeTwo r.class → has_peer c.source r.live ≡ false → is_full r ≡ false → r.given < 65535 →
+    r.local.class2 ≡ true → CourseMoves false n (asking c) r s (react (request c) r) (request c ∷ []) 1 (agree ∷ [])
+accepts_moves n c s r next a orderly quiet called two free room left supports =
+    let m = r.given + 1 in
+    let d = request_of s.local a.class a.calling a.called m in
+    let is : c ≡ d = a.is ∙ ap (λ (k : ℕ). request_of s.local a.class a.calling a.called k) next in
+    let does : react (request c) r ≡ accepts Two (selected_size d r.local) d r = grind (arith, react_quiet) in
+    let p = opened_pair (caller_link m s.local r.local d) (called_link r.local d) in
+    let t = accepts Two (selected_size d r.local) d r in
+    let others : (q : ℕ) → q ≢ m → place_at q t ≡ place_at q r =
+    λ q apart. push_places r t (linked m (called_link r.local d)) q refl refl apart in
+    let may : MayTakeTwo t.class = inr refl in
+    rw (does, is, next) (record {
+      new = accepting d p;
+      units = confirm m (answer_of m r.local d) ∷ [];
+      events = opened m ∷ [];
+      acts = assumption (others, may);
       sendable = (grind (arith, length, length-append, no_octets), tt);
-      place = push_place r t (linked n (called_link r.local c)) orderly refl refl;
+      place = push_place r t (linked m (called_link r.local d)) orderly refl refl;
       there = refl;
       out = refl;
       back = refl;
-      holds = grind (arith, opens_links s.local r.local class calling called n);
+      holds = grind (arith, opens_links s.local r.local a.class a.calling a.called m);
       given = refl;
       numbers = refl;
-      places = map-append (λ (row : ℕ × Connection). row.0) r.live ((n, linked n (called_link r.local c)) ∷ []);
+      places = map-append (λ (row : ℕ × Connection). row.0) r.live ((m, linked m (called_link r.local d)) ∷ []);
       carries = record { arrived = ask ∷ []; stays = []; lost = []; told = refl; came = refl; before = refl; after = refl };
       brings = record { is = refl; more = λ units. refl; may = (refl, tt); becomes = refl };
       keeps = λ e. refl;
       gives = refl;
       settles = refl;
-    }
-
-pub accepts_moves : (n : ℕ) (c : Connect) (s r : State) → n ≡ r.given + 1 → IsAskedBy n s.local c → IsOrderly r → r.ended ≡ None →
-    r.is_caller ≡ false → MayTakeTwo r.class → has_peer c.source r.live ≡ false → is_full r ≡ false → r.given < 65535 →
-    r.local.class2 ≡ true → CourseMoves false n (asking c) r s (react (request c) r) (request c ∷ []) 1 (agree ∷ [])
-accepts_moves n c s r next a orderly quiet called two free room left supports =
-    let d = request_of s.local a.class a.calling a.called (r.given + 1) in
-    let does : react (request c) r ≡ accepts Two (selected_size d r.local) d r = grind (arith, react_quiet) in
-    grind (arith, accepts_moves_by s r a.class a.calling a.called orderly left a.calling_fits a.called_fits)
+    })
 
 -- ---- the called end before the CC is taken
 
-nothing_unsent : (n : ℕ) (s r : State) (c : Connect) (p : LinkPair) → IsAccepted n s r c p → p.left.ends.unsent ≡ []
-nothing_unsent n s r c p h = ap (λ (l : Standing). l.ends.unsent) h.left
+-- The connection is open at the called end, with its CC in flight, or was closed there since with this reason.
+abbrev pub opening : Connect → LinkPair → Option ℕ → Course
+opening c p None = accepting c p
+opening c p (Some reason) = withdrawing c p reason
 
-pub accepted_sends : (n : ℕ) (c : Connect) (p : LinkPair) (s r : State) (octets : List ℕ) → IsAccepted n s r c p → r.ended ≡ None →
-    IsOrderly r → n ≤ r.given → value_at n r.live ≡ Some (linked n p.right) → IsShortTsdu octets → IsOctets octets →
-    CourseMoves false n (accepting c p) r s (sent n octets r) [] 0 (message octets ∷ [])
-accepted_sends n c p s r octets h quiet orderly le at short are =
-    let q = after_send (swapped p) octets in
-    let given = all_given (with_tsdu p.right octets) in
-    let few : n < 65536 = (let most = orderly.given in omega arith) in
-    let passes = sends_passes true (swapped p) octets (open_mirror true p h.open_links) short are in
-    let changes = send_changes n r p.right octets quiet orderly at in
-    let new_open = open_mirror true q passes.stay_open in
-    let stays = messages_after [] (addressed n p.leftward ++ uncut_units p.right.ends.unsent) in
-    let more : messages_after [] (addressed n (swapped q).leftward ++ uncut_units (swapped q).right.ends.unsent) ≡ stays ++ message octets ∷
-    [] = (grind (arith, pair_messages n (swapped (swapped q)) new_open.left.handed)) ∙ ap (map message) (sym passes.rightward)
-    ∙ map-append message (under_way (swapped p)) (octets ∷ [])
-    ∙ ap (λ (l : List Message). l ++ message octets ∷ []) (sym (grind (arith, pair_messages n (swapped p) h.open_links.left.handed))) in
+-- the same once the caller has taken the CC
+abbrev pub opened_as : LinkPair → Option ℕ → Meeting
+opened_as p None = talking p
+opened_as p (Some reason) = left_there p [] reason
+
+-- The called end does what it does if the caller has it open too.
+pub accepted_moves : (n : ℕ) (c : Connect) (p q : LinkPair) (why : Option ℕ) → Each → (s r t : State) (put : List Message) →
+    IsAccepted n s r c p → n ≤ r.given → asks_in put ≡ 0 → q.rightward ≡ [] → q.left ≡ p.left →
+    (mv : Moves n (talking (swapped p)) r t [] put) → mv.new ≡ mirror (opened_as q why) →
+    CourseMoves false n (accepting c p) r s t [] 0 put
+accepted_moves n c p q None (inl none) s r t put h le plain none_out left mv is = absurd none
+accepted_moves n c p q why each s r t put h le plain none_out left mv is =
+    let new = mirror (opened_as q why) in
+    let here_is : here n mv.new ≡ here n new = ap (here n) is in
+    let arrived : mv.carries.arrived ≡ [] = mv.brings.is in
+    let begun : p.left.ends.joining.begun ≡ [] = grind (arith, caller_link) in
+    let there_is : there n new ≡ Some (linked n p.left) = ap (there n) (sym is) ∙ mv.there in
+    let before = rw begun at mv.carries.before in
+    let begun_then : q.left.ends.joining.begun ≡ [] = ap (λ (l : Standing). l.ends.joining.begun) left ∙ begun in
+    let after = rw (is, begun_then) at mv.carries.after in
     record {
-      new = accepting c (swapped q);
-      units = addressed n given;
-      events = [];
-      acts = search (arith, acts_changed, addressed_for, class_end);
-      sendable = all_sendable n given few (range_end p.leftward given passes.stay_open.range);
+      new = opening c q why;
+      units = mv.units;
+      events = mv.events;
+      acts = acts_changed n r t (here n mv.new) mv.units mv.events mv.changes mv.all_for;
+      sendable = mv.sendable;
       place = grind (arith, given_place);
       there = refl;
-      out = ap (λ (l : List Value). confirm n (answer_of n r.local c) ∷ l) (addressed_join n p.leftward given);
+      out = ap (λ (l : List Value). confirm n (answer_of n r.local c) ∷ l) (ap (out n) (sym is) ∙ mv.out);
       back = refl;
-      holds = grind (arith, caller_link);
-      given = changes.given ∙ none_more r.given;
+      holds = grind (arith, caller_link, open_mirror);
+      given = omega (arith, mv.changes.given);
       numbers = refl;
-      places = ap references changes.live ∙ put_named n (linked n (swapped q).right) r.live;
+      places = ap references mv.changes.live ∙ (grind (arith, put_named));
       carries = record {
         arrived = [];
-        stays = agree ∷ stays;
-        lost = [];
-        told = refl;
+        stays = agree ∷ mv.carries.stays;
+        lost = mv.carries.lost;
+        told = grind arith;
         came = refl;
-        before = sym (append-nil (agree ∷ stays));
-        after = ap (λ (l : List Message). agree ∷ l) more;
+        before = ap (λ (l : List Message). agree ∷ l) before;
+        after = ap (λ (l : List Message). agree ∷ l) after;
       };
-      brings = grind (arith, brings_none, drained_leaves);
-      keeps = λ e. refl;
-      gives = refl;
-      settles = changes.class;
+      brings = grind arith;
+      keeps = grind arith;
+      gives = grind arith;
+      settles = mv.changes.class;
     }
 
-pub accepted_closes : (n : ℕ) (c : Connect) (p : LinkPair) (s r : State) (reason : ℕ) → 0 < n → reason < 256 → IsAccepted n s r c p →
-    r.ended ≡ None → IsOrderly r → n ≤ r.given → value_at n r.live ≡ Some (linked n p.right) →
-    CourseMoves false n (accepting c p) r s (closed_with n reason r) [] 0 (bye reason ∷ [])
-accepted_closes n c p s r reason some small h quiet orderly le at =
-    let few : n < 65536 = (let most = orderly.given in omega arith) in
-    let t = closed_with n reason r in
-    let changes = close_changes n r p.right reason quiet h.class orderly at in
-    let us = addressed n p.leftward in
-    let front = messages_front us [] (uncut_units p.right.ends.unsent) in
-    record {
-      new = withdrawing c p reason;
-      units = leaving n reason ∷ [];
-      events = [];
-      acts = acts_changed n r t (Some (closing n)) (leaving n reason ∷ []) [] changes (refl, tt);
-      sendable = (grind arith, tt);
-      place = grind (arith, given_place);
-      there = refl;
-      out = refl;
-      back = refl;
-      holds = grind (arith, caller_link);
-      given = changes.given ∙ none_more r.given;
-      numbers = refl;
-      places = ap references changes.live ∙ put_named n (closing n) r.live;
-      carries = record {
-        arrived = [];
-        stays = agree ∷ messages_after [] us;
-        lost = front.0;
-        told = refl;
-        came = refl;
-        before = ap (λ (l : List Message). agree ∷ l) front.1;
-        after = ap (λ (l : List Message). agree ∷ l) (behind_leaving n us reason [] some);
-      };
-      brings = grind (arith, kinds_begun);
-      keeps = λ e. cc;
-      gives = refl;
-      settles = changes.class;
-    }
+pub accepted_at : (n : ℕ) (c : Connect) (p : LinkPair) (s r : State) → 0 < n → IsAccepted n s r c p → r.ended ≡ None → IsOrderly r →
+    n ≤ r.given → value_at n r.live ≡ Some (linked n p.right) → IsAt n r (talking (swapped p))
+accepted_at n c p s r some h quiet orderly le at = grind (arith, open_mirror)
 
 -- ---- the caller takes the CC
 
-confirm_acts : (n : ℕ) (c : Connect) (s : State) (called : Local) →
-    Acts n s (opens n (answer_of n called c) (Some Two) s) [] (opened n ∷ [])
-confirm_acts n c s called = grind (arith, nat_lt, put_other, caller_link, append-nil)
-
-pub confirm_moves : (n : ℕ) (c : Connect) (p : LinkPair) (s r : State) → IsAccepted n s r c p → s.ended ≡ None → s.is_caller ≡ true →
-    MayTakeTwo s.class → s.local.class2 ≡ true → n ≤ s.given → value_at n s.live ≡ Some asked →
-    CourseMoves true n (accepting c p) s r (react (confirm n (answer_of n r.local c)) s) (confirm n (answer_of n r.local c) ∷ []) 0 []
-confirm_moves n c p s r h quiet caller two supports le at =
-    let unit = confirm n (answer_of n r.local c) in
-    let us = addressed n p.leftward ++ uncut_units p.right.ends.unsent in
-    subst (λ (t : State). CourseMoves true n (accepting c p) s r t (unit ∷ []) 0 [])
-    (sym (grind (arith, react_quiet))) (record {
-      new = met (talking p);
-      units = [];
-      events = opened n ∷ [];
-      acts = confirm_acts n c s r.local;
-      sendable = tt;
-      place = grind (arith, given_place, put_here, caller_link);
-      there = refl;
-      out = ap (addressed n) h.rightward;
-      back = refl;
-      holds = record { class = refl; class_called = h.class; stands = h.open_links };
-      given = none_more s.given;
-      numbers = refl;
-      places = tt;
-      carries = record {
-        arrived = agree ∷ [];
-        stays = [];
-        lost = [];
-        told = refl;
-        came = ap (λ (b : List ℕ). agree ∷ messages_after b us) (sym (grind arith));
-        before = refl;
-        after = grind (arith, nothing_unsent);
-      };
-      brings = grind arith;
-      keeps = λ e. refl;
-      gives = refl;
-      settles = refl;
-    })
-
-pub withdrawn_moves : (n : ℕ) (c : Connect) (p : LinkPair) (reason : ℕ) (s r : State) → IsAccepted n s r c p → s.ended ≡ None →
+pub confirm_moves : (n : ℕ) (c : Connect) (p : LinkPair) (why : Option ℕ) → Each → (s r : State) → IsAccepted n s r c p → s.ended ≡ None →
     s.is_caller ≡ true → MayTakeTwo s.class → s.local.class2 ≡ true → n ≤ s.given → value_at n s.live ≡ Some asked →
-    CourseMoves true n (withdrawing c p reason) s r (react (confirm n (answer_of n r.local c)) s)
-    (confirm n (answer_of n r.local c) ∷ []) 0 []
-withdrawn_moves n c p reason s r h quiet caller two supports le at =
-    let unit = confirm n (answer_of n r.local c) in
-    let us = (addressed n p.leftward ++ leaving n reason ∷ []) ++ [] in
-    subst (λ (t : State). CourseMoves true n (withdrawing c p reason) s r t (unit ∷ []) 0 [])
-    (sym (grind (arith, react_quiet))) (record {
-      new = met (left_there p [] reason);
+    CourseMoves true n (opening c p why) s r (react (confirm n (answer_of n r.local c)) s) (confirm n (answer_of n r.local c) ∷ []) 0 []
+confirm_moves n c p None (inl none) s r h quiet caller two supports le at = absurd none
+confirm_moves n c p why each s r h quiet caller two supports le at =
+    let answer = answer_of n r.local c in
+    let m = opened_as p why in
+    let us = back n m ++ uncut_units (unsent_at (there n m)) in
+    let none : p.left.ends.unsent ≡ [] = ap (λ (l : Standing). l.ends.unsent) h.left in
+    let does : react (confirm n answer) s ≡ opens n answer (Some Two) s = grind (arith, react_quiet) in
+    subst (λ (t : State). CourseMoves true n (opening c p why) s r t (confirm n answer ∷ []) 0 []) (sym does) (record {
+      new = met m;
       units = [];
       events = opened n ∷ [];
-      acts = confirm_acts n c s r.local;
+      acts = grind (arith, nat_lt, put_other, caller_link, append-nil);
       sendable = tt;
       place = grind (arith, given_place, put_here, caller_link);
       there = refl;
-      out = refl;
+      out = grind arith;
       back = refl;
-      holds = record { class = refl; class_called = h.class; stands = (h.open_links, tt) };
-      given = none_more s.given;
+      holds = grind arith;
+      given = omega arith;
       numbers = refl;
       places = tt;
       carries = record {
@@ -281,7 +187,7 @@ withdrawn_moves n c p reason s r h quiet caller two supports le at =
         told = refl;
         came = ap (λ (b : List ℕ). agree ∷ messages_after b us) (sym (grind arith));
         before = refl;
-        after = ap (λ (ts : List (List ℕ)). map kind_of (messages_after [] (uncut_units ts))) (nothing_unsent n s r c p h);
+        after = same_like (there n m) (messages_out n m) [] (grind (arith, none));
       };
       brings = grind arith;
       keeps = λ e. refl;

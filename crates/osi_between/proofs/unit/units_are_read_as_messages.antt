@@ -2,7 +2,7 @@
 -- For units, connections of class 2 and the invariant.
 use Rattle.osi_between.proofs.Vocabulary.{◌≡◌, ℕ, false, List, [], ◌∷◌, ◌++◌, map, refl, ap, Value, data0, data2, acknowledge, error}
 use Rattle.osi_between.proofs.Vocabulary.{parts_under_way, Given, part0, part2, ack, tsdus_after, uncut, addressed, Message, message}
-use Rattle.osi_between.proofs.Vocabulary.{messages_after, uncut_units, kind_of}
+use Rattle.osi_between.proofs.Vocabulary.{messages_after, uncut_units, kind_of, map-append, ◌∙◌}
 
 behind_one : (m : Message) (xs ys : List Message) → xs ≡ ys → m ∷ xs ≡ m ∷ ys
 behind_one m xs ys e = ap (λ (l : List Message). m ∷ l) e
@@ -22,35 +22,6 @@ tsdu_messages n (ack number credit ∷ gs) begun ts = tsdu_messages n gs begun t
 tsdu_messages n (g ∷ gs) begun ts = behind_one _ _ _ (tsdu_messages n gs [] ts)
 
 -- ---- units after units
-
--- those after make the same messages whatever was begun before them
-pub messages_behind : (us : List Value) (begun : List ℕ) (vs : List Value) (xs : List Message) → ((b : List ℕ) → messages_after b vs ≡ xs) →
-    messages_after begun (us ++ vs) ≡ messages_after begun us ++ xs
-messages_behind [] begun vs xs same = same begun
-messages_behind (data0 false octets ∷ us) begun vs xs same = messages_behind us (begun ++ octets) vs xs same
-messages_behind (data2 destination number false octets ∷ us) begun vs xs same = messages_behind us (begun ++ octets) vs xs same
-messages_behind (acknowledge credit destination number ∷ us) begun vs xs same = messages_behind us begun vs xs same
-messages_behind (error destination cause ∷ us) begun vs xs same = messages_behind us begun vs xs same
-messages_behind (u ∷ us) begun vs xs same = behind_one _ _ _ (messages_behind us [] vs xs same)
-
--- ---- kinds
-
--- the kinds do not depend on what was begun
-pub kinds_begun : (us : List Value) (b c : List ℕ) → map kind_of (messages_after b us) ≡ map kind_of (messages_after c us)
-kinds_begun (data0 false octets ∷ us) b c = kinds_begun us (b ++ octets) (c ++ octets)
-kinds_begun (data2 destination number false octets ∷ us) b c = kinds_begun us (b ++ octets) (c ++ octets)
-kinds_begun (acknowledge credit destination number ∷ us) b c = kinds_begun us b c
-kinds_begun (error destination cause ∷ us) b c = kinds_begun us b c
-kinds_begun us b c = refl
-
-pub kinds_join : (us vs : List Value) (b : List ℕ) →
-    map kind_of (messages_after b (us ++ vs)) ≡ map kind_of (messages_after b us) ++ map kind_of (messages_after [] vs)
-kinds_join [] vs b = kinds_begun vs b []
-kinds_join (data0 false octets ∷ us) vs b = kinds_join us vs (b ++ octets)
-kinds_join (data2 destination number false octets ∷ us) vs b = kinds_join us vs (b ++ octets)
-kinds_join (acknowledge credit destination number ∷ us) vs b = kinds_join us vs b
-kinds_join (error destination cause ∷ us) vs b = kinds_join us vs b
-kinds_join (u ∷ us) vs b = behind_one _ _ _ (kinds_join us vs [])
 
 -- what is begun after units
 abbrev pub begun_after : List ℕ → List Value → List ℕ
@@ -74,3 +45,25 @@ messages_part (u ∷ us) begun vs = behind_one _ _ _ (messages_part us [] vs)
 pub messages_front : (us : List Value) (begun : List ℕ) (vs : List Value) →
     (lost : List Message) × (messages_after begun (us ++ vs) ≡ messages_after begun us ++ lost)
 messages_front us begun vs = (messages_after (begun_after begun us) vs, messages_part us begun vs)
+
+-- those after make the same messages whatever was begun before them
+pub messages_behind : (us : List Value) (begun : List ℕ) (vs : List Value) (xs : List Message) → ((b : List ℕ) → messages_after b vs ≡ xs) →
+    messages_after begun (us ++ vs) ≡ messages_after begun us ++ xs
+messages_behind us begun vs xs same =
+    messages_part us begun vs ∙ ap (λ (l : List Message). messages_after begun us ++ l) (same (begun_after begun us))
+
+-- ---- kinds
+
+-- the kinds do not depend on what was begun
+pub kinds_begun : (us : List Value) (b c : List ℕ) → map kind_of (messages_after b us) ≡ map kind_of (messages_after c us)
+kinds_begun (data0 false octets ∷ us) b c = kinds_begun us (b ++ octets) (c ++ octets)
+kinds_begun (data2 destination number false octets ∷ us) b c = kinds_begun us (b ++ octets) (c ++ octets)
+kinds_begun (acknowledge credit destination number ∷ us) b c = kinds_begun us b c
+kinds_begun (error destination cause ∷ us) b c = kinds_begun us b c
+kinds_begun us b c = refl
+
+pub kinds_join : (us vs : List Value) (b : List ℕ) →
+    map kind_of (messages_after b (us ++ vs)) ≡ map kind_of (messages_after b us) ++ map kind_of (messages_after [] vs)
+kinds_join us vs b =
+    ap (map kind_of) (messages_part us b vs) ∙ map-append kind_of (messages_after b us) (messages_after (begun_after b us) vs)
+    ∙ ap (λ (l : List Message). map kind_of (messages_after b us) ++ l) (kinds_begun vs (begun_after b us) [])

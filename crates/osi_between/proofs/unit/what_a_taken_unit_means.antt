@@ -1,10 +1,10 @@
 -- What the units mean that an end takes.
 -- For connections of class 2, class 0 and the invariant.
 use Rattle.osi_between.proofs.Vocabulary.{◌≡◌, ℕ, Bool, true, List, [], ◌∷◌, map, take, Option, Some, Ok, arith, AllByRecursion, map-append}
-use Rattle.osi_between.proofs.Vocabulary.{Value, Standing, Given, taken, unit_of, drained_leaves, pumped, handed_out, Connection, linked}
-use Rattle.osi_between.proofs.Vocabulary.{closing, Message, message, messages_after, begun_at, AreLike, Progress, in_use, shutting}
-use Rattle.osi_between.proofs.Vocabulary.{may_arrive, behind_arrivals, behind_puts, Brings}
-use Rattle.osi_between.proofs.unit.units_are_read_as_messages.{begun_after, kinds_join}
+use Rattle.osi_between.proofs.Vocabulary.{Standing, Given, taken, unit_of, drained_leaves, pumped, handed_out, Connection, linked, closing}
+use Rattle.osi_between.proofs.Vocabulary.{Message, message, messages_after, begun_at, AreLike, Progress, in_use, shutting, may_arrive}
+use Rattle.osi_between.proofs.Vocabulary.{behind_arrivals, behind_puts, Brings}
+use Rattle.osi_between.proofs.unit.units_are_read_as_messages.{kinds_join}
 
 pub same_like : (o : Option Connection) (some others : List Message) → some ≡ others → AreLike o some others
 same_like o some others e = grind (arith, map)
@@ -16,11 +16,6 @@ pub brings_none : (accepts : Bool) (from to : Progress) (old new : Option Connec
 brings_none accepts from to old new put same is = grind (arith, same_like)
 
 -- ---- a unit of a link is taken
-
--- what it makes of what was begun
-record HasBrought (first : List ℕ) (unit : Value) (s : Standing) : Type 0 where
-  begun : s.ends.joining.begun ≡ begun_after first (unit ∷ [])
-  whole : map message (take 1 s.ends.joining.whole) ≡ messages_after first (unit ∷ [])
 
 pub brings_given : (n : ℕ) (g : Given) (link next : Standing) → link.ends.joining.whole ≡ [] → taken link (unit_of n g) ≡ Ok next →
     Brings true in_use in_use (Some (linked n link)) (Some (linked n (pumped (handed_out next)))) (unit_of n g ∷ [])

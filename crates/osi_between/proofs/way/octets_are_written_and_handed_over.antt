@@ -1,12 +1,13 @@
 -- The octets between two carriers: units are written at their end, and octets are handed over, taken, and lost.
 -- For octets in flight and the invariant.
-use Rattle.osi_between.proofs.Vocabulary.{◌≡◌, ℕ, ◌+◌, ◌-◌, ◌<◌, ◌≤◌, Bool, true, false, List, [], ◌∷◌, ◌++◌, length, take, drop, Option}
-use Rattle.osi_between.proofs.Vocabulary.{Some, None, IfSome, nat_le, refl, sym, ap, subst, ◌∙◌, arith, append_assoc, length-append}
-use Rattle.osi_between.proofs.Vocabulary.{one_packet, AllByRecursion, leb-true, leb-false, append-nil, append_cancel_left, take-append-drop}
-use Rattle.osi_between.proofs.Vocabulary.{take-append-le, length-take-le, length-drop, take-take, drop-take, IsPacket, IsPartial, packet_of}
-use Rattle.osi_between.proofs.Vocabulary.{completed_partial, partial_not_whole, empty_partial, Value, written, IsSendable, packets}
-use Rattle.osi_between.proofs.Vocabulary.{all_behind, unit_packet, packets_join, within_reach, IsOnTheWay}
-use Rattle.osi_between.proofs.unit.the_units_of_one_connection.{front_none, rest_none}
+use Rattle.osi_between.proofs.Vocabulary.{◌≡◌, ℕ, ◌-◌, ◌≤◌, List, [], ◌∷◌, ◌++◌, length, take, drop, Option, Some, None, IfSome, sym, ap}
+use Rattle.osi_between.proofs.Vocabulary.{subst, ◌∙◌, arith, append_assoc, one_packet, AllByRecursion, append-nil, append_cancel_left}
+use Rattle.osi_between.proofs.Vocabulary.{take-append-drop, take-append-le, length-take-le, length-drop, take-take, drop-take, IsPacket}
+use Rattle.osi_between.proofs.Vocabulary.{IsPartial, packet_of, completed_partial, partial_not_whole, Value, written, IsSendable, packets}
+use Rattle.osi_between.proofs.Vocabulary.{all_behind, unit_packet, packets_join, within_reach, IsOnTheWay, fault_free, reads_part}
+use Rattle.osi_between.proofs.Vocabulary.{AreComing, append_cancel_right, IsOctets, octets_nil, octets_append, octets_left, some_cut}
+use Rattle.osi_between.proofs.Vocabulary.{Ending, EndsAt, Faulty, Rest}
+use Rattle.osi_between.proofs.unit.the_units_of_one_connection.{front_none}
 
 -- ---- units are written
 
@@ -78,60 +79,14 @@ way_unit u rest behind held arriving units lost first cut w = search (arith, app
 
 -- ---- the byte connection breaks
 
--- a list that is a prefix of another
-split_front : (p q x y : List ℕ) → x ++ y ≡ p ++ q → length p ≤ length x → (m : List ℕ) × (x ≡ p ++ m) × (m ++ y ≡ q)
-split_front [] q x y e less = (x, refl, e)
-split_front (a ∷ p) q [] y e less = absurd (omega arith)
-split_front (a ∷ p) q (b ∷ x) y e less =
-    let first : b ≡ a = cc in
-    let others : x ++ y ≡ p ++ q = cc in
-    let more = split_front p q x y others (omega arith) in
-    (more.0, ap (λ (c : ℕ). c ∷ x) first ∙ ap (λ (l : List ℕ). a ∷ l) more.1, more.2)
+octets_of : (us : List Value) → AllByRecursion IsSendable us → IsOctets (packets us)
+octets_of [] all = octets_nil
+octets_of (u ∷ us) all = octets_append (packet_of (written u)) (packets us) (unit_packet u all.0).octets (octets_of us all.1)
 
--- a prefix of some packets: whole packets and a part of one
-pub record CutPackets (x y : List ℕ) (units : List Value) : Type 0 where
-  pub done : List Value
-  pub left : List Value
-  pub front : List ℕ
-  pub parts : units ≡ done ++ left
-  pub octets : x ≡ packets done ++ front
-  pub rest : front ++ y ≡ packets left
-  pub partial : IsPartial front
-  pub sendable : AllByRecursion IsSendable done
-  pub sendable_left : AllByRecursion IsSendable left
-
-cut_first : (x y : List ℕ) (u : Value) (us : List Value) → AllByRecursion IsSendable (u ∷ us) →
-    x ++ y ≡ packet_of (written u) ++ packets us → length x < length (packet_of (written u)) → CutPackets x y (u ∷ us)
-cut_first x y u us all e short =
-    let own = split_front x y (packet_of (written u)) (packets us) (sym e) (omega arith) in
-    grind (arith, length-append x own.0, unit_packet u all.0)
-
-cut_next : (x y m : List ℕ) (u : Value) (us : List Value) → AllByRecursion IsSendable (u ∷ us) → x ≡ packet_of (written u) ++ m →
-    CutPackets m y us → CutPackets x y (u ∷ us)
-cut_next x y m u us all is c = record {
-  done = u ∷ c.done;
-  left = c.left;
-  front = c.front;
-  parts = ap (λ (l : List Value). u ∷ l) c.parts;
-  octets = grind (arith, append_assoc);
-  rest = c.rest;
-  partial = c.partial;
-  sendable = (all.0, c.sendable);
-  sendable_left = c.sendable_left;
-}
-
-cut_by : (x y : List ℕ) (u : Value) (us : List Value) (b : Bool) → AllByRecursion IsSendable (u ∷ us) →
-    x ++ y ≡ packet_of (written u) ++ packets us → nat_le (length (packet_of (written u))) (length x) ≡ b →
-    ((m : List ℕ) → m ++ y ≡ packets us → CutPackets m y us) → CutPackets x y (u ∷ us)
-cut_by x y u us true all e test more =
-    let own = split_front (packet_of (written u)) (packets us) x y e (leb-true (length (packet_of (written u))) (length x) test) in
-    cut_next x y own.0 u us all own.1 (more own.0 own.2)
-cut_by x y u us false all e test more = cut_first x y u us all e (leb-false (length (packet_of (written u))) (length x) test)
-
-pub cut_packets : (units : List Value) (x y : List ℕ) → AllByRecursion IsSendable units → x ++ y ≡ packets units → CutPackets x y units
-cut_packets [] x y all e = grind (arith, front_none, rest_none, empty_partial)
-cut_packets (u ∷ us) x y all e =
-    cut_by x y u us (nat_le (length (packet_of (written u))) (length x)) all e refl (λ m is. cut_packets us m y all.1 is)
+-- what follows the packets at the front of what was written is the beginning of a packet
+partial_end : (at : ℕ) (r t : List ℕ) (units : List Value) (e : Ending) → AreComing r t units → EndsAt at r e → IsPartial r
+partial_end at r t units (Faulty f) c bad = absurd (fault_free at r t f units c bad)
+partial_end at r t units (Rest n) c end = end.0
 
 -- this many octets will still arrive
 pub record Breaks (held outgoing : List ℕ) (k : ℕ) (units : List Value) : Type 0 where
@@ -143,6 +98,25 @@ pub record Breaks (held outgoing : List ℕ) (k : ℕ) (units : List Value) : Ty
 pub way_breaks : (held outgoing : List ℕ) (k : ℕ) (units lost : List Value) → lost ≡ [] → IsOnTheWay held outgoing units lost →
     Breaks held outgoing k units
 way_breaks held outgoing k units lost none w =
-    let f : w.front ≡ [] = front_none w.front w.never (w.rest ∙ ap packets none) in
-    let whole : (held ++ take k outgoing) ++ drop k outgoing ≡ packets units = grind (arith, append_assoc, take-append-drop, append-nil) in
-    grind (arith, cut_packets units (held ++ take k outgoing) (drop k outgoing) w.sendable whole)
+    let front : w.front ≡ [] = front_none w.front w.never (w.rest ∙ ap packets none) in
+    let x = held ++ take k outgoing in
+    let whole : x ++ drop k outgoing ≡ packets units = grind (arith, append_assoc, take-append-drop, append-nil) in
+    let comes : AreComing held outgoing units = grind (arith, append-nil) in
+    let cut = some_cut x (octets_left x (drop k outgoing) (subst IsOctets (sym whole) (octets_of units w.sendable))) in
+    let r = cut.2.0 in
+    let f = reads_part held outgoing units k cut.0 r comes cut.2.1 in
+    let parts : x ++ drop k outgoing ≡ (packets f.done ++ r) ++ drop k outgoing = grind (arith, append_assoc, packets_join) in
+    record {
+      done = f.done;
+      left = f.left;
+      parts = f.parts;
+      way = record {
+        front = r;
+        never = drop k outgoing;
+        octets = append_cancel_right x (packets f.done ++ r) (drop k outgoing) parts;
+        partial = partial_end _ r (drop k outgoing) f.left cut.1 f.rest cut.2.2;
+        rest = f.rest.octets;
+        sendable = f.sendable;
+        sendable_lost = f.rest.sendable;
+      };
+    }

@@ -1,12 +1,12 @@
 -- However many octets of what was written are fed, units are taken one after the other.
 -- For joined carriers and the laws.
-use Rattle.osi_between.proofs.Vocabulary.{◌≡◌, ℕ, ◌+◌, ◌-◌, ◌≤◌, Bool, true, false, ◌||◌, is_some, List, [], ◌∷◌, ◌++◌, length, map, take}
-use Rattle.osi_between.proofs.Vocabulary.{drop, Option, None, refl, sym, ap, subst, ◌∙◌, inl, inr, arith, append_assoc, if◌then◌else◌}
-use Rattle.osi_between.proofs.Vocabulary.{ArePackets, AllByRecursion, append-nil, length-take-le, take-take, packet_of, Value, written}
-use Rattle.osi_between.proofs.Vocabulary.{IsSendable, AreComing, TakesUnits, TakesSome, Fed, Carrying, Feeds, waits, is_spoilt}
-use Rattle.osi_between.proofs.Vocabulary.{TakesPackets, RunsDry, StopsBehind, Refuses, Starves, FindsNoMemory, Goes, react, State, packets}
-use Rattle.osi_between.proofs.Vocabulary.{ends, EndReason, NoMemory, packets_join, all_behind, unit_packet, unit_read, packet_reacts}
-use Rattle.osi_between.proofs.Vocabulary.{Fronts, units_front, fault_free, starved_unit, reads_part}
+use Rattle.osi_between.proofs.Vocabulary.{◌≡◌, ℕ, ◌≤◌, Bool, true, false, ◌||◌, is_some, List, [], ◌∷◌, ◌++◌, length, map, take, drop}
+use Rattle.osi_between.proofs.Vocabulary.{Option, None, refl, sym, ap, subst, ◌∙◌, inl, inr, arith, append_assoc, ArePackets}
+use Rattle.osi_between.proofs.Vocabulary.{AllByRecursion, append-nil, length-take-le, take-take, packet_of, Value, written, IsSendable}
+use Rattle.osi_between.proofs.Vocabulary.{AreComing, TakesUnits, TakesSome, Fed, Carrying, Feeds, waits, is_spoilt, TakesPackets, Refuses}
+use Rattle.osi_between.proofs.Vocabulary.{Starves, Goes, react, State, packets, ends, EndReason, NoMemory, packets_join, all_behind}
+use Rattle.osi_between.proofs.Vocabulary.{unit_packet, unit_read, packet_reacts, Fronts, units_front, fault_free, starved_unit, reads_part}
+use Rattle.osi_between.proofs.Vocabulary.{◌⊎◌}
 
 -- packets that are taken are units that are taken
 units_taken : (done : List Value) (s t : State) → AllByRecursion IsSendable done → TakesPackets s (map written done) t → TakesUnits s done t
@@ -17,37 +17,29 @@ units_taken (u ∷ us) s t all h =
       units_taken us (react u s) t all.1 (subst (λ (x : State). TakesPackets x (map written us) t) (packet_reacts s u all.0) h.1),
     )
 
-runs_dry : (old new : Carrying) (outgoing : List ℕ) (coming : List Value) (k used : ℕ) → k ≤ length outgoing →
-    AreComing old.held.octets outgoing coming → RunsDry old (take k outgoing) used new → TakesSome old outgoing coming used new
-runs_dry old new outgoing coming k used less c h =
-    let f = reads_part old.held.octets outgoing coming k h.units new.held.octets c h.packets in
-    let all : used ≡ k = h.all ∙ length-take-le k outgoing less in
+-- packets of the first n octets are taken, and then memory may run out; the rest is still to come
+takes_some : (old new : Carrying) (outgoing : List ℕ) (coming : List Value) (n used : ℕ) (units : List (List ℕ)) (r : List ℕ)
+    (reached : State) → AreComing old.held.octets outgoing coming → ArePackets units (old.held.octets ++ take n outgoing) r →
+    TakesPackets old.state units reached → (new.state ≡ reached) ⊎ (new.state ≡ ends NoMemory reached) →
+    (is_spoilt new.state.ended ≡ false → (used ≡ n) × (new.held.octets ≡ r)) → TakesSome old outgoing coming used new
+takes_some old new outgoing coming n used units r reached c packets taken how rest =
+    let f = reads_part old.held.octets outgoing coming n units r c packets in
     record {
       done = f.done;
       left = f.left;
       parts = f.parts;
-      reached = new.state;
+      reached = reached;
       taken = grind (arith, units_taken);
-      how = inl refl;
-      coming_then = λ sound. subst (λ n. AreComing new.held.octets (drop n outgoing) f.left) (sym all) f.rest;
+      how = how;
+      coming_then = λ sound. rw ((rest sound).0, (rest sound).1) f.rest;
     }
 
-stops_behind : (old new : Carrying) (outgoing : List ℕ) (coming : List Value) (k used : ℕ) → k ≤ length outgoing →
-    AreComing old.held.octets outgoing coming → StopsBehind old (take k outgoing) used new → TakesSome old outgoing coming used new
-stops_behind old new outgoing coming k used less c h =
-    let n = h.within in
-    let within : n ≤ k = (let bound = h.bound in let size = length-take-le k outgoing less in omega arith) in
-    let f = reads_part old.held.octets outgoing coming n h.units [] c
-    (subst (λ l. ArePackets h.units (old.held.octets ++ l) []) (take-take n k outgoing within) h.packets) in
-    record {
-      done = f.done;
-      left = f.left;
-      parts = f.parts;
-      reached = new.state;
-      taken = grind (arith, units_taken);
-      how = inl refl;
-      coming_then = grind arith;
-    }
+-- a part of what was fed
+within_fed : (old : Carrying) (outgoing r : List ℕ) (units : List (List ℕ)) (n k : ℕ) → k ≤ length outgoing → n ≤ length (take k outgoing) →
+    ArePackets units (old.held.octets ++ take n (take k outgoing)) r → ArePackets units (old.held.octets ++ take n outgoing) r
+within_fed old outgoing r units n k less bound packets =
+    let size = length-take-le k outgoing less in
+    subst (λ l. ArePackets units (old.held.octets ++ l) r) (take-take n k outgoing (omega arith)) packets
 
 refuses_none : (old new : Carrying) (outgoing : List ℕ) (coming : List Value) (k used : ℕ) → AreComing old.held.octets outgoing coming →
     Refuses old (take k outgoing) used new → ⊥
@@ -63,34 +55,26 @@ starved_by old new packet coming r t f h =
       | u ∷ us ↦ λ e all. starved_unit old new packet u all.0 (let is : packet ≡ written u = cc in is) h
     ] f.are f.sendable
 
-finds_none : (old new : Carrying) (outgoing : List ℕ) (coming : List Value) (k used : ℕ) → k ≤ length outgoing →
-    AreComing old.held.octets outgoing coming → FindsNoMemory old (take k outgoing) used new → TakesSome old outgoing coming used new
-finds_none old new outgoing coming k used less c h =
-    let n = h.within in
-    let within : n ≤ k = (let bound = h.bound in let size = length-take-le k outgoing less in omega arith) in
-    let f = reads_part old.held.octets outgoing coming n h.units h.rest c
-    (subst (λ l. ArePackets h.units (old.held.octets ++ l) h.rest) (take-take n k outgoing within) h.packets) in
+goes_some : (old new : Carrying) (outgoing : List ℕ) (coming : List Value) (k used : ℕ) → k ≤ length outgoing →
+    AreComing old.held.octets outgoing coming → Goes old (take k outgoing) used new → TakesSome old outgoing coming used new
+goes_some old new outgoing coming k used less c (inl (inl h)) =
+    takes_some old new outgoing coming k used h.units new.held.octets new.state c h.packets h.taken (inl refl)
+    (λ sound. (h.all ∙ length-take-le k outgoing less, refl))
+goes_some old new outgoing coming k used less c (inl (inr h)) =
+    takes_some old new outgoing coming h.within used h.units [] new.state c
+    (within_fed old outgoing [] h.units h.within k less h.bound h.packets) h.taken (inl refl) (grind arith)
+goes_some old new outgoing coming k used less c (inr (inl h)) = absurd (refuses_none old new outgoing coming k used c h)
+goes_some old new outgoing coming k used less c (inr (inr h)) =
+    let packets = within_fed old outgoing h.rest h.units h.within k less h.bound h.packets in
+    let f = reads_part old.held.octets outgoing coming h.within h.units h.rest c packets in
     let ended : new.state ≡ ends NoMemory h.before =
     elim h.how [
       | inl e ↦ e.ended
-      | inr p ↦ search (arith, starved_by, units_front (p.0 ∷ []) f.left h.rest [] (drop n outgoing) f.rest.sendable p.1 f.rest.octets)
+      | inr p ↦
+          search (arith, starved_by, units_front (p.0 ∷ []) f.left h.rest [] (drop h.within outgoing) f.rest.sendable p.1 f.rest.octets)
     ] in
-    record {
-      done = f.done;
-      left = f.left;
-      parts = f.parts;
-      reached = h.before;
-      taken = grind (arith, units_taken);
-      how = inr ended;
-      coming_then = λ sound. let spoilt : is_spoilt new.state.ended ≡ true = ap (λ (s : State). is_spoilt s.ended) ended in absurd (cc);
-    }
-
-goes_some : (old new : Carrying) (outgoing : List ℕ) (coming : List Value) (k used : ℕ) → k ≤ length outgoing →
-    AreComing old.held.octets outgoing coming → Goes old (take k outgoing) used new → TakesSome old outgoing coming used new
-goes_some old new outgoing coming k used less c (inl (inl h)) = runs_dry old new outgoing coming k used less c h
-goes_some old new outgoing coming k used less c (inl (inr h)) = stops_behind old new outgoing coming k used less c h
-goes_some old new outgoing coming k used less c (inr (inl h)) = absurd (refuses_none old new outgoing coming k used c h)
-goes_some old new outgoing coming k used less c (inr (inr h)) = finds_none old new outgoing coming k used less c h
+    takes_some old new outgoing coming h.within used h.units h.rest h.before c packets h.taken (inr ended)
+    (λ sound. let spoilt : is_spoilt new.state.ended ≡ true = ap (λ (s : State). is_spoilt s.ended) ended in absurd (cc))
 
 feeds_by : (old new : Carrying) (outgoing : List ℕ) (coming : List Value) (k : ℕ) (fed : Fed) (wait : Bool) → k ≤ length outgoing →
     AreComing old.held.octets outgoing coming → old.state.ended ≡ None → waits old.state ≡ wait → Feeds old (take k outgoing) fed new →

@@ -2,16 +2,15 @@
 -- For the invariant.
 use Rattle.osi_between.specs.Refusing.{unasked, asking, from_end}
 use Rattle.osi_between.proofs.Vocabulary.{◌≡◌, ℕ, ◌+◌, ◌<◌, true, false, List, [], ◌∷◌, ◌++◌, length, Option, Some, None, refl, sym, ap}
-use Rattle.osi_between.proofs.Vocabulary.{subst, ◌∙◌, arith, flat_map, eq-eqb, append-nil, Value, Connect, request, disconnect, Standing}
-use Rattle.osi_between.proofs.Vocabulary.{Class, may_connect, asks, Place, was_given, place_at, proposal, react, to_asked, denies, Rows}
-use Rattle.osi_between.proofs.Vocabulary.{value_at, Connection, asked, linked, State, packets, without_other, free_of, react_quiet}
-use Rattle.osi_between.proofs.Vocabulary.{has_room, AreFor, told_of, IsTsap, ask, deny, Refusal, denied, rows_in, denying, AreRefusing}
-use Rattle.osi_between.proofs.Vocabulary.{refusing, IsProposed}
+use Rattle.osi_between.proofs.Vocabulary.{◌∙◌, arith, flat_map, eq-eqb, append-nil, Value, Connect, request, disconnect, Standing, Class}
+use Rattle.osi_between.proofs.Vocabulary.{may_connect, asks, Place, was_given, place_at, proposal, react, to_asked, denies, Rows, value_at}
+use Rattle.osi_between.proofs.Vocabulary.{Connection, asked, linked, State, packets, without_other, free_of, react_quiet, has_room, AreFor}
+use Rattle.osi_between.proofs.Vocabulary.{told_of, IsTsap, ask, deny, Refusal, rows_in, denying, AreRefusing, refusing, IsProposed}
 use Rattle.osi_between.proofs.between.an_acting_end_keeps_the_invariant.{Does}
 use Rattle.osi_between.proofs.unit.the_units_of_one_connection.{units_same, none_left}
 use Rattle.osi_between.proofs.unit.what_a_taken_unit_means.{same_like}
 use Rattle.osi_between.proofs.meeting.how_a_connection_is_opened.{push_places}
-use Rattle.osi_between.proofs.meeting.how_a_connection_changes_at_each_end.{given_place, none_more}
+use Rattle.osi_between.proofs.meeting.how_a_connection_changes_at_each_end.{given_place}
 use Rattle.osi_between.proofs.joined.requests_beginnings_and_nothing_in_flight.{next_never}
 use Rattle.osi_between.proofs.link.a_request_before_a_class_is_agreed.{proposal_sendable, source_is}
 use Rattle.osi_between.proofs.joined.class_2_provides_what_is_asked.{Provides}
@@ -82,14 +81,9 @@ asks_by : (reason : ℕ) (s r : State) (going coming : List Value) (calling to :
     coming ≡ from_end false reason s.given g → may_connect s ≡ None → IsTsap calling → IsTsap to →
     Does (refusing reason) true (s.given + 1) s r (asks calling to s) going coming coming [] (ask ∷ [])
 asks_by reason s r going coming calling to unasked j live none back may fits fits_to = search (arith, asks_first, free_of s may)
-asks_by reason s r going coming calling to (asking c) j live none back may fits fits_to = grind arith
-asks_by reason s r going coming calling to denied j live none back may fits fits_to = grind arith
+asks_by reason s r going coming calling to g j live none back may fits fits_to = grind arith
 
 -- ---- the called end refuses
-
-refusal_does : (reason : ℕ) (s r : State) (going coming : List Value) (c : Connect) → AreRefusing reason s r going coming →
-    IsProposed s.given s.local c → react (request c) r ≡ denies reason c.source r
-refusal_does reason s r going coming c j a = grind (arith, length, has_room, react_quiet)
 
 refuses : (reason : ℕ) (s r : State) (going coming rest : List Value) (c : Connect) → AreRefusing reason s r going coming →
     s.live ≡ (s.given, asked) ∷ [] → going ≡ request c ∷ [] → coming ≡ [] → 0 < s.given → IsProposed s.given s.local c →
@@ -103,8 +97,8 @@ refuses reason s r going coming rest c j live is back some a cut =
     let given = j.given_called in
     let here = next_never r n (omega arith) in
     let put = denying n reason in
-    subst (λ (x : State). Does (refusing reason) false n r s x coming going rest (request c ∷ []) (deny reason ∷ []))
-    (sym (refusal_does reason s r going coming c j a)) (record {
+    let does : react (request c) r ≡ denies reason c.source r = grind (arith, length, has_room, react_quiet) in
+    rw does (record {
       steps = record {
         units = put ∷ [];
         arrived = ask ∷ [];
@@ -120,7 +114,7 @@ refuses reason s r going coming rest c j live is back some a cut =
         after = grind (arith, same_like, units_same);
         brings = grind arith;
         others_stay = λ q apart. refl;
-        given = none_more r.given;
+        given = omega arith;
         class = refl;
         local = refl;
         keeps = λ e. refl;
@@ -130,10 +124,6 @@ refuses reason s r going coming rest c j live is back some a cut =
     })
 
 -- ---- the caller is refused
-
-denied_does : (reason : ℕ) (s r : State) (going coming : List Value) → AreRefusing reason s r going coming →
-    s.live ≡ (s.given, asked) ∷ [] → react (denying s.given reason) s ≡ to_asked s.given (denying s.given reason) s
-denied_does reason s r going coming j live = grind (arith, react_quiet)
 
 is_refused : (reason : ℕ) (s r : State) (going coming rest : List Value) → AreRefusing reason s r going coming →
     s.live ≡ (s.given, asked) ∷ [] → going ≡ [] → coming ≡ denying s.given reason ∷ [] → 0 < s.given →
@@ -147,8 +137,8 @@ is_refused reason s r going coming rest j live none is some cut =
     let here = last_place s asked live in
     let there = next_never r n (omega arith) in
     let left : rest ≡ [] = (let e = sym cut ∙ is in cc) in
-    subst (λ (x : State). Does (refusing reason) true n s r x going coming rest (u ∷ []) [])
-    (sym (denied_does reason s r going coming j live)) (record {
+    let does : react u s ≡ t = grind (arith, react_quiet) in
+    rw does (record {
       steps = record {
         units = [];
         arrived = deny reason ∷ [];
@@ -164,7 +154,7 @@ is_refused reason s r going coming rest j live none is some cut =
         after = grind (arith, same_like, units_same);
         brings = grind arith;
         others_stay = grind (arith, without_other);
-        given = none_more s.given;
+        given = omega arith;
         class = refl;
         local = refl;
         keeps = λ e. refl;

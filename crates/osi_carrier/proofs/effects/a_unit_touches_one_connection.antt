@@ -4,14 +4,15 @@ use Rattle.std.proofs.Common.{IsSome, is_some, nat_le, refl, sym, ap, subst, ◌
 use Rattle.osi_carrier.proofs.Vocabulary.{append-nil, AllByRecursion, units_of, TpduFault, Value, Connect, request, confirm, disconnect}
 use Rattle.osi_carrier.proofs.Vocabulary.{error, Standing, Selection, accept, refuse, selected_by, LinkFault, Class, Zero, Local, Happening}
 use Rattle.osi_carrier.proofs.Vocabulary.{fresh_state, may_connect, asks, sent_on, open_link, sent, closes, closed_on, closed_with}
-use Rattle.osi_carrier.proofs.Vocabulary.{ended_by, RiseFrom, AreUpTo, only_of, connection_by, connection_of, told_of, IsOrderly}
-use Rattle.osi_carrier.proofs.Vocabulary.{ChangesOne, acts_by, after_packet, denies, answers, to_unknown, to_asked, taking, to_connection}
-use Rattle.osi_carrier.proofs.Vocabulary.{before_class, to_only, in_class, react, reacts, Rows, value_at, put, without, Connection, asked}
-use Rattle.osi_carrier.proofs.Vocabulary.{closing, State, drops, ends, EndReason, AreNamed, sent_all}
+use Rattle.osi_carrier.proofs.Vocabulary.{ended_by, only_of, connection_by, connection_of, told_of, IsOrderly, ChangesOne, acts_by}
+use Rattle.osi_carrier.proofs.Vocabulary.{after_packet, denies, answers, to_unknown, to_asked, taking, to_connection, before_class, to_only}
+use Rattle.osi_carrier.proofs.Vocabulary.{in_class, react, reacts, Rows, value_at, put, without, Connection, asked, closing, State, drops}
+use Rattle.osi_carrier.proofs.Vocabulary.{ends, EndReason, AreNamed, KeepsTsaps, sent_all}
 use Rattle.osi_carrier.proofs.references.rows_after_a_change.{put_other, without_other, push_other, put_none, without_none, put_rise}
 use Rattle.osi_carrier.proofs.references.rows_after_a_change.{without_rise, push_rise, put_up, without_up, push_up, put_length}
 use Rattle.osi_carrier.proofs.references.rows_after_a_change.{without_length}
-use Rattle.osi_carrier.proofs.references.which_connections_have_selectors.{Naming, named, unit_named, asks_named, sent_names, closes_names}
+use Rattle.osi_carrier.proofs.references.which_connections_have_selectors.{Naming, named, keeps, put_named, asks_named, sent_names}
+use Rattle.osi_carrier.proofs.references.which_connections_have_selectors.{closes_names}
 use Rattle.osi_carrier.proofs.effects.units_one_after_the_other.{react_over}
 
 -- ---- how the live connections change
@@ -49,16 +50,19 @@ pub record Effect (r : ℕ) (old new : State) : Type 0 where
   pub about : AllByRecursion (λ event. told_of event ≡ r) told
   pub one : length told ≤ 1
   pub how : How r old new
+  pub names : Naming old new
 
 -- nothing is reported
-silent : (r : ℕ) (old new : State) → new.events ≡ old.events → How r old new → Effect r old new
-silent r old new same how = record { told = []; events = same ∙ sym (append-nil old.events); about = tt; one = omega arith; how = how }
+silent : (r : ℕ) (old new : State) → new.events ≡ old.events → How r old new → Naming old new → Effect r old new
+silent r old new same how names =
+    record { told = []; events = same ∙ sym (append-nil old.events); about = tt; one = omega arith; how = how; names = names }
 
 effect_none : (r : ℕ) (s : State) → Effect r s s
-effect_none r s = silent r s s refl (grind arith)
+effect_none r s = silent r s s refl (grind arith) (inl (refl, refl))
 
 effect_end : (r : ℕ) (reason : EndReason) (s : State) → Effect r s (ends reason s)
-effect_end r reason s = silent r s (ends reason s) refl (inr (inr (record { given = refl; live = refl; ended = refl })))
+effect_end r reason s =
+    silent r s (ends reason s) refl (inr (inr (record { given = refl; live = refl; ended = refl }))) (inr (inr (inr (refl, refl))))
 
 -- ---- a CR
 
@@ -81,16 +85,17 @@ effect_unknown : (r : ℕ) (unit : Value) (s : State) → Effect r s (to_unknown
 effect_unknown r unit s = search (arith, silent, effect_none, effect_end)
 
 effect_asked : (r : ℕ) (unit : Value) (s : State) → Effect r s (to_asked r unit s)
-effect_asked r (confirm destination c) s = search (arith, effect_end)
+effect_asked r (confirm destination c) s = grind (arith, effect_end, put_named)
 effect_asked r (disconnect destination source reason user) s = grind arith
 effect_asked r (error destination cause) s = grind arith
 effect_asked r unit s = effect_unknown r unit s
 
 effect_taking : (r peer : ℕ) (result : Result Standing LinkFault) (s : State) → Effect r s (taking r peer result s)
-effect_taking r peer result s = grind (arith, silent, append-nil, effect_end)
+effect_taking r peer result s = grind (arith, silent, append-nil, effect_end, put_named)
 
 effect_dropped : (r : ℕ) (s : State) → Effect r s (drops r s)
-effect_dropped r s = silent r s (drops r s) refl (inl (record { given = refl; ended = refl; live = inr (inr refl) }))
+effect_dropped r s =
+    silent r s (drops r s) refl (inl (record { given = refl; ended = refl; live = inr (inr refl) })) (inr (inl (r, refl, refl)))
 
 effect_connection : (r : ℕ) (o : Option Connection) (unit : Value) (s : State) → Effect r s (to_connection r o unit s)
 effect_connection r o unit s = search (arith, effect_unknown, effect_asked, effect_taking, effect_dropped, effect_none)
@@ -117,6 +122,12 @@ effect unit s = grind (arith, effect_none, effect_class)
 
 -- ---- what it gives
 
+pub unit_named : (unit : Value) (s : State) → AreNamed s → AreNamed (react unit s)
+unit_named unit s h = named s (react unit s) (effect unit s).names h
+
+pub unit_keeps : (unit : Value) (s : State) → IsOrderly s → KeepsTsaps s (react unit s)
+unit_keeps unit s orderly = keeps s (react unit s) (effect unit s).names orderly
+
 pub changes_one : (unit : Value) (s : State) → (react unit s).ended ≡ None → ChangesOne (connection_of unit s) s (react unit s)
 changes_one unit s lasts = grind (arith, put_other, without_other, push_other, react, effect unit s)
 
@@ -130,11 +141,6 @@ pub stays_gone : (unit : Value) (s : State) (q : ℕ) → q ≤ s.given → valu
 stays_gone unit s q up none = how_gone q (connection_of unit s) s (react unit s) up none (effect unit s).how
 
 -- ---- order
-
-record AreOrderly (given : ℕ) (rows : Rows Connection) : Type 0 where
-  rise : RiseFrom 0 rows
-  up_to : AreUpTo given rows
-  live : length rows ≤ 64
 
 -- of a carrier that has not ended
 how_orderly : (r : ℕ) (old new : State) → IsOrderly old → is_some old.ended ≡ false → How r old new → AreNamed new → IsOrderly new

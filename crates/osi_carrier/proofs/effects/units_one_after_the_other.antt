@@ -1,7 +1,7 @@
 -- Units one after the other, and units after the end.
-use Rattle.std.proofs.Common.{◌≡◌, List, [], ◌∷◌, ◌++◌, Option, None, refl, sym, ap, ◌∙◌, true, false, is_some, inl, append_assoc, arith}
+use Rattle.std.proofs.Common.{◌≡◌, List, [], ◌∷◌, ◌++◌, Option, None, refl, ap, ◌∙◌, true, false, is_some, append_assoc, arith}
 use Rattle.osi_carrier.specs.Packets.{Act}
-use Rattle.osi_carrier.proofs.Vocabulary.{append-nil, Value, grows, react, react_by, reacts, in_class, State, ends, NoMemory}
+use Rattle.osi_carrier.proofs.Vocabulary.{Value, grows, react, react_by, reacts, in_class, State, ends, NoMemory}
 
 pub reacts_join : (us vs : List Value) (s : State) → reacts (us ++ vs) s ≡ reacts vs (reacts us s)
 reacts_join [] vs s = refl
@@ -32,9 +32,6 @@ pub along_next : (start now after : State) (all left more : List Value) (unit : 
     after ≡ in_class now.class unit now → after.ended ≡ None → IsAlong start all after more
 along_next start now after all left more unit h e acts lasts =
     grind (arith, append_assoc h.done (unit ∷ []) more, react_quiet unit now h.lasts, react unit, reacts_join h.done (unit ∷ []) start)
-
-pub along_end : (start now : State) (all left : List Value) → IsAlong start all now left → left ≡ [] → Act start all now
-along_end start now all left h e = inl (h.acted ∙ ap (λ l. reacts l start) (sym (h.parts ∙ ap (λ l. h.done ++ l) e ∙ append-nil h.done)))
 
 -- a unit that ended the carrier was the last that acted
 pub along_over : (start now after : State) (all left more : List Value) (unit : Value) → IsAlong start all now left → left ≡ unit ∷ more →

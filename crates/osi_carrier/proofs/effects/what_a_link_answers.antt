@@ -1,7 +1,7 @@
 -- What a unit does to its link, from the answers of the link: it was refused and nothing has changed, or it was taken, a
 -- complete TSDU was handed out, and what the link then gave was written. For the call that hands a unit to its link.
-use Rattle.osi_carrier.proofs.Vocabulary.{Standing, Hands, LinkFault, pumped, written_by, link_after, units_after, whole_after, arith, ◌≡◌}
-use Rattle.osi_carrier.proofs.Vocabulary.{ℕ, Bool, List, Option, Result, Ok, Err, IsOk, OnErr, option_to_list, sym, ap, ◌∙◌, TakesUnit}
+use Rattle.osi_carrier.proofs.Vocabulary.{Standing, Hands, LinkFault, pumped, link_after, whole_after, arith, ◌≡◌, ℕ, Bool, List, Option}
+use Rattle.osi_carrier.proofs.Vocabulary.{Result, Ok, Err, IsOk, OnErr, option_to_list, sym, ap, ◌∙◌, TakesUnit}
 use Rattle.osi_class.specs.declared.faults.LinkFault.TheVariants.{OutOfMemory}
 
 pub refused_by : {A : Type 0} (r : Result A LinkFault) (f : LinkFault) (needs : Bool) (t : Result Standing LinkFault) (old new : Standing) →
@@ -22,7 +22,3 @@ took_whole h t u r ok h2 = grind arith
 pub took_link : (o : Option (List ℕ)) (s t u : Standing) (r : Result Standing LinkFault) → r ≡ Ok t → Hands o t u →
     pumped u ≡ link_after s r
 took_link o s t u r ok h = ap pumped (grind arith) ∙ sym (ap (link_after s) ok)
-
-pub took_units : (peer : ℕ) (o : Option (List ℕ)) (t u : Standing) (r : Result Standing LinkFault) → r ≡ Ok t → Hands o t u →
-    written_by peer u ≡ units_after peer r
-took_units peer o t u r ok h = ap (written_by peer) (grind arith) ∙ sym (ap (units_after peer) ok)

@@ -1,6 +1,6 @@
 -- The events tell which connections are open.
-use Rattle.std.proofs.Common.{◌≡◌, ◌≢◌, ℕ, ◌+◌, ◌==◌, Bool, true, false, ◌&&◌, ◌||◌, not, List, [], ◌∷◌, ◌++◌, Option, Some, None, Result}
-use Rattle.std.proofs.Common.{Ok, Err, is_some, refl, sym, ap, subst, ◌∙◌, arith, append_assoc, if◌then◌else◌, eq-eqb}
+use Rattle.std.proofs.Common.{◌≡◌, ◌≢◌, ℕ, ◌==◌, Bool, true, false, ◌&&◌, ◌||◌, not, List, [], ◌∷◌, ◌++◌, Option, Some, None, Result, Ok}
+use Rattle.std.proofs.Common.{Err, is_some, refl, sym, ap, subst, ◌∙◌, arith, append_assoc, if◌then◌else◌, eq-eqb}
 use Rattle.osi_carrier.specs.Told.{is_open, open_after, TellsOpen}
 use Rattle.osi_carrier.proofs.Vocabulary.{eqb-true, append-nil, units_of, Value, Connect, request, confirm, disconnect, data0, error}
 use Rattle.osi_carrier.proofs.Vocabulary.{TpduFault, Standing, Selection, accept, refuse, LinkFault, Class, Zero, asks, link_of, sent}

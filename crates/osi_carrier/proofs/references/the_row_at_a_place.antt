@@ -1,7 +1,8 @@
 -- The row at the place of a reference, and the effect of a write there; no place, no value.
 use Rattle.osi_carrier.proofs.Vocabulary.{common_steps, position_or_len, remove, eqb-true, Connection, asked, Rows, value_at, place_of, put}
-use Rattle.osi_carrier.proofs.Vocabulary.{without, ◌≡◌, ℕ, Bool, zero, suc, ◌<◌, ◌≤◌, ◌==◌, true, false, [], ◌∷◌, length, get_or, set}
-use Rattle.osi_carrier.proofs.Vocabulary.{Option, Some, None, is_some, Result, OnOk, refl, sym, ap, arith, position-Some}
+use Rattle.osi_carrier.proofs.Vocabulary.{without, ◌≡◌, ℕ, zero, suc, ◌<◌, ◌≤◌, ◌==◌, true, false, [], ◌∷◌, length, get_or, set, Option}
+use Rattle.osi_carrier.proofs.Vocabulary.{Some, None, is_some, Result, OnOk, refl, sym, ap, arith, position-Some}
+use Rattle.osi_carrier.proofs.references.rows_after_a_change.{along_rows}
 
 -- if the place `i` of a reference is, `d` being any row
 pub record IsPlace {X : Type 0} (r : ℕ) (rows : Rows X) (i : ℕ) (d : ℕ × X) : Type 0 where
@@ -55,24 +56,15 @@ pub stepped_rows : {X A E : Type 0} (result : Result A E) (r : ℕ) (rows items 
 stepped_rows result r rows items i row new x e here same h = grind (arith, put_row)
 
 -- a value that a reference has is put there with no change
-put_same_by : {X : Type 0} (r q : ℕ) (y x : X) (rows : Rows X) (b : Bool) → (q == r) ≡ b →
-    (value_at r rows ≡ Some x → put r x rows ≡ rows) →
-    value_at r ((q, y) ∷ rows) ≡ Some x → put r x ((q, y) ∷ rows) ≡ (q, y) ∷ rows
-put_same_by r q y x rows b t more h = grind arith
-
 pub put_same : {X : Type 0} (r : ℕ) (x : X) (rows : Rows X) → value_at r rows ≡ Some x → put r x rows ≡ rows
-put_same r x [] h = refl
-put_same r x ((q, y) ∷ rows) h = put_same_by r q y x rows (q == r) refl (put_same r x rows) h
+put_same r x rows h =
+    along_rows r (λ l. value_at r l ≡ Some x → put r x l ≡ l) (λ h. refl) (λ q y l b e more h. grind arith) rows h
 
 -- no place, no connection
-nowhere_by : {X : Type 0} (r q : ℕ) (y : X) (rows : Rows X) (b : Bool) → (q == r) ≡ b →
-    (length rows ≤ position_or_len (λ row. row.0 == r) rows → value_at r rows ≡ None) →
-    length ((q, y) ∷ rows) ≤ position_or_len (λ row. row.0 == r) ((q, y) ∷ rows) → value_at r ((q, y) ∷ rows) ≡ None
-nowhere_by r q y rows b t more h = grind arith
-
 nowhere_at : {X : Type 0} (r : ℕ) (rows : Rows X) → length rows ≤ position_or_len (λ row. row.0 == r) rows → value_at r rows ≡ None
-nowhere_at r [] h = refl
-nowhere_at r ((q, y) ∷ rows) h = nowhere_by r q y rows (q == r) refl (nowhere_at r rows) h
+nowhere_at r rows h =
+    along_rows r (λ l. length l ≤ position_or_len (λ row. row.0 == r) l → value_at r l ≡ None) (λ h. refl)
+    (λ q y l b e more h. grind arith) rows h
 
 pub nowhere : {X : Type 0} (r : ℕ) (rows : Rows X) → place_of r rows ≡ None → value_at r rows ≡ None
 nowhere r rows e = nowhere_at r rows (grind (arith, common_steps))

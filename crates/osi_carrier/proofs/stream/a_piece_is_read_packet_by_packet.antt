@@ -1,10 +1,10 @@
 -- Reading a piece of the stream, packet by packet.
 use Rattle.osi_carrier.proofs.Vocabulary.{append-nil, take-append-drop, take_at, IsPacket, IsFaultOf, ArePackets, offset_of, Fed, TpktFault}
 use Rattle.osi_carrier.proofs.Vocabulary.{PacketActs, PartHeld, Faults, LacksRoom, EndsOver, Carrying, IsReading, Acts, after_packet, stops}
-use Rattle.osi_carrier.proofs.Vocabulary.{waits, is_spoilt, TakesPackets, StopsBehind, Starves, HasToHold, FindsNoMemory, Goes, Feeds}
-use Rattle.osi_carrier.proofs.Vocabulary.{State, ◌≡◌, ℕ, ◌+◌, ◌-◌, ◌<◌, ◌≤◌, ◌||◌, true, false, List, [], ◌∷◌, ◌++◌, length, take, drop}
-use Rattle.osi_carrier.proofs.Vocabulary.{is_some, refl, sym, ap, subst, ◌∙◌, inl, inr, ◌⊎◌, arith, length-append, length-take}
-use Rattle.osi_carrier.proofs.Vocabulary.{append_assoc, if◌then◌else◌, drop-append_seam}
+use Rattle.osi_carrier.proofs.Vocabulary.{waits, is_spoilt, TakesPackets, StopsBehind, Starves, FindsNoMemory, Goes, Feeds, State, ◌≡◌, ℕ}
+use Rattle.osi_carrier.proofs.Vocabulary.{◌+◌, ◌-◌, ◌<◌, ◌≤◌, ◌||◌, true, false, List, [], ◌∷◌, ◌++◌, length, take, drop, is_some, refl}
+use Rattle.osi_carrier.proofs.Vocabulary.{sym, ap, subst, ◌∙◌, inl, inr, ◌⊎◌, arith, length-append, length-take, append_assoc}
+use Rattle.osi_carrier.proofs.Vocabulary.{if◌then◌else◌, drop-append_seam}
 
 -- ---- packets
 
@@ -70,186 +70,124 @@ read_first old piece alive none_waits reading some =
       begun = quiet;
     }
 
--- ---- the next packet
-
-record Behind (old : Carrying) (piece : List ℕ) (now : Carrying) (rest : List ℕ) (used : ℕ) (new : Carrying) (packet : List ℕ)
-    (read : IsRead old piece now rest) : Type 0 where
-  cut : piece ≡ (read.front ++ take used rest) ++ drop used rest
-  packets : ArePackets (read.units ++ packet ∷ []) (old.held.octets ++ (read.front ++ take used rest)) []
-  offset : new.held.offset ≡ offset_of (old.held.offset + length (old.held.octets ++ (read.front ++ take used rest)))
-
-behind : (old : Carrying) (piece : List ℕ) (now : Carrying) (rest : List ℕ) (used : ℕ) (new : Carrying) (read : IsRead old piece now rest)
-    (acts : PacketActs now rest used new) →
-    Behind old piece now rest used new acts.packet read
-behind old piece now rest used new read acts =
-    let assoc : (old.held.octets ++ read.front) ++ take used rest ≡ old.held.octets ++ (read.front ++ take used rest) =
-    append_assoc old.held.octets read.front (take used rest) in
-    let left = packets_leave read.units (old.held.octets ++ read.front) now.held.octets read.packets in
-    let joined = length-append (old.held.octets ++ read.front) (take used rest) in
-    let same = ap length assoc in
-    let here = length-append now.held.octets (take used rest) in
-    let before = read.offset in
-    let after = acts.offset in
-    record {
-      cut = read.cut ∙ ap (λ l. read.front ++ l) (sym (take-append-drop used rest)) ∙
-          sym (append_assoc read.front (take used rest) (drop used rest));
-      packets = subst (λ l. ArePackets (read.units ++ acts.packet ∷ []) l []) assoc
-          (packets_snoc read.units ((old.held.octets ++ read.front) ++ take used rest) (now.held.octets ++ take used rest) acts.packet
-          (packets_more read.units (old.held.octets ++ read.front) now.held.octets (take used rest) read.packets) acts.whole);
-      offset = omega arith;
-    }
-
-pub read_next : (old : Carrying) (piece : List ℕ) (now : Carrying) (rest : List ℕ) (used : ℕ) (new : Carrying) → IsRead old piece now rest →
-    PacketActs now rest used new → stops new.state ≡ false → IsRead old piece new (drop used rest)
-read_next old piece now rest used new read acts quiet =
-    let b = behind old piece now rest used new read acts in
-    grind (arith, after_packet, acts_cases, takes_snoc)
-
 -- this much of the piece was looked at
 looked : (piece front rest : List ℕ) (used : ℕ) → piece ≡ (front ++ take used rest) ++ drop used rest →
     (take (length (front ++ take used rest)) piece ≡ front ++ take used rest) × (length (front ++ take used rest) ≤ length piece)
 looked piece front rest used cut = grind (arith, length-append, take_at)
 
-stopped_by : (old : Carrying) (piece : List ℕ) (now : Carrying) (rest : List ℕ) (used uses : ℕ) (new : Carrying)
-    (read : IsRead old piece now rest) (acts : PacketActs now rest used new) →
-    new.state ≡ after_packet now.state acts.packet → stops new.state ≡ true →
-    uses ≡ (if is_spoilt new.state.ended then length piece else length (read.front ++ take used rest)) → StopsBehind old piece uses new
-stopped_by old piece now rest used uses new read acts same stopped e =
-    let b = behind old piece now rest used new read acts in
-    let seen = looked piece read.front rest used b.cut in
-    let some = acts.some in
-    let within = acts.within in
-    let before = read.room in
-    let after = acts.room in
-    let looked_at = length-append read.front (take used rest) in
-    let here = length-take used rest in
-    let counted = length-append read.units (acts.packet ∷ []) in
-    record {
-      within = length (read.front ++ take used rest);
-      units = read.units ++ acts.packet ∷ [];
-      some = omega arith;
-      one = omega arith;
-      bound = seen.1;
-      packets = subst (λ l. ArePackets (read.units ++ acts.packet ∷ []) (old.held.octets ++ l) []) (sym seen.0) b.packets;
-      taken = subst (TakesPackets old.state (read.units ++ acts.packet ∷ [])) (sym same)
-          (takes_snoc old.state now.state read.units acts.packet read.taken read.quiet);
-      stopped = stopped;
-      uses = e;
-      held = acts.held;
-      offset = subst (λ l. new.held.offset ≡ offset_of (old.held.offset + length (old.held.octets ++ l))) (sym seen.0) b.offset;
-      room = omega arith;
-    }
+-- ---- the next packet
 
-pub read_stops : (old : Carrying) (piece : List ℕ) (now : Carrying) (rest : List ℕ) (used : ℕ) (new : Carrying) →
-    IsRead old piece now rest →
-    PacketActs now rest used new → stops new.state ≡ true → is_spoilt new.state.ended ≡ false →
-    Goes old piece (length piece - length (drop used rest)) new
-read_stops old piece now rest used new read acts stopped sound =
-    let b = behind old piece now rest used new read acts in
-    let same : new.state ≡ after_packet now.state acts.packet =
-    elim (acts_cases now.state new.state acts.packet acts.acted)
-    [ inl h ↦ h | inr h ↦ (let over : is_spoilt new.state.ended ≡ true = ap (λ (s : State). is_spoilt s.ended) h.2.ended in cc) ] in
-    let sizes = ap length b.cut ∙ length-append (read.front ++ take used rest) (drop used rest) in
-    let uses : length piece - length (drop used rest) ≡ length (read.front ++ take used rest) = omega arith in
-    inl (inr (stopped_by old piece now rest used (length piece - length (drop used rest)) new read acts same stopped (rw sound uses)))
+module _ (old : Carrying) (piece : List ℕ) (now : Carrying) (rest : List ℕ) (read : IsRead old piece now rest) where
+  record Behind (used : ℕ) (new : Carrying) (packet : List ℕ) : Type 0 where
+    cut : piece ≡ (read.front ++ take used rest) ++ drop used rest
+    packets : ArePackets (read.units ++ packet ∷ []) (old.held.octets ++ (read.front ++ take used rest)) []
+    offset : new.held.offset ≡ offset_of (old.held.offset + length (old.held.octets ++ (read.front ++ take used rest)))
 
-starved_by : (old : Carrying) (piece : List ℕ) (now : Carrying) (rest : List ℕ) (used : ℕ) (new : Carrying)
-    (read : IsRead old piece now rest) (acts : PacketActs now rest used new) →
-    Starves now.state acts.packet new.state → FindsNoMemory old piece (length piece) new
-starved_by old piece now rest used new read acts starves =
-    let b = behind old piece now rest used new read acts in
-    let seen = looked piece read.front rest used b.cut in
-    let assoc : (old.held.octets ++ read.front) ++ take used rest ≡ old.held.octets ++ (read.front ++ take used rest) =
-    append_assoc old.held.octets read.front (take used rest) in
-    record {
-      within = length (read.front ++ take used rest);
-      units = read.units;
-      rest = now.held.octets ++ take used rest;
-      before = now.state;
-      all = refl;
-      bound = seen.1;
-      packets = subst (λ l. ArePackets read.units l (now.held.octets ++ take used rest))
-          (assoc ∙ ap (λ l. old.held.octets ++ l) (sym seen.0))
-          (packets_more read.units (old.held.octets ++ read.front) now.held.octets (take used rest) read.packets);
-      taken = read.taken;
-      quiet = read.quiet;
-      how = inr (
-        acts.packet,
-        (now.held.octets ++ take used rest, [], acts.whole, sym (append-nil (now.held.octets ++ take used rest)), refl),
-        starves,
-      );
-      held = acts.held;
-      faultless = grind arith;
-    }
+  behind : (used : ℕ) (new : Carrying) (acts : PacketActs now rest used new) → Behind used new acts.packet
+  behind used new acts =
+      let left = packets_leave read.units (old.held.octets ++ read.front) now.held.octets read.packets in
+      let more = packets_more read.units (old.held.octets ++ read.front) now.held.octets (take used rest) read.packets in
+      let parts = take-append-drop used rest in
+      grind (arith, append_assoc, length-append, packets_snoc)
 
-pub read_spoilt : (old : Carrying) (piece : List ℕ) (now : Carrying) (rest : List ℕ) (used : ℕ) (new : Carrying) →
-    IsRead old piece now rest →
-    PacketActs now rest used new → is_spoilt new.state.ended ≡ true → Goes old piece (length piece) new
-read_spoilt old piece now rest used new read acts spoilt =
-    let b = behind old piece now rest used new read acts in
-    elim (acts_cases now.state new.state acts.packet acts.acted) [
-      | inl h ↦ inl
-          (inr (stopped_by old piece now rest used (length piece) new read acts h (grind arith) (rw spoilt refl)))
-      | inr h ↦ inr (inr (starved_by old piece now rest used new read acts h))
-    ]
+  pub read_next : (used : ℕ) (new : Carrying) → PacketActs now rest used new → stops new.state ≡ false →
+      IsRead old piece new (drop used rest)
+  read_next used new acts quiet = let b = behind used new acts in grind (arith, after_packet, acts_cases, takes_snoc)
 
--- ---- the rest of the piece
+  stopped_by : (used uses : ℕ) (new : Carrying) (acts : PacketActs now rest used new) →
+      new.state ≡ after_packet now.state acts.packet → stops new.state ≡ true →
+      uses ≡ (if is_spoilt new.state.ended then length piece else length (read.front ++ take used rest)) → StopsBehind old piece uses new
+  stopped_by used uses new acts same stopped e =
+      let b = behind used new acts in
+      let seen = looked piece read.front rest used b.cut in
+      let taken = takes_snoc old.state now.state read.units acts.packet read.taken read.quiet in
+      grind (arith, length-append read.front (take used rest), length-take used rest, length-append read.units (acts.packet ∷ []))
 
-pub read_part : (old : Carrying) (piece : List ℕ) (now : Carrying) (rest : List ℕ) (new : Carrying) → IsRead old piece now rest →
-    PartHeld now rest new → Goes old piece (length piece) new
-read_part old piece now rest new read part = grind (arith, append_assoc, packets_more, length-append)
+  pub read_stops : (used : ℕ) (new : Carrying) → PacketActs now rest used new → stops new.state ≡ true →
+      is_spoilt new.state.ended ≡ false → Goes old piece (length piece - length (drop used rest)) new
+  read_stops used new acts stopped sound =
+      let b = behind used new acts in
+      let same : new.state ≡ after_packet now.state acts.packet =
+      elim (acts_cases now.state new.state acts.packet acts.acted)
+      [ inl h ↦ h | inr h ↦ (let over : is_spoilt new.state.ended ≡ true = ap (λ (s : State). is_spoilt s.ended) h.2.ended in cc) ] in
+      let sizes = ap length b.cut ∙ length-append (read.front ++ take used rest) (drop used rest) in
+      let uses : length piece - length (drop used rest) ≡ length (read.front ++ take used rest) = omega arith in
+      inl (inr (stopped_by used (length piece - length (drop used rest)) new acts same stopped (rw sound uses)))
 
-over_by : (old : Carrying) (piece : List ℕ) (now : Carrying) (rest : List ℕ) (new : Carrying) → IsRead old piece now rest →
-    new.held.octets ≡ [] → Faults now rest new ⊎ LacksRoom now rest new → Goes old piece (length piece) new
-over_by old piece now rest new read held (inl fault) =
-    inr (inl (record {
-      units = read.units;
-      fault = fault.fault;
-      before = now.state;
-      all = refl;
-      cut = (
-        now.held.octets ++ rest,
-        grind (arith, append_assoc, packets_more),
-        subst (λ n. IsFaultOf n (now.held.octets ++ rest) fault.fault) (grind (arith, length-append)) fault.is,
-      );
-      taken = read.taken;
-      quiet = read.quiet;
-      ended = fault.ended;
-      held = held;
-    }))
-over_by old piece now rest new read held (inr none) =
-    let sizes = ap length read.cut ∙ length-append read.front rest in
-    let seen : take (length read.front) piece ≡ read.front = ap (take (length read.front)) read.cut ∙
-    take_at read.front rest (length read.front) refl in
-    let behind : drop (length read.front) piece ≡ rest = ap (drop (length read.front)) read.cut ∙ drop-append_seam read.front rest in
-    inr (inr (record {
-      within = length read.front;
-      units = read.units;
-      rest = now.held.octets;
-      before = now.state;
-      all = refl;
-      bound = omega arith;
-      packets = subst (λ l. ArePackets read.units (old.held.octets ++ l) now.held.octets) (sym seen) read.packets;
-      taken = read.taken;
-      quiet = read.quiet;
-      how = inl (record {
-        ended = none.ended;
-        first = elim read.first [ inl nothing ↦ inl (ap length nothing) | inr nothing ↦ inr nothing ];
-        holds = subst (HasToHold old.held.room now.held.octets) (sym behind)
-            (grind arith);
-      });
-      held = held;
-      faultless = subst (λ l. (at : ℕ) (fault : TpktFault) → IsFaultOf at (now.held.octets ++ l) fault → ⊥) (sym behind) none.faultless;
-    }))
+  starved_by : (used : ℕ) (new : Carrying) (acts : PacketActs now rest used new) → Starves now.state acts.packet new.state →
+      FindsNoMemory old piece (length piece) new
+  starved_by used new acts starves =
+      let b = behind used new acts in
+      let seen = looked piece read.front rest used b.cut in
+      record {
+        within = length (read.front ++ take used rest);
+        units = read.units;
+        rest = now.held.octets ++ take used rest;
+        before = now.state;
+        all = refl;
+        bound = seen.1;
+        packets = grind (arith, append_assoc, packets_more);
+        taken = read.taken;
+        quiet = read.quiet;
+        how = inr (
+          acts.packet,
+          (now.held.octets ++ take used rest, [], acts.whole, sym (append-nil (now.held.octets ++ take used rest)), refl),
+          starves,
+        );
+        held = acts.held;
+        faultless = grind arith;
+      }
 
-pub read_over : (old : Carrying) (piece : List ℕ) (now : Carrying) (rest : List ℕ) (new : Carrying) → IsRead old piece now rest →
-    EndsOver now rest new → Goes old piece (length piece) new
-read_over old piece now rest new read over = over_by old piece now rest new read over.held over.how
+  pub read_spoilt : (used : ℕ) (new : Carrying) → PacketActs now rest used new → is_spoilt new.state.ended ≡ true →
+      Goes old piece (length piece) new
+  read_spoilt used new acts spoilt = elim (acts_cases now.state new.state acts.packet acts.acted) [
+    | inl h ↦ inl (inr (stopped_by used (length piece) new acts h (grind arith) (rw spoilt refl)))
+    | inr h ↦ inr (inr (starved_by used new acts h))
+  ]
 
--- ---- progress
+  -- ---- the rest of the piece
 
--- feeding that goes on feeds
-pub fed_goes : (old : Carrying) (piece : List ℕ) (now : Carrying) (rest : List ℕ) (used : ℕ) (fed : Fed) (new : Carrying) →
-    IsRead old piece now rest → Goes old piece used new → used ≤ length piece →
-    fed.used ≡ used → fed.whole ≡ waits new.state → Feeds old piece fed new
-fed_goes old piece now rest used fed new read goes bound is whole = grind arith
+  pub read_part : (new : Carrying) → PartHeld now rest new → Goes old piece (length piece) new
+  read_part new part = grind (arith, append_assoc, packets_more, length-append)
+
+  over_by : (new : Carrying) → new.held.octets ≡ [] → Faults now rest new ⊎ LacksRoom now rest new → Goes old piece (length piece) new
+  over_by new held (inl fault) =
+      inr (inl (record {
+        units = read.units;
+        fault = fault.fault;
+        before = now.state;
+        all = refl;
+        cut = (
+          now.held.octets ++ rest,
+          grind (arith, append_assoc, packets_more),
+          subst (λ n. IsFaultOf n (now.held.octets ++ rest) fault.fault) (grind (arith, length-append)) fault.is,
+        );
+        taken = read.taken;
+        quiet = read.quiet;
+        ended = fault.ended;
+        held = held;
+      }))
+  over_by new held (inr none) =
+      let behind : drop (length read.front) piece ≡ rest = grind (arith, drop-append_seam) in
+      inr (inr (record {
+        within = length read.front;
+        units = read.units;
+        rest = now.held.octets;
+        before = now.state;
+        all = refl;
+        bound = grind (arith, length-append);
+        packets = grind (arith, take_at);
+        taken = read.taken;
+        quiet = read.quiet;
+        how = inl (grind arith);
+        held = held;
+        faultless = subst (λ l. (at : ℕ) (fault : TpktFault) → IsFaultOf at (now.held.octets ++ l) fault → ⊥) (sym behind) none.faultless;
+      }))
+
+  pub read_over : (new : Carrying) → EndsOver now rest new → Goes old piece (length piece) new
+  read_over new over = over_by new over.held over.how
+
+  -- feeding that goes on feeds
+  pub fed_goes : (used : ℕ) (fed : Fed) (new : Carrying) → Goes old piece used new → used ≤ length piece →
+      fed.used ≡ used → fed.whole ≡ waits new.state → Feeds old piece fed new
+  fed_goes used fed new goes bound is whole = grind arith

@@ -1,15 +1,10 @@
 -- A TSDU that is lent from the piece in which it lies, in place of its event.
 -- For the calls that feed a piece.
-use Rattle.osi_carrier.proofs.Vocabulary.{Acts, Carrying, EndReason, Fed, Feeds, Happening, PacketActs, State, Tells, is_spoilt, stops}
-use Rattle.osi_carrier.proofs.Vocabulary.{waits, ◌≡◌, ℕ, ◌-◌, ◌||◌, ◌==◌, not, Bool, true, false, List, [], ◌∷◌, length, drop, Option, Some}
-use Rattle.osi_carrier.proofs.Vocabulary.{None, IfSome, IsSome, is_some, refl, sym, ap, subst, ◌∙◌, arith, length-drop, PacketLent, Lends}
-use Rattle.osi_carrier.proofs.Vocabulary.{carrying_lent, lent_event, lent_if, with_lent, Lent, FedLent}
+use Rattle.osi_carrier.proofs.Vocabulary.{Carrying, EndReason, Fed, Feeds, Happening, PacketActs, Tells, is_spoilt, stops, waits, ◌≡◌, ℕ}
+use Rattle.osi_carrier.proofs.Vocabulary.{◌-◌, ◌||◌, ◌==◌, not, Bool, true, false, List, [], ◌∷◌, length, Option, Some, None, IfSome}
+use Rattle.osi_carrier.proofs.Vocabulary.{IsSome, is_some, refl, sym, ap, subst, ◌∙◌, arith, length-drop, PacketLent, Lends, carrying_lent}
+use Rattle.osi_carrier.proofs.Vocabulary.{lent_event, Lent, FedLent}
 use Rattle.osi_carrier.proofs.stream.a_piece_is_read_packet_by_packet.{IsRead, read_stops, fed_goes}
-
--- nothing is lent to a caller who doesn't want it
-pub unlent : (is_lent : Bool) (lent : Lent) (packet : List ℕ) (old new : State) → Acts old packet (with_lent (lent_if is_lent lent) new) →
-    (is_lent ≡ true → Lends false old new) → Acts old packet new
-unlent is_lent lent packet old new acts h = grind arith
 
 quiet_by : (o : Option EndReason) (l : List Happening) → (is_some o || not (length l == 0)) ≡ false → (l ≡ []) × (o ≡ None)
 quiet_by None [] h = (refl, refl)
@@ -29,7 +24,7 @@ lent_feeds wanted old piece now rest used lent new fed read h is whole =
     let told = carrying_lent (Some lent) new in
     let waiting : waits told.state ≡ true = grind arith in
     let stopped : stops told.state ≡ true = ap (λ o. is_some o || waits told.state) h.lasts ∙ waiting in
-    grind (arith, fed_goes, read_stops old piece now rest used told read h.acts stopped (ap is_spoilt h.lasts), length-drop used rest)
+    grind (arith, fed_goes, read_stops old piece now rest read used told h.acts stopped (ap is_spoilt h.lasts), length-drop used rest)
 
 -- or nothing is lent
 pub nothing_lent : (old : Carrying) (piece : List ℕ) (fed : FedLent) (new : Carrying) → fed.lent ≡ None → Feeds old piece fed.fed new →

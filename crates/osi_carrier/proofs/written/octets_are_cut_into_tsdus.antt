@@ -1,7 +1,7 @@
 -- Octets that are cut into pieces, each behind its head: the TSDUs one after the other.
 -- For `room` and `copies` of pieces, `write_some` of links, and `send_pieces_open` of the switch.
 use Rattle.osi_carrier.proofs.Vocabulary.{le-leb, leb-true, leb-false, length-take-le, sum_by-cons, list_any, lengths_error, ◌≡◌, refl, ℕ}
-use Rattle.osi_carrier.proofs.Vocabulary.{zero, suc, ◌+◌, ◌^◌, ◌<◌, ◌≤◌, Bool, true, false, nat_le, List, [], ◌∷◌, ◌++◌, length, take, drop}
+use Rattle.osi_carrier.proofs.Vocabulary.{zero, suc, ◌+◌, ◌^◌, ◌<◌, ◌≤◌, Bool, false, nat_le, List, [], ◌∷◌, ◌++◌, length, take, drop}
 use Rattle.osi_carrier.proofs.Vocabulary.{arith, length-append, length-drop, if◌then◌else◌, nat_lt, Option, Some, None, IfSome, IsSome}
 use Rattle.osi_carrier.proofs.Vocabulary.{lt-leb, le-ltb, more_units, parts_some, parts_needed, units_needed, octets_of_tsdus, Room, headed}
 use Rattle.osi_carrier.proofs.Vocabulary.{tsdus_from, tsdus_in, FitsTsdu, FitTsdus, Pieces}

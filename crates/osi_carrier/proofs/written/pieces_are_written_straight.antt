@@ -1,11 +1,11 @@
--- TSDUs that are cut from octets are written straight from their heads and pieces, as far as their units may go now.
--- For `write_some` and `write_pieces` of links.
+-- TSDUs are written straight from their octets, or from their heads and pieces, as far as their units may go now.
+-- For `write_all`, `write_some` and `write_pieces` of links.
 use Rattle.osi_carrier.proofs.Vocabulary.{append-nil, drained_leaves, drained_none, given_one_by_one, one_by_one, Standing, next, with_tsdu}
 use Rattle.osi_carrier.proofs.Vocabulary.{with_tsdus, written_by, written_for, packets, map-append, ◌≡◌, ℕ, ◌+◌, ◌<◌, ◌≤◌, Bool, true}
 use Rattle.osi_carrier.proofs.Vocabulary.{false, List, [], ◌∷◌, ◌++◌, length, take, drop, arith, append_assoc, length-append, Option, None}
-use Rattle.osi_carrier.proofs.Vocabulary.{drained_ends, class_0, class_2, Ends, Flow, tsdus_from, FitTsdus, LeavesRest, Pieces}
+use Rattle.osi_carrier.proofs.Vocabulary.{pumped, get_or, map, drop_more, drained_ends, class_0, class_2, Ends, Flow, tsdus_from, FitTsdus}
+use Rattle.osi_carrier.proofs.Vocabulary.{LeavesRest, Pieces}
 use Rattle.osi_carrier.proofs.written.octets_are_cut_into_tsdus.{cut_next}
-use Rattle.osi_carrier.proofs.written.tsdus_are_written_straight.{first_room}
 use Rattle.osi_carrier.proofs.written.all_that_a_link_gives.{packets_join}
 
 -- Some TSDUs were written whole behind the octets `before`. This is the link after them, and `rest` are the others. The
@@ -40,11 +40,23 @@ pub last_of_all : (p : Pieces) (peer : ℕ) (end : Standing) (target before : Li
     IsSending peer end target before link ((p.last.now ++ rest) ∷ []) octets spare
 last_of_all p peer end target before link head rest octets spare short h = grind arith
 
+-- there is room for the first where there is for all
+pub first_room : (peer : ℕ) (link : Standing) (tsdu : List ℕ) (rest : List (List ℕ)) →
+    length (packets (written_for peer link (tsdu ∷ rest)))
+    ≡ length (packets (written_by peer (with_tsdu link tsdu))) + length (packets (written_for peer (pumped (with_tsdu link tsdu)) rest))
+first_room peer link tsdu rest = grind (arith, length-append, map-append, packets_join)
+
 -- there is room for its units
 pub next_room : (peer : ℕ) (end : Standing) (target before : List ℕ) (link : Standing) (tsdu : List ℕ) (rest : List (List ℕ))
     (octets : List ℕ) (spare : ℕ) → IsSending peer end target before link (tsdu ∷ rest) octets spare →
     length (packets (written_by peer (with_tsdu link tsdu))) ≤ spare
 next_room peer end target before link tsdu rest octets spare h = search (arith, first_room)
+
+-- one TSDU of a list, and those after it
+pub rest_from : {V : Type 0} (items : V → List ℕ) (vs : List V) (i : ℕ) (v : V) (octets : List ℕ) →
+    i < length vs → v ≡ get_or vs i v → octets ≡ items v →
+    map items (drop i vs) ≡ octets ∷ map items (drop (i + 1) vs)
+rest_from items vs i v octets within is same = grind (arith, drop_more)
 
 -- ---- it was written whole
 

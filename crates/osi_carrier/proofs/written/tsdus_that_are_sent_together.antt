@@ -1,9 +1,10 @@
 -- TSDUs that are sent together.
 use Rattle.osi_carrier.proofs.Vocabulary.{list_any, append-nil, map-append, one_by_one, Standing, with_tsdu, open_link, lengths_error}
 use Rattle.osi_carrier.proofs.Vocabulary.{sent_on, sent_all, pumps_all, pumped, written_by, written_for, pumps, Rows, value_at, put}
-use Rattle.osi_carrier.proofs.Vocabulary.{peer_in, link_in, linked, State, packets, ◌≡◌, ℕ, ◌==◌, Bool, ◌||◌, List, [], ◌∷◌, ◌++◌, length}
-use Rattle.osi_carrier.proofs.Vocabulary.{map, nat_lt, Option, Some, None, refl, sym, ap, ◌∙◌, append_assoc, arith, if◌then◌else◌}
-use Rattle.osi_carrier.proofs.Vocabulary.{SendError, TooLong}
+use Rattle.osi_carrier.proofs.Vocabulary.{peer_in, link_in, linked, State, packets, ◌≡◌, ℕ, Bool, ◌||◌, List, [], ◌∷◌, ◌++◌, length, map}
+use Rattle.osi_carrier.proofs.Vocabulary.{nat_lt, Option, Some, None, refl, sym, ap, ◌∙◌, append_assoc, arith, if◌then◌else◌, SendError}
+use Rattle.osi_carrier.proofs.Vocabulary.{TooLong}
+use Rattle.osi_carrier.proofs.references.rows_after_a_change.{along_rows}
 use Rattle.osi_carrier.proofs.references.what_a_change_leaves_there.{put_here}
 use Rattle.osi_carrier.proofs.references.what_is_open.{open_is}
 use Rattle.osi_carrier.proofs.references.the_row_at_a_place.{put_same}
@@ -29,13 +30,8 @@ no_items items (v ∷ vs) h = absurd (omega arith)
 -- ---- an open connection
 
 -- the value there is the one that was put last
-put_twice_by : {X : Type 0} (r q : ℕ) (x y z : X) (rows : Rows X) (b : Bool) → (q == r) ≡ b → put r x (put r y rows) ≡ put r x rows →
-    put r x (put r y ((q, z) ∷ rows)) ≡ put r x ((q, z) ∷ rows)
-put_twice_by r q x y z rows b e more = grind arith
-
 put_twice : {X : Type 0} (r : ℕ) (x y : X) (rows : Rows X) → put r x (put r y rows) ≡ put r x rows
-put_twice r x y [] = refl
-put_twice r x y ((q, z) ∷ rows) = put_twice_by r q x y z rows (q == r) refl (put_twice r x y rows)
+put_twice r x y rows = along_rows r (λ l. put r x (put r y l) ≡ put r x l) refl (λ q z l b e more. grind arith) rows
 
 opened : (r peer : ℕ) (link : Standing) (s : State) → s.ended ≡ None → value_at r s.live ≡ Some (linked peer link) →
     open_link r s ≡ Some (peer, link)

@@ -1,11 +1,11 @@
 -- What is left of TSDUs after some of their units, TSDU by TSDU, and that a link keeps this.
 -- For `put_rest` and `copies` of pieces, and `some_at_once` and `send_some` of links.
-use Rattle.osi_carrier.proofs.Vocabulary.{ltb-true, drained_none, drained_some, Drained, drained, Given, Standing, next, part_under, ◌≡◌}
-use Rattle.osi_carrier.proofs.Vocabulary.{◌∙◌, refl, sym, ap, subst, ℕ, zero, suc, ◌+◌, ◌-◌, ◌*◌, ◌%◌, ◌<◌, ◌≤◌, Bool, true, false, nat_lt}
-use Rattle.osi_carrier.proofs.Vocabulary.{List, [], ◌∷◌, ◌++◌, length, take, drop, arith, append_assoc, length-drop, if◌then◌else◌, Option}
-use Rattle.osi_carrier.proofs.Vocabulary.{Some, ltb-false, drop-drop, mul-le, le-div_iff_mul-le, suc-mul, one_part, parts_cut, parts_some}
-use Rattle.osi_carrier.proofs.Vocabulary.{two_flow, no_tsdus, class_2, Ends, Flow, parts_needed, Joining, given_part, sent_flow}
-use Rattle.osi_carrier.proofs.Vocabulary.{two_standing, Part, octets_of_tsdus, left_by, left_after}
+use Rattle.osi_carrier.proofs.Vocabulary.{ltb-true, drained_none, drained_some, Drained, drained, next, part_under, ◌≡◌, ◌∙◌, refl, sym, ap}
+use Rattle.osi_carrier.proofs.Vocabulary.{subst, ℕ, zero, suc, ◌+◌, ◌-◌, ◌*◌, ◌%◌, ◌<◌, ◌≤◌, Bool, true, false, nat_lt, List, [], ◌∷◌, ◌++◌}
+use Rattle.osi_carrier.proofs.Vocabulary.{length, take, drop, arith, append_assoc, length-drop, if◌then◌else◌, Option, Some, ltb-false}
+use Rattle.osi_carrier.proofs.Vocabulary.{drop-drop, mul-le, suc-mul, one_part, parts_cut, parts_some, two_flow, no_tsdus, class_2, Ends}
+use Rattle.osi_carrier.proofs.Vocabulary.{Flow, parts_needed, Joining, given_part, sent_flow, two_standing, Part, octets_of_tsdus, left_by}
+use Rattle.osi_carrier.proofs.Vocabulary.{left_after}
 use Rattle.osi_carrier.proofs.written.octets_are_cut_into_tsdus.{more_octets}
 
 -- ---- TSDU by TSDU
@@ -42,10 +42,6 @@ left_part (suc n) limit t ts room few =
 pub left_of_none : (n limit : ℕ) → left_after n limit [] ≡ []
 left_of_none n limit = grind arith
 
--- so many full units have fewer octets than a TSDU that goes in more
-pub full_units : (n limit octets : ℕ) → 0 < limit → n < parts_needed limit octets → n * limit ≤ octets - 1
-full_units n limit octets room few = (le-div_iff_mul-le room).0 (omega (arith, few))
-
 -- and one at least
 pub one_full : (n limit : ℕ) → 0 < n → limit ≤ n * limit
 one_full n limit some = let least = mul-le 1 limit n limit some (omega arith) in omega (arith, least)
@@ -78,9 +74,6 @@ pub copied_none : (n limit parts : ℕ) (old : List (List ℕ)) (t : List ℕ) (
 copied_none n limit parts old t others room is enough = grind (arith, left_whole)
 
 -- ---- what a link of class 2 keeps
-
-abbrev Next : Type 0
-Next = Option (Given × Standing)
 
 -- the first part of the first TSDU, or all of it
 abbrev gave : ℕ → List ℕ → List (List ℕ) → Bool → Option (Part × List (List ℕ))

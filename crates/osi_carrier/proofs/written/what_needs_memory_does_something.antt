@@ -4,12 +4,13 @@ use Rattle.osi_carrier.proofs.Vocabulary.{disconnected, written, Standing, Hands
 use Rattle.osi_carrier.proofs.Vocabulary.{Two, drained_leaves, begun_by, kept_in, grows, Happening, tsdu, written_by, accepts, breaks}
 use Rattle.osi_carrier.proofs.Vocabulary.{denies, handed_out, leaves, opens, taking, to_unknown, Rows, value_at, put, peer_in, link_in}
 use Rattle.osi_carrier.proofs.Vocabulary.{Connection, State, packets, drops, tells, link_grows, units_after, whole_after, link_after, ◌≡◌}
-use Rattle.osi_carrier.proofs.Vocabulary.{ℕ, ◌+◌, ◌<◌, ◌≤◌, ◌⊎◌, Bool, true, false, List, [], ◌∷◌, ◌++◌, length, Option, Some, Result, Ok}
-use Rattle.osi_carrier.proofs.Vocabulary.{Err, IfOk, IsOk, OnErr, ◌==◌, map, refl, subst, nat_lt, length-append, arith, Flow, with_part}
-use Rattle.osi_carrier.proofs.Vocabulary.{TakesUnit, choose_ok}
+use Rattle.osi_carrier.proofs.Vocabulary.{ℕ, ◌+◌, ◌<◌, ◌≤◌, ◌⊎◌, Bool, true, List, [], ◌∷◌, ◌++◌, length, Option, Some, Result, Ok, Err}
+use Rattle.osi_carrier.proofs.Vocabulary.{IfOk, IsOk, OnErr, map, refl, subst, nat_lt, length-append, arith, Flow, with_part, TakesUnit}
+use Rattle.osi_carrier.proofs.Vocabulary.{choose_ok}
 use Rattle.osi_class.specs.declared.faults.LinkFault.TheVariants.{OutOfMemory}
 pub use Rattle.std.proofs.lemmas.Bool.{or_cases}
 use Rattle.osi_carrier.proofs.references.what_is_open.{open_is}
+use Rattle.osi_carrier.proofs.references.rows_after_a_change.{along_rows}
 
 -- ---- at a link
 
@@ -105,23 +106,13 @@ on_want result p = grind arith
 
 -- ---- what a link adds is added to the carrier
 
-put_kept_by : (r q : ℕ) (z x y : Connection) (rows : Rows Connection) (b : Bool) → (q == r) ≡ b →
-    (value_at r rows ≡ Some x → kept_in (put r y rows) + begun_by x ≡ kept_in rows + begun_by y) →
-    value_at r ((q, z) ∷ rows) ≡ Some x → kept_in (put r y ((q, z) ∷ rows)) + begun_by x ≡ kept_in ((q, z) ∷ rows) + begun_by y
-put_kept_by r q z x y rows true t more h =
-    let same : z ≡ x = cc in
-    let before = sum_by-cons (λ (row : ℕ × Connection). begun_by row.1) (q, z) rows in
-    let after = sum_by-cons (λ (row : ℕ × Connection). begun_by row.1) (q, y) rows in
-    grind arith
-put_kept_by r q z x y rows false t more h =
-    let before = sum_by-cons (λ (row : ℕ × Connection). begun_by row.1) (q, z) rows in
-    let after = sum_by-cons (λ (row : ℕ × Connection). begun_by row.1) (q, z) (put r y rows) in
-    grind arith
-
 put_kept : (r : ℕ) (x y : Connection) (rows : Rows Connection) → value_at r rows ≡ Some x →
     kept_in (put r y rows) + begun_by x ≡ kept_in rows + begun_by y
-put_kept r x y [] h = cc
-put_kept r x y ((q, z) ∷ rows) h = put_kept_by r q z x y rows (q == r) refl (put_kept r x y rows) h
+put_kept r x y rows h =
+    along_rows r (λ l. value_at r l ≡ Some x → kept_in (put r y l) + begun_by x ≡ kept_in l + begun_by y) (λ h. cc)
+    (λ q z l b e more h.
+    let sum = λ (row : ℕ × Connection) (rows : Rows Connection). sum_by-cons (λ (row : ℕ × Connection). begun_by row.1) row rows in
+    grind (arith, sum (q, z) l, sum (q, y) l, sum (q, z) (put r y l))) rows h
 
 abbrev LinkGrows : ℕ → Standing → Result Standing LinkFault → Type 0
 LinkGrows peer old t =

@@ -1,8 +1,8 @@
 -- Whether all units of TSDUs may go now, by the units that a link gives for one TSDU that fills as many.
 -- For `may_send`, `room_at_once` and `some_at_once` of links.
 use Rattle.osi_carrier.proofs.Vocabulary.{AllGoAtOnce, all_given, octets_in, cases_lt, min, Standing, next, with_tsdu, with_tsdus}
-use Rattle.osi_carrier.proofs.Vocabulary.{sum_by-cons, written_for, packets, ◌≡◌, ◌∙◌, ap, ℕ, zero, suc, ◌+◌, ◌-◌, ◌*◌, ◌^◌, ◌<◌, ◌≤◌, List}
-use Rattle.osi_carrier.proofs.Vocabulary.{[], ◌∷◌, length, Option, Some, None, arith, subst, IfSome, IsSome, SomeIff, suc-mul, mul-le}
+use Rattle.osi_carrier.proofs.Vocabulary.{sum_by-cons, written_for, packets, ◌≡◌, ◌∙◌, ap, ℕ, zero, suc, ◌+◌, ◌*◌, ◌^◌, ◌<◌, ◌≤◌, List, []}
+use Rattle.osi_carrier.proofs.Vocabulary.{◌∷◌, length, Option, Some, None, arith, subst, IfSome, IsSome, SomeIff, suc-mul, mul-le}
 use Rattle.osi_carrier.proofs.Vocabulary.{goes_whole, more_units, one_part, parts_cut, room_of_class_2, many_at_once, all_take, class_0}
 use Rattle.osi_carrier.proofs.Vocabulary.{class_2, Ends, Flow, MayGoAll, octets_in_parts, parts_needed, units_needed, octets_of_tsdus}
 use Rattle.osi_carrier.proofs.written.all_that_a_link_gives.{packets_most}

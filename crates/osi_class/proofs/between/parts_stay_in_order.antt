@@ -34,13 +34,6 @@ pub uncut_tsdus : (ts : List (List ℕ)) → tsdus (uncut ts) ≡ ts
 uncut_tsdus [] = refl
 uncut_tsdus (t ∷ ts) = ap (λ l. t ∷ l) (uncut_tsdus ts)
 
--- the next part and what is unsent after it make the TSDUs that were unsent
-abbrev pub Cuts : List (List ℕ) → Part × List (List ℕ) → Type 0
-Cuts unsent (p, rest) = (later : List (List ℕ)) → MakeTheSame (p ∷ uncut (rest ++ later)) (uncut (unsent ++ later))
-
 -- what is queued, then what the parts make
 abbrev pub made : Joining → List Part → List (List ℕ)
 made j parts = j.whole ++ tsdus_after j.begun parts
-
-abbrev pub JoinsPart : Joining → Bool → List ℕ → Joining → Type 0
-JoinsPart j end octets k = (later : List Part) → made j ((end, octets) ∷ later) ≡ made k later

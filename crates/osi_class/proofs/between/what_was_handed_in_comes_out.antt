@@ -31,9 +31,6 @@ pub quiet_arrived : (old new : LinkPair) (turns : List Turn) → HasWholeTsdus o
     flat_map left_in turns ≡ flat_map right_out turns
 quiet_arrived old new turns whole none run agree quiet = grind (arith, whole_kept, append_nil, nothing_between, quiet_unsent)
 
-pub quiet_begun : (p : LinkPair) → HasWholeTsdus p → AgreeInClass p → IsQuiet p → p.right.ends.joining.begun ≡ []
-quiet_begun p whole agree quiet = nothing_begun p whole quiet.rightward (quiet_unsent p agree quiet)
-
 -- units that are sent before the peer's link is opened
 send_early : (left right new : Standing) (units : List Given) (moves : List Move) → AllByRecursion OnlySends moves →
     MovesAlong right moves new →

@@ -1,8 +1,8 @@
 -- Every link keeps its bounds, its limit and its class.
-use Rattle.osi_class.proofs.Vocabulary.{pow-le-pow_right, ltb-false, Value, longest_tsdu, Ends, unit_size, fresh_ends, Flow, Sender}
-use Rattle.osi_class.proofs.Vocabulary.{Standing, next_by, next, taken_by, zero_standing, two_standing, fresh_two, Move, hand_in, give_out}
-use Rattle.osi_class.proofs.Vocabulary.{take_in, hand_out, Moves, IsSound, IsSoundFlow, TakesInRange, ◌≡◌, ℕ, ◌+◌, ◌-◌, ◌^◌, ◌<◌, ◌≤◌}
-use Rattle.osi_class.proofs.Vocabulary.{length, Option, arith, is_some, IfSome, IfOk, length-append, SizeCode}
+use Rattle.osi_class.proofs.Vocabulary.{pow-le-pow_right, ltb-false, Value, longest_tsdu, Ends, unit_size, fresh_ends, Flow, Standing}
+use Rattle.osi_class.proofs.Vocabulary.{next_by, taken_by, zero_standing, two_standing, fresh_two, Move, hand_in, give_out, take_in}
+use Rattle.osi_class.proofs.Vocabulary.{hand_out, Moves, IsSound, IsSoundFlow, TakesInRange, ◌≡◌, ℕ, ◌-◌, ◌^◌, ◌≤◌, length, Option, arith}
+use Rattle.osi_class.proofs.Vocabulary.{is_some, IfSome, IfOk, length-append, SizeCode}
 use Rattle.osi_tpdu.specs.Value as values
 use Rattle.osi_class.proofs.giving.a_link_gives_finitely_many_units.{giving_leaves}
 use Rattle.osi_class.proofs.between.parts_stay_in_order.{choose_ok, at_some, at_ok}
@@ -15,11 +15,6 @@ Safe e flow new = (new.ends.limit ≡ e.limit) × (length new.ends.joining.begun
 next_safe : (e : Ends) (flow : Option Flow) → length e.joining.begun ≤ longest_tsdu → IfSome flow IsSoundFlow →
     IfSome (next_by e flow) (λ p. Safe e flow p.1)
 next_safe e flow begun sound = grind arith
-
--- an AK with a credit that its field can hold
-record IsSoundSender (s : Sender) : Type 0 where
-  next : s.next < 128
-  credit : s.unacknowledged + s.credit ≤ 15
 
 taken_safe : (e : Ends) (flow : Option Flow) (unit : Value) → length e.joining.begun ≤ longest_tsdu → IfSome flow IsSoundFlow →
     values.HasFieldsInRange unit →

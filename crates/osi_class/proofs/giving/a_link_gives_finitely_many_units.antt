@@ -12,9 +12,6 @@ pub record LeavesTaking (e : Ends) (flow : Option Flow) (g : Given) (new : Stand
   pub class : is_some new.flow ≡ is_some flow
   pub unit : is_of_two g ≡ is_some flow
 
-abbrev Leaves : Ends → Option Flow → Given × Standing → Type 0
-Leaves e flow (g, new) = LeavesTaking e flow g new
-
 pub giving_leaves : (old new : Standing) (given : Given) → next old ≡ Some (given, new) → LeavesTaking old.ends old.flow given new
 giving_leaves old new given e = search (arith, at_some)
 

@@ -1,26 +1,15 @@
 -- TSDUs that are added to those to be sent together.
 use Rattle.osi_class.proofs.Vocabulary.{append_assoc, Drained, drained, all_given, left_to_give, given_one_by_one, one_by_one, Standing}
-use Rattle.osi_class.proofs.Vocabulary.{Given, with_tsdu, with_tsdus, next, hand_in, MovesAlong, Part, ◌≡◌, ℕ, zero, suc, ◌<◌, ◌≤◌, List}
-use Rattle.osi_class.proofs.Vocabulary.{[], ◌∷◌, ◌++◌, map, Option, Some, None, refl, sym, ◌∙◌, ap, arith, if◌then◌else◌}
+use Rattle.osi_class.proofs.Vocabulary.{Given, with_tsdu, with_tsdus, next, hand_in, MovesAlong, ◌≡◌, ℕ, zero, suc, ◌<◌, ◌≤◌, List, [], ◌∷◌}
+use Rattle.osi_class.proofs.Vocabulary.{◌++◌, map, Option, Some, None, refl, sym, ◌∙◌, ap, arith, if◌then◌else◌}
 use Rattle.osi_class.proofs.giving.giving_ends.{giving_lowers}
 use Rattle.osi_class.proofs.giving.a_link_gives_finitely_many_units.{giving_leaves, drained_none, drained_some}
 use Rattle.osi_class.proofs.between.parts_stay_in_order.{append_nil}
 
 -- ---- a TSDU that is added after others does not change what is given before it
 
-abbrev Gave : Type 0
-Gave = Option (Part × List (List ℕ))
-
-abbrev behind_gave : List ℕ → Gave → Gave
-behind_gave t None = None
-behind_gave t (Some (p, more)) = Some (p, more ++ t ∷ [])
-
 abbrev Next : Type 0
 Next = Option (Given × Standing)
-
-abbrev behind_next : List ℕ → Next → Next
-behind_next t None = None
-behind_next t (Some (unit, s)) = Some (unit, with_tsdu s t)
 
 -- ---- all that is given of one more
 

@@ -1,13 +1,9 @@
 -- What a link gives can be written.
 use Rattle.osi_class.proofs.Vocabulary.{AllByRecursion, Ends, Flow, octets_of, header_octets, Standing, Given, next_by, next, unit_of}
-use Rattle.osi_class.proofs.Vocabulary.{IsSound, IsSoundFlow, HasGivenInRange, Part, ◌≡◌, ℕ, ◌+◌, ◌<◌, ◌≤◌, List, length, Option, Some}
-use Rattle.osi_class.proofs.Vocabulary.{arith, IfSome, length-drop, IsOctets, octets_take, octets_drop, written, Fits}
+use Rattle.osi_class.proofs.Vocabulary.{IsSound, IsSoundFlow, HasGivenInRange, ◌≡◌, ℕ, ◌+◌, ◌<◌, ◌≤◌, length, Option, Some, arith, IfSome}
+use Rattle.osi_class.proofs.Vocabulary.{length-drop, IsOctets, octets_take, octets_drop, written, Fits}
 use Rattle.osi_class.proofs.between.parts_stay_in_order.{choose_some, at_some}
 use Rattle.osi_class.proofs.giving.the_units_of_one_tsdu.{take_drop}
-
--- a part of octets, and the rest
-abbrev Parts : ℕ → Part × List (List ℕ) → Type 0
-Parts limit p = IsOctets p.0.1 × (length p.0.1 ≤ limit) × AllByRecursion IsOctets p.1
 
 abbrev Ranges : Given × Standing → Type 0
 Ranges (g, new) = HasGivenInRange g × AllByRecursion IsOctets new.ends.unsent

@@ -62,12 +62,7 @@ record CanMove (r : ℕ) (session : Listener) (begun : List ℕ) (input : Input)
 answered : (r : ℕ) (session : Listener) (begun : List ℕ) (input : Input) (e : End) (t : CanMove r session begun input e) (b : Bool) →
     (react session input).closes ≡ b → IsProper session input →
     (h : HasLine r session e.lines) → Moves r session begun input e (to_session r input e)
-answered r session begun input e t true closes proper h =
-    let is = moved_by r session input e h in
-    let none = proper.silent closes in
-    let carrier : (to_session r input e).carrier ≡ closed_with r 128 e.carrier = grind arith in
-    let over = closed_ends r t.peer t.limit begun e.carrier t.is_open t.class in
-    grind (arith, written_puts, append-nil)
+answered r session begun input e t true closes proper h = grind (arith, moved_by, closed_ends, written_puts, append-nil)
 answered r session begun input e t false closes proper h =
     let is = moved_by r session input e h in
     let tsdus = sends session input in

@@ -2,10 +2,9 @@
 -- not. For what such an end does with the packets before a break of the other side.
 use Rattle.osi_honest.proofs.Vocabulary.{[], Err, inl, inr, length, List, nat_lt, None, Ok, refl, Result, Some, subst, sym, true, ℕ, ◌++◌}
 use Rattle.osi_honest.proofs.Vocabulary.{◌+◌, ◌∷◌, ◌≡◌, units_of, data0, Value, TpduFault, longest_tsdu, Standing, Zero, react_quiet}
-use Rattle.osi_honest.proofs.Vocabulary.{reacts_over, acts_cases, reacts, to_linked, to_only, Rows, Connection, linked, State as Carrier}
-use Rattle.osi_honest.proofs.Vocabulary.{packet_is, starved_over, after_packet, with_carrier, End, Starves, arith, LinkFault, breaks, react}
+use Rattle.osi_honest.proofs.Vocabulary.{reacts_over, acts_cases, reacts, linked, State as Carrier, packet_is, starved_over, after_packet}
+use Rattle.osi_honest.proofs.Vocabulary.{with_carrier, End, Starves, arith, react}
 use Rattle.osi_carrier.specs.Packets as carriers
-use Rattle.osi_carrier.specs.State.{ends}
 use Rattle.osi_honest.proofs.class_0.what_a_packet_does_in_class_0.{Over, attends_over}
 use Rattle.osi_honest.proofs.class_0.what_a_shortage_of_memory_leaves.{out_over}
 
@@ -35,15 +34,6 @@ pub record IsZeroAt (r peer : ℕ) (link : Standing) (c : Carrier) : Type 0 wher
 -- ---- one unit
 
 module _ (r peer : ℕ) (link : Standing) (c : Carrier) (z : IsZeroAt r peer link c) where
-  breaks_over : (fault : LinkFault) → Over c.outgoing (breaks r peer fault c.class c)
-  breaks_over fault = grind arith
-
-  in_link : (v : Value) → IsHard link.ends.joining.begun v → Over c.outgoing (to_linked r peer link v c)
-  in_link v long = grind arith
-
-  in_only : (v : Value) → IsHard link.ends.joining.begun v → Over c.outgoing (to_only c.live v c)
-  in_only v long = subst (λ (rows : Rows Connection). Over c.outgoing (to_only rows v c)) (sym z.live) (in_link v long)
-
   unit_over : (v : Value) → IsHard link.ends.joining.begun v → Over c.outgoing (react v c)
   unit_over v long = grind (arith, react_quiet)
 

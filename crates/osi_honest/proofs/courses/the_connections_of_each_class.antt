@@ -2,15 +2,14 @@
 -- of class 0.
 -- For the units that arrive for a connection.
 use Rattle.osi_honest.proofs.Vocabulary.{[], ap, Bool, Err, false, if◌then◌else◌, is_some, List, None, not, Ok, Option, refl, Result, Some}
-use Rattle.osi_honest.proofs.Vocabulary.{subst, sym, true, ℕ, ◌&&◌, ◌++◌, ◌+◌, ◌∙◌, ◌∷◌, ◌≡◌, eq-eqb, eqb-true, acknowledge, confirm, data0}
-use Rattle.osi_honest.proofs.Vocabulary.{data2, disconnect, disconnected, error, request, Value, Standing, taken, with_tsdu, accept, refuse}
-use Rattle.osi_honest.proofs.Vocabulary.{selected_by, Selection, LinkFault, Class, Two, Zero, orderly_same, orderly_unit, react_over}
-use Rattle.osi_honest.proofs.Vocabulary.{react_quiet, class_error, closed_on, link_of, may_connect, open_link, or_else, room_error, sent_on}
-use Rattle.osi_honest.proofs.Vocabulary.{Happening, agreed_size, confirmed, opened_link, IsOrderly, pumped, answers, before_class, denies}
-use Rattle.osi_honest.proofs.Vocabulary.{handed_out, has_peer, in_class, in_two, in_zero, is_full, leaves, opens_by as opens, settles}
-use Rattle.osi_honest.proofs.Vocabulary.{taking, to_asked, to_connection, to_linked, to_only, to_unknown, put, Rows, value_at, asked}
-use Rattle.osi_honest.proofs.Vocabulary.{Connection, linked, State as Carrier, EndReason, OpenError, Ended, NotCaller, arith, Connect}
-use Rattle.osi_honest.proofs.Vocabulary.{breaks, react}
+use Rattle.osi_honest.proofs.Vocabulary.{subst, sym, true, ℕ, ◌++◌, ◌+◌, ◌∙◌, ◌∷◌, ◌≡◌, eq-eqb, eqb-true, confirm, disconnect, disconnected}
+use Rattle.osi_honest.proofs.Vocabulary.{error, request, Value, Standing, taken, with_tsdu, accept, refuse, selected_by, Selection}
+use Rattle.osi_honest.proofs.Vocabulary.{LinkFault, Class, Two, Zero, orderly_same, orderly_unit, react_over, react_quiet, class_error}
+use Rattle.osi_honest.proofs.Vocabulary.{closed_on, link_of, may_connect, open_link, or_else, room_error, sent_on, Happening, agreed_size}
+use Rattle.osi_honest.proofs.Vocabulary.{confirmed, opened_link, IsOrderly, pumped, answers, before_class, denies, handed_out, has_peer}
+use Rattle.osi_honest.proofs.Vocabulary.{in_class, in_two, in_zero, is_full, leaves, opens_by as opens, settles, taking, to_asked}
+use Rattle.osi_honest.proofs.Vocabulary.{to_connection, to_linked, to_only, to_unknown, put, Rows, value_at, asked, Connection, linked}
+use Rattle.osi_honest.proofs.Vocabulary.{State as Carrier, EndReason, OpenError, Ended, NotCaller, arith, Connect, breaks, react}
 use Rattle.osi_carrier.specs.Calls.{asks as requests}
 use Rattle.osi_honest.proofs.keeping.what_a_unit_keeps_a_turn_keeps.{IsKept}
 use Rattle.osi_honest.proofs.reading.what_a_link_gives_can_be_written.{gives_data, taken_zero}
@@ -35,45 +34,15 @@ put_one r x y = ap (λ (b : Bool). if b then (r, x) ∷ [] else (r, y) ∷ []) (
 
 -- ---- a unit in class 2
 
-never_zero : (a b d : Bool) → (if a then Some Two else (if b && (false && d) then Some Zero else None)) ≡ Some Zero →
-    (if a then Some Two else (if b && (false && d) then Some Zero else None)) ≡ Some Two
-never_zero a b d h = grind arith
-
 module _ (s : Carrier) (is : s.class ≡ Some Two) where
   two_accepts : (c : Connect) (selection : Selection) (held : Option Class) → held ≡ Some Two → ByClass (answers c selection held s)
   two_accepts c selection held e = grind arith
-
-  confirmed_two : (c : Connect) → confirmed c s.local s.class ≡ Some Zero → confirmed c s.local s.class ≡ Some Two
-  confirmed_two c h = grind (arith, never_zero)
-
-  two_opens : (r : ℕ) (c : Connect) (class : Option Class) → (class ≡ Some Zero → class ≡ Some Two) → ByClass (opens r c class s)
-  two_opens r c class h = grind arith
-
-  two_taking : (r peer : ℕ) (result : Result Standing LinkFault) → ByClass (taking r peer result s)
-  two_taking r peer result = grind arith
-
-  two_leaves : (r peer reason : ℕ) (held : Option Class) → ByClass (leaves r peer reason held s)
-  two_leaves r peer reason held = grind arith
 
   two_connection : (r : ℕ) (o : Option Connection) (v : Value) → ByClass (to_connection r o v s)
   two_connection r o v = grind arith
 
   two_in : (b : Bool) (v : Value) → ByClass (in_two b v s)
-  two_in false (request c) = grind (arith, two_accepts)
-  two_in false (data0 end user) = two is
-  two_in true (confirm d c) = two_connection d (value_at d s.live) (confirm d c)
-  two_in false (confirm d c) = two_connection d (value_at d s.live) (confirm d c)
-  two_in true (disconnect d source reason user) = two_connection d (value_at d s.live) (disconnect d source reason user)
-  two_in false (disconnect d source reason user) = two_connection d (value_at d s.live) (disconnect d source reason user)
-  two_in true (disconnected d source) = two_connection d (value_at d s.live) (disconnected d source)
-  two_in false (disconnected d source) = two_connection d (value_at d s.live) (disconnected d source)
-  two_in true (data2 d number end user) = two_connection d (value_at d s.live) (data2 d number end user)
-  two_in false (data2 d number end user) = two_connection d (value_at d s.live) (data2 d number end user)
-  two_in true (acknowledge credit d number) = two_connection d (value_at d s.live) (acknowledge credit d number)
-  two_in false (acknowledge credit d number) = two_connection d (value_at d s.live) (acknowledge credit d number)
-  two_in true (error d cause) = two_connection d (value_at d s.live) (error d cause)
-  two_in true _ = two is
-  two_in false (error d cause) = two_connection d (value_at d s.live) (error d cause)
+  two_in b v = search (arith, two_accepts, two_connection)
 
 -- ---- a unit in class 0
 

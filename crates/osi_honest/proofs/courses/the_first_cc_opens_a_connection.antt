@@ -31,14 +31,6 @@ pub data Awaiting (is_caller : Bool) (r : ℕ) (took put : List Marked) (given :
       Answers r peer unit answer → put ≡ others ++ (answer ++ put_later) → WhileOpen r peer later put_later t →
       Awaiting is_caller r took put given t
 
-pub awaiting_life : (is_caller : Bool) (r : ℕ) (took put : List Marked) (given : Bool) (t : Stage) → Awaiting is_caller r took put given t →
-    Life is_caller r early took put t
-awaiting_life is_caller r took put given t (awaits a b none has is) = stays a b (inl is)
-awaiting_life is_caller r took put given t (goes a b is) = stays a b (inr is)
-awaiting_life is_caller r took put given t (opens_so peer unit o some later none no_cc is others answer put_later apart none_answer ans so
-    w) =
-    opens_by peer unit o some later none is others answer put_later apart none_answer ans so w
-
 -- ---- one unit at most
 
 abbrev pub IsShort : List Marked → Type 0
@@ -100,8 +92,7 @@ module _ (is_caller : Bool) (r : ℕ) where
 
 cc_reference : {A : Type 0} (r : ℕ) (x : Connect) (s : Carrier) (o : Option Connection) → value_at r s.live ≡ Some asked → o ≡ Some asked →
     (to_connection r o (confirm r x) s).ended ≡ None → value_at r (to_connection r o (confirm r x) s).live ≡ Some asked → A
-cc_reference r x s (Some asked) was is lasts now = grind (arith, never_lasts, put_here)
-cc_reference r x s _ was is lasts now = absurd (cc)
+cc_reference r x s h was is lasts now = search (arith, never_lasts, put_here)
 
 cc_before : {A : Type 0} (b : Bool) (r : ℕ) (x : Connect) (s : Carrier) → value_at r s.live ≡ Some asked →
     (before_class b (confirm r x) s).ended ≡ None → value_at r (before_class b (confirm r x) s).live ≡ Some asked → A

@@ -114,8 +114,7 @@ module _ (is_caller : Bool) (r : ℕ) (moves : Deeds) (e : End) (lasts : e.carri
   own_call : (call : Call) → call_error r call e ≡ None → HasSerial call → Course is_caller r moves e →
       Then (session_puts r (called call) e) (to_session r (called call) e)
   own_call call allowed serial (unknown none side free live lines) = grind (arith, never_lasts, says_is)
-  own_call call allowed serial (awaited none c terms side was given here kept) =
-      absurd (never_lasts (open_link r e.carrier) (says_is r call e allowed).granted.opened (grind arith))
+  own_call call allowed serial (awaited none c terms side was given here kept) = grind (arith, never_lasts, says_is r call e allowed)
   own_call call allowed serial (is_gone (closed at calls is session speaks given shut)) =
       absurd (never_lasts (open_link r e.carrier) (says_is r call e allowed).granted.opened (link_shut r e.carrier shut))
   own_call call allowed serial (is_gone (over at calls heard unheard is session speaks parts none ended)) = grind (arith, never_lasts)

@@ -1,14 +1,12 @@
 -- What the link of a connection does as it takes a unit, and as its session hands in TSDUs; and what a session of another
 -- connection leaves of it.
 -- For the course of a connection.
-use Rattle.osi_honest.proofs.Vocabulary.{[], ap, Bool, drop, Err, false, if◌then◌else◌, inl, inr, List, map, None, Ok, Option, refl, Result}
-use Rattle.osi_honest.proofs.Vocabulary.{Some, sym, ℕ, ◌∙◌, ◌∷◌, ◌≡◌, ◌≢◌, ◌⊎◌, append-nil, map-append, may_be_followed, Value}
-use Rattle.osi_honest.proofs.Vocabulary.{drained_leaves, drained_moves, Ends, Flow, Sender, all_given, Joining, with_part, Standing, taken}
-use Rattle.osi_honest.proofs.Vocabulary.{taken_by, unit_of, with_joined, with_sender, with_tsdu, hand_out, Move, MovesAlong, take_in}
-use Rattle.osi_honest.proofs.Vocabulary.{tsdus_in, tsdus_out, LinkFault, put_other, put_here, closed_on, closed_with, open_link, sent}
+use Rattle.osi_honest.proofs.Vocabulary.{[], ap, Bool, drop, false, if◌then◌else◌, inl, inr, List, map, None, Ok, Option, refl, Some, sym}
+use Rattle.osi_honest.proofs.Vocabulary.{ℕ, ◌∙◌, ◌∷◌, ◌≡◌, ◌≢◌, ◌⊎◌, append-nil, map-append, may_be_followed, Value, drained_leaves}
+use Rattle.osi_honest.proofs.Vocabulary.{drained_moves, all_given, Joining, Standing, taken, unit_of, with_tsdu, hand_out, Move, MovesAlong}
+use Rattle.osi_honest.proofs.Vocabulary.{take_in, tsdus_in, tsdus_out, put_other, put_here, closed_on, closed_with, open_link, sent}
 use Rattle.osi_honest.proofs.Vocabulary.{sent_all, sent_on, pumped, written_by, handed_out, value_at, closing, linked, State as Carrier}
-use Rattle.osi_honest.proofs.Vocabulary.{SendError, answers_by, sent_unless, IsShut, units_given, units_taken, arith, TsduTooLong}
-use Rattle.osi_honest.proofs.Vocabulary.{flat_map-append}
+use Rattle.osi_honest.proofs.Vocabulary.{SendError, answers_by, sent_unless, IsShut, units_given, units_taken, arith, flat_map-append}
 use Rattle.osi_honest.proofs.courses.what_a_session_puts.{all_put, one_puts}
 use Rattle.osi_honest.proofs.courses.what_calls_of_a_link_say.{HandsIn, gives, gives_none_in, gives_none_out, gives_units, gives_untaken}
 use Rattle.osi_honest.proofs.courses.what_calls_of_a_link_say.{hands_more, hands_one, one_in}
@@ -18,19 +16,6 @@ use Rattle.osi_honest.proofs.courses.what_calls_of_a_link_say.{hands_more, hands
 -- it has no whole TSDU, or one, and then no unit follows
 abbrev pub HasFew : Value → List (List ℕ) → Type 0
 HasFew v whole = (whole ≡ []) ⊎ ((tsdu : List ℕ) × (whole ≡ tsdu ∷ []) × (may_be_followed v ≡ false))
-
-part_by : (v : Value) (e : Ends) (flow : Option Flow) (last : Bool) (octets : List ℕ) (after : Standing) (b : Bool) →
-    may_be_followed v ≡ false → e.joining.whole ≡ [] →
-    with_joined e flow (if b then Err TsduTooLong else Ok (with_part e.joining last octets)) ≡ Ok after → HasFew v after.ends.joining.whole
-part_by v e flow last octets after b alone none is = grind arith
-
-sender_by : (v : Value) (e : Ends) (flow : Flow) (after : Standing) (o : Result Sender LinkFault) → e.joining.whole ≡ [] →
-    with_sender e flow o ≡ Ok after → HasFew v after.ends.joining.whole
-sender_by v e flow after o none is = grind arith
-
-few_by : (e : Ends) (o : Option Flow) (v : Value) (after : Standing) → e.joining.whole ≡ [] → taken_by e o v ≡ Ok after →
-    HasFew v after.ends.joining.whole
-few_by e o v after none is = grind (arith, part_by, sender_by)
 
 abbrev with_whole : Standing → List (List ℕ) → Standing
 with_whole link whole = record link { ends = record link.ends { joining = record link.ends.joining { whole = whole } } }

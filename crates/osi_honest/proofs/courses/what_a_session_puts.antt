@@ -95,8 +95,7 @@ pub closing_puts : (q : ℕ) (c : Carrier) → Puts c (marked 0 (put_closing q (
 closing_puts q c = grind (arith, marked_all, append-nil, class_written)
 
 answer_written : (b : Bool) (q : ℕ) (tsdus : List (List ℕ)) (c : Carrier) → Puts c (answer_puts b q tsdus c) (answers_by b q tsdus c)
-answer_written true q tsdus c = closing_puts q c
-answer_written false q tsdus c = grind (arith, marked_all, unless_written)
+answer_written h q tsdus c = grind (arith, closing_puts, marked_all, unless_written)
 
 move_written : (q : ℕ) (o : Option Listener) (input : Input) (c : Carrier) → Puts c (move_puts q o input c) (carrier_by q o input c)
 move_written q o input c = grind (arith, puts_none, answer_written)

@@ -75,7 +75,7 @@ module _ (is_caller : Bool) (r : ℕ) (moves : Deeds) (x : Happening) (e : End) 
   gone_hears_by None lasts (closed at calls is session speaks given shut) =
       shut_hears (r == told_of x) refl lasts is session (closed at calls is session speaks given shut) shut
   gone_hears_by None lasts (over at calls heard unheard is session speaks parts none ended) = grind (arith, never_lasts, hears_keep)
-  gone_hears_by None lasts (never none ended) = absurd (never_lasts e.carrier.ended ended ((hears_keep x e).lasts lasts))
+  gone_hears_by None lasts (never none ended) = absurd (never_lasts e.carrier.ended ended ((hears_keep x e).leaves.lasts lasts))
 
   gone_hears : Gone is_caller r moves e → Gone is_caller r moves (hears x e)
   gone_hears g = gone_hears_by (hears x e).carrier.ended refl g

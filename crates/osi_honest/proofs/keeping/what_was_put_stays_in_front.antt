@@ -60,8 +60,7 @@ module _ (Q : List ℕ → Type 0) (on : (out : List ℕ) (units : List Value) �
   out_before is_caller unit s p = p
 
   out_only : (live : Rows Connection) (unit : Value) (s : Carrier) → Q s.outgoing → Q (to_only live unit s).outgoing
-  out_only [] unit s p = p
-  out_only ((r, connection) ∷ rows) unit s p = grind (arith, out_unknown, out_asked, out_linked, out_closing)
+  out_only live unit s p = grind (arith, out_unknown, out_asked, out_linked, out_closing)
 
   out_two : (is_caller : Bool) (unit : Value) (s : Carrier) → Q s.outgoing → Q (in_two is_caller unit s).outgoing
   out_two true (request c) s p = p

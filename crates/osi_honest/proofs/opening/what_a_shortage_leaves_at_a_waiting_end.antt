@@ -40,9 +40,7 @@ units_out u e (v ∷ done) next more d w us lasts is =
 
 starved_first : (u : List ℕ) (e : End) (d : Carrier) → Waits e → IsOctets u → carriers.Starves e.carrier u d →
     Over e.carrier.outgoing d ⊎ TurnsAway e.carrier.outgoing d.outgoing
-starved_first u e d w octets (units, is, out) =
-    units_out u e out.done out.next out.more d w (subst (λ (l : List Value). AreUnits l u) out.all (units_found u units octets is))
-    out.lasts out.ended
+starved_first u e d w octets (units, is, out) = grind (arith, units_out, units_found u units octets is)
 
 -- ---- the events that were handled
 

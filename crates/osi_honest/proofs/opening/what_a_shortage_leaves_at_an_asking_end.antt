@@ -38,9 +38,7 @@ module _ (r : ℕ) (session : Listener) (u : List ℕ) (e : End) (w : Asks r ses
           (grind (arith, reacts_over))
 
   starved_first : (d : Carrier) → IsOctets u → carriers.Starves e.carrier u d → Elsewhere e.carrier.outgoing d
-  starved_first d octets (units, is, out) =
-      units_out out.done out.next out.more d (subst (λ (l : List Value). AreUnits l u) out.all (units_found u units octets is))
-      out.lasts out.ended
+  starved_first d octets (units, is, out) = grind (arith, units_out, units_found u units octets is)
 
   module _ (new : End) (octets : IsOctets u) (ended : IsSome new.carrier.ended) where
     out_then : (c : Carrier) → Elsewhere e.carrier.outgoing c → RunsOut (with_carrier c e) new → Elsewhere e.carrier.outgoing new.carrier

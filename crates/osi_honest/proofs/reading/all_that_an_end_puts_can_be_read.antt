@@ -255,5 +255,4 @@ pub shown_units : AllProper → (d : Direction) (is_caller : Bool) (local : Loca
     (capture : Capture) (units : List (List ℕ)) (ending : Ending) → IsFresh is_caller local begin → Run begin turns end →
     IsSeen d turns capture → Cuts (stream d capture) units ending → AllByRecursion HasOneUnit units
 shown_units proper d is_caller local begin end turns capture units ending fresh run seen cut =
-    let all = run_to_read proper is_caller local begin end turns fresh run in
-    grind (arith, shown_packets, all_one_unit, all_octets)
+    grind (arith, shown_packets, all_one_unit, all_octets, run_to_read proper is_caller local begin end turns fresh run)

@@ -4,8 +4,7 @@ use Rattle.osi_honest.proofs.Vocabulary.{[], arith, Bool, cond, false, inl, inr,
 use Rattle.osi_honest.proofs.Vocabulary.{◌∷◌, ◌≡◌, ◌≤◌, ◌⊎◌, le-leb, leb_tells, units_of, Capture, of, passed_before, agreed, complete_in}
 use Rattle.osi_honest.proofs.Vocabulary.{first_unit, Handshake, handshake_from, met_before, opening, packet_length, shaken, shaken_first}
 use Rattle.osi_honest.proofs.Vocabulary.{silent, step_of, Direction, Left, Right}
-use Rattle.osi_judge.specs.Transport.{Move, opens}
-use Rattle.osi_honest.proofs.reading.what_the_judge_reads_of_a_side.{Closes, FirstUnit, IsCalm, IsStrayed, StaysStrayed, Starts}
+use Rattle.osi_honest.proofs.reading.what_the_judge_reads_of_a_side.{FirstUnit, IsCalm, IsStrayed, StaysStrayed, Starts}
 
 -- ---- a CC of class 0 came first
 
@@ -16,9 +15,6 @@ agreed_from (u ∷ us) = agreed_from us
 pub calm_after : (n : ℕ) (u : List ℕ) (us : List (List ℕ)) → shaken_first (first_unit (units_of u)) ≡ agreed →
     IsCalm (handshake_from silent (complete_in n (u ∷ us)))
 calm_after n u us first = grind (arith, leb, cond, agreed_from)
-
-never_opens : (m : Move) (reference : ℕ) → Closes m → m ≡ opens reference → ⊥
-never_opens m reference h e = grind arith
 
 pub agrees : (h : Handshake) (unit : FirstUnit) → Starts Right (step_of Right opening h unit) → shaken_first unit ≡ agreed
 agrees h unit h2 = grind arith

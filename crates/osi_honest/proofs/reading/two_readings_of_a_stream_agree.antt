@@ -59,11 +59,6 @@ same_split (a ∷ some) (b ∷ others) x y l e =
 same_length : (high low n m : ℕ) → 256 * high + low ≡ n + 4 → high ≡ (m + 4) / 256 → low ≡ (m + 4) % 256 → n ≡ m
 same_length high low n m counted h l = omega arith
 
-record Heads (res high low w0 w1 w2 : ℕ) (u w x y : List ℕ) : Type 0 where
-  high_is : high ≡ w1
-  low_is : low ≡ w2
-  rest_is : u ++ x ≡ w ++ y
-
 -- a packet that is read where one was written is this one
 pub packet_again : (u w b x y : List ℕ) → IsPacket u b → b ++ x ≡ packet_of w ++ y → (u ≡ w) × (x ≡ y)
 packet_again u w b x y p e = grind (arith, same_split, same_length)

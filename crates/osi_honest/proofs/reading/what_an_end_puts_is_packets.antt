@@ -1,13 +1,13 @@
 -- Whatever arrives, whatever its user calls and however much memory there is, an end puts packets, whole and in order; so the
 -- judge reads of any prefix of them packets, and then perhaps the beginning of one.
 -- For the law that an end puts packets.
-use Rattle.osi_honest.proofs.Vocabulary.{[], ap, append_assoc, arith, Bool, if◌then◌else◌, is_some, length, List, option_map, refl, subst}
-use Rattle.osi_honest.proofs.Vocabulary.{sym, ℕ, ◌++◌, ◌+◌, ◌∙◌, ◌∷◌, ◌≡◌, ◌≤◌, append-nil, append_cancel_left, IsBadLength, IsBadVersion}
-use Rattle.osi_honest.proofs.Vocabulary.{IsFaultOf, ArePackets, Cuts, Ending, TpktFault, tsap_octets, request, Value, written}
-use Rattle.osi_honest.proofs.Vocabulary.{written_header, proposal, packets, Broken, session_carried, disconnect_carrier, ends, user_does}
-use Rattle.osi_honest.proofs.Vocabulary.{UserCall, breaking, calling, connecting, disconnecting, Call, Calls, carried_in, carrying, feeding}
-use Rattle.osi_honest.proofs.Vocabulary.{telling, End, Holding, Capture, stream, Direction, EndsWithin, IsSeen, put_along, Act, Acts}
-use Rattle.osi_honest.proofs.Vocabulary.{carried_by, Run, Takes, Turn, serving, using}
+use Rattle.osi_honest.proofs.Vocabulary.{[], ap, append_assoc, arith, Bool, if◌then◌else◌, is_some, List, option_map, refl, subst, sym, ℕ}
+use Rattle.osi_honest.proofs.Vocabulary.{◌++◌, ◌+◌, ◌∙◌, ◌∷◌, ◌≡◌, ◌≤◌, append-nil, append_cancel_left, IsBadLength, IsBadVersion}
+use Rattle.osi_honest.proofs.Vocabulary.{IsFaultOf, ArePackets, Cuts, Ending, TpktFault, tsap_octets, request, Value, written, proposal}
+use Rattle.osi_honest.proofs.Vocabulary.{packets, Broken, session_carried, disconnect_carrier, ends, user_does, UserCall, breaking, calling}
+use Rattle.osi_honest.proofs.Vocabulary.{connecting, disconnecting, Call, Calls, carried_in, carrying, feeding, telling, End, Holding}
+use Rattle.osi_honest.proofs.Vocabulary.{Capture, stream, Direction, EndsWithin, IsSeen, put_along, Act, Acts, carried_by, Run, Takes, Turn}
+use Rattle.osi_honest.proofs.Vocabulary.{serving, using}
 use Rattle.osi_honest.proofs.reading.two_readings_of_a_stream_agree.{no_packet_in, packet_again}
 use Rattle.osi_honest.proofs.keeping.what_a_unit_keeps_a_turn_keeps.{IsKept, kept_feeds}
 use Rattle.osi_honest.proofs.class_0.what_class_0_writes_of_a_tsdu.{packets_joined}
@@ -87,9 +87,6 @@ left_packets (u ∷ us) [] s r later (b, t, p, is, h) e = grind (arith, no_packe
 left_packets (u ∷ us) (v ∷ vs) s r later (b, t, p, is, h) e =
     left_packets us vs t r later h (packet_again u (written v) b (t ++ later) (packets vs) p
     (sym (append_assoc b t later) ∙ ap (λ (x : List ℕ). x ++ later) (sym is) ∙ e)).1
-
-some_header : (v : Value) → 2 ≤ length (written_header v)
-some_header v = grind arith
 
 version_right : (r later : List ℕ) (vs : List Value) → r ++ later ≡ packets vs → IsBadVersion r → ⊥
 version_right [] later vs e bad = let some = bad.0 in absurd (omega arith)

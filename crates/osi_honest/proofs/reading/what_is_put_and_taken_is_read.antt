@@ -94,8 +94,7 @@ parts_bring b ((true, octets) ∷ parts) short few = (
   octets,
   grind (arith, ltb-true, dt_by, length-append b octets, parts_bring [] parts short.1 few),
 )
-parts_bring b ((false, octets) ∷ parts) short few =
-    grind (arith, dt_by, first_longer b octets parts short few, parts_bring (b ++ octets) parts short few)
+parts_bring b ((false, octets) ∷ parts) short few = grind (arith, dt_by, first_longer, parts_bring (b ++ octets) parts short few)
 
 last_one : (some others : List (List ℕ)) (x y : List ℕ) → some ≡ others → some ++ x ∷ [] ≡ others ++ y ∷ [] → x ≡ y
 last_one some others x y same e =

@@ -49,14 +49,7 @@ single_most : (code : ℕ) (o : Option ℕ) → length (flat_map item_octets (it
 single_most code o = grind arith
 
 items_most : (c : Connect) → IsPlain c → length (flat_map item_octets (written_items c.parameters)) ≤ 77
-items_most c plain =
-    let p = c.parameters in
-    let a = single_most 0xC0 p.size in
-    let b = slot_most 0xC1 p.calling 32 plain.calling in
-    let d = slot_most 0xC2 p.called 32 plain.called in
-    let e = single_most 0xC6 p.additional in
-    let f = slot_most 0xC7 p.alternative 1 plain.alternative in
-    grind (arith, flat_map-append, length-append)
+items_most c plain = grind (arith, single_most, slot_most, flat_map-append, length-append)
 
 -- ---- CR and CC
 

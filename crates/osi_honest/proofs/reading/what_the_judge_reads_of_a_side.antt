@@ -2,12 +2,12 @@
 -- packets there are none.
 -- For what a capture shows of an end.
 use Rattle.osi_honest.proofs.Vocabulary.{[], ap, append_assoc, arith, Bool, cond, if◌then◌else◌, inl, inr, length, List, map, nat_le, Ok}
-use Rattle.osi_honest.proofs.Vocabulary.{Option, refl, Result, Some, ℕ, ◌++◌, ◌+◌, ◌<◌, ◌∙◌, ◌∷◌, ◌≡◌, ◌≤◌, ◌⊎◌, le-leb, length-append}
-use Rattle.osi_honest.proofs.Vocabulary.{filter, ArePackets, units_of, data0, Value, TpduFault, Part, packets, agreed, answering_step}
-use Rattle.osi_honest.proofs.Vocabulary.{asked_again, asking, astray, between, brought, first_of, first_step, first_unit, Handshake}
-use Rattle.osi_honest.proofs.Vocabulary.{has_asked, ignores, moved, opening, packet_length, packets_length, refuses, Sent, sent_by}
-use Rattle.osi_honest.proofs.Vocabulary.{sent_from, silent, Stage, stage_behind, stage_from, step_of, stopped, stops, within, Direction}
-use Rattle.osi_honest.proofs.Vocabulary.{Left, Right, Stop, NoOpening, NothingToAnswer, OtherClass, dt, units_put}
+use Rattle.osi_honest.proofs.Vocabulary.{Option, refl, Result, Some, ℕ, ◌++◌, ◌+◌, ◌<◌, ◌∷◌, ◌≡◌, ◌≤◌, ◌⊎◌, le-leb, length-append, filter}
+use Rattle.osi_honest.proofs.Vocabulary.{ArePackets, units_of, data0, Value, TpduFault, Part, packets, agreed, answering_step, asked_again}
+use Rattle.osi_honest.proofs.Vocabulary.{asking, astray, between, brought, first_of, first_step, first_unit, Handshake, has_asked, ignores}
+use Rattle.osi_honest.proofs.Vocabulary.{moved, opening, packet_length, packets_length, refuses, Sent, sent_by, sent_from, silent, Stage}
+use Rattle.osi_honest.proofs.Vocabulary.{stage_behind, stage_from, step_of, stopped, stops, within, Direction, Left, Right, Stop, NoOpening}
+use Rattle.osi_honest.proofs.Vocabulary.{OtherClass, dt, units_put}
 use Rattle.osi_judge.specs.Transport.{asked, Move, asks, opens, refused}
 
 -- what the first unit of a packet is, or why it has none
@@ -117,10 +117,6 @@ first_starts d h unit = grind (arith, first_value)
 
 -- ---- after a refusal no TSDU is read
 
--- what is read after a packet, by what it means
-abbrev after_move : (d : Direction) (met : ℕ → Handshake) (s : Stage) (at : ℕ) (u : List ℕ) (us : List (List ℕ)) → Move → List Sent
-after_move d met s at u us m = brought s at u m ++ sent_from d met (moved s at m) (at + packet_length u) us
-
 pub sent_refused : (d : Direction) (met : ℕ → Handshake) (place at : ℕ) (us : List (List ℕ)) → sent_from d met (refused place) at us ≡ []
 sent_refused d met place at [] = refl
 sent_refused d met place at (u ∷ us) = grind (arith, sent_stopped, sent_refused d met place (at + packet_length u) us)
@@ -177,12 +173,6 @@ abbrev pub HasNoData : FirstUnit → Type 0
 HasNoData (Ok (Some (data0 end octets))) = ⊥
 HasNoData unit = Unit {0}
 
-by_references : (b : Bool) → Closes (if b then refuses else stops NothingToAnswer)
-by_references b = grind arith
-
-between_closes : (d : Direction) (h : Handshake) (unit : FirstUnit) → HasNoData unit → Closes (step_of d between h unit)
-between_closes d h unit none = grind arith
-
 -- after a CR it closes too, or it is ignored since the other side has strayed
 asking_closes : (d : Direction) (h : Handshake) (unit : FirstUnit) → HasNoData unit → Closes (step_of d asking h unit) ⊎ IsStrayed h
 asking_closes d h unit none = grind arith
@@ -205,16 +195,10 @@ none_strayed d met stays at (u ∷ us) strayed = elim (strayed_ignores d (met at
 
 none_asking : (d : Direction) (met : ℕ → Handshake) → StaysStrayed met → (at : ℕ) (u : List ℕ) (us : List (List ℕ)) →
     HasNoData (first_unit (units_of u)) → sent_from d met asking at (u ∷ us) ≡ []
-none_asking d met stays at u us none = elim (asking_closes d (met at) (first_unit (units_of u)) none) [
-  | inl c ↦ grind (arith, sent_refused, sent_stopped)
-  | inr strayed ↦ none_strayed d met stays at (u ∷ us) strayed
-]
+none_asking d met stays at u us none = grind (arith, asking_closes, sent_refused, sent_stopped, none_strayed)
 
 -- no TSDU is read of a side whose second packet has no DT of class 0
 pub none_second : (d : Direction) (met : ℕ → Handshake) → StaysStrayed met → (u next : List ℕ) (us : List (List ℕ)) →
     HasNoData (first_unit (units_of next)) → Starts d (step_of d opening (met 0) (first_unit (units_of u))) →
     sent_from d met opening 0 (u ∷ next ∷ us) ≡ []
-none_second Left met stays u next us none (reference, is) = grind (arith, none_asking)
-none_second Right met stays u next us none (reference, is) =
-    ap (after_move Right met opening 0 u (next ∷ us)) is
-    ∙ (grind (arith, sent_refused, sent_stopped))
+none_second d met stays u next us none h = grind (arith, none_asking, sent_refused, sent_stopped)

@@ -97,10 +97,7 @@ never_opened answer _ other octets e is = cc
 
 other_closes : (answer : Value) → IsOtherAnswer answer → IsOctets (written answer) → (h : Handshake) →
     Closes (step_of Right opening h (first_unit (units_of (written answer))))
-other_closes answer other octets h = elim (first_starts Right h (first_unit (units_of (written answer)))) [
-  | inl starts ↦ search (arith, never_opened, agrees)
-  | inr closes ↦ closes
-]
+other_closes answer other octets h = grind (arith, never_opened, agrees, first_starts Right h (first_unit (units_of (written answer))))
 
 module _ (capture : Capture) (coming : List ℕ) (others : List Sent) (met back : ℕ → Handshake)
     (counts : Counts Right capture coming back others) (proper : AllProper) (steady : IsSteady Left back) where

@@ -2,7 +2,7 @@
 -- protocol first.
 -- For the laws that an end is never blamed.
 use Rattle.osi_honest.proofs.Vocabulary.{[], ap, append_assoc, arith, Bool, false, length, List, None, Option, refl, Some, subst, suc, true}
-use Rattle.osi_honest.proofs.Vocabulary.{zero, ℕ, ◌++◌, ◌+◌, ◌<◌, ◌||◌, ◌∷◌, ◌≡◌, length-append, Local, Holding, Capture, of, passed_before}
+use Rattle.osi_honest.proofs.Vocabulary.{zero, ℕ, ◌++◌, ◌+◌, ◌<◌, ◌∷◌, ◌≡◌, length-append, Local, Holding, Capture, of, passed_before}
 use Rattle.osi_honest.proofs.Vocabulary.{stream, broke_session, FirstBreak, IsFirstIn, IsFoundIn, IsStoppedIn, StandsIn, met_before}
 use Rattle.osi_honest.proofs.Vocabulary.{opening, Direction, Left, Right, Finding, Stopped, EndsWithin, IsFresh, IsPrefix, IsSeen}
 use Rattle.osi_honest.proofs.Vocabulary.{PassAfter, Run, Turn}
@@ -46,9 +46,6 @@ pub front_seen : (d : Direction) (turns : List Turn) (front back : Capture) → 
 front_seen d turns front back seen = search (arith, front_prefix, front_after)
 
 -- ---- the side
-
-neither : (a b : Bool) → a ≡ false → b ≡ false → (a || b) ≡ false
-neither a b e f = grind arith
 
 -- in no capture of an end is its session or its transport blamed
 pub record IsBlameless (d : Direction) (turns : List Turn) : Type 0 where

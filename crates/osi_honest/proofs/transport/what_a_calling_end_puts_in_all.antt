@@ -192,8 +192,7 @@ module _ (capture : Capture) (coming : List ℕ) (theirs : List (List ℕ)) (end
     pub away_then : IsAway mid.end.carrier → turn.put ≡ [] → AskingPut r out t.units t.there → After at (put_along (turn ∷ turns))
     away_then away none (asks.still nothing a same) = grind (arith, asks_away)
     away_then away none (asks.gone o) = grind (arith, over_run)
-    away_then away none (asks.opened is p) =
-        grind (arith, over_run)
+    away_then away none (asks.opened is p) = grind (arith, over_run)
     away_then away none (asks.refused u is q source denies has same) = refused_then u is q source denies has none
     away_then away none (asks.closed u is q source denies has same) = search (arith, never_none, one_put)
     away_then away none (asks.strays l) = strays_then l

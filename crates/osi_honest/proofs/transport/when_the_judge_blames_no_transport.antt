@@ -2,10 +2,10 @@
 -- For the laws that an end is never blamed.
 use Rattle.osi_honest.proofs.Vocabulary.{[], ap, arith, Bool, false, if◌then◌else◌, List, None, Ok, refl, Some, true, ℕ, ◌++◌, ◌+◌, ◌==◌}
 use Rattle.osi_honest.proofs.Vocabulary.{◌∙◌, ◌∷◌, ◌≡◌, eq-eqb, AllByRecursion, units_of, confirm, disconnect, disconnected, request, Value}
-use Rattle.osi_honest.proofs.Vocabulary.{written, proposes, Part, is_break, agreed, asking, asking_step, between, denied, first_unit}
-use Rattle.osi_honest.proofs.Vocabulary.{Handshake, has_asked, hasty_behind, hasty_from, hurries, ignores, moved, next_step, noted, opening}
+use Rattle.osi_honest.proofs.Vocabulary.{proposes, Part, is_break, agreed, asking, asking_step, between, denied, first_unit, Handshake}
+use Rattle.osi_honest.proofs.Vocabulary.{has_asked, hasty_behind, hasty_from, hurries, ignores, moved, next_step, noted, opening}
 use Rattle.osi_honest.proofs.Vocabulary.{packet_length, Stage, stage_behind, stage_from, step_of, stopped, stops, within, Direction, Left}
-use Rattle.osi_honest.proofs.Vocabulary.{Right, Stop, MoreConnections, NoOpening, OtherClass, dt, units_put, HasOneUnit, Connect, refused}
+use Rattle.osi_honest.proofs.Vocabulary.{Right, Stop, MoreConnections, NoOpening, OtherClass, units_put, HasOneUnit, Connect, refused}
 use Rattle.osi_judge.specs.Transport.{Move, asks}
 use Rattle.osi_honest.proofs.transport.what_had_passed_goes_on.{GoesOn, IsLost, lost_beyond, strayed_beyond}
 use Rattle.osi_honest.proofs.reading.what_the_judge_reads_of_a_side.{FirstUnit, IsStrayed}
@@ -197,12 +197,7 @@ pub data FollowsCr (met : ℕ → Handshake) (at : ℕ) (us : List (List ℕ)) :
 module _ (met : ℕ → Handshake) (on : GoesOn met) where
   speaks_on : (at : ℕ) (parts : List Part) (us back : List (List ℕ)) → units_put parts ≡ us ++ back →
       stage_from Left met between at (units_put parts) ≡ between → KnownBefore met (λ h. h ≡ agreed) at us → IsClear Left met asking at us
-  speaks_on at parts [] back all is now = none_clear Left met asking at tt
-  speaks_on at [] (u ∷ us) back all is now = absurd (cc)
-  speaks_on at (part ∷ parts) (u ∷ us) back all is now =
-      let same : written (dt part) ≡ u = cc in
-      let rest : units_put parts ≡ us ++ back = cc in
-      grind (arith, opened_clear)
+  speaks_on h h2 h3 back all is now = grind (arith, none_clear, opened_clear)
 
   follows_clear : (at : ℕ) (us : List (List ℕ)) → FollowsCr met at us → IsClear Left met asking at us
   follows_clear at us (strays read strayed) = strays_clear Left met on at us read strayed

@@ -5,9 +5,8 @@ use Rattle.osi_judge.proofs.Vocabulary.{◌≡◌, ◌∙◌, refl, sym, ap, ap�
 use Rattle.osi_judge.proofs.Vocabulary.{◌++◌, get_or, Option, Some, None, option_map, append-nil, append_cancel_left, get_or_append_left}
 use Rattle.osi_judge.proofs.Vocabulary.{Cuts, Ending, offset_of, Faulty, Rest, Direction, Left, Right, Finding, Stop, Stopped, Passed}
 use Rattle.osi_judge.proofs.Vocabulary.{Capture, other, stream, IsFound, HasRoom, breaks, broke_session, Handshake, packet_length}
-use Rattle.osi_judge.proofs.Vocabulary.{met_before, Stage, opening, asking, between, within, refused, stopped, stage_behind, stage_from}
-use Rattle.osi_judge.proofs.Vocabulary.{hasty_behind, hasty_from, begin_of, heard, told, stop_in, or_hasty, IsFoundIn, IsStoppedIn}
-use Rattle.osi_judge.proofs.Vocabulary.{StandsIn, FirstBreak, IsFirstIn}
+use Rattle.osi_judge.proofs.Vocabulary.{met_before, Stage, opening, stopped, stage_behind, stage_from, hasty_behind, hasty_from, begin_of}
+use Rattle.osi_judge.proofs.Vocabulary.{heard, told, stop_in, or_hasty, IsFoundIn, IsStoppedIn, StandsIn, FirstBreak, IsFirstIn}
 use Rattle.osi_judge.specs.Tapping.{HasRoomIn}
 use Rattle.osi_judge.proofs.captured.a_capture_that_goes_on_is_read_alike.{met_longer, stage_append, hasty_append, tells_on}
 use Rattle.osi_judge.proofs.captured.a_stream_that_goes_on_keeps_its_packets.{cut_on, fault_stays}
@@ -67,20 +66,7 @@ module _ (d : Direction) (met : ℕ → Handshake) (at : ℕ) (us : List (List �
 
   stays_broken : (hasty : Option ℕ) (s : Stage) (ending : Ending) → broken_at hasty s ending ≡ true → Closes ending us last
       → broken_later hasty s ≡ true
-  stays_broken (Some p) s ending b h =
-      ap (λ (x : Option ℕ). broken_at x (stage_from d met s at us) last) (early_stays d met s (Some p) p at us refl)
-  stays_broken None (stopped stop place) ending b h =
-      ap (λ (x : Option ℕ). broken_at x (stage_from d met (stopped stop place) at us) last) (none_after_stop d met stop place at us)
-      ∙ ap (λ (x : Stage). broken_at None x last) (stop_stays d met stop place at us) ∙ b
-  stays_broken None (refused place) ending b h = absurd (cc)
-  stays_broken None opening (Rest n) b h = absurd (cc)
-  stays_broken None asking (Rest n) b h = absurd (cc)
-  stays_broken None between (Rest n) b h = absurd (cc)
-  stays_broken None (within first octets) (Rest n) b h = absurd (cc)
-  stays_broken None opening (Faulty f) b h = grind arith
-  stays_broken None asking (Faulty f) b h = grind arith
-  stays_broken None between (Faulty f) b h = grind arith
-  stays_broken None (within first octets) (Faulty f) b h = grind arith
+  stays_broken hasty s ending b h = grind (arith, early_stays, none_after_stop, stop_stays)
 
 none_follow : (us vs more : List (List ℕ)) → us ≡ vs → vs ≡ us ++ more → more ≡ []
 none_follow us vs more e f = sym (append_cancel_left us [] more (append-nil us ∙ e ∙ f))
@@ -88,8 +74,7 @@ none_follow us vs more e f = sym (append_cancel_left us [] more (append-nil us �
 closes : (d : Direction) (c e : Capture) (us vs more : List (List ℕ)) (ending last : Ending) → Cuts (stream d c) us ending
     → Cuts (stream d (c ++ e)) vs last → vs ≡ us ++ more → Closes ending more last
 closes d c e us vs more (Rest n) last h k f = tt
-closes d c e us vs more (Faulty t) last h k f =
-    let s = fault_stays d c e us vs t last h k in (none_follow us vs more s.0 f, sym s.1)
+closes d c e us vs more (Faulty t) last h k f = grind (arith, none_follow, fault_stays d c e us vs t last h k)
 
 transport_stays : (d : Direction) (c e : Capture) (s t : Option Stopped) → breaks s ≡ true → IsStoppedIn d c s → IsStoppedIn d (c ++ e) t
     → breaks t ≡ true
@@ -111,9 +96,7 @@ transport_stays d c e s t b h k =
 -- ---- by either
 
 still_either : (a b p q : Bool) → (a ≡ true → p ≡ true) → (b ≡ true → q ≡ true) → (a || b) ≡ true → (p || q) ≡ true
-still_either true b p q f g e = ap (λ (x : Bool). x || q) (f refl)
-still_either false b true q f g e = refl
-still_either false b false q f g e = g e
+still_either a b p q f g e = grind arith
 
 pub stays : (d : Direction) (front back : Capture) (has_broken : Bool) → StandsIn d front true → StandsIn d (front ++ back) has_broken
     → has_broken ≡ true
@@ -135,9 +118,7 @@ same_head p q a c e = cc
 prefixes : (a b c e : Capture) → a ++ b ≡ c ++ e → ((x : Capture) × (c ≡ a ++ x)) ⊎ ((x : Capture) × (a ≡ c ++ x))
 prefixes [] b c e h = inl (c, refl)
 prefixes (p ∷ a) b [] e h = inr (p ∷ a, refl)
-prefixes (p ∷ a) b (q ∷ c) e h =
-    let head = same_head p q (a ++ b) (c ++ e) h in
-    grind (arith, prefixes a b c e (grind arith))
+prefixes (p ∷ a) b (q ∷ c) e h = grind (arith, same_head, prefixes a b c e (grind arith))
 
 not_both : (capture : Capture) → FirstBreak Left capture → FirstBreak Right capture → ⊥
 not_both capture h k = elim (prefixes h.front h.back k.front k.back (sym h.parts ∙ k.parts)) [

@@ -27,8 +27,7 @@ complete_longer n m (v ∷ us) more l k =
 pub met_longer : (d : Direction) (c e : Capture) (others beside : List (List ℕ)) → CutOn (other d) c others beside
     → MeetAlike (length (stream d c)) (met_before d (c ++ e) beside) (met_before d c others)
 met_longer d c e others beside h =
-    let there = offset_of_rest 0 others (stream (other d) c) h.rest h.packets in
-    grind (arith, offset_sum, met_stays, passed_within, complete_longer)
+    grind (arith, offset_sum, met_stays, passed_within, complete_longer, offset_of_rest 0 others (stream (other d) c) h.rest h.packets)
 
 -- ---- packets one after the other
 

@@ -27,8 +27,7 @@ stays_passed d c e k others l = same_passed d (c ++ e) c k others (passed_stays 
 -- nor has a TSDU that ends later
 pub not_yet_passed : (d : Direction) (c : Capture) (k : ℕ) (others : List Sent) (t : Sent) → length (stream (other d) c) < t.behind →
     had_passed d c k (others ++ t ∷ []) ≡ had_passed d c k others
-not_yet_passed d c k others t l = let w =
-    passed_within d c k in ap (λ (x : List Sent). length x) (grind (arith, filter-append, filter_none, append-nil))
+not_yet_passed d c k others t l = grind (arith, passed_within, filter-append, filter_none, append-nil)
 
 -- before an octet that passes now, all had passed
 pub all_had_passed : (d : Direction) (c : Capture) (octets : List ℕ) (k : ℕ) (others : List Sent) → length (stream d c) ≤ k →

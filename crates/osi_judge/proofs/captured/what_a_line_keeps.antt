@@ -28,16 +28,8 @@ step_front : (d : Direction) (p : Progress) (octets : List ℕ) (h : Handshake) 
     → step_of d (stage_in p []) h r ≡ step_of d (stage_in p octets) h r
 step_front d p octets h r = grind arith
 
--- this is what a packet means for a side that stands so
-abbrev pub MeansHere : Direction → Handshake → List ℕ → Progress → List ℕ → Move → Type 0
-MeansHere d h u p octets m = m ≡ step_of d (stage_in p octets) h (first_unit (units_of u))
-
 abbrev pub GoesOn : Progress → Type 0
 GoesOn p = (stop : Stop) (place : ℕ) → p ≡ Stopped stop place → ⊥
-
-pub since_front : (p : Progress) (octets : List ℕ) (begun_since since : ℕ) →
-    since_at (stage_in p []) begun_since since ≡ since_at (stage_in p octets) begun_since since
-since_front p octets begun_since since = grind arith
 
 -- A packet that is looked at, before which the other side had come so far: what it means changes the line, and then how far
 -- this side has come.

@@ -83,9 +83,7 @@ module _ (begin : Seen) (us vs : List (List ℕ)) (said more : List Told) (a : A
   }
 
   few_on : (i : ℕ) → i < length said → IsFew begin us (take i said) → IsFew begin vs (take i (said ++ more))
-  few_on i l f m =
-      let front = before_front (length us) m (take i said) (before_front (length us) i said b) in
-      grind (arith, take-append-le, kept_alike)
+  few_on i l f m = grind (arith, before_front, take-append-le, kept_alike)
 
   -- whatever is found of the side later, it is a break
   still : (i : ℕ) (g : Finding) → i < length said → Strays begin us said i → IsFew begin us (take i said)

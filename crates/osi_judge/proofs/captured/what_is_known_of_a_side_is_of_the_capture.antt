@@ -1,22 +1,19 @@
 -- How many TSDUs a side told, and how its session stands, is so in the capture; and a side without a reference told none.
 -- For the crate that writes what a judge found.
 use Rattle.std.proofs.Common.{arith}
-use Rattle.osi_judge.proofs.Vocabulary.{◌≡◌, ◌∙◌, refl, subst, ℕ, ◌+◌, Bool, true, false, if◌then◌else◌, List, [], ◌∷◌, ◌++◌, ◌↔◌, inl, inr}
-use Rattle.osi_judge.proofs.Vocabulary.{length, take, Option, Some, None, Result, Ok, Err, one_cut, Value, request, confirm, disconnect}
-use Rattle.osi_judge.proofs.Vocabulary.{disconnected, data0, data2, acknowledge, error, TpduFault, Seen, Direction, Finding, Kept, Broke}
+use Rattle.osi_judge.proofs.Vocabulary.{◌≡◌, ◌∙◌, refl, subst, ℕ, ◌+◌, Bool, if◌then◌else◌, List, [], ◌∷◌, ◌++◌, ◌↔◌, inl, inr, length}
+use Rattle.osi_judge.proofs.Vocabulary.{take, Option, Some, None, Result, one_cut, Value, TpduFault, Seen, Direction, Finding, Kept, Broke}
 use Rattle.osi_judge.proofs.Vocabulary.{TooMany, Stands, NoOpening, OtherClass, Capture, other, stream, Told, remarks, Explains}
 use Rattle.osi_judge.proofs.Vocabulary.{IsExplained, foremost, Watched, AreAll, Keeps, BrokeBy, LeftBy, WatchesBy, Watches, up_to, kept}
-use Rattle.osi_judge.proofs.Vocabulary.{AreKeptIn, HasRoomIn, IsRuledIn, IsKeptStanding, StandsFor, StandsBehind, Ever, Handshake, silent}
-use Rattle.osi_judge.proofs.Vocabulary.{asked, asked_again, agreed, denied, astray, first_unit, packet_length, Move, adds, hurries, refuses}
-use Rattle.osi_judge.proofs.Vocabulary.{ignores, stops, asking_step, answering_step, has_asked, refused_step, step_of, given_by}
-use Rattle.osi_judge.proofs.Vocabulary.{reference_in, Stage, opening, asking, between, within, refused, stopped, moved, stage_behind, Sent}
+use Rattle.osi_judge.proofs.Vocabulary.{AreKeptIn, HasRoomIn, IsRuledIn, IsKeptStanding, StandsFor, StandsBehind, Ever, Handshake}
+use Rattle.osi_judge.proofs.Vocabulary.{packet_length, Move, refuses, ignores, stops, asking_step, answering_step, has_asked, refused_step}
+use Rattle.osi_judge.proofs.Vocabulary.{step_of, given_by, reference_in, Stage, opening, refused, stopped, moved, stage_behind, Sent}
 use Rattle.osi_judge.proofs.Vocabulary.{brought, sent_by, sent_from, ArePacketsOf, IsSent, begin_of, heard, told, IsFoundIn, IsStoppedIn}
 use Rattle.osi_judge.proofs.Vocabulary.{IsReadIn, IsReferenceIn, IsPlaceIn, IsCountIn, StandIn, IsStandingIn, IsFirstIn, Tapped, reading_of}
 use Rattle.osi_judge.proofs.Vocabulary.{stopped_of, Follows, Judged, half_of, Taps, FirstIs}
-use Rattle.osi_tpdu.specs.Packet.{units_of}
 use Rattle.osi_judge.specs.declared.directions.Direction.TheVariants as side
 use Rattle.osi_judge.specs.declared.findings.Finding.TheVariants.{Left}
-use Rattle.osi_judge.specs.Transport.{asks, opens}
+use Rattle.osi_judge.specs.Transport.{opens}
 use Rattle.osi_judge.proofs.captured.what_was_found_of_a_capture.{cut_as, packets_of, is_sent, is_read, is_given, is_stopped, is_found}
 use Rattle.osi_judge.proofs.captured.what_was_found_of_a_capture.{is_placed}
 use Rattle.osi_judge.proofs.captured.whether_the_sessions_became_too_many.{has_room}
@@ -42,18 +39,12 @@ keeps_as w said k e = subst (λ (f : Finding). WatchesBy f w said) e k
 counted_as : (d : Direction) (c : Capture) (t : Tapped) (us bs : List (List ℕ)) (mine others : List Sent) → Follows d c t us bs mine others
     → ArePacketsOf (other d) c bs → t.side.finding ≡ Kept
     → (n : ℕ) → Counts t.side n → IsCountIn d c n
-counted_as d c t us bs mine others f b e n k = record {
-  mine = mine;
-  is_mine = is_sent d c t us bs mine others f b;
-  counted = grind (arith, keeps_as, count_told);
-}
+counted_as d c t us bs mine others f b e n k = grind (arith, keeps_as, count_told, is_sent d c t us bs mine others f b)
 
 pub is_counted : (d : Direction) (c : Capture) (j : Judged) → Taps j c → (half_of d j).side.finding ≡ Kept → (n : ℕ)
     → Counts (half_of d j).side n → IsCountIn d c n
-is_counted side.Left c j h e n k = counted_as side.Left c j.left h.left_units h.right_units h.left h.right h.of_left
-    (cut_as side.Right c j.right h.right_units h.left_units h.right h.left h.of_right) e n k
-is_counted side.Right c j h e n k = counted_as side.Right c j.right h.right_units h.left_units h.right h.left h.of_right
-    (cut_as side.Left c j.left h.left_units h.right_units h.left h.right h.of_left) e n k
+is_counted side.Left c j h e n k = search (arith, counted_as, cut_as)
+is_counted side.Right c j h e n k = search (arith, counted_as, cut_as)
 
 -- the sessions that explain what a side said
 abbrev stand_as : (d : Direction) (c : Capture) (t u : Tapped) (us bs : List (List ℕ)) (mine others : List Sent) (said : List Told) →
@@ -140,9 +131,7 @@ broken_as d c t u us bs mine others i f g (x, s, b, l) = (
 explained_in : (d : Direction) (c : Capture) (t : Tapped) (us bs : List (List ℕ)) (mine others : List Sent) (said : List Told) →
     Follows d c t us bs mine others
     → IsExplained t.side.begin t.side.heard said ↔ IsExplained (begin_of d) (heard others) said
-explained_in d c t us bs mine others said f =
-    let a = f.begin in
-    grind (arith, explained_of_outlines)
+explained_in d c t us bs mine others said f = grind (arith, explained_of_outlines)
 
 left_as : (d : Direction) (c : Capture) (t u : Tapped) (us bs : List (List ℕ)) (mine others : List Sent) (i : ℕ) →
     Follows d c t us bs mine others
@@ -188,10 +177,8 @@ rule_by TooMany d c t u us bs mine others f g k = (_, [], any_kept d c t u us bs
 
 -- what is known of the rule by which a side broke the protocol
 pub has_rule : (d : Direction) (c : Capture) (j : Judged) → Taps j c → HasRule d c (half_of d j) (half_of d j).side.finding
-has_rule side.Left c j h = rule_by j.left.side.finding side.Left c j.left j.right h.left_units h.right_units h.left h.right h.of_left
-    h.of_right h.of_left.watches
-has_rule side.Right c j h = rule_by j.right.side.finding side.Right c j.right j.left h.right_units h.left_units h.right h.left h.of_right
-    h.of_left h.of_right.watches
+has_rule side.Left c j h = search (arith, rule_by)
+has_rule side.Right c j h = search (arith, rule_by)
 
 -- how it stands that kept the protocol
 kept_standing : (d : Direction) (c : Capture) (t u : Tapped) (us bs : List (List ℕ)) (mine others : List Sent)
@@ -206,10 +193,8 @@ kept_standing d c t u us bs mine others f g e s k = (
 
 pub is_standing : (d : Direction) (c : Capture) (j : Judged) → Taps j c → (half_of d j).side.finding ≡ Kept → (s : Stands)
     → StandsHere (half_of d j).side s → IsKeptStanding d c s
-is_standing side.Left c j h e s k = kept_standing side.Left c j.left j.right h.left_units h.right_units h.left h.right h.of_left
-    h.of_right e s k
-is_standing side.Right c j h e s k = kept_standing side.Right c j.right j.left h.right_units h.left_units h.right h.left h.of_right
-    h.of_left e s k
+is_standing side.Left c j h e s k = search (arith, kept_standing)
+is_standing side.Right c j h e s k = search (arith, kept_standing)
 
 -- ---- what is known of a side
 
@@ -224,16 +209,7 @@ pub record KnownIn (d : Direction) (c : Capture) (t : Tapped) : Type 0 where
   pub rule : HasRule d c t t.side.finding
 
 pub known_in : (d : Direction) (c : Capture) (j : Judged) → Taps j c → KnownIn d c (half_of d j)
-known_in d c j h = record {
-  read = is_read d c j h;
-  given = is_given d c j h;
-  stops = is_stopped d c j h;
-  found = is_found d c j h;
-  room = has_room d c j h;
-  count = λ e. is_counted d c j h e (half_of d j).side.told (λ said k f. count_kept (half_of d j).side said k f);
-  place = is_placed d c j h;
-  rule = has_rule d c j h;
-}
+known_in d c j h = search (arith, is_read, is_given, is_stopped, is_found, has_room, is_counted, count_kept, is_placed, has_rule)
 
 -- ---- a side without a reference
 
@@ -256,60 +232,30 @@ Ends m = ⊥
 
 opens_or_ends : (b : Bool) (source : ℕ) → given_by (if b then opens source else stops OtherClass) ≡ None
     → Ends (if b then opens source else stops OtherClass)
-opens_or_ends true source h = absurd (cc)
-opens_or_ends false source h = tt
+opens_or_ends b source h = grind arith
 
 asking_ends : (v : Value) → given_by (asking_step v) ≡ None → Ends (asking_step v)
-asking_ends (request c) h = grind arith
-asking_ends (confirm destination c) h = tt
-asking_ends (disconnect destination source reason user) h = tt
-asking_ends (disconnected destination source) h = tt
-asking_ends (data0 end user) h = tt
-asking_ends (data2 destination number end user) h = tt
-asking_ends (acknowledge credit destination number) h = tt
-asking_ends (error destination cause) h = tt
+asking_ends v h = grind arith
 
 answered_ends : (h : Handshake) (v : Value) → Ends (if has_asked h then answering_step v else stops NoOpening)
 answered_ends h v = grind arith
 
 nameless_ends : (d : Direction) (h : Handshake) (r : Result (Option Value) TpduFault) → given_by (step_of d opening h r) ≡ None
     → Ends (step_of d opening h r)
-nameless_ends d h (Err fault) n = tt
-nameless_ends d h (Ok None) n = tt
-nameless_ends d h (Ok (Some v)) n = grind (arith, asking_ends, opens_or_ends, answered_ends)
+nameless_ends d h h2 n = grind (arith, asking_ends, opens_or_ends, answered_ends)
 
 refused_last : (h : Handshake) (v : Value) → IsLast (refused_step h v)
-refused_last asked v = grind arith
-refused_last (denied destination source) v = grind arith
-refused_last silent v = tt
-refused_last asked_again v = tt
-refused_last agreed v = tt
-refused_last astray v = tt
+refused_last h v = grind arith
 
 step_last : (d : Direction) (place : ℕ) (h : Handshake) (r : Result (Option Value) TpduFault) → IsLast (step_of d (refused place) h r)
-step_last d place h (Err fault) = tt
-step_last d place h (Ok None) = tt
-step_last d place h (Ok (Some v)) = refused_last h v
+step_last d place h h2 = grind (arith, refused_last)
 
 brings_none : (s : Stage) (at : ℕ) (u : List ℕ) (m : Move) → IsLast m → brought s at u m ≡ []
-brings_none s at u refuses h = refl
-brings_none s at u ignores h = refl
-brings_none s at u (stops stop) h = refl
-brings_none s at u (asks reference) h = absurd h
-brings_none s at u (opens reference) h = absurd h
-brings_none s at u (adds end octets) h = absurd h
-brings_none s at u (hurries end octets) h = absurd h
+brings_none s at u m h = grind arith
 
 over_sends : (d : Direction) (h : Handshake) (s : Stage) (at : ℕ) (u : List ℕ) → IsOver s
     → (sent_by d h s at u ≡ []) × IsOver (stage_behind d h s at u)
-over_sends d h (refused place) at u o =
-    let l = step_last d place h (first_unit (units_of u)) in
-    let m = step_of d (refused place) h (first_unit (units_of u)) in (brings_none (refused place) at u m l, grind arith)
-over_sends d h (stopped stop place) at u o = (refl, tt)
-over_sends d h opening at u o = absurd o
-over_sends d h asking at u o = absurd o
-over_sends d h between at u o = absurd o
-over_sends d h (within first octets) at u o = absurd o
+over_sends d h s at u o = grind (arith, step_last, brings_none)
 
 over_is_silent : (d : Direction) (met : ℕ → Handshake) (s : Stage) (at : ℕ) (us : List (List ℕ)) → IsOver s → sent_from d met s at us ≡ []
 over_is_silent d met s at [] o = refl
@@ -318,25 +264,15 @@ over_is_silent d met s at (u ∷ us) o =
     grind (arith, over_is_silent d met (stage_behind d (met at) s at u) (at + packet_length u) us h.1)
 
 ends_is_over : (s : Stage) (at : ℕ) (m : Move) → Ends m → IsOver (moved s at m)
-ends_is_over s at refuses h = tt
-ends_is_over s at (stops stop) h = tt
-ends_is_over s at ignores h = absurd h
-ends_is_over s at (asks reference) h = absurd h
-ends_is_over s at (opens reference) h = absurd h
-ends_is_over s at (adds end octets) h = absurd h
-ends_is_over s at (hurries end octets) h = absurd h
+ends_is_over s at m h = grind arith
 
 nameless_sends : (d : Direction) (met : ℕ → Handshake) (us : List (List ℕ)) → reference_in d us ≡ None → sent_from d met opening 0 us ≡ []
-nameless_sends d met [] h = refl
-nameless_sends d met (u ∷ us) h =
-    let r = first_unit (units_of u) in
-    grind (arith, nameless_ends, opening_given, brings_none, over_is_silent, ends_is_over)
+nameless_sends d met h h2 = grind (arith, nameless_ends, opening_given, brings_none, over_is_silent, ends_is_over)
 
 -- it sent no TSDU
 pub nameless_said_nothing : (d : Direction) (c : Capture) (mine : List Sent) → IsSent d c mine → IsReferenceIn d c None → mine ≡ []
 nameless_said_nothing d c mine (units, others, (ending, cut), are_others, sent) g =
-    let same = (one_cut (stream d c) units g.units ending g.ending cut g.cut).0 in
-    grind (arith, nameless_sends)
+    grind (arith, nameless_sends, one_cut (stream d c) units g.units ending g.ending cut g.cut)
 
 -- the side that broke the protocol first
 pub is_first_in : (first : Option Direction) (j : Judged) (c : Capture) → Taps j c → FirstIs first j c → IsFirstIn c first

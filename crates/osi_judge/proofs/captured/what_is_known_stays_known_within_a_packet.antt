@@ -3,8 +3,8 @@
 use Rattle.osi_judge.proofs.Vocabulary.{◌≡◌, ◌∙◌, refl, sym, ap, subst, ℕ, suc, ◌+◌, ◌-◌, ◌<◌, ◌≤◌, List, [], ◌∷◌, ◌++◌, length, Option}
 use Rattle.osi_judge.proofs.Vocabulary.{None, arith, length-append, map-append, IsPartial, ArePackets, offset_of, TpktFault, Direction}
 use Rattle.osi_judge.proofs.Vocabulary.{Left, Right, Capture, other, piece, stream, Handshake, silent, handshake_from, packet_length}
-use Rattle.osi_judge.proofs.Vocabulary.{met_before, Stage, opening, Sent, packets_length, stage_from, had_passed, heard, Tapped, hears}
-use Rattle.osi_judge.proofs.Vocabulary.{since_of, met_of, IsRest, EndBy, IsSince, Follows}
+use Rattle.osi_judge.proofs.Vocabulary.{met_before, Stage, Sent, packets_length, had_passed, heard, Tapped, hears, since_of, met_of, IsRest}
+use Rattle.osi_judge.proofs.Vocabulary.{EndBy, IsSince, Follows}
 use Rattle.osi_judge.proofs.captured.a_capture_goes_on.{stream_fed, stream_beside}
 use Rattle.osi_judge.proofs.captured.how_many_tsdus_had_passed.{stays_passed, not_yet_passed, all_had_passed, told_stays, told_beside}
 use Rattle.osi_judge.proofs.captured.how_many_tsdus_had_passed.{begin_later, end_later}
@@ -131,25 +131,4 @@ since_beside d c others u s since l h = grind (arith, not_yet_passed)
 pub hearing_follows : (d : Direction) (c : Capture) (t : Tapped) (us bs : List (List ℕ)) (mine others : List Sent) (u : Sent)
     → Follows d c t us bs mine others → length (stream (other d) c) < u.behind
     → Follows d c (record t { side = hears t.side u.octets }) us bs mine (others ++ u ∷ [])
-hearing_follows d c t us bs mine others u f l = record {
-  rest = f.rest;
-  packets = f.packets;
-  is_rest = f.is_rest;
-  at = f.at;
-  handshake = f.handshake;
-  met = f.met;
-  sent = f.sent;
-  stage = f.stage;
-  hasty = f.hasty;
-  since = λ z k. f.since z k ∙ sym (not_yet_passed d c (length (stream d c) - length f.rest) others u l);
-  begun = since_beside d c others u (stage_from d (met_before d c bs) opening 0 us) t.line.begun_since l f.begun;
-  octets = f.octets;
-  counted = f.counted;
-  reference = f.reference;
-  place = f.place;
-  begins = f.begins;
-  ends = f.ends;
-  begin = f.begin;
-  heard = grind (arith, map-append);
-  watches = grind (arith, told_beside, side.hears);
-}
+hearing_follows d c t us bs mine others u f l = grind (arith, not_yet_passed, since_beside, place, map-append, told_beside, side.hears)

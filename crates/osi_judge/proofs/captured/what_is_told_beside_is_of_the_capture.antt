@@ -1,40 +1,20 @@
 -- The reference of a side, and the packet of its break, follow the packets that passed: for what a judge is fed.
 use Rattle.osi_judge.proofs.Vocabulary.{◌≡◌, ◌∙◌, refl, ap, ℕ, suc, zero, ◌+◌, Bool, if◌then◌else◌, List, [], ◌∷◌, ◌++◌, length, Option}
-use Rattle.osi_judge.proofs.Vocabulary.{Some, None, option_map, Result, arith, append-nil, offset_of, Value, TpduFault, Direction, Finding}
-use Rattle.osi_judge.proofs.Vocabulary.{Kept, NoOpening, TsduTooLong, Capture, Told, Watched, Watches, FoundNext, Handshake, silent}
-use Rattle.osi_judge.proofs.Vocabulary.{packet_length, Move, ignores, stops, next_step, asking_step, answering_step, has_asked, first_step}
-use Rattle.osi_judge.proofs.Vocabulary.{closing_step, later_step, refused_step, unit_step, step_of, given_by, reference_in, Stage, opening}
-use Rattle.osi_judge.proofs.Vocabulary.{stopped, stage_behind, Sent, packets_length, last_packet, stage_from, heard, told, IsPlace, named}
-use Rattle.osi_judge.proofs.Vocabulary.{named_behind, last_place, last_behind, Passes, shown}
+use Rattle.osi_judge.proofs.Vocabulary.{Some, option_map, Result, arith, append-nil, offset_of, Value, TpduFault, Direction, Finding, Kept}
+use Rattle.osi_judge.proofs.Vocabulary.{NoOpening, TsduTooLong, Capture, Told, Watched, Watches, FoundNext, Handshake, silent}
+use Rattle.osi_judge.proofs.Vocabulary.{packet_length, Move, ignores, stops, asking_step, answering_step, has_asked, first_step, step_of}
+use Rattle.osi_judge.proofs.Vocabulary.{given_by, reference_in, Stage, opening, stopped, stage_behind, Sent, packets_length, last_packet}
+use Rattle.osi_judge.proofs.Vocabulary.{stage_from, heard, told, IsPlace, named_behind, last_place, last_behind, Passes, shown}
 use Rattle.osi_judge.specs.declared.directions.Direction.TheVariants as side
 use Rattle.osi_judge.specs.Transport.{added}
 use Rattle.osi_judge.proofs.captured.one_more_packet_passes.{offset_from, OneOrNone}
 
 -- ---- the reference
 
--- this names no reference
-abbrev IsNameless : Move → Type 0
-IsNameless m = (known : Option ℕ) → named known m ≡ known
-
-next_nameless : (v : Value) → IsNameless (next_step v)
-next_nameless v = grind arith
-
-closing_nameless : (destination source : ℕ) (v : Value) → IsNameless (closing_step destination source v)
-closing_nameless destination source v = grind arith
-
-later_nameless : (h : Handshake) (v : Value) → IsNameless (later_step h v)
-later_nameless h v = grind (arith, next_nameless, closing_nameless)
-
-refused_nameless : (h : Handshake) (v : Value) → IsNameless (refused_step h v)
-refused_nameless h v = grind arith
-
 -- a side has sent its first packet
 abbrev HasBegun : Stage → Type 0
 HasBegun opening = ⊥
 HasBegun s = Unit {0}
-
-unit_nameless : (d : Direction) (s : Stage) (h : Handshake) (v : Value) → HasBegun s → IsNameless (unit_step d s h v)
-unit_nameless d s h v b = grind (arith, later_nameless, refused_nameless, next_nameless)
 
 begun_added : (s : Stage) (at : ℕ) (long end : Bool) (octets : List ℕ)
     → HasBegun (if long then stopped TsduTooLong at else added s at end octets)
@@ -65,12 +45,6 @@ begun_from d met s at (u ∷ us) b =
 -- no later packet names one
 named_open : (d : Direction) (h : Handshake) (s : Stage) (known : Option ℕ) (u : List ℕ) → HasBegun s → named_behind d h s known u ≡ known
 named_open d h s known u b = grind arith
-
-named_first : (m : Move) → named None m ≡ given_by m
-named_first m = grind arith
-
-answered_given : (h : Handshake) (v : Value) → given_by (if has_asked h then answering_step v else stops NoOpening) ≡ None
-answered_given h v = grind arith
 
 pub opening_given : (d : Direction) (h : Handshake) (r : Result (Option Value) TpduFault)
     → given_by (step_of d opening h r) ≡ given_by (step_of d opening silent r)

@@ -6,7 +6,6 @@ use Rattle.osi_judge.proofs.Vocabulary.{silent, met_before, Stage, opening, Sent
 use Rattle.osi_judge.proofs.Vocabulary.{IsFoundIn, stop_in, IsStoppedIn, IsReadIn, IsReferenceIn, IsPlaceIn, Tapped, reading_of, stopped_by}
 use Rattle.osi_judge.proofs.Vocabulary.{stopped_of, shown, IsRest, Follows, Judged, half_of, Taps}
 use Rattle.osi_tpkt.specs.Stream.{EndsAt}
-use Rattle.osi_judge.specs.declared.stops.Stopped.{Stopped as StoppedAt}
 use Rattle.osi_judge.proofs.told.what_is_known_of_a_side.{found_as}
 use Rattle.osi_judge.proofs.outlined.alike_tsdus_explain_the_same.{found_of_tsdus}
 use Rattle.osi_judge.proofs.captured.one_more_packet_passes.{offset_of_rest}
@@ -97,9 +96,6 @@ stops_as : (s : Stage) (fault : Option TpktFault) (held rest : List ℕ) (at : �
     stopped_by (shown s) fault at ≡ stop_in s (ending_of at fault held rest r).0
 unfolding ending_of fault_at
 stops_as s fault held rest at r = grind arith
-
-abbrev stopped_of_stage : Tapped → Option StoppedAt
-stopped_of_stage t = stopped_by t.line.stage t.fault t.line.at
 
 stopped_as : (d : Direction) (c : Capture) (t : Tapped) (us bs : List (List ℕ)) (mine others : List Sent) → Follows d c t us bs mine others
     → ArePacketsOf (other d) c bs

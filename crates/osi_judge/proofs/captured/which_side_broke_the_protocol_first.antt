@@ -1,49 +1,34 @@
 -- Which side broke the protocol first: for what a judge is fed.
 use Rattle.std.proofs.Common.{arith}
-use Rattle.osi_judge.proofs.Vocabulary.{◌≡◌, ◌∙◌, refl, sym, ap, subst, ℕ, Bool, true, false, ◌||◌, List, [], ◌∷◌, ◌++◌, Option, Some, None}
-use Rattle.osi_judge.proofs.Vocabulary.{append-nil, append_assoc, Direction, Left, Right, Finding, Kept, Capture, other, Watched, breaks}
-use Rattle.osi_judge.proofs.Vocabulary.{broke_session, Handshake, Sent, StandsIn, IsFirstIn, Tapped, Passes, Feeds, ignored, looked_at}
-use Rattle.osi_judge.proofs.Vocabulary.{stopped_of, has_broken, Judged, half_of, Taps, first_after, BrokeFirst, FirstIs}
+use Rattle.osi_judge.proofs.Vocabulary.{◌≡◌, refl, subst, ℕ, Bool, true, false, List, [], ◌++◌, Option, Some, None, append-nil}
+use Rattle.osi_judge.proofs.Vocabulary.{append_assoc, Direction, Left, Right, Kept, Capture, other, Watched, Handshake, Sent, StandsIn}
+use Rattle.osi_judge.proofs.Vocabulary.{IsFirstIn, Tapped, Passes, Feeds, has_broken, Judged, half_of, Taps, first_after, BrokeFirst}
+use Rattle.osi_judge.proofs.Vocabulary.{FirstIs}
 use Rattle.osi_judge.proofs.captured.what_was_found_of_a_capture.{fresh_half, is_found, is_stopped}
 use Rattle.osi_judge.proofs.captured.whether_the_sessions_became_too_many.{has_room}
 
 -- ---- octets of one side change nothing that was found of the other
 
 passes_beside : (sent : List Sent) (before : ℕ) (w w2 o o2 : Watched) → Passes sent before w w2 o o2 → o2.finding ≡ o.finding
-passes_beside [] before w w2 o o2 h = ap (λ (x : Watched). x.finding) h.1
-passes_beside (t ∷ sent) before w w2 o o2 h = ap (λ (x : Watched). x.finding) h.1
+passes_beside sent before w w2 o o2 h = grind arith
 
 found_beside : (d : Direction) (octets : List ℕ) (now : Handshake) (t new : Tapped) (o o2 : Watched) → Feeds d octets now t new o o2
     → o2.finding ≡ o.finding
-found_beside d octets now t new o o2 (ignored f n i j) = ap (λ (x : Watched). x.finding) j
-found_beside d octets now t new o o2 (looked_at n w h) = grind (arith, passes_beside)
+found_beside d octets now t new o o2 h = grind (arith, passes_beside)
 
 pub broken_beside : (d : Direction) (octets : List ℕ) (now : Handshake) (t new u : Tapped) (o2 : Watched)
     → Feeds d octets now t new u.side o2 → has_broken (record u { side = o2 }) ≡ has_broken u
-broken_beside d octets now t new u o2 h =
-    ap (λ (f : Finding). broke_session f || breaks (stopped_of u)) (found_beside d octets now t new u.side o2 h)
+broken_beside d octets now t new u o2 h = grind (arith, found_beside d octets now t new u.side o2 h)
 
 -- ---- the first break
 
 first_goes_on : (d : Direction) (c e : Capture) → BrokeFirst d c → BrokeFirst d (c ++ e)
-first_goes_on d c e h = record {
-  by_then = h.by_then;
-  front = h.front;
-  back = h.back ++ e;
-  parts = ap (λ (x : Capture). x ++ e) h.parts ∙ append_assoc h.front h.back e;
-  taps = h.taps;
-  broke = h.broke;
-  kept = h.kept;
-}
+first_goes_on d c e h = search (arith, append_assoc)
 
 first_now : (d : Direction) (b : Bool) (old new : Judged) (c : Capture) → b ≡ has_broken (half_of d new) →
     (has_broken old.left ≡ false) × (has_broken old.right ≡ false) → Taps new c
     → has_broken (half_of (other d) new) ≡ has_broken (half_of (other d) old) → FirstIs (first_after None d b) new c
-first_now d true old new c e h t o = (
-  record { by_then = new; front = c; back = []; parts = sym (append-nil c); taps = t; broke = sym e; kept = (grind arith) },
-  sym e,
-)
-first_now d false old new c e h t o = grind arith
+first_now d b old new c e h t o = grind (arith, append-nil)
 
 first_on : (first : Option Direction) (d : Direction) (old new : Judged) (c e : Capture) → FirstIs first old c → Taps new (c ++ e)
     → (has_broken (half_of d old) ≡ true → has_broken (half_of d new) ≡ true) →
@@ -56,27 +41,15 @@ pub first_stays : (first next : Option Direction) (d : Direction) (old new : Jud
     next ≡ first_after first d (has_broken (half_of d new)) → FirstIs first old c → Taps new (c ++ e)
     → (has_broken (half_of d old) ≡ true → has_broken (half_of d new) ≡ true) →
     has_broken (half_of (other d) new) ≡ has_broken (half_of (other d) old) → FirstIs next new (c ++ e)
-first_stays first next d old new c e n h t s o =
-    subst (λ (x : Option Direction). FirstIs x new (c ++ e)) (sym n) (first_on first d old new c e h t s o)
+first_stays first next d old new c e n h t s o = grind (arith, first_on first d old new c e h t s o)
 
 -- ---- what is reported of it
 
 stands_in : (d : Direction) (c : Capture) (j : Judged) → Taps j c → StandsIn d c (has_broken (half_of d j))
-stands_in d c j t =
-    record {
-      finding = (half_of d j).side.finding;
-      stop = stopped_of (half_of d j);
-      found = is_found d c j t;
-      room = has_room d c j t;
-      is_stopped = is_stopped d c j t;
-      broken = refl;
-    }
+stands_in d c j t = grind (arith, is_found d c j t, has_room d c j t, is_stopped d c j t)
 
 pub first_told : (first : Option Direction) (j : Judged) (c : Capture) → Taps j c → FirstIs first j c → IsFirstIn c first
-first_told None j c t h = (
-  subst (λ (b : Bool). StandsIn Left c b) h.0 (stands_in Left c j t),
-  subst (λ (b : Bool). StandsIn Right c b) h.1 (stands_in Right c j t),
-)
+first_told None j c t h = grind (arith, stands_in Left c j t, stands_in Right c j t)
 first_told (Some d) j c t (h, still) = record {
   front = h.front;
   back = h.back;

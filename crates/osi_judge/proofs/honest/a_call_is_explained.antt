@@ -93,8 +93,7 @@ part_said : AsSent → (s : State) (j sent : Option ℕ) (place : Place) (o : Li
     → 0 < unwrap_or sent 0 + length o → unwrap_or sent 0 + length o ≤ most_data → length (part_octets place o) ≤ limit_of s
     → SaysTsdus (side_with s j (sent_after place sent o)) os t → SaysTsdus (side_with s j sent) (part_octets place o ∷ os) t
 part_said known s j sent place o os t k p some few short more =
-    let n = length (part_octets place o) in
-    grind (arith, part_can, lt-ltb, le-leb, says_behind, says_nothing, in_limit s n short, known.part place o)
+    grind (arith, part_can, lt-ltb, le-leb, says_behind, says_nothing, in_limit, known.part place o)
 
 tail_full : (limit : ℕ) (o : List ℕ) (os : List (List ℕ)) → AreFull limit (o ∷ os) → AreFull limit os
 tail_full limit o os h = grind arith

@@ -3,12 +3,11 @@
 -- For the law that an honest session is explained.
 use Rattle.osi_judge.proofs.Vocabulary.{◌≡◌, ◌∙◌, refl, sym, ap, subst, ℕ, ◌-◌, ◌==◌, Bool, true, not, if◌then◌else◌, nat_le, List, [], ◌∷◌}
 use Rattle.osi_judge.proofs.Vocabulary.{length, Some, None, unwrap_or, Ok, arith, and_from, and_parts, eq-eqb, TsduMaximumSize, Side}
-use Rattle.osi_judge.proofs.Vocabulary.{TokenSetting, Wish, wish_of, are_sizes, Ready, Restarting, FunctionalUnits, Sides, State, AllHold}
-use Rattle.osi_judge.proofs.Vocabulary.{Answer, Test, after, base_for, first_error, may_call, most_of, needs, opened_with, serial_for, Call}
-use Rattle.osi_judge.proofs.Vocabulary.{HasSerial, Refusal, Refuse, Restart, RestartConfirm, refusal_octets, refusal_with, restarted_at}
-use Rattle.osi_judge.proofs.Vocabulary.{is_answering, allows, of_answerer, setting_of, settled, stated_side, answered_sizes, IsSound}
-use Rattle.osi_judge.proofs.Vocabulary.{without_tokens, accepting_in, calling, fits_user_data, said_message, where_is, profile_of}
-use Rattle.osi_judge.proofs.Vocabulary.{answered_are, sizes_agreed}
+use Rattle.osi_judge.proofs.Vocabulary.{TokenSetting, Wish, wish_of, are_sizes, Ready, FunctionalUnits, Sides, State, AllHold, Answer, Test}
+use Rattle.osi_judge.proofs.Vocabulary.{after, base_for, first_error, may_call, most_of, needs, opened_with, serial_for, Call, HasSerial}
+use Rattle.osi_judge.proofs.Vocabulary.{Refusal, Refuse, Restart, RestartConfirm, refusal_octets, refusal_with, is_answering, allows}
+use Rattle.osi_judge.proofs.Vocabulary.{of_answerer, setting_of, settled, stated_side, answered_sizes, IsSound, accepting_in, calling}
+use Rattle.osi_judge.proofs.Vocabulary.{fits_user_data, said_message, where_is, profile_of, answered_are, sizes_agreed}
 use Rattle.osi_session.specs.Allowed.{met, octets_of}
 use Rattle.osi_session.specs.Allowed.{sends}
 use Rattle.osi_session.specs.Sides.{answers_wishes, offered, settle, stated}
@@ -76,18 +75,13 @@ accepted_in : (u : FunctionalUnits) (s : State) (serial : ℕ) (sides : Sides) (
     → has_data u ≡ true → are_sizes (answered_sizes s.sizes sizes) ≡ true
     → accepting_in u s true (serial_for u serial) (setting_of (settle u s.wishes sides)) (answered_sizes s.sizes sizes) octets
     ≡ Some (opened_with u (of_answerer u (settle u s.wishes sides)) (base_for u serial) (answered_sizes s.sizes sizes) s)
-accepted_in u s serial sides sizes octets p z d k =
-    let a = settled_answers u s.wishes sides in
-    grind (arith, stated_again, same_first, sizes_agreed)
+accepted_in u s serial sides sizes octets p z d k = grind (arith, settled_answers, stated_again, same_first, sizes_agreed)
 
 restart_said : (s : State) (n : ℕ) (wishes : TokenSetting) (octets : List ℕ) → may_call s.phase (Restart n wishes octets) ≡ true →
     fits_user_data octets ≡ true
     → AllHold (needs s (Restart n wishes octets)) →
     said_message s (sends s (Restart n wishes octets)) ≡ Some (after s (Restart n wishes octets))
-restart_said s n wishes octets p z h =
-    calling_is s (Restart n (offered s.units wishes) octets) p z h
-    ∙ ap (λ (w : TokenSetting). Some (record (without_tokens Restarting s) { wishes = w; numbers = restarted_at n s.numbers }))
-    (offer_again s.units wishes)
+restart_said s n wishes octets p z h = search (arith, calling_is, offer_again)
 
 confirm_said : (s : State) (sides : Sides) (octets : List ℕ) → may_call s.phase (RestartConfirm sides octets) ≡ true →
     fits_user_data octets ≡ true

@@ -36,9 +36,7 @@ asked_alone o e = cc
 
 cn_said : AsSent → (o : Opening) (limit : ℕ) → nat_le (length o.user_data.now) most_user_data ≡ true →
     SaysTsdus seen_calling (tsdus_of limit (asked_for o)) (seen_of false (connecting o))
-cn_said known o limit z =
-    let m = asked_for o in
-    grind (arith, seen_of, leb-true, asked_sendable, says_message, asked_said, asked_alone)
+cn_said known o limit z = grind (arith, seen_of, leb-true, asked_sendable, says_message, asked_said, asked_alone)
 
 -- ---- any run of a caller
 
@@ -66,8 +64,7 @@ caller_run known us o closed l taken told (running.calls _ _ _ c now later small
     grind (arith, nothing_passes, err_sends, call_is, caller_run known us o _ _ taken later r z f ((grind (arith, call_is)) ∙ e))
 caller_run known us o closed l taken told (running.connects _ _ now later p r) z f e =
     grind (arith, as_opened, tsdus_explained, cn_said, run_explained)
-caller_run known us o closed l taken told (running.misses _ _ reason _ w r) z f e =
-    none_explained us told taken seen_calling (sends_no_more us _ _ taken told r refl (grind (arith, of_refused)))
+caller_run known us o closed l taken told (running.misses _ _ reason _ w r) z f e = grind (arith, none_explained, sends_no_more, of_refused)
 caller_run known us o closed l taken told (running.loses _ _ _ r) z f e = grind (arith, none_explained, sends_no_more, over_by, lost_ended)
 
 -- ---- a prefix of what is explained

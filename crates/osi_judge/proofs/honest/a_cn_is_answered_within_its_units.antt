@@ -1,12 +1,11 @@
 -- An honest side never selects what the profile leaves out: its AC names units of the CN, and units that may be selected together.
 -- For the law that an honest side is not blamed.
 use Rattle.osi_judge.proofs.Vocabulary.{◌≡◌, refl, sym, subst, ℕ, ◌+◌, ◌⊎◌, inl, inr, Bool, true, false, not, ◌&&◌, ◌||◌, is_none, List, []}
-use Rattle.osi_judge.proofs.Vocabulary.{◌∷◌, get_or, Option, Some, None, unwrap_or, Result, Ok, Err, arith, bit_and, AllByRecursion}
-use Rattle.osi_judge.proofs.Vocabulary.{list_any, and_from, and_parts, cases_Bool, eq-eqb, eqb-true, and_assoc, SpduFault, TsduMaximumSize}
-use Rattle.osi_judge.proofs.Vocabulary.{Zero, Two, Kind, TokenSetting, Meaning, CN, meaning_by, said_at, Word, Words, says, Answering}
-use Rattle.osi_judge.proofs.Vocabulary.{RestartDue, FunctionalUnits, State, Call, unit_asks, Hearing, Taker, respond_word, Listener}
-use Rattle.osi_judge.proofs.Vocabulary.{after_input, called, came, came_as, taker_of, restarted_at, is_answering, is_over, is_restarting}
-use Rattle.osi_judge.proofs.Vocabulary.{is_wait_cn, fine, respond_unit, without_tokens, functional_units, StandsAlone, alone_in_octets}
+use Rattle.osi_judge.proofs.Vocabulary.{◌∷◌, get_or, Option, Some, None, Result, Ok, Err, arith, bit_and, AllByRecursion, list_any}
+use Rattle.osi_judge.proofs.Vocabulary.{and_from, and_parts, cases_Bool, eq-eqb, eqb-true, and_assoc, SpduFault, Zero, Two, Kind, Meaning}
+use Rattle.osi_judge.proofs.Vocabulary.{CN, meaning_by, said_at, Word, Words, says, FunctionalUnits, State, Call, unit_asks, Hearing, Taker}
+use Rattle.osi_judge.proofs.Vocabulary.{respond_word, Listener, after_input, called, came, came_as, taker_of, is_answering, is_over}
+use Rattle.osi_judge.proofs.Vocabulary.{is_restarting, is_wait_cn, fine, respond_unit, functional_units, StandsAlone, alone_in_octets}
 use Rattle.osi_judge.proofs.Vocabulary.{passes, stands_alone, passed, excluded, call_cases, fault_cases, taken_cases, unit_cases}
 use Rattle.osi_judge.proofs.Vocabulary.{any_tsdu_keeps, tsdu_keeps, word_keeps, word_alone, word_at, in_first, offered_in}
 use Rattle.osi_spdu.specs.Kinds.{category_of}
@@ -40,10 +39,7 @@ profile_cases bits h = grind (arith, eqb-true, and_parts)
 
 pub selected_inside : (offered accepted : ℕ) → is_profile accepted ≡ true →
     units_within (functional_units accepted) (functional_units offered) ≡ true → is_profile (bit_and offered accepted) ≡ true
-selected_inside offered accepted p w = elim (profile_cases accepted p) [
-  | inl e ↦ grind (arith, eqb-true, within_duplex)
-  | inr h ↦ grind (arith, eq-eqb, both_half, eqb-true, within_half)
-]
+selected_inside offered accepted p w = grind (arith, profile_cases, eqb-true, within_duplex, eq-eqb, both_half, within_half)
 
 -- ---- the units of the CN that is answered
 
@@ -58,14 +54,6 @@ Answers first s = is_answering s.phase ≡ true → IsUnits first s.units
 -- a CN is still awaited
 abbrev Waits : Type 0 → State → Type 0
 Waits W s = is_wait_cn s.phase ≡ true → W
-
--- after a CN that may be accepted, and after an RS that takes effect
-abbrev requested : State → ℕ → Option ℕ → TokenSetting → TsduMaximumSize → State
-requested s requirements serial wishes sizes =
-    record s { phase = Answering; units = functional_units requirements; wishes = wishes; proposed = unwrap_or serial 0; sizes = sizes }
-
-abbrev restarted : State → ℕ → TokenSetting → State
-restarted s n wishes = record (without_tokens RestartDue s) { wishes = wishes; numbers = restarted_at n s.numbers }
 
 becomes_answers : (first : Option ℕ) (s : State) (u : Meaning) → unit_asks u ≡ false → Answers first s → Answers first (becomes s u)
 becomes_answers first s u n h = grind arith
@@ -82,9 +70,7 @@ word_waits : (W : Type 0) (t : Taker) (w : Word) → Waits W t.state → Waits W
 word_waits W t w h = word_keeps (Waits W) t w (λ u a. unit_waits W t.state u h) (λ o. λ k. absurd (cc)) h
 
 unit_answers : (first : Option ℕ) (s : State) (u : Meaning) → unit_asks u ≡ false → Answers first s → Answers first (respond_unit s u).next
-unit_answers first s u n h =
-    unit_cases (Answers first) s u
-    (grind (arith, becomes_answers))
+unit_answers first s u n h = grind (arith, becomes_answers, unit_cases (Answers first) s u (grind (arith, becomes_answers)))
 
 word_answers : (first : Option ℕ) (t : Taker) (w : Word) → passes unit_asks w ≡ false → Answers first t.state →
     Answers first (respond_word t w).next.state

@@ -10,7 +10,6 @@ use Rattle.osi_judge.proofs.Vocabulary.{implied, input_begun, input_over, input_
 use Rattle.osi_judge.proofs.Vocabulary.{read_as, remark, remarks, IsBehind, Pass, Runs}
 use Rattle.osi_session.specs.Joining.{acting_words}
 use Rattle.osi_session.specs.Listening.{Move, moved}
-use Rattle.osi_session.specs.Standing.{answers}
 use Rattle.osi_judge.specs.Explaining as explained
 use Rattle.osi_judge.specs.Running.{sends}
 use Rattle.osi_judge.specs.Running as running
@@ -96,9 +95,6 @@ hearing l tsdu = respond_came (taker_of l) (said_at tsdu)
 pub came_moves : (l : Listener) (tsdu : List ℕ) → react l (came tsdu) ≡ moved l (hearing l tsdu)
 came_moves l tsdu = came_is l (said_at tsdu) (hearing l tsdu) refl
 
-abbrev seen_behind : Move → Seen
-seen_behind m = seen_of m.closes m.next
-
 none_kept : (b : Bool) → (if b then None else None) ≡ (let x : Option ℕ = None in x)
 none_kept b = grind arith
 
@@ -146,8 +142,7 @@ called_by : AsSent → (us : List (List ℕ)) (closed : Bool) (l : Listener) (ta
     → IsSound l.state → (closed ≡ true → is_over l.state.phase ≡ true) → allowed l.state c ≡ a →
     Explains us (remarks later) taken (seen_of closed (after_input l (called c)))
     → Explains us (remarks (now ++ later)) taken (seen_of closed l)
-called_by known us closed l taken c now later (Err x) small p sound over e h =
-    grind (arith, nothing_passes taken (sends l (called c)) now (err_sends l c x e) p, call_is)
+called_by known us closed l taken c now later (Err x) small p sound over e h = grind (arith, nothing_passes, err_sends, call_is)
 called_by known us true l taken c now later (Ok x) small p sound over e h = search (arith, callable_open, accepted_callable)
 called_by known us false l taken c now later (Ok x) small p sound over e h =
     grind (arith, tsdus_explained, call_is l c (Ok x) e, call_said known l.state (option_map length l.joined) c x sound small e)
@@ -158,8 +153,7 @@ pub ended_over : (p : Phase) → is_ended p ≡ true → is_over p ≡ true
 ended_over p h = implied is_ended is_over refl p h
 
 pub tsdu_sound : (l : Listener) (tsdu : List ℕ) → IsSound l.state → IsSound (after_input l (came tsdu)).state
-tsdu_sound l tsdu h =
-    subst (λ (m : Move). IsSound m.next.state) (sym (came_moves l tsdu)) (octets_sound (taker_of l) tsdu (hearing l tsdu) refl h)
+tsdu_sound l tsdu h = grind (arith, came_moves l tsdu, octets_sound (taker_of l) tsdu (hearing l tsdu) refl h)
 
 pub record IsLive (closed : Bool) (l : Listener) : Type 0 where
   pub sound : IsSound l.state

@@ -1,9 +1,8 @@
 -- What a session answers a TSDU by at once can be sent, is alone in its TSDU, and is taken for that answer: an RF, AA,
 -- or an AB without the user's bit. For the law that an honest session is explained.
-use Rattle.osi_judge.proofs.Vocabulary.{◌≡◌, ℕ, Bool, true, false, [], ◌∷◌, Option, Some, None, Result, Ok, Err, if◌then◌else◌, arith}
-use Rattle.osi_judge.proofs.Vocabulary.{SpduFault, Meaning, AA, AB, RF, IsSendable, Word, Words, UnitFault, State, Taker, Hearing}
-use Rattle.osi_judge.proofs.Vocabulary.{acting_words, respond_came, respond_word, is_over, Outcome, conditions, first_fault, in_aborting}
-use Rattle.osi_judge.proofs.Vocabulary.{si, outcome_in, word_does}
+use Rattle.osi_judge.proofs.Vocabulary.{◌≡◌, ℕ, Bool, true, false, [], ◌∷◌, Option, Some, None, Result, if◌then◌else◌, arith, SpduFault}
+use Rattle.osi_judge.proofs.Vocabulary.{Meaning, AA, AB, RF, IsSendable, Word, Words, UnitFault, State, Taker, Hearing, respond_came}
+use Rattle.osi_judge.proofs.Vocabulary.{respond_word, is_over, Outcome, conditions, first_fault, in_aborting, si, outcome_in, word_does}
 use Rattle.osi_message.specs.Written.{is_second, user_data_of}
 use Rattle.osi_session.specs.Joining.{respond_words}
 use Rattle.osi_session.specs.Respond.{judged}
@@ -41,8 +40,7 @@ either_outcome : (b : Bool) (x y : Outcome) → Answers x → Answers y → Answ
 either_outcome b x y h k = grind arith
 
 judged_itself : (s : State) (u : Meaning) (f : Option UnitFault) → Answers (judged s u f)
-judged_itself s u None = grind (arith, either, refuses, accepts)
-judged_itself s u (Some f) = aborts
+judged_itself s u f = grind (arith, either, refuses, accepts, aborts)
 
 expected_itself : (s : State) (u : Meaning) → Answers (take_expected s u)
 unfolding take_expected
@@ -71,5 +69,4 @@ unfolding respond_fault
 fault_itself s fault = either_outcome (is_over s.phase) _ _ tt aborts
 
 pub came_itself : (t : Taker) (read : Result Words SpduFault) → SaysItself (respond_came t read).reply
-came_itself t (Ok words) = words_itself t (acting_words words)
-came_itself t (Err fault) = fault_itself t.state fault
+came_itself t read = grind (arith, words_itself, fault_itself)

@@ -28,19 +28,12 @@ honest_explained caller called right us told h = called us told h
 
 front_outside : (us : List (List ℕ)) (told : List Told) (i : ℕ) → AllInside (first_asked us) told
     → selects_outside us (take i told) ≡ true → ⊥
-front_outside us told i a s =
-    grind arith
+front_outside us told i a s = grind arith
 
 -- a prefix of a side that is explained is explained
 not_broken : (begin : Seen) (us : List (List ℕ)) (told : List Told) (i : ℕ) → IsExplained begin us told →
     (IsExplained begin us (take (i + 1) told) → ⊥) → ⊥
-not_broken begin us told i e n =
-    n (grind (arith, front_told, take-append-drop (i + 1) told))
-
--- what is known of an honest side
-record Honest (d : Direction) (us : List (List ℕ)) (told : List Told) : Type 0 where
-  explained : IsExplained (begin_of d) us told
-  inside : AllInside (first_asked us) told
+not_broken begin us told i e n = grind (arith, front_told, take-append-drop (i + 1) told)
 
 pub not_blamed : AsSent → AsParts → CallerLaw → CalledLaw → OneReading → (d : Direction) (capture : Capture) (finding : Finding) →
     IsHonestIn d capture → IsFoundIn d capture finding → broke_session finding ≡ false

@@ -1,9 +1,9 @@
 -- A session that sends the words of TSDUs, one after the other, explains these TSDUs.
 -- For the law that an honest session is explained.
 use Rattle.std.proofs.Common.{arith}
-use Rattle.osi_judge.proofs.Vocabulary.{◌≡◌, refl, sym, subst, ℕ, true, false, List, [], ◌∷◌, ◌++◌, length, map, Result, Ok, SpduFault}
-use Rattle.osi_judge.proofs.Vocabulary.{Meaning, GT, said_at, words_of, no_token, Word, Words, says, is_second, Seen, CanSay, is_in_size}
-use Rattle.osi_judge.proofs.Vocabulary.{Told, Remark, Explains, remark, remarks, read_as, Pass}
+use Rattle.osi_judge.proofs.Vocabulary.{◌≡◌, refl, sym, subst, ℕ, true, false, List, [], ◌∷◌, ◌++◌, length, map, Ok, Meaning, GT, said_at}
+use Rattle.osi_judge.proofs.Vocabulary.{words_of, no_token, Word, Words, says, is_second, Seen, CanSay, is_in_size, Told, Remark, Explains}
+use Rattle.osi_judge.proofs.Vocabulary.{remark, remarks, Pass}
 use Rattle.osi_message.specs.Tokens.{is_empty}
 use Rattle.osi_session.specs.Joining.{acting_words}
 use Rattle.osi_session.specs.Standing.{said}
@@ -25,9 +25,7 @@ words_explained us t (w ∷ ws) later taken s n e h =
 tsdu_explained : (us : List (List ℕ)) (t : Told) (told : List Told) (words : Words) (taken : ℕ) (s n : Seen) → said_at t.octets ≡ Ok words →
     SaysAll s (acting_words words) (length t.octets) n
     → Explains us (remarks told) taken n → Explains us (remarks (t ∷ told)) taken s
-tsdu_explained us t told words taken s n r e h =
-    subst (λ (x : Result Words SpduFault). Explains us (read_as t x ++ remarks told) taken s) (sym r)
-    (words_explained us t (acting_words words) (remarks told) taken s n e h)
+tsdu_explained us t told words taken s n r e h = grind (arith, words_explained)
 
 -- ---- TSDUs
 
@@ -41,7 +39,6 @@ pub tsdus_explained : (us : List (List ℕ)) (tsdus : List (List ℕ)) (now late
     → Explains us (remarks later) taken n → Explains us (remarks (now ++ later)) taken s
 tsdus_explained us [] [] later taken s n p e h = subst (Explains us (remarks later) taken) (sym e) h
 tsdus_explained us (o ∷ os) (t ∷ now) later taken s n p e h =
-    let octets : t.octets ≡ o = p.0 in
     grind (arith, tsdu_explained, tsdus_explained us os now later taken e.1 n p.2 e.4 h)
 tsdus_explained us [] (t ∷ now) later taken s n p e h = absurd p
 tsdus_explained us (o ∷ os) [] later taken s n p e h = absurd p

@@ -1,4 +1,5 @@
 -- The units of a walk to a restart have these words: for the functions of `restarts` that make them.
+use Rattle.std.proofs.Common.{arith}
 use Rattle.osi_judge.proofs.Vocabulary.{◌≡◌, ◌∙◌, refl, ap, ℕ, ◌≤◌, List, [], Bor, Resynchronize, Serial, TokenSetting, Answerer, Contents}
 use Rattle.osi_judge.proofs.Vocabulary.{made, abort_params, resynchronize_params, AB, RS, meaning, says, unit_with, HaveDigits}
 use Rattle.osi_judge.proofs.Vocabulary.{meaning_again, abort_known, restart_known, restart_at, an_abort}
@@ -22,8 +23,7 @@ unfolding unit_of
 made_abort b e = ap (unit_with Abort) (abort_known 1 b) ∙ ap (λ (octets : List ℕ). unit_of (AB 1 octets)) e
 
 pub abort_word : HaveDigits → (u : Contents) (b : Bor (List ℕ)) → u ≡ made Abort (abort_params 1 b) → b.now ≡ [] → word u ≡ an_abort
-abort_word digits u b e n =
-    ap word e ∙ says_abort _ ∙ ap (λ (x : Contents). says (meaning x)) (made_abort b n) ∙ ap says (meaning_again digits (AB 1 []) refl tt)
+abort_word digits u b e n = grind (arith, says_abort, made_abort, meaning_again)
 
 abbrev all_away : TokenSetting
 all_away = record { data_token = Answerer; minor = Answerer; major = Answerer; release = Answerer }
@@ -31,14 +31,9 @@ all_away = record { data_token = Answerer; minor = Answerer; major = Answerer; r
 made_restart : (n : Serial) (b : Bor (List ℕ)) → b.now ≡ []
     → made Resynchronize (resynchronize_params all_away Restart n b) ≡ unit_of (RS Restart n.number all_away [])
 unfolding unit_of
-made_restart n b e =
-    ap (unit_with Resynchronize) (restart_known all_away Restart n b) ∙ ap (λ (octets : List ℕ). unit_of
-    (RS Restart n.number all_away octets)) e
+made_restart n b e = grind (arith, restart_known)
 
 pub restart_word : HaveDigits → (u : Contents) (number : ℕ) (n : Serial) (b : Bor (List ℕ))
     → u ≡ made Resynchronize (resynchronize_params all_away Restart n b) → b.now ≡ [] → n.number ≡ number → number ≤ 999999
     → word u ≡ restart_at number
-restart_word digits u number n b e d s l =
-    ap word e ∙ says_restart _ ∙ ap (λ (x : Contents). says (meaning x)) (made_restart n b d)
-    ∙ ap (λ (k : ℕ). says (meaning (unit_of (RS Restart k all_away [])))) s
-    ∙ ap says (meaning_again digits (RS Restart number all_away []) refl l)
+restart_word digits u number n b e d s l = grind (arith, says_restart, made_restart, meaning_again)

@@ -1,7 +1,7 @@
 -- What a session does by itself on a walk is a function of its state and of what passed: for the functions of `first_places`.
-use Rattle.osi_judge.proofs.Vocabulary.{◌≡◌, ◌∙◌, sym, ap, ℕ, ◌+◌, ◌<◌, ◌≤◌, Bool, true, false, is_none, List, [], get_or, Option, Some}
-use Rattle.osi_judge.proofs.Vocabulary.{None, option_map, if◌then◌else◌, arith, Meaning, Word, Seen, Count, Takes, listens, after_count}
-use Rattle.osi_judge.proofs.Vocabulary.{Member, member, sends, quiet_after, quietly, first_sender, count_at, next_of, reached}
+use Rattle.osi_judge.proofs.Vocabulary.{◌≡◌, ◌∙◌, sym, ap, ℕ, ◌+◌, ◌<◌, ◌≤◌, Bool, true, false, List, [], get_or, Option, Some, None}
+use Rattle.osi_judge.proofs.Vocabulary.{option_map, if◌then◌else◌, arith, Meaning, Word, Seen, Count, Takes, listens, after_count, Member}
+use Rattle.osi_judge.proofs.Vocabulary.{member, sends, quiet_after, quietly, first_sender, count_at, next_of, reached}
 use Rattle.osi_judge.proofs.told.the_nearest_of_all_sessions_is_told.{count_is, becomes_none, reached_some}
 use Rattle.osi_judge.proofs.kept.a_session_takes_one_tsdu_at_a_time.{next_taken}
 
@@ -18,13 +18,11 @@ quiet_as s u c l t = ap (if_quiet s (count_at s u)) l ∙ ap (quiet_after s) (co
 
 pub quiet_takes : (s t : Seen) (u : List ℕ) (c : Count) → listens s ≡ true → Takes s u c → c.reply ≡ None → t ≡ after_count s c
     → Some t ≡ quietly s u
-quiet_takes s t u c l k r n =
-    ap Some n ∙ sym (ap (λ (o : Option Meaning). if is_none o then Some (after_count s c) else None) r) ∙ sym (quiet_as s u c l k)
+quiet_takes s t u c l k r n = grind (arith, quiet_as s u c l k)
 
 pub quiet_answers : (s : Seen) (u : List ℕ) (c : Count) (a : Meaning) → listens s ≡ true → Takes s u c → c.reply ≡ Some a
     → None ≡ quietly s u
-quiet_answers s u c a l k r =
-    sym (ap (λ (o : Option Meaning). if is_none o then Some (after_count s c) else None) r) ∙ sym (quiet_as s u c l k)
+quiet_answers s u c a l k r = grind (arith, quiet_as s u c l k)
 
 pub moves_as : (us : List (List ℕ)) (m : Member) (u : List ℕ) (r : Option Seen) (n : Option Member) → u ≡ get_or us m.taken []
     → r ≡ quietly m.standing u → n ≡ option_map (member (m.taken + 1)) r → n ≡ next_of us m

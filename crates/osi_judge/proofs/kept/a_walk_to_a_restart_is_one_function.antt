@@ -1,10 +1,9 @@
 -- Which sessions a walk to a restart keeps is a function of where it begins and of what passed: for the functions of `restarts`.
 use Rattle.osi_judge.proofs.Vocabulary.{◌≡◌, ◌∙◌, sym, ap, ℕ, suc, ◌+◌, ◌-◌, ◌<◌, ◌≤◌, Bool, true, false, ◌&&◌, List, [], get_or, Option}
-use Rattle.osi_judge.proofs.Vocabulary.{Some, None, Result, Ok, OnOk, if◌then◌else◌, arith, fold-append, fold, Word, is_restarting, Seen}
-use Rattle.osi_judge.proofs.Vocabulary.{SaysAs, said, Member, Asked, Asker, added, member, sends, same_seen, quietly, is_still, remain, Way}
-use Rattle.osi_judge.proofs.Vocabulary.{Halt, both_of, is_between, unless, joined, asks, waited, askers, askers_from, next_of}
+use Rattle.osi_judge.proofs.Vocabulary.{Some, None, Result, Ok, OnOk, arith, fold-append, fold, Word, is_restarting, Seen, SaysAs, said}
+use Rattle.osi_judge.proofs.Vocabulary.{Member, Asked, Asker, added, member, sends, same_seen, quietly, is_still, remain, Way, both_of}
+use Rattle.osi_judge.proofs.Vocabulary.{is_between, joined, asks, waited, askers, askers_from, next_of}
 use Rattle.osi_judge.specs.Kept.{waits}
-use Rattle.osi_judge.specs.Kept.{passed}
 
 -- ---- in memory
 
@@ -32,12 +31,10 @@ pub waits_unsaid : (w : Word) (s : Seen) (u : List ℕ) → said s w 0 ≡ None 
 waits_unsaid w s u e = remains_not w s u (sym (ap (λ (o : Option Seen). remain s o u) e))
 
 pub waits_moved : (w : Word) (s a : Seen) (u : List ℕ) → said s w 0 ≡ Some a → false ≡ is_still s (quietly s u) → false ≡ waits w s u
-waits_moved w s a u e h =
-    remains_not w s u (ap (λ (b : Bool). b && is_still a (quietly a u)) h ∙ sym (ap (λ (o : Option Seen). remain s o u) e))
+waits_moved w s a u e h = grind (arith, remains_not)
 
 pub waits_moved_after : (w : Word) (s a : Seen) (u : List ℕ) → said s w 0 ≡ Some a → false ≡ is_still a (quietly a u) → false ≡ waits w s u
-waits_moved_after w s a u e h =
-    remains_not w s u (search arith)
+waits_moved_after w s a u e h = search (arith, remains_not)
 
 pub waits_so : (w : Word) (s a : Seen) (u : List ℕ) → is_restarting s.state.phase ≡ true → said s w 0 ≡ Some a
     → true ≡ is_still s (quietly s u) → true ≡ is_still a (quietly a u) → true ≡ waits w s u
@@ -54,26 +51,10 @@ pub joined_first : (taken : ℕ) (asked : Option Asked) (s shown : Seen) (old : 
     → JoinsAs taken asked s shown old old (Some (record { first = s; last = s; shown = shown }))
 joined_first taken asked s shown old n = grind arith
 
-abbrev joined_if : Bool → ℕ → Asked → Seen → Seen → Halt
-joined_if same taken a s shown =
-    if same
-    then record {
-      kept = unless (is_between a s) (member taken a.last);
-      waiting = Some
-          (record { first = a.first; last = s; shown = a.shown });
-    }
-    else record { kept = both_of taken (Some a); waiting = Some (record { first = s; last = s; shown = shown }) }
-
 pub joined_apart : (taken : ℕ) (asked : Option Asked) (b : Asked) (s shown : Seen) (old new : List Member) → asked ≡ Some b
     → false ≡ same_seen b.shown shown → new ≡ fold added old (both_of taken (Some b))
     → JoinsAs taken asked s shown old new (Some (record { first = s; last = s; shown = shown }))
 joined_apart taken asked b s shown old new e d h = grind arith
-
-abbrev joined_with : Bool → ℕ → Asked → Seen → Halt
-joined_with between taken a s = record {
-  kept = unless between (member taken a.last);
-  waiting = Some (record { first = a.first; last = s; shown = a.shown });
-}
 
 pub joined_between : (taken : ℕ) (asked : Option Asked) (b : Asked) (s shown : Seen) (old : List Member) → asked ≡ Some b
     → true ≡ same_seen b.shown shown → true ≡ is_between b s
@@ -89,9 +70,6 @@ joined_after taken asked b s shown old new e d m h = grind arith
 
 abbrev pub AsksAs : Way → Option Asked → Member → List Member → List Member → Option Asked → Type 0
 AsksAs way asked m old new r = (r ≡ (asks way asked m).waiting) × (new ≡ fold added old (asks way asked m).kept)
-
-abbrev HaltsAs : List Member → List Member → Option Asked → Halt → Type 0
-HaltsAs old new r h = (r ≡ h.waiting) × (new ≡ fold added old h.kept)
 
 pub asks_not : (way : Way) (asked : Option Asked) (m : Member) (old : List Member) → sends way.restart way.octets m ≡ None
     → AsksAs way asked m old old asked
@@ -112,10 +90,6 @@ abbrev pub WaitsAs : Word → ℕ → Option Asked → List ℕ → List Member 
 WaitsAs abort taken asked u old new r = (r ≡ (waited abort taken asked u).waiting) × (new ≡ fold added old
     (waited abort taken asked u).kept)
 
-abbrev waited_if : Bool → ℕ → Asked → Halt
-waited_if b taken a =
-    if b then record { kept = []; waiting = Some a } else record { kept = both_of taken (Some a); waiting = None }
-
 pub waited_none : (abort : Word) (taken : ℕ) (asked : Option Asked) (u : List ℕ) (old : List Member) → ((a : Asked) → asked ≡ Some a → ⊥)
     → WaitsAs abort taken asked u old old None
 waited_none abort taken asked u old n = grind arith
@@ -133,11 +107,6 @@ pub waited_both : (abort : Word) (taken : ℕ) (asked : Option Asked) (a : Asked
 waited_both abort taken asked a u old e d k = grind arith
 
 -- ---- one step
-
-abbrev rest_with : List (List ℕ) → Way → ℕ → Member → Option Member → List Member → Option Asked → List Member
-rest_with us way n m next old asked =
-    fold added (fold added old (passed us way.abort m.taken asked next).kept) (askers us way n
-    (passed us way.abort m.taken asked next).waiting next)
 
 pub step_stops : (us : List (List ℕ)) (way : Way) (n : ℕ) (from : Asker) (r : Option Asked) (old mid new : List Member)
     → AsksAs way from.asked from.at old mid r → next_of us from.at ≡ None → new ≡ fold added mid (both_of from.at.taken r)

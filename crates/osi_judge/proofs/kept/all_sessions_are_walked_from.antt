@@ -1,7 +1,7 @@
 -- The sessions after a unit, after the units of a TSDU, and after a TSDU, are those of all walks: for the functions of `telling`.
 use Rattle.osi_judge.proofs.Vocabulary.{◌≡◌, ◌∙◌, sym, ap, ℕ, ◌+◌, ◌<◌, ◌≤◌, ◌||◌, Bool, true, false, List, [], ◌∷◌, length, drop, get_or}
-use Rattle.osi_judge.proofs.Vocabulary.{Result, Ok, Err, IfOk, arith, fold-append, fold, flat_map, Word, Words, is_restart_word}
-use Rattle.osi_judge.proofs.Vocabulary.{acting_behind, Member, added, places_of, after_word, after_words}
+use Rattle.osi_judge.proofs.Vocabulary.{Result, IfOk, arith, fold-append, fold, flat_map, Word, Words, is_restart_word, acting_behind}
+use Rattle.osi_judge.proofs.Vocabulary.{Member, added, places_of, after_word, after_words}
 use Rattle.osi_session.specs.Joining.{acting_words}
 use Rattle.osi_judge.proofs.walked.sessions_after_a_unit.{drop_here, drop_end}
 
@@ -34,8 +34,7 @@ pub leads_first : (us : List (List ℕ)) (octets before : ℕ) (members now : Li
     → now ≡ members
     → item ≡ first → ws ≡ units → LeadsOn us octets before members (first ∷ units) now false item ws
 unfolding acting_words
-leads_first us octets before members now item first ws units e i b = λ k. after_words us octets before (e k) (acting_behind false (i k)
-    (b k))
+leads_first us octets before members now item first ws units e i b = grind (arith, acting_behind)
 
 pub leads_next : (us : List (List ℕ)) (octets before : ℕ) (members : List Member) (words : Words) (old new : List Member)
     (restarts now : Bool) (item u v : Word) (ws units : Words) → LeadsOn us octets before members words old restarts item ws
@@ -46,18 +45,15 @@ leads_next us octets before members words old new restarts now item u v ws units
 pub leads_restarted : (us : List (List ℕ)) (octets before : ℕ) (members : List Member) (words : Words) (now : List Member) (restarts : Bool)
     (item : Word) (ws : Words) → LeadsOn us octets before members words now restarts item ws → ws ≡ [] → restarts ≡ true
     → now ≡ after_words us octets before members (acting_words words)
-leads_restarted us octets before members words now restarts item ws h e r =
-    sym (λ i. after_words us octets before now (acting_behind (r i) item (e i))) ∙ h
+leads_restarted us octets before members words now restarts item ws h e r = grind (arith, acting_behind)
 
 pub leads_item : (us : List (List ℕ)) (octets before : ℕ) (members : List Member) (words : Words) (now new : List Member) (restarts : Bool)
     (item first : Word) (ws : Words) → LeadsOn us octets before members words now restarts item ws → ws ≡ [] → restarts ≡ false
     → item ≡ first → new ≡ after_word us octets before now first → new ≡ after_words us octets before members (acting_words words)
-leads_item us octets before members words now new restarts item first ws h e r i g =
-    g ∙ ap (after_word us octets before now) (sym i) ∙ sym (λ k. after_words us octets before now (acting_behind (r k) item (e k))) ∙ h
+leads_item us octets before members words now new restarts item first ws h e r i g = grind (arith, acting_behind)
 
 -- ---- in memory
 
 pub if_ok_as : {V E : Type 0} (f : V → List Member) (r : Result V E) (xs ys : List Member) → xs ≡ ys → IfOk r (λ v. f v ≡ xs)
     → IfOk r (λ v. f v ≡ ys)
-if_ok_as f (Ok v) xs ys e h = h ∙ e
-if_ok_as f (Err x) xs ys e h = tt
+if_ok_as f h xs ys e h2 = grind arith

@@ -124,14 +124,7 @@ same_seen_refl a = grind (arith, each, same_state_refl, bit_refl)
 
 -- a test in memory has the same answer
 pub seen_told : (b : Bool) (s t : Seen) → MatchBool b (s ≡ t) (s ≢ t) → b ≡ same_seen s t
-seen_told b s t h = by b (same_seen s t) refl h
-  where
-    by : (b c : Bool) → same_seen s t ≡ c → MatchBool b (s ≡ t) (s ≢ t) → b ≡ c
-    by true true e h = refl
-    by false false e h = refl
-    by true false e h =
-        let k : same_seen s t ≡ true = ap (λ (x : Seen). same_seen s x) (sym h) ∙ same_seen_refl s in absurd (cc)
-    by false true e h = absurd (h (same_seen_is s t e))
+seen_told b s t h = grind (arith, same_seen_refl, same_seen_is)
 
 -- another number of TSDUs, or another V(A)
 pub apart : (m n : Member) → (m.standing.state.numbers.confirmed ≡ n.standing.state.numbers.confirmed → ⊥) → false ≡ same_member m n

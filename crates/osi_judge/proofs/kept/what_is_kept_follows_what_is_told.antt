@@ -27,8 +27,7 @@ kept_of_more begin us told x = fold-append (after_tsdu us) (member 0 begin ∷ [
 pub kept_more : (begin : Seen) (heard : List (List ℕ)) (told : List Told) (x : Told) (members new : List Member)
     → AreKept begin heard told members → x.before ≤ length heard → new ≡ after_tsdu heard members x
     → AreKept begin heard (told ++ x ∷ []) new
-kept_more begin heard told x members new k l e = λ us h.
-    grind (arith, tsdu_alike, kept_of_more)
+kept_more begin heard told x members new k l e = grind (arith, tsdu_alike, kept_of_more)
 
 pub kept_begins : (begin : Seen) (us : List (List ℕ)) (members : List Member) (m : Member) → members ≡ m ∷ [] → m.taken ≡ 0
     → m.standing ≡ begin → members ≡ kept begin us []

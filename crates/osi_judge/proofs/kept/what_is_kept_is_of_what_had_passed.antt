@@ -4,8 +4,8 @@ use Rattle.osi_judge.proofs.Vocabulary.{◌≡◌, ◌∙◌, refl, ap, ap₂, �
 use Rattle.osi_judge.proofs.Vocabulary.{length, get_or, Option, Some, None, Result, if◌then◌else◌, arith, fold, flat_map, SpduFault}
 use Rattle.osi_judge.proofs.Vocabulary.{said_at, Word, Words, is_restart_word, is_restarting, Seen, Count, listens, said, is_steady, Member}
 use Rattle.osi_judge.proofs.Vocabulary.{Asked, Told, added, sends, first_sender, listed, anew, latest, follows, answer_by, answering}
-use Rattle.osi_judge.proofs.Vocabulary.{senders, Way, way_to, Halt, both_of, remain, waited, stepped, askers, restarters, after_word}
-use Rattle.osi_judge.proofs.Vocabulary.{after_words, after_read, after_tsdu, count_at, next_of, becomes}
+use Rattle.osi_judge.proofs.Vocabulary.{senders, Way, way_to, Halt, remain, waited, stepped, askers, restarters, after_word, after_words}
+use Rattle.osi_judge.proofs.Vocabulary.{after_read, after_tsdu, count_at, next_of, becomes}
 use Rattle.osi_judge.specs.Kept.{waits, places_of, kept}
 use Rattle.osi_judge.proofs.kept.a_session_takes_one_tsdu_at_a_time.{InBounds, within_by, next_taken}
 
@@ -31,10 +31,7 @@ module _ (us vs : List (List ℕ)) (before : ℕ) (h : ActAlike us vs before) wh
 
   waited_alike : (w : Word) (taken : ℕ) (asked : Option Asked) → taken < before
       → waited w taken asked (get_or us taken []) ≡ waited w taken asked (get_or vs taken [])
-  waited_alike w taken None l = refl
-  waited_alike w taken (Some a) l =
-      ap₂ (λ (x y : Bool). let both : Halt = if x && y then record { kept = []; waiting = Some a }
-      else record { kept = both_of taken (Some a); waiting = None } in both) (waits_alike w taken a.first l) (waits_alike w taken a.last l)
+  waited_alike w taken asked l = grind (arith, waits_alike)
 
   stepped_alike : (way : Way) (asked : Option Asked) (m : Member) → m.taken < before → stepped us way asked m ≡ stepped vs way asked m
   stepped_alike way asked m l = search (arith, waited_alike)

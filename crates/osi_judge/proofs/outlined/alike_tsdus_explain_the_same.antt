@@ -1,12 +1,11 @@
 -- What is explained, found and taken where outlines were heard is so where the TSDUs themselves were.
 -- For the judge, which keeps outlines, and says what holds of the TSDUs of a capture.
-use Rattle.osi_judge.proofs.Vocabulary.{◌≡◌, ◌∙◌, refl, sym, ap, subst, ℕ, zero, suc, ◌+◌, Bool, true, false, ◌&&◌, nat_lt, List, [], ◌∷◌}
-use Rattle.osi_judge.proofs.Vocabulary.{◌++◌, length, take, get_or, Option, None, Result, Ok, IfSome, if◌then◌else◌, arith, SpduFault}
-use Rattle.osi_judge.proofs.Vocabulary.{Meaning, Word, Words, says, is_second, written, Reply, has_no_effect, Seen, Count, Takes, Finding}
-use Rattle.osi_judge.proofs.Vocabulary.{Kept, Broke, TooMany, Member, Stands, Explains, Remark, Told, done, takes, answers, IsAstray}
-use Rattle.osi_judge.proofs.Vocabulary.{IsFound, IsKept, Extends, Comes, StandsBehind, StopsBy, standing_of, stays, goes_to, AreAlike, bare}
-use Rattle.osi_judge.proofs.Vocabulary.{outline_as, outline_behind, outlines, in_first, is_outside, accepted_in, offered_in}
-use Rattle.osi_judge.proofs.Vocabulary.{selects_outside, Ever}
+use Rattle.osi_judge.proofs.Vocabulary.{◌≡◌, ◌∙◌, refl, sym, ap, subst, ℕ, zero, suc, ◌+◌, Bool, true, false, List, [], ◌∷◌, ◌++◌, length}
+use Rattle.osi_judge.proofs.Vocabulary.{take, get_or, Option, None, Result, Ok, IfSome, if◌then◌else◌, arith, SpduFault, Meaning, Word}
+use Rattle.osi_judge.proofs.Vocabulary.{Words, says, is_second, written, Reply, has_no_effect, Seen, Count, Takes, Finding, Kept, Broke}
+use Rattle.osi_judge.proofs.Vocabulary.{TooMany, Member, Stands, Explains, Remark, Told, done, takes, answers, IsAstray, IsFound, IsKept}
+use Rattle.osi_judge.proofs.Vocabulary.{Extends, Comes, StandsBehind, StopsBy, standing_of, stays, goes_to, AreAlike, bare, outline_as}
+use Rattle.osi_judge.proofs.Vocabulary.{outline_behind, outlines, in_first, offered_in, selects_outside, Ever}
 use Rattle.osi_spdu.specs.Reading.{tsdu_at, unit_at}
 use Rattle.osi_message.specs.Reading.{said_at}
 use Rattle.osi_judge.specs.declared.findings.Finding.TheVariants.{Left}
@@ -99,10 +98,7 @@ unfolding outline
 same_offer tsdu = grind (arith, one_offer, two_offer)
 
 pub same_selection : (us : List (List ℕ)) (told : List Told) → selects_outside (outlines us) told ≡ selects_outside us told
-same_selection us [] = refl
-same_selection us (t ∷ told) =
-    ap (λ (o : Option ℕ). nat_lt 0 t.before && is_outside o (in_first accepted_in (said_at t.octets)))
-    (ap Offer (outlines_at us 0) ∙ same_offer (get_or us 0 []))
+same_selection us h = grind (arith, outlines_at, same_offer)
 
 -- ---- what is found
 
@@ -123,10 +119,6 @@ found_of_tsdus begin us told TooMany (i, l, h) = (i, l, kept_of_tsdus begin us (
 
 pub extends_as : (us heard : List (List ℕ)) → Extends us heard → Extends (outlines us) (outlines heard)
 extends_as us heard h = grind (arith, length_outlines, outlines_at)
-
--- whatever is sent later is explained from one state if it is from another
-abbrev Leads : (taken : ℕ) (s : Seen) (said : List Remark) (begin : Seen) → List (List ℕ) → List Remark → Type 0
-Leads taken s said begin us later = Explains us later taken s → Explains us (said ++ later) 0 begin
 
 pub said_of_tsdus : (heard : List (List ℕ)) (before taken : ℕ) (s : Seen) (said : List Remark) (begin : Seen)
     → Ever (outlines heard) before (λ us later. Explains us later taken s → Explains us (said ++ later) 0 begin)

@@ -1,11 +1,11 @@
 -- A TSDU and its outline have the same effect on every session, but for what its user is shown.
 -- For the judge, which keeps outlines, and says what holds of the TSDUs.
-use Rattle.osi_judge.proofs.Vocabulary.{◌≡◌, ◌∙◌, refl, sym, ap, ℕ, ◌+◌, ◌≤◌, Bool, true, false, nat_le, List, [], ◌∷◌, ◌++◌, length, map}
-use Rattle.osi_judge.proofs.Vocabulary.{IfOk, IfSome, Option, Some, None, Result, Ok, if◌then◌else◌, arith, le-leb, leb-true, append-nil}
+use Rattle.osi_judge.proofs.Vocabulary.{◌≡◌, ◌∙◌, refl, ap, ℕ, ◌+◌, ◌≤◌, Bool, true, false, nat_le, List, [], ◌∷◌, ◌++◌, length, IfOk}
+use Rattle.osi_judge.proofs.Vocabulary.{IfSome, Option, Some, None, Result, Ok, if◌then◌else◌, arith, le-leb, leb-true, append-nil}
 use Rattle.osi_judge.proofs.Vocabulary.{length-append, length-replicate, SpduFault, Contents, Units, numeral_digits, few_fit, tsdu_read}
-use Rattle.osi_judge.proofs.Vocabulary.{units_written, Meaning, DT, GT, data_octets, IsNumbered, AreNumberedWords, alone, behind}
-use Rattle.osi_judge.proofs.Vocabulary.{said_by_units, IsSendable, words_of, no_token, Place, Word, Words, part, part_octets, says, written}
-use Rattle.osi_judge.proofs.Vocabulary.{spelled_fits, spelled_formed, units_numbered, part_said, data_written, Taker, Hearing, enacted_word}
+use Rattle.osi_judge.proofs.Vocabulary.{units_written, Meaning, DT, GT, data_octets, IsNumbered, AreNumberedWords, behind, said_by_units}
+use Rattle.osi_judge.proofs.Vocabulary.{IsSendable, words_of, no_token, Place, Word, Words, part, part_octets, says, written, spelled_fits}
+use Rattle.osi_judge.proofs.Vocabulary.{spelled_formed, units_numbered, part_said, data_written, Taker, Hearing, enacted_word}
 use Rattle.osi_judge.proofs.Vocabulary.{is_restart_word, respond_came, word_verdict, Verdict, has_no_effect, is_faulty, Count, counted}
 use Rattle.osi_judge.proofs.Vocabulary.{count_then, AreAlike, bare, no_data, outline_as, outline_behind, outline_by}
 use Rattle.osi_message.specs.Reading.{said_at}
@@ -138,17 +138,12 @@ alone_does : (t : Taker) (m : Meaning) (o : Option Meaning) → Bared m o → is
     → IfSome o (λ n. DoesAt t (written n) ≡ Does t (says m ∷ []))
 alone_does t m None b e = tt
 alone_does t m (Some n) b e =
-    ap (λ (r : Result Words SpduFault). counted (respond_came t r))
-    (read_again n b.4 ∙ ap (λ (x : Bool). Ok (map says (if x then behind (GT no_token) n else alone n))) (b.3 ∙ e))
-    ∙ sym (alone_same t (says m) (says n) (same_by m n b.0 b.1 b.2))
+    grind (arith, read_again n b.4, alone_same t (says m) (says n) (same_by m n b.0 b.1 b.2), same_by m n b.0 b.1 b.2)
 
 pair_does : (t : Taker) (item m : Meaning) (o : Option Meaning) → Bared m o → has_no_effect item ≡ true → is_second m ≡ true
     → IfSome o (λ n. DoesAt t (written n) ≡ Does t (says item ∷ says m ∷ []))
 pair_does t item m None b i e = tt
-pair_does t item m (Some n) b i e =
-    ap (λ (r : Result Words SpduFault). counted (respond_came t r))
-    (read_again n b.4 ∙ ap (λ (x : Bool). Ok (map says (if x then behind (GT no_token) n else alone n))) (b.3 ∙ e))
-    ∙ sym (pair_same t (says item) (says (GT no_token)) (says m) (says n) (idle_same item i) (same_by m n b.0 b.1 b.2))
+pair_does t item m (Some n) b i e = grind (arith, pair_same, read_again n b.4, idle_same item i, same_by m n b.0 b.1 b.2)
 
 one_by : (b : Bool) (t : Taker) (tsdu : List ℕ) (m : Meaning) → is_second m ≡ b → said_at tsdu ≡ Ok (says m ∷ [])
     → DoesAt t (if b then tsdu else outline_as tsdu (bare m)) ≡ Does t (says m ∷ [])
@@ -166,10 +161,7 @@ behind_does : (t : Taker) (tsdu : List ℕ) (item : Meaning) (w : Word) → has_
     → DoesAt t (outline_behind tsdu w) ≡ Does t (says item ∷ w ∷ [])
 behind_does t tsdu item (says m) i h = second_by (is_second m) t tsdu item m i refl h
 behind_does t tsdu item (part place octets) i h =
-    either_does (nat_le (length (part_octets place (no_data octets))) (length tsdu)) t (part_octets place (no_data octets)) tsdu
-    (Does t (says item ∷ part place octets ∷ []))
-    (grind (arith, pair_same, part_again place (no_data octets), idle_same item i, part_same place octets))
-    (ap (λ (r : Result Words SpduFault). counted (respond_came t r)) h)
+    grind (arith, either_does, pair_same, part_again place (no_data octets), idle_same item i, part_same place octets)
 
 taken_by : (t : Taker) (tsdu : List ℕ) (read : Result Words SpduFault) → said_at tsdu ≡ read
     → DoesAt t (outline_by tsdu read) ≡ counted (respond_came t read)
@@ -215,13 +207,11 @@ after_item tsdu item w h e = grind arith
 outline_second : (tsdu : List ℕ) (item m : Meaning) → said_at tsdu ≡ Ok (says item ∷ says m ∷ []) → has_no_effect item ≡ true
     → is_second m ≡ true
     → outline tsdu ≡ outline_as tsdu (bare m)
-outline_second tsdu item m h i e =
-    after_item tsdu item (says m) h i ∙ ap (λ (b : Bool). if b then outline_as tsdu (bare m) else tsdu) e
+outline_second tsdu item m h i e = grind (arith, after_item)
 
 pub alone_outline : (tsdu : List ℕ) (m n : Meaning) → said_at tsdu ≡ Ok (says m ∷ []) → is_second m ≡ false → bare m ≡ Some n
     → length (outline tsdu) ≤ length (written n)
-alone_outline tsdu m n h e b =
-    let l = ap (λ (x : List ℕ). length x) (outline_alone tsdu m h e) in grind (arith, as_written, l)
+alone_outline tsdu m n h e b = grind (arith, as_written, outline_alone tsdu m h e)
 
 pub behind_outline : (tsdu : List ℕ) (item m n : Meaning) → said_at tsdu ≡ Ok (says item ∷ says m ∷ []) → has_no_effect item ≡ true
     → is_second m ≡ true → bare m ≡ Some n → length (outline tsdu) ≤ length (written n)
@@ -237,9 +227,7 @@ data_has_one_outline tsdu octets item h i l = grind (arith, outline_second tsdu 
 
 pub part_has_one_outline : (tsdu octets : List ℕ) (place : Place) (item : Meaning) → said_at tsdu ≡ Ok (says item ∷ part place octets ∷ [])
     → has_no_effect item ≡ true → 7 + length octets ≤ length tsdu → outline tsdu ≡ part_octets place (no_data octets)
-part_has_one_outline tsdu octets place item h i l =
-    let n = length-replicate {A = ℕ} (length octets) 0 in
-    grind (arith, after_item, le-leb)
+part_has_one_outline tsdu octets place item h i l = grind (arith, length-replicate, after_item, le-leb)
 
 -- ---- for the code
 
@@ -256,6 +244,4 @@ as_well r a b e h = grind arith
 pub plain_outline : (tsdu user head : List ℕ) → said_at tsdu ≡ Ok (says (GT no_token) ∷ says (DT user) ∷ []) → tsdu ≡ data_octets user
     → ((octets : List ℕ) → written (DT octets) ≡ head ++ octets) → head ≡ outline tsdu
 unfolding is_empty
-plain_outline tsdu user head h e w =
-    let n = ap (λ (x : List ℕ). length x) e in
-    sym (append-nil head) ∙ sym (w []) ∙ data_written [] ∙ sym (data_has_one_outline tsdu user (GT no_token) h refl (omega (arith, n)))
+plain_outline tsdu user head h e w = grind (arith, data_has_one_outline, append-nil head, data_written [])

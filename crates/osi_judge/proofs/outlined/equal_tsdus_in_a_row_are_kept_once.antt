@@ -1,11 +1,10 @@
 -- TSDUs of which equal ones in a row are kept once: how many there are, which one has a place, one more, and one fewer.
 -- For the value Heard.
-use Rattle.osi_judge.proofs.Vocabulary.{◌≡◌, ◌∙◌, refl, sym, ap, subst, ℕ, zero, suc, ◌+◌, ◌-◌, ◌<◌, ◌≤◌, ◌≢◌, List, [], ◌∷◌, ◌++◌, length}
-use Rattle.osi_judge.proofs.Vocabulary.{get_or, take, arith, Bool, true, false, ◌&&◌, ◌==◌, if◌then◌else◌, MatchBool, nat_eq, rules}
-use Rattle.osi_judge.proofs.Vocabulary.{replicate, get_or_append_left, get_or-append_right, get_or-replicate, length-append}
-use Rattle.osi_judge.proofs.Vocabulary.{length-replicate, append-nil, replicate_more, take-append_seam, eq-eqb, eqb-true, eqb, pointwise}
-use Rattle.osi_judge.proofs.Vocabulary.{Run, is_same, once, once_behind, AreApart, AreFrom, HasPlace, IsOther, begin_at, begin_in}
-use Rattle.osi_judge.proofs.Vocabulary.{last_from, last_in, spread}
+use Rattle.osi_judge.proofs.Vocabulary.{◌≡◌, ◌∙◌, refl, sym, ap, ℕ, zero, suc, ◌+◌, ◌-◌, ◌<◌, ◌≤◌, ◌≢◌, List, [], ◌∷◌, ◌++◌, length, get_or}
+use Rattle.osi_judge.proofs.Vocabulary.{take, arith, Bool, true, false, ◌&&◌, ◌==◌, if◌then◌else◌, MatchBool, nat_eq, rules, replicate}
+use Rattle.osi_judge.proofs.Vocabulary.{get_or_append_left, get_or-append_right, get_or-replicate, length-append, length-replicate}
+use Rattle.osi_judge.proofs.Vocabulary.{append-nil, replicate_more, take-append_seam, eq-eqb, eqb-true, eqb, pointwise, Run, is_same, once}
+use Rattle.osi_judge.proofs.Vocabulary.{once_behind, AreApart, AreFrom, HasPlace, IsOther, begin_at, begin_in, last_from, last_in, spread}
 use Rattle.std.proofs.Common.{append_assoc}
 use Rattle.osi_judge.specs.Runs.{tsdu_at}
 
@@ -98,9 +97,7 @@ a_run_ends at (r ∷ []) x count h = (h.0, h.1, refl)
 a_run_ends at (r ∷ s ∷ runs) x count h = (h.0, h.1, a_run_ends s.from (s ∷ runs) x count h.2)
 
 pub all_but_last : (old new : List (List ℕ)) (t : List ℕ) → old ≡ new ++ t ∷ [] → new ≡ take (length old - 1) old
-all_but_last old new t e =
-    let n = ap (λ (x : List (List ℕ)). length x) e in
-    grind (arith, length-append new (t ∷ []), take-append_seam new (t ∷ []))
+all_but_last old new t e = grind (arith, length-append new (t ∷ []), take-append_seam new (t ∷ []))
 
 -- ---- equal ones in a row
 
@@ -152,17 +149,14 @@ kept_behind at before (r ∷ runs) count h o a =
 
 pub kept_once : (runs : List Run) (count : ℕ) → AreFrom 0 runs count → AreApart runs → length runs ≡ length (once (spread runs count))
 kept_once [] count h a = refl
-kept_once (r ∷ runs) count h a =
-    let n = begin_in runs count - r.from in
-    grind (arith, one_then, skipped, kept_behind)
+kept_once (r ∷ runs) count h a = grind (arith, one_then, skipped, kept_behind)
 
 -- ---- the steps of the value
 
 pub halves_begin : (runs : List Run) (count place : ℕ) → AreFrom 0 runs count → place < count
     → (0 < length runs) × (length runs ≤ length runs) × (begin_at runs count 0 ≤ place) × (place < begin_at runs count (length runs))
 halves_begin [] count place h l = absurd (omega (arith, h, l))
-halves_begin (r ∷ runs) count place h l =
-    let e = begin_end (r ∷ runs) count in (omega arith, omega arith, omega (arith, h.0), omega (arith, e, l))
+halves_begin (r ∷ runs) count place h l = grind (arith, begin_end)
 
 last_read : (runs : List Run) (r : Run) → 0 < length runs → r ≡ get_or runs (length runs - 1) r → (r.tsdu ≡ last_in runs)
     × (r.from ≡ last_from runs)
@@ -181,13 +175,11 @@ last_begin runs r l e = (last_read runs r l e).1
 pub once_more : (runs : List Run) (count : ℕ) (value : List (List ℕ)) (tsdu : List ℕ) → AreFrom 0 runs count → 0 < length runs
     → is_same (last_in runs) tsdu ≡ true
     → spread runs count ≡ value → spread runs (count + 1) ≡ value ++ tsdu ∷ []
-once_more runs count value tsdu h l s v =
-    let t = one_of (last_in runs) tsdu s in more_of_last 0 runs count h l ∙ (λ i. v i ++ t i ∷ [])
+once_more runs count value tsdu h l s v = grind (arith, one_of (last_in runs) tsdu s, more_of_last 0 runs count h l)
 
 pub a_run_more : (runs new : List Run) (x : Run) (count : ℕ) → AreFrom 0 runs count → AreApart runs → x.from ≡ count
     → (0 < length runs → is_same (last_in runs) x.tsdu ≡ false) → new ≡ runs ++ x ∷ [] → AreFrom 0 new (count + 1) × AreApart new
-a_run_more runs new x count h a f n e =
-    subst (λ (y : List Run). AreFrom 0 y (count + 1) × AreApart y) (sym e) (a_run_begins 0 runs x count h f, apart_more runs x a n)
+a_run_more runs new x count h a f n e = grind (arith, a_run_begins, apart_more)
 
 pub added_in : (runs new : List Run) (x : Run) (count : ℕ) (value : List (List ℕ)) → x.from ≡ count → new ≡ runs ++ x ∷ []
     → spread runs count ≡ value

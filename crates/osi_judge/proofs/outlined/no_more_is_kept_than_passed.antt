@@ -2,11 +2,11 @@
 -- For the law that no more is kept than passed.
 use Rattle.osi_judge.proofs.Vocabulary.{◌≡◌, ap, subst, ℕ, ◌+◌, ◌≤◌, Bool, if◌then◌else◌, List, [], ◌∷◌, ◌++◌, length, map, Result, Ok, Err}
 use Rattle.osi_judge.proofs.Vocabulary.{arith, length-append, map-append, IsOctets, IsPacket, ArePackets, octets_right, TpduFault, AreUnits}
-use Rattle.osi_judge.proofs.Vocabulary.{Value, Direction, Left, Right, Kept, NoOpening, Capture, stream, shown, Judged, half_of, Taps}
-use Rattle.osi_judge.proofs.Vocabulary.{kept_of, is_same, kept_in, once, once_behind, outlines, octets_of, Handshake, first_unit, Move}
-use Rattle.osi_judge.proofs.Vocabulary.{adds, hurries, stops, next_step, asking_step, answering_step, has_asked, first_step, hasty_step}
-use Rattle.osi_judge.proofs.Vocabulary.{closing_step, later_step, refused_step, unit_step, step_of, Stage, begun, moved, stage_behind, Sent}
-use Rattle.osi_judge.proofs.Vocabulary.{ended, brought, sent_by, stage_from, sent_from}
+use Rattle.osi_judge.proofs.Vocabulary.{Value, Direction, Kept, NoOpening, Capture, stream, shown, Judged, half_of, Taps, kept_of, is_same}
+use Rattle.osi_judge.proofs.Vocabulary.{kept_in, once, once_behind, outlines, octets_of, Handshake, first_unit, Move, adds, hurries, stops}
+use Rattle.osi_judge.proofs.Vocabulary.{next_step, asking_step, answering_step, has_asked, first_step, hasty_step, closing_step, later_step}
+use Rattle.osi_judge.proofs.Vocabulary.{refused_step, unit_step, step_of, Stage, begun, moved, stage_behind, Sent, ended, brought, sent_by}
+use Rattle.osi_judge.proofs.Vocabulary.{stage_from, sent_from}
 use Rattle.osi_tpdu.specs.Packet.{units_of}
 use Rattle.osi_judge.specs.Transport.{added}
 use Rattle.osi_judge.proofs.told.what_is_known_of_a_side.{few_by}
@@ -115,8 +115,7 @@ outlines_less [] = omega arith
 outlines_less (x ∷ xs) = let l = outlines_less xs in let m = outline_no_longer x in omega (arith, l, m)
 
 pub no_more_kept : FoundUnits → (d : Direction) (c : Capture) (j : Judged) → Taps j c → kept_of d j ≤ length (stream d c)
-no_more_kept found Left c j h = grind (arith, stream_keeps, once_less, outlines_less, shown_begun)
-no_more_kept found Right c j h = grind (arith, stream_keeps, once_less, outlines_less, shown_begun)
+no_more_kept found d c j h = grind (arith, stream_keeps, once_less, outlines_less, shown_begun)
 
 pub few_sessions : (d : Direction) (c : Capture) (j : Judged) → Taps j c → (half_of d j).side.finding ≡ Kept
     → length (half_of d j).side.members ≤ 4096

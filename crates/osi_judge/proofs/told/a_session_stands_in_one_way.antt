@@ -1,18 +1,8 @@
 -- Of a session one state is found after all that passed, and one answer that it owes: for the law that a text has one
 -- judgement.
-use Rattle.osi_judge.proofs.Vocabulary.{◌≡◌, ◌∙◌, refl, sym, ap, subst, ℕ, List, Option, Some, None, arith, Meaning, RF, AB, AA, Reply}
-use Rattle.osi_judge.proofs.Vocabulary.{Seen, Member, Stands, StopsBy, IsAtEnd, standing_of, StandsBehind}
+use Rattle.osi_judge.proofs.Vocabulary.{◌≡◌, ◌∙◌, refl, sym, subst, ℕ, List, Option, Some, None, arith, Reply, Seen, Member, Stands}
+use Rattle.osi_judge.proofs.Vocabulary.{StopsBy, IsAtEnd, standing_of, StandsBehind}
 use Rattle.osi_judge.proofs.walked.a_walk_loses_no_explanation.{takes_one}
-
--- answers that are sent alike are the same: they differ in what they are, or in their reason
-abbrev mark : Meaning → ℕ
-mark (RF reason octets) = reason
-mark (AB bits octets) = 1
-mark AA = 2
-mark _ = 0
-
-apart : (m n : Meaning) (a b : ℕ) → mark m ≡ a → mark n ≡ b → m ≡ n → a ≡ b
-apart m n a b h k e = sym h ∙ ap mark e ∙ k
 
 one_stop : (s : Seen) (tsdu : List ℕ) (o p : Option Reply) → StopsBy s tsdu o → StopsBy s tsdu p → o ≡ p
 one_stop s tsdu None None h k = refl

@@ -2,12 +2,11 @@
 -- many.
 -- For the law that an honest session is explained: a session that takes a TSDU takes it as an observer counts it.
 use Rattle.std.proofs.Common.{arith}
-use Rattle.osi_judge.proofs.Vocabulary.{◌≡◌, ◌∙◌, refl, sym, ap, ℕ, ◌+◌, Bool, true, false, is_none, List, [], ◌∷◌, ◌++◌, length, Option}
-use Rattle.osi_judge.proofs.Vocabulary.{Some, None, option_map, Result, Ok, Err, if◌then◌else◌, length-append, SpduFault, Place, First}
-use Rattle.osi_judge.proofs.Vocabulary.{Middle, Last, Word, Words, as_message, State, count_by, taker_with, CountsCame, Taker, Hearing}
-use Rattle.osi_judge.proofs.Vocabulary.{acting_words, enacted_word, heard_then, is_in_place, joined_octets, respond_came, word_verdict}
-use Rattle.osi_judge.proofs.Vocabulary.{Outcome, Verdict, bad, dropped, enacted, fine, nothing, over, respond_fault, counted, count_then}
-use Rattle.osi_judge.proofs.Vocabulary.{heard_counted}
+use Rattle.osi_judge.proofs.Vocabulary.{◌≡◌, ◌∙◌, sym, ap, ℕ, ◌+◌, Bool, false, is_none, List, [], ◌∷◌, ◌++◌, length, Option, None}
+use Rattle.osi_judge.proofs.Vocabulary.{option_map, Result, if◌then◌else◌, length-append, SpduFault, Place, Word, Words, as_message, State}
+use Rattle.osi_judge.proofs.Vocabulary.{count_by, taker_with, CountsCame, Taker, Hearing, enacted_word, heard_then, is_in_place}
+use Rattle.osi_judge.proofs.Vocabulary.{joined_octets, respond_came, Outcome, Verdict, bad, dropped, enacted, fine, nothing, over, counted}
+use Rattle.osi_judge.proofs.Vocabulary.{count_then, heard_counted}
 use Rattle.osi_session.specs.Joining.{heard}
 use Rattle.osi_session.specs.Joining.{respond_word, respond_words}
 use Rattle.osi_session.specs.Respond.{faulty}
@@ -17,22 +16,13 @@ abbrev pub AsMany : Option (List ℕ) → Option (List ℕ) → Type 0
 AsMany j k = option_map length j ≡ option_map length k
 
 one_none : (j k : Option (List ℕ)) → AsMany j k → is_none j ≡ is_none k
-one_none None None e = refl
-one_none (Some x) (Some y) e = refl
-one_none None (Some y) e = absurd (cc)
-one_none (Some x) None e = absurd (cc)
+one_none h h2 e = grind arith
 
 one_place : (j k : Option (List ℕ)) (place : Place) → AsMany j k → is_in_place j place ≡ is_in_place k place
-one_place None None place e = refl
-one_place (Some x) (Some y) First e = refl
-one_place (Some x) (Some y) Middle e = refl
-one_place (Some x) (Some y) Last e = refl
-one_place None (Some y) place e = absurd (cc)
-one_place (Some x) None place e = absurd (cc)
+one_place h h2 place e = grind arith
 
 one_total : (j k : Option (List ℕ)) (o : List ℕ) → AsMany j k → length (joined_octets j ++ o) ≡ length (joined_octets k ++ o)
-one_total j k o e = length-append (joined_octets j) o ∙ ap (λ (n : ℕ). n + length o) (grind arith) ∙
-    sym (length-append (joined_octets k) o)
+one_total j k o e = grind (arith, length-append)
 
 -- ---- a word
 
@@ -49,8 +39,7 @@ enacted_alike s j k w fine e = grind (arith, heard_alike, one_total)
 word_alike : (s : State) (j k : Option (List ℕ)) (w : Word) → AsMany j k →
     counted (respond_word (taker_with s j) w) ≡ counted (respond_word (taker_with s k) w)
 unfolding respond_word
-word_alike s j k w e = ap (λ (v : Verdict). counted (enacted_word (taker_with s j) w v)) (grind (arith, one_none, one_place, one_total)) ∙
-    enacted_alike s j k w (word_verdict (taker_with s k) w) e
+word_alike s j k w e = grind (arith, one_none, one_place, one_total, enacted_alike)
 
 -- ---- words one after the other
 
@@ -60,8 +49,7 @@ behind_by last h ws = if last then h else heard_then h (respond_words h.next ws)
 
 behind_alike : (b : Bool) (h g : Hearing) (ws : Words) → counted h ≡ counted g →
     counted (respond_words h.next ws) ≡ counted (respond_words g.next ws) → counted (behind_by b h ws) ≡ counted (behind_by b g ws)
-behind_alike true h g ws e f = e
-behind_alike false h g ws e f = λ i. count_then (e i) (f i)
+behind_alike b h g ws e f = grind (arith, count_then)
 
 -- the same for two sessions in one state, if it holds for the words after it
 pub takers_alike : (ws : Words) (t u : Taker) →
@@ -74,14 +62,11 @@ pub words_alike : (ws : Words) (s : State) (j k : Option (List ℕ)) → AsMany 
     counted (respond_words (taker_with s j) ws) ≡ counted (respond_words (taker_with s k) ws)
 unfolding respond_words
 words_alike [] s j k e = λ i. record { state = s; joined = e i; reply = None; closes = false }
-words_alike (w ∷ ws) s j k e =
-    let h = respond_word (taker_with s j) w in
-    grind (arith, word_alike, one_none, one_place, one_total, behind_alike, takers_alike, words_alike ws)
+words_alike (w ∷ ws) s j k e = grind (arith, word_alike, one_none, one_place, one_total, behind_alike, takers_alike, words_alike ws)
 
 -- ---- a TSDU
 
 -- it is counted as the session that takes it does
 pub as_it_does : (s : State) (j : Option (List ℕ)) (came : Result Words SpduFault) →
     CountsCame s (option_map length j) came (counted (respond_came (taker_with s j) came))
-as_it_does s j (Ok words) = λ k e. words_alike (acting_words words) s k j e
-as_it_does s j (Err fault) = λ k e. heard_alike k j (respond_fault s fault) e
+as_it_does s j h = grind (arith, words_alike, heard_alike)

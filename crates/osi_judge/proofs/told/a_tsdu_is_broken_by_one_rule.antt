@@ -1,7 +1,7 @@
 -- By the sessions that are kept of those that explain what was sent before it, a TSDU has one break, and it is found by the same
 -- sessions: for the law that a text has one judgement.
-use Rattle.osi_judge.proofs.Vocabulary.{arith, ◌≡◌, ◌∙◌, refl, sym, ap, subst, ℕ, ◌⊎◌, inl, inr, false, List, [], ◌∷◌, Contents, Units}
-use Rattle.osi_judge.proofs.Vocabulary.{Member, Break, Leads, BreaksIn, here, last, later, BreaksWith, a_unit, break_of}
+use Rattle.osi_judge.proofs.Vocabulary.{arith, ◌≡◌, ◌∙◌, sym, subst, ℕ, ◌⊎◌, inl, inr, false, List, [], ◌∷◌, Contents, Units, Member, Break}
+use Rattle.osi_judge.proofs.Vocabulary.{Leads, BreaksIn, BreaksWith, a_unit, break_of}
 use Rattle.osi_judge.specs.Members.{is_empty}
 
 -- the break is at the first of these units, or some sessions send it
@@ -21,22 +21,17 @@ Broken heard octets before members (unit ∷ units) at by =
 
 broken : (heard : List (List ℕ)) (octets before : ℕ) (members : List Member) (units : Units) (at : List Member) (by : Break)
     → BreaksIn heard octets before members units at by → Broken heard octets before members units at by
-broken heard octets before members units at by (here m u us b h e) = inl (refl, e, inl h)
-broken heard octets before members units at by (last m u b e) = inl (refl, e, inr refl)
-broken heard octets before members units at by (later m n u us o b h s k) = inr (n, h, s, k)
+broken heard octets before members units h by h2 = grind arith
 
 -- it is the last unit, and there is one more
 none_left : (heard : List (List ℕ)) (octets before : ℕ) (members : List Member) (units : Units) (at : List Member) (by : Break) → units ≡ []
     → BreaksIn heard octets before members units at by → ⊥
-none_left heard octets before members units at by e h =
-    broken heard octets before members [] at by (subst (λ (z : Units). BreaksIn heard octets before members z at by) e h)
+none_left heard octets before members units at by e h = grind (arith, broken)
 
 first_later : (heard : List (List ℕ)) (octets before : ℕ) (m : List Member) (unit : Contents) (units : Units) (at others : List Member)
     (b e : Break)
     → AtFirst heard octets before m unit units at b → Later heard octets before m unit units others e → ⊥
-first_later heard octets before m unit units at others b e (_, _, inl h) (next, k, s, d) = grind arith
-first_later heard octets before m unit units at others b e (_, _, inr f)
-    (next, k, s, d) = none_left heard octets before next units others e f d
+first_later heard octets before m unit units h others b e h2 h3 = grind (arith, none_left)
 
 -- one break, found by the same sessions
 abbrev pub AreOne : (at others : List Member) → Break → Break → Type 0
@@ -45,8 +40,7 @@ AreOne at others b e = (at ≡ others) × (b ≡ e)
 one_in : (heard : List (List ℕ)) (octets before : ℕ) (m n : List Member) (units : Units) (at others : List Member) (b e : Break) → m ≡ n
     → Broken heard octets before m units at b → Broken heard octets before n units others e → AreOne at others b e
 one_in heard octets before m n [] at others b e a h k = absurd h
-one_in heard octets before m n (u ∷ us) at others b e a (inl (p, f, _)) (inl (q, g, _)) =
-    (p ∙ a ∙ sym q, f ∙ ap (break_of (a_unit u octets) heard before) a ∙ sym g)
+one_in heard octets before m n (u ∷ us) at others b e a (inl (p, f, _)) (inl (q, g, _)) = grind arith
 one_in heard octets before m n (u ∷ us) at others b e a (inl h) (inr k) =
     absurd (first_later heard octets before m u us at others b e h (grind arith))
 one_in heard octets before m n (u ∷ us) at others b e a (inr h) (inl k) =

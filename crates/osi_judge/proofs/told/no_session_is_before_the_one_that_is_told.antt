@@ -1,16 +1,13 @@
 -- No session of a list comes before the foremost, and none is nearer than the nearest: for the law that one session is told.
-use Rattle.osi_judge.proofs.Vocabulary.{◌≡◌, ◌∙◌, refl, sym, subst, ℕ, ◌==◌, ◌&&◌, ◌||◌, ◌⊎◌, inl, inr, Bool, true, false, not}
-use Rattle.osi_judge.proofs.Vocabulary.{if◌then◌else◌, nat_lt, List, [], ◌∷◌, ◌++◌, Option, Some, None, arith, nat_tests, append-nil}
-use Rattle.osi_judge.proofs.Vocabulary.{append_assoc, fold, flat_map, Member, Near, Rule, is_before, before_of, PrecedesAll, FollowsNone}
-use Rattle.osi_judge.proofs.Vocabulary.{IsForemost, is_nearer, Unsaid, rule_for, tried_by, tried, reached, far, IsAmong, IsNearest}
+use Rattle.osi_judge.proofs.Vocabulary.{◌≡◌, ◌∙◌, refl, sym, subst, ℕ, ◌==◌, ◌&&◌, ◌||◌, ◌⊎◌, inl, inr, Bool, true, false, if◌then◌else◌}
+use Rattle.osi_judge.proofs.Vocabulary.{nat_lt, List, [], ◌∷◌, ◌++◌, Option, Some, None, arith, nat_tests, append-nil, append_assoc, fold}
+use Rattle.osi_judge.proofs.Vocabulary.{flat_map, Member, Near, Rule, is_before, before_of, PrecedesAll, FollowsNone, IsForemost, is_nearer}
+use Rattle.osi_judge.proofs.Vocabulary.{Unsaid, rule_for, tried_by, tried, reached, far, IsAmong, IsNearest}
 use Rattle.osi_judge.specs.Foremost.{foremost}
 use Rattle.osi_judge.specs.Members.{is_empty}
 use Rattle.osi_judge.specs.Nearest.{nearest}
 
 -- ---- the order of sessions
-
-abbrev higher : (t c : ℕ) → Bool → (u d : ℕ) → Bool → Bool
-higher t c p u d q = nat_lt u t || ((t == u) && (nat_lt d c || ((c == d) && (p && not q))))
 
 before_trans : (m n o : Member) → is_before m n ≡ true → is_before n o ≡ true → is_before m o ≡ true
 before_trans m n o h k = search (arith, nat_tests)

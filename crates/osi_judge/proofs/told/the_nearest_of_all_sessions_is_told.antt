@@ -2,9 +2,9 @@
 use Rattle.osi_judge.proofs.Vocabulary.{◌≡◌, ◌∙◌, refl, sym, ap, subst, ℕ, zero, suc, ◌+◌, ◌-◌, ◌<◌, ◌≤◌, false, List, [], ◌∷◌, ◌++◌}
 use Rattle.osi_judge.proofs.Vocabulary.{length, get_or, drop, replicate, Option, Some, None, option_map, Result, Ok, Err, IfOk, arith}
 use Rattle.osi_judge.proofs.Vocabulary.{length-replicate, fold-append, fold, flat_map, SpduFault, Contents, Units, Reply, Seen, Count}
-use Rattle.osi_judge.proofs.Vocabulary.{Takes, after_count, Member, Break, Near, Turn, Goes, Stops, Leads, BreaksIn, here, last, later}
-use Rattle.osi_judge.proofs.Vocabulary.{BreaksAs, in_effect, Unsaid, a_unit, unread, tried, next_of, becomes, reached, goes_to, far}
-use Rattle.osi_judge.proofs.Vocabulary.{break_of, Quietly, OwesTo, StopsBy, GoesOn}
+use Rattle.osi_judge.proofs.Vocabulary.{Takes, Member, Break, Near, Turn, Goes, Stops, Leads, BreaksIn, here, last, later, BreaksAs}
+use Rattle.osi_judge.proofs.Vocabulary.{in_effect, Unsaid, a_unit, unread, tried, next_of, becomes, reached, goes_to, far, break_of}
+use Rattle.osi_judge.proofs.Vocabulary.{Quietly, OwesTo, StopsBy, GoesOn}
 use Rattle.osi_judge.specs.Members.{is_empty}
 use Rattle.osi_judge.specs.Nearest.{count_at, last_in}
 use Rattle.osi_judge.specs.Nearest.{nearest}
@@ -14,9 +14,6 @@ use Rattle.osi_judge.specs.Nearest.{nearest}
 pub count_is : (s : Seen) (u : List ℕ) (c : Count) → Takes s u c → count_at s u ≡ c
 unfolding count_at
 count_is s u c h = h (option_map (λ (k : ℕ). replicate {A = ℕ} k 0) s.joined) (grind (arith, length-replicate))
-
-abbrev taken_by : Member → Count → Member
-taken_by m c = record { taken = m.taken + 1; standing = after_count m.standing c }
 
 pub next_goes : (us : List (List ℕ)) (m t : Member) → Quietly us m t → next_of us m ≡ Some t
 next_goes us m t q =

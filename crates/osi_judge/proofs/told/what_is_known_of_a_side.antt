@@ -94,10 +94,8 @@ left_by_stays w told x i l (t, s, inl (b, e, k)) = (t, stood_stays w told x i t 
 left_by_stays w told x i l (t, s, inr (e, k)) = grind (arith, take_front told (x ∷ []) (i + 1) (omega arith), stood_stays w told x i t l s)
 
 stays_by : (f : Finding) (w : Watched) (told : List Told) (x : Told) → (f ≡ Kept → ⊥) → WatchesBy f w told → WatchesBy f w (told ++ x ∷ [])
-stays_by Kept w told x n k = absurd (n refl)
-stays_by (Broke i) w told x n k = (broke_stays w.begin w.heard told x i k.0, search (arith, stood_stays))
-stays_by (Left i) w told x n k = (grind (arith, length-append, take_front, kept_still, astray_still), left_by_stays w told x i k.0.0 k.1)
-stays_by TooMany w told x n k = crowded_stays w.begin w.heard told x w.told k
+stays_by f w told x n k =
+    grind (arith, broke_stays, stood_stays, length-append, take_front, kept_still, astray_still, left_by_stays, crowded_stays)
 
 pub broke_as : (w n : Watched) (told : List Told) (x : Told) (i : ℕ) → w.finding ≡ Broke i → n ≡ w → Watches w told
     → Watches n (told ++ x ∷ [])

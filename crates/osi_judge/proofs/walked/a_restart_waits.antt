@@ -1,15 +1,13 @@
 -- A session that waits for the answer to its restart explains the same before and after a TSDU that it discards. For `wait`.
 use Rattle.std.proofs.Common.{arith}
-use Rattle.osi_judge.proofs.Vocabulary.{◌≡◌, ◌∙◌, refl, sym, ap, subst, ℕ, ◌+◌, ◌<◌, ◌⊎◌, ◌↔◌, inl, inr, Bool, true, false, not, ◌&&◌, ◌||◌}
-use Rattle.osi_judge.proofs.Vocabulary.{◌==◌, is_none, unwrap_or, if◌then◌else◌, List, [], ◌∷◌, length, get_or, Some, None, option_map}
-use Rattle.osi_judge.proofs.Vocabulary.{and_parts, Meaning, CN, AC, RF, DT, GT, PT, MIP, MIA, MAP, MAA, RS, RA, FN, DN, NF, AB, AA, names}
-use Rattle.osi_judge.proofs.Vocabulary.{Word, part, Phase, Aborting, State, may_call, refusal_with, Call, Refuse, Data, Give, Please, Minor}
-use Rattle.osi_judge.proofs.Vocabulary.{MinorConfirm, Major, MajorConfirm, Restart, ReleaseAccept, ReleaseRefuse, Abort, begins_anew}
-use Rattle.osi_judge.proofs.Vocabulary.{is_answering, is_major_due, is_ready, is_release_due, is_restarting, is_wait_transport, may_ask}
-use Rattle.osi_judge.proofs.Vocabulary.{may_confirm_minor, may_give, may_restart, has_no_effect, is_restart, limit_of, Seen, Count, CanSay}
-use Rattle.osi_judge.proofs.Vocabulary.{Takes, after_count, calling, goes, may_send, said_message, said_within, stands_in_place, where_is}
-use Rattle.osi_judge.proofs.Vocabulary.{without_tokens, Hears, excluded, call_leaves, if_seen, if_state, mapped, Remark, Explains, done}
-use Rattle.osi_judge.proofs.Vocabulary.{takes, answers, IsBehind, Waits, aborted, is_abort_word}
+use Rattle.osi_judge.proofs.Vocabulary.{◌≡◌, ◌∙◌, refl, sym, ap, subst, ℕ, ◌+◌, ◌<◌, ◌⊎◌, ◌↔◌, inl, inr, Bool, true, false, not, ◌||◌}
+use Rattle.osi_judge.proofs.Vocabulary.{is_none, unwrap_or, if◌then◌else◌, List, [], get_or, Some, None, option_map, and_parts, Meaning, CN}
+use Rattle.osi_judge.proofs.Vocabulary.{AC, RF, DT, GT, PT, MIP, MIA, MAP, MAA, RS, RA, FN, DN, NF, AB, AA, names, Word, part, Phase}
+use Rattle.osi_judge.proofs.Vocabulary.{Aborting, State, may_call, Call, Data, Give, Please, ReleaseAccept, ReleaseRefuse, Abort}
+use Rattle.osi_judge.proofs.Vocabulary.{begins_anew, is_ready, is_release_due, is_restarting, may_ask, may_give, has_no_effect, Seen, Count}
+use Rattle.osi_judge.proofs.Vocabulary.{CanSay, Takes, after_count, calling, goes, said_message, said_within, where_is, without_tokens}
+use Rattle.osi_judge.proofs.Vocabulary.{Hears, excluded, call_leaves, if_seen, if_state, mapped, Remark, Explains, done, takes, answers}
+use Rattle.osi_judge.proofs.Vocabulary.{IsBehind, Waits, aborted, is_abort_word}
 use Rattle.osi_message.specs.Words.{says}
 use Rattle.osi_session.proofs.ahead.the_state_after_a_word.{within}
 use Rattle.osi_judge.specs.Explaining.{says}
@@ -17,8 +15,7 @@ use Rattle.osi_judge.proofs.walked.a_walk_loses_no_explanation.{takes_one, none_
 use Rattle.osi_judge.proofs.walked.what_ends_alike.{SameEnd, says_alike}
 
 neither : (b : Bool) → b ≡ true → b ≡ false → ⊥
-neither true h k = cc
-neither false h k = cc
+neither b h k = grind arith
 
 -- ---- what it may send: an abort
 
@@ -28,44 +25,30 @@ refused g s c x r k h = neither (may_call s.phase c) (call_leaves s c x h).phase
 
 only_abort : (s : State) (m : Meaning) (x : State) → is_restarting s.phase ≡ true → said_message s m ≡ Some x
     → x ≡ without_tokens Aborting s
-only_abort s (CN y r i w f t z o) x e h = absurd (neither (is_wait_transport s.phase) (and_parts (is_wait_transport s.phase) _ (if_state _
-    _ x h).0).0 (excluded is_restarting is_wait_transport refl s.phase e))
-only_abort s (AC y r i w z o) x e h = absurd (neither (is_answering s.phase) (and_parts (is_answering s.phase) _ (if_state _ _ x h).0).0
-    (excluded is_restarting is_answering refl s.phase e))
-only_abort s (RF reason o) x e h = absurd (refused is_answering s (Refuse (refusal_with o)) x e (excluded is_restarting is_answering refl
-    s.phase) h)
+only_abort s (CN y r i w f t z o) x e h = grind (arith, neither, and_parts, if_state, excluded)
+only_abort s (AC y r i w z o) x e h = grind (arith, neither, and_parts, if_state, excluded)
+only_abort s (RF reason o) x e h = grind (arith, refused, excluded)
 only_abort s (DT o) x e h = absurd (refused is_ready s (Data o) x e (excluded is_restarting is_ready refl s.phase) h)
 only_abort s (GT t) x e h = absurd (refused may_give s (Give t) x e (excluded is_restarting may_give refl s.phase) h)
 only_abort s (PT t o) x e h = absurd (refused may_ask s (Please t o) x e (excluded is_restarting may_ask refl s.phase) h)
-only_abort s (MIP c k o) x e h = absurd (refused is_ready s (Minor c o) x e (excluded is_restarting is_ready refl s.phase) (if_state (k ==
-    s.numbers.next) _ x h).1)
-only_abort s (MIA k o) x e h = absurd (refused may_confirm_minor s (MinorConfirm k o) x e (excluded is_restarting may_confirm_minor refl
-    s.phase) h)
-only_abort s (MAP k o) x e h = absurd (refused is_ready s (Major o) x e (excluded is_restarting is_ready refl s.phase) (if_state (k ==
-    s.numbers.next) _ x h).1)
-only_abort s (MAA k o) x e h = absurd (refused is_major_due s (MajorConfirm o) x e (excluded is_restarting is_major_due refl s.phase)
-    (if_state (k + 1 == s.numbers.next) _ x h).1)
-only_abort s (RS t k w o) x e h = absurd (refused may_restart s (Restart k w o) x e (excluded is_restarting may_restart refl s.phase)
-    (if_state (is_restart t) _ x h).1)
-only_abort s (RA k w o) x e h =
-    absurd (grind (arith, refused, excluded, if_state))
-only_abort s (FN o) x e h = absurd (neither (is_ready s.phase) (and_parts (is_ready s.phase) _ (if_state _ _ x h).0).0 (excluded
-    is_restarting is_ready refl s.phase e))
+only_abort s (MIP c k o) x e h = grind (arith, refused, excluded, if_state)
+only_abort s (MIA k o) x e h = grind (arith, refused, excluded)
+only_abort s (MAP k o) x e h = grind (arith, refused, excluded, if_state)
+only_abort s (MAA k o) x e h = grind (arith, refused, excluded, if_state)
+only_abort s (RS t k w o) x e h = grind (arith, refused, excluded, if_state)
+only_abort s (RA k w o) x e h = grind (arith, refused, excluded, if_state)
+only_abort s (FN o) x e h = grind (arith, neither, and_parts, if_state, excluded)
 only_abort s (DN o) x e h = absurd (refused is_release_due s (ReleaseAccept o) x e (excluded is_restarting is_release_due refl s.phase) h)
 only_abort s (NF o) x e h = absurd (refused is_release_due s (ReleaseRefuse o) x e (excluded is_restarting is_release_due refl s.phase) h)
 only_abort s (AB b o) x e h = (call_leaves s (Abort o) x (if_state (not (names b 4)) (calling s (Abort o)) x h).1).next
 only_abort s AA x e h = absurd (cc)
 
 if_this : (b : Bool) (x y : Seen) → (if b then Some x else None) ≡ Some y → b ≡ true
-if_this true x y h = refl
-if_this false x y h = absurd (cc)
+if_this b x y h = grind arith
 
 waiting_within : (s next : Seen) (w : Word) → is_restarting s.state.phase ≡ true → said_within s w ≡ Some next
     → (next ≡ s) ⊎ (next ≡ aborted s)
-waiting_within s next (part place octets) e h =
-    let a = if_this (not (limit_of s.state == 0) && (stands_in_place s.sent place && may_send s.state (unwrap_or s.sent 0 + length
-    octets))) _ next h in
-    grind (arith, and_parts, neither, excluded)
+waiting_within s next (part place octets) e h = grind (arith, if_this, unwrap_or, and_parts, neither, excluded)
 waiting_within s next (says m) e h = by (has_no_effect m) refl (is_none s.sent || not (begins_anew m)) refl
   where
     by : (b : Bool) → has_no_effect m ≡ b → (d : Bool) → (is_none s.sent || not (begins_anew m)) ≡ d → (next ≡ s) ⊎ (next ≡ aborted s)
@@ -89,8 +72,7 @@ left_as s y tsdu d e h k =
 over_stays : (us : List (List ℕ)) (ms : List Remark) (j : ℕ) (s : Seen) → SameEnd s.state s.state → Hears s (get_or us j []) s
     → (y : Seen) → y ≡ s → Explains us ms j y → Explains us ms (j + 1) y
 over_stays us ms j s o h y e (done _ _) = done (j + 1) y
-over_stays us ms j s o h y e (takes m rest _ _ d b l k r f) = subst (λ (x : Seen). Explains us (m ∷ rest) (j + 1) x) (left_as s y (get_or
-    us j []) d e h k).1 f
+over_stays us ms j s o h y e (takes m rest _ _ d b l k r f) = grind (arith, left_as s y (get_or us j []) d e h k)
 over_stays us ms j s o h y e (answers m rest _ _ d reply w b l k r a x f) = absurd (none_or_some d.reply reply (left_as s y (get_or us j
     []) d e h k).0 r)
 over_stays us ms j s o h y e (says m rest _ _ next w a k f) =
@@ -100,8 +82,7 @@ over_stays us ms j s o h y e (says m rest _ _ next w a k f) =
 waits_on : (us : List (List ℕ)) (ms : List Remark) (j : ℕ) (s : Seen) → Waits s (get_or us j []) → (y : Seen) → y ≡ s
     → Explains us ms j y → Explains us ms (j + 1) y
 waits_on us ms j s w y e (done _ _) = done (j + 1) y
-waits_on us ms j s w y e (takes m rest _ _ d b l k r f) = subst (λ (x : Seen). Explains us (m ∷ rest) (j + 1) x) (left_as s y (get_or us j
-    []) d e w.stays k).1 f
+waits_on us ms j s w y e (takes m rest _ _ d b l k r f) = grind (arith, left_as s y (get_or us j []) d e w.stays k)
 waits_on us ms j s w y e (answers m rest _ _ d reply v b l k r a x f) = absurd (none_or_some d.reply reply (left_as s y (get_or us j []) d
     e w.stays k).0 r)
 waits_on us ms j s w y e (says m rest _ _ next v a k f) =

@@ -17,12 +17,6 @@ both f g = (λ a. g.0 (f.0 a), λ c. f.1 (g.1 c))
 abbrev pub Joins : List (List ℕ) → List Remark → ℕ → List Member → List Member → Option Asked → Seen → Option Asked → Type 0
 Joins us later taken old new asked said r = (Known us later taken old asked ⊎ Explains us later taken said) ↔ Known us later taken new r
 
--- the first
-pub begins_with : (us : List (List ℕ)) (later : List Remark) (taken : ℕ) (old : List Member) (asked : Option Asked) (one : Asked) (said :
-    Seen) → asked ≡ None → one.first ≡ said → one.last ≡ said
-    → Joins us later taken old old asked said (Some one)
-begins_with us later taken old asked one said e f l = grind arith
-
 -- the last before it lies between
 pub replaces : (us : List (List ℕ)) (later : List Remark) (taken : ℕ) (old : List Member) (r q : Word) (o : ℕ) (a : Asked) (said shown :
     Seen) → is_restart_word r ≡ true → is_restart_word q ≡ true
@@ -123,9 +117,6 @@ ends_here us later w o before at b = search (arith, said_on, ways)
 
 -- ---- a step, by what it is made of
 
-pub stepped : {K L M E S F : Type 0} → ((K ⊎ S) ↔ L) → (E ↔ (S ⊎ F)) → (L ↔ M) → ((K ⊎ E) ↔ (M ⊎ F))
-stepped a e c = grind arith
-
 pub stopped : {K L M E S : Type 0} → ((K ⊎ S) ↔ L) → (E ↔ S) → (L ↔ M) → ((K ⊎ E) ↔ M)
 stopped a e c = grind arith
 
@@ -168,13 +159,6 @@ pub asks : (us : List (List ℕ)) (later : List Remark) (w : Word) (o : ℕ) (at
     → Joins us later at.taken old new asked said.standing r → (Known us later at.taken old asked ⊎ SaidHere us later w o at) ↔ Known us
     later at.taken new r
 asks us later w o at said old new asked r h g = grind arith
-
--- it is kept by itself
-pub asks_alone : (us : List (List ℕ)) (later : List Remark) (w : Word) (o : ℕ) (at said : Member) (old new : List Member) (asked : Option
-    Asked) → SaysTo at w o (Some said)
-    → (SomeExplains us old later ⊎ Explains us later said.taken said.standing) ↔ SomeExplains us new later
-    → (Known us later at.taken old asked ⊎ SaidHere us later w o at) ↔ Known us later at.taken new asked
-asks_alone us later w o at said old new asked h g = grind arith
 
 pub restarted_by : (r q : Word) (o : ℕ) (at said shown : Member) → SaysTo at r o (Some said) → SaysTo at q o (Some shown)
     → Restarted r q o said.standing shown.standing

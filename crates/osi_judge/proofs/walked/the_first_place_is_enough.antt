@@ -62,10 +62,7 @@ later_place : (us : List (List ℕ)) (later : List Remark) (w : Word) (octets be
     → Explains us (the_remark w octets before ∷ later) at.taken at.standing
     → (t : Seen) × (Hears at.standing (get_or us at.taken []) t) × (at.taken < before) ×
     (Explains us (the_remark w octets before ∷ later) (at.taken + 1) t)
-later_place us later w octets before at d h e = elim (ways us later w octets before at e) [
-  | inl s ↦ absurd (h s.0 s.1)
-  | inr t ↦ search (arith, no_answer)
-]
+later_place us later w octets before at d h e = search (arith, no_answer, ways us later w octets before at e)
 
 -- and the walk continues
 pub moved_first : (us heard : List (List ℕ)) (later : List Remark) (w : Word) (octets before : ℕ) (at on : Member) → is_steady w ≡ true →

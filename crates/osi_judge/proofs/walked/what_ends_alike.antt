@@ -1,12 +1,11 @@
 -- Two sessions whose connection is over, in the same phase, take and send the same. For the law of what lies between.
 use Rattle.std.proofs.Common.{arith}
-use Rattle.osi_judge.proofs.Vocabulary.{◌≡◌, ◌∙◌, refl, sym, ap, subst, ℕ, ◌+◌, Bool, true, false, not, ◌&&◌, ◌||◌, ◌==◌, is_none}
-use Rattle.osi_judge.proofs.Vocabulary.{unwrap_or, if◌then◌else◌, List, [], ◌∷◌, length, Option, Some, None, option_map, Result, Ok, Err}
-use Rattle.osi_judge.proofs.Vocabulary.{and_parts, SpduFault, Meaning, said_at, Word, Words, says, part, State, Call, taker_with, Hearing}
-use Rattle.osi_judge.proofs.Vocabulary.{begins_anew, heard_then, respond_came, is_over, Outcome, over, first_reply, has_no_effect}
-use Rattle.osi_judge.proofs.Vocabulary.{replies_abort, limit_of, Seen, Count, Takes, CanSay, calling, goes, is_in_size, may_send}
-use Rattle.osi_judge.proofs.Vocabulary.{said_message, said_within, stands_in_place, where_is, may_call, excluded, so_many, so_many_are}
-use Rattle.osi_judge.proofs.Vocabulary.{over_refuses, call_leaves, if_state, word_at}
+use Rattle.osi_judge.proofs.Vocabulary.{◌≡◌, ◌∙◌, refl, sym, ap, subst, ℕ, Bool, true, false, not, ◌||◌, is_none, unwrap_or, if◌then◌else◌}
+use Rattle.osi_judge.proofs.Vocabulary.{List, [], ◌∷◌, Option, Some, None, option_map, Result, Ok, Err, and_parts, SpduFault, Meaning}
+use Rattle.osi_judge.proofs.Vocabulary.{said_at, Word, Words, says, part, State, Call, taker_with, Hearing, begins_anew, heard_then}
+use Rattle.osi_judge.proofs.Vocabulary.{respond_came, is_over, over, first_reply, has_no_effect, replies_abort, Seen, Count, Takes, CanSay}
+use Rattle.osi_judge.proofs.Vocabulary.{calling, goes, is_in_size, said_message, said_within, where_is, may_call, excluded, so_many}
+use Rattle.osi_judge.proofs.Vocabulary.{so_many_are, over_refuses, call_leaves, if_state, word_at}
 unfoldable use Rattle.osi_session.specs.Joining.{acting_words, respond_word, respond_words}
 unfoldable use Rattle.osi_session.specs.Respond.{respond_fault}
 use Rattle.osi_session.proofs.ahead.the_state_after_a_word.{within}
@@ -19,11 +18,6 @@ pub record SameEnd (s t : State) : Type 0 where
   pub phase : t.phase ≡ s.phase
   pub caller : t.is_caller ≡ s.is_caller
   pub sizes : t.sizes ≡ s.sizes
-
-pub record AlikeOutcome (o p : Outcome) : Type 0 where
-  pub ends : SameEnd o.next p.next
-  pub reply : p.reply ≡ o.reply
-  pub closes : p.closes ≡ o.closes
 
 pub record AlikeHearing (h k : Hearing) : Type 0 where
   pub ends : SameEnd h.next.state k.next.state
@@ -60,15 +54,12 @@ then_alike ws h k more a =
 words_alike : (ws : Words) → EndAlike ws
 unfolding respond_words
 words_alike [] = λ j k s t h. record { ends = h; reply = refl; closes = refl }
-words_alike (w ∷ ws) = λ j k s t h.
-    search (arith, by_reply, then_words, then_alike, heard_alike, words_alike ws)
+words_alike (w ∷ ws) = search (arith, by_reply, then_words, then_alike, heard_alike, words_alike ws)
 
 fault_alike : (j k : Option (List ℕ)) (s t : State) (fault : SpduFault) → SameEnd s t
     → AlikeHearing (respond_came (taker_with s j) (Err fault)) (respond_came (taker_with t k) (Err fault))
 unfolding respond_fault
-fault_alike j k s t fault h =
-    let other : is_over t.phase ≡ true = ap is_over h.phase ∙ h.over in
-    rw (h.over, other) (record { ends = h; reply = refl; closes = refl })
+fault_alike j k s t fault h = grind arith
 
 came_alike : (j k : Option (List ℕ)) (s t : State) (came : Result Words SpduFault) → SameEnd s t
     → AlikeHearing (respond_came (taker_with s j) came) (respond_came (taker_with t k) came)
@@ -93,8 +84,7 @@ takes_alike s t tsdu c h k =
 -- ---- what they send
 
 neither : (b : Bool) → b ≡ true → b ≡ false → ⊥
-neither true h k = cc
-neither false h k = cc
+neither b h k = grind arith
 
 no_call : (s : State) (c : Call) (x : State) → is_over s.phase ≡ true → calling s c ≡ Some x → ⊥
 no_call s c x o h = neither (may_call s.phase c) (call_leaves s c x h).phase (over_refuses c s.phase o)
@@ -103,8 +93,7 @@ no_where : (b : Bool) (s : State) (c : Call) (x : State) → is_over s.phase ≡
 no_where b s c x o h = no_call s c x o (if_state b (calling s c) x h).1
 
 if_this : (b : Bool) (x y : Seen) → (if b then Some x else None) ≡ Some y → b ≡ true
-if_this true x y h = refl
-if_this false x y h = absurd (cc)
+if_this b x y h = grind arith
 
 -- a side whose connection is over sends only token items that name no token
 pub record SaysNothing (s : Seen) (w : Word) (next : Seen) : Type 0 where
@@ -112,10 +101,7 @@ pub record SaysNothing (s : Seen) (w : Word) (next : Seen) : Type 0 where
   pub any : (t : Seen) → said_within t w ≡ Some t
 
 over_within : (s next : Seen) (w : Word) → is_over s.state.phase ≡ true → said_within s w ≡ Some next → SaysNothing s w next
-over_within s next (part place octets) e h =
-    let a = if_this (not (limit_of s.state == 0) && (stands_in_place s.sent place && may_send s.state (unwrap_or s.sent 0 + length
-    octets))) _ next h in
-    grind (arith, and_parts, neither, excluded)
+over_within s next (part place octets) e h = search (arith, if_this, unwrap_or, and_parts, neither, excluded)
 over_within s next (says m) e h = by (has_no_effect m) refl (is_none s.sent || not (begins_anew m)) refl
   where
     by : (b : Bool) → has_no_effect m ≡ b → (d : Bool) → (is_none s.sent || not (begins_anew m)) ≡ d → SaysNothing s (says m) next
@@ -128,8 +114,7 @@ over_within s next (says m) e h = by (has_no_effect m) refl (is_none s.sent || n
         absurd (grind (arith, neither, and_parts, if_state, excluded, no_call, no_where))
 
 same_size : (s t : State) (n : ℕ) → SameEnd s t → is_in_size t n ≡ is_in_size s n
-same_size s t n h =
-    let p = h.phase in grind arith
+same_size s t n h = grind arith
 
 -- the other says it too
 pub says_alike : (s t : Seen) (w : Word) (n : ℕ) (next : Seen) → SameEnd s.state t.state → t.closed ≡ s.closed → CanSay s w n next

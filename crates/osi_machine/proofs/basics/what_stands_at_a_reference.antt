@@ -1,8 +1,8 @@
 -- The connection at a reference after one is replaced, one is added, a side ends, or a break.
 -- For the law of the same name, and for all that is said of each connection of a run.
-use Rattle.osi_machine.proofs.Vocabulary.{AllByRecursion, slice_get, Side, connection_at, replaced, with_connection, Line, ends_there}
-use Rattle.osi_machine.proofs.Vocabulary.{ended_lines, cut_line, ◌≡◌, refl, ap, subst, ℕ, zero, suc, ◌+◌, ◌<◌, ◌≤◌, true, List, [], ◌∷◌}
-use Rattle.osi_machine.proofs.Vocabulary.{◌++◌, length, Some, None, is_some, arith}
+use Rattle.osi_machine.proofs.Vocabulary.{slice_get, Side, connection_at, replaced, with_connection, Line, ends_there, ended_lines}
+use Rattle.osi_machine.proofs.Vocabulary.{cut_line, ◌≡◌, refl, ap, ℕ, zero, suc, ◌+◌, ◌<◌, ◌≤◌, true, List, [], ◌∷◌, ◌++◌, length, Some}
+use Rattle.osi_machine.proofs.Vocabulary.{None, is_some, arith}
 use Rattle.osi_machine.specs.Tables.{seen_from, cut_channels}
 
 -- ---- one is another
@@ -104,27 +104,5 @@ cut_count left right k (l ∷ ls) = ap suc (cut_count left right (k + 1) ls)
 
 -- ---- what is true of each
 
-pub all_more : {C : Type 0} → (P : C → Type 0) (ws : List C) (w : C) → P w → AllByRecursion P ws → AllByRecursion P (ws ++ w ∷ [])
-all_more P [] w p h = (p, tt)
-all_more P (v ∷ ws) w p h = (h.0, all_more P ws w p h.1)
-
-pub all_replaced : {C : Type 0} → (P : C → Type 0) (r : ℕ) (w : C) (ws : List C) → P w → AllByRecursion P ws
-    → AllByRecursion P (replaced r w ws)
-all_replaced P r w [] p h = tt
-all_replaced P zero w (v ∷ ws) p h = (p, h.1)
-all_replaced P (suc r) w (v ∷ ws) p h = (h.0, all_replaced P r w ws p h.1)
-
-pub all_with : {C : Type 0} → (P : C → Type 0) (r : ℕ) (w : C) (ws : List C) → P w → AllByRecursion P ws
-    → AllByRecursion P (with_connection r w ws)
-all_with P r w ws p h = grind (arith, all_replaced)
-
 pub some_same : {C : Type 0} → (x w : C) → Some x ≡ Some w → x ≡ w
 some_same x w e = cc
-
-pub all_got : {C : Type 0} → (P : C → Type 0) (r : ℕ) (ws : List C) (w : C) → slice_get ws r ≡ Some w → AllByRecursion P ws → P w
-all_got P r [] w e h = absurd (cc)
-all_got P zero (v ∷ ws) w e h = subst P (some_same v w e) h.0
-all_got P (suc r) (v ∷ ws) w e h = all_got P r ws w e h.1
-
-pub all_at : {C : Type 0} → (P : C → Type 0) (r : ℕ) (ws : List C) (w : C) → connection_at r ws ≡ Some w → AllByRecursion P ws → P w
-all_at P r ws w e h = grind (arith, all_got)

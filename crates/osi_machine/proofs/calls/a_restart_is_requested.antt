@@ -3,27 +3,25 @@
 use Rattle.osi_machine.proofs.Vocabulary.{and_parts, TokenSetting, ResyncType, State, Meaning, RS, is_restarting, is_restart_due}
 use Rattle.osi_machine.proofs.Vocabulary.{passes_restarting, restarted_at, stands, next, Item, Fits, AllFit, flush, stops, heard}
 use Rattle.osi_machine.proofs.Vocabulary.{heard_view, le-leb, and_from, not-true, Restarting, may_restart, takes_restart, is_connecting}
-use Rattle.osi_machine.proofs.Vocabulary.{without_tokens, points, hears, Core, is_opening, append-nil, leb-true, available, is_restartable}
-use Rattle.osi_machine.proofs.Vocabulary.{Restart, IsSound, cutat, Begins, Owner, turned_owner, turned_owners, is_own, is_to_own, is_absent}
-use Rattle.osi_machine.proofs.Vocabulary.{own_to_pool, given_up, Party, answered, ◌≡◌, refl, ℕ, true, false, ◌||◌, List, [], ◌∷◌, ◌⊎◌, inl}
-use Rattle.osi_machine.proofs.Vocabulary.{arith, sym, ◌∙◌, ap, subst, ◌+◌, ◌==◌, ◌≤◌, not, ◌&&◌, nat_le, nat_lt, inr, ◌-◌, ◌++◌, Ok}
-use Rattle.osi_machine.proofs.Vocabulary.{ltb-false, ltb-true}
+use Rattle.osi_machine.proofs.Vocabulary.{without_tokens, points, Core, append-nil, leb-true, available, is_restartable, Restart, IsSound}
+use Rattle.osi_machine.proofs.Vocabulary.{cutat, Begins, Owner, turned_owner, turned_owners, is_own, own_to_pool, given_up, Party, ◌≡◌}
+use Rattle.osi_machine.proofs.Vocabulary.{refl, ℕ, true, false, ◌||◌, List, [], ◌∷◌, ◌⊎◌, inl, arith, sym, ◌∙◌, ap, subst, ◌+◌, ◌==◌, ◌≤◌}
+use Rattle.osi_machine.proofs.Vocabulary.{not, ◌&&◌, nat_le, nat_lt, inr, ◌-◌, ◌++◌, ltb-false, ltb-true}
 use Rattle.osi_machine.proofs.basics.what_holds_in_each_phase.{excluded, if_first, by_test, implied, implied_two}
 use Rattle.osi_machine.proofs.basics.what_a_restart_leaves_of_a_history.{upto_append}
-use Rattle.osi_machine.proofs.channels.a_unit_is_dropped_bad_or_acted_on.{fit_cases, next_dropped, none_due, restart_due, and_false}
-use Rattle.osi_machine.proofs.channels.a_unit_is_dropped_bad_or_acted_on.{next_hears}
-use Rattle.osi_machine.proofs.channels.what_every_unit_in_flight_keeps.{kept_heard, heard_flush, fit_append, flush_append, due_end}
-use Rattle.osi_machine.proofs.channels.what_every_unit_in_flight_keeps.{data_append, lower_second, lower_both, heard_turned, view_append}
-use Rattle.osi_machine.proofs.channels.a_deaf_side_acts_on_nothing.{AllEmpty, all_empty, empty_laws, empty_view, crossed, restart_kept}
-use Rattle.osi_machine.proofs.channels.a_deaf_side_acts_on_nothing.{restart_next, yielded, stood, deaf_end, heard_restart, yielded_view}
+use Rattle.osi_machine.proofs.channels.a_unit_is_dropped_bad_or_acted_on.{fit_cases, next_dropped, restart_due, and_false}
+use Rattle.osi_machine.proofs.channels.what_every_unit_in_flight_keeps.{fit_append, flush_append, due_end, data_append, lower_second}
+use Rattle.osi_machine.proofs.channels.what_every_unit_in_flight_keeps.{lower_both, heard_turned, view_append, list_any_append}
+use Rattle.osi_machine.proofs.channels.a_deaf_side_acts_on_nothing.{empty_laws, empty_view, crossed, restart_kept, restart_next, yielded}
+use Rattle.osi_machine.proofs.channels.a_deaf_side_acts_on_nothing.{stood, deaf_end, heard_restart, yielded_view, after_due}
 use Rattle.osi_machine.proofs.channels.a_held_token_keeps_units_out.{becomes_open, is_lively, Lively, becomes_lively, flush_open, none_held}
-use Rattle.osi_machine.proofs.channels.a_held_token_keeps_units_out.{heard_open}
+use Rattle.osi_machine.proofs.channels.a_held_token_keeps_units_out.{Open}
 use Rattle.osi_machine.proofs.channels.what_a_side_will_have_seen.{begins_points, listener_count, listener_begins, Grown, heard_grown}
-use Rattle.osi_machine.proofs.invariant.what_holds_of_both_sides.{flushed, hearing, matched, Stands, Half, Views, Counting, Counts}
-use Rattle.osi_machine.proofs.invariant.what_holds_of_both_sides.{IsOfProfile, Pair, phase_there}
-use Rattle.osi_machine.proofs.invariant.each_step_keeps_one_side.{IsGranted, granted}
-use Rattle.osi_machine.proofs.calls.a_unit_that_changes_no_state.{end_units, none_owed, list_any_append}
-use Rattle.osi_machine.proofs.calls.a_change_of_phase_and_numbers.{drops_waiting, listening_stands}
+use Rattle.osi_machine.proofs.invariant.what_holds_of_both_sides.{flushed, hearing, matched, Stands, Half, Views, Counts, IsOfProfile, Pair}
+use Rattle.osi_machine.proofs.invariant.what_holds_of_both_sides.{phase_there}
+use Rattle.osi_machine.proofs.invariant.each_step_keeps_one_side.{Keeps}
+use Rattle.osi_machine.proofs.invariant.a_side_that_listens.{Listens, is_open, listens}
+use Rattle.osi_machine.proofs.calls.a_call_and_its_unit.{drops_waiting, listening_stands}
 use Rattle.osi_spdu.specs.declared.fields.ResyncType.TheVariants as resync
 
 -- One side requests nothing, the other requests a restart; their units and base are the same.
@@ -55,10 +53,6 @@ next_asks s r u a f st = search (arith, excluded, fit_cases, becomes_open, becom
 restart_kept_fits : (s r : State) (k : ResyncType) (n : ℕ) (w : TokenSetting) (o : List ℕ) → Asks s r → Fits s (RS k n w o)
     → Fits r (RS k n w o)
 restart_kept_fits s r k n w o a f = search (arith, restart_kept, and_parts)
-
--- nothing comes after it
-after_due : (s : State) (us : List Meaning) → is_restart_due s.phase ≡ true → AllFit s us → AllEmpty us
-after_due s us d f = all_empty s us (λ u p. none_due s.phase u d p) (excluded is_restart_due is_restarting refl s.phase d) f
 
 flow_stop : (s r : State) (u : Meaning) (us : List Meaning) → Asks s r → Fits s u → stops s u ≡ true → AllFit (next s u) us
     → Flow s r (u ∷ us)
@@ -123,18 +117,8 @@ pub record Restarts (w : Core) (n : ℕ) : Type 0 where
 abbrev pub asked : State → ℕ → TokenSetting → State
 asked s n t = record (without_tokens Restarting s) { wishes = t; numbers = restarted_at n s.numbers }
 
-given_own : (p : Owner) → false ≡ is_own (own_to_pool p)
-given_own p = grind arith
-
-given_absent : (p : Owner) → is_absent p ≡ true → is_absent (own_to_pool p) ≡ true
-given_absent p h = grind arith
-
 pub given_theirs : (p : Owner) → is_own (turned_owner p) ≡ is_own (turned_owner (own_to_pool p))
 given_theirs p = grind arith
-
-given_wanted : (p : Owner) → (is_own (turned_owner p) || is_to_own (turned_owner p))
-    ≡ (is_own (turned_owner (own_to_pool p)) || is_to_own (turned_owner (own_to_pool p)))
-given_wanted p = grind arith
 
 -- what the restart leaves of the history is what it leaves of what was seen
 pub same_cut : (base n : ℕ) (v h : List Item) → Begins v h → n ≤ base + points v → cutat base v n ≡ cutat base h n
@@ -167,27 +151,11 @@ module _ (w : Core) (n : ℕ) (t : TokenSetting) (o : List ℕ) (q : Restarts w 
   abbrev asks : Party
   asks = asker w.own n t o
 
-  pub listens : is_restarting w.own.session.phase ≡ false
-  listens = excluded may_restart is_restarting refl w.own.session.phase q.phase
-
-  pub begun : is_opening w.own.session.phase ≡ false
-  begun = excluded may_restart is_opening refl w.own.session.phase q.phase
+  side : Listens w.own w.peer
+  side = listens w s (implied may_restart is_open refl w.own.session.phase q.phase)
 
   pub flows : Flow w.own.session (asked w.own.session n t) w.peer.sent
   flows = search (arith, restart_flow, is_lively, implied may_restart is_lively refl w.own.session.phase q.phase)
-
-  -- the other side will owe it no answer
-  pub not_due : is_restart_due fy.phase ≡ false
-  not_due = none_owed w.owner w.own w.peer s.own listens
-
-  pub other_heard : hearing w.peer w.own ≡ fy
-  other_heard = heard_flush w.peer.session w.own.sent s.peer.fits not_due
-
-  pub other_units : fy.units ≡ w.own.session.units
-  other_units = sym s.own.meeting.units ∙ end_units w.owner w.own w.peer s.own begun
-
-  pub other_base : fy.base ≡ w.own.session.base
-  other_base = sym s.own.meeting.base ∙ (flush_open w.own.session w.peer.sent begun s.own.fits).base
 
   -- if no restart arrives at this side, the other takes one; if one arrives, the other has requested it
   pub other_takes : Lively fx → (takes_restart fy.phase ≡ true) × (is_restarting fy.phase ≡ false)
@@ -211,16 +179,11 @@ module _ (w : Core) (n : ℕ) (t : TokenSetting) (o : List ℕ) (q : Restarts w 
 
   -- ---- the restart fits
 
-  -- this side has seen no more than there is
-  pub own_hears : hears (hearing w.own w.peer).phase ≡ true
-  own_hears =
-      kept_heard (λ (r : State). hears r.phase ≡ true) (λ r u h f. next_hears r u h) w.own.session w.peer.sent (ap not listens) s.own.fits
-
   other_top : is_restarting fy.phase ≡ false → n ≤ fy.numbers.next
-  other_top l = grind (arith, other_heard, listener_count, other_base, begins_points, listener_begins, own_hears)
+  other_top l = grind (arith, side.all, listener_count, side.there_base, begins_points, listener_begins, side.heeds)
 
   pub restart_fits : Fits fy (RS resync.Restart n t o)
-  restart_fits = search (arith, flows, other_takes, implied, other_asked, other_units, restart_met, other_base, other_top)
+  restart_fits = search (arith, flows, other_takes, implied, other_asked, side.there_units, restart_met, side.there_base, other_top)
 
   -- ---- both sides after the call
 
@@ -229,129 +192,73 @@ module _ (w : Core) (n : ℕ) (t : TokenSetting) (o : List ℕ) (q : Restarts w 
   other_end = flush_append w.peer.session w.own.sent (RS resync.Restart n t o) ∙ restart_next fy resync.Restart n t o
 
   other_before : heard w.peer.session (w.own.sent ++ RS resync.Restart n t o ∷ []) ≡ hearing w.peer w.own
-  other_before = heard_restart w.peer.session w.own.sent resync.Restart n t o s.peer.fits not_due ∙ sym other_heard
+  other_before = heard_restart w.peer.session w.own.sent resync.Restart n t o s.peer.fits side.owed ∙ sym side.all
 
-  own_units : end.units ≡ w.own.session.units
-  own_units = (flush_open (asked w.own.session n t) w.peer.sent refl flows.fits).units
-
-  was_units : fx.units ≡ w.own.session.units
-  was_units = (flush_open w.own.session w.peer.sent begun s.own.fits).units
+  own_open : Open w.own.session.units w.own.session.base end
+  own_open = flush_open (asked w.own.session n t) w.peer.sent refl flows.fits
 
   -- ---- the two halves
 
+  ruleset both_after = (side, flows, crossed, ends_meet, own_open, other_end, crossed_units, crossed_base)
+
   own_half : Half (given_up w.owner) asks w.peer
-  own_half =
-      grind (
-        arith,
-        flows,
-        crossed,
-        ends_meet,
-        other_end,
-        own_units,
-        crossed_units,
-        other_units,
-        flush_open (asked w.own.session n t) w.peer.sent refl flows.fits,
-        crossed_base,
-        other_base,
-        none_held,
-        given_own,
-        given_absent,
-        available,
-        was_units,
-      )
+  own_half = grind (arith, both_after, none_held, available)
 
   peer_half : Half (turned_owners (given_up w.owner)) w.peer asks
-  peer_half =
-      grind (
-        arith,
-        crossed,
-        ends_meet,
-        fit_append,
-        restart_fits,
-        other_end,
-        other_before,
-        own_units,
-        crossed_units,
-        other_units,
-        flows,
-        flush_open (asked w.own.session n t) w.peer.sent refl flows.fits,
-        crossed_base,
-        other_base,
-        given_theirs,
-        given_wanted,
-      )
+  peer_half = grind (arith, both_after, fit_append, restart_fits, other_before, given_theirs)
 
   -- ---- what was seen
 
   own_views : Views (w.history ++ []) asks w.peer
   unfolding restarted_at
-  own_views = grind (arith, flows, same_cut, listener_begins, own_hears, append-nil, was_units, own_units)
+  own_views = grind (arith, flows, same_cut, listener_begins, side.heeds, append-nil, side.units, own_open)
 
   peer_views : Views (w.history ++ []) w.peer asks
-  peer_views = search (arith, view_append, yielded_view, not_due, other_before, append-nil, due_end, crossed_units, other_end, data_append)
+  peer_views =
+      search (arith, view_append, yielded_view, side.owed, other_before, append-nil, due_end, crossed_units, other_end, data_append)
 
   -- ---- the numbers
 
   grown : Grown w.own.session.numbers.confirmed (hearing w.own w.peer)
   grown =
       heard_grown w.own.session.numbers.confirmed w.own.session w.peer.sent
-      (record { phase = begun; from = omega arith; to = s.consistent.own.sound.ordered.confirmed_to }) s.own.fits
+      (record { phase = side.begun; from = omega arith; to = s.consistent.own.sound.ordered.confirmed_to }) s.own.fits
 
   own_counts : Counts asks w.peer
   unfolding restarted_at
   own_counts =
-      subst (λ (e : State). Counting (asked w.own.session n t) e
-      (heard w.peer.session (w.own.sent ++ RS resync.Restart n t o ∷ [])) w.peer.session) (sym flows.heard)
-      (subst (λ (e : State). Counting (asked w.own.session n t) (asked w.own.session n t) e w.peer.session) (sym other_before) (record {
+      let up = lower_second n w.own.session.numbers.confirmed in
+      let grew = grown.from in
+      rw (flows.heard, other_before) (record {
         flag = s.own_counts.flag;
-        below = λ l k from to.
-            let up = lower_second n w.own.session.numbers.confirmed in
-            let grew = grown.from in
-            let base = (heard_open w.own.session w.peer.sent begun s.own.fits).base in
-            s.own_counts.below l k (omega arith) (omega arith);
-        reach = λ f.
-            let up = lower_second n w.own.session.numbers.confirmed in
-            let grew = grown.from in
-            grind (arith, ltb-true, ltb-false, lower_second);
-      }))
+        below = λ l k from to. let base = side.heard_base in s.own_counts.below l k (omega arith) (omega arith);
+        reach = λ f. grind (arith, ltb-true, ltb-false, lower_second);
+      })
 
   peer_counts : Counts w.peer asks
   unfolding restarted_at
-  peer_counts =
-      subst (λ (e : State). Counting w.peer.session e (heard (asked w.own.session n t) w.peer.sent) (asked w.own.session n t))
-      (sym other_before)
-      (subst (λ (e : State). Counting w.peer.session (hearing w.peer w.own) e (asked w.own.session n t)) (sym flows.heard) (record {
-        flag = λ f. by_test (w.own.session.numbers.answers)
-            (λ e. let f : (hearing w.own w.peer).numbers.answers ≡ false = (s.peer_counts.flag f) in
-            absurd (let k = (heard_turned w.own.session w.peer.sent (record { phase = begun; answers = e }) s.own.fits).answers in cc))
-            (λ e. e);
-        below = λ l. absurd (cc);
-        reach = λ f. lower_both n w.own.session.numbers.next _ w.own.session.numbers.confirmed q.top (s.peer_counts.reach f);
-      }))
+  peer_counts = rw (flows.heard, other_before) (record {
+    flag = λ f. by_test (w.own.session.numbers.answers)
+        (λ e. let f : (hearing w.own w.peer).numbers.answers ≡ false = (s.peer_counts.flag f) in
+        absurd (let k = (heard_turned w.own.session w.peer.sent (record { phase = side.begun; answers = e }) s.own.fits).answers in cc))
+        (λ e. e);
+    below = λ l. absurd (cc);
+    reach = λ f. lower_both n w.own.session.numbers.next _ w.own.session.numbers.confirmed q.top (s.peer_counts.reach f);
+  })
 
   -- ---- both at once
 
   pair_kept : Pair (w.history ++ []) asks w.peer
   pair_kept =
-      let was : fx.base ≡ w.own.session.base = (flush_open w.own.session w.peer.sent begun s.own.fits).base in
-      grind (arith, asked, append-nil, flows, flush_open, list_any_append, IsOfProfile, was_units, own_units)
+      grind (arith, asked, append-nil, flows, flush_open, list_any_append, IsOfProfile, side, own_open)
 
 -- ---- the call
+
+ruleset both_kept = (own_half, peer_half, own_views, peer_views, own_counts, peer_counts, pair_kept)
 
 pub in_range : (s : State) (n : ℕ) → IsSound s → is_restartable s n ≡ true → (s.base ≤ n) × (n ≤ s.numbers.next)
 in_range s n sound h = grind (arith, and_parts, leb-true)
 
-pub restart_stands : (w : Core) (n : ℕ) (wishes : TokenSetting) (o : List ℕ) → IsGranted w (Restart n wishes o) → Stands w
-    → Stands (answered w (Restart n wishes o) (Ok (granted w.own.session (Restart n wishes o))))
-restart_stands w n wishes o p s =
-    search (
-      arith,
-      own_half,
-      peer_half,
-      own_views,
-      peer_views,
-      own_counts,
-      peer_counts,
-      pair_kept,
-      in_range w.own.session n s.consistent.own.sound p.needed.1.0,
-    )
+pub restart_stands : (n : ℕ) (wishes : TokenSetting) (o : List ℕ) → Keeps (Restart n wishes o)
+restart_stands n wishes o w p s =
+    search (arith, both_kept, in_range w.own.session n s.consistent.own.sound p.needed.1.0)

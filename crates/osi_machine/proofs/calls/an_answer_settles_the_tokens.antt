@@ -1,26 +1,21 @@
 -- The call of Accept keeps the invariant: the answerer settles who has which token.
 -- For each_step_keeps_both_sides.
 use Rattle.osi_machine.proofs.Vocabulary.{FunctionalUnits, Sides, Token, data_token, minor, major, release, has, each, available, side_for}
-use Rattle.osi_machine.proofs.Vocabulary.{is_asker, settle, stated, setting_of, of_asker, of_answerer, answers_wishes, Owner, Own, ToThem}
-use Rattle.osi_machine.proofs.Vocabulary.{Absent, turned_owner, is_own, is_to_own, is_absent, append-nil, and_parts, and_from, agreed_base}
+use Rattle.osi_machine.proofs.Vocabulary.{is_asker, settle, stated, setting_of, of_asker, of_answerer, answers_wishes, and_parts, and_from}
 use Rattle.osi_machine.proofs.Vocabulary.{TsduMaximumSize, State, Meaning, AC, Tokens, functional_units, both_units, units_within, base_for}
 use Rattle.osi_machine.proofs.Vocabulary.{serial_for, opened_with, is_answering, is_connecting, is_restarting, is_restart_due, may_hold}
-use Rattle.osi_machine.proofs.Vocabulary.{Accept, are_sizes, answered_sizes, becomes, next, turned_owners, settled_by, Fits, flush, heard}
-use Rattle.osi_machine.proofs.Vocabulary.{Party, Core, answered, is_opening, IsFresh, AreConsistent, ◌≡◌, refl, Bool, true, false, not}
-use Rattle.osi_machine.proofs.Vocabulary.{◌&&◌, ◌||◌, if◌then◌else◌, arith, sym, ◌∙◌, ap, subst, ℕ, List, [], ◌∷◌, ◌++◌, Ok, Wish, wish_of}
-use Rattle.osi_machine.proofs.Vocabulary.{wish_for, settled, allows}
-use Rattle.osi_spdu.specs.declared.settings.TokenSetting.{TokenSetting}
+use Rattle.osi_machine.proofs.Vocabulary.{Accept, are_sizes, answered_sizes, Core, is_opening, IsFresh, ◌≡◌, refl, Bool, true, not, ◌&&◌}
+use Rattle.osi_machine.proofs.Vocabulary.{arith, sym, ◌∙◌, ap, ℕ, List, Wish, wish_of, wish_for, settled, allows, is_profile}
 use Rattle.osi_spdu.specs.declared.settings.Side.{Side}
-use Rattle.osi_machine.proofs.basics.what_holds_in_each_phase.{implied, excluded, implied_two, if_first}
-use Rattle.osi_machine.proofs.channels.a_unit_is_dropped_bad_or_acted_on.{next_acted}
-use Rattle.osi_machine.proofs.channels.what_every_unit_in_flight_keeps.{fit_append, flush_append, heard_append, view_append, data_append}
-use Rattle.osi_machine.proofs.channels.a_deaf_side_acts_on_nothing.{AllEmpty, all_empty, empty_laws, empty_view, waiting, empty_end}
-use Rattle.osi_machine.proofs.channels.a_deaf_side_acts_on_nothing.{empty_heard}
-use Rattle.osi_machine.proofs.channels.a_held_token_keeps_units_out.{has_set, none_held}
-use Rattle.osi_machine.proofs.invariant.what_holds_of_both_sides.{flushed, hearing, Meeting, Half, Views, Counts, IsOfProfile, Pair, Stands}
-use Rattle.osi_machine.proofs.invariant.what_holds_of_both_sides.{profile_of, profile_data, within_duplex, within_half, within_both}
-use Rattle.osi_machine.proofs.invariant.each_step_keeps_one_side.{IsGranted, granted}
-use Rattle.osi_machine.proofs.calls.a_unit_that_changes_no_state.{list_any_append}
+use Rattle.osi_spdu.specs.declared.settings.TokenSetting.{TokenSetting}
+use Rattle.osi_machine.proofs.basics.what_holds_in_each_phase.{implied, excluded, implied_both}
+use Rattle.osi_machine.proofs.channels.a_deaf_side_acts_on_nothing.{AllEmpty, empty_view, waiting, empty_heard}
+use Rattle.osi_machine.proofs.channels.a_held_token_keeps_units_out.{has_set}
+use Rattle.osi_machine.proofs.invariant.what_holds_of_both_sides.{hearing, IsOfProfile, Stands, profile_of, profile_data, within_duplex}
+use Rattle.osi_machine.proofs.invariant.what_holds_of_both_sides.{within_half, within_both, matched}
+use Rattle.osi_machine.proofs.invariant.each_step_keeps_one_side.{Keeps}
+use Rattle.osi_machine.proofs.calls.a_call_and_its_unit.{there}
+use Rattle.osi_machine.proofs.calls.an_answer_is_taken.{Quiet, Settles, owes_answer, quiet, settles_stands}
 
 -- ---- a side for each token
 
@@ -68,29 +63,6 @@ pub asker_holds : (u : FunctionalUnits) (w : TokenSetting) (a : Sides) (t : Toke
     → has (of_asker u (stated u (setting_of (settle u w a)))) t ≡ (has (available u) t && not (has (of_answerer u (settle u w a)) t))
 asker_holds u w a t = search (arith, asker_has, stated_settled, answerer_has)
 
--- ---- their owners: h is whether the answerer holds it, a whether it is available
-
-abbrev given : Bool → Bool → Owner
-given h a = if h then Own else if a then ToThem else Absent
-
-pub own_held : (h a : Bool) → h ≡ is_own (given h a)
-own_held h a = grind arith
-
-pub own_wanted : (h a : Bool) → h ≡ (is_own (given h a) || is_to_own (given h a))
-own_wanted h a = grind arith
-
-pub own_absent : (h a : Bool) → (h ≡ true → a ≡ true) → a ≡ false → is_absent (given h a) ≡ true
-own_absent h a f e = grind arith
-
-pub their_held : (h a : Bool) → false ≡ is_own (turned_owner (given h a))
-their_held h a = grind arith
-
-pub their_wanted : (h a : Bool) → (a && not h) ≡ (is_own (turned_owner (given h a)) || is_to_own (turned_owner (given h a)))
-their_wanted h a = grind arith
-
-pub their_absent : (h a : Bool) → (h ≡ true → a ≡ true) → a ≡ false → is_absent (turned_owner (given h a)) ≡ true
-their_absent h a f e = grind arith
-
 -- ---- what is accepted
 
 record Accepts (w : Core) (u : ℕ) : Type 0 where
@@ -109,173 +81,69 @@ abbrev acceptance : State → ℕ → ℕ → Sides → TsduMaximumSize → List
 acceptance s u n a z o = AC true u (serial_for (functional_units u) n) (setting_of (settle (functional_units u) s.wishes a))
     (answered_sizes s.sizes z) o
 
-abbrev accepter : Party → ℕ → ℕ → Sides → TsduMaximumSize → List ℕ → Party
-accepter x u n a z o = record {
-  session = accepting x.session u n a z;
-  view = x.view ++ [];
-  said = x.said ++ [];
-  got = x.got;
-  sent = x.sent ++ acceptance x.session u n a z o ∷ [];
-}
-
--- the caller, when it has taken the AC
-abbrev connected : Core → ℕ → ℕ → Sides → TsduMaximumSize → List ℕ → State
-connected w u n a z o = becomes (flushed w.peer w.own) (acceptance w.own.session u n a z o)
-
--- ---- nothing is in flight
+-- ---- nothing is in flight, and nothing was seen
 
 module _ (w : Core) (u : ℕ) (q : Accepts w u) where
-  none_under_way : AllEmpty w.peer.sent
-  none_under_way = grind (arith, all_empty, excluded)
+  side : Quiet w
+  side = quiet w q.all (implied is_answering owes_answer refl w.own.session.phase q.answering)
 
-  own_end : flushed w.own w.peer ≡ w.own.session
-  own_end = empty_end w.own.session w.peer.sent none_under_way
+  other_waits : is_connecting (there w).phase ≡ true
+  other_waits = implied_both matched (λ p q. is_answering p) (λ p q. is_connecting q) refl w.own.session.phase (there w).phase
+      side.meets q.answering
 
-  own_heard : hearing w.own w.peer ≡ w.own.session
-  own_heard = empty_heard w.own.session w.peer.sent none_under_way
-
-  other_waits : is_connecting (flushed w.peer w.own).phase ≡ true
-  other_waits = search (arith, own_end, implied_two, and_from)
-
-  other_connects : is_connecting w.peer.session.phase ≡ true
-  other_connects = (waiting w.peer.session w.own.sent other_waits q.all.peer.fits).1
+  waited : AllEmpty w.own.sent × (is_connecting w.peer.session.phase ≡ true)
+  waited = waiting w.peer.session w.own.sent other_waits q.all.peer.fits
 
   other_heard : hearing w.peer w.own ≡ w.peer.session
-  other_heard = empty_heard w.peer.session w.own.sent (waiting w.peer.session w.own.sent other_waits q.all.peer.fits).0
+  other_heard = empty_heard w.peer.session w.own.sent waited.0
 
-  other_owes_none : is_restart_due (flushed w.peer w.own).phase ≡ false
-  other_owes_none = excluded is_connecting is_restart_due refl (flushed w.peer w.own).phase other_waits
+  fresh : IsFresh w.own
+  fresh = q.all.consistent.own.fresh (implied is_answering is_opening refl w.own.session.phase q.answering)
 
-  other_units : (flushed w.peer w.own).units ≡ w.own.session.units
-  other_units = sym q.all.own.meeting.units ∙ ap (λ (r : State). r.units) own_end
+  other_fresh : IsFresh w.peer
+  other_fresh = q.all.consistent.peer.fresh (implied is_connecting is_opening refl w.peer.session.phase waited.1)
 
-module _ (w : Core) (u : ℕ) where
-  other_fresh : Accepts w u → IsFresh w.peer
-  other_fresh q = q.all.consistent.peer.fresh (implied is_connecting is_opening refl w.peer.session.phase (other_connects w u q))
+  saw : w.own.view ≡ w.history
+  saw = search (arith, side.all, excluded, empty_view, side.none)
 
-  -- ---- the AC
+  agreed_units : both_units (there w).units (functional_units u) ≡ functional_units u
+  agreed_units = grind (arith, side.there_units, within_both)
 
-  agreed_units : Accepts w u → both_units (flushed w.peer w.own).units (functional_units u) ≡ functional_units u
-  agreed_units q = grind (arith, other_units, within_both)
+  -- ---- the AC settles everything
 
-  agreed_first : (n : ℕ) → Accepts w u → agreed_base (both_units (flushed w.peer w.own).units (functional_units u))
-      (serial_for (functional_units u) n) (flushed w.peer w.own).proposed ≡ base_for (functional_units u) n
-  agreed_first n q = grind (arith, agreed_units)
+  settles : (n : ℕ) (a : Sides) (z : TsduMaximumSize) (o : List ℕ) → are_sizes (answered_sizes w.own.session.sizes z) ≡ true
+      → Settles w (accepting w.own.session u n a z) (acceptance w.own.session u n a z o)
+  settles n a z o k = record {
+    side = side;
+    fits = grind (arith, other_waits, and_from, agreed_units, profile_data, side, settled_answers);
+    acts = ap (λ (b : Bool). b && true) (excluded is_connecting is_restarting refl (there w).phase other_waits);
+    stays = refl;
+    owed = excluded is_connecting is_restart_due refl (there w).phase other_waits;
+    due = excluded is_connecting is_restart_due refl w.peer.session.phase waited.1;
+    ready = refl;
+    then_ready = refl;
+    units = agreed_units;
+    base = grind (arith, agreed_units);
+    caller = refl;
+    profile = q.profile;
+    duplex = within_duplex (functional_units u) w.own.session.units q.within;
+    half = within_half (functional_units u) w.own.session.units q.within;
+    held = answerer_there (functional_units u) (settle (functional_units u) w.own.session.wishes a);
+    then_held = λ t. search (arith, agreed_units, asker_holds, side);
+    bare = q.all.consistent.peer.sound.tokens (excluded is_connecting may_hold refl w.peer.session.phase waited.1);
+    shows = λ v. refl;
+    silent = refl;
+    needs = refl;
+    saw = saw;
+    other_saw = search (arith, other_heard, excluded, waited);
+    numbered = rw (sym saw ∙ fresh.view) tt;
+    own_counts = search (arith, other_fresh);
+    peer_counts = search arith;
+  }
 
-  accept_fits : (n : ℕ) (a : Sides) (z : TsduMaximumSize) (o : List ℕ) → Accepts w u
-      → are_sizes (answered_sizes w.own.session.sizes z) ≡ true → Fits (flushed w.peer w.own) (acceptance w.own.session u n a z o)
-  accept_fits n a z o q k = grind (arith, other_waits, and_from, agreed_units, profile_data, own_end, settled_answers)
-
-  accept_kept : Accepts w u → (is_restarting (flushed w.peer w.own).phase && true) ≡ false
-  accept_kept q = ap (λ (b : Bool). b && true) (excluded is_connecting is_restarting refl (flushed w.peer w.own).phase (other_waits w u q))
-
-  accept_next : (n : ℕ) (a : Sides) (z : TsduMaximumSize) (o : List ℕ) → Accepts w u
-      → next (flushed w.peer w.own) (acceptance w.own.session u n a z o) ≡ connected w u n a z o
-  accept_next n a z o q = next_acted (flushed w.peer w.own) (acceptance w.own.session u n a z o) (accept_kept q)
-
-  end_after : (n : ℕ) (a : Sides) (z : TsduMaximumSize) (o : List ℕ) → Accepts w u
-      → flush w.peer.session (w.own.sent ++ acceptance w.own.session u n a z o ∷ []) ≡ connected w u n a z o
-  end_after n a z o q = flush_append w.peer.session w.own.sent (acceptance w.own.session u n a z o) ∙ accept_next n a z o q
-
-  heard_after : (n : ℕ) (a : Sides) (z : TsduMaximumSize) (o : List ℕ) → Accepts w u
-      → heard w.peer.session (w.own.sent ++ acceptance w.own.session u n a z o ∷ []) ≡ connected w u n a z o
-  heard_after n a z o q = search (arith, heard_append, other_owes_none, accept_next)
-
-  -- ---- tokens
-
-  there : (a : Sides) (t : Token) → has (held_by w.own.session u a) t ≡ true → has (available (functional_units u)) t ≡ true
-  there a t h = answerer_there (functional_units u) (settle (functional_units u) w.own.session.wishes a) t h
-
-  -- ---- the two halves
-
-  own_half : (n : ℕ) (a : Sides) (z : TsduMaximumSize) (o : List ℕ) → Accepts w u
-      → Half (settled_by (accepting w.own.session u n a z)) (accepter w.own u n a z o) w.peer
-  own_half n a z o q =
-      search (arith, none_under_way, empty_laws, end_after, agreed_units, agreed_first, own_held, own_wanted, own_absent, there)
-
-  peer_half : (n : ℕ) (a : Sides) (z : TsduMaximumSize) (o : List ℕ) → Accepts w u → are_sizes (answered_sizes w.own.session.sizes z) ≡ true
-      → Half (turned_owners (settled_by (accepting w.own.session u n a z))) w.peer (accepter w.own u n a z o)
-  peer_half n a z o q k =
-      let r = accepting w.own.session u n a z in
-      let m = acceptance w.own.session u n a z o in
-      let none = none_under_way w u q in
-      let owners = turned_owners (settled_by (accepting w.own.session u n a z)) in
-      let no_tokens = q.all.consistent.peer.sound.tokens
-      (excluded is_connecting may_hold refl w.peer.session.phase (other_connects w u q)) in
-      record {
-        fits = fit_append w.peer.session w.own.sent m q.all.peer.fits (accept_fits n a z o q k);
-        meeting = subst (λ (e : State). Meeting owners w.peer.session e (flush r w.peer.sent)
-            (heard w.peer.session (w.own.sent ++ m ∷ [])) r) (sym (end_after n a z o q))
-            (subst (λ (e : State). Meeting owners w.peer.session (connected w u n a z o) (flush r w.peer.sent) e r)
-            (sym (heard_after n a z o q))
-            (subst (λ (e : State). Meeting owners w.peer.session (connected w u n a z o) e (connected w u n a z o) r)
-            (sym (empty_end r w.peer.sent none)) (record {
-              meets = refl;
-              units = agreed_units q;
-              base = agreed_first n q;
-              restart = λ k. absurd (cc);
-              connect = λ k. absurd (cc);
-              holds = grind (arith, none_held, their_held, available);
-              wants = λ h t. search (arith, agreed_units, asker_holds, their_wanted, available);
-              absent = grind (arith, their_absent, available, there, agreed_units);
-              released = λ d. absurd (cc);
-            })));
-      }
-
-  -- ---- what was seen
-
-  own_seen : Accepts w u → w.own.view ≡ w.history
-  own_seen q = search (arith, own_heard, excluded, empty_view, none_under_way)
-
-module _ (w : Core) (u n : ℕ) (a : Sides) (z : TsduMaximumSize) (o : List ℕ) (q : Accepts w u) where
-  own_views : Views (w.history ++ []) (accepter w.own u n a z o) w.peer
-  own_views = search (arith, none_under_way, empty_view, own_seen, empty_heard, within_duplex, empty_end, own_end)
-
-  peer_views : Views (w.history ++ []) w.peer (accepter w.own u n a z o)
-  peer_views =
-      grind (
-        arith,
-        view_append,
-        other_owes_none,
-        if_first,
-        flushed,
-        append-nil,
-        heard_after,
-        excluded,
-        other_connects,
-        hearing,
-        other_heard,
-        agreed_units,
-        end_after,
-        other_units,
-        within_duplex,
-        data_append,
-      )
-
-  -- ---- the numbers
-
-  own_counts : Counts (accepter w.own u n a z o) w.peer
-  own_counts = search (arith, empty_heard, none_under_way, other_fresh)
-
-  peer_counts : Counts w.peer (accepter w.own u n a z o)
-  peer_counts = search (arith, heard_after, empty_heard, none_under_way)
-
-  -- ---- both at once
-
-  pair_kept : Pair (w.history ++ []) (accepter w.own u n a z o) w.peer
-  pair_kept = search (arith, empty_end, none_under_way, own_seen, implied, within_half, list_any_append, own_end)
-
-  -- ---- the call
-
-  all_kept : are_sizes (answered_sizes w.own.session.sizes z) ≡ true
-      → AreConsistent (answered w (Accept u n a z o)
-      (Ok (record { next = accepting w.own.session u n a z; sent = acceptance w.own.session u n a z o }))) → Stands
-      (answered w (Accept u n a z o) (Ok (record {
-        next = accepting w.own.session u n a z;
-        sent = acceptance w.own.session u n a z o;
-      })))
-  all_kept k c = assumption (own_half w u n a z o q, peer_half w u n a z o q k, own_views, peer_views, own_counts, peer_counts, pair_kept)
-
-pub accept_stands : (w : Core) (u n : ℕ) (a : Sides) (z : TsduMaximumSize) (o : List ℕ) → IsGranted w (Accept u n a z o) → Stands w
-    → Stands (answered w (Accept u n a z o) (Ok (granted w.own.session (Accept u n a z o))))
-accept_stands w u n a z o p s = search (arith, and_parts, all_kept, profile_of)
+pub accept_stands : (u n : ℕ) (a : Sides) (z : TsduMaximumSize) (o : List ℕ) → Keeps (Accept u n a z o)
+accept_stands u n a z o w p s =
+    let t = and_parts (units_within (functional_units u) w.own.session.units) (is_profile u) p.needed.0 in
+    let q : Accepts w u = record { answering = p.phase; within = t.0; profile = profile_of u t.1; all = s } in
+    settles_stands w (accepting w.own.session u n a z) (acceptance w.own.session u n a z o)
+    (settles w u q n a z o p.sized) s p.kept

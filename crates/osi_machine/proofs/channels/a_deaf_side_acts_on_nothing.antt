@@ -4,9 +4,9 @@ use Rattle.osi_machine.proofs.Vocabulary.{TokenSetting, ResyncType, State, Resta
 use Rattle.osi_machine.proofs.Vocabulary.{is_expected, has_no_effect, without_tokens, restarted_at, stands, drops, next, Item, is_plain}
 use Rattle.osi_machine.proofs.Vocabulary.{Fits, AllFit, flush, stops, heard, hears, view_next, heard_view, or_left, is_connecting}
 use Rattle.osi_machine.proofs.Vocabulary.{both_ways, ◌≡◌, refl, ◌∙◌, ap, subst, ℕ, Bool, true, false, not, if◌then◌else◌, List, [], ◌∷◌}
-use Rattle.osi_machine.proofs.Vocabulary.{◌++◌, ◌⊎◌, inl, inr, arith}
-use Rattle.osi_machine.proofs.basics.what_holds_in_each_phase.{excluded, if_first, by_test}
-use Rattle.osi_machine.proofs.channels.a_unit_is_dropped_bad_or_acted_on.{next_dropped, next_acted, and_false}
+use Rattle.osi_machine.proofs.Vocabulary.{◌++◌, ◌⊎◌, arith}
+use Rattle.osi_machine.proofs.basics.what_holds_in_each_phase.{excluded, if_first, by_test, by_either}
+use Rattle.osi_machine.proofs.channels.a_unit_is_dropped_bad_or_acted_on.{next_dropped, next_acted, and_false, none_due}
 use Rattle.osi_machine.proofs.channels.what_every_unit_in_flight_keeps.{hears_kept, heard_flush, heard_append}
 
 -- ---- units that have no effect
@@ -34,18 +34,19 @@ pub empty_view : (s : State) (us : List Meaning) (v : List Item) → AllEmpty us
 empty_view s [] v h = refl
 empty_view s (u ∷ us) v h = grind (arith, if_first, next_dropped, empty_view s us v h.1)
 
-dropped_here : (s : State) (u : Meaning) → is_expected s.phase u ≡ false → Fits s u → drops s u ≡ true
-dropped_here s u none f = by_test (drops s u) (λ d. d) (λ d. absurd (let e = (f.good d).expected in cc))
-
 pub all_empty : (s : State) (us : List Meaning) → ((u : Meaning) → is_plain u ≡ true → is_expected s.phase u ≡ false)
     → is_restarting s.phase ≡ false
     → AllFit s us → AllEmpty us
 all_empty s [] none listens f = tt
 all_empty s (u ∷ us) none listens f =
-    let d = dropped_here s u (none u f.0.plain) f.0 in (
+    let d : drops s u ≡ true = grind (arith, none u f.0.plain, f.0.good) in (
       grind arith,
       all_empty s us none listens (subst (λ (r : State). AllFit r us) (next_dropped s u d) f.1),
     )
+
+-- nothing but that comes after a restart that takes effect
+pub after_due : (s : State) (us : List Meaning) → is_restart_due s.phase ≡ true → AllFit s us → AllEmpty us
+after_due s us d f = all_empty s us (λ u p. none_due s.phase u d p) (excluded is_restart_due is_restarting refl s.phase d) f
 
 -- ---- a restart
 
@@ -90,15 +91,16 @@ deaf_next s u r f = grind arith
 pub not_both : (b : Bool) → not b ≡ true → b ≡ true → ⊥
 not_both b p q = grind arith
 
+passes : (s : State) (u : Meaning) (us : List Meaning) → is_restarting (flush s (u ∷ us)).phase ≡ true → AllFit s (u ∷ us)
+    → (next s u ≡ s) × ((v : List Item) → view_next s u v ≡ v)
+passes s u us r f = by_either
+    (deaf_next s u (by_test (is_restarting s.phase) (λ e. e) (λ e. absurd (not_both _ (hears_kept s (u ∷ us) (ap not e) f) r))) f.0)
+    (λ e. e)
+    (λ l. absurd (not_both _ (hears_kept (next s u) us l f.1) r))
+
 pub deaf_end : (s : State) (us : List Meaning) → is_restarting (flush s us).phase ≡ true → AllFit s us → flush s us ≡ s
 deaf_end s [] r f = refl
-deaf_end s (u ∷ us) r f = elim (deaf_next s u
-    (by_test (is_restarting s.phase) (λ e. e) (λ e. absurd (not_both _ (hears_kept s (u ∷ us) (ap not e) f) r))) f.0) [
-      | inl e ↦ ap (λ (q : State). flush q us) e.0
-          ∙ deaf_end s us (subst (λ (q : State). is_restarting (flush q us).phase ≡ true) e.0 r)
-          (subst (λ (q : State). AllFit q us) e.0 f.1)
-      | inr l ↦ absurd (not_both _ (hears_kept (next s u) us l f.1) r)
-    ]
+deaf_end s (u ∷ us) r f = deaf_end (next s u) us r f.1 ∙ (passes s u us r f).0
 
 pub deaf_heard : (s : State) (us : List Meaning) → is_restarting (flush s us).phase ≡ true → AllFit s us → heard s us ≡ s
 deaf_heard s us r f = heard_flush s us f (excluded is_restarting is_restart_due refl (flush s us).phase r) ∙ deaf_end s us r f
@@ -106,19 +108,10 @@ deaf_heard s us r f = heard_flush s us f (excluded is_restarting is_restart_due 
 pub deaf_view : (s : State) (us : List Meaning) (v : List Item) → is_restarting (flush s us).phase ≡ true → AllFit s us
     → heard_view s us v ≡ v
 deaf_view s [] v r f = refl
-deaf_view s (u ∷ us) v r f = elim (deaf_next s u
-    (by_test (is_restarting s.phase) (λ e. e) (λ e. absurd (not_both _ (hears_kept s (u ∷ us) (ap not e) f) r))) f.0) [
-      | inl e ↦ if_first (stops s u) v (heard_view (next s u) us (view_next s u v))
-          (ap (λ (q : State). heard_view q us (view_next s u v)) e.0 ∙ ap (heard_view s us) (e.1 v)
-          ∙ deaf_view s us v (subst (λ (q : State). is_restarting (flush q us).phase ≡ true) e.0 r)
-          (subst (λ (q : State). AllFit q us) e.0 f.1))
-      | inr l ↦ absurd (not_both _ (hears_kept (next s u) us l f.1) r)
-    ]
+deaf_view s (u ∷ us) v r f = if_first (stops s u) v (heard_view (next s u) us (view_next s u v))
+    (deaf_view (next s u) us (view_next s u v) r f.1 ∙ (passes s u us r f).1 v)
 
 -- ---- a side that will still wait for the answer to its CN has taken nothing
-
-abbrev Later : State → Type 0
-Later s = is_connecting s.phase ≡ false
 
 -- a unit that leaves it waiting was discarded
 waiting_drops : (s : State) (u : Meaning) → Fits s u → is_connecting (next s u).phase ≡ true → drops s u ≡ true

@@ -1,20 +1,15 @@
 -- A unit is discarded, or is a fault, or is acted on; and what each of these leaves of its taker.
 -- For all that follows a unit through a channel.
-use Rattle.std.proofs.Common.{◌≡◌, refl, sym, ◌∙◌, subst, ℕ, Bool, true, false, not, ◌||◌, if◌then◌else◌, List, [], ◌∷◌, Option, Some, None}
-use Rattle.std.proofs.Common.{arith, ap, ◌&&◌}
-use Rattle.osi_machine.proofs.Vocabulary.{and_parts, not-true, not-false, State, Phase, Aborting, Ended, Meaning, UnitFault, Outcome}
-use Rattle.osi_machine.proofs.Vocabulary.{Condition, is_over, is_aborting, is_ended, first_fault, becomes, nothing, good, judged}
-use Rattle.osi_machine.proofs.Vocabulary.{in_aborting, in_ended, take_expected, respond_unit, without_tokens, drops, AllMet, Good, next}
-use Rattle.osi_machine.proofs.Vocabulary.{is_acted_on, Fits, is_restart_due, is_expected, Item, is_plain, stops, hears, view_next}
+use Rattle.osi_machine.proofs.Vocabulary.{◌≡◌, refl, sym, subst, ℕ, Bool, true, false, not, if◌then◌else◌, List, [], ◌∷◌, None, arith, ap}
+use Rattle.osi_machine.proofs.Vocabulary.{◌&&◌, and_parts, not-true, not-false, State, Phase, Aborting, Ended, Meaning, Outcome, Condition}
+use Rattle.osi_machine.proofs.Vocabulary.{is_over, first_fault, becomes, nothing, good, take_expected, respond_unit, without_tokens, drops}
+use Rattle.osi_machine.proofs.Vocabulary.{AllMet, Good, next, is_acted_on, Fits, is_restart_due, is_expected, is_plain, stops, hears}
 use Rattle.osi_machine.proofs.basics.what_holds_in_each_phase.{by_test}
-
-none_if : (b : Bool) (a : Option UnitFault) (f : UnitFault) → (if b then a else Some f) ≡ None → (b ≡ true) × (a ≡ None)
-none_if b a f h = grind arith
 
 -- a unit without a fault meets all its conditions, and conversely
 pub all_met : (n : ℕ) (cs : List Condition) → first_fault n cs ≡ None → AllMet cs
 all_met n [] h = tt
-all_met n (c ∷ cs) h = let one = none_if c.0 (first_fault n cs) (c.1 n) h in (one.0, all_met n cs one.1)
+all_met n (c ∷ cs) h = grind (arith, all_met n cs)
 
 -- the conditions for acting on it
 pub record Acted (s : State) (u : Meaning) : Type 0 where
@@ -27,26 +22,6 @@ acted s u h = grind (arith, and_parts, not-true, all_met)
 
 pub is_acted : (s : State) (u : Meaning) → Acted s u → is_acted_on s u ≡ true
 is_acted s u h = grind arith
-
-over_parts : (p : Phase) → is_over p ≡ (is_aborting p || is_ended p)
-over_parts p = grind arith
-
-pub over_of : (a e : Bool) (p : Phase) → is_aborting p ≡ a → is_ended p ≡ e → is_over p ≡ (a || e)
-over_of a e p h k = over_parts p ∙ rw (h, k) refl
-
--- a test, whose two outcomes leave what is wanted
-either : (P : State → Type 0) (b : Bool) (x y : Outcome) → (b ≡ true → P x.next) → (b ≡ false → P y.next) → P (if b then x else y).next
-either P b x y h k = grind arith
-
-judged_cases : (P : State → Type 0) (s : State) (u : Meaning) (f : Option UnitFault) → P (without_tokens Aborting s)
-    → (f ≡ None → P (becomes s u)) → P (judged s u f).next
-judged_cases P s u f h k = grind arith
-
-aborting_cases : (P : State → Type 0) (s : State) (u : Meaning) → P s → P (without_tokens Ended s) → P (in_aborting s u).next
-aborting_cases P s u h k = grind arith
-
-ended_cases : (P : State → Type 0) (s : State) (u : Meaning) → P s → P (in_ended s u).next
-ended_cases P s u h = grind arith
 
 -- the state after a unit: the same, or the end, or the abort, or what the table says of a unit that is acted on
 pub record Leaves (P : Bool → State → Type 0) (s : State) (u : Meaning) : Type 0 where
@@ -64,7 +39,7 @@ pub not_acted : (P : State → Type 0) (s : State) (u : Meaning) → is_acted_on
     → P (without_tokens Aborting s)
     → P (respond_unit s u).next
 unfolding respond_unit take_expected
-not_acted P s u n same ended bare = search (arith, either, aborting_cases, ended_cases, judged_cases, is_acted, over_of, not-false, all_met)
+not_acted P s u n same ended bare = grind (arith, is_acted, not-false, all_met)
 
 pub unit_cases : (P : Bool → State → Type 0) (s : State) (u : Meaning) → Leaves P s u → P (is_acted_on s u) (respond_unit s u).next
 unit_cases P s u h = by_test (is_acted_on s u)
@@ -125,12 +100,6 @@ none_due p u h k = grind arith
 
 pub due_next : (s : State) (u : Meaning) → is_restart_due s.phase ≡ true → Fits s u → next s u ≡ s
 due_next s u h f = fit_cases (λ r. r ≡ s) s u f refl (λ d g. absurd (let n = none_due s.phase u h f.plain in let e = g.expected in cc))
-
-pub due_stops : (s : State) (u : Meaning) → is_restart_due s.phase ≡ true → Fits s u → stops s u ≡ false
-due_stops s u h f = grind (arith, restart_acted, none_due)
-
-pub due_view : (s : State) (u : Meaning) (v : List Item) → is_restart_due s.phase ≡ true → Fits s u → view_next s u v ≡ v
-due_view s u v h f = grind (arith, by_test, none_due)
 
 -- ---- no unit leads to Restarting
 

@@ -1,13 +1,12 @@
 -- What one more unit does to a channel, and what all units in flight keep, the direction of points too.
 -- For the steps of both sides: a call adds a unit at the end.
-use Rattle.std.proofs.Common.{◌≡◌, refl, sym, ◌∙◌, ap, subst, ℕ, true, false, if◌then◌else◌, List, [], ◌∷◌, ◌++◌, append_assoc, arith, ◌≤◌}
-use Rattle.osi_machine.proofs.Vocabulary.{State, Meaning, is_restart_due, next, Fits, AllFit, flush, stops, heard, hears, view_next}
-use Rattle.osi_machine.proofs.Vocabulary.{heard_view, data_of, Item, ltb-true, ltb-false, or_parts, list_any, data_token, lower}
+use Rattle.osi_machine.proofs.Vocabulary.{◌≡◌, refl, sym, ◌∙◌, ap, subst, ℕ, true, false, if◌then◌else◌, List, [], ◌∷◌, ◌++◌, append_assoc}
+use Rattle.osi_machine.proofs.Vocabulary.{arith, ◌≤◌, State, Meaning, is_restart_due, next, Fits, AllFit, flush, stops, heard, hears}
+use Rattle.osi_machine.proofs.Vocabulary.{view_next, heard_view, data_of, Item, ltb-true, ltb-false, or_parts, list_any, data_token, lower}
 use Rattle.osi_machine.proofs.Vocabulary.{point_taken, minor_confirmed, major_confirmed, restarted_at, becomes, Good, is_plain, needs_token}
-use Rattle.osi_machine.proofs.Vocabulary.{is_opening}
+use Rattle.osi_machine.proofs.Vocabulary.{is_opening, Bool, ◌||◌, drops, is_releasing, seen}
 use Rattle.osi_machine.proofs.basics.what_holds_in_each_phase.{by_test}
-use Rattle.osi_machine.proofs.channels.a_unit_is_dropped_bad_or_acted_on.{next_hears, due_next, due_stops, due_view, restart_due, chosen}
-use Rattle.osi_machine.proofs.channels.a_unit_is_dropped_bad_or_acted_on.{next_cases, fit_cases}
+use Rattle.osi_machine.proofs.channels.a_unit_is_dropped_bad_or_acted_on.{next_hears, due_next, restart_due, chosen, next_cases, fit_cases}
 
 pub fit_append : (s : State) (us : List Meaning) (m : Meaning) → AllFit s us → Fits (flush s us) m → AllFit s (us ++ m ∷ [])
 fit_append s [] m h f = (f, tt)
@@ -29,8 +28,30 @@ pub kept_heard : (P : State → Type 0) → ((s : State) (u : Meaning) → P s �
 kept_heard P step s [] h f = h
 kept_heard P step s (u ∷ us) h f = chosen P (stops s u) _ _ h (kept_heard P step (next s u) us (step s u h f.0) f.1)
 
+-- what holds of each state and view up to a restart that takes effect, or of all
+pub until_heard : (P : State → List Item → Type 0)
+    → ((s : State) (u : Meaning) (v : List Item) → is_plain u ≡ true → Good s u → stops s u ≡ false → P s v → P (becomes s u) (seen s u v))
+    → (s : State) (us : List Meaning) (v : List Item) → P s v → AllFit s us → P (heard s us) (heard_view s us v)
+until_heard P step s [] v h f = h
+until_heard P step s (u ∷ us) v h f =
+    by_test (stops s u)
+    (λ e. rw e h)
+    (λ e. let one : P (next s u) (view_next s u v) = by_test (drops s u)
+    (λ d. rw d h)
+    (λ d. rw d (step s u v f.0.plain (f.0.good d) e h)) in
+    rw e (until_heard P step (next s u) us (view_next s u v) one f.1))
+
 pub hears_kept : (s : State) (us : List Meaning) → hears s.phase ≡ true → AllFit s us → hears (flush s us).phase ≡ true
 hears_kept = kept_all (λ s. hears s.phase ≡ true) (λ s u h f. next_hears s u h)
+
+-- nor just before a restart that takes effect
+pub heard_hears : (s : State) (us : List Meaning) → hears s.phase ≡ true → AllFit s us → hears (heard s us).phase ≡ true
+heard_hears = kept_heard (λ s. hears s.phase ≡ true) (λ s u h f. next_hears s u h)
+
+-- no unit leads to Releasing
+pub unreleased : (s : State) (us : List Meaning) → is_releasing s.phase ≡ false → AllFit s us → is_releasing (flush s us).phase ≡ false
+unreleased = kept_all (λ s. is_releasing s.phase ≡ false)
+    (λ s u h f. next_cases (λ q. is_releasing q.phase ≡ false) s u (λ d. h) (λ d. grind arith))
 
 -- ---- no unit in flight to a side that owes the answer to a restart is acted on
 
@@ -55,12 +76,6 @@ pub heard_append : (s : State) (us : List Meaning) (m : Meaning) → AllFit s us
 heard_append s [] m f n = refl
 heard_append s (u ∷ us) m f n = rw (no_stop s u us f n) (heard_append (next s u) us m f.1 n)
 
--- if one takes effect already, another unit changes nothing
-pub heard_append_due : (s : State) (us : List Meaning) (m : Meaning) → AllFit s (us ++ m ∷ []) → is_restart_due (flush s us).phase ≡ true →
-    heard s (us ++ m ∷ []) ≡ heard s us
-heard_append_due s [] m f n = grind arith
-heard_append_due s (u ∷ us) m f n = ap (λ (r : State). if stops s u then s else r) (heard_append_due (next s u) us m f.1 n)
-
 -- ---- what was seen
 
 pub view_append : (s : State) (us : List Meaning) (m : Meaning) (v : List Item) → AllFit s us → is_restart_due (flush s us).phase ≡ false →
@@ -68,46 +83,15 @@ pub view_append : (s : State) (us : List Meaning) (m : Meaning) (v : List Item) 
 view_append s [] m v f n = refl
 view_append s (u ∷ us) m v f n = rw (no_stop s u us f n) (view_append (next s u) us m (view_next s u v) f.1 n)
 
--- if one takes effect already, another unit shows nothing
-pub view_append_due : (s : State) (us : List Meaning) (m : Meaning) (v : List Item) → AllFit s (us ++ m ∷ [])
-    → is_restart_due (flush s us).phase ≡ true →
-    heard_view s (us ++ m ∷ []) v ≡ heard_view s us v
-view_append_due s [] m v f n = rw (due_stops s m n f.0) (due_view s m v n f.0)
-view_append_due s (u ∷ us) m v f n = grind (arith, view_append_due (next s u) us m (view_next s u v) f.1 n)
-
 -- ---- data
 
 pub data_append : (us vs : List Meaning) → data_of (us ++ vs) ≡ data_of us ++ data_of vs
 data_append [] vs = refl
 data_append (u ∷ us) vs = grind (arith, append_assoc, data_append us vs)
 
--- ---- two states that a channel runs through alike
-
-pub record Steps (R : State → State → Type 0) (s r : State) (u : Meaning) : Type 0 where
-  pub fits : Fits r u
-  pub stops : stops r u ≡ stops s u
-  pub next : R (next s u) (next r u)
-
-pub record Runs (R : State → State → Type 0) (s r : State) (us : List Meaning) : Type 0 where
-  pub fits : AllFit r us
-  pub flush : R (flush s us) (flush r us)
-  pub heard : R (heard s us) (heard r us)
-
-pub alike : (R : State → State → Type 0) → ((s r : State) (u : Meaning) → R s r → Fits s u → Steps R s r u) →
-    (s r : State) (us : List Meaning) → R s r → AllFit s us → Runs R s r us
-alike R step s r [] h f = record { fits = tt; flush = h; heard = h }
-alike R step s r (u ∷ us) h f =
-    let one = step s r u h f.0 in
-    grind (arith, by_test, alike R step (next s u) (next r u) us one.next f.1)
-
--- and what is seen is the same, if each unit shows the same
-pub alike_view : (R : State → State → Type 0) → ((s r : State) (u : Meaning) → R s r → Fits s u → Steps R s r u) →
-    ((s r : State) (u : Meaning) (v : List Item) → R s r → view_next r u v ≡ view_next s u v) →
-    (s r : State) (us : List Meaning) (v : List Item) → R s r → AllFit s us → heard_view r us v ≡ heard_view s us v
-alike_view R step shows s r [] v h f = refl
-alike_view R step shows s r (u ∷ us) v h f =
-    let one = step s r u h f.0 in
-    grind (arith, alike_view R step shows (next s u) (next r u) us (view_next s u v) one.next f.1)
+pub list_any_append : (p : Meaning → Bool) (us : List Meaning) (m : Meaning) → p m ≡ false → list_any p (us ++ m ∷ []) ≡ list_any p us
+list_any_append p [] m h = rw h refl
+list_any_append p (u ∷ us) m h = ap (λ (b : Bool). p u || b) (list_any_append p us m h)
 
 -- ---- the lower of two numbers
 
@@ -124,7 +108,7 @@ pub record Turned (s : State) : Type 0 where
   pub phase : is_opening s.phase ≡ false
   pub answers : s.numbers.answers ≡ true
 
-becomes_turned : (s : State) (u : Meaning) → is_plain u ≡ true → Good s u → Turned s → Turned (becomes s u)
+pub becomes_turned : (s : State) (u : Meaning) → is_plain u ≡ true → Good s u → Turned s → Turned (becomes s u)
 unfolding point_taken minor_confirmed major_confirmed restarted_at
 becomes_turned s u p g h = grind arith
 
@@ -135,15 +119,11 @@ heard_turned = kept_heard Turned (λ s u h f. fit_cases Turned s u f h (λ d g. 
 abbrev Sends : State → Type 0
 Sends s = s.numbers.answers ≡ false
 
--- only a point changes it
-becomes_sends : (s : State) (u : Meaning) → needs_token data_token u ≡ false → Sends s → Sends (becomes s u)
-unfolding point_taken minor_confirmed major_confirmed restarted_at
-becomes_sends s u p h = grind arith
-
 pub heard_sends : (s : State) (us : List Meaning) → list_any (needs_token data_token) us ≡ false → s.numbers.answers ≡ false
     → (heard s us).numbers.answers ≡ false
+unfolding point_taken minor_confirmed major_confirmed restarted_at
 heard_sends s [] n h = h
 heard_sends s (u ∷ us) n h =
     let p = or_parts (needs_token data_token u) (list_any (needs_token data_token) us) n in
     chosen Sends (stops s u) s (heard (next s u) us) h
-    (heard_sends (next s u) us p.1 (next_cases Sends s u (λ d. h) (λ d. becomes_sends s u p.0 h)))
+    (heard_sends (next s u) us p.1 (next_cases Sends s u (λ d. h) (λ d. grind arith)))

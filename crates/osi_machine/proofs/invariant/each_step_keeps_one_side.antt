@@ -1,22 +1,20 @@
 -- Each call and each unit keeps what holds of one side by itself.
 -- For the law `what_is_true_of_each_side`, and for the invariant of both.
-use Rattle.std.proofs.Common.{◌≡◌, refl, ℕ, ◌+◌, ◌≤◌, Bool, true, false, not, ◌||◌, nat_le, if◌then◌else◌, List, [], ◌∷◌, ◌++◌, arith, None}
-use Rattle.std.proofs.Common.{Ok, Err}
-use Rattle.osi_machine.specs.Floor.{Input, Standing, react}
-use Rattle.osi_machine.specs.Core.{turned, called}
-use Rattle.osi_machine.proofs.Vocabulary.{append-nil, leb-true, ltb-true, eqb-true, and_parts, State, Phase, Call, Accept, Data, Give}
-use Rattle.osi_machine.proofs.Vocabulary.{Please, Minor, MinorConfirm, Major, Restart, Release, Meaning, CN, AC, DT, GT, PT, MIP, MIA, MAP}
-use Rattle.osi_machine.proofs.Vocabulary.{RS, AA, is_ready, is_major_due, is_releasing, is_restarting, may_give, may_ask, may_confirm_minor}
-use Rattle.osi_machine.proofs.Vocabulary.{takes_data, may_call, needs, after, becomes, stands, from_base, point_sent, point_taken}
-use Rattle.osi_machine.proofs.Vocabulary.{minor_confirmed, major_confirmed, restarted_at, IsSound, Good, Item, Octets, points, cutat, seen}
+use Rattle.osi_machine.proofs.Vocabulary.{◌≡◌, refl, ℕ, ◌+◌, ◌≤◌, true, ◌||◌, nat_le, if◌then◌else◌, List, [], ◌∷◌, ◌++◌, arith, None, Ok}
+use Rattle.osi_machine.proofs.Vocabulary.{Err, append-nil, leb-true, ltb-true, eqb-true, and_parts, State, Call, Meaning, RS, is_major_due}
+use Rattle.osi_machine.proofs.Vocabulary.{is_releasing, is_restarting, may_call, needs, after, becomes, stands, from_base, point_sent}
+use Rattle.osi_machine.proofs.Vocabulary.{point_taken, minor_confirmed, major_confirmed, restarted_at, IsSound, Good, Item, points, seen}
 use Rattle.osi_machine.proofs.Vocabulary.{got_in, Party, speaks, view_called, party_taking, is_opening, IsConsistent, AllHold}
 use Rattle.osi_machine.proofs.Vocabulary.{AllByRecursion, Passed, Granted, Answer, HasSerial, IsNumbered, allowed, respond_unit, alone}
 use Rattle.osi_machine.proofs.Vocabulary.{respond, call_input, taken_input, after_inputs, HasNumbers, IsSendable, sends, Core, CoreStep}
 use Rattle.osi_machine.proofs.Vocabulary.{call_at, take_at, Side, Left, Right, Offer, CanBeOffered, party_called, answered, taking, takes}
 use Rattle.osi_machine.proofs.Vocabulary.{at_side, core_step, core_run, core_start, AreConsistent, IsNumberedStep, is_sized}
-use Rattle.osi_machine.proofs.basics.what_holds_in_each_phase.{implied, excluded, by_test}
+use Rattle.osi_machine.specs.Core.{turned, called}
+use Rattle.osi_machine.specs.Floor.{Input, Standing, react}
+use Rattle.osi_machine.proofs.basics.what_holds_in_each_phase.{by_test}
 use Rattle.osi_machine.proofs.basics.what_a_restart_leaves_of_a_history.{points_append, points_upto}
-use Rattle.osi_machine.proofs.channels.a_unit_is_dropped_bad_or_acted_on.{unit_cases, chosen}
+use Rattle.osi_machine.proofs.channels.a_unit_is_dropped_bad_or_acted_on.{unit_cases}
+use Rattle.osi_machine.proofs.invariant.what_holds_of_both_sides.{Stands}
 
 -- the lines, but for the order of the numbers
 pub record Lines (s : State) (v : List Item) (said got : List (List ℕ)) : Type 0 where
@@ -32,55 +30,13 @@ lines_of x h = grind arith
 pub consistent : (x : Party) → IsSound x.session → Lines x.session x.view x.said x.got → IsConsistent x
 consistent x sound h = grind arith
 
--- ---- moves of the count
-
-pub one_taken : (n base : ℕ) (b : Bool) (octets : List ℕ) (v : List Item) → n ≡ base + points v
-    → n ≡ base + points (if b then v else v ++ Octets octets ∷ [])
-one_taken n base b octets v h = grind (arith, points_append)
-
--- ---- the clauses if little changes
-
--- a phase in which nothing is asked, due or awaited
-quiet : Phase → Bool
-quiet p = not (is_major_due p || (is_restarting p || (is_releasing p || is_opening p)))
-
-calm : (s : State) (v : List Item) (said got : List (List ℕ)) → quiet s.phase ≡ true → s.numbers.next ≡ s.base + points v
-    → Lines s v said got
-unfolding quiet
-calm s v said got q h = grind (arith, quiet)
-
--- the phase, the units and the flag stay, and the side has begun
-same_lines : (s r : State) (v w : List Item) (said said' got got' : List (List ℕ)) → r.phase ≡ s.phase → r.units ≡ s.units
-    → r.is_caller ≡ s.is_caller
-    → r.numbers.answers ≡ s.numbers.answers → is_opening s.phase ≡ false → r.numbers.next ≡ r.base + points w → Lines s v said got
-    → Lines r w said' got'
-same_lines s r v w said said' got got' p u i a o c h = grind arith
-
 -- ---- the calls
 
 pub call_lines : (s : State) (c : Call) (v : List Item) (said got : List (List ℕ)) → may_call s.phase c ≡ true → AllHold (needs s c)
     → IsSound s
     → Lines s v said got → Lines (after s c) (view_called s c v) (said ++ speaks s c) got
-unfolding quiet point_sent minor_confirmed major_confirmed restarted_at
-call_lines s (Accept requirements serial sides sizes octets) v said got p t sound h = grind (arith, implied, calm)
-call_lines s (Data octets) v said got p t sound h = grind (arith, same_lines, points_append, excluded is_ready is_opening refl s.phase p)
-call_lines s (Give tokens) v said got p t sound h = grind (arith, same_lines, points_append, excluded may_give is_opening refl s.phase p)
-call_lines s (Please tokens octets) v said got p t sound h =
-    same_lines s s v _ said _ got got refl refl refl refl (excluded may_ask is_opening refl s.phase p) (grind (arith, points_append)) h
-call_lines s (Minor confirm octets) v said got p t sound h =
-    grind (arith, calm, quiet, points_append, implied is_ready quiet refl s.phase p)
-call_lines s (MinorConfirm n octets) v said got p t sound h =
-    grind (arith, same_lines, points_append, excluded may_confirm_minor is_opening refl s.phase p)
-call_lines s (Major octets) v said got p t sound h = grind (arith, calm, points_append)
-call_lines s (Restart n wishes octets) v said got p t sound h = grind (arith, and_parts, leb-true, ltb-true, points_upto)
-call_lines s (Release octets) v said got p t sound h = record {
-  count = grind (arith, points_append);
-  major = λ k. absurd (cc);
-  asked = λ k. absurd (cc);
-  asker = λ k d. grind arith;
-  fresh = λ k. absurd (cc);
-}
-call_lines s _ v said got p t sound h = calm _ _ _ _ refl (grind (arith, points_append))
+unfolding point_sent minor_confirmed major_confirmed restarted_at
+call_lines s c v said got p t sound h = grind (arith, points_append, points_upto, and_parts, leb-true, ltb-true)
 
 -- ---- the units
 
@@ -88,48 +44,22 @@ pub stood_below : (s : State) (n : ℕ) → (is_restarting s.phase || nat_le n s
 unfolding stands
 stood_below s n e st = grind (arith, ltb-true, leb-true, eqb-true, and_parts)
 
-chosen_lines : (P : State → List Item → Type 0) (b : Bool) (x y : State) (v w : List Item) → (b ≡ true → P x v) → (b ≡ false → P y w)
-    → P (if b then x else y) (if b then v else w)
-chosen_lines P b x y v w h k = grind arith
-
-pub unit_lines : (s : State) (u : Meaning) (v : List Item) (said got : List (List ℕ)) → Good s u → IsSound s → Lines s v said got
+pub unit_lines : (s : State) (u : Meaning) (v : List Item) (said got : List (List ℕ)) → Good s u → Lines s v said got
     → Lines (becomes s u) (seen s u v) said (got ++ got_in s u)
-unfolding quiet point_taken minor_confirmed major_confirmed restarted_at
-unit_lines s (CN version_2 requirements serial wishes from to sizes octets) v said got g sound h = search (arith, implied, chosen, calm)
-unit_lines s (AC version_2 requirements serial sides sizes octets) v said got g sound h = grind (arith, implied, calm)
-unit_lines s (DT octets) v said got g sound h =
-    search (arith, same_lines, one_taken, excluded takes_data is_opening refl s.phase g.expected)
-unit_lines s (GT tokens) v said got g sound h = grind (arith, same_lines, excluded)
-unit_lines s (PT tokens octets) v said got g sound h = grind (arith, same_lines, excluded)
-unit_lines s (MIP confirm n octets) v said got g sound h =
-    calm _ _ _ _ (implied is_ready quiet refl s.phase g.expected) (grind (arith, points_append))
-unit_lines s (MIA n octets) v said got g sound h = grind (arith, same_lines, excluded)
-unit_lines s (MAP n octets) v said got g sound h = record {
-  count = grind (arith, points_append);
-  major = λ k. refl;
-  asked = λ k. absurd (cc);
-  asker = λ k. absurd (cc);
-  fresh = λ k. absurd (cc);
-}
-unit_lines s (RS kind n wishes octets) v said got g sound h =
-    let b = and_parts _ _ g.met.1.0 in
-    chosen_lines (λ r w. Lines r w said (got ++ [])) (stands s n) _ s (cutat s.base v n) v
-    (λ e. let to = stood_below s n b.1 e in calm _ _ _ _ refl (grind (arith, points_upto)))
-    (grind (arith, append-nil))
-unit_lines s AA v said got g sound h = absurd (let e = g.expected in cc)
-unit_lines s _ v said got g sound h = calm _ _ _ _ refl h.count
+unfolding point_taken minor_confirmed major_confirmed restarted_at
+unit_lines s (RS kind n wishes octets) v said got g h = grind (arith, and_parts, stood_below, points_upto, append-nil)
+unit_lines s u v said got g h = grind (arith, points_append, append-nil)
 
 -- a unit, whether it is acted on or not
-pub taken_lines : (x : Party) (u : Meaning) → IsSound x.session → Lines x.session x.view x.said x.got
+pub taken_lines : (x : Party) (u : Meaning) → Lines x.session x.view x.said x.got
     → Lines (party_taking x u).session (party_taking x u).view (party_taking x u).said (party_taking x u).got
-unfolding quiet
-taken_lines x u sound h =
+taken_lines x u h =
     unit_cases (λ b r. Lines r (if b then seen x.session u x.view else x.view) x.said (if b then x.got ++ got_in x.session u else x.got))
     x.session u (record {
       same = h;
-      ended = calm _ _ _ _ refl h.count;
-      bad = calm _ _ _ _ refl h.count;
-      good = λ a. unit_lines x.session u x.view x.said x.got a.good sound h;
+      ended = grind arith;
+      bad = grind arith;
+      good = λ a. unit_lines x.session u x.view x.said x.got a.good h;
     })
 
 -- what is proved of one session
@@ -193,6 +123,10 @@ is_granted laws w c g small e h =
       laws.sendable w.own.session c g h.own.sound small e,
       answered_kept laws w c (Ok g) small e h,
     )
+
+-- such a call keeps the invariant of both sides
+abbrev pub Keeps : Call → Type 0
+Keeps c = (w : Core) → IsGranted w c → Stands w → Stands (answered w c (Ok (granted w.own.session c)))
 
 called_kept : SessionLaws → (w : Core) (c : Call) → HasSerial c → AreConsistent w → AreConsistent (called w c)
 called_kept laws w c small h = grind (arith, by_test, answered_kept)

@@ -1,8 +1,8 @@
 -- If nothing is lost, a side of a connection is never over, so what it takes is discarded or good.
 -- For the units that are taken, and for the promise that none is a fault.
-use Rattle.std.proofs.Common.{◌≡◌, subst, true, false, if◌then◌else◌, List, ◌∷◌, ◌++◌, arith}
-use Rattle.osi_machine.proofs.Vocabulary.{State, Meaning, nothing, good, is_over, respond_unit, drops, next, Owners, got_in, Fits, AllFit}
-use Rattle.osi_machine.proofs.Vocabulary.{flush, view_next, Party, party_taking}
+use Rattle.osi_machine.proofs.Vocabulary.{◌≡◌, subst, true, false, if◌then◌else◌, List, ◌∷◌, ◌++◌, arith, State, Meaning, nothing, good}
+use Rattle.osi_machine.proofs.Vocabulary.{is_over, respond_unit, drops, next, Owners, got_in, Fits, AllFit, flush, view_next, Party}
+use Rattle.osi_machine.proofs.Vocabulary.{party_taking}
 use Rattle.osi_machine.proofs.basics.what_holds_in_each_phase.{implied_two, by_test}
 use Rattle.osi_machine.proofs.channels.a_unit_is_dropped_bad_or_acted_on.{fit_cases, fit_acts, no_fault, fit_next}
 use Rattle.osi_machine.proofs.channels.what_every_unit_in_flight_keeps.{kept_all}

@@ -6,7 +6,7 @@ use Rattle.osi_machine.proofs.Vocabulary.{is_restarting, is_restart_due, is_conn
 use Rattle.osi_machine.proofs.Vocabulary.{AreNumberedFrom, Owners, is_own, is_to_own, is_absent, turned_owners, AllFit, flush, heard, hears}
 use Rattle.osi_machine.proofs.Vocabulary.{heard_view, data_of, needs_token, Party, Core, AreConsistent, eqb-true, and_parts}
 use Rattle.osi_machine.proofs.Vocabulary.{functional_units, both_units, units_within, has_data, is_profile, ◌≡◌, ℕ, Bool, true, false, not}
-use Rattle.osi_machine.proofs.Vocabulary.{◌&&◌, ◌||◌, ◌∙◌, ap, arith, refl, ◌≤◌, ◌<◌, List, [], ◌++◌, and_assoc, and_le_r}
+use Rattle.osi_machine.proofs.Vocabulary.{◌&&◌, ◌||◌, ◌∙◌, ap, arith, ◌≤◌, ◌<◌, List, [], ◌++◌, and_assoc, and_le_r}
 use Rattle.osi_machine.proofs.basics.what_holds_in_each_phase.{cut_or, by_test, implied_both, every_two}
 
 -- the state of x when it has taken all that y has sent, and just before a restart that takes effect
@@ -125,34 +125,8 @@ pub within_both : (a b : FunctionalUnits) → units_within a b ≡ true → both
 unfolding units_within both_units
 within_both a b h = search (arith, and_parts)
 
--- ---- the first number
-
--- all but the tokens is the same
-pub record Like (s r : State) : Type 0 where
-  pub phase : r.phase ≡ s.phase
-  pub units : r.units ≡ s.units
-  pub wishes : r.wishes ≡ s.wishes
-  pub proposed : r.proposed ≡ s.proposed
-  pub base : r.base ≡ s.base
-  pub numbers : r.numbers ≡ s.numbers
-
-pub like : (s r : State) → r ≡ record s { held = r.held } → Like s r
-like s r e = grind arith
-
-pub itself : (s : State) → Like s s
-itself s = record { phase = refl; units = refl; wishes = refl; proposed = refl; base = refl; numbers = refl }
-
 -- the lines on tokens, stated anew
 pub record Tokens_of (o : Owners) (now end heard : State) : Type 0 where
   pub holds : (t : Token) → has now.held t ≡ is_own (o t)
   pub wants : may_hold heard.phase ≡ true → (t : Token) → has heard.held t ≡ (is_own (o t) || is_to_own (o t))
   pub absent : (t : Token) → has (available end.units) t ≡ false → is_absent (o t) ≡ true
-
-pub retoken : (p o : Owners) (now end other heard peer now' end' other' heard' peer' : State) → Meeting p now end other heard peer
-    → Like end end' → Like other other' → Like heard heard' → Like peer peer' → Tokens_of o now' end' heard'
-    → Meeting o now' end' other' heard' peer'
-retoken p o now end other heard peer now' end' other' heard' peer' m a b c d t = grind (arith, matched)
-
-pub recount : (now heard other_heard other now' heard' other_heard' other' : State) → Counting now heard other_heard other
-    → Like now now' → Like heard heard' → Like other_heard other_heard' → Like other other' → Counting now' heard' other_heard' other'
-recount now heard other_heard other now' heard' other_heard' other' m a b c d = search arith

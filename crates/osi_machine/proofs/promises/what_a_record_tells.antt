@@ -1,8 +1,5 @@
 -- The record of a side tells what it has seen and whether it awaits the answer to a restart, after every list of steps.
 -- For the law of the same name, and for the records of the machine.
-use Rattle.std.proofs.Common.{◌≡◌, refl, sym, ◌∙◌, ap, ℕ, ◌+◌, Bool, true, false, not, ◌||◌, if◌then◌else◌, List, [], ◌∷◌, ◌++◌, arith}
-use Rattle.std.proofs.Common.{subst, map, Option, Some, None, Ok, Err}
-use Rattle.osi_machine.specs.Core.{turned, called}
 use Rattle.osi_machine.proofs.Vocabulary.{append-nil, Shown, State, FunctionalUnits, Call, Accept, Data, Give, Please, Minor, MinorConfirm}
 use Rattle.osi_machine.proofs.Vocabulary.{Major, MajorConfirm, Restart, RestartConfirm, Release, ReleaseRefuse, Meaning, CN, AC, DT, GT, PT}
 use Rattle.osi_machine.proofs.Vocabulary.{MIP, MIA, MAP, MAA, RS, RA, FN, NF, Phase, is_over, is_connecting, is_ready, is_major_asked}
@@ -12,7 +9,10 @@ use Rattle.osi_machine.proofs.Vocabulary.{is_opening, Told, told_call, told_show
 use Rattle.osi_machine.proofs.Vocabulary.{nothing, good, drops, allowed, respond_unit, Agree, is_acted_on, AllFit, Core, CoreStep, call_at}
 use Rattle.osi_machine.proofs.Vocabulary.{take_at, Side, Left, Right, Offer, answered, taking, core_step, core_run, core_start}
 use Rattle.osi_machine.proofs.Vocabulary.{IsNumberedStep, Entry, shown_at, error_of, told_entry, told_by, record_of, untold, call_entries}
-use Rattle.osi_machine.proofs.Vocabulary.{take_entries, core_entries, core_journal, left_told, right_told, AreTold}
+use Rattle.osi_machine.proofs.Vocabulary.{take_entries, core_entries, core_journal, left_told, right_told, AreTold, takes, Party, is_side}
+use Rattle.osi_machine.proofs.Vocabulary.{offers_in, call_answered, ◌&&◌, ◌==◌, eq-eqb, ◌≡◌, refl, sym, ◌∙◌, ap, ℕ, ◌+◌, Bool, true, false}
+use Rattle.osi_machine.proofs.Vocabulary.{not, ◌||◌, if◌then◌else◌, List, [], ◌∷◌, ◌++◌, arith, subst, map, Option, Some, None, Ok, Err}
+use Rattle.osi_machine.specs.Core.{turned, called}
 use Rattle.osi_machine.proofs.basics.what_holds_in_each_phase.{implied, excluded, by_test, every}
 use Rattle.osi_machine.proofs.basics.what_a_restart_leaves_of_a_history.{cut_points, points_append}
 use Rattle.osi_machine.proofs.channels.a_unit_is_dropped_bad_or_acted_on.{fit_acts, no_fault}
@@ -44,6 +44,9 @@ pub record Tells (t : Told) (s : State) (v : List Item) (spoken heard : List (Li
   pub got : s.units.duplex ≡ true → t.indicated ≡ heard
   -- with duplex there is none
   pub pointed : points t.view ≡ points v
+
+abbrev pub TellsOf : Told → Party → Type 0
+TellsOf t x = Tells t x.session x.view x.said x.got
 
 -- ---- if little changes
 
@@ -173,40 +176,42 @@ pub told_append : (t : Told) (es fs : List Entry) → told_by t (es ++ fs) ≡ t
 told_append t [] fs = refl
 told_append t (e ∷ es) fs = told_append (told_entry t e) es fs
 
--- ---- the entries of a step
-
-abbrev told_answer : Told → Call → Bool → Option CallError → Told
-told_answer t c true None = told_call t c
-told_answer t c true (Some e) = t
-told_answer t c false e = t
-
-call_told : (side : Side) (t : Told) (s : State) (c : Call)
-    → told_by t (record_of side 1 (call_entries side s c)) ≡ told_answer t c (stays_in_core c) (error_of (allowed s c))
-call_told side t s c = grind arith
-
 abbrev pub other : Side → Side
 other Left = Right
 other Right = Left
 
-call_untold : (side : Side) (t : Told) (s : State) (c : Call) → told_by t (record_of (other side) 1 (call_entries side s c)) ≡ t
-call_untold side t s c = grind arith
+pub other_side : (side : Side) (b : Bool) → (is_side (other side) side && b) ≡ false
+other_side side b = grind arith
 
-shown_told : (side : Side) (t : Told) (shown : List Shown) → told_by t (record_of side 1 (map (shown_at side 1) shown)) ≡ told_all t shown
-shown_told side t [] = refl
-shown_told Left t (i ∷ shown) = shown_told Left (told_shown t i) shown
-shown_told Right t (i ∷ shown) = shown_told Right (told_shown t i) shown
+pub own_entry : (side : Side) (r : ℕ) → (is_side side side && (r == r)) ≡ true
+own_entry side r = grind (arith, eq-eqb r r refl)
 
-shown_untold : (side : Side) (t : Told) (shown : List Shown) → told_by t (record_of (other side) 1 (map (shown_at side 1) shown)) ≡ t
-shown_untold side t [] = refl
-shown_untold Left t (i ∷ shown) = shown_untold Left t shown
-shown_untold Right t (i ∷ shown) = shown_untold Right t shown
+-- a call that was answered, to the side that made it
+abbrev pub told_of_call : Told → Call → Option CallError → Told
+told_of_call t c None = told_call t c
+told_of_call t c (Some e) = t
+
+-- entries of one side and one reference, which ask for no connection, and what the record of that side then tells
+pub record Reports (side : Side) (r : ℕ) (es : List Entry) (f : Told → Told) : Type 0 where
+  pub apart : (d : Side) (k : ℕ) → (is_side d side && (r == k)) ≡ false → record_of d k es ≡ []
+  pub tells : (t : Told) → told_by t (record_of side r es) ≡ f t
+  pub asks : offers_in es ≡ []
+
+nothing_reports : (side : Side) (r : ℕ) → Reports side r [] (λ t. t)
+nothing_reports side r = record { apart = λ d k n. refl; tells = λ t. refl; asks = refl }
+
+pub call_reports : (side : Side) (r : ℕ) (c : Call) (e : Option CallError)
+    → Reports side r (call_answered side r c e ∷ []) (λ t. told_of_call t c e)
+call_reports side r c e = grind (arith, own_entry)
+
+pub shown_reports : (side : Side) (r : ℕ) (shown : List Shown) → Reports side r (map (shown_at side r) shown) (λ t. told_all t shown)
+shown_reports side r [] = nothing_reports side r
+shown_reports side r (i ∷ shown) = grind (arith, own_entry, shown_reports side r shown)
 
 -- ---- a call
 
 pub answer_tells : SessionLaws → (w : Core) (c : Call) (a : Answer) (t : Told) → stays_in_core c ≡ true → allowed w.own.session c ≡ a
-    → Stands w → Tells t w.own.session w.own.view w.own.said w.own.got
-    → Tells (told_answer t c true (error_of a)) (answered w c a).own.session (answered w c a).own.view (answered w c a).own.said
-    (answered w c a).own.got
+    → Stands w → TellsOf t w.own → TellsOf (told_of_call t c (error_of a)) (answered w c a).own
 answer_tells laws w c (Ok g) t k e s h =
     let q = laws.passed w.own.session c g e in
     subst (λ (r : Granted). Tells (told_call t c) r.next (view_called w.own.session c w.own.view)
@@ -215,20 +220,18 @@ answer_tells laws w c (Ok g) t k e s h =
     (λ o. let z = s.consistent.own.fresh o in (z.view, z.said, z.got)) h)
 answer_tells laws w c (Err d) t k e s h = h
 
-called_tells : SessionLaws → (w : Core) (c : Call) (t : Told) → Stands w → Tells t w.own.session w.own.view w.own.said w.own.got
-    → Tells (told_answer t c (stays_in_core c) (error_of (allowed w.own.session c))) (called w c).own.session (called w c).own.view
-    (called w c).own.said (called w c).own.got
+called_tells : SessionLaws → (w : Core) (c : Call) (t : Told) → Stands w → TellsOf t w.own
+    → TellsOf (if stays_in_core c then told_of_call t c (error_of (allowed w.own.session c)) else t) (called w c).own
 called_tells laws w c t s h = by_test (stays_in_core c) (λ k. rw k (answer_tells laws w c (allowed w.own.session c) t k refl s h))
     (λ k. rw k h)
 
-called_peer : (w : Core) (c : Call) (t : Told) → Tells t w.peer.session w.peer.view w.peer.said w.peer.got
-    → Tells t (called w c).peer.session (called w c).peer.view (called w c).peer.said (called w c).peer.got
+called_peer : (w : Core) (c : Call) (t : Told) → TellsOf t w.peer → TellsOf t (called w c).peer
 called_peer w c t h = grind (arith, Tells)
 
 -- ---- a unit that is taken
 
 -- the indications of the first of these units
-abbrev shown_of : Core → List Meaning → List Shown
+abbrev pub shown_of : Core → List Meaning → List Shown
 shown_of w [] = []
 shown_of w (u ∷ us) = (respond_unit w.own.session u).shown
 
@@ -236,59 +239,67 @@ abbrev Wanted : Core → Meaning → Told → Outcome → Bool → Type 0
 Wanted w u t o a = Tells (told_all t o.shown) o.next (if a then seen w.own.session u w.own.view else w.own.view) w.own.said
     (if a then w.own.got ++ got_in w.own.session u else w.own.got)
 
-pub taken_tells : (w : Core) (us : List Meaning) (t : Told) → w.peer.sent ≡ us → Stands w
-    → Tells t w.own.session w.own.view w.own.said w.own.got
-    → (shown : List Shown) → shown_of w us ≡ shown
-    → Tells (told_all t shown) (taking w us).own.session (taking w us).own.view (taking w us).own.said (taking w us).own.got
-taken_tells w [] t e s h shown k = subst (λ (i : List Shown). Tells (told_all t i) w.own.session w.own.view w.own.said w.own.got) k h
-taken_tells w (u ∷ us) t e s h shown k =
+pub taken_tells : (w : Core) (us : List Meaning) (t : Told) → w.peer.sent ≡ us → Stands w → TellsOf t w.own
+    → TellsOf (told_all t (shown_of w us)) (taking w us).own
+taken_tells w [] t e s h = h
+taken_tells w (u ∷ us) t e s h =
     let f : AllFit w.own.session (u ∷ us) = (stands_at w (u ∷ us) e s).own.fits in
     let lives : is_over w.own.session.phase ≡ false = alive w.owner w.own w.peer s.own in
     let same : respond_unit w.own.session u ≡ (if drops w.own.session u then nothing w.own.session else good w.own.session u) =
     no_fault w.own.session u lives f.0 in
     let acts : is_acted_on w.own.session u ≡ not (drops w.own.session u) = fit_acts w.own.session u lives f.0 in
-    subst (λ (i : List Shown). Tells (told_all t i) (taking w (u ∷ us)).own.session (taking w (u ∷ us)).own.view
-    (taking w (u ∷ us)).own.said (taking w (u ∷ us)).own.got) k (by_test (drops w.own.session u)
+    by_test (drops w.own.session u)
     (grind (arith, respond_unit))
     (λ d. subst (Wanted w u t (respond_unit w.own.session u)) (sym (acts ∙ ap not d))
     (subst (λ (o : Outcome). Wanted w u t o true)
     (sym (same ∙ ap (λ (b : Bool). if b then nothing w.own.session else good w.own.session u) d))
     (unit_tells t w.own.session u w.own.view w.own.said w.own.got f.0.plain (f.0.good d)
-    (λ o. let z = s.consistent.own.fresh o in (z.view, z.said, z.got)) h))))
+    (λ o. let z = s.consistent.own.fresh o in (z.view, z.said, z.got)) h)))
 
-taken_peer : (w : Core) (us : List Meaning) (t : Told) → Tells t w.peer.session w.peer.view w.peer.said w.peer.got
-    → Tells t (taking w us).peer.session (taking w us).peer.view (taking w us).peer.said (taking w us).peer.got
+taken_peer : (w : Core) (us : List Meaning) (t : Told) → TellsOf t w.peer → TellsOf t (taking w us).peer
 taken_peer w us t h = grind arith
 
 -- ---- a step
 
-record TellBoth (w : Core) (at_left at_right : Told) : Type 0 where
-  left : Tells at_left w.own.session w.own.view w.own.said w.own.got
-  right : Tells at_right w.peer.session w.peer.view w.peer.said w.peer.got
+abbrev TellBoth : Core → Told → Told → Type 0
+TellBoth w left right = TellsOf left w.own × TellsOf right w.peer
 
-take_told : (side : Side) (t : Told) (w : Core) (us : List Meaning)
-    → told_by t (record_of side 1 (take_entries side w.own.session us)) ≡ told_all t (shown_of w us)
-take_told side t w us = grind (arith, shown_told)
+entries_of_call : (side : Side) (s : State) (c : Call)
+    → Reports side 1 (call_entries side s c) (λ t. if stays_in_core c then told_of_call t c (error_of (allowed s c)) else t)
+entries_of_call side s c = grind (arith, call_reports, nothing_reports)
 
-take_untold : (side : Side) (t : Told) (s : State) (us : List Meaning) → told_by t (record_of (other side) 1 (take_entries side s us)) ≡ t
-take_untold side t s us = grind (arith, shown_untold)
+entries_of_take : (side : Side) (w : Core) (us : List Meaning)
+    → Reports side 1 (take_entries side w.own.session us) (λ t. told_all t (shown_of w us))
+entries_of_take side w [] = nothing_reports side 1
+entries_of_take side w (u ∷ us) = shown_reports side 1 (respond_unit w.own.session u).shown
+
+-- of the side that acts, and of the other
+acting_tells : (side : Side) (es : List Entry) (f : Told → Told) (x y : Party) (own peer : Told) → Reports side 1 es f → TellsOf (f own) x
+    → TellsOf peer y → TellsOf (told_by own (record_of side 1 es)) x × TellsOf (told_by peer (record_of (other side) 1 es)) y
+acting_tells side es f x y own peer r h k = (
+  subst (λ (t : Told). TellsOf t x) (sym (r.tells own)) h,
+  subst (λ (l : List Entry). TellsOf (told_by peer l) y) (sym (r.apart (other side) 1 (other_side side true))) k,
+)
 
 step_tells : SessionLaws → (w : Core) (step : CoreStep) (left right : Told) → Stands w → TellBoth w left right
     → TellBoth (core_step w step) (told_by left (record_of Left 1 (core_entries w step)))
     (told_by right (record_of Right 1 (core_entries w step)))
-step_tells laws w (call_at Left c) left right s h = search (arith, call_told, called_tells, call_untold, called_peer)
+step_tells laws w (call_at Left c) left right s h = acting_tells Left _ _ (called w c).own (called w c).peer left right
+    (entries_of_call Left w.own.session c)
+    (called_tells laws w c left s h.0) (called_peer w c right h.1)
 step_tells laws w (call_at Right c) left right s h =
-    record {
-      left = grind (arith, call_untold Right left w.peer.session c, called_peer (turned w) c left h.left);
-      right = subst (λ (t : Told). Tells t (called (turned w) c).own.session (called (turned w) c).own.view (called (turned w) c).own.said
-          (called (turned w) c).own.got) (sym (call_told Right right w.peer.session c))
-          (called_tells laws (turned w) c right (turned_stands w s) h.right);
-    }
-step_tells laws w (take_at Left) left right s h = search (Tells, take_told, taken_tells, take_untold, taken_peer)
-step_tells laws w (take_at Right) left right s h = record {
-  left = grind (arith, take_untold, taken_peer);
-  right = search (arith, taken_tells, take_told Right right (turned w) w.own.sent, turned_stands w s);
-}
+    let v = turned w in
+    let k = acting_tells Right _ _ (called v c).own (called v c).peer right left (entries_of_call Right v.own.session c)
+    (called_tells laws v c right (turned_stands w s) h.1) (called_peer v c left h.0) in
+    (k.1, k.0)
+step_tells laws w (take_at Left) left right s h = acting_tells Left _ _ (takes w).own (takes w).peer left right
+    (entries_of_take Left w w.peer.sent)
+    (taken_tells w w.peer.sent left refl s h.0) (taken_peer w w.peer.sent right h.1)
+step_tells laws w (take_at Right) left right s h =
+    let v = turned w in
+    let k = acting_tells Right _ _ (takes v).own (takes v).peer right left (entries_of_take Right v v.peer.sent)
+    (taken_tells v v.peer.sent right refl (turned_stands w s) h.1) (taken_peer v v.peer.sent left h.0) in
+    (k.1, k.0)
 
 -- ---- a list of steps
 
@@ -302,7 +313,7 @@ run_tells laws w (step ∷ steps) left right small s h =
     let more = run_tells laws (core_step w step) steps (told_by left (record_of Left 1 (core_entries w step)))
     (told_by right (record_of Right 1 (core_entries w step)))
     small.1 (step_stands laws w step small.0 s) one in
-    search (Tells, record_append, told_append)
+    search (record_append, told_append)
 
 starts_told : (o : Offer) → TellBoth (core_start o) (untold Left o) (untold Right o)
 starts_told o = grind arith

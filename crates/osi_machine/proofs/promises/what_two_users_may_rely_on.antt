@@ -1,22 +1,22 @@
 -- What two users may rely on, from the invariant of both sides.
 -- For the laws of the core, and for those of the machine.
-use Rattle.std.proofs.Common.{◌≡◌, refl, sym, ◌∙◌, ap, subst, ℕ, zero, suc, ◌+◌, ◌-◌, ◌≤◌, ◌<◌, Bool, true, false, not, List, [], ◌∷◌, ◌++◌}
-use Rattle.std.proofs.Common.{length, length-append, inl, inr, append_assoc, arith}
 use Rattle.osi_machine.proofs.Vocabulary.{append-nil, is_profile, State, Numbers, Meaning, DT, MIP, MAP, FunctionalUnits, is_restarting}
 use Rattle.osi_machine.proofs.Vocabulary.{Item, Octets, Point, PointKind, points, upto, AreNumberedFrom, Begins, Agree, is_acted_on, seen}
 use Rattle.osi_machine.proofs.Vocabulary.{cut_by, data_of, Offer, CanBeOffered, Party, Core, taking, core_start, is_opening, IsReached}
 use Rattle.osi_machine.proofs.Vocabulary.{OneHolder, HoldsItsOwn, TakesNoFault, SeesTheHistory, ViewsAgree, GotWhatWasSaid}
-use Rattle.osi_machine.proofs.Vocabulary.{TakesTheNextItem, ConfirmedIsSeen}
+use Rattle.osi_machine.proofs.Vocabulary.{TakesTheNextItem, ConfirmedIsSeen, OfBoth, ◌≡◌, refl, sym, ◌∙◌, ap, subst, ℕ, zero, suc, ◌+◌, ◌-◌}
+use Rattle.osi_machine.proofs.Vocabulary.{◌≤◌, ◌<◌, true, not, List, [], ◌∷◌, ◌++◌, length, inl, inr, append_assoc, arith}
+use Rattle.osi_machine.specs.Core.{turned}
 use Rattle.osi_machine.proofs.basics.what_holds_in_each_phase.{by_test}
 use Rattle.osi_machine.proofs.channels.a_unit_is_dropped_bad_or_acted_on.{next_hears}
 use Rattle.osi_machine.proofs.channels.what_every_unit_in_flight_keeps.{kept_heard}
 use Rattle.osi_machine.proofs.channels.a_held_token_keeps_units_out.{flush_open, heard_open}
-use Rattle.osi_machine.proofs.channels.what_a_side_will_have_seen.{begins_points, heard_grown, listener_begins, begins_twice}
+use Rattle.osi_machine.proofs.channels.what_a_side_will_have_seen.{heard_grown, listener_begins, begins_twice}
 use Rattle.osi_machine.proofs.invariant.what_holds_of_both_sides.{hearing, Views, Stands, profile_of, profile_data}
 use Rattle.osi_machine.proofs.invariant.each_step_keeps_one_side.{SessionLaws}
 use Rattle.osi_machine.proofs.invariant.no_side_is_over.{first_is_no_fault}
 use Rattle.osi_machine.proofs.calls.a_unit_that_changes_no_state.{said_seen}
-use Rattle.osi_machine.proofs.each_step_keeps_both_sides.{taking_stands, run_stands}
+use Rattle.osi_machine.proofs.each_step_keeps_both_sides.{taking_stands, run_stands, turned_stands}
 
 -- ---- the invariant holds of each connection that is reached
 
@@ -25,6 +25,10 @@ offer_stands o serial profile = grind (arith, profile_of, profile_data)
 
 pub reached_stands : SessionLaws → (w : Core) → IsReached w → Stands w
 reached_stands laws w r = grind (arith, run_stands, offer_stands)
+
+-- what then holds of one side holds of both
+pub of_both : SessionLaws → (P : Core → Type 0) → ((w : Core) → Stands w → P w) → (w : Core) → IsReached w → OfBoth P w
+of_both laws P all w r = let s = reached_stands laws w r in (all w s, all (turned w) (turned_stands w s))
 
 -- ---- tokens
 
@@ -104,71 +108,45 @@ numbered_at b [] n kind octets more a = let e = a.0 in omega arith
 numbered_at b (Octets o ∷ before) n kind octets more a = numbered_at b before n kind octets more a
 numbered_at b (Point m k o ∷ before) n kind octets more a = let e = numbered_at (b + 1) before n kind octets more a.1 in omega arith
 
--- what is shorter has no more points
-fewer_points : (v : List Item) (j : Item) (m before : List Item) (i : Item) → v ++ j ∷ m ≡ before ++ i ∷ [] → points v ≤ points before
-fewer_points v j m before i e = elim (agree_of v before (j ∷ m) (i ∷ []) e) [
-  | inl p ↦ begins_points v before p
-  | inr p ↦ by p.0 p.1
-]
-  where
-    same : length v + length (j ∷ m) ≡ length before + 1
-    same = sym (length-append v (j ∷ m)) ∙ ap length e ∙ length-append before (i ∷ [])
-
-    by : (r : List Item) → before ++ r ≡ v → points v ≤ points before
-    by [] q = let a = ap points (sym (append-nil before) ∙ q) in omega arith
-    by (x ∷ r) q =
-        let a = sym (length-append before (x ∷ r)) ∙ ap length q in
-        let b = same in
-        absurd (omega arith)
-
-seen_there : (b n : ℕ) (before : List Item) (kind : PointKind) (octets : List ℕ) (v h : List Item) → AreNumberedFrom b h
-    → Begins (before ++ Point n kind octets ∷ []) h
-    → Begins v h → n < b + points v → Begins (before ++ Point n kind octets ∷ []) v
-seen_there b n before kind octets v h a p q l = elim (begins_agree (before ++ Point n kind octets ∷ []) v h p q) [
-  | inl r ↦ r
-  | inr r ↦ by r.0 r.1
-]
-  where
-    number : n ≡ b + points before
-    number = numbered_at b before n kind octets p.0
-        (subst (AreNumberedFrom b) (sym p.1 ∙ append_assoc before (Point n kind octets ∷ []) p.0) a)
-
-    by : (m : List Item) → v ++ m ≡ before ++ Point n kind octets ∷ [] → Begins (before ++ Point n kind octets ∷ []) v
-    by [] e = ([], append-nil (before ++ Point n kind octets ∷ []) ∙ sym e ∙ append-nil v)
-    by (j ∷ m) e =
-        let f = fewer_points v j m before (Point n kind octets) e in
-        let k = number in
-        absurd (omega arith)
+-- a point of the history with a number below what was seen is in what was seen
+seen_there : (b n : ℕ) (before : List Item) (kind : PointKind) (octets : List ℕ) (v more rest : List Item)
+    → AreNumberedFrom b (before ++ Point n kind octets ∷ more)
+    → v ++ rest ≡ before ++ Point n kind octets ∷ more → n < b + points v → Begins (before ++ Point n kind octets ∷ []) v
+seen_there b n before kind octets [] more rest a e l = absurd (let k = numbered_at b before n kind octets more a in omega arith)
+seen_there b n [] kind octets (x ∷ v) more rest a e l =
+    let same : Point n kind octets ≡ x = cc in
+    (v, ap (λ (i : Item). i ∷ v) same)
+seen_there b n (Octets o ∷ before) kind octets (Octets p ∷ v) more rest a e l =
+    let same : Octets o ≡ Octets p = cc in
+    let k = seen_there b n before kind octets v more rest a (cc) l in
+    (k.0, ap (λ (is : List Item). Octets o ∷ is) k.1 ∙ ap (λ (i : Item). i ∷ v) same)
+seen_there b n (Point m j o ∷ before) kind octets (Point q d p ∷ v) more rest a e l =
+    let same : Point m j o ≡ Point q d p = cc in
+    let k = seen_there (b + 1) n before kind octets v more rest a.1 (cc) (omega arith) in
+    (k.0, ap (λ (is : List Item). Point m j o ∷ is) k.1 ∙ ap (λ (i : Item). i ∷ v) same)
+seen_there b n _ kind octets (x ∷ v) more rest a e l = absurd (cc)
 
 pub none_in_nil : (before : List Item) (i : Item) → Begins (before ++ i ∷ []) [] → ⊥
 none_in_nil [] i b = let e = ap length b.1 in omega arith
 none_in_nil (j ∷ before) i b = let e = ap length b.1 in omega arith
 
 pub confirmed_is_seen : (w : Core) → Stands w → ConfirmedIsSeen w
-confirmed_is_seen w s before n kind octets b l r = by (is_opening w.own.session.phase) (is_opening w.peer.session.phase) refl refl
-  where
-    by : (p q : Bool) → is_opening w.own.session.phase ≡ p → is_opening w.peer.session.phase ≡ q
-        → Begins (before ++ Point n kind octets ∷ []) w.peer.view
-    by true q e f = absurd (grind (arith, none_in_nil))
-    by false q e f =
-        let begun = flush_open w.own.session w.peer.sent e s.own.fits in
-        let all = begins_twice (before ++ Point n kind octets ∷ []) w.own.view w.history b (sees_the_history w s) in
-        let number = numbered_at w.own.session.base before n kind octets all.0
-        (grind (arith, append_assoc)) in
-        let grown = heard_grown w.own.session.numbers.confirmed w.own.session w.peer.sent
-        (record { phase = e; from = omega arith; to = s.consistent.own.sound.ordered.confirmed_to }) s.own.fits in
-        let base = (heard_open w.own.session w.peer.sent e s.own.fits).base in
-        let hears = kept_heard (λ (k : State). not (is_restarting k.phase) ≡ true) (λ k u p g. next_hears k u p) w.peer.session w.own.sent
-        (ap not r) s.peer.fits in
-        let below = s.own_counts.below hears n (subst (λ (k : ℕ). k ≤ n) (sym base) (omega arith)) (omega arith) in
-        there q f below all
-      where
-        there : (q : Bool) → is_opening w.peer.session.phase ≡ q → n < w.peer.session.numbers.next
-            → Begins (before ++ Point n kind octets ∷ []) w.history
-            → Begins (before ++ Point n kind octets ∷ []) w.peer.view
-        there true f k all = absurd (let z = ap (λ (v : Numbers). v.next) (s.consistent.peer.fresh f).numbers in omega arith)
-        there false f k all =
-            let base = sym (flush_open w.peer.session w.own.sent f s.peer.fits).base ∙ s.peer.meeting.base in
-            let p = subst (λ (m : ℕ). AreNumberedFrom m w.history) (sym base) s.pair.numbered in
-            seen_there w.peer.session.base n before kind octets w.peer.view w.history p all
-            (view_begins w.history w.peer w.own s.peer_views) (omega arith)
+confirmed_is_seen w s before n kind octets b l r = by_test (is_opening w.own.session.phase)
+    (λ e. absurd (grind (arith, none_in_nil)))
+    (λ e. let begun = flush_open w.own.session w.peer.sent e s.own.fits in
+    let all = begins_twice (before ++ Point n kind octets ∷ []) w.own.view w.history b (sees_the_history w s) in
+    let number = numbered_at w.own.session.base before n kind octets all.0 (grind (arith, append_assoc)) in
+    let grown = heard_grown w.own.session.numbers.confirmed w.own.session w.peer.sent
+    (record { phase = e; from = omega arith; to = s.consistent.own.sound.ordered.confirmed_to }) s.own.fits in
+    let base = (heard_open w.own.session w.peer.sent e s.own.fits).base in
+    let hears = kept_heard (λ (k : State). not (is_restarting k.phase) ≡ true) (λ k u p g. next_hears k u p) w.peer.session w.own.sent
+    (ap not r) s.peer.fits in
+    let below = s.own_counts.below hears n (subst (λ (k : ℕ). k ≤ n) (sym base) (omega arith)) (omega arith) in
+    by_test (is_opening w.peer.session.phase)
+    (λ f. absurd (let z = ap (λ (v : Numbers). v.next) (s.consistent.peer.fresh f).numbers in omega arith))
+    (λ f. let there = sym (flush_open w.peer.session w.own.sent f s.peer.fits).base ∙ s.peer.meeting.base in
+    let p = subst (λ (m : ℕ). AreNumberedFrom m w.history) (sym there) s.pair.numbered in
+    let seen = view_begins w.history w.peer w.own s.peer_views in
+    let whole = append_assoc before (Point n kind octets ∷ []) all.0 in
+    seen_there w.peer.session.base n before kind octets w.peer.view all.0 seen.0
+    (subst (AreNumberedFrom w.peer.session.base) (sym all.1 ∙ whole) p) (seen.1 ∙ sym all.1 ∙ whole) (omega arith)))

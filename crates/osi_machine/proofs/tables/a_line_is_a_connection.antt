@@ -15,11 +15,11 @@ use Rattle.osi_machine.proofs.calls.a_restart_is_requested.{given_theirs}
 use Rattle.osi_machine.proofs.whole.how_a_core_simulates_a_connection.{is_begun, not_both, stopped}
 use Rattle.osi_machine.proofs.whole.a_call.{own_gone, left_theirs}
 use Rattle.osi_machine.proofs.whole.a_unit_is_taken.{put_nothing}
-use Rattle.osi_machine.proofs.whole.every_step_is_simulated.{Repeats}
+use Rattle.osi_machine.proofs.whole.every_step_is_simulated.{Repeats, call_followed, take_unit}
 use Rattle.osi_machine.proofs.whole.before_it_is_agreed_to.{Refuses}
 use Rattle.osi_machine.proofs.whole.every_stage_of_a_connection.{turned_back}
-use Rattle.osi_machine.proofs.tables.each_side_has_the_same_session.{state_from, Disowned, owned_none, owned_as, called_disowned}
-use Rattle.osi_machine.proofs.tables.each_side_has_the_same_session.{taken_disowned, Followed, call_followed, unit_followed}
+use Rattle.osi_machine.proofs.whole.each_side_has_the_same_session.{state_from, Disowned, owned_none, owned_as, called_disowned}
+use Rattle.osi_machine.proofs.whole.each_side_has_the_same_session.{taken_disowned, Followed}
 use Rattle.osi_machine.specs.Tables as tables
 
 -- ---- a connection as tables; a and b are the CNs that may wait
@@ -122,7 +122,7 @@ module _ (broken : Bool) (w : World) (a b : Option Meaning) where
           record {
             first = a;
             second = b;
-            same = accepted_call c g e (call_followed laws broken w t u h c g small s.peer.disowned e);
+            same = accepted_call c g e (call_followed broken w t u h laws s.peer.disowned c g small e);
             seated = grind (arith, begun_seated);
           }
       by (Err e) q = record { first = a; second = b; same = refused_call c e q; seated = s }
@@ -149,8 +149,8 @@ module _ (broken : Bool) (w : World) (a b : Option Meaning) where
         arith,
         begun_seated,
         taken_disowned broken (session_of w) m (without_first w ms) s.peer.disowned,
-        unit_turn says ms m l (unit_followed laws broken w t u h m ms e s.own.disowned s.peer.disowned),
-        unit_followed laws broken w t u h m ms e s.own.disowned s.peer.disowned,
+        unit_turn says ms m l ((take_unit broken w t u h laws m ms e).followed s.own.disowned s.peer.disowned),
+        (take_unit broken w t u h laws m ms e).followed s.own.disowned s.peer.disowned,
       )
 
   -- ---- the other has asked

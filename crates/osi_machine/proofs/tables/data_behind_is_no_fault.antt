@@ -1,18 +1,19 @@
 -- Data anywhere in flight to a side is no fault there; a side whose transport connection closes is over.
 -- For the laws `data_is_no_fault_behind`, `the_next_is_no_fault` and `who_is_left_is_over`.
-use Rattle.std.proofs.Common.{◌≡◌, refl, sym, ◌∙◌, ap, subst, ℕ, Bool, true, false, List, [], ◌∷◌, ◌++◌, map, None, Ok, Err, ◌⊎◌, inl, inr}
-use Rattle.std.proofs.Common.{append_assoc, arith}
-use Rattle.osi_session.specs.Moves.{answered as answered_move}
-use Rattle.osi_machine.specs.Calm.{left_by, after_calls, after_message, IsCalm, StaysCalm, IsNoFaultBehind}
 use Rattle.osi_machine.proofs.Vocabulary.{cases_Bool, AllByRecursion, list_any, Input, called, taken, Standing, react, verdict, is_faulty}
 use Rattle.osi_machine.proofs.Vocabulary.{respond_all, acting, said_of, State, Meaning, DT, Call, HasSerial, CallError, Granted, Answer}
-use Rattle.osi_machine.proofs.Vocabulary.{Outcome, allowed, is_over, respond_unit, Core, stays_in_core, Message, unit, ask, agree, deny}
-use Rattle.osi_machine.proofs.Vocabulary.{bye, over, World, session_of, Told, Tables, IsTableRun, AtEachSide, IsNoFaultNext, is_leaving}
-use Rattle.osi_machine.proofs.Vocabulary.{IsOverWhenLeft}
+use Rattle.osi_machine.proofs.Vocabulary.{Outcome, allowed, is_over, respond_unit, Core, stays_in_core, Message, unit, World, session_of}
+use Rattle.osi_machine.proofs.Vocabulary.{Told, Tables, IsTableRun, AtEachSide, IsNoFaultNext, is_leaving, Side, Machine, IsOverWhenLeft}
+use Rattle.osi_machine.proofs.Vocabulary.{◌≡◌, refl, sym, ◌∙◌, ap, subst, ℕ, Bool, true, false, List, [], ◌∷◌, ◌++◌, map, None, Ok, Err}
+use Rattle.osi_machine.proofs.Vocabulary.{◌⊎◌, inl, inr, arith, after_calls, after_message, IsCalm, StaysCalm, IsNoFaultBehind}
+use Rattle.osi_machine.proofs.Vocabulary.{list_any-append}
+use Rattle.osi_session.specs.Moves.{answered as answered_move}
+use Rattle.osi_machine.specs.Calm.{left_by}
 use Rattle.osi_machine.proofs.invariant.what_holds_of_both_sides.{Stands}
 use Rattle.osi_machine.proofs.invariant.each_step_keeps_one_side.{SessionLaws}
 use Rattle.osi_machine.proofs.each_step_keeps_both_sides.{called_stands, taking_stands}
 use Rattle.osi_machine.proofs.whole.how_a_core_simulates_a_connection.{IsTail, Carried, session_is, not_both}
+use Rattle.osi_machine.proofs.whole.a_close_a_break_and_an_end.{is_unit}
 use Rattle.osi_machine.proofs.whole.a_call.{stop_over}
 use Rattle.osi_machine.proofs.whole.a_unit_is_taken.{over_next}
 use Rattle.osi_machine.proofs.whole.every_step_is_simulated.{refused}
@@ -122,78 +123,47 @@ one_unit laws says s u sent (inr h) = grind (arith, respond_unit, said says s u,
 no_fault_first : (s : State) (octets : List ℕ) (rest : List Meaning) → Lives s (DT octets ∷ rest) → IsCalm s
 no_fault_first s octets rest h3 x = grind arith
 
-calm_behind : SessionLaws → SaysItsUnit → (s : State) (us : List Meaning) (octets : List ℕ) (rest : List Meaning)
-    → Lives s (us ++ DT octets ∷ rest) → StaysCalm s (map unit us)
-calm_behind laws says s [] octets rest h = λ calls small. no_fault_first (after_calls s calls) octets rest
-    (all_calls laws s calls (DT octets ∷ rest) small h)
-calm_behind laws says s (u ∷ us) octets rest h = λ calls small.
-    calm_behind laws says (left_by (after_calls s calls) (taken (said_of u))) us octets rest
-    (one_unit laws says (after_calls s calls) u (us ++ DT octets ∷ rest) (all_calls laws s calls (u ∷ (us ++ DT octets ∷ rest)) small h))
-
 -- ---- what is in flight
-
--- the units ahead of the data, if it is in flight in the other connection too
-record Ahead (ms : List Message) (octets : List ℕ) (there : List Meaning) : Type 0 where
-  units : List Meaning
-  rest : List Meaning
-  ahead : ms ≡ map unit units
-  splits : there ≡ units ++ DT octets ∷ rest
 
 no_data_last : (b : Bool) (s : State) (lost tail : List Meaning) (ms : List Message) (octets : List ℕ) (rest : List Message)
     → IsTail b s lost tail → ms ++ unit (DT octets) ∷ rest ≡ map unit tail → ⊥
-no_data_last b s lost [] [] octets rest t e = cc
-no_data_last b s lost [] (m ∷ ms) octets rest t e = cc
 no_data_last b s lost (DT x ∷ []) [] octets rest t e = t.2
-no_data_last b s lost (u ∷ []) [] octets rest t e = cc
-no_data_last b s lost (u ∷ []) (m ∷ []) octets rest t e = cc
 no_data_last b s lost (u ∷ []) (m ∷ (n ∷ ms)) octets rest t e = cc
 no_data_last b s lost (u ∷ (v ∷ us)) ms octets rest t e = t
+no_data_last b s lost _ [] octets rest t e = cc
+no_data_last b s lost _ (m ∷ _) octets rest t e = cc
 
-one_more : (u : Meaning) (m : Message) (ms : List Message) (octets : List ℕ) (there : List Meaning) → m ≡ unit u → Ahead ms octets there
-    → Ahead (m ∷ ms) octets (u ∷ there)
-one_more u m ms octets there e h = record {
-  units = u ∷ h.units;
-  rest = h.rest;
-  ahead = λ i. e i ∷ h.ahead i;
-  splits = ap (λ (l : List Meaning). u ∷ l) h.splits;
-}
-
-ahead_of : (b : Bool) (s : State) (lost there tail : List Meaning) (ms : List Message) (octets : List ℕ) (rest : List Message)
-    → IsTail b s lost tail → ms ++ unit (DT octets) ∷ rest ≡ map unit (there ++ tail) →
-    Ahead ms octets there
-ahead_of b s lost [] tail ms octets rest t e = absurd (no_data_last b s lost tail ms octets rest t e)
-ahead_of b s lost (u ∷ there) tail [] octets rest t e =
-    let same : DT octets ≡ u = cc in
-    record { units = []; rest = there; ahead = refl; splits = (ap (λ (v : Meaning). v ∷ there) (sym same)) }
-ahead_of b s lost (u ∷ there) tail (m ∷ ms) octets rest t e =
-    let one : m ≡ unit u = cc in
+-- the units ahead of the data are in flight in the other connection too, and so is the data
+calm_behind : SessionLaws → SaysItsUnit → (b : Bool) (p s : State) (there lost tail : List Meaning) (ms : List Message) (octets : List ℕ)
+    (rest : List Message) → IsTail b p lost tail → Lives s (there ++ lost) → ms ++ unit (DT octets) ∷ rest ≡ map unit (there ++ tail)
+    → StaysCalm s ms
+calm_behind laws says b p s [] lost tail ms octets rest t h e = absurd (no_data_last b p lost tail ms octets rest t e)
+calm_behind laws says b p s (u ∷ there) lost tail [] octets rest t h e = λ calls small.
+    let same : u ≡ DT octets = cc in
+    no_fault_first (after_calls s calls) octets (there ++ lost)
+    (subst (λ (v : Meaning). Lives (after_calls s calls) (v ∷ (there ++ lost))) same (all_calls laws s calls (u ∷ (there ++ lost)) small h))
+calm_behind laws says b p s (u ∷ there) lost tail (m ∷ ms) octets rest t h e = λ calls small.
+    let one : unit u ≡ m = cc in
     let more : ms ++ unit (DT octets) ∷ rest ≡ map unit (there ++ tail) = cc in
-    one_more u m ms octets there one (ahead_of b s lost there tail ms octets rest t more)
+    subst (λ (x : Message). StaysCalm (after_message (after_calls s calls) x) ms) one
+    (calm_behind laws says b p (left_by (after_calls s calls) (taken (said_of u))) there lost tail ms octets rest t
+    (one_unit laws says (after_calls s calls) u (there ++ lost) (all_calls laws s calls (u ∷ (there ++ lost)) small h)) more)
 
 carried_calm : SessionLaws → SaysItsUnit → (b o : Bool) (c : Core) (ch ms : List Message) (octets : List ℕ) (rest : List Message) → Stands c
     → Carried b o ch c.peer.sent c.peer.session → ch ≡ ms ++ unit (DT octets) ∷ rest → StaysCalm c.own.session ms
 carried_calm laws says b o c ch ms octets rest stands k e =
-    let h = ahead_of o c.peer.session k.lost k.there k.tail ms octets rest k.last (sym e ∙ k.carries) in
-    subst (StaysCalm c.own.session) (sym h.ahead)
-    (calm_behind laws says c.own.session h.units octets (h.rest ++ k.lost) (inr (grind (arith, append_assoc))))
+    calm_behind laws says o c.peer.session c.own.session k.there k.lost k.tail ms octets rest k.last
+    (inr (record { core = c; stands = stands; is = refl; way = sym k.splits })) (sym e ∙ k.carries)
 
 -- ---- at every step
 
-abbrev is_unit : Message → Bool
-is_unit (unit u) = true
-is_unit m = false
-
 has_unit : (ms : List Message) (u : Meaning) (rest : List Message) → list_any is_unit (ms ++ unit u ∷ rest) ≡ true
-has_unit (ask ∷ ms) u rest = has_unit ms u rest
-has_unit (agree ∷ ms) u rest = has_unit ms u rest
-has_unit (deny r ∷ ms) u rest = has_unit ms u rest
-has_unit (bye r ∷ ms) u rest = has_unit ms u rest
-has_unit (over ∷ ms) u rest = has_unit ms u rest
-has_unit _ u rest = refl
+has_unit ms u rest = grind (arith, list_any-append)
 
-no_fault_behind : SessionLaws → SaysItsUnit → (b : Bool) (w : World) (t u : Told) → Stage b w t u
+no_fault_behind : SessionLaws → SaysItsUnit → (side : Side) (m : Machine) (w : World) (t u : Told) → Stage side m w t u
     → IsNoFaultBehind (session_of w) w.peer.channel
-no_fault_behind laws says b w t u h6 ms octets rest e = grind (arith, not_both, has_unit, cases_Bool, over_calm, session_is, carried_calm)
+no_fault_behind laws says side m w t u h ms octets rest e =
+    grind (arith, not_both, has_unit, cases_Bool, over_calm, session_is, carried_calm)
 
 pub behind_is_no_fault : SessionLaws → SaysItsUnit → (t : Tables) → IsTableRun t → AtEachSide IsNoFaultBehind t
 behind_is_no_fault laws says = of_stages laws says IsNoFaultBehind (no_fault_behind laws says)

@@ -1,18 +1,18 @@
 -- What the moves of one connection preserve, with the words of both sides, is true at each reference after every list of steps.
--- For what_is_heard_was_said and what_is_in_flight_can_be_sent.
-use Rattle.std.proofs.Common.{◌≡◌, refl, sym, subst, ℕ, zero, suc, ◌+◌, Bool, true, false, not, ◌&&◌, ◌==◌, if◌then◌else◌, List, [], ◌∷◌}
-use Rattle.std.proofs.Common.{◌++◌, append_assoc, map, Option, Some, None, is_some, inl, inr, ◌⊎◌, arith}
+-- For what_one_side_received_the_other_sent and what_is_in_flight_can_be_sent.
+use Rattle.std.proofs.Common.{◌≡◌, refl, sym, subst, ℕ, Bool, true, false, not, ◌&&◌, ◌==◌, if◌then◌else◌, List, [], ◌∷◌}
+use Rattle.std.proofs.Common.{◌++◌, append_assoc, map, Option, Some, None, is_some, arith, option_map}
 use Rattle.osi_machine.specs.Tables.{after_call, message_taken, closed, start, seen_from, side_of, end_of, noted, call_in, closes_by}
 use Rattle.osi_machine.specs.Tables.{without_first, taken_in, delivered_to, cut_channels, step, run, asked_with, turned}
-use Rattle.osi_machine.proofs.Vocabulary.{eqb-true, eq-eqb, append-nil, slice_get, called, react, Meaning, Call, Offer, Side, Left, Right}
+use Rattle.osi_machine.proofs.Vocabulary.{eqb-true, eq-eqb, append-nil, called, react, Meaning, Call, Offer, Side, Left, Right}
 use Rattle.osi_machine.proofs.Vocabulary.{Class, class_2, Message, Transport, Terms, Ending, Step, connects, calls, delivers, breaks, ends}
 use Rattle.osi_machine.proofs.Vocabulary.{shown_at, connection_at, with_connection, is_given, learns, Line, Turn, Tables, ends_there}
 use Rattle.osi_machine.proofs.Vocabulary.{ended_lines, after_turn, cut_line, one_or_none, said_to_first, heard_of_first, said_at_delivery}
-use Rattle.osi_machine.proofs.Vocabulary.{heard_at_delivery, said_at_call, said_at, heard_at, said_in, heard_in, is_long, refusal_by}
-use Rattle.osi_machine.proofs.Vocabulary.{AllByRecursion, said_to, heard_of}
+use Rattle.osi_machine.proofs.Vocabulary.{heard_at_delivery, said_at_call, said_at, heard_at, said_in, heard_in, is_long}
+use Rattle.osi_machine.proofs.Vocabulary.{AllByRecursion, said_to, heard_of, other_side}
 use Rattle.osi_machine.proofs.basics.what_holds_in_each_phase.{by_test}
-use Rattle.osi_machine.proofs.basics.what_stands_at_a_reference.{with_other, with_same, ended_there, cut_there}
-use Rattle.osi_machine.proofs.machine.every_connection_of_a_run.{if_none}
+use Rattle.osi_machine.proofs.basics.what_stands_at_a_reference.{with_other, with_same}
+use Rattle.osi_machine.proofs.machine.every_connection_of_a_run.{passes, mapped_at, new_there}
 
 -- what a side has sent and received
 pub record Words : Type 0 where
@@ -24,6 +24,10 @@ silent = record { said = []; heard = [] }
 
 abbrev pub and_more : Words → List Meaning → List Meaning → Words
 and_more w said heard = record { said = w.said ++ said; heard = w.heard ++ heard }
+
+-- all that a side has sent and received on a connection
+abbrev pub words_in : Side → ℕ → Terms → List Step → Words
+words_in side r terms steps = record { said = said_in side r (start terms) steps; heard = heard_in side r (start terms) steps }
 
 -- a statement about a connection and the words of its two sides
 abbrev pub Claim : Type 1
@@ -52,39 +56,6 @@ quiet x = grind (arith, append-nil)
 not_equal : (q r : ℕ) → (q == r) ≡ false → r ≡ q → ⊥
 not_equal q r e f = absurd (let x = eq-eqb q r (sym f) in cc)
 
-new_got : (k : ℕ) (ls : List Line) (l : Line) → (slice_get (ls ++ l ∷ []) k ≡ slice_get ls k)
-    ⊎ ((slice_get ls k ≡ None) × (slice_get (ls ++ l ∷ []) k ≡ Some l))
-new_got zero [] l = inr (refl, refl)
-new_got (suc k) [] l = inl refl
-new_got zero (x ∷ ls) l = inl refl
-new_got (suc k) (x ∷ ls) l = new_got k ls l
-
-new_there : (r : ℕ) (ls : List Line) (l : Line) → (connection_at r (ls ++ l ∷ []) ≡ connection_at r ls)
-    ⊎ ((connection_at r ls ≡ None) × (connection_at r (ls ++ l ∷ []) ≡ Some l))
-new_there r ls l = grind (arith, new_got)
-
-ended_got_none : (side : Side) (keep : ℕ → ℕ) (k r : ℕ) (ls : List Line) → slice_get ls r ≡ None
-    → slice_get (ended_lines side keep k ls) r ≡ None
-ended_got_none side keep k r [] e = refl
-ended_got_none side keep k zero (x ∷ ls) e = absurd (cc)
-ended_got_none side keep k (suc r) (x ∷ ls) e = ended_got_none side keep (k + 1) r ls e
-
-ended_none : (side : Side) (keep : ℕ → ℕ) (r : ℕ) (ls : List Line) → connection_at r ls ≡ None
-    → connection_at r (ended_lines side keep 1 ls) ≡ None
-ended_none side keep r ls e = grind (arith, ended_got_none)
-
-cut_got_none : (left right : ℕ → ℕ) (k r : ℕ) (ls : List Line) → slice_get ls r ≡ None → slice_get (cut_channels left right k ls) r ≡ None
-cut_got_none left right k r [] e = refl
-cut_got_none left right k zero (x ∷ ls) e = absurd (cc)
-cut_got_none left right k (suc r) (x ∷ ls) e = cut_got_none left right (k + 1) r ls e
-
-cut_none : (left right : ℕ → ℕ) (r : ℕ) (ls : List Line) → connection_at r ls ≡ None → connection_at r (cut_channels left right 1 ls) ≡ None
-cut_none left right r ls e = grind (arith, cut_got_none)
-
-asked_short : (past : Bool) (known : Option Class) (asked : List Transport) (o : Offer) → refusal_by past known asked o ≡ None
-    → is_long o ≡ false
-asked_short past known asked o h = grind (arith, if_none)
-
 one_by_one : (x : Words) (a b c d : List Meaning) → and_more (and_more x a b) c d ≡ and_more x (a ++ c) (b ++ d)
 one_by_one x a b c d = grind (arith, append_assoc)
 
@@ -104,7 +75,7 @@ abbrev pub Knows : Claim → ℕ → Tables → Words → Words → Type 0
 Knows P r t x y = Holds P t.broken x y (connection_at r t.lines)
 
 -- of the tables, with the words of this side first
-abbrev KnowsAt : Claim → Side → ℕ → Tables → Words → Words → Type 0
+abbrev pub KnowsAt : Claim → Side → ℕ → Tables → Words → Words → Type 0
 KnowsAt P side r t x y = HoldsAt P side t.broken x y (connection_at r t.lines)
 
 module _ (P : Claim) (Ok : Step → Type 0) (kept : IsKept P Ok) where
@@ -140,10 +111,16 @@ module _ (P : Claim) (Ok : Step → Type 0) (kept : IsKept P Ok) where
 
   -- ---- the end of a side
 
-  ended_knows : (side : Side) (keep : ℕ → ℕ) (b : Bool) (ls : List Line) (r : ℕ) (x y : Words) (o : Option Line) → connection_at r ls ≡ o
-      → HoldsAt P side b x y o → HoldsAt P side b x y (connection_at r (ended_lines side keep 1 ls))
-  ended_knows side keep b ls r x y None e h = same_holds side b x y None _ (ended_none side keep r ls e) h
-  ended_knows side keep b ls r x y (Some l) e h = grind (arith, same_holds, ended_there side keep r ls l e)
+  ended_knows : (side : Side) (keep : ℕ → ℕ) (b : Bool) (ls : List Line) (r : ℕ) (x y : Words) → HoldsAt P side b x y (connection_at r ls)
+      → HoldsAt P side b x y (connection_at r (ended_lines side keep 1 ls))
+  ended_knows side keep b ls r x y h = same_holds side b x y _ _
+      (mapped_at (ended_lines side keep) (λ k l. seen_from side (ends_there (keep k) (seen_from side l))) (λ k. refl) (λ k l ls. refl) r ls)
+      (by (connection_at r ls) h)
+    where
+      by : (o : Option Line) → HoldsAt P side b x y o
+          → HoldsAt P side b x y (option_map (λ (l : Line). seen_from side (ends_there (keep r) (seen_from side l))) o)
+      by None k = k
+      by (Some l) k = grind arith
 
   -- ---- a delivery
 
@@ -204,10 +181,15 @@ module _ (P : Claim) (Ok : Step → Type 0) (kept : IsKept P Ok) where
 
   -- ---- a break
 
-  cut_knows : (left right : ℕ → ℕ) (b : Bool) (ls : List Line) (r : ℕ) (x y : Words) (o : Option Line) → connection_at r ls ≡ o
-      → Holds P b x y o → Holds P true x y (connection_at r (cut_channels left right 1 ls))
-  cut_knows left right b ls r x y None e h = same_holds Left true x y None _ (cut_none left right r ls e) h
-  cut_knows left right b ls r x y (Some l) e h = grind (arith, same_holds, cut_there left right r ls l e)
+  cut_knows : (left right : ℕ → ℕ) (b : Bool) (ls : List Line) (r : ℕ) (x y : Words) → Holds P b x y (connection_at r ls)
+      → Holds P true x y (connection_at r (cut_channels left right 1 ls))
+  cut_knows left right b ls r x y h = same_holds Left true x y _ _
+      (mapped_at (cut_channels left right) (λ k l. cut_line (left k) (right k) l) (λ k. refl) (λ k l ls. refl) r ls)
+      (by (connection_at r ls) h)
+    where
+      by : (o : Option Line) → Holds P b x y o → Holds P true x y (option_map (λ (l : Line). cut_line (left r) (right r) l) o)
+      by None k = k
+      by (Some l) k = kept.cut b (left r) (right r) l x y k
 
   ends_knows : (t : Tables) (side : Side) (e : Ending) (keep : ℕ → ℕ) (r : ℕ) (x y : Words) → KnowsAt P side r t x y
       → KnowsAt P side r (step t (ends side e keep)) x y
@@ -221,12 +203,12 @@ module _ (P : Claim) (Ok : Step → Type 0) (kept : IsKept P Ok) where
   step_knows : (r : ℕ) (t : Tables) (s : Step) (x y : Words) → Ok s → Knows P r t x y
       → Knows P r (step t s) (and_more x (said_at Left r t s) (heard_at Left r t s))
       (and_more y (said_at Right r t s) (heard_at Right r t s))
-  step_knows r t (connects o) x y small h = both_quiet _ x y _ (grind (arith, new_there, same_holds, asked_short))
+  step_knows r t (connects o) x y small h = both_quiet _ x y _ (grind (arith, new_there, same_holds, passes))
   step_knows r t (calls Left q c) x y small h = quiet_holds Right _ y _ _ (call_knows t Left q r c x y small h)
   step_knows r t (calls Right q c) x y small h = quiet_holds Left _ x _ _ (call_knows t Right q r c y x small h)
   step_knows r t (delivers Left q keep) x y small h = quiet_holds Right _ y _ _ (delivery_knows t Left q r keep x y h)
   step_knows r t (delivers Right q keep) x y small h = quiet_holds Left _ x _ _ (delivery_knows t Right q r keep y x h)
-  step_knows r t (breaks left right) x y small h = both_quiet _ x y _ (grind (arith, cut_knows))
+  step_knows r t (breaks left right) x y small h = both_quiet _ x y _ (grind (arith, cut_knows left right t.broken t.lines r x y h))
   step_knows r t (ends Left e keep) x y small h = both_quiet _ x y _ (ends_knows t Left e keep r x y h)
   step_knows r t (ends Right e keep) x y small h = both_quiet _ x y _ (ends_knows t Right e keep r y x h)
 
@@ -237,8 +219,8 @@ module _ (P : Claim) (Ok : Step → Type 0) (kept : IsKept P Ok) where
   run_knows r t (s ∷ steps) x y small h =
       grind (arith, one_by_one, step_knows, run_knows r (step t s) steps _ _ small.1 (step_knows r t s x y small.0 h))
 
-  pub all_know : (r : ℕ) (terms : Terms) (steps : List Step) → AllByRecursion Ok steps
-      → Knows P r (run (start terms) steps) (record
-      { said = said_in Left r (start terms) steps; heard = heard_in Left r (start terms) steps })
-      (record { said = said_in Right r (start terms) steps; heard = heard_in Right r (start terms) steps })
-  all_know r terms steps small = run_knows r (start terms) steps silent silent small (grind arith)
+  -- seen from either side
+  pub all_know : (side : Side) (r : ℕ) (terms : Terms) (steps : List Step) → AllByRecursion Ok steps
+      → KnowsAt P side r (run (start terms) steps) (words_in side r terms steps) (words_in (other_side side) r terms steps)
+  all_know Left r terms steps small = run_knows r (start terms) steps silent silent small (grind arith)
+  all_know Right r terms steps small = run_knows r (start terms) steps silent silent small (grind arith)

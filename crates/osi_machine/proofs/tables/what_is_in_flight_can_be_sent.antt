@@ -5,13 +5,12 @@ use Rattle.osi_machine.proofs.Vocabulary.{broken as broken_off, Standing, Move, 
 use Rattle.osi_machine.proofs.Vocabulary.{Granted, Answer, IsSound, IsSendable, allowed, respond, Offer, CanBeOffered, offer_sent, Message}
 use Rattle.osi_machine.proofs.Vocabulary.{unit, ask, agree, deny, bye, over, Transport, not_yet, waiting, linked, closing, gone, put}
 use Rattle.osi_machine.proofs.Vocabulary.{replied, Terms, accepts, denies, is_given, is_long, HasNumber, Line, Tables, in_transport, puts}
-use Rattle.osi_machine.proofs.Vocabulary.{made, ends_there, AreSendable, IsSoundLine, AreSoundLines, IsTableRun, cut_line, ◌≡◌, refl, sym}
-use Rattle.osi_machine.proofs.Vocabulary.{subst, ℕ, zero, suc, Bool, true, false, List, [], ◌∷◌, ◌++◌, take, Option, Some, None, Ok, Err}
-use Rattle.osi_machine.proofs.Vocabulary.{arith, CanBeSent}
+use Rattle.osi_machine.proofs.Vocabulary.{made, AreSendable, IsSoundLine, AreSoundLines, IsTableRun, ◌≡◌, refl, subst, ℕ, suc, Bool, false}
+use Rattle.osi_machine.proofs.Vocabulary.{List, [], ◌∷◌, ◌++◌, take, Option, Some, None, Ok, Err, arith, CanBeSent, Left, true, unread}
 use Rattle.osi_session.specs.Moves.{answered as answered_move, after_inputs}
 use Rattle.osi_session.specs.Runs.{HasNumbers}
 use Rattle.osi_message.specs.Written.{user_data_of}
-use Rattle.osi_machine.specs.Tables.{asked_with, shortened, after_call, message_taken, closed, ended_at, without_first, turned}
+use Rattle.osi_machine.specs.Tables.{shortened, message_taken, without_first}
 use Rattle.osi_machine.proofs.basics.what_holds_in_each_phase.{by_test}
 use Rattle.osi_machine.proofs.tables.every_line_of_a_run.{all_know, Claim, IsKept}
 
@@ -33,10 +32,9 @@ put_sendable : (b : Bool) (ms ch : List Message) → AreSendable ms → AreSenda
 put_sendable b ms ch h k = grind (arith, sendable_append)
 
 take_sendable : (n : ℕ) (ms : List Message) → AreSendable ms → AreSendable (take n ms)
-take_sendable zero ms h = tt
-take_sendable (suc n) [] h = tt
 take_sendable (suc n) (unit m ∷ ms) h = (h.0, take_sendable n ms h.1)
 take_sendable (suc n) (x ∷ ms) h = take_sendable n ms h
+take_sendable _ _ h = tt
 
 replied_sendable : (r : Option Meaning) → CanBeSent r → AreSendable (replied r)
 replied_sendable r h = grind arith
@@ -48,40 +46,29 @@ record IsWell (m : Move) : Type 0 where
   waits : CanBeSent m.next.waiting
   reply : CanBeSent m.reply
 
-sound_after : SendLaws → (s : Standing) (i : Input) → HasNumbers i → IsSound s.state → IsSound (react s i).next.state
-sound_after laws s i h k = laws.sound s (i ∷ []) (h, tt) k
+-- what was received could be read
+abbrev is_read : Input → Bool
+is_read (unread fault) = false
+is_read i = true
 
-well_called : SendLaws → (s : Standing) (c : Call) → HasSerial c → IsSound s.state → CanBeSent s.waiting → IsWell (react s (called c))
+sends : SendLaws → (s : Standing) (i : Input) → is_read i ≡ true → HasNumbers i → IsSound s.state → CanBeSent s.waiting
+    → CanBeSent (react s i).next.waiting × CanBeSent (react s i).reply
 unfolding react
-well_called laws s c small h w = by (allowed s.state c) refl (sound_after laws s (called c) small h)
+sends laws s (called c) r n h w = by (allowed s.state c) refl
   where
-    by : (a : Answer) → allowed s.state c ≡ a → IsSound (answered_move s (allowed s.state c)).next.state
-        → IsWell (answered_move s (allowed s.state c))
-    by (Ok g) e k = subst (λ (a : Answer). IsSound (answered_move s a).next.state → IsWell (answered_move s a)) (sym e)
-        (λ x. record { sound = x; waits = w; reply = laws.called s.state c g h small e }) k
-    by (Err f) e k = subst (λ (a : Answer). IsSound (answered_move s a).next.state → IsWell (answered_move s a)) (sym e)
-        (λ x. record { sound = x; waits = w; reply = tt }) k
-
-well_taken : SendLaws → (s : Standing) (said : Said) → HasNumbers (taken said) → IsSound s.state → CanBeSent s.waiting
-    → IsWell (react s (taken said))
-unfolding react
-well_taken laws s said n h w = assumption (sound_after laws s (taken said) n h, by (respond s.state said).reply refl)
+    by : (a : Answer) → allowed s.state c ≡ a → CanBeSent (answered_move s a).next.waiting × CanBeSent (answered_move s a).reply
+    by (Ok g) e = (w, laws.called s.state c g h n e)
+    by (Err f) e = (w, tt)
+sends laws s (taken said) r n h w = (w, by (respond s.state said).reply refl)
   where
     by : (r : Option Meaning) → (respond s.state said).reply ≡ r → CanBeSent r
     by None e = tt
     by (Some m) e = laws.replied s.state said m e
+sends laws s (unread fault) r n h w = absurd (cc)
+sends laws s _ r n h w = grind arith
 
-well_broken : SendLaws → (s : Standing) → IsSound s.state → CanBeSent s.waiting → IsWell (react s broken_off)
-unfolding react
-well_broken laws s h w = record { sound = sound_after laws s broken_off tt h; waits = w; reply = tt }
-
-well_opened : SendLaws → (s : Standing) → IsSound s.state → CanBeSent s.waiting → IsWell (react s opened)
-unfolding react
-well_opened laws s h w = search (arith, sound_after)
-
-well_refused : SendLaws → (s : Standing) (reason : ℕ) → IsSound s.state → CanBeSent s.waiting → IsWell (react s (refused reason))
-unfolding react
-well_refused laws s reason h w = search (arith, sound_after)
+well : SendLaws → (s : Standing) (i : Input) → is_read i ≡ true → HasNumbers i → IsSound s.state → CanBeSent s.waiting → IsWell (react s i)
+well laws s i r n h w = assumption (laws.sound s (i ∷ []) (n, tt) h, sends laws s i r n h w)
 
 -- ---- a connection
 
@@ -98,49 +85,27 @@ short_line n l h = grind (arith, take_sendable)
 popped_line : (l : Line) (ms : List Message) → AreSendable ms → IsSoundLine l → IsSoundLine (without_first l ms)
 popped_line l ms k h = record { own = h.own; peer = record { sound = h.peer.sound; waits = h.peer.waits; under_way = k } }
 
-called_line : SendLaws → (b : Bool) (c : Call) (l : Line) → HasSerial c → IsSoundLine l → IsSoundLine (after_call b c l)
-called_line laws b c l small h = grind (arith, well_called, put_sendable, replied_sendable)
-
 message_line : SendLaws → (b : Bool) (terms : Terms) (keep : ℕ) (tr : Transport) (l : Line) (x : Message) (xs : List Message)
     → AreSendable (x ∷ xs) → IsSoundLine l
     → IsSoundLine (message_taken b terms keep tr (without_first l xs) x).line
 message_line laws b (accepts class) keep not_yet l ask xs k h = search (arith, put_line, popped_line)
 message_line laws b (denies reason) keep not_yet l ask xs k h = grind (arith, popped_line, put_sendable)
-message_line laws b terms keep waiting l agree xs k h = search (arith, moved_line, react, well_opened, popped_line)
-message_line laws b terms keep waiting l (deny r) xs k h = search (arith, moved_line, react, well_refused, popped_line)
+message_line laws b terms keep waiting l agree xs k h = search (arith, moved_line, well laws l.own.session opened refl tt, popped_line)
+message_line laws b terms keep waiting l (deny r) xs k h =
+    search (arith, moved_line, well laws l.own.session (refused r) refl tt, popped_line)
 message_line laws b terms keep linked l (unit u) xs k h =
     moved_line b linked (react l.own.session (taken (said_of u))) (without_first l xs)
-    (well_taken laws l.own.session (said_of u) (grind (arith, by_test)) h.own.sound h.own.waits) (popped_line l xs k.1 h)
+    (well laws l.own.session (taken (said_of u)) refl (grind (arith, by_test)) h.own.sound h.own.waits) (popped_line l xs k.1 h)
 message_line laws b terms keep linked l (bye r) xs k h =
-    search (arith, moved_line, react, well_broken, short_line, popped_line, put_sendable)
+    search (arith, moved_line, well laws l.own.session broken_off refl tt, short_line, popped_line, put_sendable)
 message_line laws b terms keep closing l (bye r) xs k h = grind arith
 message_line laws b terms keep closing l over xs k h = grind arith
 message_line laws b terms keep gone l (bye r) xs k h = grind (arith, popped_line, put_sendable)
 message_line laws b terms keep tr l x xs k h = popped_line l xs (grind arith) h
 
-closed_line : (b : Bool) (keep : ℕ) (l : Line) → IsSoundLine l → IsSoundLine (closed b keep l)
-closed_line b keep l h = put_line b (bye 128 ∷ []) closing (shortened keep l) tt (short_line keep l h)
-
-ended_line : SendLaws → (keep : ℕ) (l : Line) → IsSoundLine l → IsSoundLine (ended_at keep l).line
-ended_line laws keep l h = grind (arith, moved_line, react, well_broken, short_line)
-
 offer_sendable : (o : Offer) → CanBeOffered o → is_long o ≡ false → IsSendable (offer_sent o)
 unfolding user_data_of
 offer_sendable o small h = grind (arith, or_parts, leb-true, not-false)
-
-asked_line : (b : Bool) (o : Offer) → CanBeOffered o → is_long o ≡ false → IsSoundLine (asked_with b o)
-asked_line b o small h = search (arith, offer_sendable, put_sendable)
-
--- ---- all connections
-
-turned_line : (l : Line) → IsSoundLine l → IsSoundLine (turned l)
-turned_line l h = record { own = h.peer; peer = h.own }
-
-ends_line : SendLaws → (keep : ℕ) (l : Line) → IsSoundLine l → IsSoundLine (ends_there keep l)
-ends_line laws keep l h = by_test (is_given l.own.transport) (λ e. rw e (ended_line laws keep l h)) (λ e. rw e h)
-
-cut_sound : (left right : ℕ) (l : Line) → IsSoundLine l → IsSoundLine (cut_line left right l)
-cut_sound left right l h = grind (arith, take_sendable)
 
 -- whatever was sent and received
 abbrev Sound : Claim
@@ -148,14 +113,16 @@ Sound b l x y = IsSoundLine l
 
 sound_kept : SendLaws → IsKept Sound HasNumber
 sound_kept laws = record {
-  new = λ b o small short. asked_line b o small short;
-  turns = λ b l x y h. turned_line l h;
-  call = λ b side r c l x y small given h. called_line laws b c l small h;
+  new = λ b o small short. search (arith, offer_sendable, put_sendable);
+  turns = λ b l x y h. record { own = h.peer; peer = h.own };
+  call = λ b side r c l x y small given h. grind (arith, well laws l.own.session (called c) refl small, put_sendable, replied_sendable);
   take = λ b terms keep l m xs x y e h. message_line laws b terms keep l.own.transport l m xs (subst AreSendable e h.peer.under_way) h;
-  close = λ b terms keep to_keep tr l m x y c h. closed_line b to_keep (message_taken b terms keep tr l m).line h;
-  end = λ b keep l x y h. ends_line laws keep l h;
-  cut = λ b left right l x y h. cut_sound left right l h;
+  close = λ b terms keep to_keep tr l m x y c h. put_line b (bye 128 ∷ []) closing (shortened to_keep _) tt (short_line to_keep _ h);
+  end = λ b keep l x y h. by_test (is_given l.own.transport)
+      (λ e. rw e (grind (arith, moved_line, well laws l.own.session broken_off refl tt, short_line)))
+      (λ e. rw e h);
+  cut = λ b left right l x y h. grind (arith, take_sendable);
 }
 
 pub are_sound : SendLaws → (t : Tables) → IsTableRun t → AreSoundLines t
-are_sound laws t h r l e = grind (arith, all_know, sound_kept)
+are_sound laws t h r l e = grind (arith, all_know Sound HasNumber (sound_kept laws) Left r h.agreed h.steps h.numbered)

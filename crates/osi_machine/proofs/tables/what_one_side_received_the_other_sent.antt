@@ -1,18 +1,19 @@
 -- On one connection: what each side sent, what the other received of it, and what is in flight, over all that may happen.
--- For what_is_heard_was_said.
-use Rattle.std.proofs.Common.{◌≡◌, refl, sym, ◌∙◌, ap, ℕ, zero, suc, Bool, true, false, ◌||◌, List, [], ◌∷◌, ◌++◌, append_assoc, take, drop}
-use Rattle.std.proofs.Common.{Option, Ok, ◌⊎◌, arith, subst, Some, None, Err}
-use Rattle.osi_session.specs.Phases.{is_ended, is_over, is_wait_transport}
-use Rattle.osi_session.specs.Moves.{answered as answered_move}
-use Rattle.osi_machine.specs.Tables.{turned, asked_with, after_call, message_taken, closed, ended_at, without_first}
+-- For the law what_is_heard_was_said.
 use Rattle.osi_machine.proofs.Vocabulary.{append-nil, list_any, Input, broken as broken_off, Standing, react, after_input, may_abort, State}
 use Rattle.osi_machine.proofs.Vocabulary.{Meaning, Call, Granted, allowed, Begins, Message, unit, agree, deny, Transport, not_yet, waiting}
-use Rattle.osi_machine.proofs.Vocabulary.{put, replied, one_or_none, units_in, called, taken, opened, refused, said_of, Phase, Answer}
-use Rattle.osi_machine.proofs.Vocabulary.{Offer, ask, bye, over, linked, closing, gone, Terms, accepts, denies, is_given, Seat, Line, made}
-use Rattle.osi_machine.proofs.Vocabulary.{ends_there, cut_line, said_to, heard_of, is_parting}
+use Rattle.osi_machine.proofs.Vocabulary.{put, replied, one_or_none, units_in, called, taken, opened, refused, said_of, Phase, Answer, ask}
+use Rattle.osi_machine.proofs.Vocabulary.{bye, over, linked, closing, gone, Terms, accepts, denies, is_given, Seat, Line, made, said_to}
+use Rattle.osi_machine.proofs.Vocabulary.{heard_of, is_parting, ◌≡◌, refl, sym, ◌∙◌, ap, ℕ, suc, Bool, true, false, ◌||◌, List, [], ◌∷◌}
+use Rattle.osi_machine.proofs.Vocabulary.{◌++◌, append_assoc, take, drop, Option, Ok, ◌⊎◌, arith, subst, Some, None, Err, list_any-append}
+use Rattle.osi_machine.proofs.Vocabulary.{Side, Step, IsHeardAsSaid, AllByRecursion}
+use Rattle.osi_session.specs.Phases.{is_ended, is_over, is_wait_transport}
+use Rattle.osi_session.specs.Moves.{answered as answered_move}
+use Rattle.osi_machine.specs.Tables.{after_call, message_taken, closed, ended_at, without_first, side_of}
 use Rattle.osi_machine.proofs.basics.what_holds_in_each_phase.{excluded, implied, by_test}
-use Rattle.osi_machine.proofs.machine.a_connection_is_early_or_dead.{is_agree}
-use Rattle.osi_machine.proofs.tables.every_line_of_a_run.{Words, and_more, silent}
+use Rattle.osi_machine.proofs.whole.a_close_a_break_and_an_end.{take_none}
+use Rattle.osi_machine.proofs.tables.every_line_of_a_run.{Words, and_more, all_know, HoldsAt, IsKept}
+use Rattle.osi_machine.proofs.basics.what_stands_at_a_reference.{some_same}
 
 -- what is proved of one session
 pub record SayLaws : Type 0 where
@@ -48,29 +49,18 @@ pub put_no_units : (b : Bool) (ms ch : List Message) → units_in ms ≡ [] → 
 put_no_units b ms ch e = grind (arith, units_append, append-nil)
 
 units_taken : (k : ℕ) (ch : List Message) → units_in (take k ch) ++ units_in (drop k ch) ≡ units_in ch
-units_taken zero ch = refl
-units_taken (suc k) [] = refl
 units_taken (suc k) (unit u ∷ ch) = ap (λ (us : List Meaning). u ∷ us) (units_taken k ch)
 units_taken (suc k) (x ∷ ch) = units_taken k ch
+units_taken _ _ = refl
 
 pub no_units_taken : (k : ℕ) (ch : List Message) → units_in ch ≡ [] → units_in (take k ch) ≡ []
-no_units_taken zero ch e = refl
-no_units_taken (suc k) [] e = refl
 no_units_taken (suc k) (unit u ∷ ch) e = absurd (cc)
 no_units_taken (suc k) (x ∷ ch) e = no_units_taken k ch e
+no_units_taken _ _ e = refl
 
-pub no_agree_taken : (k : ℕ) (ch : List Message) → list_any is_agree ch ≡ false → list_any is_agree (take k ch) ≡ false
-no_agree_taken zero ch e = refl
-no_agree_taken (suc k) [] e = refl
-no_agree_taken (suc k) (agree ∷ ch) e = absurd (cc)
-no_agree_taken (suc k) (x ∷ ch) e = no_agree_taken k ch e
-
-pub no_agree_put : (b : Bool) (reason : ℕ) (ch : List Message) → list_any is_agree ch ≡ false
-    → list_any is_agree (put b (deny reason ∷ []) ch) ≡ false
-no_agree_put true reason ch e = e
-no_agree_put false reason [] e = refl
-no_agree_put false reason (agree ∷ ch) e = absurd (cc)
-no_agree_put false reason (x ∷ ch) e = no_agree_put false reason ch e
+abbrev pub is_agree : Message → Bool
+is_agree agree = true
+is_agree m = false
 
 -- ---- what was received, followed by what is in flight and what was lost, is what was sent; nothing was lost unless
 -- the sender has stopped
@@ -141,9 +131,6 @@ pub record Told (broken : Bool) (l : Line) (own peer : Words) : Type 0 where
   pub peer_fits : Fits l.peer l.own
   pub out : Way broken l.own l.peer own.said peer.heard
   pub back : Way broken l.peer l.own peer.said own.heard
-
-pub turned_told : (b : Bool) (l : Line) (x y : Words) → Told b l x y → Told b (turned l) y x
-turned_told b l x y h = record { own_fits = h.peer_fits; peer_fits = h.own_fits; out = h.back; back = h.out }
 
 -- ---- how a side may change, with what is then in flight from it
 
@@ -238,35 +225,15 @@ end_told laws b keep l x y h =
     cuts_told b l (ended_at keep l).line.own keep x y refl refl
     (ended_over (react l.own.session broken_off).next.state.phase (laws.lost l.own.session)) refl h
 
-pub ends_told : SayLaws → (b : Bool) (keep : ℕ) (l : Line) (x y : Words) → Told b l x y → Told b (ends_there keep l) x y
-ends_told laws b keep l x y h = by_test (is_given l.own.transport) (λ e. rw e (end_told laws b keep l x y h)) (λ e. rw e h)
-
 cut_fits : (keep : ℕ) (own peer : Seat) (ch : List Message) → Fits own peer
     → Fits (record own { channel = take keep own.channel }) (record peer { channel = ch })
-cut_fits keep own peer ch h = grind (arith, no_units_taken, no_agree_taken)
+cut_fits keep own peer ch h = grind (arith, no_units_taken, take_none)
 
 cut_way : (b : Bool) (keep : ℕ) (own peer : Seat) (ch : List Message) (said heard : List Meaning) → Way b own peer said heard
     → Way true (record own { channel = take keep own.channel }) (record peer { channel = ch }) said heard
 cut_way b keep own peer ch said heard h = search (arith, fewer_units)
 
-pub cut_told : (b : Bool) (left right : ℕ) (l : Line) (x y : Words) → Told b l x y → Told true (cut_line left right l) x y
-cut_told b left right l x y h = search (cut_fits, cut_way)
-
--- ---- a new connection
-
-pub asked_told : (b : Bool) (o : Offer) → Told b (asked_with b o) silent silent
-asked_told b o = search arith
-
 -- ---- a message is taken
-
--- the message is a unit, and is received
-heard_first : (b : Bool) (l : Line) (u : Meaning) (xs : List Message) (x y : Words) → l.peer.channel ≡ unit u ∷ xs
-    → is_parting l.own.transport ≡ false → Told b l x y
-    → Told b (without_first l xs) (hears_more x (u ∷ [])) y
-heard_first b l u xs x y e p h =
-    let c = first_heard (b || is_parting l.peer.transport) u xs y.said x.heard
-    (subst (λ (ms : List Message). Carried (b || is_parting l.peer.transport) ms y.said x.heard) e (h.back.carried p)) in
-    search arith
 
 denied_over : (s : Standing) (reason : ℕ) → is_wait_transport s.state.phase ≡ true
     → (is_over (react s (refused reason)).next.state.phase ≡ true) × ((react s (refused reason)).reply ≡ None)
@@ -281,50 +248,75 @@ lost_none s = refl
 nothing_replied : (b : Bool) (r : Option Meaning) (ch : List Message) → r ≡ None → units_in (put b (replied r) ch) ≡ units_in ch
 nothing_replied b r ch e = put_no_units b (replied r) ch (ap (λ (o : Option Meaning). units_in (replied o)) e)
 
-pub message_told : SayLaws → (b : Bool) (terms : Terms) (keep : ℕ) (tr : Transport) (l : Line) (m : Message) (xs : List Message)
-    (x y : Words) → l.own.transport ≡ tr → l.peer.channel ≡ m ∷ xs → Told b l x y
-    → Told b (message_taken b terms keep tr (without_first l xs) m).line (and_more x (said_to tr l.own.session m) (heard_of tr m)) y
-message_told laws b (accepts class) keep not_yet l ask xs x y t e h =
-    no_words b _ x y (grind (arith, opened_fits, put_no_units, past, same_units))
-message_told laws b (denies reason) keep not_yet l ask xs x y t e h =
-    no_words b _ x y (grind (arith, put_no_units, no_agree_put, same_units))
-message_told laws b terms keep not_yet l (unit u) xs x y t e h = grind arith
-message_told laws b terms keep waiting l (unit u) xs x y t e h = grind arith
-message_told laws b terms keep waiting l agree xs x y t e h =
-    says_told b (without_first l xs) (react l.own.session opened).next (react l.own.session opened).reply (hears_more x []) y
-    (ap is_parting t)
-    (grind arith)
-    (grind (arith, append-nil))
-message_told laws b terms keep waiting l (deny reason) xs x y t e h =
-    let d = denied_over l.own.session reason (h.own_fits.waits t) in
-    no_words b _ x y
-    (goes_told b (without_first l xs) (record {
-      transport = gone;
-      session = (react l.own.session (refused reason)).next;
-      channel = put b (replied (react l.own.session (refused reason)).reply) l.own.channel;
-    }) x y refl refl d.0
-    (nothing_replied b (react l.own.session (refused reason)).reply l.own.channel d.1)
-    (grind (arith, same_units)))
-message_told laws b terms keep linked l (unit u) xs x y t e h =
-    says_told b (without_first l xs) (react l.own.session (taken (said_of u))).next (react l.own.session (taken (said_of u))).reply
-    (hears_more x (u ∷ [])) y (ap is_parting t)
-    (grind arith)
-    (heard_first b l u xs x y e (ap is_parting t) h)
-message_told laws b terms keep linked l (bye reason) xs x y t e h =
-    no_words b _ x y
-    (cuts_told b (without_first l xs) (message_taken b terms keep linked (without_first l xs) (bye reason)).line.own keep x y refl refl
-    (ended_over (react l.own.session broken_off).next.state.phase (laws.lost l.own.session))
-    (grind (arith, put_no_units, react, nothing_replied, lost_none))
-    (grind (arith, same_units)))
-message_told laws b terms keep closing l (bye reason) xs x y t e h =
-    no_words b _ x y (grind (arith, goes_told))
-message_told laws b terms keep closing l over xs x y t e h =
-    no_words b _ x y (grind (arith, goes_told))
-message_told laws b terms keep gone l (bye reason) xs x y t e h =
-    no_words b _ x y
-    (grind (arith, goes_told, put_no_units))
-message_told laws b terms keep closing l (unit u) xs x y t e h =
-    no_words b _ x y (grind (arith, same_units))
-message_told laws b terms keep gone l (unit u) xs x y t e h =
-    no_words b _ x y (grind (arith, same_units))
-message_told laws b terms keep tr l m xs x y t e h = no_words b _ x y (grind (arith, same_units))
+module _ (laws : SayLaws) (b : Bool) (keep : ℕ) (l : Line) (xs : List Message) (x y : Words) (h : Told b l x y) where
+  -- the message is a unit, and is received
+  heard_first : (u : Meaning) → l.peer.channel ≡ unit u ∷ xs → is_parting l.own.transport ≡ false
+      → Told b (without_first l xs) (hears_more x (u ∷ [])) y
+  heard_first u e p =
+      let c = first_heard (b || is_parting l.peer.transport) u xs y.said x.heard
+      (subst (λ (ms : List Message). Carried (b || is_parting l.peer.transport) ms y.said x.heard) e (h.back.carried p)) in
+      search arith
+
+  pub message_told : (terms : Terms) (tr : Transport) (m : Message) → l.own.transport ≡ tr → l.peer.channel ≡ m ∷ xs
+      → Told b (message_taken b terms keep tr (without_first l xs) m).line (and_more x (said_to tr l.own.session m) (heard_of tr m)) y
+  message_told (accepts class) not_yet ask t e = no_words b _ x y (grind (arith, opened_fits, put_no_units, past, same_units))
+  message_told (denies reason) not_yet ask t e = no_words b _ x y (grind (arith, put_no_units, list_any-append, same_units))
+  message_told terms not_yet (unit u) t e = grind arith
+  message_told terms waiting (unit u) t e = grind arith
+  message_told terms waiting agree t e = says_told b (without_first l xs) _ (react l.own.session opened).reply (hears_more x []) y
+      (ap is_parting t) (grind arith) (grind (arith, append-nil))
+  message_told terms waiting (deny reason) t e =
+      let d = denied_over l.own.session reason (h.own_fits.waits t) in
+      no_words b _ x y (goes_told b (without_first l xs) _ x y refl refl d.0
+      (nothing_replied b (react l.own.session (refused reason)).reply l.own.channel d.1) (grind (arith, same_units)))
+  message_told terms linked (unit u) t e =
+      says_told b (without_first l xs) _ (react l.own.session (taken (said_of u))).reply (hears_more x (u ∷ [])) y (ap is_parting t)
+      (grind arith) (heard_first u e (ap is_parting t))
+  message_told terms linked (bye reason) t e = no_words b _ x y (cuts_told b (without_first l xs) _ keep x y refl refl
+      (ended_over (react l.own.session broken_off).next.state.phase (laws.lost l.own.session))
+      (grind (arith, put_no_units, react, nothing_replied, lost_none)) (grind (arith, same_units)))
+  message_told terms closing (bye reason) t e = no_words b _ x y (grind (arith, goes_told))
+  message_told terms closing over t e = no_words b _ x y (grind (arith, goes_told))
+  message_told terms gone (bye reason) t e = no_words b _ x y (grind (arith, goes_told, put_no_units))
+  message_told terms tr m t e = no_words b _ x y (grind (arith, same_units))
+
+-- ---- what each move keeps
+
+told_kept : SayLaws → IsKept Told (λ s. Unit {0})
+told_kept laws = record {
+  new = λ b o small short. search arith;
+  turns = λ b l x y h. record { own_fits = h.peer_fits; peer_fits = h.own_fits; out = h.back; back = h.out };
+  call = λ b side r c l x y small given h. call_told laws b c l x y given h;
+  take = λ b terms keep l m xs x y e h. message_told laws b keep l xs x y h terms l.own.transport m refl e;
+  close = λ b terms keep to_keep tr l m x y c h. close_told b to_keep (message_taken b terms keep tr l m).line x y (grind arith) h;
+  end = λ b keep l x y h. by_test (is_given l.own.transport) (λ e. rw e (end_told laws b keep l x y h)) (λ e. rw e h);
+  cut = λ b left right l x y h. search (cut_fits, cut_way);
+}
+
+any_steps : (steps : List Step) → AllByRecursion (λ s. Unit {0}) steps
+any_steps [] = tt
+any_steps (s ∷ steps) = (tt, any_steps steps)
+
+-- ---- one side at a time
+
+line_of_side : (side : Side) (b : Bool) (x y : Words) (o : Option Line) (l : Line) → HoldsAt Told side b x y o → side_of side o ≡ Some l
+    → Told b l x y
+line_of_side side b x y o l h e = grind (arith, some_same)
+
+heard_begins : (side : Side) (b : Bool) (x y : Words) (o : Option Line) → HoldsAt Told side b x y o → Begins x.heard y.said
+heard_begins side b x y o h = search (arith, append-nil)
+
+then_under_way : (a : Bool) (ch : List Message) (said heard : List Meaning) → Carried a ch said heard → Begins (heard ++ units_in ch) said
+then_under_way a ch said heard h = (h.lost, append_assoc heard (units_in ch) h.lost ∙ h.splits)
+
+or_false : (a b : Bool) → a ≡ false → b ≡ false → (a || b) ≡ true → ⊥
+or_false a b e f g = grind arith
+
+and_all : (a : Bool) (ch : List Message) (said heard : List Meaning) → (a ≡ true → ⊥) → Carried a ch said heard
+    → heard ++ units_in ch ≡ said
+and_all a ch said heard n h = search (arith, append-nil)
+
+pub heard_was_said : SayLaws → (side : Side) (r : ℕ) (terms : Terms) (steps : List Step) → IsHeardAsSaid side r terms steps
+heard_was_said laws side r terms steps =
+    let h = all_know Told (λ s. Unit {0}) (told_kept laws) side r terms steps (any_steps steps) in
+    search (arith, heard_begins, then_under_way, line_of_side, and_all, or_false)

@@ -1,19 +1,16 @@
 -- What two users may rely on, read from the tables and the journal.
 -- For the law of the same name.
-use Rattle.std.proofs.Common.{◌≡◌, refl, sym, ◌∙◌, ap, subst, ℕ, zero, suc, List, [], ◌∷◌, map, Option, Some, None, Bool, ◌+◌, arith}
 use Rattle.osi_machine.proofs.Vocabulary.{AllByRecursion, list_any, slice_get, State, Offer, Side, Left, Right, Message, World, Terms}
 use Rattle.osi_machine.proofs.Vocabulary.{turned, session_of, IsLegal, Step, Entry, Machine, start, connection_at, run, HasNumber, Line}
 use Rattle.osi_machine.proofs.Vocabulary.{Tables, Told, told_of, IsRun, is_fault, AreLines, AtEachSide, IsAsTables, IsTableRun, AreOffered}
-use Rattle.osi_machine.proofs.Vocabulary.{OfEachLine, Meaning, TellsNoFault, LosesAsItEnds}
+use Rattle.osi_machine.proofs.Vocabulary.{OfEachLine, Meaning, TellsNoFault, LosesAsItEnds, offers_in, ◌≡◌, refl, sym, ◌∙◌, ap, subst, ℕ}
+use Rattle.osi_machine.proofs.Vocabulary.{zero, suc, List, Option, Some, arith, option_map, slice_get-map}
 use Rattle.osi_machine.proofs.basics.what_stands_at_a_reference.{some_same}
 use Rattle.osi_machine.proofs.invariant.each_step_keeps_one_side.{SessionLaws}
-use Rattle.osi_machine.proofs.whole.every_stage_of_a_connection.{Whole, Stage, turned_stage}
-use Rattle.osi_machine.proofs.machine.every_connection_of_a_run.{offer_of, Offered, Lines}
-use Rattle.osi_machine.proofs.machine.what_two_records_tell.{good_run, stage_at}
-use Rattle.osi_machine.proofs.machine.no_fault_is_in_the_journal.{no_fault_shown}
-use Rattle.osi_machine.proofs.machine.a_loss_is_shown_by_an_end.{losses_have_an_end}
+use Rattle.osi_machine.proofs.whole.every_stage_of_a_connection.{Stage}
+use Rattle.osi_machine.proofs.machine.every_connection_of_a_run.{offer_of, IsGood, good_run, stage_at, losses_have_an_end, no_fault_shown}
 use Rattle.osi_machine.proofs.tables.a_line_is_a_connection.{Tabled, SaysItsUnit, line_of}
-use Rattle.osi_machine.proofs.tables.the_tables_are_the_machine.{AllTabled, At, Follows, line_there, all_follow, end_as}
+use Rattle.osi_machine.proofs.tables.the_tables_are_the_machine.{AllTabled, none, more, At, Follows, line_there, all_follow, end_as}
 use Rattle.osi_machine.specs.Tables as tables
 
 -- ---- the forms of what is true of each connection
@@ -32,19 +29,11 @@ at_side : (P : State → List Message → Type 0) (side : Side) (w : World) (a b
     → P (tables.seen_from side (line_of w a b)).own.session.state (tables.seen_from side (line_of w a b)).peer.channel
 at_side P side w a b h = grind arith
 
-abbrev map_option : {A B : Type 0} → (A → B) → Option A → Option B
-map_option f None = None
-map_option f (Some x) = Some (f x)
-
 -- ---- the machine and its tables side by side
 
-lines_as : (ws : List World) (ls : List Line) → AllTabled ls ws → AreLines ws ls
-lines_as [] [] h = tt
-lines_as (w ∷ ws) (l ∷ ls) h = (grind arith, lines_as ws ls h.1)
-lines_as _ _ h = absurd h
-
-follows_as : (m : Machine) (t : Tables) → Follows t m → IsAsTables m t
-follows_as m t h = grind (arith, lines_as)
+lines_as : {ws : List World} {ls : List Line} → AllTabled ls ws → AreLines ws ls
+lines_as none = tt
+lines_as (more h k) = (grind arith, lines_as k)
 
 -- ---- a line, and the connection that it is
 
@@ -57,21 +46,12 @@ line_found : (m : Machine) (r : ℕ) (l : Line) (a : Option Line) (b : Option Wo
     → connection_at r m.worlds ≡ b → IsThere m r l
 line_found m r l a b h e q = grind arith
 
-offers_got : (ws : List World) (r : ℕ) (w : World) → slice_get ws r ≡ Some w → slice_get (map offer_of ws) r ≡ Some w.offer
-offers_got [] r w e = absurd (cc)
-offers_got (v ∷ ws) zero w e = ap (map_option offer_of) e
-offers_got (v ∷ ws) (suc r) w e = offers_got ws r w e
-
-offer_got : (ws : List World) (r : ℕ) (w : World) → connection_at r ws ≡ Some w → connection_at r (map offer_of ws) ≡ Some w.offer
-offer_got ws r w e = grind (arith, offers_got)
-
-lines_offers : (b : Bool) (j : List Entry) (k : ℕ) (ws : List World) (os : List Offer) → Lines Whole b j k ws os → os ≡ map offer_of ws
-lines_offers b j k [] [] h = refl
-lines_offers b j k (w ∷ ws) (o ∷ os) h = let a = h.0.offer in let c = lines_offers b j (k + 1) ws os h.1 in cc
-lines_offers b j k _ _ h = absurd h
-
-are_offered : SessionLaws → (m : Machine) → IsRun m → Offered m
-are_offered laws m h = let g = good_run laws m h in g.asked ∙ lines_offers m.broken m.journal 1 m.worlds g.offers g.lines
+-- the journal has its offer
+offer_got : (m : Machine) → IsGood m → (r : ℕ) (w : World) → connection_at r m.worlds ≡ Some w
+    → connection_at r (offers_in m.journal) ≡ Some w.offer
+offer_got m g zero w e = absurd (cc)
+offer_got m g (suc r) w e =
+    ap (λ (os : List Offer). slice_get os r) g.asked ∙ slice_get-map offer_of m.worlds r ∙ ap (option_map offer_of) e
 
 -- ---- what is true of each connection of the machine is true of each line
 
@@ -82,13 +62,13 @@ module _ (t : Tables) (m : Machine) (h : Follows t m) where
   same_journal : t.journal ≡ m.journal
   same_journal = ap (λ (x : Tables). x.journal) h.same
 
-  offered_as : Offered m → AreOffered t
-  offered_as q r l e = let x = there r l e in record { offer = x.world.offer; found = (grind (arith, same_journal, offer_got)) }
+  offered_as : IsGood m → (r : ℕ) (x : World) → connection_at r m.worlds ≡ Some x → connection_at r (offers_in t.journal) ≡ Some x.offer
+  offered_as g r x e = ap (λ (j : List Entry). connection_at r (offers_in j)) same_journal ∙ offer_got m g r x e
 
-  lifted : (P : State → State → Told → Told → Type 0) → Offered m → OfWorlds P m → OfEachLine P t
-  lifted P q all r l o e f =
+  lifted : (P : State → State → Told → Told → Type 0) → IsGood m → OfWorlds P m → OfEachLine P t
+  lifted P g all r l o e f =
       let x = there r l e in
-      grind (arith, same_journal, offer_got, some_same x.world.offer o (sym (grind (arith, same_journal, offer_got)) ∙ f))
+      grind (arith, same_journal, some_same x.world.offer o (sym (offered_as g r x.world x.found) ∙ f))
 
   sides_lifted : (P : State → List Message → Type 0) → OfSides P m → AtEachSide P t
   sides_lifted P all side r l e =
@@ -106,7 +86,7 @@ run_of t h = record { agreed = h.agreed; steps = h.steps; numbered = h.numbered;
 module _ (laws : SessionLaws) (says : SaysItsUnit) where
   pub are_as_tables : (terms : Terms) (steps : List Step) → AllByRecursion HasNumber steps
       → IsAsTables (run (start terms) steps) (tables.run (tables.start terms) steps)
-  are_as_tables terms steps small = follows_as _ _ (all_follow laws says terms steps small)
+  are_as_tables terms steps small = grind (arith, lines_as, all_follow laws says terms steps small)
 
   pub is_legal : (t : Tables) → (h : IsTableRun t) → IsLegal h.agreed t.journal
   is_legal t h = grind (arith, are_as_tables)
@@ -116,17 +96,24 @@ module _ (laws : SessionLaws) (says : SaysItsUnit) where
 
   pub of_runs : (P : State → State → Told → Told → Type 0) → ((m : Machine) → IsRun m → OfWorlds P m) → (t : Tables) → IsTableRun t
       → OfEachLine P t
-  of_runs P all t h = search (arith, lifted, follows_run t h, are_offered laws (machine_of t h) (run_of t h), run_of t h)
+  of_runs P all t h = search (arith, lifted, follows_run t h, good_run laws (machine_of t h) (run_of t h), run_of t h)
 
   -- what holds of one side at each stage holds of both
   pub of_stages : (P : State → List Message → Type 0)
-      → ((b : Bool) (w : World) (t u : Told) → Stage b w t u → P (session_of w) w.peer.channel) → (t : Tables) → IsTableRun t
-      → AtEachSide P t
-  of_stages P all t h = sides_lifted t (machine_of t h) (follows_run t h) P (λ r w e.
-      search (arith, turned_stage, stage_at laws (machine_of t h) (run_of t h) r w e, run_of t h))
+      → ((side : Side) (m : Machine) (w : World) (t u : Told) → Stage side m w t u → P (session_of w) w.peer.channel) → (t : Tables)
+      → IsTableRun t → AtEachSide P t
+  of_stages P all t h = sides_lifted t (machine_of t h) (follows_run t h) P (λ r w e. (
+    all Left (machine_of t h) w _ _ (stage_at (machine_of t h) (good_run laws (machine_of t h) (run_of t h)) Left r w e),
+    all Right (machine_of t h) (turned w) _ _ (stage_at (machine_of t h) (good_run laws (machine_of t h) (run_of t h)) Right r w e),
+  ))
 
   pub table_offers : (t : Tables) → IsTableRun t → AreOffered t
-  table_offers t h = offered_as t (machine_of t h) (follows_run t h) (are_offered laws (machine_of t h) (run_of t h))
+  table_offers t h r l e =
+      let x = there t (machine_of t h) (follows_run t h) r l e in
+      record {
+        offer = x.world.offer;
+        found = offered_as t (machine_of t h) (follows_run t h) (good_run laws (machine_of t h) (run_of t h)) r x.world x.found;
+      }
 
   -- ---- the whole journal
 

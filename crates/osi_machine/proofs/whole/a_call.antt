@@ -1,10 +1,10 @@
 -- A call on a whole connection, and on the core that simulates it.
 -- For every_step_is_simulated.
-use Rattle.osi_machine.proofs.Vocabulary.{append-nil, length-append, map-append, list_any, Passed, State, Meaning, Token, is_over, Call}
-use Rattle.osi_machine.proofs.Vocabulary.{Granted, allowed, after, sends, may_call, Item, Owner, Owners, is_own, turned_owner, given_up}
-use Rattle.osi_machine.proofs.Vocabulary.{own_to_pool, left_by, Core, stays_in_core, says, view_called, owners_called, answered, Message}
-use Rattle.osi_machine.proofs.Vocabulary.{unit, World, put, mark_called, after_call, ◌≡◌, refl, sym, ap, ℕ, Bool, true, false, ◌||◌}
-use Rattle.osi_machine.proofs.Vocabulary.{if◌then◌else◌, List, [], ◌∷◌, ◌++◌, append_assoc, map, length, Ok, arith}
+use Rattle.osi_machine.proofs.Vocabulary.{append-nil, length-append, map-append, Passed, State, Meaning, Token, is_over, Call, Granted}
+use Rattle.osi_machine.proofs.Vocabulary.{allowed, after, sends, may_call, Item, Owner, Owners, is_own, turned_owner, given_up, own_to_pool}
+use Rattle.osi_machine.proofs.Vocabulary.{left_by, Core, stays_in_core, says, view_called, owners_called, answered, Message, unit, World}
+use Rattle.osi_machine.proofs.Vocabulary.{put, mark_called, after_call, ◌≡◌, sym, ap, ℕ, Bool, true, false, if◌then◌else◌, List, [], ◌∷◌}
+use Rattle.osi_machine.proofs.Vocabulary.{◌++◌, append_assoc, length, Ok, arith, list_any-append}
 use Rattle.osi_machine.proofs.basics.what_holds_in_each_phase.{by_either, by_test}
 use Rattle.osi_machine.proofs.invariant.what_holds_of_both_sides.{Stands}
 use Rattle.osi_machine.proofs.invariant.each_step_keeps_one_side.{SessionLaws, granted}
@@ -13,10 +13,6 @@ use Rattle.osi_machine.proofs.promises.what_two_users_may_rely_on.{sees_the_hist
 use Rattle.osi_machine.proofs.whole.how_a_core_simulates_a_connection.{stopped, IsLast, IsTail, Carried, OneSide, Projects, one_over}
 
 -- ---- channels
-
-pub any_append : (p : Message → Bool) (ms : List Message) (m : Message) → p m ≡ false → list_any p (ms ++ m ∷ []) ≡ list_any p ms
-any_append p [] m h = rw h refl
-any_append p (x ∷ ms) m h = ap (λ (b : Bool). p x || b) (any_append p ms m h)
 
 -- if the sender is not over, no last unit is in flight
 pub none_last : (s : State) (lost tail : List Meaning) → IsTail false s lost tail → tail ≡ []
@@ -78,7 +74,7 @@ called_own : (broken : Bool) (w : World) (c : Core) (x : Call) → stays_in_core
     → Stands c
     → Passed c.own.session x (granted c.own.session x)
     → OneSide broken (after_call broken c.own.session x (granted c.own.session x) w) (answered c x (Ok (granted c.own.session x)))
-called_own broken w c x k lives p s q = grind (arith, call_lives, marked, left_lives, owns_called, any_append)
+called_own broken w c x k lives p s q = grind (arith, call_lives, marked, left_lives, owns_called, list_any-append)
 
 pub call_projects : SessionLaws → (broken : Bool) (w : World) (c : Core) (x : Call) (g : Granted) → stays_in_core x ≡ true
     → stopped w.own ≡ false → Projects broken w c → Stands c

@@ -1,55 +1,24 @@
 -- A close, a break and the end of a side of a whole connection: for its core nothing has happened.
 -- For every_step_is_simulated.
-use Rattle.std.proofs.Common.{◌≡◌, refl, sym, ◌∙◌, ap, ℕ, zero, suc, Bool, true, false, ◌||◌, List, [], ◌∷◌, ◌++◌, map, take, arith}
+use Rattle.osi_machine.proofs.Vocabulary.{cases_lt, list_any, State, Meaning, lost, Core, Message, unit, bye, over, gone}
+use Rattle.osi_machine.proofs.Vocabulary.{World, session_of, moved, shortened, ended_at, turned as turned_world, without_first}
+use Rattle.osi_machine.proofs.Vocabulary.{or_parts, ◌≡◌, refl, sym, ◌∙◌, ap, subst, ℕ, zero, suc, ◌-◌, Bool, true, false, ◌||◌, List, []}
+use Rattle.osi_machine.proofs.Vocabulary.{◌∷◌, ◌++◌, map, take, drop, arith, length, append_assoc, inr, take-append-add, take-nil}
+use Rattle.osi_machine.proofs.Vocabulary.{append-nil, take-append-drop, take-append-le, take-map}
+use Rattle.osi_machine.proofs.basics.what_holds_in_each_phase.{by_either}
 use Rattle.osi_machine.specs.Core.{turned}
-use Rattle.osi_machine.proofs.Vocabulary.{list_any, State, Meaning, lost, Core, Message, unit, bye, over, Transport, linked, gone, World}
-use Rattle.osi_machine.proofs.Vocabulary.{session_of, moved, shortened, closed, ended_at, turned as turned_world, without_first, or_parts}
-use Rattle.osi_machine.proofs.whole.how_a_core_simulates_a_connection.{stopped, parts, IsTail, Carried, OneSide, Projects, both_over}
-use Rattle.osi_machine.proofs.whole.how_a_core_simulates_a_connection.{one_over}
+use Rattle.osi_machine.proofs.whole.how_a_core_simulates_a_connection.{stopped, parts, IsTail, Carried, OneSide, Projects, one_over, cut_to}
 use Rattle.osi_machine.proofs.whole.a_call.{left_theirs}
 
 -- ---- a suffix of a channel is lost
 
-record Cut (k : ℕ) (over_now : Bool) (s : State) (there lost tail : List Meaning) : Type 0 where
-  kept : List Meaning
-  gone_now : List Meaning
-  rest : List Meaning
-  splits : kept ++ gone_now ≡ there ++ lost
-  carries : take k (map unit (there ++ tail)) ≡ map unit (kept ++ rest)
-  last : IsTail over_now s gone_now rest
-
-none_taken : (k : ℕ) → take k (map unit []) ≡ []
-none_taken k = grind arith
-
-cut_tail : (k : ℕ) (over_now : Bool) (s : State) (lost tail : List Meaning) → IsTail over_now s lost tail → Cut k over_now s [] lost tail
-cut_tail zero over_now s lost tail h = record { kept = []; gone_now = lost; rest = []; splits = refl; carries = refl; last = tt }
-cut_tail (suc k) over_now s lost [] h = record { kept = []; gone_now = lost; rest = []; splits = refl; carries = refl; last = tt }
-cut_tail (suc k) over_now s lost (u ∷ []) h =
-    record {
-      kept = [];
-      gone_now = lost;
-      rest = u ∷ [];
-      splits = refl;
-      carries = ap (λ (ms : List Message). unit u ∷ ms) (none_taken k);
-      last = h;
-    }
-cut_tail (suc k) over_now s lost (u ∷ v ∷ us) h = absurd (h)
-
-cut_there : (k : ℕ) (over_now : Bool) (s : State) (there lost tail : List Meaning) → IsTail over_now s lost tail
-    → Cut k over_now s there lost tail
-cut_there zero over_now s there lost tail h =
-    record { kept = []; gone_now = there ++ lost; rest = []; splits = refl; carries = refl; last = tt }
-cut_there (suc k) over_now s [] lost tail h = cut_tail (suc k) over_now s lost tail h
-cut_there (suc k) over_now s (u ∷ there) lost tail h =
-    let c = cut_there k over_now s there lost tail h in
-    record {
-      kept = u ∷ c.kept;
-      gone_now = c.gone_now;
-      rest = c.rest;
-      splits = ap (λ (us : List Meaning). u ∷ us) c.splits;
-      carries = ap (λ (ms : List Message). unit u ∷ ms) c.carries;
-      last = c.last;
-    }
+-- perhaps the last unit of the sender
+tail_cut : (n : ℕ) (over_now : Bool) (s : State) (lost tail : List Meaning) → IsTail over_now s lost tail
+    → IsTail over_now s lost (take n tail)
+tail_cut zero over_now s lost tail h = tt
+tail_cut (suc n) over_now s lost [] h = tt
+tail_cut (suc n) over_now s lost (u ∷ []) h = subst (λ (us : List Meaning). IsTail over_now s lost (u ∷ us)) (sym (take-nil n)) h
+tail_cut (suc n) over_now s lost (u ∷ v ∷ us) h = absurd h
 
 more_over : (a b : Bool) (s : State) (lost tail : List Meaning) → (a ≡ true → b ≡ true) → IsTail a s lost tail → IsTail b s lost tail
 more_over a b s lost tail f h = grind arith
@@ -58,26 +27,42 @@ more_over a b s lost tail f h = grind arith
 carried_cut : (k : ℕ) (broken broken' a b : Bool) (channel : List Message) (sent : List Meaning) (s : State) → (a ≡ true → b ≡ true)
     → (b || broken') ≡ true
     → Carried broken a channel sent s → Carried broken' b (take k channel) sent s
-carried_cut k broken broken' a b channel sent s f w h =
-    grind (arith, cut_there k b s h.there h.lost h.tail (more_over a b s h.lost h.tail f h.last), more_over a b s h.lost h.tail f h.last)
+carried_cut k broken broken' a b channel sent s f w h = by_either (cases_lt (length h.there) k)
+    (λ l. record {
+      there = h.there;
+      lost = h.lost;
+      tail = take (k - length h.there) h.tail;
+      splits = h.splits;
+      carries = units ∙ ap (map unit) (ap (λ (n : ℕ). take n (h.there ++ h.tail)) (omega arith)
+          ∙ take-append-add h.there h.tail (k - length h.there));
+      whole = inr w;
+      last = tail_cut (k - length h.there) b s h.lost h.tail (more_over a b s h.lost h.tail f h.last);
+    })
+    (λ l. record {
+      there = take k h.there;
+      lost = drop k h.there ++ h.lost;
+      tail = [];
+      splits = sym (append_assoc (take k h.there) (drop k h.there) h.lost)
+          ∙ ap (λ (us : List Meaning). us ++ h.lost) (take-append-drop k h.there) ∙ h.splits;
+      carries = units ∙ ap (map unit) (take-append-le k h.there h.tail l ∙ sym (append-nil (take k h.there)));
+      whole = inr w;
+      last = tt;
+    })
+  where
+    units : take k channel ≡ map unit (take k (h.there ++ h.tail))
+    units = ap (take k) h.carries ∙ take-map unit k (h.there ++ h.tail)
 
-pub none_parts : (k : ℕ) (ms : List Message) → list_any parts ms ≡ false → list_any parts (take k ms) ≡ false
-none_parts zero ms h = refl
-none_parts (suc k) [] h = refl
-none_parts (suc k) (m ∷ ms) h = let p = or_parts (parts m) (list_any parts ms) h in let q = none_parts k ms p.1 in rw (p.0, q) refl
+pub take_none : (p : Message → Bool) (k : ℕ) (ms : List Message) → list_any p ms ≡ false → list_any p (take k ms) ≡ false
+take_none p (suc k) (m ∷ ms) h = let a = or_parts (p m) (list_any p ms) h in let b = take_none p k ms a.1 in rw (a.0, b) refl
+take_none p _ _ h = refl
 
-cut_side : (k j : ℕ) (broken : Bool) (w : World) (c : Core) → OneSide broken w c
-    → OneSide true (record w {
-      own = record w.own { channel = take k w.own.channel };
-      peer = record w.peer
-          { channel = take j w.peer.channel };
-    }) c
+pub cut_side : (k j : ℕ) (broken : Bool) (w : World) (c : Core) → OneSide broken w c → OneSide true (cut_to k j w) c
 cut_side k j broken w c h = record {
   begun = h.begun;
   counted = h.counted;
   alike = grind arith;
   carried = λ l. search (arith, carried_cut, stopped w.peer, h.carried l);
-  parted = λ l. none_parts k w.own.channel (h.parted l);
+  parted = λ l. take_none parts k w.own.channel (h.parted l);
 }
 
 abbrev pub is_unit : Message → Bool
@@ -88,23 +73,10 @@ units_alone : (m : Message) (ms : List Message) (us : List Meaning) → m ∷ ms
 units_alone m ms [] e = absurd (cc)
 units_alone m ms (u ∷ us) e = let same : m ≡ unit u = cc in ap is_unit same
 
-abbrev pub is_linked : Transport → Bool
-is_linked linked = true
-is_linked _ = false
-
 module _ (broken : Bool) (w : World) (c : Core) (p : Projects broken w c) where
-  pub break_projects : (k j : ℕ) → Projects true
-      (record w { own = record w.own { channel = take k w.own.channel }; peer = record w.peer { channel = take j w.peer.channel } }) c
-  break_projects k j = assumption (cut_side k j broken w c p.own, cut_side j k broken (turned_world w) (turned c) p.peer)
-
-  -- ---- the end of a side
-
-  -- what a broken connection leaves in a channel
-  ended_peer : (k : ℕ) → OneSide broken (turned_world w) (turned c) → OneSide broken (turned_world (ended_at k w)) (turned c)
-  ended_peer k h = search (arith, left_theirs, carried_cut)
-
-  pub end_projects : (k : ℕ) → Projects broken (ended_at k w) c
-  end_projects k = assumption (one_over broken (ended_at k w) c refl refl p.own.counted, ended_peer k p.peer)
+  -- what a broken connection leaves in the other's channel when a side ends
+  pub ended_peer : (k : ℕ) → OneSide broken (turned_world (ended_at k w)) (turned c)
+  ended_peer k = search (arith, left_theirs, carried_cut)
 
   -- only units are in flight to it
   pub comes_unit : (m : Message) (ms : List Message) → stopped w.own ≡ false → w.peer.channel ≡ m ∷ ms → is_unit m ≡ true
@@ -113,10 +85,6 @@ module _ (broken : Bool) (w : World) (c : Core) (p : Projects broken w c) where
   -- and whose sender is not over when a message parts
   pub parting_over : (m : Message) (ms : List Message) → w.peer.channel ≡ m ∷ ms → parts m ≡ true → stopped w.peer ≡ true
   parting_over m ms e q = grind arith
-
-  -- a side whose transport connection is not open is over
-  pub unlinked_over : is_linked w.own.transport ≡ false → stopped w.own ≡ true
-  unlinked_over e = grind arith
 
   -- ---- a message that changes nothing
 
@@ -128,11 +96,6 @@ module _ (broken : Bool) (w : World) (c : Core) (p : Projects broken w c) where
   pub popped_projects : (m : Message) (ms : List Message) → stopped w.own ≡ true → w.peer.channel ≡ m ∷ ms
       → Projects broken (without_first w ms) c
   popped_projects m ms o e = assumption (one_over broken (without_first w ms) c p.own.begun o p.own.counted, popped_peer m ms p.peer e)
-
-  -- ---- a close, at a side that is over and from a side that is over
-
-  pub closed_projects : (k : ℕ) → stopped w.own ≡ true → stopped w.peer ≡ true → Projects broken (closed broken k w) c
-  closed_projects k o d = both_over broken (closed broken k w) c p.history refl o p.peer.begun d p.own.counted p.peer.counted
 
   -- a bye is taken by a side whose transport connection is open
   pub bye_projects : (k reason : ℕ) (ms : List Message) → w.peer.channel ≡ bye reason ∷ ms

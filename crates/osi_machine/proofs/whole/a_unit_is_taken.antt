@@ -1,15 +1,15 @@
 -- A unit is taken on a whole connection and on its core; the last unit of a side that is over is taken.
 -- For every_step_is_simulated.
-use Rattle.std.proofs.Common.{◌≡◌, refl, sym, ◌∙◌, ap, subst, ℕ, ◌+◌, Bool, true, false, not, ◌&&◌, if◌then◌else◌, List, [], ◌∷◌, ◌++◌, map}
+use Rattle.std.proofs.Common.{◌≡◌, refl, sym, ◌∙◌, ap, subst, ℕ, Bool, true, false, not, ◌&&◌, if◌then◌else◌, List, [], ◌∷◌, ◌++◌, map}
 use Rattle.std.proofs.Common.{length, Option, Some, None, ◌⊎◌, inl, inr, arith}
 use Rattle.osi_machine.specs.Core.{turned}
 use Rattle.osi_machine.proofs.Vocabulary.{or_parts, append-nil, length-append, list_any, TokenSetting, TsduMaximumSize, State, Meaning, CN}
 use Rattle.osi_machine.proofs.Vocabulary.{AC, RF, GT, RS, RA, AB, Token, has, is_over, is_acceptable, are_sizes, has_data, functional_units}
-use Rattle.osi_machine.proofs.Vocabulary.{respond_unit, becomes, stands, reply_for, Item, cutat, Owners, is_own, turned_owner, left_by}
+use Rattle.osi_machine.proofs.Vocabulary.{respond_unit, becomes, stands, reply_for, Item, cutat, Owners, is_own, turned_owner}
 use Rattle.osi_machine.proofs.Vocabulary.{is_acted_on, seen, cut_by, owners_after, is_plain, Core, taking, Message, unit, World, put}
 use Rattle.osi_machine.proofs.Vocabulary.{mark_after, replied, after_unit, turned as turned_world, without_first, Ended, without_tokens}
 use Rattle.osi_machine.proofs.Vocabulary.{nothing, good, is_connecting, is_answering, is_release_due, is_expected, next, AllFit, stops}
-use Rattle.osi_machine.proofs.Vocabulary.{heard, session_of, and_from, not-false}
+use Rattle.osi_machine.proofs.Vocabulary.{heard, session_of, and_from, not-false, Owner, all_to_pool}
 use Rattle.osi_machine.proofs.basics.what_holds_in_each_phase.{by_test, excluded, implied_two, if_second}
 use Rattle.osi_machine.proofs.channels.a_unit_is_dropped_bad_or_acted_on.{no_fault, fit_cases, and_false, acts_good, not_acted}
 use Rattle.osi_machine.proofs.channels.a_deaf_side_acts_on_nothing.{all_empty, empty_end}
@@ -34,21 +34,16 @@ seen_mark : (s : State) (u : Meaning) (h v : List Item) (mark : ℕ) → CutsAli
     → mark_after s u h mark ≡ length (seen s u v)
 seen_mark s u h v mark cut e = grind (arith, length-append)
 
-owns_after : (s : State) (u : Meaning) (o p : Owners) (t : Token) → is_own (o t) ≡ is_own (p t)
-    → is_own (owners_after s u o t) ≡ is_own (owners_after s u p t)
-owns_after s (GT k) o p t e = by_test (has k t) (λ q. rw q) (λ q. rw q e)
-owns_after s (AC v r n x z y) o p t e = by_test (has (becomes s (AC v r n x z y)).held t) (λ l. rw l) (λ l. rw l e)
-owns_after s (RA n x y) o p t e = by_test (has (becomes s (RA n x y)).held t) (λ c. rw c) (λ c. rw c e)
-owns_after s (RS k n x y) o p t e = by_test (stands s n) (λ i. rw i (pool_own (o t) ∙ sym (pool_own (p t)))) (λ i. rw i e)
-owns_after s _ o p t e = e
-
-theirs_after : (s : State) (u : Meaning) (o p : Owners) (t : Token) → is_own (turned_owner (o t)) ≡ is_own (turned_owner (p t))
-    → is_own (turned_owner (owners_after s u o t)) ≡ is_own (turned_owner (owners_after s u p t))
-theirs_after s (GT k) o p t e = by_test (has k t) (λ q. rw q) (λ q. rw q e)
-theirs_after s (AC v r n x z y) o p t e = by_test (has (becomes s (AC v r n x z y)).held t) (λ l. rw l) (λ l. rw l e)
-theirs_after s (RA n x y) o p t e = by_test (has (becomes s (RA n x y)).held t) (λ c. rw c) (λ c. rw c e)
-theirs_after s (RS k n x y) o p t e = by_test (stands s n) (λ i. rw i (pool_theirs (o t) ∙ sym (pool_theirs (p t)))) (λ i. rw i e)
-theirs_after s _ o p t e = e
+-- what is read of an owner, if a token without one reads as no side's
+read_after : (f : Owner → Bool) → ((q : Owner) → f (all_to_pool q) ≡ false) →
+    (s : State) (u : Meaning) (acts : Bool) (o p : Owners) (t : Token)
+    → f (o t) ≡ f (p t) → f ((if acts then owners_after s u o else o) t) ≡ f ((if acts then owners_after s u p else p) t)
+read_after f pool s u false o p t e = e
+read_after f pool s (GT k) true o p t e = by_test (has k t) (λ q. rw q) (λ q. rw q e)
+read_after f pool s (AC v r n x z y) true o p t e = by_test (has (becomes s (AC v r n x z y)).held t) (λ l. rw l) (λ l. rw l e)
+read_after f pool s (RA n x y) true o p t e = by_test (has (becomes s (RA n x y)).held t) (λ c. rw c) (λ c. rw c e)
+read_after f pool s (RS k n x y) true o p t e = by_test (stands s n) (λ i. rw i (pool (o t) ∙ sym (pool (p t)))) (λ i. rw i e)
+read_after f pool s _ true o p t e = e
 
 -- ---- a unit of the core is answered by none
 
@@ -74,16 +69,17 @@ put_nothing broken channel = grind (arith, append-nil)
 abbrev pub took : Bool → World → Core → Meaning → List Message → World
 took broken w c u ms = after_unit broken c.own.session u (without_first w ms)
 
-record Takes (broken : Bool) (w : World) (c : Core) (u : Meaning) (us : List Meaning) (ms : List Message) : Type 0 where
-  old : Projects broken w c
-  all : Stands (at c (u ∷ us))
-  then_all : Stands (taking c (u ∷ us))
-  lives : stopped w.own ≡ false
-  channel : w.peer.channel ≡ unit u ∷ ms
+-- its sender
+carried_on : (broken : Bool) (channel channel' : List Message) (sent : List Meaning) (s r : State) (b : Bool) → channel' ≡ channel
+    → b ≡ false → Carried broken false channel sent s
+    → Carried broken b channel' sent r
+carried_on broken channel channel' sent s r b e f h = grind (arith, none_last)
 
-module _ (broken : Bool) (w : World) (c : Core) (u : Meaning) (us : List Meaning) (ms : List Message) (k : Takes broken w c u us ms) where
+module _ (broken : Bool) (w : World) (c : Core) (u : Meaning) (us : List Meaning) (ms : List Message) (p : Projects broken w c)
+    (all : Stands (at c (u ∷ us))) (then_all : Stands (taking c (u ∷ us))) (lives : stopped w.own ≡ false)
+    (e : w.peer.channel ≡ unit u ∷ ms) where
   lives_then : is_over (respond_unit c.own.session u).next.phase ≡ false
-  lives_then = alive (taking c (u ∷ us)).owner (taking c (u ∷ us)).own (taking c (u ∷ us)).peer k.then_all.own
+  lives_then = alive (taking c (u ∷ us)).owner (taking c (u ∷ us)).own (taking c (u ∷ us)).peer then_all.own
 
   no_reply : (respond_unit c.own.session u).reply ≡ None
   no_reply = grind (arith, no_fault, plain_reply, acceptable)
@@ -92,87 +88,54 @@ module _ (broken : Bool) (w : World) (c : Core) (u : Meaning) (us : List Meaning
   same_channel = ap (λ (r : Option Meaning). put broken (replied r) w.own.channel) no_reply ∙ put_nothing broken w.own.channel
 
   was_alike : Alike w c
-  was_alike = k.old.own.alike k.lives
+  was_alike = p.own.alike lives
 
   taker_mark : (if is_acted_on c.own.session u then mark_after c.own.session u w.history w.own.mark else w.own.mark)
       ≡ length (if is_acted_on c.own.session u then seen c.own.session u c.own.view else c.own.view)
   taker_mark = search (arith, seen_mark, cuts_alike, was_alike)
 
-  taker_owns : (t : Token) → is_own (left_by (respond_unit c.own.session u).next
-      (if is_acted_on c.own.session u then owners_after c.own.session u w.owner else w.owner) t) ≡ is_own
-      ((if is_acted_on c.own.session u then owners_after c.own.session u c.owner else c.owner) t)
-  taker_owns t =
-      ap (λ (o : Owners). is_own (o t))
-      (left_lives (respond_unit c.own.session u).next
-      (if is_acted_on c.own.session u then owners_after c.own.session u w.owner else w.owner) lives_then)
-      ∙ by (is_acted_on c.own.session u)
-    where
-      by : (b : Bool) → is_own ((if b then owners_after c.own.session u w.owner else w.owner) t)
-          ≡ is_own ((if b then owners_after c.own.session u c.owner else c.owner) t)
-      by true = owns_after c.own.session u w.owner c.owner t ((was_alike).owns t)
-      by false = (was_alike).owns t
+  -- the owners then
+  owners : Owners
+  owners = if is_acted_on c.own.session u then owners_after c.own.session u w.owner else w.owner
 
--- its sender
-carried_on : (broken : Bool) (channel channel' : List Message) (sent : List Meaning) (s r : State) (b : Bool) → channel' ≡ channel
-    → b ≡ false → Carried broken false channel sent s
-    → Carried broken b channel' sent r
-carried_on broken channel channel' sent s r b e f h = grind (arith, none_last)
-
-giver_side : (broken : Bool) (w : World) (c : Core) (u : Meaning) (us : List Meaning) (ms : List Message) → Takes broken w c u us ms
-    → OneSide broken (turned_world (took broken w c u ms)) (turned (taking c (u ∷ us)))
-giver_side broken w c u us ms k = record {
-  begun = k.old.peer.begun;
-  counted = k.old.peer.counted;
-  alike = λ l.
-      let a = k.old.peer.alike l in
-      record {
+  pub take_projects : Carried broken (stopped w.peer) ms us c.peer.session → Projects broken (took broken w c u ms) (taking c (u ∷ us))
+  unfolding owners
+  take_projects rest = record {
+    history = by_test (is_acted_on c.own.session u) (λ q. rw q (ap (cut_by c.own.session u) p.history)) (λ q. rw q p.history);
+    own = record {
+      begun = p.own.begun;
+      counted = record { acked = refl; based = refl; marked = taker_mark };
+      alike = λ l. record {
+        transport = was_alike.transport;
+        kept = refl;
+        mark = taker_mark;
+        said = was_alike.said;
+        got = by_test (is_acted_on c.own.session u) (grind (arith, was_alike, length-append)) (λ q. rw q was_alike.got);
+        owns = λ t. ap (λ (o : Owners). is_own (o t)) (left_lives (respond_unit c.own.session u).next owners lives_then)
+            ∙ read_after is_own pool_own c.own.session u (is_acted_on c.own.session u) w.owner c.owner t (was_alike.owns t);
+      };
+      carried = λ l. rest;
+      parted = λ l. ap (list_any parts) same_channel ∙ p.own.parted lives;
+    };
+    peer = record {
+      begun = p.peer.begun;
+      counted = p.peer.counted;
+      alike = λ l. let a = p.peer.alike l in record {
         transport = a.transport;
         kept = a.kept;
         mark = a.mark;
         said = a.said;
         got = a.got;
-        owns = λ t. left_theirs (respond_unit c.own.session u).next
-            (if is_acted_on c.own.session u then owners_after c.own.session u w.owner else w.owner) t
-            ∙ theirs l t (is_acted_on c.own.session u);
+        owns = λ t. left_theirs (respond_unit c.own.session u).next owners t
+            ∙ read_after (λ o. is_own (turned_owner o)) pool_theirs c.own.session u (is_acted_on c.own.session u) w.owner c.owner t
+            (a.owns t);
       };
-  carried = λ l. carried_on broken w.own.channel _ c.own.sent c.own.session (respond_unit c.own.session u).next _
-      (same_channel broken w c u us ms k) (lives_then broken w c u us ms k)
-      (subst (λ (b : Bool). Carried broken b w.own.channel c.own.sent c.own.session) k.lives (k.old.peer.carried l));
-  parted = λ l. (or_parts (parts (unit u)) (list_any parts ms) (ap (list_any parts) (sym k.channel) ∙ k.old.peer.parted l)).1;
-}
-  where
-    theirs : stopped w.peer ≡ false → (t : Token) (b : Bool)
-        → is_own (turned_owner ((if b then owners_after c.own.session u w.owner else w.owner) t))
-        ≡ is_own (turned_owner ((if b then owners_after c.own.session u c.owner else c.owner) t))
-    theirs l t true = theirs_after c.own.session u w.owner c.owner t ((k.old.peer.alike l).owns t)
-    theirs l t false = (k.old.peer.alike l).owns t
-
-pub take_projects : (broken : Bool) (w : World) (c : Core) (u : Meaning) (us : List Meaning) (ms : List Message) → Projects broken w c
-    → Stands (at c (u ∷ us)) → Stands (taking c (u ∷ us))
-    → stopped w.own ≡ false → w.peer.channel ≡ unit u ∷ ms → Carried broken (stopped w.peer) ms us c.peer.session
-    → Projects broken (took broken w c u ms) (taking c (u ∷ us))
-take_projects broken w c u us ms p all then_all lives e rest =
-    let k : Takes broken w c u us ms = record { old = p; all = all; then_all = then_all; lives = lives; channel = e } in
-    record {
-      history = by_test (is_acted_on c.own.session u) (λ q. rw q (ap (cut_by c.own.session u) p.history)) (λ q. rw q p.history);
-      own = record {
-        begun = k.old.own.begun;
-        counted = record { acked = refl; based = refl; marked = taker_mark broken w c u us ms k };
-        alike = λ l. record {
-          transport = (was_alike broken w c u us ms k).transport;
-          kept = refl;
-          mark = taker_mark broken w c u us ms k;
-          said = (was_alike broken w c u us ms k).said;
-          got = by_test (is_acted_on c.own.session u)
-              (grind (arith, was_alike, length-append))
-              (λ e. rw e (was_alike broken w c u us ms k).got);
-          owns = taker_owns broken w c u us ms k;
-        };
-        carried = λ l. rest;
-        parted = λ l. ap (list_any parts) (same_channel broken w c u us ms k) ∙ k.old.own.parted k.lives;
-      };
-      peer = giver_side broken w c u us ms k;
-    }
+      carried =
+          λ l. carried_on broken w.own.channel _ c.own.sent c.own.session (respond_unit c.own.session u).next _ same_channel lives_then
+          (subst (λ (b : Bool). Carried broken b w.own.channel c.own.sent c.own.session) lives (p.peer.carried l));
+      parted = λ l. (or_parts (parts (unit u)) (list_any parts ms) (ap (list_any parts) (sym e) ∙ p.peer.parted l)).1;
+    };
+  }
 
 -- ---- the first unit in flight is that of the core's channel, or the last of a side that is over
 
@@ -267,15 +230,13 @@ over_giver broken w c u ms p o e l = search (arith, or_parts, over_nothing, not-
 pub over_projects : (broken : Bool) (w : World) (c : Core) (u : Meaning) (ms : List Message) → Projects broken w c → stopped w.own ≡ true
     → w.peer.channel ≡ unit u ∷ ms
     → Projects broken (ignored broken w u ms) c
-over_projects broken w c u ms p o e = by_test (stopped w.peer)
-    (λ l. both_over broken (ignored broken w u ms) c
-    (over_history broken w u ms o ∙ p.history) p.own.begun ends p.peer.begun l counted p.peer.counted)
-    (λ l. assumption (
-      over_history broken w u ms o
-          ∙ p.history,
-      one_over broken (ignored broken w u ms) c p.own.begun ends counted,
-      over_giver broken w c u ms p o e l,
-    ))
+over_projects broken w c u ms p o e = assumption (
+  over_history broken w u ms o ∙ p.history,
+  one_over broken (ignored broken w u ms) c p.own.begun ends counted,
+  by_test (stopped w.peer)
+      (λ l. one_over broken (turned_world (ignored broken w u ms)) (turned c) p.peer.begun l p.peer.counted)
+      (λ l. over_giver broken w c u ms p o e l),
+)
   where
     ends : stopped (ignored broken w u ms).own ≡ true
     ends = over_next (session_of (without_first w ms)) u o

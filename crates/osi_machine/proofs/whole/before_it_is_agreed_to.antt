@@ -1,19 +1,20 @@
 -- A connection that was requested and not yet agreed to: nobody owns, sees or sends anything, until a CN is sent.
 -- For every_stage_of_a_connection.
-use Rattle.std.proofs.Common.{◌≡◌, refl, sym, ◌∙◌, ap, ℕ, zero, Bool, true, false, ◌||◌, List, [], ◌∷◌, take, ◌⊎◌, inl, inr, Err, arith}
-use Rattle.std.proofs.Common.{subst, ◌++◌}
 use Rattle.osi_machine.proofs.Vocabulary.{take-nil, State, Phase, Token, Call, CallError, allowed, is_over, is_wait_transport, is_wait_cn}
-use Rattle.osi_machine.proofs.Vocabulary.{is_profile, awaiting, Absent, Owners, own_to_pool, left_by, Offer, CanBeOffered, Left, Right}
+use Rattle.osi_machine.proofs.Vocabulary.{is_profile, awaiting, Absent, Owners, own_to_pool, left_by, CanBeOffered, Left, Right}
 use Rattle.osi_machine.proofs.Vocabulary.{Message, ask, agree, deny, Transport, not_yet, waiting, linked, gone, kept_of, End, World}
-use Rattle.osi_machine.proofs.Vocabulary.{session_of, ended_at, shown_at_end, turned as turned_world, Told, untold, or_left, or_right}
-use Rattle.osi_machine.proofs.Vocabulary.{list_any, Ended, Meaning, without_tokens, offering, offer_sent, core_start, unit, put, moved}
-use Rattle.osi_machine.proofs.Vocabulary.{Taking, unchanged, Terms, accepts, denies, asked_at, message_taken, without_first}
-use Rattle.osi_machine.proofs.basics.what_holds_in_each_phase.{excluded, by_test}
+use Rattle.osi_machine.proofs.Vocabulary.{session_of, ended_at, turned as turned_world, Told, untold, or_left, or_right, Ended}
+use Rattle.osi_machine.proofs.Vocabulary.{Meaning, without_tokens, offering, offer_sent, core_start, unit, put, moved, Taking, unchanged}
+use Rattle.osi_machine.proofs.Vocabulary.{Terms, accepts, denies, asked_at, message_taken, without_first, is_waiting, Class, learns}
+use Rattle.osi_machine.proofs.Vocabulary.{is_known, Option, ◌≡◌, refl, sym, ◌∙◌, ap, ℕ, zero, Bool, true, false, ◌||◌, List, [], ◌∷◌, take}
+use Rattle.osi_machine.proofs.Vocabulary.{◌⊎◌, inl, inr, Err, arith, subst, ◌++◌}
+use Rattle.osi_machine.proofs.basics.what_holds_in_each_phase.{excluded, by_test, by_either}
 use Rattle.osi_machine.proofs.promises.what_two_users_may_rely_on.{offer_stands}
 use Rattle.osi_machine.proofs.promises.what_a_record_tells.{told_all, Tells}
-use Rattle.osi_machine.proofs.whole.how_a_core_simulates_a_connection.{stopped, is_begun, parts, Carried, OneSide}
+use Rattle.osi_machine.proofs.whole.how_a_core_simulates_a_connection.{stopped, is_begun, Carried, cut_to}
+use Rattle.osi_machine.proofs.whole.a_call.{carried_more}
 use Rattle.osi_machine.proofs.whole.a_unit_is_taken.{put_nothing}
-use Rattle.osi_machine.proofs.whole.every_step_is_simulated.{refused, loss_told, Repeats}
+use Rattle.osi_machine.proofs.whole.every_step_is_simulated.{refused, Repeats}
 use Rattle.osi_session.specs.declared.faults.CallError.TheVariants as error
 
 -- ---- the lines
@@ -33,8 +34,8 @@ pub record Waits (x : End) : Type 0 where
   pub got : x.got ≡ 0
   pub zero_now : AreZero x.kept.confirmed x.kept.base x.mark
 
-pub record Idle (tr : Transport) (x : End) : Type 0 where
-  pub transport : x.transport ≡ tr
+pub record Idle (x : End) : Type 0 where
+  pub transport : (x.transport ≡ not_yet) ⊎ (x.transport ≡ linked)
   pub kept : x.kept ≡ kept_of awaiting
   pub mark : x.mark ≡ 0
   pub said : x.said ≡ []
@@ -46,41 +47,51 @@ pub record Left_it (x : End) : Type 0 where
   pub over_now : stopped x ≡ true
   pub zero_now : AreZero x.kept.confirmed x.kept.base x.mark
 
-pub called_zero : (x : End) → Idle not_yet x ⊎ (Idle linked x ⊎ Left_it x) → AreZero x.kept.confirmed x.kept.base x.mark
+pub called_zero : (x : End) → Idle x ⊎ Left_it x → AreZero x.kept.confirmed x.kept.base x.mark
 called_zero x h1 = search arith
+
+-- what a called end replies to a request
+abbrev pub answer_of : Terms → Message
+answer_of (accepts class) = agree
+answer_of (denies reason) = deny reason
+
+abbrev pub is_denial : Terms → Bool
+is_denial (denies reason) = true
+is_denial terms = false
 
 -- what is in flight
 pub data Way : Type 0 where
   nothing_sent : Way
   asked : Way
-  agreed : Way
-  denied : ℕ → Way
+  replied : Way
 
 abbrev pub asks : Way → List Message
 asks asked = ask ∷ []
 asks _ = []
 
-abbrev pub replies : Way → List Message
-replies agreed = agree ∷ []
-replies (denied reason) = deny reason ∷ []
-replies _ = []
+abbrev pub replies : Terms → Way → List Message
+replies terms replied = answer_of terms ∷ []
+replies terms _ = []
 
-abbrev pub suits : Way → Transport → Bool
-suits agreed tr = is_begun tr
-suits _ tr = true
+-- a side that has agreed has begun
+abbrev pub suits : Terms → Way → Transport → Bool
+suits (accepts class) replied tr = is_begun tr
+suits terms way tr = true
 
--- seen from the caller; t and u are what the records of both sides tell
-pub record Opens (w : World) (t u : Told) : Type 0 where
+-- seen from the caller, whose side has ended or not; t and u are what the records of both sides tell
+pub record Opens (terms : Terms) (past : Bool) (w : World) (t u : Told) : Type 0 where
   pub small : CanBeOffered w.offer
   pub profile : is_profile w.offer.requirements ≡ true
   pub history : w.history ≡ []
   pub owner : (k : Token) → w.owner k ≡ Absent
   pub caller : Waits w.own ⊎ Left_it w.own
-  pub called : Idle not_yet w.peer ⊎ (Idle linked w.peer ⊎ Left_it w.peer)
+  pub called : Idle w.peer ⊎ Left_it w.peer
   pub way : Way
   pub own_channel : w.own.channel ≡ asks way
-  pub peer_channel : w.peer.channel ≡ replies way
-  pub suited : suits way w.peer.transport ≡ true
+  pub peer_channel : w.peer.channel ≡ replies terms way
+  pub suited : suits terms way w.peer.transport ≡ true
+  -- a caller waits until its side ends or it is denied
+  pub stays : is_waiting w.own.transport ≡ false → (past || is_denial terms) ≡ true
   pub own_told : t ≡ untold Left w.offer
   pub peer_told : u ≡ untold Right w.offer
 
@@ -98,23 +109,18 @@ pub record Refuses (s : State) (x : Call) : Type 0 where
   pub fault : CallError
   pub refused : allowed s x ≡ Err fault
 
-pub caller_refuses : (w : World) (t u : Told) (x : Call) → Opens w t u → Refuses (session_of w) x
-caller_refuses w t u x h = elim h.caller [
-  | inl k ↦ record {
-    fault = error.BadState;
-    refused = grind (arith, refused_early, or_left);
-  }
-  | inr k ↦ record { fault = error.Ended; refused = refused (session_of w) x k.over_now }
-]
-
-pub called_refuses : (w : World) (t u : Told) (x : Call) → Opens w t u → Refuses (session_of (turned_world w)) x
-called_refuses w t u x h = elim h.called [
-  | inl k ↦ grind (arith, refused, or_right, refused_early (session_of (turned_world w)) x (grind (arith, or_right)))
-  | inr k ↦ elim k [
-    | inl i ↦ grind (arith, refused, or_right, refused_early (session_of (turned_world w)) x (grind (arith, or_right)))
-    | inr g ↦ record { fault = error.Ended; refused = refused (session_of (turned_world w)) x g.over_now }
+module _ (terms : Terms) (past : Bool) (w : World) (t u : Told) where
+  pub caller_refuses : (x : Call) → Opens terms past w t u → Refuses (session_of w) x
+  caller_refuses x h = elim h.caller [
+    | inl k ↦ record { fault = error.BadState; refused = grind (arith, refused_early, or_left) }
+    | inr k ↦ record { fault = error.Ended; refused = refused (session_of w) x k.over_now }
   ]
-]
+
+  pub called_refuses : (x : Call) → Opens terms past (turned_world w) t u → Refuses (session_of w) x
+  called_refuses x h = elim h.called [
+    | inl k ↦ record { fault = error.BadState; refused = grind (arith, refused_early, or_right) }
+    | inr g ↦ record { fault = error.Ended; refused = refused (session_of w) x g.over_now }
+  ]
 
 -- ---- an end
 
@@ -127,37 +133,40 @@ cut_asks zero asked = nothing_sent
 cut_asks k way = way
 
 abbrev cut_replies : ℕ → Way → Way
-cut_replies zero agreed = nothing_sent
-cut_replies zero (denied reason) = nothing_sent
+cut_replies zero replied = nothing_sent
 cut_replies k way = way
 
 take_asks : (k : ℕ) (way : Way) → take k (asks way) ≡ asks (cut_asks k way)
 take_asks k way = grind (arith, take-nil)
 
-take_replies : (k : ℕ) (way : Way) → take k (replies way) ≡ replies (cut_replies k way)
-take_replies k way = grind (arith, take-nil)
+take_replies : (k : ℕ) (terms : Terms) (way : Way) → take k (replies terms way) ≡ replies terms (cut_replies k way)
+take_replies k terms way = grind (arith, take-nil)
 
 asks_kept : (k : ℕ) (way : Way) → asks (cut_replies k way) ≡ asks way
 asks_kept k way = grind arith
 
--- the caller ends, and the called side
-pub caller_ends : (k : ℕ) (w : World) (t u : Told) → Opens w t u → Opens (ended_at k w) (told_all t (shown_at_end w)) u
-caller_ends k w t u h = search (arith, absent_left, take_asks, loss_told)
+replies_kept : (k : ℕ) (terms : Terms) (way : Way) → replies terms (cut_asks k way) ≡ replies terms way
+replies_kept k terms way = grind arith
 
-pub called_ends : (k : ℕ) (w : World) (t u : Told) → Opens (turned_world w) t u
-    → Opens (turned_world (ended_at k w)) t (told_all u (shown_at_end w))
-called_ends k w t u h = search (arith, absent_left, called_zero, asks_kept, take_replies, loss_told)
+-- it suits the terms still, also if the called side has ended
+cut_suits : (k j : ℕ) (terms : Terms) (way : Way) (tr : Transport) → suits terms way tr ≡ true
+    → (suits terms (cut_replies j (cut_asks k way)) tr ≡ true) × (suits terms (cut_replies j way) gone ≡ true)
+cut_suits k j terms way tr h = grind arith
 
--- ---- a break
+module _ (terms : Terms) (past : Bool) (w : World) (t u : Told) where
+  -- the caller ends, and the called side
+  pub caller_ends : (k : ℕ) → Opens terms past w t u → Opens terms true (ended_at k w) t u
+  caller_ends k h = search (arith, absent_left, take_asks, replies_kept, cut_suits)
 
-abbrev pub cut_both : ℕ → ℕ → World → World
-cut_both k j w = record w {
-  own = record w.own { channel = take k w.own.channel };
-  peer = record w.peer { channel = take j w.peer.channel };
-}
+  pub called_ends : (k : ℕ) → Opens terms past (turned_world w) t u → Opens terms past (turned_world (ended_at k w)) t u
+  called_ends k h = search (arith, absent_left, called_zero, asks_kept, take_replies, cut_suits)
 
-pub break_opens : (k j : ℕ) (w : World) (t u : Told) → Opens w t u → Opens (cut_both k j w) t u
-break_opens k j w t u h = search (arith, take_asks k h.way, asks_kept j (cut_asks k h.way), take_replies j (cut_asks k h.way))
+  -- a side that ends leaves a connection of which it has no reference; and a break
+  pub past_opens : Opens terms past w t u → Opens terms true w t u
+  past_opens h = grind arith
+
+  pub break_opens : (k j : ℕ) → Opens terms past w t u → Opens terms past (cut_to k j w) t u
+  break_opens k j h = search (arith, take_asks k h.way, asks_kept j (cut_asks k h.way), take_replies j terms (cut_asks k h.way), cut_suits)
 
 -- ---- the start
 
@@ -165,124 +174,125 @@ break_opens k j w t u h = search (arith, take_asks k h.way, asks_kept j (cut_ask
 abbrev started : Bool → World → World
 started broken w = moved broken linked (offering w.offer) (unit (offer_sent w.offer) ∷ []) (without_first w [])
 
+none_carried : (broken over_now : Bool) (channel : List Message) (s : State) → channel ≡ [] → Carried broken over_now channel [] s
+none_carried broken over_now channel s e =
+    record { there = []; lost = []; tail = []; splits = refl; carries = e; whole = inl refl; last = tt }
+
 first_carried : (broken : Bool) (channel : List Message) (m : Meaning) (s : State) → channel ≡ []
     → Carried broken false (put broken (unit m ∷ []) channel) (m ∷ []) s
-first_carried true channel m s e = record { there = []; lost = m ∷ []; tail = []; splits = refl; carries = e; whole = inr refl; last = tt }
-first_carried false channel m s e =
-    record {
-      there = m ∷ [];
-      lost = [];
-      tail = [];
-      splits = refl;
-      carries = ap (λ (ms : List Message). ms ++ unit m ∷ []) e;
-      whole = inl refl;
-      last = tt;
-    }
+first_carried broken channel m s e = carried_more broken channel [] s s m (none_carried broken false channel s e)
 
-first_parted : (broken : Bool) (o : Offer) (channel : List Message) → channel ≡ []
-    → list_any parts (put broken (unit (offer_sent o) ∷ []) channel) ≡ false
-first_parted broken o channel e = grind arith
+module _ (broken : Bool) (terms : Terms) (past : Bool) (w : World) (t u : Told) (h : Opens terms past w t u) where
+  start_repeats : Waits w.own → w.own.channel ≡ [] → is_begun w.peer.transport ≡ true → Repeats broken (started broken w) t u
+  start_repeats k e b = record {
+    core = core_start w.offer;
+    stands = offer_stands w.offer h.small h.profile;
+    projects = record {
+      history = h.history;
+      own = record {
+        begun = refl;
+        counted = record { acked = refl; based = refl; marked = k.mark };
+        alike = λ l. grind (arith, absent_left);
+        carried = λ l. none_carried broken (stopped w.peer) [] awaiting refl;
+        parted = λ l. grind arith;
+      };
+      peer = grind (arith, called_zero, first_carried);
+    };
+    own = subst (λ (d : Told). Tells d (offering w.offer) [] [] []) (sym h.own_told) (grind arith);
+    peer = subst (λ (d : Told). Tells d awaiting [] [] []) (sym h.peer_told) (grind arith);
+  }
 
-started_own : (broken : Bool) (w : World) (t u : Told) → Opens w t u → Waits w.own → w.own.channel ≡ []
-    → OneSide broken (started broken w) (core_start w.offer)
-started_own broken w t u h k e = record {
-  begun = refl;
-  counted = record { acked = refl; based = refl; marked = k.mark };
-  alike = λ l. grind (arith, absent_left);
-  carried = λ l. record { there = []; lost = []; tail = []; splits = refl; carries = refl; whole = inl refl; last = tt };
-  parted = λ l. first_parted broken w.offer w.own.channel e;
-}
+  -- what was in flight is gone
+  answered : w.own.channel ≡ [] → Opens terms past (without_first w []) t u
+  answered e = search arith
 
-start_repeats : (broken : Bool) (w : World) (t u : Told) → Opens w t u → Waits w.own → w.own.channel ≡ [] → is_begun w.peer.transport ≡ true
-    → Repeats broken (started broken w) t u
-start_repeats broken w t u h k e b = record {
-  core = core_start w.offer;
-  stands = offer_stands w.offer h.small h.profile;
-  projects = record { history = h.history; own = started_own broken w t u h k e; peer = (grind (arith, called_zero, first_carried)) };
-  own = subst (λ (d : Told). Tells d (offering w.offer) [] [] []) (sym h.own_told) (grind arith);
-  peer = subst (λ (d : Told). Tells d awaiting [] [] []) (sym h.peer_told) (grind arith);
-}
+  refused_now : (reason : ℕ) → w.own.channel ≡ [] → is_denial terms ≡ true
+      → Opens terms past (moved broken gone (without_tokens Ended (session_of (without_first w []))) [] (without_first w [])) t u
+  refused_now reason e d = search (arith, answered, absent_left, put_nothing)
 
 -- ---- what the caller takes
 
--- nothing is closed, and the connection is still to be agreed to, or is
-pub record OpenTaken (broken : Bool) (t u : Told) (k : Taking) : Type 0 where
-  pub stays_open : k.closes ≡ false
-  pub leads : Opens k.world (told_all t k.shown) u ⊎ Repeats broken k.world (told_all t k.shown) u
+-- nothing is closed, and the connection is still to be agreed to; or it is, and the class is known
+abbrev pub OpenTaken : Bool → Terms → Bool → Option Class → Told → Told → Taking → Type 0
+OpenTaken broken terms past known t u k = (k.closes ≡ false) × (Opens terms past k.world (told_all t k.shown) u
+    ⊎ ((is_known known ≡ true) × Repeats broken k.world (told_all t k.shown) u))
 
--- what was in flight is gone
-answered : (w : World) (t u : Told) → Opens w t u → w.own.channel ≡ [] → Opens (without_first w []) t u
-answered w t u h e = search arith
+-- by its transport connection
+taken_at : (broken : Bool) (terms : Terms) (past : Bool) (known : Option Class) (k : ℕ) (w : World) (t u : Told) (m : Message)
+    (tr : Transport)
+    → w.own.transport ≡ tr
+    → OpenTaken broken terms past (learns terms tr m known) t u (message_taken broken terms k tr (without_first w []) m)
+    → OpenTaken broken terms past (learns terms w.own.transport m known) t u
+    (message_taken broken terms k w.own.transport (without_first w []) m)
+taken_at broken terms past known k w t u m tr e h = subst (λ (d : Transport). OpenTaken broken terms past (learns terms d m known) t u
+    (message_taken broken terms k d (without_first w []) m)) (sym e) h
 
-refused_now : (broken : Bool) (w : World) (t u : Told) (reason : ℕ) → Opens w t u → w.own.channel ≡ []
-    → Opens (moved broken gone (without_tokens Ended (session_of (without_first w []))) [] (without_first w [])) t u
-refused_now broken w t u reason h e = search (arith, answered, absent_left, put_nothing)
+reply_taken : (broken : Bool) (terms : Terms) (past : Bool) (known : Option Class) (k : ℕ) (w : World) (t u : Told) → Opens terms past w t u
+    → w.own.channel ≡ [] → suits terms replied w.peer.transport ≡ true
+    → OpenTaken broken terms past (learns terms w.own.transport (answer_of terms) known) t u
+    (message_taken broken terms k w.own.transport (without_first w []) (answer_of terms))
+reply_taken broken (accepts class) past known k w t u h e b = by_either h.caller
+    (λ y. taken_at broken (accepts class) past known k w t u agree waiting y.transport
+    (refl, inr (refl, start_repeats broken (accepts class) past w t u h y e b)))
+    (λ g. taken_at broken (accepts class) past known k w t u agree gone g.transport
+    (refl, inl (answered broken (accepts class) past w t u h e)))
+reply_taken broken (denies reason) past known k w t u h e b = by_either h.caller
+    (λ y. taken_at broken (denies reason) past known k w t u (deny reason) waiting y.transport
+    (refl, inl (refused_now broken (denies reason) past w t u h reason e refl)))
+    (λ g. taken_at broken (denies reason) past known k w t u (deny reason) gone g.transport
+    (refl, inl (answered broken (denies reason) past w t u h e)))
 
-asks_none : (way : Way) (m : Message) (ms : List Message) → m ∷ ms ≡ replies way → asks way ≡ []
-asks_none way m ms e = grind arith
-
-module _ (broken : Bool) (terms : Terms) (k : ℕ) (w : World) (t u : Told) where
-  caller_agreed : Opens w t u → w.own.channel ≡ [] → is_begun w.peer.transport ≡ true
-      → OpenTaken broken t u (message_taken broken terms k w.own.transport (without_first w []) agree)
-  caller_agreed h e b = search (arith, start_repeats, answered)
-
-  caller_denied : (reason : ℕ) → Opens w t u → w.own.channel ≡ []
-      → OpenTaken broken t u (message_taken broken terms k w.own.transport (without_first w []) (deny reason))
-  caller_denied reason h e = search (arith, refused_now, answered)
-
-  by_way : (m : Message) (ms : List Message) → Opens w t u → w.own.channel ≡ [] → (way : Way) → m ∷ ms ≡ replies way
-      → suits way w.peer.transport ≡ true → OpenTaken broken t u (message_taken broken terms k w.own.transport (without_first w ms) m)
-  by_way m ms h e nothing_sent f b = absurd (cc)
-  by_way m ms h e asked f b = absurd (cc)
-  by_way m ms h e agreed f b = grind (arith, caller_agreed h e b)
-  by_way m ms h e (denied r) f b = grind (arith, caller_denied r h e)
-
-  pub caller_takes : (m : Message) (ms : List Message) → Opens w t u → w.peer.channel ≡ m ∷ ms
-      → OpenTaken broken t u (message_taken broken terms k w.own.transport (without_first w ms) m)
-  caller_takes m ms h e =
-      let f = sym e ∙ h.peer_channel in
-      by_way m ms h (h.own_channel ∙ asks_none h.way m ms f) h.way f h.suited
+pub caller_takes : (broken : Bool) (terms : Terms) (past : Bool) (known : Option Class) (k : ℕ) (w : World) (t u : Told) (m : Message)
+    (ms : List Message) → Opens terms past w t u → w.peer.channel ≡ m ∷ ms
+    → OpenTaken broken terms past (learns terms w.own.transport m known) t u
+    (message_taken broken terms k w.own.transport (without_first w ms) m)
+caller_takes broken terms past known k w t u m ms h e = by h.way (sym e ∙ h.peer_channel) h.own_channel h.suited
+  where
+    by : (way : Way) → m ∷ ms ≡ replies terms way → w.own.channel ≡ asks way → suits terms way w.peer.transport ≡ true
+        → OpenTaken broken terms past (learns terms w.own.transport m known) t u
+        (message_taken broken terms k w.own.transport (without_first w ms) m)
+    by replied f q b = grind (arith, reply_taken broken terms past known k w t u h q b)
+    by _ f q b = absurd (cc)
 
 -- ---- what the called side takes
 
-pub record CalledTaken (t u : Told) (k : Taking) : Type 0 where
-  pub stays_open : k.closes ≡ false
-  pub leads : Opens (turned_world k.world) t (told_all u k.shown)
+abbrev pub CalledTaken : Terms → Bool → Told → Told → Taking → Type 0
+CalledTaken terms past t u k = (k.closes ≡ false) × Opens terms past (turned_world k.world) t (told_all u k.shown)
 
 -- the request is taken by a side that has ended
-asked_late : (w : World) (t u : Told) → Opens (turned_world w) t u → w.own.channel ≡ [] → Opens (turned_world (without_first w [])) t u
-asked_late w t u h e = search arith
+asked_late : (terms : Terms) (past : Bool) (w : World) (t u : Told) → Opens terms past (turned_world w) t u → w.own.channel ≡ []
+    → Opens terms past (turned_world (without_first w [])) t u
+asked_late terms past w t u h e = search arith
 
-denied_now : (broken : Bool) (w : World) (t u : Told) (reason : ℕ) → Opens (turned_world w) t u → w.own.channel ≡ [] → Idle not_yet w.own
-    → (way : Way) → put broken (deny reason ∷ []) w.own.channel ≡ replies way → asks way ≡ [] → suits way w.own.transport ≡ true
-    → Opens (turned_world (record (without_first w [])
+denied_now : (broken : Bool) (terms : Terms) (past : Bool) (w : World) (t u : Told) (reason : ℕ) → Opens terms past (turned_world w) t u
+    → w.own.channel ≡ [] → Idle w.own → w.own.transport ≡ not_yet
+    → (way : Way) → put broken (deny reason ∷ []) w.own.channel ≡ replies terms way → asks way ≡ [] → suits terms way w.own.transport ≡ true
+    → Opens terms past (turned_world (record (without_first w [])
     { own = record w.own { channel = put broken (deny reason ∷ []) w.own.channel } })) t u
-denied_now broken w t u reason h e k way f none s = grind arith
+denied_now broken terms past w t u reason h e k y way f none s = grind arith
 
-asked_now : (broken : Bool) (terms : Terms) (w : World) (t u : Told) → Opens (turned_world w) t u → w.own.channel ≡ [] → Idle not_yet w.own
-    → CalledTaken t u (unchanged (asked_at broken terms (without_first w [])))
-asked_now true (accepts class) w t u h e k = record { stays_open = refl; leads = (grind arith) }
-asked_now false (accepts class) w t u h e k = search arith
-asked_now true (denies reason) w t u h e k =
-    record { stays_open = refl; leads = denied_now true w t u reason h e k nothing_sent e refl refl }
-asked_now false (denies reason) w t u h e k =
-    record {
-      stays_open = refl;
-      leads = denied_now false w t u reason h e k (denied reason)
-          (ap (λ (ms : List Message). ms ++ deny reason ∷ []) e) refl refl;
-    }
+asked_now : (broken : Bool) (terms : Terms) (past : Bool) (w : World) (t u : Told) → Opens terms past (turned_world w) t u
+    → w.own.channel ≡ [] → Idle w.own → w.own.transport ≡ not_yet → CalledTaken terms past t u
+    (unchanged (asked_at broken terms (without_first w [])))
+asked_now true (accepts class) past w t u h e k y = (refl, grind arith)
+asked_now false (accepts class) past w t u h e k y = search arith
+asked_now true (denies reason) past w t u h e k y =
+    (refl, denied_now true (denies reason) past w t u reason h e k y nothing_sent e refl refl)
+asked_now false (denies reason) past w t u h e k y = (
+  refl,
+  denied_now false (denies reason) past w t u reason h e k y replied
+      (ap (λ (ms : List Message). ms ++ deny reason ∷ []) e) refl refl,
+)
 
-asked_message : (broken : Bool) (terms : Terms) (k : ℕ) (w : World) (t u : Told) → Opens (turned_world w) t u → w.own.channel ≡ []
-    → CalledTaken t u (message_taken broken terms k w.own.transport (without_first w []) ask)
-asked_message broken terms k w t u h e = search (arith, asked_now, asked_late)
+module _ (broken : Bool) (terms : Terms) (past : Bool) (k : ℕ) (w : World) (t u : Told) (h : Opens terms past (turned_world w) t u) where
+  asked_message : w.own.channel ≡ [] → CalledTaken terms past t u (message_taken broken terms k w.own.transport (without_first w []) ask)
+  asked_message e = search (arith, asked_now, asked_late)
 
-called_way : (broken : Bool) (terms : Terms) (k : ℕ) (w : World) (t u : Told) (m : Message) (ms : List Message) → Opens (turned_world w) t u
-    → (way : Way) → m ∷ ms ≡ asks way → w.own.channel ≡ replies way
-    → CalledTaken t u (message_taken broken terms k w.own.transport (without_first w ms) m)
-called_way broken terms k w t u m ms h asked f e = grind (arith, asked_message broken terms k w t u h e)
-called_way broken terms k w t u m ms h _ f e = absurd (cc)
-
-pub called_takes : (broken : Bool) (terms : Terms) (k : ℕ) (w : World) (t u : Told) (m : Message) (ms : List Message)
-    → Opens (turned_world w) t u → w.peer.channel ≡ m ∷ ms
-    → CalledTaken t u (message_taken broken terms k w.own.transport (without_first w ms) m)
-called_takes broken terms k w t u m ms h e = called_way broken terms k w t u m ms h h.way (sym e ∙ h.own_channel) h.peer_channel
+  pub called_takes : (m : Message) (ms : List Message) → w.peer.channel ≡ m ∷ ms
+      → CalledTaken terms past t u (message_taken broken terms k w.own.transport (without_first w ms) m)
+  called_takes m ms e = by h.way (sym e ∙ h.own_channel) h.peer_channel
+    where
+      by : (way : Way) → m ∷ ms ≡ asks way → w.own.channel ≡ replies terms way
+          → CalledTaken terms past t u (message_taken broken terms k w.own.transport (without_first w ms) m)
+      by asked f q = grind (arith, asked_message q)
+      by _ f q = absurd (cc)

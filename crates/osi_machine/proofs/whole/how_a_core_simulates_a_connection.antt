@@ -84,6 +84,14 @@ pub record Projects (broken : Bool) (w : World) (c : Core) : Type 0 where
   pub own : OneSide broken w c
   pub peer : OneSide broken (turned_world w) (turned c)
 
+-- ---- a break: so many messages stay in each channel
+
+abbrev pub cut_to : ℕ → ℕ → World → World
+cut_to left right w = record w {
+  own = record w.own { channel = take left w.own.channel };
+  peer = record w.peer { channel = take right w.peer.channel };
+}
+
 -- ---- if both sides are over, this alone is stated
 
 pub not_both : {A : Type 0} (b : Bool) → b ≡ true → b ≡ false → A

@@ -5,8 +5,8 @@ use Rattle.osi_pair.proofs.Vocabulary.{◌≡◌, refl, sym, ◌∙◌, ℕ, zer
 use Rattle.osi_pair.proofs.Vocabulary.{Some, None, arith, lt-ltb, le-leb, leb-true, leb-false, was_given, value_at, Connection, Between}
 use Rattle.osi_pair.proofs.Vocabulary.{connection_at, is_given, Seat, Line, Tables, side_of, allowed, Call, HasSerial, Standing, called}
 use Rattle.osi_pair.proofs.Vocabulary.{react, is_ended, CallError, call_error, table_error, AllCameAbout, Soundness, End, Holding}
-use Rattle.osi_pair.proofs.Vocabulary.{session_at, TwoEnds, end_at, side_in, transport_in, IsSeated, Stands, Side}
-use Rattle.osi_pair.proofs.turn.what_an_acting_end_leaves_in_flight.{of_end, there, NoneBeyond, place_given}
+use Rattle.osi_pair.proofs.Vocabulary.{session_at, TwoEnds, end_at, side_in, transport_in, IsSeated, Stands, Side, none_there}
+use Rattle.osi_pair.proofs.turn.what_an_acting_end_leaves_in_flight.{of_end, there, place_given}
 use Rattle.osi_pair.proofs.session.an_end_moves_as_the_tables_do.{calls_so}
 use Rattle.osi_pair.proofs.turn.a_turn_keeps_the_match.{seen}
 
@@ -39,27 +39,27 @@ seat_at r h seat call false some e s = search (arith, leb-false)
 
 -- ---- at two ends that match the tables
 
-none_there : (r : ℕ) (side : Side) (p : TwoEnds) (b : Between) (t : Tables) (call : Call) → Stands p b t → connection_at r t.lines ≡ None →
+none_given : (r : ℕ) (side : Side) (p : TwoEnds) (b : Between) (t : Tables) (call : Call) → Stands p b t → connection_at r t.lines ≡ None →
     table_error r call (end_at side p).end ≡ Some error.NoSuchConnection
-none_there zero side p b t call s at = refl
-none_there (suc k) side p b t call s at = by_fit (nat_le (suc k) (length t.lines)) refl
+none_given zero side p b t call s at = refl
+none_given (suc k) side p b t call s at = by_fit (nat_le (suc k) (length t.lines)) refl
   where
     by_fit : (fits : Bool) → nat_le (suc k) (length t.lines) ≡ fits →
         table_error (suc k) call (end_at side p).end ≡ Some error.NoSuchConnection
     by_fit true e = let h = s.lines (suc k) (omega arith) (leb-true (suc k) (length t.lines) e) in let no = sym at ∙ h.found in absurd cc
     by_fit false e = let above = leb-false (suc k) (length t.lines) e in grind (arith, of_end)
 
-table_at : NoneBeyond → (r : ℕ) (side : Side) (p : TwoEnds) (b : Between) (t : Tables) (call : Call) (o : Option Line) → Stands p b t →
+table_at : (r : ℕ) (side : Side) (p : TwoEnds) (b : Between) (t : Tables) (call : Call) (o : Option Line) → Stands p b t →
     connection_at r t.lines ≡ o → table_error r call (end_at side p).end ≡ line_error (side_of (side_in side) o) call
-table_at none r side p b t call None s at = none_there r side p b t call s at
-table_at none r side p b t call (Some l) s at = grind (arith, seat_at, seen, there none r p b t l s at)
+table_at r side p b t call None s at = none_given r side p b t call s at
+table_at r side p b t call (Some l) s at = grind (arith, seat_at, seen, there none_there r p b t l s at)
 
 -- an error of the carrier makes no difference
 abbrev pub Answered : Type 0
 Answered = (r : ℕ) (call : Call) (e : End) → HasSerial call → e.carrier.ended ≡ None → Soundness e → AllCameAbout e.lines →
     call_error r call e ≡ table_error r call e
 
-pub answer_same : NoneBeyond → Answered → (r : ℕ) (side : Side) (p : TwoEnds) (b : Between) (t : Tables) (call : Call) → HasSerial call →
+pub answer_same : Answered → (r : ℕ) (side : Side) (p : TwoEnds) (b : Between) (t : Tables) (call : Call) → HasSerial call →
     Stands p b t → call_error r call (end_at side p).end ≡ line_error (side_of (side_in side) (connection_at r t.lines)) call
-answer_same none answers r side p b t call serial s =
-    search (arith, of_end side p b t s, table_at none r side p b t call (connection_at r t.lines) s refl)
+answer_same answers r side p b t call serial s =
+    search (arith, of_end side p b t s, table_at r side p b t call (connection_at r t.lines) s refl)

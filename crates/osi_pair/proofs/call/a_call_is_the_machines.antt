@@ -1,5 +1,5 @@
--- A call of the user of an end is a call of the machine.
--- For calls, breaks and ends and packets.
+-- A call of the user of an end is a call of the machine: two ends match the tables after it, as the tables are after theirs.
+-- For calls, breaks and ends, packets and the laws of `standing`.
 use Rattle.osi_between.specs.Between as two
 use Rattle.osi_between.specs.Messages as carrier
 use Rattle.osi_machine.specs.Machine as entries
@@ -9,27 +9,30 @@ use Rattle.osi_machine.specs.Worlds as worlds
 use Rattle.osi_session.specs.Listening as words
 use Rattle.osi_stack.specs.State as stack
 use Rattle.osi_pair.specs.Entries.{calls}
-use Rattle.osi_pair.proofs.Vocabulary.{◌≡◌, ◌≢◌, refl, sym, ◌∙◌, ap, subst, ℕ, zero, suc, ◌≤◌, Bool, true, false, if◌then◌else◌, List, []}
-use Rattle.osi_pair.proofs.Vocabulary.{◌∷◌, ◌++◌, length, map, Option, Some, None, is_some, IsSome, Ok, arith, append-nil, AllByRecursion}
-use Rattle.osi_pair.proofs.Vocabulary.{slice_get, IsOctets, IsShortTsdu, open_link, sent, sent_all, was_given, place_at, RiseFrom, Rows}
-use Rattle.osi_pair.proofs.Vocabulary.{value_at, Connection, linked, State as Carrier, EndReason, put_here, put_other, Both, Between}
-use Rattle.osi_pair.proofs.Vocabulary.{AreBetween, Acted, Carries, becomes, last_of, progress_of, in_use, Terms, terms_of, IsTableRun}
-use Rattle.osi_pair.proofs.Vocabulary.{AreSoundLines, connection_at, with_connection, call_answered, replaced, Seat, Line, Tables}
-use Rattle.osi_pair.proofs.Vocabulary.{seen_from, side_of, stays, call_in, step, Message, unit, replied, IsInOctets, Meaning, IsSendable}
-use Rattle.osi_pair.proofs.Vocabulary.{words_sent, tsdus_of, allowed, octets_of, Passed, Call, HasSerial, Listener, called, react, Shown}
-use Rattle.osi_pair.proofs.Vocabulary.{limit_of, CallError, call_error, AllCameAbout, IsSound, Says, kept_at, to_session, End, Holding}
-use Rattle.osi_pair.proofs.Vocabulary.{session_in, session_at, IsAttended, puts_words, TwoEnds, end_at, with_end, noted, called_by_error}
-use Rattle.osi_pair.proofs.Vocabulary.{side_in, is_caller, carriers_of, transport_in, is_parting, IsSeated, Stands, HasJoined, joining}
-use Rattle.osi_pair.proofs.Vocabulary.{word_in, waiting_in, Word, Side, Left, Right, called_calm, Link, put_row as put, SessionStep as Step}
-use Rattle.osi_pair.proofs.Vocabulary.{IsSoundState, SessionState as State}
-use Rattle.osi_pair.proofs.turn.what_an_acting_end_leaves_in_flight.{out_way, back_way, place_given, OfEnd, of_end, NoneBeyond, more_said}
-use Rattle.osi_pair.proofs.turn.what_an_acting_end_leaves_in_flight.{StandsOn}
-use Rattle.osi_pair.proofs.call.a_call_is_answered_as_by_the_machine.{line_error, Answered}
+use Rattle.osi_pair.specs.Ends as ends
+use Rattle.osi_pair.proofs.Vocabulary.{◌≡◌, ◌≢◌, refl, sym, ◌∙◌, ap, subst, ℕ, zero, suc, ◌≤◌, Bool, true, false, List, [], ◌∷◌, ◌++◌, map}
+use Rattle.osi_pair.proofs.Vocabulary.{Option, Some, None, is_some, IsSome, Ok, arith, append-nil, AllByRecursion, slice_get, IsOctets}
+use Rattle.osi_pair.proofs.Vocabulary.{IsShortTsdu, open_link, sent, sent_all, was_given, place_at, RiseFrom, Rows, value_at, Connection}
+use Rattle.osi_pair.proofs.Vocabulary.{linked, State as Carrier, EndReason, put_here, put_other, Both, Between, AreBetween, Acted, Carries}
+use Rattle.osi_pair.proofs.Vocabulary.{becomes, last_of, progress_of, in_use, Terms, terms_of, IsTableRun, AreSoundLines, connection_at}
+use Rattle.osi_pair.proofs.Vocabulary.{call_answered, replaced, Seat, Line, Tables, seen_from, side_of, stays, call_in, step, Message, unit}
+use Rattle.osi_pair.proofs.Vocabulary.{replied, IsInOctets, Meaning, IsSendable, words_sent, tsdus_of, allowed, octets_of, Passed, Call}
+use Rattle.osi_pair.proofs.Vocabulary.{HasSerial, Listener, called, react, Shown, limit_of, CallError, call_error, AllCameAbout, IsSound}
+use Rattle.osi_pair.proofs.Vocabulary.{Says, kept_at, to_session, End, Holding, session_in, session_at, IsAttended, puts_words, TwoEnds}
+use Rattle.osi_pair.proofs.Vocabulary.{end_at, with_end, noted, called_by_error, side_in, is_caller, carriers_of, transport_in, is_parting}
+use Rattle.osi_pair.proofs.Vocabulary.{IsSeated, Stands, HasJoined, joining, word_in, waiting_in, Word, Side, Left, Right, called_calm}
+use Rattle.osi_pair.proofs.Vocabulary.{Link, put_row as put, SessionStep as Granted, IsSoundState, SessionState as State, limit_sized}
+use Rattle.osi_pair.proofs.Vocabulary.{Local, IsSoundSeat, Step, run, StandsAt, nat_lt, if◌then◌else◌, none_there}
+use Rattle.osi_pair.proofs.turn.what_an_acting_end_leaves_in_flight.{out_way, back_way, place_given, of_end, more_said, StandsOn, There}
+use Rattle.osi_pair.proofs.turn.what_an_acting_end_leaves_in_flight.{there, begun_with, one_step}
+use Rattle.osi_pair.proofs.call.a_call_is_answered_as_by_the_machine.{line_error, Answered, answer_same}
 use Rattle.osi_pair.proofs.session.an_end_moves_as_the_tables_do.{calls_so, calls_keep}
 use Rattle.osi_pair.proofs.session.a_seat_is_its_progress_and_session.{live_session}
 use Rattle.osi_pair.proofs.words.added_and_cut_words_are_messages.{AreWords}
-use Rattle.osi_pair.proofs.words.a_message_leaves_in_its_words.{PartLaws, word_of, carried_words}
-use Rattle.osi_pair.proofs.turn.a_turn_keeps_the_match.{IsSeen, seen_twice}
+use Rattle.osi_pair.proofs.words.a_message_leaves_in_its_words.{PartLaws, word_of, carried_words, words_of_message}
+use Rattle.osi_pair.proofs.turn.a_turn_keeps_the_match.{IsSeen, seen_twice, turned_stands, seen, still_there, with_holding}
+use Rattle.osi_pair.proofs.turn.an_open_connection_acts.{turned_by}
+use Rattle.osi_pair.proofs.call.what_a_call_sends_can_be_written.{call_in_octets}
 
 -- the laws of the crates below
 pub record CallLaws : Type 0 where
@@ -47,16 +50,9 @@ pub record CallLaws : Type 0 where
       AllCameAbout (to_session r (words.called call) e).lines
   pub parts : PartLaws
   pub octets : (limit : ℕ) (m : Meaning) → IsSendable m → IsInOctets m → AllByRecursion IsOctets (tsdus_of limit m)
-  pub passed : (s : State) (c : Call) (x : Step) → allowed s c ≡ Ok x → Passed s c x
-  pub sendable : (s : State) (c : Call) (x : Step) → IsSoundState s → HasSerial c → allowed s c ≡ Ok x → IsSendable x.sent
-  pub says_octets : (s : State) (c : Call) (x : Step) → allowed s c ≡ Ok x → IsSendable x.sent → IsOctets (octets_of c) → IsInOctets x.sent
+  pub passed : (s : State) (c : Call) (x : Granted) → allowed s c ≡ Ok x → Passed s c x
+  pub sendable : (s : State) (c : Call) (x : Granted) → IsSoundState s → HasSerial c → allowed s c ≡ Ok x → IsSendable x.sent
   pub sound_lines : (t : Tables) → IsTableRun t → AreSoundLines t
-  pub same : (r : ℕ) (lines : List Line) (old new : Line) → connection_at r lines ≡ Some old →
-      connection_at r (with_connection r new lines) ≡ Some new
-  pub apart : (q r : ℕ) (lines : List Line) (new : Line) → (q ≡ r → ⊥) →
-      connection_at q (with_connection r new lines) ≡ connection_at q lines
-  pub count : (r : ℕ) (lines : List Line) (new : Line) → length (with_connection r new lines) ≡ length lines
-  pub none : NoneBeyond
 
 -- ---- a refused call
 
@@ -121,10 +117,6 @@ pub record SentOn (r : ℕ) (c new : Carrier) : Type 0 where
   pub link : Link
   pub live : new.live ≡ put r (linked peer link) c.live
 
-pub sent_is : (r : ℕ) (tsdu : List ℕ) (c : Carrier) (peer : ℕ) (link : Link) → open_link r c ≡ Some (peer, link) →
-    SentOn r c (sent r tsdu c)
-sent_is r tsdu c peer link is = grind arith
-
 -- TSDUs that are sent together leave it so
 pub record StaysOpen (r : ℕ) (c new : Carrier) : Type 0 where
   pub is_caller : new.is_caller ≡ c.is_caller
@@ -141,7 +133,8 @@ all_sent : (r : ℕ) (tsdus : List (List ℕ)) (c : Carrier) (peer : ℕ) (link 
     value_at r c.live ≡ Some (linked peer link) → StaysOpen r c (sent_all r tsdus c)
 all_sent r [] c peer link lasts at = grind arith
 all_sent r (tsdu ∷ tsdus) c peer link lasts at =
-    let k = sent_is r tsdu c peer link (grind arith) in
+    let is : open_link r c ≡ Some (peer, link) = grind arith in
+    let k : SentOn r c (sent r tsdu c) = grind arith in
     grind (
       arith,
       put_here,
@@ -159,7 +152,7 @@ now_of r call h = record h { end = to_session r (words.called call) h.end }
 pub record Called (r : ℕ) (call : Call) (h : Holding) : Type 0 where
   pub session : Listener
   pub was : session_at r h.end ≡ Some session
-  pub granted : Step
+  pub granted : Granted
   pub accepted : allowed session.state call ≡ Ok granted
   pub reply : (words.react session (words.called call)).reply ≡ Some granted.sent
   pub waits : (words.react session (words.called call)).next.waiting ≡ session.waiting
@@ -190,49 +183,69 @@ called_is laws r call h none =
     let waiting_now = ap (λ (l : List Shown). s.acts.line.waiting ++ l) g.shown ∙ append-nil s.acts.line.waiting in
     search
 
-place_now : (r : ℕ) (call : Call) (h : Holding) (c : Called r call h) → r ≤ h.end.carrier.given →
-    place_at r (now_of r call h).end.carrier ≡ was_given (Some (linked c.kept.peer c.kept.link))
-place_now r call h c within = grind arith
-
-place_then : (r : ℕ) (call : Call) (h : Holding) (c : Called r call h) → r ≤ h.end.carrier.given →
-    place_at r h.end.carrier ≡ was_given (Some (linked c.opened.peer c.opened.link))
-place_then r call h c within = place_given r h.end.carrier within ∙ ap was_given c.opened.at
-
-line_found : (r : ℕ) (call : Call) (h : Holding) (c : Called r call h) → value_at r (now_of r call h).end.lines ≡ Some c.line_now
-line_found r call h c = ap (value_at r) c.lines ∙ put_here r c.line_now c.line h.end.lines c.found
-
 pub session_now_is : (r : ℕ) (e : End) (x : Connection) (l : stack.Line) → value_at r e.carrier.live ≡ Some x →
     value_at r e.lines ≡ Some l → session_at r e ≡ l.session
 session_now_is r e x l live at = grind arith
 
--- the session of the seat is the one that was called
-pub seat_session : (r : ℕ) (call : Call) (h : Holding) (seat : Seat) (c : Called r call h) → (s : IsSeated r h seat) →
-    joining s.joined seat.session ≡ c.session
-seat_session r call h seat c s = grind arith
+quiet_put : (r : ℕ) (x y : stack.Line) (lines : Rows stack.Line) → y.waiting ≡ x.waiting → value_at r lines ≡ Some x →
+    waiting_in (put r y lines) ≡ waiting_in lines
+quiet_put r x y [] same at = refl
+quiet_put r x y ((q, z) ∷ lines) same at = grind (arith, quiet_put r x y lines same)
 
--- and it makes the move that the seat's makes
-next_so : (r : ℕ) (call : Call) (h : Holding) (seat : Seat) (c : Called r call h) → IsSeated r h seat →
-    (words.react c.session (words.called call)).next ≡ joining (words.react c.session (words.called call)).next.joined
-    (react seat.session (called call)).next
-next_so r call h seat c s = grind (arith, seat_session, calls_so)
+module _ (r : ℕ) (call : Call) (h : Holding) (c : Called r call h) where
+  abbrev now : Holding
+  now = now_of r call h
 
-seat_now : (r : ℕ) (call : Call) (h : Holding) (broken : Bool) (x : Line) (c : Called r call h) → r ≤ h.end.carrier.given →
-    IsSeated r h x.own → IsSeated r (now_of r call h) (after_call broken call x).own
-seat_now r call h broken x c within s =
-    let next = next_so r call h x.own c s in
-    let transport : x.own.transport ≡ worlds.linked = s.transport ∙ ap transport_in (place_then r call h c within) in
-    let joined = (words.react c.session (words.called call)).next.joined in
-    let session : Option Listener = Some (joining joined (react x.own.session (called call)).next) in
-    let now : c.line_now.session ≡ session = c.session_now ∙ ap Some next in
-    record {
-      joined = joined;
-      transport = transport ∙ ap transport_in (sym (place_now r call h c within));
-      live = grind (arith, session_now_is, line_found r call h c);
-      kept = λ y e. let is : Some y ≡ session = sym e ∙ ap session_in (line_found r call h c) ∙ now in cc;
-      over_now = λ e. let no : false ≡ true = sym (ap is_parting transport) ∙ e in absurd cc;
-      awaiting = λ e. let no : worlds.linked ≡ worlds.not_yet = sym transport ∙ e in absurd cc;
-      octets = grind (arith, seat_session);
-    }
+  place_now : r ≤ h.end.carrier.given → place_at r now.end.carrier ≡ was_given (Some (linked c.kept.peer c.kept.link))
+  place_now within = grind arith
+
+  place_then : r ≤ h.end.carrier.given → place_at r h.end.carrier ≡ was_given (Some (linked c.opened.peer c.opened.link))
+  place_then within = place_given r h.end.carrier within ∙ ap was_given c.opened.at
+
+  line_found : value_at r now.end.lines ≡ Some c.line_now
+  line_found = ap (value_at r) c.lines ∙ put_here r c.line_now c.line h.end.lines c.found
+
+  pub lasts_now : now.end.carrier.ended ≡ None
+  lasts_now = c.kept.ended ∙ c.opened.lasts
+
+  -- the session of the seat is the one that was called, and it makes the move that the seat's makes
+  pub seat_session : (seat : Seat) (s : IsSeated r h seat) → joining s.joined seat.session ≡ c.session
+  seat_session seat s = grind arith
+
+  next_so : (seat : Seat) → IsSeated r h seat →
+      (words.react c.session (words.called call)).next ≡ joining (words.react c.session (words.called call)).next.joined
+      (react seat.session (called call)).next
+  next_so seat s = grind (arith, seat_session, calls_so)
+
+  seat_now : (broken : Bool) (x : Line) → r ≤ h.end.carrier.given → IsSeated r h x.own → IsSeated r now (after_call broken call x).own
+  seat_now broken x within s =
+      let next = next_so x.own s in
+      let transport : x.own.transport ≡ worlds.linked = s.transport ∙ ap transport_in (place_then within) in
+      let joined = (words.react c.session (words.called call)).next.joined in
+      let session : Option Listener = Some (joining joined (react x.own.session (called call)).next) in
+      let now_is : c.line_now.session ≡ session = c.session_now ∙ ap Some next in
+      record {
+        joined = joined;
+        transport = transport ∙ ap transport_in (sym (place_now within));
+        live = grind (arith, session_now_is, line_found);
+        kept = λ y e. let is : Some y ≡ session = sym e ∙ ap session_in line_found ∙ now_is in cc;
+        over_now = λ e. let no : false ≡ true = sym (ap is_parting transport) ∙ e in absurd cc;
+        awaiting = λ e. let no : worlds.linked ≡ worlds.not_yet = sym transport ∙ e in absurd cc;
+        octets = grind (arith, seat_session);
+      }
+
+  -- the words in which it leaves
+  abbrev pub sent_words : List Word
+  sent_words = map word_of (words_sent (limit_of c.session.state) c.granted.sent)
+
+  -- what has begun is joined after the call as it was before
+  keeps_joined : (begun : Option (List ℕ)) → HasJoined r h begun → HasJoined r now begun
+  keeps_joined begun held y at =
+      let was : kept_at r h.end.lines ≡ Some c.session = sym (live_session r h.end (ap is_some c.opened.at)) ∙ c.was in
+      grind (arith, line_found, calls_keep c.session call begun (held c.session was))
+
+  pub quiet_now : waiting_in h.end.lines ≡ [] → waiting_in now.end.lines ≡ []
+  quiet_now quiet = ap waiting_in c.lines ∙ quiet_put r c.line c.line_now h.end.lines c.waiting_now c.found ∙ quiet
 
 -- ---- the two of an accepted call
 
@@ -244,14 +257,6 @@ end_is side r call p = grind arith
 
 abbrev pub terms_now : TwoEnds → Terms
 terms_now p = terms_of p.left.end.carrier.local p.right.end.carrier.local
-
-progress_then : (side : Side) (r : ℕ) (call : Call) (p : TwoEnds) (b : Between) (t : Tables) (c : Called r call (end_at side p)) →
-    OfEnd side p b t → r ≤ (end_at side p).end.carrier.given → progress_of (place_at r (last_of (is_caller side) b)) ≡ in_use
-progress_then side r call p b t c o within = grind (arith, place_then)
-
--- the words in which it leaves
-abbrev pub sent_words : (r : ℕ) (call : Call) (h : Holding) → Called r call h → List Word
-sent_words r call h c = map word_of (words_sent (limit_of c.session.state) c.granted.sent)
 
 -- all of them are handed to the carrier, and are what the session sends
 pub record MayAct (side : Side) (r : ℕ) (call : Call) (p : TwoEnds) (b : Between) (words : List Word) (m : Meaning) : Type 0 where
@@ -278,65 +283,147 @@ hands_in laws Right r call p b c between open_now octets =
     (map carrier.message tsdus)) (sym c.is)
     (laws.handed_in_all (terms_now p) false (carriers_of p) b r tsdus between c.opened.lasts open_now c.short octets)
 
-pub acted_at : CallLaws → (side : Side) (r : ℕ) (call : Call) (p : TwoEnds) (b : Between) (t : Tables) (c : Called r call (end_at side p)) →
-    Stands p b t → r ≤ (end_at side p).end.carrier.given → AllByRecursion IsOctets (tsdus_of (limit_of c.session.state) c.granted.sent) →
-    AreWords (sent_words r call (end_at side p) c) (unit c.granted.sent ∷ []) →
-    MayAct side r call p b (sent_words r call (end_at side p) c) c.granted.sent
-acted_at laws side r call p b t c s within octets are =
-    let a = subst (HandsIn side r call p b) (carried_words (words_sent (limit_of c.session.state) c.granted.sent))
-    (hands_in laws side r call p b c s.between (progress_then side r call p b t c (of_end side p b t s) within) octets) in
-    record { now = a.now; between = a.between; carries = a.carries; are = are }
-
-pub lasts_now : (r : ℕ) (call : Call) (h : Holding) → Called r call h → (now_of r call h).end.carrier.ended ≡ None
-lasts_now r call h c = c.kept.ended ∙ c.opened.lasts
-
-progress_now : (side : Side) (r : ℕ) (call : Call) (p : TwoEnds) (b : Between) (c : Called r call (end_at side p))
-    (a : MayAct side r call p b (sent_words r call (end_at side p) c) c.granted.sent) → r ≤ (end_at side p).end.carrier.given →
-    progress_of (place_at r (last_of (is_caller side) a.now)) ≡ in_use
-progress_now side r call p b c a within = search (arith, lasts_now r call (end_at side p) c, place_now r call (end_at side p) c within)
-
--- what has begun is joined after the call as it was before
-keeps_joined : (r : ℕ) (call : Call) (h : Holding) (c : Called r call h) (begun : Option (List ℕ)) → HasJoined r h begun →
-    HasJoined r (now_of r call h) begun
-keeps_joined r call h c begun held y at =
-    let was : kept_at r h.end.lines ≡ Some c.session = sym (live_session r h.end (ap is_some c.opened.at)) ∙ c.was in
-    grind (arith, line_found r call h c, calls_keep c.session call begun (held c.session was))
-
-pub line_acts : (side : Side) (r : ℕ) (call : Call) (p : TwoEnds) (b : Between) (t : Tables) (x : Line) (c : Called r call (end_at side p))
-    (a : MayAct side r call p b (sent_words r call (end_at side p) c) c.granted.sent) → HasSerial call → OfEnd side p b t →
-    t.broken ≡ is_some p.reach → r ≤ (end_at side p).end.carrier.given → IsSeen side r p b x →
-    IsSeen side r (new_of side r call p) a.now (after_call t.broken call x)
-line_acts side r call p b t x c a serial o broken within h =
-    let sends : (react x.own.session (called call)).reply ≡ Some c.granted.sent = grind (arith, calls_so, seat_session) in
-    let before = progress_then side r call p b t c o within in
-    let after = progress_now side r call p b c a within in
-    record {
-      here = search (arith, end_is, seat_now);
-      there = subst (λ (y : Holding). IsSeated r y x.peer) (sym (grind arith)) h.there;
-      out = out_way (terms_now p) side r p (new_of side r call p) b a.now (sent_words r call (end_at side p) c)
-          (unit c.granted.sent ∷ []) x.own.channel t.broken (after_call t.broken call x).own x.peer a.are a.carries broken
-          (grind arith) (grind arith) c.opened.lasts
-          (grind arith) h.out
-          (ap (λ (y : Option Meaning). worlds.put t.broken (replied y) x.own.channel) sends);
-      back = back_way (terms_now p) side r p (new_of side r call p) b a.now (map word_in (sent_words r call (end_at side p) c)) x.peer x.own
-          (after_call t.broken call x).own a.carries (before ∙ sym after)
-          (grind arith) c.opened.lasts (grind arith)
-          (λ begun held. grind (arith, end_is side r call p, keeps_joined r call (end_at side p) c begun held))
-          (λ calm. called_calm x.own.session call x.peer.channel serial calm) h.back;
-    }
-
--- ---- each line
+-- ---- the tables then
 
 abbrev pub tables_now : Tables → Side → ℕ → Call → Line → Tables
 tables_now t side r call l = stays t (side_in side) r (after_call t.broken call (seen_from (side_in side) l))
 
--- ---- what is pending
+-- ---- the step of the tables
 
-quiet_put : (r : ℕ) (x y : stack.Line) (lines : Rows stack.Line) → y.waiting ≡ x.waiting → value_at r lines ≡ Some x →
-    waiting_in (put r y lines) ≡ waiting_in lines
-quiet_put r x y [] same at = refl
-quiet_put r x y ((q, z) ∷ lines) same at = grind (arith, quiet_put r x y lines same)
+record Accepted (t : Tables) (side : Side) (r : ℕ) (call : Call) (o : Option Line) : Type 0 where
+  line : Line
+  found : o ≡ Some line
+  is : call_in t (side_in side) r call (side_of (side_in side) o) ≡ tables.noted (call_answered (side_in side) r call None ∷ [])
+      (tables_now t side r call line)
 
-pub quiet_now : (r : ℕ) (call : Call) (h : Holding) → Called r call h → waiting_in h.end.lines ≡ [] →
-    waiting_in (now_of r call h).end.lines ≡ []
-quiet_now r call h c quiet = ap waiting_in c.lines ∙ quiet_put r c.line c.line_now h.end.lines c.waiting_now c.found ∙ quiet
+-- ---- what is sent
+
+-- ---- two ends
+
+module _ (laws : CallLaws) (side : Side) (r : ℕ) (call : Call) (p : TwoEnds) (b : Between) (t : Tables) (tabled : IsTableRun t)
+    (serial : HasSerial call) (octets : IsOctets (octets_of call)) (s : Stands p b t) (c : Called r call (end_at side p))
+    (within : r ≤ (end_at side p).end.carrier.given) (l : Line) (at : connection_at r t.lines ≡ Some l) (th : There r p b t l) where
+  -- what it sends, and in which words; and the line, seen from the side
+  abbrev said : Meaning
+  said = c.granted.sent
+
+  abbrev leaves : List Word
+  leaves = sent_words r call (end_at side p) c
+
+  abbrev line : Line
+  line = seen_from (side_in side) l
+
+  was_seen : IsSeen side r p b line
+  was_seen = seen side r p b l th.is
+
+  progress_then : progress_of (place_at r (last_of (is_caller side) b)) ≡ in_use
+  progress_then =
+      let o = of_end side p b t s in
+      let place = place_then r call (end_at side p) c within in
+      grind arith
+
+  -- what it sends can be sent
+  acted_at : MayAct side r call p b leaves said
+  acted_at =
+      let same = seat_session r call (end_at side p) c line.own was_seen.here in
+      let seat : IsSoundSeat line.own = grind (arith, laws.sound_lines t tabled r l at) in
+      let sound : IsSoundState c.session.state = subst (λ (y : Listener). IsSoundState y.state) same seat.sound in
+      let sendable : IsSendable said = laws.sendable c.session.state call c.granted sound serial c.accepted in
+      let limit = limit_of c.session.state in
+      let written = call_in_octets c.session.state call c.granted (laws.passed c.session.state call c.granted c.accepted) sendable octets in
+      let a = subst (HandsIn side r call p b) (carried_words (words_sent limit said))
+      (hands_in laws side r call p b c s.between progress_then (laws.octets limit said sendable written)) in
+      record {
+        now = a.now;
+        between = a.between;
+        carries = a.carries;
+        are = words_of_message laws.parts limit said (limit_sized c.session.state limit refl sound)
+            (grind (arith, laws.passed c.session.state call c.granted c.accepted));
+      }
+
+  line_acts : (a : MayAct side r call p b leaves said) → IsSeen side r (new_of side r call p) a.now (after_call t.broken call line)
+  line_acts a =
+      let h = was_seen in
+      let sends : (react line.own.session (called call)).reply ≡ Some said = grind (arith, calls_so, seat_session) in
+      let after : progress_of (place_at r (last_of (is_caller side) a.now)) ≡ in_use =
+      search (arith, lasts_now r call (end_at side p) c, place_now r call (end_at side p) c within) in
+      record {
+        here = search (arith, end_is, seat_now);
+        there = subst (λ (y : Holding). IsSeated r y line.peer) (sym (grind arith)) h.there;
+        out = out_way (terms_now p) side r p (new_of side r call p) b a.now leaves
+            (unit said ∷ []) line.own.channel t.broken (after_call t.broken call line).own line.peer a.are a.carries s.broken
+            (grind (arith, progress_then)) (grind arith) c.opened.lasts
+            (grind arith) h.out
+            (ap (λ (y : Option Meaning). worlds.put t.broken (replied y) line.own.channel) sends);
+        back = back_way (terms_now p) side r p (new_of side r call p) b a.now (map word_in leaves) line.peer line.own
+            (after_call t.broken call line).own a.carries (progress_then ∙ sym after)
+            (grind arith) c.opened.lasts (grind arith)
+            (λ begun held. grind (arith, end_is side r call p, keeps_joined r call (end_at side p) c begun held))
+            (λ calm. called_calm line.own.session call line.peer.channel serial calm) h.back;
+      }
+
+  stand_at : (a : MayAct side r call p b leaves said) → Stands (new_of side r call p) a.now (tables_now t side r call l)
+  stand_at a =
+      let h : Holding = end_at side p in
+      let e : End = (now_of r call h).end in
+      let lasts = lasts_now r call h c in
+      subst (λ (q : TwoEnds). Stands q a.now (tables_now t side r call l)) (grind (arith, with_holding, append-nil))
+      (turned_stands side p b t e h.held a.now (tables_now t side r call l) r [] s c.opened.lasts
+      (turned_by side p b t e h.held a.now r line (after_call t.broken call line) s
+      (record { is_caller = c.kept.is_caller; local = c.kept.local; class = c.kept.class; given = c.kept.given; lasts = lasts }) a.between
+      (at ∙ ap Some (sym (seen_twice (side_in side) l))) (line_acts a)
+      (grind (arith, put_other, if◌then◌else◌, nat_lt, still_there))
+      (still_there side b a.now a.carries.there) (grind arith)
+      (quiet_now r call h c (of_end side p b t s).quiet)))
+
+-- ---- a reference that was given
+
+within_given : (r : ℕ) (call : Call) (h : Holding) → call_error r call h.end ≡ None → r ≤ h.end.carrier.given
+within_given r call h none = grind arith
+
+-- ---- a call
+
+accepted_stands : (laws : CallLaws) (side : Side) (r : ℕ) (call : Call) (p : TwoEnds) (b : Between) (t : Tables) → IsTableRun t →
+    HasSerial call → IsOctets (octets_of call) → Stands p b t → call_error r call (end_at side p).end ≡ None →
+    line_error (side_of (side_in side) (connection_at r t.lines)) call ≡ None →
+    StandsOn (after_by None side r call p) (step t (entries.calls (side_in side) r call))
+accepted_stands laws side r call p b t tabled serial octets s none fine =
+    let c = called_is laws r call (end_at side p) none in
+    let d : Accepted t side r call (connection_at r t.lines) = grind arith in
+    let th = there none_there r p b t d.line s d.found in
+    let within = within_given r call (end_at side p) none in
+    let a = acted_at laws side r call p b t tabled serial octets s c within d.line d.found th in
+    let on = stand_at laws side r call p b t tabled serial octets s c within d.line d.found th a in
+    record {
+      now = a.now;
+      stands = subst (Stands (after_by None side r call p) a.now) (sym d.is)
+          (search (arith, more_said));
+    }
+
+call_by : (laws : CallLaws) (side : Side) (r : ℕ) (call : Call) (p : TwoEnds) (b : Between) (t : Tables) (o : Option CallError) →
+    call_error r call (end_at side p).end ≡ o → IsTableRun t → HasSerial call → IsOctets (octets_of call) → Stands p b t →
+    StandsOn (after_by o side r call p) (step t (entries.calls (side_in side) r call))
+call_by laws side r call p b t None is tabled serial octets s =
+    accepted_stands laws side r call p b t tabled serial octets s is
+    (sym (answer_same laws.answers r side p b t call serial s) ∙ is)
+call_by laws side r call p b t (Some e) is tabled serial octets s =
+    refused_stands p b t side r call e s (sym (answer_same laws.answers r side p b t call serial s) ∙ is)
+
+-- the ends stay what they support
+local_by : (laws : CallLaws) (side : Side) (r : ℕ) (call : Call) (p : TwoEnds) (o : Option CallError) →
+    call_error r call (end_at side p).end ≡ o →
+    terms_of (after_by o side r call p).left.end.carrier.local (after_by o side r call p).right.end.carrier.local ≡
+    terms_of p.left.end.carrier.local p.right.end.carrier.local
+local_by laws Left r call p None e = ap (λ (x : Local). terms_of x p.right.end.carrier.local) (called_is laws r call p.left e).kept.local
+local_by laws Right r call p None e = ap (λ (x : Local). terms_of p.left.end.carrier.local x) (called_is laws r call p.right e).kept.local
+local_by laws side r call p o e = grind arith
+
+pub call_at : CallLaws → (p : TwoEnds) (steps : List Step) (side : Side) (r : ℕ) (call : Call) → HasSerial call →
+    IsOctets (octets_of call) → StandsAt p steps →
+    StandsAt (ends.after_call side r call p) (steps ++ entries.calls (side_in side) r call ∷ [])
+call_at laws p steps side r call serial octets s =
+    let t : Tables = run (begun_with p) steps in
+    let tabled : IsTableRun t = record { agreed = _; steps = steps; numbered = s.numbered; reached = refl } in
+    let o = call_error r call (end_at side p).end in
+    one_step p (after_by o side r call p) steps (entries.calls (side_in side) r call) serial (local_by laws side r call p o refl) s.numbered
+    (call_by laws side r call p s.now t o refl tabled serial octets s.stands)

@@ -1,17 +1,17 @@
 -- A request for a connection gets the machine's answer.
 -- For calls.
 use Rattle.osi_carrier.specs.declared.faults.OpenError.TheVariants as opening
-use Rattle.osi_machine.specs.Worlds as worlds
-use Rattle.osi_pair.proofs.Vocabulary.{◌≡◌, refl, sym, ◌∙◌, ap, subst, ℕ, zero, suc, ◌+◌, ◌≤◌, ◌==◌, ◌&&◌, Bool, true, false, not, nat_le}
-use Rattle.osi_pair.proofs.Vocabulary.{nat_lt, if◌then◌else◌, List, [], ◌∷◌, length, map, Option, Some, None, option_map, is_some, arith}
-use Rattle.osi_pair.proofs.Vocabulary.{eqb-true, nat_tests, length-map, list_any, slice_get, Class, Zero, Two, or_else, was_given, RiseFrom}
-use Rattle.osi_pair.proofs.Vocabulary.{AreUpTo, Rows, value_at, Connection, asked, State as Carrier, EndReason, OpenError, absent, Both}
-use Rattle.osi_pair.proofs.Vocabulary.{Between, AreBetween, Terms, terms_of, Refusal, has_ended, negotiating, one_connection, too_many}
+use Rattle.osi_machine.specs.Machine.{is_live}
+use Rattle.osi_pair.proofs.Vocabulary.{◌≡◌, refl, sym, ◌∙◌, ap, subst, ℕ, zero, suc, ◌+◌, ◌≤◌, ◌==◌, ◌&&◌, Bool, true, not, nat_le, nat_lt}
+use Rattle.osi_pair.proofs.Vocabulary.{if◌then◌else◌, List, [], ◌∷◌, length, map, Option, Some, None, option_map, is_some, arith, eqb-true}
+use Rattle.osi_pair.proofs.Vocabulary.{nat_tests, length-map, list_any, slice_get, Class, Zero, Two, or_else, was_given, RiseFrom, AreUpTo}
+use Rattle.osi_pair.proofs.Vocabulary.{Rows, value_at, Connection, asked, State as Carrier, EndReason, OpenError, absent, Both, Between}
+use Rattle.osi_pair.proofs.Vocabulary.{AreBetween, Terms, terms_of, Refusal, has_ended, negotiating, one_connection, too_many}
 use Rattle.osi_pair.proofs.Vocabulary.{references_used_up, not_selected, too_long, is_waiting, is_known, is_class_0, live_count, Line}
 use Rattle.osi_pair.proofs.Vocabulary.{Tables, refusal, transport_of, Transport, unit_bits, is_profile, is_long, after_open, connect_error}
 use Rattle.osi_pair.proofs.Vocabulary.{ConnectError, NotSelected, TooLong, asked_of, TwoEnds, answer_with, transport_in, class_in, offer_in}
-use Rattle.osi_pair.proofs.Vocabulary.{answer_in, carriers_of, Stands, ConnectCall as Connect}
-use Rattle.osi_pair.proofs.turn.what_an_acting_end_leaves_in_flight.{place_given}
+use Rattle.osi_pair.proofs.Vocabulary.{answer_in, carriers_of, Stands, ConnectCall as Connect, AllByRecursion, none_there}
+use Rattle.osi_pair.proofs.turn.what_an_acting_end_leaves_in_flight.{place_given, there}
 
 -- ---- the live connections are those of the lines
 
@@ -60,26 +60,19 @@ count_live k (suc m) ((q, x) ∷ live) rise up = count_by k m q x live (q == k +
 AllAsked : Rows Connection → Type 0
 AllAsked live = (n : ℕ) (x : Connection) → value_at n live ≡ Some x → x ≡ asked
 
-some_live : (q : ℕ) (x : Connection) (live : Rows Connection) → true ≡ nat_lt 0 (length ((q, x) ∷ live))
-some_live q x live = let is : nat_lt 0 (suc (length live)) ≡ true = grind (arith, nat_tests) in sym is
+wait_by : (o : Option Connection) → ((x : Connection) → o ≡ Some x → x ≡ asked) →
+    is_waiting (transport_in (was_given o)) ≡ is_live (transport_in (was_given o))
+wait_by o all = grind arith
 
-waits_by : (k m q : ℕ) (x : Connection) (live : Rows Connection) (b : Bool) → (q == k + 1) ≡ b → RiseFrom k ((q, x) ∷ live) →
-    AreUpTo (k + suc m) ((q, x) ∷ live) → AllAsked ((q, x) ∷ live) →
-    ((rows : Rows Connection) → RiseFrom (k + 1) rows → AreUpTo (k + 1 + m) rows → AllAsked rows →
-    list_any is_waiting (transports (k + 1) m rows) ≡ nat_lt 0 (length rows)) →
-    list_any is_waiting (transports k (suc m) ((q, x) ∷ live)) ≡ nat_lt 0 (length ((q, x) ∷ live))
+all_wait : (k m : ℕ) (live : Rows Connection) → AllAsked live → AllByRecursion (λ x. is_waiting x ≡ is_live x) (transports k m live)
 unfolding transports AllAsked
-waits_by k m q x live true e rise up all more =
-    (grind arith) ∙ some_live q x live
-waits_by k m q x live false e rise up all more = grind (arith, nat_tests, absent, transports)
+all_wait k zero live all = tt
+all_wait k (suc m) live all = (wait_by (value_at (k + 1) live) (all (k + 1)), all_wait (k + 1) m live all)
 
-any_waits : (k m : ℕ) (live : Rows Connection) → RiseFrom k live → AreUpTo (k + m) live → AllAsked live →
-    list_any is_waiting (transports k m live) ≡ nat_lt 0 (length live)
-unfolding transports
-any_waits k zero [] rise up all = refl
-any_waits k zero ((q, x) ∷ live) rise up all = let a = rise.0 in let b = up.0 in absurd (omega arith)
-any_waits k (suc m) [] rise up all = any_waits (k + 1) m [] tt tt all
-any_waits k (suc m) ((q, x) ∷ live) rise up all = waits_by k m q x live (q == k + 1) refl rise up all (λ rows. any_waits (k + 1) m rows)
+-- one awaits it if any is live
+any_waits : (ts : List Transport) → AllByRecursion (λ x. is_waiting x ≡ is_live x) ts → list_any is_waiting ts ≡ nat_lt 0 (live_count ts)
+any_waits [] all = refl
+any_waits (x ∷ ts) all = grind (arith, nat_tests, any_waits ts all.1)
 
 -- ---- the tests, one by one
 
@@ -113,45 +106,32 @@ abbrev pub Awaits : Type 0
 Awaits = (terms : Terms) (both : Both) (b : Between) (n : ℕ) (x : Connection) → AreBetween terms both b → b.caller.class ≡ None →
     value_at n b.caller.live ≡ Some x → x ≡ asked
 
-no_line : (j : ℕ) (ls : List Line) (x : Line) → length ls ≤ j → slice_get ls j ≡ Some x → ⊥
-no_line j [] x le e = cc
-no_line zero (y ∷ ls) x le e = absurd (omega arith)
-no_line (suc j) (y ∷ ls) x le e = no_line j ls x (omega arith) e
-
 lines_are : (p : TwoEnds) (b : Between) (t : Tables) → Stands p b t → AreTransports 0 t.lines p.left.end.carrier.live
 unfolding AreTransports
-lines_are p b t s i l at = by_fit (nat_le (suc i) (length t.lines)) refl
-  where
-    by_fit : (fits : Bool) → nat_le (suc i) (length t.lines) ≡ fits →
-        l.own.transport ≡ transport_in (was_given (value_at (0 + suc i) p.left.end.carrier.live))
-    by_fit true e =
-        let few : suc i ≤ length t.lines = grind (arith, nat_tests) in
-        let h = s.lines (suc i) (omega arith) few in
-        let same : h.line ≡ l = (let x = sym h.found ∙ at in cc) in
-        let place = place_given (suc i) p.left.end.carrier (omega arith) in
-        ap (λ (x : Line). x.own.transport) (sym same) ∙ h.is.left.transport ∙ ap transport_in place
-        ∙ ap (λ (n : ℕ). transport_in (was_given (value_at n p.left.end.carrier.live))) (omega arith)
-    by_fit false e = let beyond_all : length t.lines ≤ i = grind (arith, nat_tests) in absurd (no_line i t.lines l beyond_all at)
+lines_are p b t s i l at =
+    let h = there none_there (suc i) p b t l s at in
+    let given : suc i ≤ p.left.end.carrier.given = (let most = h.within in let all = s.given in omega arith) in
+    h.is.left.transport ∙ ap transport_in (place_given (suc i) p.left.end.carrier given)
+    ∙ ap (λ (n : ℕ). transport_in (was_given (value_at n p.left.end.carrier.live))) (omega arith)
 
 tests : (g : ℕ) (class : Option Class) (over some waits many up profile long : Bool) → (class ≡ None → waits ≡ some) →
     answer_in (answer_with g (error_by_tests class over some many up profile long)) ≡ Some
     (by_tests over (is_known (option_map class_in class)) waits (is_class_0 (option_map class_in class)) many up profile long)
 tests g class over some waits many up profile long h = grind arith
 
--- what both agree on while the left end lasts, by the class
-alive_by : (g : ℕ) (c : Connect) (p : TwoEnds) (b : Between) (t : Tables) (class : Option Class) (waits : Bool) → Stands p b t →
-    p.left.end.carrier.class ≡ class → p.left.end.carrier.ended ≡ None → list_any is_waiting (map transport_of t.lines) ≡ waits →
-    (class ≡ None → waits ≡ nat_lt 0 (length p.left.end.carrier.live)) →
+-- what both agree on while the left end lasts
+alive_by : (g : ℕ) (c : Connect) (p : TwoEnds) (b : Between) (t : Tables) → Stands p b t → p.left.end.carrier.ended ≡ None →
+    (p.left.end.carrier.class ≡ None → list_any is_waiting (map transport_of t.lines) ≡ nat_lt 0 (length p.left.end.carrier.live)) →
     live_count (map transport_of t.lines) ≡ length p.left.end.carrier.live →
     answer_in (answer_with g (connect_error c p.left.end)) ≡ Some (refusal t (offer_in (asked_of c)))
-alive_by g c p b t class waits s is lasts any same count =
+alive_by g c p b t s lasts same count =
     let e : Carrier = p.left.end.carrier in
     let over : is_some t.left_end ≡ is_some e.ended = grind arith in
     let up : nat_le 65535 (length (map transport_of t.lines)) ≡ nat_le 65535 e.given =
     ap (nat_le 65535) (length-map t.lines transport_of ∙ s.given) in
     ap (λ (o : Option ConnectError). answer_in (answer_with g o)) (grind (arith, s.caller))
-    ∙ tests g class (is_some e.ended) (nat_lt 0 (length e.live)) waits (nat_le 64 (length e.live)) (nat_le 65535 e.given)
-    (is_profile (unit_bits c.requirements)) (is_long c) same
+    ∙ tests g e.class (is_some e.ended) (nat_lt 0 (length e.live)) (list_any is_waiting (map transport_of t.lines))
+    (nat_le 64 (length e.live)) (nat_le 65535 e.given) (is_profile (unit_bits c.requirements)) (is_long c) same
     ∙ sym (ap Some (grind arith))
 
 pub refusal_same : Awaits → (g : ℕ) (c : Connect) (p : TwoEnds) (b : Between) (t : Tables) (ended : Option EndReason) → Stands p b t →
@@ -164,8 +144,10 @@ refusal_same awaits g c p b t None s is =
     let lives : e ≡ b.caller = s.between.lives true is in
     let all : map transport_of t.lines ≡ transports 0 (length t.lines) e.live = transports_are 0 t.lines e.live (lines_are p b t s) in
     let up : AreUpTo (0 + length t.lines) e.live = subst (λ (n : ℕ). AreUpTo n e.live) (let x = s.given in omega arith) o.up_to in
-    alive_by g c p b t e.class (list_any is_waiting (map transport_of t.lines)) s refl is refl
-    (λ none. ap (list_any is_waiting) all ∙ any_waits 0 (length t.lines) e.live o.rise up
+    let count = ap live_count all ∙ count_live 0 (length t.lines) e.live o.rise up in
+    alive_by g c p b t s is
+    (λ none. any_waits (map transport_of t.lines)
+    (subst (AllByRecursion (λ x. is_waiting x ≡ is_live x)) (sym all) (all_wait 0 (length t.lines) e.live
     (λ n x at. awaits (terms_of p.left.end.carrier.local p.right.end.carrier.local) (carriers_of p) b n x s.between
-    (ap (λ (y : Carrier). y.class) (sym lives) ∙ none) (ap (λ (y : Carrier). value_at n y.live) (sym lives) ∙ at)))
-    (ap live_count all ∙ count_live 0 (length t.lines) e.live o.rise up)
+    (ap (λ (y : Carrier). y.class) (sym lives) ∙ none) (ap (λ (y : Carrier). value_at n y.live) (sym lives) ∙ at))))
+    ∙ ap (nat_lt 0) count) count

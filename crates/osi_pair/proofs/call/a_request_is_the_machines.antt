@@ -5,18 +5,17 @@ use Rattle.osi_between.specs.Messages as carrier
 use Rattle.osi_machine.specs.Tables as tables
 use Rattle.osi_stack.specs.Calls.{connects}
 use Rattle.osi_stack.specs.State as stack
-use Rattle.osi_pair.proofs.Vocabulary.{◌≡◌, ◌≢◌, refl, sym, ◌∙◌, ap, subst, ℕ, suc, ◌+◌, ◌<◌, ◌≤◌, ◌==◌, Bool, true, false, if◌then◌else◌}
-use Rattle.osi_pair.proofs.Vocabulary.{List, [], ◌∷◌, ◌++◌, length, length-append, map, Option, Some, None, option_map, Ok, Err, arith}
-use Rattle.osi_pair.proofs.Vocabulary.{nat_le, eqb-true, eq-eqb, leb-true, leb-false, nat_tests, tsap_octets, may_connect, was_given}
-use Rattle.osi_pair.proofs.Vocabulary.{place_at, RiseFrom, Rows, value_at, Connection, asked, EndReason, push_here, absent, beyond}
-use Rattle.osi_pair.proofs.Vocabulary.{push_other, free_of, Both, Between, AreBetween, Acted, becomes, under_way, is_cut, progress_of}
-use Rattle.osi_pair.proofs.Vocabulary.{IsTsap, Progress, Terms, terms_of, Offer, Step, connects as connecting, connection_at}
-use Rattle.osi_pair.proofs.Vocabulary.{connect_answered, Refusal, Line, Tables, asked_with, refusal, asked_in, step, run, ask, Listener}
-use Rattle.osi_pair.proofs.Vocabulary.{Shown, is_profile, unit_bits, named_by, connect_error, calls_with, AllCameAbout, Soundness, IsSound}
-use Rattle.osi_pair.proofs.Vocabulary.{kept_at, End, Holding, session_in, is_used, used_lines, IsAttended, fresh_line, ConnectError}
-use Rattle.osi_pair.proofs.Vocabulary.{used_by, used_live, rise_push, asked_of, CanBeAsked, TwoEnds, noted, connected_by, answer_with}
-use Rattle.osi_pair.proofs.Vocabulary.{after_connect, asks as asked_entry, carriers_of, offer_in, answer_in, IsSeated, IsLine, HasLine}
-use Rattle.osi_pair.proofs.Vocabulary.{IsInOrder, Stands, StandsAt, HasJoined, whole, waiting_in, Left, none_of, ConnectCall as Connect}
+use Rattle.osi_pair.proofs.Vocabulary.{◌≡◌, ◌≢◌, refl, sym, ◌∙◌, ap, subst, ℕ, suc, ◌+◌, ◌<◌, ◌≤◌, ◌==◌, Bool, true, false, List, [], ◌∷◌}
+use Rattle.osi_pair.proofs.Vocabulary.{◌++◌, length, length-append, Option, Some, None, option_map, Ok, Err, arith, nat_le, eqb-true}
+use Rattle.osi_pair.proofs.Vocabulary.{eq-eqb, leb-true, leb-false, nat_tests, tsap_octets, may_connect, was_given, place_at, RiseFrom}
+use Rattle.osi_pair.proofs.Vocabulary.{value_at, asked, EndReason, push_here, beyond, push_other, free_of, Both, Between, AreBetween, Acted}
+use Rattle.osi_pair.proofs.Vocabulary.{becomes, under_way, is_cut, progress_of, IsTsap, Progress, Terms, terms_of, Offer, Step}
+use Rattle.osi_pair.proofs.Vocabulary.{connects as connecting, connection_at, connect_answered, Refusal, Line, Tables, asked_with, refusal}
+use Rattle.osi_pair.proofs.Vocabulary.{asked_in, step, run, ask, is_profile, unit_bits, named_by, connect_error, calls_with, AllCameAbout}
+use Rattle.osi_pair.proofs.Vocabulary.{Soundness, IsSound, kept_at, End, Holding, IsAttended, fresh_line, ConnectError, used_live, asked_of}
+use Rattle.osi_pair.proofs.Vocabulary.{CanBeAsked, TwoEnds, noted, connected_by, answer_with, after_connect, asks as asked_entry}
+use Rattle.osi_pair.proofs.Vocabulary.{carriers_of, offer_in, answer_in, IsSeated, IsLine, HasLine, IsInOrder, Stands, StandsAt, HasJoined}
+use Rattle.osi_pair.proofs.Vocabulary.{whole, Left, none_of, ConnectCall as Connect}
 use Rattle.osi_pair.proofs.words.added_and_cut_words_are_messages.{wholes}
 use Rattle.osi_pair.proofs.turn.what_an_acting_end_leaves_in_flight.{out_way, place_given, more_said, StandsOn, begun_with, one_step}
 use Rattle.osi_pair.proofs.call.a_call_is_the_machines.{session_now_is}
@@ -24,6 +23,7 @@ use Rattle.osi_pair.proofs.call.what_a_call_sends_can_be_written.{profile_small,
 use Rattle.osi_pair.proofs.call.a_request_is_answered_as_by_the_machine.{Awaits, refusal_same}
 use Rattle.osi_pair.proofs.flight.what_is_in_flight_when_an_end_acts.{none_under_way, same_alike, like_alike}
 use Rattle.osi_pair.proofs.turn.a_turn_keeps_the_match.{seen, unseen, Others, other_seen}
+use Rattle.osi_pair.proofs.packet.a_request_begins_a_session.{begun_kept, begun_waits}
 
 -- the laws of the crates below
 pub record ConnectLaws : Type 0 where
@@ -55,41 +55,6 @@ record MayAsk (c : Connect) (h : Holding) : Type 0 where
   lasts : h.end.carrier.ended ≡ None
   profile : is_profile (unit_bits c.requirements) ≡ true
 
-may_ask : (c : Connect) (h : Holding) → connect_error c h.end ≡ None → MayAsk c h
-may_ask c h none = search (arith, none_of, free_of)
-
--- ---- the lines of the end
-
-used_kept_by : (q p : ℕ) (y l : stack.Line) (live : Rows Connection) (lines : Rows stack.Line) (u b : Bool) → is_used live (p, y) ≡ u →
-    (p == q) ≡ b → RiseFrom p lines → (value_at q (used_lines live lines) ≡ Some l → value_at q lines ≡ Some l) →
-    value_at q (used_lines live ((p, y) ∷ lines)) ≡ Some l → value_at q ((p, y) ∷ lines) ≡ Some l
-used_kept_by q p y l live lines u b used same rise more at = grind (arith, used_by, eqb-true, absent)
-
-used_kept : (k q : ℕ) (l : stack.Line) (live : Rows Connection) (lines : Rows stack.Line) → RiseFrom k lines →
-    value_at q (used_lines live lines) ≡ Some l → value_at q lines ≡ Some l
-used_kept k q l live [] rise at = at
-used_kept k q l live ((p, y) ∷ lines) rise at =
-    used_kept_by q p y l live lines (is_used live (p, y)) (p == q) refl refl rise.1 (used_kept p q l live lines rise.1) at
-
-kept_used : (k q : ℕ) (live : Rows Connection) (lines : Rows stack.Line) (s : Listener) (o : Option stack.Line) → RiseFrom k lines →
-    value_at q (used_lines live lines) ≡ o → session_in o ≡ Some s → kept_at q lines ≡ Some s
-kept_used k q live lines s o rise at h = grind (arith, used_kept)
-
-quiet_used_by : (p : ℕ) (y : stack.Line) (live : Rows Connection) (lines : Rows stack.Line) (u : Bool) → is_used live (p, y) ≡ u →
-    (w : List Shown) → y.waiting ≡ w → waiting_in ((p, y) ∷ lines) ≡ [] →
-    (waiting_in lines ≡ [] → waiting_in (used_lines live lines) ≡ []) → waiting_in (used_lines live ((p, y) ∷ lines)) ≡ []
-quiet_used_by p y live lines true used [] is h more = grind (arith, used_by)
-quiet_used_by p y live lines false used [] is h more = grind (arith, used_by)
-quiet_used_by p y live lines u used (x ∷ w) is h more = grind arith
-
-quiet_used : (live : Rows Connection) (lines : Rows stack.Line) → waiting_in lines ≡ [] → waiting_in (used_lines live lines) ≡ []
-quiet_used live [] h = refl
-quiet_used live ((p, y) ∷ lines) h = quiet_used_by p y live lines (is_used live (p, y)) refl y.waiting refl h (quiet_used live lines)
-
-quiet_push : (n : ℕ) (s : Listener) (lines : Rows stack.Line) → waiting_in (lines ++ (n, fresh_line s) ∷ []) ≡ waiting_in lines
-quiet_push n s [] = refl
-quiet_push n s ((p, y) ∷ lines) = ap (λ (w : List (ℕ × Shown)). map (λ shown. (p, shown)) y.waiting ++ w) (quiet_push n s lines)
-
 -- ---- the end that asks
 
 abbrev line_of : Connect → stack.Line
@@ -114,15 +79,13 @@ left_alone c p b a o =
     let h : Holding = p.left in
     let live : (q : ℕ) → q ≢ next_of h → value_at q (asked_end c h).end.carrier.live ≡ value_at q h.end.carrier.live =
     λ q apart. push_other q (next_of h) asked h.end.carrier.live apart in
-    let rise : RiseFrom 0 (h.end.lines ++ (next_of h, line_of c) ∷ []) =
-    rise_push 0 h.end.carrier.given (next_of h) (line_of c) h.end.lines (omega arith) (omega arith) o.sound.known o.rising in
+    let none : value_at (next_of h) h.end.lines ≡ None = beyond (next_of h) h.end.carrier.given h.end.lines o.sound.known (omega arith) in
     record {
       places = λ q apart. place_apart q c h (nat_le q h.end.carrier.given) refl apart (live q apart);
       lives = live;
       sessions = grind (arith, used_live, push_other);
-      kept = λ q apart s e. ap session_in (sym (push_other q (next_of h) (line_of c) h.end.lines apart))
-          ∙ kept_used 0 q (asked_end c h).end.carrier.live (h.end.lines ++ (next_of h, line_of c) ∷ []) s
-          (value_at q (asked_end c h).end.lines) rise refl e;
+      kept = λ q apart s e. begun_kept (next_of h) q (calls_with c) (asked_end c h).end.carrier.live h.end.lines s apart none
+          o.sound.apart e;
       ways = a.carries.others;
       last = a.carries.other_places;
       there = λ q. ap (place_at q) a.carries.there;
@@ -211,7 +174,7 @@ line_by false laws m c p b t a e s may can some few =
       line = h.line;
       found = laws.before m t.lines h.line (asked_with t.broken (offer_in (asked_of c))) h.found;
       is = unseen Left m (new_two c p) a.now h.line
-          (search (arith, other_seen, left_alone c p b a (s.order_left may.lasts), s.order_left may.lasts, seen Left m p b h.line h.is));
+          (search (arith, other_seen, left_alone c p b a (s.order_left may.lasts), seen Left m p b h.line h.is));
     }
 
 asks_stand : ConnectLaws → (c : Connect) (p : TwoEnds) (b : Between) (t : Tables) (a : HasAsked c p b) → connect_error c p.left.end ≡ None →
@@ -226,19 +189,17 @@ asks_stand laws c p b t a none s may can =
     let sound = laws.sound c p.left.end none (λ h. o.sound) in
     let rising = laws.rising c p.left.end o.sound o.rising in
     let came = laws.came c p.left.end o.came in
-    grind (arith, quiet_used, quiet_push)
+    grind (arith, begun_waits)
 
 -- ---- the step
 
 connect_by : ConnectLaws → (c : Connect) (p : TwoEnds) (b : Between) (t : Tables) (o : Option ConnectError) →
-    connect_error c p.left.end ≡ o → CanBeAsked c → Stands p b t →
+    connect_error c p.left.end ≡ o → answer_in (answer_with (next_of p.left) o) ≡ Some (refusal t (offer_in (asked_of c))) →
+    CanBeAsked c → Stands p b t →
     StandsOn (noted (asked_entry (asked_of c) (answer_with (next_of p.left) o) ∷ []) (record p { left = connected_by o c p.left }))
     (step t (connecting (offer_in (asked_of c))))
-connect_by laws c p b t (Some e) is can s =
+connect_by laws c p b t (Some e) is answer can s =
     let o : Offer = offer_in (asked_of c) in
-    let answer : answer_in (Err e) ≡ Some (refusal t o) =
-    ap (λ (x : Option ConnectError). answer_in (answer_with (next_of p.left) x)) (sym is)
-    ∙ refusal_same laws.awaits (next_of p.left) c p b t p.left.end.carrier.ended s refl in
     let said = more_said p b t (asked_entry (asked_of c) (Err e)) (connect_answered o (refusal t o))
     (ap (option_map (connect_answered o)) answer) s in
     record {
@@ -246,13 +207,10 @@ connect_by laws c p b t (Some e) is can s =
       stands = subst (λ (u : Tables). Stands (noted (asked_entry (asked_of c) (Err e) ∷ []) p) b
           (tables.noted (connect_answered o (refusal t o) ∷ []) u)) (sym (grind arith)) said;
     }
-connect_by laws c p b t None is can s =
+connect_by laws c p b t None is answer can s =
     let o : Offer = offer_in (asked_of c) in
-    let answer : Some None ≡ Some (refusal t o) =
-    ap (λ (x : Option ConnectError). answer_in (answer_with (next_of p.left) x)) (sym is)
-    ∙ refusal_same laws.awaits (next_of p.left) c p b t p.left.end.carrier.ended s refl in
     let fine : refusal t o ≡ None = grind arith in
-    let may = may_ask c p.left is in
+    let may : MayAsk c p.left = search (arith, none_of, free_of) in
     let a : HasAsked c p b =
     laws.asked (terms_now p) (carriers_of p) b (option_map tsap_octets c.calling_tsap)
     (option_map tsap_octets c.called_tsap) s.between may.lasts may.may can.calling can.called in
@@ -267,6 +225,7 @@ connect_by laws c p b t None is can s =
 pub connect_at : ConnectLaws → (p : TwoEnds) (steps : List Step) (c : Connect) → CanBeAsked c → StandsAt p steps →
     StandsAt (after_connect c p) (steps ++ connecting (offer_in (asked_of c)) ∷ [])
 connect_at laws p steps c can s =
-    one_step p (after_connect c p) steps (connecting (offer_in (asked_of c))) (can.serial, can.sizes)
-    (grind arith) s.numbered
-    (connect_by laws c p s.now (run (begun_with p) steps) (connect_error c p.left.end) refl can s.stands)
+    let t = run (begun_with p) steps in
+    one_step p (after_connect c p) steps (connecting (offer_in (asked_of c))) (can.serial, can.sizes) (grind arith) s.numbered
+    (connect_by laws c p s.now t (connect_error c p.left.end) refl
+    (refusal_same laws.awaits (next_of p.left) c p s.now t p.left.end.carrier.ended s.stands refl) can s.stands)

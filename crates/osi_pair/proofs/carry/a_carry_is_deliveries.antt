@@ -1,14 +1,12 @@
 -- Two ends still match the machine after octets are carried: what arrives are deliveries, and perhaps an end because
 -- memory runs out.
 -- For carries, pairs in the same state and the laws of `standing`.
-use Rattle.osi_pair.proofs.Vocabulary.{◌≡◌, ℕ, ◌+◌, ◌-◌, ◌≤◌, Bool, List, [], ◌∷◌, ◌++◌, length, sum, min, Option, Some, None, refl, sym}
-use Rattle.osi_pair.proofs.Vocabulary.{ap, subst, ◌∙◌, arith, length-drop, sum_by-cons, IsFaultOf, TpktFault, EndReason, Both, Between}
-use Rattle.osi_pair.proofs.Vocabulary.{AreBetween, side, Terms, Step, carried, Crossing, CarriesPiece, CarriesPieces, CarriesFrom, crossing}
-use Rattle.osi_pair.proofs.Vocabulary.{TwoEnds, end_at, reachable, reach_after, other, StandsAt, StandsAtArrivals, Reach, Side}
-use Rattle.osi_pair.proofs.carry.few_indications_are_pending.{FewLaws, few_wait}
-use Rattle.osi_pair.proofs.carry.handed_octets_are_no_step.{CarriedLaw}
-use Rattle.osi_pair.proofs.carry.packets_are_taken_in_turn.{PacketStands, taken_laws, none_less, alive_deliveries, join_arrivals, no_more}
-use Rattle.osi_pair.proofs.carry.pieces_are_fed_in_turn.{PieceLaws, crossed, within_less, reach_twice, piece_alive, piece_over}
+use Rattle.osi_pair.proofs.Vocabulary.{◌≡◌, ℕ, ◌+◌, ◌-◌, ◌≤◌, List, [], ◌∷◌, ◌++◌, sum, min, Option, Some, None, refl, sym, ap, subst, ◌∙◌}
+use Rattle.osi_pair.proofs.Vocabulary.{arith, length-drop, sum_by-cons, EndReason, Step, Crossing, CarriesPiece, CarriesPieces, CarriesFrom}
+use Rattle.osi_pair.proofs.Vocabulary.{crossing, TwoEnds, end_at, reachable, reach_after, other, StandsAt, StandsAtArrivals, Reach, Side}
+use Rattle.osi_pair.proofs.carry.packets_are_taken_in_turn.{alive_deliveries, join_arrivals, no_more}
+pub use Rattle.osi_pair.proofs.carry.pieces_are_fed_in_turn.{CarryLaws}
+use Rattle.osi_pair.proofs.carry.pieces_are_fed_in_turn.{crossed, within_less, reach_twice, piece_alive, piece_over}
 
 -- two ends after pieces of this many octets
 pub record SoFar (f : Side) (p : TwoEnds) (steps : List Step) (most octets : ℕ) (new : Crossing) : Type 0 where
@@ -16,7 +14,7 @@ pub record SoFar (f : Side) (p : TwoEnds) (steps : List Step) (most octets : ℕ
   pub left : most - octets ≤ reachable f (crossed f new (reach_after f octets p.reach))
 
 -- one piece more, at an end that lasts or not
-piece_then : PieceLaws → (f : Side) (q : TwoEnds) (steps : List Step) (most used : ℕ) (new : Crossing) (o : Option EndReason) →
+piece_then : CarryLaws → (f : Side) (q : TwoEnds) (steps : List Step) (most used : ℕ) (new : Crossing) (o : Option EndReason) →
     (end_at (other f) q).end.carrier.ended ≡ o → StandsAtArrivals (other f) q steps → most ≤ reachable f q →
     CarriesPiece (other f) most (crossing f q) used new → StandsAtArrivals (other f) (crossed f new (reach_after f used q.reach)) steps
 piece_then laws f q steps most used new None e x le c =
@@ -26,12 +24,11 @@ piece_then laws f q steps most used new None e x le c =
 piece_then laws f q steps most used new (Some why) e x le c =
     grind (arith, piece_over laws f q (steps ++ x.more) most used new why x.stands e le c)
 
-pub pieces_stand : PieceLaws → (f : Side) (p : TwoEnds) (steps : List Step) (most : ℕ) (pieces : List ℕ) (new : Crossing) →
+pub pieces_stand : CarryLaws → (f : Side) (p : TwoEnds) (steps : List Step) (most : ℕ) (pieces : List ℕ) (new : Crossing) →
     StandsAt p steps → most ≤ reachable f p → CarriesPieces (other f) most pieces (crossing f p) new → SoFar f p steps most (sum pieces) new
 pieces_stand laws f p steps most [] new at le c =
     let same : crossed f new (reach_after f 0 p.reach) ≡ p =
-    ap (λ (d : Crossing). crossed f d (reach_after f 0 p.reach)) c ∙ ap (crossed f (crossing f p)) (none_less f p.reach)
-    ∙ (grind arith) in
+    ap (λ (d : Crossing). crossed f d (reach_after f 0 p.reach)) c ∙ (grind arith) in
     record {
       stands = no_more (other f) (crossed f new (reach_after f 0 p.reach)) steps (subst (λ (q : TwoEnds). StandsAt q steps) (sym same) at);
       left = let there : reachable f (crossed f new (reach_after f 0 p.reach)) ≡ reachable f p = ap (reachable f) same in omega arith;
@@ -57,28 +54,11 @@ pieces_stand laws f p steps most (used ∷ before) new at le c =
     }
 
 -- The carry: two ends then match the machine with what arrived at the other side.
-pub carry_at : PieceLaws → (f : Side) (most : ℕ) (p : TwoEnds) (octets : ℕ) (new : TwoEnds) (steps : List Step) → StandsAt p steps →
+pub carries_stand : CarryLaws → (f : Side) (most : ℕ) (p : TwoEnds) (octets : ℕ) (new : TwoEnds) (steps : List Step) → StandsAt p steps →
     CarriesFrom f most p octets new → StandsAtArrivals (other f) new steps
-carry_at laws f most p octets new steps at c =
+carries_stand laws f most p octets new steps at c =
     let x = pieces_stand laws f p steps (min most (reachable f p)) c.way.pieces (crossing f new) at (omega arith) c.way.each in
     let same : crossed f (crossing f new) (reach_after f (sum c.way.pieces) p.reach) ≡ new =
     ap (λ (n : ℕ). crossed f (crossing f new) (reach_after f n p.reach)) (sym c.way.length) ∙ ap (crossed f (crossing f new)) (sym c.reach)
     ∙ (grind arith) in
     subst (λ (q : TwoEnds). StandsAtArrivals (other f) q steps) same x.stands
-
--- ---- the laws that this rests on
-
--- what is proved of a packet, and of two carriers
-pub record CarryLaws : Type 0 where
-  pub packet : PacketStands
-  pub few : FewLaws
-  pub carried : CarriedLaw
-  pub sound : (terms : Terms) (end : Bool) (both : Both) (b : Between) (at : ℕ) (fault : TpktFault) → AreBetween terms both b →
-      (side end both).state.ended ≡ None → IsFaultOf at (side end both).held fault → ⊥
-
-pub piece_laws : CarryLaws → PieceLaws
-piece_laws laws = grind (arith, taken_laws, few_wait)
-
-pub carries_stand : CarryLaws → (f : Side) (most : ℕ) (p : TwoEnds) (octets : ℕ) (new : TwoEnds) (steps : List Step) → StandsAt p steps →
-    CarriesFrom f most p octets new → StandsAtArrivals (other f) new steps
-carries_stand laws = carry_at (piece_laws laws)

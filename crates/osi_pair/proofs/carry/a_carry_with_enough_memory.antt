@@ -4,66 +4,17 @@
 use Rattle.osi_stack.specs.Calls.{without_first}
 use Rattle.osi_stack.specs.Runs.{Call}
 use Rattle.osi_pair.proofs.Vocabulary.{◌≡◌, ◌≢◌, ℕ, ◌+◌, ◌-◌, ◌≤◌, List, [], ◌∷◌, ◌++◌, map, take, sum, Option, Some, refl, sym, ap, subst}
-use Rattle.osi_pair.proofs.Vocabulary.{◌∙◌, ◌⊎◌, inl, inr, arith, take-add, drop-drop, flat_map-append, stops_not, found_how, feeding}
-use Rattle.osi_pair.proofs.Vocabulary.{telling, CallsInRoom, used_in, told_in, carried_in, append-nil, append_assoc, length-take}
-use Rattle.osi_pair.proofs.Vocabulary.{map-append, sum_by-cons, flat_map, first_shown, Held, IsPacket, ArePackets, Rows, EndReason}
-use Rattle.osi_pair.proofs.Vocabulary.{NoMemory, Step, Shown, carried, FindsNoMemory, Starves, End, Holding, ends_end as ends}
+use Rattle.osi_pair.proofs.Vocabulary.{◌∙◌, ◌⊎◌, arith, take-take, take-add, drop-drop, flat_map-append, stops_not, feeding, telling}
+use Rattle.osi_pair.proofs.Vocabulary.{CallsInRoom, used_in, told_in, carried_in, append-nil, append_assoc, length-take, map-append}
+use Rattle.osi_pair.proofs.Vocabulary.{sum_by-cons, flat_map, first_shown, Rows, EndReason, NoMemory, Step, Shown, carried, Holding}
 use Rattle.osi_pair.proofs.Vocabulary.{EndLine as Line, Crossing, CarriesPiece, CarriesPieces, crossing, TwoEnds, end_at, reachable}
 use Rattle.osi_pair.proofs.Vocabulary.{reach_after, other, StandsAt, ShowsFirst, told_entries, waiting_in, quieted, Side}
-use Rattle.osi_pair.proofs.carry.a_carry_is_deliveries.{CarryLaws, SoFar, piece_laws, pieces_stand}
+use Rattle.osi_pair.proofs.carry.a_carry_is_deliveries.{CarryLaws, SoFar, pieces_stand}
 use Rattle.osi_pair.proofs.packet.a_packet_is_one_delivery_or_none.{quiet_of}
-use Rattle.osi_pair.proofs.carry.packets_are_taken_in_turn.{GoesOn, still_goes}
-use Rattle.osi_pair.proofs.carry.pieces_are_fed_in_turn.{crossed, packed, more_held, piece_of, piece_long, take_less}
-use Rattle.osi_pair.proofs.carry.handed_octets_are_no_step.{handed}
+use Rattle.osi_pair.proofs.carry.pieces_are_fed_in_turn.{crossed, memory_stands}
 use Rattle.osi_pair.proofs.promise.matching_ends_keep_the_promises.{tables_at}
 use Rattle.osi_pair.proofs.session.an_end_with_nothing_pending.{quiet_same}
-use Rattle.osi_pair.proofs.packet.a_packet_is_taken.{packet_at}
-use Rattle.osi_pair.proofs.turn.a_turn_keeps_the_match.{with_holding}
-use Rattle.osi_pair.proofs.ending.want_of_memory_is_an_end.{has_starved}
-use Rattle.osi_pair.proofs.carry.pending_indications_one_by_one.{none_waits, next_is}
-use Rattle.osi_pair.proofs.flight.whether_something_is_cut_off.{Lasts}
-
--- ---- an allocation failure ends an end
-
--- a packet for which memory runs out
-starved_named : CarryLaws → (s : Side) (p : TwoEnds) (steps : List Step) (packet octets : List ℕ) (none : Held) (new : End) →
-    StandsAt p steps → Lasts s p → IsPacket packet octets → (end_at s p).held.octets ≡ octets ++ none.octets →
-    Starves (end_at s p).end packet new → new.carrier.ended ≡ Some NoMemory
-starved_named laws s p steps packet octets none new at alive is cut starved =
-    let pa = packet_at laws.few.packets s p steps packet octets none at alive is cut in
-    elim (has_starved (record { starved = laws.few.starved; acts = laws.few.acts }) s p at.now
-    (tables_at p steps) packet octets none new at.stands alive is cut pa starved) [
-      | inl nothing ↦ ap (λ (e : End). e.carrier.ended) nothing
-      | inr unheard ↦ ap (λ (e : End). e.carrier.ended) unheard.is
-    ]
-
-memory_by : CarryLaws → (f : Side) (q : TwoEnds) (steps : List Step) (k : ℕ) (new before : End) (octets : List ℕ) →
-    GoesOn (other f) (handed f k (more_held f k q) q) steps before (record (more_held f k q) { octets = octets }) →
-    (new ≡ ends NoMemory before) ⊎ ((packet : List ℕ) × ArePackets (packet ∷ []) octets [] × Starves before packet new) →
-    new.carrier.ended ≡ Some NoMemory
-memory_by laws f q steps k new before octets z (inl is) = ap (λ (e : End). e.carrier.ended) is
-memory_by laws f q steps k new before octets z (inr st) =
-    let rest : Held = record (more_held f k q) { octets = octets } in
-    let none : Held = record (more_held f k q) { octets = [] } in
-    let r = with_holding (other f) before rest (handed f k (more_held f k q) q) in
-    let packs = st.1 in
-    let cut : (end_at (other f) r).held.octets ≡ packs.0 ++ [] = grind arith in
-    starved_named laws (other f) r (steps ++ z.more) st.0 packs.0 none new z.stands z.lasts packs.2 cut
-    (subst (λ (b : Holding). Starves b.end st.0 new) (sym z.here) st.2)
-
--- a piece for which memory runs out
-memory_named : CarryLaws → (f : Side) (q : TwoEnds) (steps : List Step) (most used : ℕ) (new : Holding) → StandsAt q steps →
-    Lasts (other f) q → most ≤ reachable f q → FindsNoMemory (end_at (other f) q) (piece_of f most q) used new →
-    new.end.carrier.ended ≡ Some NoMemory
-memory_named laws f q steps most used new at alive le d =
-    let long = piece_long f most q le in
-    let k = d.within in
-    let g = more_held f k q in
-    let rest : Held = record g { octets = d.rest } in
-    let y = packed (piece_laws laws) f q steps k (take k (piece_of f most q)) d.units d.before rest at alive (omega arith)
-    (take_less k most (end_at f q).end.carrier.outgoing (omega arith)) d.taken d.packets in
-    let z = still_goes (other f) (handed f k g q) steps d.before rest d.quiet y.stands in
-    memory_by laws f q steps k new.end d.before d.rest z (found_how (end_at (other f) q) (piece_of f most q) used new d)
+use Rattle.osi_pair.proofs.carry.users_receive_one_after_the_other.{none_waits, next_is}
 
 -- ---- indications are given one after the other
 
@@ -93,20 +44,16 @@ tell_all h (p ∷ rest) is =
           (tell_all mid rest f.others),
     )
 
-used_none : (shown : List (ℕ × Shown)) → flat_map used_in (tellings shown) ≡ []
-unfolding tellings
-used_none [] = refl
-used_none (p ∷ rest) = used_none rest
+-- by which nothing is fed or carried
+record TellOnly (shown : List (ℕ × Shown)) : Type 0 where
+  used : flat_map used_in (tellings shown) ≡ []
+  untaken : flat_map carried_in (tellings shown) ≡ []
+  told : flat_map told_in (tellings shown) ≡ shown
 
-carried_none : (shown : List (ℕ × Shown)) → flat_map carried_in (tellings shown) ≡ []
+tell_only : (shown : List (ℕ × Shown)) → TellOnly shown
 unfolding tellings
-carried_none [] = refl
-carried_none (p ∷ rest) = carried_none rest
-
-told_these : (shown : List (ℕ × Shown)) → flat_map told_in (tellings shown) ≡ shown
-unfolding tellings
-told_these [] = refl
-told_these (p ∷ rest) = ap (λ (w : List (ℕ × Shown)). p ∷ w) (told_these rest)
+tell_only [] = record { used = refl; untaken = refl; told = refl }
+tell_only (p ∷ rest) = grind (arith, tell_only rest)
 
 -- ---- calls one after the other
 
@@ -124,9 +71,6 @@ pub record IsCarried (s : Side) (old : Crossing) (octets : ℕ) (new : Crossing)
   pub from : new.from ≡ record old.from { end = carried octets old.from.end }
   pub says : new.journal ≡ old.journal ++ told_entries s old.to.end.carrier.ended new.to.end.carrier.ended (flat_map told_in calls)
   pub over : (reason : EndReason) → old.to.end.carrier.ended ≡ Some reason → (new.to ≡ old.to) × (flat_map told_in calls ≡ [])
-
-abbrev ended_of : Crossing → Option EndReason
-ended_of c = c.to.end.carrier.ended
 
 carried_then : (s : Side) (old mid new : Crossing) (n m : ℕ) → IsCarried s old n mid → IsCarried s mid m new → IsCarried s old (n + m) new
 carried_then s old mid new n m h k =
@@ -171,14 +115,15 @@ piece_carried laws f q steps most used new at le piece memory quiet =
         piece.between,
         feeds,
         λ goes. has_room (λ none. memory (ended
-            ∙ memory_named laws f q steps most fed.used piece.between at (stops_not (end_at s q).end goes) le none)) (feeds.goes goes),
+            ∙ (memory_stands laws f q steps most fed.used piece.between at (stops_not (end_at s q).end goes) le none).named))
+            (feeds.goes goes),
         grind (arith, tellings, quiet_same, tell_all, append-nil),
       );
-      used = grind (arith, used_none, append-nil, take_less);
-      untaken = carried_none piece.first;
+      used = grind (arith, append-nil, take-take, (tell_only piece.first).used);
+      untaken = (tell_only piece.first).untaken;
       from = piece.taken;
-      says = grind (arith, told_these);
-      over = grind (arith, over_told, told_these);
+      says = grind (arith, (tell_only piece.first).told);
+      over = grind (arith, over_told, (tell_only piece.first).told);
     }
 
 -- ---- pieces one after the other
@@ -195,8 +140,8 @@ pieces_carried laws f p steps most [] new at le c memory = grind (arith, append-
 pieces_carried laws f p steps most (used ∷ before) new at le c memory =
     let s = other f in
     let b = c.0 in
-    let x = pieces_stand (piece_laws laws) f p steps most before b at le c.1 in
-    let y = pieces_stand (piece_laws laws) f p steps most (used ∷ before) new at le c in
+    let x = pieces_stand laws f p steps most before b at le c.1 in
+    let y = pieces_stand laws f p steps most (used ∷ before) new at le c in
     let o = reach_after f (sum before) p.reach in
     let q = crossed f b o in
     let twice : crossing f q ≡ b = grind arith in

@@ -1,71 +1,69 @@
 -- Packets that an end takes one after the other, only the last of which may stop it.
 -- For packets and carries.
 use Rattle.osi_machine.specs.Core as machine
-use Rattle.osi_pair.proofs.Vocabulary.{◌≡◌, ℕ, ◌≤◌, ◌||◌, false, List, [], ◌∷◌, ◌++◌, length, Option, None, is_some, refl, sym, ap, subst}
-use Rattle.osi_pair.proofs.Vocabulary.{◌∙◌, arith, quiet_none, stops_not, append-nil, append_assoc, Held, IsPacket, ArePackets, Rows}
-use Rattle.osi_pair.proofs.Vocabulary.{EndReason, NoMemory, Step, delivers, Tables, end_of, step, run, start, TakesPackets, stops}
+use Rattle.osi_pair.proofs.Vocabulary.{other, ◌≡◌, ℕ, ◌≤◌, ◌||◌, false, List, [], ◌∷◌, ◌++◌, length, Option, Some, None, is_some, refl, sym}
+use Rattle.osi_pair.proofs.Vocabulary.{ap, subst, ◌∙◌, arith, quiet_none, stops_not, append-nil, append_assoc, Held, IsPacket, ArePackets}
+use Rattle.osi_pair.proofs.Vocabulary.{Rows, EndReason, NoMemory, Step, delivers, Tables, end_of, step, run, start, TakesPackets, stops}
 use Rattle.osi_pair.proofs.Vocabulary.{after_packet, Starves, End, Holding, waits, or_second, TwoEnds, end_at, side_in, terms_in}
-use Rattle.osi_pair.proofs.Vocabulary.{AreDeliveries, AreArrivals, StandsAt, StandsAtArrivals, waiting_in, Reach, Side, Left, Right}
-use Rattle.osi_pair.proofs.Vocabulary.{reach_after, ends_end as ends, EndLine as Line}
-use Rattle.osi_pair.proofs.ending.a_break_is_the_machines.{run_behind}
+use Rattle.osi_pair.proofs.Vocabulary.{AreDeliveries, AreArrivals, StandsAt, StandsAtArrivals, waiting_in, Side, ends_end as ends}
+use Rattle.osi_pair.proofs.Vocabulary.{EndLine as Line}
+use Rattle.osi_pair.proofs.turn.what_an_acting_end_leaves_in_flight.{run_behind}
 use Rattle.osi_pair.proofs.turn.what_remains_when_a_unit_was_taken.{terms_at}
 use Rattle.osi_pair.proofs.carry.handed_octets_are_no_step.{CarriedLaw, with_held, handed_at}
 use Rattle.osi_pair.proofs.packet.a_packet_is_one_delivery_or_none.{lasting_in, quiet_of}
 use Rattle.osi_pair.proofs.session.an_end_with_nothing_pending.{none_first, none_second, quiet_same}
 use Rattle.osi_pair.proofs.turn.all_is_shown.{shown_pair}
 use Rattle.osi_pair.proofs.turn.a_turn_keeps_the_match.{with_holding, holding_here}
-use Rattle.osi_pair.proofs.carry.pending_indications_one_by_one.{none_waits}
+use Rattle.osi_pair.proofs.carry.users_receive_one_after_the_other.{none_waits}
 use Rattle.osi_pair.proofs.flight.whether_something_is_cut_off.{Lasts}
 
--- The laws of one packet. Two ends match a list of steps, and a side that lasts takes the first packet that it holds,
--- or runs out of memory for it. When its users received the indications, the two match that list followed by what
--- arrived at the side.
-pub record PacketStands : Type 0 where
+-- What is proved of one packet. Two ends match a list of steps, and a side that lasts takes the first packet that it holds,
+-- or runs out of memory, for the packet or before it: of the end that it has then.
+pub record OfPackets (Told Starved : TwoEnds → List Step → Side → End → Held → Type 0) : Type 0 where
   pub told : (p : TwoEnds) (steps : List Step) (s : Side) (packet octets : List ℕ) (h : Held) → StandsAt p steps → Lasts s p →
-      IsPacket packet octets → (end_at s p).held.octets ≡ octets ++ h.octets →
-      StandsAtArrivals s (shown_pair s (after_packet (end_at s p).end packet) h p) steps
+      IsPacket packet octets → (end_at s p).held.octets ≡ octets ++ h.octets → Told p steps s (after_packet (end_at s p).end packet) h
   pub starved : (p : TwoEnds) (steps : List Step) (s : Side) (packet octets : List ℕ) (new : End) (h : Held) → StandsAt p steps →
       Lasts s p → IsPacket packet octets → (end_at s p).held.octets ≡ octets ++ h.octets → Starves (end_at s p).end packet new →
-      StandsAtArrivals s (shown_pair s new h p) steps
+      Starved p steps s new h
   pub ended : (p : TwoEnds) (steps : List Step) (s : Side) (h : Held) → StandsAt p steps → Lasts s p →
-      StandsAtArrivals s (shown_pair s (ends NoMemory (end_at s p).end) h p) steps
+      Starved p steps s (ends NoMemory (end_at s p).end) h
 
--- Their bound: one packet does not lead to more pending indications than are given at once.
-pub record FewWait : Type 0 where
-  pub told : (p : TwoEnds) (steps : List Step) (s : Side) (packet octets : List ℕ) (h : Held) → StandsAt p steps → Lasts s p →
-      IsPacket packet octets → (end_at s p).held.octets ≡ octets ++ h.octets →
-      length (waiting_in (after_packet (end_at s p).end packet).lines) ≤ 81
-  pub starved : (p : TwoEnds) (steps : List Step) (s : Side) (packet octets : List ℕ) (new : End) (h : Held) → StandsAt p steps →
-      Lasts s p → IsPacket packet octets → (end_at s p).held.octets ≡ octets ++ h.octets → Starves (end_at s p).end packet new →
-      length (waiting_in new.lines) ≤ 81
-  pub ended : (p : TwoEnds) (steps : List Step) (s : Side) → StandsAt p steps → Lasts s p →
-      length (waiting_in (ends NoMemory (end_at s p).end).lines) ≤ 81
+-- when its users received the indications, the two match that list followed by what arrived at the side
+abbrev ShownStands : TwoEnds → List Step → Side → End → Held → Type 0
+ShownStands p steps s e h = StandsAtArrivals s (shown_pair s e h p) steps
+
+abbrev pub PacketStands : Type 0
+PacketStands = OfPackets ShownStands ShownStands
+
+-- one packet does not lead to more pending indications than are given at once
+abbrev FewPending : End → Type 0
+FewPending e = length (waiting_in e.lines) ≤ 81
+
+abbrev pub FewWait : Type 0
+FewWait = OfPackets (λ p steps s e h. FewPending e) (λ p steps s e h. FewPending e × (e.carrier.ended ≡ Some NoMemory))
 
 -- the end is this one, and its users receive all pending indications at once
 pub record StandsFew (s : Side) (p : TwoEnds) (steps : List Step) (e : End) (h : Held) : Type 0 where
   pub stands : StandsAtArrivals s (shown_pair s e h p) steps
   pub few : length (waiting_in e.lines) ≤ 81
 
-pub record TakenLaws : Type 0 where
-  pub told : (p : TwoEnds) (steps : List Step) (s : Side) (packet octets : List ℕ) (h : Held) → StandsAt p steps → Lasts s p →
-      IsPacket packet octets → (end_at s p).held.octets ≡ octets ++ h.octets → StandsFew s p steps (after_packet (end_at s p).end packet) h
-  pub starved : (p : TwoEnds) (steps : List Step) (s : Side) (packet octets : List ℕ) (new : End) (h : Held) → StandsAt p steps →
-      Lasts s p → IsPacket packet octets → (end_at s p).held.octets ≡ octets ++ h.octets → Starves (end_at s p).end packet new →
-      StandsFew s p steps new h
-  pub ended : (p : TwoEnds) (steps : List Step) (s : Side) (h : Held) → StandsAt p steps → Lasts s p →
-      StandsFew s p steps (ends NoMemory (end_at s p).end) h
+-- and it has ended because memory ran out
+pub record StandsOut (s : Side) (p : TwoEnds) (steps : List Step) (e : End) (h : Held) : Type 0 where
+  pub all : StandsFew s p steps e h
+  pub named : e.carrier.ended ≡ Some NoMemory
+
+abbrev pub TakenLaws : Type 0
+TakenLaws = OfPackets (λ p steps s e h. StandsFew s p steps e h) (λ p steps s e h. StandsOut s p steps e h)
 
 pub taken_laws : PacketStands → FewWait → TakenLaws
 taken_laws laws few = record {
   told = λ p steps s packet octets h at alive is cut.
       record { stands = laws.told p steps s packet octets h at alive is cut; few = few.told p steps s packet octets h at alive is cut };
   starved = λ p steps s packet octets new h at alive is cut st.
-      assumption (
-        laws.starved p steps s packet octets new h at alive is cut st,
-        few.starved p steps s packet octets new h at alive is cut
-            st,
-      );
-  ended = λ p steps s h at alive. record { stands = laws.ended p steps s h at alive; few = few.ended p steps s at alive };
+      let out = few.starved p steps s packet octets new h at alive is cut st in
+      record { all = record { stands = laws.starved p steps s packet octets new h at alive is cut st; few = out.0 }; named = out.1 };
+  ended = λ p steps s h at alive.
+      record { all = record { stands = laws.ended p steps s h at alive; few = (few.ended p steps s h at alive).0 }; named = refl };
 }
 
 -- ---- what is pending
@@ -77,7 +75,7 @@ still_waits ((r, line) ∷ lines) e =
 
 -- an end that does not stop lasts, and nothing is pending
 pub stops_quiet : (e : End) → stops e ≡ false → waiting_in e.lines ≡ []
-stops_quiet e h = none_waits e.lines (quiet_none e.lines (or_second (is_some e.carrier.ended) (waits e.lines) h)).shown
+stops_quiet e h = (none_waits e.lines (quiet_none e.lines (or_second (is_some e.carrier.ended) (waits e.lines) h)).shown).0
 
 pub goes_on : (e : End) → e.carrier.ended ≡ None → waiting_in e.lines ≡ [] → stops e ≡ false
 goes_on e lasts quiet = ap (λ (o : Option EndReason). is_some o || waits e.lines) lasts ∙ still_waits e.lines quiet
@@ -92,18 +90,12 @@ shown_again s e a h g p = grind arith
 
 -- ---- what an end holds
 
-pub none_less : (f : Side) (o : Option Reach) → reach_after f 0 o ≡ o
-none_less f o = grind arith
-
 -- it may be kept in whatever way
 pub held_at : CarriedLaw → (s : Side) (p : TwoEnds) (steps : List Step) (h : Held) → StandsAt p steps →
     (Lasts s p → h.octets ≡ (end_at s p).held.octets) → StandsAt (with_held s h p) steps
-held_at law Left p steps h at same =
-    subst (λ (o : Option Reach). StandsAt (record (with_held Left h p) { reach = o }) steps) (none_less Right p.reach)
-    (handed_at law Right p steps 0 h at (omega arith) (λ lasts. same lasts ∙ sym (append-nil p.left.held.octets)))
-held_at law Right p steps h at same =
-    subst (λ (o : Option Reach). StandsAt (record (with_held Right h p) { reach = o }) steps) (none_less Left p.reach)
-    (handed_at law Left p steps 0 h at (omega arith) (λ lasts. same lasts ∙ sym (append-nil p.right.held.octets)))
+held_at law s p steps h at same =
+    subst (λ (q : TwoEnds). StandsAt q steps) (grind arith)
+    (handed_at law (other s) p steps 0 h at (omega arith) (grind (arith, append-nil)))
 
 -- ---- what arrives
 

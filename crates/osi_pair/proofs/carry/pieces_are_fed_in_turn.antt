@@ -1,50 +1,35 @@
 -- Pieces of the stream are fed to an end one after the other, and its users receive the indications.
 -- For carries.
-use Rattle.osi_carrier.specs.Packets as carriers
-use Rattle.osi_carrier.specs.State as states
 use Rattle.osi_stack.specs.Feeding.{Goes}
-use Rattle.osi_pair.proofs.Vocabulary.{◌≡◌, ℕ, zero, suc, ◌+◌, ◌-◌, ◌≤◌, ◌⊎◌, inl, inr, Bool, true, false, List, [], ◌∷◌, ◌++◌, length}
-use Rattle.osi_pair.proofs.Vocabulary.{take, drop, Option, Some, None, is_some, refl, sym, ap, subst, ◌∙◌, arith, found_how, drop-nil}
-use Rattle.osi_pair.proofs.Vocabulary.{append-nil, length-append, length-take, length-drop, Held, IsPacket, IsFaultOf, ArePackets}
-use Rattle.osi_pair.proofs.Vocabulary.{TpktFault, State, EndReason, NoMemory, Both, Between, AreBetween, side, Terms, Step, run, start}
-use Rattle.osi_pair.proofs.Vocabulary.{Shown, carried, TakesPackets, RunsDry, StopsBehind, Refuses, FindsNoMemory, attends, with_carrier}
-use Rattle.osi_pair.proofs.Vocabulary.{Starves, End, Holding, starved_over, Crossing, CarriesPiece, crossing, TwoEnds, end_at, reachable}
-use Rattle.osi_pair.proofs.Vocabulary.{Entry, within, reach_after, other, terms_in, carriers_of, StandsAt, StandsAtArrivals, waiting_in}
-use Rattle.osi_pair.proofs.Vocabulary.{quieted, told_entries, ShowsFirst, Reach, Side, Left, Right, ends_end as ends}
-use Rattle.osi_pair.proofs.turn.what_remains_when_a_unit_was_taken.{terms_at, order_of}
+use Rattle.osi_pair.proofs.Vocabulary.{◌≡◌, ℕ, ◌+◌, ◌-◌, ◌≤◌, ◌⊎◌, inl, inr, Bool, true, List, [], ◌∷◌, ◌++◌, length, take, Option, Some}
+use Rattle.osi_pair.proofs.Vocabulary.{None, is_some, refl, sym, ap, subst, ◌∙◌, arith, found_how, drop-drop, take-take, nil_from_length}
+use Rattle.osi_pair.proofs.Vocabulary.{append-nil, length-append, length-take, length-drop, Held, IsFaultOf, ArePackets, TpktFault}
+use Rattle.osi_pair.proofs.Vocabulary.{EndReason, NoMemory, Both, Between, AreBetween, side, Terms, Step, run, start, Shown, carried}
+use Rattle.osi_pair.proofs.Vocabulary.{TakesPackets, RunsDry, StopsBehind, Refuses, FindsNoMemory, Starves, End, Holding, Crossing}
+use Rattle.osi_pair.proofs.Vocabulary.{CarriesPiece, crossing, TwoEnds, end_at, reachable, Entry, within, reach_after, other, terms_in}
+use Rattle.osi_pair.proofs.Vocabulary.{StandsAt, StandsAtArrivals, waiting_in, quieted, told_entries, ShowsFirst, Reach, Side, Left, Right}
+use Rattle.osi_pair.proofs.Vocabulary.{ends_end as ends}
+use Rattle.osi_pair.proofs.turn.what_remains_when_a_unit_was_taken.{terms_at}
+use Rattle.osi_pair.proofs.carry.few_indications_are_pending.{FewLaws, few_wait}
 use Rattle.osi_pair.proofs.carry.handed_octets_are_no_step.{CarriedLaw, handed, handed_at}
 use Rattle.osi_pair.proofs.packet.a_packet_is_one_delivery_or_none.{quiet_of}
-use Rattle.osi_pair.proofs.carry.packets_are_taken_in_turn.{TakenLaws, StandsFew, GoesOn, goes_on, still_goes, behind, packets_stand}
+use Rattle.osi_pair.proofs.carry.packets_are_taken_in_turn.{PacketStands, TakenLaws, taken_laws, StandsFew, StandsOut, goes_on}
+use Rattle.osi_pair.proofs.carry.packets_are_taken_in_turn.{still_goes, behind, packets_stand}
 use Rattle.osi_pair.proofs.session.an_end_with_nothing_pending.{quiet_same}
 use Rattle.osi_pair.proofs.turn.all_is_shown.{shown_pair}
 use Rattle.osi_pair.proofs.turn.a_turn_keeps_the_match.{with_holding}
 use Rattle.osi_pair.proofs.flight.whether_something_is_cut_off.{Lasts}
 
--- what is proved of packets, and of two carriers
-pub record PieceLaws : Type 0 where
-  pub packets : TakenLaws
+-- what is proved of a packet, and of two carriers
+pub record CarryLaws : Type 0 where
+  pub packet : PacketStands
+  pub few : FewLaws
   pub carried : CarriedLaw
   pub sound : (terms : Terms) (end : Bool) (both : Both) (b : Between) (at : ℕ) (fault : TpktFault) → AreBetween terms both b →
       (side end both).state.ended ≡ None → IsFaultOf at (side end both).held fault → ⊥
-  pub starved : (terms : Terms) (end : Bool) (both : Both) (b : Between) (packet octets behind : List ℕ) (new : State) →
-      AreBetween terms both b → (side end both).state.ended ≡ None → IsPacket packet octets → (side end both).held ≡ octets ++ behind →
-      carriers.Starves (side end both).state packet new → new ≡ states.ends NoMemory (side end both).state
 
--- ---- lists
-
-pub take_less : {A : Type 0} (k m : ℕ) (xs : List A) → k ≤ m → take k (take m xs) ≡ take k xs
-take_less (suc k) (suc m) (x ∷ xs) le = ap (λ l. x ∷ l) (take_less k m xs (omega arith))
-take_less k m xs le = grind arith
-
-drop_twice : {A : Type 0} (k j n : ℕ) (xs : List A) → k + j ≡ n → drop j (drop k xs) ≡ drop n xs
-drop_twice zero j n xs e = ap (λ (m : ℕ). drop m xs) (omega arith)
-drop_twice (suc k) j zero xs e = absurd (omega arith)
-drop_twice (suc k) j (suc n) [] e = drop-nil j
-drop_twice (suc k) j (suc n) (x ∷ xs) e = drop_twice k j n xs (omega arith)
-
-none_in : {A : Type 0} (xs : List A) → length xs ≡ 0 → xs ≡ []
-none_in [] e = refl
-none_in (x ∷ xs) e = absurd (omega arith)
+of_packets : CarryLaws → TakenLaws
+of_packets laws = taken_laws laws.packet (few_wait laws.few)
 
 -- ---- how far octets reach
 
@@ -71,59 +56,11 @@ pub handed_there : (f : Side) (k : ℕ) (h : Held) (p : TwoEnds) →
     end_at (other f) (handed f k h p) ≡ record { end = (end_at (other f) p).end; held = h }
 handed_there f k h p = grind arith
 
--- packets of what is held then
-pub packed : PieceLaws →
-    (f : Side) (p : TwoEnds) (steps : List Step) (k : ℕ) (octets : List ℕ) (units : List (List ℕ)) (mid : End) (rest : Held) →
-    StandsAt p steps → Lasts (other f) p → k ≤ reachable f p → octets ≡ take k (end_at f p).end.carrier.outgoing →
-    TakesPackets (end_at (other f) p).end units mid → ArePackets units ((end_at (other f) p).held.octets ++ octets) rest.octets →
-    StandsFew (other f) (handed f k (more_held f k p) p) steps mid rest
-packed laws f p steps k octets units mid rest at alive le is taken packets =
-    let g = more_held f k p in
-    let there = handed_there f k g p in
-    packets_stand laws.packets laws.carried units (other f) (handed f k g p) steps mid rest
-    (handed_at laws.carried f p steps k g at le (λ lasts. refl))
-    (ap (λ (b : Holding). b.end.carrier.ended) there ∙ alive)
-    (subst (λ (b : Holding). TakesPackets b.end units mid) (sym there) taken)
-    (grind arith)
-
 -- ---- what is handed over after it: of that an end that lasts holds nothing
 
 handed_twice : (f : Side) (p : TwoEnds) (k j n : ℕ) (e : End) (rest h g : Held) → k + j ≡ n →
     handed f j h (shown_pair (other f) e rest (handed f k g p)) ≡ shown_pair (other f) e h (handed f n h p)
-handed_twice f p k j n e rest h g is = grind (arith, shown_pair, handed, drop_twice, reach_twice)
-
-finished : PieceLaws → (f : Side) (p : TwoEnds) (steps : List Step) (k j used : ℕ) (e : End) (rest h g : Held) → k + j ≡ used →
-    used ≤ reachable f p → (e.carrier.ended ≡ None → (j ≡ 0) × (h.octets ≡ rest.octets)) →
-    StandsFew (other f) (handed f k g p) steps e rest → StandsFew (other f) (handed f used h p) steps e h
-finished laws f p steps k j used e rest h g is le all x =
-    let q = shown_pair (other f) e rest (handed f k g p) in
-    let left = less_shown f p k e rest g in
-    let at = handed_at laws.carried f q (steps ++ x.stands.more) j h x.stands.stands (omega arith) (grind (arith, append-nil)) in
-    record {
-      stands = record {
-        more = x.stands.more;
-        are = x.stands.are;
-        stands = subst (λ (b : TwoEnds). StandsAt b (steps ++ x.stands.more)) (handed_twice f p k j used e rest h g is) at;
-      };
-      few = x.few;
-    }
-
--- ---- the end of a side when it runs out of memory
-
-unit_starved : (e new : End) (c : State) → e.carrier.events ≡ [] → c ≡ states.ends NoMemory e.carrier → new ≡ attends (with_carrier c e) →
-    is_some new.carrier.ended ≡ true
-unit_starved e new c none is same = grind arith
-
-starved_ended : PieceLaws → (s : Side) (p : TwoEnds) (steps : List Step) (packet octets behind : List ℕ) (new : End) → StandsAt p steps →
-    Lasts s p → IsPacket packet octets → (end_at s p).held.octets ≡ octets ++ behind → Starves (end_at s p).end packet new →
-    is_some new.carrier.ended ≡ true
-starved_ended laws Left p steps packet octets behind new at alive is cut (inl st) =
-    unit_starved p.left.end new st.0 (order_of Left p at.now (run (start (terms_in (terms_at p))) steps) at.stands alive).heard
-    (laws.starved (terms_at p) true (carriers_of p) at.now packet octets behind st.0 at.stands.between alive is cut st.1) st.2
-starved_ended laws Right p steps packet octets behind new at alive is cut (inl st) =
-    unit_starved p.right.end new st.0 (order_of Right p at.now (run (start (terms_in (terms_at p))) steps) at.stands alive).heard
-    (laws.starved (terms_at p) false (carriers_of p) at.now packet octets behind st.0 at.stands.between alive is cut st.1) st.2
-starved_ended laws s p steps packet octets behind new at alive is cut (inr st) = grind (arith, starved_over)
+handed_twice f p k j n e rest h g is = grind (arith, shown_pair, handed, drop-drop, reach_twice)
 
 over_not : {A : Type 0} (o : Option EndReason) → is_some o ≡ true → o ≡ None → A
 over_not o e h = grind arith
@@ -137,97 +74,113 @@ piece_of f most p = take most (end_at f p).end.carrier.outgoing
 pub piece_long : (f : Side) (most : ℕ) (p : TwoEnds) → most ≤ reachable f p → length (piece_of f most p) ≡ most
 piece_long f most p le = let l = length-take most (end_at f p).end.carrier.outgoing in let m = reach_most f p in omega arith
 
-dry_stands : PieceLaws → (f : Side) (p : TwoEnds) (steps : List Step) (most used : ℕ) (new : Holding) → StandsAt p steps →
-    Lasts (other f) p → most ≤ reachable f p → RunsDry (end_at (other f) p) (piece_of f most p) used new →
-    StandsFew (other f) (handed f used new.held p) steps new.end new.held
-dry_stands laws f p steps most used new at alive le d =
-    let long = piece_long f most p le in
-    finished laws f p steps most 0 used new.end new.held new.held (more_held f most p) (omega arith) (omega arith) (λ lasts. (refl, refl))
-    (packed laws f p steps most (piece_of f most p) d.units new.end new.held at alive le refl d.taken d.packets)
+-- memory runs out for a packet, or before it
+ran_out : CarryLaws → (s : Side) (p : TwoEnds) (steps : List Step) (before new : End) (rest : Held) → StandsAt p steps → Lasts s p →
+    end_at s p ≡ record { end = before; held = rest } →
+    (new ≡ ends NoMemory before) ⊎ ((packet : List ℕ) × ArePackets (packet ∷ []) rest.octets [] × Starves before packet new) →
+    (h : Held) × StandsOut s p steps new h
+ran_out laws s p steps before new rest at alive here (inl is) = (
+  rest,
+  subst (λ (e : End). StandsOut s p steps e rest) (ap (λ (b : Holding). ends NoMemory b.end) here ∙ sym is)
+      ((of_packets laws).ended p steps s rest at alive),
+)
+ran_out laws s p steps before new rest at alive here (inr st) =
+    let none : Held = record rest { octets = [] } in
+    let packs = st.1 in (
+      none,
+      (of_packets laws).starved p steps s st.0 packs.0 new none at alive packs.2
+          (ap (λ (b : Holding). b.held.octets) here ∙ packs.3 ∙ ap (λ (l : List ℕ). packs.0 ++ l) packs.4)
+          (subst (λ (b : Holding). Starves b.end st.0 new) (sym here) st.2),
+    )
 
-behind_stands : PieceLaws → (f : Side) (p : TwoEnds) (steps : List Step) (most used : ℕ) (new : Holding) → StandsAt p steps →
-    Lasts (other f) p → most ≤ reachable f p → StopsBehind (end_at (other f) p) (piece_of f most p) used new →
-    StandsFew (other f) (handed f used new.held p) steps new.end new.held
-behind_stands laws f p steps most used new at alive le d =
-    let long = piece_long f most p le in
-    let k = d.within in
-    let at_least : k ≤ used = grind arith in
-    let at_most : used ≤ length (piece_of f most p) = grind (arith, d.uses) in
-    finished laws f p steps k (used - k) used new.end new.held new.held (more_held f k p) (omega arith) (omega arith)
-    (grind arith)
-    (packed laws f p steps k (take k (piece_of f most p)) d.units new.end new.held at alive (omega arith)
-    (take_less k most (end_at f p).end.carrier.outgoing (omega arith)) d.taken
-    (subst (λ (l : List ℕ). ArePackets d.units ((end_at (other f) p).held.octets ++ take k (piece_of f most p)) l) (sym d.held) d.packets))
+module _ (laws : CarryLaws) (f : Side) (p : TwoEnds) (steps : List Step) (most used : ℕ) (new : Holding) (at : StandsAt p steps)
+    (alive : Lasts (other f) p) (le : most ≤ reachable f p) where
+  -- the first of it make packets
+  packed : (k : ℕ) (octets : List ℕ) (units : List (List ℕ)) (mid : End) (rest : Held) → k ≤ reachable f p →
+      octets ≡ take k (end_at f p).end.carrier.outgoing → TakesPackets (end_at (other f) p).end units mid →
+      ArePackets units ((end_at (other f) p).held.octets ++ octets) rest.octets →
+      StandsFew (other f) (handed f k (more_held f k p) p) steps mid rest
+  packed k octets units mid rest few is taken packets =
+      let g = more_held f k p in
+      let there = handed_there f k g p in
+      packets_stand (of_packets laws) laws.carried units (other f) (handed f k g p) steps mid rest
+      (handed_at laws.carried f p steps k g at few (λ lasts. refl))
+      (ap (λ (b : Holding). b.end.carrier.ended) there ∙ alive)
+      (subst (λ (b : Holding). TakesPackets b.end units mid) (sym there) taken)
+      (grind arith)
 
--- there is no fault of the stream
-refused_not : PieceLaws → (f : Side) (p : TwoEnds) (steps : List Step) (most used : ℕ) (new : Holding) → StandsAt p steps →
-    Lasts (other f) p → most ≤ reachable f p → Refuses (end_at (other f) p) (piece_of f most p) used new → ⊥
-refused_not laws f p steps most used new at alive le d =
-    let g = more_held f most p in
-    let rest : Held = record g { octets = d.cut.0 } in
-    let y = packed laws f p steps most (piece_of f most p) d.units d.before rest at alive le refl d.taken d.cut.1 in
-    grind arith
+  abbrev FedStands : Type 0
+  FedStands = StandsFew (other f) (handed f used new.held p) steps new.end new.held
 
--- it ends because memory runs out
-starving : PieceLaws → (f : Side) (p : TwoEnds) (steps : List Step) (used k : ℕ) (new : Holding) (rest : Held) → k ≤ used →
-    used ≤ reachable f p → is_some new.end.carrier.ended ≡ true → StandsFew (other f) (handed f k (more_held f k p) p) steps new.end rest →
-    StandsFew (other f) (handed f used new.held p) steps new.end new.held
-starving laws f p steps used k new rest le all over x =
-    finished laws f p steps k (used - k) used new.end rest new.held (more_held f k p) (omega arith) all
-    (λ lasts. over_not new.end.carrier.ended over lasts) x
+  -- the others are handed over after them: of those an end that lasts holds nothing
+  finished : (k : ℕ) (rest : Held) → k ≤ used → used ≤ reachable f p →
+      (new.end.carrier.ended ≡ None → (used ≤ k) × (new.held.octets ≡ rest.octets)) →
+      StandsFew (other f) (handed f k (more_held f k p) p) steps new.end rest → FedStands
+  finished k rest least few all x =
+      let g = more_held f k p in
+      let q = shown_pair (other f) new.end rest (handed f k g p) in
+      let left = less_shown f p k new.end rest g in
+      let now = handed_at laws.carried f q (steps ++ x.stands.more) (used - k) new.held x.stands.stands (omega arith)
+      (grind (arith, append-nil)) in
+      record {
+        stands = record {
+          more = x.stands.more;
+          are = x.stands.are;
+          stands = subst (λ (b : TwoEnds). StandsAt b (steps ++ x.stands.more))
+              (handed_twice f p k (used - k) used new.end rest new.held g (omega arith)) now;
+        };
+        few = x.few;
+      }
 
-memory_stands : PieceLaws → (f : Side) (p : TwoEnds) (steps : List Step) (most used : ℕ) (new : Holding) → StandsAt p steps →
-    Lasts (other f) p → most ≤ reachable f p → FindsNoMemory (end_at (other f) p) (piece_of f most p) used new →
-    StandsFew (other f) (handed f used new.held p) steps new.end new.held
-memory_stands laws f p steps most used new at alive le d =
-    let long = piece_long f most p le in
-    let all = d.all in
-    let k = d.within in
-    let g = more_held f k p in
-    let q = handed f k g p in
-    let rest : Held = record g { octets = d.rest } in
-    let y = packed laws f p steps k (take k (piece_of f most p)) d.units d.before rest at alive (omega arith)
-    (take_less k most (end_at f p).end.carrier.outgoing (omega arith)) d.taken d.packets in
-    let z = still_goes (other f) q steps d.before rest d.quiet y.stands in
-    memory_by laws f p steps used k new d.before d.rest (omega arith) (omega arith) z
-    (found_how (end_at (other f) p) (piece_of f most p) used new d)
-  where
-    memory_by : PieceLaws → (f : Side) (p : TwoEnds) (steps : List Step) (used k : ℕ) (new : Holding) (before : End) (octets : List ℕ) →
-        k ≤ used → used ≤ reachable f p →
-        GoesOn (other f) (handed f k (more_held f k p) p) steps before (record (more_held f k p) { octets = octets }) →
-        (new.end ≡ ends NoMemory before) ⊎ ((packet : List ℕ) × ArePackets (packet ∷ []) octets [] × Starves before packet new.end) →
-        StandsFew (other f) (handed f used new.held p) steps new.end new.held
-    memory_by laws f p steps used k new before octets le all z (inl is) =
-        let q = handed f k (more_held f k p) p in
-        let rest : Held = record (more_held f k p) { octets = octets } in
-        let x = laws.packets.ended (with_holding (other f) before rest q) (steps ++ z.more) (other f) rest z.stands z.lasts in
-        let same : ends NoMemory (end_at (other f) (with_holding (other f) before rest q)).end ≡ new.end =
-        ap (λ (b : Holding). ends NoMemory b.end) z.here ∙ sym is in
-        starving laws f p steps used k new rest le all (ap (λ (e : End). is_some e.carrier.ended) is)
-        (behind (other f) q steps before rest new.end rest z
-        (subst (λ (e : End). StandsFew (other f) (with_holding (other f) before rest q) (steps ++ z.more) e rest) same x))
-    memory_by laws f p steps used k new before octets le all z (inr st) =
-        let q = handed f k (more_held f k p) p in
-        let rest : Held = record (more_held f k p) { octets = octets } in
-        let none : Held = record (more_held f k p) { octets = [] } in
-        let r = with_holding (other f) before rest q in
-        let packs = st.1 in
-        let cut : (end_at (other f) r).held.octets ≡ packs.0 ++ [] =
-        ap (λ (b : Holding). b.held.octets) z.here ∙ packs.3 ∙ ap (λ (l : List ℕ). packs.0 ++ l) packs.4 in
-        let starves_there : Starves (end_at (other f) r).end st.0 new.end =
-        subst (λ (b : Holding). Starves b.end st.0 new.end) (sym z.here) st.2 in
-        starving laws f p steps used k new none le all
-        (starved_ended laws (other f) r (steps ++ z.more) st.0 packs.0 [] new.end z.stands z.lasts packs.2 cut starves_there)
-        (behind (other f) q steps before rest new.end none z
-        (laws.packets.starved r (steps ++ z.more) (other f) st.0 packs.0 new.end none z.stands z.lasts packs.2 cut starves_there))
+  dry_stands : RunsDry (end_at (other f) p) (piece_of f most p) used new → FedStands
+  dry_stands d =
+      let long = piece_long f most p le in
+      finished most new.held (omega arith) (omega arith) (λ lasts. (omega arith, refl))
+      (packed most (piece_of f most p) d.units new.end new.held le refl d.taken d.packets)
 
-goes_stands : PieceLaws → (f : Side) (p : TwoEnds) (steps : List Step) (most used : ℕ) (new : Holding) → StandsAt p steps →
-    Lasts (other f) p → most ≤ reachable f p → Goes (end_at (other f) p) (piece_of f most p) used new →
-    StandsFew (other f) (handed f used new.held p) steps new.end new.held
-goes_stands laws f p steps most used new at alive le (inl (inl d)) = dry_stands laws f p steps most used new at alive le d
-goes_stands laws f p steps most used new at alive le (inl (inr d)) = behind_stands laws f p steps most used new at alive le d
-goes_stands laws f p steps most used new at alive le (inr (inl d)) = absurd (refused_not laws f p steps most used new at alive le d)
-goes_stands laws f p steps most used new at alive le (inr (inr d)) = memory_stands laws f p steps most used new at alive le d
+  behind_stands : StopsBehind (end_at (other f) p) (piece_of f most p) used new → FedStands
+  behind_stands d =
+      let long = piece_long f most p le in
+      let k = d.within in
+      let at_least : k ≤ used = grind arith in
+      let at_most : used ≤ length (piece_of f most p) = grind (arith, d.uses) in
+      finished k new.held (omega arith) (omega arith) (grind arith)
+      (packed k (take k (piece_of f most p)) d.units new.end new.held (omega arith)
+      (take-take k most (end_at f p).end.carrier.outgoing (omega arith)) d.taken (subst (λ (l : List ℕ).
+      ArePackets d.units ((end_at (other f) p).held.octets ++ take k (piece_of f most p)) l) (sym d.held) d.packets))
+
+  -- there is no fault of the stream
+  refused_not : Refuses (end_at (other f) p) (piece_of f most p) used new → ⊥
+  refused_not d =
+      let g = more_held f most p in
+      let rest : Held = record g { octets = d.cut.0 } in
+      let y = packed most (piece_of f most p) d.units d.before rest le refl d.taken d.cut.1 in
+      grind (arith, laws.sound)
+
+  pub memory_stands : FindsNoMemory (end_at (other f) p) (piece_of f most p) used new →
+      StandsOut (other f) (handed f used new.held p) steps new.end new.held
+  memory_stands d =
+      let long = piece_long f most p le in
+      let all = d.all in
+      let k = d.within in
+      let q = handed f k (more_held f k p) p in
+      let rest : Held = record (more_held f k p) { octets = d.rest } in
+      let y = packed k (take k (piece_of f most p)) d.units d.before rest (omega arith)
+      (take-take k most (end_at f p).end.carrier.outgoing (omega arith)) d.taken d.packets in
+      let z = still_goes (other f) q steps d.before rest d.quiet y.stands in
+      let x = ran_out laws (other f) (with_holding (other f) d.before rest q) (steps ++ z.more) d.before new.end rest z.stands z.lasts
+      z.here (found_how (end_at (other f) p) (piece_of f most p) used new d) in
+      record {
+        all = finished k x.0 (omega arith) (omega arith) (λ lasts. over_not new.end.carrier.ended (ap is_some x.1.named) lasts)
+            (behind (other f) q steps d.before rest new.end x.0 z x.1.all);
+        named = x.1.named;
+      }
+
+  goes_stands : Goes (end_at (other f) p) (piece_of f most p) used new → FedStands
+  goes_stands (inl (inl d)) = dry_stands d
+  goes_stands (inl (inr d)) = behind_stands d
+  goes_stands (inr (inl d)) = absurd (refused_not d)
+  goes_stands (inr (inr d)) = (memory_stands d).all
 
 -- ---- all pending indications are given
 
@@ -238,7 +191,7 @@ record AllShown (old : Holding) (first : List (ℕ × Shown)) (new : Holding) : 
 
 all_shown : (old : Holding) (first : List (ℕ × Shown)) (new : Holding) → ShowsFirst old first new → length (waiting_in old.end.lines) ≤ 81 →
     AllShown old first new
-all_shown old first new s few = grind (arith, length-append, none_in, append-nil, quiet_same)
+all_shown old first new s few = grind (arith, length-append, nil_from_length, append-nil, quiet_same)
 
 -- ---- a piece is carried
 
@@ -252,7 +205,7 @@ same_crossing : (c : Crossing) (from to : Holding) (journal : List Entry) → c.
 same_crossing c from to journal a b d = grind arith
 
 -- to an end that lasts
-pub piece_alive : PieceLaws → (f : Side) (p : TwoEnds) (steps : List Step) (most used : ℕ) (new : Crossing) → StandsAt p steps →
+pub piece_alive : CarryLaws → (f : Side) (p : TwoEnds) (steps : List Step) (most used : ℕ) (new : Crossing) → StandsAt p steps →
     Lasts (other f) p → most ≤ reachable f p → CarriesPiece (other f) most (crossing f p) used new →
     StandsAtArrivals (other f) (crossed f new (reach_after f used p.reach)) steps
 piece_alive laws f p steps most used new at alive le c =
@@ -268,7 +221,7 @@ piece_alive laws f p steps most used new at alive le c =
     (grind arith) x.stands
 
 -- to an end that has ended
-pub piece_over : PieceLaws → (f : Side) (p : TwoEnds) (steps : List Step) (most used : ℕ) (new : Crossing) (why : EndReason) →
+pub piece_over : CarryLaws → (f : Side) (p : TwoEnds) (steps : List Step) (most used : ℕ) (new : Crossing) (why : EndReason) →
     StandsAt p steps → (end_at (other f) p).end.carrier.ended ≡ Some why → most ≤ reachable f p →
     CarriesPiece (other f) most (crossing f p) used new → StandsAt (crossed f new (reach_after f used p.reach)) steps
 piece_over laws f p steps most used new why at over le c =

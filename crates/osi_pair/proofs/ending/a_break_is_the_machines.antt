@@ -2,16 +2,18 @@
 -- For breaks and ends, packets, carries and the laws of `standing`.
 use Rattle.osi_between.specs.Between.{Lost}
 use Rattle.osi_between.specs.Messages as carrier
-use Rattle.osi_pair.proofs.Vocabulary.{◌≡◌, refl, sym, ap, subst, ℕ, ◌≤◌, Bool, true, false, List, [], ◌∷◌, ◌++◌, length, take, min, Option}
-use Rattle.osi_pair.proofs.Vocabulary.{Some, None, option_map, arith, ◌<◌, inl, inr, AllByRecursion, Local, place_at, Between, Both}
-use Rattle.osi_pair.proofs.Vocabulary.{AreBetween, under_way, broken_at, fresh_both, fresh_between, is_cut, progress_of, Progress, Terms}
-use Rattle.osi_pair.proofs.Vocabulary.{terms_of, connection_at, Step, breaks, HasNumber, IsTableRun, Seat, Line, Tables, turned}
-use Rattle.osi_pair.proofs.Vocabulary.{cut_channels, step, run, start, Message, TwoEnds, sent_by, after_break, fresh_ends, terms_in}
-use Rattle.osi_pair.proofs.Vocabulary.{carriers_of, IsSeated, IsLine, Stands, StandsAt, StandsAtBreak, AreUnderWay, HasLine, HasJoined}
-use Rattle.osi_pair.proofs.Vocabulary.{IsSound, Holding, fresh_end, Left, Right, EndReason, cut_there, cut_count, SessionState as State}
+use Rattle.osi_pair.proofs.Vocabulary.{cut_line, take-map, ◌≡◌, refl, sym, ap, subst, ℕ, ◌≤◌, Bool, true, false, List, [], ◌++◌, length}
+use Rattle.osi_pair.proofs.Vocabulary.{min, Option, Some, None, option_map, arith, ◌<◌, Local, place_at, Between, Both, AreBetween}
+use Rattle.osi_pair.proofs.Vocabulary.{under_way, broken_at, fresh_both, fresh_between, is_cut, progress_of, Progress, Terms, terms_of}
+use Rattle.osi_pair.proofs.Vocabulary.{connection_at, Step, breaks, Line, Tables, turned, cut_channels, Message, TwoEnds, sent_by}
+use Rattle.osi_pair.proofs.Vocabulary.{after_break, fresh_ends, carriers_of, IsLine, Stands, StandsAt, StandsAtBreak, AreUnderWay, HasLine}
+use Rattle.osi_pair.proofs.Vocabulary.{HasJoined, IsSound, fresh_end, Left, Right, EndReason, cut_there, cut_count, SessionState as State}
 use Rattle.osi_pair.proofs.flight.who_receives_what_is_in_flight.{TakeLaws, TakesFrom, takes_from}
-use Rattle.osi_pair.proofs.flight.what_is_in_flight_when_an_end_acts.{Takes, Front, front_at, map_take, alike_take}
-use Rattle.osi_pair.proofs.flight.whether_something_is_cut_off.{IsWithin}
+use Rattle.osi_pair.proofs.flight.what_is_in_flight_when_an_end_acts.{Takes, Front, front_at, alike_take}
+use Rattle.osi_pair.proofs.flight.whether_something_is_cut_off.{found_each}
+use Rattle.osi_pair.proofs.promise.matching_ends_keep_the_promises.{tables_at, is_run}
+use Rattle.osi_pair.proofs.turn.what_an_acting_end_leaves_in_flight.{one_step}
+use Rattle.osi_pair.proofs.turn.a_turn_keeps_the_match.{still_seated}
 
 -- what is proved of two carriers
 pub record BreakLaws : Type 0 where
@@ -19,29 +21,13 @@ pub record BreakLaws : Type 0 where
       k ≤ length both.caller.state.outgoing → l ≤ length both.called.state.outgoing → Lost terms both (broken_at k l both) b
   pub takes : TakeLaws
 
--- what a break leaves of each line
-abbrev cut_line : ℕ → ℕ → Line → Line
-cut_line left right l = record {
-  own = record l.own { channel = take left l.own.channel };
-  peer = record l.peer { channel = take right l.peer.channel };
-}
-
 -- ---- one connection
 
-pub still_seated : (n : ℕ) (h : Holding) (seat : Seat) (ms : List Message) → IsSeated n h seat → IsSeated n h (record seat { channel = ms })
-still_seated n h seat ms s = grind arith
-
--- a line after the break
-record HasCut (n k l : ℕ) (p : TwoEnds) (c : Between) (left right : ℕ) (lines : List Line) : Type 0 where
+-- a line after the break, with the numbers of messages that remain in flight, each way
+record HasCut (p : TwoEnds) (c : Between) (lines : List Line) (n : ℕ) (keep : ℕ × ℕ) : Type 0 where
   line : Line
   found : connection_at n lines ≡ Some line
-  is : IsLine n (after_break k l p) c (cut_line left right line)
-
--- the numbers of messages that remain in flight, each way
-record Breaks (n k l : ℕ) (p : TwoEnds) (b : Between) (most : ℕ) (c : Between) (lines : List Line) : Type 0 where
-  left : ℕ
-  right : ℕ
-  is : 0 < n → n ≤ most → HasCut n k l p c left right lines
+  is : IsLine n p c (cut_line keep.0 keep.1 line)
 
 left_over : (end : Bool) (n : ℕ) (o : Option EndReason) (g h : Progress) (c : Bool) (H : Option (List ℕ) → Type 0) (x : State)
     (ms : List Message) (old new : Both) (b now : Between) (gone : List carrier.Message) →
@@ -50,11 +36,12 @@ left_over : (end : Bool) (n : ℕ) (o : Option EndReason) (g h : Progress) (c : 
 left_over end n o g h c H x ms old new b now gone all same takes w =
     let first = under_way end n new now in
     front_at o o g h c true H x ms (length first) (under_way end n old b) first w takes refl
-    (grind (arith, map_take, alike_take))
+    (grind (arith, take-map, alike_take))
 
 break_line : (n k l : ℕ) (p : TwoEnds) (b : Between)
     (lost : Lost (terms_of p.left.end.carrier.local p.right.end.carrier.local) (carriers_of p) (carriers_of (after_break k l p)) b)
-    (t : Tables) → TakesFrom Left t → TakesFrom Right t → HasLine n p b t → Breaks n k l p b (length t.lines) lost.now t.lines
+    (t : Tables) → TakesFrom Left t → TakesFrom Right t → HasLine n p b t →
+    (keep : ℕ × ℕ) × HasCut (after_break k l p) lost.now t.lines n keep
 break_line n k l p b lost t rightward leftward h =
     let old = carriers_of p in
     let new = carriers_of (after_break k l p) in
@@ -65,83 +52,35 @@ break_line n k l p b lost t rightward leftward h =
     (is_cut false old) (HasJoined n p.left) h.line.own.session.state h.line.peer.channel old new b lost.now
     (lost.loses false n).gone (lost.loses false n).all (ap progress_of (lost.stays true n))
     (leftward n (turned h.line) h.found) h.is.leftward in
-    record {
-      left = out.keep;
-      right = back.keep;
-      is = λ some few. record {
-        line = h.line;
-        found = h.found;
-        is = search (arith, still_seated);
-      };
-    }
-
--- what becomes of each reference, also if none was given
-breaks_at : (n k l : ℕ) (p : TwoEnds) (b : Between)
-    (lost : Lost (terms_of p.left.end.carrier.local p.right.end.carrier.local) (carriers_of p) (carriers_of (after_break k l p)) b)
-    (t : Tables) → Stands p b t → TakesFrom Left t → TakesFrom Right t → IsWithin n (length t.lines) →
-    Breaks n k l p b (length t.lines) lost.now t.lines
-breaks_at n k l p b lost t s rightward leftward (inl out) = grind arith
-breaks_at n k l p b lost t s rightward leftward (inr given) = break_line n k l p b lost t rightward leftward (s.lines n given.0 given.1)
+    ((out.keep, back.keep), record { line = h.line; found = h.found; is = search (arith, still_seated) })
 
 -- ---- a break
 
--- two ends match the tables after a break of the machine
-record StandBroken (p : TwoEnds) (t : Tables) : Type 0 where
-  keep_left : ℕ → ℕ
-  keep_right : ℕ → ℕ
-  now : Between
-  stands : Stands p now (run t (breaks keep_left keep_right ∷ []))
-
-break_stands : BreakLaws → (p : TwoEnds) (b : Between) (t : Tables) (k l : ℕ) → Stands p b t → IsTableRun t → p.reach ≡ None →
-    StandBroken (after_break k l p) t
-break_stands laws p b t k l s run none =
-    let lost = laws.broken (terms_of p.left.end.carrier.local p.right.end.carrier.local) (carriers_of p) b (min k (sent_by Left p))
+pub break_at : BreakLaws → (p : TwoEnds) (steps : List Step) (k l : ℕ) → StandsAt p steps → p.reach ≡ None →
+    StandsAtBreak (after_break k l p) steps
+break_at laws p steps k l at none =
+    let s = at.stands in
+    let t = tables_at p steps in
+    let run = is_run p steps at in
+    let new = after_break k l p in
+    let lost = laws.broken (terms_of p.left.end.carrier.local p.right.end.carrier.local) (carriers_of p) at.now (min k (sent_by Left p))
     (min l (sent_by Right p)) s.between
     (ap (option_map (λ r. (r.left, r.right))) none) (omega arith) (omega arith) in
-    let at : (n : ℕ) → Breaks n k l p b (length t.lines) lost.now t.lines =
-    λ n. breaks_at n k l p b lost t s (takes_from laws.takes Left t run) (takes_from laws.takes Right t run)
-    (grind arith) in
-    let left : ℕ → ℕ = λ n. (at n).left in
-    let right : ℕ → ℕ = λ n. (at n).right in
+    let each = found_each (length t.lines) (ℕ × ℕ) (HasCut new lost.now t.lines) (0, 0) (λ n some few.
+    break_line n k l p at.now lost t (takes_from laws.takes Left t run) (takes_from laws.takes Right t run) (s.lines n some few)) in
+    let left : ℕ → ℕ = λ n. (each.at n).0 in
+    let right : ℕ → ℕ = λ n. (each.at n).1 in
+    let cut : Tables = record t { broken = true; lines = cut_channels left right 1 t.lines } in
     let count = cut_count left right 1 t.lines in
-    let lines : (n : ℕ) → 0 < n → n ≤ length (cut_channels left right 1 t.lines) →
-    HasLine n (after_break k l p) lost.now (record t { broken = true; lines = cut_channels left right 1 t.lines }) = λ n a c.
-    let h = (at n).is a (subst (λ (m : ℕ). n ≤ m) count c) in
+    let lines : (n : ℕ) → 0 < n → n ≤ length cut.lines → HasLine n new lost.now cut = λ n a c.
+    let h = each.is n a (subst (λ (m : ℕ). n ≤ m) count c) in
     record { line = cut_line (left n) (right n) h.line; found = cut_there left right n t.lines h.line h.found; is = h.is } in
-    let stands : Stands (after_break k l p) lost.now (record t { broken = true; lines = cut_channels left right 1 t.lines }) =
-    grind arith in
+    let stands : Stands new lost.now cut = grind arith in
     record {
       keep_left = left;
       keep_right = right;
-      now = lost.now;
-      stands = subst (Stands (after_break k l p) lost.now) (sym (grind arith)) stands;
-    }
-
--- ---- at a list of steps
-
-pub run_behind : (t : Tables) (xs ys : List Step) → run t (xs ++ ys) ≡ run (run t xs) ys
-run_behind t [] ys = refl
-run_behind t (x ∷ xs) ys = run_behind (step t x) xs ys
-
-numbered_behind : (left right : ℕ → ℕ) (xs : List Step) → AllByRecursion HasNumber xs →
-    AllByRecursion HasNumber (xs ++ breaks left right ∷ [])
-numbered_behind left right [] a = (tt, tt)
-numbered_behind left right (x ∷ xs) a = (a.0, numbered_behind left right xs a.1)
-
-pub break_at : BreakLaws → (p : TwoEnds) (steps : List Step) (k l : ℕ) → StandsAt p steps → p.reach ≡ None →
-    StandsAtBreak (after_break k l p) steps
-break_at laws p steps k l s none =
-    let first : Tables = start (terms_in (terms_of p.left.end.carrier.local p.right.end.carrier.local)) in
-    let tabled : IsTableRun (run first steps) = record { agreed = _; steps = steps; numbered = s.numbered; reached = refl } in
-    let done = break_stands laws p s.now (run first steps) k l s.stands tabled none in
-    record {
-      keep_left = done.keep_left;
-      keep_right = done.keep_right;
-      stands = record {
-        numbered = numbered_behind done.keep_left done.keep_right steps s.numbered;
-        now = done.now;
-        stands = grind (arith, run_behind);
-      };
+      stands = one_step p new steps (breaks left right) tt refl at.numbered
+          (record { now = lost.now; stands = subst (Stands new lost.now) (sym (grind arith)) stands });
     }
 
 -- ---- nothing has happened

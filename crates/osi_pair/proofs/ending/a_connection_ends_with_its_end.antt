@@ -3,17 +3,16 @@
 use Rattle.osi_between.specs.Messages as between
 use Rattle.osi_machine.specs.Core as machine
 use Rattle.osi_machine.specs.Worlds.{not_yet, gone}
-use Rattle.osi_pair.proofs.Vocabulary.{◌≡◌, refl, ◌∙◌, ap, ℕ, zero, suc, ◌+◌, ◌≤◌, Bool, true, false, if◌then◌else◌, not, List, [], ◌∷◌}
-use Rattle.osi_pair.proofs.Vocabulary.{◌++◌, length, map, take, nat_lt, Option, Some, None, is_some, arith, messages_front, slice_get}
-use Rattle.osi_pair.proofs.Vocabulary.{IfSome, append-nil, Value, Place, never, was_given, place_at, connection_in, Rows, value_at}
-use Rattle.osi_pair.proofs.Vocabulary.{Connection, State, units_of, Between, Both, is_cut, to_come, under_way, side, last_of}
-use Rattle.osi_pair.proofs.Vocabulary.{messages_after, begun_at, Progress, connection_at, is_given, Seat, Line, awaits, seen_from}
-use Rattle.osi_pair.proofs.Vocabulary.{ends_there, ended_lines, Message, IsInOctets, Standing, broken as broken_off, react, kept_at}
-use Rattle.osi_pair.proofs.Vocabulary.{Holding, transport_in, IsSeated, AreUnderWay, EndReason, SessionState as Session, append_assoc}
-use Rattle.osi_pair.proofs.Vocabulary.{list_any-append}
-use Rattle.osi_pair.proofs.flight.what_is_in_flight_when_an_end_acts.{Takes, as_now, map_take, alike_take}
+use Rattle.osi_pair.proofs.Vocabulary.{ended_there, take-map, ◌≡◌, refl, ◌∙◌, ap, ℕ, ◌+◌, Bool, true, false, if◌then◌else◌, not, List, []}
+use Rattle.osi_pair.proofs.Vocabulary.{◌++◌, length, map, take, nat_lt, Option, Some, None, is_some, arith, messages_front, IfSome}
+use Rattle.osi_pair.proofs.Vocabulary.{append-nil, Value, Place, never, was_given, place_at, connection_in, Rows, value_at, Connection}
+use Rattle.osi_pair.proofs.Vocabulary.{State, units_of, Between, Both, is_cut, to_come, under_way, side, last_of, messages_after, begun_at}
+use Rattle.osi_pair.proofs.Vocabulary.{Progress, connection_at, is_given, Seat, Line, awaits, seen_from, ended_lines, Message, IsInOctets}
+use Rattle.osi_pair.proofs.Vocabulary.{broken as broken_off, react, kept_at, Holding, transport_in, IsSeated, AreUnderWay, EndReason}
+use Rattle.osi_pair.proofs.Vocabulary.{SessionState as Session, append_assoc, list_any-append, take-append-le}
+use Rattle.osi_pair.proofs.flight.what_is_in_flight_when_an_end_acts.{Takes, as_now, alike_take}
 use Rattle.osi_pair.proofs.flight.what_is_in_flight_when_an_end_acts as ways
-use Rattle.osi_pair.proofs.ending.all_sessions_are_lost_in_order.{is_over}
+use Rattle.osi_pair.proofs.session.a_reply_can_be_sent.{ended_broken, goes_broken}
 
 -- ---- a side that has ended
 
@@ -46,33 +45,19 @@ pub record HasEnded (c : State) (new : Holding) : Type 0 where
 not_live : (n : ℕ) (live : Rows Connection) → live ≡ [] → is_some (value_at n live) ≡ true → ⊥
 not_live n live none some = grind arith
 
-pub still_waiting : (s : Standing) → (react s broken_off).next.waiting ≡ s.waiting
-unfolding react
-still_waiting s = refl
-
 pub not_of : (b : Bool) (x : Bool) → x ≡ not b → b ≡ not x
 not_of b x e = grind arith
 
 pub seat_ends : (n : ℕ) (c : State) (new : Holding) (seat : Seat) (keep : ℕ) → HasEnded c new → IsPlaced n c seat →
     IsSeated n new (ended_seat (is_given seat.transport) keep seat)
-seat_ends n c new seat keep ended s = grind (arith, not_of, not_live, is_over, still_waiting)
+seat_ends n c new seat keep ended s = grind (arith, not_of, not_live, ended_broken, goes_broken seat.session s.octets)
 
 -- ---- all lines
 
-ended_got : (side : machine.Side) (keep : ℕ → ℕ) (k i : ℕ) (ls : List Line) (l : Line) → slice_get ls i ≡ Some l →
-    slice_get (ended_lines side keep k ls) i ≡ Some (seen_from side (ends_there (keep (k + i)) (seen_from side l)))
-ended_got side keep k i [] l e = absurd (cc)
-ended_got side keep k zero (x ∷ ls) l e = grind arith
-ended_got side keep k (suc i) (x ∷ ls) l e = grind (arith, ended_got side keep (k + 1) i ls l e)
-
-pub ended_at_line : (side : machine.Side) (keep : ℕ → ℕ) (n : ℕ) (ls : List Line) (l : Line) → connection_at n ls ≡ Some l →
-    connection_at n (ended_lines side keep 1 ls) ≡ Some (seen_from side (ended_line (keep n) (seen_from side l)))
-ended_at_line side keep zero ls l e = absurd (cc)
-ended_at_line side keep (suc i) ls l e = grind (arith, ended_got side keep 1 i ls l e)
-
-pub ended_count : (side : machine.Side) (keep : ℕ → ℕ) (k : ℕ) (ls : List Line) → length (ended_lines side keep k ls) ≡ length ls
-ended_count side keep k [] = refl
-ended_count side keep k (l ∷ ls) = ap suc (ended_count side keep (k + 1) ls)
+pub ended_at_line : (side : machine.Side) (keep : ℕ → ℕ) (n : ℕ) (ls : List Line) (l : Line) →
+    connection_at n ls ≡ Some (seen_from side l) →
+    connection_at n (ended_lines side keep 1 ls) ≡ Some (seen_from side (ended_line (keep n) l))
+ended_at_line side keep n ls l e = grind (arith, ended_there side keep n ls (seen_from side l) e)
 
 -- ---- what is in flight
 
@@ -97,11 +82,6 @@ way_none end n old new b none = grind arith
 pub never_given : (n : ℕ) (c : State) → nat_lt c.given n ≡ true → connection_in (place_at n c) ≡ None
 never_given n c e = ap (λ (b : Bool). connection_in (if◌then◌else◌ {A = Place} b never (was_given (value_at n c.live)))) e
 
--- the first k messages, whatever was sent after them
-take_front : (k : ℕ) (xs ys : List Message) → k ≤ length xs → take k (xs ++ ys) ≡ take k xs
-take_front (suc k) (x ∷ xs) ys h = ap (λ (l : List Message). x ∷ l) (take_front k xs ys (omega arith))
-take_front k xs ys h = grind arith
-
 -- `keep` messages of it remain
 pub record EndsWith (o : Option EndReason) (g : Progress) (H : Option (List ℕ) → Type 0) (x : Session) (given : Bool) (seat : Seat)
     (new : List between.Message) : Type 0 where
@@ -115,6 +95,6 @@ pub way_ended : (o : Option EndReason) (g : Progress) (c : Bool) (H : Option (Li
 way_ended o g c H x true seat kept more old new parts none takes f same w =
     let k = length new in
     let y = ways.front_at o o g g c true H x kept k old new w (grind (arith, append_assoc, list_any-append)) refl
-    (grind (arith, map_take, alike_take)) in
-    grind (arith, take_front)
+    (grind (arith, take-map, alike_take)) in
+    grind (arith, take-append-le)
 way_ended o g c H x false seat kept more old new parts none takes f same w = grind (arith, append-nil, as_now, map)

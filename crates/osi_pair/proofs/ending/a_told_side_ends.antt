@@ -4,11 +4,12 @@ use Rattle.osi_machine.specs.Core as machine
 use Rattle.osi_machine.specs.Machine as entries
 use Rattle.osi_stack.specs.State as stack
 use Rattle.osi_pair.specs.Entries.{ends}
-use Rattle.osi_pair.proofs.Vocabulary.{◌≡◌, refl, sym, ◌∙◌, subst, ℕ, true, List, [], ◌∷◌, ◌++◌, Option, Some, None, is_some, arith}
-use Rattle.osi_pair.proofs.Vocabulary.{AllByRecursion, Rows, EndReason, Broken, IsTableRun, told_of_break, Step, HasNumber, Tables, end_of}
-use Rattle.osi_pair.proofs.Vocabulary.{after_end, run, start, Shown, Holding, terms_of, TwoEnds, end_at, Entry, HearsOfBreak, TellsBreak}
-use Rattle.osi_pair.proofs.Vocabulary.{terms_in, StandsAt, StandsAtEnd, StandsAtTold, side_in, shown_entries, Side, other}
-use Rattle.osi_pair.proofs.ending.a_break_is_the_machines.{run_behind}
+use Rattle.osi_pair.proofs.Vocabulary.{◌≡◌, refl, sym, ◌∙◌, subst, ℕ, true, List, [], ◌∷◌, ◌++◌, Option, Some, None, is_some, arith, Rows}
+use Rattle.osi_pair.proofs.Vocabulary.{EndReason, Broken, told_of_break, Step, Tables, end_of, after_end, run, Shown, Holding, TwoEnds}
+use Rattle.osi_pair.proofs.Vocabulary.{end_at, Entry, HearsOfBreak, TellsBreak, Stands, StandsAt, StandsAtEnd, StandsAtTold, side_in}
+use Rattle.osi_pair.proofs.Vocabulary.{shown_entries, Side}
+use Rattle.osi_pair.proofs.turn.what_an_acting_end_leaves_in_flight.{one_step}
+use Rattle.osi_pair.proofs.promise.matching_ends_keep_the_promises.{tables_at, is_run}
 use Rattle.osi_pair.proofs.flight.who_receives_what_is_in_flight.{TakeLaws, takes_from}
 use Rattle.osi_pair.proofs.ending.an_end_of_an_end_is_the_machines.{ended_holding, ended_pair, may_end, shown_then, ended_stands}
 use Rattle.osi_pair.proofs.ending.all_sessions_are_lost_in_order.{none_kept, IsTold}
@@ -21,39 +22,26 @@ one_end : (who : machine.Side) (t : Tables) (keep : ℕ → ℕ) → end_of who 
     run t (entries.ends who told_of_break keep ∷ []) ≡ after_end who told_of_break keep t
 one_end who t keep none broken = grind arith
 
-abbrev told_end : Holding → Rows stack.Line → Holding
-told_end h lines = ended_holding Broken h.end.carrier lines h.held
-
 abbrev told_pair : Side → TwoEnds → Rows stack.Line → List Entry → TwoEnds
 told_pair s p lines journal = ended_pair s Broken (end_at s p).end.carrier lines (end_at s p).held journal p
 
 -- ---- at a list of steps
-
-numbered_told : (who : machine.Side) (keep : ℕ → ℕ) (xs : List Step) → AllByRecursion HasNumber xs →
-    AllByRecursion HasNumber (xs ++ entries.ends who told_of_break keep ∷ [])
-numbered_told who keep [] a = (tt, tt)
-numbered_told who keep (x ∷ xs) a = (a.0, numbered_told who keep xs a.1)
 
 ended_at : TakeLaws →
     (s : Side) (p : TwoEnds) (steps : List Step) (lines : Rows stack.Line) (first : List (ℕ × Shown)) (journal : List Entry) →
     StandsAt p steps → is_some p.reach ≡ true → Lasts s p → IsTold (end_at s p) lines first →
     journal ≡ p.journal ++ (shown_entries s first ++ ends s Broken ∷ []) → StandsAtEnd s (told_pair s p lines journal) steps
 ended_at laws s p steps lines first journal at broken none told said =
-    let begin : Tables = start (terms_in (terms_of p.left.end.carrier.local p.right.end.carrier.local)) in
-    let t = run begin steps in
+    let t = tables_at p steps in
     let h = end_at s p in
-    let tabled : IsTableRun t = record { agreed = _; steps = steps; numbered = at.numbered; reached = refl } in
     let done = ended_stands s p at.now t t h.end h.held at.now Broken told_of_break lines h.held first journal at.stands
-    (may_end s p at.now t at.stands (takes_from laws s t tabled) none) refl
+    (may_end s p at.now t at.stands (takes_from laws s t (is_run p steps at)) none) refl
     (λ n. none_kept n h.end.lines lines told.same) (shown_then s p at.now t lines first at.stands none told) said in
     let is = one_end (side_in s) t done.keep (lasting_in s p at.now t at.stands none) (at.stands.broken ∙ broken) in
     record {
       keep = done.keep;
-      stands = record {
-        numbered = numbered_told (side_in s) done.keep steps at.numbered;
-        now = at.now;
-        stands = grind (arith, run_behind);
-      };
+      stands = one_step p (told_pair s p lines journal) steps (entries.ends (side_in s) told_of_break done.keep) tt (grind arith)
+          at.numbered (record { now = at.now; stands = subst (Stands (told_pair s p lines journal) at.now) (sym is) done.stands });
     }
 
 -- ---- what a side that is told of a break does
@@ -62,7 +50,7 @@ ended_at laws s p steps lines first journal at broken none told said =
 record Heard (who : Side) (old new : Holding) (before after : List Entry) : Type 0 where
   first : List (ℕ × Shown)
   told : IsTold old new.end.lines first
-  is : new ≡ told_end old new.end.lines
+  is : new ≡ ended_holding Broken old.end.carrier new.end.lines old.held
   says : after ≡ before ++ (shown_entries who first ++ ends who Broken ∷ [])
 
 heard : (who : Side) (old new : Holding) (before after : List Entry) → old.end.carrier.ended ≡ None →
@@ -75,10 +63,8 @@ told_by laws who old new steps (Some reason) e s broken h =
     subst (λ (x : TwoEnds). StandsAt x steps) (sym (grind (arith, h.other, h.reach))) s
 told_by laws who old new steps None e s broken h =
     let now = heard who (end_at who old) (end_at who new) old.journal new.journal e (h.told.hears e) in
-    let lines = (end_at who new).end.lines in
-    subst (λ (x : TwoEnds). StandsAtEnd who x steps)
-    (sym (grind (arith, now.is, h.other)))
-    (ended_at laws who old steps lines now.first new.journal s broken e now.told now.says)
+    subst (λ (x : TwoEnds). StandsAtEnd who x steps) (sym (grind (arith, now.is, h.other)))
+    (ended_at laws who old steps (end_at who new).end.lines now.first new.journal s broken e now.told now.says)
 
 pub told_at : TakeLaws → (who : Side) (old new : TwoEnds) (steps : List Step) → StandsAt old steps → is_some old.reach ≡ true →
     TellsBreak who old new → StandsAtTold (end_at who old).end.carrier.ended who new steps

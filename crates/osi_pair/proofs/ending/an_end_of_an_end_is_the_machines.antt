@@ -1,27 +1,28 @@
 -- The end of an end is an end of the machine, whatever its reason.
 -- For breaks and ends and packets.
 use Rattle.osi_carrier.specs.State as carriers
-use Rattle.osi_machine.specs.Core as machine
 use Rattle.osi_machine.specs.Machine as entries
 use Rattle.osi_stack.specs.State as stack
 use Rattle.osi_pair.specs.Entries.{ends}
-use Rattle.osi_pair.proofs.Vocabulary.{◌≡◌, refl, sym, ◌∙◌, ap, subst, ℕ, ◌<◌, ◌≤◌, true, false, List, [], ◌∷◌, ◌++◌, length, map, Some}
-use Rattle.osi_pair.proofs.Vocabulary.{None, option_map, inl, arith, inr, append-nil, Held, place_at, Rows, State, Between, AreBetween}
-use Rattle.osi_pair.proofs.Vocabulary.{under_way, last_of, is_cut, progress_of, EndReason, Ending, connection_at, is_given, Line, Tables}
-use Rattle.osi_pair.proofs.Vocabulary.{turned, seen_from, shown_in_order, after_end, Message, Shown, all_lost, kept_at, End, Holding}
-use Rattle.osi_pair.proofs.Vocabulary.{TwoEnds, end_at, Entry, other, side_in, ending_in, class_in, entry_in, carriers_of, IsSeated}
-use Rattle.osi_pair.proofs.Vocabulary.{IsUnderWay, IsLine, Stands, HasJoined, HasLine, waiting_in, quieted, shown_entries, Side, Left}
-use Rattle.osi_pair.proofs.Vocabulary.{Right}
-use Rattle.osi_pair.proofs.ending.all_sessions_are_lost_in_order.{none_kept, IsTold, AllSeated, SaysAll, says_all, journal_on}
-use Rattle.osi_pair.proofs.session.an_end_with_nothing_pending.{quiet_waits}
+use Rattle.osi_pair.proofs.Vocabulary.{ended_count, ◌≡◌, refl, sym, ◌∙◌, ap, subst, ℕ, ◌<◌, ◌≤◌, true, false, List, [], ◌∷◌, ◌++◌, length}
+use Rattle.osi_pair.proofs.Vocabulary.{map, Some, None, option_map, arith, append-nil, Held, place_at, connection_in, Rows, State, Between}
+use Rattle.osi_pair.proofs.Vocabulary.{AreBetween, under_way, last_of, is_cut, progress_of, EndReason, Ending, connection_at, is_given}
+use Rattle.osi_pair.proofs.Vocabulary.{Line, Tables, seen_from, shown_in_order, after_end, ended_lines, Message, Shown, all_lost, kept_at}
+use Rattle.osi_pair.proofs.Vocabulary.{End, Holding, TwoEnds, end_at, with_end, Entry, other, side_in, is_caller, ending_in, class_in}
+use Rattle.osi_pair.proofs.Vocabulary.{entry_in, carriers_of, IsSeated, IsUnderWay, IsLine, Stands, HasJoined, HasLine, waiting_in, quieted}
+use Rattle.osi_pair.proofs.Vocabulary.{shown_entries, Side}
+use Rattle.osi_pair.proofs.ending.all_sessions_are_lost_in_order.{none_kept, IsTold, AllSeated, SaysAll, says_all}
+use Rattle.osi_pair.proofs.session.an_end_with_nothing_pending.{quiet_waits, quiet_same}
 use Rattle.osi_pair.proofs.turn.what_remains_when_a_unit_was_taken.{terms_at}
 use Rattle.osi_pair.proofs.turn.all_is_shown.{shown_pair}
-use Rattle.osi_pair.proofs.turn.a_turn_keeps_the_match.{IsSeen, seen, with_holding}
-use Rattle.osi_pair.proofs.ending.a_connection_ends_with_its_end.{ended_line, IsPlaced, placed_seat, seat_ends, ended_at_line, ended_count}
-use Rattle.osi_pair.proofs.ending.a_connection_ends_with_its_end.{way_cut, way_none, way_ended}
+use Rattle.osi_pair.proofs.turn.a_turn_keeps_the_match.{seen, unseen, seen_twice, with_holding}
+use Rattle.osi_pair.proofs.turn.a_turn_keeps_the_match.{holding_there, GoesTo, seen_with, journals_join, GivenAfter, TablesStay}
+use Rattle.osi_pair.proofs.turn.what_an_acting_end_leaves_in_flight.{of_end}
+use Rattle.osi_pair.proofs.ending.a_connection_ends_with_its_end.{ended_line, IsPlaced, placed_seat, seat_ends, ended_at_line}
+use Rattle.osi_pair.proofs.ending.a_connection_ends_with_its_end.{way_cut, way_none, never_given, way_ended}
 use Rattle.osi_pair.proofs.flight.who_receives_what_is_in_flight.{TakesFrom}
 use Rattle.osi_pair.proofs.flight.what_is_in_flight_when_an_end_acts.{over_way}
-use Rattle.osi_pair.proofs.flight.whether_something_is_cut_off.{IsWithin, Lasts}
+use Rattle.osi_pair.proofs.flight.whether_something_is_cut_off.{found_each, Lasts}
 
 -- ---- two ends, one of which has ended
 
@@ -30,10 +31,7 @@ abbrev pub ended_holding : EndReason → State → Rows stack.Line → Held → 
 ended_holding reason a lines held = record { end = record { carrier = carriers.ends reason a; lines = lines }; held = held }
 
 abbrev pub ended_pair : Side → EndReason → State → Rows stack.Line → Held → List Entry → TwoEnds → TwoEnds
-ended_pair Left reason a lines held journal p =
-    record { left = ended_holding reason a lines held; right = p.right; reach = p.reach; journal = journal }
-ended_pair Right reason a lines held journal p =
-    record { left = p.left; right = ended_holding reason a lines held; reach = p.reach; journal = journal }
+ended_pair s reason a lines held journal p = record (with_end s (ended_holding reason a lines held) p) { journal = journal }
 
 -- a connection of an end that is going to end, seen from it
 pub record EndingLine (s : Side) (p : TwoEnds) (u : Tables) (e : End) (h : Held) (c : Between) (n : ℕ) : Type 0 where
@@ -54,104 +52,81 @@ pub record MayEnd (s : Side) (p : TwoEnds) (t u : Tables) (e : End) (h : Held) (
   pub lasts : e.carrier.ended ≡ None
   pub local : e.carrier.local ≡ (end_at s p).end.carrier.local
   pub role : e.carrier.is_caller ≡ (end_at s p).end.carrier.is_caller
-  pub terms : u.terms ≡ t.terms
-  pub broken : u.broken ≡ t.broken
-  pub left_end : u.left_end ≡ t.left_end
-  pub right_end : u.right_end ≡ t.right_end
+  pub stay : TablesStay t u
   pub journal : u.journal ≡ t.journal
   pub count : length u.lines ≡ length t.lines
-  pub given : (with_holding s e h p).left.end.carrier.given ≡ p.left.end.carrier.given
-  pub given_back : (with_holding s e h p).right.end.carrier.given ≤ length t.lines
+  pub gives : GivenAfter s p t e h c
   pub known : u.known ≡ option_map class_in (with_holding s e h p).left.end.carrier.class
-  pub given_then : c.caller.given ≡ (with_holding s e h p).left.end.carrier.given
-  pub class_then : c.caller.class ≡ (with_holding s e h p).left.end.carrier.class
   pub takes : TakesFrom s u
   pub lines : (n : ℕ) → 0 < n → n ≤ length t.lines → EndingLine s p u e h c n
 
--- what becomes of a line
-record HasEnds (s : Side) (p : TwoEnds) (u : Tables) (c : Between) (keep n : ℕ) : Type 0 where
+-- what becomes of a line, if `keep` messages remain in flight from it
+record HasEnds (s : Side) (p : TwoEnds) (u : Tables) (c : Between) (n keep : ℕ) : Type 0 where
   line : Line
   found : connection_at n u.lines ≡ Some (seen_from (side_in s) line)
   is : IsLine n p c (seen_from (side_in s) (ended_line keep line))
 
--- `keep` messages remain in flight from it
-record Ends (s : Side) (p : TwoEnds) (u : Tables) (c : Between) (most : ℕ) (n : ℕ) : Type 0 where
-  keep : ℕ
-  is : 0 < n → n ≤ most → HasEnds s p u c keep n
+-- the journal is another
+line_noted : (n : ℕ) (p : TwoEnds) (c : Between) (l : Line) (journal : List Entry) → IsLine n p c l →
+    IsLine n (record p { journal = journal }) c l
+line_noted n p c l journal i = grind arith
 
-left_line : (p : TwoEnds) (u : Tables) (e : End) (h : Held) (c : Between) (reason : EndReason) (lines : Rows stack.Line) (held : Held)
-    (journal : List Entry) (most n : ℕ) → e.carrier ≡ last_of true c → ((q : ℕ) → kept_at q lines ≡ None) → TakesFrom Left u →
-    EndingLine Left p u e h c n → Ends Left (ended_pair Left reason e.carrier lines held journal p) u c most n
-left_line p u e h c reason lines held journal most n last none takes l =
-    let q = ended_pair Left reason e.carrier lines held journal p in
-    let mid = with_holding Left e h p in
-    let out = way_ended p.right.end.carrier.ended (progress_of (place_at n (last_of false c))) (is_cut true (carriers_of mid))
-    (HasJoined n p.right) l.line.peer.session.state (is_given l.line.own.transport) l.line.own l.kept l.more
-    (under_way true n (carriers_of mid) c) (under_way true n (carriers_of q) c) l.parts l.whole (takes n l.line l.found)
-    (way_cut true n (carriers_of mid) (carriers_of q) c (grind arith))
-    (λ given. way_none true n (carriers_of mid) (carriers_of q) c (grind arith))
-    l.out in
-    record {
-      keep = out.keep;
-      is = λ some few. record {
+line_ends : (s : Side) (p : TwoEnds) (u : Tables) (e : End) (h : Held) (c : Between) (reason : EndReason) (lines : Rows stack.Line)
+    (held : Held) (journal : List Entry) (n : ℕ) → e.carrier ≡ last_of (is_caller s) c → ((q : ℕ) → kept_at q lines ≡ None) →
+    TakesFrom s u → EndingLine s p u e h c n →
+    (keep : ℕ) × HasEnds s (ended_pair s reason e.carrier lines held journal p) u c n keep
+line_ends s p u e h c reason lines held journal n last none takes l =
+    let gone : End = (ended_holding reason e.carrier lines held).end in
+    let mid = with_holding s e h p in
+    let q = with_holding s gone held p in
+    let there = end_at (other s) p in
+    let g = progress_of (place_at n (last_of (is_caller (other s)) c)) in
+    let x = l.line.peer.session.state in
+    let cut : is_cut (is_caller s) (carriers_of q) ≡ true = grind arith in
+    let out = way_ended there.end.carrier.ended g (is_cut (is_caller s) (carriers_of mid)) (HasJoined n there) x
+    (is_given l.line.own.transport) l.line.own l.kept l.more (under_way (is_caller s) n (carriers_of mid) c)
+    (under_way (is_caller s) n (carriers_of q) c) l.parts l.whole (takes n l.line l.found)
+    (way_cut (is_caller s) n (carriers_of mid) (carriers_of q) c cut)
+    (λ given. way_none (is_caller s) n (carriers_of mid) (carriers_of q) c
+    (ap (λ (a : State). connection_in (place_at n a)) (sym last) ∙ never_given n e.carrier (grind arith)))
+    (subst (λ (y : Holding). GoesTo s y n mid c g x l.kept) (holding_there s e h p) l.out) in
+    let line = ended_line out.keep l.line in
+    let seen_then = seen_with s p c gone held n line
+    (seat_ends n e.carrier (record { end = gone; held = held }) l.line.own out.keep (record { given = refl; live = refl; none = none })
+    l.here) l.there (grind (arith, cut, out.way)) (grind (arith, over_way, none)) in (
+      out.keep,
+      record {
         line = l.line;
         found = l.found;
-        is = record {
-          left = seat_ends n e.carrier q.left l.line.own out.keep (record { given = refl; live = refl; none = none }) l.here;
-          right = l.there;
-          rightward = grind (arith, ended_line);
-          leftward = grind (arith, over_way, ended_line);
-        };
-      };
-    }
-
-right_line : (p : TwoEnds) (u : Tables) (e : End) (h : Held) (c : Between) (reason : EndReason) (lines : Rows stack.Line) (held : Held)
-    (journal : List Entry) (most n : ℕ) → e.carrier ≡ last_of false c → ((q : ℕ) → kept_at q lines ≡ None) → TakesFrom Right u →
-    EndingLine Right p u e h c n → Ends Right (ended_pair Right reason e.carrier lines held journal p) u c most n
-right_line p u e h c reason lines held journal most n last none takes l =
-    let q = ended_pair Right reason e.carrier lines held journal p in
-    let mid = with_holding Right e h p in
-    let out = way_ended p.left.end.carrier.ended (progress_of (place_at n (last_of true c))) (is_cut false (carriers_of mid))
-    (HasJoined n p.left) l.line.peer.session.state (is_given l.line.own.transport) l.line.own l.kept l.more
-    (under_way false n (carriers_of mid) c) (under_way false n (carriers_of q) c) l.parts l.whole (takes n l.line l.found)
-    (way_cut false n (carriers_of mid) (carriers_of q) c (grind arith))
-    (λ given. way_none false n (carriers_of mid) (carriers_of q) c (grind arith))
-    l.out in
-    record {
-      keep = out.keep;
-      is = λ some few. record {
-        line = l.line;
-        found = l.found;
-        is = record {
-          left = l.there;
-          right = seat_ends n e.carrier q.right l.line.own out.keep (record { given = refl; live = refl; none = none }) l.here;
-          rightward = grind (arith, over_way, ended_line);
-          leftward = grind (arith, ended_line);
-        };
-      };
-    }
-
--- what becomes of each reference, also if none was given
-left_at : (p : TwoEnds) (u : Tables) (e : End) (h : Held) (c : Between) (reason : EndReason) (lines : Rows stack.Line) (held : Held)
-    (journal : List Entry) (most n : ℕ) → e.carrier ≡ last_of true c → ((q : ℕ) → kept_at q lines ≡ None) → TakesFrom Left u →
-    ((m : ℕ) → 0 < m → m ≤ most → EndingLine Left p u e h c m) → IsWithin n most →
-    Ends Left (ended_pair Left reason e.carrier lines held journal p) u c most n
-left_at p u e h c reason lines held journal most n last none takes all (inl out) = grind arith
-left_at p u e h c reason lines held journal most n last none takes all (inr given) =
-    left_line p u e h c reason lines held journal most n last none takes (all n given.0 given.1)
-
-right_at : (p : TwoEnds) (u : Tables) (e : End) (h : Held) (c : Between) (reason : EndReason) (lines : Rows stack.Line) (held : Held)
-    (journal : List Entry) (most n : ℕ) → e.carrier ≡ last_of false c → ((q : ℕ) → kept_at q lines ≡ None) → TakesFrom Right u →
-    ((m : ℕ) → 0 < m → m ≤ most → EndingLine Right p u e h c m) → IsWithin n most →
-    Ends Right (ended_pair Right reason e.carrier lines held journal p) u c most n
-right_at p u e h c reason lines held journal most n last none takes all (inl out) = grind arith
-right_at p u e h c reason lines held journal most n last none takes all (inr given) =
-    right_line p u e h c reason lines held journal most n last none takes (all n given.0 given.1)
+        is = line_noted n q c (seen_from (side_in s) line) journal (unseen s n q c line seen_then);
+      },
+    )
 
 -- they match the tables in which the side ends, if this much is kept of what was in flight from it
 pub record EndsOn (s : Side) (p : TwoEnds) (c : Between) (ending : Ending) (u : Tables) : Type 0 where
   pub keep : ℕ → ℕ
   pub stands : Stands p c (after_end (side_in s) ending keep u)
+
+-- whatever is kept
+ended_match : (s : Side) (p : TwoEnds) (b : Between) (t u : Tables) (e : End) (h : Held) (c : Between) (reason : EndReason)
+    (ending : Ending) (lines : Rows stack.Line) (held : Held) (journal : List Entry) (keep : ℕ → ℕ) → Stands p b t →
+    MayEnd s p t u e h c → ending_in reason ≡ Some ending → ((n : ℕ) → kept_at n lines ≡ None) → waiting_in lines ≡ [] →
+    map Some (u.journal ++ (shown_in_order (side_in s) 1 u.lines ++ entries.ended (side_in s) ending ∷ [])) ≡ map entry_in journal →
+    ((n : ℕ) → 0 < n → n ≤ length t.lines → HasEnds s (ended_pair s reason e.carrier lines held journal p) u c n (keep n)) →
+    Stands (ended_pair s reason e.carrier lines held journal p) c (after_end (side_in s) ending keep u)
+ended_match s p b t u e h c reason ending lines held journal keep old m is none quiet says all =
+    let v = after_end (side_in s) ending keep u in
+    let same : v.lines ≡ ended_lines (side_in s) keep 1 u.lines = grind arith in
+    let count = ended_count (side_in s) keep 1 u.lines ∙ m.count in
+    let lines_now : (n : ℕ) → 0 < n → n ≤ length v.lines →
+    HasLine n (ended_pair s reason e.carrier lines held journal p) c v = λ n some few.
+    let l = all n some (subst (λ (k : ℕ). n ≤ k) (ap length same ∙ count) few) in
+    record {
+      line = seen_from (side_in s) (ended_line (keep n) l.line);
+      found = ap (connection_at n) same ∙ ended_at_line (side_in s) keep n u.lines l.line l.found;
+      is = l.is;
+    } in
+    grind arith
 
 -- An end stops: its users receive their losses, and the journal records it.
 pub ended_stands : (s : Side) (p : TwoEnds) (b : Between) (t u : Tables) (e : End) (h : Held) (c : Between) (reason : EndReason)
@@ -159,46 +134,19 @@ pub ended_stands : (s : Side) (p : TwoEnds) (b : Between) (t u : Tables) (e : En
     MayEnd s p t u e h c → ending_in reason ≡ Some ending → ((n : ℕ) → kept_at n lines ≡ None) → SaysAll s lines first u →
     journal ≡ p.journal ++ (shown_entries s first ++ ends s reason ∷ []) →
     EndsOn s (ended_pair s reason e.carrier lines held journal p) c ending u
-ended_stands Left p b t u e h c reason ending lines held first journal s m is none says said =
-    let q = ended_pair Left reason e.carrier lines held journal p in
-    let at : (n : ℕ) → Ends Left q u c (length t.lines) n =
-    λ n. left_at p u e h c reason lines held journal (length t.lines) n (m.between.lives true m.lasts) none m.takes m.lines
-    (grind arith) in
-    let keep : ℕ → ℕ = λ n. (at n).keep in
-    let count = ended_count machine.Left keep 1 u.lines ∙ m.count in
-    let journal_now = journal_on u.journal (shown_in_order machine.Left 1 u.lines) (entries.ended machine.Left ending) p.journal
-    (shown_entries Left first) (ends Left reason)
-    (ap (map Some) m.journal ∙ s.journal) says.says (sym (ap (option_map (entries.ended machine.Left)) is))
-    ∙ ap (map entry_in) (sym said) in
-    let right_end = ap (option_map Some) m.right_end ∙ s.right_end in
-    let there : (n : ℕ) → 0 < n → n ≤ length (after_end (side_in Left) ending keep u).lines →
-    HasLine n q c (after_end (side_in Left) ending keep u) = λ n a x.
-    let l = (at n).is a (subst (λ (k : ℕ). n ≤ k) count x) in
-    record { line = ended_line (keep n) l.line; found = ended_at_line machine.Left keep n u.lines (l.line) l.found; is = l.is } in
-    let stands : Stands q c (after_end (side_in Left) ending keep u) = grind arith in
-    record { keep = keep; stands = stands }
-ended_stands Right p b t u e h c reason ending lines held first journal s m is none says said =
-    let q = ended_pair Right reason e.carrier lines held journal p in
-    let at : (n : ℕ) → Ends Right q u c (length t.lines) n =
-    λ n. right_at p u e h c reason lines held journal (length t.lines) n (m.between.lives false m.lasts) none m.takes m.lines
-    (grind arith) in
-    let keep : ℕ → ℕ = λ n. (at n).keep in
-    let count = ended_count machine.Right keep 1 u.lines ∙ m.count in
-    let journal_now = journal_on u.journal (shown_in_order machine.Right 1 u.lines) (entries.ended machine.Right ending) p.journal
-    (shown_entries Right first) (ends Right reason)
-    (ap (map Some) m.journal ∙ s.journal) says.says (sym (ap (option_map (entries.ended machine.Right)) is))
-    ∙ ap (map entry_in) (sym said) in
-    let left_end = ap (option_map Some) m.left_end ∙ s.left_end in
-    let there : (n : ℕ) → 0 < n → n ≤ length (after_end (side_in Right) ending keep u).lines →
-    HasLine n q c (after_end (side_in Right) ending keep u) = λ n a x.
-    let l = (at n).is a (subst (λ (k : ℕ). n ≤ k) count x) in
+ended_stands s p b t u e h c reason ending lines held first journal old m is none says said =
+    let who = side_in s in
+    let last : e.carrier ≡ last_of (is_caller s) c = search (arith, m.between.lives (is_caller s)) in
+    let each = found_each (length t.lines) ℕ (HasEnds s (ended_pair s reason e.carrier lines held journal p) u c) 0
+    (λ n some few. line_ends s p u e h c reason lines held journal n last none m.takes (m.lines n some few)) in
     record {
-      line = turned (ended_line (keep n) l.line);
-      found = ended_at_line machine.Right keep n u.lines (turned l.line) l.found;
-      is = l.is;
-    } in
-    let stands : Stands q c (after_end (side_in Right) ending keep u) = grind arith in
-    record { keep = keep; stands = stands }
+      keep = each.at;
+      stands = ended_match s p b t u e h c reason ending lines held journal each.at old m is none says.quiet
+          (journals_join u.journal _ p.journal _ (ap (map Some) m.journal ∙ old.journal)
+          (journals_join (shown_in_order who 1 u.lines) (entries.ended who ending ∷ []) (shown_entries s first) (ends s reason ∷ [])
+          says.says (ap (λ o. option_map (entries.ended who) o ∷ []) (sym is))) ∙ ap (map entry_in) (sym said))
+          each.is;
+    }
 
 -- ---- an end at which nothing arrived
 
@@ -208,48 +156,39 @@ pub whole_line : (s : Side) (p : TwoEnds) (u : Tables) (e : End) (h : Held) (c :
     IsUnderWay s (other s) n (with_holding s e h p) c l.own l.peer → EndingLine s p u e h c n
 whole_line s p u e h c n l found here there out = grind (arith, append-nil)
 
-still_line : (s : Side) (p : TwoEnds) (b : Between) (t : Tables) (n : ℕ) (l : Line) →
-    connection_at n t.lines ≡ Some (seen_from (side_in s) l) → IsSeen s n p b l →
-    IsUnderWay s (other s) n (with_holding s (end_at s p).end (end_at s p).held p) b l.own l.peer →
-    EndingLine s p t (end_at s p).end (end_at s p).held b n
-still_line s p b t n l found i out = search (arith, whole_line, placed_seat)
-
 pub may_end : (s : Side) (p : TwoEnds) (b : Between) (t : Tables) → Stands p b t → TakesFrom s t → Lasts s p →
     MayEnd s p t t (end_at s p).end (end_at s p).held b
-may_end Left p b t s takes none =
-    let lines : (n : ℕ) → 0 < n → n ≤ length t.lines → EndingLine Left p t p.left.end p.left.held b n =
-    λ n a x. (let l = s.lines n a x in still_line Left p b t n l.line l.found (seen Left n p b l.line l.is) l.is.rightward) in
-    grind arith
-may_end Right p b t s takes none =
-    let lines : (n : ℕ) → 0 < n → n ≤ length t.lines → EndingLine Right p t p.right.end p.right.held b n =
-    λ n a x. (let l = s.lines n a x in still_line Right p b t n (turned l.line) l.found (seen Right n p b l.line l.is) l.is.leftward) in
+may_end s p b t old takes alive =
+    let e = (end_at s p).end in
+    let h = (end_at s p).held in
+    let same : with_holding s e h p ≡ p = grind arith in
+    let lines : (n : ℕ) → 0 < n → n ≤ length t.lines → EndingLine s p t e h b n = λ n a x.
+    let has = old.lines n a x in
+    let l = seen_from (side_in s) has.line in
+    let i = seen s n p b has.line has.is in
+    whole_line s p t e h b n l (has.found ∙ ap (λ (y : Line). Some y) (sym (seen_twice (side_in s) has.line)))
+    (placed_seat n (end_at s p) l.own i.here) i.there
+    (subst (λ (q : TwoEnds). IsUnderWay s (other s) n q b l.own l.peer) (sym same) i.out) in
     grind arith
 
 -- what its users then receive
+pub all_seated : (s : Side) (p : TwoEnds) (b : Between) (t : Tables) → Stands p b t → AllSeated s (end_at s p) t
+all_seated s p b t old n a c = let h = old.lines n a c in (h.line, h.found, (seen s n p b h.line h.is).here)
+
 pub shown_then : (s : Side) (p : TwoEnds) (b : Between) (t : Tables) (lines : Rows stack.Line) (first : List (ℕ × Shown)) → Stands p b t →
     Lasts s p → IsTold (end_at s p) lines first → SaysAll s lines first t
-shown_then Left p b t lines first s none told =
-    let all : AllSeated Left p.left.end.carrier.given p.left t = (λ n a c. (let h = s.lines n a c in (h.line, h.found, h.is.left))) in
-    says_all Left p.left lines first t told s.quiet_left (s.order_left none) (let g = s.given in omega arith) all
-shown_then Right p b t lines first s none told =
-    let all : AllSeated Right p.right.end.carrier.given p.right t = (λ n a c. (let h = s.lines n a c in (h.line, h.found, h.is.right))) in
-    says_all Right p.right lines first t told s.quiet_right (s.order_right none) s.given_back all
+shown_then s p b t lines first old alive told =
+    let o = of_end s p b t old in
+    says_all s (end_at s p) t (o.order alive) o.given (all_seated s p b t old) lines first told o.quiet
 
 -- ---- all of it is indicated at once
 
-quiet_twice : (lines : Rows stack.Line) → quieted (quieted lines) ≡ quieted lines
-quiet_twice [] = refl
-quiet_twice ((r, line) ∷ lines) = ap (λ (rows : Rows stack.Line). (r, record line { waiting = [] }) ∷ rows) (quiet_twice lines)
-
-told_all_of : (h : Holding) → IsTold h (quieted (all_lost h.end.lines)) (waiting_in (all_lost h.end.lines))
-told_all_of h = grind (arith, append-nil, quiet_waits, quiet_twice)
-
 pub all_shown_then : (s : Side) (p : TwoEnds) (b : Between) (t : Tables) → Stands p b t → Lasts s p →
     SaysAll s (quieted (all_lost (end_at s p).end.lines)) (waiting_in (all_lost (end_at s p).end.lines)) t
-all_shown_then s p b t old none = search (arith, shown_then, told_all_of)
+all_shown_then s p b t old alive = shown_then s p b t _ _ old alive (grind (arith, append-nil, quiet_waits, quiet_same))
 
 pub none_left : (n : ℕ) (lines : Rows stack.Line) → kept_at n (quieted (all_lost lines)) ≡ None
-none_left n lines = none_kept n lines (quieted (all_lost lines)) (quiet_twice (all_lost lines))
+none_left n lines = none_kept n lines (quieted (all_lost lines)) (quiet_same (quieted (all_lost lines)) (quiet_waits (all_lost lines)))
 
 -- the end that has ended for this reason, with all its sessions lost
 abbrev pub lost_end : EndReason → State → Rows stack.Line → End
@@ -260,9 +199,6 @@ pub lost_stands : (s : Side) (p : TwoEnds) (b : Between) (t u : Tables) (e : End
     (ending : Ending) (lines : Rows stack.Line) (held : Held) → Stands p b t → MayEnd s p t u e h c → ending_in reason ≡ Some ending →
     SaysAll s (quieted (all_lost lines)) (waiting_in (all_lost lines)) u →
     EndsOn s (shown_pair s (lost_end reason e.carrier lines) held p) c ending u
-lost_stands Left p b t u e h c reason ending lines held s m is says =
-    ended_stands Left p b t u e h c reason ending (quieted (all_lost lines)) held (waiting_in (all_lost lines))
-    (p.journal ++ (shown_entries Left (waiting_in (all_lost lines)) ++ ends Left reason ∷ [])) s m is (λ n. none_left n lines) says refl
-lost_stands Right p b t u e h c reason ending lines held s m is says =
-    ended_stands Right p b t u e h c reason ending (quieted (all_lost lines)) held (waiting_in (all_lost lines))
-    (p.journal ++ (shown_entries Right (waiting_in (all_lost lines)) ++ ends Right reason ∷ [])) s m is (λ n. none_left n lines) says refl
+lost_stands s p b t u e h c reason ending lines held old m is says =
+    ended_stands s p b t u e h c reason ending (quieted (all_lost lines)) held (waiting_in (all_lost lines))
+    (shown_pair s (lost_end reason e.carrier lines) held p).journal old m is (λ n. none_left n lines) says (grind arith)

@@ -2,10 +2,17 @@
 -- For the code of `Pair`.
 use Rattle.osi_pair.proofs.Vocabulary.{◌≡◌, List, Result, Ok, Err, OnOk, OnErr, IfOk, None, sym, subst, PairError, Step, CanHappen}
 use Rattle.osi_pair.proofs.Vocabulary.{StandsAfter, TwoEnds, misfit, Does, CarriesAsMuch, CarriesWhereQuiet, IsReached, StandsAt, Applied}
-use Rattle.osi_pair.proofs.Vocabulary.{Event, arith, NotesIfCutShort, NotesWhereQuiet, IsFullIfCutShort, IsFullWhereQuiet, Pairing}
+use Rattle.osi_pair.proofs.Vocabulary.{Event, arith, NotesIfCutShort, NotesWhereQuiet, IsFullIfCutShort, IsFullWhereQuiet, Pairing, ℕ, ◌++◌}
 use Rattle.osi_pair.proofs.carry.nothing_holds_up_a_carry.{carries_as_much, cut_by_notes, cut_when_full}
-use Rattle.osi_pair.proofs.event.two_ends_after_an_event.{reached_event}
 use Rattle.osi_pair.proofs.event.what_an_event_does.{EventLaws, event_stands}
+use Rattle.osi_pair.proofs.event.events_happen_in_turn.{one_behind}
+use Rattle.osi_pair.proofs.event.each_end_holds_less_than_a_packet.{event_less}
+
+reached_event : EventLaws → (event : Event) (old new : TwoEnds) (octets : ℕ) → CanHappen event → misfit event old ≡ None →
+    Does event old octets new → IsReached old → IsReached new
+reached_event laws event old new octets can fits does at =
+    let one = one_behind event old new at.steps (event_stands laws event old new octets at.steps can fits does at.stands) in
+    record { steps = at.steps ++ one.more; stands = one.stands; held = event_less event old new octets does at.held }
 
 pub result_reached : EventLaws → (event : Event) (old new : TwoEnds) (result : Result Applied PairError) → CanHappen event →
     OnOk result (misfit event old ≡ None) → IfOk result (λ applied. Does event old applied.carried new) → OnErr result (new ≡ old) →

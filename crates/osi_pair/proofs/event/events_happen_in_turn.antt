@@ -1,7 +1,7 @@
 -- Events that happen one after the other, and their steps of the machine.
--- For the code of `Pair`.
+-- For events and the code of `Pair`.
 use Rattle.osi_pair.proofs.Vocabulary.{◌∙◌, ◌||◌, Bool, false, List, [], ◌∷◌, ◌++◌, Option, Some, None, refl, ap, subst, Applied}
-use Rattle.osi_pair.proofs.Vocabulary.{append_assoc, append-nil, EndReason, Step, connects, breaks, ends, StandsAfter, asked_of, TwoEnds}
+use Rattle.osi_pair.proofs.Vocabulary.{append_assoc, append-nil, EndReason, Step, connects, breaks, StandsAfter, asked_of, TwoEnds}
 use Rattle.osi_pair.proofs.Vocabulary.{end_at, Happens, HappenAll, AreStepsOf, StandsBehind, RunsThrough, offer_in, StandsAt, StandsAtTold}
 use Rattle.osi_pair.proofs.Vocabulary.{Event, Connect, Carry, Break, Told, Side, arith, Pairing}
 use Rattle.osi_pair.specs.declared.events.Event.TheVariants.{Call}
@@ -28,17 +28,17 @@ happen_more (first ∷ events) event applied is_cut old mid new h more = (
 )
 
 -- the steps of one event
-record StandsBehindOne (event : Event) (p : TwoEnds) (steps : List Step) : Type 0 where
-  more : List Step
-  are : AreStepsOf event more
-  stands : StandsAt p (steps ++ more)
+pub record StandsBehindOne (event : Event) (p : TwoEnds) (steps : List Step) : Type 0 where
+  pub more : List Step
+  pub are : AreStepsOf event more
+  pub stands : StandsAt p (steps ++ more)
 
 told_behind : (before : Option EndReason) (side : Side) (p : TwoEnds) (steps : List Step) → StandsAtTold before side p steps →
     StandsBehindOne (Told side) p steps
 told_behind (Some reason) side p steps s = grind (arith, append-nil steps)
 told_behind None side p steps s = grind arith
 
-one_behind : (event : Event) (old new : TwoEnds) (steps : List Step) → StandsAfter event old new steps → StandsBehindOne event new steps
+pub one_behind : (event : Event) (old new : TwoEnds) (steps : List Step) → StandsAfter event old new steps → StandsBehindOne event new steps
 one_behind (Connect asked) old new steps s = record { more = connects (offer_in (asked_of asked)) ∷ []; are = refl; stands = s }
 one_behind (Call side reference request) old new steps s = grind arith
 one_behind (Carry side most) old new steps s = record { more = s.more; are = s.are; stands = s.stands }

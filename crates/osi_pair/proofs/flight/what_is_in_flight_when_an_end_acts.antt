@@ -2,16 +2,15 @@
 -- For what is in flight, turns, calls, breaks and ends, packets and carries.
 use Rattle.osi_between.specs.Messages as carrier
 use Rattle.osi_between.specs.Progress as progress
-use Rattle.osi_pair.proofs.Vocabulary.{◌≡◌, ℕ, suc, Bool, true, false, ◌≤◌, ◌⊎◌, inl, inr, List, [], ◌∷◌, ◌++◌, length, map, take, drop}
-use Rattle.osi_pair.proofs.Vocabulary.{Option, Some, None, refl, sym, ap, subst, ◌∙◌, arith, take-append_seam, length-map, map-append}
+use Rattle.osi_pair.proofs.Vocabulary.{take-map, ◌≡◌, ℕ, Bool, true, false, ◌≤◌, ◌⊎◌, inl, inr, List, [], ◌∷◌, ◌++◌, length, map, take}
+use Rattle.osi_pair.proofs.Vocabulary.{drop, Option, Some, None, refl, sym, ap, subst, ◌∙◌, arith, take-append_seam, length-map, map-append}
 use Rattle.osi_pair.proofs.Vocabulary.{append-nil, take-append-drop, Place, connection_in, progress_of, kind_of, AreLike, Progress}
 use Rattle.osi_pair.proofs.Vocabulary.{shutting, Message, unit, EndReason, AreAlike, message_in, word_in, AreUnderWay, IsOverWhenLeft}
 use Rattle.osi_pair.proofs.Vocabulary.{after_message, IsCalm, StaysCalm, IsNoFaultBehind, over_calm, Word, whole, part, joins, left_of}
 use Rattle.osi_pair.proofs.Vocabulary.{IsBegun, AreInOrder, most_data, is_leaving, DT, part_octets, First, Middle, Last, list_any}
 use Rattle.osi_pair.proofs.Vocabulary.{SessionState as State, PartPlace, length-append}
 use Rattle.osi_pair.proofs.words.added_and_cut_words_are_messages.{IsRest, Next, FrontOf, next_is, front_of, cut_behind, AreWords, wholes}
-use Rattle.osi_pair.proofs.words.added_and_cut_words_are_messages.{put_words, MayLeave, leave_behind, joins_whole, whole_order, whole_left}
-use Rattle.osi_pair.proofs.words.added_and_cut_words_are_messages.{joins_append}
+use Rattle.osi_pair.proofs.words.added_and_cut_words_are_messages.{put_words, MayLeave, leave_behind, appends}
 use Rattle.osi_pair.proofs.flight.what_may_arrive_row_by_row.{Row, before, after}
 
 abbrev pub Sent : Type 0
@@ -22,12 +21,8 @@ Sent = List carrier.Message
 pub same_alike : (g : Progress) (xs ys : Sent) → xs ≡ ys → AreAlike g xs ys
 same_alike g xs ys h = grind arith
 
-pub map_take : {A B : Type 0} (f : A → B) (k : ℕ) (xs : List A) → map f (take k xs) ≡ take k (map f xs)
-map_take f (suc k) (x ∷ xs) = ap (λ r. f x ∷ r) (map_take f k xs)
-map_take f k xs = grind arith
-
 pub alike_take : (g : Progress) (xs ys gone : Sent) → AreAlike g xs (ys ++ gone) → AreAlike g (take (length ys) xs) ys
-alike_take g xs ys gone h = grind (arith, map_take, map-append, length-map, take-append_seam)
+alike_take g xs ys gone h = grind (arith, take-map kind_of (length ys) xs, map-append, length-map, take-append_seam)
 
 -- ---- if one place is unchanged
 
@@ -65,7 +60,7 @@ no_begun b e h = grind arith
 -- if the receiver has ended, the words in which messages are sent no longer matter
 pub over_way : (q : Option EndReason) (g : Progress) (c : Bool) (H : About) (x : State) (ms : List Message) (xs : Sent) → H None →
     (q ≡ None → ⊥) → AreUnderWay q g c H x ms xs
-over_way q g c H x ms xs held shut = grind (arith, no_begun, joins_whole ms, whole_order ms, whole_left ms)
+over_way q g c H x ms xs held shut = grind (arith, no_begun, wholes ms)
 
 -- ---- from the end that acts
 
@@ -136,7 +131,8 @@ front_at o q g h c d H x ms k old new w takes cut alike =
     let left : take (length (joins w.begun kept)) ms ≡ joins w.begun kept = ap (take (length (joins w.begun kept))) (sym all) ∙ y.0 in
     record {
       keep = length (joins w.begun kept);
-      fits = subst (λ (l : List Message). length (joins w.begun kept) ≤ length l) all (grind (arith, joins_append, length-append));
+      fits = subst (λ (l : List Message). length (joins w.begun kept) ≤ length l) all
+          (grind (arith, (appends w.begun kept gone).joins, length-append));
       way = record {
         words = kept;
         begun = w.begun;
@@ -177,7 +173,7 @@ pub out_cuts : (o : Option EndReason) (p : Place) (c d : Bool) (H : About) (x : 
 out_cuts o p c d H x ms puts old new stays gone put w takes which before after same =
     let k = length stays in
     let first : o ≡ None → AreAlike (progress_of p) (map word_in (take k w.words)) stays =
-    λ e. grind (arith, map_take word_in k w.words, alike_take (progress_of p) (map word_in w.words) stays gone (grind arith)) in
+    λ e. grind (arith, take-map word_in k w.words, alike_take (progress_of p) (map word_in w.words) stays gone (grind arith)) in
     elim which [
       | inl leave ↦ subst (λ (l : List Message). Left o (progress_of p) d H x ms l new) (sym leave.is)
           (leave_at o p c d H x ms leave.m k old new stays put w leave.leaves first after (sym (ap (map message_in) leave.is) ∙ same))
@@ -204,20 +200,10 @@ record SplitWords (g h : Progress) (words : List Word) (m : carrier.Message) (re
   is : AreAlike g (word_in first ∷ []) (m ∷ [])
   stays : AreAlike h (map word_in others) rest
 
-split_same : (g : Progress) (ms : List Word) (m : carrier.Message) (rest : Sent) → ((xs ys : Sent) → xs ≡ ys → AreAlike g xs ys) →
-    map word_in ms ≡ m ∷ rest → SplitWords g g ms m rest
-split_same g [] m rest f h = cc
-split_same g (x ∷ ms) m rest f h = grind arith
-
-split_kinds : (g : Progress) (ms : List Word) (m : carrier.Message) (rest : Sent) →
-    ((xs ys : Sent) → map kind_of xs ≡ map kind_of ys → AreAlike g xs ys) → map kind_of (map word_in ms) ≡ map kind_of (m ∷ rest) →
-    SplitWords g g ms m rest
-split_kinds g [] m rest f h = cc
-split_kinds g (x ∷ ms) m rest f h = grind arith
-
 split : (g : Progress) (ms : List Word) (m : carrier.Message) (rest : Sent) → AreAlike g (map word_in ms) (m ∷ rest) →
     SplitWords g g ms m rest
-split g ms m rest h = grind (arith, split_kinds, split_same)
+split g [] m rest h = grind arith
+split g (x ∷ ms) m rest h = grind arith
 
 -- the way after it, if this has begun, to a session with this state
 abbrev pub BehindFirst : Progress → Bool → Option (List ℕ) → State → List Message → Sent → Type 0
@@ -289,48 +275,43 @@ part_next : (x : State) (now : List ℕ) (words : List Word) (ms : List Message)
 part_next x now words ms joined order calm =
     next_of x now (left_of (Some now) words) ms calm (subst (Next now (left_of (Some now) words)) joined (next_is now words order))
 
+-- a message comes first, and no part of a Data is left over
+whole_comes : (g h : Progress) (d : Bool) (H : About) (x : State) (ms : List Message) (m : carrier.Message) (rest : Sent) (first : Message)
+    (others : List Word) → first ∷ joins None others ≡ ms → kind_of (message_in first) ≡ kind_of m →
+    IsAlone g H first m ⊎ IsLast g H first m → AreAlike h (map word_in others) rest → AreInOrder None others →
+    (d ≡ false → left_of None others ≡ None) → (IsBegun (left_of None others) → StaysCalm x ms) → Comes g h d H x ms m rest
+whole_comes g h d H x ms m rest first others joined kind how stays order finished calm = inl (record {
+  first = first;
+  others = joins None others;
+  parts = sym joined;
+  kind = kind;
+  how = how;
+  stays = record {
+    words = others;
+    begun = None;
+    alike = λ e. stays;
+    joined = refl;
+    order = order;
+    finished = finished;
+    calm = λ some. (subst (StaysCalm x) (sym joined) (calm some) [] tt);
+    held = refl;
+  };
+})
+
 split_way : (g h : Progress) (d : Bool) (H : About) (x : State) (ms : List Message) (m : carrier.Message) (rest : Sent)
     (begun : Option (List ℕ)) (first : Word) (others : List Word) → AreAlike g (word_in first ∷ []) (m ∷ []) →
     AreAlike h (map word_in others) rest → joins begun (first ∷ others) ≡ ms → AreInOrder begun (first ∷ others) →
     (d ≡ false → left_of begun (first ∷ others) ≡ None) → (IsBegun (left_of begun (first ∷ others)) → StaysCalm x ms) → H begun →
     Comes g h d H x ms m rest
-split_way g h d H x ms m rest begun (whole first) others is stays joined order finished calm held = inl (record {
-  first = first;
-  others = joins None others;
-  parts = sym joined;
-  kind = grind arith;
-  how = inl (record { is = is; held = λ e. subst H (grind arith) held });
-  stays = record {
-    words = others;
-    begun = None;
-    alike = λ e. stays;
-    joined = refl;
-    order = order.1;
-    finished = finished;
-    calm = λ some. (subst (StaysCalm x) (sym joined) (calm some) [] tt);
-    held = refl;
-  };
-})
+split_way g h d H x ms m rest begun (whole first) others is stays joined order finished calm held =
+    whole_comes g h d H x ms m rest first others joined (grind arith)
+    (inl (record { is = is; held = λ e. subst H (grind arith) held })) stays order.1 finished calm
 split_way g h d H x ms m rest begun (part First o) others is stays joined order finished calm held = search (arith, part_next)
 split_way g h d H x ms m rest (Some b) (part Middle o) others is stays joined order finished calm held =
     search (arith, part_next x (b ++ o) others ms joined order.2 calm)
-split_way g h d H x ms m rest (Some b) (part Last o) others is stays joined order finished calm held = inl (record {
-  first = unit (DT (b ++ o));
-  others = joins None others;
-  parts = sym joined;
-  kind = grind arith;
-  how = inr (record { front = b; last = o; first_is = refl; is = is; short = order.1; held = held });
-  stays = record {
-    words = others;
-    begun = None;
-    alike = λ e. stays;
-    joined = refl;
-    order = order.2;
-    finished = finished;
-    calm = λ some. (subst (StaysCalm x) (sym joined) (calm some) [] tt);
-    held = refl;
-  };
-})
+split_way g h d H x ms m rest (Some b) (part Last o) others is stays joined order finished calm held =
+    whole_comes g h d H x ms m rest (unit (DT (b ++ o))) others joined (grind arith)
+    (inr (record { front = b; last = o; first_is = refl; is = is; short = order.1; held = held })) stays order.2 finished calm
 split_way g h d H x ms m rest begun first others is stays joined order finished calm held = grind arith
 
 -- a message that is no TSDU comes by itself

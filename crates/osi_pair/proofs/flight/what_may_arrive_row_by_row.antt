@@ -3,11 +3,11 @@
 -- For what is in flight, turns, breaks and ends, packets and carries.
 use Rattle.osi_between.specs.Messages.{Message, ask, agree, deny, bye, over}
 use Rattle.osi_between.specs.Progress as progress
-use Rattle.osi_pair.proofs.Vocabulary.{◌≡◌, ℕ, zero, true, List, [], ◌∷◌, Some, refl, arith, flat_map, AllByRecursion, Value, request}
-use Rattle.osi_pair.proofs.Vocabulary.{confirm, disconnect, Place, never, was_given, connection_in, Happening, tsdu, closed, asked, linked}
-use Rattle.osi_pair.proofs.Vocabulary.{closing, told_of, answers_in, progress_of, message, messages_after, begun_at, Progress, not_yet}
-use Rattle.osi_pair.proofs.Vocabulary.{awaiting, in_use, shutting, behind_arrivals, behind_puts, may_arrive, Terms, by_two, by_zero}
-use Rattle.osi_pair.proofs.Vocabulary.{refusing, accepts_in, Link as Standing, told_opened as opened, told_refused as refused}
+use Rattle.osi_pair.proofs.Vocabulary.{◌≡◌, ℕ, true, List, [], ◌∷◌, Some, arith, flat_map, AllByRecursion, Value, Place, never, was_given}
+use Rattle.osi_pair.proofs.Vocabulary.{connection_in, Happening, tsdu, closed, asked, linked, closing, told_of, answers_in, progress_of}
+use Rattle.osi_pair.proofs.Vocabulary.{message, messages_after, begun_at, Progress, not_yet, awaiting, in_use, shutting, behind_arrivals}
+use Rattle.osi_pair.proofs.Vocabulary.{behind_puts, may_arrive, Terms, by_two, by_zero, refusing, accepts_in, told_opened as opened}
+use Rattle.osi_pair.proofs.Vocabulary.{told_refused as refused}
 use Rattle.osi_pair.proofs.flight.which_unit_arrives_first.{comes}
 
 pub data Row : Type 0 where
@@ -99,81 +99,30 @@ pub record HasRow (terms : Terms) (n : ℕ) (place : Place) (arrived put : List 
   pub answers : put ≡ put_for row
   pub told : flat_map (told_of terms n place) arrived ≡ told_for n row
 
-row_never : (terms : Terms) (n : ℕ) (u : Value) → comes (accepts_in terms) never u ≡ true →
-    HasRow terms n never (messages_after [] (u ∷ [])) (answers_in terms never u)
-row_never by_two n (request c) h = record { row = begins; is = tt; stands = refl; comes_as = refl; answers = refl; told = refl }
-row_never by_zero n (request c) h = record { row = begins; is = tt; stands = refl; comes_as = refl; answers = refl; told = refl }
-row_never (refusing reason) n (request c) h =
-    record { row = refuses reason; is = refl; stands = refl; comes_as = refl; answers = refl; told = refl }
-row_never terms n u h = cc
-
-row_confirm : (terms : Terms) (n : ℕ) (u : Value) → accepts_in terms ≡ true → messages_after [] (u ∷ []) ≡ agree ∷ [] →
-    HasRow terms n (was_given (Some asked)) (agree ∷ []) (answers_in terms (was_given (Some asked)) u)
-row_confirm (refusing reason) n u e h = cc
-row_confirm terms n u e h = record { row = agrees; is = tt; stands = refl; comes_as = refl; answers = refl; told = refl }
-
-row_asked : (terms : Terms) (n : ℕ) (u : Value) → comes (accepts_in terms) (was_given (Some asked)) u ≡ true →
-    HasRow terms n (was_given (Some asked)) (messages_after [] (u ∷ [])) (answers_in terms (was_given (Some asked)) u)
-row_asked by_two n (confirm destination c) h = row_confirm by_two n (confirm destination c) refl refl
-row_asked by_zero n (confirm destination c) h = row_confirm by_zero n (confirm destination c) refl refl
-row_asked (refusing reason) n (disconnect destination zero why user) h =
-    record { row = denies why; is = tt; stands = refl; comes_as = refl; answers = refl; told = refl }
-row_asked terms n u h = cc
-
--- at an open connection, if CRs are accepted
-row_quiet : (terms : Terms) (n peer : ℕ) (link : Standing) (put : List Message) → accepts_in terms ≡ true → put ≡ [] →
-    HasRow terms n (was_given (Some (linked peer link))) [] put
-row_quiet (refusing reason) n peer link put e none = cc
-row_quiet terms n peer link put e none = record { row = quiet; is = tt; stands = refl; comes_as = refl; answers = none; told = refl }
-
-row_tells : (terms : Terms) (n peer : ℕ) (link : Standing) (octets : List ℕ) (put : List Message) → accepts_in terms ≡ true → put ≡ [] →
-    HasRow terms n (was_given (Some (linked peer link))) (message octets ∷ []) put
-row_tells (refusing reason) n peer link octets put e none = cc
-row_tells terms n peer link octets put e none =
-    record { row = tells octets; is = tt; stands = refl; comes_as = refl; answers = none; told = refl }
-
-row_leaves : (terms : Terms) (n peer : ℕ) (link : Standing) (reason : ℕ) (put : List Message) → accepts_in terms ≡ true → put ≡ over ∷ [] →
-    HasRow terms n (was_given (Some (linked peer link))) (bye reason ∷ []) put
-row_leaves (refusing reason) n peer link why put e one = cc
-row_leaves terms n peer link reason put e one =
-    record { row = leaves reason; is = tt; stands = refl; comes_as = refl; answers = one; told = refl }
-
--- at one that is closing
-row_still : (terms : Terms) (n peer : ℕ) (put : List Message) → accepts_in terms ≡ true → put ≡ [] →
-    HasRow terms n (was_given (Some (closing peer))) [] put
-row_still (refusing reason) n peer put e none = cc
-row_still terms n peer put e none = record { row = still; is = tt; stands = refl; comes_as = refl; answers = none; told = refl }
-
-row_shut : (terms : Terms) (n peer : ℕ) (m : Message) (put : List Message) → accepts_in terms ≡ true → may_arrive shutting m ≡ true →
-    put ≡ [] → HasRow terms n (was_given (Some (closing peer))) (m ∷ []) put
-row_shut by_two n peer (message octets) put e may none =
-    record { row = ignores octets; is = tt; stands = refl; comes_as = refl; answers = none; told = refl }
-row_shut by_zero n peer (message octets) put e may none =
-    record { row = ignores octets; is = tt; stands = refl; comes_as = refl; answers = none; told = refl }
-row_shut by_two n peer (bye reason) put e may none =
-    record { row = ends (bye reason); is = tt; stands = refl; comes_as = refl; answers = none; told = refl }
-row_shut by_zero n peer (bye reason) put e may none =
-    record { row = ends (bye reason); is = tt; stands = refl; comes_as = refl; answers = none; told = refl }
-row_shut by_two n peer over put e may none =
-    record { row = ends over; is = tt; stands = refl; comes_as = refl; answers = none; told = refl }
-row_shut by_zero n peer over put e may none =
-    record { row = ends over; is = tt; stands = refl; comes_as = refl; answers = none; told = refl }
-row_shut terms n peer m put e may none = cc
-
--- what may arrive of this one unit
-abbrev May : Progress → List Message → Type 0
-May from arrived = AllByRecursion (λ m. may_arrive from m ≡ true) arrived
+row_for : Terms → Place → List Message → Row
+row_for (refusing reason) never arrived = refuses reason
+row_for terms never arrived = begins
+row_for terms (was_given (Some asked)) (deny reason ∷ arrived) = denies reason
+row_for terms (was_given (Some asked)) arrived = agrees
+row_for terms (was_given (Some (linked peer link))) (message octets ∷ arrived) = tells octets
+row_for terms (was_given (Some (linked peer link))) (bye reason ∷ arrived) = leaves reason
+row_for terms (was_given (Some (closing peer))) [] = still
+row_for terms (was_given (Some (closing peer))) (message octets ∷ arrived) = ignores octets
+row_for terms (was_given (Some (closing peer))) (m ∷ arrived) = ends m
+row_for terms place arrived = quiet
 
 pub row_of : (terms : Terms) (n : ℕ) (place : Place) (u : Value) → comes (accepts_in terms) place u ≡ true →
     AllByRecursion (λ m. may_arrive (progress_of place) m ≡ true) (messages_after (begun_at (connection_in place)) (u ∷ [])) →
     HasRow terms n place (messages_after (begun_at (connection_in place)) (u ∷ [])) (answers_in terms place u)
-row_of terms n never u h may = row_never terms n u h
-row_of terms n (was_given (Some asked)) u h may = row_asked terms n u h
-row_of by_two n (was_given (Some (linked peer link))) u h may = grind (arith, row_quiet, row_tells, row_leaves)
-row_of by_zero n (was_given (Some (linked peer link))) u h may = grind (arith, row_quiet, row_tells, row_leaves)
-row_of by_two n (was_given (Some (closing peer))) u h may = grind (arith, row_shut, row_still)
-row_of by_zero n (was_given (Some (closing peer))) u h may = grind (arith, row_shut, row_still)
-row_of terms n place u h may = grind arith
+unfolding row_for
+row_of terms n place u h may = record {
+  row = row_for terms place (messages_after (begun_at (connection_in place)) (u ∷ []));
+  is = grind arith;
+  stands = grind arith;
+  comes_as = grind arith;
+  answers = grind arith;
+  told = grind arith;
+}
 
 -- the state of the connection then
 pub row_after : (terms : Terms) (row : Row) → is_row terms row →

@@ -1,15 +1,13 @@
 -- Which unit can arrive first at an end, by the state of its connection there.
 -- For what is in flight and packets.
-use Rattle.osi_between.specs.Refusing as refusal
 use Rattle.osi_between.specs.Zero as zero_class
 use Rattle.osi_pair.proofs.Vocabulary.{◌≡◌, ℕ, zero, suc, ◌<◌, ◌≤◌, Bool, true, false, not, ◌&&◌, List, [], ◌∷◌, ◌++◌, Some, None, sym, ap}
-use Rattle.osi_pair.proofs.Vocabulary.{subst, ◌∙◌, arith, AreJoined, first_of_all, source_is, one_place, AllByRecursion, Value, request}
-use Rattle.osi_pair.proofs.Vocabulary.{confirm, disconnect, data0, data2, acknowledge, Given, Zero, Two, Local, Place, never, was_given}
-use Rattle.osi_pair.proofs.Vocabulary.{place_at, asked, linked, closing, State, reference_of, units_of, Both, Between, last_of, units_from}
+use Rattle.osi_pair.proofs.Vocabulary.{subst, ◌∙◌, arith, first_of_all, source_is, one_place, AllByRecursion, Value, request, confirm}
+use Rattle.osi_pair.proofs.Vocabulary.{disconnect, data0, data2, acknowledge, Given, Zero, Two, Local, Place, never, was_given, place_at}
+use Rattle.osi_pair.proofs.Vocabulary.{asked, linked, closing, State, reference_of, units_of, Both, Between, last_of, lost_from, units_from}
 use Rattle.osi_pair.proofs.Vocabulary.{AreJoinedBy, AreBetween, Course, asking, accepting, withdrawing, met, at_end, from_end, Holds}
-use Rattle.osi_pair.proofs.Vocabulary.{Meeting, talking, left_here, left_there, waiting_here, waiting_there, parted, mirror, here}
-use Rattle.osi_pair.proofs.Vocabulary.{addressed, leaving, out, Terms, by_two, by_zero, refusing, accepts_in, class_of, ZeroCourse, HasOne}
-use Rattle.osi_pair.proofs.Vocabulary.{given_in}
+use Rattle.osi_pair.proofs.Vocabulary.{mirror_twice, Meeting, talking, left_there, waiting_there, parted, mirror, here, addressed, leaving}
+use Rattle.osi_pair.proofs.Vocabulary.{out, Terms, by_two, by_zero, refusing, accepts_in, class_of, ZeroCourse, HasOne, given_in}
 
 -- ---- by place
 
@@ -81,54 +79,24 @@ met_comes n (waiting_there units last) u vs some e = none_first u vs e
 met_comes n parted u vs some e = none_first u vs e
 met_comes n m u vs some e = grind arith
 
-met_back : (n : ℕ) (m : Meeting) (u : Value) (vs : List Value) → 0 < n → out n m ≡ u ∷ vs →
-    comes true (was_given (here n (mirror m))) u ≡ true
-met_back n (talking p) u vs some e = open_first n p.rightward u vs e
-met_back n (left_here p units reason) u vs some e = left_first n reason p.rightward u vs some e
-met_back n (waiting_here units last) u vs some e = none_first u vs e
-met_back n parted u vs some e = none_first u vs e
-met_back n m u vs some e = grind arith
-
 record ComesBy (end : Bool) (n : ℕ) (caller : State) (g : Course) (place : Place) (u : Value) : Type 0 where
   may : comes true place u ≡ true
   class : is_linked place ≡ true → caller.class ≡ Some Two
   given : at_end true n g ≡ never → ⊥
   waits : is_asked place ≡ true → end ≡ true
 
-to_caller : (n : ℕ) (caller called : State) (g : Course) (u : Value) (vs : List Value) → 0 < n → Holds n caller called g →
-    from_end false n called.local g ≡ u ∷ vs → ComesBy true n caller g (at_end true n g) u
-to_caller n caller called (accepting c p) u vs some h e = grind (arith, first_is)
-to_caller n caller called (withdrawing c p reason) u vs some h e = grind (arith, first_is)
-to_caller n caller called (met m) u vs some h e = grind (arith, met_comes n m u vs some e)
-to_caller n caller called g u vs some h e = none_first u vs e
-
-to_called : (n : ℕ) (caller called : State) (g : Course) (u : Value) (vs : List Value) → 0 < n → Holds n caller called g →
-    from_end true n called.local g ≡ u ∷ vs → ComesBy false n caller g (at_end false n g) u
-to_called n caller called (asking c) u vs some h e = grind (arith, first_is)
-to_called n caller called (met m) u vs some h e = grind (arith, met_back n m u vs some e)
-to_called n caller called g u vs some h e = none_first u vs e
+to_end : (end : Bool) (n : ℕ) (caller called : State) (g : Course) (u : Value) (vs : List Value) → 0 < n → Holds n caller called g →
+    from_end (not end) n called.local g ≡ u ∷ vs → ComesBy end n caller g (at_end end n g) u
+to_end true n caller called (accepting c p) u vs some h e = grind (arith, first_is)
+to_end true n caller called (withdrawing c p reason) u vs some h e = grind (arith, first_is)
+to_end true n caller called (met m) u vs some h e = grind (arith, met_comes n m u vs some e)
+to_end false n caller called (asking c) u vs some h e = grind (arith, first_is)
+to_end false n caller called (met m) u vs some h e = grind (arith, met_comes n (mirror m) u vs some (ap (out n) (mirror_twice m) ∙ e))
+to_end end n caller called g u vs some h e = none_first u vs e
 
 -- a reference that the caller has a place for was given
 was : (n : ℕ) (s : State) → (place_at n s ≡ never → ⊥) → n ≤ s.given
 was n s none = grind arith
-
-two_to_caller : (caller called : State) (going coming : List Value) (u : Value) (rest : List Value) → AreJoined caller called going coming →
-    coming ≡ u ∷ rest → IsFirstFor by_two true caller (place_at (reference_of u) caller) u
-two_to_caller caller called going coming u rest j e =
-    let n = reference_of u in
-    let some : 0 < n = (subst (λ (us : List Value). AllByRecursion (λ unit. 0 < reference_of unit) us) e j.named_back).0 in
-    let st = j.stands n some in
-    let c = to_caller n caller called st.course u (units_of n rest) some st.holds (sym st.back ∙ ap (units_of n) e ∙ first_of_all u rest) in
-    grind (arith, was)
-
-two_to_called : (caller called : State) (going coming : List Value) (u : Value) (rest : List Value) → AreJoined caller called going coming →
-    going ≡ u ∷ rest → IsFirstFor by_two false caller (place_at (reference_of u) called) u
-two_to_called caller called going coming u rest j e =
-    let n = reference_of u in
-    let some : 0 < n = (subst (λ (us : List Value). AllByRecursion (λ unit. 0 < reference_of unit) us) e j.named).0 in
-    let st = j.stands n some in
-    let c = to_called n caller called st.course u (units_of n rest) some st.holds (sym st.out ∙ ap (units_of n) e ∙ first_of_all u rest) in
-    grind arith
 
 -- ---- in class 0
 
@@ -143,17 +111,12 @@ one_first : (gs : List Given) (u : Value) (vs : List Value) → addressed 1 gs �
 one_first [] u vs e = none_first u vs e
 one_first (g ∷ gs) u vs e = grind arith
 
-zero_to_caller : (caller called : Local) (g : ZeroCourse) (u : Value) (vs : List Value) → zero_class.Holds caller called g →
-    zero_class.from_end false called g ≡ u ∷ vs → ZeroBy true (zero_class.at_end true g) (zero_class.at_end true g) u
-zero_to_caller caller called (zero_class.accepting c p) u vs h e = grind (arith, first_is)
-zero_to_caller caller called (zero_class.talking p) u vs h e = search (arith, one_first, open_first)
-zero_to_caller caller called g u vs h e = none_first u vs e
-
-zero_to_called : (caller called : Local) (g : ZeroCourse) (u : Value) (vs : List Value) → zero_class.Holds caller called g →
-    zero_class.from_end true called g ≡ u ∷ vs → ZeroBy false (zero_class.at_end true g) (zero_class.at_end false g) u
-zero_to_called caller called (zero_class.asking c) u vs h e = grind (arith, first_is, source_is)
-zero_to_called caller called (zero_class.talking p) u vs h e = search (arith, one_first, open_first)
-zero_to_called caller called g u vs h e = none_first u vs e
+zero_to_end : (end : Bool) (caller called : Local) (g : ZeroCourse) (u : Value) (vs : List Value) → zero_class.Holds caller called g →
+    zero_class.from_end (not end) called g ≡ u ∷ vs → ZeroBy end (zero_class.at_end true g) (zero_class.at_end end g) u
+zero_to_end true caller called (zero_class.accepting c p) u vs h e = grind (arith, first_is)
+zero_to_end false caller called (zero_class.asking c) u vs h e = grind (arith, first_is, source_is)
+zero_to_end end caller called (zero_class.talking p) u vs h e = search (arith, one_first, open_first)
+zero_to_end end caller called g u vs h e = none_first u vs e
 
 zero_first : (end : Bool) (caller taker : State) (there place : Place) (u : Value) → HasOne caller there → HasOne taker place →
     ZeroBy end there place u → IsFirstFor by_zero end caller (place_at (reference_of u) taker) u
@@ -161,25 +124,29 @@ zero_first end caller taker there place u one other z = search (arith, one_place
 
 -- ---- at either end
 
-to_caller_by : (terms : Terms) (caller called : State) (going coming : List Value) (u : Value) (rest : List Value) →
-    AreJoinedBy terms caller called going coming → coming ≡ u ∷ rest → IsFirstFor terms true caller (place_at (reference_of u) caller) u
-to_caller_by by_two caller called going coming u rest j e = two_to_caller caller called going coming u rest j e
-to_caller_by by_zero caller called going coming u rest j e =
-    search (arith, zero_first, zero_to_caller caller.local called.local j.course u rest j.holds (sym j.coming ∙ e))
-to_caller_by (refusing reason) caller called going coming u rest j e = grind (arith, j.holds, j.live, sym j.coming ∙ e)
-
-to_called_by : (terms : Terms) (caller called : State) (going coming : List Value) (u : Value) (rest : List Value) →
-    AreJoinedBy terms caller called going coming → going ≡ u ∷ rest → IsFirstFor terms false caller (place_at (reference_of u) called) u
-to_called_by by_two caller called going coming u rest j e = two_to_called caller called going coming u rest j e
-to_called_by by_zero caller called going coming u rest j e =
-    search (arith, zero_first, zero_to_called caller.local called.local j.course u rest j.holds (sym j.going ∙ e))
-to_called_by (refusing reason) caller called going coming u rest j e = search arith
+first_by : (terms : Terms) (end : Bool) (b : Between) (u : Value) (rest : List Value) →
+    AreJoinedBy terms b.caller b.called (b.going ++ b.going_lost) (b.coming ++ b.coming_lost) →
+    units_from (not end) b ++ lost_from (not end) b ≡ u ∷ rest →
+    IsFirstFor terms end b.caller (place_at (reference_of u) (last_of end b)) u
+first_by by_two end b u rest j e =
+    let n = reference_of u in
+    let named : AllByRecursion (λ unit. 0 < reference_of unit) (units_from (not end) b ++ lost_from (not end) b) =
+    grind (arith, j.named, j.named_back) in
+    let some : 0 < n = (subst (λ (us : List Value). AllByRecursion (λ unit. 0 < reference_of unit) us) e named).0 in
+    let st = j.stands n some in
+    let units : from_end (not end) n b.called.local st.course ≡ units_of n (units_from (not end) b ++ lost_from (not end) b) =
+    grind (arith, st.out, st.back) in
+    let c = to_end end n b.caller b.called st.course u (units_of n rest) some st.holds
+    (units ∙ ap (units_of n) e ∙ first_of_all u rest) in
+    grind (arith, was)
+first_by by_zero true b u rest j e =
+    search (arith, zero_first, zero_to_end true b.caller.local b.called.local j.course u rest j.holds (sym j.coming ∙ e))
+first_by by_zero false b u rest j e =
+    search (arith, zero_first, zero_to_end false b.caller.local b.called.local j.course u rest j.holds (sym j.going ∙ e))
+first_by (refusing reason) true b u rest j e = grind (arith, j.holds, j.live, sym j.coming ∙ e)
+first_by (refusing reason) false b u rest j e = search arith
 
 pub first_for : (terms : Terms) (end : Bool) (both : Both) (b : Between) (u : Value) (rest : List Value) → AreBetween terms both b →
     units_from (not end) b ≡ u ∷ rest → IsFirstFor terms end b.caller (place_at (reference_of u) (last_of end b)) u
-first_for terms true both b u rest a e =
-    to_caller_by terms b.caller b.called (b.going ++ b.going_lost) (b.coming ++ b.coming_lost) u (rest ++ b.coming_lost) a.joined
-    (ap (λ (l : List Value). l ++ b.coming_lost) e)
-first_for terms false both b u rest a e =
-    to_called_by terms b.caller b.called (b.going ++ b.going_lost) (b.coming ++ b.coming_lost) u (rest ++ b.going_lost) a.joined
-    (ap (λ (l : List Value). l ++ b.going_lost) e)
+first_for terms end both b u rest a e =
+    first_by terms end b u (rest ++ lost_from (not end) b) a.joined (ap (λ (l : List Value). l ++ lost_from (not end) b) e)

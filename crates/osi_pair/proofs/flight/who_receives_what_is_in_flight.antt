@@ -1,8 +1,7 @@
 -- What the tables say of the sessions that will receive what is in flight from a side.
 -- For breaks and ends, packets and the laws of `standing`.
-use Rattle.osi_pair.proofs.Vocabulary.{◌≡◌, ℕ, true, Some, eqb-true, eq-eqb, IsTableRun, AtEachSide, IsOverWhenLeft, IsNoFaultBehind}
-use Rattle.osi_pair.proofs.Vocabulary.{connection_at, Line, Tables, turned, seen_from, side_in, Side, Left, Right, arith}
-use Rattle.osi_machine.specs.Core as machine
+use Rattle.osi_pair.proofs.Vocabulary.{other, ◌≡◌, ℕ, Some, eqb-true, eq-eqb, IsTableRun, AtEachSide, IsOverWhenLeft, IsNoFaultBehind}
+use Rattle.osi_pair.proofs.Vocabulary.{connection_at, Line, Tables, seen_from, side_in, Side, arith}
 use Rattle.osi_pair.proofs.turn.a_turn_keeps_the_match.{seen_twice, LinesAfter}
 use Rattle.osi_pair.proofs.flight.what_is_in_flight_when_an_end_acts.{Takes}
 
@@ -16,16 +15,17 @@ abbrev pub TakesFrom : Side → Tables → Type 0
 TakesFrom s t = (n : ℕ) (l : Line) → connection_at n t.lines ≡ Some (seen_from (side_in s) l) → Takes l.peer.session.state l.own.channel
 
 pub takes_from : TakeLaws → (s : Side) (t : Tables) → IsTableRun t → TakesFrom s t
-takes_from laws Left t run n l found = grind (arith, laws.behind t run machine.Right n l found, laws.left t run machine.Right n l found)
-takes_from laws Right t run n l found =
-    record { behind = laws.behind t run machine.Left n (turned l) found; left = laws.left t run machine.Left n (turned l) found }
+takes_from laws s t run n l found =
+    let there = side_in (other s) in
+    let seen = seen_from (side_in s) l in
+    grind (arith, laws.behind t run there n seen found, laws.left t run there n seen found)
 
 -- and to it
 pub takes_here : TakeLaws → (s : Side) (t : Tables) → IsTableRun t → (n : ℕ) (l : Line) →
     connection_at n t.lines ≡ Some (seen_from (side_in s) l) → Takes l.own.session.state l.peer.channel
-takes_here laws Left t run n l found = grind (arith, laws.behind t run machine.Left n l found, laws.left t run machine.Left n l found)
-takes_here laws Right t run n l found =
-    record { behind = laws.behind t run machine.Right n (turned l) found; left = laws.left t run machine.Right n (turned l) found }
+takes_here laws s t run n l found =
+    let seen = seen_from (side_in s) l in
+    grind (arith, laws.behind t run (side_in s) n seen found, laws.left t run (side_in s) n seen found)
 
 -- ---- a side has moved and sent nothing
 

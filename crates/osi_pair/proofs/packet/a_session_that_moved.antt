@@ -1,46 +1,53 @@
--- A session received a message and made its move; nothing that it sends was handed to the carrier yet, and nothing was
--- closed. The state of two ends then.
+-- What happens to a session that a packet reaches, and the state of two ends then: it makes its move, of which nothing was
+-- handed to the carrier yet, and nothing was closed; or it joins a part of a Data to what has begun; or it is lost.
 -- For packets and the laws of `standing`.
 use Rattle.osi_carrier.specs.React.{react as carrier_react}
-use Rattle.osi_machine.specs.Core as machine
 use Rattle.osi_machine.specs.Worlds as worlds
+use Rattle.osi_session.specs.Listening as words
 use Rattle.osi_stack.specs.Moving.{noted}
-use Rattle.osi_pair.proofs.Vocabulary.{◌≡◌, ◌≢◌, ℕ, ◌<◌, ◌≤◌, Bool, true, false, nat_lt, List, [], ◌∷◌, length, map, Option, Some, None}
-use Rattle.osi_pair.proofs.Vocabulary.{option_map, refl, sym, ap, subst, ◌∙◌, arith, ◌⊎◌, inl, inr, IfSome, ◌++◌, Held, Value, place_at}
-use Rattle.osi_pair.proofs.Vocabulary.{IsOrderly, Rows, value_at, State as Carrier, linked, is_open, orderly_unit, orderly_same}
-use Rattle.osi_pair.proofs.Vocabulary.{reference_of, Between, under_way, is_cut, last_of, progress_of, in_use, gone, class_of, IsTableRun}
-use Rattle.osi_pair.proofs.Vocabulary.{AreSoundLines, IsSoundLine, AreSendable, is_leaving, connection_at, delivers, learns}
-use Rattle.osi_pair.proofs.Vocabulary.{Line as TableLine, Turn, Tables, seen_from, after_turn, step, Message, unit, put, replied}
-use Rattle.osi_pair.proofs.Vocabulary.{SessionLaws, Meaning, DT, Input, Standing, Move, opened, react, listening, after_packet, concludes}
-use Rattle.osi_pair.proofs.Vocabulary.{told_all, kept_at, answers, End, packet_rises, TwoEnds, end_at, other, side_in, is_caller, class_in}
-use Rattle.osi_pair.proofs.Vocabulary.{carriers_of, message_in, AreAlike, IsInOrder, Stands, Goes, joining, HasJoined, waiting_in, quieted}
-use Rattle.osi_pair.proofs.Vocabulary.{Side, IsNoFault, IsJoinedAs, kind_of, IsInOctets, part_octets, Last, after_message, StaysCalm}
-use Rattle.osi_pair.proofs.Vocabulary.{left_is, Link, EndLine as Line, PartPlace, SessionState}
+use Rattle.osi_between.specs.Messages as carrier
+use Rattle.osi_session.specs.Allowed.{most_data}
+use Rattle.osi_pair.proofs.Vocabulary.{◌≡◌, ◌≢◌, ℕ, ◌≤◌, Bool, true, false, nat_lt, List, [], ◌∷◌, length, map, Option, Some, None}
+use Rattle.osi_pair.proofs.Vocabulary.{option_map, refl, sym, ap, subst, ◌∙◌, arith, ◌⊎◌, inl, inr, ◌++◌, Held, Value, place_at, IsOrderly}
+use Rattle.osi_pair.proofs.Vocabulary.{Rows, value_at, State as Carrier, linked, orderly_unit, orderly_same, reference_of, Between}
+use Rattle.osi_pair.proofs.Vocabulary.{under_way, is_cut, last_of, progress_of, in_use, gone, class_of, IsTableRun, AreSoundLines}
+use Rattle.osi_pair.proofs.Vocabulary.{IsSoundLine, AreSendable, is_leaving, connection_at, delivers, learns, Line as TableLine, Turn}
+use Rattle.osi_pair.proofs.Vocabulary.{Tables, seen_from, after_turn, step, Message, put, replied, SessionLaws, Meaning, DT, Input}
+use Rattle.osi_pair.proofs.Vocabulary.{Standing, Move, react, listening, after_packet, concludes, told_all, kept_at, answers, End}
+use Rattle.osi_pair.proofs.Vocabulary.{packet_rises, TwoEnds, end_at, other, side_in, is_caller, class_in, carriers_of, message_in}
+use Rattle.osi_pair.proofs.Vocabulary.{AreAlike, IsInOrder, Stands, Goes, joining, HasJoined, waiting_in, quieted, Side, IsNoFault}
+use Rattle.osi_pair.proofs.Vocabulary.{IsJoinedAs, kind_of, part_octets, Last, after_message, StaysCalm, left_is, Link, EndLine as Line}
+use Rattle.osi_pair.proofs.Vocabulary.{PartPlace, SessionState, IsSound, Both, Listener, HasNumbersInWords, needs_link, put_row, line_after}
+use Rattle.osi_pair.proofs.Vocabulary.{put_other, quieted_at, unit, tsdu, put_here, leaves_use, came, came_as, part_comes, to_session}
+use Rattle.osi_pair.proofs.Vocabulary.{session_in, came_numbers, hands_none, append-nil, rests, Shown}
 use Rattle.osi_pair.proofs.turn.what_remains_when_a_unit_was_taken.{terms_at, DidAt, line_then, last_is, order_of, was_at, PacketAt}
-use Rattle.osi_pair.proofs.packet.an_end_handles_its_carriers_events.{lines_then, kept_then, one_told}
-use Rattle.osi_pair.proofs.packet.what_a_session_hears_row_by_row.{move_heard, got_in, HearsBy, HearLaws, IsWhole, hears_row, IsTaker}
-use Rattle.osi_pair.proofs.packet.what_a_session_hears_row_by_row.{tells_by, tells_last}
+use Rattle.osi_pair.proofs.turn.what_remains_when_a_unit_was_taken.{TablesAfter, is_agree}
+use Rattle.osi_pair.proofs.packet.an_end_handles_its_carriers_events.{lines_then, kept_then, one_told, carried_out, lasting, has_session}
+use Rattle.osi_pair.proofs.packet.what_a_session_hears_row_by_row.{got_in, HearsBy, HearLaws, IsWhole, hears_row, IsTaker, tells_by}
+use Rattle.osi_pair.proofs.packet.what_a_session_hears_row_by_row.{tells_last, as_move, as_heard}
 use Rattle.osi_pair.proofs.packet.the_class_is_known.{moved_known, moved_class}
 use Rattle.osi_pair.proofs.session.an_end_moves_as_the_tables_do.{as_made, none_joined, kept_of, PartJoins, first_joins, middle_joins}
 use Rattle.osi_pair.proofs.session.an_end_moves_as_the_tables_do.{last_moves}
-use Rattle.osi_pair.proofs.packet.a_session_makes_its_move.{is_move, heard_by, MovesBy, step_moves, move_unit}
-use Rattle.osi_pair.proofs.session.a_moved_session_keeps_the_order.{session_acts, acted_order}
-use Rattle.osi_pair.proofs.packet.a_packet_is_one_delivery_or_none.{PacketLaws, ActsAt, acts_at, same_role, is_heard, lasting_in, quiet_of}
-use Rattle.osi_pair.proofs.session.an_end_with_nothing_pending.{quiet_order, quiet_waits, put_waits}
-use Rattle.osi_pair.proofs.session.a_reply_can_be_sent.{CanGo}
-use Rattle.osi_pair.proofs.packet.a_unit_with_which_no_session_acts.{delivered, tables_delivered}
-use Rattle.osi_pair.proofs.packet.a_unit_at_rest_keeps_the_match.{acted_end, did_at, same_row, line_at, EndThen, back_one, FoundLine}
-use Rattle.osi_pair.proofs.packet.a_unit_at_rest_keeps_the_match.{back_then, other_lines, over_stays}
-use Rattle.osi_pair.proofs.flight.what_may_arrive_row_by_row.{Row, before, after, arrived_in, tells}
-use Rattle.osi_pair.proofs.session.a_seat_is_its_progress_and_session.{transport_by, value_same, HasSession, session_of_seat, transport_at}
-use Rattle.osi_pair.proofs.turn.a_turn_keeps_the_match.{IsSeen, with_holding, turned_pair, turned_stands}
+use Rattle.osi_pair.proofs.packet.a_session_makes_its_move.{is_move, heard_by, step_moves}
+use Rattle.osi_pair.proofs.session.a_moved_session_keeps_the_order.{session_acts, moves_order, session_moves}
+use Rattle.osi_pair.proofs.packet.a_packet_is_one_delivery_or_none.{PacketLaws, ActsAt, acts_at, is_heard, lasting_in, quiet_of, took}
+use Rattle.osi_pair.proofs.packet.a_packet_is_one_delivery_or_none.{known_still, session_before}
+use Rattle.osi_pair.proofs.session.an_end_with_nothing_pending.{quiet_order, quiet_waits, put_waits, quiet_same}
+use Rattle.osi_pair.proofs.session.a_reply_can_be_sent.{CanGo, ended_broken}
+use Rattle.osi_pair.proofs.packet.a_unit_with_which_no_session_acts.{delivered, tables_delivered, sends_then, step_opens, learns_row}
+use Rattle.osi_pair.proofs.packet.a_unit_with_which_no_session_acts.{is_awaited}
+use Rattle.osi_pair.proofs.packet.a_unit_at_rest_keeps_the_match.{acted_end, did_at, line_at, back_one, FoundLine, back_then, other_lines}
+use Rattle.osi_pair.proofs.packet.a_unit_at_rest_keeps_the_match.{over_stays, out_row, transport_before, line_same}
+use Rattle.osi_pair.proofs.flight.what_may_arrive_row_by_row.{Row, before, after, tells, is_row, told_for, leaves}
+use Rattle.osi_pair.proofs.session.a_seat_is_its_progress_and_session.{transport_by, value_same, HasSession}
+use Rattle.osi_pair.proofs.turn.a_turn_keeps_the_match.{with_holding, turned_pair}
 use Rattle.osi_pair.proofs.session.a_waiting_session_has_its_request.{is_calling}
-use Rattle.osi_between.specs.Messages as carrier
 use Rattle.osi_pair.proofs.flight.what_is_in_flight_when_an_end_acts.{NextOf, Comes, BehindFirst, IsAlone, IsLast, Begins, GoesOn, no_part}
-use Rattle.osi_session.specs.Allowed.{most_data}
 use Rattle.osi_pair.proofs.flight.who_receives_what_is_in_flight.{TakeLaws, TakesFrom, takes_from, takes_here, takes_then}
-use Rattle.osi_pair.proofs.ending.all_sessions_are_lost_in_order.{is_over as is_lost}
 use Rattle.osi_pair.proofs.flight.whether_something_is_cut_off.{Lasts}
+use Rattle.osi_pair.proofs.turn.all_is_shown.{StandsShown, shown_pair}
+use Rattle.osi_pair.proofs.packet.a_packet_is_taken.{shown_by}
+use Rattle.osi_pair.proofs.packet.a_disconnect_loses_the_session.{left_channel, left_turn, turn_left, out_leaves}
 
 -- ---- a move
 
@@ -74,6 +81,19 @@ pub record IsLinkedAt (n : ℕ) (c : Carrier) : Type 0 where
   pub link : Link
   pub at : value_at n c.live ≡ Some (linked peer link)
 
+pub turned_again : (s : Side) (e : End) (h : Held) (n : ℕ) (shown : List Shown) (p : TwoEnds) →
+    with_holding s e h (turned_pair s e h n shown p) ≡ turned_pair s e h n shown p
+turned_again s e h n shown p = grind arith
+
+-- the end afterwards, with the carrier after it acted, and with all indications still pending
+abbrev pub answered_end : Carrier → Rows Line → End
+answered_end c lines = record { carrier = c; lines = lines }
+
+pub shown_is : (s : Side) (p : TwoEnds) (e : End) (h : Held) (n : ℕ) (shown : List Shown) (c : Carrier) (lines : Rows Line) →
+    c.ended ≡ None → waiting_in lines ≡ map (λ x. (n, x)) shown →
+    with_holding s (answered_end c (quieted lines)) h (turned_pair s e h n shown p) ≡ shown_pair s (answered_end c lines) h p
+shown_is s p e h n shown c lines lasts waits = grind (arith, with_holding, append-nil)
+
 -- ---- the tables
 
 abbrev pub known_by : Tables → Moving → Option worlds.Class
@@ -100,15 +120,7 @@ moved_tables s t m = delivered t (side_in s) m.n (known_by t m) (record { line =
 pub record HasMoved (s : Side) (p : TwoEnds) (t : Tables) (packet : List ℕ) (h : Held) : Type 0 where
   pub unit : Value
   pub m : Moving
-  -- the connection was given
   pub row : is_move m.row ≡ true
-  pub some : 0 < m.n
-  pub given : m.n ≤ length t.lines
-  -- the line before
-  pub was : Line
-  pub here : value_at m.n (end_at s p).end.lines ≡ Some was
-  pub found : connection_at m.n t.lines ≡ Some (seen_from (side_in s) m.seen)
-  pub first : m.seen.peer.channel ≡ m.first ∷ m.rest
   -- what the packet does to the end, and the delivery to the tables
   pub does : after_packet (end_at s p).end packet ≡ concludes
       (record { carrier = answers m.n 0 (as_made (move_of m)) (moved_end s p unit m).carrier; lines = loud_lines s p m })
@@ -118,7 +130,6 @@ pub record HasMoved (s : Side) (p : TwoEnds) (t : Tables) (packet : List ℕ) (h
   -- the state before anything is sent or closed
   pub lasts : (moved_end s p unit m).carrier.ended ≡ None
   pub local : (moved_end s p unit m).carrier.local ≡ (end_at s p).end.carrier.local
-  pub kept : kept_at m.n (moved_end s p unit m).lines ≡ Some (listening (move_of m).next)
   pub now : Between
   pub stands : Stands (turned_pair s (moved_end s p unit m) h m.n (move_of m).shown p) now (moved_tables s t m)
   pub found_now : connection_at m.n (moved_tables s t m).lines ≡ Some (seen_from (side_in s) (moved_line m))
@@ -130,6 +141,10 @@ pub record HasMoved (s : Side) (p : TwoEnds) (t : Tables) (packet : List ℕ) (h
   pub sends : (x : Meaning) → (move_of m).reply ≡ Some x → CanGo x
   -- the session to which it sends, as the tables have it
   pub takes : TakesFrom s (moved_tables s t m)
+  -- the unit fits the terms, the session heard what the row says, and the end is sound after the packet
+  pub fits : is_row (terms_at p) m.row
+  pub input : m.input ≡ heard_by m.row m.first
+  pub sound : IsSound (after_packet (end_at s p).end packet)
 
 -- ---- how the move arises
 
@@ -141,115 +156,24 @@ pub record MovingLaws : Type 0 where
   pub sound_lines : (t : Tables) → IsTableRun t → AreSoundLines t
   pub takes : TakeLaws
 
-seen_sound : (s : machine.Side) (l : TableLine) → IsSoundLine (seen_from s l) → IsSoundLine l
-seen_sound s l h = grind arith
-
-first_whole : (m : Message) (ms : List Message) → AreSendable (m ∷ ms) → IsWhole m
-first_whole m ms h = grind arith
-
 pub record KeptLine (n : ℕ) (lines : Rows Line) (joined : Option (List ℕ)) (x : Standing) : Type 0 where
   pub line : Line
   pub here : value_at n lines ≡ Some line
   pub is : line.session ≡ Some (joining joined x)
 
--- the line at its reference, and what happens to its session
-pub record Arriving (s : Side) (p : TwoEnds) (b : Between) (t : Tables) (n : ℕ) (row : Row) : Type 0 where
-  pub seen : TableLine
-  pub found : connection_at n t.lines ≡ Some (seen_from (side_in s) seen)
-  pub stands : IsSeen s n p b seen
-  pub transport : seen.own.transport ≡ transport_by (before row)
-  pub first : Message
-  pub rest : List Message
-  pub parts : seen.peer.channel ≡ first ∷ rest
-  pub kind : kind_of (message_in first) ≡ kind_of (got_in row)
-  pub joined : Option (List ℕ)
-  pub kept : KeptLine n (end_at s p).end.lines joined seen.own.session
-  pub hears : HearsBy n row first joined seen.own.session
-
--- what arrives, and what is in flight after it
-abbrev pub Behind : (s : Side) (p : TwoEnds) (b : Between) (packet : List ℕ) (h : Held) (pa : PacketAt s p b packet h) → Option (List ℕ) →
-    SessionState → List Message → Type 0
-Behind s p b packet h pa begun x ms =
-    BehindFirst (after pa.did.row)
-    (is_cut (is_caller (other s)) (carriers_of (with_holding s (acted_end pa.unit (end_at s p).end.lines (end_at s p).end) h p))) begun
-    x ms
-    (under_way (is_caller (other s)) (reference_of pa.unit)
-    (carriers_of (with_holding s (acted_end pa.unit (end_at s p).end.lines (end_at s p).end) h p))
-    (did_at s p b packet h (end_at s p).end.lines pa).now)
-
-abbrev pub ComesAt : (s : Side) (p : TwoEnds) (b : Between) (packet : List ℕ) (h : Held) (pa : PacketAt s p b packet h) → SessionState →
-    List Message → carrier.Message → Type 0
-ComesAt s p b packet h pa x ms got =
-    Comes (before pa.did.row) (after pa.did.row)
-    (is_cut (is_caller (other s)) (carriers_of (with_holding s (acted_end pa.unit (end_at s p).end.lines (end_at s p).end) h p)))
-    (HasJoined (reference_of pa.unit) (end_at s p)) x ms got
-    (under_way (is_caller (other s)) (reference_of pa.unit)
-    (carriers_of (with_holding s (acted_end pa.unit (end_at s p).end.lines (end_at s p).end) h p))
-    (did_at s p b packet h (end_at s p).end.lines pa).now)
-
-pub comes_at : (s : Side) (p : TwoEnds) (b : Between) (t : Tables) (packet : List ℕ) (h : Held) → Lasts s p →
-    (pa : PacketAt s p b packet h) → (got : carrier.Message) → (at : FoundLine s (reference_of pa.unit) p b t) →
-    arrived_in pa.did.row ≡ got ∷ [] → ComesAt s p b packet h pa at.line.own.session.state at.line.peer.channel got
-comes_at s p b t packet h alive pa got at one =
-    let n = reference_of pa.unit in
-    let lines = (end_at s p).end.lines in
-    let e = acted_end pa.unit lines (end_at s p).end in
-    let d = did_at s p b packet h lines pa in
-    let same = same_row s p b packet h lines pa in
-    subst (λ (r : Row). Comes (before r) (after r) (is_cut (is_caller (other s)) (carriers_of (with_holding s e h p)))
-    (HasJoined n (end_at s p)) at.line.own.session.state at.line.peer.channel got
-    (under_way (is_caller (other s)) n (carriers_of (with_holding s e h p)) d.now)) same
-    (back_one s p b e h n at.line got d at.is alive (ap arrived_in same ∙ one))
-
-pub seat_transport : (s : Side) (p : TwoEnds) (b : Between) (t : Tables) (n : ℕ) (row : Row) (l : TableLine) → Stands p b t → Lasts s p →
-    progress_of (place_at n (last_of (is_caller s) b)) ≡ before row → IsSeen s n p b l → l.own.transport ≡ transport_by (before row)
-seat_transport s p b t n row l old alive stood i = grind (arith, transport_at, before)
-
--- ---- data that comes is no fault
-
-next_at : MovingLaws → (s : Side) (t : Tables) (n : ℕ) (l : TableLine) → IsTableRun t →
-    connection_at n t.lines ≡ Some (seen_from (side_in s) l) → (octets : List ℕ) (ms : List Message) →
-    l.peer.channel ≡ unit (DT octets) ∷ ms → IsNoFault l.own.session.state octets
-next_at laws s t n l run found octets ms e = (takes_here laws.takes s t run n l found).behind [] octets ms e [] tt octets
+kept_line : (n : ℕ) (lines : Rows Line) (joined : Option (List ℕ)) (x : Standing) → kept_at n lines ≡ Some (joining joined x) →
+    KeptLine n lines joined x
+kept_line n lines joined x live = grind arith
 
 -- the Data to which an arriving part belongs
 record FineData (s : Standing) : Type 0 where
   all : List ℕ
   fine : IsNoFault s.state all
 
-part_fine : MovingLaws → (s : Side) (t : Tables) (n : ℕ) (l : TableLine) → IsTableRun t →
-    connection_at n t.lines ≡ Some (seen_from (side_in s) l) → (now : List ℕ) → NextOf l.own.session.state now l.peer.channel →
-    FineData l.own.session
-part_fine laws s t n l run found now (inl r) = grind (arith, next_at laws s t n l run found (now ++ r.rest) r.others r.is)
-part_fine laws s t n l run found now (inr (inl away)) = grind (arith, takes_here laws.takes s t run n l found)
-part_fine laws s t n l run found now (inr (inr calm)) = record { all = []; fine = calm [] }
-
 part_joins : (joined : Option (List ℕ)) (x : Standing) (place : PartPlace) (octets now : List ℕ) (H : Option (List ℕ) → Type 0) →
     ((begun : Option (List ℕ)) → H begun → IsJoinedAs x.state joined begun) → length now ≤ most_data → IsTaker x joined → FineData x →
     (Begins H place octets now ⊎ GoesOn H place octets now) → PartJoins joined x place octets (Some now)
 part_joins joined x place octets now H holds short kept f h = search (arith, first_joins, middle_joins)
-
--- a message arrives, that a session receives, and what is in flight after it
-pub record ArrivesAt (s : Side) (p : TwoEnds) (b : Between) (t : Tables) (packet : List ℕ) (h : Held)
-    (pa : PacketAt s p b packet h) : Type 0 where
-  pub a : Arriving s p b t (reference_of pa.unit) pa.did.row
-  pub stays : Behind s p b packet h pa None (after_message a.seen.own.session.state a.first) a.rest
-
--- or a part of one Data that is not the last
-pub record PartArrives (s : Side) (p : TwoEnds) (b : Between) (t : Tables) (packet : List ℕ) (h : Held)
-    (pa : PacketAt s p b packet h) : Type 0 where
-  pub seen : TableLine
-  pub found : connection_at (reference_of pa.unit) t.lines ≡ Some (seen_from (side_in s) seen)
-  pub stands : IsSeen s (reference_of pa.unit) p b seen
-  pub joined : Option (List ℕ)
-  pub kept : KeptLine (reference_of pa.unit) (end_at s p).end.lines joined seen.own.session
-  pub had : HasSession (reference_of pa.unit) (end_at s p).end.lines (before pa.did.row) seen.own.session
-  pub place : PartPlace
-  pub octets : List ℕ
-  pub is : pa.did.row ≡ tells (part_octets place octets)
-  pub now : List ℕ
-  pub joins : PartJoins joined seen.own.session place octets (Some now)
-  pub stays : Behind s p b packet h pa (Some now) seen.own.session.state seen.peer.channel
 
 -- a message that does not leave arrives at a session that has joined nothing
 abbrev pub got_leaves : carrier.Message → Bool
@@ -260,309 +184,384 @@ got_leaves m = false
 stays_kind : (m : Message) (got : carrier.Message) → kind_of (message_in m) ≡ kind_of got → got_leaves got ≡ false → is_leaving m ≡ false
 stays_kind m got k e = grind arith
 
-move_stays : (row : Row) → is_move row ≡ true → got_leaves (got_in row) ≡ false
-move_stays row e = grind arith
-
--- what a session receives of a TSDU that is a message, whole or by its last part
-hears_tsdu : MovingLaws →
-    (s : Side) (p : TwoEnds) (b : Between) (t : Tables) (n : ℕ) (row : Row) (octets : List ℕ) (l : TableLine) (joined : Option (List ℕ))
-    (first : Message) (rest : List Message) → IsTableRun t → connection_at n t.lines ≡ Some (seen_from (side_in s) l) →
-    l.peer.channel ≡ first ∷ rest → IsWhole first → kept_at n (end_at s p).end.lines ≡ Some (joining joined l.own.session) →
-    IsTaker l.own.session joined → IfSome l.own.session.waiting IsInOctets → row ≡ tells octets →
-    kind_of (message_in first) ≡ kind_of (got_in row) →
-    IsAlone (before row) (HasJoined n (end_at s p)) first (got_in row) ⊎ IsLast (before row) (HasJoined n (end_at s p)) first (got_in row) →
-    HearsBy n (tells octets) first joined l.own.session
-hears_tsdu laws s p b t n row octets l joined first rest run found parts whole live kept waits is kind (inl a) =
-    let x = l.own.session in
-    let same : message_in first ∷ [] ≡ carrier.message octets ∷ [] =
-    subst (λ (r : Row). AreAlike (before r) (message_in first ∷ []) (got_in r ∷ [])) is a.is in
-    let stays : is_leaving first ≡ false = stays_kind first (got_in row) kind (ap (λ (r : Row). got_leaves (got_in r)) is) in
-    tells_by laws.hear n octets first joined x (none_joined x.state joined (a.held stays (joining joined x) live)) same whole waits
-hears_tsdu laws s p b t n row octets l joined first rest run found parts whole live kept waits is kind (inr q) =
-    let x = l.own.session in
-    let fine : IsNoFault x.state (q.front ++ q.last) =
-    next_at laws s t n l run found (q.front ++ q.last) rest (parts ∙ ap (λ (m : Message). m ∷ rest) q.first_is) in
-    subst (λ (m : Message). HearsBy n (tells octets) m joined x) (sym q.first_is)
-    (tells_last laws.hear n octets q.front q.last joined x (grind arith)
-    (last_moves joined x q.front q.last q.short kept fine (q.held (joining joined x) live)) waits)
-
-arriving_as : MovingLaws → (s : Side) (p : TwoEnds) (b : Between) (t : Tables) (packet : List ℕ) (h : Held) → Stands p b t → IsTableRun t →
-    Lasts s p → (pa : PacketAt s p b packet h) → is_heard pa.did.row ≡ true → (at : FoundLine s (reference_of pa.unit) p b t) →
-    (was : HasSession (reference_of pa.unit) (end_at s p).end.lines (before pa.did.row) at.line.own.session) →
-    ComesAt s p b packet h pa at.line.own.session.state at.line.peer.channel (got_in pa.did.row) →
-    ArrivesAt s p b t packet h pa ⊎ PartArrives s p b t packet h pa
-arriving_as laws s p b t packet h old run alive pa heard at was (inl sp) =
-    let n = reference_of pa.unit in
-    let row = pa.did.row in
-    let lines = (end_at s p).end.lines in
-    let l = at.line in
-    let x = l.own.session in
-    let tr = seat_transport s p b t n row l old alive (grind arith) at.is in
-    let sound = seen_sound (side_in s) l (laws.sound_lines t run n (seen_from (side_in s) l) at.found) in
-    let whole = first_whole sp.first sp.others (subst AreSendable sp.parts sound.peer.under_way) in
-    let joined = was.joined in
-    let live : kept_at n lines ≡ Some (joining joined x) = was.live (grind arith) in
-    let keeps = kept_of n (joining joined x) (end_at s p).end (order_of s p b t old alive) live in
-    let hears = hears_row laws.hear n row sp.first joined l.own keeps.phase
-    (λ move other_kind. elim sp.how [
-      | inl a ↦ none_joined x.state joined (a.held (stays_kind sp.first (got_in row) sp.kind (move_stays row move)) (joining joined x) live)
-      | inr q ↦ absurd (no_part (before row) (part_octets Last q.last) (got_in row) other_kind q.is)
-    ])
-    (λ octets is. hears_tsdu laws s p b t n row octets l joined sp.first sp.others run at.found sp.parts whole live keeps.phase
-    at.is.here.octets is sp.kind sp.how)
-    heard tr (λ w. is_calling laws.tables laws.hear.replies.says (side_in s) n l t run at.found w) sound.own.waits at.is.here.octets in
-    inl (record {
-      a = record {
-        seen = l;
-        found = at.found;
-        stands = at.is;
-        transport = tr;
-        first = sp.first;
-        rest = sp.others;
-        parts = sp.parts;
-        kind = sp.kind;
-        joined = joined;
-        kept = grind arith;
-        hears = hears;
-      };
-      stays = sp.stays;
-    })
-arriving_as laws s p b t packet h old run alive pa heard at was (inr sp) =
-    let n = reference_of pa.unit in
-    let lines = (end_at s p).end.lines in
-    let l = at.line in
-    let x = l.own.session in
-    let joined = was.joined in
-    let live : kept_at n lines ≡ Some (joining joined x) = was.live (grind arith) in
-    let keeps = kept_of n (joining joined x) (end_at s p).end (order_of s p b t old alive) live in
-    let fine = part_fine laws s t n l run at.found sp.now sp.next in
-    inr (record {
-      seen = l;
-      found = at.found;
-      stands = at.is;
-      joined = joined;
-      kept = grind arith;
-      had = was;
-      place = sp.place;
-      octets = sp.octets;
-      is = grind arith;
-      now = sp.now;
-      joins = part_joins joined x sp.place sp.octets sp.now (HasJoined n (end_at s p))
-          (λ begun held. held (joining joined x) live) sp.short keeps.phase fine sp.how;
-      stays = sp.stays;
-    })
-
-pub arriving : MovingLaws → (s : Side) (p : TwoEnds) (b : Between) (t : Tables) (packet : List ℕ) (h : Held) → Stands p b t → IsTableRun t →
-    Lasts s p → (pa : PacketAt s p b packet h) → is_heard pa.did.row ≡ true →
-    ArrivesAt s p b t packet h pa ⊎ PartArrives s p b t packet h pa
-arriving laws s p b t packet h old run alive pa heard =
-    let n = reference_of pa.unit in
-    let at = line_at s n p b t old pa.first.named pa.first.given in
-    let was = session_of_seat n (end_at s p) at.line.own (before pa.did.row)
-    (grind (arith, was_at)) at.is.here in
-    search (arith, arriving_as, comes_at s p b t packet h alive pa (got_in pa.did.row) at (grind arith), got_in pa.did.row)
-
--- the move the line of the end, with the selectors of a CN that its session receives
-abbrev pub heard_line : (s : Side) (p : TwoEnds) (b : Between) (t : Tables) (n : ℕ) (row : Row) → Arriving s p b t n row → Line
-heard_line s p b t n row a = noted (joining a.joined a.seen.own.session) a.hears.heard a.kept.line
-
-abbrev pub moving : (s : Side) (p : TwoEnds) (b : Between) (t : Tables) (n : ℕ) (row : Row) → Arriving s p b t n row → Moving
-moving s p b t n row a =
-    record {
-      n = n;
-      row = row;
-      seen = a.seen;
-      first = a.first;
-      rest = a.rest;
-      line = heard_line s p b t n row a;
-      input = heard_by row a.first;
-    }
-
-abbrev pub moves_by : (s : Side) (p : TwoEnds) (b : Between) (t : Tables) (n : ℕ) (row : Row) → (a : Arriving s p b t n row) →
-    MovesBy s p n a.seen.own.session row (heard_by row a.first)
-moves_by s p b t n row a = record {
-  line = heard_line s p b t n row a;
-  was = a.kept.line;
-  here = a.kept.here;
-  ended = a.hears.ended;
-  waits = a.hears.waits;
-  octets = a.hears.goes.octets;
-}
-
--- ---- the end then
-
 linked_by : (n : ℕ) (c : Carrier) (b : Bool) → nat_lt c.given n ≡ b → progress_of (place_at n c) ≡ in_use → IsLinkedAt n c
 linked_by n c b e h = grind arith
 
-pub open_at : (n : ℕ) (c : Carrier) → c.ended ≡ None → IsLinkedAt n c → is_open n c ≡ true
-open_at n c lasts l = grind arith
-
-abbrev pub EndOf : (s : Side) (p : TwoEnds) (b : Between) (t : Tables) (packet : List ℕ) (h : Held) (pa : PacketAt s p b packet h) →
-    Arriving s p b t (reference_of pa.unit) pa.did.row → End
-EndOf s p b t packet h pa a = moved_end s p pa.unit (moving s p b t (reference_of pa.unit) pa.did.row a)
-
--- what the carrier did, at the end whose session has moved
-abbrev pub DidThen : (s : Side) (p : TwoEnds) (b : Between) (t : Tables) (packet : List ℕ) (h : Held) (pa : PacketAt s p b packet h) →
-    Arriving s p b t (reference_of pa.unit) pa.did.row → Type 0
-DidThen s p b t packet h pa a = DidAt s p b (EndOf s p b t packet h pa a) h (reference_of pa.unit)
-
-pub opened_then : (s : Side) (p : TwoEnds) (b : Between) (e : End) (h : Held) (n : ℕ) (row : Row) → (d : DidAt s p b e h n) →
-    e.carrier.ended ≡ None → d.row ≡ row → after row ≡ in_use → IsLinkedAt n e.carrier
-opened_then s p b e h n row d lasts same open_now = grind (arith, linked_by, after, last_is s p b e h n d lasts)
-
 -- its other connections are unchanged
-pub lives_then : (s : Side) (p : TwoEnds) (b : Between) (t : Tables) (e : End) (h : Held) (n : ℕ) → Stands p b t → Lasts s p →
+lives_then : (s : Side) (p : TwoEnds) (b : Between) (t : Tables) (e : End) (h : Held) (n : ℕ) → Stands p b t → Lasts s p →
     (d : DidAt s p b e h n) → e.carrier.ended ≡ None → IsOrderly e.carrier → (q : ℕ) → q ≢ n →
     value_at q e.carrier.live ≡ value_at q (end_at s p).end.carrier.live
 lives_then s p b t e h n old alive d lasts orderly q apart = search (arith, value_same, order_of, last_is, was_at)
 
-loud_order : (s : Side) (p : TwoEnds) (b : Between) (t : Tables) (packet : List ℕ) (h : Held) → Stands p b t → Lasts s p →
-    (pa : PacketAt s p b packet h) → (a : Arriving s p b t (reference_of pa.unit) pa.did.row) → (d : DidThen s p b t packet h pa a) →
-    d.row ≡ pa.did.row → (f : ActsAt s p packet pa.unit (reference_of pa.unit) pa.did.row) →
-    IsInOrder (acted_end pa.unit (loud_lines s p (moving s p b t (reference_of pa.unit) pa.did.row a)) (end_at s p).end)
-loud_order s p b t packet h old alive pa a d same f =
-    let n = reference_of pa.unit in
-    let was = (end_at s p).end in
-    let e = EndOf s p b t packet h pa a in
-    let order = order_of s p b t old alive in
-    let orderly : IsOrderly e.carrier =
-    orderly_same (carrier_react pa.unit was.carrier) _ [] (orderly_unit pa.unit was.carrier order.sound.orderly) in
-    let more : was.carrier.given ≤ e.carrier.given =
-    subst (λ (c : Carrier). was.carrier.given ≤ c.given) f.acts (packet_rises packet was.carrier) in
-    acted_order was e.carrier n a.kept.line (joining a.joined a.seen.own.session) a.seen.own.session a.hears.heard
-    (heard_by pa.did.row a.first) order alive orderly refl f.lasts more
-    (lives_then s p b t e h n old alive d f.lasts orderly) a.kept.here a.kept.is a.hears.moves a.hears.numbered
-    (λ needs. open_at n e.carrier f.lasts (opened_then s p b e h n pa.did.row d f.lasts same (a.hears.needs needs)))
-
-pub moved_then : MovingLaws → (s : Side) (p : TwoEnds) (b : Between) (t : Tables) (packet : List ℕ) (h : Held) → Stands p b t → Lasts s p →
-    (pa : PacketAt s p b packet h) → (a : Arriving s p b t (reference_of pa.unit) pa.did.row) → (d : DidThen s p b t packet h pa a) →
-    d.row ≡ pa.did.row → (f : ActsAt s p packet pa.unit (reference_of pa.unit) pa.did.row) → EndThen s p (EndOf s p b t packet h pa a)
-moved_then laws s p b t packet h old alive pa a d same f =
-    let loud = loud_lines s p (moving s p b t (reference_of pa.unit) pa.did.row a) in
-    let role = same_role laws.packet s p b t (EndOf s p b t packet h pa a) h (reference_of pa.unit) old alive d f.lasts in
-    search (arith, quiet_order, acted_end, loud_order s p b t packet h old alive pa a d same f, quiet_waits loud)
-
--- ---- two ends then
-
 hears_calm : (row : Row) (x : Standing) (m : Message) (ms : List Message) → is_heard row ≡ true →
     kind_of (message_in m) ≡ kind_of (got_in row) → StaysCalm (after_message x.state m) ms →
     StaysCalm (react x (heard_by row m)).next.state ms
-hears_calm row x m ms e k calm = grind (arith, left_is, over_stays, is_lost)
+hears_calm row x m ms e k calm = grind (arith, left_is, over_stays, ended_broken)
 
--- what is still in flight to it
-pub rest_then : (s : Side) (p : TwoEnds) (b : Between) (t : Tables) (packet : List ℕ) (h : Held) → (pa : PacketAt s p b packet h) →
-    (v : ArrivesAt s p b t packet h pa) → is_heard pa.did.row ≡ true →
-    Goes (other s) s (reference_of pa.unit) (with_holding s (EndOf s p b t packet h pa v.a) h p)
-    (did_at s p b packet h (quieted (loud_lines s p (moving s p b t (reference_of pa.unit) pa.did.row v.a))) pa).now (after pa.did.row)
-    (move_of (moving s p b t (reference_of pa.unit) pa.did.row v.a)).next.state v.a.rest
-rest_then s p b t packet h pa v heard =
-    let n = reference_of pa.unit in
-    let row = pa.did.row in
-    let m = moving s p b t n row v.a in
-    let e = EndOf s p b t packet h pa v.a in
-    let lines = quieted (loud_lines s p m) in
-    let x = v.a.seen.own.session in
-    let next = after_message x.state v.a.first in
-    let now : kept_at n e.lines ≡ Some (listening (move_of m).next) =
-    kept_then n (heard_line s p b t n row v.a) v.a.kept.line x (heard_by row v.a.first) (end_at s p).end.lines v.a.kept.here in
-    let held : HasJoined n (record { end = e; held = h }) None = grind arith in
-    back_then s p (did_at s p b packet h lines pa).now e h n (after row) None next (move_of m).next.state v.a.rest
-    (other_lines s p b packet h n (end_at s p).end.lines lines pa (after row) None next v.a.rest v.stays) held
-    (λ calm. hears_calm row x v.a.first v.a.rest heard v.a.kind calm)
+module _ (laws : MovingLaws) (s : Side) (p : TwoEnds) (b : Between) (t : Tables) (packet : List ℕ) (h : Held) (old : Stands p b t)
+    (run : IsTableRun t) (alive : Lasts s p) (pa : PacketAt s p b packet h) (heard : is_heard pa.did.row ≡ true) where
+  -- its reference and its row, the end before, the line of the tables, and what the carrier did
+  abbrev number : ℕ
+  number = reference_of pa.unit
 
-stands_then : MovingLaws → (s : Side) (p : TwoEnds) (b : Between) (t : Tables) (packet : List ℕ) (h : Held) → Stands p b t → Lasts s p →
-    (pa : PacketAt s p b packet h) → is_move pa.did.row ≡ true → (a : Arriving s p b t (reference_of pa.unit) pa.did.row) →
-    (d : DidThen s p b t packet h pa a) → d.row ≡ pa.did.row → (f : ActsAt s p packet pa.unit (reference_of pa.unit) pa.did.row) →
-    Goes (other s) s (reference_of pa.unit) (with_holding s (EndOf s p b t packet h pa a) h p) d.now (after pa.did.row)
-    (move_of (moving s p b t (reference_of pa.unit) pa.did.row a)).next.state a.rest →
-    Stands (turned_pair s (EndOf s p b t packet h pa a) h (reference_of pa.unit)
-    (move_of (moving s p b t (reference_of pa.unit) pa.did.row a)).shown p) d.now
-    (moved_tables s t (moving s p b t (reference_of pa.unit) pa.did.row a))
-stands_then laws s p b t packet h old alive pa move a d same f back =
-    let n = reference_of pa.unit in
-    let m = moving s p b t n pa.did.row a in
-    let e = EndOf s p b t packet h pa a in
-    turned_stands s p b t e h d.now (moved_tables s t m) n (move_of m).shown old alive
-    (move_unit s p b t packet h a.seen a.first a.rest pa.did.row (heard_by pa.did.row a.first) old alive pa a.found a.stands
-    (moves_by s p b t n pa.did.row a) d same move
-    back (laws.packet.behind _ _ d.now d.between) (moved_then laws s p b t packet h old alive pa a d same f)
-    (moved_known s p b t e h n a.seen a.first pa.unit pa.did.row old alive d f.lasts pa.first pa.first.given same
-    (grind arith) a.transport a.kind))
+  abbrev row : Row
+  row = pa.did.row
 
--- what the packet does to the end
-pub does_then : (s : Side) (p : TwoEnds) (b : Between) (t : Tables) (packet : List ℕ) (h : Held) → (pa : PacketAt s p b packet h) →
-    (a : Arriving s p b t (reference_of pa.unit) pa.did.row) → (f : ActsAt s p packet pa.unit (reference_of pa.unit) pa.did.row) →
-    after_packet (end_at s p).end packet ≡ concludes
-    (record {
-      carrier = answers (reference_of pa.unit) 0 (as_made (move_of (moving s p b t (reference_of pa.unit) pa.did.row a)))
-          (EndOf s p b t packet h pa a).carrier;
-      lines = loud_lines s p (moving s p b t (reference_of pa.unit) pa.did.row a);
-    })
-does_then s p b t packet h pa a f =
-    let n = reference_of pa.unit in
-    let was = (end_at s p).end in
-    one_told was packet pa.unit a.hears.event f.acts (f.events ∙ a.hears.told)
-    ∙ ap concludes (a.hears.hears (told_all pa.unit was) a.kept.line a.kept.here
-    ∙ session_acts n a.hears.heard (heard_by pa.did.row a.first) (told_all pa.unit was) a.kept.line
-    (joining a.joined a.seen.own.session) a.seen.own.session a.kept.here a.kept.is a.hears.moves
-    (a.hears.alone (joining a.joined a.seen.own.session)))
+  abbrev was : End
+  was = (end_at s p).end
 
--- it is the move of the row that the packet is
-pub record MovedBy (s : Side) (p : TwoEnds) (b : Between) (t : Tables) (packet : List ℕ) (h : Held)
-    (pa : PacketAt s p b packet h) : Type 0 where
-  pub moved : HasMoved s p t packet h
-  pub unit : moved.unit ≡ pa.unit
-  pub row : moved.m.row ≡ pa.did.row
-  pub input : moved.m.input ≡ heard_by moved.m.row moved.m.first
+  abbrev at : FoundLine s number p b t
+  at = line_at s number p b t old pa.first.named pa.first.given
 
--- a packet that a session receives, at an end that has not ended
-pub has_moved : MovingLaws → (s : Side) (p : TwoEnds) (b : Between) (t : Tables) (packet : List ℕ) (h : Held) → Stands p b t →
-    IsTableRun t → Lasts s p → (pa : PacketAt s p b packet h) → ArrivesAt s p b t packet h pa → is_move pa.did.row ≡ true →
-    MovedBy s p b t packet h pa
-has_moved laws s p b t packet h old run alive pa v move =
-    let n = reference_of pa.unit in
-    let row = pa.did.row in
-    let heard = move_heard row move in
-    let a = v.a in
-    let m = moving s p b t n row a in
-    let e = moved_end s p pa.unit m in
-    let d = did_at s p b packet h (quieted (loud_lines s p m)) pa in
-    let same = same_row s p b packet h (quieted (loud_lines s p m)) pa in
-    let f = acts_at s p b packet h pa in
-    let kept = old.given_then in
-    let given = pa.first.given in
-    let takes_out = takes_from laws.takes s t run in
-    let after_it = tables_delivered s n (seen_from (side_in s) a.seen) t (known_by t m)
-    (record { line = moved_line m; shown = (move_of m).shown; closes = false }) a.found in
-    record {
-      moved = record {
+  abbrev session : Standing
+  session = at.line.own.session
+
+  abbrev acts : ActsAt s p packet pa.unit number row
+  acts = acts_at s p b packet h pa
+
+  -- its session before, with what it has joined of a Data, and its line
+  abbrev had : HasSession number was.lines (before row) session
+  had = session_before laws.packet s p b t packet h old alive pa
+
+  abbrev joined : Option (List ℕ)
+  joined = had.joined
+
+  live : kept_at number was.lines ≡ Some (joining joined session)
+  live = had.live (grind arith)
+
+  abbrev kept : KeptLine number was.lines joined session
+  kept = kept_line number was.lines joined session live
+
+  transport_then : at.line.own.transport ≡ transport_by (before row)
+  transport_then =
+      transport_before s p b t (acted_end pa.unit was.lines was) h number at.line old alive (did_at s p b packet h was.lines pa) at.is
+
+  -- what is in flight to it then, after what arrived
+  abbrev two : Both
+  two = carriers_of (with_holding s (acted_end pa.unit was.lines was) h p)
+
+  abbrev Behind : Option (List ℕ) → SessionState → List Message → Type 0
+  Behind begun x ms = BehindFirst (after row) (is_cut (is_caller (other s)) two) begun x ms
+      (under_way (is_caller (other s)) number two pa.did.now)
+
+  -- a message arrives, that a session receives
+  pub record ArrivesAt : Type 0 where
+    pub first : Message
+    pub rest : List Message
+    pub parts : at.line.peer.channel ≡ first ∷ rest
+    pub kind : kind_of (message_in first) ≡ kind_of (got_in row)
+    pub hears : HearsBy number row first joined session
+    pub stays : Behind None (after_message session.state first) rest
+
+  -- or a part of one Data that is not the last
+  pub record PartArrives : Type 0 where
+    pub place : PartPlace
+    pub octets : List ℕ
+    pub is : row ≡ tells (part_octets place octets)
+    pub now : List ℕ
+    pub joins : PartJoins joined session place octets (Some now)
+    pub stays : Behind (Some now) session.state at.line.peer.channel
+
+  -- ---- data that comes is no fault
+
+  next_at : (octets : List ℕ) (ms : List Message) → at.line.peer.channel ≡ unit (DT octets) ∷ ms → IsNoFault session.state octets
+  next_at octets ms e = (takes_here laws.takes s t run number at.line at.found).behind [] octets ms e [] tt octets
+
+  part_fine : (now : List ℕ) → NextOf session.state now at.line.peer.channel → FineData session
+  part_fine now (inl r) = grind (arith, next_at (now ++ r.rest) r.others r.is)
+  part_fine now (inr (inl away)) = grind (arith, takes_here laws.takes s t run number at.line at.found)
+  part_fine now (inr (inr calm)) = record { all = []; fine = calm [] }
+
+  -- what a session receives of a TSDU that is a message, whole or by its last part
+  hears_tsdu : (octets : List ℕ) (first : Message) (rest : List Message) → at.line.peer.channel ≡ first ∷ rest → IsWhole first →
+      IsTaker session joined → row ≡ tells octets → kind_of (message_in first) ≡ kind_of (got_in row) →
+      IsAlone (before row) (HasJoined number (end_at s p)) first (got_in row)
+      ⊎ IsLast (before row) (HasJoined number (end_at s p)) first (got_in row) → HearsBy number (tells octets) first joined session
+  hears_tsdu octets first rest parts whole keeps is kind (inl a) =
+      let same : message_in first ∷ [] ≡ carrier.message octets ∷ [] =
+      subst (λ (r : Row). AreAlike (before r) (message_in first ∷ []) (got_in r ∷ [])) is a.is in
+      let stays : is_leaving first ≡ false = stays_kind first (got_in row) kind (ap (λ (r : Row). got_leaves (got_in r)) is) in
+      tells_by laws.hear number octets first joined session (none_joined session.state joined (a.held stays (joining joined session) live))
+      same whole at.is.here.octets
+  hears_tsdu octets first rest parts whole keeps is kind (inr q) =
+      let fine : IsNoFault session.state (q.front ++ q.last) =
+      next_at (q.front ++ q.last) rest (parts ∙ ap (λ (m : Message). m ∷ rest) q.first_is) in
+      subst (λ (m : Message). HearsBy number (tells octets) m joined session) (sym q.first_is)
+      (tells_last laws.hear number octets q.front q.last joined session (grind arith)
+      (last_moves joined session q.front q.last q.short keeps fine (q.held (joining joined session) live)) at.is.here.octets)
+
+  arriving_by : Comes (before row) (after row) (is_cut (is_caller (other s)) two) (HasJoined number (end_at s p)) session.state
+      at.line.peer.channel (got_in row) (under_way (is_caller (other s)) number two pa.did.now) → ArrivesAt ⊎ PartArrives
+  arriving_by (inl sp) =
+      let sound : IsSoundLine at.line = grind (arith, laws.sound_lines t run number (seen_from (side_in s) at.line) at.found) in
+      let whole : IsWhole sp.first = grind (arith, subst AreSendable sp.parts sound.peer.under_way) in
+      let keeps = kept_of number (joining joined session) was (order_of s p b t old alive) live in
+      let hears = hears_row laws.hear number row sp.first joined at.line.own keeps.phase
+      (λ move other_kind. elim sp.how [
+        | inl a ↦ none_joined session.state joined
+            (a.held (stays_kind sp.first (got_in row) sp.kind (grind arith)) (joining joined session) live)
+        | inr q ↦ absurd (no_part (before row) (part_octets Last q.last) (got_in row) other_kind q.is)
+      ])
+      (λ octets is. hears_tsdu octets sp.first sp.others sp.parts whole keeps.phase is sp.kind sp.how) (as_heard row heard) transport_then
+      (λ w. is_calling laws.tables laws.hear.replies.says (side_in s) number at.line t run at.found w) sound.own.waits at.is.here.octets in
+      inl (record { first = sp.first; rest = sp.others; parts = sp.parts; kind = sp.kind; hears = hears; stays = sp.stays })
+  arriving_by (inr sp) =
+      let keeps = kept_of number (joining joined session) was (order_of s p b t old alive) live in
+      inr (record {
+        place = sp.place;
+        octets = sp.octets;
+        is = grind arith;
+        now = sp.now;
+        joins = part_joins joined session sp.place sp.octets sp.now (HasJoined number (end_at s p))
+            (λ begun held. held (joining joined session) live) sp.short keeps.phase (part_fine sp.now sp.next) sp.how;
+        stays = sp.stays;
+      })
+
+  pub arriving : ArrivesAt ⊎ PartArrives
+  arriving =
+      arriving_by (back_one s p b (acted_end pa.unit was.lines was) h number at.line (got_in row) (did_at s p b packet h was.lines pa)
+      at.is alive (grind arith))
+
+  -- ---- the end then
+
+  opened_then : after row ≡ in_use → IsLinkedAt number (told_all pa.unit was).carrier
+  opened_then open_now =
+      grind (
+        arith,
+        linked_by,
+        after,
+        last_is s p b (acted_end pa.unit was.lines was) h number (did_at s p b packet h was.lines pa) acts.lasts,
+      )
+
+  -- it is in order when its session has made this move
+  order_then : (line : Line) (l : Listener) (heard : words.Input) (m : words.Move) → value_at number was.lines ≡ Some line →
+      line.session ≡ Some l → words.react l heard ≡ m → HasNumbersInWords heard →
+      (needs_link m.next.state.phase ≡ true → after row ≡ in_use) →
+      IsInOrder (acted_end pa.unit (put_row number (line_after (noted l heard line) m) was.lines) was)
+  order_then line l heard m here is so numbered needs =
+      let e = acted_end pa.unit was.lines was in
+      let order = order_of s p b t old alive in
+      let orderly : IsOrderly e.carrier =
+      orderly_same (carrier_react pa.unit was.carrier) _ [] (orderly_unit pa.unit was.carrier order.sound.orderly) in
+      let more : was.carrier.given ≤ e.carrier.given =
+      subst (λ (c : Carrier). was.carrier.given ≤ c.given) acts.acts (packet_rises packet was.carrier) in
+      moves_order was e.carrier number line l heard m order alive orderly refl acts.lasts more
+      (lives_then s p b t e h number old alive (did_at s p b packet h was.lines pa) acts.lasts orderly) here is so numbered
+      (λ link. (let linked_now = opened_then (needs link) in grind (arith, acts.lasts)))
+
+  -- the move; the line of the end has the selectors of a CN that its session receives
+  abbrev moving : ArrivesAt → Moving
+  moving v = record {
+    n = number;
+    row = row;
+    seen = at.line;
+    first = v.first;
+    rest = v.rest;
+    line = noted (joining joined session) v.hears.heard kept.line;
+    input = heard_by row v.first;
+  }
+
+  abbrev EndOf : ArrivesAt → End
+  EndOf v = moved_end s p pa.unit (moving v)
+
+  moved_order : (v : ArrivesAt) → IsInOrder (EndOf v)
+  moved_order v =
+      quiet_order (acted_end pa.unit (loud_lines s p (moving v)) was) (order_then kept.line (joining joined session) v.hears.heard
+      (as_made (move_of (moving v))) kept.here kept.is v.hears.moves v.hears.numbered v.hears.needs)
+
+  -- ---- two ends then
+
+  kept_now : (v : ArrivesAt) → kept_at number (EndOf v).lines ≡ Some (listening (move_of (moving v)).next)
+  kept_now v = kept_then number (moving v).line kept.line session (heard_by row v.first) was.lines kept.here
+
+  -- what is still in flight to it
+  rest_then : (v : ArrivesAt) →
+      Goes (other s) s number (with_holding s (EndOf v) h p) pa.did.now (after row) (move_of (moving v)).next.state v.rest
+  rest_then v =
+      let next = after_message session.state v.first in
+      let now = kept_now v in
+      let held : HasJoined number (record { end = EndOf v; held = h }) None = grind arith in
+      back_then s p pa.did.now (EndOf v) h number (after row) None next (move_of (moving v)).next.state v.rest
+      (other_lines s p pa.unit h was.lines (EndOf v).lines (λ two. BehindFirst (after row) (is_cut (is_caller (other s)) two) None next
+      v.rest (under_way (is_caller (other s)) number two pa.did.now)) v.stays) held
+      (λ calm. hears_calm row session v.first v.rest heard v.kind calm)
+
+  -- they match these tables, for what is in flight from it
+  moved_stands : (v : ArrivesAt) (u : Tables) (channel : List Message) →
+      Goes s (other s) number (with_holding s (EndOf v) h p) pa.did.now
+      (progress_of (place_at number (last_of (is_caller (other s)) pa.did.now))) at.line.peer.session.state channel →
+      TablesAfter s number t u (move_of (moving v)).shown (line_then row (move_of (moving v)).next channel v.rest at.line) →
+      u.known ≡ option_map class_in (with_holding s (EndOf v) h p).left.end.carrier.class →
+      Stands (turned_pair s (EndOf v) h number (move_of (moving v)).shown p) pa.did.now u
+  moved_stands v u channel out after_it known =
+      let m = moving v in
+      took laws.packet s p b t packet h old alive pa (EndOf v).lines u (move_of m).shown (move_of m).next channel v.rest
+      (moved_order v) (quiet_waits (loud_lines s p m)) (grind (arith, quieted_at, put_other, as_made))
+      (has_session number (EndOf v).lines (after row) (move_of m).next None (kept_now v) v.hears.ended v.hears.waits v.hears.goes.octets)
+      (record { out = out; back = rest_then v }) after_it known
+
+  waits_then : (v : ArrivesAt) → waiting_in (loud_lines s p (moving v)) ≡ map (λ x. (number, x)) (move_of (moving v)).shown
+  waits_then v =
+      put_waits number (moving v).line kept.line (as_made (move_of (moving v))) was.lines refl (quiet_of s p b t old) kept.here
+
+  -- what the packet does to the end
+  does_then : (v : ArrivesAt) → after_packet was packet ≡ concludes
+      (record { carrier = answers number 0 (as_made (move_of (moving v))) (EndOf v).carrier; lines = loud_lines s p (moving v) })
+  does_then v =
+      one_told was packet pa.unit v.hears.event acts.acts (acts.events ∙ v.hears.told)
+      ∙ ap concludes (v.hears.hears (told_all pa.unit was) kept.line kept.here
+      ∙ session_acts number v.hears.heard (heard_by row v.first) (told_all pa.unit was) kept.line
+      (joining joined session) session kept.here kept.is v.hears.moves (v.hears.alone (joining joined session)))
+
+  -- a packet that a session receives, at an end that has not ended
+  pub has_moved : ArrivesAt → is_move row ≡ true → HasMoved s p t packet h
+  has_moved v move =
+      let m = moving v in
+      let e = EndOf v in
+      let d = did_at s p b packet h e.lines pa in
+      let order = order_of s p b t old alive in
+      let takes_out = takes_from laws.takes s t run in
+      let after_it = tables_delivered s number (seen_from (side_in s) at.line) t (known_by t m)
+      (record { line = moved_line m; shown = (move_of m).shown; closes = false }) at.found in
+      let sends : sends_then row t.broken at.line.own.channel ≡ at.line.own.channel = grind arith in
+      let out = subst (λ (ms : List Message). Goes s (other s) number (with_holding s e h p) pa.did.now
+      (progress_of (place_at number (last_of (is_caller (other s)) pa.did.now))) at.line.peer.session.state ms) sends
+      (out_row s p b t e h number at.line old d at.is (grind arith) alive) in
+      record {
         unit = pa.unit;
         m = m;
         row = move;
-        some = pa.first.named;
-        given = omega arith;
-        was = a.kept.line;
-        here = a.kept.here;
-        found = a.found;
-        first = a.parts;
-        does = does_then s p b t packet h pa a f;
-        waits = put_waits n m.line a.kept.line (as_made (move_of m)) (end_at s p).end.lines refl (quiet_of s p b t old) a.kept.here;
-        steps = λ keep. step_moves t s n keep row a.seen a.first a.rest (got_in row)
-            (lasting_in s p b t old alive) a.found a.parts a.transport move (grind arith) a.kind;
-        lasts = f.lasts;
-        local = f.local;
-        kept = kept_then n m.line a.kept.line a.seen.own.session (heard_by row a.first) (end_at s p).end.lines a.kept.here;
-        now = d.now;
-        stands = stands_then laws s p b t packet h old alive pa move a d same f (rest_then s p b t packet h pa v heard);
+        does = does_then v;
+        waits = waits_then v;
+        steps = λ keep. step_moves t s number keep row at.line v.first v.rest (got_in row)
+            (lasting_in s p b t old alive) at.found v.parts transport_then move (grind arith) v.kind;
+        lasts = acts.lasts;
+        local = acts.local;
+        now = pa.did.now;
+        stands = moved_stands v (moved_tables s t m) at.line.own.channel out after_it
+            (moved_known s p b t e h number at.line v.first pa.unit row old alive d acts.lasts pa.first pa.first.given refl
+            (as_move row move) transport_then v.kind);
         found_now = after_it.lines.found;
-        opened = λ open_now. opened_then s p b e h n row d f.lasts same open_now;
-        agreed = λ open_now. moved_class s p b t e h n a.seen a.first pa.unit row old d pa.first same
-            (grind arith) a.transport a.kind open_now;
-        silent = a.hears.silent;
-        sends = a.hears.goes.sends;
-        takes = takes_then s t (moved_tables s t m) n (moved_line m) after_it.lines (takes_out n a.seen a.found) takes_out;
-      };
-      unit = refl;
-      row = refl;
-      input = refl;
-    }
+        opened = λ open_now. opened_then open_now;
+        agreed = λ open_now. moved_class s p b t e h number at.line v.first pa.unit row old d pa.first refl
+            (as_move row move) transport_then v.kind open_now;
+        silent = v.hears.silent;
+        sends = v.hears.goes.sends;
+        takes = takes_then s t (moved_tables s t m) number (moved_line m) after_it.lines (takes_out number at.line at.found) takes_out;
+        fits = pa.did.is;
+        input = refl;
+        sound = subst IsSound (sym (carried_out was packet pa.unit acts.acts))
+            (laws.packet.sound was pa.unit pa.sendable alive (λ x. order.heard) (λ x. order.sound));
+      }
+
+  -- ---- a part of a Data that is not the last
+
+  -- The session joins it to what has begun. The tables have the Data in flight until its last part arrives, so they stay.
+  abbrev part_lines : PartArrives → Rows Line
+  part_lines v = put_row number (line_after (noted (joining joined session) (part_comes v.place v.octets) kept.line)
+      (rests (joining v.joins.now session))) was.lines
+
+  abbrev part_end : PartArrives → End
+  part_end v = acted_end pa.unit (part_lines v) was
+
+  came_part : (v : PartArrives) → came (part_octets v.place v.octets) ≡ part_comes v.place v.octets
+  came_part v = ap came_as (laws.hear.readings.parts v.place v.octets)
+
+  -- what the packet does to the end
+  part_does : (v : PartArrives) → after_packet was packet ≡ part_end v
+  part_does v =
+      one_told was packet pa.unit (tsdu number (part_octets v.place v.octets)) acts.acts (acts.events ∙ ap (told_for number) v.is)
+      ∙ ap concludes (ap (λ (i : words.Input). to_session number i (told_all pa.unit was)) (came_part v)
+      ∙ session_moves number (part_comes v.place v.octets) (told_all pa.unit was) kept.line (joining joined session)
+      (rests (joining v.joins.now session)) kept.here kept.is v.joins.is
+      ∙ ap (λ (c : Carrier). record { carrier = c; lines = part_lines v }) (hands_none number (told_all pa.unit was).carrier))
+      ∙ lasting (part_end v) acts.lasts
+
+  part_order : (v : PartArrives) → IsInOrder (part_end v)
+  part_order v =
+      order_then kept.line (joining joined session) (part_comes v.place v.octets) (rests (joining v.joins.now session)) kept.here
+      kept.is v.joins.is (subst HasNumbersInWords (came_part v) (came_numbers laws.hear.units (part_octets v.place v.octets)))
+      (λ needs. ap after v.is)
+
+  -- the session then
+  part_kept : (v : PartArrives) → kept_at number (part_lines v) ≡ Some (joining v.joins.now session)
+  part_kept v = ap session_in (put_here number _ kept.line was.lines kept.here)
+
+  part_has : (v : PartArrives) → HasSession number (part_lines v) (after row) session
+  part_has v =
+      let after_is : after row ≡ in_use = ap after v.is in
+      has_session number (part_lines v) (after row) session v.joins.now (part_kept v) (λ e. absurd (grind arith))
+      (λ e. absurd (grind arith)) had.octets
+
+  part_holds : (v : PartArrives) → HasJoined number (record { end = part_end v; held = h }) (Some v.now)
+  part_holds v y at = grind (arith, part_kept v)
+
+  pub part_shown : PartArrives → StandsShown s p t (after_packet was packet) h
+  part_shown v =
+      let l = at.line in
+      let lines = part_lines v in
+      let line = line_same row l (transport_then ∙ ap transport_by (ap before v.is ∙ sym (ap after v.is))) in
+      let waits : waiting_in lines ≡ [] =
+      put_waits number (noted (joining joined session) (part_comes v.place v.octets) kept.line) kept.line
+      (rests (joining v.joins.now session)) was.lines refl (quiet_of s p b t old) kept.here in
+      let stands : Stands (turned_pair s (part_end v) h number [] p) pa.did.now t =
+      took laws.packet s p b t packet h old alive pa lines t [] session l.own.channel l.peer.channel (part_order v) waits
+      (grind (arith, put_other)) (part_has v)
+      (record {
+        out = grind (
+          arith,
+          sends_then,
+          out_row s p b t (part_end v) h number l old (did_at s p b packet h lines pa) at.is
+              (ap (λ (r : Row). leaves_use (before r) (after r)) v.is) alive,
+        );
+        back = back_then s p pa.did.now (part_end v) h number (after row) (Some v.now) session.state session.state l.peer.channel
+            (other_lines s p pa.unit h was.lines lines (λ two. BehindFirst (after row) (is_cut (is_caller (other s)) two) (Some v.now)
+            session.state l.peer.channel (under_way (is_caller (other s)) number two pa.did.now)) v.stays) (part_holds v) (λ calm. calm);
+      })
+      (subst (λ (m : TableLine). TablesAfter s number t t [] m) (sym line) (grind (arith, append-nil)))
+      (known_still laws.packet s p b t packet h old alive pa lines (ap is_agree v.is)) in
+      shown_by s p t packet h (part_end v) [] pa.did.now (part_does v) tt acts.local
+      (subst (λ (q : TwoEnds). Stands q pa.did.now t) (sym (grind (arith, with_holding, quiet_same, waits))) stands)
+
+  -- ---- a DR that closes the connection
+
+  -- the tables then
+  abbrev left_tables : ArrivesAt → ℕ → Tables
+  left_tables v keep =
+      delivered t (side_in s) number (known_by t (moving v)) (left_turn t.broken keep row (move_of (moving v)) v.rest at.line)
+
+  -- the delivery
+  left_step : (v : ArrivesAt) (reason keep : ℕ) → row ≡ leaves reason →
+      step t (delivers (side_in s) number (λ r. keep)) ≡ left_tables v keep
+  left_step v reason keep is =
+      let tr : at.line.own.transport ≡ worlds.linked = transport_then ∙ ap (λ (r : Row). transport_by (before r)) is in
+      let same : kind_of (message_in v.first) ≡ carrier.bye reason =
+      subst (λ (r : Row). kind_of (message_in v.first) ≡ kind_of (got_in r)) is v.kind in
+      step_opens t (side_in s) number (λ r. keep) at.line v.first v.rest
+      (left_turn t.broken keep row (move_of (moving v)) v.rest at.line) (lasting_in s p b t old alive) at.found v.parts
+      (turn_left t.broken t.terms keep reason row at.line v.first v.rest is tr same) refl
+
+  -- its session is lost, and the last part of what was in flight from it may be
+  pub leaving_packet : (v : ArrivesAt) (reason : ℕ) → row ≡ leaves reason → StandsShown s p t (after_packet was packet) h
+  leaving_packet v reason is =
+      let m = moving v in
+      let e = EndOf v in
+      let lines = loud_lines s p m in
+      let out = out_leaves s p b t e h number reason at.line old (did_at s p b packet h e.lines pa) is at.is
+      (takes_from laws.takes s t run number at.line at.found) in
+      let silent = v.hears.silent (ap after is) in
+      let nothing : answers number 0 (as_made (move_of m)) e.carrier ≡ e.carrier =
+      grind (arith, move_of m, hands_none number e.carrier) in
+      let then : after_packet was packet ≡ answered_end e.carrier lines =
+      grind (arith, does_then v, lasting (answered_end e.carrier lines) acts.lasts, answered_end e.carrier lines) in
+      let shown = shown_is s p e h number (move_of m).shown e.carrier lines acts.lasts (waits_then v) in
+      let stands = moved_stands v (left_tables v out.keep) (left_channel t.broken out.keep at.line.own.channel) out.way
+      (tables_delivered s number (seen_from (side_in s) at.line) t (known_by t m)
+      (left_turn t.broken out.keep row (move_of m) v.rest at.line) at.found)
+      (learns_row row at.line.own.transport t.terms v.first t.known transport_then (ap is_awaited is)
+      ∙ known_still laws.packet s p b t packet h old alive pa e.lines (ap is_agree is)) in
+      shown_by s p t packet h (answered_end e.carrier lines) (delivers (side_in s) number (λ r. out.keep) ∷ []) pa.did.now then (refl, tt)
+      acts.local
+      (subst (λ (y : Tables). Stands (shown_pair s (answered_end e.carrier lines) h p) pa.did.now y) (sym (left_step v reason out.keep is))
+      (subst (λ (q : TwoEnds). Stands q pa.did.now (left_tables v out.keep))
+      (sym (turned_again s e h number (move_of m).shown p) ∙ shown) stands))

@@ -1,24 +1,23 @@
--- Two ends match the tables after a unit with which no session acts.
+-- An end took a unit: its connection, its session if that does nothing, and what is in flight each way.
 -- For turns, breaks and ends and packets.
 use Rattle.osi_between.specs.Messages as carrier
-use Rattle.osi_pair.proofs.Vocabulary.{◌≡◌, ℕ, ◌<◌, ◌≤◌, Bool, true, false, List, [], ◌∷◌, ◌++◌, Option, Some, None, is_some, refl, sym, ap}
-use Rattle.osi_pair.proofs.Vocabulary.{subst, ◌∙◌, arith, append-nil, Held, Value, Place, place_at, Rows, reference_of, Between, last_of}
-use Rattle.osi_pair.proofs.Vocabulary.{under_way, put_in, is_cut, progress_of, kind_of, Progress, leaves_use, connection_at, delivers}
-use Rattle.osi_pair.proofs.Vocabulary.{learns, Line as TableLine, Tables, seen_from, end_of, step, unseen, Message, Standing, Shown}
-use Rattle.osi_pair.proofs.Vocabulary.{told_all, kept_at, End, TwoEnds, end_at, other, side_in, is_caller, carriers_of, IsInOrder, Stands}
-use Rattle.osi_pair.proofs.Vocabulary.{Goes, HasJoined, is_parting, message_in, waiting_in, Side, Left, Right, Listener, is_ended, is_over}
-use Rattle.osi_pair.proofs.Vocabulary.{implied, gone_is, StaysCalm, over_calm, EndLine as Line, SessionState}
-use Rattle.osi_pair.proofs.turn.what_remains_when_a_unit_was_taken.{terms_at, DidAt, TablesAfter, is_agree, line_then, finish, known_then}
-use Rattle.osi_pair.proofs.turn.what_remains_when_a_unit_was_taken.{was_at, PacketAt}
-use Rattle.osi_pair.proofs.packet.a_unit_with_which_no_session_acts.{step_opens, tables_delivered, is_awaited, learns_row, turn_rests}
-use Rattle.osi_pair.proofs.packet.a_unit_with_which_no_session_acts.{answer_for, unless_broken, put_unless, rests, sends_then, spare_by}
+use Rattle.osi_pair.proofs.Vocabulary.{◌≡◌, ℕ, ◌<◌, ◌≤◌, Bool, true, false, List, [], ◌∷◌, ◌++◌, Option, Some, refl, sym, ap, subst, ◌∙◌}
+use Rattle.osi_pair.proofs.Vocabulary.{arith, append-nil, Held, Value, Place, place_at, Rows, reference_of, Between, last_of, under_way}
+use Rattle.osi_pair.proofs.Vocabulary.{put_in, is_cut, progress_of, Progress, leaves_use, connection_at, Line as TableLine, Tables}
+use Rattle.osi_pair.proofs.Vocabulary.{seen_from, Message, Standing, told_all, kept_at, End, TwoEnds, end_at, other, side_in, is_caller}
+use Rattle.osi_pair.proofs.Vocabulary.{carriers_of, IsInOrder, Stands, Goes, HasJoined, is_parting, Side, Left, Right, Listener, is_ended}
+use Rattle.osi_pair.proofs.Vocabulary.{is_over, implied, gone_is, StaysCalm, over_calm, EndLine as Line, SessionState, not, AreBetween}
+use Rattle.osi_pair.proofs.Vocabulary.{Both, AreLike, connection_in, ◌≢◌}
+use Rattle.osi_pair.proofs.turn.what_remains_when_a_unit_was_taken.{terms_at, DidAt, line_then, was_at, PacketAt}
+use Rattle.osi_pair.proofs.packet.a_unit_with_which_no_session_acts.{answer_for, unless_broken, put_unless, sends_then, spare_by}
 use Rattle.osi_pair.proofs.flight.what_may_arrive_row_by_row.{Row, quiet, still, refuses, ignores, ends, before, after, arrived_in, put_for}
-use Rattle.osi_pair.proofs.session.a_seat_is_its_progress_and_session.{transport_by, transport_at, HasSession, session_of_seat}
-use Rattle.osi_pair.proofs.turn.a_turn_keeps_the_match.{IsSeen, seen, seen_twice, with_holding, Turned, GoesTo, out_there, back_here}
+use Rattle.osi_pair.proofs.session.a_seat_is_its_progress_and_session.{transport_by, transport_at, HasSession}
+use Rattle.osi_pair.proofs.turn.a_turn_keeps_the_match.{IsSeen, seen, seen_twice, with_holding, GoesTo, out_there, back_here}
 use Rattle.osi_pair.proofs.flight.what_is_in_flight_when_an_end_acts.{shuts, out_keeps, back_comes, back_waits, Comes, Alone, alone_of}
 use Rattle.osi_pair.proofs.flight.what_is_in_flight_when_an_end_acts.{is_tsdu, BehindFirst}
 use Rattle.osi_pair.proofs.flight.whether_something_is_cut_off.{cut_none, Lasts}
 use Rattle.osi_pair.proofs.session.an_end_moves_as_the_tables_do.{kept_of}
+use Rattle.osi_pair.proofs.flight.a_taken_packet_is_one_row.{heard_both}
 
 -- ---- the end that took the unit
 
@@ -26,16 +25,56 @@ use Rattle.osi_pair.proofs.session.an_end_moves_as_the_tables_do.{kept_of}
 abbrev pub acted_end : Value → Rows Line → End → End
 acted_end u lines e = record { carrier = (told_all u e).carrier; lines = lines }
 
-pub did_at : (s : Side) (p : TwoEnds) (b : Between) (packet : List ℕ) (h : Held) (lines : Rows Line) → (pa : PacketAt s p b packet h) →
-    DidAt s p b (acted_end pa.unit lines (end_at s p).end) h (reference_of pa.unit)
-did_at Left p b packet h lines pa = pa.did
-did_at Right p b packet h lines pa = pa.did
+-- what holds of the two carriers after the packet holds of the carriers of the two ends then, whatever the lines
+pub carriers_then : (s : Side) (p : TwoEnds) (u : Value) (h : Held) (lines : Rows Line) (X : Bool → Both → Type 0) →
+    X (not (is_caller s)) (heard_both (is_caller s) u h.octets (carriers_of p)) →
+    X (is_caller (other s)) (carriers_of (with_holding s (acted_end u lines (end_at s p).end) h p))
+carriers_then Left p u h lines X x = x
+carriers_then Right p u h lines X x = x
+
+-- and so it holds with other lines
+pub other_lines : (s : Side) (p : TwoEnds) (u : Value) (h : Held) (lines more : Rows Line) (X : Both → Type 0) →
+    X (carriers_of (with_holding s (acted_end u lines (end_at s p).end) h p)) →
+    X (carriers_of (with_holding s (acted_end u more (end_at s p).end) h p))
+other_lines Left p u h lines more X x = x
+other_lines Right p u h lines more X x = x
+
+-- what the carrier did: the row is that of the packet, and so is what is then between the two
+abbrev pub did_at : (s : Side) (p : TwoEnds) (b : Between) (packet : List ℕ) (h : Held) (lines : Rows Line) →
+    (pa : PacketAt s p b packet h) → DidAt s p b (acted_end pa.unit lines (end_at s p).end) h (reference_of pa.unit)
+did_at s p b packet h lines pa =
+    let n = reference_of pa.unit in
+    let d = pa.did in
+    let old = carriers_of p in
+    let at = carriers_then s p pa.unit h lines in
+    record {
+      now = d.now;
+      between = at (λ from two. AreBetween (terms_at p) two d.now) d.between;
+      row = d.row;
+      is = d.is;
+      stood = d.stood;
+      stands = d.stands;
+      came = at (λ from two. AreLike (connection_in (place_at n (last_of (is_caller s) d.now))) (under_way from n old b)
+          (arrived_in d.row ++ under_way from n two d.now)) d.came;
+      stays = d.stays;
+      gone = d.gone;
+      out_before = at (λ from two. AreLike (connection_in (place_at n (last_of from b))) (under_way (is_caller s) n old b)
+          (d.stays ++ d.gone)) d.out_before;
+      out_after = at (λ from two. AreLike (connection_in (place_at n (last_of from b))) (under_way (is_caller s) n two d.now)
+          (d.stays ++ put_in old (put_for d.row))) d.out_after;
+      keeps = d.keeps;
+      others = at (λ from two. (q : ℕ) → q ≢ n → (way : Bool) → under_way way q old b ≡ under_way way q two d.now) d.others;
+      other_places = d.other_places;
+      there = at (λ from two. (q : ℕ) → place_at q (last_of from d.now) ≡ place_at q (last_of from b)) d.there;
+      given = d.given;
+      given_there = at (λ from two. (last_of from d.now).given ≡ (last_of from b).given) d.given_there;
+      class = d.class;
+      class_there = at (λ from two. (last_of from d.now).class ≡ (last_of from b).class) d.class_there;
+    }
 
 pub same_row : (s : Side) (p : TwoEnds) (b : Between) (packet : List ℕ) (h : Held) (lines : Rows Line) → (pa : PacketAt s p b packet h) →
     (did_at s p b packet h lines pa).row ≡ pa.did.row
-unfolding did_at
-same_row Left p b packet h lines pa = refl
-same_row Right p b packet h lines pa = refl
+same_row s p b packet h lines pa = refl
 
 -- ---- its connection
 
@@ -67,9 +106,6 @@ pub session_rests : (n : ℕ) (lines : Rows Line) (row : Row) (x : Standing) →
 session_rests n lines row x e h = search arith
 
 -- ---- what is in flight from it
-
-pub broken_is : (p : TwoEnds) (b : Between) (t : Tables) → Stands p b t → t.broken ≡ is_some (carriers_of p).reach
-broken_is p b t old = grind arith
 
 none_sent : (broken : Bool) (channel : List Message) → channel ≡ channel ++ unless_broken broken []
 none_sent broken channel = grind (arith, append-nil)
@@ -141,7 +177,7 @@ pub back_alone : (s : Side) (p : TwoEnds) (b : Between) (e : End) (h : Held) (n 
     Alone (before d.row) (after d.row) (is_cut (is_caller (other s)) (carriers_of (with_holding s e h p)))
     (HasJoined n (end_at s p)) l.own.session.state l.peer.channel got
     (under_way (is_caller (other s)) n (carriers_of (with_holding s e h p)) d.now)
-back_alone s p b e h n l got d i alive one other_kind = search (arith, alone_of, before, after, with_holding, back_one)
+back_alone s p b e h n l got d i alive one other_kind = search (arith, alone_of, back_one)
 
 -- what is in flight to an end after the first, if its lines are these
 pub back_then : (s : Side) (p : TwoEnds) (c : Between) (e : End) (h : Held) (n : ℕ) (g : Progress) (begun : Option (List ℕ))
@@ -150,19 +186,6 @@ pub back_then : (s : Side) (p : TwoEnds) (c : Between) (e : End) (h : Held) (n :
     (under_way (is_caller (other s)) n (carriers_of (with_holding s e h p)) c) → HasJoined n (record { end = e; held = h }) begun →
     (StaysCalm x ms → StaysCalm y ms) → Goes (other s) s n (with_holding s e h p) c g y ms
 back_then s p c e h n g begun x y ms way held calms = search (arith, back_here, with_holding)
-
--- the lines of the end have no effect on what is in flight
-pub other_lines : (s : Side) (p : TwoEnds) (b : Between) (packet : List ℕ) (h : Held) (n : ℕ) (lines more : Rows Line) →
-    (pa : PacketAt s p b packet h) → (g : Progress) (begun : Option (List ℕ)) (x : SessionState) (ms : List Message) →
-    BehindFirst g (is_cut (is_caller (other s)) (carriers_of (with_holding s (acted_end pa.unit lines (end_at s p).end) h p))) begun x ms
-    (under_way (is_caller (other s)) n (carriers_of (with_holding s (acted_end pa.unit lines (end_at s p).end) h p))
-    (did_at s p b packet h lines pa).now) →
-    BehindFirst g (is_cut (is_caller (other s)) (carriers_of (with_holding s (acted_end pa.unit more (end_at s p).end) h p))) begun x ms
-    (under_way (is_caller (other s)) n (carriers_of (with_holding s (acted_end pa.unit more (end_at s p).end) h p))
-    (did_at s p b packet h more pa).now)
-unfolding did_at
-other_lines Left p b packet h n lines more pa g begun x ms way = way
-other_lines Right p b packet h n lines more pa g begun x ms way = way
 
 -- ---- all of it
 
@@ -176,14 +199,6 @@ over_holds s p n g x begun order h parts y at =
 pub over_stays : (x : Standing) (ms : List Message) → is_ended x.state.phase ≡ true → StaysCalm x.state ms
 over_stays x ms ended = over_calm x.state ms (implied is_ended is_over refl x.state.phase ended)
 
--- what is stated of the end that took it, apart from its connection
-pub record EndThen (s : Side) (p : TwoEnds) (e : End) : Type 0 where
-  pub lasts : e.carrier.ended ≡ None
-  pub local : e.carrier.local ≡ (end_at s p).end.carrier.local
-  pub role : e.carrier.is_caller ≡ (end_at s p).end.carrier.is_caller
-  pub order : IsInOrder e
-  pub waits : waiting_in e.lines ≡ []
-
 pub transport_before : (s : Side) (p : TwoEnds) (b : Between) (t : Tables) (e : End) (h : Held) (n : ℕ) (l : TableLine) → Stands p b t →
     Lasts s p → (d : DidAt s p b e h n) → IsSeen s n p b l → l.own.transport ≡ transport_by (before d.row)
 transport_before s p b t e h n l old alive d i = grind (arith, transport_at, before, was_at)
@@ -191,64 +206,3 @@ transport_before s p b t e h n l old alive d i = grind (arith, transport_at, bef
 pub line_same : (row : Row) (l : TableLine) → l.own.transport ≡ transport_by (after row) →
     line_then row l.own.session l.own.channel l.peer.channel l ≡ l
 line_same row l e = grind arith
-
-abbrev pub NextFor : Side → TwoEnds → Between → Tables → Value → Held → Rows Line → ℕ → List Shown → Tables → Between → Type 0
-NextFor s p b t u h lines n shown new now = Turned s p b t (acted_end u lines (end_at s p).end) h now new n shown
-
--- no message of the tables arrived: they stay
-pub quiet_unit : (s : Side) (p : TwoEnds) (b : Between) (t : Tables) (packet : List ℕ) (h : Held) → Stands p b t → Lasts s p →
-    (pa : PacketAt s p b packet h) →
-    (d : DidAt s p b (acted_end pa.unit (end_at s p).end.lines (end_at s p).end) h (reference_of pa.unit)) →
-    (at : FoundLine s (reference_of pa.unit) p b t) →
-    Goes (other s) s (reference_of pa.unit) (with_holding s (acted_end pa.unit (end_at s p).end.lines (end_at s p).end) h p) d.now
-    (after d.row) at.line.own.session.state at.line.peer.channel → before d.row ≡ after d.row → is_rest d.row ≡ true →
-    is_agree d.row ≡ false → leaves_use (before d.row) (after d.row) ≡ false →
-    ((broken : Bool) (channel : List Message) → sends_then d.row broken channel ≡ channel) → d.now.called.given ≤ d.now.caller.given →
-    EndThen s p (acted_end pa.unit (end_at s p).end.lines (end_at s p).end) →
-    NextFor s p b t pa.unit h (end_at s p).end.lines (reference_of pa.unit) [] t d.now
-quiet_unit s p b t packet h old alive pa d at back same rest agree stays sends behind new =
-    let n = reference_of pa.unit in
-    let e = acted_end pa.unit (end_at s p).end.lines (end_at s p).end in
-    let l = at.line in
-    let tr = transport_before s p b t e h n l old alive d at.is ∙ ap transport_by same in
-    finish s p b t t e h n [] l l.own.session l.own.channel l.peer.channel old alive d new.lasts new.local new.role pa.first.given behind
-    new.order new.waits (grind arith)
-    (session_rests n (end_at s p).end.lines d.row l.own.session rest (grind (arith, session_of_seat, before, was_at))) at.is
-    (assumption (
-      subst (λ (ms : List Message). Goes s (other s) n (with_holding s e h p) d.now
-          (progress_of (place_at n (last_of (is_caller (other s)) d.now))) l.peer.session.state ms) (sends t.broken l.own.channel)
-          (out_row s p b t e h n l old d at.is stays alive),
-      back,
-    ))
-    (subst (λ (m : TableLine). TablesAfter s n t t [] m) (sym (line_same d.row l tr)) (grind (arith, append-nil)))
-    (known_then s p b t e h n old alive d new.lasts pa.first.given agree)
-
--- one arrived, and no session received it
-pub rest_unit : (s : Side) (p : TwoEnds) (b : Between) (t : Tables) (packet : List ℕ) (h : Held) (got : carrier.Message) → Stands p b t →
-    Lasts s p → end_of (side_in s) t ≡ None → (pa : PacketAt s p b packet h) →
-    (d : DidAt s p b (acted_end pa.unit (end_at s p).end.lines (end_at s p).end) h (reference_of pa.unit)) →
-    (at : FoundLine s (reference_of pa.unit) p b t) (first : Message) (rest : List Message) → at.line.peer.channel ≡ first ∷ rest →
-    kind_of (message_in first) ≡ kind_of got →
-    Goes (other s) s (reference_of pa.unit) (with_holding s (acted_end pa.unit (end_at s p).end.lines (end_at s p).end) h p) d.now
-    (after d.row) at.line.own.session.state rest → arrived_in d.row ≡ got ∷ [] → is_rest d.row ≡ true → rests d.row ≡ true →
-    is_agree d.row ≡ false → is_awaited d.row ≡ false → leaves_use (before d.row) (after d.row) ≡ false →
-    d.now.called.given ≤ d.now.caller.given → EndThen s p (acted_end pa.unit (end_at s p).end.lines (end_at s p).end) →
-    NextFor s p b t pa.unit h (end_at s p).end.lines (reference_of pa.unit) []
-    (step t (delivers (side_in s) (reference_of pa.unit) (λ r. 0))) d.now
-rest_unit s p b t packet h got old alive lasting pa d at first others parts kind back one rest resting agree awaited stays behind new =
-    let n = reference_of pa.unit in
-    let e = acted_end pa.unit (end_at s p).end.lines (end_at s p).end in
-    let l = at.line in
-    let tr = transport_before s p b t e h n l old alive d at.is in
-    let line = line_then d.row l.own.session (sends_then d.row t.broken l.own.channel) others l in
-    let known = learns t.terms l.own.transport first t.known in
-    let turn = turn_rests (terms_at p) t.terms t.broken 0 d.row l first others got old.terms tr d.is resting one kind in
-    let is = step_opens t (side_in s) n (λ r. 0) l first others (unseen line) lasting at.found parts turn refl in
-    finish s p b t (step t (delivers (side_in s) n (λ r. 0))) e h n [] l l.own.session
-    (sends_then d.row t.broken l.own.channel) others old alive d new.lasts new.local new.role pa.first.given behind new.order new.waits
-    (grind arith)
-    (session_rests n (end_at s p).end.lines d.row l.own.session rest (grind (arith, session_of_seat, before, was_at))) at.is
-    (record { out = out_row s p b t e h n l old d at.is stays alive; back = back })
-    (grind (arith, tables_delivered s n (seen_from (side_in s) l) t known (unseen line) at.found))
-    (ap (λ (u : Tables). u.known) is ∙ learns_row d.row l.own.transport t.terms first t.known tr awaited
-    ∙ known_then s p b t e h n old alive d new.lasts pa.first.given agree)

@@ -5,10 +5,10 @@ use Rattle.osi_between.specs.Messages as carrier
 use Rattle.osi_machine.specs.Core as machine
 use Rattle.osi_machine.specs.Worlds as worlds
 use Rattle.osi_pair.proofs.Vocabulary.{◌≡◌, ℕ, Bool, true, false, if◌then◌else◌, List, [], ◌∷◌, ◌++◌, length, map, Option, Some, None, ◌⊎◌}
-use Rattle.osi_pair.proofs.Vocabulary.{arith, append-nil, kind_of, Terms, delivers, shown_at, connection_at, learns, Seat, Line, Turn}
-use Rattle.osi_pair.proofs.Vocabulary.{Tables, seen_from, unseen, without_first, message_taken, after_turn, stays, end_of, step, Message}
-use Rattle.osi_pair.proofs.Vocabulary.{Transport, agree, deny, over, put, with_same, with_other, with_count, Standing, side_in, message_in}
-use Rattle.osi_pair.proofs.Vocabulary.{terms_in, Word, Side, noted_in as noted}
+use Rattle.osi_pair.proofs.Vocabulary.{arith, append-nil, kind_of, Terms, delivers, shown_at, connection_at, learns, Line, Turn, Tables}
+use Rattle.osi_pair.proofs.Vocabulary.{seen_from, unseen, without_first, message_taken, after_turn, stays, end_of, step, Message, Transport}
+use Rattle.osi_pair.proofs.Vocabulary.{agree, deny, over, put, with_same, with_other, with_count, side_in, message_in, terms_in, Word, Side}
+use Rattle.osi_pair.proofs.Vocabulary.{noted_in as noted}
 use Rattle.osi_pair.proofs.turn.what_remains_when_a_unit_was_taken.{TablesAfter, line_then}
 use Rattle.osi_pair.proofs.flight.what_may_arrive_row_by_row.{Row, begins, refuses, agrees, denies, leaves, ignores, ends, before}
 use Rattle.osi_pair.proofs.flight.what_may_arrive_row_by_row.{arrived_in, is_row}
@@ -92,9 +92,6 @@ abbrev pub sends_then : Row → Bool → List Message → List Message
 sends_then begins broken channel = put broken (agree ∷ []) channel
 sends_then (refuses reason) broken channel = put broken (deny reason ∷ []) channel
 sends_then row broken channel = channel
-
-abbrev pub seat_now : Transport → Standing → List Message → Seat
-seat_now tr x channel = record { transport = tr; session = x; channel = channel }
 
 pub turn_rests : (agreed : Terms) (terms : worlds.Terms) (broken : Bool) (keep : ℕ) (row : Row) (l : Line) (m : Message) (xs : List Message)
     (got : carrier.Message) → terms ≡ terms_in agreed → l.own.transport ≡ transport_by (before row) → is_row agreed row → rests row ≡ true →

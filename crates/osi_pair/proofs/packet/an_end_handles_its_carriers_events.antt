@@ -7,7 +7,7 @@ use Rattle.osi_pair.proofs.Vocabulary.{◌≡◌, ℕ, true, List, [], ◌∷◌
 use Rattle.osi_pair.proofs.Vocabulary.{value_at, State as Carrier, Progress, IsInOctets, Input, Standing, react, is_ended, listening}
 use Rattle.osi_pair.proofs.Vocabulary.{awaits, carries_out, after_packet, attends, concludes, hears, with_carrier, told_all, kept_at}
 use Rattle.osi_pair.proofs.Vocabulary.{line_after, End, put_here, quiet_attends, packet_is, is_parting, quieted, put_row as put}
-use Rattle.osi_pair.proofs.Vocabulary.{EndLine as Line, quieted_at, one_heard}
+use Rattle.osi_pair.proofs.Vocabulary.{EndLine as Line, quieted_at, one_heard, Option, joining, sym}
 use Rattle.osi_pair.proofs.session.an_end_moves_as_the_tables_do.{as_made}
 use Rattle.osi_pair.proofs.packet.a_unit_at_rest_keeps_the_match.{acted_end}
 use Rattle.osi_pair.proofs.session.a_seat_is_its_progress_and_session.{transport_by, HasSession}
@@ -45,8 +45,14 @@ pub kept_then : (n : ℕ) (line was : Line) (x : Standing) (input : Input) (line
     kept_at n (quieted (lines_then n line x input lines)) ≡ Some (listening (react x input).next)
 kept_then n line was x input lines here = grind (arith, quieted_at, put_here, as_made)
 
-pub session_then : (n : ℕ) (line was : Line) (x : Standing) (input : Input) (lines : Rows Line) (g : Progress) →
-    value_at n lines ≡ Some was → (is_parting (transport_by g) ≡ true → is_ended (react x input).next.state.phase ≡ true) →
-    (transport_by g ≡ worlds.not_yet → (react x input).next ≡ awaits) → IfSome (react x input).next.waiting IsInOctets →
-    HasSession n (quieted (lines_then n line x input lines)) g (react x input).next
-session_then n line was x input lines g here ended waits octets = grind (arith, kept_then)
+pub has_session : (n : ℕ) (lines : Rows Line) (g : Progress) (x : Standing) (joined : Option (List ℕ)) →
+    kept_at n lines ≡ Some (joining joined x) → (is_parting (transport_by g) ≡ true → is_ended x.state.phase ≡ true) →
+    (transport_by g ≡ worlds.not_yet → x ≡ awaits) → IfSome x.waiting IsInOctets → HasSession n lines g x
+has_session n lines g x joined here ended waits octets = record {
+  joined = joined;
+  live = λ e. here;
+  kept = λ y at. (let same : Some (joining joined x) ≡ Some y = sym here ∙ at in cc);
+  over_now = ended;
+  awaiting = waits;
+  octets = octets;
+}

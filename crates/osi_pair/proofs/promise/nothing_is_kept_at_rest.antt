@@ -4,17 +4,11 @@
 use Rattle.osi_between.specs.Zero as zero
 use Rattle.osi_pair.proofs.Vocabulary.{◌≡◌, refl, sym, ◌∙◌, ap, ℕ, Bool, true, false, if◌then◌else◌, List, [], ◌∷◌, ◌++◌, Option, Some}
 use Rattle.osi_pair.proofs.Vocabulary.{None, is_some, arith, none_open, at_one, first_here, eqb-true, sum_by-cons, Value, absent, begun_by}
-use Rattle.osi_pair.proofs.Vocabulary.{kept_in, Place, was_given, RiseFrom, Rows, value_at, Connection, State, linked, within_given}
-use Rattle.osi_pair.proofs.Vocabulary.{AreJoinedBy, at_end, from_end, Terms, by_two, by_zero, refusing, Listener, kept_at, joined_of}
-use Rattle.osi_pair.proofs.Vocabulary.{joined_live, joined_in, Link as Standing, EndLine as Line, kept_first}
+use Rattle.osi_pair.proofs.Vocabulary.{kept_in, RiseFrom, Rows, value_at, Connection, State, linked, within_given, AreJoinedBy, Terms}
+use Rattle.osi_pair.proofs.Vocabulary.{by_two, by_zero, refusing, Listener, kept_at, joined_of, joined_live, joined_in, Link as Standing}
+use Rattle.osi_pair.proofs.Vocabulary.{EndLine as Line, kept_first}
 
 -- ---- a connection that is open at one end
-
--- it is open at this place
-record IsLinked (place : Place) : Type 0 where
-  peer : ℕ
-  link : Standing
-  is : place ≡ was_given (Some (linked peer link))
 
 pub record IsLinkedAt (n : ℕ) (s : State) : Type 0 where
   pub peer : ℕ
@@ -29,30 +23,24 @@ last_there (v ∷ us) u e = cc
 one_linked : (n : ℕ) (s : State) (x : Standing) → n ≡ 1 → s.live ≡ (1, linked 1 x) ∷ [] → IsLinkedAt n s
 one_linked n s x e live = record { peer = 1; link = x; live = ap (value_at n) live ∙ ap (λ (m : ℕ). value_at m ((1, linked 1 x) ∷ [])) e }
 
-zero_there : (s r : State) (n p : ℕ) (x : Standing) (g : zero.ZeroCourse) → zero.HasOne s (zero.at_end true g) →
-    zero.HasOne r (zero.at_end false g) → value_at n s.live ≡ Some (linked p x) → IsLinkedAt n r
-zero_there s r n p x g one other at = grind (arith, one_linked, at_one)
+zero_across : (end : Bool) (s r : State) (n p : ℕ) (x : Standing) (g : zero.ZeroCourse) → zero.HasOne s (zero.at_end true g) →
+    zero.HasOne r (zero.at_end false g) → [] ≡ zero.from_end false r.local g →
+    value_at n (if end then s else r).live ≡ Some (linked p x) → IsLinkedAt n (if end then r else s)
+zero_across end s r n p x g one other back at = grind (arith, one_linked, at_one)
 
-zero_here : (s r : State) (n p : ℕ) (x : Standing) (g : zero.ZeroCourse) → zero.HasOne s (zero.at_end true g) →
-    zero.HasOne r (zero.at_end false g) → [] ≡ zero.from_end false r.local g → value_at n r.live ≡ Some (linked p x) → IsLinkedAt n s
-zero_here s r n p x g one other back at = grind (arith, one_linked, at_one)
-
--- whatever they agree on
-pub open_there : (terms : Terms) (s r : State) (n p : ℕ) (x : Standing) → AreJoinedBy terms s r [] [] →
-    value_at n s.live ≡ Some (linked p x) → IsLinkedAt n r
-open_there by_two s r n p x j at =
+-- a connection that is open at one end is open at the other, whatever they agree on
+pub open_across : (end : Bool) (terms : Terms) (s r : State) (n p : ℕ) (x : Standing) → AreJoinedBy terms s r [] [] →
+    value_at n (if end then s else r).live ≡ Some (linked p x) → IsLinkedAt n (if end then r else s)
+open_across true by_two s r n p x j at =
     let st = j.stands n (within_given n s (linked p x) j.orderly at).0 in
     grind (arith, last_there)
-open_there by_zero s r n p x j at = zero_there s r n p x j.course j.one j.one_called at
-open_there (refusing reason) s r n p x j at = absurd (none_open s j.stage n p x j.live at)
-
-pub open_here : (terms : Terms) (s r : State) (n p : ℕ) (x : Standing) → AreJoinedBy terms s r [] [] →
-    value_at n r.live ≡ Some (linked p x) → IsLinkedAt n s
-open_here by_two s r n p x j at =
+open_across false by_two s r n p x j at =
     let st = j.stands n (within_given n r (linked p x) j.orderly_called at).0 in
     grind (arith, last_there)
-open_here by_zero s r n p x j at = zero_here s r n p x j.course j.one j.one_called j.coming at
-open_here (refusing reason) s r n p x j at = absurd (let no : None ≡ Some (linked p x) = sym (ap (value_at n) j.live_called) ∙ at in cc)
+open_across end by_zero s r n p x j at = zero_across end s r n p x j.course j.one j.one_called j.coming at
+open_across true (refusing reason) s r n p x j at = absurd (none_open s j.stage n p x j.live at)
+open_across false (refusing reason) s r n p x j at =
+    absurd (let no : None ≡ Some (linked p x) = sym (ap (value_at n) j.live_called) ∙ at in cc)
 
 -- ---- the octets of all connections
 

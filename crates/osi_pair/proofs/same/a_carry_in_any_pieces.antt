@@ -39,14 +39,11 @@ plain_goes old new piece used (inl (inl d)) = grind arith
 plain_goes old new piece used (inl (inr d)) = grind arith
 plain_goes old new piece used (inr d) = inr (search arith)
 
-no_want : {D R M : Type 0} → D ⊎ R → D ⊎ (R ⊎ M)
-no_want h = grind arith
-
 plain_call : (call : Call) (old new : Holding) → Calls old call new → HasRoom old call new → Calls (plain old) call (plain new)
 plain_call (feeding piece fed) old new h room = record {
   over = λ over. let done = h.over over in (done.0, ap plain done.1);
   waiting = λ lasts waits. let done = h.waiting lasts waits in (done.0, ap plain done.1);
-  goes = λ goes. no_want (plain_goes old new piece fed.used (room goes));
+  goes = λ goes. (let done = plain_goes old new piece fed.used (room goes) in grind arith);
   whole = h.whole;
   bound = h.bound;
   progress = h.progress;
@@ -56,8 +53,7 @@ plain_call (carrying octets) old new h room = ap plain h
 
 plain_room : (call : Call) (old new : Holding) → HasRoom old call new → HasRoom (plain old) call (plain new)
 plain_room (feeding piece fed) old new room = λ goes. plain_goes old new piece fed.used (room goes)
-plain_room (telling shown) old new room = tt
-plain_room (carrying octets) old new room = tt
+plain_room call old new room = tt
 
 plain_calls : (calls : List Call) (old new : Holding) → CallsInRoom old calls new → CallsInRoom (plain old) calls (plain new)
 plain_calls [] old new h = ap plain h

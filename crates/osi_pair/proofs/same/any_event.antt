@@ -1,18 +1,16 @@
 -- The same event leads two pairs of ends in the same state to the same state, if memory suffices.
 -- For the laws of `standing`.
-use Rattle.osi_pair.proofs.Vocabulary.{◌≡◌, ℕ, ◌+◌, List, [], ◌∷◌, ◌++◌, Option, Some, None, sym, ap, ap₂, subst, IsSameEnd, AreSameEnds}
+use Rattle.osi_session.specs.Listening.{called}
+use Rattle.osi_pair.specs.declared.events.Event.TheVariants.{Call}
+use Rattle.osi_pair.specs.Entries.{calls}
+use Rattle.osi_stack.specs.Calls.{breaks, connects as asks_for}
+use Rattle.osi_pair.proofs.Vocabulary.{◌≡◌, ℕ, List, [], ◌∷◌, ◌++◌, Option, Some, None, sym, ap, ap₂, subst, IsSameEnd, AreSameEnds}
 use Rattle.osi_pair.proofs.Vocabulary.{FoundMemory, EndReason, Call as Asked, CallError, call_error, to_session, End, Holding, ConnectError}
 use Rattle.osi_pair.proofs.Vocabulary.{TwoEnds, end_at, connected_by, called_by_error, after_connect, after_call, CarriesFrom, Entry, Does}
 use Rattle.osi_pair.proofs.Vocabulary.{IsToldOfBreak, TellsBreak, IsReached, waiting_in, quieted, Event, Connect, Carry, Break, Told, Side}
 use Rattle.osi_pair.proofs.Vocabulary.{Left, Right, ConnectCall as Wanted, append-nil, arith}
-use Rattle.osi_session.specs.Listening.{called}
-use Rattle.osi_session.specs.declared.faults.CallError.TheVariants as refused
-use Rattle.osi_pair.specs.declared.events.Event.TheVariants.{Call}
-use Rattle.osi_pair.specs.Entries.{calls}
-use Rattle.osi_stack.specs.Calls.{breaks, connects as asks_for}
 use Rattle.osi_pair.proofs.same.a_carry_in_any_pieces.{same_at, same_moved}
 use Rattle.osi_pair.proofs.packet.a_packet_is_one_delivery_or_none.{quiet_of}
-use Rattle.osi_pair.proofs.promise.matching_ends_keep_the_promises.{tables_at}
 use Rattle.osi_pair.proofs.session.an_end_with_nothing_pending.{quiet_same}
 
 same_ends : (p q a b : TwoEnds) → AreSameEnds p q → a ≡ p → b ≡ q → AreSameEnds a b
@@ -24,15 +22,12 @@ connect_does : Option ConnectError → Wanted → End → End
 connect_does None c e = asks_for c e
 connect_does (Some error) c e = e
 
-connected_end : (o : Option ConnectError) (c : Wanted) (h : Holding) → (connected_by o c h).end ≡ connect_does o c h.end
+connected_is : (o : Option ConnectError) (c : Wanted) (h : Holding) → connected_by o c h ≡ record h { end = connect_does o c h.end }
 unfolding connect_does
-connected_end o c h = grind arith
-
-connected_offset : (o : Option ConnectError) (c : Wanted) (h : Holding) → (connected_by o c h).held ≡ h.held
-connected_offset o c h = grind arith
+connected_is o c h = grind arith
 
 same_connect : (c : Wanted) (p q : TwoEnds) → AreSameEnds p q → AreSameEnds (after_connect c p) (after_connect c q)
-same_connect c p q h = grind (arith, connected_offset, connected_end, connect_does)
+same_connect c p q h = grind (arith, connected_is, connect_does)
 
 -- ---- a call
 
@@ -105,4 +100,4 @@ same_event law (Connect asked) p q a b octets at there later too h x y found mem
 same_event law (Call side reference request) p q a b octets at there later too h x y found memory = grind (arith, same_ends, same_call)
 same_event law (Carry side most) p q a b octets at there later too h x y found memory = search arith
 same_event law (Break left right) p q a b octets at there later too h x y found memory = grind (arith, same_ends)
-same_event law (Told side) p q a b octets at there later too h x y found memory = search (arith, same_told, quiet_of, tables_at)
+same_event law (Told side) p q a b octets at there later too h x y found memory = search (arith, same_told, quiet_of)

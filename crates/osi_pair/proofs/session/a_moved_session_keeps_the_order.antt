@@ -61,12 +61,3 @@ moves_order e c n line l heard m o alive orderly none lasts more apart here is s
       came = subst (λ (z : End). AllCameAbout z.lines) (session_moves n heard mid line l m here is so)
           (session_all CameAbout n heard mid (came_moves heard numbered) o.came);
     }
-
-pub acted_order : (e : End) (c : Carrier) (n : ℕ) (line : Line) (l : Listener) (x : Standing) (heard : words.Input) (input : Input) →
-    IsInOrder e → e.carrier.ended ≡ None → IsOrderly c → c.events ≡ [] → c.ended ≡ None → e.carrier.given ≤ c.given →
-    ((q : ℕ) → q ≢ n → value_at q c.live ≡ value_at q e.carrier.live) → value_at n e.lines ≡ Some line → line.session ≡ Some l →
-    words.react l heard ≡ as_made (react x input) → HasNumbersInWords heard →
-    (needs_link (react x input).next.state.phase ≡ true → is_open n c ≡ true) →
-    IsInOrder (record { carrier = c; lines = lines_then n (noted l heard line) x input e.lines })
-acted_order e c n line l x heard input o alive orderly none lasts more apart here is so numbered opens =
-    moves_order e c n line l heard (as_made (react x input)) o alive orderly none lasts more apart here is so numbered opens

@@ -37,7 +37,7 @@ quiet_order e o = grind (arith, quieted_apart, quieted_up, quieted_at, quiet_ris
 
 -- ---- what one session indicates
 
-abbrev of_one : ℕ → List Shown → List (ℕ × Shown)
+abbrev pub of_one : ℕ → List Shown → List (ℕ × Shown)
 of_one n shown = map (λ x. (n, x)) shown
 
 put_by : (n r : ℕ) (line was there : Line) (move : Move) (lines : Rows Line) (b : Bool) → (r == n) ≡ b → was.waiting ≡ line.waiting →

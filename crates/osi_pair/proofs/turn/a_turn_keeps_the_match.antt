@@ -2,14 +2,14 @@
 -- For what is in flight, sessions, turns, calls, breaks and ends, packets and carries.
 use Rattle.osi_machine.specs.Core as machine
 use Rattle.osi_machine.specs.Machine as entries
-use Rattle.osi_pair.proofs.Vocabulary.{◌≡◌, ◌≢◌, ℕ, ◌≤◌, ◌==◌, Bool, true, false, List, [], ◌∷◌, ◌++◌, length, map, Some, None, is_some}
-use Rattle.osi_pair.proofs.Vocabulary.{option_map, refl, sym, ap, subst, ◌∙◌, not, ◌<◌, arith, eqb-true, eq-eqb, map-append, Held, place_at}
-use Rattle.osi_pair.proofs.Vocabulary.{value_at, Between, AreBetween, last_of, under_way, is_cut, progress_of, terms_of, Local, shown_at}
-use Rattle.osi_pair.proofs.Vocabulary.{connection_at, Seat, Line, Tables, seen_from, Listener, Shown, kept_at, End, Holding, TwoEnds}
-use Rattle.osi_pair.proofs.Vocabulary.{end_at, with_end, noted, Entry, other, side_in, is_caller, ending_in, terms_in, class_in, entry_in}
-use Rattle.osi_pair.proofs.Vocabulary.{carriers_of, IsSeated, IsUnderWay, IsLine, HasLine, IsInOrder, Stands, HasJoined, AreUnderWay, Goes}
-use Rattle.osi_pair.proofs.Vocabulary.{waiting_in, shown_entries, Side, Left, Right, Progress, Message, SessionState}
-use Rattle.osi_pair.proofs.flight.whether_something_is_cut_off.{Lasts}
+use Rattle.osi_pair.proofs.Vocabulary.{◌≡◌, ◌≢◌, ℕ, ◌≤◌, Bool, true, List, [], ◌∷◌, ◌++◌, length, map, Some, None, is_some, option_map}
+use Rattle.osi_pair.proofs.Vocabulary.{refl, sym, ap, subst, ◌∙◌, not, ◌<◌, arith, map-append, Held, place_at, value_at, Between}
+use Rattle.osi_pair.proofs.Vocabulary.{AreBetween, last_of, under_way, is_cut, progress_of, terms_of, shown_at, connection_at, Seat, Line}
+use Rattle.osi_pair.proofs.Vocabulary.{Tables, seen_from, Listener, Shown, kept_at, End, Holding, TwoEnds, end_at, with_end, noted, Entry}
+use Rattle.osi_pair.proofs.Vocabulary.{other, side_in, is_caller, class_in, entry_in, carriers_of, IsSeated, IsUnderWay, IsLine, HasLine}
+use Rattle.osi_pair.proofs.Vocabulary.{IsInOrder, Stands, HasJoined, AreUnderWay, Goes, waiting_in, shown_entries, Side, Left, Right}
+use Rattle.osi_pair.proofs.Vocabulary.{Progress, Message, SessionState}
+use Rattle.osi_pair.proofs.flight.whether_something_is_cut_off.{Lasts, this_or_other}
 use Rattle.osi_pair.proofs.flight.what_is_in_flight_when_an_end_acts.{way_same}
 
 -- ---- a connection, seen from one of its sides
@@ -30,6 +30,10 @@ unseen Right n p b l h = record { left = h.there; right = h.here; rightward = h.
 
 pub seen_twice : (s : machine.Side) (l : Line) → seen_from s (seen_from s l) ≡ l
 seen_twice s l = grind arith
+
+-- whatever its channel
+pub still_seated : (n : ℕ) (h : Holding) (seat : Seat) (ms : List Message) → IsSeated n h seat → IsSeated n h (record seat { channel = ms })
+still_seated n h seat ms s = grind arith
 
 -- ---- the end of a side is another
 
@@ -60,6 +64,19 @@ pub back_here : (s : Side) (p : TwoEnds) (c : Between) (e : End) (h : Held) (n :
     GoesTo (other s) (record { end = e; held = h }) n (with_holding s e h p) c g x ms → Goes (other s) s n (with_holding s e h p) c g x ms
 back_here s p c e h n g x ms way = grind (arith, holding_here)
 
+pub seen_with : (s : Side) (p : TwoEnds) (c : Between) (e : End) (h : Held) (n : ℕ) (l : Line) →
+    IsSeated n (record { end = e; held = h }) l.own → IsSeated n (end_at (other s) p) l.peer →
+    GoesTo s (end_at (other s) p) n (with_holding s e h p) c (progress_of (place_at n (last_of (is_caller (other s)) c)))
+    l.peer.session.state l.own.channel →
+    GoesTo (other s) (record { end = e; held = h }) n (with_holding s e h p) c (progress_of (place_at n (last_of (is_caller s) c)))
+    l.own.session.state l.peer.channel → IsSeen s n (with_holding s e h p) c l
+seen_with s p c e h n l here there out back = record {
+  here = subst (λ (y : Holding). IsSeated n y l.own) (sym (holding_here s e h p)) here;
+  there = subst (λ (y : Holding). IsSeated n y l.peer) (sym (holding_there s e h p)) there;
+  out = out_there s p c e h n _ _ _ out;
+  back = back_here s p c e h n _ _ _ back;
+}
+
 -- what stays of all other connections
 pub record Others (s : Side) (p : TwoEnds) (b : Between) (e : End) (h : Held) (c : Between) (n : ℕ) : Type 0 where
   pub places : (q : ℕ) → q ≢ n → place_at q e.carrier ≡ place_at q (end_at s p).end.carrier
@@ -77,20 +94,10 @@ other_seated s p b e h c n q seat apart o i = grind arith
 pub other_seen : (s : Side) (p : TwoEnds) (b : Between) (e : End) (h : Held) (c : Between) (n q : ℕ) (l : Line) → q ≢ n → Lasts s p →
     Others s p b e h c n → IsSeen s q p b l → IsSeen s q (with_holding s e h p) c l
 other_seen s p b e h c n q l apart alive o i =
-    let p2 = with_holding s e h p in
-    record {
-      here = subst (λ (x : Holding). IsSeated q x l.own) (sym (holding_here s e h p)) (other_seated s p b e h c n q l.own apart o i.here);
-      there = subst (λ (x : Holding). IsSeated q x l.peer) (sym (holding_there s e h p)) i.there;
-      out = out_there s p c e h q (progress_of (place_at q (last_of (is_caller (other s)) c))) l.peer.session.state l.own.channel
-          (grind (arith, way_same));
-      back = back_here s p c e h q (progress_of (place_at q (last_of (is_caller s) c))) l.own.session.state l.peer.channel
-          (way_same (end_at s p).end.carrier.ended e.carrier.ended _ _ (is_cut (is_caller (other s)) (carriers_of p))
-          (is_cut (is_caller (other s)) (carriers_of p2)) (HasJoined q (end_at s p))
-          (HasJoined q (record { end = e; held = h })) l.own.session.state l.peer.channel
-          (under_way (is_caller (other s)) q (carriers_of p) b) (under_way (is_caller (other s)) q (carriers_of p2) c) (λ x. alive)
-          (ap progress_of (o.last q apart)) (grind arith) (λ x held y at. held y (o.kept q apart y at))
-          (o.ways q apart (is_caller (other s))) i.back);
-    }
+    seen_with s p c e h q l (other_seated s p b e h c n q l.own apart o i.here) i.there (grind (arith, way_same))
+    (way_same (end_at s p).end.carrier.ended _ _ _ _ _ (HasJoined q (end_at s p)) _ _ _ _ _ (λ x. alive)
+    (ap progress_of (o.last q apart)) (grind arith) (λ x held y at. held y (o.kept q apart y at)) (o.ways q apart (is_caller (other s)))
+    i.back)
 
 -- ---- the lines
 
@@ -100,32 +107,46 @@ pub record LinesAfter (s : Side) (n : ℕ) (line : Line) (t u : Tables) : Type 0
   pub found : connection_at n u.lines ≡ Some (seen_from (side_in s) line)
   pub others : (q : ℕ) → q ≢ n → connection_at q u.lines ≡ connection_at q t.lines
 
-lines_by : (s : Side) (p : TwoEnds) (b : Between) (e : End) (h : Held) (c : Between) (n q : ℕ) (line : Line) (t u : Tables) (same : Bool) →
-    (q == n) ≡ same → Lasts s p → Others s p b e h c n → IsSeen s n (with_holding s e h p) c line → LinesAfter s n line t u →
-    HasLine q p b t → HasLine q (with_holding s e h p) c u
-lines_by s p b e h c n q line t u true f alive o i a old = grind (arith, eqb-true q n f, unseen s n (with_holding s e h p) c line i)
-lines_by s p b e h c n q line t u false f alive o i a old =
-    let apart : q ≢ n = λ same. (let no_way : true ≡ false = sym (eq-eqb q n same) ∙ f in cc) in
-    record {
+line_then : (s : Side) (p : TwoEnds) (b : Between) (e : End) (h : Held) (c : Between) (n q : ℕ) (line : Line) (t u : Tables) → Lasts s p →
+    Others s p b e h c n → IsSeen s n (with_holding s e h p) c line → LinesAfter s n line t u → HasLine q p b t →
+    HasLine q (with_holding s e h p) c u
+line_then s p b e h c n q line t u alive o i a old =
+    this_or_other n q (λ m. HasLine m (with_holding s e h p) c u)
+    (record { line = seen_from (side_in s) line; found = a.found; is = unseen s n (with_holding s e h p) c line i })
+    (λ apart. record {
       line = old.line;
       found = a.others q apart ∙ old.found;
       is = subst (λ (l : Line). IsLine q (with_holding s e h p) c l) (seen_twice (side_in s) old.line)
           (search (arith, unseen, other_seen, seen));
-    }
+    })
 
 -- ---- the journal
 
-shown_says : (s : Side) (n : ℕ) (shown : List Shown) →
+pub shown_says : (s : Side) (n : ℕ) (shown : List Shown) →
     map Some (map (shown_at (side_in s) n) shown) ≡ map entry_in (shown_entries s (map (λ x. (n, x)) shown))
 shown_says s n [] = refl
 shown_says s n (x ∷ shown) = ap (λ l. Some (shown_at (side_in s) n x) ∷ l) (shown_says s n shown)
 
-pub says_more : (s : Side) (n : ℕ) (shown : List Shown) (before : List entries.Entry) (journal : List Entry) →
-    map Some before ≡ map entry_in journal →
-    map Some (before ++ map (shown_at (side_in s) n) shown) ≡ map entry_in (journal ++ shown_entries s (map (λ x. (n, x)) shown))
-says_more s n shown before journal e = grind (arith, map-append, shown_says)
+-- one that continues as the other does
+pub journals_join : (old more : List entries.Entry) (before said : List Entry) → map Some old ≡ map entry_in before →
+    map Some more ≡ map entry_in said → map Some (old ++ more) ≡ map entry_in (before ++ said)
+journals_join old more before said e f = grind (arith, map-append)
 
 -- ---- two ends
+
+-- the references and the class that the ends have then
+pub record GivenAfter (s : Side) (p : TwoEnds) (t : Tables) (e : End) (h : Held) (c : Between) : Type 0 where
+  pub given : (with_holding s e h p).left.end.carrier.given ≡ p.left.end.carrier.given
+  pub given_back : (with_holding s e h p).right.end.carrier.given ≤ length t.lines
+  pub given_then : c.caller.given ≡ (with_holding s e h p).left.end.carrier.given
+  pub class_then : c.caller.class ≡ (with_holding s e h p).left.end.carrier.class
+
+-- the terms, and which side has ended, stay
+pub record TablesStay (t u : Tables) : Type 0 where
+  pub terms : u.terms ≡ t.terms
+  pub broken : u.broken ≡ t.broken
+  pub left_end : u.left_end ≡ t.left_end
+  pub right_end : u.right_end ≡ t.right_end
 
 -- An end (`e`, with what it holds) acted for a connection and goes on; its user received `shown`; and the tables
 -- are `u`.
@@ -136,14 +157,8 @@ pub record Turned (s : Side) (p : TwoEnds) (b : Between) (t : Tables) (e : End) 
   pub local : e.carrier.local ≡ (end_at s p).end.carrier.local
   pub is_caller : e.carrier.is_caller ≡ (end_at s p).end.carrier.is_caller
   pub known : u.known ≡ option_map class_in (with_holding s e h p).left.end.carrier.class
-  pub given : (with_holding s e h p).left.end.carrier.given ≡ p.left.end.carrier.given
-  pub given_then : c.caller.given ≡ (with_holding s e h p).left.end.carrier.given
-  pub class_then : c.caller.class ≡ (with_holding s e h p).left.end.carrier.class
-  pub given_back : (with_holding s e h p).right.end.carrier.given ≤ length t.lines
-  pub terms : u.terms ≡ t.terms
-  pub broken : u.broken ≡ t.broken
-  pub left_end : u.left_end ≡ t.left_end
-  pub right_end : u.right_end ≡ t.right_end
+  pub gives : GivenAfter s p t e h c
+  pub stay : TablesStay t u
   pub journal : u.journal ≡ t.journal ++ map (shown_at (side_in s) n) shown
   pub line : Line
   pub lines : LinesAfter s n line t u
@@ -157,21 +172,9 @@ turned_pair s e h n shown p = noted (shown_entries s (map (λ x. (n, x)) shown))
 
 pub turned_stands : (s : Side) (p : TwoEnds) (b : Between) (t : Tables) (e : End) (h : Held) (c : Between) (u : Tables) (n : ℕ)
     (shown : List Shown) → Stands p b t → Lasts s p → Turned s p b t e h c u n shown → Stands (turned_pair s e h n shown p) c u
-turned_stands Left p b t e h c u n shown old alive x =
-    let terms = x.terms ∙ old.terms ∙ ap (λ (l : Local). terms_in (terms_of l p.right.end.carrier.local)) (sym x.local) in
-    let left_end = ap (option_map Some) x.left_end ∙ old.left_end ∙ ap (option_map ending_in) (alive ∙ sym x.lasts) in
-    let right_end = ap (option_map Some) x.right_end ∙ old.right_end in
-    let journal = ap (map Some) x.journal ∙ says_more Left n shown t.journal p.journal old.journal in
-    let lines : (q : ℕ) → 0 < q → q ≤ length u.lines → HasLine q (turned_pair Left e h n shown p) c u =
-    λ q some le. (let was = old.lines q some (subst (λ (k : ℕ). q ≤ k) x.lines.count le) in
-    grind (arith, lines_by Left p b e h c n q x.line t u (q == n) refl alive x.others x.is x.lines was)) in
-    grind arith
-turned_stands Right p b t e h c u n shown old alive x =
-    let terms = x.terms ∙ old.terms ∙ ap (λ (l : Local). terms_in (terms_of p.left.end.carrier.local l)) (sym x.local) in
-    let left_end = ap (option_map Some) x.left_end ∙ old.left_end in
-    let right_end = ap (option_map Some) x.right_end ∙ old.right_end ∙ ap (option_map ending_in) (alive ∙ sym x.lasts) in
-    let journal = ap (map Some) x.journal ∙ says_more Right n shown t.journal p.journal old.journal in
-    let lines : (q : ℕ) → 0 < q → q ≤ length u.lines → HasLine q (turned_pair Right e h n shown p) c u =
-    λ q some le. (let was = old.lines q some (subst (λ (k : ℕ). q ≤ k) x.lines.count le) in
-    grind (arith, lines_by Right p b e h c n q x.line t u (q == n) refl alive x.others x.is x.lines was)) in
+turned_stands s p b t e h c u n shown old alive x =
+    let journal = ap (map Some) x.journal ∙ journals_join t.journal _ p.journal _ old.journal (shown_says s n shown) in
+    let lines : (q : ℕ) → 0 < q → q ≤ length u.lines → HasLine q (turned_pair s e h n shown p) c u = λ q some le.
+    let was = old.lines q some (subst (λ (k : ℕ). q ≤ k) x.lines.count le) in
+    grind (arith, line_then s p b e h c n q x.line t u alive x.others x.is x.lines was) in
     grind arith

@@ -2,23 +2,20 @@
 -- For turns, calls, breaks and ends and packets.
 use Rattle.osi_between.specs.Messages as carrier
 use Rattle.osi_machine.specs.Machine as entries
-use Rattle.osi_pair.proofs.Vocabulary.{◌≡◌, refl, sym, ◌∙◌, subst, ℕ, zero, suc, ◌<◌, ◌≤◌, Bool, true, false, nat_le, List, [], ◌∷◌, ◌++◌}
-use Rattle.osi_pair.proofs.Vocabulary.{length, map, Option, Some, None, is_some, IsSome, arith, leb-true, leb-false, map-append}
-use Rattle.osi_pair.proofs.Vocabulary.{AllByRecursion, was_given, place_at, value_at, State as Carrier, Between, Carries, last_of}
-use Rattle.osi_pair.proofs.Vocabulary.{under_way, put_in, is_cut, progress_of, Terms, terms_of, connection_at, Step, HasNumber, Seat, Line}
-use Rattle.osi_pair.proofs.Vocabulary.{Tables, step, run, start, Message, put, Holding, TwoEnds, end_at, noted, Entry, other, is_caller}
-use Rattle.osi_pair.proofs.Vocabulary.{terms_in, carriers_of, entry_in, IsUnderWay, IsInOrder, IsLine, Stands, StandsAt, Goes, word_in}
-use Rattle.osi_pair.proofs.Vocabulary.{HasJoined, HasLine, waiting_in, Word, Side, Left, Right, StaysCalm, noted_in}
-use Rattle.osi_pair.proofs.flight.whether_something_is_cut_off.{cut_none, Lasts}
+use Rattle.osi_pair.proofs.Vocabulary.{inl, inr, ap, ◌≡◌, refl, sym, ◌∙◌, subst, ℕ, ◌<◌, ◌≤◌, Bool, List, [], ◌∷◌, ◌++◌, length, map}
+use Rattle.osi_pair.proofs.Vocabulary.{Option, Some, None, is_some, IsSome, arith, AllByRecursion, was_given, place_at, value_at}
+use Rattle.osi_pair.proofs.Vocabulary.{State as Carrier, Between, Carries, last_of, AreLike, connection_in, under_way, put_in, is_cut}
+use Rattle.osi_pair.proofs.Vocabulary.{progress_of, Terms, terms_of, connection_at, Step, HasNumber, Seat, Line, Tables, step, run, start}
+use Rattle.osi_pair.proofs.Vocabulary.{Message, put, Holding, TwoEnds, end_at, noted, Entry, other, is_caller, terms_in, carriers_of}
+use Rattle.osi_pair.proofs.Vocabulary.{entry_in, IsUnderWay, IsInOrder, IsLine, Stands, StandsAt, Goes, word_in, HasJoined, HasLine}
+use Rattle.osi_pair.proofs.Vocabulary.{waiting_in, Word, Side, StaysCalm, noted_in}
+use Rattle.osi_pair.proofs.flight.whether_something_is_cut_off.{cut_none, Lasts, IsWithin}
 use Rattle.osi_pair.proofs.packet.a_unit_with_which_no_session_acts.{unless_broken, put_unless, words_put, put_spare}
 use Rattle.osi_pair.proofs.flight.what_is_in_flight_when_an_end_acts.{as_now, out_puts, like_alike}
-use Rattle.osi_pair.proofs.turn.a_turn_keeps_the_match.{GoesTo}
+use Rattle.osi_pair.proofs.turn.a_turn_keeps_the_match.{GoesTo, still_there, journals_join}
 use Rattle.osi_pair.proofs.words.added_and_cut_words_are_messages.{AreWords}
 
 -- ---- what is in flight from the end that acted
-
-reach_in : (p : TwoEnds) (broken : Bool) → broken ≡ is_some p.reach → is_some (carriers_of p).reach ≡ broken
-reach_in p broken e = grind arith
 
 pub out_way : (terms : Terms) (side : Side) (r : ℕ) (p new : TwoEnds) (b c : Between) (words : List Word) (more channel : List Message)
     (broken : Bool) (seat to : Seat) → AreWords words more →
@@ -26,32 +23,22 @@ pub out_way : (terms : Terms) (side : Side) (r : ℕ) (p new : TwoEnds) (b c : B
     k.gone ≡ [] → end_at (other side) new ≡ end_at (other side) p → Lasts side p → new.reach ≡ p.reach →
     Goes side (other side) r p b (progress_of (place_at r (last_of (is_caller (other side)) b))) to.session.state channel →
     seat.channel ≡ put broken more channel → IsUnderWay side (other side) r new c seat to
-out_way terms Left r p new b c words more channel broken seat to are k reach none there alive same was is =
-    let lasts = p.right.end.carrier.ended in
-    subst (λ (x : Holding). GoesTo Left x r new c (progress_of (place_at r c.called)) to.session.state seat.channel) (sym there)
-    (subst (λ (s : Carrier). GoesTo Left p.right r new c (progress_of (place_at r s)) to.session.state seat.channel) (sym k.there)
-    (subst (λ (ms : List Message). GoesTo Left p.right r new c (progress_of (place_at r b.called)) to.session.state ms)
-    (sym (is ∙ put_unless broken more channel))
-    (out_puts lasts (place_at r b.called) (is_cut true (carriers_of p)) (is_cut true (carriers_of new))
-    (HasJoined r p.right) to.session.state channel (unless_broken broken more) (words_put broken words)
-    (under_way true r (carriers_of p) b)
-    (under_way true r (carriers_of new) c) k.stays k.gone (put_in (carriers_of p) (map word_in words)) was (grind arith)
-    (put_spare broken (is_cut true (carriers_of p)) words (cut_none Left p broken reach alive))
-    (grind arith) k.before k.after none
-    (grind arith))))
-out_way terms Right r p new b c words more channel broken seat to are k reach none there alive same was is =
-    let lasts = p.left.end.carrier.ended in
-    subst (λ (x : Holding). GoesTo Right x r new c (progress_of (place_at r c.caller)) to.session.state seat.channel) (sym there)
-    (subst (λ (s : Carrier). GoesTo Right p.left r new c (progress_of (place_at r s)) to.session.state seat.channel) (sym k.there)
-    (subst (λ (ms : List Message). GoesTo Right p.left r new c (progress_of (place_at r b.caller)) to.session.state ms)
-    (sym (is ∙ put_unless broken more channel))
-    (out_puts lasts (place_at r b.caller) (is_cut false (carriers_of p)) (is_cut false (carriers_of new))
-    (HasJoined r p.left) to.session.state channel (unless_broken broken more) (words_put broken words)
-    (under_way false r (carriers_of p) b)
-    (under_way false r (carriers_of new) c) k.stays k.gone (put_in (carriers_of p) (map word_in words)) was (grind arith)
-    (put_spare broken (is_cut false (carriers_of p)) words (cut_none Right p broken reach alive))
-    (grind arith) k.before k.after none
-    (grind arith))))
+out_way terms side r p new b c words more channel broken seat to are k reach none there alive same was is =
+    let taker = end_at (other side) p in
+    let place = place_at r (last_of (is_caller (other side)) b) in
+    let x = to.session.state in
+    let sends = is_caller side in
+    let puts = put_in (carriers_of p) (map word_in words) in
+    let before : AreLike (connection_in place) (under_way sends r (carriers_of p) b) (k.stays ++ k.gone) = grind (arith, k.before) in
+    let after : AreLike (connection_in place) (under_way sends r (carriers_of new) c) (k.stays ++ puts) = grind (arith, k.after) in
+    let way = out_puts _ place (is_cut sends (carriers_of p)) (is_cut sends (carriers_of new)) (HasJoined r taker) x channel
+    (unless_broken broken more) (words_put broken words) (under_way sends r (carriers_of p) b) (under_way sends r (carriers_of new) c)
+    k.stays k.gone puts was (grind arith) (put_spare broken (is_cut sends (carriers_of p)) words (cut_none side p broken reach alive))
+    (grind arith) before after none (grind arith) in
+    subst (λ (y : Holding). GoesTo side y r new c (progress_of (place_at r (last_of (is_caller (other side)) c))) x seat.channel)
+    (sym there)
+    (subst (λ (a : Carrier). GoesTo side taker r new c (progress_of (place_at r a)) x seat.channel) (sym (still_there side b c k.there))
+    (subst (λ (ms : List Message). GoesTo side taker r new c (progress_of place) x ms) (sym (is ∙ put_unless broken more channel)) way))
 
 -- ---- what is in flight to it
 
@@ -62,18 +49,13 @@ pub back_way : (terms : Terms) (side : Side) (r : ℕ) (p new : TwoEnds) (b c : 
     ((x : Option (List ℕ)) → HasJoined r (end_at side p) x → HasJoined r (end_at side new) x) →
     (StaysCalm to.session.state seat.channel → StaysCalm now.session.state seat.channel) → IsUnderWay (other side) side r p b seat to →
     IsUnderWay (other side) side r new c seat now
-back_way terms Left r p new b c messages seat to now k same there alive reach holds calms was =
-    as_now p.left.end.carrier.ended new.left.end.carrier.ended (progress_of (place_at r b.caller)) (progress_of (place_at r c.caller))
-    (is_cut false (carriers_of p)) (is_cut false (carriers_of new)) (HasJoined r p.left)
-    (HasJoined r new.left) to.session.state now.session.state seat.channel
-    (under_way false r (carriers_of p) b) (under_way false r (carriers_of new) c) was (grind arith) holds calms
-    (grind (arith, like_alike))
-back_way terms Right r p new b c messages seat to now k same there alive reach holds calms was =
-    as_now p.right.end.carrier.ended new.right.end.carrier.ended (progress_of (place_at r b.called)) (progress_of (place_at r c.called))
-    (is_cut true (carriers_of p)) (is_cut true (carriers_of new)) (HasJoined r p.right)
-    (HasJoined r new.right) to.session.state now.session.state seat.channel
-    (under_way true r (carriers_of p) b) (under_way true r (carriers_of new) c) was (grind arith) holds calms
-    (grind (arith, like_alike))
+back_way terms side r p new b c messages seat to now k same there alive reach holds calms was =
+    as_now (end_at side p).end.carrier.ended (end_at side new).end.carrier.ended
+    (progress_of (place_at r (last_of (is_caller side) b))) (progress_of (place_at r (last_of (is_caller side) c)))
+    (is_cut (is_caller (other side)) (carriers_of p)) (is_cut (is_caller (other side)) (carriers_of new)) (HasJoined r (end_at side p))
+    (HasJoined r (end_at side new)) to.session.state now.session.state seat.channel
+    (under_way (is_caller (other side)) r (carriers_of p) b) (under_way (is_caller (other side)) r (carriers_of new) c) was
+    (grind arith) holds calms (grind (arith, like_alike))
 
 -- ---- places
 
@@ -99,43 +81,35 @@ pub record There (r : ℕ) (p : TwoEnds) (b : Between) (t : Tables) (l : Line) :
   pub within : r ≤ length t.lines
   pub is : IsLine r p b l
 
-there_by : (k : ℕ) (p : TwoEnds) (b : Between) (t : Tables) (l : Line) (fits : Bool) → nat_le (suc k) (length t.lines) ≡ fits →
-    (length t.lines < suc k → connection_at (suc k) t.lines ≡ None) → Stands p b t → connection_at (suc k) t.lines ≡ Some l →
-    There (suc k) p b t l
-there_by k p b t l true e none s at =
-    let within : suc k ≤ length t.lines = leb-true (suc k) (length t.lines) e in
-    let h = s.lines (suc k) (omega arith) within in
-    let same : h.line ≡ l = (let x = sym h.found ∙ at in cc) in
-    record { some = omega arith; within = within; is = subst (IsLine (suc k) p b) same h.is }
-there_by k p b t l false e none s at = let no = sym at ∙ none (leb-false (suc k) (length t.lines) e) in absurd cc
-
 abbrev pub NoneBeyond : Type 0
 NoneBeyond = (q : ℕ) (lines : List Line) → length lines < q → connection_at q lines ≡ None
 
 pub there : NoneBeyond → (r : ℕ) (p : TwoEnds) (b : Between) (t : Tables) (l : Line) → Stands p b t → connection_at r t.lines ≡ Some l →
     There r p b t l
-there none zero p b t l s at = absurd cc
-there none (suc k) p b t l s at = there_by k p b t l (nat_le (suc k) (length t.lines)) refl (none (suc k) t.lines) s at
+there none r p b t l s at = by (grind arith)
+  where
+    by : IsWithin r (length t.lines) → There r p b t l
+    by (inl out) = absurd (grind (arith, none r t.lines))
+    by (inr given) =
+        let h = s.lines r given.0 given.1 in
+        let same : h.line ≡ l = (let x = sym h.found ∙ at in cc) in
+        record { some = given.0; within = given.1; is = subst (IsLine r p b) same h.is }
 
 -- ---- a longer journal
-
-says_more : (es : List entries.Entry) (js : List Entry) (x : entries.Entry) (e : Entry) → map Some es ≡ map entry_in js →
-    entry_in e ≡ Some x → map Some (es ++ x ∷ []) ≡ map entry_in (js ++ e ∷ [])
-says_more es js x e h is = grind (arith, map-append)
 
 pub more_said : (p : TwoEnds) (b : Between) (t : Tables) (e : Entry) (x : entries.Entry) → entry_in e ≡ Some x → Stands p b t →
     Stands (noted (e ∷ []) p) b (noted_in (x ∷ []) t)
 more_said p b t e x is s =
-    let journal = says_more t.journal p.journal x e s.journal is in
+    let journal = journals_join t.journal (x ∷ []) p.journal (e ∷ []) s.journal (ap (λ o. o ∷ []) (sym is)) in
     let lines : (n : ℕ) → 0 < n → n ≤ length t.lines → HasLine n (noted (e ∷ []) p) b (noted_in (x ∷ []) t) = λ n a c.
     grind (arith, s.lines n a c) in
     grind arith
 
--- ---- one more step
+-- ---- more steps
 
-pub run_one : (t : Tables) (xs : List Step) (x : Step) → run t (xs ++ x ∷ []) ≡ step (run t xs) x
-run_one t [] x = refl
-run_one t (y ∷ xs) x = run_one (step t y) xs x
+pub run_behind : (t : Tables) (xs ys : List Step) → run t (xs ++ ys) ≡ run (run t xs) ys
+run_behind t [] ys = refl
+run_behind t (x ∷ xs) ys = run_behind (step t x) xs ys
 
 pub number_one : (xs : List Step) (x : Step) → AllByRecursion HasNumber xs → HasNumber x → AllByRecursion HasNumber (xs ++ x ∷ [])
 number_one [] x a h = (h, tt)
@@ -154,5 +128,5 @@ pub one_step : (p new : TwoEnds) (steps : List Step) (x : Step) → HasNumber x 
 one_step p new steps x number same numbered h = record {
   numbered = number_one steps x numbered number;
   now = h.now;
-  stands = grind (arith, run_one);
+  stands = grind (arith, run_behind);
 }

@@ -1,14 +1,15 @@
 -- An end took a unit of a connection: what remains to be proved of its carrier, if its session is known.
 -- For turns, breaks and ends, packets, carries and the promises.
 use Rattle.osi_pair.proofs.Vocabulary.{◌≡◌, ◌≢◌, ℕ, ◌≤◌, Bool, true, false, nat_lt, List, [], ◌++◌, map, Some, None, is_some, option_map}
-use Rattle.osi_pair.proofs.Vocabulary.{refl, sym, ap, subst, ◌∙◌, arith, length, Held, place_at, value_at, State, Between, last_of}
-use Rattle.osi_pair.proofs.Vocabulary.{progress_of, Progress, not_yet, Terms, terms_of, shown_at, Line, Tables, Message, Listener, Standing}
-use Rattle.osi_pair.proofs.Vocabulary.{Shown, kept_at, End, Holding, TwoEnds, end_at, other, side_in, is_caller, class_in, carriers_of}
-use Rattle.osi_pair.proofs.Vocabulary.{Goes, IsSeated, IsInOrder, Stands, waiting_in, Side, Left, Right}
+use Rattle.osi_pair.proofs.Vocabulary.{refl, sym, ap, subst, ◌∙◌, arith, Held, place_at, value_at, State, Between, last_of, progress_of}
+use Rattle.osi_pair.proofs.Vocabulary.{Progress, not_yet, Terms, terms_of, shown_at, Line, Tables, Message, Listener, Standing, Shown}
+use Rattle.osi_pair.proofs.Vocabulary.{kept_at, End, Holding, TwoEnds, end_at, other, side_in, is_caller, class_in, carriers_of, Goes}
+use Rattle.osi_pair.proofs.Vocabulary.{IsSeated, IsInOrder, Stands, waiting_in, Side, Left, Right}
 use Rattle.osi_pair.proofs.flight.a_taken_packet_is_one_row.{UnitActs, PacketActs}
 use Rattle.osi_pair.proofs.flight.what_may_arrive_row_by_row.{Row, agrees, before, after}
 use Rattle.osi_pair.proofs.session.a_seat_is_its_progress_and_session.{transport_by, value_same, HasSession, seat_of_session}
-use Rattle.osi_pair.proofs.turn.a_turn_keeps_the_match.{IsSeen, with_holding, holding_here, holding_there, Others, LinesAfter, Turned}
+use Rattle.osi_pair.proofs.turn.a_turn_keeps_the_match.{IsSeen, still_seated, with_holding, holding_here, holding_there}
+use Rattle.osi_pair.proofs.turn.a_turn_keeps_the_match.{GivenAfter, TablesStay, Others, LinesAfter, Turned}
 use Rattle.osi_pair.proofs.flight.whether_something_is_cut_off.{Lasts}
 
 -- ---- references and the class
@@ -24,10 +25,7 @@ given_not_new n s b e le h = grind arith
 
 -- the tables have this line, and their users received these indications
 pub record TablesAfter (s : Side) (n : ℕ) (t u : Tables) (shown : List Shown) (line : Line) : Type 0 where
-  pub terms : u.terms ≡ t.terms
-  pub broken : u.broken ≡ t.broken
-  pub left_end : u.left_end ≡ t.left_end
-  pub right_end : u.right_end ≡ t.right_end
+  pub stay : TablesStay t u
   pub journal : u.journal ≡ t.journal ++ map (shown_at (side_in s) n) shown
   pub lines : LinesAfter s n line t u
 
@@ -88,26 +86,11 @@ seen_then s p b t e h n l x channel back d lasts order hs i w =
           (ap (λ (c : State). progress_of (place_at n c)) (sym (last_is s p b e h n d lasts)) ∙ d.stands) hs),
       subst
           (λ (y : Holding). IsSeated n y (line_then d.row x channel back l).peer) (sym (holding_there s e h p))
-          (record {
-            joined = i.there.joined;
-            transport = i.there.transport;
-            live = i.there.live;
-            kept = i.there.kept;
-            over_now = i.there.over_now;
-            awaiting = i.there.awaiting;
-            octets = i.there.octets;
-          }),
+          (still_seated n (end_at (other s) p) l.peer back i.there),
       w.out,
       subst
           (λ (g : Progress). Goes (other s) s n (with_holding s e h p) d.now g x.state back) (sym d.stands) w.back,
     )
-
--- the references and the class that the ends have then
-pub record GivenAfter (s : Side) (p : TwoEnds) (t : Tables) (e : End) (h : Held) (c : Between) : Type 0 where
-  pub given : (with_holding s e h p).left.end.carrier.given ≡ p.left.end.carrier.given
-  pub given_back : (with_holding s e h p).right.end.carrier.given ≤ length t.lines
-  pub given_then : c.caller.given ≡ (with_holding s e h p).left.end.carrier.given
-  pub class_then : c.caller.class ≡ (with_holding s e h p).left.end.carrier.class
 
 pub given_after : (s : Side) (p : TwoEnds) (b : Between) (t : Tables) (e : End) (h : Held) (n : ℕ) → Stands p b t → Lasts s p →
     (d : DidAt s p b e h n) → e.carrier.ended ≡ None → n ≤ b.caller.given → d.now.called.given ≤ d.now.caller.given →

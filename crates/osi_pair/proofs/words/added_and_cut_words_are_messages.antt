@@ -5,54 +5,20 @@ use Rattle.osi_pair.proofs.Vocabulary.{inl, inr, true, arith, take-append_seam, 
 use Rattle.osi_pair.proofs.Vocabulary.{First, Middle, Last, Word, whole, part, begun_octets, joins, left_of, MayFollow, IsBegun, AreInOrder}
 use Rattle.osi_pair.proofs.Vocabulary.{list_any, is_leaving}
 
-pub joins_append : (b : Option (List ℕ)) (xs ys : List Word) → joins b (xs ++ ys) ≡ joins b xs ++ joins (left_of b xs) ys
-joins_append b [] ys = refl
-joins_append b (whole m ∷ xs) ys = ap (λ r. m ∷ r) (joins_append None xs ys)
-joins_append b (part First o ∷ xs) ys = joins_append (Some o) xs ys
-joins_append b (part Middle o ∷ xs) ys = joins_append (Some (begun_octets b ++ o)) xs ys
-joins_append b (part Last o ∷ xs) ys = ap (λ r. unit (DT (begun_octets b ++ o)) ∷ r) (joins_append None xs ys)
+-- words after words, by what the first have begun
+pub record Appends (b : Option (List ℕ)) (xs ys : List Word) : Type 0 where
+  pub joins : joins b (xs ++ ys) ≡ joins b xs ++ joins (left_of b xs) ys
+  pub left : left_of b (xs ++ ys) ≡ left_of (left_of b xs) ys
+  pub order : AreInOrder b xs → AreInOrder (left_of b xs) ys → AreInOrder b (xs ++ ys)
+  pub front : AreInOrder b (xs ++ ys) → AreInOrder b xs
+  pub back : AreInOrder b (xs ++ ys) → AreInOrder (left_of b xs) ys
 
-pub left_append : (b : Option (List ℕ)) (xs ys : List Word) → left_of b (xs ++ ys) ≡ left_of (left_of b xs) ys
-left_append b [] ys = refl
-left_append b (part First o ∷ xs) ys = left_append (Some o) xs ys
-left_append b (part Middle o ∷ xs) ys = left_append (Some (begun_octets b ++ o)) xs ys
-left_append b (x ∷ xs) ys = left_append None xs ys
-
-pub order_append : (b : Option (List ℕ)) (xs ys : List Word) → AreInOrder b xs → AreInOrder (left_of b xs) ys → AreInOrder b (xs ++ ys)
-order_append b [] ys h k = k
-order_append b (whole m ∷ xs) ys h k = (h.0, order_append None xs ys h.1 k)
-order_append b (part First o ∷ xs) ys h k = (h.0, h.1, order_append (Some o) xs ys h.2 k)
-order_append b (part Middle o ∷ xs) ys h k = (h.0, h.1, order_append (Some (begun_octets b ++ o)) xs ys h.2 k)
-order_append b (part Last o ∷ xs) ys h k = (h.0, h.1, order_append None xs ys h.2 k)
-
-pub order_front : (b : Option (List ℕ)) (xs ys : List Word) → AreInOrder b (xs ++ ys) → AreInOrder b xs
-order_front b [] ys h = tt
-order_front b (whole m ∷ xs) ys h = (h.0, order_front None xs ys h.1)
-order_front b (part First o ∷ xs) ys h = (h.0, h.1, order_front (Some o) xs ys h.2)
-order_front b (part Middle o ∷ xs) ys h = (h.0, h.1, order_front (Some (begun_octets b ++ o)) xs ys h.2)
-order_front b (part Last o ∷ xs) ys h = (h.0, h.1, order_front None xs ys h.2)
-
--- messages that go by themselves
-pub joins_whole : (ms : List Message) → joins None (map whole ms) ≡ ms
-joins_whole [] = refl
-joins_whole (m ∷ ms) = ap (λ r. m ∷ r) (joins_whole ms)
-
--- ---- the first words and the rest
-
-pub order_back : (b : Option (List ℕ)) (xs ys : List Word) → AreInOrder b (xs ++ ys) → AreInOrder (left_of b xs) ys
-order_back b [] ys h = h
-order_back b (whole m ∷ xs) ys h = order_back None xs ys h.1
-order_back b (part First o ∷ xs) ys h = order_back (Some o) xs ys h.2
-order_back b (part Middle o ∷ xs) ys h = order_back (Some (begun_octets b ++ o)) xs ys h.2
-order_back b (part Last o ∷ xs) ys h = order_back None xs ys h.2
-
-pub whole_order : (ms : List Message) → AreInOrder None (map whole ms)
-whole_order [] = tt
-whole_order (m ∷ ms) = (grind arith, whole_order ms)
-
-pub whole_left : (ms : List Message) → left_of None (map whole ms) ≡ None
-whole_left [] = refl
-whole_left (m ∷ ms) = whole_left ms
+pub appends : (b : Option (List ℕ)) (xs ys : List Word) → Appends b xs ys
+appends b [] ys = record { joins = refl; left = refl; order = λ h k. k; front = λ h. tt; back = λ h. h }
+appends b (whole m ∷ xs) ys = grind (arith, appends None xs ys)
+appends b (part First o ∷ xs) ys = grind (arith, appends (Some o) xs ys)
+appends b (part Middle o ∷ xs) ys = grind (arith, appends (Some (begun_octets b ++ o)) xs ys)
+appends b (part Last o ∷ xs) ys = grind (arith, appends None xs ys)
 
 -- ---- after what has begun of a Data
 
@@ -83,7 +49,7 @@ next_is b _ h = let no : Some b ≡ None = h.0 in cc
 -- the words without a suffix make the messages without a suffix
 pub cut_behind : (b : Option (List ℕ)) (kept gone : List Word) → AreInOrder b (kept ++ gone) →
     (take (length (joins b kept)) (joins b (kept ++ gone)) ≡ joins b kept) × AreInOrder b kept
-cut_behind b kept gone h = grind (arith, joins_append, take-append_seam, order_front)
+cut_behind b kept gone h = grind (arith, appends b kept gone, take-append_seam)
 
 -- words that are these messages, each of them whole
 pub record AreWords (words : List Word) (messages : List Message) : Type 0 where
@@ -96,12 +62,13 @@ no_words = record { joined = refl; left = refl; order = tt }
 
 -- messages that go by themselves
 pub wholes : (ms : List Message) → AreWords (map whole ms) ms
-wholes ms = record { joined = joins_whole ms; left = whole_left ms; order = whole_order ms }
+wholes [] = no_words
+wholes (m ∷ ms) = grind (arith, wholes ms)
 
 -- words are added after words that are complete
 pub put_words : (b : Option (List ℕ)) (words more : List Word) (ms : List Message) → AreInOrder b words → left_of b words ≡ None →
     AreWords more ms → (joins b (words ++ more) ≡ joins b words ++ ms) × (left_of b (words ++ more) ≡ None) × AreInOrder b (words ++ more)
-put_words b words more ms h e are = grind (arith, joins_append, left_append, order_append)
+put_words b words more ms h e are = grind (arith, appends b words more)
 
 -- a message by which the sender leaves, after a prefix of them
 abbrev pub MayLeave : Message → Type 0
@@ -141,10 +108,9 @@ pub front_of : (b : Option (List ℕ)) (kept gone : List Word) → AreInOrder b 
     FrontOf (left_of b (kept ++ gone)) (joins b kept) (joins b (kept ++ gone))
 front_of b kept gone h some =
     behind_it (left_of b kept) (left_of b (kept ++ gone)) (joins b kept) (joins (left_of b kept) gone) (joins b (kept ++ gone)) some
-    (grind (arith, left_append, next_is, order_back))
-    (joins_append b kept gone)
+    (grind (arith, appends b kept gone, next_is)) (appends b kept gone).joins
 
 pub leave_behind : (b : Option (List ℕ)) (kept gone : List Word) (m : Message) → AreInOrder b (kept ++ gone) → MayLeave m →
     (joins b (kept ++ whole m ∷ []) ≡ take (length (joins b kept)) (joins b (kept ++ gone)) ++ m ∷ [])
     × (left_of b (kept ++ whole m ∷ []) ≡ None) × AreInOrder b (kept ++ whole m ∷ [])
-leave_behind b kept gone m h leaves = grind (arith, take, length, cut_behind, joins_append, left_append, order_append, order_front)
+leave_behind b kept gone m h leaves = grind (arith, take, length, cut_behind, appends b kept gone, appends b kept (whole m ∷ []))

@@ -1,10 +1,9 @@
 -- A side that has sent a word at the first point at which it may, beside one that has not sent it: what both take, and
 -- what the other sends.
-use Rattle.osi_session.proofs.Vocabulary.{and_parts, Phase, State, Place, is_last, Call, Minor, MinorConfirm, DT, GT, MIA, MIP, PT}
-use Rattle.osi_session.proofs.Vocabulary.{available, minor_confirmed, point_sent, arith, ◌≡◌, ◌∙◌, refl, sym, subst, ℕ, ◌+◌, Bool, true}
-use Rattle.osi_session.proofs.Vocabulary.{false, ◌||◌, ◌==◌, ◌⊎◌, inl, inr, is_none, unwrap_or, if◌then◌else◌, List, [], ◌∷◌, length}
-use Rattle.osi_session.proofs.Vocabulary.{Option, Some, None, option_map, Word, says, part, Seen, goes, where_is, calling, CanSay}
-use Rattle.osi_session.proofs.Vocabulary.{is_steady, Hears, HearsAll}
+use Rattle.osi_session.proofs.Vocabulary.{and_parts, Phase, State, Place, is_last, Call, Minor, MinorConfirm, MIA, MIP, available}
+use Rattle.osi_session.proofs.Vocabulary.{minor_confirmed, point_sent, arith, ◌≡◌, refl, sym, subst, ℕ, ◌+◌, Bool, true, false, ◌||◌, ◌==◌}
+use Rattle.osi_session.proofs.Vocabulary.{◌⊎◌, inl, inr, is_none, unwrap_or, if◌then◌else◌, List, [], ◌∷◌, length, Option, Some, None}
+use Rattle.osi_session.proofs.Vocabulary.{option_map, Word, says, part, Seen, goes, where_is, calling, CanSay, is_steady, Hears, HearsAll}
 use Rattle.osi_session.proofs.ahead.a_side_that_has_sent_a_word.{leaves, IsAheadBy, hears_ahead, hears_gone}
 use Rattle.osi_session.proofs.ahead.words_that_may_be_sent_first.{past_ready, past_confirming, IsReady, same_state, part_ahead, renumbered}
 use Rattle.osi_session.proofs.ahead.words_that_may_be_sent_first.{MayPoint, point_ahead, MayConfirm, conf_ahead}
@@ -71,41 +70,35 @@ said_ahead s y w n e h = grind (arith, idle_leaves, said_point, said_conf, said_
 
 -- if the first sends it too, both are equal
 pub said_alike : (s y z : Seen) (w : Word) (n : ℕ) → is_steady w ≡ true → IsAhead w s y → CanSay s w n z → z ≡ y
-said_alike s y z (says (DT o)) n e a h = said_ahead s z (says (DT o)) n e h ∙ sym a
-said_alike s y z (says (PT k o)) n e a h = said_ahead s z (says (PT k o)) n e h ∙ sym a
-said_alike s y z (says (GT k)) n e a h = said_ahead s z (says (GT k)) n e h ∙ sym a
-said_alike s y z (says (MIP c k o)) n e a h = (said_point s z c k o n h).1 ∙ sym a.1
-said_alike s y z (says (MIA k o)) n e a h = (said_conf s z k o n h).1 ∙ sym a.1
-said_alike s y z (part place o) n e a h = (said_part s z place o n h).1 ∙ sym a.1
-said_alike s y z _ n e a h = absurd (cc)
+said_alike s y z w n e a h = same_ahead w s y z a (said_ahead s z w n e h)
+  where
+    same_ahead : (w : Word) (s y z : Seen) → IsAhead w s y → IsAhead w s z → z ≡ y
+    same_ahead w s y z a b = grind arith
 
 -- a TSDU that the first takes and does not answer, the second takes too, and does not answer it, unless the first will
 -- never send the word
 abbrev pub BothHear : Word → Seen → Seen → List ℕ → Type 0
 BothHear w y t tsdu = (is_gone w t.state.phase ≡ true) ⊎ ((z : Seen) × (Hears y tsdu z) × (IsAhead w t z))
 
-by_ahead : (P : State → Type 0) (gone : Phase → Bool) (f : State → State) (g : Option ℕ → Option ℕ) → IsAheadBy P gone f →
-    (s t y : Seen) (tsdu : List ℕ) → P s.state → y ≡ leaves f g s → Hears s tsdu t
+by_ahead : {P : State → Type 0} {gone : Phase → Bool} {f : State → State} {s t y : Seen} {tsdu : List ℕ} (a : IsAheadBy P gone f)
+    (g : Option ℕ → Option ℕ) → P s.state → y ≡ leaves f g s → Hears s tsdu t
     → (gone t.state.phase ≡ true) ⊎ ((z : Seen) × (Hears y tsdu z) × (P t.state × (z ≡ leaves f g t)))
-by_ahead P gone f g a s t y tsdu p e h = elim (hears_ahead P gone f g a s t tsdu p h) [
+by_ahead {f = f} {s = s} {t = t} {tsdu = tsdu} a g p e h = elim (hears_ahead a g s t tsdu p h) [
   | inl x ↦ inl x
   | inr x ↦ inr (leaves f g t, subst (λ (v : Seen). Hears v tsdu (leaves f g t)) (sym e) x.1, (x.0, refl))
 ]
 
 pub both_hear : (s t y : Seen) (w : Word) (tsdu : List ℕ) → IsAhead w s y → Hears s tsdu t → BothHear w y t tsdu
-both_hear s t y (says (MIP c k o)) tsdu a h = by_ahead MayPoint past_ready (renumbered point_sent) same_sent point_ahead s t y tsdu a.0 a.1
-    h
-both_hear s t y (says (MIA k o)) tsdu a h = by_ahead MayConfirm past_confirming (renumbered (minor_confirmed k)) same_sent (conf_ahead k) s
-    t y tsdu a.0 a.1 h
-both_hear s t y (part place o) tsdu a h = by_ahead IsReady past_ready same_state (sent_by place o) part_ahead s t y tsdu a.0 a.1 h
+both_hear s t y (says (MIP c k o)) tsdu a h = by_ahead point_ahead same_sent a.0 a.1 h
+both_hear s t y (says (MIA k o)) tsdu a h = by_ahead (conf_ahead k) same_sent a.0 a.1 h
+both_hear s t y (part place o) tsdu a h = by_ahead part_ahead (sent_by place o) a.0 a.1 h
 both_hear s t y _ tsdu a h = inr (t, subst (λ (v : Seen). Hears v tsdu t) (sym a) h, refl)
 
 -- what is gone stays gone, and is not sent
 pub gone_stays : (s t : Seen) (w : Word) (tsdu : List ℕ) → is_gone w s.state.phase ≡ true → Hears s tsdu t → is_gone w t.state.phase ≡ true
-gone_stays s t (says (MIP c k o)) tsdu g h = hears_gone MayPoint past_ready (renumbered point_sent) point_ahead s t tsdu g h
-gone_stays s t (says (MIA k o)) tsdu g h = hears_gone MayConfirm past_confirming (renumbered (minor_confirmed k)) (conf_ahead k) s t tsdu g
-    h
-gone_stays s t (part place o) tsdu g h = hears_gone IsReady past_ready same_state part_ahead s t tsdu g h
+gone_stays s t (says (MIP c k o)) tsdu g h = hears_gone point_ahead s t tsdu g h
+gone_stays s t (says (MIA k o)) tsdu g h = hears_gone (conf_ahead k) s t tsdu g h
+gone_stays s t (part place o) tsdu g h = hears_gone part_ahead s t tsdu g h
 gone_stays s t _ tsdu g h = absurd (cc)
 
 pub gone_said : (s z : Seen) (w : Word) (n : ℕ) → is_gone w s.state.phase ≡ true → CanSay s w n z → ⊥

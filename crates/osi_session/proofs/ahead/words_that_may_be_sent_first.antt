@@ -1,12 +1,11 @@
 -- The words that may be sent first, by what they leave: a part of Data, a minor point, and its confirmation.
-use Rattle.osi_session.proofs.Vocabulary.{cases_Bool, ltb-true, lt-ltb, Phase, Ready, MajorDue, ReleaseDue, RestartDue, Aborting, Ended}
-use Rattle.osi_session.proofs.Vocabulary.{State, UnitFault, Unexpected, is_over, is_ready, is_restarting, may_confirm_minor, Meaning, AB}
-use Rattle.osi_session.proofs.Vocabulary.{AC, AA, CN, DN, DT, FN, GT, MAA, MAP, MIA, MIP, NF, PT, RA, RF, RS, First, Middle, Last}
-use Rattle.osi_session.proofs.Vocabulary.{as_message, AllMet, si, first_fault, is_expected, drops, Tokens, Verdict, over, dropped, faulty}
-use Rattle.osi_session.proofs.Vocabulary.{fine, by_fault, is_faulty, becomes, stands, restarted_at, respond_unit, Taker, Hearing}
+use Rattle.osi_session.proofs.Vocabulary.{cases_Bool, ltb-true, lt-ltb, Phase, MajorDue, ReleaseDue, RestartDue, Aborting, Ended, State}
+use Rattle.osi_session.proofs.Vocabulary.{UnitFault, Unexpected, is_over, is_ready, may_confirm_minor, Meaning, AB, FN, GT, MAP, MIA, MIP}
+use Rattle.osi_session.proofs.Vocabulary.{RS, as_message, AllMet, si, first_fault, is_expected, drops, Tokens, Verdict, over, dropped}
+use Rattle.osi_session.proofs.Vocabulary.{faulty, fine, by_fault, is_faulty, stands, restarted_at, respond_unit, Taker, Hearing}
 use Rattle.osi_session.proofs.Vocabulary.{word_conditions, word_verdict, enacted_word, respond_word, minor_confirmed, point_sent}
-use Rattle.osi_session.proofs.Vocabulary.{point_taken, united, ◌≡◌, refl, sym, subst, ℕ, Bool, true, false, not, ◌&&◌, ◌⊎◌, inl, inr}
-use Rattle.osi_session.proofs.Vocabulary.{if◌then◌else◌, List, Option, None, arith, Word, says, part, Numbers}
+use Rattle.osi_session.proofs.Vocabulary.{point_taken, united, ◌≡◌, refl, sym, subst, ℕ, Bool, true, false, not, ◌&&◌, ◌⊎◌, inl, ◌||◌, inr}
+use Rattle.osi_session.proofs.Vocabulary.{if◌then◌else◌, List, Option, None, arith, Word, says, Numbers, may_hold}
 use Rattle.osi_session.proofs.ahead.a_side_that_has_sent_a_word.{shifted, Goes, IsAheadBy, quiet_good}
 use Rattle.osi_session.proofs.tables.what_is_true_of_each_phase.{implied, excluded}
 use Rattle.osi_session.proofs.tables.the_outcomes_of_each_input.{unit_cases}
@@ -34,47 +33,31 @@ past_confirming Ended = true
 past_confirming _ = false
 
 abbrev from_ready : Phase → Bool
-from_ready Ready = true
-from_ready MajorDue = true
-from_ready ReleaseDue = true
-from_ready RestartDue = true
-from_ready Aborting = true
-from_ready Ended = true
-from_ready _ = false
+from_ready p = is_ready p || past_ready p
 
 neither : (b : Bool) → b ≡ true → b ≡ false → ⊥
 neither b h k = grind arith
 
-ready_becomes : (s : State) (u : Meaning) → past_ready s.phase ≡ true → is_expected s.phase u ≡ true → past_ready (becomes s u).phase ≡ true
-ready_becomes s u h x = grind (arith, neither, excluded)
-
 past_ready_ends : (s : State) (u : Meaning) → past_ready s.phase ≡ true → past_ready (respond_unit s u).next.phase ≡ true
 past_ready_ends s u h =
     unit_cases (λ n. past_ready n.phase ≡ true) s u
-    (record { same = h; ended = λ a. refl; bad = λ a e. refl; good = λ a e x m. ready_becomes s u h x })
-
-confirming_becomes : (s : State) (u : Meaning) → past_confirming s.phase ≡ true → is_expected s.phase u ≡ true →
-    past_confirming (becomes s u).phase ≡ true
-confirming_becomes s u h x = grind (arith, neither, excluded)
+    (record { same = h; ended = λ a. refl; bad = λ a e. refl; good = λ a e x m. grind (arith, neither, excluded) })
 
 past_confirming_ends : (s : State) (u : Meaning) → past_confirming s.phase ≡ true → past_confirming (respond_unit s u).next.phase ≡ true
 past_confirming_ends s u h =
     unit_cases (λ n. past_confirming n.phase ≡ true) s u
-    (record { same = h; ended = λ a. refl; bad = λ a e. refl; good = λ a e x m. confirming_becomes s u h x })
-
-stays_from : (s : State) (u : Meaning) → from_ready s.phase ≡ true → is_expected s.phase u ≡ true → from_ready (becomes s u).phase ≡ true
-stays_from s u h x = grind (arith, neither, excluded)
+    (record { same = h; ended = λ a. refl; bad = λ a e. refl; good = λ a e x m. grind (arith, neither, excluded) })
 
 unit_stays : (s : State) (u : Meaning) → from_ready s.phase ≡ true → from_ready (respond_unit s u).next.phase ≡ true
 unit_stays s u h =
     unit_cases (λ n. from_ready n.phase ≡ true) s u
-    (record { same = h; ended = λ a. refl; bad = λ a e. refl; good = λ a e x m. stays_from s u h x })
+    (record { same = h; ended = λ a. refl; bad = λ a e. refl; good = λ a e x m. grind (arith, neither, excluded) })
 
 word_stays : (t : Taker) (v : Word) → from_ready t.state.phase ≡ true → from_ready (respond_word t v).next.state.phase ≡ true
 word_stays t v h = word_keeps (λ s. from_ready s.phase ≡ true) t v (λ u a. unit_stays t.state u h) (λ o. refl) h
 
 still_ready : (p : Phase) → from_ready p ≡ true → past_ready p ≡ false → is_ready p ≡ true
-still_ready p h k = implied (λ q. from_ready q && not (past_ready q)) is_ready refl p (rw (h, k) refl)
+still_ready p h k = grind arith
 
 -- ---- a part: it leaves the state as it was
 
@@ -98,12 +81,8 @@ pub record Passes (t : Taker) (v : Word) : Type 0 where
   pub expected : is_expected t.state.phase (as_message v) ≡ true
   pub met : AllMet (word_conditions t v)
 
-passed_by : (o d x : Bool) (n : ℕ) (f : Option UnitFault) → verdict_by o d x n f ≡ fine →
-    (o ≡ false) × (d ≡ false) × (x ≡ true) × (f ≡ None)
-passed_by o d x n f h = grind arith
-
 pub passes : (t : Taker) (v : Word) → word_verdict t v ≡ fine → Passes t v
-passes t v h = grind (arith, passed_by, all_met)
+passes t v h = grind (arith, all_met)
 
 quiet_verdict : (w : Verdict) (o d x : Bool) (n : ℕ) (f : Option UnitFault) → verdict_by o d x n f ≡ w → o ≡ false → is_faulty w ≡ false →
     (w ≡ dropped) ⊎ (w ≡ fine)
@@ -122,27 +101,66 @@ goes_as : (P : State → Type 0) (gone : Phase → Bool) (f : State → State) (
     Goes P gone f h k
 goes_as P gone f h k i l d e g = subst (λ (x : Hearing). Goes P gone f x k) (sym d) (subst (λ (x : Hearing). Goes P gone f i x) (sym e) g)
 
-fine_goes : (P : State → Type 0) (gone : Phase → Bool) (f : State → State) (t : Taker) (v : Word) → word_verdict t v ≡ fine →
-    word_verdict (shifted f t) v ≡ fine
-    → Goes P gone f (enacted_word t v fine) (enacted_word (shifted f t) v fine) →
-    Goes P gone f (respond_word t v) (respond_word (shifted f t) v)
-fine_goes P gone f t v h k g = goes_as P gone f _ _ _ _ (word_at t v fine h) (word_at (shifted f t) v fine k) g
-
-fine_gone : (P : State → Type 0) (gone : Phase → Bool) (f : State → State) (t : Taker) (v : Word) → word_verdict t v ≡ fine →
-    gone (enacted_word t v fine).next.state.phase ≡ true
-    → Goes P gone f (respond_word t v) (respond_word (shifted f t) v)
-fine_gone P gone f t v h g = inl (subst (λ (x : Hearing). gone x.next.state.phase ≡ true) (sym (word_at t v fine h)) g)
-
--- ---- only the numbers change
-
+-- only the numbers change
 abbrev pub renumbered : (Numbers → Numbers) → State → State
 renumbered g s = record s { numbers = g s.numbers }
 
-dropped_goes : (P : State → Type 0) (gone : Phase → Bool) (g : Numbers → Numbers) (t : Taker) (v : Word) → P t.state →
-    word_verdict t v ≡ dropped
-    → Goes P gone (renumbered g) (respond_word t v) (respond_word (shifted (renumbered g) t) v)
-dropped_goes P gone g t v p h =
-    grind (arith, goes_as, word_at t v dropped h, word_at (shifted (renumbered g) t) v dropped (grind arith), shifted (renumbered g) t)
+abbrev BothGo : (State → Type 0) → (Phase → Bool) → (Numbers → Numbers) → Taker → Word → Type 0
+BothGo P gone g t v = Goes P gone (renumbered g) (respond_word t v) (respond_word (shifted (renumbered g) t) v)
+
+-- What two such changes share: the phases in which the word may have been sent, and what a point, a confirmation and a
+-- request for release do then.
+record Renumbers (P : State → Type 0) (gone : Phase → Bool) (g : Numbers → Numbers) : Type 0 where
+  phase : (s : State) → P s → may_confirm_minor s.phase ≡ true
+  tokens : (s : State) (more : Tokens) → P s → P (record s { held = united s.held more })
+  major : gone MajorDue ≡ true
+  restart : gone RestartDue ≡ true
+  point : (t : Taker) (c : Bool) (n : ℕ) (o : List ℕ) → P t.state → word_verdict t (says (MIP c n o)) ≡ fine →
+      BothGo P gone g t (says (MIP c n o))
+  confirmed : (t : Taker) (n : ℕ) (o : List ℕ) → P t.state → word_verdict t (says (MIA n o)) ≡ fine → BothGo P gone g t (says (MIA n o))
+  finish : (t : Taker) (o : List ℕ) → P t.state → word_verdict t (says (FN o)) ≡ fine → BothGo P gone g t (says (FN o))
+
+module _ (P : State → Type 0) (gone : Phase → Bool) (g : Numbers → Numbers) where
+  fine_goes : (t : Taker) (v : Word) → word_verdict t v ≡ fine → word_verdict (shifted (renumbered g) t) v ≡ fine
+      → Goes P gone (renumbered g) (enacted_word t v fine) (enacted_word (shifted (renumbered g) t) v fine) → BothGo P gone g t v
+  fine_goes t v h k go = goes_as P gone (renumbered g) _ _ _ _ (word_at t v fine h) (word_at (shifted (renumbered g) t) v fine k) go
+
+  fine_gone : (t : Taker) (v : Word) → word_verdict t v ≡ fine → gone (enacted_word t v fine).next.state.phase ≡ true → BothGo P gone g t v
+  fine_gone t v h e = inl (subst (λ (x : Hearing). gone x.next.state.phase ≡ true) (sym (word_at t v fine h)) e)
+
+  dropped_goes : (t : Taker) (v : Word) → P t.state → word_verdict t v ≡ dropped → BothGo P gone g t v
+  dropped_goes t v p h =
+      grind (arith, goes_as, word_at t v dropped h, word_at (shifted (renumbered g) t) v dropped (grind arith), shifted (renumbered g) t)
+
+  word_good : Renumbers P gone g → (t : Taker) (v : Word) → P t.state → word_verdict t v ≡ fine → (respond_word t v).reply ≡ None →
+      BothGo P gone g t v
+  unfolding stands
+  word_good k t (says (GT w)) p h r =
+      fine_goes t _ h h (inr (k.tokens t.state w p, record { next = refl; quiet = refl; closes = refl }))
+  word_good k t (says (MIP c n o)) p h r = k.point t c n o p h
+  word_good k t (says (MIA n o)) p h r = k.confirmed t n o p h
+  word_good k t (says (MAP n o)) p h r = fine_gone t _ h k.major
+  word_good k t (says (FN o)) p h r = k.finish t o p h
+  word_good k t (says (RS b n w o)) p h r =
+      fine_gone t _ h (let m = k.phase t.state p in let e = k.restart in grind (arith, stands, restarted_at))
+  word_good k t (says (AB b o)) p h r = absurd (grind (arith, respond_word t (says (AB b o)), word_at t (says (AB b o)) fine h))
+  word_good k t v p h r = let m = k.phase t.state p in grind (arith, neither, passes, excluded, fine_goes)
+
+  word_step : Renumbers P gone g → (t : Taker) (v : Word) → P t.state → (respond_word t v).reply ≡ None → BothGo P gone g t v
+  word_step k t v p r = elim (quietly t v (excluded may_confirm_minor is_over refl t.state.phase (k.phase t.state p)) r) [
+    | inl d ↦ dropped_goes t v p d
+    | inr f ↦ word_good k t v p f r
+  ]
+
+  ahead_by : Renumbers P gone g → ((s : State) (u : Meaning) → gone s.phase ≡ true → gone (respond_unit s u).next.phase ≡ true) →
+      gone Aborting ≡ true → IsAheadBy P gone (renumbered g)
+  ahead_by k ends aborts = record {
+    holds = λ s p. implied may_confirm_minor may_hold refl s.phase (k.phase s p);
+    phase = λ s. refl;
+    ends = ends;
+    aborts = aborts;
+    step = word_step k;
+  }
 
 -- ---- a minor point
 
@@ -151,73 +169,38 @@ pub record MayPoint (s : State) : Type 0 where
   pub ready : is_ready s.phase ≡ true
   pub minor : s.held.minor ≡ true
 
-stands_ready : (s : State) (n : ℕ) → is_restarting s.phase ≡ false → stands s n ≡ true
-unfolding stands
-stands_ready s n h = rw h refl
-
 -- a confirmation that is taken then, is also taken after the point
-abbrev with_point : State → State
-with_point s = renumbered point_sent s
-
 taken_conf : (s : State) (j : Option (List ℕ)) (n : ℕ) (o : List ℕ) → is_ready s.phase ≡ true →
     Passes (record { state = s; joined = j }) (says (MIA n o))
-    → (s.numbers.answers ≡ false) × (Passes (record { state = with_point s; joined = j }) (says (MIA n o)))
+    → (s.numbers.answers ≡ false) × (Passes (record { state = renumbered point_sent s; joined = j }) (says (MIA n o)))
 unfolding point_sent
 taken_conf s j n o r p = grind (arith, excluded, ltb-true, lt-ltb)
-
--- both leave the same numbers
-numbers_alike : (v : Numbers) (n : ℕ) → v.answers ≡ false → minor_confirmed n (point_sent v) ≡ point_sent (minor_confirmed n v)
-unfolding minor_confirmed point_sent
-numbers_alike v n e = grind arith
 
 still_held : (held more : Tokens) → held.minor ≡ true → (united held more).minor ≡ true
 unfolding united
 still_held held more h = grind arith
 
-point_good : (t : Taker) (v : Word) → MayPoint t.state → word_verdict t v ≡ fine → (respond_word t v).reply ≡ None
-    → Goes MayPoint past_ready with_point (respond_word t v) (respond_word (shifted with_point t) v)
-point_good t (says (DT o)) p h r =
-    fine_goes MayPoint past_ready with_point t _ h h (inr (p, record { next = refl; quiet = refl; closes = refl }))
-point_good t (says (GT k)) p h r =
-    fine_goes MayPoint past_ready with_point t _ h h
-    (inr (record { ready = p.ready; minor = still_held t.state.held k p.minor }, record { next = refl; quiet = refl; closes = refl }))
-point_good t (says (PT k o)) p h r =
-    fine_goes MayPoint past_ready with_point t _ h h (inr (p, record { next = refl; quiet = refl; closes = refl }))
-point_good t (says (MIP c n o)) p h r = grind (arith, passes)
-point_good t (says (MIA n o)) p h r =
+point_confirmed : (t : Taker) (n : ℕ) (o : List ℕ) → MayPoint t.state → word_verdict t (says (MIA n o)) ≡ fine →
+    BothGo MayPoint past_ready point_sent t (says (MIA n o))
+unfolding minor_confirmed point_sent
+point_confirmed t n o p h =
     let q = taken_conf t.state t.joined n o p.ready (passes t (says (MIA n o)) h) in
-    fine_goes MayPoint past_ready with_point t _ h (grind arith)
-    (grind (arith, numbers_alike))
-point_good t (says (MAP n o)) p h r = fine_gone MayPoint past_ready with_point t _ h refl
-point_good t (says (FN o)) p h r = fine_gone MayPoint past_ready with_point t _ h refl
-point_good t (says (RS k n w o)) p h r =
-    fine_gone MayPoint past_ready with_point t _ h
-    (grind (arith, stands, stands_ready, restarted_at))
-point_good t (says (AB b o)) p h r = absurd (grind (arith, respond_word t (says (AB b o)), word_at t (says (AB b o)) fine h))
-point_good t (says (CN v n m w from to z o)) p h r = grind (arith, neither, passes, excluded)
-point_good t (says (AC v n m w z o)) p h r = grind (arith, neither, passes, excluded)
-point_good t (says (RF c o)) p h r = grind (arith, neither, passes, excluded)
-point_good t (says (MAA n o)) p h r = grind (arith, neither, passes, excluded)
-point_good t (says (RA n w o)) p h r = grind (arith, neither, passes, excluded)
-point_good t (says (DN o)) p h r = grind (arith, neither, passes, excluded)
-point_good t (says (NF o)) p h r = grind (arith, neither, passes, excluded)
-point_good t (says AA) p h r = let e = (passes t (says AA) h).expected in absurd (cc)
-point_good t (part First o) p h r =
-    fine_goes MayPoint past_ready with_point t _ h h (inr (p, record { next = refl; quiet = refl; closes = refl }))
-point_good t (part Middle o) p h r =
-    fine_goes MayPoint past_ready with_point t _ h h (inr (p, record { next = refl; quiet = refl; closes = refl }))
-point_good t (part Last o) p h r =
-    fine_goes MayPoint past_ready with_point t _ h h (inr (p, record { next = refl; quiet = refl; closes = refl }))
+    fine_goes MayPoint past_ready point_sent t _ h (grind arith) (grind arith)
 
-point_step : (t : Taker) (v : Word) → MayPoint t.state → (respond_word t v).reply ≡ None →
-    Goes MayPoint past_ready with_point (respond_word t v) (respond_word (shifted with_point t) v)
-point_step t v p r = elim (quietly t v (excluded is_ready is_over refl t.state.phase p.ready) r) [
-  | inl d ↦ dropped_goes MayPoint past_ready point_sent t v p d
-  | inr f ↦ point_good t v p f r
-]
+point_taken_no : (t : Taker) (c : Bool) (n : ℕ) (o : List ℕ) → MayPoint t.state → word_verdict t (says (MIP c n o)) ≡ fine →
+    BothGo MayPoint past_ready point_sent t (says (MIP c n o))
+point_taken_no t c n o p h = grind (arith, passes)
 
 pub point_ahead : IsAheadBy MayPoint past_ready (renumbered point_sent)
-point_ahead = grind (arith, implied, past_ready_ends, point_step)
+point_ahead = ahead_by MayPoint past_ready point_sent (record {
+  phase = λ s p. implied is_ready may_confirm_minor refl s.phase p.ready;
+  tokens = λ s more p. record { ready = p.ready; minor = still_held s.held more p.minor };
+  major = refl;
+  restart = refl;
+  point = point_taken_no;
+  confirmed = point_confirmed;
+  finish = λ t o p h. fine_gone MayPoint past_ready point_sent t _ h refl;
+}) past_ready_ends refl
 
 -- ---- the confirmation of a minor point
 
@@ -226,69 +209,30 @@ pub record MayConfirm (s : State) : Type 0 where
   pub phase : may_confirm_minor s.phase ≡ true
   pub answers : s.numbers.answers ≡ true
 
-abbrev with_conf : ℕ → State → State
-with_conf n s = renumbered (minor_confirmed n) s
-
--- both leave the same numbers
-points_alike : (v : Numbers) (n : ℕ) → v.answers ≡ true → point_taken (minor_confirmed n v) ≡ minor_confirmed n (point_taken v)
-unfolding minor_confirmed point_taken
-points_alike v n e = grind arith
-
 same_point : (n : ℕ) (s : State) (j : Option (List ℕ)) (c : Bool) (m : ℕ) (o : List ℕ) →
     word_verdict (record { state = s; joined = j }) (says (MIP c m o)) ≡ fine
-    → word_verdict (record { state = with_conf n s; joined = j }) (says (MIP c m o)) ≡ fine
+    → word_verdict (record { state = renumbered (minor_confirmed n) s; joined = j }) (says (MIP c m o)) ≡ fine
 unfolding minor_confirmed
 same_point n s j c m o h = h
-
-answers_on : (v : Numbers) → (point_taken v).answers ≡ true
-unfolding point_taken
-answers_on v = refl
 
 no_ack : (answers b : Bool) → answers ≡ true → (not answers && b) ≡ true → ⊥
 no_ack answers b h k = grind arith
 
-conf_good : (m : ℕ) (t : Taker) (v : Word) → MayConfirm t.state → word_verdict t v ≡ fine → (respond_word t v).reply ≡ None
-    → Goes MayConfirm past_confirming (with_conf m) (respond_word t v) (respond_word (shifted (with_conf m) t) v)
-conf_good m t (says (DT o)) p h r =
-    fine_goes MayConfirm past_confirming (with_conf m) t _ h h (inr (p, record { next = refl; quiet = refl; closes = refl }))
-conf_good m t (says (GT k)) p h r =
-    fine_goes MayConfirm past_confirming (with_conf m) t _ h h
-    (inr (record { phase = p.phase; answers = p.answers }, record { next = refl; quiet = refl; closes = refl }))
-conf_good m t (says (PT k o)) p h r =
-    fine_goes MayConfirm past_confirming (with_conf m) t _ h h (inr (p, record { next = refl; quiet = refl; closes = refl }))
-conf_good m t (says (MIP c n o)) p h r =
-    fine_goes MayConfirm past_confirming (with_conf m) t _ h (same_point m t.state t.joined c n o h)
-    (grind (arith, answers_on, points_alike))
-conf_good m t (says (MIA n o)) p h r = absurd (no_ack t.state.numbers.answers _ p.answers (passes t (says (MIA n o)) h).met.1.0)
-conf_good m t (says (MAP n o)) p h r = fine_gone MayConfirm past_confirming (with_conf m) t _ h refl
-conf_good m t (says (FN o)) p h r =
-    fine_goes MayConfirm past_confirming (with_conf m) t _ h h
-    (inr (record { phase = refl; answers = p.answers }, record { next = refl; quiet = refl; closes = refl }))
-conf_good m t (says (RS k n w o)) p h r =
-    fine_gone MayConfirm past_confirming (with_conf m) t _ h
-    (grind (arith, stands, stands_ready, restarted_at))
-conf_good m t (says (AB b o)) p h r = absurd (grind (arith, respond_word t (says (AB b o)), word_at t (says (AB b o)) fine h))
-conf_good m t (says (CN v n x w from to z o)) p h r = grind (arith, neither, passes, excluded)
-conf_good m t (says (AC v n x w z o)) p h r = grind (arith, neither, passes, excluded)
-conf_good m t (says (RF c o)) p h r = grind (arith, neither, passes, excluded)
-conf_good m t (says (MAA n o)) p h r = grind (arith, neither, passes, excluded)
-conf_good m t (says (RA n w o)) p h r = grind (arith, neither, passes, excluded)
-conf_good m t (says (DN o)) p h r = grind (arith, neither, passes, excluded)
-conf_good m t (says (NF o)) p h r = grind (arith, neither, passes, excluded)
-conf_good m t (says AA) p h r = let e = (passes t (says AA) h).expected in absurd (cc)
-conf_good m t (part First o) p h r =
-    fine_goes MayConfirm past_confirming (with_conf m) t _ h h (inr (p, record { next = refl; quiet = refl; closes = refl }))
-conf_good m t (part Middle o) p h r =
-    fine_goes MayConfirm past_confirming (with_conf m) t _ h h (inr (p, record { next = refl; quiet = refl; closes = refl }))
-conf_good m t (part Last o) p h r =
-    fine_goes MayConfirm past_confirming (with_conf m) t _ h h (inr (p, record { next = refl; quiet = refl; closes = refl }))
-
-conf_step : (m : ℕ) (t : Taker) (v : Word) → MayConfirm t.state → (respond_word t v).reply ≡ None
-    → Goes MayConfirm past_confirming (with_conf m) (respond_word t v) (respond_word (shifted (with_conf m) t) v)
-conf_step m t v p r = elim (quietly t v (excluded may_confirm_minor is_over refl t.state.phase p.phase) r) [
-  | inl d ↦ dropped_goes MayConfirm past_confirming (minor_confirmed m) t v p d
-  | inr f ↦ conf_good m t v p f r
-]
+conf_point : (m : ℕ) (t : Taker) (c : Bool) (n : ℕ) (o : List ℕ) → MayConfirm t.state → word_verdict t (says (MIP c n o)) ≡ fine →
+    BothGo MayConfirm past_confirming (minor_confirmed m) t (says (MIP c n o))
+unfolding minor_confirmed point_taken
+conf_point m t c n o p h =
+    fine_goes MayConfirm past_confirming (minor_confirmed m) t _ h (same_point m t.state t.joined c n o h)
+    (grind arith)
 
 pub conf_ahead : (m : ℕ) → IsAheadBy MayConfirm past_confirming (renumbered (minor_confirmed m))
-conf_ahead m = grind (arith, implied, past_confirming_ends, conf_step)
+conf_ahead m = ahead_by MayConfirm past_confirming (minor_confirmed m) (record {
+  phase = λ s p. p.phase;
+  tokens = λ s more p. record { phase = p.phase; answers = p.answers };
+  major = refl;
+  restart = refl;
+  point = conf_point m;
+  confirmed = λ t n o p h. absurd (no_ack t.state.numbers.answers _ p.answers (passes t (says (MIA n o)) h).met.1.0);
+  finish = λ t o p h. fine_goes MayConfirm past_confirming (minor_confirmed m) t _ h h
+      (inr (record { phase = refl; answers = p.answers }, record { next = refl; quiet = refl; closes = refl }));
+}) past_confirming_ends refl

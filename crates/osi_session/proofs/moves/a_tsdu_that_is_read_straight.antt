@@ -23,11 +23,11 @@ pub comes_as_message : (read : Result Words SpduFault) (m : Meaning) (t : Taker)
 comes_as_message read m t e = ap (respond_came t) e ∙ words_of_message t m
 
 -- the effect of a message on a session, by what is in memory
-pub message_heard : (l : Listener) (s : State) (w : Option Meaning) (j k : Option (List ℕ)) (m : Meaning) (o : Outcome)
-    (read : Result Words SpduFault) → (let v : Listener = record { state = s; waiting = w; joined = j } in v ≡ l) → k ≡ j
-    → read ≡ Ok (words_of m) → (let t : Taker = record { state = s; joined = k } in enacted s m (word_verdict t (says m)) ≡ o)
+pub message_heard : {v l : Listener} {k : Option (List ℕ)} {o : Outcome} (m : Meaning) (read : Result Words SpduFault) → v ≡ l →
+    k ≡ v.joined
+    → read ≡ Ok (words_of m) → (let t : Taker = record { state = v.state; joined = k } in enacted v.state m (word_verdict t (says m)) ≡ o)
     → respond_came (taker_of l) read ≡ heard l.joined o
-message_heard l s w j k m o read view same e h = grind (arith, comes_as_message read m (taker_of l) e, message_is (taker_of l) m)
+message_heard {l = l} m read view same e h = grind (arith, comes_as_message read m (taker_of l) e, message_is (taker_of l) m)
 
 -- a message that only has an indication and a new state
 pub shows_alone : (l new : Listener) (r : Reaction) (next : State) (shown : Indication) →

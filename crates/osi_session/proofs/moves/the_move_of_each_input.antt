@@ -14,9 +14,6 @@ call_is s c a e = ap (answered s) e
 pub call_next : (s : Listener) (c : Call) (x : Step) → allowed s.state c ≡ Ok x → (react s (called c)).next ≡ in_state s x.next
 call_next s c x e = ap (λ (m : Move). m.next) (call_is s c (Ok x) e)
 
-pub call_leaves : (s : Listener) (c : Call) (x : Step) → allowed s.state c ≡ Ok x → in_state s x.next ≡ (react s (called c)).next
-call_leaves s c x e = sym (call_next s c x e)
-
 pub call_sends : (s : Listener) (c : Call) (x : Step) → allowed s.state c ≡ Ok x →
     tsdus_of (limit_of s.state) x.sent ≡ tsdus_sent (limit_of s.state) (react s (called c)).reply
 call_sends s c x e = sym (ap (λ (m : Move). tsdus_sent (limit_of s.state) m.reply) (call_is s c (Ok x) e))
@@ -57,14 +54,14 @@ accepted s c plan p e = ap (λ (x : State). allowed x c) (sym e) ∙ p.1
 
 pub committed : (s : Listener) (c : Call) (plan : Planned) → IsPlanOf c plan → plan.was ≡ s.state →
     in_state s plan.next ≡ after_input s (called c)
-committed s c plan p e = call_leaves s c (record { next = plan.next; sent = p.0 }) (accepted s c plan p e)
+committed s c plan p e = sym (call_next s c (record { next = plan.next; sent = p.0 }) (accepted s c plan p e))
 
 pub committed_sends : (s : Listener) (c : Call) (plan : Planned) → IsPlanOf c plan → plan.was ≡ s.state →
     plan.sent ≡ tsdus_sent (limit_of s.state) (react s (called c)).reply
 committed_sends s c plan p e =
     p.2 ∙ ap (λ (x : State). tsdus_of (limit_of x) p.0) e ∙ call_sends s c (record { next = plan.next; sent = p.0 }) (accepted s c plan p e)
 
-over_refused : (s : State) (c : Call) → is_over s.phase ≡ true → allowed s c ≡ Err error.Ended
+pub over_refused : (s : State) (c : Call) → is_over s.phase ≡ true → allowed s c ≡ Err error.Ended
 unfolding allowed
 over_refused s c h = rw h refl
 

@@ -1,11 +1,11 @@
 -- The moves of a session in memory.
-use Rattle.osi_session.proofs.Vocabulary.{SpduFault, Meaning, IsNumberedWord, AreNumberedWords, said_at, Place, Word, Words, part}
-use Rattle.osi_session.proofs.Vocabulary.{Indication, Reactions, Heard, State, Taker, Hearing, kept_in, joined_octets, is_last}
-use Rattle.osi_session.proofs.Vocabulary.{word_verdict, heard, respond_word, respond_tsdu, respond_came, Listener, Move, moved, taker_of}
-use Rattle.osi_session.proofs.Vocabulary.{is_wait_transport, fine, Takes, takes_memory, IsSound, hearing_of, hearing_of_all, outcome_of}
-use Rattle.osi_session.proofs.Vocabulary.{outcome_of_all, shown_list, takes_room, plain_said, plain_word, came, react, arith, ◌≡◌, ◌∙◌}
-use Rattle.osi_session.proofs.Vocabulary.{refl, sym, subst, ℕ, ◌≤◌, ◌<◌, true, false, ◌&&◌, if◌then◌else◌, is_some, List, [], ◌∷◌, ◌++◌}
-use Rattle.osi_session.proofs.Vocabulary.{length, Option, Some, None, Result, Ok, Err, PlainUnit, Expected, Taken, Tries, met_by}
+use Rattle.osi_session.proofs.Vocabulary.{SpduFault, IsNumberedWord, AreNumberedWords, said_at, Place, Word, Words, part, Indication}
+use Rattle.osi_session.proofs.Vocabulary.{Reactions, Heard, Taker, Hearing, kept_in, joined_octets, is_last, word_verdict, respond_word}
+use Rattle.osi_session.proofs.Vocabulary.{respond_tsdu, respond_came, Listener, Move, moved, taker_of, is_wait_transport, fine, Takes}
+use Rattle.osi_session.proofs.Vocabulary.{takes_memory, IsSound, hearing_of, hearing_of_all, outcome_of, outcome_of_all, shown_list}
+use Rattle.osi_session.proofs.Vocabulary.{takes_room, plain_said, plain_word, came, react, arith, ◌≡◌, refl, sym, subst, ℕ, ◌≤◌, ◌<◌, true}
+use Rattle.osi_session.proofs.Vocabulary.{◌&&◌, if◌then◌else◌, is_some, List, [], ◌∷◌, ◌++◌, length, Option, Some, None, Result, Ok, Err}
+use Rattle.osi_session.proofs.Vocabulary.{PlainUnit, Expected, Taken, Tries, met_by}
 use Rattle.osi_session.specs.Shown.{Data}
 use Rattle.osi_session.proofs.tsdu.the_effect_of_a_word.{fine_holds, first_is, middle_is, last_is, early_takes}
 use Rattle.osi_session.proofs.tsdu.what_is_joined.{InPhase, Few, words_in_phase, words_few}
@@ -28,10 +28,10 @@ pub record Holds (l : Listener) : Type 0 where
   pub phase : InPhase (taker_of l)
   pub few : Few l.joined
 
-pub holds : (l : Listener) (s : State) (w : Option Meaning) (j : Option (List ℕ)) →
-    (let v : Listener = record { state = s; waiting = w; joined = j } in v ≡ l)
-    → IsSound s → kept_in s.phase j ≡ j → length (joined_octets j) ≤ 1048572 → Holds l
-holds l s w j e sound phase few = subst Holds e (record { sound = sound; phase = phase; few = few })
+pub holds : {v l : Listener} → v ≡ l → IsSound v.state → kept_in v.state.phase v.joined ≡ v.joined →
+    length (joined_octets v.joined) ≤ 1048572
+    → Holds l
+holds e sound phase few = subst Holds e (record { sound = sound; phase = phase; few = few })
 
 pub record Leaves (l : Listener) (h : Hearing) : Type 0 where
   pub sound : IsSound h.next.state
@@ -67,58 +67,35 @@ pub of_heard : (j : Option (List ℕ)) (r : Reactions) (h : Heard) (want : Heari
 of_heard j r h want e f w = grind arith
 
 -- the same, by what is in memory
-pub heard_by : (want : Taker → Hearing) (l : Listener) (s : State) (w : Option Meaning) (j k : Option (List ℕ)) (r : Reactions) →
-    (let v : Listener = record { state = s; waiting = w; joined = j } in v ≡ l) → k ≡ j
-    → hearing_of_all k r ≡ want (record { state = s; joined = k }) → hearing_of_all l.joined r ≡ want (taker_of l)
-heard_by want l s w j k r view same heard = grind arith
+pub heard_by : {v l : Listener} {k : Option (List ℕ)} (want : Taker → Hearing) (r : Reactions) → v ≡ l → k ≡ v.joined →
+    hearing_of_all k r ≡ want (record { state = v.state; joined = k }) → hearing_of_all l.joined r ≡ want (taker_of l)
+heard_by want r view same h = grind arith
 
-pub room_by : (want : Taker → Hearing) (l : Listener) (s : State) (w : Option Meaning) (j k : Option (List ℕ)) →
-    (let v : Listener = record { state = s; waiting = w; joined = j } in v ≡ l) → k ≡ j
-    → takes_room k (want (record { state = s; joined = k })) ≡ true → takes_memory l (moved l (want (taker_of l))) ≡ true
-room_by want l s w j k view same room = grind arith
+pub room_by : {v l : Listener} {k : Option (List ℕ)} (want : Taker → Hearing) → v ≡ l → k ≡ v.joined →
+    takes_room k (want (record { state = v.state; joined = k })) ≡ true → takes_memory l (moved l (want (taker_of l))) ≡ true
+room_by want view same room = grind arith
 
-pub leaves_by : (want : Taker → Hearing) (l : Listener) (s : State) (w : Option Meaning) (j k : Option (List ℕ)) (r : Reactions) →
-    (let v : Listener = record { state = s; waiting = w; joined = j } in v ≡ l) → k ≡ j
-    → hearing_of_all k r ≡ want (record { state = s; joined = k }) → IsSound s → kept_in s.phase j ≡ j →
-    length (joined_octets j) ≤ 1048572 → (Holds l → Leaves l (want (taker_of l)))
-    → Leaves l (hearing_of_all l.joined r)
-leaves_by want l s w j k r view same heard sound kept few leaves = grind (arith, leaves_as, heard_by, holds)
-
-pub value_of : (want : Taker → Hearing) (l : Listener) (s : State) (j : Option (List ℕ)) (h : Hearing) → s ≡ l.state → j ≡ l.joined
-    → want (record { state = s; joined = j }) ≡ h → want (taker_of l) ≡ h
-value_of want l s j h e f k = let p : _ ≡ _ = (λ i. want (record { state = e i; joined = f i })) in sym p ∙ k
-
-pub of_place : (P : Taker → Type 0) (l : Listener) (s : State) (j : Option (List ℕ)) → s ≡ l.state → j ≡ l.joined →
-    P (record { state = s; joined = j }) → P (taker_of l)
-of_place P l s j e f h = grind arith
+pub leaves_by : {v l : Listener} {k : Option (List ℕ)} (want : Taker → Hearing) (r : Reactions) → v ≡ l → k ≡ v.joined →
+    hearing_of_all k r ≡ want (record { state = v.state; joined = k }) → IsSound v.state → kept_in v.state.phase v.joined ≡ v.joined →
+    length (joined_octets v.joined) ≤ 1048572 → (Holds l → Leaves l (want (taker_of l))) → Leaves l (hearing_of_all l.joined r)
+leaves_by {l = l} want r view same h sound kept few leaves =
+    leaves_as l (hearing_of_all l.joined r) (want (taker_of l)) (heard_by want r view same h) (leaves (holds view sound kept few))
 
 -- ---- a part
 
-abbrev quietly : State → Option (List ℕ) → Hearing
-quietly s j = record { next = record { state = s; joined = j }; shown = []; reply = None; closes = false }
-
-abbrev showing : State → List ℕ → Hearing
-showing s o = record { next = record { state = s; joined = None }; shown = Data o ∷ []; reply = None; closes = false }
-
 -- a good part is joined, and the last shows what is joined
-pub part_joins : {E : Type 0} (place : Place) (e : Expected) (r : Option Indication) (l : Listener) (s : State) (w : Option Meaning)
-    (j k m : Option (List ℕ)) (o : List ℕ)
-    → (let v : Listener = record { state = s; waiting = w; joined = j } in v ≡ l) → word_verdict (taker_of l) (part place o) ≡ fine →
-    k ≡ Some (joined_octets j ++ o)
+pub part_joins : {E : Type 0} {v l : Listener} {k m : Option (List ℕ)} {e : Expected} (r : Option Indication) (place : Place) (o : List ℕ) →
+    v ≡ l → word_verdict (taker_of l) (part place o) ≡ fine → k ≡ Some (joined_octets v.joined ++ o)
     → shown_list r ≡ (if is_last place && is_some k then Data (joined_octets k) ∷ [] else []) →
-    m ≡ (if◌then◌else◌ {A = Option (List ℕ)} (is_last place) None k)
-    → e ≡ met_by r
-    → (let x : Result Expected E = Ok e in let n : Listener = record { state = s; waiting = w; joined = m } in
-    Tries x (moved l (respond_word (taker_of l) (part place o))) l n)
-part_joins {E = E} place e r l s w j k m o view fit f shown n met = grind (arith, respond_word, first_is, fine_holds, middle_is, last_is)
+    m ≡ (if◌then◌else◌ {A = Option (List ℕ)} (is_last place) None k) → e ≡ met_by r
+    → (let x : Result Expected E = Ok e in Tries x (moved l (respond_word (taker_of l) (part place o))) l (record v { joined = m }))
+part_joins r place o view fit f shown n met = grind (arith, respond_word, first_is, fine_holds, middle_is, last_is)
 
 -- an allocation failure changes nothing
-pub part_refused : {E : Type 0} (e : E) (place : Place) (l : Listener) (s : State) (w : Option Meaning) (j k : Option (List ℕ)) (o : List ℕ)
-    → (let v : Listener = record { state = s; waiting = w; joined = j } in v ≡ l) → word_verdict (taker_of l) (part place o) ≡ fine →
-    k ≡ j → 0 < length o
-    → (let r : Result Expected E = Err e in let n : Listener = record { state = s; waiting = w; joined = k } in
-    Tries r (moved l (respond_word (taker_of l) (part place o))) l n)
-part_refused e place l s w j k o view fit same h = grind (arith, first_is, early_takes, fine_holds, middle_is, last_is)
+pub part_refused : {E : Type 0} {v l : Listener} {k : Option (List ℕ)} (e : E) (place : Place) (o : List ℕ) → v ≡ l →
+    word_verdict (taker_of l) (part place o) ≡ fine → k ≡ v.joined → 0 < length o
+    → (let r : Result Expected E = Err e in Tries r (moved l (respond_word (taker_of l) (part place o))) l (record v { joined = k }))
+part_refused e place o view fit same h = grind (arith, first_is, early_takes, fine_holds, middle_is, last_is)
 
 -- ---- a TSDU on the fast path
 

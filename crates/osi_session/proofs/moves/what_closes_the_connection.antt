@@ -1,15 +1,14 @@
 -- What closes the transport connection, and that nothing is sent with it.
-use Rattle.osi_session.proofs.Vocabulary.{list_any, SpduFault, Kind, Zero, Two, category_of, Known, Meaning, meaning_by, said_at, Word}
-use Rattle.osi_session.proofs.Vocabulary.{Words, State, is_ended, Call, may_close, may_close_word, closes_alone, Taker, Hearing}
-use Rattle.osi_session.proofs.Vocabulary.{word_verdict, respond_word, respond_words, heard_then, acting_words, respond_tsdu, Input, called}
-use Rattle.osi_session.proofs.Vocabulary.{came_as, came, Listener, Move, react, listening, in_words, Outcome, reply_for, closes_for}
-use Rattle.osi_session.proofs.Vocabulary.{respond_unit, is_faulty, respond_fault, ◌≡◌, refl, sym, ◌∙◌, ap, subst, ℕ, Bool, true, false}
-use Rattle.osi_session.proofs.Vocabulary.{◌||◌, List, [], ◌∷◌, None, Result, Ok, if◌then◌else◌, arith, list_any-append}
+use Rattle.osi_session.proofs.Vocabulary.{list_any, SpduFault, category_of, Meaning, said_at, Word, Words, State, is_ended, Call, may_close}
+use Rattle.osi_session.proofs.Vocabulary.{may_close_word, closes_alone, Taker, Hearing, respond_word, respond_words, acting_words}
+use Rattle.osi_session.proofs.Vocabulary.{respond_tsdu, Input, called, came_as, came, Listener, Move, react, listening, in_words, Outcome}
+use Rattle.osi_session.proofs.Vocabulary.{respond_unit, respond_fault, ◌≡◌, refl, sym, ◌∙◌, ap, subst, ℕ, Bool, true, false, ◌||◌, List, []}
+use Rattle.osi_session.proofs.Vocabulary.{◌∷◌, None, Result, Ok, arith, list_any-append, or_parts}
 use Rattle.osi_session.specs.Moves as whole
-use Rattle.osi_session.proofs.tables.units_that_are_alone.{stands_alone, alone_in_octets}
+use Rattle.osi_session.proofs.tables.units_that_are_alone.{stands_alone, alone_in_octets, or_none}
 use Rattle.osi_session.proofs.runs.what_every_run_preserves.{word_ended}
 use Rattle.osi_session.proofs.tables.the_verdict_on_a_unit.{enacts}
-use Rattle.osi_session.proofs.tables.a_word_acts_as_its_message.{outcome_in, word_does, all_keep, any_word}
+use Rattle.osi_session.proofs.tables.a_word_acts_as_its_message.{outcome_in, word_does, words_do, all_keep, any_word}
 use Rattle.osi_session.proofs.tables.messages_act_as_the_table_says.{word_alone, moves_as_whole}
 
 -- ---- one unit
@@ -22,11 +21,8 @@ pub record ClosesLast (o : Outcome) : Type 0 where
 open_still : (o : Outcome) → o.closes ≡ false → ClosesLast o
 open_still o h = record { silent = λ k. absurd (cc); last = λ k. absurd (cc) }
 
-good_silent : (u : Meaning) → closes_for u ≡ true → reply_for u ≡ None
-good_silent u h0 = grind arith
-
 unit_closes_last : (s : State) (u : Meaning) → ClosesLast (respond_unit s u)
-unit_closes_last s u = subst ClosesLast (sym (enacts s u)) (grind (arith, open_still, good_silent))
+unit_closes_last s u = subst ClosesLast (sym (enacts s u)) (grind (arith, open_still))
 
 pub unit_silent : (s : State) (u : Meaning) → (respond_unit s u).closes ≡ true → (respond_unit s u).reply ≡ None
 unit_silent s u = (unit_closes_last s u).silent
@@ -41,9 +37,6 @@ word_closes_last t w =
 abbrev Ends : Hearing → Type 0
 Ends h = h.closes ≡ true → is_ended h.next.state.phase ≡ true
 
-either_ends : (b : Bool) (x y : Hearing) → Ends x → Ends y → Ends (if b then x else y)
-either_ends b x y h k = grind arith
-
 or_ends : (a b : Bool) (next : State) → (a ≡ true → is_ended next.phase ≡ true) → (b ≡ true → is_ended next.phase ≡ true)
     → (a || b) ≡ true → is_ended next.phase ≡ true
 or_ends a b next h k c = grind arith
@@ -52,40 +45,23 @@ stays_ended : (t : Taker) (ws : Words) → is_ended t.state.phase ≡ true → i
 stays_ended t ws h = all_keep (λ r. is_ended r.phase ≡ true) (λ w. Unit {0}) t ws (λ r w q. word_ended r w) (any_word ws) h
 
 all_end : (t : Taker) (ws : Words) → Ends (respond_words t ws)
-unfolding respond_words
-all_end t [] = λ h. absurd (cc)
-all_end t (w ∷ ws) =
-    let one = word_closes_last t w in
-    let next = (respond_word t w).next in
-    either_ends (is_faulty (word_verdict t w)) (respond_word t w) (heard_then (respond_word t w) (respond_words next ws)) one.last
-    (or_ends (respond_word t w).closes (respond_words next ws).closes (respond_words next ws).next.state
-    (λ h. stays_ended next ws (one.last h)) (all_end next ws))
+all_end = words_do (λ t ws h. Ends h) (λ t h. absurd (cc)) (λ t w ws. (word_closes_last t w).last)
+    (λ t w ws more. or_ends _ _ (respond_words (respond_word t w).next ws).next.state
+    (λ c. stays_ended (respond_word t w).next ws ((word_closes_last t w).last c)) more)
 
 -- ---- units that leave the transport connection open
-
-pub neither : (a b : Bool) → (a || b) ≡ false → (a ≡ false) × (b ≡ false)
-neither a b h = grind arith
-
-none_closes : (a b : Bool) → a ≡ false → b ≡ false → (a || b) ≡ false
-none_closes a b h k = rw (h, k) refl
 
 pub word_open : (t : Taker) (w : Word) → may_close_word w ≡ false → (respond_word t w).closes ≡ false
 word_open t w h = word_does (λ o. o.closes ≡ false) t w (grind (arith, enacts))
 
-either_still : (b : Bool) (x y : Hearing) → x.closes ≡ false → y.closes ≡ false → (if b then x else y).closes ≡ false
-either_still b x y h k = grind arith
-
 all_open : (t : Taker) (ws : Words) → list_any may_close_word ws ≡ false → (respond_words t ws).closes ≡ false
-unfolding respond_words
-all_open t [] h = refl
-all_open t (w ∷ ws) h =
-    let q = neither (may_close_word w) (list_any may_close_word ws) h in
-    let one = word_open t w q.0 in
-    either_still (is_faulty (word_verdict t w)) _ _ one (none_closes _ _ one (all_open (respond_word t w).next ws q.1))
+all_open = words_do (λ t ws h. list_any may_close_word ws ≡ false → h.closes ≡ false) (λ t h. refl)
+    (λ t w ws h. word_open t w (or_parts _ _ h).0)
+    (λ t w ws more h. let q = or_parts _ _ h in or_none _ _ (word_open t w q.0) (more q.1))
 
 pub acting_none : (p : Word → Bool) (words : Words) → list_any p words ≡ false → list_any p (acting_words words) ≡ false
 unfolding acting_words
-acting_none p words h = grind (arith, neither, list_any-append, none_closes)
+acting_none p words h = grind (arith, or_parts, list_any-append, or_none)
 
 -- ---- the words of a TSDU
 
@@ -101,20 +77,13 @@ words_silent t (w ∷ v ∷ ws) h c = grind (arith, words_open)
 
 -- ---- what is read from octets
 
-behind_open : (k : Kind) (known : Known) (information : List ℕ) → category_of k ≡ Two → may_close (meaning_by k known information) ≡ false
-unfolding category_of
-behind_open k known information h0 = grind arith
-
-item_open : (k : Kind) (known : Known) (information : List ℕ) → category_of k ≡ Zero → may_close (meaning_by k known information) ≡ false
-unfolding category_of
-item_open k known information h0 = grind arith
-
 closes_so : (words : Words) → stands_alone may_close words ≡ true → closes_alone words ≡ true
 closes_so words h0 = grind arith
 
 -- in the meaning of octets, a word that may close is alone
 pub octets_alone : (octets : List ℕ) (words : Words) → said_at octets ≡ Ok words → closes_alone words ≡ true
-octets_alone octets words e = closes_so words (alone_in_octets may_close (grind (arith, item_open, behind_open)) octets words e)
+unfolding category_of
+octets_alone octets words e = closes_so words (alone_in_octets may_close (grind arith) octets words e)
 
 -- ---- moves
 

@@ -1,9 +1,9 @@
 -- What gives a token to a side, and what takes it away.
 use Rattle.osi_session.proofs.Vocabulary.{or_left, or_right, and_parts, State, Tokens, FunctionalUnits, Token, has, set_of, no_token}
-use Rattle.osi_session.proofs.Vocabulary.{is_within, without, united, both_units, available, Call, Give, Meaning, Step, after, allowed}
-use Rattle.osi_session.proofs.Vocabulary.{becomes, bad, respond_unit, UnitFault, to_asker, to_answerer, call_gives, unit_gives, call_holds}
-use Rattle.osi_session.proofs.Vocabulary.{unit_holds, ◌≡◌, sym, ◌∙◌, Bool, true, false, not, ◌&&◌, ◌||◌, unwrap_or, Ok, if◌then◌else◌}
-use Rattle.osi_session.proofs.Vocabulary.{arith, Sides, side_for, is_asker}
+use Rattle.osi_session.proofs.Vocabulary.{is_within, without, united, both_units, available, Call, Give, Meaning, Step, allowed, becomes}
+use Rattle.osi_session.proofs.Vocabulary.{bad, respond_unit, UnitFault, to_asker, to_answerer, call_gives, unit_gives, call_holds}
+use Rattle.osi_session.proofs.Vocabulary.{unit_holds, ◌≡◌, sym, ◌∙◌, Bool, true, false, not, ◌&&◌, ◌||◌, unwrap_or, Ok, arith, Sides}
+use Rattle.osi_session.proofs.Vocabulary.{side_for, is_asker}
 use Rattle.osi_session.specs.Sides.{of_asker, of_answerer}
 use Rattle.osi_session.proofs.tables.what_an_accepted_call_has_passed.{passed}
 use Rattle.osi_session.proofs.tables.the_outcomes_of_each_input.{unit_cases}
@@ -12,10 +12,6 @@ use Rattle.osi_session.proofs.tables.the_outcomes_of_each_input.{unit_cases}
 
 pub has_set : (p : Token → Bool) (t : Token) → has (set_of p) t ≡ p t
 has_set p t = grind arith
-
-within_has : (a b : Tokens) (t : Token) → is_within a b ≡ true → has a t ≡ true → has b t ≡ true
-unfolding is_within
-within_has a b t h0 h1 = grind arith
 
 without_has : (a b : Tokens) (t : Token) → has (without a b) t ≡ (has a t && not (has b t))
 unfolding without
@@ -41,7 +37,8 @@ no_token_has t = has_set (λ t. false) t
 -- tokens that are given were held, and are not held after
 pub given : (s : State) (tokens : Tokens) (x : Step) (t : Token) → allowed s (Give tokens) ≡ Ok x → has tokens t ≡ true
     → (has s.held t ≡ true) × (has x.next.held t ≡ false)
-given s tokens x t h k = grind (arith, passed, within_has, without, without_has)
+unfolding is_within
+given s tokens x t h k = grind (arith, passed, without, without_has)
 
 -- ---- a token is held only if it was, or was given
 
@@ -57,39 +54,23 @@ none s t h = absurd (let w = no_token_has t in cc)
 to_one : (s : State) (units : FunctionalUnits) (sides : Sides) (t : Token) → HeldBy (to_asker units sides t) s t (of_asker units sides)
 to_one s units sides t h = or_right (has s.held t) (to_asker units sides t) (sym (asker_has units sides t) ∙ h)
 
-after_held : (s : State) (c : Call) (t : Token) → HeldBy (call_gives s c t) s t (after s c).held
-after_held s c t = grind (arith, or_right, answerer_has, none, or_left, and_parts, without_has, kept)
-
 pub call_held : (s : State) (c : Call) (x : Step) (t : Token) → allowed s c ≡ Ok x → has x.next.held t ≡ true →
     (has s.held t || call_gives s c t) ≡ true
-call_held s c x t e = search (arith, passed, after_held)
-
-restart_held : (b : Bool) (s x : State) (t : Token) → x.held ≡ no_token → HeldBy false s t (if b then x else s).held
-restart_held b s x t e = grind (arith, none, kept)
-
-becomes_held : (s : State) (u : Meaning) (t : Token) → HeldBy (unit_gives s u t) s t (becomes s u).held
-becomes_held s u t = search (arith, kept, none, unwrap_or, to_one, united_has, restart_held)
+call_held s c x t e = search (arith, passed, or_right, answerer_has, none, or_left, and_parts, without_has, kept)
 
 pub unit_held : (s : State) (u : Meaning) (t : Token) → has (respond_unit s u).next.held t ≡ true →
     (has s.held t || unit_gives s u t) ≡ true
-unit_held s u t = unit_cases (λ next. HeldBy (unit_gives s u t) s t next.held) s u (grind (arith, becomes_held))
+unit_held s u t =
+    unit_cases (λ next. HeldBy (unit_gives s u t) s t next.held) s u (grind (arith, kept, none, unwrap_or, to_one, united_has))
 
 -- ---- exactly what is held
 
--- after an accepted call
-after_holds : (s : State) (c : Call) (t : Token) → has (after s c).held t ≡ call_holds s c t
-after_holds s c t = grind (arith, answerer_has, no_token_has, without_has)
-
 pub call_holds_it : (s : State) (c : Call) (x : Step) (t : Token) → allowed s c ≡ Ok x → has x.next.held t ≡ call_holds s c t
-call_holds_it s c x t e = grind (arith, passed, after_holds)
-
-either_holds : (b : Bool) (x y : State) (t : Token) (p q : Bool) → has x.held t ≡ p → has y.held t ≡ q →
-    has (if b then x else y).held t ≡ (if b then p else q)
-either_holds b x y t p q h k = grind arith
+call_holds_it s c x t e = grind (arith, passed, answerer_has, no_token_has, without_has)
 
 -- after a good unit
 pub unit_holds_it : (s : State) (u : Meaning) (t : Token) → has (becomes s u).held t ≡ unit_holds s u t
-unit_holds_it s u t = grind (arith, either_holds, unwrap_or, no_token_has, both_units, asker_has, united_has)
+unit_holds_it s u t = grind (arith, unwrap_or, no_token_has, both_units, asker_has, united_has)
 
 -- and after a bad one
 pub bad_holds_none : (s : State) (fault : UnitFault) (t : Token) → has (bad s fault).next.held t ≡ false

@@ -1,11 +1,10 @@
 -- Each accepted call keeps the invariant of a session.
-use Rattle.osi_session.proofs.Vocabulary.{leb-true, ltb-true, and_parts, TokenSetting, TsduMaximumSize, are_sizes, Phase, Ready, MajorAsked}
-use Rattle.osi_session.proofs.Vocabulary.{Releasing, Restarting, Aborting, Ended, State, Numbers, FunctionalUnits, Tokens, point_sent}
-use Rattle.osi_session.proofs.Vocabulary.{minor_confirmed, restarted_at, in_major, is_restart_due, may_hold, is_ready, is_major_due}
-use Rattle.osi_session.proofs.Vocabulary.{may_confirm_minor, is_wait_transport, without_tokens, IsSound, AreOrdered, Call, Accept, Data}
-use Rattle.osi_session.proofs.Vocabulary.{Give, Please, Minor, MinorConfirm, Major, MajorConfirm, Restart, RestartConfirm, Release}
-use Rattle.osi_session.proofs.Vocabulary.{ReleaseRefuse, Abort, HasSerial, Step, opened_with, is_confirmable, is_restartable, last_number}
-use Rattle.osi_session.proofs.Vocabulary.{needs, may_call, after, allowed, AllHold, ◌≡◌, refl, ℕ, ◌≤◌, ◌<◌, true, false, Ok, arith}
+use Rattle.osi_session.proofs.Vocabulary.{leb-true, ltb-true, and_parts, TokenSetting, TsduMaximumSize, are_sizes, Phase, Restarting, State}
+use Rattle.osi_session.proofs.Vocabulary.{Numbers, FunctionalUnits, Tokens, point_sent, minor_confirmed, restarted_at, in_major}
+use Rattle.osi_session.proofs.Vocabulary.{is_restart_due, may_hold, is_ready, is_wait_transport, without_tokens, IsSound, AreOrdered, Call}
+use Rattle.osi_session.proofs.Vocabulary.{Accept, Minor, Major, MajorConfirm, Restart, HasSerial, Step, opened_with, is_restartable}
+use Rattle.osi_session.proofs.Vocabulary.{last_number, needs, may_call, after, allowed, AllHold, ◌≡◌, refl, ℕ, ◌≤◌, ◌<◌, true, false, Ok}
+use Rattle.osi_session.proofs.Vocabulary.{arith, is_major_due}
 use Rattle.osi_session.proofs.tables.what_an_accepted_call_has_passed.{passed}
 use Rattle.osi_session.proofs.tables.what_is_true_of_each_phase.{implied, excluded}
 use Rattle.osi_session.proofs.values.what_sizes_are_agreed.{answered_are}
@@ -31,11 +30,6 @@ pub opened : (units : FunctionalUnits) (held : Tokens) (base : ℕ) (sizes : Tsd
     → IsSound s → IsSound (opened_with units held base sizes s)
 opened units held base sizes s h0 h1 h2 = grind arith
 
-minor_moved : (s : State) (n : ℕ) → is_confirmable s.numbers n ≡ true → may_confirm_minor s.phase ≡ true → IsSound s
-    → IsSound (record s { numbers = minor_confirmed n s.numbers })
-unfolding minor_confirmed
-minor_moved s n c p h = grind (arith, and_parts, leb-true, ltb-true, moved, excluded)
-
 restart_moved : (s : State) (n : ℕ) (w : TokenSetting) → is_restartable s n ≡ true → IsSound s
     → IsSound (record (without_tokens Restarting s) { wishes = w; numbers = restarted_at n s.numbers })
 restart_moved s n w r h =
@@ -44,31 +38,19 @@ restart_moved s n w r h =
     let top = leb-true n last_number (and_parts _ _ a.1).0 in
     grind (arith, restart_ordered s.base n s.numbers h.ordered (omega arith) (omega arith))
 
-pub major_moved : (s : State) → s.numbers.next < 1000000 → IsSound s
-    → IsSound (record s { phase = MajorAsked; numbers = point_sent s.numbers })
-unfolding point_sent
-major_moved s left h = grind (arith, sent_ordered)
-
 pub after_sound : (s : State) (c : Call) → HasSerial c → may_call s.phase c ≡ true → AllHold (needs s c) → IsSound s → IsSound (after s c)
+unfolding minor_confirmed point_sent
 after_sound s (Accept requirements serial sides sizes octets) small p t h = grind (arith, opened, answered_are)
-after_sound s (Data octets) small p t h = h
-after_sound s (Give tokens) small p t h = grind (arith, implied)
-after_sound s (Please tokens octets) small p t h = h
 after_sound s (Minor confirm octets) small p t h =
     let left = leb-true s.numbers.next last_number t.1.1.0 in
     let from = h.ordered.confirmed_from in moved (point_sent s.numbers) s (sent_ordered s.base s.numbers h.ordered (omega arith))
     (λ k. absurd (let m = excluded is_ready in_major refl s.phase p in cc))
     (excluded is_ready is_restart_due refl s.phase p) h
-after_sound s (MinorConfirm n octets) small p t h = minor_moved s n t.1.0 p h
-after_sound s (Major octets) small p t h = grind (arith, leb-true, major_moved)
+after_sound s (Major octets) small p t h = grind (arith, leb-true, sent_ordered)
 after_sound s (MajorConfirm octets) small p t h =
     grind (arith, holding_phase, moved, major_ordered s.base s.numbers h.ordered, excluded is_major_due is_restart_due refl s.phase p)
 after_sound s (Restart n wishes octets) small p t h = restart_moved s n _ t.1.0 h
-after_sound s (RestartConfirm sides octets) small p t h = grind arith
-after_sound s (Release octets) small p t h = holding_phase Releasing s refl refl refl h
-after_sound s (ReleaseRefuse octets) small p t h = holding_phase Ready s refl refl refl h
-after_sound s (Abort octets) small p t h = bare Aborting s refl refl h
-after_sound s _ small p t h = bare Ended s refl refl h
+after_sound s _ small p t h = grind (arith, implied, bare, holding_phase, and_parts, leb-true, ltb-true, moved, excluded)
 
 -- an accepted call keeps what is true at all times
 pub call_sound : (s : State) (c : Call) (x : Step) → HasSerial c → allowed s c ≡ Ok x → IsSound s → IsSound x.next

@@ -1,19 +1,16 @@
 -- What a side may send: calls that a phase refuses, and that its state keeps the invariant.
 use Rattle.osi_session.proofs.Vocabulary.{says, has_no_effect, begins_anew, and_parts, Phase, Releasing, is_over, is_wait_transport}
 use Rattle.osi_session.proofs.Vocabulary.{is_answering, State, FunctionalUnits, TokenSetting, TsduMaximumSize, are_sizes, has_data, IsSound}
-use Rattle.osi_session.proofs.Vocabulary.{Call, Refuse, Data, Give, Please, Minor, MinorConfirm, Major, MajorConfirm, Restart}
-use Rattle.osi_session.proofs.Vocabulary.{ReleaseAccept, ReleaseRefuse, Abort, HasSerial, Answer, Step, may_call, met, most_of, octets_of}
-use Rattle.osi_session.proofs.Vocabulary.{names, Meaning, CN, AC, RF, DT, GT, PT, MIP, MIA, MAP, MAA, RS, RA, FN, DN, NF, AB, AA}
-use Rattle.osi_session.proofs.Vocabulary.{IsNumbered, IsSmall, said_at, meant_by, meant_numbered, ◌≡◌, refl, subst, ℕ, ◌+◌, zero, suc, Bool}
-use Rattle.osi_session.proofs.Vocabulary.{true, false, not, ◌&&◌, ◌||◌, ◌==◌, is_none, if◌then◌else◌, nat_le, List, [], ◌∷◌, length, Option}
-use Rattle.osi_session.proofs.Vocabulary.{Some, None, Ok, option_map, arith, taker_with, CountsCame, message_breach, word_breach}
-use Rattle.osi_session.proofs.Vocabulary.{refusal_with, Seen, goes, said_within, Count, left_by, calling, fits_user_data, connecting}
-use Rattle.osi_session.proofs.Vocabulary.{accepting_in, where_is, said_message, seen_calling, Message, is_restart, answers_wishes}
-use Rattle.osi_session.proofs.tables.what_an_accepted_call_has_passed.{first_error_ok}
+use Rattle.osi_session.proofs.Vocabulary.{Call, HasSerial, may_call, Meaning, CN, AC, FN, AA, IsNumbered, IsSmall, said_at, meant_by}
+use Rattle.osi_session.proofs.Vocabulary.{meant_numbered, ◌≡◌, refl, subst, ℕ, zero, suc, Bool, true, false, not, ◌&&◌, ◌||◌, is_none}
+use Rattle.osi_session.proofs.Vocabulary.{if◌then◌else◌, List, [], ◌∷◌, length, Option, Some, None, option_map, arith, taker_with}
+use Rattle.osi_session.proofs.Vocabulary.{CountsCame, message_breach, word_breach, Seen, goes, said_within, Count, calling, fits_user_data}
+use Rattle.osi_session.proofs.Vocabulary.{connecting, accepting_in, where_is, said_message, seen_calling, Message, answers_wishes, sym}
 use Rattle.osi_session.proofs.tables.what_is_true_of_each_phase.{excluded}
 use Rattle.osi_session.proofs.values.what_sizes_are_agreed.{smaller_are}
 use Rattle.osi_session.proofs.runs.calls_keep_the_invariant.{opened, holding_phase, after_sound}
 use Rattle.osi_session.proofs.tsdu.what_the_words_of_a_tsdu_preserve.{octets_sound}
+use Rattle.osi_session.proofs.ahead.the_state_after_a_word.{if_state, call_leaves}
 
 -- no call is allowed if the connection is over
 pub over_refuses : (c : Call) (p : Phase) → is_over p ≡ true → may_call p c ≡ false
@@ -21,25 +18,11 @@ over_refuses c p h = grind arith
 
 -- ---- the state after sending is sound
 
-if_some : (b : Bool) (o : Option State) (n : State) → (if b then o else None) ≡ Some n → (b ≡ true) × (o ≡ Some n)
-if_some b o n h = grind arith
-
-answer_left : (a : Answer) (n : State) → left_by a ≡ Some n → (x : Step) × (a ≡ Ok x) × (x.next ≡ n)
-answer_left a n h = grind arith
-
-met_gives : (s : State) (c : Call) (x : Step) (n : State) → HasSerial c → may_call s.phase c ≡ true → met s c ≡ Ok x → x.next ≡ n →
-    IsSound s → IsSound n
-unfolding met
-met_gives s c x n small p e f h = search (arith, first_error_ok, after_sound)
-
 pub calling_left : (s : State) (c : Call) (n : State) → HasSerial c → calling s c ≡ Some n → IsSound s → IsSound n
-calling_left s c n small e h =
-    let a = if_some (may_call s.phase c && nat_le (length (octets_of c)) (most_of c)) (left_by (met s c)) n e in
-    let b = answer_left (met s c) n a.1 in
-    met_gives s c b.0 n small (and_parts (may_call s.phase c) _ a.0).0 b.1 b.2 h
+calling_left s c n small e h = let a = call_leaves s c n e in subst IsSound (sym a.next) (after_sound s c small a.phase a.needed h)
 
 where_left : (b : Bool) (s : State) (c : Call) (n : State) → HasSerial c → where_is b (calling s c) ≡ Some n → IsSound s → IsSound n
-where_left b s c n small e h = calling_left s c n small (if_some b (calling s c) n e).1 h
+where_left b s c n small e h = calling_left s c n small (if_state b (calling s c) n e).1 h
 
 is_left : (b : Bool) (x n : State) → (if b then Some x else None) ≡ Some n → (b ≡ true) × (x ≡ n)
 is_left b x n h = grind arith
@@ -63,21 +46,9 @@ accepting_left units s version_2 serial sides sizes octets n small e h =
 pub said_sound : (s : State) (m : Meaning) (n : State) → IsNumbered m → said_message s m ≡ Some n → IsSound s → IsSound n
 said_sound s (CN version_2 requirements serial wishes from to sizes octets) n small e h = search (arith, connecting_left)
 said_sound s (AC version_2 requirements serial sides sizes octets) n small e h = search (arith, accepting_left)
-said_sound s (RF reason octets) n small e h = calling_left s (Refuse (refusal_with octets)) n tt e h
-said_sound s (DT octets) n small e h = calling_left s (Data octets) n tt e h
-said_sound s (GT tokens) n small e h = calling_left s (Give tokens) n tt e h
-said_sound s (PT tokens octets) n small e h = calling_left s (Please tokens octets) n tt e h
-said_sound s (MIP confirm k octets) n small e h = where_left (k == s.numbers.next) s (Minor confirm octets) n tt e h
-said_sound s (MIA k octets) n small e h = calling_left s (MinorConfirm k octets) n tt e h
-said_sound s (MAP k octets) n small e h = where_left (k == s.numbers.next) s (Major octets) n tt e h
-said_sound s (MAA k octets) n small e h = where_left (k + 1 == s.numbers.next) s (MajorConfirm octets) n tt e h
-said_sound s (RS kind k wishes octets) n small e h = where_left (is_restart kind) s (Restart k wishes octets) n tt e h
-said_sound s (RA k sides octets) n small e h = search (arith, where_left)
 said_sound s (FN octets) n small e h = grind (arith, is_left, holding_phase Releasing s refl refl refl h)
-said_sound s (DN octets) n small e h = calling_left s (ReleaseAccept octets) n tt e h
-said_sound s (NF octets) n small e h = calling_left s (ReleaseRefuse octets) n tt e h
-said_sound s (AB bits octets) n small e h = where_left (not (names bits 4)) s (Abort octets) n tt e h
 said_sound s AA n small e h = absurd (cc)
+said_sound s _ n small e h = search (arith, where_left, calling_left)
 
 -- ---- the state after what is taken is sound
 

@@ -1,11 +1,13 @@
 -- What an accepted call sends, and the answer to a TSDU, can be written.
-use Rattle.std.proofs.Common.{◌≡◌, refl, sym, subst, ℕ, ◌<◌, Bool, true, List, [], ◌∷◌, length, Some, Ok, if◌then◌else◌, arith}
-use Rattle.osi_session.proofs.Vocabulary.{leb-true, ltb-true, and_parts, Opening, State, has_data, Call, HasSerial, Meaning, RF, AB, AA}
-use Rattle.osi_session.proofs.Vocabulary.{Said, asked_for, IsSound, Step, allowed, Outcome, take_expected, respond_unit, respond_all}
-use Rattle.osi_session.proofs.Vocabulary.{acting, respond, user_data_of, IsSendable, called, Listener, react, CanBeSent, Word, Words, Taker}
-use Rattle.osi_session.proofs.Vocabulary.{Hearing, respond_word, respond_words, acting_words, respond_tsdu}
+use Rattle.std.proofs.Common.{◌≡◌, refl, sym, subst, ℕ, ◌<◌, [], length, Some, Ok, arith}
+use Rattle.osi_session.proofs.Vocabulary.{leb-true, ltb-true, and_parts, Opening, State, has_data, Call, HasSerial, Meaning, AB, Said}
+use Rattle.osi_session.proofs.Vocabulary.{asked_for, IsSound, Step, allowed, Outcome, respond_unit, respond, user_data_of, IsSendable}
+use Rattle.osi_session.proofs.Vocabulary.{called, Listener, react, CanBeSent, Word, Words, Taker, respond_word, respond_words, acting_words}
+use Rattle.osi_session.proofs.Vocabulary.{respond_tsdu, Option, first_reply, Hearing, map, says, None, ap, ◌∙◌}
 use Rattle.osi_session.proofs.moves.the_move_of_each_input.{call_reply}
-use Rattle.osi_session.proofs.tables.a_word_acts_as_its_message.{outcome_in, word_does}
+use Rattle.osi_session.proofs.tables.messages_act_as_the_table_says.{plain_tsdu}
+use Rattle.osi_session.proofs.tables.a_word_acts_as_its_message.{outcome_in, word_does, words_do}
+use Rattle.osi_session.proofs.tables.the_verdict_on_a_unit.{enacts}
 use Rattle.osi_session.proofs.tables.what_the_table_of_calls_answers.{sent_short}
 use Rattle.osi_session.proofs.tables.what_an_accepted_call_has_passed.{passed}
 use Rattle.osi_session.proofs.values.what_sizes_are_agreed.{answered_are, user_sizes}
@@ -26,54 +28,32 @@ asked_sendable o h0 = grind (arith, user_sizes)
 
 -- ---- answers to a TSDU
 
-refuse_sendable : (reason : ℕ) → IsSendable (RF reason [])
-unfolding user_data_of
-refuse_sendable reason = record { version = refl; numbered = tt; sized = refl; addressed = tt; short = omega arith }
-
 abort_sendable : (bits : ℕ) → IsSendable (AB bits [])
 unfolding user_data_of
 abort_sendable bits = record { version = refl; numbered = tt; sized = refl; addressed = tt; short = omega arith }
 
-accept_sendable : IsSendable AA
-unfolding user_data_of
-accept_sendable = record { version = refl; numbered = tt; sized = refl; addressed = tt; short = omega arith }
-
 abbrev Replies : Outcome → Type 0
 Replies o = CanBeSent o.reply
 
-either_replies : (b : Bool) (x y : Outcome) → Replies x → Replies y → Replies (if b then x else y)
-either_replies b x y h k = grind arith
-
-expected_replies : (s : State) (u : Meaning) → Replies (take_expected s u)
-unfolding take_expected
-expected_replies s u = search (arith, refuse_sendable, has_data, accept_sendable, abort_sendable)
-
 unit_replies : (s : State) (u : Meaning) → Replies (respond_unit s u)
-unfolding respond_unit
-unit_replies s u = grind (arith, either_replies, accept_sendable, abort_sendable, expected_replies)
+unfolding user_data_of
+unit_replies s u = subst Replies (sym (enacts s u)) (search (arith, has_data, abort_sendable))
 
-all_replies : (s : State) (us : List Meaning) → Replies (respond_all s us)
-unfolding respond_all
-all_replies s [] = tt
-all_replies s (u ∷ us) = grind (arith, either_replies, unit_replies, all_replies (respond_unit s u).next us)
-
--- what a TSDU is answered by can be sent
-pub reply_can_be_sent : (s : State) (said : Said) (m : Meaning) → (respond s said).reply ≡ Some m → IsSendable m
-reply_can_be_sent s said m e = subst CanBeSent e (all_replies s (acting said))
-
--- ---- over words
+both_answered : (a b : Option Meaning) → CanBeSent a → CanBeSent b → CanBeSent (first_reply a b)
+both_answered a b h k = grind arith
 
 word_replies : (t : Taker) (w : Word) → Replies (outcome_in (respond_word t w))
 word_replies t w = word_does Replies t w (record { acts = λ u a. unit_replies t.state u; bad = λ fault o. abort_sendable 5; rests = tt })
 
-either_answered : (b : Bool) (x y : Hearing) → CanBeSent x.reply → CanBeSent y.reply → CanBeSent (if b then x else y).reply
-either_answered b x y h k = grind arith
-
 all_answered : (t : Taker) (ws : Words) → CanBeSent (respond_words t ws).reply
-unfolding respond_words
-all_answered t [] = tt
-all_answered t (w ∷ ws) = grind (arith, either_answered, word_replies, all_answered (respond_word t w).next ws)
+all_answered = words_do (λ t ws h. CanBeSent h.reply) (λ t. tt) (λ t w ws. word_replies t w)
+    (λ t w ws more. both_answered (respond_word t w).reply _ (word_replies t w) more)
 
 -- what the words of a TSDU are answered by can be sent
 pub words_answer : (t : Taker) (words : Words) (m : Meaning) → (respond_tsdu t words).reply ≡ Some m → IsSendable m
 words_answer t words m e = subst CanBeSent e (all_answered t (acting_words words))
+
+-- and so over whole messages
+pub reply_can_be_sent : (s : State) (said : Said) (m : Meaning) → (respond s said).reply ≡ Some m → IsSendable m
+reply_can_be_sent s said m e =
+    words_answer (record { state = s; joined = None }) (map says said) m (ap (λ (h : Hearing). h.reply) (plain_tsdu s said) ∙ e)

@@ -1,11 +1,11 @@
 -- If nothing is joined, messages have the effect that the table of units gives. Also the effect of a TSDU of one word.
 use Rattle.osi_session.proofs.Vocabulary.{list_any, cases_Bool, append-nil, State, Phase, is_over, Outcome, nothing, is_resynchronize}
 use Rattle.osi_session.proofs.Vocabulary.{Verdict, over, dropped, verdict, is_faulty, enacted, respond_unit, respond_all, acting, respond}
-use Rattle.osi_session.proofs.Vocabulary.{and_then, Meaning, GT, no_token, Said, words_of, Word, says, Taker, drops_parts, kept_in}
-use Rattle.osi_session.proofs.Vocabulary.{word_verdict, Hearing, heard, enacted_word, respond_word, respond_words, heard_then, idle}
-use Rattle.osi_session.proofs.Vocabulary.{is_restart_word, acting_words, respond_tsdu, Listener, Move, react, after_input, after_inputs}
-use Rattle.osi_session.proofs.Vocabulary.{taken, listening, standing_of, in_words, is_apart, joins, ◌≡◌, refl, sym, ◌∙◌, ap, ℕ, Bool, true}
-use Rattle.osi_session.proofs.Vocabulary.{false, ◌||◌, if◌then◌else◌, List, [], ◌∷◌, ◌++◌, map, Option, None, inl, inr, arith}
+use Rattle.osi_session.proofs.Vocabulary.{and_then, Meaning, GT, no_token, Said, words_of, Word, says, Taker, kept_in, word_verdict}
+use Rattle.osi_session.proofs.Vocabulary.{Hearing, heard, enacted_word, respond_word, respond_words, heard_then, idle, is_restart_word}
+use Rattle.osi_session.proofs.Vocabulary.{acting_words, respond_tsdu, Listener, react, after_inputs, taken, listening, standing_of}
+use Rattle.osi_session.proofs.Vocabulary.{in_words, is_apart, joins, ◌≡◌, refl, sym, ◌∙◌, ap, ℕ, Bool, true, false, ◌||◌, if◌then◌else◌}
+use Rattle.osi_session.proofs.Vocabulary.{List, [], ◌∷◌, ◌++◌, map, Option, None, inl, inr, arith}
 use Rattle.osi_session.specs.Moves as whole
 use Rattle.osi_session.proofs.tables.the_verdict_on_a_unit.{enacts, empty_item}
 
@@ -13,9 +13,6 @@ use Rattle.osi_session.proofs.tables.the_verdict_on_a_unit.{enacts, empty_item}
 
 pub kept_none : (p : Phase) → kept_in p None ≡ None
 kept_none p = grind arith
-
-pub kept_some : (p : Phase) (joined : Option (List ℕ)) → drops_parts p ≡ false → kept_in p joined ≡ joined
-kept_some p joined h = rw h refl
 
 pub kept_twice : (p : Phase) (joined : Option (List ℕ)) → kept_in p (kept_in p joined) ≡ kept_in p joined
 kept_twice p joined = grind arith
@@ -39,32 +36,27 @@ pub heard_none : (o : Outcome) →
     heard None o ≡ record { next = record { state = o.next; joined = None }; shown = o.shown; reply = o.reply; closes = o.closes }
 heard_none o = grind (arith, kept_none)
 
-plain_next : (s : State) (u : Meaning) →
-    (respond_word (record { state = s; joined = None }) (says u)).next ≡ record { state = (respond_unit s u).next; joined = None }
-plain_next s u = ap (λ (h : Hearing). h.next) (plain_word s u ∙ heard_none (respond_unit s u))
+-- one message, and those after it
+then_plain : (v w : Verdict) (h : Hearing) (o rest : Outcome) (f : Taker → Hearing) → v ≡ w → h ≡ heard None o →
+    f (record { state = o.next; joined = None }) ≡ heard None rest →
+    (if is_faulty v then h else heard_then h (f h.next)) ≡ heard None (if is_faulty w then o else and_then o rest)
+then_plain v w h o rest f e g k =
+    let next = ap (λ (x : Hearing). x.next) (g ∙ heard_none o) in
+    let more = ap f next ∙ k in
+    rw (e, more, g) (by (is_faulty w))
+  where
+    by : (b : Bool) →
+        (if b then heard None o else heard_then (heard None o) (heard None rest)) ≡ heard None (if b then o else and_then o rest)
+    by true = refl
+    by false = refl
 
 pub plain_words : (s : State) (us : List Meaning) →
     respond_words (record { state = s; joined = None }) (map says us) ≡ heard None (respond_all s us)
 unfolding respond_words respond_all
 plain_words s [] = sym (heard_none (nothing s))
 plain_words s (u ∷ us) =
-    ap (λ (v : Verdict). if is_faulty v then respond_word (record { state = s; joined = None }) (says u)
-    else heard_then (respond_word (record { state = s; joined = None }) (says u))
-    (respond_words (respond_word (record { state = s; joined = None }) (says u)).next (map says us))) (plain_verdict s u)
-    ∙ ap (λ (t : Taker). if is_faulty (verdict s u) then respond_word (record { state = s; joined = None }) (says u)
-    else heard_then (respond_word (record { state = s; joined = None }) (says u)) (respond_words t (map says us))) (plain_next s u)
-    ∙ ap (λ (h : Hearing). if is_faulty (verdict s u) then respond_word (record { state = s; joined = None }) (says u)
-    else heard_then (respond_word (record { state = s; joined = None }) (says u)) h) (plain_words (respond_unit s u).next us)
-    ∙ ap (λ (h : Hearing). if is_faulty (verdict s u) then h else heard_then h (heard None (respond_all (respond_unit s u).next us)))
-    (plain_word s u)
-    ∙ by (is_faulty (verdict s u))
-  where
-    by : (b : Bool) →
-        (if b then heard None (respond_unit s u) else
-        heard_then (heard None (respond_unit s u)) (heard None (respond_all (respond_unit s u).next us)))
-        ≡ heard None (if b then respond_unit s u else and_then (respond_unit s u) (respond_all (respond_unit s u).next us))
-    by true = refl
-    by false = refl
+    then_plain _ (verdict s u) _ (respond_unit s u) (respond_all (respond_unit s u).next us) (λ t. respond_words t (map says us))
+    (plain_verdict s u) (plain_word s u) (plain_words (respond_unit s u).next us)
 
 -- ---- the words of a TSDU
 
@@ -92,14 +84,10 @@ pub others : (l : Listener) (input : whole.Input) → kept_in l.state.phase l.jo
 unfolding react whole.react
 others l input h0 h1 = grind arith
 
-messages_move : (s : whole.Standing) (said : Said) →
-    react (listening s) (taken (map says said)) ≡ joins None (whole.react s (whole.taken said))
-unfolding react whole.react
-messages_move s said = grind (arith, plain_tsdu)
-
 -- and if nothing is joined, so do messages
 pub moves_as_whole : (s : whole.Standing) (input : whole.Input) → react (listening s) (in_words input) ≡ joins None (whole.react s input)
-moves_as_whole s input = grind (arith, others, kept_none, messages_move)
+unfolding react whole.react
+moves_as_whole s input = grind (arith, others, kept_none, plain_tsdu)
 
 joins_none : (m : whole.Move) → (joins None m).next ≡ listening m.next
 joins_none m = let k = kept_none m.next.state.phase in λ i. record { state = m.next.state; waiting = m.next.waiting; joined = k i }

@@ -1,9 +1,9 @@
 -- The outcomes of each input.
-use Rattle.std.proofs.Common.{◌≡◌, ℕ, Bool, true, false, not, Ok, if◌then◌else◌, arith}
+use Rattle.std.proofs.Common.{◌≡◌, Bool, true, false, not, Ok, if◌then◌else◌, arith}
 use Rattle.osi_session.proofs.Vocabulary.{SpduFault, Connecting, Aborting, Ended, State, is_wait_transport, is_aborting, is_ended, is_over}
 use Rattle.osi_session.proofs.Vocabulary.{without_tokens, Call, Meaning, Words, Step, allowed, Outcome, conditions, is_expected, drops}
 use Rattle.osi_session.proofs.Vocabulary.{becomes, take_expected, in_aborting, in_ended, respond_unit, AllMet, respond_fault, respond_tsdu}
-use Rattle.osi_session.proofs.Vocabulary.{called, taken, unread, opened, refused, broken, Listener, taker_of, react, after_input}
+use Rattle.osi_session.proofs.Vocabulary.{called, taken, unread, opened, Listener, taker_of, react, after_input, Input}
 
 pub call_cases : (P : State → Type 0) (s : Listener) (c : Call) → P s.state
     → ((x : Step) → allowed s.state c ≡ Ok x → P x.next) → P (after_input s (called c)).state
@@ -53,18 +53,16 @@ pub taken_cases : (P : State → Type 0) (s : Listener) (words : Words) → P (r
 unfolding react
 taken_cases P s words h = h
 
--- the transport connection is awaited, or nothing changes
-pub opened_cases : (P : State → Type 0) (s : Listener) → (is_wait_transport s.state.phase ≡ true → P (without_tokens Connecting s.state))
-    → P s.state → P (after_input s opened).state
-unfolding react
-opened_cases P s h k = grind arith
+-- the state after any input: the same, or that of an accepted call, of the words of a TSDU, of a TSDU that is no session
+-- units, of a transport connection that is opened, or of the end
+pub record AfterInput (P : State → Type 0) (s : Listener) (input : Input) : Type 0 where
+  pub same : P s.state
+  pub call : (c : Call) (x : Step) → input ≡ called c → allowed s.state c ≡ Ok x → P x.next
+  pub words : (ws : Words) → input ≡ taken ws → P (respond_tsdu (taker_of s) ws).next.state
+  pub bad : is_over s.state.phase ≡ false → P (without_tokens Aborting s.state)
+  pub begun : input ≡ opened → is_wait_transport s.state.phase ≡ true → P (without_tokens Connecting s.state)
+  pub ended : P (without_tokens Ended s.state)
 
-pub refused_cases : (P : State → Type 0) (s : Listener) (reason : ℕ) →
-    (is_wait_transport s.state.phase ≡ true → P (without_tokens Ended s.state))
-    → P s.state → P (after_input s (refused reason)).state
-unfolding react
-refused_cases P s reason h k = grind arith
-
-pub broken_cases : (P : State → Type 0) (s : Listener) → P (without_tokens Ended s.state) → P (after_input s broken).state
-unfolding react
-broken_cases P s h = h
+pub input_cases : (P : State → Type 0) (s : Listener) (input : Input) → AfterInput P s input → P (after_input s input).state
+unfolding react respond_fault
+input_cases P s input h = grind arith

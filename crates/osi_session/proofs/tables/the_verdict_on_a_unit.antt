@@ -1,21 +1,16 @@
 -- The verdict on a unit, and on a token item that names no token.
-use Rattle.std.proofs.Common.{◌≡◌, refl, ◌∙◌, Bool, true, false, not, ◌||◌, List, [], ◌∷◌, ◌++◌, Option, None, if◌then◌else◌, arith}
-use Rattle.osi_session.proofs.Vocabulary.{cases_Bool, append-nil, UnitFault, Unexpected, State, no_token, is_empty, is_over, Meaning, GT}
-use Rattle.osi_session.proofs.Vocabulary.{alone, behind, said_of, Outcome, Condition, si, conditions, first_fault, drops, nothing, bad}
-use Rattle.osi_session.proofs.Vocabulary.{judged, take_expected, has_no_effect, is_token_item, is_resynchronize, replies_abort}
-use Rattle.osi_session.proofs.Vocabulary.{respond_unit, and_then, Verdict, dropped, faulty, fine, by_fault, verdict, enacted, is_faulty}
-use Rattle.osi_session.proofs.Vocabulary.{AllMet, IsGood, respond_all, acting, respond}
-use Rattle.osi_session.proofs.tables.what_is_true_of_each_phase.{implied}
-
-live : (s : State) (u : Meaning) (d x : Bool) (f : Option UnitFault) →
-    (if d then nothing s else if not x then bad s (Unexpected (si u)) else judged s u f)
-    ≡ enacted s u (if d then dropped else if not x then faulty (Unexpected (si u)) else by_fault f)
-live s u d x f = grind arith
+use Rattle.std.proofs.Common.{◌≡◌, refl, ◌∙◌, Bool, true, false, not, ◌||◌, List, [], ◌∷◌, ◌++◌, None, if◌then◌else◌, arith}
+use Rattle.osi_session.proofs.Vocabulary.{cases_Bool, append-nil, UnitFault, State, no_token, is_empty, is_over, Meaning, GT, alone, behind}
+use Rattle.osi_session.proofs.Vocabulary.{said_of, Outcome, Condition, si, conditions, first_fault, drops, nothing, take_expected}
+use Rattle.osi_session.proofs.Vocabulary.{has_no_effect, is_token_item, is_resynchronize, replies_abort, respond_unit, and_then, Verdict}
+use Rattle.osi_session.proofs.Vocabulary.{faulty, fine, verdict, enacted, is_faulty, AllMet, IsGood, respond_all, acting, respond, ap}
+use Rattle.osi_session.proofs.Vocabulary.{or_parts, discards, every_phase, good, Phase, is_restarting}
+use Rattle.osi_session.proofs.tables.what_is_true_of_each_phase.{implied, excluded}
 
 -- the table of units enacts the verdict
 pub enacts : (s : State) (u : Meaning) → respond_unit s u ≡ enacted s u (verdict s u)
 unfolding respond_unit take_expected
-enacts s u = grind (arith, cases_Bool, implied, live)
+enacts s u = grind (arith, cases_Bool, implied)
 
 all_passed : (s : State) (u : Meaning) (cs : List Condition) → AllMet cs → first_fault (si u) cs ≡ None
 all_passed s u [] h = refl
@@ -24,6 +19,13 @@ all_passed s u (c ∷ cs) h = rw h.0 (all_passed s u cs h.1)
 -- a unit that is not discarded, that the phase expects and that meets its conditions is good
 pub good_is_fine : (s : State) (u : Meaning) → is_over s.phase ≡ false → drops s u ≡ false → IsGood s u → verdict s u ≡ fine
 good_is_fine s u o d h = let f = all_passed s u (conditions s u) h.met in let x = h.expected in rw (o, d, x, f) refl
+
+-- it is in a phase in which no unit is discarded
+pub good_in : (f : Phase → Bool) (s : State) (u : Meaning) → every_phase (λ p. not (f p) || not (discards p)) ≡ true → f s.phase ≡ true →
+    has_no_effect u ≡ false → IsGood s u → respond_unit s u ≡ good s u
+good_in f s u e h n g =
+    let d = or_parts (is_restarting s.phase) (is_over s.phase) (excluded f discards e s.phase h) in
+    enacts s u ∙ ap (enacted s u) (good_is_fine s u d.1 (let r = d.0 in rw (n, r) refl) g)
 
 -- ---- a token item that names no token
 
@@ -96,10 +98,6 @@ unfolding acting
 item_and_unit s item u t = choice (is_resynchronize u) s (u ∷ []) (u ∷ item ∷ []) _ _ (one s u) (two s u item t)
 
 -- ---- a bad unit is one that is answered by AB
-
-no_abort_if : (b : Bool) (x y : Option Meaning) → replies_abort x ≡ false → replies_abort y ≡ false →
-    replies_abort (if b then x else y) ≡ false
-no_abort_if b x y h k = grind arith
 
 pub enacted_reply : (s : State) (u : Meaning) (v : Verdict) → replies_abort (enacted s u v).reply ≡ is_faulty v
 enacted_reply s u v = grind arith

@@ -1,7 +1,7 @@
 -- Two restarts that cross: which of them takes effect.
 use Rattle.osi_session.proofs.Vocabulary.{lt-ltb, le-ltb, eq-eqb, ne_eqb, cases_order, TokenSetting, State, is_restarting, is_restart_due}
-use Rattle.osi_session.proofs.Vocabulary.{restarted_at, lower, RS, stands, becomes, good, take_expected, respond_unit, inl, inr, ◌⊎◌, ◌≡◌}
-use Rattle.osi_session.proofs.Vocabulary.{refl, ℕ, ◌≤◌, ◌<◌, true, false, not, List, arith, HasAsked, AreCrossed, after_restart}
+use Rattle.osi_session.proofs.Vocabulary.{restarted_at, lower, RS, stands, becomes, take_expected, respond_unit, inl, inr, ◌⊎◌, ◌≡◌, refl}
+use Rattle.osi_session.proofs.Vocabulary.{ℕ, ◌≤◌, ◌<◌, true, false, List, arith, HasAsked, AreCrossed, after_restart}
 use Rattle.osi_spdu.specs.declared.fields.ResyncType.TheVariants.{Restart}
 use Rattle.osi_session.proofs.tables.what_is_true_of_each_phase.{implied, excluded}
 use Rattle.osi_session.proofs.tables.the_verdict_on_a_unit.{in_front, empty_item}
@@ -16,16 +16,12 @@ higher_yields : (s : State) (n : ℕ) → is_restarting s.phase ≡ true → s.n
 unfolding stands
 higher_yields s n r lt = grind (arith, le-ltb, ne_eqb)
 
--- and its own number takes effect if it is not the caller
-equal_stands : (s : State) (n : ℕ) → is_restarting s.phase ≡ true → n ≡ s.numbers.next → stands s n ≡ not s.is_caller
-unfolding stands
-equal_stands s n r e = grind (arith, le-ltb, eq-eqb)
-
 -- ---- one of two restarts takes effect
 
 pub of_equal : (c o : State) → AreCrossed c o → c.numbers.next ≡ o.numbers.next →
     (stands o c.numbers.next ≡ true) × (stands c o.numbers.next ≡ false)
-of_equal c o x e = grind (arith, equal_stands)
+unfolding stands
+of_equal c o x e = grind (arith, le-ltb, eq-eqb)
 
 pub of_lower : (a b : State) → HasAsked a → HasAsked b → a.numbers.next < b.numbers.next →
     (stands b a.numbers.next ≡ true) × (stands a b.numbers.next ≡ false)
@@ -33,22 +29,15 @@ of_lower a b x y lt = (lower_stands b a.numbers.next y.phase lt, higher_yields a
 
 -- ---- what both sides become
 
-good_restart : (s : State) (n : ℕ) (wishes : TokenSetting) (octets : List ℕ) → HasAsked s → s.base ≤ n →
-    respond_unit s (RS Restart n wishes octets) ≡ good s (RS Restart n wishes octets)
-unfolding respond_unit take_expected
-good_restart s n wishes octets x from = grind (arith, excluded, implied)
-
 taken : (s : State) (n : ℕ) (wishes : TokenSetting) (octets : List ℕ) → HasAsked s → s.base ≤ n →
     after_restart s n wishes octets ≡ becomes s (RS Restart n wishes octets)
-taken s n wishes octets x from = grind (arith, in_front, empty_item, good_restart)
+unfolding respond_unit take_expected
+taken s n wishes octets x from = grind (arith, in_front, empty_item, excluded, implied)
 
 stands_next : (s : State) (n : ℕ) (wishes : TokenSetting) (octets : List ℕ) → HasAsked s → s.base ≤ n → stands s n ≡ true
     → ((after_restart s n wishes octets).numbers.next ≡ n) × (is_restart_due (after_restart s n wishes octets).phase ≡ true)
 unfolding restarted_at
 stands_next s n wishes octets x from e = rw (taken s n wishes octets x from, e) (refl, refl)
-
-abbrev pub Agree : ℕ → State → State → Type 0
-Agree n a b = (a.numbers.next ≡ n) × (b.numbers.next ≡ n)
 
 lower_other : (n m : ℕ) → m ≤ n → lower n m ≡ m
 lower_other n m le = rw (le-ltb n m le) refl

@@ -1,23 +1,15 @@
 -- The table of calls never returns `OutOfMemory`, and a call sends no more user data than fits.
-use Rattle.std.proofs.Common.{◌≡◌, refl, sym, subst, ◌<◌, Bool, true, false, nat_le, List, [], ◌∷◌, length, Ok, Err, arith}
+use Rattle.std.proofs.Common.{◌≡◌, refl, sym, subst, ◌<◌, Bool, true, false, nat_le, length, Ok, Err, arith}
 use Rattle.osi_session.specs.declared.faults.CallError.TheVariants as error
-use Rattle.osi_session.proofs.Vocabulary.{leb-true, CallError, State, is_over, Call, Test, Step, needs, may_call, octets_of, most_of, after}
+use Rattle.osi_session.proofs.Vocabulary.{leb-true, CallError, State, is_over, Call, Step, needs, may_call, octets_of, most_of, after}
 use Rattle.osi_session.proofs.Vocabulary.{sends, met, allowed, fits_limit, is_memory, Refused, RefusedBy, Meaning, user_data_of, called}
 use Rattle.osi_session.proofs.Vocabulary.{Listener, react}
 use Rattle.osi_session.proofs.moves.the_move_of_each_input.{call_errs, call_passes}
 use Rattle.osi_session.proofs.tables.what_an_accepted_call_has_passed.{first_error_ok, passed}
 
-abbrev AllNamed : List Test → Type 0
-AllNamed [] = Unit {0}
-AllNamed (t ∷ ts) = (is_memory t.1 ≡ false) × AllNamed ts
-
-met_named : (s : State) (c : Call) (e : CallError) → met s c ≡ Err e → is_memory e ≡ false
-unfolding met
-met_named s c e h = grind arith
-
 pub allowed_named : (s : State) (c : Call) (e : CallError) → allowed s c ≡ Err e → is_memory e ≡ false
-unfolding allowed
-allowed_named s c e h = search (arith, met_named)
+unfolding allowed met
+allowed_named s c e h = search arith
 
 -- an error of the table is answered as it is
 pub refused : (s : Listener) (c : Call) (e : CallError) → allowed s.state c ≡ Err e → Refused e (react s (called c)).error

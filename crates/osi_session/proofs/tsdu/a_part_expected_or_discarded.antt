@@ -1,6 +1,7 @@
 -- A part if data is expected, and if it is discarded.
 use Rattle.osi_session.proofs.Vocabulary.{State, is_restarting, is_over, takes_data, nothing, over, dropped, Place, DT, says, part, heard}
-use Rattle.osi_session.proofs.Vocabulary.{respond_word, discards, IsNoFault, ◌≡◌, refl, ◌∙◌, ap, ℕ, true, false, List, None, arith}
+use Rattle.osi_session.proofs.Vocabulary.{respond_word, discards, IsNoFault, ◌≡◌, refl, ◌∙◌, ap, ℕ, true, false, List, None, arith, inl}
+use Rattle.osi_session.proofs.Vocabulary.{inr, or_cases, Word, as_message}
 use Rattle.osi_session.proofs.tables.what_is_true_of_each_phase.{excluded}
 use Rattle.osi_session.proofs.tables.messages_act_as_the_table_says.{word_at}
 
@@ -17,30 +18,19 @@ expects s o v r h = grind arith
 
 -- ---- if it is discarded
 
-part_over : (s : State) (place : Place) (o : List ℕ) → is_over s.phase ≡ true →
-    respond_word (record { state = s; joined = None }) (part place o) ≡ heard None (nothing s)
-part_over s place o h = word_at (record { state = s; joined = None }) (part place o) over (rw h refl) ∙
-    ap (heard None) (grind arith)
-
-data_over : (s : State) (o : List ℕ) → is_over s.phase ≡ true →
-    respond_word (record { state = s; joined = None }) (says (DT o)) ≡ heard None (nothing s)
-data_over s o h = word_at (record { state = s; joined = None }) (says (DT o)) over (rw h refl) ∙
-    ap (heard None) (grind arith)
-
-part_dropped : (s : State) (place : Place) (o : List ℕ) → is_restarting s.phase ≡ true →
-    respond_word (record { state = s; joined = None }) (part place o) ≡ heard None (nothing s)
-part_dropped s place o h = let v = excluded is_restarting is_over refl s.phase h in
-    word_at (record { state = s; joined = None }) (part place o) dropped (rw (v, h) refl)
-
-data_dropped : (s : State) (o : List ℕ) → is_restarting s.phase ≡ true →
-    respond_word (record { state = s; joined = None }) (says (DT o)) ≡ heard None (nothing s)
-data_dropped s o h = let v = excluded is_restarting is_over refl s.phase h in word_at (record { state = s; joined = None }) (says (DT o))
-    dropped (rw (v, h) refl)
+-- nothing happens by data or a part of it
+word_discarded : (s : State) (w : Word) (o : List ℕ) → as_message w ≡ DT o → discards s.phase ≡ true →
+    respond_word (record { state = s; joined = None }) w ≡ heard None (nothing s)
+word_discarded s w o e h = elim (or_cases (is_restarting s.phase) (is_over s.phase) h) [
+  | inl r ↦ (let v = excluded is_restarting is_over refl s.phase r in
+      word_at (record { state = s; joined = None }) w dropped (rw (v, e, r) refl))
+  | inr v ↦ word_at (record { state = s; joined = None }) w over (rw v refl) ∙ ap (heard None) (grind arith)
+]
 
 pub part_discarded : (s : State) (place : Place) (o : List ℕ) → discards s.phase ≡ true →
     respond_word (record { state = s; joined = None }) (part place o) ≡ heard None (nothing s)
-part_discarded s place o h0 = grind (arith, part_dropped, part_over)
+part_discarded s place o h = word_discarded s (part place o) o refl h
 
 pub data_discarded : (s : State) (o : List ℕ) → discards s.phase ≡ true →
     respond_word (record { state = s; joined = None }) (says (DT o)) ≡ heard None (nothing s)
-data_discarded s o h0 = grind (arith, data_dropped, data_over)
+data_discarded s o h = word_discarded s (says (DT o)) o refl h

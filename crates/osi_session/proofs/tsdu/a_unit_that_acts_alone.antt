@@ -5,13 +5,10 @@ use Rattle.osi_session.proofs.Vocabulary.{◌≡◌, refl, Bool, true, [], ◌�
 use Rattle.osi_session.proofs.Vocabulary.{token_octets, Contents, Known}
 use Rattle.osi_session.proofs.tables.messages_act_as_the_table_says.{word_alone, word_behind}
 
-empty_unit : (unit : Contents) → unit.kind ≡ GiveTokens → unit.known TokenItem ≡ None → word unit ≡ says (GT no_token)
-unfolding word meaning
-empty_unit unit k n = rw (k, n) refl
-
 pub empty_give : (unit : Contents) (kind : Kind) (known : Known) (item : Option TokenSet) → kind ≡ unit.kind → kind ≡ GiveTokens →
     known ≡ unit.known → option_map token_octets item ≡ known TokenItem → item ≡ None → word unit ≡ says (GT no_token)
-empty_give unit kind known item k g n o e = grind (arith, empty_unit)
+unfolding word meaning
+empty_give unit kind known item k g n o e = grind arith
 
 pub first_acts : (first u : Contents) (others : Units) (t : Taker) → others ≡ [] → u ≡ first →
     respond_tsdu t (said_by_units (first ∷ others)) ≡ respond_word t (word u)

@@ -1,9 +1,9 @@
 -- How many indications a TSDU has.
-use Rattle.std.proofs.Common.{sym, subst, ℕ, ◌+◌, ◌≤◌, List, [], ◌∷◌, ◌++◌, length, arith}
+use Rattle.std.proofs.Common.{sym, subst, ℕ, ◌+◌, ◌≤◌, List, ◌++◌, length, arith}
 use Rattle.osi_session.proofs.Vocabulary.{length-append, State, Meaning, AA, Word, Words, Taker, respond_word, respond_words, acting_words}
 use Rattle.osi_session.proofs.Vocabulary.{respond_tsdu, Shown, Outcome, respond_unit, Verdict, faulty, verdict, enacted}
 use Rattle.osi_session.proofs.tables.the_verdict_on_a_unit.{enacts}
-use Rattle.osi_session.proofs.tables.a_word_acts_as_its_message.{word_does}
+use Rattle.osi_session.proofs.tables.a_word_acts_as_its_message.{word_does, words_do}
 
 abbrev AtMost : ℕ → List Shown → Type 0
 AtMost n shown = length shown ≤ n
@@ -24,13 +24,8 @@ word_shows t w =
     (record { acts = λ u a. unit_shows t.state u; bad = λ fault o. enacted_shows t.state AA (faulty fault); rests = omega arith })
 
 all_show : (t : Taker) (ws : Words) → length (respond_words t ws).shown ≤ length ws
-unfolding respond_words
-all_show t [] = omega arith
-all_show t (w ∷ ws) =
-    let one = word_shows t w in
-    let both = both_show (respond_word t w).shown (respond_words (respond_word t w).next ws).shown (length ws) one
-    (all_show (respond_word t w).next ws) in
-    grind arith
+all_show = words_do (λ t ws h. length h.shown ≤ length ws) (λ t. omega arith) (λ t w ws. let one = word_shows t w in omega arith)
+    (λ t w ws more. let both = both_show (respond_word t w).shown _ (length ws) (word_shows t w) more in omega arith)
 
 acting_len : (words : Words) → length (acting_words words) ≤ length words
 unfolding acting_words

@@ -1,13 +1,14 @@
 -- If memory is needed for one word, it is needed for all: a word that indicates and sends nothing joins no less.
-use Rattle.osi_session.proofs.Vocabulary.{is_none, cases_Bool, and_parts, length-append, UnitFault, State, is_over, may_hold, nothing}
-use Rattle.osi_session.proofs.Vocabulary.{is_nil, Verdict, over, dropped, faulty, fine, by_fault, Shown, First, Middle, Last, Word, Words}
-use Rattle.osi_session.proofs.Vocabulary.{says, part, Taker, Hearing, joined_octets, kept_in, word_verdict, heard, heard_then, respond_word}
-use Rattle.osi_session.proofs.Vocabulary.{respond_words, takes_room, ◌≡◌, refl, sym, ap, subst, ℕ, ◌≤◌, Bool, true, false, not, ◌&&◌}
-use Rattle.osi_session.proofs.Vocabulary.{if◌then◌else◌, List, [], ◌∷◌, ◌++◌, length, Option, Some, arith}
+use Rattle.osi_session.proofs.Vocabulary.{is_none, cases_Bool, and_parts, length-append, UnitFault, is_over, may_hold, nothing, is_nil}
+use Rattle.osi_session.proofs.Vocabulary.{Verdict, over, dropped, faulty, fine, by_fault, Shown, First, Middle, Last, Word, Words, says}
+use Rattle.osi_session.proofs.Vocabulary.{part, Taker, Hearing, joined_octets, word_verdict, heard, heard_then, respond_word, respond_words}
+use Rattle.osi_session.proofs.Vocabulary.{takes_room, ◌≡◌, refl, sym, ap, subst, ℕ, ◌≤◌, Bool, true, false, not, ◌&&◌, if◌then◌else◌, List}
+use Rattle.osi_session.proofs.Vocabulary.{[], ◌∷◌, ◌++◌, length, Option, Some, arith}
 use Rattle.osi_session.proofs.tsdu.the_effect_of_a_word.{fine_holds, first_is, middle_is, last_is}
 use Rattle.osi_session.proofs.tsdu.what_is_joined.{InPhase}
 use Rattle.osi_session.proofs.tsdu.the_verdict_while_joining.{bad_loud}
 use Rattle.osi_session.proofs.tables.messages_act_as_the_table_says.{word_at, word_kept}
+use Rattle.osi_session.proofs.tables.a_word_acts_as_its_message.{words_do}
 
 abbrev pub quiet : Hearing → Bool
 quiet h = is_nil h.shown && is_none h.reply
@@ -35,9 +36,6 @@ takes_behind j a b g h = search (arith, quiet_both)
 
 -- ---- a quiet word joins no less
 
-kept_size : (s next : State) (j : Option (List ℕ)) → kept_in s.phase j ≡ j → next ≡ s → size j ≤ size (kept_in next.phase j)
-kept_size s next j k e = grind arith
-
 early_grows : (t : Taker) (w : Word) (octets : List ℕ) → may_hold t.state.phase ≡ true →
     respond_word t w ≡ heard (Some (joined_octets t.joined ++ octets)) (nothing t.state)
     → size t.joined ≤ size (respond_word t w).next.joined
@@ -47,7 +45,7 @@ abbrev Grows : Option (List ℕ) → Hearing → Type 0
 Grows j h = quiet h ≡ true → size j ≤ size h.next.joined
 
 fine_grows : (t : Taker) (w : Word) → InPhase t → word_verdict t w ≡ fine → Grows t.joined (respond_word t w)
-fine_grows t (says u) k e = grind (arith, kept_size, word_at t (says u) fine e)
+fine_grows t (says u) k e = grind (arith, word_at t (says u) fine e)
 fine_grows t (part First octets) k e = λ q. early_grows t (part First octets) octets (fine_holds t First octets e) (first_is t octets e)
 fine_grows t (part Middle octets) k e = λ q. early_grows t (part Middle octets) octets (fine_holds t Middle octets e) (middle_is t octets e)
 fine_grows t (part Last octets) k e = subst (Grows t.joined) (sym (last_is t octets e)) (λ q. absurd (cc))
@@ -58,10 +56,7 @@ over_by b d x n f h0 = grind arith
 
 live_grows : (t : Taker) (w : Word) (v : Verdict) → InPhase t → is_over t.state.phase ≡ false → word_verdict t w ≡ v →
     Grows t.joined (respond_word t w)
-live_grows t w over k o e = grind (arith, over_by)
-live_grows t w dropped k o e = subst (Grows t.joined) (sym (word_at t w dropped e)) (λ q. kept_size t.state t.state t.joined k refl)
-live_grows t w (faulty fault) k o e = subst (Grows t.joined) (sym (word_at t w (faulty fault) e)) (λ q. absurd (grind (arith, bad_loud)))
-live_grows t w fine k o e = fine_grows t w k e
+live_grows t w v k o e = grind (arith, over_by, bad_loud, fine_grows, word_at t w v e)
 
 word_grows : (t : Taker) (w : Word) → InPhase t → Grows t.joined (respond_word t w)
 word_grows t w h0 = grind (arith, cases_Bool, live_grows)
@@ -73,14 +68,10 @@ word_in_phase t w = ap (λ (r : Taker). r.joined) (word_kept t w)
 both_grow : (j : Option (List ℕ)) (a b : Hearing) → Grows j a → Grows a.next.joined b → Grows j (heard_then a b)
 both_grow j a b g h = λ q. let p = quiet_both a b q in let x = g p.0 in let y = h p.1 in omega arith
 
-either_grows : (c : Bool) (j : Option (List ℕ)) (a b : Hearing) → Grows j a → Grows j b → Grows j (if c then a else b)
-either_grows c j a b g h = grind arith
-
 words_grow : (t : Taker) (ws : Words) → InPhase t → Grows t.joined (respond_words t ws)
-unfolding respond_words
-words_grow t [] k = λ q. omega arith
-words_grow t (w ∷ ws) k =
-    search (arith, either_grows, word_grows, both_grow, word_in_phase, words_grow (respond_word t w).next ws (word_in_phase t w))
+words_grow = words_do (λ t ws h. InPhase t → Grows t.joined h) (λ t k q. omega arith) (λ t w ws k. word_grows t w k)
+    (λ t w ws more k. both_grow t.joined (respond_word t w) (respond_words (respond_word t w).next ws) (word_grows t w k)
+    (more (word_in_phase t w)))
 
 either_takes : (c : Bool) (j : Option (List ℕ)) (a b : Hearing) → takes_room j a ≡ true → takes_room j b ≡ true →
     takes_room j (if c then a else b) ≡ true

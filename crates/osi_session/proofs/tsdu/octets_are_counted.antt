@@ -1,16 +1,15 @@
 -- The effect of a word with the octets of an unfinished SSDU counted: it is the same whatever these octets are.
 use Rattle.osi_session.proofs.Vocabulary.{SpduFault, respond_fault, Words, first_reply, replies_abort, heard_then, idle, is_restart_word}
-use Rattle.osi_session.proofs.Vocabulary.{respond_tsdu, length-append, le-leb, leb-true, State, UnitFault, Unexpected, TokenHeld, Taker}
-use Rattle.osi_session.proofs.Vocabulary.{respond_came, BadEnclosure, DataTooLong, most_data, is_over, is_restarting, takes_data, nothing}
-use Rattle.osi_session.proofs.Vocabulary.{bad, Outcome, Verdict, over, dropped, faulty, fine, is_faulty, enacted, si, Hearing}
-use Rattle.osi_session.proofs.Vocabulary.{joined_octets, is_in_place, is_last, word_verdict, heard, respond_word, told_of, Meaning, DT}
-use Rattle.osi_session.proofs.Vocabulary.{Place, Word, says, part, ◌≡◌, ◌∙◌, refl, sym, ap, subst, ℕ, ◌+◌, ◌<◌, ◌≤◌, Bool, true, false, not}
-use Rattle.osi_session.proofs.Vocabulary.{◌||◌, if◌then◌else◌, nat_le, List, [], ◌∷◌, ◌++◌, length, Option, Some, None, Result, Err}
+use Rattle.osi_session.proofs.Vocabulary.{respond_tsdu, length-append, le-leb, leb-true, State, UnitFault, Taker, respond_came, DataTooLong}
+use Rattle.osi_session.proofs.Vocabulary.{most_data, nothing, bad, Outcome, is_faulty, enacted, si, Hearing, is_last, word_verdict, heard}
+use Rattle.osi_session.proofs.Vocabulary.{respond_word, told_of, Meaning, DT, Place, Word, says, part, ◌≡◌, ◌∙◌, sym, ap, ℕ, ◌+◌, ◌<◌, ◌≤◌}
+use Rattle.osi_session.proofs.Vocabulary.{Bool, true, false, ◌||◌, if◌then◌else◌, List, [], ◌∷◌, length, Option, Some, None, Result, Err}
 use Rattle.osi_session.proofs.Vocabulary.{option_map, unwrap_or, arith, no_octets, count_by, count_by_idle, taker_with, Counts, CountsAll}
-use Rattle.osi_session.proofs.Vocabulary.{CountsCame, Count, counted}
+use Rattle.osi_session.proofs.Vocabulary.{CountsCame, Count, counted, map, GivesBehind, units_behind, Behind, Spdu, word}
 use Rattle.osi_session.specs.declared.joining.PartVerdict.TheVariants as is
 use Rattle.osi_session.proofs.tsdu.the_verdict_while_joining.{part_verdict}
 use Rattle.osi_session.proofs.tsdu.words_one_after_the_other.{Leads, tsdu_begins, goes_on, stops, ends_restarted, ends_with_item}
+use Rattle.osi_session.proofs.tsdu.words_one_after_the_other.{behind_none}
 use Rattle.osi_session.proofs.tsdu.the_effect_of_a_word.{word_told, message_is, part_dropped, part_bad, first_is, middle_is, last_is}
 
 -- ---- a hearing, counted
@@ -30,74 +29,34 @@ message_counts s n k u o c e h d = grind (arith, message_is, heard_so_many)
 
 -- ---- a part
 
-abbrev part_by : ℕ → (v r e h p s : Bool) → Verdict
-part_by n v r e h p s = if v || r then (if v then over else dropped) else if not e then faulty (Unexpected n) else if h then
-    faulty (TokenHeld n)
-    else if not p then faulty (BadEnclosure n) else if not s then faulty (DataTooLong n) else fine
-
-bad_by : (n : ℕ) (v r e h p a b : Bool) (f : UnitFault) → (b ≡ false → a ≡ false) → is.Bad f ≡ told_of (part_by n v r e h p b) →
-    is.Bad f ≡ told_of (part_by n v r e h p a)
-bad_by n v r e h p a b f h0 h1 = grind arith
-
-long_by : (n : ℕ) (v r e h p a b : Bool) → a ≡ false → is.Good ≡ told_of (part_by n v r e h p b) →
-    is.Bad (DataTooLong n) ≡ told_of (part_by n v r e h p a)
-long_by n v r e h p a b h0 h1 = grind arith
-
--- whether what a part leaves fits
-abbrev fits : Option (List ℕ) → List ℕ → Bool
-fits j o = nat_le (length (joined_octets j ++ o)) most_data
-
--- what is reported of a part after other octets, as many as there
-abbrev told_at : State → Option (List ℕ) → Place → List ℕ → Verdict
-told_at s j place o = word_verdict (taker_with s j) (part place o)
-
-abbrev by_place : State → Option (List ℕ) → Place → List ℕ → Bool → Verdict
-by_place s k place o b = part_by (si (DT o)) (is_over s.phase) (is_restarting s.phase) (takes_data s.phase) s.held.data_token
-    (is_in_place k place) b
-
-len_of : (j : Option (List ℕ)) (n : Option ℕ) (o : List ℕ) → option_map length j ≡ n →
-    length (joined_octets j ++ o) ≡ unwrap_or n 0 + length o
-len_of j n o e = grind (arith, length-append)
-
-shorter : (j : Option (List ℕ)) (n : Option ℕ) (o : List ℕ) → option_map length j ≡ n → fits (no_octets n) o ≡ false → fits j o ≡ false
-shorter j n o e h = grind (arith, len_of)
-
 pub dropped_counts : (s : State) (n : Option ℕ) (k : Option (List ℕ)) (place : Place) (o : List ℕ) (c : Count) → k ≡ no_octets n
     → is.Dropped ≡ told_of (word_verdict (taker_with s k) (part place o)) → c ≡ count_by n (nothing s) → Counts s n (part place o) c
 dropped_counts s n k place o c e h d = grind (arith, part_dropped, heard_so_many)
 
+faulty_counts : (s : State) (n : Option ℕ) (place : Place) (o : List ℕ) (fault : UnitFault) (c : Count) →
+    ((j : Option (List ℕ)) → option_map length j ≡ n → is.Bad fault ≡ told_of (word_verdict (taker_with s j) (part place o)))
+    → c ≡ count_by n (bad s fault) → Counts s n (part place o) c
+faulty_counts s n place o fault c told d =
+    λ j f. ap counted (part_bad (taker_with s j) place o fault (told j f)) ∙ heard_so_many j n (bad s fault) f ∙ sym d
+
 pub bad_counts : (s : State) (n : Option ℕ) (k : Option (List ℕ)) (place : Place) (o : List ℕ) (fault : UnitFault) (c : Count) →
     k ≡ no_octets n
     → is.Bad fault ≡ told_of (word_verdict (taker_with s k) (part place o)) → c ≡ count_by n (bad s fault) → Counts s n (part place o) c
-bad_counts s n k place o fault c e h d = λ j f.
-    let less : fits k o ≡ false → fits j o ≡ false = λ x. shorter j n o f (ap (λ (y : Option (List ℕ)). fits y o) (sym e) ∙ x) in
-    let told = bad_by (si (DT o)) (is_over s.phase) (is_restarting s.phase) (takes_data s.phase) s.held.data_token (is_in_place k place)
-    (fits j o) (fits k o) fault less
-    (h ∙ ap told_of (grind (arith, part_verdict))) in
-    ap counted (part_bad (taker_with s j) place o fault (told ∙ ap told_of (sym (grind (arith, part_verdict))))) ∙
-    heard_so_many j n (bad s fault) f ∙ sym d
+bad_counts s n k place o fault c e h d = faulty_counts s n place o fault c (λ j f. grind (arith, part_verdict, length-append)) d
 
 -- too much is joined
 pub long_counts : (s : State) (n : Option ℕ) (k : Option (List ℕ)) (place : Place) (o : List ℕ) (c : Count) → k ≡ no_octets n
     → is.Good ≡ told_of (word_verdict (taker_with s k) (part place o)) → most_data < unwrap_or n 0 + length o
     → c ≡ count_by n (bad s (DataTooLong (si (DT o)))) → Counts s n (part place o) c
-long_counts s n k place o c e h l d = λ j f.
-    let long : fits j o ≡ false = rw (len_of j n o f) (above (unwrap_or n 0 + length o) l) in
-    let told = long_by (si (DT o)) (is_over s.phase) (is_restarting s.phase) (takes_data s.phase) s.held.data_token (is_in_place k place)
-    (fits j o) (fits k o) long
-    (h ∙ ap told_of (grind (arith, part_verdict))) in
-    ap counted (part_bad (taker_with s j) place o (DataTooLong (si (DT o))) (told ∙ ap told_of (sym (grind (arith, part_verdict)))))
-    ∙ heard_so_many j n (bad s (DataTooLong (si (DT o)))) f ∙ sym d
-  where
-    above : (m : ℕ) → most_data < m → nat_le m most_data ≡ false
-    above m h = grind (arith, leb-true)
+long_counts s n k place o c e h l d =
+    faulty_counts s n place o (DataTooLong (si (DT o))) c (λ j f. grind (arith, part_verdict, length-append, leb-true)) d
 
 pub good_counts : (s : State) (n : Option ℕ) (k : Option (List ℕ)) (place : Place) (o : List ℕ) (total : ℕ) (c : Count) → k ≡ no_octets n
     → is.Good ≡ told_of (word_verdict (taker_with s k) (part place o)) → unwrap_or n 0 + length o ≤ most_data →
     total ≡ unwrap_or n 0 + length o
     → c ≡ count_by (if is_last place then None else Some total) (nothing s) → Counts s n (part place o) c
 good_counts s n k place o total c e h l t d =
-    grind (arith, len_of, le-leb, unwrap_or, first_is, heard_so_many, middle_is, last_is, heard_counted)
+    grind (arith, length-append, le-leb, unwrap_or, first_is, heard_so_many, middle_is, last_is, heard_counted)
 
 -- ---- words one after the other
 
@@ -112,10 +71,6 @@ pub then_bad : (s c : Count) (w : Word) (b : Bool) → Counts s.state s.joined w
     counted h ≡ s → b ≡ is_faulty (word_verdict h.next w)
 then_bad s c w b k n h e = grind (arith, word_told, respond_word h.next w, here s c w h k e)
 
-pub then_left : (s c n : Count) (w : Word) → Counts s.state s.joined w c → n ≡ count_then s c → (h : Hearing) → counted h ≡ s →
-    counted (heard_then h (respond_word h.next w)) ≡ n
-then_left s c n w k m h e = grind (arith, here s c w h k e)
-
 -- what the loop over the words of a TSDU keeps: a hearing of what was done so far, whatever octets are joined
 pub record Walks (s : State) (n : Option ℕ) (words : Words) (c : Count) (restarts : Bool) (item : Word) (us : Words)
     (joined : Option (List ℕ)) : Type 0 where
@@ -127,20 +82,18 @@ abbrev pub WalksAll : State → Option ℕ → Words → Count → Bool → Word
 WalksAll s n words c restarts item us = (joined : Option (List ℕ)) → option_map length joined ≡ n →
     Walks s n words c restarts item us joined
 
-pub walks_begin : (s : State) (n : Option ℕ) (c : Count) (item first : Word) (us units : Words) → c ≡ count_by_idle s n → item ≡ first →
-    us ≡ units
-    → WalksAll s n (first ∷ units) c false item us
-walks_begin s n c item first us units e i b = λ j f. record {
+pub walks_begin : {c : Count} {item first : Word} {us units : Words} (s : State) (n : Option ℕ) → c ≡ count_by_idle s n → item ≡ first →
+    us ≡ units → WalksAll s n (first ∷ units) c false item us
+walks_begin {first = first} {units = units} s n e i b = λ j f. record {
   heard = idle (taker_with s j);
-  leads = grind (arith, tsdu_begins (taker_with s j) (idle (taker_with s j)) first units refl);
+  leads = grind (arith, tsdu_begins (taker_with s j) first units);
   counts = ap (count_by_idle s) f ∙ sym e;
 }
 
 -- one word is taken off
-pub walks_turn : (s : State) (n : Option ℕ) (words : Words) (c : Count) (restarts : Bool) (item u v : Word) (us units : Words) →
-    WalksAll s n words c restarts item us
-    → us ≡ v ∷ units → u ≡ v → WalksAll s n words c restarts item (u ∷ units)
-walks_turn s n words c restarts item u v us units w e i = grind arith
+pub walks_turn : {s : State} {n : Option ℕ} {words : Words} {c : Count} {restarts : Bool} {item u v : Word} {us units : Words} →
+    WalksAll s n words c restarts item us → us ≡ v ∷ units → u ≡ v → WalksAll s n words c restarts item (u ∷ units)
+walks_turn w e i = grind arith
 
 abbrev pub Tells : Count → Word → Bool → Type 0
 Tells c w b = (h : Hearing) → counted h ≡ c → b ≡ is_faulty (word_verdict h.next w)
@@ -148,40 +101,37 @@ Tells c w b = (h : Hearing) → counted h ≡ c → b ≡ is_faulty (word_verdic
 abbrev pub LeavesBehind : Count → Word → Count → Type 0
 LeavesBehind c w next = (h : Hearing) → counted h ≡ c → counted (heard_then h (respond_word h.next w)) ≡ next
 
-pub walks_on : (s : State) (n : Option ℕ) (words : Words) (c next : Count) (restarts now b : Bool) (item u : Word) (us : Words) →
+pub walks_on : {s : State} {n : Option ℕ} {words : Words} {c next : Count} {restarts now b : Bool} {item u : Word} {us : Words} →
     WalksAll s n words c restarts item (u ∷ us)
     → Tells c u b → b ≡ false → LeavesBehind c u next → now ≡ (restarts || is_restart_word u) → WalksAll s n words next now item us
-walks_on s n words c next restarts now b item u us w t g l r = λ j f.
+walks_on {u = u} w t g l r = λ j f.
     let x = w j f in
     record {
       heard = heard_then x.heard (respond_word x.heard.next u);
-      leads = grind (arith, respond_word, goes_on);
+      leads = grind (arith, goes_on x.leads (sym (t x.heard x.counts) ∙ g));
       counts = l x.heard x.counts;
     }
 
 -- a bad word is the last
-pub walks_stop : (s : State) (n : Option ℕ) (words : Words) (c next : Count) (restarts b : Bool) (item u : Word) (us : Words) →
-    WalksAll s n words c restarts item (u ∷ us)
-    → Tells c u b → b ≡ true → LeavesBehind c u next → CountsAll s n words next
-walks_stop s n words c next restarts b item u us w t g l = λ j f.
+pub walks_stop : {s : State} {n : Option ℕ} {words : Words} {c next : Count} {restarts b : Bool} {item u : Word} {us : Words} →
+    WalksAll s n words c restarts item (u ∷ us) → Tells c u b → b ≡ true → LeavesBehind c u next → CountsAll s n words next
+walks_stop w t g l = λ j f.
     let x = w j f in
-    ap counted (sym (stops (respond_tsdu (taker_with s j) words) x.heard restarts item u us x.leads (sym (t x.heard x.counts) ∙ g))) ∙
-    l x.heard x.counts
+    ap counted (sym (stops x.leads (sym (t x.heard x.counts) ∙ g))) ∙ l x.heard x.counts
 
 -- no word is left
-pub walks_restarted : (s : State) (n : Option ℕ) (words : Words) (c : Count) (restarts : Bool) (item : Word) (us : Words) →
-    WalksAll s n words c restarts item us
-    → us ≡ [] → restarts ≡ true → CountsAll s n words c
-walks_restarted s n words c restarts item us w e r = λ j f.
-    let x = w j f in
-    let leads = subst (λ (y : Bool). Leads (respond_tsdu (taker_with s j) words) x.heard y item []) r
-    (subst (λ (xs : Words). Leads (respond_tsdu (taker_with s j) words) x.heard restarts item xs) e x.leads) in
-    ap counted (sym (ends_restarted (respond_tsdu (taker_with s j) words) x.heard item leads)) ∙ x.counts
+pub walks_end : {s : State} {n : Option ℕ} {words : Words} {c : Count} {restarts b : Bool} {item : Word} (old new : Behind)
+    (u : Option Spdu) → WalksAll s n words c restarts item (map word (units_behind old)) → GivesBehind old u new →
+    ((s : Spdu) → u ≡ Some s → ⊥) → restarts ≡ b → WalksAll s n words c b item []
+walks_end old new u w given none e = let left = behind_none old new u given none in grind arith
 
-pub walks_item : (s : State) (n : Option ℕ) (words : Words) (c next : Count) (restarts : Bool) (item : Word) (us : Words) →
-    WalksAll s n words c restarts item us
-    → us ≡ [] → restarts ≡ false → LeavesBehind c item next → CountsAll s n words next
-walks_item s n words c next restarts item us w e r l = grind (arith, ends_with_item)
+pub walks_restarted : {s : State} {n : Option ℕ} {words : Words} {c : Count} {item : Word} → WalksAll s n words c true item [] →
+    CountsAll s n words c
+walks_restarted w = λ j f. let x = w j f in ap counted (sym (ends_restarted x.leads)) ∙ x.counts
+
+pub walks_item : {s : State} {n : Option ℕ} {words : Words} {c next : Count} {item : Word} → WalksAll s n words c false item [] →
+    LeavesBehind c item next → CountsAll s n words next
+walks_item w l = λ j f. let x = w j f in ap counted (sym (ends_with_item x.leads)) ∙ l x.heard x.counts
 
 -- ---- a TSDU
 

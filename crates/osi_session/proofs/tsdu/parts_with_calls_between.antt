@@ -1,16 +1,16 @@
 -- The parts of one Data, with calls of their taker between, and the whole Data after the calls alone.
-use Rattle.std.proofs.Common.{◌≡◌, refl, sym, ◌∙◌, ap, subst, ℕ, ◌≤◌, true, false, ◌⊎◌, List, [], ◌∷◌, ◌++◌, length, map, Option, Some}
-use Rattle.std.proofs.Common.{None, Result, Ok, Err, inl, inr, arith}
 use Rattle.osi_session.proofs.Vocabulary.{cases_Bool, and_parts, length-append, SpduFault, State, most_data, Step, Answer, allowed, needs}
 use Rattle.osi_session.proofs.Vocabulary.{may_call, after, has_right, AllHold, Call, available, Tokens, Place, First, Middle, Last, Meaning}
 use Rattle.osi_session.proofs.Vocabulary.{DT, GT, said_at, IsSendable, words_of, no_token, without, Words, says, part, part_octets, written}
 use Rattle.osi_session.proofs.Vocabulary.{user_data_of, kept_in, discards, IsNoFault, Input, called, taken, came, came_as, Listener, Move}
 use Rattle.osi_session.proofs.Vocabulary.{rests, moved, react, after_input, after_inputs, Act, comes, calls, part_comes, act_in_words}
-use Rattle.osi_session.proofs.Vocabulary.{act_in_octets, calls_in, AreParts, AreAlike, AreSilent, IsOfProfile, HasProfile}
+use Rattle.osi_session.proofs.Vocabulary.{act_in_octets, calls_in, AreParts, AreAlike, AreSilent, IsOfProfile, HasProfile, joined_octets}
+use Rattle.osi_session.proofs.Vocabulary.{is_in_place, is_last, ◌≡◌, refl, sym, ◌∙◌, ap, subst, ℕ, ◌≤◌, true, false, ◌⊎◌, List, [], ◌∷◌}
+use Rattle.osi_session.proofs.Vocabulary.{◌++◌, length, map, Option, Some, None, Result, Ok, Err, inl, inr, arith}
 use Rattle.osi_session.proofs.tables.what_is_true_of_each_phase.{implied, excluded}
 use Rattle.osi_session.proofs.tables.what_an_accepted_call_has_passed.{passed}
 use Rattle.osi_message.specs.Tokens as token
-use Rattle.osi_session.proofs.tsdu.what_a_receiver_keeps.{Joins, first_is, middle_is, last_joined}
+use Rattle.osi_session.proofs.tsdu.what_a_receiver_keeps.{Joins, next_is, last_joined}
 use Rattle.osi_session.proofs.moves.the_move_of_each_input.{call_is, taken_is}
 use Rattle.osi_session.proofs.tsdu.a_part_expected_or_discarded.{Expects, expects, data_discarded, part_discarded}
 use Rattle.osi_session.proofs.tables.messages_act_as_the_table_says.{kept_none, word_behind, words_of_message}
@@ -25,16 +25,9 @@ pub record Awaits (s : State) : Type 0 where
 abbrev Leaves : State → Type 0
 Leaves s = Awaits s ⊎ (discards s.phase ≡ true)
 
-not_held : (s : State) → has_right s token.data_token ≡ true → s.held.data_token ≡ false → s.units.half_duplex ≡ false
-unfolding available
-not_held s h0 h1 = grind arith
-
-given_away : (held tokens : Tokens) → held.data_token ≡ false → (without held tokens).data_token ≡ false
-unfolding without
-given_away held tokens h = rw h refl
-
 after_leaves : (s : State) (c : Call) → may_call s.phase c ≡ true → AllHold (needs s c) → Awaits s → Leaves (after s c)
-after_leaves s c m n a = grind (arith, excluded, given_away, and_parts, not_held)
+unfolding available without
+after_leaves s c m n a = grind (arith, excluded, and_parts)
 
 -- ---- the state of the receiver of some parts
 
@@ -90,23 +83,14 @@ record PartStep (s : State) (waiting : Option Meaning) (joined : Option (List �
   is : react (at s waiting joined) (part_comes place o) ≡ rests (at s waiting now)
   stands : Stands s now begun
 
-first_step : (s : State) (waiting : Option Meaning) (joined : Option (List ℕ)) (o : List ℕ) → length o ≤ most_data → Stands s joined None →
-    PartStep s waiting joined First o (Some o)
-first_step s waiting joined o short st = elim st [
-  | inl a ↦ subst (λ (k : Option (List ℕ)). PartStep s waiting k First o (Some o)) (sym a.1)
-      (record { now = Some o; is = part_rests s waiting None (Some o) First o (first_is s o short a.0.expects); stands = inl (a.0, refl) })
-  | inr d ↦ grind (arith, part_rests, part_discarded)
-]
-
-middle_step : (s : State) (waiting : Option Meaning) (joined : Option (List ℕ)) (b o : List ℕ) → length (b ++ o) ≤ most_data →
-    Stands s joined (Some b) → PartStep s waiting joined Middle o (Some (b ++ o))
-middle_step s waiting joined b o short st = elim st [
-  | inl a ↦ subst (λ (k : Option (List ℕ)). PartStep s waiting k Middle o (Some (b ++ o))) (sym a.1)
-      (record {
-        now = Some (b ++ o);
-        is = part_rests s waiting (Some b) (Some (b ++ o)) Middle o (middle_is s b o short a.0.expects);
-        stands = inl (a.0, refl);
-      })
+part_step : (s : State) (waiting : Option Meaning) (joined begun : Option (List ℕ)) (place : Place) (o : List ℕ) →
+    is_in_place begun place ≡ true → is_last place ≡ false → length (joined_octets begun ++ o) ≤ most_data → Stands s joined begun →
+    PartStep s waiting joined place o (Some (joined_octets begun ++ o))
+part_step s waiting joined begun place o h l short st = elim st [
+  | inl a ↦
+      let now = Some (joined_octets begun ++ o) in
+      let is = part_rests s waiting begun now place o (next_is s begun place o h l short a.0.expects) in
+      record { now = now; is = let same = a.1 in rw same is; stands = inl (a.0, refl) }
   | inr d ↦ grind (arith, part_rests, part_discarded)
 ]
 
@@ -141,23 +125,16 @@ runs s waiting joined begun (calls c ∷ acts) front last st h short =
 runs s waiting joined None (comes First o ∷ acts) front last st h short =
     let g = grows acts o front h in
     let m = length-append front last in
-    let k = first_step s waiting joined o (omega arith) st in
+    let k = part_step s waiting joined None First o refl refl (omega arith) st in
     grind (arith, react, runs s waiting k.now (Some o) acts front last k.stands h short)
 runs s waiting joined (Some b) (comes Middle o ∷ acts) front last st h short =
     let g = grows acts (b ++ o) front h in
     let m = length-append front last in
-    let k = middle_step s waiting joined b o (omega arith) st in
+    let k = part_step s waiting joined (Some b) Middle o refl refl (omega arith) st in
     grind (arith, react, runs s waiting k.now (Some (b ++ o)) acts front last k.stands h short)
-runs s waiting joined None (comes Middle o ∷ acts) front last st h short = absurd h
-runs s waiting joined None (comes Last o ∷ acts) front last st h short = absurd h
-runs s waiting joined (Some b) (comes First o ∷ acts) front last st h short = absurd h
-runs s waiting joined (Some b) (comes Last o ∷ acts) front last st h short = absurd h
+runs s waiting joined _ _ front last st h short = absurd h
 
 -- ---- at the first part
-
-abbrev Same : List Act → List ℕ → List ℕ → Listener → Type 0
-Same acts front last l = react (after_inputs l (map act_in_words acts)) (part_comes Last last) ≡ react (after_inputs l (calls_in acts))
-    (whole_comes (front ++ last))
 
 pub parts_do_as_whole : (l : Listener) (acts : List Act) (front last : List ℕ) → l.joined ≡ None → HasProfile l.state →
     IsNoFault l.state (front ++ last) →
@@ -206,16 +183,13 @@ silent_run read s waiting joined begun (calls c ∷ acts) front st h short =
     )
 silent_run read s waiting joined None (comes First o ∷ acts) front st h short =
     let g = grows acts o front h in
-    let k = first_step s waiting joined o (omega arith) st in
+    let k = part_step s waiting joined None First o refl refl (omega arith) st in
     search (arith, quiet_part, silent_run read s waiting k.now (Some o) acts front k.stands h short)
 silent_run read s waiting joined (Some b) (comes Middle o ∷ acts) front st h short =
     let g = grows acts (b ++ o) front h in
-    let k = middle_step s waiting joined b o (omega arith) st in
+    let k = part_step s waiting joined (Some b) Middle o refl refl (omega arith) st in
     search (arith, quiet_part, silent_run read s waiting k.now (Some (b ++ o)) acts front k.stands h short)
-silent_run read s waiting joined None (comes Middle o ∷ acts) front st h short = absurd h
-silent_run read s waiting joined None (comes Last o ∷ acts) front st h short = absurd h
-silent_run read s waiting joined (Some b) (comes First o ∷ acts) front st h short = absurd h
-silent_run read s waiting joined (Some b) (comes Last o ∷ acts) front st h short = absurd h
+silent_run read s waiting joined _ _ front st h short = absurd h
 
 pub silent_before : ReadAsParts → (l : Listener) (acts : List Act) (front last : List ℕ) → l.joined ≡ None → HasProfile l.state →
     IsNoFault l.state (front ++ last) →

@@ -1,23 +1,22 @@
 -- The answer to a TSDU, the phases in which a session closes the transport connection, and those in which a call is
 -- accepted.
-use Rattle.std.proofs.Common.{◌⊎◌, inl, inr, ◌≡◌, refl, sym, ◌∙◌, ap, subst, ℕ, Bool, true, false, ◌||◌, List, [], ◌∷◌, Option, Some, None}
-use Rattle.std.proofs.Common.{unwrap_or, Result, Ok, Err, if◌then◌else◌, arith}
-use Rattle.osi_session.proofs.Vocabulary.{list_any, SpduFault, TokenSetting, TsduMaximumSize, Meaning, CN, AB, AA, said_at, Word, Words}
-use Rattle.osi_session.proofs.Vocabulary.{as_message, UnitFault, Spelling, Phase, Answering, State, is_wait_transport, is_wait_cn}
-use Rattle.osi_session.proofs.Vocabulary.{is_aborting, is_ended, is_over, may_abort, Call, Step, may_call, allowed, may_close_word}
-use Rattle.osi_session.proofs.Vocabulary.{closes_alone, is_answer, awaits_close, Taker, Hearing, word_verdict, respond_word, respond_words}
-use Rattle.osi_session.proofs.Vocabulary.{heard_then, acting_words, respond_tsdu, respond_came, Input, called, taken, unread, opened}
-use Rattle.osi_session.proofs.Vocabulary.{refused, broken, is_opened, came_as, came, Listener, taker_of, react, after_input}
-use Rattle.osi_session.proofs.Vocabulary.{functional_units, Outcome, is_expected, drops, nothing, good, bad, take_expected, in_aborting}
-use Rattle.osi_session.proofs.Vocabulary.{in_ended, respond_unit, first_reply, and_then, over, is_faulty, respond_fault}
-use Rattle.osi_session.proofs.moves.what_closes_the_connection.{neither, acting_none, words_open, octets_alone, fault_open}
+use Rattle.std.proofs.Common.{◌⊎◌, inl, inr, ◌≡◌, refl, sym, ◌∙◌, ap, subst, ℕ, true, false, ◌||◌, List, Option, Some, None}
+use Rattle.std.proofs.Common.{Result, Ok, Err, if◌then◌else◌, arith}
+use Rattle.osi_session.proofs.Vocabulary.{list_any, SpduFault, Meaning, CN, AB, AA, said_at, Word, Words, as_message, UnitFault, Phase}
+use Rattle.osi_session.proofs.Vocabulary.{State, is_wait_transport, is_wait_cn, is_aborting, is_ended, is_over, may_abort, Call, Step}
+use Rattle.osi_session.proofs.Vocabulary.{may_call, allowed, may_close_word, closes_alone, is_answer, awaits_close, Taker, respond_word}
+use Rattle.osi_session.proofs.Vocabulary.{respond_words, acting_words, respond_tsdu, respond_came, Input, is_opened, came_as, came}
+use Rattle.osi_session.proofs.Vocabulary.{Listener, taker_of, react, after_input, Outcome, nothing, good, bad, respond_unit, first_reply}
+use Rattle.osi_session.proofs.Vocabulary.{and_then, over, respond_fault, or_parts, not, by_fault, conditions, dropped, enacted, faulty}
+use Rattle.osi_session.proofs.Vocabulary.{first_fault, si, Unexpected, Bool, drops, in_aborting, in_ended, is_expected}
+use Rattle.osi_session.proofs.tables.the_outcomes_of_each_input.{unit_cases, input_cases}
+use Rattle.osi_session.proofs.moves.what_closes_the_connection.{acting_none, words_open, octets_alone, fault_open}
 use Rattle.osi_session.proofs.tables.what_an_accepted_call_has_passed.{passed}
 use Rattle.osi_session.proofs.tables.what_is_true_of_each_phase.{implied, excluded}
-use Rattle.osi_session.proofs.tables.the_outcomes_of_each_input.{call_cases, unit_cases, taken_cases, fault_cases, refused_cases}
-use Rattle.osi_session.proofs.tables.the_outcomes_of_each_input.{broken_cases}
 use Rattle.osi_session.proofs.runs.what_every_run_preserves.{word_over}
 use Rattle.osi_session.proofs.tables.the_verdict_on_a_unit.{enacts}
-use Rattle.osi_session.proofs.tables.a_word_acts_as_its_message.{outcome_in, word_does, word_keeps, all_keep, any_word, any_tsdu_keeps}
+use Rattle.osi_session.proofs.tables.a_word_acts_as_its_message.{outcome_in, word_does, word_keeps, words_do, all_keep, any_word}
+use Rattle.osi_session.proofs.tables.a_word_acts_as_its_message.{any_tsdu_keeps}
 use Rattle.osi_session.proofs.tables.messages_act_as_the_table_says.{word_at, word_alone}
 
 -- ---- a session that answers a TSDU is over
@@ -29,23 +28,6 @@ record Answers (o : Outcome) : Type 0 where
 silent : (o : Outcome) → o.reply ≡ None → Answers o
 silent o h = record { last = λ m e. absurd (cc) }
 
-abbrev some : Meaning → Option Meaning
-some m = Some m
-
-either : (b : Bool) (x y : Outcome) → (b ≡ true → Answers x) → (b ≡ false → Answers y) → Answers (if b then x else y)
-either b x y h k = grind arith
-
-aborting_answers : (s : State) (u : Meaning) → Answers (in_aborting s u)
-aborting_answers s u = grind (arith, silent)
-
-ended_answers : (s : State) (u : Meaning) → is_over s.phase ≡ true → Answers (in_ended s u)
-ended_answers s u h = grind (arith, silent)
-
--- the state after a CN that is accepted
-abbrev becomes_answering : State → ℕ → Option ℕ → TokenSetting → TsduMaximumSize → State
-becomes_answering s requirements serial wishes sizes =
-    record s { phase = Answering; units = functional_units requirements; wishes = wishes; proposed = unwrap_or serial 0; sizes = sizes }
-
 good_answers : (s : State) (u : Meaning) → Answers (good s u)
 good_answers s (CN version_2 requirements serial wishes from to sizes octets) = search arith
 good_answers s (AB bits octets) = grind arith
@@ -54,16 +36,19 @@ good_answers s _ = silent _ refl
 bad_answers : (s : State) (fault : UnitFault) → Answers (bad s fault)
 bad_answers s fault = grind arith
 
-expected_answers : (s : State) (u : Meaning) → Answers (take_expected s u)
-unfolding take_expected
-expected_answers s u = grind (arith, good_answers, bad_answers)
+aborting_answers : (s : State) (u : Meaning) → Answers (in_aborting s u)
+aborting_answers s u = grind (arith, silent)
+
+ended_answers : (s : State) (u : Meaning) → is_over s.phase ≡ true → Answers (in_ended s u)
+ended_answers s u h = grind (arith, silent)
+
+verdict_answers : (s : State) (u : Meaning) (o d x : Bool) (n : ℕ) (f : Option UnitFault) → (o ≡ true → Answers (enacted s u over)) →
+    Answers (enacted s u (if o then over else if d then dropped else if not x then faulty (Unexpected n) else by_fault f))
+verdict_answers s u o d x n f h = grind (arith, silent, good_answers, bad_answers)
 
 answers : (s : State) (u : Meaning) → Answers (respond_unit s u)
-unfolding respond_unit
-answers s u =
-    either (is_aborting s.phase) _ _ (λ a. aborting_answers s u) (λ a.
-    either (is_ended s.phase) _ _ (λ e. ended_answers s u (implied is_ended is_over refl s.phase e)) (λ e.
-    either (drops s u) _ _ (λ d. silent _ refl) (grind (arith, either, bad_answers, expected_answers))))
+answers s u = subst Answers (sym (enacts s u)) (verdict_answers s u (is_over s.phase) (drops s u) (is_expected s.phase u) (si u)
+    (first_fault (si u) (conditions s u)) (λ o. grind (arith, aborting_answers, ended_answers)))
 
 pub unit_answers : (s : State) (u m : Meaning) → (respond_unit s u).reply ≡ Some m →
     (is_answer m ≡ true) × (is_over (respond_unit s u).next.phase ≡ true)
@@ -89,22 +74,14 @@ then_answers first second h stays k = record {
   ];
 }
 
-either_heard : (b : Bool) (x y : Hearing) → Answers (outcome_in x) → Answers (outcome_in y) → Answers (outcome_in (if b then x else y))
-either_heard b x y h k = grind arith
-
 all_answer : (t : Taker) (ws : Words) → Answers (outcome_in (respond_words t ws))
-unfolding respond_words
-all_answer t [] = silent _ refl
-all_answer t (w ∷ ws) =
-    let next = (respond_word t w).next in
-    either_heard (is_faulty (word_verdict t w)) (respond_word t w) (heard_then (respond_word t w) (respond_words next ws))
-    (word_answers t w)
-    (then_answers (outcome_in (respond_word t w)) (outcome_in (respond_words next ws)) (word_answers t w) (stays_over next ws)
-    (all_answer next ws))
+all_answer = words_do (λ t ws h. Answers (outcome_in h)) (λ t. silent _ refl) (λ t w ws. word_answers t w)
+    (λ t w ws more. then_answers (outcome_in (respond_word t w)) (outcome_in (respond_words (respond_word t w).next ws)) (word_answers t w)
+    (stays_over (respond_word t w).next ws) more)
 
 fault_answers : (s : State) (fault : SpduFault) → Answers (respond_fault s fault)
 unfolding respond_fault
-fault_answers s fault = either (is_over s.phase) _ _ (λ o. silent _ refl) (λ o. bad_answers s (Spelling fault))
+fault_answers s fault = grind (arith, silent, bad_answers)
 
 pub read_answers : (s : Listener) (read : Result Words SpduFault) (m : Meaning) → (react s (came_as read)).reply ≡ Some m
     → (is_answer m ≡ true) × (is_over (react s (came_as read)).next.state.phase ≡ true)
@@ -127,23 +104,17 @@ word_still : (t : Taker) (w : Word) → is_over t.state.phase ≡ true → may_c
     outcome_in (respond_word t w) ≡ nothing t.state
 word_still t w o h = ap outcome_in (word_at t w over (rw o refl)) ∙ (grind arith)
 
-over_no_fault : (t : Taker) (w : Word) → is_over t.state.phase ≡ true → is_faulty (word_verdict t w) ≡ false
-over_no_fault t w o = rw o refl
-
 -- the words that come after others do nothing
 all_still : (t : Taker) (ws : Words) → is_over t.state.phase ≡ true → list_any may_close_word ws ≡ false →
     outcome_in (respond_words t ws) ≡ nothing t.state
-unfolding respond_words
-all_still t [] o h = refl
-all_still t (w ∷ ws) o h =
-    let q = neither (may_close_word w) (list_any may_close_word ws) h in
+all_still = words_do (λ t ws h. is_over t.state.phase ≡ true → list_any may_close_word ws ≡ false → outcome_in h ≡ nothing t.state)
+    (λ t o h. refl) (λ t w ws o h. word_still t w o (or_parts _ _ h).0)
+    (λ t w ws more o h.
+    let q = or_parts (may_close_word w) (list_any may_close_word ws) h in
     let e = word_still t w o q.0 in
     let same = ap (λ (x : Outcome). x.next) e in
-    let next = (respond_word t w).next in
-    ap (λ b. outcome_in (if b then respond_word t w else heard_then (respond_word t w) (respond_words next ws))) (over_no_fault t w o)
-    ∙ ap (and_then (outcome_in (respond_word t w))) (all_still next ws (subst (λ (x : State). is_over x.phase ≡ true) (sym same) o) q.1 ∙
-    ap nothing same)
-    ∙ ap (λ (x : Outcome). and_then x (nothing t.state)) e
+    ap (and_then (outcome_in (respond_word t w))) (more (subst (λ (x : State). is_over x.phase ≡ true) (sym same) o) q.1 ∙ ap nothing same)
+    ∙ ap (λ (x : Outcome). and_then x (nothing t.state)) e)
 
 -- what arrives at a session that is over: a single word, or nothing
 over_said : (P : Outcome → Type 0) (t : Taker) (words : Words) → is_over t.state.phase ≡ true → closes_alone words ≡ true
@@ -204,16 +175,8 @@ record Awaited (s : State) (o : Outcome) : Type 0 where
 left_open : (s : State) (o : Outcome) → o.closes ≡ false → Awaited s o
 left_open s o h = record { awaits = λ c. absurd (cc) }
 
-expected_awaited : (s : State) (u : Meaning) → is_expected s.phase u ≡ true → Awaited s (take_expected s u)
-unfolding take_expected
-expected_awaited s u x = grind (arith, left_open)
-
-aborting_awaited : (s : State) (u : Meaning) → is_aborting s.phase ≡ true → Awaited s (in_aborting s u)
-aborting_awaited s u a = record { awaits = λ c. implied is_aborting awaits_close refl s.phase a }
-
 unit_awaited : (s : State) (u : Meaning) → Awaited s (respond_unit s u)
-unfolding respond_unit
-unit_awaited s u = grind (arith, aborting_awaited, left_open, expected_awaited)
+unit_awaited s u = subst (Awaited s) (sym (enacts s u)) (grind (arith, left_open))
 
 word_awaited : (t : Taker) (w : Word) → Awaited t.state (outcome_in (respond_word t w))
 word_awaited t w =
@@ -255,14 +218,10 @@ unit_waits s u h = unit_cases Waits s u (grind arith)
 word_waits : (t : Taker) (w : Word) → Waits t.state → Waits (respond_word t w).next.state
 word_waits t w h = word_keeps Waits t w (λ u a. unit_waits t.state u h) (λ o. refl) h
 
+words_wait : (t : Taker) (words : Words) → Waits t.state → Waits (respond_tsdu t words).next.state
+words_wait t words h = any_tsdu_keeps Waits t words word_waits h
+
 -- what happens before it is open leaves the session waiting for it, or is the end
 pub input_waits : (s : Listener) (input : Input) → is_opened input ≡ false → is_wait_transport s.state.phase ≡ true
     → (is_wait_transport (after_input s input).state.phase || is_over (after_input s input).state.phase) ≡ true
-input_waits s (called c) n w =
-    call_cases Waits s c (grind arith)
-    (λ x e. absurd (let b = callable_open s.state.phase (accepted_callable s.state c x e) in let q = b.0 in cc))
-input_waits s (taken words) n w = taken_cases Waits s words (any_tsdu_keeps Waits (taker_of s) words word_waits (grind arith))
-input_waits s (unread fault) n w = fault_cases Waits s fault (grind arith) (λ o. refl)
-input_waits s opened n w = absurd (cc)
-input_waits s (refused reason) n w = refused_cases Waits s reason (λ k. refl) (grind arith)
-input_waits s broken n w = broken_cases Waits s refl
+input_waits s input n w = input_cases Waits s input (grind (arith, callable_open, accepted_callable, words_wait))

@@ -38,10 +38,6 @@ pub part_bad : (t : Taker) (place : Place) (octets : List ℕ) (fault : UnitFaul
 unfolding respond_word
 part_bad t place octets fault e = grind arith
 
-pub part_fine : (t : Taker) (place : Place) (octets : List ℕ) → is.Good ≡ told_of (word_verdict t (part place octets)) →
-    word_verdict t (part place octets) ≡ fine
-part_fine t place octets h0 = grind arith
-
 -- a good part
 pub part_is : (t : Taker) (place : Place) (octets : List ℕ) → word_verdict t (part place octets) ≡ fine →
     respond_word t (part place octets) ≡ heard (joined_by t.joined (part place octets)) (good_word t (part place octets))

@@ -1,21 +1,14 @@
 -- The joined octets of an unfinished SSDU, and the verdict on a word.
 use Rattle.osi_session.proofs.Vocabulary.{length-append, State, UnitFault, Unexpected, TokenHeld, BadEnclosure, DataTooLong, is_over}
-use Rattle.osi_session.proofs.Vocabulary.{is_restarting, takes_data, most_data, Outcome, Condition, si, first_fault, drops, bad, Verdict}
-use Rattle.osi_session.proofs.Vocabulary.{over, dropped, faulty, fine, verdict, is_faulty, enacted, respond_unit, replies_abort, is_silent}
-use Rattle.osi_session.proofs.Vocabulary.{kind_of, Kind, si_of, Taker, joined_octets, begins_anew, is_in_place, word_verdict, Reacts}
-use Rattle.osi_session.proofs.Vocabulary.{Meaning, DT, Place, says, part, ◌≡◌, refl, sym, ap, ℕ, ◌+◌, Bool, true, false, not, ◌||◌}
-use Rattle.osi_session.proofs.Vocabulary.{if◌then◌else◌, nat_le, List, [], ◌∷◌, ◌++◌, length, Option, Some, None, is_none, Result, arith}
-use Rattle.osi_session.proofs.Vocabulary.{Reaction}
+use Rattle.osi_session.proofs.Vocabulary.{is_restarting, takes_data, most_data, Outcome, si, drops, bad, Verdict, over, dropped, faulty}
+use Rattle.osi_session.proofs.Vocabulary.{fine, verdict, is_faulty, enacted, respond_unit, replies_abort, is_silent, kind_of, Kind, si_of}
+use Rattle.osi_session.proofs.Vocabulary.{Taker, joined_octets, begins_anew, is_in_place, word_verdict, Reacts, Meaning, DT, Place, says}
+use Rattle.osi_session.proofs.Vocabulary.{part, ◌≡◌, sym, ap, ℕ, ◌+◌, Bool, true, false, not, ◌||◌, if◌then◌else◌, nat_le, List, ◌++◌}
+use Rattle.osi_session.proofs.Vocabulary.{length, Option, Some, None, is_none, Result, arith, Reaction}
 use Rattle.osi_session.proofs.tables.the_verdict_on_a_unit.{enacts, enacted_reply}
 
 pub length_both : (a b : List ℕ) → nat_le (length a + length b) 1048572 ≡ nat_le (length (a ++ b)) most_data
 length_both a b = ap (λ n. nat_le n 1048572) (sym (length-append a b))
-
--- ---- a message
-
-passes_true : (n : ℕ) (cs : List Condition) (b : Bool) (f : ℕ → UnitFault) → b ≡ true → first_fault n (cs ++ (b, f) ∷ []) ≡ first_fault n cs
-passes_true n [] b f h = rw h refl
-passes_true n (c ∷ cs) b f h = ap (λ r. if c.0 then r else Some (c.1 n)) (passes_true n cs b f h)
 
 -- ---- a part
 

@@ -1,8 +1,8 @@
 -- What the words of a TSDU preserve.
 use Rattle.osi_session.proofs.Vocabulary.{SpduFault, Aborting, State, is_wait_transport, IsSound, IsNumberedWord, AreNumberedWords, said_at}
 use Rattle.osi_session.proofs.Vocabulary.{Word, Words, units_numbered, Taker, Hearing, respond_word, respond_tsdu, respond_came}
-use Rattle.osi_session.proofs.Vocabulary.{respond_fault, arith, ◌≡◌, refl, subst, ℕ, List, true}
-use Rattle.osi_session.proofs.runs.no_unit_goes_back_to_awaiting.{Begins, unit_begun}
+use Rattle.osi_session.proofs.Vocabulary.{respond_fault, arith, ◌≡◌, refl, subst, ℕ, List, true, Meaning, respond_unit}
+use Rattle.osi_session.proofs.tables.the_outcomes_of_each_input.{unit_cases}
 use Rattle.osi_session.proofs.runs.calls_keep_the_invariant.{bare}
 use Rattle.osi_session.proofs.runs.units_keep_the_invariant.{unit_sound}
 use Rattle.osi_session.proofs.tables.a_word_acts_as_its_message.{word_keeps, tsdu_keeps, any_tsdu_keeps}
@@ -15,7 +15,13 @@ word_sound t w small h =
 pub words_sound : (t : Taker) (words : Words) → AreNumberedWords words → IsSound t.state → IsSound (respond_tsdu t words).next.state
 words_sound t words small h = tsdu_keeps IsSound IsNumberedWord t words word_sound small h
 
--- no word goes back to awaiting the transport connection
+-- no unit goes back to awaiting the transport connection, and no word
+abbrev pub Begins : State → State → Type 0
+Begins s next = is_wait_transport next.phase ≡ true → is_wait_transport s.phase ≡ true
+
+unit_begun : (s : State) (u : Meaning) → Begins s (respond_unit s u).next
+unit_begun s u = unit_cases (Begins s) s u (grind arith)
+
 word_begun : (t : Taker) (w : Word) → Begins t.state (respond_word t w).next.state
 word_begun t w = word_keeps (Begins t.state) t w (λ u a. unit_begun t.state u) (λ o k. absurd (cc)) (λ k. k)
 

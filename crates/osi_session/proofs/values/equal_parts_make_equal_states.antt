@@ -1,24 +1,13 @@
 -- Two states with the same parts are the same.
-use Rattle.std.proofs.Common.{◌≡◌, ◌≢◌, ◌∙◌, ◌==◌, ◌&&◌, ℕ, sym, ap, Bool, true, MatchBool, if◌then◌else◌, arith}
-use Rattle.osi_session.specs.Same.{same_bit, place_of, same_setting, same_tokens, same_units, same_numbers, same_sizes, same_state}
-use Rattle.osi_session.proofs.Vocabulary.{and_parts, and_from, eqb-true, eq-eqb, TokenSetting, TsduMaximumSize, Tokens, Phase}
-use Rattle.osi_session.proofs.Vocabulary.{WaitTransport, WaitCn, Connecting, Answering, Ready, MajorAsked, MajorDue, Releasing, ReleaseDue}
-use Rattle.osi_session.proofs.Vocabulary.{Restarting, RestartDue, Aborting, Ended, Numbers, FunctionalUnits, State}
+use Rattle.osi_session.proofs.Vocabulary.{and_parts, and_from, eqb-true, eq-eqb, TokenSetting, TsduMaximumSize, Tokens, Phase, Numbers}
+use Rattle.osi_session.proofs.Vocabulary.{FunctionalUnits, State, ◌≡◌, ◌≢◌, ◌==◌, Bool, true, MatchBool, arith, same_bit, place_of}
+use Rattle.osi_session.specs.Same.{same_setting, same_tokens, same_units, same_numbers, same_sizes, same_state}
 
 bit_is : (a b : Bool) → same_bit a b ≡ true → a ≡ b
 bit_is a b h0 = grind arith
 
-phase_at : ℕ → Phase
-phase_at n = if n == 0 then WaitTransport else if n == 1 then WaitCn else if n == 2 then Connecting else if n == 3 then Answering else
-    if n == 4 then Ready else if n == 5 then MajorAsked else if n == 6 then MajorDue else if n == 7 then Releasing else if n == 8 then
-    ReleaseDue else if n == 9 then Restarting else if n == 10 then RestartDue else if n == 11 then Aborting else Ended
-
-there : (p : Phase) → phase_at (place_of p) ≡ p
-unfolding phase_at
-there p = grind arith
-
 phase_is : (a b : Phase) → (place_of a == place_of b) ≡ true → a ≡ b
-phase_is a b e = sym (there a) ∙ ap phase_at (eqb-true (place_of a) (place_of b) e) ∙ there b
+phase_is a b e = grind arith
 
 same_setting_is : (a b : TokenSetting) → same_setting a b ≡ true → a ≡ b
 unfolding same_setting
@@ -63,37 +52,20 @@ same_sizes_refl a = grind (arith, and_from, eq-eqb)
 same_state_is : (a b : State) → same_state a b ≡ true → a ≡ b
 unfolding same_state
 same_state_is a b e =
-    let p0 = and_parts ((place_of a.phase == place_of b.phase))
-    (same_bit a.is_caller b.is_caller &&
-    (same_units a.units b.units &&
-    (same_setting a.wishes b.wishes &&
-    (same_tokens a.held b.held &&
-    ((a.proposed == b.proposed) && ((a.base == b.base) && (same_numbers a.numbers b.numbers && same_sizes a.sizes b.sizes))))))) e in
-    let p1 = and_parts (same_bit a.is_caller b.is_caller)
-    (same_units a.units b.units &&
-    (same_setting a.wishes b.wishes &&
-    (same_tokens a.held b.held &&
-    ((a.proposed == b.proposed) && ((a.base == b.base) && (same_numbers a.numbers b.numbers && same_sizes a.sizes b.sizes)))))) p0.1 in
-    let p2 = and_parts (same_units a.units b.units)
-    (same_setting a.wishes b.wishes &&
-    (same_tokens a.held b.held &&
-    ((a.proposed == b.proposed) && ((a.base == b.base) && (same_numbers a.numbers b.numbers && same_sizes a.sizes b.sizes))))) p1.1 in
-    let p3 = and_parts (same_setting a.wishes b.wishes)
-    (same_tokens a.held b.held &&
-    ((a.proposed == b.proposed) && ((a.base == b.base) && (same_numbers a.numbers b.numbers && same_sizes a.sizes b.sizes)))) p2.1 in
-    let p4 = and_parts (same_tokens a.held b.held)
-    ((a.proposed == b.proposed) && ((a.base == b.base) && (same_numbers a.numbers b.numbers && same_sizes a.sizes b.sizes))) p3.1 in
-    let p5 = and_parts ((a.proposed == b.proposed)) ((a.base == b.base) && (same_numbers a.numbers b.numbers && same_sizes a.sizes b.sizes))
-    p4.1 in
-    let p6 = and_parts ((a.base == b.base)) ((same_numbers a.numbers b.numbers && same_sizes a.sizes b.sizes)) p5.1 in
-    let p7 = and_parts (same_numbers a.numbers b.numbers) (same_sizes a.sizes b.sizes) p6.1 in
+    let p0 = and_parts _ _ e in
+    let p1 = and_parts _ _ p0.1 in
+    let p2 = and_parts _ _ p1.1 in
+    let p3 = and_parts _ _ p2.1 in
+    let p4 = and_parts _ _ p3.1 in
+    let p5 = and_parts _ _ p4.1 in
+    let p6 = and_parts _ _ p5.1 in
+    let p7 = and_parts _ _ p6.1 in
     λ i. record {
       phase = (phase_is a.phase b.phase p0.0) i;
       is_caller = (bit_is a.is_caller b.is_caller p1.0) i;
       units = (same_units_is a.units b.units p2.0) i;
       wishes = (same_setting_is a.wishes b.wishes p3.0) i;
-      held =
-          (same_tokens_is a.held b.held p4.0) i;
+      held = (same_tokens_is a.held b.held p4.0) i;
       proposed = (eqb-true a.proposed b.proposed p5.0) i;
       base = (eqb-true a.base b.base p6.0) i;
       numbers = (same_numbers_is a.numbers b.numbers p7.0) i;

@@ -1,7 +1,7 @@
 -- What a CN and an AC agree, and what it limits.
-use Rattle.osi_session.proofs.Vocabulary.{and_parts, and_from, TsduMaximumSize, named_by, are_sizes, is_size, written, State, Step, allowed}
-use Rattle.osi_session.proofs.Vocabulary.{Call, smaller, smaller_sizes, answered_sizes, limit_of, is_bounded, ◌≡◌, ℕ, ◌==◌, ◌<◌, ◌≤◌, true}
-use Rattle.osi_session.proofs.Vocabulary.{◌||◌, nat_le, length, Ok, arith, TsduSizes}
+use Rattle.osi_session.proofs.Vocabulary.{and_parts, and_from, TsduMaximumSize, named_by, are_sizes, written, State, Step, allowed, Call}
+use Rattle.osi_session.proofs.Vocabulary.{smaller, smaller_sizes, answered_sizes, limit_of, is_bounded, ◌≡◌, ℕ, ◌<◌, ◌≤◌, true, length, Ok}
+use Rattle.osi_session.proofs.Vocabulary.{arith, TsduSizes}
 use Rattle.osi_session.specs.Sizes.{answered}
 use Rattle.osi_session.proofs.tables.what_an_accepted_call_has_passed.{passed}
 
@@ -42,9 +42,6 @@ unfolding smaller_sizes answered_sizes
 sizes_agreed a b = λ i. record { from_asker = agreed a.from_asker b.from_asker i; from_answerer = agreed a.from_answerer b.from_answerer i }
 
 -- ---- what it bounds
-
-under : (limit len : ℕ) → 0 < limit → ((limit == 0) || nat_le len limit) ≡ true → len ≤ limit
-under limit len h k = grind arith
 
 pub sent_under : (s : State) (c : Call) (x : Step) → allowed s c ≡ Ok x → is_bounded c ≡ true → 0 < limit_of s →
     length (written x.sent) ≤ limit_of s

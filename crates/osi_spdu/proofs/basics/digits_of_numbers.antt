@@ -1,8 +1,8 @@
 -- Digits of numbers, written and read.
 use Rattle.osi_spdu.proofs.Vocabulary.{list_all, cases_Bool, and_parts, and_from, eqb-true, eq-eqb, ne_eqb, le-leb, lt-ltb, drop_more}
-use Rattle.osi_spdu.proofs.Vocabulary.{drop_all, length-drop, common_steps, significant, six_digits, digits_of, decimal_from, decimal}
-use Rattle.osi_spdu.proofs.Vocabulary.{is_digit, numeral, ◌≡◌, ℕ, suc, ◌+◌, ◌-◌, ◌*◌, ◌^◌, ◌<◌, ◌≤◌, Bool, true, ltb, leb, eqb, List, []}
-use Rattle.osi_spdu.proofs.Vocabulary.{◌∷◌, length, get_or, drop, Some, refl, arith}
+use Rattle.osi_spdu.proofs.Vocabulary.{drop_all, length-drop, common_steps, significant, digits_of, decimal_from, decimal, is_digit}
+use Rattle.osi_spdu.proofs.Vocabulary.{numeral, ◌≡◌, ℕ, suc, ◌+◌, ◌-◌, ◌*◌, ◌^◌, ◌<◌, ◌≤◌, true, eqb, List, [], ◌∷◌, length, get_or, drop}
+use Rattle.osi_spdu.proofs.Vocabulary.{Some, refl, arith}
 
 -- a leading zero is dropped
 pub significant_step : (xs : List ℕ) (i : ℕ) → i + 1 < length xs → get_or xs i 0 ≡ 48 →
@@ -28,9 +28,6 @@ pow_small (suc (suc (suc (suc (suc (suc (suc i))))))) h = absurd (omega arith)
 pow_small _ h = omega arith
 
 -- ---- reading digits
-
-abbrev all_digits : List ℕ → Bool
-all_digits xs = list_all is_digit xs
 
 -- the invariant of the loop over digits
 pub record IsReading (digits : List ℕ) (i number : ℕ) : Type 0 where
@@ -62,17 +59,12 @@ significant_all (d ∷ []) h = h
 significant_all (d ∷ e ∷ xs) h =
     grind (arith, cases_Bool, eqb, and_parts, significant_all (e ∷ xs) (and_parts (is_digit d) (list_all is_digit (e ∷ xs)) h).1)
 
-significant_len : (xs : List ℕ) → 0 < length xs → (0 < length (significant xs)) × (length (significant xs) ≤ length xs)
+pub significant_len : (xs : List ℕ) → (length (significant xs) ≤ length xs) × (0 < length xs → 0 < length (significant xs))
 unfolding significant
-significant_len [] h = absurd (omega arith)
-significant_len (d ∷ []) h = (omega arith, omega arith)
-significant_len (d ∷ e ∷ xs) h = grind (arith, cases_Bool, eqb, significant_len (e ∷ xs) (omega arith))
-
-six_value : (n : ℕ) → n ≤ 999999 → decimal (six_digits n) ≡ n
-unfolding decimal_from
-six_value n h = omega arith
+significant_len (d ∷ e ∷ xs) = grind (arith, cases_Bool, eqb, significant_len (e ∷ xs))
+significant_len _ = (omega arith, λ h. h)
 
 -- a number at most 999,999 is read from its digits
 pub numeral_digits : (n : ℕ) → n ≤ 999999 → numeral (digits_of n) ≡ Some n
-unfolding digits_of
-numeral_digits n h0 = search (arith, significant_len, significant_all, and_from, lt-ltb, le-leb, significant_same, six_value)
+unfolding digits_of decimal_from
+numeral_digits n h0 = search (arith, significant_len, significant_all, and_from, lt-ltb, le-leb, significant_same)

@@ -1,14 +1,17 @@
 -- Length indicators, read and written.
 use Rattle.osi_spdu.proofs.Vocabulary.{cases_lt, le-ltb, eqb-true, eqb-false, ne_eqb, take_at, drop_at, take-append-drop, length-append}
 use Rattle.osi_spdu.proofs.Vocabulary.{length-take, length-drop, length-take-le, get_or-drop, get_or-take, get_or_past, IsOctets, Measured}
-use Rattle.osi_spdu.proofs.Vocabulary.{counted_at, long_at, measured_at, length_octets, HasLength, ◌⊎◌, inl, inr, ◌≡◌, ℕ, suc, ◌+◌, ◌*◌}
-use Rattle.osi_spdu.proofs.Vocabulary.{◌<◌, Bool, true, false, cond, ltb, eqb, List, [], ◌∷◌, ◌++◌, length, take, drop, Ok, arith}
+use Rattle.osi_spdu.proofs.Vocabulary.{long_at, measured_at, length_octets, HasLength, indicator_len, ◌⊎◌, ◌≡◌, ℕ, suc, ◌+◌, ◌*◌, ◌<◌, Bool}
+use Rattle.osi_spdu.proofs.Vocabulary.{true, false, cond, List, [], ◌∷◌, ◌++◌, length, drop, Ok, arith, refl, subst}
 
 pub octets-drop : (n : ℕ) (octets : List ℕ) → IsOctets octets → IsOctets (drop n octets)
 octets-drop n octets h i = rw get_or-drop (h (n + i))
 
 pub octets-tail : (b : ℕ) (octets : List ℕ) → IsOctets (b ∷ octets) → IsOctets octets
 octets-tail b octets h i = h (suc i)
+
+pub octets-behind : (front rest : List ℕ) → IsOctets (front ++ rest) → IsOctets rest
+octets-behind front rest fits = subst IsOctets (drop_at front rest (length front) refl) (octets-drop (length front) (front ++ rest) fits)
 
 -- octets that begin with a length indicator and what it counts
 pub record IsMeasured (m : Measured) (octets : List ℕ) : Type 0 where
@@ -29,11 +32,6 @@ long_ok at (high ∷ low ∷ octets) m fits e =
     grind (arith, take-append-drop, cases_lt, get_or-take, get_or_past, length-take, octets-drop, length-drop)
 long_ok at _ m fits e = absurd cc
 
-short_ok : (at n : ℕ) (octets : List ℕ) (m : Measured) → n < 255 → IsOctets octets → counted_at at 1 n octets ≡ Ok m →
-    IsMeasured m (n ∷ octets)
-short_ok at n octets m h0 h1 h2 =
-    grind (arith, length-take-le, take-append-drop, cases_lt, get_or-take, get_or_past, length-take, octets-drop, length-drop)
-
 pub chosen : {A : Type 0} (b : Bool) (x y z : A) → cond b x y ≡ z → ((b ≡ true) × (x ≡ z)) ⊎ ((b ≡ false) × (y ≡ z))
 chosen b x y z e = grind arith
 
@@ -41,18 +39,22 @@ pub measured_ok : (at : ℕ) (octets : List ℕ) (m : Measured) → IsOctets oct
 unfolding measured_at
 measured_ok at [] m fits e = absurd cc
 measured_ok at (n ∷ octets) m fits e =
-    elim (chosen (eqb n 255) (long_at at octets) (counted_at at 1 n octets) (Ok m) e) [
-      | inl p ↦ rw (eqb-true n 255 p.0) (long_ok at octets m (octets-tail n octets fits) p.1)
-      | inr p ↦
-          let b : n < 256 = fits 0 in
-          let ne : n ≡ 255 → ⊥ = eqb-false n 255 p.0 in
-          short_ok at n octets m (omega arith) (octets-tail n octets fits) p.1
-    ]
-
--- how many octets a length indicator has
-abbrev pub indicator_len : Bool → ℕ
-indicator_len false = 1
-indicator_len true = 3
+    let b : n < 256 = fits 0 in
+    let tail = octets-tail n octets fits in
+    grind (
+      arith,
+      eqb-true,
+      eqb-false,
+      long_ok at octets m tail,
+      length-take-le,
+      take-append-drop,
+      cases_lt,
+      get_or-take,
+      get_or_past,
+      length-take,
+      octets-drop,
+      length-drop,
+    )
 
 pub measured_again : (at : ℕ) (long : Bool) (value rest : List ℕ) → HasLength long (length value)
     → measured_at at (length_octets long (length value) ++ value ++ rest) ≡ Ok

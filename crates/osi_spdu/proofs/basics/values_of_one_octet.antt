@@ -1,7 +1,6 @@
 -- Values of one octet.
 use Rattle.osi_spdu.proofs.Vocabulary.{octet_if, is_setting, token_bits, setting_octets, ◌≡◌, ℕ, ◌≤◌, Bool, true, false, cond, List, []}
-use Rattle.osi_spdu.proofs.Vocabulary.{◌∷◌, length, get_or, Option, Some, None, MatchOption, option_map, arith, and_assoc}
-use Rattle.osi_spdu.specs.declared.settings.TokenSetting.{TokenSetting}
+use Rattle.osi_spdu.proofs.Vocabulary.{◌∷◌, length, get_or, Option, Some, None, MatchOption, option_map, arith, and_assoc, TokenSetting}
 
 pub octet_if_one : (good : ℕ → Bool) (form : ℕ → ℕ) (v : List ℕ) → 1 ≤ length v → length v ≤ 1 →
     octet_if good form v ≡ cond (good (get_or v 0 0)) (Some (form (get_or v 0 0) ∷ [])) None

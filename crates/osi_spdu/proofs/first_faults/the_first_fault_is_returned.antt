@@ -1,17 +1,16 @@
 -- The first fault of parameters, units and TSDUs is the one that reading returns.
-use Rattle.std.proofs.Common.{◌⊎◌, inl, inr, ◌≡◌, ℕ, zero, suc, ◌+◌, ◌<◌, ◌≤◌, Bool, true, cond, ltb, eqb, List, [], ◌∷◌, ◌++◌, length, map}
+use Rattle.std.proofs.Common.{◌⊎◌, inl, inr, ◌≡◌, ℕ, zero, suc, ◌+◌, ◌<◌, ◌≤◌, true, cond, ltb, eqb, List, [], ◌∷◌, ◌++◌, length}
 use Rattle.std.proofs.Common.{Option, Some, None, Result, Ok, Err, refl, sym, ap, subst, ◌∙◌, append_assoc, add-zero, arith}
-use Rattle.osi_spdu.proofs.Vocabulary.{is_some, flat_map, AllByRecursion, length-append, drop_at, IsOctets, SpduFault, LengthPastEnd}
-use Rattle.osi_spdu.proofs.Vocabulary.{MissingParameter, Code, Kind, number_of, is_group, slot_of, codes_of, members_of, Known, nothing}
-use Rattle.osi_spdu.proofs.Vocabulary.{put, ◌>>=◌, Measured, counted_at, long_at, measured_at, Taking, params_at, params_of, code_among}
-use Rattle.osi_spdu.proofs.Vocabulary.{stored, member_taken, in_group, parameter_taken, in_unit, all_there, Part, part_octets, Sole, IsPart}
-use Rattle.osi_spdu.proofs.Vocabulary.{MeansInGroup, MeansInUnit, indicator_len, HasNoValue, IsValueFault, Failing, IsItemFault}
-use Rattle.osi_spdu.proofs.Vocabulary.{IsLevelFault, FailsInGroup, FailsInUnit, IsFirstMissing}
-use Rattle.osi_spdu.proofs.basics.options_that_are_added.{merged, sole_one, sole_back, sole_step, sole_joins}
+use Rattle.osi_spdu.proofs.Vocabulary.{flat_map, length-append, IsOctets, SpduFault, LengthPastEnd, Code, Kind, is_group, slot_of, codes_of}
+use Rattle.osi_spdu.proofs.Vocabulary.{members_of, Known, nothing, put, ◌>>=◌, Measured, counted_at, long_at, measured_at, Taking}
+use Rattle.osi_spdu.proofs.Vocabulary.{params_at, params_of, code_among, stored, member_taken, in_group, parameter_taken, in_unit}
+use Rattle.osi_spdu.proofs.Vocabulary.{all_there, Part, part_octets, MeansInGroup, MeansInUnit, indicator_len, HasNoValue, IsValueFault}
+use Rattle.osi_spdu.proofs.Vocabulary.{Failing, IsItemFault, IsLevelFault, FailsInGroup, FailsInUnit, IsFirstMissing}
+use Rattle.osi_spdu.proofs.basics.options_that_are_added.{sole_one, sole_back}
 use Rattle.osi_spdu.proofs.basics.the_steps_of_reading.{bind_of, ok_is, guard_ok, is_none_of, none_is}
-use Rattle.osi_spdu.proofs.basics.length_indicators.{IsMeasured, octets-tail, octets-drop, measured_ok, measured_again, chosen}
-use Rattle.osi_spdu.proofs.basics.length_indicators as lengths
-use Rattle.osi_spdu.proofs.parameters.one_level_is_read.{JoinsAll, Follows, group_follows, unit_follows, group_form}
+use Rattle.osi_spdu.proofs.basics.length_indicators.{IsMeasured, octets-tail, octets-behind, measured_ok, measured_again, chosen}
+use Rattle.osi_spdu.proofs.parameters.one_level_is_read.{Follows, front_read, len_of_part, group_follows, unit_follows}
+use Rattle.osi_spdu.proofs.parameters.one_level_is_read.{group_form}
 
 -- ---- failures
 
@@ -53,10 +52,10 @@ pub record IsCounted (at : ℕ) (octets : List ℕ) (m : Measured) : Type 0 wher
 pub counted_is : (at : ℕ) (octets : List ℕ) (m : Measured) → IsOctets octets → measured_at at octets ≡ Ok m → IsCounted at octets m
 counted_is at octets m fits e =
     let is = measured_ok at octets m fits e in
-    let made : Measured = record { used = lengths.indicator_len is.long; value = m.value; rest = m.rest } in
+    let made : Measured = record { used = indicator_len is.long; value = m.value; rest = m.rest } in
     let again : measured_at at octets ≡ Ok made = ap (measured_at at) is.parts ∙ measured_again at is.long m.value m.rest is.counted in
     let same : m ≡ made = ok_is m made (sym e ∙ again) in
-    record { is = is; used = ap (λ (x : Measured). x.used) same ∙ (grind arith) }
+    record { is = is; used = ap (λ (x : Measured). x.used) same }
 
 -- ---- one value
 
@@ -82,6 +81,15 @@ record Fails (taking : Taking) (failing : Failing) : Type 0 where
 abbrev Level : (ℕ → List ℕ → Known → Type 0) → Failing → ℕ → Known → List ℕ → SpduFault → Type 0
 Level means failing at before octets f = IsLevelFault means failing at before octets f
 
+pub bind_bad : {A B : Type 0} (r : Result A SpduFault) (next : A → Result B SpduFault) (f : SpduFault) → r ≡ Err f → (r >>= next) ≡ Err f
+bind_bad r next f e = ap (λ q. q >>= next) e
+
+-- what failed: the first step, or what follows it
+pub bind_fails : {A B : Type 0} (r : Result A SpduFault) (next : A → Result B SpduFault) (f : SpduFault) → (r >>= next) ≡ Err f →
+    (r ≡ Err f) ⊎ ((x : A) × (r ≡ Ok x) × (next x ≡ Err f))
+bind_fails (Ok x) next f e = inr (x, refl, e)
+bind_fails (Err g) next f e = inl cc
+
 -- a fault at the first item
 fault_here : (means : ℕ → List ℕ → Known → Type 0) (failing : Failing) (at : ℕ) (before : Known) (octets : List ℕ) (f : SpduFault) →
     IsItemFault failing at octets before f → Level means failing at before octets f
@@ -94,136 +102,77 @@ fault_here means failing at before octets f bad = record {
   bad = subst (λ (k : ℕ). IsItemFault failing k octets before f) (sym (add-zero at)) bad;
 }
 
--- a fault after a parameter
-fault_later : (means : ℕ → List ℕ → Known → Type 0) (failing : Failing) (at : ℕ) (before mid : Known) (p : Part) (octets rest : List ℕ)
-    (f : SpduFault) → octets ≡ part_octets p ++ rest → IsPart means p → JoinsAll p.gives before mid
-    → Level means failing (at + length (part_octets p)) mid rest f → Level means failing at before octets f
-fault_later means failing at before mid p octets rest f whole is joins level =
-    let front = part_octets p ++ level.front in
-    let offset : at + length (part_octets p) + length level.front ≡ at + length front =
-    omega (arith, length-append (part_octets p) level.front) in
-    record {
-      front = front;
-      rest = level.rest;
-      known = level.known;
-      whole = whole ∙ ap (λ (t : List ℕ). part_octets p ++ t) level.whole ∙ sym (append_assoc (part_octets p) level.front level.rest);
-      fills = record {
-        parts = p ∷ level.fills.parts;
-        whole = ap (λ (t : List ℕ). part_octets p ++ t) level.fills.whole;
-        each = (is, level.fills.each);
-        once = grind (arith, sole_back);
-      };
-      bad = subst (λ (k : ℕ). IsItemFault failing k level.rest level.known f) offset level.bad;
-    }
+module _ (taking : Taking) (means : ℕ → List ℕ → Known → Type 0) (failing : Failing) (follows : Follows taking means)
+    (fails : Fails taking failing) where
+  level_found : (n at : ℕ) (before : Known) (octets : List ℕ) (f : SpduFault)
+      → length octets ≤ n → IsOctets octets → params_at taking n at before octets ≡ Err f → Level means failing at before octets f
+  unfolding params_at
+  level_found n at before [] f le fits e = absurd (never Known before f e)
+  level_found zero at before (code ∷ octets) f le fits e = absurd (omega arith)
+  level_found (suc n) at before (code ∷ octets) f le fits e = elim (bind_fails (measured_at at octets) _ f e) [
+    | inl q ↦ grind (arith, fault_here, indicator_len, measured_again, never, fault_is, measured_bad)
+    | inr q ↦
+        let m = q.0 in
+        let is = counted_is at octets m (octets-tail code octets fits) q.1 in
+        let next = at + (1 + m.used + length m.value) in
+        elim (bind_fails (taking at (at + (1 + m.used)) code m.value before) _ f q.2) [
+          | inl t ↦ grind (arith, fault_here)
+          | inr t ↦
+              let one = follows.takes at (at + (1 + m.used)) code m.value before t.0 is.is.value_octets t.1 in
+              let p : Part = record { code = code; long = is.is.long; value = m.value; gives = one.0 } in
+              let byte : code < 256 = fits 0 in
+              let level = level_found n next t.0 m.rest f (omega (arith, is.is.shorter)) is.is.rest_octets t.2 in
+              let offset : next + length level.front ≡ at + length (part_octets p ++ level.front) =
+              omega (arith, len_of_part p, length-append (part_octets p) level.front) in
+              record {
+                front = part_octets p ++ level.front;
+                rest = level.rest;
+                known = level.known;
+                whole = grind (arith, append_assoc);
+                fills = record {
+                  parts = p ∷ level.fills.parts;
+                  whole = ap (λ (t : List ℕ). part_octets p ++ t) level.fills.whole;
+                  each = ((byte, is.is.counted, one.1), level.fills.each);
+                  once = grind (arith, sole_back);
+                };
+                bad = rw (← offset) level.bad;
+              }
+        ]
+  ]
 
-len_of_part : (code : ℕ) (long : Bool) (value : List ℕ) (gives : Known) →
-    length (part_octets (let p : Part = record { code = code; long = long; value = value; gives = gives } in p)) ≡ 1 + indicator_len
-    long + length value
-len_of_part code long value gives = grind (arith, length-append)
+  -- an item that has the fault stops reading
+  item_stops : (n at : ℕ) (known : Known) (octets : List ℕ) (f : SpduFault) → length octets ≤ n → IsOctets octets →
+      IsItemFault failing at octets known f → params_at taking n at known octets ≡ Err f
+  unfolding params_at
+  item_stops n at known [] f le fits bad = absurd bad
+  item_stops zero at known (code ∷ octets) f le fits bad = absurd (omega arith)
+  item_stops (suc n) at known (code ∷ octets) f le fits bad =
+      let next = λ (m : Measured).
+      (taking at (at + (1 + m.used)) code m.value known >>= λ k. params_at taking n (at + (1 + m.used + length m.value)) k m.rest) in
+      elim bad [
+        | inl q ↦ bind_bad (measured_at at octets) next f
+            (value_of_no at octets (measured_at at octets) refl (octets-tail code octets fits) q.0 ∙
+            ap (λ (g : SpduFault). failed {A = Measured} g) (sym q.1))
+        | inr q ↦
+            let made : Measured = record { used = indicator_len q.0; value = q.1; rest = q.2 } in
+            let read : measured_at at octets ≡ Ok made = ap (measured_at at) q.3.1 ∙ measured_again at q.0 q.1 q.2 q.3.0 in
+            let is = measured_ok at octets made (octets-tail code octets fits) read in
+            grind (arith, indicator_len, bind_of, measured_at, bind_bad, params_at)
+      ]
 
-abbrev Later : Taking → (ℕ → List ℕ → Known → Type 0) → Failing → ℕ → SpduFault → Type 0
-Later taking means failing n f = (at : ℕ) (known : Known) (octets : List ℕ) → length octets ≤ n → IsOctets octets →
-    params_at taking n at known octets ≡ Err f → Level means failing at known octets f
-
-taken_bad : (taking : Taking) (means : ℕ → List ℕ → Known → Type 0) (failing : Failing) → Follows taking means → Fails taking failing →
-    (n at : ℕ) (before : Known) (code : ℕ) (octets : List ℕ) (f : SpduFault)
-    → length octets ≤ n → IsOctets (code ∷ octets) → (m : Measured) → measured_at at octets ≡ Ok m → (r : Result Known SpduFault) →
-    taking at (at + (1 + m.used)) code m.value before ≡ r
-    → (r >>= λ k. params_at taking n (at + (1 + m.used + length m.value)) k m.rest) ≡ Err f → Later taking means failing n f →
-    Level means failing at before (code ∷ octets) f
-taken_bad taking means failing follows fails n at before code octets f le fits m q (Err g) t e later =
-    grind (arith, fault_here, counted_is at octets m (octets-tail code octets fits) q)
-taken_bad taking means failing follows fails n at before code octets f le fits m q (Ok mid) t e later =
-    let is = counted_is at octets m (octets-tail code octets fits) q in
-    let one = follows.takes at (at + (1 + m.used)) code m.value before mid is.is.value_octets t in
-    let p : Part = record { code = code; long = is.is.long; value = m.value; gives = one.0 } in
-    let byte : code < 256 = fits 0 in
-    let len = len_of_part code is.is.long m.value one.0 in
-    let offset : at + (1 + m.used + length m.value) ≡ at + length (part_octets p) = omega arith in
-    let shorter : length m.rest ≤ n = omega (arith, is.is.shorter) in
-    let level = later (at + (1 + m.used + length m.value)) mid m.rest shorter is.is.rest_octets e in
-    fault_later means failing at before mid p (code ∷ octets) m.rest f (ap (λ (t : List ℕ). code ∷ t) is.is.parts)
-    (byte, is.is.counted, one.1) one.2
-    (subst (λ (k : ℕ). Level means failing k mid m.rest f) offset level)
-
-item_bad : (taking : Taking) (means : ℕ → List ℕ → Known → Type 0) (failing : Failing) → Follows taking means → Fails taking failing →
-    (n at : ℕ) (before : Known) (code : ℕ) (octets : List ℕ) (f : SpduFault)
-    → length octets ≤ n → IsOctets (code ∷ octets) → (r : Result Measured SpduFault) → measured_at at octets ≡ r
-    → (r >>= λ m. taking at (at + (1 + m.used)) code m.value before >>= λ k. params_at taking n (at + (1 + m.used + length m.value)) k
-    m.rest) ≡ Err f
-    → Later taking means failing n f → Level means failing at before (code ∷ octets) f
-item_bad taking means failing follows fails n at before code octets f le fits (Err g) q e later =
-    grind (arith, fault_here, indicator_len, measured_again, never, fault_is, measured_bad)
-item_bad taking means failing follows fails n at before code octets f le fits (Ok m) q e later = grind (arith, taken_bad)
-
-level_found : (taking : Taking) (means : ℕ → List ℕ → Known → Type 0) (failing : Failing) → Follows taking means → Fails taking failing →
-    (n at : ℕ) (before : Known) (octets : List ℕ) (f : SpduFault)
-    → length octets ≤ n → IsOctets octets → params_at taking n at before octets ≡ Err f → Level means failing at before octets f
-unfolding params_at
-level_found taking means failing follows fails n at before [] f le fits e = absurd (never Known before f e)
-level_found taking means failing follows fails zero at before (code ∷ octets) f le fits e = absurd (omega arith)
-level_found taking means failing follows fails (suc n) at before (code ∷ octets) f le fits e =
-    item_bad taking means failing follows fails n at before code octets f (omega arith) fits (measured_at at octets) refl e
-    (λ at' known o l g h. level_found taking means failing follows fails n at' known o f l g h)
-
-pub bind_bad : {A B : Type 0} (r : Result A SpduFault) (next : A → Result B SpduFault) (f : SpduFault) → r ≡ Err f → (r >>= next) ≡ Err f
-bind_bad r next f e = ap (λ q. q >>= next) e
-
-abbrev octets_of_parts : List Part → List ℕ
-octets_of_parts parts = flat_map part_octets parts
-
-level_bad : (taking : Taking) (means : ℕ → List ℕ → Known → Type 0) (failing : Failing) → Follows taking means → Fails taking failing →
-    (n at : ℕ) (before after : Known) (parts : List Part) (rest : List ℕ) (f : SpduFault)
-    → length (octets_of_parts parts ++ rest) ≤ n → IsOctets rest → AllByRecursion (IsPart means) parts →
-    ((c : Code) → Sole (before c ∷ map (λ p. p.gives c) parts) (after c))
-    → IsItemFault failing (at + length (octets_of_parts parts)) rest after f →
-    params_at taking n at before (octets_of_parts parts ++ rest) ≡ Err f
-unfolding params_at
-level_bad taking means failing follows fails n at before after [] [] f le fits each once bad = absurd bad
-level_bad taking means failing follows fails zero at before after [] (code ∷ octets) f le fits each once bad = absurd (omega arith)
-level_bad taking means failing follows fails (suc n) at before after [] (code ∷ octets) f le fits each once bad =
-    let next = λ (m : Measured).
-    (taking at (at + (1 + m.used)) code m.value before >>= λ k. params_at taking n (at + (1 + m.used + length m.value)) k m.rest) in
-    let here : IsItemFault failing at (code ∷ octets) before f = grind (arith, add-zero) in
-    elim here [
-      | inl q ↦ bind_bad (measured_at at octets) next f
-          (value_of_no at octets (measured_at at octets) refl (octets-tail code octets fits) q.0 ∙
-          ap (λ (g : SpduFault). failed {A = Measured} g) (sym q.1))
-      | inr q ↦
-          let long = q.0 in
-          let value = q.1 in
-          let rest = q.2 in
-          let made : Measured = record { used = lengths.indicator_len long; value = value; rest = rest } in
-          let read : measured_at at octets ≡ Ok made = ap (measured_at at) q.3.1 ∙ measured_again at long value rest q.3.0 in
-          let is = measured_ok at octets made (octets-tail code octets fits) read in
-          grind (arith, lengths.indicator_len, bind_of, measured_at, bind_bad, params_at)
-    ]
-level_bad taking means failing follows fails zero at before after (p ∷ parts) rest f le fits each once bad = absurd (omega arith)
-level_bad taking means failing follows fails (suc n) at before after (p ∷ parts) rest f le fits each once bad =
-    let mid : Known = λ c. merged (before c) (p.gives c) in
-    let joins : JoinsAll p.gives before mid = λ c. sole_joins (p.gives c) (before c) (map (λ q. q.gives c) parts) (after c) (once c) in
-    let others = octets_of_parts parts ++ rest in
-    let used = lengths.indicator_len p.long in
-    let behind = at + (1 + used + length p.value) in
-    let one = follows.back at (at + (1 + used)) p.code p.value p.gives before mid each.0.2 joins in
-    let len = len_of_part p.code p.long p.value p.gives in
-    let whole = length-append (part_octets p) (octets_of_parts parts) in
-    let all = length-append (part_octets p) others in
-    let offset : at + length (octets_of_parts (p ∷ parts)) ≡ behind + length (octets_of_parts parts) = omega arith in
-    let assoc : octets_of_parts (p ∷ parts) ++ rest ≡ part_octets p ++ others = append_assoc (part_octets p) (octets_of_parts parts) rest in
-    let count = ap length assoc in
-    let later = level_bad taking means failing follows fails n behind mid after parts rest f (omega arith) fits each.1
-    (λ c. sole_step (p.gives c) (before c) (mid c) (map (λ q. q.gives c) parts) (after c) (joins c) (once c))
-    (subst (λ (k : ℕ). IsItemFault failing k rest after f) offset bad) in
-    grind (arith, params_at, bind_of, measured_at, measured_again)
-
-level_only : (taking : Taking) (means : ℕ → List ℕ → Known → Type 0) (failing : Failing) → Follows taking means → Fails taking failing →
-    (at : ℕ) (before : Known) (octets : List ℕ) (f : SpduFault)
-    → IsOctets octets → Level means failing at before octets f → params_of taking at before octets ≡ Err f
-level_only taking means failing follows fails at before octets f fits level =
-    let parts = level.fills.parts in
-    let rest = level.rest in
-    grind (arith, octets-drop, params_at, level_bad, drop_at (octets_of_parts parts) rest (length (octets_of_parts parts)) refl)
+  level_only : (at : ℕ) (before : Known) (octets : List ℕ) (f : SpduFault)
+      → IsOctets octets → Level means failing at before octets f → params_of taking at before octets ≡ Err f
+  level_only at before octets f fits level =
+      let parts = level.fills.parts in
+      let whole : octets ≡ flat_map part_octets parts ++ level.rest =
+      level.whole ∙ ap (λ (t : List ℕ). t ++ level.rest) level.fills.whole in
+      let r = front_read taking means follows (length octets) at before level.known parts level.rest (omega (arith, ap length whole))
+      level.fills.each level.fills.once in
+      let place = ap (λ (t : List ℕ). at + length t) level.fills.whole in
+      ap (params_at taking (length octets) at before) whole ∙ r.2
+      ∙ item_stops r.0 (at + length (flat_map part_octets parts)) level.known level.rest f r.1
+      (octets-behind level.front level.rest (subst IsOctets level.whole fits))
+      (subst (λ (k : ℕ). IsItemFault failing k level.rest level.known f) place level.bad)
 
 -- ---- within a group
 
@@ -245,11 +194,6 @@ stored_group : (kind : Kind) (at : ℕ) (c : Code) (value : List ℕ) (known : K
 unfolding stored
 stored_group kind at c value known group free = rw (none_is (known (slot_of c)) free, group_form kind c value group) refl
 
-stored_free : (kind : Kind) (at : ℕ) (c : Code) (value : List ℕ) (known more : Known) → stored kind at c value known ≡ Ok more →
-    known (slot_of c) ≡ None
-unfolding stored
-stored_free kind at c value known more e = grind (arith, is_none_of, guard_ok)
-
 abbrev InUnit : Kind → ℕ → ℕ → Code → List ℕ → Known → SpduFault → Type 0
 InUnit kind at body c value known f =
     IsValueFault kind at c value known f
@@ -260,6 +204,7 @@ opened_bad : (kind : Kind) (at body : ℕ) (c : Code) (value : List ℕ) (known 
     (r : Result Known SpduFault) → stored kind at c value known ≡ r
     → (r >>= λ mid. cond (is_group c) (params_of (in_group kind (members_of kind c)) body mid value) (Ok mid)) ≡ Err f →
     InUnit kind at body c value known f
+unfolding stored
 opened_bad kind at body c value known f h r s e =
     grind (
       arith,
@@ -268,7 +213,8 @@ opened_bad kind at body c value known f h r s e =
       chosen,
       is_group,
       in_group,
-      stored_free,
+      is_none_of,
+      guard_ok,
       slot_of,
       ok_is,
       stored_group,
@@ -282,16 +228,13 @@ opened_fails : (kind : Kind) (at body : ℕ) (c : Code) (value : List ℕ) (know
     InUnit kind at body c value known f
     → (stored kind at c value known >>= λ mid. cond (is_group c) (params_of (in_group kind (members_of kind c)) body mid value) (Ok mid)) ≡
     Err f
-opened_fails kind at body c value known f fits h =
+opened_fails kind at body c value known f fits (inl q) =
+    bind_bad (stored kind at c value known) _ f (stored_fails kind at c value known f q)
+opened_fails kind at body c value known f fits (inr q) =
     let members = members_of kind c in
-    let next = λ (mid : Known). cond (is_group c) (params_of (in_group kind members) body mid value) (Ok mid) in
-    elim h [
-      | inl q ↦ bind_bad (stored kind at c value known) next f (stored_fails kind at c value known f q)
-      | inr q ↦
-          let read = level_only (in_group kind members) (MeansInGroup kind members) (FailsInGroup kind members) (group_follows kind members)
-          (group_fails kind members) body (put (slot_of c) [] known) value f fits q.2 in
-          grind (arith, bind_of, stored, slot_of, stored_group, cond, in_group)
-    ]
+    let read = level_only (in_group kind members) (MeansInGroup kind members) (FailsInGroup kind members) (group_follows kind members)
+    (group_fails kind members) body (put (slot_of c) [] known) value f fits q.2 in
+    grind (arith, bind_of, stored, slot_of, stored_group, cond, in_group)
 
 parameter_bad : (kind : Kind) (at body : ℕ) (value : List ℕ) (known : Known) (o : Option Code) (f : SpduFault) → IsOctets value →
     parameter_taken kind at body value known o ≡ Err f
@@ -321,18 +264,10 @@ pub missing_found : (at : ℕ) (codes : List Code) (known : Known) (f : SpduFaul
     IsFirstMissing at codes known f
 unfolding all_there
 missing_found at [] known f e = absurd (never Known known f e)
-missing_found at (c ∷ codes) known f e =
-    elim (chosen (is_some (known c)) (all_there at codes known) (Err (MissingParameter (number_of c) at)) (Err f) e) [
-      | inl q ↦ inr (q.0, missing_found at codes known f q.1)
-      | inr q ↦ inl (is_none_of (known c) q.0, sym (fault_is Known (MissingParameter (number_of c) at) f q.1))
-    ]
+missing_found at (c ∷ codes) known f e = grind (arith, is_none_of, fault_is, missing_found at codes known f)
 
 pub missing_only : (at : ℕ) (codes : List Code) (known : Known) (f : SpduFault) → IsFirstMissing at codes known f →
     all_there at codes known ≡ Err f
 unfolding all_there
 missing_only at [] known f h = absurd h
-missing_only at (c ∷ codes) known f h =
-    elim h [
-      | inl q ↦ rw (none_is (known c) q.0) (ap (λ (g : SpduFault). failed {A = Known} g) (sym q.1))
-      | inr q ↦ rw q.0 (missing_only at codes known f q.1)
-    ]
+missing_only at (c ∷ codes) known f h = grind (arith, none_is, missing_only at codes known f)

@@ -1,29 +1,16 @@
 -- The first fault of a unit is the one that reading returns.
-use Rattle.osi_spdu.proofs.Vocabulary.{flat_map, cases_Bool, length-append, IsOctets, SpduFault, LengthPastEnd, BadConcatenation, Kind}
-use Rattle.osi_spdu.proofs.Vocabulary.{required_of, kind_named, Known, nothing, settled, ◌>>=◌, Measured, measured_at, params_of, in_unit}
-use Rattle.osi_spdu.proofs.Vocabulary.{all_there, Placed, placed_kind, unit_at, part_octets, Spells, MeansInUnit, indicator_len}
-use Rattle.osi_spdu.proofs.Vocabulary.{IsBodyFault, IsNamedFault, IsUnitFault, inl, inr, ◌≡◌, ℕ, ◌+◌, Bool, cond, List, [], ◌∷◌, length}
-use Rattle.osi_spdu.proofs.Vocabulary.{Option, Some, None, Result, Ok, Err, refl, sym, ap, subst, ◌∙◌, arith}
-use Rattle.osi_spdu.proofs.basics.the_steps_of_reading.{bind_ok, bind_of, ok_is}
+use Rattle.osi_spdu.proofs.Vocabulary.{flat_map, cases_Bool, length-append, IsOctets, SpduFault, LengthPastEnd, Kind, required_of}
+use Rattle.osi_spdu.proofs.Vocabulary.{kind_named, Known, nothing, ◌>>=◌, Measured, measured_at, params_of, in_unit, all_there, Placed}
+use Rattle.osi_spdu.proofs.Vocabulary.{placed_kind, unit_at, part_octets, Spells, MeansInUnit, indicator_len, IsBodyFault, IsNamedFault}
+use Rattle.osi_spdu.proofs.Vocabulary.{IsUnitFault, inl, inr, ◌≡◌, ℕ, ◌+◌, Bool, List, [], ◌∷◌, length, Option, Some, None, Result, Ok, Err}
+use Rattle.osi_spdu.proofs.Vocabulary.{refl, sym, ap, ◌∙◌, arith}
+use Rattle.osi_spdu.proofs.basics.the_steps_of_reading.{bind_of}
 use Rattle.osi_spdu.proofs.basics.length_indicators.{octets-tail, measured_ok, measured_again}
-use Rattle.osi_spdu.proofs.basics.length_indicators as lengths
+use Rattle.osi_spdu.proofs.tsdu.units_and_tsdus_are_read.{required_in, value_in, body_in, unit_steps}
 use Rattle.osi_spdu.proofs.parameters.one_level_is_read.{params_found, params_only, unit_follows}
 use Rattle.osi_spdu.proofs.first_faults.the_first_fault_is_returned.{failed, fault_is, never, measured_bad, value_of_no, counted_is}
 use Rattle.osi_spdu.proofs.first_faults.the_first_fault_is_returned.{bind_bad, unit_level_found, unit_level_only, missing_found}
 use Rattle.osi_spdu.proofs.first_faults.the_first_fault_is_returned.{missing_only}
-
--- a unit of this kind whose parameters are these
-abbrev placed : Kind → ℕ → Measured → Known → Placed
-placed kind at m whole = record { kind = kind; known = settled whole; end = at + (1 + m.used + length m.value); rest = m.rest }
-
-abbrev required_in : Kind → ℕ → Measured → Known → Result Placed SpduFault
-required_in kind at m raw = all_there at (required_of kind) raw >>= λ whole. Ok (placed kind at m whole)
-
-abbrev value_in : Kind → ℕ → Measured → Result Placed SpduFault
-value_in kind at m = params_of (in_unit kind) (at + (1 + m.used)) nothing m.value >>= λ raw. required_in kind at m raw
-
-abbrev body_in : Kind → ℕ → List ℕ → Result Placed SpduFault
-body_in kind at octets = measured_at at octets >>= λ m. value_in kind at m
 
 -- ---- the fault returned is the first
 
@@ -56,19 +43,15 @@ body_only kind at octets f fits h =
     elim h [
       | inl q ↦ grind (arith, bind_bad, failed, measured_at at octets, value_of_no at octets (measured_at at octets) refl fits q.0)
       | inr q ↦
-          let long = q.0 in
-          let value = q.1 in
-          let rest = q.2 in
-          let used = lengths.indicator_len long in
-          let made : Measured = record { used = used; value = value; rest = rest } in
-          let read : measured_at at octets ≡ Ok made = ap (measured_at at) q.3.1 ∙ measured_again at long value rest q.3.0 in
+          let used = indicator_len q.0 in
+          let made : Measured = record { used = used; value = q.1; rest = q.2 } in
+          let read : measured_at at octets ≡ Ok made = ap (measured_at at) q.3.1 ∙ measured_again at q.0 q.1 q.2 q.3.0 in
           let is = measured_ok at octets made fits read in
           bind_of (measured_at at octets) (λ m. value_in kind at m) made (Err f) read (elim q.4 [
             | inl level ↦ search (arith, bind_bad, in_unit, unit_level_only)
             | inr w ↦
                 let s = w.1 in
-                let params : params_of (in_unit kind) (at + (1 + used)) nothing value ≡ Ok w.0 =
-                subst (λ (b : List ℕ). params_of (in_unit kind) (at + (1 + used)) nothing b ≡ Ok w.0) (sym s.whole)
+                let params : params_of (in_unit kind) (at + (1 + used)) nothing q.1 ≡ Ok w.0 = rw s.whole
                 (params_only (in_unit kind) (MeansInUnit kind) (unit_follows kind) (length (flat_map part_octets s.parts)) (at + (1 + used))
                 nothing w.0 s.parts (omega arith) s.each s.once) in
                 grind (arith, bind_of, in_unit, bind_bad, all_there, required_of, missing_only)
@@ -78,12 +61,7 @@ body_only kind at octets f fits h =
 named_only : (second : Bool) (at : ℕ) (o : Option Kind) (octets : List ℕ) (f : SpduFault) → IsOctets octets →
     IsNamedFault second at o octets f → (placed_kind second at o >>= λ kind. body_in kind at octets) ≡ Err f
 named_only second at None octets f fits h = ap (λ (g : SpduFault). failed {A = Placed} g) (sym h)
-named_only second at (Some kind) octets f fits h =
-    let chosen_by = λ (b : Bool). (cond b (Ok kind) (Err (BadConcatenation at)) >>= λ k. body_in k at octets) in
-    elim h [
-      | inl q ↦ ap chosen_by q.0 ∙ ap (λ (g : SpduFault). failed {A = Placed} g) (sym q.1)
-      | inr q ↦ ap chosen_by q.0 ∙ body_only kind at octets f fits q.1
-    ]
+named_only second at (Some kind) octets f fits h = grind (arith, body_only kind at octets f fits)
 
 pub unit_fault_only : (second : Bool) (at : ℕ) (octets : List ℕ) (f : SpduFault) → IsOctets octets → IsUnitFault second at octets f →
     unit_at second at octets ≡ Err f
@@ -98,8 +76,6 @@ pub unit_end : (second : Bool) (at : ℕ) (octets : List ℕ) (p : Placed) → I
 unfolding unit_at
 unit_end second at [] p fits e = absurd cc
 unit_end second at (si ∷ octets) p fits e =
-    let a = bind_ok (placed_kind second at (kind_named second si)) (λ kind. body_in kind at octets) p e in
-    let b = bind_ok (measured_at at octets) (λ m. value_in a.0 at m) p a.2 in
-    let m = b.0 in
-    let c = bind_ok (params_of (in_unit a.0) (at + (1 + m.used)) nothing m.value) (λ raw. required_in a.0 at m raw) p b.2 in
-    grind (arith, length-append, ok_is, counted_is at octets m (octets-tail si octets fits) b.1, octets-tail si octets fits)
+    let s = unit_steps second at si octets p e in
+    let fits' = octets-tail si octets fits in
+    grind (arith, length-append, counted_is at octets s.m fits' s.measured)

@@ -52,10 +52,10 @@ parts_each : (means : ℕ → List ℕ → Known → Type 0) (make : Code → Li
 parts_each means make known [] h fits = tt
 parts_each means make known (c ∷ codes) h fits =
     let rest = flat_map (λ d. octets_if make d (known d)) codes in
-    let shorter : length rest < 65536 = omega (arith, length-append (octets_if make c (known c)) rest) in
+    let len = length-append (octets_if make c (known c)) rest in
     each_if means make c (known c) rest (parts_of make known codes)
-    (λ v e l. h c v (or_left (is_same c c) (among codes c) (same_refl c)) e l) fits
-    (parts_each means make known codes (λ d v a e l. h d v (or_right (is_same d c) (among codes d) a) e l) shorter)
+    (λ v e l. h c v (or_left _ _ (same_refl c)) e l) fits
+    (parts_each means make known codes (λ d v a e l. h d v (or_right _ _ a) e l) (omega arith))
 
 -- the values that each part gives: those of the slots that its code owns
 abbrev Shares : (Code → Code → Bool) → (Code → List ℕ → Part) → Known → Type 0
@@ -68,9 +68,7 @@ parts_none : (owner : Code → Code → Bool) (make : Code → List ℕ → Part
     Shares owner make known
     → list_any (λ c. owner c d) codes ≡ false → Sole (given (parts_of make known codes) d) None
 parts_none owner make known [] d g e = refl
-parts_none owner make known (c ∷ codes) d g e =
-    let o = or_parts (owner c d) (list_any (λ x. owner x d) codes) e in
-    grind (arith, cond, parts_none owner make known codes d g o.1)
+parts_none owner make known (c ∷ codes) d g e = grind (arith, or_parts, parts_none owner make known codes d g)
 
 pub once_tail : (b x y : Bool) → cond b (not x) y ≡ true → (b ≡ true → x ≡ false) × (b ≡ false → y ≡ true)
 once_tail b x y e = grind (arith, not-true)
@@ -78,9 +76,7 @@ once_tail b x y e = grind (arith, not-true)
 once_rest : (owner : Code → Code → Bool) (codes : List Code) (d : Code) → list_any (λ c. owner c d) codes ≡ false →
     once owner codes d ≡ true
 once_rest owner [] d e = refl
-once_rest owner (c ∷ codes) d e =
-    let o = or_parts (owner c d) (list_any (λ x. owner x d) codes) e in
-    rw o.0 (once_rest owner codes d o.1)
+once_rest owner (c ∷ codes) d e = grind (arith, or_parts, once_rest owner codes d)
 
 pub tail_once : (owner : Code → Code → Bool) (c : Code) (codes : List Code) (d : Code) → once owner (c ∷ codes) d ≡ true →
     once owner codes d ≡ true
@@ -220,11 +216,9 @@ unit_means : (kind : Kind) (known : Known) (c : Code) (v : List ℕ) → IsCanon
     MeansInUnit kind (number_of (written_code kind c v)) (value_octets kind known c v) (owned kind known c)
 unfolding MeansInUnit written_code
 unit_means kind known c v is there e fits =
-    let test = is_same c UserData && among (codes_of kind) ExtendedUserData && ltb 512 (length v) in
-    elim (cases_Bool test) [
+    elim (cases_Bool (is_same c UserData && among (codes_of kind) ExtendedUserData && ltb 512 (length v))) [
       | inl t ↦
-          let a = and_parts (is_same c UserData && among (codes_of kind) ExtendedUserData) (ltb 512 (length v)) t in
-          let b = and_parts (is_same c UserData) (among (codes_of kind) ExtendedUserData) a.0 in
+          let b = and_parts _ _ (and_parts _ _ t).0 in
           rw (t, among_found (codes_of kind) ExtendedUserData b.1) (long_data_means kind known c v (same_true c UserData b.0) e)
       | inr f ↦ rw (f, among_found (codes_of kind) c there) (parameter_means kind known c v (is_group c) refl is e fits)
     ]
@@ -240,9 +234,8 @@ shown_owned kind known d None e formed = grind (arith, cond, owns)
 shown_owned kind known d (Some v) e formed =
     let present : may_be_there kind known d ≡ true = grind (arith, or_cases) in
     let by : list_any (λ c. owns kind c d && is_some (known c)) (codes_of kind) ≡ true =
-    elim (or_cases (among (codes_of kind) d) (list_any (λ g. among (members_of kind g) d && is_some (known g)) (codes_of kind)) present) [
-      | inl a ↦ any_weaker (λ c. is_same d c) (λ c. owns kind c d && is_some (known c)) (codes_of kind)
-          (grind (arith, and_from, owns, or_left, members_of, same_true)) a
+    elim (or_cases _ _ present) [
+      | inl a ↦ any_weaker (λ c. is_same d c) _ (codes_of kind) (grind (arith, and_from, owns, or_left, members_of, same_true)) a
       | inr a ↦ grind (arith, any_weaker, members_of, owns, codes_of, and_parts, and_from, or_right)
     ] in
     rw by refl
@@ -275,8 +268,7 @@ body_spelled kind known is formed fits =
 all_some : (known : Known) (codes : List Code) → list_all (λ c. is_some (known c)) codes ≡ true →
     AllByRecursion (λ c. IsSome (known c)) codes
 all_some known [] e = tt
-all_some known (c ∷ codes) e =
-    (let a = and_parts (is_some (known c)) (list_all (λ d. is_some (known d)) codes) e in (a.0, all_some known codes a.1))
+all_some known (c ∷ codes) e = grind (arith, and_parts, all_some known codes)
 
 settled_same : (known : Known) → IsCanonical known → settled known ≡ known
 settled_same known is = grind (arith, cases_Bool, same_true)

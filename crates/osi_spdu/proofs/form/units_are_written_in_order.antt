@@ -1,8 +1,7 @@
 -- Writing units one after the other, by a loop.
 use Rattle.std.proofs.Common.{◌≡◌, ℕ, ◌+◌, ◌*◌, ◌<◌, ◌≤◌, List, [], ◌∷◌, ◌++◌, length, refl, sym, ap, subst, ◌∙◌, append_assoc, arith}
-use Rattle.osi_spdu.proofs.Vocabulary.{AllByRecursion, length-append, append-nil, drop_at, IsOctets, Contents, Units, AreBehind}
-use Rattle.osi_spdu.proofs.Vocabulary.{unit_octets, tsdu_octets, IsFormedUnit, UnitFits, TsduFits}
-use Rattle.osi_spdu.proofs.basics.length_indicators.{octets-drop}
+use Rattle.osi_spdu.proofs.Vocabulary.{AllByRecursion, length-append, append-nil, Contents, Units, AreBehind, unit_octets, tsdu_octets}
+use Rattle.osi_spdu.proofs.Vocabulary.{IsFormedUnit, UnitFits, TsduFits}
 
 pub octets_none : (units : Units) → units ≡ [] → tsdu_octets units ≡ []
 unfolding tsdu_octets
@@ -50,12 +49,12 @@ pub record CountsNext (units : Units) (len : ℕ) (unit : Contents) (others all 
   pub small : len ≤ 65540 * 15
   pub next : length (unit_octets unit) < 65540 → IsCountingUnits others (len + (length (unit_octets unit) + length unit.information)) all
 
-pub counts_next : (units : Units) (len : ℕ) (unit : Contents) (others all : Units) → units ≡ unit ∷ others → IsCountingUnits units len all →
+pub counts_next : {units others all : Units} {len : ℕ} {unit : Contents} → units ≡ unit ∷ others → IsCountingUnits units len all →
     CountsNext units len unit others all
-counts_next units len unit others all e so_far = grind (arith, len_next)
+counts_next e so_far = grind (arith, len_next)
 
-pub counting_end : (units : Units) (len : ℕ) (all : Units) → units ≡ [] → IsCountingUnits units len all → len ≡ length (tsdu_octets all)
-counting_end units len all e so_far = (let n = ap length (octets_none units e) in let k = so_far.counted in omega arith)
+pub counting_end : {units all : Units} {len : ℕ} → units ≡ [] → IsCountingUnits units len all → len ≡ length (tsdu_octets all)
+counting_end {units = units} e so_far = (let n = ap length (octets_none units e) in let k = so_far.counted in omega arith)
 
 -- ---- putting
 
@@ -91,20 +90,15 @@ puts_cons items spare unit others all before room so_far =
       octets_next (unit ∷ others) others unit refl,
     )
 
-pub puts_next : (units : Units) (items : List ℕ) (spare : ℕ) (unit : Contents) (others all : Units) (before : List ℕ) (room : ℕ) →
-    units ≡ unit ∷ others → IsPuttingUnits units items spare all before room
-    → PutsNext units items spare unit others all before room
-puts_next units items spare unit others all before room e so_far =
+pub puts_next : {units others all : Units} {items before : List ℕ} {spare room : ℕ} {unit : Contents} → units ≡ unit ∷ others →
+    IsPuttingUnits units items spare all before room → PutsNext units items spare unit others all before room
+puts_next {others = others} {all = all} {items = items} {before = before} {spare = spare} {room = room} {unit = unit} e so_far =
     subst (λ (us : Units). PutsNext us items spare unit others all before room) (sym e)
     (puts_cons items spare unit others all before room (subst (λ (us : Units). IsPuttingUnits us items spare all before room) e so_far))
 
-pub putting_end : (units : Units) (items : List ℕ) (spare : ℕ) (all : Units) (before : List ℕ) (room : ℕ) → units ≡ [] →
-    IsPuttingUnits units items spare all before room → items ≡ before ++ tsdu_octets all
-putting_end units items spare all before room e so_far = grind (arith, append-nil, octets_none)
-
-pub putting_spare : (units : Units) (items : List ℕ) (spare : ℕ) (all : Units) (before : List ℕ) (room : ℕ) → units ≡ [] →
-    IsPuttingUnits units items spare all before room → spare + length (tsdu_octets all) ≡ room
-putting_spare units items spare all before room e so_far = (let n = ap length (octets_none units e) in let l = so_far.left in omega arith)
+pub putting_end : {units all : Units} {items before : List ℕ} {spare room : ℕ} → units ≡ [] →
+    IsPuttingUnits units items spare all before room → (items ≡ before ++ tsdu_octets all) × (spare + length (tsdu_octets all) ≡ room)
+putting_end e so_far = grind (arith, append-nil, octets_none)
 
 -- ---- the first unit, which has no information
 
@@ -115,6 +109,3 @@ first_octets unit others e = grind (arith, unit_octets, octets_next (unit ∷ ot
 pub first_len : (unit : Contents) (others : Units) → unit.information ≡ [] →
     length (tsdu_octets (unit ∷ others)) ≡ length (unit_octets unit) + length (tsdu_octets others)
 first_len unit others e = ap length (first_octets unit others e) ∙ length-append (unit_octets unit) (tsdu_octets others)
-
-pub octets_behind : (front rest : List ℕ) → IsOctets (front ++ rest) → IsOctets rest
-octets_behind front rest fits = subst IsOctets (drop_at front rest (length front) refl) (octets-drop (length front) (front ++ rest) fits)

@@ -1,12 +1,12 @@
 -- Units that are read have a written form: they hold only parameters that they know, and all mandatory ones.
 use Rattle.osi_spdu.proofs.Vocabulary.{is_some, is_none, IsSome, list_any, list_all, AllByRecursion, cases_Bool, and_parts, and_from}
-use Rattle.osi_spdu.proofs.Vocabulary.{or_left, or_right, not-true, IsOctets, Code, Enclosure, UserData, ExtendedUserData, Kind, number_of}
-use Rattle.osi_spdu.proofs.Vocabulary.{is_same, is_group, slot_of, every_code, codes_of, members_of, required_of, canonical, may_enclose}
-use Rattle.osi_spdu.proofs.Vocabulary.{canonical_in, Known, settled, Contents, code_among, Placed, contents_of, unit_at, Part, Sole, IsPart}
-use Rattle.osi_spdu.proofs.Vocabulary.{Spells, only, MemberOf, MeansInGroup, GroupOf, ParameterOf, KnownOf, MeansInUnit, SpellsUnit, among}
-use Rattle.osi_spdu.proofs.Vocabulary.{may_be_there, is_enclosed, is_formed, ◌⊎◌, inl, inr, ◌≡◌, ℕ, Bool, true, false, cond, not, ◌&&◌}
-use Rattle.osi_spdu.proofs.Vocabulary.{◌||◌, List, [], ◌∷◌, map, Option, Some, None, Ok, refl, sym, ap, subst, ◌∙◌, arith}
-use Rattle.osi_spdu.proofs.basics.options_that_are_added.{Joins, first, sole_same, sole_split}
+use Rattle.osi_spdu.proofs.Vocabulary.{or_left, or_right, not-true, IsOctets, Code, Enclosure, UserData, Kind, number_of, is_same, is_group}
+use Rattle.osi_spdu.proofs.Vocabulary.{slot_of, every_code, codes_of, members_of, required_of, canonical, may_enclose, canonical_in, Known}
+use Rattle.osi_spdu.proofs.Vocabulary.{settled, Contents, code_among, Placed, contents_of, unit_at, Part, Sole, IsPart, Spells, only}
+use Rattle.osi_spdu.proofs.Vocabulary.{MemberOf, MeansInGroup, GroupOf, ParameterOf, KnownOf, MeansInUnit, SpellsUnit, among, may_be_there}
+use Rattle.osi_spdu.proofs.Vocabulary.{is_enclosed, is_formed, ◌⊎◌, inl, inr, ◌≡◌, ℕ, Bool, true, false, cond, not, ◌||◌, List, [], ◌∷◌}
+use Rattle.osi_spdu.proofs.Vocabulary.{map, Option, Some, None, Ok, refl, sym, ap, subst, ◌∙◌, arith}
+use Rattle.osi_spdu.proofs.basics.options_that_are_added.{Joins, first, sole_split}
 use Rattle.osi_spdu.proofs.basics.the_steps_of_reading.{same_true, same_refl}
 use Rattle.osi_spdu.proofs.parameters.each_slot_has_one_code.{among_named, any_weaker}
 use Rattle.osi_spdu.proofs.tsdu.units_and_tsdus_are_read.{unit_found}
@@ -41,15 +41,14 @@ option_cases (Some w) = inl (w, refl)
 source : (means : ℕ → List ℕ → Known → Type 0) (parts : List Part) (raw : Known) (d : Code) (v : List ℕ) →
     AllByRecursion (IsPart means) parts
     → ((c : Code) → Sole (map (λ p. p.gives c) parts) (raw c)) → raw d ≡ Some v → Source means raw d v
-source means [] raw d v each once e = absurd (let h : None ≡ Some v = sym (once d) ∙ e in cc)
+source means [] raw d v each once e = absurd (let h = once d in cc)
 source means (p ∷ parts) raw d v each once e =
     let rest : Known = λ c. first (map (λ q. q.gives c) parts) in
     let split = λ (c : Code). sole_split (p.gives c) (map (λ q. q.gives c) parts) (raw c) (once c) in
     elim (option_cases (p.gives d)) [
       | inl s ↦ grind arith
-      | inr n ↦
-          let j : Joins (rest d) None (raw d) = subst (λ (k : Option (List ℕ)). Joins (rest d) k (raw d)) n ((split d).1) in
-          later means p parts raw d v once (source means parts rest d v each.1 (λ c. (split c).0) (grind arith))
+      | inr n ↦ later means p parts raw d v once (source means parts rest d v each.1 (λ c. (split c).0)
+          (let j = (split d).1 in grind arith))
     ]
 
 -- ---- what a part may give
@@ -60,29 +59,14 @@ only_slot d s form v e = elim (cases_Bool (is_same d s)) [
   | inr f ↦ absurd (let h : None ≡ Some v = sym (ap (λ (b : Bool). cond b (Some form) None) f) ∙ e in cc)
 ]
 
-extended_unit : (kind : Kind) → among (codes_of kind) ExtendedUserData ≡ true → among (codes_of kind) UserData ≡ true
-unfolding codes_of number_of
-extended_unit kind e = grind arith
-
-slot_among : (kind : Kind) (c : Code) → among (codes_of kind) c ≡ true → among (codes_of kind) (slot_of c) ≡ true
-unfolding slot_of
-slot_among kind c e = grind (arith, extended_unit)
-
-no_extended : (kind : Kind) (g : Code) → among (members_of kind g) ExtendedUserData ≡ false
-unfolding members_of number_of
-no_extended kind g = grind arith
-
-pub member_slot : (kind : Kind) (g c : Code) → among (members_of kind g) c ≡ true → slot_of c ≡ c
-unfolding slot_of
-member_slot kind g c e = grind (arith, no_extended)
-
 -- a value that a group's parameter gives is one of its members
 member_source : (kind : Kind) (g : Code) (value v : List ℕ) (gives : Known) (d : Code) (o : Option Code) (n : ℕ) →
     code_among (members_of kind g) n ≡ o → MemberOf kind value gives o → gives d ≡ Some v
     → among (members_of kind g) d ≡ true
+unfolding slot_of members_of number_of
 member_source kind g value v gives d None n named m e = absurd (let h : None ≡ Some v = sym (ap (λ (k : Known). k d) m) ∙ e in cc)
 member_source kind g value v gives d (Some c) n named m e =
-    grind (arith, only_slot, member_slot, among_named (members_of kind g) n c named, members_of kind g, slot_of c)
+    grind (arith, only_slot, among_named (members_of kind g) n c named, members_of kind g, slot_of c)
 
 pub inner_source : (kind : Kind) (g : Code) (value v : List ℕ) (inner : Known) (d : Code) →
     Spells (MeansInGroup kind (members_of kind g)) inner value → inner d ≡ Some v → among (members_of kind g) d ≡ true
@@ -104,17 +88,15 @@ group_source kind raw g value v gives d there m e within =
     let presence : gives g ≡ Some [] = grind arith in
     elim (option_cases (only g [] d)) [
       | inl s ↦ inl (subst (λ (x : Code). among (codes_of kind) x ≡ true) (sym (only_slot d g [] s.0 s.1)) there)
-      | inr n ↦
-          let one : Sole (m.0 d ∷ []) (gives d) = subst (λ (k : Option (List ℕ)). Sole (k ∷ m.0 d ∷ []) (gives d)) n (m.2 d) in
-          let same : gives d ≡ m.0 d = sole_same (m.0 d) (gives d) one in
-          inr (g, there, inner_source kind g value v m.0 d m.1 (sym same ∙ e), within g [] presence)
+      | inr n ↦ inr (g, there, inner_source kind g value v m.0 d m.1 (let k = m.2 d in grind arith), within g [] presence)
     ]
 
 parameter_source : (kind : Kind) (raw : Known) (c : Code) (value v : List ℕ) (gives : Known) (d : Code) (b : Bool) →
     among (codes_of kind) c ≡ true → ParameterOf kind c value gives b → gives d ≡ Some v
     → ((x : Code) (w : List ℕ) → gives x ≡ Some w → raw x ≡ Some w) → IsOwned kind raw d
+unfolding slot_of codes_of number_of
 parameter_source kind raw c value v gives d true there m e within = group_source kind raw c value v gives d there m e within
-parameter_source kind raw c value v gives d false there m e within = grind (arith, slot_of, only_slot, codes_of, slot_among)
+parameter_source kind raw c value v gives d false there m e within = grind (arith, slot_of, only_slot, codes_of)
 
 unit_source : (kind : Kind) (raw : Known) (value v : List ℕ) (gives : Known) (d : Code) (o : Option Code) (n : ℕ) →
     code_among (codes_of kind) n ≡ o → KnownOf kind value gives o → gives d ≡ Some v
@@ -133,14 +115,6 @@ owned kind raw body v d s e =
 
 -- ---- an enclosure that is there
 
-enclosed_value : (kind : Kind) (value v : List ℕ) → canonical_in kind Enclosure value ≡ Some v → is_enclosed kind (Some v) ≡ true
-unfolding canonical_in may_enclose canonical number_of
-enclosed_value kind value v h0 = search arith
-
-enclosure_slot : (c : Code) → Enclosure ≡ slot_of c → c ≡ Enclosure
-unfolding slot_of
-enclosure_slot c e = grind arith
-
 no_group : is_group Enclosure ≡ true → ⊥
 unfolding is_group
 no_group h = cc
@@ -158,20 +132,19 @@ group_encloses : (kind : Kind) (g : Code) (value v : List ℕ) (gives : Known) �
     gives Enclosure ≡ Some v → ⊥
 group_encloses kind g value v gives group m e =
     elim (option_cases (only g [] Enclosure)) [
-      | inl s ↦ (let h : is_group Enclosure ≡ true = ap is_group (only_slot Enclosure g [] s.0 s.1) ∙ group in no_group h)
+      | inl s ↦ no_group (ap is_group (only_slot Enclosure g [] s.0 s.1) ∙ group)
       | inr n ↦
-          let one : Sole (m.0 Enclosure ∷ []) (gives Enclosure) =
-          subst (λ (k : Option (List ℕ)). Sole (k ∷ m.0 Enclosure ∷ []) (gives Enclosure)) n (m.2 Enclosure) in
-          let same : gives Enclosure ≡ m.0 Enclosure = sole_same (m.0 Enclosure) (gives Enclosure) one in
-          let h : true ≡ false = sym (inner_source kind g value v m.0 Enclosure m.1 (sym same ∙ e)) ∙ no_enclosed_member kind g in
-          cc
+          let k = m.2 Enclosure in
+          let h = inner_source kind g value v m.0 Enclosure m.1 (grind arith) in
+          let no = no_enclosed_member kind g in cc
     ]
 
 parameter_encloses : (kind : Kind) (c : Code) (value v : List ℕ) (gives : Known) (b : Bool) → is_group c ≡ b →
     ParameterOf kind c value gives b → gives Enclosure ≡ Some v → is_enclosed kind (Some v) ≡ true
+unfolding canonical_in may_enclose canonical number_of slot_of
 parameter_encloses kind c value v gives true group m e = absurd (group_encloses kind c value v gives group m e)
 parameter_encloses kind c value v gives false group m e =
-    search (arith, slot_of, only_slot, cond, same_refl, enclosed_value, canonical_in, enclosure_slot)
+    search (arith, slot_of, only_slot, cond, same_refl, canonical_in)
 
 enclosed : (kind : Kind) (raw : Known) (body : List ℕ) (o : Option (List ℕ)) → Spells (MeansInUnit kind) raw body → raw Enclosure ≡ o →
     is_enclosed kind o ≡ true
@@ -184,13 +157,10 @@ enclosed kind raw body (Some v) s e = grind (arith, parameter_encloses, source (
 settled_other : (raw : Known) (c : Code) → is_same c UserData ≡ false → settled raw c ≡ raw c
 settled_other raw c e = rw e refl
 
-no_members : (kind : Kind) → members_of kind UserData ≡ []
-unfolding members_of
-no_members kind = refl
-
 -- a group that is there stays there
 group_stays : (kind : Kind) (raw : Known) (g d : Code) → among (members_of kind g) d ≡ true → raw g ≡ Some [] → settled raw g ≡ Some []
-group_stays kind raw g d h0 h1 = grind (arith, cases_Bool, same_true, no_members, settled_other)
+unfolding members_of
+group_stays kind raw g d h0 h1 = grind (arith, cases_Bool, same_true, settled_other)
 
 pub any_at : (p : Code → Bool) (codes : List Code) (c : Code) → among codes c ≡ true → p c ≡ true → list_any p codes ≡ true
 any_at p codes c there e = any_weaker (λ d. is_same c d) p codes (λ d t. ap p (sym (same_true c d t)) ∙ e) there
@@ -219,22 +189,16 @@ unit_formed : (unit : Contents) (octets : List ℕ) → SpellsUnit unit octets �
 unfolding is_formed
 unit_formed unit octets s =
     let kind = unit.kind in
-    let test = λ (known : Known) (c : Code). may_be_there kind known c || is_none (known c) in
-    let one : (c : Code) → test (settled s.raw) c ≡ true = λ c. elim (settled_some s.raw c (s.raw c) refl) [
-      | inl n ↦ or_right (may_be_there kind (settled s.raw) c) (is_none (settled s.raw c)) n
-      | inr v ↦ or_left (may_be_there kind (settled s.raw) c) (is_none (settled s.raw c))
-          (there_from kind s.raw c (owned kind s.raw s.body v.0 c s.params v.1))
+    let one : (c : Code) → (may_be_there kind (settled s.raw) c || is_none (settled s.raw c)) ≡ true =
+    λ c. elim (settled_some s.raw c (s.raw c) refl) [
+      | inl n ↦ or_right _ _ n
+      | inr v ↦ or_left _ _ (there_from kind s.raw c (owned kind s.raw s.body v.0 c s.params v.1))
     ] in
-    let all : list_all (test (settled s.raw)) every_code ≡ true = grind arith in
+    let all : list_all (λ c. may_be_there kind (settled s.raw) c || is_none (settled s.raw c)) every_code ≡ true = grind arith in
     let required = required_stay s.raw (required_of kind) (required_plain kind) s.required in
     let enclosure : is_enclosed kind (settled s.raw Enclosure) ≡ true =
     ap (is_enclosed kind) (settled_other s.raw Enclosure no_user_data) ∙ enclosed kind s.raw s.body (s.raw Enclosure) s.params refl in
-    subst (λ (k : Known). ((list_all (test k) every_code && list_all (λ c. is_some (k c)) (required_of kind)) &&
-    is_enclosed kind (k Enclosure)) ≡ true) (sym s.value)
-    (and_from (list_all (test (settled s.raw)) every_code && list_all (λ c. is_some (settled s.raw c)) (required_of kind))
-    (is_enclosed kind (settled s.raw Enclosure))
-    (and_from (list_all (test (settled s.raw)) every_code) (list_all (λ c. is_some (settled s.raw c)) (required_of kind)) all required)
-    enclosure)
+    let same = s.value in rw same (and_from _ _ (and_from _ _ all required) enclosure)
 
 -- a unit that was read is well formed
 pub placed_formed : (second : Bool) (at : ℕ) (octets : List ℕ) (p : Placed) → IsOctets octets → unit_at second at octets ≡ Ok p →

@@ -1,11 +1,11 @@
 -- What was read fits: its written form is no longer than the octets that were read.
-use Rattle.osi_spdu.proofs.Vocabulary.{flat_map, list_any, list_all, AllByRecursion, cases_Bool, or_cases, or_left, or_right, ltb-true}
-use Rattle.osi_spdu.proofs.Vocabulary.{le-ltb, lt-ltb, both_ways, length-append, Code, Kind, number_of, is_same, is_group, slot_of}
-use Rattle.osi_spdu.proofs.Vocabulary.{every_code, codes_of, members_of, Known, nothing, settled, Contents, Units, code_among}
-use Rattle.osi_spdu.proofs.Vocabulary.{length_octets, HasLength, Part, part_octets, Sole, IsPart, Spells, only, MemberOf, MeansInGroup}
-use Rattle.osi_spdu.proofs.Vocabulary.{GroupOf, ParameterOf, KnownOf, MeansInUnit, SpellsUnit, AreUnits, SpellsTsdu, among, group_octets}
-use Rattle.osi_spdu.proofs.Vocabulary.{value_octets, body_octets, UnitFits, TsduFits, inl, inr, ◌≡◌, ℕ, ◌+◌, ◌<◌, ◌≤◌, Bool, true, false}
-use Rattle.osi_spdu.proofs.Vocabulary.{cond, List, [], ◌∷◌, ◌++◌, length, map, Option, Some, None, refl, sym, ap, subst, ◌∙◌, ltb, arith}
+use Rattle.osi_spdu.proofs.Vocabulary.{flat_map, list_any, AllByRecursion, cases_Bool, or_cases, or_left, or_right, ltb-true, le-ltb}
+use Rattle.osi_spdu.proofs.Vocabulary.{lt-ltb, both_ways, length-append, Code, Kind, number_of, is_same, is_group, slot_of, codes_of}
+use Rattle.osi_spdu.proofs.Vocabulary.{members_of, Known, nothing, settled, Contents, Units, code_among, length_octets, HasLength, Part}
+use Rattle.osi_spdu.proofs.Vocabulary.{part_octets, Sole, IsPart, Spells, only, MemberOf, MeansInGroup, GroupOf, ParameterOf, KnownOf}
+use Rattle.osi_spdu.proofs.Vocabulary.{MeansInUnit, SpellsUnit, AreUnits, SpellsTsdu, among, group_octets, value_octets, body_octets}
+use Rattle.osi_spdu.proofs.Vocabulary.{UnitFits, TsduFits, inl, inr, ◌≡◌, ℕ, ◌+◌, ◌<◌, ◌≤◌, Bool, true, false, cond, List, [], ◌∷◌, ◌++◌}
+use Rattle.osi_spdu.proofs.Vocabulary.{length, map, Option, Some, None, refl, sym, ap, subst, ◌∙◌, ltb, arith}
 use Rattle.osi_spdu.proofs.basics.options_that_are_added.{Joins, first, sole_one, sole_same, sole_split}
 use Rattle.osi_spdu.proofs.basics.the_steps_of_reading.{same_true, same_refl}
 use Rattle.osi_spdu.proofs.parameters.one_level_is_read.{JoinsAll}
@@ -69,9 +69,6 @@ spelled_cost code long v h0 = grind (arith, cases_Bool, length-append, le-ltb)
 
 -- ---- parts together
 
-joins_is : (m o : Option (List ℕ)) → Joins m None o → o ≡ m
-joins_is m o j = grind arith
-
 -- a cost that adds up over values that do not meet
 record IsCost (means : ℕ → List ℕ → Known → Type 0) (f : Known → Code → ℕ) (codes : List Code) (Good : Known → Type 0) : Type 0 where
   none : (c : Code) → f nothing c ≡ 0
@@ -85,20 +82,15 @@ parts_cost : (means : ℕ → List ℕ → Known → Type 0) (f : Known → Code
     → (parts : List Part) (known : Known) → AllByRecursion (IsPart means) parts → ((c : Code) → Sole (map (λ p. p.gives c) parts) (known c))
     → total (f known) codes ≤ length (flat_map part_octets parts)
 parts_cost means f codes Good is [] known each sole =
-    let same : known ≡ nothing = λ i c. (sole c) i in
-    let z = total_zero (f known) codes (λ c a. ap (λ (k : Known). f k c) same ∙ is.none c) in
-    omega arith
+    let z = total_zero (f known) codes (λ c a. let same : known ≡ nothing = (λ i c. (sole c) i) in rw same (is.none c)) in omega arith
 parts_cost means f codes Good is (p ∷ parts) known each sole =
     let rest : Known = λ c. first (map (λ q. q.gives c) parts) in
     let split = λ (c : Code). sole_split (p.gives c) (map (λ q. q.gives c) parts) (known c) (sole c) in
     let below = parts_cost means f codes Good is parts rest each.1 (λ c. (split c).0) in
-    let good_rest = is.good parts rest each.1 (λ c. (split c).0) in
-    let good_one = is.good (p ∷ []) p.gives (each.0, tt) (λ c. sole_one (p.gives c)) in
     let sum = total_same (f known) (λ c. f rest c + f p.gives c) codes
-    (λ c a. is.add rest p.gives known (λ d. (split d).1) good_rest good_one c a) in
-    let both = total_both (f rest) (f p.gives) codes in
-    let here = is.one p each.0 in
-    omega (arith, length-append (part_octets p) (flat_map part_octets parts))
+    (λ c a. is.add rest p.gives known (λ d. (split d).1) (is.good parts rest each.1 (λ c. (split c).0))
+    (is.good (p ∷ []) p.gives (each.0, tt) (λ c. sole_one (p.gives c))) c a) in
+    omega (arith, total_both (f rest) (f p.gives) codes, is.one p each.0, length-append (part_octets p) (flat_map part_octets parts))
 
 -- ---- a group
 
@@ -115,10 +107,9 @@ only_cost : (f : Option (List ℕ) → ℕ) (s : Code) (form : List ℕ) (codes 
 only_cost f s form codes none single =
     let h = total_one (λ c. f (only s form c)) s codes single (λ c a n. elim (cases_Bool (is_same c s)) [
       | inl t ↦ absurd (n (same_true c s t))
-      | inr e ↦ ap (λ (b : Bool). f (cond b (Some form) None)) e ∙ none
+      | inr e ↦ rw e none
     ]) in
-    let at : f (only s form s) ≡ f (Some form) = ap (λ (b : Bool). f (cond b (Some form) None)) (same_refl s) in
-    omega arith
+    let same = same_refl s in rw same at h
 
 member_part : (kind : Kind) (g : Code) (p : Part) (o : Option Code) → HasLength p.long (length p.value) → MemberOf kind p.value p.gives o
     → total (λ c. member_cost (p.gives c)) (members_of kind g) ≤ length (part_octets p)
@@ -166,15 +157,14 @@ one_owner kind (c ∷ codes) d a b single ha hb oa ob =
     let t = once_tail (owns kind c d) (list_any (λ e. owns kind e d) codes) (once (owns kind) codes d) single in
     let clash = λ (x : Code) (there : among codes x ≡ true) (ox : owns kind x d ≡ true) (oc : owns kind c d ≡ true).
     both_ways (list_any (λ e. owns kind e d) codes) (t.0 oc) (any_at (λ e. owns kind e d) codes x there ox) in
+    let later = one_owner kind codes d a b (tail_once (owns kind) c codes d single) in
+    let sa = same_true a c in
+    let sb = same_true b c in
+    let ca = clash a in
+    let cb = clash b in
     elim (or_cases (is_same a c) (among codes a) ha) [
-      | inl sa ↦ elim (or_cases (is_same b c) (among codes b) hb) [
-        | inl sb ↦ same_true a c sa ∙ sym (same_true b c sb)
-        | inr tb ↦ absurd (clash b tb ob (subst (λ (x : Code). owns kind x d ≡ true) (same_true a c sa) oa))
-      ]
-      | inr ta ↦ elim (or_cases (is_same b c) (among codes b) hb) [
-        | inl sb ↦ absurd (clash a ta oa (subst (λ (x : Code). owns kind x d ≡ true) (same_true b c sb) ob))
-        | inr tb ↦ one_owner kind codes d a b (tail_once (owns kind) c codes d single) ta tb oa ob
-      ]
+      | inl x ↦ elim (or_cases (is_same b c) (among codes b) hb) [ inl y ↦ sa x ∙ sym (sb y) | inr y ↦ absurd (cb y ob (rw (sa x) at oa)) ]
+      | inr x ↦ elim (or_cases (is_same b c) (among codes b) hb) [ inl y ↦ absurd (ca x oa (rw (sb y) at ob)) | inr y ↦ later x y oa ob ]
     ]
 
 -- a value of a group is there only if the group is
@@ -203,28 +193,15 @@ members_same : (kind : Kind) (x o : Known) (c : Code) → ((d : Code) → among 
     length (group_octets kind o c) ≡ length (group_octets kind x c)
 members_same kind x o c h = grind (arith, group_len, total_same, members_of)
 
-value_same : (kind : Kind) (x o : Known) (c : Code) (v : List ℕ) → ((d : Code) → among (members_of kind c) d ≡ true → o d ≡ x d) →
-    cost (length (value_octets kind o c v)) ≡ cost (length (value_octets kind x c v))
-value_same kind x o c v h0 = grind (arith, cases_Bool, cost, members_same)
-
--- what joins a member of an absent group is nothing
-stays_out : (kind : Kind) (x : Known) (c d : Code) → KeepsGroups kind x → among (codes_of kind) c ≡ true →
-    among (members_of kind c) d ≡ true → x c ≡ None → x d ≡ None
-stays_out kind x c d h0 h1 h2 h3 = grind (arith, option_cases)
-
 unit_add_at : (kind : Kind) (x y o : Known) (c : Code) (a b : Option (List ℕ)) → x c ≡ a → y c ≡ b → JoinsAll x y o → KeepsGroups kind x →
     KeepsGroups kind y → among (codes_of kind) c ≡ true
     → unit_cost kind o c (o c) ≡ unit_cost kind x c a + unit_cost kind y c b
 unit_add_at kind x y o c None None ex ey j kx ky hc = grind arith
-unit_add_at kind x y o c None (Some v) ex ey j kx ky hc = grind (arith, value_same, stays_out)
-unit_add_at kind x y o c (Some w) None ex ey j kx ky hc = grind (arith, value_same, joins_is, stays_out)
+unit_add_at kind x y o c None (Some v) ex ey j kx ky hc = grind (arith, cases_Bool, cost, members_same, option_cases)
+unit_add_at kind x y o c (Some w) None ex ey j kx ky hc = grind (arith, cases_Bool, cost, members_same, option_cases)
 unit_add_at kind x y o c (Some w) (Some v) ex ey j kx ky hc = grind arith
 
 -- ---- one part of a unit
-
-codes_single : (kind : Kind) → list_all (once (λ c e. is_same e c) (codes_of kind)) every_code ≡ true
-unfolding number_of codes_of
-codes_single kind = grind arith
 
 slot_leaf : (c : Code) → is_group c ≡ false → is_group (slot_of c) ≡ false
 unfolding is_group slot_of
@@ -238,35 +215,32 @@ absent_cost kind known c e = ap (unit_cost kind known c) e
 
 leaf_part : (kind : Kind) (p : Part) (c : Code) → is_group c ≡ false → HasLength p.long (length p.value) →
     MemberOf kind p.value p.gives (Some c) → total (part_cost kind p.gives) (codes_of kind) ≤ length (part_octets p)
+unfolding number_of codes_of
 leaf_part kind p c leaf h m =
     let s = slot_of c in
     let form = m.0 in
     let there : p.gives s ≡ Some form = ap (λ (k : Known). k s) m.2 ∙ ap (λ (b : Bool). cond b (Some form) None) (same_refl s) in
-    let one = total_one (part_cost kind p.gives) s (codes_of kind) (grind (arith, every_passes, once, codes_of kind, codes_single kind))
+    let one = total_one (part_cost kind p.gives) s (codes_of kind) (grind (arith, every_passes, once, codes_of kind))
     (λ d a n. absent_cost kind p.gives d (elim (option_cases (p.gives d)) [
       | inl q ↦ absurd (n (only_slot d s form q.0 (sym (ap (λ (k : Known). k d) m.2) ∙ q.1)))
       | inr e ↦ e
     ])) in
-    let at : part_cost kind p.gives s ≡ cost (length form) = ap (unit_cost kind p.gives s) there ∙
-    ap (λ (b : Bool). cost (length (cond b (group_octets kind p.gives s) form))) (slot_leaf c leaf) in
     let less = cost_less (length form) (length p.value) (canonical_shorter c p.value form (canonical_from kind c p.value form m.1)) in
     let spelled = spelled_cost p.code p.long p.value h in
-    omega arith
+    let same = slot_leaf c leaf in
+    grind arith
 
 group_part : (kind : Kind) (p : Part) (g : Code) → is_group g ≡ true → among (codes_of kind) g ≡ true → HasLength p.long (length p.value) →
     GroupOf kind g p.value p.gives → total (part_cost kind p.gives) (codes_of kind) ≤ length (part_octets p)
+unfolding number_of codes_of
 group_part kind p g group hg h m =
     let inner = m.0 in
-    let bare = λ (d : Code) (e : only g [] d ≡ None). sole_same (inner d) (p.gives d)
-    (subst (λ (k : Option (List ℕ)). Sole (k ∷ inner d ∷ []) (p.gives d)) e (m.2 d)) in
     let outside = λ (d : Code) (n : d ≡ g → ⊥). (let e : only g [] d ≡ None = elim (cases_Bool (is_same d g)) [
       | inl t ↦ absurd (n (same_true d g t))
       | inr f ↦ ap (λ (b : Bool). cond b (Some []) None) f
-    ] in bare d e) in
-    let there : p.gives g ≡ Some [] =
-    (let k = m.2 g in grind arith)
-    in
-    let one = total_one (part_cost kind p.gives) g (codes_of kind) (grind (arith, every_passes, once, codes_of kind, codes_single kind))
+    ] in sole_same (inner d) (p.gives d) (subst (λ (k : Option (List ℕ)). Sole (k ∷ inner d ∷ []) (p.gives d)) e (m.2 d))) in
+    let there : p.gives g ≡ Some [] = (let k = m.2 g in grind arith) in
+    let one = total_one (part_cost kind p.gives) g (codes_of kind) (grind (arith, every_passes, once, codes_of kind))
     (λ d a n. absent_cost kind p.gives d (elim (option_cases (p.gives d)) [
       | inl q ↦ absurd (apart_from_unit kind g d hg (inner_source kind g p.value q.0 inner d m.1 (sym (outside d n) ∙ q.1)) a)
       | inr e ↦ e
@@ -276,12 +250,10 @@ group_part kind p g group hg h m =
     (λ d a. outside d
     (λ e. both_ways (among (members_of kind g) g) (group_apart kind g) (subst (λ (x : Code). among (members_of kind g) x ≡ true) e a)))
     in
-    let at : part_cost kind p.gives g ≡ cost (length (group_octets kind p.gives g)) = ap (unit_cost kind p.gives g) there ∙
-    ap (λ (b : Bool). cost (length (cond b (group_octets kind p.gives g) []))) group in
     let fits = group_fits kind inner g p.value m.1 in
     let less = cost_less (length (group_octets kind p.gives g)) (length p.value) (omega arith) in
     let spelled = spelled_cost p.code p.long p.value h in
-    omega arith
+    grind arith
 
 parameter_part : (kind : Kind) (p : Part) (c : Code) (b : Bool) → is_group c ≡ b → among (codes_of kind) c ≡ true →
     HasLength p.long (length p.value) → ParameterOf kind c p.value p.gives b
@@ -321,11 +293,9 @@ unit_fits unit octets s =
     s.params.each s.params.once in
     let less = total_less (part_cost kind (settled s.raw)) (part_cost kind s.raw) (codes_of kind) (settled_part kind s.raw) in
     let len = body_len kind (settled s.raw) in
-    let same : length (body_octets kind unit.known) ≡ length (body_octets kind (settled s.raw)) =
-    ap (λ (k : Known). length (body_octets kind k)) s.value in
     let w = ap length s.params.whole in
     let b = body_short s.long (length s.body) s.counted in
-    omega arith
+    let same = s.value in rw same (omega arith)
 
 pub units_fit : (units : Units) (octets : List ℕ) → AreUnits units octets → TsduFits units
 units_fit [] octets s = tt

@@ -1,20 +1,14 @@
 -- The contents of a group of a unit, which are counted once.
-use Rattle.osi_spdu.proofs.Vocabulary.{is_some, option_map, flat_map, or_cases, or_left, or_right, length-append, Code}
-use Rattle.osi_spdu.proofs.Vocabulary.{ConnectionIdentifier, ConnectAcceptItem, Kind, Two, is_same, is_group, number_of, codes_of}
-use Rattle.osi_spdu.proofs.Vocabulary.{category_of, Known, Contents, Units, AreBehind, held, AreHeld, among, group_octets, parameter_octets}
-use Rattle.osi_spdu.proofs.Vocabulary.{body_octets, inl, inr, ◌≡◌, ℕ, zero, suc, ◌<◌, ◌≤◌, true, List, [], ◌∷◌, length, get_or, Option, ap}
-use Rattle.osi_spdu.proofs.Vocabulary.{subst, arith, GroupLengths}
+use Rattle.osi_spdu.proofs.Vocabulary.{is_some, flat_map, or_cases, or_left, or_right, length-append, Code, ConnectionIdentifier}
+use Rattle.osi_spdu.proofs.Vocabulary.{ConnectAcceptItem, Kind, Two, is_same, is_group, number_of, codes_of, category_of, Known, Contents}
+use Rattle.osi_spdu.proofs.Vocabulary.{Units, AreBehind, held, AreHeld, among, group_octets, parameter_octets, body_octets, ◌≡◌, ℕ, zero}
+use Rattle.osi_spdu.proofs.Vocabulary.{suc, ◌<◌, ◌≤◌, true, List, [], ◌∷◌, length, get_or, Option, subst, arith, GroupLengths}
 use Rattle.osi_spdu.proofs.basics.the_steps_of_reading.{same_true, same_refl}
 
 -- a piece is no longer than all pieces
 piece_within : (f : Code → List ℕ) (codes : List Code) (c : Code) → among codes c ≡ true → length (f c) ≤ length (flat_map f codes)
 piece_within f [] c there = absurd cc
-piece_within f (d ∷ codes) c there =
-    let l = length-append (f d) (flat_map f codes) in
-    elim (or_cases (is_same c d) (among codes c) there) [
-      | inl e ↦ (let same = ap (λ (x : Code). length (f x)) (same_true c d e) in omega arith)
-      | inr e ↦ (let rest = piece_within f codes c e in omega arith)
-    ]
+piece_within f (d ∷ codes) c there = grind (arith, length-append, or_cases, same_true, piece_within f codes c)
 
 held_within : (kind : Kind) (known : Known) (c : Code) (o : Option (List ℕ)) → is_group c ≡ true → is_some o ≡ true →
     length (group_octets kind known c) ≤ length (parameter_octets kind known c o)
@@ -45,18 +39,9 @@ pub both_held : (lens : GroupLengths) (known : Known)
 unfolding held is_group
 both_held lens known first second h knows group there = grind arith
 
--- a unit of category 2 knows no group
-no_references : (kind : Kind) → category_of kind ≡ Two → among (codes_of kind) ConnectionIdentifier ≡ true → ⊥
-unfolding category_of codes_of number_of
-no_references kind two knows = grind arith
-
-no_agreement : (kind : Kind) → category_of kind ≡ Two → among (codes_of kind) ConnectAcceptItem ≡ true → ⊥
-unfolding category_of codes_of number_of
-no_agreement kind two knows = grind arith
-
 no_group : (kind : Kind) (c : Code) → category_of kind ≡ Two → is_group c ≡ true → among (codes_of kind) c ≡ true → ⊥
-unfolding is_group
-no_group kind c h0 h1 h2 = grind (arith, no_references, no_agreement)
+unfolding is_group category_of codes_of number_of
+no_group kind c h0 h1 h2 = grind arith
 
 pub none_held : (lens : GroupLengths) → category_of lens.kind ≡ Two → (known : Known) → AreHeld lens known
 none_held lens two known c knows group there = absurd (no_group lens.kind c two group knows)
@@ -64,7 +49,3 @@ none_held lens two known c knows group there = absurd (no_group lens.kind c two 
 -- a unit after another is of category 2
 pub next_two : (units others : Units) (unit : Contents) → units ≡ unit ∷ others → AreBehind units → category_of unit.kind ≡ Two
 next_two units others unit e behind = (let h : AreBehind (unit ∷ others) = subst AreBehind e behind in h.0)
-
-pub mapped_there : {A : Type 0} (f : A → List ℕ) (o : Option A) (k : Option (List ℕ)) → option_map f o ≡ k → is_some o ≡ true →
-    is_some k ≡ true
-mapped_there f o k e there = grind arith

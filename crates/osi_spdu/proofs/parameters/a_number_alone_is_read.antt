@@ -1,10 +1,9 @@
 -- A serial number that is the only parameter of a unit is read as the loop over parameters reads it.
 -- For `levels::digits_alone` and `levels::number_alone`.
-use Rattle.std.proofs.Common.{◌≡◌, ℕ, ◌+◌, ◌≤◌, true, cond, ltb, eqb, List, [], ◌∷◌, length, take, drop, get_or, set, Some, Ok, ◌-◌}
-use Rattle.std.proofs.Common.{option_map, refl, sym, ap, arith}
 use Rattle.osi_spdu.proofs.Vocabulary.{le-ltb, ne_eqb, drop_all, take_all, numeral, digits_of, canonical, canonical_in, may_enclose, Number}
 use Rattle.osi_spdu.proofs.Vocabulary.{number_of, slot_of, is_group, Kind, codes_of, among, Params, place_of, cells_of, slots_of, nothing}
-use Rattle.osi_spdu.proofs.Vocabulary.{Measured, measured_at, parameter_at, params_of, in_unit, stored, code_among}
+use Rattle.osi_spdu.proofs.Vocabulary.{Measured, measured_at, parameter_at, params_of, in_unit, ◌≡◌, ℕ, ◌+◌, ◌≤◌, true, cond, ltb, eqb}
+use Rattle.osi_spdu.proofs.Vocabulary.{List, [], ◌∷◌, length, take, drop, get_or, set, Some, Ok, ◌-◌, refl, arith}
 use Rattle.osi_spdu.proofs.basics.the_steps_of_reading.{bind_of}
 use Rattle.osi_spdu.proofs.parameters.a_code_is_looked_up.{if_among, looked_up}
 use Rattle.osi_spdu.proofs.parameters.parameters_one_after_the_other.{stored_done, taking_start, taking_next, taking_end}
@@ -15,26 +14,11 @@ counted : (at n : ℕ) (digits : List ℕ) → n ≤ 6 → n ≡ length digits �
 unfolding parameter_at measured_at
 counted at n digits few same = grind (arith, eqb, ne_eqb, ltb, le-ltb, take_all, drop_all)
 
--- the written form of a number
-form_of_number : (kind : Kind) (number : ℕ) (digits : List ℕ) → Some number ≡ numeral digits →
-    canonical_in kind Number digits ≡ Some (digits_of number)
-unfolding canonical_in may_enclose canonical number_of
-form_of_number kind number digits e = ap (option_map digits_of) (sym e)
-
-number_found : (kind : Kind) → among (codes_of kind) Number ≡ true → code_among (codes_of kind) 42 ≡ Some Number
-unfolding number_of
-number_found kind knows = grind (arith, if_among, cond, looked_up)
-
-number_stored : (kind : Kind) (at number : ℕ) (digits : List ℕ) (p q : Params) → Some number ≡ numeral digits → slots_of p ≡ nothing →
-    cells_of q ≡ set (cells_of p) 17 (Some (digits_of number)) → stored kind at Number digits nothing ≡ Ok (slots_of q)
-unfolding slot_of place_of
-number_stored kind at number digits p q e none cells = grind (arith, form_of_number, stored_done)
-
 number_taken : (kind : Kind) (at body number : ℕ) (digits : List ℕ) (p q : Params) → among (codes_of kind) Number ≡ true →
     Some number ≡ numeral digits → slots_of p ≡ nothing → cells_of q ≡ set (cells_of p) 17 (Some (digits_of number)) →
     in_unit kind at body 42 digits nothing ≡ Ok (slots_of q)
-unfolding in_unit is_group
-number_taken kind at body number digits p q knows e none cells = grind (arith, number_found, bind_of, number_stored)
+unfolding in_unit is_group number_of slot_of place_of canonical_in may_enclose canonical
+number_taken kind at body number digits p q knows e none cells = grind (arith, if_among, cond, looked_up, bind_of, stored_done)
 
 pub number_alone : (kind : Kind) (at n number : ℕ) (digits : List ℕ) (p q : Params) → n ≤ 6 → n ≡ length digits →
     among (codes_of kind) Number ≡ true → Some number ≡ numeral digits → slots_of p ≡ nothing →
@@ -42,11 +26,8 @@ pub number_alone : (kind : Kind) (at n number : ℕ) (digits : List ℕ) (p q : 
     params_of (in_unit kind) at nothing (42 ∷ n ∷ digits) ≡ Ok (slots_of q)
 number_alone kind at n number digits p q few same knows e none cells =
     let octets : List ℕ = 42 ∷ n ∷ digits in
-    let m : Measured = record { used = 1; value = digits; rest = [] } in
     let taken = number_taken kind at (at + (1 + 1)) number digits p q knows e none cells in
-    let all = taking_next (in_unit kind) at 42 m nothing (slots_of q) octets at nothing octets (counted at n digits few same) (omega arith)
-    taken (taking_start (in_unit kind) at nothing octets) in
-    taking_end (in_unit kind) (at + (1 + 1 + length digits)) (slots_of q) [] at nothing octets refl all
+    taking_end (taking_next (taking_start (in_unit kind) at nothing octets) (counted at n digits few same) (omega arith) taken) refl
 
 -- ---- the octets as they are sliced
 

@@ -2,8 +2,8 @@
 use Rattle.osi_spdu.proofs.Vocabulary.{slice_get, cases_Bool, ltb-true, lt-ltb, eq-eqb, Code, UserData, Params, number_of, is_same, slot_of}
 use Rattle.osi_spdu.proofs.Vocabulary.{every_code, nothing, put, some_octets, place_of, cells_of, filled, slots_of, known_of, no_params}
 use Rattle.osi_spdu.proofs.Vocabulary.{present, has_octets, token_octets, tokens_alone, token_bits, is_some, inl, inr, ◌≡◌, ◌==◌, ◌&&◌, ℕ}
-use Rattle.osi_spdu.proofs.Vocabulary.{◌<◌, Bool, true, false, List, length, get_or, set, Option, Some, None, option_map, refl, sym, ap}
-use Rattle.osi_spdu.proofs.Vocabulary.{◌∙◌, get_or-set_other, get_or-set_same, eqb, ltb, arith, TokenSet}
+use Rattle.osi_spdu.proofs.Vocabulary.{◌<◌, Bool, true, false, List, length, get_or, Option, Some, None, option_map, refl, sym, ap, ◌∙◌}
+use Rattle.osi_spdu.proofs.Vocabulary.{get_or-set_other, get_or-set_same, eqb, ltb, arith, TokenSet}
 use Rattle.osi_spdu.proofs.basics.values_of_one_octet.{token_bits_again}
 use Rattle.osi_spdu.proofs.basics.the_steps_of_reading.{same_true, same_refl}
 
@@ -32,19 +32,15 @@ pub slots_put : (p q : Params) (c : Code) (v : List ℕ) (o : Option (List ℕ))
 unfolding slots_of
 slots_put p q c v o e is = λ i d. (one d) i
   where
-    now : cells_of q ≡ set (cells_of p) (place_of (slot_of c)) (Some v)
-    now = e ∙ ap (filled (cells_of p) (place_of (slot_of c))) is
-
     one : (d : Code) → get_or (cells_of q) (place_of d) None ≡ put (slot_of c) v (λ x. get_or (cells_of p) (place_of x) None) d
     one d =
         let s = slot_of c in
         let within : place_of s < length (cells_of p) = rw (cells_len p) (ltb-true (place_of s) 23 (slot_within c)) in
-        ap (λ (cells : List (Option (List ℕ))). get_or cells (place_of d) None) now
+        ap (λ (cells : List (Option (List ℕ))). get_or cells (place_of d) None) (e ∙ ap (filled (cells_of p) (place_of s)) is)
         ∙ elim (cases_Bool (is_same d s)) [
           | inl t ↦ rw (t, same_true d s t) (get_or-set_same (cells_of p) (place_of s) (Some v) None within)
-          | inr f ↦ rw f
-              (get_or-set_other (cells_of p) (place_of s) (place_of d) (Some v) None
-              (λ h. absurd (let n = ap (λ (x : Code). is_same d x) (place_one d s h) in (let r : is_same d d ≡ true = same_refl d in cc))))
+          | inr f ↦ rw f (get_or-set_other (cells_of p) (place_of s) (place_of d) (Some v) None
+              (λ h. let r = same_refl d in absurd (let n = ap (λ (x : Code). is_same d x) (place_one d s h) in cc)))
         ]
 
 -- no parameter is there among none

@@ -1,10 +1,8 @@
 -- Each slot belongs to one code of a unit: to itself, or to the group that knows it.
-use Rattle.osi_spdu.proofs.Vocabulary.{list_any, list_all, or_cases, or_left, or_right, eqb-true, ltb-true, cases_Bool, Code}
-use Rattle.osi_spdu.proofs.Vocabulary.{ProtocolOptions, TsduMaximumSize, Version, InitialNumber, TokenSetting, Kind, number_of, is_same}
-use Rattle.osi_spdu.proofs.Vocabulary.{is_group, every_code, codes_of, members_of, references_of, code_among, among, inl, inr, ◌≡◌, ℕ, ◌<◌}
-use Rattle.osi_spdu.proofs.Vocabulary.{Bool, true, false, cond, not, ◌||◌, List, [], ◌∷◌, Option, Some, refl, ap, eqb, ltb, arith}
+use Rattle.osi_spdu.proofs.Vocabulary.{list_any, list_all, or_cases, or_left, or_right, eqb-true, ltb-true, cases_Bool, Code, Kind}
+use Rattle.osi_spdu.proofs.Vocabulary.{number_of, is_same, is_group, every_code, codes_of, members_of, code_among, among, inl, inr, ◌≡◌, ℕ}
+use Rattle.osi_spdu.proofs.Vocabulary.{◌<◌, Bool, true, false, cond, not, ◌||◌, List, [], ◌∷◌, Option, Some, refl, ap, eqb, ltb, arith}
 use Rattle.osi_spdu.proofs.basics.the_steps_of_reading.{same_true, same_refl, number_one}
-use Rattle.osi_spdu.proofs.basics.length_indicators.{chosen}
 
 -- ---- every code
 
@@ -36,20 +34,12 @@ among_found (d ∷ codes) c there =
 
 pub among_named : (codes : List Code) (n : ℕ) (c : Code) → code_among codes n ≡ Some c → among codes c ≡ true
 among_named [] n c e = absurd cc
-among_named (d ∷ codes) n c e =
-    elim (chosen (eqb (number_of d) n) (Some d) (code_among codes n) (Some c) e) [
-      | inl q ↦ grind (arith, or_left, same_refl)
-      | inr q ↦ or_right (is_same c d) (among codes c) (among_named codes n c q.1)
-    ]
+among_named (d ∷ codes) n c e = grind (arith, or_left, same_refl, or_right, among_named codes n c)
 
 pub any_weaker : (p q : Code → Bool) (codes : List Code) → ((c : Code) → p c ≡ true → q c ≡ true) → list_any p codes ≡ true →
     list_any q codes ≡ true
 any_weaker p q [] h e = e
-any_weaker p q (c ∷ codes) h e =
-    elim (or_cases (p c) (list_any p codes) e) [
-      | inl a ↦ or_left (q c) (list_any q codes) (h c a)
-      | inr a ↦ or_right (q c) (list_any q codes) (any_weaker p q codes h a)
-    ]
+any_weaker p q (c ∷ codes) h e = grind (arith, or_cases, or_left, or_right, any_weaker p q codes h)
 
 -- ---- owners
 
@@ -69,18 +59,9 @@ codes_once kind = grind arith
 pub code_once : (kind : Kind) (d : Code) → once (owns kind) (codes_of kind) d ≡ true
 code_once kind d = every_passes (once (owns kind) (codes_of kind)) d (codes_once kind)
 
-references_once : (kind : Kind) → list_all (once (λ c d. is_same d c) (references_of kind)) every_code ≡ true
-unfolding number_of
-references_once kind = grind arith
-
-items_once : list_all (once (λ c d. is_same d c) (ProtocolOptions ∷ TsduMaximumSize ∷ Version ∷ InitialNumber ∷ TokenSetting ∷ []))
-    every_code ≡ true
-unfolding number_of
-items_once = refl
-
 members_once : (kind : Kind) (g : Code) → list_all (once (λ c d. is_same d c) (members_of kind g)) every_code ≡ true
-unfolding members_of
-members_once kind g = grind (arith, references_once, items_once)
+unfolding members_of number_of
+members_once kind g = grind arith
 
 pub member_once : (kind : Kind) (g d : Code) → once (λ c e. is_same e c) (members_of kind g) d ≡ true
 member_once kind g d = every_passes (once (λ c e. is_same e c) (members_of kind g)) d (members_once kind g)

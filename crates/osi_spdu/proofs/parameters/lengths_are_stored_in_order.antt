@@ -16,38 +16,38 @@ pub keeping_within : (lens : List ℕ) (count : ℕ) (units others all : Units) 
     IsKeeping lens count units all → count < length lens
 keeping_within lens count units others all unit h0 h1 = grind arith
 
-pub keeping_next : (lens more : List ℕ) (count body : ℕ) (units others all : Units) (unit : Contents) → units ≡ unit ∷ others →
-    body ≡ body_length unit → more ≡ set lens count body
-    → IsKeeping lens count units all → IsKeeping more (count + 1) others all
-keeping_next lens more count body units others all unit e is same so_far = grind (arith, length-set, take_more_set, append_assoc)
+pub keeping_next : {lens more : List ℕ} {count body : ℕ} {units others all : Units} {unit : Contents} → IsKeeping lens count units all →
+    units ≡ unit ∷ others → body ≡ body_length unit → more ≡ set lens count body → IsKeeping more (count + 1) others all
+keeping_next so_far e is same = grind (arith, length-set, take_more_set, append_assoc)
 
 front_enough : (n : ℕ) (lens : List ℕ) (units : Units) → AreLengths (take n lens) units → AreLengths lens units
 front_enough n lens [] h = tt
-front_enough zero lens (unit ∷ units) h = absurd h
-front_enough (suc n) [] (unit ∷ units) h = absurd h
 front_enough (suc n) (b ∷ lens) (unit ∷ units) h = (h.0, front_enough n lens units h.1)
+front_enough _ _ _ h = absurd h
 
-pub keeping_end : (lens : List ℕ) (count : ℕ) (units all : Units) → units ≡ [] → IsKeeping lens count units all → AreLengths lens all
-keeping_end lens count units all e so_far = grind (arith, front_enough, append-nil (take count lens))
+pub keeping_end : {lens : List ℕ} {count : ℕ} {units all : Units} → IsKeeping lens count units all → units ≡ [] → AreLengths lens all
+keeping_end {lens = lens} {count = count} so_far e = grind (arith, front_enough, append-nil (take count lens))
 
 -- the length of one unit is kept
 pub one_kept : (lens more : List ℕ) (body : ℕ) (units : Units) (unit : Contents) → units ≡ unit ∷ [] → length lens ≡ 16 →
     body ≡ body_length unit → more ≡ set lens 0 body → AreLengths more units
 one_kept lens more body units unit e size is same =
-    keeping_end more 1 [] units refl
-    (keeping_next lens more 0 body units [] units unit e is same (keeping_start lens units size (let n = ap length e in omega arith)))
+    keeping_end (keeping_next (keeping_start lens units size (let n = ap length e in omega arith)) e is same) refl
+
+-- the lengths from a place on are those of the units that are left
+pub record IsLeft (lens : List ℕ) (count : ℕ) (units : Units) : Type 0 where
+  pub lengths : AreLengths (drop count lens) units
 
 -- the length of the next unit
 pub record IsNextLength (lens : List ℕ) (count : ℕ) (unit : Contents) (others : Units) : Type 0 where
   pub within : count < length lens
   pub is : get_or lens count 0 ≡ body_length unit
-  pub rest : AreLengths (drop (count + 1) lens) others
+  pub rest : IsLeft lens (count + 1) others
 
-pub next_length : (lens : List ℕ) (count : ℕ) (units others : Units) (unit : Contents) → units ≡ unit ∷ others →
-    AreLengths (drop count lens) units → IsNextLength lens count unit others
-next_length lens count units others unit e h =
+pub next_length : {lens : List ℕ} {count : ℕ} {units others : Units} {unit : Contents} → units ≡ unit ∷ others → IsLeft lens count units →
+    IsNextLength lens count unit others
+next_length {lens = lens} {count = count} e h =
     elim (cases_Bool (ltb count (length lens))) [
-      | inl t ↦ (let lt = ltb-true count (length lens) t in
-          grind (arith, drop_more lens count 0 lt))
+      | inl t ↦ (let lt = ltb-true count (length lens) t in grind (arith, drop_more lens count 0 lt))
       | inr f ↦ grind (arith, drop_all, ltb-false)
     ]

@@ -1,14 +1,15 @@
 -- Parameters of one level: reading is sound and complete.
 use Rattle.osi_spdu.proofs.Vocabulary.{flat_map, AllByRecursion, length-append, IsOctets, Code, Kind, number_of, is_same, is_group, slot_of}
 use Rattle.osi_spdu.proofs.Vocabulary.{members_of, canonical, may_enclose, canonical_in, Known, nothing, put, ◌>>=◌, measured_at, Taking}
-use Rattle.osi_spdu.proofs.Vocabulary.{params_at, params_of, judged, stored, member_taken, in_group, parameter_taken, in_unit}
-use Rattle.osi_spdu.proofs.Vocabulary.{length_octets, Part, part_octets, Sole, IsPart, Spells, only, MemberOf, MeansInGroup, GroupOf}
-use Rattle.osi_spdu.proofs.Vocabulary.{ParameterOf, KnownOf, MeansInUnit, ◌≡◌, ℕ, zero, suc, ◌+◌, ◌<◌, ◌≤◌, Bool, true, false, cond, List}
-use Rattle.osi_spdu.proofs.Vocabulary.{[], ◌∷◌, ◌++◌, length, map, Option, Some, None, Ok, refl, sym, subst, ◌∙◌, arith}
+use Rattle.osi_spdu.proofs.Vocabulary.{params_at, params_of, stored, indicator_len, member_taken, in_group, parameter_taken, in_unit, Part}
+use Rattle.osi_spdu.proofs.Vocabulary.{part_octets, Sole, IsPart, Spells, only, MemberOf, MeansInGroup, GroupOf, ParameterOf, KnownOf}
+use Rattle.osi_spdu.proofs.Vocabulary.{MeansInUnit, ◌≡◌, ℕ, zero, suc, ◌+◌, ◌<◌, ◌≤◌, Bool, true, false, cond, List, [], ◌∷◌, ◌++◌, length}
+use Rattle.osi_spdu.proofs.Vocabulary.{map, Option, Some, None, Ok, refl, sym, subst, ◌∙◌, arith, Fills, add-zero, ap, append_assoc}
+use Rattle.osi_spdu.proofs.Vocabulary.{append-nil}
 use Rattle.osi_spdu.proofs.basics.options_that_are_added.{Joins, merged, first, sole_one, sole_same, sole_step, sole_back, sole_joins}
 use Rattle.osi_spdu.proofs.basics.options_that_are_added.{sole_split, sole_join, joins_both, joins_apart, put_joins, joins_merged}
 use Rattle.osi_spdu.proofs.basics.the_steps_of_reading.{bind_ok, bind_of, ok_is, guard_ok, is_none_of, none_is, same_true, same_refl}
-use Rattle.osi_spdu.proofs.basics.length_indicators.{octets-tail, measured_ok, measured_again, indicator_len}
+use Rattle.osi_spdu.proofs.basics.length_indicators.{octets-tail, measured_ok, measured_again}
 
 -- each slot is unchanged, or has the given value added
 abbrev pub JoinsAll : Known → Known → Known → Type 0
@@ -21,26 +22,19 @@ pub record Follows (taking : Taking) (means : ℕ → List ℕ → Known → Typ
   pub back : (at body code : ℕ) (value : List ℕ) (gives known more : Known) → means code value gives → JoinsAll gives known more
       → taking at body code value known ≡ Ok more
 
--- parameters that make more of what was known
-pub record Reads (means : ℕ → List ℕ → Known → Type 0) (known more : Known) (octets : List ℕ) : Type 0 where
-  pub parts : List Part
-  pub whole : octets ≡ flat_map part_octets parts
-  pub each : AllByRecursion (IsPart means) parts
-  pub once : (c : Code) → Sole (known c ∷ map (λ p. p.gives c) parts) (more c)
+pub len_of_part : (p : Part) → length (part_octets p) ≡ 1 + indicator_len p.long + length p.value
+len_of_part p = grind (arith, length-append)
 
 pub params_found : (taking : Taking) (means : ℕ → List ℕ → Known → Type 0) → Follows taking means →
     (n at : ℕ) (known more : Known) (octets : List ℕ)
-    → length octets ≤ n → IsOctets octets → params_at taking n at known octets ≡ Ok more → Reads means known more octets
+    → length octets ≤ n → IsOctets octets → params_at taking n at known octets ≡ Ok more → Fills means known octets more
 unfolding params_at
 params_found taking means follows n at known more [] le fits e = grind (arith, ok_is, sole_one)
 params_found taking means follows zero at known more (code ∷ octets) le fits e = absurd (omega arith)
 params_found taking means follows (suc n) at known more (code ∷ octets) le fits e =
-    let a = bind_ok (measured_at at octets)
-    (λ m. taking at (at + (1 + m.used)) code m.value known >>= λ k. params_at taking n (at + (1 + m.used + length m.value)) k m.rest)
-    more e in
+    let a = bind_ok (measured_at at octets) _ more e in
     let m = a.0 in
-    let b = bind_ok (taking at (at + (1 + m.used)) code m.value known)
-    (λ k. params_at taking n (at + (1 + m.used + length m.value)) k m.rest) more a.2 in
+    let b = bind_ok (taking at (at + (1 + m.used)) code m.value known) _ more a.2 in
     let is = measured_ok at octets m (octets-tail code octets fits) a.1 in
     let one = follows.takes at (at + (1 + m.used)) code m.value known b.0 is.value_octets b.1 in
     let rest = params_found taking means follows n (at + (1 + m.used + length m.value)) b.0 more m.rest (omega (arith, is.shorter))
@@ -54,37 +48,53 @@ params_found taking means follows (suc n) at known more (code ∷ octets) le fit
       once = λ c. sole_back (one.0 c) (known c) (b.0 c) (map (λ p. p.gives c) rest.parts) (more c) (one.2 c) (rest.once c);
     }
 
+-- parameters in front are read, and reading goes on behind them
+pub front_read : (taking : Taking) (means : ℕ → List ℕ → Known → Type 0) → Follows taking means →
+    (n at : ℕ) (known more : Known) (parts : List Part) (rest : List ℕ)
+    → length (flat_map part_octets parts ++ rest) ≤ n → AllByRecursion (IsPart means) parts →
+    ((c : Code) → Sole (known c ∷ map (λ p. p.gives c) parts) (more c))
+    → (k : ℕ) × (length rest ≤ k) ×
+    (params_at taking n at known (flat_map part_octets parts ++ rest) ≡ params_at taking k (at + length (flat_map part_octets parts)) more
+    rest)
+unfolding params_at
+front_read taking means follows n at known more [] rest le each once =
+    (n, le, λ i. params_at taking n (sym (add-zero at) i) (λ c. sym (sole_same (known c) (more c) (once c)) i) rest)
+front_read taking means follows zero at known more (p ∷ parts) rest le each once = absurd (omega arith)
+front_read taking means follows (suc n) at known more (p ∷ parts) rest le each once =
+    let mid : Known = λ c. merged (known c) (p.gives c) in
+    let joins : JoinsAll p.gives known mid = λ c. sole_joins (p.gives c) (known c) (map (λ q. q.gives c) parts) (more c) (once c) in
+    let others = flat_map part_octets parts in
+    let after = at + (1 + indicator_len p.long + length p.value) in
+    let one = follows.back at (at + (1 + indicator_len p.long)) p.code p.value p.gives known mid each.0.2 joins in
+    let len = len_of_part p in
+    let front = length-append (part_octets p) others in
+    let all = length-append (part_octets p) (others ++ rest) in
+    let assoc : flat_map part_octets (p ∷ parts) ++ rest ≡ part_octets p ++ (others ++ rest) = append_assoc (part_octets p) others rest in
+    let count = ap length assoc in
+    let r = front_read taking means follows n after mid more parts rest (omega arith) each.1
+    (λ c. sole_step (p.gives c) (known c) (mid c) (map (λ q. q.gives c) parts) (more c) (joins c) (once c)) in
+    let offset : after + length others ≡ at + length (flat_map part_octets (p ∷ parts)) = omega arith in
+    (r.0, r.1, grind (arith, params_at, bind_of, measured_at, measured_again))
+
 pub params_only : (taking : Taking) (means : ℕ → List ℕ → Known → Type 0) → Follows taking means →
     (n at : ℕ) (known more : Known) (parts : List Part)
     → length (flat_map part_octets parts) ≤ n → AllByRecursion (IsPart means) parts →
     ((c : Code) → Sole (known c ∷ map (λ p. p.gives c) parts) (more c))
     → params_at taking n at known (flat_map part_octets parts) ≡ Ok more
 unfolding params_at
-params_only taking means follows n at known more [] le each once = grind (arith, sole_same)
-params_only taking means follows zero at known more (p ∷ parts) le each once = absurd (omega arith)
-params_only taking means follows (suc n) at known more (p ∷ parts) le each once =
-    let mid : Known = λ c. merged (known c) (p.gives c) in
-    let joins : JoinsAll p.gives known mid = λ c. sole_joins (p.gives c) (known c) (map (λ q. q.gives c) parts) (more c) (once c) in
-    let after = at + (1 + indicator_len p.long + length p.value) in
-    let one = follows.back at (at + (1 + indicator_len p.long)) p.code p.value p.gives known mid each.0.2 joins in
-    let shorter : length (flat_map part_octets parts) ≤ n =
-    omega (arith, length-append (length_octets p.long (length p.value) ++ p.value) (flat_map part_octets parts)) in
-    let rest = params_only taking means follows n after mid more parts shorter each.1
-    (λ c. sole_step (p.gives c) (known c) (mid c) (map (λ q. q.gives c) parts) (more c) (joins c) (once c)) in
-    grind (arith, indicator_len, bind_of, measured_at, params_at, measured_again)
+params_only taking means follows n at known more parts le each once =
+    let all = append-nil (flat_map part_octets parts) in
+    let le' : length (flat_map part_octets parts ++ []) ≤ n = rw all le in
+    ap (params_at taking n at known) (sym all) ∙ (front_read taking means follows n at known more parts [] le' each once).2
 
 -- ---- one parameter
-
-judged_ok : (at : ℕ) (c : Code) (known more : Known) (o : Option (List ℕ)) → judged at c known o ≡ Ok more →
-    (form : List ℕ) × (o ≡ Some form) × (more ≡ put (slot_of c) form known)
-judged_ok at c known more o e = grind (arith, ok_is)
 
 -- a value that was stored found its slot free
 pub stored_ok : (kind : Kind) (at : ℕ) (c : Code) (value : List ℕ) (known more : Known) → stored kind at c value known ≡ Ok more
     → (form : List ℕ) × (canonical_in kind c value ≡ Some form) × (more ≡ put (slot_of c) form known) ×
     JoinsAll (only (slot_of c) form) known more
 unfolding stored
-stored_ok kind at c value known more h0 = grind (arith, guard_ok, judged_ok, is_none_of, put_joins, same_true, JoinsAll)
+stored_ok kind at c value known more h0 = grind (arith, guard_ok, ok_is, is_none_of, put_joins, same_true, JoinsAll)
 
 pub stored_back : (kind : Kind) (at : ℕ) (c : Code) (value form : List ℕ) (known more : Known) → canonical_in kind c value ≡ Some form →
     JoinsAll (only (slot_of c) form) known more
@@ -143,12 +153,11 @@ group_back kind at body c value gives known more is m j =
     let mid : Known = put c [] known in
     let apart = λ (d : Code). joins_apart (only c [] d) (m.0 d) (gives d) (known d) (more d) (m.2 d) (j d) in
     let same = λ (d : Code). joins_merged (is_same d c) [] (known d) ((apart d).0) in
-    let presence : JoinsAll (only c []) known mid =
-    λ d. subst (λ (k : Option (List ℕ)). Joins (only c [] d) (known d) k) (same d) ((apart d).0) in
-    let contents : JoinsAll m.0 mid more = λ d. subst (λ (k : Option (List ℕ)). Joins (m.0 d) k (more d)) (same d) ((apart d).1) in
+    let presence : JoinsAll (only c []) known mid = λ d. let s = same d in rw s at ((apart d).0) in
+    let contents : JoinsAll m.0 mid more = λ d. let s = same d in rw s at ((apart d).1) in
     let one : stored kind at c value known ≡ Ok mid =
     stored_back kind at c value [] known mid (group_form kind c value is)
-    (subst (λ (s : Code). JoinsAll (only s []) known mid) (sym (group_slot c is)) presence) in
+    (let s = group_slot c is in rw s presence) in
     let read : params_of (in_group kind members) body mid (flat_map part_octets m.1.parts) ≡ Ok more =
     params_only (in_group kind members) (MeansInGroup kind members) (group_follows kind members) (length (flat_map part_octets m.1.parts))
     body mid more m.1.parts (omega arith) m.1.each

@@ -1,8 +1,8 @@
 -- Reading parameters one after the other, by a loop.
 use Rattle.osi_spdu.proofs.Vocabulary.{is_some, length-drop, SpduFault, DuplicateParameter, BadValue, Code, Kind, Params, number_of}
 use Rattle.osi_spdu.proofs.Vocabulary.{slot_of, canonical_in, Known, ◌>>=◌, Measured, long_at, measured_at, parameter_at, Taking, params_at}
-use Rattle.osi_spdu.proofs.Vocabulary.{params_of, stored, place_of, cells_of, filled, slots_of, ◌≡◌, ℕ, zero, suc, ◌+◌, ◌<◌, ◌≤◌, true}
-use Rattle.osi_spdu.proofs.Vocabulary.{false, ltb, List, [], ◌∷◌, length, Result, Ok, Err, refl, arith, if◌then◌else◌}
+use Rattle.osi_spdu.proofs.Vocabulary.{params_of, stored, place_of, cells_of, filled, slots_of, ◌≡◌, ℕ, suc, ◌+◌, ◌<◌, ◌≤◌, true, false}
+use Rattle.osi_spdu.proofs.Vocabulary.{ltb, List, [], ◌∷◌, length, Result, Ok, Err, refl, arith, if◌then◌else◌}
 use Rattle.osi_spdu.proofs.basics.the_steps_of_reading.{bind_ok, bind_of, ok_is, guard_ok}
 use Rattle.osi_spdu.proofs.basics.length_indicators.{chosen}
 use Rattle.osi_spdu.proofs.parameters.a_slot_is_filled.{slots_put}
@@ -13,12 +13,6 @@ pub stored_twice : (kind : Kind) (at n : ℕ) (c : Code) (value : List ℕ) (kno
     n ≡ number_of c → stored kind at c value known ≡ Err (DuplicateParameter n at)
 unfolding stored
 stored_twice kind at n c value known e same = rw (e, same) refl
-
-pub stored_bad : (kind : Kind) (at n : ℕ) (c : Code) (value : List ℕ) (known : Known) → is_some (known (slot_of c)) ≡ false →
-    is_some (canonical_in kind c value) ≡ false → n ≡ number_of c
-    → stored kind at c value known ≡ Err (BadValue n at)
-unfolding stored
-stored_bad kind at n c value known h0 h1 h2 = grind arith
 
 -- nothing is stored of a bad value, so the slot says as before whether it is free
 pub stored_refused : (kind : Kind) (at : ℕ) (c : Code) (value : List ℕ) (p q : Params) (f : SpduFault) →
@@ -37,13 +31,9 @@ stored_done kind at c value p q h0 h1 h2 = grind (arith, slots_put)
 
 -- ---- fuel
 
-long_rest : (at : ℕ) (octets : List ℕ) (m : Measured) → long_at at octets ≡ Ok m → length m.rest ≤ length octets
-unfolding long_at
-long_rest at octets m e = grind (arith, guard_ok, ltb, ok_is, length-drop)
-
 measured_rest : (at : ℕ) (octets : List ℕ) (m : Measured) → measured_at at octets ≡ Ok m → length m.rest < length octets
-unfolding measured_at
-measured_rest at octets m h0 = grind (arith, chosen, long_rest, guard_ok, ltb, ok_is, length-drop)
+unfolding measured_at long_at
+measured_rest at octets m h0 = grind (arith, chosen, guard_ok, ltb, ok_is, length-drop)
 
 -- two results of steps that agree if the first did not fail
 same_bind : {A B : Type 0} (r : Result A SpduFault) (f g : A → Result B SpduFault) → ((x : A) → r ≡ Ok x → f x ≡ g x) →
@@ -53,33 +43,12 @@ same_bind r f g h = grind arith
 params_fuel : (taking : Taking) (n k at : ℕ) (known : Known) (octets : List ℕ) → length octets ≤ n → length octets ≤ k →
     params_at taking n at known octets ≡ params_at taking k at known octets
 unfolding params_at
-params_fuel taking n k at known [] hn hk = refl
-params_fuel taking zero k at known (code ∷ octets) hn hk = absurd (omega arith)
-params_fuel taking (suc n) zero at known (code ∷ octets) hn hk = absurd (omega arith)
 params_fuel taking (suc n) (suc k) at known (code ∷ octets) hn hk =
-    same_bind (measured_at at octets)
-    (λ m. taking at (at + (1 + m.used)) code m.value known >>= λ x. params_at taking n (at + (1 + m.used + length m.value)) x m.rest)
-    (λ m. taking at (at + (1 + m.used)) code m.value known >>= λ x. params_at taking k (at + (1 + m.used + length m.value)) x m.rest)
-    (λ m e. (let r = measured_rest at octets m e in
-    same_bind (taking at (at + (1 + m.used)) code m.value known)
-    (λ x. params_at taking n (at + (1 + m.used + length m.value)) x m.rest)
-    (λ x. params_at taking k (at + (1 + m.used + length m.value)) x m.rest)
+    same_bind (measured_at at octets) _ _ (λ m e. (let r = measured_rest at octets m e in
+    same_bind (taking at (at + (1 + m.used)) code m.value known) _ _
     (λ x q. params_fuel taking n k (at + (1 + m.used + length m.value)) x m.rest (omega arith) (omega arith))))
-
--- one parameter, and then the others
-pub params_next : (taking : Taking) (at code : ℕ) (m : Measured) (known : Known) (octets : List ℕ) → parameter_at at octets ≡ Ok (code, m)
-    → params_of taking at known
-    octets ≡ (taking at (at + (1 + m.used)) code m.value known >>= λ x. params_of taking (at + (1 + m.used + length m.value)) x m.rest)
-unfolding parameter_at params_at
-params_next taking at code m known octets e = grind (arith, bind_ok, ok_is, measured_rest, bind_of, same_bind, params_fuel)
-
-abbrev tagged : ℕ → Measured → Result (ℕ × Measured) SpduFault
-tagged c m = Ok (c, m)
-
-pub params_fault : (taking : Taking) (at : ℕ) (known : Known) (octets : List ℕ) (fault : SpduFault) → 0 < length octets →
-    parameter_at at octets ≡ Err fault → params_of taking at known octets ≡ Err fault
-unfolding parameter_at params_at
-params_fault taking at known octets fault h0 h1 = grind arith
+params_fuel taking n k at known [] hn hk = refl
+params_fuel taking n k at known (code ∷ octets) hn hk = absurd (omega arith)
 
 -- the loop invariant: reading what is left gives the result of reading all
 pub record IsTaking (taking : Taking) (at : ℕ) (known : Known) (rest : List ℕ) (start : ℕ) (before : Known) (octets : List ℕ) : Type 0 where
@@ -89,29 +58,28 @@ pub record IsTaking (taking : Taking) (at : ℕ) (known : Known) (rest : List �
 pub taking_start : (taking : Taking) (at : ℕ) (known : Known) (octets : List ℕ) → IsTaking taking at known octets at known octets
 taking_start taking at known octets = record { taken = refl; room = refl }
 
-pub taking_next : (taking : Taking) (at code : ℕ) (m : Measured) (known more : Known) (rest : List ℕ) (start : ℕ) (before : Known)
-    (octets : List ℕ)
-    → parameter_at at rest ≡ Ok (code, m) → 1 + m.used + length m.value + length m.rest ≡ length rest →
-    taking at (at + (1 + m.used)) code m.value known ≡ Ok more
-    → IsTaking taking at known rest start before octets →
-    IsTaking taking (at + (1 + m.used + length m.value)) more m.rest start before octets
-taking_next taking at code m known more rest start before octets read len one so_far =
-    grind (arith, bind_of, params_next taking at code m known rest read)
+pub taking_next : {taking : Taking} {at code : ℕ} {m : Measured} {known more : Known} {rest : List ℕ} {start : ℕ} {before : Known}
+    {octets : List ℕ} → IsTaking taking at known rest start before octets → parameter_at at rest ≡ Ok (code, m) →
+    1 + m.used + length m.value + length m.rest ≡ length rest → taking at (at + (1 + m.used)) code m.value known ≡ Ok more
+    → IsTaking taking (at + (1 + m.used + length m.value)) more m.rest start before octets
+unfolding parameter_at params_at
+taking_next {taking = taking} {at = at} {code = code} {m = m} {known = known} {rest = rest} so_far read len one =
+    grind (arith, bind_of, bind_ok, ok_is, measured_rest, same_bind, params_fuel)
 
-pub taking_fault : (taking : Taking) (at : ℕ) (known : Known) (rest : List ℕ) (start : ℕ) (before : Known) (octets : List ℕ)
-    (fault : SpduFault)
-    → 0 < length rest → parameter_at at rest ≡ Err fault → IsTaking taking at known rest start before octets →
-    params_of taking start before octets ≡ Err fault
-taking_fault taking at known rest start before octets fault some e so_far = grind (arith, params_fault)
+pub taking_fault : {taking : Taking} {at : ℕ} {known : Known} {rest : List ℕ} {start : ℕ} {before : Known} {octets : List ℕ}
+    {fault : SpduFault} → IsTaking taking at known rest start before octets → 0 < length rest → parameter_at at rest ≡ Err fault
+    → params_of taking start before octets ≡ Err fault
+unfolding parameter_at params_at
+taking_fault so_far some e = grind arith
 
-pub taking_refused : (taking : Taking) (at code : ℕ) (m : Measured) (known : Known) (rest : List ℕ) (start : ℕ) (before : Known)
-    (octets : List ℕ) (fault : SpduFault)
-    → parameter_at at rest ≡ Ok (code, m) → taking at (at + (1 + m.used)) code m.value known ≡ Err fault
-    → IsTaking taking at known rest start before octets → params_of taking start before octets ≡ Err fault
-taking_refused taking at code m known rest start before octets fault read e so_far =
-    grind (arith, params_next taking at code m known rest read)
+pub taking_refused : {taking : Taking} {at code : ℕ} {m : Measured} {known : Known} {rest : List ℕ} {start : ℕ} {before : Known}
+    {octets : List ℕ} {fault : SpduFault} → IsTaking taking at known rest start before octets → parameter_at at rest ≡ Ok (code, m)
+    → taking at (at + (1 + m.used)) code m.value known ≡ Err fault → params_of taking start before octets ≡ Err fault
+unfolding parameter_at params_at
+taking_refused {taking = taking} {at = at} {code = code} {m = m} {known = known} {rest = rest} so_far read e =
+    grind (arith, bind_ok, ok_is, measured_rest, bind_of, same_bind, params_fuel)
 
-pub taking_end : (taking : Taking) (at : ℕ) (known : Known) (rest : List ℕ) (start : ℕ) (before : Known) (octets : List ℕ) → length rest ≡ 0
-    → IsTaking taking at known rest start before octets → params_of taking start before octets ≡ Ok known
+pub taking_end : {taking : Taking} {at : ℕ} {known : Known} {rest : List ℕ} {start : ℕ} {before : Known} {octets : List ℕ} →
+    IsTaking taking at known rest start before octets → length rest ≡ 0 → params_of taking start before octets ≡ Ok known
 unfolding params_at
-taking_end taking at known rest start before octets e so_far = grind arith
+taking_end so_far e = grind arith

@@ -1,8 +1,8 @@
 -- How the reader of a TSDU continues after the first unit.
 use Rattle.osi_spdu.proofs.Vocabulary.{IfOk, IsOkAnd, IsOctets, SpduFault, TrailingOctets, Kind, category_of, may_stand, Category, Zero}
 use Rattle.osi_spdu.proofs.Vocabulary.{Group, Contents, Units, Params, known_of, is_formed, is_joined, IsFormedTsdu, TsduFits, Gives}
-use Rattle.osi_spdu.proofs.Vocabulary.{Placed, unit_at, contents_of, continued, tsdu_at, SpellsTsdu, placed_of, units_of, Known, ◌≡◌, ℕ}
-use Rattle.osi_spdu.proofs.Vocabulary.{Bool, true, false, List, [], ◌∷◌, length, Some, Result, Ok, Err, refl, arith, Found}
+use Rattle.osi_spdu.proofs.Vocabulary.{Placed, unit_at, continued, tsdu_at, SpellsTsdu, placed_of, units_of, Known, ◌≡◌, ℕ, Bool, true}
+use Rattle.osi_spdu.proofs.Vocabulary.{false, List, [], length, Some, Result, Ok, Err, refl, arith, Found}
 use Rattle.osi_spdu.specs.Kept.{followed_at}
 use Rattle.osi_spdu.proofs.basics.the_steps_of_reading.{ok_is}
 use Rattle.osi_spdu.proofs.form.what_is_read_has_a_form.{placed_formed}
@@ -29,10 +29,6 @@ pub tsdu_followed : (octets : List ℕ) (p : Placed) (known : Known) → unit_at
     known ≡ p.known → tsdu_at octets ≡ followed_at (unit_with p.kind known) p.end p.rest
 unfolding followed_at
 tsdu_followed octets p known e zero same = grind (arith, tsdu_goes octets p e)
-
-pub continued_alone : (category : Category) (p : Placed) → (category ≡ Zero → ⊥) → length p.rest ≡ 0 →
-    continued category p ≡ Ok (contents_of p [] ∷ [])
-continued_alone category p other e = grind arith
 
 pub continued_trailing : (category : Category) (p : Placed) → (category ≡ Zero → ⊥) → (length p.rest ≡ 0 → ⊥) →
     continued category p ≡ Err (TrailingOctets p.end)

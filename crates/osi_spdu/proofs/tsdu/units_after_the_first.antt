@@ -1,10 +1,10 @@
 -- Units after the first one, given one after the other.
-use Rattle.osi_spdu.proofs.Vocabulary.{AllByRecursion, result_unwrap_or, and_parts, or_right, eq-eqb, SpduFault, Kind, Category, Zero, One}
-use Rattle.osi_spdu.proofs.Vocabulary.{Two, kind_named, category_of, may_stand, Units, ◌>>=◌, Next, next_at, behind_at, crowded, takes_rest}
-use Rattle.osi_spdu.proofs.Vocabulary.{is_zero, is_joined, IsFormedUnit, left_at, AreLeft, is_behind, Contents, Behind, units_from}
-use Rattle.osi_spdu.proofs.Vocabulary.{units_behind, ◌≡◌, ℕ, ◌-◌, ◌≤◌, ◌&&◌, not, true, false, List, [], ◌∷◌, length, drop, get_or, Option}
-use Rattle.osi_spdu.proofs.Vocabulary.{Some, None, Result, Ok, Err, refl, sym, ap, subst, ◌∙◌, arith, Spdu, GivesBehind}
-use Rattle.osi_spdu.proofs.tsdu.units_and_tsdus_are_read.{left_read}
+use Rattle.osi_spdu.proofs.Vocabulary.{AllByRecursion, result_unwrap_or, and_parts, or_right, eq-eqb, SpduFault, Kind, Zero, Two}
+use Rattle.osi_spdu.proofs.Vocabulary.{kind_named, category_of, may_stand, Units, ◌>>=◌, Next, next_at, behind_at, crowded, takes_rest}
+use Rattle.osi_spdu.proofs.Vocabulary.{is_joined, IsFormedUnit, left_at, AreLeft, is_behind, Contents, Behind, units_from, units_behind}
+use Rattle.osi_spdu.proofs.Vocabulary.{◌≡◌, ℕ, ◌-◌, ◌≤◌, not, true, List, [], ◌∷◌, length, drop, get_or, Option, Some, None, Result, Ok}
+use Rattle.osi_spdu.proofs.Vocabulary.{Err, refl, sym, ap, subst, ◌∙◌, arith, Spdu, GivesBehind}
+use Rattle.osi_spdu.proofs.tsdu.units_and_tsdus_are_read.{left_read, second_stands}
 
 abbrev Read : Type 0
 Read = Result Units SpduFault
@@ -103,14 +103,7 @@ others_read room at octets n one some e left = grind (arith, behind_step, behind
 
 pub joined_two : (first second : Kind) → is_joined first (Some second) ≡ true → category_of second ≡ Two
 unfolding is_joined
-joined_two first second e =
-    let a = and_parts (may_stand false (category_of first) && may_stand true (category_of second)) (is_zero (category_of first)) e in
-    two (category_of second) (and_parts (may_stand false (category_of first)) (may_stand true (category_of second)) a.0).1
-  where
-    two : (category : Category) → may_stand true category ≡ true → category ≡ Two
-    two Zero h = unfold may_stand in absurd cc
-    two One h = unfold may_stand in absurd cc
-    two Two h = refl
+joined_two first second e = grind (arith, and_parts, second_stands)
 
 pub joined_behind : (first : Kind) (next : Option Kind) (rest : List ℕ) → category_of first ≡ Zero → is_behind next rest ≡ true →
     is_joined first next ≡ true

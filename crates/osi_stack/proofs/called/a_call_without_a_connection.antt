@@ -1,10 +1,9 @@
 -- A session whose connection is not live answers a call as if it were not there.
-use Rattle.osi_stack.proofs.Vocabulary.{OnOk, OnErr, IfErr, Carrying, Rows, value_at, State as Carrier, is_open, EndReason, allowed, Call}
-use Rattle.osi_stack.proofs.Vocabulary.{Listener, called, answered, react, is_wait_transport, is_over, limit_of, CallError, Phase}
-use Rattle.osi_stack.proofs.Vocabulary.{has_given, move_refusal, session_refusal, session_error, call_error, table_error, Refuses, by_rule}
-use Rattle.osi_stack.proofs.Vocabulary.{needs_link, kept_at, IsSettled, Line, End, Holding, holding, session_in, session_at}
-use Rattle.osi_stack.proofs.Vocabulary.{SessionState as State, ◌≡◌, ℕ, Bool, true, false, Option, Some, None, Result, Err, is_some, IsSome}
-use Rattle.osi_stack.proofs.Vocabulary.{refl, sym, ap, ◌∙◌, arith, no_link, Ended}
+use Rattle.osi_stack.proofs.Vocabulary.{OnOk, OnErr, IfErr, Carrying, Rows, value_at, State as Carrier, EndReason, allowed, Call, Listener}
+use Rattle.osi_stack.proofs.Vocabulary.{called, answered, react, is_wait_transport, is_over, limit_of, CallError, Phase, has_given}
+use Rattle.osi_stack.proofs.Vocabulary.{move_refusal, session_refusal, session_error, call_error, table_error, Refuses, by_rule, needs_link}
+use Rattle.osi_stack.proofs.Vocabulary.{kept_at, IsSettled, Line, End, Holding, holding, SessionState as State, ◌≡◌, ℕ, Bool, true, false}
+use Rattle.osi_stack.proofs.Vocabulary.{Option, Some, None, Result, Err, IsSome, refl, arith, no_link, Ended}
 use Rattle.osi_session.specs.declared.faults.CallError.TheVariants as error
 
 -- ---- a session that is over
@@ -33,24 +32,14 @@ unneeded b o h k = grind arith
 gone_phase : (r : ℕ) (s : Listener) (e : End) → IsSettled e → e.carrier.ended ≡ None → value_at r e.carrier.live ≡ None →
     kept_at r e.lines ≡ Some s → is_over s.state.phase ≡ true
 gone_phase r s e settled lasts none kept =
-    let p = s.state.phase in
-    over_phase p
-    (unneeded (needs_link p) (is_open r e.carrier) (λ needs. (settled.sound lasts).links lasts r s kept needs)
-    (ap is_some (no_link r e.carrier none)))
-    (grind (arith, unneeded))
+    grind (arith, over_phase, unneeded, (settled.sound lasts).links lasts r s kept, no_link, settled.asks)
 
 gone_by : (r : ℕ) (call : Call) (e : End) (o : Option Listener) (over : Option EndReason) → IsSettled e → value_at r e.carrier.live ≡ None →
     kept_at r e.lines ≡ o → e.carrier.ended ≡ over →
     IsEnded r o call e.carrier
 gone_by r call e None over settled none kept is = record { refusal = refl; error = refl }
-gone_by r call e (Some s) (Some reason) settled none kept is = let left = settled.gone (ap is_some is) r in let both = sym kept ∙ left in cc
+gone_by r call e (Some s) (Some reason) settled none kept is = grind (arith, settled.gone)
 gone_by r call e (Some s) None settled none kept is = ended_over r s call e.carrier (gone_phase r s e settled is none kept)
-
--- ---- so none has to be looked up
-
-record AreAlike (r : ℕ) (call : Call) (e : End) : Type 0 where
-  refusal : session_refusal r (session_in (value_at r e.lines)) call e.carrier ≡ session_refusal r (session_at r e) call e.carrier
-  error : session_error (session_in (value_at r e.lines)) call ≡ session_error (session_at r e) call
 
 -- ---- what was accepted
 

@@ -1,11 +1,10 @@
 -- The result of a call is the one that the table of its session gives.
-use Rattle.std.proofs.Common.{◌≡◌, ℕ, true, List, Option, Some, None, is_some, Ok, Err, refl, ap, subst, ◌∙◌, arith}
+use Rattle.std.proofs.Common.{◌≡◌, ℕ, true, List, Some, None, Ok, Err, ap, subst, arith}
 use Rattle.osi_session.specs.declared.faults.CallError.TheVariants as error
-use Rattle.osi_stack.proofs.Vocabulary.{AllByRecursion, IfSome, or_right, value_at, IsSendable, Step, Answer, allowed, Passed, Call}
-use Rattle.osi_stack.proofs.Vocabulary.{HasSerial, Input, Listener, called, answered, react, after_inputs, is_wait_cn, may_abort}
-use Rattle.osi_stack.proofs.Vocabulary.{HasNumbersInWords, IsFresh, awaiting, asking, limit_of, Opening, opening_of, move_refusal}
-use Rattle.osi_stack.proofs.Vocabulary.{session_refusal, session_error, call_error, table_error, CameAbout, AllCameAbout, needs_link}
-use Rattle.osi_stack.proofs.Vocabulary.{Soundness, kept_at, End, session_in, session_at, IsSoundState, SessionState as State}
+use Rattle.osi_stack.proofs.Vocabulary.{AllByRecursion, or_right, IsSendable, Step, Answer, allowed, Passed, Call, HasSerial, Input}
+use Rattle.osi_stack.proofs.Vocabulary.{Listener, called, answered, react, after_inputs, is_wait_cn, may_abort, HasNumbersInWords, IsFresh}
+use Rattle.osi_stack.proofs.Vocabulary.{awaiting, asking, limit_of, Opening, opening_of, move_refusal, call_error, table_error, CameAbout}
+use Rattle.osi_stack.proofs.Vocabulary.{AllCameAbout, needs_link, Soundness, kept_at, End, IsSoundState, SessionState as State}
 use Rattle.osi_stack.proofs.carried.what_a_move_leaves.{line_of}
 use Rattle.osi_stack.proofs.called.tsdus_that_are_handed_together.{lengths_fit}
 use Rattle.osi_stack.proofs.called.what_is_sent_is_short.{SpduLaws, tsdus_short}
@@ -41,17 +40,7 @@ answer_by law r call e s (Ok x) allows serial lasts sound here came =
     or_right (is_wait_cn s.state.phase) (may_abort s.state.phase) (law.phase s.state call x allows) in
     grind (arith, lengths_fit, sound.links lasts r s here needs)
 
-answered_at : Below → (r : ℕ) (call : Call) (e : End) (o : Option Listener) → session_at r e ≡ o → HasSerial call → e.carrier.ended ≡ None →
-    Soundness e → AllCameAbout e.lines →
-    session_refusal r o call e.carrier ≡ session_error o call
-answered_at law r call e None at serial lasts sound all = refl
-answered_at law r call e (Some s) at serial lasts sound all =
-    let there = line_of (is_some (value_at r e.carrier.live)) (value_at r e.lines) s at in
-    let kept : kept_at r e.lines ≡ Some s = ap session_in there.1 ∙ there.2 in
-    let came : CameAbout s = subst (λ (o : Option Listener). IfSome o CameAbout) there.2 (grind (arith, line_at))
-    in
-    answer_by law r call e s (allowed s.state call) refl serial lasts sound kept came
-
 pub answered_is : Below → (r : ℕ) (call : Call) (e : End) → HasSerial call → e.carrier.ended ≡ None → Soundness e → AllCameAbout e.lines →
     call_error r call e ≡ table_error r call e
-answered_is law r call e serial lasts sound all = grind (arith, answered_at)
+answered_is law r call e serial lasts sound all =
+    grind (arith, line_of, line_at, answer_by, allowed)

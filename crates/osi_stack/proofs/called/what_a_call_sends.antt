@@ -14,10 +14,6 @@ pub call_is : (s : Listener) (call : Call) → IsCall (react s (called call))
 unfolding react
 call_is s call = grind arith
 
-pub record IsSent (r limit : ℕ) (move : Move) (sent : List (List ℕ)) (c : Carrier) : Type 0 where
-  pub refusal : move_refusal r limit move c ≡ send_refusal (send_all_error sent (open_link r c))
-  pub handed : answers r limit move c ≡ hands r sent c
-
 -- ---- the carrier's answer to what a call sends
 
 pub call_handed : {A E : Type 0} (result : Result A E) (s : Listener) (call : Call) (sent tsdus : List (List ℕ)) (r limit : ℕ)

@@ -39,9 +39,7 @@ out_lasting e new out lasts = grind (arith, times_within, concluded_carrier)
 out_by : (e new : End) (packet : List ℕ) (c : Carrier) →
     (c ≡ carriers.after_packet e.carrier packet) ⊎ carriers.Starves e.carrier packet c → RunsOut (with_carrier c e) new →
     (after_packet e packet).carrier.ended ≡ None → new.carrier.ended ≡ Some NoMemory
-out_by e new packet c (inl is) out lasts =
-    out_lasting (with_carrier c e) new out
-    (grind (arith, packet_is))
+out_by e new packet c (inl is) out lasts = grind (arith, out_lasting (with_carrier c e) new out, packet_is)
 out_by e new packet c (inr starved) out lasts = grind (arith, times_over)
 
 -- if the packet does not end it, an allocation failure does

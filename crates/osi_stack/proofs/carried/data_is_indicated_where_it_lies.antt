@@ -1,26 +1,14 @@
 -- Data that a session indicates from the buffer in which it arrived.
 -- For `receive` of a line.
-use Rattle.osi_stack.proofs.Vocabulary.{came, State as Carrier, Input, Listener, Move, react, Shown, line_by, carrier_by, session_needs}
-use Rattle.osi_stack.proofs.Vocabulary.{Line, arith, ◌≡◌, ℕ, true, List, [], ◌∷◌, ◌++◌, Option, Some, ap, ◌∙◌, if◌then◌else◌, only_shows}
-use Rattle.osi_stack.proofs.Vocabulary.{line_after, selectors_told, shows_connect}
+use Rattle.osi_stack.proofs.Vocabulary.{came, State as Carrier, Input, Listener, react, Shown, line_by, session_needs, Line, arith, ◌≡◌, ℕ}
+use Rattle.osi_stack.proofs.Vocabulary.{true, List, [], ◌∷◌, ◌++◌, Option, Some, ap, ◌∙◌, only_shows}
 use Rattle.osi_session.specs.Shown.{Data}
-use Rattle.osi_stack.proofs.called.tsdus_that_are_handed_together.{hands_none}
 
 -- data is indicated, and nothing else happens
 pub record ShowsData (session : Listener) (input : Input) (shown : Shown) : Type 0 where
   pub octets : List ℕ
   pub is : shown ≡ Data octets
   pub shows : react session input ≡ only_shows session (Data octets)
-
--- the line after a move
-abbrev moved_line : Line → Input → Move → Line
-moved_line line input move =
-    line_after (record line { selectors = if shows_connect move.shown then selectors_told input else line.selectors }) move
-
-pub straight_carrier : (r : ℕ) (session : Option Listener) (s : Listener) (input : Input) (shown : Shown) (c : Carrier) → session ≡ Some s →
-    ShowsData s input shown →
-    carrier_by r session input c ≡ c
-straight_carrier r session s input shown c here h = grind (arith, hands_none)
 
 pub straight_needs : (r : ℕ) (session : Option Listener) (s : Listener) (input : Input) (shown : Shown) (c : Carrier) → session ≡ Some s →
     ShowsData s input shown →

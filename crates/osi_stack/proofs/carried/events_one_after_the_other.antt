@@ -8,7 +8,7 @@ use Rattle.osi_stack.proofs.Vocabulary.{sym, ap, subst, ◌∙◌, inl, arith, i
 use Rattle.osi_stack.proofs.Vocabulary.{Lent}
 use Rattle.osi_carrier.specs.Happenings as events
 use Rattle.osi_carrier.specs.Packets as carriers
-use Rattle.osi_stack.proofs.carried.what_sessions_leave_of_the_carrier.{hears_keep}
+use Rattle.osi_stack.proofs.carried.what_sessions_leave_of_the_carrier.{hears_keep, times_leave}
 
 -- ---- one more
 
@@ -58,9 +58,6 @@ pub heard_left_over : (now new : Holding) (event : Happening) (mid : Carrier) �
     now.end.carrier ≡ record mid { events = event ∷ mid.events } →
     new.end ≡ hears event (with_carrier mid now.end) → length new.end.carrier.events < length now.end.carrier.events
 heard_left_over now new event mid h is = grind (arith, heard_fewer, length)
-
-pub heard_all : (old now : Holding) → HasHeard old now → now.end.carrier.events ≡ [] → now.end ≡ hears_all old.end
-heard_all old now so_far none = grind arith
 
 pub heard_left : (old now : Holding) (event : Happening) (mid : Carrier) (new : End) → HasHeard old now →
     now.end.carrier ≡ record mid { events = event ∷ mid.events } →
@@ -167,8 +164,7 @@ never_starved old new none out = grind (arith, hears_times, times_quiet)
 -- ---- what stays
 
 pub all_keep_by : (n : ℕ) (e : End) → is_spoilt (hears_times n e).carrier.ended ≡ is_spoilt e.carrier.ended
-all_keep_by zero e = refl
-all_keep_by (suc n) e = grind (arith, hears_keep, all_keep_by n (hears_next e))
+all_keep_by n e = (times_leave n e).spoilt
 
 -- ---- attended
 

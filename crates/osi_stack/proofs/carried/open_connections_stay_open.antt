@@ -1,14 +1,14 @@
 -- Sessions keep their open transport connections, whatever event is handled.
-use Rattle.std.proofs.Common.{◌≡◌, ◌≢◌, ℕ, zero, suc, ◌==◌, Bool, true, false, not, ◌&&◌, ◌||◌, List, ◌∷◌, ◌++◌, length, Option, Some, None}
-use Rattle.std.proofs.Common.{IsSome, option_map, refl, sym, ap, subst, ◌∙◌, inl, inr, ◌⊎◌, [], arith}
+use Rattle.std.proofs.Common.{◌≡◌, ◌≢◌, ℕ, ◌==◌, Bool, true, false, not, ◌&&◌, ◌||◌, List, ◌∷◌, ◌++◌, length, Option, Some, None, IsSome}
+use Rattle.std.proofs.Common.{option_map, refl, sym, ap, subst, ◌∙◌, inl, inr, ◌⊎◌, [], arith}
 use Rattle.osi_carrier.specs.Happenings as told
 use Rattle.osi_stack.proofs.Vocabulary.{eqb-true, eq-eqb, or_right, and-true, sent, closes, sent_all, Happening, Rows, value_at, put}
 use Rattle.osi_stack.proofs.Vocabulary.{Connection, State as Carrier, is_open, open_after, put_here, push_here, put_other, push_other}
 use Rattle.osi_stack.proofs.Vocabulary.{put_none, put_same, told_of, sent_opens, closed_opens, Input, Listener, opened, refused, broken}
 use Rattle.osi_stack.proofs.Vocabulary.{came, react, is_ended, awaits, Phase, opens, hears, hears_first, hears_next, hears_times}
-use Rattle.osi_stack.proofs.Vocabulary.{with_events, loses, all_lost, needs_link, AreApart, kept_at, to_session, Line, End, session_in}
-use Rattle.osi_stack.proofs.Vocabulary.{used_lines, joins, fresh_line, answers_by, input_of}
-use Rattle.osi_stack.proofs.carried.what_sessions_leave_of_the_carrier.{hears_keep}
+use Rattle.osi_stack.proofs.Vocabulary.{with_events, loses, all_lost, needs_link, AreApart, kept_at, to_session, Line, End, used_lines}
+use Rattle.osi_stack.proofs.Vocabulary.{joins, fresh_line, answers_by, input_of}
+use Rattle.osi_stack.proofs.carried.what_sessions_leave_of_the_carrier.{hears_keep, times_leave}
 use Rattle.osi_stack.proofs.carried.packets_without_events.{both}
 use Rattle.osi_stack.proofs.carried.what_a_move_leaves.{lost_at, used_keep}
 pub use Rattle.osi_stack.proofs.carried.what_a_move_leaves.{used_by}
@@ -146,9 +146,14 @@ moved_linked laws q input event rest e d of m over needs l r true at =
     grind arith
 moved_linked laws q input event rest e d of m over needs l r false at =
     let ne : r ≢ q = (λ same. both (r == q) (eq-eqb r q same) at) in
-    let other : r ≢ told_of event = (λ same. ne (same ∙ of)) in
-    subst (λ (o : Option Listener). IsLinked r o rest d.carrier) (sym (m.others r ne))
-    (other_linked event rest r (kept_at r e.lines) e.carrier d.carrier other (m.answered.others over r ne) (m.answered.stays over r) (l r))
+    grind (
+      arith,
+      m.others r ne,
+      other_linked event rest r (kept_at r e.lines) e.carrier d.carrier,
+      m.answered.others over r ne,
+      m.answered.stays over r,
+      l r,
+    )
 
 rested_linked : (q : ℕ) (event : Happening) (rest : List Happening) (e : End) → told_of event ≡ q → kept_at q e.lines ≡ None →
     AllLinked (event ∷ rest) e →
@@ -167,24 +172,13 @@ session_linked laws q input event rest e d of (inr m) over needs l =
 
 -- ---- lines stay apart
 
-apart_put_by : (r q : ℕ) (x y : Line) (rows : Rows Line) (b : Bool) → (q == r) ≡ b → value_at q rows ≡ None → AreApart rows →
-    AreApart (put r x rows) →
-    AreApart (put r x ((q, y) ∷ rows))
-apart_put_by r q x y rows b e none apart more = grind (arith, put_none)
-
 pub apart_put : (r : ℕ) (x : Line) (rows : Rows Line) → AreApart rows → AreApart (put r x rows)
 apart_put r x [] apart = tt
-apart_put r x ((q, y) ∷ rows) apart = apart_put_by r q x y rows (q == r) refl apart.0 apart.1 (apart_put r x rows apart.1)
-
-apart_push_by : (r q : ℕ) (x y : Line) (rows : Rows Line) (b : Bool) → (q == r) ≡ b → value_at r ((q, y) ∷ rows) ≡ None →
-    value_at q rows ≡ None →
-    (value_at r rows ≡ None → AreApart (rows ++ (r, x) ∷ [])) → AreApart ((q, y) ∷ (rows ++ (r, x) ∷ []))
-apart_push_by r q x y rows b e none alone more = grind (arith, value_at, both, eq-eqb, push_other)
+apart_put r x ((q, y) ∷ rows) apart = grind (arith, put_none, apart_put r x rows apart.1)
 
 pub apart_push : (r : ℕ) (x : Line) (rows : Rows Line) → value_at r rows ≡ None → AreApart rows → AreApart (rows ++ (r, x) ∷ [])
 apart_push r x [] none apart = (refl, tt)
-apart_push r x ((q, y) ∷ rows) none apart =
-    apart_push_by r q x y rows (q == r) refl none apart.0 (λ behind. apart_push r x rows behind apart.1)
+apart_push r x ((q, y) ∷ rows) none apart = grind (arith, value_at, both, eq-eqb, push_other, apart_push r x rows)
 
 -- ---- lines that are of use
 
@@ -217,17 +211,13 @@ joined_by : (q : ℕ) (rest : List Happening) (e : End) → value_at q e.lines �
     (r : ℕ) (b : Bool) → (r == q) ≡ b →
     Stays r e.carrier.live (joined_lines q awaits e.lines) → IsLinked r (kept_at r (joins q awaits e).lines) rest e.carrier
 joined_by q rest e none l r true at (inl same) = grind (arith, eqb-true, push_here, mono)
-joined_by q rest e none l r true at (inr gone) =
-    let before : kept_at r e.lines ≡ None = ap (λ n. kept_at n e.lines) (eqb-true r q at) ∙ ap session_in none in
-    grind (arith, none_linked (told.opened q) rest r (kept_at r e.lines) e.carrier before (l r))
+joined_by q rest e none l r true at (inr gone) = grind (arith, eqb-true, none_linked (told.opened q) rest r (kept_at r e.lines) e.carrier)
 joined_by q rest e none l r false at (inl same) = grind (arith, both, eq-eqb, push_other, other_linked)
 joined_by q rest e none l r false at (inr gone) = grind (arith, both, eq-eqb, other_linked)
 
 joined_linked : (q : ℕ) (rest : List Happening) (e : End) → AreApart e.lines → value_at q e.lines ≡ None →
     AllLinked (told.opened q ∷ rest) e → AllLinked rest (joins q awaits e)
-joined_linked q rest e apart none l =
-    λ r. joined_by q rest e none l r (r == q) refl
-    (used_at r e.carrier.live (joined_lines q awaits e.lines) (apart_push q _ e.lines none apart))
+joined_linked q rest e apart none l = λ r. search (arith, joined_by q rest e none l r (r == q) refl, used_at, apart_push)
 
 -- ---- one event
 
@@ -282,12 +272,8 @@ first_is event rest e h = ap (λ (l : List Happening). hears_first l e) h
 pub rest_is : (event : Happening) (rest : List Happening) (e : End) → e.carrier.events ≡ event ∷ rest → (hears_next e).carrier.events ≡ rest
 rest_is event rest e h = ap (λ (x : End). x.carrier.events) (first_is event rest e h) ∙ (hears_keep event (with_events rest e)).events
 
-first_lasts : (l : List Happening) (e : End) → (hears_first l e).carrier.ended ≡ None → e.carrier.ended ≡ None
-first_lasts l e h = grind (arith, hears_keep)
-
 pub times_last : (n : ℕ) (e : End) → (hears_times n e).carrier.ended ≡ None → e.carrier.ended ≡ None
-times_last zero e h = h
-times_last (suc n) e h = first_lasts e.carrier.events e (times_last n (hears_next e) h)
+times_last n e h = (times_leave n e).lasts h
 
 pub times_apart : (n : ℕ) (e : End) → AreApart e.lines → AreApart (hears_times n e).lines
 times_apart n e apart = events_heard (λ x. AreApart x.lines) (λ events x apart. apart) heard_apart n e apart

@@ -1,7 +1,7 @@
 -- What packets without events do to an end, and what the last of them does.
 use Rattle.osi_stack.proofs.Vocabulary.{ArePackets, Rows, State as Carrier, EndReason, stops, TakesPackets, attends, after_packet}
 use Rattle.osi_stack.proofs.Vocabulary.{with_carrier, Line, End, waits, ◌≡◌, ℕ, ◌||◌, Bool, true, false, List, ◌∷◌, ◌++◌, Option, None}
-use Rattle.osi_stack.proofs.Vocabulary.{is_some, refl, sym, ap, subst, ◌∙◌, if◌then◌else◌, [], arith}
+use Rattle.osi_stack.proofs.Vocabulary.{is_some, refl, sym, ap, subst, ◌∙◌, [], arith}
 use Rattle.osi_carrier.specs.Packets as carriers
 use Rattle.osi_stack.proofs.carried.events_one_after_the_other.{no_events}
 

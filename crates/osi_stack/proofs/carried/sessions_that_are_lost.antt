@@ -1,8 +1,7 @@
 -- Sessions that are lost.
-use Rattle.std.proofs.Common.{◌≡◌, ℕ, ◌+◌, ◌<◌, ◌==◌, zero, suc, Bool, List, [], ◌∷◌, ◌++◌, length, take, drop, map, get_or, set, arith}
-use Rattle.std.proofs.Common.{Some, None, Result, Ok, Err, OnErr, refl, sym, ap, ◌∙◌, if◌then◌else◌}
-use Rattle.osi_stack.proofs.Vocabulary.{append-nil, map-append, placed, here_is, Rows, value_at, place_of, put, Listener, broken, react}
-use Rattle.osi_stack.proofs.Vocabulary.{shows_loss, Shown, Lost, shown_by, Indication, loses, all_lost, Line}
+use Rattle.osi_stack.proofs.Vocabulary.{append-nil, placed, here_is, Rows, value_at, place_of, put, Listener, broken, react, shows_loss}
+use Rattle.osi_stack.proofs.Vocabulary.{Shown, Lost, loses, all_lost, Line, ◌≡◌, ℕ, ◌+◌, ◌<◌, zero, suc, Bool, List, [], ◌∷◌, ◌++◌, length}
+use Rattle.osi_stack.proofs.Vocabulary.{take, drop, get_or, set, arith, Some, None, Result, Ok, Err, OnErr, refl, if◌then◌else◌}
 
 -- what a session indicates when it is lost
 lost_shown : (s : Listener) → (react s broken).shown ≡ (if shows_loss s.state.phase then Lost ∷ [] else [])
@@ -13,22 +12,12 @@ pub lost_line : (s : Listener) (l : Line) (b : Bool) (waiting : List Shown) → 
     waiting ≡ l.waiting ++ (if b then Lost ∷ [] else []) → record l { session = None; waiting = waiting } ≡ loses l
 lost_line s l b waiting e shows h = grind (arith, lost_shown)
 
--- one indication more
-pub one_more : (items new : List Indication) (i : Indication) (shown : Shown) → new ≡ items ++ i ∷ [] → shown_by i ≡ shown →
-    map shown_by new ≡ map shown_by items ++ shown ∷ []
-one_more items new i shown h e = ap (map shown_by) h ∙ map-append shown_by items (i ∷ []) ∙ ap (λ x. map shown_by items ++ x ∷ []) e
-
 -- ---- all of them
-
-lost_put_by : (r q : ℕ) (y l : Line) (rows : Rows Line) (b : Bool) → (q == r) ≡ b →
-    (value_at r rows ≡ Some l → all_lost (put r (loses l) rows) ≡ all_lost rows) →
-    value_at r ((q, y) ∷ rows) ≡ Some l → all_lost (put r (loses l) ((q, y) ∷ rows)) ≡ all_lost ((q, y) ∷ rows)
-lost_put_by r q y l rows b t more h = grind (arith, all_lost, append-nil, loses, value_at)
 
 -- a session that is lost already
 pub lost_put : (r : ℕ) (l : Line) (rows : Rows Line) → value_at r rows ≡ Some l → all_lost (put r (loses l) rows) ≡ all_lost rows
 lost_put r l [] h = refl
-lost_put r l ((q, y) ∷ rows) h = lost_put_by r q y l rows (q == r) refl (lost_put r l rows) h
+lost_put r l ((q, y) ∷ rows) h = grind (arith, all_lost, append-nil, loses, value_at, lost_put r l rows)
 
 pub stopped_rows : {A E : Type 0} (result : Result A E) (r : ℕ) (rows items : Rows Line) (i : ℕ) (row new : ℕ × Line) →
     place_of r rows ≡ Some i →
@@ -36,10 +25,12 @@ pub stopped_rows : {A E : Type 0} (result : Result A E) (r : ℕ) (rows items : 
     OnErr result (all_lost (set items i new) ≡ all_lost rows)
 stopped_rows (Ok a) r rows items i row new e here same h = tt
 stopped_rows (Err f) r rows items i row new e here same h =
-    let p = placed r rows i row e in
-    let named = ap (λ (x : ℕ × Line). x.0) here ∙ p.named in
-    ap all_lost (ap (λ l. set l i new) same ∙ ap (λ x. set rows i x) (h ∙ ap (λ n. (n, loses row.1)) named) ∙ sym (p.put_is (loses row.1)))
-    ∙ lost_put r row.1 rows (here_is r rows rows i row e here refl)
+    grind (
+      arith,
+      (placed r rows i row e).put_is (loses row.1),
+      (placed r rows i row e).named,
+      lost_put r row.1 rows (here_is r rows rows i row e here refl),
+    )
 
 -- ---- one after the other
 

@@ -1,17 +1,16 @@
 -- What a session that makes a move leaves, and a message that arrives.
 use Rattle.osi_stack.proofs.Vocabulary.{nat_tests, list_any, Value, Happening, Rows, value_at, Connection, asked, linked, State as Carrier}
-use Rattle.osi_stack.proofs.Vocabulary.{put_here, put_other, Standing as Link, Meaning, said_by_units, said_at, words_of, IsSendable}
-use Rattle.osi_stack.proofs.Vocabulary.{words_sent, tsdus_of, tsdus_sent, behind_no_token, part_octets, written, spelled}
-use Rattle.osi_stack.proofs.Vocabulary.{Place as PartPlace, tsdu_at, Input, Listener, called, opened, refused, broken, taken, came, react}
-use Rattle.osi_stack.proofs.Vocabulary.{awaits, limit_of, Shown, first_shown, first_by, without_first, rest_by, move_refusal}
-use Rattle.osi_stack.proofs.Vocabulary.{session_refusal, call_error, carries_out, after_unit, opens, hears, hears_all, with_events}
-use Rattle.osi_stack.proofs.Vocabulary.{concludes, loses, all_lost, Message, unit, ask, agree, deny, bye, IsWhole, put_by, puts, Acts}
-use Rattle.osi_stack.proofs.Vocabulary.{Effect, begins, happens, rests, effect_at, told_at, AreShort, IsShort, CanHear, Hears, told_all}
-use Rattle.osi_stack.proofs.Vocabulary.{Arrives, kept_at, waiting_of, Becomes, IsGranted, Says, AreLost, shown_of, all_waiting, IsFirstOf}
-use Rattle.osi_stack.proofs.Vocabulary.{limit_for, line_by, to_session, Line, End, session_in, session_at, line_waits, waits, is_used}
-use Rattle.osi_stack.proofs.Vocabulary.{used_lines, joins, answers_by, Answer, allowed, Call, CallError, ◌≡◌, ℕ, ◌==◌, Bool, true, false}
-use Rattle.osi_stack.proofs.Vocabulary.{not, ◌||◌, List, [], ◌∷◌, ◌++◌, length, nat_lt, Option, Some, None, is_some, IsSome, option_map, Ok}
-use Rattle.osi_stack.proofs.Vocabulary.{refl, sym, ap, subst, ◌∙◌, arith, if◌then◌else◌, never, was_given, part}
+use Rattle.osi_stack.proofs.Vocabulary.{put_here, put_other, Meaning, said_by_units, said_at, words_of, IsSendable, words_sent, tsdus_of}
+use Rattle.osi_stack.proofs.Vocabulary.{tsdus_sent, behind_no_token, part_octets, written, spelled, Place as PartPlace, tsdu_at, Input}
+use Rattle.osi_stack.proofs.Vocabulary.{Listener, called, opened, refused, broken, taken, came, react, awaits, limit_of, Shown, first_shown}
+use Rattle.osi_stack.proofs.Vocabulary.{without_first, move_refusal, session_refusal, call_error, carries_out, after_unit, opens, hears}
+use Rattle.osi_stack.proofs.Vocabulary.{hears_all, with_events, concludes, loses, all_lost, Message, unit, ask, agree, deny, bye, IsWhole}
+use Rattle.osi_stack.proofs.Vocabulary.{put_by, puts, Acts, Effect, begins, happens, rests, effect_at, told_at, AreShort, IsShort, CanHear}
+use Rattle.osi_stack.proofs.Vocabulary.{Hears, told_all, Arrives, kept_at, waiting_of, Becomes, IsGranted, Says, AreLost, all_waiting}
+use Rattle.osi_stack.proofs.Vocabulary.{IsFirstOf, limit_for, line_by, to_session, Line, End, session_in, session_at, line_waits, waits}
+use Rattle.osi_stack.proofs.Vocabulary.{is_used, used_lines, joins, answers_by, Answer, allowed, Call, CallError, ◌≡◌, ℕ, ◌==◌, Bool, true}
+use Rattle.osi_stack.proofs.Vocabulary.{false, not, List, [], ◌∷◌, length, nat_lt, Option, Some, None, is_some, option_map, Ok, refl, sym}
+use Rattle.osi_stack.proofs.Vocabulary.{ap, subst, ◌∙◌, arith, if◌then◌else◌, never, was_given, part}
 use Rattle.osi_carrier.specs.Place.{Place}
 use Rattle.osi_carrier.specs.Happenings as told
 use Rattle.osi_carrier.specs.React as carriers
@@ -28,7 +27,7 @@ answers_put : (r : ℕ) (closes : Bool) (limit : ℕ) (reply : Option Meaning) (
     answers_by closes r (tsdus_sent limit reply) c ≡ puts r (put_by closes limit reply) c
 answers_put r true limit reply c short = refl
 answers_put r false limit None c short = hands_none r c
-answers_put r false limit (Some m) c short = handed r (tsdus_of limit m) c short ∙ puts_words r (words_sent limit m) c
+answers_put r false limit (Some m) c short = grind (arith, handed r (tsdus_of limit m) c short, puts_words r (words_sent limit m) c)
 
 -- ---- a move
 
@@ -67,6 +66,10 @@ pub came_is : Readings → (m : Meaning) → IsSendable m → came (written m) �
 unfolding said_at
 came_is law m sendable = grind arith
 
+-- a unit that reports nothing
+quiet_unit : (v : Value) (e : End) → (carries_out v e).carrier.events ≡ [] → after_unit e v ≡ concludes (told_all v e)
+quiet_unit v e h = grind (arith, all_quiet)
+
 pub arrives : Readings → (r : ℕ) (place : Place) (m : Message) (v : Value) (e : End) → IsWhole m →
     (carriers.react v e.carrier).events ≡ told_at r place m →
     CanHear r (effect_at place m) e.lines → Arrives r (effect_at place m) v e (after_unit e v)
@@ -79,48 +82,32 @@ arrives law r (was_given (Some asked)) (deny reason) v e whole h can = happens_b
 arrives law r (was_given (Some (linked peer link))) (unit m) v e whole h can = search (arith, happens_by, came_is)
 arrives law r (was_given (Some (linked peer link))) (part place octets) v e whole h can = search (arith, happens_by, law.parts place octets)
 arrives law r (was_given (Some (linked peer link))) (bye reason) v e whole h can = happens_by r broken (told.closed r reason) v e h refl can
-arrives law r place m v e whole h can = arrives_by r rests v e (told_all v e) refl (grind (arith, all_quiet))
+arrives law r place m v e whole h can = arrives_by r rests v e (told_all v e) refl (quiet_unit v e h)
 
 -- ---- all are lost
 
-lost_at_by : (r q : ℕ) (line : Line) (lines : Rows Line) (b : Bool) → (q == r) ≡ b →
-    value_at r (all_lost lines) ≡ option_map loses (value_at r lines) →
-    value_at r (all_lost ((q, line) ∷ lines)) ≡ option_map loses (value_at r ((q, line) ∷ lines))
-lost_at_by r q line lines b e more = grind arith
-
 pub lost_at : (r : ℕ) (lines : Rows Line) → value_at r (all_lost lines) ≡ option_map loses (value_at r lines)
 lost_at r [] = refl
-lost_at r ((q, line) ∷ lines) = lost_at_by r q line lines (q == r) refl (lost_at r lines)
+lost_at r ((q, line) ∷ lines) = grind (arith, lost_at r lines)
 
 pub are_lost : (lines : Rows Line) → AreLost lines (all_lost lines)
 are_lost lines = grind (arith, session_in, lost_at, value_at, waiting_of)
 
 -- ---- all that is pending
 
-shown_first : (r : ℕ) (line : Line) (waiting : List Shown) (lines : Rows Line) → line.waiting ≡ waiting →
-    IsFirstOf (first_shown lines) (all_waiting lines) (all_waiting (without_first lines)) →
-    IsFirstOf (first_by r waiting (first_shown lines)) (shown_of r waiting ++ all_waiting lines)
-    (all_waiting (rest_by r line waiting lines (without_first lines)))
-shown_first r line waiting lines none more = grind arith
-
 pub first_of_all : (lines : Rows Line) → IsFirstOf (first_shown lines) (all_waiting lines) (all_waiting (without_first lines))
 first_of_all [] = (refl, refl)
-first_of_all ((r, line) ∷ lines) = shown_first r line line.waiting lines refl (first_of_all lines)
+first_of_all ((r, line) ∷ lines) = grind (arith, first_of_all lines)
 
 -- what holds if the first pending indication is given after a line, and if it is given there
 pub first_keep : (Q : Rows Line → Type 0) (r : ℕ) (line : Line) (lines : Rows Line) → Q ((r, line) ∷ without_first lines) →
     ((left : List Shown) → Q ((r, record line { waiting = left }) ∷ lines)) → Q (without_first ((r, line) ∷ lines))
 first_keep Q r line lines behind here = grind arith
 
-kept_first_by : (q r : ℕ) (line : Line) (waiting : List Shown) (lines : Rows Line) (b : Bool) → (r == q) ≡ b →
-    kept_at q (without_first lines) ≡ kept_at q lines →
-    kept_at q (rest_by r line waiting lines (without_first lines)) ≡ kept_at q ((r, line) ∷ lines)
-kept_first_by q r line waiting lines b e more = grind arith
-
 -- the sessions are as they were
 pub kept_first : (q : ℕ) (lines : Rows Line) → kept_at q (without_first lines) ≡ kept_at q lines
 kept_first q [] = refl
-kept_first q ((r, line) ∷ lines) = kept_first_by q r line line.waiting lines (r == q) refl (kept_first q lines)
+kept_first q ((r, line) ∷ lines) = grind (arith, kept_first q lines)
 
 -- if nothing is pending
 pub none_waiting : (lines : Rows Line) → waits lines ≡ false → all_waiting lines ≡ []
@@ -130,18 +117,9 @@ none_waiting ((r, line) ∷ lines) h =
 
 -- ---- a call
 
-pub record HasLink (o : Option (ℕ × Link)) (tsdus : List (List ℕ)) : Type 0 where
-  pub opened : IsSome o
-  pub short : AreShort tsdus
-
-short_if : (b : Bool) (tsdu : List ℕ) (tsdus : List (List ℕ)) → nat_lt 1048576 (length tsdu) ≡ b →
-    (list_any (λ (t : List ℕ). nat_lt 1048576 (length t)) tsdus ≡ false → AreShort tsdus) →
-    (b || list_any (λ (t : List ℕ). nat_lt 1048576 (length t)) tsdus) ≡ false → AreShort (tsdu ∷ tsdus)
-short_if b tsdu tsdus e more h = grind (arith, nat_tests)
-
 all_short : (tsdus : List (List ℕ)) → list_any (λ (t : List ℕ). nat_lt 1048576 (length t)) tsdus ≡ false → AreShort tsdus
 all_short [] h = tt
-all_short (tsdu ∷ tsdus) h = short_if (nat_lt 1048576 (length tsdu)) tsdu tsdus refl (all_short tsdus) h
+all_short (tsdu ∷ tsdus) h = grind (arith, nat_tests, all_short tsdus)
 
 granted_by : (r : ℕ) (call : Call) (s : Listener) (c : Carrier) (a : Answer) → allowed s.state call ≡ a →
     move_refusal r (limit_of s.state) (react s (called call)) c ≡ None → IsGranted r call s c

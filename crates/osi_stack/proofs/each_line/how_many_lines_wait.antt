@@ -20,10 +20,6 @@ none_counted n rows e z = quiet_none rows (waits_counted rows ∙ ap (nat_lt 0) 
 
 -- ---- the only line with pending indications
 
--- a stand-in for a line if there is none
-abbrev pub nobody : ℕ × Line
-nobody = (0, record { session = None; waiting = []; selectors = None })
-
 counted_by : (b : Bool) (n : ℕ) → b ≡ true → 0 < cond b 1 0 + n
 counted_by b n e = grind arith
 
@@ -33,23 +29,15 @@ counted_at [] i d within here = absurd (omega arith)
 counted_at (row ∷ rows) zero d within here = search (arith, sum_by-cons, cond, counted_by)
 counted_at (row ∷ rows) (suc i) d within here = search (arith, cond, sum_by-cons, counted_at rows i d (omega arith) here)
 
--- if one is counted and another has pending ones, a line has none
-quiet_by : (b : Bool) (n : ℕ) → cond b 1 0 + n ≡ 1 → 0 < n → b ≡ false
-quiet_by b n e h = grind arith
-
 quiet_before : (rows : Rows Line) (i k : ℕ) (d : ℕ × Line) → how_many_wait rows ≡ 1 → i < length rows →
     line_waits (get_or rows i d).1 ≡ true → k < i →
     line_waits (get_or rows k d).1 ≡ false
 quiet_before [] i k d one within here less = absurd (omega arith)
 quiet_before (row ∷ rows) zero k d one within here less = absurd (omega arith)
 quiet_before (row ∷ rows) (suc i) zero d one within here less =
-    quiet_by (line_waits row.1) (how_many_wait rows) (sym (sum_by-cons (λ x. cond (line_waits x.1) 1 0) row rows) ∙ one)
-    (counted_at rows i d (omega arith) here)
+    grind (arith, sum_by-cons (λ x. cond (line_waits x.1) 1 0) row rows, counted_at rows i d)
 quiet_before (row ∷ rows) (suc i) (suc k) d one within here less =
-    let some = counted_at rows i d (omega arith) here in
-    let sum : how_many_wait (row ∷ rows) ≡ cond (line_waits row.1) 1 0 + how_many_wait rows =
-    sum_by-cons (λ x. cond (line_waits x.1) 1 0) row rows in
-    quiet_before rows i k d (omega arith) (omega arith) here (omega arith)
+    grind (arith, sum_by-cons (λ x. cond (line_waits x.1) 1 0) row rows, counted_at rows i d, quiet_before rows i k d)
 
 -- the only line with pending indications is the first
 pub only_first : (rows : Rows Line) (i : ℕ) (d : ℕ × Line) → how_many_wait rows ≡ 1 → i < length rows →

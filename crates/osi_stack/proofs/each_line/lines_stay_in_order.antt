@@ -1,46 +1,24 @@
 -- The lines of an end are in the order of their references, whatever packets come.
-use Rattle.std.proofs.Common.{◌≡◌, ℕ, zero, suc, ◌+◌, ◌<◌, ◌==◌, Bool, true, false, List, ◌∷◌, ◌++◌, length, Option, Some, None, IsSome}
-use Rattle.std.proofs.Common.{refl, sym, ap, subst, ◌∙◌, inl, inr, arith, []}
+use Rattle.osi_stack.proofs.Vocabulary.{AllByRecursion, eqb-true, eq-eqb, Fed, Local, may_connect, Happening, RiseFrom, AreUpTo, IsOrderly}
+use Rattle.osi_stack.proofs.Vocabulary.{told_of, Rows, value_at, Connection, asked, State as Carrier, EndReason, Broken, beyond, push_here}
+use Rattle.osi_stack.proofs.Vocabulary.{push_other, free_of, none_of, Input, opened as linked_up, connects, connect_error, terms_error}
+use Rattle.osi_stack.proofs.Vocabulary.{breaks, carried, without_first, Feeds, opens, hears, hears_next, hears_times, hears_all}
+use Rattle.osi_stack.proofs.Vocabulary.{with_events, with_carrier, attends, after_packet, ends, starves, loses, all_lost, Starves}
+use Rattle.osi_stack.proofs.Vocabulary.{Soundness, IsSound, to_session, IsOrdered, Line, End, Holding, IsAttended, fresh_end, used_lines}
+use Rattle.osi_stack.proofs.Vocabulary.{Connect, told_opened as opened, put_up, ◌≡◌, ℕ, zero, suc, ◌+◌, ◌<◌, ◌==◌, Bool, true, false, List}
+use Rattle.osi_stack.proofs.Vocabulary.{◌∷◌, ◌++◌, length, Option, Some, None, IsSome, refl, sym, ap, subst, ◌∙◌, inl, inr, arith, []}
 use Rattle.osi_carrier.specs.Packets as carriers
-use Rattle.osi_stack.proofs.Vocabulary.{eqb-true, eq-eqb, Fed, Standing as Link, Local, may_connect, closed_on, Happening, RiseFrom}
-use Rattle.osi_stack.proofs.Vocabulary.{AreUpTo, IsOrderly, told_of, Rows, value_at, Connection, asked, State as Carrier, EndReason, Broken}
-use Rattle.osi_stack.proofs.Vocabulary.{beyond, push_here, push_other, free_of, none_of, Input, opened as linked_up, connects}
-use Rattle.osi_stack.proofs.Vocabulary.{connect_error, terms_error, breaks, carried, without_first, Feeds, opens, hears, hears_next}
-use Rattle.osi_stack.proofs.Vocabulary.{hears_times, hears_all, with_events, with_carrier, attends, after_packet, ends, starves, loses}
-use Rattle.osi_stack.proofs.Vocabulary.{all_lost, Starves, Soundness, IsSound, to_session, IsOrdered, Line, End, Holding, IsAttended}
-use Rattle.osi_stack.proofs.Vocabulary.{fresh_end, used_lines, Connect, input_of, told_opened as opened, put_up}
 use Rattle.osi_stack.proofs.carried.events_one_after_the_other.{times_quiet}
 use Rattle.osi_stack.proofs.carried.packets_without_events.{both, packet_is}
 use Rattle.osi_stack.proofs.carried.open_connections_stay_open.{SessionLaws, first_is, rest_is, used_at, apart_push, joined_lines, put_some}
-use Rattle.osi_stack.proofs.opening.connections_that_units_open.{AwaitedBefore, awaited_put, opened_in, Rises, AreAwaited, OpensAlong}
-use Rattle.osi_stack.proofs.opening.connections_that_units_open.{along_units, along_end, along_over}
+use Rattle.osi_stack.proofs.opening.connections_that_units_open.{Comes, IsOf, IsGiven, all_still, OpensAlong, along_units, along_end}
+use Rattle.osi_stack.proofs.opening.connections_that_units_open.{along_over}
 use Rattle.osi_stack.proofs.each_line.references_rise.{rise_joins, rise_lost, rise_first, rise_session, rise_connect}
 use Rattle.osi_stack.proofs.sound.the_invariant_is_kept.{up_more, open_none, hale_kept, IsHale}
-use Rattle.osi_stack.proofs.carried.what_each_step_preserves.{Carries, session_carried, events_heard, concluded_end, broken_end}
+use Rattle.osi_stack.proofs.carried.what_each_step_preserves.{concluded_end, broken_end}
 use Rattle.osi_stack.proofs.stream.what_feeding_keeps.{IsKeptBeside, feeds_beside}
 use Rattle.osi_stack.proofs.carried.what_a_move_leaves.{used_keep, first_keep}
-
--- ---- what sessions leave of the carrier
-
-pub record Leaves (old new : Carrier) : Type 0 where
-  pub side : new.is_caller ≡ old.is_caller
-  pub awaited : AwaitedBefore old.live new.live
-
-pub closed_leaves : (r reason : ℕ) (o : Option (ℕ × Link)) (c : Carrier) → Leaves c (closed_on r reason o c)
-closed_leaves r reason o c = grind (arith, awaited_put)
-
-sessions_leave : (c : Carrier) → Carries (Leaves c)
-sessions_leave c = grind (arith, awaited_put, closed_leaves)
-
-session_leaves : (r : ℕ) (input : Input) (e : End) → Leaves e.carrier (to_session r input e).carrier
-session_leaves r input e = session_carried (Leaves e.carrier) (sessions_leave e.carrier) r input e (grind arith)
-
-times_leave : (n : ℕ) (e : End) → Leaves e.carrier (hears_times n e).carrier
-times_leave n e =
-    events_heard (λ x. Leaves e.carrier x.carrier) (λ events x l. record { side = l.side; awaited = l.awaited }) (record {
-      begins = λ r x none l. l;
-      moves = λ event x l. session_carried (Leaves e.carrier) (sessions_leave e.carrier) (told_of event) (input_of event) x l;
-    }) n e (grind arith)
+use Rattle.osi_stack.proofs.carried.what_sessions_leave_of_the_carrier.{times_leave, session_keeps}
 
 -- ---- a line that is there
 
@@ -59,37 +37,41 @@ has_first r ((p, y) ∷ lines) h = grind (arith, first_keep, has_cons, has_first
 
 -- ---- the events of a caller
 
-abbrev pub HaveLines : Rows Line → List ℕ → Type 0
-HaveLines lines [] = Unit {0}
-HaveLines lines (r ∷ more) = IsSome (value_at r lines) × HaveLines lines more
+-- a connection that is opened has a line
+abbrev pub HasLine : Rows Line → Happening → Type 0
+HasLine lines (opened r) = IsSome (value_at r lines)
+HasLine lines event = Unit {0}
 
-pub have_still : (old new : Rows Line) (l : List ℕ) → ((r : ℕ) → IsSome (value_at r old) → IsSome (value_at r new)) → HaveLines old l →
-    HaveLines new l
-have_still old new [] kept all = tt
-have_still old new (r ∷ more) kept all = (kept r all.0, have_still old new more kept all.1)
+abbrev pub HaveLines : Rows Line → List Happening → Type 0
+HaveLines lines events = AllByRecursion (HasLine lines) events
+
+pub have_still : (old new : Rows Line) → ((r : ℕ) → IsSome (value_at r old) → IsSome (value_at r new)) → (event : Happening) →
+    HasLine old event → HasLine new event
+have_still old new kept (opened r) has = kept r has
+have_still old new kept event has = tt
 
 pub record Heard (old new : End) : Type 0 where
   pub rise : RiseFrom 0 new.lines
   pub kept : (r : ℕ) → IsSome (value_at r old.lines) → IsSome (value_at r new.lines)
 
-pub one_heard : (event : Happening) (rest : List Happening) (e : End) → HaveLines e.lines (opened_in (event ∷ rest)) → RiseFrom 0 e.lines →
+pub one_heard : (event : Happening) (rest : List Happening) (e : End) → HaveLines e.lines (event ∷ rest) → RiseFrom 0 e.lines →
     Heard e (hears event e)
 one_heard (opened r) rest e all rise = grind (arith, put_some, rise_session)
 one_heard event rest e all rise = grind (arith, put_some, rise_session)
 
-times_heard : (n : ℕ) (l : List Happening) (e : End) → e.carrier.events ≡ l → HaveLines e.lines (opened_in l) → RiseFrom 0 e.lines →
+times_heard : (n : ℕ) (l : List Happening) (e : End) → e.carrier.events ≡ l → HaveLines e.lines l → RiseFrom 0 e.lines →
     Heard e (hears_times n e)
 times_heard zero l e h all rise = record { rise = rise; kept = λ r some. some }
-times_heard (suc n) [] e h all rise = subst (Heard e) (sym (times_quiet (suc n) e h)) (record { rise = rise; kept = λ r some. some })
+times_heard (suc n) [] e h all rise = grind (arith, times_quiet (suc n) e h)
 times_heard (suc n) (event ∷ rest) e h all rise =
-    let is = first_is event rest e h in
-    let one = one_heard event rest (with_events rest e) all rise in
-    let risen : RiseFrom 0 (hears_next e).lines = subst (λ (x : End). RiseFrom 0 x.lines) (sym is) one.rise in
-    let kept : (r : ℕ) → IsSome (value_at r e.lines) → IsSome (value_at r (hears_next e).lines) =
-    λ r some. subst (λ (x : End). IsSome (value_at r x.lines)) (sym is) (one.kept r some) in
-    let more = times_heard n rest (hears_next e) (rest_is event rest e h)
-    (have_still e.lines (hears_next e).lines (opened_in rest) kept (grind arith)) risen in
-    record { rise = more.rise; kept = λ r some. more.kept r (kept r some) }
+    search (
+      arith,
+      times_heard n rest (hears_next e) (rest_is event rest e h),
+      one_heard event rest (with_events rest e) all rise,
+      first_is event rest e h,
+      all_still,
+      have_still,
+    )
 
 -- ---- the events of a called end
 
@@ -115,29 +97,33 @@ opens_up n r (Some line) e above rise up = session_risen r r linked_up e rise (u
 -- one more event was handled, and the references up to `reached` had lines by then
 record HasRisen (event : Happening) (rest : List Happening) (e : End) (last : ℕ) : Type 0 where
   reached : ℕ
-  rises : Rises reached (opened_in rest) last
+  comes : Comes reached rest last
   heard : HeardUpTo reached (hears event e)
 
-one_risen : (event : Happening) (rest : List Happening) (e : End) (g h : ℕ) → Rises g (opened_in (event ∷ rest)) h → RiseFrom 0 e.lines →
+one_risen : (event : Happening) (rest : List Happening) (e : End) (g h : ℕ) → Comes g (event ∷ rest) h → RiseFrom 0 e.lines →
     AreUpTo g e.lines → HasRisen event rest e h
-one_risen (opened r) rest e g h rises rise up = search (arith, opens_up)
-one_risen event rest e g h rises rise up = record { reached = g; rises = rises; heard = session_risen g (told_of event) _ e rise up }
+one_risen (opened r) rest e g h comes rise up = search (arith, opens_up)
+one_risen event rest e g h comes rise up = record { reached = g; comes = comes.1; heard = session_risen g (told_of event) _ e rise up }
 
-times_up : (n : ℕ) (l : List Happening) (e : End) (g h : ℕ) → e.carrier.events ≡ l → Rises g (opened_in l) h → RiseFrom 0 e.lines →
+times_up : (n : ℕ) (l : List Happening) (e : End) (g h : ℕ) → e.carrier.events ≡ l → Comes g l h → RiseFrom 0 e.lines →
     AreUpTo g e.lines → RiseFrom 0 (hears_times n e).lines
-times_up zero l e g h is rises rise up = rise
-times_up (suc n) [] e g h is rises rise up = subst (λ (x : End). RiseFrom 0 x.lines) (sym (times_quiet (suc n) e is)) rise
-times_up (suc n) (event ∷ rest) e g h is rises rise up =
-    let one = one_risen event rest (with_events rest e) g h rises rise up in
-    let now = subst (HeardUpTo one.reached) (sym (first_is event rest e is)) one.heard in
-    times_up n rest (hears_next e) one.reached h (rest_is event rest e is) one.rises now.rise now.up
+times_up zero l e g h is comes rise up = rise
+times_up (suc n) [] e g h is comes rise up = grind (arith, times_quiet (suc n) e is)
+times_up (suc n) (event ∷ rest) e g h is comes rise up =
+    grind (
+      arith,
+      times_up n rest (hears_next e),
+      rest_is event rest e is,
+      one_risen event rest (with_events rest e) g h comes rise up,
+      first_is event rest e is,
+    )
 
 -- ---- events that are handled
 
--- of connections that awaited a CC
-pub awaited_lines : (e : End) (l : List ℕ) → IsOrdered e → AreAwaited e.carrier.live l → HaveLines e.lines l
-awaited_lines e [] o all = tt
-awaited_lines e (r ∷ more) o all = ((o.awaiting r all.0).1, awaited_lines e more o all.1)
+pub awaited_lines : (e : End) (l : List Happening) → IsOrdered e → AllByRecursion (IsOf e.carrier) l →
+    AllByRecursion (IsGiven e.carrier.given) l → HaveLines e.lines l
+awaited_lines e [] o of given = tt
+awaited_lines e (event ∷ more) o of given = (grind arith, awaited_lines e more o of.1 given.1)
 
 heard_by : (b : Bool) (n : ℕ) (e : End) (c : Carrier) → e.carrier.is_caller ≡ b → e.carrier.events ≡ [] → AreUpTo e.carrier.given e.lines →
     IsOrdered e → OpensAlong e.carrier c →
@@ -145,9 +131,10 @@ heard_by : (b : Bool) (n : ℕ) (e : End) (c : Carrier) → e.carrier.is_caller 
 heard_by true n e c caller none known o a =
     let mid = with_carrier c e in
     let events : c.events ≡ a.told = a.events ∙ ap (λ (l : List Happening). l ++ a.told) none in
-    let heard = times_heard n a.told mid events (awaited_lines e (opened_in a.told) o (a.caller caller)) o.rise in
-    grind (arith, times_leave)
-heard_by false n e c is_called none known o a = grind (arith, both, times_up, times_leave)
+    let heard = times_heard n a.told mid events (awaited_lines e a.told o a.about (a.known caller).1) o.rise in
+    let left = times_leave n mid in
+    grind (arith, left.side, left.awaited)
+heard_by false n e c is_called none known o a = grind (arith, both, times_up, times_leave n (with_carrier c e))
 
 heard_ordered : (n : ℕ) (e : End) (c : Carrier) → e.carrier.events ≡ [] → AreUpTo e.carrier.given e.lines → IsOrdered e →
     OpensAlong e.carrier c → IsOrdered (hears_times n (with_carrier c e))
@@ -219,7 +206,7 @@ connect_ordered c e allowed sound o =
     }
 
 pub call_ordered : (r : ℕ) (input : Input) (e : End) → IsOrdered e → IsOrdered (to_session r input e)
-call_ordered r input e o = grind (arith, put_some, rise_session, session_leaves r input e)
+call_ordered r input e o = grind (arith, put_some, rise_session, session_keeps r input e)
 
 pub first_ordered : (e : End) → IsOrdered e → IsOrdered (record e { lines = without_first e.lines })
 first_ordered e o = grind (arith, rise_first, has_first)

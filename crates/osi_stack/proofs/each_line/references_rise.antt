@@ -3,7 +3,7 @@ use Rattle.std.proofs.Common.{◌≡◌, ℕ, ◌+◌, ◌<◌, zero, suc, take,
 use Rattle.osi_stack.proofs.Vocabulary.{Value, tsap_octets, asks, RiseFrom, AreUpTo, Rows, Connection, rise_lower, put_rise, Input}
 use Rattle.osi_stack.proofs.Vocabulary.{Listener, awaits, calls_with, connects, breaks, without_first, all_lost, Soundness, Effect, begins}
 use Rattle.osi_stack.proofs.Vocabulary.{happens, rests, Hears, Arrives, told_all, to_session, Line, End, used_lines, joins, Connect}
-use Rattle.osi_stack.proofs.carried.what_each_step_preserves.{concluded_end, broken_end}
+use Rattle.osi_stack.proofs.carried.what_each_step_preserves.{concluded_end}
 use Rattle.osi_stack.proofs.carried.what_a_move_leaves.{used_keep, first_keep}
 
 -- ---- rows
@@ -50,7 +50,7 @@ rise_connect c e sound rise =
     sound.known rise
 
 pub rise_breaks : (e : End) → RiseFrom 0 e.lines → RiseFrom 0 (breaks e).lines
-rise_breaks e rise = broken_end (λ x. RiseFrom 0 x.lines) (λ x rise. rise_lost 0 x.lines rise) e rise
+rise_breaks e rise = grind (arith, rise_lost)
 
 rise_hears : (r : ℕ) (effect : Effect) (e new : End) → Hears r effect e new → (g : ℕ) → AreUpTo g e.lines → (effect ≡ begins → g < r) →
     RiseFrom 0 e.lines → RiseFrom 0 new.lines

@@ -1,7 +1,7 @@
 -- The first connection for which an indication is pending.
 use Rattle.osi_stack.proofs.Vocabulary.{position, position_or_len, common_steps, Rows, Shown, shown_by, Indication, first_by, first_shown}
-use Rattle.osi_stack.proofs.Vocabulary.{rest_by, without_first, TellsOf, Line, line_waits, waits, ◌≡◌, ℕ, ◌<◌, ◌≤◌, ◌==◌, Bool, zero, suc}
-use Rattle.osi_stack.proofs.Vocabulary.{true, false, not, List, [], ◌∷◌, length, map, get_or, set, Some, None, refl, sym, ap, ◌∙◌, arith}
+use Rattle.osi_stack.proofs.Vocabulary.{rest_by, without_first, TellsOf, Line, line_waits, waits, ◌≡◌, ℕ, ◌<◌, ◌≤◌, ◌==◌, zero, suc, true}
+use Rattle.osi_stack.proofs.Vocabulary.{false, not, List, [], ◌∷◌, length, map, get_or, set, Some, None, refl, ap, ◌∙◌, arith}
 use Rattle.osi_stack.proofs.Vocabulary.{position-Some}
 use Rattle.osi_stack.proofs.carried.events_one_after_the_other.{no_events}
 use Rattle.osi_stack.proofs.carried.packets_without_events.{or_first, or_second}
@@ -15,17 +15,9 @@ pub record IsNone (rows : Rows Line) : Type 0 where
   pub shown : first_shown rows ≡ None
   pub rest : without_first rows ≡ rows
 
-none_cons : (r : ℕ) (l : Line) (rows : Rows Line) → l.waiting ≡ [] → IsNone rows → IsNone ((r, l) ∷ rows)
-none_cons r l rows e more = search
-
-none_by : (r : ℕ) (l : Line) (rows : Rows Line) (b : Bool) → line_waits l ≡ b →
-    (length rows ≤ position_or_len (λ row. line_waits row.1) rows → IsNone rows) →
-    length ((r, l) ∷ rows) ≤ position_or_len (λ row. line_waits row.1) ((r, l) ∷ rows) → IsNone ((r, l) ∷ rows)
-none_by r l rows b t more h = grind arith
-
 none_at : (rows : Rows Line) → length rows ≤ position_or_len (λ row. line_waits row.1) rows → IsNone rows
 none_at [] h = record { shown = refl; rest = refl }
-none_at ((r, l) ∷ rows) h = none_by r l rows (line_waits l) refl (none_at rows) h
+none_at ((r, l) ∷ rows) h = grind (arith, none_at rows)
 
 pub none_waits : (rows : Rows Line) → position (λ row. line_waits row.1) rows ≡ None → IsNone rows
 none_waits rows e = none_at rows (grind (arith, common_steps))
@@ -33,7 +25,7 @@ none_waits rows e = none_at rows (grind (arith, common_steps))
 pub quiet_none : (rows : Rows Line) → waits rows ≡ false → IsNone rows
 quiet_none [] h = record { shown = refl; rest = refl }
 quiet_none ((r, l) ∷ rows) h =
-    none_cons r l rows (quiet_line l (or_first (line_waits l) (waits rows) h)) (quiet_none rows (or_second (line_waits l) (waits rows) h))
+    grind (arith, quiet_line l (or_first (line_waits l) (waits rows) h), quiet_none rows (or_second (line_waits l) (waits rows) h))
 
 -- ---- the first pending indication
 
@@ -83,9 +75,4 @@ pub record IsTold (rows items : Rows Line) (i : ℕ) (row new : ℕ × Line) (sh
 
 pub told_first : (rows items : Rows Line) (i : ℕ) (row new : ℕ × Line) (shown : Shown) → position (λ row. line_waits row.1) rows ≡ Some i →
     row ≡ get_or rows i row → items ≡ rows → TellsOf (Some shown) row new → IsTold rows items i row new shown
-told_first rows items i row new shown e here same h =
-    let p = first_is rows i row e in
-    let waiting : (get_or rows i row).1.waiting ≡ shown ∷ new.1.waiting = ap (λ (x : ℕ × Line). x.1.waiting) (sym here ∙ h) in
-    let left : ((get_or rows i row).0, record (get_or rows i row).1 { waiting = new.1.waiting }) ≡ new =
-    ap (λ (x : ℕ × Line). (x.0, record x.1 { waiting = new.1.waiting })) (sym here ∙ h) in
-    grind (arith, set)
+told_first rows items i row new shown e here same h = let p = first_is rows i row e in grind (arith, p.rest shown new.1.waiting, set)

@@ -2,8 +2,8 @@
 use Rattle.std.proofs.Common.{arith, ◌≡◌, ℕ, Bool, true, get_or, set, Option, Some, None, Result, OnOk, IfErr, refl, sym, ap}
 pub use Rattle.osi_carrier.proofs.references.the_row_at_a_place.{nowhere}
 use Rattle.osi_stack.proofs.Vocabulary.{placed, here_is, Carrying, RiseFrom, Rows, value_at, place_of, State as Carrier, Call, Input}
-use Rattle.osi_stack.proofs.Vocabulary.{CallError, session_refusal, session_error, Refuses, line_by, carrier_by, by_line, to_session, Line}
-use Rattle.osi_stack.proofs.Vocabulary.{End, session_in}
+use Rattle.osi_stack.proofs.Vocabulary.{Listener, CallError, session_refusal, session_error, Refuses, line_by, carrier_by, by_line}
+use Rattle.osi_stack.proofs.Vocabulary.{to_session, Line, End, session_in}
 
 -- what a search in rows that rise, if they are said to, has found among the lines
 pub found : (r : ℕ) (rises : Bool) (o : Option ℕ) (slice items rows : Rows Line) → slice ≡ items → items ≡ rows →
@@ -32,16 +32,16 @@ pub session_here : (r : ℕ) (rows : Rows Line) (i : ℕ) (row : ℕ × Line) �
     row.1.session ≡ session_in (value_at r rows)
 session_here r rows i row e here = sym (ap session_in (here_is r rows rows i row e here refl))
 
-pub allowed_at : {A E : Type 0} (result : Result A E) (r : ℕ) (rows : Rows Line) (i : ℕ) (row : ℕ × Line) (call : Call) (c : Carrier) →
-    place_of r rows ≡ Some i →
-    row ≡ get_or rows i row → OnOk result (session_refusal row.0 row.1.session call c ≡ None) →
-    OnOk result (session_refusal r (session_in (value_at r rows)) call c ≡ None)
-allowed_at result r rows i row call c e here h = grind (arith, placed, here_is)
+-- by the parts of the line
+pub allowed_at : {A E : Type 0} (result : Result A E) (r q : ℕ) (rows : Rows Line) (i : ℕ) (row : ℕ × Line) (line : Line) (s : Listener)
+    (call : Call) (c : Carrier) → place_of r rows ≡ Some i → row ≡ get_or rows i row → (q, line) ≡ row → line.session ≡ Some s →
+    OnOk result (session_refusal q (Some s) call c ≡ None) → OnOk result (session_refusal r (session_in (value_at r rows)) call c ≡ None)
+allowed_at result r q rows i row line s call c e here is held h = grind (arith, placed, session_here)
 
-pub refused_at : {A : Type 0} (result : Result A CallError) (r : ℕ) (rows : Rows Line) (i : ℕ) (row : ℕ × Line) (call : Call)
-    (c : Carrier) → place_of r rows ≡ Some i →
-    row ≡ get_or rows i row →
-    IfErr result (λ e. Refuses e (session_error row.1.session call) (session_refusal row.0 row.1.session call c)) →
+pub refused_at : {A : Type 0} (result : Result A CallError) (r q : ℕ) (rows : Rows Line) (i : ℕ) (row : ℕ × Line) (line : Line)
+    (s : Listener) (call : Call) (c : Carrier) → place_of r rows ≡ Some i → row ≡ get_or rows i row → (q, line) ≡ row →
+    line.session ≡ Some s →
+    IfErr result (λ e. Refuses e (session_error (Some s) call) (session_refusal q (Some s) call c)) →
     IfErr result (λ e. Refuses e (session_error (session_in (value_at r rows)) call)
     (session_refusal r (session_in (value_at r rows)) call c))
-refused_at result r rows i row call c e here h = grind (arith, placed, here_is, session_here)
+refused_at result r q rows i row line s call c e here is held h = grind (arith, placed, session_here)

@@ -1,5 +1,5 @@
 -- What holds of each line of an end stays so, whatever is called and fed.
-use Rattle.std.proofs.Common.{◌≡◌, ℕ, ◌+◌, ◌==◌, Bool, List, ◌∷◌, ◌++◌, length, Some, refl, inl, inr, [], arith}
+use Rattle.std.proofs.Common.{◌≡◌, ℕ, ◌+◌, List, ◌∷◌, ◌++◌, length, Some, inl, inr, [], arith}
 use Rattle.osi_carrier.specs.Happenings as told
 use Rattle.osi_carrier.specs.Packets as carriers
 use Rattle.osi_stack.proofs.Vocabulary.{Fed, Happening, Rows, value_at, put, Connection, Input, opened, refused, broken, came, awaits}
@@ -24,22 +24,13 @@ pub record LinesStay (Q : Line → Type 0) : Type 0 where
 
 -- ---- lines
 
-at_by : (Q : Line → Type 0) (r q : ℕ) (line y : Line) (lines : Rows Line) (b : Bool) → (q == r) ≡ b → Q y →
-    (value_at r lines ≡ Some line → Q line) →
-    value_at r ((q, y) ∷ lines) ≡ Some line → Q line
-at_by Q r q line y lines b e here more h = grind arith
-
 pub line_at : (Q : Line → Type 0) (r : ℕ) (line : Line) (lines : Rows Line) → OfLines Q lines → value_at r lines ≡ Some line → Q line
 line_at Q r line [] all h = cc
-line_at Q r line ((q, y) ∷ lines) all h = at_by Q r q line y lines (q == r) refl all.0 (line_at Q r line lines all.1) h
-
-put_by : (Q : Line → Type 0) (r q : ℕ) (x y : Line) (lines : Rows Line) (b : Bool) → (q == r) ≡ b → Q x → Q y → OfLines Q lines →
-    OfLines Q (put r x lines) → OfLines Q (put r x ((q, y) ∷ lines))
-put_by Q r q x y lines b e new old all more = grind arith
+line_at Q r line ((q, y) ∷ lines) all h = grind (arith, line_at Q r line lines all.1)
 
 pub put_lines : (Q : Line → Type 0) (r : ℕ) (x : Line) (lines : Rows Line) → Q x → OfLines Q lines → OfLines Q (put r x lines)
 put_lines Q r x [] new all = tt
-put_lines Q r x ((q, y) ∷ lines) new all = put_by Q r q x y lines (q == r) refl new all.0 all.1 (put_lines Q r x lines new all.1)
+put_lines Q r x ((q, y) ∷ lines) new all = grind (arith, put_lines Q r x lines new all.1)
 
 -- after one more
 more_lines : (Q : Line → Type 0) (live : Rows Connection) (lines : Rows Line) (row : ℕ × Line) → Q row.1 → OfLines Q lines →

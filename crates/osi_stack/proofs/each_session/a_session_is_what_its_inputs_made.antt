@@ -1,17 +1,16 @@
 -- Each session of an end is what its own inputs made of what it began as.
 use Rattle.osi_stack.proofs.Vocabulary.{eqb-true, eq-eqb, append-nil, AllByRecursion, fresh, IsPartial, ArePackets, Fed, tsap_octets, Local}
 use Rattle.osi_stack.proofs.Vocabulary.{beyond, push_here, push_other, OneCut, asks, Happening, told_of, RiseFrom, Rows, value_at}
-use Rattle.osi_stack.proofs.Vocabulary.{Connection, State as Carrier, Broken, Call as SessionCall, Input, Listener, called}
-use Rattle.osi_stack.proofs.Vocabulary.{opened as linked_up, react, after_inputs, awaits, calls_with, connects, call_error, TakesPackets}
-use Rattle.osi_stack.proofs.Vocabulary.{Goes, Feeds, opens, hears, hears_next, hears_times, with_events, with_carrier, after_packet, ends}
-use Rattle.osi_stack.proofs.Vocabulary.{input_of, inputs_told, Past, no_past, then_came, inputs_of, made_at, AreMadeBy, told_along}
-use Rattle.osi_stack.proofs.Vocabulary.{past_called, IsAccepted, serving, using, Steps, StepsAlong, AreApart, Soundness, IsSound, kept_at}
-use Rattle.osi_stack.proofs.Vocabulary.{to_session, IsOrdered, UserCall, user_does, connecting, calling, disconnecting, breaking}
-use Rattle.osi_stack.proofs.Vocabulary.{disconnect_error, disconnects, put_here, put_other, by_line, Calls, used_in, feeding, telling}
-use Rattle.osi_stack.proofs.Vocabulary.{carrying, Line, End, Holding, IsAttended, fresh_end, used_lines, joins, waits, fresh_line, Connect}
-use Rattle.osi_stack.proofs.Vocabulary.{told_opened as opened, EndCall as Call, ◌≡◌, ◌≢◌, ℕ, ◌+◌, ◌<◌, ◌≤◌, ◌==◌, Bool, true, List, ◌∷◌}
-use Rattle.osi_stack.proofs.Vocabulary.{◌++◌, length, take, Option, Some, None, is_some, IsSome, refl, sym, ap, subst, ◌∙◌, inl, inr, ◌⊎◌}
-use Rattle.osi_stack.proofs.Vocabulary.{arith, append_assoc, option_map, if◌then◌else◌, [], gives_up_by}
+use Rattle.osi_stack.proofs.Vocabulary.{Connection, State as Carrier, Call as SessionCall, Input, Listener, called, opened as linked_up}
+use Rattle.osi_stack.proofs.Vocabulary.{react, after_inputs, awaits, calls_with, connects, call_error, TakesPackets, Goes, opens, hears}
+use Rattle.osi_stack.proofs.Vocabulary.{hears_next, hears_times, with_events, with_carrier, after_packet, input_of, inputs_told, Past}
+use Rattle.osi_stack.proofs.Vocabulary.{no_past, then_came, inputs_of, made_at, AreMadeBy, told_along, past_called, IsAccepted, serving}
+use Rattle.osi_stack.proofs.Vocabulary.{using, Steps, StepsAlong, AreApart, Soundness, IsSound, kept_at, to_session, IsOrdered, UserCall}
+use Rattle.osi_stack.proofs.Vocabulary.{user_does, connecting, calling, disconnecting, breaking, disconnect_error, disconnects, put_here}
+use Rattle.osi_stack.proofs.Vocabulary.{put_other, by_line, Calls, used_in, feeding, telling, carrying, Line, End, Holding, IsAttended}
+use Rattle.osi_stack.proofs.Vocabulary.{fresh_end, used_lines, joins, waits, fresh_line, Connect, told_opened as opened, EndCall as Call}
+use Rattle.osi_stack.proofs.Vocabulary.{◌≡◌, ◌≢◌, ℕ, ◌+◌, ◌<◌, ◌≤◌, ◌==◌, Bool, List, ◌∷◌, ◌++◌, length, take, Option, Some, None, is_some}
+use Rattle.osi_stack.proofs.Vocabulary.{IsSome, refl, sym, ap, subst, ◌∙◌, inl, inr, ◌⊎◌, arith, append_assoc, option_map, [], gives_up_by}
 use Rattle.osi_carrier.specs.Packets as carriers
 use Rattle.osi_session.specs.Listening.{broken as linked_down}
 use Rattle.osi_stack.specs.Inputs.{Step}
@@ -23,24 +22,20 @@ use Rattle.osi_stack.proofs.carried.packets_without_events.{both, packet_is, las
 use Rattle.osi_stack.proofs.carried.open_connections_stay_open.{SessionLaws, session_hears, hears_apart, used_at, apart_push, joined_lines}
 use Rattle.osi_stack.proofs.carried.open_connections_stay_open.{first_is, rest_is, Stays}
 use Rattle.osi_stack.proofs.carried.what_a_move_leaves.{kept_first, says_is}
-use Rattle.osi_stack.proofs.opening.connections_that_units_open.{opened_in, IsGiven, Comes, OpensAlong}
-use Rattle.osi_stack.proofs.each_line.lines_stay_in_order.{HaveLines, have_still, one_heard, awaited_lines, packet_along, packet_ordered}
-use Rattle.osi_stack.proofs.each_line.lines_stay_in_order.{connect_ordered, call_ordered, feeds_ordered, first_ordered, fresh_ordered}
-use Rattle.osi_stack.proofs.stream.an_end_is_what_its_packets_make.{call_lasts, reads_dry, reads_stopped, ReadsOne, none_ended}
+use Rattle.osi_stack.proofs.opening.connections_that_units_open.{IsGiven, Comes, OpensAlong, all_still}
+use Rattle.osi_stack.proofs.each_line.lines_stay_in_order.{HasLine, HaveLines, have_still, one_heard, awaited_lines, packet_along}
+use Rattle.osi_stack.proofs.each_line.lines_stay_in_order.{packet_ordered, connect_ordered, call_ordered, feeds_ordered, first_ordered}
+use Rattle.osi_stack.proofs.each_line.lines_stay_in_order.{fresh_ordered}
+use Rattle.osi_stack.proofs.stream.an_end_is_what_its_packets_make.{call_lasts, reads_dry, reads_stopped, none_ended}
 use Rattle.osi_stack.proofs.sound.the_invariant_is_kept.{concludes_lasting, packet_sound, connect_sound, call_sound, feeds_sound}
 use Rattle.osi_stack.proofs.sound.the_invariant_is_kept.{first_sound, fresh_sound, closed_given}
-use Rattle.osi_stack.proofs.carried.what_each_step_preserves.{Carries, session_carried, events_heard}
+use Rattle.osi_stack.proofs.carried.what_sessions_leave_of_the_carrier.{times_leave, session_keeps}
 
 -- ---- inputs
 
-inputs_by : (r q : ℕ) (input : Input) (l m : List (ℕ × Input)) (b : Bool) → (q == r) ≡ b →
-    inputs_of r (l ++ m) ≡ inputs_of r l ++ inputs_of r m →
-    inputs_of r (((q, input) ∷ l) ++ m) ≡ inputs_of r ((q, input) ∷ l) ++ inputs_of r m
-inputs_by r q input l m b e more = grind arith
-
 inputs_more : (r : ℕ) (l m : List (ℕ × Input)) → inputs_of r (l ++ m) ≡ inputs_of r l ++ inputs_of r m
 inputs_more r [] m = refl
-inputs_more r ((q, input) ∷ l) m = inputs_by r q input l m (q == r) refl (inputs_more r l m)
+inputs_more r ((q, input) ∷ l) m = grind (arith, inputs_more r l m)
 
 after_more : (s : Listener) (l m : List Input) → after_inputs s (l ++ m) ≡ after_inputs (after_inputs s l) m
 after_more s [] m = refl
@@ -62,10 +57,7 @@ unheard_more g q input past none r above ne = grind (arith, inputs_more)
 session_made : (q : ℕ) (input : Input) (e : End) (past : Past) →
     ((r : ℕ) (s : Listener) → kept_at r e.lines ≡ Some s → s ≡ made_at r past) →
     (r : ℕ) (s : Listener) → kept_at r (to_session q input e).lines ≡ Some s → s ≡ made_at r (then_came ((q, input) ∷ []) past)
-session_made q input e past made r s is = elim (session_hears q input e) [
-  | inl m ↦ grind (arith, eqb-true, both, eq-eqb, inputs_more, after_more)
-  | inr m ↦ grind (arith, eqb-true, inputs_more, after_more)
-]
+session_made q input e past made r s is = grind (arith, session_hears q input e, eqb-true, both, eq-eqb, inputs_more, after_more)
 
 -- a session of a reference that was given
 given_known : (g q : ℕ) (input : Input) (e : End) (past : Past) → q ≤ g → IsKnown g past e.lines →
@@ -121,18 +113,18 @@ line_known g q o e past here some up k = grind (arith, given_known)
 
 next_known : (g : ℕ) (event : Happening) (rest : List Happening) (e : End) (past : Past) → e.carrier.events ≡ event ∷ rest →
     IsKnown g past (hears event (with_events rest e)).lines → IsKnown g past (hears_next e).lines
-next_known g event rest e past is k = subst (λ (x : End). IsKnown g past x.lines) (sym (first_is event rest e is)) k
+next_known g event rest e past is k = grind (arith, first_is event rest e is)
 
 behind_known : (g : ℕ) (event : ℕ × Input) (more : List (ℕ × Input)) (past : Past) (lines : Rows Line) →
     IsKnown g (then_came more (then_came (event ∷ []) past)) lines →
     IsKnown g (then_came (event ∷ more) past) lines
-behind_known g event more past lines k = subst (λ (p : Past). IsKnown g p lines) (grind (arith, append_assoc)) k
+behind_known g event more past lines k = grind (arith, append_assoc)
 
 none_known : (g : ℕ) (past : Past) (lines : Rows Line) → IsKnown g past lines → IsKnown g (then_came [] past) lines
 none_known g past lines k = grind (arith, append-nil)
 
 times_caller : (g : ℕ) (l : List Happening) (e : End) (past : Past) → e.carrier.events ≡ l → AllByRecursion (IsGiven g) l →
-    HaveLines e.lines (opened_in l) → RiseFrom 0 e.lines →
+    HaveLines e.lines l → RiseFrom 0 e.lines →
     IsKnown g past e.lines → IsKnown g (then_came (inputs_told l) past) (hears_times (length l) e).lines
 times_caller g [] e past is up all rise k = none_known g past e.lines k
 times_caller g (event ∷ rest) e past is up all rise k =
@@ -145,7 +137,7 @@ times_caller g (event ∷ rest) e past is up all rise k =
     let now = next_known g event rest e (then_came (entry ∷ []) past) is (grind (arith, line_known, given_known)) in
     behind_known g entry (inputs_told rest) past (hears_times (length rest) (hears_next e)).lines
     (times_caller g rest (hears_next e) (then_came (entry ∷ []) past) (rest_is event rest e is) up.1
-    (have_still e.lines (hears_next e).lines (opened_in rest) kept (grind arith)) risen now)
+    (all_still (HasLine e.lines) (HasLine (hears_next e).lines) rest (have_still e.lines (hears_next e).lines kept) all.1) risen now)
 
 next_apart : (event : Happening) (rest : List Happening) (e : End) → e.carrier.events ≡ event ∷ rest → AreApart e.lines →
     AreApart (hears_next e).lines
@@ -154,7 +146,7 @@ next_apart event rest e is apart = grind (arith, first_is, hears_apart)
 times_called : (g h : ℕ) (l : List Happening) (e : End) (past : Past) → e.carrier.events ≡ l → Comes g l h → AreApart e.lines →
     IsKnown g past e.lines →
     IsKnown h (then_came (inputs_told l) past) (hears_times (length l) e).lines
-times_called g h [] e past is comes apart k = subst (λ n. IsKnown n (then_came [] past) e.lines) (sym comes) (none_known g past e.lines k)
+times_called g h [] e past is comes apart k = grind (arith, none_known)
 times_called g h (opened r ∷ rest) e past is comes apart k =
     behind_known h _ (inputs_told rest) past _
     (times_called r h rest (hears_next e) _ (rest_is (opened r) rest e is) comes.1 (next_apart (opened r) rest e is apart)
@@ -168,19 +160,7 @@ heard_by : (b : Bool) (e : End) (c : Carrier) (past : Past) → e.carrier.is_cal
     OpensAlong e.carrier c →
     IsKnown e.carrier.given past e.lines →
     IsKnown c.given (then_came (inputs_told c.events) past) (hears_times (length c.events) (with_carrier c e)).lines
-heard_by b e c past side none s o a k = grind (arith, times_caller, awaited_lines, opened_in, both, times_called)
-
--- ---- the references that were given stay
-
-session_given : (c : Carrier) → Carries (λ x. x.given ≡ c.given)
-session_given c = grind arith
-
-times_given : (n : ℕ) (e : End) → (hears_times n e).carrier.given ≡ e.carrier.given
-times_given n e =
-    events_heard (λ x. x.carrier.given ≡ e.carrier.given) (λ events x same. same) (record {
-      begins = λ r x none same. same;
-      moves = grind (arith, session_carried, session_given e.carrier);
-    }) n e refl
+heard_by b e c past side none s o a k = grind (arith, times_caller, awaited_lines, both, times_called)
 
 -- ---- packets
 
@@ -189,7 +169,9 @@ packet_made : (packet : List ℕ) (e : End) (past : Past) → e.carrier.events �
     IsKnown (after_packet e packet).carrier.given (then_came (inputs_told (carriers.after_packet e.carrier packet).events) past)
     (after_packet e packet).lines
 packet_made packet e past none s o over k =
-    grind (arith, packet_is, concluded_carrier, concludes_lasting, times_given, heard_by, packet_along)
+    let c = carriers.after_packet e.carrier packet in
+    let given = (times_leave (length c.events) (with_carrier c e)).given in
+    grind (arith, packet_is, concluded_carrier, concludes_lasting, given, heard_by, packet_along)
 
 takes_last : (units : List (List ℕ)) (e new : End) → TakesPackets e units new → new.carrier.ended ≡ None → e.carrier.ended ≡ None
 takes_last [] e new h lasts = ap (λ (x : End). x.carrier.ended) (sym h) ∙ lasts
@@ -224,19 +206,14 @@ record Served (old : Holding) (call : Call) (new : Holding) : Type 0 where
   known : (past : Past) → IsKnown old.end.carrier.given past old.end.lines →
       IsKnown new.end.carrier.given (then_came (told_along old.end packets) past) new.end.lines
 
-served_by : SessionLaws → (old : Holding) (call : Call) (new : Holding) (one : ReadsOne old call new) →
-    TakesPackets old.end one.packets new.end → IsSane old.end → new.end.carrier.ended ≡ None →
-    Served old call new
-served_by laws old call new one taken s over = search (arith, packets_made)
-
 served_goes : SessionLaws → IsPartial [] → (old : Holding) (piece : List ℕ) (fed : Fed) (new : Holding) → Goes old piece fed.used new →
     IsSane old.end → new.end.carrier.ended ≡ None →
     Served old (feeding piece fed) new
 unfolding reads_dry reads_stopped
 served_goes laws nothing old piece fed new (inl (inl dry)) s lasts =
-    served_by laws old (feeding piece fed) new (reads_dry old piece fed new dry) dry.taken s lasts
+    search (arith, packets_made, feeding piece fed, reads_dry old piece fed new dry, dry.taken)
 served_goes laws nothing old piece fed new (inl (inr stop)) s lasts =
-    served_by laws old (feeding piece fed) new (reads_stopped nothing old piece fed new stop lasts) stop.taken s lasts
+    search (arith, packets_made, feeding piece fed, reads_stopped nothing old piece fed new stop lasts, stop.taken)
 served_goes laws nothing old piece fed new (inr (inl fault)) s lasts = grind (arith, never)
 served_goes laws nothing old piece fed new (inr (inr starved)) s lasts = never new.end (none_ended old piece fed.used new starved) lasts
 
@@ -251,15 +228,10 @@ served_still old call new none held given same = record {
   known = λ past k. none_known new.end.carrier.given past new.end.lines (grind arith);
 }
 
-served_feed : SessionLaws → IsPartial [] → (old : Holding) (piece : List ℕ) (fed : Fed) (new : Holding) (waiting : Bool) →
-    waits old.end.lines ≡ waiting → old.end.carrier.ended ≡ None →
-    Feeds old piece fed new → IsSane old.end → new.end.carrier.ended ≡ None → Served old (feeding piece fed) new
-served_feed laws nothing old piece fed new waiting e quiet h s lasts =
-    search (arith, served_still, feeding, take, kept_at, served_goes, is_some, waits)
-
 served : SessionLaws → IsPartial [] → (old : Holding) (call : Call) (new : Holding) → Calls old call new → IsSane old.end →
     new.end.carrier.ended ≡ None → Served old call new
-served laws nothing old (feeding piece fed) new h s lasts = grind (arith, served_feed, call_lasts old (feeding piece fed) new h lasts)
+served laws nothing old (feeding piece fed) new h s lasts =
+    grind (arith, served_still, feeding, take, kept_at, served_goes, is_some, waits, call_lasts old (feeding piece fed) new h lasts)
 served laws nothing old (telling shown) new h s lasts = grind (arith, served_still, kept_first)
 served laws nothing old (carrying octets) new h s lasts = grind (arith, served_still)
 
@@ -295,7 +267,7 @@ connect_known c e past s k =
 call_known : (r : ℕ) (call : SessionCall) (e : End) (past : Past) → call_error r call e ≡ None → Soundness e →
     IsKnown e.carrier.given past e.lines →
     IsKnown (to_session r (called call) e).carrier.given (past_called (calling r call) e past) (to_session r (called call) e).lines
-call_known r call e past allowed s k = search (arith, session_carried, given_known, says_is r call e allowed, session_given e.carrier)
+call_known r call e past allowed s k = search (arith, given_known, says_is r call e allowed, (session_keeps r (called call) e).leaves.given)
 
 given_same : (r : ℕ) (e : End) (o : Option Line) → value_at r e.lines ≡ o → (q : ℕ) →
     kept_at q (gives_up_by r o e.lines) ≡ kept_at q (by_line r o linked_down e).lines
@@ -313,9 +285,6 @@ record IsRun (h : Holding) (past : Past) : Type 0 where
   partial : IsPartial h.held.octets
   known : IsKnown h.end.carrier.given past h.end.lines
 
-abbrev broken_by : Bool → End → End
-broken_by over e = if over then e else ends Broken e
-
 used_run : SessionLaws → (call : UserCall) (old : Holding) (before : Past) → old.end.carrier.ended ≡ None → IsAccepted call old.end →
     (user_does call old.end).carrier.ended ≡ None →
     IsRun old before → IsRun (record old { end = user_does call old.end }) (past_called call old.end before)
@@ -331,10 +300,7 @@ step_run : SessionLaws → IsPartial [] → OneCut → (step : Step) (old new : 
     IsRun old before → IsRun new behind
 step_run laws nothing one_cut (serving call packets) old new before behind h lasts run =
     grind (arith, served laws nothing old call new h.0 run.sane lasts, sane_served laws old call new h.0 run.sane)
-step_run laws nothing one_cut (using call) old new before behind h lasts run =
-    subst (λ (x : Holding). IsRun x behind) (sym h.2)
-    (subst (λ (p : Past). IsRun (record old { end = user_does call old.end }) p) (sym h.3)
-    (used_run laws call old before h.0 h.1 (ap (λ (x : Holding). x.end.carrier.ended) (sym h.2) ∙ lasts) run))
+step_run laws nothing one_cut (using call) old new before behind h lasts run = grind (arith, used_run laws call old before h.0 h.1)
 
 steps_last : (steps : List Step) (old new : Holding) (before behind : Past) → StepsAlong old before steps new behind →
     new.end.carrier.ended ≡ None → old.end.carrier.ended ≡ None
@@ -346,8 +312,12 @@ steps_run : SessionLaws → IsPartial [] → OneCut → (steps : List Step) (old
     IsRun old before → IsRun new behind
 steps_run laws nothing one_cut [] old new before behind h lasts run = grind arith
 steps_run laws nothing one_cut (step ∷ steps) old new before behind h lasts run =
-    steps_run laws nothing one_cut steps h.0 new h.1 behind h.3 lasts
-    (step_run laws nothing one_cut step old h.0 before h.1 h.2 (steps_last steps h.0 new h.1 behind h.3 lasts) run)
+    search (
+      arith,
+      steps_run laws nothing one_cut steps h.0 new h.1 behind h.3 lasts,
+      step_run laws nothing one_cut step old h.0 before h.1 h.2,
+      steps_last steps h.0 new h.1 behind h.3 lasts,
+    )
 
 pub made_along : SessionLaws → IsPartial [] → OneCut →
     (is_caller : Bool) (local : Local) (steps : List Step) (new : Holding) (past : Past) →

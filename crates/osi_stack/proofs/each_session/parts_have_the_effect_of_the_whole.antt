@@ -1,19 +1,15 @@
 -- The parts of one Data have on an end the effect of the whole, whatever calls come between.
 use Rattle.osi_stack.proofs.Vocabulary.{append-nil, Rows, value_at, put, State as Carrier, put_here, put_same, part_octets, Input, Listener}
-use Rattle.osi_stack.proofs.Vocabulary.{Move, called, came, react, after_inputs, Act, comes, calls, act_in_octets, calls_in, IsSilent}
-use Rattle.osi_stack.proofs.Vocabulary.{AreSilent, Shown, limit_of, kept_at, limit_for, answers, line_by, by_line, to_session, Selectors}
-use Rattle.osi_stack.proofs.Vocabulary.{selectors_told, shows_connect, Line, End, session_in, ◌≡◌, ℕ, ◌==◌, Bool, List, [], ◌∷◌, ◌++◌, map}
-use Rattle.osi_stack.proofs.Vocabulary.{Option, Some, None, refl, sym, ap, ◌∙◌, if◌then◌else◌, arith, to_session_along}
+use Rattle.osi_stack.proofs.Vocabulary.{called, came, react, after_inputs, Act, comes, calls, act_in_octets, calls_in, IsSilent, AreSilent}
+use Rattle.osi_stack.proofs.Vocabulary.{Shown, limit_of, kept_at, limit_for, answers, to_session, Selectors, selectors_told, shows_connect}
+use Rattle.osi_stack.proofs.Vocabulary.{Line, End, session_in, ◌≡◌, ℕ, List, [], ◌∷◌, ◌++◌, map, Option, Some, None, refl, ap, ◌∙◌}
+use Rattle.osi_stack.proofs.Vocabulary.{if◌then◌else◌, arith, to_session_along}
 
 -- ---- the end with a session at a reference
 
-put_twice_by : (r q : ℕ) (x y z : Line) (rows : Rows Line) (b : Bool) → (q == r) ≡ b → put r x (put r y rows) ≡ put r x rows →
-    put r x (put r y ((q, z) ∷ rows)) ≡ put r x ((q, z) ∷ rows)
-put_twice_by r q x y z rows b e more = grind arith
-
 put_twice : (r : ℕ) (x y : Line) (rows : Rows Line) → put r x (put r y rows) ≡ put r x rows
 put_twice r x y [] = refl
-put_twice r x y ((q, z) ∷ rows) = put_twice_by r q x y z rows (q == r) refl (put_twice r x y rows)
+put_twice r x y ((q, z) ∷ rows) = grind (arith, put_twice r x y rows)
 
 -- with these pending indications for its user, and with these selectors
 abbrev at : ℕ → Carrier → Listener → List Shown → Option Selectors → Rows Line → End
@@ -35,11 +31,7 @@ moves_at : (r : ℕ) (input : Input) (c : Carrier) (l : Listener) (waiting : Lis
     ≡ at r (answers r (limit_for l input) (react l input) c) (react l input).next (waiting ++ (react l input).shown)
     (names (react l input).shown (selectors_told input) selectors) rows
 moves_at r input c l waiting selectors rows h =
-    let line : Line = record { session = Some l; waiting = waiting; selectors = selectors } in
-    let there = put_here r line h.line rows h.here in
-    ap (λ (o : Option Line). by_line r o input (at r c l waiting selectors rows)) there
-    ∙ ap (λ (x : Rows Line). record { carrier = answers r (limit_for l input) (react l input) c; lines = x })
-    (put_twice r (line_by line (Some l) input) line rows)
+    grind (arith, put_here r (record { session = Some l; waiting = waiting; selectors = selectors }) h.line rows h.here, put_twice)
 
 -- ---- a part before the last, and a call
 
@@ -74,16 +66,15 @@ runs r rows c waiting selectors l m (calls call ∷ acts) h silent =
     let two = react m (called call) in
     let more = runs r rows (answers r (limit_of l.state) one c) (waiting ++ one.shown) (names one.shown None selectors) one.next two.next
     acts h silent.1 in
-    let same : at r (answers r (limit_of m.state) two c) two.next (waiting ++ two.shown) (names two.shown None selectors) rows
-    ≡ at r (answers r (limit_of l.state) one c) two.next (waiting ++ one.shown) (names one.shown None selectors) rows =
-    ap (λ (d : Carrier). at r d two.next (waiting ++ two.shown) (names two.shown None selectors) rows)
-    (sym (grind arith))
-    ∙ ap (λ (w : List Shown). at r (answers r (limit_of l.state) one c) two.next (waiting ++ w) (names w None selectors) rows)
-    (sym silent.0.1.shown) in
-    search (
-      ap (to_session_along r (map act_in_octets acts)) (moves_at r (called call) c l waiting selectors rows h) ∙ more.parts,
-      ap (to_session_along r (calls_in acts)) (moves_at r (called call) c m waiting selectors rows h ∙ same) ∙ more.whole,
-    )
+    let parts = moves_at r (called call) c l waiting selectors rows h in
+    let whole = moves_at r (called call) c m waiting selectors rows h in
+    record {
+      carrier = more.carrier;
+      waiting = more.waiting;
+      selectors = more.selectors;
+      parts = grind arith;
+      whole = grind arith;
+    }
 
 -- ---- the end as it was
 
@@ -108,16 +99,6 @@ parts_as_whole r session acts last whole e kept silent same sizes told =
     let h : HasLine r e.lines = record { line = there.0; here = there.1 } in
     let begun = stands_at r session e there.0 there.1 there.2 in
     let both = runs r e.lines e.carrier there.0.waiting there.0.selectors session session acts h silent in
-    ap (λ (x : End). to_session r last (to_session_along r (map act_in_octets acts) x)) begun
-    ∙ ap (to_session r last) both.parts
-    ∙ moves_at r last both.carrier (after_inputs session (map act_in_octets acts)) both.waiting both.selectors e.lines h
-    ∙ ap (λ (m : Move). at r (answers r (limit_for parted last) m both.carrier) m.next (both.waiting ++ m.shown)
-    (names m.shown (selectors_told last) both.selectors) e.lines) same
-    ∙ ap (λ (n : ℕ). at r (answers r n (react alone whole) both.carrier) (react alone whole).next
-    (both.waiting ++ (react alone whole).shown) (names (react alone whole).shown (selectors_told last) both.selectors) e.lines) sizes
-    ∙ ap (λ (o : Option Selectors). at r (answers r (limit_for alone whole) (react alone whole) both.carrier) (react alone whole).next
-    (both.waiting ++ (react alone whole).shown)
-    (names (react alone whole).shown o both.selectors) e.lines) told
-    ∙ sym (moves_at r whole both.carrier (after_inputs session (calls_in acts)) both.waiting both.selectors e.lines h)
-    ∙ sym (ap (to_session r whole) both.whole)
-    ∙ sym (ap (λ (x : End). to_session r whole (to_session_along r (calls_in acts) x)) begun)
+    let one = moves_at r last both.carrier parted both.waiting both.selectors e.lines h in
+    let two = moves_at r whole both.carrier alone both.waiting both.selectors e.lines h in
+    grind arith

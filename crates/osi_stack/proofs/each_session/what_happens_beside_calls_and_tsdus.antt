@@ -1,6 +1,6 @@
 -- What happens to a session beside calls and TSDUs.
 use Rattle.osi_stack.proofs.Vocabulary.{in_one, Input, Listener, Move, opened, refused, broken, react, Takes, Indication, ◌≡◌, ℕ, false, []}
-use Rattle.osi_stack.proofs.Vocabulary.{Option, None, option_map, Result, Ok, refl, sym, subst, if◌then◌else◌, arith, shown_list, Taken}
+use Rattle.osi_stack.proofs.Vocabulary.{Option, None, option_map, Result, Ok, refl, arith, shown_list, Taken}
 
 -- nothing is sent, and nothing closed
 pub record IsQuiet (move : Move) : Type 0 where
@@ -35,4 +35,4 @@ quiet_takes t shown move old new first more reply closes next is = grind arith
 
 pub takes_if : {E : Type 0} (result : Result Taken E) (s : Listener) (i j : Input) (old new : Listener) → j ≡ i →
     Takes result (react s i) old new → Takes result (react s j) old new
-takes_if result s i j old new e h = subst (λ (k : Input). Takes result (react s k) old new) (sym e) h
+takes_if result s i j old new e h = grind arith

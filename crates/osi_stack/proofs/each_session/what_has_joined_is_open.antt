@@ -8,16 +8,13 @@ pub record JoinedLaws : Type 0 where
   pub kept : (l : Listener) (inputs : List Input) → IsKept l → IsKept (after_inputs l inputs)
   pub held : (l : Listener) → IsKept l → is_some l.joined ≡ true → may_hold l.state.phase ≡ true
 
-came_kept : JoinedLaws → (s : Listener) → CameAbout s → IsKept s
-came_kept law s h = grind arith
-
 pub came_by : (r : ℕ) (s : Listener) (lines : Rows Line) (o : Option Line) → value_at r lines ≡ o → session_in o ≡ Some s →
     AllCameAbout lines → CameAbout s
 came_by r s lines None at is all = cc
 came_by r s lines (Some line) at is all = subst (λ (o : Option Listener). IfSome o CameAbout) is (grind (arith, line_at))
 
 kept_of : JoinedLaws → (r : ℕ) (s : Listener) (e : End) → IsSettled e → kept_at r e.lines ≡ Some s → IsKept s
-kept_of law r s e settled is = came_kept law s (came_by r s e.lines (value_at r e.lines) refl is settled.came)
+kept_of law r s e settled is = grind (arith, came_by r s e.lines (value_at r e.lines) refl is settled.came)
 
 pub joined_open : JoinedLaws → (r : ℕ) (s : Listener) (e : End) → IsSettled e → e.carrier.ended ≡ None → kept_at r e.lines ≡ Some s →
     is_some s.joined ≡ true → is_open r e.carrier ≡ true

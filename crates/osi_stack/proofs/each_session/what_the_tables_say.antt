@@ -21,8 +21,7 @@ stays_idle : Published → (s : Listener) (input : Input) (b : Bool) → (input 
     needs_link (react s input).next.state.phase ≡ false
 stays_idle law s input true other waits none = grind (arith, excluded, react)
 stays_idle law s input false other waits none =
-    excluded is_over needs_link refl (react s input).next.state.phase
-    (law.over s (input ∷ []) (grind arith))
+    grind (arith, excluded is_over needs_link refl (react s input).next.state.phase, law.over s (input ∷ []))
 
 linked_by : Published → (s : Listener) (input : Input) (b : Bool) → (input ≡ opened → ⊥) →
     needs_link (react s input).next.state.phase ≡ true → needs_link s.state.phase ≡ b → b ≡ true

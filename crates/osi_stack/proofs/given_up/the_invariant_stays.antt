@@ -1,17 +1,17 @@
 -- One connection is given up: the invariant of every end's carrier, of its sessions and of each of its lines stays so.
-use Rattle.osi_stack.proofs.Vocabulary.{IfSome, eqb-true, eq-eqb, and-true, open_link, closed_with, RiseFrom, Rows, value_at}
-use Rattle.osi_stack.proofs.Vocabulary.{State as Carrier, is_open, here_is, placed, place_of, put_here, put_other, put_rise, put_up}
-use Rattle.osi_stack.proofs.Vocabulary.{orderly_closed, closed_opens, Listener, after_input, broken, react, IsNamed, CameAbout}
-use Rattle.osi_stack.proofs.Vocabulary.{AllCameAbout, OfLines, OfSession, OfSessions, loses, needs_link, Soundness, IsSound, kept_at}
-use Rattle.osi_stack.proofs.Vocabulary.{IsOrdered, Line, End, IsAttended, session_in, ne_eqb, arith, ◌≡◌, ◌≢◌, ℕ, ◌==◌, Bool, true, false}
-use Rattle.osi_stack.proofs.Vocabulary.{[], Option, Some, None, get_or, set, option_map, sym, ap, ◌∙◌, given_up, gives_up, disconnects}
+use Rattle.osi_stack.proofs.Vocabulary.{eqb-true, eq-eqb, and-true, closed_with, RiseFrom, Rows, value_at, State as Carrier, is_open}
+use Rattle.osi_stack.proofs.Vocabulary.{here_is, placed, place_of, put_here, put_other, put_rise, put_up, orderly_closed, closed_opens}
+use Rattle.osi_stack.proofs.Vocabulary.{Listener, after_input, broken, react, IsNamed, CameAbout, AllCameAbout, OfLines, OfSession}
+use Rattle.osi_stack.proofs.Vocabulary.{OfSessions, loses, needs_link, Soundness, IsSound, kept_at, IsOrdered, Line, End, IsAttended}
+use Rattle.osi_stack.proofs.Vocabulary.{session_in, ne_eqb, arith, ◌≡◌, ◌≢◌, ℕ, ◌==◌, Bool, true, false, [], Option, Some, None, get_or}
+use Rattle.osi_stack.proofs.Vocabulary.{set, option_map, sym, ap, ◌∙◌, given_up, gives_up, disconnects}
 use Rattle.osi_stack.proofs.carried.events_one_after_the_other.{concluded_carrier}
 use Rattle.osi_stack.proofs.each_line.what_stays_true_of_each_session.{came_moves}
 use Rattle.osi_stack.proofs.carried.what_sessions_leave_of_the_carrier.{close_keeps}
 use Rattle.osi_stack.proofs.carried.packets_without_events.{both}
 use Rattle.osi_stack.proofs.carried.open_connections_stay_open.{apart_put, put_some, broken_needs_none}
 use Rattle.osi_stack.proofs.each_line.what_stays_true_of_each_line.{line_at, put_lines, lost_lines}
-use Rattle.osi_stack.proofs.each_line.lines_stay_in_order.{closed_leaves, lost_ordered}
+use Rattle.osi_stack.proofs.each_line.lines_stay_in_order.{lost_ordered}
 use Rattle.osi_stack.proofs.each_line.references_rise.{rise_lost}
 use Rattle.osi_stack.proofs.sound.the_invariant_is_kept.{closed_given, concludes_lasting}
 use Rattle.osi_stack.proofs.carried.what_each_step_preserves.{concluded_end}
@@ -60,13 +60,9 @@ pub disconnect_lines : (Q : Line → Type 0) (r : ℕ) (e : End) → ((line : Li
 disconnect_lines Q r e moves lost all =
     concluded_end (λ x. OfLines Q x.lines) (λ x all. lost_lines Q x.lines lost) (closed_and_given r e) (grind (arith, put_lines, line_at))
 
-session_moves : (P : Listener → Type 0) → ((s : Listener) → P s → P (after_input s broken)) → (o : Option Listener) → IfSome o P →
-    IfSome (option_map (λ s. after_input s broken) o) P
-session_moves P moves o h = grind arith
-
 pub disconnect_sessions : (P : Listener → Type 0) (r : ℕ) (e : End) → ((s : Listener) → P s → P (after_input s broken)) →
     OfSessions P e.lines → OfSessions P (disconnects r e).lines
-disconnect_sessions P r e moves all = disconnect_lines (OfSession P) r e (λ line h. session_moves P moves line.session h) (λ line. tt) all
+disconnect_sessions P r e moves all = disconnect_lines (OfSession P) r e (λ line h. grind arith) (λ line. tt) all
 
 pub disconnect_came : (r : ℕ) (e : End) → AllCameAbout e.lines → AllCameAbout (disconnects r e).lines
 disconnect_came r e all = disconnect_sessions CameAbout r e (came_moves broken tt) all
@@ -81,24 +77,19 @@ pub disconnect_rise : (r : ℕ) (e : End) → RiseFrom 0 e.lines → RiseFrom 0 
 disconnect_rise r e rise = grind (arith, concluded_end, rise_lost, put_rise)
 
 pub disconnect_ordered : (r : ℕ) (e : End) → IsOrdered e → IsOrdered (disconnects r e)
-disconnect_ordered r e o =
-    let leaves = closed_leaves r 128 (open_link r e.carrier) e.carrier in
-    concluded_end IsOrdered lost_ordered (closed_and_given r e) (grind (arith, put_rise, put_some))
+disconnect_ordered r e o = grind (arith, lost_ordered (closed_and_given r e), put_rise, put_some, close_keeps r e.carrier)
 
 -- ---- sessions and their connections
 
 links_by : (r q : ℕ) (e : End) (s : Listener) (b : Bool) → (q == r) ≡ b → Soundness e → e.carrier.ended ≡ None →
     (closed_with r 128 e.carrier).ended ≡ None →
     kept_at q (gives_up r e.lines) ≡ Some s → needs_link s.state.phase ≡ true → is_open q (closed_with r 128 e.carrier) ≡ true
-links_by r q e s true at sound was lasts is needs =
-    let here : option_map (λ s. after_input s broken) (kept_at r e.lines) ≡ Some s =
-    sym (grind (arith, given_here, session_given)) ∙ ap (λ n. kept_at n (gives_up r e.lines)) (sym (eqb-true q r at)) ∙ is in
-    both (needs_link s.state.phase) needs (grind (arith, broken_needs_none))
+links_by r q e s true at sound was lasts is needs = grind (arith, given_here, session_given, eqb-true, broken_needs_none, both)
 links_by r q e s false at sound was lasts is needs = grind (arith, both, eq-eqb, given_other, closed_opens, ne_eqb, and-true)
 
 pub disconnect_sound : (r : ℕ) (e : End) → IsSound e → IsSound (disconnects r e)
 disconnect_sound r e sound over =
     let lasts = disconnect_lasts r e over in
-    let was = (close_keeps r e.carrier).lasts lasts in
+    let was = (close_keeps r e.carrier).leaves.lasts lasts in
     let s = sound was in
     grind (arith, apart_put, closed_given, put_up, links_by, disconnect_is r e over, orderly_closed r 128 e.carrier s.orderly)

@@ -1,8 +1,8 @@
 -- A connection is given up in two runs that are in step: they reach the same state, whatever the pieces; also if they
 -- differ in lines of connections that are gone.
 use Rattle.osi_stack.proofs.Vocabulary.{eqb-true, apart_all, user, closed_gone, AreUpTo, Rows, value_at, put, Listener, after_input, broken}
-use Rattle.osi_stack.proofs.Vocabulary.{react, shown_at_loss, pruned, put_back, Line, End, arith, ◌≡◌, ℕ, ◌==◌, Bool, true, false, List, []}
-use Rattle.osi_stack.proofs.Vocabulary.{◌∷◌, Option, None, option_map, refl, sym, ap, subst, ◌∙◌, gives_up, disconnects}
+use Rattle.osi_stack.proofs.Vocabulary.{react, shown_at_loss, pruned, put_back, Line, End, arith, ◌≡◌, ℕ, Bool, false, List, [], ◌∷◌}
+use Rattle.osi_stack.proofs.Vocabulary.{Option, None, option_map, refl, gives_up, disconnects}
 use Rattle.osi_carrier.specs.Runs.UserCall.{closes}
 use Rattle.osi_stack.proofs.given_up.the_invariant_stays.{closed_and_given, disconnect_carrier}
 use Rattle.osi_stack.proofs.carried.packets_without_events.{both}
@@ -20,23 +20,14 @@ disconnects_apart o r e = grind (arith, apart_all [] o (user (closes r 128) ∷ 
 
 -- a reference that is none of these
 module _ (K : ℕ → Bool) where
-  none_by : (r q : ℕ) (y : Line) (lines : Rows Line) (b c : Bool) → (q == r) ≡ b → K q ≡ c → K r ≡ false →
-      value_at r (only K lines) ≡ None → value_at r (only K ((q, y) ∷ lines)) ≡ None
-  none_by r q y lines b c e f gone more = grind (arith, both, eqb-true, only_row)
-
   only_none : (r : ℕ) (lines : Rows Line) → K r ≡ false → value_at r (only K lines) ≡ None
   only_none r [] gone = refl
-  only_none r ((q, y) ∷ lines) gone = none_by r q y lines (q == r) (K q) refl refl gone (only_none r lines gone)
-
-  unput_by : (r q : ℕ) (x y : Line) (lines : Rows Line) (b c : Bool) → (q == r) ≡ b → K q ≡ c → K r ≡ false →
-      only K (put r x lines) ≡ only K lines →
-      only K (put r x ((q, y) ∷ lines)) ≡ only K ((q, y) ∷ lines)
-  unput_by r q x y lines b c e f gone more = grind (arith, both, eqb-true, only, put_row, only_row)
+  only_none r ((q, y) ∷ lines) gone = grind (arith, both, eqb-true, only_row, only_none r lines gone)
 
   -- its line is dropped, whatever it is
   only_unput : (r : ℕ) (x : Line) (lines : Rows Line) → K r ≡ false → only K (put r x lines) ≡ only K lines
   only_unput r x [] gone = refl
-  only_unput r x ((q, y) ∷ lines) gone = unput_by r q x y lines (q == r) (K q) refl refl gone (only_unput r x lines gone)
+  only_unput r x ((q, y) ∷ lines) gone = grind (arith, both, eqb-true, only, put_row, only_row, only_unput r x lines gone)
 
   gives_by : (r : ℕ) (lines : Rows Line) (b : Bool) → K r ≡ b → gives_up r (only K lines) ≡ only K (gives_up r lines)
   gives_by r lines b here = grind (arith, only, only_at, only_put, only_none, only_unput)
@@ -51,13 +42,9 @@ module _ (K : ℕ → Bool) where
   unfolding react
   lost_nothing o = grind arith
 
-  still_by : (r q : ℕ) (x y : Line) (lines : Rows Line) (b : Bool) → (q == r) ≡ b → IsStill x → AreStill K ((q, y) ∷ lines) →
-      AreStill K (put r x lines) → AreStill K (put r x ((q, y) ∷ lines))
-  still_by r q x y lines b e one still more = grind (arith, put_row)
-
   still_put : (r : ℕ) (x : Line) (lines : Rows Line) → IsStill x → AreStill K lines → AreStill K (put r x lines)
   still_put r x [] one still = tt
-  still_put r x ((q, y) ∷ lines) one still = still_by r q x y lines (q == r) refl one still (still_put r x lines one still.1)
+  still_put r x ((q, y) ∷ lines) one still = grind (arith, put_row, still_put r x lines one still.1)
 
   pub still_disconnects : (r : ℕ) (e : End) → AreStill K e.lines → AreStill K (disconnects r e).lines
   still_disconnects r e still = grind (arith, concluded_end, still_lost, closed_and_given, still_put, lost_nothing)
@@ -70,6 +57,10 @@ disconnect_within r e q here = grind (arith, reached, disconnect_carrier, closed
 pub disconnect_alike : (r : ℕ) (e : End) → AreUpTo e.carrier.given e.lines → AreStill (reached e.carrier) e.lines →
     SameInLive (disconnects r (pruned e)) (disconnects r e)
 disconnect_alike r e known still =
-    subst (λ (x : End). SameInLive x (disconnects r e))
-    (sym (only_disconnects (reached e.carrier) r e) ∙ ap (disconnects r) (pruned_is e known))
-    (acts_alike e (disconnects r e) (disconnect_within r e) (still_disconnects (reached e.carrier) r e still))
+    grind (
+      arith,
+      only_disconnects (reached e.carrier) r e,
+      pruned_is e known,
+      acts_alike e (disconnects r e) (disconnect_within r e),
+      still_disconnects (reached e.carrier) r e,
+    )

@@ -31,15 +31,7 @@ shown_join r (x ∷ a) b = ap (λ (l : List (ℕ × Shown)). (r, x) ∷ l) (show
 -- the loss is indicated last
 pub lost_told : (r : ℕ) (t : List (ℕ × Shown)) (lines : Rows Line) → AreApart lines →
     told_of r (t ++ all_waiting (all_lost lines)) ≡ told_of r (t ++ all_waiting lines) ++ shown_of r (shown_at_loss (kept_at r lines))
-lost_told r t lines apart =
-    let lost = shown_of r (shown_at_loss (kept_at r lines)) in
-    (grind (arith, filter-append))
-    ∙ ap (λ (l : List (ℕ × Shown)). told_of r t ++ l)
-    (told_at r (all_lost lines) (apart_lost lines apart) ∙ ap (shown_of r) ((are_lost lines).waiting r)
-    ∙ shown_join r (waiting_at r lines) (shown_at_loss (kept_at r lines)) ∙
-    ap (λ (l : List (ℕ × Shown)). l ++ lost) (sym (told_at r lines apart)))
-    ∙ sym (append_assoc (told_of r t) (told_of r (all_waiting lines)) lost)
-    ∙ ap (λ (l : List (ℕ × Shown)). l ++ lost) (sym (grind (arith, filter-append)))
+lost_told r t lines apart = grind (arith, filter-append, told_at, apart_lost, are_lost lines, shown_join, append_assoc)
 
 -- ---- two ends that are alike
 

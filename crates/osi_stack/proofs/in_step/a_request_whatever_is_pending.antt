@@ -1,9 +1,9 @@
 -- A connection is requested, whatever is pending: it is the same but for lines of connections that are gone.
 use Rattle.std.proofs.Common.{◌≡◌, ℕ, ◌+◌, Bool, true, List, [], ◌∷◌, ◌++◌, is_some, refl, sym, ap, ◌∙◌, arith}
 use Rattle.osi_stack.proofs.Vocabulary.{eqb-true, eq-eqb, flat_map, beyond, push_here, push_other, AreUpTo, Rows, value_at, Connection}
-use Rattle.osi_stack.proofs.Vocabulary.{asked, State as Carrier, Listener, Shown, connects, shown_of, all_waiting, quieted, hushed}
-use Rattle.osi_stack.proofs.Vocabulary.{put_back, live_lines, pruned, told_in, carried_in, AreAlike, AreAlikeInLive, Line, End, Holding}
-use Rattle.osi_stack.proofs.Vocabulary.{is_used, used_lines, Connect, EndCall as Call}
+use Rattle.osi_stack.proofs.Vocabulary.{asked, State as Carrier, Listener, Shown, connects, all_waiting, quieted, hushed, put_back}
+use Rattle.osi_stack.proofs.Vocabulary.{live_lines, pruned, told_in, carried_in, AreAlike, AreAlikeInLive, Line, End, Holding, used_lines}
+use Rattle.osi_stack.proofs.Vocabulary.{Connect, EndCall as Call}
 use Rattle.osi_stack.proofs.each_line.the_first_that_indicates.{quiet_line}
 use Rattle.osi_stack.proofs.in_step.lines_that_are_gone_do_not_matter.{quieted_live}
 use Rattle.osi_stack.proofs.carried.packets_without_events.{both, or_second}
@@ -14,31 +14,20 @@ use Rattle.osi_stack.proofs.in_step.two_runs_reach_the_same_state.{connects_apar
 
 -- ---- what is pending
 
-waits_by : (live : Rows Connection) (p : ℕ) (y : Line) (rows more : Rows Line) (b : Bool) → is_used live (p, y) ≡ b →
-    all_waiting (used_lines live rows) ≡ all_waiting more →
-    all_waiting (used_lines live ((p, y) ∷ rows)) ≡ shown_of p y.waiting ++ all_waiting more
-waits_by live p y rows more b e h = grind (arith, used_by, quiet_line, or_second)
-
 -- no pending indication is dropped
 waits_still : (live : Rows Connection) (q : ℕ) (s : Listener) (lines : Rows Line) →
     all_waiting (used_lines live (joined_lines q s lines)) ≡ all_waiting lines
-waits_still live q s [] = grind (arith, waits_by)
-waits_still live q s ((p, y) ∷ lines) = grind (arith, waits_by, joined_lines, waits_still live q s lines)
+waits_still live q s [] = grind (arith, used_by, quiet_line, or_second)
+waits_still live q s ((p, y) ∷ lines) = grind (arith, used_by, quiet_line, or_second, joined_lines, waits_still live q s lines)
 
 pub waits_asked : (c : Connect) (e : End) → all_waiting (connects c e).lines ≡ all_waiting e.lines
 waits_asked c e = grind (arith, waits_still)
 
 -- ---- lines of live connections
 
--- none of these is dropped
-live_by : (live : Rows Connection) (p : ℕ) (y : Line) (rows : Rows Line) (b c : Bool) → is_used live (p, y) ≡ b →
-    is_some (value_at p live) ≡ c → live_lines live (used_lines live rows) ≡ live_lines live rows →
-    live_lines live (used_lines live ((p, y) ∷ rows)) ≡ live_lines live ((p, y) ∷ rows)
-live_by live p y rows b c e f more = grind arith
-
 live_used : (live : Rows Connection) (rows : Rows Line) → live_lines live (used_lines live rows) ≡ live_lines live rows
 live_used live [] = refl
-live_used live ((p, y) ∷ rows) = live_by live p y rows (is_used live (p, y)) (is_some (value_at p live)) refl refl (live_used live rows)
+live_used live ((p, y) ∷ rows) = grind (arith, live_used live rows)
 
 joined_quieted : (q : ℕ) (s : Listener) (lines : Rows Line) → quieted (joined_lines q s lines) ≡ joined_lines q s (quieted lines)
 joined_quieted q s [] = refl
@@ -51,13 +40,13 @@ joins_live live q s lines = live_lines live (used_lines live (joined_lines q s l
 hushed_lines : (live : Rows Connection) (q : ℕ) (s : Listener) (lines : Rows Line) →
     quieted (joins_live live q s lines) ≡ joins_live live q s (quieted lines)
 hushed_lines live q s lines =
-    ap quieted (live_used live (joined_lines q s lines)) ∙ sym (quieted_live live (joined_lines q s lines)) ∙
-    ap (live_lines live) (joined_quieted q s lines)
-    ∙ sym (live_used live (joined_lines q s (quieted lines)))
-
--- what is pending does not matter to them
-pub connects_hushed : (c : Connect) (e : End) → hushed (pruned (connects c e)) ≡ pruned (connects c (hushed e))
-connects_hushed c e = grind (arith, hushed_lines)
+    grind (
+      arith,
+      live_used live (joined_lines q s lines),
+      live_used live (joined_lines q s (quieted lines)),
+      quieted_live live (joined_lines q s lines),
+      joined_quieted q s lines,
+    )
 
 asked_within : (c : Carrier) → Within (λ r. is_some (value_at r (c.live ++ (c.given + 1, asked) ∷ []))) (reached c)
 asked_within c r here = grind (arith, eqb-true, both, eq-eqb, reached_live, push_other)
@@ -84,7 +73,7 @@ connects_pruned c e up known = grind (arith, pruned_lines)
 -- with what was carried put back
 pub connects_back : (o : List ℕ) (c : Connect) (e : End) →
     put_back o (hushed (pruned (connects c e))) ≡ pruned (connects c (put_back o (hushed e)))
-connects_back o c e = ap (put_back o) (connects_hushed c e) ∙ ap pruned (sym (connects_apart o c (hushed e)))
+connects_back o c e = grind (arith, hushed_lines, connects_apart)
 
 pub asked_alike : (c : Connect) (a b : Holding) (xs ys : List Call) → AreAlike a xs b ys →
     AreAlikeInLive (record a { end = connects c a.end }) xs (record b { end = connects c b.end }) ys

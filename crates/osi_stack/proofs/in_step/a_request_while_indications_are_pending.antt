@@ -1,22 +1,17 @@
 -- A connection is requested while indications are pending, but only for live connections: the same as if all had been
 -- given.
-use Rattle.osi_stack.proofs.Vocabulary.{Rows, value_at, Connection, Listener, all_waiting, WaitForLive, quieted, Line, used_lines}
-use Rattle.osi_stack.proofs.Vocabulary.{fresh_line, ◌≡◌, ℕ, ◌==◌, Bool, true, [], ◌∷◌, ◌++◌, is_some, refl, arith}
+use Rattle.osi_stack.proofs.Vocabulary.{Rows, value_at, Connection, Listener, all_waiting, WaitForLive, quieted, Line, used_lines, ◌≡◌, ℕ}
+use Rattle.osi_stack.proofs.Vocabulary.{true, [], ◌∷◌, ◌++◌, is_some, arith}
 use Rattle.osi_stack.proofs.in_step.what_is_seen_is_the_same.{hush}
 use Rattle.osi_stack.proofs.each_line.the_first_that_indicates.{quiet_line}
 use Rattle.osi_stack.proofs.carried.open_connections_stay_open.{used_by, joined_lines}
 
 -- ---- live connections stay so when one is requested
 
-push_by : (r p q : ℕ) (c d : Connection) (live : Rows Connection) (b : Bool) → (p == r) ≡ b → is_some (value_at r ((p, d) ∷ live)) ≡ true →
-    (is_some (value_at r live) ≡ true → is_some (value_at r (live ++ (q, c) ∷ [])) ≡ true) →
-    is_some (value_at r ((p, d) ∷ (live ++ (q, c) ∷ []))) ≡ true
-push_by r p q c d live b e here more = grind arith
-
 live_push : (r q : ℕ) (c : Connection) (live : Rows Connection) → is_some (value_at r live) ≡ true →
     is_some (value_at r (live ++ (q, c) ∷ [])) ≡ true
 live_push r q c [] here = cc
-live_push r q c ((p, d) ∷ live) here = push_by r p q c d live (p == r) refl here (live_push r q c live)
+live_push r q c ((p, d) ∷ live) here = grind (arith, live_push r q c live)
 
 pub wait_push : (q : ℕ) (c : Connection) (live : Rows Connection) (lines : Rows Line) → WaitForLive live lines →
     WaitForLive (live ++ (q, c) ∷ []) lines
@@ -30,9 +25,6 @@ pub record Joins (live : Rows Connection) (q : ℕ) (s : Listener) (lines : Rows
   pub same : quieted (used_lines live (joined_lines q s lines)) ≡ quieted (used_lines live (joined_lines q s (quieted lines)))
   pub waiting : all_waiting (used_lines live (joined_lines q s lines)) ≡ all_waiting lines
   pub none : all_waiting (used_lines live (joined_lines q s (quieted lines))) ≡ []
-
-abbrev new_line : ℕ → Listener → ℕ × Line
-new_line q s = (q, fresh_line s)
 
 pub joins_alike : (live : Rows Connection) (q : ℕ) (s : Listener) (lines : Rows Line) → WaitForLive live lines → Joins live q s lines
 joins_alike live q s [] all = grind arith

@@ -2,8 +2,8 @@
 use Rattle.osi_stack.proofs.Vocabulary.{eq-eqb, or_right, orderly_same, AreUpTo, Rows, value_at, Connection, is_open, none_of, Listener}
 use Rattle.osi_stack.proofs.Vocabulary.{broken, react, is_wait_transport, may_abort, shows_loss, Shown, shown_at_loss, after_packet}
 use Rattle.osi_stack.proofs.Vocabulary.{with_carrier, AreApart, HasAsked, IsSound, kept_at, quieted, hushed, put_back, live_lines, pruned}
-use Rattle.osi_stack.proofs.Vocabulary.{Account, account_of, Line, End, IsAttended, line_waits, waits, ◌≡◌, ℕ, ◌==◌, Bool, true, false}
-use Rattle.osi_stack.proofs.Vocabulary.{List, [], ◌∷◌, Option, Some, None, is_some, refl, sym, ap, ◌∙◌, if◌then◌else◌, arith}
+use Rattle.osi_stack.proofs.Vocabulary.{Account, account_of, Line, End, IsAttended, line_waits, waits, ◌≡◌, ℕ, Bool, true, false, List, []}
+use Rattle.osi_stack.proofs.Vocabulary.{◌∷◌, Option, Some, None, is_some, refl, sym, ap, ◌∙◌, arith}
 use Rattle.osi_carrier.specs.Packets as carriers
 use Rattle.osi_stack.proofs.in_step.the_account_packet_by_packet.{made}
 use Rattle.osi_stack.proofs.in_step.what_is_seen_is_the_same.{quieted_at}
@@ -35,14 +35,9 @@ up_quieted : (n : ℕ) (lines : Rows Line) → AreUpTo n (quieted lines) → Are
 up_quieted n [] up = tt
 up_quieted n ((q, y) ∷ lines) up = (up.0, up_quieted n lines up.1)
 
-none_by : (r q : ℕ) (y : Line) (lines : Rows Line) (b : Bool) → (q == r) ≡ b →
-    is_some (value_at r (quieted lines)) ≡ is_some (value_at r lines) →
-    is_some (value_at r (quieted ((q, y) ∷ lines))) ≡ is_some (value_at r ((q, y) ∷ lines))
-none_by r q y lines b e more = grind arith
-
 some_quieted : (r : ℕ) (lines : Rows Line) → is_some (value_at r (quieted lines)) ≡ is_some (value_at r lines)
 some_quieted r [] = refl
-some_quieted r ((q, y) ∷ lines) = none_by r q y lines (q == r) refl (some_quieted r lines)
+some_quieted r ((q, y) ∷ lines) = grind (arith, some_quieted r lines)
 
 pub quieted_apart : (lines : Rows Line) → AreApart lines → AreApart (quieted lines)
 quieted_apart [] apart = tt
@@ -118,14 +113,9 @@ fit_still e lasts f quiet = grind (arith, still_lines, reached, gone_shows)
 abbrev pub pruned_account : Account → Account
 pruned_account a = record { end = pruned a.end; told = a.told }
 
-quieted_row : (live : Rows Connection) (q : ℕ) (y : Line) (lines : Rows Line) (b : Bool) → is_some (value_at q live) ≡ b →
-    live_lines live (quieted lines) ≡ quieted (live_lines live lines) →
-    live_lines live (quieted ((q, y) ∷ lines)) ≡ quieted (live_lines live ((q, y) ∷ lines))
-quieted_row live q y lines b e more = grind arith
-
 pub quieted_live : (live : Rows Connection) (lines : Rows Line) → live_lines live (quieted lines) ≡ quieted (live_lines live lines)
 quieted_live live [] = refl
-quieted_live live ((q, y) ∷ lines) = quieted_row live q y lines (is_some (value_at q live)) refl (quieted_live live lines)
+quieted_live live ((q, y) ∷ lines) = grind (arith, quieted_live live lines)
 
 pub account_alike : (t : List (ℕ × Shown)) (o : List ℕ) (a b : End) → SameInLive a b →
     pruned_account (account_of t o a) ≡ pruned_account (account_of t o b)

@@ -1,7 +1,7 @@
 -- The account of an end, packet by packet, whatever was given and sent in between.
-use Rattle.std.proofs.Common.{arith, ◌≡◌, ℕ, false, List, [], ◌∷◌, ◌++◌, Option, option_to_list, refl, ap, ◌∙◌, append_assoc}
-use Rattle.osi_stack.proofs.Vocabulary.{Rows, Shown, first_shown, without_first, rest_by, TakesPackets, after_packet, quieted, put_back}
-use Rattle.osi_stack.proofs.Vocabulary.{Account, account_of, with_packet, with_packets, Line, End, line_waits, waits}
+use Rattle.std.proofs.Common.{arith, ◌≡◌, ℕ, false, List, [], ◌∷◌, ◌++◌, Option, option_to_list, refl, ap, append_assoc}
+use Rattle.osi_stack.proofs.Vocabulary.{Rows, Shown, first_shown, without_first, TakesPackets, after_packet, quieted, put_back, Account}
+use Rattle.osi_stack.proofs.Vocabulary.{account_of, with_packet, with_packets, Line, End, line_waits, waits}
 use Rattle.osi_stack.proofs.each_line.the_first_that_indicates.{quiet_line}
 use Rattle.osi_stack.proofs.in_step.what_is_in_front_changes_nothing.{apart_packet}
 use Rattle.osi_stack.proofs.carried.packets_without_events.{or_first, or_second}
@@ -17,9 +17,6 @@ after_more told carried a = record { end = put_back carried a.end; told = told +
 
 -- ---- nothing is pending
 
-abbrev row_with : ℕ → Line → List Shown → ℕ × Line
-row_with r line waiting = (r, record line { waiting = waiting })
-
 quieted_same : (lines : Rows Line) → waits lines ≡ false → quieted lines ≡ lines
 quieted_same [] h = refl
 quieted_same ((r, line) ∷ lines) h =
@@ -31,13 +28,9 @@ account_quiet e none = grind (arith, quieted_same, none_waiting)
 
 -- ---- telling
 
-quieted_rest : (r : ℕ) (line : Line) (waiting : List Shown) (lines : Rows Line) → quieted (without_first lines) ≡ quieted lines →
-    quieted (rest_by r line waiting lines (without_first lines)) ≡ quieted ((r, line) ∷ lines)
-quieted_rest r line waiting lines more = grind arith
-
 quieted_first : (lines : Rows Line) → quieted (without_first lines) ≡ quieted lines
 quieted_first [] = refl
-quieted_first ((r, line) ∷ lines) = quieted_rest r line line.waiting lines (quieted_first lines)
+quieted_first ((r, line) ∷ lines) = grind (arith, quieted_first lines)
 
 -- an indication that was given is no longer pending, and nothing else changes
 pub account_told : (shown : Option (ℕ × Shown)) (e : End) → shown ≡ first_shown e.lines →
@@ -49,14 +42,10 @@ account_told shown e is = grind (arith, option_to_list shown, quieted_first e.li
 pub account_joined : (t u : List (ℕ × Shown)) (o p : List ℕ) (e : End) → account_of (t ++ u) (o ++ p) e ≡ after_more t o (account_of u p e)
 account_joined t u o p e = grind (arith, append_assoc)
 
-packet_apart : (t : List (ℕ × Shown)) (o : List ℕ) (a : Account) (unit : List ℕ) →
-    with_packet (after_more t o a) unit ≡ after_more t o (with_packet a unit)
-packet_apart t o a unit = grind (arith, apart_packet, after_packet, append_assoc)
-
 pub packets_apart : (t : List (ℕ × Shown)) (o : List ℕ) (units : List (List ℕ)) (a : Account) →
     with_packets units (after_more t o a) ≡ after_more t o (with_packets units a)
 packets_apart t o [] a = refl
-packets_apart t o (unit ∷ units) a = ap (with_packets units) (packet_apart t o a unit) ∙ packets_apart t o units (with_packet a unit)
+packets_apart t o (unit ∷ units) a = grind (arith, apart_packet, after_packet, append_assoc, packets_apart t o units (with_packet a unit))
 
 -- ---- packets one after the other
 

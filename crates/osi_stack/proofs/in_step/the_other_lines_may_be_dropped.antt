@@ -4,7 +4,7 @@ use Rattle.osi_carrier.specs.Happenings as told
 use Rattle.osi_carrier.specs.Packets as carriers
 use Rattle.osi_stack.proofs.Vocabulary.{eqb-true, filter-append, AllByRecursion, filter, Happening, told_of, Rows, value_at, put}
 use Rattle.osi_stack.proofs.Vocabulary.{Connection, Input, Listener, hears, hears_first, hears_next, hears_times, with_events, with_carrier}
-use Rattle.osi_stack.proofs.Vocabulary.{shown_at_loss, loses, all_lost, attends, after_packet, all_waiting, to_session, Line, End, is_used}
+use Rattle.osi_stack.proofs.Vocabulary.{shown_at_loss, all_lost, attends, after_packet, all_waiting, to_session, Line, End, is_used}
 use Rattle.osi_stack.proofs.Vocabulary.{used_lines}
 use Rattle.osi_stack.proofs.carried.packets_without_events.{both, packet_is}
 use Rattle.osi_stack.proofs.carried.open_connections_stay_open.{rest_is, joined_lines}
@@ -20,9 +20,6 @@ pub record IsStill (line : Line) : Type 0 where
   pub waiting : line.waiting ≡ []
   pub lost : shown_at_loss line.session ≡ []
 
-still_loses : (line : Line) → IsStill line → IsStill (loses line)
-still_loses line still = search
-
 -- these references
 module _ (K : ℕ → Bool) where
   -- ---- their lines
@@ -37,27 +34,17 @@ module _ (K : ℕ → Bool) where
       only ((q, y) ∷ lines) ≡ (if b then (q, y) ∷ only lines else only lines)
   only_row q y lines b e = ap (λ (c : Bool). if◌then◌else◌ {A = Rows Line} c ((q, y) ∷ only lines) (only lines)) e
 
-  at_by : (r q : ℕ) (y : Line) (lines : Rows Line) (b c : Bool) → (q == r) ≡ b → K q ≡ c → K r ≡ true →
-      value_at r (only lines) ≡ value_at r lines →
-      value_at r (only ((q, y) ∷ lines)) ≡ value_at r ((q, y) ∷ lines)
-  at_by r q y lines b c e f here more = grind (arith, only_row, both, eqb-true)
-
   pub only_at : (r : ℕ) (lines : Rows Line) → K r ≡ true → value_at r (only lines) ≡ value_at r lines
   only_at r [] here = refl
-  only_at r ((q, y) ∷ lines) here = at_by r q y lines (q == r) (K q) refl refl here (only_at r lines here)
+  only_at r ((q, y) ∷ lines) here = grind (arith, only_row, both, eqb-true, only_at r lines here)
 
   pub put_row : (r q : ℕ) (x y : Line) (lines : Rows Line) (b : Bool) → (q == r) ≡ b →
       put r x ((q, y) ∷ lines) ≡ (if b then (q, x) ∷ lines else (q, y) ∷ put r x lines)
   put_row r q x y lines b e = ap (λ (c : Bool). if◌then◌else◌ {A = Rows Line} c ((q, x) ∷ lines) ((q, y) ∷ put r x lines)) e
 
-  put_by : (r q : ℕ) (x y : Line) (lines : Rows Line) (b c : Bool) → (q == r) ≡ b → K q ≡ c → K r ≡ true →
-      put r x (only lines) ≡ only (put r x lines) →
-      put r x (only ((q, y) ∷ lines)) ≡ only (put r x ((q, y) ∷ lines))
-  put_by r q x y lines b c e f here more = grind (arith, only_row, put_row, both, eqb-true)
-
   pub only_put : (r : ℕ) (x : Line) (lines : Rows Line) → K r ≡ true → put r x (only lines) ≡ only (put r x lines)
   only_put r x [] here = refl
-  only_put r x ((q, y) ∷ lines) here = put_by r q x y lines (q == r) (K q) refl refl here (only_put r x lines here)
+  only_put r x ((q, y) ∷ lines) here = grind (arith, only_row, put_row, both, eqb-true, only_put r x lines here)
 
   used_rows : (live : Rows Connection) (q : ℕ) (y : Line) (lines : Rows Line) (b c : Bool) → is_used live (q, y) ≡ b → K q ≡ c →
       used_lines live (only lines) ≡ only (used_lines live lines) →
@@ -71,13 +58,9 @@ module _ (K : ℕ → Bool) where
   pub only_push : (r : ℕ) (s : Listener) (lines : Rows Line) → K r ≡ true → joined_lines r s (only lines) ≡ only (joined_lines r s lines)
   only_push r s lines here = grind (arith, filter-append, only_row)
 
-  lost_row : (q : ℕ) (y : Line) (lines : Rows Line) (b : Bool) → K q ≡ b → all_lost (only lines) ≡ only (all_lost lines) →
-      all_lost (only ((q, y) ∷ lines)) ≡ only (all_lost ((q, y) ∷ lines))
-  lost_row q y lines b e more = grind (arith, only_row)
-
   pub only_lost : (lines : Rows Line) → all_lost (only lines) ≡ only (all_lost lines)
   only_lost [] = refl
-  only_lost ((q, y) ∷ lines) = lost_row q y lines (K q) refl (only_lost lines)
+  only_lost ((q, y) ∷ lines) = grind (arith, only_row, only_lost lines)
 
   -- ---- events that are handled
 
@@ -121,23 +104,13 @@ module _ (K : ℕ → Bool) where
   AreStill [] = Unit {0}
   AreStill ((q, line) ∷ lines) = (K q ≡ false → IsStill line) × AreStill lines
 
-  -- what is reported is of these alone
-  told_row : (q : ℕ) (y : Line) (lines : Rows Line) (b : Bool) → K q ≡ b → (K q ≡ false → IsStill y) →
-      all_waiting (only lines) ≡ all_waiting lines →
-      all_waiting (only ((q, y) ∷ lines)) ≡ all_waiting ((q, y) ∷ lines)
-  told_row q y lines b e still more = grind (arith, only_row)
-
   pub only_told : (lines : Rows Line) → AreStill lines → all_waiting (only lines) ≡ all_waiting lines
   only_told [] still = refl
-  only_told ((q, y) ∷ lines) still = told_row q y lines (K q) refl still.0 (only_told lines still.1)
-
-  still_put_by : (r q : ℕ) (x y : Line) (lines : Rows Line) (b : Bool) → (q == r) ≡ b → K r ≡ true → AreStill ((q, y) ∷ lines) →
-      AreStill (put r x lines) → AreStill (put r x ((q, y) ∷ lines))
-  still_put_by r q x y lines b e here still more = grind (arith, put_row, both, eqb-true)
+  only_told ((q, y) ∷ lines) still = grind (arith, only_row, only_told lines still.1)
 
   still_put : (r : ℕ) (x : Line) (lines : Rows Line) → K r ≡ true → AreStill lines → AreStill (put r x lines)
   still_put r x [] here still = tt
-  still_put r x ((q, y) ∷ lines) here still = still_put_by r q x y lines (q == r) refl here still (still_put r x lines here still.1)
+  still_put r x ((q, y) ∷ lines) here still = grind (arith, put_row, both, eqb-true, still_put r x lines here still.1)
 
   pub still_used : (live : Rows Connection) (lines : Rows Line) → AreStill lines → AreStill (used_lines live lines)
   still_used live [] still = tt
@@ -149,7 +122,7 @@ module _ (K : ℕ → Bool) where
 
   pub still_lost : (lines : Rows Line) → AreStill lines → AreStill (all_lost lines)
   still_lost [] still = tt
-  still_lost ((q, y) ∷ lines) still = ((λ none. still_loses y (still.0 none)), still_lost lines still.1)
+  still_lost ((q, y) ∷ lines) still = ((λ none. grind arith), still_lost lines still.1)
 
   pub still_session : (r : ℕ) (input : Input) (e : End) → K r ≡ true → AreStill e.lines → AreStill (to_session r input e).lines
   still_session r input e here still = grind (arith, still_put)
@@ -164,8 +137,3 @@ module _ (K : ℕ → Bool) where
   pub still_packet : (e : End) (unit : List ℕ) → AreOf (carriers.after_packet e.carrier unit).events → AreStill e.lines →
       AreStill (after_packet e unit).lines
   still_packet e unit all still = grind (arith, packet_is, concluded_end, still_lost, still_times)
-
-  -- the indications of a packet are the same if the others are dropped
-  pub told_packet : (e : End) (unit : List ℕ) → AreOf (carriers.after_packet e.carrier unit).events → AreStill e.lines →
-      all_waiting (after_packet (only_end e) unit).lines ≡ all_waiting (after_packet e unit).lines
-  told_packet e unit all still = grind (arith, only_packet, only_told, after_packet, still_packet)

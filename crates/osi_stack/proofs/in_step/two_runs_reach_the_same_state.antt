@@ -1,18 +1,15 @@
 -- Two runs in step reach the same state, whatever the pieces.
-use Rattle.std.proofs.Common.{◌≡◌, ℕ, ◌+◌, ◌-◌, ◌<◌, ◌^◌, Bool, true, false, List, ◌∷◌, ◌++◌, Option, None, is_some, option_map, arith}
-use Rattle.std.proofs.Common.{refl, sym, ap, subst, ◌∙◌, append_assoc, []}
+use Rattle.std.proofs.Common.{◌≡◌, ℕ, ◌<◌, ◌^◌, Bool, true, false, List, ◌∷◌, ◌++◌, Option, None, is_some, option_map, arith, refl, sym, ap}
+use Rattle.std.proofs.Common.{subst, ◌∙◌, append_assoc, []}
 use Rattle.osi_stack.proofs.Vocabulary.{append-nil, flat_map-append, flat_map, IsPartial, TpktFault, tsap_octets, apart_all, OneCut, user}
-use Rattle.osi_stack.proofs.Vocabulary.{State as Carrier, Shown, connects, calls_with, UserCall, user_does, Round, MayCall, IsCalled}
-use Rattle.osi_stack.proofs.Vocabulary.{RoundsBy, RoundsAlong, calls_of, AreInStep, put_back, Account, account_of, with_packet}
-use Rattle.osi_stack.proofs.Vocabulary.{with_packets, CallsAlong, used_in, told_in, carried_in, account_along, AreAlike, End, Holding}
-use Rattle.osi_stack.proofs.Vocabulary.{joins, Connect, none_of, connects_call, EndCall as Call}
+use Rattle.osi_stack.proofs.Vocabulary.{Shown, connects, UserCall, user_does, Round, MayCall, IsCalled, RoundsBy, RoundsAlong, calls_of}
+use Rattle.osi_stack.proofs.Vocabulary.{AreInStep, put_back, Account, account_of, with_packet, with_packets, CallsAlong, used_in, told_in}
+use Rattle.osi_stack.proofs.Vocabulary.{carried_in, account_along, AreAlike, End, Holding, Connect, none_of, connects_call, EndCall as Call}
 use Rattle.osi_stack.proofs.in_step.the_account_packet_by_packet.{made, after_more, account_quiet, account_joined, packets_apart}
 use Rattle.osi_stack.proofs.in_step.a_request_while_indications_are_pending.{wait_push, joins_alike}
 use Rattle.osi_stack.proofs.given_up.two_runs_stay_alike.{disconnects_apart}
-use Rattle.osi_stack.proofs.stream.how_calls_end_an_end.{faulted}
 use Rattle.osi_stack.proofs.in_step.a_call_while_indications_are_pending.{account_calling}
-use Rattle.osi_stack.proofs.stream.all_pieces_last_alike.{account_over}
-use Rattle.osi_stack.proofs.stream.an_end_is_what_its_packets_make.{calls_read}
+use Rattle.osi_stack.proofs.stream.an_end_is_what_its_packets_make.{account_over, faulted, calls_read}
 use Rattle.osi_stack.proofs.in_step.what_is_in_front_changes_nothing.{apart_session}
 use Rattle.osi_stack.proofs.carried.packets_without_events.{never}
 
@@ -45,55 +42,79 @@ pub packets_alike : (May : UserCall → End → Type 0) (Like : Account → Acco
     (with_packets units x).end.carrier.ended ≡ None → Like x y → Like (with_packets units x) (with_packets units y)
 packets_alike May Like l [] x y lasts like = like
 packets_alike May Like l (unit ∷ units) x y lasts like =
-    packets_alike May Like l units (with_packet x unit) (with_packet y unit) lasts
-    (l.packet x y unit (lasts_before (unit ∷ units) x lasts) like)
+    search (
+      arith,
+      packets_alike May Like l units (with_packet x unit) (with_packet y unit) lasts,
+      l.packet x y unit,
+      lasts_before (unit ∷ units) x lasts,
+    )
 
--- two ends that are alike, after these indications were given and these octets sent
-pub record Same (Like : Account → Account → Type 0) (t : List (ℕ × Shown)) (o : List ℕ) (a : Holding) (u : List (ℕ × Shown)) (p : List ℕ)
-    (b : Holding) : Type 0 where
-  pub octets : a.held.octets ≡ b.held.octets
-  pub account : Like (account_of t o a.end) (account_of u p b.end)
+-- ---- courses of an end
+
+-- an end, the indications that were given of it and the octets that were sent
+pub record Course : Type 0 where
+  pub told : List (ℕ × Shown)
+  pub sent : List ℕ
+  pub now : Holding
+
+abbrev pub account_in : Course → Account
+account_in x = account_of x.told x.sent x.now.end
+
+abbrev pub begun : Holding → Course
+begun old = record { told = []; sent = []; now = old }
+
+-- after these calls
+abbrev pub after : Course → List Call → Holding → Course
+after x calls new = record { told = x.told ++ flat_map told_in calls; sent = x.sent ++ flat_map carried_in calls; now = new }
+
+-- two ends that are alike
+pub record Same (Like : Account → Account → Type 0) (x y : Course) : Type 0 where
+  pub octets : x.now.held.octets ≡ y.now.held.octets
+  pub account : Like (account_in x) (account_in y)
 
 -- and whose unfinished packets are at the same offset
-pub record Are (Like : Account → Account → Type 0) (t : List (ℕ × Shown)) (o : List ℕ) (a : Holding) (u : List (ℕ × Shown)) (p : List ℕ)
-    (b : Holding) : Type 0 where
-  pub same : Same Like t o a u p b
-  pub partial : IsPartial a.held.octets
-  pub offset : a.held.offset ≡ b.held.offset
-  pub bound : a.held.offset < 2 ^ 64
+pub record Are (Like : Account → Account → Type 0) (x y : Course) : Type 0 where
+  pub same : Same Like x y
+  pub partial : IsPartial x.now.held.octets
+  pub offset : x.now.held.offset ≡ y.now.held.offset
+  pub bound : x.now.held.offset < 2 ^ 64
 
 -- ---- octets and indications
 
 -- the account of what these calls led to
-account_on : (t : List (ℕ × Shown)) (o : List ℕ) (old : Holding) (calls : List Call) (new : Holding) (packets : List (List ℕ)) →
-    account_along calls new.end ≡ with_packets packets (account_of [] [] old.end) →
-    account_of (t ++ flat_map told_in calls) (o ++ flat_map carried_in calls) new.end ≡ with_packets packets (account_of t o old.end)
-account_on t o old calls new packets h =
-    account_joined t (flat_map told_in calls) o (flat_map carried_in calls) new.end
-    ∙ ap (after_more t o) h ∙ sym (packets_apart t o packets (account_of [] [] old.end))
+account_on : (x : Course) (calls : List Call) (new : Holding) (packets : List (List ℕ)) →
+    account_along calls new.end ≡ with_packets packets (account_of [] [] x.now.end) →
+    account_in (after x calls new) ≡ with_packets packets (account_in x)
+account_on x calls new packets h =
+    grind (
+      arith,
+      account_joined x.told (flat_map told_in calls) x.sent (flat_map carried_in calls) new.end,
+      after_more,
+      packets_apart x.told x.sent packets (account_of [] [] x.now.end),
+    )
 
 pub calls_alike : (May : UserCall → End → Type 0) (Like : Account → Account → Type 0) → Likeness May Like → IsPartial [] → OneCut →
-    (t : List (ℕ × Shown)) (o : List ℕ) (a : Holding) (u : List (ℕ × Shown)) (p : List ℕ) (b : Holding) (xs ys : List Call)
-    (c d : Holding) → Are Like t o a u p b →
-    CallsAlong a xs c → CallsAlong b ys d → flat_map used_in xs ≡ flat_map used_in ys → c.end.carrier.ended ≡ None →
-    d.end.carrier.ended ≡ None →
-    Are Like (t ++ flat_map told_in xs) (o ++ flat_map carried_in xs) c (u ++ flat_map told_in ys) (p ++ flat_map carried_in ys) d
-calls_alike May Like l nothing one_cut t o a u p b xs ys c d are h k used lasts still =
-    let m = calls_read nothing a xs c h lasts in
-    let n = calls_read nothing b ys d k still in
+    (x y : Course) (xs ys : List Call) (c d : Holding) → Are Like x y → CallsAlong x.now xs c → CallsAlong y.now ys d →
+    flat_map used_in xs ≡ flat_map used_in ys → c.end.carrier.ended ≡ None → d.end.carrier.ended ≡ None →
+    Are Like (after x xs c) (after y ys d)
+calls_alike May Like l nothing one_cut x y xs ys c d are h k used lasts still =
+    let m = calls_read nothing x.now xs c h lasts in
+    let n = calls_read nothing y.now ys d k still in
     let at = m.offset are.bound in
     let at' = n.offset (subst (λ (k : ℕ). k < 2 ^ 64) are.offset are.bound) in
-    let left = account_of t o a.end in
-    let right = account_of u p b.end in
-    let here = account_on t o a xs c m.packets m.account in
-    grind (arith, alike_at, packets_alike, account_on u p b ys d n.packets n.account, m.partial are.partial)
+    let left = account_in x in
+    let right = account_in y in
+    let here = account_on x xs c m.packets m.account in
+    grind (arith, alike_at, packets_alike, account_on y ys d n.packets n.account, m.partial are.partial)
 
 -- ---- a call of the user
 
 pub connects_apart : (o : List ℕ) (c : Connect) (e : End) → connects c (put_back o e) ≡ put_back o (connects c e)
 connects_apart o c e =
-    ap (λ (x : Carrier). joins (e.carrier.given + 1) (calls_with c) (record e { carrier = x }))
-    (apart_all [] o (user (connects_call (option_map tsap_octets c.calling_tsap) (option_map tsap_octets c.called_tsap)) ∷ []) e.carrier)
+    grind (
+      arith,
+      apart_all [] o (user (connects_call (option_map tsap_octets c.calling_tsap) (option_map tsap_octets c.called_tsap)) ∷ []) e.carrier,
+    )
 
 user_apart : (o : List ℕ) (call : UserCall) (e : End) → user_does call (put_back o e) ≡ put_back o (user_does call e)
 user_apart o call e = grind (arith, connects_apart, apart_session, disconnects_apart)
@@ -120,69 +141,50 @@ exactly = record {
 -- ---- rounds
 
 -- the unfinished packet stays as it is
-held_alike : (Like : Account → Account → Type 0) (t : List (ℕ × Shown)) (o : List ℕ) (a : Holding) (u : List (ℕ × Shown)) (p : List ℕ)
-    (b c d : Holding) → Are Like t o a u p b → c.held ≡ a.held → d.held ≡ b.held →
-    Like (account_of t o c.end) (account_of u p d.end) → Are Like t o c u p d
-held_alike Like t o a u p b c d are h k account = grind arith
+held_alike : (Like : Account → Account → Type 0) (x y : Course) (c d : Holding) → Are Like x y → c.held ≡ x.now.held → d.held ≡ y.now.held →
+    Like (account_of x.told x.sent c.end) (account_of y.told y.sent d.end) → Are Like (record x { now = c }) (record y { now = d })
+held_alike Like x y c d are h k account = grind arith
 
 user_alike : (May : UserCall → End → Type 0) (Like : Account → Account → Type 0) → Likeness May Like →
-    (t : List (ℕ × Shown)) (o : List ℕ) (a : Holding) (u : List (ℕ × Shown)) (p : List ℕ) (b : Holding) (call : Option UserCall)
-    (c d : Holding) →
-    Are Like t o a u p b → IsCalled May a call c → IsCalled May b call d → Are Like t o c u p d
-user_alike May Like l t o a u p b call c d are h k = search (arith, held_alike, alike_at, account_of, user_does)
+    (x y : Course) (call : Option UserCall) (c d : Holding) → Are Like x y → IsCalled May x.now call c → IsCalled May y.now call d →
+    Are Like (record x { now = c }) (record y { now = d })
+user_alike May Like l x y call c d are h k = search (arith, held_alike, alike_at, account_of, user_does)
 
-abbrev pub SameAfter : (Account → Account → Type 0) → List (ℕ × Shown) → List ℕ → List Call → Holding → List (ℕ × Shown) → List ℕ →
-    List Call → Holding → Type 0
-SameAfter Like t o xs a u p ys b = Same Like (t ++ flat_map told_in xs) (o ++ flat_map carried_in xs) a (u ++ flat_map told_in ys)
-    (p ++ flat_map carried_in ys) b
-
-abbrev pub AreAfter : (Account → Account → Type 0) → List (ℕ × Shown) → List ℕ → List Call → Holding → List (ℕ × Shown) → List ℕ →
-    List Call → Holding → Type 0
-AreAfter Like t o xs a u p ys b = Are Like (t ++ flat_map told_in xs) (o ++ flat_map carried_in xs) a (u ++ flat_map told_in ys)
-    (p ++ flat_map carried_in ys) b
-
-are_joined : (Like : Account → Account → Type 0) (t : List (ℕ × Shown)) (o : List ℕ) (u : List (ℕ × Shown)) (p : List ℕ)
-    (xs ys more rest : List Call) (a b : Holding) →
-    AreAfter Like (t ++ flat_map told_in xs) (o ++ flat_map carried_in xs) more a (u ++ flat_map told_in ys) (p ++ flat_map carried_in ys)
-    rest b →
-    AreAfter Like t o (xs ++ more) a u p (ys ++ rest) b
-are_joined Like t o u p xs ys more rest a b h =
+are_joined : (Like : Account → Account → Type 0) (x y : Course) (xs ys more rest : List Call) (now then a b : Holding) →
+    Are Like (after (after x xs now) more a) (after (after y ys then) rest b) → Are Like (after x (xs ++ more) a) (after y (ys ++ rest) b)
+are_joined Like x y xs ys more rest now then a b h =
     grind (arith, alike_at, account_of, flat_map, told_in, carried_in, append_assoc, flat_map-append)
 
 pub rounds_alike : (May : UserCall → End → Type 0) (Like : Account → Account → Type 0) → Likeness May Like → IsPartial [] → OneCut →
-    (t : List (ℕ × Shown)) (o : List ℕ) (a : Holding) (u : List (ℕ × Shown)) (p : List ℕ) (b : Holding) (xs ys : List Round)
-    (c d : Holding) →
-    Are Like t o a u p b → RoundsBy May a xs c → RoundsBy May b ys d → AreInStep xs ys →
-    AreAfter Like t o (calls_of xs) c u p (calls_of ys) d
-rounds_alike May Like l nothing one_cut t o a u p b [] [] c d are h k step = grind (arith, alike_at, account_of, append-nil)
-rounds_alike May Like l nothing one_cut t o a u p b [] (y ∷ ys) c d are h k step = absurd step
-rounds_alike May Like l nothing one_cut t o a u p b (x ∷ xs) [] c d are h k step = absurd step
-rounds_alike May Like l nothing one_cut t o a u p b (x ∷ xs) (y ∷ ys) c d are h k step =
-    let fed = calls_alike May Like l nothing one_cut t o a u p b x.calls y.calls h.0 k.0 are h.2 k.2 step.0
-    (grind arith) (grind arith) in
-    let t' = t ++ flat_map told_in x.calls in
-    let o' = o ++ flat_map carried_in x.calls in
-    let u' = u ++ flat_map told_in y.calls in
-    let p' = p ++ flat_map carried_in y.calls in
-    let met = user_alike May Like l t' o' h.0 u' p' k.0 x.user h.1 k.1 fed h.3
+    (x y : Course) (xs ys : List Round) (c d : Holding) →
+    Are Like x y → RoundsBy May x.now xs c → RoundsBy May y.now ys d → AreInStep xs ys →
+    Are Like (after x (calls_of xs) c) (after y (calls_of ys) d)
+rounds_alike May Like l nothing one_cut x y [] [] c d are h k step = grind (arith, alike_at, account_of, append-nil)
+rounds_alike May Like l nothing one_cut x y [] (s ∷ ys) c d are h k step = absurd step
+rounds_alike May Like l nothing one_cut x y (r ∷ xs) [] c d are h k step = absurd step
+rounds_alike May Like l nothing one_cut x y (r ∷ xs) (s ∷ ys) c d are h k step =
+    let fed = calls_alike May Like l nothing one_cut x y r.calls s.calls h.0 k.0 are h.2 k.2 step.0 (grind arith) (grind arith) in
+    let met = user_alike May Like l (after x r.calls h.0) (after y s.calls k.0) r.user h.1 k.1 fed h.3
     (subst (λ (call : Option UserCall). IsCalled May k.0 call k.1) (sym step.1) k.3) in
-    are_joined Like t o u p x.calls y.calls (calls_of xs) (calls_of ys) c d
-    (rounds_alike May Like l nothing one_cut t' o' h.1 u' p' k.1 xs ys c d met h.4 k.4 step.2)
+    are_joined Like x y r.calls s.calls (calls_of xs) (calls_of ys) h.1 k.1 c d
+    (rounds_alike May Like l nothing one_cut (after x r.calls h.1) (after y s.calls k.1) xs ys c d met h.4 k.4 step.2)
 
 -- an end is like itself
 pub are_first : (Like : Account → Account → Type 0) (old : Holding) → IsPartial old.held.octets → old.held.offset < 2 ^ 64 →
-    Like (account_of [] [] old.end) (account_of [] [] old.end) → Are Like [] [] old [] [] old
+    Like (account_of [] [] old.end) (account_of [] [] old.end) → Are Like (begun old) (begun old)
 are_first Like old partial bound like = grind arith
 
 -- ---- ends that are the same
 
-pub same_alike : (a b : Holding) (xs ys : List Call) → SameAfter (λ (x y : Account). x ≡ y) [] [] xs a [] [] ys b → AreAlike a xs b ys
-same_alike a b xs ys h = grind arith
+pub same_alike : (old a b : Holding) (xs ys : List Call) →
+    Same (λ (x y : Account). x ≡ y) (after (begun old) xs a) (after (begun old) ys b) → AreAlike a xs b ys
+same_alike old a b xs ys h = grind arith
 
 pub runs_alike : IsPartial [] → OneCut → (old a b : Holding) (xs ys : List Round) → IsPartial old.held.octets → old.held.offset < 2 ^ 64 →
     RoundsAlong old xs a → RoundsAlong old ys b →
     AreInStep xs ys → AreAlike a (calls_of xs) b (calls_of ys)
 runs_alike nothing one_cut old a b xs ys partial bound h k step =
     let Like : Account → Account → Type 0 = λ (x y : Account). x ≡ y in
-    same_alike a b (calls_of xs) (calls_of ys)
-    (rounds_alike MayCall Like exactly nothing one_cut [] [] old [] [] old xs ys a b (are_first Like old partial bound refl) h k step).same
+    same_alike old a b (calls_of xs) (calls_of ys)
+    (rounds_alike MayCall Like exactly nothing one_cut (begun old) (begun old) xs ys a b (are_first Like old partial bound refl) h k
+    step).same

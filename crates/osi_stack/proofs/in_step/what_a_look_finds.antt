@@ -2,17 +2,17 @@
 use Rattle.osi_stack.proofs.Vocabulary.{flat_map-append, sum_by-cons, flat_map, Rows, value_at, Connection, Broken, none_of}
 use Rattle.osi_stack.proofs.Vocabulary.{Call as SessionCall, disconnect_error, connect_error, call_error, phase_at, breaks, ends}
 use Rattle.osi_stack.proofs.Vocabulary.{shown_at_loss, all_lost, kept_at, all_waiting, hushed, put_back, live_lines, pruned, account_of}
-use Rattle.osi_stack.proofs.Vocabulary.{CallsAlong, told_in, carried_in, AreAlikeInLive, LookAlike, IsSettled, Line, End, Holding}
-use Rattle.osi_stack.proofs.Vocabulary.{session_in, session_at, joined_live, joined_in, ◌≡◌, ℕ, Bool, true, false, List, [], ◌∷◌, ◌++◌}
-use Rattle.osi_stack.proofs.Vocabulary.{None, is_some, IsSome, refl, sym, ap, ◌∙◌, arith, if◌then◌else◌}
+use Rattle.osi_stack.proofs.Vocabulary.{CallsAlong, told_in, carried_in, AreAlike, AreAlikeByReference, AreAlikeInLive, LookAlike}
+use Rattle.osi_stack.proofs.Vocabulary.{IsSettled, Line, End, Holding, session_in, session_at, joined_live, joined_in, ◌≡◌, ℕ, Bool, true}
+use Rattle.osi_stack.proofs.Vocabulary.{false, List, [], ◌∷◌, ◌++◌, None, is_some, IsSome, refl, sym, ap, ◌∙◌, arith, if◌then◌else◌}
 use Rattle.osi_stack.specs.Runs.{Call, told_of}
 use Rattle.osi_stack.proofs.in_step.the_account_packet_by_packet.{after_more, account_joined}
-use Rattle.osi_stack.proofs.in_step.what_is_seen_is_the_same.{quieted_at, call_apart, call_hushed, look_alike}
+use Rattle.osi_stack.proofs.in_step.what_is_seen_is_the_same.{quieted_at, call_apart, call_hushed}
 use Rattle.osi_stack.proofs.in_step.a_break_while_indications_are_pending.{lost_told}
 use Rattle.osi_stack.proofs.stream.how_calls_end_an_end.{stays_along}
-use Rattle.osi_stack.proofs.in_step.lines_that_are_gone_do_not_matter.{IsFit, gone_shows}
+use Rattle.osi_stack.proofs.in_step.lines_that_are_gone_do_not_matter.{IsFit, gone_shows, quieted_live}
 use Rattle.osi_stack.proofs.in_step.what_is_joined_is_the_same.{joined_quiet}
-use Rattle.osi_stack.proofs.in_step.the_other_lines_may_be_dropped.{only_at, only_row}
+use Rattle.osi_stack.proofs.in_step.the_other_lines_may_be_dropped.{only_at}
 
 -- ---- what is seen of one
 
@@ -29,18 +29,12 @@ session_view r o e = grind (arith, quieted_at, session_by)
 call_view : (r : ℕ) (call : SessionCall) (o : List ℕ) (e : End) → call_error r call (put_back o (hushed (pruned e))) ≡ call_error r call e
 call_view r call o e = search (arith, call_apart, call_hushed, session_by)
 
-joined_by : (live : Rows Connection) (q : ℕ) (y : Line) (lines : Rows Line) (b : Bool) → is_some (value_at q live) ≡ b →
-    joined_in live (live_lines live lines) ≡ joined_in live lines →
-    joined_in live (live_lines live ((q, y) ∷ lines)) ≡ joined_in live ((q, y) ∷ lines)
-joined_by live q y lines true e more =
-    let one = sum_by-cons (λ row. joined_live live row) (q, y) (live_lines live lines) in
-    let two = sum_by-cons (λ row. joined_live live row) (q, y) lines in
-    grind (arith, only_row)
-joined_by live q y lines false e more = grind (arith, sum_by-cons, only_row)
-
 joined_pruned : (live : Rows Connection) (lines : Rows Line) → joined_in live (live_lines live lines) ≡ joined_in live lines
 joined_pruned live [] = refl
-joined_pruned live ((q, y) ∷ lines) = joined_by live q y lines (is_some (value_at q live)) refl (joined_pruned live lines)
+joined_pruned live ((q, y) ∷ lines) =
+    let one = sum_by-cons (λ row. joined_live live row) (q, y) (live_lines live lines) in
+    let two = sum_by-cons (λ row. joined_live live row) (q, y) lines in
+    grind (arith, joined_pruned live lines)
 
 -- ---- two ends
 
@@ -67,6 +61,13 @@ looks a b xs ys octets same told =
 pub looks_in_live : (a b : Holding) (xs ys : List Call) → AreAlikeInLive a xs b ys → LookAlike a xs b ys
 looks_in_live a b xs ys h = looks a b xs ys h.octets h.end (λ r. ap (told_of r) h.told)
 
+-- also if the indications of several references are in another order
+pub look_apart : (a b : Holding) (xs ys : List Call) → AreAlikeByReference a xs b ys → LookAlike a xs b ys
+look_apart a b xs ys h = looks a b xs ys h.octets (grind (arith, quieted_live)) h.told
+
+pub look_alike : (a b : Holding) (xs ys : List Call) → AreAlike a xs b ys → LookAlike a xs b ys
+look_alike a b xs ys h = look_apart a b xs ys (record { octets = h.octets; end = h.end; told = λ r. ap (told_of r) h.told })
+
 -- ---- a break
 
 none_live : (lines : Rows Line) → live_lines [] lines ≡ []
@@ -83,9 +84,7 @@ lost_by : (r : ℕ) (o p : List ℕ) (a b : End) (here : Bool) → is_some (valu
     put_back o (hushed (pruned a)) ≡ put_back p (hushed (pruned b)) →
     a.carrier.ended ≡ None → b.carrier.ended ≡ None → IsFit a → IsFit b →
     shown_at_loss (kept_at r a.lines) ≡ shown_at_loss (kept_at r b.lines)
-lost_by r o p a b true e same lasts still f g =
-    let there : is_some (value_at r b.carrier.live) ≡ true = ap (λ (x : End). is_some (value_at r x.carrier.live)) (sym same) ∙ e in
-    ap shown_at_loss (sym (kept_view r o a e) ∙ ap (λ (x : End). kept_at r x.lines) same ∙ kept_view r p b there)
+lost_by r o p a b true e same lasts still f g = grind (arith, kept_view r o a e, kept_view r p b)
 lost_by r o p a b false e same lasts still f g = grind (arith, gone_shows, none_of)
 
 broken_told : (a b : Holding) (xs ys : List Call) (r : ℕ) → a.end.carrier.ended ≡ None → b.end.carrier.ended ≡ None → IsFit a.end →
@@ -114,30 +113,19 @@ looks_broken a b xs ys s t h = grind (arith, breaks_by (is_some a.end.carrier.en
 
 -- ---- after an end
 
-look_turned : (a b : Holding) (xs ys : List Call) → LookAlike a xs b ys → LookAlike b ys a xs
-look_turned a b xs ys h = record {
-  phases = λ r. sym (h.phases r);
-  sessions = λ r. sym (h.sessions r);
-  indications = λ r. sym (h.indications r);
-  octets = sym h.octets;
-  ended = sym h.ended;
-  kept = sym h.kept;
-  requests = λ c. sym (h.requests c);
-  answers = λ r call. sym (h.answers r call);
-  disconnects = λ r. sym (h.disconnects r);
-}
-
-look_through : (a b c : Holding) (xs ys zs : List Call) → LookAlike a xs b ys → LookAlike b ys c zs → LookAlike a xs c zs
-look_through a b c xs ys zs h k = record {
-  phases = λ r. h.phases r ∙ k.phases r;
-  sessions = λ r. h.sessions r ∙ k.sessions r;
-  indications = λ r. h.indications r ∙ k.indications r;
-  octets = h.octets ∙ k.octets;
-  ended = h.ended ∙ k.ended;
-  kept = h.kept ∙ k.kept;
-  requests = λ d. h.requests d ∙ k.requests d;
-  answers = λ r call. h.answers r call ∙ k.answers r call;
-  disconnects = λ r. h.disconnects r ∙ k.disconnects r;
+-- what looks alike of two that look alike
+look_across : (a b c d : Holding) (xs ys zs ws : List Call) → LookAlike a xs b ys → LookAlike a xs c zs → LookAlike b ys d ws →
+    LookAlike c zs d ws
+look_across a b c d xs ys zs ws look left right = record {
+  phases = λ r. sym (left.phases r) ∙ look.phases r ∙ right.phases r;
+  sessions = λ r. sym (left.sessions r) ∙ look.sessions r ∙ right.sessions r;
+  indications = λ r. sym (left.indications r) ∙ look.indications r ∙ right.indications r;
+  octets = sym left.octets ∙ look.octets ∙ right.octets;
+  ended = sym left.ended ∙ look.ended ∙ right.ended;
+  kept = sym left.kept ∙ look.kept ∙ right.kept;
+  requests = λ c. sym (left.requests c) ∙ look.requests c ∙ right.requests c;
+  answers = λ r call. sym (left.answers r call) ∙ look.answers r call ∙ right.answers r call;
+  disconnects = λ r. sym (left.disconnects r) ∙ look.disconnects r ∙ right.disconnects r;
 }
 
 -- one that has ended looks the same, whatever it is fed, and whatever is reported and carried of it
@@ -154,5 +142,5 @@ pub looks_behind : (a b c d : Holding) (xs ys zs ws : List Call) → IsSome a.en
     CallsAlong b ws d →
     LookAlike c (xs ++ zs) d (ys ++ ws)
 looks_behind a b c d xs ys zs ws over look h k =
-    look_through c a d (xs ++ zs) xs (ys ++ ws) (look_turned a c xs (xs ++ zs) (look_over a c xs zs over h))
-    (look_through a b d xs ys (ys ++ ws) look (look_over b d ys ws (sym (ap is_some look.ended) ∙ over) k))
+    look_across a b c d xs ys (xs ++ zs) (ys ++ ws) look (look_over a c xs zs over h)
+    (look_over b d ys ws (sym (ap is_some look.ended) ∙ over) k)

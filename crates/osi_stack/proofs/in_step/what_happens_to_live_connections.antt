@@ -1,17 +1,16 @@
 -- What happens to an end happens to live connections and to new ones alone: it is the same without the lines of
 -- connections that are gone.
-use Rattle.std.proofs.Common.{◌≡◌, ℕ, ◌≤◌, Bool, true, ◌||◌, nat_lt, List, [], ◌∷◌, None, is_some, refl, sym, ap, subst, ◌∙◌, arith}
+use Rattle.osi_stack.proofs.Vocabulary.{AllByRecursion, length, with_carrier, Happening, AreUpTo, IsOrderly, Rows, value_at}
+use Rattle.osi_stack.proofs.Vocabulary.{State as Carrier, EndReason, Input, after_packet, ends, all_waiting, to_session, live_lines, pruned}
+use Rattle.osi_stack.proofs.Vocabulary.{Line, End, ◌≡◌, ℕ, ◌≤◌, Bool, true, ◌||◌, nat_lt, List, [], ◌∷◌, None, is_some, refl, ap, arith}
 use Rattle.osi_carrier.specs.Packets as carriers
-use Rattle.osi_stack.proofs.Vocabulary.{AllByRecursion, sent_gone, closed_gone, Happening, AreUpTo, IsOrderly, Rows, value_at}
-use Rattle.osi_stack.proofs.Vocabulary.{State as Carrier, EndReason, Input, hears_times, after_packet, ends, all_waiting, to_session}
-use Rattle.osi_stack.proofs.Vocabulary.{live_lines, pruned, Line, End}
 use Rattle.osi_stack.proofs.carried.events_one_after_the_other.{concluded_carrier}
 use Rattle.osi_stack.proofs.carried.packets_without_events.{packet_is}
 use Rattle.osi_stack.proofs.opening.connections_that_units_open.{IsOf}
 use Rattle.osi_stack.proofs.each_line.lines_stay_in_order.{packet_along}
-use Rattle.osi_stack.proofs.carried.what_each_step_preserves.{Carries, session_carried, events_heard}
 use Rattle.osi_stack.proofs.in_step.the_other_lines_may_be_dropped.{only, only_end, only_session, only_packet, only_lost, only_told, AreOf}
 use Rattle.osi_stack.proofs.in_step.the_other_lines_may_be_dropped.{AreStill, still_session, still_packet, still_lost}
+use Rattle.osi_stack.proofs.carried.what_sessions_leave_of_the_carrier.{times_leave, session_keeps}
 
 -- ---- which connections are reached
 
@@ -40,34 +39,25 @@ packet_reaches c unit orderly none = grind (arith, reached_all, packet_along uni
 
 -- ---- a connection that is gone stays so
 
-sessions_keep : (q : ℕ) → Carries (λ c. value_at q c.live ≡ None)
-sessions_keep q = record { sends = λ r tsdu c none. sent_gone r q tsdu c none; closes = λ r c none. closed_gone r q 128 c none }
-
-gone_times : (n : ℕ) (e : End) (q : ℕ) → value_at q e.carrier.live ≡ None → value_at q (hears_times n e).carrier.live ≡ None
-gone_times n e q none =
-    events_heard (λ x. value_at q x.carrier.live ≡ None) (λ events x none. none) (grind (arith, session_carried, sessions_keep q)) n e none
-
 gone_packet : (e : End) (unit : List ℕ) (q : ℕ) → IsOrderly e.carrier → IsGone e.carrier q →
     value_at q (after_packet e unit).carrier.live ≡ None
-gone_packet e unit q orderly gone = grind (arith, concluded_carrier, gone_times, packet_is e unit, packet_along unit e.carrier orderly)
+gone_packet e unit q orderly gone =
+    let c = carriers.after_packet e.carrier unit in
+    let heard = times_leave (length c.events) (with_carrier c e) in
+    grind (arith, concluded_carrier, heard.gone q, packet_is e unit, packet_along unit e.carrier orderly)
 
 -- each reference of the one kind is of the other
 abbrev pub Within : (ℕ → Bool) → (ℕ → Bool) → Type 0
 Within K L = (q : ℕ) → K q ≡ true → L q ≡ true
 
 pub session_within : (r : ℕ) (input : Input) (e : End) → Within (is_live (to_session r input e).carrier) (reached e.carrier)
-session_within r input e q here = grind (arith, session_carried, sessions_keep q)
+session_within r input e q here = grind (arith, session_keeps r input e)
 
 -- ---- lines of fewer references
 
-less_by : (K L : ℕ → Bool) → Within K L → (q : ℕ) (y : Line) (lines : Rows Line) (b c : Bool) → L q ≡ b → K q ≡ c →
-    only K (only L lines) ≡ only K lines →
-    only K (only L ((q, y) ∷ lines)) ≡ only K ((q, y) ∷ lines)
-less_by K L within q y lines b c e f more = grind arith
-
 pub only_less : (K L : ℕ → Bool) → Within K L → (lines : Rows Line) → only K (only L lines) ≡ only K lines
 only_less K L within [] = refl
-only_less K L within ((q, y) ∷ lines) = less_by K L within q y lines (L q) (K q) refl refl (only_less K L within lines)
+only_less K L within ((q, y) ∷ lines) = grind (arith, only_less K L within lines)
 
 -- if no line is new
 pub known_live : (c : Carrier) (lines : Rows Line) → AreUpTo c.given lines → only (reached c) lines ≡ live_lines c.live lines
@@ -100,14 +90,15 @@ pub session_alike : (r : ℕ) (input : Input) (e : End) → is_live e.carrier r 
     AreStill (reached e.carrier) e.lines →
     SameInLive (to_session r input (pruned e)) (to_session r input e)
 session_alike r input e here known still =
-    let reaches = reached_live e.carrier r here in
-    subst (λ (x : End). SameInLive x (to_session r input e))
-    (sym (only_session (reached e.carrier) r input e reaches) ∙ ap (to_session r input) (pruned_is e known))
-    (acts_alike e (to_session r input e) (session_within r input e) (still_session (reached e.carrier) r input e reaches still))
+    grind (
+      arith,
+      only_session (reached e.carrier) r input e,
+      reached_live e.carrier r here,
+      pruned_is e known,
+      acts_alike e (to_session r input e) (session_within r input e),
+      still_session (reached e.carrier) r input e,
+    )
 
 pub ends_alike : (reason : EndReason) (e : End) → AreUpTo e.carrier.given e.lines → AreStill (reached e.carrier) e.lines →
     SameInLive (ends reason (pruned e)) (ends reason e)
-ends_alike reason e known still =
-    subst (λ (x : End). SameInLive x (ends reason e))
-    (grind (arith, only_lost, pruned_is))
-    (acts_alike e (ends reason e) (λ q here. cc) (still_lost (reached e.carrier) e.lines still))
+ends_alike reason e known still = grind (arith, only_lost, pruned_is, acts_alike e (ends reason e), still_lost)

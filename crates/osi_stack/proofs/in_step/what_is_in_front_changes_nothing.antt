@@ -1,12 +1,11 @@
 -- What an end does does not depend on the octets to send: it is the same with others in front.
-use Rattle.std.proofs.Common.{arith, ◌≡◌, ℕ, zero, suc, List, [], ◌∷◌, refl, sym, ap, ◌∙◌}
+use Rattle.osi_stack.proofs.Vocabulary.{apart_all, sent, closed_with, sent_all, Happening, packet, user, sends, State as Carrier, Input}
+use Rattle.osi_stack.proofs.Vocabulary.{react, hears, hears_first, hears_next, hears_times, with_events, with_carrier, attends}
+use Rattle.osi_stack.proofs.Vocabulary.{after_packet, to_session, put_back, End, arith, ◌≡◌, ℕ, zero, suc, List, [], ◌∷◌, refl, ap, ◌∙◌}
 use Rattle.osi_carrier.specs.Happenings as told
 use Rattle.osi_carrier.specs.Packets as carriers
 use Rattle.osi_carrier.specs.Runs as runs
 use Rattle.osi_carrier.specs.Runs.UserCall.{closes}
-use Rattle.osi_stack.proofs.Vocabulary.{apart_all, sent, closed_with, sent_all, Happening, packet, user, sends, State as Carrier, Input}
-use Rattle.osi_stack.proofs.Vocabulary.{react, hears, hears_first, hears_next, hears_times, with_events, with_carrier, attends}
-use Rattle.osi_stack.proofs.Vocabulary.{after_packet, to_session, put_back, End}
 use Rattle.osi_stack.proofs.carried.packets_without_events.{packet_is}
 
 -- with these octets in front
@@ -49,7 +48,10 @@ module _ (o : List ℕ) where
 
   pub apart_packet : (e : End) (unit : List ℕ) → after_packet (put_back o e) unit ≡ put_back o (after_packet e unit)
   apart_packet e unit =
-      packet_is (put_back o e) unit
-      ∙ ap (λ (c : Carrier). attends (with_carrier c e)) (apart_all [] o (packet unit ∷ []) e.carrier)
-      ∙ apart_attends (with_carrier (carriers.after_packet e.carrier unit) e)
-      ∙ ap (put_back o) (sym (packet_is e unit))
+      grind (
+        arith,
+        packet_is (put_back o e) unit,
+        packet_is e unit,
+        apart_all [] o (packet unit ∷ []) e.carrier,
+        apart_attends (with_carrier (carriers.after_packet e.carrier unit) e),
+      )

@@ -1,5 +1,5 @@
 -- What sessions have joined of unfinished SSDUs: as much for each live connection, whatever is pending.
-use Rattle.std.proofs.Common.{◌≡◌, ℕ, ◌+◌, ◌≤◌, ◌==◌, Bool, cond, [], ◌∷◌, length, Option, Some, None, is_some, IsSome, refl, ap, arith}
+use Rattle.std.proofs.Common.{◌≡◌, ℕ, ◌+◌, ◌≤◌, Bool, cond, [], ◌∷◌, length, Option, Some, None, is_some, IsSome, refl, ap, arith}
 use Rattle.osi_stack.proofs.Vocabulary.{sum_by-cons, sum_by, RiseFrom, Rows, value_at, without, Connection, without_other, quieted, Line}
 use Rattle.osi_stack.proofs.Vocabulary.{joined_in}
 
@@ -11,13 +11,9 @@ live_one live row = cond (is_some (value_at row.0 live)) 1 0
 abbrev pub live_in : Rows Connection → Rows Line → ℕ
 live_in live lines = sum_by (λ row. live_one live row) lines
 
-without_length_by : (r q : ℕ) (x : Connection) (rows : Rows Connection) (b : Bool) → (q == r) ≡ b → IsSome (value_at r ((q, x) ∷ rows)) →
-    (IsSome (value_at r rows) → length (without r rows) + 1 ≡ length rows) → length (without r ((q, x) ∷ rows)) + 1 ≡ length ((q, x) ∷ rows)
-without_length_by r q x rows b e some more = grind arith
-
 without_length : (r : ℕ) (rows : Rows Connection) → IsSome (value_at r rows) → length (without r rows) + 1 ≡ length rows
 without_length r [] some = cc
-without_length r ((q, x) ∷ rows) some = without_length_by r q x rows (q == r) refl some (without_length r rows)
+without_length r ((q, x) ∷ rows) some = grind (arith, without_length r rows)
 
 -- lines above a reference do not look at it
 live_apart : (r n : ℕ) (live : Rows Connection) (lines : Rows Line) → r ≤ n → RiseFrom n lines →
@@ -33,10 +29,13 @@ few_by : (r : ℕ) (line : Line) (live : Rows Connection) (lines : Rows Line) (o
     ((rows : Rows Connection) → live_in rows lines ≤ length rows) → live_in live ((r, line) ∷ lines) ≤ length live
 few_by r line live lines None at rise more = grind (arith, cond, sum_by-cons)
 few_by r line live lines (Some connection) at rise more =
-    let same = live_apart r r live lines (omega arith) rise in
-    let shorter = without_length r live (ap is_some at) in
-    let here : live_one live (r, line) ≡ 1 = ap (λ (o : Option Connection). cond (is_some o) 1 0) at in
-    search (arith, sum_by-cons)
+    grind (
+      arith,
+      sum_by-cons (λ row. live_one live row) (r, line) lines,
+      live_apart r r live lines,
+      without_length r live,
+      more (without r live),
+    )
 
 -- at most as many as are live
 pub live_few : (live : Rows Connection) (n : ℕ) (lines : Rows Line) → RiseFrom n lines → live_in live lines ≤ length live

@@ -2,84 +2,55 @@
 -- until its user is told that it is accepted or refused.
 use Rattle.osi_stack.proofs.Vocabulary.{eqb-true, eq-eqb, or_left, append-nil, AllByRecursion, Value, request, confirm, disconnect, error}
 use Rattle.osi_stack.proofs.Vocabulary.{Standing, Class, Zero, Two, Happening, closed, faulted, RiseFrom, told_of, IsOrderly}
-use Rattle.osi_stack.proofs.Vocabulary.{answers_request, to_unknown, to_asked, taking, leaves, to_closing, to_connection, to_only, reacts}
-use Rattle.osi_stack.proofs.Vocabulary.{Rows, value_at, put, without, Connection, asked, closing, State, EndReason, put_here, without_here}
-use Rattle.osi_stack.proofs.Vocabulary.{beyond, put_other, without_other, put_none, push_other, stays_gone, orderly_unit, react_over}
-use Rattle.osi_stack.proofs.Vocabulary.{told_opened as opened, carrier_ends as ends, nat_tests, ◌≡◌, ◌≢◌, ℕ, ◌+◌, ◌<◌, ◌≤◌, ◌==◌, Bool}
-use Rattle.osi_stack.proofs.Vocabulary.{true, false, List, [], ◌∷◌, ◌++◌, Option, Some, None, Result, Ok, Err, is_some, IsSome, refl, sym}
-use Rattle.osi_stack.proofs.Vocabulary.{ap, subst, ◌∙◌, inl, ◌⊎◌, arith, append_assoc, Selection, accept, refuse, LinkFault, confirmed}
+use Rattle.osi_stack.proofs.Vocabulary.{answers_request, to_asked, taking, leaves, to_closing, to_connection, to_only, reacts, Rows}
+use Rattle.osi_stack.proofs.Vocabulary.{value_at, without, Connection, asked, closing, State, EndReason, without_here, beyond, push_here}
+use Rattle.osi_stack.proofs.Vocabulary.{put_other, without_other, push_other, stays_gone, orderly_unit, react_over, told_opened as opened}
+use Rattle.osi_stack.proofs.Vocabulary.{carrier_ends as ends, nat_tests, ◌≡◌, ◌≢◌, ℕ, ◌+◌, ◌<◌, ◌≤◌, true, false, List, [], ◌∷◌, ◌++◌}
+use Rattle.osi_stack.proofs.Vocabulary.{Option, Some, None, Result, Ok, Err, is_some, IsSome, refl, sym, ap, subst, ◌∙◌, inl, inr, ◌⊎◌}
+use Rattle.osi_stack.proofs.Vocabulary.{arith, append_assoc, Selection, accept, refuse, LinkFault}
 use Rattle.osi_tpdu.specs.Value.{Connect}
 use Rattle.osi_carrier.specs.React.{answers, opens, react}
 use Rattle.osi_stack.proofs.opening.which_requests_are_answered.{answered, answered_front, answered_behind}
 use Rattle.osi_stack.proofs.sound.the_invariant_is_kept.{units_rise}
 use Rattle.osi_stack.proofs.carried.packets_without_events.{both}
+use Rattle.osi_stack.proofs.carried.what_sessions_leave_of_the_carrier.{AwaitedBefore, awaited_put}
 
 -- ---- connections that await a CC
 
--- each that awaits one now did before
-abbrev pub AwaitedBefore : Rows Connection → Rows Connection → Type 0
-AwaitedBefore old new = (q : ℕ) → value_at q new ≡ Some asked → value_at q old ≡ Some asked
-
-put_at : (q r : ℕ) (c : Connection) (rows : Rows Connection) (b : Bool) (o : Option Connection) → (q == r) ≡ b → value_at q rows ≡ o →
-    (c ≡ asked → ⊥) →
-    value_at q (put r c rows) ≡ Some asked → value_at q rows ≡ Some asked
-put_at q r c rows b o e is other h = grind (arith, eq-eqb, put_other, put_none, put_here, eqb-true)
-
-pub awaited_put : (r : ℕ) (c : Connection) (rows : Rows Connection) → (c ≡ asked → ⊥) → AwaitedBefore rows (put r c rows)
-awaited_put r c rows other = λ q h. put_at q r c rows (q == r) (value_at q rows) refl refl other h
-
-without_at : (q r : ℕ) (rows : Rows Connection) (b : Bool) → (q == r) ≡ b → RiseFrom 0 rows → value_at q (without r rows) ≡ Some asked →
-    value_at q rows ≡ Some asked
-without_at q r rows b e rise h = grind (arith, eq-eqb, without_other, asked, without_here, value_at, without, eqb-true)
-
 awaited_without : (r : ℕ) (rows : Rows Connection) → RiseFrom 0 rows → AwaitedBefore rows (without r rows)
-awaited_without r rows rise = λ q h. without_at q r rows (q == r) refl rise h
+awaited_without r rows rise = λ q h. grind (arith, eq-eqb, without_other, asked, without_here, value_at, without, eqb-true)
 
-push_at : (q p n : ℕ) (c y : Connection) (rows : Rows Connection) (b : Bool) → (p == q) ≡ b →
-    (value_at q (rows ++ (n, c) ∷ []) ≡ Some asked → value_at q rows ≡ Some asked) →
-    value_at q ((p, y) ∷ (rows ++ (n, c) ∷ [])) ≡ Some asked → value_at q ((p, y) ∷ rows) ≡ Some asked
-push_at q p n c y rows b e more h = grind arith
-
-last_at : (q n : ℕ) (c : Connection) (b : Bool) → (n == q) ≡ b → (c ≡ asked → ⊥) → value_at q ((n, c) ∷ []) ≡ Some asked →
-    value_at q [] ≡ Some asked
-last_at q n c b e other h = grind arith
-
-awaited_push : (n : ℕ) (c : Connection) (rows : Rows Connection) → (c ≡ asked → ⊥) → AwaitedBefore rows (rows ++ (n, c) ∷ [])
-awaited_push n c [] other = λ q h. last_at q n c (n == q) refl other h
-awaited_push n c ((p, y) ∷ rows) other = λ q h. push_at q p n c y rows (p == q) refl (awaited_push n c rows other q) h
+awaited_push : (n : ℕ) (c : Connection) (rows : Rows Connection) → (c ≡ asked → ⊥) → value_at n rows ≡ None →
+    AwaitedBefore rows (rows ++ (n, c) ∷ [])
+awaited_push n c rows other none = λ q h. grind (arith, eqb-true, push_here, eq-eqb, push_other)
 
 -- ---- what is opened
-
-abbrev pub opened_in : List Happening → List ℕ
-opened_in [] = []
-opened_in (opened r ∷ events) = r ∷ opened_in events
-opened_in (event ∷ events) = opened_in events
-
-pub opened_join : (a b : List Happening) → opened_in (a ++ b) ≡ opened_in a ++ opened_in b
-opened_join [] b = refl
-opened_join (opened r ∷ a) b = ap (λ l. r ∷ l) (opened_join a b)
-opened_join (event ∷ a) b = opened_join a b
 
 -- one that was requested
 record Agreed (old new : State) (told : List Happening) : Type 0 where
   reference : ℕ
   event : told ≡ opened reference ∷ []
-  is : opened_in told ≡ reference ∷ []
   here : value_at reference old.live ≡ Some asked
   given : new.given ≡ old.given
 
 -- a new one
 record Accepted (old new : State) (told : List Happening) : Type 0 where
   event : told ≡ opened (old.given + 1) ∷ []
-  is : opened_in told ≡ (old.given + 1) ∷ []
   given : new.given ≡ old.given + 1
   called : old.is_caller ≡ false
 
--- none; what is reported is of a connection that is there
+-- none is opened, and this is of a connection that is there
+abbrev IsAbout : State → Happening → Type 0
+IsAbout s (opened r) = ⊥
+IsAbout s event = IsSome (value_at (told_of event) s.live)
+
 record Unopened (old new : State) (told : List Happening) : Type 0 where
-  is : opened_in told ≡ []
-  about : AllByRecursion (λ event. IsSome (value_at (told_of event) old.live)) told
+  about : AllByRecursion (IsAbout old) told
   given : new.given ≡ old.given
+
+-- how a unit opens a connection, if it does
+abbrev How : State → State → List Happening → Type 0
+How old new told = Unopened old new told ⊎ (Agreed old new told ⊎ Accepted old new told)
 
 -- one that was requested is so still, or that is answered, while the carrier lasts
 abbrev pub StaysAsked : State → State → List Happening → Type 0
@@ -89,7 +60,7 @@ StaysAsked old new told = (q : ℕ) → value_at q old.live ≡ Some asked → n
 record Opens (old new : State) : Type 0 where
   told : List Happening
   events : new.events ≡ old.events ++ told
-  how : Unopened old new told ⊎ (Agreed old new told ⊎ Accepted old new told)
+  how : How old new told
   side : new.is_caller ≡ old.is_caller
   awaited : AwaitedBefore old.live new.live
   stays : StaysAsked old new told
@@ -98,10 +69,10 @@ silent : (old new : State) → new.events ≡ old.events → new.given ≡ old.g
     AwaitedBefore old.live new.live → StaysAsked old new [] → Opens old new
 silent old new same given side awaited stays = grind (arith, append-nil)
 
-telling : (old new : State) (event : Happening) → opened_in (event ∷ []) ≡ [] → IsSome (value_at (told_of event) old.live) →
+telling : (old new : State) (event : Happening) → IsAbout old event →
     new.events ≡ old.events ++ event ∷ [] → new.given ≡ old.given → new.is_caller ≡ old.is_caller →
     AwaitedBefore old.live new.live → StaysAsked old new (event ∷ []) → Opens old new
-telling old new event none here same given side awaited stays = grind arith
+telling old new event about same given side awaited stays = grind arith
 
 opens_none : (s : State) → Opens s s
 opens_none s = silent s s refl refl refl (λ q h. h) (λ q h over. inl h)
@@ -123,17 +94,14 @@ opens_request c s o called = grind (arith, silent, opens_answers)
 
 -- ---- a unit for a connection
 
-opens_unknown : (unit : Value) (s : State) → Opens s (to_unknown unit s)
-opens_unknown unit s = search (arith, silent, opens_none, opens_end)
-
 opens_confirm : (r : ℕ) (c : Connect) (class : Option Class) (s : State) → value_at r s.live ≡ Some asked → Opens s (opens r c class s)
 opens_confirm r c class s here = grind (arith, opens_end, opened, awaited_put, or_left, put_other)
 
 opens_asked : (r : ℕ) (unit : Value) (s : State) → IsOrderly s → value_at r s.live ≡ Some asked → Opens s (to_asked r unit s)
-opens_asked r (confirm destination c) s o here = opens_confirm r c (confirmed c s.local s.class) s here
+opens_asked r (confirm destination c) s o here = grind (arith, opens_confirm)
 opens_asked r (disconnect destination source reason user) s o here = grind (arith, telling, awaited_without, or_left, without_other)
 opens_asked r (error destination cause) s o here = grind (arith, telling, awaited_without, or_left, without_other)
-opens_asked r unit s o here = opens_unknown unit s
+opens_asked r unit s o here = search (arith, silent, opens_none, opens_end)
 
 -- a connection that is there, and was not asked for
 record IsThere (r : ℕ) (s : State) : Type 0 where
@@ -152,7 +120,7 @@ opens_closing r unit s o here = search (arith, silent, awaited_without, without_
 
 opens_connection : (r : ℕ) (o : Option Connection) (unit : Value) (s : State) → IsOrderly s → value_at r s.live ≡ o →
     Opens s (to_connection r o unit s)
-opens_connection r o unit s o2 here = search (arith, opens_unknown, opens_asked, opens_leaves, opens_taking, opens_closing)
+opens_connection r o unit s o2 here = search (arith, silent, opens_none, opens_end, opens_asked, opens_leaves, opens_taking, opens_closing)
 
 -- ---- by class
 
@@ -170,31 +138,6 @@ opens_unit unit s o = search (arith, opens_none, confirm, opens_connection, disc
 
 -- ---- units one after the other
 
--- each is above those before it; the first is above one number, and the last at most another
-abbrev pub Rises : ℕ → List ℕ → ℕ → Type 0
-Rises g [] h = g ≤ h
-Rises g (r ∷ more) h = (g < r) × Rises r more h
-
-rises_from : (f g : ℕ) (l : List ℕ) (h : ℕ) → f ≤ g → Rises g l h → Rises f l h
-rises_from f g [] h le rise = omega arith
-rises_from f g (r ∷ more) h le rise = ((let above = rise.0 in omega arith), rise.1)
-
-rises_join : (g : ℕ) (a : List ℕ) (h : ℕ) (b : List ℕ) (k : ℕ) → Rises g a h → Rises h b k → Rises g (a ++ b) k
-rises_join g [] h b k first second = rises_from g h b k first second
-rises_join g (r ∷ a) h b k first second = (first.0, rises_join r a h b k first.1 second)
-
-abbrev pub AreAwaited : Rows Connection → List ℕ → Type 0
-AreAwaited live [] = Unit {0}
-AreAwaited live (r ∷ more) = (value_at r live ≡ Some asked) × AreAwaited live more
-
-awaited_from : (old mid : Rows Connection) (l : List ℕ) → AwaitedBefore old mid → AreAwaited mid l → AreAwaited old l
-awaited_from old mid [] before all = tt
-awaited_from old mid (r ∷ more) before all = (before r all.0, awaited_from old mid more before all.1)
-
-awaited_join : (live : Rows Connection) (a b : List ℕ) → AreAwaited live a → AreAwaited live b → AreAwaited live (a ++ b)
-awaited_join live [] b first second = second
-awaited_join live (r ∷ a) b first second = (first.0, awaited_join live a b first.1 second)
-
 -- none awaits a CC
 abbrev pub NoneAwaited : Rows Connection → Type 0
 NoneAwaited live = (q : ℕ) → value_at q live ≡ Some asked → ⊥
@@ -205,12 +148,13 @@ all_join : {X : Type 0} (P : X → Type 0) (a b : List X) → AllByRecursion P a
 all_join P [] b all more = more
 all_join P (x ∷ a) b all more = (all.0, all_join P a b all.1 more)
 
-all_still : {X : Type 0} (P Q : X → Type 0) (l : List X) → ((x : X) → P x → Q x) → AllByRecursion P l → AllByRecursion Q l
+pub all_still : {X : Type 0} (P Q : X → Type 0) (l : List X) → ((x : X) → P x → Q x) → AllByRecursion P l → AllByRecursion Q l
 all_still P Q [] still all = tt
 all_still P Q (x ∷ l) still all = (still x all.0, all_still P Q l still all.1)
 
--- one that is there, or one that is new
+-- one that is there, and awaited a CC if it is opened; or one that is new
 abbrev pub IsOf : State → Happening → Type 0
+IsOf s (opened r) = (value_at r s.live ≡ Some asked) ⊎ (s.given < r)
 IsOf s event = IsSome (value_at (told_of event) s.live) ⊎ (s.given < told_of event)
 
 -- one that was given
@@ -228,17 +172,27 @@ comes_join g [] h b k first second = subst (λ n. Comes n b k) first second
 comes_join g (opened r ∷ a) h b k first second = (first.0, comes_join r a h b k first.1 second)
 comes_join g (event ∷ a) h b k first second = (first.0, comes_join g a h b k first.1 second)
 
-comes_quiet : (g : ℕ) (l : List Happening) (h : ℕ) → h ≡ g → opened_in l ≡ [] → AllByRecursion (IsGiven g) l → Comes g l h
-comes_quiet g [] h same none all = same
-comes_quiet g (opened r ∷ more) h same none all = cc
-comes_quiet g (event ∷ more) h same none all = (all.0, comes_quiet g more h same none all.1)
+-- what is there was given
+there_given : (r : ℕ) (s : State) → IsOrderly s → IsSome (value_at r s.live) → r ≤ s.given
+there_given r s o here = grind (arith, nat_tests, beyond, is_some)
+
+about_of : (s : State) (event : Happening) → IsAbout s event → IsOf s event
+about_of s (opened r) about = absurd about
+about_of s event about = inl about
+
+about_given : (s : State) → IsOrderly s → (event : Happening) → IsAbout s event → IsGiven s.given event
+about_given s o (opened r) about = absurd about
+about_given s o event about = there_given (told_of event) s o about
+
+comes_quiet : (s : State) → IsOrderly s → (l : List Happening) (h : ℕ) → h ≡ s.given → AllByRecursion (IsAbout s) l → Comes s.given l h
+comes_quiet s o [] h same all = same
+comes_quiet s o (opened r ∷ more) h same all = absurd all.0
+comes_quiet s o (event ∷ more) h same all = (about_given s o event all.0, comes_quiet s o more h same all.1)
 
 -- what was reported opens what a caller asked for, and at a called end what is new
 pub record OpensAlong (old new : State) : Type 0 where
   pub told : List Happening
   pub events : new.events ≡ old.events ++ told
-  pub caller : old.is_caller ≡ true → AreAwaited old.live (opened_in told)
-  pub called : old.is_caller ≡ false → NoneAwaited old.live → Rises old.given (opened_in told) new.given
   pub side : new.is_caller ≡ old.is_caller
   pub awaited : AwaitedBefore old.live new.live
   pub about : AllByRecursion (IsOf old) told
@@ -249,24 +203,15 @@ pub record OpensAlong (old new : State) : Type 0 where
   pub stays : StaysAsked old new told
   pub lasts : new.ended ≡ None → old.ended ≡ None
 
-caller_by : (old new : State) (told : List Happening) → Unopened old new told ⊎ (Agreed old new told ⊎ Accepted old new told) →
-    old.is_caller ≡ true → AreAwaited old.live (opened_in told)
-caller_by old new told h3 caller = grind arith
-
-called_by : (old new : State) (told : List Happening) → Unopened old new told ⊎ (Agreed old new told ⊎ Accepted old new told) →
-    NoneAwaited old.live →
-    Rises old.given (opened_in told) new.given
-called_by old new told h3 none = grind arith
-
-known_by : (old new : State) (told : List Happening) → IsOrderly old →
-    Unopened old new told ⊎ (Agreed old new told ⊎ Accepted old new told) → old.is_caller ≡ true →
+known_by : (old new : State) (told : List Happening) → IsOrderly old → How old new told → old.is_caller ≡ true →
     (new.given ≡ old.given) × AllByRecursion (IsGiven old.given) told
-known_by old new told o h4 caller = grind (arith, all_still, nat_tests, beyond, is_some, both)
+known_by old new told o (inl h) caller = (h.given, all_still (IsAbout old) (IsGiven old.given) told (about_given old o) h.about)
+known_by old new told o (inr (inl h)) caller = grind (arith, there_given h.reference old o)
+known_by old new told o (inr (inr h)) caller = both old.is_caller caller h.called
 
-comes_by : (old new : State) (told : List Happening) → IsOrderly old →
-    Unopened old new told ⊎ (Agreed old new told ⊎ Accepted old new told) → NoneAwaited old.live →
+comes_by : (old new : State) (told : List Happening) → IsOrderly old → How old new told → NoneAwaited old.live →
     Comes old.given told new.given
-comes_by old new told o h4 none = grind (arith, comes_quiet, all_still, nat_tests, beyond, is_some)
+comes_by old new told o h none = grind (arith, comes_quiet)
 
 along_unit : (unit : Value) (s : State) → IsOrderly s → OpensAlong s (react unit s)
 along_unit unit s orderly =
@@ -274,11 +219,9 @@ along_unit unit s orderly =
     record {
       told = o.told;
       events = o.events;
-      caller = λ caller. caller_by s (react unit s) o.told o.how caller;
-      called = λ called none. called_by s (react unit s) o.told o.how none;
       side = o.side;
       awaited = o.awaited;
-      about = grind (arith, all_still);
+      about = grind (arith, all_still, about_of);
       known = λ caller. known_by s (react unit s) o.told orderly o.how caller;
       comes = λ called none. comes_by s (react unit s) o.told orderly o.how none;
       rises = units_rise (unit ∷ []) s;
@@ -291,15 +234,17 @@ known_join : (old mid new : State) (a : OpensAlong old mid) (b : OpensAlong mid 
     (new.given ≡ old.given) × AllByRecursion (IsGiven old.given) (a.told ++ b.told)
 known_join old mid new a b caller = grind (arith, all_join)
 
+of_before : (old mid : State) → OpensAlong old mid → (event : Happening) → IsOf mid event → IsOf old event
+of_before old mid a (opened r) is = grind arith
+of_before old mid a event is = grind arith
+
 along_join : (old mid new : State) → OpensAlong old mid → OpensAlong mid new → OpensAlong old new
 along_join old mid new a b = record {
   told = a.told ++ b.told;
   events = b.events ∙ ap (λ l. l ++ b.told) a.events ∙ append_assoc old.events a.told b.told;
-  caller = grind (arith, opened_join, awaited_join, awaited_from);
-  called = grind (arith, opened_join, rises_join);
   side = b.side ∙ a.side;
   awaited = λ q h. a.awaited q (b.awaited q h);
-  about = grind (arith, all_join, all_still);
+  about = all_join (IsOf old) a.told b.told a.about (all_still (IsOf mid) (IsOf old) b.told (of_before old mid a) b.about);
   known = λ caller. known_join old mid new a b caller;
   comes = grind (arith, comes_join);
   rises = let first = a.rises in let second = b.rises in omega arith;
@@ -312,8 +257,6 @@ along_none : (s : State) → OpensAlong s s
 along_none s = record {
   told = [];
   events = sym (append-nil s.events);
-  caller = λ caller. tt;
-  called = λ called none. omega arith;
   side = refl;
   awaited = λ q h. h;
   about = tt;

@@ -1,7 +1,7 @@
 -- A live connection that may receive indications has addresses.
 use Rattle.osi_stack.proofs.Vocabulary.{IfSome, known_is, Call, Input, Listener, called, taken, opened, refused, broken, came, react}
-use Rattle.osi_stack.proofs.Vocabulary.{after_input, shows_loss, addresses_at, phase_of, phase_at, IsNamed, line_by, selectors_told}
-use Rattle.osi_stack.proofs.Vocabulary.{IsSettled, Line, End, ◌≡◌, ℕ, Bool, true, false, List, Option, IsSome, refl, if◌then◌else◌, arith}
+use Rattle.osi_stack.proofs.Vocabulary.{after_input, shows_loss, addresses_at, phase_at, IsNamed, line_by, selectors_told, IsSettled, Line}
+use Rattle.osi_stack.proofs.Vocabulary.{End, ◌≡◌, ℕ, Bool, true, false, List, Option, IsSome, refl, if◌then◌else◌, arith}
 use Rattle.osi_stack.proofs.Vocabulary.{asks_for_connection, is_taken}
 use Rattle.osi_session.specs.Shown.{shows_connect}
 use Rattle.osi_stack.proofs.each_line.what_stays_true_of_each_line.{LinesStay, line_at}
@@ -40,10 +40,6 @@ pub named_stays : ShownFirst → LinesStay IsNamed
 named_stays law = grind (arith, opened, line_named, refused, came, broken)
 
 -- ---- of a connection that is live
-
--- said of the phase of a session, which is over if there is none
-abbrev Known : {X : Type 0} → Option Listener → Option X → Type 0
-Known session x = shows_loss (phase_of session) ≡ true → IsSome x
 
 pub known_at : (r : ℕ) (e : End) → IsSettled e → IfSome (phase_at r e) (λ p. shows_loss p ≡ true → IsSome (addresses_at r e))
 known_at r e s = search (arith, known_is, line_at)

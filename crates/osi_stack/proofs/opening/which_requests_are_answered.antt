@@ -1,5 +1,5 @@
 -- Which connections that were asked for are reported to be agreed to, or denied.
-use Rattle.std.proofs.Common.{◌≡◌, ℕ, ◌+◌, ◌==◌, Bool, true, false, ◌||◌, List, [], ◌∷◌, ◌++◌, arith}
+use Rattle.std.proofs.Common.{◌≡◌, ℕ, ◌==◌, Bool, true, false, ◌||◌, List, [], ◌∷◌, ◌++◌, arith}
 use Rattle.osi_stack.proofs.Vocabulary.{or_right, Happening, told_opened as opened, told_refused as refused}
 
 -- that a connection is agreed to, or denied, is among these

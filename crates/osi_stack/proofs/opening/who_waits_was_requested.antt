@@ -1,51 +1,28 @@
 -- Each session that waits for its transport connection has one that was requested.
-use Rattle.osi_stack.proofs.Vocabulary.{eqb-true, eq-eqb, Fed, Standing as Link, beyond, push_here, put_other, push_other, open_link}
-use Rattle.osi_stack.proofs.Vocabulary.{sent_on, closes, closed_on, Happening, IsOrderly, told_of, value_at, asked, State as Carrier, Call}
-use Rattle.osi_stack.proofs.Vocabulary.{Input, Listener, called, opened, refused, react, is_wait_transport, awaits, connects, without_first}
-use Rattle.osi_stack.proofs.Vocabulary.{Feeds, opens, hears, hears_next, hears_times, with_events, with_carrier, after_packet, AreApart}
-use Rattle.osi_stack.proofs.Vocabulary.{HasAsked, Soundness, IsSound, kept_at, to_session, Line, End, Holding, IsAttended, Connect}
-use Rattle.osi_stack.proofs.Vocabulary.{input_of, ◌≡◌, ℕ, ◌==◌, Bool, true, false, List, ◌∷◌, length, Option, Some, None, refl, sym, ap}
-use Rattle.osi_stack.proofs.Vocabulary.{subst, ◌∙◌, inl, inr, arith, []}
+use Rattle.osi_stack.proofs.Vocabulary.{eqb-true, eq-eqb, Fed, beyond, push_here, push_other, Happening, IsOrderly, told_of, value_at}
+use Rattle.osi_stack.proofs.Vocabulary.{asked, Call, Input, Listener, called, opened, refused, react, is_wait_transport, awaits, connects}
+use Rattle.osi_stack.proofs.Vocabulary.{without_first, Feeds, opens, hears, hears_next, hears_times, with_events, with_carrier}
+use Rattle.osi_stack.proofs.Vocabulary.{after_packet, AreApart, HasAsked, Soundness, IsSound, kept_at, to_session, Line, End, Holding}
+use Rattle.osi_stack.proofs.Vocabulary.{IsAttended, Connect, input_of, ◌≡◌, ℕ, ◌==◌, true, false, List, ◌∷◌, length, Option, Some, None}
+use Rattle.osi_stack.proofs.Vocabulary.{refl, sym, ◌∙◌, inl, inr, arith, []}
 use Rattle.osi_carrier.specs.Happenings as told
 use Rattle.osi_carrier.specs.Packets as carriers
 use Rattle.osi_stack.proofs.opening.which_requests_are_answered.{answered, answered_behind}
 use Rattle.osi_stack.proofs.carried.events_one_after_the_other.{concluded_carrier}
 use Rattle.osi_stack.proofs.carried.what_sessions_leave_of_the_carrier.{session_keeps}
 use Rattle.osi_stack.proofs.carried.packets_without_events.{both, packet_is, never}
-use Rattle.osi_stack.proofs.carried.open_connections_stay_open.{SessionLaws, HasMoved, Hearing, session_hears, first_is, rest_is}
-use Rattle.osi_stack.proofs.carried.open_connections_stay_open.{times_last, hears_apart, used_at, apart_push, joined_lines}
+use Rattle.osi_stack.proofs.carried.open_connections_stay_open.{SessionLaws, Hearing, session_hears, first_is, rest_is, times_last}
+use Rattle.osi_stack.proofs.carried.open_connections_stay_open.{hears_apart, used_at, apart_push, joined_lines}
 use Rattle.osi_stack.proofs.each_session.a_session_is_what_its_inputs_made.{kept_joined}
 use Rattle.osi_stack.proofs.carried.what_a_move_leaves.{kept_first}
 use Rattle.osi_stack.proofs.each_line.lines_stay_in_order.{packet_along}
 use Rattle.osi_stack.proofs.sound.the_invariant_is_kept.{concludes_lasting, hale_kept, IsHale}
-use Rattle.osi_stack.proofs.carried.what_each_step_preserves.{session_carried}
 use Rattle.osi_stack.proofs.stream.what_feeding_keeps.{feeds_beside, over_beside}
 
 -- a session that waits for its transport connection did so before
 abbrev pub StillWaits : Type 0
 StillWaits = (s : Listener) (input : Input) → is_wait_transport (react s input).next.state.phase ≡ true →
     is_wait_transport s.state.phase ≡ true
-
--- ---- what a session does to its carrier
-
-asked_sent : (r q : ℕ) (tsdu : List ℕ) (o : Option (ℕ × Link)) (c : Carrier) → open_link q c ≡ o →
-    (c.ended ≡ None → value_at r c.live ≡ Some asked) → (sent_on q tsdu o c).ended ≡ None →
-    value_at r (sent_on q tsdu o c).live ≡ Some asked
-asked_sent r q tsdu o c e here over = grind (arith, put_other)
-
-pub asked_closed : (r q : ℕ) (o : Option (ℕ × Link)) (c : Carrier) → open_link q c ≡ o → (c.ended ≡ None → value_at r c.live ≡ Some asked) →
-    (closed_on q 128 o c).ended ≡ None →
-    value_at r (closed_on q 128 o c).live ≡ Some asked
-asked_closed r q o c e here over = grind (arith, put_other)
-
--- one that was requested stays so while the carrier lasts
-asked_session : (r q : ℕ) (input : Input) (e : End) → (to_session q input e).carrier.ended ≡ None → value_at r e.carrier.live ≡ Some asked →
-    value_at r (to_session q input e).carrier.live ≡ Some asked
-asked_session r q input e over here =
-    session_carried (λ c. c.ended ≡ None → value_at r c.live ≡ Some asked) (record {
-      sends = λ q tsdu c here. asked_sent r q tsdu (open_link q c) c refl here;
-      closes = λ q c here. asked_closed r q (open_link q c) c refl here;
-    }) q input e (λ lasts. here) over
 
 -- ---- while events wait
 
@@ -59,26 +36,18 @@ abbrev Unanswered : ℕ → Input → Happening → List Happening → Type 0
 Unanswered q input event rest = (s : Listener) → is_wait_transport (react s input).next.state.phase ≡ true →
     answered q (event ∷ rest) ≡ answered q rest
 
-moved_asked : StillWaits → (q : ℕ) (input : Input) (event : Happening) (rest : List Happening) (e d : End) → told_of event ≡ q →
-    HasMoved q input e d →
-    ((r : ℕ) → value_at r e.carrier.live ≡ Some asked → value_at r d.carrier.live ≡ Some asked) → Unanswered q input event rest →
-    AllAsked (event ∷ rest) e →
-    (r : ℕ) (s : Listener) (b : Bool) → (r == q) ≡ b → kept_at r d.lines ≡ Some s → is_wait_transport s.state.phase ≡ true →
-    answered r rest ≡ false → value_at r d.carrier.live ≡ Some asked
-moved_asked law q input event rest e d of m stays quiet all r s b at is n h = search (arith, eqb-true, answered, both, eq-eqb)
-
 heard_asked : StillWaits → (q : ℕ) (input : Input) (event : Happening) (rest : List Happening) (e d : End) → told_of event ≡ q →
     Hearing q input e d →
     ((r : ℕ) → value_at r e.carrier.live ≡ Some asked → value_at r d.carrier.live ≡ Some asked) → Unanswered q input event rest →
     AllAsked (event ∷ rest) e → AllAsked rest d
-heard_asked law q input event rest e d of (inl m) stays quiet all =
-    λ r s. moved_asked law q input event rest e d of m stays quiet all r s (r == q) refl
+heard_asked law q input event rest e d of (inl m) stays quiet all = λ r s. search (arith, eqb-true, answered, both, eq-eqb)
 heard_asked law q input event rest e d of (inr m) stays quiet all = grind arith
 
 session_asked : StillWaits → (q : ℕ) (input : Input) (event : Happening) (rest : List Happening) (e : End) → told_of event ≡ q →
     (to_session q input e).carrier.ended ≡ None →
     Unanswered q input event rest → AllAsked (event ∷ rest) e → AllAsked rest (to_session q input e)
-session_asked law q input event rest e of over quiet all = search (arith, heard_asked, session_hears, asked_session)
+session_asked law q input event rest e of over quiet all =
+    search (arith, heard_asked, session_hears, (session_keeps q input e).leaves.stays over)
 
 -- ---- one event
 
@@ -93,12 +62,11 @@ refused_waits s reason = grind arith
 joined_asked : (q : ℕ) (rest : List Happening) (e : End) → AreApart e.lines → value_at q e.lines ≡ None →
     AllAsked (told.opened q ∷ rest) e → AllAsked rest (opens q None e)
 joined_asked q rest e apart none all =
-    λ r s is n h. elim
-    (kept_joined q r awaits s e.carrier.live e.lines (q == r) refl none
-    (used_at r e.carrier.live (joined_lines q awaits e.lines) (apart_push q _ e.lines none apart)) is) [
-      | inl new ↦ (let no : false ≡ true = ap (λ (x : Listener). is_wait_transport x.state.phase) (sym new.1) ∙ n in cc)
-      | inr old ↦ all r s old.1 n ((grind arith) ∙ h)
-    ]
+    λ r s is n h. grind (
+      arith,
+      kept_joined q r awaits s e.carrier.live e.lines (q == r) refl none,
+      used_at r e.carrier.live (joined_lines q awaits e.lines) (apart_push q _ e.lines none apart),
+    )
 
 opens_asked : StillWaits → (q : ℕ) (rest : List Happening) (e : End) (o : Option Line) → value_at q e.lines ≡ o → AreApart e.lines →
     (opens q o e).carrier.ended ≡ None →
@@ -122,13 +90,14 @@ times_asked : StillWaits → (l : List Happening) (e : End) → e.carrier.events
     (hears_times (length l) e).carrier.ended ≡ None → AllAsked l e → AllAsked [] (hears_times (length l) e)
 times_asked law [] e h apart over all = all
 times_asked law (event ∷ rest) e h apart over all =
-    let here = with_events rest e in
-    let is = first_is event rest e h in
-    let lasts : (hears event here).carrier.ended ≡ None = grind (arith, times_last) in
-    let next : AllAsked rest (hears_next e) =
-    subst (λ (x : End). AllAsked rest x) (sym is) (hears_asked law event rest here apart lasts all) in
-    let still : AreApart (hears_next e).lines = subst (λ (x : End). AreApart x.lines) (sym is) (hears_apart event here apart) in
-    times_asked law rest (hears_next e) (rest_is event rest e h) still over next
+    search (
+      arith,
+      times_asked law rest (hears_next e) (rest_is event rest e h),
+      first_is event rest e h,
+      times_last,
+      hears_asked law event rest (with_events rest e),
+      hears_apart event (with_events rest e),
+    )
 
 -- ---- a packet
 
@@ -146,7 +115,7 @@ packet_asked law packet e lasts sound has over =
 
 pub call_asked : StillWaits → (r : ℕ) (call : Call) (e : End) → HasAsked e → HasAsked (to_session r (called call) e)
 call_asked law r call e has over =
-    let lasts = (session_keeps r (called call) e).lasts over in
+    let lasts = (session_keeps r (called call) e).leaves.lasts over in
     let all : AllAsked (told.tsdu r [] ∷ []) e = (λ q s is n h. has lasts q s is n) in
     search (arith, session_asked)
 

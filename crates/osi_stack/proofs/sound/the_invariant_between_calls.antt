@@ -3,15 +3,13 @@ use Rattle.osi_stack.proofs.Vocabulary.{OnOk, OnErr, units_of, Value, TpduFault,
 use Rattle.osi_stack.proofs.Vocabulary.{value_at, State as Carrier, NoMemory, orderly_fresh, orderly_units, orderly_packet, orderly_asks}
 use Rattle.osi_stack.proofs.Vocabulary.{orderly_end, orderly_ended, orderly_same, Call, HasSerial, Input, Listener, called, taken, react}
 use Rattle.osi_stack.proofs.Vocabulary.{after_inputs, HasProfile, Opening, unit_bits, awaiting, asking, HasNumbersInWords, connects}
-use Rattle.osi_stack.proofs.Vocabulary.{connect_error, opening_of, breaks, carried, without_first, has_given, call_error, table_error}
-use Rattle.osi_stack.proofs.Vocabulary.{session_refusal, session_error, stops, Goes, Feeds, hears_all, with_carrier, attends, after_packet}
-use Rattle.osi_stack.proofs.Vocabulary.{Starves, to_session, Line, End, Holding, fresh_end, session_in, session_at, waits, CameAbout}
-use Rattle.osi_stack.proofs.Vocabulary.{IsProfiled, IsNamed, OfSessions, IsSettled, Connect, free_of, none_of, ◌≡◌, ℕ, ◌≤◌, ◌<◌, Bool, true}
-use Rattle.osi_stack.proofs.Vocabulary.{false, not, List, ◌∷◌, length, drop, Option, Some, None, Result, Ok, Err, arith, is_some, IsSome}
-use Rattle.osi_stack.proofs.Vocabulary.{refl, sym, subst, inl, inr, [], is_profile}
+use Rattle.osi_stack.proofs.Vocabulary.{connect_error, opening_of, breaks, carried, without_first, call_error, stops, Goes, Feeds}
+use Rattle.osi_stack.proofs.Vocabulary.{with_carrier, attends, after_packet, Starves, to_session, Line, End, Holding, fresh_end, session_in}
+use Rattle.osi_stack.proofs.Vocabulary.{session_at, waits, CameAbout, IsProfiled, IsNamed, OfSessions, IsSettled, Connect, free_of, none_of}
+use Rattle.osi_stack.proofs.Vocabulary.{◌≡◌, ℕ, ◌≤◌, ◌<◌, Bool, true, false, List, ◌∷◌, length, drop, Option, Some, None, Result, Ok, Err}
+use Rattle.osi_stack.proofs.Vocabulary.{arith, is_some, IsSome, refl, sym, subst, inl, inr, [], is_profile}
 use Rattle.osi_carrier.specs.Packets as carriers
 use Rattle.osi_session.specs.declared.faults.CallError.TheVariants as error
-use Rattle.osi_stack.proofs.called.the_result_is_that_of_the_table.{Below, answered_is}
 use Rattle.osi_stack.proofs.opening.who_waits_was_requested.{StillWaits, connect_asked, call_asked, feeds_asked, first_asked}
 use Rattle.osi_stack.proofs.carried.all_events_are_handled.{session_attended, connect_attended, breaks_attended, feeds_attended}
 use Rattle.osi_stack.proofs.each_line.what_stays_true_of_each_session.{session_all, connect_all, call_came, feeds_all, told_all, breaks_all}
@@ -27,8 +25,9 @@ use Rattle.osi_stack.proofs.each_line.lines_stay_in_order.{fresh_ordered, connec
 use Rattle.osi_stack.proofs.each_line.lines_stay_in_order.{carried_ordered, breaks_ordered}
 use Rattle.osi_stack.proofs.sound.the_invariant_is_kept.{Fits, times_fits, up_more, units_rise, packet_rises, open_none, fresh_sound}
 use Rattle.osi_stack.proofs.sound.the_invariant_is_kept.{connect_sound, call_sound, feeds_sound, first_sound, carried_sound, breaks_sound}
-use Rattle.osi_stack.proofs.sound.the_invariant_is_kept.{session_leaves, hale_kept, IsHale}
+use Rattle.osi_stack.proofs.sound.the_invariant_is_kept.{hale_kept, IsHale}
 use Rattle.osi_stack.proofs.stream.what_feeding_keeps.{IsKeptBeside, feeds_beside}
+use Rattle.osi_stack.proofs.carried.what_sessions_leave_of_the_carrier.{session_orderly}
 
 -- ---- calls
 
@@ -38,7 +37,7 @@ connect_orderly c e allowed h = search (arith, orderly_asks, open_none)
 -- ---- packets
 
 attends_orderly : (e : End) → Fits e → IsOrderly (attends e).carrier
-attends_orderly e f = subst IsOrderly (sym (concluded_carrier (hears_all e))) (times_fits (length e.carrier.events) e f).orderly
+attends_orderly e f = grind (arith, concluded_carrier, times_fits (length e.carrier.events) e f)
 
 packet_orderly : (packet : List ℕ) (e : End) → Fits e → IsOrderly (after_packet e packet).carrier
 packet_orderly packet e f = search (arith, after_packet, packet_is, attends_orderly, with_carrier, orderly_packet, up_more, packet_rises)
@@ -55,16 +54,15 @@ grows_out units old new h o =
 
 grows_by : (units : Result (List Value) TpduFault) (old new : Carrier) → carriers.ActsBy units old new → IsOrderly old → Grows old new
 grows_by (Ok units) old new (inl is) o = grind (arith, orderly_units units old o, units_rise units old)
-grows_by (Ok units) old new (inr h) o = grows_out units old new h o
+grows_by (Ok units) old new (inr h) o = search (arith, grows_out)
 grows_by (Err fault) old new is o = grind (arith, orderly_end)
 
 grown_fits : (e : End) (c : Carrier) → Grows e.carrier c → Fits e → Fits (with_carrier c e)
-grown_fits e c g f = record { orderly = g.orderly; known = up_more e.carrier.given c.given e.lines g.given f.known }
+grown_fits e c g f = grind (arith, up_more)
 
 starved_orderly : (e new : End) (packet : List ℕ) → Starves e packet new → Fits e → IsOrderly new.carrier
 starved_orderly e new packet (inl h) f =
-    subst (λ (x : End). IsOrderly x.carrier) (sym h.2)
-    (attends_orderly (with_carrier h.0 e) (grown_fits e h.0 (grows_out h.1.0 e.carrier h.0 h.1.2 f.orderly) f))
+    grind (arith, attends_orderly (with_carrier h.0 e) (grown_fits e h.0 (grows_out h.1.0 e.carrier h.0 h.1.2 f.orderly) f))
 starved_orderly e new packet (inr h) f =
     let fits = times_fits h.2.heard (with_carrier h.0 e) (grown_fits e h.0 (grows_by (units_of packet) e.carrier h.0 h.1 f.orderly) f) in
     subst (λ (x : End). IsOrderly x.carrier) (sym h.2.starved)
@@ -116,7 +114,7 @@ pub call_settled : Profiles → ShownFirst → SessionLaws → StillWaits →
     IsSettled e → IsSettled (to_session r (called call) e)
 call_settled profiles shown laws waits still r call e serial s = record {
   attended = session_attended r (called call) e s.attended;
-  orderly = grind (arith, session_leaves r (called call) e s.orderly);
+  orderly = session_orderly r (called call) e s.orderly;
   sound = call_sound laws r call e s.sound;
   asks = call_asked waits r call e s.asks;
   ordered = call_ordered r (called call) e s.ordered;
@@ -161,9 +159,6 @@ profiled_at r s lines (Some line) at is all = grind (arith, line_at)
 -- no connection is live
 pub none_at : (r : ℕ) (e : End) → IsOrderly e.carrier → IsSome e.carrier.ended → session_at r e ≡ None
 none_at r e o over = grind arith
-
-pub table_is : Below → (r : ℕ) (call : Call) (e : End) → HasSerial call → IsSettled e → call_error r call e ≡ table_error r call e
-table_is law r call e serial s = grind (arith, answered_is, none_at, is_some, not, has_given, session_refusal, session_error)
 
 -- no call is accepted
 pub over_is : (r : ℕ) (call : Call) (e : End) → IsSettled e → IsSome e.carrier.ended → IsSome (call_error r call e)

@@ -1,25 +1,24 @@
 -- The invariant of every end is kept, whatever is called and fed.
-use Rattle.std.proofs.Common.{◌≡◌, ℕ, ◌+◌, ◌==◌, ◌≤◌, Bool, true, false, List, ◌∷◌, length, Option, None, is_some, option_map, refl, sym}
-use Rattle.std.proofs.Common.{subst, ◌∙◌, inl, arith, if◌then◌else◌, []}
+use Rattle.osi_stack.proofs.Vocabulary.{eqb-true, eq-eqb, nat_tests, Value, Standing as Link, may_connect, asks, sent_on, closed_on}
+use Rattle.osi_stack.proofs.Vocabulary.{AreUpTo, IsOrderly, reacts, Rows, value_at, Connection, State as Carrier, is_open, EndReason}
+use Rattle.osi_stack.proofs.Vocabulary.{OpenError, beyond, push_here, put_up, push_other, effect, orderly_packet, orderly_asks}
+use Rattle.osi_stack.proofs.Vocabulary.{orderly_same, packet_opens, asks_opens, Call, Input, Listener, called, connects, connect_error}
+use Rattle.osi_stack.proofs.Vocabulary.{after_open, terms_error, calls_with, breaks, carried, without_first, Feeds, Connect, ConnectError}
+use Rattle.osi_stack.proofs.Vocabulary.{tsap_octets, Fed, Local, hears_times, hears_all, with_carrier, after_packet, all_lost, needs_link}
+use Rattle.osi_stack.proofs.Vocabulary.{AreApart, HasLinks, Soundness, IsSound, kept_at, to_session, Line, End, Holding, IsAttended}
+use Rattle.osi_stack.proofs.Vocabulary.{fresh_end, used_lines, joins, fresh_line, ◌≡◌, ℕ, ◌+◌, ◌==◌, ◌≤◌, Bool, false, List, ◌∷◌, length}
+use Rattle.osi_stack.proofs.Vocabulary.{Option, None, is_some, option_map, refl, sym, subst, ◌∙◌, inl, arith, if◌then◌else◌, []}
 use Rattle.osi_carrier.specs.Happenings as told
 use Rattle.osi_carrier.specs.Packets as carriers
 use Rattle.osi_carrier.specs.React.{react as carrier_react}
-use Rattle.osi_stack.proofs.Vocabulary.{eqb-true, eq-eqb, nat_tests, Value, Standing as Link, open_link, may_connect, asks, sent_on, closes}
-use Rattle.osi_stack.proofs.Vocabulary.{closed_on, AreUpTo, IsOrderly, reacts, Rows, value_at, Connection, State as Carrier, is_open}
-use Rattle.osi_stack.proofs.Vocabulary.{EndReason, OpenError, beyond, push_here, put_up, push_other, effect, orderly_packet, orderly_asks}
-use Rattle.osi_stack.proofs.Vocabulary.{orderly_sent, orderly_closed, orderly_same, packet_opens, asks_opens, Call, Input, Listener, called}
-use Rattle.osi_stack.proofs.Vocabulary.{connects, connect_error, after_open, terms_error, calls_with, breaks, carried, without_first, Feeds}
-use Rattle.osi_stack.proofs.Vocabulary.{Connect, ConnectError, tsap_octets, Fed, Local, hears_times, hears_all, with_carrier, after_packet}
-use Rattle.osi_stack.proofs.Vocabulary.{all_lost, needs_link, AreApart, HasLinks, Soundness, IsSound, kept_at, to_session, Line, End}
-use Rattle.osi_stack.proofs.Vocabulary.{Holding, IsAttended, fresh_end, used_lines, joins, fresh_line}
 use Rattle.osi_stack.proofs.carried.events_one_after_the_other.{concluded_carrier}
 use Rattle.osi_stack.proofs.carried.what_a_move_leaves.{kept_first, used_keep, first_keep}
-use Rattle.osi_stack.proofs.carried.what_sessions_leave_of_the_carrier.{session_keeps}
+use Rattle.osi_stack.proofs.carried.what_sessions_leave_of_the_carrier.{session_keeps, session_orderly}
 use Rattle.osi_stack.proofs.carried.packets_without_events.{both, packet_is, never}
 use Rattle.osi_stack.proofs.carried.open_connections_stay_open.{SessionLaws, IsLinked, AllLinked, times_linked, times_apart, times_last}
 use Rattle.osi_stack.proofs.carried.open_connections_stay_open.{apart_joins, session_linked, session_hears, session_apart, used_at, Stays}
 use Rattle.osi_stack.proofs.carried.open_connections_stay_open.{apart_push, mono, joined_lines}
-use Rattle.osi_stack.proofs.carried.what_each_step_preserves.{Carries, session_carried, events_heard}
+use Rattle.osi_stack.proofs.carried.what_each_step_preserves.{events_heard}
 use Rattle.osi_stack.proofs.stream.what_feeding_keeps.{IsKept, feeds_kept, over_beside, both_kept}
 use Rattle.osi_stack.proofs.stream.what_was_written_is_read.{attended_kept}
 
@@ -59,18 +58,8 @@ pub record Fits (e : End) : Type 0 where
   pub known : AreUpTo e.carrier.given e.lines
 
 -- what happens to a session keeps them
-sessions_fit : (g : ℕ) → Carries (λ c. IsOrderly c × (c.given ≡ g))
-sessions_fit g = record {
-  sends = λ r tsdu c p. (orderly_sent r tsdu c p.0, sent_given r tsdu (open_link r c) c ∙ p.1);
-  closes = λ r c p. (orderly_closed r 128 c p.0, closed_given r 128 (open_link r c) c ∙ p.1);
-}
-
-pub session_leaves : (r : ℕ) (input : Input) (e : End) → IsOrderly e.carrier →
-    IsOrderly (to_session r input e).carrier × ((to_session r input e).carrier.given ≡ e.carrier.given)
-session_leaves r input e h = grind (arith, session_carried, sessions_fit e.carrier.given)
-
 pub session_fits : (r : ℕ) (input : Input) (e : End) → Fits e → Fits (to_session r input e)
-session_fits r input e f = grind (arith, session_leaves r input e f.orderly, put_up)
+session_fits r input e f = grind (arith, session_orderly r input e f.orderly, session_keeps r input e, put_up)
 
 pub joins_fits : (r : ℕ) (s : Listener) (e : End) → Fits e → Fits (joins r s e)
 joins_fits r s e f = record { orderly = f.orderly; known = up_joined e.carrier.given r s e.carrier.live e.lines f.orderly.up_to f.known }
@@ -124,7 +113,7 @@ fresh_sound is_caller local over = grind arith
 
 pub call_sound : SessionLaws → (r : ℕ) (call : Call) (e : End) → IsSound e → IsSound (to_session r (called call) e)
 call_sound laws r call e sound over =
-    let lasts = (session_keeps r (called call) e).lasts over in
+    let lasts = (session_keeps r (called call) e).leaves.lasts over in
     let s = sound lasts in
     let f = session_fits r (called call) e (record { orderly = s.orderly; known = s.known }) in
     let l = links_linked e s.links lasts in
@@ -171,13 +160,9 @@ first_up : (n : ℕ) (lines : Rows Line) → AreUpTo n lines → AreUpTo n (with
 first_up n [] up = tt
 first_up n ((r, line) ∷ lines) up = first_keep (AreUpTo n) r line lines (up.0, first_up n lines up.1) (λ left. up)
 
-first_gone_by : (q r : ℕ) (line : Line) (lines : Rows Line) (b : Bool) → (r == q) ≡ b → value_at q ((r, line) ∷ lines) ≡ None →
-    (value_at q lines ≡ None → value_at q (without_first lines) ≡ None) → value_at q (without_first ((r, line) ∷ lines)) ≡ None
-first_gone_by q r line lines b e none more = grind (arith, first_keep)
-
 first_gone : (q : ℕ) (lines : Rows Line) → value_at q lines ≡ None → value_at q (without_first lines) ≡ None
 first_gone q [] none = refl
-first_gone q ((r, line) ∷ lines) none = first_gone_by q r line lines (r == q) refl none (first_gone q lines)
+first_gone q ((r, line) ∷ lines) none = grind (arith, first_keep, first_gone q lines)
 
 first_apart : (lines : Rows Line) → AreApart lines → AreApart (without_first lines)
 first_apart [] apart = tt

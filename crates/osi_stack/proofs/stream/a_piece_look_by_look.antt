@@ -1,18 +1,19 @@
 -- A piece of the stream, read by looks that each take packets up to one that causes an event.
-use Rattle.osi_stack.proofs.Vocabulary.{append-nil, take-append-drop, take_at, or_right, or_left, IsPartial, IsFaultOf, ArePackets}
-use Rattle.osi_stack.proofs.Vocabulary.{offset_of, TpktFault, Value, TpduFault, packets_more, packets_leave, Carrying, HasToHold, is_spoilt}
-use Rattle.osi_stack.proofs.Vocabulary.{ActsBy, Rows, State as Carrier, Tpkt, EndReason, Fault, NoMemory, stops, TakesPackets, RunsDry}
-use Rattle.osi_stack.proofs.Vocabulary.{StopsBehind, FindsNoRoom, FindsNoMemory, Goes, FeedsToEvent, attends, with_carrier, ends, RunsOut}
-use Rattle.osi_stack.proofs.Vocabulary.{Starves, Line, End, Holding, IsAttended, waits, ◌≡◌, ℕ, ◌+◌, ◌-◌, ◌<◌, ◌≤◌, ◌==◌, true, false, Bool}
-use Rattle.osi_stack.proofs.Vocabulary.{List, [], ◌∷◌, ◌++◌, length, take, drop, Option, Result, is_some, refl, sym, ap, subst, ◌∙◌, inl}
-use Rattle.osi_stack.proofs.Vocabulary.{inr, ◌⊎◌, arith, length-append, length-drop, append_assoc, if◌then◌else◌, drop-append_seam}
+use Rattle.osi_stack.proofs.Vocabulary.{append-nil, empty_list, take-append-drop, take_at, or_right, or_left, IsPartial, IsFaultOf}
+use Rattle.osi_stack.proofs.Vocabulary.{ArePackets, offset_of, TpktFault, Value, TpduFault, packets_more, packets_leave, Carrying}
+use Rattle.osi_stack.proofs.Vocabulary.{HasToHold, is_spoilt, ActsBy, Rows, State as Carrier, Tpkt, EndReason, Fault, NoMemory, stops}
+use Rattle.osi_stack.proofs.Vocabulary.{TakesPackets, RunsDry, StopsBehind, FindsNoRoom, FindsNoMemory, Goes, FeedsToEvent, attends}
+use Rattle.osi_stack.proofs.Vocabulary.{with_carrier, ends, RunsOut, Starves, Line, End, Holding, IsAttended, waits, ◌≡◌, ℕ, ◌+◌, ◌-◌, ◌<◌}
+use Rattle.osi_stack.proofs.Vocabulary.{◌≤◌, ◌==◌, true, false, List, [], ◌∷◌, ◌++◌, length, take, drop, Option, Result, is_some, refl, sym}
+use Rattle.osi_stack.proofs.Vocabulary.{ap, subst, ◌∙◌, inl, inr, ◌⊎◌, arith, length-append, length-drop, append_assoc, if◌then◌else◌}
+use Rattle.osi_stack.proofs.Vocabulary.{drop-append_seam}
 use Rattle.osi_carrier.specs.Packets as carriers
 use Rattle.osi_carrier.specs.State as states
 use Rattle.osi_stack.specs.Feeding.{Refuses}
-use Rattle.osi_stack.proofs.carried.events_one_after_the_other.{never_starved, concluded_carrier, all_keep_by}
+use Rattle.osi_stack.proofs.carried.events_one_after_the_other.{carrying_of, never_starved, concluded_carrier, all_keep_by}
 use Rattle.osi_stack.proofs.stream.the_room_for_a_packet.{room_stays, less_room, packet_faultless, first_part}
-use Rattle.osi_stack.proofs.carried.packets_without_events.{both, or_second, IsQuiet, quiet_is, quiet_attends, quiet_stops, lift_dry}
-use Rattle.osi_stack.proofs.carried.packets_without_events.{last_is, takes_append, packets_append, packets_part, lift_last}
+use Rattle.osi_stack.proofs.carried.packets_without_events.{or_second, IsQuiet, quiet_is, quiet_attends, quiet_stops, lift_dry, last_is}
+use Rattle.osi_stack.proofs.carried.packets_without_events.{takes_append, packets_append, packets_part, lift_last}
 
 -- ---- the progress of reading a piece
 
@@ -82,24 +83,7 @@ looked piece front rest within cut =
     cut ∙ ap (λ l. front ++ l) (sym (take-append-drop within rest)) ∙ sym (append_assoc front (take within rest) (drop within rest)) in
     grind (arith, length-append, take_at, drop-append_seam)
 
--- the packets so far, with more octets after them
-more_packets : (old : Holding) (piece : List ℕ) (now : Holding) (rest more : List ℕ) (read : IsRead old piece now rest) →
-    ArePackets read.units (old.held.octets ++ (read.front ++ more)) (now.held.octets ++ more)
-more_packets old piece now rest more read = grind (arith, append_assoc, packets_more)
-
--- the offset, if this many octets are left
-place_of_rest : (old : Holding) (piece : List ℕ) (now : Holding) (rest more : List ℕ) (left : ℕ) (read : IsRead old piece now rest) →
-    left ≤ length (now.held.octets ++ more) →
-    offset_of (now.held.offset + (length (now.held.octets ++ more) - left)) ≡ offset_of
-    (old.held.offset + (length (old.held.octets ++ (read.front ++ more)) - left))
-place_of_rest old piece now rest more left read within = grind (arith, packets_leave, length-append, length, offset_of)
-
 -- ---- one look
-
--- all was looked at, and nothing stopped
-record IsDry (old : Holding) (piece rest : List ℕ) (used : ℕ) (new : Holding) : Type 0 where
-  all : used ≡ length rest
-  runs : RunsDry old piece (length piece) new
 
 -- the last packet caused an event
 record IsBehind (old : Holding) (piece rest : List ℕ) (used : ℕ) (new : Holding) : Type 0 where
@@ -118,225 +102,194 @@ record IsBehind (old : Holding) (piece rest : List ℕ) (used : ℕ) (new : Hold
   place : new.held.offset ≡ offset_of (old.held.offset + length (old.held.octets ++ front))
   room : old.held.room ≤ new.held.room
 
--- it ended by a fault or because memory ran out
+-- all was looked at: nothing stopped, or it ended by a fault or because memory ran out
 record IsFinal (old : Holding) (piece rest : List ℕ) (used : ℕ) (new : Holding) : Type 0 where
   all : used ≡ length rest
   goes : Goes old piece (length piece) new
 
 abbrev Look : Holding → List ℕ → List ℕ → ℕ → Holding → Type 0
-Look old piece rest used new = (IsDry old piece rest used new ⊎ IsBehind old piece rest used new) ⊎ IsFinal old piece rest used new
+Look old piece rest used new = IsBehind old piece rest used new ⊎ IsFinal old piece rest used new
 
-dry_is : (old : Holding) (piece : List ℕ) (now : Holding) (rest : List ℕ) (fed : ℕ) (told : Carrying) (new : Holding)
-    (read : IsRead old piece now rest) →
-    carriers.RunsDry (record { state = now.end.carrier; held = now.held }) rest fed told → new.held ≡ told.held →
-    new.end ≡ with_carrier told.state now.end →
-    RunsDry old piece (length piece) new
-dry_is old piece now rest fed told new read g held is =
-    let none = or_second (is_some now.end.carrier.ended) (waits now.end.lines) read.quiet in
-    let whole = more_packets old piece now rest rest read in
-    let left = packets_leave g.units (now.held.octets ++ rest) told.held.octets g.packets in
-    grind (
-      arith,
-      packets_append,
-      takes_append,
-      quiet_stops,
-      lift_dry now.end.lines now.end.carrier told.state g.units none g.taken g.quiet,
-      quiet_is told.state g.quiet,
-      place_of_rest old piece now rest rest (length told.held.octets) read left,
-      room_stays old.held.room now.held.room told.held new.held read.room g.room held,
-    )
+module _ (old : Holding) (piece : List ℕ) (now : Holding) (rest : List ℕ) (read : IsRead old piece now rest) where
+  -- no indication is pending
+  none_waits : waits now.end.lines ≡ false
+  none_waits = or_second (is_some now.end.carrier.ended) (waits now.end.lines) read.quiet
 
-behind_is : (old : Holding) (piece : List ℕ) (now : Holding) (rest : List ℕ) (used fed : ℕ) (told : Carrying) (new : Holding)
-    (read : IsRead old piece now rest) →
-    carriers.StopsBehind (record { state = now.end.carrier; held = now.held }) rest fed told → new.held ≡ told.held →
-    new.end ≡ attends (with_carrier told.state now.end) →
-    used ≡ fed → IsBehind old piece rest used new
-behind_is old piece now rest used fed told new read g held is same =
-    let look = looked piece read.front rest g.within read.cut in
-    let before = packets_leave read.units (old.held.octets ++ read.front) now.held.octets read.packets in
-    let a = length-append now.held.octets (take g.within rest) in
-    let b = length-append old.held.octets read.front in
-    let c = length-append old.held.octets (read.front ++ take g.within rest) in
-    let d = length-append read.front (take g.within rest) in
-    record {
-      within = g.within;
-      front = read.front ++ take g.within rest;
-      units = read.units ++ g.units;
-      bound = g.bound;
-      uses = grind (arith, attends_spoilt (with_carrier told.state now.end) new.end is);
-      cut = look.cut;
-      seen = look.seen;
-      at_most = look.bound;
-      packets = search (arith, packets_append, more_packets);
-      taken = grind (arith, takes_append, lift_last, quiet_end);
-      held = ap (λ h. h.octets) held ∙ g.held;
-      offset = grind arith;
-      place = grind arith;
-      room = room_stays old.held.room now.held.room told.held new.held read.room g.room held;
-    }
+  -- the packets so far, with more octets after them
+  more_packets : (more : List ℕ) → ArePackets read.units (old.held.octets ++ (read.front ++ more)) (now.held.octets ++ more)
+  more_packets more = grind (arith, append_assoc, packets_more)
 
--- memory ran out for the effect of the last packet
-stopped_is : (old : Holding) (piece : List ℕ) (now : Holding) (rest : List ℕ) (fed : ℕ) (told : Carrying) (new : Holding)
-    (read : IsRead old piece now rest) →
-    carriers.StopsBehind (record { state = now.end.carrier; held = now.held }) rest fed told →
-    RunsOut (with_carrier told.state now.end) new.end → new.held ≡ told.held →
-    FindsNoMemory old piece (length piece) new
-stopped_is old piece now rest fed told new read g out held =
-    let none = or_second (is_some now.end.carrier.ended) (waits now.end.lines) read.quiet in
-    let look = looked piece read.front rest g.within read.cut in
-    let l = last_is now.end.carrier told.state g.units g.taken (quiet_end now.end read.quiet read.attended) g.stopped in
-    let parts = packets_part l.first (l.last ∷ []) (now.held.octets ++ take g.within rest) []
-    (subst (λ us. ArePackets us (now.held.octets ++ take g.within rest) []) l.all g.packets) in
-    let before = with_carrier l.before now.end in
-    record {
-      within = length (read.front ++ take g.within rest);
-      units = read.units ++ l.first;
-      rest = parts.between;
-      before = before;
-      all = refl;
-      bound = look.bound;
-      packets = grind (arith, packets_append, more_packets old piece now rest (take g.within rest) read);
-      taken = grind (arith, takes_append, lift_dry);
-      quiet = quiet_stops before (quiet_is l.before l.quiet).lasts none;
-      how = inr (l.last, parts.back, inr (told.state, acts_is l.before told.state l.last l.acts, out));
-      held = ap (λ h. h.octets) held ∙ g.held;
-      faultless = packet_faultless l.last parts.between (drop (length (read.front ++ take g.within rest)) piece) parts.back;
-    }
+  -- the offset, if this many octets are left
+  place_of_rest : (left : ℕ) → left ≤ length (now.held.octets ++ rest) →
+      offset_of (now.held.offset + (length (now.held.octets ++ rest) - left))
+      ≡ offset_of (old.held.offset + (length (old.held.octets ++ (read.front ++ rest)) - left))
+  place_of_rest left within = grind (arith, packets_leave, length-append, length, offset_of)
 
-refuses_is : (old : Holding) (piece : List ℕ) (now : Holding) (rest : List ℕ) (fed : ℕ) (told : Carrying) (new : Holding)
-    (read : IsRead old piece now rest) →
-    carriers.Refuses (record { state = now.end.carrier; held = now.held }) rest fed told → new.held ≡ told.held →
-    new.end ≡ attends (with_carrier told.state now.end) →
-    Refuses old piece (length piece) new
-refuses_is old piece now rest fed told new read g held is =
-    let none = or_second (is_some now.end.carrier.ended) (waits now.end.lines) read.quiet in
-    let before = with_carrier g.before now.end in
-    let q = quiet_is g.before g.quiet in
-    let r = g.cut.0 in
-    let left = packets_leave g.units (now.held.octets ++ rest) r g.cut.1 in
-    let place = place_of_rest old piece now rest rest (length r) read left
-    ∙ ap (λ l. offset_of (old.held.offset + (length (old.held.octets ++ l) - length r))) (sym read.cut) in
-    record {
-      units = read.units ++ g.units;
-      fault = g.fault;
-      before = before;
-      all = refl;
-      cut = grind (arith, packets_append, more_packets old piece now rest rest read);
-      taken = grind (arith, takes_append, lift_dry);
-      quiet = quiet_stops before q.lasts none;
-      ended = is ∙ ended_attends g.before told.state now.end.lines (Fault (Tpkt g.fault)) g.ended q;
-      held = ap (λ h. h.octets) held ∙ g.held;
-    }
+  -- what the carrier did in the look
+  module _ (fed : ℕ) (told : Carrying) (new : Holding) (held : new.held ≡ told.held) where
+    dry_is : carriers.RunsDry (carrying_of now) rest fed told → new.end ≡ with_carrier told.state now.end →
+        RunsDry old piece (length piece) new
+    dry_is g is =
+        let whole = more_packets rest in
+        let left = packets_leave g.units (now.held.octets ++ rest) told.held.octets g.packets in
+        grind (
+          arith,
+          packets_append,
+          takes_append,
+          quiet_stops,
+          lift_dry now.end.lines now.end.carrier told.state g.units none_waits g.taken g.quiet,
+          quiet_is told.state g.quiet,
+          place_of_rest (length told.held.octets) left,
+          room_stays old.held.room now.held.room told.held new.held read.room g.room held,
+        )
 
--- there was no room, or memory ran out for the effect of the next packet
-abbrev HowStarved : (old : Holding) (piece : List ℕ) (now : Holding) (rest : List ℕ) (fed : ℕ) (told : Carrying) (new : Holding)
-    (read : IsRead old piece now rest) →
-    carriers.FindsNoMemory (record { state = now.end.carrier; held = now.held }) rest fed told → Type 0
-HowStarved old piece now rest fed told new read g =
-    FindsNoRoom old piece (length (read.front ++ take g.within rest)) g.rest (with_carrier g.before now.end) new.end
-    ⊎ ((packet : List ℕ) × ArePackets (packet ∷ []) g.rest [] × Starves (with_carrier g.before now.end) packet new.end)
+    behind_is : (used : ℕ) → carriers.StopsBehind (carrying_of now) rest fed told → new.end ≡ attends (with_carrier told.state now.end) →
+        used ≡ fed → IsBehind old piece rest used new
+    behind_is used g is same =
+        let look = looked piece read.front rest g.within read.cut in
+        let before = packets_leave read.units (old.held.octets ++ read.front) now.held.octets read.packets in
+        let a = length-append now.held.octets (take g.within rest) in
+        let b = length-append old.held.octets read.front in
+        let c = length-append old.held.octets (read.front ++ take g.within rest) in
+        let d = length-append read.front (take g.within rest) in
+        let spoilt = attends_spoilt (with_carrier told.state now.end) new.end is in
+        let more = more_packets (take g.within rest) in
+        record {
+          within = g.within;
+          front = read.front ++ take g.within rest;
+          units = read.units ++ g.units;
+          bound = g.bound;
+          uses = grind arith;
+          cut = look.cut;
+          seen = look.seen;
+          at_most = look.bound;
+          packets = grind (arith, packets_append);
+          taken = grind (arith, takes_append, lift_last, quiet_end);
+          held = grind arith;
+          offset = grind arith;
+          place = grind arith;
+          room = grind arith;
+        }
 
-no_room : (old : Holding) (piece : List ℕ) (now : Holding) (rest : List ℕ) (fed : ℕ) (told : Carrying) (new : Holding)
-    (read : IsRead old piece now rest) →
-    (g : carriers.FindsNoMemory (record { state = now.end.carrier; held = now.held }) rest fed told) →
-    carriers.FindsNoRoom (record { state = now.end.carrier; held = now.held }) rest g.within g.rest g.before told.state →
-    new.end ≡ ends NoMemory (with_carrier g.before now.end) →
-    FindsNoRoom old piece (length (read.front ++ take g.within rest)) g.rest (with_carrier g.before now.end) new.end
-no_room old piece now rest fed told new read g none ended =
-    search (
-      first_part g.units read.front now.held.octets g.within rest g.rest read.first none.first g.packets,
-      subst (HasToHold old.held.room g.rest) (sym (looked piece read.front rest g.within read.cut).behind)
-          (less_room now.held.room old.held.room g.rest (drop g.within rest) read.room none.holds),
-    )
+    -- memory ran out for the effect of the last packet
+    stopped_is : carriers.StopsBehind (carrying_of now) rest fed told → RunsOut (with_carrier told.state now.end) new.end →
+        FindsNoMemory old piece (length piece) new
+    stopped_is g out =
+        let look = looked piece read.front rest g.within read.cut in
+        let l = last_is now.end.carrier told.state g.units g.taken (quiet_end now.end read.quiet read.attended) g.stopped in
+        let parts = packets_part l.first (l.last ∷ []) (now.held.octets ++ take g.within rest) []
+        (subst (λ us. ArePackets us (now.held.octets ++ take g.within rest) []) l.all g.packets) in
+        let before = with_carrier l.before now.end in
+        record {
+          within = length (read.front ++ take g.within rest);
+          units = read.units ++ l.first;
+          rest = parts.between;
+          before = before;
+          all = refl;
+          bound = look.bound;
+          packets = grind (arith, packets_append, more_packets (take g.within rest));
+          taken = grind (arith, none_waits, takes_append, lift_dry);
+          quiet = quiet_stops before (quiet_is l.before l.quiet).lasts none_waits;
+          how = inr (l.last, parts.back, inr (told.state, acts_is l.before told.state l.last l.acts, out));
+          held = grind arith;
+          faultless = packet_faultless l.last parts.between (drop (length (read.front ++ take g.within rest)) piece) parts.back;
+        }
 
-starved_with : (old : Holding) (piece : List ℕ) (now : Holding) (rest : List ℕ) (fed : ℕ) (told : Carrying) (new : Holding)
-    (read : IsRead old piece now rest) →
-    (g : carriers.FindsNoMemory (record { state = now.end.carrier; held = now.held }) rest fed told) → new.held ≡ told.held →
-    HowStarved old piece now rest fed told new read g → FindsNoMemory old piece (length piece) new
-starved_with old piece now rest fed told new read g held how =
-    let none = or_second (is_some now.end.carrier.ended) (waits now.end.lines) read.quiet in
-    let look = looked piece read.front rest g.within read.cut in
-    let before = with_carrier g.before now.end in
-    record {
-      within = length (read.front ++ take g.within rest);
-      units = read.units ++ g.units;
-      rest = g.rest;
-      before = before;
-      all = refl;
-      bound = look.bound;
-      packets = grind (arith, packets_append, more_packets old piece now rest (take g.within rest) read);
-      taken = grind (arith, takes_append, lift_dry);
-      quiet = quiet_stops before (quiet_is g.before g.quiet).lasts none;
-      how = how;
-      held = ap (λ h. h.octets) held ∙ g.held;
-      faultless = subst (λ l. (at : ℕ) (fault : TpktFault) → IsFaultOf at (g.rest ++ l) fault → ⊥) (sym look.behind) g.faultless;
-    }
+    refuses_is : carriers.Refuses (carrying_of now) rest fed told → new.end ≡ attends (with_carrier told.state now.end) →
+        Refuses old piece (length piece) new
+    refuses_is g is =
+        let before = with_carrier g.before now.end in
+        let q = quiet_is g.before g.quiet in
+        let left = packets_leave g.units (now.held.octets ++ rest) g.cut.0 g.cut.1 in
+        let place = place_of_rest (length g.cut.0) left in
+        record {
+          units = read.units ++ g.units;
+          fault = g.fault;
+          before = before;
+          all = refl;
+          cut = grind (arith, packets_append, more_packets rest);
+          taken = grind (arith, none_waits, takes_append, lift_dry);
+          quiet = quiet_stops before q.lasts none_waits;
+          ended = is ∙ ended_attends g.before told.state now.end.lines (Fault (Tpkt g.fault)) g.ended q;
+          held = grind arith;
+        }
 
-starved_how : (old : Holding) (piece : List ℕ) (now : Holding) (rest : List ℕ) (fed : ℕ) (told : Carrying) (new : Holding)
-    (read : IsRead old piece now rest) →
-    (g : carriers.FindsNoMemory (record { state = now.end.carrier; held = now.held }) rest fed told) →
-    ((new.end ≡ attends (with_carrier told.state now.end)) ⊎ RunsOut (with_carrier told.state now.end) new.end) →
-    HowStarved old piece now rest fed told new read g
-starved_how old piece now rest fed told new read g heard =
-    let q = quiet_is g.before g.quiet in
-    elim (g.how) [
-      | inl over ↦ elim heard [
-        | inl is ↦ inl
-            (no_room old piece now rest fed told new read g over
-            (is ∙ ended_attends g.before told.state now.end.lines NoMemory over.ended q))
-        | inr out ↦ never_starved (with_carrier told.state now.end) new.end (ap (λ (c : Carrier). c.events) over.ended ∙ q.events) out
-      ]
-      | inr starved ↦ elim heard [
-        | inl is ↦ inr (starved.0, starved.1, inl (told.state, starved.2, is))
-        | inr out ↦ inr (starved.0, starved.1, inr (told.state, acts_starved g.before told.state starved.0 starved.2, out))
-      ]
-    ]
+    module _ (g : carriers.FindsNoMemory (carrying_of now) rest fed told) where
+      -- there was no room, or memory ran out for the effect of the next packet
+      abbrev HowStarved : Type 0
+      HowStarved =
+          FindsNoRoom old piece (length (read.front ++ take g.within rest)) g.rest (with_carrier g.before now.end) new.end
+          ⊎ ((packet : List ℕ) × ArePackets (packet ∷ []) g.rest [] × Starves (with_carrier g.before now.end) packet new.end)
 
-looks : (old : Holding) (piece : List ℕ) (now : Holding) (rest : List ℕ) (used : ℕ) (new : Holding) → IsRead old piece now rest →
-    FeedsToEvent now rest used new → Look old piece rest used new
-looks old piece now rest used new read fetch =
-    let there = with_carrier fetch.told.state now.end in
-    elim (fetch.feeds.goes (quiet_end now.end read.quiet read.attended)) [
-      | inl (inl g) ↦ (
-          let q = quiet_is fetch.told.state g.quiet in
-          elim (fetch.heard) [
-            | inl h ↦ inl
-                (inl (record {
-                  all = h.1 ∙ g.all;
-                  runs = dry_is old piece now rest fetch.fed.used fetch.told new read g fetch.held
-                      (h.0 ∙ quiet_attends there q);
-                }))
-            | inr h ↦ never_starved there new.end q.events h.0
+      no_room : carriers.FindsNoRoom (carrying_of now) rest g.within g.rest g.before told.state →
+          new.end ≡ ends NoMemory (with_carrier g.before now.end) → HowStarved
+      no_room none ended =
+          inl (search (
+            first_part g.units read.front now.held.octets g.within rest g.rest read.first none.first g.packets,
+            subst (HasToHold old.held.room g.rest) (sym (looked piece read.front rest g.within read.cut).behind)
+                (less_room now.held.room old.held.room g.rest (drop g.within rest) read.room none.holds),
+          ))
+
+      starved_how : (new.end ≡ attends (with_carrier told.state now.end)) ⊎ RunsOut (with_carrier told.state now.end) new.end → HowStarved
+      starved_how heard =
+          let q = quiet_is g.before g.quiet in
+          elim (g.how) [
+            | inl over ↦ elim heard [
+              | inl is ↦ no_room over (is ∙ ended_attends g.before told.state now.end.lines NoMemory over.ended q)
+              | inr out ↦ never_starved (with_carrier told.state now.end) new.end (ap (λ (c : Carrier). c.events) over.ended ∙ q.events) out
+            ]
+            | inr starved ↦ elim heard [
+              | inl is ↦ inr (starved.0, starved.1, inl (told.state, starved.2, is))
+              | inr out ↦ inr (starved.0, starved.1, inr (told.state, acts_starved g.before told.state starved.0 starved.2, out))
+            ]
           ]
-          )
-      | inl (inr g) ↦ elim (fetch.heard) [
-        | inl h ↦ inl (inr (behind_is old piece now rest used fetch.fed.used fetch.told new read g fetch.held h.0 h.1))
-        | inr h ↦ inr
-            (record { all = h.1; goes = inr (inr (stopped_is old piece now rest fetch.fed.used fetch.told new read g h.0 fetch.held)) })
+
+      starved_is : (new.end ≡ attends (with_carrier told.state now.end)) ⊎ RunsOut (with_carrier told.state now.end) new.end →
+          FindsNoMemory old piece (length piece) new
+      starved_is heard =
+          let look = looked piece read.front rest g.within read.cut in
+          let before = with_carrier g.before now.end in
+          record {
+            within = length (read.front ++ take g.within rest);
+            units = read.units ++ g.units;
+            rest = g.rest;
+            before = before;
+            all = refl;
+            bound = look.bound;
+            packets = grind (arith, packets_append, more_packets (take g.within rest));
+            taken = grind (arith, none_waits, takes_append, lift_dry);
+            quiet = quiet_stops before (quiet_is g.before g.quiet).lasts none_waits;
+            how = starved_how heard;
+            held = grind arith;
+            faultless = subst (λ l. (at : ℕ) (fault : TpktFault) → IsFaultOf at (g.rest ++ l) fault → ⊥) (sym look.behind) g.faultless;
+          }
+
+  looks : (used : ℕ) (new : Holding) → FeedsToEvent now rest used new → Look old piece rest used new
+  looks used new fetch =
+      let there = with_carrier fetch.told.state now.end in
+      let fed = fetch.fed.used in
+      elim (fetch.feeds.goes (quiet_end now.end read.quiet read.attended)) [
+        | inl (inl g) ↦ (
+            let q = quiet_is fetch.told.state g.quiet in
+            elim (fetch.heard) [
+              | inl h ↦ inr
+                  (record { all = h.1 ∙ g.all; goes = inl (inl (dry_is fed fetch.told new fetch.held g (h.0 ∙ quiet_attends there q))) })
+              | inr h ↦ never_starved there new.end q.events h.0
+            ]
+            )
+        | inl (inr g) ↦ elim (fetch.heard) [
+          | inl h ↦ inl (behind_is fed fetch.told new fetch.held used g h.0 h.1)
+          | inr h ↦ inr (record { all = h.1; goes = inr (inr (stopped_is fed fetch.told new fetch.held g h.0)) })
+        ]
+        | inr (inl g) ↦ elim (fetch.heard) [
+          | inl h ↦ inr (record { all = h.1 ∙ g.all; goes = inr (inl (refuses_is fed fetch.told new fetch.held g h.0)) })
+          | inr h ↦ never_starved there new.end (ap (λ (c : Carrier). c.events) g.ended ∙ (quiet_is g.before g.quiet).events) h.0
+        ]
+        | inr (inr g) ↦ elim (fetch.heard) [
+          | inl h ↦ inr (record { all = h.1 ∙ g.all; goes = inr (inr (starved_is fed fetch.told new fetch.held g (inl h.0))) })
+          | inr h ↦ inr (record { all = h.1; goes = inr (inr (starved_is fed fetch.told new fetch.held g (inr h.0))) })
+        ]
       ]
-      | inr (inl g) ↦ elim (fetch.heard) [
-        | inl h ↦ inr
-            (record {
-              all = h.1 ∙ g.all;
-              goes = inr (inl (refuses_is old piece now rest fetch.fed.used fetch.told new read g fetch.held h.0));
-            })
-        | inr h ↦ never_starved there new.end (ap (λ (c : Carrier). c.events) g.ended ∙ (quiet_is g.before g.quiet).events) h.0
-      ]
-      | inr (inr g) ↦ elim (fetch.heard) [
-        | inl h ↦ inr
-            (record {
-              all = h.1 ∙ g.all;
-              goes = inr (inr
-                  (search (arith, starved_with, starved_how old piece now rest fetch.fed.used fetch.told new read g (inl h.0))));
-            })
-        | inr h ↦ inr
-            (record {
-              all = h.1;
-              goes = inr (inr
-                  (search (arith, starved_with, starved_how old piece now rest fetch.fed.used fetch.told new read g (inr h.0))));
-            })
-      ]
-    ]
 
 -- ---- how reading continues, and how it ends
 
@@ -344,85 +297,47 @@ looks old piece now rest used new read fetch =
 all_used : (rest : List ℕ) (used : ℕ) → used ≡ length rest → length (drop used rest) ≡ 0
 all_used rest used e = let dropped = length-drop used rest in omega arith
 
-spoilt_ended : (o : Option EndReason) → is_some o ≡ false → is_spoilt o ≡ false
-spoilt_ended o e = grind arith
-
-pub read_waits : (old : Holding) (piece : List ℕ) (now : Holding) (rest : List ℕ) (used : ℕ) (new : Holding) → IsRead old piece now rest →
-    FeedsToEvent now rest used new →
-    waits new.end.lines ≡ true → Goes old piece (length piece - length (drop used rest)) new
-read_waits old piece now rest used new read fetch waiting = elim (looks old piece now rest used new read fetch) [
-  | inl (inl dry) ↦ both (waits new.end.lines) waiting (or_second (is_some new.end.carrier.ended) (waits new.end.lines) dry.runs.quiet)
-  | inl (inr b) ↦ inl
-      (inr (grind (arith, or_right, all_used, length-append)))
-  | inr f ↦ (
-      let none = all_used rest used f.all in
-      let same : length piece ≡ length piece - length (drop used rest) = omega arith in
-      subst (λ n. Goes old piece n new) same f.goes
-      )
-]
-
-pub read_ended : (old : Holding) (piece : List ℕ) (now : Holding) (rest : List ℕ) (used : ℕ) (new : Holding) → IsRead old piece now rest →
-    FeedsToEvent now rest used new →
-    waits new.end.lines ≡ false → is_some new.end.carrier.ended ≡ true → Goes old piece (length piece) new
-read_ended old piece now rest used new read fetch none over = elim (looks old piece now rest used new read fetch) [
-  | inl (inl dry) ↦ inl (inl dry.runs)
-  | inl (inr b) ↦ inl
-      (inr (grind (arith, or_left)))
-  | inr f ↦ f.goes
-]
-
 -- it went on after the packet that caused an event
-uses_on : (b : Bool) (used all within : ℕ) → b ≡ false → used ≡ (if b then all else within) → used ≡ within
-uses_on b used all within e h = grind arith
+uses_on : (o : Option EndReason) (used all within : ℕ) → is_some o ≡ false → used ≡ (if is_spoilt o then all else within) → used ≡ within
+uses_on o used all within e h = grind arith
 
-abbrev behind_on : (old : Holding) (piece rest : List ℕ) (used : ℕ) (new : Holding) → waits new.end.lines ≡ false →
-    is_some new.end.carrier.ended ≡ false → IsAttended new.end →
-    IsBehind old piece rest used new → IsRead old piece new (drop used rest)
-behind_on old piece rest used new none lasts attended b =
-    let on = uses_on (is_spoilt new.end.carrier.ended) used (length rest) b.within (spoilt_ended new.end.carrier.ended lasts) b.uses in
-    let left = ap length b.held in
-    record {
-      front = b.front;
-      units = b.units;
-      cut = b.cut ∙ ap (λ n. b.front ++ drop n rest) (sym on);
-      packets = subst (ArePackets b.units (old.held.octets ++ b.front)) (sym b.held) b.packets;
-      taken = b.taken;
-      quiet = quiet_stops new.end lasts none;
-      attended = attended;
-      offset = λ n. (
-          let same : length (old.held.octets ++ b.front) + n ≡ (length (old.held.octets ++ b.front) - length new.held.octets) + n =
-          omega arith in
-          b.offset n ∙ ap (λ k. offset_of (old.held.offset + k)) same
-          );
-      room = b.room;
-      first = inr b.held;
-    }
+module _ (old : Holding) (piece : List ℕ) (now : Holding) (rest : List ℕ) (used : ℕ) (new : Holding) (read : IsRead old piece now rest)
+    (fetch : FeedsToEvent now rest used new) where
+  pub read_waits : waits new.end.lines ≡ true → Goes old piece (length piece - length (drop used rest)) new
+  read_waits waiting = elim (looks old piece now rest read used new fetch) [
+    | inl b ↦ inl (inr (grind (arith, or_right, all_used, length-append)))
+    | inr f ↦
+        let none = all_used rest used f.all in
+        let same : length piece ≡ length piece - length (drop used rest) = omega arith in
+        subst (λ n. Goes old piece n new) same f.goes
+  ]
 
-pub read_on : (old : Holding) (piece : List ℕ) (now : Holding) (rest : List ℕ) (used : ℕ) (new : Holding) → IsRead old piece now rest →
-    FeedsToEvent now rest used new →
-    waits new.end.lines ≡ false → is_some new.end.carrier.ended ≡ false → 0 < length (drop used rest) →
-    IsRead old piece new (drop used rest)
-read_on old piece now rest used new read fetch none lasts some = elim (looks old piece now rest used new read fetch) [
-  | inl (inl dry) ↦ (let no = all_used rest used dry.all in absurd (omega arith))
-  | inl (inr b) ↦ behind_on old piece rest used new none lasts fetch.attended b
-  | inr f ↦ (let no = all_used rest used f.all in absurd (omega arith))
-]
+  pub read_ended : waits new.end.lines ≡ false → is_some new.end.carrier.ended ≡ true → Goes old piece (length piece) new
+  read_ended none over = elim (looks old piece now rest read used new fetch) [
+    | inl b ↦ inl (inr (grind (arith, or_left)))
+    | inr f ↦ f.goes
+  ]
 
--- all was read
-end_of_read : (old : Holding) (piece : List ℕ) (new : Holding) (rest : List ℕ) → IsPartial [] → new.held.octets ≡ [] → length rest ≡ 0 →
-    (read : IsRead old piece new rest) →
-    new.held.offset ≡ offset_of (old.held.offset + length (old.held.octets ++ read.front)) → RunsDry old piece (length piece) new
-end_of_read old piece new [] nothing held e read place = grind (arith, append-nil)
-end_of_read old piece new (x ∷ rest) nothing held e read place = absurd (omega arith)
+  pub read_on : waits new.end.lines ≡ false → is_some new.end.carrier.ended ≡ false → 0 < length (drop used rest) →
+      IsRead old piece new (drop used rest)
+  read_on none lasts some = elim (looks old piece now rest read used new fetch) [
+    | inl b ↦
+        let on = uses_on new.end.carrier.ended used (length rest) b.within lasts b.uses in
+        let quiet = quiet_stops new.end lasts none in
+        let attended = fetch.attended in
+        grind arith
+    | inr f ↦ let nothing = all_used rest used f.all in absurd (omega arith)
+  ]
 
 pub read_dry : (old : Holding) (piece : List ℕ) (now : Holding) (rest : List ℕ) (used : ℕ) (new : Holding) → IsPartial [] →
     IsRead old piece now rest → FeedsToEvent now rest used new →
     waits new.end.lines ≡ false → is_some new.end.carrier.ended ≡ false → length (drop used rest) ≡ 0 → Goes old piece (length piece) new
-read_dry old piece now rest used new nothing read fetch none lasts e = elim (looks old piece now rest used new read fetch) [
-  | inl (inl dry) ↦ inl (inl dry.runs)
-  | inl (inr b) ↦ inl
-      (inl (end_of_read old piece new (drop used rest) nothing b.held e (behind_on old piece rest used new none lasts fetch.attended b)
-      b.place))
+read_dry old piece now rest used new nothing read fetch none lasts e = elim (looks old piece now rest read used new fetch) [
+  | inl b ↦
+      let on = uses_on new.end.carrier.ended used (length rest) b.within lasts b.uses in
+      let quiet = quiet_stops new.end lasts none in
+      let all = empty_list (drop used rest) e in
+      inl (inl (grind (arith, append-nil)))
   | inr f ↦ f.goes
 ]
 

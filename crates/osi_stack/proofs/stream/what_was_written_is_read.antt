@@ -3,8 +3,8 @@ use Rattle.osi_stack.proofs.Vocabulary.{AllByRecursion, length-take-le, take-tak
 use Rattle.osi_stack.proofs.Vocabulary.{State as Carrier, EndReason, NoMemory, after_unit, carries_out, TakesUnits, IsUnheard, TakesSome}
 use Rattle.osi_stack.proofs.Vocabulary.{stops, uses_all, TakesPackets, RunsDry, StopsBehind, FindsNoMemory, Goes, Feeds, attends}
 use Rattle.osi_stack.proofs.Vocabulary.{after_packet, with_carrier, hears_all, hears_times, hears_next, ends, Starves, End, Holding}
-use Rattle.osi_stack.proofs.Vocabulary.{IsAttended, waits, ◌≡◌, ℕ, ◌+◌, ◌-◌, ◌≤◌, Bool, true, false, ◌||◌, is_some, List, ◌∷◌, ◌++◌, length}
-use Rattle.osi_stack.proofs.Vocabulary.{map, take, drop, Option, None, Result, Ok, refl, sym, ap, subst, ◌∙◌, inl, inr, ◌⊎◌, arith}
+use Rattle.osi_stack.proofs.Vocabulary.{IsAttended, waits, ◌≡◌, ℕ, ◌≤◌, Bool, true, false, ◌||◌, is_some, List, ◌∷◌, ◌++◌, length, map}
+use Rattle.osi_stack.proofs.Vocabulary.{take, drop, Option, None, Result, Ok, refl, sym, ap, subst, ◌∙◌, inl, inr, ◌⊎◌, arith}
 use Rattle.osi_stack.proofs.Vocabulary.{if◌then◌else◌, [], AreComing, unit_read, packet_reacts, Fronts, units_front, fault_free}
 use Rattle.osi_stack.proofs.Vocabulary.{alone_starved, starved_unit, reads_part}
 use Rattle.osi_tpdu.specs.Writing.{written}
@@ -103,81 +103,77 @@ attended_kept =
 
 -- ---- feeding
 
-runs_dry : (old new : Holding) (outgoing : List ℕ) (coming : List Value) (k used : ℕ) → k ≤ length outgoing →
-    AreComing old.held.octets outgoing coming →
-    RunsDry old (take k outgoing) used new → TakesSome old outgoing coming used new
-runs_dry old new outgoing coming k used less c h =
-    let f = reads_part old.held.octets outgoing coming k h.units new.held.octets c h.packets in
-    let all : used ≡ k = h.all ∙ length-take-le k outgoing less in
-    record {
-      done = f.done;
-      left = f.left;
-      parts = f.parts;
-      reached = new.end;
-      taken = grind (arith, units_taken);
-      how = inl refl;
-      coming_then = λ lasts. subst (λ n. AreComing new.held.octets (drop n outgoing) f.left) (sym all) f.rest;
-    }
-
 -- if the end has not ended, an indication is pending
 pub uses_within : (e : End) (all within used : ℕ) → stops e ≡ true → e.carrier.ended ≡ None → used ≡ (if uses_all e then all else within) →
     used ≡ within
 uses_within e all within used stopped lasts uses = cc
 
-stops_behind : (old new : Holding) (outgoing : List ℕ) (coming : List Value) (k used : ℕ) → k ≤ length outgoing →
-    AreComing old.held.octets outgoing coming →
-    StopsBehind old (take k outgoing) used new → TakesSome old outgoing coming used new
-stops_behind old new outgoing coming k used less c h =
-    let n = h.within in
-    let within : n ≤ k = (let bound = h.bound in let size = length-take-le k outgoing less in omega arith) in
-    let f = reads_part old.held.octets outgoing coming n h.units [] c
-    (subst (λ l. ArePackets h.units (old.held.octets ++ l) []) (take-take n k outgoing within) h.packets) in
-    record {
-      done = f.done;
-      left = f.left;
-      parts = f.parts;
-      reached = new.end;
-      taken = grind (arith, units_taken);
-      how = inl refl;
-      coming_then = grind (arith, uses_within);
-    }
+-- a piece of what is in flight
+module _ (old new : Holding) (outgoing : List ℕ) (coming : List Value) (k used : ℕ) (less : k ≤ length outgoing)
+    (c : AreComing old.held.octets outgoing coming) where
+  runs_dry : RunsDry old (take k outgoing) used new → TakesSome old outgoing coming used new
+  runs_dry h =
+      let f = reads_part old.held.octets outgoing coming k h.units new.held.octets c h.packets in
+      let all : used ≡ k = h.all ∙ length-take-le k outgoing less in
+      record {
+        done = f.done;
+        left = f.left;
+        parts = f.parts;
+        reached = new.end;
+        taken = grind (arith, units_taken);
+        how = inl refl;
+        coming_then = λ lasts. subst (λ n. AreComing new.held.octets (drop n outgoing) f.left) (sym all) f.rest;
+      }
 
-refuses_none : (old new : Holding) (outgoing : List ℕ) (coming : List Value) (k used : ℕ) → AreComing old.held.octets outgoing coming →
-    Refuses old (take k outgoing) used new → ⊥
-refuses_none old new outgoing coming k used c h =
-    grind (arith, fault_free, reads_part old.held.octets outgoing coming k h.units h.cut.0 c h.cut.1)
+  -- the packets of a part of the piece
+  part_of_piece : (n : ℕ) (units : List (List ℕ)) (rest : List ℕ) → n ≤ length (take k outgoing) →
+      ArePackets units (old.held.octets ++ take n (take k outgoing)) rest → Fronts units coming rest (drop n outgoing)
+  part_of_piece n units rest bound packets =
+      let within : n ≤ k = (let size = length-take-le k outgoing less in omega arith) in
+      reads_part old.held.octets outgoing coming n units rest c
+      (subst (λ l. ArePackets units (old.held.octets ++ l) rest) (take-take n k outgoing within) packets)
 
-finds_none : (old new : Holding) (outgoing : List ℕ) (coming : List Value) (k used : ℕ) → k ≤ length outgoing →
-    AreComing old.held.octets outgoing coming → IsAttended old.end →
-    FindsNoMemory old (take k outgoing) used new → TakesSome old outgoing coming used new
-finds_none old new outgoing coming k used less c attended h =
-    let n = h.within in
-    let within : n ≤ k = (let bound = h.bound in let size = length-take-le k outgoing less in omega arith) in
-    let f = reads_part old.held.octets outgoing coming n h.units h.rest c
-    (subst (λ l. ArePackets h.units (old.held.octets ++ l) h.rest) (take-take n k outgoing within) h.packets) in
-    let none = no_events h.before h.quiet (packets_kept IsAttended attended_kept h.units old.end h.before h.taken attended) in
-    let starved : Starved h.before f.left new.end =
-    elim h.how [
-      | inl none ↦ inl none.ended
-      | inr p ↦ search (arith, packet_starved, units_front (p.0 ∷ []) f.left h.rest [] (drop n outgoing) f.rest.sendable p.1 f.rest.octets)
-    ] in
-    record {
-      done = f.done;
-      left = f.left;
-      parts = f.parts;
-      reached = h.before;
-      taken = grind (arith, units_taken);
-      how = inr starved;
-      coming_then = λ lasts. starved_over h.before f.left new.end starved lasts;
-    }
+  stops_behind : StopsBehind old (take k outgoing) used new → TakesSome old outgoing coming used new
+  stops_behind h =
+      let f = part_of_piece h.within h.units [] h.bound h.packets in
+      record {
+        done = f.done;
+        left = f.left;
+        parts = f.parts;
+        reached = new.end;
+        taken = grind (arith, units_taken);
+        how = inl refl;
+        coming_then = grind (arith, uses_within);
+      }
 
-goes_some : (old new : Holding) (outgoing : List ℕ) (coming : List Value) (k used : ℕ) → k ≤ length outgoing →
-    AreComing old.held.octets outgoing coming → IsAttended old.end →
-    Goes old (take k outgoing) used new → TakesSome old outgoing coming used new
-goes_some old new outgoing coming k used less c attended (inl (inl h)) = runs_dry old new outgoing coming k used less c h
-goes_some old new outgoing coming k used less c attended (inl (inr h)) = stops_behind old new outgoing coming k used less c h
-goes_some old new outgoing coming k used less c attended (inr (inl h)) = absurd (refuses_none old new outgoing coming k used c h)
-goes_some old new outgoing coming k used less c attended (inr (inr h)) = finds_none old new outgoing coming k used less c attended h
+  refuses_none : Refuses old (take k outgoing) used new → ⊥
+  refuses_none h = grind (arith, fault_free, reads_part old.held.octets outgoing coming k h.units h.cut.0 c h.cut.1)
+
+  finds_none : IsAttended old.end → FindsNoMemory old (take k outgoing) used new → TakesSome old outgoing coming used new
+  finds_none attended h =
+      let f = part_of_piece h.within h.units h.rest h.bound h.packets in
+      let none = no_events h.before h.quiet (packets_kept IsAttended attended_kept h.units old.end h.before h.taken attended) in
+      let starved : Starved h.before f.left new.end =
+      elim h.how [
+        | inl none ↦ inl none.ended
+        | inr p ↦ search
+            (arith, packet_starved, units_front (p.0 ∷ []) f.left h.rest [] (drop h.within outgoing) f.rest.sendable p.1 f.rest.octets)
+      ] in
+      record {
+        done = f.done;
+        left = f.left;
+        parts = f.parts;
+        reached = h.before;
+        taken = grind (arith, units_taken);
+        how = inr starved;
+        coming_then = λ lasts. starved_over h.before f.left new.end starved lasts;
+      }
+
+  goes_some : IsAttended old.end → Goes old (take k outgoing) used new → TakesSome old outgoing coming used new
+  goes_some attended (inl (inl h)) = runs_dry h
+  goes_some attended (inl (inr h)) = stops_behind h
+  goes_some attended (inr (inl h)) = absurd (refuses_none h)
+  goes_some attended (inr (inr h)) = finds_none attended h
 
 feeds_by : (old new : Holding) (outgoing : List ℕ) (coming : List Value) (k : ℕ) (fed : Fed) (wait : Bool) → k ≤ length outgoing →
     AreComing old.held.octets outgoing coming →

@@ -4,8 +4,8 @@
 use Rattle.osi_watched.proofs.Vocabulary.{arith, ◌≡◌, ◌∙◌, ◌⊎◌, inl, inr, refl, sym, ap, subst, ℕ, Bool, if◌then◌else◌, is_some, List, []}
 use Rattle.osi_watched.proofs.Vocabulary.{◌∷◌, ◌++◌, Option, Value, Capture, other, Direction, Left, Reach, Told, Outcome, takes, Cause}
 use Rattle.osi_watched.proofs.Vocabulary.{Mark, Octets, Sessions, taken, Course, Moment, fresh_within, marked, marks_of, moved, noted_by}
-use Rattle.osi_watched.proofs.Vocabulary.{number_at, packet_begins, reached, unit_passes, unread, unread_mark, unread_moment, way_of}
-use Rattle.osi_watched.proofs.Vocabulary.{begin_within, comes_to, marked_past, AreMomentsOf, IsCourseOf, IsMomentOf, comes_within}
+use Rattle.osi_watched.proofs.Vocabulary.{number_at, packet_begins, unit_passes, unread, unread_mark, unread_moment, way_of, begin_within}
+use Rattle.osi_watched.proofs.Vocabulary.{comes_to, marked_past, AreMomentsOf, IsCourseOf, IsMomentOf, comes_within}
 use Rattle.osi_rules.specs.declared.findings.Reach.TheVariants as reach
 use Rattle.osi_rules.specs.Traffic.{State as Traffic}
 use Rattle.osi_rules.specs.Traffic as traffic
@@ -27,11 +27,8 @@ record HasMarksOf (c w : Course) : Type 0 where
   right : c.right ≡ w.right
   first : c.first ≡ w.first
 
-reached_same : (m : Mark) (r : Reach) (c w : Course) → HasMarksOf c w → HasMarksOf (reached m r c) (reached m r w)
-reached_same m r c w h = grind arith
-
 marked_same : (m : Mark) (r : Reach) (c w : Course) → HasMarksOf c w → HasMarksOf (marked m r c) (marked m r w)
-marked_same m r c w h = grind (arith, reached_same)
+marked_same m r c w h = grind arith
 
 noted_same : (d : Direction) (at : ℕ) (v : Value) (told : Told) (o : Option Cause) (c w : Course) →
     number_at told.place c.sessions ≡ number_at told.place w.sessions → HasMarksOf c w →
@@ -66,15 +63,12 @@ record IsNoWorse (d : Direction) (past : List Moment) (s : Sessions) (wholes : L
 
 module _ (d : Direction) (past : List Moment) (s : Sessions) (wholes : List Moment) (h : IsNoWorse d past s wholes) (m n : Moment)
     (mark : m.mark ≡ n.mark) (none : NoneIsToBlame d s → NoneIsToBlame d n.sessions → NoneIsToBlame d m.sessions) where
-  moment_clean : NoneIsToBlame d s → IsClean d n → IsClean d m
-  moment_clean before clean = grind arith
-
   moment_more : IsNoWorse d (past ++ m ∷ []) m.sessions (wholes ++ n ∷ [])
   moment_more = record {
     clean = λ all.
         let (front, last) = clean_parts d wholes n all in
         let before = h.clean front in
-        grind (arith, moment_clean, clean_then);
+        grind (arith, clean_then);
     broken = λ all. by (broken_parts d wholes n all);
   }
     where

@@ -28,7 +28,7 @@ use Rattle.osi_watched.proofs.sessions.what_a_unit_does_at_its_place.{Does, unit
 use Rattle.osi_watched.proofs.sessions.what_has_no_effect_joins_nothing.{joins_none}
 use Rattle.osi_watched.proofs.sessions.what_holds_of_a_lost_connection.{now_so}
 use Rattle.osi_watched.proofs.sessions.what_is_left_for_an_end.{known_left, left_grows, left_same}
-use Rattle.osi_watched.proofs.sessions.what_passes_leaves_all_standing.{AllGoesOn, IsHeard, cc_unapplied, no_zero, other_stands}
+use Rattle.osi_watched.proofs.sessions.what_passes_leaves_all_standing.{AllGoesOn, IsHeard, no_zero, other_stands}
 
 -- ---- units of the other side
 
@@ -147,13 +147,13 @@ module _ (deeds : ℕ → Deeds) (is_live : ℕ → Bool) (put : List Value) (be
   then_distinct coming v c false none h = subst (AreDistinct Right) (sym (joins_none Left at v c none)) h.distinct
   then_distinct coming v c true applied h =
       subst (AreDistinct Right) (sym (unit_joins Left at v c))
-      (unit_distinct Right Left at v c.traffic c.sessions h.stand.places h.distinct (grind (arith, cc_unapplied))
+      (unit_distinct Right Left at v c.traffic c.sessions h.stand.places h.distinct (grind arith)
       (all_room Right deeds (known_from is_live coming) put begun c.traffic c.sessions h.stand))
 
   then_up : (coming : List Value) (v : Value) (c : Course) (x : Bool) → is_applied (takes way.Left v c.traffic).told.finding ≡ x →
       AreHeard coming c → AreUpTo Right b (unit_passes Left at v c).sessions
   then_up coming v c false none h = subst (AreUpTo Right b) (sym (joins_none Left at v c none)) h.up
-  then_up coming v c true applied h = unit_up Right Left b at v c h.stand.places (grind (arith, cc_unapplied)) h.up
+  then_up coming v c true applied h = unit_up Right Left b at v c h.stand.places (grind arith) h.up
 
   loses_so : (coming : List Value) (v : Value) (c : Course) → IsHeardOn v c → AreHeard coming c →
       Loses Right Left v c.traffic c.sessions

@@ -3,10 +3,9 @@
 use Rattle.osi_watched.proofs.Vocabulary.{◌≡◌, ◌∙◌, refl, sym, ap, subst, ℕ, ◌<◌, ◌≤◌, Bool, true, false, if◌then◌else◌, List, [], ◌∷◌}
 use Rattle.osi_watched.proofs.Vocabulary.{◌++◌, map, Some, None, arith, is_some, ◌-◌, AllByRecursion, Connect, Value, acknowledge, confirm}
 use Rattle.osi_watched.proofs.Vocabulary.{data0, data2, disconnect, disconnected, error, request, written, Zero, Local, acceptance}
-use Rattle.osi_watched.proofs.Vocabulary.{unit_octets, Right, State, Selecting, AreAbove, IsInZero, over, zero_puts, IsClear, IsFirm}
-use Rattle.osi_watched.proofs.Vocabulary.{Continues, Deeds, then_did, units_in, all_units, Turn, AllProper, Life, amid, early, stage_at}
-use Rattle.osi_watched.proofs.Vocabulary.{stage_is, stage_there, all_units_more, CanBeWritten, Sessions, Joint, TakesTurn, parts_of}
-use Rattle.osi_watched.proofs.Vocabulary.{going_on}
+use Rattle.osi_watched.proofs.Vocabulary.{unit_octets, Right, State, Selecting, AreAbove, IsInZero, zero_puts, IsClear, IsFirm, Continues}
+use Rattle.osi_watched.proofs.Vocabulary.{Deeds, then_did, units_in, all_units, Turn, AllProper, Life, amid, early, stage_at, stage_is}
+use Rattle.osi_watched.proofs.Vocabulary.{stage_there, all_units_more, CanBeWritten, Sessions, Joint, TakesTurn, parts_of, going_on}
 use Rattle.osi_carrier.specs.State.{State as Carrier}
 use Rattle.osi_watched.proofs.a_carrier_does_events.{none_of}
 use Rattle.osi_watched.proofs.steps_are_events.{IsFollowed}
@@ -142,9 +141,6 @@ module _ (local : Local) (proper : AllProper) (turn : Turn) (old new : Joint) (t
     less : h.called.ahead.bound < x.source
     less = search (arith, waits_above, first, then_can, starts)
 
-    positive : 0 < x.source
-    positive = (let low = less in omega (arith, low))
-
     dts : AllByRecursion (IsWrittenAs IsDt0) starts.rest
     dts = dts_after local new f starts.n x starts.rest starts.is z
 
@@ -176,7 +172,7 @@ module _ (local : Local) (proper : AllProper) (turn : Turn) (old new : Joint) (t
     opened : stage_at x.source then_end ≡ early → ⊥
     opened may =
         let lasts = none_of f.whole.end.ended (sym f.like.over ∙ ap is_some (early_lasts x.source then_end may)) in
-        not_early_in_zero (unit_octets z.size - 3) 0 x.source f.whole.end z.more z.end positive up lasts
+        not_early_in_zero (unit_octets z.size - 3) 0 x.source f.whole.end z.more z.end (grind (arith, less)) up lasts
         (ap (stage_at x.source) (f.like.lasts lasts) ∙ may)
 
     early_so : StandsCalledEarly deeds x.source end old.put old.begun (units_in old.coming) old.course
@@ -191,5 +187,5 @@ module _ (local : Local) (proper : AllProper) (turn : Turn) (old new : Joint) (t
     pub turns_selecting : StandsAnswering local (λ r. then_did (deeds r) (on.more r)) new
     turns_selecting =
         turns_waiting local proper turn old new t deeds on life units f then_can class starts.n x starts.rest starts.is starts.not_two
-        positive early_so some ((grind (arith, less, empty)) ∙ ap (waiting_for (Some starts.n)) (sym empty))
+        (grind (arith, less)) early_so some ((grind (arith, less, empty)) ∙ ap (waiting_for (Some starts.n)) (sym empty))
         (parts_taken (deeds x.source).calls ∙ ap parts_of (h.called.unheard x.source less)) dts is_x opened

@@ -2,16 +2,15 @@
 -- and after that CC. So nobody of the end is to blame.
 -- For the laws that no session of an end is blamed first, nor after a break of the other side.
 use Rattle.osi_watched.proofs.Vocabulary.{arith, ◌≡◌, ◌∙◌, ◌⊎◌, inl, inr, refl, sym, ap, subst, ℕ, ◌^◌, ◌<◌, Bool, true, false}
-use Rattle.osi_watched.proofs.Vocabulary.{if◌then◌else◌, List, [], ◌∷◌, ◌++◌, length, Some, None, ◌==◌, slice_get, AllByRecursion}
-use Rattle.osi_watched.proofs.Vocabulary.{append-nil, units_of, Connect, Value, confirm, Class, Two, Zero, Local, Left, Right, AsSent}
-use Rattle.osi_watched.proofs.Vocabulary.{AsParts, CalledLaw, CallerLaw, State, class_for, class_of, Holding, Selecting, left_class}
-use Rattle.osi_watched.proofs.Vocabulary.{IsClear, IsFirm, Deeds, no_deeds, then_did, units_in, units_read, Marked, all_units, IsFresh}
-use Rattle.osi_watched.proofs.Vocabulary.{Turn, AllProper, amid, stage_at, stage_is, stage_there, all_units_more, CanBeWritten, Joined}
-use Rattle.osi_watched.proofs.Vocabulary.{spoken, packet_begins, unit_passes, units_pass, heard, Joint, Steps, TakesTurn, begin}
-use Rattle.osi_watched.proofs.Vocabulary.{begins_other, begins_own, passes_other, passes_own, turns, going_on, IsOngoing}
+use Rattle.osi_watched.proofs.Vocabulary.{if◌then◌else◌, List, [], ◌∷◌, ◌++◌, length, Some, None, slice_get, AllByRecursion, append-nil}
+use Rattle.osi_watched.proofs.Vocabulary.{units_of, Connect, Value, confirm, Two, Zero, Local, Left, Right, AsSent, AsParts, CalledLaw}
+use Rattle.osi_watched.proofs.Vocabulary.{CallerLaw, State, class_for, Holding, Selecting, left_class, IsClear, IsFirm, Deeds, no_deeds}
+use Rattle.osi_watched.proofs.Vocabulary.{then_did, units_in, units_read, Marked, all_units, IsFresh, Turn, AllProper, amid, stage_at}
+use Rattle.osi_watched.proofs.Vocabulary.{stage_is, stage_there, all_units_more, CanBeWritten, Joined, spoken, packet_begins, unit_passes}
+use Rattle.osi_watched.proofs.Vocabulary.{units_pass, heard, Joint, Steps, TakesTurn, begin, begins_other, begins_own, passes_other}
+use Rattle.osi_watched.proofs.Vocabulary.{passes_own, turns, going_on, IsOngoing}
 use Rattle.osi_rules.specs.declared.directions.Direction.TheVariants as way
 use Rattle.osi_tap.specs.Courses.{Course as Passed}
-use Rattle.osi_watched.proofs.what_a_taker_passes_over.{mild_of}
 use Rattle.osi_watched.proofs.what_passes_keeps_a_claim.{step_kept}
 use Rattle.osi_watched.proofs.what_the_turns_among_steps_do.{TurnDoes}
 use Rattle.osi_watched.proofs.sessions.a_called_end_answers_with_class_2_or_selects_class_0.{answers_or_selects}
@@ -28,7 +27,6 @@ use Rattle.osi_watched.proofs.sessions.a_called_end_stands_until_its_cc_of_class
 use Rattle.osi_watched.proofs.sessions.a_called_end_stands_until_its_cc_of_class_0_passes.{begins_own_answering, passes_other_answering}
 use Rattle.osi_watched.proofs.sessions.a_called_end_stands_until_its_cc_of_class_0_passes.{passes_own_answering, units_select_none}
 use Rattle.osi_watched.proofs.sessions.a_calling_end_stands_as_units_pass.{known_at}
-use Rattle.osi_watched.proofs.sessions.a_cc_of_class_0_opens_one_connection.{has_effect}
 use Rattle.osi_watched.proofs.sessions.a_turn_after_which_a_cc_of_class_0_waits.{no_cc_taken, turns_answering}
 use Rattle.osi_watched.proofs.sessions.a_turn_does_what_its_deeds_say.{turn_leaves, units_join}
 use Rattle.osi_watched.proofs.sessions.a_turn_of_a_called_end_in_class_0.{none_zero, turns_zero}
@@ -58,9 +56,6 @@ has_later n r v vs h h2 = grind arith
 -- a CC, or another unit
 cc_or : {A : Type 0} (v : Value) → ((m : ℕ) (x : Connect) → v ≡ confirm m x → A) → (IsNoCc v → A) → A
 cc_or h f g = grind arith
-
-two_class : (x : Connect) → x.class ≡ 2 → class_of x ≡ Two
-two_class x is = ap (λ (k : ℕ). if◌then◌else◌ {A = Class} (k == 2) Two Zero) is
 
 -- ---- units of the other side
 
@@ -125,18 +120,12 @@ module _ (local : Local) (proper : AllProper) where
 
   -- ---- a unit of the end passes
 
-  -- its CC would select class 2
-  no_cc_passes : (at m : ℕ) (x : Connect) (old : Joint) → x.class ≡ 2 → IsRight Right (confirm m x) old.course → Sure old.course →
-      old.course.traffic.course.class ≡ None → (unit_passes Right at (confirm m x) old.course).traffic.course.class ≡ Some Two
-  no_cc_passes at m x old two right sure none =
-      search (arith, has_effect, mild_of, unit_knows Right at (confirm m x) old.course, two_class x two)
-
   none_passes : (deeds : ℕ → Deeds) (at : ℕ) (v : Value) (old new : Joint) → Steps Right (passes_own at v) old new →
       IsRight Right v old.course → IsFirm old.course.traffic.course → Sure old.course →
       (new.course.traffic.course.class ≡ Some Two → ⊥) → StandsInNone deeds old → StandsInNone deeds new
   none_passes deeds at v old new (read, octets, put, begun, is) right firm sure not h =
       let mid : Joint = record old { put = new.put; begun = false; course = units_pass Right at (v ∷ []) old.course } in
-      let plain : IsNoCc v = grind (arith, cc_or, no_cc_passes) in
+      let plain : IsNoCc v = grind (arith, cc_or) in
       let fine : IsProper Right v old.course = record {
         goes = right.goes;
         two = λ zero_is. none_some old.course.traffic.course.class Zero h.class zero_is;

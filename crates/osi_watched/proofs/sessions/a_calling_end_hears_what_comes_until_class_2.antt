@@ -142,13 +142,9 @@ pub units_none_before : (at : ℕ) (vs : List Value) (c : Course) → (units_pas
 units_none_before at [] c none = none
 units_none_before at (v ∷ vs) c none = none_before Right at v c (units_none_before at vs (unit_passes Right at v c) none)
 
--- the other side asks for nothing
-not_cr : (b : ℕ) (v : Value) (c : Course) → IsTolerable Right v c → IsUpTo Left b v
-not_cr b v c right = grind arith
-
 pub no_crs : (b at : ℕ) (vs : List Value) (c : Course) → AreTaken at vs c → AllByRecursion (IsUpTo Left b) vs
 no_crs b at [] c taken = tt
-no_crs b at (v ∷ vs) c taken = (not_cr b v c taken.0.right, no_crs b at vs (unit_passes Right at v c) taken.1)
+no_crs b at (v ∷ vs) c taken = (grind arith, no_crs b at vs (unit_passes Right at v c) taken.1)
 
 -- ---- no class is selected yet
 

@@ -1,12 +1,12 @@
 -- A calling end of class 2 is ready for each CR that passes: nothing is done at its connection, nothing in flight is for it, and its
 -- reference is new. Each step keeps it so, as long as both sides are judged.
 -- For all connections of an end and a tap.
-use Rattle.osi_watched.proofs.Vocabulary.{◌≡◌, ◌∙◌, refl, sym, ap, subst, ℕ, ◌<◌, ◌≤◌, Bool, true, if◌then◌else◌, List, [], ◌∷◌, ◌++◌, None}
-use Rattle.osi_watched.proofs.Vocabulary.{arith, AllByRecursion, append-nil, units_of, Value, acknowledge, confirm, data0, data2}
-use Rattle.osi_watched.proofs.Vocabulary.{disconnect, disconnected, error, request, Local, Left, State, Holding, Event, HappenAlong, Whole}
+use Rattle.osi_watched.proofs.Vocabulary.{◌≡◌, ◌∙◌, refl, sym, ap, subst, ℕ, ◌<◌, ◌≤◌, true, if◌then◌else◌, List, [], ◌∷◌, ◌++◌, arith}
+use Rattle.osi_watched.proofs.Vocabulary.{AllByRecursion, append-nil, units_of, Value, acknowledge, confirm, data0, data2, disconnect}
+use Rattle.osi_watched.proofs.Vocabulary.{disconnected, error, request, Local, Left, State, Holding, Event, HappenAlong, Whole}
 use Rattle.osi_watched.proofs.Vocabulary.{first_joined, next_joined, Followed, IsOngoing, Continues, Deeds, no_deeds, then_did, units_in}
-use Rattle.osi_watched.proofs.Vocabulary.{units_read, IsFresh, Turn, AllProper, Life, amid, stage_at, stage_is, stage_there, Joint, Steps}
-use Rattle.osi_watched.proofs.Vocabulary.{TakesTurn, begin, begins_other, begins_own, passes_other, passes_own, HaveSamePlaces}
+use Rattle.osi_watched.proofs.Vocabulary.{units_read, IsFresh, Turn, AllProper, Life, stage_at, stage_is, Joint, Steps, TakesTurn, begin}
+use Rattle.osi_watched.proofs.Vocabulary.{begins_other, begins_own, passes_other, passes_own, HaveSamePlaces}
 use Rattle.osi_carrier.specs.State.{State as Carrier}
 use Rattle.osi_rules.specs.declared.directions.Direction.TheVariants as way
 use Rattle.osi_fair.specs.Wholes as wholes
@@ -78,9 +78,6 @@ module _ (local : Local) (two : local.class2 ≡ true) where
 
   -- ---- at the beginning
 
-  none_open : (peer : ℕ) (given : Bool) → stage_there given None ≡ amid peer → ⊥
-  none_open peer given e = grind arith
-
   pub begin_calling : (holding : Holding) → IsFresh true local holding → IsCalling (λ r. no_deeds) (begin holding)
   begin_calling holding fresh =
       let f = begin_followed Left true local holding fresh in
@@ -92,7 +89,7 @@ module _ (local : Local) (two : local.class2 ≡ true) where
           above = above_along 0 f.events first f.whole f.along above;
           below = record { live = λ i j r here named. absurd (cc here); done = λ i j r here named. absurd (cc here) };
         };
-        undone = grind (arith, none_open, stage_is);
+        undone = grind (arith, stage_is);
         zero = tt;
       }
 

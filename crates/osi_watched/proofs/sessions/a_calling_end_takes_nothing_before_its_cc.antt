@@ -2,11 +2,11 @@
 -- other CC if the connection is judged. So the end is calm in a turn before the connection opens.
 -- For all connections of an end and a tap.
 use Rattle.osi_watched.proofs.Vocabulary.{[], ap, append_assoc, Bool, List, None, refl, Some, subst, sym, true, ℕ, ◌++◌, ◌∙◌, ◌∷◌, ◌≡◌}
-use Rattle.osi_watched.proofs.Vocabulary.{eq-eqb, append-nil, AllByRecursion, confirm, Connect, request, Value, Local, Carrier, has_given}
-use Rattle.osi_watched.proofs.Vocabulary.{early, Time as Stage, stage_at, stage_is, all_units_more, Opens, all_units, Marked, Follows}
-use Rattle.osi_watched.proofs.Vocabulary.{IsNoCc, Row, Tracked, first_kept, IsDc, first_left, names, picked_join, those, those_join, Line}
-use Rattle.osi_watched.proofs.Vocabulary.{Whole, acknowledge, data0, data2, disconnect, disconnected, error, false, ◌||◌, slice_get}
-use Rattle.osi_watched.proofs.Vocabulary.{Connection, is_tracked, arith, is_dr, IsOngoing}
+use Rattle.osi_watched.proofs.Vocabulary.{append-nil, AllByRecursion, confirm, Connect, request, Value, Local, Carrier, has_given, early}
+use Rattle.osi_watched.proofs.Vocabulary.{Time as Stage, stage_at, stage_is, all_units_more, Opens, all_units, Marked, Follows, IsNoCc, Row}
+use Rattle.osi_watched.proofs.Vocabulary.{Tracked, first_kept, IsDc, first_left, names, picked_join, those, those_join, Line, Whole}
+use Rattle.osi_watched.proofs.Vocabulary.{acknowledge, data0, data2, disconnect, disconnected, error, false, ◌||◌, slice_get, Connection}
+use Rattle.osi_watched.proofs.Vocabulary.{is_tracked, arith, is_dr, IsOngoing}
 use Rattle.osi_watched.proofs.small_facts_that_many_lemmas_use.{amid_not, over_not}
 use Rattle.osi_watched.proofs.sessions.nothing_is_done_before_a_cr_passes.{IsNoZero, dcs_none}
 use Rattle.osi_watched.proofs.sessions.what_an_end_takes_at_each_stage.{AreCalm, AreReady, EndsEarly, dcs_before, dcs_first, opens_next}
@@ -71,12 +71,9 @@ zero_front : (xs ys : List Value) → AllByRecursion IsNoZero (xs ++ ys) → All
 zero_front [] ys h = tt
 zero_front (x ∷ xs) ys h = (h.0, zero_front xs ys h.1)
 
-own_cc : (r : ℕ) (y : Connect) (rest : List Value) → those r (confirm r y ∷ rest) ≡ confirm r y ∷ those r rest
-own_cc r y rest = first_kept r (confirm r y) rest (eq-eqb r r refl)
-
 before_opening : (r peer : ℕ) (unit : Value) (front rest : List Value) → Opens true r peer unit → AwaitsCc r (front ++ unit ∷ rest) →
     AllByRecursion IsDc (those r front)
-before_opening r peer (confirm n x) front rest o a = grind (arith, dcs_before, those, own_cc, those_join)
+before_opening r peer (confirm n x) front rest o a = grind (arith, dcs_before, those, those_join)
 before_opening r peer (request x) front rest o a = absurd (cc o.0)
 before_opening r peer _ front rest o a = absurd o
 

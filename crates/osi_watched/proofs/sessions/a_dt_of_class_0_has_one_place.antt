@@ -87,9 +87,6 @@ pub both_named : (e : Direction) (c : Connection) (j : Joined) → IsOneOf c j �
     is_some (reference_of e j) ≡ true
 both_named e c j one h = grind (arith, named_open)
 
-pub open_there : (d : Direction) (s : State) (o : IsOnly s) → is_open (own (way_of d) o.connection).phase ≡ true
-open_there d s o = grind arith
-
 -- a refused one is not open for its called side, and has no reference for its calling side
 pub other_none : (d : Direction) (c : Connection) (j : Joined) → IsOneOf c j → is_refused c.right.phase ≡ true →
     is_open (own (way_of d) c).phase ≡ true → is_some (reference_of (other d) j) ≡ false

@@ -12,7 +12,7 @@ use Rattle.osi_tap.specs.Connections as joined
 use Rattle.osi_watched.proofs.a_break_ends_no_judging_or_all.{takes_reach}
 use Rattle.osi_watched.proofs.the_first_break_is_not_of_an_end.{IsNoBreak}
 use Rattle.osi_watched.proofs.what_a_taker_passes_over.{IsMild, applied_of, mild_of}
-use Rattle.osi_watched.proofs.sessions.a_dt_of_class_0_has_one_place.{IsOnly, both_named, dt_takes, open_there, other_none}
+use Rattle.osi_watched.proofs.sessions.a_dt_of_class_0_has_one_place.{IsOnly, both_named, dt_takes, other_none}
 use Rattle.osi_watched.proofs.sessions.a_dt_that_is_no_break_is_right.{dt_clear}
 use Rattle.osi_watched.proofs.sessions.a_right_dt_has_one_place.{zero_placed}
 use Rattle.osi_watched.proofs.sessions.all_connections_stand.{AllStand, Leaves, Loses, all_after, like_same, other_after, own_after}
@@ -84,7 +84,7 @@ own_dt d deeds known at end user rest s t a z kept = record {
     by true e p c j r one same h =
         let v = data0 end user in
         let live : is_open (own (way_of d) c).phase ≡ true =
-        ap (λ (y : Connection). is_open (own (way_of d) y).phase) same ∙ open_there d s z.only in
+        ap (λ (y : Connection). is_open (own (way_of d) y).phase) same ∙ (grind arith) in
         let right : is_open c.right.phase ≡ true = ap (λ (y : Connection). is_open y.right.phase) same ∙ z.only.right in
         stands_part d deeds known v rest at end c (connection_after (way_of d) v true r c) j refl refl
         (both_named (other d) c j one right) (both_named d c j one right) live

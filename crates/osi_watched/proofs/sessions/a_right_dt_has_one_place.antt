@@ -1,16 +1,13 @@
 -- A DT that is right has a place, at which it adds to what is joined; and each side uses a reference at one open place at most.
 -- For the law on places.
-use Rattle.osi_watched.proofs.Vocabulary.{arith, ◌≡◌, ap, subst, ℕ, ◌+◌, Bool, true, false, if◌then◌else◌, List, [], ◌∷◌, Option, Some}
-use Rattle.osi_watched.proofs.Vocabulary.{◌&&◌, ◌||◌, ◌==◌, not, slice_get, eq-eqb, Value, acknowledge, confirm, data0, data2}
-use Rattle.osi_watched.proofs.Vocabulary.{destination_of, disconnect, disconnected, error, request, unit_parts, Capture, other, Direction}
-use Rattle.osi_watched.proofs.Vocabulary.{Left, Right, Connection, Broke, Kept, NotJudged, Adds, Phase, Route, is_applied, Test, fits_size}
-use Rattle.osi_watched.proofs.Vocabulary.{fits_tsdu, has_credit, is_tellable, is_closed, is_closing, is_open, is_refused, is_silent, own}
-use Rattle.osi_watched.proofs.Vocabulary.{uses, Outcome, State, at_place, found, meant, none_told, in_doubt, routed, takes, unnamed_by}
-use Rattle.osi_watched.proofs.Vocabulary.{uses_source, packet, unit, fresh_apart, passes_apart, AreNamedApart, OnlyOne, each_sound}
-use Rattle.osi_watched.proofs.Vocabulary.{HoldsOfEach, Sound, Cause, Joined, reference_of, user_of, Course, marked, moved, packet_begins}
-use Rattle.osi_watched.proofs.Vocabulary.{unit_passes, unread_mark, unread_moment, way_of, comes_to, HaveSamePlaces, IsJoinedAt, IsOneOf}
-use Rattle.osi_watched.proofs.Vocabulary.{named_by}
-use Rattle.osi_rules.specs.declared.courses.Course.{Course as Rules}
+use Rattle.osi_watched.proofs.Vocabulary.{arith, ◌≡◌, ap, subst, ℕ, Bool, true, false, if◌then◌else◌, List, [], ◌∷◌, Option, Some}
+use Rattle.osi_watched.proofs.Vocabulary.{slice_get, eq-eqb, Value, acknowledge, confirm, data0, data2, destination_of, disconnect}
+use Rattle.osi_watched.proofs.Vocabulary.{disconnected, error, request, unit_parts, Capture, other, Direction, Left, Right, Connection}
+use Rattle.osi_watched.proofs.Vocabulary.{Kept, NotJudged, Adds, Route, is_applied, is_open, own, uses, Outcome, State, at_place, found}
+use Rattle.osi_watched.proofs.Vocabulary.{meant, none_told, in_doubt, routed, takes, unnamed_by, uses_source, packet, unit, fresh_apart}
+use Rattle.osi_watched.proofs.Vocabulary.{passes_apart, AreNamedApart, OnlyOne, each_sound, HoldsOfEach, Sound, Cause, Joined, reference_of}
+use Rattle.osi_watched.proofs.Vocabulary.{user_of, Course, marked, moved, packet_begins, unit_passes, unread_mark, unread_moment, way_of}
+use Rattle.osi_watched.proofs.Vocabulary.{comes_to, HaveSamePlaces, IsJoinedAt, IsOneOf}
 use Rattle.osi_rules.specs.declared.directions.Direction.{Direction as Way}
 use Rattle.osi_rules.specs.declared.directions.Direction.TheVariants as way
 use Rattle.osi_rules.specs.declared.findings.Rule.TheVariants as rule
@@ -62,16 +59,6 @@ pub zero_placed : (d : Way) (end : Bool) (user : List ℕ) (s : State) → (take
     IsPlaced d (data0 end user) end s (takes d (data0 end user) s)
 zero_placed d end user s h = search (arith, stopped_or)
 
-abbrev tests_of_numbers : Way → Connection → (number octets : ℕ) → List Test
-tests_of_numbers d c number octets =
-    (number == (own d c).next, Broke rule.OutOfSequence) ∷ (is_tellable d c, Broke rule.OutOfSequence)
-    ∷ (fits_tsdu d c octets, Broke rule.TsduTooLong) ∷ (has_credit d c, Broke rule.NoCredit)
-    ∷ (fits_size c.size (octets + 5), Broke rule.SizeExceeded) ∷ []
-
-pub two_open : (d : Way) (n number : ℕ) (end : Bool) (user : List ℕ) (course : Rules) (in_use : Bool) (c : Connection) →
-    is_applied (found d course in_use c (data2 n number end user)) ≡ true → is_open (own d c).phase ≡ true
-two_open d n number end user course in_use c h = grind arith
-
 -- ---- it is joined there
 
 joined_at : (d : Direction) (at : ℕ) (v : Value) (end : Bool) (c : Course) → HaveSamePlaces c.traffic.connections c.sessions.live →
@@ -89,7 +76,7 @@ dt_joined d at (data2 m number e user) end c h parts kept =
     let v = data2 m number e user in
     let p = two_placed (way_of d) m number e user c.traffic (ap is_applied kept) in
     subst (λ (b : Bool). IsJoinedAt d at v b c) (grind arith)
-    (joined_at d at v e c h p (grind (arith, two_open)))
+    (joined_at d at v e c h p (grind arith))
 dt_joined d at (request x) end c h parts kept = absurd (cc)
 dt_joined d at (confirm m x) end c h parts kept = absurd (cc)
 dt_joined d at (disconnect m source reason user) end c h parts kept = absurd (cc)
@@ -118,34 +105,10 @@ capture_apart capture = after_kept Apart (search (arith, apart_packet, apart_uni
 
 -- ---- a side that has not closed a connection leaves the reference of the other side in use
 
-not_so : (b : Bool) → (b ≡ true → ⊥) → b ≡ false
-not_so b h = grind arith
-
-unlike : (p : Phase) → is_open p ≡ true → (is_refused p ≡ false) × (is_closing p ≡ false) × (is_closed p ≡ false) × (is_silent p ≡ false)
-unlike p h = grind arith
-
-differ : {A : Type 0} (b : Bool) → b ≡ true → b ≡ false → A
-differ b h k = absurd (cc)
-
-over_not : (a b c g h i : Bool) → a ≡ false → b ≡ false → c ≡ false → h ≡ false → i ≡ false → (a || (b || (c || (g && (h || i))))) ≡ false
-over_not a b c g h i p q r s t = grind arith
-
-used_so : (j over silent same : Bool) → over ≡ false → silent ≡ false → same ≡ true → (not (j && over) && (not silent && same)) ≡ true
-used_so j over silent same a b c = grind arith
-
-given_of : (p : Phase) (r n : ℕ) → named_by p r ≡ Some n → (r ≡ n) × (is_silent p ≡ false) × (is_refused p ≡ false)
-given_of p r n h = grind arith
-
-asked_of : (p : Phase) → (is_silent p || is_refused p) ≡ false → (is_silent p ≡ false) × (is_refused p ≡ false)
-asked_of p h = grind arith
-
-same_number : (m n : ℕ) → Some m ≡ Some n → m ≡ n
-same_number m n e = cc
-
 -- a side that has a connection open leaves the reference in use that the other side gave it
 pub still_used : (d : Direction) (n : ℕ) (c : Connection) (j : Joined) → IsOneOf c j → Sound c → is_open (own (way_of d) c).phase ≡ true →
     reference_of (other d) j ≡ Some n → uses (way_of (other d)) n c ≡ true
-still_used d n c j h sound live is = grind (arith, given_of, unlike, used_so, over_not, not_so, differ, eq-eqb, asked_of, same_number)
+still_used d n c j h sound live is = grind (arith, eq-eqb)
 
 -- so two places that a side has open, and to which the other side gave this reference, are one
 pub one_place : (d : Direction) (n p q : ℕ) (c e : Connection) (j k : Joined) (cs : List Connection) → AreApart cs →
@@ -182,7 +145,7 @@ named_apart d cs apart named = record { sound = each_sound (way_of (other d)) cs
 -- a lost connection leaves the references in use that it has
 lost_used : (d : Direction) (n : ℕ) (c : Connection) (j : Joined) → IsOneOf c j → c.is_judged ≡ false →
     reference_of (other d) j ≡ Some n → uses (way_of (other d)) n c ≡ true
-lost_used d n c j h lost is = grind (arith, given_of, eq-eqb, asked_of, same_number)
+lost_used d n c j h lost is = grind (arith, eq-eqb)
 
 module _ (d : Direction) (n p q : ℕ) (c e : Connection) (j k : Joined) (cs : List Connection) (apart : AreUsedApart d cs)
     (there : slice_get cs p ≡ Some c) (here : slice_get cs q ≡ Some e) (one : IsOneOf c j) (another : IsOneOf e k)

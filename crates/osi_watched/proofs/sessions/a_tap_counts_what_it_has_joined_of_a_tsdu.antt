@@ -2,13 +2,13 @@
 -- passes.
 -- For a TSDU of the other side that becomes too long.
 use Rattle.osi_watched.proofs.Vocabulary.{◌≡◌, ◌∙◌, ◌⊎◌, inl, inr, refl, sym, ap, subst, ℕ, zero, suc, ◌+◌, ◌≤◌, Bool, true, false}
-use Rattle.osi_watched.proofs.Vocabulary.{if◌then◌else◌, List, [], ◌∷◌, ◌++◌, map, length, nat_le, Some, is_some, arith, leb-true}
-use Rattle.osi_watched.proofs.Vocabulary.{length-append, slice_get_within, set, slice_get, Value, acknowledge, confirm, data0, data2}
-use Rattle.osi_watched.proofs.Vocabulary.{disconnect, disconnected, error, request, longest_tsdu, other, Direction, Left, Connection}
-use Rattle.osi_watched.proofs.Vocabulary.{Finding, Broke, NotJudged, Reach, Half, is_applied, Test, first_failed, begins, own, State}
-use Rattle.osi_watched.proofs.Vocabulary.{asked_by, begun_after, closing_phase, connection_after, found_on, half_after, meaning_if, meant}
-use Rattle.osi_watched.proofs.Vocabulary.{takes, after_add, after_change, All, Joined, Sessions, adds, asked, spoken, taken, user_of, Cause}
-use Rattle.osi_watched.proofs.Vocabulary.{Course, marks_of, way_of, Spoken, added, begun_octets, fits, HaveSamePlaces}
+use Rattle.osi_watched.proofs.Vocabulary.{if◌then◌else◌, List, [], ◌∷◌, ◌++◌, map, length, Some, is_some, arith, length-append}
+use Rattle.osi_watched.proofs.Vocabulary.{slice_get_within, set, slice_get, Value, acknowledge, confirm, data0, data2, disconnect}
+use Rattle.osi_watched.proofs.Vocabulary.{disconnected, error, request, longest_tsdu, other, Direction, Left, Connection, Reach, Half}
+use Rattle.osi_watched.proofs.Vocabulary.{is_applied, begins, own, State, asked_by, begun_after, closing_phase, connection_after, found_on}
+use Rattle.osi_watched.proofs.Vocabulary.{half_after, meaning_if, meant, takes, after_add, after_change, All, Joined, Sessions, adds, asked}
+use Rattle.osi_watched.proofs.Vocabulary.{spoken, taken, user_of, Cause, Course, marks_of, way_of, Spoken, added, begun_octets}
+use Rattle.osi_watched.proofs.Vocabulary.{HaveSamePlaces}
 use Rattle.osi_rules.specs.declared.findings.Reach.TheVariants as reach
 use Rattle.osi_rules.specs.declared.findings.Rule.TheVariants as rule
 use Rattle.osi_rules.specs.Traffic as traffic
@@ -30,18 +30,6 @@ IsCountedOf e c j = (own (way_of e) c).begun ≡ length (begun_octets (spoken e 
 pub record IsCounted (c : Connection) (j : Joined) : Type 0 where
   pub of : (e : Direction) → IsCountedOf e c j
   pub room : j.room ≡ All
-
--- ---- a unit that has its effect fits
-
-le_so : (m n : ℕ) → nat_le m n ≡ true → m ≤ n
-le_so m n h = leb-true m n h
-
--- the test is among these, before those that are passed over
-first_fits : (fits : Bool) (more : List Test) → is_applied (first_failed ((fits, Broke rule.TsduTooLong) ∷ more)) ≡ true → fits ≡ true
-first_fits fits more h = grind arith
-
-judged_applied : (b : Bool) (f : Finding) → is_applied (if b then f else NotJudged) ≡ true → is_applied f ≡ true
-judged_applied b f h = grind arith
 
 -- ---- one connection
 
@@ -103,11 +91,11 @@ shut_same d at v r c j h = grind arith
 
 found_data0 : (d : Direction) (s : State) (c : Connection) (end : Bool) (user : List ℕ) →
     is_applied (found_on (way_of d) s c (data0 end user)) ≡ true → (own (way_of d) c).begun + length user ≤ longest_tsdu
-found_data0 d s c end user h = grind (arith, le_so, first_fits, judged_applied)
+found_data0 d s c end user h = grind arith
 
 found_data2 : (d : Direction) (s : State) (c : Connection) (n number : ℕ) (end : Bool) (user : List ℕ) →
     is_applied (found_on (way_of d) s c (data2 n number end user)) ≡ true → (own (way_of d) c).begun + length user ≤ longest_tsdu
-found_data2 d s c n number end user h = grind (arith, le_so, judged_applied)
+found_data2 d s c n number end user h = grind arith
 
 counted_after : (d : Direction) (at : ℕ) (v : Value) (s : State) (b : Bool) (r : Reach) (c : Connection) (j : Joined) →
     is_applied (found_on (way_of d) s c v) ≡ b → IsCounted c j →

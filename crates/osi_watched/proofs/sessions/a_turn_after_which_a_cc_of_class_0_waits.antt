@@ -216,9 +216,6 @@ module _ (local : Local) (proper : AllProper) (turn : Turn) (old new : Joint) (t
     f : IsFollowed Right (first local) new
     f = step_followed Right (first local) proper (turns turn) old new t h.followed
 
-    then_can : AllByRecursion CanBeWritten new.put
-    then_can = subst (AllByRecursion CanBeWritten) (sym turn_put) (all_more old.put (all_units on.put) h.can on.can)
-
     then_put : new.put ≡ confirm h.n h.x ∷ (h.rest ++ all_units on.put)
     then_put = turn_put ∙ ap (λ (l : List Value). l ++ all_units on.put) h.put
 
@@ -228,7 +225,7 @@ module _ (local : Local) (proper : AllProper) (turn : Turn) (old new : Joint) (t
     dts : AllByRecursion (IsWrittenAs IsDt0) (h.rest ++ all_units on.put)
     dts =
         dts_after local new f h.n h.x (h.rest ++ all_units on.put) then_put
-        (selects local new f h.n h.x (h.rest ++ all_units on.put) then_put then_can (grind arith)
+        (selects local new f h.n h.x (h.rest ++ all_units on.put) then_put (grind (arith, turn_put, all_more)) (grind arith)
         (ap (λ (c : Passed). c.traffic.course.class) t.course ∙ h.class) deeds h.x.source end old.put old.begun coming same_early h.not_two)
 
     -- no other CC is put
@@ -241,6 +238,6 @@ module _ (local : Local) (proper : AllProper) (turn : Turn) (old new : Joint) (t
 
     pub turns_answering : StandsAnswering local then_deeds new
     turns_answering =
-        turns_waiting f then_can h.class h.n h.x (h.rest ++ all_units on.put) then_put h.not_two h.positive e
+        turns_waiting f (grind (arith, turn_put, all_more)) h.class h.n h.x (h.rest ++ all_units on.put) then_put h.not_two h.positive e
         (λ begun none. no_list (confirm h.n h.x) h.rest (sym h.put ∙ none)) h.waits h.unheard dts is_x
         (not_early h.x.source (stage_at h.x.source end) (stage_at h.x.source then_end) on.took on.put h.opened (life h.x.source h.positive))

@@ -2,9 +2,8 @@
 -- alike. So they can stand in the place of the others, in each step.
 -- For all connections of an end and a tap.
 use Rattle.std.proofs.Common.{arith}
-use Rattle.osi_watched.proofs.Vocabulary.{[], ap, append_assoc, Bool, List, map, None, sym, ℕ, ◌++◌, ◌∙◌, ◌≡◌, flat_map-append}
-use Rattle.osi_watched.proofs.Vocabulary.{AllByRecursion, units_of, Value, written, Direction, CanBeWritten, Continues, Deeds, units_in}
-use Rattle.osi_watched.proofs.Vocabulary.{units_read, all_units, Turn, Joint, Step, Steps, TakesTurn}
+use Rattle.osi_watched.proofs.Vocabulary.{[], ap, append_assoc, Bool, List, None, sym, ℕ, ◌++◌, ◌∙◌, ◌≡◌, flat_map-append, units_of, Value}
+use Rattle.osi_watched.proofs.Vocabulary.{Continues, Deeds, units_in, units_read, all_units, Turn, Joint, TakesTurn}
 use Rattle.osi_watched.proofs.what_is_put_is_what_is_written.{AreFirst, are_first}
 
 pub units_join : (some more : List (List ℕ)) → units_in (some ++ more) ≡ units_in some ++ units_in more
@@ -35,22 +34,3 @@ turn_uses turn old new t is_caller deeds on lasts =
 pub turn_leaves : (turn : Turn) (old new : Joint) (t : TakesTurn turn old new) →
     units_in old.coming ≡ units_in t.used ++ units_in new.coming
 turn_leaves turn old new t = ap units_in t.coming ∙ units_join t.used new.coming
-
--- ---- what was put
-
--- these units are written as those, and can be written
-pub record IsPutSo (units put : List Value) : Type 0 where
-  pub same : map written units ≡ map written put
-  pub can : AllByRecursion CanBeWritten units
-
--- the same joint, with these units in the place of those that were put
-abbrev pub with_put : List Value → Joint → Joint
-with_put units j = record j { put = units }
-
--- ---- the other steps
-
--- the step is done with these units too, and leaves those
-pub record DoesSo (d : Direction) (step : Step) (old new : Joint) (units : List Value) : Type 0 where
-  pub rest : List Value
-  pub does : Steps d step (with_put units old) (with_put rest new)
-  pub put : IsPutSo rest new.put

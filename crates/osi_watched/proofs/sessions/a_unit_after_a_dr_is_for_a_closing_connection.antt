@@ -3,12 +3,11 @@
 -- For the sessions of an end after such a unit of the other side.
 use Rattle.osi_watched.proofs.Vocabulary.{[], Bool, false, if◌then◌else◌, List, None, not, Option, refl, Some, sym, true, ℕ, ◌∙◌, ◌∷◌, ◌≡◌}
 use Rattle.osi_watched.proofs.Vocabulary.{AllByRecursion, slice_get, acknowledge, confirm, Connect, data0, data2, disconnect, disconnected}
-use Rattle.osi_watched.proofs.Vocabulary.{error, request, Value, Class, Two, first_failed, Test, is_closed, is_closing, is_named, is_open}
-use Rattle.osi_watched.proofs.Vocabulary.{is_refused, is_silent, own, asks_of, at_found, class_for, found, found_on, Outcome, route_in}
-use Rattle.osi_watched.proofs.Vocabulary.{routed, takes, uses_source, unnamed_by, Traffic as State, Connection, Rules, Way, Finding, Broke}
-use Rattle.osi_watched.proofs.Vocabulary.{NotJudged, Phase, Closed, Route, Asks, Named, Only, Unnamed, other, Direction, Joined}
-use Rattle.osi_watched.proofs.Vocabulary.{reference_of, way_of, HaveSamePlaces, IsOneOf, is_report, arith, confirm_tests, in_doubt}
-use Rattle.osi_watched.proofs.Vocabulary.{Sessions, Course}
+use Rattle.osi_watched.proofs.Vocabulary.{error, request, Value, Class, first_failed, Test, is_closed, is_closing, is_named, is_open}
+use Rattle.osi_watched.proofs.Vocabulary.{is_refused, is_silent, own, asks_of, at_found, found, found_on, Outcome, route_in, takes}
+use Rattle.osi_watched.proofs.Vocabulary.{uses_source, unnamed_by, Traffic as State, Connection, Rules, Way, Finding, Broke, NotJudged}
+use Rattle.osi_watched.proofs.Vocabulary.{Phase, Route, Asks, Named, Only, Unnamed, other, Direction, Joined, reference_of, way_of}
+use Rattle.osi_watched.proofs.Vocabulary.{HaveSamePlaces, IsOneOf, is_report, arith, confirm_tests, in_doubt, Sessions, Course}
 use Rattle.osi_rules.specs.Sides as sides
 use Rattle.osi_rules.specs.Traffic as traffic
 use Rattle.osi_rules.specs.declared.directions.Direction.TheVariants as way
@@ -27,12 +26,9 @@ IsFound f = f ≡ Broke rule.Closed
 abbrev AreOthers : List Test → Type 0
 AreOthers tests = AllByRecursion (λ (t : Test). IsFound t.1 → ⊥) tests
 
-first_by : (b : Bool) (f g : Finding) → (IsFound f → ⊥) → (IsFound g → ⊥) → IsFound (if b then f else g) → ⊥
-first_by b f g a b2 h = grind arith
-
 first_other : (tests : List Test) → AreOthers tests → IsFound (first_failed tests) → ⊥
 first_other [] all h = cc
-first_other (t ∷ tests) all h = first_by t.0 (first_failed tests) t.1 (first_other tests all.1) all.0 h
+first_other (t ∷ tests) all h = grind (arith, first_other tests all.1)
 
 -- ---- of which units it is found
 
@@ -98,11 +94,8 @@ module _ (d : Way) (v : Value) (s : State) where
     placed = λ none. cc none;
   }
 
-  routed_goes : (r : Route) → IsOther r → IsFound (routed d v s r).told.finding → Goes d v s (routed d v s r)
-  routed_goes r a h = grind (arith, asks_none, unnamed_not, found_goes)
-
   goes : IsFound (takes d v s).told.finding → Goes d v s (takes d v s)
-  goes h = grind (arith, routed_goes, route_other)
+  goes h = grind (arith, asks_none, unnamed_not, found_goes, route_other)
 
 -- ---- a DT or an AK after a DR of its sender
 
@@ -118,16 +111,6 @@ after_dr e v c found not = by (goes (way_of e) v c.traffic found).follows
     by : MayFollow v → IsAfterDr e v c
     by (a_link n link) = record { n = n; link = link; closed = found }
     by (a_dr h) = absurd (not h)
-
--- outside class 2 such a unit is for no connection
-abbrev IsFoundSo : Way → Bool → Option Class → State → Value → Type 0
-IsFoundSo d b k s v = IsFound (routed d v s (route_in k d b v)).told.finding
-
-link_two : (d : Way) (b : Bool) (k : Option Class) (s : State) (v : Value) (n : ℕ) → IsLink v n → IsFoundSo d b k s v → k ≡ Some Two
-link_two d b k s v n h h2 = grind arith
-
-pub after_two : (e : Direction) (v : Value) (c : Course) → IsAfterDr e v c → class_for (way_of e) c.traffic.course ≡ Some Two
-after_two e v c a = grind (arith, link_two)
 
 -- ---- the connection that it is for
 

@@ -1,10 +1,10 @@
 -- A unit that names a connection is joined at the place of the connection to which the other side gave this reference.
 -- For the law on places.
-use Rattle.osi_watched.proofs.Vocabulary.{ap, Bool, false, None, not, Option, refl, Some, true, ℕ, ◌&&◌, ◌≡◌, eqb-true, slice_get}
-use Rattle.osi_watched.proofs.Vocabulary.{acknowledge, confirm, data0, data2, destination_of, disconnect, disconnected, error, request}
-use Rattle.osi_watched.proofs.Vocabulary.{Value, Class, Two, Zero, is_named, is_refused, at_found, route_in, routed, Traffic as State}
-use Rattle.osi_watched.proofs.Vocabulary.{takes, Connection, Way, Finding, Route, Named, Unnamed, other, Direction, Left, Right, Joined}
-use Rattle.osi_watched.proofs.Vocabulary.{reference_of, way_of, first_true, HaveSamePlaces, IsOneOf, arith, Course, number_is}
+use Rattle.osi_watched.proofs.Vocabulary.{ap, Bool, false, None, Option, refl, Some, true, ℕ, ◌≡◌, eqb-true, slice_get, acknowledge}
+use Rattle.osi_watched.proofs.Vocabulary.{confirm, data0, data2, destination_of, disconnect, disconnected, error, request, Value, Class}
+use Rattle.osi_watched.proofs.Vocabulary.{Two, Zero, is_named, is_refused, route_in, routed, Traffic as State, takes, Connection, Way}
+use Rattle.osi_watched.proofs.Vocabulary.{Finding, Route, Named, Unnamed, other, Direction, Joined, reference_of, way_of, first_true}
+use Rattle.osi_watched.proofs.Vocabulary.{HaveSamePlaces, IsOneOf, arith, Course, number_is}
 use Rattle.osi_rules.specs.declared.directions.Direction.TheVariants as way
 use Rattle.osi_rules.specs.declared.halves.Phase.TheVariants as phase
 use Rattle.osi_rules.specs.Sides as sides
@@ -55,11 +55,8 @@ no_place : {A : Type 0} (i : ℕ) → None ≡ Some i → A
 no_place i e = absurd (cc)
 
 module _ (d : Way) (v : Value) (s : State) (n i : ℕ) (c : Connection) (there : slice_get s.connections i ≡ Some c) where
-  at_found_there : (p : ℕ) (o : Option Connection) → slice_get s.connections p ≡ o → (at_found d v s p o).told.place ≡ Some i → p ≡ i
-  at_found_there p o e h = grind (arith, no_place, number_is)
-
   routed_named : (r : Route) → IsRouted n r → (routed d v s r).told.place ≡ Some i → is_named d n c ≡ true
-  routed_named r h h2 = grind (arith, no_place, at_found_there, first_true)
+  routed_named r h h2 = grind (arith, no_place, first_true)
 
   -- it names the connection at the place that is told of it
   pub names_there : destination_of v ≡ Some n → (takes d v s).told.place ≡ Some i → is_named d n c ≡ true
@@ -72,13 +69,9 @@ pub named_there : (d : Direction) (n : ℕ) (c : Connection) (j : Joined) → Is
     is_named (way_of d) n c ≡ true → reference_of (other d) j ≡ Some n
 named_there d n c j h judged is_so = grind (arith, or_first, eqb-true)
 
--- also of a connection that has lost its judgement, unless right has refused it
-lost_so : (j over silent same : Bool) → j ≡ false → (not (j && over) && (not silent && same)) ≡ true → (silent ≡ false) × (same ≡ true)
-lost_so j over silent same e h = grind arith
-
 lost_there : (d : Direction) (n : ℕ) (c : Connection) (j : Joined) → IsOneOf c j → c.is_judged ≡ false →
     is_refused c.seen_by_left.phase ≡ false → is_named (way_of d) n c ≡ true → reference_of (other d) j ≡ Some n
-lost_there d n c j h lost there is_so = grind (arith, lost_so, eqb-true)
+lost_there d n c j h lost there is_so = grind (arith, eqb-true)
 
 pub named_any : (d : Direction) (n : ℕ) (c : Connection) (j : Joined) → IsOneOf c j →
     (c.is_judged ≡ false → is_refused c.seen_by_left.phase ≡ false) → is_named (way_of d) n c ≡ true → reference_of (other d) j ≡ Some n

@@ -1,15 +1,13 @@
 -- After one connection too many nothing more is judged or joined: if no session of an end is to blame then, none is ever after.
 -- For the session of each connection of an end.
-use Rattle.osi_watched.proofs.Vocabulary.{arith, ◌≡◌, sym, ap, subst, ℕ, List, [], ◌∷◌, Some, None, slice_get, Value, Direction, TooMany}
-use Rattle.osi_watched.proofs.Vocabulary.{is_applied, takes, stops_are_said, stops_last, IsToBlame, Joined, Sessions, all_begin, Course}
-use Rattle.osi_watched.proofs.Vocabulary.{unit_passes, units_pass, way_of, Joint, Step, Steps, StepsAlong}
+use Rattle.osi_watched.proofs.Vocabulary.{arith, ◌≡◌, ap, ℕ, Some, None, slice_get, Value, Direction, TooMany, is_applied, takes}
+use Rattle.osi_watched.proofs.Vocabulary.{stops_are_said, stops_last, IsToBlame, Joined, Sessions, all_begin, Course, unit_passes, way_of}
 use Rattle.osi_rules.specs.declared.findings.Reach.TheVariants as reach
 use Rattle.osi_tap.specs.Connections.{packet_begins}
 use Rattle.osi_tap.specs.Courses as courses
-use Rattle.osi_watched.proofs.what_a_unit_leaves_at_a_tap.{IsCalm, IsOver, begins_over, unit_leaves, unit_over}
+use Rattle.osi_watched.proofs.what_a_unit_leaves_at_a_tap.{IsCalm, IsOver, unit_leaves, unit_over}
 use Rattle.osi_watched.proofs.sessions.all_connections_stand.{map_of}
 use Rattle.osi_watched.proofs.sessions.connections_have_the_same_places.{unit_knows}
-use Rattle.osi_watched.proofs.sessions.what_holds_of_a_lost_connection.{begun_blame}
 use Rattle.osi_watched.proofs.sessions.what_has_no_effect_joins_nothing.{joins_none, too_many_ends}
 
 -- ---- nobody of a side is to blame
@@ -22,7 +20,7 @@ pub none_begins : (d e : Direction) (t : Sessions) → NoneIsToBlame d t → Non
 none_begins d e t h = record {
   live = λ i j here blame.
       let (x, at, is) = map_of (packet_begins e) t.live i j here in
-      h.live i x at (begun_blame d e x (subst (IsToBlame d) is blame));
+      h.live i x at (grind arith);
   done = h.done;
 }
 
@@ -42,29 +40,12 @@ module _ (d : Direction) where
   pub unit_silenced : (e : Direction) (at : ℕ) (v : Value) (c : Course) → IsSilenced d c → IsSilenced d (unit_passes e at v c)
   unit_silenced e at v c h = search (arith, unit_over, over_joins)
 
-  pub units_silenced : (e : Direction) (at : ℕ) (vs : List Value) (c : Course) → IsSilenced d c → IsSilenced d (units_pass e at vs c)
-  units_silenced e at [] c h = h
-  units_silenced e at (v ∷ vs) c h = units_silenced e at vs (unit_passes e at v c) (unit_silenced e at v c h)
-
   pub begins_silenced : (e : Direction) (c : Course) → IsSilenced d c → IsSilenced d (courses.packet_begins e c)
-  begins_silenced e c h = grind (arith, begins_over, none_begins)
-
-  -- each step keeps that so
-  pub step_silenced : (step : Step) (old new : Joint) → Steps d step old new → IsSilenced d old.course → IsSilenced d new.course
-  step_silenced step old new t h = search (arith, begins_silenced, units_silenced)
-
-  pub along_silenced : (steps : List Step) (old new : Joint) → StepsAlong d old steps new → IsSilenced d old.course →
-      IsSilenced d new.course
-  along_silenced [] old new is h = subst (λ (j : Joint). IsSilenced d j.course) (sym is) h
-  along_silenced (step ∷ steps) old new (mid, one, more) h = along_silenced steps mid new more (step_silenced step old mid one h)
+  begins_silenced e c h = grind (arith, none_begins)
 
 -- ---- the unit with which that begins
 
--- so the session of no connection is judged any further
-pub too_many_over : (d : Direction) (at : ℕ) (v : Value) (c : Course) → IsCalm c → (takes (way_of d) v c.traffic).told.finding ≡ TooMany →
-    ((unit_passes d at v c).first ≡ None) × IsOver (unit_passes d at v c)
-too_many_over d at v c calm h = grind (arith, unit_leaves d at v c calm, unit_knows d at v c, stops_are_said, too_many_ends)
-
 pub too_many_silenced : (d e : Direction) (at : ℕ) (v : Value) (c : Course) → IsCalm c →
     (takes (way_of e) v c.traffic).told.finding ≡ TooMany → NoneIsToBlame d c.sessions → IsSilenced d (unit_passes e at v c)
-too_many_silenced d e at v c calm h none = grind (arith, too_many_over e at v c calm h, joins_none e at v c (ap is_applied h))
+too_many_silenced d e at v c calm h none =
+    grind (arith, unit_leaves e at v c calm, unit_knows e at v c, stops_are_said, too_many_ends, joins_none e at v c (ap is_applied h))

@@ -19,7 +19,7 @@ use Rattle.osi_watched.proofs.in_class_0_one_side_alone_is_judged.{IsAlone, alon
 use Rattle.osi_watched.proofs.steps_are_events.{IsFollowed, step_followed}
 use Rattle.osi_watched.proofs.the_first_break_is_not_of_an_end.{IsFairAlone, IsFairFrom}
 use Rattle.osi_watched.proofs.what_a_unit_leaves_at_a_tap.{IsJudged}
-use Rattle.osi_watched.proofs.what_is_judged_beside_a_halted_side.{IsBeside, beside_begins, beside_own}
+use Rattle.osi_watched.proofs.what_is_judged_beside_a_halted_side.{IsBeside, beside_own}
 use Rattle.osi_watched.proofs.what_is_put_is_what_is_written.{none_written, same_written, starts_with, written_join}
 use Rattle.osi_watched.proofs.what_passes_keeps_a_claim.{step_kept}
 use Rattle.osi_watched.proofs.sessions.a_dt_that_is_too_long_stays_so.{IsTooLong, begins_too_long, only_of, own_is_dt, passes_too_long}
@@ -139,7 +139,7 @@ module _ (known : Known) (barred : Class) (d : Direction) (local : Local)
                 (grind arith) a.deeds h.goes;
             put = h.put;
             begun = refl;
-            beside = beside_begins d d old.course v.course h.beside;
+            beside = grind arith;
             alone = alone_begins d d old.course h.alone;
             followed = step_followed d first known.proper begins_own old mid (some, none, refl) h.followed;
             few = step_kept (AreFew (other d)) (few_claim (other d)) d begins_own old mid (some, none, refl) h.few;
@@ -161,7 +161,7 @@ module _ (known : Known) (barred : Class) (d : Direction) (local : Local)
             goes = other_begins_goes known.proper barred d local Inv k v w refl a.deeds h.goes;
             put = h.put;
             begun = h.begun;
-            beside = beside_begins d (other d) old.course v.course h.beside;
+            beside = grind arith;
             alone = alone_begins d (other d) old.course h.alone;
             followed = step_followed d first known.proper begins_other old mid refl h.followed;
             few = step_kept (AreFew (other d)) (few_claim (other d)) d begins_other old mid refl h.few;
@@ -294,9 +294,6 @@ module _ (known : Known) (barred : Class) (d : Direction) (local : Local)
       not_barred : v.course.traffic.course.class ≡ Some barred → ⊥
       not_barred = zero_not old.course v.course h.beside h.alone
 
-      then_few : AreFew (other d) new.course
-      then_few = subst (AreFew (other d)) (sym t.course) h.few
-
       put_then : (w : Joint) (units : List Value) → w.put ≡ v.put ++ units → packets units ≡ turn.put →
           map written w.put ≡ map written new.put
       put_then w units put is = search (arith, written_join, same_written)
@@ -306,7 +303,7 @@ module _ (known : Known) (barred : Class) (d : Direction) (local : Local)
       idle none over = record {
         deeds = deeds;
         without = v;
-        is = grind (arith, then_followed, then_few, put_then v [] (sym (append-nil v.put)) (sym none), append-nil v.put);
+        is = grind (arith, then_followed, put_then v [] (sym (append-nil v.put)) (sym none), append-nil v.put);
       }
 
       -- with one
@@ -322,7 +319,7 @@ module _ (known : Known) (barred : Class) (d : Direction) (local : Local)
           beside = grind arith;
           alone = subst (IsAlone d) (sym t.course) h.alone;
           followed = then_followed;
-          few = then_few;
+          few = grind arith;
           how = how;
         };
       }

@@ -14,7 +14,7 @@ use Rattle.osi_watched.proofs.sessions.a_called_end_stands_until_class_2.{Stands
 use Rattle.osi_watched.proofs.sessions.a_called_end_stands_until_its_cc_of_class_0_passes.{StandsAnswering}
 use Rattle.osi_watched.proofs.sessions.a_calling_end_hears_what_comes_until_class_2.{known_below}
 use Rattle.osi_watched.proofs.sessions.a_calling_end_stands_until_class_2.{StandsUntilTwo}
-use Rattle.osi_watched.proofs.sessions.a_dt_of_class_0_has_one_place.{IsOnly, open_there}
+use Rattle.osi_watched.proofs.sessions.a_dt_of_class_0_has_one_place.{IsOnly}
 use Rattle.osi_watched.proofs.sessions.an_end_of_class_0_has_its_connection_open.{MayBeFollowed}
 use Rattle.osi_watched.proofs.sessions.class_0_keeps_its_one_place.{HasOne}
 use Rattle.osi_watched.proofs.sessions.no_session_of_an_end_breaks_first.{HaveCourses}
@@ -55,7 +55,7 @@ calling_begun local deeds j h courses sane firm class not all r peer link at o x
     let same : r ≡ z.r = z.amid_is r peer (is_some r peer link end at sane.between.sound.orderly.rise) (is_amid r peer link end at) in
     joined_is_begun Left deeds (known_below h.ahead.bound end (honest.units_in j.coming)) j.put j.begun j.course.traffic j.course.sessions
     j.holding.end h.early.all courses r peer link at o.place o.connection x o.there here
-    (h.early.all.judged firm.firm o.place o.connection o.there) (open_there Left j.course.traffic o)
+    (h.early.all.judged firm.firm o.place o.connection o.there) (grind arith)
     (grind (arith, eqb-true, unlike))
     (λ q later is sure. none_later r peer link end at j.coming all q later is sure.1)
 
@@ -72,7 +72,7 @@ zero_called local deeds j h courses sane firm all r peer link at o x here =
     let one : HasOne Right h.r IsNone j.course.traffic j.course.sessions = h.early_is.zero h.class in
     joined_is_begun Right deeds (known_one h.r end (honest.units_in j.coming)) j.put j.begun j.course.traffic j.course.sessions
     j.holding.end h.early_is.all courses r peer link at o.place o.connection x o.there here
-    (h.early_is.all.judged firm.firm o.place o.connection o.there) (open_there Right j.course.traffic o)
+    (h.early_is.all.judged firm.firm o.place o.connection o.there) (grind arith)
     (grind (arith, eqb-true, unlike))
     (λ q later is sure. none_later r peer link end at j.coming all q later is sure.2)
 

@@ -12,7 +12,7 @@ use Rattle.osi_tap.specs.Connections as joined
 use Rattle.osi_watched.proofs.small_facts_that_many_lemmas_use.{not_some}
 use Rattle.osi_fair.proofs.small_facts_that_many_lemmas_use.{and_false, no_list}
 use Rattle.osi_watched.proofs.sessions.all_connections_stand.{AllStand, Leaves, like_same, other_after, other_plain, own_after, own_plain}
-use Rattle.osi_watched.proofs.sessions.connections_have_the_same_places.{first_answer, none_given}
+use Rattle.osi_watched.proofs.sessions.connections_have_the_same_places.{none_given}
 use Rattle.osi_watched.proofs.sessions.right_units_leave_all_standing.{rests_on}
 use Rattle.osi_watched.proofs.sessions.what_stands_of_a_connection.{IsLike, IsUnsaid, Known, Stands, is_for, is_next, is_part, like_shown}
 use Rattle.osi_watched.proofs.sessions.what_stands_of_a_connection.{lives, no_next, past, stands_elsewhere, stands_other_none, unnamed}
@@ -108,7 +108,7 @@ own_cc deeds known at n x rest s t put none sure a = record {
         Stands Right deeds known rest false (connection_after way.Right (confirm n x) b r c)
         (joined.meant Right at (confirm n x) (meaning_if b (meant (confirm n x))) j)
     by false p c j r is place at_j one h = own_plain Right deeds known at (confirm n x) rest false true r c j refl h
-    by true p c j r is place at_j one h = opens p c j r place at_j (grind (arith, applied_found, none_given, first_answer)) h
+    by true p c j r is place at_j one h = opens p c j r place at_j (grind (arith, applied_found, none_given)) h
 
 -- of no unit that waits none is the next
 next_none : (o : Option ℕ) (b : Bool) (put : List Value) → waiting_for o put ≡ [] → is_next o b put ≡ false
@@ -159,4 +159,4 @@ other_cc deeds known then_known at n x put b s t unheard stays = record {
         (joined.meant Right at (confirm n x) (meaning_if y (meant (confirm n x))) j)
     by false c j r is one told h =
         other_plain Left deeds known then_known at (confirm n x) put false b r c j refl (λ m later e. stays m later) h
-    by true c j r is one told h = opens c j r (grind (arith, applied_found, none_given, first_answer)) (unheard (told is)) h
+    by true c j r is one told h = opens c j r (grind (arith, applied_found, none_given)) (unheard (told is)) h

@@ -7,9 +7,8 @@ use Rattle.osi_watched.proofs.Vocabulary.{data0, data2, disconnect, disconnected
 use Rattle.osi_watched.proofs.Vocabulary.{accept, refuse, selected_by, Selection, LinkFault, Class, Two, Zero, sent, before_class, denies}
 use Rattle.osi_watched.proofs.Vocabulary.{handed_out, in_class, in_two, react_by, Rows, user_does, UserCall, Live, Carrier, unit_gives}
 use Rattle.osi_watched.proofs.Vocabulary.{AreAbove, all_gives, closed_gives, ended_gives, not_less, sent_gives, above_more, units_no_cc}
-use Rattle.osi_watched.proofs.Vocabulary.{put_at, put_before, put_by, put_closing, put_for, put_for_selection, put_in, put_in_two}
-use Rattle.osi_watched.proofs.Vocabulary.{put_leaving, put_only, put_sent, put_taking, put_together, refusal, Event, HappenAlong, Happens}
-use Rattle.osi_watched.proofs.Vocabulary.{Whole, answers, IsNoCc}
+use Rattle.osi_watched.proofs.Vocabulary.{put_at, put_before, put_by, put_for, put_for_selection, put_in, put_in_two, put_only, put_sent}
+use Rattle.osi_watched.proofs.Vocabulary.{put_taking, put_together, refusal, Event, HappenAlong, Happens, Whole, answers, IsNoCc}
 unfoldable use Rattle.osi_carrier.specs.React.{react}
 use Rattle.osi_rules.specs.declared.directions.Direction.TheVariants as way
 use Rattle.osi_fair.specs.Wholes as wholes
@@ -28,11 +27,8 @@ for_taking r peer (Ok link) held = units_no_cc peer (all_given (handed_out link)
 for_taking r peer (Err fault) (Some Two) = (λ m x e. cc e, tt)
 for_taking r peer (Err fault) _ = tt
 
-for_leaving : (r peer : ℕ) (held : Option Class) → NoCcs (put_leaving r peer held)
-for_leaving r peer held = grind arith
-
 for_connection : (r : ℕ) (o : Option Live) (unit : Value) (held : Option Class) → NoCcs (put_at r o unit held)
-for_connection r o unit held = grind (arith, for_leaving, for_taking)
+for_connection r o unit held = grind (arith, for_taking)
 
 -- none, or one with the next reference
 data Puts (s new : Carrier) (units : List Value) : Type 0 where
@@ -94,11 +90,8 @@ for_together : (r : ℕ) (tsdus : List (List ℕ)) (s : Carrier) → NoCcs (put_
 for_together r [] s = tt
 for_together r (tsdu ∷ tsdus) s = grind (arith, no_ccs_join, for_sent, for_together r tsdus (sent r tsdu s))
 
-for_closing : (r reason : ℕ) (o : Option (ℕ × Standing)) (held : Option Class) → NoCcs (put_closing r reason o held)
-for_closing r reason o held = grind arith
-
 call_puts : (call : UserCall) (s : Carrier) → NoCcs (put_by call s)
-call_puts call s = grind (arith, for_sent, for_together, for_closing)
+call_puts call s = grind (arith, for_sent, for_together)
 
 call_gives : (call : UserCall) (s : Carrier) → s.given ≤ (user_does call s).given
 call_gives call s = grind (arith, not_less, sent_gives, all_gives, closed_gives, ended_gives)
@@ -149,13 +142,9 @@ pub passes_confirmed : (b m : ℕ) (x : Connect) (put : List Value) (w : Whole) 
 passes_confirmed b m x put w e a = subst (AreAbove w.end.given b) e a
 
 module _ (b : ℕ) where
-  arrived : (unit : Value) (w : Whole) → Puts w.end (react unit w.end) (put_for unit w.end) → AreAboveAt b w →
-      AreAbove (react unit w.end).given b (w.put ++ put_for unit w.end)
-  arrived unit w h a = grind (arith, above_higher, unit_gives, above_more, above_cc)
-
   above_happens : (event : Event) (old new : Whole) → Happens way.Right event old new → AreAboveAt b old → AreAboveAt b new
   above_happens wholes.arrives old new (unit, coming, is) a =
-      subst (AreAboveAt b) (sym is) (arrived unit old (unit_puts unit old.end) a)
+      subst (AreAboveAt b) (sym is) (grind (arith, above_higher, unit_gives, above_more, above_cc, unit_puts unit old.end))
   above_happens (wholes.calls call) old new (may, is) a = grind (arith, above_higher, call_gives, above_more, call_puts)
   above_happens wholes.begins_own old new (some, none, is) a = subst (AreAboveAt b) (sym is) a
   above_happens wholes.passes_own old new (v, put, begun, is) a = grind (arith, above_lower)

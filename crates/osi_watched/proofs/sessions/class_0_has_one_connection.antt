@@ -209,16 +209,11 @@ module _ (s : State) (c : Connection) (in_use : Bool) (up : is_open c.left.phase
 
   -- ---- of right
 
-  right_closes : (destination source reason : ℕ) (user : List ℕ) → s.course.class ≡ None → is_silent c.right.phase ≡ true →
-      Fits s (course_after Right c (disconnect destination source reason user) true s.course) c
-      (sent_on Right (disconnect destination source reason user) c)
-  right_closes destination source reason user class silent = grind (arith, silent_closed)
-
   right_fits : (v : Value) → MayBe v Right s → is_applied (found Right s.course in_use c v) ≡ true →
       Fits s (course_after Right c v true s.course) c (sent_on Right v c)
   right_fits (request x) may h = absurd (cc)
   right_fits (confirm destination x) may h = grind arith
-  right_fits (disconnect destination source reason user) may h = grind (arith, right_closes, or_not, one_test)
+  right_fits (disconnect destination source reason user) may h = grind (arith, or_not, one_test)
   right_fits (disconnected destination source) may h = grind (arith, due_test, due_closing, open_closing)
   right_fits (error destination cause) may h = grind (arith, silent_closed, error_test)
   right_fits v may h = grind arith

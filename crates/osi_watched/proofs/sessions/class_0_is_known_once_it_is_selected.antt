@@ -1,9 +1,9 @@
 -- The calling side knows of class 0 only once it is selected, whatever passes.
 -- For the units of both sides that are no breaks.
 use Rattle.osi_watched.proofs.Vocabulary.{◌≡◌, sym, subst, ℕ, Bool, List, [], ◌∷◌, Option, Some, Value, Zero, Local, Direction, Connection}
-use Rattle.osi_watched.proofs.Vocabulary.{Rules, Way, Finding, Reach, Route, reach_of, Outcome, Traffic, at_found, at_place, class_for}
-use Rattle.osi_watched.proofs.Vocabulary.{none_told, routed, takes, unnamed_told, Passing, passes, unit, Event, HappenAlong, Happens, Whole}
-use Rattle.osi_watched.proofs.Vocabulary.{arrives, calls, passes_rubbish, zero_stays, arith, Joint}
+use Rattle.osi_watched.proofs.Vocabulary.{Rules, Way, Reach, Route, Outcome, Traffic, at_found, routed, takes, unnamed_told, Passing}
+use Rattle.osi_watched.proofs.Vocabulary.{passes, unit, Event, HappenAlong, Happens, Whole, arrives, calls, passes_rubbish, zero_stays}
+use Rattle.osi_watched.proofs.Vocabulary.{arith, Joint}
 use Rattle.osi_rules.specs.declared.findings.Reach.TheVariants as reach
 use Rattle.osi_rules.specs.Sides as sides
 use Rattle.osi_rules.specs.Traffic.{reached}
@@ -18,23 +18,17 @@ reached_seen d r c = grind arith
 abbrev Keeps : Traffic → Outcome → Type 0
 Keeps s o = o.state.course.class_seen ≡ s.course.class_seen
 
-to_none : (d : Way) (f : Finding) (s : Traffic) → Keeps s (none_told d f s)
-to_none d f s = reached_seen d (reach_of (class_for d s.course) f) s.course
-
 to_unnamed : (d : Way) (v : Value) (s : Traffic) → Keeps s (unnamed_told d v s)
 to_unnamed d v s = grind (arith, reached_seen)
 
 to_one : (d : Way) (v : Value) (s : Traffic) (p : ℕ) (o : Option Connection) → Keeps s (at_found d v s p o)
 to_one d v s p o = grind (arith, to_unnamed, reached_seen)
 
-to_place : (d : Way) (v : Value) (s : Traffic) (p : Option ℕ) → Keeps s (at_place d v s p)
-to_place d v s p = grind (arith, to_unnamed, to_one)
-
 by_route : (d : Way) (v : Value) (s : Traffic) (r : Route) → Keeps s (routed d v s r)
-by_route d v s r = search (arith, to_none, to_place)
+by_route d v s r = search (arith, reached_seen, to_unnamed, to_one)
 
 takes_seen : (d : Way) (v : Value) (s : Traffic) → Keeps s (takes d v s)
-takes_seen d v s = grind (arith, to_none, by_route)
+takes_seen d v s = grind (arith, by_route)
 
 -- ---- whatever passes
 

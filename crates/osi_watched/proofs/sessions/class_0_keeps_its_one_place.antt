@@ -14,7 +14,6 @@ use Rattle.osi_rules.specs.Traffic as traffic
 use Rattle.osi_tap.specs.Connections.{packet_begins}
 use Rattle.osi_tap.specs.Connections as joined
 use Rattle.osi_watched.proofs.what_a_taker_passes_over.{IsMild}
-use Rattle.osi_watched.proofs.sessions.a_dt_of_class_0_leaves_all_standing.{Breaks}
 use Rattle.osi_watched.proofs.sessions.all_connections_stand.{map_of}
 use Rattle.osi_watched.proofs.sessions.class_0_has_one_connection.{set_other}
 use Rattle.osi_watched.proofs.sessions.what_a_unit_does_at_its_place.{Does, asks_again, asks_more, nowhere, somewhere, unit_does}
@@ -62,12 +61,9 @@ error_nowhere d b n cause s = grind arith
 
 module _ (e : Direction) (s : State) (goes : is_stopped (way_of e) s.course ≡ false)
     (zero : class_for (way_of e) s.course ≡ Some Zero) where
-  breaks_so : {A : Type 0} (v : Value) → Breaks v → IsMild v (takes (way_of e) v s).told.finding → A
-  breaks_so v h mild = grind arith
-
   -- every other unit is a break that is not passed over
   pub zero_still : (v : Value) → IsMild v (takes (way_of e) v s).told.finding → IsStill e v s
-  zero_still v mild = grind (arith, error_nowhere, breaks_so)
+  zero_still v mild = grind (arith, error_nowhere)
 
 -- ---- what it leaves
 

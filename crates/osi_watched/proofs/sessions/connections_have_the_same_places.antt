@@ -2,14 +2,13 @@
 -- joined at the place that the rules tell.
 -- For the law on places.
 use Rattle.osi_watched.proofs.Vocabulary.{[], ap, arith, Bool, if◌then◌else◌, length, List, map, None, not, Option, refl, set, Some, subst}
-use Rattle.osi_watched.proofs.Vocabulary.{suc, true, zero, ℕ, ◌++◌, ◌∷◌, ◌≡◌, slice_get_past, position, slice_get, ◌||◌, Connect, request}
-use Rattle.osi_watched.proofs.Vocabulary.{Value, is_applied, first_failed, given_again, begins, is_free, is_open, is_silent, asks_by}
-use Rattle.osi_watched.proofs.Vocabulary.{asks_kept, at_place, closing_phase, connection_after, found, found_on, judged_on, meaning_if}
-use Rattle.osi_watched.proofs.Vocabulary.{meant, Outcome, routed, sent_on, Traffic as State, takes, Connection, Rules, Finding, Reach, Told}
-use Rattle.osi_watched.proofs.Vocabulary.{Half, Phase, Route, Capture, Direction, Left, adds, changed, Joined, Sessions, taken, taken_at}
-use Rattle.osi_watched.proofs.Vocabulary.{user_of, marked, noted_by, reached, unit_passes, units_pass, unread, way_of, comes_to, Cause}
-use Rattle.osi_watched.proofs.Vocabulary.{Mark, applied_found, first_there, HasAsked, HaveSamePlaces, IsOneOf, named_by, Course}
-use Rattle.osi_watched.proofs.Vocabulary.{packet_begins, closing_same, differ}
+use Rattle.osi_watched.proofs.Vocabulary.{suc, true, zero, ℕ, ◌++◌, ◌∷◌, ◌≡◌, slice_get_past, slice_get, ◌||◌, Connect, request, Value}
+use Rattle.osi_watched.proofs.Vocabulary.{is_applied, first_failed, begins, is_silent, asks_by, at_place, closing_phase, connection_after}
+use Rattle.osi_watched.proofs.Vocabulary.{found, found_on, judged_on, meaning_if, meant, Outcome, sent_on, Traffic as State, takes}
+use Rattle.osi_watched.proofs.Vocabulary.{Connection, Rules, Finding, Reach, Told, Half, Phase, Capture, Direction, Left, adds, changed}
+use Rattle.osi_watched.proofs.Vocabulary.{Joined, Sessions, taken, taken_at, user_of, marked, noted_by, unit_passes, units_pass, unread}
+use Rattle.osi_watched.proofs.Vocabulary.{way_of, comes_to, Cause, Mark, applied_found, first_there, HasAsked, HaveSamePlaces, IsOneOf}
+use Rattle.osi_watched.proofs.Vocabulary.{named_by, Course, packet_begins, closing_same, differ}
 use Rattle.osi_rules.specs.declared.directions.Direction.TheVariants as way
 use Rattle.osi_rules.specs.declared.findings.Finding.TheVariants as finding
 use Rattle.osi_rules.specs.declared.findings.Meaning.TheVariants as meaning
@@ -76,51 +75,18 @@ adds_one : (d : Direction) (at : ℕ) (end : Bool) (octets : List ℕ) (c : Conn
     IsOneOf c (adds d at end octets j)
 adds_one d at end octets c j h = grind (arith, like_one)
 
--- what this side has sent changes no reference
-abbrev Stays : Half → Half → Type 0
-Stays old new = named_by new.phase new.reference ≡ named_by old.phase old.reference
-
-one_test : (b : Bool) → is_applied (first_failed ((b, finding.Broke rule.Closed) ∷ [])) ≡ true → b ≡ true
-one_test b h = grind arith
-
 error_test : (b erred : Bool) →
     is_applied (first_failed ((b || not erred, finding.NotJudged) ∷ (b, finding.Broke rule.WrongForm) ∷ [])) ≡ true → b ≡ true
 error_test b erred h = grind arith
-
-due_test : (due told strays : Bool) →
-    is_applied (first_failed ((due || not strays, finding.NotJudged) ∷ (told, finding.Broke rule.UnknownReference)
-    ∷ (due, finding.Broke rule.NothingToAnswer) ∷ [])) ≡ true →
-    due ≡ true
-due_test due told strays h = grind arith
-
-closed_so : (half : Half) (p : Phase) → half.phase ≡ p → (is_silent p || is_open p) ≡ true →
-    Stays half (closing_phase (is_silent p) half)
-closed_so half p e h = grind arith
-
-answered_so : (half : Half) (p : Phase) → half.phase ≡ p → is_open p ≡ true → Stays half (record half { phase = phase.Closed })
-answered_so half p e h = grind arith
-
-refused_so : (half : Half) (p : Phase) → half.phase ≡ p → is_silent p ≡ true → Stays half (record half { phase = phase.Refused })
-refused_so half p e h = grind arith
 
 -- left has asked for it: it stays neither silent nor refused
 closing_asked : (half : Half) (p : Phase) → half.phase ≡ p → HasAsked half → HasAsked (closing_phase (is_silent p) half)
 closing_asked half p e h = grind arith
 
--- a CC is the first answer
-pub first_answer : (a b i u loose z : Bool) →
-    is_applied (first_failed ((a, finding.Broke rule.WrongForm) ∷ (b, finding.Broke rule.BadAnswer) ∷ (i, finding.Outside)
-    ∷ (u, given_again loose) ∷ (z, finding.Broke rule.LargerSize) ∷ [])) ≡ true → a ≡ true
-first_answer a b i u loose z h = grind arith
-
 pub none_given : (p : Phase) (r : ℕ) → is_silent p ≡ true → named_by p r ≡ None
 none_given p r h = grind arith
 
 module _ (course : Rules) (in_use : Bool) (at : ℕ) (c : Connection) (j : Joined) (h : IsOneOf c j) where
-  right_half : (half : Half) (k : Joined) → Stays c.right half → k.calling ≡ j.calling → k.called ≡ j.called →
-      IsOneOf (record c { right = half }) k
-  right_half half k same calling called = like_one c (record c { right = half }) j k refl h.asks same refl refl calling called h
-
   left_one : (v : Value) → is_applied (found way.Left course in_use c v) ≡ true →
       IsOneOf (sent_on way.Left v c) (joined.meant Left at v (meant v) j)
   left_one v k = grind (arith, closing_same, closing_asked, adds_one, differ, error_test, or_first)
@@ -151,39 +117,26 @@ module _ (d : Direction) (at : ℕ) (v : Value) (s : State) (t : Sessions) (h : 
 
   -- ---- a CR, which gets the first free place, or a new one
 
-  placed_same : (c : Connect) (i : Option ℕ) → position is_free s.connections ≡ i → v ≡ request c → Places d at v (asks_kept c s i) t
-  placed_same c i e is = search (arith, slice_get_past, as_long, one_more, first_there, at_same, set, one_set)
-
   asks_same : (f : Finding) (c : Connect) → v ≡ request c → Places d at v (asks_by (way_of d) f c s) t
-  asks_same f c is = grind (arith, placed_same)
+  asks_same f c is = search (arith, slice_get_past, as_long, one_more, first_there, at_same, set, one_set)
 
 -- ---- by route
 
-routed_places : (d : Direction) (at : ℕ) (v : Value) (s : State) (t : Sessions) (r : Route) → HaveSamePlaces s.connections t.live →
-    Places d at v (routed (way_of d) v s r) t
-routed_places d at v s t r h = grind (arith, asks_same, at_any)
-
 pub unit_places : (d : Direction) (at : ℕ) (v : Value) (s : State) (t : Sessions) → HaveSamePlaces s.connections t.live →
     Places d at v (takes (way_of d) v s) t
-unit_places d at v s t h = grind (arith, routed_places)
+unit_places d at v s t h = grind (arith, asks_same, at_any)
 
 -- ---- what is found changes no connection
 
-reached_leaves : (m : Mark) (r : Reach) (c : Course) → (reached m r c).sessions ≡ c.sessions
-reached_leaves m r c = grind arith
-
 pub marked_leaves : (m : Mark) (r : Reach) (c : Course) → (marked m r c).sessions ≡ c.sessions
-marked_leaves m r c = grind (arith, reached_leaves)
+marked_leaves m r c = grind arith
 
 noted_leaves : (d : Direction) (at : ℕ) (v : Value) (told : Told) (o : Option Cause) (c : Course) →
     (noted_by d at v told o c).sessions ≡ c.sessions
 noted_leaves d at v told o c = grind (arith, marked_leaves)
 
-reached_traffic : (m : Mark) (r : Reach) (c : Course) → (reached m r c).traffic ≡ c.traffic
-reached_traffic m r c = grind arith
-
 pub marked_traffic : (m : Mark) (r : Reach) (c : Course) → (marked m r c).traffic ≡ c.traffic
-marked_traffic m r c = grind (arith, reached_traffic)
+marked_traffic m r c = grind arith
 
 noted_traffic : (d : Direction) (at : ℕ) (v : Value) (told : Told) (o : Option Cause) (c : Course) →
     (noted_by d at v told o c).traffic ≡ c.traffic
@@ -213,11 +166,8 @@ units_agree d at (v ∷ vs) c h = units_agree d at vs (unit_passes d at v c) (un
 pub packet_agrees : (d : Direction) (c : Course) → Agree c → Agree (packet_begins d c)
 packet_agrees d c h = begun_same d c.traffic.connections c.sessions.live h
 
-marked_agrees : (m : Mark) (r : Reach) (c : Course) → Agree c → Agree (marked m r c)
-marked_agrees m r c h = grind (arith, marked_traffic, marked_leaves)
-
 pub unread_agrees : (d : Direction) (at : ℕ) (cause : Cause) (c : Course) → Agree c → Agree (unread d at cause c)
-unread_agrees d at cause c h = grind (arith, marked_agrees)
+unread_agrees d at cause c h = grind arith
 
 pub capture_agrees : (capture : Capture) → Agree (comes_to capture).course
 capture_agrees capture = after_kept Agree (search (arith, packet_agrees, unit_agrees, unread_agrees)) capture begin tt

@@ -11,7 +11,7 @@ use Rattle.osi_watched.proofs.sessions.ccs_that_wait_are_above_those_that_passed
 use Rattle.osi_watched.proofs.sessions.connections_have_the_same_places.{unit_knows}
 use Rattle.osi_watched.proofs.sessions.each_cr_that_passes_gives_a_new_reference.{AreUpTo, IsUpTo, begins_up, unit_up, up_higher}
 use Rattle.osi_watched.proofs.sessions.references_of_an_end_are_distinct.{GivesNew, IsUnused}
-use Rattle.osi_watched.proofs.sessions.units_written_alike_have_the_same_ccs.{HasCc, has_above, has_alike, turned}
+use Rattle.osi_watched.proofs.sessions.units_written_alike_have_the_same_ccs.{HasCc, has_above, has_alike}
 
 -- All references at the tap are up to this one, and those of the CCs that have not passed are above it.
 pub record IsAhead (first : Whole) (j : Joint) : Type 0 where
@@ -41,7 +41,7 @@ above_unused b r t up less = grind arith
 module _ (first : Whole) where
   -- a CC that waits is above all references at the tap
   pub waits_above : (j : Joint) (h : IsAhead first j) → AllByRecursion CanBeWritten j.put → (n r : ℕ) → HasCc n r j.put → h.bound < r
-  waits_above j h can n r has = grind (arith, has_above, has_alike, turned)
+  waits_above j h can n r has = grind (arith, has_above, has_alike)
 
   -- the reference of the CC that passes is above
   pub passes_above : (at m : ℕ) (x : Connect) (old new : Joint) → Steps Right (passes_own at (confirm m x)) old new →

@@ -112,19 +112,6 @@ pub record GoesOn (first : Whole) (b : ℕ) (j : Joint) : Type 0 where
   pub ahead : AreAhead first j
   pub rises : b ≤ ahead.bound
 
-pub begins_ahead : (first : Whole) (j : Joint) (f : IsFollowed Left first j) → AreAbove 0 f.whole → j.course.sessions.live ≡ [] →
-    j.course.sessions.done ≡ [] → AreAhead first j
-begins_ahead first j f above none none_done = record {
-  followed = f;
-  bound = 0;
-  above = above;
-  below = grind arith;
-}
-  where
-    nowhere_in : {A : Type 0} (js : List Joined) (i : ℕ) (k : Joined) → js ≡ [] → slice_get js i ≡ Some k → A
-    nowhere_in [] i k e h = absurd (cc)
-    nowhere_in (x ∷ js) i k e h = absurd (cc e)
-
 module _ (first : Whole) where
   -- a CR that passes gives a new reference
   pub gives_new : (at : ℕ) (unit : Value) (old new : Joint) → Steps Left (passes_own at unit) old new → AreAhead first old →

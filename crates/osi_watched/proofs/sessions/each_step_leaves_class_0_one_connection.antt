@@ -3,10 +3,10 @@
 -- For the session of the connection of an end in class 0.
 use Rattle.osi_watched.proofs.Vocabulary.{Bool, false, if◌then◌else◌, is_some, Option, Some, subst, sym, true, ℕ, ◌∙◌, ◌≡◌, Value, Class}
 use Rattle.osi_watched.proofs.Vocabulary.{Two, Zero, reach_of, asks_of, at_place, class_for, fresh, is_stopped, none_told, Outcome}
-use Rattle.osi_watched.proofs.Vocabulary.{refused_reach, routed, Traffic as State, takes, unnamed_told, Way, Finding, Route, Direction}
-use Rattle.osi_watched.proofs.Vocabulary.{marked, marks_of, moved, unread_mark, unread_moment, way_of, Cause, fresh_apart, no_item}
-use Rattle.osi_watched.proofs.Vocabulary.{passes_apart, AreJudged, still_judged, reached_class, zero_stays, NamesApart as AreApart, packet}
-use Rattle.osi_watched.proofs.Vocabulary.{passes, Passing, rubbish, unit, lasts_passing, arith, Course}
+use Rattle.osi_watched.proofs.Vocabulary.{Traffic as State, takes, Way, Finding, Direction, marked, marks_of, moved, unread_mark}
+use Rattle.osi_watched.proofs.Vocabulary.{unread_moment, way_of, Cause, fresh_apart, no_item, passes_apart, AreJudged, still_judged}
+use Rattle.osi_watched.proofs.Vocabulary.{reached_class, zero_stays, NamesApart as AreApart, packet, passes, Passing, rubbish, unit}
+use Rattle.osi_watched.proofs.Vocabulary.{lasts_passing, arith, Course}
 use Rattle.osi_rules.specs.declared.directions.Direction.TheVariants.{Left, Right}
 use Rattle.osi_rules.specs.Traffic as traffic
 use Rattle.osi_watched.proofs.what_passes_keeps_a_claim.{IsClaim}
@@ -23,20 +23,14 @@ module _ (d : Way) (v : Value) (s : State) where
   none_seen : (f : Finding) → SeenSame s (none_told d f s)
   none_seen f = reached_seen d (reach_of (class_for d s.course) f) s.course
 
-  unnamed_seen : SeenSame s (unnamed_told d v s)
-  unnamed_seen = grind (arith, reached_seen)
-
   place_seen : (o : Option ℕ) → SeenSame s (at_place d v s o)
-  place_seen o = grind (arith, unnamed_seen, reached_seen, after_seen)
+  place_seen o = grind (arith, reached_seen, after_seen)
 
 asks_seen : (d : Way) (v : Value) (s : State) → SeenSame s (asks_of d v s)
 asks_seen d v s = grind (arith, none_seen)
 
-routed_seen : (d : Way) (v : Value) (s : State) (r : Route) → SeenSame s (routed d v s r)
-routed_seen d v s r = search (arith, asks_seen, place_seen, none_seen)
-
 takes_seen : (d : Way) (v : Value) (s : State) → SeenSame s (takes d v s)
-takes_seen d v s = grind (arith, none_seen, routed_seen)
+takes_seen d v s = grind (arith, none_seen, asks_seen, place_seen)
 
 -- ---- what holds whatever passes
 
@@ -92,10 +86,7 @@ sure_claim = record {
 
 -- ---- in class 0
 
-not_two : (k : Option Class) → k ≡ Some Zero → k ≡ Some Two → ⊥
-not_two k h e = grind arith
-
 -- a side that knows class 0 and is judged has one connection
 pub is_zero : (d : Direction) (s : State) → IsSure s → s.course.loose ≡ false → is_stopped (way_of d) s.course ≡ false →
     class_for (way_of d) s.course ≡ Some Zero → IsZero d s
-is_zero d s h firm goes zero = grind (arith, narrow_only, not_two)
+is_zero d s h firm goes zero = grind (arith, narrow_only)

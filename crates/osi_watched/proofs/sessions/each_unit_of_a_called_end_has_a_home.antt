@@ -145,14 +145,10 @@ module _ (local : Local) (w : Whole) (t : Sessions) (f : Called local w) (apart 
   abbrev IsAskedFor : Value → Type 0
   IsAskedFor v = (x : Connect) → v ≡ request x → AskedAt x
 
-  asked_as : (x y : Connect) (p : ℕ) (c : Connection) → slice_get w.tap.connections p ≡ Some c → Asked y c → request x ≡ request y →
-      AskedAt x
-  asked_as x y p c at a e = grind arith
-
   asked_by : (v : Value) (p : ℕ) (c : Connection) (xs ys : List Value) → slice_get w.tap.connections p ≡ Some c →
       units_at p f.came ≡ xs ++ v ∷ ys → StandsAt p c → IsAskedFor v
   asked_by v p c xs ys at e (comes y a none ask index) x is =
-      asked_as x y p c at a (sym is ∙ only_one xs ys (request y) v (sym e ∙ ask lasts))
+      grind (arith, sym is ∙ only_one xs ys (request y) v (sym e ∙ ask lasts))
   asked_by v p c xs ys at e (refuses y a reason put none index seen) x is = not_empty xs ys v (sym e ∙ none)
   asked_by v p c xs ys at e (answers h none) x is = not_empty xs ys v (sym e ∙ none)
   asked_by v p c xs ys at e (runs h none) x is = not_empty xs ys v (sym e ∙ none)

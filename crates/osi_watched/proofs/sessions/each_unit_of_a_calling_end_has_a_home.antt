@@ -2,11 +2,11 @@
 -- not closed there; each other unit is for none.
 -- For all connections of an end and a tap.
 use Rattle.osi_watched.proofs.Vocabulary.{[], ap, append_assoc, arith, Bool, false, is_some, List, map, None, Option, refl, Some, subst}
-use Rattle.osi_watched.proofs.Vocabulary.{suc, sym, true, ℕ, ◌++◌, ◌<◌, ◌==◌, ◌∙◌, ◌∷◌, ◌≡◌, ◌⊎◌, eq-eqb, AllByRecursion, slice_get}
-use Rattle.osi_watched.proofs.Vocabulary.{confirm, Connect, data0, disconnect, request, Value, written, Standing, Local, value_at, closing}
-use Rattle.osi_watched.proofs.Vocabulary.{Live, linked, Carrier, has_given, Traffic as State, Connection, Left, amid, early, Life, opens_by}
-use Rattle.osi_watched.proofs.Vocabulary.{past, Time as Stage, stage_at, stays, all_units_more, Opens, Continues, Deeds, all_units, Marked}
-use Rattle.osi_watched.proofs.Vocabulary.{Turn, Sessions, Followed, is_tracked, IsOwned, Row, Tracked, each_picked, first_kept, is_dc, IsDc}
+use Rattle.osi_watched.proofs.Vocabulary.{suc, sym, true, ℕ, ◌++◌, ◌<◌, ◌==◌, ◌∙◌, ◌∷◌, ◌≡◌, eq-eqb, AllByRecursion, slice_get, confirm}
+use Rattle.osi_watched.proofs.Vocabulary.{Connect, data0, disconnect, request, Value, written, Standing, Local, value_at, closing, Live}
+use Rattle.osi_watched.proofs.Vocabulary.{linked, Carrier, has_given, Traffic as State, Connection, Left, amid, early, Life, opens_by, past}
+use Rattle.osi_watched.proofs.Vocabulary.{Time as Stage, stage_at, stays, all_units_more, Opens, Continues, Deeds, all_units, Marked, Turn}
+use Rattle.osi_watched.proofs.Vocabulary.{Sessions, Followed, is_tracked, IsOwned, Row, Tracked, each_picked, first_kept, is_dc, IsDc}
 use Rattle.osi_watched.proofs.Vocabulary.{IsOngoing, names, those, those_join, Line, Whole, Joint, TakesTurn, HaveSamePlaces, AreGiven}
 use Rattle.osi_watched.proofs.Vocabulary.{AreApart, BeforeOpen, WhileOpen, stage_by, Awaiting, FirstOf, HasNoCc, asked_so, goes, le-leb}
 use Rattle.osi_watched.proofs.Vocabulary.{lt-ltb}
@@ -25,7 +25,6 @@ use Rattle.osi_watched.proofs.sessions.each_unit_of_a_turn_has_one_connection.{H
 use Rattle.osi_watched.proofs.sessions.nothing_is_done_before_a_cr_passes.{IsNotCc, same_units}
 use Rattle.osi_watched.proofs.sessions.what_a_turn_puts_goes_to_its_peer.{GoesTo, IsPutFor, all_back, all_of_both, all_so, goes_to, one_of}
 use Rattle.osi_watched.proofs.sessions.what_a_turn_puts_goes_to_its_peer.{turn_marked, whole_lasts}
-use Rattle.osi_watched.proofs.sessions.each_unit_of_a_called_end_has_a_home.{same_peer}
 
 -- ---- a connection that is open at the tap has a home there
 
@@ -35,21 +34,12 @@ home_of s t places p c at tracked = grind (arith, at_same, and_both)
 
 -- ---- the end has the connection open
 
-live_not : {A : Type 0} (o : Option Live) (m : ℕ) (link : Standing) → o ≡ Some (linked m link) → (o ≡ Some asked) ⊎
-    (((q : ℕ) × (o ≡ Some (closing q))) ⊎ (o ≡ None)) → A
-live_not o m link e h = grind arith
-
--- its line is for the peer of its link
-row_peer : (local : Local) (end : Carrier) (coming : List Value) (r peer : ℕ) (line : Line) (m : ℕ) (link : Standing) →
-    Row local end coming r peer line → end.ended ≡ None → value_at r end.live ≡ Some (linked m link) → m ≡ peer
-row_peer local end coming r peer line m link h lasts e = grind (arith, live_not, same_peer, over_not)
-
 linked_home : (local : Local) (w : Whole) (t : Sessions) (f : Followed local w) → HaveSamePlaces w.tap.connections t.live →
     w.end.ended ≡ None → (q peer : ℕ) (link : Standing) → value_at q w.end.live ≡ Some (linked peer link) → HasHome Left q peer w.tap t
 linked_home local w t f places lasts q peer link is =
     let (p, c, at, so, mine) = (f.linked lasts q peer link is).0 in
     let g = f.lines p c at so in
-    let same : peer ≡ g.peer = grind (arith, row_peer) in
+    let same : peer ≡ g.peer = grind arith in
     grind (arith, home_of w.tap t places p c at so)
 
 -- ---- its CC has come

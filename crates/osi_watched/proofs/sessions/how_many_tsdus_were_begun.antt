@@ -2,10 +2,10 @@
 -- For what a tap shows of a session.
 use Rattle.osi_watched.proofs.Vocabulary.{[], ap, arith, Bool, false, if◌then◌else◌, length, List, refl, subst, suc, sym, true, ℕ, ◌++◌}
 use Rattle.osi_watched.proofs.Vocabulary.{◌+◌, ◌∙◌, ◌∷◌, ◌≡◌, ◌≤◌, flat_map-append, length-append, length-map, AllByRecursion, Value}
-use Rattle.osi_watched.proofs.Vocabulary.{at_some, move_keeps, all as all_sent, Ends, Given, Standing, give_out, given_parts, hand_in}
-use Rattle.osi_watched.proofs.Vocabulary.{hand_out, Move, Moves, MovesAlong, part_out, parts_out, take_in, tsdus_in, tsdus_out, unit_parts}
-use Rattle.osi_watched.proofs.Vocabulary.{Part, tsdus, tsdus_after, uncut, End, fresh_of, no_calls, AreCalls, Deeds, said_in, is_gone}
-use Rattle.osi_watched.proofs.Vocabulary.{closed, ends_whole, left_over, parts_of, never}
+use Rattle.osi_watched.proofs.Vocabulary.{at_some, move_keeps, all as all_sent, Ends, Standing, give_out, hand_in, hand_out, Move}
+use Rattle.osi_watched.proofs.Vocabulary.{MovesAlong, part_out, parts_out, take_in, tsdus_in, tsdus_out, unit_parts, Part, tsdus}
+use Rattle.osi_watched.proofs.Vocabulary.{tsdus_after, uncut, End, fresh_of, no_calls, AreCalls, Deeds, said_in, is_gone, closed}
+use Rattle.osi_watched.proofs.Vocabulary.{ends_whole, left_over, parts_of, never}
 use Rattle.osi_honest.specs.Courses.{Course}
 use Rattle.osi_honest.specs.Courses.Course.{is_open, awaited, unknown}
 use Rattle.osi_honest.specs.Courses.Gone.{over}
@@ -62,19 +62,12 @@ uncut_count begun (tsdu ∷ unsent) = ap suc (uncut_count [] unsent)
 abbrev Owes : (ended : Bool) → Ends → Type 0
 Owes ended e = ended ≡ false → 1 ≤ length e.unsent
 
-abbrev OwesNext : (ended : Bool) → Given × Standing → Type 0
-OwesNext ended (g, new) = Owes (ends_whole ended (given_parts g)) new.ends
-
-move_owes : (ended : Bool) (move : Move) (old new : Standing) → Moves move old new → Owes ended old.ends →
-    Owes (ends_whole ended (part_out move)) new.ends
-move_owes ended move old new e h = search (arith, length-append, at_some, move_keeps)
-
 run_owes : (ended : Bool) (moves : List Move) (old new : Standing) → MovesAlong old moves new → Owes ended old.ends →
     Owes (ends_whole ended (parts_out moves)) new.ends
 run_owes ended [] old new e h = subst (λ (s : Standing). Owes ended s.ends) (sym e) h
 run_owes ended (move ∷ moves) old new (mid, first, rest) h =
     subst (λ (b : Bool). Owes b new.ends) (sym (ends_more ended (part_out move) (parts_out moves)))
-    (run_owes (ends_whole ended (part_out move)) moves mid new rest (move_owes ended move old mid first h))
+    (run_owes (ends_whole ended (part_out move)) moves mid new rest (grind (arith, length-append, at_some, move_keeps)))
 
 -- ---- what was put
 

@@ -1,9 +1,9 @@
 -- As long as no class is selected on a byte connection, right has given no connection a reference, whatever passes.
 -- For a called end that has selected class 0, and whose CC has not passed.
 use Rattle.osi_watched.proofs.Vocabulary.{ap, None, Option, refl, Some, subst, sym, ℕ, ◌∙◌, ◌≡◌, slice_get, Value, Class, Two, Zero}
-use Rattle.osi_watched.proofs.Vocabulary.{at_found, at_place, meant, none_told, Outcome, routed, Traffic as State, takes, Connection, Way}
-use Rattle.osi_watched.proofs.Vocabulary.{Finding, Meaning, Route, Asks, Direction, changed, Joined, placed, Sessions, taken, unit_passes}
-use Rattle.osi_watched.proofs.Vocabulary.{way_of, reached_class, zero_stays, after_add, after_set, lasts_passing, unit, arith, Course}
+use Rattle.osi_watched.proofs.Vocabulary.{at_found, Outcome, routed, Traffic as State, takes, Connection, Way, Meaning, Route, Direction}
+use Rattle.osi_watched.proofs.Vocabulary.{Joined, Sessions, taken, unit_passes, way_of, reached_class, zero_stays, after_add, after_set}
+use Rattle.osi_watched.proofs.Vocabulary.{lasts_passing, unit, arith, Course}
 use Rattle.osi_rules.specs.declared.findings.Meaning.TheVariants as meaning
 use Rattle.osi_rules.specs.Traffic as traffic
 use Rattle.osi_tap.specs.Connections as joined
@@ -19,20 +19,14 @@ Selects o = o.told.meaning ≡ meaning.Opens → o.state.course.class ≡ None �
 no_meaning : meaning.Nothing ≡ meaning.Opens → ⊥
 no_meaning e = cc
 
-none_selects : (d : Way) (f : Finding) (s : State) → Selects (none_told d f s)
-none_selects d f s opens none = no_meaning opens
-
 found_selects : (d : Way) (v : Value) (s : State) (p : ℕ) (o : Option Connection) → Selects (at_found d v s p o)
 found_selects d v s p o opens none = search (arith, no_meaning, reached_class)
 
-place_selects : (d : Way) (v : Value) (s : State) (o : Option ℕ) → Selects (at_place d v s o)
-place_selects d v s o opens none = grind (arith, no_meaning, found_selects)
-
 routed_selects : (d : Way) (v : Value) (s : State) (r : Route) → Selects (routed d v s r)
-routed_selects d v s r = grind (arith, none_selects, place_selects)
+routed_selects d v s r = grind (arith, no_meaning, found_selects)
 
 takes_selects : (d : Way) (v : Value) (s : State) → Selects (takes d v s)
-takes_selects d v s = grind (arith, none_selects, routed_selects)
+takes_selects d v s = grind (arith, routed_selects)
 
 -- ---- what is joined
 
@@ -49,22 +43,14 @@ called_meant : (d : Direction) (at : ℕ) (v : Value) (m : Meaning) (j : Joined)
 called_meant d at v m j h = grind arith
 
 module _ (t : Sessions) (h : AreUncalled t) where
-  changed_uncalled : (p : ℕ) (f : Joined → Joined) → ((j : Joined) → (f j).called ≡ j.called) → (o : Option Joined) →
-      slice_get t.live p ≡ o → AreUncalled (changed p f t o)
-  changed_uncalled p f same o is = grind (arith, after_set)
-
-  placed_uncalled : (p : ℕ) (new : Joined) → new.called ≡ None → (o : Option Joined) → slice_get t.live p ≡ o →
-      AreUncalled (placed p new t o)
-  placed_uncalled p new none o is = grind (arith, after_add, after_set)
-
   taken_uncalled : (d : Direction) (at : ℕ) (v : Value) (m : Meaning) (o : Option ℕ) → (m ≡ meaning.Opens → ⊥) →
       AreUncalled (taken d at v m o t)
   taken_uncalled d at v m None not = h
   taken_uncalled d at v meaning.Opens (Some p) not = absurd (not refl)
-  taken_uncalled d at v meaning.Asks (Some p) not = grind (arith, placed_uncalled)
-  taken_uncalled d at v meaning.Nothing (Some p) not = grind (arith, changed_uncalled, called_meant)
-  taken_uncalled d at v meaning.Closes (Some p) not = grind (arith, changed_uncalled, called_meant)
-  taken_uncalled d at v (meaning.Adds end) (Some p) not = grind (arith, changed_uncalled, called_meant)
+  taken_uncalled d at v meaning.Asks (Some p) not = grind (arith, after_add, after_set)
+  taken_uncalled d at v meaning.Nothing (Some p) not = grind (arith, after_set, called_meant)
+  taken_uncalled d at v meaning.Closes (Some p) not = grind (arith, after_set, called_meant)
+  taken_uncalled d at v (meaning.Adds end) (Some p) not = search (arith, after_set, called_meant)
 
 -- ---- whatever passes
 
@@ -75,9 +61,6 @@ UncalledUntil c = c.traffic.course.class ≡ None → AreUncalled c.sessions
 none_before : (k : Option Class) (after : Option Class) → ((k ≡ Some Zero) → after ≡ Some Zero) → ((k ≡ Some Two) → after ≡ Some Two) →
     after ≡ None → k ≡ None
 none_before k after h two none = grind arith
-
-begins_class : (d : Direction) (s : State) → (traffic.packet_begins (way_of d) s).course.class ≡ s.course.class
-begins_class d s = grind arith
 
 unit_uncalled : (d : Direction) (at : ℕ) (v : Value) (c : Course) → UncalledUntil c → UncalledUntil (unit_passes d at v c)
 unit_uncalled d at v c h none =
@@ -90,4 +73,4 @@ unit_uncalled d at v c h none =
     (search (arith, taken_uncalled, takes_selects))
 
 pub uncalled_claim : IsClaim UncalledUntil
-uncalled_claim = grind (arith, map_of, called_begun, begins_class, unit_uncalled)
+uncalled_claim = grind (arith, map_of, called_begun, unit_uncalled)

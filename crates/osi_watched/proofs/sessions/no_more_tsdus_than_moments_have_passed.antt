@@ -1,9 +1,9 @@
 -- On a connection no more TSDUs of a side have passed than moments in all.
 -- For the law that no session of an end is blamed first: a tap counts TSDUs up to 2^64.
 use Rattle.osi_watched.proofs.Vocabulary.{[], ap, arith, Bool, length, List, map, None, Option, refl, Some, suc, ℕ, ◌++◌, ◌∷◌, ◌≡◌, ◌≤◌}
-use Rattle.osi_watched.proofs.Vocabulary.{◌⊎◌, length-append, slice_get, Value, takes, Meaning, Direction, marked_past, asked, changed}
-use Rattle.osi_watched.proofs.Vocabulary.{Joined, Sessions, spoken, taken, unit_passes, way_of, added, heard, octets_of, Spoken, Room}
-use Rattle.osi_watched.proofs.Vocabulary.{after_add, after_set, Course}
+use Rattle.osi_watched.proofs.Vocabulary.{length-append, slice_get, Value, takes, Meaning, Direction, marked_past, asked, changed, Joined}
+use Rattle.osi_watched.proofs.Vocabulary.{Sessions, spoken, taken, unit_passes, way_of, added, heard, octets_of, Spoken, Room, after_add}
+use Rattle.osi_watched.proofs.Vocabulary.{after_set, Course}
 use Rattle.osi_rules.specs.declared.findings.Meaning.TheVariants as meaning
 use Rattle.osi_rules.specs.Traffic as traffic
 use Rattle.osi_tap.specs.Connections.{meant, packet_begins}
@@ -50,16 +50,13 @@ module _ (e : Direction) (n : ℕ) (t : Sessions) (h : HaveFew e n t) where
   still : HaveFew e (suc n) t
   still i j here = few_more e n j (h i j here)
 
-  one_or : (p i : ℕ) (new j : Joined) → HasFew e (suc n) new → ((i ≡ p) × (j ≡ new)) ⊎ (slice_get t.live i ≡ Some j) → HasFew e (suc n) j
-  one_or p i new j few h = grind (arith, still)
-
   few_changed : (p : ℕ) (f : Joined → Joined) → ((j : Joined) → HasFew e n j → HasFew e (suc n) (f j)) → (o : Option Joined) →
       slice_get t.live p ≡ o → HaveFew e (suc n) (changed p f t o)
-  few_changed p f keeps o is = search (arith, still, one_or, after_set)
+  few_changed p f keeps o is = search (arith, still, after_set)
 
   few_taken : (d : Direction) (at : ℕ) (v : Value) (m : Meaning) (o : Option ℕ) → HaveFew e (suc n) (taken d at v m o t)
   few_taken d at v m None = still
-  few_taken d at v meaning.Asks (Some p) = grind (arith, one_or, after_add, after_set, few_asked)
+  few_taken d at v meaning.Asks (Some p) = grind (arith, after_add, after_set, few_asked)
   few_taken d at v meaning.Nothing (Some p) = grind (arith, few_changed, few_meant)
   few_taken d at v meaning.Opens (Some p) = grind (arith, few_changed, few_meant)
   few_taken d at v meaning.Closes (Some p) = grind (arith, few_changed, few_meant)

@@ -23,7 +23,7 @@ use Rattle.osi_watched.proofs.sessions.steps_leave_all_standing.{IsProper, Stand
 use Rattle.osi_watched.proofs.sessions.steps_of_either_class_leave_all_standing.{stand_none}
 use Rattle.osi_watched.proofs.sessions.the_dr_of_the_other_side_is_in_flight.{first_shut}
 use Rattle.osi_watched.proofs.sessions.what_has_come_before_a_cc.{AreQuiet, begin_quiet, begins_other_quiet, begins_own_quiet}
-use Rattle.osi_watched.proofs.sessions.what_has_come_before_a_cc.{closing_tracked, passes_other_quiet, passes_own_quiet, turns_quiet}
+use Rattle.osi_watched.proofs.sessions.what_has_come_before_a_cc.{passes_other_quiet, passes_own_quiet, turns_quiet}
 use Rattle.osi_watched.proofs.sessions.what_stands_after_a_loss_stands_before_one.{AreTakenOn, KeepsThroughout}
 use Rattle.osi_watched.proofs.sessions.what_stands_of_a_connection.{Known}
 
@@ -70,7 +70,7 @@ module _ (local : Local) (two : local.class2 ≡ true) (proper : AllProper) wher
         stands = turns_stand_early local two proper turn old new t deeds on does.of.life does.units on.can
             (calling_marked local two deeds turn old new t on does.of.life does.of.first f g clear h.stands.standing.all.places)
             (λ r some may. (h.quiet clear).before r (some, may))
-            (grind (arith, closing_tracked))
+            (grind arith)
             clear h.stands;
         quiet = turns_quiet turn old new t deeds on does.of.life h.quiet;
       }

@@ -8,7 +8,7 @@ use Rattle.osi_watched.proofs.Vocabulary.{NotJudged, Outside, TooMany, is_stoppe
 use Rattle.osi_watched.proofs.Vocabulary.{no_deeds, then_did, IsFresh, Turn, AllProper, fresh_course, Cause, Joined, spoken, marked}
 use Rattle.osi_watched.proofs.Vocabulary.{marks_of, moved, packet_begins, unit_passes, units_pass, unread, unread_mark, unread_moment}
 use Rattle.osi_watched.proofs.Vocabulary.{way_of, heard, after, comes_to, Joint, Step, Steps, StepsAlong, TakesTurn, begin, begins_other}
-use Rattle.osi_watched.proofs.Vocabulary.{begins_own, passes_other, passes_own, turns, TurnsBad, calls_from}
+use Rattle.osi_watched.proofs.Vocabulary.{begins_own, passes_other, passes_own, turns, TurnsBad, calls_from, marked_past}
 use Rattle.osi_rules.specs.Sides as sides
 use Rattle.osi_rules.specs.Traffic.{State as Traffic}
 use Rattle.osi_rules.specs.Traffic as traffic
@@ -22,15 +22,15 @@ use Rattle.osi_watched.proofs.what_a_taker_passes_over.{mild_of}
 use Rattle.osi_watched.proofs.what_a_unit_leaves_at_a_tap.{IsCalm, IsJudged, IsOver, Leaves, unit_leaves}
 use Rattle.osi_watched.proofs.what_passes_keeps_a_claim.{IsClaim, after_join, after_kept, step_kept, units_kept}
 use Rattle.osi_watched.proofs.what_the_turns_among_steps_do.{ComesByDoing, IsOfTap, StepsDo, TurnDoes}
-use Rattle.osi_watched.proofs.sessions.a_unit_after_a_dr_is_for_a_closing_connection.{IsAfterDr, after_two}
+use Rattle.osi_watched.proofs.sessions.a_unit_after_a_dr_is_for_a_closing_connection.{IsAfterDr}
 use Rattle.osi_watched.proofs.sessions.after_too_many_nobody_is_to_blame.{NoneIsToBlame, too_many_silenced}
 use Rattle.osi_watched.proofs.sessions.connections_have_the_same_places.{marked_traffic, unit_knows}
 use Rattle.osi_watched.proofs.sessions.each_step_leaves_class_0_one_connection.{Sure, class_stays, fresh_sure, sure_claim}
 use Rattle.osi_watched.proofs.sessions.no_more_tsdus_than_moments_have_passed.{AreFew, few_claim}
 use Rattle.osi_watched.proofs.sessions.steps_of_either_class_leave_all_standing.{IsRight, IsTolerable}
 use Rattle.osi_watched.proofs.sessions.the_first_break_of_all_is_of_the_other_side.{AreClean, Ends, HasBroken, IsSilent, broken_claim}
-use Rattle.osi_watched.proofs.sessions.the_first_break_of_all_is_of_the_other_side.{moment, silent_claim, unit_breaks}
-use Rattle.osi_watched.proofs.sessions.the_first_break_of_all_is_of_the_other_side.{unit_clean, unit_past, unread_breaks_so}
+use Rattle.osi_watched.proofs.sessions.the_first_break_of_all_is_of_the_other_side.{moment, silent_claim, unit_breaks, unit_clean}
+use Rattle.osi_watched.proofs.sessions.the_first_break_of_all_is_of_the_other_side.{unit_past, broken_then}
 
 -- ---- what is asked of what holds at each step
 
@@ -76,7 +76,7 @@ pub record KeepsUnless (barred : Class) (d : Direction) (local : Local) (Inv : (
 
 -- no unit comes after a DR while class 2 is not selected
 pub early : (d : Direction) (v : Value) (c : Passed) → IsPassed Two d v c → IsTolerable (other d) v c
-early d v c h = grind (arith, after_two)
+early d v c h = grind arith
 
 -- ---- what stays, whatever passes
 
@@ -479,7 +479,7 @@ module _ (proper : AllProper) (barred : Class) (d : Direction) (local : Local)
       broken_so b = inr (grind (arith, after_kept, broken_claim d))
 
       by : Stood j → Ends d (after t.back (comes_to t.front)).course
-      by (deeds, goes g) = broken_so (unread_breaks_so d t.at t.cause j.course t.bad g.judged g.clean)
+      by (deeds, goes g) = broken_so (grind (arith, marked_past, broken_then))
       by (deeds, broken b) = broken_so ((broken_claim d).bad (other d) t.at t.cause j.course b)
       by (deeds, silent s) =
           let last = after_kept (IsSilent d) (silent_claim d) t.back (comes_to t.front)

@@ -7,7 +7,7 @@ use Rattle.osi_watched.proofs.Vocabulary.{Zero, Local, Capture, other, Direction
 use Rattle.osi_watched.proofs.Vocabulary.{class_for, is_stopped, takes, End, Holding, Deeds, all_did, no_deeds, IsFresh, Turn, AllProper}
 use Rattle.osi_watched.proofs.Vocabulary.{fresh_sane, fresh_course, Known, Cause, unit_passes, units_pass, way_of, after, comes_to, Joint}
 use Rattle.osi_watched.proofs.Vocabulary.{Step, Steps, StepsAlong, TakesTurn, begin, begins_other, begins_own, passes_other, passes_own}
-use Rattle.osi_watched.proofs.Vocabulary.{turns, TurnsBad, calls_from, IsNoPacket, IsUnread, LaterAlong, spoilt}
+use Rattle.osi_watched.proofs.Vocabulary.{turns, TurnsBad, calls_from, IsNoPacket, IsUnread, LaterAlong, spoilt, stops_last}
 use Rattle.osi_rules.specs.declared.findings.Reach.TheVariants as reach
 use Rattle.osi_rules.specs.declared.findings.Rule.TheVariants as rule
 use Rattle.osi_fair.specs.Pieces.{units_in}
@@ -16,8 +16,7 @@ use Rattle.osi_honest.specs.Courses.{Course}
 use Rattle.osi_tap.specs.Courses.{Course as Passed}
 use Rattle.osi_tap.specs.Tapping as tapping
 use Rattle.osi_watched.specs.Spoilt.{GoesOn}
-use Rattle.osi_watched.proofs.a_break_ends_no_judging_or_all.{all_ends, loose_so, none_ends, nothing_ends, reach_so, still_over}
-use Rattle.osi_watched.proofs.a_break_ends_no_judging_or_all.{unread_sessions}
+use Rattle.osi_watched.proofs.a_break_ends_no_judging_or_all.{all_ends, loose_so, none_ends, nothing_ends, reach_so, unread_sessions}
 use Rattle.osi_watched.proofs.an_end_that_is_judged_alone_stays_so.{later_kept}
 use Rattle.osi_watched.proofs.in_class_0_one_side_alone_is_judged.{AfterUnread, IsAlone, IsLoose, all_over, alone as is_alone_then}
 use Rattle.osi_watched.proofs.in_class_0_one_side_alone_is_judged.{loose_claim, refused_over_so as unread_ends, unit_alone}
@@ -25,7 +24,7 @@ use Rattle.osi_watched.proofs.in_class_0_one_side_alone_is_judged.{unread_alone,
 use Rattle.osi_watched.proofs.steps_are_events.{IsFollowed, begin_followed, step_followed}
 use Rattle.osi_watched.proofs.the_first_break_is_not_of_an_end.{IsFairAlone, IsFairFrom}
 use Rattle.osi_watched.proofs.what_a_taker_passes_over.{IsMild, Sort, is_hard as is_broken, is_mild, is_shut, mild_reach, sort_of}
-use Rattle.osi_watched.proofs.what_a_unit_leaves_at_a_tap.{IsJudged, IsOver, begins_over, unread_over}
+use Rattle.osi_watched.proofs.what_a_unit_leaves_at_a_tap.{IsJudged, IsOver, unread_over}
 use Rattle.osi_watched.proofs.what_is_halted_stays_halted.{unread_same}
 use Rattle.osi_watched.proofs.what_passes_keeps_a_claim.{IsClaim, after_join, step_kept, units_kept}
 use Rattle.osi_watched.proofs.what_the_turns_among_steps_do.{ComesByDoing, IsOfTap, StepsDo, TurnDoes}
@@ -55,8 +54,8 @@ pub record IsDone (d : Direction) (c : Passed) : Type 0 where
 
 pub done_claim : (d : Direction) → IsClaim (IsDone d)
 done_claim d = record {
-  begins = λ e c h. record { over = begins_over e c h.over; none = none_begins d e c.sessions h.none };
-  passes = search (arith, still_over, over_joins);
+  begins = λ e c h. record { over = grind arith; none = none_begins d e c.sessions h.none };
+  passes = search (arith, stops_last, over_joins);
   bad = λ e at k c h. subst (IsDone d) (sym (unread_over e at k c h.over)) h;
 }
 

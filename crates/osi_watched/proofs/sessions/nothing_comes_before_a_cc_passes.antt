@@ -1,10 +1,10 @@
 -- Each DT and each AK of class 2 that comes to a called end is for a connection whose CC has passed the tap. So nothing is in flight to the
 -- others.
 -- For all connections of a called end and a tap.
-use Rattle.osi_watched.proofs.Vocabulary.{[], ap, arith, Bool, false, List, None, refl, Some, sym, ℕ, ◌<◌, ◌==◌, ◌∙◌, ◌∷◌, ◌≡◌, ◌≤◌}
-use Rattle.osi_watched.proofs.Vocabulary.{eqb-true, AllByRecursion, slice_get, acknowledge, confirm, data0, data2, destination_of}
-use Rattle.osi_watched.proofs.Vocabulary.{disconnect, disconnected, error, request, Value, Zero, is_refused, class_for, is_stopped, takes}
-use Rattle.osi_watched.proofs.Vocabulary.{Connection, Left, Right, HaveSamePlaces, picked_rest, Course}
+use Rattle.osi_watched.proofs.Vocabulary.{[], ap, arith, false, List, None, refl, Some, sym, ℕ, ◌<◌, ◌∙◌, ◌∷◌, ◌≡◌, ◌≤◌, AllByRecursion}
+use Rattle.osi_watched.proofs.Vocabulary.{slice_get, acknowledge, confirm, data0, data2, destination_of, disconnect, disconnected, error}
+use Rattle.osi_watched.proofs.Vocabulary.{request, Value, Zero, is_refused, class_for, is_stopped, takes, Connection, Left, Right}
+use Rattle.osi_watched.proofs.Vocabulary.{HaveSamePlaces, picked_rest, Course}
 use Rattle.osi_rules.specs.declared.directions.Direction.TheVariants as way
 use Rattle.osi_watched.proofs.sessions.a_unit_is_joined_where_it_is_named.{joined_any}
 use Rattle.osi_watched.proofs.sessions.each_cr_that_passes_gives_a_new_reference.{AreUpTo}
@@ -26,13 +26,10 @@ IsBelow b (disconnect n source reason user) = Unit {0}
 IsBelow b (disconnected n source) = Unit {0}
 IsBelow b (error n cause) = Unit {0}
 
-unlike : (n r b : ℕ) (x : Bool) → (n == r) ≡ x → n ≤ b → b < r → x ≡ false
-unlike n r b x e low less = grind (arith, eqb-true)
-
 -- so nothing is for the references above
 pub none_waits : (b r : ℕ) (vs : List Value) → b < r → AllByRecursion (IsBelow b) vs → waiting_for (Some r) vs ≡ []
 none_waits b r [] less h = refl
-none_waits b r (v ∷ vs) less h = picked_rest (is_for (Some r)) v vs (grind (arith, unlike)) ∙ none_waits b r vs less h.1
+none_waits b r (v ∷ vs) less h = picked_rest (is_for (Some r)) v vs (grind arith) ∙ none_waits b r vs less h.1
 
 pub below_higher : (b n : ℕ) (vs : List Value) → b ≤ n → AllByRecursion (IsBelow b) vs → AllByRecursion (IsBelow n) vs
 below_higher b n [] up h = tt

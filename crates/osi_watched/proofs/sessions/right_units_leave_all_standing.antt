@@ -2,18 +2,16 @@
 -- For the session of each connection of an end.
 use Rattle.osi_watched.proofs.Vocabulary.{arith, ◌≡◌, ◌∙◌, refl, sym, ap, ℕ, Bool, true, false, if◌then◌else◌, List, [], ◌∷◌, ◌++◌, Option}
 use Rattle.osi_watched.proofs.Vocabulary.{Some, None, slice_get, eqb-true, Connect, Value, acknowledge, confirm, data2, destination_of}
-use Rattle.osi_watched.proofs.Vocabulary.{request, Part, Class, Two, Zero, other, Direction, Left, Connection, Finding, Broke, NotJudged}
-use Rattle.osi_watched.proofs.Vocabulary.{Reach, Half, is_applied, reach_of, Test, has_passed, keeps_credit, is_open, own, State, at_place}
-use Rattle.osi_watched.proofs.Vocabulary.{class_for, connection_after, found_on, is_stopped, meaning_if, course_after_none, unnamed}
-use Rattle.osi_watched.proofs.Vocabulary.{unnamed_told, meant, none_told, route_in, routed, takes, Deeds, Joined, Sessions, reference_of}
-use Rattle.osi_watched.proofs.Vocabulary.{way_of, IsOneOf}
+use Rattle.osi_watched.proofs.Vocabulary.{request, Part, Two, Zero, other, Direction, Connection, Reach, Half, is_applied, reach_of}
+use Rattle.osi_watched.proofs.Vocabulary.{is_open, own, State, class_for, connection_after, found_on, is_stopped, meaning_if}
+use Rattle.osi_watched.proofs.Vocabulary.{course_after_none, unnamed, meant, takes, Deeds, Joined, Sessions, reference_of, way_of, IsOneOf}
 use Rattle.osi_rules.specs.declared.directions.Direction.{Direction as Way}
 use Rattle.osi_rules.specs.declared.directions.Direction.TheVariants as way
 use Rattle.osi_rules.specs.declared.findings.Reach.TheVariants as reach
 use Rattle.osi_rules.specs.declared.findings.Rule.TheVariants as rule
 use Rattle.osi_rules.specs.Sides as sides
 use Rattle.osi_tap.specs.Connections as joined
-use Rattle.osi_watched.proofs.sessions.a_right_dt_has_one_place.{AreUsedApart, lost_use, one_use, two_open}
+use Rattle.osi_watched.proofs.sessions.a_right_dt_has_one_place.{AreUsedApart, lost_use, one_use}
 use Rattle.osi_watched.proofs.sessions.a_unit_is_joined_where_it_is_named.{named_any, named_there, names_there}
 use Rattle.osi_watched.proofs.sessions.all_connections_stand.{AllStand, IsPlain, Leaves, Rests, like_same, other_after, other_part}
 use Rattle.osi_watched.proofs.sessions.all_connections_stand.{other_plain}
@@ -36,49 +34,21 @@ link_for v n o h = grind (arith, is_for)
 
 -- ---- its place
 
--- in class 2 all judging ends with one for no connection
-module _ (d : Way) (v : Value) (s : State) (two : class_for d (course_after_none v s.course) ≡ Some Two)
-    (ends : reach_of (Some Two) (unnamed d s.course v) ≡ reach.Everything) where
-  none_goes : {A : Type 0} → ((unnamed_told d v s).told.reach ≡ reach.Everything → ⊥) → A
-  none_goes on = absurd (on (ap (λ (k : Option Class). reach_of k (unnamed d s.course v)) two ∙ ends))
-
-  any_placed : {A : Type 0} (o : Option ℕ) → ((at_place d v s o).told.reach ≡ reach.Everything → ⊥) →
-      (at_place d v s o).told.place ≡ None → A
-  any_placed h on none = grind (arith, none_goes)
-
--- before a class is known it breaks a rule
-early_ends : {A : Type 0} (d : Way) (s : State) → class_for d s.course ≡ None →
-    ((none_told d (Broke rule.UnexpectedUnit) s).told.reach ≡ reach.Everything → ⊥) → A
-early_ends d s is on = absurd (on (ap (λ (k : Option Class). reach_of k (Broke rule.UnexpectedUnit)) is))
-
--- so it has a place, unless all judging ends with it
+-- it has a place, unless all judging ends with it
 pub link_placed : {A : Type 0} (d : Way) (v : Value) (n : ℕ) (s : State) → IsLink v n → is_stopped d s.course ≡ false →
     (class_for d s.course ≡ Some Zero → ⊥) → ((takes d v s).told.reach ≡ reach.Everything → ⊥) → (takes d v s).told.place ≡ None → A
 link_placed d v n s h goes two on none = search arith
 
-cc_routed : {A : Type 0} (k : Option Class) (b : Bool) (n : ℕ) (x : Connect) (s : State) →
-    class_for way.Left s.course ≡ k → (k ≡ Some Zero → ⊥) →
-    ((routed way.Left (confirm n x) s (route_in k way.Left b (confirm n x))).told.reach ≡ reach.Everything → ⊥) →
-    (routed way.Left (confirm n x) s (route_in k way.Left b (confirm n x))).told.place ≡ None → A
-cc_routed h b n x s is two on none = grind (arith, early_ends, any_placed)
-
 pub cc_placed : {A : Type 0} (n : ℕ) (x : Connect) (s : State) → is_stopped way.Left s.course ≡ false →
     (class_for way.Left s.course ≡ Some Zero → ⊥) → ((takes way.Left (confirm n x) s).told.reach ≡ reach.Everything → ⊥) →
     (takes way.Left (confirm n x) s).told.place ≡ None → A
-cc_placed n x s goes two on none = grind (arith, cc_routed)
+cc_placed n x s goes two on none = grind arith
 
 -- ---- its sender has not closed the connection, if it is right
 
-abbrev tests_of_acks : Way → Connection → (number credit : ℕ) → List Test
-tests_of_acks d c number credit =
-    (has_passed d c number, Broke rule.OutOfSequence) ∷ (keeps_credit d c number credit, Broke rule.CreditReduced) ∷ []
-
-judged_applied : (b : Bool) (f : Finding) → is_applied (if b then f else NotJudged) ≡ true → is_applied f ≡ true
-judged_applied b f h = grind arith
-
 link_open : (d : Way) (v : Value) (n : ℕ) (s : State) (c : Connection) → IsLink v n → is_applied (found_on d s c v) ≡ true →
     is_open (own d c).phase ≡ true
-link_open d v n s c h h2 = grind (arith, two_open, judged_applied)
+link_open d v n s c h h2 = grind arith
 
 names_so : (o : Option ℕ) (n : ℕ) → names_it o n ≡ true → o ≡ Some n
 names_so o n h = grind (arith, eqb-true)

@@ -1,16 +1,15 @@
 -- If in each moment before a break of the other side's transport nobody of this side is to blame, the first break of all, of transport
 -- and of sessions, is of the other side.
 -- For the law that no session of an end is blamed first.
-use Rattle.osi_watched.proofs.Vocabulary.{[], Bool, if◌then◌else◌, inl, inr, List, None, Option, refl, Some, subst, sym, true, ℕ, ◌++◌, ◌∷◌}
-use Rattle.osi_watched.proofs.Vocabulary.{◌≡◌, ◌⊎◌, AllByRecursion, Value, stops_last, Outcome, takes, Finding, Told, other, Direction}
-use Rattle.osi_watched.proofs.Vocabulary.{Left, Right, marked_past, noted_past, AreSpotless, BreaksFirst, IsBreakOf, IsFirstOf, IsQuiet}
-use Rattle.osi_watched.proofs.Vocabulary.{IsToBlame, of_session, of_transport, Sessions, taken, cause_of, is_break, kind_of, mark_by}
-use Rattle.osi_watched.proofs.Vocabulary.{marked, Moment, moment_of, moved, number_at, unit_passes, unread, unread_mark, unread_moment}
-use Rattle.osi_watched.proofs.Vocabulary.{way_of, Cause, First, Mark, arith, Course, differ}
+use Rattle.osi_watched.proofs.Vocabulary.{[], if◌then◌else◌, inl, inr, List, None, Option, refl, Some, subst, sym, true, ℕ, ◌++◌, ◌∷◌, ◌≡◌}
+use Rattle.osi_watched.proofs.Vocabulary.{◌⊎◌, AllByRecursion, Value, stops_last, Outcome, takes, Finding, Told, other, Direction, Left}
+use Rattle.osi_watched.proofs.Vocabulary.{Right, noted_past, AreSpotless, BreaksFirst, IsBreakOf, IsFirstOf, IsQuiet, IsToBlame, of_session}
+use Rattle.osi_watched.proofs.Vocabulary.{of_transport, Sessions, taken, cause_of, is_break, mark_by, Moment, moment_of, number_at}
+use Rattle.osi_watched.proofs.Vocabulary.{unit_passes, way_of, First, Mark, arith, Course, differ}
 use Rattle.osi_rules.specs.Traffic as traffic
 use Rattle.osi_tap.specs.declared.marks.Cause.TheVariants as cause
 use Rattle.osi_watched.proofs.the_first_break_is_not_of_an_end.{IsNoBreak}
-use Rattle.osi_watched.proofs.what_a_unit_leaves_at_a_tap.{IsJudged, unread_over}
+use Rattle.osi_watched.proofs.what_a_unit_leaves_at_a_tap.{unread_over}
 use Rattle.osi_watched.proofs.what_passes_keeps_a_claim.{IsClaim}
 use Rattle.osi_watched.proofs.sessions.after_too_many_nobody_is_to_blame.{IsSilenced, NoneIsToBlame, begins_silenced, unit_silenced}
 use Rattle.osi_watched.proofs.sessions.connections_have_the_same_places.{unit_joins}
@@ -152,15 +151,6 @@ module _ (d : Direction) (at : ℕ) (v : Value) (c : Course) where
   abbrev told : Told
   told = (takes (way_of (other d)) v c.traffic).told
 
-  abbrev mark_for : Cause → Mark
-  mark_for k = record {
-    direction = other d;
-    offset = at;
-    unit = Some (kind_of v);
-    connection = number_at told.place (then_joined (other d) at v c);
-    cause = k;
-  }
-
   breaks_by : (f : Finding) → told.finding ≡ f → (IsNoBreak f → ⊥) → BreaksTransport (other d) (moment (other d) at v c)
   breaks_by f is broke = search arith
 
@@ -169,16 +159,6 @@ module _ (d : Direction) (at : ℕ) (v : Value) (c : Course) where
   unit_breaks broke h =
       subst (HasBroken d) (sym (unit_past (other d) at v c))
       (broken_then d c.past (moment (other d) at v c) h (breaks_by told.finding refl broke))
-
--- ---- what can't be read
-
-abbrev unread_if : Bool → Direction → (at : ℕ) → Cause → Course → Course
-unread_if b e at k c = if b then c else marked (unread_mark e at k) (traffic.refused_reach (way_of e) c.traffic)
-    (moved (unread_moment e at k c.sessions) (record c { traffic = traffic.refused (way_of e) c.traffic }))
-
-pub unread_breaks_so : (d : Direction) (at : ℕ) (k : Cause) (c : Course) → is_break k ≡ true → IsJudged c → AreClean d c.past →
-    HasBroken d (unread (other d) at k c).past
-unread_breaks_so d at k c bad j h = grind (arith, marked_past, broken_then)
 
 -- ---- what stays so, whatever passes
 

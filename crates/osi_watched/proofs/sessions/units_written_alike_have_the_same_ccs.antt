@@ -1,10 +1,9 @@
 -- Among units that are written alike, and can be written, are the same CCs: for the same references of both sides, and of the same class.
 -- So what is known of the CCs that a whole end has put holds of those of its joint.
 -- For all connections of a called end and a tap.
-use Rattle.osi_watched.proofs.Vocabulary.{[], arith, if◌then◌else◌, inl, inr, List, map, None, Option, refl, Some, subst, sym, true, ℕ, ◌*◌}
-use Rattle.osi_watched.proofs.Vocabulary.{◌++◌, ◌+◌, ◌/◌, ◌<◌, ◌==◌, ◌∙◌, ◌∷◌, ◌≡◌, ◌⊎◌, AllByRecursion, acknowledge, confirm, Connect}
-use Rattle.osi_watched.proofs.Vocabulary.{data0, data2, disconnect, disconnected, error, request, Value, written, CanBeWritten, AreAbove}
-use Rattle.osi_watched.proofs.Vocabulary.{picked_rest, is_false}
+use Rattle.osi_watched.proofs.Vocabulary.{[], arith, inl, inr, List, map, refl, Some, subst, true, ℕ, ◌++◌, ◌+◌, ◌<◌, ◌∙◌, ◌∷◌, ◌≡◌, ◌⊎◌}
+use Rattle.osi_watched.proofs.Vocabulary.{AllByRecursion, acknowledge, confirm, Connect, data0, data2, disconnect, disconnected, error}
+use Rattle.osi_watched.proofs.Vocabulary.{request, Value, written, CanBeWritten, AreAbove, picked_rest, is_false}
 use Rattle.osi_watched.proofs.sessions.units_written_alike_are_for_the_same.{for_octets, for_written}
 use Rattle.osi_watched.proofs.sessions.what_stands_of_a_connection.{is_for, waiting_for}
 
@@ -57,41 +56,8 @@ record Fields : Type 0 where
   source : ℕ
   class : ℕ
 
-abbrev with_fields : (destination source class : ℕ) → Option Fields
-with_fields m r k = Some (record { destination = m; source = r; class = k })
-
-abbrev fields_of : Value → Option Fields
-fields_of (confirm m x) = with_fields m x.source x.class
-fields_of _ = None
-
-abbrev fields_there : List ℕ → Option Fields
-fields_there [] = None
-fields_there (a ∷ []) = None
-fields_there (a ∷ b ∷ []) = None
-fields_there (a ∷ b ∷ c ∷ []) = None
-fields_there (a ∷ b ∷ c ∷ d ∷ []) = None
-fields_there (a ∷ b ∷ c ∷ d ∷ k ∷ rest) = with_fields (a * 256 + b) (c * 256 + d) (k / 16)
-
-abbrev of_kind : (kind : ℕ) → List ℕ → Option Fields
-of_kind kind rest = if kind == 13 then fields_there rest else None
-
-abbrev fields_in : List ℕ → Option Fields
-fields_in [] = None
-fields_in (size ∷ []) = None
-fields_in (size ∷ code ∷ rest) = of_kind (code / 16) rest
-
-fields_written : (v : Value) → CanBeWritten v → fields_of v ≡ fields_in (written v)
-fields_written v can = grind arith
-
 some_fields : (a b : Fields) → Some a ≡ Some b → a ≡ b
 some_fields a b e = cc
-
-cc_alike : (n r : ℕ) (u v : Value) → written u ≡ written v → CanBeWritten u → CanBeWritten v → IsCc n r u → IsCc n r v
-cc_alike n r u v same a b h = grind arith
-
--- if one is a CC of another class, the other doesn't select class 2
-zero_alike : {A : Type 0} (m : ℕ) (x : Connect) (v : Value) → x.class ≡ 0 → fields_of (confirm m x) ≡ fields_of v → AnswersTwo v → A
-zero_alike m x v zero_is e two = grind (arith, some_fields)
 
 -- ---- lists of units
 
@@ -101,14 +67,11 @@ pub record AreAlike (us vs : List Value) : Type 0 where
   pub can : AllByRecursion CanBeWritten us
   pub can_too : AllByRecursion CanBeWritten vs
 
-pub turned : (us vs : List Value) → AreAlike us vs → AreAlike vs us
-turned us vs h = record { same = sym h.same; can = h.can_too; can_too = h.can }
-
 has_by : (n r : ℕ) (us vs : List Value) → map written us ≡ map written vs → AllByRecursion CanBeWritten us →
     AllByRecursion CanBeWritten vs → HasCc n r us → HasCc n r vs
 has_by n r [] vs e a b h = absurd h
 has_by n r (u ∷ us) [] e a b h = absurd (cc)
-has_by n r (u ∷ us) (v ∷ vs) e a b (inl h) = grind (arith, cc_alike)
+has_by n r (u ∷ us) (v ∷ vs) e a b (inl h) = grind arith
 has_by n r (u ∷ us) (v ∷ vs) e a b (inr h) =
     let more : map written us ≡ map written vs = cc in inr (has_by n r us vs more a.1 b.1 h)
 
@@ -119,11 +82,7 @@ has_alike n r us vs h has = has_by n r us vs h.same h.can h.can_too has
 pub first_not_zero : {A : Type 0} (m : ℕ) (x : Connect) (us vs : List Value) → AreAlike (confirm m x ∷ us) vs → x.class ≡ 0 →
     AllByRecursion AnswersTwo vs → A
 first_not_zero m x us [] h zero_is two = absurd (let no = h.same in cc)
-first_not_zero m x us (v ∷ vs) h zero_is two = grind (arith, zero_alike)
-
--- a CC that is written as one of class 2 selects class 2
-two_fields : (u v : Value) → fields_of u ≡ fields_of v → AnswersTwo u → AnswersTwo v
-two_fields u v e two = grind (arith, some_fields)
+first_not_zero m x us (v ∷ vs) h zero_is two = grind arith
 
 two_by : (us vs : List Value) → map written us ≡ map written vs → AllByRecursion CanBeWritten us → AllByRecursion CanBeWritten vs →
     AllByRecursion AnswersTwo us → AllByRecursion AnswersTwo vs
@@ -132,7 +91,7 @@ two_by [] (v ∷ vs) e a b h = absurd (cc)
 two_by (u ∷ us) [] e a b h = absurd (cc)
 two_by (u ∷ us) (v ∷ vs) e a b h =
     let more : map written us ≡ map written vs = cc in
-    (two_fields u v (grind (arith, fields_written)) h.0, two_by us vs more a.1 b.1 h.1)
+    (grind (arith, some_fields), two_by us vs more a.1 b.1 h.1)
 
 pub two_alike : (us vs : List Value) → AreAlike us vs → AllByRecursion AnswersTwo us → AllByRecursion AnswersTwo vs
 two_alike us vs h two = two_by us vs h.same h.can h.can_too two
@@ -225,4 +184,4 @@ pub not_twice_alike : {A : Type 0} (given b m n r : ℕ) (us xs ys : List Value)
 not_twice_alike given b m n r us xs ys like above h k =
     let s = split_by us xs ys like.same like.can like.can_too in
     not_twice given b m n r s.front s.back (subst (AreAbove given b) s.is above)
-    (has_alike m r xs s.front (turned s.front xs s.like_front) h) (has_alike n r ys s.back (turned s.back ys s.like_back) k)
+    (has_alike m r xs s.front (grind arith) h) (has_alike n r ys s.back (grind arith) k)

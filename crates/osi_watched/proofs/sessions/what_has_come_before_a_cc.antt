@@ -231,10 +231,6 @@ no_dc r m source v h e = grind arith
 
 module _ (local : Local) (v : Value) (w : Whole) (j : Follows local w) (on : AllGoesOn v Left w.tap) (clear : IsOngoing w.tap.course)
     (then_clear : IsOngoing (takes way.Right v w.tap).state.course) (q : IsQuiet w.end w.coming w.tap) where
-  right_there : (r : ℕ) → IsForOne r v → (t : Told v w.tap (takes way.Right v w.tap)) → (b : Bool) → t.c.is_judged ≡ b →
-      (is_open t.c.right.phase || is_closing t.c.right.phase) ≡ true
-  right_there r one t b judged = search (arith, not_over, answered_so)
-
   -- the connection that a DT or an AK names has its CC
   named_there_by : (r : ℕ) → MayOpen w.end r → (t : Told v w.tap (takes way.Right v w.tap)) → (opened : Bool) →
       is_open t.c.left.phase ≡ opened → t.c.left.reference ≡ r → (is_open t.c.right.phase || is_closing t.c.right.phase) ≡ true →
@@ -250,18 +246,12 @@ module _ (local : Local) (v : Value) (w : Whole) (j : Follows local w) (on : All
       let sound = each_sound way.Right w.tap.connections j.kept.sane.apart (j.peers clear) t.q t.c t.at in
       let same : t.c.left.reference ≡ r =
       is_name t.c t.n sound t.named ∙ same_name (destination_of v) t.n r t.dest (destination_is r v one) in
-      named_there_by r may t (is_open t.c.left.phase) refl same (right_there r one t t.c.is_judged refl)
+      named_there_by r may t (is_open t.c.left.phase) refl same (grind (arith, not_over, answered_so))
 
   tracked_now : (r : ℕ) → MayOpen w.end r → IsForOne r v → Tracked w.tap.connections r
   tracked_now r may one =
       tracked_of r may one (comes_for w.tap (j.fine clear) v clear.sure.left clear.sure.right (j.followed clear).zero
       then_clear.sure)
-
--- one that right is closing has its CC too, if it may open
-pub closing_tracked : (end : Carrier) (coming : List Value) (s : State) → IsQuiet end coming s → (i : ℕ) (c : Connection) →
-    slice_get s.connections i ≡ Some c → is_closing c.right.phase ≡ true → MayOpen end c.left.reference →
-    Tracked s.connections c.left.reference
-closing_tracked end coming s q i c at closing may = grind (arith, both)
 
 module _ (local : Local) (v : Value) (ranges : HasFieldsInRange v) (w : Whole) (j : Follows local w) (zero : IsNoZero v)
     (clear : IsOngoing w.tap.course) (then_clear : IsOngoing (takes way.Right v w.tap).state.course) (q : IsQuiet w.end w.coming w.tap)
@@ -353,18 +343,14 @@ begun_left d c = grind arith
 begun_tracked : (d : Way) (cs : List Connection) (r : ℕ) → Tracked cs r → Tracked (map (begins d) cs) r
 begun_tracked d cs r (p, c, at, tracked, same) = grind (arith, slice_get-map (begins d) cs p, begun_left d c)
 
-begun_before : (end : Carrier) (coming : List Value) (d : Way) (s : State) → IsQuiet end coming s →
-    IsQuiet end coming (traffic.packet_begins d s)
-begun_before end coming d s q = grind (arith, after_map, begun_left, waiting_for, begun_tracked)
-
 pub begins_own_quiet : (old new : Joint) → Steps Left begins_own old new → AreQuiet old → AreQuiet new
 begins_own_quiet old new (some, none, is) q =
     subst AreQuiet (sym is) (λ clear.
-    search (arith, begun_before, before_going))
+    search (arith, after_map, begun_left, waiting_for, begun_tracked, before_going))
 
 pub begins_other_quiet : (old new : Joint) → Steps Left begins_other old new → AreQuiet old → AreQuiet new
 begins_other_quiet old new is q =
-    subst AreQuiet (sym is) (search (arith, begun_before, before_going))
+    subst AreQuiet (sym is) (search (arith, after_map, begun_left, waiting_for, begun_tracked, before_going))
 
 module _ (local : Local) (two : local.class2 ≡ true) where
   joint_alike : (j : Joint) (f : IsFollowed Left (first local two) j) (r : ℕ) → MayOpen j.holding.end.carrier r →

@@ -1,8 +1,8 @@
 -- A unit that has no effect joins nothing: it broke a rule, or nothing more is judged, or it is one connection too many.
 -- For the session of each connection of an end, once nothing more is judged.
-use Rattle.osi_watched.proofs.Vocabulary.{ap, false, Option, ℕ, ◌≡◌, slice_get, Connect, Value, is_applied, reach_of, asks_by, at_place}
-use Rattle.osi_watched.proofs.Vocabulary.{class_for, meant, none_told, Outcome, routed, Traffic as State, takes, Finding, TooMany, Route}
-use Rattle.osi_watched.proofs.Vocabulary.{Direction, changed, Joined, Sessions, taken, unit_passes, way_of, set_same, arith, Course}
+use Rattle.osi_watched.proofs.Vocabulary.{ap, false, Option, ℕ, ◌≡◌, Value, is_applied, reach_of, at_place, class_for, none_told, Outcome}
+use Rattle.osi_watched.proofs.Vocabulary.{routed, Traffic as State, takes, Finding, TooMany, Route, Direction, Sessions, taken, unit_passes}
+use Rattle.osi_watched.proofs.Vocabulary.{way_of, set_same, arith, Course}
 use Rattle.osi_rules.specs.declared.findings.Meaning.TheVariants as meaning
 use Rattle.osi_rules.specs.declared.findings.Reach.TheVariants as reach
 use Rattle.osi_tap.specs.Connections as joined
@@ -14,14 +14,8 @@ abbrev JoinsNone : Direction → (at : ℕ) → Value → Sessions → Outcome �
 JoinsNone d at v t o = is_applied o.told.finding ≡ false → taken d at v o.told.meaning o.told.place t ≡ t
 
 module _ (d : Direction) (at : ℕ) (v : Value) (s : State) (t : Sessions) where
-  same_at : (i : ℕ) (o : Option Joined) → slice_get t.live i ≡ o → changed i (joined.meant d at v meaning.Nothing) t o ≡ t
-  same_at i o e = grind (arith, set_same)
-
   place_none : (o : Option ℕ) → JoinsNone d at v t (at_place (way_of d) v s o)
-  place_none o h = grind (arith, same_at)
-
-  asks_by_none : (f : Finding) (x : Connect) → JoinsNone d at v t (asks_by (way_of d) f x s)
-  asks_by_none f x h = grind arith
+  place_none o h = grind (arith, set_same)
 
 routed_none : (d : Direction) (at : ℕ) (v : Value) (s : State) (t : Sessions) (r : Route) → JoinsNone d at v t (routed (way_of d) v s r)
 routed_none d at v s t r h = search (arith, place_none)
@@ -43,12 +37,6 @@ module _ (d : Direction) (v : Value) (s : State) where
   place_ends : (o : Option ℕ) → EndsAll (at_place (way_of d) v s o)
   place_ends o h = grind arith
 
-  asks_by_ends : (f : Finding) (x : Connect) → EndsAll (asks_by (way_of d) f x s)
-  asks_by_ends f x h = grind arith
-
-routed_ends : (d : Direction) (v : Value) (s : State) (r : Route) → EndsAll (routed (way_of d) v s r)
-routed_ends d v s r h = grind (arith, place_ends, none_ends)
-
 pub too_many_ends : (d : Direction) (v : Value) (s : State) → (takes (way_of d) v s).told.finding ≡ TooMany →
     (takes (way_of d) v s).told.reach ≡ reach.Everything
-too_many_ends d v s h = grind (arith, routed_ends)
+too_many_ends d v s h = grind (arith, place_ends, none_ends)

@@ -2,7 +2,7 @@
 -- passes leaves it so. For all connections of an end and a tap.
 use Rattle.osi_watched.proofs.Vocabulary.{arith, Bool, false, if◌then◌else◌, None, Option, refl, Some, true, ℕ, ◌≡◌, slice_get, acknowledge}
 use Rattle.osi_watched.proofs.Vocabulary.{confirm, data0, data2, destination_of, disconnect, disconnected, error, request, Value, Class}
-use Rattle.osi_watched.proofs.Vocabulary.{Two, Zero, is_applied, reach_of, begins, is_named, is_refused, class_for, connection_after, found}
+use Rattle.osi_watched.proofs.Vocabulary.{Two, Zero, is_applied, reach_of, begins, is_named, is_refused, class_for, connection_after}
 use Rattle.osi_watched.proofs.Vocabulary.{found_on, is_stopped, judged_on, none_told, has_broken, route, route_in, routed, takes}
 use Rattle.osi_watched.proofs.Vocabulary.{Traffic as State, Connection, Way, Finding, NotJudged, Reach, other, Direction, Left, Right}
 use Rattle.osi_watched.proofs.Vocabulary.{IsToBlame, Joined, way_of, All, IsOneOf, Sound}
@@ -22,17 +22,10 @@ pub record IsLost (d : Direction) (c : Connection) (j : Joined) : Type 0 where
   pub right : is_refused c.right.phase ≡ false
   pub left_knows : is_refused c.seen_by_left.phase ≡ false
 
--- when a packet begins, nothing is said
-pub begun_blame : (d e : Direction) (j : Joined) → IsToBlame d (packet_begins e j) → IsToBlame d j
-begun_blame Left Left j b = record { finding = b.finding; found = record { found = b.found.found; room = b.found.room }; broke = b.broke }
-begun_blame Left Right j b = record { finding = b.finding; found = record { found = b.found.found; room = b.found.room }; broke = b.broke }
-begun_blame Right Left j b = record { finding = b.finding; found = record { found = b.found.found; room = b.found.room }; broke = b.broke }
-begun_blame Right Right j b = record { finding = b.finding; found = record { found = b.found.found; room = b.found.room }; broke = b.broke }
-
 pub lost_begins : (d e : Direction) (c : Connection) (j : Joined) → IsLost d c j →
     IsLost d (begins (way_of e) c) (packet_begins e j)
-lost_begins d Left c j h = grind (arith, begun_blame)
-lost_begins d Right c j h = grind (arith, begun_blame)
+lost_begins d Left c j h = grind arith
+lost_begins d Right c j h = grind arith
 
 -- a unit without an effect leaves it so, however far it reaches
 pub lost_still : (d : Direction) (r : Reach) (c : Connection) (j : Joined) → IsLost d c j → IsLost d (judged_on r c) j
@@ -40,16 +33,13 @@ lost_still d r c j h = grind arith
 
 -- ---- which is lost after a unit
 
-on_lost : (r : Reach) (c : Connection) → (judged_on r c).is_judged ≡ false → c.is_judged ≡ true → r ≡ reach.Connection
-on_lost r c h was = grind arith
-
 pub was_judged : (e : Way) (v : Value) (x : Bool) (r : Reach) (c : Connection) → (connection_after e v x r c).is_judged ≡ true →
     c.is_judged ≡ true
 was_judged e v x r c h = grind arith
 
 pub now_lost : (e : Way) (v : Value) (x : Bool) (r : Reach) (c : Connection) → (connection_after e v x r c).is_judged ≡ false →
     c.is_judged ≡ true → r ≡ reach.Connection
-now_lost e v x r c h was = grind (arith, on_lost)
+now_lost e v x r c h was = grind arith
 
 -- the unit has no effect then
 pub part_applied : (k : Option Class) (f : Finding) → reach_of k f ≡ reach.Connection → is_applied f ≡ false

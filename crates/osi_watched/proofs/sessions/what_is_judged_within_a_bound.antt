@@ -1,14 +1,13 @@
 -- What a tap with a bound judges of each connection is what a tap without one does, until more has passed than it judges.
 -- For the law on such a tap.
-use Rattle.osi_watched.proofs.Vocabulary.{arith, slice_get, ◌≡◌, refl, ap, ℕ, zero, suc, ◌+◌, Bool, false, if◌then◌else◌, List, [], ◌∷◌}
-use Rattle.osi_watched.proofs.Vocabulary.{◌++◌, length, map, set, Option, Some, None, Meaning, Value, offset_of, Direction, Room, All}
-use Rattle.osi_watched.proofs.Vocabulary.{Octets, Over, Joined, Sessions, adds, adds_all, adds_if, all_begin, asked, changed, count, placed}
-use Rattle.osi_watched.proofs.Vocabulary.{taken, taken_at, number_at, number_of, AreJudgedOf, IsJudgedOf, SessionsOf}
+use Rattle.osi_watched.proofs.Vocabulary.{arith, slice_get, ◌≡◌, refl, ap, ℕ, zero, suc, ◌+◌, Bool, List, [], ◌∷◌, ◌++◌, length, map, set}
+use Rattle.osi_watched.proofs.Vocabulary.{Option, Some, None, Meaning, Value, offset_of, Direction, All, Octets, Joined, Sessions, adds}
+use Rattle.osi_watched.proofs.Vocabulary.{all_begin, asked, changed, count, placed, taken, taken_at, number_at, number_of, AreJudgedOf}
+use Rattle.osi_watched.proofs.Vocabulary.{IsJudgedOf, SessionsOf}
 use Rattle.std.specs.Option.{option_map}
 use Rattle.osi_rules.specs.declared.findings.Meaning.TheVariants as meaning
 use Rattle.osi_tap.specs.Connections.{meant}
 use Rattle.osi_tap.specs.Connections.{packet_begins}
-use Rattle.osi_tap.specs.Rooms.{is_over}
 
 -- ---- lists of connections
 
@@ -46,31 +45,16 @@ one_more (x ∷ js) (y ∷ ws) j w k h = (h.0, one_more js ws j w k h.1)
 
 -- ---- a packet begins
 
-begun : (d : Direction) (j w : Joined) → IsJudgedOf j w → IsJudgedOf (packet_begins d j) (packet_begins d w)
-begun d j w h = grind arith
-
 all_begun : (d : Direction) (js ws : List Joined) → AreJudgedOf js ws → AreJudgedOf (map (packet_begins d) js) (map (packet_begins d) ws)
 all_begun d [] [] h = tt
 all_begun d [] (w ∷ ws) h = absurd h
 all_begun d (j ∷ js) [] h = absurd h
-all_begun d (j ∷ js) (w ∷ ws) h = (begun d j w h.0, all_begun d js ws h.1)
+all_begun d (j ∷ js) (w ∷ ws) h = (grind arith, all_begun d js ws h.1)
 
 -- ---- a DT
 
 -- after one that is judged there was room before it
 module _ (d : Direction) (at : ℕ) (end : Bool) (octets : List ℕ) (j w : Joined) (h : IsJudgedOf j w) where
-  judged : (room : Room) → (is_over room ≡ false → is_over j.room ≡ false) →
-      IsJudgedOf (record (adds_all d at end octets j) { room = room }) (record (adds_all d at end octets w) { room = All })
-  judged room goes = grind arith
-
-  -- nothing more is judged of it
-  over : IsJudgedOf (record j { room = Over }) (record (adds_all d at end octets w) { room = All })
-  over = grind arith
-
-  if_room : (b : Bool) (n rest : ℕ) → j.room ≡ Octets n →
-      IsJudgedOf (adds_if b (if b then Octets rest else Over) d at end octets j) (record (adds_all d at end octets w) { room = All })
-  if_room b n rest is = grind (arith, judged, over)
-
   adds_so : IsJudgedOf (adds d at end octets j) (adds d at end octets w)
   adds_so = search arith
 

@@ -4,10 +4,10 @@
 use Rattle.osi_watched.proofs.Vocabulary.{◌≡◌, ◌∙◌, arith, refl, sym, subst, ℕ, Bool, true, false, if◌then◌else◌, List, [], ◌∷◌, ◌++◌}
 use Rattle.osi_watched.proofs.Vocabulary.{Option, Some, None, inr, slice_get, Connect, Value, acknowledge, confirm, data0, data2}
 use Rattle.osi_watched.proofs.Vocabulary.{disconnect, disconnected, error, request, parts_in, Part, Class, Two, Zero, other, Direction}
-use Rattle.osi_watched.proofs.Vocabulary.{Left, Right, Connection, Finding, Broke, Kept, NotJudged, Reach, is_applied, reach_of}
-use Rattle.osi_watched.proofs.Vocabulary.{acknowledge_tests, first_failed, Outcome, State, at_place, class_for, found_on, is_stopped}
-use Rattle.osi_watched.proofs.Vocabulary.{none_told, route, route_in, routed, takes, unnamed_by, AreJudged, Deeds, Joined, Sessions, Course}
-use Rattle.osi_watched.proofs.Vocabulary.{unit_passes, way_of, differ}
+use Rattle.osi_watched.proofs.Vocabulary.{Left, Right, Connection, Finding, NotJudged, Reach, is_applied, reach_of, acknowledge_tests}
+use Rattle.osi_watched.proofs.Vocabulary.{first_failed, Outcome, State, at_place, class_for, found_on, is_stopped, none_told, route}
+use Rattle.osi_watched.proofs.Vocabulary.{route_in, routed, takes, unnamed_by, AreJudged, Deeds, Joined, Sessions, Course, unit_passes}
+use Rattle.osi_watched.proofs.Vocabulary.{way_of, differ}
 use Rattle.osi_rules.specs.declared.directions.Direction.{Direction as Way}
 use Rattle.osi_rules.specs.declared.directions.Direction.TheVariants as way
 use Rattle.osi_rules.specs.declared.findings.Reach.TheVariants as reach
@@ -27,9 +27,6 @@ use Rattle.osi_watched.proofs.sessions.right_units_leave_all_standing.{rests_on}
 use Rattle.osi_watched.proofs.sessions.what_stands_of_a_connection.{Known, waiting_for, stands_other_none, unnamed}
 
 -- ---- what is no break
-
-pub kept_of : (f : Finding) → IsClear f → IsNoBreak f → f ≡ Kept
-kept_of f h none = grind arith
 
 -- an AK
 ack_tests_clear : (d : Way) (c : Connection) (number credit : ℕ) → IsClear (first_failed (acknowledge_tests d c number credit))
@@ -61,27 +58,18 @@ cr_broke : {A : Type 0} (k : Option Class) (b : Bool) (x : Connect) (s : State) 
     IsMild (request x) (routed way.Right (request x) s (route_in k way.Right b (request x))).told.finding → A
 cr_broke k b x s none = grind arith
 
-cc_any : {A : Type 0} (n : ℕ) (x : Connect) (s : State) (o : Option ℕ) → s.course.loose ≡ false → AreJudged s →
-    IsMild (confirm n x) (at_place way.Left (confirm n x) s o).told.finding → A
-cc_any n x s o firm judged none = grind arith
-
 pub cc_broke : {A : Type 0} (k : Option Class) (b : Bool) (n : ℕ) (x : Connect) (s : State) → s.course.loose ≡ false → AreJudged s →
     IsMild (confirm n x) (routed way.Left (confirm n x) s (route_in k way.Left b (confirm n x))).told.finding → A
-cc_broke k b n x s firm judged none = grind (arith, cc_any)
+cc_broke k b n x s firm judged none = grind arith
 
 pub goes_on : (v : Value) (b : Bool) (d : Way) (s : State) (o : Outcome) → b ≡ false →
     IsMild v (if b then none_told d NotJudged s else o).told.finding →
     IsMild v o.told.finding
 goes_on v b d s o h none = grind arith
 
--- such units end all judging
-unexpected_ends : {A : Type 0} (k : Option Class) (d : Way) (s : State) → class_for d s.course ≡ k → (k ≡ Some Zero → ⊥) →
-    ((none_told d (Broke rule.UnexpectedUnit) s).told.reach ≡ reach.Everything → ⊥) → A
-unexpected_ends k d s is two on = grind arith
-
 zero_ends : {A : Type 0} (k : Option Class) (d : Way) (b : Bool) (end : Bool) (user : List ℕ) (s : State) → class_for d s.course ≡ k →
     (k ≡ Some Zero → ⊥) → ((routed d (data0 end user) s (route_in k d b (data0 end user))).told.reach ≡ reach.Everything → ⊥) → A
-zero_ends k d b end user s is two on = grind (arith, unexpected_ends)
+zero_ends k d b end user s is two on = grind arith
 
 -- a DT of class 0 ends it outside class 0
 pub no_zero : {A : Type 0} (d : Way) (end : Bool) (user : List ℕ) (s : State) → is_stopped d s.course ≡ false →
@@ -100,9 +88,6 @@ cc_idle s n x c = grind arith
 cc_placed : {A : Type 0} (n : ℕ) (x : Connect) (s : State) (o : Option ℕ) →
     is_applied (at_place way.Left (confirm n x) s o).told.finding ≡ true → A
 cc_placed n x s o h = grind (arith, never_unnamed)
-
-pub cc_unapplied : {A : Type 0} (n : ℕ) (x : Connect) (s : State) → is_applied (takes way.Left (confirm n x) s).told.finding ≡ true → A
-cc_unapplied n x s h = grind arith
 
 -- a unit that has its effect ends no judging
 applied_reach : (k : Option Class) (f : Finding) → is_applied f ≡ true → reach_of k f ≡ reach.Nothing
@@ -179,9 +164,9 @@ own_stands d deeds known at v rest c apart goes two none on ready a = search (ar
 pub firm_links : (d : Direction) (v : Value) (s : State) → s.course.loose ≡ false → AreJudged s → is_stopped (way_of d) s.course ≡ false →
     IsNoBreak (takes (way_of d) v s).told.finding → LinksGoOn d v s
 firm_links d v s firm judged goes none n (dt number end user is) far =
-    grind (arith, applied_goes, kept_of, dt_clear (way_of d) (data2 n number end user) end s refl goes firm judged)
+    grind (arith, applied_goes, dt_clear (way_of d) (data2 n number end user) end s refl goes firm judged)
 firm_links d v s firm judged goes none n (ak credit number is) far =
-    grind (arith, applied_goes, kept_of, ack_clear (way_of d) credit n number s goes firm judged)
+    grind (arith, applied_goes, ack_clear (way_of d) credit n number s goes firm judged)
 
 pub own_stands_firm : (d : Direction) (deeds : ℕ → Deeds) (known : Known) (at : ℕ) (v : Value) (rest : List Value) (c : Course) →
     c.traffic.course.loose ≡ false → is_stopped (way_of d) c.traffic.course ≡ false → (class_for

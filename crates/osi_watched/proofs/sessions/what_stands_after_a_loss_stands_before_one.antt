@@ -13,7 +13,7 @@ use Rattle.osi_watched.proofs.steps_are_events.{IsFollowed}
 use Rattle.osi_watched.proofs.what_a_taker_passes_over.{mild_reach}
 use Rattle.osi_watched.proofs.what_the_turns_among_steps_do.{TurnDoes}
 use Rattle.osi_watched.proofs.sessions.after_too_many_nobody_is_to_blame.{NoneIsToBlame}
-use Rattle.osi_watched.proofs.sessions.no_session_of_an_end_breaks_first.{ArePassed, HaveCourses, IsPassed, KeepsUnless}
+use Rattle.osi_watched.proofs.sessions.no_session_of_an_end_breaks_first.{ArePassed, HaveCourses, KeepsUnless}
 use Rattle.osi_watched.proofs.sessions.steps_leave_all_standing.{IsProper}
 use Rattle.osi_watched.proofs.sessions.what_passes_leaves_all_standing.{firm_links}
 
@@ -60,12 +60,9 @@ pub record KeepsThroughout (d : Direction) (local : Local) (Inv : (ℕ → Deeds
 firm_lasts : (c : Passed) → IsFirm c.traffic.course → (c.traffic.course.class ≡ Some Zero → ⊥) → IsOngoing c.traffic.course
 firm_lasts c h not = record { sure = record { left = h.left; right = h.right }; two = not }
 
-taken_one : (d : Direction) (v : Value) (c : Passed) → IsPassed Zero d v c → IsTakenOn d v c
-taken_one d v c h = search (arith, firm_lasts, mild_reach, takes_reach)
-
 taken_all : (d : Direction) (at : ℕ) (vs : List Value) (c : Passed) → ArePassed Zero d at vs c → AreTakenOn d at vs c
 taken_all d at [] c h = tt
-taken_all d at (v ∷ vs) c h = (taken_one d v c h.0, taken_all d at vs (unit_passes (other d) at v c) h.1)
+taken_all d at (v ∷ vs) c h = (grind (arith, firm_lasts, mild_reach, takes_reach), taken_all d at vs (unit_passes (other d) at v c) h.1)
 
 module _ (d : Direction) (local : Local) (Inv : (ℕ → Deeds) → Joint → Type 0) (k : KeepsThroughout d local Inv) where
   pub throughout_unless : KeepsUnless Zero d local Inv

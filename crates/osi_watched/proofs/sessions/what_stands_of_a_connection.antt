@@ -124,13 +124,6 @@ named_begun d e j = grind arith
 pub open_begun : (d e : Direction) (c : Connection) → (own (way_of d) (begins (way_of e) c)).phase ≡ (own (way_of d) c).phase
 open_begun d e c = grind arith
 
-unsaid_begun : (d e : Direction) (j : Joined) → IsUnsaid (spoken d j) → IsUnsaid (spoken (other d) j) → IsUnsaid (spoken d
-    (packet_begins e j))
-unsaid_begun d e j h o = grind arith
-
-room_begun : (e : Direction) (j : Joined) → (packet_begins e j).room ≡ j.room
-room_begun e j = grind arith
-
 -- ---- a packet of the end begins
 
 part_so : (v : Value) → is_part v ≡ true → (end : Bool) × (unit_parts v ≡ (end, user_of v) ∷ [])
@@ -157,7 +150,7 @@ pub stands_begins : (d : Direction) (deeds : ℕ → Deeds) (known : Known) (put
     ((r : ℕ) → Course (calls_from d) r (deeds r) e) → length (heard (spoken (other d) j)) < 2 ^ 64 → Stands d deeds known put false c j →
     Stands d deeds known put true (begins (way_of d) c) (packet_begins d j)
 stands_begins d deeds known put e c j courses few (unnamed none mine theirs room) =
-    unnamed (named_begun d d j ∙ none) (unsaid_begun d d j mine theirs) (grind (arith, unsaid_begun)) (room_begun d j ∙ room)
+    unnamed (named_begun d d j ∙ none) (grind arith) (grind arith) ((grind arith) ∙ room)
 stands_begins d deeds known put e c j courses few (lives r o is live later sure h) =
     lives r o (named_begun (other d) d j ∙ is) (grind (arith, open_begun)) later sure
     (begins_now d r (deeds r) later o e j (courses r) few put h)
@@ -168,7 +161,7 @@ stands_begins d deeds known put e c j courses few (past r closed waiting later s
 
 pub stands_other_begins : (d : Direction) (deeds : ℕ → Deeds) (known : Known) (put : List Value) (b : Bool) (c : Connection) (j : Joined) →
     Stands d deeds known put b c j → Stands d deeds known put b (begins (way_of (other d)) c) (packet_begins (other d) j)
-stands_other_begins d deeds known put b c j (unnamed none mine theirs room) = grind (arith, named_begun, unsaid_begun, room_begun)
+stands_other_begins d deeds known put b c j (unnamed none mine theirs room) = grind (arith, named_begun)
 stands_other_begins d deeds known put b c j (lives r o is live later sure h) =
     lives r o (named_begun (other d) (other d) j ∙ is) (grind (arith, open_begun)) later sure
     (other_begins d r (deeds r) (waiting_for o put) later (is_next o b put) j h)

@@ -4,8 +4,8 @@
 use Rattle.osi_watched.proofs.Vocabulary.{[], ap, Bool, length, List, None, Option, refl, Some, subst, sym, true, ℕ, ◌∙◌, ◌∷◌, ◌≡◌}
 use Rattle.osi_watched.proofs.Vocabulary.{eqb-true, AllByRecursion, confirm, Connect, data0, request, Value, Class, Two, Zero, Local}
 use Rattle.osi_watched.proofs.Vocabulary.{has_given, Traffic as State, takes, Connection, Offer, early, past, stage_at, stage_is, IsOver}
-use Rattle.osi_watched.proofs.Vocabulary.{one, answered, Calling, known, quiet, refused, begun_by, anyhow, IsInZero, zero_puts, PutsData}
-use Rattle.osi_watched.proofs.Vocabulary.{calm_tap, done_takes, GoesOn, Waits, Whole, arith, ended, waits}
+use Rattle.osi_watched.proofs.Vocabulary.{one, answered, Calling, known, quiet, refused, begun_by, anyhow, zero_puts, PutsData, calm_tap}
+use Rattle.osi_watched.proofs.Vocabulary.{done_takes, GoesOn, Waits, Whole, arith, ended, waits}
 use Rattle.osi_rules.specs.declared.directions.Direction.TheVariants.{Right}
 use Rattle.osi_fair.proofs.how_requests_go_on.{Stage, asks, zero}
 use Rattle.osi_watched.proofs.small_facts_that_many_lemmas_use.{none_some}
@@ -105,12 +105,9 @@ module _ (local : Local) (w : Whole) where
   -- ---- a connection that may still open
 
   module _ (r : ℕ) (lasts : w.end.ended ≡ None) (given : has_given r w.end ≡ true) (may : stage_at r w.end ≡ early) where
-    zero_early : {A : Type 0} (limit begun : ℕ) (units : List Value) → IsInZero limit w.end begun units → A
-    zero_early limit begun units h = grind arith
-
     -- its CC has come, if class 0 is selected
     pub cc_waits : Stage local w → w.tap.course.class ≡ Some Zero → HasCc w.coming
-    cc_waits h class = grind (arith, none_some, calm_class, zero_early, class_not, zero_two)
+    cc_waits h class = grind (arith, none_some, calm_class, class_not, zero_two)
 
   -- an end with one CR has no other connection under way
   pub one_early : (q r : ℕ) → Calling local (one r) w.end → has_given q w.end ≡ true → (q ≡ r → ⊥) → stage_at q w.end ≡ past

@@ -18,7 +18,7 @@ use Rattle.osi_watched.proofs.sessions.each_cc_of_a_called_end_opens_another_con
 use Rattle.osi_watched.proofs.sessions.each_cc_of_a_called_end_opens_another_connection.{same_source}
 use Rattle.osi_watched.proofs.sessions.each_unit_of_a_called_end_has_a_home.{OpensByNoCc}
 use Rattle.osi_watched.proofs.sessions.each_unit_of_a_turn_has_one_connection.{HasHome, IsFor}
-use Rattle.osi_watched.proofs.sessions.units_written_alike_have_the_same_ccs.{AreAlike, HasCc, has_alike, has_back, has_front, turned}
+use Rattle.osi_watched.proofs.sessions.units_written_alike_have_the_same_ccs.{AreAlike, HasCc, has_alike, has_back, has_front}
 use Rattle.osi_watched.proofs.sessions.what_a_turn_puts_goes_to_its_peer.{GoesTo, IsNotZero, Lived, by_units, came, for_so, goes_to}
 use Rattle.osi_watched.proofs.sessions.what_a_turn_puts_goes_to_its_peer.{linked_so, none_for, none_shut, one_of, whole_lasts}
 use Rattle.osi_watched.proofs.sessions.what_a_turn_puts_waits.{Agree, marks_wait}
@@ -68,11 +68,8 @@ module _ (local : Local) (deeds : ℕ → Deeds) (turn : Turn) (old new : Joint)
   places_g : HaveSamePlaces g.whole.tap.connections t.live
   places_g = subst (λ (x : State). HaveSamePlaces x.connections t.live) (sym tap_g) places
 
-  has_turn : (n r : ℕ) → HasCc n r (all_units on.put) → HasCc n r new.put
-  has_turn n r h = subst (HasCc n r) (sym put_is) (has_back n r old.put (all_units on.put) h)
-
   has_whole : (n r : ℕ) → HasCc n r new.put → HasCc n r g.whole.put
-  has_whole n r h = has_alike n r new.put g.whole.put (turned g.whole.put new.put like_new) h
+  has_whole n r h = has_alike n r new.put g.whole.put (grind arith) h
 
   -- ---- a connection at which units were put: its CC waits, or the tap knows it
 
@@ -97,7 +94,7 @@ module _ (local : Local) (deeds : ℕ → Deeds) (turn : Turn) (old new : Joint)
           inl (search (arith, came Right false (begin false local) deeds turn old new step on f lasts (confirm n x) front q l come))
       by (request x) opening (cc_is, source, one) come =
           let parts : on.put ≡ others ++ (0, confirm l.peer cc_is) ∷ (l.left.during ++ l.left.after) = grind (arith, append_assoc) in
-          inr (inl (has_turn l.peer q (grind (arith, marked_has))))
+          inr (inl (grind (arith, put_is, has_back l.peer q old.put (all_units on.put) (grind (arith, marked_has)))))
       by (disconnect n source reason user) h gives come = absurd h
       by _ h gives come = absurd h
   open_named lasts q positive l (is_shut shut then_shut none none_left) =

@@ -4,7 +4,4 @@ use Rattle.osi_accord.proofs.a_run_without_liberties_is_one_of_the_machine.{mach
 use Rattle.osi_accord.proofs.laws.without_liberties_it_is_a_run_of_the_machine.Goals as goal
 
 pub returns : goal.returns
-returns c = record {
-  run = machine_run (grind (arith, said_again));
-  reached = grind arith;
-}
+returns c = grind (arith, said_again, machine_run (grind (arith, said_again)))

@@ -1,6 +1,7 @@
-use Rattle.osi_carrier.proofs.references.which_connections_have_selectors.{known_is, fresh_named, unit_named, asks_named, sent_named}
-use Rattle.osi_carrier.proofs.references.which_connections_have_selectors.{sent_all_named, closed_named, ended_named, unit_keeps}
-use Rattle.osi_carrier.proofs.references.which_connections_have_selectors.{asks_keeps, sent_keeps, sent_all_keeps, closed_keeps}
+use Rattle.osi_carrier.proofs.references.which_connections_have_selectors.{known_is, fresh_named, asks_named, sent_named, sent_all_named}
+use Rattle.osi_carrier.proofs.references.which_connections_have_selectors.{closed_named, ended_named, asks_keeps, sent_keeps}
+use Rattle.osi_carrier.proofs.references.which_connections_have_selectors.{sent_all_keeps, closed_keeps}
+use Rattle.osi_carrier.proofs.effects.a_unit_touches_one_connection.{unit_named, unit_keeps}
 use Rattle.osi_carrier.proofs.laws.each_live_connection_has_its_tsaps.Goals as goal
 
 pub returns : goal.returns

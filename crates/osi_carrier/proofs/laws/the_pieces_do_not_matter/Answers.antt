@@ -1,6 +1,5 @@
 use Rattle.std.proofs.Common.{arith}
-use Rattle.osi_carrier.proofs.stream.all_pieces_last_alike.{pieces_last}
-use Rattle.osi_carrier.proofs.stream.how_calls_end_a_carrier.{pieces_end}
+use Rattle.osi_carrier.proofs.stream.how_calls_end_a_carrier.{pieces_last, pieces_end}
 use Rattle.osi_carrier.proofs.stream.a_carrier_does_what_its_packets_do.{calls_read, pieces_alike}
 use Rattle.osi_carrier.proofs.laws.the_pieces_do_not_matter.Goals as goal
 

@@ -12,13 +12,11 @@ returns c =
     let go = c.may_send.ensures.go c.if-not-may_send.false tsdus count in
     record {
       go = go_of_all s tsdus c.checked_add.result go;
-      enough = room_of_all s tsdus c.in_ok-room.room.units c.in_ok-room.room.octets c.in_ok-headers.headers c.checked_add.result _ limit
-          c.requires.quiet go count c.in_ok-room.ensures.octets c.in_ok-headers.ensures.1 c.checked_add.ensures;
-      exact = exact_room s tsdus c.in_ok-room.room.units c.in_ok-room.room.octets c.in_ok-headers.headers c.checked_add.result _ count
-          c.in_ok-room.ensures.octets c.in_ok-headers.ensures.1 c.checked_add.ensures;
+      enough = room_of_all s tsdus _ _ _ _ _ limit c.requires.quiet go count c.in_ok-room.ensures.octets c.in_ok-headers.ensures.1
+          c.checked_add.ensures;
+      exact = exact_room s tsdus _ _ _ _ _ count c.in_ok-room.ensures.octets c.in_ok-headers.ensures.1 c.checked_add.ensures;
       some = λ all few fits.
-          some_room s tsdus c.in_ok-room.room.units c.in_ok-room.room.octets c.in_ok-headers.headers c.checked_add.result count
-          c.in_ok-room.ensures.octets c.in_ok-headers.ensures.1 c.checked_add.ensures fits;
+          some_room s tsdus _ _ _ _ count c.in_ok-room.ensures.octets c.in_ok-headers.ensures.1 c.checked_add.ensures fits;
     }
 
 pub returns-in_err-room-clause-some : goal.returns-in_err-room-clause-some

@@ -1,5 +1,5 @@
-use Rattle.std.proofs.Common.{◌<◌, ◌≤◌, length, map, ap, sym, subst, ◌∙◌, arith}
-use Rattle.osi_carrier.proofs.Vocabulary.{any_standing, all_given, Standing, with_tsdus, written_by, packets}
+use Rattle.std.proofs.Common.{◌<◌, ◌≤◌, length, map, arith}
+use Rattle.osi_carrier.proofs.Vocabulary.{any_standing, all_given, with_tsdus, written_by, packets}
 use Rattle.osi_carrier.proofs.written.all_that_a_link_gives.{packets_most}
 use Rattle.osi_carrier.proofs.links.send_all_on.Goals as goal
 
@@ -22,8 +22,4 @@ unreachable-requires c =
     let spare = c.in_ok-reserve.ensures.spare.1 in
     let units = packets_most c.args.peer (all_given then) in
     let fits : length (packets (written_by c.args.peer then)) ≤ c.reserve.new.self.spare = omega arith in
-    let never = c.in_default-pump.ensures.enough
-    (subst (λ (s : Standing). length (packets (written_by c.args.peer s)) ≤ c.reserve.new.self.spare)
-    (sym (c.in_ok-keep_all.ensures.ok ∙ ap (λ ts. with_tsdus (any_standing c.args.link.now) (map (λ v. v.items) ts))
-    (sym c.as_slice-lent.ensures.value))) fits) in
-    cc
+    grind (arith, c.in_default-pump.ensures.enough)

@@ -1,5 +1,4 @@
-use Rattle.osi_carrier.proofs.Vocabulary.{any_standing, all_given, octets_in, pumped, Standing, with_tsdu, written_by, packets, ◌≡◌, ◌<◌}
-use Rattle.osi_carrier.proofs.Vocabulary.{◌≤◌, ◌∙◌, ℕ, List, length, ap, sym, subst, arith}
+use Rattle.osi_carrier.proofs.Vocabulary.{any_standing, all_given, with_tsdu, written_by, packets, ◌<◌, ◌≤◌, length, arith}
 use Rattle.osi_carrier.proofs.written.a_tsdu_part_after_part.{leaves_nothing, part_goes}
 use Rattle.osi_carrier.proofs.written.all_that_a_link_gives.{packets_most}
 use Rattle.osi_carrier.proofs.written.some_units_may_go_now.{whole_goes}
@@ -18,14 +17,11 @@ pub returns-then-room-gt0-clause-link : goal.returns-then-room-gt0-clause-link
 returns-then-room-gt0-clause-link c =
     let old = any_standing c.args.link.now in
     let tsdu = c.as_slice-octets.result.now in
-    let then = with_tsdu old tsdu in
     let value = c.limit-limit.ensures.value in
     let limit : 0 < old.ends.limit = omega (arith, value) in
-    let some : 0 < length (all_given then) = omega arith in
-    let all : octets_in (all_given then) ≡ length tsdu = omega arith in
-    let none = whole_goes old tsdu limit c.requires (part_goes old tsdu c.requires some).alone some all in
-    leaves_nothing c.write_parts.result old (any_standing c.write_parts.new.link) tsdu c.write_parts.ensures.link none
-    ∙ ap (λ (t : List ℕ). pumped (with_tsdu old t)) c.as_slice-octets.ensures.value
+    let some : 0 < length (all_given (with_tsdu old tsdu)) = omega arith in
+    let none = whole_goes old tsdu limit c.requires (part_goes old tsdu c.requires some).alone some (omega arith) in
+    grind (arith, leaves_nothing)
 
 pub unreachable-requires : goal.unreachable-requires
 unreachable-requires c =
@@ -33,7 +29,4 @@ unreachable-requires c =
     let room = c.in_ok-reserve.ensures.spare.1 in
     let most = packets_most c.args.peer (all_given then) in
     let fits : length (packets (written_by c.args.peer then)) ≤ c.reserve.new.self.spare = omega arith in
-    let never = c.in_default.ensures.enough
-    (subst (λ (s : Standing). length (packets (written_by c.args.peer s)) ≤ c.reserve.new.self.spare)
-    (sym (c.in_ok-keep.ensures.ok ∙ ap (with_tsdu (any_standing c.args.link.now)) (sym c.as_slice-octets.ensures.value))) fits) in
-    cc
+    grind (arith, c.in_default.ensures.enough)

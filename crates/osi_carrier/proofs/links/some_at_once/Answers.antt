@@ -27,6 +27,5 @@ returns c =
     (λ e. omega arith) (omega (arith, size, fits)) in
     record {
       go = part.go;
-      enough = λ peer. enough_for_some peer s ts n c.in_ok-octets.octets c.in_ok-most.most c.min.result limit c.requires.quiet part
-          (omega (arith, sum, size)) most c.min.ensures;
+      enough = λ peer. enough_for_some peer s ts n _ _ _ limit c.requires.quiet part (omega (arith, sum, size)) most c.min.ensures;
     }

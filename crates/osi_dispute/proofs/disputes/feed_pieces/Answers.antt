@@ -1,12 +1,10 @@
+use Rattle.std.proofs.Common.{arith}
 use Rattle.osi_dispute.proofs.Vocabulary.{subst, Direction, piece, row, rows_left, Knows}
 use Rattle.osi_dispute.proofs.what_is_fed_piece_by_piece_passes_whole.{Comes, Passes, all_fed, none_fed, more_fed}
 use Rattle.osi_dispute.proofs.disputes.feed_pieces.Goals as goal
 
 pub pieces-init : goal.pieces-init
-pieces-init c = (
-  none_fed Knows c.args.left_is_tabbed c.args.judge.now (rows_left c.args.pieces),
-  λ begin. none_fed (Comes begin) c.args.left_is_tabbed c.args.transport.now (rows_left c.args.pieces),
-)
+pieces-init c = grind (arith, none_fed)
 
 pub pieces-preserved : goal.pieces-preserved
 pieces-preserved c = (

@@ -6,11 +6,7 @@ pub connections-init : goal.connections-init
 connections-init c = (λ s h k. none_added s.course.sessions c.args.text.now.items, omega arith)
 
 pub connections-preserved : goal.connections-preserved
-connections-preserved c = (
-  grind (arith, more_added),
-  omega arith,
-)
+connections-preserved c = grind (arith, more_added)
 
 pub returns : goal.returns
-returns c = λ s h k.
-    grind (arith, all_added)
+returns c = grind (arith, all_added)

@@ -1,16 +1,13 @@
 use Rattle.std.proofs.Common.{arith}
-use Rattle.osi_dispute.proofs.Vocabulary.{refl, sym, subst, Layer, comes_to, still_held, first_mark, IsFirstLast}
+use Rattle.osi_dispute.proofs.Vocabulary.{still_held, first_mark}
 use Rattle.osi_dispute.proofs.a_report_says_what_a_tap_holds.{if_some}
 use Rattle.osi_dispute.proofs.reports.first_last.Goals as goal
 
 pub returns-in-Session-clause-some : goal.returns-in-Session-clause-some
-returns-in-Session-clause-some c =
-    if_some c.session_first.result c.session_first.ensures.some (λ x f capture k e.
-    subst (λ (l : Layer). IsFirstLast l (comes_to capture) c.args.first x) (sym c.in-Session.is) (f capture c.args.first k refl refl))
+returns-in-Session-clause-some c = grind (arith, if_some)
 
 pub returns-in-Session-clause-none : goal.returns-in-Session-clause-none
-returns-in-Session-clause-none c = λ capture k e n.
-    grind (arith, still_held)
+returns-in-Session-clause-none c = grind (arith, still_held)
 
 pub returns-in-Transport-clause-some : goal.returns-in-Transport-clause-some
 returns-in-Transport-clause-some c =

@@ -4,8 +4,7 @@ use Rattle.osi_dispute.proofs.a_report_says_what_a_tap_holds.{kept_is}
 use Rattle.osi_dispute.proofs.reports.last_of.Goals as goal
 
 pub returns-in-None : goal.returns-in-None
-returns-in-None c = λ capture ps k l r a.
-    grind (arith, kept_is)
+returns-in-None c = grind (arith, kept_is)
 
 pub returns-in-Some : goal.returns-in-Some
 returns-in-Some c = λ capture ps k l r a. c.in-Some.ensures.some capture ps k

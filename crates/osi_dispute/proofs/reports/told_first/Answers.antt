@@ -4,8 +4,7 @@ use Rattle.osi_dispute.proofs.a_report_says_what_a_tap_holds.{if_some}
 use Rattle.osi_dispute.proofs.reports.told_first.Goals as goal
 
 pub returns-in-Some-clause-some : goal.returns-in-Some-clause-some
-returns-in-Some-clause-some c =
-    if_some c.first_last.result c.first_last.ensures.some (grind arith)
+returns-in-Some-clause-some c = grind (arith, if_some)
 
 pub returns-in-Some-clause-none : goal.returns-in-Some-clause-none
 returns-in-Some-clause-none c = λ capture k n. absurd (c.first_last.ensures.none capture k (sym c.in-Some.ensures.value) n)

@@ -9,9 +9,7 @@ returns-in_ok-stands-in-Kept c = λ j h k.
     c.side-side.ensures.value (sym c.in-Kept.ensures.value) c.told.ensures.kept c.in_ok-stands-in-Kept.ensures h
 
 pub returns-in-Broke : goal.returns-in-Broke
-returns-in-Broke c = λ j h k.
-    grind (arith, broke_says, c.offset.ensures j h)
+returns-in-Broke c = grind (arith, broke_says)
 
 pub returns-in-Left : goal.returns-in-Left
-returns-in-Left c = λ j h k.
-    grind (arith, left_says, c.offset-in-Left.ensures j h)
+returns-in-Left c = grind (arith, left_says)

@@ -3,9 +3,7 @@ use Rattle.osi_dispute.proofs.a_report_says_what_a_tap_holds.{mark_told, no_mark
 use Rattle.osi_dispute.proofs.reports.transport_last.Goals as goal
 
 pub returns-in-Some-clause-some : goal.returns-in-Some-clause-some
-returns-in-Some-clause-some c = λ capture f k w m.
-    grind (arith, mark_told)
+returns-in-Some-clause-some c = grind (arith, mark_told)
 
 pub returns-in-None-clause-none : goal.returns-in-None-clause-none
-returns-in-None-clause-none c = λ capture f k m n.
-    grind (arith, no_mark)
+returns-in-None-clause-none c = grind (arith, no_mark)

@@ -1,4 +1,5 @@
-use Rattle.osi_dispute.proofs.Vocabulary.{◌∙◌, sym, ap, refl, Broke, Left, Watched, judged, half_of, watched}
+use Rattle.std.proofs.Common.{arith}
+use Rattle.osi_dispute.proofs.Vocabulary.{sym, refl, Broke, Left, judged, half_of, watched}
 use Rattle.osi_dispute.proofs.what_is_told_is_by_facts.{told_kept, told_broke, told_left, told_many}
 use Rattle.osi_dispute.proofs.verdicts.told_of.Goals as goal
 
@@ -9,21 +10,14 @@ returns-in_ok-stands-in-Kept-clause-told c =
     c.side-side.ensures c.told.ensures.value (sym c.in-Kept.ensures.value) c.in_ok-stands-in-Kept.ensures
 
 pub returns-in-Broke-clause-told : goal.returns-in-Broke-clause-told
-returns-in-Broke-clause-told c =
-    told_broke (half_of c.args.direction (judged c.args.judge.now)) c.offset-offset.result c.by.result c.in-Broke.field-0
-    c.offset-offset.ensures.value
-    (c.by.ensures.value ∙ ap (λ (w : Watched). w.by) c.side-side.ensures)
-    (sym c.in-Broke.ensures.value)
+returns-in-Broke-clause-told c = grind (arith, told_broke)
 
 pub returns-in-Broke-clause-found : goal.returns-in-Broke-clause-found
 returns-in-Broke-clause-found c =
     λ capture k. (Broke c.in-Broke.field-0, (c.in-Broke.field-0, refl), c.in-Broke.ensures.found capture k.taps)
 
 pub returns-in-Left-clause-told : goal.returns-in-Left-clause-told
-returns-in-Left-clause-told c =
-    told_left (half_of c.args.direction (judged c.args.judge.now)) c.offset-offset.result c.by-in-Left.result c.in-Left.field-0
-    c.offset-offset.ensures.value (c.by-in-Left.ensures.value ∙ ap (λ (w : Watched). w.by) c.side-side.ensures)
-    (sym c.in-Left.ensures.value)
+returns-in-Left-clause-told c = grind (arith, told_left)
 
 pub returns-in-Left-clause-found : goal.returns-in-Left-clause-found
 returns-in-Left-clause-found c = λ capture k. (Left c.in-Left.field-0, (c.in-Left.field-0, refl), c.in-Left.ensures.found capture k.taps)

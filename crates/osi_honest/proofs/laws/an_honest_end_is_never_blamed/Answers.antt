@@ -1,16 +1,13 @@
+use Rattle.std.proofs.Common.{arith}
 use Rattle.osi_honest.proofs.Vocabulary.{false, true, Left, Right}
 use Rattle.osi_honest.proofs.transport.an_end_is_never_blamed.{blameless, neither_first, never_first, side_stands}
 use Rattle.osi_honest.proofs.laws.an_honest_end_is_never_blamed.Goals as goal
 
 pub returns-clause-called : goal.returns-clause-called
-returns-clause-called c = λ local begin end turns capture has_broken fresh run seen stands.
-    side_stands Right turns (blameless Right false c.a_called_end_is_not_blamed.ensures
-    c.the_transport_of_an_end_is_not_blamed.ensures.called local begin end turns fresh run) capture has_broken seen stands
+returns-clause-called c = search (arith, side_stands, blameless)
 
 pub returns-clause-calling : goal.returns-clause-calling
-returns-clause-calling c = λ local begin end turns capture has_broken fresh run seen stands.
-    side_stands Left turns (blameless Left true c.a_calling_end_is_not_blamed.ensures
-    c.the_transport_of_an_end_is_not_blamed.ensures.calling local begin end turns fresh run) capture has_broken seen stands
+returns-clause-calling c = search (arith, side_stands, blameless)
 
 pub returns-clause-called_is_not_first : goal.returns-clause-called_is_not_first
 returns-clause-called_is_not_first c = λ local begin end turns capture fresh run seen first.

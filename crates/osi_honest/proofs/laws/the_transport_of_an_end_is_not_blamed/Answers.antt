@@ -5,9 +5,7 @@ use Rattle.osi_honest.proofs.transport.no_transport_of_an_end_is_blamed.{called_
 use Rattle.osi_honest.proofs.laws.the_transport_of_an_end_is_not_blamed.Goals as goal
 
 pub returns-clause-called : goal.returns-clause-called
-returns-clause-called c = λ local begin end turns capture stop fresh run seen stopped.
-    search (arith, called_transport, all_proper)
+returns-clause-called c = search (arith, called_transport, all_proper)
 
 pub returns-clause-calling : goal.returns-clause-calling
-returns-clause-calling c = λ local begin end turns capture stop fresh run seen stopped.
-    search (arith, calling_transport, all_proper, can_begin)
+returns-clause-calling c = search (arith, calling_transport, all_proper, can_begin)

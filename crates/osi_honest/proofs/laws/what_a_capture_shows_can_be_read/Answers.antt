@@ -4,5 +4,4 @@ use Rattle.osi_honest.proofs.reading.all_that_an_end_puts_can_be_read.{shown_uni
 use Rattle.osi_honest.proofs.laws.what_a_capture_shows_can_be_read.Goals as goal
 
 pub returns : goal.returns
-returns c =
-    shown_units (search (arith, all_proper))
+returns c = search (arith, shown_units, all_proper)

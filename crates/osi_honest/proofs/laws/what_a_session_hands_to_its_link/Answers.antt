@@ -8,5 +8,4 @@ pub returns-clause-begins : goal.returns-clause-begins
 returns-clause-begins c = fresh_course
 
 pub returns-clause-run : goal.returns-clause-run
-returns-clause-run c = λ is_caller local begin end turns fresh run.
-    search (arith, all_proper, can_begin, turns_continue, nothing_since, fresh_turns)
+returns-clause-run c = search (arith, all_proper, can_begin, turns_continue, nothing_since, fresh_turns)

@@ -8,5 +8,4 @@ pub returns-clause-begins : goal.returns-clause-begins
 returns-clause-begins c = λ local. record { lasts = refl; is_called = refl; class = refl; live = refl; told = refl; lines = refl }
 
 pub returns-clause-turn : goal.returns-clause-turn
-returns-clause-turn c =
-    turn_waits (search (arith, all_proper))
+returns-clause-turn c = search (arith, turn_waits, all_proper)

@@ -1,5 +1,5 @@
 use Rattle.std.proofs.Common.{arith}
-use Rattle.osi_honest.proofs.Vocabulary.{refl, SpduLaws}
+use Rattle.osi_honest.proofs.Vocabulary.{refl}
 use Rattle.osi_honest.proofs.class_0.what_a_session_answers_fits.{all_proper}
 use Rattle.osi_honest.proofs.opening.what_an_asking_end_does.{can_begin, turn_asks}
 use Rattle.osi_honest.proofs.opening.what_an_idle_end_does.{idle_turn}
@@ -15,6 +15,4 @@ pub returns-clause-begins : goal.returns-clause-begins
 returns-clause-begins c = λ asks local. record { lasts = refl; is_caller = refl; class = refl; live = refl; told = refl; here = refl }
 
 pub returns-clause-turn : goal.returns-clause-turn
-returns-clause-turn c =
-    let law : SpduLaws = record { room = c.few_octets_fit.ensures; digits = c.serial_digits.ensures } in
-    search (arith, turn_asks, all_proper, can_begin)
+returns-clause-turn c = search (arith, turn_asks, all_proper, can_begin)

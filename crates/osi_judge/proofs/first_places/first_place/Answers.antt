@@ -18,19 +18,13 @@ takes-preserved c =
     }
 
 pub returns-in-Said-clause-explains : goal.returns-in-Said-clause-explains
-returns-in-Said-clause-explains c = λ us later x h.
-    let w = word (said_by c.args.unit.now) in
-    let does = subst (λ (s : Step). StepsTo c.args.heard.now w c.args.octets c.takes.at s) c.in-Said.is c.in_ok-next.ensures.does in
-    chain (c.takes.invariant.explains us later x h)
-    (said_first us later w c.args.octets c.args.before c.takes.at c.in-Said.said c.requires.steady h does)
+returns-in-Said-clause-explains c = grind (arith, chain, said_first)
 
 pub returns-in-Stuck-clause-explains : goal.returns-in-Stuck-clause-explains
-returns-in-Stuck-clause-explains c = λ us later x h.
-    grind (arith, none_explains, nowhere)
+returns-in-Stuck-clause-explains c = grind (arith, none_explains, nowhere)
 
 pub returns-clause-explains : goal.returns-clause-explains
-returns-clause-explains c = λ us later x h.
-    grind (arith, chain, at_last)
+returns-clause-explains c = grind (arith, chain, at_last)
 
 pub takes-init : goal.takes-init
 takes-init c = record { explains = λ us later x h. (λ e. e, λ e. e); value = refl }
@@ -48,6 +42,4 @@ returns-in-Stuck-clause-value c =
     sender_stuck c.args.heard.now w c.args.octets c.args.before c.takes.at _ c.takes-test.true by.0 by.1 c.takes.invariant.value
 
 pub returns-clause-value : goal.returns-clause-value
-returns-clause-value c =
-    sender_last c.args.heard.now (word (said_by c.args.unit.now)) c.args.octets c.args.before c.takes.at c.says-last.result _
-    c.takes-test.false c.says-last.ensures.value c.takes.invariant.value
+returns-clause-value c = grind (arith, sender_last)

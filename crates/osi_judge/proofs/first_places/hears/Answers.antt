@@ -1,13 +1,12 @@
-use Rattle.osi_judge.proofs.Vocabulary.{◌≡◌, true, false, ap, option_map, Taking, listens, Takes, after_count, reply_of, count_taken}
+use Rattle.std.proofs.Common.{arith}
+use Rattle.osi_judge.proofs.Vocabulary.{◌≡◌, true, ap, option_map, Taking, listens, Takes, after_count, reply_of, count_taken}
 use Rattle.osi_judge.proofs.walked.a_walk_loses_no_explanation.{at_some, at_none}
 use Rattle.osi_judge.proofs.kept.a_session_goes_on_by_one_function.{quiet_deaf, quiet_takes, quiet_answers}
 use Rattle.osi_judge.proofs.walked.the_first_place_is_enough.{heard_one, not_heard, answers_it}
 use Rattle.osi_judge.proofs.first_places.hears.Goals as goal
 
 pub returns-in_default-clause-hears : goal.returns-in_default-clause-hears
-returns-in_default-clause-hears c =
-    not_heard c.args.standing c.args.tsdu.now
-    (at_none (listens c.args.standing ≡ false) c.in_ok-taking.field-0 c.in_default.not-Some c.in_ok-taking.ensures.deaf)
+returns-in_default-clause-hears c = grind (arith, not_heard, at_none)
 
 pub returns-in-None-clause-hears : goal.returns-in-None-clause-hears
 returns-in-None-clause-hears c =
@@ -29,9 +28,7 @@ returns-in-Some-reply-clause-hears c =
     (ap (option_map reply_of) c.in-Some-reply.is)
 
 pub returns-in_default-clause-value : goal.returns-in_default-clause-value
-returns-in_default-clause-value c =
-    quiet_deaf c.args.standing c.args.tsdu.now
-    (at_none (listens c.args.standing ≡ false) c.in_ok-taking.field-0 c.in_default.not-Some c.in_ok-taking.ensures.deaf)
+returns-in_default-clause-value c = grind (arith, quiet_deaf, at_none)
 
 pub returns-in-None-clause-value : goal.returns-in-None-clause-value
 returns-in-None-clause-value c =

@@ -1,4 +1,5 @@
-use Rattle.osi_judge.proofs.Vocabulary.{[], get_or, ◌∙◌, ◌+◌, sym, ap, option_map, member}
+use Rattle.std.proofs.Common.{arith}
+use Rattle.osi_judge.proofs.Vocabulary.{[], get_or}
 use Rattle.osi_judge.proofs.walked.the_first_place_is_enough.{moves_nowhere}
 use Rattle.osi_judge.proofs.kept.a_session_goes_on_by_one_function.{moves_as}
 use Rattle.osi_judge.proofs.first_places.moves.Goals as goal
@@ -10,11 +11,7 @@ returns-in-None-clause-moves c =
     c.in_ok-standing.ensures.hears
 
 pub returns-in-None-clause-value : goal.returns-in-None-clause-value
-returns-in-None-clause-value c =
-    moves_as c.args.heard.now c.args.at.now c.tsdu_at-tsdu.result.now c.in_ok-standing.field-0 _ c.tsdu_at-tsdu.ensures.octets
-    c.in_ok-standing.ensures.value (sym (ap (option_map (member (c.args.at.now.taken + 1))) c.in-None.is))
+returns-in-None-clause-value c = grind (arith, moves_as)
 
 pub returns-in-Some-clause-value : goal.returns-in-Some-clause-value
-returns-in-Some-clause-value c =
-    moves_as c.args.heard.now c.args.at.now c.tsdu_at-tsdu.result.now c.in_ok-standing.field-0 _ c.tsdu_at-tsdu.ensures.octets
-    c.in_ok-standing.ensures.value (sym (ap (option_map (member (c.args.at.now.taken + 1))) c.in-Some.is))
+returns-in-Some-clause-value c = grind (arith, moves_as)

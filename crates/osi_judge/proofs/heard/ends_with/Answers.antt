@@ -4,5 +4,4 @@ use Rattle.osi_judge.proofs.outlined.equal_tsdus_in_a_row_are_kept_once.{last_ts
 use Rattle.osi_judge.proofs.heard.ends_with.Goals as goal
 
 pub returns-clause-same : goal.returns-clause-same
-returns-clause-same c = λ l.
-    grind (arith, pointwise, eqb, last_tsdu, same_by_pairs)
+returns-clause-same c = grind (arith, pointwise, eqb, last_tsdu, same_by_pairs)

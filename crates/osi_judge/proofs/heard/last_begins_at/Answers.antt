@@ -3,6 +3,4 @@ use Rattle.osi_judge.proofs.outlined.equal_tsdus_in_a_row_are_kept_once.{is_or_n
 use Rattle.osi_judge.proofs.heard.last_begins_at.Goals as goal
 
 pub returns : goal.returns
-returns c =
-    let runs = c.args.runs.now in
-    grind (arith, is_or_not, last_begin)
+returns c = grind (arith, is_or_not, last_begin)

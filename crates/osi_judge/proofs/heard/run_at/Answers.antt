@@ -1,4 +1,4 @@
-use Rattle.osi_judge.proofs.Vocabulary.{◌+◌, ◌-◌, ◌/◌, arith}
+use Rattle.osi_judge.proofs.Vocabulary.{◌-◌, arith}
 use Rattle.osi_judge.proofs.outlined.equal_tsdus_in_a_row_are_kept_once.{begin_read, halves_begin}
 use Rattle.osi_judge.proofs.heard.run_at.Goals as goal
 
@@ -6,11 +6,7 @@ pub halves-init : goal.halves-init
 halves-init c = halves_begin c.args.runs.now c.args.count c.args.place c.requires.runs c.requires.there
 
 pub halves-preserved-then-runs-middle : goal.halves-preserved-then-runs-middle
-halves-preserved-then-runs-middle c =
-    let middle = c.halves.low + (c.halves.high - c.halves.low) / 2 in
-    grind (arith, begin_read)
+halves-preserved-then-runs-middle c = grind (arith, begin_read)
 
 pub halves-preserved : goal.halves-preserved
-halves-preserved c =
-    let middle = c.halves.low + (c.halves.high - c.halves.low) / 2 in
-    grind (arith, begin_read)
+halves-preserved c = grind (arith, begin_read)

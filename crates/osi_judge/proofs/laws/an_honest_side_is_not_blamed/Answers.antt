@@ -1,3 +1,4 @@
+use Rattle.std.proofs.Common.{arith}
 use Rattle.osi_session.proofs.tsdu.what_is_sent_is_taken_as_meant.{said_again}
 use Rattle.osi_judge.proofs.honest.a_call_is_explained.{AsSent}
 use Rattle.osi_judge.proofs.honest.an_honest_side_is_kept.{not_blamed}
@@ -5,15 +6,7 @@ use Rattle.osi_judge.proofs.laws.an_honest_side_is_not_blamed.Goals as goal
 
 -- what the laws of messages state
 as_sent : (c : goal.After-an_honest_session_is_explained) → AsSent
-as_sent c = record {
-  message = λ m s. said_again m (c.what_is_sent_is_read.ensures.read m s) (c.what_is_sent_is_read.ensures.said m s);
-  part = c.what_a_part_says.ensures;
-  whole = c.what_leaves_in_parts.ensures.whole;
-  parts = c.what_leaves_in_parts.ensures.parts;
-  joined = c.what_leaves_in_parts.ensures.joined;
-  full = c.what_leaves_in_parts.ensures.full;
-}
+as_sent c = grind (arith, said_again)
 
 pub returns : goal.returns
-returns c = not_blamed (as_sent c) c.what_leaves_in_parts.ensures.read c.an_honest_session_is_explained.ensures.caller
-    c.an_honest_session_is_explained.ensures.called c.a_capture_has_one_reading.ensures.one
+returns c = search (arith, not_blamed, as_sent)

@@ -1,12 +1,11 @@
-use Rattle.osi_judge.proofs.Vocabulary.{refl, sym, ap, subst, List, ℕ, ◌≤◌, length, take, Some, Ok, IsPacket, IsPartial, IsFaultOf, watched}
-use Rattle.osi_judge.proofs.Vocabulary.{Lined, handshake_in, lined, tapped, goes_on, faulty}
+use Rattle.std.proofs.Common.{arith}
+use Rattle.osi_judge.proofs.Vocabulary.{refl, sym, ap, subst, List, ℕ, ◌≤◌, length, take, Some, Ok, IsPacket, IsFaultOf, watched, Lined}
+use Rattle.osi_judge.proofs.Vocabulary.{handshake_in, lined, tapped, faulty}
 use Rattle.osi_judge.proofs.captured.what_a_line_keeps.{settled_whole}
 use Rattle.osi_judge.proofs.lines.settle.Goals as goal
 
 pub returns-in-Ok-None-clause-ok : goal.returns-in-Ok-None-clause-ok
-returns-in-Ok-None-clause-ok c =
-    goes_on (subst (λ (x : List ℕ). IsPartial x) c.as_slice.ensures.value (c.in-Ok-None.ensures.begun.0 (ap Ok c.in-Ok-None.field-0-is)))
-    (ap (λ (l : Lined). record (tapped c.args.half.now) { line = l }) c.begin_packet.ensures) refl
+returns-in-Ok-None-clause-ok c = grind arith
 
 pub returns-in-Err-clause-ok : goal.returns-in-Err-clause-ok
 returns-in-Err-clause-ok c =

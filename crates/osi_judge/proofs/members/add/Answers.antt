@@ -9,9 +9,7 @@ returns-clause-explained c = λ us later. added us c.args.members.now.items c.pu
     c.in_ok-push.ensures.items
 
 pub returns-then-is_among-clause-value : goal.returns-then-is_among-clause-value
-returns-then-is_among-clause-value c =
-    added_not c.args.member c.args.members.now.items (grind arith)
+returns-then-is_among-clause-value c = grind (arith, added_not)
 
 pub returns-clause-value : goal.returns-clause-value
-returns-clause-value c =
-    added_one c.args.member c.args.members.now.items c.push.new.self.items (grind arith) c.in_ok-push.ensures.items
+returns-clause-value c = grind (arith, added_one)

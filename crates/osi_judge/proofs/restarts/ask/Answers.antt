@@ -1,3 +1,4 @@
+use Rattle.std.proofs.Common.{arith}
 use Rattle.osi_judge.proofs.Vocabulary.{word, said_by, way_of}
 use Rattle.osi_judge.proofs.walked.a_walk_to_a_restart_keeps_two.{asks, restarted_by}
 use Rattle.osi_judge.proofs.kept.a_walk_to_a_restart_is_one_function.{none_is, asks_not, asks_alone, asks_joined}
@@ -22,15 +23,10 @@ returns-clause-asked c =
     (c.in_ok-joined.ensures.gives w q c.args.octets c.requires.restart c.requires.shown c.requires.asked by).0
 
 pub returns-in_default-clause-value : goal.returns-in_default-clause-value
-returns-in_default-clause-value c =
-    asks_not (way_of c.args.asking.now c.args.octets) c.args.asker.asked c.args.asker.at c.args.next.now.items
-    (none_is c.says.result _ c.in_default.not-Some c.says.ensures.value)
+returns-in_default-clause-value c = grind (arith, asks_not, none_is)
 
 pub returns-in_default-says-clause-value : goal.returns-in_default-says-clause-value
-returns-in_default-says-clause-value c =
-    asks_alone (way_of c.args.asking.now c.args.octets) c.args.asker.asked c.args.asker.at c.in-Some.said c.args.next.now.items
-    c.add.new.members.items c.in-Some.ensures.value
-    (none_is c.says-2.result _ c.in_default-says.not-Some c.says-2.ensures.value) c.in_ok-add.ensures.value
+returns-in_default-says-clause-value c = grind (arith, asks_alone, none_is)
 
 pub returns-clause-value : goal.returns-clause-value
 returns-clause-value c =

@@ -1,12 +1,11 @@
-use Rattle.std.proofs.Common.{◌∙◌, sym}
+use Rattle.std.proofs.Common.{arith}
 use Rattle.osi_judge.proofs.walked.a_walk_to_a_restart_keeps_two.{joins_apart, joins_between, joins_after}
 use Rattle.osi_judge.proofs.kept.two_sessions_are_compared.{seen_told}
 use Rattle.osi_judge.proofs.kept.a_walk_to_a_restart_is_one_function.{joined_first, joined_apart, joined_between, joined_after}
 use Rattle.osi_judge.proofs.restarts.join.Goals as goal
 
 pub returns-in_default-clause-value : goal.returns-in_default-clause-value
-returns-in_default-clause-value c =
-    joined_first c.args.taken c.args.asked c.args.said c.args.shown c.args.next.now.items c.in_default.not-Some
+returns-in_default-clause-value c = grind (arith, joined_first)
 
 pub returns-then-not-is_same-clause-gives : goal.returns-then-not-is_same-clause-gives
 returns-then-not-is_same-clause-gives c =
@@ -14,11 +13,7 @@ returns-then-not-is_same-clause-gives c =
     c.in-Some.is c.in_ok-keep.ensures.explains
 
 pub returns-then-not-is_same-clause-value : goal.returns-then-not-is_same-clause-value
-returns-then-not-is_same-clause-value c =
-    joined_apart c.args.taken c.args.asked c.in-Some.before c.args.said c.args.shown c.args.next.now.items c.keep.new.next.items
-    c.in-Some.is
-    (sym c.if-not-is_same.true ∙ seen_told c.is_same.result c.in-Some.before.shown c.args.shown c.is_same.ensures)
-    c.in_ok-keep.ensures.value
+returns-then-not-is_same-clause-value c = grind (arith, joined_apart, seen_told)
 
 pub returns-then-lies_between-clause-gives : goal.returns-then-lies_between-clause-gives
 returns-then-lies_between-clause-gives c =
@@ -26,10 +21,7 @@ returns-then-lies_between-clause-gives c =
     c.if-not-is_same.ensures (c.lies_between.ensures.holds c.if-lies_between.true)
 
 pub returns-then-lies_between-clause-value : goal.returns-then-lies_between-clause-value
-returns-then-lies_between-clause-value c =
-    joined_between c.args.taken c.args.asked c.in-Some.before c.args.said c.args.shown c.args.next.now.items c.in-Some.is
-    (sym c.if-not-is_same.false ∙ seen_told c.is_same.result c.in-Some.before.shown c.args.shown c.is_same.ensures)
-    (sym c.if-lies_between.true ∙ c.lies_between.ensures.value)
+returns-then-lies_between-clause-value c = grind (arith, joined_between, seen_told)
 
 pub returns-clause-gives : goal.returns-clause-gives
 returns-clause-gives c =
@@ -37,8 +29,4 @@ returns-clause-gives c =
     c.in-Some.is c.if-not-is_same.ensures c.in_ok-add.ensures.explained
 
 pub returns-clause-value : goal.returns-clause-value
-returns-clause-value c =
-    joined_after c.args.taken c.args.asked c.in-Some.before c.args.said c.args.shown c.args.next.now.items c.add.new.members.items
-    c.in-Some.is
-    (sym c.if-not-is_same.false ∙ seen_told c.is_same.result c.in-Some.before.shown c.args.shown c.is_same.ensures)
-    (sym c.if-lies_between.false ∙ c.lies_between.ensures.value) c.in_ok-add.ensures.value
+returns-clause-value c = grind (arith, joined_after, seen_told)

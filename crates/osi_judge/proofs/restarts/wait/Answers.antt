@@ -1,3 +1,4 @@
+use Rattle.std.proofs.Common.{arith}
 use Rattle.osi_judge.proofs.Vocabulary.{◌↔◌, ◌+◌, List, ℕ, Option, Some, subst, sym, ◌∙◌, word, said_by, Asked, Waits, Known}
 use Rattle.osi_judge.proofs.walked.a_walk_to_a_restart_keeps_two.{still_wait}
 use Rattle.osi_judge.proofs.kept.a_walk_to_a_restart_is_one_function.{waited_none, waited_first, waited_last, waited_both}
@@ -13,13 +14,10 @@ returns-clause-gives c = λ us later before b h e.
     (still_wait us later before c.args.taken c.args.next.now.items a b h first last)
 
 pub returns-in_default-clause-value : goal.returns-in_default-clause-value
-returns-in_default-clause-value c =
-    waited_none (word (said_by c.args.abort.now)) c.args.taken c.args.asked c.args.tsdu.now c.args.next.now.items c.in_default.not-Some
+returns-in_default-clause-value c = grind (arith, waited_none)
 
 pub returns-then-not-branch-clause-value : goal.returns-then-not-branch-clause-value
-returns-then-not-branch-clause-value c =
-    waited_first (word (said_by c.args.abort.now)) c.args.taken c.args.asked c.in-Some.waiting c.args.tsdu.now c.args.next.now.items
-    c.keep.new.next.items c.in-Some.is (sym c.if-not-branch.true ∙ c.in_ok-waits.ensures.value) c.in_ok-keep.ensures.value
+returns-then-not-branch-clause-value c = grind (arith, waited_first)
 
 pub returns-then-not-branch-2-clause-value : goal.returns-then-not-branch-2-clause-value
 returns-then-not-branch-2-clause-value c =
@@ -28,7 +26,4 @@ returns-then-not-branch-2-clause-value c =
     ∙ c.in_ok-waits-2.ensures.value) c.in_ok-keep-2.ensures.value
 
 pub returns-clause-value : goal.returns-clause-value
-returns-clause-value c =
-    waited_both (word (said_by c.args.abort.now)) c.args.taken c.args.asked c.in-Some.waiting c.args.tsdu.now c.args.next.now.items
-    c.in-Some.is
-    (sym c.if-not-branch.false ∙ c.in_ok-waits.ensures.value) (sym c.if-not-branch-2.false ∙ c.in_ok-waits-2.ensures.value)
+returns-clause-value c = grind (arith, waited_both)

@@ -1,5 +1,5 @@
 use Rattle.std.proofs.Common.{arith}
-use Rattle.osi_judge.proofs.Vocabulary.{◌≡◌, ◌∙◌, sym, ap, true, false, word, is_restarting, said_by}
+use Rattle.osi_judge.proofs.Vocabulary.{◌≡◌, ◌∙◌, sym, ap, true, word, is_restarting, said_by}
 use Rattle.osi_judge.proofs.walked.a_restart_waits.{it_waits}
 use Rattle.osi_judge.proofs.kept.a_walk_to_a_restart_is_one_function.{unsaid, waits_not, waits_unsaid, waits_moved}
 use Rattle.osi_judge.proofs.kept.a_walk_to_a_restart_is_one_function.{waits_moved_after, waits_so}
@@ -13,14 +13,10 @@ returns-clause-holds c = λ t.
     (c.in_ok-stays.ensures.hears c.if-not-branch.false) (c.in_ok-stays-2.ensures.hears c.if-not-branch-2.false)
 
 pub returns-then-not-is_restarting-clause-value : goal.returns-then-not-is_restarting-clause-value
-returns-then-not-is_restarting-clause-value c =
-    let not : is_restarting c.args.standing.state.phase ≡ false = grind arith in
-    waits_not (word (said_by c.args.abort.now)) c.args.standing c.args.tsdu.now not
+returns-then-not-is_restarting-clause-value c = grind (arith, waits_not)
 
 pub returns-in_default-clause-value : goal.returns-in_default-clause-value
-returns-in_default-clause-value c =
-    waits_unsaid (word (said_by c.args.abort.now)) c.args.standing c.args.tsdu.now
-    (unsaid c.say.result _ c.in_default.not-Ok c.say.ensures.left)
+returns-in_default-clause-value c = grind (arith, waits_unsaid, unsaid)
 
 pub returns-then-not-branch-clause-value : goal.returns-then-not-branch-clause-value
 returns-then-not-branch-clause-value c =

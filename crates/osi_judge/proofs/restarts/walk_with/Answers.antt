@@ -1,3 +1,4 @@
+use Rattle.std.proofs.Common.{arith}
 use Rattle.osi_judge.proofs.Vocabulary.{◌≡◌, ◌+◌, ◌↔◌, Option, Some, subst, word, said_by, Asker, way_of, AskerIsAsked, StillOpen}
 use Rattle.osi_judge.proofs.Vocabulary.{the_remark}
 use Rattle.osi_judge.proofs.walked.a_walk_loses_no_explanation.{at_some}
@@ -24,12 +25,7 @@ takes-preserved c =
     }
 
 pub returns-in-None-clause-explains : goal.returns-in-None-clause-explains
-returns-in-None-clause-explains c = λ us later x h.
-    let m = the_remark (word (said_by c.args.asking.now.restart)) c.args.octets c.args.before in
-    both (c.takes.invariant.explains us later x h)
-    (subst (λ (r : Option Asker). StillOpen us later m c.takes.next.items (Some c.takes.asker)
-    ↔ StillOpen us later m c.step.new.next.items r)
-    c.in-None.is (c.in_ok-on.ensures.gives c.args.before c.takes-test.true us later x h))
+returns-in-None-clause-explains c = grind (arith, both)
 
 pub returns-in-None-clause-value : goal.returns-in-None-clause-value
 returns-in-None-clause-value c =

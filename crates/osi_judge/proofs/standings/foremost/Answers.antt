@@ -6,11 +6,7 @@ use Rattle.osi_judge.proofs.told.the_nearest_of_all_sessions_is_told.{one_more, 
 use Rattle.osi_judge.proofs.standings.foremost.Goals as goal
 
 pub members-init : goal.members-init
-members-init c =
-    record {
-      among = c.first_of-best.ensures.among;
-      value = grind arith;
-    }
+members-init c = grind arith
 
 pub members-preserved : goal.members-preserved
 members-preserved c =
@@ -25,6 +21,4 @@ members-preserved c =
 
 pub returns-clause-value : goal.returns-clause-value
 unfolding foremost
-returns-clause-value c =
-    sym (grind (arith, no_more))
-    ∙ c.members.invariant.value
+returns-clause-value c = grind (arith, no_more)

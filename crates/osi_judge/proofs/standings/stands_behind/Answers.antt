@@ -1,3 +1,4 @@
+use Rattle.std.proofs.Common.{arith}
 use Rattle.osi_judge.proofs.Vocabulary.{refl, subst, ℕ, ◌<◌, stays}
 use Rattle.osi_judge.proofs.told.how_a_session_comes_on.{comes_next, stands_stop}
 use Rattle.osi_judge.proofs.told.the_nearest_of_all_sessions_is_told.{goes_next}
@@ -7,14 +8,7 @@ pub takes-init : goal.takes-init
 takes-init c = record { comes = stays c.args.member; goes = refl }
 
 pub takes-preserved : goal.takes-preserved
-takes-preserved c = record {
-  comes = comes_next c.args.heard.now c.args.member c.takes.at c.in-Goes.next c.in_ok-next.field-0 c.in-Goes.is c.takes.invariant.comes
-      c.in_ok-next.ensures;
-  goes = goes_next c.args.heard.now c.takes.at c.in-Goes.next c.args.member c.in_ok-next.field-0
-      (subst (λ (n : ℕ). c.takes.at.taken < n) c.len.ensures c.takes-test.true) c.in-Goes.is
-      c.in_ok-next.ensures
-      c.takes.invariant.goes;
-}
+takes-preserved c = grind (arith, comes_next, goes_next)
 
 pub returns-in-Stops : goal.returns-in-Stops
 returns-in-Stops c =

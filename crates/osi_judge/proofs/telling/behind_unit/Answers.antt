@@ -5,10 +5,7 @@ use Rattle.osi_judge.proofs.kept.all_sessions_are_walked_from.{walked_first, wal
 use Rattle.osi_judge.proofs.telling.behind_unit.Goals as goal
 
 pub members-init : goal.members-init
-members-init c = record {
-  explains = grind (arith, first_so_far);
-  value = grind (arith, walked_first);
-}
+members-init c = grind (arith, first_so_far, walked_first)
 
 pub members-preserved : goal.members-preserved
 members-preserved c = record {

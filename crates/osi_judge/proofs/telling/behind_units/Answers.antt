@@ -1,3 +1,4 @@
+use Rattle.std.proofs.Common.{arith}
 use Rattle.osi_judge.proofs.Vocabulary.{◌≡◌, ◌∙◌, refl, ap, subst, Bool, ◌||◌, List, map, word, said_by_units, units_behind, behind_of}
 use Rattle.osi_judge.proofs.Vocabulary.{units_of, said_by, Member, after_word}
 use Rattle.osi_spdu.specs.Groups.{first_of}
@@ -49,11 +50,7 @@ returns-then-restarts-clause-explains c =
     (map word (units_behind c.units.behind)) c.units.invariant.explains (ap (map word) c.in_default.ensures.steps.0) c.if-restarts.true
 
 pub returns-then-restarts-clause-value : goal.returns-then-restarts-clause-value
-returns-then-restarts-clause-value c =
-    leads_restarted c.args.heard.now c.args.octets c.args.before c.args.members.now (said_by_units
-    (units_of c.args.group.now)) c.units.now.items
-    c.units.restarts (word (said_by c.first.result.now)) (map word (units_behind c.units.behind)) c.units.invariant.value
-    (ap (map word) c.in_default.ensures.steps.0) c.if-restarts.true
+returns-then-restarts-clause-value c = grind (arith, leads_restarted)
 
 pub returns-clause-explains : goal.returns-clause-explains
 returns-clause-explains c =

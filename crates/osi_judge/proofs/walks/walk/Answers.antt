@@ -5,16 +5,10 @@ use Rattle.osi_judge.proofs.kept.a_walk_to_a_restart_is_one_function.{on_ok}
 use Rattle.osi_judge.proofs.walks.walk.Goals as goal
 
 pub returns-then-is_restart_unit-clause-value : goal.returns-then-is_restart_unit-clause-value
-returns-then-is_restart_unit-clause-value c =
-    on_ok c.walk_to_restart.result c.args.next.now.items c.walk_to_restart.new.next.items _ _
-    (place_restart c.args.heard.now (word (said_by c.args.unit.now)) c.args.octets c.args.before c.args.member
-    (sym c.is_restart_unit.ensures ∙ c.if-is_restart_unit.true)) c.walk_to_restart.ensures.value
+returns-then-is_restart_unit-clause-value c = grind (arith, on_ok, place_restart)
 
 pub returns-then-not-is_steady-clause-value : goal.returns-then-not-is_steady-clause-value
-returns-then-not-is_steady-clause-value c =
-    on_ok c.walk_through.result c.args.next.now.items c.walk_through.new.next.items _ _
-    (place_other c.args.heard.now (word (said_by c.args.unit.now)) c.args.octets c.args.before c.args.member
-    (sym c.is_restart_unit.ensures ∙ c.if-is_restart_unit.false) (grind arith)) c.walk_through.ensures.value
+returns-then-not-is_steady-clause-value c = grind (arith, on_ok, place_other)
 
 pub returns-in-Some-clause-value : goal.returns-in-Some-clause-value
 returns-in-Some-clause-value c =

@@ -1,3 +1,4 @@
+use Rattle.std.proofs.Common.{arith}
 use Rattle.osi_judge.proofs.Vocabulary.{◌≡◌, ◌+◌, Option, None, subst, word, said_by, Walker, the_remark, Turns}
 use Rattle.osi_judge.proofs.walked.a_walk_loses_no_explanation.{at_some, walked_turn, walked_stop, walked_last}
 use Rattle.osi_judge.proofs.kept.a_walk_keeps_who_sends_on_the_way.{Steps, walk_on, walk_stops, walk_ends}
@@ -31,11 +32,7 @@ returns-in-None-clause-explains c = λ us later x h.
     (c.in_ok-on.ensures.turns c.args.before c.takes-test.true us later x h))
 
 pub returns-in-None-clause-value : goal.returns-in-None-clause-value
-returns-in-None-clause-value c =
-    let w = word (said_by c.args.unit.now) in
-    walk_stops c.args.heard.now w c.args.octets c.args.before c.takes.next.items c.turn.new.next.items _ c.takes.walker c.takes-test.true
-    (subst (λ (r : Option Walker). Steps c.args.heard.now w c.args.octets c.takes.next.items c.turn.new.next.items c.takes.walker r)
-    c.in-None.is c.in_ok-on.ensures.value) c.takes.invariant.value
+returns-in-None-clause-value c = grind (arith, walk_stops)
 
 pub returns-clause-explains : goal.returns-clause-explains
 returns-clause-explains c = λ us later x h.
@@ -45,6 +42,4 @@ returns-clause-explains c = λ us later x h.
     (c.takes.invariant.explains us later x h) (c.in_ok-_last.ensures.says us later) c.takes-test.false
 
 pub returns-clause-value : goal.returns-clause-value
-returns-clause-value c =
-    walk_ends c.args.heard.now (word (said_by c.args.unit.now)) c.args.octets c.args.before c.takes.next.items c.say_it.new.next.items _
-    c.takes.walker c.in_ok-_last._last c.takes-test.false c.in_ok-_last.ensures.value c.takes.invariant.value
+returns-clause-value c = grind (arith, walk_ends)

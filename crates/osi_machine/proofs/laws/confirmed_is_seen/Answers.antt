@@ -1,12 +1,6 @@
-use Rattle.osi_machine.specs.Core.{turned}
-use Rattle.osi_machine.proofs.Vocabulary.{Core, IsReached, OfBoth, ConfirmedIsSeen}
-use Rattle.osi_machine.proofs.invariant.each_step_keeps_one_side.{SessionLaws}
-use Rattle.osi_machine.proofs.each_step_keeps_both_sides.{turned_stands}
-use Rattle.osi_machine.proofs.promises.what_two_users_may_rely_on.{reached_stands, confirmed_is_seen}
+use Rattle.osi_machine.specs.Promises.{ConfirmedIsSeen}
+use Rattle.osi_machine.proofs.promises.what_two_users_may_rely_on.{of_both, confirmed_is_seen}
 use Rattle.osi_machine.proofs.laws.confirmed_is_seen.Goals as goal
 
-of_both : SessionLaws → (w : Core) → IsReached w → OfBoth ConfirmedIsSeen w
-of_both laws w r = let s = reached_stands laws w r in (confirmed_is_seen w s, confirmed_is_seen (turned w) (turned_stands w s))
-
 pub returns : goal.returns
-returns c = of_both (assumption)
+returns c = of_both (assumption) ConfirmedIsSeen confirmed_is_seen

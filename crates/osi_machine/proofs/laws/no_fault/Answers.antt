@@ -1,12 +1,6 @@
-use Rattle.osi_machine.specs.Core.{turned}
-use Rattle.osi_machine.proofs.Vocabulary.{Core, IsReached, OfBoth, TakesNoFault}
-use Rattle.osi_machine.proofs.invariant.each_step_keeps_one_side.{SessionLaws}
-use Rattle.osi_machine.proofs.each_step_keeps_both_sides.{turned_stands}
-use Rattle.osi_machine.proofs.promises.what_two_users_may_rely_on.{reached_stands, takes_no_fault}
+use Rattle.osi_machine.specs.Promises.{TakesNoFault}
+use Rattle.osi_machine.proofs.promises.what_two_users_may_rely_on.{of_both, takes_no_fault}
 use Rattle.osi_machine.proofs.laws.no_fault.Goals as goal
 
-of_both : SessionLaws → (w : Core) → IsReached w → OfBoth TakesNoFault w
-of_both laws w r = let s = reached_stands laws w r in (takes_no_fault w s, takes_no_fault (turned w) (turned_stands w s))
-
 pub returns : goal.returns
-returns c = of_both (assumption)
+returns c = of_both (assumption) TakesNoFault takes_no_fault

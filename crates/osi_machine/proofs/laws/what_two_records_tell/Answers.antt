@@ -1,7 +1,5 @@
-use Rattle.osi_machine.proofs.machine.no_fault_is_in_the_journal.{no_fault_shown}
-use Rattle.osi_machine.proofs.machine.what_is_taken_is_the_next_item.{items_taken}
-use Rattle.osi_machine.proofs.machine.a_loss_is_shown_by_an_end.{losses_have_an_end}
-use Rattle.osi_machine.proofs.machine.what_two_records_tell.{holders, no_faults, agreements, duplex_agreements, confirmations}
+use Rattle.osi_machine.proofs.machine.every_connection_of_a_run.{no_fault_shown, losses_have_an_end}
+use Rattle.osi_machine.proofs.machine.what_two_records_tell.{items_taken, holders, no_faults, agreements, duplex_agreements, confirmations}
 use Rattle.osi_machine.proofs.laws.what_two_records_tell.Goals as goal
 
 pub returns-clause-holder : goal.returns-clause-holder

@@ -1,6 +1,5 @@
 use Rattle.osi_pair.proofs.Vocabulary.{◌≡◌, ◌∙◌, ◌+◌, ◌-◌, ◌≤◌, inl, inr, map, ap, arith, vec_len, vec_capacity, vec_items, ltb-true}
-use Rattle.osi_pair.proofs.Vocabulary.{entry_by, Crossing, length, waits}
-use Rattle.osi_pair.proofs.carry.each_entry_is_counted.{entries_of}
+use Rattle.osi_pair.proofs.Vocabulary.{entry_by, Crossing, length, sym, length-map}
 use Rattle.osi_pair.proofs.carry.pieces_are_one_carry.{carries_then, not_refused, was_refused, held_up, refused_late}
 use Rattle.osi_pair.proofs.event.the_journal_only_grows.{pieces_add, no_shorter}
 use Rattle.osi_pair.proofs.carrying.carry.Goals as goal
@@ -44,19 +43,14 @@ returns-then-used-eq0-clause-full c is =
     elim c.then-used-eq0.branch [
       | then-used-eq0-via-then-used-eq0 w ↦
           (let none : c.carry_piece-used.result ≡ 0 = omega arith in
-          inr (record {
-            pieces = c.pieces.invariant.0.pieces;
-            between = record { from = c.pieces.from; to = c.pieces.to; journal = map entry_by c.pieces.journal.items };
-            each = c.pieces.invariant.0.each;
-            waiting = held_up (waits c.pieces.to.end.lines) (c.args.octets - c.pieces.carried) c.carry_piece-used.result
-                c.carry_piece-used.ensures.progress (omega (arith, less, none)) none;
-          }))
+          inr (held_up c.args.side c.args.octets c.pieces.carried c.carry_piece-used.result _ _ c.pieces.invariant.0
+          c.carry_piece-used.ensures.progress (omega (arith, less, none)) none))
       | then-used-eq0-via-else-used-eq0+then-carried-octets w ↦ absurd (omega (arith, less, w.if-carried-octets.true))
       | then-used-eq0-via-else-used-eq0+else-carried-octets+then-is_err w ↦
           (let len = w.reserve-else-carried-octets.ensures.len in
           let capacity_now = ap vec_capacity w.journal-is in
           let len_now = ap vec_len w.journal-is in
-          let counted = entries_of (vec_len c.then-used-eq0.journal) c.then-used-eq0.journal.items c.then-used-eq0.journal.ok.0 in
+          let counted = c.then-used-eq0.journal.ok.0 ∙ sym (length-map c.then-used-eq0.journal.items entry_by) in
           inl (grind (arith, was_refused, len, capacity_now, len_now, counted)))
     ]
 
@@ -66,13 +60,8 @@ returns-then-used-eq0-clause-cut c is =
     elim c.then-used-eq0.branch [
       | then-used-eq0-via-then-used-eq0 w ↦
           (let none : c.carry_piece-used.result ≡ 0 = omega arith in
-          inr (record {
-            pieces = c.pieces.invariant.0.pieces;
-            between = now;
-            each = c.pieces.invariant.0.each;
-            waiting = held_up (waits c.pieces.to.end.lines) (c.args.octets - c.pieces.carried) c.carry_piece-used.result
-                c.carry_piece-used.ensures.progress (grind (arith, ltb-true, none)) none;
-          }))
+          inr (held_up c.args.side c.args.octets c.pieces.carried c.carry_piece-used.result _ now c.pieces.invariant.0
+          c.carry_piece-used.ensures.progress (grind (arith, ltb-true, none)) none))
       | then-used-eq0-via-else-used-eq0+then-carried-octets w ↦ absurd (grind (arith, ltb-true, w.if-carried-octets.true))
       | then-used-eq0-via-else-used-eq0+else-carried-octets+then-is_err w ↦
           (let full = was_refused _ w.reserve-else-carried-octets.result w.is_err.result w.is_err.ensures.value w.if-is_err.true

@@ -27,22 +27,18 @@ units-preserved c =
     let u = said_by c.in-Some.unit in
     let others = units_behind c.next.new.self in
     let all = units_behind c.args.behind in
-    let n = counts_next (units_behind c.units.behind) c.units.len u others all c.in-Some.ensures.steps c.units.invariant.so_far in
+    let n = counts_next c.in-Some.ensures.steps c.units.invariant.so_far in
     let info = ap length c.information.ensures in
     let same : c.units.len + (c.unit_len-counted.result.whole + length c.information.result.now) ≡ c.units.len +
     (length (unit_octets u) + length u.information) = omega arith in
     record {
       so_far = subst (λ (k : ℕ). IsCountingUnits others k all) (sym same) (n.next (omega arith));
       small = omega (arith, n.small);
-      kept = keeping_next c.units.lengths c.keep_length.new.lengths c.units.count c.unit_len-counted.result.body
-          (units_behind c.units.behind) others all u c.in-Some.ensures.steps c.unit_len-counted.ensures.body c.keep_length.ensures
-          c.units.invariant.kept;
+      kept = keeping_next c.units.invariant.kept c.in-Some.ensures.steps c.unit_len-counted.ensures.body c.keep_length.ensures;
     }
 
 pub returns-clause-value : goal.returns-clause-value
-returns-clause-value c = counting_end (units_behind c.units.behind) c.units.len (units_behind c.args.behind) c.in_default.ensures.steps.0
-    c.units.invariant.so_far
+returns-clause-value c = counting_end c.in_default.ensures.steps.0 c.units.invariant.so_far
 
 pub returns-clause-lengths : goal.returns-clause-lengths
-returns-clause-lengths c = keeping_end c.units.lengths c.units.count (units_behind c.units.behind) (units_behind c.args.behind)
-    c.in_default.ensures.steps.0 c.units.invariant.kept
+returns-clause-lengths c = keeping_end c.units.invariant.kept c.in_default.ensures.steps.0

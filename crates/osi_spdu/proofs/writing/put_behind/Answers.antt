@@ -9,7 +9,8 @@ pub none-groups-requires : goal.none-groups-requires
 none-groups-requires c = grind (arith, category_of, next_two, behind_formed)
 
 pub kept_length-requires : goal.kept_length-requires
-kept_length-requires c = grind (arith, next_length)
+kept_length-requires c =
+    (next_length {lens = c.args.lengths.now} {count = 0} c.in-Some.ensures (record { lengths = c.requires.lengths })).within
 
 pub put_unit-requires-clause-small : goal.put_unit-requires-clause-small
 put_unit-requires-clause-small c = one_fits (units_behind c.args.behind.now) (said_by c.in-Some.unit.now) c.in-Some.ensures c.requires.small
@@ -18,7 +19,9 @@ pub put_unit-requires-clause-groups : goal.put_unit-requires-clause-groups
 put_unit-requires-clause-groups c = c.none-groups.ensures.value (said_by c.in-Some.unit.now).known
 
 pub put_unit-requires-clause-body : goal.put_unit-requires-clause-body
-put_unit-requires-clause-body c = grind (arith, next_length)
+put_unit-requires-clause-body c =
+    c.kept_length.ensures ∙ (next_length {lens = c.args.lengths.now} {count = 0} c.in-Some.ensures
+    (record { lengths = c.requires.lengths })).is
 
 pub put_unit-requires-clause-room : goal.put_unit-requires-clause-room
 put_unit-requires-clause-room c = grind (arith, one_len)

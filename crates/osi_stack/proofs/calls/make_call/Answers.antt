@@ -1,4 +1,4 @@
-use Rattle.std.proofs.Common.{arith, ◌≡◌, ◌∷◌, [], ◌++◌, Ok, Err, refl, sym, ap, subst}
+use Rattle.std.proofs.Common.{arith, ◌≡◌, ◌∷◌, [], ◌++◌, Ok, refl, sym, ap, subst}
 use Rattle.osi_stack.proofs.Vocabulary.{Call, CallError, Data, called_by, called, react, limit_of, answers}
 use Rattle.osi_stack.proofs.called.tsdus_that_are_handed_together.{one_error, hands_one}
 use Rattle.osi_stack.proofs.called.what_a_call_sends.{call_handed, call_allowed, call_refused}

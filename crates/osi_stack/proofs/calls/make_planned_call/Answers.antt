@@ -1,4 +1,4 @@
-use Rattle.osi_stack.proofs.Vocabulary.{called_by, limit_of, CallError, Ok, Err}
+use Rattle.osi_stack.proofs.Vocabulary.{called_by, limit_of, CallError, Ok, Err, arith}
 use Rattle.osi_stack.proofs.called.what_a_call_sends.{call_handed, call_allowed, call_refused}
 use Rattle.osi_stack.proofs.calls.make_planned_call.Goals as goal
 
@@ -15,7 +15,4 @@ returns-clause-carrier c =
     c.in_ok-plan.ensures.accepted c.in_ok-plan.ensures.sent c.sent.ensures c.in-Ok.ensures.ok
 
 pub returns-clause-allowed : goal.returns-clause-allowed
-returns-clause-allowed c =
-    call_allowed {A = Unit {0}} {E = CallError} (Ok tt) c.args.session.now (called_by c.args.request) c.in_ok-plan.plan.sent
-    c.sent.result.now c.args.reference (limit_of c.args.session.now.state) c.args.carrier.now.state
-    c.in_ok-plan.ensures.accepted c.in_ok-plan.ensures.sent c.sent.ensures c.in-Ok.ensures.allowed
+returns-clause-allowed c = grind (arith, call_allowed)

@@ -1,9 +1,8 @@
 use Rattle.osi_stack.proofs.Vocabulary.{arith, PacketLaws}
-use Rattle.osi_stack.proofs.in_step.what_is_seen_is_the_same.{look_apart}
 use Rattle.osi_stack.proofs.in_step.a_request_whatever_is_pending.{asked_alike}
 use Rattle.osi_stack.proofs.in_step.a_break_while_indications_are_pending.{breaks_alike}
 use Rattle.osi_stack.proofs.carried.open_connections_stay_open.{SessionLaws}
-use Rattle.osi_stack.proofs.in_step.what_a_look_finds.{looks_in_live, looks_broken, looks_behind}
+use Rattle.osi_stack.proofs.in_step.what_a_look_finds.{looks_in_live, looks_broken, looks_behind, look_apart}
 use Rattle.osi_stack.proofs.in_step.two_runs_reach_the_same_state.{runs_alike}
 use Rattle.osi_stack.proofs.each_session.what_the_tables_say.{session_laws, unopened}
 use Rattle.osi_stack.proofs.in_step.rounds_with_requests_at_any_time.{asking_alike, whole_asking_alike}

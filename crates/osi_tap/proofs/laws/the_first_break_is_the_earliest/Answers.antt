@@ -1,3 +1,4 @@
+use Rattle.std.proofs.Common.{arith}
 use Rattle.osi_tap.specs.Tapping.{comes_to}
 use Rattle.osi_tap.proofs.a_capture_has_one_first_break.{first_held, nobody_held, still_held, one_first}
 use Rattle.osi_tap.proofs.a_tap_holds_what_passed.{fed_holds}
@@ -15,8 +16,7 @@ pub returns-clause-transport : goal.returns-clause-transport
 returns-clause-transport c capture t f passed judged e layer = first_mark capture t f (fed_holds capture t passed) judged e layer
 
 pub returns-clause-session : goal.returns-clause-session
-returns-clause-session c capture t f passed judged e layer =
-    still_held t (comes_to capture) f (fed_holds capture t passed) judged e layer
+returns-clause-session c capture t f passed judged e layer = grind (arith, still_held, fed_holds)
 
 pub returns-clause-one : goal.returns-clause-one
 returns-clause-one c = one_first

@@ -12,5 +12,4 @@ returns-then-end-clause-ok c =
     (watched c.end_part.new.self.side) c.args.octets.now c.requires c.since_first-since.ensures e tells h))
 
 pub returns-clause-ok : goal.returns-clause-ok
-returns-clause-ok c =
-    on_ok c.add_part.result c.add_part.ensures.ok (grind (arith, part_added))
+returns-clause-ok c = grind (arith, on_ok, part_added)

@@ -9,8 +9,7 @@ returns-in-Ok-clause-holds c s t a b h =
     flipped (c.hand_over-in-Ok.ensures.holds t s b a (flipped (c.hand_over.ensures.holds s t a b h)))
 
 pub returns-in-Ok-clause-own : goal.returns-in-Ok-clause-own
-returns-in-Ok-clause-own c =
-    on_ok c.hand_over-in-Ok.result c.hand_over-in-Ok.ensures.heard (grind arith)
+returns-in-Ok-clause-own c = grind (arith, on_ok)
 
 pub returns-in-Ok-clause-free : goal.returns-in-Ok-clause-free
 returns-in-Ok-clause-free c own beside = c.hand_over-in-Ok.ensures.free (ap is_unheard c.hand_over.ensures.stage ∙ beside)

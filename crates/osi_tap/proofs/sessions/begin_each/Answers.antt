@@ -9,6 +9,4 @@ loop-connection-preserved c js h =
     within (c.loop-connection.invariant js h) c.begin.ensures
 
 pub returns : goal.returns
-returns c js h =
-    let f = packet_begins c.args.direction in
-    grind (arith, take-append_seam, begun_all)
+returns c js h = grind (arith, take-append_seam, begun_all)

@@ -1,5 +1,5 @@
 use Rattle.std.proofs.Common.{arith}
-use Rattle.osi_tap.proofs.Vocabulary.{subst, sym, length-set, Connection, HoldsJoined, IsHeard}
+use Rattle.osi_tap.proofs.Vocabulary.{subst, sym, length-set, Connection, HoldsJoined}
 use Rattle.osi_tap.proofs.what_holds_of_a_result.{on_ok, now_so}
 use Rattle.osi_tap.proofs.each_connection_is_kept.{one_kept}
 use Rattle.osi_tap.proofs.each_session_has_heard_all.{front_heard, heard_at, still_heard}
@@ -14,11 +14,7 @@ pub returns-clause-count : goal.returns-clause-count
 returns-clause-count c = length-set c.args.live.now.items c.args.place c.hand_over.new.self
 
 pub returns-clause-heard : goal.returns-clause-heard
-returns-clause-heard c =
-    on_ok c.hand_over.result c.hand_over.ensures.heard (grind (arith, front_heard))
+returns-clause-heard c = grind (arith, on_ok, front_heard)
 
 pub returns-clause-free : goal.returns-clause-free
-returns-clause-free c h =
-    let one = subst IsHeard (sym c.index_mut.ensures.value)
-    (heard_at c.args.live.now.items c.args.place c.index_mut.result.now c.requires h) in
-    grind (arith, still_heard, now_so)
+returns-clause-free c h = grind (arith, heard_at, still_heard, now_so)

@@ -10,30 +10,21 @@ packets-init c = grind (arith, read_first, eqb-false)
 
 pub returns-in-Over-clause-feeds : goal.returns-in-Over-clause-feeds
 returns-in-Over-clause-feeds c =
-    let goes : Goes c.args.self.now c.args.piece.now (length c.args.piece.now) c.read_packet.new.self = elim c.in-Over.is [
-      | inl over ↦ read_over c.args.self.now c.args.piece.now c.packets.self c.packets.rest.now c.read_packet.new.self c.packets.invariant
-          (subst (λ (f : Fetched). Fetches c.args.lends c.packets.self c.packets.rest.now f c.read_packet.new.lent
-          c.read_packet.new.self) over c.read_packet.ensures)
-      | inr part ↦ read_part c.args.self.now c.args.piece.now c.packets.self c.packets.rest.now c.read_packet.new.self c.packets.invariant
-          (subst (λ (f : Fetched). Fetches c.args.lends c.packets.self c.packets.rest.now f c.read_packet.new.lent
-          c.read_packet.new.self) part c.read_packet.ensures)
+    let fetched = λ (f : Fetched). Fetches c.args.lends c.packets.self c.packets.rest.now f c.read_packet.new.lent c.read_packet.new.self in
+    let goes = elim c.in-Over.is as (λ _. Goes c.args.self.now c.args.piece.now (length c.args.piece.now) c.read_packet.new.self) [
+      | inl over ↦ read_over _ _ _ _ c.packets.invariant _ (subst fetched over c.read_packet.ensures)
+      | inr part ↦ read_part _ _ _ _ c.packets.invariant _ (subst fetched part c.read_packet.ensures)
     ] in
-    nothing_lent c.args.self.now c.args.piece.now c.fed-in-Over.result c.read_packet.new.self c.fed-in-Over.ensures.none
-    (fed_goes c.args.self.now c.args.piece.now c.packets.self c.packets.rest.now (length c.args.piece.now) c.fed-in-Over.result.fed
-    c.read_packet.new.self c.packets.invariant goes (omega arith)
-    c.fed-in-Over.ensures.used c.fed-in-Over.ensures.whole)
+    nothing_lent _ _ c.fed-in-Over.result _ c.fed-in-Over.ensures.none
+    (fed_goes _ _ _ _ c.packets.invariant _ _ _ goes (omega arith) c.fed-in-Over.ensures.used c.fed-in-Over.ensures.whole)
 
 pub returns-then-is_spoilt-clause-feeds : goal.returns-then-is_spoilt-clause-feeds
 returns-then-is_spoilt-clause-feeds c =
     let spoilt = ap (λ (x : Carrying). is_spoilt x.state.ended) (sym c.self-in-packets.view_is) ∙
     (sym c.is_spoilt.ensures ∙ c.if-is_spoilt.true) in
-    nothing_lent c.args.self.now c.args.piece.now c.fed-then-is_spoilt.result c.read_packet.new.self c.fed-then-is_spoilt.ensures.none
-    (fed_goes c.args.self.now c.args.piece.now c.packets.self c.packets.rest.now (length c.args.piece.now) c.fed-then-is_spoilt.result.fed
-    c.read_packet.new.self c.packets.invariant
-    (read_spoilt c.args.self.now c.args.piece.now c.packets.self c.packets.rest.now c.in-Packet.used c.read_packet.new.self
-    c.packets.invariant
-    c.in-Packet.ensures spoilt) (omega arith)
-    c.fed-then-is_spoilt.ensures.used c.fed-then-is_spoilt.ensures.whole)
+    let goes = read_spoilt _ _ _ _ c.packets.invariant _ _ c.in-Packet.ensures spoilt in
+    nothing_lent _ _ c.fed-then-is_spoilt.result _ c.fed-then-is_spoilt.ensures.none
+    (fed_goes _ _ _ _ c.packets.invariant _ _ _ goes (omega arith) c.fed-then-is_spoilt.ensures.used c.fed-then-is_spoilt.ensures.whole)
 
 pub returns-then-stops-clause-feeds : goal.returns-then-stops-clause-feeds
 returns-then-stops-clause-feeds c =
@@ -41,19 +32,13 @@ returns-then-stops-clause-feeds c =
     (sym c.is_spoilt.ensures ∙ c.if-is_spoilt.false) in
     let stopped = ap (λ (x : Carrying). stops x.state) (sym c.self-in-packets.view_is) ∙ (sym c.stops.ensures ∙ c.if-stops.true) in
     let goes = subst (λ (l : List ℕ). Goes c.args.self.now c.args.piece.now (length c.args.piece.now - length l) c.read_packet.new.self)
-    (sym c.split_at.ensures.back)
-    (read_stops c.args.self.now c.args.piece.now c.packets.self c.packets.rest.now c.in-Packet.used c.read_packet.new.self
-    c.packets.invariant
-    c.in-Packet.ensures stopped sound) in
-    nothing_lent c.args.self.now c.args.piece.now c.fed-then-stops.result c.read_packet.new.self c.fed-then-stops.ensures.none
-    (fed_goes c.args.self.now c.args.piece.now c.packets.self c.packets.rest.now (length c.args.piece.now - length c.split_at.result.1.now)
-    c.fed-then-stops.result.fed c.read_packet.new.self c.packets.invariant goes (omega arith)
-    c.fed-then-stops.ensures.used c.fed-then-stops.ensures.whole)
+    (sym c.split_at.ensures.back) (read_stops _ _ _ _ c.packets.invariant _ _ c.in-Packet.ensures stopped sound) in
+    nothing_lent _ _ c.fed-then-stops.result _ c.fed-then-stops.ensures.none
+    (fed_goes _ _ _ _ c.packets.invariant _ _ _ goes (omega arith) c.fed-then-stops.ensures.used c.fed-then-stops.ensures.whole)
 
 pub returns-in-Lent-clause-feeds : goal.returns-in-Lent-clause-feeds
 returns-in-Lent-clause-feeds c =
-    lent_feeds c.args.lends c.args.self.now c.args.piece.now c.packets.self c.packets.rest.now c.in-Lent.used c.read_packet.new.lent
-    c.read_packet.new.self _ c.packets.invariant c.in-Lent.ensures refl refl
+    lent_feeds _ _ _ _ _ _ c.read_packet.new.lent _ _ c.packets.invariant c.in-Lent.ensures refl refl
 
 pub packets-preserved : goal.packets-preserved
 packets-preserved c = grind (arith, read_next)

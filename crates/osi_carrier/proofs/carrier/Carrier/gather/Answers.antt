@@ -8,8 +8,7 @@ returns-in-Err c = λ lends lent.
     let new = the_view (record c.self.inside { switch = c.end_for.new.self; cutter = c.new.result }) in
     subst (λ (x : Carrying). EndsOver x c.args.octets.now new) c.self.view_is
     (ended_over c.a_prefix_of_a_packet.ensures.proper (the_view c.self.inside) new c.args.octets.now c.in-Err.fault c.feed.new.self
-    c.self.invariant.partial c.requires.some
-    (subst (λ (x : Carrying). x.held.octets ≡ [] → IsNoFront c.args.octets.now) (sym c.self.view_is) c.requires.parted)
+    c.self.invariant.partial c.requires.some (rw (← c.self.view_is) at c.requires.parted)
     (c.in-Err.ensures.taken c.self.invariant.fault c.self.invariant.partial)
     (λ f is. same_fault f c.in-Err.fault (c.in-Err.ensures.refused c.self.invariant.fault c.self.invariant.partial f is)) c.end_for.ensures
     (ap (λ (h : Held). h.octets) c.new.ensures.value))

@@ -10,14 +10,11 @@ returns-then-take_packet c =
     let new = the_view (record c.self.inside { switch = c.take_packet.new.self; cutter = c.pass.new.self }) in
     let lent = c.take_packet.new.lent in
     let is = c.if-take_packet.true in
-    lent_packet c.args.lends c.args.self.now c.args.octets.now (4 + length c.in-Some.packet.now) lent new c.requires
-    (subst (λ (x : Carrying). Lends c.args.lends x.state new.state) c.self.view_is (c.take_packet.ensures.lent is))
-    (subst (λ (x : Carrying). PacketActs x c.args.octets.now (4 + length c.in-Some.packet.now) (carrying_lent (Some lent) new))
-    c.self.view_is
-    (passed_packet c.a_prefix_of_a_packet.ensures.nothing (the_view c.self.inside) (carrying_lent (Some lent) new) c.args.octets.now
-    c.in-Some.packet.now c.in-Some.ensures.passes
-    c.in-Some.ensures.sound
-    (subst (λ b. Acts c.self.inside.switch c.in-Some.packet.now (with_lent (lent_if b lent) new.state)) is c.take_packet.ensures.acts)))
+    let lends = c.take_packet.ensures.lent is in
+    let acts = passed_packet c.a_prefix_of_a_packet.ensures.nothing (the_view c.self.inside) (carrying_lent (Some lent) new)
+    c.args.octets.now c.in-Some.packet.now c.in-Some.ensures.passes c.in-Some.ensures.sound
+    (subst (λ b. Acts c.self.inside.switch c.in-Some.packet.now (with_lent (lent_if b lent) new.state)) is c.take_packet.ensures.acts) in
+    grind (arith, lent_packet c.args.lends c.args.self.now c.args.octets.now (4 + length c.in-Some.packet.now) lent new c.requires)
 
 pub returns : goal.returns
 returns c = grind (arith, passed_packet)

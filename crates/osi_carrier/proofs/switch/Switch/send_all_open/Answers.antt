@@ -1,4 +1,4 @@
-use Rattle.osi_carrier.proofs.Vocabulary.{eqb-true, arith, true}
+use Rattle.osi_carrier.proofs.Vocabulary.{eqb-true, arith}
 use Rattle.osi_carrier.proofs.written.tsdus_that_are_sent_together.{error_of_items, sends_none, no_items}
 use Rattle.osi_carrier.proofs.switch.Switch.send_all_open.Goals as goal
 

@@ -12,7 +12,6 @@ returns-in-Ok-clause-acts c = λ yes.
 pub returns-in-Err-clause-acts : goal.returns-in-Err-clause-acts
 returns-in-Err-clause-acts c = λ _.
     with_peer (peer_in (value_at c.args.reference c.args.self.now.live)) c.in-Err.ensures.refused
-    (λ peer is. one_starved c.args.self.now c.hand_to_link.new.self c.run_out.new.self (value c.args.unit.now) c.requires.lasts
-    c.in-Err.ensures.err
+    (λ peer is. one_starved _ c.hand_to_link.new.self _ _ c.requires.lasts c.in-Err.ensures.err
     (subst (λ (t : State). grows c.args.self.now t ≡ true) (sym (c.requires.acts peer is)) (c.in-Err.ensures.needs peer is))
     c.run_out.ensures)

@@ -3,6 +3,4 @@ use Rattle.osi_judge.proofs.outlined.equal_tsdus_in_a_row_are_kept_once.{kept_on
 use Rattle.osi_judge.proofs.heard.Heard.kept.Goals as goal
 
 pub returns : goal.returns
-returns c =
-    let runs = c.self.inside.runs in
-    grind (arith, kept_once)
+returns c = grind (arith, kept_once)

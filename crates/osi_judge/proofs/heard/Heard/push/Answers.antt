@@ -1,22 +1,13 @@
 use Rattle.std.proofs.Common.{arith}
-use Rattle.osi_judge.proofs.Vocabulary.{◌∙◌, refl, sym, subst, ◌≡◌, ◌<◌, ℕ, true, false, List, length, Run, is_same, last_in}
+use Rattle.osi_judge.proofs.Vocabulary.{◌∙◌, refl, sym, subst, ◌≡◌, ◌<◌, ℕ, false, List, length, Run, is_same, last_in}
 use Rattle.osi_judge.proofs.outlined.equal_tsdus_in_a_row_are_kept_once.{a_run_more, added_in, last_goes_on, once_more}
 use Rattle.osi_judge.proofs.heard.Heard.push.Goals as goal
 
 pub invariant_of-self : goal.invariant_of-self
-invariant_of-self c =
-    let runs = c.self.inside.runs.items in
-    let some = subst (λ (r : List Run). 0 < length r) c.deref.ensures.value (c.ends_with.ensures.some c.if-ends_with.true) in
-    (last_goes_on 0 runs c.self.inside.count c.self.invariant.0 some, c.self.invariant.1)
+invariant_of-self c = grind (arith, last_goes_on)
 
 pub returns-then-ends_with-clause-ok : goal.returns-then-ends_with-clause-ok
-returns-then-ends_with-clause-ok c =
-    let runs = c.self.inside.runs.items in
-    let some = c.ends_with.ensures.some c.if-ends_with.true in
-    let same = sym (c.ends_with.ensures.same some) ∙ c.if-ends_with.true in
-    once_more runs c.self.inside.count c.args.self.now c.args.tsdu c.self.invariant.0
-    (subst (λ (r : List Run). 0 < length r) c.deref.ensures.value some)
-    (grind arith) c.self.view_is
+returns-then-ends_with-clause-ok c = grind (arith, once_more)
 
 pub invariant_of-self-2 : goal.invariant_of-self-2
 invariant_of-self-2 c =

@@ -3,18 +3,13 @@ use Rattle.osi_judge.proofs.outlined.equal_tsdus_in_a_row_are_kept_once.{counted
 use Rattle.osi_judge.proofs.heard.Heard.take_back.Goals as goal
 
 pub overflow_sub-count : goal.overflow_sub-count
-overflow_sub-count c =
-    grind (arith, counted_in, c.requires)
+overflow_sub-count c = grind (arith, counted_in)
 
 pub invariant_of-self : goal.invariant_of-self
-invariant_of-self c =
-    let runs = c.self.inside.runs.items in
-    let n = counted_in runs c.self.inside.count c.args.self.now c.self.invariant.0 c.self.view_is in grind (arith, stays_shorter)
+invariant_of-self c = grind (arith, counted_in, stays_shorter)
 
 pub returns-then-not-last_begins_at : goal.returns-then-not-last_begins_at
-returns-then-not-last_begins_at c =
-    let runs = c.self.inside.runs.items in
-    grind (arith, counted_in, one_fewer)
+returns-then-not-last_begins_at c = grind (arith, counted_in, one_fewer)
 
 pub invariant_of-self-2 : goal.invariant_of-self-2
 invariant_of-self-2 c =

@@ -1,12 +1,10 @@
 use Rattle.std.proofs.Common.{arith}
-use Rattle.osi_judge.proofs.Vocabulary.{◌∙◌, ap, reading_of, judged}
+use Rattle.osi_judge.proofs.Vocabulary.{judged}
 use Rattle.osi_judge.proofs.captured.what_was_found_of_a_capture.{is_read, with_rest}
 use Rattle.osi_judge.proofs.judge.Judge.reading.Goals as goal
 
 pub returns-clause-value : goal.returns-clause-value
-returns-clause-value c =
-    let half = c.half-half.result.now in
-    ap (with_rest half.line.packets half.octets) c.saturating_sub.ensures ∙ ap reading_of c.half-half.ensures
+returns-clause-value c = grind (arith, with_rest)
 
 pub returns-clause-read : goal.returns-clause-read
 returns-clause-read c = λ capture t.

@@ -1,4 +1,4 @@
-use Rattle.osi_session.proofs.Vocabulary.{most_whole, option_and_then, unit_in, ◌∙◌, sym}
+use Rattle.osi_session.proofs.Vocabulary.{most_whole, ◌∙◌, sym}
 use Rattle.osi_session.proofs.tables.points_that_are_expected.{advance_leaves, advance_sound}
 use Rattle.osi_session.proofs.sessions.Session.advance.Goals as goal
 
@@ -15,7 +15,5 @@ invariant_of-self c = (
 
 pub returns : goal.returns
 returns c =
-    let a = advance_leaves c.args.self.now c.self.inside.state (option_and_then unit_in c.self.inside.waiting) c.self.inside.joined
-    c.args.point c.in-Some.numbers
-    c.self.view_is c.self.invariant.3 (sym c.in-Some.is ∙ c.numbers_after.ensures) in
+    let a = advance_leaves c.args.point c.in-Some.numbers c.self.view_is c.self.invariant.3 (sym c.in-Some.is ∙ c.numbers_after.ensures) in
     record { done = sym a.0; state = λ k. a.1; rests = λ k. absurd (cc) }

@@ -1,4 +1,4 @@
-use Rattle.osi_session.proofs.Vocabulary.{DT, Data, leb-true, arith, size_of}
+use Rattle.osi_session.proofs.Vocabulary.{Data, leb-true, arith}
 use Rattle.osi_session.proofs.tables.what_an_accepted_call_does.{accepts, rests_by}
 use Rattle.osi_session.proofs.tables.what_an_accepted_call_has_passed.{passed}
 use Rattle.osi_session.proofs.tables.what_the_table_of_calls_answers.{allowed_named}
@@ -9,9 +9,7 @@ lent_within-requires c = grind (arith, leb-true, passed)
 
 pub returns-in-Ok : goal.returns-in-Ok
 returns-in-Ok c =
-    let user = c.args.user_data.now in
-    let a = accepts (size_of c.size_limit.result) _ c.args.self.now (Data user) (record { next = c.self.inside.state; sent = DT user })
-    c.size_limit.ensures c.self.view_is c.self.invariant.0 tt c.in-Ok.ensures.ok in
+    let a = accepts c.in-Ok.ensures.ok c.self.view_is c.size_limit.ensures c.self.invariant.0 tt in
     grind (arith, rests_by)
 
 pub returns-in-Err-clause-named : goal.returns-in-Err-clause-named

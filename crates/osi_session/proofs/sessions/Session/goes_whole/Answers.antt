@@ -1,4 +1,4 @@
-use Rattle.osi_session.proofs.Vocabulary.{leb-true, allowed, most_whole, subst, ◌<◌, ◌≤◌, ℕ, true, length, arith}
+use Rattle.osi_session.proofs.Vocabulary.{leb-true, allowed, most_whole, subst, ◌<◌, ◌≤◌, ℕ, length, arith}
 use Rattle.osi_session.proofs.sent.data_with_room_in_one_tsdu.{goes}
 use Rattle.osi_session.proofs.sessions.Session.goes_whole.Goals as goal
 

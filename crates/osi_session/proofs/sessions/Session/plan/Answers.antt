@@ -1,4 +1,4 @@
-use Rattle.osi_session.proofs.Vocabulary.{Listener, tsdus_of, called_by, step_of, ◌∙◌, ℕ, ap, sym, refl, size_of}
+use Rattle.osi_session.proofs.Vocabulary.{Listener, tsdus_of, called_by, step_of, ◌∙◌, ℕ, ap, refl}
 use Rattle.osi_session.proofs.tables.what_the_table_of_calls_answers.{sent_short}
 use Rattle.osi_session.proofs.moves.the_move_of_each_input.{plan_of}
 use Rattle.osi_session.proofs.runs.the_invariant_in_memory.{request_small, request_sound, request_begun}
@@ -12,10 +12,9 @@ within-requires c = sent_short c.self.inside.state (called_by c.args.request) (s
 pub returns-in-Ok : goal.returns-in-Ok
 returns-in-Ok c =
     let x = step_of c.in_ok-step.step in
-    let a = accepts (size_of c.size_limit.result) _ c.args.self.now (called_by c.args.request) x c.size_limit.ensures c.self.view_is
-    c.self.invariant.0 (request_small c.args.request) c.in_ok-step.ensures in
+    let a = accepts c.in_ok-step.ensures c.self.view_is c.size_limit.ensures c.self.invariant.0 (request_small c.args.request) in
     record {
-      state = sym a.leaves;
+      state = a.leaves;
       sent = c.in-Ok.ensures ∙ a.sends;
       planned = plan_of (called_by c.args.request)
           (record { was = c.self.inside.state; next = c.in_ok-step.step.next; sent = c.in-Ok.sent }) x c.in_ok-step.ensures refl
@@ -28,8 +27,7 @@ returns-in-Ok c =
 
 pub returns-in-Err-clause-refused : goal.returns-in-Err-clause-refused
 returns-in-Err-clause-refused c =
-    (accepts (size_of c.size_limit.result) _ c.args.self.now (called_by c.args.request) (step_of c.in_ok-step.step) c.size_limit.ensures
-    c.self.view_is c.self.invariant.0 (request_small c.args.request) c.in_ok-step.ensures).passes
+    (accepts c.in_ok-step.ensures c.self.view_is c.size_limit.ensures c.self.invariant.0 (request_small c.args.request)).passes
 
 pub invariant_of-result : goal.invariant_of-result
 invariant_of-result c = (

@@ -1,5 +1,5 @@
-use Rattle.osi_session.proofs.Vocabulary.{PlansPoint, allowed, minor_confirmed, option_and_then, MIA, words_sent, user_data_of, Step, Call}
-use Rattle.osi_session.proofs.Vocabulary.{MinorConfirm, unit_in, ◌≡◌, refl, subst, sym, true, ℕ, Ok, PlannedPoint}
+use Rattle.osi_session.proofs.Vocabulary.{PlansPoint, allowed, minor_confirmed, MIA, words_sent, user_data_of, Step, MinorConfirm, ◌≡◌}
+use Rattle.osi_session.proofs.Vocabulary.{refl, subst, sym, true, ℕ, Ok, PlannedPoint}
 use Rattle.osi_session.specs.declared.plans.SentPoint.TheVariants as point
 use Rattle.osi_session.proofs.tables.what_the_table_of_calls_answers.{sent_short}
 use Rattle.osi_session.proofs.tables.points_that_are_expected.{point_passes, point_planned}
@@ -7,14 +7,7 @@ use Rattle.osi_session.proofs.sessions.Session.plan_minor_confirm.Goals as goal
 
 pub minor_ack-requires : goal.minor_ack-requires
 unfolding user_data_of
-minor_ack-requires c =
-    let k : Call = MinorConfirm c.args.number c.args.user_data.now in
-    let x : Step =
-    record {
-      next = record c.self.inside.state { numbers = minor_confirmed c.args.number c.self.inside.state.numbers };
-      sent = MIA c.in_ok-serial.serial.number c.args.user_data.now;
-    } in
-    sent_short c.self.inside.state k x c.in_ok-serial.ensures.ok
+minor_ack-requires c = sent_short _ _ _ c.in_ok-serial.ensures.ok
 
 pub returns-in-Ok-clause-planned : goal.returns-in-Ok-clause-planned
 unfolding words_sent
@@ -27,19 +20,9 @@ returns-in-Ok-clause-planned c =
     } in
     let same : c.in_ok-serial.serial.number ≡ c.args.number = c.in_ok-serial.ensures.number in
     subst (λ (n : ℕ). PlansPoint c.args.self.now (MinorConfirm n c.args.user_data.now) p) same
-    (point_planned c.args.self.now c.self.inside.state (option_and_then unit_in c.self.inside.waiting) c.self.inside.joined p true
-    c.args.user_data.now x
-    c.self.view_is refl
+    (point_planned p true c.args.user_data.now c.self.view_is refl
     (subst (λ (n : ℕ). allowed c.self.inside.state (MinorConfirm n c.args.user_data.now) ≡ Ok x) (sym same) c.in_ok-serial.ensures.ok)
     c.self.invariant.0 c.in-Ok.ensures)
 
 pub returns-in-Err-clause-refused : goal.returns-in-Err-clause-refused
-returns-in-Err-clause-refused c =
-    let k : Call = MinorConfirm c.args.number c.args.user_data.now in
-    let x : Step =
-    record {
-      next = record c.self.inside.state { numbers = minor_confirmed c.args.number c.self.inside.state.numbers };
-      sent = MIA c.in_ok-serial.serial.number c.args.user_data.now;
-    } in
-    point_passes c.args.self.now c.self.inside.state (option_and_then unit_in c.self.inside.waiting) c.self.inside.joined k x c.self.view_is
-    c.in_ok-serial.ensures.ok
+returns-in-Err-clause-refused c = point_passes _ c.self.view_is c.in_ok-serial.ensures.ok

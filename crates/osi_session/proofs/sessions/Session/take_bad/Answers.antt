@@ -1,5 +1,4 @@
-use Rattle.std.proofs.Common.{arith, ◌∙◌, ap, Err}
-use Rattle.osi_session.proofs.Vocabulary.{option_and_then, Listener, taker_of, heard, respond_came, respond_fault, hearing_of_all, unit_in}
+use Rattle.osi_session.proofs.Vocabulary.{Listener, taker_of, heard, respond_came, respond_fault, hearing_of_all, arith, ◌∙◌, ap, Err}
 use Rattle.osi_session.proofs.moves.the_move_of_each_input.{of_fault}
 use Rattle.osi_session.proofs.moves.the_moves_in_memory.{Holds, holds, leaves_fault, leaves_as, of_heard, takes_as}
 use Rattle.osi_session.proofs.sessions.Session.take_bad.Goals as goal
@@ -11,8 +10,7 @@ settle-requires c =
     c.of.ensures.joined
     (c.of-heard.ensures l.joined ∙
     ap (heard l.joined) (c.judge_unread.ensures ∙ ap (λ (s : Listener). respond_fault s.state c.args.fault) c.self.view_is)) in
-    let h : Holds l = holds l c.self.inside.state (option_and_then unit_in c.self.inside.waiting) c.self.inside.joined c.self.view_is
-    c.self.invariant.0 c.self.invariant.3 c.self.invariant.4 in
+    let h : Holds l = holds c.self.view_is c.self.invariant.0 c.self.invariant.3 c.self.invariant.4 in
     let x = leaves_as l (hearing_of_all l.joined c.of.result) (respond_came (taker_of l) (Err c.args.fault)) e
     (leaves_fault l c.args.fault h) in
     record { sound = x.sound; begun = x.begun; ordered = (λ n. c.of.ensures.ordered); kept = x.phase; few = x.few }

@@ -1,5 +1,4 @@
-use Rattle.osi_spdu.proofs.Vocabulary.{Accept, made, accept_params, ◌∙◌, ap, Option}
-use Rattle.osi_spdu.specs.declared.fields.TsduMaximumSize.{TsduMaximumSize}
+use Rattle.osi_spdu.proofs.Vocabulary.{Accept, made, accept_params, ◌∙◌, ap, Option, TsduMaximumSize}
 use Rattle.osi_spdu.proofs.units.Spdu.accept.Goals as goal
 
 pub returns-clause-units : goal.returns-clause-units

@@ -1,5 +1,4 @@
-use Rattle.osi_spdu.proofs.Vocabulary.{Connect, made, connect_params, ◌∙◌, ap, Option}
-use Rattle.osi_spdu.specs.declared.fields.TsduMaximumSize.{TsduMaximumSize}
+use Rattle.osi_spdu.proofs.Vocabulary.{Connect, made, connect_params, ◌∙◌, ap, Option, TsduMaximumSize}
 use Rattle.osi_spdu.proofs.units.Spdu.connect.Goals as goal
 
 pub returns-clause-units : goal.returns-clause-units

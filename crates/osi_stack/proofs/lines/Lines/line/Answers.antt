@@ -1,4 +1,4 @@
-use Rattle.osi_stack.proofs.Vocabulary.{here_is, place_of, arith, ◌≡◌, Some, None, sym, ◌∙◌}
+use Rattle.osi_stack.proofs.Vocabulary.{here_is, place_of, arith, ◌≡◌, Some, None, sym}
 use Rattle.osi_stack.proofs.each_line.the_line_of_a_reference.{found, nowhere}
 use Rattle.osi_stack.proofs.lines.Lines.line.Goals as goal
 
@@ -9,8 +9,5 @@ returns-in-None c =
 
 pub returns-in-Some : goal.returns-in-Some
 returns-in-Some c =
-    let some : place_of c.args.reference c.args.self.now ≡ Some c.in-Some.place =
-    found c.args.reference c.self.inside.rises c.place_in.result c.as_slice.result.now c.self.inside.rows.items c.args.self.now
-    c.as_slice.ensures.value c.self.view_is c.self.invariant.1 c.place_in.ensures
-    ∙ c.in-Some.is in
+    let some : place_of c.args.reference c.args.self.now ≡ Some c.in-Some.place = grind (arith, found) in
     grind (arith, here_is)

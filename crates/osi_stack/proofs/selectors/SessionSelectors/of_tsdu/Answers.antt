@@ -1,4 +1,4 @@
-use Rattle.osi_stack.proofs.Vocabulary.{meaning, selectors_of, ap, sym, ◌∙◌, first_of, behind_of}
+use Rattle.osi_stack.proofs.Vocabulary.{meaning, selectors_of, ap, sym, ◌∙◌, first_of, behind_of, arith}
 use Rattle.osi_stack.proofs.opening.the_selectors_of_what_arrives.{read_selectors, bad_selectors}
 use Rattle.osi_stack.proofs.selectors.SessionSelectors.of_tsdu.Goals as goal
 
@@ -9,4 +9,4 @@ returns-in-Ok c =
     ∙ sym (read_selectors c.args.tsdu.now (first_of group) (behind_of group) c.in-Ok.ensures.exact)
 
 pub returns-in-Err : goal.returns-in-Err
-returns-in-Err c = sym (bad_selectors c.args.tsdu.now c.in-Err.field-0 c.in-Err.ensures.exact)
+returns-in-Err c = grind (arith, bad_selectors)

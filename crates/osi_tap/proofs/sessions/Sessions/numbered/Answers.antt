@@ -1,3 +1,4 @@
+use Rattle.std.proofs.Common.{arith}
 use Rattle.osi_tap.proofs.Vocabulary.{◌∙◌, ap, subst, sym, List, Option, ◌==◌, find, option_copied, Connection, FoundHeard}
 use Rattle.osi_tap.proofs.each_connection_is_kept.{live_found, done_found}
 use Rattle.osi_tap.proofs.each_session_has_heard_all.{found_heard}
@@ -21,7 +22,4 @@ returns-in-Some-clause-heard c k =
     (found_heard c.args.number c.args.self.now.live.items k.live)
 
 pub returns-clause-heard : goal.returns-clause-heard
-returns-clause-heard c k =
-    subst (λ (o : Option Connection). FoundHeard o)
-    (sym (c.find_in-2.ensures ∙ ap (λ (l : List Connection). find (λ k. k.number == c.args.number) l) c.deref-2.ensures.value))
-    (found_heard c.args.number c.args.self.now.done.items k.done)
+returns-clause-heard c k = grind (arith, found_heard c.args.number c.args.self.now.done.items k.done)

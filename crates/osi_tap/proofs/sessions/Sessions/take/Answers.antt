@@ -6,9 +6,7 @@ use Rattle.osi_tap.proofs.who_broke_first_stays_to_blame.{still_asked, still_eit
 use Rattle.osi_tap.proofs.sessions.Sessions.take.Goals as goal
 
 pub returns-in-Asks-clause-others : goal.returns-in-Asks-clause-others
-returns-in-Asks-clause-others c =
-    let d = c.args.direction in
-    grind (arith, any_ok, one_asked)
+returns-in-Asks-clause-others c = grind (arith, any_ok, one_asked)
 
 pub returns-in-Asks-clause-still : goal.returns-in-Asks-clause-still
 returns-in-Asks-clause-still c =
@@ -27,6 +25,4 @@ returns-clause-still c =
     grind (arith, still_either d x number c.args.at v m c.in-Some.place s (k s x number h) b))
 
 pub returns-clause-others : goal.returns-clause-others
-returns-clause-others c =
-    let d = c.args.direction in
-    grind (arith, on_ok, else_either)
+returns-clause-others c = grind (arith, on_ok, else_either)

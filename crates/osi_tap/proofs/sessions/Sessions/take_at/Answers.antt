@@ -55,9 +55,7 @@ returns-clause-still c =
     (e ∙ ap (λ (x : Connection). (line_in (other d) x).side.finding) c.index_mut.ensures.value) h.live b)
 
 pub returns-then-place-count_of-clause-others : goal.returns-then-place-count_of-clause-others
-returns-then-place-count_of-clause-others c s h b =
-    let same = ap length c.deref.ensures.value in
-    grind (arith, none_changes)
+returns-then-place-count_of-clause-others c s h b = grind (arith, none_changes)
 
 pub returns-clause-others : goal.returns-clause-others
 returns-clause-others c =

@@ -1,5 +1,4 @@
 use Rattle.std.proofs.Common.{arith}
-use Rattle.osi_tap.proofs.Vocabulary.{sym, subst, Tap, AllHeard}
 use Rattle.osi_tap.proofs.what_holds_of_a_result.{on_ok}
 use Rattle.osi_tap.proofs.tap.Tap.settle.Goals as goal
 
@@ -7,13 +6,10 @@ pub returns-clause-holds : goal.returns-clause-holds
 returns-clause-holds c s h = c.hand_over.ensures.holds s c.in_ok-pass_due.ensures.judged (c.pass_due.ensures.holds s h)
 
 pub returns-clause-judged : goal.returns-clause-judged
-returns-clause-judged c =
-    on_ok c.hand_over.result c.hand_over.ensures.heard (λ e. c.hand_over.ensures.judged c.in_ok-pass_due.ensures.judged)
+returns-clause-judged c = grind (arith, on_ok)
 
 pub returns-clause-settled : goal.returns-clause-settled
-returns-clause-settled c =
-    on_ok c.hand_over.result c.hand_over.ensures.heard (grind arith)
+returns-clause-settled c = grind (arith, on_ok)
 
 pub returns-clause-free : goal.returns-clause-free
-returns-clause-free c h =
-    c.hand_over.ensures.free (subst (λ (t : Tap). AllHeard t.watch.sessions) (sym (c.pass_due.ensures.still h.judged)) h.heard)
+returns-clause-free c h = grind arith

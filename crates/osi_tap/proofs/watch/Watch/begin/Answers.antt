@@ -3,6 +3,4 @@ use Rattle.osi_tap.proofs.no_break_was_before_the_first.{begun_earliest}
 use Rattle.osi_tap.proofs.watch.Watch.begin.Goals as goal
 
 pub returns-clause-holds : goal.returns-clause-holds
-returns-clause-holds c k h =
-    let d = c.args.direction in
-    grind (arith, begun_earliest)
+returns-clause-holds c k h = grind (arith, begun_earliest)

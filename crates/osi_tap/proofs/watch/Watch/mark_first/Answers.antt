@@ -3,10 +3,4 @@ use Rattle.osi_tap.proofs.the_first_break_is_kept.{transport_told}
 use Rattle.osi_tap.proofs.watch.Watch.mark_first.Goals as goal
 
 pub returns-clause-holds : goal.returns-clause-holds
-returns-clause-holds c k h = record {
-  traffic = h.traffic;
-  sessions = h.sessions;
-  left = h.left;
-  right = h.right;
-  first = grind (arith, transport_told);
-}
+returns-clause-holds c k h = grind (arith, transport_told)

@@ -5,15 +5,13 @@ use Rattle.osi_tap.proofs.what_holds_of_a_result.{any_err}
 use Rattle.osi_tap.proofs.watch.Watch.pass.Goals as goal
 
 pub returns-in_err-told-clause-err : goal.returns-in_err-told-clause-err
-returns-in_err-told-clause-err c =
-    any_err c.from_residual.result (grind arith)
+returns-in_err-told-clause-err c = grind (arith, any_err)
 
 pub returns-in_err-told-clause-as_many : goal.returns-in_err-told-clause-as_many
 returns-in_err-told-clause-as_many c = any_err c.from_residual.result c.in_err-told.ensures.passed
 
 pub returns-in_err-take-clause-err : goal.returns-in_err-take-clause-err
-returns-in_err-take-clause-err c =
-    any_err c.from_residual-in_err-take.result (grind arith)
+returns-in_err-take-clause-err c = grind (arith, any_err)
 
 pub returns-in_err-take-clause-as_many : goal.returns-in_err-take-clause-as_many
 returns-in_err-take-clause-as_many c = any_err c.from_residual-in_err-take.result c.in_ok-told.ensures.passed
