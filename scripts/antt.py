@@ -541,9 +541,26 @@ def is_over_nothing(heading, below):
     return nearest is None or bool(HEADING.match(nearest)) or indent_of(nearest) < indent_of(heading)
 
 
+def without_empty_modules(lines):
+    """The lines of a file without the sections that declare nothing, and without the comments above these."""
+    for first in reversed([at for at, line in enumerate(lines) if re.match(r" *module _ ", line)]):
+        indent, end = indent_of(lines[first]), first
+        while not lines[end].rstrip().endswith("where"):
+            end += 1
+        end += 1
+        while end < len(lines) and (not lines[end].strip() or is_comment(lines[end]) and indent_of(lines[end]) > indent):
+            end += 1
+        if end < len(lines) and indent_of(lines[end]) > indent:
+            continue
+        while first > 1 and is_comment(lines[first - 1]) and not HEADING.match(lines[first - 1]):
+            first -= 1
+        lines = [*lines[:first], *lines[end:]]
+    return lines
+
+
 def without_empty_sections(lines):
-    """The lines of a file without the headings that stand over nothing."""
-    out = []
+    """The lines of a file without sections that declare nothing, and without headings that stand over nothing."""
+    out, lines = [], without_empty_modules(lines)
     for line in reversed(lines):
         if not HEADING.match(line) or not is_over_nothing(line, out):
             out.append(line)
@@ -554,7 +571,7 @@ def without_empty_sections(lines):
 
 
 def drop_imports(path):
-    """Drops names that a file imports and doesn't use, and headings over nothing."""
+    """Drops names that a file imports and doesn't use, sections that declare nothing, and headings over nothing."""
     lines = read_lines(path)
     text = "\n".join(it for it in lines if not it.startswith("use ") and not is_comment(it))
     out = []
