@@ -9,8 +9,8 @@ use Rattle.osi_tap.specs.declared.connections.Connection.{Connection}
 use Rattle.osi_tap.specs.Connections.{Joined, spoken}
 use Rattle.osi_tap.specs.Holding.{line_in, HoldsFound, HoldsJoined, IsHeard, IsPlace}
 use Rattle.osi_tap.specs.Rooms.{is_over}
-use Rattle.osi_dispute.specs.Reports.{is_dropped}
-use Rattle.osi_dispute.proofs.a_report_says_what_a_tap_holds.{session_at}
+use Rattle.osi_tap.proofs.the_session_of_a_side_is_known.{session_at}
+use Rattle.osi_verdict.specs.Leaving.{is_dropped}
 use Rattle.osi_c.specs.NoteCodes.{named_in}
 use Rattle.osi_c.specs.Notes.{note_of_found, note_unless, IsNoteOf, IsNoteAt}
 use Rattle.osi_c.specs.declared.note_codes.References.{References}

@@ -7,7 +7,7 @@ use Rattle.std.proofs.Math.Seq.{take-append_seam}
 use Rattle.osi_judge.specs.declared.directions.Direction.{Direction}
 use Rattle.osi_judge.specs.declared.judge.Judge.{Judge}
 use Rattle.osi_judge.specs.Captures.{Capture, piece}
-use Rattle.osi_dispute.specs.Verdicts.{Knows}
+use Rattle.osi_verdict.specs.Verdicts.{Knows}
 use Rattle.osi_c.specs.Watched.{Passes, TakesPiece, room_in}
 use Rattle.osi_c.specs.declared.watches.Watch.{Watch}
 

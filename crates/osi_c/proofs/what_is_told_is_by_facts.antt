@@ -15,7 +15,7 @@ use Rattle.osi_judge.specs.Following.{judged, first_in}
 use Rattle.osi_judge.specs.Stops.{is_break}
 use Rattle.osi_judge.specs.Tapping.{IsFoundIn, IsStoppedIn}
 use Rattle.osi_judge.proofs.captured.what_is_known_of_a_side_is_of_the_capture.{known_in, is_first_in}
-use Rattle.osi_dispute.specs.Facts.{Facts, facts_of}
+use Rattle.osi_verdict.specs.Facts.{Facts, facts_of}
 use Rattle.osi_c.specs.Verdicts.{told_of_blamed, told_of_found, told_unless, IsTrue, Tells, told_in, reference_in, is_certain, Shows}
 use Rattle.osi_c.specs.Watching.{is_told, IsDue, HasNone, ShowsOf}
 use Rattle.osi_c.specs.declared.verdicts.OsiVerdict.{OsiVerdict}

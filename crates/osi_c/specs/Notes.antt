@@ -16,10 +16,11 @@ use Rattle.osi_tap.specs.declared.tap.Tap.{Tap}
 use Rattle.osi_tap.specs.Connections.{Joined, spoken, numbered, count}
 use Rattle.osi_tap.specs.Courses.{marks_of}
 use Rattle.osi_tap.specs.Holding.{HoldsJoined, IsHeard, IsPlace}
+use Rattle.osi_tap.specs.KnownSessions.{IsSession}
 use Rattle.osi_tap.specs.Rooms.{is_over}
 use Rattle.osi_tap.specs.Standing.{HoldsState, IsSettled}
 use Rattle.osi_tap.specs.Tapping.{State}
-use Rattle.osi_dispute.specs.Reports.{IsSession, is_dropped}
+use Rattle.osi_verdict.specs.Leaving.{is_dropped}
 use Rattle.osi_c.specs.declared.notes.Note.{Note}
 use Rattle.osi_c.specs.declared.notes.Note.TheVariants.{Nothing, Broke, Leaves, TooMany, Over, Stopped, Halted, Unopened}
 use Rattle.osi_c.specs.declared.subjects.Subject.{Subject}

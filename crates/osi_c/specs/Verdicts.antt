@@ -11,8 +11,8 @@ use Rattle.osi_judge.specs.declared.findings.Finding.{Finding}
 use Rattle.osi_judge.specs.declared.findings.Finding.TheVariants as finding
 use Rattle.osi_judge.specs.declared.rules.Break.{Break}
 use Rattle.osi_judge.specs.declared.stops.Stopped.{Stopped}
-use Rattle.osi_dispute.specs.Facts.{Facts, AreFacts, IsFirstOf, is_refusal, left_first, other_left}
-use Rattle.osi_dispute.specs.Verdicts.{Knows, KeepsIn}
+use Rattle.osi_verdict.specs.Facts.{Facts, AreFacts, IsFirstOf, is_refusal, left_first, other_left}
+use Rattle.osi_verdict.specs.Verdicts.{Knows, KeepsIn}
 use Rattle.osi_c.specs.Ruled.{said_code, stopped_at_code, IsRule, stop_code}
 use Rattle.osi_c.specs.Watched.{side_of}
 use Rattle.osi_c.specs.declared.verdicts.Told.{Told}

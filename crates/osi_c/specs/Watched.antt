@@ -4,7 +4,7 @@ use Rattle.osi_judge.specs.Captures.{Capture, piece}
 use Rattle.osi_judge.specs.Following.{judged}
 use Rattle.osi_judge.specs.declared.directions.Direction.{Direction}
 use Rattle.osi_judge.specs.declared.directions.Direction.TheVariants.{Left, Right}
-use Rattle.osi_dispute.specs.Verdicts.{Knows}
+use Rattle.osi_verdict.specs.Verdicts.{Knows}
 use Rattle.osi_c.specs.Codes.{coded, Made, Begun, InUse}
 use Rattle.osi_c.specs.Codes as codes
 use Rattle.osi_c.specs.declared.watches.Watch.{Watch}

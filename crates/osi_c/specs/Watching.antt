@@ -4,8 +4,8 @@ use Rattle.osi_judge.specs.Captures.{Capture}
 use Rattle.osi_judge.specs.Following.{first_in}
 use Rattle.osi_judge.specs.declared.directions.Direction.{Direction}
 use Rattle.osi_judge.specs.declared.directions.Direction.TheVariants.{Left, Right}
-use Rattle.osi_dispute.specs.Verdicts.{Knows}
-use Rattle.osi_dispute.specs.Disputes.{Judged}
+use Rattle.osi_verdict.specs.Verdicts.{Knows}
+use Rattle.osi_verdict.specs.Judgements.{Judged}
 use Rattle.osi_c.specs.Watched.{side_of, Feeding, Fed, NoJudge, NoSide, NoMemory}
 use Rattle.osi_c.specs.Verdicts.{Tells, is_certain, Shows, nothing}
 use Rattle.osi_c.specs.declared.verdicts.Told.{Told}

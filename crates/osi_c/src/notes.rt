@@ -5,8 +5,8 @@ ghost use Rattle.osi_tap.specs.Connections.{Joined, numbered};
 ghost use Rattle.osi_tap.specs.Holding.{HoldsJoined, IsHeard};
 ghost use Rattle.osi_tap.specs.Standing.{HoldsState, IsSettled};
 ghost use Rattle.osi_tap.specs.Tapping.{State};
-ghost use Rattle.osi_dispute.specs.Facts.{is_left};
-ghost use Rattle.osi_dispute.specs.Reports.{is_dropped};
+ghost use Rattle.osi_verdict.specs.Facts.{is_left};
+ghost use Rattle.osi_verdict.specs.Leaving.{is_dropped};
 ghost use Rattle.osi_c.specs.Notes.{note_of_found, note_unless, is_no_cr, is_unopened, note_of_break, note_of_halt, is_certain};
 ghost use Rattle.osi_c.specs.Notes.{IsNoteOf, IsNoteAt, StillIf, Tells};
 

@@ -2,7 +2,7 @@
 
 ghost use Rattle.std.specs.Prelude.{◌≡◌, Some};
 ghost use Rattle.osi_judge.specs.Following.{judged, half_of, first_in};
-ghost use Rattle.osi_dispute.specs.Facts.{is_first, is_left, is_refusal, other_left};
+ghost use Rattle.osi_verdict.specs.Facts.{is_first, is_left, is_refusal, other_left};
 ghost use Rattle.osi_c.specs.Verdicts.{told_at, told_of_kept, told_of_blamed, told_of_found, told_of_half, told_in, is_certain, kind_code};
 ghost use Rattle.osi_c.specs.Verdicts.{IsRuleOf, said_in, offset_in};
 ghost use Rattle.osi_c.specs.Verdicts.{reference_in, reference_code, Shows, nothing};

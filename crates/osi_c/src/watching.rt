@@ -12,8 +12,8 @@ use crate::codes::{BAD_ARGUMENT, CLOSED, NO_MEMORY, OK};
 use crate::judges::OsiJudge;
 use crate::verdicts::{OsiVerdict, Told, is_certain, nothing, shown, side_by, told_of};
 use crate::watches::Watch;
-use osi_dispute::judgement_of;
 use osi_judge::Direction;
+use osi_verdict::judgement_of;
 use std::alloc::{AllocError, Global};
 
 fn is_told(watch: &Watch, side: Direction) -> bool

@@ -9,8 +9,9 @@ use crate::faults::ToolFault;
 use crate::showing::read_input;
 use crate::texts::LONGEST_INPUT;
 use crate::watched::{WatchedReader, WatchedWriter};
-use osi_dispute::{Judgement, judge_text};
+use osi_dispute::judge_text;
 use osi_listing::CaptureFault;
+use osi_verdict::Judgement;
 use std::alloc::Global;
 use std::io::{Read, Write};
 

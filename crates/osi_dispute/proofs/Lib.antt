@@ -4,8 +4,6 @@ pub mod digits_are_counted_one_by_one
 pub mod a_capture_has_one_finding
 pub mod a_text_is_one_capture
 pub mod rows_come_one_after_the_other
-pub mod text_added_in_two_parts_is_added_whole
-pub mod what_is_told_is_by_facts
 pub mod a_rule_tells_a_break_from_leaving
 pub mod facts_have_one_verdict
 pub mod a_last_line_is_never_empty

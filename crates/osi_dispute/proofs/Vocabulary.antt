@@ -1,7 +1,7 @@
 -- What the proofs of this crate take from the library, from the crates below and from its own definitions.
-pub use Rattle.std.proofs.Common.{Bool, Err, IfOk, IfSome, List, None, Ok, OnOk, Option, Result, Some, [], ap, arith, cond, drop, eq-eqb}
-pub use Rattle.std.proofs.Common.{false, filter, get_or, if◌then◌else◌, inl, inr, length, map, not, option_map, refl, set, slice_get, subst}
-pub use Rattle.std.proofs.Common.{suc, sym, take, true, zero, ℕ, ◌&&◌, ◌++◌, ◌+◌, ◌-◌, ◌<◌, ◌==◌, ◌^◌, ◌||◌, ◌∙◌, ◌∷◌, ◌≡◌, ◌≤◌, ◌⊎◌}
+pub use Rattle.std.proofs.Common.{Bool, Err, IfOk, IfSome, List, None, Ok, Option, Result, Some, [], ap, arith, cond, drop, eq-eqb, false}
+pub use Rattle.std.proofs.Common.{filter, get_or, if◌then◌else◌, inl, inr, length, map, not, option_map, refl, set, slice_get, subst, suc, sym}
+pub use Rattle.std.proofs.Common.{take, true, zero, ℕ, ◌&&◌, ◌++◌, ◌+◌, ◌-◌, ◌<◌, ◌==◌, ◌^◌, ◌||◌, ◌∙◌, ◌∷◌, ◌≡◌, ◌≤◌, ◌⊎◌}
 pub use Rattle.std.proofs.lemmas.Bool.{eqb-true}
 pub use Rattle.std.proofs.lemmas.Bool.Decides.{eqb_tells}
 pub use Rattle.std.proofs.lemmas.Grind.{flat_map-append}
@@ -12,10 +12,9 @@ pub use Rattle.osi_tpkt.specs.Stream.{offset_of}
 pub use Rattle.osi_tpdu.specs.Packet.{units_of}
 pub use Rattle.osi_tpdu.specs.Value.{Value}
 pub use Rattle.osi_tpdu.specs.declared.faults.TpduFault.{TpduFault}
-pub use Rattle.osi_session.specs.Standing.{CanSay, Seen, after_count, seen_called}
+pub use Rattle.osi_session.specs.Standing.{CanSay, Seen, after_count}
 pub use Rattle.osi_rules.specs.declared.findings.Meaning.{Meaning}
 pub use Rattle.osi_rules.specs.declared.findings.Reach.{Reach}
-pub use Rattle.osi_judge.proofs.captured.what_is_known_of_a_side_is_of_the_capture.{is_first_in, is_standing, known_in}
 pub use Rattle.osi_judge.proofs.captured.what_is_known_of_a_side_is_of_the_capture.{nameless_said_nothing}
 pub use Rattle.osi_judge.proofs.told.a_session_stands_in_one_way.{one_stands}
 pub use Rattle.osi_judge.proofs.told.a_side_strays_at_one_place.{Strays, never_strays, no_crowd, one_judged, one_list}
@@ -24,8 +23,7 @@ pub use Rattle.osi_judge.proofs.told.what_is_known_of_a_side.{found_as, room_as}
 pub use Rattle.osi_judge.specs.Breaking.{BreaksAt, BreaksWith, selection_of}
 pub use Rattle.osi_judge.specs.Captures.{Capture, of, other, piece, stream}
 pub use Rattle.osi_judge.specs.Explaining.{Explains, IsBlamed, IsExplained, Remark, answers, done, remarks, says, takes}
-pub use Rattle.osi_judge.specs.Feeding.{Tapped, stopped_of}
-pub use Rattle.osi_judge.specs.Following.{FirstIs, Judged, Taps, first_in, half_of, judged}
+pub use Rattle.osi_judge.specs.Following.{FirstIs, Taps, first_in, judged}
 pub use Rattle.osi_judge.specs.Foremost.{foremost}
 pub use Rattle.osi_judge.specs.Judging.{HasRoom, IsFew, IsFound, IsKept, Keeps, Watched, Watches, WatchesBy}
 pub use Rattle.osi_judge.specs.Kept.{kept}
@@ -34,8 +32,8 @@ pub use Rattle.osi_judge.specs.Onward.{StandsBehind, StandsFor}
 pub use Rattle.osi_judge.specs.Profiles.{leaves}
 pub use Rattle.osi_judge.specs.Sides.{watched}
 pub use Rattle.osi_judge.specs.Stops.{breaks, broke_session, is_judged, place_of}
-pub use Rattle.osi_judge.specs.Tapping.{IsBrokenBy, IsCountIn, IsFirstIn, IsFoundIn, IsLeftBy, IsPlaceIn, IsReadIn, IsReferenceIn}
-pub use Rattle.osi_judge.specs.Tapping.{IsStoppedIn, begin_of, heard, told}
+pub use Rattle.osi_judge.specs.Tapping.{IsBrokenBy, IsCountIn, IsFirstIn, IsFoundIn, IsLeftBy, IsPlaceIn, IsReadIn, IsReferenceIn, IsStoppedIn}
+pub use Rattle.osi_judge.specs.Tapping.{begin_of, heard, told}
 pub use Rattle.osi_judge.specs.Transport.{IsSent, Sent, last_packet}
 pub use Rattle.osi_judge.specs.declared.directions.Direction.{Direction}
 pub use Rattle.osi_judge.specs.declared.directions.Direction.TheVariants.{Right}
@@ -54,10 +52,11 @@ pub use Rattle.osi_tap.proofs.what_holds_of_a_result.{if_ok}
 pub use Rattle.osi_tap.proofs.what_is_kept_of_a_side_is_what_passed.{heard_at}
 pub use Rattle.osi_tap.proofs.who_is_to_blame.{broken}
 pub use Rattle.osi_tap.specs.Blaming.{IsMarkOf, IsToBlame, SomeIs, SomeoneIs}
-pub use Rattle.osi_tap.specs.Connections.{Joined, Sessions, asked_at, changed, count, has_number, meant, numbered, packet_begins}
-pub use Rattle.osi_tap.specs.Connections.{reference_of, source_of, spoken, taken, taken_at}
+pub use Rattle.osi_tap.specs.Connections.{Joined, Sessions, asked_at, changed, count, has_number, meant, numbered, packet_begins, reference_of}
+pub use Rattle.osi_tap.specs.Connections.{source_of, spoken, taken, taken_at}
 pub use Rattle.osi_tap.specs.Courses.{Course, marked, marks_of, noted_by, packet_by, reached, unit_passes, units_pass, unread}
 pub use Rattle.osi_tap.specs.Holding.{HoldsFound, HoldsJoined, IsHeard, IsPlace, line_in}
+pub use Rattle.osi_tap.specs.KnownSessions.{IsSession}
 pub use Rattle.osi_tap.specs.Lines.{place_in}
 pub use Rattle.osi_tap.specs.Rooms.{spent}
 pub use Rattle.osi_tap.specs.Standing.{HoldsState, IsSettled}
@@ -73,28 +72,24 @@ pub use Rattle.osi_tap.specs.declared.tap.Tap.{Tap}
 pub use Rattle.osi_listing.specs.Capture.{is_blank, is_comment_sign}
 pub use Rattle.osi_dispute.specs.Adding.{AddsPair, AddsPairs, AddsReport}
 pub use Rattle.osi_dispute.specs.Disputes.{IsJudgement, IsNarrow, IsWide, Reported, is_beyond, transport_of}
-pub use Rattle.osi_dispute.specs.Facts.{Accounts, AreFacts, Connects, Determined, Facts, IsFirstOf, IsToldOf, StandsBy, StandsIn}
-pub use Rattle.osi_dispute.specs.Facts.{account_by, begins_late, connection_by, facts_of, is_dropped, is_refused, is_unanswered, keeps}
-pub use Rattle.osi_dispute.specs.Facts.{kept_outcome, left_first, outcome_in, outcome_of, outcome_unless, told_by, told_of, unjudged}
-pub use Rattle.osi_dispute.specs.Facts.{verdict_by}
+pub use Rattle.osi_verdict.specs.Facts.{AreFacts, Determined, Facts, IsFirstOf, StandsIn, account_by, begins_late, connection_by, is_refused}
+pub use Rattle.osi_verdict.specs.Facts.{is_unanswered, keeps, kept_outcome, left_first, outcome_of, outcome_unless, told_by, told_of, unjudged}
+pub use Rattle.osi_verdict.specs.Facts.{verdict_by}
 pub use Rattle.osi_dispute.specs.Laws.{IsDecided}
 pub use Rattle.osi_dispute.specs.Reading.{row, rows_left}
 pub use Rattle.osi_dispute.specs.ReportTexts.{last_line, last_status, pair_lines, read_lines, transport_lines}
-pub use Rattle.osi_dispute.specs.Reports.{ArePairs, IsFirstLast, IsLast, IsMarkLast, IsPair, IsPairOf, IsReport, IsSession, IsStrayLast}
-pub use Rattle.osi_dispute.specs.Reports.{Report, SaysSo, Strayed, Tells, all_keep, carried, is_clear, is_opened, is_refused_in, kept_last}
-pub use Rattle.osi_dispute.specs.Reports.{no_pair, stray_last}
+pub use Rattle.osi_dispute.specs.Reports.{ArePairs, IsFirstLast, IsLast, IsMarkLast, IsPair, IsPairOf, IsReport, IsStrayLast, Report, SaysSo}
+pub use Rattle.osi_dispute.specs.Reports.{Strayed, Tells, all_keep, carried, is_clear, is_opened, is_refused_in, kept_last, no_pair, stray_last}
 pub use Rattle.osi_dispute.specs.Rows.{IsCaptureOf, Row, capture_of, digits_left, digits_on, left_is_tabbed, passed_by, rows_of, side_of}
-pub use Rattle.osi_dispute.specs.Texts.{connection_first, first_line, is_stopped_before, line_by, outcome_line, verdict_status}
-pub use Rattle.osi_dispute.specs.Texts.{verdict_text}
-pub use Rattle.osi_dispute.specs.Verdicts.{IsVerdict, Knows}
+pub use Rattle.osi_verdict.specs.Texts.{connection_first, first_line, is_stopped_before, line_by, outcome_line, verdict_status, verdict_text}
+pub use Rattle.osi_verdict.specs.Verdicts.{IsVerdict, Knows}
 pub use Rattle.osi_dispute.specs.declared.reports.Last.{Last}
 pub use Rattle.osi_dispute.specs.declared.reports.Pair.{Pair}
 pub use Rattle.osi_dispute.specs.declared.reports.Transport.{Transport}
-pub use Rattle.osi_dispute.specs.declared.texts.Judgement.{Judgement}
-pub use Rattle.osi_dispute.specs.declared.verdicts.Account.{Account}
-pub use Rattle.osi_dispute.specs.declared.verdicts.Connection.{Connection}
-pub use Rattle.osi_dispute.specs.declared.verdicts.Connection.TheVariants.{Refused, Session, Silent, Unanswered}
-pub use Rattle.osi_dispute.specs.declared.verdicts.Outcome.{Outcome}
-pub use Rattle.osi_dispute.specs.declared.verdicts.Told.{Told}
-pub use Rattle.osi_dispute.specs.declared.verdicts.Unjudged.{Unjudged}
-pub use Rattle.osi_dispute.specs.declared.verdicts.Verdict.{Verdict}
+pub use Rattle.osi_verdict.specs.declared.texts.Judgement.{Judgement}
+pub use Rattle.osi_verdict.specs.declared.verdicts.Account.{Account}
+pub use Rattle.osi_verdict.specs.declared.verdicts.Connection.{Connection}
+pub use Rattle.osi_verdict.specs.declared.verdicts.Connection.TheVariants.{Session}
+pub use Rattle.osi_verdict.specs.declared.verdicts.Told.{Told}
+pub use Rattle.osi_verdict.specs.declared.verdicts.Unjudged.{Unjudged}
+pub use Rattle.osi_verdict.specs.declared.verdicts.Verdict.{Verdict}

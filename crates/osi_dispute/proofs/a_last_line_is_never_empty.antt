@@ -6,12 +6,12 @@ use Rattle.osi_dispute.proofs.Vocabulary.{connection_first, is_stopped_before, f
 use Rattle.osi_dispute.proofs.Vocabulary.{connection_by, left_first, account_by, keeps, unjudged, begins_late, kept_outcome, outcome_of}
 use Rattle.osi_dispute.proofs.Vocabulary.{outcome_unless, verdict_by, IsFirstOf}
 use Rattle.osi_judge.specs.declared.directions.Direction.TheVariants as side
-use Rattle.osi_dispute.specs.declared.verdicts.Unjudged.TheVariants.{Transport}
+use Rattle.osi_verdict.specs.declared.verdicts.Unjudged.TheVariants.{Transport}
 use Rattle.osi_judge.specs.declared.stops.Stop.TheVariants as stop
-use Rattle.osi_dispute.specs.Names.{unjudged_text}
-use Rattle.osi_dispute.specs.Texts.{first_text, broke_first, left_first as left_first_line, stopped_first}
-use Rattle.osi_dispute.specs.Texts.{unjudged_line}
-use Rattle.osi_dispute.specs.Facts.{IsDetermined}
+use Rattle.osi_verdict.specs.Names.{unjudged_text}
+use Rattle.osi_verdict.specs.Texts.{first_text, broke_first, left_first as left_first_line, stopped_first}
+use Rattle.osi_verdict.specs.Texts.{unjudged_line}
+use Rattle.osi_verdict.specs.Facts.{IsDetermined}
 
 abbrev HasWords : List ℕ → Type 0
 HasWords line = line ≡ [] → ⊥

@@ -2,8 +2,8 @@
 use Rattle.osi_dispute.proofs.Vocabulary.{◌≡◌, ◌∙◌, sym, subst, ℕ, ◌+◌, Bool, false, not, ◌&&◌, List, [], ◌∷◌, ◌++◌, length, Option, Some}
 use Rattle.osi_dispute.proofs.Vocabulary.{None, IfSome, arith, Direction, Right, Finding, Break, Stands, other, Watched, Watches, Keeps}
 use Rattle.osi_dispute.proofs.Vocabulary.{StandsFor, broke_session, Joined, Sessions, spoken, reference_of, numbered, IsMarkOf, IsToBlame}
-use Rattle.osi_dispute.proofs.Vocabulary.{marks_of, line_in, HoldsJoined, HoldsFound, IsHeard, IsPlace, First, Mark, State, heard_at}
-use Rattle.osi_dispute.proofs.Vocabulary.{broken, Last, Pair, Told, connection_by, IsSession, SaysSo, is_opened, is_refused_in, Tells}
+use Rattle.osi_dispute.proofs.Vocabulary.{marks_of, line_in, HoldsJoined, HoldsFound, IsHeard, IsPlace, First, Mark, State}
+use Rattle.osi_dispute.proofs.Vocabulary.{broken, Last, Pair, Told, connection_by, SaysSo, is_opened, is_refused_in, Tells}
 use Rattle.osi_dispute.proofs.Vocabulary.{IsPair, IsPairOf, ArePairs, no_pair, all_keep, carried, is_clear, kept_last, stray_last}
 use Rattle.osi_dispute.proofs.Vocabulary.{IsStrayLast, IsMarkLast}
 use Rattle.osi_judge.specs.declared.directions.Direction.TheVariants.{Left}
@@ -12,13 +12,11 @@ use Rattle.osi_judge.specs.Explaining.{Told as Said}
 use Rattle.osi_tap.specs.declared.connections.Connection.{Connection as Joint}
 use Rattle.osi_dispute.specs.declared.reports.Last.TheVariants as ending
 use Rattle.osi_dispute.specs.declared.reports.Transport.{Transport as Carried}
-use Rattle.osi_dispute.specs.declared.verdicts.Told.TheVariants as what
-use Rattle.osi_dispute.specs.Reports.{is_dropped}
+use Rattle.osi_verdict.specs.declared.verdicts.Told.TheVariants as what
+use Rattle.osi_tap.proofs.the_session_of_a_side_is_known.{session_at}
+use Rattle.osi_verdict.specs.Leaving.{is_dropped}
 
 -- ---- the session of a side
-
-pub session_at : (d : Direction) (c : Joint) (j : Joined) → HoldsJoined c j → IsHeard c → IsSession d j (line_in d c).side
-session_at d c j h k = record { begins = grind arith; says = grind arith; hears = heard_at d c j h k }
 
 pub kept_says : (d : Direction) (c : Joint) (j : Joined) (v : Watched) (n : ℕ) (s : Stands) → v ≡ (line_in d c).side
     → (line_in d c).side.finding ≡ finding.Kept

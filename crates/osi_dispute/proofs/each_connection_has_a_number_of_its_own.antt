@@ -6,12 +6,10 @@ use Rattle.osi_dispute.proofs.Vocabulary.{◌⊎◌, inl, inr, eq-eqb, eqb-true,
 use Rattle.osi_dispute.proofs.Vocabulary.{Reach, units_of, Value, TpduFault, offset_of, Capture, of, Direction, Right, Cause, BadUnit}
 use Rattle.osi_dispute.proofs.Vocabulary.{BadPacket, Mark, IsToBlame, SomeIs, SomeoneIs, Joined, Sessions, count, numbered, has_number}
 use Rattle.osi_dispute.proofs.Vocabulary.{asked_at, changed, packet_begins, meant, taken, taken_at, source_of, Course, marked, reached}
-use Rattle.osi_dispute.proofs.Vocabulary.{noted_by, unit_passes, units_pass, unread, packet_by, spent, Front, partial, faulty, whole}
+use Rattle.osi_dispute.proofs.Vocabulary.{noted_by, unit_passes, units_pass, unread, packet_by, Front, partial, faulty, whole}
 use Rattle.osi_dispute.proofs.Vocabulary.{Streamed, counted, gathered, State, stream_of, with_stream, looked_at, begun, octet_passes, begin}
 use Rattle.osi_dispute.proofs.Vocabulary.{after, comes_to, looks}
-use Rattle.osi_rules.specs.Traffic as traffic
 use Rattle.osi_rules.specs.declared.findings.Meaning.TheVariants as meaning
-use Rattle.osi_rules.specs.declared.findings.Reach.TheVariants as reach
 use Rattle.osi_rules.specs.declared.findings.Told.{Told}
 use Rattle.osi_judge.specs.declared.directions.Direction.TheVariants.{Left}
 

@@ -8,8 +8,8 @@ use Rattle.osi_dispute.proofs.Vocabulary.{AreFacts, told_by, told_of, is_refused
 use Rattle.osi_dispute.proofs.Vocabulary.{verdict_by, StandsIn, IsRuledIn, IsKeptStanding, one_judged, one_list, one_stands, Session}
 use Rattle.osi_dispute.proofs.Vocabulary.{IsJudgement, IsNarrow, IsWide}
 use Rattle.osi_judge.specs.declared.directions.Direction.TheVariants as side
-use Rattle.osi_dispute.specs.declared.verdicts.Told.TheVariants as told
-use Rattle.osi_dispute.specs.Facts.{IsDetermined}
+use Rattle.osi_verdict.specs.declared.verdicts.Told.TheVariants as told
+use Rattle.osi_verdict.specs.Facts.{IsDetermined}
 use Rattle.osi_dispute.proofs.reports_are_alike.{one_report}
 use Rattle.osi_dispute.proofs.a_capture_has_one_finding.{HasOneList}
 use Rattle.osi_dispute.proofs.a_rule_tells_a_break_from_leaving.{HasOnePlace, one_rule, same_found}

@@ -5,11 +5,8 @@ use Rattle.osi_dispute.proofs.Vocabulary.{Stands, foremost, Watched, StandsBehin
 use Rattle.osi_dispute.proofs.Vocabulary.{place_in, State, one_first, Last, Pair, Told, Connection, IsSession, Strayed, SaysSo, Tells}
 use Rattle.osi_dispute.proofs.Vocabulary.{IsPair, IsPairOf, ArePairs, IsFirstLast, IsLast, Report, IsReport}
 use Rattle.osi_judge.specs.declared.directions.Direction.TheVariants as side
-use Rattle.osi_judge.specs.declared.findings.Finding.TheVariants as finding
-use Rattle.osi_tap.specs.declared.marks.Layer.TheVariants as layer
 use Rattle.osi_tap.specs.Lines.{told}
-use Rattle.osi_dispute.specs.declared.reports.Last.TheVariants as ending
-use Rattle.osi_dispute.specs.declared.verdicts.Told.TheVariants as what
+use Rattle.osi_verdict.specs.declared.verdicts.Told.TheVariants as what
 use Rattle.osi_dispute.proofs.a_session_is_told_in_one_way.{IsOne, one_session}
 
 -- ---- of the session of a side

@@ -10,20 +10,13 @@ use Rattle.osi_tap.specs.declared.marks.Mark.{Mark}
 use Rattle.osi_tap.specs.declared.rooms.Room.TheVariants.{Octets}
 use Rattle.osi_tap.specs.Courses.{marks_of}
 use Rattle.osi_tap.specs.Tapping.{State, after, begin_within, comes_to}
-use Rattle.osi_dispute.specs.declared.verdicts.Verdict.{Verdict}
-use Rattle.osi_dispute.specs.Facts.{begins_late}
+use Rattle.osi_verdict.specs.declared.verdicts.Verdict.{Verdict}
+use Rattle.osi_verdict.specs.Facts.{begins_late}
 use Rattle.osi_dispute.specs.Reports.{Report, IsReport}
 use Rattle.osi_dispute.specs.ReportTexts.{report_text, last_status}
 use Rattle.osi_dispute.specs.Rows.{IsCaptureOf}
-use Rattle.osi_dispute.specs.Texts.{verdict_text, verdict_status}
-use Rattle.osi_dispute.specs.Verdicts.{IsVerdict}
-
--- these lines and this status report a verdict on the capture
-pub record Judged (capture : Capture) (lines : List ℕ) (status : ℕ) : Type 0 where
-  pub verdict : Verdict
-  pub judged : IsVerdict capture verdict
-  pub told : lines ≡ verdict_text verdict
-  pub answered : status ≡ verdict_status verdict.outcome
+use Rattle.osi_verdict.specs.Judgements.{Judged}
+use Rattle.osi_verdict.specs.Verdicts.{IsVerdict}
 
 -- they report all connections, by what a capture comes to
 pub record Reported (s : State) (lines : List ℕ) (status : ℕ) : Type 0 where

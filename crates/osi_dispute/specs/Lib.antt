@@ -1,13 +1,8 @@
-pub mod Names
-pub mod Lines
-pub mod Texts
 pub mod Rows
 pub mod Reading
-pub mod Facts
 pub mod Causes
 pub mod Reports
 pub mod ReportTexts
 pub mod Adding
-pub mod Verdicts
 pub mod Disputes
 pub mod Laws

@@ -12,11 +12,11 @@ use Rattle.osi_dispute.specs.declared.reports.Transport.{Transport as Carried}
 use Rattle.osi_dispute.specs.declared.reports.Last.{Last}
 use Rattle.osi_dispute.specs.declared.reports.Last.TheVariants.{BothKept, Broke, Left, Transport, TooManySessions, TooManyConnections}
 use Rattle.osi_dispute.specs.Reports.{Report}
-use Rattle.osi_dispute.specs.declared.verdicts.Unjudged.TheVariants.{TooMany}
-use Rattle.osi_dispute.specs.Names.{side_name}
+use Rattle.osi_verdict.specs.declared.verdicts.Unjudged.TheVariants.{TooMany}
+use Rattle.osi_verdict.specs.Names.{side_name}
 use Rattle.osi_dispute.specs.Causes.{marked_at_name, cause_name}
-use Rattle.osi_dispute.specs.Lines.{reading_line}
-use Rattle.osi_dispute.specs.Texts.{connection_lines, first_text, broke_first, left_first, unjudged_line}
+use Rattle.osi_verdict.specs.Lines.{reading_line}
+use Rattle.osi_verdict.specs.Texts.{connection_lines, first_text, broke_first, left_first, unjudged_line}
 
 -- ---- transport
 

@@ -4,15 +4,12 @@ use Rattle.std.specs.List.{list_all}
 use Rattle.osi_tpkt.specs.Stream.{offset_of}
 use Rattle.osi_judge.specs.declared.directions.Direction.{Direction}
 use Rattle.osi_judge.specs.declared.directions.Direction.TheVariants as side
-use Rattle.osi_judge.specs.declared.findings.Finding.{Finding}
 use Rattle.osi_judge.specs.declared.findings.Finding.TheVariants as finding
 use Rattle.osi_judge.specs.declared.rules.Break.{Break}
-use Rattle.osi_judge.specs.Captures.{Capture, other}
-use Rattle.osi_judge.specs.Judging.{Watched, Watches}
+use Rattle.osi_judge.specs.Captures.{Capture}
+use Rattle.osi_judge.specs.Judging.{Watched}
 use Rattle.osi_judge.specs.Onward.{StandsFor}
-use Rattle.osi_judge.specs.Outlines.{outlines}
 use Rattle.osi_judge.specs.Stops.{broke_session}
-use Rattle.osi_judge.specs.Tapping.{begin_of}
 use Rattle.osi_tap.specs.declared.marks.First.{First}
 use Rattle.osi_tap.specs.declared.marks.Layer.{Layer}
 use Rattle.osi_tap.specs.declared.marks.Layer.TheVariants as layer
@@ -21,7 +18,8 @@ use Rattle.osi_tap.specs.declared.tap.Tap.{Tap}
 use Rattle.osi_tap.specs.Blaming.{IsFirstOf, NobodyIs}
 use Rattle.osi_tap.specs.Connections.{Joined, Sessions, spoken, reference_of, numbered, count}
 use Rattle.osi_tap.specs.Courses.{marks_of, first_of}
-use Rattle.osi_tap.specs.Lines.{told, heard, place_in}
+use Rattle.osi_tap.specs.KnownSessions.{IsSession}
+use Rattle.osi_tap.specs.Lines.{told, place_in}
 use Rattle.osi_tap.specs.Streams.{reading_of}
 use Rattle.osi_tap.specs.Standing.{HoldsState, IsSettled}
 use Rattle.osi_tap.specs.Tapping.{State, stream_of, comes_to}
@@ -29,19 +27,14 @@ use Rattle.osi_dispute.specs.declared.reports.Pair.{Pair}
 use Rattle.osi_dispute.specs.declared.reports.Transport.{Transport as Carried}
 use Rattle.osi_dispute.specs.declared.reports.Last.{Last}
 use Rattle.osi_dispute.specs.declared.reports.Last.TheVariants.{BothKept, Broke, Left, Transport, TooManySessions, TooManyConnections}
-use Rattle.osi_dispute.specs.declared.verdicts.Told.{Told}
-use Rattle.osi_dispute.specs.declared.verdicts.Told.TheVariants as told
-use Rattle.osi_dispute.specs.declared.verdicts.Connection.{Connection}
-use Rattle.osi_dispute.specs.declared.verdicts.Connection.TheVariants.{Silent}
-use Rattle.osi_dispute.specs.Facts.{is_kept, is_left, connection_by}
+use Rattle.osi_verdict.specs.declared.verdicts.Told.{Told}
+use Rattle.osi_verdict.specs.declared.verdicts.Told.TheVariants as told
+use Rattle.osi_verdict.specs.declared.verdicts.Connection.{Connection}
+use Rattle.osi_verdict.specs.declared.verdicts.Connection.TheVariants.{Silent}
+use Rattle.osi_verdict.specs.Facts.{is_kept, connection_by}
+use Rattle.osi_verdict.specs.Leaving.{is_dropped}
 
 -- ---- one connection
-
--- what `osi_judge` knows of the session of a side, which was told all that this side said and heard all that the other said
-pub record IsSession (d : Direction) (j : Joined) (w : Watched) : Type 0 where
-  pub begins : w.begin ≡ begin_of d
-  pub says : Watches w (told (spoken d j))
-  pub hears : w.heard ≡ outlines (heard (spoken (other d) j))
 
 -- the TSDU that has this place ended in the packet at this offset, and the session strayed by this rule
 pub record Strayed (d : Direction) (j : Joined) (w : Watched) (i offset : ℕ) (by : Break) : Type 0 where
@@ -62,10 +55,6 @@ is_opened j = is_some j.class
 
 abbrev pub is_refused_in : Joined → Bool
 is_refused_in j = j.closed && not (is_opened j)
-
--- nothing is told of a side if the other side left the profile, and this side did not
-abbrev pub is_dropped : (own other : Finding) → Bool
-is_dropped own other = is_left other && not (is_left own)
 
 -- this is told of the connection of a side
 pub record Tells (d : Direction) (j : Joined) (own other : Watched) (c : Connection) : Type 0 where

@@ -9,15 +9,14 @@ ghost use Rattle.osi_dispute.specs.Disputes.{stops_at_other, is_wide, is_missed,
 ghost use Rattle.osi_dispute.specs.Disputes.{IsJudgement, IsNarrow, IsWide, Reported};
 ghost use Rattle.osi_dispute.specs.Rows.{side_of, passed_by, capture_of, rows_of};
 ghost use Rattle.osi_dispute.specs.Reading.{rows_left};
-ghost use Rattle.osi_dispute.specs.Verdicts.{Knows};
+ghost use Rattle.osi_verdict.specs.Verdicts.{Knows};
 
 use crate::pieces::{Pieces, is_left_tabbed};
 use crate::report_texts::push_report;
-use crate::texts::Judgement;
-use crate::verdicts::{Verdict, begins_late, judgement_by, verdict_of};
 use osi_judge::{Direction, Judge, Stop, Stopped};
 use osi_listing::{CaptureFault, octets_of};
 use osi_tap::{Mark, Tap};
+use osi_verdict::{Judgement, Verdict, begins_late, judgement_by, verdict_of};
 use std::alloc::{AllocError, Global};
 
 /// Feeds all of a piece.

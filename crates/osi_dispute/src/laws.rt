@@ -5,14 +5,14 @@ ghost use Rattle.osi_judge.specs.declared.directions.Direction.{Direction};
 ghost use Rattle.osi_judge.specs.declared.findings.Finding.{Finding};
 ghost use Rattle.osi_judge.specs.Captures.{Capture};
 ghost use Rattle.osi_judge.specs.Tapping.{IsFoundIn};
-ghost use Rattle.osi_dispute.specs.declared.verdicts.Verdict.{Verdict};
+ghost use Rattle.osi_verdict.specs.declared.verdicts.Verdict.{Verdict};
 ghost use Rattle.osi_dispute.specs.Disputes.{IsJudgement};
-ghost use Rattle.osi_dispute.specs.Facts.{IsDetermined};
+ghost use Rattle.osi_verdict.specs.Facts.{IsDetermined};
 ghost use Rattle.osi_dispute.specs.Laws.{IsDecided};
 ghost use Rattle.osi_dispute.specs.Reports.{Report, IsReport};
 ghost use Rattle.osi_tap.specs.Tapping.{State};
 ghost use Rattle.osi_dispute.specs.Rows.{IsCaptureOf};
-ghost use Rattle.osi_dispute.specs.Texts.{outcome_line};
+ghost use Rattle.osi_verdict.specs.Texts.{outcome_line};
 
 use osi_judge::laws::{
     a_capture_has_one_first_break, a_capture_has_one_reading, a_side_is_found_in_one_way,

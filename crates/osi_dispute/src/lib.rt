@@ -13,10 +13,7 @@
 //! let status = judgement.status;                       // 0: both kept the protocol
 //! ```
 //!
-//! The steps can be called one by one. You feed a `Judge` of `osi_judge` the octets as they pass.
-//! [`verdict_of`] asks it what it found of both sides, as a [`Verdict`]: for each side an [`Account`] (what was
-//! read, its [`Connection`], and where its transport was stopped), and the [`Outcome`]. [`push_verdict`] writes
-//! a verdict as lines, and [`status_of`] says which status the program ends with.
+//! `osi_verdict` asks the judge what it found and writes it as lines.
 //!
 //! That is so for one connection of class 0. If there is more than one, or one of another class, or if a `Tap` of `osi_tap`
 //! finds a break of a side's transport where the judge finds none, or only a later one, the octets are fed to a `Tap` in place of
@@ -32,30 +29,23 @@
 //! left broke the protocol first, packet 92: CR ReferenceInUse
 //! ```
 //!
-//! A verdict is a function of facts of the capture (`specs/Facts`), so a capture has one verdict
+//! A verdict is a function of facts of the capture, so a capture has one verdict
 //! (`laws::a_text_has_one_judgement`). A report says what the capture comes to (`specs/Reports`), and its last line names the
 //! earliest break of all. So it is a function of the capture, too. Numbers, offsets and names are those of the listing of that side
 //! (`osi_listing`) and of transcripts (`osi_script`).
 //!
-//! It leaves the judgement to `osi_judge` and `osi_tap`, and standard input and output to the program.
+//! It leaves the judgement to `osi_judge` and `osi_tap`, the text of a verdict to `osi_verdict`, and standard input and
+//! output to the program.
 #![tactic(auto)]
 
 mod causes;
 mod disputes;
 pub mod laws;
-mod lines;
-mod names;
 mod pieces;
 mod report_texts;
 mod reports;
-mod texts;
-mod verdicts;
 
 pub use disputes::judge_text;
 pub use pieces::{Piece, Pieces, is_left_tabbed};
 pub use report_texts::push_report;
 pub use reports::{Last, Pair, Transport};
-pub use texts::{Judgement, push_verdict, status_of};
-pub use verdicts::{
-    Account, Connection, Outcome, Told, Unjudged, Verdict, judgement_of, verdict_of,
-};

@@ -12,13 +12,14 @@ ghost use Rattle.osi_dispute.specs.ReportTexts.{mark_text, is_outside, mark_verb
 ghost use Rattle.osi_dispute.specs.ReportTexts.{first_verb, mark_first, last_line, pair_lines, transport_lines, read_lines, last_status};
 
 use crate::causes;
-use crate::lines::{push_reading, push_side};
 use crate::reports::{Last, Pair, Transport, last_of, pair_at, transport_of};
-use crate::texts::{push_broke_first, push_connection, push_first, push_left_first, push_unjudged};
-use crate::verdicts::Unjudged;
 use osi_judge::Direction;
 use osi_listing::{push_number_field, push_words};
 use osi_tap::{Cause, Mark, Tap};
+use osi_verdict::{
+    Unjudged, push_broke_first, push_connection, push_first, push_left_first, push_reading,
+    push_side, push_unjudged,
+};
 use std::alloc::AllocError;
 
 /// Adds what a mark is at, and what was found there.

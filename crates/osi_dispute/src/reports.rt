@@ -10,14 +10,15 @@ ghost use Rattle.osi_tap.specs.Standing.{HoldsState, IsSettled, first_in};
 ghost use Rattle.osi_tap.specs.Tapping.{State, comes_to};
 ghost use Rattle.osi_tap.specs.declared.marks.First.{First as Breach};
 ghost use Rattle.osi_dispute.specs.declared.reports.Pair.{Pair as Couple};
-ghost use Rattle.osi_dispute.specs.Facts.{is_kept, is_left, connection_with};
-ghost use Rattle.osi_dispute.specs.Reports.{SaysSo, is_opened, is_refused_in, is_dropped, Tells, IsPair, IsPairOf};
+ghost use Rattle.osi_verdict.specs.Facts.{is_kept, is_left, connection_with};
+ghost use Rattle.osi_verdict.specs.Leaving.{is_dropped};
+ghost use Rattle.osi_dispute.specs.Reports.{SaysSo, is_opened, is_refused_in, Tells, IsPair, IsPairOf};
 ghost use Rattle.osi_dispute.specs.Reports.{all_keep as all_keep_of, carried, is_clear, kept_last, HoldsCapture, IsFirstLast};
 ghost use Rattle.osi_dispute.specs.Reports.{IsLast, IsMarkLast, IsStrayLast};
 
-use crate::verdicts::{Connection, Told};
 use osi_judge::{Break, Direction, Finding, Reading};
 use osi_tap::{Connection as Joint, First, Layer, Mark, Tap};
+use osi_verdict::{Connection, Told};
 use std::alloc::AllocError;
 
 /// What is reported of one connection.

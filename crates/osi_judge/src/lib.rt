@@ -29,7 +29,7 @@
 //!
 //! The laws ([`mod@laws`]) say that an honest session is always explained, so that an honest side is never blamed.
 //! What the judge leaves to others: finding the connection in a network capture (`osi-capture`), and the text of the
-//! verdict (`osi_dispute`).
+//! verdict (`osi_verdict`).
 #![tactic(auto)]
 
 mod directions;

@@ -1,8 +1,8 @@
 //! Captures in which an end of this product may not be blamed.
 
 use crate::calls;
-use osi_dispute::Judgement;
 use osi_listing::CaptureFault;
+use osi_verdict::Judgement;
 use std::alloc::{AllocError, Global};
 use std::io;
 

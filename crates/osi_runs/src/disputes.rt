@@ -5,8 +5,8 @@
 
 use crate::calls;
 use crate::octets::push;
-use osi_dispute::Judgement;
 use osi_listing::CaptureFault;
+use osi_verdict::Judgement;
 use std::alloc::{AllocError, Global};
 use std::io;
 

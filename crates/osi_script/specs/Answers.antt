@@ -9,7 +9,8 @@ use Rattle.osi_script.specs.declared.answers.LineFault.{LineFault}
 use Rattle.osi_script.specs.declared.answers.LineFault.TheVariants.{NotBroken, AlreadyBroken}
 use Rattle.osi_script.specs.declared.answers.Answer.{Answer}
 use Rattle.osi_script.specs.declared.answers.Answer.TheVariants.{Connecting, ConnectRefused, Called, CallRefused, Carried, Broken, Told, LineRefused, LineFailed}
-use Rattle.osi_script.specs.Names.{side_name, verb_name, open_error_name, call_error_name}
+use Rattle.osi_names.specs.Names.{open_error_name, call_error_name}
+use Rattle.osi_script.specs.Names.{side_name, verb_name}
 
 abbrev pub refusal_name : ConnectRefusal → List ℕ
 refusal_name (Open error) = open_error_name error

@@ -5,11 +5,11 @@ ghost use Rattle.std.specs.Fmt.{decimal};
 ghost use Rattle.osi_script.specs.Names.{verb_name};
 ghost use Rattle.osi_script.specs.Answers.{refusal_name, line_fault_name, call_text, answer_line};
 
-use crate::names::{call_error, open_error};
 use crate::sides::Side;
 use crate::texts::{LINE, put, put_decimal, put_side, put_word};
 use crate::verbs::Verb;
 use osi_carrier::OpenError;
+use osi_names::{call_error_name, open_error_name};
 use osi_session::CallError;
 use std::alloc::{AllocError, Global};
 use std::mem;
@@ -88,7 +88,7 @@ fn refusal(refusal: ConnectRefusal) -> &'static str
     ensures short { length result.now ≤ 16 }
 {
     match refusal {
-        ConnectRefusal::Open(error) => open_error(error),
+        ConnectRefusal::Open(error) => open_error_name(error),
         ConnectRefusal::NotSelected => "NotSelected",
         ConnectRefusal::TooLong => "TooLong",
     }
@@ -183,7 +183,7 @@ fn put_call_refused(
 {
     let text = put_call(text, side, reference, verb);
     let text = put(text, " refused ");
-    let text = put_word(text, call_error(error));
+    let text = put_word(text, call_error_name(error));
     put(text, "\n")
 }
 

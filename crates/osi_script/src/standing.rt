@@ -3,10 +3,10 @@
 ghost use Rattle.std.specs.Prelude.{◌≡◌, ◌+◌, ◌≤◌, ◌++◌, vec_len, vec_capacity, OnOk, OnErr};
 ghost use Rattle.osi_script.specs.Standing.{standing_line, standing_numbers, standing_text};
 
-use crate::names;
 use crate::sides::Side;
 use crate::texts::{LINE, put, put_decimal, put_octet, put_side, put_word};
 use bitflags::Flags;
+use osi_names::phase_name;
 use osi_session::Phase;
 use osi_spdu::TokenSet;
 use std::alloc::{AllocError, Global};
@@ -41,7 +41,7 @@ fn put_text(text: Vec<u8>, standing: &Standing) -> Vec<u8>
     let text = put_side(text, standing.side);
     let text = put_decimal(text, u64::from(standing.reference));
     let text = put(text, " phase ");
-    let text = put_word(text, names::phase(standing.phase));
+    let text = put_word(text, phase_name(standing.phase));
     let text = put(text, " held ");
     put_octet(text, standing.held.bits())
 }

@@ -4,6 +4,7 @@ pub mod Connections
 pub mod Bounds
 pub mod Courses
 pub mod Blaming
+pub mod KnownSessions
 pub mod Streams
 pub mod Tapping
 pub mod Holding

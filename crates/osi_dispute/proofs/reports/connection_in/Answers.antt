@@ -1,5 +1,4 @@
 use Rattle.std.proofs.Common.{arith}
-use Rattle.osi_dispute.proofs.Vocabulary.{Some, None}
 use Rattle.osi_dispute.proofs.a_report_says_what_a_tap_holds.{tells_as, dropped_as}
 use Rattle.osi_dispute.proofs.reports.connection_in.Goals as goal
 

@@ -1,5 +1,4 @@
 use Rattle.std.proofs.Common.{arith}
-use Rattle.osi_dispute.proofs.Vocabulary.{None}
 use Rattle.osi_dispute.proofs.a_report_says_what_a_tap_holds.{kept_is}
 use Rattle.osi_dispute.proofs.reports.last_of.Goals as goal
 

@@ -1,6 +1,6 @@
 use Rattle.std.proofs.Common.{arith}
 use Rattle.osi_judge.specs.declared.directions.Direction.TheVariants.{Left, Right}
-use Rattle.osi_dispute.proofs.a_report_says_what_a_tap_holds.{session_at}
+use Rattle.osi_tap.proofs.the_session_of_a_side_is_known.{session_at}
 use Rattle.osi_dispute.proofs.reports.pair_of.Goals as goal
 
 pub returns : goal.returns

@@ -1,5 +1,5 @@
 use Rattle.std.proofs.Common.{arith}
-use Rattle.osi_dispute.proofs.Vocabulary.{sym, Some}
+use Rattle.osi_dispute.proofs.Vocabulary.{sym}
 use Rattle.osi_dispute.proofs.a_report_says_what_a_tap_holds.{if_some}
 use Rattle.osi_dispute.proofs.reports.told_first.Goals as goal
 
