@@ -129,10 +129,10 @@ not_both capture h k = elim (prefixes h.front h.back k.front k.back (sym h.parts
 pub one_first : (capture : Capture) (first second : Option Direction) → IsFirstIn capture first → IsFirstIn capture second
     → first ≡ second
 one_first capture None None h k = refl
-one_first capture None (Some Left) h k = absurd (search (arith, never_mended))
-one_first capture None (Some Right) h k = absurd (search (arith, never_mended))
-one_first capture (Some Left) None h k = absurd (search (arith, never_mended))
-one_first capture (Some Right) None h k = absurd (search (arith, never_mended))
+one_first capture None (Some Left) h k = absurd (never_mended Left k.front k.back capture k.parts k.broke h.0)
+one_first capture None (Some Right) h k = absurd (never_mended Right k.front k.back capture k.parts k.broke h.1)
+one_first capture (Some Left) None h k = absurd (never_mended Left h.front h.back capture h.parts h.broke k.0)
+one_first capture (Some Right) None h k = absurd (never_mended Right h.front h.back capture h.parts h.broke k.1)
 one_first capture (Some Left) (Some Left) h k = refl
 one_first capture (Some Right) (Some Right) h k = refl
 one_first capture (Some Left) (Some Right) h k = absurd (not_both capture h k)

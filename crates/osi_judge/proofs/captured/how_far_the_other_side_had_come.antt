@@ -75,7 +75,7 @@ hasty_same : (d : Direction) (m p : ℕ → Handshake) (n : ℕ) → ((k : ℕ) 
     → offset_from at us ≤ n → hasty_from d m s hasty at us ≡ hasty_from d p s hasty at us
 hasty_same d m p n e s hasty at [] l = refl
 hasty_same d m p n e s hasty at (u ∷ us) l =
-    let far = offset_more (at + packet_length u) us in
+    let far = offset_more (at + packet_length u) us in let same = e at (omega arith) in
     grind (arith, hasty_same d m p n e (stage_behind d (p at) s at u) (hasty_behind d (p at) s hasty at u) (at + packet_length u) us l)
 
 -- the packets of a stream mean the same if the other side had come as far before each of its octets

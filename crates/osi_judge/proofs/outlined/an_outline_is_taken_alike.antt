@@ -145,17 +145,25 @@ pair_does : (t : Taker) (item m : Meaning) (o : Option Meaning) → Bared m o �
 pair_does t item m None b i e = tt
 pair_does t item m (Some n) b i e = grind (arith, pair_same, read_again n b.4, idle_same item i, same_by m n b.0 b.1 b.2)
 
+outline_does : (t : Taker) (tsdu : List ℕ) (o : Option Meaning) (c : Count) → DoesAt t tsdu ≡ c → IfSome o (λ n. DoesAt t (written n) ≡ c)
+    → DoesAt t (outline_as tsdu o) ≡ c
+outline_does t tsdu None c h k = h
+outline_does t tsdu (Some n) c h k = either_does (nat_le (length (written n)) (length tsdu)) t (written n) tsdu c k h
+
 one_by : (b : Bool) (t : Taker) (tsdu : List ℕ) (m : Meaning) → is_second m ≡ b → said_at tsdu ≡ Ok (says m ∷ [])
     → DoesAt t (if b then tsdu else outline_as tsdu (bare m)) ≡ Does t (says m ∷ [])
 one_by true t tsdu m e h = ap (λ (r : Result Words SpduFault). counted (respond_came t r)) h
-one_by false t tsdu m e h = grind (arith, either_does, alone_does t m (bare m) (bared m (numbered_at tsdu (says m ∷ []) h).0) e)
+one_by false t tsdu m e h =
+    outline_does t tsdu (bare m) (Does t (says m ∷ [])) (ap (λ (r : Result Words SpduFault). counted (respond_came t r)) h)
+    (alone_does t m (bare m) (bared m (numbered_at tsdu (says m ∷ []) h).0) e)
 
 second_by : (b : Bool) (t : Taker) (tsdu : List ℕ) (item m : Meaning) → has_no_effect item ≡ true → is_second m ≡ b
     → said_at tsdu ≡ Ok (says item ∷ says m ∷ [])
     → DoesAt t (if b then outline_as tsdu (bare m) else tsdu) ≡ Does t (says item ∷ says m ∷ [])
 second_by false t tsdu item m i e h = ap (λ (r : Result Words SpduFault). counted (respond_came t r)) h
 second_by true t tsdu item m i e h =
-    grind (arith, either_does, pair_does t item m (bare m) (bared m (numbered_at tsdu (says item ∷ says m ∷ []) h).1.0) i e)
+    outline_does t tsdu (bare m) (Does t (says item ∷ says m ∷ [])) (ap (λ (r : Result Words SpduFault). counted (respond_came t r)) h)
+    (pair_does t item m (bare m) (bared m (numbered_at tsdu (says item ∷ says m ∷ []) h).1.0) i e)
 
 behind_does : (t : Taker) (tsdu : List ℕ) (item : Meaning) (w : Word) → has_no_effect item ≡ true → said_at tsdu ≡ Ok (says item ∷ w ∷ [])
     → DoesAt t (outline_behind tsdu w) ≡ Does t (says item ∷ w ∷ [])

@@ -41,7 +41,10 @@ compare (suc i) zero = inr (inl (omega arith))
 compare (suc i) (suc j) = grind (arith, compare i j)
 
 one_place : (begin : Seen) (us : List (List ℕ)) (said : List Told) (i j : ℕ) → Strays begin us said i → Strays begin us said j → i ≡ j
-one_place begin us said i j b c = grind (arith, compare, not_later)
+one_place begin us said i j b c = elim (compare i j) [
+  | inl l ↦ absurd (not_later begin us said i j b c l)
+  | inr k ↦ elim k [ inl l ↦ absurd (not_later begin us said j i c b l) | inr e ↦ e ]
+]
 
 -- ---- what is found
 
@@ -64,7 +67,7 @@ pub one_way : OneReading → (d : Direction) (capture : Capture) (f g : Finding)
 one_way one d capture f g a b k h =
     let mine = one d capture h.mine k.mine h.is_mine k.is_mine in
     let others = one (other d) capture h.others k.others h.is_others k.is_others in
-    grind (arith, never_strays, one_place)
+    grind (arith, never_strays, one_place, says)
 
 -- ---- whether there were too many sessions
 

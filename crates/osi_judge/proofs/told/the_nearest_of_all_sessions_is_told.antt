@@ -90,7 +90,8 @@ no_more (m ∷ members) (suc i) l = no_more members i (omega arith)
 fold_flat : (u : Unsaid) (us : List (List ℕ)) (before : ℕ) (best : Near) (members : List Member)
     → fold (tried u) best (flat_map (reached us before) members) ≡ fold (tries u us before) best members
 fold_flat u us before best [] = refl
-fold_flat u us before best (m ∷ members) = grind (arith, fold-append, fold_flat u us before (tries u us before best m) members)
+fold_flat u us before best (m ∷ members) =
+    fold-append (tried u) best (reached us before m) _ ∙ fold_flat u us before (tries u us before best m) members
 
 -- ---- all members
 

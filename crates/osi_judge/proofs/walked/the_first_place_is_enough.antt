@@ -90,7 +90,8 @@ nowhere us heard later w octets before at d x h m e =
 pub at_last : (us : List (List ℕ)) (later : List Remark) (w : Word) (octets before : ℕ) (at : Member) (said : Option Member) →
     is_steady w ≡ true → IsBehind before later → before ≤ at.taken
     → SaysTo at w octets said → Explains us (the_remark w octets before ∷ later) at.taken at.standing ↔ OneExplains us later said
-at_last us later w octets before at said d b l h = grind (arith, said_first, later_place)
+at_last us after w octets before at (Some place) d b l h = said_first us after w octets before at place d b h
+at_last us after w octets before at None d b l h = grind (arith, later_place)
 
 -- one after the other
 pub chain : {A B C : Type 0} → (A ↔ B) → (B ↔ C) → (A ↔ C)

@@ -1,6 +1,6 @@
 -- Of three sessions that differ in V(A) alone, in the order of V(A), the first may send what the second may, and either is then in
 -- the same state or all three are as they were. For the law of what lies between.
-use Rattle.osi_judge.proofs.Vocabulary.{◌≡◌, ◌∙◌, refl, sym, ap, ℕ, ◌+◌, ◌≤◌, ◌⊎◌, inr, Bool, true, false, not, ◌&&◌, ◌||◌, ◌==◌, is_none}
+use Rattle.osi_judge.proofs.Vocabulary.{◌≡◌, ◌∙◌, refl, sym, ap, ℕ, ◌+◌, ◌≤◌, ◌⊎◌, inl, inr, Bool, true, false, not, ◌&&◌, ◌||◌, ◌==◌}
 use Rattle.osi_judge.proofs.Vocabulary.{unwrap_or, if◌then◌else◌, nat_le, List, [], ◌∷◌, length, Option, Some, None, option_map, Ok, arith}
 use Rattle.osi_judge.proofs.Vocabulary.{and_parts, leb-true, le-leb, are_sizes, Meaning, CN, AC, RF, DT, GT, PT, MIP, MIA, MAP, MAA, RS, RA}
 use Rattle.osi_judge.proofs.Vocabulary.{FN, DN, NF, AB, AA, names, each, Word, says, part, Connecting, Releasing, State, AllHold, Answer}
@@ -10,7 +10,7 @@ use Rattle.osi_judge.proofs.Vocabulary.{RestartConfirm, ReleaseAccept, ReleaseRe
 use Rattle.osi_judge.proofs.Vocabulary.{is_ready, is_wait_transport, agreed_base, has_no_effect, is_restart, answers_wishes, of_answerer}
 use Rattle.osi_judge.proofs.Vocabulary.{stated, limit_of, Seen, CanSay, calling, fits_user_data, goes, is_in_size, left_by, may_send}
 use Rattle.osi_judge.proofs.Vocabulary.{said_message, said_within, stands_in_place, where_is, functional_units, call_leaves, mapped}
-use Rattle.osi_judge.proofs.Vocabulary.{confirmed_to, seen_to}
+use Rattle.osi_judge.proofs.Vocabulary.{confirmed_to, seen_to, is_none}
 use Rattle.osi_session.specs.Allowed.{octets_of}
 use Rattle.osi_session.specs.Allowed.{sends}
 unfoldable use Rattle.osi_session.specs.Allowed.{met}
@@ -237,6 +237,8 @@ pub says_between : (s : Seen) (w : Word) (o a v c : ℕ) (next : Seen) → a ≤
 says_between s (says (MIA k d)) o a v c next l m h =
     let p = within (seen_to v s) next (says (MIA k d)) o h in
     inr (can_say (seen_to a s) (says (MIA k d)) o next p.0 (mia_says s k d a v next l p.1))
-says_between s (says u) o a v c next l m h = search (arith, three_say, any_says, within (seen_to v s) next (says u) o h)
+says_between s (says u) o a v c next l m h =
+    let p = within (seen_to v s) next (says u) o h in
+    inl (three_say s (says u) o a v c next l m p.0 (any_says s (says u) v next refl p.1))
 says_between s (part place octets) o a v c next l m h =
     grind (arith, three_say, any_says, within (seen_to v s) next (part place octets) o h)

@@ -3,14 +3,15 @@ use Rattle.osi_stack.proofs.Vocabulary.{nat_tests, list_any, Value, Happening, R
 use Rattle.osi_stack.proofs.Vocabulary.{put_here, put_other, Meaning, said_by_units, said_at, words_of, IsSendable, words_sent, tsdus_of}
 use Rattle.osi_stack.proofs.Vocabulary.{tsdus_sent, behind_no_token, part_octets, written, spelled, Place as PartPlace, tsdu_at, Input}
 use Rattle.osi_stack.proofs.Vocabulary.{Listener, called, opened, refused, broken, taken, came, react, awaits, limit_of, Shown, first_shown}
-use Rattle.osi_stack.proofs.Vocabulary.{without_first, move_refusal, session_refusal, call_error, carries_out, after_unit, opens, hears}
-use Rattle.osi_stack.proofs.Vocabulary.{hears_all, with_events, concludes, loses, all_lost, Message, unit, ask, agree, deny, bye, IsWhole}
-use Rattle.osi_stack.proofs.Vocabulary.{put_by, puts, Acts, Effect, begins, happens, rests, effect_at, told_at, AreShort, IsShort, CanHear}
-use Rattle.osi_stack.proofs.Vocabulary.{Hears, told_all, Arrives, kept_at, waiting_of, Becomes, IsGranted, Says, AreLost, all_waiting}
-use Rattle.osi_stack.proofs.Vocabulary.{IsFirstOf, limit_for, line_by, to_session, Line, End, session_in, session_at, line_waits, waits}
-use Rattle.osi_stack.proofs.Vocabulary.{is_used, used_lines, joins, answers_by, Answer, allowed, Call, CallError, ◌≡◌, ℕ, ◌==◌, Bool, true}
-use Rattle.osi_stack.proofs.Vocabulary.{false, not, List, [], ◌∷◌, length, nat_lt, Option, Some, None, is_some, option_map, Ok, refl, sym}
-use Rattle.osi_stack.proofs.Vocabulary.{ap, subst, ◌∙◌, arith, if◌then◌else◌, never, was_given, part}
+use Rattle.osi_stack.proofs.Vocabulary.{without_first, move_refusal, session_refusal, has_given, call_error, carries_out, after_unit, opens}
+use Rattle.osi_stack.proofs.Vocabulary.{hears, hears_all, with_events, concludes, loses, all_lost, Message, unit, ask, agree, deny, bye}
+use Rattle.osi_stack.proofs.Vocabulary.{IsWhole, put_by, puts, Acts, Effect, begins, happens, rests, effect_at, told_at, AreShort, IsShort}
+use Rattle.osi_stack.proofs.Vocabulary.{CanHear, Hears, told_all, Arrives, kept_at, waiting_of, Becomes, IsGranted, Says, AreLost}
+use Rattle.osi_stack.proofs.Vocabulary.{all_waiting, IsFirstOf, limit_for, line_by, by_line, carrier_by, put, to_session, Line, End}
+use Rattle.osi_stack.proofs.Vocabulary.{session_in, session_at, line_waits, waits, is_used, used_lines, joins, answers_by, Answer, allowed}
+use Rattle.osi_stack.proofs.Vocabulary.{Call, CallError, ◌≡◌, ℕ, ◌==◌, Bool, true, false, not, List, [], ◌∷◌, length, nat_lt, Option, Some}
+use Rattle.osi_stack.proofs.Vocabulary.{None, is_some, option_map, Ok, refl, sym, ap, subst, ◌∙◌, arith, if◌then◌else◌, never, was_given}
+use Rattle.osi_stack.proofs.Vocabulary.{part}
 use Rattle.osi_carrier.specs.Place.{Place}
 use Rattle.osi_carrier.specs.Happenings as told
 use Rattle.osi_carrier.specs.React as carriers
@@ -27,14 +28,22 @@ answers_put : (r : ℕ) (closes : Bool) (limit : ℕ) (reply : Option Meaning) (
     answers_by closes r (tsdus_sent limit reply) c ≡ puts r (put_by closes limit reply) c
 answers_put r true limit reply c short = refl
 answers_put r false limit None c short = hands_none r c
-answers_put r false limit (Some m) c short = grind (arith, handed r (tsdus_of limit m) c short, puts_words r (words_sent limit m) c)
+answers_put r false limit (Some m) c short = handed r (tsdus_of limit m) c short ∙ puts_words r (words_sent limit m) c
 
 -- ---- a move
 
 by_acts : (r : ℕ) (input : Input) (e : End) (line : Line) (s : Listener) → value_at r e.lines ≡ Some line → line.session ≡ Some s →
     IsShort (limit_for s input) (react s input).reply →
     Acts r input e (to_session r input e)
-by_acts r input e line s here is short = grind (arith, answers_put)
+by_acts r input e line s here is short = record {
+  line = line;
+  session = s;
+  here = here;
+  is = is;
+  lines = ap (λ o. (by_line r o input e).lines) here ∙ ap (λ o. put r (line_by line o input) e.lines) is;
+  carrier = ap (λ o. (by_line r o input e).carrier) here ∙ ap (λ o. carrier_by r o input e.carrier) is
+      ∙ answers_put r (react s input).closes (limit_for s input) (react s input).reply e.carrier short;
+}
 
 pub acts_becomes : (r : ℕ) (input : Input) (old new : End) (a : Acts r input old new) →
     Becomes r (react a.session input).next (react a.session input).shown old.lines new.lines
@@ -53,8 +62,9 @@ happens_by : (r : ℕ) (input : Input) (event : Happening) (v : Value) (e : End)
     hears event (told_all v e) ≡ to_session r input (told_all v e) → CanHear r (happens input) e.lines →
     Arrives r (happens input) v e (after_unit e v)
 happens_by r input event v e h same can =
-    arrives_by r (happens input) v e (to_session r input (told_all v e)) (search (arith, by_acts))
-    ((grind (arith, one_heard)) ∙ ap concludes same)
+    arrives_by r (happens input) v e (to_session r input (told_all v e))
+    (by_acts r input (told_all v e) can.0.line can.0.session can.0.here can.0.is can.1)
+    (ap concludes (one_heard (carries_out v e) event h ∙ same))
 
 pub record Readings : Type 0 where
   pub parts : (place : PartPlace) (octets : List ℕ) → said_at (part_octets place octets) ≡ Ok (behind_no_token (words.part place octets))
@@ -75,11 +85,12 @@ pub arrives : Readings → (r : ℕ) (place : Place) (m : Message) (v : Value) (
     CanHear r (effect_at place m) e.lines → Arrives r (effect_at place m) v e (after_unit e v)
 arrives law r never ask v e whole h can =
     arrives_by r begins v e (joins r awaits (told_all v e)) refl
-    ((grind (arith, one_heard)) ∙ ap (λ o. concludes (opens r o (told_all v e))) can)
+    (ap concludes (one_heard (carries_out v e) (told.opened r) h ∙ ap (λ o. opens r o (told_all v e)) can))
 arrives law r (was_given (Some asked)) agree v e whole h can =
     happens_by r opened (told.opened r) v e h (ap (λ o. opens r o (told_all v e)) can.0.here) can
 arrives law r (was_given (Some asked)) (deny reason) v e whole h can = happens_by r (refused reason) (told.refused r reason) v e h refl can
-arrives law r (was_given (Some (linked peer link))) (unit m) v e whole h can = search (arith, happens_by, came_is)
+arrives law r (was_given (Some (linked peer link))) (unit m) v e whole h can =
+    happens_by r (taken (words_of m)) (told.tsdu r (written m)) v e h (ap (λ i. to_session r i (told_all v e)) (came_is law m whole)) can
 arrives law r (was_given (Some (linked peer link))) (part place octets) v e whole h can = search (arith, happens_by, law.parts place octets)
 arrives law r (was_given (Some (linked peer link))) (bye reason) v e whole h can = happens_by r broken (told.closed r reason) v e h refl can
 arrives law r place m v e whole h can = arrives_by r rests v e (told_all v e) refl (quiet_unit v e h)
@@ -130,10 +141,13 @@ pub line_of : (b : Bool) (o : Option Line) (s : Listener) → (if b then session
     (line : Line) × (o ≡ Some line) × (line.session ≡ Some s)
 line_of b o s h = grind arith
 
+some_none : (x : CallError) → Some x ≡ None → ⊥
+some_none x h = cc
+
 says_at : (r : ℕ) (call : Call) (e : End) (o : Option Listener) → session_at r e ≡ o → session_refusal r o call e.carrier ≡ None →
     Says r call e (to_session r (called call) e)
 unfolding by_acts
-says_at r call e None at h = let no : Some error.Ended ≡ None = h in cc
+says_at r call e None at h = absurd (some_none error.Ended h)
 says_at r call e (Some s) at h =
     let there = line_of (is_some (value_at r e.carrier.live)) (value_at r e.lines) s at in
     let g = granted_by r call s e.carrier (allowed s.state call) refl h in
@@ -148,7 +162,8 @@ given_by : (b : Bool) (o : Option CallError) → (if not b then Some error.NoSuc
 given_by b o h = grind arith
 
 pub says_is : (r : ℕ) (call : Call) (e : End) → call_error r call e ≡ None → Says r call e (to_session r (called call) e)
-says_is r call e h = search (arith, says_at, given_by)
+says_is r call e h =
+    says_at r call e (session_at r e) refl (given_by (has_given r e.carrier) (session_refusal r (session_at r e) call e.carrier) h)
 
 -- ---- a new line
 

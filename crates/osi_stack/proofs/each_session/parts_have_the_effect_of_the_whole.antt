@@ -3,7 +3,8 @@ use Rattle.osi_stack.proofs.Vocabulary.{append-nil, Rows, value_at, put, State a
 use Rattle.osi_stack.proofs.Vocabulary.{called, came, react, after_inputs, Act, comes, calls, act_in_octets, calls_in, IsSilent, AreSilent}
 use Rattle.osi_stack.proofs.Vocabulary.{Shown, limit_of, kept_at, limit_for, answers, to_session, Selectors, selectors_told, shows_connect}
 use Rattle.osi_stack.proofs.Vocabulary.{Line, End, session_in, ◌≡◌, ℕ, List, [], ◌∷◌, ◌++◌, map, Option, Some, None, refl, ap, ◌∙◌}
-use Rattle.osi_stack.proofs.Vocabulary.{if◌then◌else◌, arith, to_session_along}
+use Rattle.osi_stack.proofs.Vocabulary.{if◌then◌else◌, arith, to_session_along, sym, Move, line_by, by_line}
+use Rattle.osi_session.specs.Parts.{AreAlike}
 
 -- ---- the end with a session at a reference
 
@@ -31,7 +32,10 @@ moves_at : (r : ℕ) (input : Input) (c : Carrier) (l : Listener) (waiting : Lis
     ≡ at r (answers r (limit_for l input) (react l input) c) (react l input).next (waiting ++ (react l input).shown)
     (names (react l input).shown (selectors_told input) selectors) rows
 moves_at r input c l waiting selectors rows h =
-    grind (arith, put_here r (record { session = Some l; waiting = waiting; selectors = selectors }) h.line rows h.here, put_twice)
+    let line : Line = record { session = Some l; waiting = waiting; selectors = selectors } in
+    ap (λ (o : Option Line). by_line r o input (at r c l waiting selectors rows)) (put_here r line h.line rows h.here)
+    ∙ ap (λ (x : Rows Line). record { carrier = answers r (limit_for l input) (react l input) c; lines = x })
+    (put_twice r (line_by line (Some l) input) line rows)
 
 -- ---- a part before the last, and a call
 
@@ -39,6 +43,18 @@ silent_at : (r : ℕ) (input : Input) (c : Carrier) (l : Listener) (waiting : Li
     HasLine r rows → IsSilent (react l input) →
     to_session r input (at r c l waiting selectors rows) ≡ at r c (react l input).next waiting selectors rows
 silent_at r input c l waiting selectors rows h s = grind (arith, moves_at, react, selectors_told, limit_for, append-nil)
+
+-- two moves with the same effect, beside the session
+alike_at : (r n k : ℕ) (a b : Move) (c : Carrier) (l : Listener) (w : List Shown) (s : Option Selectors) (rows : Rows Line) →
+    n ≡ k → AreAlike a b →
+    at r (answers r n a c) l (w ++ a.shown) (names a.shown None s) rows
+    ≡ at r (answers r k b c) l (w ++ b.shown) (names b.shown None s) rows
+alike_at r n k a b c l w s rows sizes same = cc
+
+same_at : (r n k : ℕ) (a b : Move) (c : Carrier) (w : List Shown) (s t u : Option Selectors) (rows : Rows Line) → n ≡ k → a ≡ b → t ≡ u →
+    at r (answers r n a c) a.next (w ++ a.shown) (names a.shown t s) rows
+    ≡ at r (answers r k b c) b.next (w ++ b.shown) (names b.shown u s) rows
+same_at r n k a b c w s t u rows sizes same told = cc
 
 -- ---- both runs
 
@@ -66,14 +82,13 @@ runs r rows c waiting selectors l m (calls call ∷ acts) h silent =
     let two = react m (called call) in
     let more = runs r rows (answers r (limit_of l.state) one c) (waiting ++ one.shown) (names one.shown None selectors) one.next two.next
     acts h silent.1 in
-    let parts = moves_at r (called call) c l waiting selectors rows h in
-    let whole = moves_at r (called call) c m waiting selectors rows h in
+    let same = alike_at r (limit_of l.state) (limit_of m.state) one two c two.next waiting selectors rows silent.0.0 silent.0.1 in
     record {
       carrier = more.carrier;
       waiting = more.waiting;
       selectors = more.selectors;
-      parts = grind arith;
-      whole = grind arith;
+      parts = ap (to_session_along r (map act_in_octets acts)) (moves_at r (called call) c l waiting selectors rows h) ∙ more.parts;
+      whole = ap (to_session_along r (calls_in acts)) (moves_at r (called call) c m waiting selectors rows h ∙ sym same) ∙ more.whole;
     }
 
 -- ---- the end as it was
@@ -99,6 +114,11 @@ parts_as_whole r session acts last whole e kept silent same sizes told =
     let h : HasLine r e.lines = record { line = there.0; here = there.1 } in
     let begun = stands_at r session e there.0 there.1 there.2 in
     let both = runs r e.lines e.carrier there.0.waiting there.0.selectors session session acts h silent in
-    let one = moves_at r last both.carrier parted both.waiting both.selectors e.lines h in
-    let two = moves_at r whole both.carrier alone both.waiting both.selectors e.lines h in
-    grind arith
+    ap (λ (x : End). to_session r last (to_session_along r (map act_in_octets acts) x)) begun
+    ∙ ap (to_session r last) both.parts
+    ∙ moves_at r last both.carrier parted both.waiting both.selectors e.lines h
+    ∙ same_at r (limit_for parted last) (limit_for alone whole) (react parted last) (react alone whole) both.carrier both.waiting
+    both.selectors (selectors_told last) (selectors_told whole) e.lines sizes same told
+    ∙ sym (moves_at r whole both.carrier alone both.waiting both.selectors e.lines h)
+    ∙ sym (ap (to_session r whole) both.whole)
+    ∙ sym (ap (λ (x : End). to_session r whole (to_session_along r (calls_in acts) x)) begun)

@@ -5,11 +5,12 @@ use Rattle.osi_stack.proofs.Vocabulary.{front_used, packets_within, at_same, Sho
 use Rattle.osi_stack.proofs.Vocabulary.{StopsBehind, Goes, after_packet, Account, account_of, with_packets, Calls, HasRoom, CallsAlong}
 use Rattle.osi_stack.proofs.Vocabulary.{CallsInRoom, used_in, account_along, AreAlike, feeding, telling, carrying, End, Holding, waits}
 use Rattle.osi_stack.proofs.Vocabulary.{EndCall as Call, ◌≡◌, ℕ, ◌+◌, ◌-◌, ◌<◌, ◌^◌, true, false, List, ◌∷◌, ◌++◌, length, take, Some, None}
-use Rattle.osi_stack.proofs.Vocabulary.{is_some, refl, sym, ap, ◌∙◌, ◌⊎◌, inl, inr, arith, append_assoc, [], none_of, Option}
+use Rattle.osi_stack.proofs.Vocabulary.{is_some, refl, sym, ap, ◌∙◌, ◌⊎◌, inl, inr, arith, append_assoc, [], none_of, Option, ArePackets}
+use Rattle.osi_stack.proofs.Vocabulary.{Bool, Feeds, subst}
 use Rattle.osi_stack.specs.Feeding.{Refuses}
 use Rattle.osi_carrier.proofs.stream.what_takes_packets_ends_alike as takers
 use Rattle.osi_stack.proofs.in_step.the_account_packet_by_packet.{made, after_more, account_quiet, packets_apart, packets_done, with_joined}
-use Rattle.osi_stack.proofs.carried.packets_without_events.{both, or_first, or_second, packets_append, never}
+use Rattle.osi_stack.proofs.carried.packets_without_events.{both, or_first, or_second, packets_append, never, quiet_stops}
 use Rattle.osi_stack.proofs.carried.an_ended_carrier_stays_ended.{starved_full}
 use Rattle.osi_stack.proofs.stream.an_end_is_what_its_packets_make.{accounts, faulted, running, any_calls}
 
@@ -72,7 +73,20 @@ ends_stops old piece fed new later quiet stop over =
     let front = front_used (uses_all new.end) piece fed.used stop.within stop.bound stop.uses in
     let packets = packets_within stop.units old.held.octets (take fed.used piece) (take stop.within piece) front.0 later [] front.1
     stop.packets in
-    grind (arith, takes_last, packets_done)
+    let t = takes_last stop.units old.end new.end stop.taken quiet stop.stopped in
+    let done = packets_done stop.units old.end new.end stop.taken ∙ ap (λ l. with_packets l (account_of [] [] old.end)) t.all in
+    record {
+      how = inl (record {
+        before = t.before;
+        last = t.last;
+        rest = front.0 ++ later;
+        packets = subst (λ us. ArePackets us (old.held.octets ++ (take fed.used piece ++ later)) (front.0 ++ later)) t.all packets;
+        lasts = t.lasts;
+        over = ap (λ (a : Account). is_some a.end.carrier.ended) (sym done) ∙ over;
+        account = done;
+      });
+      nothing = stop.held;
+    }
 
 ends_refuses : (old : Holding) (piece : List ℕ) (fed : Fed) (new : Holding) (later : List ℕ) → Refuses old piece fed.used new →
     Outcome old (old.held.octets ++ (take fed.used piece ++ later)) (account_of [] [] new.end) new.held.octets
@@ -103,6 +117,13 @@ ends_goes old piece fed new later quiet (inl (inl dry)) over = never new.end ove
 ends_goes old piece fed new later quiet (inl (inr stop)) over = ends_stops old piece fed new later quiet stop over
 ends_goes old piece fed new later quiet (inr refused) over = ends_refuses old piece fed new later refused
 
+-- an end that a piece ended was reading
+fed_quiet : (old : Holding) (piece : List ℕ) (fed : Fed) (new : Holding) (waiting : Bool) → waits old.end.lines ≡ waiting →
+    old.end.carrier.ended ≡ None → Feeds old piece fed new → is_some new.end.carrier.ended ≡ true → stops old.end ≡ false
+fed_quiet old piece fed new true e alive h over =
+    never new.end over (ap (λ (x : Holding). x.end.carrier.ended) (h.waiting alive e).1 ∙ alive)
+fed_quiet old piece fed new false e alive h over = quiet_stops old.end (ap is_some alive) e
+
 -- ---- calls for which there is memory
 
 abbrev InRoom : Holding → Call → Holding → Type 0
@@ -112,7 +133,11 @@ abbrev in_room_calls : takers.Runner accounts Holding Call InRoom CallsInRoom
 in_room_calls = running InRoom CallsInRoom (λ old new h. h) (λ old call calls new h. (h.0, (h.1, h.2), h.3)) (λ old call new h. h.0)
 
 finishes : takers.Finishes in_room_calls (λ reason. ⊥)
-finishes old call new later h alive over = inr (grind (arith, never, ends_goes))
+finishes old (feeding piece fed) new later h alive over =
+    let quiet = fed_quiet old piece fed new (waits old.end.lines) refl alive h.0 over in
+    inr (ends_goes old piece fed new later quiet (h.1 quiet) over)
+finishes old (telling shown) new later h alive over = never new.end over (ap (λ (x : Holding). x.end.carrier.ended) h.0.1 ∙ alive)
+finishes old (carrying octets) new later h alive over = never new.end over (ap (λ (x : Holding). x.end.carrier.ended) (sym h.0) ∙ alive)
 
 pub outcome_along : IsPartial [] → (old : Holding) (calls : List Call) (new : Holding) → old.end.carrier.ended ≡ None →
     old.held.offset < 2 ^ 64 → CallsInRoom old calls new → is_some new.end.carrier.ended ≡ true →
@@ -127,7 +152,9 @@ pub pieces_end : PacketLaws → IsPartial [] → (old a b : Holding) (xs ys : Li
 pieces_end laws nothing old a b xs ys partial bound quiet h k used ended =
     let e = takers.pieces_end in_room_calls (λ reason. ⊥) finishes old a b xs ys partial bound quiet h k used ended (λ none. none)
     (λ none. none) in
-    grind arith
+    let alike : AreAlike a xs b ys =
+    record { octets = e.nothing ∙ sym e.nothing_too; end = ap (λ x. x.end) e.account; told = ap (λ x. x.told) e.account } in
+    (alike, e.nothing)
 
 -- ---- calls for which there may be too little
 
@@ -177,9 +204,11 @@ starves_goes old piece fed new later quiet lasts (inr (inl refused)) over =
     (account_of [] [] new.end) lasts (ends_refuses old piece fed new later refused).how)
 
 starves : takers.Starves any_calls Full
-starves old (feeding piece fed) new later h alive over lasts = grind (arith, never, starves_goes)
+starves old (feeding piece fed) new later h alive over lasts =
+    let quiet = fed_quiet old piece fed new (waits old.end.lines) refl alive h over in
+    starves_goes old piece fed new later quiet lasts (h.goes quiet) over
 starves old (telling shown) new later h alive over lasts = never new.end over (ap (λ (x : Holding). x.end.carrier.ended) h.1 ∙ alive)
-starves old (carrying octets) new later h alive over lasts = grind (arith, never)
+starves old (carrying octets) new later h alive over lasts = never new.end over (ap (λ (x : Holding). x.end.carrier.ended) (sym h) ∙ alive)
 
 pub pieces_last : PacketLaws → IsPartial [] → (old a b : Holding) (xs ys : List Call) → IsPartial old.held.octets →
     old.end.carrier.ended ≡ None →

@@ -11,3 +11,6 @@ returns-then-is_covered-clause-value c = grind (arith, said_covered)
 
 pub returns-clause-value : goal.returns-clause-value
 returns-clause-value c = grind (arith, said_anew)
+
+pub returns-clause-says : goal.returns-clause-says
+returns-clause-says c = λ us later. search (arith, c.in_ok-add.ensures.explained us later)
