@@ -1,13 +1,14 @@
 -- What every cutter holds, and what its calls do to it.
-use Rattle.std.proofs.Common.{◌≡◌, ℕ, ◌+◌, ◌-◌, ◌<◌, ◌≤◌, ◌^◌, ◌∷◌, ◌⊎◌, inl, inr, List, [], ◌++◌, length, take, refl, sym, ap, subst}
-use Rattle.std.proofs.Common.{arith, Bool, true, false, Option, Some, None, Result, Ok, Err, IfOk, MatchBool}
+use Rattle.std.proofs.Common.{◌≡◌, ℕ, ◌+◌, ◌-◌, ◌<◌, ◌≤◌, ◌^◌, ◌∷◌, ◌⊎◌, inl, inr, List, [], ◌++◌, length, take, drop}
+use Rattle.std.proofs.Common.{refl, sym, ap, ◌∙◌, subst, arith, Bool, true, false, Option, Some, None, Result, Ok, Err, IfOk, MatchBool}
 use Rattle.osi_tpkt.specs.declared.cutting.Progress.{Progress}
-use Rattle.osi_tpkt.specs.declared.cutting.Progress.TheVariants.{Awaited, Partial}
+use Rattle.osi_tpkt.specs.declared.cutting.Progress.TheVariants.{Awaited, Partial, Stopped}
+use Rattle.osi_tpkt.specs.declared.cutting.Stop.TheVariants.{Whole}
 use Rattle.osi_tpkt.proofs.Vocabulary.{none-some, IsOnePacket, IsPartial, IsFaultOf, IsFront, IsFull, IsUnfinished, Held, IsHolding, Gains}
 use Rattle.osi_tpkt.proofs.Vocabulary.{TakesPiece, Feeds, Passes, Advances, CutterRun, Feed, Advance, fault_of, FitsProgress, IsKept}
-use Rattle.osi_tpkt.proofs.Vocabulary.{TpktFault, BadVersion, BadLength, OutOfMemory, Fed}
+use Rattle.osi_tpkt.proofs.Vocabulary.{append-nil, IsPacket, TpktFault, BadVersion, BadLength, OutOfMemory, Fed}
 use Rattle.osi_tpkt.proofs.a_prefix_of_a_packet.{short_partial, full_packet, partial_not_whole, belonging_some, belonging_no_fault}
-use Rattle.osi_tpkt.proofs.a_prefix_of_a_packet.{surveyed, one_fault, holding, empty_partial}
+use Rattle.osi_tpkt.proofs.a_prefix_of_a_packet.{surveyed, one_fault, front_packet, holding, empty_partial}
 
 -- the same of its value
 pub kept_sound : (offset : ℕ) (octets : List ℕ) (progress : Progress) (room : ℕ) (now : Held) → IsKept offset octets progress →
@@ -41,6 +42,27 @@ taken_used old piece result new partial t = grind (arith, belonging_some)
 pub taken_feeds : (old : Held) (piece : List ℕ) (result : Result Fed TpktFault) (new : Held) → old.fault ≡ None → IsPartial old.octets →
     TakesPiece old piece result new → Feeds old piece result new
 taken_feeds old piece result new unfaulted partial t = grind (arith, taken_used, partial_not_whole, none-some)
+
+-- the unit of the packet that is ready, as it is sliced from the buffer
+pub ready : (offset held room : ℕ) (items slice : List ℕ) (progress : Progress) (now : Held) → progress ≡ Stopped Whole →
+    IsKept offset (take held items) progress → held ≤ length items → slice ≡ items →
+    holding offset (fault_of offset progress) (take held items) room ≡ now → IsPacket (take (held - 4) (drop 4 slice)) now.octets
+ready offset held room items slice progress now is kept within same view =
+    let fits : IsFront (take held items) × IsFull (take held items) = subst (λ p. FitsProgress (take held items) p) is kept.progress in
+    let packet = front_packet items held within fits.0 fits.1 in
+    subst (λ (h : Held). IsPacket (take (held - 4) (drop 4 slice)) h.octets) view (rw same packet)
+
+-- a cutter with a packet that is ready takes nothing
+pub whole_feeds : (offset : ℕ) (octets : List ℕ) (progress : Progress) (room : ℕ) (old new : Held) (piece : List ℕ) →
+    progress ≡ Stopped Whole → IsKept offset octets progress → holding offset (fault_of offset progress) octets room ≡ new → new ≡ old →
+    Feeds old piece (Ok (record { used = 0; whole = true })) new
+whole_feeds offset octets progress room old new piece is kept view same =
+    let fits : IsFront octets × IsFull octets = subst (λ p. FitsProgress octets p) is kept.progress in
+    let whole : IsOnePacket old.octets =
+    subst (λ (h : Held). IsOnePacket h.octets) (view ∙ same) (drop 4 octets, full_packet octets fits.0 fits.1) in
+    let unfaulted : old.fault ≡ None = sym (ap (λ (h : Held). h.fault) (view ∙ same)) ∙ ap (fault_of offset) is in
+    let never : IsPartial old.octets → ⊥ = λ partial. partial_not_whole old.octets partial whole in
+    grind (arith, never, none-some)
 
 pub none_or_some : (o : Option TpktFault) → (o ≡ None) ⊎ ((f : TpktFault) × (o ≡ Some f))
 none_or_some None = inl refl
@@ -91,6 +113,18 @@ pub gathered : (offset held used before after : ℕ) (fault : Option TpktFault) 
     take (held + length part) new ≡ take held mid ++ part → take held mid ≡ take held old → fault ≡ None → before ≤ after →
     Gains (holding offset fault (take held old) before) part (holding offset None (take (held + used) new) after)
 gathered offset held used before after fault old mid new part count put stays unfaulted more = grind (arith, holding)
+
+-- a piece whose fault is kept, and one of which nothing belongs to the packet
+pub faulted : (offset room : ℕ) (fault : Option TpktFault) (octets held piece : List ℕ) (f : TpktFault) (old : Held) → held ≡ octets →
+    holding offset fault octets room ≡ old → IsFaultOf offset (held ++ piece) f →
+    IsFaultOf old.offset (old.octets ++ piece) f × (holding offset (Some f) octets room ≡ record old { fault = Some f })
+faulted offset room fault octets held piece f old same view bad = (
+  subst (λ (h : Held). IsFaultOf h.offset (h.octets ++ piece) f) view (subst (λ x. IsFaultOf offset (x ++ piece) f) same bad),
+  ap (λ (h : Held). record h { fault = Some f }) view,
+)
+
+pub none_gained : (old : Held) (n : ℕ) (piece : List ℕ) → n ≡ 0 → Gains old (take n piece) old
+none_gained old n piece none = grind (arith, append-nil)
 
 -- a complete packet at the front of a piece, put where one was awaited
 pub taken_whole : (offset used before after : ℕ) (octets piece items : List ℕ) (progress : Progress) (now : Held) → progress ≡ Awaited →

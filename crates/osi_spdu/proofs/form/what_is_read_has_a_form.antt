@@ -5,7 +5,7 @@ use Rattle.osi_spdu.proofs.Vocabulary.{slot_of, every_code, codes_of, members_of
 use Rattle.osi_spdu.proofs.Vocabulary.{settled, Contents, code_among, Placed, contents_of, unit_at, Part, Sole, IsPart, Spells, only}
 use Rattle.osi_spdu.proofs.Vocabulary.{MemberOf, MeansInGroup, GroupOf, ParameterOf, KnownOf, MeansInUnit, SpellsUnit, among, may_be_there}
 use Rattle.osi_spdu.proofs.Vocabulary.{is_enclosed, is_formed, ◌⊎◌, inl, inr, ◌≡◌, ℕ, Bool, true, false, cond, not, ◌||◌, List, [], ◌∷◌}
-use Rattle.osi_spdu.proofs.Vocabulary.{map, Option, Some, None, Ok, refl, sym, ap, subst, ◌∙◌, arith}
+use Rattle.osi_spdu.proofs.Vocabulary.{ExtendedUserData, map, Option, Some, None, Ok, refl, sym, ap, subst, ◌∙◌, arith}
 use Rattle.osi_spdu.proofs.basics.options_that_are_added.{Joins, first, sole_split}
 use Rattle.osi_spdu.proofs.basics.the_steps_of_reading.{same_true, same_refl}
 use Rattle.osi_spdu.proofs.parameters.each_slot_has_one_code.{among_named, any_weaker}
@@ -91,12 +91,22 @@ group_source kind raw g value v gives d there m e within =
       | inr n ↦ inr (g, there, inner_source kind g value v m.0 d m.1 (let k = m.2 d in grind arith), within g [] presence)
     ]
 
+-- the slot of a parameter is one of the unit's
+extended_unit : (kind : Kind) → among (codes_of kind) ExtendedUserData ≡ true → among (codes_of kind) UserData ≡ true
+unfolding codes_of number_of
+extended_unit kind e = grind arith
+
+slot_among : (kind : Kind) (c : Code) → among (codes_of kind) c ≡ true → among (codes_of kind) (slot_of c) ≡ true
+unfolding slot_of
+slot_among kind c e = grind (arith, extended_unit)
+
 parameter_source : (kind : Kind) (raw : Known) (c : Code) (value v : List ℕ) (gives : Known) (d : Code) (b : Bool) →
     among (codes_of kind) c ≡ true → ParameterOf kind c value gives b → gives d ≡ Some v
     → ((x : Code) (w : List ℕ) → gives x ≡ Some w → raw x ≡ Some w) → IsOwned kind raw d
-unfolding slot_of codes_of number_of
 parameter_source kind raw c value v gives d true there m e within = group_source kind raw c value v gives d there m e within
-parameter_source kind raw c value v gives d false there m e within = grind (arith, slot_of, only_slot, codes_of)
+parameter_source kind raw c value v gives d false there m e within =
+    let same : d ≡ slot_of c = only_slot d (slot_of c) m.0 v (sym (ap (λ (k : Known). k d) m.2) ∙ e) in
+    inl (rw same (slot_among kind c there))
 
 unit_source : (kind : Kind) (raw : Known) (value v : List ℕ) (gives : Known) (d : Code) (o : Option Code) (n : ℕ) →
     code_among (codes_of kind) n ≡ o → KnownOf kind value gives o → gives d ≡ Some v

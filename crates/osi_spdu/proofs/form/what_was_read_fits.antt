@@ -49,10 +49,16 @@ total_one f s [] single h = omega arith
 total_one f s (c ∷ codes) single h =
     let t = once_tail (is_same s c) (list_any (λ e. is_same s e) codes) (once (λ x e. is_same e x) codes s) single in
     elim (cases_Bool (is_same s c)) [
-      | inl same ↦ grind (arith, same_true, total_zero, or_right, both_ways)
+      | inl same ↦
+          let others : total f codes ≡ 0 = total_zero f codes (λ d a. h d (or_right (is_same d c) (among codes d) a)
+          (λ e. both_ways (among codes s) (t.0 same) (subst (λ (x : Code). among codes x ≡ true) e a))) in
+          let first_is : f c ≡ f s = ap f (sym (same_true s c same)) in
+          omega arith
       | inr other ↦
-          let none : f c ≡ 0 = grind (arith, or_left, same_refl, both_ways) in
-          grind (arith, or_right, total_one f s codes (t.1 other) (λ d a n. h d (or_right (is_same d c) (among codes d) a) n))
+          let none : f c ≡ 0 =
+          h c (or_left (is_same c c) (among codes c) (same_refl c))
+          (λ e. both_ways (is_same s c) other (subst (λ (x : Code). is_same s x ≡ true) (sym e) (same_refl s))) in
+          omega (arith, total_one f s codes (t.1 other) (λ d a n. h d (or_right (is_same d c) (among codes d) a) n))
     ]
 
 -- ---- what is written for a value
@@ -193,15 +199,28 @@ members_same : (kind : Kind) (x o : Known) (c : Code) → ((d : Code) → among 
     length (group_octets kind o c) ≡ length (group_octets kind x c)
 members_same kind x o c h = grind (arith, group_len, total_same, members_of)
 
+-- no member of an absent group is there
+stays_out : (kind : Kind) (x : Known) (c d : Code) → KeepsGroups kind x → among (codes_of kind) c ≡ true →
+    among (members_of kind c) d ≡ true → x c ≡ None → x d ≡ None
+stays_out kind x c d keeps hc m none = grind (arith, option_cases)
+
 unit_add_at : (kind : Kind) (x y o : Known) (c : Code) (a b : Option (List ℕ)) → x c ≡ a → y c ≡ b → JoinsAll x y o → KeepsGroups kind x →
     KeepsGroups kind y → among (codes_of kind) c ≡ true
     → unit_cost kind o c (o c) ≡ unit_cost kind x c a + unit_cost kind y c b
 unit_add_at kind x y o c None None ex ey j kx ky hc = grind arith
-unit_add_at kind x y o c None (Some v) ex ey j kx ky hc = grind (arith, cases_Bool, cost, members_same, option_cases)
-unit_add_at kind x y o c (Some w) None ex ey j kx ky hc = grind (arith, cases_Bool, cost, members_same, option_cases)
+unit_add_at kind x y o c None (Some v) ex ey j kx ky hc =
+    let same = members_same kind y o c (λ d m. (let none = stays_out kind x c d kx hc m ex in let at = j d in grind arith)) in
+    grind (arith, cases_Bool, j c)
+unit_add_at kind x y o c (Some w) None ex ey j kx ky hc =
+    let same = members_same kind x o c (λ d m. (let none = stays_out kind y c d ky hc m ey in let at = j d in grind arith)) in
+    grind (arith, cases_Bool, j c)
 unit_add_at kind x y o c (Some w) (Some v) ex ey j kx ky hc = grind arith
 
 -- ---- one part of a unit
+
+code_single : (kind : Kind) (s : Code) → once (λ c e. is_same e c) (codes_of kind) s ≡ true
+unfolding number_of codes_of
+code_single kind s = every_passes (once (λ c e. is_same e c) (codes_of kind)) s (grind arith)
 
 slot_leaf : (c : Code) → is_group c ≡ false → is_group (slot_of c) ≡ false
 unfolding is_group slot_of
@@ -215,24 +234,23 @@ absent_cost kind known c e = ap (unit_cost kind known c) e
 
 leaf_part : (kind : Kind) (p : Part) (c : Code) → is_group c ≡ false → HasLength p.long (length p.value) →
     MemberOf kind p.value p.gives (Some c) → total (part_cost kind p.gives) (codes_of kind) ≤ length (part_octets p)
-unfolding number_of codes_of
 leaf_part kind p c leaf h m =
     let s = slot_of c in
     let form = m.0 in
     let there : p.gives s ≡ Some form = ap (λ (k : Known). k s) m.2 ∙ ap (λ (b : Bool). cond b (Some form) None) (same_refl s) in
-    let one = total_one (part_cost kind p.gives) s (codes_of kind) (grind (arith, every_passes, once, codes_of kind))
+    let one = total_one (part_cost kind p.gives) s (codes_of kind) (code_single kind s)
     (λ d a n. absent_cost kind p.gives d (elim (option_cases (p.gives d)) [
       | inl q ↦ absurd (n (only_slot d s form q.0 (sym (ap (λ (k : Known). k d) m.2) ∙ q.1)))
       | inr e ↦ e
     ])) in
     let less = cost_less (length form) (length p.value) (canonical_shorter c p.value form (canonical_from kind c p.value form m.1)) in
     let spelled = spelled_cost p.code p.long p.value h in
-    let same = slot_leaf c leaf in
-    grind arith
+    let at : part_cost kind p.gives s ≡ cost (length form) = ap (unit_cost kind p.gives s) there ∙
+    ap (λ (b : Bool). cost (length (cond b (group_octets kind p.gives s) form))) (slot_leaf c leaf) in
+    omega arith
 
 group_part : (kind : Kind) (p : Part) (g : Code) → is_group g ≡ true → among (codes_of kind) g ≡ true → HasLength p.long (length p.value) →
     GroupOf kind g p.value p.gives → total (part_cost kind p.gives) (codes_of kind) ≤ length (part_octets p)
-unfolding number_of codes_of
 group_part kind p g group hg h m =
     let inner = m.0 in
     let outside = λ (d : Code) (n : d ≡ g → ⊥). (let e : only g [] d ≡ None = elim (cases_Bool (is_same d g)) [
@@ -240,7 +258,7 @@ group_part kind p g group hg h m =
       | inr f ↦ ap (λ (b : Bool). cond b (Some []) None) f
     ] in sole_same (inner d) (p.gives d) (subst (λ (k : Option (List ℕ)). Sole (k ∷ inner d ∷ []) (p.gives d)) e (m.2 d))) in
     let there : p.gives g ≡ Some [] = (let k = m.2 g in grind arith) in
-    let one = total_one (part_cost kind p.gives) g (codes_of kind) (grind (arith, every_passes, once, codes_of kind))
+    let one = total_one (part_cost kind p.gives) g (codes_of kind) (code_single kind g)
     (λ d a n. absent_cost kind p.gives d (elim (option_cases (p.gives d)) [
       | inl q ↦ absurd (apart_from_unit kind g d hg (inner_source kind g p.value q.0 inner d m.1 (sym (outside d n) ∙ q.1)) a)
       | inr e ↦ e
@@ -253,7 +271,9 @@ group_part kind p g group hg h m =
     let fits = group_fits kind inner g p.value m.1 in
     let less = cost_less (length (group_octets kind p.gives g)) (length p.value) (omega arith) in
     let spelled = spelled_cost p.code p.long p.value h in
-    grind arith
+    let at : part_cost kind p.gives g ≡ cost (length (group_octets kind p.gives g)) = ap (unit_cost kind p.gives g) there ∙
+    ap (λ (b : Bool). cost (length (cond b (group_octets kind p.gives g) []))) group in
+    omega arith
 
 parameter_part : (kind : Kind) (p : Part) (c : Code) (b : Bool) → is_group c ≡ b → among (codes_of kind) c ≡ true →
     HasLength p.long (length p.value) → ParameterOf kind c p.value p.gives b

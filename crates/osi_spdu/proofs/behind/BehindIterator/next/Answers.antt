@@ -19,10 +19,10 @@ pub overflow_sub-self : goal.overflow_sub-self
 overflow_sub-self c =
     let s = c.args.self.now in
     let some : 1 ≤ length s.rest.now = search rules in
-    grind (arith, left_goes s.room s.at s.rest.now (later_of c.in-Ok.later) some s.left c.in-Ok.ensures.value)
+    omega (arith, (left_goes s.room s.at s.rest.now (later_of c.in-Ok.later) some s.left c.in-Ok.ensures.value).some)
 
 pub invariant_of-self-clause-stands : goal.invariant_of-self-clause-stands
-invariant_of-self-clause-stands c = grind (arith, rules, nothing_stands)
+invariant_of-self-clause-stands c = nothing_stands c.args.self.now.rest.now (search rules)
 
 pub invariant_of-self-clause-left : goal.invariant_of-self-clause-left
 invariant_of-self-clause-left c = c.args.self.now.left
@@ -42,4 +42,4 @@ returns-clause-steps c =
     (left_goes s.room s.at s.rest.now (later_of c.in-Ok.later) some s.left c.in-Ok.ensures.value).given
 
 pub returns-clause-goes : goal.returns-clause-goes
-returns-clause-goes c = search (arith, rules, returns-clause-steps)
+returns-clause-goes c = (let shorter = ap length (returns-clause-steps c) in search rules)

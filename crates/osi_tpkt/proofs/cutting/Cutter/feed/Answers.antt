@@ -1,6 +1,8 @@
-use Rattle.std.proofs.Common.{arith}
+use Rattle.std.proofs.Common.{true, Ok, ap, ◌∙◌, arith}
+use Rattle.osi_tpkt.specs.declared.cutting.Progress.TheVariants.{Stopped}
+use Rattle.osi_tpkt.proofs.Vocabulary.{Feeds}
 use Rattle.osi_tpkt.proofs.a_prefix_of_a_packet.{belonging_no_fault}
-use Rattle.osi_tpkt.proofs.what_a_cutter_holds.{kept_sound, going_on, taken_feeds, taken_sound, taken_refused, taken_lasting}
+use Rattle.osi_tpkt.proofs.what_a_cutter_holds.{whole_feeds, kept_sound, going_on, taken_feeds, taken_sound, taken_refused, taken_lasting}
 use Rattle.osi_tpkt.proofs.cutting.Cutter.feed.Goals as goal
 
 pub returns-in-Some-clause-refused : goal.returns-in-Some-clause-refused
@@ -17,11 +19,25 @@ returns-in-Awaited c =
     let on = going_on _ _ _ _ _ c.in-Awaited.is c.self.invariant.1 c.self.view_is in
     grind (arith, kept_sound, taken_feeds, taken_lasting, taken_refused, taken_sound)
 
+whole : (c : goal.In-Stopped-Whole) → Feeds c.args.self.now c.args.piece.now (Ok (record { used = 0; whole = true })) c.take_whole.new.self
+whole c =
+    let is = c.in-Stopped-Whole.is ∙ ap Stopped (rw c.in-Stopped-Whole.is at c.in-Stopped-Whole.field-0-is) in
+    whole_feeds _ _ _ _ _ _ c.args.piece.now is c.self.invariant.1 c.self.view_is c.in_default.ensures.none
+
+pub returns-in-Stopped-Whole-clause-taken : goal.returns-in-Stopped-Whole-clause-taken
+returns-in-Stopped-Whole-clause-taken c = (whole c).taken
+
+pub returns-in-Stopped-Whole-clause-progress : goal.returns-in-Stopped-Whole-clause-progress
+returns-in-Stopped-Whole-clause-progress c = (whole c).progress
+
+pub returns-in-Stopped-Whole-clause-feeds : goal.returns-in-Stopped-Whole-clause-feeds
+returns-in-Stopped-Whole-clause-feeds c = whole c
+
 pub returns-in-Stopped-Whole-clause-sound : goal.returns-in-Stopped-Whole-clause-sound
-returns-in-Stopped-Whole-clause-sound c = search (arith, kept_sound)
+returns-in-Stopped-Whole-clause-sound c = kept_sound _ _ _ _ _ c.self.invariant.1 c.self.view_is
 
 pub returns-in-Stopped-Version-clause-sound : goal.returns-in-Stopped-Version-clause-sound
-returns-in-Stopped-Version-clause-sound c = search (arith, kept_sound)
+returns-in-Stopped-Version-clause-sound c = kept_sound _ _ _ _ _ c.self.invariant.1 c.self.view_is
 
 pub returns-in-Stopped-Length-clause-sound : goal.returns-in-Stopped-Length-clause-sound
-returns-in-Stopped-Length-clause-sound c = search (arith, kept_sound)
+returns-in-Stopped-Length-clause-sound c = kept_sound _ _ _ _ _ c.self.invariant.1 c.self.view_is
