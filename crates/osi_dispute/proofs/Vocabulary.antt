@@ -1,7 +1,7 @@
 -- What the proofs of this crate take from the library, from the crates below and from its own definitions.
 pub use Rattle.std.proofs.Common.{Bool, Err, IfOk, IfSome, List, None, Ok, Option, Result, Some, [], ap, arith, cond, drop, eq-eqb, false}
-pub use Rattle.std.proofs.Common.{filter, get_or, if◌then◌else◌, inl, inr, length, map, not, option_map, refl, set, slice_get, subst, suc, sym}
-pub use Rattle.std.proofs.Common.{take, true, zero, ℕ, ◌&&◌, ◌++◌, ◌+◌, ◌-◌, ◌<◌, ◌==◌, ◌^◌, ◌||◌, ◌∙◌, ◌∷◌, ◌≡◌, ◌≤◌, ◌⊎◌}
+pub use Rattle.std.proofs.Common.{filter, get_or, if◌then◌else◌, inl, inr, length, map, not, option_map, refl, set, slice_get, subst, suc}
+pub use Rattle.std.proofs.Common.{sym, take, true, zero, ℕ, ◌&&◌, ◌++◌, ◌+◌, ◌-◌, ◌<◌, ◌==◌, ◌^◌, ◌||◌, ◌∙◌, ◌∷◌, ◌≡◌, ◌≤◌, ◌⊎◌}
 pub use Rattle.std.proofs.lemmas.Bool.{eqb-true}
 pub use Rattle.std.proofs.lemmas.Bool.Decides.{eqb_tells}
 pub use Rattle.std.proofs.lemmas.Grind.{flat_map-append}
@@ -32,8 +32,8 @@ pub use Rattle.osi_judge.specs.Onward.{StandsBehind, StandsFor}
 pub use Rattle.osi_judge.specs.Profiles.{leaves}
 pub use Rattle.osi_judge.specs.Sides.{watched}
 pub use Rattle.osi_judge.specs.Stops.{breaks, broke_session, is_judged, place_of}
-pub use Rattle.osi_judge.specs.Tapping.{IsBrokenBy, IsCountIn, IsFirstIn, IsFoundIn, IsLeftBy, IsPlaceIn, IsReadIn, IsReferenceIn, IsStoppedIn}
-pub use Rattle.osi_judge.specs.Tapping.{begin_of, heard, told}
+pub use Rattle.osi_judge.specs.Tapping.{IsBrokenBy, IsCountIn, IsFirstIn, IsFoundIn, IsLeftBy, IsPlaceIn, IsReadIn, IsReferenceIn}
+pub use Rattle.osi_judge.specs.Tapping.{IsStoppedIn, begin_of, heard, told}
 pub use Rattle.osi_judge.specs.Transport.{IsSent, Sent, last_packet}
 pub use Rattle.osi_judge.specs.declared.directions.Direction.{Direction}
 pub use Rattle.osi_judge.specs.declared.directions.Direction.TheVariants.{Right}
@@ -52,8 +52,8 @@ pub use Rattle.osi_tap.proofs.what_holds_of_a_result.{if_ok}
 pub use Rattle.osi_tap.proofs.what_is_kept_of_a_side_is_what_passed.{heard_at}
 pub use Rattle.osi_tap.proofs.who_is_to_blame.{broken}
 pub use Rattle.osi_tap.specs.Blaming.{IsMarkOf, IsToBlame, SomeIs, SomeoneIs}
-pub use Rattle.osi_tap.specs.Connections.{Joined, Sessions, asked_at, changed, count, has_number, meant, numbered, packet_begins, reference_of}
-pub use Rattle.osi_tap.specs.Connections.{source_of, spoken, taken, taken_at}
+pub use Rattle.osi_tap.specs.Connections.{Joined, Sessions, asked_at, changed, count, has_number, meant, numbered, packet_begins}
+pub use Rattle.osi_tap.specs.Connections.{reference_of, source_of, spoken, taken, taken_at}
 pub use Rattle.osi_tap.specs.Courses.{Course, marked, marks_of, noted_by, packet_by, reached, unit_passes, units_pass, unread}
 pub use Rattle.osi_tap.specs.Holding.{HoldsFound, HoldsJoined, IsHeard, IsPlace, line_in}
 pub use Rattle.osi_tap.specs.KnownSessions.{IsSession}
@@ -72,16 +72,18 @@ pub use Rattle.osi_tap.specs.declared.tap.Tap.{Tap}
 pub use Rattle.osi_listing.specs.Capture.{is_blank, is_comment_sign}
 pub use Rattle.osi_dispute.specs.Adding.{AddsPair, AddsPairs, AddsReport}
 pub use Rattle.osi_dispute.specs.Disputes.{IsJudgement, IsNarrow, IsWide, Reported, is_beyond, transport_of}
-pub use Rattle.osi_verdict.specs.Facts.{AreFacts, Determined, Facts, IsFirstOf, StandsIn, account_by, begins_late, connection_by, is_refused}
-pub use Rattle.osi_verdict.specs.Facts.{is_unanswered, keeps, kept_outcome, left_first, outcome_of, outcome_unless, told_by, told_of, unjudged}
-pub use Rattle.osi_verdict.specs.Facts.{verdict_by}
+pub use Rattle.osi_verdict.specs.Facts.{AreFacts, Determined, Facts, IsFirstOf, StandsIn, account_by, begins_late, connection_by}
+pub use Rattle.osi_verdict.specs.Facts.{is_refused, is_unanswered, keeps, kept_outcome, left_first, outcome_of, outcome_unless, told_by}
+pub use Rattle.osi_verdict.specs.Facts.{told_of, unjudged, verdict_by}
 pub use Rattle.osi_dispute.specs.Laws.{IsDecided}
 pub use Rattle.osi_dispute.specs.Reading.{row, rows_left}
 pub use Rattle.osi_dispute.specs.ReportTexts.{last_line, last_status, pair_lines, read_lines, transport_lines}
-pub use Rattle.osi_dispute.specs.Reports.{ArePairs, IsFirstLast, IsLast, IsMarkLast, IsPair, IsPairOf, IsReport, IsStrayLast, Report, SaysSo}
-pub use Rattle.osi_dispute.specs.Reports.{Strayed, Tells, all_keep, carried, is_clear, is_opened, is_refused_in, kept_last, no_pair, stray_last}
+pub use Rattle.osi_dispute.specs.Reports.{ArePairs, IsFirstLast, IsLast, IsMarkLast, IsPair, IsPairOf, IsReport, IsStrayLast, Report}
+pub use Rattle.osi_dispute.specs.Reports.{SaysSo, Strayed, Tells, all_keep, carried, is_clear, is_opened, is_refused_in, kept_last, no_pair}
+pub use Rattle.osi_dispute.specs.Reports.{stray_last}
 pub use Rattle.osi_dispute.specs.Rows.{IsCaptureOf, Row, capture_of, digits_left, digits_on, left_is_tabbed, passed_by, rows_of, side_of}
-pub use Rattle.osi_verdict.specs.Texts.{connection_first, first_line, is_stopped_before, line_by, outcome_line, verdict_status, verdict_text}
+pub use Rattle.osi_verdict.specs.Texts.{connection_first, first_line, is_stopped_before, line_by, outcome_line, verdict_status}
+pub use Rattle.osi_verdict.specs.Texts.{verdict_text}
 pub use Rattle.osi_verdict.specs.Verdicts.{IsVerdict, Knows}
 pub use Rattle.osi_dispute.specs.declared.reports.Last.{Last}
 pub use Rattle.osi_dispute.specs.declared.reports.Pair.{Pair}

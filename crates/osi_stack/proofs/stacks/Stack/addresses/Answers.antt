@@ -1,5 +1,5 @@
-use Rattle.osi_stack.proofs.Vocabulary.{End, IfSome, IsSome, None, addresses_at, arith, false, holding, inl, inr, is_some, phase_at, shows_loss}
-use Rattle.osi_stack.proofs.Vocabulary.{true, value_at, ℕ, ◌≡◌, ◌⊎◌}
+use Rattle.osi_stack.proofs.Vocabulary.{End, IfSome, IsSome, None, addresses_at, arith, false, holding, inl, inr, is_some, phase_at}
+use Rattle.osi_stack.proofs.Vocabulary.{shows_loss, true, value_at, ℕ, ◌≡◌, ◌⊎◌}
 use Rattle.osi_carrier.specs.Calls.{tsaps_at}
 use Rattle.osi_stack.specs.Addresses.{selectors_in}
 use Rattle.osi_stack.proofs.stacks.Stack.addresses.Goals as goal
