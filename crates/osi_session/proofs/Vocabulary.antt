@@ -86,8 +86,8 @@ pub use Rattle.osi_session.specs.Phases.{may_confirm_minor, may_hold, shows_loss
 pub use Rattle.osi_session.specs.Points.{PlansPoint, advanced, call_for, has_next, may_advance, only_shows}
 pub use Rattle.osi_session.specs.Respond.{AllMet, Condition, IsGood, Outcome, Verdict, and_then, bad, becomes, by_fault, conditions}
 pub use Rattle.osi_session.specs.Respond.{dropped, drops, enacted, faulty, fine, first_fault, first_reply, good, has_no_effect, in_aborting}
-pub use Rattle.osi_session.specs.Respond.{in_ended, is_expected, is_faulty, is_nil, is_resynchronize, is_silent, is_token_item, kind_of}
-pub use Rattle.osi_session.specs.Respond.{lost, nothing, over, replies_abort, respond, shows, si, verdict}
+pub use Rattle.osi_session.specs.Respond.{in_ended, is_expected, is_faulty, is_nil, is_resynchronize, is_silent, is_token_item, judged}
+pub use Rattle.osi_session.specs.Respond.{kind_of, lost, nothing, over, replies_abort, respond, shows, si, verdict}
 unfoldable pub use Rattle.osi_session.specs.Respond.{acting, respond_all, respond_fault, respond_unit, stands, take_expected}
 pub use Rattle.osi_session.specs.Restarts.{AreCrossed, HasAsked, after_restart}
 unfoldable pub use Rattle.osi_session.specs.Room.{most_whole, most_within}

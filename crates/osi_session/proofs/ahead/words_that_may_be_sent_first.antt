@@ -81,8 +81,12 @@ pub record Passes (t : Taker) (v : Word) : Type 0 where
   pub expected : is_expected t.state.phase (as_message v) ≡ true
   pub met : AllMet (word_conditions t v)
 
+passed_by : (o d x : Bool) (n : ℕ) (f : Option UnitFault) → verdict_by o d x n f ≡ fine →
+    (o ≡ false) × (d ≡ false) × (x ≡ true) × (f ≡ None)
+passed_by o d x n f h = grind arith
+
 pub passes : (t : Taker) (v : Word) → word_verdict t v ≡ fine → Passes t v
-passes t v h = grind (arith, all_met)
+passes t v h = grind (arith, passed_by, all_met)
 
 quiet_verdict : (w : Verdict) (o d x : Bool) (n : ℕ) (f : Option UnitFault) → verdict_by o d x n f ≡ w → o ≡ false → is_faulty w ≡ false →
     (w ≡ dropped) ⊎ (w ≡ fine)

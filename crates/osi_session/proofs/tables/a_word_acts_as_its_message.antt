@@ -5,6 +5,7 @@ use Rattle.osi_session.proofs.Vocabulary.{respond_unit, First, Middle, Last, Mea
 use Rattle.osi_session.proofs.Vocabulary.{joined_octets, word_conditions, word_verdict, good_word, Hearing, respond_word, respond_words}
 use Rattle.osi_session.proofs.Vocabulary.{acting_words, respond_tsdu, arith, ◌≡◌, refl, sym, subst, ℕ, Bool, true, false, if◌then◌else◌}
 use Rattle.osi_session.proofs.Vocabulary.{List, [], ◌∷◌, ◌++◌, Option, Some, None, heard_then, idle, not, enacted_word, by_fault}
+use Rattle.osi_session.proofs.Vocabulary.{◌∙◌, ap, enacted, verdict}
 use Rattle.osi_session.proofs.tables.the_verdict_on_a_unit.{enacts}
 use Rattle.osi_session.proofs.tables.messages_act_as_the_table_says.{word_at}
 
@@ -41,7 +42,8 @@ verdict_does : (P : Outcome → Type 0) (t : Taker) (w : Word) (o d x : Bool) (n
     first_fault (si (as_message w)) (word_conditions t w) ≡ f →
     P (outcome_in (enacted_word t w (if o then over else if d then dropped else if not x then faulty (Unexpected n) else by_fault f)))
 verdict_does P t w true d x n f h eo ed ex ef =
-    let a = h.acts (as_message w) (acts_itself w) in grind (arith, enacts t.state (as_message w))
+    let u = as_message w in
+    subst P (enacts t.state u ∙ ap (enacted t.state u) (let e : verdict t.state u ≡ over = rw eo refl in e)) (h.acts u (acts_itself w))
 verdict_does P t w false true x n f h eo ed ex ef = h.rests
 verdict_does P t w false false false n f h eo ed ex ef = h.bad (Unexpected n) eo
 verdict_does P t w false false true n (Some fault) h eo ed ex ef = h.bad fault eo

@@ -22,9 +22,13 @@ kept_twice p joined = grind arith
 pub plain_verdict : (s : State) (u : Meaning) → word_verdict (record { state = s; joined = None }) (says u) ≡ verdict s u
 plain_verdict s u = grind arith
 
+pub enacted_says : (t : Taker) (u : Meaning) (v : Verdict) → enacted_word t (says u) v ≡ heard t.joined (enacted t.state u v)
+enacted_says t u v = grind arith
+
 pub plain_word : (s : State) (u : Meaning) → respond_word (record { state = s; joined = None }) (says u) ≡ heard None (respond_unit s u)
 unfolding respond_word
-plain_word s u = (grind arith) ∙ ap (λ v. heard None (enacted s u v)) (plain_verdict s u) ∙ ap (heard None) (sym (enacts s u))
+plain_word s u = enacted_says (record { state = s; joined = None }) u _ ∙ ap (λ v. heard None (enacted s u v)) (plain_verdict s u)
+    ∙ ap (heard None) (sym (enacts s u))
 
 pub word_at : (t : Taker) (w : Word) (v : Verdict) → word_verdict t w ≡ v → respond_word t w ≡ enacted_word t w v
 unfolding respond_word
@@ -104,7 +108,10 @@ pub word_kept : (t : Taker) (w : Word) →
     record { state = (respond_word t w).next.state; joined = kept_in (respond_word t w).next.state.phase (respond_word t w).next.joined } ≡
     (respond_word t w).next
 unfolding respond_word
-word_kept t w = grind (arith, kept_twice)
+word_kept t w = by (word_verdict t w)
+  where
+    by : (v : Verdict) → (let x = (enacted_word t w v).next in record x { joined = kept_in x.state.phase x.joined } ≡ x)
+    by v = grind (arith, kept_twice)
 
 empty_word : (t : Taker) → respond_word t (says (GT no_token)) ≡ heard t.joined (nothing t.state)
 empty_word t = elim (cases_Bool (is_over t.state.phase)) [

@@ -4,13 +4,19 @@ use Rattle.osi_session.proofs.Vocabulary.{cases_Bool, append-nil, UnitFault, Sta
 use Rattle.osi_session.proofs.Vocabulary.{said_of, Outcome, Condition, si, conditions, first_fault, drops, nothing, take_expected}
 use Rattle.osi_session.proofs.Vocabulary.{has_no_effect, is_token_item, is_resynchronize, replies_abort, respond_unit, and_then, Verdict}
 use Rattle.osi_session.proofs.Vocabulary.{faulty, fine, verdict, enacted, is_faulty, AllMet, IsGood, respond_all, acting, respond, ap}
-use Rattle.osi_session.proofs.Vocabulary.{or_parts, discards, every_phase, good, Phase, is_restarting}
+use Rattle.osi_session.proofs.Vocabulary.{or_parts, discards, every_phase, good, Phase, is_restarting, bad, by_fault, dropped}
+use Rattle.osi_session.proofs.Vocabulary.{judged, Unexpected, Option}
 use Rattle.osi_session.proofs.tables.what_is_true_of_each_phase.{implied, excluded}
+
+live : (s : State) (u : Meaning) (d x : Bool) (f : Option UnitFault) →
+    (if d then nothing s else if not x then bad s (Unexpected (si u)) else judged s u f)
+    ≡ enacted s u (if d then dropped else if not x then faulty (Unexpected (si u)) else by_fault f)
+live s u d x f = grind arith
 
 -- the table of units enacts the verdict
 pub enacts : (s : State) (u : Meaning) → respond_unit s u ≡ enacted s u (verdict s u)
 unfolding respond_unit take_expected
-enacts s u = grind (arith, cases_Bool, implied)
+enacts s u = grind (arith, cases_Bool, implied, live)
 
 all_passed : (s : State) (u : Meaning) (cs : List Condition) → AllMet cs → first_fault (si u) cs ≡ None
 all_passed s u [] h = refl

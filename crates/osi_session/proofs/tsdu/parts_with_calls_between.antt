@@ -121,17 +121,21 @@ runs : (s : State) (waiting : Option Meaning) (joined begun : Option (List ℕ))
 runs s waiting joined begun [] front last st h short = last_moves s waiting joined front last (subst (Stands s joined) h st) short
 runs s waiting joined begun (calls c ∷ acts) front last st h short =
     let k = call_step s waiting joined begun c (allowed s c) refl st in
-    grind (arith, react, runs k.state waiting k.now begun acts front last k.stands h short)
+    ap (λ (l : Listener). react (after_inputs l (map act_in_words acts)) (part_comes Last last)) k.is
+    ∙ runs k.state waiting k.now begun acts front last k.stands h short
+    ∙ ap (λ (l : Listener). react (after_inputs l (calls_in acts)) (whole_comes (front ++ last))) (sym k.whole)
 runs s waiting joined None (comes First o ∷ acts) front last st h short =
     let g = grows acts o front h in
     let m = length-append front last in
     let k = part_step s waiting joined None First o refl refl (omega arith) st in
-    grind (arith, react, runs s waiting k.now (Some o) acts front last k.stands h short)
+    ap (λ (m : Move). react (after_inputs m.next (map act_in_words acts)) (part_comes Last last)) k.is
+    ∙ runs s waiting k.now (Some o) acts front last k.stands h short
 runs s waiting joined (Some b) (comes Middle o ∷ acts) front last st h short =
     let g = grows acts (b ++ o) front h in
     let m = length-append front last in
     let k = part_step s waiting joined (Some b) Middle o refl refl (omega arith) st in
-    grind (arith, react, runs s waiting k.now (Some (b ++ o)) acts front last k.stands h short)
+    ap (λ (m : Move). react (after_inputs m.next (map act_in_words acts)) (part_comes Last last)) k.is
+    ∙ runs s waiting k.now (Some (b ++ o)) acts front last k.stands h short
 runs s waiting joined _ _ front last st h short = absurd h
 
 -- ---- at the first part

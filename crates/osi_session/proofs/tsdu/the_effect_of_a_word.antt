@@ -10,12 +10,12 @@ use Rattle.osi_session.proofs.Vocabulary.{hearing_of, takes_room, outcome_of, Me
 use Rattle.osi_session.proofs.tsdu.the_verdict_while_joining.{part_verdict}
 use Rattle.osi_session.proofs.tables.what_is_true_of_each_phase.{implied}
 use Rattle.osi_session.proofs.tables.the_verdict_on_a_unit.{enacted_reply}
-use Rattle.osi_session.proofs.tables.messages_act_as_the_table_says.{word_at}
+use Rattle.osi_session.proofs.tables.messages_act_as_the_table_says.{word_at, enacted_says}
 
 -- ---- a message
 
 pub message_is : (t : Taker) (u : Meaning) → respond_word t (says u) ≡ heard t.joined (enacted t.state u (word_verdict t (says u)))
-message_is t u = word_at t (says u) (word_verdict t (says u)) refl ∙ (grind arith)
+message_is t u = word_at t (says u) (word_verdict t (says u)) refl ∙ enacted_says t u _
 
 -- ---- what needs memory
 

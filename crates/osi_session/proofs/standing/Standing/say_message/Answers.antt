@@ -1,6 +1,12 @@
 use Rattle.osi_session.proofs.Vocabulary.{meant_by, arith, ap, Seen}
-use Rattle.osi_session.proofs.sent.what_a_side_may_send.{breaks_none, said_by_message}
+use Rattle.osi_session.proofs.sent.what_a_side_may_send.{breaks_none, message_sound, not_said, said_by_message}
 use Rattle.osi_session.proofs.standing.Standing.say_message.Goals as goal
+
+pub goes-requires : goal.goes-requires
+goes-requires c = message_sound c.self.inside.state c.args.message.now c.in_ok-next.next c.in_ok-next.ensures.left c.self.invariant
+
+pub returns-in_err-next-clause-left : goal.returns-in_err-next-clause-left
+returns-in_err-next-clause-left c = grind (arith, not_said)
 
 pub returns-clause-left : goal.returns-clause-left
 returns-clause-left c =
