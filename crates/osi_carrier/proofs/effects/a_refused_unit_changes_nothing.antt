@@ -29,7 +29,7 @@ pub took_taking : (r peer : ℕ) (s now : State) (t : Result Standing LinkFault)
     now ≡ taking r peer t s
 took_taking r peer s now h whole ok e h2 = grind arith
 
--- nothing stays of what was written behind this many octets
+-- nothing stays of what was written after this many octets
 pub undone : (octets more : List ℕ) → take (length octets) (octets ++ more) ≡ octets
 undone [] more = refl
 undone (x ∷ octets) more = ap (λ (l : List ℕ). x ∷ l) (undone octets more)

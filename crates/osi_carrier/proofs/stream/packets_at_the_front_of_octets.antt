@@ -1,4 +1,4 @@
--- Packets at the front of octets, with others behind them: two lists of packets at the front of the same octets.
+-- Packets at the front of octets, with others after them: two lists of packets at the front of the same octets.
 -- For what takes the packets of octets that arrive in pieces.
 use Rattle.osi_carrier.proofs.Vocabulary.{append-nil, take_all, take-append-drop, append_cancel_left, get_or_append_left, IsPacket}
 use Rattle.osi_carrier.proofs.Vocabulary.{IsOnePacket, IsPartial, IsFaultOf, one_packet, stated_length-append, ArePackets, offset_of}
@@ -36,7 +36,7 @@ compare (u ∷ us) (v ∷ vs) s r q h k =
     let behind : h.1 ≡ k.1 = append_cancel_left k.0 h.1 k.1 (ap (λ l. l ++ h.1) (sym one.0) ∙ same) in
     further u v us vs q r one.1 (compare us vs k.1 r q (subst (λ l. ArePackets us l r) behind h.4) k.4)
 
--- behind a part of a packet there is no other packet
+-- after a part of a packet there is no other packet
 part_last : (us vs more : List (List ℕ)) (r q : List ℕ) → IsPartial r → vs ≡ us ++ more → ArePackets more r q → Further us vs q r
 part_last us vs [] r q partial all h = record { more = []; all = sym (all ∙ append-nil us) ∙ sym (append-nil vs); packets = sym h }
 part_last us vs (u ∷ more) r q partial all h = absurd (partial_no_packet r partial u h.0 h.1 h.2 h.3)
@@ -74,7 +74,7 @@ pub front_used : (b : Bool) (piece : List ℕ) (used within : ℕ) → within �
 front_used true piece used within bound e = (drop within piece, take_all used piece (omega arith) ∙ sym (take-append-drop within piece))
 front_used false piece used within bound e = ([], ap (λ n. take n piece) e ∙ sym (append-nil (take within piece)))
 
--- packets of the first octets, with all later ones behind them
+-- packets of the first octets, with all later ones after them
 pub packets_within : (units : List (List ℕ)) (held used within front later rest : List ℕ) → used ≡ within ++ front →
     ArePackets units (held ++ within) rest →
     ArePackets units (held ++ (used ++ later)) (rest ++ (front ++ later))

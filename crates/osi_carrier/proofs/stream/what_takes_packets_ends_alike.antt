@@ -73,7 +73,7 @@ module _ {S : Type 0} (t : Taker S) where
     lasts_before f (inl a) vs m ms e = grind (arith, init_front a.before vs ms a.last m e, lasts_front)
     lasts_before f (inr a) vs m ms e = lasts_front a.before vs (m ∷ ms) old e a.lasts
 
-    -- so it took none behind those after which it ended
+    -- so it took none after those with which it ended
     none_further : (f g : S) (a : Ending old at s f) (b : Ending old at s g) (m : List ℕ) (ms : List (List ℕ)) →
         units_in f a ≡ units_in g b ++ m ∷ ms → ArePackets (m ∷ ms) (rest_in g b) (rest_in f a) → ⊥
     none_further f g a (inl b) m ms e h = never _ b.over (lasts_before f a (b.before ++ b.last ∷ []) m ms e)
@@ -111,7 +111,7 @@ module _ {S : Type 0} (t : Taker S) where
     pub partial : IsPartial rest
     pub lasts : t.ended (t.after units old) ≡ None
 
-  -- the packets behind others
+  -- the packets after others
   pub parts_of : (old : S) (s : List ℕ) (vs : List (List ℕ)) (r : List ℕ) (h : Lasts old s) → ArePackets vs s r →
       Further h.units vs r h.rest
   parts_of old s vs r h k = up_to_part h.units vs s h.rest r h.partial h.packets k
@@ -229,7 +229,7 @@ module _ {S : Type 0} {t : Taker S} {H C : Type 0} {Calls : H → C → H → Ty
   abbrev ReadsOne : H → C → H → Type 0
   ReadsOne old call new = Reads (r.held old) (r.used call) (λ us. r.back call (r.seen new) ≡ t.after us (r.seen old)) (r.held new)
 
-  -- the packets of a call, and those behind it
+  -- the packets of a call, and those after it
   packets_behind : (old mid : H) (call : C) (one : ReadsOne old call mid) (later rest : List ℕ) (more : List (List ℕ)) →
       ArePackets more ((r.held mid).octets ++ later) rest →
       ArePackets (one.packets ++ more) ((r.held old).octets ++ (r.used call ++ later)) rest

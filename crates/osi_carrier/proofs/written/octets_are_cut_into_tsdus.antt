@@ -1,4 +1,4 @@
--- Octets that are cut into pieces, each behind its head: the TSDUs one after the other.
+-- Octets that are cut into pieces, each after its head: the TSDUs one after the other.
 -- For `room` and `copies` of pieces, `write_some` of links, and `send_pieces_open` of the switch.
 use Rattle.osi_carrier.proofs.Vocabulary.{le-leb, leb-true, leb-false, length-take-le, sum_by-cons, list_any, lengths_error, ◌≡◌, refl, ℕ}
 use Rattle.osi_carrier.proofs.Vocabulary.{zero, suc, ◌+◌, ◌^◌, ◌<◌, ◌≤◌, Bool, false, nat_le, List, [], ◌∷◌, ◌++◌, length, take, drop}

@@ -8,7 +8,7 @@ use Rattle.osi_carrier.proofs.Vocabulary.{LeavesRest, Pieces}
 use Rattle.osi_carrier.proofs.written.octets_are_cut_into_tsdus.{cut_next}
 use Rattle.osi_carrier.proofs.written.all_that_a_link_gives.{packets_join}
 
--- Some TSDUs were written whole behind the octets `before`. This is the link after them, and `rest` are the others. The
+-- Some TSDUs were written whole after the octets `before`. This is the link after them, and `rest` are the others. The
 -- end is this link after they are handed in too, and `target` are all units that are to be written.
 pub record IsSending (peer : ℕ) (end : Standing) (target before : List ℕ) (link : Standing) (rest : List (List ℕ)) (octets : List ℕ)
     (spare : ℕ) : Type 0 where

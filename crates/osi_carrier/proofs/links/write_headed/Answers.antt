@@ -7,7 +7,7 @@ use Rattle.osi_carrier.proofs.written.a_part_in_its_data_unit.{IsFirst, first_cu
 use Rattle.osi_carrier.proofs.links.write_headed.Goals.{After-is_empty-end, After-put_part}
 use Rattle.osi_carrier.proofs.links.write_headed.Goals as goal
 
--- the part that is written, and what is left behind it
+-- the part that is written, and what is left after it
 cut_here : (c : After-is_empty-end) → IsFirst c.in-Some.slot (any_standing c.args.link.now).ends.limit c.min-carried.result c.args.head.now
     c.args.body.now c.split_at.result.0.now c.split_at.result.1.now c.is_empty-end.result
 cut_here c =
@@ -59,7 +59,7 @@ returns-then-end c =
       spare = omega arith;
     }
 
--- the other parts go behind it
+-- the other parts follow it
 parting_here : (c : After-put_part) →
     IsFirst c.in-Some.slot (any_standing c.args.link.now).ends.limit c.min-carried.result c.args.head.now c.args.body.now
     c.split_at.result.0.now c.split_at.result.1.now c.is_empty-end.result → (length c.split_at.result.1.now ≡ 0 → ⊥) →

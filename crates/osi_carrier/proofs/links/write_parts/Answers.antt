@@ -6,7 +6,7 @@ use Rattle.osi_carrier.proofs.written.a_part_in_its_data_unit.{IsFirst, first_cu
 use Rattle.osi_carrier.proofs.links.write_parts.Goals.{After-is_empty-end, After-put_part}
 use Rattle.osi_carrier.proofs.links.write_parts.Goals as goal
 
--- the part that is written, and what is left behind it
+-- the part that is written, and what is left after it
 cut_here : (c : After-is_empty-end) → IsFirst c.in-Some.slot (any_standing c.parts.link).ends.limit c.min-carried.result [] c.parts.rest.now
     c.split_at.result.0.now c.split_at.result.1.now c.is_empty-end.result
 cut_here c =
