@@ -118,7 +118,10 @@ module _ (t : Tap) (told : List Subject) (cs ds : List Connection)
       → IsNoteAt d (numbered number s.course.sessions) note.Nothing
   by_number d number s h k fresh =
       note_of_silent d t told s number (numbered number s.course.sessions) refl h k fresh
-      (search (arith, silent_found, both_silent, all_silent))
+      (silent_found d t told number (s.course.sessions.live ++ s.course.sessions.done)
+      (both_silent d t told s.course.sessions.live s.course.sessions.done
+      (all_silent d t told cs s.course.sessions.live (placed s h k.judged) (heard k) each)
+      (all_silent d t told ds s.course.sessions.done (replaced s h k.judged) (gone k) other)))
 
   none_by : (d : Direction) (number : ℕ) (b : Bool) → is_among told (Session number d) ≡ b → HasNone t told (Session number d)
   none_by d number true e = inl e

@@ -1,6 +1,6 @@
 -- A verdict on a byte connection is fetched once all that passed is judged, and nothing is due if none of each subject is.
 -- For the functions of `tap_watching`.
-use Rattle.std.proofs.Common.{◌≡◌, subst, ◌+◌, inr, arith, List, [], ◌∷◌, ◌++◌, true, false, is_some, Option, Some}
+use Rattle.std.proofs.Common.{◌≡◌, subst, inr, arith, List, [], ◌∷◌, ◌++◌, true, false, is_some, Option, Some}
 use Rattle.std.specs.Prelude.{IfSome, IfNone}
 use Rattle.osi_judge.specs.declared.directions.Direction.TheVariants.{Left, Right}
 use Rattle.osi_tap.specs.declared.tap.Tap.{Tap}
@@ -18,7 +18,6 @@ use Rattle.osi_c.specs.declared.subjects.Subject.{Subject}
 use Rattle.osi_c.specs.declared.subjects.Subject.TheVariants.{Transport, Rest}
 use Rattle.osi_c.specs.declared.tap_watches.TapWatch.{TapWatch}
 use Rattle.osi_c.specs.declared.tap_watching.Fetched.{Fetched}
-use Rattle.osi_c.specs.declared.tap_watching.Fetched.TheVariants as fetched
 
 -- ---- a subject
 

@@ -1,5 +1,5 @@
 -- The traces of the two directions of an end.
-use Rattle.std.specs.Prelude.{◌≡◌, ℕ, Bool, true, false, List, [], ◌∷◌, ◌++◌, length, Option, Some, None, ⊤}
+use Rattle.std.specs.Prelude.{◌≡◌, ℕ, true, false, List, [], ◌∷◌, ◌++◌, length, Option, Some, None, ⊤}
 use Rattle.osi_listing.specs.declared.traces.Trace.{Trace}
 use Rattle.osi_listing.specs.declared.traces.Keeping.{Keeping}
 use Rattle.osi_listing.specs.declared.traces.Keeping.TheVariants as keeping

@@ -1,5 +1,4 @@
 use Rattle.std.proofs.Common.{arith}
-use Rattle.osi_c.specs.Notes.{is_certain}
 use Rattle.osi_c.proofs.what_is_fetched_of_a_tap.{none_of}
 use Rattle.osi_c.proofs.tap_watching.due_of.Goals as goal
 

@@ -1,5 +1,5 @@
 use Rattle.std.proofs.Common.{arith}
-use Rattle.std.proofs.Common.{◌≡◌, ◌∙◌, sym, ap, Some, None}
+use Rattle.std.proofs.Common.{◌≡◌, ◌∙◌, sym, ap, Some}
 use Rattle.osi_tap.specs.Standing.{first_in}
 use Rattle.osi_c.specs.Subjects.{leading}
 use Rattle.osi_c.specs.TapWatching.{IsDue}

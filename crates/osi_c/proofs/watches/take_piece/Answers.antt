@@ -1,4 +1,4 @@
-use Rattle.std.proofs.Common.{◌≡◌, ◌<◌, ◌-◌, refl, sym, subst, arith, List, ℕ, length}
+use Rattle.std.proofs.Common.{◌≡◌, ◌<◌, ◌-◌, refl, sym, ap, subst, arith, List, ℕ, length, length-append}
 use Rattle.osi_c.specs.Watched.{room_in}
 use Rattle.osi_c.proofs.a_piece_passes_turn_by_turn.{IsPassing, nothing_passed, more_passed, front_passed, all_passed, no_room, refused}
 use Rattle.osi_c.proofs.a_piece_passes_turn_by_turn.{empty_yes, some_left}
@@ -30,3 +30,6 @@ returns c = search (arith, empty_yes, all_passed)
 
 pub rest-init : goal.rest-init
 rest-init c = nothing_passed c.args.side c.args.piece.now c.args.watch.now
+
+pub overflow_sub-result : goal.overflow_sub-result
+overflow_sub-result c = omega (arith, length-append c.rest.invariant.fed c.rest.rest.now, ap length c.rest.invariant.parts)

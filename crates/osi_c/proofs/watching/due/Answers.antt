@@ -1,5 +1,4 @@
 use Rattle.std.proofs.Common.{arith}
-use Rattle.osi_c.specs.Verdicts.{is_certain}
 use Rattle.osi_c.proofs.what_is_told_is_by_facts.{is_due, none_due}
 use Rattle.osi_c.proofs.watching.due.Goals as goal
 

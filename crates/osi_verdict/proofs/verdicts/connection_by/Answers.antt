@@ -1,5 +1,4 @@
 use Rattle.std.proofs.Common.{arith}
-use Rattle.osi_verdict.proofs.Vocabulary.{is_refused}
 use Rattle.osi_verdict.proofs.what_is_told_is_by_facts.{refused, unanswered}
 use Rattle.osi_verdict.proofs.verdicts.connection_by.Goals as goal
 

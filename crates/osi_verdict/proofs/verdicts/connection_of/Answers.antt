@@ -1,5 +1,4 @@
 use Rattle.std.proofs.Common.{arith}
-use Rattle.osi_verdict.proofs.Vocabulary.{is_dropped}
 use Rattle.osi_verdict.proofs.what_is_told_is_by_facts.{dropped, nameless}
 use Rattle.osi_verdict.proofs.verdicts.connection_of.Goals as goal
 
