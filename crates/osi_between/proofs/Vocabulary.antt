@@ -11,9 +11,9 @@ pub use Rattle.std.proofs.lemmas.List.{length-take-le, map-append, take-append-d
 pub use Rattle.std.specs.List.{AllByRecursion, flat_map, list_any}
 pub use Rattle.osi_tpkt.proofs.a_prefix_of_a_packet.{completed_partial, empty_partial, partial_not_whole}
 pub use Rattle.osi_tpkt.proofs.a_stream_is_cut_in_one_way.{some_cut}
-pub use Rattle.osi_tpkt.proofs.lists_of_octets_stay_octets.{octets_append, octets_left, octets_nil}
+pub use Rattle.osi_unit.proofs.lists_of_octets_stay_octets.{octets_append, octets_left, octets_nil}
 pub use Rattle.osi_tpkt.proofs.no_packet_is_a_prefix_of_another.{one_packet}
-pub use Rattle.osi_tpkt.specs.Octets.{IsOctets}
+pub use Rattle.osi_unit.specs.Octets.{IsOctets}
 pub use Rattle.osi_tpkt.specs.Packet.{IsFaultOf, IsPacket, IsPartial, packet_of}
 pub use Rattle.osi_tpkt.specs.Stream.{ArePackets, Ending, EndsAt}
 pub use Rattle.osi_tpkt.specs.Stream.Ending.{Faulty, Rest}

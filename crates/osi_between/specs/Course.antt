@@ -2,7 +2,7 @@
 -- it is gone at both, and the units in flight for it.
 use Rattle.std.specs.Prelude.{◌≡◌, ◌≢◌, ℕ, ◌+◌, Bool, true, false, not, List, [], ◌∷◌, ◌++◌, Option, Some, None, ◌⊎◌, ◌≤◌, length, IfSome}
 use Rattle.std.specs.List.{flat_map, AllByRecursion}
-use Rattle.osi_tpkt.specs.Octets.{IsOctets}
+use Rattle.osi_unit.specs.Octets.{IsOctets}
 use Rattle.osi_tpdu.specs.Value.{Value, Connect, request, confirm}
 use Rattle.osi_class.specs.Between.{LinkPair}
 use Rattle.osi_class.specs.Negotiation.{selected_size}

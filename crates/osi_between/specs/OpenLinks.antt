@@ -2,7 +2,7 @@
 -- call at one end.
 use Rattle.std.specs.Prelude.{◌≡◌, ℕ, ◌<◌, Bool, true, false, List, [], ◌++◌, take, None, Ok}
 use Rattle.std.specs.List.{AllByRecursion}
-use Rattle.osi_tpkt.specs.Octets.{IsOctets}
+use Rattle.osi_unit.specs.Octets.{IsOctets}
 use Rattle.osi_tpdu.specs.Value.{Value}
 use Rattle.osi_class.specs.Between.{LinkPair, swapped, under_way, HasWholeTsdus, IsShortTsdu}
 use Rattle.osi_class.specs.Directions.{Agree, AgreeZero}

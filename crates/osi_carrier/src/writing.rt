@@ -1,7 +1,7 @@
 //! Units written after those that are still to be sent to the peer, each in a packet of its own.
 
 ghost use Rattle.std.specs.Prelude.{◌≡◌, ◌+◌, ◌≤◌, ◌<◌, ◌∷◌, ◌++◌, [], length, option_map, option_copied, IfSome, OnOk, OnErr};
-ghost use Rattle.osi_tpkt.specs.Octets.{IsOctets};
+ghost use Rattle.osi_unit.specs.Octets.{IsOctets};
 ghost use Rattle.osi_tpdu.specs.Limits.{size_code, selector_octets};
 ghost use Rattle.osi_tpdu.specs.Value.{user_data, request, confirm, disconnect, disconnected, AreParameters, IsConnect, IsReference};
 ghost use Rattle.osi_tpdu.specs.View.{value, parameter_values, request_content, confirm_content};

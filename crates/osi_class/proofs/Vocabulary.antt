@@ -9,8 +9,8 @@ pub use Rattle.std.proofs.lemmas.Grind.{flat_map-append}
 pub use Rattle.std.proofs.lemmas.List.{append_assoc, append_cancel_left, length-take-le, map-append, take-append-drop, take_all}
 pub use Rattle.std.proofs.lemmas.List.Sums.{sum_by-cons}
 pub use Rattle.std.specs.List.{AllByRecursion, flat_map}
-pub use Rattle.osi_tpkt.proofs.lists_of_octets_stay_octets.{octets_drop, octets_take}
-pub use Rattle.osi_tpkt.specs.Octets.{IsOctets}
+pub use Rattle.osi_unit.proofs.lists_of_octets_stay_octets.{octets_drop, octets_take}
+pub use Rattle.osi_unit.specs.Octets.{IsOctets}
 pub use Rattle.osi_tpdu.specs.Value.{Value, acknowledge, data2}
 pub use Rattle.osi_tpdu.specs.Writing.{Fits, written}
 pub use Rattle.osi_tpdu.specs.declared.limits.SizeCode.{SizeCode}

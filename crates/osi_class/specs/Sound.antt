@@ -1,6 +1,6 @@
 -- The bounds that every link keeps.
 use Rattle.std.specs.Prelude.{◌+◌, ◌<◌, ◌≤◌, length, IfSome}
-use Rattle.osi_tpkt.specs.Octets.{IsOctets}
+use Rattle.osi_unit.specs.Octets.{IsOctets}
 use Rattle.osi_tpdu.specs.Value as values
 use Rattle.osi_class.specs.Limits.{longest_tsdu}
 use Rattle.osi_class.specs.Flow.{Flow}

@@ -9,7 +9,7 @@ ghost use Rattle.osi_class.specs.Between.{IsFresh, OnlySends, IsQuiet, TakesOlde
 ghost use Rattle.osi_class.specs.Between.{IsShortTsdu, under_way, under_way_before, HasWholeTsdus};
 ghost use Rattle.osi_class.specs.Owed.{Direction, InStep, CreditStep, CreditSteps, StepsAlong, known_after, opened, owed, restored};
 ghost use Rattle.osi_class.specs.Directions.{direction, HaveFlows, TurnSteps, Agree, AgreeZero, AgreeInClass};
-ghost use Rattle.osi_tpkt.specs.Octets.{IsOctets};
+ghost use Rattle.osi_unit.specs.Octets.{IsOctets};
 ghost use Rattle.osi_tpdu.specs.Writing.{written, Fits};
 ghost use Rattle.osi_tpdu.specs.declared.limits.SizeCode.{SizeCode};
 ghost use Rattle.osi_class.specs.Ends.{Ends, unit_size, fresh_ends};

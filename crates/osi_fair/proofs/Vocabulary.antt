@@ -12,7 +12,7 @@ pub use Rattle.std.proofs.lemmas.List.Sums.{fails_before_first}
 pub use Rattle.std.proofs.lemmas.Option.{get_or_from_slice_get, slice_get-map, slice_get_within}
 pub use Rattle.std.specs.List.{AllByRecursion, flat_map, list_all, list_any, position_or_len}
 pub use Rattle.osi_tpkt.proofs.the_packets_are_those_of_the_stream.{packets_joined}
-pub use Rattle.osi_tpkt.specs.Octets.{IsOctets}
+pub use Rattle.osi_unit.specs.Octets.{IsOctets}
 pub use Rattle.osi_tpkt.specs.Packet.{IsPacket, packet_of}
 pub use Rattle.osi_tpkt.specs.Stream.{ArePackets}
 pub use Rattle.osi_tpkt.specs.declared.cutting.Fed.{Fed}

@@ -12,10 +12,10 @@ pub use Rattle.std.proofs.lemmas.List.{take-append-drop, take_all}
 pub use Rattle.std.specs.List.{AllByRecursion, filter, flat_map}
 pub use Rattle.osi_tpkt.proofs.a_prefix_of_a_packet.{empty_partial}
 pub use Rattle.osi_tpkt.proofs.a_stream_is_cut_in_one_way.{end_no_packet}
-pub use Rattle.osi_tpkt.proofs.lists_of_octets_stay_octets.{octets_left, octets_nil, octets_right}
+pub use Rattle.osi_unit.proofs.lists_of_octets_stay_octets.{octets_left, octets_nil, octets_right}
 pub use Rattle.osi_tpkt.proofs.no_packet_is_a_prefix_of_another.{one_packet}
 pub use Rattle.osi_tpkt.specs.Held.{Held}
-pub use Rattle.osi_tpkt.specs.Octets.{IsOctets}
+pub use Rattle.osi_unit.specs.Octets.{IsOctets}
 pub use Rattle.osi_tpkt.specs.Packet.{IsBadLength, IsBadVersion, IsFaultOf, IsPacket, IsPartial, packet_of}
 pub use Rattle.osi_tpkt.specs.Stream.{ArePackets, Cuts, Ending, EndsAt, offset_of}
 pub use Rattle.osi_tpkt.specs.Stream.Ending.{Faulty, Rest}

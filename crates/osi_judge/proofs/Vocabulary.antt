@@ -19,9 +19,9 @@ pub use Rattle.std.specs.Int.RustNames.{bit_and}
 pub use Rattle.std.specs.List.{AllByRecursion, filter, flat_map, fold, list_any, slice_get}
 pub use Rattle.osi_tpkt.proofs.a_prefix_of_a_packet.{empty_partial, partial_front, partial_not_whole}
 pub use Rattle.osi_tpkt.proofs.a_stream_is_cut_in_one_way.{end_no_packet, one_cut}
-pub use Rattle.osi_tpkt.proofs.lists_of_octets_stay_octets.{octets_right}
+pub use Rattle.osi_unit.proofs.lists_of_octets_stay_octets.{octets_right}
 pub use Rattle.osi_tpkt.proofs.no_packet_is_a_prefix_of_another.{one_packet, packet_front, stated_length-append}
-pub use Rattle.osi_tpkt.specs.Octets.{IsOctets}
+pub use Rattle.osi_unit.specs.Octets.{IsOctets}
 pub use Rattle.osi_tpkt.specs.Packet.{IsFaultOf, IsPacket, IsPartial, stated_length}
 pub use Rattle.osi_tpkt.specs.Stream.{ArePackets, Cuts, Ending, offset_of}
 pub use Rattle.osi_tpkt.specs.Stream.Ending.{Faulty, Rest}

@@ -9,8 +9,8 @@ pub use Rattle.std.proofs.lemmas.Nat.{and_assoc, and_le_r}
 pub use Rattle.std.specs.Borrow.{Bor}
 pub use Rattle.std.specs.Int.RustNames.{bit_and}
 pub use Rattle.std.specs.List.{AllByRecursion, flat_map, list_all}
-pub use Rattle.osi_tpkt.proofs.lists_of_octets_stay_octets.{octets_append, octets_cons, octets_drop, octets_nil, octets_take}
-pub use Rattle.osi_tpkt.specs.Octets.{IsOctets}
+pub use Rattle.osi_unit.proofs.lists_of_octets_stay_octets.{octets_append, octets_cons, octets_drop, octets_nil, octets_take}
+pub use Rattle.osi_unit.specs.Octets.{IsOctets}
 pub use Rattle.osi_spdu.proofs.basics.the_steps_of_reading.{same_true}
 pub use Rattle.osi_spdu.specs.Codes.{is_same}
 unfoldable pub use Rattle.osi_spdu.specs.Codes.{is_group, number_of}

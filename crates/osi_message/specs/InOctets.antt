@@ -1,6 +1,6 @@
 -- Whether the fields of a unit fit their octets.
 use Rattle.std.specs.Prelude.{◌<◌, IfSome}
-use Rattle.osi_tpkt.specs.Octets.{IsOctets}
+use Rattle.osi_unit.specs.Octets.{IsOctets}
 use Rattle.osi_message.specs.Meanings.{Meaning, CN, AC, RF, DT, GT, PT, MIP, MIA, MAP, MAA, RS, RA, FN, DN, NF, AB, AA}
 
 -- what its user gave consists of octets, requirements and each size fit two octets, a reason fits one

@@ -19,7 +19,7 @@ pub use Rattle.osi_tpkt.proofs.a_prefix_of_a_packet.{completed_partial, empty_pa
 pub use Rattle.osi_tpkt.proofs.a_stream_is_cut_in_one_way.{one_list}
 pub use Rattle.osi_tpkt.proofs.no_packet_is_a_prefix_of_another.{one_packet}
 pub use Rattle.osi_tpkt.specs.Held.{Held}
-pub use Rattle.osi_tpkt.specs.Octets.{IsOctets}
+pub use Rattle.osi_unit.specs.Octets.{IsOctets}
 pub use Rattle.osi_tpkt.specs.Packet.{IsFaultOf, IsPacket, IsPartial, packet_of}
 pub use Rattle.osi_tpkt.specs.Stream.{ArePackets}
 pub use Rattle.osi_tpkt.specs.declared.cutting.Fed.{Fed}

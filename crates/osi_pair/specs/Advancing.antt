@@ -1,6 +1,6 @@
 -- The effect of an event on two ends that match a list of steps of the machine.
 use Rattle.std.specs.Prelude.{List, [], ◌∷◌, ◌++◌}
-use Rattle.osi_tpkt.specs.Octets.{IsOctets}
+use Rattle.osi_unit.specs.Octets.{IsOctets}
 use Rattle.osi_machine.specs.Machine.{Step, connects, calls}
 use Rattle.osi_session.specs.Allowed.{octets_of}
 use Rattle.osi_session.specs.Calls.{HasSerial, called_by}

@@ -1,6 +1,6 @@
 -- Requests of users, and copies of them in memory.
 use Rattle.std.specs.Prelude.{◌≡◌, ◌<◌, ℕ, true, List, [], Option, option_map, IfSome}
-use Rattle.osi_tpkt.specs.Octets.{IsOctets}
+use Rattle.osi_unit.specs.Octets.{IsOctets}
 use Rattle.osi_between.specs.Course.{IsTsap}
 use Rattle.osi_message.specs.Tokens.{named}
 use Rattle.osi_spdu.specs.Fields.{bits_of, unit_bits}

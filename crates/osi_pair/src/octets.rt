@@ -1,7 +1,7 @@
 //! Requests of users consist of octets, and of numbers that a point may have. Each function does nothing.
 
 ghost use Rattle.std.specs.Prelude.{◌≤◌, length, IfSome, option_map};
-ghost use Rattle.osi_tpkt.specs.Octets.{IsOctets};
+ghost use Rattle.osi_unit.specs.Octets.{IsOctets};
 ghost use Rattle.osi_tpdu.specs.Limits.{tsap_octets};
 ghost use Rattle.osi_between.specs.Course.{IsTsap};
 ghost use Rattle.osi_session.specs.Allowed.{octets_of};

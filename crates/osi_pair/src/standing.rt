@@ -1,7 +1,7 @@
 //! How two ends match the machine of whole messages. Each function does nothing: its clauses are the laws.
 
 ghost use Rattle.std.specs.Prelude.{◌≡◌, ℕ, List, [], ◌∷◌, ◌++◌, None, true, is_some};
-ghost use Rattle.osi_tpkt.specs.Octets.{IsOctets};
+ghost use Rattle.osi_unit.specs.Octets.{IsOctets};
 ghost use Rattle.osi_class.specs.declared.terms.Local.{Local};
 ghost use Rattle.osi_session.specs.Allowed.{octets_of};
 ghost use Rattle.osi_session.specs.Calls.{Call, HasSerial};

@@ -14,8 +14,8 @@ pub use Rattle.std.proofs.lemmas.Nat.{and_assoc}
 pub use Rattle.std.proofs.lemmas.Result.{err_from_is_err_and}
 pub use Rattle.std.specs.List.{AllByRecursion, find, flat_map, list_all, list_any, slice_get}
 pub use Rattle.std.specs.Result.{result_unwrap_or}
-pub use Rattle.osi_tpkt.specs.Octets.{IsOctets}
-pub use Rattle.osi_tpkt.specs.Unit.{IsAtFront}
+pub use Rattle.osi_unit.specs.Octets.{IsOctets}
+pub use Rattle.osi_unit.specs.Unit.{IsAtFront}
 pub use Rattle.osi_spdu.specs.Behind.{AreLeft}
 unfoldable pub use Rattle.osi_spdu.specs.Behind.{is_behind, left_at}
 pub use Rattle.osi_spdu.specs.Codes.{every_code, is_same}

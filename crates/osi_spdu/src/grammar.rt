@@ -2,20 +2,20 @@
 
 ghost use Rattle.std.specs.Prelude.{◌≡◌, ◌<◌, ◌++◌, ℕ, List, [], length, Err, OnOk, OnErr};
 ghost use Rattle.bytes.specs.Filled.{UsesSpare};
-ghost use Rattle.osi_tpkt.specs.Octets.{IsOctets};
+ghost use Rattle.osi_unit.specs.Octets.{IsOctets};
 ghost use Rattle.osi_spdu.specs.Known.{Units};
 ghost use Rattle.osi_spdu.specs.Groups.{units_of};
 ghost use Rattle.osi_spdu.specs.Reading.{tsdu_at};
 ghost use Rattle.osi_spdu.specs.Spelling.{SpellsTsdu, IsAll};
 ghost use Rattle.osi_spdu.specs.Writing.{tsdu_octets, IsFormedTsdu, TsduFits};
-ghost use Rattle.osi_tpkt.specs.Unit.{IsAtFront};
+ghost use Rattle.osi_unit.specs.Unit.{IsAtFront};
 
 use crate::faults::SpduFault;
 use crate::groups::Group;
 use crate::reading::read_tsdu;
 use crate::writing::{write_tsdu, written_len};
 use bytes::BytesMut;
-use osi_tpkt::Unit;
+use osi_unit::Unit;
 use std::alloc::AllocError;
 
 impl<'a> Unit<'a> for Group<'a> {

@@ -1,7 +1,7 @@
 //! How reading, spelling and the written form are related.
 
 ghost use Rattle.std.specs.Prelude.{◌≡◌, ◌≤◌, ℕ, Bool, List, Ok, Err, Some};
-ghost use Rattle.osi_tpkt.specs.Octets.{IsOctets};
+ghost use Rattle.osi_unit.specs.Octets.{IsOctets};
 ghost use Rattle.osi_spdu.specs.Values.{digits_of, numeral};
 ghost use Rattle.osi_spdu.specs.Known.{Contents, Units};
 ghost use Rattle.osi_spdu.specs.Groups.{units_of};

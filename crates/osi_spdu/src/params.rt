@@ -1,12 +1,12 @@
 //! The parameters of a session unit.
 
-ghost use Rattle.std.specs.Prelude.{◌≡◌, ◌==◌, true, None, Some, [], ◌∷◌, is_some, option_map, set, length, if◌then◌else◌, IfSome};
+ghost use Rattle.std.specs.Prelude.{◌≡◌, ◌==◌, true, None, Some, [], ◌∷◌, is_some, option_map, set, length, if◌then◌else◌, IfSome, IfNone};
 ghost use Rattle.osi_spdu.specs.Codes.{slot_of};
 ghost use Rattle.osi_spdu.specs.Values.{canonical_in, digits_of};
 ghost use Rattle.osi_spdu.specs.Known.{nothing, some_octets};
 ghost use Rattle.osi_spdu.specs.Octets.{octets_of};
 ghost use Rattle.osi_spdu.specs.Params.{cells_of, no_params, place_of, filled, slots_of, known_of, is_settled, present};
-ghost use Rattle.osi_spdu.specs.Fields.{enclosure_octet, token_octets, tokens_alone};
+ghost use Rattle.osi_spdu.specs.Fields.{octet_list, enclosure_octet, token_octets, tokens_alone};
 
 use crate::codes::Code;
 use crate::fields::{Enclosure, Reason, ResyncType, SyncType, TsduMaximumSize, octet_of};
@@ -138,27 +138,27 @@ impl<'a> Params<'a> {
         match code {
             Code::ConnectionIdentifier => present(self.connection_identifier),
             Code::ConnectAcceptItem => present(self.connect_accept_item),
-            Code::CalledReference => Some(Value::of_slice(self.called_reference?)),
-            Code::CallingReference => Some(Value::of_slice(self.calling_reference?)),
-            Code::CommonReference => Some(Value::of_slice(self.common_reference?)),
-            Code::AdditionalReference => Some(Value::of_slice(self.additional_reference?)),
+            Code::CalledReference => octets_value(self.called_reference),
+            Code::CallingReference => octets_value(self.calling_reference),
+            Code::CommonReference => octets_value(self.common_reference),
+            Code::AdditionalReference => octets_value(self.additional_reference),
             Code::SyncType => Some(self.sync_type?.value()),
             Code::TokenItem => Some(self.token_item?.value()),
-            Code::TransportDisconnect => Some(Value::of_octet(self.transport_disconnect?)),
-            Code::ProtocolOptions => Some(Value::of_octet(self.protocol_options?)),
+            Code::TransportDisconnect => octet_value(self.transport_disconnect),
+            Code::ProtocolOptions => octet_value(self.protocol_options),
             Code::UserRequirements => Some(self.user_requirements?.value()),
             Code::TsduMaximumSize => Some(self.tsdu_maximum_size?.value()),
-            Code::Version => Some(Value::of_octet(self.version?)),
-            Code::InitialNumber => Some(self.initial_number?.value()),
+            Code::Version => octet_value(self.version),
+            Code::InitialNumber => serial_value(self.initial_number),
             Code::Enclosure => Some(self.enclosure?.value()),
             Code::TokenSetting => Some(self.token_setting?.value()),
             Code::ResyncType => Some(self.resync_type?.value()),
-            Code::Number => Some(self.number?.value()),
-            Code::Reflect => Some(Value::of_slice(self.reflect?)),
+            Code::Number => serial_value(self.number),
+            Code::Reflect => octets_value(self.reflect),
             Code::Reason => Some(self.reason?.value()),
-            Code::CallingSelector => Some(self.calling_selector?.value()),
-            Code::CalledSelector => Some(self.called_selector?.value()),
-            Code::UserData => Some(Value::of_slice(self.user_data?)),
+            Code::CallingSelector => selector_value(self.calling_selector),
+            Code::CalledSelector => selector_value(self.called_selector),
+            Code::UserData => octets_value(self.user_data),
             Code::ExtendedUserData => None,
         }
     }
@@ -224,25 +224,28 @@ impl<'a> Params<'a> {
             Code::CallingReference => keep(&mut self.calling_reference, value),
             Code::CommonReference => keep(&mut self.common_reference, value),
             Code::AdditionalReference => keep(&mut self.additional_reference, value),
-            Code::SyncType => keep(&mut self.sync_type, SyncType::read(value)?),
-            Code::TokenItem => keep(&mut self.token_item, TokenSet::read(value)?),
-            Code::TransportDisconnect => keep(&mut self.transport_disconnect, octet_of(value)?),
-            Code::ProtocolOptions => keep(&mut self.protocol_options, octet_of(value)?),
-            Code::UserRequirements => keep(&mut self.user_requirements, Requirements::read(value)?),
-            Code::TsduMaximumSize => keep(
-                &mut self.tsdu_maximum_size,
-                TsduMaximumSize::read(value)?,
+            Code::SyncType => keep_read(&mut self.sync_type, SyncType::read(value)),
+            Code::TokenItem => keep_read(&mut self.token_item, TokenSet::read(value)),
+            Code::TransportDisconnect => keep_read(&mut self.transport_disconnect, octet_of(value)),
+            Code::ProtocolOptions => keep_read(&mut self.protocol_options, octet_of(value)),
+            Code::UserRequirements => keep_read(
+                &mut self.user_requirements,
+                Requirements::read(value),
             ),
-            Code::Version => keep(&mut self.version, octet_of(value)?),
-            Code::InitialNumber => keep(&mut self.initial_number, Serial::read(value)?),
-            Code::Enclosure => keep(&mut self.enclosure, enclosure_in(kind, value)?),
-            Code::TokenSetting => keep(&mut self.token_setting, TokenSetting::read(value)?),
-            Code::ResyncType => keep(&mut self.resync_type, ResyncType::read(value)?),
-            Code::Number => keep(&mut self.number, Serial::read(value)?),
+            Code::TsduMaximumSize => keep_read(
+                &mut self.tsdu_maximum_size,
+                TsduMaximumSize::read(value),
+            ),
+            Code::Version => keep_read(&mut self.version, octet_of(value)),
+            Code::InitialNumber => keep_read(&mut self.initial_number, Serial::read(value)),
+            Code::Enclosure => keep_read(&mut self.enclosure, enclosure_in(kind, value)),
+            Code::TokenSetting => keep_read(&mut self.token_setting, TokenSetting::read(value)),
+            Code::ResyncType => keep_read(&mut self.resync_type, ResyncType::read(value)),
+            Code::Number => keep_read(&mut self.number, Serial::read(value)),
             Code::Reflect => keep(&mut self.reflect, value),
-            Code::Reason => keep(&mut self.reason, Reason::read(value)?),
-            Code::CallingSelector => keep(&mut self.calling_selector, Selector::read(value)?),
-            Code::CalledSelector => keep(&mut self.called_selector, Selector::read(value)?),
+            Code::Reason => keep_read(&mut self.reason, Reason::read(value)),
+            Code::CallingSelector => keep_read(&mut self.calling_selector, Selector::read(value)),
+            Code::CalledSelector => keep_read(&mut self.called_selector, Selector::read(value)),
             Code::UserData => keep(&mut self.user_data, value),
             Code::ExtendedUserData => keep(&mut self.user_data, value),
         }
@@ -271,6 +274,18 @@ fn keep<T: Copy>(slot: &mut Option<T>, value: T) -> Option<bool>
     let taken = slot.is_some();
     *slot = Some(value);
     Some(taken)
+}
+
+/// Puts what was read into a slot, and returns whether there was a value before. `None`, and the slot as it was, if
+/// nothing could be read.
+#[inline(always)]
+fn keep_read<T: Copy>(slot: &mut Option<T>, read: Option<T>) -> Option<bool>
+    ensures value { is_some result ≡ is_some read }
+    ensures taken { IfSome result (λ taken. taken ≡ is_some slot.old) }
+    ensures kept { IfSome read (λ value. slot.new ≡ Some value) }
+    ensures left { IfNone read (slot.new ≡ slot.old) }
+{
+    keep(slot, read?)
 }
 
 /// Marks a group as there, and returns whether it was before.
@@ -303,6 +318,34 @@ pub(crate) fn some_octets(octets: Option<&[u8]>) -> Option<&[u8]>
     } else {
         Some(octets)
     }
+}
+
+/// These octets as the value of a parameter, if they are there.
+fn octets_value(octets: Option<&[u8]>) -> Option<Value<'_>>
+    ensures { option_map octets_of result ≡ option_map (λ s. s.now) octets.entry }
+{
+    Some(Value::of_slice(octets?))
+}
+
+/// An octet as the value of a parameter, if it is there.
+fn octet_value<'a>(octet: Option<u8>) -> Option<Value<'a>>
+    ensures { option_map octets_of result ≡ option_map octet_list octet }
+{
+    Some(Value::of_octet(octet?))
+}
+
+/// A serial number as the value of a parameter, if it is there.
+fn serial_value<'a>(number: Option<Serial>) -> Option<Value<'a>>
+    ensures { option_map octets_of result ≡ option_map (λ s. digits_of s.number) number }
+{
+    Some(number?.value())
+}
+
+/// A selector as the value of a parameter, if it is there.
+fn selector_value(selector: Option<Selector<'_>>) -> Option<Value<'_>>
+    ensures { option_map octets_of result ≡ option_map (λ s. s.octets.now) selector.entry }
+{
+    Some(selector?.value())
 }
 
 /// The value of a group is empty.

@@ -26,7 +26,7 @@ use crate::octets::Value;
 use crate::params::Params;
 use crate::units::Spdu;
 use bytes::BytesMut;
-use osi_tpkt::laws::are_octets;
+use osi_unit::laws::are_octets;
 use std::alloc::AllocError;
 
 /// The length of a code or SI, a length indicator and this many octets.

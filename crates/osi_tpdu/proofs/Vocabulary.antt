@@ -13,9 +13,9 @@ pub use Rattle.std.proofs.lemmas.List.Elements.{filter-append}
 pub use Rattle.std.proofs.lemmas.Result.{err_from_is_err_and}
 pub use Rattle.std.specs.List.{AllByRecursion, flat_map}
 pub use Rattle.std.specs.Result.{result_unwrap_or}
-pub use Rattle.osi_tpkt.proofs.lists_of_octets_stay_octets.{octets_append, octets_drop, octets_left, octets_nil, octets_right, octets_take}
-pub use Rattle.osi_tpkt.specs.Octets.{IsOctets}
-pub use Rattle.osi_tpkt.specs.Unit.{IsAtFront}
+pub use Rattle.osi_unit.proofs.lists_of_octets_stay_octets.{octets_append, octets_drop, octets_left, octets_nil, octets_right, octets_take}
+pub use Rattle.osi_unit.specs.Octets.{IsOctets}
+pub use Rattle.osi_unit.specs.Unit.{IsAtFront}
 pub use Rattle.osi_tpdu.specs.Faults.{Acknowledge, Additional, Alternative, BeginsUnit, BeginsWith, Called, Calling, Confirm, Disconnect}
 pub use Rattle.osi_tpdu.specs.Faults.{Disconnected, HasBadIndicator, HasBadLength, HasBadValue, HasCode, HasFault, HasHeader, HasItemFault}
 pub use Rattle.osi_tpdu.specs.Faults.{HasNoHeader, HasParameterFault, HasParametersBehind, IsFirst, IsUnitFault, Kind, LooksAtParameters}

@@ -2,7 +2,7 @@
 -- unit, its parameters in any order, unknown ones among them, and user data.
 use Rattle.std.specs.Prelude.{◌≡◌, ℕ, ◌+◌, ◌*◌, ◌/◌, ◌%◌, ◌<◌, ◌≤◌, Bool, true, false, ◌==◌, List, [], ◌∷◌, ◌++◌, length, map, filter, Option, option_map, option_to_list}
 use Rattle.std.specs.List.{flat_map}
-use Rattle.osi_tpkt.specs.Octets.{IsOctets}
+use Rattle.osi_unit.specs.Octets.{IsOctets}
 use Rattle.osi_tpdu.specs.Value.{Parameters, Connect, Value, request, confirm, disconnect, disconnected, data0, data2, acknowledge, error, user_data, HasFieldsInRange}
 
 -- a parameter: a code, and as many octets as its length says

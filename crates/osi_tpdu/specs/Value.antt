@@ -1,6 +1,6 @@
 -- The meaning of transport units, independent of how their octets are stored.
 use Rattle.std.specs.Prelude.{ℕ, ◌<◌, ◌≤◌, Bool, true, false, List, [], length, Option, Some, None, IfSome}
-use Rattle.osi_tpkt.specs.Octets.{IsOctets}
+use Rattle.osi_unit.specs.Octets.{IsOctets}
 
 -- the known parameters of a CR or CC: the TPDU size, the two transport selectors, the additional
 -- options and the alternative classes

@@ -2,8 +2,8 @@
 
 ghost use Rattle.std.specs.Prelude.{◌≡◌, ◌<◌, ◌++◌, ℕ, List, [], length, Err, OnOk, OnErr};
 ghost use Rattle.bytes.specs.Filled.{UsesSpare};
-ghost use Rattle.osi_tpkt.specs.Octets.{IsOctets};
-ghost use Rattle.osi_tpkt.specs.Unit.{IsAtFront};
+ghost use Rattle.osi_unit.specs.Octets.{IsOctets};
+ghost use Rattle.osi_unit.specs.Unit.{IsAtFront};
 ghost use Rattle.osi_tpdu.specs.Packet.{Follows};
 ghost use Rattle.osi_tpdu.specs.Reading.{unit_at};
 ghost use Rattle.osi_tpdu.specs.Spelling.{Spells};

@@ -2,7 +2,7 @@
 //! again.
 
 ghost use Rattle.std.specs.Prelude.{◌≡◌, ◌+◌, ◌<◌, ◌≤◌, ◌^◌, ℕ, List, length, Ok, IsOk};
-ghost use Rattle.osi_tpkt.specs.Octets.{IsOctets};
+ghost use Rattle.osi_unit.specs.Octets.{IsOctets};
 ghost use Rattle.osi_tpdu.specs.Reading.{header_at, connect_of, confirm_of, disconnect_of, error_of, value_of, used_by};
 ghost use Rattle.osi_tpdu.specs.Value.{confirm, disconnect, error};
 ghost use Rattle.osi_tpdu.specs.View.{connect_content, confirm_content, value};

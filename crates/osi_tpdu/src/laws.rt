@@ -3,8 +3,8 @@
 
 ghost use Rattle.std.specs.Prelude.{◌≡◌, ℕ, List, [], ◌∷◌, ◌++◌, Ok, Err, IsOk, ◌↔◌};
 ghost use Rattle.std.specs.List.{AllByRecursion};
-ghost use Rattle.osi_tpkt.specs.Octets.{IsOctets};
-ghost use Rattle.osi_tpkt.specs.Unit.{IsAtFront};
+ghost use Rattle.osi_unit.specs.Octets.{IsOctets};
+ghost use Rattle.osi_unit.specs.Unit.{IsAtFront};
 ghost use Rattle.osi_tpdu.specs.Faults.{HasFault, IsUnitFault};
 ghost use Rattle.osi_tpdu.specs.Packet.{AreUnits, AreLeads, IsFirstFault, Follows, units_of};
 ghost use Rattle.osi_tpdu.specs.Reading.{unit_at};

@@ -4,7 +4,7 @@ ghost use Rattle.std.specs.Prelude.{ℕ, ◌≡◌, ◌+◌, ◌*◌, ◌<◌, �
 ghost use Rattle.std.specs.Prelude.{option_map};
 ghost use Rattle.std.specs.List.{flat_map};
 ghost use Rattle.bytes.specs.Filled.{UsesSpare};
-ghost use Rattle.osi_tpkt.specs.Octets.{IsOctets};
+ghost use Rattle.osi_unit.specs.Octets.{IsOctets};
 ghost use Rattle.osi_tpdu.specs.Limits.{size_code, selector_octets};
 ghost use Rattle.osi_tpdu.specs.Packet.{units_of};
 ghost use Rattle.osi_tpdu.specs.Spelling.{item_octets, single, Spells};

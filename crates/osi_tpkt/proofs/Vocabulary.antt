@@ -6,7 +6,7 @@ pub use Rattle.std.proofs.lemmas.Option.{none-some}
 pub use Rattle.osi_tpkt.specs.Cutter.{Advances, Belongs, Feeds, Gains, Passes, TakesPiece}
 pub use Rattle.osi_tpkt.specs.Header.{IsFront, IsFull, IsUnfinished}
 pub use Rattle.osi_tpkt.specs.Held.{Held, IsHolding, fresh}
-pub use Rattle.osi_tpkt.specs.Octets.{IsOctets}
+pub use Rattle.osi_unit.specs.Octets.{IsOctets}
 pub use Rattle.osi_tpkt.specs.Packet.{IsBadLength, IsBadVersion, IsFaultOf, IsOnePacket, IsPacket, IsPartial, IsUnit, packet_of}
 pub use Rattle.osi_tpkt.specs.Packet.{stated_length}
 pub use Rattle.osi_tpkt.specs.Progress.{FitsProgress, IsKept, fault_of}

@@ -6,7 +6,7 @@ use Rattle.osi_tpkt.proofs.Vocabulary.{take-append-drop, append-nil, drop_all, t
 use Rattle.osi_tpkt.proofs.Vocabulary.{IsPartial, IsBadVersion, IsBadLength, IsFaultOf, packet_of, stated_length, TpktFault, IsFront}
 use Rattle.osi_tpkt.proofs.Vocabulary.{IsFull, IsUnfinished, Held, Belongs, Fed, HeaderFault}
 use Rattle.osi_tpkt.proofs.no_packet_is_a_prefix_of_another.{stated_length-append, packet_front}
-use Rattle.osi_tpkt.proofs.lists_of_octets_stay_octets.{octets_nil, octets_cons, octets_append, octets_left, octets_right, octets_zeros}
+use Rattle.osi_unit.proofs.lists_of_octets_stay_octets.{octets_nil, octets_cons, octets_append, octets_left, octets_right, octets_zeros}
 
 -- the first octets of a piece with a good header, up to the length that it states
 pub front_part : (r more : List ℕ) → IsOctets (r ++ more) → get_or (r ++ more) 0 0 ≡ 3 → 7 ≤ stated_length (r ++ more) →

@@ -4,7 +4,7 @@ use Rattle.std.proofs.Common.{◌∙◌, ap, subst, arith}
 use Rattle.osi_tpkt.proofs.Vocabulary.{cases_lt, cases_eq, append_cancel_left, length-append, length-take-le, take-append-drop, append-nil}
 use Rattle.osi_tpkt.proofs.Vocabulary.{IsOctets, IsPacket, IsPartial, IsBadVersion, IsBadLength, IsFaultOf, stated_length, ArePackets}
 use Rattle.osi_tpkt.proofs.Vocabulary.{EndsAt, Cuts, offset_of, Ending, TpktFault, BadVersion, BadLength}
-use Rattle.osi_tpkt.proofs.lists_of_octets_stay_octets.{octets_right}
+use Rattle.osi_unit.proofs.lists_of_octets_stay_octets.{octets_right}
 use Rattle.osi_tpkt.proofs.no_packet_is_a_prefix_of_another.{packet_front, one_packet, stated_length-append}
 use Rattle.osi_tpkt.specs.Stream.Ending.{Faulty, Rest}
 use Rattle.osi_tpkt.proofs.a_prefix_of_a_packet.{full_packet, short_partial, partial_front, front_version, front_length, front_part}

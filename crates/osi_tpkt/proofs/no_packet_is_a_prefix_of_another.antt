@@ -2,9 +2,9 @@
 use Rattle.std.proofs.Common.{◌≡◌, ℕ, ◌+◌, ◌≤◌, List, ◌++◌, length, take, refl, ap, arith}
 use Rattle.osi_tpkt.proofs.Vocabulary.{get_or_append_left, length-take-le, take_at, IsOctets, IsPacket, IsUnit, packet_of, stated_length}
 use Rattle.osi_tpkt.proofs.Vocabulary.{IsFront, IsFull}
-use Rattle.osi_tpkt.proofs.lists_of_octets_stay_octets.{octets_cons}
+use Rattle.osi_unit.proofs.lists_of_octets_stay_octets.{octets_cons}
 use Rattle.osi_tpkt.specs.PacketValue.{Anything}
-use Rattle.osi_tpkt.specs.Unit.{IsAtFront}
+use Rattle.osi_unit.specs.Unit.{IsAtFront}
 
 -- what the header states is in its four octets, whatever follows
 pub stated_length-append : (r more : List ℕ) → 4 ≤ length r → stated_length (r ++ more) ≡ stated_length r

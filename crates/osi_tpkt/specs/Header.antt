@@ -1,6 +1,6 @@
 -- Packets and their prefixes, described by the header alone.
 use Rattle.std.specs.Prelude.{◌≡◌, ℕ, ◌<◌, ◌≤◌, List, length, slice_index}
-use Rattle.osi_tpkt.specs.Octets.{IsOctets}
+use Rattle.osi_unit.specs.Octets.{IsOctets}
 use Rattle.osi_tpkt.specs.Packet.{stated_length}
 
 -- the octets are a prefix of a packet, or a whole packet: the part of the header that has arrived is right

@@ -1,10 +1,10 @@
-pub mod Octets
 pub mod Packet
 pub mod Header
-pub mod Unit
 pub mod PacketValue
 pub mod Stream
 pub mod Held
 pub mod Progress
 pub mod Cutter
 pub mod Runs
+pub use Rattle.osi_unit.specs.Octets
+pub use Rattle.osi_unit.specs.Unit

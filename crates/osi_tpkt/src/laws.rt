@@ -1,7 +1,7 @@
 //! Laws of packets and streams. Each function does nothing: its contract is the law.
 
 ghost use Rattle.std.specs.Prelude.{◌≡◌, ◌+◌, ◌∷◌, ◌++◌, ℕ, List, [], length, true, Ok};
-ghost use Rattle.osi_tpkt.specs.Octets.{IsOctets};
+ghost use Rattle.osi_unit.specs.Octets.{IsOctets};
 ghost use Rattle.osi_tpkt.specs.Packet.{IsPacket, IsOnePacket, IsPartial};
 ghost use Rattle.osi_tpkt.specs.Stream.{ArePackets, Cuts, Ending};
 ghost use Rattle.osi_tpkt.specs.Held.{Held, IsHolding, fresh};
@@ -9,13 +9,7 @@ ghost use Rattle.osi_tpkt.specs.Runs.{CutterCall, CutterRun, CutterReads, Cutter
 ghost use Rattle.osi_tpkt.specs.Runs.CutterCall.{Feed, Advance};
 ghost use Rattle.osi_tpkt.specs.Cutter.{Passes};
 
-/// The items of a slice of octets are octets. Naming a slice gives a proof the facts of its type.
-#[inline(always)]
-pub fn are_octets(octets: &[u8])
-    ensures { IsOctets octets.now }
-{
-    let _octets = octets;
-}
+pub use osi_unit::laws::are_octets;
 
 /// No packet is a proper prefix of another: two packets at the front of the same octets are the same packet, with the
 /// same transport unit.

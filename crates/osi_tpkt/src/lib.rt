@@ -28,9 +28,8 @@ mod headers;
 pub mod laws;
 mod packets;
 mod storage;
-mod units;
 
 pub use cutting::{Cutter, Fed};
 pub use faults::TpktFault;
+pub use osi_unit::Unit;
 pub use packets::{Packet, WriteError, write_in_packet, write_packet};
-pub use units::Unit;

@@ -2,14 +2,14 @@
 
 ghost use Rattle.std.specs.Prelude.{◌≡◌, ◌≤◌, ◌+◌, ◌/◌, ◌%◌, ◌<◌, [], ◌∷◌, ◌++◌, ◌↔◌, ◌⊎◌, length, IsSome, IfSome, Err, OnOk, OnErr};
 ghost use Rattle.bytes.specs.Filled.{UsesSpare};
-ghost use Rattle.osi_tpkt.specs.Octets.{IsOctets};
+ghost use Rattle.osi_unit.specs.Octets.{IsOctets};
 ghost use Rattle.osi_tpkt.specs.Packet.{IsPacket, packet_of};
 
 use crate::faults::TpktFault;
 use crate::headers::survey;
 use crate::laws::are_octets;
-use crate::units::Unit;
 use bytes::BytesMut;
+use osi_unit::Unit;
 use std::alloc::AllocError;
 use thiserror::Error;
 
@@ -26,9 +26,9 @@ pub struct Packet<'a> {
 }
 
 impl<'a> Packet<'a> {
-    ghost use Rattle.osi_tpkt.specs.Octets.{IsOctets};
+    ghost use Rattle.osi_unit.specs.Octets.{IsOctets};
     ghost use Rattle.osi_tpkt.specs.PacketValue.{unit_of, Anything};
-    ghost use Rattle.osi_tpkt.specs.Unit.{IsAtFront};
+    ghost use Rattle.osi_unit.specs.Unit.{IsAtFront};
 
     /// The packet that carries a transport unit, or `None` for a unit of fewer than 3 or more than 65,531 octets.
     pub fn new(unit: &'a [u8]) -> Option<Packet<'a>>
@@ -58,9 +58,9 @@ impl<'a> Unit<'a> for Packet<'a> {
     ghost use Rattle.std.specs.Prelude.{◌≡◌, ◌++◌, ◌<◌, ℕ, List, [], length, OnOk, OnErr, IfOk, IfSome, IsOkAnd, IsSomeAnd, ◌↔◌};
     ghost use Rattle.bytes.specs.Filled.{UsesSpare};
     ghost use Rattle.osi_tpkt.specs.Packet.{IsPacket, IsPartial, IsFaultOf, IsUnit, packet_of};
-    ghost use Rattle.osi_tpkt.specs.Octets.{IsOctets};
+    ghost use Rattle.osi_unit.specs.Octets.{IsOctets};
     ghost use Rattle.osi_tpkt.specs.PacketValue.{unit_of, Anything};
-    ghost use Rattle.osi_tpkt.specs.Unit.{IsAtFront};
+    ghost use Rattle.osi_unit.specs.Unit.{IsAtFront};
 
     ghost Value = { List ℕ };
 

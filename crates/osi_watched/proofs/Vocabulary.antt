@@ -13,8 +13,8 @@ pub use Rattle.std.proofs.lemmas.Option.{slice_get-map, slice_get_past, slice_ge
 pub use Rattle.std.specs.List.{AllByRecursion, list_all, list_any}
 pub use Rattle.osi_tpkt.proofs.a_prefix_of_a_packet.{empty_partial}
 pub use Rattle.osi_tpkt.proofs.a_stream_is_cut_in_one_way.{end_no_packet, some_cut}
-pub use Rattle.osi_tpkt.proofs.lists_of_octets_stay_octets.{octets_append, octets_cons, octets_left, octets_nil, octets_right}
-pub use Rattle.osi_tpkt.specs.Octets.{IsOctets}
+pub use Rattle.osi_unit.proofs.lists_of_octets_stay_octets.{octets_append, octets_cons, octets_left, octets_nil, octets_right}
+pub use Rattle.osi_unit.specs.Octets.{IsOctets}
 pub use Rattle.osi_tpkt.specs.Packet.{IsPacket, packet_of}
 pub use Rattle.osi_tpkt.specs.Stream.{ArePackets, Ending, EndsAt, offset_of}
 pub use Rattle.osi_tpkt.specs.declared.cutting.Fed.{Fed}

@@ -1,6 +1,6 @@
 -- An end of this library and a tap anywhere between it and the other side, packet by packet.
 use Rattle.std.specs.Prelude.{◌≡◌, ◌≢◌, ℕ, Bool, true, false, List, [], ◌∷◌, ◌++◌, None, Ok}
-use Rattle.osi_tpkt.specs.Octets.{IsOctets}
+use Rattle.osi_unit.specs.Octets.{IsOctets}
 use Rattle.osi_tpkt.specs.Stream.{ArePackets}
 use Rattle.osi_tpdu.specs.Packet.{units_of}
 use Rattle.osi_tpdu.specs.Value.{Value}

@@ -1,6 +1,6 @@
 use Rattle.std.proofs.Common.{◌-◌, ℕ, List, arith}
 use Rattle.osi_tpkt.proofs.Vocabulary.{IsOctets}
-use Rattle.osi_tpkt.proofs.lists_of_octets_stay_octets.{octets_take, octets_drop}
+use Rattle.osi_unit.proofs.lists_of_octets_stay_octets.{octets_take, octets_drop}
 use Rattle.osi_tpkt.proofs.no_packet_is_a_prefix_of_another.{one_front}
 use Rattle.osi_tpkt.proofs.a_prefix_of_a_packet.{front_packet, where_whole, where_short, short_whole_piece}
 use Rattle.osi_tpkt.proofs.packets.PacketUnit.read.Goals as goal

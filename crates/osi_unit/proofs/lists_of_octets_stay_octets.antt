@@ -1,6 +1,6 @@
 -- Lists of octets: joining, cutting and filling keep their bound.
 use Rattle.std.proofs.Common.{ℕ, zero, suc, ◌<◌, List, [], ◌∷◌, ◌++◌, take, drop, replicate, arith}
-use Rattle.osi_tpkt.specs.Octets.{IsOctets}
+use Rattle.osi_unit.specs.Octets.{IsOctets}
 
 pub octets_nil : IsOctets []
 octets_nil i = omega arith

@@ -1,9 +1,9 @@
 //! What every grammar of units offers.
 
 ghost use Rattle.std.specs.Prelude.{◌≡◌, ◌++◌, ◌<◌, ℕ, List, [], length, OnOk, OnErr, IfOk, IfSome, IsOkAnd, IsSomeAnd, ◌↔◌};
-ghost use Rattle.osi_tpkt.specs.Octets.{IsOctets};
+ghost use Rattle.osi_unit.specs.Octets.{IsOctets};
 ghost use Rattle.bytes.specs.Filled.{UsesSpare};
-ghost use Rattle.osi_tpkt.specs.Unit.{IsAtFront};
+ghost use Rattle.osi_unit.specs.Unit.{IsAtFront};
 
 use bytes::BytesMut;
 use std::alloc::AllocError;
