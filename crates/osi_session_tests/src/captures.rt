@@ -234,11 +234,17 @@ fn is_found(judge: &Judge, capture: &Capture) -> Result<(), Fail> {
     Ok(())
 }
 
-/// Fed piece by piece.
-fn is_judged_whole(judge: &mut Judge, capture: &Capture) -> Result<(), Fail> {
-    for (direction, octets) in capture.pieces {
+/// Feeds pieces of both sides, one after the other.
+fn feed_all(judge: &mut Judge, pieces: &[(Direction, &[u8])]) -> Result<(), Fail> {
+    for (direction, octets) in pieces {
         feed(judge, *direction, *octets)?;
     }
+    Ok(())
+}
+
+/// Fed piece by piece.
+fn is_judged_whole(judge: &mut Judge, capture: &Capture) -> Result<(), Fail> {
+    feed_all(judge, capture.pieces)?;
     is_found(judge, capture)
 }
 
@@ -261,16 +267,11 @@ const DATA_FRONT: &[u8] = &[0x01, 0x00, 0x01, 0x00];
 fn feed_the_longest(judge: &mut Judge, octets: &[u8]) -> Result<(), Fail> {
     let (front, first) = octets.split_at_checked(4).ok_or("octets")?;
     let (last, _) = octets.split_at_checked(128).ok_or("octets")?;
-    feed(judge, Left, PART)?;
-    feed(judge, Left, DATA_FRONT)?;
-    feed(judge, Left, first)?;
+    feed_all(judge, &[(Left, PART), (Left, DATA_FRONT), (Left, first)])?;
     for _ in 0..15u8 {
-        feed(judge, Left, PART)?;
-        feed(judge, Left, front)?;
-        feed(judge, Left, first)?;
+        feed_all(judge, &[(Left, PART), (Left, front), (Left, first)])?;
     }
-    feed(judge, Left, LAST_PART)?;
-    feed(judge, Left, last)
+    feed_all(judge, &[(Left, LAST_PART), (Left, last)])
 }
 
 /// Left sends a thousand Data of four octets.
@@ -293,10 +294,7 @@ fn is_kept(judge: &Judge, told: usize) -> Result<(), Fail> {
 }
 
 fn a_long_capture_goes_on(judge: &mut Judge, octets: &[u8]) -> Result<(), Fail> {
-    feed(judge, Left, CR)?;
-    feed(judge, Right, CC)?;
-    feed(judge, Left, CN)?;
-    feed(judge, Right, AC)?;
+    feed_all(judge, &[(Left, CR), (Right, CC), (Left, CN), (Right, AC)])?;
     feed_a_thousand(judge)?;
     feed_the_longest(judge, octets)?;
     is_kept(judge, 1002)
