@@ -1,5 +1,6 @@
 """The lemmas and imports in the files of proofs/, and calls of grind or search that may prove a lemma. For scripts/one_call,
-scripts/shorter_parts, scripts/fewer_lemmas and scripts/vocabulary.
+scripts/shorter_parts, scripts/fewer_lemmas and scripts/vocabulary; and how long each proof of a check took, for scripts/dearest
+and scripts/dear_goals.
 """
 import argparse
 import collections
@@ -35,6 +36,11 @@ CALL = re.compile(r"(?<![^\s(])(grind|search|omega) (?=[^\s=])")
 PASSED_ON = re.compile(r"pub use ([^\s{]+)\.\{(.*)\}$")
 IMPORT = re.compile(r"use ([^\s{]+)\.\{(.*)\}$")
 HEADING = re.compile(r" *-- ---")
+# A longer pause between two proofs is one between two checks, in seconds.
+PAUSE = 120
+# What a check writes for a function, by the name of the file: the goals that it has to prove and the answers to them, and what
+# the borrow checker makes of its code.
+PARTS = {"Proof": "goals", "Answers": "goals", "Goals": "goals", "Lts": "borrows"}
 
 
 def read_lines(path):
@@ -413,6 +419,7 @@ def faults_of(crate, texts):
         if os.path.isdir(f"{source}/{part}"):
             shutil.copytree(f"{source}/{part}", f"{copy}/{part}")
     for path, lines in texts.items():
+        os.makedirs(os.path.dirname(f"{copy}/{path}"), exist_ok=True)
         write_lines(f"{copy}/{path if is_answers(path) else path.replace('.antt', '__tried.antt')}", lines)
     declare(copy)
     rt = toolchain()
@@ -429,6 +436,22 @@ def faults_of(crate, texts):
     if not texts.keys() >= found.keys():
         sys.exit(f"scripts: {crate} is not proved as it stands: {', '.join(found.keys() - texts.keys())}")
     return found
+
+
+def parts_that_ended(folder):
+    """How long each proof took by the clock that a check wrote to a folder, whose it is, and which part of it, in their order."""
+    ended = []
+    for at, _, names in os.walk(folder):
+        ended += [(os.stat(f"{at}/{name}").st_mtime_ns / 1e9, name) for name in names if name.endswith(".oantt")]
+    ended.sort()
+    return [(after - before, *owner_of(name)) for (before, _), (after, name) in zip(ended, ended[1:]) if after - before < PAUSE]
+
+
+def owner_of(name):
+    """`Rattle-osi_spdu-proofs.params.Params.slot.Proof.oantt` is of params::Params::slot, and a part of its goals."""
+    path = re.sub(r"^Rattle-\w+-|(\.decls)?\.oantt$", "", name).split(".")
+    is_part = len(path) > 2 and path[-1][0].isupper() and path[0] == "proofs"
+    return "::".join(path[1:-1] if is_part else path), PARTS.get(path[-1], "") if is_part else ""
 
 
 def lemmas_with(faults, lines):

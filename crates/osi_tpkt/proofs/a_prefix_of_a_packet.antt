@@ -14,7 +14,7 @@ pub front_part : (r more : List ℕ) → IsOctets (r ++ more) → get_or (r ++ m
 front_part r more octets version least within = grind (arith, get_or_append_left, stated_length-append, octets_left r more octets)
 
 -- a header in the part that was taken states what the header states
-stated_taken : (held piece : List ℕ) (n : ℕ) → 4 ≤ length (held ++ take n piece) →
+pub stated_taken : (held piece : List ℕ) (n : ℕ) → 4 ≤ length (held ++ take n piece) →
     stated_length (held ++ piece) ≡ stated_length (held ++ take n piece)
 stated_taken held piece n long =
     ap stated_length (ap (λ x. held ++ x) (sym (take-append-drop n piece)) ∙ sym (append_assoc held (take n piece) (drop n piece)))

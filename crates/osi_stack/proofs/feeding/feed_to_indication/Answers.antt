@@ -1,4 +1,5 @@
-use Rattle.osi_stack.proofs.Vocabulary.{eqb-true, Goes, holding, arith, ℕ, ◌-◌, ◌<◌, List, length, is_some, sym, ap, subst, ◌∙◌}
+use Rattle.osi_stack.proofs.Vocabulary.{eqb-true, Holding, IsAttended, Goes, holding, arith, ℕ, ◌-◌, ◌<◌, List, length, length-append}
+use Rattle.osi_stack.proofs.Vocabulary.{is_some, sym, ap, subst, ◌∙◌}
 use Rattle.osi_carrier.specs.Packets as carriers
 use Rattle.osi_stack.proofs.stream.a_piece_look_by_look.{IsRead, read_first, read_waits, read_ended, read_dry, read_on, nonzero}
 use Rattle.osi_stack.proofs.stream.an_empty_piece_changes_nothing.{idle_goes, nothing_of}
@@ -56,3 +57,20 @@ packets-preserved c =
     c.feed_to_event-used.ensures
     (sym c.wait.ensures ∙ c.if-wait.false) (ap is_some (sym c.ended.ensures) ∙ sym c.is_some.ensures ∙ c.if-is_some.false)
     (subst (λ (l : List ℕ). 0 < length l) c.split_at.ensures.back some))
+
+pub returns-then-is_empty-clause-attended : goal.returns-then-is_empty-clause-attended
+returns-then-is_empty-clause-attended c =
+    let e = returns-then-is_empty-clause-empty c (nothing_of c.args.piece.now (sym c.is_empty.ensures ∙ c.if-is_empty.true)) in
+    subst (λ (h : Holding). IsAttended h.end) (sym e.1) c.requires.attended
+
+pub overflow_sub-result : goal.overflow_sub-result
+overflow_sub-result c =
+    let cut = ap length c.packets.invariant.cut in
+    omega (arith, cut, length-append c.packets.invariant.front c.packets.rest.now, c.split_at.ensures.back_len)
+
+pub returns-then-wait-clause-progress : goal.returns-then-wait-clause-progress
+returns-then-wait-clause-progress c =
+    let cut = ap length c.packets.invariant.cut in
+    let both = length-append c.packets.invariant.front c.packets.rest.now in
+    let some = c.feed_to_event-used.ensures.feeds.progress in
+    grind (arith, cut, both, some, c.split_at.ensures.back_len, c.feed_to_event-used.ensures.heard, c.packets.invariant.attended)

@@ -1,12 +1,13 @@
-use Rattle.std.proofs.Common.{◌≡◌, ◌++◌, subst, arith}
-use Rattle.std.proofs.lemmas.Grind.{common_steps}
-use Rattle.osi_tpkt.proofs.Vocabulary.{IsOctets, packet_of}
+use Rattle.std.proofs.Common.{subst, arith}
+use Rattle.osi_tpkt.proofs.Vocabulary.{append_assoc, IsOctets}
 use Rattle.osi_tpkt.proofs.a_prefix_of_a_packet.{packet_behind}
 use Rattle.osi_tpkt.proofs.packets.write_in_packet.Goals as goal
+
+pub returns-clause-ok : goal.returns-clause-ok
+returns-clause-ok g c = grind (arith, append_assoc, c.reserve.ensures.items, c.put_header.ensures.items, c.in-Ok-write.ensures.ok)
 
 pub returns-clause-packet : goal.returns-clause-packet
 returns-clause-packet g c =
     let unit = g.U.Unit.written (g.U.Unit.value c.args.unit.now) in
-    let same : c.write.new.out.items ≡ c.args.out.now.items ++ packet_of unit = grind (arith, common_steps) in
-    packet_behind c.args.out.now.items unit c.write.new.out.items same
+    packet_behind c.args.out.now.items unit c.write.new.out.items (returns-clause-ok g c)
     (subst IsOctets c.as_slice.ensures c.are_octets.ensures) (omega arith) (omega arith)

@@ -1,5 +1,5 @@
 use Rattle.osi_carrier.proofs.Vocabulary.{eqb-false, Fetches, Carrying, Goes, stops, is_spoilt, ℕ, ◌-◌, List, length, refl, ap, sym, subst}
-use Rattle.osi_carrier.proofs.Vocabulary.{◌∙◌, inl, inr, arith, Fetched}
+use Rattle.osi_carrier.proofs.Vocabulary.{◌∙◌, inl, inr, arith, Fetched, length-append}
 use Rattle.osi_carrier.proofs.stream.a_piece_is_read_packet_by_packet.{read_first, read_next, read_stops, read_spoilt, read_part, read_over}
 use Rattle.osi_carrier.proofs.stream.a_piece_is_read_packet_by_packet.{fed_goes}
 use Rattle.osi_carrier.proofs.stream.a_tsdu_is_lent_from_its_piece.{lent_feeds, nothing_lent}
@@ -42,3 +42,13 @@ returns-in-Lent-clause-feeds c =
 
 pub packets-preserved : goal.packets-preserved
 packets-preserved c = grind (arith, read_next)
+
+pub overflow_sub-result-in-Lent : goal.overflow_sub-result-in-Lent
+overflow_sub-result-in-Lent c =
+    let read = c.packets.invariant in
+    omega (arith, ap length read.cut, length-append read.front c.packets.rest.now)
+
+pub overflow_sub-piece : goal.overflow_sub-piece
+overflow_sub-piece c =
+    let read = c.packets.invariant in
+    omega (arith, ap length read.cut, length-append read.front c.packets.rest.now, c.split_at.ensures.back_len)

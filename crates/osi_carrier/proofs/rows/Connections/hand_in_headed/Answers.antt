@@ -1,6 +1,8 @@
-use Rattle.osi_carrier.proofs.Vocabulary.{any_standing, link_of, send_error, peer_in, arith, ◌++◌, refl, ap, sym, ◌∙◌}
+use Rattle.osi_carrier.proofs.Vocabulary.{any_standing, link_of, send_error, peer_in, arith, ◌++◌, refl, ap, sym, ◌∙◌, ℕ}
+use Rattle.osi_carrier.proofs.Vocabulary.{Connection, ltb-false, length-append}
 use Rattle.osi_carrier.proofs.references.the_link_in_a_row.{OpenRow, open_row, closed_row, sought_place, too_long, short}
-use Rattle.osi_carrier.proofs.references.the_row_at_a_place.{nowhere}
+use Rattle.osi_carrier.proofs.references.rows_in_order.{set_kept}
+use Rattle.osi_carrier.proofs.references.the_row_at_a_place.{nowhere, put_same}
 use Rattle.osi_carrier.proofs.rows.Connections.hand_in_headed.Goals.{In-Linked}
 use Rattle.osi_carrier.proofs.rows.Connections.hand_in_headed.Goals as goal
 
@@ -66,3 +68,19 @@ returns-clause-rows c = grind (arith, row_here (goal.at.returns-clause-rows c).I
 
 pub returns-clause-ok : goal.returns-clause-ok
 returns-clause-ok c = grind (arith, row_here (goal.at.returns-clause-ok c).In-Linked)
+
+pub invariant_of-self : goal.invariant_of-self
+invariant_of-self c =
+    set_kept _ _ _ _ _ c.index_mut.ensures.value (ap (λ (x : ℕ × Connection). x.0) c.peer.view_is) c.self.invariant
+
+pub invariant_of-self-then-is_too_long-2 : goal.invariant_of-self-then-is_too_long-2
+invariant_of-self-then-is_too_long-2 c = (row_here (goal.at.invariant_of-self-then-is_too_long-2 c).In-Linked).keeps _
+
+pub returns-then-is_too_long-clause-err : goal.returns-then-is_too_long-clause-err
+returns-then-is_too_long-clause-err c =
+    let row = row_here (goal.at.returns-then-is_too_long-clause-err c).In-Linked in
+    (row.puts _ _ _ (ap peer_in row.is) refl ∙ put_same _ _ _ row.is, refl)
+
+pub send_headed_parts-requires-clause-long : goal.send_headed_parts-requires-clause-long
+send_headed_parts-requires-clause-long c =
+    omega (arith, ltb-false _ _ (sym c.if-is_too_long.ensures), length-append c.args.head.now c.args.body.now)

@@ -1,8 +1,9 @@
-use Rattle.osi_carrier.proofs.Vocabulary.{append-nil, any_standing, value, taken, value_at, peer_in, Connection, link_grows, arith, ◌≡◌}
+use Rattle.osi_carrier.proofs.Vocabulary.{append-nil, any_standing, value, taken, value_at, peer_in, Connection, link_grows, arith, ◌≡◌, ℕ}
 use Rattle.osi_carrier.proofs.Vocabulary.{Option, None, Err, is_some, refl, ap, ◌∙◌, rules, tsdu_handed, user_of, with_handed, handing}
 use Rattle.osi_class.specs.declared.faults.LinkFault.TheVariants.{OutOfMemory}
 use Rattle.osi_carrier.proofs.effects.what_a_link_answers.{refused_by, took_whole, took_link, on_err}
 use Rattle.osi_carrier.proofs.references.the_link_in_a_row.{OpenRow, open_row, closed_row, none_known, sought_place}
+use Rattle.osi_carrier.proofs.references.rows_in_order.{set_kept}
 use Rattle.osi_carrier.proofs.references.the_row_at_a_place.{nowhere}
 use Rattle.osi_carrier.proofs.written.what_needs_memory_does_something.{taken_grows, pump_grows, want_taken}
 use Rattle.osi_carrier.proofs.rows.Connections.step.Goals.{In-Err, In-Linked, In_default}
@@ -113,3 +114,13 @@ returns-clause-rows c = grind (arith, row_here (goal.at.returns-clause-rows c).I
 
 pub returns-clause-ok : goal.returns-clause-ok
 returns-clause-ok c = grind (arith, row_here (goal.at.returns-clause-ok c).In-Linked)
+
+pub invariant_of-self : goal.invariant_of-self
+invariant_of-self c =
+    set_kept _ _ _ _ _ c.index_mut-row.ensures.value (ap (λ (x : ℕ × Connection). x.0) c.row.view_is) c.self.invariant
+
+pub invariant_of-self-in-Err : goal.invariant_of-self-in-Err
+invariant_of-self-in-Err c = (row_here (goal.at.invariant_of-self-in-Err c).In-Linked).keeps _
+
+pub invariant_of-self-in-Err-OutOfMemory : goal.invariant_of-self-in-Err-OutOfMemory
+invariant_of-self-in-Err-OutOfMemory c = (row_here (goal.at.invariant_of-self-in-Err-OutOfMemory c).In-Linked).keeps _

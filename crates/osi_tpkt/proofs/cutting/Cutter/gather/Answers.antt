@@ -1,6 +1,6 @@
-use Rattle.std.proofs.Common.{Err, take, refl, ap, ◌∙◌, arith}
-use Rattle.osi_tpkt.proofs.Vocabulary.{length-take-le, Held, BadVersion, BadLength}
-use Rattle.osi_tpkt.proofs.a_prefix_of_a_packet.{surveyed, same_held}
+use Rattle.std.proofs.Common.{Err, take, refl, sym, ap, subst, ◌∙◌, arith}
+use Rattle.osi_tpkt.proofs.Vocabulary.{length-take-le, Held, IsPartial, BadVersion, BadLength}
+use Rattle.osi_tpkt.proofs.a_prefix_of_a_packet.{surveyed, same_held, partial_front}
 use Rattle.osi_tpkt.proofs.what_a_cutter_holds.{gathered, faulted, none_gained}
 use Rattle.osi_tpkt.proofs.cutting.Cutter.gather.Goals as goal
 
@@ -31,3 +31,12 @@ returns-then-fed-eq0-clause-taken c =
       surveyed _ _ c.args.piece.now _ same c.in-Ok.ensures.used c.in-Ok.ensures.front c.in-Ok.ensures.whole,
       none_gained _ _ c.args.piece.now c.if-fed-eq0.true,
     )
+
+pub invariant_of-self-in-Err-Length : goal.invariant_of-self-in-Err-Length
+invariant_of-self-in-Err-Length c = (
+  c.self.invariant.0,
+  record {
+    offset = c.self.invariant.1.offset;
+    progress = partial_front _ (subst (λ (h : Held). IsPartial h.octets) (sym c.self.view_is) c.requires.partial);
+  },
+)
