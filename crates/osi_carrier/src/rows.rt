@@ -356,9 +356,10 @@ impl Connections {
         ensures err { OnErr result (self.new ≡ self.old) }
     {
         let rises = self.rises && is_above(self.rows.as_slice(), reference);
-        let Ok(()) = self.rows.push(Row { reference, phase }) else {
+        if let Err(failed) = self.rows.push(Row { reference, phase }) {
+            drop(failed);
             return Err(AllocError);
-        };
+        }
         self.rises = rises;
         Ok(())
     }
@@ -541,7 +542,7 @@ impl Connections {
         requires { place_of reference self.old ≡ Some place }
         ensures { self.new ≡ without reference self.old }
     {
-        let _dropped = self.rows.remove(place);
+        drop(self.rows.remove(place));
     }
 
     /// Drops all connections.

@@ -93,7 +93,10 @@ impl Switch {
         ensures err { OnErr result (self.new ≡ self.old) }
     {
         let before = self.names.len();
-        self.names.push(reference, tsaps)?;
+        let Ok(()) = self.names.push(reference, tsaps) else {
+            drop(phase);
+            return Err(AllocError);
+        };
         if self.live.push(reference, phase).is_err() {
             self.names.truncate(before);
             return Err(AllocError);

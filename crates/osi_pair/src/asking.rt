@@ -99,9 +99,16 @@ pub(crate) fn call(
         return Err(PairError::OutOfMemory);
     };
     let Ok(()) = journal.reserve(1) else {
+        drop(asked);
         return Err(PairError::OutOfMemory);
     };
-    let answer = called(stack, reference, request)?;
+    let answer = match called(stack, reference, request) {
+        Ok(answer) => answer,
+        Err(error) => {
+            drop(asked);
+            return Err(error);
+        }
+    };
     let entry = Entry::Call {
         side,
         reference,

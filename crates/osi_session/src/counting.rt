@@ -40,7 +40,7 @@ impl Counting {
     fn of(reaction: Reaction, joined: Option<usize>) -> Counting
         ensures { count_of result ≡ count_by joined (outcome_of reaction) }
     {
-        Counting {
+        let counting = Counting {
             next: reaction.next,
             joined: if reaction.next.phase.may_hold() {
                 joined
@@ -49,7 +49,9 @@ impl Counting {
             },
             reply: reaction.reply,
             closes: reaction.closes,
-        }
+        };
+        drop(reaction);
+        counting
     }
 }
 

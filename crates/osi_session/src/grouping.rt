@@ -84,7 +84,7 @@ impl Reactions {
             return Ok(());
         };
         if self.first.is_none() {
-            self.first = Some(indication);
+            drop(self.first.replace(indication));
             return Ok(());
         }
         self.more.push(indication)?;
@@ -147,7 +147,13 @@ fn take_each(
     'units: while let Some(unit) = behind.next() {
         let word = Word::of(&unit);
         restarts = either(restarts, word.is_restart());
-        let is_bad = reactions.then(alloc, joined, word)?;
+        let is_bad = match reactions.then(alloc, joined, word) {
+            Ok(is_bad) => is_bad,
+            Err(error) => {
+                drop(reactions);
+                return Err(error);
+            }
+        };
         if is_bad {
             return Ok(reactions);
         }
@@ -155,8 +161,13 @@ fn take_each(
     if restarts {
         return Ok(reactions);
     }
-    let _is_bad = reactions.then(alloc, joined, first)?;
-    Ok(reactions)
+    match reactions.then(alloc, joined, first) {
+        Ok(_) => Ok(reactions),
+        Err(error) => {
+            drop(reactions);
+            Err(error)
+        }
+    }
 }
 
 /// Whether a unit is a GT that names no token.

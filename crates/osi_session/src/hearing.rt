@@ -132,6 +132,7 @@ fn take_misplaced(
     if is_discarded || reaction.is_bad() {
         return Ok(reaction);
     }
+    drop(reaction);
     Ok(Reaction::bad(state, UnitFault::BadEnclosure(kind.si())))
 }
 

@@ -93,8 +93,10 @@ impl Reaction {
         ensures { outcome_of result ≡ shows next (shown_by indication) }
     {
         Reaction {
+            next,
             shown: Some(indication),
-            ..Reaction::silent(next)
+            reply: None,
+            closes: false,
         }
     }
 
@@ -151,8 +153,10 @@ impl Reaction {
             None
         };
         Reaction {
+            next: state.without_tokens(Phase::Ended),
             shown,
-            ..Reaction::silent(state.without_tokens(Phase::Ended))
+            reply: None,
+            closes: false,
         }
     }
 }

@@ -434,7 +434,10 @@ impl Session {
     {
         let reply = match written_reply(self.alloc, reactions.reply) {
             Ok(reply) => reply,
-            Err(error) => return Err(error),
+            Err(error) => {
+                drop(reactions);
+                return Err(error);
+            }
         };
         reactions.joined.put(&mut self.joined);
         self.room = most_whole(&reactions.next);

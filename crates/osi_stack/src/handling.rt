@@ -112,8 +112,14 @@ fn handle_unexpected(
         answer(carrier, reference, reply, closes)?;
         return Ok(false);
     };
-    waiting.reserve(more.len() + 2)?;
-    answer(carrier, reference, reply, closes)?;
+    let Ok(()) = waiting.reserve(more.len() + 2) else {
+        drop(first);
+        return Err(AllocError);
+    };
+    let Ok(()) = answer(carrier, reference, reply, closes) else {
+        drop(first);
+        return Err(AllocError);
+    };
     let connects = is_connect(&first);
     push_indications(waiting, first, more);
     Ok(connects)
@@ -152,7 +158,10 @@ pub fn handle_event(
         match session.take_expected(tsdu)? {
             Expected::Shown(indication) => {
                 let connects = is_connect(&indication);
-                waiting.reserve(2)?;
+                let Ok(()) = waiting.reserve(2) else {
+                    drop(indication);
+                    return Err(AllocError);
+                };
                 waiting.push_back_reserved(indication);
                 return Ok(connects);
             }

@@ -200,6 +200,7 @@ impl Line {
             SessionEvent::Tsdu(tsdu) => match session.show_data(tsdu) {
                 Ok(shown) => {
                     let Ok(()) = self.waiting.reserve(2) else {
+                        drop(shown);
                         self.lose();
                         return Err(AllocError);
                     };
@@ -268,7 +269,7 @@ impl Line {
         let Some(session) = &mut self.session else {
             return;
         };
-        let _unseen = session.broken();
+        drop(session.broken());
     }
 }
 

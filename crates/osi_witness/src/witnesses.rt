@@ -110,17 +110,25 @@ fn checked(alloc: Global, witness: Witness) -> Result<Witness, AllocError>
     })
 }
 
+/// The script that tells what both sides of a capture did, before it is played.
+fn witness_of_capture(alloc: Global, capture: &Capture) -> Result<Witness, AllocError>
+    ensures { IfOk result (λ w. w.status < 2) }
+{
+    match &capture.left.opening {
+        Some(request) => opened(alloc, capture, request),
+        None => unopened(alloc, capture),
+    }
+}
+
 fn witness_of_octets(alloc: Global, text: &[u8], octets: &[u8]) -> Result<Witness, AllocError>
     ensures short { IfOk result (λ w. length w.script.items ≤ 16777216) }
     ensures played { IfOk result (λ w. IsPlayed w.script.items ⊎ ((w.script.items ≡ []) × (w.status ≡ 1))) }
     ensures status { IfOk result (λ w. w.status < 2) }
 {
     let capture = capture_of(alloc, text, octets)?;
-    let witness = match &capture.left.opening {
-        Some(request) => opened(alloc, &capture, request)?,
-        None => unopened(alloc, &capture)?,
-    };
-    checked(alloc, witness)
+    let witness = witness_of_capture(alloc, &capture);
+    drop(capture);
+    checked(alloc, witness?)
 }
 
 /// The script that tells what both sides of the capture did that a text is. [`CaptureFault::BadHex`] comes if the text has

@@ -1,10 +1,10 @@
 -- The words of a TSDU take effect one after the other: what a loop over its units has done so far, and what is still to act.
 -- For `take_each` of grouping and `count_each` of counting.
-use Rattle.osi_session.proofs.Vocabulary.{OnErr, list_any, append_assoc, append-nil, GivesBehind, units_behind, Reactions, hearing_of_all}
+use Rattle.osi_session.proofs.Vocabulary.{list_any, append_assoc, append-nil, GivesBehind, units_behind, Reactions, hearing_of_all}
 use Rattle.osi_session.proofs.Vocabulary.{takes_room, Word, Words, is_faulty, Taker, Hearing, heard_then, idle, is_restart_word}
 use Rattle.osi_session.proofs.Vocabulary.{word_verdict, respond_word, respond_words, acting_words, respond_tsdu, ◌≡◌, refl, sym, ◌∙◌, ap, ℕ}
-use Rattle.osi_session.proofs.Vocabulary.{Bool, true, false, ◌||◌, List, [], ◌∷◌, ◌++◌, Option, Some, None, Result, if◌then◌else◌, arith}
-use Rattle.osi_session.proofs.Vocabulary.{Behind, Spdu, map, word}
+use Rattle.osi_session.proofs.Vocabulary.{Bool, true, false, ◌||◌, List, [], ◌∷◌, ◌++◌, Option, Some, None, if◌then◌else◌, arith, Behind}
+use Rattle.osi_session.proofs.Vocabulary.{Spdu, map, word}
 use Rattle.osi_session.proofs.tsdu.what_is_joined.{InPhase}
 use Rattle.osi_session.proofs.tsdu.memory_for_one_word.{SoFar, word_so_far, word_takes, takes_behind}
 use Rattle.osi_session.proofs.tables.messages_act_as_the_table_says.{one_word}
@@ -93,6 +93,3 @@ walks_end old new u w given none e = let l = w.leads in let n = behind_none old 
 pub item_takes : {want o : Hearing} {j : Option (List ℕ)} {item : Word} → SoFar j o → Leads want o false item [] →
     takes_room o.next.joined (respond_word o.next item) ≡ true → takes_room j want ≡ true
 item_takes s l room = let e = ends_with_item l in grind (arith, takes_behind)
-
-pub on_err : {A E P : Type 0} (r : Result A E) → P → OnErr r P
-on_err r p = grind arith

@@ -119,7 +119,10 @@ impl Session {
                 self.go(next);
                 Expected::Shown(indication)
             }
-            _ => Expected::Other,
+            other => {
+                drop(other);
+                Expected::Other
+            }
         }
     }
 

@@ -1,6 +1,6 @@
 use Rattle.osi_session.proofs.Vocabulary.{word, Taker, ◌∙◌, sym, ap, Bool, ◌||◌, map, option_copied}
 use Rattle.osi_session.proofs.tsdu.words_one_after_the_other.{walks_begin, walks_turn, walks_on, walks_end, takes, stops, ends_restarted}
-use Rattle.osi_session.proofs.tsdu.words_one_after_the_other.{ends_with_item, item_takes, on_err}
+use Rattle.osi_session.proofs.tsdu.words_one_after_the_other.{ends_with_item, item_takes}
 use Rattle.osi_session.proofs.grouping.take_each.Goals as goal
 
 pub units-init : goal.units-init
@@ -15,20 +15,19 @@ then-requires c = c.units.invariant.ordered
 pub then-requires-2 : goal.then-requires-2
 then-requires-2 c = c.units.invariant.ordered
 
-pub returns-in_err-is_bad-clause-err : goal.returns-in_err-is_bad-clause-err
-returns-in_err-is_bad-clause-err c =
-    let w = walks_turn c.units.invariant (ap (map word) c.in-Some.ensures.steps) c.of-word.ensures in
-    on_err c.from_residual.result (takes w c.in_err-is_bad.ensures.err)
+pub returns-in-Err-clause-err : goal.returns-in-Err-clause-err
+returns-in-Err-clause-err c =
+    let w = walks_turn c.units.invariant (ap (map word) c.in-Some.ensures.steps) c.of-word.ensures in takes w c.in-Err.ensures.err
 
 pub returns-then-is_bad-clause-heard : goal.returns-then-is_bad-clause-heard
 returns-then-is_bad-clause-heard c =
     let w = walks_turn c.units.invariant (ap (map word) c.in-Some.ensures.steps) c.of-word.ensures in
-    c.in_ok-is_bad.ensures.heard ∙ stops w.leads (sym c.in_ok-is_bad.ensures.bad ∙ c.if-is_bad.true)
+    c.in-Ok.ensures.heard ∙ stops w.leads (sym c.in-Ok.ensures.bad ∙ c.if-is_bad.true)
 
 pub units-preserved : goal.units-preserved
 units-preserved c =
     let w = walks_turn c.units.invariant (ap (map word) c.in-Some.ensures.steps) c.of-word.ensures in
-    walks_on w (sym c.in_ok-is_bad.ensures.bad ∙ c.if-is_bad.false) c.in_ok-is_bad.ensures.heard c.in_ok-is_bad.ensures.ordered
+    walks_on w (sym c.in-Ok.ensures.bad ∙ c.if-is_bad.false) c.in-Ok.ensures.heard c.in-Ok.ensures.ordered
     (c.either-restarts.ensures ∙ ap (λ (b : Bool). c.units.restarts || b) c.is_restart.ensures)
 
 pub returns-then-restarts-clause-heard : goal.returns-then-restarts-clause-heard
@@ -39,13 +38,13 @@ returns-then-restarts-clause-heard c =
 pub returns-then-restarts-clause-ordered : goal.returns-then-restarts-clause-ordered
 returns-then-restarts-clause-ordered c = c.units.invariant.ordered
 
-pub returns-in_err-_is_bad-clause-err : goal.returns-in_err-_is_bad-clause-err
-returns-in_err-_is_bad-clause-err c =
+pub returns-in-Err-then-clause-err : goal.returns-in-Err-then-clause-err
+returns-in-Err-then-clause-err c =
     let l = walks_end c.units.behind c.next.new.self c.next.result c.units.invariant c.next.ensures.steps
     (λ u e. c.in_default.not-Some u e) c.if-restarts.false in
-    on_err c.from_residual-in_err-_is_bad.result (item_takes c.units.invariant.so_far l c.in_err-_is_bad.ensures.err)
+    item_takes c.units.invariant.so_far l c.in-Err-then.ensures.err
 
-pub returns-clause-heard : goal.returns-clause-heard
-returns-clause-heard c =
-    c.in_ok-_is_bad.ensures.heard ∙ ends_with_item (walks_end c.units.behind c.next.new.self c.next.result c.units.invariant
+pub returns-in-Ok-then-clause-heard : goal.returns-in-Ok-then-clause-heard
+returns-in-Ok-then-clause-heard c =
+    c.in-Ok-then.ensures.heard ∙ ends_with_item (walks_end c.units.behind c.next.new.self c.next.result c.units.invariant
     c.next.ensures.steps (λ u e. c.in_default.not-Some u e) c.if-restarts.false)

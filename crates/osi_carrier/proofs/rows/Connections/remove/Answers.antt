@@ -6,9 +6,9 @@ use Rattle.osi_carrier.proofs.rows.Connections.remove.Goals as goal
 pub returns : goal.returns
 returns c =
     let p = placed c.args.reference c.args.self.now c.args.place (0, asked) c.requires in
-    c.remove-dropped.ensures.items ∙ ap (λ l. remove l c.args.place) c.self.view_is ∙ sym p.without_is
+    c.remove.ensures.items ∙ ap (λ l. remove l c.args.place) c.self.view_is ∙ sym p.without_is
 
 pub invariant_of-self : goal.invariant_of-self
 invariant_of-self c =
-    without_kept c.self.inside.rises c.args.reference c.self.inside.rows.items c.remove-dropped.new.self.items c.args.place (0, asked)
-    (ap (place_of c.args.reference) c.self.view_is ∙ c.requires) c.remove-dropped.ensures.items c.self.invariant
+    without_kept c.self.inside.rises c.args.reference c.self.inside.rows.items c.remove.new.self.items c.args.place (0, asked)
+    (ap (place_of c.args.reference) c.self.view_is ∙ c.requires) c.remove.ensures.items c.self.invariant
